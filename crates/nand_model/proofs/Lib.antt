@@ -1,0 +1,4 @@
+pub mod Sizes
+pub mod Slots
+pub mod Walks
+pub mod Whole

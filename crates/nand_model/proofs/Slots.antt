@@ -1,0 +1,64 @@
+-- What is read of a list by `slice_get` after a write.
+use Rattle.std.proofs.Common.{◌≡◌, ◌≢◌, ◌<◌, ◌≤◌, ℕ, Bool, true, false, zero, suc, List, [], ◌∷◌, length, set, cond, eqb, refl, arith, ap, sym, subst, ◌∙◌, ◌++◌, inl, inr}
+use Rattle.std.specs.Prelude.{slice_get, Option, Some, None}
+use Rattle.std.specs.Option.{option_map_or}
+use Rattle.nand_model.specs.Flash.{Erased}
+use Rattle.nand_model.specs.Memory.{view_at}
+use Rattle.nand_model.specs.declared.block.MemPage.{MemPage}
+use Rattle.std.proofs.lemmas.Bool.{cases_eq, cases_lt, cases_order, eq-eqb, ne_eqb, cond-true, cond-false}
+
+pub map_or-set_same : {X Y : Type 0} (f : X → Y) (d : Y) (xs : List X) (b : ℕ) (x : X) → b < length xs
+    → option_map_or f (slice_get (set xs b x) b) d ≡ f x
+map_or-set_same f d [] b x h = absurd (omega arith)
+map_or-set_same f d (y ∷ ys) zero x h = refl
+map_or-set_same f d (y ∷ ys) (suc b) x h = map_or-set_same f d ys b x (omega arith)
+
+pub map_or-set_other : {X Y : Type 0} (f : X → Y) (d : Y) (xs : List X) (b k : ℕ) (x : X) → k ≢ b
+    → option_map_or f (slice_get (set xs b x) k) d ≡ option_map_or f (slice_get xs k) d
+map_or-set_other f d [] b k x h = refl
+map_or-set_other f d (y ∷ ys) zero zero x h = absurd (h refl)
+map_or-set_other f d (y ∷ ys) zero (suc k) x h = refl
+map_or-set_other f d (y ∷ ys) (suc b) zero x h = refl
+map_or-set_other f d (y ∷ ys) (suc b) (suc k) x h = map_or-set_other f d ys b k x (λ e. h (ap suc e))
+
+pub map_or-set : {X Y : Type 0} (f : X → Y) (d : Y) (xs : List X) (b k : ℕ) (x : X) → b < length xs
+    → option_map_or f (slice_get (set xs b x) k) d ≡ cond (eqb k b) (f x) (option_map_or f (slice_get xs k) d)
+map_or-set f d xs b k x h = elim (cases_eq k b) [
+  | inl e ↦ ap (λ n. option_map_or f (slice_get (set xs b x) n) d) e ∙ map_or-set_same f d xs b x h ∙ sym (cond-true _ _ _ (eq-eqb k b e))
+  | inr ne ↦ map_or-set_other f d xs b k x ne ∙ sym (cond-false _ _ _ (ne_eqb k b ne))
+]
+
+pub map_or_push_old : {X Y : Type 0} (f : X → Y) (d : Y) (xs : List X) (y : X) (k : ℕ) → k < length xs
+    → option_map_or f (slice_get (xs ++ y ∷ []) k) d ≡ option_map_or f (slice_get xs k) d
+map_or_push_old f d [] y k h = absurd (omega arith)
+map_or_push_old f d (x ∷ xs) y zero h = refl
+map_or_push_old f d (x ∷ xs) y (suc k) h = map_or_push_old f d xs y k (omega arith)
+
+pub map_or_push_new : {X Y : Type 0} (f : X → Y) (d : Y) (xs : List X) (y : X) (k : ℕ) → k ≡ length xs
+    → option_map_or f (slice_get (xs ++ y ∷ []) k) d ≡ f y
+map_or_push_new f d [] y zero h = refl
+map_or_push_new f d [] y (suc k) h = absurd (omega arith)
+map_or_push_new f d (x ∷ xs) y zero h = absurd (omega arith)
+map_or_push_new f d (x ∷ xs) y (suc k) h = map_or_push_new f d xs y k (omega arith)
+
+pub map_or_push_past : {X Y : Type 0} (f : X → Y) (d : Y) (xs : List X) (y : X) (k : ℕ) → length xs < k
+    → option_map_or f (slice_get (xs ++ y ∷ []) k) d ≡ d
+map_or_push_past f d [] y zero h = absurd (omega arith)
+map_or_push_past f d [] y (suc k) h = refl
+map_or_push_past f d (x ∷ xs) y zero h = absurd (omega arith)
+map_or_push_past f d (x ∷ xs) y (suc k) h = map_or_push_past f d xs y k (omega arith)
+
+-- what holds of each place of a list, of a new element, and past the end
+pub each_push : {X Y : Type 0} (P : Y → Type 0) (f : X → Y) (d : Y) (xs : List X) (y : X) (k : ℕ)
+    → P d → P (f y) → (k < length xs → P (option_map_or f (slice_get xs k) d)) → P (option_map_or f (slice_get (xs ++ y ∷ []) k) d)
+each_push P f d xs y k at_d at_y each = elim (cases_order k (length xs)) [
+  | inl e ↦ subst P (sym (map_or_push_new f d xs y k e)) at_y
+  | inr o ↦ elim o [
+    | inl lt ↦ subst P (sym (map_or_push_old f d xs y k lt)) (each lt)
+    | inr gt ↦ subst P (sym (map_or_push_past f d xs y k gt)) at_d
+  ]
+]
+
+-- what holds below n and from n on holds everywhere
+pub everywhere : (P : ℕ → Type 0) (n : ℕ) → ((k : ℕ) → k < n → P k) → ((k : ℕ) → n ≤ k → P k) → (k : ℕ) → P k
+everywhere P n below above k = elim (cases_lt k n) [ inl lt ↦ below k lt | inr ge ↦ above k ge ]

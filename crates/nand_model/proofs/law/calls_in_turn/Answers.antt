@@ -1,0 +1,5 @@
+use Rattle.nand_model.specs.CallLaws.{lasts_on}
+use Rattle.nand_model.proofs.law.calls_in_turn.Goals as goal
+
+pub returns : goal.returns
+returns c = lasts_on

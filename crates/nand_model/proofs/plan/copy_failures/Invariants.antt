@@ -1,0 +1,6 @@
+use Rattle.std.proofs.Common.{◌≡◌, take}
+use Rattle.nand_model.specs.Plans.{listed}
+use Rattle.nand_model.proofs.plan.copy_failures.Given as goal
+
+abbrev pub invariant-loop-call : goal.invariant-loop-call
+invariant-loop-call l = listed l.copy.items ≡ listed (take l.call-index l.failures.items)

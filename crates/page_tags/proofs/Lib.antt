@@ -1,0 +1,6 @@
+pub mod SetBits
+pub mod Parts
+pub mod Ranges
+pub mod SlotBytes
+pub mod HeaderBytes
+pub mod HeaderTests

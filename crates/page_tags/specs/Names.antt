@@ -1,0 +1,11 @@
+-- What a name may be.
+use Rattle.std.specs.Prelude.{◌≢◌, ◌≤◌, ℕ, List, [], ◌∷◌, length, Contains}
+
+-- 1 to 255 bytes without a zero byte or a slash, and neither `.` nor `..`
+pub record IsName (name : List ℕ) : Type 0 where
+  pub some : 1 ≤ length name
+  pub few : length name ≤ 255
+  pub no_zero : ¬ Contains name 0
+  pub no_slash : ¬ Contains name 47
+  pub not_dot : name ≢ 46 ∷ []
+  pub not_dot_dot : name ≢ 46 ∷ 46 ∷ []

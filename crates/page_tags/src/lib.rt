@@ -1,0 +1,24 @@
+//! The bytes of the formats: a page's tag, an object's header, a directory's slot. No call takes memory.
+#![tactic(auto)]
+
+mod header;
+mod law;
+mod name;
+mod numbers;
+mod presence;
+mod slot;
+mod tag;
+mod zeros;
+
+pub use header::{Format, Header, HeaderFault, ObjectKind, decode_header, encode_header};
+pub use law::{
+    each_page_is_a_header_or_has_a_fault, each_slot_is_one_or_none, each_tag_is_one_or_none,
+    headers_differ, slots_differ, tags_differ,
+};
+pub use name::is_name;
+pub use presence::{is_present, set_present};
+pub use slot::{SLOT_BYTES, Slot, decode_slot, encode_slot};
+pub use tag::Tag;
+
+#[cfg(test)]
+mod tests;

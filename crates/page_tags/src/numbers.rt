@@ -1,0 +1,27 @@
+// Numbers read at a place.
+
+ghost use Rattle.std.specs.Prelude.{◌≡◌, ◌≤◌, ◌+◌, length, drop};
+ghost use Rattle.byteorder.specs.Endian.{little_number};
+
+use byteorder::{ByteOrder, LittleEndian};
+
+pub fn u16_at(bytes: &[u8], place: usize) -> u16
+    requires { place + 2 ≤ length bytes.now }
+    ensures { result ≡ little_number 2 (drop place bytes.now) }
+{
+    LittleEndian::read_u16(&bytes[place..])
+}
+
+pub fn u32_at(bytes: &[u8], place: usize) -> u32
+    requires { place + 4 ≤ length bytes.now }
+    ensures { result ≡ little_number 4 (drop place bytes.now) }
+{
+    LittleEndian::read_u32(&bytes[place..])
+}
+
+pub fn u64_at(bytes: &[u8], place: usize) -> u64
+    requires { place + 8 ≤ length bytes.now }
+    ensures { result ≡ little_number 8 (drop place bytes.now) }
+{
+    LittleEndian::read_u64(&bytes[place..])
+}

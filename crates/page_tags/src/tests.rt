@@ -1,0 +1,238 @@
+// Values that were worked out by hand.
+
+ghost use Rattle.std.specs.Prelude.{◌≡◌, ◌≤◌, length};
+
+use crate::{
+    Format, Header, HeaderFault, ObjectKind, SLOT_BYTES, Slot, Tag, decode_header, decode_slot,
+    encode_header, encode_slot, is_name, is_present, set_present,
+};
+use std::process::Abort;
+use std::test::Fail;
+
+// Index 0, count 4, object 2, chunk 1, version 7, group 7, seq 3.
+const TAG: [u8; 48] = [
+    0, 0, 0, 0, 4, 0, 0, 0, //
+    2, 0, 0, 0, 0, 0, 0, 0, //
+    1, 0, 0, 0, 0, 0, 0, 0, //
+    7, 0, 0, 0, 0, 0, 0, 0, //
+    7, 0, 0, 0, 0, 0, 0, 0, //
+    3, 0, 0, 0, 0, 0, 0, 0,
+];
+
+// How a file of 5 bytes with chunk 1 and moment 7 begins. The rest of its page is zeros.
+const FILE: [u8; 33] = [
+    0x4e, 0x4c, 0x46, 0x53, 2, 1, 0, 0, //
+    5, 0, 0, 0, 0, 0, 0, 0, //
+    7, 0, 0, 0, 0, 0, 0, 0, //
+    0, 0, 0, 0, 0, 0, 0, 0, 1,
+];
+
+// The same with moment 0.
+const FILE_AT_0: [u8; 33] = [
+    0x4e, 0x4c, 0x46, 0x53, 2, 1, 0, 0, //
+    5, 0, 0, 0, 0, 0, 0, 0, //
+    0, 0, 0, 0, 0, 0, 0, 0, //
+    0, 0, 0, 0, 0, 0, 0, 0, 1,
+];
+
+// How the root of a fresh volume begins, at a spare of 1.
+const ROOT: [u8; 8] = [0x4e, 0x4c, 0x46, 0x53, 2, 2, 1, 0];
+
+// How the slot of object 2 under the name `a` begins. The rest is zeros.
+const SLOT: [u8; 11] = [2, 0, 0, 0, 0, 0, 0, 0, 1, 0, 0x61];
+
+fn worked_tag() -> Tag {
+    Tag {
+        index: 0,
+        count: 4,
+        object: 2,
+        chunk: 1,
+        version: 7,
+        group: 7,
+        seq: 3,
+    }
+}
+
+#[test]
+fn tag_stands_in_48_bytes(rt: HostRuntime) {
+    assert_eq!(rt; worked_tag().encode(), TAG);
+    assert_eq!(rt; Tag::decode(&TAG), Some(worked_tag()));
+}
+
+#[test]
+fn bytes_out_of_range_are_no_tag(rt: HostRuntime) {
+    let edits: [(usize, u8); 7] = [(0, 4), (4, 0), (5, 1), (8, 0), (24, 0), (24, 8), (40, 0)];
+    for (place, byte) in edits {
+        let mut bytes = TAG;
+        if place < 48 {
+            bytes[place] = byte;
+        }
+        assert_eq!(rt; Tag::decode(&bytes), None, "at {place}");
+    }
+}
+
+// The page reads as this header, and the header is written as this page.
+fn header_is(rt: &impl Abort, begins: &[u8], want: Header, page: &mut [u8], written: &mut [u8])
+    requires least { 32 ≤ length page.old }
+    requires most { length page.old ≤ 4096 }
+    requires begins { length begins.now ≤ length page.old }
+    requires same { length written.old ≡ length page.old }
+{
+    page[..begins.len()].copy_from_slice(begins);
+    let read = decode_header(page).ok();
+    assert!(rt; read.is_some());
+    if let Some(header) = read {
+        assert_eq!(rt; header.format, want.format);
+        assert_eq!(rt; header.kind, want.kind);
+        assert_eq!(rt; header.spare, want.spare);
+        assert_eq!(rt; header.length, want.length);
+        assert_eq!(rt; header.moment, want.moment);
+        assert_eq!(rt; header.bits.first().copied(), want.bits.first().copied());
+        encode_header(&header, written);
+    }
+    assert!(rt; &*written == &*page);
+}
+
+fn file(moment: u64) -> Header<'static> {
+    Header {
+        format: Format::Two,
+        kind: ObjectKind::File,
+        spare: 0,
+        length: 5,
+        moment,
+        bits: &[1],
+    }
+}
+
+#[test]
+fn header_of_a_file(rt: HostRuntime) {
+    header_is(&rt, &FILE, file(7), &mut [0; 512], &mut [0xff; 512]);
+    header_is(&rt, &FILE, file(7), &mut [0; 1024], &mut [0xff; 1024]);
+    header_is(&rt, &FILE, file(7), &mut [0; 2048], &mut [0xff; 2048]);
+    header_is(&rt, &FILE, file(7), &mut [0; 4096], &mut [0xff; 4096]);
+    header_is(&rt, &FILE_AT_0, file(0), &mut [0; 512], &mut [0xff; 512]);
+}
+
+#[test]
+fn header_of_the_root(rt: HostRuntime) {
+    let root = Header {
+        format: Format::Two,
+        kind: ObjectKind::Directory,
+        spare: 1,
+        length: 0,
+        moment: 0,
+        bits: &[0],
+    };
+    header_is(&rt, &ROOT, root, &mut [0; 512], &mut [0xff; 512]);
+}
+
+// The fault of a page of 512 bytes that begins as a file's, with these bytes written over it.
+fn fault_with(begins: &[u8; 33], edits: &[(usize, u8)]) -> Option<HeaderFault> {
+    let mut page = [0; 512];
+    page[..33].copy_from_slice(begins);
+    for (place, byte) in edits {
+        if *place < page.len() {
+            page[*place] = *byte;
+        }
+    }
+    decode_header(&page).err()
+}
+
+#[test]
+fn faults_of_a_page(rt: HostRuntime) {
+    assert_eq!(rt; fault_with(&FILE, &[]), None);
+    assert_eq!(rt; fault_with(&FILE, &[(3, 0x54)]), Some(HeaderFault::Magic));
+    assert_eq!(rt; fault_with(&FILE, &[(4, 0)]), Some(HeaderFault::Magic));
+    assert_eq!(rt;
+        fault_with(&FILE, &[(4, 3), (5, 9)]),
+        Some(HeaderFault::Newer(3))
+    );
+    assert_eq!(rt;
+        fault_with(&FILE, &[(5, 0), (15, 1)]),
+        Some(HeaderFault::Kind)
+    );
+    assert_eq!(rt; fault_with(&FILE, &[(5, 3)]), Some(HeaderFault::Kind));
+    // The greatest length of a file is 8 * 480 * 512, which is hex 1e0000.
+    assert_eq!(rt; fault_with(&FILE, &[(8, 0), (10, 0x1e)]), None);
+    assert_eq!(rt;
+        fault_with(&FILE, &[(8, 1), (10, 0x1e), (24, 1)]),
+        Some(HeaderFault::Length)
+    );
+    assert_eq!(rt; fault_with(&FILE, &[(24, 1)]), Some(HeaderFault::Pad));
+    assert_eq!(rt; fault_with(&FILE, &[(32, 3)]), Some(HeaderFault::Pad));
+    assert_eq!(rt; fault_with(&FILE, &[(511, 0x80)]), Some(HeaderFault::Pad));
+    assert_eq!(rt; fault_with(&FILE, &[(9, 2), (32, 3)]), None);
+}
+
+#[test]
+fn faults_of_a_directory_and_of_format_1(rt: HostRuntime) {
+    assert_eq!(rt; fault_with(&FILE, &[(5, 2), (32, 0)]), None);
+    assert_eq!(rt; fault_with(&FILE, &[(5, 2)]), Some(HeaderFault::Pad));
+    assert_eq!(rt;
+        fault_with(&FILE, &[(5, 2), (12, 1)]),
+        Some(HeaderFault::Length)
+    );
+    assert_eq!(rt; fault_with(&FILE_AT_0, &[(4, 1)]), None);
+    assert_eq!(rt; fault_with(&FILE, &[(4, 1)]), Some(HeaderFault::Pad));
+}
+
+#[test]
+fn slot_stands_in_272_bytes(rt: HostRuntime) {
+    let mut bytes = [0; SLOT_BYTES];
+    bytes[..11].copy_from_slice(&SLOT);
+    let mut written = [0xff; SLOT_BYTES];
+    let read = decode_slot(&bytes);
+    assert!(rt; read.is_some());
+    if let Some(Slot { object, name }) = read {
+        assert_eq!(rt; object, 2);
+        assert_eq!(rt; name, b"a".as_slice());
+        encode_slot(&Slot { object, name }, &mut written);
+    }
+    assert!(rt; written == bytes);
+}
+
+#[test]
+fn bytes_out_of_range_are_no_slot(rt: HostRuntime) {
+    let edits: [(usize, u8); 8] = [
+        (0, 1),
+        (8, 0),
+        (8, 2),
+        (9, 1),
+        (10, b'/'),
+        (10, b'.'),
+        (11, b'a'),
+        (271, 1),
+    ];
+    for (place, byte) in edits {
+        let mut bytes = [0; SLOT_BYTES];
+        bytes[..11].copy_from_slice(&SLOT);
+        if place < SLOT_BYTES {
+            bytes[place] = byte;
+        }
+        assert!(rt; decode_slot(&bytes).is_none(), "at {place}");
+    }
+}
+
+#[test]
+fn names(rt: HostRuntime) -> Result<(), Fail> {
+    for name in [b"a".as_slice(), b"...", b".a", b"\xff\x01", &[b'n'; 255]] {
+        assert!(rt; is_name(name));
+    }
+    for name in [b"".as_slice(), b".", b"..", b"a/b", b"a\0", &[b'n'; 256]] {
+        assert!(rt; !is_name(name));
+    }
+    Ok(())
+}
+
+#[test]
+fn chunks_are_bits_from_the_least(rt: HostRuntime) {
+    let mut bits = [0; 4];
+    set_present(&mut bits, 10, true);
+    assert_eq!(rt; bits, [0, 2, 0, 0]);
+    assert!(rt; is_present(&bits, 10) && !is_present(&bits, 9) && !is_present(&bits, 11));
+    set_present(&mut bits, 32, true);
+    assert_eq!(rt; bits, [0, 2, 0, 0x80]);
+    set_present(&mut bits, 10, false);
+    assert_eq!(rt; bits, [0, 0, 0, 0x80]);
+    assert!(rt; !is_present(&bits, 33));
+}

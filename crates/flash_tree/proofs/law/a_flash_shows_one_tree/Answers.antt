@@ -1,0 +1,7 @@
+use Rattle.flash_tree.specs.Newest.{HasNewest}
+use Rattle.flash_tree.specs.NewestLaws.{one_newest}
+use Rattle.flash_tree.specs.OneTree.{one_tree}
+use Rattle.flash_tree.proofs.law.a_flash_shows_one_tree.Goals as goal
+
+pub returns : goal.returns
+returns c = λ z f x y few. one_tree z few (HasNewest f) (one_newest f) x y

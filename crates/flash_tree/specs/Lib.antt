@@ -1,0 +1,13 @@
+pub mod Groups
+pub mod Newest
+pub mod NewestLaws
+pub mod AddedLaws
+pub mod Tree
+pub mod TreeLaws
+pub mod OneTree
+pub mod Mount
+pub mod FindingLaws
+pub mod ShownLaws
+pub mod AnswerLaws
+pub mod Sound
+pub mod NewestExists

@@ -1,0 +1,79 @@
+// What follows from what counts and what is shown. A function here does nothing: its clause is the law.
+ghost use Rattle.std.specs.Prelude.{◌≡◌, ◌≢◌, ◌<◌, ◌≤◌, ◌+◌, List, ℕ};
+ghost use Rattle.nand_model.specs.Flash.{Flash};
+ghost use Rattle.nand_model.specs.Changes.{Grows, Shrinks};
+ghost use Rattle.page_tags.specs.declared.tag.Tag.{Tag};
+ghost use Rattle.posix_profile.specs.Sizes.{Sizes};
+ghost use Rattle.posix_profile.specs.State.{Objects};
+ghost use Rattle.flash_tree.specs.Groups.{Group, IsCounted, SameGroups, AddsGroup, AllThere};
+ghost use Rattle.flash_tree.specs.Newest.{Spot, Holds, IsAfter, IsNewest, HasNewest, Numbers, AreGreatest};
+ghost use Rattle.flash_tree.specs.Tree.{Shows, KeepsFootprint};
+ghost use Rattle.flash_tree.specs.Mount.{End, GoesThrough, Answer, Answers, IsTreeOf};
+ghost use Rattle.flash_tree.specs.Sound.{IsSound};
+ghost use Rattle.nand_model.specs.declared.geometry.Geometry.{Geometry};
+
+/// A key has one newest page at most, and so one newest data.
+pub fn a_key_has_one_newest_page()
+    ensures place { (f : Flash) (o c : ℕ) (s t : Spot) → IsNewest f o c s → IsNewest f o c t → (s.block ≡ t.block) × (s.page ≡ t.page) }
+    ensures bytes { (f : Flash) (o c : ℕ) (xs ys : List ℕ) → HasNewest f o c xs → HasNewest f o c ys → xs ≡ ys }
+{}
+
+/// A page of a group that is not whole is newest of no key.
+pub fn only_what_counts_is_newest()
+    ensures { (f : Flash) (o c : ℕ) (s : Spot) → IsNewest f o c s → IsCounted f s.block s.page }
+{}
+
+/// There are no two greatest numbers of a flash.
+pub fn the_greatest_numbers_are_one()
+    ensures { (f : Flash) (m n : Numbers) → AreGreatest f m → AreGreatest f n → m ≡ n }
+{}
+
+/// Where the same groups count, and no page but erased ones changed, each key keeps its newest page.
+pub fn the_same_groups_show_the_same()
+    ensures { (old new : Flash) (o c : ℕ) (bytes : List ℕ) → SameGroups old new → Grows old new → HasNewest old o c bytes → HasNewest new o c bytes }
+{}
+
+/// An erase, cut or not, keeps the newest pages that lie in other blocks.
+pub fn an_erase_keeps_what_lies_elsewhere()
+    ensures { (b : ℕ) (old new : Flash) → Shrinks b old new → (o c : ℕ) (bytes : List ℕ) (h : HasNewest old o c bytes) → h.spot.block ≢ b → HasNewest new o c bytes }
+{}
+
+/// After one more group a key that it names once, above all pages that the key had, has the group's page; a key that
+/// it doesn't name keeps its own.
+pub fn one_more_group_is_newest()
+    ensures named { (g : Group) (tag : ℕ → Tag) (bytes : ℕ → List ℕ) (old new : Flash) → AddsGroup g old new → Grows old new → AllThere g tag bytes new
+        → (o c i : ℕ) → i < g.size → (tag i).object ≡ o → (tag i).chunk ≡ c
+        → ((k : ℕ) → k < g.size → (tag k).object ≡ o → (tag k).chunk ≡ c → k ≡ i)
+        → ((t : Spot) → Holds old o c t → IsAfter t (record { block = g.block; page = g.start + i; tag = tag i }) → ⊥)
+        → HasNewest new o c (bytes i) }
+    ensures other { (g : Group) (tag : ℕ → Tag) (bytes : ℕ → List ℕ) (old new : Flash) → AddsGroup g old new → Grows old new → AllThere g tag bytes new
+        → (o c : ℕ) (xs : List ℕ) → ((i : ℕ) → i < g.size → (tag i).object ≡ o → (tag i).chunk ≡ c → ⊥)
+        → HasNewest old o c xs → HasNewest new o c xs }
+{}
+
+/// A flash that has the newest pages of a tree's footprint shows that tree, whatever else stands on it.
+pub fn the_footprint_shows_the_tree()
+    ensures { (z : Sizes) (old new : Flash) (objects : Objects) → KeepsFootprint z (HasNewest old) (HasNewest new) objects
+        → Shows z (HasNewest old) objects → Shows z (HasNewest new) objects }
+{}
+
+/// A flash shows one tree at most.
+pub fn a_flash_shows_one_tree()
+    ensures { (z : Sizes) (f : Flash) (x y : Objects) → z.page_bytes ≤ 4096 → Shows z (HasNewest f) x → Shows z (HasNewest f) y → x ≡ y }
+{}
+
+/// A mount has one answer at most.
+pub fn a_flash_has_one_answer_at_most()
+    ensures { (g : Geometry) (flash : Flash) (a b : Answer) → Answers g flash a → Answers g flash b → a ≡ b }
+{}
+
+/// The answer of a sound flash is its tree.
+pub fn a_sound_flash_answers_its_tree()
+    ensures { (g : Geometry) (flash : Flash) (spare : ℕ) (objects : Objects) → IsSound g flash spare objects → Answers g flash (IsTreeOf spare objects) }
+{}
+
+/// Going through the objects of a list ends in one way.
+pub fn a_list_is_gone_through_in_one_way()
+    ensures { (z : Sizes) (flash : Flash) (list : List ℕ) (n : ℕ) (a b : End) → 32 ≤ z.page_bytes → z.page_bytes ≤ 4096
+        → GoesThrough z (HasNewest flash) list n a → GoesThrough z (HasNewest flash) list n b → a ≡ b }
+{}

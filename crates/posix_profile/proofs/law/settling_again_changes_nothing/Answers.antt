@@ -1,0 +1,5 @@
+use Rattle.posix_profile.specs.PruneLaws.{settle_again}
+use Rattle.posix_profile.proofs.law.settling_again_changes_nothing.Goals as goal
+
+pub returns : goal.returns
+returns c = settle_again

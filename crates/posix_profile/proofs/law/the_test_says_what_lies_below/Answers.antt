@@ -1,0 +1,5 @@
+use Rattle.posix_profile.specs.BelowLaws.{is_below_decides}
+use Rattle.posix_profile.proofs.law.the_test_says_what_lies_below.Goals as goal
+
+pub returns : goal.returns
+returns c = is_below_decides

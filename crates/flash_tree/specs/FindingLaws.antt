@@ -51,7 +51,7 @@ module _ (z : Sizes) (size : IsPageSize z.page_bytes) (m : NewestMap) (single : 
       cc
 
   -- a directory has one list of slots
-  same_slots : (n : ℕ) (s t : List Entry) → AreSlots z m o n s → AreSlots z m o n t → s ≡ t
+  pub same_slots : (n : ℕ) (s t : List Entry) → AreSlots z m o n s → AreSlots z m o n t → s ≡ t
   same_slots n s t a b = same_lists s t (sym a.size ∙ b.size) (λ i x y is is'. one_slot z size.most m single o i x y (a.each i x is) (b.each i y is'))
 
   chunks_or_none : (f : Fields) → HasChunks m o f → LacksChunk m o f → ⊥
@@ -78,7 +78,7 @@ module _ (z : Sizes) (size : IsPageSize z.page_bytes) (m : NewestMap) (single : 
   content_or_not named (inr (f, has, directory, slots, are, is)) (g, has', inr (directory', lacks)) =
       slots_or_none f.length slots are (subst (λ (x : Fields). LacksSlots z m o x.length) (sym (same_header f g has has')) lacks)
 
-  header_there : (named : List ℕ) → IsFileThere z m o named ⊎ IsDirectoryThere z m o named → (f : Fields) × HasHeader z m o f
+  pub header_there : (named : List ℕ) → IsFileThere z m o named ⊎ IsDirectoryThere z m o named → (f : Fields) × HasHeader z m o f
   header_there named (inl (f, has, kind, chunks, none)) = (f, has)
   header_there named (inr (f, has, kind, slots, are, is)) = (f, has)
 

@@ -11,3 +11,10 @@ pub mod ShownLaws
 pub mod AnswerLaws
 pub mod Sound
 pub mod NewestExists
+pub mod NewestTold
+pub mod FindingExists
+pub mod WalkExists
+pub mod Pairs
+pub mod WholeList
+pub mod ContentExists
+pub mod TreeExists

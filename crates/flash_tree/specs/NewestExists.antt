@@ -1,13 +1,13 @@
 -- On a flash of some size it can be told of each key whether it has a newest page.
-use Rattle.std.specs.Prelude.{◌≡◌, ◌≢◌, ◌⊎◌, ◌<◌, ◌≤◌, ℕ, zero, suc, ◌+◌, ◌-◌, Bool, true, false, List}
+use Rattle.std.specs.Prelude.{◌≡◌, ◌⊎◌, ◌<◌, ◌≤◌, ℕ, zero, suc, ◌+◌, ◌-◌, true, false}
 use Rattle.std.proofs.Common.{refl, sym, ◌∙◌, ap, subst, inl, inr, arith}
 use Rattle.std.proofs.lemmas.Bool.{cases_Bool, cases_eq, cases_lt, cases_order}
-use Rattle.nand_model.specs.Flash.{Flash, Page, Erased, Written, Uncorrectable, IsWithin}
+use Rattle.nand_model.specs.Flash.{Flash, Page, Erased, Written, Uncorrectable}
 use Rattle.page_tags.specs.declared.tag.Tag.{Tag}
-use Rattle.page_tags.specs.Tags.{tag_bytes, IsTag}
+use Rattle.page_tags.specs.Tags.{tag_bytes}
 use Rattle.page_tags.specs.TagLaws.{same_tag, tag_or_none}
 use Rattle.flash_tree.specs.Groups.{HasTag, Group, IsPart, IsGroup}
-use Rattle.flash_tree.specs.Newest.{Spot, Holds, IsAfter, IsNewest, HasNewest}
+use Rattle.flash_tree.specs.Newest.{Spot, Holds, IsAfter}
 
 -- a fact that can be told
 abbrev pub IsTold : Type 0 → Type 0
@@ -19,12 +19,12 @@ all_or_one P told zero = inl (λ i lt. absurd (omega arith))
 all_or_one P told (suc n) = elim (all_or_one P told n) [
   | inr (i, lt, not) ↦ inr (i, omega arith, not)
   | inl all ↦ elim (told n) [
-      | inl is ↦ inl (λ i lt. elim (cases_eq i n) [
-          | inl same ↦ subst P (sym same) is
-          | inr ne ↦ all i (omega arith)
-        ])
-      | inr not ↦ inr (n, omega arith, not)
-    ]
+    | inl is ↦ inl (λ i lt. elim (cases_eq i n) [
+      | inl same ↦ subst P (sym same) is
+      | inr ne ↦ all i (omega arith)
+    ])
+    | inr not ↦ inr (n, omega arith, not)
+  ]
 ]
 
 module _ (flash : Flash) where
@@ -51,18 +51,18 @@ module _ (flash : Flash) where
   part_at g i = elim (tag_at g.block (g.start + i)) [
     | inr none ↦ inr (λ part. none part.tag part.has)
     | inl (t, has) ↦ elim (cases_eq t.index i) [
-        | inr ne ↦ inr (λ part. ne (ap (λ (u : Tag). u.index) (one_tag _ _ t part.tag has part.has) ∙ part.index))
-        | inl index ↦ elim (cases_eq t.count g.size) [
-            | inr ne ↦ inr (λ part. ne (ap (λ (u : Tag). u.count) (one_tag _ _ t part.tag has part.has) ∙ part.count))
-            | inl count ↦ elim (cases_eq t.group g.number) [
-                | inr ne ↦ inr (λ part. ne (ap (λ (u : Tag). u.group) (one_tag _ _ t part.tag has part.has) ∙ part.group))
-                | inl group ↦ elim (cases_eq t.seq g.seq) [
-                    | inr ne ↦ inr (λ part. ne (ap (λ (u : Tag). u.seq) (one_tag _ _ t part.tag has part.has) ∙ part.seq))
-                    | inl seq ↦ inl (record { tag = t; has = has; index = index; count = count; group = group; seq = seq })
-                  ]
-              ]
+      | inr ne ↦ inr (λ part. ne (ap (λ (u : Tag). u.index) (one_tag _ _ t part.tag has part.has) ∙ part.index))
+      | inl index ↦ elim (cases_eq t.count g.size) [
+        | inr ne ↦ inr (λ part. ne (ap (λ (u : Tag). u.count) (one_tag _ _ t part.tag has part.has) ∙ part.count))
+        | inl count ↦ elim (cases_eq t.group g.number) [
+          | inr ne ↦ inr (λ part. ne (ap (λ (u : Tag). u.group) (one_tag _ _ t part.tag has part.has) ∙ part.group))
+          | inl group ↦ elim (cases_eq t.seq g.seq) [
+            | inr ne ↦ inr (λ part. ne (ap (λ (u : Tag). u.seq) (one_tag _ _ t part.tag has part.has) ∙ part.seq))
+            | inl seq ↦ inl (record { tag = t; has = has; index = index; count = count; group = group; seq = seq })
           ]
+        ]
       ]
+    ]
   ]
 
   -- whether a group is whole
@@ -70,12 +70,12 @@ module _ (flash : Flash) where
   group_at g = elim (cases_Bool (flash.bad g.block)) [
     | inl bad ↦ inr (λ whole. let two : true ≡ false = sym bad ∙ whole.good in cc)
     | inr good ↦ elim (cases_lt zero g.size) [
-        | inr none ↦ inr (λ whole. let some = whole.some in omega arith)
-        | inl some ↦ elim (all_or_one (IsPart flash g) (part_at g) g.size) [
-            | inl each ↦ inl (record { good = good; some = omega arith; each = each })
-            | inr (i, lt, not) ↦ inr (λ whole. not (whole.each i lt))
-          ]
+      | inr none ↦ inr (λ whole. let some = whole.some in omega arith)
+      | inl some ↦ elim (all_or_one (IsPart flash g) (part_at g) g.size) [
+        | inl each ↦ inl (record { good = good; some = omega arith; each = each })
+        | inr (i, lt, not) ↦ inr (λ whole. not (whole.each i lt))
       ]
+    ]
   ]
 
   -- the group that a tag at a place tells of
@@ -118,30 +118,32 @@ module _ (flash : Flash) where
   holds_at o c b p = elim (tag_at b p) [
     | inr none ↦ inr (λ h. none h.spot.tag (tag_of o c b p h))
     | inl (t, has) ↦ elim (cases_eq t.object o) [
-        | inr ne ↦ inr (λ h. ne (ap (λ (u : Tag). u.object) (one_tag b p t h.spot.tag has (tag_of o c b p h)) ∙ h.holds.object))
-        | inl object ↦ elim (cases_eq t.chunk c) [
-            | inr ne ↦ inr (λ h. ne (ap (λ (u : Tag). u.chunk) (one_tag b p t h.spot.tag has (tag_of o c b p h)) ∙ h.holds.chunk))
-            | inl chunk ↦ elim (cases_lt p t.index) [
-                | inl before ↦ inr (λ h.
-                    let tag : t ≡ h.spot.tag = one_tag b p t h.spot.tag has (tag_of o c b p h) in
-                    let index : t.index ≡ h.spot.tag.index = ap (λ (u : Tag). u.index) tag in
-                    let page : h.spot.page ≡ p = h.page in
-                    let within : h.spot.tag.index ≤ h.spot.page = index_within o c h.spot h.holds in
-                    omega arith)
-                | inr after ↦ elim (group_at (group_by b p t)) [
-                    | inl whole ↦ inl (record {
-                        spot = record { block = b; page = p; tag = t }; block = refl; page = refl;
-                        holds = record { group = group_by b p t; whole = whole; index = t.index; within = has.valid.index; block = refl; page = omega arith; has = has; object = object; chunk = chunk }
-                      })
-                    | inr not ↦ inr (λ h.
-                        let tag : h.spot.tag ≡ t = sym (one_tag b p t h.spot.tag has (tag_of o c b p h)) in
-                        let same : h.holds.group ≡ group_by b p t = group_is o c h.spot h.holds
-                          ∙ ap (λ k. group_by k h.spot.page h.spot.tag) h.block ∙ ap (λ l. group_by b l h.spot.tag) h.page ∙ ap (group_by b p) tag in
-                        not (subst (IsGroup flash) same h.holds.whole))
-                  ]
-              ]
+      | inr ne ↦ inr (λ h. ne (ap (λ (u : Tag). u.object) (one_tag b p t h.spot.tag has (tag_of o c b p h)) ∙ h.holds.object))
+      | inl object ↦ elim (cases_eq t.chunk c) [
+        | inr ne ↦ inr (λ h. ne (ap (λ (u : Tag). u.chunk) (one_tag b p t h.spot.tag has (tag_of o c b p h)) ∙ h.holds.chunk))
+        | inl chunk ↦ elim (cases_lt p t.index) [
+          | inl before ↦ inr (λ h.
+              let tag : t ≡ h.spot.tag = one_tag b p t h.spot.tag has (tag_of o c b p h) in
+              let index : t.index ≡ h.spot.tag.index = ap (λ (u : Tag). u.index) tag in
+              let page : h.spot.page ≡ p = h.page in
+              let within : h.spot.tag.index ≤ h.spot.page = index_within o c h.spot h.holds in
+              omega arith)
+          | inr after ↦ elim (group_at (group_by b p t)) [
+            | inl whole ↦ inl (record {
+              spot = record { block = b; page = p; tag = t };
+              block = refl;
+              page = refl;
+              holds = record { group = group_by b p t; whole = whole; index = t.index; within = has.valid.index; block = refl; page = omega arith; has = has; object = object; chunk = chunk };
+            })
+            | inr not ↦ inr (λ h.
+                let tag : h.spot.tag ≡ t = sym (one_tag b p t h.spot.tag has (tag_of o c b p h)) in
+                let same : h.holds.group ≡ group_by b p t = group_is o c h.spot h.holds
+                ∙ ap (λ k. group_by k h.spot.page h.spot.tag) h.block ∙ ap (λ l. group_by b l h.spot.tag) h.page ∙ ap (group_by b p) tag in
+                not (subst (IsGroup flash) same h.holds.whole))
           ]
+        ]
       ]
+    ]
   ]
 
 -- ---- the order of places
@@ -152,17 +154,17 @@ after_or_not s t = elim (cases_order t.tag.version s.tag.version) [
   | inr (inl lt) ↦ inl (inl lt)
   | inr (inr gt) ↦ inr (λ after. elim after [ inl lt ↦ omega arith | inr (v, rest) ↦ omega arith ])
   | inl v ↦ elim (cases_order t.tag.seq s.tag.seq) [
-      | inr (inl lt) ↦ inl (inr (sym v, inl lt))
-      | inr (inr gt) ↦ inr (λ after. elim after [ inl lt ↦ omega arith | inr (v', inl lt) ↦ omega arith | inr (v', inr (q', rest)) ↦ omega arith ])
-      | inl q ↦ elim (cases_order t.page s.page) [
-          | inr (inl lt) ↦ inl (inr (sym v, inr (sym q, inl lt)))
-          | inr (inr gt) ↦ inr (λ after. elim after [ inl lt ↦ omega arith | inr (v', inl lt) ↦ omega arith | inr (v', inr (q', inl lt)) ↦ omega arith | inr (v', inr (q', inr (p', lt))) ↦ omega arith ])
-          | inl p ↦ elim (cases_lt t.block s.block) [
-              | inl lt ↦ inl (inr (sym v, inr (sym q, inr (sym p, lt))))
-              | inr ge ↦ inr (λ after. elim after [ inl lt ↦ omega arith | inr (v', inl lt) ↦ omega arith | inr (v', inr (q', inl lt)) ↦ omega arith | inr (v', inr (q', inr (p', lt))) ↦ omega arith ])
-            ]
-        ]
+    | inr (inl lt) ↦ inl (inr (sym v, inl lt))
+    | inr (inr gt) ↦ inr (λ after. elim after [ inl lt ↦ omega arith | inr (v', inl lt) ↦ omega arith | inr (v', inr (q', rest)) ↦ omega arith ])
+    | inl q ↦ elim (cases_order t.page s.page) [
+      | inr (inl lt) ↦ inl (inr (sym v, inr (sym q, inl lt)))
+      | inr (inr gt) ↦ inr (λ after. elim after [ inl lt ↦ omega arith | inr (v', inl lt) ↦ omega arith | inr (v', inr (q', inl lt)) ↦ omega arith | inr (v', inr (q', inr (p', lt))) ↦ omega arith ])
+      | inl p ↦ elim (cases_lt t.block s.block) [
+        | inl lt ↦ inl (inr (sym v, inr (sym q, inr (sym p, lt))))
+        | inr ge ↦ inr (λ after. elim after [ inl lt ↦ omega arith | inr (v', inl lt) ↦ omega arith | inr (v', inr (q', inl lt)) ↦ omega arith | inr (v', inr (q', inr (p', lt))) ↦ omega arith ])
+      ]
     ]
+  ]
 ]
 
 -- what comes after what comes after comes after

@@ -56,7 +56,7 @@ each_mapped f P (x ∷ xs) each (suc k) c is = each_mapped f P xs (λ j y at. ea
 
 -- ---- the entries of slots
 
-abbrev pairs : List Entry → List (Name × ℕ)
+abbrev pub pairs : List Entry → List (Name × ℕ)
 pairs slots = list_map (λ entry. (entry.name, entry.object)) slots
 
 ne_name : (a b : Name) → a ≢ b → eq_by_cmp (slice_cmp nat_cmp) a b ≡ false
@@ -66,7 +66,7 @@ ne_name a b ne = elim (cases_Bool (eq_by_cmp (slice_cmp nat_cmp) a b)) [
 ]
 
 -- the entry at a place is found by its name, where no other place has it
-found : (slots : List Entry) (k : ℕ) (e : Entry) → slice_get slots k ≡ Some e → ((j : ℕ) (b : Entry) → slice_get slots j ≡ Some b → b.name ≡ e.name → j ≡ k)
+pub found : (slots : List Entry) (k : ℕ) (e : Entry) → slice_get slots k ≡ Some e → ((j : ℕ) (b : Entry) → slice_get slots j ≡ Some b → b.name ≡ e.name → j ≡ k)
     → map.find (slice_cmp nat_cmp) e.name (pairs slots) ≡ Some e.object
 found [] k e is once = absurd cc
 found (s ∷ slots) zero e is once =

@@ -1,5 +1,5 @@
 -- The bounds of the sizes of a device.
-use Rattle.std.proofs.Common.{◌≡◌, ◌⊎◌, ◌≤◌, ℕ, arith, inl, inr}
+use Rattle.std.proofs.Common.{◌≡◌, ◌⊎◌, ◌≤◌, ℕ, arith}
 use Rattle.nand_model.specs.Size.{IsSize}
 
 pub record Bounds (bytes pages blocks : ℕ) : Type 0 where

@@ -1,10 +1,7 @@
 -- What is read of a list by `slice_get` after a write.
-use Rattle.std.proofs.Common.{◌≡◌, ◌≢◌, ◌<◌, ◌≤◌, ℕ, Bool, true, false, zero, suc, List, [], ◌∷◌, length, set, cond, eqb, refl, arith, ap, sym, subst, ◌∙◌, ◌++◌, inl, inr}
-use Rattle.std.specs.Prelude.{slice_get, Option, Some, None}
+use Rattle.std.proofs.Common.{◌≡◌, ◌≢◌, ◌<◌, ◌≤◌, ℕ, zero, suc, List, [], ◌∷◌, length, set, cond, eqb, refl, arith, ap, sym, subst, ◌∙◌, ◌++◌, inl, inr}
+use Rattle.std.specs.Prelude.{slice_get}
 use Rattle.std.specs.Option.{option_map_or}
-use Rattle.nand_model.specs.Flash.{Erased}
-use Rattle.nand_model.specs.Memory.{view_at}
-use Rattle.nand_model.specs.declared.block.MemPage.{MemPage}
 use Rattle.std.proofs.lemmas.Bool.{cases_eq, cases_lt, cases_order, eq-eqb, ne_eqb, cond-true, cond-false}
 
 pub map_or-set_same : {X Y : Type 0} (f : X → Y) (d : Y) (xs : List X) (b : ℕ) (x : X) → b < length xs

@@ -1,5 +1,5 @@
 -- What keeps the sizes of a device in memory, its blocks clean and its pages whole.
-use Rattle.std.proofs.Common.{◌≡◌, ◌≢◌, ◌+◌, ◌<◌, ◌≤◌, ◌⊎◌, ℕ, Option, Some, None, Bool, true, false, List, length, refl, sym, ◌∙◌, ap, subst, arith, inl, inr}
+use Rattle.std.proofs.Common.{◌≡◌, ◌≢◌, ◌+◌, ◌<◌, ◌≤◌, ◌⊎◌, ℕ, Some, None, List, length, refl, sym, ◌∙◌, ap, subst, arith, inl, inr}
 use Rattle.std.proofs.lemmas.Bool.{cases_eq, cases_lt}
 use Rattle.nand_model.specs.Flash.{Flash, Page, Erased, Written, Uncorrectable, IsClean, IsSized, AreBytes}
 use Rattle.nand_model.specs.Plans.{programmed, erased, left_by, page_by, fate_at, erase_result}

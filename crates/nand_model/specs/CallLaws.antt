@@ -1,5 +1,4 @@
 -- What holds of several calls in turn.
-use Rattle.std.specs.Prelude.{◌≡◌, ◌⊎◌, ◌<◌, ◌≤◌, ℕ, true}
 use Rattle.std.proofs.Common.{refl, ◌∙◌, ap, arith, inl, inr}
 use Rattle.nand_model.specs.Calls.{Device, Lasts}
 

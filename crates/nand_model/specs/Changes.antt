@@ -1,6 +1,6 @@
 -- What becomes of a flash, however its calls end.
-use Rattle.std.specs.Prelude.{◌≡◌, ◌≢◌, ◌⊎◌, ℕ, Bool, true, false, None, Result, Ok, Err}
-use Rattle.nand_model.specs.Flash.{Flash, Page, Erased, Uncorrectable}
+use Rattle.std.specs.Prelude.{◌≡◌, ◌≢◌, ◌⊎◌, ℕ, true, false, None}
+use Rattle.nand_model.specs.Flash.{Flash, Erased, Uncorrectable}
 use Rattle.nand_model.specs.Calls.{Device, Lasts}
 
 -- all pages erased, no block bad, none with a next page

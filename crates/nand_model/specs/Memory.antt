@@ -1,5 +1,5 @@
 -- What the blocks of a device in memory stand for.
-use Rattle.std.specs.Prelude.{◌≡◌, ◌<◌, ◌≤◌, ℕ, Bool, true, false, Option, Some, None, List, length, slice_get, []}
+use Rattle.std.specs.Prelude.{◌≡◌, ◌<◌, ◌≤◌, ℕ, Bool, false, Option, Some, None, List, length, slice_get, []}
 use Rattle.std.specs.Option.{option_map_or}
 use Rattle.nand_model.specs.Flash.{Flash, Page, Erased, Written, Uncorrectable, IsClean, IsSized}
 use Rattle.nand_model.specs.declared.geometry.Geometry.{Geometry}

@@ -1,6 +1,5 @@
 -- What the calls of a device in memory do beside what each device does: its plan says how they end.
-use Rattle.std.specs.Prelude.{◌≡◌, ◌<◌, ◌↔◌, ℕ, Bool, true, false, List, Result, Ok, Err, IsErr, if◌then◌else◌}
-use Rattle.nand_model.specs.Flash.{Page}
+use Rattle.std.specs.Prelude.{◌≡◌, ◌<◌, ◌↔◌, ℕ, Bool, true, false, List, Result, IsErr, if◌then◌else◌}
 use Rattle.nand_model.specs.Calls.{Device}
 use Rattle.nand_model.specs.Plans.{Plan, counted, is_fused, change_end, change_fates, other_end, programmed, erased, marked, program_result, erase_result}
 use Rattle.nand_model.specs.declared.nand.PageKind.{PageKind}

@@ -1,13 +1,11 @@
 -- Which calls of a device in memory are cut or fail, and with which fates.
-use Rattle.std.specs.Prelude.{◌≡◌, ℕ, ◌+◌, ◌-◌, ◌^◌, Bool, true, false, Option, Some, None, Result, Ok, Err, List, [], ◌∷◌, slice_get, map, min, nat_eq, is_some, unwrap_or, if◌then◌else◌}
+use Rattle.std.specs.Prelude.{ℕ, ◌+◌, ◌-◌, ◌^◌, Bool, true, false, Option, Some, None, Result, Ok, Err, List, [], ◌∷◌, slice_get, map, min, nat_eq, is_some, unwrap_or, if◌then◌else◌}
 use Rattle.std.specs.Global.{Vec}
 use Rattle.nand_model.specs.Flash.{Page, Erased, Written, Uncorrectable}
 use Rattle.nand_model.specs.declared.fate.Fate.{Fate}
 use Rattle.nand_model.specs.declared.fate.Fate.TheVariants as fates
 use Rattle.nand_model.specs.declared.plan.End.{End}
 use Rattle.nand_model.specs.declared.plan.End.TheVariants as ends
-use Rattle.nand_model.specs.declared.nand.Gone.{Gone}
-use Rattle.nand_model.specs.declared.nand.Gone as the_gone
 use Rattle.nand_model.specs.declared.nand.ProgramFault.{ProgramFault}
 use Rattle.nand_model.specs.declared.nand.ProgramFault.TheVariants as program_faults
 use Rattle.nand_model.specs.declared.nand.EraseFault.{EraseFault}

@@ -1,9 +1,7 @@
 -- What the script of a device in memory stands for.
-use Rattle.std.specs.Prelude.{◌≡◌, ℕ, Option, Some, None, List, map}
 use Rattle.std.specs.Option.{option_map}
 use Rattle.nand_model.specs.Plans.{Plan, listed}
 use Rattle.nand_model.specs.declared.plan.Script.{Script}
-use Rattle.nand_model.specs.declared.plan.Fuse.{Fuse}
 
 abbrev pub plan : Script → Plan
 plan s = record {

@@ -1,10 +1,9 @@
-use Rattle.std.proofs.Common.{◌≡◌, ◌<◌, ◌≤◌, ℕ, ◌++◌, List, [], ◌∷◌, length, Option, None, Some, Bool, false, below_more, ap, sym, ◌∙◌, arith}
+use Rattle.std.proofs.Common.{◌≡◌, ◌<◌, ◌≤◌, ℕ, ◌++◌, List, [], ◌∷◌, length, None, Some, false, below_more, ap, sym, ◌∙◌, arith}
 use Rattle.std.specs.Prelude.{slice_get}
 use Rattle.std.specs.Option.{option_map_or}
 use Rattle.std.proofs.lemmas.Grind.{common_steps}
 use Rattle.std.proofs.lemmas.Option.{gets}
 use Rattle.nand_model.specs.declared.block.MemBlock.{MemBlock}
-use Rattle.nand_model.specs.declared.block.MemPage.{MemPage}
 use Rattle.nand_model.specs.Memory.{view_at, size_at, pages_at, bad_at, next_at}
 use Rattle.nand_model.proofs.Slots.{map_or_push_old, map_or_push_new, everywhere}
 use Rattle.nand_model.specs.MemoryLaws.{map_or_past}

@@ -1,4 +1,4 @@
-use Rattle.std.proofs.Common.{below_more, ap, ◌∙◌, ℕ, ◌≢◌, rules, arith}
+use Rattle.std.proofs.Common.{below_more, ap, ◌∙◌, ◌≢◌, arith}
 use Rattle.nand_model.specs.Plans.{erased}
 use Rattle.nand_model.proofs.Whole.{leaves_each}
 use Rattle.nand_model.proofs.block.erase_pages.Goals as goal

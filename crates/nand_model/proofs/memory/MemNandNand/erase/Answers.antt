@@ -1,4 +1,4 @@
-use Rattle.std.proofs.Common.{◌≡◌, ◌∙◌, ap, sym, subst, inl, inr, Some, None, ◌⊎◌, ◌+◌, ◌≤◌, ◌<◌, ℕ, List, rules, arith}
+use Rattle.std.proofs.Common.{◌≡◌, ◌∙◌, ap, sym, inl, inr, Some, None, ◌⊎◌, ℕ, rules, arith}
 use Rattle.std.proofs.lemmas.Bool.{cases_eq}
 use Rattle.nand_model.specs.Flash.{Page, Erased}
 use Rattle.nand_model.specs.Calls.{EraseLeaves}

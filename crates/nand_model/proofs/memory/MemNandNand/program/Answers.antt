@@ -1,7 +1,6 @@
-use Rattle.std.proofs.Common.{◌≡◌, ◌∙◌, ap, sym, subst, inl, inr, Some, None, ◌⊎◌, ◌+◌, ◌≤◌, ◌<◌, ℕ, List, length, get_or, rules, arith}
+use Rattle.std.proofs.Common.{◌≡◌, ◌∙◌, ap, sym, subst, inl, inr, Some, None, ◌⊎◌, ◌+◌, ◌<◌, ℕ, List, get_or, arith}
 use Rattle.std.proofs.lemmas.Bool.{cases_eq}
-use Rattle.std.proofs.lemmas.Grind.{common_steps}
-use Rattle.nand_model.specs.Flash.{Page, AreBytes, Erased, Written, Uncorrectable}
+use Rattle.nand_model.specs.Flash.{Page, Erased, Written, Uncorrectable}
 use Rattle.nand_model.specs.Memory.{flash_of, next_at, view_at, pages_at}
 use Rattle.nand_model.proofs.Whole.{whole_kept, clean_programmed, sized_programmed, programmed_is}
 use Rattle.nand_model.proofs.memory.MemNandNand.program.Goals as goal

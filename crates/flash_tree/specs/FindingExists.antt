@@ -45,7 +45,7 @@ module _ (z : Sizes) (size : IsPageSize z.page_bytes) (m : NewestMap) (single : 
     (told : (o c : ℕ) → ((page : List ℕ) × m o c page) ⊎ HasNone m o c)
     (sized : (o c : ℕ) (page : List ℕ) → m o c page → (length page ≡ z.page_bytes) × IsBytes page) (o : ℕ) where
   -- no header, a fault, or a header
-  header_told : HasNone m o 0 ⊎ ((fault : HeaderFault) × HasHeaderFault m o fault) ⊎ ((f : Fields) × HasHeader z m o f)
+  pub header_told : HasNone m o 0 ⊎ ((fault : HeaderFault) × HasHeaderFault m o fault) ⊎ ((f : Fields) × HasHeader z m o f)
   header_told = elim (told o 0) [
     | inr none ↦ inl none
     | inl (page, there) ↦

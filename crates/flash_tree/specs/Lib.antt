@@ -18,3 +18,6 @@ pub mod Pairs
 pub mod WholeList
 pub mod ContentExists
 pub mod TreeExists
+pub mod TwiceExists
+pub mod RoomExists
+pub mod AnswerExists

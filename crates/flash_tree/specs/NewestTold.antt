@@ -100,7 +100,7 @@ module _ (flash : Flash) (o c : ℕ) where
 
   module _ (pages blocks : ℕ) (within : IsWithin pages blocks flash) where
     -- what counts lies within the device
-    place_within : (s : Spot) → Holds flash o c s → (s.block < blocks) × (s.page < pages)
+    pub place_within : (s : Spot) → Holds flash o c s → (s.block < blocks) × (s.page < pages)
     place_within s h = (
       elim (cases_lt s.block blocks) [
         | inl lt ↦ lt

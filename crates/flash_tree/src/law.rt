@@ -1,6 +1,6 @@
 // What follows from what counts and what is shown. A function here does nothing: its clause is the law.
 ghost use Rattle.std.specs.Prelude.{◌≡◌, ◌≢◌, ◌<◌, ◌≤◌, ◌+◌, List, ℕ};
-ghost use Rattle.nand_model.specs.Flash.{Flash};
+ghost use Rattle.nand_model.specs.Flash.{Flash, IsWithin, IsSized};
 ghost use Rattle.nand_model.specs.Changes.{Grows, Shrinks};
 ghost use Rattle.page_tags.specs.declared.tag.Tag.{Tag};
 ghost use Rattle.posix_profile.specs.Sizes.{Sizes};
@@ -8,7 +8,7 @@ ghost use Rattle.posix_profile.specs.State.{Objects};
 ghost use Rattle.flash_tree.specs.Groups.{Group, IsCounted, SameGroups, AddsGroup, AllThere};
 ghost use Rattle.flash_tree.specs.Newest.{Spot, Holds, IsAfter, IsNewest, HasNewest, Numbers, AreGreatest};
 ghost use Rattle.flash_tree.specs.Tree.{Shows, KeepsFootprint};
-ghost use Rattle.flash_tree.specs.Mount.{End, GoesThrough, Answer, Answers, IsTreeOf};
+ghost use Rattle.flash_tree.specs.Mount.{End, GoesThrough, sizes_of, IsVolume, HasRoom, Answer, Answers, IsTreeOf};
 ghost use Rattle.flash_tree.specs.Sound.{IsSound};
 ghost use Rattle.nand_model.specs.declared.geometry.Geometry.{Geometry};
 
@@ -60,6 +60,14 @@ pub fn the_footprint_shows_the_tree()
 /// A flash shows one tree at most.
 pub fn a_flash_shows_one_tree()
     ensures { (z : Sizes) (f : Flash) (x y : Objects) → z.page_bytes ≤ 4096 → Shows z (HasNewest f) x → Shows z (HasNewest f) y → x ≡ y }
+{}
+
+/// The flash of a device, as the laws of a device have it, has an answer, and the answer is the tree where one is shown
+/// with room.
+pub fn a_flash_has_an_answer()
+    ensures answer { (g : Geometry) (flash : Flash) → IsWithin g.pages g.blocks flash → IsSized g.bytes flash → (a : Answer) × Answers g flash a }
+    ensures tree { (g : Geometry) (flash : Flash) (spare : ℕ) (objects : Objects) → IsVolume g (HasNewest flash) spare
+        → Shows (sizes_of g spare) (HasNewest flash) objects → HasRoom g flash spare objects → Answers g flash (IsTreeOf spare objects) }
 {}
 
 /// A mount has one answer at most.

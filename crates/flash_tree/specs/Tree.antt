@@ -52,6 +52,7 @@ pub record ReadsDir (z : Sizes) (m : NewestMap) (o : ℕ) (moment : ℕ) (entrie
   pub once : (i j : ℕ) (a b : Entry) → slice_get slots i ≡ Some a → slice_get slots j ≡ Some b → a.name ≡ b.name → i ≡ j
   pub entries_are : entries ≡ map.from_entries (list_map (λ entry. (entry.name, entry.object)) slots)
 
+-- the object reads as this file or directory
 abbrev pub Reads : Sizes → NewestMap → ℕ → Object → Type 0
 Reads z m o (File moment bytes) = ReadsFile z m o moment bytes
 Reads z m o (Dir moment entries) = ReadsDir z m o moment entries

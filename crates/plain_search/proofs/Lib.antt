@@ -1,0 +1,5 @@
+pub mod Parts
+pub mod Held
+pub mod Passing
+pub mod Best
+pub mod Raising

@@ -1,0 +1,5 @@
+pub mod Places
+pub mod Searching
+pub mod SearchLaws
+pub mod OrderLaws
+pub mod SmallDevices

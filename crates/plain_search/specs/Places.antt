@@ -1,0 +1,27 @@
+-- What is found, as the definitions of a flash see it.
+use Rattle.std.specs.Prelude.{◌≡◌, ◌≤◌, ℕ, ◌-◌}
+use Rattle.nand_model.specs.Flash.{Flash}
+use Rattle.flash_tree.specs.Groups.{HasTag, Group, IsGroup}
+use Rattle.flash_tree.specs.Newest.{Spot, Numbers}
+use Rattle.plain_search.specs.declared.place.Found.{Found}
+use Rattle.plain_search.specs.declared.place.TagNumbers.{TagNumbers}
+
+-- the place and the tag
+abbrev pub spot_of : Found → Spot
+spot_of f = record { block = f.block; page = f.page; tag = f.tag }
+
+-- the three numbers
+abbrev pub numbers_of : TagNumbers → Numbers
+numbers_of n = record { version = n.version; group = n.group; seq = n.seq }
+
+-- The group that the tag of a page names: the page is the one at the tag's index.
+abbrev pub group_of : Spot → Group
+group_of s = record { block = s.block; start = s.page - s.tag.index; size = s.tag.count; number = s.tag.group; seq = s.tag.seq }
+
+-- the page has this tag, which is of the key of object o and chunk c, and the group that it names is whole
+pub record CountsByTag (flash : Flash) (o c : ℕ) (s : Spot) : Type 0 where
+  pub has : HasTag flash s.block s.page s.tag
+  pub object : s.tag.object ≡ o
+  pub chunk : s.tag.chunk ≡ c
+  pub start : s.tag.index ≤ s.page
+  pub whole : IsGroup flash (group_of s)

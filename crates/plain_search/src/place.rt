@@ -1,0 +1,26 @@
+// What is searched for, and what is found.
+
+use page_tags::Tag;
+
+/// Which page of the store is meant: a chunk of an object.
+#[derive(Clone, Copy, Debug, PartialEq, Eq)]
+pub struct Key {
+    pub object: u64,
+    pub chunk: u64,
+}
+
+/// A place of a page, with the tag that stands there.
+#[derive(Clone, Copy, Debug, PartialEq, Eq)]
+pub struct Found {
+    pub block: u32,
+    pub page: u32,
+    pub tag: Tag,
+}
+
+/// The numbers of tags, each 0 where there is none.
+#[derive(Clone, Copy, Debug, PartialEq, Eq)]
+pub struct TagNumbers {
+    pub version: u64,
+    pub group: u64,
+    pub seq: u64,
+}

@@ -1,0 +1,3 @@
+pub mod PlainState
+pub mod Meaning
+pub mod Places

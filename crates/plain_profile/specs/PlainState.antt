@@ -1,0 +1,42 @@
+-- What the plain volume stands for.
+use Rattle.std.specs.Prelude.{ℕ, List, map as list_map, Option, Some, None}
+use Rattle.std.specs.FinMap as map
+use Rattle.std.specs.BTreeMap.{BTreeMap}
+use Rattle.std.specs.Global.{Vec}
+use Rattle.posix_profile.specs.Sizes.{Sizes}
+use Rattle.posix_profile.specs.State.{Object, File, Dir, Entries, Objects, Handle, Handles, State}
+use Rattle.posix_profile.specs.Paths.{Component, Dot, DotDot, Named, Place}
+use Rattle.plain_profile.specs.declared.object.PlainObject.{PlainObject}
+use Rattle.plain_profile.specs.declared.object.PlainObject.TheVariants as plain
+use Rattle.plain_profile.specs.declared.object.PlainHandle.{PlainHandle}
+use Rattle.plain_profile.specs.declared.sizes.PlainSizes.{PlainSizes}
+use Rattle.plain_profile.specs.declared.volume.PlainVolume.{PlainVolume}
+
+-- the entries by their names
+abbrev pub entries_in : BTreeMap (Vec ℕ) ℕ → Entries
+entries_in m = map.from_entries (list_map (λ e. (e.0.items, e.1)) m.entries)
+
+-- a file with its bytes, or a directory with its entries
+abbrev pub object_of : PlainObject → Object
+object_of (plain.File moment bytes) = File moment bytes.items
+object_of (plain.Directory moment entries) = Dir moment (entries_in entries)
+
+-- the objects by their numbers
+abbrev pub objects_in : BTreeMap ℕ PlainObject → Objects
+objects_in m = map.from_entries (list_map (λ e. (e.0, object_of e.1)) m.entries)
+
+-- what a descriptor stands for
+abbrev pub handle_of : PlainHandle → Handle
+handle_of h = record { object = h.object; flags = h.flags; offset = h.offset }
+
+-- what the descriptors stand for
+abbrev pub handles_in : BTreeMap ℕ PlainHandle → Handles
+handles_in m = map.from_entries (list_map (λ e. (e.0, handle_of e.1)) m.entries)
+
+-- the numbers of a volume
+abbrev pub sizes_of : PlainSizes → Sizes
+sizes_of z = record { page_bytes = z.page_bytes; block_pages = z.block_pages; blocks = z.blocks; spare_blocks = z.spare_blocks }
+
+-- the state of a volume
+abbrev pub state_of : PlainVolume → State
+state_of v = record { objects = objects_in v.objects; handles = handles_in v.handles }

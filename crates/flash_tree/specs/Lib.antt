@@ -21,3 +21,6 @@ pub mod TreeExists
 pub mod TwiceExists
 pub mod RoomExists
 pub mod AnswerExists
+pub mod Places
+pub mod PlaceLaws
+pub mod OrderLaws

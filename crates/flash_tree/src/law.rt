@@ -1,12 +1,13 @@
 // What follows from what counts and what is shown. A function here does nothing: its clause is the law.
-ghost use Rattle.std.specs.Prelude.{◌≡◌, ◌≢◌, ◌<◌, ◌≤◌, ◌+◌, List, ℕ};
+ghost use Rattle.std.specs.Prelude.{◌≡◌, ◌≢◌, ◌<◌, ◌≤◌, ◌↔◌, ◌+◌, List, ℕ};
 ghost use Rattle.nand_model.specs.Flash.{Flash, IsWithin, IsSized};
 ghost use Rattle.nand_model.specs.Changes.{Grows, Shrinks};
 ghost use Rattle.page_tags.specs.declared.tag.Tag.{Tag};
 ghost use Rattle.posix_profile.specs.Sizes.{Sizes};
 ghost use Rattle.posix_profile.specs.State.{Objects};
-ghost use Rattle.flash_tree.specs.Groups.{Group, IsCounted, SameGroups, AddsGroup, AllThere};
+ghost use Rattle.flash_tree.specs.Groups.{HasTag, Group, IsCounted, SameGroups, AddsGroup, AllThere};
 ghost use Rattle.flash_tree.specs.Newest.{Spot, Holds, IsAfter, IsNewest, HasNewest, Numbers, AreGreatest};
+ghost use Rattle.flash_tree.specs.Places.{CountsByTag};
 ghost use Rattle.flash_tree.specs.Tree.{Shows, KeepsFootprint};
 ghost use Rattle.flash_tree.specs.Mount.{End, GoesThrough, sizes_of, IsVolume, HasRoom, Answer, Answers, IsTreeOf};
 ghost use Rattle.flash_tree.specs.Sound.{IsSound};
@@ -21,6 +22,23 @@ pub fn a_key_has_one_newest_page()
 /// A page of a group that is not whole is newest of no key.
 pub fn only_what_counts_is_newest()
     ensures { (f : Flash) (o c : ℕ) (s : Spot) → IsNewest f o c s → IsCounted f s.block s.page }
+{}
+
+/// Whether a page counts for a key is told by its own tag: the group that the tag names is whole, and no other group
+/// has that page.
+pub fn a_page_counts_by_its_own_tag()
+    ensures { (f : Flash) (o c : ℕ) (s : Spot) → Holds f o c s ↔ CountsByTag f o c s }
+{}
+
+/// A page with a tag lies on the device.
+pub fn a_tag_lies_on_the_device()
+    ensures { (pages blocks : ℕ) (f : Flash) (b p : ℕ) (t : Tag) → IsWithin pages blocks f → HasTag f b p t → (b < blocks) × (p < pages) }
+{}
+
+/// The order of places goes on from place to place, and no place comes after itself.
+pub fn places_are_in_order()
+    ensures on { (s t u : Spot) → IsAfter s t → IsAfter t u → IsAfter s u }
+    ensures strict { (s : Spot) → IsAfter s s → ⊥ }
 {}
 
 /// There are no two greatest numbers of a flash.

@@ -4,12 +4,12 @@ use Rattle.std.proofs.Common.{sym, ◌∙◌, ap, subst, inl, inr, arith}
 use Rattle.std.proofs.lemmas.Bool.{false≢true}
 use Rattle.nand_model.specs.Flash.{Flash, IsWithin}
 use Rattle.flash_tree.specs.Newest.{Spot, Holds, IsAfter, IsNewest}
-use Rattle.plain_search.specs.declared.place.Found.{Found}
-use Rattle.plain_search.specs.Places.{spot_of}
+use Rattle.flash_tree.specs.declared.place.Found.{Found}
+use Rattle.flash_tree.specs.Places.{spot_of}
 use Rattle.plain_search.specs.Searching.{IsBefore, IsBest, IsBetter}
-use Rattle.plain_search.specs.SearchLaws.{tag_placed}
+use Rattle.flash_tree.specs.PlaceLaws.{tag_placed}
 use Rattle.flash_tree.specs.NewestExists.{after_on}
-use Rattle.plain_search.specs.OrderLaws.{not_after_itself}
+use Rattle.flash_tree.specs.OrderLaws.{not_after_itself}
 use Rattle.plain_search.proofs.Held.{held_spot}
 use Rattle.plain_search.proofs.Passing.{one_more_page, one_more_block, before_block}
 

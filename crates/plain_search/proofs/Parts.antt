@@ -5,10 +5,10 @@ use Rattle.nand_model.specs.Flash.{Flash, IsWithin}
 use Rattle.page_tags.specs.declared.tag.Tag.{Tag}
 use Rattle.flash_tree.specs.Groups.{HasTag, IsPart}
 use Rattle.flash_tree.specs.Newest.{Spot}
-use Rattle.plain_search.specs.Places.{group_of}
+use Rattle.flash_tree.specs.Places.{group_of}
 use Rattle.plain_search.specs.Searching.{IsPartTag}
 use Rattle.flash_tree.specs.NewestExists.{one_tag}
-use Rattle.plain_search.specs.SearchLaws.{no_tag}
+use Rattle.flash_tree.specs.PlaceLaws.{no_tag}
 
 -- where a page has a tag, that decides whether it is part i
 pub part_by_tag : (f : Flash) (s : Spot) (i : ℕ) (t : Tag) → HasTag f s.block (s.page - s.tag.index + i) t → IsPartTag t s.tag i ↔ IsPart f (group_of s) i

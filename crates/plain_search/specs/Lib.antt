@@ -1,5 +1,2 @@
-pub mod Places
 pub mod Searching
-pub mod SearchLaws
-pub mod OrderLaws
 pub mod SmallDevices

@@ -4,13 +4,8 @@ use Rattle.nand_model.specs.Flash.{Flash}
 use Rattle.page_tags.specs.declared.tag.Tag.{Tag}
 use Rattle.flash_tree.specs.Groups.{HasTag}
 use Rattle.flash_tree.specs.Newest.{Spot, Holds, IsAfter, Numbers}
-use Rattle.plain_search.specs.declared.place.Found.{Found}
-use Rattle.plain_search.specs.Places.{spot_of}
-
--- what a page's tag was told to be: with none the page has no valid tag
-abbrev pub TagIs : Flash → ℕ → ℕ → Option Tag → Type 0
-TagIs flash b p None = (t : Tag) → HasTag flash b p t → ⊥
-TagIs flash b p (Some t) = HasTag flash b p t
+use Rattle.flash_tree.specs.declared.place.Found.{Found}
+use Rattle.flash_tree.specs.Places.{spot_of}
 
 -- a tag is the one of page i of the group that another tag names
 pub record IsPartTag (tag member : Tag) (i : ℕ) : Type 0 where

@@ -2,11 +2,10 @@
 ghost use Rattle.std.specs.Prelude.{◌≡◌, ◌≤◌, ◌<◌, ◌↔◌, true, false, IsTrue, IfOk, IfSome, OnErr};
 ghost use Rattle.nand_model.specs.Changes.{OnlyReads};
 ghost use Rattle.flash_tree.specs.Groups.{IsPart, IsGroup};
-ghost use Rattle.plain_search.specs.Places.{spot_of, group_of};
+ghost use Rattle.flash_tree.specs.Places.{spot_of, group_of};
 ghost use Rattle.plain_search.specs.Searching.{IsPartTag, IsHeldAt};
 
-use crate::place::{Found, Key};
-use crate::tag::tag_at;
+use flash_tree::{Found, Key, tag_at};
 use nand_model::{Gone, Nand};
 use page_tags::Tag;
 

@@ -2,12 +2,11 @@
 ghost use Rattle.std.specs.Prelude.{◌≡◌, ◌+◌, ◌<◌, ◌↔◌, true, false, IsTrue, IfOk, IfSome, IfNone, OnErr};
 ghost use Rattle.nand_model.specs.Changes.{OnlyReads};
 ghost use Rattle.flash_tree.specs.Newest.{Spot, Holds, IsAfter, IsNewest, AreGreatest};
-ghost use Rattle.plain_search.specs.Places.{spot_of, numbers_of};
+ghost use Rattle.flash_tree.specs.Places.{spot_of, numbers_of};
 ghost use Rattle.plain_search.specs.Searching.{IsBest, IsBetter, IsPlaced, AreRaised, AreGreatestBefore};
 
 use crate::group::held_at;
-use crate::place::{Found, Key, TagNumbers};
-use crate::tag::tag_at;
+use flash_tree::{Found, Key, TagNumbers, tag_at};
 use nand_model::{Gone, Nand};
 use page_tags::Tag;
 

@@ -5,6 +5,7 @@ ghost use Rattle.nand_model.specs.MemoryState.{device};
 ghost use Rattle.plain_search.specs.SmallDevices.{IsSmall, IsOpen};
 
 use super::*;
+use flash_tree::{Found, Key, TagNumbers};
 use nand_model::{Geometry, Gone, MemNand, Nand};
 use page_tags::Tag;
 use std::alloc::Global;

@@ -1,5 +1,5 @@
 use Rattle.std.proofs.Common.{rules}
-use Rattle.plain_search.specs.Places.{spot_of}
+use Rattle.flash_tree.specs.Places.{spot_of}
 use Rattle.plain_search.proofs.Parts.{no_part, told_by_tag}
 use Rattle.plain_search.proofs.group.is_part.Goals as goal
 

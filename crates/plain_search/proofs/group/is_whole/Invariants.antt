@@ -1,7 +1,7 @@
 use Rattle.std.proofs.Common.{◌≡◌, ◌<◌, ℕ, true}
 use Rattle.nand_model.specs.Changes.{OnlyReads}
 use Rattle.flash_tree.specs.Groups.{IsPart}
-use Rattle.plain_search.specs.Places.{spot_of, group_of}
+use Rattle.flash_tree.specs.Places.{spot_of, group_of}
 use Rattle.plain_search.proofs.group.is_whole.Given as goal
 
 abbrev pub invariant-loop-i : goal.invariant-loop-i

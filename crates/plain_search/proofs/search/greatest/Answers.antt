@@ -1,7 +1,7 @@
 use Rattle.std.proofs.Common.{◌≡◌, ap, subst, arith}
 use Rattle.nand_model.specs.Calls.{Device}
 use Rattle.nand_model.specs.declared.geometry.Geometry.{Geometry}
-use Rattle.plain_search.specs.Places.{numbers_of}
+use Rattle.flash_tree.specs.Places.{numbers_of}
 use Rattle.plain_search.specs.Searching.{AreGreatestBefore}
 use Rattle.plain_search.proofs.Raising.{greatest_at_end}
 use Rattle.plain_search.proofs.search.greatest.Goals as goal

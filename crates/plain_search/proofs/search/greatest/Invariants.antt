@@ -1,6 +1,6 @@
 use Rattle.std.proofs.Common.{◌≡◌, true}
 use Rattle.nand_model.specs.Changes.{OnlyReads}
-use Rattle.plain_search.specs.Places.{numbers_of}
+use Rattle.flash_tree.specs.Places.{numbers_of}
 use Rattle.plain_search.specs.Searching.{AreGreatestBefore}
 use Rattle.plain_search.proofs.search.greatest.Given as goal
 

@@ -1,4 +1,4 @@
-use Rattle.plain_search.specs.Places.{numbers_of}
+use Rattle.flash_tree.specs.Places.{numbers_of}
 use Rattle.plain_search.proofs.Raising.{greatest_past_page, greatest_raised}
 use Rattle.plain_search.proofs.search.greatest_at.Goals as goal
 

@@ -1,7 +1,7 @@
 use Rattle.std.proofs.Common.{◌≡◌, sym, ap, subst, arith}
 use Rattle.nand_model.specs.Calls.{Device}
 use Rattle.nand_model.specs.declared.geometry.Geometry.{Geometry}
-use Rattle.plain_search.specs.Places.{numbers_of}
+use Rattle.flash_tree.specs.Places.{numbers_of}
 use Rattle.plain_search.specs.Searching.{AreGreatestBefore}
 use Rattle.plain_search.proofs.Raising.{greatest_past_bad, greatest_past_block}
 use Rattle.plain_search.proofs.search.greatest_in.Goals as goal

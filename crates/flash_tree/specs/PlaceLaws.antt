@@ -10,7 +10,7 @@ use Rattle.page_tags.specs.Tags.{tag_bytes}
 use Rattle.flash_tree.specs.Groups.{HasTag, IsPart, IsGroup}
 use Rattle.flash_tree.specs.Newest.{Spot, Holds}
 use Rattle.flash_tree.specs.NewestExists.{one_tag}
-use Rattle.plain_search.specs.Places.{group_of, CountsByTag}
+use Rattle.flash_tree.specs.Places.{group_of, CountsByTag}
 
 -- reads leave an honest device the flash that it has
 pub same_flash : (old new : Device) → OnlyReads old new → old.honest ≡ true → new.flash ≡ old.flash

@@ -2,13 +2,13 @@
 ghost use Rattle.std.specs.Prelude.{◌≡◌, ◌<◌, true, IfOk, IfSome, OnErr};
 ghost use Rattle.nand_model.specs.Changes.{OnlyReads};
 ghost use Rattle.page_tags.specs.Tags.{IsTag};
-ghost use Rattle.plain_search.specs.Searching.{TagIs};
+ghost use Rattle.flash_tree.specs.Places.{TagIs};
 
 use nand_model::{Gone, Nand, PageKind};
 use page_tags::Tag;
 
 /// The tag of a page, if it has a valid one.
-pub(crate) fn tag_at<N: Nand>(device: &mut N, block: u32, page: u32) -> Result<Option<Tag>, Gone>
+pub fn tag_at<N: Nand>(device: &mut N, block: u32, page: u32) -> Result<Option<Tag>, Gone>
     requires block { block < (N.state device.old).geometry.blocks }
     requires page { page < (N.state device.old).geometry.pages }
     ensures reads { OnlyReads (N.state device.old) (N.state device.new) }

@@ -1,6 +1,6 @@
 use Rattle.flash_tree.specs.NewestExists.{after_on}
-use Rattle.plain_search.specs.OrderLaws.{not_after_itself}
-use Rattle.plain_search.proofs.law.places_are_in_order.Goals as goal
+use Rattle.flash_tree.specs.OrderLaws.{not_after_itself}
+use Rattle.flash_tree.proofs.law.places_are_in_order.Goals as goal
 
 pub returns-clause-on : goal.returns-clause-on
 returns-clause-on c = after_on

@@ -1,8 +1,8 @@
-// What is searched for, and what is found.
+// Keys and places, as programs have them.
 
 use page_tags::Tag;
 
-/// Which page of the store is meant: a chunk of an object.
+/// Which page of the store is meant: a chunk of an object. Chunk 0 is its header, the chunks from 1 up its content.
 #[derive(Clone, Copy, Debug, PartialEq, Eq)]
 pub struct Key {
     pub object: u64,

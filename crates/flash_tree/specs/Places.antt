@@ -1,10 +1,11 @@
--- What is found, as the definitions of a flash see it.
-use Rattle.std.specs.Prelude.{◌≡◌, ◌≤◌, ℕ, ◌-◌}
+-- Places and tags, as programs have them and as the definitions see them.
+use Rattle.std.specs.Prelude.{◌≡◌, ◌≤◌, ℕ, ◌-◌, Option, Some, None}
 use Rattle.nand_model.specs.Flash.{Flash}
+use Rattle.page_tags.specs.declared.tag.Tag.{Tag}
 use Rattle.flash_tree.specs.Groups.{HasTag, Group, IsGroup}
 use Rattle.flash_tree.specs.Newest.{Spot, Numbers}
-use Rattle.plain_search.specs.declared.place.Found.{Found}
-use Rattle.plain_search.specs.declared.place.TagNumbers.{TagNumbers}
+use Rattle.flash_tree.specs.declared.place.Found.{Found}
+use Rattle.flash_tree.specs.declared.place.TagNumbers.{TagNumbers}
 
 -- the place and the tag
 abbrev pub spot_of : Found → Spot
@@ -13,6 +14,11 @@ spot_of f = record { block = f.block; page = f.page; tag = f.tag }
 -- the three numbers
 abbrev pub numbers_of : TagNumbers → Numbers
 numbers_of n = record { version = n.version; group = n.group; seq = n.seq }
+
+-- what a page's tag was told to be: with none the page has no valid tag
+abbrev pub TagIs : Flash → ℕ → ℕ → Option Tag → Type 0
+TagIs flash b p None = (t : Tag) → HasTag flash b p t → ⊥
+TagIs flash b p (Some t) = HasTag flash b p t
 
 -- The group that the tag of a page names: the page is the one at the tag's index.
 abbrev pub group_of : Spot → Group

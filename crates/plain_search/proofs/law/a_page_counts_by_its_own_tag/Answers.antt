@@ -1,5 +1,0 @@
-use Rattle.plain_search.specs.SearchLaws.{counts_by_tag}
-use Rattle.plain_search.proofs.law.a_page_counts_by_its_own_tag.Goals as goal
-
-pub returns : goal.returns
-returns c = counts_by_tag

@@ -1,0 +1,4 @@
+pub mod Table
+pub mod TableOf
+pub mod Counting
+pub mod TableLaws

@@ -1,0 +1,201 @@
+// The table, and what changes it.
+ghost use Rattle.std.specs.Prelude.{◌≡◌, ◌≢◌, ◌<◌, ◌≤◌, ◌+◌, ◌-◌, ◌^◌, max, ℕ, true, false, None, Some, IfOk, IfSome};
+ghost use Rattle.block_state.specs.Table.{blank, room, Sets, IsWhole};
+
+use nand_model::Geometry;
+use std::alloc::{AllocError, Global};
+
+/// What is known of one block.
+#[derive(Clone, Copy, Debug, PartialEq, Eq)]
+pub struct BlockEntry {
+    /// Whether it is marked bad.
+    pub bad: bool,
+    /// How many kept pages it has.
+    pub kept: u32,
+    /// The number that it got when it was last taken, 0 if it was not.
+    pub seq: u64,
+    /// The page that is written next, while the block is open.
+    pub next: u32,
+}
+
+/// The table of a device's blocks. All but `new` takes no memory.
+#[derive(Drop)]
+pub struct Blocks {
+    geometry: Geometry,
+    entries: Vec<BlockEntry>,
+    open_block: Option<u32>,
+    next_seq: u64,
+    next_group: u64,
+    ghost whole: { IsWhole geometry entries.items open_block next_seq },
+}
+
+impl Blocks {
+    ghost use Rattle.block_state.specs.TableOf.{table};
+
+    /// All blocks good and without kept pages, none open, and the numbers 1 next.
+    pub fn new(alloc: Global, geometry: Geometry) -> Result<Blocks, AllocError>
+        ensures { IfOk result (λ blocks. table blocks ≡ record { geometry = geometry; entry = λ b. blank; open_block = None; next_seq = 1; next_group = 1 }) }
+    {
+        let blank = BlockEntry {
+            bad: false,
+            kept: 0,
+            seq: 0,
+            next: 0,
+        };
+        let mut entries = Vec::new(alloc);
+        entries.resize(geometry.blocks() as usize, blank)?;
+        Ok(Blocks {
+            geometry,
+            entries,
+            open_block: None,
+            next_seq: 1,
+            next_group: 1,
+        })
+    }
+
+    /// The sizes of the device.
+    pub fn geometry(&self) -> Geometry
+        ensures { result ≡ (table self.now).geometry }
+    {
+        self.geometry
+    }
+
+    /// What is known of a block.
+    pub fn entry(&self, block: u32) -> BlockEntry
+        requires { block < (table self.now).geometry.blocks }
+        ensures { result ≡ (table self.now).entry block }
+    {
+        self.entries[block as usize]
+    }
+
+    /// The block that is being written.
+    pub fn open_block(&self) -> Option<u32>
+        ensures { result ≡ (table self.now).open_block }
+    {
+        self.open_block
+    }
+
+    /// How many pages can still be written in the open block.
+    pub fn open_room(&self) -> u32
+        ensures { result ≡ room (table self.now) }
+    {
+        match self.open_block {
+            None => 0,
+            Some(block) => self.geometry.pages() - self.entries[block as usize].next,
+        }
+    }
+
+    /// The number of the next block that is taken.
+    pub fn next_seq(&self) -> u64
+        ensures { result ≡ (table self.now).next_seq }
+    {
+        self.next_seq
+    }
+
+    /// The number of the next group.
+    pub fn next_group(&self) -> u64
+        ensures { result ≡ (table self.now).next_group }
+    {
+        self.next_group
+    }
+
+    /// Goes on from greater numbers, such as stand on a flash.
+    pub fn raise(&mut self, next_seq: u64, next_group: u64)
+        ensures seq { (table self.new) ≡ record (table self.old) { next_seq = max (table self.old).next_seq next_seq; next_group = max (table self.old).next_group next_group } }
+    {
+        self.next_seq = self.next_seq.max(next_seq);
+        self.next_group = self.next_group.max(next_group);
+    }
+
+    /// Hands out a group number.
+    pub fn take_group(&mut self) -> u64
+        requires { (table self.old).next_group < 2 ^ 62 }
+        ensures result { result ≡ (table self.old).next_group }
+        ensures next { table self.new ≡ record (table self.old) { next_group = (table self.old).next_group + 1 } }
+    {
+        let group = self.next_group;
+        self.next_group += 1;
+        group
+    }
+
+    /// Notes that a block is bad. The block is not the open one.
+    #[tactic(auto, using(crate::specs::TableLaws::whole_set))]
+    pub fn mark_bad(&mut self, block: u32)
+        requires block { block < (table self.old).geometry.blocks }
+        requires closed { (table self.old).open_block ≢ Some block }
+        ensures sets { Sets block (record ((table self.old).entry block) { bad = true }) (table self.old) (table self.new) }
+        ensures open { (table self.new).open_block ≡ (table self.old).open_block }
+        ensures seq { (table self.new).next_seq ≡ (table self.old).next_seq }
+    {
+        let entry = self.entry(block);
+        self.entries[block as usize] = BlockEntry { bad: true, ..entry };
+    }
+
+    /// Notes that one more page of a block is kept.
+    #[tactic(auto, using(crate::specs::TableLaws::whole_set))]
+    pub fn keep(&mut self, block: u32)
+        requires block { block < (table self.old).geometry.blocks }
+        requires room { ((table self.old).entry block).kept < 2 ^ 32 - 1 }
+        ensures sets { Sets block (record ((table self.old).entry block) { kept = ((table self.old).entry block).kept + 1 }) (table self.old) (table self.new) }
+        ensures open { (table self.new).open_block ≡ (table self.old).open_block }
+        ensures seq { (table self.new).next_seq ≡ (table self.old).next_seq }
+    {
+        let entry = self.entry(block);
+        self.entries[block as usize] = BlockEntry {
+            kept: entry.kept + 1,
+            ..entry
+        };
+    }
+
+    /// Notes that one page less of a block is kept.
+    #[tactic(auto, using(crate::specs::TableLaws::whole_set))]
+    pub fn release(&mut self, block: u32)
+        requires block { block < (table self.old).geometry.blocks }
+        requires some { 1 ≤ ((table self.old).entry block).kept }
+        ensures sets { Sets block (record ((table self.old).entry block) { kept = ((table self.old).entry block).kept - 1 }) (table self.old) (table self.new) }
+        ensures open { (table self.new).open_block ≡ (table self.old).open_block }
+        ensures seq { (table self.new).next_seq ≡ (table self.old).next_seq }
+    {
+        let entry = self.entry(block);
+        self.entries[block as usize] = BlockEntry {
+            kept: entry.kept - 1,
+            ..entry
+        };
+    }
+
+    /// Makes a good block, which was erased, the open one, and gives it the next number.
+    #[tactic(auto, using(crate::specs::TableLaws::whole_set))]
+    pub fn open(&mut self, block: u32)
+        requires block { block < (table self.old).geometry.blocks }
+        requires good { ((table self.old).entry block).bad ≡ false }
+        requires seq { (table self.old).next_seq < 2 ^ 62 }
+        ensures sets { Sets block (record ((table self.old).entry block) { seq = (table self.old).next_seq; next = 0 }) (table self.old) (table self.new) }
+        ensures open { (table self.new).open_block ≡ Some block }
+        ensures seq { (table self.new).next_seq ≡ (table self.old).next_seq + 1 }
+    {
+        let entry = &mut self.entries[block as usize];
+        entry.seq = self.next_seq;
+        entry.next = 0;
+        self.next_seq += 1;
+        self.open_block = Some(block);
+    }
+
+    /// Takes so many pages of the open block, which are written.
+    #[tactic(auto, using(crate::specs::TableLaws::whole_set))]
+    pub fn fill(&mut self, block: u32, count: u32)
+        requires open { (table self.old).open_block ≡ Some block }
+        requires room { count ≤ room (table self.old) }
+        ensures sets { Sets block (record ((table self.old).entry block) { next = ((table self.old).entry block).next + count }) (table self.old) (table self.new) }
+        ensures open { (table self.new).open_block ≡ (table self.old).open_block }
+        ensures seq { (table self.new).next_seq ≡ (table self.old).next_seq }
+    {
+        self.entries[block as usize].next += count;
+    }
+
+    /// The open block takes no more pages.
+    pub fn close(&mut self)
+        ensures { table self.new ≡ record (table self.old) { open_block = None } }
+    {
+        self.open_block = None;
+    }
+}

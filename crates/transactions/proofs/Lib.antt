@@ -1,0 +1,3 @@
+pub mod GroupLaws
+pub mod ProgressLaws
+pub mod ReadyLaws

@@ -1,0 +1,173 @@
+-- What holds after a group.
+use Rattle.std.proofs.Common.{◌≡◌, ◌≢◌, ◌⊎◌, ◌+◌, ◌-◌, ◌<◌, ◌≤◌, ℕ, Bool, true, false, List, Option, Some, None, Ok, Err, Result, refl, sym, ◌∙◌, ap, subst, arith, inl, inr}
+use Rattle.std.proofs.lemmas.Bool.{cases_eq}
+use Rattle.nand_model.specs.Flash.{Flash, Erased}
+use Rattle.nand_model.specs.Calls.{Device}
+use Rattle.nand_model.specs.Changes.{Grows}
+use Rattle.nand_model.specs.declared.geometry.Geometry.{Geometry}
+use Rattle.flash_tree.specs.Groups.{Group, SameGroups, AddsGroup, AllThere}
+use Rattle.block_state.specs.declared.blocks.BlockEntry.{BlockEntry}
+use Rattle.block_state.specs.Table.{Table, Sets, room}
+use Rattle.transactions.specs.declared.source.PageName.{PageName}
+use Rattle.transactions.specs.declared.place.Place.{Place}
+use Rattle.transactions.specs.declared.group.Placed.{Placed}
+use Rattle.transactions.specs.declared.group.GroupFault.{GroupFault}
+use Rattle.transactions.specs.declared.group.GroupFault.TheVariants as faults
+use Rattle.transactions.specs.Ready.{IsOpen, IsReady, IsPlaceIn, AreBelow}
+use Rattle.transactions.specs.Written.{WritesAll, LastNext, TableAfter, MayWrite, group_of, tag_in, stays_open}
+use Rattle.transactions.specs.Groups.{next_group, GroupsAfter, GroupEnds, TableEnds, OkTable, Fills, closed, Stays, IsPlaced}
+use Rattle.transactions.proofs.GroupLaws.{IsFresh, is_added, is_not_added, wrote_grows, below_after}
+
+-- the table with the group number handed out
+abbrev pub numbered : Table → Table
+numbered t = record t { next_group = t.next_group + 1 }
+
+module _ (old : Device) (t : Table) (count : ℕ) (place : Place) (ready : IsReady old t) (at : IsPlaceIn t count place) where
+  open_now : IsOpen old t place.block
+  open_now = ready.open_block place.block at.block
+
+  -- the device may write the first page
+  pub may_write : MayWrite old place 0
+  may_write =
+      let first : (t.entry place.block).next ≡ place.first + 0 = omega (arith, at.first) in
+      record {
+        block = open_now.within;
+        good = open_now.good;
+        pages = subst (λ (g : Geometry). place.first + place.count ≤ g.pages) ready.geometry (omega (arith, at.pages, at.count_is));
+        next = open_now.next ∙ ap Some first;
+        seq = omega (arith, at.seq, open_now.seq);
+      }
+
+  -- the place is that of the next group
+  pub group_is : (o : ℕ) → t.open_block ≡ Some o → group_of place ≡ next_group t count o
+  group_is o is =
+      let both : Some place.block ≡ Some o = sym at.block ∙ is in
+      let block : place.block ≡ o = cc in
+      let first : place.first ≡ (t.entry o).next = at.first ∙ ap (λ b. (t.entry b).next) block in
+      let seq : place.seq ≡ (t.entry o).seq = at.seq ∙ ap (λ b. (t.entry b).seq) block in
+      let size : place.count ≡ count = at.count_is in
+      let number : place.group ≡ t.next_group = at.group in
+      λ i. record { block = block i; start = first i; size = size i; number = number i; seq = seq i }
+
+  module _ (new : Device) (name : ℕ → PageName) (bytes : ℕ → List ℕ) (result : Result Bool GroupFault) (all : WritesAll old new (group_of place) name bytes result)
+      (some : 1 ≤ place.count) (erased : old.honest ≡ true → (l : ℕ) → place.first ≤ l → old.flash.page place.block l ≡ Erased) where
+    fresh : old.honest ≡ true → IsFresh old.flash place.block place.group
+    fresh h p u has is = let below = ready.below h place.block p u open_now.good has in absurd (omega (arith, below, is, at.group))
+
+    inside_erased : old.honest ≡ true → (i : ℕ) → i < place.count → old.flash.page place.block (place.first + i) ≡ Erased
+    inside_erased h i lt = erased h (place.first + i) (omega arith)
+
+    pub group_grows : old.honest ≡ true → Grows old.flash new.flash
+    group_grows h = wrote_grows (group_of place) name bytes old.flash new.flash (all.wrote h) (inside_erased h) (fresh h)
+
+    numbers_below : new.honest ≡ true → AreBelow new.flash (t.next_group + 1) t.next_seq
+    numbers_below honest =
+        let h : old.honest ≡ true = sym all.lasts.honest ∙ honest in
+        let lt : place.seq < t.next_seq = omega (arith, at.seq, open_now.seq) in
+        subst (λ n. AreBelow new.flash (n + 1) t.next_seq) at.group
+        (below_after (group_of place) name bytes old.flash new.flash (all.wrote h) (inside_erased h) (fresh h) t.next_seq lt
+        (subst (λ n. AreBelow old.flash n t.next_seq) (sym at.group) (ready.below h)))
+
+    -- the table is ready again, whichever way it ended
+    pub ready_after : (t' : Table) → TableAfter place.block place.count (stays_open result) (numbered t) t' → IsReady new t'
+    ready_after t' after = go result all.next after where
+      next_here : (next : Option ℕ) → next ≡ Some (place.first + place.count - 1 + 1) → next ≡ Some ((t.entry place.block).next + place.count)
+      next_here next is = let same : place.first + place.count - 1 + 1 ≡ (t.entry place.block).next + place.count = omega (arith, some, at.first) in is ∙ ap Some same
+
+      closed_ready : t' ≡ record (numbered t) { open_block = None } → IsReady new t'
+      closed_ready is = subst (IsReady new) (sym is) (record {
+        geometry = ready.geometry ∙ sym all.lasts.geometry;
+        marks = λ b. ready.marks b ∙ ap (λ f. f b) (sym all.bad);
+        open_block = λ o none. let two : None ≡ Some o = none in absurd cc;
+        numbers = (omega (arith, ready.numbers), ready.numbers.1);
+        below = numbers_below;
+      })
+
+      go : (result : Result Bool GroupFault) → LastNext (place.first + place.count - 1) result (new.flash.next place.block)
+          → TableAfter place.block place.count (stays_open result) (numbered t) t' → IsReady new t'
+      go (Ok true) next is = closed_ready is
+      go (Err fault) next is = closed_ready is
+      go (Ok false) next after =
+          let parts : TableAfter place.block place.count true (numbered t) t' = after in
+          let sets = parts.0 in
+          let still = parts.1 in
+          let seq = parts.2 in
+          record {
+            geometry = sets.geometry ∙ ready.geometry ∙ sym all.lasts.geometry;
+            marks = λ b. elim (cases_eq b place.block) [
+              | inl e ↦ ap (λ k. (t'.entry k).bad) e ∙ ap (λ (x : BlockEntry). x.bad) sets.here ∙ ap (λ k. (t.entry k).bad) (sym e) ∙ ready.marks b ∙ ap (λ f. f b) (sym all.bad)
+              | inr ne ↦ ap (λ (x : BlockEntry). x.bad) (sets.others b ne) ∙ ready.marks b ∙ ap (λ f. f b) (sym all.bad)
+            ];
+            open_block = λ o is.
+                let both : Some place.block ≡ Some o = sym at.block ∙ sym still ∙ is in
+                let same : place.block ≡ o = cc in
+                subst (IsOpen new t') same (record {
+                  within = subst (λ (g : Geometry). place.block < g.blocks) (sym all.lasts.geometry) open_now.within;
+                  good = ap (λ f. f place.block) all.bad ∙ open_now.good;
+                  next = next_here _ next ∙ ap (λ (x : BlockEntry). Some x.next) (sym sets.here);
+                  pages = subst (λ (x : BlockEntry). x.next ≤ new.geometry.pages) (sym sets.here)
+                      (subst (λ (g : Geometry). (t.entry place.block).next + place.count ≤ g.pages) (ready.geometry ∙ sym all.lasts.geometry) (omega (arith, at.pages, at.first, at.count_is)));
+                  seq = subst (λ n. (1 ≤ (t'.entry place.block).seq) × ((t'.entry place.block).seq < n)) (sym seq)
+                      (subst (λ (x : BlockEntry). (1 ≤ x.seq) × (x.seq < t.next_seq)) (sym sets.here) open_now.seq);
+                });
+            numbers = (subst (λ n. 1 ≤ n) (sym sets.next_group) (omega (arith, ready.numbers)), subst (λ n. 1 ≤ n) (sym seq) ready.numbers.1);
+            below = λ h. subst (λ n. AreBelow new.flash n t'.next_seq) (sym sets.next_group) (subst (λ n. AreBelow new.flash (t.next_group + 1) n) (sym seq) (numbers_below h));
+          }
+
+    -- what stays, however it ended
+    pub group_stays : Stays t old new
+    group_stays =
+        let apart : (k : ℕ) → t.open_block ≢ Some k → k ≢ place.block = λ k not is. not (at.block ∙ ap Some (sym is)) in
+        record {
+          bad = all.bad;
+          other_nexts = λ k not. all.other_nexts k (apart k not);
+          other_blocks = λ h k l not. (all.wrote h).others k l (apart k not);
+        }
+
+    good : old.flash.bad place.block ≡ false
+    good = open_now.good
+
+  -- the group counts after Ok
+  pub groups_ok : (new : Device) (name : ℕ → PageName) (bytes : ℕ → List ℕ) (suspect : Bool) → WritesAll old new (group_of place) name bytes (Ok suspect) → 1 ≤ place.count
+      → (old.honest ≡ true → (l : ℕ) → place.first ≤ l → old.flash.page place.block l ≡ Erased) → old.honest ≡ true
+      → AddsGroup (group_of place) old.flash new.flash
+  groups_ok new name bytes suspect all some erased h =
+      is_added (group_of place) name bytes old.flash new.flash (all.wrote h) (inside_erased new name bytes (Ok suspect) all some erased h) (fresh new name bytes (Ok suspect) all some erased h) open_now.good some (all.all h)
+
+  -- and not after a failure
+  pub groups_err : (new : Device) (name : ℕ → PageName) (bytes : ℕ → List ℕ) (fault : GroupFault) → WritesAll old new (group_of place) name bytes (Err fault) → 1 ≤ place.count
+      → (old.honest ≡ true → (l : ℕ) → place.first ≤ l → old.flash.page place.block l ≡ Erased) → old.honest ≡ true
+      → GroupsAfter (group_of place) old.flash new.flash (Err fault)
+  groups_err new name bytes faults.NoRoom all some erased h = absurd all.ends
+  groups_err new name bytes faults.Failed all some erased h =
+      let lacks = all.all h in
+      is_not_added (group_of place) name bytes old.flash new.flash (all.wrote h) (inside_erased new name bytes _ all some erased h) (fresh new name bytes _ all some erased h) lacks.0 lacks.1 lacks.2
+  groups_err new name bytes faults.Lost all some erased h = let lies : true ≡ false = sym h ∙ all.ends in absurd cc
+  groups_err new name bytes faults.Gone all some erased h = elim (all.all h) [
+    | inl there ↦ inr (is_added (group_of place) name bytes old.flash new.flash (all.wrote h) (inside_erased new name bytes _ all some erased h) (fresh new name bytes _ all some erased h) open_now.good some there)
+    | inr lacks ↦ inl (is_not_added (group_of place) name bytes old.flash new.flash (all.wrote h) (inside_erased new name bytes _ all some erased h) (fresh new name bytes _ all some erased h) lacks.0 lacks.1 lacks.2)
+  ]
+
+-- The open block has its pages less, and the number is used.
+pub table_filled : (t t' : Table) (count : ℕ) (place : Place) → IsPlaceIn t count place → TableAfter place.block place.count true (numbered t) t' → Fills count t t'
+table_filled t t' count place at (sets, still, seq) = record {
+  here = λ o is.
+      let both : Some place.block ≡ Some o = sym at.block ∙ is in
+      let same : place.block ≡ o = cc in
+      subst (λ b. t'.entry b ≡ record (t.entry b) { next = (t.entry b).next + count }) same
+      (sets.here ∙ ap (λ n. record (t.entry place.block) { next = (t.entry place.block).next + n }) at.count_is);
+  others = λ k not. sets.others k (λ is. not (at.block ∙ ap Some (sym is)));
+  geometry = sets.geometry;
+  open_block = still;
+  next_seq = seq;
+  next_number = sets.next_group;
+}
+
+-- what becomes of the table after Ok
+pub ok_table : (t t' : Table) (count : ℕ) (place : Place) (suspect : Bool) → IsPlaceIn t count place → TableAfter place.block place.count (stays_open (Ok suspect)) (numbered t) t' → OkTable suspect count t t'
+ok_table t t' count place true at after = after
+ok_table t t' count place false at after = table_filled t t' count place at after
+
+-- the room is that of before the number was handed out
+pub room_left : (t mid : Table) (count : ℕ) (place : Place) → IsPlaceIn t count place → mid ≡ numbered t → count ≤ room t → place.count ≤ room mid
+room_left t mid count place at is le = subst (λ (x : Table). place.count ≤ room x) (sym is) (omega (arith, at.count_is, le))

@@ -1,0 +1,99 @@
+use Rattle.std.proofs.Common.{◌≡◌, ◌∙◌, ◌≤◌, ◌+◌, ap, sym, subst, ℕ, true, Err, arith, rules}
+use Rattle.std.proofs.lemmas.Result.{err_from_is_err_and}
+use Rattle.nand_model.specs.Calls.{Device}
+use Rattle.nand_model.specs.Flash.{Erased}
+use Rattle.flash_tree.specs.Groups.{Group, AddsGroup}
+use Rattle.block_state.specs.Table.{Table, room}
+use Rattle.block_state.specs.TableOf.{table}
+use Rattle.transactions.specs.declared.place.Place.{Place}
+use Rattle.transactions.specs.Groups.{GroupsAfter, next_group}
+use Rattle.transactions.specs.Written.{TableAfter, stays_open}
+use Rattle.transactions.proofs.ReadyLaws.{numbered, room_left, may_write, ready_after, group_is, group_grows, group_stays, groups_ok, groups_err, ok_table}
+use Rattle.transactions.proofs.group.write_group.Goals as goal
+
+pub note_end-requires-clause-room : goal.note_end-requires-clause-room
+note_end-requires-clause-room g c =
+    let t : Table = table c.args.blocks.now in
+    let found = c.in-Some.ensures.found in
+    room_left t _ c.count-count.result c.in-Some.place found c.in-Some.ensures.taken (search rules)
+
+pub returns-in_err-suspect-clause-ready : goal.returns-in_err-suspect-clause-ready
+returns-in_err-suspect-clause-ready g c =
+    let old : Device = g.N.Nand.state c.args.device.now in
+    let place : Place = c.in-Some.place in
+    let found = c.in-Some.ensures.found in
+    let some : 1 ≤ place.count = omega (arith, found.count_is, c.count-count.ensures.some) in
+    let may = may_write old _ _ place c.requires.ready found in
+    let erased = λ (h : old.honest ≡ true) (l : ℕ) (le : place.first ≤ l). g.met.N.Nand.clean c.args.device.now h place.block (place.first + 0) l may.next (omega (arith, le)) in
+    let after = rw c.in-Some.ensures.taken at c.note_end.ensures in
+    ready_after old _ _ place c.requires.ready found _ _ _ _ c.write_pages-written.ensures.writes some erased _ after
+
+pub returns-in_err-suspect-clause-groups : goal.returns-in_err-suspect-clause-groups
+returns-in_err-suspect-clause-groups g c = λ h o is.
+    let old : Device = g.N.Nand.state c.args.device.now in
+    let new : Device = g.N.Nand.state c.write_pages-written.new.device in
+    let t : Table = table c.args.blocks.now in
+    let place : Place = c.in-Some.place in
+    let found = c.in-Some.ensures.found in
+    let some : 1 ≤ place.count = omega (arith, found.count_is, c.count-count.ensures.some) in
+    let may = may_write old _ _ place c.requires.ready found in
+    let erased = λ (h : old.honest ≡ true) (l : ℕ) (le : place.first ≤ l). g.met.N.Nand.clean c.args.device.now h place.block (place.first + 0) l may.next (omega (arith, le)) in
+    let all = rw c.in_err-suspect.was at c.write_pages-written.ensures.writes in
+    let p = err_from_is_err_and c.from_residual.result c.from_residual.ensures.1 in
+    let left = groups_err old t _ place c.requires.ready found new _ _ _ all some erased h in
+    let same = group_is old t _ place c.requires.ready found o is in
+    rw (← c.count-count.ensures.value, p.1, p.2) (subst (λ (x : Group). GroupsAfter x old.flash new.flash (Err c.in_err-suspect.field-0.0)) same left)
+
+pub returns-in_err-suspect-clause-grows : goal.returns-in_err-suspect-clause-grows
+returns-in_err-suspect-clause-grows g c = λ h.
+    let old : Device = g.N.Nand.state c.args.device.now in
+    let place : Place = c.in-Some.place in
+    let found = c.in-Some.ensures.found in
+    let some : 1 ≤ place.count = omega (arith, found.count_is, c.count-count.ensures.some) in
+    let may = may_write old _ _ place c.requires.ready found in
+    let erased = λ (h : old.honest ≡ true) (l : ℕ) (le : place.first ≤ l). g.met.N.Nand.clean c.args.device.now h place.block (place.first + 0) l may.next (omega (arith, le)) in
+    group_grows old _ _ place c.requires.ready found _ _ _ _ c.write_pages-written.ensures.writes some erased h
+
+pub returns-clause-ready : goal.returns-clause-ready
+returns-clause-ready g c =
+    let old : Device = g.N.Nand.state c.args.device.now in
+    let place : Place = c.in-Some.place in
+    let found = c.in-Some.ensures.found in
+    let some : 1 ≤ place.count = omega (arith, found.count_is, c.count-count.ensures.some) in
+    let may = may_write old _ _ place c.requires.ready found in
+    let erased = λ (h : old.honest ≡ true) (l : ℕ) (le : place.first ≤ l). g.met.N.Nand.clean c.args.device.now h place.block (place.first + 0) l may.next (omega (arith, le)) in
+    let after = rw c.in-Some.ensures.taken at c.note_end.ensures in
+    ready_after old _ _ place c.requires.ready found _ _ _ _ c.write_pages-written.ensures.writes some erased _ after
+
+pub returns-clause-table : goal.returns-clause-table
+returns-clause-table g c =
+    let t : Table = table c.args.blocks.now in
+    let place : Place = c.in-Some.place in
+    let found = c.in-Some.ensures.found in
+    let after = rw (c.in-Some.ensures.taken, c.in_ok-suspect.was) at c.note_end.ensures in
+    rw (← c.count-count.ensures.value) (ok_table t _ c.count-count.result place c.in_ok-suspect.suspect found after)
+
+pub returns-clause-groups : goal.returns-clause-groups
+returns-clause-groups g c = λ h o is.
+    let old : Device = g.N.Nand.state c.args.device.now in
+    let new : Device = g.N.Nand.state c.write_pages-written.new.device in
+    let t : Table = table c.args.blocks.now in
+    let place : Place = c.in-Some.place in
+    let found = c.in-Some.ensures.found in
+    let some : 1 ≤ place.count = omega (arith, found.count_is, c.count-count.ensures.some) in
+    let may = may_write old _ _ place c.requires.ready found in
+    let erased = λ (h : old.honest ≡ true) (l : ℕ) (le : place.first ≤ l). g.met.N.Nand.clean c.args.device.now h place.block (place.first + 0) l may.next (omega (arith, le)) in
+    let all = rw c.in_ok-suspect.was at c.write_pages-written.ensures.writes in
+    let adds = groups_ok old t _ place c.requires.ready found new _ _ c.in_ok-suspect.suspect all some erased h in
+    let same = group_is old t _ place c.requires.ready found o is in
+    rw (← c.count-count.ensures.value) (subst (λ (x : Group). AddsGroup x old.flash new.flash) same adds)
+
+pub returns-clause-grows : goal.returns-clause-grows
+returns-clause-grows g c = λ h.
+    let old : Device = g.N.Nand.state c.args.device.now in
+    let place : Place = c.in-Some.place in
+    let found = c.in-Some.ensures.found in
+    let some : 1 ≤ place.count = omega (arith, found.count_is, c.count-count.ensures.some) in
+    let may = may_write old _ _ place c.requires.ready found in
+    let erased = λ (h : old.honest ≡ true) (l : ℕ) (le : place.first ≤ l). g.met.N.Nand.clean c.args.device.now h place.block (place.first + 0) l may.next (omega (arith, le)) in
+    group_grows old _ _ place c.requires.ready found _ _ _ _ c.write_pages-written.ensures.writes some erased h

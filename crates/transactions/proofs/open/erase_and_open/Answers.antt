@@ -1,0 +1,17 @@
+use Rattle.std.proofs.Common.{◌∙◌, sym, rules}
+use Rattle.nand_model.specs.Calls.{Device}
+use Rattle.block_state.specs.TableOf.{table}
+use Rattle.transactions.specs.ReadyLaws.{ready_erased, ready_opened}
+use Rattle.transactions.proofs.open.erase_and_open.Goals as goal
+
+pub returns-in_err-erase-clause-ready : goal.returns-in_err-erase-clause-ready
+returns-in_err-erase-clause-ready g c = ready_erased c.args.block _ _ _ _ c.requires.ready c.requires.closed c.erase.ensures.erases
+
+pub returns-clause-ready : goal.returns-clause-ready
+returns-clause-ready g c =
+    let old : Device = g.N.Nand.state c.args.device.now in
+    let new : Device = g.N.Nand.state c.erase.new.self in
+    let does = c.in_ok-erase.ensures.erases in
+    let ready = ready_erased c.args.block old new (table c.args.blocks.now) _ c.requires.ready c.requires.closed c.erase.ensures.erases in
+    ready_opened c.args.block new _ _ ready (search rules) (search rules) does.next
+    (record { sets = c.open.ensures.sets; open_block = c.open.ensures.open; next_seq = c.open.ensures.seq })

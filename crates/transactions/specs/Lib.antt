@@ -1,0 +1,12 @@
+pub mod Sources
+pub mod SourceEnds
+pub mod Copying
+pub mod Committing
+pub mod Ready
+pub mod Written
+pub mod Groups
+pub mod Naming
+pub mod NewestLaws
+pub mod Opening
+pub mod Marking
+pub mod ReadyLaws

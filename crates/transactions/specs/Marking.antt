@@ -1,0 +1,14 @@
+-- The marks of a device in a table.
+use Rattle.std.specs.Prelude.{◌≡◌, ◌<◌, ◌≤◌, ℕ, false, None}
+use Rattle.nand_model.specs.Calls.{Device}
+use Rattle.block_state.specs.Table.{Table}
+
+-- The marks of the first n blocks are noted in a table that had none. The rest of it stays, and no block is open.
+pub record MarksNoted (device : Device) (n : ℕ) (old new : Table) : Type 0 where
+  pub marked : (b : ℕ) → b < n → (new.entry b).bad ≡ device.flash.bad b
+  pub others : (b : ℕ) → n ≤ b → (new.entry b).bad ≡ false
+  pub kept : (b : ℕ) → (new.entry b).kept ≡ (old.entry b).kept
+  pub geometry : new.geometry ≡ old.geometry
+  pub open_block : new.open_block ≡ None
+  pub next_seq : new.next_seq ≡ old.next_seq
+  pub next_group : new.next_group ≡ old.next_group

@@ -1,0 +1,9 @@
+-- The taking of a block.
+use Rattle.std.specs.Prelude.{◌≡◌, ℕ, ◌+◌, Some}
+use Rattle.block_state.specs.Table.{Table, Sets}
+
+-- the block is the open one, with the next number and all its pages
+pub record Opens (block : ℕ) (old new : Table) : Type 0 where
+  pub sets : Sets block (record (old.entry block) { seq = old.next_seq; next = 0 }) old new
+  pub open_block : new.open_block ≡ Some block
+  pub next_seq : new.next_seq ≡ old.next_seq + 1

@@ -1,0 +1,39 @@
+-- What holds of a device and its table while groups are written.
+use Rattle.std.specs.Prelude.{◌≡◌, ◌<◌, ◌≤◌, ℕ, ◌+◌, ◌^◌, true, false, Some}
+use Rattle.nand_model.specs.Flash.{Flash}
+use Rattle.nand_model.specs.Calls.{Device}
+use Rattle.page_tags.specs.declared.tag.Tag.{Tag}
+use Rattle.flash_tree.specs.Groups.{HasTag}
+use Rattle.block_state.specs.Table.{Table}
+use Rattle.transactions.specs.declared.place.Place.{Place}
+
+-- The open block can be written: it is good, its next page is the device's, so that all pages from there on are erased,
+-- and its number was handed out.
+pub record IsOpen (device : Device) (t : Table) (o : ℕ) : Type 0 where
+  pub within : o < device.geometry.blocks
+  pub good : device.flash.bad o ≡ false
+  pub next : device.flash.next o ≡ Some (t.entry o).next
+  pub pages : (t.entry o).next ≤ device.geometry.pages
+  pub seq : (1 ≤ (t.entry o).seq) × ((t.entry o).seq < t.next_seq)
+
+-- the versions, groups and seqs of all valid tags of good blocks, counted or not, are below the next numbers
+abbrev pub AreBelow : Flash → (group seq : ℕ) → Type 0
+AreBelow flash group seq = (b p : ℕ) (t : Tag) → flash.bad b ≡ false → HasTag flash b p t → (t.version < group) × (t.group < group) × (t.seq < seq)
+
+-- What every group needs, and keeps: the table is of the device, its marks are the device's, the open block can be
+-- written, and the next numbers are above all that stand on an honest device.
+pub record IsReady (device : Device) (t : Table) : Type 0 where
+  pub geometry : t.geometry ≡ device.geometry
+  pub marks : (b : ℕ) → (t.entry b).bad ≡ device.flash.bad b
+  pub open_block : (o : ℕ) → t.open_block ≡ Some o → IsOpen device t o
+  pub numbers : (1 ≤ t.next_group) × (1 ≤ t.next_seq)
+  pub below : device.honest ≡ true → AreBelow device.flash t.next_group t.next_seq
+
+-- The place of the next group of so many pages: the next pages of the open block, with the next number.
+pub record IsPlaceIn (t : Table) (count : ℕ) (place : Place) : Type 0 where
+  pub block : t.open_block ≡ Some place.block
+  pub first : place.first ≡ (t.entry place.block).next
+  pub count_is : place.count ≡ count
+  pub pages : place.first + count ≤ t.geometry.pages
+  pub group : place.group ≡ t.next_group
+  pub seq : place.seq ≡ (t.entry place.block).seq

@@ -1,0 +1,112 @@
+-- What keeps a device and its table ready.
+use Rattle.std.specs.Prelude.{◌≡◌, ◌≢◌, ◌⊎◌, ◌<◌, ◌≤◌, ℕ, ◌+◌, max, Bool, true, false, None, Some, Result, Ok, Err}
+use Rattle.std.proofs.Common.{refl, sym, ◌∙◌, ap, subst, inl, inr, arith}
+use Rattle.std.proofs.lemmas.Bool.{cases_eq, cases_lt}
+use Rattle.nand_model.specs.Flash.{Flash, IsWithin}
+use Rattle.nand_model.specs.Calls.{Device, Erases}
+use Rattle.nand_model.specs.Changes.{Shrinks, OnlyReads}
+use Rattle.nand_model.specs.ChangeLaws.{shrinks-erase}
+use Rattle.nand_model.specs.declared.geometry.Geometry.{Geometry}
+use Rattle.nand_model.specs.declared.nand.EraseFault.{EraseFault}
+use Rattle.flash_tree.specs.NewestLaws.{tag_was}
+use Rattle.block_state.specs.declared.blocks.BlockEntry.{BlockEntry}
+use Rattle.block_state.specs.Table.{Table, Sets, blank}
+use Rattle.transactions.specs.Ready.{AreBelow, IsOpen, IsReady}
+use Rattle.transactions.specs.Opening.{Opens}
+use Rattle.transactions.specs.Marking.{MarksNoted}
+
+-- an erase of a block that is not open, however it ends
+pub ready_erased : (b : ℕ) (old new : Device) (t : Table) (result : Result (Unit {0}) EraseFault) → IsReady old t → t.open_block ≢ Some b → Erases b old new result → IsReady new t
+ready_erased b old new t result ready closed does = record {
+  geometry = ready.geometry ∙ sym does.lasts.geometry;
+  marks = λ k. ready.marks k ∙ ap (λ f. f k) (sym does.bad);
+  open_block = λ o is.
+      let was : IsOpen old t o = ready.open_block o is in
+      record {
+        within = subst (λ (g : Geometry). o < g.blocks) (sym does.lasts.geometry) was.within;
+        good = ap (λ f. f o) does.bad ∙ was.good;
+        next = does.other_nexts o (λ same. closed (is ∙ ap Some same)) ∙ was.next;
+        pages = subst (λ (g : Geometry). (t.entry o).next ≤ g.pages) (sym does.lasts.geometry) was.pages;
+        seq = was.seq;
+      };
+  numbers = ready.numbers;
+  below = λ honest k l u good has.
+      let h : old.honest ≡ true = sym does.lasts.honest ∙ honest in
+      ready.below h k l u (ap (λ f. f k) (sym does.bad) ∙ good) (tag_was b old.flash new.flash (shrinks-erase b old new result h does) k l u has);
+}
+
+-- the block that was erased is opened
+pub ready_opened : (b : ℕ) (d : Device) (t t' : Table) → IsReady d t → b < d.geometry.blocks → d.flash.bad b ≡ false → d.flash.next b ≡ Some 0 → Opens b t t' → IsReady d t'
+ready_opened b d t t' ready lt good next opens = record {
+  geometry = opens.sets.geometry ∙ ready.geometry;
+  marks = λ k. elim (cases_eq k b) [
+    | inl e ↦ ap (λ n. (t'.entry n).bad) e ∙ ap (λ (x : BlockEntry). x.bad) opens.sets.here ∙ ap (λ n. (t.entry n).bad) (sym e) ∙ ready.marks k
+    | inr ne ↦ ap (λ (x : BlockEntry). x.bad) (opens.sets.others k ne) ∙ ready.marks k
+  ];
+  open_block = λ o is.
+      let both : Some b ≡ Some o = sym opens.open_block ∙ is in
+      let same : b ≡ o = cc in
+      subst (IsOpen d t') same (record {
+        within = lt;
+        good = good;
+        next = next ∙ ap (λ (x : BlockEntry). Some x.next) (sym opens.sets.here);
+        pages = subst (λ (x : BlockEntry). x.next ≤ d.geometry.pages) (sym opens.sets.here) (omega arith);
+        seq = subst (λ (x : BlockEntry). (1 ≤ x.seq) × (x.seq < t'.next_seq)) (sym opens.sets.here) (ready.numbers.1, omega (arith, opens.next_seq));
+      });
+  numbers = (subst (λ n. 1 ≤ n) (sym opens.sets.next_group) ready.numbers.0, omega (arith, opens.next_seq));
+  below = λ honest k l u good has.
+      let was = ready.below honest k l u good has in
+      (omega (arith, was, opens.sets.next_group), omega (arith, was, opens.sets.next_group), omega (arith, was, opens.next_seq));
+}
+
+-- any number of reads
+pub ready_read : (old new : Device) (t : Table) → IsReady old t → OnlyReads old new → IsReady new t
+ready_read old new t ready reads = record {
+  geometry = ready.geometry ∙ sym reads.lasts.geometry;
+  marks = λ k. ready.marks k ∙ ap (λ f. f k) (sym reads.bad);
+  open_block = λ o is.
+      let was : IsOpen old t o = ready.open_block o is in
+      record {
+        within = subst (λ (g : Geometry). o < g.blocks) (sym reads.lasts.geometry) was.within;
+        good = ap (λ f. f o) reads.bad ∙ was.good;
+        next = ap (λ f. f o) reads.next ∙ was.next;
+        pages = subst (λ (g : Geometry). (t.entry o).next ≤ g.pages) (sym reads.lasts.geometry) was.pages;
+        seq = was.seq;
+      };
+  numbers = ready.numbers;
+  below = λ honest.
+      let h : old.honest ≡ true = sym reads.lasts.honest ∙ honest in
+      let page = reads.page h in
+      let same : new.flash ≡ old.flash = λ i. record { bad = reads.bad i; next = reads.next i; page = page i } in
+      subst (λ (f : Flash). AreBelow f t.next_group t.next_seq) (sym same) (ready.below h);
+}
+
+-- A table that was made anew, with a device's marks and numbers above its tags.
+pub record IsMade (d : Device) (group seq : ℕ) (t : Table) : Type 0 where
+  pub ready : IsReady d t
+  pub open_block : t.open_block ≡ None
+  pub kept : (b : ℕ) → (t.entry b).kept ≡ 0
+
+pub made_ready : (d : Device) (group seq : ℕ) (t0 t1 t2 : Table) → IsWithin d.geometry.pages d.geometry.blocks d.flash → 1 ≤ group → 1 ≤ seq → (d.honest ≡ true → AreBelow d.flash group seq)
+    → t0 ≡ record { geometry = d.geometry; entry = λ b. blank; open_block = None; next_seq = 1; next_group = 1 }
+    → MarksNoted d d.geometry.blocks t0 t1 → t2 ≡ record t1 { next_seq = max t1.next_seq seq; next_group = max t1.next_group group } → IsMade d group seq t2
+made_ready d group seq t0 t1 t2 within some_group some_seq below fresh noted raised =
+    let seq_one : t1.next_seq ≡ 1 = noted.next_seq ∙ ap (λ (t : Table). t.next_seq) fresh in
+    let group_one : t1.next_group ≡ 1 = noted.next_group ∙ ap (λ (t : Table). t.next_group) fresh in
+    let seq_is : max t1.next_seq seq ≡ seq = omega (arith, seq_one, some_seq) in
+    let group_is : max t1.next_group group ≡ group = omega (arith, group_one, some_group) in
+    let made : IsMade d group seq (record t1 { next_seq = max t1.next_seq seq; next_group = max t1.next_group group }) = record {
+      ready = record {
+        geometry = noted.geometry ∙ ap (λ (t : Table). t.geometry) fresh;
+        marks = λ b. elim (cases_lt b d.geometry.blocks) [
+          | inl lt ↦ noted.marked b lt
+          | inr ge ↦ noted.others b ge ∙ sym (within.bad b ge)
+        ];
+        open_block = λ o is. let two : None ≡ Some o = sym noted.open_block ∙ is in absurd cc;
+        numbers = (omega (arith, group_is, some_group), omega (arith, seq_is, some_seq));
+        below = λ honest. subst (λ n. AreBelow d.flash n (max t1.next_seq seq)) (sym group_is) (subst (λ n. AreBelow d.flash group n) (sym seq_is) (below honest));
+      };
+      open_block = noted.open_block;
+      kept = λ b. noted.kept b ∙ ap (λ (t : Table). (t.entry b).kept) fresh;
+    } in
+    subst (IsMade d group seq) (sym raised) made

@@ -1,0 +1,9 @@
+-- What pages may be called.
+use Rattle.std.specs.Prelude.{◌<◌, ◌≤◌, ℕ, ◌^◌}
+use Rattle.transactions.specs.declared.source.PageName.{PageName}
+
+-- the name may stand in a tag of the group of this number
+pub record IsName (number : ℕ) (name : PageName) : Type 0 where
+  pub object : (1 ≤ name.key.object) × (name.key.object < 2 ^ 64)
+  pub chunk : name.key.chunk < 2 ^ 64
+  pub version : (1 ≤ name.version) × (name.version ≤ number)

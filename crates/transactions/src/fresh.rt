@@ -1,0 +1,69 @@
+// Pages in memory, to be committed.
+ghost use Rattle.std.specs.Prelude.{◌≡◌, ◌<◌, ◌≤◌, ℕ, List, length, true, IfOk};
+ghost use Rattle.nand_model.specs.Changes.{OnlyReads};
+ghost use Rattle.transactions.specs.Sources.{IsName};
+
+use crate::source::{PageName, PageSource, SourceFault};
+use flash_tree::Key;
+use nand_model::Nand;
+
+/// A page as it is to be on the flash.
+#[derive(Drop)]
+pub struct FreshPage {
+    pub key: Key,
+    pub bytes: Vec<u8>,
+}
+
+/// Pages that are committed together. The number of their group is their version.
+pub struct Fresh<'a> {
+    pub pages: &'a [FreshPage],
+}
+
+/// The name of a page of this key in the group of this number.
+fn name_in(key: Key, group: u64) -> PageName
+    requires object { 1 ≤ key.object }
+    requires group { 1 ≤ group }
+    ensures is { result ≡ record { key = key; version = group } }
+    ensures name { IsName group result }
+{
+    PageName {
+        key,
+        version: group,
+    }
+}
+
+impl PageSource for Fresh<'_> {
+    ghost use Rattle.std.specs.Prelude.{length, refl};
+    ghost use Rattle.transactions.specs.Committing.{name_at, bytes_at, CanCommit};
+
+    ghost count = { λ s. length s.pages.now };
+
+    ghost name = { λ s number i. name_at s.pages.now number i };
+
+    ghost bytes = { λ s flash i. bytes_at s.pages.now i };
+
+    ghost ready = { λ s geometry number. CanCommit s.pages.now geometry number };
+
+    ghost fits = { λ s flash. Unit {0} };
+
+    ghost stays = { λ s old new has grows. tt };
+
+    ghost same = { λ s old new i has grows lt. refl };
+
+    fn count(&self) -> u32 {
+        self.pages.len() as u32
+    }
+
+    fn page<N: Nand>(
+        &self,
+        device: &mut N,
+        i: u32,
+        group: u64,
+        page: &mut [u8],
+    ) -> Result<PageName, SourceFault> {
+        let _ = device;
+        let fresh = &self.pages[i as usize];
+        page.copy_from_slice(&fresh.bytes);
+        Ok(name_in(fresh.key, group))
+    }
+}

@@ -1,0 +1,86 @@
+// The writing of a group: whole, or not at all.
+ghost use Rattle.std.specs.Prelude.{◌≡◌, ◌↔◌, ◌<◌, ◌≤◌, ◌^◌, ℕ, length, true, IfOk, OnOk, Some, IsErrOf};
+ghost use Rattle.nand_model.specs.Calls.{Lasts};
+ghost use Rattle.nand_model.specs.Changes.{Grows};
+ghost use Rattle.flash_tree.specs.Groups.{AllThere};
+ghost use Rattle.block_state.specs.Table.{room};
+ghost use Rattle.block_state.specs.TableOf.{table};
+ghost use Rattle.transactions.specs.Ready.{IsReady};
+ghost use Rattle.transactions.specs.Written.{tag_in};
+ghost use Rattle.transactions.specs.Groups.{next_group, IsPlaced, GroupsAfter, GroupEnds, TableEnds, Stays};
+
+use crate::page::write_pages;
+use crate::place::{note_end, take_place};
+use crate::source::PageSource;
+use block_state::Blocks;
+use nand_model::Nand;
+
+/// Why a group was not written.
+#[derive(Clone, Copy, Debug, PartialEq, Eq)]
+pub enum GroupFault {
+    /// The open block lacks the pages.
+    NoRoom,
+    /// The device reported a failure.
+    Failed,
+    /// A page that was to be copied did not read back.
+    Lost,
+    Gone,
+}
+
+/// Where a group was written.
+#[derive(Clone, Copy, Debug, PartialEq, Eq)]
+pub struct Placed {
+    pub block: u32,
+    pub first: u32,
+    pub count: u32,
+    pub group: u64,
+    /// The device said that the last page failed, and it reads whole.
+    pub suspect: bool,
+}
+
+/// Writes the pages of the source as one group into the open block, by way of a scratch page.
+///
+/// After a fault other than `NoRoom`, and after a suspect group, the block is open no longer.
+pub fn write_group<N: Nand, S: PageSource>(
+    device: &mut N,
+    blocks: &mut Blocks,
+    source: &S,
+    scratch: &mut [u8],
+) -> Result<Placed, GroupFault>
+    requires ready { IsReady (N.state device.old) (table blocks.old) }
+    requires number { (table blocks.old).next_group < 2 ^ 62 }
+    requires size { length scratch.old ≡ (N.state device.old).geometry.bytes }
+    requires source { S.ready source.now (N.state device.old).geometry (table blocks.old).next_group }
+    requires fits { (N.state device.old).honest ≡ true → S.fits source.now (N.state device.old).flash }
+    ensures lasts { Lasts (N.state device.old) (N.state device.new) }
+    ensures ready { IsReady (N.state device.new) (table blocks.new) }
+    ensures no_room { IsErrOf result GroupFault.NoRoom ↔ (room (table blocks.old) < S.count source.now) }
+    ensures ends { GroupEnds (N.state device.old) (N.state device.new) (S.count source.now) result }
+    ensures table { TableEnds (S.count source.now) (table blocks.old) (table blocks.new) result }
+    ensures placed { (o : ℕ) → (table blocks.old).open_block ≡ Some o
+        → IfOk result (λ placed. IsPlaced (next_group (table blocks.old) (S.count source.now) o) placed) }
+    // Wherever it ends, the group counts whole or not at all, and no other group changes.
+    ensures groups { (N.state device.old).honest ≡ true → (o : ℕ) → (table blocks.old).open_block ≡ Some o
+        → GroupsAfter (next_group (table blocks.old) (S.count source.now) o) (N.state device.old).flash (N.state device.new).flash result }
+    ensures pages { (N.state device.old).honest ≡ true → (o : ℕ) → (table blocks.old).open_block ≡ Some o
+        → OnOk result (AllThere (next_group (table blocks.old) (S.count source.now) o)
+        (tag_in (next_group (table blocks.old) (S.count source.now) o) (S.name source.now (table blocks.old).next_group))
+        (S.bytes source.now (N.state device.old).flash) (N.state device.new).flash) }
+    ensures grows { (N.state device.old).honest ≡ true → Grows (N.state device.old).flash (N.state device.new).flash }
+    ensures stays { Stays (table blocks.old) (N.state device.old) (N.state device.new) }
+{
+    let count = source.count();
+    let Some(place) = take_place(blocks, count) else {
+        return Err(GroupFault::NoRoom);
+    };
+    let written = write_pages(device, source, scratch, &place);
+    note_end(blocks, &place, &written);
+    let suspect = written?;
+    Ok(Placed {
+        block: place.block,
+        first: place.first,
+        count: place.count,
+        group: place.group,
+        suspect,
+    })
+}

@@ -1,0 +1,20 @@
+//! Writes pages in groups that count whole or not at all, wherever the power is cut.
+#![tactic(auto)]
+
+mod copies;
+mod fresh;
+mod group;
+mod law;
+mod open;
+mod page;
+mod place;
+mod source;
+mod table;
+
+pub use copies::{Copies, CopyOf};
+pub use fresh::{Fresh, FreshPage};
+pub use group::{GroupFault, Placed, write_group};
+pub use law::a_group_is_newest_of_its_keys;
+pub use open::erase_and_open;
+pub use source::{PageName, PageSource, SourceFault};
+pub use table::table_of;

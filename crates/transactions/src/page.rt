@@ -1,0 +1,157 @@
+// The writing of one page of a group.
+ghost use Rattle.std.specs.Prelude.{◌≡◌, ◌<◌, ◌≤◌, ◌+◌, ◌-◌, length, true, false, Some, IfOk, OnErr, IsTrue, ◌↔◌, ℕ};
+ghost use Rattle.nand_model.specs.Flash.{Written};
+ghost use Rattle.nand_model.specs.Changes.{OnlyReads};
+ghost use Rattle.page_tags.specs.Tags.{IsTag};
+ghost use Rattle.transactions.specs.Sources.{IsName};
+ghost use Rattle.transactions.specs.Written.{group_of, tag_in, WritesOne, WritesLast, FirstEnds, WritesAll, MayWrite, IsWrittenPage};
+
+use crate::group::GroupFault;
+use crate::place::Place;
+use crate::source::{PageName, PageSource, SourceFault};
+use nand_model::{Gone, Nand, PageKind, ProgramFault};
+use page_tags::Tag;
+
+/// The tag of page `i` of the group.
+fn tag_of(place: &Place, name: PageName, i: u32) -> Tag
+    ensures { result ≡ tag_in (group_of place.now) (λ k. name) i }
+{
+    Tag {
+        index: i,
+        count: place.count,
+        object: name.key.object,
+        chunk: name.key.chunk,
+        version: name.version,
+        group: place.group,
+        seq: place.seq,
+    }
+}
+
+/// Writes page `i` of the group.
+#[tactic(auto, using(nand_model::specs::CallLaws::lasts_on))]
+fn write_page<N: Nand, S: PageSource>(
+    device: &mut N,
+    source: &S,
+    scratch: &mut [u8],
+    place: &Place,
+    i: u32,
+) -> Result<(), GroupFault>
+    requires at { i < place.now.count }
+    requires may { MayWrite (N.state device.old) place.now i }
+    requires count { place.now.count ≡ S.count source.now }
+    requires source { S.ready source.now (N.state device.old).geometry place.now.group }
+    requires fits { (N.state device.old).honest ≡ true → S.fits source.now (N.state device.old).flash }
+    requires size { length scratch.old ≡ (N.state device.old).geometry.bytes }
+    ensures size { length scratch.new ≡ length scratch.old }
+    ensures writes { WritesOne (N.state device.old) (N.state device.new) (group_of place.now)
+        (S.name source.now place.now.group) (S.bytes source.now (N.state device.old).flash) i result }
+{
+    let name = match source.page(device, i, place.group, scratch) {
+        Ok(name) => name,
+        Err(SourceFault::Lost) => return Err(GroupFault::Lost),
+        Err(SourceFault::Gone) => return Err(GroupFault::Gone),
+    };
+    let tag = tag_of(place, name, i);
+    match device.program(place.block, place.first + i, scratch, &tag.encode()) {
+        Ok(()) => Ok(()),
+        Err(ProgramFault::Failed) => Err(GroupFault::Failed),
+        Err(ProgramFault::Gone) => Err(GroupFault::Gone),
+    }
+}
+
+/// Writes all pages of the group but the last.
+fn write_first<N: Nand, S: PageSource>(
+    device: &mut N,
+    source: &S,
+    scratch: &mut [u8],
+    place: &Place,
+) -> Result<(), GroupFault>
+    requires some { 1 ≤ place.now.count }
+    requires may { MayWrite (N.state device.old) place.now 0 }
+    requires count { place.now.count ≡ S.count source.now }
+    requires source { S.ready source.now (N.state device.old).geometry place.now.group }
+    requires fits { (N.state device.old).honest ≡ true → S.fits source.now (N.state device.old).flash }
+    requires size { length scratch.old ≡ (N.state device.old).geometry.bytes }
+    ensures size { length scratch.new ≡ length scratch.old }
+    ensures writes { FirstEnds (N.state device.old) (N.state device.new) (group_of place.now)
+        (S.name source.now place.now.group) (S.bytes source.now (N.state device.old).flash) result }
+{
+    for i in 0..place.count - 1 {
+        write_page(device, source, scratch, place, i)?;
+    }
+    Ok(())
+}
+
+/// Whether a page reads as written.
+fn reads_whole<N: Nand>(
+    device: &mut N,
+    block: u32,
+    page: u32,
+    scratch: &mut [u8],
+) -> Result<bool, Gone>
+    requires block { block < (N.state device.old).geometry.blocks }
+    requires page { page < (N.state device.old).geometry.pages }
+    requires size { length scratch.old ≡ (N.state device.old).geometry.bytes }
+    ensures reads { OnlyReads (N.state device.old) (N.state device.new) }
+    ensures gone { OnErr result ((N.state device.new).gone ≡ true) }
+    ensures there { (N.state device.old).gone ≡ false → IfOk result (λ _. (N.state device.new).gone ≡ false) }
+    ensures whole { (N.state device.old).honest ≡ true → IfOk result (λ whole. IsTrue whole ↔ IsWrittenPage ((N.state device.old).flash.page block page)) }
+{
+    let mut tag = [0; 48];
+    let kind = device.read_page(block, page, scratch, &mut tag)?;
+    Ok(kind == PageKind::Written)
+}
+
+/// Writes the last page of the group. Where the device says that this failed, the page is read back; the answer is
+/// whether it stands all the same.
+fn write_last<N: Nand, S: PageSource>(
+    device: &mut N,
+    source: &S,
+    scratch: &mut [u8],
+    place: &Place,
+) -> Result<bool, GroupFault>
+    requires some { 1 ≤ place.now.count }
+    requires may { MayWrite (N.state device.old) place.now (place.now.count - 1) }
+    requires count { place.now.count ≡ S.count source.now }
+    requires source { S.ready source.now (N.state device.old).geometry place.now.group }
+    requires fits { (N.state device.old).honest ≡ true → S.fits source.now (N.state device.old).flash }
+    requires size { length scratch.old ≡ (N.state device.old).geometry.bytes }
+    ensures writes { WritesLast (N.state device.old) (N.state device.new) (group_of place.now)
+        (S.name source.now place.now.group) (S.bytes source.now (N.state device.old).flash) (place.now.count - 1) result }
+{
+    let last = place.count - 1;
+    match write_page(device, source, scratch, place, last) {
+        Ok(()) => Ok(false),
+        Err(GroupFault::Failed) => match reads_whole(
+            device,
+            place.block,
+            place.first + last,
+            scratch,
+        ) {
+            Ok(true) => Ok(true),
+            Ok(false) => Err(GroupFault::Failed),
+            Err(_) => Err(GroupFault::Gone),
+        },
+        Err(fault) => Err(fault),
+    }
+}
+
+/// Writes the pages of the group. The answer is whether the last one was said to fail and stands all the same.
+pub(crate) fn write_pages<N: Nand, S: PageSource>(
+    device: &mut N,
+    source: &S,
+    scratch: &mut [u8],
+    place: &Place,
+) -> Result<bool, GroupFault>
+    requires some { 1 ≤ place.now.count }
+    requires may { MayWrite (N.state device.old) place.now 0 }
+    requires count { place.now.count ≡ S.count source.now }
+    requires source { S.ready source.now (N.state device.old).geometry place.now.group }
+    requires fits { (N.state device.old).honest ≡ true → S.fits source.now (N.state device.old).flash }
+    requires size { length scratch.old ≡ (N.state device.old).geometry.bytes }
+    ensures writes { WritesAll (N.state device.old) (N.state device.new) (group_of place.now)
+        (S.name source.now place.now.group) (S.bytes source.now (N.state device.old).flash) result }
+{
+    write_first(device, source, scratch, place)?;
+    write_last(device, source, scratch, place)
+}

@@ -1,0 +1,74 @@
+// What is written in a group.
+ghost use Rattle.std.specs.Prelude.{◌≡◌, ◌<◌, ◌≤◌, ℕ, List, length, true, IfOk};
+ghost use Rattle.nand_model.specs.Flash.{Flash};
+ghost use Rattle.nand_model.specs.Changes.{Grows, OnlyReads};
+ghost use Rattle.nand_model.specs.declared.geometry.Geometry.{Geometry};
+
+use flash_tree::Key;
+use nand_model::Nand;
+
+/// Which page of the store it is, and in which version.
+#[derive(Clone, Copy, Debug, PartialEq, Eq)]
+pub struct PageName {
+    pub key: Key,
+    pub version: u64,
+}
+
+#[derive(Clone, Copy, Debug, PartialEq, Eq)]
+pub enum SourceFault {
+    /// A page that is to be copied did not read back.
+    Lost,
+    Gone,
+}
+
+/// The pages of a group that is to be written.
+pub trait PageSource {
+    ghost use Rattle.transactions.specs.declared.source.PageName.{PageName};
+    ghost use Rattle.transactions.specs.Sources.{IsName};
+    ghost use Rattle.transactions.specs.SourceEnds.{SourceEnds};
+
+    /// How many pages there are.
+    ghost count: { Self → ℕ };
+
+    /// What each page is called in the group of this number.
+    ghost name: { Self → ℕ → ℕ → PageName };
+
+    /// The data of each page, over a flash that has what is copied.
+    ghost bytes: { Self → Flash → ℕ → List ℕ };
+
+    /// Whether it can be written in a group of this number, on a device of these sizes.
+    ghost ready: { Self → Geometry → ℕ → Type 0 };
+
+    /// Whether the flash has what is copied.
+    ghost fits: { Self → Flash → Type 0 };
+
+    /// How many pages there are, at least one.
+    fn count(&self) -> u32
+        requires { (g : Geometry) × (n : ℕ) × ready self.now g n }
+        ensures value { result ≡ count self.now }
+        ensures some { 1 ≤ result };
+
+    /// Fills a buffer with page `i`, and names it. Only what stands on the device is read from it.
+    fn page<N: Nand>(
+        &self,
+        device: &mut N,
+        i: u32,
+        group: u64,
+        page: &mut [u8],
+    ) -> Result<PageName, SourceFault>
+        requires place { i < count self.now }
+        requires ready { ready self.now (N.state device.old).geometry group }
+        requires size { length page.old ≡ (N.state device.old).geometry.bytes }
+        requires fits { (N.state device.old).honest ≡ true → fits self.now (N.state device.old).flash }
+        ensures reads { OnlyReads (N.state device.old) (N.state device.new) }
+        ensures ends { SourceEnds (N.state device.old) (N.state device.new) result }
+        ensures name { IfOk result (λ n. (n ≡ name self.now group i) × IsName group n) }
+        ensures size { length page.new ≡ length page.old }
+        ensures bytes { (N.state device.old).honest ≡ true → IfOk result (λ _. page.new ≡ bytes self.now (N.state device.old).flash i) };
+
+    /// What is copied stays while only erased pages are written.
+    ghost stays: { (source : Self) (old new : Flash) → fits source old → Grows old new → fits source new };
+
+    /// And so does the data of each page.
+    ghost same: { (source : Self) (old new : Flash) (i : ℕ) → fits source old → Grows old new → i < count source → bytes source new i ≡ bytes source old i };
+}

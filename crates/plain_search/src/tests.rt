@@ -1,18 +1,12 @@
 // Searches of a device in memory.
 
-ghost use Rattle.std.specs.Prelude.{◌≡◌, ◌<◌, ◌≤◌, ◌+◌, length, IfOk, OnOk};
-ghost use Rattle.nand_model.specs.MemoryState.{device};
-ghost use Rattle.plain_search.specs.SmallDevices.{IsSmall, IsOpen};
-
 use super::*;
 use flash_tree::{Found, Key, TagNumbers};
-use nand_model::{Geometry, Gone, MemNand, Nand};
+use nand_model::{Geometry, Gone, MemNand};
 use page_tags::Tag;
 use std::alloc::Global;
-use std::process::Abort;
 use std::test::Fail;
-
-const DATA: [u8; 512] = [7; 512];
+use test_flash::TestFlash;
 
 /// The key that is searched for.
 const KEY: Key = Key {
@@ -21,47 +15,15 @@ const KEY: Key = Key {
 };
 
 /// Five blocks of 32 pages of 512 bytes.
-fn small(alloc: Global) -> Result<MemNand, Fail>
-    ensures { IfOk result (λ d. IsSmall (device d)) }
-{
-    let geometry = Geometry::new(512, 32, 5)?;
-    Ok(MemNand::new(alloc, geometry)?)
+fn small(alloc: Global) -> Result<TestFlash, Fail> {
+    Ok(TestFlash::new(alloc, Geometry::new(512, 32, 5)?)?)
 }
 
-/// Erases a block.
-fn open(nand: &mut MemNand, rt: &impl Abort, block: u32) -> Result<(), Fail>
-    requires small { IsSmall (device nand.old) }
-    requires block { block < 5 }
-    ensures { OnOk result (IsOpen block 0 (device nand.new)) }
-{
-    assert!(rt; !nand.is_bad(block));
-    nand.erase(block)?;
-    Ok(())
-}
-
-/// Writes the next page of a block.
-fn write(nand: &mut MemNand, block: u32, page: u32, tag: &Tag) -> Result<(), Fail>
-    requires block { block < 5 }
-    requires page { page < 32 }
-    requires open { IsOpen block page (device nand.old) }
-    ensures { OnOk result (IsOpen block (page + 1) (device nand.new)) }
-{
-    nand.program(block, page, &DATA, &tag.encode())?;
-    Ok(())
-}
-
-/// Writes the first pages of a block.
-fn fill(nand: &mut MemNand, rt: &impl Abort, block: u32, tags: &[Tag]) -> Result<(), Fail>
-    requires { IsSmall (device nand.old) }
-    ensures { OnOk result (IsSmall (device nand.new)) }
-{
-    assert!(rt; block < 5);
-    assert!(rt; tags.len() <= 32);
-    open(nand, rt, block)?;
-    for page in 0..tags.len() {
-        write(nand, block, page as u32, &tags[page])?;
-    }
-    Ok(())
+/// The device, after a power-up.
+fn powered_up(flash: TestFlash) -> MemNand {
+    let mut nand = flash.into_nand();
+    nand.power_up();
+    nand
 }
 
 /// Pages that are written, a block that is then marked bad, and what is to be found.
@@ -229,19 +191,17 @@ fn cases(alloc: Global) -> Result<Vec<Case>, Fail> {
 }
 
 /// A device with the pages of a case, after a power-up.
-fn written(alloc: Global, rt: &impl Abort, case: &Case) -> Result<MemNand, Fail>
-    ensures { IfOk result (λ d. IsSmall (device d)) }
-{
-    let mut nand = small(alloc)?;
+fn written(alloc: Global, case: &Case) -> Result<MemNand, Fail> {
+    let mut flash = small(alloc)?;
     for (block, tags) in &case.blocks {
-        fill(&mut nand, rt, *block, tags)?;
+        for tag in tags {
+            flash.write(*block, tag, 7)?;
+        }
     }
     if let Some(block) = case.bad {
-        assert!(rt; block < 5);
-        nand.mark_bad(block)?;
+        flash.mark_bad(block)?;
     }
-    nand.power_up();
-    Ok(nand)
+    Ok(powered_up(flash))
 }
 
 /// The place of what was found.
@@ -252,7 +212,7 @@ fn place_of(found: Option<Found>) -> Option<(u32, u32)> {
 #[test]
 fn finds_the_newest_page_that_counts(rt: HostRuntime) -> Result<(), Fail> {
     for case in cases(rt.alloc())? {
-        let mut nand = written(rt.alloc(), &rt, &case)?;
+        let mut nand = written(rt.alloc(), &case)?;
         assert_eq!(rt;
             place_of(newest(&mut nand, KEY)?),
             case.newest,
@@ -286,7 +246,7 @@ fn cut_at(nand: &MemNand, call: u64, alloc: Global) -> Result<MemNand, Fail> {
 #[test]
 fn a_cut_search_says_gone_and_changes_nothing(rt: HostRuntime) -> Result<(), Fail> {
     let case = three_of_three(rt.alloc())?;
-    let nand = written(rt.alloc(), &rt, &case)?;
+    let nand = written(rt.alloc(), &case)?;
     let calls = calls_of_newest(&nand)?;
     assert!(rt; calls >= 160);
     for call in 0..calls {
@@ -304,7 +264,7 @@ fn a_cut_search_says_gone_and_changes_nothing(rt: HostRuntime) -> Result<(), Fai
 #[test]
 fn cut_numbers_say_gone_and_change_nothing(rt: HostRuntime) -> Result<(), Fail> {
     let case = three_of_three(rt.alloc())?;
-    let nand = written(rt.alloc(), &rt, &case)?;
+    let nand = written(rt.alloc(), &case)?;
     let calls = calls_of_greatest(&nand)?;
     assert_eq!(rt; calls, 160);
     for call in 0..calls {
@@ -320,9 +280,9 @@ fn cut_numbers_say_gone_and_change_nothing(rt: HostRuntime) -> Result<(), Fail> 
 
 #[test]
 fn a_bad_block_is_not_looked_at(rt: HostRuntime) -> Result<(), Fail> {
-    let mut nand = small(rt.alloc())?;
-    nand.mark_bad(3)?;
-    nand.power_up();
+    let mut flash = small(rt.alloc())?;
+    flash.mark_bad(3)?;
+    let nand = powered_up(flash);
     assert_eq!(rt; calls_of_newest(&nand)?, 128);
     assert_eq!(rt; calls_of_greatest(&nand)?, 128);
     Ok(())

@@ -1,0 +1,9 @@
+//! A flash in memory, put together page by page, for tests.
+#![tactic(auto)]
+
+mod flash;
+
+pub use flash::{TestFault, TestFlash};
+
+#[cfg(test)]
+mod tests;

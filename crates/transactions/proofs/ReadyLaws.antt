@@ -15,7 +15,7 @@ use Rattle.transactions.specs.declared.group.GroupFault.{GroupFault}
 use Rattle.transactions.specs.declared.group.GroupFault.TheVariants as faults
 use Rattle.transactions.specs.Ready.{IsOpen, IsReady, IsPlaceIn, AreBelow}
 use Rattle.transactions.specs.Written.{WritesAll, LastNext, TableAfter, MayWrite, group_of, tag_in, stays_open}
-use Rattle.transactions.specs.Groups.{next_group, GroupsAfter, GroupEnds, TableEnds, OkTable, Fills, closed, Stays, IsPlaced}
+use Rattle.transactions.specs.Groups.{next_group, AddsPages, GroupsAfter, GroupEnds, TableEnds, OkTable, Fills, closed, Stays, IsPlaced}
 use Rattle.transactions.proofs.GroupLaws.{IsFresh, is_added, is_not_added, wrote_grows, below_after}
 
 -- the table with the group number handed out
@@ -130,21 +130,23 @@ module _ (old : Device) (t : Table) (count : ℕ) (place : Place) (ready : IsRea
   -- the group counts after Ok
   pub groups_ok : (new : Device) (name : ℕ → PageName) (bytes : ℕ → List ℕ) (suspect : Bool) → WritesAll old new (group_of place) name bytes (Ok suspect) → 1 ≤ place.count
       → (old.honest ≡ true → (l : ℕ) → place.first ≤ l → old.flash.page place.block l ≡ Erased) → old.honest ≡ true
-      → AddsGroup (group_of place) old.flash new.flash
-  groups_ok new name bytes suspect all some erased h =
-      is_added (group_of place) name bytes old.flash new.flash (all.wrote h) (inside_erased new name bytes (Ok suspect) all some erased h) (fresh new name bytes (Ok suspect) all some erased h) open_now.good some (all.all h)
+      → AddsPages (group_of place) name bytes old.flash new.flash
+  groups_ok new name bytes suspect all some erased h = record {
+    group = is_added (group_of place) name bytes old.flash new.flash (all.wrote h) (inside_erased new name bytes (Ok suspect) all some erased h) (fresh new name bytes (Ok suspect) all some erased h) open_now.good some (all.all h);
+    pages = all.all h;
+  }
 
   -- and not after a failure
   pub groups_err : (new : Device) (name : ℕ → PageName) (bytes : ℕ → List ℕ) (fault : GroupFault) → WritesAll old new (group_of place) name bytes (Err fault) → 1 ≤ place.count
       → (old.honest ≡ true → (l : ℕ) → place.first ≤ l → old.flash.page place.block l ≡ Erased) → old.honest ≡ true
-      → GroupsAfter (group_of place) old.flash new.flash (Err fault)
+      → GroupsAfter (group_of place) name bytes old.flash new.flash (Err fault)
   groups_err new name bytes faults.NoRoom all some erased h = absurd all.ends
   groups_err new name bytes faults.Failed all some erased h =
       let lacks = all.all h in
       is_not_added (group_of place) name bytes old.flash new.flash (all.wrote h) (inside_erased new name bytes _ all some erased h) (fresh new name bytes _ all some erased h) lacks.0 lacks.1 lacks.2
   groups_err new name bytes faults.Lost all some erased h = let lies : true ≡ false = sym h ∙ all.ends in absurd cc
   groups_err new name bytes faults.Gone all some erased h = elim (all.all h) [
-    | inl there ↦ inr (is_added (group_of place) name bytes old.flash new.flash (all.wrote h) (inside_erased new name bytes _ all some erased h) (fresh new name bytes _ all some erased h) open_now.good some there)
+    | inl there ↦ inr (record { group = is_added (group_of place) name bytes old.flash new.flash (all.wrote h) (inside_erased new name bytes _ all some erased h) (fresh new name bytes _ all some erased h) open_now.good some there; pages = there })
     | inr lacks ↦ inl (is_not_added (group_of place) name bytes old.flash new.flash (all.wrote h) (inside_erased new name bytes _ all some erased h) (fresh new name bytes _ all some erased h) lacks.0 lacks.1 lacks.2)
   ]
 

@@ -1,12 +1,14 @@
 -- What the writing of a group promises.
-use Rattle.std.specs.Prelude.{◌≡◌, ◌≢◌, ◌⊎◌, ◌<◌, ◌≤◌, ℕ, ◌+◌, Bool, true, false, Option, Some, None, Result, Ok, Err, if◌then◌else◌}
+use Rattle.std.specs.Prelude.{◌≡◌, ◌≢◌, ◌⊎◌, ◌<◌, ◌≤◌, ℕ, ◌+◌, Bool, true, false, List, Option, Some, None, Result, Ok, Err, if◌then◌else◌}
 use Rattle.nand_model.specs.Flash.{Flash}
 use Rattle.nand_model.specs.Calls.{Device}
-use Rattle.flash_tree.specs.Groups.{Group, SameGroups, AddsGroup}
+use Rattle.flash_tree.specs.Groups.{Group, SameGroups, AddsGroup, AllThere}
 use Rattle.block_state.specs.Table.{Table}
+use Rattle.transactions.specs.declared.source.PageName.{PageName}
 use Rattle.transactions.specs.declared.group.Placed.{Placed}
 use Rattle.transactions.specs.declared.group.GroupFault.{GroupFault}
 use Rattle.transactions.specs.declared.group.GroupFault.TheVariants as faults
+use Rattle.transactions.specs.Written.{tag_in}
 
 -- the group that is written next into block o: so many pages from its next page on, with the next number
 abbrev pub next_group : Table → ℕ → ℕ → Group
@@ -19,14 +21,19 @@ pub record IsPlaced (g : Group) (placed : Placed) : Type 0 where
   pub count : placed.count ≡ g.size
   pub group : placed.group ≡ g.number
 
--- Which groups count afterwards: after Ok one more, after NoRoom, a failure or a loss the same, and after a cut one more
--- or the same.
-abbrev pub GroupsAfter : Group → Flash → Flash → Result Placed GroupFault → Type 0
-GroupsAfter g old new (Ok placed) = AddsGroup g old new
-GroupsAfter g old new (Err faults.NoRoom) = SameGroups old new
-GroupsAfter g old new (Err faults.Failed) = SameGroups old new
-GroupsAfter g old new (Err faults.Lost) = SameGroups old new
-GroupsAfter g old new (Err faults.Gone) = SameGroups old new ⊎ AddsGroup g old new
+-- one more group counts, and its pages are there with these names and data
+pub record AddsPages (g : Group) (name : ℕ → PageName) (bytes : ℕ → List ℕ) (old new : Flash) : Type 0 where
+  pub group : AddsGroup g old new
+  pub pages : AllThere g (tag_in g name) bytes new
+
+-- Which groups count afterwards: after Ok one more, with all its pages; after NoRoom, a failure or a loss the same; and
+-- after a cut one more or the same.
+abbrev pub GroupsAfter : Group → (ℕ → PageName) → (ℕ → List ℕ) → Flash → Flash → Result Placed GroupFault → Type 0
+GroupsAfter g name bytes old new (Ok placed) = AddsPages g name bytes old new
+GroupsAfter g name bytes old new (Err faults.NoRoom) = SameGroups old new
+GroupsAfter g name bytes old new (Err faults.Failed) = SameGroups old new
+GroupsAfter g name bytes old new (Err faults.Lost) = SameGroups old new
+GroupsAfter g name bytes old new (Err faults.Gone) = SameGroups old new ⊎ AddsPages g name bytes old new
 
 -- Why it ended so: each page was programmed once, and where the last one was said to fail the group is suspect; a failure
 -- was counted; the device is not honest; it is gone.

@@ -10,3 +10,4 @@ pub mod NewestLaws
 pub mod Opening
 pub mod Marking
 pub mod ReadyLaws
+pub mod CopyingOne

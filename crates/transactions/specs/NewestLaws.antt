@@ -3,13 +3,14 @@ use Rattle.std.specs.Prelude.{◌≡◌, ◌<◌, ℕ, List}
 use Rattle.std.proofs.Common.{sym, ◌∙◌, ap, subst, inl, inr, arith}
 use Rattle.nand_model.specs.Flash.{Flash}
 use Rattle.nand_model.specs.Changes.{Grows}
-use Rattle.flash_tree.specs.Groups.{HasTag, Group, IsGroup, AddsGroup, AllThere}
+use Rattle.flash_tree.specs.Groups.{Group}
 use Rattle.flash_tree.specs.Newest.{Spot, Holds, IsAfter, HasNewest}
 use Rattle.flash_tree.specs.AddedLaws.{added_this, added_other}
 use Rattle.transactions.specs.declared.source.PageName.{PageName}
 use Rattle.transactions.specs.Naming.{IsNamed, NamesOnce}
 use Rattle.transactions.specs.Ready.{AreBelow}
 use Rattle.transactions.specs.Written.{tag_in}
+use Rattle.transactions.specs.Groups.{AddsPages}
 
 -- a page that counts is below the next numbers
 held_below : (f : Flash) (number seq o c : ℕ) (t : Spot) → AreBelow f number seq → Holds f o c t → (t.tag.version < number) × (t.tag.group < number) × (t.tag.seq < seq)
@@ -17,10 +18,10 @@ held_below f number seq o c t below held =
     below t.block t.page t.tag (ap (λ b. f.bad b) held.block ∙ held.whole.good) held.has
 
 pub committed_newest : (g : Group) (name : ℕ → PageName) (bytes : ℕ → List ℕ) (old new : Flash) (seq : ℕ)
-    → AddsGroup g old new → Grows old new → AllThere g (tag_in g name) bytes new → AreBelow old g.number seq
+    → AddsPages g name bytes old new → Grows old new → AreBelow old g.number seq
     → (o c i : ℕ) → NamesOnce g name o c i → (name i).version ≡ g.number → HasNewest new o c (bytes i)
-committed_newest g name bytes old new seq adds grows all below o c i names version =
-    added_this g (tag_in g name) bytes old new adds grows all o c i names.within names.named.object names.named.chunk
+committed_newest g name bytes old new seq adds grows below o c i names version =
+    added_this g (tag_in g name) bytes old new adds.group grows adds.pages o c i names.within names.named.object names.named.chunk
     (λ k lt object chunk. names.once k lt (record { object = object; chunk = chunk }))
     (λ t held after.
     let lower = held_below old g.number seq o c t below held in
@@ -30,10 +31,10 @@ committed_newest g name bytes old new seq adds grows all below o c i names versi
     ])
 
 pub copied_newest : (g : Group) (name : ℕ → PageName) (bytes : ℕ → List ℕ) (old new : Flash) (number : ℕ)
-    → AddsGroup g old new → Grows old new → AllThere g (tag_in g name) bytes new → AreBelow old number g.seq
+    → AddsPages g name bytes old new → Grows old new → AreBelow old number g.seq
     → (o c i : ℕ) → NamesOnce g name o c i → (h : HasNewest old o c (bytes i)) → (name i).version ≡ h.spot.tag.version → HasNewest new o c (bytes i)
-copied_newest g name bytes old new number adds grows all below o c i names h version =
-    added_this g (tag_in g name) bytes old new adds grows all o c i names.within names.named.object names.named.chunk
+copied_newest g name bytes old new number adds grows below o c i names h version =
+    added_this g (tag_in g name) bytes old new adds.group grows adds.pages o c i names.within names.named.object names.named.chunk
     (λ k lt object chunk. names.once k lt (record { object = object; chunk = chunk }))
     (λ t held after.
     let lower = held_below old number g.seq o c t below held in
@@ -46,7 +47,7 @@ copied_newest g name bytes old new number adds grows all below o c i names h ver
     ])
 
 pub others_newest : (g : Group) (name : ℕ → PageName) (bytes : ℕ → List ℕ) (old new : Flash)
-    → AddsGroup g old new → Grows old new → AllThere g (tag_in g name) bytes new
+    → AddsPages g name bytes old new → Grows old new
     → (o c : ℕ) (xs : List ℕ) → ((i : ℕ) → i < g.size → IsNamed name o c i → ⊥) → HasNewest old o c xs → HasNewest new o c xs
-others_newest g name bytes old new adds grows all o c xs apart h =
-    added_other g (tag_in g name) bytes old new adds grows all o c xs (λ i lt object chunk. apart i lt (record { object = object; chunk = chunk })) h
+others_newest g name bytes old new adds grows o c xs apart h =
+    added_other g (tag_in g name) bytes old new adds.group grows adds.pages o c xs (λ i lt object chunk. apart i lt (record { object = object; chunk = chunk })) h

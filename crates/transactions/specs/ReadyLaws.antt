@@ -4,10 +4,11 @@ use Rattle.std.proofs.Common.{refl, sym, ◌∙◌, ap, subst, inl, inr, arith}
 use Rattle.std.proofs.lemmas.Bool.{cases_eq, cases_lt}
 use Rattle.nand_model.specs.Flash.{Flash, IsWithin}
 use Rattle.nand_model.specs.Calls.{Device, Erases}
-use Rattle.nand_model.specs.Changes.{Shrinks, OnlyReads}
+use Rattle.nand_model.specs.Changes.{Shrinks, OnlyReads, PowersUp}
 use Rattle.nand_model.specs.ChangeLaws.{shrinks-erase}
 use Rattle.nand_model.specs.declared.geometry.Geometry.{Geometry}
 use Rattle.nand_model.specs.declared.nand.EraseFault.{EraseFault}
+use Rattle.flash_tree.specs.Groups.{HasTag}
 use Rattle.flash_tree.specs.NewestLaws.{tag_was}
 use Rattle.block_state.specs.declared.blocks.BlockEntry.{BlockEntry}
 use Rattle.block_state.specs.Table.{Table, Sets, blank}
@@ -110,3 +111,25 @@ made_ready d group seq t0 t1 t2 within some_group some_seq below fresh noted rai
       kept = λ b. noted.kept b ∙ ap (λ (t : Table). (t.entry b).kept) fresh;
     } in
     subst (IsMade d group seq) (sym raised) made
+
+-- power comes back while no block is open
+pub ready_powered : (old new : Device) (t : Table) → IsReady old t → t.open_block ≡ None → PowersUp old new → IsReady new t
+ready_powered old new t ready closed up = record {
+  geometry = ready.geometry ∙ sym up.geometry;
+  marks = λ b. ready.marks b ∙ ap (λ f. f b) (sym up.bad);
+  open_block = λ o is. let two : None ≡ Some o = sym closed ∙ is in absurd cc;
+  numbers = ready.numbers;
+  below = λ honest b p u good has.
+      let page : new.flash.page b p ≡ old.flash.page b p = ap (λ f. f b p) up.page in
+      ready.below (sym up.honest ∙ honest) b p u (ap (λ f. f b) (sym up.bad) ∙ good) (record { bytes = has.bytes; page = sym page ∙ has.page; valid = has.valid });
+}
+
+-- no more pages are written to the open block
+pub ready_closed : (d : Device) (t : Table) → IsReady d t → IsReady d (record t { open_block = None })
+ready_closed d t ready = record {
+  geometry = ready.geometry;
+  marks = ready.marks;
+  open_block = λ o is. let two : None ≡ Some o = is in absurd cc;
+  numbers = ready.numbers;
+  below = ready.below;
+}

@@ -14,6 +14,7 @@ pub struct CopyOf {
 }
 
 /// Pages that stand on the device, to be written again in their versions.
+#[derive(Clone, Copy)]
 pub struct Copies<'a> {
     pub places: &'a [CopyOf],
 }

@@ -15,6 +15,7 @@ pub struct FreshPage {
 }
 
 /// Pages that are committed together. The number of their group is their version.
+#[derive(Clone, Copy)]
 pub struct Fresh<'a> {
     pub pages: &'a [FreshPage],
 }

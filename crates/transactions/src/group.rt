@@ -1,12 +1,10 @@
 // The writing of a group: whole, or not at all.
-ghost use Rattle.std.specs.Prelude.{◌≡◌, ◌↔◌, ◌<◌, ◌≤◌, ◌^◌, ℕ, length, true, IfOk, OnOk, Some, IsErrOf};
+ghost use Rattle.std.specs.Prelude.{◌≡◌, ◌↔◌, ◌<◌, ◌≤◌, ◌^◌, ℕ, length, true, IfOk, Some, IsErrOf};
 ghost use Rattle.nand_model.specs.Calls.{Lasts};
 ghost use Rattle.nand_model.specs.Changes.{Grows};
-ghost use Rattle.flash_tree.specs.Groups.{AllThere};
 ghost use Rattle.block_state.specs.Table.{room};
 ghost use Rattle.block_state.specs.TableOf.{table};
 ghost use Rattle.transactions.specs.Ready.{IsReady};
-ghost use Rattle.transactions.specs.Written.{tag_in};
 ghost use Rattle.transactions.specs.Groups.{next_group, IsPlaced, GroupsAfter, GroupEnds, TableEnds, Stays};
 
 use crate::page::write_pages;
@@ -61,11 +59,8 @@ pub fn write_group<N: Nand, S: PageSource>(
         → IfOk result (λ placed. IsPlaced (next_group (table blocks.old) (S.count source.now) o) placed) }
     // Wherever it ends, the group counts whole or not at all, and no other group changes.
     ensures groups { (N.state device.old).honest ≡ true → (o : ℕ) → (table blocks.old).open_block ≡ Some o
-        → GroupsAfter (next_group (table blocks.old) (S.count source.now) o) (N.state device.old).flash (N.state device.new).flash result }
-    ensures pages { (N.state device.old).honest ≡ true → (o : ℕ) → (table blocks.old).open_block ≡ Some o
-        → OnOk result (AllThere (next_group (table blocks.old) (S.count source.now) o)
-        (tag_in (next_group (table blocks.old) (S.count source.now) o) (S.name source.now (table blocks.old).next_group))
-        (S.bytes source.now (N.state device.old).flash) (N.state device.new).flash) }
+        → GroupsAfter (next_group (table blocks.old) (S.count source.now) o) (S.name source.now (table blocks.old).next_group)
+        (S.bytes source.now (N.state device.old).flash) (N.state device.old).flash (N.state device.new).flash result }
     ensures grows { (N.state device.old).honest ≡ true → Grows (N.state device.old).flash (N.state device.new).flash }
     ensures stays { Stays (table blocks.old) (N.state device.old) (N.state device.new) }
 {

@@ -18,3 +18,6 @@ pub use law::a_group_is_newest_of_its_keys;
 pub use open::erase_and_open;
 pub use source::{PageName, PageSource, SourceFault};
 pub use table::table_of;
+
+#[cfg(test)]
+mod tests;

@@ -2,11 +2,11 @@ use Rattle.std.proofs.Common.{◌≡◌, ◌∙◌, ◌≤◌, ◌+◌, ap, sym,
 use Rattle.std.proofs.lemmas.Result.{err_from_is_err_and}
 use Rattle.nand_model.specs.Calls.{Device}
 use Rattle.nand_model.specs.Flash.{Erased}
-use Rattle.flash_tree.specs.Groups.{Group, AddsGroup}
+use Rattle.flash_tree.specs.Groups.{Group}
 use Rattle.block_state.specs.Table.{Table, room}
 use Rattle.block_state.specs.TableOf.{table}
 use Rattle.transactions.specs.declared.place.Place.{Place}
-use Rattle.transactions.specs.Groups.{GroupsAfter, next_group}
+use Rattle.transactions.specs.Groups.{AddsPages, GroupsAfter, next_group}
 use Rattle.transactions.specs.Written.{TableAfter, stays_open}
 use Rattle.transactions.proofs.ReadyLaws.{numbered, room_left, may_write, ready_after, group_is, group_grows, group_stays, groups_ok, groups_err, ok_table}
 use Rattle.transactions.proofs.group.write_group.Goals as goal
@@ -42,7 +42,7 @@ returns-in_err-suspect-clause-groups g c = λ h o is.
     let p = err_from_is_err_and c.from_residual.result c.from_residual.ensures.1 in
     let left = groups_err old t _ place c.requires.ready found new _ _ _ all some erased h in
     let same = group_is old t _ place c.requires.ready found o is in
-    rw (← c.count-count.ensures.value, p.1, p.2) (subst (λ (x : Group). GroupsAfter x old.flash new.flash (Err c.in_err-suspect.field-0.0)) same left)
+    rw (← c.count-count.ensures.value, p.1, p.2) (subst (λ (x : Group). GroupsAfter x (g.S.PageSource.name c.args.source.now x.number) (g.S.PageSource.bytes c.args.source.now old.flash) old.flash new.flash (Err c.in_err-suspect.field-0.0)) same left)
 
 pub returns-in_err-suspect-clause-grows : goal.returns-in_err-suspect-clause-grows
 returns-in_err-suspect-clause-grows g c = λ h.
@@ -86,7 +86,7 @@ returns-clause-groups g c = λ h o is.
     let all = rw c.in_ok-suspect.was at c.write_pages-written.ensures.writes in
     let adds = groups_ok old t _ place c.requires.ready found new _ _ c.in_ok-suspect.suspect all some erased h in
     let same = group_is old t _ place c.requires.ready found o is in
-    rw (← c.count-count.ensures.value) (subst (λ (x : Group). AddsGroup x old.flash new.flash) same adds)
+    rw (← c.count-count.ensures.value) (subst (λ (x : Group). AddsPages x (g.S.PageSource.name c.args.source.now x.number) (g.S.PageSource.bytes c.args.source.now old.flash) old.flash new.flash) same adds)
 
 pub returns-clause-grows : goal.returns-clause-grows
 returns-clause-grows g c = λ h.

@@ -1,0 +1,5 @@
+pub mod Changes
+pub mod Lending
+pub mod Rooms
+pub mod RoomLaws
+pub mod ChangeLaws

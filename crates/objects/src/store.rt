@@ -1,0 +1,91 @@
+// The store of pages.
+ghost use Rattle.std.specs.Prelude.{◌≡◌, ◌⊎◌, ◌<◌, ◌≤◌, ℕ, List, length, true, false, IfOk, IfErr, OnOk, OnErr, IsErrOf};
+ghost use Rattle.nand_model.specs.Calls.{Lasts};
+ghost use Rattle.nand_model.specs.Changes.{OnlyReads};
+ghost use Rattle.flash_tree.specs.Newest.{HasNewest};
+ghost use Rattle.block_state.specs.TableOf.{table};
+ghost use Rattle.transactions.specs.Ready.{IsReady};
+ghost use Rattle.objects.specs.Changes.{CanApply, KeepsNewest, HasChange};
+ghost use Rattle.objects.specs.Lending.{IsDeviceFault};
+ghost use Rattle.objects.specs.Rooms.{WhyNot};
+
+use crate::change::Change;
+use crate::read::read_newest;
+use crate::write::write_change;
+use block_state::Blocks;
+use flash_tree::Key;
+use nand_model::Nand;
+
+/// No group and no block gets a number from here on.
+const LIMIT: u64 = 1 << 62;
+
+/// Why a page was not lent, or a change not made.
+#[derive(Clone, Copy, Debug, PartialEq, Eq)]
+pub enum StoreFault {
+    NoMemory,
+    /// No block can take the pages.
+    NoRoom,
+    /// The device failed or is gone, or a page does not read back.
+    Device,
+    /// A number that is needed is above what tags may have.
+    Worn,
+}
+
+/// The pages of a volume, on its device.
+#[derive(Drop)]
+pub struct Store<N: Nand> {
+    pub(crate) device: N,
+    pub(crate) blocks: Blocks,
+    pub(crate) scratch: Vec<u8>,
+    ghost ready: { IsReady (N.state device) (table blocks) },
+    ghost size: { length scratch.items ≡ (N.state device).geometry.bytes },
+}
+
+impl<N: Nand> Store<N> {
+    /// Reads the newest page of a key that has one into the scratch page.
+    pub fn load(&mut self, key: Key) -> Result<(), StoreFault>
+        requires there { (N.state self.old.device).honest ≡ true → (bytes : List ℕ) × HasNewest (N.state self.old.device).flash key.object key.chunk bytes }
+        ensures reads { OnlyReads (N.state self.old.device) (N.state self.new.device) }
+        ensures table { table self.new.blocks ≡ table self.old.blocks }
+        ensures page { (N.state self.old.device).honest ≡ true → OnOk result (HasNewest (N.state self.old.device).flash key.object key.chunk self.new.scratch.items) }
+        ensures fault { IfErr result (IsDeviceFault (N.state self.old.device) (N.state self.new.device)) }
+    {
+        match read_newest(&mut self.device, key, &mut self.scratch) {
+            Ok(true) => Ok(()),
+            Ok(false) => Err(StoreFault::Device),
+            Err(_) => Err(StoreFault::Device),
+        }
+    }
+
+    /// The page that was read last.
+    pub fn page(&self) -> &[u8]
+        ensures { result.now ≡ self.now.scratch.items }
+    {
+        &self.scratch
+    }
+
+    /// Writes the pages of a change as one group: all of them are there afterwards, or none.
+    ///
+    /// `NoRoom` changes nothing. After another fault the pages are those before or those with the change.
+    pub fn apply(&mut self, change: &Change) -> Result<(), StoreFault>
+        requires pages { CanApply change.now.pages.items (N.state self.old.device).geometry }
+        ensures lasts { Lasts (N.state self.old.device) (N.state self.new.device) }
+        ensures done { (N.state self.old.device).honest ≡ true
+            → OnOk result (HasChange change.now.pages.items (N.state self.old.device).flash (N.state self.new.device).flash) }
+        ensures fault { (N.state self.old.device).honest ≡ true
+            → OnErr result (KeepsNewest (N.state self.old.device).flash (N.state self.new.device).flash
+            ⊎ HasChange change.now.pages.items (N.state self.old.device).flash (N.state self.new.device).flash) }
+        ensures why { IfErr result (WhyNot (N.state self.old.device) (N.state self.new.device) (table self.old.blocks) (length change.now.pages.items)) }
+        ensures marks { (N.state self.new.device).flash.bad ≡ (N.state self.old.device).flash.bad }
+    {
+        if self.blocks.next_group() >= LIMIT || self.blocks.next_seq() >= LIMIT {
+            return Err(StoreFault::Worn);
+        }
+        write_change(
+            &mut self.device,
+            &mut self.blocks,
+            &mut self.scratch,
+            &change.pages,
+        )
+    }
+}

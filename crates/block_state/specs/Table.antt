@@ -1,5 +1,5 @@
 -- What is known of the blocks of a device.
-use Rattle.std.specs.Prelude.{◌≡◌, ◌≢◌, ◌<◌, ◌≤◌, ℕ, ◌-◌, Bool, true, false, not, ◌&&◌, nat_eq, Option, Some, None, IfSome, List, length, get_or, is_some}
+use Rattle.std.specs.Prelude.{◌≡◌, ◌≢◌, ◌<◌, ◌≤◌, ℕ, ◌-◌, Bool, false, not, ◌&&◌, nat_eq, Option, Some, None, List, length, get_or}
 use Rattle.std.specs.Option.{option_map_or}
 use Rattle.nand_model.specs.declared.geometry.Geometry.{Geometry}
 use Rattle.block_state.specs.declared.blocks.BlockEntry.{BlockEntry}

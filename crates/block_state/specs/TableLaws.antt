@@ -1,11 +1,11 @@
 -- What keeps a table whole.
-use Rattle.std.specs.Prelude.{◌≡◌, ◌≢◌, ◌<◌, ◌≤◌, ℕ, Bool, false, Option, Some, List, length, get_or, set}
-use Rattle.std.proofs.Common.{refl, sym, ap, subst, ◌∙◌, arith, inl, inr}
+use Rattle.std.specs.Prelude.{◌≡◌, ◌<◌, ◌≤◌, ℕ, false, Option, Some, List, length, set}
+use Rattle.std.proofs.Common.{sym, ap, subst, ◌∙◌, arith, inl, inr}
 use Rattle.std.proofs.lemmas.Bool.{cases_eq}
 use Rattle.std.proofs.lemmas.List.{get_or-set_same, get_or-set_other, length-set}
 use Rattle.nand_model.specs.declared.geometry.Geometry.{Geometry}
 use Rattle.block_state.specs.declared.blocks.BlockEntry.{BlockEntry}
-use Rattle.block_state.specs.Table.{blank, entry_at, MayOpen, IsWhole}
+use Rattle.block_state.specs.Table.{blank, entry_at, IsWhole}
 
 -- Another entry for a block keeps it whole, if its seq was handed out and it may be open where its block is.
 pub whole_set : (g : Geometry) (xs : List BlockEntry) (opened : Option ℕ) (n b : ℕ) (e : BlockEntry) → IsWhole g xs opened n → b < g.blocks

@@ -1,5 +1,5 @@
 -- Room for pages, as long as nothing is collected: a block is taken only where all its pages read erased.
-use Rattle.std.specs.Prelude.{◌≡◌, ◌≢◌, ◌⊎◌, ◌<◌, ◌≤◌, ℕ, ◌^◌, true, false, Option, Some, None, Result, Ok, Err}
+use Rattle.std.specs.Prelude.{◌≡◌, ◌≢◌, ◌⊎◌, ◌<◌, ◌≤◌, ℕ, ◌^◌, true, false, Option, Some, None}
 use Rattle.nand_model.specs.Flash.{Flash, Page, Erased}
 use Rattle.nand_model.specs.Calls.{Device}
 use Rattle.nand_model.specs.Changes.{OnlyReads}

@@ -1,14 +1,14 @@
 -- What writing the pages of a group does to the groups of a flash.
-use Rattle.std.proofs.Common.{◌≡◌, ◌≢◌, ◌⊎◌, ◌+◌, ◌-◌, ◌<◌, ◌≤◌, ℕ, Bool, true, false, List, refl, sym, ◌∙◌, ap, subst, arith, inl, inr}
+use Rattle.std.proofs.Common.{◌≡◌, ◌≢◌, ◌⊎◌, ◌+◌, ◌-◌, ◌<◌, ◌≤◌, ℕ, false, List, refl, sym, ◌∙◌, ap, subst, arith, inl, inr}
 use Rattle.std.proofs.lemmas.Bool.{cases_eq, cases_lt}
 use Rattle.nand_model.specs.Flash.{Flash, Page, Erased, Written, Uncorrectable}
 use Rattle.page_tags.specs.declared.tag.Tag.{Tag}
 use Rattle.page_tags.specs.Tags.{tag_bytes, IsTag}
 use Rattle.page_tags.specs.TagLaws.{same_tag}
 use Rattle.nand_model.specs.Changes.{Grows}
-use Rattle.flash_tree.specs.Groups.{HasTag, Group, IsPart, IsGroup, SameGroups, AddsGroup, AllThere}
+use Rattle.flash_tree.specs.Groups.{HasTag, Group, IsPart, IsGroup, SameGroups, AddsGroup}
 use Rattle.transactions.specs.Ready.{AreBelow}
-use Rattle.transactions.specs.Written.{Wrote, tag_in, page_in, IsAsked, IsNothing}
+use Rattle.transactions.specs.Written.{Wrote, tag_in, page_in}
 use Rattle.transactions.specs.declared.source.PageName.{PageName}
 
 -- no page of the block has a tag of this group number

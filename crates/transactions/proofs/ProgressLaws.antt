@@ -1,11 +1,11 @@
 -- The writing of a group, page by page.
 use Rattle.std.proofs.Common.{◌≡◌, ◌≢◌, ◌⊎◌, ◌+◌, ◌-◌, ◌<◌, ◌≤◌, ℕ, Bool, true, false, List, Some, Ok, Err, Result, refl, sym, ◌∙◌, ap, subst, arith, inl, inr}
 use Rattle.std.proofs.lemmas.Bool.{cases_eq, cases_lt}
-use Rattle.nand_model.specs.Flash.{Flash, Page, Erased, Written, Uncorrectable}
+use Rattle.nand_model.specs.Flash.{Page, Erased, Written, Uncorrectable}
 use Rattle.nand_model.specs.Calls.{Device, Lasts}
 use Rattle.nand_model.specs.CallLaws.{lasts_on, lasts_here}
 use Rattle.nand_model.specs.Changes.{Grows}
-use Rattle.page_tags.specs.Tags.{tag_bytes, IsTag}
+use Rattle.page_tags.specs.Tags.{tag_bytes}
 use Rattle.flash_tree.specs.Groups.{Group, AllThere}
 use Rattle.transactions.specs.declared.source.PageName.{PageName}
 use Rattle.transactions.specs.declared.group.GroupFault.{GroupFault}

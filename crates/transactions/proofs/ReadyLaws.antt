@@ -1,21 +1,19 @@
 -- What holds after a group.
-use Rattle.std.proofs.Common.{◌≡◌, ◌≢◌, ◌⊎◌, ◌+◌, ◌-◌, ◌<◌, ◌≤◌, ℕ, Bool, true, false, List, Option, Some, None, Ok, Err, Result, refl, sym, ◌∙◌, ap, subst, arith, inl, inr}
+use Rattle.std.proofs.Common.{◌≡◌, ◌≢◌, ◌+◌, ◌-◌, ◌<◌, ◌≤◌, ℕ, Bool, true, false, List, Option, Some, None, Ok, Err, Result, sym, ◌∙◌, ap, subst, arith, inl, inr}
 use Rattle.std.proofs.lemmas.Bool.{cases_eq}
-use Rattle.nand_model.specs.Flash.{Flash, Erased}
+use Rattle.nand_model.specs.Flash.{Erased}
 use Rattle.nand_model.specs.Calls.{Device}
 use Rattle.nand_model.specs.Changes.{Grows}
 use Rattle.nand_model.specs.declared.geometry.Geometry.{Geometry}
-use Rattle.flash_tree.specs.Groups.{Group, SameGroups, AddsGroup, AllThere}
 use Rattle.block_state.specs.declared.blocks.BlockEntry.{BlockEntry}
-use Rattle.block_state.specs.Table.{Table, Sets, room}
+use Rattle.block_state.specs.Table.{Table, room}
 use Rattle.transactions.specs.declared.source.PageName.{PageName}
 use Rattle.transactions.specs.declared.place.Place.{Place}
-use Rattle.transactions.specs.declared.group.Placed.{Placed}
 use Rattle.transactions.specs.declared.group.GroupFault.{GroupFault}
 use Rattle.transactions.specs.declared.group.GroupFault.TheVariants as faults
 use Rattle.transactions.specs.Ready.{IsOpen, IsReady, IsPlaceIn, AreBelow}
-use Rattle.transactions.specs.Written.{WritesAll, LastNext, TableAfter, MayWrite, group_of, tag_in, stays_open}
-use Rattle.transactions.specs.Groups.{next_group, AddsPages, GroupsAfter, GroupEnds, TableEnds, OkTable, Fills, closed, Stays, IsPlaced}
+use Rattle.transactions.specs.Written.{WritesAll, LastNext, TableAfter, MayWrite, group_of, stays_open}
+use Rattle.transactions.specs.Groups.{next_group, AddsPages, GroupsAfter, OkTable, Fills, Stays}
 use Rattle.transactions.proofs.GroupLaws.{IsFresh, is_added, is_not_added, wrote_grows, below_after}
 
 -- the table with the group number handed out

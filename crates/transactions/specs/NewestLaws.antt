@@ -1,10 +1,10 @@
 -- The newest pages after a group.
 use Rattle.std.specs.Prelude.{◌≡◌, ◌<◌, ℕ, List}
-use Rattle.std.proofs.Common.{sym, ◌∙◌, ap, subst, inl, inr, arith}
+use Rattle.std.proofs.Common.{◌∙◌, ap, inl, inr, arith}
 use Rattle.nand_model.specs.Flash.{Flash}
 use Rattle.nand_model.specs.Changes.{Grows}
 use Rattle.flash_tree.specs.Groups.{Group}
-use Rattle.flash_tree.specs.Newest.{Spot, Holds, IsAfter, HasNewest}
+use Rattle.flash_tree.specs.Newest.{Spot, Holds, HasNewest}
 use Rattle.flash_tree.specs.AddedLaws.{added_this, added_other}
 use Rattle.transactions.specs.declared.source.PageName.{PageName}
 use Rattle.transactions.specs.Naming.{IsNamed, NamesOnce}

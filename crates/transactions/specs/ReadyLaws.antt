@@ -1,17 +1,16 @@
 -- What keeps a device and its table ready.
-use Rattle.std.specs.Prelude.{◌≡◌, ◌≢◌, ◌⊎◌, ◌<◌, ◌≤◌, ℕ, ◌+◌, max, Bool, true, false, None, Some, Result, Ok, Err}
-use Rattle.std.proofs.Common.{refl, sym, ◌∙◌, ap, subst, inl, inr, arith}
+use Rattle.std.specs.Prelude.{◌≡◌, ◌≢◌, ◌<◌, ◌≤◌, ℕ, max, true, false, None, Some, Result}
+use Rattle.std.proofs.Common.{sym, ◌∙◌, ap, subst, inl, inr, arith}
 use Rattle.std.proofs.lemmas.Bool.{cases_eq, cases_lt}
 use Rattle.nand_model.specs.Flash.{Flash, IsWithin}
 use Rattle.nand_model.specs.Calls.{Device, Erases}
-use Rattle.nand_model.specs.Changes.{Shrinks, OnlyReads, PowersUp}
+use Rattle.nand_model.specs.Changes.{OnlyReads, PowersUp}
 use Rattle.nand_model.specs.ChangeLaws.{shrinks-erase}
 use Rattle.nand_model.specs.declared.geometry.Geometry.{Geometry}
 use Rattle.nand_model.specs.declared.nand.EraseFault.{EraseFault}
-use Rattle.flash_tree.specs.Groups.{HasTag}
 use Rattle.flash_tree.specs.NewestLaws.{tag_was}
 use Rattle.block_state.specs.declared.blocks.BlockEntry.{BlockEntry}
-use Rattle.block_state.specs.Table.{Table, Sets, blank}
+use Rattle.block_state.specs.Table.{Table, blank}
 use Rattle.transactions.specs.Ready.{AreBelow, IsOpen, IsReady}
 use Rattle.transactions.specs.Opening.{Opens}
 use Rattle.transactions.specs.Marking.{MarksNoted}

@@ -1,10 +1,10 @@
 -- The writing of a group, page by page.
-use Rattle.std.specs.Prelude.{◌≡◌, ◌≢◌, ◌⊎◌, ◌<◌, ◌≤◌, ℕ, ◌+◌, ◌-◌, ◌^◌, Bool, true, false, List, Option, Some, None, Result, Ok, Err}
+use Rattle.std.specs.Prelude.{◌≡◌, ◌≢◌, ◌⊎◌, ◌<◌, ◌≤◌, ℕ, ◌+◌, ◌-◌, Bool, true, false, List, Option, Some, None, Result, Ok, Err}
 use Rattle.nand_model.specs.Flash.{Flash, Page, Erased, Written, Uncorrectable}
-use Rattle.nand_model.specs.Calls.{Device, Lasts, Completes, Fails}
+use Rattle.nand_model.specs.Calls.{Device, Lasts}
 use Rattle.page_tags.specs.declared.tag.Tag.{Tag}
 use Rattle.page_tags.specs.Tags.{tag_bytes, IsTag}
-use Rattle.flash_tree.specs.Groups.{Group, SameGroups, AddsGroup, AllThere}
+use Rattle.flash_tree.specs.Groups.{Group, AllThere}
 use Rattle.block_state.specs.Table.{Table, Sets}
 use Rattle.transactions.specs.declared.source.PageName.{PageName}
 use Rattle.transactions.specs.declared.place.Place.{Place}

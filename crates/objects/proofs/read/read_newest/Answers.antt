@@ -1,4 +1,3 @@
-use Rattle.std.proofs.Common.{rules}
 use Rattle.objects.proofs.read.read_newest.Goals as goal
 
 pub returns-in_default-clause-found : goal.returns-in_default-clause-found

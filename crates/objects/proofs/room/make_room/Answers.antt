@@ -1,4 +1,3 @@
-use Rattle.std.proofs.Common.{rules}
 use Rattle.transactions.specs.ReadyLaws.{ready_read}
 use Rattle.objects.specs.RoomLaws.{taken_keeps}
 use Rattle.objects.proofs.room.make_room.Goals as goal

@@ -1,14 +1,12 @@
-use Rattle.std.proofs.Common.{◌≡◌, ◌∙◌, ◌≤◌, ◌+◌, ap, sym, subst, ℕ, true, Err, arith, rules}
+use Rattle.std.proofs.Common.{◌≡◌, ◌≤◌, ◌+◌, subst, ℕ, true, Err, arith, rules}
 use Rattle.std.proofs.lemmas.Result.{err_from_is_err_and}
 use Rattle.nand_model.specs.Calls.{Device}
-use Rattle.nand_model.specs.Flash.{Erased}
 use Rattle.flash_tree.specs.Groups.{Group}
-use Rattle.block_state.specs.Table.{Table, room}
+use Rattle.block_state.specs.Table.{Table}
 use Rattle.block_state.specs.TableOf.{table}
 use Rattle.transactions.specs.declared.place.Place.{Place}
-use Rattle.transactions.specs.Groups.{AddsPages, GroupsAfter, next_group}
-use Rattle.transactions.specs.Written.{TableAfter, stays_open}
-use Rattle.transactions.proofs.ReadyLaws.{numbered, room_left, may_write, ready_after, group_is, group_grows, group_stays, groups_ok, groups_err, ok_table}
+use Rattle.transactions.specs.Groups.{AddsPages, GroupsAfter}
+use Rattle.transactions.proofs.ReadyLaws.{room_left, may_write, ready_after, group_is, group_grows, groups_ok, groups_err, ok_table}
 use Rattle.transactions.proofs.group.write_group.Goals as goal
 
 pub note_end-requires-clause-room : goal.note_end-requires-clause-room

@@ -1,4 +1,4 @@
-use Rattle.std.proofs.Common.{◌∙◌, sym, rules}
+use Rattle.std.proofs.Common.{rules}
 use Rattle.nand_model.specs.Calls.{Device}
 use Rattle.block_state.specs.TableOf.{table}
 use Rattle.transactions.specs.ReadyLaws.{ready_erased, ready_opened}

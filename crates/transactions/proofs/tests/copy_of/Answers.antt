@@ -1,6 +1,6 @@
-use Rattle.std.proofs.Common.{◌≡◌, ◌≤◌, ◌<◌, ◌∙◌, refl, ap, sym, subst, ℕ, Bool, false, arith, rules}
+use Rattle.std.proofs.Common.{◌≡◌, ◌<◌, ◌∙◌, refl, ap, sym, subst, ℕ, false, arith}
 use Rattle.nand_model.specs.MemoryState.{device}
-use Rattle.nand_model.specs.Flash.{Flash, Page}
+use Rattle.nand_model.specs.Flash.{Page}
 use Rattle.nand_model.specs.Calls.{Device}
 use Rattle.nand_model.specs.declared.geometry.Geometry.{Geometry}
 use Rattle.flash_tree.specs.Newest.{IsNewest}

@@ -1,4 +1,3 @@
-use Rattle.std.proofs.Common.{◌≡◌, refl, arith}
 use Rattle.block_state.specs.TableLaws.{whole_set}
 use Rattle.block_state.proofs.blocks.Blocks.keep.Goals as goal
 

@@ -1,4 +1,4 @@
-use Rattle.std.proofs.Common.{◌≡◌, arith, rules}
+use Rattle.std.proofs.Common.{rules}
 use Rattle.transactions.proofs.tests.Volume.commit.Goals as goal
 
 pub write_group-requires-clause-source : goal.write_group-requires-clause-source

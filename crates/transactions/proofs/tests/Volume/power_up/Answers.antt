@@ -1,4 +1,4 @@
-use Rattle.std.proofs.Common.{◌≡◌, refl, sym, subst, None}
+use Rattle.std.proofs.Common.{refl, sym, subst, None}
 use Rattle.nand_model.specs.MemoryState.{device}
 use Rattle.block_state.specs.Table.{Table}
 use Rattle.block_state.specs.TableOf.{table}

@@ -1,6 +1,6 @@
 -- What a function of the plain volume answers, and what the definition says.
 use Rattle.std.specs.Prelude.{◌≡◌, ℕ, Bool, true, false, List, [], ◌∷◌, Option, Some, None, Result, Ok, Err, if◌then◌else◌}
-use Rattle.std.proofs.Common.{refl, sym, ◌∙◌, ap, subst}
+use Rattle.std.proofs.Common.{refl, sym, ap, subst}
 use Rattle.posix_profile.specs.Sizes.{Sizes}
 use Rattle.posix_profile.specs.State.{State, Object, Handle}
 use Rattle.posix_profile.specs.HandleSteps.{at_handle, at_file, at_descriptor}
@@ -14,14 +14,13 @@ use Rattle.posix_profile.specs.declared.reply.Reply.{Reply}
 use Rattle.plain_profile.specs.declared.outcome.PlainOutcome.{PlainOutcome}
 use Rattle.plain_profile.specs.declared.outcome.Refusal.{Refusal}
 use Rattle.plain_profile.specs.declared.outcome.Refusal.TheVariants as refusals
-use Rattle.plain_profile.specs.declared.path.PlainPlace.{PlainPlace}
 use Rattle.std.specs.Global.{Vec}
 use Rattle.std.specs.BTreeMap.{BTreeMap}
 use Rattle.plain_profile.specs.declared.object.PlainObject.{PlainObject}
 use Rattle.plain_profile.specs.declared.object.PlainObject.TheVariants as plain
 use Rattle.plain_profile.specs.PlainState.{object_of}
 use Rattle.plain_profile.specs.Meaning.{Gives}
-use Rattle.plain_profile.specs.Places.{place_of, Leads}
+use Rattle.plain_profile.specs.Places.{Leads}
 
 pub change_fits : (z : Sizes) (s new : State) (reply : Reply) → fits z new.objects ≡ true → answer new reply ≡ change_to z s new reply
 unfolding change_to

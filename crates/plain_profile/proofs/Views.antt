@@ -1,6 +1,6 @@
 -- The maps of the plain volume seen as those of its state.
-use Rattle.std.specs.Prelude.{◌≡◌, ◌<◌, ℕ, ◌+◌, ◌-◌, ◌*◌, ◌/◌, ◌%◌, min, List, [], ◌∷◌, map as list_map, length, sum_by, Option, Some, None, is_some}
-use Rattle.std.proofs.Common.{refl, sym, ◌∙◌, ap, arith}
+use Rattle.std.specs.Prelude.{◌≡◌, ◌<◌, ℕ, ◌+◌, ◌/◌, ◌%◌, min, List, [], ◌∷◌, map as list_map, length, sum_by, Option, Some, None, is_some}
+use Rattle.std.proofs.Common.{refl, ◌∙◌, ap, arith}
 use Rattle.std.specs.Global.{Vec}
 use Rattle.std.specs.declared.cmp.Ordering.{Ordering}
 use Rattle.std.specs.Ordering.{nat_cmp, is_eq}
@@ -9,7 +9,7 @@ use Rattle.std.specs.Cmp.Lexicographic.{slice_cmp, nat_list_cmp_total}
 use Rattle.std.specs.Option.{option_map, option_copied}
 use Rattle.std.specs.Map.{remove_entry}
 use Rattle.std.specs.BTreeMap as tree
-use Rattle.std.specs.BTreeMap.{BTreeMap, is_at, insert_entry}
+use Rattle.std.specs.BTreeMap.{BTreeMap, insert_entry}
 use Rattle.std.specs.FinMap as map
 use Rattle.std.proofs.lemmas.List.{length-map}
 use Rattle.std.specs.Int.{div_ceil}
@@ -23,7 +23,7 @@ use Rattle.posix_profile.specs.State.{Object}
 use Rattle.plain_profile.specs.declared.object.PlainObject.{PlainObject}
 use Rattle.plain_profile.specs.declared.object.PlainHandle.{PlainHandle}
 use Rattle.plain_profile.specs.PlainState.{entries_in, object_of, objects_in, handle_of, handles_in}
-use Rattle.plain_profile.proofs.Seen.{seen, get_seen, entries_seen, insert_seen, remove_seen, retain_seen}
+use Rattle.plain_profile.proofs.Seen.{get_seen, entries_seen, insert_seen, remove_seen}
 use denote.Bor.{Bor}
 
 -- a view of what a reference points to

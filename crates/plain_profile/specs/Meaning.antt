@@ -1,9 +1,7 @@
 -- How what a function of the plain volume answers stands to what the definition says.
-use Rattle.std.specs.Prelude.{◌≡◌, Option, Some, None, Result, Ok, Err}
+use Rattle.std.specs.Prelude.{◌≡◌, Result, Ok, Err}
 use Rattle.posix_profile.specs.State.{State}
 use Rattle.posix_profile.specs.Outcomes.{Outcome, refuse}
-use Rattle.posix_profile.specs.Paths.{Component, Dot, DotDot, Named, Place}
-use Rattle.posix_profile.specs.declared.reply.Errno.{Errno}
 use Rattle.plain_profile.specs.declared.outcome.Change.{Change}
 use Rattle.plain_profile.specs.declared.outcome.Change.TheVariants as changes
 use Rattle.plain_profile.specs.declared.outcome.PlainOutcome.{PlainOutcome}

@@ -1,11 +1,10 @@
 -- What the plain volume stands for.
-use Rattle.std.specs.Prelude.{ℕ, List, map as list_map, Option, Some, None}
+use Rattle.std.specs.Prelude.{ℕ, map as list_map}
 use Rattle.std.specs.FinMap as map
 use Rattle.std.specs.BTreeMap.{BTreeMap}
 use Rattle.std.specs.Global.{Vec}
 use Rattle.posix_profile.specs.Sizes.{Sizes}
 use Rattle.posix_profile.specs.State.{Object, File, Dir, Entries, Objects, Handle, Handles, State}
-use Rattle.posix_profile.specs.Paths.{Component, Dot, DotDot, Named, Place}
 use Rattle.plain_profile.specs.declared.object.PlainObject.{PlainObject}
 use Rattle.plain_profile.specs.declared.object.PlainObject.TheVariants as plain
 use Rattle.plain_profile.specs.declared.object.PlainHandle.{PlainHandle}

@@ -2,10 +2,10 @@
 ghost use Rattle.std.specs.Prelude.{◌≡◌, ◌<◌, ◌+◌, ◌^◌, length, Some, IfOk, OnOk};
 ghost use Rattle.std.specs.FinMap as map;
 ghost use Rattle.posix_profile.specs.State.{entries_of};
-ghost use Rattle.posix_profile.specs.Changes.{new_number, free_descriptor, with_bytes, with_name, without_name, with_object, written, resized};
+ghost use Rattle.posix_profile.specs.Changes.{new_number, free_descriptor, with_name, without_name, with_object, written, resized};
 ghost use Rattle.plain_profile.specs.PlainState.{object_of, objects_in, entries_in, handles_in};
 
-use crate::object::{EntryMap, HandleMap, ObjectMap, PlainHandle, PlainObject};
+use crate::object::{EntryMap, HandleMap, ObjectMap, PlainObject};
 use crate::table::{copy_entries, is_closed, is_free, object_at, put_object};
 use std::alloc::{AllocError, Global};
 
@@ -13,7 +13,7 @@ use std::alloc::{AllocError, Global};
 const DESCRIPTORS: u32 = 64;
 
 /// The least number from 2 up that no object has.
-pub fn new_number(objects: &ObjectMap) -> u64
+pub(crate) fn new_number(objects: &ObjectMap) -> u64
     ensures { result ≡ new_number (objects_in objects.now) }
 {
     let end = objects.len() as u64 + 3;
@@ -26,7 +26,7 @@ pub fn new_number(objects: &ObjectMap) -> u64
 }
 
 /// The least descriptor that is not open, if there is one.
-pub fn free_descriptor(handles: &HandleMap) -> Option<u32>
+pub(crate) fn free_descriptor(handles: &HandleMap) -> Option<u32>
     ensures { result ≡ free_descriptor (handles_in handles.now) }
 {
     for fd in 0..DESCRIPTORS {
@@ -58,14 +58,14 @@ fn entries_at(alloc: Global, objects: &ObjectMap, directory: u64) -> Result<Entr
 }
 
 /// A copy of the bytes.
-pub fn copy_name(alloc: Global, bytes: &[u8]) -> Result<Vec<u8>, AllocError>
+pub(crate) fn copy_name(alloc: Global, bytes: &[u8]) -> Result<Vec<u8>, AllocError>
     ensures { IfOk result (λ copy. copy.items ≡ bytes.now) }
 {
     Vec::from_slice(alloc, bytes)
 }
 
 /// Names an object, in place of what had the name.
-pub fn put_name(
+pub(crate) fn put_name(
     alloc: Global,
     objects: &mut ObjectMap,
     moment: u64,
@@ -86,7 +86,7 @@ pub fn put_name(
 }
 
 /// Takes a name away.
-pub fn remove_name(
+pub(crate) fn remove_name(
     alloc: Global,
     objects: &mut ObjectMap,
     moment: u64,
@@ -106,7 +106,7 @@ pub fn remove_name(
 }
 
 /// Adds an object under the least number that is free, and its name.
-pub fn add_object(
+pub(crate) fn add_object(
     alloc: Global,
     objects: &mut ObjectMap,
     moment: u64,
@@ -122,7 +122,7 @@ pub fn add_object(
 }
 
 /// The bytes cut to the length, or grown to it with zeros.
-pub fn resized(alloc: Global, bytes: &[u8], length: usize) -> Result<Vec<u8>, AllocError>
+pub(crate) fn resized(alloc: Global, bytes: &[u8], length: usize) -> Result<Vec<u8>, AllocError>
     ensures { IfOk result (λ new. new.items ≡ resized bytes.now length) }
 {
     let kept = bytes.len().min(length);
@@ -132,7 +132,7 @@ pub fn resized(alloc: Global, bytes: &[u8], length: usize) -> Result<Vec<u8>, Al
 }
 
 /// The bytes with others written at the offset.
-pub fn written(
+pub(crate) fn written(
     alloc: Global,
     bytes: &[u8],
     offset: usize,

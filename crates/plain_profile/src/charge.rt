@@ -7,7 +7,7 @@ use crate::object::{ObjectMap, PlainObject};
 use crate::sizes::PlainSizes;
 
 /// The units that an object costs.
-pub fn cost(sizes: PlainSizes, object: &PlainObject) -> u64
+pub(crate) fn cost(sizes: PlainSizes, object: &PlainObject) -> u64
     ensures { result ≡ cost (sizes_of sizes) (object_of object.now) }
 {
     match object {
@@ -19,7 +19,7 @@ pub fn cost(sizes: PlainSizes, object: &PlainObject) -> u64
 }
 
 /// The units that all objects cost, or the greatest number where they cost more.
-pub fn charge(sizes: PlainSizes, objects: &ObjectMap) -> u64
+pub(crate) fn charge(sizes: PlainSizes, objects: &ObjectMap) -> u64
     ensures { result ≡ min (charge (sizes_of sizes) (objects_in objects.now)) (2 ^ 64 - 1) }
 {
     let mut total: u64 = 0;
@@ -30,7 +30,7 @@ pub fn charge(sizes: PlainSizes, objects: &ObjectMap) -> u64
 }
 
 /// Whether there is room for the objects.
-pub fn fits(sizes: PlainSizes, objects: &ObjectMap) -> bool
+pub(crate) fn fits(sizes: PlainSizes, objects: &ObjectMap) -> bool
     ensures { result ≡ fits (sizes_of sizes) (objects_in objects.now) }
 {
     charge(sizes, objects) <= sizes.capacity()

@@ -9,17 +9,12 @@ ghost use Rattle.posix_profile.specs.HandleSteps.{at_file, may_read, may_write, 
 ghost use Rattle.plain_profile.specs.PlainState.{state_of, object_of, handle_of, handles_in};
 ghost use Rattle.plain_profile.specs.Meaning.{Gives};
 
-use crate::change::{add_object, free_descriptor, new_number, resized, written};
-use crate::charge::charge;
-use crate::links::is_directory_at;
-use crate::name_steps::last_name;
-use crate::object::{HandleMap, ObjectMap, PlainHandle, PlainObject};
-use crate::outcome::{Change, PlainOutcome, Refusal, answer, change_both, change_objects};
-use crate::path::{PlainPlace, resolve};
+use crate::object::{HandleMap, PlainHandle, PlainObject};
+use crate::outcome::{Change, PlainOutcome, Refusal, answer};
 use crate::prune::pruned;
-use crate::table::{copy_objects, object_at, put_object, with_handle, without_handle};
+use crate::table::{object_at, with_handle, without_handle};
 use crate::volume::PlainVolume;
-use posix_profile::{Access, Bytes, Errno, OpenFlags, Reply, Whence};
+use posix_profile::{Access, Bytes, Errno, Reply};
 
 /// Whether a descriptor of this access may not read.
 fn cannot_read(access: Access) -> bool
@@ -33,7 +28,7 @@ fn cannot_read(access: Access) -> bool
 }
 
 /// Whether a descriptor of this access may write.
-pub fn may_write(access: Access) -> bool
+pub(crate) fn may_write(access: Access) -> bool
     ensures { result ≡ may_write access }
 {
     match access {
@@ -44,7 +39,7 @@ pub fn may_write(access: Access) -> bool
 }
 
 /// What a descriptor stands for.
-pub fn handle_at(handles: &HandleMap, fd: u32) -> Option<PlainHandle>
+pub(crate) fn handle_at(handles: &HandleMap, fd: u32) -> Option<PlainHandle>
     ensures { option_map handle_of result ≡ map.get (handles_in handles.now) fd }
 {
     handles.get(&fd).copied()
@@ -63,7 +58,7 @@ fn close_open(volume: &PlainVolume, fd: u32) -> Result<PlainOutcome, Refusal>
 }
 
 /// Close.
-pub fn close(volume: &PlainVolume, fd: u32) -> Result<PlainOutcome, Refusal>
+pub(crate) fn close(volume: &PlainVolume, fd: u32) -> Result<PlainOutcome, Refusal>
     ensures { Gives (state_of volume.now) result (close_step (state_of volume.now) fd) }
 {
     match handle_at(&volume.handles, fd) {
@@ -157,7 +152,7 @@ fn read_open(
 }
 
 /// Read.
-pub fn read(volume: &PlainVolume, fd: u32, count: u32) -> Result<PlainOutcome, Refusal>
+pub(crate) fn read(volume: &PlainVolume, fd: u32, count: u32) -> Result<PlainOutcome, Refusal>
     ensures { Gives (state_of volume.now) result (read_step (state_of volume.now) fd count) }
 {
     match handle_at(&volume.handles, fd) {
@@ -167,7 +162,7 @@ pub fn read(volume: &PlainVolume, fd: u32, count: u32) -> Result<PlainOutcome, R
 }
 
 /// Fsync.
-pub fn fsync(volume: &PlainVolume, fd: u32) -> Result<PlainOutcome, Refusal>
+pub(crate) fn fsync(volume: &PlainVolume, fd: u32) -> Result<PlainOutcome, Refusal>
     ensures { Gives (state_of volume.now) result (fsync_step (state_of volume.now) fd) }
 {
     match handle_at(&volume.handles, fd) {

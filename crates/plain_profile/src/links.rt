@@ -14,10 +14,10 @@ use crate::table::object_at;
 use posix_profile::{Info, Kind};
 
 /// The number of the root directory.
-pub const ROOT: u64 = 1;
+pub(crate) const ROOT: u64 = 1;
 
 /// Whether a directory is at this number.
-pub fn is_directory_at(objects: &ObjectMap, number: u64) -> bool
+pub(crate) fn is_directory_at(objects: &ObjectMap, number: u64) -> bool
     ensures { result ≡ is_directory (map.get (objects_in objects.now) number) }
 {
     match object_at(objects, number) {
@@ -30,7 +30,7 @@ pub fn is_directory_at(objects: &ObjectMap, number: u64) -> bool
 }
 
 /// Whether a file is at this number.
-pub fn is_file_at(objects: &ObjectMap, number: u64) -> bool
+pub(crate) fn is_file_at(objects: &ObjectMap, number: u64) -> bool
     ensures { result ≡ is_file (map.get (objects_in objects.now) number) }
 {
     match object_at(objects, number) {
@@ -63,14 +63,14 @@ fn entry_count_at(objects: &ObjectMap, number: u64) -> u64
 }
 
 /// Whether a directory at this number has entries.
-pub fn has_entries_at(objects: &ObjectMap, number: u64) -> bool
+pub(crate) fn has_entries_at(objects: &ObjectMap, number: u64) -> bool
     ensures { result ≡ nat_lt 0 (map.len (entries_of (map.get (objects_in objects.now) number))) }
 {
     0 < entry_count_at(objects, number)
 }
 
 /// Whether the object is a directory that names the number.
-pub fn has_entry_to(object: &PlainObject, number: u64) -> bool
+pub(crate) fn has_entry_to(object: &PlainObject, number: u64) -> bool
     ensures { result ≡ has_entry_to number (object_of object.now) }
 {
     match object {
@@ -87,7 +87,7 @@ pub fn has_entry_to(object: &PlainObject, number: u64) -> bool
 }
 
 /// The directory that names the object, and the root where none does.
-pub fn parent(objects: &ObjectMap, number: u64) -> u64
+pub(crate) fn parent(objects: &ObjectMap, number: u64) -> u64
     ensures { result ≡ parent (objects_in objects.now) number }
 {
     for (directory, object) in objects.iter() {
@@ -99,7 +99,7 @@ pub fn parent(objects: &ObjectMap, number: u64) -> u64
 }
 
 /// Whether some directory names the object.
-pub fn is_named(objects: &ObjectMap, number: u64) -> bool
+pub(crate) fn is_named(objects: &ObjectMap, number: u64) -> bool
     ensures { result ≡ is_named (objects_in objects.now) number }
 {
     for object in objects.values() {
@@ -111,7 +111,7 @@ pub fn is_named(objects: &ObjectMap, number: u64) -> bool
 }
 
 /// Whether some descriptor stands for the object.
-pub fn is_open(handles: &HandleMap, number: u64) -> bool
+pub(crate) fn is_open(handles: &HandleMap, number: u64) -> bool
     ensures { result ≡ list_any (λ h. nat_eq number h.object) (map.values (handles_in handles.now)) }
 {
     for handle in handles.values() {
@@ -167,7 +167,12 @@ fn subdirectories(objects: &ObjectMap, entries: &EntryMap) -> u64
 }
 
 /// What is told of an object.
-pub fn info(sizes: PlainSizes, objects: &ObjectMap, number: u64, object: &PlainObject) -> Info
+pub(crate) fn info(
+    sizes: PlainSizes,
+    objects: &ObjectMap,
+    number: u64,
+    object: &PlainObject,
+) -> Info
     requires { fits (sizes_of sizes) (objects_in objects.now) ≡ true }
     ensures { result ≡ info (objects_in objects.now) number (object_of object.now) }
 {
@@ -190,7 +195,7 @@ pub fn info(sizes: PlainSizes, objects: &ObjectMap, number: u64, object: &PlainO
 }
 
 /// Whether the directory is this object or lies below it.
-pub fn is_below(objects: &ObjectMap, number: u64, directory: u64) -> bool
+pub(crate) fn is_below(objects: &ObjectMap, number: u64, directory: u64) -> bool
     ensures { result ≡ is_below (objects_in objects.now) number directory }
 {
     let count = objects.len();

@@ -23,7 +23,7 @@ use posix_profile::{Bytes, Errno, NameList, Reply, SpaceInfo};
 use std::alloc::{AllocError, Global};
 
 /// The name that a path ends in; what ends otherwise has none.
-pub fn last_name<'a>(place: PlainPlace<'a>) -> &'a [u8]
+pub(crate) fn last_name<'a>(place: PlainPlace<'a>) -> &'a [u8]
     ensures { result.now ≡ last_name (place_of place.entry).last }
 {
     match place.last {
@@ -35,7 +35,7 @@ pub fn last_name<'a>(place: PlainPlace<'a>) -> &'a [u8]
 }
 
 /// Whether a path ends in `.`.
-pub fn ends_in_dot(place: PlainPlace<'_>) -> bool
+pub(crate) fn ends_in_dot(place: PlainPlace<'_>) -> bool
     ensures { result ≡ is_dot (place_of place.entry).last }
 {
     match place.last {
@@ -47,7 +47,7 @@ pub fn ends_in_dot(place: PlainPlace<'_>) -> bool
 }
 
 /// Whether a path ends in `..`.
-pub fn ends_in_dot_dot(place: PlainPlace<'_>) -> bool
+pub(crate) fn ends_in_dot_dot(place: PlainPlace<'_>) -> bool
     ensures { result ≡ is_dot_dot (place_of place.entry).last }
 {
     match place.last {
@@ -59,7 +59,7 @@ pub fn ends_in_dot_dot(place: PlainPlace<'_>) -> bool
 }
 
 /// Whether a path is only slashes.
-pub fn is_only_slashes(place: PlainPlace<'_>) -> bool
+pub(crate) fn is_only_slashes(place: PlainPlace<'_>) -> bool
     ensures { result ≡ is_none (place_of place.entry).last }
 {
     match place.last {
@@ -83,7 +83,7 @@ fn stat_at(volume: &PlainVolume, number: u64) -> Result<PlainOutcome, Refusal>
 }
 
 /// Stat.
-pub fn stat(volume: &PlainVolume, path: &[u8]) -> Result<PlainOutcome, Refusal>
+pub(crate) fn stat(volume: &PlainVolume, path: &[u8]) -> Result<PlainOutcome, Refusal>
     requires { fits (sizes_of volume.now.sizes) (state_of volume.now).objects ≡ true }
     ensures { Gives (state_of volume.now) result (stat_step (state_of volume.now) path.now) }
 {
@@ -130,7 +130,7 @@ fn list_at(volume: &PlainVolume, number: u64) -> Result<PlainOutcome, Refusal>
 }
 
 /// List.
-pub fn list(volume: &PlainVolume, path: &[u8]) -> Result<PlainOutcome, Refusal>
+pub(crate) fn list(volume: &PlainVolume, path: &[u8]) -> Result<PlainOutcome, Refusal>
     ensures { Gives (state_of volume.now) result (list_step (state_of volume.now) path.now) }
 {
     let place = resolve(volume.alloc, &volume.objects, path)?;
@@ -141,7 +141,7 @@ pub fn list(volume: &PlainVolume, path: &[u8]) -> Result<PlainOutcome, Refusal>
 }
 
 /// Space.
-pub fn space(volume: &PlainVolume) -> PlainOutcome
+pub(crate) fn space(volume: &PlainVolume) -> PlainOutcome
     ensures { outcome_of (state_of volume.now) result ≡ space_step (sizes_of volume.now.sizes) (state_of volume.now) }
 {
     let sizes = volume.sizes;
@@ -180,7 +180,7 @@ fn mkdir_absent(
 }
 
 /// Mkdir.
-pub fn mkdir(volume: &PlainVolume, moment: u64, path: &[u8]) -> Result<PlainOutcome, Refusal>
+pub(crate) fn mkdir(volume: &PlainVolume, moment: u64, path: &[u8]) -> Result<PlainOutcome, Refusal>
     ensures { Gives (state_of volume.now) result (mkdir_step (sizes_of volume.now.sizes) volume.now.read_only moment (state_of volume.now) path.now) }
 {
     let place = resolve(volume.alloc, &volume.objects, path)?;
@@ -257,7 +257,7 @@ fn rmdir_at(
 }
 
 /// Rmdir.
-pub fn rmdir(volume: &PlainVolume, moment: u64, path: &[u8]) -> Result<PlainOutcome, Refusal>
+pub(crate) fn rmdir(volume: &PlainVolume, moment: u64, path: &[u8]) -> Result<PlainOutcome, Refusal>
     ensures { Gives (state_of volume.now) result (rmdir_step volume.now.read_only moment (state_of volume.now) path.now) }
 {
     let place = resolve(volume.alloc, &volume.objects, path)?;
@@ -294,7 +294,11 @@ fn unlink_object(
 }
 
 /// Unlink.
-pub fn unlink(volume: &PlainVolume, moment: u64, path: &[u8]) -> Result<PlainOutcome, Refusal>
+pub(crate) fn unlink(
+    volume: &PlainVolume,
+    moment: u64,
+    path: &[u8],
+) -> Result<PlainOutcome, Refusal>
     ensures { Gives (state_of volume.now) result (unlink_step volume.now.read_only moment (state_of volume.now) path.now) }
 {
     let place = resolve(volume.alloc, &volume.objects, path)?;
@@ -359,14 +363,15 @@ fn link_object(
         (at_place (state_of volume.now) (resolve (state_of volume.now).objects new.now)
         (λ to. link_at (sizes_of volume.now.sizes) volume.now.read_only moment (state_of volume.now) number to to.object))) }
 {
-    if is_directory_at(&volume.objects, number) {
+    let objects = &volume.objects;
+    if is_directory_at(objects, number) {
         return Err(Refusal::Refused(Errno::EPERM));
     }
     link_to(volume, moment, number, new)
 }
 
 /// Link.
-pub fn link(
+pub(crate) fn link(
     volume: &PlainVolume,
     moment: u64,
     old: &[u8],

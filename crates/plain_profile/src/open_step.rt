@@ -232,7 +232,7 @@ fn open_path(
 }
 
 /// Open.
-pub fn open(
+pub(crate) fn open(
     volume: &PlainVolume,
     moment: u64,
     path: &[u8],

@@ -1,5 +1,5 @@
 // How a command of the plain volume ends.
-ghost use Rattle.std.specs.Prelude.{◌≡◌, if◌then◌else◌, IfSome};
+ghost use Rattle.std.specs.Prelude.{◌≡◌};
 ghost use Rattle.plain_profile.specs.declared.outcome.Refusal.TheVariants.{Memory, Refused};
 ghost use Rattle.posix_profile.specs.Outcomes.{change_to};
 ghost use Rattle.plain_profile.specs.PlainState.{state_of, objects_in, handles_in, sizes_of};
@@ -13,7 +13,7 @@ use std::alloc::{AllocError, AllocFailed};
 
 /// What a command changes, as a whole.
 #[derive(Drop)]
-pub enum Change {
+pub(crate) enum Change {
     Nothing,
     Handles(HandleMap),
     Objects(ObjectMap),
@@ -22,14 +22,14 @@ pub enum Change {
 
 /// The reply to a command, and what it changes.
 #[derive(Drop)]
-pub struct PlainOutcome {
+pub(crate) struct PlainOutcome {
     pub reply: Reply,
     pub change: Change,
 }
 
 /// Why a command changes nothing: memory was refused, or the reply is an error.
 #[derive(Clone, Copy, Drop)]
-pub enum Refusal {
+pub(crate) enum Refusal {
     Memory,
     Refused(Errno),
 }
@@ -59,7 +59,7 @@ impl From<Errno> for Refusal {
 }
 
 /// A reply that leaves the volume.
-pub fn answer(reply: Reply) -> PlainOutcome
+pub(crate) fn answer(reply: Reply) -> PlainOutcome
     ensures { result ≡ record { reply = reply; change = Change.Nothing } }
 {
     PlainOutcome {
@@ -69,7 +69,7 @@ pub fn answer(reply: Reply) -> PlainOutcome
 }
 
 /// The new objects, where there is room for them.
-pub fn change_objects(
+pub(crate) fn change_objects(
     volume: &PlainVolume,
     objects: ObjectMap,
     reply: Reply,
@@ -87,7 +87,7 @@ pub fn change_objects(
 }
 
 /// The new objects and descriptors, where there is room for the objects.
-pub fn change_both(
+pub(crate) fn change_both(
     volume: &PlainVolume,
     objects: ObjectMap,
     handles: HandleMap,

@@ -5,7 +5,6 @@ ghost use Rattle.std.specs.List.{list_any, slice_split};
 ghost use Rattle.posix_profile.specs.Sizes.{name_limit};
 ghost use Rattle.posix_profile.specs.declared.reply.Errno.{Errno};
 ghost use Rattle.std.specs.FinMap as map;
-ghost use Rattle.std.specs.Option.{option_map};
 ghost use Rattle.posix_profile.specs.State.{entries_of};
 ghost use Rattle.posix_profile.specs.Paths.{component, slash, parts, path_tests, first_error, ends_in_slash, leads_to, arrive, pass, Place, walk_from_root, resolve};
 ghost use Rattle.plain_profile.specs.PlainState.{object_of, objects_in};
@@ -26,7 +25,7 @@ const PATH_LIMIT: usize = 4095;
 
 /// A component of a path.
 #[derive(Clone, Copy)]
-pub enum PathPart<'a> {
+pub(crate) enum PathPart<'a> {
     Dot,
     DotDot,
     Named(&'a [u8]),
@@ -35,7 +34,7 @@ pub enum PathPart<'a> {
 /// Where a path leads: the directory, the last component, which is none where the path is only slashes, the object,
 /// which is none where the name is absent, and whether a slash follows.
 #[derive(Clone, Copy)]
-pub struct PlainPlace<'a> {
+pub(crate) struct PlainPlace<'a> {
     pub directory: u64,
     pub last: Option<PathPart<'a>>,
     pub object: Option<u64>,
@@ -228,7 +227,7 @@ fn walk<'a>(
 }
 
 /// Where a path leads, or why nowhere.
-pub fn resolve<'a>(
+pub(crate) fn resolve<'a>(
     alloc: Global,
     objects: &ObjectMap,
     path: &'a [u8],

@@ -19,7 +19,7 @@ fn is_kept(objects: &ObjectMap, handles: &HandleMap, number: u64) -> bool
 }
 
 /// The objects that are kept.
-pub fn pruned(objects: &ObjectMap, handles: &HandleMap) -> Result<ObjectMap, AllocError>
+pub(crate) fn pruned(objects: &ObjectMap, handles: &HandleMap) -> Result<ObjectMap, AllocError>
     ensures { IfOk result (λ kept. objects_in kept ≡ (prune (record { objects = objects_in objects.now; handles = handles_in handles.now })).objects) }
 {
     let mut kept = copy_objects(objects)?;

@@ -183,7 +183,7 @@ fn rename_places(
 }
 
 /// Rename.
-pub fn rename(
+pub(crate) fn rename(
     volume: &PlainVolume,
     moment: u64,
     old: &[u8],

@@ -127,7 +127,7 @@ fn seek_open(
 }
 
 /// Seek.
-pub fn seek(
+pub(crate) fn seek(
     volume: &PlainVolume,
     fd: u32,
     offset: i64,

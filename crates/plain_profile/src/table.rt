@@ -8,28 +8,28 @@ use crate::object::{EntryMap, HandleMap, ObjectMap, PlainHandle, PlainObject};
 use std::alloc::AllocError;
 
 /// The object of this number.
-pub fn object_at(objects: &ObjectMap, number: u64) -> Option<&PlainObject>
+pub(crate) fn object_at(objects: &ObjectMap, number: u64) -> Option<&PlainObject>
     ensures { option_map (λ x. object_of x.now) result ≡ map.get (objects_in objects.now) number }
 {
     objects.get(&number)
 }
 
 /// Whether no object has this number.
-pub fn is_free(objects: &ObjectMap, number: u64) -> bool
+pub(crate) fn is_free(objects: &ObjectMap, number: u64) -> bool
     ensures { result ≡ not (map.contains_key (objects_in objects.now) number) }
 {
     !objects.contains_key(&number)
 }
 
 /// Whether this descriptor is not open.
-pub fn is_closed(handles: &HandleMap, fd: u32) -> bool
+pub(crate) fn is_closed(handles: &HandleMap, fd: u32) -> bool
     ensures { result ≡ not (map.contains_key (handles_in handles.now) fd) }
 {
     !handles.contains_key(&fd)
 }
 
 /// Puts an object at a number.
-pub fn put_object(
+pub(crate) fn put_object(
     objects: &mut ObjectMap,
     number: u64,
     object: PlainObject,
@@ -41,21 +41,21 @@ pub fn put_object(
 }
 
 /// A copy of the objects.
-pub fn copy_objects(objects: &ObjectMap) -> Result<ObjectMap, AllocError>
+pub(crate) fn copy_objects(objects: &ObjectMap) -> Result<ObjectMap, AllocError>
     ensures { IfOk result (λ copy. objects_in copy ≡ objects_in objects.now) }
 {
     objects.clone()
 }
 
 /// A copy of the descriptors.
-pub fn copy_handles(handles: &HandleMap) -> Result<HandleMap, AllocError>
+pub(crate) fn copy_handles(handles: &HandleMap) -> Result<HandleMap, AllocError>
     ensures { IfOk result (λ copy. handles_in copy ≡ handles_in handles.now) }
 {
     handles.clone()
 }
 
 /// A copy of the descriptors, one of which stands for this.
-pub fn with_handle(
+pub(crate) fn with_handle(
     handles: &HandleMap,
     fd: u32,
     handle: PlainHandle,
@@ -68,7 +68,7 @@ pub fn with_handle(
 }
 
 /// A copy of the descriptors without one.
-pub fn without_handle(handles: &HandleMap, fd: u32) -> Result<HandleMap, AllocError>
+pub(crate) fn without_handle(handles: &HandleMap, fd: u32) -> Result<HandleMap, AllocError>
     ensures { IfOk result (λ new. handles_in new ≡ map.remove (handles_in handles.now) fd) }
 {
     let mut new = copy_handles(handles)?;
@@ -78,14 +78,14 @@ pub fn without_handle(handles: &HandleMap, fd: u32) -> Result<HandleMap, AllocEr
 }
 
 /// A copy of the bytes.
-pub fn copy_bytes(bytes: &Vec<u8>) -> Result<Vec<u8>, AllocError>
+pub(crate) fn copy_bytes(bytes: &Vec<u8>) -> Result<Vec<u8>, AllocError>
     ensures { IfOk result (λ copy. copy.items ≡ bytes.now.items) }
 {
     bytes.clone()
 }
 
 /// A copy of the entries.
-pub fn copy_entries(entries: &EntryMap) -> Result<EntryMap, AllocError>
+pub(crate) fn copy_entries(entries: &EntryMap) -> Result<EntryMap, AllocError>
     ensures { IfOk result (λ copy. entries_in copy ≡ entries_in entries.now) }
 {
     entries.clone()

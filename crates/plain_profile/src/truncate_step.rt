@@ -120,7 +120,7 @@ fn truncate_open(
 }
 
 /// Truncate.
-pub fn truncate(
+pub(crate) fn truncate(
     volume: &PlainVolume,
     moment: u64,
     fd: u32,

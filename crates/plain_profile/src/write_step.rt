@@ -189,7 +189,7 @@ fn write_open(
 }
 
 /// Write.
-pub fn write(
+pub(crate) fn write(
     volume: &PlainVolume,
     moment: u64,
     fd: u32,

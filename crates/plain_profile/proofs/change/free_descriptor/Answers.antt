@@ -1,4 +1,4 @@
-use Rattle.std.proofs.Common.{◌≡◌, ◌∙◌, ◌-◌, ◌+◌, ℕ, sym, ap, arith, not}
+use Rattle.std.proofs.Common.{◌≡◌, ◌∙◌, ◌-◌, ◌+◌, sym, ap, arith, not}
 use Rattle.std.specs.List.{find, range_with_len}
 use Rattle.std.specs.FinMap as map
 use Rattle.plain_profile.specs.PlainState.{handles_in}

@@ -1,7 +1,6 @@
-use Rattle.std.proofs.Common.{◌≡◌, ◌∙◌, ◌-◌, ◌^◌, min, ◌+◌, ℕ, sum_by, List, [], sym, ap, arith}
+use Rattle.std.proofs.Common.{◌∙◌, sum_by, ap, arith}
 use Rattle.posix_profile.specs.Charge.{cost}
 use Rattle.std.specs.Map.Iter.{deref}
-use Rattle.plain_profile.specs.declared.object.PlainObject.{PlainObject}
 use Rattle.plain_profile.specs.PlainState.{object_of, sizes_of}
 use Rattle.plain_profile.proofs.Views.{charge_values, all_gone}
 use Rattle.plain_profile.proofs.charge.charge.Goals as goal

@@ -1,4 +1,4 @@
-use Rattle.std.proofs.Common.{◌∙◌, ap, arith, take, drop, length}
+use Rattle.std.proofs.Common.{ap, arith, drop, length}
 use Rattle.std.proofs.lemmas.List.{length-take, length-drop}
 use Rattle.plain_profile.proofs.handle_steps.read_file.Goals as goal
 

@@ -1,4 +1,4 @@
-use Rattle.std.proofs.Common.{◌≡◌, ◌∙◌, ◌+◌, List, ℕ, length, take, drop, ap}
+use Rattle.std.proofs.Common.{◌∙◌, ◌+◌, List, ℕ, length, take, drop, ap}
 use Rattle.posix_profile.specs.Outcomes.{Outcome, answer}
 use Rattle.posix_profile.specs.Changes.{with_offset}
 use Rattle.posix_profile.specs.declared.reply.Errno.TheVariants as errors

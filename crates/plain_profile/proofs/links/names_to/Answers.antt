@@ -1,4 +1,4 @@
-use Rattle.std.proofs.Common.{◌≡◌, ◌∙◌, ◌+◌, length, nat_eq, sym, ap, arith}
+use Rattle.std.proofs.Common.{◌∙◌, length, nat_eq, ap, arith}
 use Rattle.posix_profile.specs.Names.{names_to}
 use Rattle.plain_profile.specs.PlainState.{object_of}
 use Rattle.plain_profile.proofs.Counts.{count_left, names_count}

@@ -1,4 +1,4 @@
-use Rattle.std.proofs.Common.{◌≡◌, ◌∙◌, ◌+◌, ℕ, Bool, length, count_by, sym, ap, arith}
+use Rattle.std.proofs.Common.{◌∙◌, ℕ, Bool, length, sym, ap, arith}
 use Rattle.std.specs.FinMap as map
 use Rattle.posix_profile.specs.State.{is_directory}
 use Rattle.plain_profile.specs.PlainState.{objects_in}

@@ -1,4 +1,4 @@
-use Rattle.std.proofs.Common.{◌≡◌, ◌∙◌, ap, map as list_map}
+use Rattle.std.proofs.Common.{◌∙◌, ap, map as list_map}
 use Rattle.std.proofs.lemmas.Result.{err_from_is_err_and}
 use Rattle.plain_profile.specs.PlainState.{objects_in}
 use Rattle.plain_profile.proofs.Walks.{leads_err, resolve_is, resolve_stops}

@@ -1,4 +1,4 @@
-use Rattle.std.proofs.Common.{◌≡◌, map as list_map, drop, ap}
+use Rattle.std.proofs.Common.{map as list_map, ap}
 use Rattle.std.proofs.lemmas.Result.{err_from_is_err_and}
 use Rattle.posix_profile.specs.Paths.{component}
 use Rattle.plain_profile.specs.Places.{last_of, place_of}

@@ -1,4 +1,4 @@
-use Rattle.std.proofs.Common.{◌≡◌, ◌∙◌, sym, ap}
+use Rattle.std.proofs.Common.{◌∙◌, sym, ap}
 use Rattle.std.specs.Prelude.{[], ◌∷◌}
 use Rattle.posix_profile.specs.Outcomes.{answer, change_to, unless}
 use Rattle.posix_profile.specs.NameSteps.{name_moved, rename_tests_onto}

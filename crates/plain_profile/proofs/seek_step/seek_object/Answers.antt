@@ -1,4 +1,4 @@
-use Rattle.std.proofs.Common.{◌≡◌, ◌∙◌, ◌+ℤ◌, List, ℕ, length, pos, ap, w64}
+use Rattle.std.proofs.Common.{◌∙◌, ◌+ℤ◌, List, ℕ, length, pos, ap, w64}
 use Rattle.std.proofs.lemmas.Int.{to_z-of_z}
 use Rattle.posix_profile.specs.Outcomes.{Outcome}
 use Rattle.posix_profile.specs.HandleSteps.{seek_origin, seek_to}

@@ -1,4 +1,4 @@
-use Rattle.std.proofs.Common.{sym, ◌∙◌, ap}
+use Rattle.std.proofs.Common.{sym, ◌∙◌}
 use Rattle.plain_profile.proofs.Views.{get_object, mapped_copied}
 use Rattle.plain_profile.specs.PlainState.{object_of}
 use Rattle.plain_profile.proofs.table.object_at.Goals as goal

@@ -1,5 +1,4 @@
-use Rattle.std.proofs.Common.{◌≡◌, ◌∙◌, List, ℕ, ap}
-use Rattle.std.specs.FinMap as map
+use Rattle.std.proofs.Common.{◌∙◌, List, ℕ, ap}
 use Rattle.posix_profile.specs.Outcomes.{Outcome, change_to}
 use Rattle.posix_profile.specs.Changes.{with_bytes, resized}
 use Rattle.posix_profile.specs.declared.reply.Errno.TheVariants as errors

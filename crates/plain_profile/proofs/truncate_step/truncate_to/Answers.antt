@@ -1,4 +1,4 @@
-use Rattle.std.proofs.Common.{◌∙◌, ◌≡◌, ◌<◌, ◌≤◌, sym, ap, subst, le-ltb}
+use Rattle.std.proofs.Common.{◌∙◌, ◌<◌, ◌≤◌, subst, le-ltb}
 use Rattle.std.proofs.lemmas.Bool.{lt-ltb}
 use Rattle.plain_profile.specs.PlainState.{state_of}
 use Rattle.plain_profile.proofs.Outcomes.{gives_same, refused, passed, passed_all}

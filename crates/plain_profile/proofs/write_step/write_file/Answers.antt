@@ -1,4 +1,4 @@
-use Rattle.std.proofs.Common.{◌≡◌, ◌≤◌, ◌<◌, ◌∙◌, ◌+◌, List, ℕ, length, take, sym, ap, subst}
+use Rattle.std.proofs.Common.{◌≤◌, ◌<◌, ◌∙◌, ◌+◌, List, ℕ, length, take, sym, ap, subst}
 use Rattle.std.proofs.lemmas.Bool.{le-leb, lt-leb, eq-eqb, ne_eqb}
 use Rattle.posix_profile.specs.Sizes.{greatest_length}
 use Rattle.posix_profile.specs.Outcomes.{Outcome, answer}

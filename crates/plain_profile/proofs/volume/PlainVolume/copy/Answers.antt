@@ -1,6 +1,3 @@
-use Rattle.std.proofs.Common.{◌≡◌}
-use Rattle.posix_profile.specs.State.{State}
-use Rattle.plain_profile.specs.PlainState.{state_of}
 use Rattle.plain_profile.proofs.volume.PlainVolume.copy.Goals as goal
 
 pub returns-clause-state : goal.returns-clause-state

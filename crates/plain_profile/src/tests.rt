@@ -108,11 +108,16 @@ fn command_of(alloc: Global, ask: Ask<'_>) -> Result<Command, AllocError> {
     })
 }
 
-/// Adds bytes as a shell would write them: what is no plain letter as two hexadecimal digits.
+/// Adds bytes as a shell writes them: a backslash twice, no bytes as `\e`, and what is no plain letter as two hexadecimal digits.
 fn push_bytes(text: &mut String, bytes: &[u8]) -> Result<(), AllocError> {
     let digits = b"0123456789abcdef";
+    if bytes.is_empty() {
+        text.push_str("\\e")?;
+    }
     for byte in bytes {
-        if *byte < 0x21 || *byte > 0x7e {
+        if *byte == b'\\' {
+            text.push_str("\\\\")?;
+        } else if *byte < 0x21 || *byte > 0x7e {
             text.push_str("\\x")?;
             text.push(char::from(digits[(*byte / 16) as usize]))?;
             text.push(char::from(digits[(*byte % 16) as usize]))?;
@@ -164,6 +169,7 @@ fn new_volume(alloc: Global) -> Result<PlainVolume, AllocError> {
     PlainVolume::new(alloc, PlainSizes::new(512, 32, 8, 1), false)
 }
 
+/// What the volume tells of a command, which is asked again where memory was refused.
 fn told(
     rt: &impl Abort,
     alloc: Global,
@@ -172,8 +178,15 @@ fn told(
     ask: Ask<'_>,
 ) -> Result<String, AllocError> {
     let command = command_of(alloc, ask)?;
+    let stamped = Stamped { moment, command };
     assert!(rt; fits(volume.sizes, &volume.objects));
-    let reply = volume.step(&Stamped { moment, command })?;
+    let reply = match volume.step(&stamped) {
+        Ok(reply) => reply,
+        Err(_) => {
+            assert!(rt; fits(volume.sizes, &volume.objects));
+            volume.step(&stamped)?
+        }
+    };
     reply_text(alloc, &reply)
 }
 
@@ -276,26 +289,15 @@ fn what_was_cut_off_does_not_come_back(rt: HostRuntime) -> Result<(), Fail> {
         (Ask::Truncate(0, 600), "ok"),
         (Ask::Seek(0, 100, Whence::Set), "at 100"),
     ];
-    let mut volume = run_new(&rt, rt.alloc(), &rows)?;
-    for _ in 0..100 {
-        run_rows(
-            &rt,
-            rt.alloc(),
-            &mut volume,
-            0,
-            &[(Ask::Read(0, 5), "data 5 \\x00\\x00\\x00\\x00\\x00")],
-        )?;
-    }
-    run_rows(
-        &rt,
-        rt.alloc(),
-        &mut volume,
-        0,
-        &[
-            (Ask::Read(0, 5), "data 0 "),
-            (Ask::Space, "space 512 144 139"),
-        ],
-    )?;
+    let alloc = rt.alloc();
+    let mut volume = run_new(&rt, alloc, &rows)?;
+    let zeros = repeated(alloc, "data 500 ", "\\x00", 500)?;
+    let rows = [
+        (Ask::Read(0, 500), zeros.as_str()),
+        (Ask::Read(0, 500), "data 0 \\e"),
+        (Ask::Space, "space 512 144 139"),
+    ];
+    run_rows(&rt, alloc, &mut volume, 0, &rows)?;
     Ok(())
 }
 
@@ -422,10 +424,58 @@ fn names_are_in_order(rt: HostRuntime) -> Result<(), Fail> {
         (Ask::Mkdir("/a"), "ok"),
         (Ask::Mkdir("/a"), "error EEXIST"),
         (Ask::List("/"), "names 2 a b"),
-        (Ask::Mkdir("/x y"), "ok"),
-        (Ask::List("/"), "names 3 a b x\\x20y"),
     ];
     let _ = run_new(&rt, rt.alloc(), &rows)?;
+    Ok(())
+}
+
+#[test]
+fn a_name_may_hold_a_space(rt: HostRuntime) -> Result<(), Fail> {
+    let rows = [
+        (Ask::Mkdir("/x y"), "ok"),
+        (Ask::List("/"), "names 1 x\\x20y"),
+    ];
+    let _ = run_new(&rt, rt.alloc(), &rows)?;
+    Ok(())
+}
+
+#[test]
+fn what_may_only_be_read_stays(rt: HostRuntime) -> Result<(), Fail> {
+    let rows = [
+        (Ask::Open("/a", "rwc"), "fd 0"),
+        (Ask::Write(0, "hello"), "wrote 5"),
+        (Ask::Close(0), "ok"),
+        (Ask::Mkdir("/d"), "ok"),
+    ];
+    let mut volume = run_new(&rt, rt.alloc(), &rows)?;
+    volume.read_only = true;
+    let rows = [
+        (Ask::Open("/a", "rw"), "error EROFS"),
+        (Ask::Open("/a", "wt"), "error EROFS"),
+        (Ask::Open("/b", "rc"), "error EROFS"),
+        (Ask::Open("/b", "r"), "error ENOENT"),
+        (Ask::Open("/a", "r"), "fd 0"),
+        (Ask::Read(0, 10), "data 5 hello"),
+        (Ask::Write(0, "x"), "error EBADF"),
+        (Ask::Truncate(0, 1), "error EINVAL"),
+        (Ask::Fsync(0), "ok"),
+        (Ask::Sync, "ok"),
+        (Ask::Mkdir("/e"), "error EROFS"),
+        (Ask::Mkdir("/d"), "error EEXIST"),
+        (Ask::Rmdir("/d"), "error EROFS"),
+        (Ask::Rmdir("/a"), "error ENOTDIR"),
+        (Ask::Unlink("/a"), "error EROFS"),
+        (Ask::Unlink("/d"), "error EPERM"),
+        (Ask::Link("/a", "/b"), "error EROFS"),
+        (Ask::Link("/a", "/b/"), "error ENOENT"),
+        (Ask::Rename("/a", "/b"), "error EROFS"),
+        (Ask::Rename("/a", "/a"), "ok"),
+        (Ask::Rename("/a", "/b/"), "error ENOTDIR"),
+        (Ask::List("/"), "names 2 a d"),
+        (Ask::Stat("/a"), "info file 2 1 5 0"),
+        (Ask::Close(0), "ok"),
+    ];
+    run_rows(&rt, rt.alloc(), &mut volume, 0, &rows)?;
     Ok(())
 }
 

@@ -13,6 +13,13 @@ IsDeviceFault old new faults.NoRoom = ⊥
 IsDeviceFault old new faults.Device = (new.gone ≡ true) ⊎ (old.honest ≡ false)
 IsDeviceFault old new faults.Worn = ⊥
 
+-- the device is gone
+abbrev pub IsGoneFault : Device → StoreFault → Type 0
+IsGoneFault new faults.NoMemory = ⊥
+IsGoneFault new faults.NoRoom = ⊥
+IsGoneFault new faults.Device = new.gone ≡ true
+IsGoneFault new faults.Worn = ⊥
+
 -- the newest page of the key was read; or the key has none
 abbrev pub NewestRead : Flash → ℕ → ℕ → List ℕ → Bool → Type 0
 NewestRead flash o c page true = HasNewest flash o c page

@@ -3,3 +3,4 @@ pub mod Lending
 pub mod Rooms
 pub mod RoomLaws
 pub mod ChangeLaws
+pub mod OpenLaws

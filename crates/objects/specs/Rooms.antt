@@ -1,5 +1,5 @@
 -- Room for pages, as long as nothing is collected: a block is taken only where all its pages read erased.
-use Rattle.std.specs.Prelude.{◌≡◌, ◌≢◌, ◌⊎◌, ◌<◌, ◌≤◌, ℕ, ◌^◌, true, false, Option, Some, None}
+use Rattle.std.specs.Prelude.{◌≡◌, ◌≢◌, ◌⊎◌, ◌<◌, ◌≤◌, ℕ, ◌^◌, Bool, true, false, Option, Some, None}
 use Rattle.nand_model.specs.Flash.{Flash, Page, Erased}
 use Rattle.nand_model.specs.Calls.{Device}
 use Rattle.nand_model.specs.Changes.{OnlyReads}
@@ -34,12 +34,12 @@ NoRoomFor old new t faults.Device = (new.gone ≡ true) ⊎ (old.failures < new.
 NoRoomFor old new t faults.Worn = ⊥
 
 -- why a change was not made: no block can take its pages, and nothing changed; the device failed, is gone or is not
--- honest; or a number that is needed is above what tags may have, and nothing changed
-abbrev pub WhyNot : Device → Device → Table → ℕ → StoreFault → Type 0
-WhyNot old new t count faults.NoMemory = ⊥
-WhyNot old new t count faults.NoRoom = (room t < count) × OnlyReads old new × (old.honest ≡ true → NoneToTake old.flash t t.geometry.blocks)
-WhyNot old new t count faults.Device = (new.gone ≡ true) ⊎ (old.failures < new.failures) ⊎ (old.honest ≡ false)
-WhyNot old new t count faults.Worn = (new ≡ old) × ((2 ^ 62 ≤ t.next_group) ⊎ (2 ^ 62 ≤ t.next_seq))
+-- honest; or there are no numbers left, and nothing changed
+abbrev pub WhyNot : Device → Device → Bool → Table → ℕ → StoreFault → Type 0
+WhyNot old new writable t count faults.NoMemory = ⊥
+WhyNot old new writable t count faults.NoRoom = (room t < count) × OnlyReads old new × (old.honest ≡ true → NoneToTake old.flash t t.geometry.blocks)
+WhyNot old new writable t count faults.Device = (new.gone ≡ true) ⊎ (old.failures < new.failures) ⊎ (old.honest ≡ false)
+WhyNot old new writable t count faults.Worn = (new ≡ old) × ((writable ≡ false) ⊎ (2 ^ 62 ≤ t.next_group) ⊎ (2 ^ 62 ≤ t.next_seq))
 
 -- the page is erased
 abbrev pub IsErasedPage : Page → Type 0

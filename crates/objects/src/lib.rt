@@ -2,10 +2,15 @@
 #![tactic(auto)]
 
 mod change;
+mod open;
 mod read;
 mod room;
 mod store;
 mod write;
 
 pub use change::Change;
+pub use open::OpenFault;
 pub use store::{Store, StoreFault};
+
+#[cfg(test)]
+mod tests;

@@ -6,7 +6,7 @@ ghost use Rattle.flash_tree.specs.Newest.{HasNewest};
 ghost use Rattle.block_state.specs.TableOf.{table};
 ghost use Rattle.transactions.specs.Ready.{IsReady};
 ghost use Rattle.objects.specs.Changes.{CanApply, KeepsNewest, HasChange};
-ghost use Rattle.objects.specs.Lending.{IsDeviceFault};
+ghost use Rattle.objects.specs.Lending.{IsDeviceFault, IsGoneFault, NewestRead};
 ghost use Rattle.objects.specs.Rooms.{WhyNot};
 
 use crate::change::Change;
@@ -17,7 +17,7 @@ use flash_tree::Key;
 use nand_model::Nand;
 
 /// No group and no block gets a number from here on.
-const LIMIT: u64 = 1 << 62;
+pub(crate) const LIMIT: u64 = 1 << 62;
 
 /// Why a page was not lent, or a change not made.
 #[derive(Clone, Copy, Debug, PartialEq, Eq)]
@@ -37,7 +37,8 @@ pub struct Store<N: Nand> {
     pub(crate) device: N,
     pub(crate) blocks: Blocks,
     pub(crate) scratch: Vec<u8>,
-    ghost ready: { IsReady (N.state device) (table blocks) },
+    pub(crate) writable: bool,
+    ghost ready: { writable ≡ true → IsReady (N.state device) (table blocks) },
     ghost size: { length scratch.items ≡ (N.state device).geometry.bytes },
 }
 
@@ -47,12 +48,28 @@ impl<N: Nand> Store<N> {
         requires there { (N.state self.old.device).honest ≡ true → (bytes : List ℕ) × HasNewest (N.state self.old.device).flash key.object key.chunk bytes }
         ensures reads { OnlyReads (N.state self.old.device) (N.state self.new.device) }
         ensures table { table self.new.blocks ≡ table self.old.blocks }
+        ensures writable { self.new.writable ≡ self.old.writable }
         ensures page { (N.state self.old.device).honest ≡ true → OnOk result (HasNewest (N.state self.old.device).flash key.object key.chunk self.new.scratch.items) }
         ensures fault { IfErr result (IsDeviceFault (N.state self.old.device) (N.state self.new.device)) }
     {
+        if self.find(key)? {
+            Ok(())
+        } else {
+            Err(StoreFault::Device)
+        }
+    }
+
+    /// Reads the newest page of a key into the scratch page, and tells whether it has one.
+    pub fn find(&mut self, key: Key) -> Result<bool, StoreFault>
+        ensures reads { OnlyReads (N.state self.old.device) (N.state self.new.device) }
+        ensures table { table self.new.blocks ≡ table self.old.blocks }
+        ensures writable { self.new.writable ≡ self.old.writable }
+        ensures page { (N.state self.old.device).honest ≡ true
+            → IfOk result (λ found. NewestRead (N.state self.old.device).flash key.object key.chunk self.new.scratch.items found) }
+        ensures fault { IfErr result (IsGoneFault (N.state self.new.device)) }
+    {
         match read_newest(&mut self.device, key, &mut self.scratch) {
-            Ok(true) => Ok(()),
-            Ok(false) => Err(StoreFault::Device),
+            Ok(found) => Ok(found),
             Err(_) => Err(StoreFault::Device),
         }
     }
@@ -70,15 +87,16 @@ impl<N: Nand> Store<N> {
     pub fn apply(&mut self, change: &Change) -> Result<(), StoreFault>
         requires pages { CanApply change.now.pages.items (N.state self.old.device).geometry }
         ensures lasts { Lasts (N.state self.old.device) (N.state self.new.device) }
+        ensures writable { self.new.writable ≡ self.old.writable }
         ensures done { (N.state self.old.device).honest ≡ true
             → OnOk result (HasChange change.now.pages.items (N.state self.old.device).flash (N.state self.new.device).flash) }
         ensures fault { (N.state self.old.device).honest ≡ true
             → OnErr result (KeepsNewest (N.state self.old.device).flash (N.state self.new.device).flash
             ⊎ HasChange change.now.pages.items (N.state self.old.device).flash (N.state self.new.device).flash) }
-        ensures why { IfErr result (WhyNot (N.state self.old.device) (N.state self.new.device) (table self.old.blocks) (length change.now.pages.items)) }
+        ensures why { IfErr result (WhyNot (N.state self.old.device) (N.state self.new.device) self.old.writable (table self.old.blocks) (length change.now.pages.items)) }
         ensures marks { (N.state self.new.device).flash.bad ≡ (N.state self.old.device).flash.bad }
     {
-        if self.blocks.next_group() >= LIMIT || self.blocks.next_seq() >= LIMIT {
+        if !self.writable || self.blocks.next_group() >= LIMIT || self.blocks.next_seq() >= LIMIT {
             return Err(StoreFault::Worn);
         }
         write_change(

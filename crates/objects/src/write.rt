@@ -33,7 +33,7 @@ pub(crate) fn write_change<N: Nand>(
     ensures fault { (N.state device.old).honest ≡ true
         → OnErr result (KeepsNewest (N.state device.old).flash (N.state device.new).flash
         ⊎ HasChange pages.now (N.state device.old).flash (N.state device.new).flash) }
-    ensures why { IfErr result (WhyNot (N.state device.old) (N.state device.new) (table blocks.old) (length pages.now)) }
+    ensures why { IfErr result (WhyNot (N.state device.old) (N.state device.new) true (table blocks.old) (length pages.now)) }
     ensures marks { (N.state device.new).flash.bad ≡ (N.state device.old).flash.bad }
 {
     make_room(device, blocks, pages.len() as u32)?;

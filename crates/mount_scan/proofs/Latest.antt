@@ -1,0 +1,218 @@
+-- The last entry of each key is its newest.
+use Rattle.std.specs.Prelude.{◌≡◌, ◌<◌, ◌≤◌, ℕ, zero, suc, ◌+◌, List, [], ◌∷◌, ◌++◌, Some, length, slice_get, Contains}
+use Rattle.std.specs.List.{AllPairs}
+use Rattle.std.proofs.Common.{refl, sym, ◌∙◌, subst, inl, inr, arith, get_or}
+use Rattle.std.proofs.lemmas.Bool.{cases_eq, cases_lt, cases_order}
+use Rattle.std.proofs.lemmas.Option.{get_or_from_slice_get, slice_get_within, slice_get-get_or}
+use Rattle.std.proofs.lemmas.List.Elements.{Contains-append_left, Contains-push, Contains-push_cases, Contains-get_or}
+use Rattle.std.proofs.lemmas.List.Quantifiers.{all_pairs_push}
+use Rattle.nand_model.specs.Flash.{Flash}
+use Rattle.flash_tree.specs.Groups.{HasTag}
+use Rattle.flash_tree.specs.Newest.{Spot, Holds, IsAfter, IsNewest}
+use Rattle.flash_tree.specs.NewestExists.{one_tag}
+use Rattle.flash_tree.specs.NewestLaws.{one_is_after}
+use Rattle.flash_tree.specs.OrderLaws.{not_after_itself}
+use Rattle.flash_tree.specs.declared.place.Found.{Found}
+use Rattle.flash_tree.specs.Places.{spot_of}
+use Rattle.mount_scan.specs.Scanned.{IsKeyBefore, AreCounted, AreNewest}
+use Rattle.mount_scan.specs.ScanLaws.{found_of, listed_spot, pair_at, not_before_itself}
+use Rattle.mount_scan.specs.Keys.{HaveOneKey, IsSortedBefore, AreSorted, EndsKey, IsLastOfKey, AreLastOfKeys, AreLatest}
+
+-- one place of a list has one entry
+one_entry : (list : List Found) (k : ℕ) (x y : Found) → slice_get list k ≡ Some x → slice_get list k ≡ Some y → x ≡ y
+one_entry list k x y at_x at_y = let two : Some x ≡ Some y = sym at_x ∙ at_y in cc
+
+at_place : (list : List Found) (k l : ℕ) (x : Found) → k ≡ l → slice_get list k ≡ Some x → slice_get list l ≡ Some x
+at_place list k l x same at = subst (λ m. slice_get list m ≡ Some x) same at
+
+-- an entry has a place
+place_of : (list : List Found) (x : Found) → Contains list x → (k : ℕ) × (slice_get list k ≡ Some x)
+place_of list x has = (has.0, subst (λ y. slice_get list has.0 ≡ Some y) has.2 (slice_get-get_or list has.0 x has.1))
+
+has_place : (list : List Found) (k : ℕ) (x : Found) → slice_get list k ≡ Some x → Contains list x
+has_place list k x at = (k, slice_get_within list k x at, get_or_from_slice_get list k x x at)
+
+key_before_on : (x y z : Found) → IsKeyBefore x y → IsSortedBefore y z → IsKeyBefore x z
+key_before_on x y z before then = elim then [
+  | inr same ↦ elim before [ inl lt ↦ inl (omega (arith, lt, same.0.0)) | inr rest ↦ inr (rest.0 ∙ same.0.0, omega (arith, rest.1, same.0.1)) ]
+  | inl after ↦ elim before [
+    | inl lt ↦ elim after [ inl more ↦ inl (omega (arith, lt, more)) | inr rest ↦ inl (omega (arith, lt, rest.0)) ]
+    | inr rest ↦ elim after [ inl more ↦ inl (omega (arith, more, rest.0)) | inr more ↦ inr (rest.0 ∙ more.0, omega (arith, rest.1, more.1)) ]
+  ]
+]
+
+-- behind the last entry of a key are later keys
+later_key : (list : List Found) (k l : ℕ) (x y : Found) → AllPairs IsSortedBefore list → EndsKey list k → k < l → slice_get list k ≡ Some x → slice_get list l ≡ Some y → IsKeyBefore x y
+later_key list k l x y sorted ends lt at_k at_l =
+    let within : l < length list = slice_get_within list l y at_l in
+    let next : Found = get_or list (k + 1) x in
+    let at_next : slice_get list (k + 1) ≡ Some next = slice_get-get_or list (k + 1) x (omega (arith, lt, within)) in
+    let first : IsKeyBefore x next = elim (pair_at IsSortedBefore list k (k + 1) x next sorted (omega arith) at_k at_next) [
+      | inl before ↦ before
+      | inr same ↦ absurd (ends x next at_k at_next same.0)
+    ] in
+    elim (cases_eq (k + 1) l) [
+      | inl here ↦ subst (IsKeyBefore x) (one_entry list l next y (at_place list (k + 1) l next here at_next) at_l) first
+      | inr ne ↦ key_before_on x next y first (pair_at IsSortedBefore list (k + 1) l next y sorted (omega (arith, lt, ne)) at_next at_l)
+    ]
+
+-- the last entry of its key is kept
+pub last_kept : (list : List Found) (i : ℕ) (x : Found) (kept : List Found) → AllPairs IsSortedBefore list → slice_get list i ≡ Some x → EndsKey list i
+    → AreLastOfKeys list i kept → AreLastOfKeys list (i + 1) (kept ++ x ∷ [])
+last_kept list i x kept sorted at ends are = record {
+  each = λ f. (
+    λ has. elim (Contains-push_cases kept x f has) [
+      | inl was ↦ let is = (are.each f).0 was in record { place = is.place; before = omega (arith, is.before); here = is.here; ends = is.ends }
+      | inr same ↦ record { place = i; before = omega arith; here = subst (λ y. slice_get list i ≡ Some y) same at; ends = ends }
+    ],
+    λ is. elim (cases_eq is.place i) [
+      | inr ne ↦ Contains-append_left kept (x ∷ []) f ((are.each f).1 (record { place = is.place; before = omega (arith, is.before, ne); here = is.here; ends = is.ends }))
+      | inl here ↦ subst (Contains (kept ++ x ∷ [])) (one_entry list i x f at (at_place list is.place i f here is.here)) (Contains-push kept x)
+    ],
+  );
+  order = all_pairs_push IsKeyBefore kept x are.order (λ k d lt.
+      let is = (are.each (get_or kept k d)).0 (Contains-get_or kept k d lt) in
+      later_key list is.place i (get_or kept k d) x sorted is.ends is.before is.here at);
+}
+
+-- an entry whose next has the same key is not
+pub last_passed : (list : List Found) (i : ℕ) (kept : List Found) → (EndsKey list i → ⊥) → AreLastOfKeys list i kept → AreLastOfKeys list (i + 1) kept
+last_passed list i kept goes_on are = record {
+  each = λ f. (
+    λ has. let is = (are.each f).0 has in record { place = is.place; before = omega (arith, is.before); here = is.here; ends = is.ends },
+    λ is. elim (cases_eq is.place i) [
+      | inr ne ↦ (are.each f).1 (record { place = is.place; before = omega (arith, is.before, ne); here = is.here; ends = is.ends })
+      | inl here ↦ absurd (goes_on (subst (EndsKey list) here is.ends))
+    ],
+  );
+  order = are.order;
+}
+
+-- at first none is
+pub last_at_start : (list : List Found) → AreLastOfKeys list 0 []
+last_at_start list = record {
+  each = λ f. (λ has. absurd (omega (arith, has.1)), λ is. absurd (omega (arith, is.before)));
+  order = λ i j d lt within. absurd (omega (arith, within));
+}
+
+-- an entry is the last of its key, or the last is found from the next one on
+last_or_next : (list : List Found) (k : ℕ) (x next : Found) → slice_get list k ≡ Some x → slice_get list (k + 1) ≡ Some next
+    → (y : Found) × IsLastOfKey list (length list) y × HaveOneKey y next → (y : Found) × IsLastOfKey list (length list) y × HaveOneKey y x
+last_or_next list k x next at at_next rest = elim (cases_eq x.tag.object next.tag.object) [
+  | inr ne ↦ here (λ one. ne one.0)
+  | inl object ↦ elim (cases_eq x.tag.chunk next.tag.chunk) [
+    | inr ne ↦ here (λ one. ne one.1)
+    | inl chunk ↦ (rest.0, rest.1, (rest.2.0 ∙ sym object, rest.2.1 ∙ sym chunk))
+  ]
+] where
+  here : (HaveOneKey x next → ⊥) → (y : Found) × IsLastOfKey list (length list) y × HaveOneKey y x
+  here other = (
+    x,
+    record {
+      place = k;
+      before = slice_get_within list k x at;
+      here = at;
+      ends = λ f g at_f at_g one. other (subst (λ u. HaveOneKey u next) (one_entry list k f x at_f at) (subst (HaveOneKey f) (one_entry list (k + 1) g next at_g at_next) one));
+    },
+    (refl, refl),
+  )
+
+-- the entry at the end of the list is the last of its key
+last_at_end : (list : List Found) (k : ℕ) (x : Found) → slice_get list k ≡ Some x → length list ≤ k + 1 → (y : Found) × IsLastOfKey list (length list) y × HaveOneKey y x
+last_at_end list k x at past = (
+  x,
+  record {
+    place = k;
+    before = slice_get_within list k x at;
+    here = at;
+    ends = λ f g at_f at_g one. let within : k + 1 < length list = slice_get_within list (k + 1) g at_g in absurd (omega (arith, within, past));
+  },
+  (refl, refl),
+)
+
+-- from each entry on there is the last of its key
+last_from : (list : List Found) (left k : ℕ) (x : Found) → slice_get list k ≡ Some x → length list ≤ k + 1 + left
+    → (y : Found) × IsLastOfKey list (length list) y × HaveOneKey y x
+last_from list zero k x at near = last_at_end list k x at (omega (arith, near))
+last_from list (suc left) k x at near = elim (cases_lt (k + 1) (length list)) [
+  | inr past ↦ last_at_end list k x at past
+  | inl lt ↦
+      let next : Found = get_or list (k + 1) x in
+      let at_next : slice_get list (k + 1) ≡ Some next = slice_get-get_or list (k + 1) x lt in
+      last_or_next list k x next at at_next (last_from list left (k + 1) next at_next (omega (arith, near)))
+]
+
+-- the last entries of the keys of a sorted list are the newest
+pub latest_of : (list sorted kept : List Found) → AreSorted list sorted → AreLastOfKeys sorted (length sorted) kept → AreLatest list kept
+latest_of list sorted kept order are = record {
+  among = λ f has. let is = (are.each f).0 has in (order.each f).0 (has_place sorted is.place f is.here);
+  last = λ f g has_f has_g one after.
+      let is = (are.each f).0 has_f in
+      let at = place_of sorted g ((order.each g).1 has_g) in
+      elim (cases_order at.0 is.place) [
+        | inl same ↦ not_after_itself (spot_of f) (subst (λ x. IsAfter (spot_of x) (spot_of f)) (one_entry sorted is.place g f (at_place sorted at.0 is.place g same at.1) is.here) after)
+        | inr (inl lt) ↦ elim (pair_at IsSortedBefore sorted at.0 is.place g f order.order lt at.1 is.here) [
+          | inl before ↦ not_before_itself g f before one.0 one.1
+          | inr same ↦ same.1 after
+        ]
+        | inr (inr gt) ↦ not_before_itself f g (later_key sorted is.place at.0 f g order.order is.ends gt is.here at.1) (sym one.0) (sym one.1)
+      ];
+  some = λ g has.
+      let at = place_of sorted g ((order.each g).1 has) in
+      let last = last_from sorted (length sorted) at.0 g at.1 (omega arith) in
+      (last.0, (are.each last.0).1 last.1, last.2);
+  order = are.order;
+}
+
+module _ (f : Flash) (counted newest : List Found) (are : AreCounted f counted) (latest : AreLatest counted newest) where
+  counts : (o c : ℕ) (s : Spot) → Holds f o c s → Contains counted (found_of s)
+  counts o c s holds = (listed_spot counted s).0 ((are.each s).0 (record {
+    group = holds.group;
+    whole = holds.whole;
+    index = holds.index;
+    within = holds.within;
+    block = holds.block;
+    page = holds.page;
+    has = holds.has;
+    object = refl;
+    chunk = refl;
+  }))
+
+  kept_is_newest : (x : Found) (o c : ℕ) → Contains newest x → x.tag.object ≡ o → x.tag.chunk ≡ c → IsNewest f o c (spot_of x)
+  kept_is_newest x o c has object chunk =
+      let holds : Holds f x.tag.object x.tag.chunk (spot_of x) = (are.each (spot_of x)).1 ((listed_spot counted (spot_of x)).1 (latest.among x has)) in
+      record {
+        holds = record {
+          group = holds.group;
+          whole = holds.whole;
+          index = holds.index;
+          within = holds.within;
+          block = holds.block;
+          page = holds.page;
+          has = holds.has;
+          object = object;
+          chunk = chunk;
+        };
+        last = λ t other after. latest.last x (found_of t) has (counts o c t other) (other.object ∙ sym object, other.chunk ∙ sym chunk) after;
+      }
+
+  newest_is_kept : (o c : ℕ) (s : Spot) → IsNewest f o c s → Contains newest (found_of s)
+  newest_is_kept o c s is =
+      let some = latest.some (found_of s) (counts o c s is.holds) in
+      let x : Found = some.0 in
+      let kept : IsNewest f o c (spot_of x) = kept_is_newest x o c some.1 (some.2.0 ∙ is.holds.object) (some.2.1 ∙ is.holds.chunk) in
+      let place : (x.block ≡ s.block) × (x.page ≡ s.page) = one_is_after (spot_of x) s (is.last (spot_of x) kept.holds) (kept.last s is.holds) in
+      let tag : x.tag ≡ s.tag = one_tag f s.block s.page x.tag s.tag
+      (subst (λ b. HasTag f b s.page x.tag) place.0 (subst (λ p. HasTag f x.block p x.tag) place.1 kept.holds.has)) is.holds.has in
+      let same : x ≡ found_of s = λ i. record { block = place.0 i; page = place.1 i; tag = tag i } in
+      subst (Contains newest) same some.1
+
+  -- the newest entries of those that count are the newest pages
+  pub newest_pages : AreNewest f newest
+  newest_pages = record {
+    each = λ o c s. (
+      λ is. ((listed_spot newest s).1 (newest_is_kept o c s is), is.holds.object, is.holds.chunk),
+      λ has. kept_is_newest (found_of s) o c ((listed_spot newest s).0 has.0) has.1 has.2,
+    );
+    order = latest.order;
+  }

@@ -1,0 +1,5 @@
+pub mod Entries
+pub mod Tagged
+pub mod Raised
+pub mod Ranked
+pub mod Latest

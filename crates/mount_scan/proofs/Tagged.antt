@@ -1,0 +1,158 @@
+-- From the tags of a block to the flash.
+use Rattle.std.specs.Prelude.{◌≡◌, ◌↔◌, ◌<◌, ◌≤◌, ℕ, ◌+◌, ◌-◌, true, false, List, [], Option, Some, None, length, slice_get, Contains}
+use Rattle.std.proofs.Common.{refl, sym, ◌∙◌, ap, subst, inl, inr, arith, get_or}
+use Rattle.std.proofs.lemmas.Bool.{cases_eq, false≢true}
+use Rattle.std.proofs.lemmas.Option.{slice_get-get_or}
+use Rattle.std.proofs.lemmas.List.Elements.{All-contains, Contains-get_or}
+use Rattle.nand_model.specs.Flash.{Flash, IsWithin}
+use Rattle.page_tags.specs.declared.tag.Tag.{Tag}
+use Rattle.flash_tree.specs.Groups.{HasTag, Group, IsPart, IsGroup}
+use Rattle.flash_tree.specs.Newest.{Holds}
+use Rattle.flash_tree.specs.NewestExists.{one_tag}
+use Rattle.flash_tree.specs.declared.place.Found.{Found}
+use Rattle.flash_tree.specs.Places.{spot_of, group_of, TagIs}
+use Rattle.flash_tree.specs.PlaceLaws.{tag_placed, counts_by_tag}
+use Rattle.mount_scan.specs.Scanned.{AreCounted, ArePlaced}
+use Rattle.mount_scan.specs.ScanLaws.{found_of, listed_spot}
+use Rattle.mount_scan.specs.Runs.{IsPartOf, IsRun, IsCountedIn, AddsCounted}
+use Rattle.mount_scan.specs.Blocks.{AreTags, AreCountedBelow}
+
+module _ (f : Flash) (b pages blocks : ℕ) (tags : List (Option Tag)) (within : IsWithin pages blocks f) (len : length tags ≡ pages) (told : AreTags f b tags) where
+  told_is : (p : ℕ) (t : Tag) (o : Option Tag) → HasTag f b p t → slice_get tags p ≡ Some o → TagIs f b p o → slice_get tags p ≡ Some (Some t)
+  told_is p t None has at is = absurd (is t has)
+  told_is p t (Some u) has at is = at ∙ ap (λ (v : Tag). Some (Some v)) (one_tag f b p u t is has)
+
+  -- a tag on the flash stands in the list
+  pub tag_told : (p : ℕ) (t : Tag) → HasTag f b p t → slice_get tags p ≡ Some (Some t)
+  tag_told p t has =
+      let lt : p < length tags = omega (arith, (tag_placed pages blocks f b p t within has).1, len) in
+      let at : slice_get tags p ≡ Some (get_or tags p None) = slice_get-get_or tags p None lt in
+      told_is p t (get_or tags p None) has at (told p (get_or tags p None) at)
+
+  -- a whole group of the flash is a run in the list
+  group_told : (g : Group) → g.block ≡ b → IsGroup f g → (first : Tag) × (IsRun tags g.start first) × (first.count ≡ g.size)
+  group_told g block whole =
+      let has_at : (i : ℕ) (lt : i < g.size) → slice_get tags (g.start + i) ≡ Some (Some (whole.each i lt).tag) = λ i lt.
+      tag_told (g.start + i) (whole.each i lt).tag (subst (λ k. HasTag f k (g.start + i) (whole.each i lt).tag) block (whole.each i lt).has) in
+      let some : 0 < g.size = omega (arith, whole.some) in
+      let first : IsPart f g 0 = whole.each 0 some in
+      let start : g.start + 0 ≡ g.start = omega arith in (
+        first.tag,
+        record {
+          here = subst (λ p. slice_get tags p ≡ Some (Some first.tag)) start (has_at 0 some);
+          each = λ i lt.
+              let lt_size : i < g.size = omega (arith, lt, first.count) in
+              let part : IsPart f g i = whole.each i lt_size in
+              record {
+                tag = part.tag;
+                there = has_at i lt_size;
+                index = part.index;
+                count = part.count ∙ sym first.count;
+                group = part.group ∙ sym first.group;
+                seq = part.seq ∙ sym first.seq;
+              };
+        },
+        first.count,
+      )
+
+  -- a run in the list is a whole group of the flash
+  run_told : (start : ℕ) (first : Tag) → f.bad b ≡ false → 1 ≤ first.count → IsRun tags start first
+      → IsGroup f (record { block = b; start = start; size = first.count; number = first.group; seq = first.seq })
+  run_told start first good some run = record {
+    good = good;
+    some = some;
+    each = λ i lt.
+        let part : IsPartOf tags start first i = run.each i lt in
+        record { tag = part.tag; has = told (start + i) (Some part.tag) part.there; index = part.index; count = part.count; group = part.group; seq = part.seq };
+  }
+
+  -- what counts in a block is told by its tags
+  pub counted_told : (x : Found) → f.bad b ≡ false → ((x.block ≡ b) × Holds f x.tag.object x.tag.chunk (spot_of x)) ↔ IsCountedIn b tags (length tags) x
+  counted_told x good = (
+    λ holds.
+        let by_tag = (counts_by_tag f x.tag.object x.tag.chunk (spot_of x)).0 holds.1 in
+        let has : HasTag f b x.page x.tag = subst (λ k. HasTag f k x.page x.tag) holds.0 by_tag.has in
+        let run = group_told (group_of (spot_of x)) holds.0 by_tag.whole in
+        record {
+          block = holds.0;
+          before = omega (arith, (tag_placed pages blocks f b x.page x.tag within has).1, len);
+          tag = tag_told x.page x.tag has;
+          start = x.page - x.tag.index;
+          within = record { first = run.0; run = run.1; from = omega arith; to = omega (arith, by_tag.start, run.2, has.valid.index) };
+        },
+    λ is.
+        let run = is.within in (
+          is.block,
+          record {
+            group = record { block = b; start = is.start; size = run.first.count; number = run.first.group; seq = run.first.seq };
+            whole = run_told is.start run.first good (omega (arith, run.from, run.to)) run.run;
+            index = x.page - is.start;
+            within = omega (arith, run.from, run.to);
+            block = is.block;
+            page = omega (arith, run.from);
+            has = subst (λ k. HasTag f k x.page x.tag) (sym is.block) (told x.page (Some x.tag) is.tag);
+            object = refl;
+            chunk = refl;
+          },
+        ),
+  )
+
+  -- with what counts in a block it is the next block's turn
+  pub below_block : (old new : List Found) → f.bad b ≡ false → AddsCounted b tags (length tags) old new → AreCountedBelow f b old → AreCountedBelow f (b + 1) new
+  below_block old new good adds below = record {
+    each = λ x. (
+      λ has. elim ((adds.each x).0 has) [
+        | inl was ↦ let is = (below.each x).0 was in (omega (arith, is.0), is.1)
+        | inr is ↦ let holds = (counted_told x good).1 is in (omega (arith, holds.0), holds.1)
+      ],
+      λ holds. elim (cases_eq x.block b) [
+        | inr ne ↦ (adds.each x).1 (inl ((below.each x).1 (omega (arith, holds.0, ne), holds.1)))
+        | inl here ↦ (adds.each x).1 (inr ((counted_told x good).0 (here, holds.1)))
+      ],
+    );
+    order = adds.order below.order (λ x y was is. inl (omega (arith, ((below.each x).0 was).0, is.block)));
+  }
+
+module _ (f : Flash) where
+  -- a bad block is passed
+  pub below_bad : (b : ℕ) (list : List Found) → f.bad b ≡ true → AreCountedBelow f b list → AreCountedBelow f (b + 1) list
+  below_bad b list bad below = record {
+    each = λ x. (
+      λ has. let is = (below.each x).0 has in (omega (arith, is.0), is.1),
+      λ holds. elim (cases_eq x.block b) [
+        | inr ne ↦ (below.each x).1 (omega (arith, holds.0, ne), holds.1)
+        | inl here ↦ absurd (false≢true (sym holds.1.whole.good ∙ ap f.bad (sym holds.1.block ∙ here) ∙ bad))
+      ],
+    );
+    order = below.order;
+  }
+
+  -- before the first block there is none
+  pub below_none : AreCountedBelow f 0 []
+  below_none = record {
+    each = λ x. (λ has. absurd (omega (arith, has.1)), λ holds. absurd (omega (arith, holds.0)));
+    order = λ i j d lt within. absurd (omega (arith, within));
+  }
+
+  -- below the end of the device are all
+  pub below_all : (pages blocks : ℕ) (list : List Found) → IsWithin pages blocks f → AreCountedBelow f blocks list → AreCounted f list
+  below_all pages blocks list within below = record {
+    each = λ s. (
+      λ holds. (listed_spot list s).1 ((below.each (found_of s)).1 ((tag_placed pages blocks f s.block s.page s.tag within holds.has).0, holds)),
+      λ has. ((below.each (found_of s)).0 ((listed_spot list s).0 has)).1,
+    );
+    order = below.order;
+  }
+
+-- the places of a block that was added
+pub placed_block : (b pages : ℕ) (tags : List (Option Tag)) (old new : List Found) → length tags ≡ pages → AddsCounted b tags (length tags) old new → ArePlaced b pages old
+    → ArePlaced (b + 1) pages new
+placed_block b pages tags old new len adds placed k d lt = elim ((adds.each (get_or new k d)).0 (Contains-get_or new k d lt)) [
+  | inl was ↦ let is = All-contains (λ x. (x.block < b) × (x.page < pages)) old (get_or new k d) placed was in (omega (arith, is.0), is.1)
+  | inr is ↦ (omega (arith, is.block), omega (arith, is.before, len))
+]
+
+-- places among those of another list
+pub placed_among : (blocks pages : ℕ) (list some : List Found) → ((x : Found) → Contains some x → Contains list x) → ArePlaced blocks pages list → ArePlaced blocks pages some
+placed_among blocks pages list some among placed k d lt =
+    All-contains (λ x. (x.block < blocks) × (x.page < pages)) list (get_or some k d) placed (among (get_or some k d) (Contains-get_or some k d lt))

@@ -1,0 +1,5 @@
+use Rattle.mount_scan.specs.ScanLaws.{newest_once}
+use Rattle.mount_scan.proofs.law.each_key_stands_once.Goals as goal
+
+pub returns : goal.returns
+returns c = newest_once

@@ -1,0 +1,44 @@
+-- What is known of a flash whose lower blocks were scanned.
+use Rattle.std.specs.Prelude.{◌≡◌, ◌↔◌, ◌<◌, ◌≤◌, ℕ, false, List, Option, Some, slice_get, Contains}
+use Rattle.std.specs.List.{AllPairs}
+use Rattle.nand_model.specs.Flash.{Flash}
+use Rattle.page_tags.specs.declared.tag.Tag.{Tag}
+use Rattle.flash_tree.specs.Groups.{HasTag}
+use Rattle.flash_tree.specs.Newest.{Holds, Numbers}
+use Rattle.flash_tree.specs.declared.place.Found.{Found}
+use Rattle.flash_tree.specs.Places.{spot_of, TagIs}
+use Rattle.mount_scan.specs.Scanned.{IsPlaceBefore}
+
+-- the tags of the first pages of a block
+abbrev pub AreTags : Flash → ℕ → List (Option Tag) → Type 0
+AreTags flash b tags = (p : ℕ) (told : Option Tag) → slice_get tags p ≡ Some told → TagIs flash b p told
+
+-- exactly the pages of blocks below b that count, in the order of places
+pub record AreCountedBelow (flash : Flash) (b : ℕ) (list : List Found) : Type 0 where
+  pub each : (f : Found) → Contains list f ↔ ((f.block < b) × Holds flash f.tag.object f.tag.chunk (spot_of f))
+  pub order : AllPairs IsPlaceBefore list
+
+-- the numbers of a tag
+abbrev pub numbers_in : Tag → Numbers
+numbers_in t = record { version = t.version; group = t.group; seq = t.seq }
+
+-- no number is above its other
+pub record AreAtMost (m n : Numbers) : Type 0 where
+  pub version : m.version ≤ n.version
+  pub group : m.group ≤ n.group
+  pub seq : m.seq ≤ n.seq
+
+-- the least numbers that are at least these and those of the first p tags
+pub record AreRaisedBy (tags : List (Option Tag)) (p : ℕ) (old new : Numbers) : Type 0 where
+  pub keeps : AreAtMost old new
+  pub above : (l : ℕ) (t : Tag) → l < p → slice_get tags l ≡ Some (Some t) → AreAtMost (numbers_in t) new
+  pub least : (m : Numbers) → AreAtMost old m → ((l : ℕ) (t : Tag) → l < p → slice_get tags l ≡ Some (Some t) → AreAtMost (numbers_in t) m) → AreAtMost new m
+
+-- no valid tag of a good block below b has a number above these
+abbrev pub AreAboveBelow : Flash → ℕ → Numbers → Type 0
+AreAboveBelow flash b n = (k l : ℕ) (t : Tag) → k < b → flash.bad k ≡ false → HasTag flash k l t → AreAtMost (numbers_in t) n
+
+-- the greatest numbers of valid tags of good blocks below b: the least that are above them all
+pub record AreGreatestBelow (flash : Flash) (b : ℕ) (n : Numbers) : Type 0 where
+  pub above : AreAboveBelow flash b n
+  pub least : (m : Numbers) → AreAboveBelow flash b m → AreAtMost n m

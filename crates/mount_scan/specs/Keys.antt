@@ -1,0 +1,46 @@
+-- The entries of one key among others.
+use Rattle.std.specs.Prelude.{◌≡◌, ◌⊎◌, ◌↔◌, ◌<◌, ℕ, ◌+◌, List, Some, slice_get, Contains}
+use Rattle.std.specs.List.{AllPairs}
+use Rattle.flash_tree.specs.Newest.{IsAfter}
+use Rattle.flash_tree.specs.declared.place.Found.{Found}
+use Rattle.flash_tree.specs.Places.{spot_of}
+use Rattle.mount_scan.specs.Scanned.{IsKeyBefore}
+
+-- what entries are sorted by: the key, and then what orders the pages of one key
+abbrev pub rank_of : Found → ℕ × ℕ × ℕ × ℕ × ℕ × ℕ
+rank_of f = (f.tag.object, f.tag.chunk, f.tag.version, f.tag.seq, f.page, f.block)
+
+abbrev pub HaveOneKey : Found → Found → Type 0
+HaveOneKey f g = (f.tag.object ≡ g.tag.object) × (f.tag.chunk ≡ g.tag.chunk)
+
+-- f is sorted before g: by key, and within one key f does not come after g
+abbrev pub IsSortedBefore : Found → Found → Type 0
+IsSortedBefore f g = IsKeyBefore f g ⊎ (HaveOneKey f g × (IsAfter (spot_of f) (spot_of g) → ⊥))
+
+-- the same entries, in that order
+pub record AreSorted (list sorted : List Found) : Type 0 where
+  pub each : (f : Found) → Contains sorted f ↔ Contains list f
+  pub order : AllPairs IsSortedBefore sorted
+
+-- the entry after this place, if any, has another key
+abbrev pub EndsKey : List Found → ℕ → Type 0
+EndsKey list k = (f g : Found) → slice_get list k ≡ Some f → slice_get list (k + 1) ≡ Some g → HaveOneKey f g → ⊥
+
+-- an entry at a place before place p, and the next has another key
+pub record IsLastOfKey (list : List Found) (p : ℕ) (f : Found) : Type 0 where
+  pub place : ℕ
+  pub before : place < p
+  pub here : slice_get list place ≡ Some f
+  pub ends : EndsKey list place
+
+-- of the first p entries those whose next has another key, in the order of keys
+pub record AreLastOfKeys (list : List Found) (p : ℕ) (kept : List Found) : Type 0 where
+  pub each : (f : Found) → Contains kept f ↔ IsLastOfKey list p f
+  pub order : AllPairs IsKeyBefore kept
+
+-- of the entries of each key the one that none comes after, in the order of keys
+pub record AreLatest (list kept : List Found) : Type 0 where
+  pub among : (f : Found) → Contains kept f → Contains list f
+  pub last : (f g : Found) → Contains kept f → Contains list g → HaveOneKey g f → IsAfter (spot_of g) (spot_of f) → ⊥
+  pub some : (g : Found) → Contains list g → (f : Found) × Contains kept f × HaveOneKey f g
+  pub order : AllPairs IsKeyBefore kept

@@ -1,0 +1,14 @@
+// What a scan tells.
+
+use flash_tree::{Found, TagNumbers};
+
+/// What stands on a flash.
+#[derive(Drop)]
+pub struct Scan {
+    /// The pages that count, in the order of blocks and pages.
+    pub counted: Vec<Found>,
+    /// The newest page of each key, in the order of objects and chunks.
+    pub newest: Vec<Found>,
+    /// The greatest numbers of all valid tags of good blocks, of pages that count and of those that don't.
+    pub numbers: TagNumbers,
+}

@@ -1,0 +1,105 @@
+// The whole groups in the tags of a block.
+ghost use Rattle.std.specs.Prelude.{◌≡◌, ◌+◌, ◌<◌, ◌≤◌, ◌↔◌, ℕ, List, Some, IsTrue, IfOk, OnOk, length, slice_get};
+ghost use Rattle.mount_scan.specs.Runs.{IsPartOf, IsRun, IsWithinRun, Reaches, AddsPage, AddsCounted};
+
+use flash_tree::Found;
+use page_tags::Tag;
+use std::alloc::AllocError;
+
+/// Whether page `start + i` is page `i` of the group that a tag names.
+fn is_part(tags: &[Option<Tag>], start: usize, first: &Tag, i: u32) -> bool
+    requires { start < length tags.now }
+    ensures { IsTrue result ↔ IsPartOf tags.now start first.now i }
+{
+    match tags.get(start + i as usize) {
+        Some(Some(tag)) => {
+            tag.index == i
+                && tag.count == first.count
+                && tag.group == first.group
+                && tag.seq == first.seq
+        }
+        Some(None) => false,
+        None => false,
+    }
+}
+
+/// Whether the group that the tag of a page names begins there and is whole.
+fn is_run(tags: &[Option<Tag>], start: usize, first: &Tag) -> bool
+    requires { slice_get tags.now start ≡ Some (Some first.now) }
+    ensures { IsTrue result ↔ IsRun tags.now start first.now }
+{
+    for i in 0..first.count {
+        if !is_part(tags, start, first, i) {
+            return false;
+        }
+    }
+    true
+}
+
+/// The end of the whole group that begins at a page, or 0 where none does.
+fn run_end(tags: &[Option<Tag>], start: usize) -> usize
+    requires { start < length tags.now }
+    ensures { (page : ℕ) → start ≤ page → page < result ↔ IsWithinRun tags.now start page }
+{
+    match tags[start] {
+        Some(first) if is_run(tags, start, &first) => start + first.count as usize,
+        _ => 0,
+    }
+}
+
+/// Adds the entry of a page, if it has a tag.
+fn add_entry(
+    block: u32,
+    tags: &[Option<Tag>],
+    page: usize,
+    counted: &mut Vec<Found>,
+) -> Result<(), AllocError>
+    requires few { length tags.now ≤ 256 }
+    requires page { page < length tags.now }
+    ensures { OnOk result (AddsPage block tags.now page counted.old.items counted.new.items) }
+{
+    if let Some(tag) = tags[page] {
+        let page = page as u32;
+        counted.push(Found { block, page, tag })?;
+    }
+    Ok(())
+}
+
+/// Adds a page if it counts. `end` is how far the whole groups reach that begin before it; the answer is how far those
+/// reach that begin up to it.
+fn add_page(
+    block: u32,
+    tags: &[Option<Tag>],
+    page: usize,
+    end: usize,
+    counted: &mut Vec<Found>,
+) -> Result<usize, AllocError>
+    requires few { length tags.now ≤ 256 }
+    requires page { page < length tags.now }
+    requires reach { Reaches tags.now page page end }
+    ensures reach { IfOk result (Reaches tags.now (page + 1) (page + 1)) }
+    ensures added { OnOk result ((first : List Found) → AddsCounted block tags.now page first counted.old.items
+        → AddsCounted block tags.now (page + 1) first counted.new.items) }
+{
+    let end = end.max(run_end(tags, page));
+    if page < end {
+        add_entry(block, tags, page, counted)?;
+    }
+    Ok(end)
+}
+
+/// Adds the pages of a block that count, from its tags.
+pub(crate) fn add_counted(
+    block: u32,
+    tags: &[Option<Tag>],
+    counted: &mut Vec<Found>,
+) -> Result<(), AllocError>
+    requires { length tags.now ≤ 256 }
+    ensures { OnOk result (AddsCounted block tags.now (length tags.now) counted.old.items counted.new.items) }
+{
+    let mut end = 0;
+    for page in 0..tags.len() {
+        end = add_page(block, tags, page, end, counted)?;
+    }
+    Ok(())
+}

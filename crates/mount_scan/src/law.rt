@@ -1,0 +1,18 @@
+// What follows for a key. A function here does nothing: its clause is the law.
+ghost use Rattle.std.specs.Prelude.{◌≡◌, ◌↔◌, ◌<◌, ℕ, List, Some, slice_get, Contains};
+ghost use Rattle.nand_model.specs.Flash.{Flash};
+ghost use Rattle.flash_tree.specs.Newest.{Spot, IsNewest};
+ghost use Rattle.flash_tree.specs.declared.place.Found.{Found};
+ghost use Rattle.mount_scan.specs.Scanned.{AreNewest};
+
+/// A key has a newest page exactly where the list of the newest pages has an entry of it.
+pub fn an_entry_stands_for_each_key()
+    ensures { (f : Flash) (list : List Found) (o c : ℕ) → AreNewest f list
+        → ((s : Spot) × IsNewest f o c s) ↔ ((x : Found) × Contains list x × (x.tag.object ≡ o) × (x.tag.chunk ≡ c)) }
+{}
+
+/// No key has two entries in the list of the newest pages.
+pub fn each_key_stands_once()
+    ensures { (f : Flash) (list : List Found) (i j : ℕ) (x y : Found) → AreNewest f list → slice_get list i ≡ Some x → slice_get list j ≡ Some y
+        → x.tag.object ≡ y.tag.object → x.tag.chunk ≡ y.tag.chunk → i ≡ j }
+{}

@@ -1,0 +1,16 @@
+//! A scan of a flash: which pages count, which of them is the newest of its key, and the greatest numbers.
+#![tactic(auto)]
+
+mod answer;
+mod block;
+mod fault;
+mod group;
+mod law;
+mod newest;
+mod raise;
+mod whole;
+
+pub use answer::Scan;
+pub use fault::ScanFault;
+pub use law::{an_entry_stands_for_each_key, each_key_stands_once};
+pub use whole::scan;

@@ -1,9 +1,10 @@
 // The flash, and the next page of each of its blocks.
 ghost use Rattle.std.specs.Prelude.{◌≡◌, ◌<◌, ℕ, true, false, Some, IfOk, OnOk};
+ghost use Rattle.nand_model.specs.Flash.{Erased};
 ghost use Rattle.nand_model.specs.MemoryState.{device};
 ghost use Rattle.test_flash.specs.Following.{IsFollowed, HasWritten};
 
-use nand_model::{Geometry, MemNand, Nand};
+use nand_model::{Fate, Geometry, MemNand, Nand};
 use page_tags::Tag;
 use std::alloc::{AllocError, Global};
 
@@ -41,6 +42,31 @@ impl TestFlash {
         let nexts = vec![in alloc; None::<u32>; geometry.blocks() as usize]?;
         let bytes = vec![in alloc; 0u8; geometry.bytes() as usize]?;
         Ok(TestFlash { nand, nexts, bytes })
+    }
+
+    /// The programs and erases of these numbers, counted from the making of the flash, fail with these fates.
+    pub fn with_failures(self, failures: Vec<(u64, Vec<Fate>)>) -> TestFlash
+        ensures { device_of result ≡ device_of self }
+    {
+        let TestFlash { nand, nexts, bytes } = self;
+        let nand = nand.with_failures(failures);
+        TestFlash { nand, nexts, bytes }
+    }
+
+    /// Erases a block.
+    pub fn erase(&mut self, block: u32) -> Result<(), TestFault>
+        ensures geometry { (device_of self.new).geometry ≡ (device_of self.old).geometry }
+        ensures gone { OnOk result ((device_of self.new).gone ≡ false) }
+        ensures erased { OnOk result ((page : ℕ) → (device_of self.new).flash.page block page ≡ Erased) }
+    {
+        if block >= self.nand.geometry().blocks() {
+            return Err(TestFault::NoBlock);
+        }
+        self.nexts[block as usize] = None;
+        match self.nand.erase(block) {
+            Ok(()) => Ok(()),
+            Err(_) => Err(TestFault::Device),
+        }
     }
 
     /// The next page of a block, which is erased where it has none.

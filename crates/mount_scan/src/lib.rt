@@ -14,3 +14,6 @@ pub use answer::Scan;
 pub use fault::ScanFault;
 pub use law::{an_entry_stands_for_each_key, each_key_stands_once};
 pub use whole::scan;
+
+#[cfg(test)]
+mod tests;

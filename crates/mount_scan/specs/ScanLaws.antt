@@ -5,8 +5,9 @@ use Rattle.std.proofs.Common.{sym, ◌∙◌, ap, subst, inl, inr, arith, get_or
 use Rattle.std.proofs.lemmas.Bool.{cases_order}
 use Rattle.std.proofs.lemmas.List.{get_or-map, length-map}
 use Rattle.std.proofs.lemmas.Option.{get_or_from_slice_get, slice_get_within}
-use Rattle.nand_model.specs.Flash.{Flash}
-use Rattle.flash_tree.specs.Newest.{Spot, IsNewest}
+use Rattle.nand_model.specs.Flash.{Flash, Written}
+use Rattle.page_tags.specs.Tags.{tag_bytes}
+use Rattle.flash_tree.specs.Newest.{Spot, IsNewest, HasNewest}
 use Rattle.flash_tree.specs.declared.place.Found.{Found}
 use Rattle.flash_tree.specs.Places.{spot_of}
 use Rattle.mount_scan.specs.Scanned.{IsKeyBefore, AreNewest}
@@ -53,3 +54,11 @@ newest_once f list i j x y are at_i at_j object chunk = elim (cases_order i j) [
   | inr (inl lt) ↦ absurd (not_before_itself x y (pair_at IsKeyBefore list i j x y are.order lt at_i at_j) object chunk)
   | inr (inr gt) ↦ absurd (not_before_itself y x (pair_at IsKeyBefore list j i y x are.order gt at_j at_i) (sym object) (sym chunk))
 ]
+
+-- the newest data of a key are those of its entry's page
+pub newest_data : (f : Flash) (list : List Found) (o c : ℕ) (bytes : List ℕ) → AreNewest f list
+    → HasNewest f o c bytes ↔ ((x : Found) × Contains list x × (x.tag.object ≡ o) × (x.tag.chunk ≡ c) × (f.page x.block x.page ≡ Written bytes (tag_bytes x.tag)))
+newest_data f list o c bytes are = (
+  λ has. let is = (are.each o c has.spot).0 has.newest in (found_of has.spot, (listed_spot list has.spot).0 is.0, is.1, is.2, has.stored),
+  λ (x, has, object, chunk, stored). record { spot = spot_of x; newest = (are.each o c (spot_of x)).1 ((listed_spot list (spot_of x)).1 has, object, chunk); stored = stored },
+)

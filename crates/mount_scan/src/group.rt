@@ -23,7 +23,8 @@ fn is_part(tags: &[Option<Tag>], start: usize, first: &Tag, i: u32) -> bool
     }
 }
 
-/// Whether the group that the tag of a page names begins there and is whole.
+/// Whether the group that the tag of a page names begins there and is whole. It ends at the first page that is no part
+/// of it, so that for all pages of a block together it takes time in proportion to these.
 fn is_run(tags: &[Option<Tag>], start: usize, first: &Tag) -> bool
     requires { slice_get tags.now start ≡ Some (Some first.now) }
     ensures { IsTrue result ↔ IsRun tags.now start first.now }

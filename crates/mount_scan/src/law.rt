@@ -1,7 +1,8 @@
 // What follows for a key. A function here does nothing: its clause is the law.
 ghost use Rattle.std.specs.Prelude.{◌≡◌, ◌↔◌, ◌<◌, ℕ, List, Some, slice_get, Contains};
-ghost use Rattle.nand_model.specs.Flash.{Flash};
-ghost use Rattle.flash_tree.specs.Newest.{Spot, IsNewest};
+ghost use Rattle.nand_model.specs.Flash.{Flash, Written};
+ghost use Rattle.page_tags.specs.Tags.{tag_bytes};
+ghost use Rattle.flash_tree.specs.Newest.{Spot, IsNewest, HasNewest};
 ghost use Rattle.flash_tree.specs.declared.place.Found.{Found};
 ghost use Rattle.mount_scan.specs.Scanned.{AreNewest};
 
@@ -9,6 +10,12 @@ ghost use Rattle.mount_scan.specs.Scanned.{AreNewest};
 pub fn an_entry_stands_for_each_key()
     ensures { (f : Flash) (list : List Found) (o c : ℕ) → AreNewest f list
         → ((s : Spot) × IsNewest f o c s) ↔ ((x : Found) × Contains list x × (x.tag.object ≡ o) × (x.tag.chunk ≡ c)) }
+{}
+
+/// The newest data of a key are those of the page of its entry.
+pub fn an_entry_leads_to_the_newest_data()
+    ensures { (f : Flash) (list : List Found) (o c : ℕ) (bytes : List ℕ) → AreNewest f list
+        → HasNewest f o c bytes ↔ ((x : Found) × Contains list x × (x.tag.object ≡ o) × (x.tag.chunk ≡ c) × (f.page x.block x.page ≡ Written bytes (tag_bytes x.tag))) }
 {}
 
 /// No key has two entries in the list of the newest pages.

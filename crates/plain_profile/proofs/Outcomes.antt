@@ -12,15 +12,15 @@ use Rattle.posix_profile.specs.declared.reply.Errno.{Errno}
 use Rattle.posix_profile.specs.declared.reply.Errno.TheVariants as errors
 use Rattle.posix_profile.specs.declared.reply.Reply.{Reply}
 use Rattle.plain_profile.specs.declared.outcome.PlainOutcome.{PlainOutcome}
-use Rattle.plain_profile.specs.declared.outcome.Refusal.{Refusal}
-use Rattle.plain_profile.specs.declared.outcome.Refusal.TheVariants as refusals
+use Rattle.plain_state.specs.declared.refusal.Refusal.{Refusal}
+use Rattle.plain_state.specs.declared.refusal.Refusal.TheVariants as refusals
 use Rattle.std.specs.Global.{Vec}
 use Rattle.std.specs.BTreeMap.{BTreeMap}
-use Rattle.plain_profile.specs.declared.object.PlainObject.{PlainObject}
-use Rattle.plain_profile.specs.declared.object.PlainObject.TheVariants as plain
-use Rattle.plain_profile.specs.PlainState.{object_of}
+use Rattle.plain_state.specs.declared.object.PlainObject.{PlainObject}
+use Rattle.plain_state.specs.declared.object.PlainObject.TheVariants as plain
+use Rattle.plain_state.specs.PlainState.{object_of}
 use Rattle.plain_profile.specs.Meaning.{Gives}
-use Rattle.plain_profile.specs.Places.{Leads}
+use Rattle.plain_state.specs.Places.{Leads}
 
 pub change_fits : (z : Sizes) (s new : State) (reply : Reply) → fits z new.objects ≡ true → answer new reply ≡ change_to z s new reply
 unfolding change_to

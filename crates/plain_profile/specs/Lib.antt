@@ -1,3 +1,2 @@
-pub mod PlainState
+pub mod VolumeState
 pub mod Meaning
-pub mod Places

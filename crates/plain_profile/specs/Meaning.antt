@@ -5,9 +5,9 @@ use Rattle.posix_profile.specs.Outcomes.{Outcome, refuse}
 use Rattle.plain_profile.specs.declared.outcome.Change.{Change}
 use Rattle.plain_profile.specs.declared.outcome.Change.TheVariants as changes
 use Rattle.plain_profile.specs.declared.outcome.PlainOutcome.{PlainOutcome}
-use Rattle.plain_profile.specs.declared.outcome.Refusal.{Refusal}
-use Rattle.plain_profile.specs.declared.outcome.Refusal.TheVariants as refusals
-use Rattle.plain_profile.specs.PlainState.{objects_in, handles_in}
+use Rattle.plain_state.specs.declared.refusal.Refusal.{Refusal}
+use Rattle.plain_state.specs.declared.refusal.Refusal.TheVariants as refusals
+use Rattle.plain_state.specs.PlainState.{objects_in, handles_in}
 
 -- the state after a change
 abbrev pub changed : State → Change → State

@@ -6,14 +6,16 @@ ghost use Rattle.posix_profile.specs.Names.{prune};
 ghost use Rattle.posix_profile.specs.Outcomes.{answer, unless};
 ghost use Rattle.posix_profile.specs.Changes.{with_offset};
 ghost use Rattle.posix_profile.specs.HandleSteps.{at_file, may_read, may_write, close_step, read_step, fsync_step};
-ghost use Rattle.plain_profile.specs.PlainState.{state_of, object_of, handle_of, handles_in};
+ghost use Rattle.plain_state.specs.PlainState.{object_of, handle_of, handles_in};
+ghost use Rattle.plain_profile.specs.VolumeState.{state_of};
 ghost use Rattle.plain_profile.specs.Meaning.{Gives};
 
-use crate::object::{HandleMap, PlainHandle, PlainObject};
-use crate::outcome::{Change, PlainOutcome, Refusal, answer};
-use crate::prune::pruned;
-use crate::table::{object_at, with_handle, without_handle};
+use crate::outcome::{Change, PlainOutcome, answer};
 use crate::volume::PlainVolume;
+use plain_state::object::{HandleMap, PlainHandle, PlainObject};
+use plain_state::prune::pruned;
+use plain_state::refusal::Refusal;
+use plain_state::table::{object_at, with_handle, without_handle};
 use posix_profile::{Access, Bytes, Errno, Reply};
 
 /// Whether a descriptor of this access may not read.

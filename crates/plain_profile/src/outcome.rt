@@ -1,15 +1,15 @@
 // How a command of the plain volume ends.
 ghost use Rattle.std.specs.Prelude.{◌≡◌};
-ghost use Rattle.plain_profile.specs.declared.outcome.Refusal.TheVariants.{Memory, Refused};
 ghost use Rattle.posix_profile.specs.Outcomes.{change_to};
-ghost use Rattle.plain_profile.specs.PlainState.{state_of, objects_in, handles_in, sizes_of};
+ghost use Rattle.plain_state.specs.PlainState.{objects_in, handles_in, sizes_of};
+ghost use Rattle.plain_profile.specs.VolumeState.{state_of};
 ghost use Rattle.plain_profile.specs.Meaning.{Gives};
 
-use crate::charge::fits;
-use crate::object::{HandleMap, ObjectMap};
 use crate::volume::PlainVolume;
+use plain_state::charge::fits;
+use plain_state::object::{HandleMap, ObjectMap};
+use plain_state::refusal::Refusal;
 use posix_profile::{Errno, Reply};
-use std::alloc::{AllocError, AllocFailed};
 
 /// What a command changes, as a whole.
 #[derive(Drop)]
@@ -25,37 +25,6 @@ pub(crate) enum Change {
 pub(crate) struct PlainOutcome {
     pub reply: Reply,
     pub change: Change,
-}
-
-/// Why a command changes nothing: memory was refused, or the reply is an error.
-#[derive(Clone, Copy, Drop)]
-pub(crate) enum Refusal {
-    Memory,
-    Refused(Errno),
-}
-
-impl From<AllocError> for Refusal {
-    ghost from_gives = { λ _ e. e ≡ Memory };
-
-    fn from(_error: AllocError) -> Refusal {
-        Refusal::Memory
-    }
-}
-
-impl<T: Drop> From<AllocFailed<T>> for Refusal {
-    ghost from_gives = { λ _ e. e ≡ Memory };
-
-    fn from(_error: AllocFailed<T>) -> Refusal {
-        Refusal::Memory
-    }
-}
-
-impl From<Errno> for Refusal {
-    ghost from_gives = { λ error e. e ≡ Refused error };
-
-    fn from(error: Errno) -> Refusal {
-        Refusal::Refused(error)
-    }
 }
 
 /// A reply that leaves the volume.

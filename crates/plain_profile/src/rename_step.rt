@@ -6,18 +6,20 @@ ghost use Rattle.posix_profile.specs.NameSteps.{at_object, is_below, is_object, 
 ghost use Rattle.posix_profile.specs.Outcomes.{unless, change_to};
 ghost use Rattle.posix_profile.specs.Paths.{is_dot, is_dot_dot, first_error};
 ghost use Rattle.posix_profile.specs.State.{is_directory};
-ghost use Rattle.plain_profile.specs.Places.{place_of};
-ghost use Rattle.plain_profile.specs.PlainState.{state_of, sizes_of};
+ghost use Rattle.plain_state.specs.Places.{place_of};
+ghost use Rattle.plain_state.specs.PlainState.{sizes_of};
+ghost use Rattle.plain_profile.specs.VolumeState.{state_of};
 ghost use Rattle.plain_profile.specs.Meaning.{Gives};
 
-use crate::change::{put_name, remove_name};
-use crate::links::{has_entries_at, is_below, is_directory_at, is_file_at};
 use crate::name_steps::{ends_in_dot, ends_in_dot_dot, is_only_slashes, last_name};
-use crate::outcome::{PlainOutcome, Refusal, answer, change_objects};
-use crate::path::{PlainPlace, resolve};
-use crate::prune::pruned;
-use crate::table::copy_objects;
+use crate::outcome::{PlainOutcome, answer, change_objects};
 use crate::volume::PlainVolume;
+use plain_state::change::{put_name, remove_name};
+use plain_state::links::{has_entries_at, is_below, is_directory_at, is_file_at};
+use plain_state::path::{PlainPlace, resolve};
+use plain_state::prune::pruned;
+use plain_state::refusal::Refusal;
+use plain_state::table::copy_objects;
 use posix_profile::{Errno, Reply};
 
 /// Whether the object at the place is this one.

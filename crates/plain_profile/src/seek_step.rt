@@ -2,14 +2,16 @@
 ghost use Rattle.std.specs.Prelude.{◌≡◌, Some, length, pos, ◌+ℤ◌};
 ghost use Rattle.std.specs.FinMap as map;
 ghost use Rattle.posix_profile.specs.HandleSteps.{at_file, seek_origin, seek_to, seek_step};
-ghost use Rattle.plain_profile.specs.PlainState.{state_of, object_of, handle_of};
+ghost use Rattle.plain_state.specs.PlainState.{object_of, handle_of};
+ghost use Rattle.plain_profile.specs.VolumeState.{state_of};
 ghost use Rattle.plain_profile.specs.Meaning.{Gives};
 
 use crate::handle_steps::handle_at;
-use crate::object::{PlainHandle, PlainObject};
-use crate::outcome::{Change, PlainOutcome, Refusal};
-use crate::table::{object_at, with_handle};
+use crate::outcome::{Change, PlainOutcome};
 use crate::volume::PlainVolume;
+use plain_state::object::{PlainHandle, PlainObject};
+use plain_state::refusal::Refusal;
+use plain_state::table::{object_at, with_handle};
 use posix_profile::{Errno, Reply, Whence};
 
 /// The greatest offset.

@@ -1,6 +1,7 @@
 // Worked rows: what is asked, and what is told.
-use crate::charge::fits;
-use crate::{PlainSizes, PlainVolume};
+use crate::PlainVolume;
+use plain_state::charge::fits;
+use plain_state::sizes::PlainSizes;
 use posix_profile::{Access, Bytes, Command, FilePath, Kind, OpenFlags, Reply, Stamped, Whence};
 use std::alloc::{AllocError, Global};
 use std::process::Abort;

@@ -4,15 +4,17 @@ ghost use Rattle.std.specs.FinMap as map;
 ghost use Rattle.posix_profile.specs.Outcomes.{unless, change_to};
 ghost use Rattle.posix_profile.specs.Changes.{with_bytes, resized};
 ghost use Rattle.posix_profile.specs.HandleSteps.{at_file, may_write, truncate_to, truncate_step};
-ghost use Rattle.plain_profile.specs.PlainState.{state_of, sizes_of, object_of, handle_of};
+ghost use Rattle.plain_state.specs.PlainState.{sizes_of, object_of, handle_of};
+ghost use Rattle.plain_profile.specs.VolumeState.{state_of};
 ghost use Rattle.plain_profile.specs.Meaning.{Gives};
 
-use crate::change::resized;
 use crate::handle_steps::{handle_at, may_write};
-use crate::object::{PlainHandle, PlainObject};
-use crate::outcome::{PlainOutcome, Refusal, change_objects};
-use crate::table::{copy_objects, object_at, put_object};
+use crate::outcome::{PlainOutcome, change_objects};
 use crate::volume::PlainVolume;
+use plain_state::change::resized;
+use plain_state::object::{PlainHandle, PlainObject};
+use plain_state::refusal::Refusal;
+use plain_state::table::{copy_objects, object_at, put_object};
 use posix_profile::{Errno, Reply};
 
 /// Truncate of a file.

@@ -3,18 +3,19 @@ ghost use Rattle.std.specs.Prelude.{◌≡◌, FitsSigned};
 ghost use Rattle.std.specs.Int.{w64};
 
 use crate::handle_steps::{close, fsync, read};
-use crate::links::ROOT;
 use crate::name_steps::{link, list, mkdir, rmdir, space, stat, unlink};
-use crate::object::{HandleMap, ObjectMap, PlainObject};
 use crate::open_step::open;
-use crate::outcome::{Change, PlainOutcome, Refusal, answer};
-use crate::prune::pruned;
+use crate::outcome::{Change, PlainOutcome, answer};
 use crate::rename_step::rename;
 use crate::seek_step::seek;
-use crate::sizes::PlainSizes;
-use crate::table::{copy_handles, copy_objects, put_object};
 use crate::truncate_step::truncate;
 use crate::write_step::write;
+use plain_state::links::ROOT;
+use plain_state::object::{HandleMap, ObjectMap, PlainObject};
+use plain_state::prune::pruned;
+use plain_state::refusal::Refusal;
+use plain_state::sizes::PlainSizes;
+use plain_state::table::{copy_handles, copy_objects, put_object};
 use posix_profile::{Command, Reply, Stamped};
 use std::alloc::{AllocError, Global};
 use std::collections::BTreeMap;
@@ -45,7 +46,8 @@ impl PlainVolume {
     ghost use Rattle.posix_profile.specs.State.{Dir};
     ghost use Rattle.posix_profile.specs.Names.{settle};
     ghost use Rattle.posix_profile.specs.Steps.{step_at, step};
-    ghost use Rattle.plain_profile.specs.PlainState.{state_of, sizes_of};
+    ghost use Rattle.plain_state.specs.PlainState.{sizes_of};
+    ghost use Rattle.plain_profile.specs.VolumeState.{state_of};
     ghost use Rattle.plain_profile.specs.Meaning.{Gives, changed};
 
     /// A volume of an empty root, at moment 0.

@@ -6,16 +6,18 @@ ghost use Rattle.posix_profile.specs.Charge.{fits};
 ghost use Rattle.posix_profile.specs.Outcomes.{answer, unless};
 ghost use Rattle.posix_profile.specs.Changes.{with_bytes, with_offset, written};
 ghost use Rattle.posix_profile.specs.HandleSteps.{at_file, may_write, write_offset, write_count, write_file, write_bytes, write_step};
-ghost use Rattle.plain_profile.specs.PlainState.{state_of, sizes_of, object_of, handle_of};
+ghost use Rattle.plain_state.specs.PlainState.{sizes_of, object_of, handle_of};
+ghost use Rattle.plain_profile.specs.VolumeState.{state_of};
 ghost use Rattle.plain_profile.specs.Meaning.{Gives};
 
-use crate::change::written;
-use crate::charge::charge;
 use crate::handle_steps::{handle_at, may_write};
-use crate::object::{PlainHandle, PlainObject};
-use crate::outcome::{Change, PlainOutcome, Refusal, answer};
-use crate::table::{copy_objects, object_at, put_object, with_handle};
+use crate::outcome::{Change, PlainOutcome, answer};
 use crate::volume::PlainVolume;
+use plain_state::change::written;
+use plain_state::charge::charge;
+use plain_state::object::{PlainHandle, PlainObject};
+use plain_state::refusal::Refusal;
+use plain_state::table::{copy_objects, object_at, put_object, with_handle};
 use posix_profile::{Errno, Reply};
 
 /// Where a write begins: with append at the end of the file.

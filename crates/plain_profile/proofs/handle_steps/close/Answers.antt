@@ -1,4 +1,4 @@
-use Rattle.plain_profile.specs.PlainState.{state_of}
+use Rattle.plain_profile.specs.VolumeState.{state_of}
 use Rattle.plain_profile.proofs.Outcomes.{gives_same, no_handle, this_handle}
 use Rattle.plain_profile.proofs.handle_steps.close.Goals as goal
 

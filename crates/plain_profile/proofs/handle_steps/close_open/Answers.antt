@@ -3,7 +3,7 @@ use Rattle.posix_profile.specs.State.{Objects, Handles}
 use Rattle.posix_profile.specs.Names.{prune}
 use Rattle.posix_profile.specs.Outcomes.{answer}
 use Rattle.posix_profile.specs.declared.reply.Reply.TheVariants as replies
-use Rattle.plain_profile.specs.PlainState.{objects_in, handles_in}
+use Rattle.plain_state.specs.PlainState.{objects_in, handles_in}
 use Rattle.plain_profile.proofs.handle_steps.close_open.Goals as goal
 
 pub returns : goal.returns

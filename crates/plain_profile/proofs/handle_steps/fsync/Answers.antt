@@ -1,5 +1,5 @@
 use Rattle.std.proofs.Common.{◌∙◌, ap}
-use Rattle.plain_profile.specs.PlainState.{state_of}
+use Rattle.plain_profile.specs.VolumeState.{state_of}
 use Rattle.plain_profile.specs.Meaning.{outcome_of}
 use Rattle.plain_profile.proofs.Outcomes.{no_handle, this_handle}
 use Rattle.plain_profile.proofs.handle_steps.fsync.Goals as goal

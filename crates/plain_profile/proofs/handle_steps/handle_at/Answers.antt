@@ -1,7 +1,7 @@
 use Rattle.std.proofs.Common.{◌∙◌, sym, ap}
 use Rattle.std.specs.Option.{option_map}
-use Rattle.plain_profile.specs.PlainState.{handle_of}
-use Rattle.plain_profile.proofs.Views.{get_handle}
+use Rattle.plain_state.specs.PlainState.{handle_of}
+use Rattle.plain_state.specs.Views.{get_handle}
 use Rattle.plain_profile.proofs.handle_steps.handle_at.Goals as goal
 
 pub returns : goal.returns

@@ -4,7 +4,7 @@ use Rattle.posix_profile.specs.Names.{prune}
 use Rattle.posix_profile.specs.Changes.{without_name}
 use Rattle.posix_profile.specs.Outcomes.{answer}
 use Rattle.posix_profile.specs.declared.reply.Reply.TheVariants as replies
-use Rattle.plain_profile.specs.PlainState.{objects_in, handles_in}
+use Rattle.plain_state.specs.PlainState.{objects_in, handles_in}
 use Rattle.plain_profile.proofs.name_steps.remove_at.Goals as goal
 
 pub returns : goal.returns

@@ -1,7 +1,7 @@
 use Rattle.std.proofs.Common.{◌∙◌, sym}
 use Rattle.std.proofs.lemmas.Result.{err_from_is_err_and}
-use Rattle.plain_profile.specs.PlainState.{state_of}
-use Rattle.plain_profile.specs.Places.{place_of}
+use Rattle.plain_profile.specs.VolumeState.{state_of}
+use Rattle.plain_state.specs.Places.{place_of}
 use Rattle.plain_profile.proofs.Outcomes.{gives_err, gives_same, no_place, this_place, refused, passed, passed_all}
 use Rattle.plain_profile.proofs.name_steps.rmdir.Goals as goal
 

@@ -1,4 +1,4 @@
-use Rattle.plain_profile.specs.PlainState.{state_of}
+use Rattle.plain_profile.specs.VolumeState.{state_of}
 use Rattle.plain_profile.proofs.Outcomes.{gives_same, no_object, this_object}
 use Rattle.plain_profile.proofs.name_steps.rmdir_at.Goals as goal
 

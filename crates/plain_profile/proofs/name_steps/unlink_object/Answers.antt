@@ -1,5 +1,5 @@
 use Rattle.std.proofs.Common.{◌∙◌, sym}
-use Rattle.plain_profile.specs.PlainState.{state_of}
+use Rattle.plain_profile.specs.VolumeState.{state_of}
 use Rattle.plain_profile.proofs.Outcomes.{gives_same, refused, passed, passed_all}
 use Rattle.plain_profile.proofs.name_steps.unlink_object.Goals as goal
 

@@ -1,5 +1,5 @@
 use Rattle.std.proofs.Common.{◌∙◌}
-use Rattle.plain_profile.specs.PlainState.{state_of}
+use Rattle.plain_profile.specs.VolumeState.{state_of}
 use Rattle.plain_profile.proofs.Outcomes.{gives_same, refused, passed, passed_all}
 use Rattle.plain_profile.proofs.open_step.open_absent.Goals as goal
 

@@ -1,4 +1,4 @@
-use Rattle.plain_profile.specs.PlainState.{state_of}
+use Rattle.plain_profile.specs.VolumeState.{state_of}
 use Rattle.plain_profile.proofs.Outcomes.{gives_same, no_descriptor, this_descriptor}
 use Rattle.plain_profile.proofs.open_step.open_found_free.Goals as goal
 

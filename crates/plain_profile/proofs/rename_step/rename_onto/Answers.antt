@@ -1,6 +1,6 @@
 use Rattle.std.proofs.lemmas.Result.{err_from_is_err_and}
-use Rattle.plain_profile.specs.declared.outcome.Refusal.TheVariants.{Refused}
-use Rattle.plain_profile.specs.PlainState.{state_of}
+use Rattle.plain_state.specs.declared.refusal.Refusal.TheVariants.{Refused}
+use Rattle.plain_profile.specs.VolumeState.{state_of}
 use Rattle.plain_profile.proofs.Outcomes.{gives_err, gives_same, first_refused, none_refused}
 use Rattle.plain_profile.proofs.rename_step.rename_onto.Goals as goal
 

@@ -4,8 +4,9 @@ use Rattle.posix_profile.specs.Outcomes.{answer, change_to, unless}
 use Rattle.posix_profile.specs.NameSteps.{name_moved, rename_tests_onto}
 use Rattle.posix_profile.specs.declared.reply.Errno.TheVariants as errors
 use Rattle.posix_profile.specs.declared.reply.Reply.TheVariants as replies
-use Rattle.plain_profile.specs.PlainState.{state_of, sizes_of}
-use Rattle.plain_profile.specs.Places.{place_of}
+use Rattle.plain_state.specs.PlainState.{sizes_of}
+use Rattle.plain_profile.specs.VolumeState.{state_of}
+use Rattle.plain_state.specs.Places.{place_of}
 use Rattle.plain_profile.specs.Meaning.{outcome_of}
 use Rattle.plain_profile.proofs.Outcomes.{gives_same, refused, passed, passed_all, then_is, else_is}
 use Rattle.plain_profile.proofs.rename_step.rename_to.Goals as goal

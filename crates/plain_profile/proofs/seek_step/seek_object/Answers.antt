@@ -3,7 +3,8 @@ use Rattle.std.proofs.lemmas.Int.{to_z-of_z}
 use Rattle.posix_profile.specs.Outcomes.{Outcome}
 use Rattle.posix_profile.specs.HandleSteps.{seek_origin, seek_to}
 use Rattle.posix_profile.specs.declared.reply.Errno.TheVariants as errors
-use Rattle.plain_profile.specs.PlainState.{state_of, handle_of}
+use Rattle.plain_state.specs.PlainState.{handle_of}
+use Rattle.plain_profile.specs.VolumeState.{state_of}
 use Rattle.plain_profile.proofs.Outcomes.{gives_same, this_file, no_file}
 use Rattle.plain_profile.proofs.seek_step.seek_object.Goals as goal
 

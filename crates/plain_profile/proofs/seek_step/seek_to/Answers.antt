@@ -3,7 +3,7 @@ use Rattle.std.proofs.lemmas.Bool.{lt-ltb}
 use Rattle.posix_profile.specs.State.{Handles}
 use Rattle.posix_profile.specs.Outcomes.{answer}
 use Rattle.posix_profile.specs.declared.reply.Reply.TheVariants as replies
-use Rattle.plain_profile.specs.PlainState.{state_of}
+use Rattle.plain_profile.specs.VolumeState.{state_of}
 use Rattle.plain_profile.proofs.Outcomes.{refused, passed, passed_all}
 use Rattle.plain_profile.proofs.seek_step.seek_to.Goals as goal
 

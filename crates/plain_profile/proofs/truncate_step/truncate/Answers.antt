@@ -1,4 +1,4 @@
-use Rattle.plain_profile.specs.PlainState.{state_of}
+use Rattle.plain_profile.specs.VolumeState.{state_of}
 use Rattle.std.proofs.Common.{w64}
 use Rattle.std.proofs.lemmas.Int.{to_z-of_z}
 use Rattle.plain_profile.proofs.Outcomes.{gives_same, no_handle, this_handle}

@@ -1,5 +1,5 @@
 use Rattle.posix_profile.specs.declared.reply.Errno.TheVariants as errors
-use Rattle.plain_profile.specs.PlainState.{state_of}
+use Rattle.plain_profile.specs.VolumeState.{state_of}
 use Rattle.plain_profile.proofs.Outcomes.{gives_same, no_bytes, some_bytes}
 use Rattle.plain_profile.proofs.truncate_step.truncate_at.Goals as goal
 

@@ -4,8 +4,9 @@ use Rattle.posix_profile.specs.Sizes.{capacity, most_written, greatest_length}
 use Rattle.posix_profile.specs.Charge.{charge, ceiling}
 use Rattle.posix_profile.specs.HandleSteps.{write_offset}
 use Rattle.posix_profile.specs.WriteLaws.{units_for, write_count_is}
-use Rattle.plain_profile.specs.PlainState.{state_of, sizes_of, handle_of}
-use Rattle.plain_profile.proofs.Views.{ceiling_at}
+use Rattle.plain_state.specs.PlainState.{sizes_of, handle_of}
+use Rattle.plain_profile.specs.VolumeState.{state_of}
+use Rattle.plain_state.specs.Views.{ceiling_at}
 use Rattle.plain_profile.proofs.write_step.write_count.Goals as goal
 
 min_of_three : (a b n : ℕ) → min (min a b) n ≡ min a (min b n)

@@ -5,7 +5,8 @@ use Rattle.posix_profile.specs.Outcomes.{Outcome, answer}
 use Rattle.posix_profile.specs.Changes.{with_bytes, with_offset, written}
 use Rattle.posix_profile.specs.HandleSteps.{write_offset}
 use Rattle.posix_profile.specs.declared.reply.Reply.TheVariants as replies
-use Rattle.plain_profile.specs.PlainState.{state_of, sizes_of, handle_of}
+use Rattle.plain_state.specs.PlainState.{sizes_of, handle_of}
+use Rattle.plain_profile.specs.VolumeState.{state_of}
 use Rattle.plain_profile.proofs.Outcomes.{gives_same, refused, passed, passed_all}
 use Rattle.plain_profile.proofs.write_step.write_file.Goals as goal
 

@@ -1,5 +1,5 @@
 use Rattle.std.proofs.Common.{◌∙◌, sym, ap, not}
-use Rattle.plain_profile.specs.PlainState.{state_of}
+use Rattle.plain_profile.specs.VolumeState.{state_of}
 use Rattle.plain_profile.proofs.Outcomes.{gives_same, refused, passed, passed_all}
 use Rattle.plain_profile.proofs.write_step.write_open.Goals as goal
 

@@ -1,0 +1,13 @@
+use Rattle.std.proofs.Common.{◌≡◌, ◌∙◌, sym, ap, Some}
+use Rattle.std.proofs.lemmas.Result.{IfOk-weaker}
+use Rattle.posix_profile.specs.State.{entries_of}
+use Rattle.plain_state.specs.PlainState.{object_of, entries_in}
+use Rattle.plain_state.specs.Views.{empty_entries}
+use Rattle.plain_state.proofs.change.entries_of.Goals as goal
+
+pub returns-in-File : goal.returns-in-File
+returns-in-File c = empty_entries c.new.result c.new.ensures.empty ∙ ap (λ x. entries_of (Some (object_of x))) (sym c.in-File.is)
+
+pub returns-in-Directory : goal.returns-in-Directory
+returns-in-Directory c = IfOk-weaker c.copy_entries.result _ (λ entries. entries_in entries ≡ entries_of (Some (object_of c.args.object.now)))
+    (λ e h. h ∙ ap (λ x. entries_of (Some (object_of x))) (sym c.in-Directory.is)) c.copy_entries.ensures

@@ -1,0 +1,15 @@
+use Rattle.std.proofs.Common.{◌∙◌, ◌+◌, ◌<◌, sym, ap, arith}
+use Rattle.posix_profile.specs.Sizes.{page_slots}
+use Rattle.posix_profile.specs.Charge.{cost}
+use Rattle.plain_state.specs.PlainState.{object_of, entries_in, sizes_of}
+use Rattle.std.specs.FinMap as map
+use Rattle.plain_state.specs.Views.{len_entries, ceiling_at}
+use Rattle.plain_state.proofs.charge.cost.Goals as goal
+
+pub returns-in-Directory : goal.returns-in-Directory
+returns-in-Directory c =
+    let many = c.len-in-Directory.ensures.len ∙ sym (len_entries c.in-Directory.entries c.len-in-Directory.ensures.ordered) in
+    let some : 0 < page_slots (sizes_of c.args.sizes) = omega (arith, c.args.sizes.least_page) in
+    ap (λ n. 1 + n) (ceiling_at c.div_ceil-in-Directory.result c.len-in-Directory.result (map.len (entries_in c.in-Directory.entries)) c.page_slots.result (page_slots (sizes_of c.args.sizes))
+    c.div_ceil-in-Directory.ensures many c.page_slots.ensures some)
+    ∙ ap (λ x. cost (sizes_of c.args.sizes) (object_of x)) (sym c.in-Directory.is)

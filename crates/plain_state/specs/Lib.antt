@@ -1,0 +1,4 @@
+pub mod PlainState
+pub mod Places
+pub mod Seen
+pub mod Views

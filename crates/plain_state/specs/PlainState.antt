@@ -1,0 +1,36 @@
+-- What the maps and vectors of a plain volume stand for.
+use Rattle.std.specs.Prelude.{ℕ, map as list_map}
+use Rattle.std.specs.FinMap as map
+use Rattle.std.specs.BTreeMap.{BTreeMap}
+use Rattle.std.specs.Global.{Vec}
+use Rattle.posix_profile.specs.Sizes.{Sizes}
+use Rattle.posix_profile.specs.State.{Object, File, Dir, Entries, Objects, Handle, Handles}
+use Rattle.plain_state.specs.declared.object.PlainObject.{PlainObject}
+use Rattle.plain_state.specs.declared.object.PlainObject.TheVariants as plain
+use Rattle.plain_state.specs.declared.object.PlainHandle.{PlainHandle}
+use Rattle.plain_state.specs.declared.sizes.PlainSizes.{PlainSizes}
+
+-- the entries by their names
+abbrev pub entries_in : BTreeMap (Vec ℕ) ℕ → Entries
+entries_in m = map.from_entries (list_map (λ e. (e.0.items, e.1)) m.entries)
+
+-- a file with its bytes, or a directory with its entries
+abbrev pub object_of : PlainObject → Object
+object_of (plain.File moment bytes) = File moment bytes.items
+object_of (plain.Directory moment entries) = Dir moment (entries_in entries)
+
+-- the objects by their numbers
+abbrev pub objects_in : BTreeMap ℕ PlainObject → Objects
+objects_in m = map.from_entries (list_map (λ e. (e.0, object_of e.1)) m.entries)
+
+-- what a descriptor stands for
+abbrev pub handle_of : PlainHandle → Handle
+handle_of h = record { object = h.object; flags = h.flags; offset = h.offset }
+
+-- what the descriptors stand for
+abbrev pub handles_in : BTreeMap ℕ PlainHandle → Handles
+handles_in m = map.from_entries (list_map (λ e. (e.0, handle_of e.1)) m.entries)
+
+-- the numbers of a volume
+abbrev pub sizes_of : PlainSizes → Sizes
+sizes_of z = record { page_bytes = z.page_bytes; block_pages = z.block_pages; blocks = z.blocks; spare_blocks = z.spare_blocks }

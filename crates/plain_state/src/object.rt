@@ -1,0 +1,53 @@
+// What the plain volume holds.
+ghost use Rattle.std.specs.Prelude.{◌≡◌};
+
+use crate::table::{copy_bytes, copy_entries};
+use posix_profile::OpenFlags;
+use std::alloc::AllocError;
+use std::collections::BTreeMap;
+
+/// The bytes of a name. Names are in the order of their bytes.
+pub type EntryName = Vec<u8>;
+
+/// From names to the numbers of objects.
+pub type EntryMap = BTreeMap<EntryName, u64>;
+
+/// From numbers to objects.
+pub type ObjectMap = BTreeMap<u64, PlainObject>;
+
+/// From descriptors to what they stand for.
+pub type HandleMap = BTreeMap<u32, PlainHandle>;
+
+/// A file or a directory, with the moment of its last change.
+#[derive(Drop, Debug)]
+pub enum PlainObject {
+    File { moment: u64, bytes: Vec<u8> },
+    Directory { moment: u64, entries: EntryMap },
+}
+
+impl Clone for PlainObject {
+    ghost use Rattle.plain_state.specs.PlainState.{object_of};
+
+    ghost is_clone = { λ x y. object_of y ≡ object_of x };
+
+    fn clone(&self) -> Result<PlainObject, AllocError> {
+        Ok(match self {
+            PlainObject::File { moment, bytes } => PlainObject::File {
+                moment: *moment,
+                bytes: copy_bytes(bytes)?,
+            },
+            PlainObject::Directory { moment, entries } => PlainObject::Directory {
+                moment: *moment,
+                entries: copy_entries(entries)?,
+            },
+        })
+    }
+}
+
+/// What an open descriptor stands for. The offset is in bytes.
+#[derive(Clone, Copy, Debug, PartialEq, Eq)]
+pub struct PlainHandle {
+    pub object: u64,
+    pub flags: OpenFlags,
+    pub offset: u64,
+}

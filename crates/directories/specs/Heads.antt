@@ -1,0 +1,18 @@
+-- What is told of a directory's header.
+use Rattle.std.specs.Prelude.{◌≡◌, true}
+use Rattle.nand_model.specs.Calls.{Device}
+use Rattle.page_tags.specs.Headers.{Fields}
+use Rattle.directories.specs.declared.fault.DirectoryFault.{DirectoryFault}
+use Rattle.directories.specs.declared.fault.DirectoryFault.TheVariants as faults
+use Rattle.directories.specs.declared.head.DirectoryHead.{DirectoryHead}
+
+-- what a header says of its directory
+pub record IsHeadOf (head : DirectoryHead) (f : Fields) : Type 0 where
+  pub spare : head.spare ≡ f.spare
+  pub length_is : head.length ≡ f.length
+  pub moment : head.moment ≡ f.moment
+
+-- a fault of a directory that is there comes only of a device that is gone
+abbrev pub IsGoneFault : Device → DirectoryFault → Type 0
+IsGoneFault new faults.Device = new.gone ≡ true
+IsGoneFault new faults.Damaged = ⊥

@@ -271,6 +271,30 @@ fn a_failed_group_counts_only_where_its_last_page_reads(rt: HostRuntime) -> Resu
 }
 
 #[test]
+fn a_cut_while_the_last_page_is_read_back_leaves_it_as_it_is(rt: HostRuntime) -> Result<(), Fail> {
+    let alloc = rt.alloc();
+    for case in &cases(alloc)? {
+        if case.at == case.count.saturating_sub(1) {
+            let failures = vec![in alloc; (case.call(), vec![in alloc; case.fate]?)]?;
+            let read_back = case.call().saturating_add(1);
+            let mut volume = begun(&rt, alloc)?
+                .failing(failures)
+                .cut_at(read_back, Vec::new(alloc));
+            let pages = pages_of(alloc, case.count, 2)?;
+            assert_eq!(rt;
+                volume.commit(&rt, &pages),
+                Err(GroupFault::Gone),
+                "{case:?}"
+            );
+            assert_eq!(rt; volume.blocks.next_group(), 3, "{case:?}");
+            volume.power_up();
+            assert_eq!(rt; versions(volume.into_nand())?, case.wanted(), "{case:?}");
+        }
+    }
+    Ok(())
+}
+
+#[test]
 fn a_copy_keeps_its_version(rt: HostRuntime) -> Result<(), Fail> {
     let alloc = rt.alloc();
     let mut volume = begun(&rt, alloc)?;

@@ -1,5 +1,5 @@
 // The flash, and the next page of each of its blocks.
-ghost use Rattle.std.specs.Prelude.{◌≡◌, ◌<◌, ℕ, true, false, Some, IfOk, OnOk};
+ghost use Rattle.std.specs.Prelude.{◌≡◌, ◌<◌, ◌≤◌, ℕ, true, false, Some, IfOk, OnOk};
 ghost use Rattle.nand_model.specs.Flash.{Erased};
 ghost use Rattle.nand_model.specs.MemoryState.{device};
 ghost use Rattle.test_flash.specs.Following.{IsFollowed, HasWritten};
@@ -31,7 +31,10 @@ pub struct TestFlash {
 }
 
 impl TestFlash {
-    ghost use Rattle.test_flash.specs.Shown.{device_of};
+    ghost use Rattle.std.specs.Prelude.{IfErr};
+    ghost use Rattle.nand_model.specs.Plans.{listed};
+    ghost use Rattle.test_flash.specs.Shown.{device_of, plan_of};
+    ghost use Rattle.test_flash.specs.Faults.{Explains};
 
     /// All pages erased, no block bad.
     pub fn new(alloc: Global, geometry: Geometry) -> Result<TestFlash, AllocError>
@@ -46,7 +49,8 @@ impl TestFlash {
 
     /// The programs and erases of these numbers, counted from the making of the flash, fail with these fates.
     pub fn with_failures(self, failures: Vec<(u64, Vec<Fate>)>) -> TestFlash
-        ensures { device_of result ≡ device_of self }
+        ensures device { device_of result ≡ device_of self }
+        ensures plan { plan_of result ≡ record (plan_of self) { failures = listed failures.items } }
     {
         let TestFlash { nand, nexts, bytes } = self;
         let nand = nand.with_failures(failures);
@@ -58,6 +62,7 @@ impl TestFlash {
         ensures geometry { (device_of self.new).geometry ≡ (device_of self.old).geometry }
         ensures gone { OnOk result ((device_of self.new).gone ≡ false) }
         ensures erased { OnOk result ((page : ℕ) → (device_of self.new).flash.page block page ≡ Erased) }
+        ensures fault { IfErr result (Explains block (device_of self.old) (device_of self.new)) }
     {
         if block >= self.nand.geometry().blocks() {
             return Err(TestFault::NoBlock);
@@ -74,7 +79,9 @@ impl TestFlash {
         requires block { block < (device_of self.old).geometry.blocks }
         ensures geometry { (device_of self.new).geometry ≡ (device_of self.old).geometry }
         ensures bad { (device_of self.new).flash.bad ≡ (device_of self.old).flash.bad }
+        ensures failures { (device_of self.old).failures ≤ (device_of self.new).failures }
         ensures next { IfOk result (λ page. (device_of self.new).flash.next block ≡ Some page) }
+        ensures fault { IfErr result (Explains block (device_of self.old) (device_of self.new)) }
     {
         if let Some(page) = self.nexts[block as usize] {
             return Ok(page);
@@ -94,6 +101,7 @@ impl TestFlash {
         ensures geometry { (device_of self.new).geometry ≡ (device_of self.old).geometry }
         ensures gone { OnOk result ((device_of self.new).gone ≡ false) }
         ensures written { OnOk result (HasWritten block page tag.now fill (device_of self.new)) }
+        ensures fault { IfErr result (Explains block (device_of self.old) (device_of self.new)) }
     {
         self.bytes.fill(fill);
         match self.nand.program(block, page, &self.bytes, &tag.encode()) {
@@ -114,6 +122,7 @@ impl TestFlash {
         ensures geometry { (device_of self.new).geometry ≡ (device_of self.old).geometry }
         ensures gone { OnOk result ((device_of self.new).gone ≡ false) }
         ensures written { OnOk result ((page : ℕ) × HasWritten block page tag.now fill (device_of self.new)) }
+        ensures fault { IfErr result (Explains block (device_of self.old) (device_of self.new)) }
     {
         let geometry = self.nand.geometry();
         if block >= geometry.blocks() {
@@ -134,6 +143,7 @@ impl TestFlash {
         ensures geometry { (device_of self.new).geometry ≡ (device_of self.old).geometry }
         ensures gone { OnOk result ((device_of self.new).gone ≡ false) }
         ensures marked { OnOk result ((device_of self.new).flash.bad block ≡ true) }
+        ensures fault { IfErr result (Explains block (device_of self.old) (device_of self.new)) }
     {
         if block >= self.nand.geometry().blocks() {
             return Err(TestFault::NoBlock);

@@ -1,0 +1,7 @@
+pub mod Finding
+pub mod Counting
+pub mod Changing
+pub mod Looking
+pub mod Passing
+pub mod Mapping
+pub mod Indexing

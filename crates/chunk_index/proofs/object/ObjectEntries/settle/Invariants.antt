@@ -1,0 +1,12 @@
+use Rattle.std.proofs.Common.{◌≡◌, ◌++◌, map, take, drop}
+use Rattle.block_state.specs.TableOf.{table}
+use Rattle.chunk_index.specs.Entries.{kept_among, settled}
+use Rattle.chunk_index.specs.Counts.{Recounts}
+use Rattle.chunk_index.proofs.object.ObjectEntries.settle.Given as goal
+
+abbrev pub invariant-loop-at : goal.invariant-loop-at
+invariant-loop-at l = record {
+  object : l.self.object ≡ l.fn.self.object;
+  entries : l.self.entries.items ≡ map (settled l.block l.first) (take l.at l.fn.self.entries.items) ++ drop l.at l.fn.self.entries.items;
+  counts : Recounts (kept_among l.fn.self.entries.items) (kept_among l.self.entries.items) (table l.fn.blocks) (table l.blocks);
+}

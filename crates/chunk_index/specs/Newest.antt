@@ -1,0 +1,38 @@
+-- The newest pages of a scan, and the index of them.
+use Rattle.std.specs.Prelude.{◌≡◌, ◌⊎◌, ◌<◌, ◌≤◌, ℕ, List, length, get_or, Option, Some, None}
+use Rattle.flash_tree.specs.declared.place.Found.{Found}
+use Rattle.chunk_index.specs.declared.form.Place.{Place}
+use Rattle.chunk_index.specs.declared.form.Present.TheVariants as presents
+use Rattle.chunk_index.specs.declared.index.Index.{Index}
+use Rattle.chunk_index.specs.Maps.{kept, present, IsPrepared}
+
+-- the place of a page
+abbrev pub place_of : Found → Place
+place_of f = record { block = f.block; page = f.page }
+
+-- the page is of chunk c of object o
+abbrev pub IsOf : ℕ → ℕ → Found → Type 0
+IsOf o c f = (f.tag.object ≡ o) × (f.tag.chunk ≡ c)
+
+-- the key of one page comes before that of another: by the object, then by the chunk
+abbrev pub Precedes : Found → Found → Type 0
+Precedes f g = (f.tag.object < g.tag.object) ⊎ ((f.tag.object ≡ g.tag.object) × (f.tag.chunk < g.tag.chunk))
+
+-- the keys rise, so that no key comes twice
+abbrev pub KeysRise : List Found → Type 0
+KeysRise fs = (i j : ℕ) (d : Found) → i < j → j < length fs → Precedes (get_or fs i d) (get_or fs j d)
+
+-- each page lies in one of so many blocks
+abbrev pub LieWithin : ℕ → List Found → Type 0
+LieWithin blocks fs = (i : ℕ) (d : Found) → i < length fs → (get_or fs i d).block < blocks
+
+-- the keys of the first n pages are prepared
+abbrev pub AllPrepared : List Found → ℕ → Index → Type 0
+AllPrepared fs n x = (i : ℕ) (d : Found) → i < n → IsPrepared x (get_or fs i d).tag.object (get_or fs i d).tag.chunk
+
+-- The first n of the pages are kept and present, each at its place, and no key that none of them is of.
+pub record Indexes (fs : List Found) (n : ℕ) (x : Index) : Type 0 where
+  pub kept_here : (i : ℕ) (d : Found) → i < n → kept x (get_or fs i d).tag.object (get_or fs i d).tag.chunk ≡ Some (place_of (get_or fs i d))
+  pub present_here : (i : ℕ) (d : Found) → i < n → present x (get_or fs i d).tag.object (get_or fs i d).tag.chunk ≡ presents.OnFlash (place_of (get_or fs i d))
+  pub kept_elsewhere : (o c : ℕ) → ((i : ℕ) (d : Found) → i < n → IsOf o c (get_or fs i d) → ⊥) → kept x o c ≡ None
+  pub present_elsewhere : (o c : ℕ) → ((i : ℕ) (d : Found) → i < n → IsOf o c (get_or fs i d) → ⊥) → present x o c ≡ presents.Absent

@@ -1,0 +1,189 @@
+// The index.
+ghost use Rattle.std.specs.Prelude.{◌≡◌, ◌<◌, ◌^◌, ℕ, Some, OnOk, OnErr, IfOk, IfErr, IsSome};
+ghost use Rattle.block_state.specs.TableOf.{table};
+ghost use Rattle.chunk_index.specs.Lists.{Rises, IsAt, IsGapFor};
+ghost use Rattle.chunk_index.specs.Objects.{number, entry_count, look, ChangesKey};
+ghost use Rattle.chunk_index.specs.Entries.{with_kept};
+ghost use Rattle.chunk_index.specs.Counts.{Recounts};
+
+use crate::entry::Entry;
+use crate::form::{Form, Place, Present};
+use crate::keep::KeepKeys;
+use crate::object::ObjectEntries;
+use block_state::Blocks;
+use flash_tree::Key;
+use std::alloc::{AllocError, Global};
+
+/// For each key its kept place and its present form. An object without entries and one that is not here mean the
+/// same.
+#[derive(Drop)]
+pub struct Index {
+    alloc: Global,
+    objects: Vec<ObjectEntries>,
+    size: u32,
+    ghost rises: { Rises number objects.items },
+    ghost counted: { entry_count objects.items ≡ size },
+    ghost bounded: { size < 2 ^ 32 },
+}
+
+impl Index {
+    ghost use Rattle.chunk_index.specs.Maps.{kept, present, kept_in, IsPrepared, IsEmpty, CountsAgree, SameMaps, Places, Copies, Settles, Retains, Fits};
+    ghost use Rattle.chunk_index.specs.Told.{SameTold};
+
+    /// No key is kept or present.
+    pub fn new(alloc: Global) -> Index
+        ensures { IsEmpty result }
+    {
+        Index {
+            alloc,
+            objects: Vec::new(alloc),
+            size: 0,
+        }
+    }
+
+    /// The kept place of a key.
+    pub fn kept(&self, key: Key) -> Option<Place>
+        ensures { result ≡ kept self.now key.object key.chunk }
+    {
+        match self.entry(key) {
+            Some(entry) => entry.kept,
+            None => None,
+        }
+    }
+
+    /// The present page of a key.
+    pub fn present(&self, key: Key) -> Present
+        ensures { result ≡ present self.now key.object key.chunk }
+    {
+        match self.entry(key) {
+            Some(entry) => entry.present(),
+            None => Present::Absent,
+        }
+    }
+
+    /// Sees that a key has an entry, so that `place` takes no memory. Neither map changes, also where memory is
+    /// refused.
+    pub fn prepare(&mut self, key: Key) -> Result<(), AllocError>
+        ensures same { SameMaps self.old self.new }
+        ensures prepared { OnOk result (IsPrepared self.new key.object key.chunk) }
+    {
+        self.prepare_entry(key)
+    }
+
+    /// Gives a prepared key another present form.
+    pub fn place(&mut self, key: Key, form: Form)
+        requires prepared { IsPrepared self.old key.object key.chunk }
+        ensures { Places key.object key.chunk form self.old self.new }
+    {
+        match self.search(key.object) {
+            Ok(at) => self.objects[at].place(key.chunk, form),
+            Err(_) => {}
+        }
+    }
+
+    /// Notes that the kept page of a key was copied to another place. The key keeps its form.
+    pub fn copied(&mut self, key: Key, place: Place, blocks: &mut Blocks)
+        requires kept { IsSome (kept self.old key.object key.chunk) }
+        requires block { place.block < (table blocks.old).geometry.blocks }
+        requires agree { CountsAgree (table blocks.old) self.old }
+        ensures copies { Copies key.object key.chunk place self.old self.new }
+        ensures agree { CountsAgree (table blocks.new) self.new }
+        ensures counts { Recounts (kept_in self.old) (kept_in self.new) (table blocks.old) (table blocks.new) }
+    {
+        self.keep(key, place, blocks);
+    }
+
+    /// Settles all keys: the pages of the buffer were written as one group, the page of number i at page `first + i`
+    /// of the block.
+    pub fn settle_group(&mut self, block: u32, first: u32, blocks: &mut Blocks)
+        requires block { block < (table blocks.old).geometry.blocks }
+        requires fits { Fits first self.old }
+        requires agree { CountsAgree (table blocks.old) self.old }
+        ensures settles { Settles block first self.old self.new }
+        ensures agree { CountsAgree (table blocks.new) self.new }
+        ensures counts { Recounts (kept_in self.old) (kept_in self.new) (table blocks.old) (table blocks.new) }
+    {
+        for at in 0..self.objects.len() {
+            self.objects[at].settle(block, first, blocks);
+        }
+    }
+
+    /// Drops each key that is not to be kept.
+    pub fn retain<K: KeepKeys>(&mut self, keep: &K, blocks: &mut Blocks)
+        requires agree { CountsAgree (table blocks.old) self.old }
+        ensures retains { Retains (K.keeps keep.now) self.old self.new }
+        ensures agree { CountsAgree (table blocks.new) self.new }
+        ensures counts { Recounts (kept_in self.old) (kept_in self.new) (table blocks.old) (table blocks.new) }
+    {
+        for at in 0..self.objects.len() {
+            self.objects[at].retain(keep, blocks);
+        }
+    }
+
+    /// Where an object is, or where it would go.
+    fn search(&self, object: u64) -> Result<usize, usize>
+        ensures found { IfOk result (IsAt number self.now.objects.items object) }
+        ensures absent { IfErr result (IsGapFor number self.now.objects.items object) }
+    {
+        self.objects
+            .binary_search_by_key(&object, |entries| entries.object)
+    }
+
+    /// The entry of a key.
+    fn entry(&self, key: Key) -> Option<Entry>
+        ensures { result ≡ look self.now.objects.items key.object key.chunk }
+    {
+        match self.search(key.object) {
+            Ok(at) => self.objects[at].get(key.chunk),
+            Err(_) => None,
+        }
+    }
+
+    /// Sees that a key has an entry; a new one tells of nothing.
+    pub(crate) fn prepare_entry(&mut self, key: Key) -> Result<(), AllocError>
+        ensures same { SameTold self.old self.new }
+        ensures prepared { OnOk result (IsPrepared self.new key.object key.chunk) }
+    {
+        if self.size == u32::MAX {
+            return Err(AllocError);
+        }
+        let at = self.prepare_object(key.object)?;
+        let grown = self.objects[at].prepare(key.chunk)?;
+        if grown {
+            self.size += 1;
+        }
+        Ok(())
+    }
+
+    /// Sees that an object is here, and says where. No key gets or loses an entry.
+    fn prepare_object(&mut self, object: u64) -> Result<usize, AllocError>
+        ensures entries { (o c : ℕ) → look self.new.objects.items o c ≡ look self.old.objects.items o c }
+        ensures counts { (b : ℕ) → kept_in self.new b ≡ kept_in self.old b }
+        ensures size { self.new.size ≡ self.old.size }
+        ensures found { IfOk result (IsAt number self.new.objects.items object) }
+    {
+        match self.search(object) {
+            Ok(at) => Ok(at),
+            Err(at) => {
+                let entries = ObjectEntries::new(self.alloc, object);
+                self.objects.insert(at, entries)?;
+                Ok(at)
+            }
+        }
+    }
+
+    /// Gives a prepared key another kept place, in its form.
+    pub(crate) fn keep(&mut self, key: Key, place: Place, blocks: &mut Blocks)
+        requires prepared { IsPrepared self.old key.object key.chunk }
+        requires block { place.block < (table blocks.old).geometry.blocks }
+        requires agree { CountsAgree (table blocks.old) self.old }
+        ensures entries { ChangesKey key.object key.chunk (with_kept (Some place)) self.old.objects.items self.new.objects.items }
+        ensures agree { CountsAgree (table blocks.new) self.new }
+        ensures counts { Recounts (kept_in self.old) (kept_in self.new) (table blocks.old) (table blocks.new) }
+    {
+        match self.search(key.object) {
+            Ok(at) => self.objects[at].keep(key.chunk, place, blocks),
+            Err(_) => {}
+        }
+    }
+}

@@ -1,8 +1,7 @@
 -- What an edit of an object's entries does to what is told of its chunks.
-use Rattle.std.proofs.Common.{◌≡◌, ◌≢◌, ℕ, ◌+◌, ◌-◌, ◌<◌, ◌≤◌, Bool, true, false, List, [], ◌∷◌, ◌++◌, ◌^◌, length, get_or, set, map, take, drop, Option, Some, None, if◌then◌else◌, IsSome, refl, sym, ap, subst, ◌∙◌, arith, inl, inr}
+use Rattle.std.proofs.Common.{◌≡◌, ℕ, ◌+◌, ◌-◌, ◌<◌, ◌≤◌, Bool, true, false, List, ◌++◌, ◌^◌, length, get_or, set, map, take, drop, Option, Some, None, if◌then◌else◌, IsSome, refl, sym, ap, subst, ◌∙◌, arith, inl, inr}
 use mathlib.Core.Bool.{false≢true}
 use Rattle.std.specs.List.{sum_by, insert}
-use Rattle.std.specs.Option.{option_map, unwrap_or}
 use Rattle.std.proofs.lemmas.Bool.{cases_eq, cases_lt}
 use Rattle.std.proofs.lemmas.Bool.Decides.{nat_tests}
 use Rattle.std.proofs.lemmas.List.{length-set, length-append, length-map, length-take-le, length-drop, get_or_default, get_or-append_right, get_or-drop}
@@ -13,7 +12,6 @@ use Rattle.chunk_index.specs.declared.form.Place.{Place}
 use Rattle.chunk_index.specs.declared.entry.Entry.{Entry}
 use Rattle.chunk_index.specs.Lists.{find_by, Rises, IsAt, IsGapFor}
 use Rattle.chunk_index.specs.declared.form.Form.TheVariants as forms
-use Rattle.chunk_index.specs.declared.form.Present.TheVariants as presents
 use Rattle.chunk_index.specs.Entries.{chunk, blank, one_at, kept_among, present_of, present_by, Prepares, Changes, Follow}
 use Rattle.chunk_index.specs.Counts.{Recounts, HasRoom}
 use Rattle.chunk_index.proofs.Finding.{find_at, find_at_set, find_in_gap, find_gap_insert}

@@ -1,15 +1,15 @@
 -- What a search finds in a list whose numbers rise, and what an edit at that place does.
-use Rattle.std.proofs.Common.{◌≡◌, ℕ, zero, suc, ◌+◌, ◌-◌, ◌<◌, ◌≤◌, eqb, ◌≢◌, List, [], ◌∷◌, length, get_or, set, map, if◌then◌else◌, Option, Some, None, Result, Ok, Err, IfOk, IfErr, IsSome, refl, sym, ap, ◌∙◌, subst, inl, inr, arith}
-use Rattle.std.specs.List.{insert}
+use Rattle.std.proofs.Common.{◌≡◌, Bool, ℕ, zero, suc, ◌+◌, ◌-◌, ◌<◌, ◌≤◌, eqb, ◌≢◌, List, [], ◌∷◌, length, get_or, set, map, if◌then◌else◌, Some, None, Result, Ok, Err, IfOk, IfErr, refl, sym, ap, ◌∙◌, subst, inl, inr, arith}
+use Rattle.std.specs.List.{insert, filter}
+use Rattle.std.proofs.lemmas.List.Kept.{AllPairs-filter}
 use Rattle.std.specs.Option.{option_map}
 use Rattle.std.specs.List.Sorted.{IsSearchInRange, IsBinarySearchResult, IsNonDecreasingBy}
 use Rattle.std.specs.Ordering.{nat_cmp, ordering_index}
 use Rattle.std.proofs.lemmas.Cmp.{ranked}
 use Rattle.std.proofs.lemmas.Bool.{cases_lt, cases_eq}
 use Rattle.std.proofs.lemmas.Bool.Decides.{nat_tests}
-use Rattle.std.proofs.lemmas.List.{get_or_default, get_or-set_same, get_or-set_other, length-set}
+use Rattle.std.proofs.lemmas.List.{get_or-set_same, get_or-set_other, length-set}
 use Rattle.std.proofs.lemmas.List.Edits.{length-insert, get_or-insert_below, get_or-insert_at, get_or-insert_above}
-use Rattle.std.proofs.lemmas.Grind.{common_steps}
 use Rattle.chunk_index.specs.Lists.{find_by, Rises, IsAt, IsGapFor}
 
 -- one equation for every number
@@ -132,3 +132,7 @@ module _ {X : Type 0} (f : X → ℕ) where
   pub find_map : (g : X → X) → ((x : X) → f (g x) ≡ f x) → (xs : List X) (n : ℕ) → find_by f (map g xs) n ≡ option_map g (find_by f xs n)
   find_map g same [] n = refl
   find_map g same (x ∷ xs) n = grind (arith, nat_tests, same x, find_map g same xs n)
+
+  -- the numbers of those that stay still rise
+  pub rises_filter : (p : X → Bool) (xs : List X) → Rises f xs → Rises f (filter p xs)
+  rises_filter p xs rises = AllPairs-filter (λ x y. f x < f y) p xs rises

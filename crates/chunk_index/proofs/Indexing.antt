@@ -1,18 +1,16 @@
 -- The keeping of one page after another.
-use Rattle.std.proofs.Common.{◌≡◌, ◌≢◌, ◌⊎◌, ℕ, ◌+◌, ◌<◌, ◌≤◌, List, length, get_or, Option, Some, None, IsSome, refl, sym, ap, subst, ◌∙◌, arith, inl, inr}
+use Rattle.std.proofs.Common.{◌≡◌, ℕ, ◌+◌, ◌<◌, List, length, get_or, Option, Some, None, IsSome, refl, sym, ap, subst, ◌∙◌, arith, inl, inr}
 use mathlib.Core.Bool.{false≢true}
 use Rattle.std.specs.Option.{option_map, unwrap_or}
 use Rattle.std.proofs.lemmas.Bool.{cases_eq}
 use Rattle.std.proofs.lemmas.List.{get_or_default}
 use Rattle.flash_tree.specs.declared.place.Found.{Found}
-use Rattle.chunk_index.specs.declared.form.Place.{Place}
 use Rattle.chunk_index.specs.declared.form.Form.TheVariants as forms
-use Rattle.chunk_index.specs.declared.form.Present.TheVariants as presents
 use Rattle.chunk_index.specs.declared.entry.Entry.{Entry}
 use Rattle.chunk_index.specs.declared.index.Index.{Index}
-use Rattle.chunk_index.specs.Entries.{blank, kept_of, present_of, present_by, with_kept}
+use Rattle.chunk_index.specs.Entries.{blank, present_by, with_kept}
 use Rattle.chunk_index.specs.Objects.{look, Differs, ChangesKey}
-use Rattle.chunk_index.specs.Maps.{kept, present, IsPrepared, StaysPrepared}
+use Rattle.chunk_index.specs.Maps.{IsPrepared}
 use Rattle.chunk_index.specs.Newest.{place_of, IsOf, Precedes, KeysRise, AllPrepared, Indexes}
 use Rattle.chunk_index.specs.Told.{told}
 use Rattle.chunk_index.proofs.Mapping.{kept_told, present_told, change_prepared}

@@ -1,10 +1,9 @@
 -- What an edit of one object's entries does to what is told of all keys.
-use Rattle.std.proofs.Common.{◌≡◌, ◌≢◌, ◌⊎◌, ℕ, eqb, ◌+◌, ◌<◌, ◌≤◌, Bool, true, false, List, [], ◌∷◌, length, get_or, set, Option, Some, None, if◌then◌else◌, IsSome, refl, sym, ap, subst, ◌∙◌, arith, inl, inr}
+use Rattle.std.proofs.Common.{◌≡◌, ◌≢◌, ℕ, eqb, ◌+◌, Bool, List, [], length, get_or, set, Option, Some, None, if◌then◌else◌, IsSome, refl, sym, ap, subst, ◌∙◌, arith, inl, inr}
 use mathlib.Core.Bool.{false≢true}
-use Rattle.std.specs.List.{sum_by, insert}
+use Rattle.std.specs.List.{insert}
 use Rattle.std.specs.Option.{option_map, option_and_then, unwrap_or}
 use Rattle.std.proofs.lemmas.Bool.{cases_eq}
-use Rattle.std.proofs.lemmas.Option.{none-some, same_Some}
 use Rattle.std.proofs.lemmas.Bool.Decides.{nat_tests}
 use Rattle.std.proofs.lemmas.List.Sums.{sum_by-set, sum_by-insert}
 use Rattle.block_state.specs.Table.{Table}
@@ -12,7 +11,7 @@ use Rattle.chunk_index.specs.declared.entry.Entry.{Entry}
 use Rattle.chunk_index.specs.declared.object.ObjectEntries.{ObjectEntries}
 use Rattle.chunk_index.specs.Lists.{find_by, Rises, IsAt, IsGapFor}
 use Rattle.chunk_index.specs.Entries.{chunk, blank, kept_among, Prepares, Changes}
-use Rattle.chunk_index.specs.Objects.{number, entry_of, look, kept_within, entry_count, Differs, ChangesKey}
+use Rattle.chunk_index.specs.Objects.{number, entry_of, look, kept_within, entry_count, ChangesKey}
 use Rattle.chunk_index.specs.Counts.{Recounts, HasRoom}
 use Rattle.chunk_index.proofs.Finding.{find_at, find_at_set, find_in_gap, find_gap_insert, rises_insert}
 use Rattle.chunk_index.proofs.Counting.{recounts_more, room_part}
@@ -69,27 +68,6 @@ inserted xs zs o i y b is gap same none rises = record {
 
 pub inserted_counts : (xs zs : List ObjectEntries) (i : ℕ) (y : ObjectEntries) → zs ≡ insert xs i y → y.entries.items ≡ [] → (b : ℕ) → kept_within zs b ≡ kept_within xs b
 inserted_counts xs zs i y is none b = ap (λ ys. kept_within ys b) is ∙ counts_insert xs i y none b
-
--- what is found has the number
-found_number : {X : Type 0} (f : X → ℕ) (xs : List X) (n : ℕ) (x : X) → find_by f xs n ≡ Some x → f x ≡ n
-found_number f [] n x is = absurd (none-some x is)
-found_number f (y ∷ ys) n x is = elim (cases_eq (f y) n) [
-  | inl e ↦
-      let here : find_by f (y ∷ ys) n ≡ Some y = grind (arith, nat_tests, e) in
-      let same : y ≡ x = same_Some y x (sym here ∙ is) in
-      ap f (sym same) ∙ e
-  | inr ne ↦
-      let other : find_by f (y ∷ ys) n ≡ find_by f ys n = grind (arith, nat_tests, ne) in
-      found_number f ys n x (sym other ∙ is)
-]
-
-found_chunk : (m : Option ObjectEntries) (c : ℕ) (e : Entry) → option_and_then (entry_of c) m ≡ Some e → e.chunk ≡ c
-found_chunk None c e is = absurd (none-some e is)
-found_chunk (Some x) c e is = found_number chunk x.entries.items c e is
-
--- so the entry of a chunk has its number
-pub look_chunk : (xs : List ObjectEntries) (o c : ℕ) (e : Entry) → look xs o c ≡ Some e → e.chunk ≡ c
-look_chunk xs o c e is = found_chunk (find_by number xs o) c e is
 
 module _ (xs : List ObjectEntries) (rises : Rises number xs) (o i : ℕ) (at : IsAt number xs o i) (x : ObjectEntries) (is : x ≡ get_or xs i x) where
   -- what is told of an object's chunks stands in its entries

@@ -1,22 +1,20 @@
 -- The two maps, from what is told of each key.
-use Rattle.std.proofs.Common.{◌≡◌, ◌≢◌, ℕ, ◌+◌, ◌<◌, ◌≤◌, ◌^◌, Bool, true, false, Option, Some, None, IsSome, if◌then◌else◌, refl, sym, ap, subst, ◌∙◌, arith, inl, inr}
+use Rattle.std.proofs.Common.{◌≡◌, ℕ, ◌+◌, ◌<◌, ◌≤◌, ◌^◌, Bool, true, false, Option, Some, None, IsSome, if◌then◌else◌, refl, sym, ap, subst, ◌∙◌, arith, inl, inr}
 use mathlib.Core.Bool.{false≢true}
-use Rattle.std.proofs.lemmas.Bool.{cases_eq, cases_Bool}
+use Rattle.std.proofs.lemmas.Bool.{cases_eq}
 use Rattle.std.specs.Option.{option_map, unwrap_or}
 use Rattle.block_state.specs.Table.{Table}
 use Rattle.chunk_index.specs.declared.form.Place.{Place}
 use Rattle.chunk_index.specs.declared.form.Form.{Form}
 use Rattle.chunk_index.specs.declared.form.Form.TheVariants as forms
-use Rattle.chunk_index.specs.declared.form.Present.TheVariants as presents
 use Rattle.chunk_index.specs.declared.entry.Entry.{Entry}
 use Rattle.chunk_index.specs.declared.index.Index.{Index}
-use Rattle.chunk_index.specs.Entries.{blank, kept_of, present_of, present_by, as_kept, settled, settled_kept, retained, with_form, with_kept}
-use Rattle.chunk_index.specs.Objects.{look, entry_count, Differs, ChangesKey}
+use Rattle.chunk_index.specs.Entries.{blank, kept_of, present_of, present_by, as_kept, settled, settled_kept, with_form, with_kept}
+use Rattle.chunk_index.specs.Objects.{look, entry_count, ChangesKey}
 use Rattle.chunk_index.specs.Counts.{Recounts, HasRoom}
-use Rattle.chunk_index.specs.Maps.{kept, present, kept_in, IsPrepared, StaysPrepared, CountsAgree, SameMaps, Places, Copies, Settles, Retains, written, moved_to}
-use Rattle.chunk_index.specs.Told.{told, SameTold}
-use Rattle.chunk_index.proofs.Counting.{room_after}
-use Rattle.chunk_index.proofs.Looking.{look_chunk}
+use Rattle.chunk_index.specs.Maps.{kept, kept_in, IsPrepared, StaysPrepared, CountsAgree, SameMaps, Places, Copies, Settles, Retains, written, moved_to}
+use Rattle.chunk_index.specs.Told.{SameTold}
+use Rattle.chunk_index.proofs.Counting.{recounts_more}
 
 -- an entry stays an entry
 some_map : (f : Entry → Entry) (m : Option Entry) → IsSome m → IsSome (option_map f m)
@@ -55,12 +53,6 @@ agree_room t x a =
       room = λ b. let same : (t.entry b).kept ≡ kept_in x b = a.counts b in omega (arith, same, size, small);
       within = a.within;
     }
-
--- also in the midst of a change of all
-pub pass_space : (t u : Table) (old cur : Index) → CountsAgree t old → Recounts (kept_in old) (kept_in cur) t u → cur.size ≡ old.size → HasRoom u (kept_in cur) (entry_count cur.objects.items)
-pass_space t u old cur a c same =
-    let count : entry_count cur.objects.items ≡ entry_count old.objects.items = cur.counted ∙ same ∙ sym old.counted in
-    subst (HasRoom u (kept_in cur)) (sym count) (room_after (agree_room t old a) c)
 
 -- and they agree again after a change that recounts
 pub agree_after : (t u : Table) (old new : Index) → CountsAgree t old → Recounts (kept_in old) (kept_in new) t u → CountsAgree u new
@@ -159,38 +151,37 @@ settles_all block first old new looks = record {
   prepared = λ o c some. subst (λ (m : Option Entry). IsSome m) (sym (looks o c)) (some_map (settled block first) _ some);
 }
 
-retain_stays : (keeps : ℕ → ℕ → Bool) (o : ℕ) (e : Entry) → keeps o e.chunk ≡ true → retained keeps o e ≡ e
-retain_stays keeps o e is = ap (λ b. if b then e else blank e.chunk) is
+stays_here : (b : Bool) (m n : Option Entry) → b ≡ true → (if b then m else n) ≡ m
+stays_here b m n is = ap (λ x. if x then m else n) is
 
-retain_goes : (keeps : ℕ → ℕ → Bool) (o : ℕ) (e : Entry) → keeps o e.chunk ≡ false → retained keeps o e ≡ blank e.chunk
-retain_goes keeps o e is = ap (λ b. if b then e else blank e.chunk) is
+goes_here : (b : Bool) (m n : Option Entry) → b ≡ false → (if b then m else n) ≡ n
+goes_here b m n is = ap (λ x. if x then m else n) is
 
-map_stays : (keeps : ℕ → ℕ → Bool) (o c : ℕ) (m : Option Entry) → ((e : Entry) → m ≡ Some e → e.chunk ≡ c) → keeps o c ≡ true → option_map (retained keeps o) m ≡ m
-map_stays keeps o c None chunks is = refl
-map_stays keeps o c (Some e) chunks is = ap Some (retain_stays keeps o e (ap (keeps o) (chunks e refl) ∙ is))
-
-goes_kept : (keeps : ℕ → ℕ → Bool) (o c : ℕ) (m : Option Entry) → ((e : Entry) → m ≡ Some e → e.chunk ≡ c) → keeps o c ≡ false → kept_of (option_map (retained keeps o) m) ≡ None
-goes_kept keeps o c None chunks is = refl
-goes_kept keeps o c (Some e) chunks is = ap (λ (x : Entry). x.kept) (retain_goes keeps o e (ap (keeps o) (chunks e refl) ∙ is))
-
-goes_present : (keeps : ℕ → ℕ → Bool) (o c : ℕ) (m : Option Entry) → ((e : Entry) → m ≡ Some e → e.chunk ≡ c) → keeps o c ≡ false → present_of (option_map (retained keeps o) m) ≡ presents.Absent
-goes_present keeps o c None chunks is = refl
-goes_present keeps o c (Some e) chunks is = ap (λ (x : Entry). present_by x.kept x.form) (retain_goes keeps o e (ap (keeps o) (chunks e refl) ∙ is))
-
-pub retains_all : (keeps : ℕ → ℕ → Bool) (old new : Index) → ((o c : ℕ) → look new.objects.items o c ≡ option_map (retained keeps o) (look old.objects.items o c)) → Retains keeps old new
+pub retains_all : (keeps : ℕ → ℕ → Bool) (old new : Index) → ((o c : ℕ) → look new.objects.items o c ≡ (if keeps o c then look old.objects.items o c else None)) → Retains keeps old new
 retains_all keeps old new looks =
-    let chunks : (o c : ℕ) (e : Entry) → look old.objects.items o c ≡ Some e → e.chunk ≡ c = λ o c e is. look_chunk old.objects.items o c e is in
-    let stays : (o c : ℕ) → keeps o c ≡ true → look new.objects.items o c ≡ look old.objects.items o c = λ o c is. looks o c ∙ map_stays keeps o c (look old.objects.items o c) (chunks o c) is in
+    let stays : (o c : ℕ) → keeps o c ≡ true → look new.objects.items o c ≡ look old.objects.items o c = λ o c is. looks o c ∙ stays_here (keeps o c) (look old.objects.items o c) None is in
+    let goes : (o c : ℕ) → keeps o c ≡ false → look new.objects.items o c ≡ None = λ o c is. looks o c ∙ goes_here (keeps o c) (look old.objects.items o c) None is in
     record {
       kept_stays = λ o c is. ap kept_of (stays o c is);
       present_stays = λ o c is. ap present_of (stays o c is);
       prepared = λ o c is some. subst (λ (m : Option Entry). IsSome m) (sym (stays o c is)) some;
-      kept_goes = λ o c is. ap kept_of (looks o c) ∙ goes_kept keeps o c (look old.objects.items o c) (chunks o c) is;
-      present_goes = λ o c is. ap present_of (looks o c) ∙ goes_present keeps o c (look old.objects.items o c) (chunks o c) is;
+      kept_goes = λ o c is. ap kept_of (goes o c is);
+      present_goes = λ o c is. ap present_of (goes o c is);
     }
 
-pub retained_chunk : (keeps : ℕ → ℕ → Bool) (o : ℕ) (e : Entry) → (retained keeps o e).chunk ≡ e.chunk
-retained_chunk keeps o e = elim (cases_Bool (keeps o e.chunk)) [
-  | inl is ↦ ap (λ (x : Entry). x.chunk) (retain_stays keeps o e is)
-  | inr not ↦ ap (λ (x : Entry). x.chunk) (retain_goes keeps o e not)
-]
+-- what is told of each key decides
+pub retains_same : (keeps : ℕ → ℕ → Bool) (old cur new : Index) → Retains keeps old cur → ((o c : ℕ) → look new.objects.items o c ≡ look cur.objects.items o c) → Retains keeps old new
+retains_same keeps old cur new r looks = record {
+  kept_stays = λ o c is. ap kept_of (looks o c) ∙ r.kept_stays o c is;
+  present_stays = λ o c is. ap present_of (looks o c) ∙ r.present_stays o c is;
+  prepared = λ o c is some. subst (λ (m : Option Entry). IsSome m) (sym (looks o c)) (r.prepared o c is some);
+  kept_goes = λ o c is. ap kept_of (looks o c) ∙ r.kept_goes o c is;
+  present_goes = λ o c is. ap present_of (looks o c) ∙ r.present_goes o c is;
+}
+
+-- and so do the counts
+pub agree_same : (t : Table) (cur new : Index) → CountsAgree t cur → ((b : ℕ) → kept_in new b ≡ kept_in cur b) → CountsAgree t new
+agree_same t cur new a same = record { counts = λ b. a.counts b ∙ sym (same b); within = λ b le. same b ∙ a.within b le }
+
+pub recounts_same : (t u : Table) (old cur new : Index) → Recounts (kept_in old) (kept_in cur) t u → ((b : ℕ) → kept_in new b ≡ kept_in cur b) → Recounts (kept_in old) (kept_in new) t u
+recounts_same t u old cur new c same = recounts_more (λ b. let one : kept_in new b ≡ kept_in cur b = same b in omega (arith, one)) c

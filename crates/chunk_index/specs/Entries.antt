@@ -1,5 +1,5 @@
 -- What the entries of an index tell.
-use Rattle.std.specs.Prelude.{◌≡◌, ◌≢◌, ◌<◌, ◌^◌, ℕ, ◌+◌, List, length, if◌then◌else◌, ◌==◌, Option, Some, None, Bool, true, false}
+use Rattle.std.specs.Prelude.{◌≡◌, ◌≢◌, ◌<◌, ◌^◌, ℕ, ◌+◌, List, length, if◌then◌else◌, ◌==◌, Option, Some, None, Bool}
 use Rattle.std.specs.Option.{option_map, option_map_or, option_and_then, unwrap_or}
 use Rattle.std.specs.List.{sum_by}
 use Rattle.chunk_index.specs.Lists.{find_by}

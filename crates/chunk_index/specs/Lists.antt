@@ -1,5 +1,5 @@
 -- Lists that are searched by a number of their elements.
-use Rattle.std.specs.Prelude.{◌≡◌, ◌<◌, ◌≤◌, ℕ, List, [], ◌∷◌, length, get_or, if◌then◌else◌, ◌==◌, Option, Some, None}
+use Rattle.std.specs.Prelude.{◌≡◌, ◌<◌, ◌≤◌, ℕ, List, [], ◌∷◌, length, get_or, if◌then◌else◌, ◌==◌, Bool, true, false, Option, Some, None}
 
 -- the first element with the number n
 abbrev pub find_by : {X : Type 0} → (X → ℕ) → List X → ℕ → Option X
@@ -20,3 +20,8 @@ pub record IsGapFor {X : Type 0} (f : X → ℕ) (xs : List X) (n i : ℕ) : Typ
   pub within : i ≤ length xs
   pub lesser : (j : ℕ) (d : X) → j < i → f (get_or xs j d) < n
   pub greater : (j : ℕ) (d : X) → i ≤ j → j < length xs → n < f (get_or xs j d)
+
+-- there is no element
+abbrev pub is_nil : {X : Type 0} → List X → Bool
+is_nil [] = true
+is_nil (x ∷ xs) = false

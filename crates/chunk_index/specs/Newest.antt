@@ -1,5 +1,5 @@
 -- The newest pages of a scan, and the index of them.
-use Rattle.std.specs.Prelude.{◌≡◌, ◌⊎◌, ◌<◌, ◌≤◌, ℕ, List, length, get_or, Option, Some, None}
+use Rattle.std.specs.Prelude.{◌≡◌, ◌⊎◌, ◌<◌, ℕ, List, length, get_or, Some, None}
 use Rattle.flash_tree.specs.declared.place.Found.{Found}
 use Rattle.chunk_index.specs.declared.form.Place.{Place}
 use Rattle.chunk_index.specs.declared.form.Present.TheVariants as presents

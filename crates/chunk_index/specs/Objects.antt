@@ -1,5 +1,5 @@
 -- The entries of all objects.
-use Rattle.std.specs.Prelude.{◌≡◌, ◌≢◌, ◌⊎◌, ℕ, List, length, map, Option}
+use Rattle.std.specs.Prelude.{◌≡◌, ◌≢◌, ◌⊎◌, ℕ, List, length, map, filter, Bool, Option}
 use Rattle.std.specs.Option.{option_map, option_and_then}
 use Rattle.std.specs.List.{sum_by}
 use Rattle.chunk_index.specs.Lists.{find_by}
@@ -31,6 +31,11 @@ entry_count xs = sum_by (λ x. length x.entries.items) xs
 pub record Becomes (to : ℕ → Entry → Entry) (old new : ObjectEntries) : Type 0 where
   pub object : new.object ≡ old.object
   pub entries : new.entries.items ≡ map (to old.object) old.entries.items
+
+-- the entries of the chunks that are to be kept stay
+pub record Filters (keeps : ℕ → ℕ → Bool) (old new : ObjectEntries) : Type 0 where
+  pub object : new.object ≡ old.object
+  pub entries : new.entries.items ≡ filter (λ e. keeps old.object e.chunk) old.entries.items
 
 -- the key of chunk c of object o is another than that of chunk l of object k
 abbrev pub Differs : ℕ → ℕ → ℕ → ℕ → Type 0

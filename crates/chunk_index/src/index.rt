@@ -1,5 +1,6 @@
 // The index.
 ghost use Rattle.std.specs.Prelude.{◌≡◌, ◌<◌, ◌^◌, ℕ, Some, OnOk, OnErr, IfOk, IfErr, IsSome};
+ghost use Rattle.block_state.specs.Table.{Table};
 ghost use Rattle.block_state.specs.TableOf.{table};
 ghost use Rattle.chunk_index.specs.Lists.{Rises, IsAt, IsGapFor};
 ghost use Rattle.chunk_index.specs.Objects.{number, entry_count, look, ChangesKey};
@@ -14,13 +15,16 @@ use block_state::Blocks;
 use flash_tree::Key;
 use std::alloc::{AllocError, Global};
 
+/// No more than a kept count can tell.
+const MOST_ENTRIES: usize = 4_294_967_295;
+
 /// For each key its kept place and its present form. An object without entries and one that is not here mean the
 /// same.
 #[derive(Drop)]
 pub struct Index {
     alloc: Global,
     objects: Vec<ObjectEntries>,
-    size: u32,
+    size: usize,
     ghost rises: { Rises number objects.items },
     ghost counted: { entry_count objects.items ≡ size },
     ghost bounded: { size < 2 ^ 32 },
@@ -32,7 +36,8 @@ impl Index {
 
     /// No key is kept or present.
     pub fn new(alloc: Global) -> Index
-        ensures { IsEmpty result }
+        ensures empty { IsEmpty result }
+        ensures agree { (t : Table) → ((b : ℕ) → (t.entry b).kept ≡ 0) → CountsAgree t result }
     {
         Index {
             alloc,
@@ -66,6 +71,7 @@ impl Index {
     pub fn prepare(&mut self, key: Key) -> Result<(), AllocError>
         ensures same { SameMaps self.old self.new }
         ensures prepared { OnOk result (IsPrepared self.new key.object key.chunk) }
+        ensures agree { (t : Table) → CountsAgree t self.old → CountsAgree t self.new }
     {
         self.prepare_entry(key)
     }
@@ -73,7 +79,8 @@ impl Index {
     /// Gives a prepared key another present form.
     pub fn place(&mut self, key: Key, form: Form)
         requires prepared { IsPrepared self.old key.object key.chunk }
-        ensures { Places key.object key.chunk form self.old self.new }
+        ensures places { Places key.object key.chunk form self.old self.new }
+        ensures agree { (t : Table) → CountsAgree t self.old → CountsAgree t self.new }
     {
         match self.search(key.object) {
             Ok(at) => self.objects[at].place(key.chunk, form),
@@ -115,9 +122,29 @@ impl Index {
         ensures agree { CountsAgree (table blocks.new) self.new }
         ensures counts { Recounts (kept_in self.old) (kept_in self.new) (table blocks.old) (table blocks.new) }
     {
+        self.drop_keys(keep, blocks);
+        self.drop_empty();
+    }
+
+    /// Drops the entry of each key that is not to be kept.
+    fn drop_keys<K: KeepKeys>(&mut self, keep: &K, blocks: &mut Blocks)
+        requires agree { CountsAgree (table blocks.old) self.old }
+        ensures retains { Retains (K.keeps keep.now) self.old self.new }
+        ensures agree { CountsAgree (table blocks.new) self.new }
+        ensures counts { Recounts (kept_in self.old) (kept_in self.new) (table blocks.old) (table blocks.new) }
+    {
         for at in 0..self.objects.len() {
-            self.objects[at].retain(keep, blocks);
+            let gone = self.objects[at].retain(keep, blocks);
+            self.size -= gone;
         }
+    }
+
+    /// Drops each object without entries. No key gets or loses an entry.
+    fn drop_empty(&mut self)
+        ensures entries { (o c : ℕ) → look self.new.objects.items o c ≡ look self.old.objects.items o c }
+        ensures counts { (b : ℕ) → kept_in self.new b ≡ kept_in self.old b }
+    {
+        self.objects.retain(|object| !object.is_empty());
     }
 
     /// Where an object is, or where it would go.
@@ -144,7 +171,7 @@ impl Index {
         ensures same { SameTold self.old self.new }
         ensures prepared { OnOk result (IsPrepared self.new key.object key.chunk) }
     {
-        if self.size == u32::MAX {
+        if self.size >= MOST_ENTRIES {
             return Err(AllocError);
         }
         let at = self.prepare_object(key.object)?;

@@ -1,7 +1,7 @@
 // The entries of one object.
-ghost use Rattle.std.specs.Prelude.{◌≡◌, ◌<◌, [], IfOk, IfErr, OnErr, IsSome, Some, length, ℕ};
+ghost use Rattle.std.specs.Prelude.{◌≡◌, ◌<◌, ◌+◌, [], IfOk, IfErr, OnErr, IsSome, Some, length, ℕ};
 ghost use Rattle.block_state.specs.TableOf.{table};
-ghost use Rattle.chunk_index.specs.Lists.{Rises, IsAt, IsGapFor, find_by};
+ghost use Rattle.chunk_index.specs.Lists.{Rises, IsAt, IsGapFor, find_by, is_nil};
 ghost use Rattle.chunk_index.specs.Entries.{chunk, kept_among, settled, retained, with_form, with_kept, Prepares, Changes, Follow};
 ghost use Rattle.chunk_index.specs.Counts.{Recounts, HasRoom};
 
@@ -10,6 +10,7 @@ use crate::entry::Entry;
 use crate::form::{Form, Place};
 use crate::keep::KeepKeys;
 use block_state::Blocks;
+use flash_tree::Key;
 use std::alloc::{AllocError, Global};
 
 /// The entries of one object, in the order of their chunks.
@@ -21,7 +22,7 @@ pub struct ObjectEntries {
 }
 
 impl ObjectEntries {
-    ghost use Rattle.chunk_index.specs.Objects.{Becomes};
+    ghost use Rattle.chunk_index.specs.Objects.{Becomes, Filters};
 
     /// None as yet.
     pub fn new(alloc: Global, object: u64) -> ObjectEntries
@@ -124,8 +125,28 @@ impl ObjectEntries {
         }
     }
 
+    /// Whether there are none.
+    pub fn is_empty(&self) -> bool
+        ensures { result ≡ is_nil self.now.entries.items }
+    {
+        self.entries.is_empty()
+    }
+
+    /// Drops the entry of each chunk that is not to be kept, and says how many these were.
+    pub fn retain<K: KeepKeys>(&mut self, keep: &K, blocks: &mut Blocks) -> usize
+        requires room { HasRoom (table blocks.old) (kept_among self.old.entries.items) (length self.old.entries.items) }
+        ensures entries { Filters (K.keeps keep.now) self.old self.new }
+        ensures counts { Recounts (kept_among self.old.entries.items) (kept_among self.new.entries.items) (table blocks.old) (table blocks.new) }
+        ensures gone { length self.new.entries.items + result ≡ length self.old.entries.items }
+    {
+        let before = self.entries.len();
+        self.release(keep, blocks);
+        self.sweep(keep);
+        before - self.entries.len()
+    }
+
     /// Drops what is told of each chunk that is not to be kept.
-    pub fn retain<K: KeepKeys>(&mut self, keep: &K, blocks: &mut Blocks)
+    fn release<K: KeepKeys>(&mut self, keep: &K, blocks: &mut Blocks)
         requires room { HasRoom (table blocks.old) (kept_among self.old.entries.items) (length self.old.entries.items) }
         ensures entries { Becomes (retained (K.keeps keep.now)) self.old self.new }
         ensures counts { Recounts (kept_among self.old.entries.items) (kept_among self.new.entries.items) (table blocks.old) (table blocks.new) }
@@ -136,5 +157,16 @@ impl ObjectEntries {
             change::retain(keep, object, &mut entry, blocks);
             self.entries[at] = entry;
         }
+    }
+
+    /// Takes out the entry of each chunk that is not to be kept.
+    fn sweep<K: KeepKeys>(&mut self, keep: &K)
+        ensures { Filters (K.keeps keep.now) self.old self.new }
+    {
+        let object = self.object;
+        self.entries.retain(|entry| {
+            let chunk = entry.chunk;
+            keep.keeps(Key { object, chunk })
+        });
     }
 }

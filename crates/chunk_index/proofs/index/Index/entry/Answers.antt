@@ -1,6 +1,4 @@
-use Rattle.std.proofs.Common.{sym, ap, ◌∙◌}
-use Rattle.chunk_index.specs.Lists.{find_by}
-use Rattle.chunk_index.specs.Entries.{chunk}
+use Rattle.std.proofs.Common.{sym, ◌∙◌}
 use Rattle.chunk_index.proofs.Looking.{look_read, look_gap}
 use Rattle.chunk_index.proofs.index.Index.entry.Goals as goal
 

@@ -1,8 +1,6 @@
-use Rattle.std.proofs.Common.{length}
 use Rattle.block_state.specs.TableOf.{table}
 use Rattle.chunk_index.specs.Counts.{Recounts}
 use Rattle.chunk_index.specs.Maps.{kept_in, CountsAgree}
-use Rattle.chunk_index.specs.Newest.{AllPrepared}
 use Rattle.chunk_index.proofs.Indexing.{Indexing}
 use Rattle.chunk_index.proofs.index.Index.keep_all.Given as goal
 

@@ -1,4 +1,4 @@
-use Rattle.std.proofs.Common.{◌≡◌, ◌<◌, ◌+◌, ◌^◌, ℕ, ap, ◌∙◌, arith, if◌then◌else◌, Bool, true, false}
+use Rattle.std.proofs.Common.{◌≡◌, ◌+◌, ap, ◌∙◌, arith, if◌then◌else◌}
 use Rattle.chunk_index.specs.Objects.{number, entry_count}
 use Rattle.chunk_index.specs.Told.{SameTold}
 use Rattle.chunk_index.specs.declared.index.Index.{Index}
@@ -26,7 +26,7 @@ invariant_of-self-then-grown c =
     record {
       rises = rises_set number _ middle.rises _ _ found _ same;
       counted = entries_grown _ middle.rises _ _ found _ is _ same _ _ c.in_ok-grown.ensures.ok ∙ ap (λ b. entry_count middle.objects.items + (if b then 1 else 0)) c.if-grown.true ∙ ap (λ n. n + 1) middle.counted;
-      bounded = omega (arith, c.if-self.false, c.args.self.now.bounded, c.prepare_object.ensures.size);
+      bounded = omega (arith, c.if-self-ge-MOST_ENTRIES.false, c.args.self.now.bounded, c.prepare_object.ensures.size);
     }
 
 pub invariant_of-self-else-grown : goal.invariant_of-self-else-grown

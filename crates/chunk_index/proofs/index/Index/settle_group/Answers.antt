@@ -1,8 +1,8 @@
-use Rattle.std.proofs.Common.{◌<◌, ◌≤◌, length, refl, arith, ◌∙◌}
+use Rattle.std.proofs.Common.{◌<◌, ◌≤◌, length, refl, arith}
 use Rattle.chunk_index.proofs.Counting.{recounts_on}
 use Rattle.chunk_index.proofs.Looking.{room_object, recounts_object}
 use Rattle.chunk_index.proofs.Passing.{passes_here, passes_more, passes_all, stands, follows_here}
-use Rattle.chunk_index.proofs.Mapping.{pass_space, settles_all}
+use Rattle.chunk_index.proofs.Mapping.{agree_room, agree_after, settles_all}
 use Rattle.chunk_index.proofs.index.Index.settle_group.Goals as goal
 
 pub settle-requires-clause-follow : goal.settle-requires-clause-follow
@@ -13,16 +13,17 @@ settle-requires-clause-follow c =
 pub settle-requires-clause-room : goal.settle-requires-clause-room
 settle-requires-clause-room c =
     let lt : c.loop-at.at < length c.loop-at.self.objects.items = omega (arith, c.loop-at-test.true, c.len-at-end.ensures, c.loop-at.invariant.passes.count) in
-    room_object _ c.loop-at.self.rises _ _ (stands _ c.loop-at.at lt _ c.index_mut.ensures.value) _ c.index_mut.ensures.value _ (pass_space _ _ c.args.self.now c.loop-at.self c.requires.agree c.loop-at.invariant.counts c.loop-at.invariant.size)
+    room_object _ c.loop-at.self.rises _ _ (stands _ c.loop-at.at lt _ c.index_mut.ensures.value) _ c.index_mut.ensures.value _ (agree_room _ c.loop-at.self c.loop-at.invariant.agree)
 
 pub loop-at-preserved : goal.loop-at-preserved
 loop-at-preserved c =
     let old : c.loop-at.at < length c.args.self.now.objects.items = omega (arith, c.loop-at-test.true, c.len-at-end.ensures) in
     let lt : c.loop-at.at < length c.loop-at.self.objects.items = omega (arith, c.loop-at-test.true, c.len-at-end.ensures, c.loop-at.invariant.passes.count) in
+    let step = recounts_object _ c.loop-at.self.rises _ _ (stands _ c.loop-at.at lt _ c.index_mut.ensures.value) _ c.index_mut.ensures.value _ c.settle.ensures.entries.object c.settle.ensures.counts in
     record {
       passes = passes_more c.loop-at.invariant.passes old _ _ c.index_mut.ensures.value c.settle.ensures.entries;
-      size = c.loop-at.invariant.size;
-      counts = recounts_on c.loop-at.invariant.counts (recounts_object _ c.loop-at.self.rises _ _ (stands _ c.loop-at.at lt _ c.index_mut.ensures.value) _ c.index_mut.ensures.value _ c.settle.ensures.entries.object c.settle.ensures.counts);
+      agree = agree_after _ _ c.loop-at.self _ c.loop-at.invariant.agree step;
+      counts = recounts_on c.loop-at.invariant.counts step;
     }
 
 pub returns-clause-settles : goal.returns-clause-settles

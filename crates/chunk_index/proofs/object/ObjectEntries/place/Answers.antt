@@ -1,6 +1,5 @@
-use Rattle.std.proofs.Common.{sym, ap, refl, ◌∙◌}
+use Rattle.std.proofs.Common.{ap, ◌∙◌}
 use Rattle.chunk_index.specs.Entries.{chunk, with_form}
-use Rattle.chunk_index.specs.declared.entry.Entry.{Entry}
 use Rattle.chunk_index.proofs.Changing.{changes_at, gap_absurd}
 use Rattle.chunk_index.proofs.object.ObjectEntries.place.Goals as goal
 

@@ -1,4 +1,4 @@
-use Rattle.std.proofs.Common.{arith, ◌<◌, ◌∙◌, length, sym}
+use Rattle.std.proofs.Common.{arith, ◌<◌, length}
 use Rattle.std.proofs.lemmas.List.Edits.{map_over_more}
 use Rattle.chunk_index.specs.Entries.{settled}
 use Rattle.chunk_index.proofs.Changing.{pass_room, pass_follows, pass_counts}

@@ -2,7 +2,7 @@ use Rattle.std.proofs.Common.{◌≡◌, ◌++◌, map, take, drop}
 use Rattle.block_state.specs.TableOf.{table}
 use Rattle.chunk_index.specs.Entries.{kept_among, retained}
 use Rattle.chunk_index.specs.Counts.{Recounts}
-use Rattle.chunk_index.proofs.object.ObjectEntries.retain.Given as goal
+use Rattle.chunk_index.proofs.object.ObjectEntries.release.Given as goal
 
 abbrev pub invariant-loop-at : goal.invariant-loop-at
 invariant-loop-at g l = record {

@@ -12,3 +12,6 @@ mod object;
 pub use form::{Form, Place, Present};
 pub use index::Index;
 pub use keep::KeepKeys;
+
+#[cfg(test)]
+mod tests;

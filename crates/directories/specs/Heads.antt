@@ -16,3 +16,8 @@ pub record IsHeadOf (head : DirectoryHead) (f : Fields) : Type 0 where
 abbrev pub IsGoneFault : Device → DirectoryFault → Type 0
 IsGoneFault new faults.Device = new.gone ≡ true
 IsGoneFault new faults.Damaged = ⊥
+
+-- that the device failed is said only of one that is gone
+abbrev pub SaysGone : Device → DirectoryFault → Type 0
+SaysGone new faults.Device = new.gone ≡ true
+SaysGone new faults.Damaged = Unit {0}

@@ -8,7 +8,7 @@ ghost use Rattle.flash_tree.specs.Tree.{ReadsDir};
 ghost use Rattle.posix_profile.specs.Sizes.{Sizes};
 ghost use Rattle.posix_profile.specs.State.{Entries};
 ghost use Rattle.block_state.specs.TableOf.{table};
-ghost use Rattle.directories.specs.Heads.{IsHeadOf, IsGoneFault};
+ghost use Rattle.directories.specs.Heads.{IsHeadOf, IsGoneFault, SaysGone};
 
 use crate::fault::DirectoryFault;
 use flash_tree::Key;
@@ -54,6 +54,7 @@ pub fn read_head<N: Nand>(
     ensures head { (N.state store.old.device).honest ≡ true → (z : Sizes) (moment : ℕ) (entries : Entries)
         → (r : ReadsDir z (HasNewest (N.state store.old.device).flash) object moment entries) → z.page_bytes ≡ (N.state store.old.device).geometry.bytes
         → IfOk result (λ head. IsHeadOf head r.fields) }
+    ensures gone { IfErr result (SaysGone (N.state store.new.device)) }
     ensures fault { (N.state store.old.device).honest ≡ true → (z : Sizes) (moment : ℕ) (entries : Entries)
         → (r : ReadsDir z (HasNewest (N.state store.old.device).flash) object moment entries) → z.page_bytes ≡ (N.state store.old.device).geometry.bytes
         → IfErr result (IsGoneFault (N.state store.new.device)) }

@@ -1,6 +1,7 @@
 // The look-up of a name.
 ghost use Rattle.std.specs.Prelude.{◌≡◌, ◌≤◌, ◌+◌, ◌*◌, ℕ, true, IfOk, IfErr, IsOkAnd, length, take, drop};
 ghost use Rattle.std.specs.FinMap as map;
+ghost use Rattle.nand_model.specs.Calls.{Device};
 ghost use Rattle.nand_model.specs.Changes.{OnlyReads};
 ghost use Rattle.page_tags.specs.Slots.{Entry, IsSlot, slot_bytes};
 ghost use Rattle.flash_tree.specs.Newest.{HasNewest};
@@ -8,7 +9,7 @@ ghost use Rattle.flash_tree.specs.Tree.{ReadsDir, SlotIs};
 ghost use Rattle.posix_profile.specs.Sizes.{Sizes};
 ghost use Rattle.posix_profile.specs.State.{Entries};
 ghost use Rattle.block_state.specs.TableOf.{table};
-ghost use Rattle.directories.specs.Heads.{IsGoneFault};
+ghost use Rattle.directories.specs.Heads.{IsGoneFault, SaysGone};
 ghost use Rattle.directories.specs.Slots.{NamedBy};
 
 use crate::fault::DirectoryFault;
@@ -21,7 +22,8 @@ use page_tags::{SLOT_BYTES, decode_slot};
 /// The object that the bytes of a slot lead to, if they have this name.
 fn named_in(bytes: &[u8], name: &[u8]) -> Result<Option<u64>, DirectoryFault>
     requires { length bytes.now ≡ 272 }
-    ensures { (entry : Entry) → IsSlot entry → bytes.now ≡ slot_bytes entry → IsOkAnd result (NamedBy entry name.now) }
+    ensures named { (entry : Entry) → IsSlot entry → bytes.now ≡ slot_bytes entry → IsOkAnd result (NamedBy entry name.now) }
+    ensures damaged { (new : Device) → IfErr result (SaysGone new) }
 {
     let Some(slot) = decode_slot(bytes) else {
         return Err(DirectoryFault::Damaged);
@@ -54,6 +56,7 @@ fn slot_named<N: Nand>(
     ensures table { table store.new.blocks ≡ table store.old.blocks }
     ensures named { (N.state store.old.device).honest ≡ true → (z : Sizes) (entry : Entry) → SlotIs z (HasNewest (N.state store.old.device).flash) object i entry
         → z.page_bytes ≡ (N.state store.old.device).geometry.bytes → IfOk result (NamedBy entry name.now) }
+    ensures gone { IfErr result (SaysGone (N.state store.new.device)) }
     ensures fault { (N.state store.old.device).honest ≡ true → (z : Sizes) (entry : Entry) → SlotIs z (HasNewest (N.state store.old.device).flash) object i entry
         → z.page_bytes ≡ (N.state store.old.device).geometry.bytes → IfErr result (IsGoneFault (N.state store.new.device)) }
 {
@@ -80,6 +83,7 @@ pub fn find<N: Nand>(
     ensures found { (N.state store.old.device).honest ≡ true → (z : Sizes) (moment : ℕ) (entries : Entries)
         → (r : ReadsDir z (HasNewest (N.state store.old.device).flash) object moment entries) → z.page_bytes ≡ (N.state store.old.device).geometry.bytes
         → IfOk result (λ found. found ≡ map.get entries name.now) }
+    ensures gone { IfErr result (SaysGone (N.state store.new.device)) }
     ensures fault { (N.state store.old.device).honest ≡ true → (z : Sizes) (moment : ℕ) (entries : Entries)
         → (r : ReadsDir z (HasNewest (N.state store.old.device).flash) object moment entries) → z.page_bytes ≡ (N.state store.old.device).geometry.bytes
         → IfErr result (IsGoneFault (N.state store.new.device)) }

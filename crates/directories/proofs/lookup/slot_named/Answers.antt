@@ -21,7 +21,7 @@ returns-in-Ok-true-clause-named g c = λ honest z entry is size.
     let bytes : c.slot_of.result.now ≡ slot_bytes entry = c.slot_of.ensures.bytes
     ∙ ap (λ n. take 272 (drop (272 * (c.args.i % n)) c.page.result.now)) slots
     ∙ ap (λ p. take 272 (drop (272 * (c.args.i % page_slots z)) p)) c.page.ensures ∙ there in
-    ok_named entry c.args.name.now c.named_in.result (c.named_in.ensures entry is.2 bytes)
+    ok_named entry c.args.name.now c.named_in.result (c.named_in.ensures.named entry is.2 bytes)
 
 pub returns-in-Ok-true-clause-fault : goal.returns-in-Ok-true-clause-fault
 returns-in-Ok-true-clause-fault g c = λ honest z entry is size.
@@ -33,4 +33,7 @@ returns-in-Ok-true-clause-fault g c = λ honest z entry is size.
     let bytes : c.slot_of.result.now ≡ slot_bytes entry = c.slot_of.ensures.bytes
     ∙ ap (λ n. take 272 (drop (272 * (c.args.i % n)) c.page.result.now)) slots
     ∙ ap (λ p. take 272 (drop (272 * (c.args.i % page_slots z)) p)) c.page.ensures ∙ there in
-    no_fault entry c.args.name.now (g.N.Nand.state c.find.new.self.device) c.named_in.result (c.named_in.ensures entry is.2 bytes)
+    no_fault entry c.args.name.now (g.N.Nand.state c.find.new.self.device) c.named_in.result (c.named_in.ensures.named entry is.2 bytes)
+
+pub returns-in-Ok-true-clause-gone : goal.returns-in-Ok-true-clause-gone
+returns-in-Ok-true-clause-gone g c = c.named_in.ensures.damaged (g.N.Nand.state c.find.new.self.device)

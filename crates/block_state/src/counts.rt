@@ -75,7 +75,7 @@ impl Blocks {
         }
     }
 
-    /// The lowest free block.
+    /// A free block, if there is one.
     pub fn first_free(&self) -> Option<u32>
         ensures found { IfSome result (λ block. (block < (table self.now).geometry.blocks) × (is_free (table self.now) block ≡ true)) }
         ensures none { IfNone result ((b : ℕ) → b < (table self.now).geometry.blocks → is_free (table self.now) b ≡ false) }

@@ -1,7 +1,7 @@
 // The opening of a store.
 ghost use Rattle.std.specs.Prelude.{◌≡◌, ◌↔◌, ◌<◌, ◌^◌, length, true, IsTrue, IfOk, IfErr};
 ghost use Rattle.nand_model.specs.Changes.{OnlyReads};
-ghost use Rattle.flash_tree.specs.Newest.{AreGreatest};
+ghost use Rattle.flash_tree.specs.Newest.{Numbers, AreGreatest};
 ghost use Rattle.flash_tree.specs.Places.{numbers_of};
 ghost use Rattle.block_state.specs.TableOf.{table};
 ghost use Rattle.transactions.specs.Ready.{IsReady};
@@ -44,6 +44,8 @@ impl<N: Nand> Store<N> {
     /// The store on a device, which is only read.
     pub fn open(alloc: Global, device: N) -> Result<Store<N>, (N, OpenFault)>
         ensures reads { IfOk result (λ store. OnlyReads (N.state device) (N.state store.device)) }
+        ensures writable { (N.state device).honest ≡ true → (n : Numbers) → AreGreatest (N.state device).flash n
+            → IfOk result (λ store. IsTrue store.writable ↔ ((n.group < 2 ^ 62) × (n.seq < 2 ^ 62))) }
         ensures given_back { IfErr result (λ back. OnlyReads (N.state device) (N.state back.0)) }
         ensures gone { IfErr result (λ back. back.1 ≡ OpenFault.Gone → (N.state back.0).gone ≡ true) }
     {

@@ -1,2 +1,4 @@
 pub mod Heads
 pub mod Slots
+pub mod HeadPages
+pub mod Additions

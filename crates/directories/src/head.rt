@@ -51,6 +51,7 @@ pub fn read_head<N: Nand>(
 ) -> Result<DirectoryHead, DirectoryFault>
     ensures reads { OnlyReads (N.state store.old.device) (N.state store.new.device) }
     ensures table { table store.new.blocks ≡ table store.old.blocks }
+    ensures writable { store.new.writable ≡ store.old.writable }
     ensures head { (N.state store.old.device).honest ≡ true → (z : Sizes) (moment : ℕ) (entries : Entries)
         → (r : ReadsDir z (HasNewest (N.state store.old.device).flash) object moment entries) → z.page_bytes ≡ (N.state store.old.device).geometry.bytes
         → IfOk result (λ head. IsHeadOf head r.fields) }

@@ -54,6 +54,7 @@ fn slot_named<N: Nand>(
 ) -> Result<Option<u64>, DirectoryFault>
     ensures reads { OnlyReads (N.state store.old.device) (N.state store.new.device) }
     ensures table { table store.new.blocks ≡ table store.old.blocks }
+    ensures writable { store.new.writable ≡ store.old.writable }
     ensures named { (N.state store.old.device).honest ≡ true → (z : Sizes) (entry : Entry) → SlotIs z (HasNewest (N.state store.old.device).flash) object i entry
         → z.page_bytes ≡ (N.state store.old.device).geometry.bytes → IfOk result (NamedBy entry name.now) }
     ensures gone { IfErr result (SaysGone (N.state store.new.device)) }
@@ -80,6 +81,7 @@ pub fn find<N: Nand>(
 ) -> Result<Option<u64>, DirectoryFault>
     ensures reads { OnlyReads (N.state store.old.device) (N.state store.new.device) }
     ensures table { table store.new.blocks ≡ table store.old.blocks }
+    ensures writable { store.new.writable ≡ store.old.writable }
     ensures found { (N.state store.old.device).honest ≡ true → (z : Sizes) (moment : ℕ) (entries : Entries)
         → (r : ReadsDir z (HasNewest (N.state store.old.device).flash) object moment entries) → z.page_bytes ≡ (N.state store.old.device).geometry.bytes
         → IfOk result (λ found. found ≡ map.get entries name.now) }

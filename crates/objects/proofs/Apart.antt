@@ -1,5 +1,5 @@
 -- No key stands twice in a change.
-use Rattle.std.proofs.Common.{◌≡◌, ◌<◌, ◌≤◌, ◌∙◌, ℕ, List, length, sym, ap, Some, inl, inr, refl, arith}
+use Rattle.std.proofs.Common.{◌≡◌, ◌<◌, ◌≤◌, ◌∙◌, ℕ, List, length, sym, ap, inl, inr, refl, arith}
 use Rattle.std.proofs.lemmas.Bool.{cases_order}
 use Rattle.nand_model.specs.declared.geometry.Geometry.{Geometry}
 use Rattle.flash_tree.specs.TreeLaws.{slice_get_within}

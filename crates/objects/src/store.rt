@@ -1,8 +1,9 @@
 // The store of pages.
-ghost use Rattle.std.specs.Prelude.{◌≡◌, ◌⊎◌, ◌<◌, ◌≤◌, ℕ, List, length, true, false, IfOk, IfErr, OnOk, OnErr, IsErrOf};
+ghost use Rattle.std.specs.Prelude.{◌≡◌, ◌⊎◌, ◌↔◌, ◌<◌, ◌≤◌, ◌^◌, ℕ, List, length, true, false, IsTrue, IfOk, IfErr, OnOk, OnErr, IsErrOf};
 ghost use Rattle.nand_model.specs.Calls.{Lasts};
 ghost use Rattle.nand_model.specs.Changes.{OnlyReads};
-ghost use Rattle.flash_tree.specs.Newest.{HasNewest};
+ghost use Rattle.flash_tree.specs.Newest.{HasNewest, AreAbove};
+ghost use Rattle.flash_tree.specs.Sound.{number_limit};
 ghost use Rattle.block_state.specs.TableOf.{table};
 ghost use Rattle.transactions.specs.Ready.{IsReady};
 ghost use Rattle.objects.specs.Changes.{CanApply, KeepsNewest, HasChange};
@@ -81,6 +82,13 @@ impl<N: Nand> Store<N> {
         &self.scratch
     }
 
+    /// Whether there are numbers for another group and another block.
+    fn has_numbers(&self) -> bool
+        ensures { IsTrue result ↔ ((self.now.writable ≡ true) × ((table self.now.blocks).next_group < 2 ^ 62) × ((table self.now.blocks).next_seq < 2 ^ 62)) }
+    {
+        self.writable && self.blocks.next_group() < LIMIT && self.blocks.next_seq() < LIMIT
+    }
+
     /// Writes the pages of a change as one group: all of them are there afterwards, or none.
     ///
     /// `NoRoom` changes nothing. After another fault the pages are those before or those with the change.
@@ -95,8 +103,10 @@ impl<N: Nand> Store<N> {
             ⊎ HasChange change.now.pages.items (N.state self.old.device).flash (N.state self.new.device).flash) }
         ensures why { IfErr result (WhyNot (N.state self.old.device) (N.state self.new.device) self.old.writable (table self.old.blocks) (length change.now.pages.items)) }
         ensures marks { (N.state self.new.device).flash.bad ≡ (N.state self.old.device).flash.bad }
+        ensures numbers { (N.state self.old.device).honest ≡ true → AreAbove (N.state self.old.device).flash (record { version = number_limit; group = number_limit; seq = number_limit })
+            → AreAbove (N.state self.new.device).flash (record { version = number_limit; group = number_limit; seq = number_limit }) }
     {
-        if !self.writable || self.blocks.next_group() >= LIMIT || self.blocks.next_seq() >= LIMIT {
+        if !self.has_numbers() {
             return Err(StoreFault::Worn);
         }
         write_change(

@@ -45,6 +45,7 @@ pub loop-i-preserved : goal.loop-i-preserved
 loop-i-preserved g c = record {
   reads = only_reads_on _ _ _ c.loop-i.invariant.reads c.slot_named.ensures.reads;
   kept = c.slot_named.ensures.table ∙ c.loop-i.invariant.kept;
+  writable = c.slot_named.ensures.writable ∙ c.loop-i.invariant.writable;
   none = λ honest z moment entries r size k entry less is name. elim (cases_eq k c.loop-i.i) [
     | inr ne ↦ c.loop-i.invariant.none honest z moment entries r size k entry (omega (arith, less, ne)) is name
     | inl here ↦

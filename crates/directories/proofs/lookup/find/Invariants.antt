@@ -12,6 +12,7 @@ abbrev pub invariant-loop-i : goal.invariant-loop-i
 invariant-loop-i g l = record {
   reads : OnlyReads (g.N.Nand.state l.fn.store.device) (g.N.Nand.state l.store.device);
   kept : table l.store.blocks ≡ table l.fn.store.blocks;
+  writable : l.store.writable ≡ l.fn.store.writable;
   none : (g.N.Nand.state l.fn.store.device).honest ≡ true → (z : Sizes) (moment : ℕ) (entries : Entries) (r : ReadsDir z (HasNewest (g.N.Nand.state l.fn.store.device).flash) l.object moment entries)
       → z.page_bytes ≡ (g.N.Nand.state l.fn.store.device).geometry.bytes → (k : ℕ) (entry : Entry) → k < l.i → slice_get r.slots k ≡ Some entry → entry.name ≢ l.name;
 }

@@ -1,4 +1,4 @@
-use Rattle.std.proofs.Common.{◌≡◌, ◌<◌, ℕ, inl, inr, subst, sym, refl, IsTrue, arith, rules}
+use Rattle.std.proofs.Common.{inl, inr, subst, sym, IsTrue, arith, rules}
 use Rattle.std.proofs.lemmas.Bool.{cases_eq}
 use Rattle.objects.specs.Changes.{MayStand}
 use Rattle.objects.proofs.change.are_pages.Goals as goal

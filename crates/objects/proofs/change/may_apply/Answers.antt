@@ -1,4 +1,4 @@
-use Rattle.std.proofs.Common.{◌≤◌, length, arith, rules}
+use Rattle.std.proofs.Common.{◌≤◌, length, rules}
 use Rattle.objects.proofs.Apart.{stands, each_stands}
 use Rattle.objects.proofs.change.may_apply.Goals as goal
 

@@ -1,4 +1,4 @@
-use Rattle.std.proofs.Common.{ap, inl, inr, arith}
+use Rattle.std.proofs.Common.{ap, arith}
 use Rattle.std.proofs.lemmas.Grind.{common_steps}
 use Rattle.nand_model.specs.declared.geometry.Geometry.{Geometry}
 use Rattle.transactions.specs.ReadyLaws.{ready_read}

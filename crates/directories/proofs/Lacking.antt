@@ -1,0 +1,18 @@
+-- Which faults a call that adds a name passes on.
+use Rattle.std.specs.Prelude.{ℕ}
+use Rattle.nand_model.specs.Calls.{Device}
+use Rattle.directories.specs.Heads.{IsGoneFault, MayLack, MayLackRoom}
+use Rattle.directories.specs.declared.fault.DirectoryFault.{DirectoryFault}
+use Rattle.directories.specs.declared.fault.DirectoryFault.TheVariants as faults
+
+pub gone_lacks : (new : Device) (n : ℕ) (fault : DirectoryFault) → IsGoneFault new fault → MayLackRoom new n fault
+gone_lacks new n faults.NoMemory is = tt
+gone_lacks new n faults.Device is = is
+gone_lacks new n faults.Damaged is = is
+gone_lacks new n faults.Full is = absurd is
+
+pub lacks : (new : Device) (n : ℕ) (fault : DirectoryFault) → MayLack new fault → MayLackRoom new n fault
+lacks new n faults.NoMemory is = tt
+lacks new n faults.Device is = is
+lacks new n faults.Damaged is = is
+lacks new n faults.Full is = absurd is

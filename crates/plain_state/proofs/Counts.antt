@@ -15,8 +15,9 @@ use Rattle.posix_profile.specs.NameSteps.{directories_above}
 use Rattle.posix_profile.specs.Names.{has_entry_to, names_to, parent, is_named}
 use Rattle.plain_state.specs.declared.object.PlainObject.{PlainObject}
 use Rattle.plain_state.specs.declared.object.PlainHandle.{PlainHandle}
-use Rattle.plain_state.specs.PlainState.{entries_in, object_of, objects_in, handle_of, handles_in}
-use Rattle.plain_state.specs.Views.{name_cmp, entries_objects, entries_entries, values_objects, values_handles, values_entries}
+use Rattle.name_map.specs.NameEntries.{entries_in, name_cmp, entries_entries, values_entries}
+use Rattle.plain_state.specs.PlainState.{object_of, objects_in, handle_of, handles_in}
+use Rattle.plain_state.specs.Views.{entries_objects, values_objects, values_handles}
 
 any_map : {X Y : Type 0} (p : Y → Bool) (f : X → Y) (xs : List X) → list_any p (list_map f xs) ≡ list_any (λ x. p (f x)) xs
 any_map p f [] = refl

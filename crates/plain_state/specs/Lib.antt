@@ -1,4 +1,3 @@
 pub mod PlainState
 pub mod Places
-pub mod Seen
 pub mod Views

@@ -2,17 +2,13 @@
 use Rattle.std.specs.Prelude.{ℕ, map as list_map}
 use Rattle.std.specs.FinMap as map
 use Rattle.std.specs.BTreeMap.{BTreeMap}
-use Rattle.std.specs.Global.{Vec}
 use Rattle.posix_profile.specs.Sizes.{Sizes}
-use Rattle.posix_profile.specs.State.{Object, File, Dir, Entries, Objects, Handle, Handles}
+use Rattle.posix_profile.specs.State.{Object, File, Dir, Objects, Handle, Handles}
+use Rattle.name_map.specs.NameEntries.{entries_in}
 use Rattle.plain_state.specs.declared.object.PlainObject.{PlainObject}
 use Rattle.plain_state.specs.declared.object.PlainObject.TheVariants as plain
 use Rattle.plain_state.specs.declared.object.PlainHandle.{PlainHandle}
 use Rattle.plain_state.specs.declared.sizes.PlainSizes.{PlainSizes}
-
--- the entries by their names
-abbrev pub entries_in : BTreeMap (Vec ℕ) ℕ → Entries
-entries_in m = map.from_entries (list_map (λ e. (e.0.items, e.1)) m.entries)
 
 -- a file with its bytes, or a directory with its entries
 abbrev pub object_of : PlainObject → Object

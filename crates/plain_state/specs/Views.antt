@@ -1,11 +1,8 @@
 -- The maps of the plain volume seen as those of its state.
 use Rattle.std.specs.Prelude.{◌≡◌, ◌<◌, ℕ, ◌+◌, ◌/◌, ◌%◌, min, List, [], ◌∷◌, map as list_map, length, sum_by, Option, Some, None, is_some}
 use Rattle.std.proofs.Common.{refl, ◌∙◌, ap, arith}
-use Rattle.std.specs.Global.{Vec}
-use Rattle.std.specs.declared.cmp.Ordering.{Ordering}
 use Rattle.std.specs.Ordering.{nat_cmp, is_eq}
 use Rattle.std.specs.Cmp.{nat_cmp_total}
-use Rattle.std.specs.Cmp.Lexicographic.{slice_cmp, nat_list_cmp_total}
 use Rattle.std.specs.Option.{option_map, option_copied}
 use Rattle.std.specs.Map.{remove_entry}
 use Rattle.std.specs.BTreeMap as tree
@@ -22,8 +19,8 @@ use Rattle.posix_profile.specs.Charge.{ceiling, cost, charge}
 use Rattle.posix_profile.specs.State.{Object}
 use Rattle.plain_state.specs.declared.object.PlainObject.{PlainObject}
 use Rattle.plain_state.specs.declared.object.PlainHandle.{PlainHandle}
-use Rattle.plain_state.specs.PlainState.{entries_in, object_of, objects_in, handle_of, handles_in}
-use Rattle.plain_state.specs.Seen.{get_seen, entries_seen, insert_seen, remove_seen}
+use Rattle.plain_state.specs.PlainState.{object_of, objects_in, handle_of, handles_in}
+use Rattle.name_map.specs.Seen.{get_seen, entries_seen, insert_seen, remove_seen}
 use denote.Bor.{Bor}
 
 -- a view of what a reference points to
@@ -37,21 +34,11 @@ get_object m o = get_seen nat_cmp (λ (k : ℕ). k) object_of nat_cmp_total m.en
 pub get_handle : (m : BTreeMap ℕ PlainHandle) (fd : ℕ) → map.get (handles_in m) fd ≡ option_map handle_of (tree.get nat_cmp m fd)
 get_handle m fd = get_seen nat_cmp (λ (k : ℕ). k) handle_of nat_cmp_total m.entries fd
 
-pub get_entry : (m : BTreeMap (Vec ℕ) ℕ) (name : List ℕ) → map.get (entries_in m) name ≡ option_map (λ (n : ℕ). n) (tree.get_by (λ k. slice_cmp nat_cmp name k.items) m)
-get_entry m name = get_seen (slice_cmp nat_cmp) (λ (k : Vec ℕ). k.items) (λ (n : ℕ). n) nat_list_cmp_total m.entries name
-
 pub insert_object : (m n : BTreeMap ℕ PlainObject) (k : ℕ) (v : PlainObject) → tree.IsOrdered nat_cmp m → tree.IsOrdered nat_cmp n → n.entries ≡ insert_entry nat_cmp m.entries k v → objects_in n ≡ map.insert (objects_in m) k (object_of v)
 insert_object m n k v old new is = insert_seen nat_cmp (λ (k : ℕ). k) object_of nat_cmp_total m.entries n.entries k v old new is
 
 pub insert_handle : (m n : BTreeMap ℕ PlainHandle) (k : ℕ) (v : PlainHandle) → tree.IsOrdered nat_cmp m → tree.IsOrdered nat_cmp n → n.entries ≡ insert_entry nat_cmp m.entries k v → handles_in n ≡ map.insert (handles_in m) k (handle_of v)
 insert_handle m n k v old new is = insert_seen nat_cmp (λ (k : ℕ). k) handle_of nat_cmp_total m.entries n.entries k v old new is
-
--- the order of the names' bytes
-abbrev pub name_cmp : Vec ℕ → Vec ℕ → Ordering
-name_cmp a b = slice_cmp nat_cmp a.items b.items
-
-pub insert_name : (m n : BTreeMap (Vec ℕ) ℕ) (k : Vec ℕ) (v : ℕ) → tree.IsOrdered name_cmp m → tree.IsOrdered name_cmp n → n.entries ≡ insert_entry name_cmp m.entries k v → entries_in n ≡ map.insert (entries_in m) k.items v
-insert_name m n k v old new is = insert_seen (slice_cmp nat_cmp) (λ (k : Vec ℕ). k.items) (λ (n : ℕ). n) nat_list_cmp_total m.entries n.entries k v old new is
 
 pub entries_objects : (m : BTreeMap ℕ PlainObject) → tree.IsOrdered nat_cmp m → map.entries (objects_in m) ≡ list_map (λ e. (e.0, object_of e.1)) m.entries
 entries_objects m sorted = entries_seen nat_cmp (λ (k : ℕ). k) object_of nat_cmp_total m.entries sorted
@@ -59,20 +46,9 @@ entries_objects m sorted = entries_seen nat_cmp (λ (k : ℕ). k) object_of nat_
 pub entries_handles : (m : BTreeMap ℕ PlainHandle) → tree.IsOrdered nat_cmp m → map.entries (handles_in m) ≡ list_map (λ e. (e.0, handle_of e.1)) m.entries
 entries_handles m sorted = entries_seen nat_cmp (λ (k : ℕ). k) handle_of nat_cmp_total m.entries sorted
 
-pub entries_entries : (m : BTreeMap (Vec ℕ) ℕ) → tree.IsOrdered name_cmp m → map.entries (entries_in m) ≡ list_map (λ e. (e.0.items, e.1)) m.entries
-entries_entries m sorted = entries_seen (slice_cmp nat_cmp) (λ (k : Vec ℕ). k.items) (λ (n : ℕ). n) nat_list_cmp_total m.entries sorted
-
 value_list : {K L X Y : Type 0} (f : K → L) (g : X → Y) (es : List (K × X)) → list_map (λ e. e.1) (list_map {B = L × Y} (λ (e : K × X). (f e.0, g e.1)) es) ≡ list_map g (list_map (λ e. e.1) es)
 value_list f g [] = refl
 value_list f g (e ∷ es) = ap (λ xs. g e.1 ∷ xs) (value_list f g es)
-
-key_list : {K L X Y : Type 0} (f : K → L) (g : X → Y) (es : List (K × X)) → list_map (λ e. e.0) (list_map {B = L × Y} (λ (e : K × X). (f e.0, g e.1)) es) ≡ list_map f (list_map (λ e. e.0) es)
-key_list f g [] = refl
-key_list f g (e ∷ es) = ap (λ xs. f e.0 ∷ xs) (key_list f g es)
-
-value_ids : {K L X : Type 0} (f : K → L) (es : List (K × X)) → list_map (λ e. e.1) (list_map {B = L × X} (λ (e : K × X). (f e.0, e.1)) es) ≡ list_map (λ e. e.1) es
-value_ids f [] = refl
-value_ids f (e ∷ es) = ap (λ xs. e.1 ∷ xs) (value_ids f es)
 
 pub values_objects : (m : BTreeMap ℕ PlainObject) → tree.IsOrdered nat_cmp m → map.values (objects_in m) ≡ list_map object_of (tree.values m)
 values_objects m sorted = ap (list_map (λ (e : ℕ × Object). e.1)) (entries_objects m sorted) ∙ value_list (λ (k : ℕ). k) object_of m.entries
@@ -80,17 +56,8 @@ values_objects m sorted = ap (list_map (λ (e : ℕ × Object). e.1)) (entries_o
 pub values_handles : (m : BTreeMap ℕ PlainHandle) → tree.IsOrdered nat_cmp m → map.values (handles_in m) ≡ list_map handle_of (tree.values m)
 values_handles m sorted = ap (list_map (λ e. e.1)) (entries_handles m sorted) ∙ value_list (λ (k : ℕ). k) handle_of m.entries
 
-pub values_entries : (m : BTreeMap (Vec ℕ) ℕ) → tree.IsOrdered name_cmp m → map.values (entries_in m) ≡ tree.values m
-values_entries m sorted = ap (list_map (λ e. e.1)) (entries_entries m sorted) ∙ value_ids (λ (k : Vec ℕ). k.items) m.entries
-
-pub keys_entries : (m : BTreeMap (Vec ℕ) ℕ) → tree.IsOrdered name_cmp m → map.keys (entries_in m) ≡ list_map (λ (k : Vec ℕ). k.items) (tree.keys m)
-keys_entries m sorted = ap (list_map (λ e. e.0)) (entries_entries m sorted) ∙ key_list (λ (k : Vec ℕ). k.items) (λ (n : ℕ). n) m.entries
-
 pub len_objects : (m : BTreeMap ℕ PlainObject) → tree.IsOrdered nat_cmp m → map.len (objects_in m) ≡ tree.btree_map_len m
 len_objects m sorted = map.len-entries (objects_in m) ∙ ap length (entries_objects m sorted) ∙ length-map m.entries _
-
-pub len_entries : (m : BTreeMap (Vec ℕ) ℕ) → tree.IsOrdered name_cmp m → map.len (entries_in m) ≡ tree.btree_map_len m
-len_entries m sorted = map.len-entries (entries_in m) ∙ ap length (entries_entries m sorted) ∙ length-map m.entries _
 
 pub charge_values : (z : Sizes) (m : BTreeMap ℕ PlainObject) → tree.IsOrdered nat_cmp m → charge z (objects_in m) ≡ sum_by (λ x. cost z (object_of x)) (tree.values m)
 charge_values z m sorted = ap (sum_by (cost z)) (values_objects m sorted) ∙ sums 0 (tree.values m)
@@ -109,16 +76,6 @@ ceiling_is n d some = grind (arith, common_steps)
 
 pub ceiling_at : (r n m d e : ℕ) → r ≡ div_ceil n d → n ≡ m → d ≡ e → 0 < e → r ≡ ceiling m e
 ceiling_at r n m d e is many each some = is ∙ ap (λ k. div_ceil k d) many ∙ ap (div_ceil m) each ∙ ceiling_is m e some
-
-pub option_map_same : {X : Type 0} (o : Option X) → option_map (λ (x : X). x) o ≡ o
-option_map_same None = refl
-option_map_same (Some x) = refl
-
-pub remove_name : (m n : BTreeMap (Vec ℕ) ℕ) (k : List ℕ) → tree.IsOrdered name_cmp m → n.entries ≡ remove_entry (λ (x : Vec ℕ). is_eq (slice_cmp nat_cmp k x.items)) m.entries → entries_in n ≡ map.remove (entries_in m) k
-remove_name m n k old is = remove_seen (slice_cmp nat_cmp) (λ (k : Vec ℕ). k.items) (λ (n : ℕ). n) nat_list_cmp_total (map.slice_cmp-IsAntisymmetric map.nat_cmp-IsAntisymmetric) m.entries n.entries k old is
-
-pub empty_entries : (m : BTreeMap (Vec ℕ) ℕ) → tree.IsEmpty m → entries_in m ≡ map.empty
-empty_entries m is = ap (λ es. map.from_entries {R = slice_cmp nat_cmp} (list_map (λ (e : Vec ℕ × ℕ). (e.0.items, e.1)) es)) is
 
 is_some_map : {X Y : Type 0} (f : X → Y) (o : Option X) → is_some (option_map f o) ≡ is_some o
 is_some_map f None = refl

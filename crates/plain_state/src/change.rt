@@ -3,7 +3,8 @@ ghost use Rattle.std.specs.Prelude.{◌≡◌, ◌<◌, ◌+◌, ◌^◌, length
 ghost use Rattle.std.specs.FinMap as map;
 ghost use Rattle.posix_profile.specs.State.{entries_of};
 ghost use Rattle.posix_profile.specs.Changes.{new_number, free_descriptor, with_name, without_name, with_object, written, resized};
-ghost use Rattle.plain_state.specs.PlainState.{object_of, objects_in, entries_in, handles_in};
+ghost use Rattle.name_map.specs.NameEntries.{entries_in};
+ghost use Rattle.plain_state.specs.PlainState.{object_of, objects_in, handles_in};
 
 use crate::object::{EntryMap, HandleMap, ObjectMap, PlainObject};
 use crate::table::{copy_entries, is_closed, is_free, object_at, put_object};

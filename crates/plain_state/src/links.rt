@@ -6,7 +6,8 @@ ghost use Rattle.posix_profile.specs.State.{is_directory, is_file, entries_of};
 ghost use Rattle.posix_profile.specs.Names.{has_entry_to, names_to, link_pairs, parent, is_named};
 ghost use Rattle.posix_profile.specs.NameSteps.{info, is_below};
 ghost use Rattle.posix_profile.specs.Charge.{fits};
-ghost use Rattle.plain_state.specs.PlainState.{object_of, objects_in, entries_in, handles_in, sizes_of};
+ghost use Rattle.name_map.specs.NameEntries.{entries_in};
+ghost use Rattle.plain_state.specs.PlainState.{object_of, objects_in, handles_in, sizes_of};
 
 use crate::object::{EntryMap, HandleMap, ObjectMap, PlainObject};
 use crate::sizes::PlainSizes;

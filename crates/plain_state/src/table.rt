@@ -2,7 +2,8 @@
 ghost use Rattle.std.specs.Prelude.{◌≡◌, not, OnOk, IfOk};
 ghost use Rattle.std.specs.Option.{option_map};
 ghost use Rattle.std.specs.FinMap as map;
-ghost use Rattle.plain_state.specs.PlainState.{entries_in, object_of, objects_in, handle_of, handles_in};
+ghost use Rattle.name_map.specs.NameEntries.{entries_in};
+ghost use Rattle.plain_state.specs.PlainState.{object_of, objects_in, handle_of, handles_in};
 
 use crate::object::{EntryMap, HandleMap, ObjectMap, PlainHandle, PlainObject};
 use std::alloc::AllocError;

@@ -5,9 +5,9 @@ use Rattle.posix_profile.specs.Paths.{last_name}
 use Rattle.plain_state.specs.Places.{last_of}
 use Rattle.posix_profile.specs.Changes.{with_object}
 use Rattle.posix_profile.specs.declared.reply.Reply.TheVariants as replies
-use Rattle.plain_state.specs.PlainState.{sizes_of, objects_in, handles_in, entries_in}
+use Rattle.name_map.specs.NameEntries.{entries_in, empty_entries}
+use Rattle.plain_state.specs.PlainState.{sizes_of, objects_in, handles_in}
 use Rattle.plain_profile.specs.VolumeState.{state_of}
-use Rattle.plain_state.specs.Views.{empty_entries}
 use Rattle.plain_profile.proofs.Outcomes.{gives_same, refused, passed, passed_all}
 use Rattle.plain_profile.proofs.name_steps.mkdir_absent.Goals as goal
 

@@ -1,7 +1,7 @@
 use Rattle.std.proofs.Common.{◌≡◌, ◌++◌, ℕ, map as list_map}
 use Rattle.std.specs.Global.{Vec}
 use Rattle.std.specs.FinMap as map
-use Rattle.plain_state.specs.PlainState.{entries_in}
+use Rattle.name_map.specs.NameEntries.{entries_in}
 use Rattle.plain_profile.proofs.name_steps.names_of.Given as goal
 
 -- the names so far and those that are left are all

@@ -1,7 +1,8 @@
 use Rattle.std.proofs.Common.{◌≡◌, ◌<◌, ◌+◌, ◌^◌, length, count_by}
 use Rattle.std.specs.FinMap as map
 use Rattle.posix_profile.specs.State.{is_directory}
-use Rattle.plain_state.specs.PlainState.{objects_in, entries_in}
+use Rattle.name_map.specs.NameEntries.{entries_in}
+use Rattle.plain_state.specs.PlainState.{objects_in}
 use Rattle.plain_state.proofs.Counts.{count_left}
 use Rattle.plain_state.proofs.links.subdirectories.Given as goal
 

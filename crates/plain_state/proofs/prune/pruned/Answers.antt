@@ -7,7 +7,7 @@ use Rattle.std.proofs.lemmas.Map.Entries.{filter_from_retain_pairs}
 use Rattle.posix_profile.specs.Sizes.{root_number}
 use Rattle.posix_profile.specs.Names.{is_named}
 use Rattle.plain_state.specs.PlainState.{objects_in, object_of, handles_in}
-use Rattle.plain_state.specs.Seen.{retain_seen}
+use Rattle.name_map.specs.Seen.{retain_seen}
 use Rattle.plain_state.proofs.prune.pruned.Goals as goal
 
 pub returns : goal.returns

@@ -2,8 +2,9 @@ use Rattle.std.proofs.Common.{◌≡◌, ◌∙◌, ap}
 use Rattle.std.specs.FinMap as map
 use Rattle.posix_profile.specs.Sizes.{root_number}
 use Rattle.posix_profile.specs.State.{Dir, Objects, Entries}
-use Rattle.plain_state.specs.PlainState.{objects_in, entries_in}
-use Rattle.plain_state.specs.Views.{empty_entries, empty_objects, empty_handles}
+use Rattle.name_map.specs.NameEntries.{entries_in, empty_entries}
+use Rattle.plain_state.specs.PlainState.{objects_in}
+use Rattle.plain_state.specs.Views.{empty_objects, empty_handles}
 use Rattle.plain_profile.proofs.volume.PlainVolume.new.Goals as goal
 
 pub returns-clause-state : goal.returns-clause-state

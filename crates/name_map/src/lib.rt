@@ -1,0 +1,8 @@
+//! A map from names to numbers: the entries of a directory, in the order of the names' bytes.
+#![tactic(auto)]
+
+mod map;
+#[cfg(test)]
+mod tests;
+
+pub use map::NameMap;

@@ -21,7 +21,7 @@ use Rattle.posix_profile.specs.State.{Name, Entries}
 use Rattle.objects.specs.Changes.{IsOf, AreApart}
 use Rattle.transactions.specs.declared.fresh.FreshPage.{FreshPage}
 use Rattle.directories.specs.Additions.{IsSlotPage, HasPages, KeepsOthersOf, AddsEntry}
-use Rattle.directories.proofs.Slots.{slot_leads}
+use Rattle.directories.proofs.SlotLists.{get_push, once_push, entries_push}
 use Rattle.directories.specs.HeadPages.{IsHeadPage, fields_in}
 use Rattle.directories.specs.declared.head.DirectoryHead.{DirectoryHead}
 
@@ -50,21 +50,6 @@ slot_page_made z old d i entry page was n slots some room object chunk size ther
       ∙ ap (λ m. take 272 (drop (272 * (k % m)) is.0)) slots
       ∙ is.3;
 }
-
--- the element at a place of a longer list
-pub get_push : {A : Type 0} (xs : List A) (x : A) (i : ℕ) (e : A) → slice_get (xs ++ x ∷ []) i ≡ Some e → ((i < length xs) × (slice_get xs i ≡ Some e)) ⊎ ((i ≡ length xs) × (e ≡ x))
-get_push [] x zero e is = inr (refl, cc)
-get_push [] x (suc i) e is = absurd cc
-get_push (y ∷ ys) x zero e is = inl (omega arith, is)
-get_push (y ∷ ys) x (suc i) e is = elim (get_push ys x i e is) [
-  | inl before ↦ inl (omega (arith, before.0), before.1)
-  | inr last ↦ inr (omega (arith, last.0), last.1)
-]
-
--- the pairs of a longer list
-pairs_push : (slots : List Entry) (entry : Entry) → slot_pairs (slots ++ entry ∷ []) ≡ slot_pairs slots ++ (entry.name, entry.object) ∷ []
-pairs_push [] entry = refl
-pairs_push (s ∷ slots) entry = ap (λ (es : List (Name × ℕ)). (s.name, s.object) ∷ es) (pairs_push slots entry)
 
 module _ (z : Sizes) (old : Flash) (d before moment : ℕ) (entries : Entries) (r : ReadsDir z (HasNewest old) d before entries) (entry : Entry) (valid : IsSlot entry)
     (slot_page head_page : FreshPage) (head : DirectoryHead)
@@ -102,13 +87,6 @@ module _ (z : Sizes) (old : Flash) (d before moment : ℕ) (entries : Entries) (
       subst (λ (p : FreshPage). (p.key.object ≡ d) × (length p.bytes.items ≡ z.page_bytes)) same (head_is.object_is, head_is.head_is.size)
   both_each (suc (suc i)) page is = let no' : None ≡ Some page = is in absurd cc
 
-  -- no slot has the name
-  no_slot : (k : ℕ) (e : Entry) → slice_get r.slots k ≡ Some e → e.name ≢ entry.name
-  no_slot k e is same =
-      let there = slot_leads z (HasNewest old) d before entries r k e is in
-      let two : Some e.object ≡ None = sym there ∙ ap (map.get entries) same ∙ absent in
-      absurd cc
-
   module _ (new : Flash) (has : HasPages both new) (keeps : KeepsOthersOf d both old new) where
     slot_newest : HasNewest new d (1 + length r.slots / page_slots z) slot_page.bytes.items
     slot_newest = subst (λ o. HasNewest new o (1 + length r.slots / page_slots z) slot_page.bytes.items) slot_is.object_is
@@ -143,21 +121,6 @@ module _ (z : Sizes) (old : Flash) (d before moment : ℕ) (entries : Entries) (
           subst (λ x. SlotIs z (HasNewest new) d i x) (sym last.1) (subst (λ n. SlotIs z (HasNewest new) d n entry) (sym last.0) here)
     ]
 
-    once : (i j : ℕ) (a b : Entry) → slice_get (r.slots ++ entry ∷ []) i ≡ Some a → slice_get (r.slots ++ entry ∷ []) j ≡ Some b → a.name ≡ b.name → i ≡ j
-    once i j a b at bt same = elim (get_push r.slots entry i a at) [
-      | inl x ↦ elim (get_push r.slots entry j b bt) [
-        | inl y ↦ r.once i j a b x.1 y.1 same
-        | inr y ↦ absurd (no_slot i a x.1 (same ∙ ap (λ (e : Entry). e.name) y.1))
-      ]
-      | inr x ↦ elim (get_push r.slots entry j b bt) [
-        | inl y ↦ absurd (no_slot j b y.1 (sym same ∙ ap (λ (e : Entry). e.name) x.1))
-        | inr y ↦ x.0 ∙ sym y.0
-      ]
-    ]
-
-    no_pair : map.find (slice_cmp nat_cmp) entry.name (slot_pairs r.slots) ≡ None
-    no_pair = sym (map.get-from_entries nat_list_cmp_total (slot_pairs r.slots) entry.name) ∙ ap (λ es. map.get es entry.name) (sym r.entries_are) ∙ absent
-
     reads_with : (n : ReadsDir z (HasNewest new) d moment (map.insert entries entry.name entry.object)) × (n.fields.spare ≡ r.fields.spare)
     reads_with = (
       record {
@@ -168,10 +131,8 @@ module _ (z : Sizes) (old : Flash) (d before moment : ℕ) (entries : Entries) (
         slots = r.slots ++ entry ∷ [];
         size = len ∙ sym (length-append r.slots (entry ∷ []));
         each = each;
-        once = once;
-        entries_are = ap (λ es. map.insert es entry.name entry.object) r.entries_are
-            ∙ sym (map.from_entries_push nat_list_cmp_total (map.slice_cmp-IsAntisymmetric map.nat_cmp-IsAntisymmetric) (slot_pairs r.slots) entry.name entry.object no_pair)
-            ∙ ap map.from_entries (sym (pairs_push r.slots entry));
+        once = once_push r.slots r.once entries r.entries_are entry absent;
+        entries_are = entries_push r.slots r.once entries r.entries_are entry absent;
       },
       spare,
     )

@@ -16,3 +16,9 @@ lacks new n faults.NoMemory is = tt
 lacks new n faults.Device is = is
 lacks new n faults.Damaged is = is
 lacks new n faults.Full is = absurd is
+
+pub gone_may_lack : (new : Device) (fault : DirectoryFault) → IsGoneFault new fault → MayLack new fault
+gone_may_lack new faults.NoMemory is = tt
+gone_may_lack new faults.Device is = is
+gone_may_lack new faults.Damaged is = is
+gone_may_lack new faults.Full is = absurd is

@@ -1,17 +1,19 @@
 -- What the newest page of a directory's key says.
-use Rattle.std.specs.Prelude.{◌≡◌, ℕ, ◌+◌, ◌*◌, ◌/◌, ◌%◌, List, length, take, drop, Option, Result, Ok, Err, IsOkAnd, IfOk, IfErr}
+use Rattle.std.specs.Prelude.{◌≡◌, ℕ, ◌+◌, ◌*◌, ◌/◌, ◌%◌, Bool, List, length, take, drop, Option, Result, Ok, Err, IsOkAnd, IfOk, IfErr}
 use Rattle.std.proofs.Common.{sym, ◌∙◌, ap, subst}
 use Rattle.nand_model.specs.Flash.{Flash}
 use Rattle.nand_model.specs.Calls.{Device}
-use Rattle.page_tags.specs.Headers.{IsHeader, IsHeaderOf, header_bytes}
-use Rattle.page_tags.specs.Slots.{Entry, slot_bytes}
+use Rattle.page_tags.specs.Headers.{Fields, IsHeader, IsHeaderOf, header_bytes}
+use Rattle.page_tags.specs.declared.header.ObjectKind.TheVariants as kinds
+use Rattle.page_tags.specs.Slots.{Entry, IsSlot, slot_bytes}
 use Rattle.flash_tree.specs.Newest.{HasNewest}
 use Rattle.flash_tree.specs.NewestLaws.{one_newest}
 use Rattle.flash_tree.specs.Tree.{ReadsDir, SlotIs}
 use Rattle.posix_profile.specs.Sizes.{Sizes, page_slots}
 use Rattle.posix_profile.specs.State.{Entries}
-use Rattle.directories.specs.Heads.{IsGoneFault}
-use Rattle.directories.specs.Slots.{NamedBy}
+use Rattle.directories.specs.Heads.{IsHeadOf, TellsHead, IsGoneFault}
+use Rattle.directories.specs.declared.head.DirectoryHead.{DirectoryHead}
+use Rattle.directories.specs.Slots.{NamedBy, TakesEntry}
 use Rattle.directories.specs.declared.fault.DirectoryFault.{DirectoryFault}
 
 -- the newest page of chunk 0 is the header that the directory is read by
@@ -20,6 +22,16 @@ pub header_there : (z : Sizes) (flash : Flash) (o moment : ℕ) (entries : Entri
 header_there z flash o moment entries r page h len = record {
   valid = subst (λ n. IsHeader n r.fields) (sym len) r.has.1;
   encodes = one_newest flash o 0 page (header_bytes r.fields) h r.has.0;
+}
+
+-- what such a page says is told of the object
+pub head_told : (z : Sizes) (flash : Flash) (o : ℕ) (page : List ℕ) (head : DirectoryHead) → HasNewest flash o 0 page → length page ≡ z.page_bytes
+    → (f : Fields) → IsHeaderOf page f → f.kind ≡ kinds.Directory → IsHeadOf head f → TellsHead z flash o head
+head_told z flash o page head newest len f is kind says = record {
+  fields = f;
+  has = (subst (λ xs. HasNewest flash o 0 xs) is.encodes newest, subst (λ d. IsHeader d f) len is.valid);
+  kind = kind;
+  head_is = says;
 }
 
 -- the newest page of a slot's chunk has the slot's bytes
@@ -38,3 +50,11 @@ ok_named entry name (Err fault) is = absurd is
 pub no_fault : (entry : Entry) (name : List ℕ) (new : Device) (r : Result (Option ℕ) DirectoryFault) → IsOkAnd r (NamedBy entry name) → IfErr r (IsGoneFault new)
 no_fault entry name new (Ok told) is = tt
 no_fault entry name new (Err fault) is = absurd is
+
+-- the entry that a slot's bytes say stands in that slot
+pub entry_told : (z : Sizes) (flash : Flash) (o i : ℕ) (old new : Entries) (page bytes : List ℕ) (r : Result Bool DirectoryFault) → HasNewest flash o (1 + i / page_slots z) page
+    → bytes ≡ take 272 (drop (272 * (i % page_slots z)) page)
+    → IfOk r (λ told. (e : Entry) × IsSlot e × (bytes ≡ slot_bytes e) × TakesEntry e old new told)
+    → IfOk r (λ told. (e : Entry) × SlotIs z (HasNewest flash) o i e × TakesEntry e old new told)
+entry_told z flash o i old new page bytes (Ok told) newest at (e, valid, is, takes) = (e, (page, newest, valid, sym at ∙ is), takes)
+entry_told z flash o i old new page bytes (Err fault) newest at is = tt

@@ -1,7 +1,12 @@
 -- What is told of a directory's header.
 use Rattle.std.specs.Prelude.{◌≡◌, ℕ, true}
 use Rattle.nand_model.specs.Calls.{Device}
+use Rattle.nand_model.specs.Flash.{Flash}
 use Rattle.page_tags.specs.Headers.{Fields}
+use Rattle.page_tags.specs.declared.header.ObjectKind.TheVariants as kinds
+use Rattle.flash_tree.specs.Newest.{HasNewest}
+use Rattle.flash_tree.specs.Tree.{HasHeader}
+use Rattle.posix_profile.specs.Sizes.{Sizes}
 use Rattle.directories.specs.declared.fault.DirectoryFault.{DirectoryFault}
 use Rattle.directories.specs.declared.fault.DirectoryFault.TheVariants as faults
 use Rattle.directories.specs.declared.head.DirectoryHead.{DirectoryHead}
@@ -11,6 +16,13 @@ pub record IsHeadOf (head : DirectoryHead) (f : Fields) : Type 0 where
   pub spare : head.spare ≡ f.spare
   pub length_is : head.length ≡ f.length
   pub moment : head.moment ≡ f.moment
+
+-- the object's newest page of chunk 0 is a directory's header, which says so
+pub record TellsHead (z : Sizes) (flash : Flash) (o : ℕ) (head : DirectoryHead) : Type 0 where
+  pub fields : Fields
+  pub has : HasHeader z (HasNewest flash) o fields
+  pub kind : fields.kind ≡ kinds.Directory
+  pub head_is : IsHeadOf head fields
 
 -- a fault of a directory that is there comes only of a device that is gone
 abbrev pub IsGoneFault : Device → DirectoryFault → Type 0

@@ -1,5 +1,5 @@
 // The header of a directory.
-ghost use Rattle.std.specs.Prelude.{◌≡◌, ◌≤◌, ℕ, true, IfOk, IfErr, IsSomeAnd, length};
+ghost use Rattle.std.specs.Prelude.{◌≡◌, ◌≤◌, ℕ, true, IfOk, IfErr, IfSome, IsSomeAnd, length};
 ghost use Rattle.nand_model.specs.Changes.{OnlyReads};
 ghost use Rattle.page_tags.specs.Headers.{Fields, IsHeaderOf};
 ghost use Rattle.page_tags.specs.declared.header.ObjectKind.TheVariants as kinds;
@@ -8,7 +8,7 @@ ghost use Rattle.flash_tree.specs.Tree.{ReadsDir};
 ghost use Rattle.posix_profile.specs.Sizes.{Sizes};
 ghost use Rattle.posix_profile.specs.State.{Entries};
 ghost use Rattle.block_state.specs.TableOf.{table};
-ghost use Rattle.directories.specs.Heads.{IsHeadOf, IsGoneFault, SaysGone};
+ghost use Rattle.directories.specs.Heads.{IsHeadOf, TellsHead, IsGoneFault, SaysGone};
 
 use crate::fault::DirectoryFault;
 use flash_tree::Key;
@@ -29,7 +29,8 @@ pub struct DirectoryHead {
 fn decode_head(page: &[u8]) -> Option<DirectoryHead>
     requires least { 32 ≤ length page.now }
     requires most { length page.now ≤ 4096 }
-    ensures { (f : Fields) → IsHeaderOf page.now f → f.kind ≡ kinds.Directory → IsSomeAnd result (λ head. IsHeadOf head f) }
+    ensures read { (f : Fields) → IsHeaderOf page.now f → f.kind ≡ kinds.Directory → IsSomeAnd result (λ head. IsHeadOf head f) }
+    ensures told { IfSome result (λ head. (f : Fields) × IsHeaderOf page.now f × (f.kind ≡ kinds.Directory) × IsHeadOf head f) }
 {
     let Ok(header) = decode_header(page) else {
         return None;
@@ -55,6 +56,8 @@ pub fn read_head<N: Nand>(
     ensures head { (N.state store.old.device).honest ≡ true → (z : Sizes) (moment : ℕ) (entries : Entries)
         → (r : ReadsDir z (HasNewest (N.state store.old.device).flash) object moment entries) → z.page_bytes ≡ (N.state store.old.device).geometry.bytes
         → IfOk result (λ head. IsHeadOf head r.fields) }
+    ensures told { (N.state store.old.device).honest ≡ true → (z : Sizes) → z.page_bytes ≡ (N.state store.old.device).geometry.bytes
+        → IfOk result (TellsHead z (N.state store.old.device).flash object) }
     ensures gone { IfErr result (SaysGone (N.state store.new.device)) }
     ensures fault { (N.state store.old.device).honest ≡ true → (z : Sizes) (moment : ℕ) (entries : Entries)
         → (r : ReadsDir z (HasNewest (N.state store.old.device).flash) object moment entries) → z.page_bytes ≡ (N.state store.old.device).geometry.bytes

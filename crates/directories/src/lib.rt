@@ -4,12 +4,14 @@
 mod addition;
 mod fault;
 mod head;
+mod listing;
 mod lookup;
 mod page;
 
 pub use addition::add;
 pub use fault::DirectoryFault;
 pub use head::{DirectoryHead, read_head};
+pub use listing::entries;
 pub use lookup::find;
 pub use page::head_page;
 

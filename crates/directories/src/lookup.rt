@@ -36,7 +36,7 @@ fn named_in(bytes: &[u8], name: &[u8]) -> Result<Option<u64>, DirectoryFault>
 }
 
 /// The bytes of a slot of a page.
-fn slot_of(page: &[u8], place: u32) -> &[u8]
+pub(crate) fn slot_of(page: &[u8], place: u32) -> &[u8]
     requires { 272 * place + 272 ≤ length page.now }
     ensures bytes { result.now ≡ take 272 (drop (272 * place) page.now) }
     ensures len { length result.now ≡ 272 }

@@ -4,6 +4,7 @@ use super::*;
 use flash_tree::Key;
 use nand_model::{Geometry, MemNand};
 use objects::{Change, Store};
+use page_tags::{Slot, is_name};
 use std::alloc::Global;
 use std::process::Abort;
 use std::test::Fail;
@@ -130,5 +131,96 @@ fn an_empty_directory_has_no_names(rt: HostRuntime) -> Result<(), Fail> {
     let alloc = rt.alloc();
     let mut store = stored(&rt, alloc, 512, vec![in alloc; header(alloc, 512, 2, 0)?]?)?;
     assert_eq!(rt; find(&mut store, 1, b"a"), Ok(None));
+    Ok(())
+}
+
+/// A store whose root is an empty directory, with 1 spare block.
+fn empty_root(rt: &impl Abort, alloc: Global, size: u32) -> Result<Store<MemNand>, Fail> {
+    let head = DirectoryHead {
+        spare: 1,
+        length: 0,
+        moment: 0,
+    };
+    let page = head_page(alloc, Geometry::new(size, 32, 8)?, 1, head)?;
+    stored(rt, alloc, size, vec![in alloc; page]?)
+}
+
+/// Adds a name to the root.
+fn added(
+    rt: &impl Abort,
+    alloc: Global,
+    store: &mut Store<MemNand>,
+    name: &[u8],
+    object: u64,
+    moment: u64,
+) -> Result<(), Fail> {
+    if !is_name(name) || object < 2 {
+        return Err("no slot can say this".into());
+    }
+    let change = match add(alloc, store, 1, &Slot { object, name }, moment) {
+        Ok(change) => change,
+        Err(fault) => return Err(fault.into()),
+    };
+    assert_eq!(rt; change.pages.len(), 2);
+    assert!(rt; change.can_apply(store.geometry()));
+    assert_eq!(rt; store.apply(&change), Ok(()));
+    Ok(())
+}
+
+#[test]
+fn names_are_added_and_listed(rt: HostRuntime) -> Result<(), Fail> {
+    let alloc = rt.alloc();
+    // A page of 512 bytes has one slot, and one of 1,024 three.
+    for size in [512u32, 1024u32] {
+        let mut store = empty_root(&rt, alloc, size)?;
+        added(&rt, alloc, &mut store, b"d", 7, 10)?;
+        added(&rt, alloc, &mut store, b"b", 8, 11)?;
+        added(&rt, alloc, &mut store, b"c", 9, 12)?;
+        added(&rt, alloc, &mut store, b"a", 10, 13)?;
+        let head = DirectoryHead {
+            spare: 1,
+            length: 4,
+            moment: 13,
+        };
+        assert_eq!(rt; read_head(&mut store, 1), Ok(head), "{size}");
+        let Ok(found) = entries(alloc, &mut store, 1) else {
+            return Err("the names are not read".into());
+        };
+        assert_eq!(rt; found.len(), 4, "{size}");
+        assert_eq!(rt; found.get(b"b"), Some(8), "{size}");
+        assert_eq!(rt; find(&mut store, 1, b"a"), Ok(Some(10)), "{size}");
+        let numbers = found.numbers(alloc)?;
+        assert_eq!(rt; numbers.as_slice(), [10, 8, 9, 7].as_slice(), "{size}");
+    }
+    Ok(())
+}
+
+#[test]
+fn a_full_directory_takes_no_name(rt: HostRuntime) -> Result<(), Fail> {
+    let alloc = rt.alloc();
+    let head = DirectoryHead {
+        spare: 1,
+        length: u32::MAX,
+        moment: 0,
+    };
+    let page = head_page(alloc, Geometry::new(512, 32, 8)?, 1, head)?;
+    let mut store = stored(&rt, alloc, 512, vec![in alloc; page]?)?;
+    let name = b"a".as_slice();
+    assert!(rt; is_name(name));
+    let refused = add(alloc, &mut store, 1, &Slot { object: 2, name }, 1);
+    assert!(rt; matches!(refused, Err(DirectoryFault::Full)));
+    Ok(())
+}
+
+#[test]
+fn a_name_that_stands_twice_is_damaged(rt: HostRuntime) -> Result<(), Fail> {
+    let alloc = rt.alloc();
+    let twice = vec![in alloc;
+        header(alloc, 1024, 2, 2)?,
+        slots(alloc, 1024, 1, 7, b"aa")?,
+    ]?;
+    let mut store = stored(&rt, alloc, 1024, twice)?;
+    assert!(rt; matches!(entries(alloc, &mut store, 1), Err(DirectoryFault::Damaged)));
+    assert_eq!(rt; find(&mut store, 1, b"a"), Ok(Some(7)));
     Ok(())
 }

@@ -1,0 +1,11 @@
+pub mod Flat
+pub mod PathLaws
+pub mod MapCounts
+pub mod FlatLaws
+pub mod EarlyLaws
+pub mod MkdirLaws
+pub mod BuildLaws
+pub mod FlatPaths
+pub mod LeastFree
+pub mod Room
+pub mod FlatPathLaws

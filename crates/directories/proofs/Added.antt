@@ -20,7 +20,7 @@ use Rattle.posix_profile.specs.Sizes.{Sizes, page_slots}
 use Rattle.posix_profile.specs.State.{Name, Entries}
 use Rattle.objects.specs.Changes.{IsOf, AreApart}
 use Rattle.transactions.specs.declared.fresh.FreshPage.{FreshPage}
-use Rattle.directories.specs.Additions.{IsSlotPage, HasPages, KeepsOthersOf, AddsEntry}
+use Rattle.directories.specs.Additions.{IsSlotPage, IsEntriesPage, ArePagesOf, HasPages, KeepsOthersOf, AddsEntry}
 use Rattle.directories.proofs.SlotLists.{get_push, once_push, entries_push}
 use Rattle.directories.specs.HeadPages.{IsHeadPage, fields_in}
 use Rattle.directories.specs.declared.head.DirectoryHead.{DirectoryHead}
@@ -51,43 +51,48 @@ slot_page_made z old d i entry page was n slots some room object chunk size ther
       ∙ is.3;
 }
 
-module _ (z : Sizes) (old : Flash) (d before moment : ℕ) (entries : Entries) (r : ReadsDir z (HasNewest old) d before entries) (entry : Entry) (valid : IsSlot entry)
-    (slot_page head_page : FreshPage) (head : DirectoryHead)
-    (slot_is : IsSlotPage z old d (length r.slots) entry slot_page) (head_is : IsHeadPage head_page z.page_bytes d head)
-    (spare : head.spare ≡ r.fields.spare) (len : head.length ≡ length r.slots + 1) (when : head.moment ≡ moment)
-    (absent : map.get entries entry.name ≡ None) where
-  -- the two pages
-  abbrev pub both : List FreshPage
-  both = slot_page ∷ head_page ∷ []
+-- the two pages of an addition
+abbrev pub both : FreshPage → FreshPage → List FreshPage
+both slot_page head_page = slot_page ∷ head_page ∷ []
 
-  -- a page of the two is the first or the second
-  one_of : (o c i : ℕ) → IsOf both o c i → ((i ≡ 0) × (slot_page.key.chunk ≡ c)) ⊎ ((i ≡ 1) × (head_page.key.chunk ≡ c))
-  one_of o c zero of = inl (refl, let same : slot_page ≡ of.page = cc in ap (λ (p : FreshPage). p.key.chunk) same ∙ of.chunk)
-  one_of o c (suc zero) of = inr (refl, let same : head_page ≡ of.page = cc in ap (λ (p : FreshPage). p.key.chunk) same ∙ of.chunk)
-  one_of o c (suc (suc i)) of = let no' : None ≡ Some of.page = of.there in absurd cc
+-- a page of the two is the first or the second
+one_of : (slot_page head_page : FreshPage) (o c i : ℕ) → IsOf (both slot_page head_page) o c i → ((i ≡ 0) × (slot_page.key.chunk ≡ c)) ⊎ ((i ≡ 1) × (head_page.key.chunk ≡ c))
+one_of slot_page head_page o c zero of = inl (refl, let same : slot_page ≡ of.page = cc in ap (λ (p : FreshPage). p.key.chunk) same ∙ of.chunk)
+one_of slot_page head_page o c (suc zero) of = inr (refl, let same : head_page ≡ of.page = cc in ap (λ (p : FreshPage). p.key.chunk) same ∙ of.chunk)
+one_of slot_page head_page o c (suc (suc i)) of = let no' : None ≡ Some of.page = of.there in absurd cc
 
-  both_apart : AreApart both
-  both_apart o c i j a b = elim (one_of o c i a) [
-    | inl x ↦ elim (one_of o c j b) [
+module _ (d bytes : ℕ) (slot_page head_page : FreshPage) (head : DirectoryHead) (slot_is : IsEntriesPage d bytes slot_page) (head_is : IsHeadPage head_page bytes d head) where
+  both_apart : AreApart (both slot_page head_page)
+  both_apart o c i j a b = elim (one_of slot_page head_page o c i a) [
+    | inl x ↦ elim (one_of slot_page head_page o c j b) [
       | inl y ↦ x.0 ∙ sym y.0
       | inr y ↦ absurd (omega (arith, x.1, y.1, slot_is.chunk_is, head_is.chunk_is))
     ]
-    | inr x ↦ elim (one_of o c j b) [
+    | inr x ↦ elim (one_of slot_page head_page o c j b) [
       | inl y ↦ absurd (omega (arith, x.1, y.1, slot_is.chunk_is, head_is.chunk_is))
       | inr y ↦ x.0 ∙ sym y.0
     ]
   ]
 
-  both_each : (i : ℕ) (page : FreshPage) → slice_get both i ≡ Some page → (page.key.object ≡ d) × (length page.bytes.items ≡ z.page_bytes)
+  both_each : (i : ℕ) (page : FreshPage) → slice_get (both slot_page head_page) i ≡ Some page → (page.key.object ≡ d) × (length page.bytes.items ≡ bytes)
   both_each zero page is =
       let same : slot_page ≡ page = cc in
-      subst (λ (p : FreshPage). (p.key.object ≡ d) × (length p.bytes.items ≡ z.page_bytes)) same (slot_is.object_is, slot_is.size)
+      subst (λ (p : FreshPage). (p.key.object ≡ d) × (length p.bytes.items ≡ bytes)) same (slot_is.object_is, slot_is.size)
   both_each (suc zero) page is =
       let same : head_page ≡ page = cc in
-      subst (λ (p : FreshPage). (p.key.object ≡ d) × (length p.bytes.items ≡ z.page_bytes)) same (head_is.object_is, head_is.head_is.size)
+      subst (λ (p : FreshPage). (p.key.object ≡ d) × (length p.bytes.items ≡ bytes)) same (head_is.object_is, head_is.head_is.size)
   both_each (suc (suc i)) page is = let no' : None ≡ Some page = is in absurd cc
 
-  module _ (new : Flash) (has : HasPages both new) (keeps : KeepsOthersOf d both old new) where
+  -- each is of a key of the directory of its own
+  pub both_are : ArePagesOf d bytes (both slot_page head_page)
+  both_are = record { size = refl; each = both_each; apart = both_apart }
+
+module _ (z : Sizes) (old : Flash) (d before moment : ℕ) (entries : Entries) (r : ReadsDir z (HasNewest old) d before entries) (entry : Entry) (valid : IsSlot entry)
+    (slot_page head_page : FreshPage) (head : DirectoryHead)
+    (slot_is : IsSlotPage z old d (length r.slots) entry slot_page) (head_is : IsHeadPage head_page z.page_bytes d head)
+    (spare : head.spare ≡ r.fields.spare) (len : head.length ≡ length r.slots + 1) (when : head.moment ≡ moment)
+    (absent : map.get entries entry.name ≡ None) where
+  module _ (new : Flash) (has : HasPages (both slot_page head_page) new) (keeps : KeepsOthersOf d (both slot_page head_page) old new) where
     slot_newest : HasNewest new d (1 + length r.slots / page_slots z) slot_page.bytes.items
     slot_newest = subst (λ o. HasNewest new o (1 + length r.slots / page_slots z) slot_page.bytes.items) slot_is.object_is
         (subst (λ c. HasNewest new slot_page.key.object c slot_page.bytes.items) slot_is.chunk_is (has 0 slot_page refl))
@@ -104,7 +109,7 @@ module _ (z : Sizes) (old : Flash) (d before moment : ℕ) (entries : Entries) (
           | inl same ↦ (slot_page.bytes.items, subst (λ n. HasNewest new d (1 + n) slot_page.bytes.items) (sym same) slot_newest, s.2, slot_is.before i e lt same s)
           | inr other ↦ (
             s.0,
-            keeps (1 + i / page_slots z) s.0 (λ k of. elim (one_of d (1 + i / page_slots z) k of) [
+            keeps (1 + i / page_slots z) s.0 (λ k of. elim (one_of slot_page head_page d (1 + i / page_slots z) k of) [
               | inl x ↦ other (omega (arith, x.1, slot_is.chunk_is))
               | inr x ↦ omega (arith, x.1, head_is.chunk_is)
             ]) s.1,
@@ -138,8 +143,8 @@ module _ (z : Sizes) (old : Flash) (d before moment : ℕ) (entries : Entries) (
     )
 
   -- the two pages add the entry
-  pub entry_added : AddsEntry z old d entries r.fields.spare entry moment both
-  entry_added = record { size = refl; each = both_each; apart = both_apart; reads = reads_with }
+  pub entry_added : AddsEntry z old d entries r.fields.spare entry moment (both slot_page head_page)
+  entry_added = reads_with
 
 -- ---- how many entries a directory has
 

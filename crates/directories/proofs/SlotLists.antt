@@ -1,9 +1,10 @@
 -- The slots of a directory up to some number, and the entries that they make.
-use Rattle.std.specs.Prelude.{◌≡◌, ◌≢◌, ◌⊎◌, ◌<◌, ℕ, zero, suc, ◌+◌, List, [], ◌∷◌, ◌++◌, length, Option, Some, None, slice_get}
+use Rattle.std.specs.Prelude.{◌≡◌, ◌≢◌, ◌⊎◌, ◌<◌, ◌≤◌, ℕ, zero, suc, ◌+◌, List, [], ◌∷◌, ◌++◌, length, Option, Some, None, slice_get}
 use Rattle.std.specs.Ordering.{nat_cmp}
 use Rattle.std.specs.Cmp.Lexicographic.{slice_cmp, nat_list_cmp_total}
 use Rattle.std.specs.FinMap as map
 use Rattle.std.proofs.Common.{refl, sym, ◌∙◌, ap, subst, inl, inr, arith}
+use Rattle.std.proofs.lemmas.Bool.{cases_Bool, cond-true, cond-false}
 use Rattle.std.proofs.lemmas.List.{length-append}
 use Rattle.nand_model.specs.Flash.{Flash}
 use Rattle.page_tags.specs.Headers.{Fields}
@@ -143,3 +144,10 @@ module _ (z : Sizes) (size : IsPageSize z.page_bytes) (flash : Flash) (d : ℕ) 
       let lengths : length a.slots ≡ length b.slots = sym a.size ∙ ap (λ (f : Fields). f.length) headers ∙ b.size in
       let slots : a.slots ≡ b.slots = same_lists a.slots b.slots lengths (λ i s t is it. same_slot_read i s t (a.each i s is) (b.each i t it)) in
       a.entries_are ∙ ap (λ (es : List Entry). map.from_entries (slot_pairs es)) slots ∙ sym b.entries_are
+
+-- an insert adds one name at the most
+pub len_insert_le : (entries : Entries) (name : Name) (object : ℕ) → map.len (map.insert entries name object) ≤ map.len entries + 1
+len_insert_le entries name object = elim (cases_Bool (map.contains_key entries name)) [
+  | inl there ↦ omega (arith, map.len-insert nat_list_cmp_total entries name object ∙ cond-true (map.contains_key entries name) (map.len entries) (map.len entries + 1) there)
+  | inr new ↦ omega (arith, map.len-insert nat_list_cmp_total entries name object ∙ cond-false (map.contains_key entries name) (map.len entries) (map.len entries + 1) new)
+]

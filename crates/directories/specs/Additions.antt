@@ -1,5 +1,5 @@
 -- What the addition of a name writes.
-use Rattle.std.specs.Prelude.{◌≡◌, ◌<◌, ℕ, ◌+◌, ◌*◌, ◌/◌, ◌%◌, List, length, take, drop, Some, slice_get}
+use Rattle.std.specs.Prelude.{◌≡◌, ◌<◌, ◌≤◌, ℕ, ◌+◌, ◌*◌, ◌/◌, ◌%◌, List, length, take, drop, Some, slice_get}
 use Rattle.std.specs.FinMap as map
 use Rattle.nand_model.specs.Flash.{Flash}
 use Rattle.page_tags.specs.Slots.{Entry, slot_bytes}
@@ -27,11 +27,20 @@ HasPages pages new = (i : ℕ) (page : FreshPage) → slice_get pages i ≡ Some
 abbrev pub KeepsOthersOf : ℕ → List FreshPage → Flash → Flash → Type 0
 KeepsOthersOf d pages old new = (c : ℕ) (bytes : List ℕ) → ((i : ℕ) → IsOf pages d c i → ⊥) → HasNewest old d c bytes → HasNewest new d c bytes
 
--- Two pages of the directory add an entry to it: on each flash that has them, and the directory's other pages as
--- before, it reads with the entry, at this moment and with the spare blocks that its header said.
-pub record AddsEntry (z : Sizes) (old : Flash) (d : ℕ) (entries : Entries) (spare : ℕ) (entry : Entry) (moment : ℕ) (pages : List FreshPage) : Type 0 where
+-- the page is of a chunk of the directory's entries, and has so many bytes
+pub record IsEntriesPage (d bytes : ℕ) (page : FreshPage) : Type 0 where
+  pub object_is : page.key.object ≡ d
+  pub chunk_is : 1 ≤ page.key.chunk
+  pub size : length page.bytes.items ≡ bytes
+
+-- two pages of so many bytes, each of a key of the directory of its own
+pub record ArePagesOf (d bytes : ℕ) (pages : List FreshPage) : Type 0 where
   pub size : length pages ≡ 2
-  pub each : (i : ℕ) (page : FreshPage) → slice_get pages i ≡ Some page → (page.key.object ≡ d) × (length page.bytes.items ≡ z.page_bytes)
+  pub each : (i : ℕ) (page : FreshPage) → slice_get pages i ≡ Some page → (page.key.object ≡ d) × (length page.bytes.items ≡ bytes)
   pub apart : AreApart pages
-  pub reads : (new : Flash) → HasPages pages new → KeepsOthersOf d pages old new
-      → (r : ReadsDir z (HasNewest new) d moment (map.insert entries entry.name entry.object)) × (r.fields.spare ≡ spare)
+
+-- The pages add an entry to the directory: on each flash that has them, and the directory's other pages as before, it
+-- reads with the entry, at this moment and with the spare blocks that its header said.
+abbrev pub AddsEntry : Sizes → Flash → ℕ → Entries → ℕ → Entry → ℕ → List FreshPage → Type 0
+AddsEntry z old d entries spare entry moment pages = (new : Flash) → HasPages pages new → KeepsOthersOf d pages old new
+    → (r : ReadsDir z (HasNewest new) d moment (map.insert entries entry.name entry.object)) × (r.fields.spare ≡ spare)

@@ -9,7 +9,7 @@ ghost use Rattle.flash_tree.specs.Tree.{ReadsDir};
 ghost use Rattle.posix_profile.specs.Sizes.{Sizes, page_slots};
 ghost use Rattle.posix_profile.specs.State.{Entries};
 ghost use Rattle.block_state.specs.TableOf.{table};
-ghost use Rattle.directories.specs.Additions.{IsSlotPage, AddsEntry};
+ghost use Rattle.directories.specs.Additions.{IsSlotPage, IsEntriesPage, ArePagesOf, AddsEntry};
 ghost use Rattle.directories.specs.Heads.{MayLack, MayLackRoom, SaysGone};
 
 use crate::fault::DirectoryFault;
@@ -62,6 +62,7 @@ fn slot_page<N: Nand>(
     ensures reads { OnlyReads (N.state store.old.device) (N.state store.new.device) }
     ensures table { table store.new.blocks ≡ table store.old.blocks }
     ensures writable { store.new.writable ≡ store.old.writable }
+    ensures sized { IfOk result (IsEntriesPage directory (N.state store.old.device).geometry.bytes) }
     ensures page { (N.state store.old.device).honest ≡ true → (z : Sizes) → z.page_bytes ≡ (N.state store.old.device).geometry.bytes
         → IfOk result (IsSlotPage z (N.state store.old.device).flash directory i (entry_of slot.now)) }
     ensures gone { IfErr result (SaysGone (N.state store.new.device)) }
@@ -94,6 +95,7 @@ pub fn add<N: Nand>(
     ensures reads { OnlyReads (N.state store.old.device) (N.state store.new.device) }
     ensures table { table store.new.blocks ≡ table store.old.blocks }
     ensures writable { store.new.writable ≡ store.old.writable }
+    ensures pages { IfOk result (λ change. ArePagesOf directory (N.state store.old.device).geometry.bytes change.pages.items) }
     ensures adds { (N.state store.old.device).honest ≡ true → (z : Sizes) (before : ℕ) (entries : Entries)
         → (r : ReadsDir z (HasNewest (N.state store.old.device).flash) directory before entries) → z.page_bytes ≡ (N.state store.old.device).geometry.bytes
         → map.get entries slot.now.name.now ≡ None

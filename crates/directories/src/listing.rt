@@ -1,5 +1,5 @@
 // The entries of a directory.
-ghost use Rattle.std.specs.Prelude.{◌≡◌, ◌↔◌, ◌≤◌, ◌*◌, ◌+◌, ◌%◌, ℕ, true, None, IsTrue, IfOk, IfErr, take, drop, length};
+ghost use Rattle.std.specs.Prelude.{◌≡◌, ◌↔◌, ◌<◌, ◌≤◌, ◌^◌, ◌*◌, ◌+◌, ◌%◌, ℕ, true, None, IsTrue, IfOk, IfErr, take, drop, length};
 ghost use Rattle.std.specs.FinMap as map;
 ghost use Rattle.nand_model.specs.Calls.{Device};
 ghost use Rattle.nand_model.specs.Changes.{OnlyReads};
@@ -25,6 +25,7 @@ use std::alloc::Global;
 /// Puts the entry that the bytes of a slot say into a map, and tells whether its name was new.
 fn take_entry(alloc: Global, bytes: &[u8], entries: &mut NameMap) -> Result<bool, DirectoryFault>
     requires { length bytes.now ≡ 272 }
+    ensures few { IfOk result (λ _. map.len entries.new ≤ map.len entries.old + 1) }
     ensures told { IfOk result (λ new. (entry : Entry) × IsSlot entry × (bytes.now ≡ slot_bytes entry) × TakesEntry entry entries.old entries.new new) }
     ensures gone { (new : Device) → IfErr result (SaysGone new) }
     ensures fault { (new : Device) (entry : Entry) → IsSlot entry → bytes.now ≡ slot_bytes entry → IfErr result (MayLack new) }
@@ -46,6 +47,7 @@ fn read_entry<N: Nand>(
     ensures reads { OnlyReads (N.state store.old.device) (N.state store.new.device) }
     ensures table { table store.new.blocks ≡ table store.old.blocks }
     ensures writable { store.new.writable ≡ store.old.writable }
+    ensures few { IfOk result (λ _. map.len entries.new ≤ map.len entries.old + 1) }
     ensures told { (N.state store.old.device).honest ≡ true → (z : Sizes) → z.page_bytes ≡ (N.state store.old.device).geometry.bytes
         → IfOk result (λ new. (entry : Entry) × SlotIs z (HasNewest (N.state store.old.device).flash) directory i entry × TakesEntry entry entries.old entries.new new) }
     ensures gone { IfErr result (SaysGone (N.state store.new.device)) }
@@ -73,6 +75,7 @@ pub fn entries<N: Nand>(
     ensures reads { OnlyReads (N.state store.old.device) (N.state store.new.device) }
     ensures table { table store.new.blocks ≡ table store.old.blocks }
     ensures writable { store.new.writable ≡ store.old.writable }
+    ensures few { IfOk result (λ entries. map.len entries < 2 ^ 32) }
     ensures told { (N.state store.old.device).honest ≡ true → (z : Sizes) → z.page_bytes ≡ (N.state store.old.device).geometry.bytes
         → IfOk result (λ entries. (moment : ℕ) × ReadsDir z (HasNewest (N.state store.old.device).flash) directory moment entries) }
     ensures found { (N.state store.old.device).honest ≡ true → (z : Sizes) (moment : ℕ) (entries : Entries)

@@ -9,10 +9,10 @@ use Rattle.flash_tree.specs.Newest.{HasNewest}
 use Rattle.flash_tree.specs.PlaceLaws.{same_flash}
 use Rattle.posix_profile.specs.Sizes.{page_slots}
 use Rattle.transactions.specs.declared.fresh.FreshPage.{FreshPage}
-use Rattle.directories.specs.Additions.{IsSlotPage, AddsEntry}
+use Rattle.directories.specs.Additions.{IsSlotPage, IsEntriesPage, ArePagesOf, AddsEntry}
 use Rattle.directories.specs.HeadPages.{IsHeadPage}
 use Rattle.directories.specs.declared.head.DirectoryHead.{DirectoryHead}
-use Rattle.directories.proofs.Added.{entry_added, shown_len, page_there}
+use Rattle.directories.proofs.Added.{both_are, entry_added, shown_len, page_there}
 use Rattle.directories.proofs.Lacking.{gone_lacks, lacks}
 use Rattle.directories.proofs.addition.add.Goals as goal
 
@@ -67,3 +67,17 @@ returns-clause-adds g c = λ honest z before entries r size absent.
     subst (λ (pages : List FreshPage). AddsEntry z old.flash c.args.directory entries r.fields.spare (entry_of c.args.slot.now) c.args.moment pages) (sym items)
     (entry_added z old.flash c.args.directory before c.args.moment entries r (entry_of c.args.slot.now) c.requires.valid
     c.in_ok-slot_page.slot_page c.in_ok-head_page.head_page _ slot_is head_at_size head.spare length_is refl absent)
+
+pub returns-clause-pages : goal.returns-clause-pages
+returns-clause-pages g c =
+    let old : Device = g.N.Nand.state c.args.store.now.device in
+    let mid : Device = g.N.Nand.state c.read_head.new.store.device in
+    let reads = c.read_head.ensures.reads in
+    let new_head : DirectoryHead = record { spare = c.in_ok-head.head.spare; length = c.in-Some.length; moment = c.args.moment } in
+    let same : mid.geometry.bytes ≡ old.geometry.bytes = ap (λ (k : Geometry). k.bytes) reads.lasts.geometry in
+    let bytes : c.geometry.result.bytes ≡ old.geometry.bytes = ap (λ (k : Geometry). k.bytes) (c.geometry.ensures ∙ c.slot_page.ensures.reads.lasts.geometry) ∙ same in
+    let head_at_size = subst (λ n. IsHeadPage c.in_ok-head_page.head_page n c.args.directory new_head) bytes c.in_ok-head_page.ensures in
+    let slot_at_size = subst (λ n. IsEntriesPage c.args.directory n c.in_ok-slot_page.slot_page) same c.in_ok-slot_page.ensures.sized in
+    let items : c.in_ok-pages.pages.items ≡ c.in_ok-slot_page.slot_page ∷ c.in_ok-head_page.head_page ∷ [] = c.in_ok-pages.ensures.items in
+    subst (λ (pages : List FreshPage). ArePagesOf c.args.directory old.geometry.bytes pages) (sym items)
+    (both_are c.args.directory old.geometry.bytes c.in_ok-slot_page.slot_page c.in_ok-head_page.head_page new_head slot_at_size head_at_size)

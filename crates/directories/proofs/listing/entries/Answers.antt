@@ -1,5 +1,7 @@
-use Rattle.std.proofs.Common.{◌≡◌, ◌<◌, ◌+◌, ◌∙◌, None, sym, ap, subst, true, false, length, arith}
+use Rattle.std.proofs.Common.{ℕ, ◌≡◌, ◌<◌, ◌+◌, ◌∙◌, None, sym, ap, subst, true, false, length, arith}
 use Rattle.std.proofs.lemmas.Result.{err_from_is_err_and}
+use Rattle.std.specs.Ordering.{nat_cmp}
+use Rattle.std.specs.Cmp.Lexicographic.{slice_cmp}
 use Rattle.std.specs.FinMap as map
 use Rattle.nand_model.specs.Calls.{Device}
 use Rattle.nand_model.specs.ChangeLaws.{only_reads_on}
@@ -10,7 +12,7 @@ use Rattle.flash_tree.specs.Newest.{HasNewest}
 use Rattle.flash_tree.specs.PlaceLaws.{same_flash}
 use Rattle.flash_tree.specs.Tree.{SlotIs}
 use Rattle.directories.proofs.Lacking.{gone_may_lack}
-use Rattle.directories.proofs.SlotLists.{ReadsFirst, one_more_read, all_read, next_is_new, same_entries}
+use Rattle.directories.proofs.SlotLists.{ReadsFirst, none_read, one_more_read, all_read, next_is_new, same_entries}
 use Rattle.directories.proofs.Slots.{slot_now}
 use Rattle.directories.proofs.listing.entries.Goals as goal
 
@@ -48,11 +50,21 @@ returns-then-not-branch-clause-fault g c = λ honest z moment entries r size.
     let two : true ≡ false = sym (told.2.told.1 new) ∙ c.if-not-branch.true in
     absurd cc
 
+pub loop-i-init : goal.loop-i-init
+loop-i-init g c = record {
+  reads = c.read_head.ensures.reads;
+  kept = c.read_head.ensures.table;
+  writable = c.read_head.ensures.writable;
+  few = omega (arith, ap map.len c.new-entries.ensures, map.len-empty (slice_cmp nat_cmp) ℕ);
+  first = λ honest z size. none_read z (g.N.Nand.state c.args.store.now.device).flash c.args.directory c.new-entries.result c.new-entries.ensures;
+}
+
 pub loop-i-preserved : goal.loop-i-preserved
 loop-i-preserved g c = record {
   reads = only_reads_on _ _ _ c.loop-i.invariant.reads c.read_entry.ensures.reads;
   kept = c.read_entry.ensures.table ∙ c.loop-i.invariant.kept;
   writable = c.read_entry.ensures.writable ∙ c.loop-i.invariant.writable;
+  few = omega (arith, c.loop-i.invariant.few, c.in_ok-read_entry.ensures.few);
   first = λ honest z size.
       let old : Device = g.N.Nand.state c.args.store.now.device in
       let now : Device = g.N.Nand.state c.loop-i.store.device in

@@ -1,0 +1,5 @@
+pub mod Numbers
+pub mod Making
+pub mod Sizes
+pub mod Telling
+pub mod Ending

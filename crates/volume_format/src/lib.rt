@@ -1,0 +1,6 @@
+//! What a volume is, and the formatting of a device as one.
+#![tactic(auto)]
+
+mod fault;
+
+pub use fault::FormatFault;

@@ -53,9 +53,12 @@ pub fn each_name_has_an_object_of_its_own()
 
 /// The root costs one unit and the pages of its entries, and every other directory one.
 pub fn one_level_costs_what_its_names_cost()
-    ensures { (z : Sizes) (objects : Objects) (m : ℕ) (entries : Entries)
+    ensures charge { (z : Sizes) (objects : Objects) (m : ℕ) (entries : Entries)
         → IsTree z objects → IsFlat objects m entries
         → charge z objects ≡ 1 + ceiling (map.len entries) (page_slots z) + map.len entries }
+    ensures fits { (z : Sizes) (objects : Objects) (m : ℕ) (entries : Entries)
+        → IsTree z objects → IsFlat objects m entries
+        → fits z objects ≡ nat_le (1 + ceiling (map.len entries) (page_slots z) + map.len entries) (capacity z) }
 {}
 
 /// A new number is the least from 2 up to which no name leads.

@@ -1,5 +1,5 @@
 -- What is there on one level: the root, and one object for each of its names.
-use Rattle.std.specs.Prelude.{◌≡◌, ◌≢◌, ◌↔◌, ◌⊎◌, ◌<◌, ◌≤◌, ℕ, zero, suc, ◌+◌, ◌-◌, true, Option, Some, None, is_some}
+use Rattle.std.specs.Prelude.{◌≡◌, ◌≢◌, ◌↔◌, ◌⊎◌, ◌<◌, ◌≤◌, ℕ, zero, suc, ◌+◌, ◌-◌, true, Option, Some, None, is_some, nat_le}
 use Rattle.std.proofs.Common.{refl, sym, ◌∙◌, ap, subst, inl, inr, arith}
 use Rattle.std.proofs.Math.Nat.{div-zero, div-eq_of_lt}
 use Rattle.std.proofs.lemmas.Bool.{cases_eq, cases_order, false≢true}
@@ -7,10 +7,10 @@ use Rattle.std.specs.Ordering.{nat_cmp}
 use Rattle.std.specs.Cmp.{nat_cmp_total}
 use Rattle.std.specs.Cmp.Lexicographic.{slice_cmp, nat_list_cmp_total}
 use Rattle.std.specs.FinMap as map
-use Rattle.posix_profile.specs.Sizes.{Sizes, root_number, page_slots}
+use Rattle.posix_profile.specs.Sizes.{Sizes, root_number, page_slots, capacity}
 use Rattle.posix_profile.specs.State.{Name, Entries, Object, Dir, Objects}
 use Rattle.posix_profile.specs.Names.{Names, Reached, root, below, settle}
-use Rattle.posix_profile.specs.Charge.{ceiling, cost, charge}
+use Rattle.posix_profile.specs.Charge.{ceiling, cost, charge, fits}
 use Rattle.posix_profile.specs.Changes.{new_number}
 use Rattle.posix_profile.specs.WellFormed.{IsTree}
 use Rattle.posix_profile.specs.MapLaws.{get_removed, remove_cases}
@@ -110,6 +110,10 @@ module _ (z : Sizes) (objects : Objects) (m : ℕ) (entries : Entries) (tree : I
         len_without nat_cmp_total map.nat_cmp-IsAntisymmetric objects root_number _ flat.root,
         flat_len,
       )
+
+  -- whether there is room for them, by the number of names
+  pub flat_room : fits z objects ≡ nat_le (1 + ceiling (map.len entries) (page_slots z) + map.len entries) (capacity z)
+  flat_room = ap (λ k. nat_le k (capacity z)) flat_charge
 
   -- the numbers of the objects are those of the root and of the names
   pub flat_number : (o : ℕ) → (map.contains_key objects o ≡ true) ↔ ((o ≡ root_number) ⊎ ((name : Name) × (map.get entries name ≡ Some o)))

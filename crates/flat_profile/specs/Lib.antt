@@ -9,3 +9,4 @@ pub mod FlatPaths
 pub mod LeastFree
 pub mod Room
 pub mod FlatPathLaws
+pub mod FreshFlat

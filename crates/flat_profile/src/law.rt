@@ -8,6 +8,7 @@ ghost use Rattle.flat_profile.specs.MkdirLaws.{IsMade};
 ghost use Rattle.flat_profile.specs.declared.path.FlatPath.{FlatPath};
 ghost use Rattle.posix_profile.specs.Changes.{new_number, with_object};
 ghost use Rattle.posix_profile.specs.Charge.{ceiling, charge, fits};
+ghost use Rattle.posix_profile.specs.FreshLaws.{fresh};
 ghost use Rattle.posix_profile.specs.Names.{settle};
 ghost use Rattle.posix_profile.specs.Outcomes.{answer, refuse};
 ghost use Rattle.posix_profile.specs.Paths.{Named, slash, resolve};
@@ -52,9 +53,12 @@ pub fn each_name_has_an_object_of_its_own()
 
 /// The root costs one unit and the pages of its entries, and every other directory one.
 pub fn one_level_costs_what_its_names_cost()
-    ensures { (z : Sizes) (objects : Objects) (m : ℕ) (entries : Entries)
+    ensures charge { (z : Sizes) (objects : Objects) (m : ℕ) (entries : Entries)
         → IsTree z objects → IsFlat objects m entries
         → charge z objects ≡ 1 + ceiling (map.len entries) (page_slots z) + map.len entries }
+    ensures fits { (z : Sizes) (objects : Objects) (m : ℕ) (entries : Entries)
+        → IsTree z objects → IsFlat objects m entries
+        → fits z objects ≡ nat_le (1 + ceiling (map.len entries) (page_slots z) + map.len entries) (capacity z) }
 {}
 
 /// A new number is the least from 2 up to which no name leads.
@@ -120,6 +124,11 @@ pub fn a_mkdir_leaves_one_level()
         ≡ nat_le (1 + ceiling (map.len entries + 1) (page_slots z) + (map.len entries + 1)) (capacity z) }
 {}
 
+/// A volume that was just formatted is of one level, without names.
+pub fn a_formatted_volume_is_of_one_level()
+    ensures { IsFlat fresh.objects 0 map.empty }
+{}
+
 /// A mount shows what was there.
 pub fn a_mount_of_one_level_changes_nothing()
     ensures { (z : Sizes) (objects : Objects) (m : ℕ) (entries : Entries)
@@ -127,7 +136,7 @@ pub fn a_mount_of_one_level_changes_nothing()
 {}
 
 /// Any entries of one level, with any moments, are those of a tree.
-pub fn every_entries_are_those_of_a_tree()
+pub fn any_entries_are_those_of_a_tree()
     ensures { (z : Sizes) (m : ℕ) (entries : Entries) (moment_at : ℕ → ℕ)
         → AreFlatEntries entries → m < 2 ^ 64
         → ((name : Name) (o : ℕ) → map.get entries name ≡ Some o → moment_at o < 2 ^ 64)

@@ -58,7 +58,7 @@ impl NameMap {
         Ok(led.is_none())
     }
 
-    /// The names.
+    /// The names in the order of their bytes, none of them copied.
     pub fn into_names(self, alloc: Global) -> Result<NameList, AllocError>
         ensures { IfOk result (λ names. names ≡ map.keys self) }
     {

@@ -1,8 +1,9 @@
 // The opening of a store.
 ghost use Rattle.std.specs.Prelude.{◌≡◌, ◌↔◌, ◌<◌, ◌^◌, length, true, IsTrue, IfOk, IfErr};
 ghost use Rattle.nand_model.specs.Changes.{OnlyReads};
-ghost use Rattle.flash_tree.specs.Newest.{Numbers, AreGreatest};
+ghost use Rattle.flash_tree.specs.Newest.{Numbers, AreAbove, AreGreatest};
 ghost use Rattle.flash_tree.specs.Places.{numbers_of};
+ghost use Rattle.flash_tree.specs.Sound.{number_limit};
 ghost use Rattle.block_state.specs.TableOf.{table};
 ghost use Rattle.transactions.specs.Ready.{IsReady};
 
@@ -46,6 +47,8 @@ impl<N: Nand> Store<N> {
         ensures reads { IfOk result (λ store. OnlyReads (N.state device) (N.state store.device)) }
         ensures writable { (N.state device).honest ≡ true → (n : Numbers) → AreGreatest (N.state device).flash n
             → IfOk result (λ store. IsTrue store.writable ↔ ((n.group < 2 ^ 62) × (n.seq < 2 ^ 62))) }
+        ensures numbered { (N.state device).honest ≡ true → AreAbove (N.state device).flash (record { version = number_limit; group = number_limit; seq = number_limit })
+            → IfOk result (λ store. store.writable ≡ true) }
         ensures given_back { IfErr result (λ back. OnlyReads (N.state device) (N.state back.0)) }
         ensures gone { IfErr result (λ back. back.1 ≡ OpenFault.Gone → (N.state back.0).gone ≡ true) }
     {
@@ -79,6 +82,13 @@ impl<N: Nand> Store<N> {
         ensures { result ≡ self.now.writable }
     {
         self.writable
+    }
+
+    /// The device that the pages stand on.
+    pub fn device(&self) -> &N
+        ensures { N.state result.now ≡ N.state self.now.device }
+    {
+        &self.device
     }
 
     /// The device, as it is.

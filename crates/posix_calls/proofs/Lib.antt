@@ -3,3 +3,5 @@ pub mod Making
 pub mod Sizes
 pub mod Telling
 pub mod Ending
+pub mod Roots
+pub mod Named

@@ -1,3 +1,6 @@
 pub mod Endings
 pub mod Plans
 pub mod EarlyCommands
+pub mod MountFaults
+pub mod Roots
+pub mod Checks

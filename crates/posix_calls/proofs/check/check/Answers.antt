@@ -1,0 +1,58 @@
+use Rattle.std.proofs.Common.{◌≡◌, ◌∙◌, true, false, sym, ap, subst, rules}
+use Rattle.std.proofs.lemmas.Result.{err_from_is_err_and}
+use Rattle.nand_model.specs.Calls.{Device}
+use Rattle.nand_model.specs.ChangeLaws.{only_reads_on}
+use Rattle.nand_model.specs.declared.geometry.Geometry.{Geometry}
+use Rattle.flash_tree.specs.Mount.{sizes_of}
+use Rattle.flat_profile.specs.Flat.{IsFlat}
+use Rattle.posix_profile.specs.Charge.{fits}
+use Rattle.posix_profile.specs.State.{Entries}
+use Rattle.posix_profile.specs.WellFormed.{IsTree}
+use Rattle.posix_calls.proofs.Making.{volume_stays}
+use Rattle.posix_calls.proofs.check.check.Goals as goal
+
+pub returns-in_err-spare-clause-want : goal.returns-in_err-spare-clause-want
+returns-in_err-spare-clause-want g c = λ honest spare objects v.
+    let p = err_from_is_err_and c.from_residual.result c.from_residual.ensures.1 in
+    rw (p.1, p.2) (c.in_err-spare.ensures.want honest spare v.volume)
+
+pub returns-in_err-names-clause-want : goal.returns-in_err-names-clause-want
+returns-in_err-names-clause-want g c = λ honest spare objects v.
+    let old : Device = g.N.Nand.state c.args.store.now.device in
+    let mid : Device = g.N.Nand.state c.root_spare.new.store.device in
+    let reads = c.root_spare.ensures.reads in
+    let p = err_from_is_err_and c.from_residual-in_err-names.result c.from_residual-in_err-names.ensures.1 in
+    rw (p.1, p.2) (c.in_err-names.ensures.want (reads.lasts.honest ∙ honest) spare objects (volume_stays old mid spare objects reads honest v))
+
+pub returns-in_err-check_named-clause-want : goal.returns-in_err-check_named-clause-want
+returns-in_err-check_named-clause-want g c = λ honest spare objects v.
+    let old : Device = g.N.Nand.state c.args.store.now.device in
+    let mid : Device = g.N.Nand.state c.root_spare.new.store.device in
+    let late : Device = g.N.Nand.state c.root_names.new.store.device in
+    let reads = c.root_spare.ensures.reads in
+    let all = only_reads_on old mid late reads c.root_names.ensures.reads in
+    let names = c.in_ok-names.ensures.found (reads.lasts.honest ∙ honest) spare objects (volume_stays old mid spare objects reads honest v) in
+    let p = err_from_is_err_and c.from_residual-in_err-check_named.result c.from_residual-in_err-check_named.ensures.1 in
+    rw (p.1, p.2) (c.in_err-check_named.ensures.want (all.lasts.honest ∙ honest) spare objects (volume_stays old late spare objects all honest v) names)
+
+pub returns-then-has_room-clause-shown : goal.returns-then-has_room-clause-shown
+returns-then-has_room-clause-shown g c = λ honest spare objects v. c.in_ok-spare.ensures.shown honest spare v.volume
+
+pub returns-clause-want : goal.returns-clause-want
+returns-clause-want g c = λ honest spare objects v.
+    let old : Device = g.N.Nand.state c.args.store.now.device in
+    let mid : Device = g.N.Nand.state c.root_spare.new.store.device in
+    let late : Device = g.N.Nand.state c.root_names.new.store.device in
+    let end : Device = g.N.Nand.state c.check_named.new.store.device in
+    let reads = c.root_spare.ensures.reads in
+    let all = only_reads_on old late end (only_reads_on old mid late reads c.root_names.ensures.reads) c.check_named.ensures.reads in
+    let names = c.in_ok-names.ensures.found (reads.lasts.honest ∙ honest) spare objects (volume_stays old mid spare objects reads honest v) in
+    let geometry : c.geometry.result ≡ old.geometry = c.geometry.ensures ∙ all.lasts.geometry in
+    let told : c.in_ok-spare.spare ≡ spare = c.in_ok-spare.ensures.shown honest spare v.volume in
+    let tree : IsTree (sizes_of c.geometry.result c.in_ok-spare.spare) objects =
+    subst (λ (k : Geometry). IsTree (sizes_of k c.in_ok-spare.spare) objects) (sym geometry) (subst (λ n. IsTree (sizes_of old.geometry n) objects) (sym told) v.shows.tree) in
+    let flat : IsFlat objects v.moment c.in_ok-names.names = subst (λ (m : Entries). IsFlat objects v.moment m) (sym names) v.flat in
+    let room : fits (sizes_of c.geometry.result c.in_ok-spare.spare) objects ≡ true =
+    subst (λ (k : Geometry). fits (sizes_of k c.in_ok-spare.spare) objects ≡ true) (sym geometry) (subst (λ n. fits (sizes_of old.geometry n) objects ≡ true) (sym told) v.room) in
+    let two : true ≡ false = sym room ∙ sym (c.has_room.ensures objects v.moment tree flat) ∙ c.if-has_room.false in
+    cc

@@ -1,0 +1,27 @@
+use Rattle.std.proofs.Common.{◌≡◌, ◌∙◌, ℕ, List, refl, sym, ap, subst, rules}
+use Rattle.std.specs.FinMap as map
+use Rattle.std.specs.List.Sorted.{IsPermutation}
+use Rattle.nand_model.specs.Calls.{Device}
+use Rattle.flash_tree.specs.Mount.{sizes_of}
+use Rattle.posix_profile.specs.State.{Entries}
+use Rattle.posix_calls.specs.Checks.{StandsTwice}
+use Rattle.posix_calls.proofs.Named.{none_twice, each_empty}
+use Rattle.posix_calls.proofs.check.check_named.Goals as goal
+
+pub returns-then-has_twice-clause-want : goal.returns-then-has_twice-clause-want
+returns-then-has_twice-clause-want g c = λ honest spare objects v names.
+    let d : Device = g.N.Nand.state c.args.store.now.device in
+    let made : c.in-Ok.numbers.items ≡ map.values v.entries = (rw c.in-Ok.is at c.numbers.ensures) ∙ ap (λ (m : Entries). map.values m) names in
+    let sorted : List ℕ = c.deref.result.now in
+    let shuffled : IsPermutation (map.values v.entries) sorted = subst (λ (xs : List ℕ). IsPermutation xs sorted) made
+        (subst (λ (ys : List ℕ). IsPermutation c.in-Ok.numbers.items ys) (sym c.deref.ensures.value) c.sort_unstable.ensures.permutation) in
+    none_twice d.geometry d.flash spare objects v sorted shuffled (c.has_twice.ensures.0 c.if-has_twice.true)
+
+pub returns-clause-want : goal.returns-clause-want
+returns-clause-want g c = λ honest spare objects v names.
+    let d : Device = g.N.Nand.state c.args.store.now.device in
+    let made : c.in-Ok.numbers.items ≡ map.values v.entries = (rw c.in-Ok.is at c.numbers.ensures) ∙ ap (λ (m : Entries). map.values m) names in
+    let sorted : List ℕ = c.deref-2.result.now in
+    let shuffled : IsPermutation (map.values v.entries) sorted = subst (λ (xs : List ℕ). IsPermutation xs sorted) made
+        (subst (λ (ys : List ℕ). IsPermutation c.in-Ok.numbers.items ys) (sym c.deref-2.ensures.value) c.sort_unstable.ensures.permutation) in
+    c.check_all.ensures.want honest (sizes_of d.geometry spare) refl (each_empty d.geometry d.flash spare objects v sorted shuffled)

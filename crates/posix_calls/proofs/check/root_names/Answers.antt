@@ -1,0 +1,16 @@
+use Rattle.std.proofs.Common.{refl}
+use Rattle.flash_tree.specs.Mount.{sizes_of}
+use Rattle.posix_calls.proofs.Making.{root_reads}
+use Rattle.posix_calls.proofs.Roots.{told_want}
+use Rattle.posix_calls.proofs.check.root_names.Goals as goal
+
+pub returns-in-Ok-clause-found : goal.returns-in-Ok-clause-found
+returns-in-Ok-clause-found g c = λ honest spare objects v.
+    let d = g.N.Nand.state c.args.store.now.device in
+    rw c.in-Ok.is at (c.entries.ensures.found honest (sizes_of d.geometry spare) v.moment v.entries (root_reads d.geometry d.flash spare objects v) refl)
+
+pub returns-in-Err-clause-want : goal.returns-in-Err-clause-want
+returns-in-Err-clause-want g c = λ honest spare objects v.
+    let d = g.N.Nand.state c.args.store.now.device in
+    let fault = rw c.in-Err.is at (c.entries.ensures.fault honest (sizes_of d.geometry spare) v.moment v.entries (root_reads d.geometry d.flash spare objects v) refl) in
+    rw c.of_directory.ensures (told_want (g.N.Nand.state c.entries.new.store.device) c.in-Err.fault fault)

@@ -1,1 +1,2 @@
 pub mod Volumes
+pub mod SizesOf

@@ -2,5 +2,10 @@
 #![tactic(auto)]
 
 mod fault;
+mod wear;
 
 pub use fault::FormatFault;
+pub use wear::bad_count;
+
+#[cfg(test)]
+mod tests;

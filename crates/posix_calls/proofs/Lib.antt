@@ -5,3 +5,4 @@ pub mod Telling
 pub mod Ending
 pub mod Roots
 pub mod Named
+pub mod Mounting

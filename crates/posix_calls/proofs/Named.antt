@@ -56,7 +56,7 @@ once_counts (e ∷ es) o sorted one =
       | inr other ↦ omega (arith, split, one_not o e.1 other, once_counts es o (of_true _ parts.1) (λ a b x y. one a b (inr x) (inr y)))
       | inl here ↦
           let rest = none_counts es o (λ f is same.
-              above_differs nat_list_cmp_total (map.slice_cmp-IsAntisymmetric map.nat_cmp-IsAntisymmetric) e.0 es f (of_true _ parts.0) is (one f e (inr is) (inl refl) (same ∙ sym here))) in
+          above_differs nat_list_cmp_total (map.slice_cmp-IsAntisymmetric map.nat_cmp-IsAntisymmetric) e.0 es f (of_true _ parts.0) is (one f e (inr is) (inl refl) (same ∙ sym here))) in
           omega (arith, split, one_here o e.1 here, rest)
     ]
 
@@ -70,8 +70,8 @@ module _ (g : Geometry) (flash : Flash) (spare : ℕ) (objects : Objects) (v : I
       let many = twice_counts numbers i o lt refl next in
       let kept : sum_by (is_one o) numbers ≡ sum_by (is_one o) (map.values v.entries) = sum_by-IsPermutation (is_one o) (map.values v.entries) numbers shuffled in
       let few = once_counts (map.entries v.entries) o (map.entries_sorted v.entries) (λ e f x y is.
-          entries.one_name e.0 f.0 e.1 (member_get nat_list_cmp_total (map.slice_cmp-IsAntisymmetric map.nat_cmp-IsAntisymmetric) v.entries e x)
-          (member_get nat_list_cmp_total (map.slice_cmp-IsAntisymmetric map.nat_cmp-IsAntisymmetric) v.entries f y ∙ ap Some (sym is))) in
+      entries.one_name e.0 f.0 e.1 (member_get nat_list_cmp_total (map.slice_cmp-IsAntisymmetric map.nat_cmp-IsAntisymmetric) v.entries e x)
+      (member_get nat_list_cmp_total (map.slice_cmp-IsAntisymmetric map.nat_cmp-IsAntisymmetric) v.entries f y ∙ ap Some (sym is))) in
       absurd (omega (arith, many, kept, few))
 
   -- each is that of an empty directory

@@ -61,17 +61,20 @@ module _ (g : Geometry) (flash : Flash) (page : List ℕ) (len : length page ≡
 
 -- a header that counts no entry is that of an empty directory
 pub told_empty : (z : Sizes) (flash : Flash) (o : ℕ) (head : DirectoryHead) → TellsHead z flash o head → head.length ≡ 0 → IsEmptyThere z flash o
-told_empty z flash o head told none = (told.fields.moment, record {
-  fields = told.fields;
-  has = told.has;
-  kind = told.kind;
-  when = refl;
-  slots = [];
-  size = sym told.head_is.length_is ∙ none;
-  each = λ i e no'. absurd cc;
-  once = λ i j a b no' at same. absurd cc;
-  entries_are = refl;
-})
+told_empty z flash o head told none = (
+  told.fields.moment,
+  record {
+    fields = told.fields;
+    has = told.has;
+    kind = told.kind;
+    when = refl;
+    slots = [];
+    size = sym told.head_is.length_is ∙ none;
+    each = λ i e no'. absurd cc;
+    once = λ i j a b no' at same. absurd cc;
+    entries_are = refl;
+  },
+)
 
 -- an empty directory has no slots
 pub empty_length : (z : Sizes) (flash : Flash) (o moment : ℕ) (r : ReadsDir z (HasNewest flash) o moment map.empty) → r.fields.length ≡ 0
@@ -83,7 +86,7 @@ empty_length z flash o moment r = r.size ∙ none r.slots refl
         let here : slice_get r.slots 0 ≡ Some s = ap (λ (es : List Entry). slice_get es 0) is in
         let there : map.find (slice_cmp nat_cmp) s.name (slot_pairs r.slots) ≡ Some s.object = found r.slots 0 s here (λ j b at same. r.once j 0 b s at here same) in
         let two : None ≡ Some s.object = sym (map.get-empty (slice_cmp nat_cmp) s.name) ∙ ap (λ m. map.get m s.name) r.entries_are
-            ∙ map.get-from_entries nat_list_cmp_total (slot_pairs r.slots) s.name ∙ there in
+        ∙ map.get-from_entries nat_list_cmp_total (slot_pairs r.slots) s.name ∙ there in
         absurd cc
 
 -- a fault of a directory that is there is told as a want

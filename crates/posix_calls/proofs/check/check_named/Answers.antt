@@ -14,7 +14,7 @@ returns-then-has_twice-clause-want g c = λ honest spare objects v names.
     let made : c.in-Ok.numbers.items ≡ map.values v.entries = (rw c.in-Ok.is at c.numbers.ensures) ∙ ap (λ (m : Entries). map.values m) names in
     let sorted : List ℕ = c.deref.result.now in
     let shuffled : IsPermutation (map.values v.entries) sorted = subst (λ (xs : List ℕ). IsPermutation xs sorted) made
-        (subst (λ (ys : List ℕ). IsPermutation c.in-Ok.numbers.items ys) (sym c.deref.ensures.value) c.sort_unstable.ensures.permutation) in
+    (subst (λ (ys : List ℕ). IsPermutation c.in-Ok.numbers.items ys) (sym c.deref.ensures.value) c.sort_unstable.ensures.permutation) in
     none_twice d.geometry d.flash spare objects v sorted shuffled (c.has_twice.ensures.0 c.if-has_twice.true)
 
 pub returns-clause-want : goal.returns-clause-want
@@ -23,5 +23,5 @@ returns-clause-want g c = λ honest spare objects v names.
     let made : c.in-Ok.numbers.items ≡ map.values v.entries = (rw c.in-Ok.is at c.numbers.ensures) ∙ ap (λ (m : Entries). map.values m) names in
     let sorted : List ℕ = c.deref-2.result.now in
     let shuffled : IsPermutation (map.values v.entries) sorted = subst (λ (xs : List ℕ). IsPermutation xs sorted) made
-        (subst (λ (ys : List ℕ). IsPermutation c.in-Ok.numbers.items ys) (sym c.deref-2.ensures.value) c.sort_unstable.ensures.permutation) in
+    (subst (λ (ys : List ℕ). IsPermutation c.in-Ok.numbers.items ys) (sym c.deref-2.ensures.value) c.sort_unstable.ensures.permutation) in
     c.check_all.ensures.want honest (sizes_of d.geometry spare) refl (each_empty d.geometry d.flash spare objects v sorted shuffled)

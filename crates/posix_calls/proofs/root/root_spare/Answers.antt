@@ -14,7 +14,7 @@ returns-in-Ok-true-clause-shown g c = λ honest spare v.
     let len : length page ≡ d.geometry.bytes = c.find.new.self.size ∙ ap (λ (k : Geometry). k.bytes) c.find.ensures.reads.lasts.geometry in
     let blocks : c.blocks-blocks.result ≡ d.geometry.blocks = c.blocks-blocks.ensures ∙ ap (λ (k : Geometry). k.blocks) c.geometry.ensures in
     root_shown d.geometry d.flash page len newest spare v c.spare_in.result
-        (subst (λ n. IfOk c.spare_in.result (SpareTold page n)) blocks (subst (λ (xs : List ℕ). IfOk c.spare_in.result (SpareTold xs c.blocks-blocks.result)) c.page.ensures c.spare_in.ensures.told))
+    (subst (λ n. IfOk c.spare_in.result (SpareTold page n)) blocks (subst (λ (xs : List ℕ). IfOk c.spare_in.result (SpareTold xs c.blocks-blocks.result)) c.page.ensures c.spare_in.ensures.told))
 
 pub returns-in-Ok-true-clause-want : goal.returns-in-Ok-true-clause-want
 returns-in-Ok-true-clause-want g c = λ honest spare v.
@@ -24,7 +24,7 @@ returns-in-Ok-true-clause-want g c = λ honest spare v.
     let len : length page ≡ d.geometry.bytes = c.find.new.self.size ∙ ap (λ (k : Geometry). k.bytes) c.find.ensures.reads.lasts.geometry in
     let blocks : c.blocks-blocks.result ≡ d.geometry.blocks = c.blocks-blocks.ensures ∙ ap (λ (k : Geometry). k.blocks) c.geometry.ensures in
     root_want d.geometry d.flash page len newest spare v (g.N.Nand.state c.find.new.self.device) c.spare_in.result
-        (subst (λ n. IfErr c.spare_in.result (NoSpareTold page n)) blocks (subst (λ (xs : List ℕ). IfErr c.spare_in.result (NoSpareTold xs c.blocks-blocks.result)) c.page.ensures c.spare_in.ensures.fault))
+    (subst (λ n. IfErr c.spare_in.result (NoSpareTold page n)) blocks (subst (λ (xs : List ℕ). IfErr c.spare_in.result (NoSpareTold xs c.blocks-blocks.result)) c.page.ensures c.spare_in.ensures.fault))
 
 pub returns-in-Ok-false-clause-want : goal.returns-in-Ok-false-clause-want
 returns-in-Ok-false-clause-want g c = λ honest spare v.

@@ -1,5 +1,5 @@
 -- How a Mkdir ends.
-use Rattle.std.specs.Prelude.{◌≡◌, ◌⊎◌, ◌<◌, ◌≤◌, ◌^◌, ℕ, None, Bool, true, false, List, length, Result, Ok, Err}
+use Rattle.std.specs.Prelude.{◌≡◌, ◌⊎◌, ◌≤◌, ◌^◌, ℕ, None, Bool, true, false, List}
 use Rattle.std.specs.FinMap as map
 use Rattle.std.proofs.Common.{refl, sym, ◌∙◌, ap, subst, inl, inr, arith}
 use Rattle.nand_model.specs.Calls.{Device}
@@ -33,7 +33,7 @@ use Rattle.objects.specs.declared.store.StoreFault.{StoreFault}
 use Rattle.objects.specs.declared.store.StoreFault.TheVariants as faults
 use Rattle.transactions.specs.declared.fresh.FreshPage.{FreshPage}
 use Rattle.volume_format.specs.Volumes.{IsFlatVolume}
-use Rattle.posix_calls.specs.Endings.{IsStopped, Ends, EndsWell, store_error}
+use Rattle.posix_calls.specs.Endings.{Ends, EndsWell, store_error}
 use Rattle.posix_calls.specs.Plans.{IsLack, MayMake, WhyNone, MakesDirectory, with_directory, has_room_for_one}
 use Rattle.posix_calls.proofs.Making.{volume_stays}
 

@@ -6,3 +6,4 @@ pub mod Ending
 pub mod Roots
 pub mod Named
 pub mod Mounting
+pub mod Runs

@@ -1,5 +1,5 @@
 -- What holds of a directory's pages in a volume of one level.
-use Rattle.std.specs.Prelude.{◌≡◌, ◌≢◌, ◌⊎◌, ◌<◌, ◌≤◌, ℕ, zero, suc, ◌+◌, ◌^◌, true, false, List, [], ◌∷◌, ◌++◌, length, Some, None, slice_get}
+use Rattle.std.specs.Prelude.{◌≡◌, ◌≢◌, ◌⊎◌, ◌<◌, ◌≤◌, ℕ, zero, suc, ◌+◌, ◌^◌, true, List, [], ◌∷◌, ◌++◌, length, Some, slice_get}
 use Rattle.std.specs.FinMap as map
 use Rattle.std.proofs.Common.{refl, sym, ◌∙◌, ap, subst, inl, inr, arith}
 use Rattle.std.proofs.lemmas.Bool.{cases_eq}
@@ -8,21 +8,19 @@ use Rattle.nand_model.specs.Calls.{Device}
 use Rattle.nand_model.specs.Changes.{OnlyReads}
 use Rattle.nand_model.specs.Flash.{Flash}
 use Rattle.nand_model.specs.declared.geometry.Geometry.{Geometry}
-use Rattle.page_tags.specs.Headers.{Fields, header_bytes}
-use Rattle.page_tags.specs.Slots.{Entry}
+use Rattle.page_tags.specs.Headers.{Fields}
 use Rattle.posix_profile.specs.Changes.{new_number}
 use Rattle.posix_profile.specs.Charge.{fits}
 use Rattle.posix_profile.specs.NumberLaws.{new_number_is}
 use Rattle.posix_profile.specs.Sizes.{Sizes, IsSizes, root_number}
-use Rattle.posix_profile.specs.State.{Name, Entries, Object, File, Dir, Objects}
+use Rattle.posix_profile.specs.State.{Name, Entries, Object, Dir, Objects}
 use Rattle.posix_profile.specs.WellFormed.{IsName}
 use Rattle.flash_tree.specs.FindingLaws.{IsPageSize, same_header}
 use Rattle.flash_tree.specs.Mount.{sizes_of, IsVolume}
 use Rattle.flash_tree.specs.Newest.{HasNewest}
 use Rattle.flash_tree.specs.NewestLaws.{one_newest}
 use Rattle.flash_tree.specs.PlaceLaws.{same_flash}
-use Rattle.flash_tree.specs.Tree.{HasHeader, Reads, ReadsDir, Shows}
-use Rattle.flat_profile.specs.Flat.{IsFlat}
+use Rattle.flash_tree.specs.Tree.{Reads, ReadsDir, Shows}
 use Rattle.flat_profile.specs.MkdirLaws.{IsMade, mkdir_flat, mkdir_fits}
 use Rattle.transactions.specs.declared.fresh.FreshPage.{FreshPage}
 use Rattle.objects.specs.Changes.{IsOf, AreApart, CanApply, HasChange}
@@ -30,7 +28,7 @@ use Rattle.directories.specs.Additions.{ArePagesOf, AddsEntry}
 use Rattle.directories.specs.HeadPages.{IsHeadPage, fields_in}
 use Rattle.directories.specs.declared.head.DirectoryHead.{DirectoryHead}
 use Rattle.volume_format.specs.Volumes.{IsFlatVolume}
-use Rattle.posix_calls.specs.Plans.{MayMake, with_directory, has_room_for_one}
+use Rattle.posix_calls.specs.Plans.{MayMake, with_directory}
 
 -- the root of a volume of one level reads as a directory
 pub root_reads : (g : Geometry) (flash : Flash) (spare : ℕ) (objects : Objects) (v : IsFlatVolume g flash spare objects) → ReadsDir (sizes_of g spare) (HasNewest flash) root_number v.moment v.entries

@@ -1,12 +1,12 @@
 -- On one level no two names lead to one number, however the numbers are ordered, and each leads to an empty directory.
-use Rattle.std.specs.Prelude.{◌≡◌, ◌≢◌, ◌<◌, ◌≤◌, ℕ, zero, suc, ◌+◌, true, List, [], ◌∷◌, length, map as list_map, sum_by, slice_index, slice_get, Some, nat_eq, if◌then◌else◌}
+use Rattle.std.specs.Prelude.{◌≡◌, ◌≢◌, ◌<◌, ◌≤◌, ℕ, zero, suc, ◌+◌, List, [], ◌∷◌, length, map as list_map, sum_by, slice_index, slice_get, Some, nat_eq, if◌then◌else◌}
 use Rattle.std.specs.Ordering.{nat_cmp}
 use Rattle.std.specs.Cmp.Lexicographic.{slice_cmp, nat_list_cmp_total}
 use Rattle.std.specs.FinMap as map
 use Rattle.std.specs.FinMap.Entries.{below_all}
 use Rattle.std.specs.List.{Contains}
 use Rattle.std.specs.List.Sorted.{IsPermutation}
-use Rattle.std.proofs.Common.{T, refl, sym, ◌∙◌, ap, subst, inl, inr, arith}
+use Rattle.std.proofs.Common.{T, refl, sym, ◌∙◌, ap, inl, inr, arith}
 use Rattle.std.proofs.lemmas.Bool.{cases_eq, and_parts, cond-true, cond-false, eq-eqb, ne_eqb, eqb-true}
 use Rattle.std.proofs.lemmas.List.Sorted.{sum_by-IsPermutation, Contains-permutation, IsPermutation-sym}
 use Rattle.std.proofs.lemmas.List.Sums.{sum_by-cons}
@@ -16,7 +16,7 @@ use Rattle.std.specs.Cmp.{nat_eq_equiv}
 use Rattle.nand_model.specs.Flash.{Flash}
 use Rattle.nand_model.specs.declared.geometry.Geometry.{Geometry}
 use Rattle.posix_profile.specs.MapLaws.{Member, above_differs, member_get, value_key, true_of, of_true}
-use Rattle.posix_profile.specs.State.{Name, Entries, Objects, Dir}
+use Rattle.posix_profile.specs.State.{Name, Objects, Dir}
 use Rattle.flash_tree.specs.Mount.{sizes_of}
 use Rattle.flash_tree.specs.TreeLaws.{slice_get_within}
 use Rattle.flat_profile.specs.FlatLaws.{entry_leads, flat_entries}

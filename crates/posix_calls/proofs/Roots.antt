@@ -1,18 +1,18 @@
 -- What the root's newest page says of the volume.
-use Rattle.std.specs.Prelude.{◌≡◌, ◌+◌, ◌≤◌, ℕ, zero, suc, List, [], ◌∷◌, length, Option, Some, None, slice_get, Result, Ok, Err, IfOk, IfErr}
+use Rattle.std.specs.Prelude.{◌≡◌, ◌+◌, ◌≤◌, ℕ, List, [], ◌∷◌, length, Some, None, slice_get, Result, Ok, Err, IfOk, IfErr}
 use Rattle.std.specs.Ordering.{nat_cmp}
 use Rattle.std.specs.Cmp.Lexicographic.{slice_cmp, nat_list_cmp_total}
 use Rattle.std.specs.FinMap as map
-use Rattle.std.proofs.Common.{refl, sym, ◌∙◌, ap, subst, arith}
+use Rattle.std.proofs.Common.{refl, sym, ◌∙◌, ap, subst}
 use Rattle.nand_model.specs.Calls.{Device}
 use Rattle.nand_model.specs.Flash.{Flash}
 use Rattle.nand_model.specs.declared.geometry.Geometry.{Geometry}
-use Rattle.page_tags.specs.Headers.{Fields, IsHeader, IsHeaderOf, header_bytes}
+use Rattle.page_tags.specs.Headers.{Fields, IsHeader, header_bytes}
 use Rattle.page_tags.specs.Slots.{Entry}
 use Rattle.page_tags.specs.declared.header.HeaderFault.TheVariants as headers
 use Rattle.posix_profile.specs.Sizes.{Sizes, root_number}
 use Rattle.flash_tree.specs.ContentExists.{slot_pairs}
-use Rattle.flash_tree.specs.FindingLaws.{IsPageSize, same_header, header_no_fault}
+use Rattle.flash_tree.specs.FindingLaws.{same_header, header_no_fault}
 use Rattle.flash_tree.specs.Mount.{sizes_of, IsVolume}
 use Rattle.flash_tree.specs.Newest.{HasNewest}
 use Rattle.flash_tree.specs.NewestLaws.{one_newest}

@@ -1,7 +1,7 @@
 -- The sizes of a device are those of a volume.
 use mathlib.Core.Logic.{∥∥₁_elim}
 use Rattle.std.specs.Prelude.{◌≡◌, ◌⊎◌, ◌≤◌, ℕ, ◌+◌}
-use Rattle.std.proofs.Common.{inl, inr, arith}
+use Rattle.std.proofs.Common.{inl, inr}
 use Rattle.std.proofs.lemmas.Bool.{cases_eq}
 use Rattle.nand_model.specs.Size.{IsSize}
 use Rattle.nand_model.specs.declared.geometry.Geometry.{Geometry}

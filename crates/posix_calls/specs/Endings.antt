@@ -1,5 +1,5 @@
 -- How a command ends on a volume.
-use Rattle.std.specs.Prelude.{◌≡◌, ◌⊎◌, ◌<◌, ◌≤◌, ◌^◌, ℕ, Bool, true, false, Result, Ok, Err}
+use Rattle.std.specs.Prelude.{◌≡◌, ◌⊎◌, ◌<◌, ◌≤◌, ◌^◌, ℕ, true, false, Result, Ok, Err}
 use Rattle.nand_model.specs.Calls.{Device}
 use Rattle.nand_model.specs.Changes.{OnlyReads}
 use Rattle.block_state.specs.Table.{Table}

@@ -4,3 +4,4 @@ pub mod EarlyCommands
 pub mod MountFaults
 pub mod Roots
 pub mod Checks
+pub mod Running

@@ -1,5 +1,5 @@
 -- Why a flash is no volume.
-use Rattle.std.specs.Prelude.{◌≡◌, ◌⊎◌, ℕ, true}
+use Rattle.std.specs.Prelude.{◌≡◌, true}
 use Rattle.nand_model.specs.Calls.{Device}
 use Rattle.nand_model.specs.Flash.{Flash}
 use Rattle.page_tags.specs.declared.header.HeaderFault.TheVariants as headers

@@ -1,7 +1,6 @@
 -- What a page says as the header of a root.
-use Rattle.std.specs.Prelude.{◌≡◌, ◌⊎◌, ◌<◌, ◌≤◌, ◌+◌, ℕ, List}
+use Rattle.std.specs.Prelude.{◌≡◌, ◌≤◌, ◌+◌, ℕ, List}
 use Rattle.page_tags.specs.Headers.{Fields, IsHeaderOf, IsFirstFault}
-use Rattle.page_tags.specs.declared.header.HeaderFault.{HeaderFault}
 use Rattle.page_tags.specs.declared.header.HeaderFault.TheVariants as headers
 use Rattle.page_tags.specs.declared.header.ObjectKind.TheVariants as kinds
 use Rattle.posix_calls.specs.declared.fault.MountFault.{MountFault}

@@ -1,5 +1,5 @@
 // A mounted volume, and its commands.
-ghost use Rattle.std.specs.Prelude.{◌≡◌, ◌≤◌, ◌+◌, Bool, true, false};
+ghost use Rattle.std.specs.Prelude.{◌≡◌, ◌≤◌, ◌+◌, ◌++◌, Bool, true, false, List, length, OnOk};
 ghost use Rattle.nand_model.specs.Calls.{Lasts};
 ghost use Rattle.flash_tree.specs.Newest.{AreAbove};
 ghost use Rattle.flash_tree.specs.Mount.{sizes_of};
@@ -12,6 +12,8 @@ ghost use Rattle.flat_profile.specs.Flat.{early_step, closed};
 ghost use Rattle.block_state.specs.TableOf.{table};
 ghost use Rattle.volume_format.specs.Volumes.{IsFlatVolume};
 ghost use Rattle.posix_calls.specs.Endings.{Ends};
+ghost use Rattle.posix_calls.specs.Running.{RunEnds};
+ghost use Rattle.posix_profile.specs.declared.reply.Reply.{Reply};
 
 use crate::early::{EarlyCommand, early};
 use crate::list::list;
@@ -19,7 +21,7 @@ use crate::mkdir::mkdir;
 use nand_model::Nand;
 use objects::Store;
 use posix_profile::{Errno, Reply, Stamped};
-use std::alloc::Global;
+use std::alloc::{AllocError, Global};
 
 /// Does a command and replies to it.
 fn answer<N: Nand>(
@@ -136,5 +138,28 @@ impl<N: Nand> Volume<N> {
             Reply::Done
         };
         (self.store.into_device(), reply)
+    }
+}
+
+impl<N: Nand> Volume<N> {
+    /// Does the commands in turn and adds their replies at the end of the vector. A command whose reply finds no room is
+    /// not begun, and none after it.
+    pub fn run(&mut self, commands: &[Stamped], replies: &mut Vec<Reply>) -> Result<(), AllocError>
+        ensures lasts { Lasts (N.state self.old.store.device) (N.state self.new.store.device) }
+        ensures keeps { (self.new.spare ≡ self.old.spare) × (self.new.read_only ≡ self.old.read_only) }
+        ensures ends { (N.state self.old.store.device).honest ≡ true → self.old.stopped ≡ false → (objects : Objects)
+            → IsFlatVolume (N.state self.old.store.device).geometry (N.state self.old.store.device).flash self.old.spare objects
+            → (answered : List Reply) × (replies.new.items ≡ replies.old.items ++ answered)
+            × RunEnds (sizes_of (N.state self.old.store.device).geometry self.old.spare) self.old.read_only
+            (IsFlatVolume (N.state self.old.store.device).geometry (N.state self.new.store.device).flash self.old.spare)
+            objects commands.now answered self.new.stopped
+            × OnOk result (length answered ≡ length commands.now) }
+    {
+        for i in 0..commands.len() {
+            replies.reserve(1)?;
+            let reply = self.call(&commands[i]);
+            replies.push(reply)?;
+        }
+        Ok(())
     }
 }

@@ -1,4 +1,4 @@
-use Rattle.std.proofs.Common.{◌≡◌, ◌∙◌, sym, rules}
+use Rattle.std.proofs.Common.{◌≡◌, ◌∙◌, rules}
 use Rattle.std.specs.FinMap as map
 use Rattle.nand_model.specs.Calls.{Device}
 use Rattle.posix_calls.proofs.Roots.{told_empty, empty_length, gone_want}

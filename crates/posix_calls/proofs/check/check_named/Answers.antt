@@ -1,10 +1,9 @@
-use Rattle.std.proofs.Common.{◌≡◌, ◌∙◌, ℕ, List, refl, sym, ap, subst, rules}
+use Rattle.std.proofs.Common.{◌≡◌, ◌∙◌, ℕ, List, refl, sym, ap, subst}
 use Rattle.std.specs.FinMap as map
 use Rattle.std.specs.List.Sorted.{IsPermutation}
 use Rattle.nand_model.specs.Calls.{Device}
 use Rattle.flash_tree.specs.Mount.{sizes_of}
 use Rattle.posix_profile.specs.State.{Entries}
-use Rattle.posix_calls.specs.Checks.{StandsTwice}
 use Rattle.posix_calls.proofs.Named.{none_twice, each_empty}
 use Rattle.posix_calls.proofs.check.check_named.Goals as goal
 

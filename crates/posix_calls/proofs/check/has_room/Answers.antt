@@ -1,6 +1,4 @@
-use Rattle.std.proofs.Common.{◌≡◌, ◌+◌, ◌∙◌, ℕ, sym, ap, nat_le, rules}
-use Rattle.posix_profile.specs.Charge.{ceiling}
-use Rattle.posix_profile.specs.Sizes.{capacity, page_slots}
+use Rattle.std.proofs.Common.{rules}
 use Rattle.flash_tree.specs.Mount.{sizes_of}
 use Rattle.flat_profile.specs.FlatLaws.{flat_room}
 use Rattle.posix_calls.proofs.check.has_room.Goals as goal

@@ -1,4 +1,4 @@
-use Rattle.std.proofs.Common.{◌≡◌, ◌≢◌, ◌<◌, ◌≤◌, ◌+◌, ℕ, slice_index}
+use Rattle.std.proofs.Common.{◌≢◌, ◌<◌, ◌≤◌, ◌+◌, ℕ, slice_index}
 use Rattle.posix_calls.proofs.check.has_twice.Given as goal
 
 abbrev pub invariant-loop-i : goal.invariant-loop-i

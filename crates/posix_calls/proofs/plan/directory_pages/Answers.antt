@@ -1,10 +1,9 @@
-use Rattle.std.proofs.Common.{◌≡◌, ◌≢◌, ◌≤◌, ◌∙◌, ◌++◌, ◌∷◌, [], ℕ, List, refl, sym, ap, subst, arith, rules}
+use Rattle.std.proofs.Common.{◌≡◌, ◌≢◌, ◌++◌, ◌∷◌, [], List, refl, sym, ap, subst, arith}
 use Rattle.nand_model.specs.Calls.{Device}
 use Rattle.nand_model.specs.declared.geometry.Geometry.{Geometry}
-use Rattle.page_tags.specs.Slots.{Entry}
 use Rattle.posix_profile.specs.Sizes.{root_number}
 use Rattle.flash_tree.specs.Mount.{sizes_of}
-use Rattle.objects.specs.Changes.{CanApply, HasChange}
+use Rattle.objects.specs.Changes.{CanApply}
 use Rattle.objects.specs.declared.change.Change.{Change}
 use Rattle.transactions.specs.declared.fresh.FreshPage.{FreshPage}
 use Rattle.directories.specs.Additions.{AddsEntry}

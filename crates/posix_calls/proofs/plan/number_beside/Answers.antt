@@ -1,4 +1,4 @@
-use Rattle.std.proofs.Common.{◌≡◌, ◌∙◌, sym, ap, rules}
+use Rattle.std.proofs.Common.{rules}
 use Rattle.flash_tree.specs.Mount.{sizes_of}
 use Rattle.posix_calls.proofs.Numbers.{least_is_new}
 use Rattle.posix_calls.proofs.plan.number_beside.Goals as goal

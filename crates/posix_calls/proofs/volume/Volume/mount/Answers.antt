@@ -1,4 +1,4 @@
-use Rattle.std.proofs.Common.{◌≡◌, ◌⊎◌, ◌↔◌, ◌<◌, ◌≤◌, ◌∙◌, ℕ, Bool, true, false, sym, ap, subst, IsTrue, arith, rules}
+use Rattle.std.proofs.Common.{◌≡◌, ◌⊎◌, ◌↔◌, ◌<◌, ◌∙◌, Bool, false, sym, subst, IsTrue, arith}
 use Rattle.nand_model.specs.Calls.{Device}
 use Rattle.nand_model.specs.ChangeLaws.{only_reads_on}
 use Rattle.nand_model.specs.Changes.{OnlyReads}

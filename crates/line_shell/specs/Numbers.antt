@@ -1,5 +1,5 @@
 -- The numbers of a line.
-use Rattle.std.specs.Prelude.{ℕ, ◌-◌, ◌^◌, ℤ, pos, neg_ℤ, Bool, ◌&&◌, nat_lt, nat_le, List, length, drop, Option, Some, None, option_map, if◌then◌else◌}
+use Rattle.std.specs.Prelude.{◌≡◌, ◌⊎◌, IsUtf8, slice_index, ℕ, ◌-◌, ◌^◌, ℤ, pos, neg_ℤ, Bool, ◌&&◌, nat_lt, nat_le, List, length, drop, Option, Some, None, option_map, if◌then◌else◌}
 use Rattle.std.specs.Str.{all_ascii_digits}
 use Rattle.std.specs.Str.Parse.{digits_value, starts_with_minus}
 
@@ -21,3 +21,7 @@ signed_number word =
     if starts_with_minus word
     then option_map (λ n. neg_ℤ (pos n)) (number (2 ^ 63) (drop 1 word))
     else option_map (λ n. pos n) (number (2 ^ 63 - 1) word)
+
+-- a word that begins with a plus or is not UTF-8, and so is no number
+abbrev pub IsNoText : List ℕ → Type 0
+IsNoText word = (slice_index word 0 ≡ 43) ⊎ ¬ IsUtf8 word

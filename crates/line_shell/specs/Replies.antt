@@ -39,13 +39,10 @@ abbrev pub kind_name : Kind → List ℕ
 kind_name kinds.File = codes "file"
 kind_name kinds.Directory = codes "dir"
 
--- the size that is told: 0 of a directory
-abbrev pub told_size : Info → ℕ
-told_size info = size_for info.kind info.size
-  where
-    abbrev pub size_for : Kind → ℕ → ℕ
-    size_for kinds.File size = size
-    size_for kinds.Directory size = 0
+-- the size that is told of an object: 0 of a directory
+abbrev pub size_of_kind : Kind → ℕ → ℕ
+size_of_kind kinds.File size = size
+size_of_kind kinds.Directory size = 0
 
 -- each number after a space
 abbrev pub numbers_text : List ℕ → List ℕ
@@ -62,7 +59,7 @@ reply_words (replies.Fd fd) = codes "fd" ++ numbers_text (fd ∷ [])
 reply_words (replies.Data bytes) = codes "data" ++ numbers_text (length bytes ∷ []) ++ names_text (bytes ∷ [])
 reply_words (replies.Wrote count) = codes "wrote" ++ numbers_text (count ∷ [])
 reply_words (replies.At offset) = codes "at" ++ numbers_text (offset ∷ [])
-reply_words (replies.Info info) = codes "info " ++ kind_name info.kind ++ numbers_text (info.object ∷ info.links ∷ told_size info ∷ info.moment ∷ [])
+reply_words (replies.Info info) = codes "info " ++ kind_name info.kind ++ numbers_text (info.object ∷ info.links ∷ size_of_kind info.kind info.size ∷ info.moment ∷ [])
 reply_words (replies.Names names) = codes "names" ++ numbers_text (length names ∷ []) ++ names_text names
 reply_words (replies.SpaceInfo space') = codes "space" ++ numbers_text (space'.unit ∷ space'.total ∷ space'.free ∷ [])
 reply_words (replies.Error error) = codes "error " ++ error_name error

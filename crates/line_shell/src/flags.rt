@@ -1,6 +1,7 @@
 // The flags of an `open`.
-ghost use Rattle.std.specs.Prelude.{◌≡◌, nat_eq, count_by};
-ghost use Rattle.line_shell.specs.Commands.{has, are_flags, access_of, flags_of};
+ghost use Rattle.std.specs.Prelude.{◌≡◌, nat_eq, nat_le, count_by};
+ghost use Rattle.std.specs.List.{list_all};
+ghost use Rattle.line_shell.specs.Commands.{letters, has, access_of, flags_of};
 
 use posix_profile::{Access, OpenFlags};
 
@@ -18,12 +19,27 @@ fn count(flags: &[u8], letter: u8) -> usize
     flags.iter().filter(|flag| **flag == letter).count()
 }
 
-/// Whether a word is letters of flags, each at most once.
-fn are_flags(word: &[u8]) -> bool
-    ensures { result ≡ are_flags word.now }
+fn are_letters(word: &[u8]) -> bool
+    ensures { result ≡ list_all (λ flag. has letters flag) word.now }
 {
-    word.iter().all(|flag| has(&LETTERS, *flag))
-        && LETTERS.iter().all(|letter| count(word, *letter) <= 1)
+    for flag in word {
+        if !has(&LETTERS, *flag) {
+            return false;
+        }
+    }
+    true
+}
+
+/// Whether each of the letters is in the word at most once.
+fn are_apart(word: &[u8], letters: &[u8]) -> bool
+    ensures { result ≡ list_all (λ letter. nat_le (count_by (λ flag. nat_eq flag letter) word.now) 1) letters.now }
+{
+    for letter in letters {
+        if count(word, *letter) > 1 {
+            return false;
+        }
+    }
+    true
 }
 
 fn access_of(read: bool, write: bool) -> Option<Access>
@@ -41,7 +57,7 @@ fn access_of(read: bool, write: bool) -> Option<Access>
 pub fn flags_of(word: &[u8]) -> Option<OpenFlags>
     ensures { result ≡ flags_of word.now }
 {
-    if !are_flags(word) {
+    if !are_letters(word) || !are_apart(word, &LETTERS) {
         return None;
     }
     let access = access_of(has(word, b'r'), has(word, b'w'))?;

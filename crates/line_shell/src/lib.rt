@@ -8,12 +8,12 @@ mod flags;
 mod input;
 mod law;
 mod line;
+mod meaning;
 mod number;
 mod output;
-mod parse;
 mod reply;
+mod run;
 mod serve;
-mod shell;
 #[cfg(test)]
 mod tests;
 mod word;
@@ -23,7 +23,7 @@ pub use law::{
     the_lines_of_an_input_are_those_of_std, what_is_spelled_is_one_word, whole_lines_are_the_input,
 };
 pub use line::Line;
-pub use parse::parse;
+pub use meaning::parse;
 pub use reply::write_reply;
+pub use run::shell;
 pub use serve::Serve;
-pub use shell::shell;

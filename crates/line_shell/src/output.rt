@@ -61,7 +61,11 @@ fn digit_glyph(digit: u8) -> u8
     requires { digit < 16 }
     ensures { result ≡ digit_glyph false digit }
 {
-    if digit < 10 { b'0' + digit } else { b'a' + (digit - 10) }
+    if digit < 10 {
+        b'0' + digit
+    } else {
+        b'a' + (digit - 10)
+    }
 }
 
 fn write_spelled_byte<W: Write>(writer: &mut W, byte: u8) -> Result<()>
@@ -70,7 +74,10 @@ fn write_spelled_byte<W: Write>(writer: &mut W, byte: u8) -> Result<()>
     match byte {
         b'\\' => write_bytes(writer, b"\\\\"),
         0x21..=0x7e => write_bytes(writer, &[byte]),
-        _ => write_bytes(writer, &[b'\\', b'x', digit_glyph(byte / 16), digit_glyph(byte % 16)]),
+        _ => write_bytes(
+            writer,
+            &[b'\\', b'x', digit_glyph(byte / 16), digit_glyph(byte % 16)],
+        ),
     }
 }
 

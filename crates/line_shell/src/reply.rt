@@ -1,6 +1,6 @@
 // The texts of replies.
 ghost use Rattle.std.specs.Prelude.{◌≡◌, ◌∷◌, ◌++◌, [], length, codes};
-ghost use Rattle.line_shell.specs.Replies.{error_name, kind_name, told_size, numbers_text, names_text, reply_words, reply_text, bad_line_text};
+ghost use Rattle.line_shell.specs.Replies.{error_name, kind_name, size_of_kind, numbers_text, names_text, reply_words, reply_text, bad_line_text};
 ghost use Rattle.line_shell.specs.Words.{space, spelled};
 ghost use Rattle.line_shell.specs.Written.{Writes};
 
@@ -42,12 +42,12 @@ fn kind_name(kind: Kind) -> &'static [u8]
     }
 }
 
-/// The size that is told: 0 of a directory.
-fn told_size(info: Info) -> u64
-    ensures { result ≡ told_size info }
+/// The size that is told of an object: 0 of a directory.
+fn size_of_kind(kind: Kind, size: u64) -> u64
+    ensures { result ≡ size_of_kind kind size }
 {
-    match info.kind {
-        Kind::File => info.size,
+    match kind {
+        Kind::File => size,
         Kind::Directory => 0,
     }
 }
@@ -60,10 +60,10 @@ fn write_data<W: Write>(writer: &mut W, bytes: &[u8]) -> Result<()>
 }
 
 fn write_info<W: Write>(writer: &mut W, info: Info) -> Result<()>
-    ensures { Writes (W.contents writer.old) (W.contents writer.new) (codes "info " ++ kind_name info.kind ++ numbers_text (info.object ∷ info.links ∷ told_size info ∷ info.moment ∷ [])) result }
+    ensures { Writes (W.contents writer.old) (W.contents writer.new) (codes "info " ++ kind_name info.kind ++ numbers_text (info.object ∷ info.links ∷ size_of_kind info.kind info.size ∷ info.moment ∷ [])) result }
 {
     write_bytes(writer, b"info ")?;
-    let numbers = [info.object, info.links, told_size(info), info.moment];
+    let numbers = [info.object, info.links, size_of_kind(info.kind, info.size), info.moment];
     write_tagged_numbers(writer, kind_name(info.kind), &numbers)
 }
 

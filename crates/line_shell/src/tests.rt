@@ -73,46 +73,223 @@ const CREATE: OpenFlags = OpenFlags {
 #[test]
 fn each_line_of_the_table_asks_for_its_command(rt: HostRuntime) -> Result<(), Fail> {
     let alloc = rt.alloc();
-    for (line, flags) in [("open /a r", READ), ("open /a cw", CREATE), ("open /a atxcwr", APPEND)] {
-        asks(&rt, alloc, line, Command::Open { path: path(alloc, b"/a")?, flags })?;
+    for (line, flags) in [
+        ("open /a r", READ),
+        ("open /a cw", CREATE),
+        ("open /a atxcwr", APPEND),
+    ] {
+        asks(
+            &rt,
+            alloc,
+            line,
+            Command::Open {
+                path: path(alloc, b"/a")?,
+                flags,
+            },
+        )?;
     }
     asks(&rt, alloc, "close 3", Command::Close { fd: 3 })?;
     asks(&rt, alloc, "fsync 00", Command::Fsync { fd: 0 })?;
-    asks(&rt, alloc, "read 1 4294967295", Command::Read { fd: 1, count: u32::MAX })?;
-    asks(&rt, alloc, "write 2 a\\x20b\\\\", Command::Write { fd: 2, bytes: text(alloc, b"a b\\")? })?;
-    asks(&rt, alloc, "write 2 \\e", Command::Write { fd: 2, bytes: text(alloc, b"")? })?;
-    asks(&rt, alloc, "seek 1 -0 set", Command::Seek { fd: 1, offset: 0, whence: Whence::Set })?;
-    asks(&rt, alloc, "seek 1 9223372036854775807 cur", Command::Seek { fd: 1, offset: i64::MAX, whence: Whence::Cur })?;
-    asks(&rt, alloc, "seek 1 -9223372036854775808 end", Command::Seek { fd: 1, offset: i64::MIN, whence: Whence::End })?;
-    asks(&rt, alloc, "truncate 7 00000000000000000000000005", Command::Truncate { fd: 7, length: 5 })?;
-    asks(&rt, alloc, "truncate 7 -5", Command::Truncate { fd: 7, length: -5 })?;
+    asks(
+        &rt,
+        alloc,
+        "read 1 4294967295",
+        Command::Read {
+            fd: 1,
+            count: u32::MAX,
+        },
+    )?;
+    asks(
+        &rt,
+        alloc,
+        "write 2 a\\x20b\\\\",
+        Command::Write {
+            fd: 2,
+            bytes: text(alloc, b"a b\\")?,
+        },
+    )?;
+    asks(
+        &rt,
+        alloc,
+        "write 2 \\e",
+        Command::Write {
+            fd: 2,
+            bytes: text(alloc, b"")?,
+        },
+    )?;
+    asks(
+        &rt,
+        alloc,
+        "seek 1 -0 set",
+        Command::Seek {
+            fd: 1,
+            offset: 0,
+            whence: Whence::Set,
+        },
+    )?;
+    asks(
+        &rt,
+        alloc,
+        "seek 1 9223372036854775807 cur",
+        Command::Seek {
+            fd: 1,
+            offset: i64::MAX,
+            whence: Whence::Cur,
+        },
+    )?;
+    asks(
+        &rt,
+        alloc,
+        "seek 1 -9223372036854775808 end",
+        Command::Seek {
+            fd: 1,
+            offset: i64::MIN,
+            whence: Whence::End,
+        },
+    )?;
+    asks(
+        &rt,
+        alloc,
+        "truncate 7 00000000000000000000000005",
+        Command::Truncate { fd: 7, length: 5 },
+    )?;
+    asks(
+        &rt,
+        alloc,
+        "truncate 7 -5",
+        Command::Truncate { fd: 7, length: -5 },
+    )?;
     asks(&rt, alloc, "sync", Command::Sync)?;
     asks(&rt, alloc, "space", Command::Space)?;
-    asks(&rt, alloc, "stat /", Command::Stat { path: path(alloc, b"/")? })?;
-    asks(&rt, alloc, "  mkdir   /a\tb\r ", Command::Mkdir { path: path(alloc, b"/a\tb\r")? })?;
-    asks(&rt, alloc, "\\x6dkdir \\x2Fa\\xfF", Command::Mkdir { path: path(alloc, b"/a\xff")? })?;
-    asks(&rt, alloc, "m\\ekdir \\e", Command::Mkdir { path: path(alloc, b"")? })?;
-    asks(&rt, alloc, "rmdir /b", Command::Rmdir { path: path(alloc, b"/b")? })?;
-    asks(&rt, alloc, "unlink /b", Command::Unlink { path: path(alloc, b"/b")? })?;
-    asks(&rt, alloc, "list /", Command::List { path: path(alloc, b"/")? })?;
-    asks(&rt, alloc, "link /a /b", Command::Link { old: path(alloc, b"/a")?, new: path(alloc, b"/b")? })?;
-    asks(&rt, alloc, "rename /a /b", Command::Rename { old: path(alloc, b"/a")?, new: path(alloc, b"/b")? })
+    asks(
+        &rt,
+        alloc,
+        "stat /",
+        Command::Stat {
+            path: path(alloc, b"/")?,
+        },
+    )?;
+    asks(
+        &rt,
+        alloc,
+        "  mkdir   /a\tb\r ",
+        Command::Mkdir {
+            path: path(alloc, b"/a\tb\r")?,
+        },
+    )?;
+    asks(
+        &rt,
+        alloc,
+        "\\x6dkdir \\x2Fa\\xfF",
+        Command::Mkdir {
+            path: path(alloc, b"/a\xff")?,
+        },
+    )?;
+    asks(
+        &rt,
+        alloc,
+        "m\\ekdir \\e",
+        Command::Mkdir {
+            path: path(alloc, b"")?,
+        },
+    )?;
+    asks(
+        &rt,
+        alloc,
+        "rmdir /b",
+        Command::Rmdir {
+            path: path(alloc, b"/b")?,
+        },
+    )?;
+    asks(
+        &rt,
+        alloc,
+        "unlink /b",
+        Command::Unlink {
+            path: path(alloc, b"/b")?,
+        },
+    )?;
+    asks(
+        &rt,
+        alloc,
+        "list /",
+        Command::List {
+            path: path(alloc, b"/")?,
+        },
+    )?;
+    asks(
+        &rt,
+        alloc,
+        "link /a /b",
+        Command::Link {
+            old: path(alloc, b"/a")?,
+            new: path(alloc, b"/b")?,
+        },
+    )?;
+    asks(
+        &rt,
+        alloc,
+        "rename /a /b",
+        Command::Rename {
+            old: path(alloc, b"/a")?,
+            new: path(alloc, b"/b")?,
+        },
+    )
 }
 
 #[test]
 fn other_lines_ask_for_no_command(rt: HostRuntime) -> Result<(), Fail> {
     let alloc = rt.alloc();
     for line in [
-        "nope", "\\e", "sync \\e", "space x", "close", "close 3 4", "close +3", "close -3", "close 4294967296", "close 3x",
-        "close \\e", "read 0", "read 0 1 2", "read 0 -1", "write 1", "seek 1 0", "seek 1 0 far", "seek 1 +1 set",
-        "seek 1 - set", "seek 1 -- set", "seek 1 --1 set", "seek 1 -+1 set", "seek 1 9223372036854775808 set",
-        "seek 1 -9223372036854775809 set", "seek -1 0 set", "open /a", "open /a cx", "open /a rr", "open /a rz", "open /a \\e",
-        "link /a", "link /a /b /c", "mkdir", "mkdir /a /b", "mkdir /a\\", "mkdir /a\\x", "mkdir /a\\x4", "mkdir /a\\x4g",
-        "mkdir /a\\y", "MKDIR /a", "now 1", "mkdir /\\E",
+        "nope",
+        "\\e",
+        "sync \\e",
+        "space x",
+        "close",
+        "close 3 4",
+        "close +3",
+        "close -3",
+        "close 4294967296",
+        "close 3x",
+        "close \\e",
+        "read 0",
+        "read 0 1 2",
+        "read 0 -1",
+        "write 1",
+        "seek 1 0",
+        "seek 1 0 far",
+        "seek 1 +1 set",
+        "seek 1 - set",
+        "seek 1 -- set",
+        "seek 1 --1 set",
+        "seek 1 -+1 set",
+        "seek 1 9223372036854775808 set",
+        "seek 1 -9223372036854775809 set",
+        "seek -1 0 set",
+        "open /a",
+        "open /a cx",
+        "open /a rr",
+        "open /a rz",
+        "open /a \\e",
+        "link /a",
+        "link /a /b /c",
+        "mkdir",
+        "mkdir /a /b",
+        "mkdir /a\\",
+        "mkdir /a\\x",
+        "mkdir /a\\x4",
+        "mkdir /a\\x4g",
+        "mkdir /a\\y",
+        "MKDIR /a",
+        "now 1",
+        "mkdir /\\E",
     ] {
         assert!(rt; command_in(alloc, line.as_bytes())?.is_none(), "{line}");
         if line != "now 1" {
-            assert!(rt; matches!(parse(alloc, line.as_bytes())?, Line::Bad), "{line}");
+            assert!(rt;
+                matches!(parse(alloc, line.as_bytes())?, Line::Bad),
+                "{line}"
+            );
         }
     }
     Ok(())
@@ -124,14 +301,35 @@ fn moments_and_empty_lines_and_what_is_served(rt: HostRuntime) -> Result<(), Fai
     for line in ["", "   "] {
         assert!(rt; matches!(parse(alloc, line.as_bytes())?, Line::Nothing));
     }
-    for (line, moment) in [("now 0", 0), (" n\\x6fw 0009223372036854775807", 9_223_372_036_854_775_807)] {
-        assert!(rt; matches!(parse(alloc, line.as_bytes())?, Line::Now(n) if n == moment), "{line}");
+    for (line, moment) in [
+        ("now 0", 0),
+        (" n\\x6fw 0009223372036854775807", 9_223_372_036_854_775_807),
+    ] {
+        assert!(rt;
+            matches!(parse(alloc, line.as_bytes())?, Line::Now(n) if n == moment),
+            "{line}"
+        );
     }
-    for line in ["now", "now 9223372036854775808", "now -1", "now 1 1", "now \\e", "stat /", "close 1", "space"] {
-        assert!(rt; matches!(parse(alloc, line.as_bytes())?, Line::Bad), "{line}");
+    for line in [
+        "now",
+        "now 9223372036854775808",
+        "now -1",
+        "now 1 1",
+        "now \\e",
+        "stat /",
+        "close 1",
+        "space",
+    ] {
+        assert!(rt;
+            matches!(parse(alloc, line.as_bytes())?, Line::Bad),
+            "{line}"
+        );
     }
     for line in ["mkdir /a", "list /", "sync"] {
-        assert!(rt; matches!(parse(alloc, line.as_bytes())?, Line::Do(_)), "{line}");
+        assert!(rt;
+            matches!(parse(alloc, line.as_bytes())?, Line::Do(_)),
+            "{line}"
+        );
     }
     Ok(())
 }
@@ -139,26 +337,52 @@ fn moments_and_empty_lines_and_what_is_served(rt: HostRuntime) -> Result<(), Fai
 #[test]
 fn each_reply_has_its_text(rt: HostRuntime) -> Result<(), Fail> {
     let alloc = rt.alloc();
-    let file = Info { kind: Kind::File, object: 2, links: 1, size: 10, moment: 18_446_744_073_709_551_615 };
-    let directory = Info { kind: Kind::Directory, object: 1, links: 3, size: 0, moment: 7 };
-    let space = SpaceInfo { unit: 512, total: 100, free: 0 };
+    let file = Info {
+        kind: Kind::File,
+        object: 2,
+        links: 1,
+        size: 10,
+        moment: 18_446_744_073_709_551_615,
+    };
+    let directory = Info {
+        kind: Kind::Directory,
+        object: 1,
+        links: 3,
+        size: 0,
+        moment: 7,
+    };
+    let space = SpaceInfo {
+        unit: 512,
+        total: 100,
+        free: 0,
+    };
     let names = vec![in alloc; text(alloc, b"a b")?, text(alloc, b"c\\")?]?;
     for (reply, wanted) in [
         (Reply::Done, "ok\n"),
         (Reply::Fd(0), "fd 0\n"),
-        (Reply::Data(text(alloc, b"!~ \\\x00\x7f\xff\n")?), "data 8 !~\\x20\\\\\\x00\\x7f\\xff\\x0a\n"),
+        (
+            Reply::Data(text(alloc, b"!~ \\\x00\x7f\xff\n")?),
+            "data 8 !~\\x20\\\\\\x00\\x7f\\xff\\x0a\n",
+        ),
         (Reply::Data(text(alloc, b"")?), "data 0 \\e\n"),
         (Reply::Wrote(4_294_967_295), "wrote 4294967295\n"),
         (Reply::At(10), "at 10\n"),
         (Reply::Info(file), "info file 2 1 10 18446744073709551615\n"),
         (Reply::Info(directory), "info dir 1 3 0 7\n"),
         (Reply::Names(NameList::new(Vec::new(alloc))), "names 0\n"),
-        (Reply::Names(NameList::new(names)), "names 2 a\\x20b c\\\\\n"),
+        (
+            Reply::Names(NameList::new(names)),
+            "names 2 a\\x20b c\\\\\n",
+        ),
         (Reply::SpaceInfo(space), "space 512 100 0\n"),
         (Reply::Error(Errno::ENAMETOOLONG), "error ENAMETOOLONG\n"),
         (Reply::Error(Errno::EIO), "error EIO\n"),
     ] {
-        assert_eq!(rt; reply_of(alloc, &reply)?.as_slice(), wanted.as_bytes(), "{wanted}");
+        assert_eq!(rt;
+            reply_of(alloc, &reply)?.as_slice(),
+            wanted.as_bytes(),
+            "{wanted}"
+        );
     }
     Ok(())
 }
@@ -174,7 +398,11 @@ struct Counter {
 
 impl Counter {
     fn new(alloc: Global) -> Counter {
-        Counter { alloc, made: 0, moment: 0 }
+        Counter {
+            alloc,
+            made: 0,
+            moment: 0,
+        }
     }
 
     fn names(&self) -> Result<NameList, AllocError> {
@@ -211,9 +439,11 @@ fn told(alloc: Global, input: &[u8]) -> Result<(Vec<u8>, Result<(), ShellFault>)
     Ok((writer, ends))
 }
 
-const INPUT: &[u8] = b"mkdir /a\n\nnope\r\nlist /\r\nnow 5\nmkdir \\x2fb\n  \nlist /\nread 0\nspace x\nsync";
+const INPUT: &[u8] =
+    b"mkdir /a\n\nnope\r\nlist /\r\nnow 5\nmkdir \\x2fb\n  \nlist /\nread 0\nspace x\nsync";
 
-const TOLD: &[u8] = b"ok\nbad line\nnames 2 1 0\nok\nok\nnames 2 2 5\nbad line\nbad line\nerror EIO\n";
+const TOLD: &[u8] =
+    b"ok\nbad line\nnames 2 1 0\nok\nok\nnames 2 2 5\nbad line\nbad line\nerror EIO\n";
 
 #[test]
 fn a_shell_answers_its_lines(rt: HostRuntime) -> Result<(), Fail> {

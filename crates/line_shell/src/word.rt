@@ -35,24 +35,35 @@ fn first_piece(word: &[u8]) -> Option<Piece>
     requires { 0 < length word.now }
     ensures { MatchOption result (unescaped word.now ≡ None) (λ piece. IsPiece word.now piece.byte piece.size) }
 {
-    match word {
-        [b'\\', b'\\', ..] => Some(Piece {
+    if word[0] != b'\\' {
+        return Some(Piece {
+            byte: Some(word[0]),
+            size: 1,
+        });
+    }
+    if word.len() < 2 {
+        return None;
+    }
+    match word[1] {
+        b'\\' => Some(Piece {
             byte: Some(b'\\'),
             size: 2,
         }),
-        [b'\\', b'e', ..] => Some(Piece {
+        b'e' => Some(Piece {
             byte: None,
             size: 2,
         }),
-        [b'\\', b'x', high, low, ..] => Some(Piece {
-            byte: Some(byte_of_digits(*high, *low)?),
-            size: 4,
-        }),
-        [b'\\', ..] | [] => None,
-        [byte, ..] => Some(Piece {
-            byte: Some(*byte),
-            size: 1,
-        }),
+        b'x' => {
+            if word.len() < 4 {
+                return None;
+            }
+            let byte = byte_of_digits(word[2], word[3])?;
+            Some(Piece {
+                byte: Some(byte),
+                size: 4,
+            })
+        }
+        _ => None,
     }
 }
 

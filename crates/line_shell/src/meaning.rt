@@ -56,6 +56,7 @@ fn meaning(words: Vec<Bytes>) -> Line
 }
 
 /// What a line without its end asks for. It errs only where a growth of memory is refused.
+#[tactic(auto, unfolding(crate::specs::Commands::line_of))]
 pub fn parse(alloc: Global, line: &[u8]) -> Result<Line, AllocError>
     ensures { IfOk result (λ meant. meant ≡ line_of line.now) }
 {

@@ -4,7 +4,7 @@ ghost use Rattle.line_shell.specs.Runs.{AnswersLine, Shell};
 use crate::fault::ShellFault;
 use crate::input::{has_more, read_line};
 use crate::line::Line;
-use crate::parse::parse;
+use crate::meaning::parse;
 use crate::reply::{write_bad_line, write_reply};
 use crate::serve::Serve;
 use posix_profile::{Reply, Stamped};

@@ -1,6 +1,9 @@
 -- The first piece of a word, by its first bytes.
-use Rattle.std.proofs.Common.{◌≡◌, ◌≢◌, ◌<◌, ◌≤◌, ◌+◌, ℕ, true, false, cond, List, [], ◌∷◌, ◌++◌, get_or, length, drop, filter, nat_lt, Option, Some, None, option_and_then, option_map, option_to_list, refl, sym, ap, ◌∙◌, arith, eq-eqb, ne_eqb, eqb, append_assoc, append-nil, drop_of_length-le, drop-drop}
-use Rattle.line_shell.specs.Words.{backslash, letter_e, letter_x, onto, short_escape, digit_escape, byte_of_digits, unescaped}
+use Rattle.std.proofs.Common.{◌≡◌, ◌≢◌, ◌<◌, ◌≤◌, ◌+◌, ℕ, true, false, cond, List, [], ◌∷◌, ◌++◌, get_or, length, drop, filter, nat_lt, Option, Some, None, option_and_then, option_map, option_to_list, refl, sym, ap, ◌∙◌, arith, eq-eqb, ne_eqb, eqb, append_assoc, append-nil, drop_of_length-le, drop-drop, drop-cons, add-one, lt-ltb, flat_map, Bor}
+use Rattle.std.proofs.Common.{map as list_map}
+use Rattle.std.proofs.lemmas.Bool.{le-ltb}
+use Rattle.std.specs.List.{slice_split}
+use Rattle.line_shell.specs.Words.{backslash, letter_e, letter_x, onto, short_escape, digit_escape, byte_of_digits, unescaped, both, all_unescaped, spelled, spelled_byte, space, words}
 use Rattle.line_shell.specs.Pieces.{before, IsPiece}
 
 -- a byte that is no backslash stands for itself
@@ -134,3 +137,76 @@ some_words pieces = filter (λ word. nat_lt 0 (length word)) pieces
 -- some texts, and then those of the rest
 abbrev pub all_ahead : List (List ℕ) → Option (List (List ℕ)) → Option (List (List ℕ))
 all_ahead texts rest = option_map (λ more. texts ++ more) rest
+
+all_ahead-onto : (texts : List (List ℕ)) (text : List ℕ) (rest : Option (List (List ℕ))) → all_ahead texts (both (Some text) rest) ≡ all_ahead (texts ++ text ∷ []) rest
+all_ahead-onto texts text None = refl
+all_ahead-onto texts text (Some more) = ap Some (sym (append_assoc texts (text ∷ []) more))
+
+module _ (texts : List (List ℕ)) (piece : List ℕ) (rest : List (List ℕ)) where
+  -- the first piece is a word
+  word_first : 0 < length piece → all_ahead texts (all_unescaped (some_words (piece ∷ rest))) ≡ all_ahead texts (both (unescaped piece) (all_unescaped (some_words rest)))
+  unfolding all_unescaped
+  word_first some = ap (λ t. all_ahead texts (all_unescaped (cond t (piece ∷ some_words rest) (some_words rest)))) (lt-ltb 0 (length piece) some)
+
+  -- it can be read
+  pub texts_more : (o : Option (List (List ℕ))) (text : List ℕ) → o ≡ all_ahead texts (all_unescaped (some_words (piece ∷ rest))) → 0 < length piece → Some text ≡ unescaped piece
+      → o ≡ all_ahead (texts ++ text ∷ []) (all_unescaped (some_words rest))
+  texts_more o text so_far some is =
+      so_far ∙ word_first some ∙ ap (λ u. all_ahead texts (both u (all_unescaped (some_words rest)))) (sym is) ∙ all_ahead-onto texts text (all_unescaped (some_words rest))
+
+  -- it cannot
+  pub texts_none : (o : Option (List (List ℕ))) → o ≡ all_ahead texts (all_unescaped (some_words (piece ∷ rest))) → 0 < length piece → None ≡ unescaped piece → None ≡ o
+  texts_none o so_far some none = sym (so_far ∙ word_first some ∙ ap (λ u. all_ahead texts (both u (all_unescaped (some_words rest)))) (sym none))
+
+  -- it is no word
+  pub texts_same : (o : Option (List (List ℕ))) → o ≡ all_ahead texts (all_unescaped (some_words (piece ∷ rest))) → length piece ≡ 0 → o ≡ all_ahead texts (all_unescaped (some_words rest))
+  texts_same o so_far none =
+      so_far ∙ ap (λ t. all_ahead texts (all_unescaped (cond t (piece ∷ some_words rest) (some_words rest)))) (le-ltb 0 (length piece) (omega arith))
+
+-- nothing is left
+pub texts_all : (o : Option (List (List ℕ))) (texts : List (List ℕ)) → o ≡ all_ahead texts (all_unescaped []) → Some texts ≡ o
+unfolding all_unescaped
+texts_all o texts so_far = sym (so_far ∙ ap Some (append-nil texts))
+
+-- what stands past the end of the pieces
+abbrev pub no_piece : Bor (List ℕ)
+no_piece = record { ref_ptr = (0, 0); now = [] }
+
+-- what the words from a piece on stand for
+abbrev pub words_from : List (Bor (List ℕ)) → ℕ → Option (List (List ℕ))
+words_from pieces i = all_unescaped (some_words (list_map (λ piece. piece.now) (drop i pieces)))
+
+-- a piece
+abbrev pub piece_at : List (Bor (List ℕ)) → ℕ → List ℕ
+piece_at pieces i = (get_or pieces i no_piece).now
+
+module _ (o : Option (List (List ℕ))) (texts : List (List ℕ)) (pieces : List (Bor (List ℕ))) (i : ℕ) (lt : i < length pieces) (so_far : o ≡ all_ahead texts (words_from pieces i)) where
+  abbrev later : List (List ℕ)
+  later = list_map (λ piece. piece.now) (drop (i + 1) pieces)
+
+  begins : o ≡ all_ahead texts (all_unescaped (some_words (piece_at pieces i ∷ later)))
+  begins = so_far ∙ ap (λ l. all_ahead texts (all_unescaped (some_words (list_map (λ piece. piece.now) l))))
+      (drop-cons pieces i no_piece lt ∙ ap (λ k. get_or pieces i no_piece ∷ drop k pieces) (sym (add-one i)))
+
+  pub words_more : (text : List ℕ) → 0 < length (piece_at pieces i) → Some text ≡ unescaped (piece_at pieces i) → o ≡ all_ahead (texts ++ text ∷ []) (words_from pieces (i + 1))
+  words_more text some is = texts_more texts (piece_at pieces i) later o text begins some is
+
+  pub words_none : 0 < length (piece_at pieces i) → None ≡ unescaped (piece_at pieces i) → None ≡ o
+  words_none some none = texts_none texts (piece_at pieces i) later o begins some none
+
+  pub words_same : length (piece_at pieces i) ≡ 0 → o ≡ all_ahead texts (words_from pieces (i + 1))
+  words_same none = texts_same texts (piece_at pieces i) later o begins none
+
+pub words_all : (o : Option (List (List ℕ))) (texts : List (List ℕ)) (pieces : List (Bor (List ℕ))) (i : ℕ) → length pieces ≤ i → o ≡ all_ahead texts (words_from pieces i) → Some texts ≡ o
+words_all o texts pieces i past so_far =
+    texts_all o texts (so_far ∙ ap (λ l. all_ahead texts (all_unescaped (some_words (list_map (λ piece. piece.now) l)))) (drop_of_length-le pieces past))
+
+-- the words of a line are those among its pieces
+pub words_read : (o : Option (List (List ℕ))) (line : List ℕ) (lent pieces : List (Bor (List ℕ))) → o ≡ words_from lent 0 → lent ≡ pieces → list_map (λ piece. piece.now) pieces ≡ slice_split (eqb space) line
+    → o ≡ all_unescaped (words line)
+words_read o line lent pieces is same split =
+    is ∙ ap (λ l. all_unescaped (some_words (list_map (λ piece. piece.now) l))) same ∙ ap (λ l. all_unescaped (some_words l)) split
+
+pub spelled_some : (bytes : List ℕ) → 0 < length bytes → spelled bytes ≡ flat_map spelled_byte bytes
+spelled_some [] some = absurd (omega arith)
+spelled_some (b ∷ bs) some = refl

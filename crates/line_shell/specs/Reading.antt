@@ -1,6 +1,6 @@
 -- What reading a line does to the bytes that a reader has left, where these are known.
-use Rattle.std.specs.Prelude.{◌≡◌, ◌≢◌, ◌<◌, ◌≤◌, ◌+◌, ℕ, Bool, true, false, not, List, [], ◌∷◌, ◌++◌, length, All, Option, Some, None, IfSome, Result, Ok, Err}
-use Rattle.std.specs.Io.KnownBytes.{Consumes, IsAtEnd}
+use Rattle.std.specs.Prelude.{◌≡◌, ◌≢◌, ◌<◌, ◌≤◌, ◌+◌, ℕ, Bool, true, false, not, List, [], ◌∷◌, ◌++◌, length, All, Option, Some, None, IfSome, OnSome, Result, Ok, Err}
+use Rattle.std.specs.Io.KnownBytes.{Keeps, Consumes, IsAtEnd}
 use Rattle.line_shell.specs.Lines.{whole_lines, without_end, line_size, longest_line}
 use Rattle.line_shell.specs.Replies.{newline}
 use Rattle.line_shell.specs.declared.fault.ShellFault.{ShellFault}
@@ -20,6 +20,10 @@ pub record IsTooLong (before : ℕ) (input : List ℕ) : Type 0 where
   pub no_newline : IsWithoutNewline front
   pub long : longest_line < before + length front
 
+-- the input was at its end, and is
+abbrev pub IsEnded : Option (List ℕ) → Option (List ℕ) → Type 0
+IsEnded old new = IsAtEnd old × Keeps old new
+
 -- a line grew by the bytes that were taken, which have no newline
 pub record Takes (old new : Option (List ℕ)) (before after ended : List ℕ) : Type 0 where
   pub more : List ℕ
@@ -31,7 +35,7 @@ pub record Takes (old new : Option (List ℕ)) (before after ended : List ℕ) :
 abbrev pub TakesSome : Option (List ℕ) → Option (List ℕ) → List ℕ → List ℕ → Result Stop ShellFault → Type 0
 TakesSome old new before after (Ok stops.Newline) = Takes old new before after (newline ∷ [])
 TakesSome old new before after (Ok stops.Pause) = Takes old new before after []
-TakesSome old new before after (Ok stops.End) = (after ≡ before) × IsAtEnd old × IsAtEnd new
+TakesSome old new before after (Ok stops.End) = (after ≡ before) × IsEnded old new
 TakesSome old new before after (Err faults.TooLong) = IfSome old (λ input. IsTooLong (length before) input)
 TakesSome old new before after (Err faults.Write) = ⊥
 TakesSome old new before after (Err fault) = Unit {0}
@@ -39,7 +43,7 @@ TakesSome old new before after (Err fault) = Unit {0}
 -- what is taken up to a newline, or to the end of the input
 abbrev pub TakesLine : Option (List ℕ) → Option (List ℕ) → List ℕ → Result Bool ShellFault → Type 0
 TakesLine old new line (Ok true) = IsWithoutNewline line × Consumes old new (line ++ (newline ∷ []))
-TakesLine old new line (Ok false) = IsWithoutNewline line × Consumes old new line × IsAtEnd new
+TakesLine old new line (Ok false) = IsWithoutNewline line × Consumes old new line × OnSome old (IsAtEnd new)
 TakesLine old new line (Err faults.TooLong) = IfSome old (λ input. IsTooLong 0 input)
 TakesLine old new line (Err faults.Write) = ⊥
 TakesLine old new line (Err fault) = Unit {0}
@@ -67,7 +71,7 @@ pub record LineIsTooLong (input : List ℕ) : Type 0 where
 -- the next line is read, or the input is at its end, or the line is too long
 abbrev pub ReadsLine : Option (List ℕ) → Option (List ℕ) → List ℕ → Result Bool ShellFault → Type 0
 ReadsLine old new line (Ok true) = ReadsNext old new line
-ReadsLine old new line (Ok false) = IsAtEnd old × IsAtEnd new
+ReadsLine old new line (Ok false) = IsEnded old new
 ReadsLine old new line (Err faults.TooLong) = IfSome old LineIsTooLong
 ReadsLine old new line (Err faults.Write) = ⊥
 ReadsLine old new line (Err fault) = Unit {0}
@@ -75,6 +79,6 @@ ReadsLine old new line (Err fault) = Unit {0}
 -- whether the input has more bytes; where not, it is at its end
 abbrev pub TellsMore : Option (List ℕ) → Option (List ℕ) → Result Bool ShellFault → Type 0
 TellsMore old new (Ok true) = IfSome old (λ input. 0 < length input)
-TellsMore old new (Ok false) = IsAtEnd old × IsAtEnd new
+TellsMore old new (Ok false) = IsEnded old new
 TellsMore old new (Err faults.Read) = Unit {0}
 TellsMore old new (Err fault) = ⊥

@@ -56,7 +56,7 @@ names_text names = flat_map (λ name. space ∷ spelled name) names
 abbrev pub reply_words : Reply → List ℕ
 reply_words replies.Done = codes "ok"
 reply_words (replies.Fd fd) = codes "fd" ++ numbers_text (fd ∷ [])
-reply_words (replies.Data bytes) = codes "data" ++ numbers_text (length bytes ∷ []) ++ names_text (bytes ∷ [])
+reply_words (replies.Data bytes) = codes "data" ++ numbers_text (length bytes ∷ []) ++ (space ∷ spelled bytes)
 reply_words (replies.Wrote count) = codes "wrote" ++ numbers_text (count ∷ [])
 reply_words (replies.At offset) = codes "at" ++ numbers_text (offset ∷ [])
 reply_words (replies.Info info) = codes "info " ++ kind_name info.kind ++ numbers_text (info.object ∷ info.links ∷ size_of_kind info.kind info.size ∷ info.moment ∷ [])

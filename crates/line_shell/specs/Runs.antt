@@ -1,5 +1,5 @@
 -- What a shell does with the lines of its input.
-use Rattle.std.specs.Prelude.{◌≡◌, ◌⊎◌, ◌<◌, ◌≤◌, ℕ, List, [], ◌∷◌, ◌++◌, length, map, All, Option, Some, None, IfSome, Result, Ok, Err}
+use Rattle.std.specs.Prelude.{◌≡◌, ◌⊎◌, ◌<◌, ◌≤◌, ℕ, List, [], ◌∷◌, ◌++◌, length, map, All, Option, Some, None, IfSome, OnSome, Result, Ok, Err}
 use Rattle.std.specs.Io.KnownBytes.{Keeps, Appends, IsAtEnd}
 use Rattle.posix_profile.specs.declared.command.Stamped.{Stamped}
 use Rattle.posix_profile.specs.declared.reply.Reply.{Reply}
@@ -55,9 +55,9 @@ AreAnswered input answered (Err faults.TooLong) =
 AreAnswered input answered (Err fault) = (rest : List (List ℕ)) × (whole_lines input ≡ answered ++ rest)
 
 -- the input is read to its end where all was answered
-abbrev pub IsRead : Option (List ℕ) → Result (Unit {0}) ShellFault → Type 0
-IsRead left (Ok done) = IsAtEnd left
-IsRead left (Err fault) = Unit {0}
+abbrev pub IsRead : Option (List ℕ) → Option (List ℕ) → Result (Unit {0}) ShellFault → Type 0
+IsRead input left (Ok done) = OnSome input (IsAtEnd left)
+IsRead input left (Err fault) = Unit {0}
 
 -- What a shell did from a moment and something that serves: it answered lines, neither too long nor too many, and told the answers.
 pub record Shell {V : Type 0} (serves : V → Stamped → Reply → V → Type 0) (input left before after : Option (List ℕ)) (old new : V) (result : Result (Unit {0}) ShellFault) : Type 0 where
@@ -69,4 +69,4 @@ pub record Shell {V : Type 0} (serves : V → Stamped → Reply → V → Type 0
   pub few : length answered ≤ most_lines
   pub told : IsOut before after text result
   pub lines : IfSome input (λ bytes. AreAnswered bytes answered result)
-  pub read : IsRead left result
+  pub read : IsRead input left result

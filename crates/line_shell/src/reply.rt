@@ -53,7 +53,7 @@ fn size_of_kind(kind: Kind, size: u64) -> u64
 }
 
 fn write_data<W: Write>(writer: &mut W, bytes: &[u8]) -> Result<()>
-    ensures { Writes (W.contents writer.old) (W.contents writer.new) (codes "data" ++ numbers_text (length bytes.now ∷ []) ++ names_text (bytes.now ∷ [])) result }
+    ensures { Writes (W.contents writer.old) (W.contents writer.new) (codes "data" ++ numbers_text (length bytes.now ∷ []) ++ (space ∷ spelled bytes.now)) result }
 {
     write_tagged_numbers(writer, b"data", &[bytes.len() as u64])?;
     write_spaced_word(writer, bytes)

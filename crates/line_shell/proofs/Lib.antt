@@ -3,3 +3,4 @@ pub mod Numbers
 pub mod Writing
 pub mod Lines
 pub mod Reading
+pub mod Running

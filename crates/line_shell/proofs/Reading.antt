@@ -59,12 +59,12 @@ too_long (Some xs) shown before count front within clean long =
     }
 
 -- a line goes on past what was taken before, and is too long
-pub stops_line : (old mid : Option (List ℕ)) (before after : List ℕ) (fault : ShellFault) → IsWithoutNewline before → Consumes old mid before → TakesSome mid mid before after (Err fault)
-    → TakesLine old mid before (Err fault)
-stops_line old mid before after faults.Read clean taken some = tt
-stops_line old mid before after faults.NoMemory clean taken some = tt
-stops_line old mid before after faults.Write clean taken some = some
-stops_line old mid before after faults.TooLong clean taken some = at old mid taken some
+pub stops_line : (old mid new : Option (List ℕ)) (before after : List ℕ) (fault : ShellFault) → IsWithoutNewline before → Consumes old mid before → TakesSome mid new before after (Err fault)
+    → TakesLine old new after (Err fault)
+stops_line old mid new before after faults.Read clean taken some = tt
+stops_line old mid new before after faults.NoMemory clean taken some = tt
+stops_line old mid new before after faults.Write clean taken some = some
+stops_line old mid new before after faults.TooLong clean taken some = at old mid taken some
   where
     at : (old mid : Option (List ℕ)) → Consumes old mid before → IfSome mid (λ input. IsTooLong (length before) input) → IfSome old (λ input. IsTooLong 0 input)
     at None mid taken some = tt
@@ -117,6 +117,7 @@ reads_ended old new taken line clean took fits is = record {
 
 -- a last line that none ends
 pub reads_last : (old new : Option (List ℕ)) (line : List ℕ) → 0 < length line → IsWithoutNewline line → Consumes old new line → OnSome old (IsAtEnd new) → length line ≤ longest_line → ReadsNext old new line
+unfolding whole_lines
 reads_last old new [] some clean took end fits = absurd (omega arith)
 reads_last old new (b ∷ bs) some clean took end fits = record {
   whole = b ∷ bs;
@@ -137,3 +138,9 @@ reads_none None new line none took end = (tt, tt)
 reads_none (Some xs) None line none took end = absurd took
 reads_none (Some xs) (Some ys) [] none took end = (took ∙ end, sym took)
 reads_none (Some xs) (Some ys) (b ∷ bs) none took end = absurd (omega arith)
+
+-- where no newline came, the input is at its end
+pub reads_at_end : (old new : Option (List ℕ)) (line : List ℕ) (empty : Bool) → TakesLine old new line (Ok false) → length line ≤ longest_line → empty ≡ eqb (length line) 0
+    → ReadsLine old new line (Ok (not empty))
+reads_at_end old new line true took fits is = reads_none old new line (eqb-true (length line) 0 (sym is)) took.1 took.2
+reads_at_end old new line false took fits is = reads_last old new line (omega (arith, eqb-false (length line) 0 (sym is))) took.0 took.1 took.2 fits

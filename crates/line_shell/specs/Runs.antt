@@ -38,14 +38,30 @@ abbrev pub IsOut : Option (List ℕ) → Option (List ℕ) → List ℕ → Resu
 IsOut old new text (Err faults.Write) = AppendsPart old new text
 IsOut old new text result = Appends old new text
 
--- What answering a line did: the line is answered, unless memory was refused before anything was done.
+-- the text is out, unless the writer failed
+abbrev pub IsTold : Option (List ℕ) → Option (List ℕ) → List ℕ → Result (Unit {0}) ShellFault → Type 0
+IsTold old new text (Ok done) = Appends old new text
+IsTold old new text (Err faults.Write) = AppendsPart old new text
+IsTold old new text (Err fault) = ⊥
+
+-- a command was called, and its reply told
+pub record Calls {V : Type 0} (serves : V → Stamped → Reply → V → Type 0) (command : Stamped) (old new : V) (before after : Option (List ℕ)) (result : Result (Unit {0}) ShellFault) : Type 0 where
+  pub reply : Reply
+  pub served : serves old command reply new
+  pub told : IsTold before after (reply_text reply) result
+
+-- what a line asks for was done, and the answer told
+abbrev pub Obeys : {V : Type 0} → (V → Stamped → Reply → V → Type 0) → Line → Session V → Option (List ℕ) → Option (List ℕ) → V → Result ℕ ShellFault → Type 0
+Obeys serves line old before after new (Ok moment) =
+    (text : List ℕ) × Answers serves line old text (record { moment = moment; volume = new }) × Appends before after text
+Obeys serves line old before after new (Err faults.Write) =
+    (text : List ℕ) × (moment : ℕ) × Answers serves line old text (record { moment = moment; volume = new }) × AppendsPart before after text
+Obeys serves line old before after new (Err fault) = ⊥
+
+-- a line was answered, unless memory was refused before anything was done
 abbrev pub AnswersLine : {V : Type 0} → (V → Stamped → Reply → V → Type 0) → List ℕ → Session V → Option (List ℕ) → Option (List ℕ) → V → Result ℕ ShellFault → Type 0
-AnswersLine serves line old before after new (Ok moment) =
-    (text : List ℕ) × Answers serves (line_of line) old text (record { moment = moment; volume = new }) × Appends before after text
-AnswersLine serves line old before after new (Err faults.Write) =
-    (text : List ℕ) × (moment : ℕ) × Answers serves (line_of line) old text (record { moment = moment; volume = new }) × AppendsPart before after text
 AnswersLine serves line old before after new (Err faults.NoMemory) = (new ≡ old.volume) × Keeps before after
-AnswersLine serves line old before after new (Err fault) = ⊥
+AnswersLine serves line old before after new result = Obeys serves (line_of line) old before after new result
 
 -- which lines of the input were answered: all of them, those before one that is too long or one too many, or some first ones
 abbrev pub AreAnswered : List ℕ → List (List ℕ) → Result (Unit {0}) ShellFault → Type 0

@@ -1,6 +1,7 @@
 // The lines of an input, read one by one.
 ghost use Rattle.std.specs.Prelude.{◌≡◌, ◌≤◌, ◌<◌, length, take, slice_index, vec_len};
-ghost use Rattle.line_shell.specs.Lines.{longest_line};
+ghost use Rattle.std.specs.Io.BufRead.{strip_last};
+ghost use Rattle.line_shell.specs.Lines.{carriage_return, longest_line};
 ghost use Rattle.line_shell.specs.Reading.{IsWithoutNewline, TakesSome, TakesLine, ReadsLine, TellsMore};
 ghost use Rattle.line_shell.specs.Replies.{newline};
 
@@ -89,6 +90,15 @@ fn take_line<R: BufRead>(reader: &mut R, line: &mut Vec<u8>) -> Result<bool, She
     Err(ShellFault::Read)
 }
 
+fn drop_carriage_return(line: &mut Vec<u8>)
+    ensures { line.new.items ≡ strip_last carriage_return line.old.items }
+{
+    let count = line.len();
+    if count > 0 && line[count - 1] == CARRIAGE_RETURN {
+        line.truncate(count - 1);
+    }
+}
+
 /// Reads the next line, without its end, in place of what `line` holds. `false`: the input is at its end.
 pub fn read_line<R: BufRead>(reader: &mut R, line: &mut Vec<u8>) -> Result<bool, ShellFault>
     ensures { ReadsLine (R.remaining reader.old) (R.remaining reader.new) line.new.items result }
@@ -96,9 +106,7 @@ pub fn read_line<R: BufRead>(reader: &mut R, line: &mut Vec<u8>) -> Result<bool,
     if !take_line(reader, line)? {
         return Ok(!line.is_empty());
     }
-    if line.last() == Some(&CARRIAGE_RETURN) {
-        line.truncate(line.len() - 1);
-    }
+    drop_carriage_return(line);
     Ok(true)
 }
 

@@ -4,3 +4,4 @@ pub mod Writing
 pub mod Lines
 pub mod Reading
 pub mod Running
+pub mod LineLaws

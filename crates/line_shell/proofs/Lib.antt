@@ -5,3 +5,4 @@ pub mod Lines
 pub mod Reading
 pub mod Running
 pub mod LineLaws
+pub mod WordLaws

@@ -82,10 +82,12 @@ first_begins b [] rest clean =
     at [] is = ([], [], is)
     at (l ∷ ls) is = (l, ls, is)
 first_begins b (c ∷ cs) rest clean =
-    let tail = first_begins c cs rest (All-tail (λ x. x ≢ newline) b (c ∷ cs) clean) in
-    (tail.0, tail.1,
+    let tail = first_begins c cs rest (All-tail (λ x. x ≢ newline) b (c ∷ cs) clean) in (
+      tail.0,
+      tail.1,
       ap (λ t. cond t ((b ∷ []) ∷ whole_lines (c ∷ cs ++ rest)) (onto_first b (whole_lines (c ∷ cs ++ rest)))) (ne_eqb b newline (All-head (λ x. x ≢ newline) b (c ∷ cs) clean))
-      ∙ ap (onto_first b) tail.2)
+          ∙ ap (onto_first b) tail.2,
+    )
 
 -- and is no shorter than they are
 pub size_begins : (front next : List ℕ) → IsWithoutNewline front → length front ≤ line_size (front ++ next)

@@ -7,7 +7,7 @@ use Rattle.line_shell.specs.Words.{backslash, letter_e, letter_x, onto, short_es
 use Rattle.line_shell.specs.Pieces.{before, IsPiece}
 
 -- a byte that is no backslash stands for itself
-reads_plain : (b : ℕ) (bs : List ℕ) → b ≢ backslash → unescaped (b ∷ bs) ≡ onto b (unescaped bs)
+pub reads_plain : (b : ℕ) (bs : List ℕ) → b ≢ backslash → unescaped (b ∷ bs) ≡ onto b (unescaped bs)
 unfolding unescaped
 reads_plain b [] ne = ap (λ t. cond t None (Some (b ∷ []))) (ne_eqb b backslash ne)
 reads_plain b (c ∷ []) ne = ap (λ t. cond t (short_escape c (Some [])) (onto b (unescaped (c ∷ [])))) (ne_eqb b backslash ne)
@@ -16,14 +16,14 @@ reads_plain b (c ∷ d ∷ e ∷ bs) ne =
     ap (λ t. cond t (cond (eqb c letter_x) (digit_escape d e (unescaped bs)) (short_escape c (unescaped (d ∷ e ∷ bs)))) (onto b (unescaped (c ∷ d ∷ e ∷ bs)))) (ne_eqb b backslash ne)
 
 -- a backslash with another letter than `x` after it is a short escape
-reads_short : (c : ℕ) (bs : List ℕ) → c ≢ letter_x → unescaped (backslash ∷ c ∷ bs) ≡ short_escape c (unescaped bs)
+pub reads_short : (c : ℕ) (bs : List ℕ) → c ≢ letter_x → unescaped (backslash ∷ c ∷ bs) ≡ short_escape c (unescaped bs)
 unfolding unescaped
 reads_short c [] ne = refl
 reads_short c (d ∷ []) ne = refl
 reads_short c (d ∷ e ∷ bs) ne = ap (λ t. cond t (digit_escape d e (unescaped bs)) (short_escape c (unescaped (d ∷ e ∷ bs)))) (ne_eqb c letter_x ne)
 
 -- a backslash, `x` and two bytes
-reads_digits : (d e : ℕ) (bs : List ℕ) → unescaped (backslash ∷ letter_x ∷ d ∷ e ∷ bs) ≡ digit_escape d e (unescaped bs)
+pub reads_digits : (d e : ℕ) (bs : List ℕ) → unescaped (backslash ∷ letter_x ∷ d ∷ e ∷ bs) ≡ digit_escape d e (unescaped bs)
 unfolding unescaped
 reads_digits d e bs = refl
 

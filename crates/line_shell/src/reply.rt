@@ -63,7 +63,12 @@ fn write_info<W: Write>(writer: &mut W, info: Info) -> Result<()>
     ensures { Writes (W.contents writer.old) (W.contents writer.new) (codes "info " ++ kind_name info.kind ++ numbers_text (info.object ∷ info.links ∷ size_of_kind info.kind info.size ∷ info.moment ∷ [])) result }
 {
     write_bytes(writer, b"info ")?;
-    let numbers = [info.object, info.links, size_of_kind(info.kind, info.size), info.moment];
+    let numbers = [
+        info.object,
+        info.links,
+        size_of_kind(info.kind, info.size),
+        info.moment,
+    ];
     write_tagged_numbers(writer, kind_name(info.kind), &numbers)
 }
 

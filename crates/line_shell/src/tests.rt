@@ -463,3 +463,217 @@ fn a_shell_answers_its_lines(rt: HostRuntime) -> Result<(), Fail> {
     }
     Ok(())
 }
+
+#[test]
+fn a_line_has_a_greatest_size(rt: HostRuntime) -> Result<(), Fail> {
+    let alloc = rt.alloc();
+    let mut input = vec![in alloc; b'a'; 65_535]?;
+    for (end, wanted, ends) in [
+        ("", "bad line\n", Ok(())),
+        ("\n", "bad line\n", Ok(())),
+        ("\r\n", "bad line\n", Ok(())),
+        ("a", "bad line\n", Ok(())),
+        ("a\nmkdir /\n", "bad line\nok\n", Ok(())),
+        ("a\r\nmkdir /\n", "", Err(ShellFault::TooLong)),
+        ("ab", "", Err(ShellFault::TooLong)),
+    ] {
+        input.truncate(65_535);
+        input.extend_from_slice(end.as_bytes())?;
+        let found = told(alloc, &input)?;
+        assert_eq!(rt; found.0.as_slice(), wanted.as_bytes(), "{end:?}");
+        assert_eq!(rt; found.1, ends, "{end:?}");
+    }
+    Ok(())
+}
+
+#[test]
+fn there_is_a_greatest_number_of_lines(rt: HostRuntime) -> Result<(), Fail> {
+    let alloc = rt.alloc();
+    let mut input = vec![in alloc; b'\n'; 16_777_208]?;
+    input.extend_from_slice(b"mkdir /\n\n\n\n\n\n\nsync\n")?;
+    for (end, ends) in [
+        ("", Ok(())),
+        ("\n", Err(ShellFault::TooLong)),
+        ("mkdir /", Err(ShellFault::TooLong)),
+    ] {
+        input.truncate(16_777_227);
+        input.extend_from_slice(end.as_bytes())?;
+        let found = told(alloc, &input)?;
+        assert_eq!(rt;
+            found.0.as_slice(),
+            b"ok\nerror EIO\n".as_slice(),
+            "{end:?}"
+        );
+        assert_eq!(rt; found.1, ends, "{end:?}");
+    }
+    Ok(())
+}
+
+/// It gives up to three bytes a call, is interrupted at each second call, and fails at one of its calls.
+#[derive(Drop)]
+struct FailingReader<'a> {
+    rest: &'a [u8],
+    calls: u32,
+    fails_at: u32,
+}
+
+impl Read for FailingReader<'_> {
+    fn read(&mut self, buf: &mut [u8]) -> io::Result<usize> {
+        self.calls = self.calls.wrapping_add(1);
+        if self.calls == self.fails_at {
+            return Err(io::Error::from(ErrorKind::BrokenPipe));
+        }
+        if self.calls % 2 == 0 {
+            return Err(io::Error::from(ErrorKind::Interrupted));
+        }
+        let count = self.rest.len().min(buf.len()).min(3);
+        buf[..count].copy_from_slice(&self.rest[..count]);
+        self.rest = &self.rest[count..];
+        Ok(count)
+    }
+}
+
+/// It takes up to two bytes a call, is interrupted at each second call, and fails at one of its calls.
+#[derive(Drop)]
+struct FailingWriter {
+    told: Vec<u8>,
+    calls: u32,
+    fails_at: u32,
+}
+
+impl Write for FailingWriter {
+    fn write(&mut self, buf: &[u8]) -> io::Result<usize> {
+        self.calls = self.calls.wrapping_add(1);
+        if self.calls == self.fails_at {
+            return Err(io::Error::from(ErrorKind::BrokenPipe));
+        }
+        if self.calls % 2 == 0 {
+            return Err(io::Error::from(ErrorKind::Interrupted));
+        }
+        let count = buf.len().min(2);
+        self.told.extend_from_slice(&buf[..count])?;
+        Ok(count)
+    }
+
+    fn flush(&mut self) -> io::Result<()> {
+        Ok(())
+    }
+}
+
+#[test]
+fn a_reader_fails_at_each_call(rt: HostRuntime) -> Result<(), Fail> {
+    let alloc = rt.alloc();
+    for fails_at in 1..1000 {
+        let reader = FailingReader {
+            rest: INPUT,
+            calls: 0,
+            fails_at,
+        };
+        let mut reader = BufReader::with_capacity(alloc, 7, reader)?;
+        let mut writer = Vec::new(alloc);
+        let ends = shell(alloc, &mut reader, &mut writer, &mut Counter::new(alloc));
+        if ends == Ok(()) {
+            assert_eq!(rt; writer.as_slice(), TOLD);
+            assert!(rt; fails_at > 40);
+            return Ok(());
+        }
+        assert_eq!(rt; ends, Err(ShellFault::Read));
+        assert!(rt; TOLD.starts_with(&writer));
+        assert!(rt; writer.is_empty() || writer.ends_with(b"\n"));
+    }
+    assert!(rt; false, "it still fails");
+    Ok(())
+}
+
+#[test]
+fn a_writer_fails_at_each_call(rt: HostRuntime) -> Result<(), Fail> {
+    let alloc = rt.alloc();
+    let mut most = 0;
+    for fails_at in 1..1000 {
+        let mut reader = INPUT;
+        let mut writer = FailingWriter {
+            told: Vec::new(alloc),
+            calls: 0,
+            fails_at,
+        };
+        let ends = shell(alloc, &mut reader, &mut writer, &mut Counter::new(alloc));
+        assert!(rt; TOLD.starts_with(&writer.told));
+        assert!(rt; writer.told.len() >= most);
+        most = writer.told.len();
+        if ends == Ok(()) {
+            assert_eq!(rt; writer.told.as_slice(), TOLD);
+            assert!(rt; fails_at > 60);
+            return Ok(());
+        }
+        assert_eq!(rt; ends, Err(ShellFault::Write));
+    }
+    assert!(rt; false, "it still fails");
+    Ok(())
+}
+
+/// A writer that takes no memory.
+struct Held {
+    bytes: [u8; 64],
+    count: usize,
+}
+
+impl Write for Held {
+    fn write(&mut self, buf: &[u8]) -> io::Result<usize> {
+        let mut taken = 0;
+        for byte in buf {
+            if self.count < 64 {
+                self.bytes[self.count] = *byte;
+                self.count += 1;
+                taken += 1;
+            }
+        }
+        Ok(taken)
+    }
+
+    fn flush(&mut self) -> io::Result<()> {
+        Ok(())
+    }
+}
+
+/// It takes no memory, and answers its calls in turn.
+struct Turns {
+    calls: u32,
+}
+
+impl Serve for Turns {
+    ghost serves = { λ old command reply new. Unit {0} };
+
+    fn call(&mut self, _command: &Stamped) -> Reply {
+        self.calls = self.calls.wrapping_add(1);
+        Reply::Wrote(self.calls)
+    }
+}
+
+/// With the tool that refuses one allocation after another, the shell ends with NoMemory, and the replies before are out.
+#[test]
+fn a_refused_allocation_ends_the_shell(rt: HostRuntime) {
+    let input = b"mkdir /a\nlist /\n\nx y z\nsync\nnow 3\nmkdir /bb\n";
+    let text = b"wrote 1\nwrote 2\nbad line\nwrote 3\nok\nwrote 4\n";
+    let mut reader = input.as_slice();
+    let mut writer = Held {
+        bytes: [0; 64],
+        count: 0,
+    };
+    let mut volume = Turns { calls: 0 };
+    let ends = shell(rt.alloc(), &mut reader, &mut writer, &mut volume);
+    let Held { bytes, count } = writer;
+    let Turns { calls } = volume;
+    assert!(rt; count <= 64);
+    let told = &bytes[..count];
+    assert!(rt; text.starts_with(told));
+    if ends == Ok(()) {
+        assert_eq!(rt; told, text.as_slice());
+    } else {
+        assert_eq!(rt; ends, Err(ShellFault::NoMemory));
+        assert!(rt; told.is_empty() || told.ends_with(b"\n"));
+        assert_eq!(rt;
+            told.iter().filter(|byte| **byte == b'w').count() as u32,
+            calls
+        );
+    }
+}

@@ -237,59 +237,22 @@ fn each_line_of_the_table_asks_for_its_command(rt: HostRuntime) -> Result<(), Fa
     )
 }
 
+/// Bad lines, by what is wrong: the name, the words after it, a number, flags, an escape.
+const BAD: [&[u8]; 5] = [
+    b"nope\n\\e\nMKDIR /a\nmkdir\t/a\n/a mkdir",
+    b"sync \\e\nspace x\nclose\nclose 3 4\nread 0\nread 0 1 2\nwrite 1\nseek 1 0\nlink /a\nlink /a /b /c\nmkdir\nmkdir /a /b",
+    b"close +3\nclose -3\nclose 4294967296\nclose 3x\nclose \\e\nread 0 -1\nseek 1 0 far\nseek 1 +1 set\nseek 1 - set\nseek 1 --1 set\nseek 1 -+1 set\nseek 1 9223372036854775808 set\nseek 1 -9223372036854775809 set\nseek -1 0 set",
+    b"open /a\nopen /a cx\nopen /a rr\nopen /a rz\nopen /a \\e\nopen /a rwrw",
+    b"mkdir /a\\\nmkdir /a\\x\nmkdir /a\\x4\nmkdir /a\\x4g\nmkdir /a\\y\nmkdir /\\E\nmkdir /\\X41",
+];
+
 #[test]
 fn other_lines_ask_for_no_command(rt: HostRuntime) -> Result<(), Fail> {
     let alloc = rt.alloc();
-    for line in [
-        "nope",
-        "\\e",
-        "sync \\e",
-        "space x",
-        "close",
-        "close 3 4",
-        "close +3",
-        "close -3",
-        "close 4294967296",
-        "close 3x",
-        "close \\e",
-        "read 0",
-        "read 0 1 2",
-        "read 0 -1",
-        "write 1",
-        "seek 1 0",
-        "seek 1 0 far",
-        "seek 1 +1 set",
-        "seek 1 - set",
-        "seek 1 -- set",
-        "seek 1 --1 set",
-        "seek 1 -+1 set",
-        "seek 1 9223372036854775808 set",
-        "seek 1 -9223372036854775809 set",
-        "seek -1 0 set",
-        "open /a",
-        "open /a cx",
-        "open /a rr",
-        "open /a rz",
-        "open /a \\e",
-        "link /a",
-        "link /a /b /c",
-        "mkdir",
-        "mkdir /a /b",
-        "mkdir /a\\",
-        "mkdir /a\\x",
-        "mkdir /a\\x4",
-        "mkdir /a\\x4g",
-        "mkdir /a\\y",
-        "MKDIR /a",
-        "now 1",
-        "mkdir /\\E",
-    ] {
-        assert!(rt; command_in(alloc, line.as_bytes())?.is_none(), "{line}");
-        if line != "now 1" {
-            assert!(rt;
-                matches!(parse(alloc, line.as_bytes())?, Line::Bad),
-                "{line}"
-            );
+    for (kind, lines) in BAD.iter().enumerate() {
+        for (place, line) in lines.split(|byte| *byte == b'\n').enumerate() {
+            assert!(rt; command_in(alloc, line)?.is_none(), "{kind} {place}");
+            assert!(rt; matches!(parse(alloc, line)?, Line::Bad), "{kind} {place}");
         }
     }
     Ok(())
@@ -619,15 +582,14 @@ struct Held {
 
 impl Write for Held {
     fn write(&mut self, buf: &[u8]) -> io::Result<usize> {
-        let mut taken = 0;
-        for byte in buf {
-            if self.count < 64 {
-                self.bytes[self.count] = *byte;
-                self.count += 1;
-                taken += 1;
+        for (taken, byte) in buf.iter().enumerate() {
+            if self.count >= 64 {
+                return Ok(taken);
             }
+            self.bytes[self.count] = *byte;
+            self.count += 1;
         }
-        Ok(taken)
+        Ok(buf.len())
     }
 
     fn flush(&mut self) -> io::Result<()> {
@@ -651,7 +613,7 @@ impl Serve for Turns {
 
 /// With the tool that refuses one allocation after another, the shell ends with NoMemory, and the replies before are out.
 #[test]
-fn a_refused_allocation_ends_the_shell(rt: HostRuntime) {
+fn a_refused_allocation_ends_the_shell(rt: HostRuntime) -> Result<(), Fail> {
     let input = b"mkdir /a\nlist /\n\nx y z\nsync\nnow 3\nmkdir /bb\n";
     let text = b"wrote 1\nwrote 2\nbad line\nwrote 3\nok\nwrote 4\n";
     let mut reader = input.as_slice();
@@ -663,8 +625,7 @@ fn a_refused_allocation_ends_the_shell(rt: HostRuntime) {
     let ends = shell(rt.alloc(), &mut reader, &mut writer, &mut volume);
     let Held { bytes, count } = writer;
     let Turns { calls } = volume;
-    assert!(rt; count <= 64);
-    let told = &bytes[..count];
+    let told = bytes.as_slice().get(..count).ok_or("too many")?;
     assert!(rt; text.starts_with(told));
     if ends == Ok(()) {
         assert_eq!(rt; told, text.as_slice());
@@ -672,8 +633,9 @@ fn a_refused_allocation_ends_the_shell(rt: HostRuntime) {
         assert_eq!(rt; ends, Err(ShellFault::NoMemory));
         assert!(rt; told.is_empty() || told.ends_with(b"\n"));
         assert_eq!(rt;
-            told.iter().filter(|byte| **byte == b'w').count() as u32,
-            calls
+            told.iter().filter(|byte| **byte == b'w').count(),
+            calls as usize
         );
     }
+    Ok(())
 }

@@ -449,29 +449,6 @@ fn a_line_has_a_greatest_size(rt: HostRuntime) -> Result<(), Fail> {
     Ok(())
 }
 
-#[test]
-fn there_is_a_greatest_number_of_lines(rt: HostRuntime) -> Result<(), Fail> {
-    let alloc = rt.alloc();
-    let mut input = vec![in alloc; b'\n'; 16_777_208]?;
-    input.extend_from_slice(b"mkdir /\n\n\n\n\n\n\nsync\n")?;
-    for (end, ends) in [
-        ("", Ok(())),
-        ("\n", Err(ShellFault::TooLong)),
-        ("mkdir /", Err(ShellFault::TooLong)),
-    ] {
-        input.truncate(16_777_227);
-        input.extend_from_slice(end.as_bytes())?;
-        let found = told(alloc, &input)?;
-        assert_eq!(rt;
-            found.0.as_slice(),
-            b"ok\nerror EIO\n".as_slice(),
-            "{end:?}"
-        );
-        assert_eq!(rt; found.1, ends, "{end:?}");
-    }
-    Ok(())
-}
-
 /// It gives up to three bytes a call, is interrupted at each second call, and fails at one of its calls.
 #[derive(Drop)]
 struct FailingReader<'a> {

@@ -1,0 +1,8 @@
+pub mod Words
+pub mod Numbers
+pub mod Writing
+pub mod Lines
+pub mod Reading
+pub mod Running
+pub mod LineLaws
+pub mod WordLaws

@@ -1,0 +1,11 @@
+use Rattle.std.proofs.Common.{[], ◌∷◌, ◌++◌, length, codes}
+use Rattle.line_shell.specs.Replies.{numbers_text}
+use Rattle.line_shell.specs.Words.{space, spelled}
+use Rattle.line_shell.proofs.Writing.{stops_first, goes_on, text_is}
+use Rattle.line_shell.proofs.reply.write_data.Goals as goal
+
+pub returns-in_err-write_tagged_numbers : goal.returns-in_err-write_tagged_numbers
+returns-in_err-write_tagged_numbers g c = stops_first _ _ (codes "data" ++ numbers_text (length c.args.bytes.now ∷ [])) (space ∷ spelled c.args.bytes.now) c.from_residual.result c.from_residual.ensures.0 c.in_err-write_tagged_numbers.ensures
+
+pub returns : goal.returns
+returns g c = goes_on _ _ _ (codes "data" ++ numbers_text (length c.args.bytes.now ∷ [])) (space ∷ spelled c.args.bytes.now) c.write_spaced_word.result c.in_ok-write_tagged_numbers.ensures c.write_spaced_word.ensures

@@ -1,0 +1,9 @@
+pub mod Words
+pub mod Pieces
+pub mod Numbers
+pub mod Commands
+pub mod Replies
+pub mod Written
+pub mod Lines
+pub mod Reading
+pub mod Runs

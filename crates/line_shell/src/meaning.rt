@@ -1,0 +1,68 @@
+// What a line asks for.
+ghost use Rattle.std.specs.Prelude.{◌≡◌, IfOk};
+ghost use Rattle.line_shell.specs.Commands.{is_served, asked, moment_of, meaning, line_of};
+
+use crate::arguments::command_of;
+use crate::line::Line;
+use crate::number::number;
+use crate::word::{pieces_of, unescape_words};
+use posix_profile::{Bytes, Command};
+use std::alloc::{AllocError, Global};
+
+const GREATEST_MOMENT: u64 = i64::MAX as u64;
+
+/// Whether a line may ask for the command.
+fn is_served(command: &Command) -> bool
+    ensures { result ≡ is_served command.now }
+{
+    matches!(
+        command,
+        Command::Mkdir { .. } | Command::List { .. } | Command::Sync
+    )
+}
+
+fn asked(command: Option<Command>) -> Line
+    ensures { result ≡ asked command }
+{
+    match command {
+        Some(command) if is_served(&command) => Line::Do(command),
+        _ => Line::Bad,
+    }
+}
+
+/// The moment of `now N`, if the words are that.
+fn moment_of(words: &[Bytes]) -> Option<u64>
+    ensures { result ≡ moment_of words.now }
+{
+    match words {
+        [name, word] if name.as_slice() == b"now".as_slice() => {
+            number(word.as_slice(), GREATEST_MOMENT)
+        }
+        _ => None,
+    }
+}
+
+/// What words ask for.
+fn meaning(words: Vec<Bytes>) -> Line
+    ensures { result ≡ meaning words.items }
+{
+    if words.is_empty() {
+        return Line::Nothing;
+    }
+    match moment_of(&words) {
+        Some(moment) => Line::Now(moment),
+        None => asked(command_of(words)),
+    }
+}
+
+/// What a line without its end asks for. It errs only where a growth of memory is refused.
+#[tactic(auto, unfolding(crate::specs::Commands::line_of))]
+pub fn parse(alloc: Global, line: &[u8]) -> Result<Line, AllocError>
+    ensures { IfOk result (λ meant. meant ≡ line_of line.now) }
+{
+    let pieces = pieces_of(alloc, line)?;
+    match unescape_words(alloc, &pieces)? {
+        Some(words) => Ok(meaning(words)),
+        None => Ok(Line::Bad),
+    }
+}

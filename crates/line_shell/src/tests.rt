@@ -1,0 +1,618 @@
+// Worked lines: what is asked, and what is told.
+use crate::arguments::command_of;
+use crate::serve::Serve;
+use crate::word::{pieces_of, unescape_words};
+use crate::{Line, ShellFault, parse, shell, write_reply};
+use posix_profile::{
+    Access, Bytes, Command, Errno, FilePath, Info, Kind, NameList, OpenFlags, Reply, SpaceInfo,
+    Stamped, Whence,
+};
+use std::alloc::{AllocError, Global};
+use std::io::{self, BufReader, ErrorKind, Read, Write};
+use std::process::Abort;
+use std::test::Fail;
+
+fn path(alloc: Global, text: &[u8]) -> Result<FilePath, AllocError> {
+    Ok(FilePath::new(text.to_vec(alloc)?))
+}
+
+fn text(alloc: Global, text: &[u8]) -> Result<Bytes, AllocError> {
+    Ok(Bytes::new(text.to_vec(alloc)?))
+}
+
+/// The command of a line, served or not.
+fn command_in(alloc: Global, line: &[u8]) -> Result<Option<Command>, AllocError> {
+    let pieces = pieces_of(alloc, line)?;
+    Ok(match unescape_words(alloc, &pieces)? {
+        Some(words) => command_of(words),
+        None => None,
+    })
+}
+
+/// What the text of a reply is.
+fn reply_of(alloc: Global, reply: &Reply) -> Result<Vec<u8>, Fail> {
+    let mut told = Vec::new(alloc);
+    write_reply(&mut told, reply)?;
+    Ok(told)
+}
+
+/// Asserts that the line asks for the command.
+fn asks(rt: &impl Abort, alloc: Global, line: &str, command: Command) -> Result<(), Fail> {
+    let found = command_in(alloc, line.as_bytes())?;
+    let found = format!(in alloc; "{found:?}")?;
+    let wanted = Some(command);
+    let wanted = format!(in alloc; "{wanted:?}")?;
+    assert_eq!(rt; found.as_str(), wanted.as_str(), "{line}");
+    Ok(())
+}
+
+const APPEND: OpenFlags = OpenFlags {
+    access: Access::Both,
+    create: true,
+    excl: true,
+    trunc: true,
+    append: true,
+};
+
+const READ: OpenFlags = OpenFlags {
+    access: Access::Read,
+    create: false,
+    excl: false,
+    trunc: false,
+    append: false,
+};
+
+const CREATE: OpenFlags = OpenFlags {
+    access: Access::Write,
+    create: true,
+    excl: false,
+    trunc: false,
+    append: false,
+};
+
+#[test]
+fn each_line_of_the_table_asks_for_its_command(rt: HostRuntime) -> Result<(), Fail> {
+    let alloc = rt.alloc();
+    for (line, flags) in [
+        ("open /a r", READ),
+        ("open /a cw", CREATE),
+        ("open /a atxcwr", APPEND),
+    ] {
+        asks(
+            &rt,
+            alloc,
+            line,
+            Command::Open {
+                path: path(alloc, b"/a")?,
+                flags,
+            },
+        )?;
+    }
+    asks(&rt, alloc, "close 3", Command::Close { fd: 3 })?;
+    asks(&rt, alloc, "fsync 00", Command::Fsync { fd: 0 })?;
+    asks(
+        &rt,
+        alloc,
+        "read 1 4294967295",
+        Command::Read {
+            fd: 1,
+            count: u32::MAX,
+        },
+    )?;
+    asks(
+        &rt,
+        alloc,
+        "write 2 a\\x20b\\\\",
+        Command::Write {
+            fd: 2,
+            bytes: text(alloc, b"a b\\")?,
+        },
+    )?;
+    asks(
+        &rt,
+        alloc,
+        "write 2 \\e",
+        Command::Write {
+            fd: 2,
+            bytes: text(alloc, b"")?,
+        },
+    )?;
+    asks(
+        &rt,
+        alloc,
+        "seek 1 -0 set",
+        Command::Seek {
+            fd: 1,
+            offset: 0,
+            whence: Whence::Set,
+        },
+    )?;
+    asks(
+        &rt,
+        alloc,
+        "seek 1 9223372036854775807 cur",
+        Command::Seek {
+            fd: 1,
+            offset: i64::MAX,
+            whence: Whence::Cur,
+        },
+    )?;
+    asks(
+        &rt,
+        alloc,
+        "seek 1 -9223372036854775808 end",
+        Command::Seek {
+            fd: 1,
+            offset: i64::MIN,
+            whence: Whence::End,
+        },
+    )?;
+    asks(
+        &rt,
+        alloc,
+        "truncate 7 00000000000000000000000005",
+        Command::Truncate { fd: 7, length: 5 },
+    )?;
+    asks(
+        &rt,
+        alloc,
+        "truncate 7 -5",
+        Command::Truncate { fd: 7, length: -5 },
+    )?;
+    asks(&rt, alloc, "sync", Command::Sync)?;
+    asks(&rt, alloc, "space", Command::Space)?;
+    asks(
+        &rt,
+        alloc,
+        "stat /",
+        Command::Stat {
+            path: path(alloc, b"/")?,
+        },
+    )?;
+    asks(
+        &rt,
+        alloc,
+        "  mkdir   /a\tb\r ",
+        Command::Mkdir {
+            path: path(alloc, b"/a\tb\r")?,
+        },
+    )?;
+    asks(
+        &rt,
+        alloc,
+        "\\x6dkdir \\x2Fa\\xfF",
+        Command::Mkdir {
+            path: path(alloc, b"/a\xff")?,
+        },
+    )?;
+    asks(
+        &rt,
+        alloc,
+        "m\\ekdir \\e",
+        Command::Mkdir {
+            path: path(alloc, b"")?,
+        },
+    )?;
+    asks(
+        &rt,
+        alloc,
+        "rmdir /b",
+        Command::Rmdir {
+            path: path(alloc, b"/b")?,
+        },
+    )?;
+    asks(
+        &rt,
+        alloc,
+        "unlink /b",
+        Command::Unlink {
+            path: path(alloc, b"/b")?,
+        },
+    )?;
+    asks(
+        &rt,
+        alloc,
+        "list /",
+        Command::List {
+            path: path(alloc, b"/")?,
+        },
+    )?;
+    asks(
+        &rt,
+        alloc,
+        "link /a /b",
+        Command::Link {
+            old: path(alloc, b"/a")?,
+            new: path(alloc, b"/b")?,
+        },
+    )?;
+    asks(
+        &rt,
+        alloc,
+        "rename /a /b",
+        Command::Rename {
+            old: path(alloc, b"/a")?,
+            new: path(alloc, b"/b")?,
+        },
+    )
+}
+
+/// Bad lines, by what is wrong: the name, the words after it, a number, flags, an escape.
+const BAD: [&[u8]; 5] = [
+    b"nope\n\\e\nMKDIR /a\nmkdir\t/a\n/a mkdir",
+    b"sync \\e\nspace x\nclose\nclose 3 4\nread 0\nread 0 1 2\nwrite 1\nseek 1 0\nlink /a\nlink /a /b /c\nmkdir\nmkdir /a /b",
+    b"close +3\nclose -3\nclose 4294967296\nclose 3x\nclose \\e\nread 0 -1\nseek 1 0 far\nseek 1 +1 set\nseek 1 - set\nseek 1 --1 set\nseek 1 -+1 set\nseek 1 9223372036854775808 set\nseek 1 -9223372036854775809 set\nseek -1 0 set",
+    b"open /a\nopen /a cx\nopen /a rr\nopen /a rz\nopen /a \\e\nopen /a rwrw",
+    b"mkdir /a\\\nmkdir /a\\x\nmkdir /a\\x4\nmkdir /a\\x4g\nmkdir /a\\y\nmkdir /\\E\nmkdir /\\X41",
+];
+
+#[test]
+fn other_lines_ask_for_no_command(rt: HostRuntime) -> Result<(), Fail> {
+    let alloc = rt.alloc();
+    for (kind, lines) in BAD.iter().enumerate() {
+        for (place, line) in lines.split(|byte| *byte == b'\n').enumerate() {
+            assert!(rt; command_in(alloc, line)?.is_none(), "{kind} {place}");
+            assert!(rt; matches!(parse(alloc, line)?, Line::Bad), "{kind} {place}");
+        }
+    }
+    Ok(())
+}
+
+#[test]
+fn moments_and_empty_lines_and_what_is_served(rt: HostRuntime) -> Result<(), Fail> {
+    let alloc = rt.alloc();
+    for line in ["", "   "] {
+        assert!(rt; matches!(parse(alloc, line.as_bytes())?, Line::Nothing));
+    }
+    for (line, moment) in [
+        ("now 0", 0),
+        (" n\\x6fw 0009223372036854775807", 9_223_372_036_854_775_807),
+    ] {
+        assert!(rt;
+            matches!(parse(alloc, line.as_bytes())?, Line::Now(n) if n == moment),
+            "{line}"
+        );
+    }
+    for line in [
+        "now",
+        "now 9223372036854775808",
+        "now -1",
+        "now 1 1",
+        "now \\e",
+        "stat /",
+        "close 1",
+        "space",
+    ] {
+        assert!(rt;
+            matches!(parse(alloc, line.as_bytes())?, Line::Bad),
+            "{line}"
+        );
+    }
+    for line in ["mkdir /a", "list /", "sync"] {
+        assert!(rt;
+            matches!(parse(alloc, line.as_bytes())?, Line::Do(_)),
+            "{line}"
+        );
+    }
+    Ok(())
+}
+
+#[test]
+fn each_reply_has_its_text(rt: HostRuntime) -> Result<(), Fail> {
+    let alloc = rt.alloc();
+    let file = Info {
+        kind: Kind::File,
+        object: 2,
+        links: 1,
+        size: 10,
+        moment: 18_446_744_073_709_551_615,
+    };
+    let directory = Info {
+        kind: Kind::Directory,
+        object: 1,
+        links: 3,
+        size: 0,
+        moment: 7,
+    };
+    let space = SpaceInfo {
+        unit: 512,
+        total: 100,
+        free: 0,
+    };
+    let names = vec![in alloc; text(alloc, b"a b")?, text(alloc, b"c\\")?]?;
+    for (reply, wanted) in [
+        (Reply::Done, "ok\n"),
+        (Reply::Fd(0), "fd 0\n"),
+        (
+            Reply::Data(text(alloc, b"!~ \\\x00\x7f\xff\n")?),
+            "data 8 !~\\x20\\\\\\x00\\x7f\\xff\\x0a\n",
+        ),
+        (Reply::Data(text(alloc, b"")?), "data 0 \\e\n"),
+        (Reply::Wrote(4_294_967_295), "wrote 4294967295\n"),
+        (Reply::At(10), "at 10\n"),
+        (Reply::Info(file), "info file 2 1 10 18446744073709551615\n"),
+        (Reply::Info(directory), "info dir 1 3 0 7\n"),
+        (Reply::Names(NameList::new(Vec::new(alloc))), "names 0\n"),
+        (
+            Reply::Names(NameList::new(names)),
+            "names 2 a\\x20b c\\\\\n",
+        ),
+        (Reply::SpaceInfo(space), "space 512 100 0\n"),
+        (Reply::Error(Errno::ENAMETOOLONG), "error ENAMETOOLONG\n"),
+        (Reply::Error(Errno::EIO), "error EIO\n"),
+    ] {
+        assert_eq!(rt;
+            reply_of(alloc, &reply)?.as_slice(),
+            wanted.as_bytes(),
+            "{wanted}"
+        );
+    }
+    Ok(())
+}
+
+/// It answers Done to each directory that it is asked to make, and to a list the two bytes of how many these were and
+/// of the moment of the last one.
+#[derive(Drop)]
+struct Counter {
+    alloc: Global,
+    made: u8,
+    moment: u64,
+}
+
+impl Counter {
+    fn new(alloc: Global) -> Counter {
+        Counter {
+            alloc,
+            made: 0,
+            moment: 0,
+        }
+    }
+
+    fn names(&self) -> Result<NameList, AllocError> {
+        let made = text(self.alloc, &[b'0' + self.made % 10])?;
+        let moment = text(self.alloc, &[b'0' + (self.moment % 10) as u8])?;
+        Ok(NameList::new(vec![in self.alloc; made, moment]?))
+    }
+}
+
+impl Serve for Counter {
+    ghost serves = { λ old command reply new. Unit {0} };
+
+    fn call(&mut self, command: &Stamped) -> Reply {
+        match &command.command {
+            Command::Mkdir { path: _ } => {
+                self.made = self.made.wrapping_add(1);
+                self.moment = command.moment;
+                Reply::Done
+            }
+            Command::List { path: _ } => match self.names() {
+                Ok(names) => Reply::Names(names),
+                Err(_) => Reply::Error(Errno::ENOMEM),
+            },
+            _ => Reply::Error(Errno::EIO),
+        }
+    }
+}
+
+/// What a shell tells over an input, and how it ends.
+fn told(alloc: Global, input: &[u8]) -> Result<(Vec<u8>, Result<(), ShellFault>), AllocError> {
+    let mut reader = input;
+    let mut writer = Vec::new(alloc);
+    let ends = shell(alloc, &mut reader, &mut writer, &mut Counter::new(alloc));
+    Ok((writer, ends))
+}
+
+const INPUT: &[u8] =
+    b"mkdir /a\n\nnope\r\nlist /\r\nnow 5\nmkdir \\x2fb\n  \nlist /\nread 0\nspace x\nsync";
+
+const TOLD: &[u8] =
+    b"ok\nbad line\nnames 2 1 0\nok\nok\nnames 2 2 5\nbad line\nbad line\nerror EIO\n";
+
+#[test]
+fn a_shell_answers_its_lines(rt: HostRuntime) -> Result<(), Fail> {
+    let alloc = rt.alloc();
+    for (input, wanted) in [
+        (INPUT, TOLD),
+        (b"", b""),
+        (b"\n", b""),
+        (b"\r\n", b""),
+        (b"\r", b"bad line\n"),
+        (b"mkdir /\r\r\nmkdir\r\n", b"ok\nbad line\n"),
+        (b"sync\r", b"bad line\n"),
+    ] {
+        let (text, ends) = told(alloc, input)?;
+        assert_eq!(rt; text.as_slice(), wanted);
+        assert_eq!(rt; ends, Ok(()));
+    }
+    Ok(())
+}
+
+#[test]
+fn a_line_has_a_greatest_size(rt: HostRuntime) -> Result<(), Fail> {
+    let alloc = rt.alloc();
+    let mut input = vec![in alloc; b'a'; 65_535]?;
+    for (end, wanted, ends) in [
+        ("", "bad line\n", Ok(())),
+        ("\n", "bad line\n", Ok(())),
+        ("\r\n", "bad line\n", Ok(())),
+        ("a", "bad line\n", Ok(())),
+        ("a\nmkdir /\n", "bad line\nok\n", Ok(())),
+        ("a\r\nmkdir /\n", "", Err(ShellFault::TooLong)),
+        ("ab", "", Err(ShellFault::TooLong)),
+    ] {
+        input.truncate(65_535);
+        input.extend_from_slice(end.as_bytes())?;
+        let found = told(alloc, &input)?;
+        assert_eq!(rt; found.0.as_slice(), wanted.as_bytes(), "{end:?}");
+        assert_eq!(rt; found.1, ends, "{end:?}");
+    }
+    Ok(())
+}
+
+/// It gives up to three bytes a call, is interrupted at each second call, and fails at one of its calls.
+#[derive(Drop)]
+struct FailingReader<'a> {
+    rest: &'a [u8],
+    calls: u32,
+    fails_at: u32,
+}
+
+impl Read for FailingReader<'_> {
+    fn read(&mut self, buf: &mut [u8]) -> io::Result<usize> {
+        self.calls = self.calls.wrapping_add(1);
+        if self.calls == self.fails_at {
+            return Err(io::Error::from(ErrorKind::BrokenPipe));
+        }
+        if self.calls % 2 == 0 {
+            return Err(io::Error::from(ErrorKind::Interrupted));
+        }
+        let count = self.rest.len().min(buf.len()).min(3);
+        buf[..count].copy_from_slice(&self.rest[..count]);
+        self.rest = &self.rest[count..];
+        Ok(count)
+    }
+}
+
+/// It takes up to two bytes a call, is interrupted at each second call, and fails at one of its calls.
+#[derive(Drop)]
+struct FailingWriter {
+    told: Vec<u8>,
+    calls: u32,
+    fails_at: u32,
+}
+
+impl Write for FailingWriter {
+    fn write(&mut self, buf: &[u8]) -> io::Result<usize> {
+        self.calls = self.calls.wrapping_add(1);
+        if self.calls == self.fails_at {
+            return Err(io::Error::from(ErrorKind::BrokenPipe));
+        }
+        if self.calls % 2 == 0 {
+            return Err(io::Error::from(ErrorKind::Interrupted));
+        }
+        let count = buf.len().min(2);
+        self.told.extend_from_slice(&buf[..count])?;
+        Ok(count)
+    }
+
+    fn flush(&mut self) -> io::Result<()> {
+        Ok(())
+    }
+}
+
+#[test]
+fn a_reader_fails_at_each_call(rt: HostRuntime) -> Result<(), Fail> {
+    let alloc = rt.alloc();
+    for fails_at in 1..1000 {
+        let reader = FailingReader {
+            rest: INPUT,
+            calls: 0,
+            fails_at,
+        };
+        let mut reader = BufReader::with_capacity(alloc, 7, reader)?;
+        let mut writer = Vec::new(alloc);
+        let ends = shell(alloc, &mut reader, &mut writer, &mut Counter::new(alloc));
+        if ends == Ok(()) {
+            assert_eq!(rt; writer.as_slice(), TOLD);
+            assert!(rt; fails_at > 40);
+            return Ok(());
+        }
+        assert_eq!(rt; ends, Err(ShellFault::Read));
+        assert!(rt; TOLD.starts_with(&writer));
+        assert!(rt; writer.is_empty() || writer.ends_with(b"\n"));
+    }
+    assert!(rt; false, "it still fails");
+    Ok(())
+}
+
+#[test]
+fn a_writer_fails_at_each_call(rt: HostRuntime) -> Result<(), Fail> {
+    let alloc = rt.alloc();
+    let mut most = 0;
+    for fails_at in 1..1000 {
+        let mut reader = INPUT;
+        let mut writer = FailingWriter {
+            told: Vec::new(alloc),
+            calls: 0,
+            fails_at,
+        };
+        let ends = shell(alloc, &mut reader, &mut writer, &mut Counter::new(alloc));
+        assert!(rt; TOLD.starts_with(&writer.told));
+        assert!(rt; writer.told.len() >= most);
+        most = writer.told.len();
+        if ends == Ok(()) {
+            assert_eq!(rt; writer.told.as_slice(), TOLD);
+            assert!(rt; fails_at > 60);
+            return Ok(());
+        }
+        assert_eq!(rt; ends, Err(ShellFault::Write));
+    }
+    assert!(rt; false, "it still fails");
+    Ok(())
+}
+
+/// A writer that takes no memory.
+struct Held {
+    bytes: [u8; 64],
+    count: usize,
+}
+
+impl Write for Held {
+    fn write(&mut self, buf: &[u8]) -> io::Result<usize> {
+        for (taken, byte) in buf.iter().enumerate() {
+            if self.count >= 64 {
+                return Ok(taken);
+            }
+            self.bytes[self.count] = *byte;
+            self.count += 1;
+        }
+        Ok(buf.len())
+    }
+
+    fn flush(&mut self) -> io::Result<()> {
+        Ok(())
+    }
+}
+
+/// It takes no memory, and answers its calls in turn.
+struct Turns {
+    calls: u32,
+}
+
+impl Serve for Turns {
+    ghost serves = { λ old command reply new. Unit {0} };
+
+    fn call(&mut self, _command: &Stamped) -> Reply {
+        self.calls = self.calls.wrapping_add(1);
+        Reply::Wrote(self.calls)
+    }
+}
+
+/// With the tool that refuses one allocation after another, the shell ends with NoMemory, and the replies before are out.
+#[test]
+fn a_refused_allocation_ends_the_shell(rt: HostRuntime) -> Result<(), Fail> {
+    let input = b"mkdir /a\nlist /\n\nx y z\nsync\nnow 3\nmkdir /bb\n";
+    let text = b"wrote 1\nwrote 2\nbad line\nwrote 3\nok\nwrote 4\n";
+    let mut reader = input.as_slice();
+    let mut writer = Held {
+        bytes: [0; 64],
+        count: 0,
+    };
+    let mut volume = Turns { calls: 0 };
+    let ends = shell(rt.alloc(), &mut reader, &mut writer, &mut volume);
+    let Held { bytes, count } = writer;
+    let Turns { calls } = volume;
+    let told = bytes.as_slice().get(..count).ok_or("too many")?;
+    assert!(rt; text.starts_with(told));
+    if ends == Ok(()) {
+        assert_eq!(rt; told, text.as_slice());
+    } else {
+        assert_eq!(rt; ends, Err(ShellFault::NoMemory));
+        assert!(rt; told.is_empty() || told.ends_with(b"\n"));
+        assert_eq!(rt;
+            told.iter().filter(|byte| **byte == b'w').count(),
+            calls as usize
+        );
+    }
+    Ok(())
+}

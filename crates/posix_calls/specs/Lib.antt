@@ -5,3 +5,4 @@ pub mod MountFaults
 pub mod Roots
 pub mod Checks
 pub mod Running
+pub mod Serving

@@ -1,7 +1,8 @@
 -- Counting over the numbers from a on, one by one.
-use Rattle.std.specs.Prelude.{◌≡◌, ℕ, zero, suc, ◌+◌, Bool, true, false, cond, [], count_by}
+use Rattle.std.specs.Prelude.{◌≡◌, ◌≢◌, ◌≤◌, ◌<◌, ℕ, zero, suc, ◌+◌, Bool, true, false, cond, [], count_by}
 use Rattle.std.specs.List.{range_with_len}
-use Rattle.std.proofs.Common.{◌∙◌, ap, arith}
+use Rattle.std.proofs.Common.{refl, ◌∙◌, ap, inl, inr, arith}
+use Rattle.std.proofs.lemmas.Bool.{cases_eq}
 use Rattle.std.proofs.Math.Numerals.{add-one}
 use Rattle.std.proofs.lemmas.List.Sums.{sum_by-cons}
 
@@ -30,3 +31,41 @@ pub passed_over : (p : ℕ → Bool) (n : ℕ) → p n ≡ false → count_by p 
 passed_over p n not =
     let at : p (0 + n) ≡ false = ap p (omega arith) ∙ not in
     rw (add-one n) (count_longer p 0 n ∙ ap (λ b. count_by p (range_with_len 0 n) + cond b 1 0) at ∙ omega arith)
+
+-- where no number from a on passes otherwise, as many pass
+count_same : (p q : ℕ → Bool) (a n : ℕ) → ((k : ℕ) → a ≤ k → q k ≡ p k) → count_by q (range_with_len a n) ≡ count_by p (range_with_len a n)
+count_same p q a zero same = refl
+count_same p q a (suc n) same =
+    let one : count_by q (range_with_len a (suc n)) ≡ cond (q a) 1 0 + count_by q (range_with_len (a + 1) n) = sum_by-cons (λ x. cond (q x) 1 0) a (range_with_len (a + 1) n) in
+    let two : count_by p (range_with_len a (suc n)) ≡ cond (p a) 1 0 + count_by p (range_with_len (a + 1) n) = sum_by-cons (λ x. cond (p x) 1 0) a (range_with_len (a + 1) n) in
+    let here : cond {A = ℕ} (q a) 1 0 ≡ cond (p a) 1 0 = ap (λ b. cond b 1 0) (same a (omega arith)) in
+    let rest = count_same p q (a + 1) n (λ k le. same k (omega arith)) in
+    omega (arith, one, two, here, rest)
+
+count_at_most_one : (b : Bool) → cond {A = ℕ} b 1 0 ≤ 1
+count_at_most_one true = omega arith
+count_at_most_one false = omega arith
+
+-- where one number alone may pass otherwise, at most one more passes
+pub count_one_more : (p q : ℕ → Bool) (b a n : ℕ) → ((k : ℕ) → k ≢ b → q k ≡ p k) → count_by q (range_with_len a n) ≤ count_by p (range_with_len a n) + 1
+count_one_more p q b a zero same = omega arith
+count_one_more p q b a (suc n) same =
+    let one : count_by q (range_with_len a (suc n)) ≡ cond (q a) 1 0 + count_by q (range_with_len (a + 1) n) = sum_by-cons (λ x. cond (q x) 1 0) a (range_with_len (a + 1) n) in
+    let two : count_by p (range_with_len a (suc n)) ≡ cond (p a) 1 0 + count_by p (range_with_len (a + 1) n) = sum_by-cons (λ x. cond (p x) 1 0) a (range_with_len (a + 1) n) in
+    elim (cases_eq a b) [
+      | inr ne ↦
+          let here : cond {A = ℕ} (q a) 1 0 ≡ cond (p a) 1 0 = ap (λ b. cond b 1 0) (same a ne) in
+          let rest = count_one_more p q b (a + 1) n same in
+          omega (arith, one, two, here, rest)
+      | inl e ↦
+          let rest = count_same p q (a + 1) n (λ k le. same k (λ is. omega (arith, le, is, e))) in
+          omega (arith, one, two, rest, count_at_most_one (q a))
+    ]
+
+-- where all pass, all are counted
+pub count_all : (p : ℕ → Bool) (n : ℕ) → ((k : ℕ) → k < n → p k ≡ true) → count_by p (range_with_len 0 n) ≡ n
+count_all p zero all = refl
+count_all p (suc n) all =
+    let more = rw (add-one n) at (counted p n (all n (omega arith))) in
+    let rest = count_all p n (λ k lt. all k (omega arith)) in
+    omega (arith, more, rest)

@@ -1,2 +1,3 @@
 pub mod Volumes
 pub mod SizesOf
+pub mod Formatting

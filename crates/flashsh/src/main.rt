@@ -1,10 +1,23 @@
-//! A shell over a flash in memory.
+//! A shell over a flash in memory, which is formatted anew at each start. Commands come from standard input, line by
+//! line, and replies go to standard output.
+//!
+//! Status 0: all lines were answered. 2: the flash could not be formatted, mounted or unmounted. 4: the shell ended
+//! before its input did. With 2 and 4 one line, `fault` and a name, goes to standard error.
 #![tactic(auto)]
 
+mod program;
 mod serve;
 
 use std::process::ExitCode;
 
 fn main(rt: HostRuntime) -> ExitCode {
-    ExitCode::SUCCESS
+    let mut reader = rt.stdin().lock();
+    let mut writer = rt.stdout();
+    match program::run(rt.alloc(), &mut reader, &mut writer) {
+        Ok(()) => ExitCode::SUCCESS,
+        Err(fault) => {
+            let _ = eprintln!(rt; "fault {}", fault.name());
+            ExitCode::from(fault.status())
+        }
+    }
 }

@@ -1,14 +1,14 @@
 -- What std reads as a number.
-use Rattle.std.proofs.Common.{◌≡◌, ◌≢◌, ◌<◌, ◌≤◌, ◌^◌, ◌-◌, ℕ, zero, suc, ℤ, pos, neg_ℤ, Bool, true, false, cond, ◌&&◌, nat_lt, nat_le, eqb, get_or, length, drop, List, [], ◌∷◌, Option, Some, None, Result, Ok, Err, option_map, refl, sym, ap, ◌∙◌, subst, inl, inr, arith, ne_eqb, eq-eqb, ltb-true, leb-true, le-leb, lt-ltb}
+use Rattle.std.proofs.Common.{◌≡◌, ◌≢◌, ◌<◌, ◌≤◌, ◌^◌, ◌-◌, ℕ, zero, suc, ℤ, pos, neg_ℤ, Bool, true, false, cond, ◌&&◌, nat_lt, nat_le, get_or, length, drop, List, [], ◌∷◌, Option, Some, None, Result, Ok, Err, option_map, refl, sym, ap, ◌∙◌, inl, inr, arith, ne_eqb, eq-eqb, ltb-true, leb-true, le-leb, lt-ltb}
 use Rattle.std.proofs.lemmas.Bool.{cases_eq}
 use Rattle.std.proofs.lemmas.Str.{IsUtf8-from_ascii}
 use Rattle.std.proofs.lemmas.Fmt.{IsAscii-from_digits}
 use Rattle.std.proofs.lemmas.Str.Parse.{IsNumeralModel, numerals_by_value, tells_all_ascii_digits, not_in_digits, parse_plain, parse_signed_plain, parse_signed_minus}
-use Rattle.std.specs.Str.{all_ascii_digits, IsUtf8, IsAscii}
-use Rattle.std.specs.Str.Parse.{digits_value, starts_with_minus, ParsesUnsigned, ParsesSigned}
+use Rattle.std.specs.Str.{all_ascii_digits, IsAscii}
+use Rattle.std.specs.Str.Parse.{digits_value, ParsesUnsigned, ParsesSigned}
 use Rattle.std.specs.Result.{OkIff, result_ok}
 use Rattle.std.specs.Int.{w64}
-use Rattle.line_shell.specs.Numbers.{is_numeral, number, signed_number, IsNoText}
+use Rattle.line_shell.specs.Numbers.{number, signed_number, IsNoText}
 
 own : IsNumeralModel (λ ds. all_ascii_digits ds ≡ true) (digits_value 10)
 own = numerals_by_value _ tells_all_ascii_digits

@@ -1,5 +1,5 @@
 -- What was read, where the reader's bytes are known.
-use Rattle.std.proofs.Common.{◌≡◌, ◌≢◌, ◌<◌, ◌≤◌, ◌+◌, ◌-◌, ℕ, Bool, true, false, not, eqb, List, [], ◌∷◌, ◌++◌, get_or, length, take, drop, All, Option, Some, None, IfSome, OnSome, Result, Ok, Err, refl, sym, ap, ◌∙◌, subst, inl, inr, arith, append-nil, append_assoc, length-append, take-append-drop, take-take, length-take, eqb-true, drop_of_length-le}
+use Rattle.std.proofs.Common.{◌≡◌, ◌≢◌, ◌<◌, ◌≤◌, ◌+◌, ℕ, Bool, true, false, not, eqb, List, [], ◌∷◌, ◌++◌, length, take, drop, Option, Some, None, IfSome, OnSome, Ok, Err, sym, ap, ◌∙◌, subst, arith, append-nil, append_assoc, length-append, take-append-drop, take-take, length-take, eqb-true}
 use Rattle.std.proofs.lemmas.Bool.{eqb-false}
 use Rattle.std.proofs.lemmas.List.{length-take-le}
 use Rattle.std.proofs.lemmas.List.Elements.{All-append}

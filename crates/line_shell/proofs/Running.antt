@@ -1,9 +1,9 @@
 -- A run of a shell, line by line.
-use Rattle.std.proofs.Common.{◌≡◌, ◌<◌, ◌≤◌, ◌+◌, ℕ, zero, suc, true, false, cond, eqb, List, [], ◌∷◌, ◌++◌, get_or, length, map, All, Option, Some, None, IfSome, OnSome, Result, Ok, Err, refl, sym, ap, ◌∙◌, subst, inl, inr, arith, append-nil, append_assoc, length-append}
+use Rattle.std.proofs.Common.{◌≡◌, ◌<◌, ◌≤◌, ◌+◌, ℕ, zero, suc, true, false, cond, eqb, List, [], ◌∷◌, ◌++◌, length, map, All, Option, Some, None, IfSome, OnSome, Ok, Err, refl, sym, ap, ◌∙◌, subst, inl, inr, arith, append-nil, append_assoc, length-append}
 use Rattle.std.proofs.lemmas.List.{map-append}
 use Rattle.std.proofs.lemmas.List.Elements.{All-append}
 use Rattle.std.proofs.KnownBytes.{Appends-nil, Appends-trans, Appends-kept}
-use Rattle.std.specs.Io.KnownBytes.{Keeps, Appends, IsAtEnd}
+use Rattle.std.specs.Io.KnownBytes.{Appends, IsAtEnd}
 use Rattle.posix_profile.specs.declared.command.Stamped.{Stamped}
 use Rattle.posix_profile.specs.declared.reply.Reply.{Reply}
 use Rattle.line_shell.specs.Commands.{line_of}
@@ -11,8 +11,7 @@ use Rattle.line_shell.specs.Lines.{whole_lines, without_end, line_size, longest_
 use Rattle.line_shell.specs.Reading.{IsEnded, NextLine, ReadsNext, LineIsTooLong, ReadsLine, TellsMore}
 use Rattle.line_shell.specs.Replies.{newline}
 use Rattle.std.specs.List.{onto_first}
-use Rattle.line_shell.specs.Written.{AppendsPart}
-use Rattle.line_shell.specs.Runs.{Session, Answers, Run, IsOut, IsTold, Obeys, AnswersLine, AreAnswered, IsRead, Shell}
+use Rattle.line_shell.specs.Runs.{Session, Answers, Run, IsOut, IsTold, Obeys, AnswersLine, AreAnswered, Shell}
 use Rattle.line_shell.specs.declared.line.Line.{Line}
 use Rattle.line_shell.specs.declared.fault.ShellFault.{ShellFault}
 use Rattle.line_shell.specs.declared.fault.ShellFault.TheVariants as faults

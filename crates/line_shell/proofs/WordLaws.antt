@@ -1,12 +1,11 @@
 -- The word for some bytes is one word, and stands for them.
-use Rattle.std.proofs.Common.{◌≡◌, ◌≢◌, ◌<◌, ◌≤◌, ◌+◌, ◌*◌, ◌/◌, ◌%◌, ℕ, Bool, true, false, cond, ◌&&◌, eqb, nat_lt, nat_le, List, [], ◌∷◌, ◌++◌, get_or, length, filter, flat_map, All, Contains, Option, Some, None, option_map, option_and_then, refl, sym, ap, ◌∙◌, subst, arith, eqb-true, ne_eqb, lt-ltb, leb-true, length-append}
+use Rattle.std.proofs.Common.{◌≡◌, ◌≢◌, ◌<◌, ◌≤◌, ◌+◌, ◌*◌, ◌/◌, ◌%◌, ℕ, Bool, true, false, cond, ◌&&◌, eqb, nat_lt, nat_le, List, [], ◌∷◌, ◌++◌, get_or, length, flat_map, All, Contains, Option, Some, None, option_and_then, refl, sym, ap, ◌∙◌, arith, eqb-true, ne_eqb, lt-ltb, leb-true, length-append}
 use Rattle.std.proofs.lemmas.Str.{digit_value-digit_char}
 use Rattle.std.proofs.lemmas.Bool.{eqb-false}
 use Rattle.std.proofs.lemmas.List.Elements.{All-cons, All-append, All-head, All-tail}
 use Rattle.std.proofs.lemmas.List.Splits.{slice_split_none}
-use Rattle.std.specs.Char.{digit_value, is_digit}
+use Rattle.std.specs.Char.{digit_value}
 use Rattle.std.specs.Fmt.{digit_glyph}
-use Rattle.std.specs.List.{slice_split}
 use Rattle.posix_profile.specs.WellFormed.{AreBytes}
 use Rattle.line_shell.specs.Replies.{newline}
 use Rattle.line_shell.specs.Words.{space, backslash, letter_x, letter_e, words, onto, byte_of_digits, unescaped, spelled_byte, spelled}

@@ -1,5 +1,5 @@
 -- The first piece of a word, by its first bytes.
-use Rattle.std.proofs.Common.{◌≡◌, ◌≢◌, ◌<◌, ◌≤◌, ◌+◌, ℕ, true, false, cond, List, [], ◌∷◌, ◌++◌, get_or, length, drop, filter, nat_lt, Option, Some, None, option_and_then, option_map, option_to_list, refl, sym, ap, ◌∙◌, arith, eq-eqb, ne_eqb, eqb, append_assoc, append-nil, drop_of_length-le, drop-drop, drop-cons, add-one, lt-ltb, flat_map, Bor}
+use Rattle.std.proofs.Common.{◌≡◌, ◌≢◌, ◌<◌, ◌≤◌, ◌+◌, ℕ, cond, List, [], ◌∷◌, ◌++◌, get_or, length, drop, filter, nat_lt, Option, Some, None, option_and_then, option_map, option_to_list, refl, sym, ap, ◌∙◌, arith, ne_eqb, eqb, append_assoc, append-nil, drop_of_length-le, drop-drop, drop-cons, add-one, lt-ltb, flat_map, Bor}
 use Rattle.std.proofs.Common.{map as list_map}
 use Rattle.std.proofs.lemmas.Bool.{le-ltb}
 use Rattle.std.specs.List.{slice_split}

@@ -1,4 +1,4 @@
-use Rattle.std.proofs.Common.{◌≡◌, sym, subst, arith, Ok, Err}
+use Rattle.std.proofs.Common.{◌≡◌, subst, arith, Ok, Err}
 use Rattle.std.proofs.lemmas.Result.{err_from_is_err_and}
 use Rattle.line_shell.specs.Lines.{most_lines}
 use Rattle.line_shell.specs.Reading.{ReadsLine, TellsMore}

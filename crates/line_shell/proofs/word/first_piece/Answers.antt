@@ -1,4 +1,4 @@
-use Rattle.std.proofs.Common.{arith, sym}
+use Rattle.std.proofs.Common.{arith}
 use Rattle.line_shell.proofs.Words.{piece_plain, none_alone, piece_backslash, piece_nothing, piece_byte, none_digits, none_short, none_other}
 use Rattle.line_shell.proofs.word.first_piece.Goals as goal
 

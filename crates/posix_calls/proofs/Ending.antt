@@ -163,3 +163,12 @@ module _ (old : Device) (honest : old.honest ≡ true) (spare : ℕ) (objects : 
         | inr (inl group) ↦ inr (inr (inr (refl, inr (inr (inl (subst (λ (x : Table). 2 ^ 62 ≤ x.next_group) same group))), either new left)))
         | inr (inr seq) ↦ inr (inr (inr (refl, inr (inr (inr (subst (λ (x : Table). 2 ^ 62 ≤ x.next_seq) same seq))), either new left)))
       ]
+
+-- however a command ends, the flash shows some tree
+pub ends_shown : (spare : ℕ) (old new : Device) (t : Table) (objects : Objects) (command : Command) (outcome : Outcome) (reply : Reply) → Ends spare old new t objects command outcome reply
+    → (after : Objects) × IsFlatVolume old.geometry new.flash spare after
+ends_shown spare old new t objects command outcome reply (inl (says, shows)) = (outcome.state.objects, shows)
+ends_shown spare old new t objects command outcome reply (inr (inl (says, takes, reads, shows))) = (objects, shows)
+ends_shown spare old new t objects command outcome reply (inr (inr (inl (says, done, none, reads, shows)))) = (objects, shows)
+ends_shown spare old new t objects command outcome reply (inr (inr (inr (says, why, inl before)))) = (objects, before)
+ends_shown spare old new t objects command outcome reply (inr (inr (inr (says, why, inr done)))) = (outcome.state.objects, done)

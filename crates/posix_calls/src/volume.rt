@@ -10,7 +10,7 @@ ghost use Rattle.posix_profile.specs.declared.reply.Errno.TheVariants as errors;
 ghost use Rattle.posix_profile.specs.declared.reply.Reply.TheVariants as replies;
 ghost use Rattle.flat_profile.specs.Flat.{early_step, closed};
 ghost use Rattle.block_state.specs.TableOf.{table};
-ghost use Rattle.volume_format.specs.Volumes.{IsFlatVolume};
+ghost use Rattle.volume_format.specs.Volumes.{IsFlatVolume, IsSoundVolume};
 ghost use Rattle.posix_calls.specs.Endings.{Ends};
 ghost use Rattle.posix_calls.specs.Running.{RunEnds};
 ghost use Rattle.posix_profile.specs.declared.reply.Reply.{Reply};
@@ -90,6 +90,9 @@ impl<N: Nand> Volume<N> {
             → IsFlatVolume (N.state self.old.store.device).geometry (N.state self.old.store.device).flash self.old.spare objects
             → Ends self.old.spare (N.state self.old.store.device) (N.state self.new.store.device) (table self.old.store.blocks) objects stamped.now.command
             (early_step (sizes_of (N.state self.old.store.device).geometry self.old.spare) self.old.read_only (closed objects) stamped.now) result }
+        ensures sound { (N.state self.old.store.device).honest ≡ true → (objects : Objects)
+            → IsSoundVolume (N.state self.old.store.device).geometry (N.state self.old.store.device).flash self.old.spare objects
+            → (after : Objects) × IsSoundVolume (N.state self.old.store.device).geometry (N.state self.new.store.device).flash self.old.spare after }
     {
         if self.stopped {
             return Reply::Error(Errno::EIO);

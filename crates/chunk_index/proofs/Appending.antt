@@ -1,9 +1,9 @@
 -- An entry or an object after all others.
 use Rattle.std.proofs.Common.{◌≡◌, ◌≢◌, ℕ, ◌+◌, ◌-◌, ◌<◌, ◌≤◌, Bool, if◌then◌else◌, List, [], ◌∷◌, ◌++◌, length, get_or, set, Option, IsSome, refl, sym, ap, subst, ◌∙◌, arith, inl, inr}
 use Rattle.std.specs.List.{insert}
-use Rattle.std.proofs.lemmas.Bool.{cases_eq, cases_lt}
+use Rattle.std.proofs.lemmas.Bool.{cases_eq}
 use Rattle.std.proofs.lemmas.Bool.Decides.{nat_tests}
-use Rattle.std.proofs.lemmas.List.{get_or_default, get_or_push, get_or_append_left, length_push, length-set, get_or-set_same, get_or-set_other}
+use Rattle.std.proofs.lemmas.List.{get_or_default}
 use Rattle.std.proofs.lemmas.List.Sums.{sum_by-insert}
 use Rattle.std.proofs.lemmas.List.Edits.{length-insert, insert_end}
 use Rattle.chunk_index.specs.declared.entry.Entry.{Entry}
@@ -15,7 +15,7 @@ use Rattle.chunk_index.proofs.Finding.{find_at, find_gap_insert, rises_insert}
 use Rattle.chunk_index.proofs.Looking.{inserted, look_read, look_set_here, look_set_other, counts_set, entries_set}
 
 -- a chunk after all others would stand at the end
-pub gap_end : (es : List Entry) → Rises chunk es → (c : ℕ) → IsAfter c es → IsGapFor chunk es c (length es)
+gap_end : (es : List Entry) → Rises chunk es → (c : ℕ) → IsAfter c es → IsGapFor chunk es c (length es)
 gap_end es rises c after = record {
   within = omega arith;
   lesser = λ j d lt.
@@ -60,27 +60,6 @@ gap_last xs rises o above not = record {
 pub pushed : (xs zs : List ObjectEntries) (o : ℕ) (y : ObjectEntries) (b : Bool) → zs ≡ (if b then xs ++ y ∷ [] else xs) → IsGapFor number xs o (length xs) → y.object ≡ o → y.entries.items ≡ [] → Rises number xs
     → record { rises : Rises number zs; count : entry_count zs ≡ entry_count xs }
 pushed xs zs o y b is gap same none rises = inserted xs zs o (length xs) y b (is ∙ ap (λ ys. if b then ys else xs) (sym (insert_end xs y))) gap same none rises
-
--- none is greater than the new one
-pub above_push : (o : ℕ) (xs : List ObjectEntries) (y : ObjectEntries) → NoneAbove o xs → y.object ≡ o → NoneAbove o (xs ++ y ∷ [])
-above_push o xs y above same i d lt = elim (cases_lt i (length xs)) [
-  | inl less ↦ subst (λ (z : ObjectEntries). number z ≤ o) (sym (get_or_append_left xs (y ∷ []) d i less)) (above i d less)
-  | inr ge ↦
-      let end : length xs ≡ i = omega (arith, lt, ge, length_push xs y) in
-      let is : number (get_or (xs ++ y ∷ []) i d) ≡ o = ap number (get_or_push xs y d i end) ∙ same in
-      omega (arith, is)
-]
-
--- nor than one that is written over
-pub above_set : (o : ℕ) (xs : List ObjectEntries) (i : ℕ) (y : ObjectEntries) → NoneAbove o xs → y.object ≡ o → NoneAbove o (set xs i y)
-above_set o xs i y above same k d lt =
-    let short : k < length xs = omega (arith, lt, length-set xs i y) in
-    elim (cases_eq k i) [
-      | inl e ↦
-          let is : number (get_or (set xs i y) k d) ≡ o = ap number (ap (λ n. get_or (set xs i y) n d) e ∙ get_or-set_same xs i y d (omega (arith, short, e))) ∙ same in
-          omega (arith, is)
-      | inr ne ↦ subst (λ (z : ObjectEntries). number z ≤ o) (sym (get_or-set_other xs i k y d ne)) (above k d short)
-    ]
 
 module _ (xs : List ObjectEntries) (rises : Rises number xs) (o i : ℕ) (at : IsAt number xs o i) (x : ObjectEntries) (is : x ≡ get_or xs i x) where
   -- a chunk after all of its object comes after its entries

@@ -41,10 +41,6 @@ recounts_on {t} {u} {v} {f} {g} {h} c d = record {
   next_group = d.next_group ∙ c.next_group;
 }
 
--- where nothing changes
-pub recounts_none : (t : Table) (f : ℕ → ℕ) → Recounts f f t t
-recounts_none t f = record { kept = λ b. refl; outside = λ b le. refl; bad = λ b. refl; seq = λ b. refl; next = λ b. refl; geometry = refl; open_block = refl; next_seq = refl; next_group = refl }
-
 -- where as many are counted as before, all of the blocks is as before
 pub recounts_back : {t u : Table} {f g : ℕ → ℕ} → ((b : ℕ) → g b ≡ f b) → Recounts f g t u → u ≡ t
 recounts_back {t} {u} {f} {g} same c =

@@ -1,16 +1,15 @@
 -- The appending of one page after another.
-use Rattle.std.proofs.Common.{◌≡◌, ◌⊎◌, ℕ, ◌+◌, ◌<◌, ◌≤◌, List, [], length, get_or, Option, Some, None, IsSome, sym, ap, subst, ◌∙◌, arith, inl, inr}
+use Rattle.std.proofs.Common.{◌≡◌, ◌⊎◌, ℕ, ◌+◌, ◌<◌, ◌≤◌, List, length, get_or, Option, Some, None, IsSome, sym, ap, subst, ◌∙◌, arith, inl, inr}
 use mathlib.Core.Bool.{false≢true}
+use Rattle.std.specs.Option.{option_and_then}
 use Rattle.std.proofs.lemmas.Bool.{cases_eq}
 use Rattle.std.proofs.lemmas.List.{get_or_default}
 use Rattle.flash_tree.specs.declared.place.Found.{Found}
 use Rattle.chunk_index.specs.declared.entry.Entry.{Entry}
 use Rattle.chunk_index.specs.declared.object.ObjectEntries.{ObjectEntries}
-use Rattle.chunk_index.specs.declared.index.Index.{Index}
-use Rattle.chunk_index.specs.Entries.{kept_of, present_of, kept_at}
-use Rattle.std.specs.Option.{option_and_then}
+use Rattle.chunk_index.specs.Entries.{kept_at}
 use Rattle.chunk_index.specs.Objects.{number, entry_of, look, Differs, NoneAbove, ComesAfter, AddsKey}
-use Rattle.chunk_index.specs.Newest.{place_of, IsOf, Precedes, KeysRise, Indexes}
+use Rattle.chunk_index.specs.Newest.{place_of, IsOf, Precedes, KeysRise}
 use Rattle.chunk_index.proofs.Finding.{find_absent}
 
 -- the entry of a page
@@ -68,18 +67,6 @@ after_more o c f xs ys was ad above (inr same) =
       ];
     }
 
-pub indexing_none : (fs : List Found) (xs : List ObjectEntries) → xs ≡ [] → Indexing fs 0 xs
-indexing_none fs xs is =
-    let none : (o c : ℕ) → look xs o c ≡ None = λ o c. ap (λ ys. look ys o c) is in
-    record {
-      done = λ i d lt. absurd (omega (arith, lt));
-      rest = λ o c not. none o c;
-      after = λ o c all. record {
-        greatest = λ i d lt. absurd (let short : length xs ≡ 0 = ap length is in omega (arith, lt, short));
-        after = λ l some. absurd (no_entry _ (none o l) some);
-      };
-    }
-
 module _ (fs : List Found) (n : ℕ) (old : List ObjectEntries) (rise : KeysRise fs) (was : Indexing fs n old) (lt : n < length fs) (d : Found) (o c : ℕ) (object : o ≡ (get_or fs n d).tag.object) (chunk : c ≡ (get_or fs n d).tag.chunk) where
   abbrev f : Found
   f = get_or fs n d
@@ -113,12 +100,3 @@ module _ (fs : List Found) (n : ℕ) (old : List ObjectEntries) (rise : KeysRise
             ad.others k l (other_differs f k l (λ of_f. none n d (omega arith) of_f)) ∙ was.rest k l (λ i e less. none i e (omega (arith, less)));
         after = λ k l all. after_more k l f old new is_next ad above (all n d (omega arith));
       }
-
--- at the end the maps are those of the pages
-pub indexing_all : (fs : List Found) (n : ℕ) (x : Index) → Indexing fs n x.objects.items → Indexes fs n x
-indexing_all fs n x w = record {
-  kept_here = λ i d lt. ap kept_of (w.done i d lt);
-  present_here = λ i d lt. ap present_of (w.done i d lt);
-  kept_elsewhere = λ o c none. ap kept_of (w.rest o c none);
-  present_elsewhere = λ o c none. ap present_of (w.rest o c none);
-}

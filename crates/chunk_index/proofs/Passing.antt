@@ -22,9 +22,6 @@ pub record Passes (R : ObjectEntries → ObjectEntries → Type 0) (xs ys : List
   pub done : (k : ℕ) (d : ObjectEntries) → k < at → R (get_or xs k d) (get_or ys k d)
   pub rest : (k : ℕ) (d : ObjectEntries) → at ≤ k → get_or ys k d ≡ get_or xs k d
 
-pub passes_none : (R : ObjectEntries → ObjectEntries → Type 0) (xs : List ObjectEntries) → Passes R xs xs 0
-passes_none R xs = record { count = refl; done = λ k d lt. absurd (omega (arith, lt)); rest = λ k d le. refl }
-
 pub passes_more : {R : ObjectEntries → ObjectEntries → Type 0} {xs ys : List ObjectEntries} {at : ℕ} → Passes R xs ys at → at < length xs → (x y : ObjectEntries) → x ≡ get_or ys at x → R x y → Passes R xs (set ys at y) (at + 1)
 passes_more {R} {xs} {ys} {at} p lt x y is b =
     let within : at < length ys = omega (arith, lt, p.count) in

@@ -41,9 +41,20 @@ recounts_on {t} {u} {v} {f} {g} {h} c d = record {
   next_group = d.next_group ∙ c.next_group;
 }
 
--- where nothing changes
-pub recounts_none : (t : Table) (f : ℕ → ℕ) → Recounts f f t t
-recounts_none t f = record { kept = λ b. refl; outside = λ b le. refl; bad = λ b. refl; seq = λ b. refl; next = λ b. refl; geometry = refl; open_block = refl; next_seq = refl; next_group = refl }
+-- where as many are counted as before, all of the blocks is as before
+pub recounts_back : {t u : Table} {f g : ℕ → ℕ} → ((b : ℕ) → g b ≡ f b) → Recounts f g t u → u ≡ t
+recounts_back {t} {u} {f} {g} same c =
+    let kept : (b : ℕ) → (u.entry b).kept ≡ (t.entry b).kept = λ b.
+    let one : (u.entry b).kept + f b ≡ (t.entry b).kept + g b = c.kept b in
+    let two : g b ≡ f b = same b in
+    omega (arith, one, two) in
+    λ i. record {
+      geometry = c.geometry i;
+      entry = λ b. record { bad = c.bad b i; kept = kept b i; seq = c.seq b i; next = c.next b i };
+      open_block = c.open_block i;
+      next_seq = c.next_seq i;
+      next_group = c.next_group i;
+    }
 
 -- the same change, where more is counted
 pub recounts_more : {t u : Table} {f g h k : ℕ → ℕ} → ((b : ℕ) → h b + f b ≡ k b + g b) → Recounts f g t u → Recounts k h t u

@@ -2,7 +2,9 @@ pub mod Finding
 pub mod Counting
 pub mod Changing
 pub mod Looking
+pub mod Appending
 pub mod Passing
 pub mod Sweeping
 pub mod Mapping
 pub mod Indexing
+pub mod Undoing

@@ -86,12 +86,12 @@ module _ (xs : List ObjectEntries) (rises : Rises number xs) (o i : ℕ) (at : I
   room_object t r = subst (λ (z : ObjectEntries). HasRoom t (kept_among z.entries.items) (length z.entries.items)) (sym is) (room_part (λ z. kept_among z.entries.items) (λ z. length z.entries.items) (λ b z. kept_most b z.entries.items) t xs i x at.within r)
 
   module _ (y : ObjectEntries) (same : y.object ≡ o) where
-    look_set_here : (c : ℕ) → look (set xs i y) o c ≡ find_by chunk y.entries.items c
+    pub look_set_here : (c : ℕ) → look (set xs i y) o c ≡ find_by chunk y.entries.items c
     look_set_here c =
         let found : find_by number (set xs i y) o ≡ Some y = grind (arith, nat_tests, find_at_set number xs rises o i at y same o) in
         ap (option_and_then (entry_of c)) found
 
-    look_set_other : (k c : ℕ) → k ≢ o → look (set xs i y) k c ≡ look xs k c
+    pub look_set_other : (k c : ℕ) → k ≢ o → look (set xs i y) k c ≡ look xs k c
     look_set_other k c ne =
         let found : find_by number (set xs i y) k ≡ find_by number xs k = grind (arith, nat_tests, find_at_set number xs rises o i at y same k, ne) in
         ap (option_and_then (entry_of c)) found

@@ -1,7 +1,7 @@
 -- The two maps, from what is told of each key.
-use Rattle.std.proofs.Common.{◌≡◌, ℕ, ◌+◌, ◌<◌, ◌≤◌, ◌^◌, Bool, true, false, Option, Some, None, IsSome, if◌then◌else◌, refl, sym, ap, subst, ◌∙◌, arith, inl, inr}
+use Rattle.std.proofs.Common.{◌≡◌, ◌↔◌, IsTrue, ℕ, ◌+◌, ◌-◌, ◌<◌, ◌≤◌, ◌^◌, Bool, true, false, Option, Some, None, IsSome, if◌then◌else◌, length, refl, sym, ap, subst, ◌∙◌, arith, inl, inr}
 use mathlib.Core.Bool.{false≢true}
-use Rattle.std.proofs.lemmas.Bool.{cases_eq}
+use Rattle.std.proofs.lemmas.Bool.{cases_eq, cases_lt}
 use Rattle.std.specs.Option.{option_map, unwrap_or}
 use Rattle.block_state.specs.Table.{Table}
 use Rattle.chunk_index.specs.declared.form.Place.{Place}
@@ -9,12 +9,13 @@ use Rattle.chunk_index.specs.declared.form.Form.{Form}
 use Rattle.chunk_index.specs.declared.form.Form.TheVariants as forms
 use Rattle.chunk_index.specs.declared.entry.Entry.{Entry}
 use Rattle.chunk_index.specs.declared.index.Index.{Index}
-use Rattle.chunk_index.specs.Entries.{blank, kept_of, present_of, present_by, as_kept, settled, settled_kept, with_form, with_kept}
+use Rattle.chunk_index.specs.Entries.{blank, one_at, kept_among, kept_of, present_of, present_by, as_kept, settled, settled_kept, with_form, with_kept}
 use Rattle.chunk_index.specs.Objects.{look, entry_count, ChangesKey}
 use Rattle.chunk_index.specs.Counts.{Recounts, HasRoom}
 use Rattle.chunk_index.specs.Maps.{kept, kept_in, IsPrepared, StaysPrepared, CountsAgree, SameMaps, Places, Copies, Settles, Retains, written, moved_to}
 use Rattle.chunk_index.specs.Told.{SameTold}
-use Rattle.chunk_index.proofs.Counting.{recounts_more}
+use Rattle.chunk_index.proofs.Counting.{recounts_more, sum_most}
+use Rattle.chunk_index.proofs.Changing.{kept_most}
 
 -- an entry stays an entry
 some_map : (f : Entry → Entry) (m : Option Entry) → IsSome m → IsSome (option_map f m)
@@ -53,6 +54,27 @@ agree_room t x a =
       room = λ b. let same : (t.entry b).kept ≡ kept_in x b = a.counts b in omega (arith, same, size, small);
       within = a.within;
     }
+
+-- and to count one more, where an index has an entry more than is counted
+pub agree_grown : (t : Table) (x y : Index) → CountsAgree t x → entry_count y.objects.items ≡ entry_count x.objects.items + 1 → HasRoom t (one_at None) 1
+agree_grown t x y a more =
+    let size : entry_count y.objects.items ≡ y.size = y.counted in
+    let small : y.size < 2 ^ 32 = y.bounded in
+    record {
+      enough = λ b. omega arith;
+      room = λ b.
+          let same : (t.entry b).kept ≡ kept_in x b = a.counts b in
+          let most : kept_in x b ≤ entry_count x.objects.items = sum_most (λ z. kept_among z.entries.items b) (λ z. length z.entries.items) (λ z. kept_most b z.entries.items) x.objects.items in
+          omega (arith, same, most, more, size, small);
+      within = λ b le. refl;
+    }
+
+-- an index that is not full has room for one entry more
+pub not_full : (full : Bool) (n : ℕ) → (IsTrue full ↔ (2 ^ 32 - 1 ≤ n)) → full ≡ false → n + 1 < 2 ^ 32
+not_full full n says not = elim (cases_lt n (2 ^ 32 - 1)) [
+  | inl lt ↦ omega (arith, lt)
+  | inr ge ↦ absurd (false≢true (sym not ∙ says.1 ge))
+]
 
 -- and they agree again after a change that recounts
 pub agree_after : (t u : Table) (old new : Index) → CountsAgree t old → Recounts (kept_in old) (kept_in new) t u → CountsAgree u new

@@ -22,9 +22,6 @@ pub record Passes (R : ObjectEntries → ObjectEntries → Type 0) (xs ys : List
   pub done : (k : ℕ) (d : ObjectEntries) → k < at → R (get_or xs k d) (get_or ys k d)
   pub rest : (k : ℕ) (d : ObjectEntries) → at ≤ k → get_or ys k d ≡ get_or xs k d
 
-pub passes_none : (R : ObjectEntries → ObjectEntries → Type 0) (xs : List ObjectEntries) → Passes R xs xs 0
-passes_none R xs = record { count = refl; done = λ k d lt. absurd (omega (arith, lt)); rest = λ k d le. refl }
-
 pub passes_more : {R : ObjectEntries → ObjectEntries → Type 0} {xs ys : List ObjectEntries} {at : ℕ} → Passes R xs ys at → at < length xs → (x y : ObjectEntries) → x ≡ get_or ys at x → R x y → Passes R xs (set ys at y) (at + 1)
 passes_more {R} {xs} {ys} {at} p lt x y is b =
     let within : at < length ys = omega (arith, lt, p.count) in
@@ -57,12 +54,12 @@ follows_here xs rises first fits i lt x is c n buffered =
     let told : look xs x.object c ≡ find_by chunk x.entries.items c = look_read xs rises x.object i (stands xs i lt x is) x is c in
     fits x.object c n (ap present_of told ∙ buffered)
 
-look_cons_here : (x : ObjectEntries) (xs : List ObjectEntries) (o c : ℕ) → x.object ≡ o → look (x ∷ xs) o c ≡ find_by chunk x.entries.items c
+pub look_cons_here : (x : ObjectEntries) (xs : List ObjectEntries) (o c : ℕ) → x.object ≡ o → look (x ∷ xs) o c ≡ find_by chunk x.entries.items c
 look_cons_here x xs o c e =
     let found : find_by number (x ∷ xs) o ≡ Some x = grind (arith, nat_tests, e) in
     ap (option_and_then (entry_of c)) found
 
-look_cons_other : (x : ObjectEntries) (xs : List ObjectEntries) (o c : ℕ) → x.object ≢ o → look (x ∷ xs) o c ≡ look xs o c
+pub look_cons_other : (x : ObjectEntries) (xs : List ObjectEntries) (o c : ℕ) → x.object ≢ o → look (x ∷ xs) o c ≡ look xs o c
 look_cons_other x xs o c ne =
     let found : find_by number (x ∷ xs) o ≡ find_by number xs o = grind (arith, nat_tests, ne) in
     ap (option_and_then (entry_of c)) found
@@ -138,11 +135,11 @@ empty_items : (es : List Entry) → not (is_nil es) ≡ false → es ≡ []
 empty_items [] is = refl
 empty_items (e ∷ es) is = absurd (false≢true (sym is))
 
-rises_tail : (x : ObjectEntries) (xs : List ObjectEntries) → Rises number (x ∷ xs) → Rises number xs
+pub rises_tail : (x : ObjectEntries) (xs : List ObjectEntries) → Rises number (x ∷ xs) → Rises number xs
 rises_tail x xs rises i j d lt within = rises (suc i) (suc j) d (omega (arith, lt)) (omega (arith, within))
 
 -- an object comes once
-once : (x : ObjectEntries) (xs : List ObjectEntries) → Rises number (x ∷ xs) → (c : ℕ) → look xs x.object c ≡ None
+pub once : (x : ObjectEntries) (xs : List ObjectEntries) → Rises number (x ∷ xs) → (c : ℕ) → look xs x.object c ≡ None
 once x xs rises c = ap (option_and_then (entry_of c)) (find_absent number xs x.object (λ j d lt same. let above : number x < number (get_or xs j d) = rises 0 (suc j) d (omega arith) (omega (arith, lt)) in omega (arith, above, same)))
 
 -- without the objects that have no entries the same is told of each key

@@ -1,5 +1,5 @@
 -- What the entries of an index tell.
-use Rattle.std.specs.Prelude.{◌≡◌, ◌≢◌, ◌<◌, ◌^◌, ℕ, ◌+◌, List, length, if◌then◌else◌, ◌==◌, Option, Some, None, Bool}
+use Rattle.std.specs.Prelude.{◌≡◌, ◌≢◌, ◌<◌, ◌^◌, ℕ, ◌+◌, List, length, if◌then◌else◌, ◌==◌, Option, Some, None, IsSome, Bool}
 use Rattle.std.specs.Option.{option_map, option_map_or, option_and_then, unwrap_or}
 use Rattle.std.specs.List.{sum_by}
 use Rattle.chunk_index.specs.Lists.{find_by}
@@ -48,6 +48,10 @@ settled block first e = record e { kept = settled_kept block first e.kept e.form
 abbrev pub blank : ℕ → Entry
 blank c = record { chunk = c; kept = None; form = forms.Same }
 
+-- the entry of a chunk that is kept at a place, and present there
+abbrev pub kept_at : ℕ → Place → Entry
+kept_at c p = record { chunk = c; kept = Some p; form = forms.Same }
+
 -- an entry that stays where it is to be kept, and else tells of nothing
 abbrev pub retained : (ℕ → ℕ → Bool) → ℕ → Entry → Entry
 retained keeps o e = if keeps o e.chunk then e else blank e.chunk
@@ -74,6 +78,17 @@ pub record Prepares (c : ℕ) (grown : Bool) (old new : List Entry) : Type 0 whe
   pub others : (l : ℕ) → l ≢ c → find_by chunk new l ≡ find_by chunk old l
   pub counts : (b : ℕ) → kept_among new b ≡ kept_among old b
   pub count : length new ≡ length old + (if grown then 1 else 0)
+
+-- the chunk comes after each that has an entry
+abbrev pub IsAfter : ℕ → List Entry → Type 0
+IsAfter c es = (l : ℕ) → IsSome (find_by chunk es l) → l < c
+
+-- There is this entry more, and no other chunk's changes.
+pub record Adds (e : Entry) (old new : List Entry) : Type 0 where
+  pub here : find_by chunk new (chunk e) ≡ Some e
+  pub others : (l : ℕ) → l ≢ chunk e → find_by chunk new l ≡ find_by chunk old l
+  pub counts : (b : ℕ) → kept_among new b ≡ kept_among old b + one_at e.kept b
+  pub count : length new ≡ length old + 1
 
 -- The entry of the chunk becomes another, and no other chunk's changes.
 pub record Changes (c : ℕ) (to : Entry → Entry) (old new : List Entry) : Type 0 where

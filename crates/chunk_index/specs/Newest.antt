@@ -4,7 +4,7 @@ use Rattle.flash_tree.specs.declared.place.Found.{Found}
 use Rattle.chunk_index.specs.declared.form.Place.{Place}
 use Rattle.chunk_index.specs.declared.form.Present.TheVariants as presents
 use Rattle.chunk_index.specs.declared.index.Index.{Index}
-use Rattle.chunk_index.specs.Maps.{kept, present, IsPrepared}
+use Rattle.chunk_index.specs.Maps.{kept, present}
 
 -- the place of a page
 abbrev pub place_of : Found → Place
@@ -25,10 +25,6 @@ KeysRise fs = (i j : ℕ) (d : Found) → i < j → j < length fs → Precedes (
 -- each page lies in one of so many blocks
 abbrev pub LieWithin : ℕ → List Found → Type 0
 LieWithin blocks fs = (i : ℕ) (d : Found) → i < length fs → (get_or fs i d).block < blocks
-
--- the keys of the first n pages are prepared
-abbrev pub AllPrepared : List Found → ℕ → Index → Type 0
-AllPrepared fs n x = (i : ℕ) (d : Found) → i < n → IsPrepared x (get_or fs i d).tag.object (get_or fs i d).tag.chunk
 
 -- The first n of the pages are kept and present, each at its place, and no key that none of them is of.
 pub record Indexes (fs : List Found) (n : ℕ) (x : Index) : Type 0 where

@@ -1,9 +1,9 @@
 -- The entries of all objects.
-use Rattle.std.specs.Prelude.{◌≡◌, ◌≢◌, ◌⊎◌, ℕ, List, length, map, filter, Bool, Option}
+use Rattle.std.specs.Prelude.{◌≡◌, ◌≢◌, ◌⊎◌, ◌<◌, ◌≤◌, ◌+◌, ℕ, List, length, get_or, map, filter, Bool, Option, Some, IsSome}
 use Rattle.std.specs.Option.{option_map, option_and_then}
 use Rattle.std.specs.List.{sum_by}
 use Rattle.chunk_index.specs.Lists.{find_by}
-use Rattle.chunk_index.specs.Entries.{chunk, kept_among}
+use Rattle.chunk_index.specs.Entries.{chunk, one_at, kept_among}
 use Rattle.chunk_index.specs.declared.entry.Entry.{Entry}
 use Rattle.chunk_index.specs.declared.object.ObjectEntries.{ObjectEntries}
 
@@ -46,3 +46,19 @@ pub record ChangesKey (o c : ℕ) (to : Entry → Entry) (old new : List ObjectE
   pub here : look new o c ≡ option_map to (look old o c)
   pub others : (k l : ℕ) → Differs o c k l → look new k l ≡ look old k l
   pub count : entry_count new ≡ entry_count old
+
+-- no object has a number above o
+abbrev pub NoneAbove : ℕ → List ObjectEntries → Type 0
+NoneAbove o xs = (i : ℕ) (d : ObjectEntries) → i < length xs → number (get_or xs i d) ≤ o
+
+-- The key of chunk c of object o comes after each that has an entry, by the object and then by the chunk.
+pub record ComesAfter (o c : ℕ) (xs : List ObjectEntries) : Type 0 where
+  pub greatest : NoneAbove o xs
+  pub after : (l : ℕ) → IsSome (look xs o l) → l < c
+
+-- An object has this entry more, and no other key's changes.
+pub record AddsKey (o : ℕ) (e : Entry) (old new : List ObjectEntries) : Type 0 where
+  pub here : look new o (chunk e) ≡ Some e
+  pub others : (k l : ℕ) → Differs o (chunk e) k l → look new k l ≡ look old k l
+  pub counts : (b : ℕ) → kept_within new b ≡ kept_within old b + one_at e.kept b
+  pub count : entry_count new ≡ entry_count old + 1

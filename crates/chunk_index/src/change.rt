@@ -22,7 +22,7 @@ fn release(place: Option<Place>, blocks: &mut Blocks)
 }
 
 /// Counts a place as kept.
-fn keep(place: Option<Place>, blocks: &mut Blocks)
+pub fn keep(place: Option<Place>, blocks: &mut Blocks)
     requires within { IfSome place (λ p. p.block < (table blocks.old).geometry.blocks) }
     requires room { HasRoom (table blocks.old) (one_at None) 1 }
     ensures { Recounts (one_at None) (one_at place) (table blocks.old) (table blocks.new) }

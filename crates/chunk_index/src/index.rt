@@ -1,12 +1,13 @@
 // The index.
-ghost use Rattle.std.specs.Prelude.{◌≡◌, ◌<◌, ◌^◌, ℕ, Some, OnOk, OnErr, IfOk, IfErr, IsSome};
+ghost use Rattle.std.specs.Prelude.{◌≡◌, ◌<◌, ◌≤◌, ◌-◌, ◌^◌, ◌↔◌, ℕ, [], length, Some, OnOk, OnErr, IfOk, IfErr, IsSome, IsTrue};
 ghost use Rattle.block_state.specs.Table.{Table};
 ghost use Rattle.block_state.specs.TableOf.{table};
 ghost use Rattle.chunk_index.specs.Lists.{Rises, IsAt, IsGapFor};
-ghost use Rattle.chunk_index.specs.Objects.{number, entry_count, look, ChangesKey};
-ghost use Rattle.chunk_index.specs.Entries.{with_kept};
+ghost use Rattle.chunk_index.specs.Objects.{number, entry_count, look, ChangesKey, AddsKey, NoneAbove, ComesAfter};
+ghost use Rattle.chunk_index.specs.Entries.{with_kept, kept_at};
 ghost use Rattle.chunk_index.specs.Counts.{Recounts};
 
+use crate::change;
 use crate::entry::Entry;
 use crate::form::{Form, Place, Present};
 use crate::keep::KeepKeys;
@@ -38,6 +39,13 @@ impl Index {
     pub fn new(alloc: Global) -> Index
         ensures empty { IsEmpty result }
         ensures agree { (t : Table) → ((b : ℕ) → (t.entry b).kept ≡ 0) → CountsAgree t result }
+    {
+        Index::bare(alloc)
+    }
+
+    /// There is no object.
+    pub(crate) fn bare(alloc: Global) -> Index
+        ensures { result.objects.items ≡ [] }
     {
         Index {
             alloc,
@@ -166,12 +174,19 @@ impl Index {
         }
     }
 
+    /// Whether one entry more would be more than a kept count can tell.
+    fn is_full(&self) -> bool
+        ensures { IsTrue result ↔ (2 ^ 32 - 1 ≤ self.now.size) }
+    {
+        self.size >= MOST_ENTRIES
+    }
+
     /// Sees that a key has an entry; a new one tells of nothing.
-    pub(crate) fn prepare_entry(&mut self, key: Key) -> Result<(), AllocError>
+    fn prepare_entry(&mut self, key: Key) -> Result<(), AllocError>
         ensures same { SameTold self.old self.new }
         ensures prepared { OnOk result (IsPrepared self.new key.object key.chunk) }
     {
-        if self.size >= MOST_ENTRIES {
+        if self.is_full() {
             return Err(AllocError);
         }
         let at = self.prepare_object(key.object)?;
@@ -200,7 +215,7 @@ impl Index {
     }
 
     /// Gives a prepared key another kept place, in its form.
-    pub(crate) fn keep(&mut self, key: Key, place: Place, blocks: &mut Blocks)
+    fn keep(&mut self, key: Key, place: Place, blocks: &mut Blocks)
         requires prepared { IsPrepared self.old key.object key.chunk }
         requires block { place.block < (table blocks.old).geometry.blocks }
         requires agree { CountsAgree (table blocks.old) self.old }
@@ -211,6 +226,75 @@ impl Index {
         match self.search(key.object) {
             Ok(at) => self.objects[at].keep(key.chunk, place, blocks),
             Err(_) => {}
+        }
+    }
+
+    /// Appends an entry for a key that comes after all that are here, kept at a place, and counts it in the block. No
+    /// entry is looked up or moved.
+    pub(crate) fn append(
+        &mut self,
+        key: Key,
+        place: Place,
+        blocks: &mut Blocks,
+    ) -> Result<(), AllocError>
+        requires after { ComesAfter key.object key.chunk self.old.objects.items }
+        requires block { place.block < (table blocks.old).geometry.blocks }
+        requires agree { CountsAgree (table blocks.old) self.old }
+        ensures adds { OnOk result (AddsKey key.object (kept_at key.chunk place) self.old.objects.items self.new.objects.items) }
+        ensures greatest { OnOk result (NoneAbove key.object self.new.objects.items) }
+        ensures agree { CountsAgree (table blocks.new) self.new }
+        ensures counts { Recounts (kept_in self.old) (kept_in self.new) (table blocks.old) (table blocks.new) }
+    {
+        self.append_entry(key, place)?;
+        change::keep(Some(place), blocks);
+        Ok(())
+    }
+
+    /// Appends an entry for a key that comes after all that are here, kept at a place.
+    fn append_entry(&mut self, key: Key, place: Place) -> Result<(), AllocError>
+        requires after { ComesAfter key.object key.chunk self.old.objects.items }
+        ensures adds { OnOk result (AddsKey key.object (kept_at key.chunk place) self.old.objects.items self.new.objects.items) }
+        ensures greatest { OnOk result (NoneAbove key.object self.new.objects.items) }
+        ensures counts { OnErr result ((b : ℕ) → kept_in self.new b ≡ kept_in self.old b) }
+    {
+        if self.is_full() {
+            return Err(AllocError);
+        }
+        let at = self.append_object(key.object)?;
+        self.objects[at].append(Entry {
+            chunk: key.chunk,
+            kept: Some(place),
+            form: Form::Same,
+        })?;
+        self.size += 1;
+        Ok(())
+    }
+
+    /// Sees that an object is the last one, where none is greater, and says where. No key gets or loses an entry.
+    fn append_object(&mut self, object: u64) -> Result<usize, AllocError>
+        requires greatest { NoneAbove object self.old.objects.items }
+        ensures entries { (o c : ℕ) → look self.new.objects.items o c ≡ look self.old.objects.items o c }
+        ensures counts { (b : ℕ) → kept_in self.new b ≡ kept_in self.old b }
+        ensures size { self.new.size ≡ self.old.size }
+        ensures found { IfOk result (IsAt number self.new.objects.items object) }
+        ensures greatest { OnOk result (NoneAbove object self.new.objects.items) }
+    {
+        let count = self.objects.len();
+        if self.ends_with(object) {
+            return Ok(count - 1);
+        }
+        let entries = ObjectEntries::new(self.alloc, object);
+        self.objects.push(entries)?;
+        Ok(count)
+    }
+
+    /// Whether an object is the last one.
+    fn ends_with(&self, object: u64) -> bool
+        ensures { IsTrue result ↔ IsAt number self.now.objects.items object (length self.now.objects.items - 1) }
+    {
+        match self.objects.last() {
+            Some(last) => last.object == object,
+            None => false,
         }
     }
 }

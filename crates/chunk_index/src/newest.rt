@@ -1,22 +1,22 @@
 // The index of what a scan found.
-ghost use Rattle.std.specs.Prelude.{◌≡◌, ◌<◌, ℕ, length, get_or, IfOk, OnOk, OnErr, None};
+ghost use Rattle.std.specs.Prelude.{◌≡◌, ◌<◌, ℕ, [], length, get_or, false, IfOk, OnOk, OnErr, None};
 ghost use Rattle.block_state.specs.TableOf.{table};
 ghost use Rattle.flash_tree.specs.declared.place.Found.{Found};
-ghost use Rattle.chunk_index.specs.Entries.{blank, one_at};
+ghost use Rattle.chunk_index.specs.Entries.{one_at};
 ghost use Rattle.chunk_index.specs.Counts.{Recounts};
 ghost use Rattle.chunk_index.specs.Maps.{kept_in, CountsAgree};
-ghost use Rattle.chunk_index.specs.Newest.{KeysRise, LieWithin, Indexes, AllPrepared};
-ghost use Rattle.chunk_index.specs.Told.{told, SameTold};
+ghost use Rattle.chunk_index.specs.Newest.{KeysRise, LieWithin, Indexes};
 
 use crate::form::Place;
 use crate::index::Index;
+use crate::keep::KeepKeys;
 use block_state::Blocks;
 use flash_tree::{Found, Key};
 use std::alloc::{AllocError, Global};
 
 impl Index {
-    /// The index of the newest pages of a scan: these are kept, and counted in their blocks. Where memory is refused
-    /// the blocks do not change.
+    /// The index of the newest pages of a scan, made in one pass over them: these are kept, and counted in their
+    /// blocks. Where memory is refused the blocks do not change.
     pub fn from_newest(
         alloc: Global,
         newest: &[Found],
@@ -30,31 +30,23 @@ impl Index {
         ensures counts { IfOk result (λ index. Recounts (one_at None) (kept_in index) (table blocks.old) (table blocks.new)) }
         ensures unchanged { OnErr result (table blocks.new ≡ table blocks.old) }
     {
-        let mut index = Index::new(alloc);
-        index.prepare_all(newest)?;
-        index.keep_all(newest, blocks);
-        Ok(index)
-    }
-
-    /// Prepares the key of each page.
-    fn prepare_all(&mut self, newest: &[Found]) -> Result<(), AllocError>
-        ensures same { SameTold self.old self.new }
-        ensures prepared { OnOk result (AllPrepared newest.now (length newest.now) self.new) }
-    {
-        for found in newest {
-            self.prepare_entry(key_of(found))?;
+        let mut index = Index::bare(alloc);
+        match index.append_all(newest, blocks) {
+            Ok(()) => Ok(index),
+            Err(error) => {
+                index.retain(&NoKeys, blocks);
+                Err(error)
+            }
         }
-        Ok(())
     }
 
-    /// Keeps each page, whose key is prepared.
-    fn keep_all(&mut self, newest: &[Found], blocks: &mut Blocks)
+    /// Appends each page to an index without entries. Where memory is refused, some of them are kept and counted.
+    fn append_all(&mut self, newest: &[Found], blocks: &mut Blocks) -> Result<(), AllocError>
         requires rise { KeysRise newest.now }
         requires within { LieWithin (table blocks.old).geometry.blocks newest.now }
-        requires prepared { AllPrepared newest.now (length newest.now) self.old }
-        requires blank { (o c : ℕ) → told self.old o c ≡ blank c }
+        requires bare { self.old.objects.items ≡ [] }
         requires agree { CountsAgree (table blocks.old) self.old }
-        ensures indexes { Indexes newest.now (length newest.now) self.new }
+        ensures indexes { OnOk result (Indexes newest.now (length newest.now) self.new) }
         ensures agree { CountsAgree (table blocks.new) self.new }
         ensures counts { Recounts (kept_in self.old) (kept_in self.new) (table blocks.old) (table blocks.new) }
     {
@@ -63,8 +55,20 @@ impl Index {
                 block: found.block,
                 page: found.page,
             };
-            self.keep(key_of(found), place, blocks);
+            self.append(key_of(found), place, blocks)?;
         }
+        Ok(())
+    }
+}
+
+/// Keeps no key.
+struct NoKeys;
+
+impl KeepKeys for NoKeys {
+    ghost keeps = { λ keep o c. false };
+
+    fn keeps(&self, _key: Key) -> bool {
+        false
     }
 }
 

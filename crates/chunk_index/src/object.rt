@@ -1,8 +1,8 @@
 // The entries of one object.
-ghost use Rattle.std.specs.Prelude.{◌≡◌, ◌<◌, ◌+◌, [], IfOk, IfErr, OnErr, IsSome, Some, length, ℕ};
+ghost use Rattle.std.specs.Prelude.{◌≡◌, ◌<◌, ◌+◌, [], IfOk, IfErr, OnOk, OnErr, IsSome, Some, length, ℕ};
 ghost use Rattle.block_state.specs.TableOf.{table};
 ghost use Rattle.chunk_index.specs.Lists.{Rises, IsAt, IsGapFor, find_by, is_nil};
-ghost use Rattle.chunk_index.specs.Entries.{chunk, kept_among, settled, retained, with_form, with_kept, Prepares, Changes, Follow};
+ghost use Rattle.chunk_index.specs.Entries.{chunk, kept_among, settled, retained, with_form, with_kept, Prepares, Adds, IsAfter, Changes, Follow};
 ghost use Rattle.chunk_index.specs.Counts.{Recounts, HasRoom};
 
 use crate::change;
@@ -72,6 +72,17 @@ impl ObjectEntries {
                 Ok(true)
             }
         }
+    }
+
+    /// Appends an entry, whose chunk comes after each that is here.
+    pub fn append(&mut self, entry: Entry) -> Result<(), AllocError>
+        requires after { IsAfter entry.chunk self.old.entries.items }
+        ensures object { self.new.object ≡ self.old.object }
+        ensures ok { OnOk result (Adds entry self.old.entries.items self.new.entries.items) }
+        ensures err { OnErr result (self.new.entries.items ≡ self.old.entries.items) }
+    {
+        self.entries.push(entry)?;
+        Ok(())
     }
 
     /// Changes the form of a chunk that has an entry.

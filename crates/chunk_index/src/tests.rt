@@ -163,6 +163,7 @@ fn index_of(
     requires second { second.block < (table blocks.old).geometry.blocks }
     requires rise { Precedes first second }
     requires none { (b : ℕ) → ((table blocks.old).entry b).kept ≡ 0 }
+    ensures { (table blocks.new).geometry ≡ (table blocks.old).geometry }
 {
     Index::from_newest(alloc, &[first, second], blocks)
 }
@@ -178,5 +179,20 @@ fn the_newest_pages_are_kept(rt: HostRuntime) -> Result<(), Fail> {
     assert_eq!(&rt; index.present(key(9, 4)), Present::OnFlash(at(7, 5)));
     assert_eq!(&rt; index.kept(key(9, 0)), None);
     assert_eq!(&rt; index.present(key(4, 0)), Present::Absent);
+    Ok(())
+}
+
+/// With its fourth allocation refused, by `--fail-alloc 4`, the first page is counted before the second finds no room.
+#[test]
+fn an_index_is_counted_whole_or_not_at_all(rt: HostRuntime) -> Result<(), Fail> {
+    let alloc = rt.alloc();
+    let mut blocks = Blocks::new(alloc, Geometry::new(512, 32, 8)?)?;
+    let first = found(1, 0, 2, 30);
+    let second = found(9, 4, 7, 5);
+    let expected = match index_of(alloc, first, second, &mut blocks) {
+        Ok(_) => (1, 1),
+        Err(_) => (0, 0),
+    };
+    assert_eq!(&rt; (blocks.entry(2).kept, blocks.entry(7).kept), expected);
     Ok(())
 }

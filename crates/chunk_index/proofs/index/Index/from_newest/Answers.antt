@@ -1,7 +1,6 @@
-use Rattle.std.proofs.Common.{◌∙◌}
-use Rattle.chunk_index.specs.Objects.{look}
-use Rattle.chunk_index.proofs.Indexing.{told_none}
+use Rattle.std.proofs.Common.{refl}
+use Rattle.chunk_index.proofs.Undoing.{undone}
 use Rattle.chunk_index.proofs.index.Index.from_newest.Goals as goal
 
-pub keep_all-requires-clause-blank : goal.keep_all-requires-clause-blank
-keep_all-requires-clause-blank c o k = c.in_ok-prepare_all.ensures.same.told o k ∙ told_none (look c.new-index.result.objects.items o k) k (c.new-index.ensures.empty.unprepared o k)
+pub returns-in-Err-clause-unchanged : goal.returns-in-Err-clause-unchanged
+returns-in-Err-clause-unchanged c = undone _ _ _ c.bare-index.result c.append_all.new.self c.retain.new.self c.bare-index.ensures c.append_all.ensures.counts c.retain.ensures.counts (λ o k. c.retain.ensures.retains.kept_goes o k refl)

@@ -1,9 +1,10 @@
-use Rattle.std.proofs.Common.{◌≡◌, ◌+◌, ap, ◌∙◌, arith, if◌then◌else◌}
+use Rattle.std.proofs.Common.{◌≡◌, ◌+◌, ◌<◌, ◌^◌, ap, subst, sym, ◌∙◌, arith, if◌then◌else◌}
 use Rattle.chunk_index.specs.Objects.{number, entry_count}
 use Rattle.chunk_index.specs.Told.{SameTold}
 use Rattle.chunk_index.specs.declared.index.Index.{Index}
 use Rattle.chunk_index.proofs.Finding.{rises_set}
 use Rattle.chunk_index.proofs.Looking.{Keeps, object_is, keeps_same, keeps_prepared, keeps_after, entries_grown, prepared_set}
+use Rattle.chunk_index.proofs.Mapping.{not_full}
 use Rattle.chunk_index.proofs.index.Index.prepare_entry.Goals as goal
 
 same_told : (old new : Index) → Keeps old.objects.items new.objects.items → SameTold old new
@@ -26,7 +27,7 @@ invariant_of-self-then-grown c =
     record {
       rises = rises_set number _ middle.rises _ _ found _ same;
       counted = entries_grown _ middle.rises _ _ found _ is _ same _ _ c.in_ok-grown.ensures.ok ∙ ap (λ b. entry_count middle.objects.items + (if b then 1 else 0)) c.if-grown.true ∙ ap (λ n. n + 1) middle.counted;
-      bounded = omega (arith, c.if-self-ge-MOST_ENTRIES.false, c.args.self.now.bounded, c.prepare_object.ensures.size);
+      bounded = subst (λ n. n + 1 < 2 ^ 32) (sym c.prepare_object.ensures.size) (not_full _ _ c.is_full.ensures c.if-is_full.false);
     }
 
 pub invariant_of-self-else-grown : goal.invariant_of-self-else-grown

@@ -50,7 +50,7 @@ abbrev pub Takes : Device → Device → ℕ → List ℕ → Tag → Bool → T
 Takes old new b bytes tag true = HasFirstPage new b bytes tag × (new.failures ≡ old.failures) × (new.gone ≡ false)
 Takes old new b bytes tag false = (new.flash.bad b ≡ true) × (new.failures ≡ old.failures + 1)
 
--- the page is the only one, with a number above those of the blocks that failed, each of which was tried with a number of its own from 1 on
+-- the page is the only one, and its number is one more than the count of the blocks that failed before one took it
 pub record StandsFirst (old new : Device) (page : FreshPage) : Type 0 where
   pub alone : old.honest ≡ true → StandsAlone new.flash page.bytes.items (single_tag page.key (1 + (new.failures - old.failures)))
   pub few : new.failures < old.failures + old.geometry.blocks

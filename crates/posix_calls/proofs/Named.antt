@@ -24,13 +24,13 @@ use Rattle.volume_format.specs.Volumes.{IsFlatVolume}
 use Rattle.posix_calls.specs.Checks.{StandsTwice, IsEmptyThere}
 
 -- 1 for the number, 0 for any other
-abbrev is_one : ℕ → ℕ → ℕ
+abbrev pub is_one : ℕ → ℕ → ℕ
 is_one o x = if nat_eq o x then 1 else 0
 
-one_here : (o x : ℕ) → x ≡ o → is_one o x ≡ 1
+pub one_here : (o x : ℕ) → x ≡ o → is_one o x ≡ 1
 one_here o x is = cond-true (nat_eq o x) 1 0 (eq-eqb o x (sym is))
 
-one_not : (o x : ℕ) → x ≢ o → is_one o x ≡ 0
+pub one_not : (o x : ℕ) → x ≢ o → is_one o x ≡ 0
 one_not o x ne = cond-false (nat_eq o x) 1 0 (ne_eqb o x (λ is. ne (sym is)))
 
 -- a number that stands side by side counts twice

@@ -2,17 +2,18 @@
 ghost use Rattle.std.specs.Prelude.{◌≡◌, ◌↔◌, ◌<◌, ◌+◌, ◌^◌, ℕ, true, Some, IsTrue, IfOk, IfErr, OnOk, length, slice_get};
 ghost use Rattle.std.specs.FinMap as map;
 ghost use Rattle.nand_model.specs.Changes.{OnlyReads};
-ghost use Rattle.flash_tree.specs.Mount.{IsVolume, sizes_of};
+ghost use Rattle.flash_tree.specs.Mount.{sizes_of};
 ghost use Rattle.flash_tree.specs.Newest.{HasNewest};
+ghost use Rattle.flash_tree.specs.Tree.{ReadsDir};
 ghost use Rattle.posix_profile.specs.Charge.{fits};
-ghost use Rattle.posix_profile.specs.Sizes.{Sizes};
+ghost use Rattle.posix_profile.specs.Sizes.{Sizes, root_number};
 ghost use Rattle.posix_profile.specs.State.{Objects};
 ghost use Rattle.posix_profile.specs.WellFormed.{IsTree};
 ghost use Rattle.flat_profile.specs.Flat.{IsFlat};
 ghost use Rattle.block_state.specs.TableOf.{table};
 ghost use Rattle.volume_format.specs.Volumes.{IsFlatVolume};
 ghost use Rattle.posix_calls.specs.MountFaults.{IsWant, Says, SaysPlainly};
-ghost use Rattle.posix_calls.specs.Checks.{StandsTwice, IsEmptyThere};
+ghost use Rattle.posix_calls.specs.Checks.{StandsTwice, IsEmptyThere, HasEachNamed};
 
 use crate::fault::{MountFault, of_directory};
 use crate::plan::ROOT;
@@ -86,6 +87,8 @@ fn check_named<N: Nand>(
     ensures table { table store.new.blocks ≡ table store.old.blocks }
     ensures writable { store.new.writable ≡ store.old.writable }
     ensures says { IfErr result (SaysPlainly (N.state store.new.device)) }
+    ensures told { (N.state store.old.device).honest ≡ true → (z : Sizes) → z.page_bytes ≡ (N.state store.old.device).geometry.bytes
+        → OnOk result (HasEachNamed z (N.state store.old.device).flash names.now) }
     ensures want { (N.state store.old.device).honest ≡ true → (spare : ℕ) (objects : Objects)
         → (v : IsFlatVolume (N.state store.old.device).geometry (N.state store.old.device).flash spare objects) → names.now ≡ v.entries
         → IfErr result (IsWant (N.state store.new.device)) }
@@ -107,6 +110,8 @@ fn root_names<N: Nand>(alloc: Global, store: &mut Store<N>) -> Result<NameMap, M
     ensures writable { store.new.writable ≡ store.old.writable }
     ensures few { IfOk result (λ names. map.len names < 2 ^ 32) }
     ensures says { IfErr result (SaysPlainly (N.state store.new.device)) }
+    ensures told { (N.state store.old.device).honest ≡ true → (z : Sizes) → z.page_bytes ≡ (N.state store.old.device).geometry.bytes
+        → IfOk result (λ names. (moment : ℕ) × ReadsDir z (HasNewest (N.state store.old.device).flash) root_number moment names) }
     ensures found { (N.state store.old.device).honest ≡ true → (spare : ℕ) (objects : Objects)
         → (v : IsFlatVolume (N.state store.old.device).geometry (N.state store.old.device).flash spare objects) → IfOk result (λ found. found ≡ v.entries) }
     ensures want { (N.state store.old.device).honest ≡ true → (spare : ℕ) (objects : Objects)
@@ -140,7 +145,7 @@ pub(crate) fn check<N: Nand>(alloc: Global, store: &mut Store<N>) -> Result<u16,
     ensures gone { IfErr result (λ fault. fault ≡ MountFault.Gone → (N.state store.new.device).gone ≡ true) }
     ensures says { (N.state store.old.device).honest ≡ true → IfErr result (Says (N.state store.old.device).flash (N.state store.new.device)) }
     ensures volume { (N.state store.old.device).honest ≡ true
-        → IfOk result (λ spare. IsVolume (N.state store.old.device).geometry (HasNewest (N.state store.old.device).flash) spare) }
+        → IfOk result (λ spare. (objects : Objects) × IsFlatVolume (N.state store.old.device).geometry (N.state store.old.device).flash spare objects) }
     ensures shown { (N.state store.old.device).honest ≡ true → (spare : ℕ) (objects : Objects)
         → IsFlatVolume (N.state store.old.device).geometry (N.state store.old.device).flash spare objects → IfOk result (λ told. told ≡ spare) }
     ensures want { (N.state store.old.device).honest ≡ true → (spare : ℕ) (objects : Objects)

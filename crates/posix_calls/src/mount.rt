@@ -1,8 +1,8 @@
 // The mount of a volume.
 ghost use Rattle.std.specs.Prelude.{◌≡◌, ◌⊎◌, ◌↔◌, ◌<◌, ◌≤◌, ◌^◌, ℕ, true, false, IsTrue, IfOk, IfErr};
 ghost use Rattle.nand_model.specs.Changes.{OnlyReads};
-ghost use Rattle.flash_tree.specs.Newest.{HasNewest, Numbers, AreAbove, AreGreatest};
-ghost use Rattle.flash_tree.specs.Mount.{IsVolume, bad_blocks};
+ghost use Rattle.flash_tree.specs.Newest.{Numbers, AreAbove, AreGreatest};
+ghost use Rattle.flash_tree.specs.Mount.{bad_blocks};
 ghost use Rattle.flash_tree.specs.Sound.{number_limit};
 ghost use Rattle.posix_profile.specs.State.{Objects};
 ghost use Rattle.volume_format.specs.Volumes.{IsFlatVolume, IsSoundVolume};
@@ -26,7 +26,7 @@ impl<N: Nand> Volume<N> {
         ensures gone { IfErr result (λ back. back.1 ≡ MountFault.Gone → (N.state back.0).gone ≡ true) }
         ensures says { (N.state device).honest ≡ true → IfErr result (λ back. Says (N.state device).flash (N.state back.0) back.1) }
         ensures stopped { IfOk result (λ volume. volume.stopped ≡ false) }
-        ensures volume { (N.state device).honest ≡ true → IfOk result (λ volume. IsVolume (N.state device).geometry (HasNewest (N.state device).flash) volume.spare) }
+        ensures volume { (N.state device).honest ≡ true → IfOk result (λ volume. (objects : Objects) × IsFlatVolume (N.state device).geometry (N.state device).flash volume.spare objects) }
         ensures read_only { (N.state device).honest ≡ true → (n : Numbers) → AreGreatest (N.state device).flash n
             → IfOk result (λ volume. IsTrue volume.read_only ↔ ((volume.spare < bad_blocks (N.state device).geometry (N.state device).flash) ⊎ (2 ^ 62 ≤ n.group) ⊎ (2 ^ 62 ≤ n.seq))) }
         ensures shown { (N.state device).honest ≡ true → (spare : ℕ) (objects : Objects) → IsFlatVolume (N.state device).geometry (N.state device).flash spare objects

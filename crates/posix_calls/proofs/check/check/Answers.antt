@@ -1,14 +1,21 @@
-use Rattle.std.proofs.Common.{◌≡◌, ◌∙◌, true, false, sym, subst}
+use Rattle.std.proofs.Common.{ap, ℕ, ◌≡◌, ◌∙◌, true, false, sym, subst}
 use Rattle.std.proofs.lemmas.Result.{err_from_is_err_and}
 use Rattle.nand_model.specs.Calls.{Device}
 use Rattle.nand_model.specs.ChangeLaws.{only_reads_on}
+use Rattle.nand_model.specs.Flash.{Flash}
 use Rattle.nand_model.specs.declared.geometry.Geometry.{Geometry}
 use Rattle.flash_tree.specs.Mount.{sizes_of}
+use Rattle.flash_tree.specs.Newest.{HasNewest}
+use Rattle.flash_tree.specs.PlaceLaws.{same_flash}
+use Rattle.flash_tree.specs.Tree.{ReadsDir}
 use Rattle.flat_profile.specs.Flat.{IsFlat}
 use Rattle.posix_profile.specs.Charge.{fits}
-use Rattle.posix_profile.specs.State.{Entries}
+use Rattle.posix_profile.specs.Sizes.{root_number}
+use Rattle.posix_profile.specs.State.{Entries, Objects}
 use Rattle.posix_profile.specs.WellFormed.{IsTree}
+use Rattle.posix_calls.specs.Checks.{HasEachNamed}
 use Rattle.posix_calls.proofs.Making.{volume_stays}
+use Rattle.posix_calls.proofs.Taken.{volume_taken}
 use Rattle.posix_calls.proofs.check.check.Goals as goal
 
 pub returns-in_err-spare-clause-want : goal.returns-in_err-spare-clause-want
@@ -56,3 +63,27 @@ returns-clause-want g c = λ honest spare objects v.
     subst (λ (k : Geometry). fits (sizes_of k c.in_ok-spare.spare) objects ≡ true) (sym geometry) (subst (λ n. fits (sizes_of old.geometry n) objects ≡ true) (sym told) v.room) in
     let two : true ≡ false = sym room ∙ sym (c.has_room.ensures objects v.moment tree flat) ∙ c.if-has_room.false in
     cc
+
+pub returns-then-has_room-clause-volume : goal.returns-then-has_room-clause-volume
+returns-then-has_room-clause-volume g c = λ honest.
+    let old : Device = g.N.Nand.state c.args.store.now.device in
+    let mid : Device = g.N.Nand.state c.root_spare.new.store.device in
+    let late : Device = g.N.Nand.state c.root_names.new.store.device in
+    let end : Device = g.N.Nand.state c.check_named.new.store.device in
+    let spare : ℕ = c.in_ok-spare.spare in
+    let names : Entries = c.in_ok-names.names in
+    let reads = c.root_spare.ensures.reads in
+    let later = only_reads_on old mid late reads c.root_names.ensures.reads in
+    let all = only_reads_on old late end later c.check_named.ensures.reads in
+    let z = sizes_of old.geometry spare in
+    let volume = c.in_ok-spare.ensures.told honest in
+    let size : z.page_bytes ≡ mid.geometry.bytes = sym (ap (λ (k : Geometry). k.bytes) reads.lasts.geometry) in
+    let root = c.in_ok-names.ensures.told (reads.lasts.honest ∙ honest) z size in
+    let r : ReadsDir z (HasNewest old.flash) root_number root.0 names = subst (λ (f : Flash). ReadsDir z (HasNewest f) root_number root.0 names) (same_flash old mid reads honest) root.1 in
+    let size_late : z.page_bytes ≡ late.geometry.bytes = sym (ap (λ (k : Geometry). k.bytes) later.lasts.geometry) in
+    let named = subst (λ (f : Flash). HasEachNamed z f names) (same_flash old late later honest) (c.in_ok-check_named.ensures.told (later.lasts.honest ∙ honest) z size_late) in
+    let geometry : c.geometry.result ≡ old.geometry = c.geometry.ensures ∙ all.lasts.geometry in
+    let room = λ (objects : Objects) (tree : IsTree z objects) (flat : IsFlat objects root.0 names).
+    subst (λ (k : Geometry). fits (sizes_of k spare) objects ≡ true) geometry
+    (sym (c.has_room.ensures objects root.0 (subst (λ (k : Geometry). IsTree (sizes_of k spare) objects) (sym geometry) tree) flat) ∙ c.if-has_room.true) in
+    volume_taken old.geometry old.flash spare volume root.0 names r named.one named.each room

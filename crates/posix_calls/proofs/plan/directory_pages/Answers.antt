@@ -11,7 +11,7 @@ use Rattle.directories.specs.HeadPages.{IsHeadPage}
 use Rattle.posix_calls.specs.Plans.{MakesDirectory}
 use Rattle.posix_calls.proofs.Making.{root_reads, three_apply, directory_made}
 use Rattle.posix_calls.proofs.Numbers.{few_names}
-use Rattle.posix_calls.proofs.Sizes.{sizes_are}
+use Rattle.volume_format.specs.SizesOf.{sizes_are}
 use Rattle.posix_calls.proofs.Telling.{ok_more, told_addition}
 use Rattle.posix_calls.proofs.plan.directory_pages.Goals as goal
 

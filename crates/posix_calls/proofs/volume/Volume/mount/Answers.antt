@@ -2,7 +2,11 @@ use Rattle.std.proofs.Common.{◌≡◌, ◌⊎◌, ◌↔◌, ◌<◌, ◌∙�
 use Rattle.nand_model.specs.Calls.{Device}
 use Rattle.nand_model.specs.ChangeLaws.{only_reads_on}
 use Rattle.nand_model.specs.Changes.{OnlyReads}
+use Rattle.nand_model.specs.Flash.{Flash}
+use Rattle.nand_model.specs.declared.geometry.Geometry.{Geometry}
 use Rattle.flash_tree.specs.Mount.{bad_blocks}
+use Rattle.flash_tree.specs.PlaceLaws.{same_flash}
+use Rattle.volume_format.specs.Volumes.{IsFlatVolume}
 use Rattle.posix_calls.specs.MountFaults.{IsWant}
 use Rattle.posix_calls.proofs.Making.{volume_stays}
 use Rattle.posix_calls.proofs.Mounting.{only_read_where, written_where, bad_stay}
@@ -52,3 +56,13 @@ returns-in-Err-check-clause-want g c = λ honest spare objects v.
     let there = volume_stays old (g.N.Nand.state c.in-Ok.store.device) spare objects opened honest v in
     let want = rw c.in-Err-check.is at (c.check.ensures.want (opened.lasts.honest ∙ honest) spare objects there) in
     subst (λ (d : Device). IsWant d c.in-Err-check.fault) (sym c.into_device.ensures) want
+
+pub returns-in-Ok-check-clause-volume : goal.returns-in-Ok-check-clause-volume
+returns-in-Ok-check-clause-volume g c = λ honest.
+    let old : Device = g.N.Nand.state c.args.device in
+    let opened = rw c.in-Ok.is at c.open.ensures.reads in
+    let mid : Device = g.N.Nand.state c.in-Ok.store.device in
+    let taken = rw c.in-Ok-check.is at (c.check.ensures.volume (opened.lasts.honest ∙ honest)) in
+    let here = subst (λ (k : Geometry). IsFlatVolume k old.flash c.in-Ok-check.spare taken.0) opened.lasts.geometry
+    (subst (λ (f : Flash). IsFlatVolume mid.geometry f c.in-Ok-check.spare taken.0) (same_flash old mid opened honest) taken.1) in
+    (taken.0, subst (λ n. IsFlatVolume old.geometry old.flash n taken.0) (sym c.mounted.ensures.spare) here)

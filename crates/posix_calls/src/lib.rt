@@ -13,3 +13,6 @@ mod volume;
 
 pub use fault::MountFault;
 pub use volume::Volume;
+
+#[cfg(test)]
+mod tests;

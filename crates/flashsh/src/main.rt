@@ -7,6 +7,8 @@
 
 mod program;
 mod serve;
+#[cfg(test)]
+mod tests;
 
 use std::process::ExitCode;
 

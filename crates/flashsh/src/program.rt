@@ -11,7 +11,7 @@ use volume_format::{FormatFault, format};
 
 /// Why the program ended otherwise than well.
 #[derive(Clone, Copy, Debug, PartialEq, Eq)]
-pub enum ProgramFault {
+pub(crate) enum ProgramFault {
     NoMemory,
     BadGeometry,
     Format(FormatFault),
@@ -23,7 +23,7 @@ pub enum ProgramFault {
 
 impl ProgramFault {
     /// The name that is told.
-    pub fn name(self) -> &'static str {
+    pub(crate) fn name(self) -> &'static str {
         match self {
             ProgramFault::NoMemory => "NoMemory",
             ProgramFault::BadGeometry => "BadGeometry",
@@ -45,7 +45,7 @@ impl ProgramFault {
     }
 
     /// The status that the program ends with.
-    pub fn status(self) -> u8 {
+    pub(crate) fn status(self) -> u8 {
         match self {
             ProgramFault::Shell(_) => 4,
             _ => 2,
@@ -72,7 +72,7 @@ fn new_volume(alloc: Global) -> Result<Volume<MemNand>, ProgramFault> {
 }
 
 /// Answers the lines of the reader in the writer, over a new flash in memory.
-pub fn run<R: BufRead, W: Write>(
+pub(crate) fn run<R: BufRead, W: Write>(
     alloc: Global,
     reader: &mut R,
     writer: &mut W,

@@ -9,8 +9,8 @@ use posix_profile::{Reply, Stamped};
 
 /// A mounted volume behind a shell.
 #[derive(Drop)]
-pub struct ServedVolume<N: Nand> {
-    pub volume: Volume<N>,
+pub(crate) struct ServedVolume<N: Nand> {
+    pub(crate) volume: Volume<N>,
 }
 
 impl<N: Nand> Serve for ServedVolume<N> {

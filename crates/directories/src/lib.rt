@@ -11,7 +11,7 @@ mod page;
 pub use addition::add;
 pub use fault::DirectoryFault;
 pub use head::{DirectoryHead, read_head};
-pub use listing::entries;
+pub use listing::{entries, names};
 pub use lookup::find;
 pub use page::head_page;
 

@@ -20,6 +20,7 @@ use name_map::NameMap;
 use nand_model::Nand;
 use objects::Store;
 use page_tags::{SLOT_BYTES, decode_slot};
+use posix_profile::NameList;
 use std::alloc::Global;
 
 /// Puts the entry that the bytes of a slot say into a map, and tells whether its name was new.
@@ -94,4 +95,28 @@ pub fn entries<N: Nand>(
         }
     }
     Ok(entries)
+}
+
+/// The names of a directory, in the order of their bytes.
+pub fn names<N: Nand>(
+    alloc: Global,
+    store: &mut Store<N>,
+    directory: u64,
+) -> Result<NameList, DirectoryFault>
+    ensures reads { OnlyReads (N.state store.old.device) (N.state store.new.device) }
+    ensures table { table store.new.blocks ≡ table store.old.blocks }
+    ensures writable { store.new.writable ≡ store.old.writable }
+    ensures found { (N.state store.old.device).honest ≡ true → (z : Sizes) (moment : ℕ) (entries : Entries)
+        → (r : ReadsDir z (HasNewest (N.state store.old.device).flash) directory moment entries) → z.page_bytes ≡ (N.state store.old.device).geometry.bytes
+        → IfOk result (λ names. names ≡ map.keys entries) }
+    ensures gone { IfErr result (SaysGone (N.state store.new.device)) }
+    ensures fault { (N.state store.old.device).honest ≡ true → (z : Sizes) (moment : ℕ) (entries : Entries)
+        → (r : ReadsDir z (HasNewest (N.state store.old.device).flash) directory moment entries) → z.page_bytes ≡ (N.state store.old.device).geometry.bytes
+        → IfErr result (MayLack (N.state store.new.device)) }
+{
+    let entries = entries(alloc, store, directory)?;
+    match entries.into_names(alloc) {
+        Ok(names) => Ok(names),
+        Err(_) => Err(DirectoryFault::NoMemory),
+    }
 }

@@ -189,6 +189,10 @@ fn names_are_added_and_listed(rt: HostRuntime) -> Result<(), Fail> {
         assert_eq!(rt; found.len(), 4, "{size}");
         assert_eq!(rt; found.get(b"b"), Some(8), "{size}");
         assert_eq!(rt; find(&mut store, 1, b"a"), Ok(Some(10)), "{size}");
+        let Ok(told) = names(alloc, &mut store, 1) else {
+            return Err("the names are not told".into());
+        };
+        assert_eq!(rt; told.as_slice().len(), 4, "{size}");
         let numbers = found.numbers(alloc)?;
         assert_eq!(rt; numbers.as_slice(), [10, 8, 9, 7].as_slice(), "{size}");
     }

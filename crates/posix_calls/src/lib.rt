@@ -12,7 +12,12 @@ mod root;
 mod volume;
 
 pub use fault::MountFault;
+pub use posix_profile::{
+    Access, Bytes, Command, Errno, FilePath, Info, Kind, NameList, OpenFlags, Reply, SpaceInfo,
+    Stamped, Whence,
+};
 pub use volume::Volume;
+pub use volume_format::{FormatFault, format};
 
 #[cfg(test)]
 mod tests;

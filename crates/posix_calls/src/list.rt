@@ -7,7 +7,8 @@ ghost use Rattle.block_state.specs.TableOf.{table};
 ghost use Rattle.volume_format.specs.Volumes.{IsFlatVolume};
 ghost use Rattle.posix_calls.specs.Plans.{IsLack};
 
-use crate::plan::root_entries;
+use crate::plan::{ROOT, errno_of};
+use directories::names;
 use nand_model::Nand;
 use objects::Store;
 use posix_profile::{Errno, NameList};
@@ -25,9 +26,8 @@ pub(crate) fn list<N: Nand>(alloc: Global, store: &mut Store<N>) -> Result<NameL
         → (v : IsFlatVolume (N.state store.old.device).geometry (N.state store.old.device).flash spare objects)
         → IfErr result (IsLack (N.state store.new.device)) }
 {
-    let entries = root_entries(alloc, store)?;
-    match entries.into_names(alloc) {
+    match names(alloc, store, ROOT) {
         Ok(names) => Ok(names),
-        Err(_) => Err(Errno::ENOMEM),
+        Err(fault) => Err(errno_of(fault)),
     }
 }

@@ -28,7 +28,7 @@ use transactions::FreshPage;
 pub(crate) const ROOT: u64 = 1;
 
 /// What a fault of a directory is told as.
-fn errno_of(fault: DirectoryFault) -> Errno
+pub(crate) fn errno_of(fault: DirectoryFault) -> Errno
     ensures { result ≡ error_of fault }
 {
     match fault {
@@ -40,7 +40,7 @@ fn errno_of(fault: DirectoryFault) -> Errno
 }
 
 /// The names in the root.
-pub(crate) fn root_entries<N: Nand>(alloc: Global, store: &mut Store<N>) -> Result<NameMap, Errno>
+fn root_entries<N: Nand>(alloc: Global, store: &mut Store<N>) -> Result<NameMap, Errno>
     ensures reads { OnlyReads (N.state store.old.device) (N.state store.new.device) }
     ensures table { table store.new.blocks ≡ table store.old.blocks }
     ensures writable { store.new.writable ≡ store.old.writable }

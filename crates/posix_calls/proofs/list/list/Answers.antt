@@ -1,15 +1,16 @@
-use Rattle.std.proofs.Common.{◌∙◌, ap}
-use Rattle.std.proofs.lemmas.Result.{err_from_is_err_and}
-use Rattle.std.specs.FinMap as map
-use Rattle.posix_profile.specs.State.{Entries}
+use Rattle.std.proofs.Common.{refl}
+use Rattle.flash_tree.specs.Mount.{sizes_of}
+use Rattle.posix_calls.proofs.Making.{root_reads}
+use Rattle.posix_calls.proofs.Telling.{told_lack}
 use Rattle.posix_calls.proofs.list.list.Goals as goal
-
-pub returns-in_err-entries-clause-lack : goal.returns-in_err-entries-clause-lack
-returns-in_err-entries-clause-lack g c = λ honest spare objects v.
-    let p = err_from_is_err_and c.from_residual.result c.from_residual.ensures.1 in
-    rw (p.1, p.2) (c.in_err-entries.ensures.lack honest spare objects v)
 
 pub returns-in-Ok-clause-found : goal.returns-in-Ok-clause-found
 returns-in-Ok-clause-found g c = λ honest spare objects v.
-    let names = rw c.in-Ok.is at c.into_names.ensures in
-    names ∙ ap (λ (m : Entries). map.keys m) (c.in_ok-entries.ensures.found honest spare objects v)
+    let d = g.N.Nand.state c.args.store.now.device in
+    rw c.in-Ok.is at (c.names.ensures.found honest (sizes_of d.geometry spare) v.moment v.entries (root_reads d.geometry d.flash spare objects v) refl)
+
+pub returns-in-Err-clause-lack : goal.returns-in-Err-clause-lack
+returns-in-Err-clause-lack g c = λ honest spare objects v.
+    let d = g.N.Nand.state c.args.store.now.device in
+    let fault = rw c.in-Err.is at (c.names.ensures.fault honest (sizes_of d.geometry spare) v.moment v.entries (root_reads d.geometry d.flash spare objects v) refl) in
+    rw c.errno_of.ensures (told_lack (g.N.Nand.state c.names.new.store.device) c.in-Err.fault fault)

@@ -3,11 +3,11 @@ use Rattle.std.specs.Prelude.{◌≡◌, ◌+◌, ◌≤◌, ℕ, List, [], ◌�
 use Rattle.std.specs.Ordering.{nat_cmp}
 use Rattle.std.specs.Cmp.Lexicographic.{slice_cmp, nat_list_cmp_total}
 use Rattle.std.specs.FinMap as map
-use Rattle.std.proofs.Common.{refl, sym, ◌∙◌, ap, subst}
+use Rattle.std.proofs.Common.{refl, sym, ◌∙◌, ap, subst, inl, inr}
 use Rattle.nand_model.specs.Calls.{Device}
 use Rattle.nand_model.specs.Flash.{Flash}
 use Rattle.nand_model.specs.declared.geometry.Geometry.{Geometry}
-use Rattle.page_tags.specs.Headers.{Fields, IsHeader, header_bytes}
+use Rattle.page_tags.specs.Headers.{Fields, IsHeader, IsFirstFault, header_bytes}
 use Rattle.page_tags.specs.Slots.{Entry}
 use Rattle.page_tags.specs.declared.header.HeaderFault.TheVariants as headers
 use Rattle.posix_profile.specs.Sizes.{Sizes, root_number}
@@ -23,8 +23,8 @@ use Rattle.directories.specs.declared.fault.DirectoryFault.{DirectoryFault}
 use Rattle.directories.specs.declared.fault.DirectoryFault.TheVariants as directory_faults
 use Rattle.directories.specs.declared.head.DirectoryHead.{DirectoryHead}
 use Rattle.posix_calls.specs.Checks.{IsEmptyThere}
-use Rattle.posix_calls.specs.MountFaults.{IsWant, directory_told}
-use Rattle.posix_calls.specs.Roots.{IsRootHead, SpareTold, NoSpareTold}
+use Rattle.posix_calls.specs.MountFaults.{IsWant, SaysPlainly, HasRoot, Says, directory_told}
+use Rattle.posix_calls.specs.Roots.{IsRootHead, SpareTold, NoSpareTold, IsKnown}
 use Rattle.posix_calls.specs.declared.fault.MountFault.{MountFault}
 use Rattle.posix_calls.specs.declared.fault.MountFault.TheVariants as faults
 use Rattle.posix_calls.proofs.Making.{page_size}
@@ -56,6 +56,40 @@ module _ (g : Geometry) (flash : Flash) (page : List ℕ) (len : length page ≡
   root_want now (Err (faults.Newer format)) is =
       header_no_fault (sizes_of g spare) (page_size g) (HasNewest flash) (λ o c xs ys. one_newest flash o c xs ys) root_number v.fields (headers.Newer format) v.has (page, newest, is)
   root_want now (Err faults.Damaged) is = is v.fields root_is
+
+-- what the root's newest page says is said of the flash
+module _ (g : Geometry) (flash : Flash) (page : List ℕ) (len : length page ≡ g.bytes) (newest : HasNewest flash root_number 0 page) where
+  pub root_says : (now : Device) (r : Result ℕ MountFault) → IfErr r (NoSpareTold page g.blocks) → IfErr r (IsKnown page) → IfErr r (Says flash now)
+  root_says now (Ok told) is known = tt
+  root_says now (Err faults.Gone) is known = absurd is
+  root_says now (Err faults.NoMemory) is known = tt
+  root_says now (Err faults.NotAVolume) is known = inr (page, newest, is)
+  root_says now (Err (faults.Newer format)) is known = (page, newest, is)
+  root_says now (Err faults.Damaged) is known = record {
+    there = λ none. elim none [
+      | inl absent ↦ absent page newest
+      | inr magic ↦ known.0 (subst (λ (xs : List ℕ). IsFirstFault xs headers.Magic) (one_newest flash root_number 0 magic.0 page magic.1 newest) magic.2)
+    ];
+    known = λ format newer. known.1 format (subst (λ (xs : List ℕ). IsFirstFault xs (headers.Newer format)) (one_newest flash root_number 0 newer.0 page newer.1 newest) newer.2);
+  }
+
+-- a volume has a root
+pub volume_has_root : (g : Geometry) (flash : Flash) (spare : ℕ) → IsVolume g (HasNewest flash) spare → HasRoot flash
+volume_has_root g flash spare v = record {
+  there = λ none. elim none [
+    | inl absent ↦ absent (header_bytes v.fields) v.has.0
+    | inr magic ↦ header_no_fault (sizes_of g spare) (page_size g) (HasNewest flash) (λ o c xs ys. one_newest flash o c xs ys) root_number v.fields headers.Magic v.has magic
+  ];
+  known = λ format newer. header_no_fault (sizes_of g spare) (page_size g) (HasNewest flash) (λ o c xs ys. one_newest flash o c xs ys) root_number v.fields (headers.Newer format) v.has newer;
+}
+
+-- so what is said plainly is said of it
+pub plainly_said : (g : Geometry) (flash : Flash) (spare : ℕ) → IsVolume g (HasNewest flash) spare → (now : Device) (fault : MountFault) → SaysPlainly now fault → Says flash now fault
+plainly_said g flash spare v now faults.Gone is = is
+plainly_said g flash spare v now faults.NoMemory is = tt
+plainly_said g flash spare v now faults.NotAVolume is = absurd is
+plainly_said g flash spare v now (faults.Newer format) is = absurd is
+plainly_said g flash spare v now faults.Damaged is = volume_has_root g flash spare v
 
 -- ---- directories without entries
 

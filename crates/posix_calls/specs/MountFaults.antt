@@ -1,5 +1,5 @@
 -- Why a flash is no volume.
-use Rattle.std.specs.Prelude.{◌≡◌, true}
+use Rattle.std.specs.Prelude.{◌≡◌, ℕ, true}
 use Rattle.nand_model.specs.Calls.{Device}
 use Rattle.nand_model.specs.Flash.{Flash}
 use Rattle.page_tags.specs.declared.header.HeaderFault.TheVariants as headers
@@ -41,11 +41,16 @@ SaysPlainly now faults.NotAVolume = ⊥
 SaysPlainly now (faults.Newer format) = ⊥
 SaysPlainly now faults.Damaged = Unit {0}
 
--- What a fault says: that the device is gone, that there is no root's header, or that the root's header is of a newer
--- format.
+-- the root's header is there, and neither of another magic nor of a newer format
+pub record HasRoot (flash : Flash) : Type 0 where
+  pub there : IsNoVolume (HasNewest flash) → ⊥
+  pub known : (format : ℕ) → HasHeaderFault (HasNewest flash) root_number (headers.Newer format) → ⊥
+
+-- What a fault says: that the device is gone, that there is no root's header, that it is of a newer format, or that it
+-- is there and something else is amiss.
 abbrev pub Says : Flash → Device → MountFault → Type 0
 Says flash now faults.Gone = now.gone ≡ true
 Says flash now faults.NoMemory = Unit {0}
 Says flash now faults.NotAVolume = IsNoVolume (HasNewest flash)
 Says flash now (faults.Newer format) = HasHeaderFault (HasNewest flash) root_number (headers.Newer format)
-Says flash now faults.Damaged = Unit {0}
+Says flash now faults.Damaged = HasRoot flash

@@ -21,3 +21,11 @@ NoSpareTold page blocks faults.NoMemory = ⊥
 NoSpareTold page blocks faults.NotAVolume = IsFirstFault page headers.Magic
 NoSpareTold page blocks (faults.Newer format) = IsFirstFault page (headers.Newer format)
 NoSpareTold page blocks faults.Damaged = (f : Fields) → IsRootHead page blocks f → ⊥
+
+-- what such a page is where the fault says that it is damaged: neither of another magic nor of a newer format
+abbrev pub IsKnown : List ℕ → MountFault → Type 0
+IsKnown page faults.Gone = Unit {0}
+IsKnown page faults.NoMemory = Unit {0}
+IsKnown page faults.NotAVolume = Unit {0}
+IsKnown page (faults.Newer format) = Unit {0}
+IsKnown page faults.Damaged = (IsFirstFault page headers.Magic → ⊥) × ((format : ℕ) → IsFirstFault page (headers.Newer format) → ⊥)

@@ -8,7 +8,7 @@ ghost use Rattle.flash_tree.specs.Newest.{HasNewest};
 ghost use Rattle.flash_tree.specs.Mount.{IsVolume};
 ghost use Rattle.block_state.specs.TableOf.{table};
 ghost use Rattle.posix_calls.specs.MountFaults.{IsWant, Says};
-ghost use Rattle.posix_calls.specs.Roots.{SpareTold, NoSpareTold};
+ghost use Rattle.posix_calls.specs.Roots.{SpareTold, NoSpareTold, IsKnown};
 
 use crate::fault::MountFault;
 use crate::plan::ROOT;
@@ -23,6 +23,7 @@ fn spare_in(page: &[u8], blocks: u32) -> Result<u16, MountFault>
     requires most { length page.now ≤ 4096 }
     ensures told { IfOk result (SpareTold page.now blocks) }
     ensures fault { IfErr result (NoSpareTold page.now blocks) }
+    ensures known { IfErr result (IsKnown page.now) }
 {
     match decode_header(page) {
         Ok(header) => {

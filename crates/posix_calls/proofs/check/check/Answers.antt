@@ -15,6 +15,7 @@ use Rattle.posix_profile.specs.State.{Entries, Objects}
 use Rattle.posix_profile.specs.WellFormed.{IsTree}
 use Rattle.posix_calls.specs.Checks.{HasEachNamed}
 use Rattle.posix_calls.proofs.Making.{volume_stays}
+use Rattle.posix_calls.proofs.Roots.{plainly_said, volume_has_root}
 use Rattle.posix_calls.proofs.Taken.{volume_taken}
 use Rattle.posix_calls.proofs.check.check.Goals as goal
 
@@ -87,3 +88,22 @@ returns-then-has_room-clause-volume g c = λ honest.
     subst (λ (k : Geometry). fits (sizes_of k spare) objects ≡ true) geometry
     (sym (c.has_room.ensures objects root.0 (subst (λ (k : Geometry). IsTree (sizes_of k spare) objects) (sym geometry) tree) flat) ∙ c.if-has_room.true) in
     volume_taken old.geometry old.flash spare volume root.0 names r named.one named.each room
+
+pub returns-in_err-names-clause-says : goal.returns-in_err-names-clause-says
+returns-in_err-names-clause-says g c = λ honest.
+    let old : Device = g.N.Nand.state c.args.store.now.device in
+    let volume = c.in_ok-spare.ensures.told honest in
+    let p = err_from_is_err_and c.from_residual-in_err-names.result c.from_residual-in_err-names.ensures.1 in
+    rw (p.1, p.2) (plainly_said old.geometry old.flash c.in_ok-spare.spare volume (g.N.Nand.state c.root_names.new.store.device) c.in_err-names.field-0.0 c.in_err-names.ensures.says)
+
+pub returns-in_err-check_named-clause-says : goal.returns-in_err-check_named-clause-says
+returns-in_err-check_named-clause-says g c = λ honest.
+    let old : Device = g.N.Nand.state c.args.store.now.device in
+    let volume = c.in_ok-spare.ensures.told honest in
+    let p = err_from_is_err_and c.from_residual-in_err-check_named.result c.from_residual-in_err-check_named.ensures.1 in
+    rw (p.1, p.2) (plainly_said old.geometry old.flash c.in_ok-spare.spare volume (g.N.Nand.state c.check_named.new.store.device) c.in_err-check_named.field-0.0 c.in_err-check_named.ensures.says)
+
+pub returns-clause-says : goal.returns-clause-says
+returns-clause-says g c = λ honest.
+    let old : Device = g.N.Nand.state c.args.store.now.device in
+    volume_has_root old.geometry old.flash c.in_ok-spare.spare (c.in_ok-spare.ensures.told honest)

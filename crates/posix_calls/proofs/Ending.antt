@@ -152,7 +152,7 @@ module _ (old : Device) (honest : old.honest ≡ true) (spare : ℕ) (objects : 
           let none : NoneToTake old.flash t t.geometry.blocks =
           subst (λ (f : Flash). NoneToTake f t t.geometry.blocks) flash_is (subst (λ (x : Table). NoneToTake mid.flash x x.geometry.blocks) same (why.2 (reads.lasts.honest ∙ honest))) in
           let all : OnlyReads old new = only_reads_on old mid new reads why.1 in
-          inr (inr (inl (refl, ap (λ (o : Outcome). o.reply) step_is, none, all, volume_read new all)))
+          inr (inr (inl (refl, (path, is), ap (λ (o : Outcome). o.reply) step_is, none, all, volume_read new all)))
       directory_failed new writable u count faults.Device can same why left = elim why [
         | inl gone ↦ inr (inr (inr (refl, inl gone, either new left)))
         | inr (inl failed) ↦ inr (inr (inr (refl, inr (inl (omega (arith, failed, reads.lasts.failures))), either new left)))
@@ -160,8 +160,8 @@ module _ (old : Device) (honest : old.honest ≡ true) (spare : ℕ) (objects : 
       ]
       directory_failed new writable u count faults.Worn can same why left = elim why.1 [
         | inl none ↦ let two : true ≡ false = sym can ∙ none in absurd cc
-        | inr (inl group) ↦ inr (inr (inr (refl, inr (inr (inl (subst (λ (x : Table). 2 ^ 62 ≤ x.next_group) same group))), either new left)))
-        | inr (inr seq) ↦ inr (inr (inr (refl, inr (inr (inr (subst (λ (x : Table). 2 ^ 62 ≤ x.next_seq) same seq))), either new left)))
+        | inr (inl group) ↦ inr (inr (inr (refl, inr (inr ((path, is), inl (subst (λ (x : Table). 2 ^ 62 ≤ x.next_group) same group))), either new left)))
+        | inr (inr seq) ↦ inr (inr (inr (refl, inr (inr ((path, is), inr (subst (λ (x : Table). 2 ^ 62 ≤ x.next_seq) same seq))), either new left)))
       ]
 
 -- however a command ends, the flash shows some tree
@@ -169,6 +169,6 @@ pub ends_shown : (spare : ℕ) (old new : Device) (t : Table) (objects : Objects
     → (after : Objects) × IsFlatVolume old.geometry new.flash spare after
 ends_shown spare old new t objects command outcome reply (inl (says, shows)) = (outcome.state.objects, shows)
 ends_shown spare old new t objects command outcome reply (inr (inl (says, takes, reads, shows))) = (objects, shows)
-ends_shown spare old new t objects command outcome reply (inr (inr (inl (says, done, none, reads, shows)))) = (objects, shows)
+ends_shown spare old new t objects command outcome reply (inr (inr (inl (says, writes, done, none, reads, shows)))) = (objects, shows)
 ends_shown spare old new t objects command outcome reply (inr (inr (inr (says, why, inl before)))) = (objects, before)
 ends_shown spare old new t objects command outcome reply (inr (inr (inr (says, why, inr done)))) = (outcome.state.objects, done)

@@ -55,7 +55,7 @@ pub one_run : (spare : ℕ) (read_only : Bool) (old new : Device) (t : Table) (o
 one_run spare read_only old new t objects command reply stopped is (inl (says, shows)) =
     inl (says, (is ∙ ap is_stop says ∙ early_goes (sizes_of old.geometry spare) read_only (closed objects) command, shows))
 one_run spare read_only old new t objects command reply stopped is (inr (inl (says, takes, reads, shows))) = inr (inl (inl (says, takes), (is ∙ ap is_stop says, shows)))
-one_run spare read_only old new t objects command reply stopped is (inr (inr (inl (says, done, none, reads, shows)))) = inr (inl (inr (says, done), (is ∙ ap is_stop says, shows)))
+one_run spare read_only old new t objects command reply stopped is (inr (inr (inl (says, writes, done, none, reads, shows)))) = inr (inl (inr (says, writes, done), (is ∙ ap is_stop says, shows)))
 one_run spare read_only old new t objects command reply stopped is (inr (inr (inr (says, why, either)))) = inr (inr (says, tt, is ∙ ap is_stop says, either))
 
 -- commands that were not begun

@@ -9,11 +9,12 @@ use Rattle.posix_profile.specs.declared.reply.Errno.TheVariants as errors
 use Rattle.posix_profile.specs.declared.reply.Reply.{Reply}
 use Rattle.posix_profile.specs.declared.reply.Reply.TheVariants as replies
 use Rattle.flat_profile.specs.Flat.{early_step, closed}
+use Rattle.posix_calls.specs.Endings.{IsWrite}
 
--- memory was refused to a command that takes some, or there was no erased block for one that would be done
+-- memory was refused to a command that takes some, or there was no erased block for one that writes and would be done
 abbrev pub IsWanting : Stamped → Outcome → Reply → Type 0
 IsWanting command outcome reply =
-    ((reply ≡ replies.Error errors.ENOMEM) × (takes_no_memory command.command ≡ false)) ⊎ ((reply ≡ replies.Error errors.ENOSPC) × (outcome.reply ≡ replies.Done))
+    ((reply ≡ replies.Error errors.ENOMEM) × (takes_no_memory command.command ≡ false)) ⊎ ((reply ≡ replies.Error errors.ENOSPC) × IsWrite command.command × (outcome.reply ≡ replies.Done))
 
 -- The replies to commands in turn, whether they stopped the volume, and what is shown in the end: each command is done
 -- and answered by its step, or it changes nothing for want of memory or of an erased block; or it stops the volume,

@@ -27,10 +27,10 @@ use Rattle.flat_profile.specs.Flat.{IsNamePath, early_step, closed}
 use Rattle.flat_profile.specs.EarlyLaws.{mkdir_there, mkdir_read_only, mkdir_full, mkdir_done}
 use Rattle.flat_profile.specs.MkdirLaws.{mkdir_fits}
 use Rattle.block_state.specs.Table.{Table}
-use Rattle.objects.specs.Changes.{KeepsNewest, HasChange}
-use Rattle.objects.specs.Rooms.{NoneToTake, WhyNot}
-use Rattle.objects.specs.declared.store.StoreFault.{StoreFault}
-use Rattle.objects.specs.declared.store.StoreFault.TheVariants as faults
+use Rattle.flat_store.specs.Changes.{KeepsNewest, HasChange}
+use Rattle.flat_store.specs.Rooms.{NoneToTake, WhyNot}
+use Rattle.flat_store.specs.declared.store.StoreFault.{StoreFault}
+use Rattle.flat_store.specs.declared.store.StoreFault.TheVariants as faults
 use Rattle.transactions.specs.declared.fresh.FreshPage.{FreshPage}
 use Rattle.volume_format.specs.Volumes.{IsFlatVolume}
 use Rattle.posix_calls.specs.Endings.{Ends, EndsWell, store_error}

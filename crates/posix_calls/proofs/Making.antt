@@ -23,10 +23,10 @@ use Rattle.flash_tree.specs.PlaceLaws.{same_flash}
 use Rattle.flash_tree.specs.Tree.{Reads, ReadsDir, Shows}
 use Rattle.flat_profile.specs.MkdirLaws.{IsMade, mkdir_flat, mkdir_fits}
 use Rattle.transactions.specs.declared.fresh.FreshPage.{FreshPage}
-use Rattle.objects.specs.Changes.{IsOf, AreApart, CanApply, HasChange}
-use Rattle.directories.specs.Additions.{ArePagesOf, AddsEntry}
-use Rattle.directories.specs.HeadPages.{IsHeadPage, fields_in}
-use Rattle.directories.specs.declared.head.DirectoryHead.{DirectoryHead}
+use Rattle.flat_store.specs.Changes.{IsOf, AreApart, CanApply, HasChange}
+use Rattle.flat_directories.specs.Additions.{ArePagesOf, AddsEntry}
+use Rattle.flat_directories.specs.HeadPages.{IsHeadPage, fields_in}
+use Rattle.flat_directories.specs.declared.head.DirectoryHead.{DirectoryHead}
 use Rattle.volume_format.specs.Volumes.{IsFlatVolume}
 use Rattle.posix_calls.specs.Plans.{MayMake, with_directory}
 

@@ -18,10 +18,10 @@ use Rattle.flash_tree.specs.Newest.{HasNewest}
 use Rattle.flash_tree.specs.NewestLaws.{one_newest}
 use Rattle.flash_tree.specs.ShownLaws.{found}
 use Rattle.flash_tree.specs.Tree.{HasHeader, ReadsDir}
-use Rattle.directories.specs.Heads.{TellsHead, IsGoneFault, MayLack}
-use Rattle.directories.specs.declared.fault.DirectoryFault.{DirectoryFault}
-use Rattle.directories.specs.declared.fault.DirectoryFault.TheVariants as directory_faults
-use Rattle.directories.specs.declared.head.DirectoryHead.{DirectoryHead}
+use Rattle.flat_directories.specs.Heads.{TellsHead, IsGoneFault, MayLack}
+use Rattle.flat_directories.specs.declared.fault.DirectoryFault.{DirectoryFault}
+use Rattle.flat_directories.specs.declared.fault.DirectoryFault.TheVariants as directory_faults
+use Rattle.flat_directories.specs.declared.head.DirectoryHead.{DirectoryHead}
 use Rattle.posix_calls.specs.Checks.{IsEmptyThere}
 use Rattle.posix_calls.specs.MountFaults.{IsWant, SaysPlainly, HasRoot, Says, directory_told}
 use Rattle.posix_calls.specs.Roots.{IsRootHead, SpareTold, NoSpareTold, IsKnown}

@@ -6,11 +6,11 @@ use Rattle.posix_profile.specs.Sizes.{Sizes}
 use Rattle.posix_profile.specs.State.{Name, Entries, Objects}
 use Rattle.posix_profile.specs.declared.reply.Errno.{Errno}
 use Rattle.posix_profile.specs.declared.reply.Errno.TheVariants as errors
-use Rattle.directories.specs.Heads.{MayLack, MayLackRoom}
-use Rattle.directories.specs.declared.fault.DirectoryFault.{DirectoryFault}
-use Rattle.directories.specs.declared.fault.DirectoryFault.TheVariants as faults
+use Rattle.flat_directories.specs.Heads.{MayLack, MayLackRoom}
+use Rattle.flat_directories.specs.declared.fault.DirectoryFault.{DirectoryFault}
+use Rattle.flat_directories.specs.declared.fault.DirectoryFault.TheVariants as faults
 use Rattle.flash_tree.specs.Mount.{sizes_of}
-use Rattle.objects.specs.declared.change.Change.{Change}
+use Rattle.flat_store.specs.declared.change.Change.{Change}
 use Rattle.posix_calls.specs.Plans.{error_of, IsLack, MayMake, WhyNone, MakesDirectory, IsPlan}
 
 -- want of memory, or of power

@@ -12,9 +12,9 @@ use Rattle.posix_profile.specs.declared.reply.Errno.{Errno}
 use Rattle.posix_profile.specs.declared.reply.Errno.TheVariants as errors
 use Rattle.posix_profile.specs.declared.reply.Reply.{Reply}
 use Rattle.posix_profile.specs.declared.reply.Reply.TheVariants as replies
-use Rattle.objects.specs.Rooms.{NoneToTake}
-use Rattle.objects.specs.declared.store.StoreFault.{StoreFault}
-use Rattle.objects.specs.declared.store.StoreFault.TheVariants as faults
+use Rattle.flat_store.specs.Rooms.{NoneToTake}
+use Rattle.flat_store.specs.declared.store.StoreFault.{StoreFault}
+use Rattle.flat_store.specs.declared.store.StoreFault.TheVariants as faults
 use Rattle.volume_format.specs.Volumes.{IsFlatVolume}
 
 -- a command that writes pages, of which there is one so far

@@ -6,10 +6,10 @@ use Rattle.page_tags.specs.declared.header.HeaderFault.TheVariants as headers
 use Rattle.posix_profile.specs.Sizes.{root_number}
 use Rattle.flash_tree.specs.Newest.{HasNewest}
 use Rattle.flash_tree.specs.Mount.{IsNoVolume, HasHeaderFault}
-use Rattle.objects.specs.declared.open.OpenFault.{OpenFault}
-use Rattle.objects.specs.declared.open.OpenFault.TheVariants as opens
-use Rattle.directories.specs.declared.fault.DirectoryFault.{DirectoryFault}
-use Rattle.directories.specs.declared.fault.DirectoryFault.TheVariants as directories
+use Rattle.flat_store.specs.declared.open.OpenFault.{OpenFault}
+use Rattle.flat_store.specs.declared.open.OpenFault.TheVariants as opens
+use Rattle.flat_directories.specs.declared.fault.DirectoryFault.{DirectoryFault}
+use Rattle.flat_directories.specs.declared.fault.DirectoryFault.TheVariants as directories
 use Rattle.posix_calls.specs.declared.fault.MountFault.{MountFault}
 use Rattle.posix_calls.specs.declared.fault.MountFault.TheVariants as faults
 

@@ -10,11 +10,11 @@ use Rattle.posix_profile.specs.Sizes.{Sizes, capacity, page_slots, root_number}
 use Rattle.posix_profile.specs.State.{Name, Entries, Objects, Dir}
 use Rattle.posix_profile.specs.declared.reply.Errno.{Errno}
 use Rattle.posix_profile.specs.declared.reply.Errno.TheVariants as errors
-use Rattle.directories.specs.declared.fault.DirectoryFault.{DirectoryFault}
-use Rattle.directories.specs.declared.fault.DirectoryFault.TheVariants as directory_faults
+use Rattle.flat_directories.specs.declared.fault.DirectoryFault.{DirectoryFault}
+use Rattle.flat_directories.specs.declared.fault.DirectoryFault.TheVariants as directory_faults
 use Rattle.flash_tree.specs.Mount.{sizes_of}
-use Rattle.objects.specs.Changes.{HasChange}
-use Rattle.objects.specs.declared.change.Change.{Change}
+use Rattle.flat_store.specs.Changes.{HasChange}
+use Rattle.flat_store.specs.declared.change.Change.{Change}
 use Rattle.transactions.specs.declared.fresh.FreshPage.{FreshPage}
 use Rattle.volume_format.specs.Volumes.{IsFlatVolume}
 

@@ -18,11 +18,11 @@ ghost use Rattle.posix_calls.specs.Checks.{StandsTwice, IsEmptyThere, HasEachNam
 use crate::fault::{MountFault, of_directory};
 use crate::plan::ROOT;
 use crate::root::root_spare;
-use directories::{entries, read_head};
+use flat_directories::{entries, read_head};
 use flat_profile::flat_fits;
 use name_map::NameMap;
 use nand_model::{Geometry, Nand};
-use objects::Store;
+use flat_store::Store;
 use std::alloc::Global;
 
 /// Whether a number stands twice side by side.

@@ -2,8 +2,8 @@
 ghost use Rattle.std.specs.Prelude.{◌≡◌};
 ghost use Rattle.posix_calls.specs.MountFaults.{open_told, directory_told};
 
-use directories::DirectoryFault;
-use objects::OpenFault;
+use flat_directories::DirectoryFault;
+use flat_store::OpenFault;
 
 #[derive(Clone, Copy, Debug, PartialEq, Eq)]
 pub enum MountFault {

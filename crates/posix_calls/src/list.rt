@@ -8,9 +8,9 @@ ghost use Rattle.volume_format.specs.Volumes.{IsFlatVolume};
 ghost use Rattle.posix_calls.specs.Plans.{IsLack};
 
 use crate::plan::{ROOT, errno_of};
-use directories::names;
+use flat_directories::names;
 use nand_model::Nand;
-use objects::Store;
+use flat_store::Store;
 use posix_profile::{Errno, NameList};
 use std::alloc::Global;
 

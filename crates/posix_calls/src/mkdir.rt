@@ -15,7 +15,7 @@ ghost use Rattle.posix_calls.specs.Endings.{Ends, reply_of, store_error};
 
 use crate::plan::plan;
 use nand_model::Nand;
-use objects::{Store, StoreFault};
+use flat_store::{Store, StoreFault};
 use posix_profile::Errno;
 use std::alloc::Global;
 

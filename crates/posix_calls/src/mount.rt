@@ -12,7 +12,7 @@ use crate::check::check;
 use crate::fault::{MountFault, of_open};
 use crate::volume::Volume;
 use nand_model::Nand;
-use objects::Store;
+use flat_store::Store;
 use std::alloc::Global;
 use volume_format::bad_count;
 

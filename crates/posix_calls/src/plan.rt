@@ -10,15 +10,15 @@ ghost use Rattle.posix_profile.specs.WellFormed.{IsTree, IsName};
 ghost use Rattle.flat_profile.specs.Flat.{IsFlat};
 ghost use Rattle.flat_profile.specs.LeastFree.{IsLeastFree};
 ghost use Rattle.block_state.specs.TableOf.{table};
-ghost use Rattle.objects.specs.Changes.{CanApply};
+ghost use Rattle.flat_store.specs.Changes.{CanApply};
 ghost use Rattle.volume_format.specs.Volumes.{IsFlatVolume};
 ghost use Rattle.posix_calls.specs.Plans.{error_of, IsLack, MayMake, NumberTold, MakesDirectory, IsPlan};
 
-use directories::{DirectoryFault, DirectoryHead, add, entries, head_page};
+use flat_directories::{DirectoryFault, DirectoryHead, add, entries, head_page};
 use flat_profile::{flat_fits, least_free};
 use name_map::NameMap;
 use nand_model::{Geometry, Nand};
-use objects::{Change, Store};
+use flat_store::{Change, Store};
 use page_tags::Slot;
 use posix_profile::Errno;
 use std::alloc::{AllocError, Global};

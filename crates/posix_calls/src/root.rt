@@ -14,7 +14,7 @@ use crate::fault::MountFault;
 use crate::plan::ROOT;
 use flash_tree::Key;
 use nand_model::Nand;
-use objects::Store;
+use flat_store::Store;
 use page_tags::{HeaderFault, ObjectKind, decode_header};
 
 /// The spare blocks that a page says as the header of a root on so many blocks.

@@ -3,7 +3,7 @@
 use super::*;
 use flash_tree::Key;
 use nand_model::{Fate, Geometry, MemNand};
-use objects::{Change, Store};
+use flat_store::{Change, Store};
 use posix_profile::{Command, Errno, FilePath, Reply, Stamped};
 use std::alloc::Global;
 use std::process::Abort;

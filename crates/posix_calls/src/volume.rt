@@ -19,7 +19,7 @@ use crate::early::{EarlyCommand, early};
 use crate::list::list;
 use crate::mkdir::mkdir;
 use nand_model::Nand;
-use objects::Store;
+use flat_store::Store;
 use posix_profile::{Errno, Reply, Stamped};
 use std::alloc::{AllocError, Global};
 

@@ -24,8 +24,8 @@ use Rattle.flash_tree.specs.Tree.{ReadsDir, Reads}
 use Rattle.flash_tree.specs.Mount.{sizes_of, bad_blocks}
 use Rattle.flash_tree.specs.Sound.{number_limit}
 use Rattle.transactions.specs.declared.fresh.FreshPage.{FreshPage}
-use Rattle.directories.specs.HeadPages.{IsHeadPage, fields_in}
-use Rattle.directories.specs.declared.head.DirectoryHead.{DirectoryHead}
+use Rattle.flat_directories.specs.HeadPages.{IsHeadPage, fields_in}
+use Rattle.flat_directories.specs.declared.head.DirectoryHead.{DirectoryHead}
 use Rattle.volume_format.specs.Volumes.{IsSoundVolume}
 use Rattle.volume_format.specs.SizesOf.{sizes_are}
 use Rattle.volume_format.specs.Formatting.{Keeps, single_tag, StandsAlone, HoldsOnly}

@@ -10,7 +10,7 @@ use crate::clear::clear_all;
 use crate::fault::FormatFault;
 use crate::root::write_first;
 use crate::wear::bad_count;
-use directories::{DirectoryHead, head_page};
+use flat_directories::{DirectoryHead, head_page};
 use nand_model::Nand;
 use std::alloc::Global;
 use transactions::FreshPage;

@@ -3,11 +3,11 @@ use Rattle.nand_model.specs.Calls.{Device}
 use Rattle.nand_model.specs.declared.geometry.Geometry.{Geometry}
 use Rattle.posix_profile.specs.Sizes.{root_number}
 use Rattle.flash_tree.specs.Mount.{sizes_of}
-use Rattle.objects.specs.Changes.{CanApply}
-use Rattle.objects.specs.declared.change.Change.{Change}
+use Rattle.flat_store.specs.Changes.{CanApply}
+use Rattle.flat_store.specs.declared.change.Change.{Change}
 use Rattle.transactions.specs.declared.fresh.FreshPage.{FreshPage}
-use Rattle.directories.specs.Additions.{AddsEntry}
-use Rattle.directories.specs.HeadPages.{IsHeadPage}
+use Rattle.flat_directories.specs.Additions.{AddsEntry}
+use Rattle.flat_directories.specs.HeadPages.{IsHeadPage}
 use Rattle.posix_calls.specs.Plans.{MakesDirectory}
 use Rattle.posix_calls.proofs.Making.{root_reads, three_apply, directory_made}
 use Rattle.posix_calls.proofs.Numbers.{few_names}

@@ -1,6 +1,0 @@
-use Rattle.flash_tree.specs.Places.{numbers_of}
-use Rattle.objects.specs.OpenLaws.{above_below}
-use Rattle.objects.proofs.open.table_for.Goals as goal
-
-pub table_of-requires-clause-below : goal.table_of-requires-clause-below
-table_of-requires-clause-below g c = λ honest. above_below _ (numbers_of c.args.numbers) (c.requires.greatest honest).above

@@ -4,7 +4,7 @@ use Rattle.std.proofs.Common.{refl, sym, ◌∙◌, ap, subst, inl, inr, arith}
 use Rattle.nand_model.specs.Flash.{Flash, Erased, Written}
 use Rattle.page_tags.specs.declared.tag.Tag.{Tag}
 use Rattle.page_tags.specs.Tags.{tag_bytes}
-use Rattle.page_tags.specs.TagLaws.{same_tag}
+use Rattle.page_tags.specs.laws.Tag.{same_tag}
 use Rattle.nand_model.specs.Changes.{Grows}
 use Rattle.flash_tree.specs.Groups.{HasTag, Group, IsPart, IsGroup, AddsGroup, AllThere}
 use Rattle.flash_tree.specs.Newest.{Spot, Holds, IsAfter, HasNewest}

@@ -9,9 +9,10 @@ use Rattle.std.proofs.lemmas.Option.{slice_get-get_or, get_or_from_slice_get, so
 use Rattle.page_tags.specs.Headers.{Fields, IsBytes, is_present, greatest_length as header_greatest}
 use Rattle.page_tags.specs.Slots.{Entry, IsSlot}
 use Rattle.page_tags.specs.declared.header.ObjectKind.TheVariants as kinds
-use Rattle.posix_profile.specs.Sizes.{Sizes, greatest_length}
+use Rattle.volume_terms.specs.Sizes.{Sizes, greatest_length}
 use Rattle.posix_profile.specs.State.{Name, Entries, Object, File, Dir, moment_of}
-use Rattle.posix_profile.specs.WellFormed.{AreBytes, IsName, HasContent}
+use Rattle.posix_profile.specs.WellFormed.{HasContent}
+use Rattle.volume_terms.specs.Names.{AreBytes, IsName}
 use Rattle.flash_tree.specs.Tree.{NewestMap, HasHeader, ByteIs, Reads, ReadsDir}
 use Rattle.flash_tree.specs.Mount.{HasChunks, AreSlots, Leads, Finds}
 use Rattle.flash_tree.specs.FindingExists.{listed}
@@ -24,21 +25,6 @@ at_or xs P each i lt = each i (slice_index xs i) (slice_get-get_or xs i 0 lt)
 -- bytes by place are bytes
 all_bytes : (bytes : List ℕ) → ((i x : ℕ) → slice_get bytes i ≡ Some x → x < 256) → AreBytes bytes
 all_bytes bytes each k d lt = each k _ (slice_get-get_or bytes k d lt)
-
-are_bytes : (bytes : List ℕ) → IsBytes bytes → AreBytes bytes
-are_bytes bytes each = all_bytes bytes (λ i x is. let at = get_or_from_slice_get bytes i x 0 is in let small = each i in omega arith)
-
--- the name of a slot is a name
-name_of_slot : (entry : Entry) → IsSlot entry → IsName entry.name
-name_of_slot entry valid = record {
-  bytes = are_bytes entry.name valid.bytes;
-  some = valid.name.some;
-  few = valid.name.few;
-  no_zero = valid.name.no_zero;
-  no_slash = valid.name.no_slash;
-  not_dot = valid.name.not_dot;
-  not_dot_dot = valid.name.not_dot_dot;
-}
 
 -- the pairs of slots
 abbrev pub slot_pairs : List Entry → List (Name × ℕ)
@@ -114,7 +100,7 @@ module _ (z : Sizes) (m : NewestMap) (sized : (o c : ℕ) (page : List ℕ) → 
           moment = has.1.moment;
           content = λ name object is.
               let slot = entry_slot z m o f.moment (map.from_entries (slot_pairs slots)) r name object is in
-              subst IsName slot.3 (name_of_slot slot.1 (r.each slot.0 slot.1 slot.2).2);
+              subst IsName slot.3 (r.each slot.0 slot.1 slot.2).2.name;
         },
       )
 

@@ -3,15 +3,15 @@ use Rattle.std.specs.Prelude.{◌≡◌, ◌≢◌, ◌⊎◌, ◌<◌, ℕ, zer
 use Rattle.std.specs.Option.{option_map_or}
 use Rattle.std.proofs.Common.{refl, sym, ◌∙◌, ap, subst, inl, inr, arith, length-append}
 use Rattle.std.proofs.lemmas.Bool.{cases_Bool, cases_order}
-use Rattle.page_tags.specs.ByteLaws.{same_or_not}
+use Rattle.volume_terms.specs.laws.List.{same_or_not}
 use Rattle.page_tags.specs.Headers.{Fields, IsHeader, IsBytes, MayBeSet, is_present}
-use Rattle.page_tags.specs.HeaderLaws.{header_or_first_fault}
+use Rattle.page_tags.specs.laws.Header.{header_or_first_fault}
 use Rattle.page_tags.specs.Slots.{Entry}
-use Rattle.page_tags.specs.SlotLaws.{slot_or_none}
+use Rattle.page_tags.specs.laws.Slot.{slot_or_none}
 use Rattle.page_tags.specs.declared.header.HeaderFault.{HeaderFault}
 use Rattle.page_tags.specs.declared.header.ObjectKind.{ObjectKind}
 use Rattle.page_tags.specs.declared.header.ObjectKind.TheVariants as kinds
-use Rattle.posix_profile.specs.Sizes.{Sizes, page_slots}
+use Rattle.volume_terms.specs.Sizes.{Sizes, page_slots}
 use Rattle.posix_profile.specs.State.{Name}
 use Rattle.flash_tree.specs.Tree.{NewestMap, IsSingle, HasHeader, SlotIs}
 use Rattle.flash_tree.specs.TreeLaws.{slice_get_within}

@@ -2,11 +2,11 @@
 use Rattle.std.specs.Prelude.{◌≡◌, ◌⊎◌, ◌<◌, ◌≤◌, ℕ, zero, suc, ◌+◌, List, [], ◌∷◌, length, slice_get, map as list_map, Some}
 use Rattle.std.proofs.Common.{refl, sym, ◌∙◌, ap, subst, inl, inr, arith}
 use Rattle.page_tags.specs.Headers.{Fields, IsHeader, IsHeaderOf, IsFirstFault, header_bytes}
-use Rattle.page_tags.specs.HeaderLaws.{header_or_fault, one_first_fault}
+use Rattle.page_tags.specs.laws.Header.{header_or_fault, one_first_fault}
 use Rattle.page_tags.specs.Slots.{Entry}
 use Rattle.page_tags.specs.declared.header.HeaderFault.{HeaderFault}
 use Rattle.page_tags.specs.declared.header.ObjectKind.TheVariants as kinds
-use Rattle.posix_profile.specs.Sizes.{Sizes}
+use Rattle.volume_terms.specs.Sizes.{Sizes}
 use Rattle.flash_tree.specs.Tree.{NewestMap, IsSingle, HasHeader}
 use Rattle.flash_tree.specs.TreeLaws.{slice_get_within}
 use Rattle.flash_tree.specs.OneTree.{one_header, one_slot, same_lists}

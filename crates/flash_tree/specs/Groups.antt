@@ -1,4 +1,5 @@
 -- Which pages of a flash count.
+-- From: the format: tags, `FORMATS.md`.
 use Rattle.std.specs.Prelude.{◌≡◌, ◌⊎◌, ◌↔◌, ◌<◌, ◌≤◌, ℕ, ◌+◌, false, List}
 use Rattle.nand_model.specs.Flash.{Flash, Written}
 use Rattle.page_tags.specs.declared.tag.Tag.{Tag}

@@ -1,4 +1,5 @@
 -- What a mount answers of a flash.
+-- From: this project.
 use Rattle.std.specs.Prelude.{◌≡◌, ◌≢◌, ◌⊎◌, ◌<◌, ◌≤◌, ℕ, ◌+◌, ◌-◌, true, false, List, [], ◌∷◌, ◌++◌, length, slice_get, map as list_map, count_by, nat_eq, Some, if◌then◌else◌}
 use Rattle.std.specs.List.{list_any, range_with_len}
 use Rattle.nand_model.specs.Flash.{Flash}
@@ -8,7 +9,7 @@ use Rattle.page_tags.specs.Slots.{Entry}
 use Rattle.page_tags.specs.declared.header.HeaderFault.{HeaderFault}
 use Rattle.page_tags.specs.declared.header.HeaderFault.TheVariants as faults
 use Rattle.page_tags.specs.declared.header.ObjectKind.TheVariants as kinds
-use Rattle.posix_profile.specs.Sizes.{Sizes, capacity, root_number}
+use Rattle.volume_terms.specs.Sizes.{Sizes, capacity, root_number}
 use Rattle.posix_profile.specs.State.{Objects}
 use Rattle.posix_profile.specs.Charge.{charge}
 use Rattle.flash_tree.specs.Newest.{Spot, IsNewest, HasNewest}

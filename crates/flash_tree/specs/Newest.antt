@@ -1,4 +1,5 @@
 -- The newest page of a key, and the greatest numbers of a flash.
+-- From: the format: tags; versions and sequence numbers as log-structured flash file systems have them.
 use Rattle.std.specs.Prelude.{◌≡◌, ◌⊎◌, ◌<◌, ◌≤◌, ℕ, ◌+◌, false, List}
 use Rattle.nand_model.specs.Flash.{Flash, Written}
 use Rattle.page_tags.specs.declared.tag.Tag.{Tag}

@@ -5,7 +5,7 @@ use Rattle.std.proofs.lemmas.Bool.{cases_Bool, cases_eq, cases_lt, cases_order}
 use Rattle.nand_model.specs.Flash.{Flash, Page, Erased, Written, Uncorrectable}
 use Rattle.page_tags.specs.declared.tag.Tag.{Tag}
 use Rattle.page_tags.specs.Tags.{tag_bytes}
-use Rattle.page_tags.specs.TagLaws.{same_tag, tag_or_none}
+use Rattle.page_tags.specs.laws.Tag.{same_tag, tag_or_none}
 use Rattle.flash_tree.specs.Groups.{HasTag, Group, IsPart, IsGroup}
 use Rattle.flash_tree.specs.Newest.{Spot, Holds, IsAfter}
 

@@ -5,11 +5,11 @@ use Rattle.std.proofs.lemmas.List.{ext_get_or}
 use Rattle.std.specs.Cmp.{nat_cmp_total}
 use Rattle.std.specs.FinMap as map
 use Rattle.page_tags.specs.Headers.{Fields}
-use Rattle.page_tags.specs.HeaderLaws.{same_fields}
+use Rattle.page_tags.specs.laws.Header.{same_fields}
 use Rattle.page_tags.specs.declared.header.ObjectKind.TheVariants as kinds
 use Rattle.page_tags.specs.Slots.{Entry, slot_bytes}
-use Rattle.page_tags.specs.SlotLaws.{same_slot}
-use Rattle.posix_profile.specs.Sizes.{Sizes, page_slots, root_number}
+use Rattle.page_tags.specs.laws.Slot.{same_slot}
+use Rattle.volume_terms.specs.Sizes.{Sizes, page_slots, root_number}
 use Rattle.posix_profile.specs.State.{Entries, Object, File, Dir, Objects}
 use Rattle.posix_profile.specs.Names.{Names, Reached, root, below}
 use Rattle.flash_tree.specs.Tree.{NewestMap, IsSingle, HasHeader, ByteIs, SlotIs, Reads, ReadsFile, ReadsDir, Shows}

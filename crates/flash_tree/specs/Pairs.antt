@@ -6,7 +6,7 @@ use Rattle.std.proofs.lemmas.Bool.{cases_Bool, cond-true, cond-false}
 use Rattle.std.specs.Ordering.{eq_by_cmp}
 use Rattle.std.specs.Cmp.{IsTotalOrder}
 use Rattle.std.specs.FinMap as map
-use Rattle.posix_profile.specs.MapLaws.{same_key, eq_same}
+use Rattle.posix_profile.specs.laws.Map.{same_key, eq_same}
 
 module _ {K : Type 0} {R : K → K → Ordering} (order : IsTotalOrder R) (exact : map.IsAntisymmetric R) where
   ne_test : (a b : K) → a ≢ b → eq_by_cmp R a b ≡ false

@@ -1,4 +1,5 @@
 -- Places and tags, as programs have them and as the definitions see them.
+-- From: this project.
 use Rattle.std.specs.Prelude.{◌≡◌, ◌≤◌, ℕ, ◌-◌, Option, Some, None}
 use Rattle.nand_model.specs.Flash.{Flash}
 use Rattle.page_tags.specs.declared.tag.Tag.{Tag}

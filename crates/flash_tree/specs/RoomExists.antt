@@ -10,7 +10,8 @@ use Rattle.page_tags.specs.Headers.{Fields, is_present}
 use Rattle.page_tags.specs.declared.header.HeaderFault.{HeaderFault}
 use Rattle.page_tags.specs.declared.header.ObjectKind.{ObjectKind}
 use Rattle.page_tags.specs.declared.header.ObjectKind.TheVariants as kinds
-use Rattle.posix_profile.specs.Sizes.{Sizes, page_slots, capacity}
+use Rattle.volume_terms.specs.Sizes.{Sizes, page_slots, capacity}
+use Rattle.volume_terms.specs.laws.List.{push_before, push_last}
 use Rattle.posix_profile.specs.State.{Object, Objects}
 use Rattle.posix_profile.specs.Charge.{charge}
 use Rattle.flash_tree.specs.Groups.{HasTag}
@@ -145,15 +146,6 @@ module _ (g : Geometry) (flash : Flash) (within : IsWithin g.pages g.blocks flas
     all : (b : ℕ) → b < n → IsFree g flash z objects b → IsOn bs b
     once : (i j b : ℕ) → slice_get bs i ≡ Some b → slice_get bs j ≡ Some b → i ≡ j
 
-  push_there : (bs : List ℕ) (y i b : ℕ) → slice_get bs i ≡ Some b → slice_get (bs ++ y ∷ []) i ≡ Some b
-  push_there [] y i b is = absurd cc
-  push_there (x ∷ bs) y zero b is = is
-  push_there (x ∷ bs) y (suc i) b is = push_there bs y i b is
-
-  push_last : (bs : List ℕ) (y : ℕ) → slice_get (bs ++ y ∷ []) (length bs) ≡ Some y
-  push_last [] y = refl
-  push_last (x ∷ bs) y = push_last bs y
-
   free_below : (n : ℕ) → (bs : List ℕ) × AreFree n bs
   free_below zero = ([], record { each = λ i b is. absurd cc; all = λ b lt free. absurd (omega arith); once = λ i j b is is'. absurd cc })
   free_below (suc n) = more (free_below n) (free_told n) where
@@ -175,7 +167,7 @@ module _ (g : Geometry) (flash : Flash) (within : IsWithin g.pages g.blocks flas
         ];
         all = λ b lt is_free. elim (cases_eq b n) [
           | inl same ↦ (length bs, push_last bs n ∙ ap Some (sym same))
-          | inr ne ↦ let at = are.all b (omega arith) is_free in (at.0, push_there bs n at.0 b at.1)
+          | inr ne ↦ let at = are.all b (omega arith) is_free in (at.0, push_before bs n at.0 b at.1)
         ];
         once = λ i j b is is'. elim (slice_get_push bs n i b is) [
           | inl there ↦ elim (slice_get_push bs n j b is') [

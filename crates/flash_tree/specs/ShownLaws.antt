@@ -11,10 +11,10 @@ use Rattle.page_tags.specs.Headers.{Fields, MayBeSet, is_present}
 use Rattle.page_tags.specs.Slots.{Entry}
 use Rattle.page_tags.specs.declared.header.ObjectKind.{ObjectKind}
 use Rattle.page_tags.specs.declared.header.ObjectKind.TheVariants as kinds
-use Rattle.posix_profile.specs.Sizes.{Sizes}
+use Rattle.volume_terms.specs.Sizes.{Sizes}
 use Rattle.posix_profile.specs.State.{Name, Entries, Object, File, Dir, Objects}
 use Rattle.posix_profile.specs.Names.{Names}
-use Rattle.posix_profile.specs.MapLaws.{same_key, eq_same}
+use Rattle.posix_profile.specs.laws.Map.{same_key, eq_same}
 use Rattle.flash_tree.specs.Tree.{NewestMap, IsSingle, HasHeader, SlotIs, Reads, ReadsFile, ReadsDir, Shows}
 use Rattle.flash_tree.specs.OneTree.{one_slot}
 use Rattle.flash_tree.specs.Mount.{Wrong, HasChunks, AreSlots, Stops, Leads, Finds, with_new, End, Wrongly, Wholly, GoesThrough, ends, stops, goes, NamesTwice}

@@ -1,15 +1,13 @@
 -- The flashes that a volume is kept on.
+-- From: this project.
 use Rattle.std.specs.Prelude.{◌≤◌, ℕ, ◌-◌, ◌^◌}
 use Rattle.nand_model.specs.Flash.{Flash}
 use Rattle.nand_model.specs.declared.geometry.Geometry.{Geometry}
 use Rattle.posix_profile.specs.State.{Objects}
+use Rattle.volume_terms.specs.Sizes.{number_limit}
 use Rattle.flash_tree.specs.Newest.{HasNewest, AreAbove}
 use Rattle.flash_tree.specs.Tree.{Shows}
 use Rattle.flash_tree.specs.Mount.{sizes_of, IsVolume, HasRoom, bad_blocks}
-
--- the greatest number that a tag may have, with room for more
-abbrev pub number_limit : ℕ
-number_limit = 2 ^ 62 - 1
 
 -- the flash shows this tree of a volume of so many spare blocks; no more blocks than these are bad, there is room to go on, and no number is used up
 pub record IsSound (g : Geometry) (flash : Flash) (spare : ℕ) (objects : Objects) : Type 0 where

@@ -1,10 +1,11 @@
 -- What the newest pages show.
+-- From: the format: headers and slots, `FORMATS.md`.
 use Rattle.std.specs.Prelude.{◌≡◌, ◌⊎◌, ◌<◌, ◌≤◌, ℕ, ◌+◌, ◌*◌, ◌/◌, ◌%◌, true, false, List, length, take, drop, slice_index, slice_get, map as list_map, Some}
 use Rattle.std.specs.FinMap as map
 use Rattle.page_tags.specs.Headers.{Fields, IsHeader, header_bytes, is_present}
 use Rattle.page_tags.specs.declared.header.ObjectKind.TheVariants as kinds
 use Rattle.page_tags.specs.Slots.{Entry, IsSlot, slot_bytes}
-use Rattle.posix_profile.specs.Sizes.{Sizes, page_slots}
+use Rattle.volume_terms.specs.Sizes.{Sizes, page_slots}
 use Rattle.posix_profile.specs.State.{Entries, Object, File, Dir, Objects}
 use Rattle.posix_profile.specs.WellFormed.{IsTree}
 

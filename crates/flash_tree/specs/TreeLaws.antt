@@ -3,7 +3,7 @@ use Rattle.std.specs.Prelude.{◌≡◌, ◌<◌, ℕ, zero, suc, ◌+◌, ◌/�
 use Rattle.std.proofs.Common.{refl, inl, inr, arith}
 use Rattle.std.specs.FinMap as map
 use Rattle.page_tags.specs.Headers.{Fields}
-use Rattle.posix_profile.specs.Sizes.{Sizes, page_slots}
+use Rattle.volume_terms.specs.Sizes.{Sizes, page_slots}
 use Rattle.posix_profile.specs.State.{Entries, Object, File, Dir, Objects}
 use Rattle.flash_tree.specs.Tree.{NewestMap, HasHeader, Reads, ReadsFile, ReadsDir, Shows, LooksUp, KeepsFootprint}
 

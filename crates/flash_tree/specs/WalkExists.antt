@@ -4,7 +4,7 @@ use Rattle.std.specs.List.{list_any}
 use Rattle.std.proofs.Common.{refl, sym, ◌∙◌, ap, subst, inl, inr, arith, eq-eqb}
 use Rattle.std.proofs.lemmas.Bool.{cases_Bool, cases_eq, cases_lt, cond-true, cond-false, ne_eqb}
 use Rattle.page_tags.specs.Headers.{Fields}
-use Rattle.posix_profile.specs.Sizes.{Sizes}
+use Rattle.volume_terms.specs.Sizes.{Sizes}
 use Rattle.flash_tree.specs.Tree.{NewestMap, IsSingle, HasHeader}
 use Rattle.flash_tree.specs.TreeLaws.{slice_get_within}
 use Rattle.flash_tree.specs.Mount.{Finding, Stops, Leads, Finds, with_new, End, Wrongly, Wholly, GoesThrough, ends, stops, goes}

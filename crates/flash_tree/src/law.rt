@@ -3,7 +3,7 @@ ghost use Rattle.std.specs.Prelude.{◌≡◌, ◌≢◌, ◌<◌, ◌≤◌, �
 ghost use Rattle.nand_model.specs.Flash.{Flash, IsWithin, IsSized};
 ghost use Rattle.nand_model.specs.Changes.{Grows, Shrinks};
 ghost use Rattle.page_tags.specs.declared.tag.Tag.{Tag};
-ghost use Rattle.posix_profile.specs.Sizes.{Sizes};
+ghost use Rattle.volume_terms.specs.Sizes.{Sizes};
 ghost use Rattle.posix_profile.specs.State.{Objects};
 ghost use Rattle.flash_tree.specs.Groups.{HasTag, Group, IsCounted, SameGroups, AddsGroup, AllThere};
 ghost use Rattle.flash_tree.specs.Newest.{Spot, Holds, IsAfter, IsNewest, HasNewest, Numbers, AreGreatest};

@@ -16,7 +16,7 @@ use Rattle.flash_tree.specs.Pairs.{at_find}
 use Rattle.flash_tree.specs.Newest.{HasNewest}
 use Rattle.flash_tree.specs.NewestLaws.{one_newest}
 use Rattle.flash_tree.specs.Tree.{ReadsDir, SlotIs}
-use Rattle.posix_profile.specs.Sizes.{Sizes, page_slots}
+use Rattle.volume_terms.specs.Sizes.{Sizes, page_slots}
 use Rattle.posix_profile.specs.State.{Name, Entries}
 use Rattle.flat_store.specs.Changes.{IsOf, AreApart}
 use Rattle.transactions.specs.declared.fresh.FreshPage.{FreshPage}

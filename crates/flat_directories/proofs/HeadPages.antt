@@ -3,7 +3,7 @@ use Rattle.std.specs.Prelude.{◌≡◌, ◌<◌, ◌≤◌, ℕ, zero, suc, ◌
 use Rattle.std.proofs.Common.{refl, sym, ◌∙◌, ap, arith}
 use Rattle.std.proofs.lemmas.List.{length-replicate}
 use Rattle.page_tags.specs.Headers.{IsHeader, is_present}
-use Rattle.page_tags.specs.BitLaws.{absent_past}
+use Rattle.page_tags.specs.laws.Bit.{absent_past}
 use Rattle.page_tags.specs.declared.header.Format.TheVariants as formats
 use Rattle.page_tags.specs.declared.header.ObjectKind.TheVariants as kinds
 use Rattle.flat_directories.specs.HeadPages.{fields_in}

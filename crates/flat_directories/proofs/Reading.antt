@@ -9,7 +9,7 @@ use Rattle.page_tags.specs.Slots.{Entry, IsSlot, slot_bytes}
 use Rattle.flash_tree.specs.Newest.{HasNewest}
 use Rattle.flash_tree.specs.NewestLaws.{one_newest}
 use Rattle.flash_tree.specs.Tree.{ReadsDir, SlotIs}
-use Rattle.posix_profile.specs.Sizes.{Sizes, page_slots}
+use Rattle.volume_terms.specs.Sizes.{Sizes, page_slots}
 use Rattle.posix_profile.specs.State.{Entries}
 use Rattle.flat_directories.specs.Heads.{IsHeadOf, TellsHead, IsGoneFault}
 use Rattle.flat_directories.specs.declared.head.DirectoryHead.{DirectoryHead}

@@ -18,20 +18,11 @@ use Rattle.flash_tree.specs.Pairs.{at_find}
 use Rattle.flash_tree.specs.ShownLaws.{found}
 use Rattle.flash_tree.specs.Tree.{ReadsDir, SlotIs}
 use Rattle.flash_tree.specs.TreeLaws.{slice_get_within}
-use Rattle.posix_profile.specs.Sizes.{Sizes}
+use Rattle.volume_terms.specs.Sizes.{Sizes}
+use Rattle.volume_terms.specs.laws.List.{get_push}
 use Rattle.posix_profile.specs.State.{Name, Entries}
 use Rattle.flat_directories.specs.Heads.{TellsHead}
 use Rattle.flat_directories.specs.declared.head.DirectoryHead.{DirectoryHead}
-
--- the element at a place of a longer list
-pub get_push : {A : Type 0} (xs : List A) (x : A) (i : ℕ) (e : A) → slice_get (xs ++ x ∷ []) i ≡ Some e → ((i < length xs) × (slice_get xs i ≡ Some e)) ⊎ ((i ≡ length xs) × (e ≡ x))
-get_push [] x zero e is = inr (refl, cc)
-get_push [] x (suc i) e is = absurd cc
-get_push (y ∷ ys) x zero e is = inl (omega arith, is)
-get_push (y ∷ ys) x (suc i) e is = elim (get_push ys x i e is) [
-  | inl before ↦ inl (omega (arith, before.0), before.1)
-  | inr last ↦ inr (omega (arith, last.0), last.1)
-]
 
 -- the pairs of a longer list
 pairs_push : (slots : List Entry) (entry : Entry) → slot_pairs (slots ++ entry ∷ []) ≡ slot_pairs slots ++ (entry.name, entry.object) ∷ []

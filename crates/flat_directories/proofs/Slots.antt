@@ -13,7 +13,7 @@ use Rattle.flash_tree.specs.Newest.{HasNewest}
 use Rattle.flash_tree.specs.PlaceLaws.{same_flash}
 use Rattle.flash_tree.specs.ShownLaws.{found}
 use Rattle.flash_tree.specs.Tree.{NewestMap, ReadsDir, SlotIs}
-use Rattle.posix_profile.specs.Sizes.{Sizes}
+use Rattle.volume_terms.specs.Sizes.{Sizes}
 use Rattle.posix_profile.specs.State.{Name, Entries}
 
 module _ (z : Sizes) (m : NewestMap) (o moment : ℕ) (entries : Entries) (r : ReadsDir z m o moment entries) where

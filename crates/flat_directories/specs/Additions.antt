@@ -5,7 +5,7 @@ use Rattle.nand_model.specs.Flash.{Flash}
 use Rattle.page_tags.specs.Slots.{Entry, slot_bytes}
 use Rattle.flash_tree.specs.Newest.{HasNewest}
 use Rattle.flash_tree.specs.Tree.{ReadsDir, SlotIs}
-use Rattle.posix_profile.specs.Sizes.{Sizes, page_slots}
+use Rattle.volume_terms.specs.Sizes.{Sizes, page_slots}
 use Rattle.posix_profile.specs.State.{Entries}
 use Rattle.flat_store.specs.Changes.{IsOf, AreApart}
 use Rattle.transactions.specs.declared.fresh.FreshPage.{FreshPage}

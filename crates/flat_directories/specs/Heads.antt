@@ -6,7 +6,7 @@ use Rattle.page_tags.specs.Headers.{Fields}
 use Rattle.page_tags.specs.declared.header.ObjectKind.TheVariants as kinds
 use Rattle.flash_tree.specs.Newest.{HasNewest}
 use Rattle.flash_tree.specs.Tree.{HasHeader}
-use Rattle.posix_profile.specs.Sizes.{Sizes}
+use Rattle.volume_terms.specs.Sizes.{Sizes}
 use Rattle.flat_directories.specs.declared.fault.DirectoryFault.{DirectoryFault}
 use Rattle.flat_directories.specs.declared.fault.DirectoryFault.TheVariants as faults
 use Rattle.flat_directories.specs.declared.head.DirectoryHead.{DirectoryHead}

@@ -6,7 +6,7 @@ ghost use Rattle.page_tags.specs.SlotEntry.{entry_of};
 ghost use Rattle.page_tags.specs.Slots.{IsSlot};
 ghost use Rattle.flash_tree.specs.Newest.{HasNewest};
 ghost use Rattle.flash_tree.specs.Tree.{ReadsDir};
-ghost use Rattle.posix_profile.specs.Sizes.{Sizes, page_slots};
+ghost use Rattle.volume_terms.specs.Sizes.{Sizes, page_slots};
 ghost use Rattle.posix_profile.specs.State.{Entries};
 ghost use Rattle.block_state.specs.TableOf.{table};
 ghost use Rattle.flat_directories.specs.Additions.{IsSlotPage, IsEntriesPage, ArePagesOf, AddsEntry};

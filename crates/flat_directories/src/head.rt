@@ -5,7 +5,7 @@ ghost use Rattle.page_tags.specs.Headers.{Fields, IsHeaderOf};
 ghost use Rattle.page_tags.specs.declared.header.ObjectKind.TheVariants as kinds;
 ghost use Rattle.flash_tree.specs.Newest.{HasNewest};
 ghost use Rattle.flash_tree.specs.Tree.{ReadsDir};
-ghost use Rattle.posix_profile.specs.Sizes.{Sizes};
+ghost use Rattle.volume_terms.specs.Sizes.{Sizes};
 ghost use Rattle.posix_profile.specs.State.{Entries};
 ghost use Rattle.block_state.specs.TableOf.{table};
 ghost use Rattle.flat_directories.specs.Heads.{IsHeadOf, TellsHead, IsGoneFault, SaysGone};

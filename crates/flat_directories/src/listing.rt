@@ -6,7 +6,7 @@ ghost use Rattle.nand_model.specs.Changes.{OnlyReads};
 ghost use Rattle.page_tags.specs.Slots.{Entry, IsSlot, slot_bytes};
 ghost use Rattle.flash_tree.specs.Newest.{HasNewest};
 ghost use Rattle.flash_tree.specs.Tree.{ReadsDir, SlotIs};
-ghost use Rattle.posix_profile.specs.Sizes.{Sizes};
+ghost use Rattle.volume_terms.specs.Sizes.{Sizes};
 ghost use Rattle.posix_profile.specs.State.{Entries};
 ghost use Rattle.block_state.specs.TableOf.{table};
 ghost use Rattle.flat_directories.specs.Heads.{MayLack, SaysGone};

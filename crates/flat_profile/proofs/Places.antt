@@ -7,7 +7,7 @@ use Rattle.std.specs.List.{list_any}
 use Rattle.std.specs.Ordering.{nat_cmp}
 use Rattle.std.specs.Cmp.{nat_cmp_total, nat_eq_equiv}
 use Rattle.std.specs.FinMap as map
-use Rattle.posix_profile.specs.MapLaws.{Member, any_member, cases_key, get_here, get_there, keys_fit}
+use Rattle.posix_profile.specs.laws.Map.{Member, any_member, cases_key, get_here, get_there, keys_fit}
 use Rattle.flat_profile.specs.LeastFree.{IsLeastFree}
 
 -- a test with its arguments the other way round

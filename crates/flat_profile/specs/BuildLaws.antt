@@ -7,12 +7,12 @@ use Rattle.std.specs.Cmp.{nat_cmp_total}
 use Rattle.std.specs.Cmp.Lexicographic.{nat_list_cmp_total}
 use Rattle.std.specs.FinMap as map
 use Rattle.std.specs.FinMap.Entries.{find}
-use Rattle.posix_profile.specs.Sizes.{Sizes, root_number}
+use Rattle.volume_terms.specs.Sizes.{Sizes, root_number}
 use Rattle.posix_profile.specs.State.{Name, Entries, Object, Dir, Objects}
 use Rattle.posix_profile.specs.Names.{Reached, root, below}
 use Rattle.posix_profile.specs.WellFormed.{IsObject, IsForest, IsTree}
-use Rattle.posix_profile.specs.MapLaws.{Member, same_key, eq_same, get_here, get_there, member_get, get_member}
-use Rattle.posix_profile.specs.NameLaws.{name_same}
+use Rattle.posix_profile.specs.laws.Map.{Member, same_key, eq_same, get_here, get_there, member_get, get_member}
+use Rattle.posix_profile.specs.laws.Name.{name_same}
 use Rattle.flat_profile.specs.Flat.{IsFlat, AreFlatEntries}
 use Rattle.flat_profile.specs.FlatLaws.{no_entry, entry_names, names_entry}
 

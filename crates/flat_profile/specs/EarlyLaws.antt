@@ -3,7 +3,7 @@ use Rattle.std.specs.Prelude.{◌≡◌, ℕ, Bool, true, false, List, [], ◌�
 use Rattle.std.proofs.Common.{refl, ◌∙◌, ap}
 use Rattle.std.proofs.lemmas.Bool.{cond-true, cond-false}
 use Rattle.std.specs.FinMap as map
-use Rattle.posix_profile.specs.Sizes.{Sizes, root_number}
+use Rattle.volume_terms.specs.Sizes.{Sizes, root_number}
 use Rattle.posix_profile.specs.State.{Name, Entries, Dir, Objects, State}
 use Rattle.posix_profile.specs.Charge.{fits}
 use Rattle.posix_profile.specs.Paths.{Place, Named, slash}

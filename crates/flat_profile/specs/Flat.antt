@@ -3,10 +3,10 @@ use Rattle.std.specs.Prelude.{◌≡◌, ◌≢◌, ◌≤◌, ◌<◌, ◌^◌,
 use Rattle.std.specs.List.{list_any, list_all}
 use Rattle.std.specs.Cmp.Lexicographic.{pointwise}
 use Rattle.std.specs.FinMap as map
-use Rattle.posix_profile.specs.Sizes.{Sizes, root_number, name_limit}
+use Rattle.volume_terms.specs.Sizes.{Sizes, root_number, name_limit}
 use Rattle.posix_profile.specs.State.{Name, Entries, Object, Dir, Objects, State}
 use Rattle.posix_profile.specs.Paths.{slash, dot}
-use Rattle.posix_profile.specs.WellFormed.{IsName}
+use Rattle.volume_terms.specs.Names.{IsName}
 use Rattle.posix_profile.specs.Outcomes.{Outcome, refuse}
 use Rattle.posix_profile.specs.Steps.{step}
 use Rattle.posix_profile.specs.declared.command.Command.{Command}

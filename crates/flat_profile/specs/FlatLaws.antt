@@ -7,17 +7,18 @@ use Rattle.std.specs.Ordering.{nat_cmp}
 use Rattle.std.specs.Cmp.{nat_cmp_total}
 use Rattle.std.specs.Cmp.Lexicographic.{slice_cmp, nat_list_cmp_total}
 use Rattle.std.specs.FinMap as map
-use Rattle.posix_profile.specs.Sizes.{Sizes, root_number, page_slots, capacity}
+use Rattle.volume_terms.specs.Sizes.{Sizes, root_number, page_slots, capacity}
 use Rattle.posix_profile.specs.State.{Name, Entries, Object, Dir, Objects}
 use Rattle.posix_profile.specs.Names.{Names, Reached, root, below, settle}
-use Rattle.posix_profile.specs.Charge.{ceiling, cost, charge, fits}
+use Rattle.posix_profile.specs.Charge.{cost, charge, fits}
+use Rattle.volume_terms.specs.Rounding.{ceiling}
 use Rattle.posix_profile.specs.Changes.{new_number}
 use Rattle.posix_profile.specs.WellFormed.{IsTree}
-use Rattle.posix_profile.specs.MapLaws.{get_removed, remove_cases}
-use Rattle.posix_profile.specs.TotalLaws.{total, total_without}
-use Rattle.posix_profile.specs.NameLaws.{name_same}
-use Rattle.posix_profile.specs.NumberLaws.{new_number_is}
-use Rattle.posix_profile.specs.PruneLaws.{prune_same, tree_well_formed}
+use Rattle.posix_profile.specs.laws.Map.{get_removed, remove_cases}
+use Rattle.posix_profile.specs.laws.Total.{total, total_without}
+use Rattle.posix_profile.specs.laws.Name.{name_same}
+use Rattle.posix_profile.specs.laws.Number.{new_number_is}
+use Rattle.posix_profile.specs.laws.Prune.{prune_same, tree_well_formed}
 use Rattle.flat_profile.specs.Flat.{IsFlat, AreFlatEntries, closed}
 use Rattle.flat_profile.specs.MapCounts.{len_without, len_into, total_ones}
 

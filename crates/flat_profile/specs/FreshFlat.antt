@@ -4,10 +4,10 @@ use Rattle.std.proofs.Common.{sym, ◌∙◌, inl, inr}
 use Rattle.std.specs.Ordering.{nat_cmp}
 use Rattle.std.specs.Cmp.{nat_cmp_total}
 use Rattle.std.specs.FinMap as map
-use Rattle.posix_profile.specs.Sizes.{root_number}
+use Rattle.volume_terms.specs.Sizes.{root_number}
 use Rattle.posix_profile.specs.State.{Dir}
-use Rattle.posix_profile.specs.MapLaws.{get_here, insert_cases}
-use Rattle.posix_profile.specs.FreshLaws.{fresh}
+use Rattle.posix_profile.specs.laws.Map.{get_here, insert_cases}
+use Rattle.posix_profile.specs.laws.Fresh.{fresh}
 use Rattle.flat_profile.specs.Flat.{IsFlat}
 
 pub fresh_flat : IsFlat fresh.objects 0 map.empty

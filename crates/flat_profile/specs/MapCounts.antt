@@ -7,8 +7,8 @@ use Rattle.std.specs.declared.cmp.Ordering.{Ordering}
 use Rattle.std.specs.Cmp.{IsTotalOrder}
 use Rattle.std.specs.FinMap as map
 use Rattle.std.specs.FinMap.Entries.{is_sorted, below_all}
-use Rattle.posix_profile.specs.MapLaws.{Member, get_removed, member_get, above_differs, keys_fit, true_of, of_true}
-use Rattle.posix_profile.specs.TotalLaws.{total}
+use Rattle.posix_profile.specs.laws.Map.{Member, get_removed, member_get, above_differs, keys_fit, true_of, of_true}
+use Rattle.posix_profile.specs.laws.Total.{total}
 
 module _ {K X : Type 0} {R : K → K → Ordering} (o : IsTotalOrder R) (same : map.IsAntisymmetric R) where
   -- a map without one of its keys

@@ -6,17 +6,19 @@ use Rattle.std.specs.Ordering.{nat_cmp}
 use Rattle.std.specs.Cmp.{nat_cmp_total}
 use Rattle.std.specs.Cmp.Lexicographic.{slice_cmp, nat_list_cmp_total}
 use Rattle.std.specs.FinMap as map
-use Rattle.posix_profile.specs.Sizes.{Sizes, IsSizes, root_number, page_slots, capacity}
+use Rattle.volume_terms.specs.Sizes.{Sizes, IsSizes, root_number, page_slots, capacity}
 use Rattle.posix_profile.specs.State.{Name, Entries, Object, Dir, Objects, entries_of}
 use Rattle.posix_profile.specs.Names.{root}
-use Rattle.posix_profile.specs.Charge.{ceiling, cost, charge, fits}
+use Rattle.posix_profile.specs.Charge.{cost, charge, fits}
+use Rattle.volume_terms.specs.Rounding.{ceiling}
 use Rattle.posix_profile.specs.Changes.{new_number, with_object}
-use Rattle.posix_profile.specs.WellFormed.{IsObject, IsName, IsTree}
-use Rattle.posix_profile.specs.MapLaws.{get_here, get_there}
-use Rattle.posix_profile.specs.TotalLaws.{total_insert, total_without, total_replace}
-use Rattle.posix_profile.specs.NumberLaws.{new_number_is, new_number_few}
-use Rattle.posix_profile.specs.EntryLaws.{object_added}
-use Rattle.posix_profile.specs.PruneLaws.{tree_well_formed, well_formed_tree}
+use Rattle.posix_profile.specs.WellFormed.{IsObject, IsTree}
+use Rattle.volume_terms.specs.Names.{IsName}
+use Rattle.posix_profile.specs.laws.Map.{get_here, get_there}
+use Rattle.posix_profile.specs.laws.Total.{total_insert, total_without, total_replace}
+use Rattle.posix_profile.specs.laws.Number.{new_number_is, new_number_few}
+use Rattle.posix_profile.specs.laws.Entry.{object_added}
+use Rattle.posix_profile.specs.laws.Prune.{tree_well_formed, well_formed_tree}
 use Rattle.flat_profile.specs.Flat.{IsFlat, closed}
 use Rattle.flat_profile.specs.FlatLaws.{empty_cost, flat_charge}
 

@@ -8,10 +8,10 @@ use Rattle.std.specs.Cmp.{nat_eq_equiv}
 use Rattle.std.specs.Cmp.Lexicographic.{pointwise, bytes_decides}
 use Rattle.std.specs.List.{list_any, list_all, slice_split, onto_first}
 use Rattle.std.specs.FinMap as map
-use Rattle.posix_profile.specs.Sizes.{root_number, name_limit, path_limit}
+use Rattle.volume_terms.specs.Sizes.{root_number, name_limit, path_limit}
 use Rattle.posix_profile.specs.State.{Name, Entries, Object, Objects, is_file, entries_of}
 use Rattle.posix_profile.specs.Paths.{Named, Place, slash, dot, component, parts, path_tests, first_error, arrive, walk_from_root, walk_unless, resolve, ends_in_slash}
-use Rattle.posix_profile.specs.WellFormed.{IsName, AreBytes}
+use Rattle.volume_terms.specs.Names.{IsName, AreBytes}
 use Rattle.posix_profile.specs.declared.reply.Errno.{Errno}
 use Rattle.posix_profile.specs.declared.reply.Errno.TheVariants as errors
 use Rattle.flat_profile.specs.Flat.{IsFlat, IsNamePath, has_name_length, has_name_bytes, is_dots, is_name, is_name_path, is_root_path}

@@ -1,6 +1,6 @@
 -- The sizes of a volume by their numbers.
 use Rattle.std.specs.Prelude.{ℕ}
-use Rattle.posix_profile.specs.Sizes.{Sizes}
+use Rattle.volume_terms.specs.Sizes.{Sizes}
 
 -- the data bytes of a page, the pages of a block, the blocks, and of these the spare ones
 abbrev pub sizes : ℕ → ℕ → ℕ → ℕ → Sizes

@@ -1,7 +1,7 @@
 // The room of a volume of one level.
 ghost use Rattle.std.specs.Prelude.{◌≡◌, ◌≤◌, ◌<◌, ◌+◌, ◌^◌, nat_le};
-ghost use Rattle.posix_profile.specs.Charge.{ceiling};
-ghost use Rattle.posix_profile.specs.Sizes.{page_slots, capacity};
+ghost use Rattle.volume_terms.specs.Rounding.{ceiling};
+ghost use Rattle.volume_terms.specs.Sizes.{page_slots, capacity};
 ghost use Rattle.flat_profile.specs.Room.{sizes};
 
 /// Bytes of an entry in a page.

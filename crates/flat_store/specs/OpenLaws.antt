@@ -3,7 +3,7 @@ use Rattle.std.specs.Prelude.{◌≤◌, ℕ, ◌+◌, ◌^◌}
 use Rattle.std.proofs.Common.{arith}
 use Rattle.nand_model.specs.Flash.{Flash}
 use Rattle.flash_tree.specs.Newest.{Numbers, AreAbove}
-use Rattle.flash_tree.specs.Sound.{number_limit}
+use Rattle.volume_terms.specs.Sizes.{number_limit}
 use Rattle.transactions.specs.Ready.{AreBelow}
 
 -- all tags are below the numbers after the greatest

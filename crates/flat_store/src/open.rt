@@ -3,7 +3,7 @@ ghost use Rattle.std.specs.Prelude.{◌≡◌, ◌↔◌, ◌<◌, ◌^◌, leng
 ghost use Rattle.nand_model.specs.Changes.{OnlyReads};
 ghost use Rattle.flash_tree.specs.Newest.{Numbers, AreAbove, AreGreatest};
 ghost use Rattle.flash_tree.specs.Places.{numbers_of};
-ghost use Rattle.flash_tree.specs.Sound.{number_limit};
+ghost use Rattle.volume_terms.specs.Sizes.{number_limit};
 ghost use Rattle.block_state.specs.TableOf.{table};
 ghost use Rattle.transactions.specs.Ready.{IsReady};
 

@@ -3,7 +3,7 @@ ghost use Rattle.std.specs.Prelude.{◌≡◌, ◌⊎◌, ◌↔◌, ◌<◌, �
 ghost use Rattle.nand_model.specs.Calls.{Lasts};
 ghost use Rattle.nand_model.specs.Changes.{OnlyReads};
 ghost use Rattle.flash_tree.specs.Newest.{HasNewest, AreAbove};
-ghost use Rattle.flash_tree.specs.Sound.{number_limit};
+ghost use Rattle.volume_terms.specs.Sizes.{number_limit};
 ghost use Rattle.block_state.specs.TableOf.{table};
 ghost use Rattle.transactions.specs.Ready.{IsReady};
 ghost use Rattle.flat_store.specs.Changes.{CanApply, KeepsNewest, HasChange};

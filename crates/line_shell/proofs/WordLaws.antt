@@ -6,7 +6,7 @@ use Rattle.std.proofs.lemmas.List.Elements.{All-cons, All-append, All-head, All-
 use Rattle.std.proofs.lemmas.List.Splits.{slice_split_none}
 use Rattle.std.specs.Char.{digit_value}
 use Rattle.std.specs.Fmt.{digit_glyph}
-use Rattle.posix_profile.specs.WellFormed.{AreBytes}
+use Rattle.volume_terms.specs.Names.{AreBytes}
 use Rattle.line_shell.specs.Replies.{newline}
 use Rattle.line_shell.specs.Words.{space, backslash, letter_x, letter_e, words, onto, byte_of_digits, unescaped, spelled_byte, spelled}
 use Rattle.line_shell.proofs.Words.{reads_plain, reads_short, reads_digits, some_words}

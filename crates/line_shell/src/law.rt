@@ -2,7 +2,7 @@
 ghost use Rattle.std.specs.Prelude.{◌≡◌, ◌∷◌, [], ℕ, List, Some, Contains};
 ghost use Rattle.std.specs.List.{concat};
 ghost use Rattle.std.specs.Str.Lines.{lines};
-ghost use Rattle.posix_profile.specs.WellFormed.{AreBytes};
+ghost use Rattle.volume_terms.specs.Names.{AreBytes};
 ghost use Rattle.line_shell.specs.Lines.{whole_lines, lines_of};
 ghost use Rattle.line_shell.specs.Replies.{newline};
 ghost use Rattle.line_shell.specs.Words.{words, unescaped, spelled};

@@ -11,9 +11,9 @@ use Rattle.page_tags.specs.declared.header.ObjectKind.{ObjectKind}
 use Rattle.page_tags.specs.declared.header.HeaderFault.{HeaderFault}
 use Rattle.page_tags.specs.declared.header.HeaderFault.TheVariants as faults
 use Rattle.page_tags.specs.Headers.{Fields, IsBytes, IsFirstFault, IsHeaderOf, format_number, kind_number, HasFault, is_present, magic, length_in, moment_in}
-use Rattle.page_tags.specs.ByteLaws.{zeros_from_each, each_from_zeros}
+use Rattle.page_tags.specs.laws.Byte.{zeros_from_each, each_from_zeros}
 use Rattle.page_tags.specs.HeaderParts.{HasPast, IsSound, fields_in, last_chunk}
-use Rattle.page_tags.specs.HeaderLaws.{header_from_sound, header_or_fault, may_be_set, pad_from_past, same_format, same_kind}
+use Rattle.page_tags.specs.laws.Header.{header_from_sound, header_or_fault, may_be_set, pad_from_past, same_format, same_kind}
 
 -- a format that does not allow the moment is the first one
 dated_in_one : (page : List ℕ) (format : Format) → get_or page 4 0 ≡ format_number format → ¬ (format ≡ formats.One → moment_in page ≡ 0) → HasFault page faults.Pad

@@ -1,13 +1,7 @@
 pub mod Tags
-pub mod TagLaws
 pub mod Headers
 pub mod HeaderFields
 pub mod HeaderParts
-pub mod HeaderLaws
-pub mod Names
-pub mod NameLaws
 pub mod Slots
 pub mod SlotEntry
-pub mod SlotLaws
-pub mod ByteLaws
-pub mod BitLaws
+pub mod laws

@@ -1,8 +1,7 @@
 -- A slot of a directory: a name and the object that it leads to.
 use Rattle.std.specs.Prelude.{◌<◌, ◌≤◌, ℕ, ◌-◌, ◌^◌, List, ◌++◌, length, replicate}
 use Rattle.byteorder.specs.Endian.{little_bytes}
-use Rattle.page_tags.specs.Headers.{IsBytes}
-use Rattle.page_tags.specs.Names.{IsName}
+use Rattle.volume_terms.specs.Names.{IsName}
 
 -- what a slot says
 pub record Entry : Type 0 where
@@ -17,4 +16,3 @@ slot_bytes s = little_bytes 8 s.object ++ little_bytes 2 (length s.name) ++ s.na
 pub record IsSlot (s : Entry) : Type 0 where
   pub object : (2 ≤ s.object) × (s.object < 2 ^ 64)
   pub name : IsName s.name
-  pub bytes : IsBytes s.name

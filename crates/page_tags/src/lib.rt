@@ -3,7 +3,6 @@
 
 mod header;
 mod law;
-mod name;
 mod numbers;
 mod presence;
 mod slot;
@@ -15,7 +14,6 @@ pub use law::{
     each_page_is_a_header_or_has_a_fault, each_slot_is_one_or_none, each_tag_is_one_or_none,
     headers_differ, slots_differ, tags_differ,
 };
-pub use name::is_name;
 pub use presence::{is_present, set_present};
 pub use slot::{SLOT_BYTES, Slot, decode_slot, encode_slot};
 pub use tag::Tag;

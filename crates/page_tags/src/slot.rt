@@ -5,10 +5,10 @@ ghost use Rattle.byteorder.specs.Endian.{little_bytes};
 ghost use Rattle.page_tags.specs.SlotEntry.{entry_of};
 ghost use Rattle.page_tags.specs.Slots.{Entry, IsSlot, slot_bytes};
 
-use crate::name::is_name;
 use crate::numbers::{u16_at, u64_at};
 use crate::zeros::are_zero;
 use byteorder::{ByteOrder, LittleEndian};
+use volume_terms::is_name;
 
 /// The bytes of a slot.
 pub const SLOT_BYTES: usize = 272;

@@ -4,7 +4,7 @@ ghost use Rattle.std.specs.Prelude.{◌≡◌, ◌≤◌, length};
 
 use crate::{
     Format, Header, HeaderFault, ObjectKind, SLOT_BYTES, Slot, Tag, decode_header, decode_slot,
-    encode_header, encode_slot, is_name, is_present, set_present,
+    encode_header, encode_slot, is_present, set_present,
 };
 use std::process::Abort;
 use std::test::Fail;
@@ -211,17 +211,6 @@ fn bytes_out_of_range_are_no_slot(rt: HostRuntime) {
         }
         assert!(rt; decode_slot(&bytes).is_none(), "at {place}");
     }
-}
-
-#[test]
-fn names(rt: HostRuntime) -> Result<(), Fail> {
-    for name in [b"a".as_slice(), b"...", b".a", b"\xff\x01", &[b'n'; 255]] {
-        assert!(rt; is_name(name));
-    }
-    for name in [b"".as_slice(), b".", b"..", b"a/b", b"a\0", &[b'n'; 256]] {
-        assert!(rt; !is_name(name));
-    }
-    Ok(())
 }
 
 #[test]

@@ -1,7 +1,7 @@
 -- What a function of the plain volume answers, and what the definition says.
 use Rattle.std.specs.Prelude.{◌≡◌, ℕ, Bool, true, false, List, [], ◌∷◌, Option, Some, None, Result, Ok, Err, if◌then◌else◌}
 use Rattle.std.proofs.Common.{refl, sym, ap, subst}
-use Rattle.posix_profile.specs.Sizes.{Sizes}
+use Rattle.volume_terms.specs.Sizes.{Sizes}
 use Rattle.posix_profile.specs.State.{State, Object, Handle}
 use Rattle.posix_profile.specs.HandleSteps.{at_handle, at_file, at_descriptor}
 use Rattle.posix_profile.specs.Charge.{fits}

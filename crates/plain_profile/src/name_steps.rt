@@ -7,7 +7,8 @@ ghost use Rattle.posix_profile.specs.NameSteps.{stat_of, stat_step, list_of, lis
 ghost use Rattle.posix_profile.specs.Outcomes.{answer, unless, at_place};
 ghost use Rattle.posix_profile.specs.Paths.{is_dot, is_dot_dot, last_name, resolve};
 ghost use Rattle.name_map.specs.NameEntries.{entries_in};
-ghost use Rattle.plain_state.specs.PlainState.{sizes_of, object_of};
+ghost use Rattle.plain_state.specs.PlainState.{object_of};
+ghost use Rattle.volume_terms.specs.VolumeSizes.{sizes_of};
 ghost use Rattle.plain_profile.specs.VolumeState.{state_of};
 ghost use Rattle.plain_profile.specs.Meaning.{Gives, outcome_of};
 ghost use Rattle.plain_state.specs.Places.{place_of};

@@ -1,7 +1,8 @@
 // How a command of the plain volume ends.
 ghost use Rattle.std.specs.Prelude.{◌≡◌};
 ghost use Rattle.posix_profile.specs.Outcomes.{change_to};
-ghost use Rattle.plain_state.specs.PlainState.{objects_in, handles_in, sizes_of};
+ghost use Rattle.plain_state.specs.PlainState.{objects_in, handles_in};
+ghost use Rattle.volume_terms.specs.VolumeSizes.{sizes_of};
 ghost use Rattle.plain_profile.specs.VolumeState.{state_of};
 ghost use Rattle.plain_profile.specs.Meaning.{Gives};
 

@@ -7,7 +7,7 @@ ghost use Rattle.posix_profile.specs.Outcomes.{unless, change_to};
 ghost use Rattle.posix_profile.specs.Paths.{is_dot, is_dot_dot, first_error};
 ghost use Rattle.posix_profile.specs.State.{is_directory};
 ghost use Rattle.plain_state.specs.Places.{place_of};
-ghost use Rattle.plain_state.specs.PlainState.{sizes_of};
+ghost use Rattle.volume_terms.specs.VolumeSizes.{sizes_of};
 ghost use Rattle.plain_profile.specs.VolumeState.{state_of};
 ghost use Rattle.plain_profile.specs.Meaning.{Gives};
 

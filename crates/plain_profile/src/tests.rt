@@ -1,7 +1,7 @@
 // Worked rows: what is asked, and what is told.
 use crate::PlainVolume;
 use plain_state::charge::fits;
-use plain_state::sizes::PlainSizes;
+use volume_terms::VolumeSizes;
 use posix_profile::{Access, Bytes, Command, FilePath, Kind, OpenFlags, Reply, Stamped, Whence};
 use std::alloc::{AllocError, Global};
 use std::process::Abort;
@@ -167,7 +167,7 @@ fn reply_text(alloc: Global, reply: &Reply) -> Result<String, AllocError> {
 }
 
 fn new_volume(alloc: Global) -> Result<PlainVolume, AllocError> {
-    PlainVolume::new(alloc, PlainSizes::new(512, 32, 8, 1), false)
+    PlainVolume::new(alloc, VolumeSizes::new(512, 32, 8, 1), false)
 }
 
 /// What the volume tells of a command, which is asked again where memory was refused.

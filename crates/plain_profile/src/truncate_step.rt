@@ -4,7 +4,8 @@ ghost use Rattle.std.specs.FinMap as map;
 ghost use Rattle.posix_profile.specs.Outcomes.{unless, change_to};
 ghost use Rattle.posix_profile.specs.Changes.{with_bytes, resized};
 ghost use Rattle.posix_profile.specs.HandleSteps.{at_file, may_write, truncate_to, truncate_step};
-ghost use Rattle.plain_state.specs.PlainState.{sizes_of, object_of, handle_of};
+ghost use Rattle.plain_state.specs.PlainState.{object_of, handle_of};
+ghost use Rattle.volume_terms.specs.VolumeSizes.{sizes_of};
 ghost use Rattle.plain_profile.specs.VolumeState.{state_of};
 ghost use Rattle.plain_profile.specs.Meaning.{Gives};
 

@@ -14,7 +14,7 @@ use plain_state::links::ROOT;
 use plain_state::object::{HandleMap, ObjectMap, PlainObject};
 use plain_state::prune::pruned;
 use plain_state::refusal::Refusal;
-use plain_state::sizes::PlainSizes;
+use volume_terms::VolumeSizes;
 use plain_state::table::{copy_handles, copy_objects, put_object};
 use posix_profile::{Command, Reply, Stamped};
 use std::alloc::{AllocError, Global};
@@ -24,7 +24,7 @@ use std::collections::BTreeMap;
 #[derive(Drop)]
 pub struct PlainVolume {
     pub alloc: Global,
-    pub sizes: PlainSizes,
+    pub sizes: VolumeSizes,
     pub read_only: bool,
     pub objects: ObjectMap,
     pub handles: HandleMap,
@@ -42,16 +42,16 @@ impl PlainVolume {
     ghost use Rattle.std.specs.Prelude.{◌≡◌, true, IfOk, OnOk, OnErr};
     ghost use Rattle.posix_profile.specs.Charge.{fits};
     ghost use Rattle.std.specs.FinMap as map;
-    ghost use Rattle.posix_profile.specs.Sizes.{root_number};
+    ghost use Rattle.volume_terms.specs.Sizes.{root_number};
     ghost use Rattle.posix_profile.specs.State.{Dir};
     ghost use Rattle.posix_profile.specs.Names.{settle};
     ghost use Rattle.posix_profile.specs.Steps.{step_at, step};
-    ghost use Rattle.plain_state.specs.PlainState.{sizes_of};
+    ghost use Rattle.volume_terms.specs.VolumeSizes.{sizes_of};
     ghost use Rattle.plain_profile.specs.VolumeState.{state_of};
     ghost use Rattle.plain_profile.specs.Meaning.{Gives, changed};
 
     /// A volume of an empty root, at moment 0.
-    pub fn new(alloc: Global, sizes: PlainSizes, read_only: bool) -> Result<PlainVolume, AllocError>
+    pub fn new(alloc: Global, sizes: VolumeSizes, read_only: bool) -> Result<PlainVolume, AllocError>
         ensures state { IfOk result (λ volume. state_of volume ≡ record { objects = map.insert map.empty root_number (Dir 0 map.empty); handles = map.empty }) }
         ensures sizes { IfOk result (λ volume. sizes_of volume.sizes ≡ sizes_of sizes) }
         ensures read_only { IfOk result (λ volume. volume.read_only ≡ read_only) }

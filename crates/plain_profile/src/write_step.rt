@@ -6,7 +6,8 @@ ghost use Rattle.posix_profile.specs.Charge.{fits};
 ghost use Rattle.posix_profile.specs.Outcomes.{answer, unless};
 ghost use Rattle.posix_profile.specs.Changes.{with_bytes, with_offset, written};
 ghost use Rattle.posix_profile.specs.HandleSteps.{at_file, may_write, write_offset, write_count, write_file, write_bytes, write_step};
-ghost use Rattle.plain_state.specs.PlainState.{sizes_of, object_of, handle_of};
+ghost use Rattle.plain_state.specs.PlainState.{object_of, handle_of};
+ghost use Rattle.volume_terms.specs.VolumeSizes.{sizes_of};
 ghost use Rattle.plain_profile.specs.VolumeState.{state_of};
 ghost use Rattle.plain_profile.specs.Meaning.{Gives};
 

@@ -8,7 +8,7 @@ use Rattle.std.specs.Ordering.{nat_cmp}
 use Rattle.std.specs.BTreeMap as tree
 use Rattle.std.specs.BTreeMap.{BTreeMap}
 use Rattle.std.specs.FinMap as map
-use Rattle.posix_profile.specs.Sizes.{root_number}
+use Rattle.volume_terms.specs.Sizes.{root_number}
 use Rattle.std.proofs.lemmas.List.Recursion.{is_count_by}
 use Rattle.posix_profile.specs.State.{Object, Dir, Handle}
 use Rattle.posix_profile.specs.NameSteps.{directories_above}

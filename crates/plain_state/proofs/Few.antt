@@ -10,11 +10,12 @@ use Rattle.std.specs.Ordering.{nat_cmp}
 use Rattle.std.specs.BTreeMap as tree
 use Rattle.std.specs.BTreeMap.{BTreeMap}
 use Rattle.std.specs.FinMap as map
-use Rattle.posix_profile.specs.Sizes.{Sizes, page_slots, capacity}
+use Rattle.volume_terms.specs.Sizes.{Sizes, page_slots, capacity}
 use Rattle.posix_profile.specs.State.{Name, Object, File, Dir}
 use Rattle.posix_profile.specs.Names.{names_to, link_pairs}
-use Rattle.posix_profile.specs.Charge.{ceiling, cost, charge, fits}
-use Rattle.posix_profile.specs.WriteLaws.{ceiling_at_most}
+use Rattle.posix_profile.specs.Charge.{cost, charge, fits}
+use Rattle.volume_terms.specs.Rounding.{ceiling}
+use Rattle.posix_profile.specs.laws.Write.{ceiling_at_most}
 use Rattle.plain_state.specs.declared.object.PlainObject.{PlainObject}
 use Rattle.plain_state.specs.PlainState.{object_of, objects_in}
 use Rattle.plain_state.specs.Views.{entries_objects, charge_values}

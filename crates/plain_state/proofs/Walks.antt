@@ -2,7 +2,7 @@
 use Rattle.std.specs.Prelude.{◌≡◌, ℕ, ◌+◌, ◌<◌, Bool, List, [], ◌∷◌, map as list_map, length, Option, Some, None, Result, Ok, Err}
 use Rattle.std.proofs.Common.{refl, sym, ◌∙◌, ap, subst, arith, drop, get_or, add-one, drop-cons}
 use denote.Bor.{Bor}
-use Rattle.posix_profile.specs.Sizes.{root_number}
+use Rattle.volume_terms.specs.Sizes.{root_number}
 use Rattle.posix_profile.specs.State.{Objects}
 use Rattle.posix_profile.specs.Paths.{Component, Place, component, parts, path_tests, first_error, ends_in_slash, arrive, leads_to, walk, walk_from_root, walk_unless, resolve}
 use Rattle.posix_profile.specs.declared.reply.Errno.{Errno}

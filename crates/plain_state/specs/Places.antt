@@ -1,4 +1,5 @@
 -- What a place stands for.
+-- From: this project.
 use Rattle.std.specs.Prelude.{◌≡◌, ℕ, Option, Some, None, Result, Ok, Err}
 use Rattle.posix_profile.specs.Paths.{Component, Dot, DotDot, Named, Place, leads_to, pass}
 use Rattle.posix_profile.specs.State.{Objects}

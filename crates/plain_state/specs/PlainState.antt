@@ -1,14 +1,13 @@
 -- What the maps and vectors of a plain volume stand for.
+-- From: this project.
 use Rattle.std.specs.Prelude.{ℕ, map as list_map}
 use Rattle.std.specs.FinMap as map
 use Rattle.std.specs.BTreeMap.{BTreeMap}
-use Rattle.posix_profile.specs.Sizes.{Sizes}
 use Rattle.posix_profile.specs.State.{Object, File, Dir, Objects, Handle, Handles}
 use Rattle.name_map.specs.NameEntries.{entries_in}
 use Rattle.plain_state.specs.declared.object.PlainObject.{PlainObject}
 use Rattle.plain_state.specs.declared.object.PlainObject.TheVariants as plain
 use Rattle.plain_state.specs.declared.object.PlainHandle.{PlainHandle}
-use Rattle.plain_state.specs.declared.sizes.PlainSizes.{PlainSizes}
 
 -- a file with its bytes, or a directory with its entries
 abbrev pub object_of : PlainObject → Object
@@ -26,7 +25,3 @@ handle_of h = record { object = h.object; flags = h.flags; offset = h.offset }
 -- what the descriptors stand for
 abbrev pub handles_in : BTreeMap ℕ PlainHandle → Handles
 handles_in m = map.from_entries (list_map (λ e. (e.0, handle_of e.1)) m.entries)
-
--- the numbers of a volume
-abbrev pub sizes_of : PlainSizes → Sizes
-sizes_of z = record { page_bytes = z.page_bytes; block_pages = z.block_pages; blocks = z.blocks; spare_blocks = z.spare_blocks }

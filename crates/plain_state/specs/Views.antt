@@ -14,8 +14,10 @@ use Rattle.std.specs.List.{fold}
 use Rattle.std.proofs.lemmas.Grind.{common_steps}
 use Rattle.std.specs.Map.Iter.{TakesFirst}
 use Rattle.std.proofs.lemmas.Map.Iter.{rest_all}
-use Rattle.posix_profile.specs.Sizes.{Sizes}
-use Rattle.posix_profile.specs.Charge.{ceiling, cost, charge}
+use Rattle.volume_terms.specs.Sizes.{Sizes}
+use Rattle.posix_profile.specs.Charge.{cost, charge}
+use Rattle.volume_terms.specs.Rounding.{ceiling}
+use Rattle.volume_terms.specs.laws.Rounding.{ceiling_is}
 use Rattle.posix_profile.specs.State.{Object}
 use Rattle.plain_state.specs.declared.object.PlainObject.{PlainObject}
 use Rattle.plain_state.specs.declared.object.PlainHandle.{PlainHandle}
@@ -69,10 +71,6 @@ charge_values z m sorted = ap (sum_by (cost z)) (values_objects m sorted) ∙ su
 -- of a list that is gone through nothing is left
 pub all_gone : {A X : Type 0} (shows : A → X) (s t : List X) (r : Option A) → r ≡ None → TakesFirst shows s r t → s ≡ []
 all_gone shows s t r is step = rest_all shows s t r is step
-
--- two ways to round up
-pub ceiling_is : (n d : ℕ) → 0 < d → n / d + min 1 (n % d) ≡ ceiling n d
-ceiling_is n d some = grind (arith, common_steps)
 
 pub ceiling_at : (r n m d e : ℕ) → r ≡ div_ceil n d → n ≡ m → d ≡ e → 0 < e → r ≡ ceiling m e
 ceiling_at r n m d e is many each some = is ∙ ap (λ k. div_ceil k d) many ∙ ap (div_ceil m) each ∙ ceiling_is m e some

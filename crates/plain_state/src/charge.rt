@@ -1,13 +1,14 @@
 // What objects cost.
 ghost use Rattle.std.specs.Prelude.{◌≡◌, ◌-◌, ◌^◌, min};
 ghost use Rattle.posix_profile.specs.Charge.{cost, charge, fits};
-ghost use Rattle.plain_state.specs.PlainState.{object_of, objects_in, sizes_of};
+ghost use Rattle.plain_state.specs.PlainState.{object_of, objects_in};
+ghost use Rattle.volume_terms.specs.VolumeSizes.{sizes_of};
 
 use crate::object::{ObjectMap, PlainObject};
-use crate::sizes::PlainSizes;
+use volume_terms::VolumeSizes;
 
 /// The units that an object costs.
-pub(crate) fn cost(sizes: PlainSizes, object: &PlainObject) -> u64
+pub(crate) fn cost(sizes: VolumeSizes, object: &PlainObject) -> u64
     ensures { result ≡ cost (sizes_of sizes) (object_of object.now) }
 {
     match object {
@@ -19,7 +20,7 @@ pub(crate) fn cost(sizes: PlainSizes, object: &PlainObject) -> u64
 }
 
 /// The units that all objects cost, or the greatest number where they cost more.
-pub fn charge(sizes: PlainSizes, objects: &ObjectMap) -> u64
+pub fn charge(sizes: VolumeSizes, objects: &ObjectMap) -> u64
     ensures { result ≡ min (charge (sizes_of sizes) (objects_in objects.now)) (2 ^ 64 - 1) }
 {
     let mut total: u64 = 0;
@@ -30,7 +31,7 @@ pub fn charge(sizes: PlainSizes, objects: &ObjectMap) -> u64
 }
 
 /// Whether there is room for the objects.
-pub fn fits(sizes: PlainSizes, objects: &ObjectMap) -> bool
+pub fn fits(sizes: VolumeSizes, objects: &ObjectMap) -> bool
     ensures { result ≡ fits (sizes_of sizes) (objects_in objects.now) }
 {
     charge(sizes, objects) <= sizes.capacity()

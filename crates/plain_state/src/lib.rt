@@ -8,5 +8,4 @@ pub mod object;
 pub mod path;
 pub mod prune;
 pub mod refusal;
-pub mod sizes;
 pub mod table;

@@ -7,10 +7,11 @@ ghost use Rattle.posix_profile.specs.Names.{has_entry_to, names_to, link_pairs, 
 ghost use Rattle.posix_profile.specs.NameSteps.{info, is_below};
 ghost use Rattle.posix_profile.specs.Charge.{fits};
 ghost use Rattle.name_map.specs.NameEntries.{entries_in};
-ghost use Rattle.plain_state.specs.PlainState.{object_of, objects_in, handles_in, sizes_of};
+ghost use Rattle.plain_state.specs.PlainState.{object_of, objects_in, handles_in};
+ghost use Rattle.volume_terms.specs.VolumeSizes.{sizes_of};
 
 use crate::object::{EntryMap, HandleMap, ObjectMap, PlainObject};
-use crate::sizes::PlainSizes;
+use volume_terms::VolumeSizes;
 use crate::table::object_at;
 use posix_profile::{Info, Kind};
 
@@ -142,7 +143,7 @@ fn names_to(object: &PlainObject, number: u64) -> u64
 }
 
 /// The links of a file: the names that lead to it.
-fn file_links(sizes: PlainSizes, objects: &ObjectMap, number: u64) -> u64
+fn file_links(sizes: VolumeSizes, objects: &ObjectMap, number: u64) -> u64
     requires { fits (sizes_of sizes) (objects_in objects.now) ≡ true }
     ensures { result ≡ length (link_pairs (objects_in objects.now) number) }
 {
@@ -168,7 +169,7 @@ fn subdirectories(objects: &ObjectMap, entries: &EntryMap) -> u64
 }
 
 /// What is told of an object.
-pub fn info(sizes: PlainSizes, objects: &ObjectMap, number: u64, object: &PlainObject) -> Info
+pub fn info(sizes: VolumeSizes, objects: &ObjectMap, number: u64, object: &PlainObject) -> Info
     requires { fits (sizes_of sizes) (objects_in objects.now) ≡ true }
     ensures { result ≡ info (objects_in objects.now) number (object_of object.now) }
 {

@@ -2,7 +2,7 @@
 ghost use Rattle.std.specs.Prelude.{◌≡◌, ℕ, length, filter, nat_eq, nat_lt, Result, IfOk, MatchResult, map as list_map};
 ghost use Rattle.std.specs.Result.{result_err};
 ghost use Rattle.std.specs.List.{list_any, slice_split};
-ghost use Rattle.posix_profile.specs.Sizes.{name_limit};
+ghost use Rattle.volume_terms.specs.Sizes.{name_limit};
 ghost use Rattle.posix_profile.specs.declared.reply.Errno.{Errno};
 ghost use Rattle.std.specs.FinMap as map;
 ghost use Rattle.posix_profile.specs.State.{entries_of};

@@ -2,7 +2,7 @@
 ghost use Rattle.std.specs.Prelude.{◌≡◌, ◌||◌, IfOk, nat_eq};
 ghost use Rattle.std.specs.List.{list_any};
 ghost use Rattle.std.specs.FinMap as map;
-ghost use Rattle.posix_profile.specs.Sizes.{root_number};
+ghost use Rattle.volume_terms.specs.Sizes.{root_number};
 ghost use Rattle.posix_profile.specs.Names.{is_named, prune};
 ghost use Rattle.plain_state.specs.PlainState.{objects_in, handles_in};
 

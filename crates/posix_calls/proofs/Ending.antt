@@ -14,7 +14,7 @@ use Rattle.flash_tree.specs.TreeLaws.{footprint_law}
 use Rattle.posix_profile.specs.Charge.{fits}
 use Rattle.posix_profile.specs.Outcomes.{Outcome, refuse, answer}
 use Rattle.posix_profile.specs.Runs.{takes_no_memory}
-use Rattle.posix_profile.specs.Sizes.{Sizes}
+use Rattle.volume_terms.specs.Sizes.{Sizes}
 use Rattle.posix_profile.specs.State.{Name, Objects}
 use Rattle.posix_profile.specs.declared.command.Command.{Command}
 use Rattle.posix_profile.specs.declared.command.Command.TheVariants as commands

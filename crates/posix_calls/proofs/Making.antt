@@ -11,10 +11,11 @@ use Rattle.nand_model.specs.declared.geometry.Geometry.{Geometry}
 use Rattle.page_tags.specs.Headers.{Fields}
 use Rattle.posix_profile.specs.Changes.{new_number}
 use Rattle.posix_profile.specs.Charge.{fits}
-use Rattle.posix_profile.specs.NumberLaws.{new_number_is}
-use Rattle.posix_profile.specs.Sizes.{Sizes, IsSizes, root_number}
+use Rattle.posix_profile.specs.laws.Number.{new_number_is}
+use Rattle.volume_terms.specs.Sizes.{Sizes, IsSizes, root_number}
+use Rattle.volume_terms.specs.laws.List.{get_push, push_before, push_last}
 use Rattle.posix_profile.specs.State.{Name, Entries, Object, Dir, Objects}
-use Rattle.posix_profile.specs.WellFormed.{IsName}
+use Rattle.volume_terms.specs.Names.{IsName}
 use Rattle.flash_tree.specs.FindingLaws.{IsPageSize, same_header}
 use Rattle.flash_tree.specs.Mount.{sizes_of, IsVolume}
 use Rattle.flash_tree.specs.Newest.{HasNewest}
@@ -97,25 +98,6 @@ empty_reads z new o head page is none newest = (
 )
 
 -- ---- three pages of two objects
-
--- the element at a place of a longer list
-get_push : {A : Type 0} (xs : List A) (x : A) (i : ℕ) (e : A) → slice_get (xs ++ x ∷ []) i ≡ Some e → ((i < length xs) × (slice_get xs i ≡ Some e)) ⊎ ((i ≡ length xs) × (e ≡ x))
-get_push [] x zero e is = inr (refl, cc)
-get_push [] x (suc i) e is = absurd cc
-get_push (y ∷ ys) x zero e is = inl (omega arith, is)
-get_push (y ∷ ys) x (suc i) e is = elim (get_push ys x i e is) [
-  | inl before ↦ inl (omega (arith, before.0), before.1)
-  | inr last ↦ inr (omega (arith, last.0), last.1)
-]
-
-push_before : {A : Type 0} (xs : List A) (x : A) (i : ℕ) (e : A) → slice_get xs i ≡ Some e → slice_get (xs ++ x ∷ []) i ≡ Some e
-push_before [] x i e is = absurd cc
-push_before (y ∷ ys) x zero e is = is
-push_before (y ∷ ys) x (suc i) e is = push_before ys x i e is
-
-push_last : {A : Type 0} (xs : List A) (x : A) → slice_get (xs ++ x ∷ []) (length xs) ≡ Some x
-push_last [] x = refl
-push_last (y ∷ ys) x = push_last ys x
 
 module _ (g : Geometry) (d n : ℕ) (apart : d ≢ n) (two : List FreshPage) (are : ArePagesOf d g.bytes two) (page : FreshPage) (head : DirectoryHead) (is : IsHeadPage page g.bytes n head) where
   -- the pages of a directory, and the header of another one

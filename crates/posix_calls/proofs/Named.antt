@@ -15,7 +15,7 @@ use Rattle.std.proofs.lemmas.Option.{get_or_from_slice_get}
 use Rattle.std.specs.Cmp.{nat_eq_equiv}
 use Rattle.nand_model.specs.Flash.{Flash}
 use Rattle.nand_model.specs.declared.geometry.Geometry.{Geometry}
-use Rattle.posix_profile.specs.MapLaws.{Member, above_differs, member_get, value_key, true_of, of_true}
+use Rattle.posix_profile.specs.laws.Map.{Member, above_differs, member_get, value_key, true_of, of_true}
 use Rattle.posix_profile.specs.State.{Name, Objects, Dir}
 use Rattle.flash_tree.specs.Mount.{sizes_of}
 use Rattle.flash_tree.specs.TreeLaws.{slice_get_within}

@@ -9,8 +9,8 @@ use Rattle.std.specs.Cmp.{nat_eq_equiv}
 use Rattle.std.proofs.lemmas.Map.Views.{Contains-from_any, list_any-from_Contains}
 use Rattle.nand_model.specs.declared.geometry.Geometry.{Geometry}
 use Rattle.posix_profile.specs.Changes.{new_number}
-use Rattle.posix_profile.specs.MapLaws.{value_key, key_value}
-use Rattle.posix_profile.specs.Sizes.{Sizes, capacity}
+use Rattle.posix_profile.specs.laws.Map.{value_key, key_value}
+use Rattle.volume_terms.specs.Sizes.{Sizes, capacity}
 use Rattle.posix_profile.specs.State.{Name, Entries, Objects}
 use Rattle.posix_profile.specs.WellFormed.{IsTree}
 use Rattle.flash_tree.specs.Mount.{sizes_of}

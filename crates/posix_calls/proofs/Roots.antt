@@ -10,7 +10,7 @@ use Rattle.nand_model.specs.declared.geometry.Geometry.{Geometry}
 use Rattle.page_tags.specs.Headers.{Fields, IsHeader, IsFirstFault, header_bytes}
 use Rattle.page_tags.specs.Slots.{Entry}
 use Rattle.page_tags.specs.declared.header.HeaderFault.TheVariants as headers
-use Rattle.posix_profile.specs.Sizes.{Sizes, root_number}
+use Rattle.volume_terms.specs.Sizes.{Sizes, root_number}
 use Rattle.flash_tree.specs.ContentExists.{slot_pairs}
 use Rattle.flash_tree.specs.FindingLaws.{same_header, header_no_fault}
 use Rattle.flash_tree.specs.Mount.{sizes_of, IsVolume}

@@ -6,9 +6,9 @@ use Rattle.nand_model.specs.Calls.{Device}
 use Rattle.block_state.specs.Table.{Table}
 use Rattle.flash_tree.specs.Mount.{sizes_of}
 use Rattle.posix_profile.specs.Outcomes.{Outcome, refuse}
-use Rattle.posix_profile.specs.OwnLaws.{command_own}
+use Rattle.posix_profile.specs.laws.Own.{command_own}
 use Rattle.posix_profile.specs.Runs.{is_stop, AllStopped}
-use Rattle.posix_profile.specs.Sizes.{Sizes}
+use Rattle.volume_terms.specs.Sizes.{Sizes}
 use Rattle.posix_profile.specs.State.{Objects, State}
 use Rattle.posix_profile.specs.Steps.{step}
 use Rattle.posix_profile.specs.declared.command.Stamped.{Stamped}

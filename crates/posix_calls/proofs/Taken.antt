@@ -16,10 +16,11 @@ use Rattle.nand_model.specs.Flash.{Flash}
 use Rattle.nand_model.specs.declared.geometry.Geometry.{Geometry}
 use Rattle.page_tags.specs.Slots.{Entry, IsSlot}
 use Rattle.posix_profile.specs.Charge.{fits}
-use Rattle.posix_profile.specs.MapLaws.{Member, get_member, key_value, value_key, same_key, eq_same}
-use Rattle.posix_profile.specs.Sizes.{Sizes, root_number}
+use Rattle.posix_profile.specs.laws.Map.{Member, get_member, key_value, value_key, same_key, eq_same}
+use Rattle.volume_terms.specs.Sizes.{Sizes, root_number}
 use Rattle.posix_profile.specs.State.{Name, Entries, Dir, Objects}
-use Rattle.posix_profile.specs.WellFormed.{IsName, IsTree}
+use Rattle.posix_profile.specs.WellFormed.{IsTree}
+use Rattle.volume_terms.specs.Names.{IsName}
 use Rattle.flash_tree.specs.ContentExists.{entry_slot}
 use Rattle.flash_tree.specs.Mount.{sizes_of, IsVolume}
 use Rattle.flash_tree.specs.Newest.{HasNewest}
@@ -102,18 +103,6 @@ module _ (names : Entries) (numbers : List ℕ) (shuffled : IsPermutation (map.v
 
 -- ---- the tree that is shown
 
--- the name of a slot is a name
-slot_name : (entry : Entry) → IsSlot entry → IsName entry.name
-slot_name entry valid = record {
-  bytes = λ k d lt. let same = get_or_from_slice_get entry.name k (slice_index_or entry.name k d) 0 (slice_get-get_or entry.name k d lt) in omega (arith, same, valid.bytes k);
-  some = valid.name.some;
-  few = valid.name.few;
-  no_zero = valid.name.no_zero;
-  no_slash = valid.name.no_slash;
-  not_dot = valid.name.not_dot;
-  not_dot_dot = valid.name.not_dot_dot;
-}
-
 module _ (g : Geometry) (flash : Flash) (spare : ℕ) (volume : IsVolume g (HasNewest flash) spare) (moment : ℕ) (names : Entries) (r : ReadsDir (sizes_of g spare) (HasNewest flash) root_number moment names)
     (one : (a b : Name) (o : ℕ) → map.get names a ≡ Some o → map.get names b ≡ Some o → a ≡ b)
     (each : (name : Name) (o : ℕ) → map.get names name ≡ Some o → IsEmptyThere (sizes_of g spare) flash o) where
@@ -124,7 +113,7 @@ module _ (g : Geometry) (flash : Flash) (spare : ℕ) (volume : IsVolume g (HasN
   slot_of name o is =
       let s = entry_slot z (HasNewest flash) root_number moment names r name o is in
       let valid = (r.each s.0 s.1 s.2).2 in
-      (subst IsName s.3 (slot_name s.1 valid), omega (arith, s.4, valid.object), omega (arith, s.4, valid.object))
+      (subst IsName s.3 valid.name, omega (arith, s.4, valid.object), omega (arith, s.4, valid.object))
 
   are : AreFlatEntries names
   are = record {

@@ -4,7 +4,7 @@ use Rattle.std.specs.FinMap as map
 use Rattle.nand_model.specs.Flash.{Flash}
 use Rattle.flash_tree.specs.Newest.{HasNewest}
 use Rattle.flash_tree.specs.Tree.{ReadsDir}
-use Rattle.posix_profile.specs.Sizes.{Sizes}
+use Rattle.volume_terms.specs.Sizes.{Sizes}
 use Rattle.posix_profile.specs.State.{Name, Entries}
 
 -- a number stands twice side by side

@@ -3,7 +3,7 @@ use Rattle.std.specs.Prelude.{◌≡◌, ℕ, true}
 use Rattle.nand_model.specs.Calls.{Device}
 use Rattle.nand_model.specs.Flash.{Flash}
 use Rattle.page_tags.specs.declared.header.HeaderFault.TheVariants as headers
-use Rattle.posix_profile.specs.Sizes.{root_number}
+use Rattle.volume_terms.specs.Sizes.{root_number}
 use Rattle.flash_tree.specs.Newest.{HasNewest}
 use Rattle.flash_tree.specs.Mount.{IsNoVolume, HasHeaderFault}
 use Rattle.flat_store.specs.declared.open.OpenFault.{OpenFault}

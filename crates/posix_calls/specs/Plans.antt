@@ -5,8 +5,8 @@ use Rattle.nand_model.specs.Calls.{Device}
 use Rattle.nand_model.specs.Flash.{Flash}
 use Rattle.nand_model.specs.declared.geometry.Geometry.{Geometry}
 use Rattle.posix_profile.specs.Changes.{new_number, with_object}
-use Rattle.posix_profile.specs.Charge.{ceiling}
-use Rattle.posix_profile.specs.Sizes.{Sizes, capacity, page_slots, root_number}
+use Rattle.volume_terms.specs.Rounding.{ceiling}
+use Rattle.volume_terms.specs.Sizes.{Sizes, capacity, page_slots, root_number}
 use Rattle.posix_profile.specs.State.{Name, Entries, Objects, Dir}
 use Rattle.posix_profile.specs.declared.reply.Errno.{Errno}
 use Rattle.posix_profile.specs.declared.reply.Errno.TheVariants as errors

@@ -2,7 +2,7 @@
 use Rattle.std.specs.Prelude.{◌≡◌, ◌⊎◌, Bool, true, false, List, [], ◌∷◌}
 use Rattle.posix_profile.specs.Outcomes.{Outcome}
 use Rattle.posix_profile.specs.Runs.{takes_no_memory, AllStopped}
-use Rattle.posix_profile.specs.Sizes.{Sizes}
+use Rattle.volume_terms.specs.Sizes.{Sizes}
 use Rattle.posix_profile.specs.State.{Objects}
 use Rattle.posix_profile.specs.declared.command.Stamped.{Stamped}
 use Rattle.posix_profile.specs.declared.reply.Errno.TheVariants as errors

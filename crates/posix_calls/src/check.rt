@@ -6,7 +6,7 @@ ghost use Rattle.flash_tree.specs.Mount.{sizes_of};
 ghost use Rattle.flash_tree.specs.Newest.{HasNewest};
 ghost use Rattle.flash_tree.specs.Tree.{ReadsDir};
 ghost use Rattle.posix_profile.specs.Charge.{fits};
-ghost use Rattle.posix_profile.specs.Sizes.{Sizes, root_number};
+ghost use Rattle.volume_terms.specs.Sizes.{Sizes, root_number};
 ghost use Rattle.posix_profile.specs.State.{Objects};
 ghost use Rattle.posix_profile.specs.WellFormed.{IsTree};
 ghost use Rattle.flat_profile.specs.Flat.{IsFlat};

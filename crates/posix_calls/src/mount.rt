@@ -3,7 +3,7 @@ ghost use Rattle.std.specs.Prelude.{◌≡◌, ◌⊎◌, ◌↔◌, ◌<◌, �
 ghost use Rattle.nand_model.specs.Changes.{OnlyReads};
 ghost use Rattle.flash_tree.specs.Newest.{Numbers, AreAbove, AreGreatest};
 ghost use Rattle.flash_tree.specs.Mount.{bad_blocks};
-ghost use Rattle.flash_tree.specs.Sound.{number_limit};
+ghost use Rattle.volume_terms.specs.Sizes.{number_limit};
 ghost use Rattle.posix_profile.specs.State.{Objects};
 ghost use Rattle.volume_format.specs.Volumes.{IsFlatVolume, IsSoundVolume};
 ghost use Rattle.posix_calls.specs.MountFaults.{IsWant, Says};

@@ -3,7 +3,7 @@ ghost use Rattle.std.specs.Prelude.{◌≡◌, ◌≤◌, ◌+◌, ◌++◌, Boo
 ghost use Rattle.nand_model.specs.Calls.{Lasts};
 ghost use Rattle.flash_tree.specs.Newest.{AreAbove};
 ghost use Rattle.flash_tree.specs.Mount.{sizes_of};
-ghost use Rattle.flash_tree.specs.Sound.{number_limit};
+ghost use Rattle.volume_terms.specs.Sizes.{number_limit};
 ghost use Rattle.posix_profile.specs.State.{Objects};
 ghost use Rattle.posix_profile.specs.Runs.{is_stop};
 ghost use Rattle.posix_profile.specs.declared.reply.Errno.TheVariants as errors;

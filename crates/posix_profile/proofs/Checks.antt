@@ -2,13 +2,13 @@
 use Rattle.std.specs.Prelude.{◌≡◌, ℕ, true, false, List, [], ◌∷◌, replicate, Some, None, Ok, Err}
 use Rattle.std.proofs.Common.{refl, inl, inr}
 use Rattle.std.specs.FinMap as map
-use Rattle.posix_profile.specs.Sizes.{Sizes, root_number, buffer_pages, most_written, page_slots, capacity, greatest_length}
+use Rattle.volume_terms.specs.Sizes.{Sizes, root_number, buffer_pages, most_written, page_slots, capacity, greatest_length}
 use Rattle.posix_profile.specs.State.{Entries, File, Dir, Objects}
 use Rattle.posix_profile.specs.Names.{parent}
 use Rattle.posix_profile.specs.Paths.{Dot, Named, resolve}
 use Rattle.posix_profile.specs.Changes.{written, resized}
 use Rattle.posix_profile.specs.WellFormed.{IsForest}
-use Rattle.posix_profile.specs.NameLaws.{parent_cases}
+use Rattle.posix_profile.specs.laws.Name.{parent_cases}
 use Rattle.posix_profile.specs.declared.reply.Errno.TheVariants as errors
 
 -- the smallest volume

@@ -11,9 +11,9 @@ use Rattle.posix_profile.specs.Paths.{resolve}
 use Rattle.posix_profile.specs.Outcomes.{unless, change_to, at_place}
 use Rattle.posix_profile.specs.HandleSteps.{at_handle, at_file, at_descriptor}
 use Rattle.posix_profile.specs.NameSteps.{at_object}
-use Rattle.posix_profile.specs.FreshLaws.{fresh}
-use Rattle.posix_profile.specs.MapLaws.{get_retained, entries-retain_keys, entries-remove}
-use Rattle.posix_profile.specs.NameLaws.{name_same}
+use Rattle.posix_profile.specs.laws.Fresh.{fresh}
+use Rattle.posix_profile.specs.laws.Map.{get_retained, entries-retain_keys, entries-remove}
+use Rattle.posix_profile.specs.laws.Name.{name_same}
 use Rattle.posix_profile.specs.Steps.{step_at}
 use Rattle.posix_profile.proofs.Checks.{small_sizes}
 use Rattle.posix_profile.specs.declared.command.Command.TheVariants as commands

@@ -1,8 +1,9 @@
 -- How commands change a state.
+-- From: POSIX: `open()` (lowest descriptor), `write()` (holes, appending), `ftruncate()`.
 use Rattle.std.specs.Prelude.{ℕ, zero, suc, ◌+◌, ◌-◌, Bool, not, List, ◌++◌, length, take, drop, replicate, Option, unwrap_or, if◌then◌else◌}
 use Rattle.std.specs.List.{find, range_with_len}
 use Rattle.std.specs.FinMap as map
-use Rattle.posix_profile.specs.Sizes.{descriptors}
+use Rattle.volume_terms.specs.Sizes.{descriptors}
 use Rattle.posix_profile.specs.State.{Name, Object, File, Dir, Objects, Handle, Handles, State, entries_of}
 
 -- the greatest number up to n that passes the test, or 0

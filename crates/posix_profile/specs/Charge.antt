@@ -1,12 +1,10 @@
 -- What a state costs, in units of a page's bytes.
+-- From: this project.
 use Rattle.std.specs.Prelude.{ℕ, ◌+◌, ◌-◌, ◌/◌, Bool, length, sum_by, nat_le}
 use Rattle.std.specs.FinMap as map
-use Rattle.posix_profile.specs.Sizes.{Sizes, page_slots, capacity}
+use Rattle.volume_terms.specs.Sizes.{Sizes, page_slots, capacity}
+use Rattle.volume_terms.specs.Rounding.{ceiling}
 use Rattle.posix_profile.specs.State.{Object, File, Dir, Objects}
-
--- n / d, rounded up
-abbrev pub ceiling : ℕ → ℕ → ℕ
-ceiling n d = (n + d - 1) / d
 
 -- a file costs one unit and one for each page of its length, a directory one and one for each page of its entries
 abbrev pub cost : Sizes → Object → ℕ

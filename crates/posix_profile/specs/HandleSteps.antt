@@ -1,7 +1,8 @@
 -- What the commands on descriptors answer and do, each by its tests in their order and then the effect.
+-- From: POSIX: `open()`, `close()`, `read()`, `write()`, `lseek()`, `ftruncate()`, `fsync()`.
 use Rattle.std.specs.Prelude.{ℕ, ◌+◌, ◌-◌, min, Bool, true, false, not, ◌&&◌, ◌||◌, List, [], ◌∷◌, length, take, drop, Option, Some, None, nat_eq, nat_lt, nat_le, if◌then◌else◌, ℤ, pos, negsuc, ◌+ℤ◌}
 use Rattle.std.specs.FinMap as map
-use Rattle.posix_profile.specs.Sizes.{Sizes, most_written, greatest_length, offset_limit}
+use Rattle.volume_terms.specs.Sizes.{Sizes, most_written, greatest_length, offset_limit}
 use Rattle.posix_profile.specs.State.{Object, File, Dir, Objects, Handle, State, is_directory}
 use Rattle.posix_profile.specs.Names.{prune}
 use Rattle.posix_profile.specs.Charge.{fits}

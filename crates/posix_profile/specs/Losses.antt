@@ -1,6 +1,7 @@
 -- What a loss of power leaves of a run.
+-- From: this project; `fsync()` and `sync()` of POSIX.
 use Rattle.std.specs.Prelude.{◌≡◌, ◌⊎◌, ◌≤◌, ℕ, ◌+◌, Bool, true, false, List, [], ◌∷◌, length, take, if◌then◌else◌, nat_eq}
-use Rattle.posix_profile.specs.Sizes.{Sizes}
+use Rattle.volume_terms.specs.Sizes.{Sizes}
 use Rattle.posix_profile.specs.State.{Objects, State}
 use Rattle.posix_profile.specs.Names.{settle}
 use Rattle.posix_profile.specs.Runs.{after}

@@ -1,8 +1,9 @@
 -- What the commands on paths answer and do, each by its tests in their order and then the effect.
+-- From: POSIX: `stat()`, `mkdir()`, `rmdir()`, `link()`, `unlink()`, `rename()`, `readdir()`, `statvfs()`.
 use Rattle.std.specs.Prelude.{ℕ, zero, suc, ◌-◌, Bool, false, ◌&&◌, ◌||◌, List, [], ◌∷◌, length, Option, Some, None, is_none, nat_eq, nat_lt, if◌then◌else◌}
 use Rattle.std.specs.List.{list_any}
 use Rattle.std.specs.FinMap as map
-use Rattle.posix_profile.specs.Sizes.{Sizes, capacity}
+use Rattle.volume_terms.specs.Sizes.{Sizes, capacity}
 use Rattle.posix_profile.specs.State.{Object, File, Dir, Objects, State, is_directory, is_file, entries_of}
 use Rattle.posix_profile.specs.Names.{parent, links, prune}
 use Rattle.posix_profile.specs.Charge.{charge}

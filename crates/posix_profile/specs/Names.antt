@@ -1,9 +1,10 @@
 -- Which names lead to an object, and which objects a state keeps.
+-- From: POSIX: directory entry, dot-dot, link count, and when an unlinked file is freed (`unlink()`, `close()`).
 use Rattle.std.specs.Prelude.{◌≡◌, ℕ, ◌+◌, Bool, false, ◌||◌, List, [], length, map as list_map, filter, count_by, Some, nat_eq}
 use Rattle.std.specs.List.{list_any, find, flat_map}
 use Rattle.std.specs.Option.{option_map_or}
 use Rattle.std.specs.FinMap as map
-use Rattle.posix_profile.specs.Sizes.{root_number}
+use Rattle.volume_terms.specs.Sizes.{root_number}
 use Rattle.posix_profile.specs.State.{Name, Entries, Object, File, Dir, Objects, State, is_directory}
 
 -- the directory has an entry of this name, which leads to the object

@@ -1,6 +1,7 @@
 -- How a command ends.
+-- From: POSIX: errors, and that a failed call has no effect.
 use Rattle.std.specs.Prelude.{Bool, List, Option, Some, None, Result, Ok, Err, if◌then◌else◌}
-use Rattle.posix_profile.specs.Sizes.{Sizes}
+use Rattle.volume_terms.specs.Sizes.{Sizes}
 use Rattle.posix_profile.specs.State.{State}
 use Rattle.posix_profile.specs.Charge.{fits}
 use Rattle.posix_profile.specs.Paths.{Place, first_error}

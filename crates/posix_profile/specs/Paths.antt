@@ -1,9 +1,10 @@
 -- Where a path leads.
+-- From: POSIX: pathname resolution.
 use Rattle.std.specs.Prelude.{ℕ, ◌-◌, Bool, true, false, ◌&&◌, List, [], ◌∷◌, length, filter, map as list_map, get_or, Option, Some, None, Result, Ok, Err, nat_eq, nat_lt, if◌then◌else◌}
 use Rattle.std.specs.List.{list_any, slice_split}
 use Rattle.std.specs.Cmp.Lexicographic.{pointwise}
 use Rattle.std.specs.FinMap as map
-use Rattle.posix_profile.specs.Sizes.{name_limit, path_limit, root_number}
+use Rattle.volume_terms.specs.Sizes.{name_limit, path_limit, root_number}
 use Rattle.posix_profile.specs.State.{Name, Objects, is_file, entries_of}
 use Rattle.posix_profile.specs.Names.{parent}
 use Rattle.posix_profile.specs.declared.reply.Errno.{Errno}

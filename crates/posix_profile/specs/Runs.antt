@@ -1,6 +1,7 @@
 -- The replies to a list of commands, and the state after them.
+-- From: this project.
 use Rattle.std.specs.Prelude.{◌≡◌, ◌⊎◌, Bool, true, false, List, [], ◌∷◌, if◌then◌else◌}
-use Rattle.posix_profile.specs.Sizes.{Sizes}
+use Rattle.volume_terms.specs.Sizes.{Sizes}
 use Rattle.posix_profile.specs.State.{State}
 use Rattle.posix_profile.specs.Steps.{step}
 use Rattle.posix_profile.specs.declared.command.Command.{Command}

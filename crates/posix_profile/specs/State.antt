@@ -1,4 +1,5 @@
 -- What a volume holds: objects, and open descriptors.
+-- From: POSIX: file, directory, directory entry, open file description.
 use Rattle.std.specs.Prelude.{◌≡◌, ℕ, List, Bool, true, false, Option, Some, None}
 use Rattle.std.specs.Ordering.{nat_cmp}
 use Rattle.std.specs.Cmp.Lexicographic.{slice_cmp}

@@ -1,6 +1,7 @@
 -- What each command answers and does.
+-- From: the profile, `PROFILE.md`.
 use Rattle.std.specs.Prelude.{ℕ, Bool}
-use Rattle.posix_profile.specs.Sizes.{Sizes}
+use Rattle.volume_terms.specs.Sizes.{Sizes}
 use Rattle.posix_profile.specs.State.{State}
 use Rattle.posix_profile.specs.Outcomes.{Outcome, answer}
 use Rattle.posix_profile.specs.HandleSteps.{open_step, close_step, read_step, write_step, seek_step, truncate_step, fsync_step}

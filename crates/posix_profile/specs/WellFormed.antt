@@ -1,24 +1,12 @@
 -- Which states a volume can have.
+-- From: POSIX: the file hierarchy; the ranges are this project's.
 use Rattle.std.specs.Prelude.{◌≡◌, ◌≢◌, ◌⊎◌, ◌<◌, ◌≤◌, ◌^◌, ℕ, true, List, [], ◌∷◌, length, Some, All, Contains}
 use Rattle.std.specs.FinMap as map
-use Rattle.posix_profile.specs.Sizes.{Sizes, greatest_length, name_limit, descriptors, offset_limit, root_number}
+use Rattle.volume_terms.specs.Sizes.{Sizes, greatest_length, name_limit, descriptors, offset_limit, root_number}
+use Rattle.volume_terms.specs.Names.{AreBytes, IsName}
 use Rattle.posix_profile.specs.State.{Name, Object, File, Dir, Objects, Handle, Handles, State, IsFile, IsDirectory, moment_of}
 use Rattle.posix_profile.specs.Names.{Names, Reached}
 use Rattle.posix_profile.specs.HandleSteps.{may_write}
-
--- numbers that are bytes
-abbrev pub AreBytes : List ℕ → Type 0
-AreBytes bytes = All (λ byte. byte < 256) bytes
-
--- 1 to 255 bytes without a zero byte or a slash, and neither `.` nor `..`
-pub record IsName (name : Name) : Type 0 where
-  pub bytes : AreBytes name
-  pub some : 1 ≤ length name
-  pub few : length name ≤ name_limit
-  pub no_zero : ¬ Contains name 0
-  pub no_slash : ¬ Contains name 47
-  pub not_dot : name ≢ 46 ∷ []
-  pub not_dot_dot : name ≢ 46 ∷ 46 ∷ []
 
 -- a file is of bytes, not too many; the entries of a directory have names
 abbrev pub HasContent : Sizes → Object → Type 0

@@ -4,7 +4,7 @@ use Rattle.std.proofs.lemmas.Bool.{cases_eq, cases_lt}
 use Rattle.nand_model.specs.Flash.{Flash, Page, Erased, Written, Uncorrectable}
 use Rattle.page_tags.specs.declared.tag.Tag.{Tag}
 use Rattle.page_tags.specs.Tags.{tag_bytes, IsTag}
-use Rattle.page_tags.specs.TagLaws.{same_tag}
+use Rattle.page_tags.specs.laws.Tag.{same_tag}
 use Rattle.nand_model.specs.Changes.{Grows}
 use Rattle.flash_tree.specs.Groups.{HasTag, Group, IsPart, IsGroup, SameGroups, AddsGroup}
 use Rattle.transactions.specs.Ready.{AreBelow}

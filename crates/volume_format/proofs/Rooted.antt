@@ -11,10 +11,10 @@ use Rattle.nand_model.specs.declared.geometry.Geometry.{Geometry}
 use Rattle.page_tags.specs.declared.tag.Tag.{Tag}
 use Rattle.page_tags.specs.Tags.{tag_bytes, IsTag}
 use Rattle.page_tags.specs.Slots.{Entry}
-use Rattle.posix_profile.specs.Sizes.{Sizes, root_number}
+use Rattle.volume_terms.specs.Sizes.{Sizes, root_number}
 use Rattle.posix_profile.specs.State.{Object, Dir}
-use Rattle.posix_profile.specs.MapLaws.{insert_cases}
-use Rattle.posix_profile.specs.FreshLaws.{fresh, fresh_tree, fresh_fits}
+use Rattle.posix_profile.specs.laws.Map.{insert_cases}
+use Rattle.posix_profile.specs.laws.Fresh.{fresh, fresh_tree, fresh_fits}
 use Rattle.flat_profile.specs.FreshFlat.{fresh_flat}
 use Rattle.flash_tree.specs.Groups.{HasTag, Group, IsPart}
 use Rattle.flash_tree.specs.Newest.{Spot, Holds, IsAfter, HasNewest, AreAbove}
@@ -22,7 +22,7 @@ use Rattle.flash_tree.specs.NewestExists.{one_tag}
 use Rattle.flash_tree.specs.OrderLaws.{not_after_itself}
 use Rattle.flash_tree.specs.Tree.{ReadsDir, Reads}
 use Rattle.flash_tree.specs.Mount.{sizes_of, bad_blocks}
-use Rattle.flash_tree.specs.Sound.{number_limit}
+use Rattle.volume_terms.specs.Sizes.{number_limit}
 use Rattle.transactions.specs.declared.fresh.FreshPage.{FreshPage}
 use Rattle.flat_directories.specs.HeadPages.{IsHeadPage, fields_in}
 use Rattle.flat_directories.specs.declared.head.DirectoryHead.{DirectoryHead}

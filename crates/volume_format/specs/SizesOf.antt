@@ -5,7 +5,7 @@ use Rattle.std.proofs.Common.{inl, inr}
 use Rattle.std.proofs.lemmas.Bool.{cases_eq}
 use Rattle.nand_model.specs.Size.{IsSize}
 use Rattle.nand_model.specs.declared.geometry.Geometry.{Geometry}
-use Rattle.posix_profile.specs.Sizes.{IsSizes}
+use Rattle.volume_terms.specs.Sizes.{IsSizes}
 use Rattle.flash_tree.specs.Mount.{sizes_of}
 
 -- one of four numbers is found by trying them

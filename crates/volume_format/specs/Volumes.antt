@@ -6,7 +6,7 @@ use Rattle.posix_profile.specs.State.{Entries, Objects}
 use Rattle.posix_profile.specs.Charge.{fits}
 use Rattle.flat_profile.specs.Flat.{IsFlat}
 use Rattle.flash_tree.specs.Newest.{HasNewest, AreAbove}
-use Rattle.flash_tree.specs.Sound.{number_limit}
+use Rattle.volume_terms.specs.Sizes.{number_limit}
 use Rattle.flash_tree.specs.Tree.{Shows}
 use Rattle.flash_tree.specs.Mount.{sizes_of, IsVolume, bad_blocks}
 

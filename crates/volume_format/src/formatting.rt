@@ -2,7 +2,7 @@
 ghost use Rattle.std.specs.Prelude.{◌≡◌, ◌↔◌, ◌⊎◌, ◌<◌, ◌≤◌, ◌+◌, ◌-◌, ℕ, true, false, length, IfOk, IfErr, IsErrAnd, OnOk};
 ghost use Rattle.nand_model.specs.Calls.{Lasts};
 ghost use Rattle.flash_tree.specs.Mount.{bad_blocks};
-ghost use Rattle.posix_profile.specs.FreshLaws.{fresh};
+ghost use Rattle.posix_profile.specs.laws.Fresh.{fresh};
 ghost use Rattle.volume_format.specs.Formatting.{Keeps, HoldsOnly, Explains, given_back};
 ghost use Rattle.volume_format.specs.Volumes.{IsSoundVolume};
 

@@ -1,7 +1,7 @@
 use Rattle.std.proofs.Common.{◌≡◌, ◌≤◌, true}
 use Rattle.std.specs.FinMap as map
 use Rattle.nand_model.specs.Changes.{OnlyReads}
-use Rattle.posix_profile.specs.Sizes.{Sizes}
+use Rattle.volume_terms.specs.Sizes.{Sizes}
 use Rattle.block_state.specs.TableOf.{table}
 use Rattle.flat_directories.proofs.SlotLists.{ReadsFirst}
 use Rattle.flat_directories.proofs.listing.entries.Given as goal

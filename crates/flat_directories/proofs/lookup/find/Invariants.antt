@@ -3,7 +3,7 @@ use Rattle.nand_model.specs.Changes.{OnlyReads}
 use Rattle.page_tags.specs.Slots.{Entry}
 use Rattle.flash_tree.specs.Newest.{HasNewest}
 use Rattle.flash_tree.specs.Tree.{ReadsDir}
-use Rattle.posix_profile.specs.Sizes.{Sizes}
+use Rattle.volume_terms.specs.Sizes.{Sizes}
 use Rattle.posix_profile.specs.State.{Entries}
 use Rattle.block_state.specs.TableOf.{table}
 use Rattle.flat_directories.proofs.lookup.find.Given as goal

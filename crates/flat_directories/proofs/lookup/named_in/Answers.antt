@@ -1,7 +1,7 @@
 use Rattle.std.proofs.Common.{◌≡◌, ◌∙◌, sym, ap, rules}
 use Rattle.page_tags.specs.Slots.{Entry}
 use Rattle.page_tags.specs.SlotEntry.{entry_of}
-use Rattle.page_tags.specs.SlotLaws.{same_slot}
+use Rattle.page_tags.specs.laws.Slot.{same_slot}
 use Rattle.flat_directories.proofs.lookup.named_in.Goals as goal
 
 pub returns-then-eq-clause-named : goal.returns-then-eq-clause-named

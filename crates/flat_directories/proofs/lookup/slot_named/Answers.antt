@@ -2,7 +2,7 @@ use Rattle.std.proofs.Common.{◌≡◌, ◌∙◌, ◌+◌, ◌*◌, ◌/◌, �
 use Rattle.nand_model.specs.declared.geometry.Geometry.{Geometry}
 use Rattle.page_tags.specs.Slots.{slot_bytes}
 use Rattle.flash_tree.specs.Newest.{HasNewest}
-use Rattle.posix_profile.specs.Sizes.{page_slots}
+use Rattle.volume_terms.specs.Sizes.{page_slots}
 use Rattle.flat_directories.proofs.Reading.{slot_there, ok_named, no_fault}
 use Rattle.flat_directories.proofs.lookup.slot_named.Goals as goal
 

@@ -1,7 +1,7 @@
 use Rattle.std.proofs.Common.{◌≡◌, ◌<◌, ℕ, Bool, false, ◌&&◌, not, nat_eq, List, sym, ◌∙◌, ap, rules}
 use Rattle.std.proofs.lemmas.List.Elements.{All-from_get_or}
 use Rattle.std.specs.List.{list_any}
-use Rattle.posix_profile.specs.WellFormed.{AreBytes}
+use Rattle.volume_terms.specs.Names.{AreBytes}
 use Rattle.flat_profile.specs.Flat.{has_name_bytes}
 use Rattle.flat_profile.specs.PathLaws.{small_all}
 use Rattle.flat_profile.proofs.Places.{turned_any}

@@ -1,12 +1,8 @@
 use Rattle.std.proofs.Common.{◌≡◌, ◌<◌, ℕ, ◌+◌, ◌/◌, nat_le, ◌∙◌, ap, arith}
-use Rattle.std.proofs.lemmas.Grind.{common_steps}
+use Rattle.volume_terms.specs.laws.Rounding.{ceiling_is}
 use Rattle.std.specs.Int.{div_ceil}
-use Rattle.posix_profile.specs.Charge.{ceiling}
+use Rattle.volume_terms.specs.Rounding.{ceiling}
 use Rattle.flat_profile.proofs.room.flat_fits.Goals as goal
-
--- two ways to round up
-ceiling_is : (n d : ℕ) → 0 < d → div_ceil n d ≡ ceiling n d
-ceiling_is n d some = grind (arith, common_steps)
 
 pub returns : goal.returns
 returns c =

@@ -6,7 +6,7 @@ use Rattle.page_tags.specs.declared.header.ObjectKind.TheVariants as kinds
 use Rattle.page_tags.specs.declared.header.HeaderFault.TheVariants as faults
 use Rattle.page_tags.specs.Headers.{IsFirstFault, greatest_length, length_in}
 use Rattle.page_tags.specs.HeaderParts.{HasFormat}
-use Rattle.page_tags.specs.HeaderLaws.{header_or_fault, kind_first, length_first, magic_first, newer_first, one_first_fault, one_header, pad_first, sound_from_no_pad_fault}
+use Rattle.page_tags.specs.laws.Header.{header_or_fault, kind_first, length_first, magic_first, newer_first, one_first_fault, one_header, pad_first, sound_from_no_pad_fault}
 use Rattle.page_tags.proofs.HeaderTests.{header_from_reads, magical, no_header, not_magical}
 use Rattle.page_tags.proofs.Ranges.{IsBytes-from_fits}
 use Rattle.page_tags.proofs.header.decode_header.Goals as goal

@@ -1,7 +1,7 @@
 use Rattle.std.proofs.Common.{◌/◌, ◌+◌, ◌-◌, drop, take, length, sym, ◌∙◌, le-ltb, ne_eqb}
 use Rattle.std.proofs.lemmas.Bool.{not_from_true, not_from_false, false_from_ne_true, false≢true}
 use Rattle.std.proofs.lemmas.List.{take_rest}
-use Rattle.page_tags.specs.BitLaws.{past_by_byte, past_by_rest, none_past, none_beyond}
+use Rattle.page_tags.specs.laws.Bit.{past_by_byte, past_by_rest, none_past, none_beyond}
 use Rattle.page_tags.proofs.Ranges.{IsBytes-from_fits}
 use Rattle.page_tags.proofs.header.has_chunk_past.Goals as goal
 

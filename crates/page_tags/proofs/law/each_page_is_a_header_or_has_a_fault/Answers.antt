@@ -1,4 +1,4 @@
-use Rattle.page_tags.specs.HeaderLaws.{header_or_fault, header_or_first_fault, one_first_fault, one_header}
+use Rattle.page_tags.specs.laws.Header.{header_or_fault, header_or_first_fault, one_first_fault, one_header}
 use Rattle.page_tags.proofs.law.each_page_is_a_header_or_has_a_fault.Goals as goal
 
 pub returns : goal.returns

@@ -1,4 +1,4 @@
-use Rattle.page_tags.specs.HeaderLaws.{same_fields}
+use Rattle.page_tags.specs.laws.Header.{same_fields}
 use Rattle.page_tags.proofs.law.headers_differ.Goals as goal
 
 pub returns : goal.returns

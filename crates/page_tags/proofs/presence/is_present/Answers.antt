@@ -3,7 +3,7 @@ use Rattle.std.specs.Int.{bit_at}
 use Rattle.std.proofs.lemmas.Bool.{ltb-false}
 use Rattle.std.proofs.lemmas.Nat.Bits.{shr_and_one}
 use Rattle.page_tags.specs.Headers.{is_present}
-use Rattle.page_tags.specs.BitLaws.{is_present_past}
+use Rattle.page_tags.specs.laws.Bit.{is_present_past}
 use Rattle.page_tags.proofs.presence.is_present.Goals as goal
 
 pub returns-in-Some : goal.returns-in-Some

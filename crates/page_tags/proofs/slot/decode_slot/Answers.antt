@@ -2,7 +2,7 @@ use Rattle.std.proofs.Common.{◌≡◌, ℕ, ◌-◌, List, length, take, drop,
 use Rattle.std.proofs.lemmas.Bool.{false≢true}
 use Rattle.std.proofs.lemmas.List.{take_rest}
 use Rattle.page_tags.specs.SlotEntry.{entry_of}
-use Rattle.page_tags.specs.SlotLaws.{name_length_in, no_slot_by_object, no_slot_by_length, no_slot_by_name, no_slot_by_rest, slot_from_parts}
+use Rattle.page_tags.specs.laws.Slot.{name_length_in, no_slot_by_object, no_slot_by_length, no_slot_by_name, no_slot_by_rest, slot_from_parts}
 use Rattle.page_tags.proofs.Ranges.{IsBytes-from_fits}
 use Rattle.page_tags.proofs.slot.decode_slot.Goals as goal
 use Rattle.page_tags.proofs.slot.decode_slot.Goals.{then-object-lt2-via-then-object-lt2, then-object-lt2-via-else-object-lt2+then-length-gt255, else-is_name-via-then-is_name+else-are_zero, else-is_name-via-else-is_name}

@@ -3,7 +3,8 @@ use Rattle.posix_profile.specs.State.{Objects}
 use Rattle.posix_profile.specs.Outcomes.{change_to}
 use Rattle.posix_profile.specs.Changes.{with_name}
 use Rattle.posix_profile.specs.declared.reply.Reply.TheVariants as replies
-use Rattle.plain_state.specs.PlainState.{sizes_of, objects_in, handles_in}
+use Rattle.plain_state.specs.PlainState.{objects_in, handles_in}
+use Rattle.volume_terms.specs.VolumeSizes.{sizes_of}
 use Rattle.plain_profile.specs.VolumeState.{state_of}
 use Rattle.plain_profile.proofs.Outcomes.{gives_same, refused, passed, passed_all}
 use Rattle.plain_profile.proofs.name_steps.link_absent.Goals as goal

@@ -6,7 +6,8 @@ use Rattle.plain_state.specs.Places.{last_of}
 use Rattle.posix_profile.specs.Changes.{with_object}
 use Rattle.posix_profile.specs.declared.reply.Reply.TheVariants as replies
 use Rattle.name_map.specs.NameEntries.{entries_in, empty_entries}
-use Rattle.plain_state.specs.PlainState.{sizes_of, objects_in, handles_in}
+use Rattle.plain_state.specs.PlainState.{objects_in, handles_in}
+use Rattle.volume_terms.specs.VolumeSizes.{sizes_of}
 use Rattle.plain_profile.specs.VolumeState.{state_of}
 use Rattle.plain_profile.proofs.Outcomes.{gives_same, refused, passed, passed_all}
 use Rattle.plain_profile.proofs.name_steps.mkdir_absent.Goals as goal

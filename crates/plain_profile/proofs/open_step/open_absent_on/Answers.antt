@@ -6,7 +6,7 @@ use Rattle.posix_profile.specs.Changes.{with_object}
 use Rattle.posix_profile.specs.HandleSteps.{open_on}
 use Rattle.posix_profile.specs.declared.reply.Reply.TheVariants as replies
 use Rattle.plain_state.specs.Places.{last_of}
-use Rattle.plain_state.specs.PlainState.{sizes_of}
+use Rattle.volume_terms.specs.VolumeSizes.{sizes_of}
 use Rattle.plain_profile.specs.VolumeState.{state_of}
 use Rattle.plain_profile.proofs.Outcomes.{gives_same, refused, passed, passed_all}
 use Rattle.plain_profile.proofs.open_step.open_absent_on.Goals as goal

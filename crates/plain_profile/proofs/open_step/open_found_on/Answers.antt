@@ -3,7 +3,7 @@ use Rattle.posix_profile.specs.State.{Objects}
 use Rattle.posix_profile.specs.Outcomes.{change_to}
 use Rattle.posix_profile.specs.HandleSteps.{open_on}
 use Rattle.posix_profile.specs.declared.reply.Reply.TheVariants as replies
-use Rattle.plain_state.specs.PlainState.{sizes_of}
+use Rattle.volume_terms.specs.VolumeSizes.{sizes_of}
 use Rattle.plain_profile.specs.VolumeState.{state_of}
 use Rattle.plain_profile.proofs.Outcomes.{gives_same, refused, passed, passed_all}
 use Rattle.plain_profile.proofs.open_step.open_found_on.Goals as goal

@@ -1,7 +1,7 @@
 use Rattle.std.proofs.Common.{◌∙◌, sym, ap}
 use Rattle.std.proofs.lemmas.Result.{err_from_is_err_and}
 use Rattle.posix_profile.specs.HandleSteps.{open_at}
-use Rattle.plain_state.specs.PlainState.{sizes_of}
+use Rattle.volume_terms.specs.VolumeSizes.{sizes_of}
 use Rattle.plain_profile.specs.VolumeState.{state_of}
 use Rattle.plain_state.specs.Places.{place_of}
 use Rattle.plain_profile.proofs.Outcomes.{gives_err, gives_same, no_place, this_place}

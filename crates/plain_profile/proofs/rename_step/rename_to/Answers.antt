@@ -4,7 +4,7 @@ use Rattle.posix_profile.specs.Outcomes.{answer, change_to, unless}
 use Rattle.posix_profile.specs.NameSteps.{name_moved, rename_tests_onto}
 use Rattle.posix_profile.specs.declared.reply.Errno.TheVariants as errors
 use Rattle.posix_profile.specs.declared.reply.Reply.TheVariants as replies
-use Rattle.plain_state.specs.PlainState.{sizes_of}
+use Rattle.volume_terms.specs.VolumeSizes.{sizes_of}
 use Rattle.plain_profile.specs.VolumeState.{state_of}
 use Rattle.plain_state.specs.Places.{place_of}
 use Rattle.plain_profile.specs.Meaning.{outcome_of}

@@ -3,7 +3,7 @@ use Rattle.posix_profile.specs.Outcomes.{Outcome, change_to}
 use Rattle.posix_profile.specs.Changes.{with_bytes, resized}
 use Rattle.posix_profile.specs.declared.reply.Errno.TheVariants as errors
 use Rattle.posix_profile.specs.declared.reply.Reply.TheVariants as replies
-use Rattle.plain_state.specs.PlainState.{sizes_of}
+use Rattle.volume_terms.specs.VolumeSizes.{sizes_of}
 use Rattle.plain_profile.specs.VolumeState.{state_of}
 use Rattle.plain_profile.proofs.Outcomes.{gives_same, this_file, no_file}
 use Rattle.plain_profile.proofs.truncate_step.truncate_object.Goals as goal

@@ -1,10 +1,12 @@
 use Rattle.std.proofs.Common.{◌≡◌, ◌≤◌, ◌<◌, ◌∙◌, ◌+◌, ◌-◌, ◌*◌, ℕ, length, min, refl, sym, ap, ap₂, arith}
 use Rattle.std.proofs.lemmas.Bool.{leb-true}
-use Rattle.posix_profile.specs.Sizes.{capacity, most_written, greatest_length}
-use Rattle.posix_profile.specs.Charge.{charge, ceiling}
+use Rattle.volume_terms.specs.Sizes.{capacity, most_written, greatest_length}
+use Rattle.posix_profile.specs.Charge.{charge}
+use Rattle.volume_terms.specs.Rounding.{ceiling}
 use Rattle.posix_profile.specs.HandleSteps.{write_offset}
-use Rattle.posix_profile.specs.WriteLaws.{units_for, write_count_is}
-use Rattle.plain_state.specs.PlainState.{sizes_of, handle_of}
+use Rattle.posix_profile.specs.laws.Write.{units_for, write_count_is}
+use Rattle.plain_state.specs.PlainState.{handle_of}
+use Rattle.volume_terms.specs.VolumeSizes.{sizes_of}
 use Rattle.plain_profile.specs.VolumeState.{state_of}
 use Rattle.plain_state.specs.Views.{ceiling_at}
 use Rattle.plain_profile.proofs.write_step.write_count.Goals as goal

@@ -1,11 +1,12 @@
 use Rattle.std.proofs.Common.{◌≤◌, ◌<◌, ◌∙◌, ◌+◌, List, ℕ, length, take, sym, ap, subst}
 use Rattle.std.proofs.lemmas.Bool.{le-leb, lt-leb, eq-eqb, ne_eqb}
-use Rattle.posix_profile.specs.Sizes.{greatest_length}
+use Rattle.volume_terms.specs.Sizes.{greatest_length}
 use Rattle.posix_profile.specs.Outcomes.{Outcome, answer}
 use Rattle.posix_profile.specs.Changes.{with_bytes, with_offset, written}
 use Rattle.posix_profile.specs.HandleSteps.{write_offset}
 use Rattle.posix_profile.specs.declared.reply.Reply.TheVariants as replies
-use Rattle.plain_state.specs.PlainState.{sizes_of, handle_of}
+use Rattle.plain_state.specs.PlainState.{handle_of}
+use Rattle.volume_terms.specs.VolumeSizes.{sizes_of}
 use Rattle.plain_profile.specs.VolumeState.{state_of}
 use Rattle.plain_profile.proofs.Outcomes.{gives_same, refused, passed, passed_all}
 use Rattle.plain_profile.proofs.write_step.write_file.Goals as goal

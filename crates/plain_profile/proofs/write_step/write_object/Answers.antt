@@ -1,7 +1,8 @@
 use Rattle.std.proofs.Common.{◌∙◌, ap}
 use Rattle.posix_profile.specs.HandleSteps.{write_file}
 use Rattle.posix_profile.specs.declared.reply.Errno.TheVariants as errors
-use Rattle.plain_state.specs.PlainState.{sizes_of, handle_of}
+use Rattle.plain_state.specs.PlainState.{handle_of}
+use Rattle.volume_terms.specs.VolumeSizes.{sizes_of}
 use Rattle.plain_profile.specs.VolumeState.{state_of}
 use Rattle.plain_profile.proofs.Outcomes.{gives_same, this_file, no_file}
 use Rattle.plain_profile.proofs.write_step.write_object.Goals as goal

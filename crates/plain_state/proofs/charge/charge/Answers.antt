@@ -1,7 +1,8 @@
 use Rattle.std.proofs.Common.{◌∙◌, sum_by, ap, arith}
 use Rattle.posix_profile.specs.Charge.{cost}
 use Rattle.std.specs.Map.Iter.{deref}
-use Rattle.plain_state.specs.PlainState.{object_of, sizes_of}
+use Rattle.plain_state.specs.PlainState.{object_of}
+use Rattle.volume_terms.specs.VolumeSizes.{sizes_of}
 use Rattle.plain_state.specs.Views.{charge_values, all_gone}
 use Rattle.plain_state.proofs.charge.charge.Goals as goal
 

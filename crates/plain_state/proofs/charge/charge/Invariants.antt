@@ -1,6 +1,7 @@
 use Rattle.std.proofs.Common.{◌≡◌, ◌≤◌, ◌-◌, ◌^◌, min, ◌+◌, sum_by}
 use Rattle.posix_profile.specs.Charge.{cost, charge}
-use Rattle.plain_state.specs.PlainState.{object_of, objects_in, sizes_of}
+use Rattle.plain_state.specs.PlainState.{object_of, objects_in}
+use Rattle.volume_terms.specs.VolumeSizes.{sizes_of}
 use Rattle.plain_state.proofs.charge.charge.Given as goal
 
 -- the units so far and those of the objects that are left are those of all

@@ -1,5 +1,5 @@
 use Rattle.std.proofs.Common.{◌∙◌, sum_by, ap, arith}
-use Rattle.plain_state.specs.PlainState.{sizes_of}
+use Rattle.volume_terms.specs.VolumeSizes.{sizes_of}
 use Rattle.plain_state.proofs.Few.{names_in, pairs_count, pairs_few}
 use Rattle.plain_state.proofs.links.file_links.Goals as goal
 

@@ -1,7 +1,7 @@
 use Rattle.std.proofs.Common.{◌≡◌}
 use Rattle.std.specs.List.{find}
 use Rattle.std.specs.Option.{option_map_or}
-use Rattle.posix_profile.specs.Sizes.{root_number}
+use Rattle.volume_terms.specs.Sizes.{root_number}
 use Rattle.posix_profile.specs.Names.{has_entry_to, parent}
 use Rattle.plain_state.specs.PlainState.{object_of, objects_in}
 use Rattle.plain_state.proofs.links.parent.Given as goal

@@ -1,6 +1,6 @@
 use Rattle.std.proofs.Common.{◌≡◌, length, nat_lt, map as list_map, drop}
 use Rattle.std.specs.List.{list_any}
-use Rattle.posix_profile.specs.Sizes.{name_limit}
+use Rattle.volume_terms.specs.Sizes.{name_limit}
 use Rattle.plain_state.proofs.path.has_long_part.Given as goal
 
 -- no part so far is too long

@@ -10,7 +10,7 @@ use Rattle.flash_tree.specs.PlaceLaws.{same_flash}
 use Rattle.flash_tree.specs.Tree.{ReadsDir}
 use Rattle.flat_profile.specs.Flat.{IsFlat}
 use Rattle.posix_profile.specs.Charge.{fits}
-use Rattle.posix_profile.specs.Sizes.{root_number}
+use Rattle.volume_terms.specs.Sizes.{root_number}
 use Rattle.posix_profile.specs.State.{Entries, Objects}
 use Rattle.posix_profile.specs.WellFormed.{IsTree}
 use Rattle.posix_calls.specs.Checks.{HasEachNamed}

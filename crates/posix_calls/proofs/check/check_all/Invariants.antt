@@ -1,6 +1,6 @@
 use Rattle.std.proofs.Common.{◌≡◌, ◌<◌, ℕ, true, Some, slice_get}
 use Rattle.nand_model.specs.Changes.{OnlyReads}
-use Rattle.posix_profile.specs.Sizes.{Sizes}
+use Rattle.volume_terms.specs.Sizes.{Sizes}
 use Rattle.block_state.specs.TableOf.{table}
 use Rattle.posix_calls.specs.Checks.{IsEmptyThere}
 use Rattle.posix_calls.proofs.check.check_all.Given as goal

@@ -1,7 +1,7 @@
 use Rattle.std.proofs.Common.{◌≡◌, ◌≢◌, ◌++◌, ◌∷◌, [], List, refl, sym, ap, subst, arith}
 use Rattle.nand_model.specs.Calls.{Device}
 use Rattle.nand_model.specs.declared.geometry.Geometry.{Geometry}
-use Rattle.posix_profile.specs.Sizes.{root_number}
+use Rattle.volume_terms.specs.Sizes.{root_number}
 use Rattle.flash_tree.specs.Mount.{sizes_of}
 use Rattle.flat_store.specs.Changes.{CanApply}
 use Rattle.flat_store.specs.declared.change.Change.{Change}

@@ -1,4 +1,4 @@
-use Rattle.posix_profile.specs.NumberLaws.{free_descriptor_is, no_descriptor_is}
+use Rattle.posix_profile.specs.laws.Number.{free_descriptor_is, no_descriptor_is}
 use Rattle.posix_profile.proofs.law.a_free_descriptor_is_the_least.Goals as goal
 
 pub returns-clause-least : goal.returns-clause-least

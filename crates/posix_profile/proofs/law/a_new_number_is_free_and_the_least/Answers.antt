@@ -1,4 +1,4 @@
-use Rattle.posix_profile.specs.NumberLaws.{new_number_is}
+use Rattle.posix_profile.specs.laws.Number.{new_number_is}
 use Rattle.posix_profile.proofs.law.a_new_number_is_free_and_the_least.Goals as goal
 
 pub returns : goal.returns

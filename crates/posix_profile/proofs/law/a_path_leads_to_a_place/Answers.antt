@@ -1,4 +1,4 @@
-use Rattle.posix_profile.specs.PathLaws.{resolve_place}
+use Rattle.posix_profile.specs.laws.Path.{resolve_place}
 use Rattle.posix_profile.proofs.law.a_path_leads_to_a_place.Goals as goal
 
 pub returns : goal.returns

@@ -1,4 +1,4 @@
-use Rattle.posix_profile.specs.OwnLaws.{command_own}
+use Rattle.posix_profile.specs.laws.Own.{command_own}
 use Rattle.posix_profile.proofs.law.a_step_answers_itself.Goals as goal
 
 pub returns : goal.returns

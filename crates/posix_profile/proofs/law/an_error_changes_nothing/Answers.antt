@@ -1,4 +1,4 @@
-use Rattle.posix_profile.specs.ErrorLaws.{error_keeps}
+use Rattle.posix_profile.specs.laws.Error.{error_keeps}
 use Rattle.posix_profile.proofs.law.an_error_changes_nothing.Goals as goal
 
 pub returns : goal.returns

@@ -1,4 +1,4 @@
-use Rattle.posix_profile.specs.MomentLaws.{command_stamps}
+use Rattle.posix_profile.specs.laws.Moment.{command_stamps}
 use Rattle.posix_profile.proofs.law.every_changed_object_has_the_moment.Goals as goal
 
 pub returns : goal.returns

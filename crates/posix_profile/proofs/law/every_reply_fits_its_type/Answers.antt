@@ -1,4 +1,4 @@
-use Rattle.posix_profile.specs.ReplyLaws.{command_told}
+use Rattle.posix_profile.specs.laws.Reply.{command_told}
 use Rattle.posix_profile.proofs.law.every_reply_fits_its_type.Goals as goal
 
 pub returns : goal.returns

@@ -1,4 +1,4 @@
-use Rattle.posix_profile.specs.BelowLaws.{is_below_decides}
+use Rattle.posix_profile.specs.laws.Below.{is_below_decides}
 use Rattle.posix_profile.proofs.law.the_test_says_what_lies_below.Goals as goal
 
 pub returns : goal.returns

@@ -1,7 +1,7 @@
 use Rattle.std.proofs.Common.{◌≡◌, ◌≤◌, ◌+◌, ap, subst, arith}
 use Rattle.nand_model.specs.Calls.{Device}
 use Rattle.nand_model.specs.declared.geometry.Geometry.{Geometry}
-use Rattle.posix_profile.specs.Sizes.{root_number}
+use Rattle.volume_terms.specs.Sizes.{root_number}
 use Rattle.flat_directories.specs.HeadPages.{IsHeadPage}
 use Rattle.volume_format.proofs.Rooted.{volume_of}
 use Rattle.volume_format.proofs.formatting.format.Goals as goal

@@ -1,7 +1,7 @@
 use Rattle.std.proofs.Common.{sym, ap, ◌∙◌, subst}
 use Rattle.std.proofs.lemmas.Bool.{false≢true}
 use Rattle.page_tags.specs.Tags.{tag_bytes, IsTag}
-use Rattle.page_tags.specs.TagLaws.{tag_bytes-tag_in, not_a_tag}
+use Rattle.page_tags.specs.laws.Tag.{tag_bytes-tag_in, not_a_tag}
 use Rattle.page_tags.proofs.tag.Tag.decode.Goals as goal
 
 pub returns-then-is_valid-clause-found : goal.returns-then-is_valid-clause-found

@@ -1,6 +1,6 @@
 use Rattle.std.proofs.Common.{◌≡◌, ◌∙◌, ap}
 use Rattle.std.specs.FinMap as map
-use Rattle.posix_profile.specs.Sizes.{root_number}
+use Rattle.volume_terms.specs.Sizes.{root_number}
 use Rattle.posix_profile.specs.State.{Dir, Objects, Entries}
 use Rattle.name_map.specs.NameEntries.{entries_in, empty_entries}
 use Rattle.plain_state.specs.PlainState.{objects_in}

@@ -3,7 +3,7 @@ use Rattle.std.proofs.lemmas.Int.{to_z-of_z}
 use Rattle.posix_profile.specs.HandleSteps.{open_step, write_step, seek_step, truncate_step}
 use Rattle.posix_profile.specs.NameSteps.{stat_step, mkdir_step, rmdir_step, unlink_step, link_step, rename_step, list_step}
 use Rattle.posix_profile.specs.Steps.{step_at}
-use Rattle.plain_state.specs.PlainState.{sizes_of}
+use Rattle.volume_terms.specs.VolumeSizes.{sizes_of}
 use Rattle.plain_profile.specs.VolumeState.{state_of}
 use Rattle.plain_profile.specs.Meaning.{outcome_of}
 use Rattle.plain_profile.proofs.Outcomes.{gives_same}

@@ -1,0 +1,5 @@
+pub mod Bit
+pub mod Byte
+pub mod Header
+pub mod Slot
+pub mod Tag

@@ -1,0 +1,3 @@
+pub mod List
+pub mod Name
+pub mod Rounding

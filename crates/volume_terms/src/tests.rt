@@ -1,0 +1,26 @@
+// What may be a name; the sizes of a volume.
+use crate::{VolumeSizes, is_name};
+use std::test::Fail;
+
+#[test]
+fn names(rt: HostRuntime) -> Result<(), Fail> {
+    for name in [b"a".as_slice(), b"...", b".a", b"\xff\x01", &[b'n'; 255]] {
+        assert!(rt; is_name(name));
+    }
+    for name in [b"".as_slice(), b".", b"..", b"a/b", b"a\0", &[b'n'; 256]] {
+        assert!(rt; !is_name(name));
+    }
+    Ok(())
+}
+
+// Pages of 512 bytes, 32 in a block, 8 blocks and one of them spare.
+#[test]
+fn sizes(rt: HostRuntime) -> Result<(), Fail> {
+    let sizes = VolumeSizes::new(512, 32, 8, 1);
+    assert!(rt; sizes.page_bytes() == 512);
+    assert!(rt; sizes.page_slots() == 1);
+    assert!(rt; sizes.capacity() == 144);
+    assert!(rt; sizes.most_written() == 2560);
+    assert!(rt; sizes.greatest_length() == 1_966_080);
+    Ok(())
+}

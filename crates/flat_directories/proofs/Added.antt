@@ -21,7 +21,8 @@ use Rattle.posix_profile.specs.State.{Name, Entries}
 use Rattle.flat_store.specs.Changes.{IsOf, AreApart}
 use Rattle.transactions.specs.declared.fresh.FreshPage.{FreshPage}
 use Rattle.flat_directories.specs.Additions.{IsSlotPage, IsEntriesPage, ArePagesOf, HasPages, KeepsOthersOf, AddsEntry}
-use Rattle.flat_directories.proofs.SlotLists.{get_push, once_push, entries_push}
+use Rattle.flat_directories.proofs.SlotLists.{once_push, entries_push}
+use Rattle.volume_terms.specs.laws.List.{get_push}
 use Rattle.flat_directories.specs.HeadPages.{IsHeadPage, fields_in}
 use Rattle.flat_directories.specs.declared.head.DirectoryHead.{DirectoryHead}
 

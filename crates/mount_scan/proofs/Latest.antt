@@ -1,12 +1,14 @@
 -- The last entry of each key is its newest.
-use Rattle.std.specs.Prelude.{◌≡◌, ◌<◌, ◌≤◌, ℕ, zero, suc, ◌+◌, List, [], ◌∷◌, ◌++◌, Some, length, slice_get, Contains}
+use Rattle.std.specs.Prelude.{◌≡◌, ◌<◌, ◌≤◌, ℕ, zero, suc, ◌+◌, List, [], ◌∷◌, ◌++◌, Some, length, take, slice_get, slice_set, Contains}
 use Rattle.std.specs.List.{AllPairs}
-use Rattle.std.proofs.Common.{refl, sym, ◌∙◌, subst, inl, inr, arith, get_or}
+use Rattle.std.proofs.Common.{refl, sym, ◌∙◌, ap, subst, inl, inr, arith, get_or}
 use Rattle.std.proofs.lemmas.Bool.{cases_eq, cases_lt, cases_order}
 use Rattle.std.proofs.lemmas.Option.{get_or_from_slice_get, slice_get_within, slice_get-get_or}
+use Rattle.std.proofs.lemmas.List.{take_more_set, length-set, get_or-set_other}
 use Rattle.std.proofs.lemmas.List.Elements.{Contains-append_left, Contains-push, Contains-push_cases, Contains-get_or}
 use Rattle.std.proofs.lemmas.List.Quantifiers.{all_pairs_push}
 use Rattle.nand_model.specs.Flash.{Flash}
+use Rattle.nand_model.specs.Calls.{Device}
 use Rattle.flash_tree.specs.Groups.{HasTag}
 use Rattle.flash_tree.specs.Newest.{Spot, Holds, IsAfter, IsNewest}
 use Rattle.flash_tree.specs.NewestExists.{one_tag}
@@ -14,9 +16,11 @@ use Rattle.flash_tree.specs.NewestLaws.{one_is_after}
 use Rattle.flash_tree.specs.OrderLaws.{not_after_itself}
 use Rattle.flash_tree.specs.declared.place.Found.{Found}
 use Rattle.flash_tree.specs.Places.{spot_of}
-use Rattle.mount_scan.specs.Scanned.{IsKeyBefore, AreCounted, AreNewest}
+use Rattle.mount_scan.specs.Scanned.{IsKeyBefore, AreCounted, AreNewest, TellsCounted, TellsNewest}
 use Rattle.mount_scan.specs.ScanLaws.{found_of, listed_spot, pair_at, not_before_itself}
-use Rattle.mount_scan.specs.Keys.{HaveOneKey, IsSortedBefore, AreSorted, EndsKey, IsLastOfKey, AreLastOfKeys, AreLatest}
+use Rattle.mount_scan.proofs.Ranked.{AreSorted}
+use Rattle.mount_scan.proofs.Tagged.{placed_among}
+use Rattle.mount_scan.specs.Keys.{HaveOneKey, IsSortedBefore, EndsKey, IsLastOfKey, AreLastOfKeys, Gathers, AreLatest}
 
 -- one place of a list has one entry
 one_entry : (list : List Found) (k : ℕ) (x y : Found) → slice_get list k ≡ Some x → slice_get list k ≡ Some y → x ≡ y
@@ -94,6 +98,42 @@ last_at_start list = record {
   each = λ f. (λ has. absurd (omega (arith, has.1)), λ is. absurd (omega (arith, is.before)));
   order = λ i j d lt within. absurd (omega (arith, within));
 }
+
+-- a place of a list that has what another has there
+same_there : (xs ys : List Found) (k : ℕ) (x : Found) → length ys ≡ length xs → ((d : Found) → get_or ys k d ≡ get_or xs k d) → slice_get xs k ≡ Some x → slice_get ys k ≡ Some x
+same_there xs ys k x len same at =
+    let within : k < length xs = slice_get_within xs k x at in
+    slice_get-get_or ys k x (omega (arith, within, len)) ∙ ap Some (same x ∙ get_or_from_slice_get xs k x x at)
+
+-- the last entry of its key is gathered
+pub gather_kept : (first list : List Found) (i kept : ℕ) (x : Found) → i < length list → slice_get list i ≡ Some x → EndsKey list i → AllPairs IsSortedBefore first → Gathers first i list kept
+    → Gathers first (i + 1) (slice_set list kept x) (kept + 1)
+gather_kept first list i kept x lt at ends sorted are = record {
+  len = length-set list kept x ∙ are.len;
+  front = omega (arith, are.front);
+  last = subst (AreLastOfKeys first (i + 1)) (sym (take_more_set list kept x (omega (arith, are.front, lt)))) (last_kept first i x (take kept list) sorted
+      (same_there list first i x (sym are.len) (λ d. sym (are.rest i d (omega arith))) at)
+      (λ f g at_f at_g. ends f g
+      (same_there first list i f are.len (λ d. are.rest i d (omega arith)) at_f)
+      (same_there first list (i + 1) g are.len (λ d. are.rest (i + 1) d (omega arith)) at_g))
+      are.last);
+  rest = λ k d le. get_or-set_other list kept k x d (λ same. absurd (omega (arith, are.front, le, same))) ∙ are.rest k d (omega (arith, le));
+}
+
+-- another stays
+pub gather_passed : (first list : List Found) (i kept : ℕ) → (EndsKey list i → ⊥) → Gathers first i list kept → Gathers first (i + 1) list kept
+gather_passed first list i kept goes_on are = record {
+  len = are.len;
+  front = omega (arith, are.front);
+  last = last_passed first i (take kept list) (λ ends. goes_on (λ f g at_f at_g. ends f g
+      (same_there list first i f (sym are.len) (λ d. sym (are.rest i d (omega arith))) at_f)
+      (same_there list first (i + 1) g (sym are.len) (λ d. sym (are.rest (i + 1) d (omega arith))) at_g))) are.last;
+  rest = λ k d le. are.rest k d (omega (arith, le));
+}
+
+-- at first none is gathered
+pub gather_none : (first : List Found) → Gathers first 0 first 0
+gather_none first = record { len = refl; front = omega arith; last = last_at_start first; rest = λ k d le. refl }
 
 -- an entry is the last of its key, or the last is found from the next one on
 last_or_next : (list : List Found) (k : ℕ) (x next : Found) → slice_get list k ≡ Some x → slice_get list (k + 1) ≡ Some next
@@ -208,7 +248,7 @@ module _ (f : Flash) (counted newest : List Found) (are : AreCounted f counted) 
       subst (Contains newest) same some.1
 
   -- the newest entries of those that count are the newest pages
-  pub newest_pages : AreNewest f newest
+  newest_pages : AreNewest f newest
   newest_pages = record {
     each = λ o c s. (
       λ is. ((listed_spot newest s).1 (newest_is_kept o c s is), is.holds.object, is.holds.chunk),
@@ -216,3 +256,11 @@ module _ (f : Flash) (counted newest : List Found) (are : AreCounted f counted) 
     );
     order = latest.order;
   }
+
+-- of what is told of the pages that count, what is told of the newest
+pub tells_newest : (device : Device) (counted newest : List Found) → TellsCounted device counted → AreLatest counted newest → TellsNewest device newest
+tells_newest device counted newest tells latest = record {
+  placed = placed_among device.geometry.blocks device.geometry.pages counted newest latest.among tells.placed;
+  order = latest.order;
+  exact = λ honest. newest_pages device.flash counted newest (tells.exact honest) latest;
+}

@@ -1,3 +1,4 @@
+pub mod Reading
 pub mod Entries
 pub mod Tagged
 pub mod Raised

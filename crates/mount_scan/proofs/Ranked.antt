@@ -1,5 +1,6 @@
 -- Entries sorted by their ranks.
-use Rattle.std.specs.Prelude.{◌≡◌, ◌<◌, ◌≤◌, ℕ, false, List}
+use Rattle.std.specs.Prelude.{◌≡◌, ◌<◌, ◌≤◌, ◌↔◌, ℕ, false, List, Contains}
+use Rattle.std.specs.List.{AllPairs}
 use Rattle.std.specs.List.Sorted.{IsSortedBy, IsPermutation}
 use Rattle.std.specs.Cmp.{IsTotalOrder}
 use Rattle.std.specs.Ordering.{MatchOrdering, nat_cmp, ordering_then, is_lt}
@@ -13,7 +14,12 @@ use Rattle.std.proofs.lemmas.List.Sorted.{sorted_far, Contains-permutation, IsPe
 use Rattle.flash_tree.specs.Newest.{IsAfter}
 use Rattle.flash_tree.specs.declared.place.Found.{Found}
 use Rattle.flash_tree.specs.Places.{spot_of}
-use Rattle.mount_scan.specs.Keys.{IsSortedBefore, AreSorted}
+use Rattle.mount_scan.specs.Keys.{IsSortedBefore}
+
+-- the same entries, in the order by key, and those of one key from the oldest to the newest
+pub record AreSorted (list sorted : List Found) : Type 0 where
+  pub each : (f : Found) → Contains sorted f ↔ Contains list f
+  pub order : AllPairs IsSortedBefore sorted
 
 -- how two entries compare by their ranks
 abbrev pub rank_cmp : Found → Found → Ordering

@@ -1,21 +1,25 @@
 -- From the tags of a block to the flash.
 use Rattle.std.specs.Prelude.{◌≡◌, ◌↔◌, ◌<◌, ◌≤◌, ℕ, ◌+◌, ◌-◌, true, false, List, [], Option, Some, None, length, slice_get, Contains}
+use Rattle.std.specs.List.{AllPairs}
 use Rattle.std.proofs.Common.{refl, sym, ◌∙◌, ap, subst, inl, inr, arith, get_or}
 use Rattle.std.proofs.lemmas.Bool.{cases_eq, false≢true}
 use Rattle.std.proofs.lemmas.Option.{slice_get-get_or}
 use Rattle.std.proofs.lemmas.List.Elements.{All-contains, Contains-get_or}
 use Rattle.nand_model.specs.Flash.{Flash, IsWithin}
+use Rattle.nand_model.specs.Calls.{Device}
+use Rattle.nand_model.specs.Changes.{OnlyReads}
+use Rattle.nand_model.specs.declared.geometry.Geometry.{Geometry}
 use Rattle.page_tags.specs.declared.tag.Tag.{Tag}
 use Rattle.flash_tree.specs.Groups.{HasTag, Group, IsPart, IsGroup}
 use Rattle.flash_tree.specs.Newest.{Holds}
 use Rattle.flash_tree.specs.NewestExists.{one_tag}
 use Rattle.flash_tree.specs.declared.place.Found.{Found}
 use Rattle.flash_tree.specs.Places.{spot_of, group_of, TagIs}
-use Rattle.flash_tree.specs.PlaceLaws.{tag_placed, counts_by_tag}
-use Rattle.mount_scan.specs.Scanned.{AreCounted, ArePlaced}
+use Rattle.flash_tree.specs.PlaceLaws.{same_flash, tag_placed, counts_by_tag}
+use Rattle.mount_scan.specs.Scanned.{AreCounted, ArePlaced, IsPlaceBefore, TellsCounted}
 use Rattle.mount_scan.specs.ScanLaws.{found_of, listed_spot}
 use Rattle.mount_scan.specs.Runs.{IsPartOf, IsRun, IsCountedIn, AddsCounted}
-use Rattle.mount_scan.specs.Blocks.{AreTags, AreCountedBelow}
+use Rattle.mount_scan.specs.Blocks.{AreTags, AreCountedBelow, TellsBelow}
 
 module _ (f : Flash) (b pages blocks : ℕ) (tags : List (Option Tag)) (within : IsWithin pages blocks f) (len : length tags ≡ pages) (told : AreTags f b tags) where
   told_is : (p : ℕ) (t : Tag) (o : Option Tag) → HasTag f b p t → slice_get tags p ≡ Some o → TagIs f b p o → slice_get tags p ≡ Some (Some t)
@@ -98,7 +102,7 @@ module _ (f : Flash) (b pages blocks : ℕ) (tags : List (Option Tag)) (within :
   )
 
   -- with what counts in a block it is the next block's turn
-  pub below_block : (old new : List Found) → f.bad b ≡ false → AddsCounted b tags (length tags) old new → AreCountedBelow f b old → AreCountedBelow f (b + 1) new
+  below_block : (old new : List Found) → f.bad b ≡ false → AddsCounted b tags (length tags) old new → AreCountedBelow f b old → AreCountedBelow f (b + 1) new
   below_block old new good adds below = record {
     each = λ x. (
       λ has. elim ((adds.each x).0 has) [
@@ -115,7 +119,7 @@ module _ (f : Flash) (b pages blocks : ℕ) (tags : List (Option Tag)) (within :
 
 module _ (f : Flash) where
   -- a bad block is passed
-  pub below_bad : (b : ℕ) (list : List Found) → f.bad b ≡ true → AreCountedBelow f b list → AreCountedBelow f (b + 1) list
+  below_bad : (b : ℕ) (list : List Found) → f.bad b ≡ true → AreCountedBelow f b list → AreCountedBelow f (b + 1) list
   below_bad b list bad below = record {
     each = λ x. (
       λ has. let is = (below.each x).0 has in (omega (arith, is.0), is.1),
@@ -128,14 +132,14 @@ module _ (f : Flash) where
   }
 
   -- before the first block there is none
-  pub below_none : AreCountedBelow f 0 []
+  below_none : AreCountedBelow f 0 []
   below_none = record {
     each = λ x. (λ has. absurd (omega (arith, has.1)), λ holds. absurd (omega (arith, holds.0)));
     order = λ i j d lt within. absurd (omega (arith, within));
   }
 
   -- below the end of the device are all
-  pub below_all : (pages blocks : ℕ) (list : List Found) → IsWithin pages blocks f → AreCountedBelow f blocks list → AreCounted f list
+  below_all : (pages blocks : ℕ) (list : List Found) → IsWithin pages blocks f → AreCountedBelow f blocks list → AreCounted f list
   below_all pages blocks list within below = record {
     each = λ s. (
       λ holds. (listed_spot list s).1 ((below.each (found_of s)).1 ((tag_placed pages blocks f s.block s.page s.tag within holds.has).0, holds)),
@@ -145,14 +149,71 @@ module _ (f : Flash) where
   }
 
 -- the places of a block that was added
-pub placed_block : (b pages : ℕ) (tags : List (Option Tag)) (old new : List Found) → length tags ≡ pages → AddsCounted b tags (length tags) old new → ArePlaced b pages old
+placed_block : (b pages : ℕ) (tags : List (Option Tag)) (old new : List Found) → length tags ≡ pages → AddsCounted b tags (length tags) old new → ArePlaced b pages old
     → ArePlaced (b + 1) pages new
 placed_block b pages tags old new len adds placed k d lt = elim ((adds.each (get_or new k d)).0 (Contains-get_or new k d lt)) [
   | inl was ↦ let is = All-contains (λ x. (x.block < b) × (x.page < pages)) old (get_or new k d) placed was in (omega (arith, is.0), is.1)
   | inr is ↦ (omega (arith, is.block), omega (arith, is.before, len))
 ]
 
+-- and their order
+order_block : (b pages : ℕ) (tags : List (Option Tag)) (old new : List Found) → AddsCounted b tags (length tags) old new → ArePlaced b pages old → AllPairs IsPlaceBefore old
+    → AllPairs IsPlaceBefore new
+order_block b pages tags old new adds placed order =
+    adds.order order (λ x y was is. inl (omega (arith, (All-contains (λ x. (x.block < b) × (x.page < pages)) old x placed was).0, is.block)))
+
 -- places among those of another list
 pub placed_among : (blocks pages : ℕ) (list some : List Found) → ((x : Found) → Contains some x → Contains list x) → ArePlaced blocks pages list → ArePlaced blocks pages some
 placed_among blocks pages list some among placed k d lt =
     All-contains (λ x. (x.block < blocks) × (x.page < pages)) list (get_or some k d) placed (among (get_or some k d) (Contains-get_or some k d lt))
+
+-- after a block what is told of one more
+pub tells_block : (device : Device) (b : ℕ) (tags : List (Option Tag)) → IsWithin device.geometry.pages device.geometry.blocks device.flash → length tags ≡ device.geometry.pages
+    → (device.honest ≡ true → AreTags device.flash b tags) → (old new : List Found) → device.flash.bad b ≡ false → AddsCounted b tags (length tags) old new
+    → TellsBelow device b old → TellsBelow device (b + 1) new
+tells_block device b tags within len told old new good adds below = record {
+  placed = placed_block b device.geometry.pages tags old new len adds below.placed;
+  order = order_block b device.geometry.pages tags old new adds below.placed below.order;
+  exact = λ honest. below_block device.flash b device.geometry.pages device.geometry.blocks tags within len (told honest) old new good adds (below.exact honest);
+}
+
+-- after a bad one nothing more is
+pub tells_bad : (device : Device) (b : ℕ) (list : List Found) → device.flash.bad b ≡ true → TellsBelow device b list → TellsBelow device (b + 1) list
+tells_bad device b list bad below = record {
+  placed = λ k d lt. let is = below.placed k d lt in (omega (arith, is.0), is.1);
+  order = below.order;
+  exact = λ honest. below_bad device.flash b list bad (below.exact honest);
+}
+
+-- after some reads the same is
+pub tells_on : (a b : Device) (k : ℕ) (list : List Found) → OnlyReads a b → TellsBelow a k list → TellsBelow b k list
+tells_on a b k list reads tells = record {
+  placed = subst (λ (g : Geometry). ArePlaced k g.pages list) (sym reads.lasts.geometry) tells.placed;
+  order = tells.order;
+  exact = λ honest.
+      let was : a.honest ≡ true = sym reads.lasts.honest ∙ honest in
+      subst (λ f. AreCountedBelow f k list) (sym (same_flash a b reads was)) (tells.exact was);
+}
+
+pub tells_back : (a b : Device) (k : ℕ) (list : List Found) → OnlyReads a b → TellsBelow b k list → TellsBelow a k list
+tells_back a b k list reads tells = record {
+  placed = subst (λ (g : Geometry). ArePlaced k g.pages list) reads.lasts.geometry tells.placed;
+  order = tells.order;
+  exact = λ honest. subst (λ f. AreCountedBelow f k list) (same_flash a b reads honest) (tells.exact (reads.lasts.honest ∙ honest));
+}
+
+-- before the first block nothing is
+pub tells_none : (device : Device) → TellsBelow device 0 []
+tells_none device = record {
+  placed = λ k d lt. absurd (omega (arith, lt));
+  order = λ i j d lt within. absurd (omega (arith, within));
+  exact = λ honest. below_none device.flash;
+}
+
+-- after the last block all is
+pub tells_all : (device : Device) (list : List Found) → IsWithin device.geometry.pages device.geometry.blocks device.flash → TellsBelow device device.geometry.blocks list → TellsCounted device list
+tells_all device list within below = record {
+  placed = below.placed;
+  order = below.order;
+  exact = λ honest. below_all device.flash device.geometry.pages device.geometry.blocks list within (below.exact honest);
+}

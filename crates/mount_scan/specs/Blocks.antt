@@ -1,13 +1,14 @@
 -- What is known of a flash whose lower blocks were scanned.
-use Rattle.std.specs.Prelude.{◌≡◌, ◌↔◌, ◌<◌, ◌≤◌, ℕ, false, List, Option, Some, slice_get, Contains}
+use Rattle.std.specs.Prelude.{◌≡◌, ◌↔◌, ◌<◌, ◌≤◌, ℕ, true, false, List, Option, Some, slice_get, Contains}
 use Rattle.std.specs.List.{AllPairs}
 use Rattle.nand_model.specs.Flash.{Flash}
+use Rattle.nand_model.specs.Calls.{Device}
 use Rattle.page_tags.specs.declared.tag.Tag.{Tag}
 use Rattle.flash_tree.specs.Groups.{HasTag}
 use Rattle.flash_tree.specs.Newest.{Holds, Numbers}
 use Rattle.flash_tree.specs.declared.place.Found.{Found}
 use Rattle.flash_tree.specs.Places.{spot_of, TagIs}
-use Rattle.mount_scan.specs.Scanned.{IsPlaceBefore}
+use Rattle.mount_scan.specs.Scanned.{IsPlaceBefore, ArePlaced}
 
 -- the tags of the first pages of a block
 abbrev pub AreTags : Flash → ℕ → List (Option Tag) → Type 0
@@ -17,6 +18,13 @@ AreTags flash b tags = (p : ℕ) (told : Option Tag) → slice_get tags p ≡ So
 pub record AreCountedBelow (flash : Flash) (b : ℕ) (list : List Found) : Type 0 where
   pub each : (f : Found) → Contains list f ↔ ((f.block < b) × Holds flash f.tag.object f.tag.chunk (spot_of f))
   pub order : AllPairs IsPlaceBefore list
+
+-- What is told of the blocks below b: of each device places in them, each once, and of an honest one exactly the pages
+-- that count.
+pub record TellsBelow (device : Device) (b : ℕ) (list : List Found) : Type 0 where
+  pub placed : ArePlaced b device.geometry.pages list
+  pub order : AllPairs IsPlaceBefore list
+  pub exact : device.honest ≡ true → AreCountedBelow device.flash b list
 
 -- the numbers of a tag
 abbrev pub numbers_in : Tag → Numbers

@@ -1,5 +1,5 @@
 -- The entries of one key among others.
-use Rattle.std.specs.Prelude.{◌≡◌, ◌⊎◌, ◌↔◌, ◌<◌, ℕ, ◌+◌, List, Some, slice_get, Contains}
+use Rattle.std.specs.Prelude.{◌≡◌, ◌⊎◌, ◌↔◌, ◌<◌, ◌≤◌, ℕ, ◌+◌, List, Some, length, take, slice_get, slice_index_or, Contains}
 use Rattle.std.specs.List.{AllPairs}
 use Rattle.flash_tree.specs.Newest.{IsAfter}
 use Rattle.flash_tree.specs.declared.place.Found.{Found}
@@ -17,11 +17,6 @@ HaveOneKey f g = (f.tag.object ≡ g.tag.object) × (f.tag.chunk ≡ g.tag.chunk
 abbrev pub IsSortedBefore : Found → Found → Type 0
 IsSortedBefore f g = IsKeyBefore f g ⊎ (HaveOneKey f g × (IsAfter (spot_of f) (spot_of g) → ⊥))
 
--- the same entries, in that order
-pub record AreSorted (list sorted : List Found) : Type 0 where
-  pub each : (f : Found) → Contains sorted f ↔ Contains list f
-  pub order : AllPairs IsSortedBefore sorted
-
 -- the entry after this place, if any, has another key
 abbrev pub EndsKey : List Found → ℕ → Type 0
 EndsKey list k = (f g : Found) → slice_get list k ≡ Some f → slice_get list (k + 1) ≡ Some g → HaveOneKey f g → ⊥
@@ -37,6 +32,13 @@ pub record IsLastOfKey (list : List Found) (p : ℕ) (f : Found) : Type 0 where
 pub record AreLastOfKeys (list : List Found) (p : ℕ) (kept : List Found) : Type 0 where
   pub each : (f : Found) → Contains kept f ↔ IsLastOfKey list p f
   pub order : AllPairs IsKeyBefore kept
+
+-- Of the first p places of a list the last entries of the keys stand in front of another, which has all its later places.
+pub record Gathers (first : List Found) (p : ℕ) (list : List Found) (kept : ℕ) : Type 0 where
+  pub len : length list ≡ length first
+  pub front : kept ≤ p
+  pub last : AreLastOfKeys first p (take kept list)
+  pub rest : (k : ℕ) (d : Found) → p ≤ k → slice_index_or list k d ≡ slice_index_or first k d
 
 -- of the entries of each key the one that none comes after, in the order of keys
 pub record AreLatest (list kept : List Found) : Type 0 where

@@ -1,8 +1,9 @@
 -- What a scan tells of a flash.
-use Rattle.std.specs.Prelude.{◌≡◌, ◌⊎◌, ◌↔◌, ◌<◌, ℕ, true, List, map, All, Contains}
-use Rattle.std.specs.List.{AllPairs}
+use Rattle.std.specs.Prelude.{◌≡◌, ◌⊎◌, ◌↔◌, ◌<◌, ◌≤◌, ℕ, ◌+◌, true, false, List, map, sum, Result, Ok, Err, OnOk, All, Contains, if◌then◌else◌}
+use Rattle.std.specs.List.{AllPairs, range_with_len}
 use Rattle.nand_model.specs.Flash.{Flash}
 use Rattle.nand_model.specs.Calls.{Device}
+use Rattle.nand_model.specs.Changes.{OnlyReads}
 use Rattle.flash_tree.specs.Newest.{Spot, Holds, IsNewest}
 use Rattle.flash_tree.specs.declared.place.Found.{Found}
 use Rattle.flash_tree.specs.Places.{spot_of}
@@ -31,7 +32,31 @@ pub record AreNewest (flash : Flash) (list : List Found) : Type 0 where
 abbrev pub ArePlaced : (blocks pages : ℕ) → List Found → Type 0
 ArePlaced blocks pages = All (λ f. (f.block < blocks) × (f.page < pages))
 
--- Gone is said of a device that is gone
-abbrev pub SaysGone : Device → ScanFault → Type 0
-SaysGone device faults.NoMemory = Unit {0}
-SaysGone device faults.Gone = device.gone ≡ true
+-- What is told of the pages that count: of each device places on it, each once, and of an honest one exactly those.
+pub record TellsCounted (device : Device) (list : List Found) : Type 0 where
+  pub placed : ArePlaced device.geometry.blocks device.geometry.pages list
+  pub order : AllPairs IsPlaceBefore list
+  pub exact : device.honest ≡ true → AreCounted device.flash list
+
+-- What is told of the newest pages: of each device places on it whose keys rise, and of an honest one exactly those.
+pub record TellsNewest (device : Device) (list : List Found) : Type 0 where
+  pub placed : ArePlaced device.geometry.blocks device.geometry.pages list
+  pub order : AllPairs IsKeyBefore list
+  pub exact : device.honest ≡ true → AreNewest device.flash list
+
+-- how many pages the good ones of the first b blocks have
+abbrev pub good_pages : Flash → (pages b : ℕ) → ℕ
+good_pages flash pages b = sum (map (λ k. if flash.bad k then 0 else pages) (range_with_len 0 b))
+
+-- Gone is told of a device that is gone, and of one that went in the call nothing else is.
+abbrev pub TellsGone : {T : Type 0} → Device → Device → Result T ScanFault → Type 0
+TellsGone old new (Ok done) = old.gone ≡ false → new.gone ≡ false
+TellsGone old new (Err faults.NoMemory) = old.gone ≡ false → new.gone ≡ false
+TellsGone old new (Err faults.Gone) = new.gone ≡ true
+
+-- The device was only read, and so many pages were: no more, and no fewer where the call is done.
+pub record ReadsEach {T : Type 0} (pages : ℕ) (old new : Device) (result : Result T ScanFault) : Type 0 where
+  pub only : OnlyReads old new
+  pub most : new.reads ≤ old.reads + pages
+  pub each : OnOk result (new.reads ≡ old.reads + pages)
+  pub gone : TellsGone old new result

@@ -12,3 +12,12 @@ pub struct Scan {
     /// The greatest numbers of all valid tags of good blocks, of pages that count and of those that don't.
     pub numbers: TagNumbers,
 }
+
+/// What a mount needs of it.
+#[derive(Drop)]
+pub struct NewestScan {
+    /// The newest page of each key, in the order of objects and chunks.
+    pub newest: Vec<Found>,
+    /// The greatest numbers of all valid tags of good blocks, of pages that count and of those that don't.
+    pub numbers: TagNumbers,
+}

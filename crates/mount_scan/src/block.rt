@@ -1,7 +1,6 @@
 // The tags of a block.
-ghost use Rattle.std.specs.Prelude.{◌≡◌, ◌<◌, ◌≤◌, true, OnOk, IfErr, length};
-ghost use Rattle.nand_model.specs.Changes.{OnlyReads};
-ghost use Rattle.mount_scan.specs.Scanned.{SaysGone};
+ghost use Rattle.std.specs.Prelude.{◌≡◌, ◌<◌, ◌≤◌, true, OnOk, length};
+ghost use Rattle.mount_scan.specs.Scanned.{ReadsEach};
 ghost use Rattle.mount_scan.specs.Blocks.{AreTags};
 
 use crate::fault::ScanFault;
@@ -16,8 +15,7 @@ pub(crate) fn read_tags<N: Nand>(
     tags: &mut Vec<Option<Tag>>,
 ) -> Result<(), ScanFault>
     requires { block < (N.state device.old).geometry.blocks }
-    ensures reads { OnlyReads (N.state device.old) (N.state device.new) }
-    ensures gone { IfErr result (SaysGone (N.state device.new)) }
+    ensures reads { ReadsEach (N.state device.old).geometry.pages (N.state device.old) (N.state device.new) result }
     ensures len { OnOk result (length tags.new.items ≡ (N.state device.old).geometry.pages) }
     ensures few { OnOk result (length tags.new.items ≤ 256) }
     ensures tags { (N.state device.old).honest ≡ true → OnOk result (AreTags (N.state device.old).flash block tags.new.items) }

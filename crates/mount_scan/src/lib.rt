@@ -10,12 +10,12 @@ mod newest;
 mod raise;
 mod whole;
 
-pub use answer::Scan;
+pub use answer::{NewestScan, Scan};
 pub use fault::ScanFault;
 pub use law::{
     an_entry_leads_to_the_newest_data, an_entry_stands_for_each_key, each_key_stands_once,
 };
-pub use whole::scan;
+pub use whole::{scan, scan_newest};
 
 #[cfg(test)]
 mod tests;

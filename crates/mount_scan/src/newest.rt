@@ -1,10 +1,9 @@
 // The newest entry of each key.
-ghost use Rattle.std.specs.Prelude.{◌≡◌, ◌+◌, ◌<◌, ◌↔◌, IsTrue, IfOk, OnOk, length};
+ghost use Rattle.std.specs.Prelude.{◌≡◌, ◌+◌, ◌<◌, ◌≤◌, ◌↔◌, IsTrue, List, length};
 ghost use Rattle.std.specs.List.{AllPairs};
-ghost use Rattle.mount_scan.specs.Keys.{rank_of, EndsKey, IsSortedBefore, AreSorted, AreLastOfKeys, AreLatest};
+ghost use Rattle.mount_scan.specs.Keys.{rank_of, EndsKey, IsSortedBefore, Gathers, AreLatest};
 
 use flash_tree::Found;
-use std::alloc::{AllocError, Global};
 
 /// What entries are sorted by: the key, and then what orders the pages of one key.
 fn rank(found: &Found) -> (u64, u64, u64, u64, u32, u32)
@@ -21,15 +20,6 @@ fn rank(found: &Found) -> (u64, u64, u64, u64, u32, u32)
     )
 }
 
-/// The entries by key, and those of one key from the oldest to the newest.
-fn sorted(alloc: Global, counted: &[Found]) -> Result<Vec<Found>, AllocError>
-    ensures { IfOk result (λ sorted. AreSorted counted.now sorted.items) }
-{
-    let mut sorted = Vec::from_slice(alloc, counted)?;
-    sorted.sort_unstable_by_key(rank);
-    Ok(sorted)
-}
-
 /// Whether the next entry, if any, has another key.
 fn ends_key(sorted: &[Found], i: usize) -> bool
     requires { i < length sorted.now }
@@ -42,35 +32,38 @@ fn ends_key(sorted: &[Found], i: usize) -> bool
     }
 }
 
-/// Adds an entry if it is the last of its key.
-fn keep_last(sorted: &[Found], i: usize, kept: &mut Vec<Found>) -> Result<(), AllocError>
-    requires i { i < length sorted.now }
-    requires order { AllPairs IsSortedBefore sorted.now }
-    requires kept { AreLastOfKeys sorted.now i kept.old.items }
-    ensures { OnOk result (AreLastOfKeys sorted.now (i + 1) kept.new.items) }
+/// Moves an entry to the end of the `kept` ones in front, if it is the last of its key, and tells how many these are
+/// then.
+fn gather_at(sorted: &mut Vec<Found>, i: usize, kept: usize) -> usize
+    requires i { i < length sorted.old.items }
+    requires kept { kept ≤ i }
+    ensures { (first : List Found) → AllPairs IsSortedBefore first → Gathers first i sorted.old.items kept → Gathers first (i + 1) sorted.new.items result }
 {
     if ends_key(sorted, i) {
-        kept.push(sorted[i])?;
+        sorted[kept] = sorted[i];
+        kept + 1
+    } else {
+        kept
     }
-    Ok(())
 }
 
-/// The last entry of each key.
-fn last_of_keys(alloc: Global, sorted: &[Found]) -> Result<Vec<Found>, AllocError>
-    requires { AllPairs IsSortedBefore sorted.now }
-    ensures { IfOk result (λ kept. AreLastOfKeys sorted.now (length sorted.now) kept.items) }
+/// Moves the last entry of each key to the front, and tells how many these are.
+fn gather_last(sorted: &mut Vec<Found>) -> usize
+    requires { AllPairs IsSortedBefore sorted.old.items }
+    ensures { Gathers sorted.old.items (length sorted.old.items) sorted.new.items result }
 {
-    let mut kept = Vec::new(alloc);
+    let mut kept = 0;
     for i in 0..sorted.len() {
-        keep_last(sorted, i, &mut kept)?;
+        kept = gather_at(sorted, i, kept);
     }
-    Ok(kept)
+    kept
 }
 
-/// Of the entries of each key the newest.
-pub(crate) fn newest_of(alloc: Global, counted: &[Found]) -> Result<Vec<Found>, AllocError>
-    ensures { IfOk result (λ newest. AreLatest counted.now newest.items) }
+/// Keeps of the entries of each key the newest, and takes no memory.
+pub(crate) fn keep_newest(list: &mut Vec<Found>)
+    ensures { AreLatest list.old.items list.new.items }
 {
-    let by_key = sorted(alloc, counted)?;
-    last_of_keys(alloc, &by_key)
+    list.sort_unstable_by_key(rank);
+    let kept = gather_last(list);
+    list.truncate(kept);
 }

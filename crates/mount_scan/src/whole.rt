@@ -1,16 +1,15 @@
 // A scan of all blocks.
-ghost use Rattle.std.specs.Prelude.{◌≡◌, ◌+◌, ◌<◌, true, IfOk, IfErr, OnOk};
-ghost use Rattle.nand_model.specs.Changes.{OnlyReads};
+ghost use Rattle.std.specs.Prelude.{◌≡◌, ◌+◌, ◌<◌, true, IfOk, OnOk, if◌then◌else◌};
 ghost use Rattle.flash_tree.specs.Newest.{AreGreatest};
 ghost use Rattle.flash_tree.specs.Places.{numbers_of};
-ghost use Rattle.mount_scan.specs.Scanned.{AreCounted, AreNewest, ArePlaced, SaysGone};
-ghost use Rattle.mount_scan.specs.Blocks.{AreCountedBelow, AreGreatestBelow};
+ghost use Rattle.mount_scan.specs.Scanned.{TellsCounted, TellsNewest, ReadsEach, good_pages};
+ghost use Rattle.mount_scan.specs.Blocks.{TellsBelow, AreGreatestBelow};
 
-use crate::answer::Scan;
+use crate::answer::{NewestScan, Scan};
 use crate::block::read_tags;
 use crate::fault::ScanFault;
 use crate::group::add_counted;
-use crate::newest::newest_of;
+use crate::newest::keep_newest;
 use crate::raise::raised_by;
 use flash_tree::{Found, TagNumbers};
 use nand_model::Nand;
@@ -32,12 +31,9 @@ fn scan_block<N: Nand>(
     seen: &mut Seen,
 ) -> Result<(), ScanFault>
     requires { block < (N.state device.old).geometry.blocks }
-    ensures reads { OnlyReads (N.state device.old) (N.state device.new) }
-    ensures gone { IfErr result (SaysGone (N.state device.new)) }
-    ensures range { ArePlaced block (N.state device.old).geometry.pages seen.old.counted.items
-        → OnOk result (ArePlaced (block + 1) (N.state device.old).geometry.pages seen.new.counted.items) }
-    ensures counted { (N.state device.old).honest ≡ true → AreCountedBelow (N.state device.old).flash block seen.old.counted.items
-        → OnOk result (AreCountedBelow (N.state device.old).flash (block + 1) seen.new.counted.items) }
+    ensures reads { ReadsEach (if (N.state device.old).flash.bad block then 0 else (N.state device.old).geometry.pages) (N.state device.old) (N.state device.new) result }
+    ensures counted { TellsBelow (N.state device.old) block seen.old.counted.items
+        → OnOk result (TellsBelow (N.state device.old) (block + 1) seen.new.counted.items) }
     ensures numbers { (N.state device.old).honest ≡ true → AreGreatestBelow (N.state device.old).flash block (numbers_of seen.old.numbers)
         → OnOk result (AreGreatestBelow (N.state device.old).flash (block + 1) (numbers_of seen.new.numbers)) }
 {
@@ -52,10 +48,8 @@ fn scan_block<N: Nand>(
 
 /// What stands in all blocks.
 fn scan_blocks<N: Nand>(alloc: Global, device: &mut N) -> Result<Seen, ScanFault>
-    ensures reads { OnlyReads (N.state device.old) (N.state device.new) }
-    ensures gone { IfErr result (SaysGone (N.state device.new)) }
-    ensures range { IfOk result (λ seen. ArePlaced (N.state device.old).geometry.blocks (N.state device.old).geometry.pages seen.counted.items) }
-    ensures counted { (N.state device.old).honest ≡ true → IfOk result (λ seen. AreCounted (N.state device.old).flash seen.counted.items) }
+    ensures reads { ReadsEach (good_pages (N.state device.old).flash (N.state device.old).geometry.pages (N.state device.old).geometry.blocks) (N.state device.old) (N.state device.new) result }
+    ensures counted { IfOk result (λ seen. TellsCounted (N.state device.old) seen.counted.items) }
     ensures numbers { (N.state device.old).honest ≡ true → IfOk result (λ seen. AreGreatest (N.state device.old).flash (numbers_of seen.numbers)) }
 {
     let mut tags = Vec::new(alloc);
@@ -76,22 +70,34 @@ fn scan_blocks<N: Nand>(alloc: Global, device: &mut N) -> Result<Seen, ScanFault
 /// Finds the pages that count, the newest of each key and the greatest numbers. Each tag of a good block is read once,
 /// and no page's data.
 ///
-/// A device that is not honest may have any of its places told.
+/// A device that is not honest may have any of its places told, each once, and any keys for them.
 pub fn scan<N: Nand>(alloc: Global, device: &mut N) -> Result<Scan, ScanFault>
-    ensures reads { OnlyReads (N.state device.old) (N.state device.new) }
-    ensures gone { IfErr result (SaysGone (N.state device.new)) }
-    ensures range { IfOk result (λ scan.
-        ArePlaced (N.state device.old).geometry.blocks (N.state device.old).geometry.pages scan.counted.items
-        × ArePlaced (N.state device.old).geometry.blocks (N.state device.old).geometry.pages scan.newest.items) }
-    ensures counted { (N.state device.old).honest ≡ true → IfOk result (λ scan. AreCounted (N.state device.old).flash scan.counted.items) }
-    ensures newest { (N.state device.old).honest ≡ true → IfOk result (λ scan. AreNewest (N.state device.old).flash scan.newest.items) }
+    ensures reads { ReadsEach (good_pages (N.state device.old).flash (N.state device.old).geometry.pages (N.state device.old).geometry.blocks) (N.state device.old) (N.state device.new) result }
+    ensures counted { IfOk result (λ scan. TellsCounted (N.state device.old) scan.counted.items) }
+    ensures newest { IfOk result (λ scan. TellsNewest (N.state device.old) scan.newest.items) }
     ensures numbers { (N.state device.old).honest ≡ true → IfOk result (λ scan. AreGreatest (N.state device.old).flash (numbers_of scan.numbers)) }
 {
     let seen = scan_blocks(alloc, device)?;
-    let newest = newest_of(alloc, &seen.counted)?;
+    let mut newest = Vec::from_slice(alloc, &seen.counted)?;
+    keep_newest(&mut newest);
     Ok(Scan {
         counted: seen.counted,
         newest,
         numbers: seen.numbers,
     })
+}
+
+/// What `scan` finds, without the list of the pages that count, so that it takes half the memory. A mount needs no
+/// more.
+pub fn scan_newest<N: Nand>(alloc: Global, device: &mut N) -> Result<NewestScan, ScanFault>
+    ensures reads { ReadsEach (good_pages (N.state device.old).flash (N.state device.old).geometry.pages (N.state device.old).geometry.blocks) (N.state device.old) (N.state device.new) result }
+    ensures newest { IfOk result (λ scan. TellsNewest (N.state device.old) scan.newest.items) }
+    ensures numbers { (N.state device.old).honest ≡ true → IfOk result (λ scan. AreGreatest (N.state device.old).flash (numbers_of scan.numbers)) }
+{
+    let Seen {
+        counted: mut newest,
+        numbers,
+    } = scan_blocks(alloc, device)?;
+    keep_newest(&mut newest);
+    Ok(NewestScan { newest, numbers })
 }

@@ -9,6 +9,13 @@ pub record IsBlank (flash : Flash) : Type 0 where
   pub good : (b : ℕ) → flash.bad b ≡ false
   pub nexts : (b : ℕ) → flash.next b ≡ None
 
+-- nothing was counted since it was made
+pub record CountsNothing (device : Device) : Type 0 where
+  pub cuts : device.cuts ≡ 0
+  pub failures : device.failures ≡ 0
+  pub changes : device.changes ≡ 0
+  pub reads : device.reads ≡ 0
+
 -- Power comes back: pages, marks and counts stay, and no block has a next page.
 pub record PowersUp (old new : Device) : Type 0 where
   pub geometry : new.geometry ≡ old.geometry

@@ -28,6 +28,13 @@ pub record Begins (end : End) (old new : Power) : Type 0 where
   pub cuts : new.cuts.total ≡ cuts_after end old.cuts.total
   pub failures : new.failures.total ≡ failures_after end old.failures.total
 
+-- nothing was counted since the device was made
+pub record IsUnused (power : Power) : Type 0 where
+  pub cuts : power.cuts.total ≡ 0
+  pub failures : power.failures.total ≡ 0
+  pub changes : power.changes.total ≡ 0
+  pub reads : power.reads.total ≡ 0
+
 -- nothing is counted since the power-up, and no call is cut or fails
 abbrev pub Restarts : Plan → Type 0
 Restarts plan = plan ≡ record { calls = 0; changes = 0; fuse = None; failures = [] }

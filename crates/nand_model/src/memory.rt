@@ -2,7 +2,7 @@
 ghost use Rattle.std.specs.Prelude.{◌≡◌, ◌<◌, [], true, false, length, Some, None, IfOk};
 ghost use Rattle.nand_model.specs.Flash.{IsClean, IsWithin, IsSized};
 ghost use Rattle.nand_model.specs.Calls.{Device, Reads, ReadTells, Fills, bytes_of, tag_of, Programs, Erases, Marks};
-ghost use Rattle.nand_model.specs.Changes.{IsBlank, PowersUp};
+ghost use Rattle.nand_model.specs.Changes.{IsBlank, CountsNothing, PowersUp};
 ghost use Rattle.nand_model.specs.Plans.{listed};
 ghost use Rattle.nand_model.specs.Planned.{after_read, after_change, ReadsAsPlanned, ProgramsAsPlanned, ErasesAsPlanned, MarksAsPlanned};
 ghost use Rattle.nand_model.specs.Memory.{IsWhole, flash_of, pages_at};
@@ -32,11 +32,12 @@ pub struct MemNand {
 impl MemNand {
     ghost use Rattle.nand_model.specs.MemoryState.{device, plan};
 
-    /// All pages erased, no block bad, none with a next page.
+    /// All pages erased, no block bad, none with a next page, and nothing counted.
     pub fn new(alloc: Global, geometry: Geometry) -> Result<MemNand, AllocError>
         ensures geometry { IfOk result (λ d. (device d).geometry ≡ geometry) }
         ensures blank { IfOk result (λ d. IsBlank (device d).flash) }
         ensures gone { IfOk result (λ d. (device d).gone ≡ false) }
+        ensures counts { IfOk result (λ d. CountsNothing (device d)) }
         ensures plan { IfOk result (λ d. plan d ≡ record { calls = 0; changes = 0; fuse = None; failures = [] }) }
     {
         let blocks = new_blocks(alloc, geometry.bytes(), geometry.pages(), geometry.blocks())?;

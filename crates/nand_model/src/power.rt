@@ -20,10 +20,11 @@ pub(crate) struct Power {
 
 impl Power {
     ghost use Rattle.nand_model.specs.Scripts.{plan};
-    ghost use Rattle.nand_model.specs.Powers.{Begins, Restarts, IsCopy};
+    ghost use Rattle.nand_model.specs.Powers.{Begins, IsUnused, Restarts, IsCopy};
 
     pub(crate) fn new(alloc: Global) -> Power
         ensures gone { result.gone ≡ false }
+        ensures counts { IsUnused result }
         ensures script { Restarts (plan result.script) }
     {
         Power {

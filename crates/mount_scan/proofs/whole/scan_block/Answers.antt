@@ -3,29 +3,23 @@ use Rattle.nand_model.specs.Calls.{Device}
 use Rattle.flash_tree.specs.Places.{numbers_of}
 use Rattle.mount_scan.specs.Runs.{AddsCounted}
 use Rattle.mount_scan.specs.Blocks.{AreRaisedBy}
-use Rattle.mount_scan.proofs.Tagged.{below_bad, below_block, placed_block}
+use Rattle.mount_scan.proofs.Tagged.{tells_bad, tells_block}
 use Rattle.mount_scan.proofs.Raised.{greatest_bad, greatest_block}
 use Rattle.mount_scan.proofs.whole.scan_block.Goals as goal
 
 pub returns-then-is_bad-clause-counted : goal.returns-then-is_bad-clause-counted
-returns-then-is_bad-clause-counted g c = λ honest is.
-    below_bad _ c.args.block _ (sym c.if-is_bad.ensures) is
+returns-then-is_bad-clause-counted g c =
+    tells_bad (g.N.Nand.state c.args.device.now) c.args.block _ (sym c.if-is_bad.ensures)
 
 pub returns-then-is_bad-clause-numbers : goal.returns-then-is_bad-clause-numbers
 returns-then-is_bad-clause-numbers g c = λ honest is.
     greatest_bad _ c.args.block (numbers_of c.args.seen.now.numbers) (sym c.if-is_bad.ensures) is
 
-pub returns-clause-range : goal.returns-clause-range
-returns-clause-range g c = λ placed.
-    placed_block c.args.block _ c.read_tags.new.tags.items c.args.seen.now.counted.items c.add_counted.new.counted.items c.in_ok-read_tags.ensures.len
-    (subst (λ xs. AddsCounted c.args.block xs (length xs) c.args.seen.now.counted.items c.add_counted.new.counted.items) c.deref-2.ensures.value c.in_ok-add_counted.ensures) placed
-
 pub returns-clause-counted : goal.returns-clause-counted
-returns-clause-counted g c = λ honest is.
-    let old : Device = g.N.Nand.state c.args.device.now in
-    below_block old.flash c.args.block old.geometry.pages old.geometry.blocks _ (g.met.N.Nand.within c.args.device.now) c.in_ok-read_tags.ensures.len (c.in_ok-read_tags.ensures.tags honest) _ _
+returns-clause-counted g c =
+    tells_block (g.N.Nand.state c.args.device.now) c.args.block _ (g.met.N.Nand.within c.args.device.now) c.in_ok-read_tags.ensures.len c.in_ok-read_tags.ensures.tags _ _
     (sym c.if-is_bad.ensures)
-    (subst (λ xs. AddsCounted c.args.block xs (length xs) c.args.seen.now.counted.items c.add_counted.new.counted.items) c.deref-2.ensures.value c.in_ok-add_counted.ensures) is
+    (subst (λ xs. AddsCounted c.args.block xs (length xs) c.args.seen.now.counted.items c.add_counted.new.counted.items) c.deref-2.ensures.value c.in_ok-add_counted.ensures)
 
 pub returns-clause-numbers : goal.returns-clause-numbers
 returns-clause-numbers g c = λ honest is.

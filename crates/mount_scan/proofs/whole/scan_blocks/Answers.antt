@@ -1,18 +1,38 @@
-use Rattle.std.proofs.Common.{◌≡◌, ap, subst, arith}
+use Rattle.std.proofs.Common.{◌≡◌, ◌<◌, ◌+◌, ◌∙◌, sym, ap, subst, arith}
+use Rattle.std.proofs.lemmas.Result.{err_from_is_err_and}
 use Rattle.nand_model.specs.Calls.{Device}
 use Rattle.nand_model.specs.declared.geometry.Geometry.{Geometry}
 use Rattle.flash_tree.specs.Places.{numbers_of}
-use Rattle.mount_scan.specs.Blocks.{AreCountedBelow, AreGreatestBelow}
-use Rattle.mount_scan.proofs.Tagged.{below_all}
+use Rattle.flash_tree.specs.PlaceLaws.{same_flash}
+use Rattle.mount_scan.specs.Blocks.{TellsBelow, AreGreatestBelow}
+use Rattle.mount_scan.proofs.Tagged.{tells_on, tells_back, tells_all}
+use Rattle.mount_scan.proofs.Reading.{block_read, block_ends}
 use Rattle.mount_scan.proofs.Raised.{greatest_all}
 use Rattle.mount_scan.proofs.whole.scan_blocks.Goals as goal
 
+pub returns-in_err-scan_block-clause-reads : goal.returns-in_err-scan_block-clause-reads
+returns-in_err-scan_block-clause-reads g c =
+    let p = err_from_is_err_and c.from_residual.result c.from_residual.ensures.1 in
+    let within : c.loop-block.block < (g.N.Nand.state c.args.device.now).geometry.blocks = omega (arith, c.loop-block-test.true, c.blocks-block-end.ensures, ap (λ (x : Geometry). x.blocks) c.geometry.ensures) in
+    rw (p.1, p.2) (block_ends _ _ _ _ _ c.loop-block.block _ _ within c.loop-block.invariant.read c.in_err-scan_block.ensures.reads)
+
+pub loop-block-preserved : goal.loop-block-preserved
+loop-block-preserved g c =
+    let only = c.loop-block.invariant.read.only in
+    record {
+      read = block_read _ _ _ c.loop-block.block tt c.loop-block.invariant.read c.in_ok-scan_block.ensures.reads;
+      counted = tells_back _ _ _ _ only (c.in_ok-scan_block.ensures.counted (tells_on _ _ _ _ only c.loop-block.invariant.counted));
+      numbers = λ honest.
+          let same = same_flash _ _ only honest in
+          subst (λ f. AreGreatestBelow f (c.loop-block.block + 1) (numbers_of c.scan_block.new.seen.numbers)) same (c.in_ok-scan_block.ensures.numbers (only.lasts.honest ∙ honest)
+          (subst (λ f. AreGreatestBelow f c.loop-block.block (numbers_of c.loop-block.seen.numbers)) (sym same) (c.loop-block.invariant.numbers honest)));
+    }
+
 pub returns-clause-counted : goal.returns-clause-counted
-returns-clause-counted g c = λ honest.
+returns-clause-counted g c =
     let old : Device = g.N.Nand.state c.args.device.now in
     let end : c.loop-block.block ≡ old.geometry.blocks = omega (arith, c.blocks-block-end.ensures, ap (λ (x : Geometry). x.blocks) c.geometry.ensures) in
-    below_all old.flash old.geometry.pages old.geometry.blocks _ (g.met.N.Nand.within c.args.device.now)
-    (subst (λ b. AreCountedBelow old.flash b c.loop-block.seen.counted.items) end (c.loop-block.invariant.counted honest))
+    tells_all old _ (g.met.N.Nand.within c.args.device.now) (subst (λ b. TellsBelow old b c.loop-block.seen.counted.items) end c.loop-block.invariant.counted)
 
 pub returns-clause-numbers : goal.returns-clause-numbers
 returns-clause-numbers g c = λ honest.

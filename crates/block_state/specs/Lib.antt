@@ -1,4 +1,7 @@
 pub mod Table
 pub mod TableOf
-pub mod Counting
 pub mod TableLaws
+pub mod Counting
+pub mod CountingLaws
+pub mod Kept
+pub mod KeptLaws

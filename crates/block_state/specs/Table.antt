@@ -1,5 +1,5 @@
 -- What is known of the blocks of a device.
-use Rattle.std.specs.Prelude.{◌≡◌, ◌≢◌, ◌<◌, ◌≤◌, ℕ, ◌-◌, Bool, false, not, ◌&&◌, nat_eq, Option, Some, None, List, length, get_or}
+use Rattle.std.specs.Prelude.{◌≡◌, ◌≢◌, ◌⊎◌, ◌<◌, ◌≤◌, ℕ, ◌-◌, Bool, true, false, not, ◌&&◌, nat_eq, Option, Some, None, List, length, get_or}
 use Rattle.std.specs.Option.{option_map_or}
 use Rattle.nand_model.specs.declared.geometry.Geometry.{Geometry}
 use Rattle.block_state.specs.declared.blocks.BlockEntry.{BlockEntry}
@@ -36,21 +36,44 @@ is_free t b = not (t.entry b).bad && (nat_eq (t.entry b).kept 0 && not (is_open 
 abbrev pub room : Table → ℕ
 room t = option_map_or (λ o. t.geometry.pages - (t.entry o).next) t.open_block 0
 
--- among the first n blocks a good one with the least kept count of those that hold a kept page
+-- Among the first n blocks a good one with the least kept count of those that hold a kept page; of those with as many
+-- none was taken longer ago.
 pub record IsFewest (t : Table) (n b : ℕ) : Type 0 where
   pub within : b < n
   pub good : (t.entry b).bad ≡ false
   pub some : 1 ≤ (t.entry b).kept
   pub least : (k : ℕ) → k < n → (t.entry k).bad ≡ false → 1 ≤ (t.entry k).kept → (t.entry b).kept ≤ (t.entry k).kept
+  pub oldest : (k : ℕ) → k < n → (t.entry k).bad ≡ false → (t.entry k).kept ≡ (t.entry b).kept → (t.entry b).seq ≤ (t.entry k).seq
 
 -- no good one of the first n blocks holds a kept page
 abbrev pub NoneKept : Table → ℕ → Type 0
 NoneKept t n = (b : ℕ) → b < n → (t.entry b).bad ≡ false → (t.entry b).kept ≡ 0
 
--- a good block with a kept page, and with fewer than another where there is one
+-- the block has fewer kept pages than another, or as many and was taken longer ago
+abbrev pub IsFewer : Table → ℕ → ℕ → Type 0
+IsFewer t b k = ((t.entry b).kept < (t.entry k).kept) ⊎ (((t.entry b).kept ≡ (t.entry k).kept) × ((t.entry b).seq < (t.entry k).seq))
+
+-- a good block with a kept page, that goes before another where there is one
 abbrev pub HoldsFewer : Table → ℕ → Option ℕ → Type 0
 HoldsFewer t b None = ((t.entry b).bad ≡ false) × (1 ≤ (t.entry b).kept)
-HoldsFewer t b (Some k) = ((t.entry b).bad ≡ false) × (1 ≤ (t.entry b).kept) × ((t.entry b).kept < (t.entry k).kept)
+HoldsFewer t b (Some k) = ((t.entry b).bad ≡ false) × (1 ≤ (t.entry b).kept) × IsFewer t b k
+
+-- Among the first n blocks the free one whose turn it is: none that is free was taken longer ago, and of those taken as
+-- long ago, which are those never taken, it is the first.
+pub record IsNextFree (t : Table) (n b : ℕ) : Type 0 where
+  pub within : b < n
+  pub free : is_free t b ≡ true
+  pub oldest : (k : ℕ) → k < n → is_free t k ≡ true → (t.entry b).seq ≤ (t.entry k).seq
+  pub lowest : (k : ℕ) → k < n → is_free t k ≡ true → (t.entry k).seq ≡ (t.entry b).seq → b ≤ k
+
+-- none of the first n blocks is free
+abbrev pub NoneFree : Table → ℕ → Type 0
+NoneFree t n = (b : ℕ) → b < n → is_free t b ≡ false
+
+-- a free block, that was taken longer ago than another where there is one
+abbrev pub GoesBefore : Table → ℕ → Option ℕ → Type 0
+GoesBefore t b None = is_free t b ≡ true
+GoesBefore t b (Some k) = (is_free t b ≡ true) × ((t.entry b).seq < (t.entry k).seq)
 
 -- The open block is good and on the device, and its next page is at most the number of its pages.
 pub record MayOpen (geometry : Geometry) (entries : List BlockEntry) (o : ℕ) : Type 0 where

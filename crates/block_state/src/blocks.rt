@@ -131,6 +131,19 @@ impl Blocks {
         self.entries[block as usize] = BlockEntry { bad: true, ..entry };
     }
 
+    /// Notes the number that a block got when it was last taken, as its pages tell.
+    #[tactic(auto, using(crate::specs::TableLaws::whole_set))]
+    pub fn note_seq(&mut self, block: u32, seq: u64)
+        requires block { block < (table self.old).geometry.blocks }
+        requires below { seq < (table self.old).next_seq }
+        ensures sets { Sets block (record ((table self.old).entry block) { seq = seq }) (table self.old) (table self.new) }
+        ensures open { (table self.new).open_block ≡ (table self.old).open_block }
+        ensures seq { (table self.new).next_seq ≡ (table self.old).next_seq }
+    {
+        let entry = self.entry(block);
+        self.entries[block as usize] = BlockEntry { seq, ..entry };
+    }
+
     /// Notes that one more page of a block is kept.
     #[tactic(auto, using(crate::specs::TableLaws::whole_set))]
     pub fn keep(&mut self, block: u32)

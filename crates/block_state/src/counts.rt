@@ -1,7 +1,7 @@
-// What is counted over the table.
-ghost use Rattle.std.specs.Prelude.{◌≡◌, ◌<◌, ◌↔◌, ℕ, IsTrue, IfSome, IfNone, true, false};
-ghost use Rattle.block_state.specs.Table.{is_bad, is_free, IsFewest, NoneKept, HoldsFewer};
-ghost use Rattle.block_state.specs.Counting.{how_many};
+// What is counted over the table, and which block is to be taken or to be collected.
+ghost use Rattle.std.specs.Prelude.{◌≡◌, ◌<◌, ◌↔◌, IsTrue, IfSome, IfNone};
+ghost use Rattle.block_state.specs.Table.{is_free, IsFewest, NoneKept, HoldsFewer, IsNextFree, NoneFree, GoesBefore};
+ghost use Rattle.block_state.specs.Kept.{bad_count, free_count};
 
 use crate::blocks::Blocks;
 
@@ -18,9 +18,9 @@ impl Blocks {
     }
 
     /// How many blocks are free, in one pass over the blocks.
-    #[tactic(auto, using(crate::specs::Counting::counts_one, crate::specs::Counting::counts_none, crate::specs::Counting::counts_most))]
+    #[tactic(auto, using(crate::specs::CountingLaws::counts_one, crate::specs::CountingLaws::counts_none, crate::specs::CountingLaws::counts_most))]
     pub fn free_count(&self) -> u32
-        ensures { result ≡ how_many (is_free (table self.now)) (table self.now).geometry.blocks }
+        ensures { result ≡ free_count (table self.now) }
     {
         let mut count = 0;
         for block in 0..self.geometry().blocks() {
@@ -32,9 +32,9 @@ impl Blocks {
     }
 
     /// How many blocks are marked bad, in one pass over the blocks.
-    #[tactic(auto, using(crate::specs::Counting::counts_one, crate::specs::Counting::counts_none, crate::specs::Counting::counts_most))]
+    #[tactic(auto, using(crate::specs::CountingLaws::counts_one, crate::specs::CountingLaws::counts_none, crate::specs::CountingLaws::counts_most))]
     pub fn bad_count(&self) -> u32
-        ensures { result ≡ how_many (is_bad (table self.now)) (table self.now).geometry.blocks }
+        ensures { result ≡ bad_count (table self.now) }
     {
         let mut count = 0;
         for block in 0..self.geometry().blocks() {
@@ -45,7 +45,8 @@ impl Blocks {
         count
     }
 
-    /// A good block with the least kept pages among those that hold one, in one pass over the blocks.
+    /// The block to be collected, in one pass over the blocks: a good one with the least kept pages among those that
+    /// hold one, and of these one that was taken longest ago.
     pub fn fewest_kept(&self) -> Option<u32>
         ensures found { IfSome result (λ block. IsFewest (table self.now) (table self.now).geometry.blocks block) }
         ensures none { IfNone result (NoneKept (table self.now) (table self.now).geometry.blocks) }
@@ -71,20 +72,40 @@ impl Blocks {
         }
         match fewest {
             None => true,
-            Some(best) => entry.kept < self.entry(best).kept,
+            Some(best) => {
+                let other = self.entry(best);
+                entry.kept < other.kept || entry.kept == other.kept && entry.seq < other.seq
+            }
         }
     }
 
-    /// A free block, if there is one.
-    pub fn first_free(&self) -> Option<u32>
-        ensures found { IfSome result (λ block. (block < (table self.now).geometry.blocks) × (is_free (table self.now) block ≡ true)) }
-        ensures none { IfNone result ((b : ℕ) → b < (table self.now).geometry.blocks → is_free (table self.now) b ≡ false) }
+    /// The free block to be taken next, in one pass over the blocks: the one that was taken longest ago, so that all take
+    /// their turn. Blocks that were never taken go first, in their order.
+    pub fn next_free(&self) -> Option<u32>
+        ensures found { IfSome result (λ block. IsNextFree (table self.now) (table self.now).geometry.blocks block) }
+        ensures none { IfNone result (NoneFree (table self.now) (table self.now).geometry.blocks) }
     {
+        let mut next = None;
         for block in 0..self.geometry().blocks() {
-            if self.is_free(block) {
-                return Some(block);
+            if self.goes_before(block, next) {
+                next = Some(block);
             }
         }
-        None
+        next
+    }
+
+    /// Whether a block is to be taken before the one whose turn it is so far.
+    fn goes_before(&self, block: u32, next: Option<u32>) -> bool
+        requires block { block < (table self.now).geometry.blocks }
+        requires next { IfSome next (λ k. k < (table self.now).geometry.blocks) }
+        ensures { IsTrue result ↔ GoesBefore (table self.now) block next }
+    {
+        if !self.is_free(block) {
+            return false;
+        }
+        match next {
+            None => true,
+            Some(other) => self.entry(block).seq < self.entry(other).seq,
+        }
     }
 }

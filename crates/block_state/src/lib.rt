@@ -4,5 +4,10 @@
 
 mod blocks;
 mod counts;
+mod law;
 
 pub use blocks::{BlockEntry, Blocks};
+pub use law::{
+    a_block_can_be_collected, a_mark_moves_a_block, free_blocks_are_unkept,
+    the_same_counts_count_the_same,
+};

@@ -1,0 +1,67 @@
+// Why a store gave no page, and why a call that reads what pages hold failed.
+ghost use Rattle.std.specs.Prelude.{◌≡◌};
+ghost use Rattle.pages.specs.declared.fault.PageFault.TheVariants as faults;
+ghost use Rattle.pages.specs.declared.fault.StoreFault.TheVariants as store_faults;
+ghost use Rattle.pages.specs.Faults.{of_store};
+
+use std::alloc::{AllocError, AllocFailed};
+
+/// Why a store gave no page, or took no change.
+#[derive(Clone, Copy, Debug, PartialEq, Eq)]
+pub enum StoreFault {
+    NoMemory,
+    /// The device went away, or did not keep what it was told.
+    Device,
+    /// Too many blocks are bad, or the numbers are used up.
+    Worn,
+}
+
+impl From<AllocError> for StoreFault {
+    ghost from_gives = { λ _ e. e ≡ store_faults.NoMemory };
+
+    fn from(_e: AllocError) -> StoreFault {
+        StoreFault::NoMemory
+    }
+}
+
+/// Why a directory or a file was not read, or a change of it not made.
+#[derive(Clone, Copy, Debug, PartialEq, Eq)]
+pub enum PageFault {
+    NoMemory,
+    /// The device went away, or did not keep what it was told.
+    Device,
+    /// Too many blocks are bad, or the numbers are used up.
+    Worn,
+    /// What stands there is not such an object, or a page of it is missing or is none of its pages.
+    Damaged,
+    /// The object is as large as its header can say.
+    Full,
+}
+
+impl From<StoreFault> for PageFault {
+    ghost from_gives = { λ fault e. e ≡ of_store fault };
+
+    fn from(fault: StoreFault) -> PageFault {
+        match fault {
+            StoreFault::NoMemory => PageFault::NoMemory,
+            StoreFault::Device => PageFault::Device,
+            StoreFault::Worn => PageFault::Worn,
+        }
+    }
+}
+
+impl From<AllocError> for PageFault {
+    ghost from_gives = { λ _ e. e ≡ faults.NoMemory };
+
+    fn from(_e: AllocError) -> PageFault {
+        PageFault::NoMemory
+    }
+}
+
+impl<T: Drop> From<AllocFailed<T>> for PageFault {
+    ghost from_gives = { λ _ e. e ≡ faults.NoMemory };
+
+    fn from(_e: AllocFailed<T>) -> PageFault {
+        PageFault::NoMemory
+    }
+}

@@ -1,8 +1,8 @@
 -- Why a call that reads what pages hold fails.
 use Rattle.std.specs.Prelude.{◌≡◌, true}
 use Rattle.pages.specs.State.{PagesState}
-use Rattle.pages.specs.declared.fault.StoreFault.{StoreFault}
-use Rattle.pages.specs.declared.fault.StoreFault.TheVariants as store_faults
+use Rattle.volume_terms.specs.declared.fault.StoreFault.{StoreFault}
+use Rattle.volume_terms.specs.declared.fault.StoreFault.TheVariants as store_faults
 use Rattle.pages.specs.declared.fault.PageFault.{PageFault}
 use Rattle.pages.specs.declared.fault.PageFault.TheVariants as faults
 

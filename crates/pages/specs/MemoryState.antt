@@ -2,7 +2,7 @@
 use Rattle.std.specs.Prelude.{true, slice_get}
 use Rattle.pages.specs.Maps.{with_pages}
 use Rattle.pages.specs.State.{PagesState}
-use Rattle.pages.specs.Afterwards.{bytes_of}
+use Rattle.pages.specs.Afterwards.{bytes_or}
 use Rattle.pages.specs.Memory.{nothing}
 use Rattle.pages.specs.declared.memory.MemPages.{MemPages}
 
@@ -10,7 +10,7 @@ abbrev pub kept : MemPages → PagesState
 kept it = record {
   page_bytes = it.page_bytes;
   present = with_pages it.pages.items nothing;
-  lent = bytes_of (slice_get it.pages.items it.found) it.blank.items;
+  lent = bytes_or (slice_get it.pages.items it.found) it.blank.items;
   sound = true;
   failed = it.failed;
   refused = it.refused;

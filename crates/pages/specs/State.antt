@@ -3,8 +3,8 @@ use Rattle.std.specs.Prelude.{◌≡◌, ◌≤◌, ℕ, Bool, true, List, Some,
 use Rattle.pages.specs.Maps.{PageMap}
 use Rattle.pages.specs.declared.store.Presence.{Presence}
 use Rattle.pages.specs.declared.store.Presence.TheVariants as presences
-use Rattle.pages.specs.declared.fault.StoreFault.{StoreFault}
-use Rattle.pages.specs.declared.fault.StoreFault.TheVariants as faults
+use Rattle.volume_terms.specs.declared.fault.StoreFault.{StoreFault}
+use Rattle.volume_terms.specs.declared.fault.StoreFault.TheVariants as faults
 
 -- The bytes of a page, the page of each key, the page that was found last, whether the store keeps what it is told,
 -- whether its device has failed, whether it was refused memory, and how many pages it has asked for so far.

@@ -1,36 +1,19 @@
-// Why a store gave no page, and why a call that reads what pages hold failed.
+// Why a call that reads what pages hold failed.
 ghost use Rattle.std.specs.Prelude.{◌≡◌};
 ghost use Rattle.pages.specs.declared.fault.PageFault.TheVariants as faults;
-ghost use Rattle.pages.specs.declared.fault.StoreFault.TheVariants as store_faults;
 ghost use Rattle.pages.specs.Faults.{of_store};
 
 use std::alloc::{AllocError, AllocFailed};
-
-/// Why a store gave no page, or took no change.
-#[derive(Clone, Copy, Debug, PartialEq, Eq)]
-pub enum StoreFault {
-    NoMemory,
-    /// The device went away, or did not keep what it was told.
-    Device,
-    /// Too many blocks are bad, or the numbers are used up.
-    Worn,
-}
-
-impl From<AllocError> for StoreFault {
-    ghost from_gives = { λ _ e. e ≡ store_faults.NoMemory };
-
-    fn from(_e: AllocError) -> StoreFault {
-        StoreFault::NoMemory
-    }
-}
+use volume_terms::StoreFault;
 
 /// Why a directory or a file was not read, or a change of it not made.
 #[derive(Clone, Copy, Debug, PartialEq, Eq)]
 pub enum PageFault {
+    /// A growth was refused. What was asked can be asked again.
     NoMemory,
-    /// The device went away, or did not keep what it was told.
+    /// The device failed or is gone, or did not give back what was written.
     Device,
-    /// Too many blocks are bad, or the numbers are used up.
+    /// There are no more blocks, or no more numbers, to write with.
     Worn,
     /// What stands there is not such an object, or a page of it is missing or is none of its pages.
     Damaged,

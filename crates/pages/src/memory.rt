@@ -4,10 +4,10 @@ ghost use Rattle.pages.specs.Maps.{changed};
 ghost use Rattle.pages.specs.Changes.{AreSized};
 
 use crate::change::{Change, FreshPage, place_of};
-use crate::fault::StoreFault;
 use crate::store::{Pages, Presence};
 use flash_tree::Key;
 use std::alloc::{AllocError, Global};
+use volume_terms::StoreFault;
 
 /// What a store in memory lacks when it is told to refuse a look-up.
 #[derive(Clone, Copy, Debug, PartialEq, Eq)]

@@ -2,8 +2,8 @@
 ghost use Rattle.std.specs.Prelude.{◌≡◌, ◌≤◌, ◌+◌, true, length, IfOk, IfErr};
 ghost use Rattle.pages.specs.State.{PagesState, OnlyFinds, FindsPage, FailsBy};
 
-use crate::fault::StoreFault;
 use flash_tree::Key;
+use volume_terms::StoreFault;
 
 /// Whether a key has a page.
 #[derive(Clone, Copy, Debug, PartialEq, Eq)]

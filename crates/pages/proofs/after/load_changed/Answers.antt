@@ -2,11 +2,11 @@ use Rattle.std.proofs.Common.{◌≡◌, ◌<◌, ◌∙◌, ℕ, List, Some, No
 use Rattle.std.proofs.lemmas.Result.{err_from_is_err_and}
 use Rattle.pages.specs.Maps.{IsOf, IsCut}
 use Rattle.pages.specs.MapLaws.{first_here, gone, elsewhere}
-use Rattle.pages.specs.Afterwards.{bytes_of}
+use Rattle.pages.specs.Afterwards.{bytes_or}
 use Rattle.pages.specs.State.{PagesState}
 use Rattle.pages.specs.declared.change.FreshPage.{FreshPage}
 use Rattle.pages.specs.declared.change.Cut.{Cut}
-use Rattle.pages.proofs.after.load_after.Goals as goal
+use Rattle.pages.proofs.after.load_changed.Goals as goal
 
 pub returns-in-Some-clause-page : goal.returns-in-Some-clause-page
 returns-in-Some-clause-page g c = λ sound.
@@ -16,7 +16,7 @@ returns-in-Some-clause-page g c = λ sound.
     let at : slice_get items c.in-Some.place ≡ Some first.0.page = ap (λ (ps : List FreshPage). slice_get ps c.in-Some.place) (sym c.deref.ensures.value) ∙ first.0.there in
     first_here items _ c.args.key.object c.args.key.chunk c.in-Some.place first.0.page at first.0.object first.0.chunk
     (subst (λ (ps : List FreshPage). (k : ℕ) → k < c.in-Some.place → IsOf ps c.args.key.object c.args.key.chunk k → ⊥) c.deref.ensures.value first.1)
-    ∙ ap (λ x. Some (bytes_of x old.lent)) (sym at)
+    ∙ ap (λ x. Some (bytes_or x old.lent)) (sym at)
 
 pub returns-then-is_cut-clause-fault : goal.returns-then-is_cut-clause-fault
 returns-then-is_cut-clause-fault g c = λ sound xs is.

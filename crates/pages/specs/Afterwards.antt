@@ -1,0 +1,36 @@
+-- A store's pages as they are after an earlier change, if there is one, that the store has not taken yet.
+use Rattle.std.specs.Prelude.{◌<◌, ℕ, List, length, slice_get, Option, Some, None}
+use Rattle.pages.specs.Maps.{changed}
+use Rattle.pages.specs.Changes.{AreSized}
+use Rattle.pages.specs.State.{PagesState}
+use Rattle.pages.specs.declared.change.FreshPage.{FreshPage}
+use Rattle.pages.specs.declared.change.Change.{Change}
+use Rattle.pages.specs.declared.after.Source.{Source}
+use Rattle.pages.specs.declared.after.Source.TheVariants as sources
+
+-- the store, with the pages after the change
+abbrev pub after : Option Change → PagesState → PagesState
+after None p = p
+after (Some change) p = record { page_bytes = p.page_bytes; present = changed change p.present; lent = p.lent; sound = p.sound; failed = p.failed; refused = p.refused; asked = p.asked }
+
+-- the bytes of a page, or what was lent where there is none
+abbrev pub bytes_or : Option FreshPage → List ℕ → List ℕ
+bytes_or None lent = lent
+bytes_or (Some page) lent = page.bytes.items
+
+-- the page that is lent: one of the change, or the one that was found last
+abbrev pub lent_by : Option Change → PagesState → Source → List ℕ
+lent_by None p source = p.lent
+lent_by (Some change) p sources.Store = p.lent
+lent_by (Some change) p (sources.Change i) = bytes_or (slice_get change.pages.items i) p.lent
+
+-- the source is a page of the change, or the store
+abbrev pub IsSource : Option Change → Source → Type 0
+IsSource None source = Unit {0}
+IsSource (Some change) sources.Store = Unit {0}
+IsSource (Some change) (sources.Change i) = i < length change.pages.items
+
+-- the pages of the change have so many bytes
+abbrev pub IsSizedBy : Option Change → ℕ → Type 0
+IsSizedBy None bytes = Unit {0}
+IsSizedBy (Some change) bytes = AreSized change.pages.items bytes

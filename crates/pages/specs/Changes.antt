@@ -1,0 +1,36 @@
+-- Changes that a store takes.
+use Rattle.std.specs.Prelude.{◌≡◌, ◌⊎◌, ◌≤◌, ℕ, List, [], ◌∷◌, ◌++◌, length, Some, slice_get}
+use Rattle.pages.specs.Maps.{IsOf, IsCut}
+use Rattle.pages.specs.declared.change.FreshPage.{FreshPage}
+use Rattle.pages.specs.declared.change.Cut.{Cut}
+use Rattle.pages.specs.declared.change.Change.{Change}
+
+-- no key stands twice among the pages
+abbrev pub AreApart : List FreshPage → Type 0
+AreApart pages = (o c i j : ℕ) → IsOf pages o c i → IsOf pages o c j → i ≡ j
+
+-- each page has so many bytes
+abbrev pub AreSized : List FreshPage → ℕ → Type 0
+AreSized pages bytes = (i : ℕ) (p : FreshPage) → slice_get pages i ≡ Some p → length p.bytes.items ≡ bytes
+
+-- at most so many pages, of so many bytes each, and each of a key of its own
+pub record IsChange (change : Change) (bytes most : ℕ) : Type 0 where
+  pub apart : AreApart change.pages.items
+  pub size : AreSized change.pages.items bytes
+  pub few : length change.pages.items ≤ most
+
+-- nothing is written and nothing is cut
+pub record IsNothing (change : Change) : Type 0 where
+  pub pages : change.pages.items ≡ []
+  pub cuts : change.cuts.items ≡ []
+
+-- no page or cut is of another object
+pub record IsOnlyOf (change : Change) (object : ℕ) : Type 0 where
+  pub pages : (o c i : ℕ) → IsOf change.pages.items o c i → o ≡ object
+  pub cuts : (o c i : ℕ) → IsCut change.cuts.items o c i → o ≡ object
+
+-- the page is behind the others, or one of them is of its key, or a cut takes it away
+abbrev pub IsPutBehind : List FreshPage → List Cut → FreshPage → List FreshPage → Type 0
+IsPutBehind pages cuts page new =
+    (((i : ℕ) → IsOf pages page.key.object page.key.chunk i → ⊥) × ((i : ℕ) → IsCut cuts page.key.object page.key.chunk i → ⊥) × (new ≡ pages ++ page ∷ []))
+    ⊎ ((((i : ℕ) × IsOf pages page.key.object page.key.chunk i) ⊎ ((i : ℕ) × IsCut cuts page.key.object page.key.chunk i)) × (new ≡ pages))

@@ -1,0 +1,37 @@
+-- Why a call that reads what pages hold fails.
+use Rattle.std.specs.Prelude.{◌≡◌, true}
+use Rattle.pages.specs.State.{PagesState}
+use Rattle.volume_terms.specs.declared.fault.StoreFault.{StoreFault}
+use Rattle.volume_terms.specs.declared.fault.StoreFault.TheVariants as store_faults
+use Rattle.pages.specs.declared.fault.PageFault.{PageFault}
+use Rattle.pages.specs.declared.fault.PageFault.TheVariants as faults
+
+-- a store's fault, as one of pages
+abbrev pub of_store : StoreFault → PageFault
+of_store store_faults.NoMemory = faults.NoMemory
+of_store store_faults.Device = faults.Device
+of_store store_faults.Worn = faults.Worn
+
+-- each fault only where its cause is given: want of memory, damage, want of room; the device has failed, and nothing is worn
+abbrev pub Says : Type 0 → Type 0 → Type 0 → PagesState → PageFault → Type 0
+Says memory damage full new faults.NoMemory = memory
+Says memory damage full new faults.Device = new.failed ≡ true
+Says memory damage full new faults.Worn = ⊥
+Says memory damage full new faults.Damaged = damage
+Says memory damage full new faults.Full = full
+
+-- a call that takes no memory, where what it reads is there
+abbrev pub MayLack : PagesState → PageFault → Type 0
+MayLack new = Says (new.refused ≡ true) ⊥ ⊥ new
+
+-- and where nothing is known of what it reads
+abbrev pub SaysWhy : PagesState → PageFault → Type 0
+SaysWhy new = Says (new.refused ≡ true) (Unit {0}) ⊥ new
+
+-- a call that takes memory, where what it reads is there
+abbrev pub MayLackMemory : PagesState → PageFault → Type 0
+MayLackMemory new = Says (Unit {0}) ⊥ ⊥ new
+
+-- and where nothing is known of what it reads
+abbrev pub SaysWhyMaking : PagesState → PageFault → Type 0
+SaysWhyMaking new = Says (Unit {0}) (Unit {0}) ⊥ new

@@ -1,0 +1,18 @@
+-- What a store in memory keeps.
+use Rattle.std.specs.Prelude.{true, slice_get}
+use Rattle.pages.specs.Maps.{with_pages}
+use Rattle.pages.specs.State.{PagesState}
+use Rattle.pages.specs.Afterwards.{bytes_or}
+use Rattle.pages.specs.Memory.{nothing}
+use Rattle.pages.specs.declared.memory.MemPages.{MemPages}
+
+abbrev pub kept : MemPages → PagesState
+kept it = record {
+  page_bytes = it.page_bytes;
+  present = with_pages it.pages.items nothing;
+  lent = bytes_or (slice_get it.pages.items it.found) it.blank.items;
+  sound = true;
+  failed = it.failed;
+  refused = it.refused;
+  asked = it.finds;
+}

@@ -1,0 +1,109 @@
+// What is changed together.
+ghost use Rattle.std.specs.Prelude.{◌≡◌, ◌≤◌, ◌+◌, ℕ, true, false, IfOk, OnOk, IfSome, IfNone, length};
+ghost use Rattle.pages.specs.Maps.{PageMap, changed, IsOf, IsFirstOf, takes, IsCut};
+ghost use Rattle.pages.specs.Changes.{AreApart, AreSized, IsNothing, IsPutBehind};
+
+use flash_tree::Key;
+use std::alloc::{AllocError, Global};
+
+/// A page as it is to be.
+#[derive(Drop)]
+pub struct FreshPage {
+    pub key: Key,
+    pub bytes: Vec<u8>,
+}
+
+/// The pages of an object from a chunk on, which are to go: from chunk 0 on, the whole object.
+#[derive(Clone, Copy, Debug, PartialEq, Eq)]
+pub struct Cut {
+    pub object: u64,
+    pub from: u64,
+}
+
+impl Cut {
+    /// Tells whether the page of a key goes.
+    fn takes(self, key: Key) -> bool
+        ensures { result ≡ takes self key.object key.chunk }
+    {
+        self.object == key.object && self.from <= key.chunk
+    }
+}
+
+/// Pages that are written, and cuts, together. A page of the change is there afterwards, whatever is cut.
+#[derive(Drop)]
+pub struct Change {
+    pub pages: Vec<FreshPage>,
+    pub cuts: Vec<Cut>,
+}
+
+/// The place of the first page of a key.
+pub(crate) fn place_of(pages: &[FreshPage], key: Key) -> Option<usize>
+    ensures some { IfSome result (IsFirstOf pages.now key.object key.chunk) }
+    ensures none { IfNone result ((i : ℕ) → IsOf pages.now key.object key.chunk i → ⊥) }
+{
+    for (place, page) in pages.iter().enumerate() {
+        if page.key == key {
+            return Some(place);
+        }
+    }
+    None
+}
+
+/// Tells whether one of the cuts takes the key's page away.
+pub(crate) fn is_cut(cuts: &[Cut], key: Key) -> bool
+    ensures cut { result ≡ true → (i : ℕ) × IsCut cuts.now key.object key.chunk i }
+    ensures not { result ≡ false → (i : ℕ) → IsCut cuts.now key.object key.chunk i → ⊥ }
+{
+    for cut in cuts {
+        if cut.takes(key) {
+            return true;
+        }
+    }
+    false
+}
+
+/// Puts a page behind those that are written later, unless one of these is of its key, or a later cut takes it away.
+fn put_behind(pages: &mut Vec<FreshPage>, cuts: &[Cut], page: FreshPage) -> Result<(), AllocError>
+    ensures { OnOk result (IsPutBehind pages.old.items cuts.now page pages.new.items) }
+{
+    if place_of(pages, page.key).is_none() && !is_cut(cuts, page.key) {
+        pages.push(page)?;
+    }
+    Ok(())
+}
+
+impl Change {
+    /// The change that changes nothing.
+    pub fn none(alloc: Global) -> Change
+        ensures { IsNothing result }
+    {
+        Change {
+            pages: Vec::new(alloc),
+            cuts: Vec::new(alloc),
+        }
+    }
+
+    /// This change and then another, as one: of a key that both write it has the later page.
+    pub fn then(self, next: Change) -> Result<Change, AllocError>
+        ensures pages { (m : PageMap) (o c : ℕ) → IfOk result (λ both. changed both m o c ≡ changed next (changed self m) o c) }
+        ensures apart { AreApart self.pages.items → AreApart next.pages.items → IfOk result (λ both. AreApart both.pages.items) }
+        ensures size { (bytes : ℕ) → AreSized self.pages.items bytes → AreSized next.pages.items bytes → IfOk result (λ both. AreSized both.pages.items bytes) }
+        ensures few { IfOk result (λ both. length both.pages.items ≤ length self.pages.items + length next.pages.items) }
+        ensures shared { (o c i j : ℕ) → IsOf self.pages.items o c i → IsOf next.pages.items o c j
+            → IfOk result (λ both. length both.pages.items + 1 ≤ length self.pages.items + length next.pages.items) }
+    {
+        let Change {
+            pages: earlier,
+            cuts: mut earlier_cuts,
+        } = self;
+        let Change {
+            mut pages,
+            mut cuts,
+        } = next;
+        for page in earlier {
+            put_behind(&mut pages, &cuts, page)?;
+        }
+        cuts.append(&mut earlier_cuts)?;
+        Ok(Change { pages, cuts })
+    }
+}

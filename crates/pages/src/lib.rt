@@ -1,0 +1,20 @@
+//! The pages that a store has now, as the layers above it see them: no device, no block and no group.
+#![tactic(auto)]
+
+mod after;
+mod change;
+mod fault;
+mod law;
+mod loading;
+mod memory;
+mod store;
+
+pub use after::{Source, load_after, page_after};
+pub use change::{Change, Cut, FreshPage};
+pub use fault::PageFault;
+pub use law::{
+    changes_of_two_objects_commute, no_change_keeps_all_pages, other_objects_keep_their_pages,
+};
+pub use loading::load;
+pub use memory::{Lack, MemPages, Refusal};
+pub use store::{Pages, Presence};

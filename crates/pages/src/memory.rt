@@ -1,0 +1,153 @@
+// Pages in memory, for tests.
+ghost use Rattle.std.specs.Prelude.{◌≡◌, ◌≤◌, ℕ, true, None, IfOk, length};
+ghost use Rattle.pages.specs.Maps.{changed};
+ghost use Rattle.pages.specs.Changes.{AreSized};
+
+use crate::change::{Change, FreshPage, place_of};
+use crate::store::{Pages, Presence};
+use flash_tree::Key;
+use std::alloc::{AllocError, Global};
+use volume_terms::StoreFault;
+
+/// What a store in memory lacks when it is told to refuse a look-up.
+#[derive(Clone, Copy, Debug, PartialEq, Eq)]
+pub enum Lack {
+    Memory,
+    Device,
+}
+
+/// The look-up of this number is refused, the first of all being 1.
+#[derive(Clone, Copy, Debug, PartialEq, Eq)]
+pub struct Refusal {
+    pub number: u64,
+    pub lack: Lack,
+}
+
+/// A sound store in memory, which refuses the look-up that it is told to refuse.
+#[derive(Drop)]
+pub struct MemPages {
+    page_bytes: u32,
+    pages: Vec<FreshPage>,
+    // What is lent before a page was found.
+    blank: Vec<u8>,
+    found: usize,
+    finds: u64,
+    refusal: Option<Refusal>,
+    failed: bool,
+    refused: bool,
+    ghost least: { 512 ≤ page_bytes },
+    ghost most: { page_bytes ≤ 4096 },
+    ghost sized: { AreSized pages.items page_bytes },
+    ghost blank_size: { length blank.items ≡ page_bytes },
+}
+
+impl MemPages {
+    ghost use Rattle.pages.specs.MemoryState.{kept};
+
+    /// No key has a page.
+    pub fn new(alloc: Global, page_bytes: u32) -> Result<MemPages, AllocError>
+        requires least { 512 ≤ page_bytes }
+        requires most { page_bytes ≤ 4096 }
+        ensures size { IfOk result (λ it. (kept it).page_bytes ≡ page_bytes) }
+        ensures sound { IfOk result (λ it. (kept it).sound ≡ true) }
+        ensures none { (o c : ℕ) → IfOk result (λ it. (kept it).present o c ≡ None) }
+    {
+        Ok(MemPages {
+            page_bytes,
+            pages: Vec::new(alloc),
+            blank: vec![in alloc; 0u8; page_bytes as usize]?,
+            found: 0,
+            finds: 0,
+            refusal: None,
+            failed: false,
+            refused: false,
+        })
+    }
+
+    /// The pages after a change. Without memory for it the store is gone.
+    pub fn apply(self, alloc: Global, change: Change) -> Result<MemPages, AllocError>
+        requires { AreSized change.pages.items (kept self).page_bytes }
+        ensures size { IfOk result (λ it. (kept it).page_bytes ≡ (kept self).page_bytes) }
+        ensures sound { IfOk result (λ it. (kept it).sound ≡ (kept self).sound) }
+        ensures pages { (o c : ℕ) → IfOk result (λ it. (kept it).present o c ≡ changed change (kept self).present o c) }
+    {
+        let old = Change {
+            pages: self.pages,
+            cuts: Vec::new(alloc),
+        };
+        let both = old.then(change)?;
+        Ok(MemPages {
+            page_bytes: self.page_bytes,
+            pages: both.pages,
+            blank: self.blank,
+            found: 0,
+            finds: self.finds,
+            refusal: self.refusal,
+            failed: self.failed,
+            refused: self.refused,
+        })
+    }
+
+    /// One look-up is refused, in place of the one that was told before.
+    pub fn refuse(&mut self, refusal: Refusal)
+        ensures { kept self.new ≡ kept self.old }
+    {
+        self.refusal = Some(refusal);
+    }
+
+    /// How many look-ups there were.
+    pub fn finds(&self) -> u64
+        ensures { result ≡ (kept self.now).asked }
+    {
+        self.finds
+    }
+
+    /// What is lacking for a look-up of this number.
+    fn lacking(&self) -> Option<Lack> {
+        match self.refusal {
+            Some(refusal) if refusal.number == self.finds => Some(refusal.lack),
+            _ => None,
+        }
+    }
+}
+
+impl Pages for MemPages {
+    ghost use Rattle.pages.specs.MemoryState.{kept};
+
+    ghost state = { kept };
+
+    ghost sized = { λ it. (it.least, it.most) };
+
+    fn page_bytes(&self) -> u32 {
+        self.page_bytes
+    }
+
+    fn find(&mut self, key: Key) -> Result<Presence, StoreFault> {
+        self.finds = self.finds.saturating_add(1);
+        match self.lacking() {
+            Some(Lack::Memory) => {
+                self.refused = true;
+                return Err(StoreFault::NoMemory);
+            }
+            Some(Lack::Device) => {
+                self.failed = true;
+                return Err(StoreFault::Device);
+            }
+            None => {}
+        }
+        match place_of(&self.pages, key) {
+            Some(place) => {
+                self.found = place;
+                Ok(Presence::Present)
+            }
+            None => Ok(Presence::Absent),
+        }
+    }
+
+    fn page(&self) -> &[u8] {
+        match self.pages.get(self.found) {
+            Some(page) => &page.bytes,
+            None => &self.blank,
+        }
+    }
+}

@@ -1,0 +1,42 @@
+// The trait of pages.
+ghost use Rattle.std.specs.Prelude.{◌≡◌, ◌≤◌, ◌+◌, true, length, IfOk, IfErr};
+ghost use Rattle.pages.specs.State.{PagesState, OnlyFinds, FindsPage, FailsBy};
+
+use flash_tree::Key;
+use volume_terms::StoreFault;
+
+/// Whether a key has a page.
+#[derive(Clone, Copy, Debug, PartialEq, Eq)]
+pub enum Presence {
+    Present,
+    Absent,
+}
+
+/// Pages that are found by their keys. What they are is promised of a sound store alone.
+pub trait Pages {
+    /// What is known of the pages.
+    ghost state: { Self → PagesState };
+
+    /// The bytes of a page.
+    fn page_bytes(&self) -> u32
+        ensures bytes { result ≡ (state self.now).page_bytes }
+        ensures least { 512 ≤ result }
+        ensures most { result ≤ 4096 };
+
+    /// Tells whether there is a page of the key; `page` lends it then.
+    fn find(&mut self, key: Key) -> Result<Presence, StoreFault>
+        ensures finds { OnlyFinds (state self.old) (state self.new) }
+        ensures asked { (state self.new).asked ≤ (state self.old).asked + 1 }
+        ensures page { (state self.old).sound ≡ true → IfOk result (FindsPage (state self.old).present key.object key.chunk (state self.new).lent) }
+        ensures fault { IfErr result (FailsBy (state self.new)) };
+
+    /// The page that was found last.
+    fn page(&self) -> &[u8]
+        ensures bytes { result.now ≡ (state self.now).lent }
+        ensures size { length result.now ≡ (state self.now).page_bytes }
+        ensures least { 512 ≤ length result.now }
+        ensures most { length result.now ≤ 4096 };
+
+    /// How large a page is.
+    ghost sized: { (pages : Self) → (512 ≤ (state pages).page_bytes) × ((state pages).page_bytes ≤ 4096) };
+}

@@ -8,6 +8,7 @@ use Rattle.page_tags.specs.declared.header.ObjectKind.{ObjectKind}
 use Rattle.page_tags.specs.declared.header.ObjectKind.TheVariants as kinds
 use Rattle.page_tags.specs.declared.header.HeaderFault.{HeaderFault}
 use Rattle.page_tags.specs.declared.header.HeaderFault.TheVariants as faults
+use Rattle.volume_terms.specs.Sizes.{most_file_bytes}
 
 -- What a header says; its presence bits as the bytes that hold them.
 pub record Fields : Type 0 where
@@ -46,7 +47,7 @@ IsBytes bytes = (i : ℕ) → slice_index bytes i < 256
 
 -- the greatest length over pages of d bytes: the bytes of a file that presence bits can name, or entries of a directory
 abbrev pub greatest_length : ℕ → ObjectKind → ℕ
-greatest_length d kinds.File = 8 * (d - 32) * d
+greatest_length d kinds.File = most_file_bytes d
 greatest_length d kinds.Directory = 2 ^ 32 - 1
 
 -- A bit of chunk c may be set: in a file up to the chunk of its last byte, in a directory none.

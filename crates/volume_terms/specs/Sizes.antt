@@ -25,9 +25,13 @@ page_slots z = z.page_bytes / 272
 abbrev pub capacity : Sizes → ℕ
 capacity z = (z.blocks - z.spare_blocks - 1) * (z.block_pages - buffer_pages z)
 
+-- most bytes of a file over pages of d bytes: each byte of a header past the first 32 has the presence bits of eight pages
+abbrev pub most_file_bytes : ℕ → ℕ
+most_file_bytes d = 8 * (d - 32) * d
+
 -- most bytes of a file
 abbrev pub greatest_length : Sizes → ℕ
-greatest_length z = 8 * (z.page_bytes - 32) * z.page_bytes
+greatest_length z = most_file_bytes z.page_bytes
 
 -- most bytes of a name
 abbrev pub name_limit : ℕ

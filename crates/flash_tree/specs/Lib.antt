@@ -1,5 +1,6 @@
 pub mod Groups
 pub mod Newest
+pub mod Keeping
 pub mod NewestLaws
 pub mod AddedLaws
 pub mod Tree

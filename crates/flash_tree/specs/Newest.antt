@@ -12,6 +12,10 @@ pub record Spot : Type 0 where
   pub page : ℕ
   pub tag : Tag
 
+-- the place of page i of a group whose pages have these tags
+abbrev pub spot_in : Group → (ℕ → Tag) → ℕ → Spot
+spot_in g tag i = record { block = g.block; page = g.start + i; tag = tag i }
+
 -- the page there counts, and is of the key of object o and chunk c
 pub record Holds (flash : Flash) (o c : ℕ) (s : Spot) : Type 0 where
   pub group : Group
@@ -34,6 +38,11 @@ IsAfter s t = (t.tag.version < s.tag.version)
 pub record IsNewest (flash : Flash) (o c : ℕ) (s : Spot) : Type 0 where
   pub holds : Holds flash o c s
   pub last : (t : Spot) → Holds flash o c t → IsAfter t s → ⊥
+
+-- the newest page of the key is there, and has this data
+pub record IsNewestWith (flash : Flash) (o c : ℕ) (s : Spot) (bytes : List ℕ) : Type 0 where
+  pub newest : IsNewest flash o c s
+  pub stored : flash.page s.block s.page ≡ Written bytes (tag_bytes s.tag)
 
 -- the newest page of the key has this data
 pub record HasNewest (flash : Flash) (o c : ℕ) (bytes : List ℕ) : Type 0 where

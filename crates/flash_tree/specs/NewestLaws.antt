@@ -1,13 +1,17 @@
 -- What keeps the newest pages.
-use Rattle.std.specs.Prelude.{◌≡◌, ◌≢◌, ℕ, List}
-use Rattle.std.proofs.Common.{sym, ◌∙◌, ap, inl, inr, arith}
+use Rattle.std.specs.Prelude.{◌≡◌, ◌≢◌, ℕ, List, true, false, Result, Ok, Err}
+use Rattle.std.proofs.Common.{sym, ◌∙◌, ap, subst, inl, inr, arith}
 use Rattle.std.proofs.lemmas.Bool.{cases_eq, cases_order}
 use Rattle.nand_model.specs.Flash.{Flash, Erased, Written, Uncorrectable}
-use Rattle.nand_model.specs.Changes.{Grows, Shrinks}
+use Rattle.nand_model.specs.Calls.{Device, Marks, MarkLeaves}
+use Rattle.nand_model.specs.Changes.{Grows, Shrinks, OnlyReads}
+use Rattle.nand_model.specs.declared.nand.Gone.{Gone}
 use Rattle.page_tags.specs.declared.tag.Tag.{Tag}
 use Rattle.page_tags.specs.Tags.{tag_bytes}
 use Rattle.flash_tree.specs.Groups.{HasTag, Group, IsPart, IsGroup, IsCounted, SameGroups}
-use Rattle.flash_tree.specs.Newest.{Spot, Holds, IsAfter, IsNewest, HasNewest, Numbers, AreGreatest}
+use Rattle.flash_tree.specs.Newest.{Spot, Holds, IsAfter, IsNewest, IsNewestWith, HasNewest, Numbers, AreGreatest}
+use Rattle.flash_tree.specs.NewestExists.{one_tag}
+use Rattle.flash_tree.specs.Keeping.{StaysNewest, KeepsNewest, KeepsElsewhere, Loses}
 
 -- of two places one comes after the other, or they are at one place with equal order
 pub one_is_after : (s t : Spot) → (IsAfter s t → ⊥) → (IsAfter t s → ⊥) → (s.block ≡ t.block) × (s.page ≡ t.page)
@@ -25,52 +29,105 @@ one_is_after s t f g = elim (cases_order s.tag.version t.tag.version) [
   ]
 ]
 
--- a key has one newest page, and so one data
+-- a key has one newest page
+pub one_spot : (f : Flash) (o c : ℕ) (s t : Spot) → IsNewest f o c s → IsNewest f o c t → s ≡ t
+one_spot f o c s t a b =
+    let at = one_is_after s t (λ after. b.last s a.holds after) (λ after. a.last t b.holds after) in
+    let block : s.block ≡ t.block = at.0 in
+    let page : s.page ≡ t.page = at.1 in
+    let here : HasTag f t.block t.page s.tag = subst (λ n. HasTag f n t.page s.tag) block (subst (λ n. HasTag f s.block n s.tag) page a.holds.has) in
+    let tag : s.tag ≡ t.tag = one_tag f t.block t.page s.tag t.tag here b.holds.has in
+    λ i. record { block = block i; page = page i; tag = tag i }
+
+-- and so one data
 pub one_newest : (f : Flash) (o c : ℕ) (xs ys : List ℕ) → HasNewest f o c xs → HasNewest f o c ys → xs ≡ ys
 one_newest f o c xs ys a b =
-    let at = one_is_after a.spot b.spot (λ after. b.newest.last a.spot a.newest.holds after) (λ after. a.newest.last b.spot b.newest.holds after) in
-    let pages : Written xs (tag_bytes a.spot.tag) ≡ Written ys (tag_bytes b.spot.tag) = sym a.stored ∙ ap (λ n. f.page n a.spot.page) at.0 ∙ ap (f.page b.spot.block) at.1 ∙ b.stored in
+    let at = one_spot f o c a.spot b.spot a.newest b.newest in
+    let pages : Written xs (tag_bytes a.spot.tag) ≡ Written ys (tag_bytes b.spot.tag) = sym a.stored ∙ ap (λ (s : Spot). f.page s.block s.page) at ∙ b.stored in
     cc
 
--- where only fewer pages are held, and that one still, it stays the newest
-pub newest_of_fewer : (old new : Flash) (o c : ℕ) (bytes : List ℕ) (h : HasNewest old o c bytes)
-    → ((t : Spot) → Holds new o c t → Holds old o c t) → Holds new o c h.spot → new.page h.spot.block h.spot.page ≡ old.page h.spot.block h.spot.page → HasNewest new o c bytes
-newest_of_fewer old new o c bytes h fewer still same = record {
-  spot = h.spot;
-  newest = record { holds = still; last = λ t holds after. h.newest.last t (fewer t holds) after };
-  stored = same ∙ h.stored;
+-- a tag stays with its page
+pub tag_stays : (old new : Flash) (b p : ℕ) (t : Tag) → new.page b p ≡ old.page b p → HasTag old b p t → HasTag new b p t
+tag_stays old new b p t same has = record { bytes = has.bytes; page = same ∙ has.page; valid = has.valid }
+
+-- a page with a tag isn't erased
+pub tag_grows : (old new : Flash) → Grows old new → (b p : ℕ) (t : Tag) → HasTag old b p t → new.page b p ≡ old.page b p
+tag_grows old new grows b p t has = grows b p (λ is. let two : Erased ≡ Written has.bytes (tag_bytes t) = sym is ∙ has.page in absurd cc)
+
+-- what counts goes on to count where its group is whole and its tag stands there
+pub holds_with : (old new : Flash) (o c : ℕ) (t : Spot) (h : Holds old o c t) → IsGroup new h.group → HasTag new t.block t.page t.tag → Holds new o c t
+holds_with old new o c t h whole has = record {
+  group = h.group;
+  whole = whole;
+  index = h.index;
+  within = h.within;
+  block = h.block;
+  page = h.page;
+  has = has;
+  object = h.object;
+  chunk = h.chunk;
 }
 
-module _ (b : ℕ) (old new : Flash) (shrinks : Shrinks b old new) where
-  -- what has a tag afterwards had it before
-  pub tag_was : (k l : ℕ) (t : Tag) → HasTag new k l t → HasTag old k l t
-  tag_was k l t has = elim (cases_eq k b) [
-    | inr ne ↦ record { bytes = has.bytes; page = sym (shrinks.others k l ne) ∙ has.page; valid = has.valid }
-    | inl e ↦ elim (shrinks.inside l) [
-      | inl same ↦ record { bytes = has.bytes; page = ap (λ n. old.page n l) e ∙ sym same ∙ ap (λ n. new.page n l) (sym e) ∙ has.page; valid = has.valid }
-      | inr gone ↦ elim gone [
-        | inl is ↦ let two : Erased ≡ Written has.bytes (tag_bytes t) = sym is ∙ ap (λ n. new.page n l) (sym e) ∙ has.page in absurd cc
-        | inr is ↦ let two : Uncorrectable ≡ Written has.bytes (tag_bytes t) = sym is ∙ ap (λ n. new.page n l) (sym e) ∙ has.page in absurd cc
-      ]
-    ]
+-- a page that counts, of a group that was whole before, is as it was where no page but erased ones changed
+pub held_page : (old new : Flash) → Grows old new → (o c : ℕ) (t : Spot) (h : Holds new o c t) → IsGroup old h.group → new.page t.block t.page ≡ old.page t.block t.page
+held_page old new grows o c t h was =
+    let part : IsPart old h.group h.index = was.each h.index h.within in
+    ap (λ k. new.page k t.page) h.block ∙ ap (new.page h.group.block) h.page ∙ tag_grows old new grows _ _ _ part.has
+    ∙ ap (old.page h.group.block) (sym h.page) ∙ ap (λ k. old.page k t.page) (sym h.block)
+
+-- and so it counted before
+pub held_before : (old new : Flash) → Grows old new → (o c : ℕ) (t : Spot) (h : Holds new o c t) → IsGroup old h.group → Holds old o c t
+held_before old new grows o c t h was =
+    holds_with new old o c t h was (tag_stays new old _ _ _ (sym (held_page old new grows o c t h was)) h.has)
+
+-- Where nothing more counts for a key, its newest page stays so if its group is whole and the page as it was.
+pub stays_of_fewer : (old new : Flash) (o c : ℕ) (s : Spot) (newest : IsNewest old o c s) → ((t : Spot) → Holds new o c t → Holds old o c t)
+    → IsGroup new newest.holds.group → new.page s.block s.page ≡ old.page s.block s.page → StaysNewest old new o c s
+stays_of_fewer old new o c s newest fewer whole same = record {
+  newest = record {
+    holds = holds_with old new o c s newest.holds whole (tag_stays old new _ _ _ same newest.holds.has);
+    last = λ t holds after. newest.last t (fewer t holds) after;
+  };
+  page = same;
+}
+
+-- a newest page that stays so has its data
+pub newest_with_stays : (old new : Flash) (o c : ℕ) (s : Spot) (bytes : List ℕ) → IsNewestWith old o c s bytes → StaysNewest old new o c s → IsNewestWith new o c s bytes
+newest_with_stays old new o c s bytes was stays = record { newest = stays.newest; stored = stays.page ∙ was.stored }
+
+pub has_newest_stays : (old new : Flash) (o c : ℕ) (bytes : List ℕ) (h : HasNewest old o c bytes) → StaysNewest old new o c h.spot → HasNewest new o c bytes
+has_newest_stays old new o c bytes h stays = record { spot = h.spot; newest = stays.newest; stored = stays.page ∙ h.stored }
+
+-- what stays over one change and then another
+pub stays_on : (f g h : Flash) (o c : ℕ) (s : Spot) → StaysNewest f g o c s → StaysNewest g h o c s → StaysNewest f h o c s
+stays_on f g h o c s first then = record { newest = then.newest; page = then.page ∙ first.page }
+
+module _ (b : ℕ) (old new : Flash) (loses : Loses b old new) where
+  has_before : (k l : ℕ) (t : Tag) → HasTag new k l t → HasTag old k l t
+  has_before k l t has = elim (cases_eq k b) [
+    | inr ne ↦ tag_stays new old k l t (sym (loses.other_pages k l ne)) has
+    | inl e ↦ subst (λ n. HasTag old n l t) (sym e) (loses.tags l t (subst (λ n. HasTag new n l t) e has))
   ]
 
-  group_was : (g : Group) → IsGroup new g → IsGroup old g
-  group_was g whole = record {
-    good = ap (λ f. f g.block) (sym shrinks.bad) ∙ whole.good;
+  group_before : (g : Group) → IsGroup new g → IsGroup old g
+  group_before g whole = record {
+    good = elim (cases_eq g.block b) [
+      | inr ne ↦ sym (loses.other_marks g.block ne) ∙ whole.good
+      | inl e ↦ ap old.bad e ∙ loses.good (ap new.bad (sym e) ∙ whole.good)
+    ];
     some = whole.some;
     each = λ i lt. let part : IsPart new g i = whole.each i lt in
-        record { tag = part.tag; has = tag_was _ _ _ part.has; index = part.index; count = part.count; group = part.group; seq = part.seq };
+        record { tag = part.tag; has = has_before _ _ _ part.has; index = part.index; count = part.count; group = part.group; seq = part.seq };
   }
 
   group_stays : (g : Group) → g.block ≢ b → IsGroup old g → IsGroup new g
   group_stays g ne whole = record {
-    good = ap (λ f. f g.block) shrinks.bad ∙ whole.good;
+    good = loses.other_marks g.block ne ∙ whole.good;
     some = whole.some;
     each = λ i lt. let part : IsPart old g i = whole.each i lt in
         record {
           tag = part.tag;
-          has = record { bytes = part.has.bytes; page = shrinks.others _ _ ne ∙ part.has.page; valid = part.has.valid };
+          has = tag_stays old new _ _ _ (loses.other_pages _ _ ne) part.has;
           index = part.index;
           count = part.count;
           group = part.group;
@@ -78,74 +135,68 @@ module _ (b : ℕ) (old new : Flash) (shrinks : Shrinks b old new) where
         };
   }
 
-  -- an erase, cut or not, keeps the newest pages that lie elsewhere
-  pub erase_keeps : (o c : ℕ) (bytes : List ℕ) (h : HasNewest old o c bytes) → h.spot.block ≢ b → HasNewest new o c bytes
-  erase_keeps o c bytes h ne =
-      let was = h.newest.holds in
-      let elsewhere : was.group.block ≢ b = λ is. ne (was.block ∙ is) in
-      newest_of_fewer old new o c bytes h
-      (λ t holds. record {
-        group = holds.group;
-        whole = group_was _ holds.whole;
-        index = holds.index;
-        within = holds.within;
-        block = holds.block;
-        page = holds.page;
-        has = tag_was _ _ _ holds.has;
-        object = holds.object;
-        chunk = holds.chunk;
-      })
-      (record {
-        group = was.group;
-        whole = group_stays _ elsewhere was.whole;
-        index = was.index;
-        within = was.within;
-        block = was.block;
-        page = was.page;
-        has = record { bytes = was.has.bytes; page = shrinks.others _ _ ne ∙ was.has.page; valid = was.has.valid };
-        object = was.object;
-        chunk = was.chunk;
-      })
-      (shrinks.others _ _ ne)
+  -- what a block loses leaves what lies elsewhere
+  pub keeps_elsewhere : KeepsElsewhere b old new
+  keeps_elsewhere o c s newest ne =
+      let was = newest.holds in
+      stays_of_fewer old new o c s newest
+      (λ t holds. holds_with new old o c t holds (group_before _ holds.whole) (has_before _ _ _ holds.has))
+      (group_stays _ (λ is. ne (was.block ∙ is)) was.whole)
+      (loses.other_pages _ _ ne)
 
--- where the same groups count, the newest pages stay
-pub newest_same : (old new : Flash) (o c : ℕ) (xs : List ℕ) → SameGroups old new → Grows old new → HasNewest old o c xs → HasNewest new o c xs
-newest_same old new o c xs same grows h =
-    let page = λ (k l : ℕ) (t : Tag) (has : HasTag old k l t). grows k l (λ is. let two : Erased ≡ Written has.bytes (tag_bytes t) = sym is ∙ has.page in absurd cc) in
-    let was = h.newest.holds in
-    record {
-      spot = h.spot;
-      newest = record {
-        holds = record {
-          group = was.group;
-          whole = (same was.group).1 was.whole;
-          index = was.index;
-          within = was.within;
-          block = was.block;
-          page = was.page;
-          has = record { bytes = was.has.bytes; page = page _ _ _ was.has ∙ was.has.page; valid = was.has.valid };
-          object = was.object;
-          chunk = was.chunk;
-        };
-        last = λ t holds after.
-            let whole : IsGroup old holds.group = (same holds.group).0 holds.whole in
-            let part : IsPart old holds.group holds.index = whole.each holds.index holds.within in
-            let moved : new.page t.block t.page ≡ old.page t.block t.page =
-            ap (λ k. new.page k t.page) holds.block ∙ ap (new.page holds.group.block) holds.page ∙ page _ _ _ part.has ∙ ap (old.page holds.group.block) (sym holds.page) ∙ ap (λ k. old.page k t.page) (sym holds.block) in
-            h.newest.last t (record {
-              group = holds.group;
-              whole = whole;
-              index = holds.index;
-              within = holds.within;
-              block = holds.block;
-              page = holds.page;
-              has = record { bytes = holds.has.bytes; page = sym moved ∙ holds.has.page; valid = holds.has.valid };
-              object = holds.object;
-              chunk = holds.chunk;
-            }) after;
-      };
-      stored = page _ _ _ was.has ∙ h.stored;
-    }
+-- an erase, however it ends
+pub loses_erase : (b : ℕ) (old new : Flash) → Shrinks b old new → Loses b old new
+loses_erase b old new shrinks = record {
+  good = λ is. ap (λ f. f b) (sym shrinks.bad) ∙ is;
+  tags = λ l t has. elim (shrinks.inside l) [
+    | inl same ↦ tag_stays new old b l t (sym same) has
+    | inr (inl is) ↦ let two : Erased ≡ Written has.bytes (tag_bytes t) = sym is ∙ has.page in absurd cc
+    | inr (inr is) ↦ let two : Uncorrectable ≡ Written has.bytes (tag_bytes t) = sym is ∙ has.page in absurd cc
+  ];
+  other_marks = λ k ne. ap (λ f. f k) shrinks.bad;
+  other_pages = shrinks.others;
+}
+
+-- a mark, done or cut
+pub loses_mark : (b : ℕ) (old new : Device) (result : Result (Unit {0}) Gone) → old.honest ≡ true → Marks b old new result → Loses b old.flash new.flash
+loses_mark b old new result honest marks = record {
+  good = was_good result marks.bad;
+  tags = λ l t has. tag_stays new.flash old.flash b l t (ap (λ f. f b l) (sym (marks.page honest))) has;
+  other_marks = marks.other_bads;
+  other_pages = λ k l ne. ap (λ f. f k l) (marks.page honest);
+} where
+  was_good : (result : Result (Unit {0}) Gone) → MarkLeaves result (old.flash.bad b) (new.flash.bad b) → new.flash.bad b ≡ false → old.flash.bad b ≡ false
+  was_good (Ok done) marked is = let two : true ≡ false = sym marked ∙ is in absurd cc
+  was_good (Err gone) (inl same) is = sym same ∙ is
+  was_good (Err gone) (inr marked) is = let two : true ≡ false = sym marked ∙ is in absurd cc
+
+-- what has a tag after an erase had it before
+pub tag_was : (b : ℕ) (old new : Flash) → Shrinks b old new → (k l : ℕ) (t : Tag) → HasTag new k l t → HasTag old k l t
+tag_was b old new shrinks = has_before b old new (loses_erase b old new shrinks)
+
+-- what lies in other blocks stays over an erase
+pub erase_keeps_elsewhere : (b : ℕ) (old new : Flash) → Shrinks b old new → KeepsElsewhere b old new
+erase_keeps_elsewhere b old new shrinks = keeps_elsewhere b old new (loses_erase b old new shrinks)
+
+-- and over a mark
+pub mark_keeps_elsewhere : (b : ℕ) (old new : Device) (result : Result (Unit {0}) Gone) → old.honest ≡ true → Marks b old new result → KeepsElsewhere b old.flash new.flash
+mark_keeps_elsewhere b old new result honest marks = keeps_elsewhere b old.flash new.flash (loses_mark b old new result honest marks)
+
+-- the same groups have the same newest pages
+pub same_groups_keep : (old new : Flash) → SameGroups old new → Grows old new → KeepsNewest old new
+same_groups_keep old new same grows o c s newest =
+    let was = newest.holds in
+    stays_of_fewer old new o c s newest
+    (λ t holds. held_before old new grows o c t holds ((same holds.group).0 holds.whole))
+    ((same was.group).1 was.whole)
+    (tag_grows old new grows _ _ _ was.has)
+
+-- a read changes no page
+pub reads_keep : (old new : Device) → old.honest ≡ true → OnlyReads old new → KeepsNewest old.flash new.flash
+reads_keep old new honest reads o c s newest =
+    let page = reads.page honest in
+    let same : old.flash ≡ new.flash = λ i. record { bad = sym reads.bad i; next = sym reads.next i; page = sym page i } in
+    record { newest = subst (λ (f : Flash). IsNewest f o c s) same newest; page = ap (λ f. f s.block s.page) page }
 
 -- the greatest numbers of a flash are one
 pub one_greatest : (f : Flash) (m n : Numbers) → AreGreatest f m → AreGreatest f n → m ≡ n
@@ -160,7 +211,3 @@ one_greatest f m n a b =
 -- what is newest counts
 pub newest_counts : (f : Flash) (o c : ℕ) (s : Spot) → IsNewest f o c s → IsCounted f s.block s.page
 newest_counts f o c s h = record { group = h.holds.group; whole = h.holds.whole; block = h.holds.block; index = h.holds.index; within = h.holds.within; page = h.holds.page }
-
--- a key has one newest place at most
-pub one_place : (f : Flash) (o c : ℕ) (s t : Spot) → IsNewest f o c s → IsNewest f o c t → (s.block ≡ t.block) × (s.page ≡ t.page)
-one_place f o c s t a b = one_is_after s t (λ after. b.last s a.holds after) (λ after. a.last t b.holds after)

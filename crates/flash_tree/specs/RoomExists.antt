@@ -16,7 +16,7 @@ use Rattle.posix_profile.specs.State.{Object, Objects}
 use Rattle.posix_profile.specs.Charge.{charge}
 use Rattle.flash_tree.specs.Groups.{HasTag}
 use Rattle.flash_tree.specs.Newest.{Spot, IsNewest, HasNewest}
-use Rattle.flash_tree.specs.NewestLaws.{one_place, one_newest}
+use Rattle.flash_tree.specs.NewestLaws.{one_spot, one_newest}
 use Rattle.flash_tree.specs.Tree.{HasHeader, LooksUp, InFootprint}
 use Rattle.flash_tree.specs.TreeLaws.{slice_get_within}
 use Rattle.flash_tree.specs.Mount.{HasNone, HasHeaderFault, sizes_of, bad_blocks, IsFree, HasFree, HasRoom}
@@ -99,7 +99,7 @@ module _ (g : Geometry) (flash : Flash) (within : IsWithin g.pages g.blocks flas
     | inl (t, has) ↦ elim (newest_or_none flash t.object t.chunk g.pages g.blocks within) [
       | inr nobody ↦ inr (λ h. nobody h.spot (key_of t has h).holds)
       | inl (s, newest) ↦ elim (both_told _ _ (same_told s.block b) (same_told s.page p)) [
-        | inr elsewhere ↦ inr (λ h. let at = one_place flash t.object t.chunk s h.spot newest (key_of t has h) in elsewhere (at.0 ∙ h.block, at.1 ∙ h.page))
+        | inr elsewhere ↦ inr (λ h. let at = one_spot flash t.object t.chunk s h.spot newest (key_of t has h) in elsewhere (ap (λ (x : Spot). x.block) at ∙ h.block, ap (λ (x : Spot). x.page) at ∙ h.page))
         | inl (block, page) ↦ elim (footprint_told t.object t.chunk) [
           | inl looked ↦ inl (record { object = t.object; chunk = t.chunk; spot = s; looked = looked; newest = newest; block = block; page = page })
           | inr not ↦ inr (λ h.

@@ -1,12 +1,15 @@
 // What follows from what counts and what is shown. A function here does nothing: its clause is the law.
-ghost use Rattle.std.specs.Prelude.{◌≡◌, ◌≢◌, ◌<◌, ◌≤◌, ◌↔◌, ◌+◌, List, ℕ};
+ghost use Rattle.std.specs.Prelude.{◌≡◌, ◌≢◌, ◌<◌, ◌≤◌, ◌↔◌, ◌+◌, List, ℕ, true, Result};
 ghost use Rattle.nand_model.specs.Flash.{Flash, IsWithin, IsSized};
-ghost use Rattle.nand_model.specs.Changes.{Grows, Shrinks};
+ghost use Rattle.nand_model.specs.Calls.{Device, Marks};
+ghost use Rattle.nand_model.specs.Changes.{Grows, Shrinks, OnlyReads};
+ghost use Rattle.nand_model.specs.declared.nand.Gone.{Gone};
 ghost use Rattle.page_tags.specs.declared.tag.Tag.{Tag};
 ghost use Rattle.volume_terms.specs.Sizes.{Sizes};
 ghost use Rattle.posix_profile.specs.State.{Objects};
 ghost use Rattle.flash_tree.specs.Groups.{HasTag, Group, IsCounted, SameGroups, AddsGroup, AllThere};
-ghost use Rattle.flash_tree.specs.Newest.{Spot, Holds, IsAfter, IsNewest, HasNewest, Numbers, AreGreatest};
+ghost use Rattle.flash_tree.specs.Newest.{Spot, spot_in, Holds, IsAfter, IsNewest, IsNewestWith, HasNewest, Numbers, AreGreatest};
+ghost use Rattle.flash_tree.specs.Keeping.{StaysNewest, KeepsNewest, KeepsElsewhere};
 ghost use Rattle.flash_tree.specs.Places.{CountsByTag};
 ghost use Rattle.flash_tree.specs.Tree.{Shows, KeepsFootprint};
 ghost use Rattle.flash_tree.specs.Mount.{End, GoesThrough, sizes_of, IsVolume, HasRoom, Answer, Answers, IsTreeOf};
@@ -15,7 +18,7 @@ ghost use Rattle.nand_model.specs.declared.geometry.Geometry.{Geometry};
 
 /// A key has one newest page at most, and so one newest data.
 pub fn a_key_has_one_newest_page()
-    ensures place { (f : Flash) (o c : ℕ) (s t : Spot) → IsNewest f o c s → IsNewest f o c t → (s.block ≡ t.block) × (s.page ≡ t.page) }
+    ensures place { (f : Flash) (o c : ℕ) (s t : Spot) → IsNewest f o c s → IsNewest f o c t → s ≡ t }
     ensures bytes { (f : Flash) (o c : ℕ) (xs ys : List ℕ) → HasNewest f o c xs → HasNewest f o c ys → xs ≡ ys }
 {}
 
@@ -46,14 +49,31 @@ pub fn the_greatest_numbers_are_one()
     ensures { (f : Flash) (m n : Numbers) → AreGreatest f m → AreGreatest f n → m ≡ n }
 {}
 
-/// Where the same groups count, and no page but erased ones changed, each key keeps its newest page.
-pub fn the_same_groups_show_the_same()
-    ensures { (old new : Flash) (o c : ℕ) (bytes : List ℕ) → SameGroups old new → Grows old new → HasNewest old o c bytes → HasNewest new o c bytes }
+/// A newest page that stays so has its data, and it stays so over changes in turn.
+pub fn what_stays_newest_has_its_data()
+    ensures place { (old new : Flash) (o c : ℕ) (s : Spot) (bytes : List ℕ) → IsNewestWith old o c s bytes → StaysNewest old new o c s → IsNewestWith new o c s bytes }
+    ensures bytes { (old new : Flash) (o c : ℕ) (bytes : List ℕ) (h : HasNewest old o c bytes) → StaysNewest old new o c h.spot → HasNewest new o c bytes }
+    ensures on { (f g h : Flash) (o c : ℕ) (s : Spot) → StaysNewest f g o c s → StaysNewest g h o c s → StaysNewest f h o c s }
 {}
 
-/// An erase, cut or not, keeps the newest pages that lie in other blocks.
+/// Where the same groups count, and no page but erased ones changed, each newest page stays so.
+pub fn the_same_groups_show_the_same()
+    ensures { (old new : Flash) → SameGroups old new → Grows old new → KeepsNewest old new }
+{}
+
+/// Reads of an honest device keep all newest pages.
+pub fn reads_keep_what_is_newest()
+    ensures { (old new : Device) → old.honest ≡ true → OnlyReads old new → KeepsNewest old.flash new.flash }
+{}
+
+/// An erase, done, failed or cut, keeps the newest pages that lie in other blocks.
 pub fn an_erase_keeps_what_lies_elsewhere()
-    ensures { (b : ℕ) (old new : Flash) → Shrinks b old new → (o c : ℕ) (bytes : List ℕ) (h : HasNewest old o c bytes) → h.spot.block ≢ b → HasNewest new o c bytes }
+    ensures { (b : ℕ) (old new : Flash) → Shrinks b old new → KeepsElsewhere b old new }
+{}
+
+/// A mark, done or cut, keeps the newest pages that lie in other blocks.
+pub fn a_mark_keeps_what_lies_elsewhere()
+    ensures { (b : ℕ) (old new : Device) (result : Result (Unit {0}) Gone) → old.honest ≡ true → Marks b old new result → KeepsElsewhere b old.flash new.flash }
 {}
 
 /// After one more group a key that it names once, above all pages that the key had, has the group's page; a key that
@@ -62,11 +82,11 @@ pub fn one_more_group_is_newest()
     ensures named { (g : Group) (tag : ℕ → Tag) (bytes : ℕ → List ℕ) (old new : Flash) → AddsGroup g old new → Grows old new → AllThere g tag bytes new
         → (o c i : ℕ) → i < g.size → (tag i).object ≡ o → (tag i).chunk ≡ c
         → ((k : ℕ) → k < g.size → (tag k).object ≡ o → (tag k).chunk ≡ c → k ≡ i)
-        → ((t : Spot) → Holds old o c t → IsAfter t (record { block = g.block; page = g.start + i; tag = tag i }) → ⊥)
-        → HasNewest new o c (bytes i) }
+        → ((t : Spot) → Holds old o c t → IsAfter t (spot_in g tag i) → ⊥)
+        → IsNewestWith new o c (spot_in g tag i) (bytes i) }
     ensures other { (g : Group) (tag : ℕ → Tag) (bytes : ℕ → List ℕ) (old new : Flash) → AddsGroup g old new → Grows old new → AllThere g tag bytes new
-        → (o c : ℕ) (xs : List ℕ) → ((i : ℕ) → i < g.size → (tag i).object ≡ o → (tag i).chunk ≡ c → ⊥)
-        → HasNewest old o c xs → HasNewest new o c xs }
+        → (o c : ℕ) (s : Spot) → ((i : ℕ) → i < g.size → (tag i).object ≡ o → (tag i).chunk ≡ c → ⊥)
+        → IsNewest old o c s → StaysNewest old new o c s }
 {}
 
 /// A flash that has the newest pages of a tree's footprint shows that tree, whatever else stands on it.

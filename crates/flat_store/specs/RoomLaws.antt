@@ -7,7 +7,7 @@ use Rattle.nand_model.specs.Changes.{OnlyReads}
 use Rattle.nand_model.specs.ChangeLaws.{shrinks-erase}
 use Rattle.nand_model.specs.declared.nand.EraseFault.{EraseFault}
 use Rattle.flash_tree.specs.Newest.{HasNewest}
-use Rattle.flash_tree.specs.NewestLaws.{erase_keeps}
+use Rattle.flash_tree.specs.NewestLaws.{erase_keeps_elsewhere, has_newest_stays}
 use Rattle.flash_tree.specs.PlaceLaws.{same_flash, no_tag}
 use Rattle.flat_store.specs.Changes.{KeepsNewest}
 use Rattle.flat_store.specs.Rooms.{IsErased}
@@ -21,7 +21,7 @@ taken_keeps b old mid new result honest reads erased does o c xs h =
     let apart : now.spot.block ≢ b = λ is.
     let here : mid.flash.page now.spot.block now.spot.page ≡ Erased = ap (λ n. mid.flash.page n now.spot.page) is ∙ ap (λ (f : Flash). f.page b now.spot.page) (sym same) ∙ erased now.spot.page in
     no_tag mid.flash now.spot.block now.spot.page now.spot.tag here now.newest.holds.has in
-    erase_keeps b mid.flash new.flash (shrinks-erase b mid new result (reads.lasts.honest ∙ honest) does) o c xs now apart
+    has_newest_stays mid.flash new.flash o c xs now (erase_keeps_elsewhere b mid.flash new.flash (shrinks-erase b mid new result (reads.lasts.honest ∙ honest) does) o c now.spot now.newest apart)
 
 -- reads keep them
 pub read_keeps : (old new : Device) → old.honest ≡ true → OnlyReads old new → KeepsNewest old.flash new.flash

@@ -35,10 +35,7 @@ fn table_for<N: Nand>(
     if numbers.group >= LIMIT || numbers.seq >= LIMIT {
         return Ok((Blocks::new(alloc, device.geometry())?, false));
     }
-    Ok((
-        table_of(alloc, device, numbers.group + 1, numbers.seq + 1)?,
-        true,
-    ))
+    Ok((table_of(alloc, device, numbers)?, true))
 }
 
 impl<N: Nand> Store<N> {

@@ -1,14 +1,16 @@
 -- What is copied from a flash.
-use Rattle.std.specs.Prelude.{◌≡◌, ◌≢◌, ◌<◌, ◌≤◌, ℕ, ◌^◌, List, [], length, Option, Some, None, slice_get}
+use Rattle.std.specs.Prelude.{◌≡◌, ◌<◌, ◌≤◌, ℕ, ◌^◌, List, [], length, Option, Some, None, slice_get}
 use Rattle.std.specs.Option.{option_map_or}
-use Rattle.std.proofs.Common.{refl, ◌∙◌, sym, ap}
+use Rattle.std.proofs.Common.{refl, ap, sym, ◌∙◌}
 use Rattle.nand_model.specs.Flash.{Flash, Page, Erased, Written}
 use Rattle.nand_model.specs.Calls.{bytes_of}
 use Rattle.nand_model.specs.Changes.{Grows}
 use Rattle.nand_model.specs.declared.geometry.Geometry.{Geometry}
+use Rattle.page_tags.specs.Tags.{IsTag, tag_bytes}
+use Rattle.page_tags.specs.declared.tag.Tag.{Tag}
 use Rattle.transactions.specs.declared.source.PageName.{PageName}
 use Rattle.transactions.specs.declared.copies.CopyOf.{CopyOf}
-use Rattle.transactions.specs.Sources.{IsName}
+use Rattle.transactions.specs.Sources.{IsName, name_of}
 
 -- what lies behind the last copy is called
 abbrev pub no_name : PageName
@@ -26,9 +28,23 @@ page_at places flash i = option_map_or (λ c. flash.page c.block c.page) (slice_
 abbrev pub bytes_at : List CopyOf → Flash → ℕ → List ℕ
 bytes_at places flash i = bytes_of (page_at places flash i) []
 
--- each page that is copied is written
-abbrev pub HasCopies : List CopyOf → Flash → Type 0
-HasCopies places flash = (i : ℕ) → i < length places → (bytes : List ℕ) × (tag : List ℕ) × (page_at places flash i ≡ Written bytes tag)
+-- these bytes are a tag of a page of this name
+pub record IsTagOf (name : PageName) (bytes : List ℕ) : Type 0 where
+  pub tag : Tag
+  pub is : bytes ≡ tag_bytes tag
+  pub valid : IsTag tag
+  pub named : name_of tag ≡ name
+
+-- the page that is copied is written under its name
+pub record HasItsName (flash : Flash) (c : CopyOf) : Type 0 where
+  pub bytes : List ℕ
+  pub tag : List ℕ
+  pub page : flash.page c.block c.page ≡ Written bytes tag
+  pub names : IsTagOf c.name tag
+
+-- copy i is of a page that is written under its name
+abbrev pub HasCopy : List CopyOf → Flash → ℕ → Type 0
+HasCopy places flash i = (c : CopyOf) → slice_get places i ≡ Some c → HasItsName flash c
 
 -- There is at least one, each is on the device, and their names may stand in this group.
 pub record CanCopy (places : List CopyOf) (geometry : Geometry) (number : ℕ) : Type 0 where
@@ -37,22 +53,19 @@ pub record CanCopy (places : List CopyOf) (geometry : Geometry) (number : ℕ) :
   pub within : (i : ℕ) (c : CopyOf) → slice_get places i ≡ Some c → (c.block < geometry.blocks) × (c.page < geometry.pages)
   pub named : (i : ℕ) → i < length places → IsName number (name_at places i)
 
-same_page : (places : List CopyOf) (old new : Flash) (i : ℕ) → page_at places old i ≢ Erased → Grows old new → page_at places new i ≡ page_at places old i
-same_page places old new i = go (slice_get places i) where
-  go : (c : Option CopyOf) → option_map_or (λ c. old.page c.block c.page) c Erased ≢ Erased → Grows old new
-      → option_map_or (λ c. new.page c.block c.page) c Erased ≡ option_map_or (λ c. old.page c.block c.page) c Erased
-  go None not grows = refl
-  go (Some c) not grows = grows c.block c.page not
-
-not_erased : (places : List CopyOf) (flash : Flash) (i : ℕ) → HasCopies places flash → i < length places → page_at places flash i ≢ Erased
-not_erased places flash i has lt is = let w = has i lt in let two : Written w.0 w.1 ≡ Erased = sym w.2 ∙ is in cc
+page_stays : (old new : Flash) (c : CopyOf) → HasItsName old c → Grows old new → new.page c.block c.page ≡ old.page c.block c.page
+page_stays old new c there grows = grows c.block c.page (λ is. let two : Written there.bytes there.tag ≡ Erased = sym there.page ∙ is in cc)
 
 -- what is copied stays while only erased pages are written
-pub copies_stay : (places : List CopyOf) (old new : Flash) → HasCopies places old → Grows old new → HasCopies places new
-copies_stay places old new has grows i lt =
-    let w = has i lt in
-    (w.0, w.1, same_page places old new i (not_erased places old i has lt) grows ∙ w.2)
+pub copy_stays : (places : List CopyOf) (old new : Flash) (i : ℕ) → HasCopy places old i → Grows old new → HasCopy places new i
+copy_stays places old new i has grows c is =
+    let there = has c is in
+    record { bytes = there.bytes; tag = there.tag; page = page_stays old new c there grows ∙ there.page; names = there.names }
 
 -- and so does its data
-pub copies_same : (places : List CopyOf) (old new : Flash) (i : ℕ) → HasCopies places old → Grows old new → i < length places → bytes_at places new i ≡ bytes_at places old i
-copies_same places old new i has grows lt = ap (λ p. bytes_of p []) (same_page places old new i (not_erased places old i has lt) grows)
+pub copy_same : (places : List CopyOf) (old new : Flash) (i : ℕ) → HasCopy places old i → Grows old new → bytes_at places new i ≡ bytes_at places old i
+copy_same places old new i has grows = go (slice_get places i) has where
+  go : (x : Option CopyOf) → ((c : CopyOf) → x ≡ Some c → HasItsName old c)
+      → bytes_of (option_map_or (λ c. new.page c.block c.page) x Erased) [] ≡ bytes_of (option_map_or (λ c. old.page c.block c.page) x Erased) []
+  go None there = refl
+  go (Some c) there = ap (λ p. bytes_of p []) (page_stays old new c (there c refl) grows)

@@ -1,19 +1,41 @@
 -- What keeps a device and its table ready.
-use Rattle.std.specs.Prelude.{◌≡◌, ◌≢◌, ◌<◌, ◌≤◌, ℕ, max, true, false, None, Some, Result}
+use Rattle.std.specs.Prelude.{◌≡◌, ◌≢◌, ◌<◌, ◌≤◌, ℕ, ◌+◌, max, true, false, None, Some, Result}
 use Rattle.std.proofs.Common.{sym, ◌∙◌, ap, subst, inl, inr, arith}
 use Rattle.std.proofs.lemmas.Bool.{cases_eq, cases_lt}
 use Rattle.nand_model.specs.Flash.{Flash, IsWithin}
-use Rattle.nand_model.specs.Calls.{Device, Erases}
-use Rattle.nand_model.specs.Changes.{OnlyReads, PowersUp}
+use Rattle.nand_model.specs.Calls.{Device, Erases, Marks}
+use Rattle.nand_model.specs.Changes.{Shrinks, OnlyReads, PowersUp}
 use Rattle.nand_model.specs.ChangeLaws.{shrinks-erase}
 use Rattle.nand_model.specs.declared.geometry.Geometry.{Geometry}
 use Rattle.nand_model.specs.declared.nand.EraseFault.{EraseFault}
-use Rattle.flash_tree.specs.NewestLaws.{tag_was}
+use Rattle.nand_model.specs.declared.nand.Gone.{Gone}
+use Rattle.flash_tree.specs.Groups.{HasTag}
+use Rattle.flash_tree.specs.Keeping.{Loses}
+use Rattle.flash_tree.specs.Newest.{Numbers, AreAbove}
+use Rattle.flash_tree.specs.NewestLaws.{tag_stays, loses_erase, loses_mark}
 use Rattle.block_state.specs.declared.blocks.BlockEntry.{BlockEntry}
 use Rattle.block_state.specs.Table.{Table, blank}
 use Rattle.transactions.specs.Ready.{AreBelow, IsOpen, IsReady}
 use Rattle.transactions.specs.Opening.{Opens}
-use Rattle.transactions.specs.Marking.{MarksNoted}
+use Rattle.transactions.specs.Marking.{MarksNoted, NotesMark}
+
+-- what a block loses brings no number
+below_lost : (b : ℕ) (old new : Flash) (group seq : ℕ) → Loses b old new → AreBelow old group seq → AreBelow new group seq
+below_lost b old new group seq loses below k l t good has = elim (cases_eq k b) [
+  | inr ne ↦ below k l t (sym (loses.other_marks k ne) ∙ good) (tag_stays new old k l t (sym (loses.other_pages k l ne)) has)
+  | inl e ↦
+      subst (λ n. old.bad n ≡ false → HasTag old n l t → (t.version < group) × (t.group < group) × (t.seq < seq)) (sym e) (below b l t)
+      (ap old.bad e ∙ loses.good (ap new.bad (sym e) ∙ good)) (subst (λ n. HasTag old n l t) (sym e) (loses.tags l t (subst (λ n. HasTag new n l t) e has)))
+]
+
+-- over an erase
+pub below_erased : (b : ℕ) (old new : Flash) (group seq : ℕ) → Shrinks b old new → AreBelow old group seq → AreBelow new group seq
+below_erased b old new group seq shrinks = below_lost b old new group seq (loses_erase b old new shrinks)
+
+-- over a mark, done or cut
+pub below_marked : (b : ℕ) (old new : Device) (group seq : ℕ) (result : Result (Unit {0}) Gone) → old.honest ≡ true → Marks b old new result
+    → AreBelow old.flash group seq → AreBelow new.flash group seq
+below_marked b old new group seq result honest does = below_lost b old.flash new.flash group seq (loses_mark b old new result honest does)
 
 -- an erase of a block that is not open, however it ends
 pub ready_erased : (b : ℕ) (old new : Device) (t : Table) (result : Result (Unit {0}) EraseFault) → IsReady old t → t.open_block ≢ Some b → Erases b old new result → IsReady new t
@@ -30,9 +52,9 @@ ready_erased b old new t result ready closed does = record {
         seq = was.seq;
       };
   numbers = ready.numbers;
-  below = λ honest k l u good has.
+  below = λ honest.
       let h : old.honest ≡ true = sym does.lasts.honest ∙ honest in
-      ready.below h k l u (ap (λ f. f k) (sym does.bad) ∙ good) (tag_was b old.flash new.flash (shrinks-erase b old new result h does) k l u has);
+      below_erased b old.flash new.flash t.next_group t.next_seq (shrinks-erase b old new result h does) (ready.below h);
 }
 
 -- the block that was erased is opened
@@ -79,6 +101,41 @@ ready_read old new t ready reads = record {
       let page = reads.page h in
       let same : new.flash ≡ old.flash = λ i. record { bad = reads.bad i; next = reads.next i; page = page i } in
       subst (λ (f : Flash). AreBelow f t.next_group t.next_seq) (sym same) (ready.below h);
+}
+
+-- all tags are below the numbers after the greatest
+pub above_below : (f : Flash) (n : Numbers) → AreAbove f n → AreBelow f (n.group + 1) (n.seq + 1)
+above_below f n above b p t good has =
+    let most = above b p t good has in
+    let version : t.version ≤ t.group = has.valid.version.1 in
+    (omega (arith, most, version), omega (arith, most), omega (arith, most))
+
+-- a mark of a block that is not open, done or cut
+pub ready_marked : (b : ℕ) (old new : Device) (t t' : Table) (result : Result (Unit {0}) Gone) → IsReady old t → t.open_block ≢ Some b → Marks b old new result
+    → NotesMark b new.flash t t' → IsReady new t'
+ready_marked b old new t t' result ready closed does notes = record {
+  geometry = notes.sets.geometry ∙ ready.geometry ∙ sym does.lasts.geometry;
+  marks = λ k. elim (cases_eq k b) [
+    | inl e ↦ ap (λ n. (t'.entry n).bad) e ∙ ap (λ (x : BlockEntry). x.bad) notes.sets.here ∙ ap new.flash.bad (sym e)
+    | inr ne ↦ ap (λ (x : BlockEntry). x.bad) (notes.sets.others k ne) ∙ ready.marks k ∙ sym (does.other_bads k ne)
+  ];
+  open_block = λ o is.
+      let then : t.open_block ≡ Some o = sym notes.open_block ∙ is in
+      let ne : o ≢ b = λ e. closed (then ∙ ap Some e) in
+      let was : IsOpen old t o = ready.open_block o then in
+      let same : t'.entry o ≡ t.entry o = notes.sets.others o ne in
+      record {
+        within = subst (λ (g : Geometry). o < g.blocks) (sym does.lasts.geometry) was.within;
+        good = does.other_bads o ne ∙ was.good;
+        next = ap (λ f. f o) does.next ∙ was.next ∙ ap (λ (x : BlockEntry). Some x.next) (sym same);
+        pages = subst (λ (x : BlockEntry). x.next ≤ new.geometry.pages) (sym same) (subst (λ (g : Geometry). (t.entry o).next ≤ g.pages) (sym does.lasts.geometry) was.pages);
+        seq = subst (λ n. (1 ≤ (t'.entry o).seq) × ((t'.entry o).seq < n)) (sym notes.next_seq) (subst (λ (x : BlockEntry). (1 ≤ x.seq) × (x.seq < t.next_seq)) (sym same) was.seq);
+      };
+  numbers = (subst (λ n. 1 ≤ n) (sym notes.sets.next_group) ready.numbers.0, subst (λ n. 1 ≤ n) (sym notes.next_seq) ready.numbers.1);
+  below = λ honest.
+      let h : old.honest ≡ true = sym does.lasts.honest ∙ honest in
+      subst (λ n. AreBelow new.flash n t'.next_seq) (sym notes.sets.next_group) (subst (λ n. AreBelow new.flash t.next_group n) (sym notes.next_seq)
+      (below_marked b old new t.next_group t.next_seq result h does (ready.below h)));
 }
 
 -- A table that was made anew, with a device's marks and numbers above its tags.

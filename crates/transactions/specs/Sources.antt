@@ -1,6 +1,11 @@
 -- What pages may be called.
 use Rattle.std.specs.Prelude.{◌<◌, ◌≤◌, ℕ, ◌^◌}
+use Rattle.page_tags.specs.declared.tag.Tag.{Tag}
 use Rattle.transactions.specs.declared.source.PageName.{PageName}
+
+-- what a page with this tag is called
+abbrev pub name_of : Tag → PageName
+name_of t = record { key = record { object = t.object; chunk = t.chunk }; version = t.version }
 
 -- the name may stand in a tag of the group of this number
 pub record IsName (number : ℕ) (name : PageName) : Type 0 where

@@ -1,9 +1,12 @@
 // Pages that stand on the device, to be written again.
-ghost use Rattle.std.specs.Prelude.{◌≡◌, ◌<◌, ◌≤◌, ℕ, List, length, true, IfOk};
+ghost use Rattle.std.specs.Prelude.{◌≡◌, ◌↔◌, ◌<◌, ◌≤◌, ℕ, List, [], length, true, IfOk, OnErr, IsTrue};
+ghost use Rattle.nand_model.specs.Calls.{bytes_of};
 ghost use Rattle.nand_model.specs.Changes.{OnlyReads};
+ghost use Rattle.transactions.specs.Copying.{IsTagOf, HasItsName};
 
 use crate::source::{PageName, PageSource, SourceFault};
-use nand_model::{Nand, PageKind};
+use nand_model::{Gone, Nand, PageKind};
+use page_tags::Tag;
 
 /// A page that is copied, with its name.
 #[derive(Clone, Copy, Debug, PartialEq, Eq)]
@@ -13,15 +16,45 @@ pub struct CopyOf {
     pub name: PageName,
 }
 
-/// Pages that stand on the device, to be written again in their versions.
+/// Pages that stand on the device, to be written again in their versions. A page that does not have its name on the
+/// device is Lost.
 #[derive(Clone, Copy)]
 pub struct Copies<'a> {
     pub places: &'a [CopyOf],
 }
 
+/// Whether these bytes are a tag of a page of this name.
+fn is_tag_of(tag: &[u8; 48], name: PageName) -> bool
+    ensures { IsTrue result ↔ IsTagOf name tag.now }
+{
+    match Tag::decode(tag) {
+        None => false,
+        Some(tag) => name.is_of(&tag),
+    }
+}
+
+/// Reads a page that is to be copied. The answer is whether it is written under its name.
+fn reads_back<N: Nand>(device: &mut N, of: CopyOf, page: &mut [u8]) -> Result<bool, Gone>
+    requires block { of.block < (N.state device.old).geometry.blocks }
+    requires page { of.page < (N.state device.old).geometry.pages }
+    requires size { length page.old ≡ (N.state device.old).geometry.bytes }
+    ensures reads { OnlyReads (N.state device.old) (N.state device.new) }
+    ensures gone { OnErr result ((N.state device.new).gone ≡ true) }
+    ensures there { (N.state device.old).honest ≡ true → IfOk result (λ there. IsTrue there ↔ HasItsName (N.state device.old).flash of) }
+    ensures bytes { (N.state device.old).honest ≡ true
+        → IfOk result (λ there. IsTrue there → page.new ≡ bytes_of ((N.state device.old).flash.page of.block of.page) []) }
+{
+    let mut tag = [0; 48];
+    match device.read_page(of.block, of.page, page, &mut tag)? {
+        PageKind::Written => Ok(is_tag_of(&tag, of.name)),
+        PageKind::Erased => Ok(false),
+        PageKind::Uncorrectable => Ok(false),
+    }
+}
+
 impl PageSource for Copies<'_> {
     ghost use Rattle.std.specs.Prelude.{length};
-    ghost use Rattle.transactions.specs.Copying.{name_at, bytes_at, HasCopies, CanCopy, copies_stay, copies_same};
+    ghost use Rattle.transactions.specs.Copying.{name_at, bytes_at, HasCopy, CanCopy, copy_stays, copy_same};
 
     ghost count = { λ s. length s.places.now };
 
@@ -31,11 +64,11 @@ impl PageSource for Copies<'_> {
 
     ghost ready = { λ s geometry number. CanCopy s.places.now geometry number };
 
-    ghost fits = { λ s flash. HasCopies s.places.now flash };
+    ghost has = { λ s flash i. HasCopy s.places.now flash i };
 
-    ghost stays = { λ s old new has grows. copies_stay s.places.now old new has grows };
+    ghost stays = { λ s old new i has grows. copy_stays s.places.now old new i has grows };
 
-    ghost same = { λ s old new i has grows lt. copies_same s.places.now old new i has grows lt };
+    ghost same = { λ s old new i has grows. copy_same s.places.now old new i has grows };
 
     fn count(&self) -> u32 {
         self.places.len() as u32
@@ -50,11 +83,9 @@ impl PageSource for Copies<'_> {
     ) -> Result<PageName, SourceFault> {
         let _ = group;
         let of = self.places[i as usize];
-        let mut tag = [0; 48];
-        match device.read_page(of.block, of.page, page, &mut tag) {
-            Ok(PageKind::Written) => Ok(of.name),
-            Ok(PageKind::Erased) => Err(SourceFault::Lost),
-            Ok(PageKind::Uncorrectable) => Err(SourceFault::Lost),
+        match reads_back(device, of, page) {
+            Ok(true) => Ok(of.name),
+            Ok(false) => Err(SourceFault::Lost),
             Err(_) => Err(SourceFault::Gone),
         }
     }

@@ -45,11 +45,11 @@ impl PageSource for Fresh<'_> {
 
     ghost ready = { λ s geometry number. CanCommit s.pages.now geometry number };
 
-    ghost fits = { λ s flash. Unit {0} };
+    ghost has = { λ s flash i. Unit {0} };
 
-    ghost stays = { λ s old new has grows. tt };
+    ghost stays = { λ s old new i has grows. tt };
 
-    ghost same = { λ s old new i has grows lt. refl };
+    ghost same = { λ s old new i has grows. refl };
 
     fn count(&self) -> u32 {
         self.pages.len() as u32

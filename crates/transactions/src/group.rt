@@ -5,6 +5,7 @@ ghost use Rattle.nand_model.specs.Changes.{Grows};
 ghost use Rattle.block_state.specs.Table.{room};
 ghost use Rattle.block_state.specs.TableOf.{table};
 ghost use Rattle.transactions.specs.Ready.{IsReady};
+ghost use Rattle.transactions.specs.Handing.{HandsOut};
 ghost use Rattle.transactions.specs.Groups.{next_group, IsPlaced, GroupsAfter, GroupEnds, TableEnds, Stays};
 
 use crate::page::write_pages;
@@ -20,7 +21,7 @@ pub enum GroupFault {
     NoRoom,
     /// The device reported a failure.
     Failed,
-    /// A page that was to be copied did not read back.
+    /// A page that was to be copied did not read back under its name.
     Lost,
     Gone,
 }
@@ -49,7 +50,7 @@ pub fn write_group<N: Nand, S: PageSource>(
     requires number { (table blocks.old).next_group < 2 ^ 62 }
     requires size { length scratch.old ≡ (N.state device.old).geometry.bytes }
     requires source { S.ready source.now (N.state device.old).geometry (table blocks.old).next_group }
-    requires fits { (N.state device.old).honest ≡ true → S.fits source.now (N.state device.old).flash }
+    requires has { (N.state device.old).honest ≡ true → (i : ℕ) → i < S.count source.now → S.has source.now (N.state device.old).flash i }
     ensures lasts { Lasts (N.state device.old) (N.state device.new) }
     ensures ready { IsReady (N.state device.new) (table blocks.new) }
     ensures no_room { IsErrOf result GroupFault.NoRoom ↔ (room (table blocks.old) < S.count source.now) }
@@ -63,6 +64,7 @@ pub fn write_group<N: Nand, S: PageSource>(
         (S.bytes source.now (N.state device.old).flash) (N.state device.old).flash (N.state device.new).flash result }
     ensures grows { (N.state device.old).honest ≡ true → Grows (N.state device.old).flash (N.state device.new).flash }
     ensures stays { Stays (table blocks.old) (N.state device.old) (N.state device.new) }
+    ensures numbers { HandsOut (N.state device.old) (N.state device.new) (table blocks.old) (table blocks.new) }
 {
     let count = source.count();
     let Some(place) = take_place(blocks, count) else {

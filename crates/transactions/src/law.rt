@@ -1,25 +1,42 @@
-// What follows from what a group does. A function here does nothing: its clause is the law.
-ghost use Rattle.std.specs.Prelude.{◌≡◌, ◌<◌, ℕ, List};
+// What follows from what the calls do. A function here does nothing: its clause is the law.
+ghost use Rattle.std.specs.Prelude.{◌≡◌, ℕ, List, true, Result};
 ghost use Rattle.nand_model.specs.Flash.{Flash};
-ghost use Rattle.nand_model.specs.Changes.{Grows};
+ghost use Rattle.nand_model.specs.Calls.{Device, Lasts, Marks};
+ghost use Rattle.nand_model.specs.Changes.{Grows, Shrinks};
+ghost use Rattle.nand_model.specs.declared.nand.Gone.{Gone};
 ghost use Rattle.flash_tree.specs.Groups.{Group};
-ghost use Rattle.flash_tree.specs.Newest.{HasNewest};
+ghost use Rattle.block_state.specs.Table.{Table};
+ghost use Rattle.transactions.specs.Groups.{GroupsAfter};
+ghost use Rattle.transactions.specs.Handing.{HandsOut};
+ghost use Rattle.transactions.specs.Newest.{ComesLast, IsCommit, IsOfCopies, NewestAfter};
 ghost use Rattle.transactions.specs.Ready.{AreBelow};
-ghost use Rattle.transactions.specs.Groups.{AddsPages};
-ghost use Rattle.transactions.specs.Naming.{IsNamed, NamesOnce};
+ghost use Rattle.transactions.specs.declared.group.Placed.{Placed};
+ghost use Rattle.transactions.specs.declared.group.GroupFault.{GroupFault};
 ghost use Rattle.transactions.specs.declared.source.PageName.{PageName};
 
-/// After one more group a key that it names has the group's page as its newest: where the page is committed, in the
-/// group's own number, above all numbers before; and where it is a copy of the newest page, into a block of a number
-/// above all before. Every other key keeps its newest page.
+/// The pages of a group come after all that count: new pages in the group's own number, above all numbers before; and
+/// copies of newest pages in their versions, in a block of a number above all before.
+pub fn a_group_comes_last()
+    ensures committed { (g : Group) (name : ℕ → PageName) (flash : Flash) → IsCommit g name flash → ComesLast g name flash }
+    ensures copied { (g : Group) (name : ℕ → PageName) (flash : Flash) → IsOfCopies g name flash → ComesLast g name flash }
+{}
+
+/// However the writing of a group that comes last ends, the group's pages are the newest of the keys that it names, all
+/// of them or none, and every other key keeps its newest page.
 pub fn a_group_is_newest_of_its_keys()
-    ensures committed { (g : Group) (name : ℕ → PageName) (bytes : ℕ → List ℕ) (old new : Flash) (seq : ℕ)
-        → AddsPages g name bytes old new → Grows old new → AreBelow old g.number seq
-        → (o c i : ℕ) → NamesOnce g name o c i → (name i).version ≡ g.number → HasNewest new o c (bytes i) }
-    ensures copied { (g : Group) (name : ℕ → PageName) (bytes : ℕ → List ℕ) (old new : Flash) (number : ℕ)
-        → AddsPages g name bytes old new → Grows old new → AreBelow old number g.seq
-        → (o c i : ℕ) → NamesOnce g name o c i → (h : HasNewest old o c (bytes i)) → (name i).version ≡ h.spot.tag.version → HasNewest new o c (bytes i) }
-    ensures other { (g : Group) (name : ℕ → PageName) (bytes : ℕ → List ℕ) (old new : Flash)
-        → AddsPages g name bytes old new → Grows old new
-        → (o c : ℕ) (xs : List ℕ) → ((i : ℕ) → i < g.size → IsNamed name o c i → ⊥) → HasNewest old o c xs → HasNewest new o c xs }
+    ensures { (g : Group) (name : ℕ → PageName) (bytes : ℕ → List ℕ) (old new : Flash) → Grows old new → ComesLast g name old
+        → (result : Result Placed GroupFault) → GroupsAfter g name bytes old new result → NewestAfter g name bytes old new result }
+{}
+
+/// Numbers that are above those of all tags stay so over an erase and a mark, however these end.
+pub fn erases_and_marks_bring_no_number()
+    ensures erased { (b : ℕ) (old new : Flash) (group seq : ℕ) → Shrinks b old new → AreBelow old group seq → AreBelow new group seq }
+    ensures marked { (b : ℕ) (old new : Device) (group seq : ℕ) (result : Result (Unit {0}) Gone) → old.honest ≡ true → Marks b old new result
+        → AreBelow old.flash group seq → AreBelow new.flash group seq }
+{}
+
+/// The numbers that two calls hand out in turn are no more than the changes that the device counted in both.
+pub fn numbers_of_calls_in_turn_add_up()
+    ensures on { (a b c : Device) (t u v : Table) → Lasts a b → Lasts b c → HandsOut a b t u → HandsOut b c u v → HandsOut a c t v }
+    ensures none { (a : Device) (t : Table) → HandsOut a a t t }
 {}

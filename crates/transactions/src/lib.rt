@@ -5,6 +5,7 @@ mod copies;
 mod fresh;
 mod group;
 mod law;
+mod mark;
 mod open;
 mod page;
 mod place;
@@ -14,7 +15,11 @@ mod table;
 pub use copies::{Copies, CopyOf};
 pub use fresh::{Fresh, FreshPage};
 pub use group::{GroupFault, Placed, write_group};
-pub use law::a_group_is_newest_of_its_keys;
+pub use law::{
+    a_group_comes_last, a_group_is_newest_of_its_keys, erases_and_marks_bring_no_number,
+    numbers_of_calls_in_turn_add_up,
+};
+pub use mark::mark_block;
 pub use open::erase_and_open;
 pub use source::{PageName, PageSource, SourceFault};
 pub use table::table_of;

@@ -1,10 +1,11 @@
 // The taking of a block.
-ghost use Rattle.std.specs.Prelude.{◌≡◌, ◌≢◌, ◌<◌, ◌≤◌, ◌+◌, ◌^◌, ℕ, true, false, None, Some, IfOk, IfErr, OnOk, OnErr};
-ghost use Rattle.nand_model.specs.Calls.{Lasts, Erases};
-ghost use Rattle.block_state.specs.Table.{Sets};
+ghost use Rattle.std.specs.Prelude.{◌≡◌, ◌≢◌, ◌<◌, ◌^◌, true, false, Some, OnOk, OnErr};
+ghost use Rattle.nand_model.specs.Calls.{Erases};
+ghost use Rattle.flash_tree.specs.Keeping.{KeepsElsewhere};
 ghost use Rattle.block_state.specs.TableOf.{table};
-ghost use Rattle.transactions.specs.Ready.{IsReady};
+ghost use Rattle.transactions.specs.Handing.{HandsOut};
 ghost use Rattle.transactions.specs.Opening.{Opens};
+ghost use Rattle.transactions.specs.Ready.{AreBelow, IsReady};
 
 use block_state::Blocks;
 use nand_model::{EraseFault, Nand};
@@ -23,7 +24,11 @@ pub fn erase_and_open<N: Nand>(
     ensures erases { Erases block (N.state device.old) (N.state device.new) result }
     ensures ready { IsReady (N.state device.new) (table blocks.new) }
     ensures opens { OnOk result (Opens block (table blocks.old) (table blocks.new)) }
+    // The tags of all pages are below the number that the block got.
+    ensures below { (N.state device.old).honest ≡ true → OnOk result (AreBelow (N.state device.new).flash (table blocks.old).next_group (table blocks.old).next_seq) }
     ensures unchanged { OnErr result (table blocks.new ≡ table blocks.old) }
+    ensures newest { (N.state device.old).honest ≡ true → KeepsElsewhere block (N.state device.old).flash (N.state device.new).flash }
+    ensures numbers { HandsOut (N.state device.old) (N.state device.new) (table blocks.old) (table blocks.new) }
 {
     device.erase(block)?;
     blocks.open(block);

@@ -40,7 +40,7 @@ fn write_page<N: Nand, S: PageSource>(
     requires may { MayWrite (N.state device.old) place.now i }
     requires count { place.now.count ≡ S.count source.now }
     requires source { S.ready source.now (N.state device.old).geometry place.now.group }
-    requires fits { (N.state device.old).honest ≡ true → S.fits source.now (N.state device.old).flash }
+    requires has { (N.state device.old).honest ≡ true → S.has source.now (N.state device.old).flash i }
     requires size { length scratch.old ≡ (N.state device.old).geometry.bytes }
     ensures size { length scratch.new ≡ length scratch.old }
     ensures writes { WritesOne (N.state device.old) (N.state device.new) (group_of place.now)
@@ -70,7 +70,7 @@ fn write_first<N: Nand, S: PageSource>(
     requires may { MayWrite (N.state device.old) place.now 0 }
     requires count { place.now.count ≡ S.count source.now }
     requires source { S.ready source.now (N.state device.old).geometry place.now.group }
-    requires fits { (N.state device.old).honest ≡ true → S.fits source.now (N.state device.old).flash }
+    requires has { (N.state device.old).honest ≡ true → (i : ℕ) → i < S.count source.now → S.has source.now (N.state device.old).flash i }
     requires size { length scratch.old ≡ (N.state device.old).geometry.bytes }
     ensures size { length scratch.new ≡ length scratch.old }
     ensures writes { FirstEnds (N.state device.old) (N.state device.new) (group_of place.now)
@@ -114,7 +114,7 @@ fn write_last<N: Nand, S: PageSource>(
     requires may { MayWrite (N.state device.old) place.now (place.now.count - 1) }
     requires count { place.now.count ≡ S.count source.now }
     requires source { S.ready source.now (N.state device.old).geometry place.now.group }
-    requires fits { (N.state device.old).honest ≡ true → S.fits source.now (N.state device.old).flash }
+    requires has { (N.state device.old).honest ≡ true → S.has source.now (N.state device.old).flash (place.now.count - 1) }
     requires size { length scratch.old ≡ (N.state device.old).geometry.bytes }
     ensures writes { WritesLast (N.state device.old) (N.state device.new) (group_of place.now)
         (S.name source.now place.now.group) (S.bytes source.now (N.state device.old).flash) (place.now.count - 1) result }
@@ -147,7 +147,7 @@ pub(crate) fn write_pages<N: Nand, S: PageSource>(
     requires may { MayWrite (N.state device.old) place.now 0 }
     requires count { place.now.count ≡ S.count source.now }
     requires source { S.ready source.now (N.state device.old).geometry place.now.group }
-    requires fits { (N.state device.old).honest ≡ true → S.fits source.now (N.state device.old).flash }
+    requires has { (N.state device.old).honest ≡ true → (i : ℕ) → i < S.count source.now → S.has source.now (N.state device.old).flash i }
     requires size { length scratch.old ≡ (N.state device.old).geometry.bytes }
     ensures writes { WritesAll (N.state device.old) (N.state device.new) (group_of place.now)
         (S.name source.now place.now.group) (S.bytes source.now (N.state device.old).flash) result }

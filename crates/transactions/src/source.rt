@@ -1,11 +1,12 @@
 // What is written in a group.
-ghost use Rattle.std.specs.Prelude.{◌≡◌, ◌<◌, ◌≤◌, ℕ, List, length, true, IfOk};
+ghost use Rattle.std.specs.Prelude.{◌≡◌, ◌↔◌, ◌<◌, ◌≤◌, ℕ, List, length, true, IfOk, IsTrue};
 ghost use Rattle.nand_model.specs.Flash.{Flash};
 ghost use Rattle.nand_model.specs.Changes.{Grows, OnlyReads};
 ghost use Rattle.nand_model.specs.declared.geometry.Geometry.{Geometry};
 
 use flash_tree::Key;
 use nand_model::Nand;
+use page_tags::Tag;
 
 /// Which page of the store it is, and in which version.
 #[derive(Clone, Copy, Debug, PartialEq, Eq)]
@@ -14,9 +15,24 @@ pub struct PageName {
     pub version: u64,
 }
 
+impl PageName {
+    ghost use Rattle.transactions.specs.Sources.{name_of};
+
+    /// Whether a page with this tag is called so.
+    pub fn is_of(self, tag: &Tag) -> bool
+        ensures { IsTrue result ↔ (name_of tag.now ≡ self) }
+    {
+        let key = Key {
+            object: tag.object,
+            chunk: tag.chunk,
+        };
+        self.key == key && self.version == tag.version
+    }
+}
+
 #[derive(Clone, Copy, Debug, PartialEq, Eq)]
 pub enum SourceFault {
-    /// A page that is to be copied did not read back.
+    /// A page that is to be copied did not read back under its name.
     Lost,
     Gone,
 }
@@ -33,14 +49,14 @@ pub trait PageSource {
     /// What each page is called in the group of this number.
     ghost name: { Self → ℕ → ℕ → PageName };
 
-    /// The data of each page, over a flash that has what is copied.
+    /// The data of each page, over a flash that has what it is copied from.
     ghost bytes: { Self → Flash → ℕ → List ℕ };
 
     /// Whether it can be written in a group of this number, on a device of these sizes.
     ghost ready: { Self → Geometry → ℕ → Type 0 };
 
-    /// Whether the flash has what is copied.
-    ghost fits: { Self → Flash → Type 0 };
+    /// Whether the flash has what page `i` is copied from.
+    ghost has: { Self → Flash → ℕ → Type 0 };
 
     /// How many pages there are, at least one.
     fn count(&self) -> u32
@@ -48,7 +64,7 @@ pub trait PageSource {
         ensures value { result ≡ count self.now }
         ensures some { 1 ≤ result };
 
-    /// Fills a buffer with page `i`, and names it. Only what stands on the device is read from it.
+    /// Fills a buffer with page `i`, and names it. Of the device it is read at most.
     fn page<N: Nand>(
         &self,
         device: &mut N,
@@ -59,16 +75,16 @@ pub trait PageSource {
         requires place { i < count self.now }
         requires ready { ready self.now (N.state device.old).geometry group }
         requires size { length page.old ≡ (N.state device.old).geometry.bytes }
-        requires fits { (N.state device.old).honest ≡ true → fits self.now (N.state device.old).flash }
         ensures reads { OnlyReads (N.state device.old) (N.state device.new) }
-        ensures ends { SourceEnds (N.state device.old) (N.state device.new) result }
+        ensures ends { SourceEnds (N.state device.old) (N.state device.new) (has self.now (N.state device.old).flash i) result }
         ensures name { IfOk result (λ n. (n ≡ name self.now group i) × IsName group n) }
         ensures size { length page.new ≡ length page.old }
+        ensures has { (N.state device.old).honest ≡ true → IfOk result (λ _. has self.now (N.state device.old).flash i) }
         ensures bytes { (N.state device.old).honest ≡ true → IfOk result (λ _. page.new ≡ bytes self.now (N.state device.old).flash i) };
 
     /// What is copied stays while only erased pages are written.
-    ghost stays: { (source : Self) (old new : Flash) → fits source old → Grows old new → fits source new };
+    ghost stays: { (source : Self) (old new : Flash) (i : ℕ) → has source old i → Grows old new → has source new i };
 
-    /// And so does the data of each page.
-    ghost same: { (source : Self) (old new : Flash) (i : ℕ) → fits source old → Grows old new → i < count source → bytes source new i ≡ bytes source old i };
+    /// And so does its data.
+    ghost same: { (source : Self) (old new : Flash) (i : ℕ) → has source old i → Grows old new → bytes source new i ≡ bytes source old i };
 }

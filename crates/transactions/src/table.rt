@@ -1,10 +1,13 @@
 // The table of a device.
-ghost use Rattle.std.specs.Prelude.{◌≡◌, ◌≢◌, ◌<◌, ◌≤◌, ℕ, true, false, None, Some, IfOk};
+ghost use Rattle.std.specs.Prelude.{◌≡◌, ◌<◌, ◌+◌, ◌-◌, ◌^◌, ℕ, true, false, None, IfOk};
+ghost use Rattle.flash_tree.specs.Newest.{AreAbove};
+ghost use Rattle.flash_tree.specs.Places.{numbers_of};
 ghost use Rattle.block_state.specs.TableOf.{table};
 ghost use Rattle.transactions.specs.Marking.{MarksNoted};
-ghost use Rattle.transactions.specs.Ready.{AreBelow, IsReady};
+ghost use Rattle.transactions.specs.Ready.{IsReady};
 
 use block_state::Blocks;
+use flash_tree::TagNumbers;
 use nand_model::Nand;
 use std::alloc::{AllocError, Global};
 
@@ -22,25 +25,24 @@ fn note_marks<N: Nand>(device: &N, blocks: &mut Blocks)
     }
 }
 
-/// The table of a device whose valid tags in good blocks all have numbers below these: no block is open, and none has a
-/// kept page.
+/// The table of a device whose valid tags in good blocks have no numbers above these: the next ones are one above them.
+/// No block is open, and none has a kept page.
 pub fn table_of<N: Nand>(
     alloc: Global,
     device: &N,
-    next_group: u64,
-    next_seq: u64,
+    greatest: TagNumbers,
 ) -> Result<Blocks, AllocError>
-    requires group { 1 ≤ next_group }
-    requires seq { 1 ≤ next_seq }
-    requires below { (N.state device.now).honest ≡ true → AreBelow (N.state device.now).flash next_group next_seq }
+    requires group { greatest.group < 2 ^ 64 - 1 }
+    requires seq { greatest.seq < 2 ^ 64 - 1 }
+    requires above { (N.state device.now).honest ≡ true → AreAbove (N.state device.now).flash (numbers_of greatest) }
     ensures ready { IfOk result (λ blocks. IsReady (N.state device.now) (table blocks)) }
     ensures open { IfOk result (λ blocks. (table blocks).open_block ≡ None) }
     ensures kept { IfOk result (λ blocks. (b : ℕ) → ((table blocks).entry b).kept ≡ 0) }
-    ensures group { IfOk result (λ blocks. (table blocks).next_group ≡ next_group) }
-    ensures seq { IfOk result (λ blocks. (table blocks).next_seq ≡ next_seq) }
+    ensures group { IfOk result (λ blocks. (table blocks).next_group ≡ greatest.group + 1) }
+    ensures seq { IfOk result (λ blocks. (table blocks).next_seq ≡ greatest.seq + 1) }
 {
     let mut blocks = Blocks::new(alloc, device.geometry())?;
     note_marks(device, &mut blocks);
-    blocks.raise(next_seq, next_group);
+    blocks.raise(greatest.seq + 1, greatest.group + 1);
     Ok(blocks)
 }

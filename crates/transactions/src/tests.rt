@@ -1,6 +1,6 @@
-// Groups on a device in memory, cut and failed at each page.
+// Groups, copies and marks on a device in memory.
 
-ghost use Rattle.std.specs.Prelude.{◌≡◌, ◌<◌, ◌≤◌, ◌^◌, ℕ, IsTrue, IfOk, IfSome};
+ghost use Rattle.std.specs.Prelude.{◌≡◌, ◌<◌, ◌≤◌, ◌^◌, ℕ, IsTrue, IfOk, IfSome, false};
 ghost use Rattle.nand_model.specs.MemoryState.{device};
 ghost use Rattle.nand_model.specs.declared.geometry.Geometry.{Geometry};
 ghost use Rattle.block_state.specs.TableOf.{table};
@@ -10,10 +10,9 @@ ghost use Rattle.transactions.specs.CopyingOne.{MayCopy};
 
 use super::*;
 use block_state::Blocks;
-use flash_tree::{Found, Key};
-use nand_model::{EraseFault, Fate, Geometry, MemNand, Nand};
+use flash_tree::{Key, TagNumbers, tag_at};
+use nand_model::{EraseFault, Fate, Geometry, Gone, MemNand, Nand};
 use page_tags::Tag;
-use plain_search::newest;
 use std::alloc::Global;
 use std::process::Abort;
 use std::test::Fail;
@@ -30,7 +29,12 @@ impl Volume {
     /// Eight blocks of 32 pages of 512 bytes, all erased.
     fn new(alloc: Global) -> Result<Volume, Fail> {
         let nand = MemNand::new(alloc, Geometry::new(512, 32, 8)?)?;
-        let blocks = table_of(alloc, &nand, 1, 1)?;
+        let none = TagNumbers {
+            version: 0,
+            group: 0,
+            seq: 0,
+        };
+        let blocks = table_of(alloc, &nand, none)?;
         Ok(Volume { nand, blocks })
     }
 
@@ -56,12 +60,6 @@ impl Volume {
         self.nand
     }
 
-    /// Power comes back. No block is open then.
-    fn power_up(&mut self) {
-        self.blocks.close();
-        self.nand.power_up();
-    }
-
     /// Takes a block that is not open.
     fn take(&mut self, rt: &impl Abort, block: u32) -> Result<(), EraseFault> {
         assert!(rt; block < self.nand.geometry().blocks());
@@ -85,9 +83,17 @@ impl Volume {
         )
     }
 
-    /// Copies the newest page of a key.
-    fn copy(&mut self, rt: &impl Abort, key: Key) -> Result<Result<Placed, GroupFault>, Fail> {
-        let Some(of) = copy_of(self, key)? else {
+    /// Copies a page under the name that its tag gives it.
+    fn copy(
+        &mut self,
+        rt: &impl Abort,
+        block: u32,
+        page: u32,
+    ) -> Result<Result<Placed, GroupFault>, Fail> {
+        assert!(rt; block < self.nand.geometry().blocks());
+        assert!(rt; page < self.nand.geometry().pages());
+        assert!(rt; !self.nand.is_bad(block));
+        let Some(of) = copy_of(self, block, page)? else {
             return Ok(Err(GroupFault::Lost));
         };
         let places = [of];
@@ -97,23 +103,39 @@ impl Volume {
         let copies = Copies { places: &places };
         Ok(write_group(&mut self.nand, &mut self.blocks, &copies, &mut scratch))
     }
+
+    /// Marks a block that is not open.
+    fn mark(&mut self, rt: &impl Abort, block: u32) -> Result<(), Gone> {
+        assert!(rt; block < self.nand.geometry().blocks());
+        assert!(rt; self.blocks.open_block() != Some(block));
+        mark_block(&mut self.nand, &mut self.blocks, block)
+    }
+
+    /// Whether a block is bad on the device, and by the table.
+    fn marks(&self, rt: &impl Abort, block: u32) -> (bool, bool) {
+        assert!(rt; block < self.nand.geometry().blocks());
+        (self.nand.is_bad(block), self.blocks.entry(block).bad)
+    }
 }
 
-/// The newest page of a key, as a copy of it.
-fn copy_of(volume: &mut Volume, key: Key) -> Result<Option<CopyOf>, Fail>
+/// A page of a good block, as a copy of it.
+fn copy_of(volume: &mut Volume, block: u32, page: u32) -> Result<Option<CopyOf>, Fail>
+    requires block { block < (device volume.old.nand).geometry.blocks }
+    requires page { page < (device volume.old.nand).geometry.pages }
+    requires good { (device volume.old.nand).flash.bad block ≡ false }
     ensures { IfOk result (λ of. IfSome of (MayCopy (device volume.new.nand) (table volume.new.blocks).next_group)) }
 {
-    match newest(&mut volume.nand, key)? {
+    match tag_at(&mut volume.nand, block, page)? {
         None => Ok(None),
-        Some(found) => Ok(Some(CopyOf {
-            block: found.block,
-            page: found.page,
+        Some(tag) => Ok(Some(CopyOf {
+            block,
+            page,
             name: PageName {
                 key: Key {
-                    object: found.tag.object,
-                    chunk: found.tag.chunk,
+                    object: tag.object,
+                    chunk: tag.chunk,
                 },
-                version: found.tag.version,
+                version: tag.version,
             },
         })),
     }
@@ -151,21 +173,6 @@ fn pages_of(alloc: Global, count: u64, fill: u8) -> Result<Vec<FreshPage>, Fail>
     Ok(pages)
 }
 
-/// The version of the newest page of each object from 1 to 8, with 0 for none.
-fn versions(mut nand: MemNand) -> Result<[u64; 8], Fail> {
-    let mut found = [0; 8];
-    for i in 0..8usize {
-        let key = Key {
-            object: i as u64 + 1,
-            chunk: 0,
-        };
-        if let Some(Found { tag, .. }) = newest(&mut nand, key)? {
-            found[i] = tag.version;
-        }
-    }
-    Ok(found)
-}
-
 /// A volume whose block 2 holds a group of objects 1 and 2 in version 1.
 fn begun(rt: &impl Abort, alloc: Global) -> Result<Volume, Fail> {
     let mut volume = Volume::new(alloc)?;
@@ -175,134 +182,11 @@ fn begun(rt: &impl Abort, alloc: Global) -> Result<Volume, Fail> {
     Ok(volume)
 }
 
-/// How many pages a group has, and at which of them it is cut or fails, with which fate.
-#[derive(Clone, Copy, Debug)]
-struct Case {
-    count: u64,
-    at: u64,
-    fate: Fate,
-}
-
-impl Case {
-    /// The call that is cut or fails: the erase and the two programs of the first group are calls 1 to 3.
-    fn call(self) -> u64 {
-        self.at.saturating_add(4)
-    }
-
-    /// All pages of the group are there.
-    fn is_whole(self) -> bool {
-        self.at == self.count.saturating_sub(1) && self.fate == Fate::New
-    }
-
-    /// The versions of the newest pages afterwards: those before, or version 2 for all that the group names.
-    fn wanted(self) -> [u64; 8] {
-        let mut versions = [1, 1, 0, 0, 0, 0, 0, 0];
-        if self.is_whole() {
-            for i in 0..8usize {
-                if (i as u64) < self.count {
-                    versions[i] = 2;
-                }
-            }
-        }
-        versions
-    }
-}
-
-fn cases(alloc: Global) -> Result<Vec<Case>, Fail> {
-    let fates = [Fate::Old, Fate::New, Fate::Erased, Fate::Uncorrectable];
-    let mut cases = Vec::new(alloc);
-    for count in [1, 3, 8] {
-        for at in 0..count {
-            for fate in fates {
-                cases.push(Case { count, at, fate })?;
-            }
-        }
-    }
-    Ok(cases)
-}
-
-#[test]
-fn a_cut_group_counts_whole_or_not_at_all(rt: HostRuntime) -> Result<(), Fail> {
-    let alloc = rt.alloc();
-    for case in &cases(alloc)? {
-        let mut volume = begun(&rt, alloc)?.cut_at(case.call(), vec![in alloc; case.fate]?);
-        let pages = pages_of(alloc, case.count, 2)?;
-        assert_eq!(rt;
-            volume.commit(&rt, &pages),
-            Err(GroupFault::Gone),
-            "{case:?}"
-        );
-        assert_eq!(rt; volume.blocks.next_group(), 3, "{case:?}");
-        assert_eq!(rt; volume.blocks.open_block(), None, "{case:?}");
-        volume.power_up();
-        assert_eq!(rt; versions(volume.into_nand())?, case.wanted(), "{case:?}");
-    }
-    Ok(())
-}
-
-#[test]
-fn a_failed_group_counts_only_where_its_last_page_reads(rt: HostRuntime) -> Result<(), Fail> {
-    let alloc = rt.alloc();
-    for case in &cases(alloc)? {
-        let failures = vec![in alloc; (case.call(), vec![in alloc; case.fate]?)]?;
-        let mut volume = begun(&rt, alloc)?.failing(failures);
-        let pages = pages_of(alloc, case.count, 2)?;
-        let written = volume.commit(&rt, &pages);
-        match written {
-            Ok(placed) => {
-                assert!(rt; case.is_whole(), "{case:?}");
-                assert!(rt; placed.suspect, "{case:?}");
-                assert_eq!(rt;
-                    (placed.block, placed.first, placed.group),
-                    (2, 2, 2),
-                    "{case:?}"
-                );
-            }
-            Err(fault) => {
-                assert!(rt; !case.is_whole(), "{case:?}");
-                assert_eq!(rt; fault, GroupFault::Failed, "{case:?}");
-            }
-        }
-        assert_eq!(rt; volume.blocks.next_group(), 3, "{case:?}");
-        assert_eq!(rt; volume.blocks.open_block(), None, "{case:?}");
-        assert_eq!(rt; versions(volume.into_nand())?, case.wanted(), "{case:?}");
-    }
-    Ok(())
-}
-
-#[test]
-fn a_cut_while_the_last_page_is_read_back_leaves_it_as_it_is(rt: HostRuntime) -> Result<(), Fail> {
-    let alloc = rt.alloc();
-    for case in &cases(alloc)? {
-        if case.at == case.count.saturating_sub(1) {
-            let failures = vec![in alloc; (case.call(), vec![in alloc; case.fate]?)]?;
-            let read_back = case.call().saturating_add(1);
-            let mut volume = begun(&rt, alloc)?
-                .failing(failures)
-                .cut_at(read_back, Vec::new(alloc));
-            let pages = pages_of(alloc, case.count, 2)?;
-            assert_eq!(rt;
-                volume.commit(&rt, &pages),
-                Err(GroupFault::Gone),
-                "{case:?}"
-            );
-            assert_eq!(rt; volume.blocks.next_group(), 3, "{case:?}");
-            volume.power_up();
-            assert_eq!(rt; versions(volume.into_nand())?, case.wanted(), "{case:?}");
-        }
-    }
-    Ok(())
-}
-
 #[test]
 fn a_copy_keeps_its_version(rt: HostRuntime) -> Result<(), Fail> {
     let alloc = rt.alloc();
     let mut volume = begun(&rt, alloc)?;
     volume.take(&rt, 5)?;
-    let key = Key {
-        object: 2,
-        chunk: 0,
-    };
     let placed = Placed {
         block: 5,
         first: 0,
@@ -310,27 +194,50 @@ fn a_copy_keeps_its_version(rt: HostRuntime) -> Result<(), Fail> {
         group: 2,
         suspect: false,
     };
-    assert_eq!(rt; volume.copy(&rt, key)?, Ok(placed));
-    let copy = Found {
-        block: 5,
-        page: 0,
-        tag: Tag {
-            index: 0,
-            count: 1,
-            object: 2,
-            chunk: 0,
-            version: 1,
-            group: 2,
-            seq: 2,
-        },
+    assert_eq!(rt; volume.copy(&rt, 2, 1)?, Ok(placed));
+    let copy = Tag {
+        index: 0,
+        count: 1,
+        object: 2,
+        chunk: 0,
+        version: 1,
+        group: 2,
+        seq: 2,
     };
     let mut nand = volume.into_nand();
-    assert_eq!(rt; newest(&mut nand, key)?, Some(copy));
     let mut bytes = [0; 512];
     let mut tag = [0; 48];
     assert!(rt; nand.geometry() == Geometry::new(512, 32, 8)?);
     nand.read_page(5, 0, &mut bytes, &mut tag)?;
+    assert_eq!(rt; Tag::decode(&tag), Some(copy));
     assert_eq!(rt; bytes, [1; 512]);
+    Ok(())
+}
+
+#[test]
+fn a_mark_is_noted_as_it_stands(rt: HostRuntime) -> Result<(), Fail> {
+    let alloc = rt.alloc();
+    let mut volume = Volume::new(alloc)?;
+    assert_eq!(rt; volume.mark(&rt, 3), Ok(()));
+    assert_eq!(rt; volume.marks(&rt, 3), (true, true));
+    for (fate, bad) in [(Fate::Old, false), (Fate::New, true)] {
+        let mut volume = Volume::new(alloc)?.cut_at(1, vec![in alloc; fate]?);
+        assert_eq!(rt; volume.mark(&rt, 3), Err(Gone), "{fate:?}");
+        assert_eq!(rt; volume.marks(&rt, 3), (bad, bad), "{fate:?}");
+        assert_eq!(rt; volume.marks(&rt, 4), (false, false), "{fate:?}");
+    }
+    Ok(())
+}
+
+#[test]
+fn a_failed_erase_opens_no_block(rt: HostRuntime) -> Result<(), Fail> {
+    let alloc = rt.alloc();
+    let mut volume = Volume::new(alloc)?.failing(vec![in alloc; (1, Vec::new(alloc))]?);
+    assert_eq!(rt; volume.take(&rt, 2), Err(EraseFault::Failed));
+    assert_eq!(rt; volume.blocks.open_block(), None);
+    assert_eq!(rt; volume.take(&rt, 2), Ok(()));
+    assert_eq!(rt; volume.blocks.open_block(), Some(2));
+    assert_eq!(rt; volume.blocks.next_seq(), 2);
     Ok(())
 }
 
@@ -356,6 +263,5 @@ fn groups_fill_a_block_until_there_is_no_room(rt: HostRuntime) -> Result<(), Fai
     volume.take(&rt, 7)?;
     assert_eq!(rt; volume.blocks.next_seq(), 3);
     assert!(rt; volume.commit(&rt, &pages).is_ok());
-    assert_eq!(rt; versions(volume.into_nand())?, [5; 8]);
     Ok(())
 }

@@ -1,5 +1,5 @@
-use Rattle.flash_tree.specs.NewestLaws.{erase_keeps}
+use Rattle.flash_tree.specs.NewestLaws.{erase_keeps_elsewhere}
 use Rattle.flash_tree.proofs.law.an_erase_keeps_what_lies_elsewhere.Goals as goal
 
 pub returns : goal.returns
-returns c = erase_keeps
+returns c = erase_keeps_elsewhere

@@ -1,5 +1,7 @@
-use Rattle.std.proofs.Common.{rules}
+use Rattle.std.proofs.Common.{◌∙◌, rules}
 use Rattle.nand_model.specs.Calls.{Device}
+use Rattle.nand_model.specs.ChangeLaws.{shrinks-erase}
+use Rattle.flash_tree.specs.NewestLaws.{erase_keeps_elsewhere}
 use Rattle.block_state.specs.TableOf.{table}
 use Rattle.transactions.specs.ReadyLaws.{ready_erased, ready_opened}
 use Rattle.transactions.proofs.open.erase_and_open.Goals as goal
@@ -15,3 +17,15 @@ returns-clause-ready g c =
     let ready = ready_erased c.args.block old new (table c.args.blocks.now) _ c.requires.ready c.requires.closed c.erase.ensures.erases in
     ready_opened c.args.block new _ _ ready (search rules) (search rules) does.next
     (record { sets = c.open.ensures.sets; open_block = c.open.ensures.open; next_seq = c.open.ensures.seq })
+
+pub returns-clause-below : goal.returns-clause-below
+returns-clause-below g c = λ honest.
+    let old : Device = g.N.Nand.state c.args.device.now in
+    let new : Device = g.N.Nand.state c.erase.new.self in
+    (ready_erased c.args.block old new (table c.args.blocks.now) _ c.requires.ready c.requires.closed c.erase.ensures.erases).below (c.erase.ensures.erases.lasts.honest ∙ honest)
+
+pub returns-in_err-erase-clause-newest : goal.returns-in_err-erase-clause-newest
+returns-in_err-erase-clause-newest g c = λ honest. erase_keeps_elsewhere c.args.block _ _ (shrinks-erase c.args.block _ _ _ honest c.erase.ensures.erases)
+
+pub returns-clause-newest : goal.returns-clause-newest
+returns-clause-newest g c = λ honest. erase_keeps_elsewhere c.args.block _ _ (shrinks-erase c.args.block _ _ _ honest c.erase.ensures.erases)

@@ -4,12 +4,12 @@ use Rattle.transactions.specs.Written.{group_of}
 use Rattle.transactions.proofs.ProgressLaws.{progress_ends, progress_grows}
 use Rattle.transactions.proofs.page.write_pages.Goals as goal
 
-pub write_last-requires-clause-fits : goal.write_last-requires-clause-fits
-write_last-requires-clause-fits g c = λ honest.
+pub write_last-requires-clause-has : goal.write_last-requires-clause-has
+write_last-requires-clause-has g c = λ honest.
     let so_far = c.in_ok-write_first.ensures.writes in
     let was : (g.N.Nand.state c.args.device.now).honest ≡ true = sym so_far.lasts.honest ∙ honest in
     let erased = λ (l : ℕ) (le : c.args.place.now.first ≤ l). g.met.N.Nand.clean c.args.device.now was c.args.place.now.block (c.args.place.now.first + 0) l c.requires.may.next (omega (arith, le)) in
-    g.met.S.PageSource.stays c.args.source.now _ _ (c.requires.fits was) (progress_grows _ _ _ _ _ _ so_far was erased)
+    g.met.S.PageSource.stays c.args.source.now _ _ (c.args.place.now.count - 1) (c.requires.has was _ (omega (arith, c.requires.count, c.requires.some))) (progress_grows _ _ _ _ _ _ so_far was erased)
 
 pub returns : goal.returns
 returns g c =
@@ -17,5 +17,5 @@ returns g c =
     let old : Device = g.N.Nand.state c.args.device.now in
     let mid : Device = g.N.Nand.state c.write_first.new.device in
     let erased = λ (was : old.honest ≡ true) (l : ℕ) (le : c.args.place.now.first ≤ l). g.met.N.Nand.clean c.args.device.now was c.args.place.now.block (c.args.place.now.first + 0) l c.requires.may.next (omega (arith, le)) in
-    let same = λ (was : old.honest ≡ true). g.met.S.PageSource.same c.args.source.now old.flash mid.flash (c.args.place.now.count - 1) (c.requires.fits was) (progress_grows _ _ _ _ _ _ so_far was (erased was)) (omega (arith, c.requires.count, c.requires.some)) in
+    let same = λ (was : old.honest ≡ true). g.met.S.PageSource.same c.args.source.now old.flash mid.flash (c.args.place.now.count - 1) (c.requires.has was _ (omega (arith, c.requires.count, c.requires.some))) (progress_grows _ _ _ _ _ _ so_far was (erased was)) in
     record { writes = progress_ends old mid (g.N.Nand.state c.write_last.new.device) (group_of c.args.place.now) _ _ _ (c.args.place.now.count - 1) so_far same c.write_last.result (omega (arith, c.requires.some)) erased c.write_last.ensures.writes }

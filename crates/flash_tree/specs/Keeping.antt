@@ -1,0 +1,27 @@
+-- What becomes of newest pages.
+use Rattle.std.specs.Prelude.{◌≡◌, ◌≢◌, ℕ, false}
+use Rattle.nand_model.specs.Flash.{Flash}
+use Rattle.page_tags.specs.declared.tag.Tag.{Tag}
+use Rattle.flash_tree.specs.Groups.{HasTag}
+use Rattle.flash_tree.specs.Newest.{Spot, IsNewest}
+
+-- the page there is the key's newest afterwards, and as it was
+pub record StaysNewest (old new : Flash) (o c : ℕ) (s : Spot) : Type 0 where
+  pub newest : IsNewest new o c s
+  pub page : new.page s.block s.page ≡ old.page s.block s.page
+
+-- each newest page stays the newest of its key
+abbrev pub KeepsNewest : Flash → Flash → Type 0
+KeepsNewest old new = (o c : ℕ) (s : Spot) → IsNewest old o c s → StaysNewest old new o c s
+
+-- and so does each that does not lie in block b
+abbrev pub KeepsElsewhere : ℕ → Flash → Flash → Type 0
+KeepsElsewhere b old new = (o c : ℕ) (s : Spot) → IsNewest old o c s → s.block ≢ b → StaysNewest old new o c s
+
+-- Block b gains no tag and is not good again, and nothing else is other: so it is after an erase or a mark of it, however
+-- that ends.
+pub record Loses (b : ℕ) (old new : Flash) : Type 0 where
+  pub good : new.bad b ≡ false → old.bad b ≡ false
+  pub tags : (l : ℕ) (t : Tag) → HasTag new b l t → HasTag old b l t
+  pub other_marks : (k : ℕ) → k ≢ b → new.bad k ≡ old.bad k
+  pub other_pages : (k l : ℕ) → k ≢ b → new.page k l ≡ old.page k l

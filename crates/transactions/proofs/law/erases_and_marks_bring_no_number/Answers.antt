@@ -1,0 +1,5 @@
+use Rattle.transactions.specs.ReadyLaws.{below_erased, below_marked}
+use Rattle.transactions.proofs.law.erases_and_marks_bring_no_number.Goals as goal
+
+pub returns : goal.returns
+returns c = record { erased = below_erased; marked = below_marked }

@@ -1,0 +1,16 @@
+use Rattle.std.proofs.Common.{rules}
+use Rattle.flash_tree.specs.NewestLaws.{mark_keeps_elsewhere}
+use Rattle.transactions.specs.ReadyLaws.{ready_marked}
+use Rattle.transactions.proofs.mark.mark_block.Goals as goal
+
+pub returns-then-is_bad-clause-ready : goal.returns-then-is_bad-clause-ready
+returns-then-is_bad-clause-ready g c = ready_marked c.args.block _ _ _ _ _ c.requires.ready c.requires.closed c.mark_bad-marked.ensures.marks (search rules)
+
+pub returns-then-is_bad-clause-newest : goal.returns-then-is_bad-clause-newest
+returns-then-is_bad-clause-newest g c = λ honest. mark_keeps_elsewhere c.args.block _ _ _ honest c.mark_bad-marked.ensures.marks
+
+pub returns-else-is_bad-clause-ready : goal.returns-else-is_bad-clause-ready
+returns-else-is_bad-clause-ready g c = ready_marked c.args.block _ _ _ _ _ c.requires.ready c.requires.closed c.mark_bad-marked.ensures.marks (search rules)
+
+pub returns-else-is_bad-clause-newest : goal.returns-else-is_bad-clause-newest
+returns-else-is_bad-clause-newest g c = λ honest. mark_keeps_elsewhere c.args.block _ _ _ honest c.mark_bad-marked.ensures.marks

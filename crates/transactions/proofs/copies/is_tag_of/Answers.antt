@@ -1,6 +1,6 @@
 use Rattle.std.proofs.Common.{◌≡◌, ◌↔◌, ℕ, List, sym, ◌∙◌, ap}
 use Rattle.page_tags.specs.Tags.{IsTag, tag_bytes}
-use Rattle.page_tags.specs.TagLaws.{same_tag}
+use Rattle.page_tags.specs.laws.Tag.{same_tag}
 use Rattle.page_tags.specs.declared.tag.Tag.{Tag}
 use Rattle.transactions.specs.Copying.{IsTagOf}
 use Rattle.transactions.specs.Sources.{name_of}

@@ -1,0 +1,338 @@
+// Groups on a device in memory, cut and failed at each page.
+
+ghost use Rattle.std.specs.Prelude.{◌≡◌, ◌<◌, ◌≤◌, ◌^◌, ℕ, IsTrue, IfOk, IfSome};
+ghost use Rattle.nand_model.specs.MemoryState.{device};
+ghost use Rattle.nand_model.specs.declared.geometry.Geometry.{Geometry};
+ghost use Rattle.block_state.specs.TableOf.{table};
+ghost use Rattle.transactions.specs.Committing.{CanCommit};
+ghost use Rattle.transactions.specs.Ready.{IsReady};
+ghost use Rattle.transactions.specs.CopyingOne.{MayCopy};
+
+use block_state::Blocks;
+use flash_tree::{Found, Key};
+use nand_model::{EraseFault, Fate, Geometry, MemNand, Nand};
+use page_tags::Tag;
+use plain_search::newest;
+use std::alloc::Global;
+use std::process::Abort;
+use std::test::Fail;
+use transactions::{
+    Copies, CopyOf, Fresh, FreshPage, GroupFault, PageName, Placed, erase_and_open, table_of,
+    write_group,
+};
+
+/// A device in memory with its table.
+#[derive(Drop)]
+struct Volume {
+    nand: MemNand,
+    blocks: Blocks,
+    ghost ready: { IsReady (device nand) (table blocks) },
+}
+
+impl Volume {
+    /// Eight blocks of 32 pages of 512 bytes, all erased.
+    fn new(alloc: Global) -> Result<Volume, Fail> {
+        let nand = MemNand::new(alloc, Geometry::new(512, 32, 8)?)?;
+        let blocks = table_of(alloc, &nand, 1, 1)?;
+        Ok(Volume { nand, blocks })
+    }
+
+    /// The call of this number is cut.
+    fn cut_at(self, call: u64, fates: Vec<Fate>) -> Volume {
+        let Volume { nand, blocks } = self;
+        Volume {
+            nand: nand.with_fuse(call, fates),
+            blocks,
+        }
+    }
+
+    /// The calls of these numbers fail.
+    fn failing(self, failures: Vec<(u64, Vec<Fate>)>) -> Volume {
+        let Volume { nand, blocks } = self;
+        Volume {
+            nand: nand.with_failures(failures),
+            blocks,
+        }
+    }
+
+    fn into_nand(self) -> MemNand {
+        self.nand
+    }
+
+    /// Power comes back. No block is open then.
+    fn power_up(&mut self) {
+        self.blocks.close();
+        self.nand.power_up();
+    }
+
+    /// Takes a block that is not open.
+    fn take(&mut self, rt: &impl Abort, block: u32) -> Result<(), EraseFault> {
+        assert!(rt; block < self.nand.geometry().blocks());
+        assert!(rt; !self.blocks.entry(block).bad);
+        assert!(rt; self.blocks.open_block() != Some(block));
+        assert!(rt; self.blocks.next_seq() < 1 << 62);
+        erase_and_open(&mut self.nand, &mut self.blocks, block)
+    }
+
+    /// Commits pages as one group.
+    fn commit(&mut self, rt: &impl Abort, pages: &[FreshPage]) -> Result<Placed, GroupFault> {
+        assert!(rt; self.blocks.next_group() < 1 << 62);
+        assert!(rt; may_commit(pages, self.nand.geometry().bytes()));
+        let mut scratch = [0; 512];
+        assert!(rt; self.nand.geometry().bytes() == 512);
+        write_group(
+            &mut self.nand,
+            &mut self.blocks,
+            &Fresh { pages },
+            &mut scratch,
+        )
+    }
+
+    /// Copies the newest page of a key.
+    fn copy(&mut self, rt: &impl Abort, key: Key) -> Result<Result<Placed, GroupFault>, Fail> {
+        let Some(of) = copy_of(self, key)? else {
+            return Ok(Err(GroupFault::Lost));
+        };
+        let places = [of];
+        assert!(rt; self.blocks.next_group() < 1 << 62);
+        let mut scratch = [0; 512];
+        assert!(rt; self.nand.geometry().bytes() == 512);
+        let copies = Copies { places: &places };
+        Ok(write_group(&mut self.nand, &mut self.blocks, &copies, &mut scratch))
+    }
+}
+
+/// The newest page of a key, as a copy of it.
+fn copy_of(volume: &mut Volume, key: Key) -> Result<Option<CopyOf>, Fail>
+    ensures { IfOk result (λ of. IfSome of (MayCopy (device volume.new.nand) (table volume.new.blocks).next_group)) }
+{
+    match newest(&mut volume.nand, key)? {
+        None => Ok(None),
+        Some(found) => Ok(Some(CopyOf {
+            block: found.block,
+            page: found.page,
+            name: PageName {
+                key: Key {
+                    object: found.tag.object,
+                    chunk: found.tag.chunk,
+                },
+                version: found.tag.version,
+            },
+        })),
+    }
+}
+
+/// Whether there are pages, and each is of an object and has so many bytes.
+fn may_commit(pages: &[FreshPage], bytes: u32) -> bool
+    ensures { (g : Geometry) (number : ℕ) → IsTrue result → g.bytes ≡ bytes → 1 ≤ number → CanCommit pages.now g number }
+{
+    if pages.is_empty() || pages.len() > 256 {
+        return false;
+    }
+    for i in 0..pages.len() {
+        if pages[i].key.object == 0 || pages[i].bytes.len() != bytes as usize {
+            return false;
+        }
+    }
+    true
+}
+
+/// A page of chunk 0 of an object, all bytes the same.
+fn page_of(alloc: Global, object: u64, fill: u8) -> Result<FreshPage, Fail> {
+    Ok(FreshPage {
+        key: Key { object, chunk: 0 },
+        bytes: vec![in alloc; fill; 512]?,
+    })
+}
+
+/// So many pages, of the objects from 1 up.
+fn pages_of(alloc: Global, count: u64, fill: u8) -> Result<Vec<FreshPage>, Fail> {
+    let mut pages = Vec::new(alloc);
+    for i in 0..count {
+        pages.push(page_of(alloc, i + 1, fill)?)?;
+    }
+    Ok(pages)
+}
+
+/// The version of the newest page of each object from 1 to 8, with 0 for none.
+fn versions(mut nand: MemNand) -> Result<[u64; 8], Fail> {
+    let mut found = [0; 8];
+    for i in 0..8usize {
+        let key = Key {
+            object: i as u64 + 1,
+            chunk: 0,
+        };
+        if let Some(Found { tag, .. }) = newest(&mut nand, key)? {
+            found[i] = tag.version;
+        }
+    }
+    Ok(found)
+}
+
+/// A volume whose block 2 holds a group of objects 1 and 2 in version 1.
+fn begun(rt: &impl Abort, alloc: Global) -> Result<Volume, Fail> {
+    let mut volume = Volume::new(alloc)?;
+    volume.take(rt, 2)?;
+    let pages = pages_of(alloc, 2, 1)?;
+    assert!(rt; volume.commit(rt, &pages).is_ok());
+    Ok(volume)
+}
+
+/// How many pages a group has, and at which of them it is cut or fails, with which fate.
+#[derive(Clone, Copy, Debug)]
+struct Case {
+    count: u64,
+    at: u64,
+    fate: Fate,
+}
+
+impl Case {
+    /// The call that is cut or fails: the erase and the two programs of the first group are calls 1 to 3.
+    fn call(self) -> u64 {
+        self.at.saturating_add(4)
+    }
+
+    /// All pages of the group are there.
+    fn is_whole(self) -> bool {
+        self.at == self.count.saturating_sub(1) && self.fate == Fate::New
+    }
+
+    /// The versions of the newest pages afterwards: those before, or version 2 for all that the group names.
+    fn wanted(self) -> [u64; 8] {
+        let mut versions = [1, 1, 0, 0, 0, 0, 0, 0];
+        if self.is_whole() {
+            for i in 0..8usize {
+                if (i as u64) < self.count {
+                    versions[i] = 2;
+                }
+            }
+        }
+        versions
+    }
+}
+
+fn cases(alloc: Global) -> Result<Vec<Case>, Fail> {
+    let fates = [Fate::Old, Fate::New, Fate::Erased, Fate::Uncorrectable];
+    let mut cases = Vec::new(alloc);
+    for count in [1, 3, 8] {
+        for at in 0..count {
+            for fate in fates {
+                cases.push(Case { count, at, fate })?;
+            }
+        }
+    }
+    Ok(cases)
+}
+
+#[test]
+fn a_cut_group_counts_whole_or_not_at_all(rt: HostRuntime) -> Result<(), Fail> {
+    let alloc = rt.alloc();
+    for case in &cases(alloc)? {
+        let mut volume = begun(&rt, alloc)?.cut_at(case.call(), vec![in alloc; case.fate]?);
+        let pages = pages_of(alloc, case.count, 2)?;
+        assert_eq!(rt;
+            volume.commit(&rt, &pages),
+            Err(GroupFault::Gone),
+            "{case:?}"
+        );
+        assert_eq!(rt; volume.blocks.next_group(), 3, "{case:?}");
+        assert_eq!(rt; volume.blocks.open_block(), None, "{case:?}");
+        volume.power_up();
+        assert_eq!(rt; versions(volume.into_nand())?, case.wanted(), "{case:?}");
+    }
+    Ok(())
+}
+
+#[test]
+fn a_failed_group_counts_only_where_its_last_page_reads(rt: HostRuntime) -> Result<(), Fail> {
+    let alloc = rt.alloc();
+    for case in &cases(alloc)? {
+        let failures = vec![in alloc; (case.call(), vec![in alloc; case.fate]?)]?;
+        let mut volume = begun(&rt, alloc)?.failing(failures);
+        let pages = pages_of(alloc, case.count, 2)?;
+        let written = volume.commit(&rt, &pages);
+        match written {
+            Ok(placed) => {
+                assert!(rt; case.is_whole(), "{case:?}");
+                assert!(rt; placed.suspect, "{case:?}");
+                assert_eq!(rt;
+                    (placed.block, placed.first, placed.group),
+                    (2, 2, 2),
+                    "{case:?}"
+                );
+            }
+            Err(fault) => {
+                assert!(rt; !case.is_whole(), "{case:?}");
+                assert_eq!(rt; fault, GroupFault::Failed, "{case:?}");
+            }
+        }
+        assert_eq!(rt; volume.blocks.next_group(), 3, "{case:?}");
+        assert_eq!(rt; volume.blocks.open_block(), None, "{case:?}");
+        assert_eq!(rt; versions(volume.into_nand())?, case.wanted(), "{case:?}");
+    }
+    Ok(())
+}
+
+#[test]
+fn a_cut_while_the_last_page_is_read_back_leaves_it_as_it_is(rt: HostRuntime) -> Result<(), Fail> {
+    let alloc = rt.alloc();
+    for case in &cases(alloc)? {
+        if case.at == case.count.saturating_sub(1) {
+            let failures = vec![in alloc; (case.call(), vec![in alloc; case.fate]?)]?;
+            let read_back = case.call().saturating_add(1);
+            let mut volume = begun(&rt, alloc)?
+                .failing(failures)
+                .cut_at(read_back, Vec::new(alloc));
+            let pages = pages_of(alloc, case.count, 2)?;
+            assert_eq!(rt;
+                volume.commit(&rt, &pages),
+                Err(GroupFault::Gone),
+                "{case:?}"
+            );
+            assert_eq!(rt; volume.blocks.next_group(), 3, "{case:?}");
+            volume.power_up();
+            assert_eq!(rt; versions(volume.into_nand())?, case.wanted(), "{case:?}");
+        }
+    }
+    Ok(())
+}
+
+#[test]
+fn a_copy_keeps_its_version(rt: HostRuntime) -> Result<(), Fail> {
+    let alloc = rt.alloc();
+    let mut volume = begun(&rt, alloc)?;
+    volume.take(&rt, 5)?;
+    let key = Key {
+        object: 2,
+        chunk: 0,
+    };
+    let placed = Placed {
+        block: 5,
+        first: 0,
+        count: 1,
+        group: 2,
+        suspect: false,
+    };
+    assert_eq!(rt; volume.copy(&rt, key)?, Ok(placed));
+    let copy = Found {
+        block: 5,
+        page: 0,
+        tag: Tag {
+            index: 0,
+            count: 1,
+            object: 2,
+            chunk: 0,
+            version: 1,
+            group: 2,
+            seq: 2,
+        },
+    };
+    let mut nand = volume.into_nand();
+    assert_eq!(rt; newest(&mut nand, key)?, Some(copy));
+    let mut bytes = [0; 512];
+    let mut tag = [0; 48];
+    assert!(rt; nand.geometry() == Geometry::new(512, 32, 8)?);
+    nand.read_page(5, 0, &mut bytes, &mut tag)?;
+    assert_eq!(rt; bytes, [1; 512]);
+    Ok(())
+}

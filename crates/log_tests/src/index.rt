@@ -1,0 +1,63 @@
+// The index of what a scan finds.
+
+use crate::worked::{flashes, written};
+use block_state::Blocks;
+use chunk_index::{Index, Place};
+use flash_tree::{Found, Key};
+use mount_scan::scan_newest;
+use nand_model::Nand;
+use std::alloc::Global;
+use std::test::Fail;
+
+/// The newest pages of any device, which need not be honest, with the index of them and the table of its blocks.
+#[derive(Drop)]
+struct Mounted {
+    newest: Vec<Found>,
+    index: Index,
+    blocks: Blocks,
+}
+
+impl Mounted {
+    fn new<N: Nand>(alloc: Global, device: &mut N) -> Result<Mounted, Fail> {
+        let newest = scan_newest(alloc, device)?.newest;
+        let mut blocks = Blocks::new(alloc, device.geometry())?;
+        let index = Index::from_newest(alloc, &newest, &mut blocks)?;
+        Ok(Mounted {
+            newest,
+            index,
+            blocks,
+        })
+    }
+}
+
+#[test]
+fn the_newest_pages_of_a_scan_are_kept(rt: HostRuntime) -> Result<(), Fail> {
+    let alloc = rt.alloc();
+    for flash in flashes(alloc)? {
+        let mut nand = written(alloc, &flash)?;
+        let mounted = Mounted::new(alloc, &mut nand)?;
+        let mut kept = 0u64;
+        for found in &mounted.newest {
+            let key = Key {
+                object: found.tag.object,
+                chunk: found.tag.chunk,
+            };
+            let place = Place {
+                block: found.block,
+                page: found.page,
+            };
+            assert_eq!(rt;
+                mounted.index.kept(key),
+                Some(place),
+                "{}, {key:?}",
+                flash.what
+            );
+        }
+        for block in 0..nand.geometry().blocks() {
+            assert!(rt; block < 5);
+            kept = kept.saturating_add(mounted.blocks.entry(block).kept as u64);
+        }
+        assert_eq!(rt; kept, mounted.newest.len() as u64, "{}", flash.what);
+    }
+    Ok(())
+}

@@ -1,0 +1,199 @@
+// Scans of a device in memory, beside a plain search of it.
+
+use crate::worked::{broken_off, flashes, powered_up, small, tag, written};
+use flash_tree::{Found, Key};
+use mount_scan::{ScanFault, scan, scan_newest};
+use nand_model::{Fate, MemNand};
+use plain_search::{greatest, newest};
+use rand_core::utils::NextWord;
+use rand_pcg::Pcg32;
+use std::alloc::Global;
+use std::process::Abort;
+use std::test::Fail;
+use test_flash::TestFlash;
+
+/// The places of what was found.
+fn places_of(alloc: Global, list: &[Found]) -> Result<Vec<(u32, u32)>, Fail> {
+    let mut places = Vec::new(alloc);
+    for found in list {
+        places.push((found.block, found.page))?;
+    }
+    Ok(places)
+}
+
+/// The entry of a key.
+fn entry(list: &[Found], key: Key) -> Option<Found> {
+    let mut entry = None;
+    for found in list {
+        if found.tag.object == key.object && found.tag.chunk == key.chunk {
+            entry = Some(*found);
+        }
+    }
+    entry
+}
+
+/// The scan of the newest pages finds what the plain search finds, of keys of objects up to 7 and chunks up to 9.
+fn finds_as_plainly(
+    rt: &impl Abort,
+    alloc: Global,
+    nand: &mut MemNand,
+    what: &str,
+) -> Result<Vec<Found>, Fail> {
+    let found = scan_newest(alloc, nand)?;
+    let mut keys = 0usize;
+    for object in 0..8u64 {
+        for chunk in 0..10u64 {
+            let key = Key { object, chunk };
+            let plain = newest(nand, key)?;
+            assert_eq!(rt; entry(&found.newest, key), plain, "{what}, {key:?}");
+            keys = keys.saturating_add(plain.is_some() as usize);
+        }
+    }
+    assert_eq!(rt; found.newest.len(), keys, "{what}");
+    assert_eq!(rt; found.numbers, greatest(nand)?, "{what}");
+    Ok(found.newest)
+}
+
+#[test]
+fn finds_what_counts_and_the_newest_of_each_key(rt: HostRuntime) -> Result<(), Fail> {
+    let alloc = rt.alloc();
+    for flash in flashes(alloc)? {
+        let mut nand = written(alloc, &flash)?;
+        let found = scan(alloc, &mut nand)?;
+        let what = flash.what;
+        assert_eq!(rt; places_of(alloc, &found.counted)?, flash.counted, "{what}");
+        assert_eq!(rt; places_of(alloc, &found.newest)?, flash.newest, "{what}");
+        assert_eq!(rt; found.numbers, flash.numbers, "{what}");
+        assert_eq!(rt;
+            finds_as_plainly(&rt, alloc, &mut nand, what)?,
+            found.newest,
+            "{what}"
+        );
+        assert_eq!(rt; nand.changes(), 0);
+    }
+    Ok(())
+}
+
+#[test]
+fn a_group_counts_with_its_last_page(rt: HostRuntime) -> Result<(), Fail> {
+    for pages in 0..5u32 {
+        let mut flash = small(rt.alloc())?;
+        flash.write(4, &tag((0, 1), (1, 0), (1, 1, 1)), 7)?;
+        for i in 0..pages {
+            flash.write(4, &tag((i, 4), (1, i as u64), (2, 2, 1)), 7)?;
+        }
+        let found = scan(rt.alloc(), &mut powered_up(flash))?;
+        let (counted, newest) = if pages == 4 { (5, 4) } else { (1, 1) };
+        assert_eq!(rt; found.counted.len(), counted, "{pages} pages");
+        assert_eq!(rt; found.newest.len(), newest, "{pages} pages");
+    }
+    Ok(())
+}
+
+/// The calls of one scan.
+fn calls_of_scan(alloc: Global, nand: &MemNand) -> Result<u64, Fail> {
+    let mut copy = nand.copy()?;
+    let _found = scan(alloc, &mut copy)?;
+    Ok(copy.calls())
+}
+
+#[test]
+fn a_cut_scan_says_gone_and_changes_nothing(rt: HostRuntime) -> Result<(), Fail> {
+    let flash = broken_off(rt.alloc())?;
+    let nand = written(rt.alloc(), &flash)?;
+    let calls = calls_of_scan(rt.alloc(), &nand)?;
+    assert_eq!(rt; calls, 160);
+    for call in 0..calls {
+        let mut cut = nand.copy()?.with_fuse(call + 1, Vec::new(rt.alloc()));
+        assert_eq!(rt;
+            scan(rt.alloc(), &mut cut).err(),
+            Some(ScanFault::Gone),
+            "at {call}"
+        );
+        assert_eq!(rt;
+            scan_newest(rt.alloc(), &mut cut).err(),
+            Some(ScanFault::Gone),
+            "at {call}"
+        );
+        assert_eq!(rt; cut.changes(), 0);
+        cut.power_up();
+        let found = scan(rt.alloc(), &mut cut)?;
+        assert_eq!(rt; places_of(rt.alloc(), &found.newest)?, flash.newest);
+    }
+    Ok(())
+}
+
+/// Writes the pages of a group whose numbers are drawn, some of them left out.
+fn write_group(random: &mut Pcg32, flash: &mut TestFlash) {
+    let block = random.next_word() % 5;
+    let count = 1 + random.next_word() % 4;
+    let version = 1 + (random.next_word() % 6) as u64;
+    let group = version + (random.next_word() % 3) as u64;
+    let seq = 1 + (random.next_word() % 3) as u64;
+    for i in 0..count {
+        let key = (
+            1 + (random.next_word() % 3) as u64,
+            (random.next_word() % 3) as u64,
+        );
+        if random.next_word() % 10 > 0 {
+            // a block that is full, bad or fails takes no page
+            let _written = flash.write(block, &tag((i, count), key, (version, group, seq)), 7);
+        }
+    }
+}
+
+/// What a failed call leaves of a block.
+fn fates(alloc: Global, random: &mut Pcg32) -> Result<Vec<Fate>, Fail> {
+    let mut fates = Vec::new(alloc);
+    for _page in 0..32u32 {
+        fates.push(match random.next_word() % 4 {
+            0 => Fate::Old,
+            1 => Fate::New,
+            2 => Fate::Erased,
+            _ => Fate::Uncorrectable,
+        })?;
+    }
+    Ok(fates)
+}
+
+/// A flash of pages that were written, lost and erased as drawn.
+fn drawn(alloc: Global, random: &mut Pcg32) -> Result<MemNand, Fail> {
+    let mut failures = Vec::new(alloc);
+    for _failure in 0..12u32 {
+        let call = 1 + (random.next_word() % 200) as u64;
+        failures.push((call, fates(alloc, random)?))?;
+    }
+    let mut flash = small(alloc)?.with_failures(failures);
+    for _turn in 0..80u32 {
+        match random.next_word() % 40 {
+            0 => {
+                let _marked = flash.mark_bad(random.next_word() % 5);
+            }
+            1 | 2 => {
+                let _erased = flash.erase(random.next_word() % 5);
+            }
+            _ => write_group(random, &mut flash),
+        }
+    }
+    Ok(powered_up(flash))
+}
+
+#[test]
+fn finds_what_a_plain_search_finds(rt: HostRuntime) -> Result<(), Fail> {
+    let alloc = rt.alloc();
+    let mut random = Pcg32::new(42, 54);
+    let mut entries = 0u64;
+    for round in 0..100u32 {
+        let mut nand = drawn(alloc, &mut random)?;
+        let found = scan(alloc, &mut nand)?;
+        let what = format!(in alloc; "round {round}")?;
+        assert_eq!(rt;
+            finds_as_plainly(&rt, alloc, &mut nand, &what)?,
+            found.newest,
+            "{what}"
+        );
+        entries = entries.saturating_add(found.counted.len() as u64);
+    }
+    assert!(rt; entries > 1000);
+    Ok(())
+}

@@ -1,0 +1,200 @@
+// Flashes in memory, and what is to be found on each, worked by hand.
+
+use flash_tree::TagNumbers;
+use nand_model::{Geometry, MemNand};
+use page_tags::Tag;
+use std::alloc::Global;
+use std::test::Fail;
+use test_flash::TestFlash;
+
+/// Five blocks of 32 pages of 512 bytes.
+pub fn small(alloc: Global) -> Result<TestFlash, Fail> {
+    Ok(TestFlash::new(alloc, Geometry::new(512, 32, 5)?)?)
+}
+
+/// The device, after a power-up.
+pub fn powered_up(flash: TestFlash) -> MemNand {
+    let mut nand = flash.into_nand();
+    nand.power_up();
+    nand
+}
+
+/// Pages that are written, a block that is then marked bad, and what is to be found: blocks and pages.
+#[derive(Drop)]
+pub struct WorkedFlash {
+    pub what: &'static str,
+    pub blocks: Vec<(u32, Vec<Tag>)>,
+    pub bad: Option<u32>,
+    pub counted: Vec<(u32, u32)>,
+    pub newest: Vec<(u32, u32)>,
+    pub numbers: TagNumbers,
+}
+
+/// A tag with its place in the group, its key and its version, group and seq.
+pub fn tag(place: (u32, u32), key: (u64, u64), numbers: (u64, u64, u64)) -> Tag {
+    Tag {
+        index: place.0,
+        count: place.1,
+        object: key.0,
+        chunk: key.1,
+        version: numbers.0,
+        group: numbers.1,
+        seq: numbers.2,
+    }
+}
+
+fn numbers(version: u64, group: u64, seq: u64) -> TagNumbers {
+    TagNumbers {
+        version,
+        group,
+        seq,
+    }
+}
+
+fn empty(alloc: Global) -> Result<WorkedFlash, Fail> {
+    Ok(WorkedFlash {
+        what: "an empty flash",
+        blocks: Vec::new(alloc),
+        bad: None,
+        counted: Vec::new(alloc),
+        newest: Vec::new(alloc),
+        numbers: numbers(0, 0, 0),
+    })
+}
+
+fn cut_group(alloc: Global) -> Result<WorkedFlash, Fail> {
+    let tags = vec![in alloc;
+        tag((0, 1), (1, 0), (1, 1, 1)),
+        tag((0, 3), (1, 0), (5, 5, 1)),
+        tag((1, 3), (1, 1), (5, 5, 1)),
+    ]?;
+    Ok(WorkedFlash {
+        what: "a newer group lacks its last page, and has the greatest numbers",
+        blocks: vec![in alloc; (2, tags)]?,
+        bad: None,
+        counted: vec![in alloc; (2, 0)]?,
+        newest: vec![in alloc; (2, 0)]?,
+        numbers: numbers(5, 5, 1),
+    })
+}
+
+fn equal_versions(alloc: Global) -> Result<WorkedFlash, Fail> {
+    let first = vec![in alloc; tag((0, 1), (1, 0), (3, 3, 2))]?;
+    let copy = vec![in alloc; tag((0, 1), (1, 0), (3, 6, 5))]?;
+    Ok(WorkedFlash {
+        what: "a copy of a page, in a block of greater seq",
+        blocks: vec![in alloc; (4, first), (3, copy)]?,
+        bad: None,
+        counted: vec![in alloc; (3, 0), (4, 0)]?,
+        newest: vec![in alloc; (3, 0)]?,
+        numbers: numbers(3, 6, 5),
+    })
+}
+
+fn equal_seqs(alloc: Global) -> Result<WorkedFlash, Fail> {
+    let first = vec![in alloc;
+        tag((0, 1), (2, 0), (1, 1, 4)),
+        tag((0, 1), (1, 0), (2, 2, 4)),
+    ]?;
+    let other = vec![in alloc;
+        tag((0, 1), (1, 0), (2, 3, 4)),
+        tag((0, 1), (2, 0), (1, 3, 3)),
+    ]?;
+    Ok(WorkedFlash {
+        what: "for equal version and seq the later page",
+        blocks: vec![in alloc; (1, first), (3, other)]?,
+        bad: None,
+        counted: vec![in alloc; (1, 0), (1, 1), (3, 0), (3, 1)]?,
+        newest: vec![in alloc; (1, 1), (1, 0)]?,
+        numbers: numbers(2, 3, 4),
+    })
+}
+
+fn equal_pages(alloc: Global) -> Result<WorkedFlash, Fail> {
+    let first = vec![in alloc; tag((0, 1), (1, 0), (2, 5, 4))]?;
+    let other = vec![in alloc; tag((0, 1), (1, 0), (2, 3, 4))]?;
+    Ok(WorkedFlash {
+        what: "for equal version, seq and page the later block",
+        blocks: vec![in alloc; (1, first), (3, other)]?,
+        bad: None,
+        counted: vec![in alloc; (1, 0), (3, 0)]?,
+        newest: vec![in alloc; (3, 0)]?,
+        numbers: numbers(2, 5, 4),
+    })
+}
+
+fn bad_block(alloc: Global) -> Result<WorkedFlash, Fail> {
+    let kept = vec![in alloc; tag((0, 1), (1, 0), (1, 1, 1))]?;
+    let lost = vec![in alloc; tag((0, 1), (1, 0), (9, 9, 9))]?;
+    Ok(WorkedFlash {
+        what: "the newer page stands in a bad block",
+        blocks: vec![in alloc; (2, kept), (0, lost)]?,
+        bad: Some(0),
+        counted: vec![in alloc; (2, 0)]?,
+        newest: vec![in alloc; (2, 0)]?,
+        numbers: numbers(1, 1, 1),
+    })
+}
+
+pub fn broken_off(alloc: Global) -> Result<WorkedFlash, Fail> {
+    let tags = vec![in alloc;
+        tag((1, 2), (1, 0), (1, 1, 1)),
+        tag((0, 3), (1, 1), (2, 2, 1)),
+        tag((0, 2), (1, 2), (3, 3, 1)),
+        tag((1, 2), (1, 1), (3, 3, 1)),
+        tag((2, 3), (1, 0), (2, 2, 1)),
+        tag((0, 2), (1, 3), (4, 4, 1)),
+        tag((1, 2), (1, 4), (5, 5, 1)),
+    ]?;
+    Ok(WorkedFlash {
+        what: "a group amid another, one with no first page, and pages of different groups",
+        blocks: vec![in alloc; (0, tags)]?,
+        bad: None,
+        counted: vec![in alloc; (0, 2), (0, 3)]?,
+        newest: vec![in alloc; (0, 3), (0, 2)]?,
+        numbers: numbers(5, 5, 1),
+    })
+}
+
+fn one_key_twice(alloc: Global) -> Result<WorkedFlash, Fail> {
+    let tags = vec![in alloc;
+        tag((0, 2), (7, 1), (1, 1, 1)),
+        tag((1, 2), (7, 1), (1, 1, 1)),
+        tag((0, 1), (6, 9), (2, 2, 1)),
+    ]?;
+    Ok(WorkedFlash {
+        what: "a group that names a key twice",
+        blocks: vec![in alloc; (3, tags)]?,
+        bad: None,
+        counted: vec![in alloc; (3, 0), (3, 1), (3, 2)]?,
+        newest: vec![in alloc; (3, 2), (3, 1)]?,
+        numbers: numbers(2, 2, 1),
+    })
+}
+
+pub fn flashes(alloc: Global) -> Result<Vec<WorkedFlash>, Fail> {
+    Ok(vec![in alloc;
+        empty(alloc)?,
+        cut_group(alloc)?,
+        equal_versions(alloc)?,
+        equal_seqs(alloc)?,
+        equal_pages(alloc)?,
+        bad_block(alloc)?,
+        broken_off(alloc)?,
+        one_key_twice(alloc)?,
+    ]?)
+}
+
+/// A device with the pages of a worked flash, after a power-up.
+pub fn written(alloc: Global, worked: &WorkedFlash) -> Result<MemNand, Fail> {
+    let mut flash = small(alloc)?;
+    for (block, tags) in &worked.blocks {
+        for tag in tags {
+            flash.write(*block, tag, 7)?;
+        }
+    }
+    if let Some(block) = worked.bad {
+        flash.mark_bad(block)?;
+    }
+    Ok(powered_up(flash))
+}

@@ -25,8 +25,11 @@ returns-in-Some c =
     record {
       block = subst (λ (g : Geometry). found.block < g.blocks) (sym reads.lasts.geometry) place.0;
       page = subst (λ (g : Geometry). found.page < g.pages) (sym reads.lasts.geometry) place.1;
-      bytes = held.has.bytes;
-      tag = _;
-      stored = ap (λ (f : ℕ → ℕ → Page). f found.block found.page) pages ∙ held.has.page;
+      there = record {
+        bytes = held.has.bytes;
+        tag = _;
+        page = ap (λ (f : ℕ → ℕ → Page). f found.block found.page) pages ∙ held.has.page;
+        names = record { tag = found.tag; is = refl; valid = held.has.valid; named = refl };
+      };
       name = record { object = held.has.valid.object; chunk = held.has.valid.chunk; version = (held.has.valid.version.0, omega (arith, below)) };
     }

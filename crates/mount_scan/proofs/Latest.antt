@@ -1,4 +1,4 @@
--- The last entry of each key is its newest.
+-- The last page of each key is its newest.
 use Rattle.std.specs.Prelude.{◌≡◌, ◌<◌, ◌≤◌, ℕ, zero, suc, ◌+◌, List, [], ◌∷◌, ◌++◌, Some, length, take, slice_get, slice_set, Contains}
 use Rattle.std.specs.List.{AllPairs}
 use Rattle.std.proofs.Common.{refl, sym, ◌∙◌, ap, subst, inl, inr, arith, get_or}
@@ -20,21 +20,21 @@ use Rattle.mount_scan.specs.Scanned.{IsKeyBefore, AreCounted, AreNewest, TellsCo
 use Rattle.mount_scan.specs.ScanLaws.{found_of, listed_spot, pair_at, not_before_itself}
 use Rattle.mount_scan.proofs.Ranked.{AreSorted}
 use Rattle.mount_scan.proofs.Tagged.{placed_among}
-use Rattle.mount_scan.specs.Keys.{HaveOneKey, IsSortedBefore, EndsKey, IsLastOfKey, AreLastOfKeys, Gathers, AreLatest}
+use Rattle.mount_scan.specs.Keys.{HaveOneKey, IsSortedBefore, IsLastAt, IsLastOfKey, AreLastOfKeys, Gathers, AreLatest}
 
--- one place of a list has one entry
-one_entry : (list : List Found) (k : ℕ) (x y : Found) → slice_get list k ≡ Some x → slice_get list k ≡ Some y → x ≡ y
-one_entry list k x y at_x at_y = let two : Some x ≡ Some y = sym at_x ∙ at_y in cc
+-- one index of a list has one page
+one_page : (list : List Found) (k : ℕ) (x y : Found) → slice_get list k ≡ Some x → slice_get list k ≡ Some y → x ≡ y
+one_page list k x y at_x at_y = let two : Some x ≡ Some y = sym at_x ∙ at_y in cc
 
-at_place : (list : List Found) (k l : ℕ) (x : Found) → k ≡ l → slice_get list k ≡ Some x → slice_get list l ≡ Some x
-at_place list k l x same at = subst (λ m. slice_get list m ≡ Some x) same at
+at_index : (list : List Found) (k l : ℕ) (x : Found) → k ≡ l → slice_get list k ≡ Some x → slice_get list l ≡ Some x
+at_index list k l x same at = subst (λ m. slice_get list m ≡ Some x) same at
 
--- an entry has a place
-place_of : (list : List Found) (x : Found) → Contains list x → (k : ℕ) × (slice_get list k ≡ Some x)
-place_of list x has = (has.0, subst (λ y. slice_get list has.0 ≡ Some y) has.2 (slice_get-get_or list has.0 x has.1))
+-- a page has an index
+index_of : (list : List Found) (x : Found) → Contains list x → (k : ℕ) × (slice_get list k ≡ Some x)
+index_of list x has = (has.0, subst (λ y. slice_get list has.0 ≡ Some y) has.2 (slice_get-get_or list has.0 x has.1))
 
-has_place : (list : List Found) (k : ℕ) (x : Found) → slice_get list k ≡ Some x → Contains list x
-has_place list k x at = (k, slice_get_within list k x at, get_or_from_slice_get list k x x at)
+has_index : (list : List Found) (k : ℕ) (x : Found) → slice_get list k ≡ Some x → Contains list x
+has_index list k x at = (k, slice_get_within list k x at, get_or_from_slice_get list k x x at)
 
 key_before_on : (x y z : Found) → IsKeyBefore x y → IsSortedBefore y z → IsKeyBefore x z
 key_before_on x y z before then = elim then [
@@ -45,8 +45,8 @@ key_before_on x y z before then = elim then [
   ]
 ]
 
--- behind the last entry of a key are later keys
-later_key : (list : List Found) (k l : ℕ) (x y : Found) → AllPairs IsSortedBefore list → EndsKey list k → k < l → slice_get list k ≡ Some x → slice_get list l ≡ Some y → IsKeyBefore x y
+-- behind the last page of a key are later keys
+later_key : (list : List Found) (k l : ℕ) (x y : Found) → AllPairs IsSortedBefore list → IsLastAt list k → k < l → slice_get list k ≡ Some x → slice_get list l ≡ Some y → IsKeyBefore x y
 later_key list k l x y sorted ends lt at_k at_l =
     let within : l < length list = slice_get_within list l y at_l in
     let next : Found = get_or list (k + 1) x in
@@ -56,37 +56,37 @@ later_key list k l x y sorted ends lt at_k at_l =
       | inr same ↦ absurd (ends x next at_k at_next same.0)
     ] in
     elim (cases_eq (k + 1) l) [
-      | inl here ↦ subst (IsKeyBefore x) (one_entry list l next y (at_place list (k + 1) l next here at_next) at_l) first
+      | inl here ↦ subst (IsKeyBefore x) (one_page list l next y (at_index list (k + 1) l next here at_next) at_l) first
       | inr ne ↦ key_before_on x next y first (pair_at IsSortedBefore list (k + 1) l next y sorted (omega (arith, lt, ne)) at_next at_l)
     ]
 
--- the last entry of its key is kept
-pub last_kept : (list : List Found) (i : ℕ) (x : Found) (kept : List Found) → AllPairs IsSortedBefore list → slice_get list i ≡ Some x → EndsKey list i
+-- the last page of its key is kept
+pub last_kept : (list : List Found) (i : ℕ) (x : Found) (kept : List Found) → AllPairs IsSortedBefore list → slice_get list i ≡ Some x → IsLastAt list i
     → AreLastOfKeys list i kept → AreLastOfKeys list (i + 1) (kept ++ x ∷ [])
 last_kept list i x kept sorted at ends are = record {
   each = λ f. (
     λ has. elim (Contains-push_cases kept x f has) [
-      | inl was ↦ let is = (are.each f).0 was in record { place = is.place; before = omega (arith, is.before); here = is.here; ends = is.ends }
-      | inr same ↦ record { place = i; before = omega arith; here = subst (λ y. slice_get list i ≡ Some y) same at; ends = ends }
+      | inl was ↦ let is = (are.each f).0 was in record { index = is.index; before = omega (arith, is.before); here = is.here; last = is.last }
+      | inr same ↦ record { index = i; before = omega arith; here = subst (λ y. slice_get list i ≡ Some y) same at; last = ends }
     ],
-    λ is. elim (cases_eq is.place i) [
-      | inr ne ↦ Contains-append_left kept (x ∷ []) f ((are.each f).1 (record { place = is.place; before = omega (arith, is.before, ne); here = is.here; ends = is.ends }))
-      | inl here ↦ subst (Contains (kept ++ x ∷ [])) (one_entry list i x f at (at_place list is.place i f here is.here)) (Contains-push kept x)
+    λ is. elim (cases_eq is.index i) [
+      | inr ne ↦ Contains-append_left kept (x ∷ []) f ((are.each f).1 (record { index = is.index; before = omega (arith, is.before, ne); here = is.here; last = is.last }))
+      | inl here ↦ subst (Contains (kept ++ x ∷ [])) (one_page list i x f at (at_index list is.index i f here is.here)) (Contains-push kept x)
     ],
   );
   order = all_pairs_push IsKeyBefore kept x are.order (λ k d lt.
       let is = (are.each (get_or kept k d)).0 (Contains-get_or kept k d lt) in
-      later_key list is.place i (get_or kept k d) x sorted is.ends is.before is.here at);
+      later_key list is.index i (get_or kept k d) x sorted is.last is.before is.here at);
 }
 
--- an entry whose next has the same key is not
-pub last_passed : (list : List Found) (i : ℕ) (kept : List Found) → (EndsKey list i → ⊥) → AreLastOfKeys list i kept → AreLastOfKeys list (i + 1) kept
+-- a page whose next has the same key is not
+pub last_passed : (list : List Found) (i : ℕ) (kept : List Found) → (IsLastAt list i → ⊥) → AreLastOfKeys list i kept → AreLastOfKeys list (i + 1) kept
 last_passed list i kept goes_on are = record {
   each = λ f. (
-    λ has. let is = (are.each f).0 has in record { place = is.place; before = omega (arith, is.before); here = is.here; ends = is.ends },
-    λ is. elim (cases_eq is.place i) [
-      | inr ne ↦ (are.each f).1 (record { place = is.place; before = omega (arith, is.before, ne); here = is.here; ends = is.ends })
-      | inl here ↦ absurd (goes_on (subst (EndsKey list) here is.ends))
+    λ has. let is = (are.each f).0 has in record { index = is.index; before = omega (arith, is.before); here = is.here; last = is.last },
+    λ is. elim (cases_eq is.index i) [
+      | inr ne ↦ (are.each f).1 (record { index = is.index; before = omega (arith, is.before, ne); here = is.here; last = is.last })
+      | inl here ↦ absurd (goes_on (subst (IsLastAt list) here is.last))
     ],
   );
   order = are.order;
@@ -99,14 +99,14 @@ last_at_start list = record {
   order = λ i j d lt within. absurd (omega (arith, within));
 }
 
--- a place of a list that has what another has there
+-- a list that has a page where another has it
 same_there : (xs ys : List Found) (k : ℕ) (x : Found) → length ys ≡ length xs → ((d : Found) → get_or ys k d ≡ get_or xs k d) → slice_get xs k ≡ Some x → slice_get ys k ≡ Some x
 same_there xs ys k x len same at =
     let within : k < length xs = slice_get_within xs k x at in
     slice_get-get_or ys k x (omega (arith, within, len)) ∙ ap Some (same x ∙ get_or_from_slice_get xs k x x at)
 
--- the last entry of its key is gathered
-pub gather_kept : (first list : List Found) (i kept : ℕ) (x : Found) → i < length list → slice_get list i ≡ Some x → EndsKey list i → AllPairs IsSortedBefore first → Gathers first i list kept
+-- the last page of its key is gathered
+pub gather_kept : (first list : List Found) (i kept : ℕ) (x : Found) → i < length list → slice_get list i ≡ Some x → IsLastAt list i → AllPairs IsSortedBefore first → Gathers first i list kept
     → Gathers first (i + 1) (slice_set list kept x) (kept + 1)
 gather_kept first list i kept x lt at ends sorted are = record {
   len = length-set list kept x ∙ are.len;
@@ -121,7 +121,7 @@ gather_kept first list i kept x lt at ends sorted are = record {
 }
 
 -- another stays
-pub gather_passed : (first list : List Found) (i kept : ℕ) → (EndsKey list i → ⊥) → Gathers first i list kept → Gathers first (i + 1) list kept
+pub gather_passed : (first list : List Found) (i kept : ℕ) → (IsLastAt list i → ⊥) → Gathers first i list kept → Gathers first (i + 1) list kept
 gather_passed first list i kept goes_on are = record {
   len = are.len;
   front = omega (arith, are.front);
@@ -135,7 +135,7 @@ gather_passed first list i kept goes_on are = record {
 pub gather_none : (first : List Found) → Gathers first 0 first 0
 gather_none first = record { len = refl; front = omega arith; last = last_at_start first; rest = λ k d le. refl }
 
--- an entry is the last of its key, or the last is found from the next one on
+-- a page is the last of its key, or the last is found from the next one on
 last_or_next : (list : List Found) (k : ℕ) (x next : Found) → slice_get list k ≡ Some x → slice_get list (k + 1) ≡ Some next
     → (y : Found) × IsLastOfKey list (length list) y × HaveOneKey y next → (y : Found) × IsLastOfKey list (length list) y × HaveOneKey y x
 last_or_next list k x next at at_next rest = elim (cases_eq x.tag.object next.tag.object) [
@@ -149,28 +149,28 @@ last_or_next list k x next at at_next rest = elim (cases_eq x.tag.object next.ta
   here other = (
     x,
     record {
-      place = k;
+      index = k;
       before = slice_get_within list k x at;
       here = at;
-      ends = λ f g at_f at_g one. other (subst (λ u. HaveOneKey u next) (one_entry list k f x at_f at) (subst (HaveOneKey f) (one_entry list (k + 1) g next at_g at_next) one));
+      last = λ f g at_f at_g one. other (subst (λ u. HaveOneKey u next) (one_page list k f x at_f at) (subst (HaveOneKey f) (one_page list (k + 1) g next at_g at_next) one));
     },
     (refl, refl),
   )
 
--- the entry at the end of the list is the last of its key
+-- the page at the end of the list is the last of its key
 last_at_end : (list : List Found) (k : ℕ) (x : Found) → slice_get list k ≡ Some x → length list ≤ k + 1 → (y : Found) × IsLastOfKey list (length list) y × HaveOneKey y x
 last_at_end list k x at past = (
   x,
   record {
-    place = k;
+    index = k;
     before = slice_get_within list k x at;
     here = at;
-    ends = λ f g at_f at_g one. let within : k + 1 < length list = slice_get_within list (k + 1) g at_g in absurd (omega (arith, within, past));
+    last = λ f g at_f at_g one. let within : k + 1 < length list = slice_get_within list (k + 1) g at_g in absurd (omega (arith, within, past));
   },
   (refl, refl),
 )
 
--- from each entry on there is the last of its key
+-- from each page on there is the last of its key
 last_from : (list : List Found) (left k : ℕ) (x : Found) → slice_get list k ≡ Some x → length list ≤ k + 1 + left
     → (y : Found) × IsLastOfKey list (length list) y × HaveOneKey y x
 last_from list zero k x at near = last_at_end list k x at (omega (arith, near))
@@ -182,23 +182,23 @@ last_from list (suc left) k x at near = elim (cases_lt (k + 1) (length list)) [
       last_or_next list k x next at at_next (last_from list left (k + 1) next at_next (omega (arith, near)))
 ]
 
--- the last entries of the keys of a sorted list are the newest
+-- the last pages of the keys of a sorted list are the newest
 pub latest_of : (list sorted kept : List Found) → AreSorted list sorted → AreLastOfKeys sorted (length sorted) kept → AreLatest list kept
 latest_of list sorted kept order are = record {
-  among = λ f has. let is = (are.each f).0 has in (order.each f).0 (has_place sorted is.place f is.here);
+  among = λ f has. let is = (are.each f).0 has in (order.each f).0 (has_index sorted is.index f is.here);
   last = λ f g has_f has_g one after.
       let is = (are.each f).0 has_f in
-      let at = place_of sorted g ((order.each g).1 has_g) in
-      elim (cases_order at.0 is.place) [
-        | inl same ↦ not_after_itself (spot_of f) (subst (λ x. IsAfter (spot_of x) (spot_of f)) (one_entry sorted is.place g f (at_place sorted at.0 is.place g same at.1) is.here) after)
-        | inr (inl lt) ↦ elim (pair_at IsSortedBefore sorted at.0 is.place g f order.order lt at.1 is.here) [
+      let at = index_of sorted g ((order.each g).1 has_g) in
+      elim (cases_order at.0 is.index) [
+        | inl same ↦ not_after_itself (spot_of f) (subst (λ x. IsAfter (spot_of x) (spot_of f)) (one_page sorted is.index g f (at_index sorted at.0 is.index g same at.1) is.here) after)
+        | inr (inl lt) ↦ elim (pair_at IsSortedBefore sorted at.0 is.index g f order.order lt at.1 is.here) [
           | inl before ↦ not_before_itself g f before one.0 one.1
           | inr same ↦ same.1 after
         ]
-        | inr (inr gt) ↦ not_before_itself f g (later_key sorted is.place at.0 f g order.order is.ends gt is.here at.1) (sym one.0) (sym one.1)
+        | inr (inr gt) ↦ not_before_itself f g (later_key sorted is.index at.0 f g order.order is.last gt is.here at.1) (sym one.0) (sym one.1)
       ];
   some = λ g has.
-      let at = place_of sorted g ((order.each g).1 has) in
+      let at = index_of sorted g ((order.each g).1 has) in
       let last = last_from sorted (length sorted) at.0 g at.1 (omega arith) in
       (last.0, (are.each last.0).1 last.1, last.2);
   order = are.order;
@@ -247,7 +247,7 @@ module _ (f : Flash) (counted newest : List Found) (are : AreCounted f counted) 
       let same : x ≡ found_of s = λ i. record { block = place.0 i; page = place.1 i; tag = tag i } in
       subst (Contains newest) same some.1
 
-  -- the newest entries of those that count are the newest pages
+  -- the latest of those that count are the newest pages
   newest_pages : AreNewest f newest
   newest_pages = record {
     each = λ o c s. (

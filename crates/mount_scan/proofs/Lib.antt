@@ -1,5 +1,5 @@
 pub mod Reading
-pub mod Entries
+pub mod Adding
 pub mod Tagged
 pub mod Raised
 pub mod Ranked

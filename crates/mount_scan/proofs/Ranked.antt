@@ -1,4 +1,4 @@
--- Entries sorted by their ranks.
+-- Pages sorted by their ranks.
 use Rattle.std.specs.Prelude.{◌≡◌, ◌<◌, ◌≤◌, ◌↔◌, ℕ, false, List, Contains}
 use Rattle.std.specs.List.{AllPairs}
 use Rattle.std.specs.List.Sorted.{IsSortedBy, IsPermutation}
@@ -16,12 +16,12 @@ use Rattle.flash_tree.specs.declared.place.Found.{Found}
 use Rattle.flash_tree.specs.Places.{spot_of}
 use Rattle.mount_scan.specs.Keys.{IsSortedBefore}
 
--- the same entries, in the order by key, and those of one key from the oldest to the newest
+-- the same pages, in the order by key, and those of one key from the oldest to the newest
 pub record AreSorted (list sorted : List Found) : Type 0 where
   pub each : (f : Found) → Contains sorted f ↔ Contains list f
   pub order : AllPairs IsSortedBefore sorted
 
--- how two entries compare by their ranks
+-- how two pages compare by their ranks
 abbrev pub rank_cmp : Found → Found → Ordering
 rank_cmp x y =
     ordering_then (ordering_then (ordering_then (ordering_then (ordering_then (nat_cmp x.tag.object y.tag.object) (nat_cmp x.tag.chunk y.tag.chunk))
@@ -88,7 +88,7 @@ is_up_to x y least =
       block = λ o c v s p. at_five.1 (tied_on four x.page y.page (tied_four o c v s) p);
     }
 
--- within one key the later of two entries has the later place
+-- within one key the later of two pages has the later place
 not_after : (x y : Found) → IsUpTo y x → x.tag.object ≡ y.tag.object → x.tag.chunk ≡ y.tag.chunk → IsAfter (spot_of y) (spot_of x) → ⊥
 not_after x y up o c after = elim after [
   | inl lt ↦ absurd (omega (arith, lt, up.version o c))

@@ -26,7 +26,7 @@ pub record IsWithinRun (tags : List (Option Tag)) (start page : ℕ) : Type 0 wh
   pub from : start ≤ page
   pub to : page < start + first.count
 
--- an entry for a page of block b before page p that counts
+-- a page of block b before page p that counts, with its tag
 pub record IsCountedIn (b : ℕ) (tags : List (Option Tag)) (p : ℕ) (f : Found) : Type 0 where
   pub block : f.block ≡ b
   pub before : f.page < p
@@ -34,25 +34,25 @@ pub record IsCountedIn (b : ℕ) (tags : List (Option Tag)) (p : ℕ) (f : Found
   pub start : ℕ
   pub within : IsWithinRun tags start f.page
 
--- an entry for page p of block b, if it has a tag
-pub record IsEntryAt (b : ℕ) (tags : List (Option Tag)) (p : ℕ) (f : Found) : Type 0 where
+-- page p of block b with its tag, if it has one
+pub record IsPageAt (b : ℕ) (tags : List (Option Tag)) (p : ℕ) (f : Found) : Type 0 where
   pub block : f.block ≡ b
   pub page : f.page ≡ p
   pub tag : slice_get tags p ≡ Some (Some f.tag)
 
--- The list has more entries, all those of a kind. Where it was in the order of places and all new ones come after the
+-- The list has more pages, all those of a kind. Where it was in the order of places and all new ones come after the
 -- old, it is still in that order.
-pub record AddsEntries (IsNew : Found → Type 0) (old new : List Found) : Type 0 where
+pub record AddsSome (IsNew : Found → Type 0) (old new : List Found) : Type 0 where
   pub each : (f : Found) → Contains new f ↔ (Contains old f ⊎ IsNew f)
   pub order : AllPairs IsPlaceBefore old → ((f g : Found) → Contains old f → IsNew g → IsPlaceBefore f g) → AllPairs IsPlaceBefore new
 
--- the entry of page p was added, if it has a tag
+-- page p was added, if it has a tag
 abbrev pub AddsPage : ℕ → List (Option Tag) → ℕ → List Found → List Found → Type 0
-AddsPage b tags p = AddsEntries (IsEntryAt b tags p)
+AddsPage b tags p = AddsSome (IsPageAt b tags p)
 
--- the entries of all pages before page p that count were added
+-- all pages before page p that count were added
 abbrev pub AddsCounted : ℕ → List (Option Tag) → ℕ → List Found → List Found → Type 0
-AddsCounted b tags p = AddsEntries (IsCountedIn b tags p)
+AddsCounted b tags p = AddsSome (IsCountedIn b tags p)
 
 -- of the whole groups that begin before page n, those pages from page p on that lie before this end are all
 pub record Reaches (tags : List (Option Tag)) (n p end : ℕ) : Type 0 where

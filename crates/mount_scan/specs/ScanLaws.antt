@@ -12,11 +12,11 @@ use Rattle.flash_tree.specs.declared.place.Found.{Found}
 use Rattle.flash_tree.specs.Places.{spot_of}
 use Rattle.mount_scan.specs.Scanned.{IsKeyBefore, AreNewest}
 
--- the entry of a place
+-- a place with a tag, as programs have it
 abbrev pub found_of : Spot → Found
 found_of s = record { block = s.block; page = s.page; tag = s.tag }
 
--- a list's places have a place where the list has its entry
+-- among the places of a list is each that the list has
 pub listed_spot : (list : List Found) (s : Spot) → Contains (map spot_of list) s ↔ Contains list (found_of s)
 listed_spot list s = (
   λ has.
@@ -28,7 +28,7 @@ listed_spot list s = (
       (has.0, omega (arith, has.1, length-map list spot_of), at ∙ ap spot_of has.2),
 )
 
--- a key has a newest page exactly where the list has an entry of it
+-- a key has a newest page exactly where the list has one of it
 pub newest_listed : (f : Flash) (list : List Found) (o c : ℕ) → AreNewest f list
     → ((s : Spot) × IsNewest f o c s) ↔ ((x : Found) × Contains list x × (x.tag.object ≡ o) × (x.tag.chunk ≡ c))
 newest_listed f list o c are = (
@@ -36,7 +36,7 @@ newest_listed f list o c are = (
   λ (x, has, object, chunk). (spot_of x, (are.each o c (spot_of x)).1 ((listed_spot list (spot_of x)).1 has, object, chunk)),
 )
 
--- of two entries of a list the earlier is related to the later as all such pairs are
+-- of two pages of a list the earlier is related to the later as all such pairs are
 pub pair_at : (R : Found → Found → Type 0) (list : List Found) (i j : ℕ) (x y : Found) → AllPairs R list → i < j → slice_get list i ≡ Some x → slice_get list j ≡ Some y → R x y
 pair_at R list i j x y pairs lt at_i at_j =
     let related : R (get_or list i x) (get_or list j x) = pairs i j x lt (slice_get_within list j y at_j) in
@@ -46,7 +46,7 @@ pair_at R list i j x y pairs lt at_i at_j =
 pub not_before_itself : (x y : Found) → IsKeyBefore x y → x.tag.object ≡ y.tag.object → x.tag.chunk ≡ y.tag.chunk → ⊥
 not_before_itself x y before object chunk = elim before [ inl lt ↦ absurd (omega (arith, lt, object)) | inr rest ↦ absurd (omega (arith, rest.1, chunk)) ]
 
--- no key has two entries
+-- no key has two pages in the list
 pub newest_once : (f : Flash) (list : List Found) (i j : ℕ) (x y : Found) → AreNewest f list → slice_get list i ≡ Some x → slice_get list j ≡ Some y
     → x.tag.object ≡ y.tag.object → x.tag.chunk ≡ y.tag.chunk → i ≡ j
 newest_once f list i j x y are at_i at_j object chunk = elim (cases_order i j) [
@@ -55,7 +55,7 @@ newest_once f list i j x y are at_i at_j object chunk = elim (cases_order i j) [
   | inr (inr gt) ↦ absurd (not_before_itself y x (pair_at IsKeyBefore list j i y x are.order gt at_j at_i) (sym object) (sym chunk))
 ]
 
--- the newest data of a key are those of its entry's page
+-- the newest data of a key are those of its page in the list
 pub newest_data : (f : Flash) (list : List Found) (o c : ℕ) (bytes : List ℕ) → AreNewest f list
     → HasNewest f o c bytes ↔ ((x : Found) × Contains list x × (x.tag.object ≡ o) × (x.tag.chunk ≡ c) × (f.page x.block x.page ≡ Written bytes (tag_bytes x.tag)))
 newest_data f list o c bytes are = (

@@ -48,8 +48,8 @@ fn run_end(tags: &[Option<Tag>], start: usize) -> usize
     }
 }
 
-/// Adds the entry of a page, if it has a tag.
-fn add_entry(
+/// Adds a page with its tag, if it has one.
+fn add_found(
     block: u32,
     tags: &[Option<Tag>],
     page: usize,
@@ -84,7 +84,7 @@ fn add_page(
 {
     let end = end.max(run_end(tags, page));
     if page < end {
-        add_entry(block, tags, page, counted)?;
+        add_found(block, tags, page, counted)?;
     }
     Ok(end)
 }

@@ -13,7 +13,7 @@ mod whole;
 pub use answer::{NewestScan, Scan};
 pub use fault::ScanFault;
 pub use law::{
-    an_entry_leads_to_the_newest_data, an_entry_stands_for_each_key, each_key_stands_once,
+    a_found_page_has_the_newest_data, a_page_is_found_for_each_key, each_key_stands_once,
 };
 pub use whole::{scan, scan_newest};
 

@@ -1,11 +1,11 @@
-// The newest entry of each key.
+// The newest page of each key.
 ghost use Rattle.std.specs.Prelude.{◌≡◌, ◌+◌, ◌<◌, ◌≤◌, ◌↔◌, IsTrue, List, length};
 ghost use Rattle.std.specs.List.{AllPairs};
-ghost use Rattle.mount_scan.specs.Keys.{rank_of, EndsKey, IsSortedBefore, Gathers, AreLatest};
+ghost use Rattle.mount_scan.specs.Keys.{rank_of, IsLastAt, IsSortedBefore, Gathers, AreLatest};
 
 use flash_tree::Found;
 
-/// What entries are sorted by: the key, and then what orders the pages of one key.
+/// What pages are sorted by: the key, and then what orders the pages of one key.
 fn rank(found: &Found) -> (u64, u64, u64, u64, u32, u32)
     ensures { result ≡ rank_of found.now }
 {
@@ -20,10 +20,10 @@ fn rank(found: &Found) -> (u64, u64, u64, u64, u32, u32)
     )
 }
 
-/// Whether the next entry, if any, has another key.
-fn ends_key(sorted: &[Found], i: usize) -> bool
+/// Whether the next page, if any, has another key.
+fn is_last_of_key(sorted: &[Found], i: usize) -> bool
     requires { i < length sorted.now }
-    ensures { IsTrue result ↔ EndsKey sorted.now i }
+    ensures { IsTrue result ↔ IsLastAt sorted.now i }
 {
     let tag = &sorted[i].tag;
     match sorted.get(i + 1) {
@@ -32,14 +32,14 @@ fn ends_key(sorted: &[Found], i: usize) -> bool
     }
 }
 
-/// Moves an entry to the end of the `kept` ones in front, if it is the last of its key, and tells how many these are
+/// Moves a page to the end of the `kept` ones in front, if it is the last of its key, and tells how many these are
 /// then.
 fn gather_at(sorted: &mut Vec<Found>, i: usize, kept: usize) -> usize
     requires i { i < length sorted.old.items }
     requires kept { kept ≤ i }
     ensures { (first : List Found) → AllPairs IsSortedBefore first → Gathers first i sorted.old.items kept → Gathers first (i + 1) sorted.new.items result }
 {
-    if ends_key(sorted, i) {
+    if is_last_of_key(sorted, i) {
         sorted[kept] = sorted[i];
         kept + 1
     } else {
@@ -47,7 +47,7 @@ fn gather_at(sorted: &mut Vec<Found>, i: usize, kept: usize) -> usize
     }
 }
 
-/// Moves the last entry of each key to the front, and tells how many these are.
+/// Moves the last page of each key to the front, and tells how many these are.
 fn gather_last(sorted: &mut Vec<Found>) -> usize
     requires { AllPairs IsSortedBefore sorted.old.items }
     ensures { Gathers sorted.old.items (length sorted.old.items) sorted.new.items result }
@@ -59,7 +59,7 @@ fn gather_last(sorted: &mut Vec<Found>) -> usize
     kept
 }
 
-/// Keeps of the entries of each key the newest, and takes no memory.
+/// Keeps of the pages of each key the newest, and takes no memory.
 pub(crate) fn keep_newest(list: &mut Vec<Found>)
     ensures { AreLatest list.old.items list.new.items }
 {

@@ -50,23 +50,3 @@ fn finds_the_page(rt: HostRuntime) -> Result<(), Fail> {
     assert_eq!(rt; nand.calls(), 256);
     Ok(())
 }
-
-#[test]
-fn a_cut_scan_says_gone(rt: HostRuntime) -> Result<(), Fail> {
-    let nand = one_page(rt.alloc())?;
-    for call in 1..129u64 {
-        let mut cut = nand.copy()?.with_fuse(call, Vec::new(rt.alloc()));
-        assert_eq!(rt;
-            scan(rt.alloc(), &mut cut).err(),
-            Some(ScanFault::Gone),
-            "at {call}"
-        );
-        assert_eq!(rt;
-            scan_newest(rt.alloc(), &mut cut).err(),
-            Some(ScanFault::Gone),
-            "at {call}"
-        );
-        assert_eq!(rt; cut.changes(), 0);
-    }
-    Ok(())
-}

@@ -1,16 +1,17 @@
 //! Scans a flash in memory that is full of groups.
 //!
-//! The first argument is the number of blocks, of 64 pages of 512 bytes each. With a second one, `time`, the time of
-//! the scan goes to standard error.
+//! The first argument is the number of blocks, of 64 pages of 512 bytes each. With a second one the time and the
+//! memory of a scan go to standard error: `all` is the scan that also tells which pages count, `newest` the other.
 #![tactic(auto)]
 
 use anyhow::{Context, Result, anyhow};
-use mount_scan::{Scan, scan};
+use mount_scan::{scan, scan_newest};
 use nand_model::{Geometry, MemNand};
 use page_tags::Tag;
 use std::alloc::Global;
-use std::env;
+use std::rt::Files;
 use std::time::Instant;
+use std::{env, fs};
 use test_flash::TestFlash;
 
 /// The pages of a block, and of a group.
@@ -52,30 +53,78 @@ fn full(alloc: Global, blocks: u32) -> Result<MemNand> {
     Ok(nand)
 }
 
-fn scanned(alloc: Global, nand: &mut MemNand) -> Result<Scan> {
-    match scan(alloc, nand) {
-        Ok(found) => Ok(found),
+/// Which scan is made.
+#[derive(Clone, Copy, PartialEq, Eq)]
+enum Kind {
+    All,
+    Newest,
+}
+
+/// What a scan found.
+#[derive(Clone, Copy)]
+struct Report {
+    counted: Option<usize>,
+    keys: usize,
+}
+
+fn scanned(alloc: Global, nand: &mut MemNand, kind: Kind) -> Result<Report> {
+    let report = match kind {
+        Kind::All => scan(alloc, nand).map(|found| Report {
+            counted: Some(found.counted.len()),
+            keys: found.newest.len(),
+        }),
+        Kind::Newest => scan_newest(alloc, nand).map(|found| Report {
+            counted: None,
+            keys: found.newest.len(),
+        }),
+    };
+    match report {
+        Ok(report) => Ok(report),
         Err(fault) => Err(anyhow!("{fault:?}")),
     }
+}
+
+/// A number of kilobytes that the system tells of this process.
+fn kilobytes<R: Files + Alloc>(rt: &R, name: &str) -> Result<u64> {
+    let status = fs::read_to_string(rt, "/proc/self/status")?;
+    for line in status.lines() {
+        if let Some(rest) = line.strip_prefix(name) {
+            let number = rest
+                .split_whitespace()
+                .next()
+                .context("a number is missing")?;
+            return Ok(number.parse().context("the number of kilobytes")?);
+        }
+    }
+    Err(anyhow!("the system does not tell {name}"))
 }
 
 fn main(rt: HostRuntime) -> Result<()> {
     let mut args = env::args(&rt)?;
     let _program = args.next();
     let blocks = args.next().context("the number of blocks is missing")?;
-    let timed = args.next().is_some();
+    let measured = args.next();
+    let kind = match measured.as_deref() {
+        None | Some("all") => Kind::All,
+        Some("newest") => Kind::Newest,
+        Some(_) => return Err(anyhow!("the scan is `all` or `newest`")),
+    };
     let mut nand = full(rt.alloc(), blocks.parse().context("the number of blocks")?)?;
+    let before = kilobytes(&rt, "VmRSS:")?;
     let start = Instant::now(&rt)?;
-    let found = scanned(rt.alloc(), &mut nand)?;
+    let report = scanned(rt.alloc(), &mut nand, kind)?;
     let time = start.elapsed(&rt)?;
-    if timed {
-        eprintln!(rt; "{} microseconds", time.as_micros())?;
+    if measured.is_some() {
+        let most = kilobytes(&rt, "VmHWM:")?.saturating_sub(before);
+        eprintln!(rt;
+            "{} microseconds, at most {} kilobytes",
+            time.as_micros(),
+            most
+        )?;
     }
-    println!(rt;
-        "{} pages count, {} keys, {} calls",
-        found.counted.len(),
-        found.newest.len(),
-        nand.calls()
-    )?;
+    if let Some(counted) = report.counted {
+        println!(rt; "{counted} pages count")?;
+    }
+    println!(rt; "{} keys, {} calls", report.keys, nand.calls())?;
     Ok(())
 }

@@ -1,5 +1,5 @@
 use Rattle.mount_scan.specs.ScanLaws.{newest_listed}
-use Rattle.mount_scan.proofs.law.an_entry_stands_for_each_key.Goals as goal
+use Rattle.mount_scan.proofs.law.a_page_is_found_for_each_key.Goals as goal
 
 pub returns : goal.returns
 returns c = newest_listed

@@ -1,7 +1,7 @@
 use Rattle.std.proofs.Common.{◌∙◌, ap, Some}
 use Rattle.std.proofs.lemmas.Option.{slice_get-get_or}
-use Rattle.mount_scan.proofs.Entries.{adds_page, adds_no_page}
-use Rattle.mount_scan.proofs.group.add_entry.Goals as goal
+use Rattle.mount_scan.proofs.Adding.{adds_page, adds_no_page}
+use Rattle.mount_scan.proofs.group.add_found.Goals as goal
 
 pub returns-in_ok-push : goal.returns-in_ok-push
 returns-in_ok-push c =

@@ -1,4 +1,4 @@
--- Entries that are added to those that count.
+-- Pages that are added to those that count.
 use Rattle.std.specs.Prelude.{◌≡◌, ◌⊎◌, ◌↔◌, ◌<◌, ◌≤◌, ℕ, ◌+◌, List, [], ◌∷◌, ◌++◌, Option, Some, None, max, slice_get, Contains}
 use Rattle.std.proofs.Common.{refl, sym, ◌∙◌, subst, inl, inr, arith, get_or}
 use Rattle.std.proofs.lemmas.Bool.{cases_eq, cases_lt}
@@ -7,10 +7,10 @@ use Rattle.std.proofs.lemmas.List.Quantifiers.{all_pairs_push}
 use Rattle.page_tags.specs.declared.tag.Tag.{Tag}
 use Rattle.flash_tree.specs.declared.place.Found.{Found}
 use Rattle.mount_scan.specs.Scanned.{IsPlaceBefore}
-use Rattle.mount_scan.specs.Runs.{IsWithinRun, IsCountedIn, IsEntryAt, AddsEntries, AddsPage, AddsCounted, Reaches}
+use Rattle.mount_scan.specs.Runs.{IsWithinRun, IsCountedIn, IsPageAt, AddsSome, AddsPage, AddsCounted, Reaches}
 
--- one entry is added, the only one of its kind
-adds_push : (IsNew : Found → Type 0) (old : List Found) (x : Found) → IsNew x → ((f : Found) → IsNew f → f ≡ x) → AddsEntries IsNew old (old ++ x ∷ [])
+-- one page is added, the only one of its kind
+adds_push : (IsNew : Found → Type 0) (old : List Found) (x : Found) → IsNew x → ((f : Found) → IsNew f → f ≡ x) → AddsSome IsNew old (old ++ x ∷ [])
 adds_push IsNew old x new only = record {
   each = λ f. (
     λ has. elim (Contains-push_cases old x f has) [ inl was ↦ inl was | inr same ↦ inr (subst IsNew same new) ],
@@ -23,15 +23,15 @@ adds_push IsNew old x new only = record {
 }
 
 -- none is added, and there is none of that kind
-adds_none : (IsNew : Found → Type 0) (old : List Found) → ((f : Found) → IsNew f → ⊥) → AddsEntries IsNew old old
+adds_none : (IsNew : Found → Type 0) (old : List Found) → ((f : Found) → IsNew f → ⊥) → AddsSome IsNew old old
 adds_none IsNew old none = record {
   each = λ f. (λ was. inl was, λ either. elim either [ inl was ↦ was | inr is ↦ absurd (none f is) ]);
   order = λ pairs across. pairs;
 }
 
--- entries of one kind are added, and then those of another that come after them
+-- pages of one kind are added, and then those of another that come after them
 adds_on : (A B C : Found → Type 0) (first mid new : List Found) → ((f : Found) → C f ↔ (A f ⊎ B f)) → ((f g : Found) → A f → B g → IsPlaceBefore f g)
-    → AddsEntries A first mid → AddsEntries B mid new → AddsEntries C first new
+    → AddsSome A first mid → AddsSome B mid new → AddsSome C first new
 adds_on A B C first mid new split ordered a b = record {
   each = λ f. (
     λ has. elim ((b.each f).0 has) [
@@ -48,8 +48,8 @@ adds_on A B C first mid new split ordered a b = record {
       (λ f g was is. elim ((a.each f).0 was) [ inl before ↦ across f g before ((split g).1 (inr is)) | inr is_a ↦ ordered f g is_a is ]);
 }
 
--- the same entries, said in another way
-adds_same : (A C : Found → Type 0) (first new : List Found) → ((f : Found) → C f ↔ A f) → AddsEntries A first new → AddsEntries C first new
+-- the same pages, said in another way
+adds_same : (A C : Found → Type 0) (first new : List Found) → ((f : Found) → C f ↔ A f) → AddsSome A first new → AddsSome C first new
 adds_same A C first new same a = record {
   each = λ f. (
     λ has. elim ((a.each f).0 has) [ inl before ↦ inl before | inr is ↦ inr ((same f).1 is) ],
@@ -58,10 +58,10 @@ adds_same A C first new same a = record {
   order = λ pairs across. a.order pairs (λ f g was is. across f g was ((same g).1 is));
 }
 
--- the entry of a page that has a tag
+-- a page that has a tag
 pub adds_page : (b p : ℕ) (t : Tag) (tags : List (Option Tag)) (old : List Found) → slice_get tags p ≡ Some (Some t)
     → AddsPage b tags p old (old ++ (record { block = b; page = p; tag = t }) ∷ [])
-adds_page b p t tags old at = adds_push (IsEntryAt b tags p) old (record { block = b; page = p; tag = t }) (record { block = refl; page = refl; tag = at })
+adds_page b p t tags old at = adds_push (IsPageAt b tags p) old (record { block = b; page = p; tag = t }) (record { block = refl; page = refl; tag = at })
     (λ f is.
     let two : Some (Some f.tag) ≡ Some (Some t) = sym is.tag ∙ at in
     let tag : f.tag ≡ t = cc in
@@ -69,7 +69,7 @@ adds_page b p t tags old at = adds_push (IsEntryAt b tags p) old (record { block
 
 -- a page with no tag has none
 pub adds_no_page : (b p : ℕ) (tags : List (Option Tag)) (old : List Found) → slice_get tags p ≡ Some None → AddsPage b tags p old old
-adds_no_page b p tags old at = adds_none (IsEntryAt b tags p) old (λ f is. let two : Some (Some f.tag) ≡ Some None = sym is.tag ∙ at in absurd cc)
+adds_no_page b p tags old at = adds_none (IsPageAt b tags p) old (λ f is. let two : Some (Some f.tag) ≡ Some None = sym is.tag ∙ at in absurd cc)
 
 -- at first nothing is added
 pub adds_at_start : (b : ℕ) (tags : List (Option Tag)) (old : List Found) → AddsCounted b tags 0 old old
@@ -80,7 +80,7 @@ pub adds_counted : (b p end : ℕ) (tags : List (Option Tag)) (first old new : L
     → AddsCounted b tags p first old → AddsCounted b tags (p + 1) first new
 adds_counted b p end tags first old new reach lt page adds =
     let group = reach.covered p (omega arith) lt in
-    adds_on (IsCountedIn b tags p) (IsEntryAt b tags p) (IsCountedIn b tags (p + 1)) first old new
+    adds_on (IsCountedIn b tags p) (IsPageAt b tags p) (IsCountedIn b tags (p + 1)) first old new
     (λ f. (
       λ is. elim (cases_eq f.page p) [
         | inr ne ↦ inl (record { block = is.block; before = omega (arith, is.before, ne); tag = is.tag; start = is.start; within = is.within })

@@ -12,8 +12,8 @@ ghost use Rattle.flat_directories.specs.Heads.{IsHeadOf, TellsHead, IsGoneFault,
 
 use crate::fault::DirectoryFault;
 use flash_tree::Key;
-use nand_model::Nand;
 use flat_store::Store;
+use nand_model::Nand;
 use page_tags::{ObjectKind, decode_header};
 
 /// What the header of a directory says: its spare blocks, which are meant in the root's alone, how many entries it

@@ -15,8 +15,8 @@ ghost use Rattle.flat_directories.specs.Slots.{NamedBy};
 use crate::fault::DirectoryFault;
 use crate::head::read_head;
 use flash_tree::Key;
-use nand_model::Nand;
 use flat_store::Store;
+use nand_model::Nand;
 use page_tags::{SLOT_BYTES, decode_slot};
 
 /// The object that the bytes of a slot lead to, if they have this name.

@@ -2,14 +2,14 @@
 
 use super::*;
 use flash_tree::Key;
-use nand_model::{Geometry, MemNand};
 use flat_store::{Change, Store};
+use nand_model::{Geometry, MemNand};
 use page_tags::Slot;
-use volume_terms::is_name;
 use std::alloc::Global;
 use std::process::Abort;
 use std::test::Fail;
 use transactions::FreshPage;
+use volume_terms::is_name;
 
 /// Copies bytes to a place of a page.
 fn put(page: &mut [u8], at: usize, bytes: &[u8]) {

@@ -15,5 +15,5 @@ mod volume;
 mod write_step;
 
 pub use plain_state::object::{PlainHandle, PlainObject};
-pub use volume_terms::VolumeSizes;
 pub use volume::PlainVolume;
+pub use volume_terms::VolumeSizes;

@@ -1,11 +1,11 @@
 // Worked rows: what is asked, and what is told.
 use crate::PlainVolume;
 use plain_state::charge::fits;
-use volume_terms::VolumeSizes;
 use posix_profile::{Access, Bytes, Command, FilePath, Kind, OpenFlags, Reply, Stamped, Whence};
 use std::alloc::{AllocError, Global};
 use std::process::Abort;
 use std::test::Fail;
+use volume_terms::VolumeSizes;
 
 /// A command, written short.
 #[derive(Clone, Copy)]

@@ -14,11 +14,11 @@ use plain_state::links::ROOT;
 use plain_state::object::{HandleMap, ObjectMap, PlainObject};
 use plain_state::prune::pruned;
 use plain_state::refusal::Refusal;
-use volume_terms::VolumeSizes;
 use plain_state::table::{copy_handles, copy_objects, put_object};
 use posix_profile::{Command, Reply, Stamped};
 use std::alloc::{AllocError, Global};
 use std::collections::BTreeMap;
+use volume_terms::VolumeSizes;
 
 /// A volume in memory. A command that would change a read-only one is refused.
 #[derive(Drop)]
@@ -51,7 +51,11 @@ impl PlainVolume {
     ghost use Rattle.plain_profile.specs.Meaning.{Gives, changed};
 
     /// A volume of an empty root, at moment 0.
-    pub fn new(alloc: Global, sizes: VolumeSizes, read_only: bool) -> Result<PlainVolume, AllocError>
+    pub fn new(
+        alloc: Global,
+        sizes: VolumeSizes,
+        read_only: bool,
+    ) -> Result<PlainVolume, AllocError>
         ensures state { IfOk result (λ volume. state_of volume ≡ record { objects = map.insert map.empty root_number (Dir 0 map.empty); handles = map.empty }) }
         ensures sizes { IfOk result (λ volume. sizes_of volume.sizes ≡ sizes_of sizes) }
         ensures read_only { IfOk result (λ volume. volume.read_only ≡ read_only) }

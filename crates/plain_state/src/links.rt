@@ -11,9 +11,9 @@ ghost use Rattle.plain_state.specs.PlainState.{object_of, objects_in, handles_in
 ghost use Rattle.volume_terms.specs.VolumeSizes.{sizes_of};
 
 use crate::object::{EntryMap, HandleMap, ObjectMap, PlainObject};
-use volume_terms::VolumeSizes;
 use crate::table::object_at;
 use posix_profile::{Info, Kind};
+use volume_terms::VolumeSizes;
 
 /// The number of the root directory.
 pub const ROOT: u64 = 1;

@@ -20,9 +20,9 @@ use crate::plan::ROOT;
 use crate::root::root_spare;
 use flat_directories::{entries, read_head};
 use flat_profile::flat_fits;
+use flat_store::Store;
 use name_map::NameMap;
 use nand_model::{Geometry, Nand};
-use flat_store::Store;
 use std::alloc::Global;
 
 /// Whether a number stands twice side by side.

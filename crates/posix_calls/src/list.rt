@@ -9,8 +9,8 @@ ghost use Rattle.posix_calls.specs.Plans.{IsLack};
 
 use crate::plan::{ROOT, errno_of};
 use flat_directories::names;
-use nand_model::Nand;
 use flat_store::Store;
+use nand_model::Nand;
 use posix_profile::{Errno, NameList};
 use std::alloc::Global;
 

@@ -14,8 +14,8 @@ ghost use Rattle.volume_format.specs.Volumes.{IsFlatVolume};
 ghost use Rattle.posix_calls.specs.Endings.{Ends, reply_of, store_error};
 
 use crate::plan::plan;
-use nand_model::Nand;
 use flat_store::{Store, StoreFault};
+use nand_model::Nand;
 use posix_profile::Errno;
 use std::alloc::Global;
 

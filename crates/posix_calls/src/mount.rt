@@ -11,8 +11,8 @@ ghost use Rattle.posix_calls.specs.MountFaults.{IsWant, Says};
 use crate::check::check;
 use crate::fault::{MountFault, of_open};
 use crate::volume::Volume;
-use nand_model::Nand;
 use flat_store::Store;
+use nand_model::Nand;
 use std::alloc::Global;
 use volume_format::bad_count;
 

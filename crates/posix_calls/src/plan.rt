@@ -17,9 +17,9 @@ ghost use Rattle.posix_calls.specs.Plans.{error_of, IsLack, MayMake, NumberTold,
 
 use flat_directories::{DirectoryFault, DirectoryHead, add, entries, head_page};
 use flat_profile::{flat_fits, least_free};
+use flat_store::{Change, Store};
 use name_map::NameMap;
 use nand_model::{Geometry, Nand};
-use flat_store::{Change, Store};
 use page_tags::Slot;
 use posix_profile::Errno;
 use std::alloc::{AllocError, Global};

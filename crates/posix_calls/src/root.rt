@@ -13,8 +13,8 @@ ghost use Rattle.posix_calls.specs.Roots.{SpareTold, NoSpareTold, IsKnown};
 use crate::fault::MountFault;
 use crate::plan::ROOT;
 use flash_tree::Key;
-use nand_model::Nand;
 use flat_store::Store;
+use nand_model::Nand;
 use page_tags::{HeaderFault, ObjectKind, decode_header};
 
 /// The spare blocks that a page says as the header of a root on so many blocks.

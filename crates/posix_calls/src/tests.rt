@@ -2,8 +2,8 @@
 
 use super::*;
 use flash_tree::Key;
-use nand_model::{Fate, Geometry, MemNand};
 use flat_store::{Change, Store};
+use nand_model::{Fate, Geometry, MemNand};
 use posix_profile::{Command, Errno, FilePath, Reply, Stamped};
 use std::alloc::Global;
 use std::process::Abort;

@@ -18,8 +18,8 @@ ghost use Rattle.posix_profile.specs.declared.reply.Reply.{Reply};
 use crate::early::{EarlyCommand, early};
 use crate::list::list;
 use crate::mkdir::mkdir;
-use nand_model::Nand;
 use flat_store::Store;
+use nand_model::Nand;
 use posix_profile::{Errno, Reply, Stamped};
 use std::alloc::{AllocError, Global};
 

@@ -89,15 +89,15 @@ with_new list [] = list
 with_new list (o ∷ named) = if list_any (nat_eq o) list then with_new list named else with_new (list ++ o ∷ []) named
 
 -- how the going through a list of objects ends: at something wrong, or with the whole list
-pub data End : Type 0 where
-  Wrongly : (wrong : Wrong) → End
-  Wholly : (list : List ℕ) → End
+pub data ListEnd : Type 0 where
+  Wrongly : (wrong : Wrong) → ListEnd
+  Wholly : (list : List ℕ) → ListEnd
 
 -- The list is gone through in order from place n on. What an object names, and is not on the list yet, is added at its end.
-pub data GoesThrough (z : Sizes) (m : NewestMap) : List ℕ → ℕ → End → Type 0 where
+pub data GoesThrough (z : Sizes) (m : NewestMap) : List ℕ → ℕ → ListEnd → Type 0 where
   ends : {list : List ℕ} {n : ℕ} → length list ≡ n → GoesThrough z m list n (Wholly list)
   stops : {list : List ℕ} {n : ℕ} (o : ℕ) (wrong : Wrong) → slice_get list n ≡ Some o → Finds z m o (Stops wrong) → GoesThrough z m list n (Wrongly wrong)
-  goes : {list : List ℕ} {n : ℕ} {end : End} (o : ℕ) (named : List ℕ) → slice_get list n ≡ Some o → Finds z m o (Leads named)
+  goes : {list : List ℕ} {n : ℕ} {end : ListEnd} (o : ℕ) (named : List ℕ) → slice_get list n ≡ Some o → Finds z m o (Leads named)
       → GoesThrough z m (with_new list named) (n + 1) end → GoesThrough z m list n end
 
 -- the numbers of a volume with so many spare blocks on a device of these sizes
@@ -178,15 +178,24 @@ pub data Answer : Type 0 where
   IsWrong : (wrong : Wrong) → Answer
   IsTreeOf : (spare : ℕ) (objects : Objects) → Answer
 
--- The answer of a flash: no volume; what is first found wrong, with the root's header, with an object in the order of the
--- list, with the names of directories, or with the room; or the tree that is shown.
+-- an object that is named is not there, or not whole, in the order of the list
+abbrev pub HasWrongObject : Geometry → NewestMap → Wrong → Type 0
+HasWrongObject g m wrong = (spare : ℕ) × IsVolume g m spare × GoesThrough (sizes_of g spare) m (root_number ∷ []) 0 (Wrongly wrong)
+
+-- all are whole, but two names lead to one directory
+abbrev pub HasTwoNames : Geometry → NewestMap → Wrong → Type 0
+HasTwoNames g m wrong = (spare : ℕ) × IsVolume g m spare × (wrong ≡ IsDamaged) × (list : List ℕ)
+    × GoesThrough (sizes_of g spare) m (root_number ∷ []) 0 (Wholly list) × NamesTwice (sizes_of g spare) m list
+
+-- a tree is shown, but a volume cannot go on with it
+abbrev pub LacksRoom : Geometry → Flash → Wrong → Type 0
+LacksRoom g flash wrong = (spare : ℕ) × IsVolume g (HasNewest flash) spare × (wrong ≡ IsDamaged) × (objects : Objects)
+    × Shows (sizes_of g spare) (HasNewest flash) objects × (HasRoom g flash spare objects → ⊥)
+
+-- The answer of a flash: no volume; what is first found wrong, with the root's header, with an object, with the names of
+-- directories, or with the room; or the tree that is shown.
 abbrev pub Answers : Geometry → Flash → Answer → Type 0
 Answers g flash NotAVolume = IsNoVolume (HasNewest flash)
 Answers g flash (IsWrong wrong) =
-    HasWrongRoot g (HasNewest flash) wrong
-    ⊎ ((spare : ℕ) × IsVolume g (HasNewest flash) spare × GoesThrough (sizes_of g spare) (HasNewest flash) (root_number ∷ []) 0 (Wrongly wrong))
-    ⊎ ((spare : ℕ) × IsVolume g (HasNewest flash) spare × (wrong ≡ IsDamaged) × (list : List ℕ)
-    × GoesThrough (sizes_of g spare) (HasNewest flash) (root_number ∷ []) 0 (Wholly list) × NamesTwice (sizes_of g spare) (HasNewest flash) list)
-    ⊎ ((spare : ℕ) × IsVolume g (HasNewest flash) spare × (wrong ≡ IsDamaged) × (objects : Objects)
-    × Shows (sizes_of g spare) (HasNewest flash) objects × (HasRoom g flash spare objects → ⊥))
+    HasWrongRoot g (HasNewest flash) wrong ⊎ HasWrongObject g (HasNewest flash) wrong ⊎ HasTwoNames g (HasNewest flash) wrong ⊎ LacksRoom g flash wrong
 Answers g flash (IsTreeOf spare objects) = IsVolume g (HasNewest flash) spare × Shows (sizes_of g spare) (HasNewest flash) objects × HasRoom g flash spare objects

@@ -1,6 +1,6 @@
 -- The flashes that a volume is kept on.
 -- From: this project.
-use Rattle.std.specs.Prelude.{◌≤◌, ℕ, ◌-◌, ◌^◌}
+use Rattle.std.specs.Prelude.{◌≤◌, ℕ}
 use Rattle.nand_model.specs.Flash.{Flash}
 use Rattle.nand_model.specs.declared.geometry.Geometry.{Geometry}
 use Rattle.posix_profile.specs.State.{Objects}

@@ -6,8 +6,13 @@ use Rattle.page_tags.specs.Headers.{Fields, IsHeader, header_bytes, is_present}
 use Rattle.page_tags.specs.declared.header.ObjectKind.TheVariants as kinds
 use Rattle.page_tags.specs.Slots.{Entry, IsSlot, slot_bytes}
 use Rattle.volume_terms.specs.Sizes.{Sizes, page_slots}
-use Rattle.posix_profile.specs.State.{Entries, Object, File, Dir, Objects}
+use Rattle.posix_profile.specs.State.{Name, Entries, Object, File, Dir, Objects}
 use Rattle.posix_profile.specs.WellFormed.{IsTree}
+
+-- the bytes of a page that a header can fill
+pub record IsPageSize (d : ℕ) : Type 0 where
+  pub least : 32 ≤ d
+  pub most : d ≤ 4096
 
 -- which data are the newest of a key: of an object's number and a chunk
 abbrev pub NewestMap : Type 1
@@ -41,6 +46,10 @@ abbrev pub SlotIs : Sizes → NewestMap → ℕ → ℕ → Entry → Type 0
 SlotIs z m o i entry =
     (page : List ℕ) × m o (1 + i / page_slots z) page × IsSlot entry × (take 272 (drop (272 * (i % page_slots z)) page) ≡ slot_bytes entry)
 
+-- names and objects of slots
+abbrev pub slot_pairs : List Entry → List (Name × ℕ)
+slot_pairs slots = list_map (λ entry. (entry.name, entry.object)) slots
+
 -- the object is this directory: its header's length of slots, in which no name stands twice, are its entries
 pub record ReadsDir (z : Sizes) (m : NewestMap) (o : ℕ) (moment : ℕ) (entries : Entries) : Type 0 where
   pub fields : Fields
@@ -51,17 +60,17 @@ pub record ReadsDir (z : Sizes) (m : NewestMap) (o : ℕ) (moment : ℕ) (entrie
   pub size : fields.length ≡ length slots
   pub each : (i : ℕ) (entry : Entry) → slice_get slots i ≡ Some entry → SlotIs z m o i entry
   pub once : (i j : ℕ) (a b : Entry) → slice_get slots i ≡ Some a → slice_get slots j ≡ Some b → a.name ≡ b.name → i ≡ j
-  pub entries_are : entries ≡ map.from_entries (list_map (λ entry. (entry.name, entry.object)) slots)
+  pub entries_are : entries ≡ map.from_entries (slot_pairs slots)
 
 -- the object reads as this file or directory
-abbrev pub Reads : Sizes → NewestMap → ℕ → Object → Type 0
-Reads z m o (File moment bytes) = ReadsFile z m o moment bytes
-Reads z m o (Dir moment entries) = ReadsDir z m o moment entries
+abbrev pub ReadsAs : Sizes → NewestMap → ℕ → Object → Type 0
+ReadsAs z m o (File moment bytes) = ReadsFile z m o moment bytes
+ReadsAs z m o (Dir moment entries) = ReadsDir z m o moment entries
 
 -- the newest pages show these objects, which hang together as a tree
 pub record Shows (z : Sizes) (m : NewestMap) (objects : Objects) : Type 0 where
   pub tree : IsTree z objects
-  pub each : (o : ℕ) (x : Object) → map.get objects o ≡ Some x → Reads z m o x
+  pub each : (o : ℕ) (x : Object) → map.get objects o ≡ Some x → ReadsAs z m o x
 
 -- which chunks of an object are looked up: its header, of a file those that are present, of a directory those of its slots
 abbrev pub LooksUp : Sizes → Fields → ℕ → Type 0

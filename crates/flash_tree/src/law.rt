@@ -1,5 +1,6 @@
 // What follows from what counts and what is shown. A function here does nothing: its clause is the law.
-ghost use Rattle.std.specs.Prelude.{◌≡◌, ◌≢◌, ◌<◌, ◌≤◌, ◌↔◌, ◌+◌, List, ℕ, true, Result};
+ghost use Rattle.std.specs.Prelude.{◌≡◌, ◌≢◌, ◌<◌, ◌≤◌, ◌↔◌, ◌+◌, List, ℕ, Bool, true, count_by, Result};
+ghost use Rattle.std.specs.List.{range_with_len};
 ghost use Rattle.nand_model.specs.Flash.{Flash, IsWithin, IsSized};
 ghost use Rattle.nand_model.specs.Calls.{Device, Marks};
 ghost use Rattle.nand_model.specs.Changes.{Grows, Shrinks, OnlyReads};
@@ -12,7 +13,7 @@ ghost use Rattle.flash_tree.specs.Newest.{Spot, spot_in, Holds, IsAfter, IsNewes
 ghost use Rattle.flash_tree.specs.Keeping.{StaysNewest, KeepsNewest, KeepsElsewhere};
 ghost use Rattle.flash_tree.specs.Places.{CountsByTag};
 ghost use Rattle.flash_tree.specs.Tree.{Shows, KeepsFootprint};
-ghost use Rattle.flash_tree.specs.Mount.{End, GoesThrough, sizes_of, IsVolume, HasRoom, Answer, Answers, IsTreeOf};
+ghost use Rattle.flash_tree.specs.Mount.{ListEnd, GoesThrough, sizes_of, IsVolume, IsFree, HasFree, HasRoom, Answer, Answers, IsTreeOf};
 ghost use Rattle.flash_tree.specs.Sound.{IsSound};
 ghost use Rattle.nand_model.specs.declared.geometry.Geometry.{Geometry};
 
@@ -120,6 +121,12 @@ pub fn a_sound_flash_answers_its_tree()
 
 /// Going through the objects of a list ends in one way.
 pub fn a_list_is_gone_through_in_one_way()
-    ensures { (z : Sizes) (flash : Flash) (list : List ℕ) (n : ℕ) (a b : End) → 32 ≤ z.page_bytes → z.page_bytes ≤ 4096
+    ensures { (z : Sizes) (flash : Flash) (list : List ℕ) (n : ℕ) (a b : ListEnd) → 32 ≤ z.page_bytes → z.page_bytes ≤ 4096
         → GoesThrough z (HasNewest flash) list n a → GoesThrough z (HasNewest flash) list n b → a ≡ b }
+{}
+
+/// So many blocks as a test picks, where it picks only free ones, are free.
+pub fn free_blocks_can_be_counted()
+    ensures { (g : Geometry) (flash : Flash) (z : Sizes) (objects : Objects) (f : ℕ → Bool) (count : ℕ)
+        → ((b : ℕ) → b < g.blocks → f b ≡ true → IsFree g flash z objects b) → count ≤ count_by f (range_with_len 0 g.blocks) → HasFree g flash z objects count }
 {}

@@ -9,9 +9,10 @@ pub use law::{
     a_flash_has_an_answer, a_flash_has_one_answer_at_most, a_flash_shows_one_tree,
     a_key_has_one_newest_page, a_list_is_gone_through_in_one_way, a_mark_keeps_what_lies_elsewhere,
     a_page_counts_by_its_own_tag, a_sound_flash_answers_its_tree, a_tag_lies_on_the_device,
-    an_erase_keeps_what_lies_elsewhere, one_more_group_is_newest, only_what_counts_is_newest,
-    places_are_in_order, reads_keep_what_is_newest, the_footprint_shows_the_tree,
-    the_greatest_numbers_are_one, the_same_groups_show_the_same, what_stays_newest_has_its_data,
+    an_erase_keeps_what_lies_elsewhere, free_blocks_can_be_counted, one_more_group_is_newest,
+    only_what_counts_is_newest, places_are_in_order, reads_keep_what_is_newest,
+    the_footprint_shows_the_tree, the_greatest_numbers_are_one, the_same_groups_show_the_same,
+    what_stays_newest_has_its_data,
 };
 pub use place::{Found, Key, TagNumbers};
 pub use tag::tag_at;

@@ -10,11 +10,12 @@ use Rattle.std.proofs.lemmas.List.{length-append}
 use Rattle.nand_model.specs.Flash.{Flash}
 use Rattle.page_tags.specs.Headers.{header_bytes}
 use Rattle.page_tags.specs.Slots.{Entry, IsSlot, slot_bytes}
-use Rattle.flash_tree.specs.ContentExists.{slot_pairs, slot_of_pair}
-use Rattle.flash_tree.specs.FindingLaws.{slice_get_there}
-use Rattle.flash_tree.specs.Pairs.{at_find}
+use Rattle.flash_tree.specs.Tree.{slot_pairs}
+use Rattle.flash_tree.specs.laws.Slot.{slot_of_pair}
+use Rattle.flash_tree.specs.laws.Finding.{slice_get_there}
+use Rattle.flash_tree.specs.laws.Pairs.{at_find}
 use Rattle.flash_tree.specs.Newest.{HasNewest}
-use Rattle.flash_tree.specs.NewestLaws.{one_newest}
+use Rattle.flash_tree.specs.laws.Newest.{one_newest}
 use Rattle.flash_tree.specs.Tree.{ReadsDir, SlotIs}
 use Rattle.volume_terms.specs.Sizes.{Sizes, page_slots}
 use Rattle.posix_profile.specs.State.{Name, Entries}

@@ -7,7 +7,7 @@ use Rattle.page_tags.specs.Headers.{Fields, IsHeader, IsHeaderOf, header_bytes}
 use Rattle.page_tags.specs.declared.header.ObjectKind.TheVariants as kinds
 use Rattle.page_tags.specs.Slots.{Entry, IsSlot, slot_bytes}
 use Rattle.flash_tree.specs.Newest.{HasNewest}
-use Rattle.flash_tree.specs.NewestLaws.{one_newest}
+use Rattle.flash_tree.specs.laws.Newest.{one_newest}
 use Rattle.flash_tree.specs.Tree.{ReadsDir, SlotIs}
 use Rattle.volume_terms.specs.Sizes.{Sizes, page_slots}
 use Rattle.posix_profile.specs.State.{Entries}

@@ -9,15 +9,17 @@ use Rattle.std.proofs.lemmas.List.{length-append}
 use Rattle.nand_model.specs.Flash.{Flash}
 use Rattle.page_tags.specs.Headers.{Fields}
 use Rattle.page_tags.specs.Slots.{Entry}
-use Rattle.flash_tree.specs.ContentExists.{slot_pairs, slot_of_pair}
-use Rattle.flash_tree.specs.FindingLaws.{IsPageSize, slice_get_there, same_header}
+use Rattle.flash_tree.specs.Tree.{slot_pairs}
+use Rattle.flash_tree.specs.laws.Slot.{slot_of_pair}
+use Rattle.flash_tree.specs.Tree.{IsPageSize}
+use Rattle.flash_tree.specs.laws.Finding.{slice_get_there, same_header}
 use Rattle.flash_tree.specs.Newest.{HasNewest}
-use Rattle.flash_tree.specs.NewestLaws.{one_newest}
-use Rattle.flash_tree.specs.OneTree.{one_slot, same_lists}
-use Rattle.flash_tree.specs.Pairs.{at_find}
-use Rattle.flash_tree.specs.ShownLaws.{found}
+use Rattle.flash_tree.specs.laws.Newest.{one_newest}
+use Rattle.flash_tree.specs.laws.OneTree.{one_slot, same_lists}
+use Rattle.flash_tree.specs.laws.Pairs.{at_find}
+use Rattle.flash_tree.specs.laws.Shown.{found}
 use Rattle.flash_tree.specs.Tree.{ReadsDir, SlotIs}
-use Rattle.flash_tree.specs.TreeLaws.{slice_get_within}
+use Rattle.flash_tree.specs.laws.Tree.{slice_get_within}
 use Rattle.volume_terms.specs.Sizes.{Sizes}
 use Rattle.volume_terms.specs.laws.List.{get_push}
 use Rattle.posix_profile.specs.State.{Name, Entries}

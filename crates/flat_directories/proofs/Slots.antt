@@ -7,11 +7,12 @@ use Rattle.nand_model.specs.Calls.{Device}
 use Rattle.nand_model.specs.Changes.{OnlyReads}
 use Rattle.nand_model.specs.Flash.{Flash}
 use Rattle.page_tags.specs.Slots.{Entry}
-use Rattle.flash_tree.specs.ContentExists.{slot_pairs, entry_slot}
-use Rattle.flash_tree.specs.FindingLaws.{slice_get_there}
+use Rattle.flash_tree.specs.Tree.{slot_pairs}
+use Rattle.flash_tree.specs.laws.Slot.{entry_slot}
+use Rattle.flash_tree.specs.laws.Finding.{slice_get_there}
 use Rattle.flash_tree.specs.Newest.{HasNewest}
-use Rattle.flash_tree.specs.PlaceLaws.{same_flash}
-use Rattle.flash_tree.specs.ShownLaws.{found}
+use Rattle.flash_tree.specs.laws.Place.{same_flash}
+use Rattle.flash_tree.specs.laws.Shown.{found}
 use Rattle.flash_tree.specs.Tree.{NewestMap, ReadsDir, SlotIs}
 use Rattle.volume_terms.specs.Sizes.{Sizes}
 use Rattle.posix_profile.specs.State.{Name, Entries}

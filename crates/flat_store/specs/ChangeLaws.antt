@@ -6,16 +6,16 @@ use Rattle.nand_model.specs.Flash.{Flash}
 use Rattle.nand_model.specs.Changes.{Grows}
 use Rattle.flash_tree.specs.Groups.{Group, SameGroups}
 use Rattle.flash_tree.specs.Newest.{HasNewest}
-use Rattle.flash_tree.specs.NewestLaws.{same_groups_keep, has_newest_stays}
-use Rattle.flash_tree.specs.FindingLaws.{slice_get_there}
-use Rattle.flash_tree.specs.TreeLaws.{slice_get_within}
+use Rattle.flash_tree.specs.laws.Newest.{same_groups_keep, has_newest_stays}
+use Rattle.flash_tree.specs.laws.Finding.{slice_get_there}
+use Rattle.flash_tree.specs.laws.Tree.{slice_get_within}
 use Rattle.flash_tree.specs.declared.place.Key.{Key}
 use Rattle.block_state.specs.Table.{Table, room}
 use Rattle.transactions.specs.Committing.{name_at, bytes_at, no_key}
 use Rattle.transactions.specs.Groups.{AddsPages}
 use Rattle.transactions.specs.Naming.{IsNamed, NamesOnce}
 use Rattle.transactions.specs.Newest.{ShowsGroup, spot_at}
-use Rattle.transactions.specs.NewestLaws.{commit_comes_last, added_shows}
+use Rattle.transactions.specs.laws.Newest.{commit_comes_last, added_shows}
 use Rattle.transactions.specs.Ready.{AreBelow}
 use Rattle.transactions.specs.declared.fresh.FreshPage.{FreshPage}
 use Rattle.flat_store.specs.Changes.{IsOf, AreApart, KeepsNewest, HasChange}

@@ -7,8 +7,8 @@ use Rattle.nand_model.specs.Changes.{OnlyReads}
 use Rattle.nand_model.specs.ChangeLaws.{shrinks-erase}
 use Rattle.nand_model.specs.declared.nand.EraseFault.{EraseFault}
 use Rattle.flash_tree.specs.Newest.{HasNewest}
-use Rattle.flash_tree.specs.NewestLaws.{erase_keeps_elsewhere, has_newest_stays}
-use Rattle.flash_tree.specs.PlaceLaws.{same_flash, no_tag}
+use Rattle.flash_tree.specs.laws.Newest.{erase_keeps_elsewhere, has_newest_stays}
+use Rattle.flash_tree.specs.laws.Place.{same_flash, no_tag}
 use Rattle.flat_store.specs.Changes.{KeepsNewest}
 use Rattle.flat_store.specs.Rooms.{IsErased}
 

@@ -11,9 +11,9 @@ use Rattle.nand_model.specs.Flash.{Flash}
 use Rattle.nand_model.specs.Calls.{Device}
 use Rattle.flash_tree.specs.Groups.{HasTag}
 use Rattle.flash_tree.specs.Newest.{Spot, Holds, IsAfter, IsNewest}
-use Rattle.flash_tree.specs.NewestExists.{one_tag}
-use Rattle.flash_tree.specs.NewestLaws.{one_is_after}
-use Rattle.flash_tree.specs.OrderLaws.{not_after_itself}
+use Rattle.flash_tree.specs.laws.Newest.{one_tag}
+use Rattle.flash_tree.specs.laws.Newest.{one_is_after}
+use Rattle.flash_tree.specs.laws.Order.{not_after_itself}
 use Rattle.flash_tree.specs.declared.place.Found.{Found}
 use Rattle.flash_tree.specs.Places.{spot_of}
 use Rattle.mount_scan.specs.Scanned.{IsKeyBefore, AreCounted, AreNewest, TellsCounted, TellsNewest}

@@ -6,7 +6,7 @@ use Rattle.nand_model.specs.Flash.{Flash, IsWithin}
 use Rattle.page_tags.specs.declared.tag.Tag.{Tag}
 use Rattle.flash_tree.specs.Groups.{HasTag}
 use Rattle.flash_tree.specs.Newest.{Numbers, AreGreatest}
-use Rattle.flash_tree.specs.PlaceLaws.{tag_placed}
+use Rattle.flash_tree.specs.laws.Place.{tag_placed}
 use Rattle.mount_scan.specs.Blocks.{AreTags, numbers_in, AreAtMost, AreRaisedBy, AreGreatestBelow}
 use Rattle.mount_scan.proofs.Tagged.{tag_told}
 

@@ -12,10 +12,10 @@ use Rattle.nand_model.specs.declared.geometry.Geometry.{Geometry}
 use Rattle.page_tags.specs.declared.tag.Tag.{Tag}
 use Rattle.flash_tree.specs.Groups.{HasTag, Group, IsPart, IsGroup}
 use Rattle.flash_tree.specs.Newest.{Holds}
-use Rattle.flash_tree.specs.NewestExists.{one_tag}
+use Rattle.flash_tree.specs.laws.Newest.{one_tag}
 use Rattle.flash_tree.specs.declared.place.Found.{Found}
 use Rattle.flash_tree.specs.Places.{spot_of, group_of, TagIs}
-use Rattle.flash_tree.specs.PlaceLaws.{same_flash, tag_placed, counts_by_tag}
+use Rattle.flash_tree.specs.laws.Place.{same_flash, tag_placed, counts_by_tag}
 use Rattle.mount_scan.specs.Scanned.{AreCounted, ArePlaced, IsPlaceBefore, TellsCounted}
 use Rattle.mount_scan.specs.ScanLaws.{found_of, listed_spot}
 use Rattle.mount_scan.specs.Runs.{IsPartOf, IsRun, IsCountedIn, AddsCounted}

@@ -7,9 +7,9 @@ use Rattle.flash_tree.specs.Newest.{Spot, Holds, IsAfter, IsNewest}
 use Rattle.flash_tree.specs.declared.place.Found.{Found}
 use Rattle.flash_tree.specs.Places.{spot_of}
 use Rattle.plain_search.specs.Searching.{IsBefore, IsBest, IsBetter}
-use Rattle.flash_tree.specs.PlaceLaws.{tag_placed}
-use Rattle.flash_tree.specs.NewestExists.{after_on}
-use Rattle.flash_tree.specs.OrderLaws.{not_after_itself}
+use Rattle.flash_tree.specs.laws.Place.{tag_placed}
+use Rattle.flash_tree.specs.laws.Order.{after_on}
+use Rattle.flash_tree.specs.laws.Order.{not_after_itself}
 use Rattle.plain_search.proofs.Held.{held_spot}
 use Rattle.plain_search.proofs.Passing.{one_more_page, one_more_block, before_block}
 

@@ -9,8 +9,8 @@ use Rattle.page_tags.specs.declared.tag.Tag.{Tag}
 use Rattle.flash_tree.specs.Groups.{HasTag, IsGroup}
 use Rattle.flash_tree.specs.Newest.{Spot, Holds}
 use Rattle.flash_tree.specs.Places.{group_of, CountsByTag}
-use Rattle.flash_tree.specs.NewestExists.{one_tag}
-use Rattle.flash_tree.specs.PlaceLaws.{counts_by_tag, same_flash}
+use Rattle.flash_tree.specs.laws.Newest.{one_tag}
+use Rattle.flash_tree.specs.laws.Place.{counts_by_tag, same_flash}
 
 -- a page with no tag holds nothing
 pub none_held : (f : Flash) (o c b p : ℕ) → ((t : Tag) → HasTag f b p t → ⊥) → (s : Spot) → s.block ≡ b → s.page ≡ p → Holds f o c s → ⊥

@@ -7,8 +7,8 @@ use Rattle.flash_tree.specs.Groups.{HasTag, IsPart}
 use Rattle.flash_tree.specs.Newest.{Spot}
 use Rattle.flash_tree.specs.Places.{group_of}
 use Rattle.plain_search.specs.Searching.{IsPartTag}
-use Rattle.flash_tree.specs.NewestExists.{one_tag}
-use Rattle.flash_tree.specs.PlaceLaws.{no_tag}
+use Rattle.flash_tree.specs.laws.Newest.{one_tag}
+use Rattle.flash_tree.specs.laws.Place.{no_tag}
 
 -- where a page has a tag, that decides whether it is part i
 pub part_by_tag : (f : Flash) (s : Spot) (i : ℕ) (t : Tag) → HasTag f s.block (s.page - s.tag.index + i) t → IsPartTag t s.tag i ↔ IsPart f (group_of s) i

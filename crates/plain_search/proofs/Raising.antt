@@ -7,8 +7,8 @@ use Rattle.page_tags.specs.declared.tag.Tag.{Tag}
 use Rattle.flash_tree.specs.Groups.{HasTag}
 use Rattle.flash_tree.specs.Newest.{Numbers, AreGreatest}
 use Rattle.plain_search.specs.Searching.{IsBefore, AreRaised, AreGreatestBefore}
-use Rattle.flash_tree.specs.NewestExists.{one_tag}
-use Rattle.flash_tree.specs.PlaceLaws.{tag_placed}
+use Rattle.flash_tree.specs.laws.Newest.{one_tag}
+use Rattle.flash_tree.specs.laws.Place.{tag_placed}
 use Rattle.plain_search.proofs.Passing.{one_more_page, one_more_block, before_block, before_next_page, before_next_block}
 
 module _ (f : Flash) where

@@ -9,8 +9,8 @@ use Rattle.nand_model.specs.Flash.{Flash}
 use Rattle.nand_model.specs.declared.geometry.Geometry.{Geometry}
 use Rattle.flash_tree.specs.Mount.{sizes_of}
 use Rattle.flash_tree.specs.Newest.{Numbers, AreAbove}
-use Rattle.flash_tree.specs.PlaceLaws.{same_flash}
-use Rattle.flash_tree.specs.TreeLaws.{footprint_law}
+use Rattle.flash_tree.specs.laws.Place.{same_flash}
+use Rattle.flash_tree.specs.laws.Tree.{footprint_law}
 use Rattle.posix_profile.specs.Charge.{fits}
 use Rattle.posix_profile.specs.Outcomes.{Outcome, refuse, answer}
 use Rattle.posix_profile.specs.Runs.{takes_no_memory}

@@ -16,12 +16,13 @@ use Rattle.volume_terms.specs.Sizes.{Sizes, IsSizes, root_number}
 use Rattle.volume_terms.specs.laws.List.{get_push, push_before, push_last}
 use Rattle.posix_profile.specs.State.{Name, Entries, Object, Dir, Objects}
 use Rattle.volume_terms.specs.Names.{IsName}
-use Rattle.flash_tree.specs.FindingLaws.{IsPageSize, same_header}
+use Rattle.flash_tree.specs.Tree.{IsPageSize}
+use Rattle.flash_tree.specs.laws.Finding.{same_header}
 use Rattle.flash_tree.specs.Mount.{sizes_of, IsVolume}
 use Rattle.flash_tree.specs.Newest.{HasNewest}
-use Rattle.flash_tree.specs.NewestLaws.{one_newest}
-use Rattle.flash_tree.specs.PlaceLaws.{same_flash}
-use Rattle.flash_tree.specs.Tree.{Reads, ReadsDir, Shows}
+use Rattle.flash_tree.specs.laws.Newest.{one_newest}
+use Rattle.flash_tree.specs.laws.Place.{same_flash}
+use Rattle.flash_tree.specs.Tree.{ReadsAs, ReadsDir, Shows}
 use Rattle.flat_profile.specs.MkdirLaws.{IsMade, mkdir_flat, mkdir_fits}
 use Rattle.transactions.specs.declared.fresh.FreshPage.{FreshPage}
 use Rattle.flat_store.specs.Changes.{IsOf, AreApart, CanApply, HasChange}
@@ -188,26 +189,26 @@ module _ (g : Geometry) (sizes : (spare : ℕ) → spare + 4 ≤ g.blocks → Is
     root_now : (r : ReadsDir z (HasNewest new) root_number moment (map.insert v.entries name n)) × (r.fields.spare ≡ (root_reads g old spare objects v).fields.spare)
     root_now = adds new (two_there g root_number n apart two are page _ is old new has) (others_of_two g root_number n apart two are page _ is old new has)
 
-    each_other : (o : ℕ) (x : Object) → o ≢ root_number → o ≢ n → map.get new_objects o ≡ Some x → Reads z (HasNewest new) o x
+    each_other : (o : ℕ) (x : Object) → o ≢ root_number → o ≢ n → map.get new_objects o ≡ Some x → ReadsAs z (HasNewest new) o x
     each_other o x ne other there =
         let was : map.get objects o ≡ Some x = sym (made.stays o ne other) ∙ there in
         let empty = v.flat.others o x ne was in
-        let before : ReadsDir z (HasNewest old) o empty.0 map.empty = subst (Reads z (HasNewest old) o) empty.1 (v.shows.each o x was) in
-        subst (Reads z (HasNewest new) o) (sym empty.1)
+        let before : ReadsDir z (HasNewest old) o empty.0 map.empty = subst (ReadsAs z (HasNewest old) o) empty.1 (v.shows.each o x was) in
+        subst (ReadsAs z (HasNewest new) o) (sym empty.1)
         (dir_stays z old new o empty.0 map.empty (others_stay g root_number n apart two are page _ is old new has o ne other) before)
 
-    each : (o : ℕ) (x : Object) → map.get new_objects o ≡ Some x → Reads z (HasNewest new) o x
+    each : (o : ℕ) (x : Object) → map.get new_objects o ≡ Some x → ReadsAs z (HasNewest new) o x
     each o x there = elim (cases_eq o root_number) [
       | inl top ↦
           let two' : Some (Dir moment (map.insert v.entries name n)) ≡ Some x = sym made.flat.root ∙ ap (map.get new_objects) (sym top) ∙ there in
           let same : Dir moment (map.insert v.entries name n) ≡ x = cc in
-          subst (λ k. Reads z (HasNewest new) k x) (sym top) (subst (Reads z (HasNewest new) root_number) same root_now.0)
+          subst (λ k. ReadsAs z (HasNewest new) k x) (sym top) (subst (ReadsAs z (HasNewest new) root_number) same root_now.0)
       | inr ne ↦ elim (cases_eq o n) [
         | inl here ↦
             let two' : Some (Dir moment map.empty) ≡ Some x = sym made.made ∙ ap (map.get new_objects) (sym here) ∙ there in
             let same : Dir moment map.empty ≡ x = cc in
             let empty = (empty_reads z new n _ page is refl (last_there g root_number n apart two are page _ is old new has)).0 in
-            subst (λ k. Reads z (HasNewest new) k x) (sym here) (subst (Reads z (HasNewest new) n) same empty)
+            subst (λ k. ReadsAs z (HasNewest new) k x) (sym here) (subst (ReadsAs z (HasNewest new) n) same empty)
         | inr other ↦ each_other o x ne other there
       ]
     ]

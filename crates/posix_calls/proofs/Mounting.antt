@@ -8,7 +8,7 @@ use Rattle.nand_model.specs.Flash.{Flash}
 use Rattle.nand_model.specs.declared.geometry.Geometry.{Geometry}
 use Rattle.flash_tree.specs.Mount.{bad_blocks}
 use Rattle.flash_tree.specs.Newest.{Numbers}
-use Rattle.flash_tree.specs.PlaceLaws.{same_flash}
+use Rattle.flash_tree.specs.laws.Place.{same_flash}
 
 -- a volume's store is only read where a number is used up, and the volume also where too many blocks are bad
 module _ (writable read_only : Bool) (spare bad : ℕ) (told : IsTrue read_only ↔ ((writable ≡ false) ⊎ (spare < bad))) where

@@ -18,7 +18,7 @@ use Rattle.nand_model.specs.declared.geometry.Geometry.{Geometry}
 use Rattle.posix_profile.specs.laws.Map.{Member, above_differs, member_get, value_key, true_of, of_true}
 use Rattle.posix_profile.specs.State.{Name, Objects, Dir}
 use Rattle.flash_tree.specs.Mount.{sizes_of}
-use Rattle.flash_tree.specs.TreeLaws.{slice_get_within}
+use Rattle.flash_tree.specs.laws.Tree.{slice_get_within}
 use Rattle.flat_profile.specs.FlatLaws.{entry_leads, flat_entries}
 use Rattle.volume_format.specs.Volumes.{IsFlatVolume}
 use Rattle.posix_calls.specs.Checks.{StandsTwice, IsEmptyThere}

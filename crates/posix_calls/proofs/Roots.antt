@@ -11,12 +11,12 @@ use Rattle.page_tags.specs.Headers.{Fields, IsHeader, IsFirstFault, header_bytes
 use Rattle.page_tags.specs.Slots.{Entry}
 use Rattle.page_tags.specs.declared.header.HeaderFault.TheVariants as headers
 use Rattle.volume_terms.specs.Sizes.{Sizes, root_number}
-use Rattle.flash_tree.specs.ContentExists.{slot_pairs}
-use Rattle.flash_tree.specs.FindingLaws.{same_header, header_no_fault}
+use Rattle.flash_tree.specs.Tree.{slot_pairs}
+use Rattle.flash_tree.specs.laws.Finding.{same_header, header_no_fault}
 use Rattle.flash_tree.specs.Mount.{sizes_of, IsVolume}
 use Rattle.flash_tree.specs.Newest.{HasNewest}
-use Rattle.flash_tree.specs.NewestLaws.{one_newest}
-use Rattle.flash_tree.specs.ShownLaws.{found}
+use Rattle.flash_tree.specs.laws.Newest.{one_newest}
+use Rattle.flash_tree.specs.laws.Shown.{found}
 use Rattle.flash_tree.specs.Tree.{HasHeader, ReadsDir}
 use Rattle.flat_directories.specs.Heads.{TellsHead, IsGoneFault, MayLack}
 use Rattle.flat_directories.specs.declared.fault.DirectoryFault.{DirectoryFault}

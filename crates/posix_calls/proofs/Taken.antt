@@ -21,10 +21,10 @@ use Rattle.volume_terms.specs.Sizes.{Sizes, root_number}
 use Rattle.posix_profile.specs.State.{Name, Entries, Dir, Objects}
 use Rattle.posix_profile.specs.WellFormed.{IsTree}
 use Rattle.volume_terms.specs.Names.{IsName}
-use Rattle.flash_tree.specs.ContentExists.{entry_slot}
+use Rattle.flash_tree.specs.laws.Slot.{entry_slot}
 use Rattle.flash_tree.specs.Mount.{sizes_of, IsVolume}
 use Rattle.flash_tree.specs.Newest.{HasNewest}
-use Rattle.flash_tree.specs.Tree.{Reads, ReadsDir}
+use Rattle.flash_tree.specs.Tree.{ReadsAs, ReadsDir}
 use Rattle.flat_profile.specs.BuildLaws.{flat_build}
 use Rattle.flat_profile.specs.Flat.{IsFlat, AreFlatEntries}
 use Rattle.flat_profile.specs.FlatLaws.{object_named}
@@ -153,12 +153,12 @@ module _ (g : Geometry) (flash : Flash) (spare : ℕ) (volume : IsVolume g (HasN
               | inl top ↦
                   let two : Some (Dir moment names) ≡ Some x = sym built.2.root ∙ ap (map.get built.0) (sym top) ∙ is in
                   let same : Dir moment names ≡ x = cc in
-                  subst (λ n. Reads z (HasNewest flash) n x) (sym top) (subst (Reads z (HasNewest flash) root_number) same r)
+                  subst (λ n. ReadsAs z (HasNewest flash) n x) (sym top) (subst (ReadsAs z (HasNewest flash) root_number) same r)
               | inr ne ↦
                   let named = object_named z built.0 moment names built.1 built.2 o x ne is in
                   let two : Some (Dir (moment_at o) map.empty) ≡ Some x = sym (built.3 named.0 o named.1) ∙ is in
                   let same : Dir (moment_at o) map.empty ≡ x = cc in
-                  subst (Reads z (HasNewest flash) o) same (reads_at named.0 o named.1)
+                  subst (ReadsAs z (HasNewest flash) o) same (reads_at named.0 o named.1)
             ];
           };
           moment = moment;

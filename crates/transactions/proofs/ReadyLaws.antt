@@ -8,20 +8,20 @@ use Rattle.nand_model.specs.declared.geometry.Geometry.{Geometry}
 use Rattle.block_state.specs.declared.blocks.BlockEntry.{BlockEntry}
 use Rattle.block_state.specs.Table.{Table, room}
 use Rattle.transactions.specs.declared.source.PageName.{PageName}
-use Rattle.transactions.specs.declared.place.Place.{Place}
+use Rattle.transactions.specs.declared.place.GroupPlace.{GroupPlace}
 use Rattle.transactions.specs.declared.group.GroupFault.{GroupFault}
 use Rattle.transactions.specs.declared.group.GroupFault.TheVariants as faults
-use Rattle.transactions.specs.Ready.{IsOpen, IsReady, IsPlaceIn, AreBelow}
-use Rattle.transactions.specs.Written.{WritesAll, LastNext, TableAfter, MayWrite, group_of, stays_open}
-use Rattle.transactions.specs.Groups.{next_group, AddsPages, GroupsAfter, OkTable, Fills, Stays}
+use Rattle.transactions.specs.Ready.{IsOpenOn, IsReady, IsPlaceIn, AreBelow}
+use Rattle.transactions.specs.Written.{WritesAll, LastNext, TableAfter, MayWrite, group_at, stays_open}
+use Rattle.transactions.specs.Groups.{next_group, AddsPages, GroupsAfter, OkTable, TakesPages, Stays}
 use Rattle.transactions.proofs.GroupLaws.{IsFresh, is_added, is_not_added, wrote_grows, below_after}
 
 -- the table with the group number handed out
 abbrev pub numbered : Table → Table
 numbered t = record t { next_group = t.next_group + 1 }
 
-module _ (old : Device) (t : Table) (count : ℕ) (place : Place) (ready : IsReady old t) (at : IsPlaceIn t count place) where
-  open_now : IsOpen old t place.block
+module _ (old : Device) (t : Table) (count : ℕ) (place : GroupPlace) (ready : IsReady old t) (at : IsPlaceIn t count place) where
+  open_now : IsOpenOn old t place.block
   open_now = ready.open_block place.block at.block
 
   -- the device may write the first page
@@ -37,7 +37,7 @@ module _ (old : Device) (t : Table) (count : ℕ) (place : Place) (ready : IsRea
       }
 
   -- the place is that of the next group
-  pub group_is : (o : ℕ) → t.open_block ≡ Some o → group_of place ≡ next_group t count o
+  pub group_is : (o : ℕ) → t.open_block ≡ Some o → group_at place ≡ next_group t count o
   group_is o is =
       let both : Some place.block ≡ Some o = sym at.block ∙ is in
       let block : place.block ≡ o = cc in
@@ -47,7 +47,7 @@ module _ (old : Device) (t : Table) (count : ℕ) (place : Place) (ready : IsRea
       let number : place.group ≡ t.next_group = at.group in
       λ i. record { block = block i; start = first i; size = size i; number = number i; seq = seq i }
 
-  module _ (new : Device) (name : ℕ → PageName) (bytes : ℕ → List ℕ) (result : Result Bool GroupFault) (all : WritesAll old new (group_of place) name bytes result)
+  module _ (new : Device) (name : ℕ → PageName) (bytes : ℕ → List ℕ) (result : Result Bool GroupFault) (all : WritesAll old new (group_at place) name bytes result)
       (some : 1 ≤ place.count) (erased : old.honest ≡ true → (l : ℕ) → place.first ≤ l → old.flash.page place.block l ≡ Erased) where
     fresh : old.honest ≡ true → IsFresh old.flash place.block place.group
     fresh h p u has is = let below = ready.below h place.block p u open_now.good has in absurd (omega (arith, below, is, at.group))
@@ -56,14 +56,14 @@ module _ (old : Device) (t : Table) (count : ℕ) (place : Place) (ready : IsRea
     inside_erased h i lt = erased h (place.first + i) (omega arith)
 
     pub group_grows : old.honest ≡ true → Grows old.flash new.flash
-    group_grows h = wrote_grows (group_of place) name bytes old.flash new.flash (all.wrote h) (inside_erased h) (fresh h)
+    group_grows h = wrote_grows (group_at place) name bytes old.flash new.flash (all.wrote h) (inside_erased h) (fresh h)
 
     numbers_below : new.honest ≡ true → AreBelow new.flash (t.next_group + 1) t.next_seq
     numbers_below honest =
         let h : old.honest ≡ true = sym all.lasts.honest ∙ honest in
         let lt : place.seq < t.next_seq = omega (arith, at.seq, open_now.seq) in
         subst (λ n. AreBelow new.flash (n + 1) t.next_seq) at.group
-        (below_after (group_of place) name bytes old.flash new.flash (all.wrote h) (inside_erased h) (fresh h) t.next_seq lt
+        (below_after (group_at place) name bytes old.flash new.flash (all.wrote h) (inside_erased h) (fresh h) t.next_seq lt
         (subst (λ n. AreBelow old.flash n t.next_seq) (sym at.group) (ready.below h)))
 
     -- the table is ready again, whichever way it ended
@@ -99,7 +99,7 @@ module _ (old : Device) (t : Table) (count : ℕ) (place : Place) (ready : IsRea
             open_block = λ o is.
                 let both : Some place.block ≡ Some o = sym at.block ∙ sym still ∙ is in
                 let same : place.block ≡ o = cc in
-                subst (IsOpen new t') same (record {
+                subst (IsOpenOn new t') same (record {
                   within = subst (λ (g : Geometry). place.block < g.blocks) (sym all.lasts.geometry) open_now.within;
                   good = ap (λ f. f place.block) all.bad ∙ open_now.good;
                   next = next_here _ next ∙ ap (λ (x : BlockEntry). Some x.next) (sym sets.here);
@@ -126,30 +126,30 @@ module _ (old : Device) (t : Table) (count : ℕ) (place : Place) (ready : IsRea
     good = open_now.good
 
   -- the group counts after Ok
-  pub groups_ok : (new : Device) (name : ℕ → PageName) (bytes : ℕ → List ℕ) (suspect : Bool) → WritesAll old new (group_of place) name bytes (Ok suspect) → 1 ≤ place.count
+  pub groups_ok : (new : Device) (name : ℕ → PageName) (bytes : ℕ → List ℕ) (suspect : Bool) → WritesAll old new (group_at place) name bytes (Ok suspect) → 1 ≤ place.count
       → (old.honest ≡ true → (l : ℕ) → place.first ≤ l → old.flash.page place.block l ≡ Erased) → old.honest ≡ true
-      → AddsPages (group_of place) name bytes old.flash new.flash
+      → AddsPages (group_at place) name bytes old.flash new.flash
   groups_ok new name bytes suspect all some erased h = record {
-    group = is_added (group_of place) name bytes old.flash new.flash (all.wrote h) (inside_erased new name bytes (Ok suspect) all some erased h) (fresh new name bytes (Ok suspect) all some erased h) open_now.good some (all.all h);
+    group = is_added (group_at place) name bytes old.flash new.flash (all.wrote h) (inside_erased new name bytes (Ok suspect) all some erased h) (fresh new name bytes (Ok suspect) all some erased h) open_now.good some (all.all h);
     pages = all.all h;
   }
 
   -- and not after a failure
-  pub groups_err : (new : Device) (name : ℕ → PageName) (bytes : ℕ → List ℕ) (fault : GroupFault) → WritesAll old new (group_of place) name bytes (Err fault) → 1 ≤ place.count
+  pub groups_err : (new : Device) (name : ℕ → PageName) (bytes : ℕ → List ℕ) (fault : GroupFault) → WritesAll old new (group_at place) name bytes (Err fault) → 1 ≤ place.count
       → (old.honest ≡ true → (l : ℕ) → place.first ≤ l → old.flash.page place.block l ≡ Erased) → old.honest ≡ true
-      → GroupsAfter (group_of place) name bytes old.flash new.flash (Err fault)
+      → GroupsAfter (group_at place) name bytes old.flash new.flash (Err fault)
   groups_err new name bytes faults.NoRoom all some erased h = absurd all.ends
   groups_err new name bytes faults.Failed all some erased h =
       let lacks = all.all h in
-      is_not_added (group_of place) name bytes old.flash new.flash (all.wrote h) (inside_erased new name bytes _ all some erased h) (fresh new name bytes _ all some erased h) lacks.0 lacks.1 lacks.2
+      is_not_added (group_at place) name bytes old.flash new.flash (all.wrote h) (inside_erased new name bytes _ all some erased h) (fresh new name bytes _ all some erased h) lacks.0 lacks.1 lacks.2
   groups_err new name bytes faults.Lost all some erased h = let lies : true ≡ false = sym h ∙ all.ends in absurd cc
   groups_err new name bytes faults.Gone all some erased h = elim (all.all h) [
-    | inl there ↦ inr (record { group = is_added (group_of place) name bytes old.flash new.flash (all.wrote h) (inside_erased new name bytes _ all some erased h) (fresh new name bytes _ all some erased h) open_now.good some there; pages = there })
-    | inr lacks ↦ inl (is_not_added (group_of place) name bytes old.flash new.flash (all.wrote h) (inside_erased new name bytes _ all some erased h) (fresh new name bytes _ all some erased h) lacks.0 lacks.1 lacks.2)
+    | inl there ↦ inr (record { group = is_added (group_at place) name bytes old.flash new.flash (all.wrote h) (inside_erased new name bytes _ all some erased h) (fresh new name bytes _ all some erased h) open_now.good some there; pages = there })
+    | inr lacks ↦ inl (is_not_added (group_at place) name bytes old.flash new.flash (all.wrote h) (inside_erased new name bytes _ all some erased h) (fresh new name bytes _ all some erased h) lacks.0 lacks.1 lacks.2)
   ]
 
 -- The open block has its pages less, and the number is used.
-pub table_filled : (t t' : Table) (count : ℕ) (place : Place) → IsPlaceIn t count place → TableAfter place.block place.count true (numbered t) t' → Fills count t t'
+pub table_filled : (t t' : Table) (count : ℕ) (place : GroupPlace) → IsPlaceIn t count place → TableAfter place.block place.count true (numbered t) t' → TakesPages count t t'
 table_filled t t' count place at (sets, still, seq) = record {
   here = λ o is.
       let both : Some place.block ≡ Some o = sym at.block ∙ is in
@@ -164,10 +164,10 @@ table_filled t t' count place at (sets, still, seq) = record {
 }
 
 -- what becomes of the table after Ok
-pub ok_table : (t t' : Table) (count : ℕ) (place : Place) (suspect : Bool) → IsPlaceIn t count place → TableAfter place.block place.count (stays_open (Ok suspect)) (numbered t) t' → OkTable suspect count t t'
+pub ok_table : (t t' : Table) (count : ℕ) (place : GroupPlace) (suspect : Bool) → IsPlaceIn t count place → TableAfter place.block place.count (stays_open (Ok suspect)) (numbered t) t' → OkTable suspect count t t'
 ok_table t t' count place true at after = after
 ok_table t t' count place false at after = table_filled t t' count place at after
 
 -- the room is that of before the number was handed out
-pub room_left : (t mid : Table) (count : ℕ) (place : Place) → IsPlaceIn t count place → mid ≡ numbered t → count ≤ room t → place.count ≤ room mid
+pub room_left : (t mid : Table) (count : ℕ) (place : GroupPlace) → IsPlaceIn t count place → mid ≡ numbered t → count ≤ room t → place.count ≤ room mid
 room_left t mid count place at is le = subst (λ (x : Table). place.count ≤ room x) (sym is) (omega (arith, at.count_is, le))

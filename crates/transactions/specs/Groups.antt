@@ -15,7 +15,7 @@ abbrev pub next_group : Table → ℕ → ℕ → Group
 next_group t count o = record { block = o; start = (t.entry o).next; size = count; number = t.next_group; seq = (t.entry o).seq }
 
 -- where the group stands
-pub record IsPlaced (g : Group) (placed : Placed) : Type 0 where
+pub record TellsGroup (g : Group) (placed : Placed) : Type 0 where
   pub block : placed.block ≡ g.block
   pub first : placed.first ≡ g.start
   pub count : placed.count ≡ g.size
@@ -45,7 +45,7 @@ GroupEnds old new count (Err faults.Lost) = (old.honest ≡ false) × (new.chang
 GroupEnds old new count (Err faults.Gone) = (new.gone ≡ true) × (new.changes ≤ old.changes + count)
 
 -- the pages are taken from the open block, and the group number is used
-pub record Fills (count : ℕ) (old new : Table) : Type 0 where
+pub record TakesPages (count : ℕ) (old new : Table) : Type 0 where
   pub here : (o : ℕ) → old.open_block ≡ Some o → new.entry o ≡ record (old.entry o) { next = (old.entry o).next + count }
   pub others : (k : ℕ) → old.open_block ≢ Some k → new.entry k ≡ old.entry k
   pub geometry : new.geometry ≡ old.geometry
@@ -60,7 +60,7 @@ closed t = record t { next_group = t.next_group + 1; open_block = None }
 -- what becomes of the table after Ok: a suspect group closes its block
 abbrev pub OkTable : Bool → ℕ → Table → Table → Type 0
 OkTable true count old new = new ≡ closed old
-OkTable false count old new = Fills count old new
+OkTable false count old new = TakesPages count old new
 
 -- what becomes of the table: after Ok the open block has pages less, but a suspect one takes no more, and so after a fault
 abbrev pub TableEnds : ℕ → Table → Table → Result Placed GroupFault → Type 0

@@ -7,10 +7,8 @@ pub mod Written
 pub mod Groups
 pub mod Naming
 pub mod Newest
-pub mod NewestLaws
 pub mod Opening
 pub mod Handing
-pub mod HandingLaws
 pub mod Marking
-pub mod ReadyLaws
 pub mod CopyingOne
+pub mod laws

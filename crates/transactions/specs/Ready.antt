@@ -5,11 +5,11 @@ use Rattle.nand_model.specs.Calls.{Device}
 use Rattle.page_tags.specs.declared.tag.Tag.{Tag}
 use Rattle.flash_tree.specs.Groups.{HasTag}
 use Rattle.block_state.specs.Table.{Table}
-use Rattle.transactions.specs.declared.place.Place.{Place}
+use Rattle.transactions.specs.declared.place.GroupPlace.{GroupPlace}
 
 -- The open block can be written: it is good, its next page is the device's, so that all pages from there on are erased,
 -- and its number was handed out.
-pub record IsOpen (device : Device) (t : Table) (o : ℕ) : Type 0 where
+pub record IsOpenOn (device : Device) (t : Table) (o : ℕ) : Type 0 where
   pub within : o < device.geometry.blocks
   pub good : device.flash.bad o ≡ false
   pub next : device.flash.next o ≡ Some (t.entry o).next
@@ -25,12 +25,12 @@ AreBelow flash group seq = (b p : ℕ) (t : Tag) → flash.bad b ≡ false → H
 pub record IsReady (device : Device) (t : Table) : Type 0 where
   pub geometry : t.geometry ≡ device.geometry
   pub marks : (b : ℕ) → (t.entry b).bad ≡ device.flash.bad b
-  pub open_block : (o : ℕ) → t.open_block ≡ Some o → IsOpen device t o
+  pub open_block : (o : ℕ) → t.open_block ≡ Some o → IsOpenOn device t o
   pub numbers : (1 ≤ t.next_group) × (1 ≤ t.next_seq)
   pub below : device.honest ≡ true → AreBelow device.flash t.next_group t.next_seq
 
 -- The place of the next group of so many pages: the next pages of the open block, with the next number.
-pub record IsPlaceIn (t : Table) (count : ℕ) (place : Place) : Type 0 where
+pub record IsPlaceIn (t : Table) (count : ℕ) (place : GroupPlace) : Type 0 where
   pub block : t.open_block ≡ Some place.block
   pub first : place.first ≡ (t.entry place.block).next
   pub count_is : place.count ≡ count

@@ -7,13 +7,13 @@ use Rattle.page_tags.specs.Tags.{tag_bytes, IsTag}
 use Rattle.flash_tree.specs.Groups.{Group, AllThere}
 use Rattle.block_state.specs.Table.{Table, Sets}
 use Rattle.transactions.specs.declared.source.PageName.{PageName}
-use Rattle.transactions.specs.declared.place.Place.{Place}
+use Rattle.transactions.specs.declared.place.GroupPlace.{GroupPlace}
 use Rattle.transactions.specs.declared.group.GroupFault.{GroupFault}
 use Rattle.transactions.specs.declared.group.GroupFault.TheVariants as faults
 
 -- the group of this place
-abbrev pub group_of : Place → Group
-group_of place = record { block = place.block; start = place.first; size = place.count; number = place.group; seq = place.seq }
+abbrev pub group_at : GroupPlace → Group
+group_at place = record { block = place.block; start = place.first; size = place.count; number = place.group; seq = place.seq }
 
 -- the tag of page i of a group whose pages have these names
 abbrev pub tag_in : Group → (ℕ → PageName) → ℕ → Tag
@@ -32,7 +32,7 @@ abbrev pub IsNothing : Page → Type 0
 IsNothing page = (page ≡ Erased) ⊎ (page ≡ Uncorrectable)
 
 -- a device may write page i of the group: the block is good, the page is its next, and the group fits the block
-pub record MayWrite (device : Device) (place : Place) (i : ℕ) : Type 0 where
+pub record MayWrite (device : Device) (place : GroupPlace) (i : ℕ) : Type 0 where
   pub block : place.block < device.geometry.blocks
   pub good : device.flash.bad place.block ≡ false
   pub pages : place.first + place.count ≤ device.geometry.pages

@@ -6,7 +6,7 @@ ghost use Rattle.block_state.specs.Table.{room};
 ghost use Rattle.block_state.specs.TableOf.{table};
 ghost use Rattle.transactions.specs.Ready.{IsReady};
 ghost use Rattle.transactions.specs.Handing.{HandsOut};
-ghost use Rattle.transactions.specs.Groups.{next_group, IsPlaced, GroupsAfter, GroupEnds, TableEnds, Stays};
+ghost use Rattle.transactions.specs.Groups.{next_group, TellsGroup, GroupsAfter, GroupEnds, TableEnds, Stays};
 
 use crate::page::write_pages;
 use crate::place::{note_end, take_place};
@@ -57,7 +57,7 @@ pub fn write_group<N: Nand, S: PageSource>(
     ensures ends { GroupEnds (N.state device.old) (N.state device.new) (S.count source.now) result }
     ensures table { TableEnds (S.count source.now) (table blocks.old) (table blocks.new) result }
     ensures placed { (o : ℕ) → (table blocks.old).open_block ≡ Some o
-        → IfOk result (λ placed. IsPlaced (next_group (table blocks.old) (S.count source.now) o) placed) }
+        → IfOk result (λ placed. TellsGroup (next_group (table blocks.old) (S.count source.now) o) placed) }
     // Wherever it ends, the group counts whole or not at all, and no other group changes.
     ensures groups { (N.state device.old).honest ≡ true → (o : ℕ) → (table blocks.old).open_block ≡ Some o
         → GroupsAfter (next_group (table blocks.old) (S.count source.now) o) (S.name source.now (table blocks.old).next_group)

@@ -5,11 +5,13 @@ ghost use Rattle.nand_model.specs.Calls.{Device, Lasts, Marks};
 ghost use Rattle.nand_model.specs.Changes.{Grows, Shrinks};
 ghost use Rattle.nand_model.specs.declared.nand.Gone.{Gone};
 ghost use Rattle.flash_tree.specs.Groups.{Group};
+ghost use Rattle.flash_tree.specs.Mount.{bad_blocks};
+ghost use Rattle.block_state.specs.Kept.{bad_count};
 ghost use Rattle.block_state.specs.Table.{Table};
 ghost use Rattle.transactions.specs.Groups.{GroupsAfter};
 ghost use Rattle.transactions.specs.Handing.{HandsOut};
 ghost use Rattle.transactions.specs.Newest.{ComesLast, IsCommit, IsOfCopies, NewestAfter};
-ghost use Rattle.transactions.specs.Ready.{AreBelow};
+ghost use Rattle.transactions.specs.Ready.{AreBelow, IsReady};
 ghost use Rattle.transactions.specs.declared.group.Placed.{Placed};
 ghost use Rattle.transactions.specs.declared.group.GroupFault.{GroupFault};
 ghost use Rattle.transactions.specs.declared.source.PageName.{PageName};
@@ -39,4 +41,9 @@ pub fn erases_and_marks_bring_no_number()
 pub fn numbers_of_calls_in_turn_add_up()
     ensures on { (a b c : Device) (t u v : Table) → Lasts a b → Lasts b c → HandsOut a b t u → HandsOut b c u v → HandsOut a c t v }
     ensures none { (a : Device) (t : Table) → HandsOut a a t t }
+{}
+
+/// A table that is ready has as many bad blocks as the flash.
+pub fn the_table_has_the_marks_of_the_flash()
+    ensures { (d : Device) (t : Table) → IsReady d t → bad_count t ≡ bad_blocks d.geometry d.flash }
 {}

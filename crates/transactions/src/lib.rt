@@ -17,7 +17,7 @@ pub use fresh::{Fresh, FreshPage};
 pub use group::{GroupFault, Placed, write_group};
 pub use law::{
     a_group_comes_last, a_group_is_newest_of_its_keys, erases_and_marks_bring_no_number,
-    numbers_of_calls_in_turn_add_up,
+    numbers_of_calls_in_turn_add_up, the_table_has_the_marks_of_the_flash,
 };
 pub use mark::mark_block;
 pub use open::erase_and_open;

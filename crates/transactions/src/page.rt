@@ -4,17 +4,17 @@ ghost use Rattle.nand_model.specs.Flash.{Written};
 ghost use Rattle.nand_model.specs.Changes.{OnlyReads};
 ghost use Rattle.page_tags.specs.Tags.{IsTag};
 ghost use Rattle.transactions.specs.Sources.{IsName};
-ghost use Rattle.transactions.specs.Written.{group_of, tag_in, WritesOne, WritesLast, FirstEnds, WritesAll, MayWrite, IsWrittenPage};
+ghost use Rattle.transactions.specs.Written.{group_at, tag_in, WritesOne, WritesLast, FirstEnds, WritesAll, MayWrite, IsWrittenPage};
 
 use crate::group::GroupFault;
-use crate::place::Place;
+use crate::place::GroupPlace;
 use crate::source::{PageName, PageSource, SourceFault};
 use nand_model::{Gone, Nand, PageKind, ProgramFault};
 use page_tags::Tag;
 
 /// The tag of page `i` of the group.
-fn tag_of(place: &Place, name: PageName, i: u32) -> Tag
-    ensures { result ≡ tag_in (group_of place.now) (λ k. name) i }
+fn tag_of(place: &GroupPlace, name: PageName, i: u32) -> Tag
+    ensures { result ≡ tag_in (group_at place.now) (λ k. name) i }
 {
     Tag {
         index: i,
@@ -33,7 +33,7 @@ fn write_page<N: Nand, S: PageSource>(
     device: &mut N,
     source: &S,
     scratch: &mut [u8],
-    place: &Place,
+    place: &GroupPlace,
     i: u32,
 ) -> Result<(), GroupFault>
     requires at { i < place.now.count }
@@ -43,7 +43,7 @@ fn write_page<N: Nand, S: PageSource>(
     requires has { (N.state device.old).honest ≡ true → S.has source.now (N.state device.old).flash i }
     requires size { length scratch.old ≡ (N.state device.old).geometry.bytes }
     ensures size { length scratch.new ≡ length scratch.old }
-    ensures writes { WritesOne (N.state device.old) (N.state device.new) (group_of place.now)
+    ensures writes { WritesOne (N.state device.old) (N.state device.new) (group_at place.now)
         (S.name source.now place.now.group) (S.bytes source.now (N.state device.old).flash) i result }
 {
     let name = match source.page(device, i, place.group, scratch) {
@@ -64,7 +64,7 @@ fn write_first<N: Nand, S: PageSource>(
     device: &mut N,
     source: &S,
     scratch: &mut [u8],
-    place: &Place,
+    place: &GroupPlace,
 ) -> Result<(), GroupFault>
     requires some { 1 ≤ place.now.count }
     requires may { MayWrite (N.state device.old) place.now 0 }
@@ -73,7 +73,7 @@ fn write_first<N: Nand, S: PageSource>(
     requires has { (N.state device.old).honest ≡ true → (i : ℕ) → i < S.count source.now → S.has source.now (N.state device.old).flash i }
     requires size { length scratch.old ≡ (N.state device.old).geometry.bytes }
     ensures size { length scratch.new ≡ length scratch.old }
-    ensures writes { FirstEnds (N.state device.old) (N.state device.new) (group_of place.now)
+    ensures writes { FirstEnds (N.state device.old) (N.state device.new) (group_at place.now)
         (S.name source.now place.now.group) (S.bytes source.now (N.state device.old).flash) result }
 {
     for i in 0..place.count - 1 {
@@ -108,7 +108,7 @@ fn write_last<N: Nand, S: PageSource>(
     device: &mut N,
     source: &S,
     scratch: &mut [u8],
-    place: &Place,
+    place: &GroupPlace,
 ) -> Result<bool, GroupFault>
     requires some { 1 ≤ place.now.count }
     requires may { MayWrite (N.state device.old) place.now (place.now.count - 1) }
@@ -116,7 +116,7 @@ fn write_last<N: Nand, S: PageSource>(
     requires source { S.ready source.now (N.state device.old).geometry place.now.group }
     requires has { (N.state device.old).honest ≡ true → S.has source.now (N.state device.old).flash (place.now.count - 1) }
     requires size { length scratch.old ≡ (N.state device.old).geometry.bytes }
-    ensures writes { WritesLast (N.state device.old) (N.state device.new) (group_of place.now)
+    ensures writes { WritesLast (N.state device.old) (N.state device.new) (group_at place.now)
         (S.name source.now place.now.group) (S.bytes source.now (N.state device.old).flash) (place.now.count - 1) result }
 {
     let last = place.count - 1;
@@ -141,7 +141,7 @@ pub(crate) fn write_pages<N: Nand, S: PageSource>(
     device: &mut N,
     source: &S,
     scratch: &mut [u8],
-    place: &Place,
+    place: &GroupPlace,
 ) -> Result<bool, GroupFault>
     requires some { 1 ≤ place.now.count }
     requires may { MayWrite (N.state device.old) place.now 0 }
@@ -149,7 +149,7 @@ pub(crate) fn write_pages<N: Nand, S: PageSource>(
     requires source { S.ready source.now (N.state device.old).geometry place.now.group }
     requires has { (N.state device.old).honest ≡ true → (i : ℕ) → i < S.count source.now → S.has source.now (N.state device.old).flash i }
     requires size { length scratch.old ≡ (N.state device.old).geometry.bytes }
-    ensures writes { WritesAll (N.state device.old) (N.state device.new) (group_of place.now)
+    ensures writes { WritesAll (N.state device.old) (N.state device.new) (group_at place.now)
         (S.name source.now place.now.group) (S.bytes source.now (N.state device.old).flash) result }
 {
     write_first(device, source, scratch, place)?;

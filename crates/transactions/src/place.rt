@@ -10,7 +10,7 @@ use block_state::Blocks;
 
 /// Where a group is written, and its numbers.
 #[derive(Clone, Copy, Debug, PartialEq, Eq)]
-pub(crate) struct Place {
+pub(crate) struct GroupPlace {
     pub block: u32,
     pub first: u32,
     pub count: u32,
@@ -19,7 +19,7 @@ pub(crate) struct Place {
 }
 
 /// Takes the next group number for so many pages of the open block, where it has room for them.
-pub(crate) fn take_place(blocks: &mut Blocks, count: u32) -> Option<Place>
+pub(crate) fn take_place(blocks: &mut Blocks, count: u32) -> Option<GroupPlace>
     requires some { 1 ≤ count }
     requires number { (table blocks.old).next_group < 2 ^ 62 }
     ensures found { IfSome result (λ place. IsPlaceIn (table blocks.old) count place) }
@@ -32,7 +32,7 @@ pub(crate) fn take_place(blocks: &mut Blocks, count: u32) -> Option<Place>
     }
     let block = blocks.open_block()?;
     let entry = blocks.entry(block);
-    Some(Place {
+    Some(GroupPlace {
         block,
         first: entry.next,
         count,
@@ -42,7 +42,7 @@ pub(crate) fn take_place(blocks: &mut Blocks, count: u32) -> Option<Place>
 }
 
 /// Notes how the writing of a group ended: its pages are taken, or the block takes no more.
-pub(crate) fn note_end(blocks: &mut Blocks, place: &Place, written: &Result<bool, GroupFault>)
+pub(crate) fn note_end(blocks: &mut Blocks, place: &GroupPlace, written: &Result<bool, GroupFault>)
     requires open { (table blocks.old).open_block ≡ Some place.now.block }
     requires room { place.now.count ≤ room (table blocks.old) }
     ensures { TableAfter place.now.block place.now.count (stays_open written.now) (table blocks.old) (table blocks.new) }

@@ -18,9 +18,9 @@ use Rattle.posix_profile.specs.laws.Fresh.{fresh, fresh_tree, fresh_fits}
 use Rattle.flat_profile.specs.FreshFlat.{fresh_flat}
 use Rattle.flash_tree.specs.Groups.{HasTag, Group, IsPart}
 use Rattle.flash_tree.specs.Newest.{Spot, Holds, IsAfter, HasNewest, AreAbove}
-use Rattle.flash_tree.specs.NewestExists.{one_tag}
-use Rattle.flash_tree.specs.OrderLaws.{not_after_itself}
-use Rattle.flash_tree.specs.Tree.{ReadsDir, Reads}
+use Rattle.flash_tree.specs.laws.Newest.{one_tag}
+use Rattle.flash_tree.specs.laws.Order.{not_after_itself}
+use Rattle.flash_tree.specs.Tree.{ReadsDir, ReadsAs}
 use Rattle.flash_tree.specs.Mount.{sizes_of, bad_blocks}
 use Rattle.volume_terms.specs.Sizes.{number_limit}
 use Rattle.transactions.specs.declared.fresh.FreshPage.{FreshPage}
@@ -145,10 +145,10 @@ module _ (g : Geometry) (flash : Flash) (spare : ℕ) (room : spare + 4 ≤ g.bl
     entries_are = refl;
   }
 
-  each : (o : ℕ) (x : Object) → map.get fresh.objects o ≡ Some x → Reads z (HasNewest flash) o x
+  each : (o : ℕ) (x : Object) → map.get fresh.objects o ≡ Some x → ReadsAs z (HasNewest flash) o x
   each o x there =
       let only = only_root o x there in
-      subst (λ k. Reads z (HasNewest flash) k x) (sym only.0) (subst (Reads z (HasNewest flash) root_number) (sym only.1) root_reads)
+      subst (λ k. ReadsAs z (HasNewest flash) k x) (sym only.0) (subst (ReadsAs z (HasNewest flash) root_number) (sym only.1) root_reads)
 
   above : AreAbove flash (record { version = number_limit; group = number_limit; seq = number_limit })
   above b p t good has =

@@ -1,4 +1,4 @@
-use Rattle.flash_tree.specs.AnswerExists.{some_answer}
+use Rattle.flash_tree.proofs.AnswerExists.{some_answer}
 use Rattle.flash_tree.proofs.law.a_flash_has_an_answer.Goals as goal
 
 pub returns : goal.returns

@@ -1,6 +1,6 @@
 use Rattle.flash_tree.specs.Newest.{HasNewest}
-use Rattle.flash_tree.specs.NewestLaws.{one_newest}
-use Rattle.flash_tree.specs.OneTree.{one_tree}
+use Rattle.flash_tree.specs.laws.Newest.{one_newest}
+use Rattle.flash_tree.specs.laws.OneTree.{one_tree}
 use Rattle.flash_tree.proofs.law.a_flash_shows_one_tree.Goals as goal
 
 pub returns : goal.returns

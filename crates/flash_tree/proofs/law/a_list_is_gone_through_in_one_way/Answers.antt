@@ -1,6 +1,6 @@
 use Rattle.flash_tree.specs.Newest.{HasNewest}
-use Rattle.flash_tree.specs.NewestLaws.{one_newest}
-use Rattle.flash_tree.specs.FindingLaws.{one_end}
+use Rattle.flash_tree.specs.laws.Newest.{one_newest}
+use Rattle.flash_tree.specs.laws.Finding.{one_end}
 use Rattle.flash_tree.proofs.law.a_list_is_gone_through_in_one_way.Goals as goal
 
 pub returns : goal.returns

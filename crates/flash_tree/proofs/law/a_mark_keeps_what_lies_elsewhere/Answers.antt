@@ -1,4 +1,4 @@
-use Rattle.flash_tree.specs.NewestLaws.{mark_keeps_elsewhere}
+use Rattle.flash_tree.specs.laws.Newest.{mark_keeps_elsewhere}
 use Rattle.flash_tree.proofs.law.a_mark_keeps_what_lies_elsewhere.Goals as goal
 
 pub returns : goal.returns

@@ -1,4 +1,4 @@
-use Rattle.flash_tree.specs.PlaceLaws.{tag_placed}
+use Rattle.flash_tree.specs.laws.Place.{tag_placed}
 use Rattle.flash_tree.proofs.law.a_tag_lies_on_the_device.Goals as goal
 
 pub returns : goal.returns

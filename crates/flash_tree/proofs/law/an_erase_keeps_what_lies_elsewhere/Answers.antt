@@ -1,4 +1,4 @@
-use Rattle.flash_tree.specs.NewestLaws.{erase_keeps_elsewhere}
+use Rattle.flash_tree.specs.laws.Newest.{erase_keeps_elsewhere}
 use Rattle.flash_tree.proofs.law.an_erase_keeps_what_lies_elsewhere.Goals as goal
 
 pub returns : goal.returns

@@ -1,5 +1,5 @@
-use Rattle.flash_tree.specs.NewestExists.{after_on}
-use Rattle.flash_tree.specs.OrderLaws.{not_after_itself}
+use Rattle.flash_tree.specs.laws.Order.{after_on}
+use Rattle.flash_tree.specs.laws.Order.{not_after_itself}
 use Rattle.flash_tree.proofs.law.places_are_in_order.Goals as goal
 
 pub returns-clause-on : goal.returns-clause-on

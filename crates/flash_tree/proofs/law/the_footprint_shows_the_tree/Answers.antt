@@ -1,5 +1,5 @@
 use Rattle.flash_tree.specs.Newest.{HasNewest}
-use Rattle.flash_tree.specs.TreeLaws.{footprint_law}
+use Rattle.flash_tree.specs.laws.Tree.{footprint_law}
 use Rattle.flash_tree.proofs.law.the_footprint_shows_the_tree.Goals as goal
 
 pub returns : goal.returns

@@ -1,4 +1,4 @@
-use Rattle.flash_tree.specs.NewestLaws.{one_greatest}
+use Rattle.flash_tree.specs.laws.Newest.{one_greatest}
 use Rattle.flash_tree.proofs.law.the_greatest_numbers_are_one.Goals as goal
 
 pub returns : goal.returns

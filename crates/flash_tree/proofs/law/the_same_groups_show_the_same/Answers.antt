@@ -1,4 +1,4 @@
-use Rattle.flash_tree.specs.NewestLaws.{same_groups_keep}
+use Rattle.flash_tree.specs.laws.Newest.{same_groups_keep}
 use Rattle.flash_tree.proofs.law.the_same_groups_show_the_same.Goals as goal
 
 pub returns : goal.returns

@@ -1,4 +1,4 @@
-use Rattle.flash_tree.specs.NewestLaws.{newest_with_stays, has_newest_stays, stays_on}
+use Rattle.flash_tree.specs.laws.Newest.{newest_with_stays, has_newest_stays, stays_on}
 use Rattle.flash_tree.proofs.law.what_stays_newest_has_its_data.Goals as goal
 
 pub returns : goal.returns

@@ -6,7 +6,7 @@ use Rattle.nand_model.specs.Flash.{Flash}
 use Rattle.nand_model.specs.declared.geometry.Geometry.{Geometry}
 use Rattle.page_tags.specs.SlotEntry.{entry_of}
 use Rattle.flash_tree.specs.Newest.{HasNewest}
-use Rattle.flash_tree.specs.PlaceLaws.{same_flash}
+use Rattle.flash_tree.specs.laws.Place.{same_flash}
 use Rattle.volume_terms.specs.Sizes.{page_slots}
 use Rattle.transactions.specs.declared.fresh.FreshPage.{FreshPage}
 use Rattle.flat_directories.specs.Additions.{IsSlotPage, IsEntriesPage, ArePagesOf, AddsEntry}

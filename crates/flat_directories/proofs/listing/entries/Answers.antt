@@ -7,9 +7,9 @@ use Rattle.nand_model.specs.Calls.{Device}
 use Rattle.nand_model.specs.ChangeLaws.{only_reads_on}
 use Rattle.nand_model.specs.Flash.{Flash}
 use Rattle.nand_model.specs.declared.geometry.Geometry.{Geometry}
-use Rattle.flash_tree.specs.FindingLaws.{IsPageSize}
+use Rattle.flash_tree.specs.Tree.{IsPageSize}
 use Rattle.flash_tree.specs.Newest.{HasNewest}
-use Rattle.flash_tree.specs.PlaceLaws.{same_flash}
+use Rattle.flash_tree.specs.laws.Place.{same_flash}
 use Rattle.flash_tree.specs.Tree.{SlotIs}
 use Rattle.flat_directories.proofs.Lacking.{gone_may_lack}
 use Rattle.flat_directories.proofs.SlotLists.{ReadsFirst, none_read, one_more_read, all_read, next_is_new, same_entries}

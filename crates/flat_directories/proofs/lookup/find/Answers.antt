@@ -5,7 +5,7 @@ use Rattle.std.specs.FinMap as map
 use Rattle.nand_model.specs.Calls.{Device}
 use Rattle.nand_model.specs.ChangeLaws.{only_reads_on}
 use Rattle.nand_model.specs.declared.geometry.Geometry.{Geometry}
-use Rattle.flash_tree.specs.TreeLaws.{slice_get_within}
+use Rattle.flash_tree.specs.laws.Tree.{slice_get_within}
 use Rattle.page_tags.specs.Slots.{Entry}
 use Rattle.flat_directories.proofs.Slots.{slot_leads, none_leads, slot_now}
 use Rattle.flat_directories.proofs.lookup.find.Goals as goal

@@ -1,4 +1,4 @@
-use Rattle.transactions.specs.ReadyLaws.{ready_read}
+use Rattle.transactions.specs.laws.Ready.{ready_read}
 use Rattle.flat_store.specs.RoomLaws.{taken_keeps}
 use Rattle.flat_store.proofs.room.make_room.Goals as goal
 

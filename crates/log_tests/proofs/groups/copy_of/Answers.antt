@@ -5,7 +5,7 @@ use Rattle.nand_model.specs.Calls.{Device}
 use Rattle.nand_model.specs.declared.geometry.Geometry.{Geometry}
 use Rattle.flash_tree.specs.Newest.{IsNewest}
 use Rattle.flash_tree.specs.Places.{spot_of}
-use Rattle.transactions.specs.ReadyLaws.{ready_read}
+use Rattle.transactions.specs.laws.Ready.{ready_read}
 use Rattle.log_tests.proofs.groups.copy_of.Goals as goal
 
 pub invariant_of-volume : goal.invariant_of-volume

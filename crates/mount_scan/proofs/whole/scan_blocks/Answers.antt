@@ -3,7 +3,7 @@ use Rattle.std.proofs.lemmas.Result.{err_from_is_err_and}
 use Rattle.nand_model.specs.Calls.{Device}
 use Rattle.nand_model.specs.declared.geometry.Geometry.{Geometry}
 use Rattle.flash_tree.specs.Places.{numbers_of}
-use Rattle.flash_tree.specs.PlaceLaws.{same_flash}
+use Rattle.flash_tree.specs.laws.Place.{same_flash}
 use Rattle.mount_scan.specs.Blocks.{TellsBelow, AreGreatestBelow}
 use Rattle.mount_scan.proofs.Tagged.{tells_on, tells_back, tells_all}
 use Rattle.mount_scan.proofs.Reading.{block_read, block_ends}

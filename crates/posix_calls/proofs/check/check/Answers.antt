@@ -6,7 +6,7 @@ use Rattle.nand_model.specs.Flash.{Flash}
 use Rattle.nand_model.specs.declared.geometry.Geometry.{Geometry}
 use Rattle.flash_tree.specs.Mount.{sizes_of}
 use Rattle.flash_tree.specs.Newest.{HasNewest}
-use Rattle.flash_tree.specs.PlaceLaws.{same_flash}
+use Rattle.flash_tree.specs.laws.Place.{same_flash}
 use Rattle.flash_tree.specs.Tree.{ReadsDir}
 use Rattle.flat_profile.specs.Flat.{IsFlat}
 use Rattle.posix_profile.specs.Charge.{fits}

@@ -6,8 +6,8 @@ use Rattle.nand_model.specs.Calls.{Device}
 use Rattle.nand_model.specs.ChangeLaws.{only_reads_on}
 use Rattle.nand_model.specs.Flash.{Flash}
 use Rattle.nand_model.specs.declared.geometry.Geometry.{Geometry}
-use Rattle.flash_tree.specs.PlaceLaws.{same_flash}
-use Rattle.flash_tree.specs.TreeLaws.{slice_get_within}
+use Rattle.flash_tree.specs.laws.Place.{same_flash}
+use Rattle.flash_tree.specs.laws.Tree.{slice_get_within}
 use Rattle.posix_calls.specs.Checks.{IsEmptyThere}
 use Rattle.posix_calls.proofs.check.check_all.Goals as goal
 

@@ -4,7 +4,7 @@ use Rattle.nand_model.specs.Calls.{Device}
 use Rattle.nand_model.specs.Flash.{Flash}
 use Rattle.nand_model.specs.declared.geometry.Geometry.{Geometry}
 use Rattle.flash_tree.specs.Mount.{sizes_of}
-use Rattle.flash_tree.specs.PlaceLaws.{same_flash}
+use Rattle.flash_tree.specs.laws.Place.{same_flash}
 use Rattle.posix_calls.specs.Plans.{MayMake, MakesDirectory}
 use Rattle.posix_calls.proofs.Making.{volume_stays}
 use Rattle.posix_calls.proofs.Telling.{plan_is}

@@ -4,7 +4,7 @@ use Rattle.nand_model.specs.Calls.{Device}
 use Rattle.flash_tree.specs.Groups.{Group}
 use Rattle.block_state.specs.Table.{Table}
 use Rattle.block_state.specs.TableOf.{table}
-use Rattle.transactions.specs.declared.place.Place.{Place}
+use Rattle.transactions.specs.declared.place.GroupPlace.{GroupPlace}
 use Rattle.transactions.specs.Groups.{AddsPages, GroupsAfter}
 use Rattle.transactions.proofs.ReadyLaws.{room_left, may_write, ready_after, group_is, group_grows, groups_ok, groups_err, ok_table}
 use Rattle.transactions.proofs.group.write_group.Goals as goal
@@ -18,7 +18,7 @@ note_end-requires-clause-room g c =
 pub returns-in_err-suspect-clause-ready : goal.returns-in_err-suspect-clause-ready
 returns-in_err-suspect-clause-ready g c =
     let old : Device = g.N.Nand.state c.args.device.now in
-    let place : Place = c.in-Some.place in
+    let place : GroupPlace = c.in-Some.place in
     let found = c.in-Some.ensures.found in
     let some : 1 ≤ place.count = omega (arith, found.count_is, c.count-count.ensures.some) in
     let may = may_write old _ _ place c.requires.ready found in
@@ -31,7 +31,7 @@ returns-in_err-suspect-clause-groups g c = λ h o is.
     let old : Device = g.N.Nand.state c.args.device.now in
     let new : Device = g.N.Nand.state c.write_pages-written.new.device in
     let t : Table = table c.args.blocks.now in
-    let place : Place = c.in-Some.place in
+    let place : GroupPlace = c.in-Some.place in
     let found = c.in-Some.ensures.found in
     let some : 1 ≤ place.count = omega (arith, found.count_is, c.count-count.ensures.some) in
     let may = may_write old _ _ place c.requires.ready found in
@@ -45,7 +45,7 @@ returns-in_err-suspect-clause-groups g c = λ h o is.
 pub returns-in_err-suspect-clause-grows : goal.returns-in_err-suspect-clause-grows
 returns-in_err-suspect-clause-grows g c = λ h.
     let old : Device = g.N.Nand.state c.args.device.now in
-    let place : Place = c.in-Some.place in
+    let place : GroupPlace = c.in-Some.place in
     let found = c.in-Some.ensures.found in
     let some : 1 ≤ place.count = omega (arith, found.count_is, c.count-count.ensures.some) in
     let may = may_write old _ _ place c.requires.ready found in
@@ -55,7 +55,7 @@ returns-in_err-suspect-clause-grows g c = λ h.
 pub returns-clause-ready : goal.returns-clause-ready
 returns-clause-ready g c =
     let old : Device = g.N.Nand.state c.args.device.now in
-    let place : Place = c.in-Some.place in
+    let place : GroupPlace = c.in-Some.place in
     let found = c.in-Some.ensures.found in
     let some : 1 ≤ place.count = omega (arith, found.count_is, c.count-count.ensures.some) in
     let may = may_write old _ _ place c.requires.ready found in
@@ -66,7 +66,7 @@ returns-clause-ready g c =
 pub returns-clause-table : goal.returns-clause-table
 returns-clause-table g c =
     let t : Table = table c.args.blocks.now in
-    let place : Place = c.in-Some.place in
+    let place : GroupPlace = c.in-Some.place in
     let found = c.in-Some.ensures.found in
     let after = rw (c.in-Some.ensures.taken, c.in_ok-suspect.was) at c.note_end.ensures in
     rw (← c.count-count.ensures.value) (ok_table t _ c.count-count.result place c.in_ok-suspect.suspect found after)
@@ -76,7 +76,7 @@ returns-clause-groups g c = λ h o is.
     let old : Device = g.N.Nand.state c.args.device.now in
     let new : Device = g.N.Nand.state c.write_pages-written.new.device in
     let t : Table = table c.args.blocks.now in
-    let place : Place = c.in-Some.place in
+    let place : GroupPlace = c.in-Some.place in
     let found = c.in-Some.ensures.found in
     let some : 1 ≤ place.count = omega (arith, found.count_is, c.count-count.ensures.some) in
     let may = may_write old _ _ place c.requires.ready found in
@@ -89,7 +89,7 @@ returns-clause-groups g c = λ h o is.
 pub returns-clause-grows : goal.returns-clause-grows
 returns-clause-grows g c = λ h.
     let old : Device = g.N.Nand.state c.args.device.now in
-    let place : Place = c.in-Some.place in
+    let place : GroupPlace = c.in-Some.place in
     let found = c.in-Some.ensures.found in
     let some : 1 ≤ place.count = omega (arith, found.count_is, c.count-count.ensures.some) in
     let may = may_write old _ _ place c.requires.ready found in

@@ -1,4 +1,4 @@
-use Rattle.transactions.specs.NewestLaws.{commit_comes_last, copies_come_last}
+use Rattle.transactions.specs.laws.Newest.{commit_comes_last, copies_come_last}
 use Rattle.transactions.proofs.law.a_group_comes_last.Goals as goal
 
 pub returns : goal.returns

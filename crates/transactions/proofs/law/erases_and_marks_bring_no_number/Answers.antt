@@ -1,4 +1,4 @@
-use Rattle.transactions.specs.ReadyLaws.{below_erased, below_marked}
+use Rattle.transactions.specs.laws.Ready.{below_erased, below_marked}
 use Rattle.transactions.proofs.law.erases_and_marks_bring_no_number.Goals as goal
 
 pub returns : goal.returns

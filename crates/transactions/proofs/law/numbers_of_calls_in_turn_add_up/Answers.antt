@@ -1,4 +1,4 @@
-use Rattle.transactions.specs.HandingLaws.{hands_on, hands_nothing}
+use Rattle.transactions.specs.laws.Handing.{hands_on, hands_nothing}
 use Rattle.transactions.proofs.law.numbers_of_calls_in_turn_add_up.Goals as goal
 
 pub returns : goal.returns

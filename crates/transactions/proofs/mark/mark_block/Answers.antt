@@ -1,6 +1,6 @@
 use Rattle.std.proofs.Common.{rules}
-use Rattle.flash_tree.specs.NewestLaws.{mark_keeps_elsewhere}
-use Rattle.transactions.specs.ReadyLaws.{ready_marked}
+use Rattle.flash_tree.specs.laws.Newest.{mark_keeps_elsewhere}
+use Rattle.transactions.specs.laws.Ready.{ready_marked}
 use Rattle.transactions.proofs.mark.mark_block.Goals as goal
 
 pub returns-then-is_bad-clause-ready : goal.returns-then-is_bad-clause-ready

@@ -1,9 +1,9 @@
 use Rattle.std.proofs.Common.{◌∙◌, rules}
 use Rattle.nand_model.specs.Calls.{Device}
 use Rattle.nand_model.specs.ChangeLaws.{shrinks-erase}
-use Rattle.flash_tree.specs.NewestLaws.{erase_keeps_elsewhere}
+use Rattle.flash_tree.specs.laws.Newest.{erase_keeps_elsewhere}
 use Rattle.block_state.specs.TableOf.{table}
-use Rattle.transactions.specs.ReadyLaws.{ready_erased, ready_opened}
+use Rattle.transactions.specs.laws.Ready.{ready_erased, ready_opened}
 use Rattle.transactions.proofs.open.erase_and_open.Goals as goal
 
 pub returns-in_err-erase-clause-ready : goal.returns-in_err-erase-clause-ready

@@ -1,7 +1,7 @@
 use Rattle.std.proofs.Common.{◌≡◌, ◌∙◌, ◌≤◌, ◌+◌, sym, ℕ, true, arith}
 use Rattle.std.proofs.lemmas.Result.{err_from_is_err_and}
 use Rattle.nand_model.specs.Calls.{Device}
-use Rattle.transactions.specs.Written.{group_of}
+use Rattle.transactions.specs.Written.{group_at}
 use Rattle.transactions.proofs.ProgressLaws.{progress_more, progress_stops, progress_grows}
 use Rattle.transactions.proofs.page.write_first.Goals as goal
 
@@ -20,7 +20,7 @@ returns-in_err-write_page-clause-writes g c =
     let erased = λ (was : old.honest ≡ true) (l : ℕ) (le : c.args.place.now.first ≤ l). g.met.N.Nand.clean c.args.device.now was c.args.place.now.block (c.args.place.now.first + 0) l c.requires.may.next (omega (arith, le)) in
     let same = λ (was : old.honest ≡ true). g.met.S.PageSource.same c.args.source.now old.flash mid.flash c.loop-i.i (c.requires.has was _ (omega (arith, c.requires.count, c.loop-i-test.true))) (progress_grows _ _ _ _ _ _ so_far was (erased was)) in
     let p = err_from_is_err_and c.from_residual.result c.from_residual.ensures.1 in
-    rw (p.1, p.2) (progress_stops old mid (g.N.Nand.state c.write_page.new.device) (group_of c.args.place.now) _ _ _ c.loop-i.i so_far same _ (omega (arith, c.loop-i-test.true)) erased c.in_err-write_page.ensures.writes)
+    rw (p.1, p.2) (progress_stops old mid (g.N.Nand.state c.write_page.new.device) (group_at c.args.place.now) _ _ _ c.loop-i.i so_far same _ (omega (arith, c.loop-i-test.true)) erased c.in_err-write_page.ensures.writes)
 
 pub loop-i-preserved : goal.loop-i-preserved
 loop-i-preserved g c =
@@ -29,6 +29,6 @@ loop-i-preserved g c =
     let mid : Device = g.N.Nand.state c.loop-i.device in
     let erased = λ (was : old.honest ≡ true) (l : ℕ) (le : c.args.place.now.first ≤ l). g.met.N.Nand.clean c.args.device.now was c.args.place.now.block (c.args.place.now.first + 0) l c.requires.may.next (omega (arith, le)) in
     let same = λ (was : old.honest ≡ true). g.met.S.PageSource.same c.args.source.now old.flash mid.flash c.loop-i.i (c.requires.has was _ (omega (arith, c.requires.count, c.loop-i-test.true))) (progress_grows _ _ _ _ _ _ so_far was (erased was)) in (
-      progress_more old mid (g.N.Nand.state c.write_page.new.device) (group_of c.args.place.now) _ _ _ c.loop-i.i so_far same (omega (arith, c.loop-i-test.true)) c.in_ok-write_page.ensures.writes,
+      progress_more old mid (g.N.Nand.state c.write_page.new.device) (group_at c.args.place.now) _ _ _ c.loop-i.i so_far same (omega (arith, c.loop-i-test.true)) c.in_ok-write_page.ensures.writes,
       c.in_ok-write_page.ensures.size ∙ c.loop-i.invariant.1,
     )

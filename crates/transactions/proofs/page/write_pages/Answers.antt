@@ -1,6 +1,6 @@
 use Rattle.std.proofs.Common.{◌≡◌, ◌∙◌, ◌≤◌, ◌+◌, ◌-◌, sym, ℕ, true, arith}
 use Rattle.nand_model.specs.Calls.{Device}
-use Rattle.transactions.specs.Written.{group_of}
+use Rattle.transactions.specs.Written.{group_at}
 use Rattle.transactions.proofs.ProgressLaws.{progress_ends, progress_grows}
 use Rattle.transactions.proofs.page.write_pages.Goals as goal
 
@@ -18,4 +18,4 @@ returns g c =
     let mid : Device = g.N.Nand.state c.write_first.new.device in
     let erased = λ (was : old.honest ≡ true) (l : ℕ) (le : c.args.place.now.first ≤ l). g.met.N.Nand.clean c.args.device.now was c.args.place.now.block (c.args.place.now.first + 0) l c.requires.may.next (omega (arith, le)) in
     let same = λ (was : old.honest ≡ true). g.met.S.PageSource.same c.args.source.now old.flash mid.flash (c.args.place.now.count - 1) (c.requires.has was _ (omega (arith, c.requires.count, c.requires.some))) (progress_grows _ _ _ _ _ _ so_far was (erased was)) in
-    record { writes = progress_ends old mid (g.N.Nand.state c.write_last.new.device) (group_of c.args.place.now) _ _ _ (c.args.place.now.count - 1) so_far same c.write_last.result (omega (arith, c.requires.some)) erased c.write_last.ensures.writes }
+    record { writes = progress_ends old mid (g.N.Nand.state c.write_last.new.device) (group_at c.args.place.now) _ _ _ (c.args.place.now.count - 1) so_far same c.write_last.result (omega (arith, c.requires.some)) erased c.write_last.ensures.writes }

@@ -2,7 +2,7 @@ use Rattle.std.proofs.Common.{◌+◌, ap, arith}
 use Rattle.block_state.specs.Table.{Table}
 use Rattle.block_state.specs.TableOf.{table}
 use Rattle.flash_tree.specs.Places.{numbers_of}
-use Rattle.transactions.specs.ReadyLaws.{made_ready, above_below}
+use Rattle.transactions.specs.laws.Ready.{made_ready, above_below}
 use Rattle.transactions.proofs.table.table_of.Goals as goal
 
 pub note_marks-requires-clause-good : goal.note_marks-requires-clause-good

@@ -4,7 +4,7 @@ use Rattle.nand_model.specs.Flash.{Page}
 use Rattle.nand_model.specs.Calls.{Device}
 use Rattle.nand_model.specs.declared.geometry.Geometry.{Geometry}
 use Rattle.flash_tree.specs.Groups.{HasTag}
-use Rattle.transactions.specs.ReadyLaws.{ready_read}
+use Rattle.transactions.specs.laws.Ready.{ready_read}
 use Rattle.transactions.proofs.tests.copy_of.Goals as goal
 
 pub invariant_of-volume : goal.invariant_of-volume

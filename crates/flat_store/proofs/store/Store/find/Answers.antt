@@ -1,7 +1,7 @@
 use Rattle.std.proofs.Common.{ap, arith}
 use Rattle.std.proofs.lemmas.Grind.{common_steps}
 use Rattle.nand_model.specs.declared.geometry.Geometry.{Geometry}
-use Rattle.transactions.specs.ReadyLaws.{ready_read}
+use Rattle.transactions.specs.laws.Ready.{ready_read}
 use Rattle.flat_store.proofs.store.Store.find.Goals as goal
 
 pub invariant_of-self : goal.invariant_of-self

@@ -5,7 +5,7 @@ use Rattle.nand_model.specs.Changes.{OnlyReads}
 use Rattle.nand_model.specs.Flash.{Flash}
 use Rattle.nand_model.specs.declared.geometry.Geometry.{Geometry}
 use Rattle.flash_tree.specs.Mount.{bad_blocks}
-use Rattle.flash_tree.specs.PlaceLaws.{same_flash}
+use Rattle.flash_tree.specs.laws.Place.{same_flash}
 use Rattle.volume_format.specs.Volumes.{IsFlatVolume}
 use Rattle.posix_calls.specs.MountFaults.{IsWant}
 use Rattle.posix_calls.proofs.Making.{volume_stays}

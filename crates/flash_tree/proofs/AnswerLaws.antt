@@ -8,12 +8,13 @@ use Rattle.page_tags.specs.declared.header.HeaderFault.TheVariants as faults
 use Rattle.volume_terms.specs.Sizes.{Sizes, root_number}
 use Rattle.posix_profile.specs.State.{Objects, Dir}
 use Rattle.flash_tree.specs.Newest.{HasNewest}
-use Rattle.flash_tree.specs.NewestLaws.{one_newest}
+use Rattle.flash_tree.specs.laws.Newest.{one_newest}
 use Rattle.flash_tree.specs.Tree.{NewestMap, IsSingle, Shows}
-use Rattle.flash_tree.specs.OneTree.{one_tree}
-use Rattle.flash_tree.specs.Mount.{Wrong, wrong_by, End, Wrongly, Wholly, GoesThrough, NamesTwice, sizes_of, IsVolume, IsNoVolume, HasWrongRoot, HasRoom, Answer, NotAVolume, IsWrong, IsTreeOf, Answers}
-use Rattle.flash_tree.specs.FindingLaws.{IsPageSize, same_header, kinds_apart, header_no_fault, same_fault, one_end}
-use Rattle.flash_tree.specs.ShownLaws.{Each, IsThere, ends_well, not_twice}
+use Rattle.flash_tree.specs.laws.OneTree.{one_tree}
+use Rattle.flash_tree.specs.Mount.{Wrong, wrong_by, ListEnd, Wrongly, Wholly, GoesThrough, NamesTwice, sizes_of, IsVolume, IsNoVolume, HasWrongRoot, HasRoom, Answer, NotAVolume, IsWrong, IsTreeOf, Answers}
+use Rattle.flash_tree.specs.laws.Finding.{same_header, kinds_apart, header_no_fault, same_fault, one_end}
+use Rattle.flash_tree.specs.Tree.{IsPageSize}
+use Rattle.flash_tree.specs.laws.Shown.{Each, IsThere, ends_well, not_twice}
 
 -- a device's pages can be filled by headers
 pub is_page_size : (g : Geometry) → IsPageSize g.bytes
@@ -57,10 +58,10 @@ module _ (g : Geometry) (m : NewestMap) (single : IsSingle m) where
   one_wrong_root v w (inr (is, f, has, amiss)) (inr (is', f', has', amiss')) = is ∙ sym is'
 
   -- from the root
-  abbrev Goes : ℕ → End → Type 0
+  abbrev Goes : ℕ → ListEnd → Type 0
   Goes spare end = GoesThrough (z spare) m (root_number ∷ []) 0 end
 
-  one_way : (s t : ℕ) (a b : End) → IsVolume g m s → IsVolume g m t → Goes s a → Goes t b → a ≡ b
+  one_way : (s t : ℕ) (a b : ListEnd) → IsVolume g m s → IsVolume g m t → Goes s a → Goes t b → a ≡ b
   one_way s t a b v w x y = one_end (z t) (is_page_size g) m single (root_number ∷ []) 0 a b (subst (λ n. Goes n a) (one_volume s t v w) x) y
 
   root_there : (s : ℕ) (objects : Objects) (shown : Shows (z s) m objects) → Each (IsThere (z s) (is_page_size g) m single objects shown) (root_number ∷ [])

@@ -5,9 +5,10 @@ use Rattle.std.proofs.lemmas.Bool.{cases_Bool, cases_eq, cases_lt, cases_order}
 use Rattle.nand_model.specs.Flash.{Flash, Page, Erased, Written, Uncorrectable}
 use Rattle.page_tags.specs.declared.tag.Tag.{Tag}
 use Rattle.page_tags.specs.Tags.{tag_bytes}
-use Rattle.page_tags.specs.laws.Tag.{same_tag, tag_or_none}
+use Rattle.page_tags.specs.laws.Tag.{tag_or_none}
 use Rattle.flash_tree.specs.Groups.{HasTag, Group, IsPart, IsGroup}
 use Rattle.flash_tree.specs.Newest.{Spot, Holds, IsAfter}
+use Rattle.flash_tree.specs.laws.Newest.{one_tag}
 
 -- a fact that can be told
 abbrev pub IsTold : Type 0 → Type 0
@@ -28,13 +29,6 @@ all_or_one P told (suc n) = elim (all_or_one P told n) [
 ]
 
 module _ (flash : Flash) where
-  -- a page has one tag
-  pub one_tag : (b p : ℕ) (t u : Tag) → HasTag flash b p t → HasTag flash b p u → t ≡ u
-  one_tag b p t u x y =
-      let pages : Written x.bytes (tag_bytes t) ≡ Written y.bytes (tag_bytes u) = sym x.page ∙ y.page in
-      let tags : tag_bytes t ≡ tag_bytes u = cc in
-      same_tag t u x.valid y.valid tags
-
   -- whether a page has a tag
   pub tag_at : (b p : ℕ) → ((t : Tag) × HasTag flash b p t) ⊎ ((t : Tag) → HasTag flash b p t → ⊥)
   tag_at b p = go (flash.page b p) refl where
@@ -51,13 +45,13 @@ module _ (flash : Flash) where
   part_at g i = elim (tag_at g.block (g.start + i)) [
     | inr none ↦ inr (λ part. none part.tag part.has)
     | inl (t, has) ↦ elim (cases_eq t.index i) [
-      | inr ne ↦ inr (λ part. ne (ap (λ (u : Tag). u.index) (one_tag _ _ t part.tag has part.has) ∙ part.index))
+      | inr ne ↦ inr (λ part. ne (ap (λ (u : Tag). u.index) (one_tag flash _ _ t part.tag has part.has) ∙ part.index))
       | inl index ↦ elim (cases_eq t.count g.size) [
-        | inr ne ↦ inr (λ part. ne (ap (λ (u : Tag). u.count) (one_tag _ _ t part.tag has part.has) ∙ part.count))
+        | inr ne ↦ inr (λ part. ne (ap (λ (u : Tag). u.count) (one_tag flash _ _ t part.tag has part.has) ∙ part.count))
         | inl count ↦ elim (cases_eq t.group g.number) [
-          | inr ne ↦ inr (λ part. ne (ap (λ (u : Tag). u.group) (one_tag _ _ t part.tag has part.has) ∙ part.group))
+          | inr ne ↦ inr (λ part. ne (ap (λ (u : Tag). u.group) (one_tag flash _ _ t part.tag has part.has) ∙ part.group))
           | inl group ↦ elim (cases_eq t.seq g.seq) [
-            | inr ne ↦ inr (λ part. ne (ap (λ (u : Tag). u.seq) (one_tag _ _ t part.tag has part.has) ∙ part.seq))
+            | inr ne ↦ inr (λ part. ne (ap (λ (u : Tag). u.seq) (one_tag flash _ _ t part.tag has part.has) ∙ part.seq))
             | inl seq ↦ inl (record { tag = t; has = has; index = index; count = count; group = group; seq = seq })
           ]
         ]
@@ -87,7 +81,7 @@ module _ (flash : Flash) where
   group_is o c s h =
       let part : IsPart flash h.group h.index = h.whole.each h.index h.within in
       let here : HasTag flash s.block s.page part.tag = subst (λ b. HasTag flash b s.page part.tag) (sym h.block) (subst (λ p. HasTag flash h.group.block p part.tag) (sym h.page) part.has) in
-      let tag : s.tag ≡ part.tag = one_tag s.block s.page s.tag part.tag h.has here in
+      let tag : s.tag ≡ part.tag = one_tag flash s.block s.page s.tag part.tag h.has here in
       let index : s.tag.index ≡ h.index = ap (λ (t : Tag). t.index) tag ∙ part.index in
       let start : h.group.start ≡ s.page - s.tag.index = omega (arith, h.page, index) in
       let size : h.group.size ≡ s.tag.count = sym (ap (λ (t : Tag). t.count) tag ∙ part.count) in
@@ -99,7 +93,7 @@ module _ (flash : Flash) where
   index_within o c s h =
       let part : IsPart flash h.group h.index = h.whole.each h.index h.within in
       let here : HasTag flash s.block s.page part.tag = subst (λ b. HasTag flash b s.page part.tag) (sym h.block) (subst (λ p. HasTag flash h.group.block p part.tag) (sym h.page) part.has) in
-      let tag : s.tag ≡ part.tag = one_tag s.block s.page s.tag part.tag h.has here in
+      let tag : s.tag ≡ part.tag = one_tag flash s.block s.page s.tag part.tag h.has here in
       let index : s.tag.index ≡ h.index = ap (λ (t : Tag). t.index) tag ∙ part.index in
       omega (arith, h.page, index)
 
@@ -118,12 +112,12 @@ module _ (flash : Flash) where
   holds_at o c b p = elim (tag_at b p) [
     | inr none ↦ inr (λ h. none h.spot.tag (tag_of o c b p h))
     | inl (t, has) ↦ elim (cases_eq t.object o) [
-      | inr ne ↦ inr (λ h. ne (ap (λ (u : Tag). u.object) (one_tag b p t h.spot.tag has (tag_of o c b p h)) ∙ h.holds.object))
+      | inr ne ↦ inr (λ h. ne (ap (λ (u : Tag). u.object) (one_tag flash b p t h.spot.tag has (tag_of o c b p h)) ∙ h.holds.object))
       | inl object ↦ elim (cases_eq t.chunk c) [
-        | inr ne ↦ inr (λ h. ne (ap (λ (u : Tag). u.chunk) (one_tag b p t h.spot.tag has (tag_of o c b p h)) ∙ h.holds.chunk))
+        | inr ne ↦ inr (λ h. ne (ap (λ (u : Tag). u.chunk) (one_tag flash b p t h.spot.tag has (tag_of o c b p h)) ∙ h.holds.chunk))
         | inl chunk ↦ elim (cases_lt p t.index) [
           | inl before ↦ inr (λ h.
-              let tag : t ≡ h.spot.tag = one_tag b p t h.spot.tag has (tag_of o c b p h) in
+              let tag : t ≡ h.spot.tag = one_tag flash b p t h.spot.tag has (tag_of o c b p h) in
               let index : t.index ≡ h.spot.tag.index = ap (λ (u : Tag). u.index) tag in
               let page : h.spot.page ≡ p = h.page in
               let within : h.spot.tag.index ≤ h.spot.page = index_within o c h.spot h.holds in
@@ -136,7 +130,7 @@ module _ (flash : Flash) where
               holds = record { group = group_by b p t; whole = whole; index = t.index; within = has.valid.index; block = refl; page = omega arith; has = has; object = object; chunk = chunk };
             })
             | inr not ↦ inr (λ h.
-                let tag : h.spot.tag ≡ t = sym (one_tag b p t h.spot.tag has (tag_of o c b p h)) in
+                let tag : h.spot.tag ≡ t = sym (one_tag flash b p t h.spot.tag has (tag_of o c b p h)) in
                 let same : h.holds.group ≡ group_by b p t = group_is o c h.spot h.holds
                 ∙ ap (λ k. group_by k h.spot.page h.spot.tag) h.block ∙ ap (λ l. group_by b l h.spot.tag) h.page ∙ ap (group_by b p) tag in
                 not (subst (IsGroup flash) same h.holds.whole))
@@ -166,16 +160,3 @@ after_or_not s t = elim (cases_order t.tag.version s.tag.version) [
     ]
   ]
 ]
-
--- what comes after what comes after comes after
-pub after_on : (a b c : Spot) → IsAfter a b → IsAfter b c → IsAfter a c
-after_on a b c (inl x) (inl y) = inl (omega arith)
-after_on a b c (inl x) (inr (v, y)) = inl (omega arith)
-after_on a b c (inr (v, x)) (inl y) = inl (omega arith)
-after_on a b c (inr (v, inl x)) (inr (w, inl y)) = inr (v ∙ w, inl (omega arith))
-after_on a b c (inr (v, inl x)) (inr (w, inr (q, y))) = inr (v ∙ w, inl (omega arith))
-after_on a b c (inr (v, inr (q, x))) (inr (w, inl y)) = inr (v ∙ w, inl (omega arith))
-after_on a b c (inr (v, inr (q, inl x))) (inr (w, inr (r, inl y))) = inr (v ∙ w, inr (q ∙ r, inl (omega arith)))
-after_on a b c (inr (v, inr (q, inl x))) (inr (w, inr (r, inr (p, y)))) = inr (v ∙ w, inr (q ∙ r, inl (omega arith)))
-after_on a b c (inr (v, inr (q, inr (p, x)))) (inr (w, inr (r, inl y))) = inr (v ∙ w, inr (q ∙ r, inl (omega arith)))
-after_on a b c (inr (v, inr (q, inr (p, x)))) (inr (w, inr (r, inr (p', y)))) = inr (v ∙ w, inr (q ∙ r, inr (p ∙ p', omega arith)))

@@ -15,19 +15,19 @@ use Rattle.page_tags.specs.declared.header.ObjectKind.TheVariants as kinds
 use Rattle.volume_terms.specs.Sizes.{Sizes, root_number}
 use Rattle.flash_tree.specs.Groups.{HasTag}
 use Rattle.flash_tree.specs.Newest.{Spot, Holds, IsNewest, HasNewest}
-use Rattle.flash_tree.specs.NewestLaws.{one_newest}
+use Rattle.flash_tree.specs.laws.Newest.{one_newest}
 use Rattle.flash_tree.specs.Tree.{NewestMap, IsSingle, HasHeader}
-use Rattle.flash_tree.specs.Mount.{IsDamaged, IsNewer, HasNone, HasHeaderFault, Leads, Finds, End, Wrongly, Wholly, GoesThrough, sizes_of, IsVolume, Answer, NotAVolume, IsWrong, IsTreeOf, Answers}
-use Rattle.flash_tree.specs.AnswerLaws.{is_page_size}
-use Rattle.flash_tree.specs.NewestExists.{one_tag}
-use Rattle.flash_tree.specs.NewestTold.{newest_or_none, data_or_none, place_within}
-use Rattle.flash_tree.specs.FindingExists.{header_told, some_finding}
-use Rattle.flash_tree.specs.WalkExists.{some_end}
-use Rattle.flash_tree.specs.WholeList.{IsWholeList, whole_list}
-use Rattle.flash_tree.specs.ContentExists.{content_there}
-use Rattle.flash_tree.specs.TwiceExists.{twice_told}
-use Rattle.flash_tree.specs.TreeExists.{tree_objects, some_tree}
-use Rattle.flash_tree.specs.RoomExists.{room_told}
+use Rattle.flash_tree.specs.Mount.{IsDamaged, IsNewer, HasNone, HasHeaderFault, Leads, Finds, ListEnd, Wrongly, Wholly, GoesThrough, sizes_of, IsVolume, Answer, NotAVolume, IsWrong, IsTreeOf, Answers}
+use Rattle.flash_tree.proofs.AnswerLaws.{is_page_size}
+use Rattle.flash_tree.specs.laws.Newest.{one_tag}
+use Rattle.flash_tree.proofs.NewestTold.{newest_or_none, data_or_none, place_within}
+use Rattle.flash_tree.proofs.FindingExists.{header_told, some_finding}
+use Rattle.flash_tree.proofs.WalkExists.{some_end}
+use Rattle.flash_tree.proofs.WholeList.{IsWholeList, whole_list}
+use Rattle.flash_tree.proofs.ContentExists.{content_there}
+use Rattle.flash_tree.proofs.TwiceExists.{twice_told}
+use Rattle.flash_tree.proofs.TreeExists.{tree_objects, some_tree}
+use Rattle.flash_tree.proofs.RoomExists.{room_told}
 
 -- a place has one block and page
 same_place : (w b p c q : ℕ) → p < w → q < w → b * w + p ≡ c * w + q → (b ≡ c) × (p ≡ q)
@@ -107,7 +107,7 @@ module _ (g : Geometry) (flash : Flash) (within : IsWithin g.pages g.blocks flas
               ]
         ]
 
-        go : ((end : End) × GoesThrough (z spare) m (root_number ∷ []) 0 end) → (a : Answer) × Answers g flash a
+        go : ((end : ListEnd) × GoesThrough (z spare) m (root_number ∷ []) 0 end) → (a : Answer) × Answers g flash a
         go (Wrongly wrong, on) = (IsWrong wrong, inr (inl (spare, volume, on)))
         go (Wholly list, on) = with_tree list on (whole_list (z spare) m root_number list on)
 

@@ -15,10 +15,11 @@ use Rattle.volume_terms.specs.Sizes.{Sizes}
 use Rattle.posix_profile.specs.State.{Name, Entries, Object, File, Dir, Objects}
 use Rattle.posix_profile.specs.Names.{Names}
 use Rattle.posix_profile.specs.laws.Map.{same_key, eq_same}
-use Rattle.flash_tree.specs.Tree.{NewestMap, IsSingle, HasHeader, SlotIs, Reads, ReadsFile, ReadsDir, Shows}
-use Rattle.flash_tree.specs.OneTree.{one_slot}
-use Rattle.flash_tree.specs.Mount.{Wrong, HasChunks, AreSlots, Stops, Leads, Finds, with_new, End, Wrongly, Wholly, GoesThrough, ends, stops, goes, NamesTwice}
-use Rattle.flash_tree.specs.FindingLaws.{IsPageSize, slice_get_there, same_header, kinds_apart, one_finding}
+use Rattle.flash_tree.specs.Tree.{NewestMap, IsSingle, HasHeader, SlotIs, ReadsAs, ReadsFile, ReadsDir, Shows}
+use Rattle.flash_tree.specs.laws.OneTree.{one_slot}
+use Rattle.flash_tree.specs.Mount.{Wrong, HasChunks, AreSlots, Stops, Leads, Finds, with_new, ListEnd, Wrongly, Wholly, GoesThrough, ends, stops, goes, NamesTwice}
+use Rattle.flash_tree.specs.laws.Finding.{slice_get_there, same_header, kinds_apart, one_finding}
+use Rattle.flash_tree.specs.Tree.{IsPageSize}
 
 -- ---- what a list has
 
@@ -128,7 +129,7 @@ module _ (z : Sizes) (size : IsPageSize z.page_bytes) (m : NewestMap) (single : 
   -- of an object that is there the going through finds the objects that it names, which are there too
   shown_leads : (o : ℕ) (x : Object) → map.get objects o ≡ Some x → (named : List ℕ) × Finds z m o (Leads named) × Each IsThere named
   shown_leads o x there = go x there (shown.each o x there) where
-    go : (x : Object) → map.get objects o ≡ Some x → Reads z m o x → (named : List ℕ) × Finds z m o (Leads named) × Each IsThere named
+    go : (x : Object) → map.get objects o ≡ Some x → ReadsAs z m o x → (named : List ℕ) × Finds z m o (Leads named) × Each IsThere named
     go (File moment bytes) there r = ([], inl (r.fields, r.has, r.kind, has_chunks o moment bytes r, refl), λ k c is. let two : None ≡ Some c = is in absurd cc)
     go (Dir moment entries) there r =
         let named : List ℕ = list_map (λ entry. entry.object) r.slots in
@@ -153,11 +154,11 @@ module _ (z : Sizes) (size : IsPageSize z.page_bytes) (m : NewestMap) (single : 
       subst (Each IsThere) same leads.2
 
   -- how the going through ends: wholly, with objects that are there
-  abbrev pub EndsWell : End → Type 0
+  abbrev pub EndsWell : ListEnd → Type 0
   EndsWell (Wrongly wrong) = ⊥
   EndsWell (Wholly list) = Each IsThere list
 
-  pub ends_well : (list : List ℕ) (n : ℕ) (end : End) → Each IsThere list → GoesThrough z m list n end → EndsWell end
+  pub ends_well : (list : List ℕ) (n : ℕ) (end : ListEnd) → Each IsThere list → GoesThrough z m list n end → EndsWell end
   ends_well list n end there (ends len) = there
   ends_well list n end there (stops o wrong is finds) = nothing_wrong o wrong (there n o is) finds
   ends_well list n end there (goes o named is finds on) =
@@ -166,7 +167,7 @@ module _ (z : Sizes) (size : IsPageSize z.page_bytes) (m : NewestMap) (single : 
   -- what is there with a directory's header is a directory
   is_directory_there : (o : ℕ) (f : Fields) → HasHeader z m o f → f.kind ≡ kinds.Directory → IsThere o → (moment : ℕ) × (entries : Entries) × (map.get objects o ≡ Some (Dir moment entries)) × ReadsDir z m o moment entries
   is_directory_there o f has kind there = go there.0 there.1 (shown.each o there.0 there.1) where
-    go : (x : Object) → map.get objects o ≡ Some x → Reads z m o x → (moment : ℕ) × (entries : Entries) × (map.get objects o ≡ Some (Dir moment entries)) × ReadsDir z m o moment entries
+    go : (x : Object) → map.get objects o ≡ Some x → ReadsAs z m o x → (moment : ℕ) × (entries : Entries) × (map.get objects o ≡ Some (Dir moment entries)) × ReadsDir z m o moment entries
     go (File moment bytes) is r = absurd (kinds_apart z size m single o r.fields f r.has has r.kind kind)
     go (Dir moment entries) is r = (moment, entries, is, r)
 

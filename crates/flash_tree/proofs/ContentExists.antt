@@ -1,22 +1,20 @@
 -- What is there whole is an object.
-use Rattle.std.specs.Prelude.{◌≡◌, ◌<◌, ◌≤◌, ℕ, zero, suc, ◌+◌, ◌/◌, ◌%◌, ◌^◌, List, [], ◌∷◌, length, slice_get, slice_index, map as list_map, Some}
-use Rattle.std.specs.Ordering.{nat_cmp}
-use Rattle.std.specs.Cmp.Lexicographic.{slice_cmp, nat_list_cmp_total}
+use Rattle.std.specs.Prelude.{◌≡◌, ◌<◌, ◌≤◌, ℕ, ◌+◌, ◌/◌, ◌%◌, ◌^◌, List, length, slice_get, slice_index, Some}
 use Rattle.std.specs.FinMap as map
-use Rattle.std.proofs.Common.{refl, sym, ◌∙◌, ap, subst, inl, inr, arith}
+use Rattle.std.proofs.Common.{refl, sym, subst, inl, inr, arith}
 use Rattle.std.proofs.lemmas.Bool.{cases_Bool}
-use Rattle.std.proofs.lemmas.Option.{slice_get-get_or, get_or_from_slice_get, some_pair_parts}
+use Rattle.std.proofs.lemmas.Option.{slice_get-get_or}
 use Rattle.page_tags.specs.Headers.{Fields, IsBytes, is_present, greatest_length as header_greatest}
-use Rattle.page_tags.specs.Slots.{Entry, IsSlot}
+use Rattle.page_tags.specs.Slots.{Entry}
 use Rattle.page_tags.specs.declared.header.ObjectKind.TheVariants as kinds
 use Rattle.volume_terms.specs.Sizes.{Sizes, greatest_length}
-use Rattle.posix_profile.specs.State.{Name, Entries, Object, File, Dir, moment_of}
+use Rattle.posix_profile.specs.State.{Object, File, Dir, moment_of}
 use Rattle.posix_profile.specs.WellFormed.{HasContent}
 use Rattle.volume_terms.specs.Names.{AreBytes, IsName}
-use Rattle.flash_tree.specs.Tree.{NewestMap, HasHeader, ByteIs, Reads, ReadsDir}
+use Rattle.flash_tree.specs.Tree.{NewestMap, HasHeader, ByteIs, ReadsAs, ReadsDir, slot_pairs}
 use Rattle.flash_tree.specs.Mount.{HasChunks, AreSlots, Leads, Finds}
-use Rattle.flash_tree.specs.FindingExists.{listed}
-use Rattle.flash_tree.specs.Pairs.{at_find}
+use Rattle.flash_tree.proofs.FindingExists.{listed}
+use Rattle.flash_tree.specs.laws.Slot.{entry_slot}
 
 -- the element of a list by its place, with a default
 at_or : (xs : List ℕ) (P : ℕ → ℕ → Type 0) → ((i x : ℕ) → slice_get xs i ≡ Some x → P i x) → (i : ℕ) → i < length xs → P i (slice_index xs i)
@@ -26,29 +24,9 @@ at_or xs P each i lt = each i (slice_index xs i) (slice_get-get_or xs i 0 lt)
 all_bytes : (bytes : List ℕ) → ((i x : ℕ) → slice_get bytes i ≡ Some x → x < 256) → AreBytes bytes
 all_bytes bytes each k d lt = each k _ (slice_get-get_or bytes k d lt)
 
--- the pairs of slots
-abbrev pub slot_pairs : List Entry → List (Name × ℕ)
-slot_pairs slots = list_map (λ entry. (entry.name, entry.object)) slots
-
--- a pair of slots is one of a slot
-pub slot_of_pair : (slots : List Entry) (i : ℕ) (name : Name) (object : ℕ) → slice_get (slot_pairs slots) i ≡ Some (name, object) → (entry : Entry) × (slice_get slots i ≡ Some entry) × (entry.name ≡ name) × (entry.object ≡ object)
-slot_of_pair [] i name object is = absurd cc
-slot_of_pair (entry ∷ slots) zero name object is = let parts = some_pair_parts entry.name name entry.object object is in (entry, refl, parts.0, parts.1)
-slot_of_pair (entry ∷ slots) (suc i) name object is = slot_of_pair slots i name object is
-
--- an entry of a directory that is read stands in a slot
-pub entry_slot : (z : Sizes) (m : NewestMap) (o moment : ℕ) (entries : Entries) (r : ReadsDir z m o moment entries) (name : Name) (object : ℕ) → map.get entries name ≡ Some object
-    → (i : ℕ) × (entry : Entry) × (slice_get r.slots i ≡ Some entry) × (entry.name ≡ name) × (entry.object ≡ object)
-entry_slot z m o moment entries r name object is =
-    let there : map.find (slice_cmp nat_cmp) name (slot_pairs r.slots) ≡ Some object =
-    sym (map.get-from_entries nat_list_cmp_total (slot_pairs r.slots) name) ∙ ap (λ es. map.get es name) (sym r.entries_are) ∙ is in
-    let at = at_find nat_list_cmp_total (map.slice_cmp-IsAntisymmetric map.nat_cmp-IsAntisymmetric) (slot_pairs r.slots) name object there in
-    let slot = slot_of_pair r.slots at.0 name object at.1 in
-    (at.0, slot.0, slot.1, slot.2, slot.3)
-
 -- what an object says of itself fits
 pub record IsContent (z : Sizes) (m : NewestMap) (o : ℕ) (x : Object) : Type 0 where
-  pub reads : Reads z m o x
+  pub reads : ReadsAs z m o x
   pub moment : moment_of x < 2 ^ 64
   pub content : HasContent z x
 

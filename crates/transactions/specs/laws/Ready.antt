@@ -12,10 +12,13 @@ use Rattle.nand_model.specs.declared.nand.Gone.{Gone}
 use Rattle.flash_tree.specs.Groups.{HasTag}
 use Rattle.flash_tree.specs.Keeping.{Loses}
 use Rattle.flash_tree.specs.Newest.{Numbers, AreAbove}
-use Rattle.flash_tree.specs.NewestLaws.{tag_stays, loses_erase, loses_mark}
+use Rattle.flash_tree.specs.laws.Newest.{tag_stays, loses_erase, loses_mark}
 use Rattle.block_state.specs.declared.blocks.BlockEntry.{BlockEntry}
-use Rattle.block_state.specs.Table.{Table, blank}
-use Rattle.transactions.specs.Ready.{AreBelow, IsOpen, IsReady}
+use Rattle.flash_tree.specs.Mount.{bad_blocks}
+use Rattle.block_state.specs.Counting.{how_many}
+use Rattle.block_state.specs.Kept.{bad_count}
+use Rattle.block_state.specs.Table.{Table, blank, is_bad}
+use Rattle.transactions.specs.Ready.{AreBelow, IsOpenOn, IsReady}
 use Rattle.transactions.specs.Opening.{Opens}
 use Rattle.transactions.specs.Marking.{MarksNoted, NotesMark}
 
@@ -43,7 +46,7 @@ ready_erased b old new t result ready closed does = record {
   geometry = ready.geometry ∙ sym does.lasts.geometry;
   marks = λ k. ready.marks k ∙ ap (λ f. f k) (sym does.bad);
   open_block = λ o is.
-      let was : IsOpen old t o = ready.open_block o is in
+      let was : IsOpenOn old t o = ready.open_block o is in
       record {
         within = subst (λ (g : Geometry). o < g.blocks) (sym does.lasts.geometry) was.within;
         good = ap (λ f. f o) does.bad ∙ was.good;
@@ -68,7 +71,7 @@ ready_opened b d t t' ready lt good next opens = record {
   open_block = λ o is.
       let both : Some b ≡ Some o = sym opens.open_block ∙ is in
       let same : b ≡ o = cc in
-      subst (IsOpen d t') same (record {
+      subst (IsOpenOn d t') same (record {
         within = lt;
         good = good;
         next = next ∙ ap (λ (x : BlockEntry). Some x.next) (sym opens.sets.here);
@@ -87,7 +90,7 @@ ready_read old new t ready reads = record {
   geometry = ready.geometry ∙ sym reads.lasts.geometry;
   marks = λ k. ready.marks k ∙ ap (λ f. f k) (sym reads.bad);
   open_block = λ o is.
-      let was : IsOpen old t o = ready.open_block o is in
+      let was : IsOpenOn old t o = ready.open_block o is in
       record {
         within = subst (λ (g : Geometry). o < g.blocks) (sym reads.lasts.geometry) was.within;
         good = ap (λ f. f o) reads.bad ∙ was.good;
@@ -122,7 +125,7 @@ ready_marked b old new t t' result ready closed does notes = record {
   open_block = λ o is.
       let then : t.open_block ≡ Some o = sym notes.open_block ∙ is in
       let ne : o ≢ b = λ e. closed (then ∙ ap Some e) in
-      let was : IsOpen old t o = ready.open_block o then in
+      let was : IsOpenOn old t o = ready.open_block o then in
       let same : t'.entry o ≡ t.entry o = notes.sets.others o ne in
       record {
         within = subst (λ (g : Geometry). o < g.blocks) (sym does.lasts.geometry) was.within;
@@ -189,3 +192,9 @@ ready_closed d t ready = record {
   numbers = ready.numbers;
   below = ready.below;
 }
+
+-- table and flash have as many bad blocks
+pub same_bad : (d : Device) (t : Table) → IsReady d t → bad_count t ≡ bad_blocks d.geometry d.flash
+same_bad d t ready =
+    let marks : is_bad t ≡ d.flash.bad = λ i b. ready.marks b i in
+    ap (λ f. how_many f t.geometry.blocks) marks ∙ ap (λ (g : Geometry). how_many d.flash.bad g.blocks) ready.geometry

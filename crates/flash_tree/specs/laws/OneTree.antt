@@ -12,7 +12,7 @@ use Rattle.page_tags.specs.laws.Slot.{same_slot}
 use Rattle.volume_terms.specs.Sizes.{Sizes, page_slots, root_number}
 use Rattle.posix_profile.specs.State.{Entries, Object, File, Dir, Objects}
 use Rattle.posix_profile.specs.Names.{Names, Reached, root, below}
-use Rattle.flash_tree.specs.Tree.{NewestMap, IsSingle, HasHeader, ByteIs, SlotIs, Reads, ReadsFile, ReadsDir, Shows}
+use Rattle.flash_tree.specs.Tree.{NewestMap, IsSingle, HasHeader, ByteIs, SlotIs, ReadsAs, ReadsFile, ReadsDir, Shows}
 
 -- options with the same values are one
 same_options : {A : Type 0} (x y : Option A) → ((v : A) → x ≡ Some v → y ≡ Some v) → ((v : A) → y ≡ Some v → x ≡ Some v) → x ≡ y
@@ -64,7 +64,7 @@ module _ (z : Sizes) (few : z.page_bytes ≤ 4096) (m : NewestMap) (single : IsS
       )
 
   -- an object has one kind, one moment and one content
-  pub one_object : (x y : Object) → Reads z m o x → Reads z m o y → x ≡ y
+  pub one_object : (x y : Object) → ReadsAs z m o x → ReadsAs z m o y → x ≡ y
   one_object (File s xs) (File t ys) a b = let one = one_file s t xs ys a b in ap (λ n. File n xs) one.0 ∙ ap (File t) one.1
   one_object (Dir s xs) (Dir t ys) a b = let one = one_dir s t xs ys a b in ap (λ n. Dir n xs) one.0 ∙ ap (Dir t) one.1
   one_object (File s xs) (Dir t ys) a b = let two : kinds.File ≡ kinds.Directory = sym a.kind ∙ ap (λ (f : Fields). f.kind) (one_header _ _ a.has b.has) ∙ b.kind in cc

@@ -5,11 +5,11 @@ use Rattle.std.proofs.Common.{refl, sym, ◌∙◌, ap, subst, inl, inr, arith}
 use Rattle.std.proofs.lemmas.Bool.{cases_Bool, cases_lt, cond-true, cond-false}
 use Rattle.volume_terms.specs.Sizes.{Sizes}
 use Rattle.flash_tree.specs.Tree.{NewestMap}
-use Rattle.flash_tree.specs.TreeLaws.{slice_get_within}
-use Rattle.flash_tree.specs.Mount.{Leads, Finds, with_new, End, Wrongly, Wholly, GoesThrough, ends, stops, goes}
-use Rattle.flash_tree.specs.FindingLaws.{slice_get_there}
-use Rattle.flash_tree.specs.ShownLaws.{Each, each_with_new}
-use Rattle.flash_tree.specs.WalkExists.{IsOnce, place_of, once_with_new, stays_with_new}
+use Rattle.flash_tree.specs.laws.Tree.{slice_get_within}
+use Rattle.flash_tree.specs.Mount.{Leads, Finds, with_new, ListEnd, Wrongly, Wholly, GoesThrough, ends, stops, goes}
+use Rattle.flash_tree.specs.laws.Finding.{slice_get_there}
+use Rattle.flash_tree.specs.laws.Shown.{Each, each_with_new}
+use Rattle.flash_tree.proofs.WalkExists.{IsOnce, place_of, once_with_new, stays_with_new}
 
 -- the number stands on the list
 abbrev pub IsOn : List ℕ → ℕ → Type 0
@@ -71,11 +71,11 @@ module _ (z : Sizes) (m : NewestMap) (first : ℕ) where
   ]
 
   -- how a going through ends, from what holds of the list so far
-  abbrev EndsWhole : End → Type 0
+  abbrev EndsWhole : ListEnd → Type 0
   EndsWhole (Wrongly wrong) = Unit {0}
   EndsWhole (Wholly list) = IsWholeList list
 
-  pub ends_whole : (list : List ℕ) (n : ℕ) (end : End) → FirstThere list n → Each IsLedTo list → IsOnce list → slice_get list 0 ≡ Some first → GoesThrough z m list n end → EndsWhole end
+  pub ends_whole : (list : List ℕ) (n : ℕ) (end : ListEnd) → FirstThere list n → Each IsLedTo list → IsOnce list → slice_get list 0 ≡ Some first → GoesThrough z m list n end → EndsWhole end
   ends_whole list n end there led once begins (ends len) = record {
     there = λ i o is. there i o (let within = slice_get_within list i o is in omega arith) is;
     led = led;

@@ -12,16 +12,18 @@ use Rattle.volume_terms.specs.Sizes.{Sizes, root_number}
 use Rattle.posix_profile.specs.State.{Name, Entries, Object, File, Dir, Objects, IsDirectory}
 use Rattle.posix_profile.specs.Names.{Names, Reached, root, below}
 use Rattle.posix_profile.specs.WellFormed.{IsObject}
-use Rattle.flash_tree.specs.Tree.{NewestMap, IsSingle, HasHeader, SlotIs, Reads, ReadsDir, Shows}
-use Rattle.flash_tree.specs.TreeLaws.{slice_get_within}
-use Rattle.flash_tree.specs.OneTree.{one_slot}
+use Rattle.flash_tree.specs.Tree.{NewestMap, IsSingle, HasHeader, SlotIs, ReadsAs, ReadsDir, Shows}
+use Rattle.flash_tree.specs.laws.Tree.{slice_get_within}
+use Rattle.flash_tree.specs.laws.OneTree.{one_slot}
 use Rattle.flash_tree.specs.Mount.{AreSlots, Leads, Finds, IsSlotIn, NamesTwice}
-use Rattle.flash_tree.specs.FindingLaws.{IsPageSize, kinds_apart, one_finding, same_header, same_slots, slice_get_there}
-use Rattle.flash_tree.specs.ShownLaws.{pairs, found}
-use Rattle.flash_tree.specs.FindingExists.{listed}
-use Rattle.flash_tree.specs.Pairs.{find_at, at_find}
-use Rattle.flash_tree.specs.WholeList.{IsOn, IsLedTo, is_first, is_named, IsWholeList}
-use Rattle.flash_tree.specs.ContentExists.{IsContent, entry_slot}
+use Rattle.flash_tree.specs.laws.Finding.{kinds_apart, one_finding, same_header, same_slots, slice_get_there}
+use Rattle.flash_tree.specs.Tree.{IsPageSize}
+use Rattle.flash_tree.specs.laws.Shown.{pairs, found}
+use Rattle.flash_tree.proofs.FindingExists.{listed}
+use Rattle.flash_tree.specs.laws.Pairs.{find_at, at_find}
+use Rattle.flash_tree.proofs.WholeList.{IsOn, IsLedTo, is_first, is_named, IsWholeList}
+use Rattle.flash_tree.proofs.ContentExists.{IsContent}
+use Rattle.flash_tree.specs.laws.Slot.{entry_slot}
 
 -- the objects of slots, by place
 mapped_at : (slots : List Entry) (k : ℕ) (e : Entry) → slice_get slots k ≡ Some e → slice_get (list_map (λ entry. entry.object) slots) k ≡ Some e.object
@@ -130,7 +132,7 @@ module _ (z : Sizes) (size : IsPageSize z.page_bytes) (m : NewestMap) (single : 
       let x = get_on d on in
       go e.0 e.1 e.2 x.0 x.1 x.2.reads
     where
-      go : (e : Entry) → slice_get slots k ≡ Some e → e.object ≡ c → (x : Object) → map.get tree_objects d ≡ Some x → Reads z m d x → (name : Name) × Names tree_objects d name c
+      go : (e : Entry) → slice_get slots k ≡ Some e → e.object ≡ c → (x : Object) → map.get tree_objects d ≡ Some x → ReadsAs z m d x → (name : Name) × Names tree_objects d name c
       go e there object (File moment bytes) got r = absurd (kinds_apart z size m single d r.fields f r.has has r.kind kind)
       go e there object (Dir moment entries) got r =
           let here : slice_get r.slots k ≡ Some e = ap (λ l. slice_get l k) (slots_same d f has slots are moment entries r) ∙ there in
@@ -150,7 +152,7 @@ module _ (z : Sizes) (size : IsPageSize z.page_bytes) (m : NewestMap) (single : 
   -- the root is a directory
   root_is : IsDirectory tree_objects root_number
   root_is = let x = get_on root_number root_on in go x.0 x.1 x.2.reads where
-    go : (x : Object) → map.get tree_objects root_number ≡ Some x → Reads z m root_number x → IsDirectory tree_objects root_number
+    go : (x : Object) → map.get tree_objects root_number ≡ Some x → ReadsAs z m root_number x → IsDirectory tree_objects root_number
     go (File moment bytes) got r = absurd (kinds_apart z size m single root_number r.fields root_fields r.has root_has r.kind root_kind)
     go (Dir moment entries) got r = (moment, entries, got)
 

@@ -5,8 +5,8 @@ use Rattle.nand_model.specs.Flash.{Flash}
 use Rattle.nand_model.specs.Changes.{Grows}
 use Rattle.flash_tree.specs.Groups.{Group}
 use Rattle.flash_tree.specs.Newest.{Spot, Holds}
-use Rattle.flash_tree.specs.NewestLaws.{same_groups_keep}
-use Rattle.flash_tree.specs.AddedLaws.{newest_this, newest_other}
+use Rattle.flash_tree.specs.laws.Newest.{same_groups_keep}
+use Rattle.flash_tree.specs.laws.Added.{newest_this, newest_other}
 use Rattle.transactions.specs.declared.source.PageName.{PageName}
 use Rattle.transactions.specs.declared.group.Placed.{Placed}
 use Rattle.transactions.specs.declared.group.GroupFault.{GroupFault}

@@ -14,10 +14,11 @@ use Rattle.page_tags.specs.declared.header.ObjectKind.TheVariants as kinds
 use Rattle.volume_terms.specs.Sizes.{Sizes, page_slots}
 use Rattle.posix_profile.specs.State.{Name}
 use Rattle.flash_tree.specs.Tree.{NewestMap, IsSingle, HasHeader, SlotIs}
-use Rattle.flash_tree.specs.TreeLaws.{slice_get_within}
+use Rattle.flash_tree.specs.laws.Tree.{slice_get_within}
 use Rattle.flash_tree.specs.Mount.{IsDamaged, wrong_by, HasNone, HasHeaderFault, HasChunks, LacksChunk, AreSlots, LacksSlots, Finding, Stops, Leads, Finds}
-use Rattle.flash_tree.specs.FindingLaws.{IsPageSize, slice_get_there}
-use Rattle.flash_tree.specs.NewestExists.{IsTold, all_or_one}
+use Rattle.flash_tree.specs.laws.Finding.{slice_get_there}
+use Rattle.flash_tree.specs.Tree.{IsPageSize}
+use Rattle.flash_tree.proofs.NewestExists.{IsTold, all_or_one}
 
 -- what is at a place of a list with one more at its end
 pub slice_get_push : {A : Type 0} (xs : List A) (y : A) (i : ℕ) (x : A) → slice_get (xs ++ y ∷ []) i ≡ Some x → (slice_get xs i ≡ Some x) ⊎ ((i ≡ length xs) × (y ≡ x))

@@ -16,18 +16,20 @@ use Rattle.posix_profile.specs.State.{Object, Objects}
 use Rattle.posix_profile.specs.Charge.{charge}
 use Rattle.flash_tree.specs.Groups.{HasTag}
 use Rattle.flash_tree.specs.Newest.{Spot, IsNewest, HasNewest}
-use Rattle.flash_tree.specs.NewestLaws.{one_spot, one_newest}
+use Rattle.flash_tree.specs.laws.Newest.{one_spot, one_newest}
 use Rattle.flash_tree.specs.Tree.{HasHeader, LooksUp, InFootprint}
-use Rattle.flash_tree.specs.TreeLaws.{slice_get_within}
+use Rattle.flash_tree.specs.laws.Tree.{slice_get_within}
 use Rattle.flash_tree.specs.Mount.{HasNone, HasHeaderFault, sizes_of, bad_blocks, IsFree, HasFree, HasRoom}
-use Rattle.flash_tree.specs.FindingLaws.{IsPageSize, same_header, header_no_fault, slice_get_there}
-use Rattle.flash_tree.specs.FindingExists.{listed, slice_get_push}
-use Rattle.flash_tree.specs.AnswerLaws.{is_page_size}
-use Rattle.flash_tree.specs.NewestExists.{IsTold, all_or_one, one_tag, tag_at}
-use Rattle.flash_tree.specs.NewestTold.{newest_or_none, place_within}
-use Rattle.flash_tree.specs.TwiceExists.{both_told, same_told}
-use Rattle.flash_tree.specs.WalkExists.{pigeonhole}
-use Rattle.flash_tree.specs.WholeList.{IsOn}
+use Rattle.flash_tree.specs.laws.Finding.{same_header, header_no_fault, slice_get_there}
+use Rattle.flash_tree.specs.Tree.{IsPageSize}
+use Rattle.flash_tree.proofs.FindingExists.{listed, slice_get_push}
+use Rattle.flash_tree.proofs.AnswerLaws.{is_page_size}
+use Rattle.flash_tree.proofs.NewestExists.{IsTold, all_or_one, tag_at}
+use Rattle.flash_tree.specs.laws.Newest.{one_tag}
+use Rattle.flash_tree.proofs.NewestTold.{newest_or_none, place_within}
+use Rattle.flash_tree.proofs.TwiceExists.{both_told, same_told}
+use Rattle.flash_tree.proofs.WalkExists.{pigeonhole}
+use Rattle.flash_tree.proofs.WholeList.{IsOn}
 
 -- that one number below n is so can be told
 pub below_told : (P : ℕ → Type 0) → ((i : ℕ) → IsTold (P i)) → (n : ℕ) → IsTold ((i : ℕ) × (i < n) × P i)

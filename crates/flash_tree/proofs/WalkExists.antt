@@ -6,10 +6,11 @@ use Rattle.std.proofs.lemmas.Bool.{cases_Bool, cases_eq, cases_lt, cond-true, co
 use Rattle.page_tags.specs.Headers.{Fields}
 use Rattle.volume_terms.specs.Sizes.{Sizes}
 use Rattle.flash_tree.specs.Tree.{NewestMap, IsSingle, HasHeader}
-use Rattle.flash_tree.specs.TreeLaws.{slice_get_within}
-use Rattle.flash_tree.specs.Mount.{Finding, Stops, Leads, Finds, with_new, End, Wrongly, Wholly, GoesThrough, ends, stops, goes}
-use Rattle.flash_tree.specs.FindingLaws.{IsPageSize, slice_get_there, header_there}
-use Rattle.flash_tree.specs.FindingExists.{slice_get_push}
+use Rattle.flash_tree.specs.laws.Tree.{slice_get_within}
+use Rattle.flash_tree.specs.Mount.{Finding, Stops, Leads, Finds, with_new, ListEnd, Wrongly, Wholly, GoesThrough, ends, stops, goes}
+use Rattle.flash_tree.specs.laws.Finding.{slice_get_there, header_there}
+use Rattle.flash_tree.specs.Tree.{IsPageSize}
+use Rattle.flash_tree.proofs.FindingExists.{slice_get_push}
 
 -- what goes to the place n goes where the last one went
 abbrev shifted : (ℕ → ℕ) → ℕ → ℕ → ℕ
@@ -164,7 +165,7 @@ module _ (z : Sizes) (size : IsPageSize z.page_bytes) (m : NewestMap) (single : 
         subst (λ k. (f : Fields) × HasHeader z m k f) one header
   ]
 
-  walk : (fuel : ℕ) (list : List ℕ) (n : ℕ) → IsOnce list → n ≤ length list → HaveHeaders list n → fuel + n ≡ suc count → (end : End) × GoesThrough z m list n end
+  walk : (fuel : ℕ) (list : List ℕ) (n : ℕ) → IsOnce list → n ≤ length list → HaveHeaders list n → fuel + n ≡ suc count → (end : ListEnd) × GoesThrough z m list n end
   walk zero list n once le have is = absurd (few_have list once (omega arith) (subst (HaveHeaders list) (let all : n ≡ suc count = omega arith in all) have))
   walk (suc fuel) list n once le have is = elim (cases_lt n (length list)) [
     | inr past ↦ (Wholly list, ends (omega arith))
@@ -172,8 +173,8 @@ module _ (z : Sizes) (size : IsPageSize z.page_bytes) (m : NewestMap) (single : 
         let at = slice_get_there list n lt in
         go at.0 at.1 (λ longer n' once' le' have' is'. walk fuel longer n' once' le' have' is') (find at.0)
   ] where
-    go : (o : ℕ) → slice_get list n ≡ Some o → ((list : List ℕ) (n : ℕ) → IsOnce list → n ≤ length list → HaveHeaders list n → fuel + n ≡ suc count → (end : End) × GoesThrough z m list n end)
-        → ((finding : Finding) × Finds z m o finding) → (end : End) × GoesThrough z m list n end
+    go : (o : ℕ) → slice_get list n ≡ Some o → ((list : List ℕ) (n : ℕ) → IsOnce list → n ≤ length list → HaveHeaders list n → fuel + n ≡ suc count → (end : ListEnd) × GoesThrough z m list n end)
+        → ((finding : Finding) × Finds z m o finding) → (end : ListEnd) × GoesThrough z m list n end
     go o at on (Stops wrong, finds) = (Wrongly wrong, stops o wrong at finds)
     go o at on (Leads named, finds) =
         let longer = slice_get_within (with_new list named) n o (stays_with_new list named n o at) in
@@ -187,5 +188,5 @@ module _ (z : Sizes) (size : IsPageSize z.page_bytes) (m : NewestMap) (single : 
   once_one o (suc i) j x is is' = let two : None ≡ Some x = is in absurd cc
 
   -- going through the objects from one on ends
-  pub some_end : (o : ℕ) → (end : End) × GoesThrough z m (o ∷ []) 0 end
+  pub some_end : (o : ℕ) → (end : ListEnd) × GoesThrough z m (o ∷ []) 0 end
   some_end o = walk (suc count) (o ∷ []) 0 (once_one o) (omega arith) (λ i x lt is. absurd (omega arith)) (omega arith)

@@ -9,7 +9,7 @@ use Rattle.nand_model.specs.Changes.{Grows}
 use Rattle.flash_tree.specs.Groups.{Group, AddsGroup, AllThere}
 use Rattle.flash_tree.specs.Keeping.{StaysNewest}
 use Rattle.flash_tree.specs.Newest.{Spot, spot_in, Holds, IsAfter, IsNewest, IsNewestWith}
-use Rattle.flash_tree.specs.NewestLaws.{tag_grows, held_before, stays_of_fewer}
+use Rattle.flash_tree.specs.laws.Newest.{tag_grows, held_before, stays_of_fewer}
 
 -- no place comes after one that is its equal
 not_after : (s t : Spot) → s.tag.version ≡ t.tag.version → s.tag.seq ≡ t.tag.seq → s.page ≡ t.page → s.block ≡ t.block → IsAfter s t → ⊥

@@ -8,9 +8,9 @@ use Rattle.nand_model.specs.Changes.{Grows, Shrinks, OnlyReads}
 use Rattle.nand_model.specs.declared.nand.Gone.{Gone}
 use Rattle.page_tags.specs.declared.tag.Tag.{Tag}
 use Rattle.page_tags.specs.Tags.{tag_bytes}
+use Rattle.page_tags.specs.laws.Tag.{same_tag}
 use Rattle.flash_tree.specs.Groups.{HasTag, Group, IsPart, IsGroup, IsCounted, SameGroups}
 use Rattle.flash_tree.specs.Newest.{Spot, Holds, IsAfter, IsNewest, IsNewestWith, HasNewest, Numbers, AreGreatest}
-use Rattle.flash_tree.specs.NewestExists.{one_tag}
 use Rattle.flash_tree.specs.Keeping.{StaysNewest, KeepsNewest, KeepsElsewhere, Loses}
 
 -- of two places one comes after the other, or they are at one place with equal order
@@ -28,6 +28,13 @@ one_is_after s t f g = elim (cases_order s.tag.version t.tag.version) [
     ]
   ]
 ]
+
+-- a page has one tag
+pub one_tag : (f : Flash) (b p : ℕ) (t u : Tag) → HasTag f b p t → HasTag f b p u → t ≡ u
+one_tag f b p t u x y =
+    let pages : Written x.bytes (tag_bytes t) ≡ Written y.bytes (tag_bytes u) = sym x.page ∙ y.page in
+    let tags : tag_bytes t ≡ tag_bytes u = cc in
+    same_tag t u x.valid y.valid tags
 
 -- a key has one newest page
 pub one_spot : (f : Flash) (o c : ℕ) (s t : Spot) → IsNewest f o c s → IsNewest f o c t → s ≡ t

@@ -9,13 +9,14 @@ use Rattle.page_tags.specs.declared.header.ObjectKind.{ObjectKind}
 use Rattle.page_tags.specs.declared.header.ObjectKind.TheVariants as kinds
 use Rattle.volume_terms.specs.Sizes.{Sizes}
 use Rattle.flash_tree.specs.Tree.{NewestMap, IsSingle, HasHeader, SlotIs}
-use Rattle.flash_tree.specs.TreeLaws.{slice_get_within}
-use Rattle.flash_tree.specs.OneTree.{one_slot}
+use Rattle.flash_tree.specs.laws.Tree.{slice_get_within}
+use Rattle.flash_tree.specs.laws.OneTree.{one_slot}
 use Rattle.flash_tree.specs.Mount.{HasNone, HasHeaderFault, AreSlots, IsSlotIn, NamesTwice}
-use Rattle.flash_tree.specs.FindingLaws.{IsPageSize, slice_get_there, same_header, kinds_apart, header_no_fault}
-use Rattle.flash_tree.specs.FindingExists.{listed}
-use Rattle.flash_tree.specs.NewestExists.{IsTold}
-use Rattle.flash_tree.specs.WholeList.{IsWholeList, IsThereOn}
+use Rattle.flash_tree.specs.laws.Finding.{slice_get_there, same_header, kinds_apart, header_no_fault}
+use Rattle.flash_tree.specs.Tree.{IsPageSize}
+use Rattle.flash_tree.proofs.FindingExists.{listed}
+use Rattle.flash_tree.proofs.NewestExists.{IsTold}
+use Rattle.flash_tree.proofs.WholeList.{IsWholeList, IsThereOn}
 
 -- one of the list is so
 abbrev pub IsFound : {A : Type 0} → List A → (ℕ → A → Type 0) → Type 0

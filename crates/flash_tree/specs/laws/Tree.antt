@@ -5,7 +5,7 @@ use Rattle.std.specs.FinMap as map
 use Rattle.page_tags.specs.Headers.{Fields}
 use Rattle.volume_terms.specs.Sizes.{Sizes, page_slots}
 use Rattle.posix_profile.specs.State.{Entries, Object, File, Dir, Objects}
-use Rattle.flash_tree.specs.Tree.{NewestMap, HasHeader, Reads, ReadsFile, ReadsDir, Shows, LooksUp, KeepsFootprint}
+use Rattle.flash_tree.specs.Tree.{NewestMap, HasHeader, ReadsAs, ReadsFile, ReadsDir, Shows, LooksUp, KeepsFootprint}
 
 -- an element is at a place of the list
 pub slice_get_within : {A : Type 0} (xs : List A) (i : ℕ) (x : A) → slice_get xs i ≡ Some x → i < length xs
@@ -49,7 +49,7 @@ module _ (z : Sizes) (m n : NewestMap) (objects : Objects) (keeps : KeepsFootpri
     entries_are = r.entries_are;
   }
 
-  reads : (x : Object) → map.get objects o ≡ Some x → Reads z m o x → Reads z n o x
+  reads : (x : Object) → map.get objects o ≡ Some x → ReadsAs z m o x → ReadsAs z n o x
   reads (File moment bytes) there r = file moment bytes there r
   reads (Dir moment entries) there r = dir moment entries there r
 

@@ -9,7 +9,7 @@ use Rattle.page_tags.specs.declared.tag.Tag.{Tag}
 use Rattle.page_tags.specs.Tags.{tag_bytes}
 use Rattle.flash_tree.specs.Groups.{HasTag, IsPart, IsGroup}
 use Rattle.flash_tree.specs.Newest.{Spot, Holds}
-use Rattle.flash_tree.specs.NewestExists.{one_tag}
+use Rattle.flash_tree.specs.laws.Newest.{one_tag}
 use Rattle.flash_tree.specs.Places.{group_of, CountsByTag}
 
 -- reads leave an honest device the flash that it has

@@ -1,5 +1,5 @@
 -- Going through a list of objects finds one thing of each, and so ends in one way.
-use Rattle.std.specs.Prelude.{◌≡◌, ◌⊎◌, ◌<◌, ◌≤◌, ℕ, zero, suc, ◌+◌, List, [], ◌∷◌, length, slice_get, map as list_map, Some}
+use Rattle.std.specs.Prelude.{◌≡◌, ◌⊎◌, ◌<◌, ℕ, zero, suc, ◌+◌, List, [], ◌∷◌, length, slice_get, map as list_map, Some}
 use Rattle.std.proofs.Common.{refl, sym, ◌∙◌, ap, subst, inl, inr, arith}
 use Rattle.page_tags.specs.Headers.{Fields, IsHeader, IsHeaderOf, IsFirstFault, header_bytes}
 use Rattle.page_tags.specs.laws.Header.{header_or_fault, one_first_fault}
@@ -7,15 +7,10 @@ use Rattle.page_tags.specs.Slots.{Entry}
 use Rattle.page_tags.specs.declared.header.HeaderFault.{HeaderFault}
 use Rattle.page_tags.specs.declared.header.ObjectKind.TheVariants as kinds
 use Rattle.volume_terms.specs.Sizes.{Sizes}
-use Rattle.flash_tree.specs.Tree.{NewestMap, IsSingle, HasHeader}
-use Rattle.flash_tree.specs.TreeLaws.{slice_get_within}
-use Rattle.flash_tree.specs.OneTree.{one_header, one_slot, same_lists}
-use Rattle.flash_tree.specs.Mount.{Wrong, wrong_by, HasHeaderFault, HasChunks, LacksChunk, AreSlots, LacksSlots, Finding, Stops, Leads, IsFileThere, IsDirectoryThere, LacksContent, Finds, with_new, End, Wrongly, GoesThrough, ends, stops, goes}
-
--- the bytes of a page that a header can fill
-pub record IsPageSize (d : ℕ) : Type 0 where
-  pub least : 32 ≤ d
-  pub most : d ≤ 4096
+use Rattle.flash_tree.specs.Tree.{IsPageSize, NewestMap, IsSingle, HasHeader}
+use Rattle.flash_tree.specs.laws.Tree.{slice_get_within}
+use Rattle.flash_tree.specs.laws.OneTree.{one_header, one_slot, same_lists}
+use Rattle.flash_tree.specs.Mount.{Wrong, wrong_by, HasHeaderFault, HasChunks, LacksChunk, AreSlots, LacksSlots, Finding, Stops, Leads, IsFileThere, IsDirectoryThere, LacksContent, Finds, with_new, ListEnd, Wrongly, GoesThrough, ends, stops, goes}
 
 -- the elements of a list are all there
 pub slice_get_there : {A : Type 0} (xs : List A) (i : ℕ) → i < length xs → (x : A) × (slice_get xs i ≡ Some x)
@@ -123,7 +118,7 @@ module _ (z : Sizes) (size : IsPageSize z.page_bytes) (m : NewestMap) (single : 
   same_object list n o p is is' = let two : Some o ≡ Some p = sym is ∙ is' in cc
 
   -- going through the list ends in one way
-  pub one_end : (list : List ℕ) (n : ℕ) (a b : End) → GoesThrough z m list n a → GoesThrough z m list n b → a ≡ b
+  pub one_end : (list : List ℕ) (n : ℕ) (a b : ListEnd) → GoesThrough z m list n a → GoesThrough z m list n b → a ≡ b
   one_end list n a b (ends len) (ends len') = refl
   one_end list n a b (ends len) (stops o wrong is finds) = let lt = slice_get_within list n o is in absurd (omega arith)
   one_end list n a b (ends len) (goes o named is finds on) = let lt = slice_get_within list n o is in absurd (omega arith)

@@ -1,0 +1,11 @@
+pub mod Added
+pub mod Finding
+pub mod Free
+pub mod Newest
+pub mod OneTree
+pub mod Order
+pub mod Pairs
+pub mod Place
+pub mod Shown
+pub mod Slot
+pub mod Tree

@@ -1,0 +1,3 @@
+pub mod Handing
+pub mod Newest
+pub mod Ready

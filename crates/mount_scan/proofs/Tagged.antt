@@ -17,7 +17,7 @@ use Rattle.flash_tree.specs.declared.place.Found.{Found}
 use Rattle.flash_tree.specs.Places.{spot_of, group_of, TagIs}
 use Rattle.flash_tree.specs.laws.Place.{same_flash, tag_placed, counts_by_tag}
 use Rattle.mount_scan.specs.Scanned.{AreCounted, ArePlaced, IsPlaceBefore, TellsCounted}
-use Rattle.mount_scan.specs.ScanLaws.{found_of, listed_spot}
+use Rattle.mount_scan.specs.laws.Scan.{found_of, listed_spot}
 use Rattle.mount_scan.specs.Runs.{IsPartOf, IsRun, IsCountedIn, AddsCounted}
 use Rattle.mount_scan.specs.Blocks.{AreTags, AreCountedBelow, TellsBelow}
 

@@ -1,5 +1,5 @@
 pub mod Scanned
-pub mod ScanLaws
+pub mod laws
 pub mod Runs
 pub mod Blocks
 pub mod Keys

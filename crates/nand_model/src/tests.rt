@@ -1,5 +1,5 @@
 // The device in memory: fates, numbers of calls, sizes.
-#![tactic(auto, using(crate::specs::SmallDevices::small_laws))]
+#![tactic(auto, using(crate::proofs::SmallDeviceLaws::small_laws))]
 
 ghost use Rattle.std.specs.Prelude.{◌+◌, ◌<◌, IfOk, OnOk};
 ghost use Rattle.nand_model.specs.MemoryState.{device};

@@ -1,4 +1,4 @@
-use Rattle.mount_scan.specs.ScanLaws.{newest_listed}
+use Rattle.mount_scan.specs.laws.Scan.{newest_listed}
 use Rattle.mount_scan.proofs.law.a_page_is_found_for_each_key.Goals as goal
 
 pub returns : goal.returns

@@ -1,4 +1,4 @@
-use Rattle.nand_model.specs.SmallDevices.{small_erase}
+use Rattle.nand_model.proofs.SmallDeviceLaws.{small_erase}
 use Rattle.nand_model.proofs.tests.erased.Goals as goal
 
 pub returns : goal.returns

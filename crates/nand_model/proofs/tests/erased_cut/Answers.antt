@@ -1,4 +1,4 @@
-use Rattle.nand_model.specs.SmallDevices.{open_same}
+use Rattle.nand_model.proofs.SmallDeviceLaws.{open_same}
 use Rattle.nand_model.proofs.tests.erased_cut.Goals as goal
 
 pub returns : goal.returns

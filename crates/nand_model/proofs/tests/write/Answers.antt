@@ -1,4 +1,4 @@
-use Rattle.nand_model.specs.SmallDevices.{small_program}
+use Rattle.nand_model.proofs.SmallDeviceLaws.{small_program}
 use Rattle.nand_model.proofs.tests.write.Goals as goal
 
 pub returns : goal.returns

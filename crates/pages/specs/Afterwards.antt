@@ -1,6 +1,6 @@
 -- A store's pages as they are after an earlier change, if there is one, that the store has not taken yet.
 use Rattle.std.specs.Prelude.{◌<◌, ℕ, List, length, slice_get, Option, Some, None}
-use Rattle.pages.specs.Maps.{changed}
+use Rattle.pages.specs.Maps.{PageMap, changed}
 use Rattle.pages.specs.Changes.{AreSized}
 use Rattle.pages.specs.State.{PagesState}
 use Rattle.pages.specs.declared.change.FreshPage.{FreshPage}
@@ -8,10 +8,22 @@ use Rattle.pages.specs.declared.change.Change.{Change}
 use Rattle.pages.specs.declared.after.Source.{Source}
 use Rattle.pages.specs.declared.after.Source.TheVariants as sources
 
--- the store, with the pages after the change
+-- the pages after the change
+abbrev pub changed_by : Option Change → PageMap → PageMap
+changed_by None m = m
+changed_by (Some change) m = changed change m
+
+-- the store, with these pages
 abbrev pub after : Option Change → PagesState → PagesState
-after None p = p
-after (Some change) p = record { page_bytes = p.page_bytes; present = changed change p.present; lent = p.lent; sound = p.sound; failed = p.failed; refused = p.refused; asked = p.asked }
+after earlier p = record {
+  page_bytes = p.page_bytes;
+  present = changed_by earlier p.present;
+  lent = p.lent;
+  sound = p.sound;
+  failed = p.failed;
+  refused = p.refused;
+  asked = p.asked;
+}
 
 -- the bytes of a page, or what was lent where there is none
 abbrev pub bytes_or : Option FreshPage → List ℕ → List ℕ

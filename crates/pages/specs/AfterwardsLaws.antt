@@ -1,19 +1,21 @@
 -- Look-ups in pages after a change.
-use Rattle.std.specs.Prelude.{Option, Some, None}
-use Rattle.std.proofs.Common.{ap}
-use Rattle.pages.specs.Maps.{changed}
+use Rattle.std.specs.Prelude.{◌≡◌, ℕ, Option}
+use Rattle.std.proofs.Common.{ap, sym, subst}
 use Rattle.pages.specs.State.{PagesState, OnlyFinds}
-use Rattle.pages.specs.Afterwards.{after}
+use Rattle.pages.specs.Afterwards.{changed_by, after, IsSizedBy}
 use Rattle.pages.specs.declared.change.Change.{Change}
 
 -- a look-up keeps the pages after the change too
 pub finds_after : (earlier : Option Change) (a b : PagesState) → OnlyFinds a b → OnlyFinds (after earlier a) (after earlier b)
-finds_after None a b x = x
-finds_after (Some change) a b x = record {
+finds_after earlier a b x = record {
   page_bytes = x.page_bytes;
-  present = ap (changed change) x.present;
+  present = ap (changed_by earlier) x.present;
   sound = x.sound;
   failed = x.failed;
   refused = x.refused;
   asked = x.asked;
 }
+
+-- pages of so many bytes
+pub sized_on : (earlier : Option Change) (a b : ℕ) → b ≡ a → IsSizedBy earlier a → IsSizedBy earlier b
+sized_on earlier a b is sized = subst (IsSizedBy earlier) (sym is) sized

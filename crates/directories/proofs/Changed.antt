@@ -1,0 +1,79 @@
+-- What a directory reads after a change of its slots.
+use Rattle.std.specs.Prelude.{◌≡◌, ◌<◌, ◌≤◌, ℕ, ◌+◌, List, [], ◌∷◌, ◌++◌, length, Some, None, slice_get}
+use Rattle.std.specs.FinMap as map
+use Rattle.std.proofs.Common.{refl, sym, ◌∙◌, ap, subst, inl, inr, arith}
+use Rattle.std.proofs.lemmas.List.{length-append, length-take}
+use Rattle.page_tags.specs.Slots.{Entry}
+use Rattle.flash_tree.specs.ContentExists.{slot_pairs}
+use Rattle.flash_tree.specs.FindingLaws.{slice_get_there}
+use Rattle.flash_tree.specs.Tree.{ReadsDir}
+use Rattle.flash_tree.specs.TreeLaws.{slice_get_within}
+use Rattle.volume_terms.specs.Sizes.{Sizes}
+use Rattle.volume_terms.specs.laws.List.{get_push}
+use Rattle.posix_profile.specs.State.{Entries}
+use Rattle.pages.specs.Maps.{PageMap, has}
+use Rattle.directories.specs.Directories.{SlotOf, ReadsAs}
+use Rattle.directories.specs.Heads.{fields_in}
+use Rattle.directories.specs.Writes.{HasHead, KeepsSlots}
+use Rattle.directories.specs.declared.head.DirectoryHead.{DirectoryHead}
+use Rattle.directories.proofs.Lists.{AreOnce, once_push, entries_push, put_at, put_len, get_put, once_put, entries_put, fewer, origin, once_fewer, entries_fewer}
+use Rattle.directories.proofs.Reading.{one_entry}
+
+module _ (z : Sizes) (old new : PageMap) (o before moment : ℕ) (entries : Entries) (r : ReadsDir z (has old) o before entries) (head : DirectoryHead) (h : HasHead z new o head)
+    (spare : head.spare ≡ r.fields.spare) (when : head.moment ≡ moment) where
+  reads_slots : (slots : List Entry) (now : Entries) → head.length ≡ length slots → ((k : ℕ) (e : Entry) → slice_get slots k ≡ Some e → SlotOf z new o k e) → AreOnce slots
+      → now ≡ map.from_entries (slot_pairs slots) → ReadsAs z new o moment now r.fields.spare
+  reads_slots slots now len each once are = (
+    record {
+      fields = fields_in z.page_bytes head;
+      has = (h.has, h.valid);
+      kind = refl;
+      when = when;
+      slots = slots;
+      size = len;
+      each = each;
+      once = once;
+      entries_are = are;
+    },
+    spare,
+  )
+
+  -- one slot more
+  pub reads_added : head.length ≡ length r.slots + 1 → (entry : Entry) → map.get entries entry.name ≡ None → SlotOf z new o (length r.slots) entry → KeepsSlots z old new o (length r.slots) (length r.slots)
+      → ReadsAs z new o moment (map.insert entries entry.name entry.object) r.fields.spare
+  reads_added len entry absent slot kept = reads_slots (r.slots ++ entry ∷ []) (map.insert entries entry.name entry.object) (len ∙ sym (length-append r.slots (entry ∷ [])))
+      (λ k e at. elim (get_push r.slots entry k e at) [
+        | inl x ↦ kept k e (λ same. omega (arith, same, x.0)) x.0 (r.each k e x.1)
+        | inr x ↦ subst (λ y. SlotOf z new o k y) (sym x.1) (subst (λ n. SlotOf z new o n entry) (sym x.0) slot)
+      ])
+      (once_push r.slots r.once entries r.entries_are entry absent) (entries_push r.slots r.once entries r.entries_are entry absent)
+
+  -- a slot in place of another
+  pub reads_put : head.length ≡ length r.slots → (i : ℕ) (e : Entry) → slice_get r.slots i ≡ Some e → (entry : Entry) → entry.name ≡ e.name → SlotOf z new o i entry → KeepsSlots z old new o (length r.slots) i
+      → ReadsAs z new o moment (map.insert entries entry.name entry.object) r.fields.spare
+  reads_put len i e at_i entry name_is slot kept = reads_slots (put_at r.slots i entry) (map.insert entries entry.name entry.object) (len ∙ sym (put_len r.slots i entry))
+      (λ k y at. elim (get_put r.slots i entry k y at) [
+        | inl x ↦ subst (λ e. SlotOf z new o k e) (sym x.1) (subst (λ n. SlotOf z new o n entry) (sym x.0) slot)
+        | inr x ↦ kept k y x.0 (slice_get_within r.slots k y x.1) (r.each k y x.1)
+      ])
+      (once_put r.slots r.once entries r.entries_are i e at_i entry name_is) (entries_put r.slots r.once entries r.entries_are i e at_i entry name_is)
+
+  -- one slot less
+  pub reads_fewer : z.page_bytes ≤ 4096 → length r.slots ≡ head.length + 1 → (i : ℕ) (e : Entry) → slice_get r.slots i ≡ Some e
+      → (i < head.length → (x : Entry) × SlotOf z old o head.length x × SlotOf z new o i x) → KeepsSlots z old new o head.length i → ReadsAs z new o moment (map.remove entries e.name) r.fields.spare
+  reads_fewer few len i e at_i filled kept =
+      let last : ℕ = head.length in
+      let l = slice_get_there r.slots last (omega (arith, len)) in
+      reads_slots (fewer r.slots r.once entries r.entries_are i e at_i last len l.0 l.1) (map.remove entries e.name)
+      (let t : length (fewer r.slots r.once entries r.entries_are i e at_i last len l.0 l.1) ≡ _ = length-take last (put_at r.slots i l.0) in omega (arith, t, put_len r.slots i l.0, len))
+      (λ k y at.
+      let x = origin r.slots r.once entries r.entries_are i e at_i last len l.0 l.1 k y at in
+      elim x.4 [
+        | inl p ↦
+            let f = filled (omega (arith, p.0, x.3)) in
+            let there : SlotOf z old o last y = r.each last y (ap (slice_get r.slots) (sym p.1) ∙ x.1) in
+            let one : f.0 ≡ y = one_entry z few old o last f.0 y f.1 there in
+            subst (λ n. SlotOf z new o n y) (sym p.0) (subst (λ e. SlotOf z new o i e) one f.2)
+        | inr p ↦ kept k y p.0 x.3 (r.each k y (ap (slice_get r.slots) (sym p.1) ∙ x.1))
+      ])
+      (once_fewer r.slots r.once entries r.entries_are i e at_i last len l.0 l.1) (entries_fewer r.slots r.once entries r.entries_are i e at_i last len l.0 l.1)

@@ -1,0 +1,59 @@
+-- What is told of a directory that is there.
+use Rattle.std.specs.Prelude.{◌≡◌, ◌<◌, ◌≤◌, ℕ, List, length, Option, Some, None, option_map, slice_get}
+use Rattle.std.specs.FinMap as map
+use Rattle.std.proofs.Common.{sym, ◌∙◌, ap, subst, arith}
+use Rattle.page_tags.specs.Headers.{IsHeader}
+use Rattle.page_tags.specs.Slots.{Entry}
+use Rattle.flash_tree.specs.FindingLaws.{IsPageSize, slice_get_there, same_header}
+use Rattle.flash_tree.specs.OneTree.{one_slot}
+use Rattle.flash_tree.specs.TreeLaws.{slice_get_within}
+use Rattle.volume_terms.specs.Sizes.{Sizes}
+use Rattle.posix_profile.specs.State.{Name, Entries}
+use Rattle.pages.specs.Maps.{PageMap, has}
+use Rattle.pages.specs.State.{PagesState}
+use Rattle.directories.specs.Directories.{DirIn, SlotOf}
+use Rattle.directories.specs.Heads.{IsHeadOf, IsHeaded, SaysHead}
+use Rattle.directories.specs.Slots.{AreSlots, Finds}
+use Rattle.directories.specs.declared.head.DirectoryHead.{DirectoryHead}
+use Rattle.directories.specs.declared.lookup.Located.{Located}
+use Rattle.directories.proofs.Lists.{leads, none}
+use Rattle.directories.proofs.Searching.{one_page}
+
+single : (m : PageMap) (o c : ℕ) (xs ys : List ℕ) → m o c ≡ Some xs → m o c ≡ Some ys → xs ≡ ys
+single m o c xs ys = one_page m o c xs ys
+
+-- a slot is one entry
+pub one_entry : (z : Sizes) → z.page_bytes ≤ 4096 → (m : PageMap) (d i : ℕ) (a b : Entry) → SlotOf z m d i a → SlotOf z m d i b → a ≡ b
+one_entry z few m d i a b = one_slot z few (has m) (single m) d i a b
+
+module _ (p : PagesState) (z : Sizes) (o moment : ℕ) (entries : Entries) (d : DirIn p z o moment entries) where
+  -- it has a header
+  pub headed : IsHeaded p o
+  headed = record { fields = d.reads.fields; has = d.reads.has.0; valid = subst (λ n. IsHeader n d.reads.fields) d.size d.reads.has.1; kind = d.reads.kind }
+
+  -- which alone says what it says
+  pub fields_are : IsPageSize z.page_bytes → (h : IsHeaded p o) → h.fields ≡ d.reads.fields
+  fields_are size h = same_header z size (has p.present) (single p.present) o h.fields d.reads.fields (h.has, subst (λ n. IsHeader n h.fields) (sym d.size) h.valid) d.reads.has
+
+  pub head_is : IsPageSize z.page_bytes → (head : DirectoryHead) → SaysHead p o head → IsHeadOf head d.reads.fields
+  head_is size head s = subst (IsHeadOf head) (fields_are size s.0) s.1
+
+  -- its slots are there
+  pub slots_are : AreSlots (SlotOf z p.present o) 0 (length d.reads.slots)
+  slots_are i low less = let at = slice_get_there d.reads.slots i less in (at.0, d.reads.each i at.0 at.1)
+
+  -- a slot that is told is the one of the directory
+  pub slot_is : z.page_bytes ≤ 4096 → (i : ℕ) (e : Entry) → i < length d.reads.slots → SlotOf z p.present o i e → slice_get d.reads.slots i ≡ Some e
+  slot_is few i e less at =
+      let s = slice_get_there d.reads.slots i less in
+      s.1 ∙ ap Some (one_entry z few p.present o i s.0 e (d.reads.each i s.0 s.1) at)
+
+  -- where a name was found, it leads to the object
+  pub found_leads : z.page_bytes ≤ 4096 → (name : Name) (found : Option Located) → Finds (SlotOf z p.present o) 0 (length d.reads.slots) name found → option_map (λ (x : Located). x.object) found ≡ map.get entries name
+  found_leads few name (Some l) is =
+      let at = slot_is few l.place is.entry is.most is.there in
+      ap Some is.object_is ∙ sym (leads d.reads.slots d.reads.once entries d.reads.entries_are l.place is.entry at) ∙ ap (map.get entries) is.name_is
+  found_leads few name None is = sym (none d.reads.slots d.reads.once entries d.reads.entries_are name (λ k e at same.
+      let within = slice_get_within d.reads.slots k e at in
+      let s = is k (omega arith) within in
+      s.2 (ap (λ (x : Entry). x.name) (one_entry z few p.present o k s.0 e s.1 (d.reads.each k e at)) ∙ same)))

@@ -1,0 +1,71 @@
+use Rattle.std.proofs.Common.{◌≡◌, ◌+◌, ◌∙◌, ℕ, min, Option, None, length, refl, sym, subst, arith, rules}
+use Rattle.pages.specs.Afterwards.{after}
+use Rattle.pages.specs.AfterwardsLaws.{finds_after}
+use Rattle.pages.specs.State.{PagesState}
+use Rattle.pages.specs.declared.change.Change.{Change}
+use Rattle.directories.specs.Directories.{DirIn}
+use Rattle.page_tags.specs.SlotEntry.{entry_of}
+use Rattle.pages.specs.FaultLaws.{says_more}
+use Rattle.pages.specs.Maps.{PageMap, changed}
+use Rattle.directories.specs.Directories.{SlotOf}
+use Rattle.directories.specs.Writes.{HasHead, KeepsSlots}
+use Rattle.directories.specs.declared.head.DirectoryHead.{DirectoryHead}
+use Rattle.directories.proofs.Changed.{reads_added}
+use Rattle.directories.proofs.Results.{on_ok, on_err}
+use Rattle.directories.proofs.Told.{sound_on, size_on, are_on, head_says, length_is, count_is}
+use Rattle.directories.proofs.addition.add.Goals as goal
+
+pub returns-in_default-clause-fault : goal.returns-in_default-clause-fault
+returns-in_default-clause-fault g c = λ z moment entries d.
+    let old : PagesState = g.P.Pages.state c.args.pages.now in
+    let e : Option Change = None in
+    let p : PagesState = after e old in
+    let mid : PagesState = g.P.Pages.state c.head_after.new.pages in
+    let q : PagesState = after e mid in
+    let finds = finds_after e old mid c.head_after.ensures.finds in
+    let here : DirIn p z c.args.directory moment entries = record { sound = d.sound; size = d.size; reads = d.reads } in
+    let s = c.in_ok-head.ensures.told here.sound in
+    let sized = g.met.P.Pages.sized c.args.pages.now in
+    let most : c.in_ok-head.head.length ≡ 4294967295 = search rules in
+    sym (count_is p q finds z c.args.directory moment entries here sized c.in_ok-head.head s) ∙ most
+
+pub returns-clause-adds : goal.returns-clause-adds
+returns-clause-adds g c = λ z moment entries d absent.
+    let old : PagesState = g.P.Pages.state c.args.pages.now in
+    let e : Option Change = None in
+    let p : PagesState = after e old in
+    let mid : PagesState = g.P.Pages.state c.head_after.new.pages in
+    let q : PagesState = after e mid in
+    let finds = finds_after e old mid c.head_after.ensures.finds in
+    let here : DirIn p z c.args.directory moment entries = record { sound = d.sound; size = d.size; reads = d.reads } in
+    let s = c.in_ok-head.ensures.told here.sound in
+    let sized = g.met.P.Pages.sized c.args.pages.now in
+    let says = head_says p q finds z c.args.directory moment entries here sized c.in_ok-head.head s in
+    let len = length_is p q finds z c.args.directory moment entries here sized c.in_ok-head.head s in
+    let counted : c.in-Some.length ≡ c.in_ok-head.head.length + 1 = search rules in
+    let head : DirectoryHead = record { spare = c.in_ok-head.head.spare; length = c.in-Some.length; moment = c.args.moment } in
+    let n : ℕ = length d.reads.slots in
+    let m : PageMap = old.present in
+    on_ok _ _ c.write.result
+    (λ change w.
+    let header = subst (λ (k : PageMap). HasHead z (changed change k) c.args.directory head) c.head_after.ensures.finds.present w.0 in
+    let slot = subst (λ k. SlotOf z (changed change m) c.args.directory k (entry_of c.args.slot.now)) len (subst (λ (k : PageMap). SlotOf z (changed change k) c.args.directory c.in_ok-head.head.length (entry_of c.args.slot.now)) c.head_after.ensures.finds.present w.1) in
+    let count : min c.in_ok-head.head.length c.in-Some.length ≡ n = grind (arith, counted, len) in
+    let kept = subst (λ k. KeepsSlots z m (changed change m) c.args.directory n k) len
+    (subst (λ k. KeepsSlots z m (changed change m) c.args.directory k c.in_ok-head.head.length) count
+    (subst (λ (k : PageMap). KeepsSlots z k (changed change k) c.args.directory (min c.in_ok-head.head.length c.in-Some.length) c.in_ok-head.head.length) c.head_after.ensures.finds.present w.2)) in
+    reads_added z m (changed change m) c.args.directory moment c.args.moment entries d.reads head header says.spare refl (omega (arith, counted, len)) (entry_of c.args.slot.now) absent slot kept)
+    (c.write.ensures.writes (sound_on p q finds z c.args.directory moment entries here sized c.in_ok-head.head s) z (size_on p q finds z c.args.directory moment entries here sized c.in_ok-head.head s))
+
+pub returns-clause-fault : goal.returns-clause-fault
+returns-clause-fault g c = λ z moment entries d.
+    let old : PagesState = g.P.Pages.state c.args.pages.now in
+    let e : Option Change = None in
+    let p : PagesState = after e old in
+    let mid : PagesState = g.P.Pages.state c.head_after.new.pages in
+    let q : PagesState = after e mid in
+    let finds = finds_after e old mid c.head_after.ensures.finds in
+    let here : DirIn p z c.args.directory moment entries = record { sound = d.sound; size = d.size; reads = d.reads } in
+    let s = c.in_ok-head.ensures.told here.sound in
+    let sized = g.met.P.Pages.sized c.args.pages.now in
+    on_err _ _ c.write.result (λ fault is. says_more _ _ _ _ _ _ (g.P.Pages.state c.write.new.pages) fault (λ x. x) (λ x. x) (λ x. absurd x) is) (c.write.ensures.fault (sound_on p q finds z c.args.directory moment entries here sized c.in_ok-head.head s) z (size_on p q finds z c.args.directory moment entries here sized c.in_ok-head.head s) (are_on p q finds z c.args.directory moment entries here sized c.in_ok-head.head s))

@@ -1,0 +1,39 @@
+-- A directory of a store's pages.
+use Rattle.std.specs.Prelude.{◌≡◌, ◌≢◌, ◌<◌, ℕ, true, List, Option, Some, None}
+use Rattle.std.specs.FinMap as map
+use Rattle.flash_tree.specs.Tree.{ReadsDir, SlotIs}
+use Rattle.page_tags.specs.Slots.{Entry}
+use Rattle.volume_terms.specs.Sizes.{Sizes}
+use Rattle.posix_profile.specs.State.{Entries}
+use Rattle.pages.specs.Maps.{PageMap, has}
+use Rattle.pages.specs.State.{PagesState}
+use Rattle.pages.specs.declared.change.Change.{Change}
+use Rattle.directories.specs.Heads.{IsHeaded}
+
+-- the object is this directory, in a sound store with pages of this size
+pub record DirIn (p : PagesState) (z : Sizes) (o moment : ℕ) (entries : Entries) : Type 0 where
+  pub sound : p.sound ≡ true
+  pub size : z.page_bytes ≡ p.page_bytes
+  pub reads : ReadsDir z (has p.present) o moment entries
+
+-- slot i of the directory is this entry
+abbrev pub SlotOf : Sizes → PageMap → ℕ → ℕ → Entry → Type 0
+SlotOf z m d i entry = SlotIs z (has m) d i entry
+
+-- after a change of the pages the object is this directory, with the spare blocks that were there
+abbrev pub ReadsAs : Sizes → PageMap → ℕ → ℕ → Entries → ℕ → Type 0
+ReadsAs z m o moment entries spare = (r : ReadsDir z (has m) o moment entries) × (r.fields.spare ≡ spare)
+
+-- the name leads to the object from one of so many slots, or each of them has another name
+abbrev pub LeadsFrom : (ℕ → Entry → Type 0) → ℕ → List ℕ → Option ℕ → Type 0
+LeadsFrom at count name None = (i : ℕ) → i < count → (e : Entry) × at i e × (e.name ≢ name)
+LeadsFrom at count name (Some object) = (i : ℕ) × (i < count) × ((e : Entry) × at i e × (e.name ≡ name) × (object ≡ e.object))
+
+-- what is told of a name is what the header and the slots say
+abbrev pub TellsName : Sizes → PagesState → ℕ → List ℕ → Option ℕ → Type 0
+TellsName z p d name found = (h : IsHeaded p d) × LeadsFrom (SlotOf z p.present d) h.fields.length name found
+
+-- there is a change exactly where the directory has the name
+abbrev pub IsNamed : Entries → List ℕ → Option Change → Type 0
+IsNamed entries name None = map.get entries name ≡ None
+IsNamed entries name (Some change) = (object : ℕ) × (map.get entries name ≡ Some object)

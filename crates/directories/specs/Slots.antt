@@ -1,0 +1,31 @@
+-- Slots of a page or of a directory, and what a search of them tells.
+use Rattle.std.specs.Prelude.{◌≡◌, ◌≢◌, ◌<◌, ◌≤◌, ◌*◌, ℕ, List, take, drop, Option, Some, None}
+use Rattle.page_tags.specs.Slots.{Entry, IsSlot, slot_bytes}
+use Rattle.directories.specs.declared.lookup.Located.{Located}
+
+-- slot k of a page is this entry
+abbrev pub SlotAt : List ℕ → ℕ → Entry → Type 0
+SlotAt page k entry = IsSlot entry × (take 272 (drop (272 * k) page) ≡ slot_bytes entry)
+
+-- the slot has this name and leads to the object that is told, or it has another name and none is told
+abbrev pub NamedBy : Entry → List ℕ → Option ℕ → Type 0
+NamedBy entry name None = entry.name ≢ name
+NamedBy entry name (Some object) = (entry.name ≡ name) × (object ≡ entry.object)
+
+-- each number from one to another is a slot's, where `at` says which entry a slot is
+abbrev pub AreSlots : (ℕ → Entry → Type 0) → ℕ → ℕ → Type 0
+AreSlots at from to = (i : ℕ) → from ≤ i → i < to → (e : Entry) × at i e
+
+-- a slot from one number to another has the name: its number and its object
+pub record IsLocated (at : ℕ → Entry → Type 0) (from to : ℕ) (name : List ℕ) (found : Located) : Type 0 where
+  pub entry : Entry
+  pub there : at found.place entry
+  pub least : from ≤ found.place
+  pub most : found.place < to
+  pub name_is : entry.name ≡ name
+  pub object_is : found.object ≡ entry.object
+
+-- what is told of a name after a search: where it is, or that each slot has another
+abbrev pub Finds : (ℕ → Entry → Type 0) → ℕ → ℕ → List ℕ → Option Located → Type 0
+Finds at from to name None = (i : ℕ) → from ≤ i → i < to → (e : Entry) × at i e × (e.name ≢ name)
+Finds at from to name (Some found) = IsLocated at from to name found

@@ -1,0 +1,59 @@
+-- What the change of a directory writes, and what it leaves.
+use Rattle.std.specs.Prelude.{◌≡◌, ◌≢◌, ◌⊎◌, ◌<◌, ◌≤◌, ℕ, ◌+◌, ◌-◌, ◌*◌, ◌/◌, ◌%◌, List, [], ◌∷◌, length, take, drop, Some, slice_index}
+use Rattle.page_tags.specs.Headers.{IsHeader, header_bytes}
+use Rattle.page_tags.specs.Slots.{Entry}
+use Rattle.volume_terms.specs.Sizes.{Sizes, page_slots}
+use Rattle.pages.specs.Maps.{PageMap, IsOf}
+use Rattle.pages.specs.declared.change.FreshPage.{FreshPage}
+use Rattle.pages.specs.declared.change.Change.{Change}
+use Rattle.pages.specs.declared.change.Cut.{Cut}
+use Rattle.directories.specs.Heads.{fields_in}
+use Rattle.directories.specs.Slots.{SlotAt}
+use Rattle.directories.specs.Directories.{SlotOf}
+use Rattle.directories.specs.declared.head.DirectoryHead.{DirectoryHead}
+use Rattle.directories.specs.declared.writing.Writing.{Writing}
+
+-- a page of a directory's slots, of so many bytes
+pub record IsSlotsPage (d bytes : ℕ) (page : FreshPage) : Type 0 where
+  pub object_is : page.key.object ≡ d
+  pub chunk_is : 1 ≤ page.key.chunk
+  pub size : length page.bytes.items ≡ bytes
+
+-- The page of the slot that is written: this entry stands there, the other slots that stay are those that stood there, and what lies
+-- past the last slot is zero.
+pub record IsSlotPage (z : Sizes) (old : PageMap) (d : ℕ) (writing : Writing) (entry : Entry) (page : FreshPage) : Type 0 where
+  pub object_is : page.key.object ≡ d
+  pub chunk_is : page.key.chunk ≡ 1 + writing.number / page_slots z
+  pub size : length page.bytes.items ≡ z.page_bytes
+  pub here : SlotAt page.bytes.items (writing.number % page_slots z) entry
+  pub kept : (k : ℕ) (e : Entry) → k ≢ writing.number → k < writing.before → k < writing.afterwards → k / page_slots z ≡ writing.number / page_slots z → SlotOf z old d k e
+      → SlotAt page.bytes.items (k % page_slots z) e
+  pub past : (j : ℕ) → 272 * (writing.afterwards - writing.number / page_slots z * page_slots z) ≤ j → slice_index page.bytes.items j ≡ 0
+
+-- the directory has this header
+pub record HasHead (z : Sizes) (m : PageMap) (d : ℕ) (head : DirectoryHead) : Type 0 where
+  pub has : m d 0 ≡ Some (header_bytes (fields_in z.page_bytes head))
+  pub valid : IsHeader z.page_bytes (fields_in z.page_bytes head)
+
+-- the slots below a number stay, but for one
+abbrev pub KeepsSlots : Sizes → PageMap → PageMap → ℕ → ℕ → ℕ → Type 0
+KeepsSlots z old new d count but = (k : ℕ) (e : Entry) → k ≢ but → k < count → SlotOf z old d k e → SlotOf z new d k e
+
+-- a page of the key is written
+abbrev pub HasKey : Change → ℕ → ℕ → Type 0
+HasKey change o c = (i : ℕ) × IsOf change.pages.items o c i
+
+-- the bytes of slot i of the directory's page, whatever they say
+abbrev pub IsSlotBytes : Sizes → PageMap → ℕ → ℕ → List ℕ → Type 0
+IsSlotBytes z m d i bytes = (page : List ℕ) × (m d (1 + i / page_slots z) ≡ Some page) × (bytes ≡ take 272 (drop (272 * (i % page_slots z)) page))
+
+-- the directory has this header, and the last slot stands in place of the one that went; the others stay
+pub record LosesSlot (z : Sizes) (old new : PageMap) (d : ℕ) (head : DirectoryHead) (i : ℕ) : Type 0 where
+  pub header : HasHead z new d head
+  pub filled : i < head.length → (e : Entry) × SlotOf z old d head.length e × SlotOf z new d i e
+  pub others : KeepsSlots z old new d head.length i
+
+-- the change cuts the directory behind the pages of so many slots, n on a page, exactly where the last of these pages is full
+abbrev pub CutsBehind : ℕ → ℕ → ℕ → Change → Type 0
+CutsBehind d n len change = ((len % n ≢ 0) × (change.cuts.items ≡ []))
+    ⊎ ((len % n ≡ 0) × ((cut : Cut) × (change.cuts.items ≡ cut ∷ []) × (cut.object ≡ d) × (cut.from ≡ 1 + len / n)))

@@ -1,0 +1,58 @@
+// The addition of a name.
+ghost use Rattle.std.specs.Prelude.{◌≡◌, ◌≤◌, ◌+◌, ℕ, true, None, OnOk, IfOk, IfErr};
+ghost use Rattle.std.specs.FinMap as map;
+ghost use Rattle.page_tags.specs.SlotEntry.{entry_of};
+ghost use Rattle.page_tags.specs.Slots.{IsSlot};
+ghost use Rattle.volume_terms.specs.Sizes.{Sizes};
+ghost use Rattle.posix_profile.specs.State.{Entries};
+ghost use Rattle.pages.specs.Changes.{IsChange, IsOnlyOf};
+ghost use Rattle.pages.specs.Maps.{changed};
+ghost use Rattle.pages.specs.State.{OnlyFinds};
+ghost use Rattle.directories.specs.Directories.{DirIn, ReadsAs};
+ghost use Rattle.directories.specs.Faults.{MayLackRoom, SaysWhyAdding};
+ghost use Rattle.directories.specs.Heads.{IsHeaded};
+
+use crate::head::{DirectoryHead, head_after};
+use crate::writing::{Writing, write};
+use page_tags::Slot;
+use pages::{Change, PageFault, Pages};
+use std::alloc::Global;
+
+/// The change that adds a name to a directory: the page of its slot, and the directory's header.
+///
+/// The name must not be there yet. `Full` is answered where the header can count no further entry.
+pub fn add<P: Pages>(
+    alloc: Global,
+    pages: &mut P,
+    directory: u64,
+    slot: &Slot,
+    moment: u64,
+) -> Result<Change, PageFault>
+    requires { IsSlot (entry_of slot.now) }
+    ensures finds { OnlyFinds (P.state pages.old) (P.state pages.new) }
+    ensures asked { (P.state pages.new).asked ≤ (P.state pages.old).asked + 2 }
+    ensures change { IfOk result (λ change. IsChange change (P.state pages.old).page_bytes 2) }
+    ensures only { IfOk result (λ change. IsOnlyOf change directory) }
+    ensures adds { (z : Sizes) (before : ℕ) (entries : Entries) (d : DirIn (P.state pages.old) z directory before entries) → map.get entries slot.now.name.now ≡ None
+        → IfOk result (λ change. ReadsAs z (changed change (P.state pages.old).present) directory moment (map.insert entries slot.now.name.now slot.now.object) d.reads.fields.spare) }
+    ensures told { (P.state pages.old).sound ≡ true → OnOk result (IsHeaded (P.state pages.old) directory) }
+    ensures why { IfErr result (SaysWhyAdding (P.state pages.new)) }
+    ensures fault { (z : Sizes) (before : ℕ) (entries : Entries) (d : DirIn (P.state pages.old) z directory before entries)
+        → IfErr result (MayLackRoom (map.len entries) (P.state pages.new)) }
+{
+    let head = head_after(pages, None, directory)?;
+    let Some(length) = head.length.checked_add(1) else {
+        return Err(PageFault::Full);
+    };
+    let writing = Writing {
+        number: head.length,
+        before: head.length,
+        afterwards: length,
+    };
+    let longer = DirectoryHead {
+        length,
+        moment,
+        ..head
+    };
+    write(alloc, pages, None, directory, writing, slot, longer)
+}

@@ -1,0 +1,119 @@
+// The header of a directory.
+ghost use Rattle.std.specs.Prelude.{◌≡◌, ◌≤◌, ◌+◌, ℕ, true, IfOk, IfErr, IfSome, IsSomeAnd, length, option_copied};
+ghost use Rattle.page_tags.specs.Headers.{Fields, IsHeaderOf};
+ghost use Rattle.page_tags.specs.declared.header.ObjectKind.TheVariants as kinds;
+ghost use Rattle.pages.specs.Afterwards.{after, IsSizedBy};
+ghost use Rattle.pages.specs.Faults.{MayLack, SaysWhy};
+ghost use Rattle.pages.specs.State.{OnlyFinds};
+ghost use Rattle.directories.specs.HeadPages.{IsHeadIn, IsHeadPage};
+ghost use Rattle.directories.specs.Heads.{IsHeadOf, IsHeaded, SaysHead};
+
+use flash_tree::Key;
+use page_tags::{Format, Header, ObjectKind, decode_header, encode_header};
+use pages::{Change, FreshPage, PageFault, Pages, load_after, page_after};
+use std::alloc::{AllocError, Global};
+
+/// What the header of a directory says: its spare blocks, which are meant in the root's alone, how many entries it
+/// has, and the moment of its last change.
+#[derive(Clone, Copy, Debug, PartialEq, Eq)]
+pub struct DirectoryHead {
+    pub spare: u16,
+    pub length: u32,
+    pub moment: u64,
+}
+
+/// Reads the header of a directory.
+pub fn read_head<P: Pages>(pages: &mut P, directory: u64) -> Result<DirectoryHead, PageFault>
+    ensures finds { OnlyFinds (P.state pages.old) (P.state pages.new) }
+    ensures asked { (P.state pages.new).asked ≤ (P.state pages.old).asked + 1 }
+    ensures told { (P.state pages.old).sound ≡ true → IfOk result (SaysHead (P.state pages.old) directory) }
+    ensures why { IfErr result (SaysWhy (P.state pages.new)) }
+    ensures fault { (P.state pages.old).sound ≡ true → IsHeaded (P.state pages.old) directory → IfErr result (MayLack (P.state pages.new)) }
+{
+    head_after(pages, None, directory)
+}
+
+/// Reads the header of a directory, after an earlier change.
+pub(crate) fn head_after<P: Pages>(
+    pages: &mut P,
+    earlier: Option<&Change>,
+    directory: u64,
+) -> Result<DirectoryHead, PageFault>
+    requires { IsSizedBy (option_copied earlier) (P.state pages.old).page_bytes }
+    ensures finds { OnlyFinds (P.state pages.old) (P.state pages.new) }
+    ensures asked { (P.state pages.new).asked ≤ (P.state pages.old).asked + 1 }
+    ensures told { (P.state pages.old).sound ≡ true → IfOk result (SaysHead (after (option_copied earlier.entry) (P.state pages.old)) directory) }
+    ensures why { IfErr result (SaysWhy (P.state pages.new)) }
+    ensures fault { (P.state pages.old).sound ≡ true → IsHeaded (after (option_copied earlier.entry) (P.state pages.old)) directory
+        → IfErr result (MayLack (P.state pages.new)) }
+{
+    let key = Key {
+        object: directory,
+        chunk: 0,
+    };
+    let source = load_after(pages, earlier, key)?;
+    match decode_head(page_after(pages, earlier, source)) {
+        Some(head) => Ok(head),
+        None => Err(PageFault::Damaged),
+    }
+}
+
+/// What a page says as the header of a directory; another page says nothing.
+fn decode_head(page: &[u8]) -> Option<DirectoryHead>
+    requires least { 32 ≤ length page.now }
+    requires most { length page.now ≤ 4096 }
+    ensures read { (f : Fields) → IsHeaderOf page.now f → f.kind ≡ kinds.Directory → IsSomeAnd result (λ head. IsHeadOf head f) }
+    ensures told { IfSome result (λ head. (f : Fields) × IsHeaderOf page.now f × (f.kind ≡ kinds.Directory) × IsHeadOf head f) }
+{
+    let Ok(header) = decode_header(page) else {
+        return None;
+    };
+    if header.kind != ObjectKind::Directory || header.length > u64::from(u32::MAX) {
+        return None;
+    }
+    Some(DirectoryHead {
+        spare: header.spare,
+        length: header.length as u32,
+        moment: header.moment,
+    })
+}
+
+/// The page of a directory's header.
+pub fn head_page(
+    alloc: Global,
+    page_bytes: u32,
+    directory: u64,
+    head: DirectoryHead,
+) -> Result<FreshPage, AllocError>
+    requires least { 32 ≤ page_bytes }
+    requires most { page_bytes ≤ 4096 }
+    ensures { IfOk result (λ page. IsHeadPage page page_bytes directory head) }
+{
+    let mut bytes = vec![in alloc; 0u8; page_bytes as usize]?;
+    write_head(head, &mut bytes);
+    let key = Key {
+        object: directory,
+        chunk: 0,
+    };
+    Ok(FreshPage { key, bytes })
+}
+
+/// The presence bits of a directory, of which none is set.
+const NO_BITS: [u8; 4064] = [0; 4064];
+
+/// Writes the header of a directory over a page.
+fn write_head(head: DirectoryHead, page: &mut [u8])
+    requires least { 32 ≤ length page.old }
+    requires most { length page.old ≤ 4096 }
+    ensures { IsHeadIn page.new (length page.old) head }
+{
+    let header = Header {
+        format: Format::Two,
+        kind: ObjectKind::Directory,
+        spare: head.spare,
+        length: u64::from(head.length),
+        moment: head.moment,
+        bits: &NO_BITS[..page.len() - 32],
+    };
+    encode_header(&header, page);
+}

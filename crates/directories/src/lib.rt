@@ -1,0 +1,16 @@
+//! Directories as maps from names, over pages that are found by their keys.
+#![tactic(auto)]
+
+mod addition;
+mod head;
+mod lookup;
+mod page;
+mod removal;
+mod replacement;
+mod writing;
+
+pub use addition::add;
+pub use head::{DirectoryHead, head_page, read_head};
+pub use lookup::find;
+pub use removal::remove;
+pub use replacement::replace;

@@ -1,0 +1,147 @@
+// The look-up of a name.
+ghost use Rattle.std.specs.Prelude.{◌≡◌, ◌<◌, ◌≤◌, ◌+◌, ◌*◌, ◌/◌, ◌^◌, ℕ, true, IfOk, IfErr, IfSome, IsOk, length, take, drop, option_copied};
+ghost use Rattle.std.specs.FinMap as map;
+ghost use Rattle.std.specs.Int.{div_ceil};
+ghost use Rattle.page_tags.specs.Slots.{Entry, IsSlot, slot_bytes};
+ghost use Rattle.volume_terms.specs.Sizes.{Sizes, page_slots};
+ghost use Rattle.posix_profile.specs.State.{Entries};
+ghost use Rattle.pages.specs.Afterwards.{after, IsSizedBy};
+ghost use Rattle.pages.specs.Faults.{MayLack, SaysWhy};
+ghost use Rattle.pages.specs.State.{OnlyFinds};
+ghost use Rattle.pages.specs.declared.fault.PageFault.TheVariants as faults;
+ghost use Rattle.directories.specs.Directories.{DirIn, SlotOf, TellsName};
+ghost use Rattle.directories.specs.Slots.{NamedBy, SlotAt, AreSlots, Finds};
+
+use crate::head::head_after;
+use crate::page::slot_of;
+use flash_tree::Key;
+use page_tags::{SLOT_BYTES, decode_slot};
+use pages::{Change, PageFault, Pages, load_after, page_after};
+
+/// A slot that has the name that was looked for: its number, and the object that it leads to.
+#[derive(Clone, Copy, Debug, PartialEq, Eq)]
+pub(crate) struct Located {
+    pub(crate) place: u32,
+    pub(crate) object: u64,
+}
+
+/// The object that a name leads to from a directory. Each page is asked for once.
+pub fn find<P: Pages>(pages: &mut P, directory: u64, name: &[u8]) -> Result<Option<u64>, PageFault>
+    ensures finds { OnlyFinds (P.state pages.old) (P.state pages.new) }
+    ensures asked { (z : Sizes) (moment : ℕ) (entries : Entries) (d : DirIn (P.state pages.old) z directory moment entries)
+        → (P.state pages.new).asked ≤ (P.state pages.old).asked + 1 + div_ceil (map.len entries) (page_slots z) }
+    ensures found { (z : Sizes) (moment : ℕ) (entries : Entries) (d : DirIn (P.state pages.old) z directory moment entries)
+        → IfOk result (λ found. found ≡ map.get entries name.now) }
+    ensures told { (P.state pages.old).sound ≡ true → (z : Sizes) → z.page_bytes ≡ (P.state pages.old).page_bytes
+        → IfOk result (TellsName z (P.state pages.old) directory name.now) }
+    ensures why { IfErr result (SaysWhy (P.state pages.new)) }
+    ensures fault { (z : Sizes) (moment : ℕ) (entries : Entries) (d : DirIn (P.state pages.old) z directory moment entries)
+        → IfErr result (MayLack (P.state pages.new)) }
+{
+    let head = head_after(pages, None, directory)?;
+    match search(pages, None, directory, head.length, name)? {
+        Some(found) => Ok(Some(found.object)),
+        None => Ok(None),
+    }
+}
+
+/// Looks for a name in the first slots of a directory, after an earlier change. Each page is asked for once.
+pub(crate) fn search<P: Pages>(
+    pages: &mut P,
+    earlier: Option<&Change>,
+    directory: u64,
+    length: u32,
+    name: &[u8],
+) -> Result<Option<Located>, PageFault>
+    requires { IsSizedBy (option_copied earlier) (P.state pages.old).page_bytes }
+    ensures finds { OnlyFinds (P.state pages.old) (P.state pages.new) }
+    ensures asked { (P.state pages.new).asked ≤ (P.state pages.old).asked + div_ceil length ((P.state pages.old).page_bytes / 272) }
+    ensures within { IfOk result (λ found. IfSome found (λ it. it.place < length)) }
+    ensures told { (P.state pages.old).sound ≡ true → (z : Sizes) → z.page_bytes ≡ (P.state pages.old).page_bytes
+        → IfOk result (Finds (SlotOf z (after (option_copied earlier.entry) (P.state pages.old)).present directory) 0 length name.now) }
+    ensures why { IfErr result (SaysWhy (P.state pages.new)) }
+    ensures fault { (P.state pages.old).sound ≡ true → (z : Sizes) → z.page_bytes ≡ (P.state pages.old).page_bytes
+        → AreSlots (SlotOf z (after (option_copied earlier.entry) (P.state pages.old)).present directory) 0 length → IfErr result (MayLack (P.state pages.new)) }
+{
+    let slots = pages.page_bytes() / SLOT_BYTES as u32;
+    for chunk in 0..length.div_ceil(slots) {
+        let count = slots.min(length - chunk * slots);
+        let found = search_chunk(pages, earlier, directory, chunk, count, name)?;
+        if found.is_some() {
+            return Ok(found);
+        }
+    }
+    Ok(None)
+}
+
+/// Looks for a name in the first slots of a chunk of a directory's slots.
+fn search_chunk<P: Pages>(
+    pages: &mut P,
+    earlier: Option<&Change>,
+    directory: u64,
+    chunk: u32,
+    count: u32,
+    name: &[u8],
+) -> Result<Option<Located>, PageFault>
+    requires sized { IsSizedBy (option_copied earlier) (P.state pages.old).page_bytes }
+    requires room { 272 * count ≤ (P.state pages.old).page_bytes }
+    requires fits { chunk * ((P.state pages.old).page_bytes / 272) + count < 2 ^ 32 }
+    ensures finds { OnlyFinds (P.state pages.old) (P.state pages.new) }
+    ensures asked { (P.state pages.new).asked ≤ (P.state pages.old).asked + 1 }
+    ensures within { IfOk result (λ found. IfSome found (λ it. it.place < chunk * ((P.state pages.old).page_bytes / 272) + count)) }
+    ensures told { (P.state pages.old).sound ≡ true → (z : Sizes) → z.page_bytes ≡ (P.state pages.old).page_bytes
+        → IfOk result (Finds (SlotOf z (after (option_copied earlier.entry) (P.state pages.old)).present directory) (chunk * page_slots z) (chunk * page_slots z + count) name.now) }
+    ensures why { IfErr result (SaysWhy (P.state pages.new)) }
+    ensures fault { (P.state pages.old).sound ≡ true → (z : Sizes) → z.page_bytes ≡ (P.state pages.old).page_bytes → 1 ≤ count
+        → AreSlots (SlotOf z (after (option_copied earlier.entry) (P.state pages.old)).present directory) (chunk * page_slots z) (chunk * page_slots z + count)
+        → IfErr result (MayLack (P.state pages.new)) }
+{
+    let key = Key {
+        object: directory,
+        chunk: 1 + u64::from(chunk),
+    };
+    let source = load_after(pages, earlier, key)?;
+    match search_page(page_after(pages, earlier, source), count, name)? {
+        Some(found) => {
+            let first = chunk * (pages.page_bytes() / SLOT_BYTES as u32);
+            Ok(Some(Located {
+                place: first + found.place,
+                object: found.object,
+            }))
+        }
+        None => Ok(None),
+    }
+}
+
+/// Looks for a name in the first slots of a page.
+fn search_page(page: &[u8], count: u32, name: &[u8]) -> Result<Option<Located>, PageFault>
+    requires { 272 * count ≤ length page.now }
+    ensures told { IfOk result (Finds (SlotAt page.now) 0 count name.now) }
+    ensures within { IfOk result (λ found. IfSome found (λ it. it.place < count)) }
+    ensures damaged { IfErr result (λ fault. fault ≡ faults.Damaged) }
+    ensures ok { AreSlots (SlotAt page.now) 0 count → IsOk result }
+{
+    for place in 0..count {
+        if let Some(object) = named_in(slot_of(page, place), name)? {
+            return Ok(Some(Located { place, object }));
+        }
+    }
+    Ok(None)
+}
+
+/// The object that the bytes of a slot lead to, if they have this name.
+fn named_in(bytes: &[u8], name: &[u8]) -> Result<Option<u64>, PageFault>
+    requires { length bytes.now ≡ 272 }
+    ensures told { IfOk result (λ found. (entry : Entry) × IsSlot entry × (bytes.now ≡ slot_bytes entry) × NamedBy entry name.now found) }
+    ensures damaged { IfErr result (λ fault. fault ≡ faults.Damaged) }
+    ensures ok { (entry : Entry) → IsSlot entry → bytes.now ≡ slot_bytes entry → IsOk result }
+{
+    let Some(slot) = decode_slot(bytes) else {
+        return Err(PageFault::Damaged);
+    };
+    if slot.name == name {
+        Ok(Some(slot.object))
+    } else {
+        Ok(None)
+    }
+}

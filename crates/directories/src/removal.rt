@@ -1,0 +1,268 @@
+// The removal of a name.
+ghost use Rattle.std.specs.Prelude.{◌≡◌, ◌<◌, ◌≤◌, ◌+◌, ◌^◌, ℕ, [], true, OnOk, IfOk, IfErr, IfSome, option_copied};
+ghost use Rattle.std.specs.FinMap as map;
+ghost use Rattle.std.specs.Int.{div_ceil};
+ghost use Rattle.page_tags.specs.Slots.{Entry};
+ghost use Rattle.volume_terms.specs.Sizes.{Sizes, page_slots};
+ghost use Rattle.posix_profile.specs.State.{Entries};
+ghost use Rattle.pages.specs.Afterwards.{after, IsSizedBy};
+ghost use Rattle.pages.specs.Changes.{IsChange, IsOnlyOf};
+ghost use Rattle.pages.specs.Faults.{MayLack, SaysWhy, MayLackMemory, SaysWhyMaking};
+ghost use Rattle.pages.specs.Maps.{PageMap, changed};
+ghost use Rattle.pages.specs.State.{OnlyFinds};
+ghost use Rattle.directories.specs.Directories.{DirIn, ReadsAs, SlotOf, IsNamed};
+ghost use Rattle.directories.specs.Heads.{IsHeaded};
+ghost use Rattle.directories.specs.Slots.{AreSlots};
+ghost use Rattle.directories.specs.Writes.{HasHead, HasKey, IsSlotBytes, KeepsSlots, LosesSlot, CutsBehind};
+
+use crate::head::{DirectoryHead, head_after, head_page};
+use crate::lookup::search;
+use crate::page::slot_of;
+use crate::writing::{Writing, write};
+use flash_tree::Key;
+use page_tags::{SLOT_BYTES, decode_slot};
+use pages::{Change, Cut, PageFault, Pages, load_after, page_after};
+use std::alloc::{AllocError, Global};
+
+/// The change that takes a name from a directory: the last slot stands in its place then, and a page without slots
+/// goes. There is none where the directory has no such name.
+pub fn remove<P: Pages>(
+    alloc: Global,
+    pages: &mut P,
+    directory: u64,
+    name: &[u8],
+    moment: u64,
+) -> Result<Option<Change>, PageFault>
+    ensures finds { OnlyFinds (P.state pages.old) (P.state pages.new) }
+    ensures asked { (z : Sizes) (before : ℕ) (entries : Entries) (d : DirIn (P.state pages.old) z directory before entries)
+        → (P.state pages.new).asked ≤ (P.state pages.old).asked + 3 + div_ceil (map.len entries) (page_slots z) }
+    ensures change { IfOk result (λ made. IfSome made (λ change. IsChange change (P.state pages.old).page_bytes 2)) }
+    ensures only { IfOk result (λ made. IfSome made (λ change. IsOnlyOf change directory)) }
+    ensures named { (z : Sizes) (before : ℕ) (entries : Entries) (d : DirIn (P.state pages.old) z directory before entries)
+        → IfOk result (λ made. IsNamed entries name.now made) }
+    ensures removes { (z : Sizes) (before : ℕ) (entries : Entries) (d : DirIn (P.state pages.old) z directory before entries)
+        → IfOk result (λ made. IfSome made (λ change. ReadsAs z (changed change (P.state pages.old).present) directory moment (map.remove entries name.now) d.reads.fields.spare)) }
+    ensures told { (P.state pages.old).sound ≡ true → OnOk result (IsHeaded (P.state pages.old) directory) }
+    ensures why { IfErr result (SaysWhyMaking (P.state pages.new)) }
+    ensures fault { (z : Sizes) (before : ℕ) (entries : Entries) (d : DirIn (P.state pages.old) z directory before entries)
+        → IfErr result (MayLackMemory (P.state pages.new)) }
+{
+    remove_after(alloc, pages, None, directory, name, moment)
+}
+
+/// The same after an earlier change.
+pub(crate) fn remove_after<P: Pages>(
+    alloc: Global,
+    pages: &mut P,
+    earlier: Option<&Change>,
+    directory: u64,
+    name: &[u8],
+    moment: u64,
+) -> Result<Option<Change>, PageFault>
+    requires { IsSizedBy (option_copied earlier) (P.state pages.old).page_bytes }
+    ensures finds { OnlyFinds (P.state pages.old) (P.state pages.new) }
+    ensures asked { (z : Sizes) (before : ℕ) (entries : Entries) (d : DirIn (after (option_copied earlier.entry) (P.state pages.old)) z directory before entries)
+        → (P.state pages.new).asked ≤ (P.state pages.old).asked + 3 + div_ceil (map.len entries) (page_slots z) }
+    ensures change { IfOk result (λ made. IfSome made (λ change. IsChange change (P.state pages.old).page_bytes 2)) }
+    ensures only { IfOk result (λ made. IfSome made (λ change. IsOnlyOf change directory)) }
+    ensures head { IfOk result (λ made. IfSome made (λ change. HasKey change directory 0)) }
+    ensures named { (z : Sizes) (before : ℕ) (entries : Entries) (d : DirIn (after (option_copied earlier.entry) (P.state pages.old)) z directory before entries)
+        → IfOk result (λ made. IsNamed entries name.now made) }
+    ensures removes { (z : Sizes) (before : ℕ) (entries : Entries) (d : DirIn (after (option_copied earlier.entry) (P.state pages.old)) z directory before entries)
+        → IfOk result (λ made. IfSome made (λ change. ReadsAs z (changed change (after (option_copied earlier.entry) (P.state pages.old)).present) directory moment
+        (map.remove entries name.now) d.reads.fields.spare)) }
+    ensures told { (P.state pages.old).sound ≡ true → OnOk result (IsHeaded (after (option_copied earlier.entry) (P.state pages.old)) directory) }
+    ensures why { IfErr result (SaysWhyMaking (P.state pages.new)) }
+    ensures fault { (z : Sizes) (before : ℕ) (entries : Entries) (d : DirIn (after (option_copied earlier.entry) (P.state pages.old)) z directory before entries)
+        → IfErr result (MayLackMemory (P.state pages.new)) }
+{
+    let head = head_after(pages, earlier, directory)?;
+    let Some(found) = search(pages, earlier, directory, head.length, name)? else {
+        return Ok(None);
+    };
+    let shorter = DirectoryHead {
+        length: head.length - 1,
+        moment,
+        ..head
+    };
+    let change = remove_slot(alloc, pages, earlier, directory, found.place, shorter)?;
+    Ok(Some(change))
+}
+
+/// Takes a slot from a directory, after an earlier change; the header that is given counts one slot less than there
+/// are.
+fn remove_slot<P: Pages>(
+    alloc: Global,
+    pages: &mut P,
+    earlier: Option<&Change>,
+    directory: u64,
+    place: u32,
+    shorter: DirectoryHead,
+) -> Result<Change, PageFault>
+    requires sized { IsSizedBy (option_copied earlier) (P.state pages.old).page_bytes }
+    requires within { place ≤ shorter.length }
+    requires fits { shorter.length + 1 < 2 ^ 32 }
+    ensures finds { OnlyFinds (P.state pages.old) (P.state pages.new) }
+    ensures asked { (P.state pages.new).asked ≤ (P.state pages.old).asked + 2 }
+    ensures change { IfOk result (λ change. IsChange change (P.state pages.old).page_bytes 2) }
+    ensures only { IfOk result (λ change. IsOnlyOf change directory) }
+    ensures head { IfOk result (λ change. HasKey change directory 0) }
+    ensures removes { (P.state pages.old).sound ≡ true → (z : Sizes) → z.page_bytes ≡ (P.state pages.old).page_bytes
+        → let old = (after (option_copied earlier.entry) (P.state pages.old)).present in
+        IfOk result (λ change. LosesSlot z old (changed change old) directory shorter place) }
+    ensures why { IfErr result (SaysWhyMaking (P.state pages.new)) }
+    ensures fault { (P.state pages.old).sound ≡ true → (z : Sizes) → z.page_bytes ≡ (P.state pages.old).page_bytes
+        → AreSlots (SlotOf z (after (option_copied earlier.entry) (P.state pages.old)).present directory) 0 (shorter.length + 1)
+        → IfErr result (MayLackMemory (P.state pages.new)) }
+{
+    let slots = pages.page_bytes() / SLOT_BYTES as u32;
+    let change = shorten(alloc, pages, earlier, directory, place, shorter)?;
+    let cut = cut_behind(change, directory, slots, shorter.length)?;
+    Ok(cut)
+}
+
+/// Writes the header of a directory that has one slot less, and the last slot over the one at a place.
+fn shorten<P: Pages>(
+    alloc: Global,
+    pages: &mut P,
+    earlier: Option<&Change>,
+    directory: u64,
+    place: u32,
+    shorter: DirectoryHead,
+) -> Result<Change, PageFault>
+    requires sized { IsSizedBy (option_copied earlier) (P.state pages.old).page_bytes }
+    requires within { place ≤ shorter.length }
+    requires fits { shorter.length + 1 < 2 ^ 32 }
+    ensures finds { OnlyFinds (P.state pages.old) (P.state pages.new) }
+    ensures asked { (P.state pages.new).asked ≤ (P.state pages.old).asked + 2 }
+    ensures change { IfOk result (λ change. IsChange change (P.state pages.old).page_bytes 2) }
+    ensures cuts { IfOk result (λ change. change.cuts.items ≡ []) }
+    ensures only { IfOk result (λ change. IsOnlyOf change directory) }
+    ensures head { IfOk result (λ change. HasKey change directory 0) }
+    ensures shortens { (P.state pages.old).sound ≡ true → (z : Sizes) → z.page_bytes ≡ (P.state pages.old).page_bytes
+        → let old = (after (option_copied earlier.entry) (P.state pages.old)).present in
+        IfOk result (λ change. LosesSlot z old (changed change old) directory shorter place) }
+    ensures why { IfErr result (SaysWhyMaking (P.state pages.new)) }
+    ensures fault { (P.state pages.old).sound ≡ true → (z : Sizes) → z.page_bytes ≡ (P.state pages.old).page_bytes
+        → AreSlots (SlotOf z (after (option_copied earlier.entry) (P.state pages.old)).present directory) 0 (shorter.length + 1)
+        → IfErr result (MayLackMemory (P.state pages.new)) }
+{
+    if place < shorter.length {
+        fill(alloc, pages, earlier, directory, place, shorter)
+    } else {
+        Ok(head_change(alloc, pages.page_bytes(), directory, shorter)?)
+    }
+}
+
+/// Cuts the pages of a directory behind those that have one of so many slots, where the last slot was alone in its
+/// page.
+fn cut_behind(
+    mut change: Change,
+    directory: u64,
+    slots: u32,
+    length: u32,
+) -> Result<Change, AllocError>
+    requires some { 1 ≤ slots }
+    requires uncut { change.cuts.items ≡ [] }
+    ensures pages { IfOk result (λ cut. cut.pages.items ≡ change.pages.items) }
+    ensures cuts { IfOk result (CutsBehind directory slots length) }
+{
+    if length % slots != 0 {
+        return Ok(change);
+    }
+    let cut = Cut {
+        object: directory,
+        from: 1 + u64::from(length / slots),
+    };
+    change.cuts.push(cut)?;
+    Ok(change)
+}
+
+/// Writes the last slot over the one at a place, after an earlier change.
+fn fill<P: Pages>(
+    alloc: Global,
+    pages: &mut P,
+    earlier: Option<&Change>,
+    directory: u64,
+    place: u32,
+    shorter: DirectoryHead,
+) -> Result<Change, PageFault>
+    requires sized { IsSizedBy (option_copied earlier) (P.state pages.old).page_bytes }
+    requires within { place < shorter.length }
+    requires fits { shorter.length + 1 < 2 ^ 32 }
+    ensures finds { OnlyFinds (P.state pages.old) (P.state pages.new) }
+    ensures asked { (P.state pages.new).asked ≤ (P.state pages.old).asked + 2 }
+    ensures change { IfOk result (λ change. IsChange change (P.state pages.old).page_bytes 2) }
+    ensures cuts { IfOk result (λ change. change.cuts.items ≡ []) }
+    ensures only { IfOk result (λ change. IsOnlyOf change directory) }
+    ensures head { IfOk result (λ change. HasKey change directory 0) }
+    ensures fills { (P.state pages.old).sound ≡ true → (z : Sizes) → z.page_bytes ≡ (P.state pages.old).page_bytes
+        → let old = (after (option_copied earlier.entry) (P.state pages.old)).present in
+        IfOk result (λ change. LosesSlot z old (changed change old) directory shorter place) }
+    ensures why { IfErr result (SaysWhyMaking (P.state pages.new)) }
+    ensures fault { (P.state pages.old).sound ≡ true → (z : Sizes) → z.page_bytes ≡ (P.state pages.old).page_bytes
+        → AreSlots (SlotOf z (after (option_copied earlier.entry) (P.state pages.old)).present directory) 0 (shorter.length + 1)
+        → IfErr result (MayLackMemory (P.state pages.new)) }
+{
+    let bytes = slot_bytes(pages, earlier, directory, shorter.length)?;
+    let Some(last) = decode_slot(&bytes) else {
+        return Err(PageFault::Damaged);
+    };
+    let writing = Writing {
+        number: place,
+        before: shorter.length + 1,
+        afterwards: shorter.length,
+    };
+    write(alloc, pages, earlier, directory, writing, &last, shorter)
+}
+
+/// The bytes of a slot of a directory, after an earlier change.
+fn slot_bytes<P: Pages>(
+    pages: &mut P,
+    earlier: Option<&Change>,
+    directory: u64,
+    number: u32,
+) -> Result<[u8; SLOT_BYTES], PageFault>
+    requires { IsSizedBy (option_copied earlier) (P.state pages.old).page_bytes }
+    ensures finds { OnlyFinds (P.state pages.old) (P.state pages.new) }
+    ensures asked { (P.state pages.new).asked ≤ (P.state pages.old).asked + 1 }
+    ensures told { (P.state pages.old).sound ≡ true → (z : Sizes) → z.page_bytes ≡ (P.state pages.old).page_bytes
+        → IfOk result (λ bytes. IsSlotBytes z (after (option_copied earlier.entry) (P.state pages.old)).present directory number bytes) }
+    ensures why { IfErr result (SaysWhy (P.state pages.new)) }
+    ensures fault { (P.state pages.old).sound ≡ true → (z : Sizes) (e : Entry) → z.page_bytes ≡ (P.state pages.old).page_bytes
+        → SlotOf z (after (option_copied earlier.entry) (P.state pages.old)).present directory number e → IfErr result (MayLack (P.state pages.new)) }
+{
+    let slots = pages.page_bytes() / SLOT_BYTES as u32;
+    let key = Key {
+        object: directory,
+        chunk: 1 + u64::from(number / slots),
+    };
+    let source = load_after(pages, earlier, key)?;
+    let mut bytes = [0; SLOT_BYTES];
+    bytes.copy_from_slice(slot_of(page_after(pages, earlier, source), number % slots));
+    Ok(bytes)
+}
+
+/// The change of a directory's header alone.
+fn head_change(
+    alloc: Global,
+    page_bytes: u32,
+    directory: u64,
+    head: DirectoryHead,
+) -> Result<Change, AllocError>
+    requires least { 32 ≤ page_bytes }
+    requires most { page_bytes ≤ 4096 }
+    ensures change { IfOk result (λ change. IsChange change page_bytes 2) }
+    ensures cuts { IfOk result (λ change. change.cuts.items ≡ []) }
+    ensures only { IfOk result (λ change. IsOnlyOf change directory) }
+    ensures head { IfOk result (λ change. HasKey change directory 0) }
+    ensures writes { (z : Sizes) (old : PageMap) → z.page_bytes ≡ page_bytes → IfOk result (λ change. HasHead z (changed change old) directory head
+        × ((count : ℕ) → KeepsSlots z old (changed change old) directory count count)) }
+{
+    let page = head_page(alloc, page_bytes, directory, head)?;
+    let pages = vec![in alloc; page]?;
+    Ok(Change {
+        pages,
+        cuts: Vec::new(alloc),
+    })
+}

@@ -1,0 +1,5 @@
+use Rattle.bad_blocks.specs.laws.Passing.{passes_on}
+use Rattle.bad_blocks.proofs.law.blocks_are_taken_in_turn.Goals as goal
+
+pub returns : goal.returns
+returns c = passes_on

@@ -1,0 +1,23 @@
+use Rattle.std.proofs.Common.{◌≤◌, ◌+◌, ◌-◌, ◌*◌}
+use Rattle.nand_model.specs.Calls.{Lasts}
+use Rattle.block_state.specs.Kept.{bad_count}
+use Rattle.block_state.specs.TableOf.{table}
+use Rattle.transactions.specs.Handing.{HandsOut}
+use Rattle.transactions.specs.Ready.{IsReady}
+use Rattle.bad_blocks.specs.Passing.{Passes}
+use Rattle.bad_blocks.specs.Taking.{TakesNone}
+use Rattle.bad_blocks.proofs.take.take_block.Given as goal
+
+abbrev pub invariant-loop-block : goal.invariant-loop-block
+invariant-loop-block g l = record {
+  lasts : Lasts (g.N.Nand.state l.fn.device) (g.N.Nand.state l.device);
+  ready : IsReady (g.N.Nand.state l.device) (table l.blocks);
+  numbers : HandsOut (g.N.Nand.state l.fn.device) (g.N.Nand.state l.device) (table l.fn.blocks) (table l.blocks);
+  passes : Passes (g.N.Nand.state l.fn.device) (g.N.Nand.state l.device) (table l.fn.blocks) (table l.blocks);
+  none : TakesNone (table l.fn.blocks) (table l.blocks);
+  costs : (g.N.Nand.state l.device).changes + 2 * (g.N.Nand.state l.fn.device).failures ≤ (g.N.Nand.state l.fn.device).changes + 2 * (g.N.Nand.state l.device).failures;
+  few : bad_count (table l.blocks) ≤ l.spare;
+}
+
+abbrev pub decreases-loop-block : goal.decreases-loop-block
+decreases-loop-block g l = l.spare + 1 - bad_count (table l.blocks)

@@ -1,0 +1,3 @@
+pub mod Passing
+pub mod Taking
+pub mod laws

@@ -1,0 +1,62 @@
+-- The taking of a block.
+-- From: this project.
+use Rattle.std.specs.Prelude.{◌≡◌, ◌⊎◌, ◌<◌, ◌≤◌, ◌^◌, ℕ, ◌+◌, ◌*◌, true, false, Some, None, Result, Ok, Err}
+use Rattle.nand_model.specs.Calls.{Device}
+use Rattle.nand_model.specs.declared.nand.Gone.{Gone}
+use Rattle.block_state.specs.Kept.{bad_count, unkept_count}
+use Rattle.block_state.specs.Table.{Table}
+use Rattle.transactions.specs.Ready.{AreBelow}
+use Rattle.bad_blocks.specs.declared.take.TakeFault.{TakeFault}
+use Rattle.bad_blocks.specs.declared.take.TakeFault.TheVariants as faults
+use Rattle.bad_blocks.specs.declared.take.Tried.{Tried}
+use Rattle.bad_blocks.specs.declared.take.Tried.TheVariants as tries
+
+-- No more blocks than there are to spare are bad, and with these so many are without a kept page as may be needed for
+-- retirements, and one for a collection.
+pub record HasUnkept (t : Table) (spare : ℕ) : Type 0 where
+  pub bad : bad_count t ≤ spare
+  pub unkept : 1 + spare ≤ unkept_count t + bad_count t
+
+-- The block was good and without a kept page. It is the open one, with all its pages and the next number, which is above
+-- those of all tags.
+pub record Takes (block : ℕ) (device : Device) (old new : Table) : Type 0 where
+  pub within : block < old.geometry.blocks
+  pub good : (old.entry block).bad ≡ false
+  pub unkept : (old.entry block).kept ≡ 0
+  pub open_block : new.open_block ≡ Some block
+  pub next : (new.entry block).next ≡ 0
+  pub seq : (new.entry block).seq ≡ old.next_seq
+  pub next_seq : new.next_seq ≡ old.next_seq + 1
+  pub below : device.honest ≡ true → AreBelow device.flash old.next_group old.next_seq
+
+-- no block is open, and no number was used
+pub record TakesNone (old new : Table) : Type 0 where
+  pub open_block : new.open_block ≡ None
+  pub next_seq : new.next_seq ≡ old.next_seq
+
+-- How the trying of one block ends: it is taken; its erase failed and it is marked; or the device is gone.
+abbrev pub TriesOne : Device → Table → Table → Result Tried Gone → Type 0
+TriesOne device old new (Ok (tries.Taken block)) = Takes block device old new × (device.gone ≡ false)
+TriesOne device old new (Ok tries.Marked) = TakesNone old new × (bad_count new ≡ bad_count old + 1) × (device.gone ≡ false)
+TriesOne device old new (Err gone) = TakesNone old new × (device.gone ≡ true)
+
+-- Why no block was taken: more are bad than there are to spare, after a mark of this call, or no number is left; or the
+-- device is gone.
+abbrev pub WhyNone : (spare : ℕ) → Device → Table → Table → TakeFault → Type 0
+WhyNone spare device old new faults.Worn = (2 ^ 62 ≤ old.next_seq) ⊎ ((spare < bad_count new) × (device.gone ≡ false))
+WhyNone spare device old new faults.Gone = device.gone ≡ true
+
+-- how the taking of a block ends
+abbrev pub TakeEnds : (spare : ℕ) → Device → Table → Table → Result ℕ TakeFault → Type 0
+TakeEnds spare device old new (Ok block) = Takes block device old new × (device.gone ≡ false)
+TakeEnds spare device old new (Err fault) = TakesNone old new × WhyNone spare device old new fault
+
+-- the device counts one change at most, an erase, and two for each failure, an erase and a mark
+abbrev pub CostsATake : Device → Device → Type 0
+CostsATake old new = new.changes + 2 * old.failures ≤ old.changes + 2 * new.failures + 1
+
+-- the same of one block: one that was marked had its failure
+abbrev pub CostsATry : Device → Device → Result Tried Gone → Type 0
+CostsATry old new (Ok (tries.Taken block)) = CostsATake old new
+CostsATry old new (Ok tries.Marked) = new.changes + 2 * old.failures ≤ old.changes + 2 * new.failures
+CostsATry old new (Err gone) = CostsATake old new

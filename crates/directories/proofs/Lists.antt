@@ -6,10 +6,11 @@ use Rattle.std.specs.FinMap as map
 use Rattle.std.proofs.Common.{refl, sym, ◌∙◌, ap, inl, inr, arith}
 use Rattle.std.proofs.lemmas.Bool.{cases_eq, cond-false}
 use Rattle.page_tags.specs.Slots.{Entry}
-use Rattle.flash_tree.specs.ContentExists.{slot_pairs, slot_of_pair}
-use Rattle.flash_tree.specs.Pairs.{at_find}
-use Rattle.flash_tree.specs.ShownLaws.{found}
-use Rattle.flash_tree.specs.TreeLaws.{slice_get_within}
+use Rattle.flash_tree.specs.Tree.{slot_pairs}
+use Rattle.flash_tree.specs.laws.Slot.{slot_of_pair}
+use Rattle.flash_tree.specs.laws.Pairs.{at_find}
+use Rattle.flash_tree.specs.laws.Shown.{found}
+use Rattle.flash_tree.specs.laws.Tree.{slice_get_within}
 use Rattle.volume_terms.specs.laws.List.{get_push, push_before, push_last}
 use Rattle.posix_profile.specs.laws.Map.{cases_key, get_here, get_there, get_removed, removed_none}
 use Rattle.posix_profile.specs.State.{Name, Entries}

@@ -4,9 +4,10 @@ use Rattle.std.specs.FinMap as map
 use Rattle.std.proofs.Common.{sym, ◌∙◌, ap, subst, arith}
 use Rattle.page_tags.specs.Headers.{IsHeader}
 use Rattle.page_tags.specs.Slots.{Entry}
-use Rattle.flash_tree.specs.FindingLaws.{IsPageSize, slice_get_there, same_header}
-use Rattle.flash_tree.specs.OneTree.{one_slot}
-use Rattle.flash_tree.specs.TreeLaws.{slice_get_within}
+use Rattle.flash_tree.specs.Tree.{IsPageSize}
+use Rattle.flash_tree.specs.laws.Finding.{slice_get_there, same_header}
+use Rattle.flash_tree.specs.laws.OneTree.{one_slot}
+use Rattle.flash_tree.specs.laws.Tree.{slice_get_within}
 use Rattle.volume_terms.specs.Sizes.{Sizes}
 use Rattle.posix_profile.specs.State.{Name, Entries}
 use Rattle.pages.specs.Maps.{PageMap, has}

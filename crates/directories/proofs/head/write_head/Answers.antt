@@ -1,7 +1,7 @@
 use Rattle.std.proofs.Common.{◌≡◌, ◌-◌, ◌≤◌, ◌∙◌, ℕ, sym, ap, subst, take, replicate, length, arith, rules}
 use Rattle.std.proofs.lemmas.List.{take-replicate}
 use Rattle.page_tags.specs.Headers.{IsHeader, header_bytes}
-use Rattle.flash_tree.specs.FindingLaws.{length-header_bytes}
+use Rattle.flash_tree.specs.laws.Finding.{length-header_bytes}
 use Rattle.directories.proofs.HeadPages.{head_valid, fields_are}
 use Rattle.directories.specs.Heads.{fields_in}
 use Rattle.directories.proofs.head.write_head.Goals as goal

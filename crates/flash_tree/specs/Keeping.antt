@@ -1,4 +1,5 @@
 -- What becomes of newest pages.
+-- From: this project.
 use Rattle.std.specs.Prelude.{◌≡◌, ◌≢◌, ℕ, false}
 use Rattle.nand_model.specs.Flash.{Flash}
 use Rattle.page_tags.specs.declared.tag.Tag.{Tag}

@@ -1,10 +1,8 @@
 -- What is copied from a flash.
-use Rattle.std.specs.Prelude.{◌≡◌, ◌<◌, ◌≤◌, ℕ, ◌^◌, List, [], length, Option, Some, None, slice_get}
+use Rattle.std.specs.Prelude.{◌≡◌, ◌<◌, ◌≤◌, ℕ, ◌^◌, List, [], length, Some, slice_get}
 use Rattle.std.specs.Option.{option_map_or}
-use Rattle.std.proofs.Common.{refl, ap, sym, ◌∙◌}
 use Rattle.nand_model.specs.Flash.{Flash, Page, Erased, Written}
 use Rattle.nand_model.specs.Calls.{bytes_of}
-use Rattle.nand_model.specs.Changes.{Grows}
 use Rattle.nand_model.specs.declared.geometry.Geometry.{Geometry}
 use Rattle.page_tags.specs.Tags.{IsTag, tag_bytes}
 use Rattle.page_tags.specs.declared.tag.Tag.{Tag}
@@ -52,20 +50,3 @@ pub record CanCopy (places : List CopyOf) (geometry : Geometry) (number : ℕ) :
   pub few : length places < 2 ^ 32
   pub within : (i : ℕ) (c : CopyOf) → slice_get places i ≡ Some c → (c.block < geometry.blocks) × (c.page < geometry.pages)
   pub named : (i : ℕ) → i < length places → IsName number (name_at places i)
-
-page_stays : (old new : Flash) (c : CopyOf) → HasItsName old c → Grows old new → new.page c.block c.page ≡ old.page c.block c.page
-page_stays old new c there grows = grows c.block c.page (λ is. let two : Written there.bytes there.tag ≡ Erased = sym there.page ∙ is in cc)
-
--- what is copied stays while only erased pages are written
-pub copy_stays : (places : List CopyOf) (old new : Flash) (i : ℕ) → HasCopy places old i → Grows old new → HasCopy places new i
-copy_stays places old new i has grows c is =
-    let there = has c is in
-    record { bytes = there.bytes; tag = there.tag; page = page_stays old new c there grows ∙ there.page; names = there.names }
-
--- and so does its data
-pub copy_same : (places : List CopyOf) (old new : Flash) (i : ℕ) → HasCopy places old i → Grows old new → bytes_at places new i ≡ bytes_at places old i
-copy_same places old new i has grows = go (slice_get places i) has where
-  go : (x : Option CopyOf) → ((c : CopyOf) → x ≡ Some c → HasItsName old c)
-      → bytes_of (option_map_or (λ c. new.page c.block c.page) x Erased) [] ≡ bytes_of (option_map_or (λ c. old.page c.block c.page) x Erased) []
-  go None there = refl
-  go (Some c) there = ap (λ p. bytes_of p []) (page_stays old new c (there c refl) grows)

@@ -1,3 +1,4 @@
+pub mod Copying
 pub mod Handing
 pub mod Newest
 pub mod Ready

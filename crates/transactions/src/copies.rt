@@ -54,7 +54,8 @@ fn reads_back<N: Nand>(device: &mut N, of: CopyOf, page: &mut [u8]) -> Result<bo
 
 impl PageSource for Copies<'_> {
     ghost use Rattle.std.specs.Prelude.{length};
-    ghost use Rattle.transactions.specs.Copying.{name_at, bytes_at, HasCopy, CanCopy, copy_stays, copy_same};
+    ghost use Rattle.transactions.specs.Copying.{name_at, bytes_at, HasCopy, CanCopy};
+    ghost use Rattle.transactions.specs.laws.Copying.{copy_stays, copy_same};
 
     ghost count = { λ s. length s.places.now };
 

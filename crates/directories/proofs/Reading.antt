@@ -2,7 +2,7 @@
 use Rattle.std.specs.Prelude.{◌≡◌, ◌<◌, ◌≤◌, ℕ, List, length, Option, Some, None, option_map, slice_get}
 use Rattle.std.specs.FinMap as map
 use Rattle.std.proofs.Common.{sym, ◌∙◌, ap, subst, arith}
-use Rattle.page_tags.specs.Headers.{IsHeader}
+use Rattle.page_tags.specs.Headers.{IsHeader, header_bytes}
 use Rattle.page_tags.specs.Slots.{Entry}
 use Rattle.flash_tree.specs.Tree.{IsPageSize}
 use Rattle.flash_tree.specs.laws.Finding.{slice_get_there, same_header}
@@ -11,7 +11,7 @@ use Rattle.flash_tree.specs.laws.Tree.{slice_get_within}
 use Rattle.volume_terms.specs.Sizes.{Sizes}
 use Rattle.posix_profile.specs.State.{Name, Entries}
 use Rattle.pages.specs.Maps.{PageMap, has}
-use Rattle.pages.specs.State.{PagesState}
+use Rattle.pages.specs.State.{PagesState, OnlyFinds}
 use Rattle.directories.specs.Directories.{DirIn, SlotOf}
 use Rattle.directories.specs.Heads.{IsHeadOf, IsHeaded, SaysHead}
 use Rattle.directories.specs.Slots.{AreSlots, Finds}
@@ -58,3 +58,21 @@ module _ (p : PagesState) (z : Sizes) (o moment : ℕ) (entries : Entries) (d : 
       let within = slice_get_within d.reads.slots k e at in
       let s = is k (omega arith) within in
       s.2 (ap (λ (x : Entry). x.name) (one_entry z few p.present o k s.0 e s.1 (d.reads.each k e at)) ∙ same)))
+
+-- the directory, after a look-up
+abbrev pub later : (p q : PagesState) (z : Sizes) (o moment : ℕ) (entries : Entries) → OnlyFinds p q → DirIn p z o moment entries → DirIn q z o moment entries
+later p q z o moment entries finds d = record {
+  sound = finds.sound ∙ d.sound;
+  size = d.size ∙ sym finds.page_bytes;
+  reads = record {
+    fields = d.reads.fields;
+    has = (subst (λ (m : PageMap). m o 0 ≡ Some (header_bytes d.reads.fields)) (sym finds.present) d.reads.has.0, d.reads.has.1);
+    kind = d.reads.kind;
+    when = d.reads.when;
+    slots = d.reads.slots;
+    size = d.reads.size;
+    each = λ i e at. subst (λ (m : PageMap). SlotOf z m o i e) (sym finds.present) (d.reads.each i e at);
+    once = d.reads.once;
+    entries_are = d.reads.entries_are;
+  };
+}

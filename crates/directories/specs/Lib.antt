@@ -4,3 +4,4 @@ pub mod Slots
 pub mod Directories
 pub mod Faults
 pub mod Writes
+pub mod Listings

@@ -3,6 +3,7 @@
 
 mod addition;
 mod head;
+mod listing;
 mod lookup;
 mod page;
 mod removal;
@@ -11,6 +12,7 @@ mod writing;
 
 pub use addition::add;
 pub use head::{DirectoryHead, head_page, read_head};
+pub use listing::{entries, names};
 pub use lookup::find;
 pub use removal::remove;
 pub use replacement::replace;

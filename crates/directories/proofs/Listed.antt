@@ -5,11 +5,12 @@ use Rattle.std.proofs.Common.{refl, sym, ◌∙◌, ap, subst, inl, inr, arith}
 use Rattle.std.proofs.lemmas.List.{length-append}
 use Rattle.page_tags.specs.Headers.{Fields, IsHeader}
 use Rattle.page_tags.specs.Slots.{Entry}
-use Rattle.flash_tree.specs.ContentExists.{slot_pairs}
-use Rattle.flash_tree.specs.FindingLaws.{IsPageSize, slice_get_there, same_header}
-use Rattle.flash_tree.specs.OneTree.{same_lists}
+use Rattle.flash_tree.specs.Tree.{slot_pairs}
+use Rattle.flash_tree.specs.Tree.{IsPageSize}
+use Rattle.flash_tree.specs.laws.Finding.{slice_get_there, same_header}
+use Rattle.flash_tree.specs.laws.OneTree.{same_lists}
 use Rattle.flash_tree.specs.Tree.{ReadsDir}
-use Rattle.flash_tree.specs.TreeLaws.{slice_get_within}
+use Rattle.flash_tree.specs.laws.Tree.{slice_get_within}
 use Rattle.volume_terms.specs.Sizes.{Sizes}
 use Rattle.volume_terms.specs.laws.List.{get_push}
 use Rattle.posix_profile.specs.State.{Entries}

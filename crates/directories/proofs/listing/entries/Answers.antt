@@ -2,7 +2,7 @@ use Rattle.std.proofs.Common.{◌≡◌, ◌≤◌, ◌<◌, ◌+◌, ◌-◌, �
 use Rattle.std.proofs.lemmas.Result.{err_from_is_err_and}
 use Rattle.std.specs.FinMap as map
 use Rattle.std.specs.Int.{div_ceil}
-use Rattle.flash_tree.specs.FindingLaws.{IsPageSize}
+use Rattle.flash_tree.specs.Tree.{IsPageSize}
 use Rattle.volume_terms.specs.Sizes.{page_slots}
 use Rattle.pages.specs.Maps.{PageMap}
 use Rattle.pages.specs.State.{PagesState}

@@ -1,6 +1,7 @@
 use Rattle.std.proofs.Common.{◌≡◌, ◌≤◌, ◌<◌, ◌+◌, ◌*◌, ◌∙◌, ℕ, length, sym, subst, arith}
 use Rattle.std.proofs.lemmas.Result.{err_from_is_err_and}
-use Rattle.flash_tree.specs.FindingLaws.{IsPageSize, slice_get_there}
+use Rattle.flash_tree.specs.Tree.{IsPageSize}
+use Rattle.flash_tree.specs.laws.Finding.{slice_get_there}
 use Rattle.volume_terms.specs.Sizes.{page_slots}
 use Rattle.directories.specs.Listings.{ReadsFirst}
 use Rattle.directories.proofs.Listed.{one_more_read, next_is_new}

@@ -8,12 +8,12 @@ use std::test::Fail;
 use test_flash::TestFlash;
 
 /// Five blocks of 32 pages of 512 bytes.
-pub fn small(alloc: Global) -> Result<TestFlash, Fail> {
+pub(crate) fn small(alloc: Global) -> Result<TestFlash, Fail> {
     Ok(TestFlash::new(alloc, Geometry::new(512, 32, 5)?)?)
 }
 
 /// The device, after a power-up.
-pub fn powered_up(flash: TestFlash) -> MemNand {
+pub(crate) fn powered_up(flash: TestFlash) -> MemNand {
     let mut nand = flash.into_nand();
     nand.power_up();
     nand
@@ -21,7 +21,7 @@ pub fn powered_up(flash: TestFlash) -> MemNand {
 
 /// Pages that are written, a block that is then marked bad, and what is to be found: blocks and pages.
 #[derive(Drop)]
-pub struct WorkedFlash {
+pub(crate) struct WorkedFlash {
     pub what: &'static str,
     pub blocks: Vec<(u32, Vec<Tag>)>,
     pub bad: Option<u32>,
@@ -31,7 +31,7 @@ pub struct WorkedFlash {
 }
 
 /// A tag with its place in the group, its key and its version, group and seq.
-pub fn tag(place: (u32, u32), key: (u64, u64), numbers: (u64, u64, u64)) -> Tag {
+pub(crate) fn tag(place: (u32, u32), key: (u64, u64), numbers: (u64, u64, u64)) -> Tag {
     Tag {
         index: place.0,
         count: place.1,
@@ -136,7 +136,7 @@ fn bad_block(alloc: Global) -> Result<WorkedFlash, Fail> {
     })
 }
 
-pub fn broken_off(alloc: Global) -> Result<WorkedFlash, Fail> {
+pub(crate) fn broken_off(alloc: Global) -> Result<WorkedFlash, Fail> {
     let tags = vec![in alloc;
         tag((1, 2), (1, 0), (1, 1, 1)),
         tag((0, 3), (1, 1), (2, 2, 1)),
@@ -172,7 +172,7 @@ fn one_key_twice(alloc: Global) -> Result<WorkedFlash, Fail> {
     })
 }
 
-pub fn flashes(alloc: Global) -> Result<Vec<WorkedFlash>, Fail> {
+pub(crate) fn flashes(alloc: Global) -> Result<Vec<WorkedFlash>, Fail> {
     Ok(vec![in alloc;
         empty(alloc)?,
         cut_group(alloc)?,
@@ -186,7 +186,7 @@ pub fn flashes(alloc: Global) -> Result<Vec<WorkedFlash>, Fail> {
 }
 
 /// A device with the pages of a worked flash, after a power-up.
-pub fn written(alloc: Global, worked: &WorkedFlash) -> Result<MemNand, Fail> {
+pub(crate) fn written(alloc: Global, worked: &WorkedFlash) -> Result<MemNand, Fail> {
     let mut flash = small(alloc)?;
     for (block, tags) in &worked.blocks {
         for tag in tags {

@@ -1,9 +1,23 @@
--- How counts follow from one change to the next, and what room a part has.
-use Rattle.std.proofs.Common.{◌≡◌, ℕ, ◌+◌, ◌<◌, ◌≤◌, List, [], ◌∷◌, length, get_or, refl, sym, subst, ◌∙◌, arith}
-use Rattle.std.specs.List.{sum_by, remove}
-use Rattle.std.proofs.lemmas.List.Sums.{sum_by-cons, sum_by-remove}
+-- How counts follow from one change to the next, and what room a key has.
+use Rattle.std.proofs.Common.{◌≡◌, ℕ, ◌+◌, ◌-◌, ◌<◌, ◌≤◌, List, [], ◌∷◌, length, Option, Some, None, IsSome, refl, sym, ap, subst, ◌∙◌, arith, inl, inr}
+use mathlib.Core.Bool.{false≢true}
+use Rattle.std.specs.List.{sum_by}
+use Rattle.std.specs.Option.{option_and_then}
+use Rattle.std.specs.Ordering.{nat_cmp}
+use Rattle.std.specs.Map.{lookup, values_of}
+use Rattle.std.specs.BTreeMap.{is_at, get, values}
+use Rattle.std.proofs.lemmas.Bool.{cases_eq, cases_lt}
+use Rattle.std.proofs.lemmas.Bool.Decides.{nat_tests}
+use Rattle.std.proofs.lemmas.List.Sums.{sum_by-cons}
+use Rattle.std.proofs.lemmas.Map.Entries.{sum_by-remove_entry}
 use Rattle.block_state.specs.Table.{Table}
-use Rattle.chunk_index.specs.Counts.{Recounts, HasRoom}
+use Rattle.chunk_index.specs.declared.entry.Entry.{Entry}
+use Rattle.chunk_index.specs.declared.object.ObjectEntries.{ObjectEntries}
+use Rattle.chunk_index.specs.declared.form.KeptPage.{KeptPage}
+use Rattle.chunk_index.specs.Lists.{find_by}
+use Rattle.chunk_index.specs.Entries.{chunk, weight, weigh, one_at, counted_at, kept_of}
+use Rattle.chunk_index.specs.Shelves.{ObjectMap, entry_of, look, total, AltersKey}
+use Rattle.chunk_index.specs.Counts.{Recounts, HasRoom, Tallies}
 
 -- after a change there is room for what is counted then
 pub room_after : {t u : Table} {f g : ℕ → ℕ} {n : ℕ} → HasRoom t f n → Recounts f g t u → HasRoom u g n
@@ -41,20 +55,19 @@ recounts_on {t} {u} {v} {f} {g} {h} c d = record {
   next_group = d.next_group ∙ c.next_group;
 }
 
--- where as many are counted as before, all of the blocks is as before
-pub recounts_back : {t u : Table} {f g : ℕ → ℕ} → ((b : ℕ) → g b ≡ f b) → Recounts f g t u → u ≡ t
-recounts_back {t} {u} {f} {g} same c =
-    let kept : (b : ℕ) → (u.entry b).kept ≡ (t.entry b).kept = λ b.
-    let one : (u.entry b).kept + f b ≡ (t.entry b).kept + g b = c.kept b in
-    let two : g b ≡ f b = same b in
-    omega (arith, one, two) in
-    λ i. record {
-      geometry = c.geometry i;
-      entry = λ b. record { bad = c.bad b i; kept = kept b i; seq = c.seq b i; next = c.next b i };
-      open_block = c.open_block i;
-      next_seq = c.next_seq i;
-      next_group = c.next_group i;
-    }
+-- no change
+pub recounts_here : {t : Table} {f g : ℕ → ℕ} → ((b : ℕ) → g b ≡ f b) → Recounts f g t t
+recounts_here {t} {f} {g} same = record {
+  kept = λ b. let e : g b ≡ f b = same b in omega (arith, e);
+  outside = λ b le. refl;
+  bad = λ b. refl;
+  seq = λ b. refl;
+  next = λ b. refl;
+  geometry = refl;
+  open_block = refl;
+  next_seq = refl;
+  next_group = refl;
+}
 
 -- the same change, where more is counted
 pub recounts_more : {t u : Table} {f g h k : ℕ → ℕ} → ((b : ℕ) → h b + f b ≡ k b + g b) → Recounts f g t u → Recounts k h t u
@@ -73,15 +86,129 @@ recounts_more {t} {u} {f} {g} {h} {k} more c = record {
   next_group = c.next_group;
 }
 
--- a sum of less is less
-sum_less : {X : Type 0} (f g : X → ℕ) → ((x : X) → f x ≤ g x) → (xs : List X) → sum_by f xs ≤ sum_by g xs
-sum_less f g less [] = omega arith
-sum_less f g less (x ∷ xs) =
-    let one : sum_by f (x ∷ xs) ≡ f x + sum_by f xs = sum_by-cons f x xs in
-    let two : sum_by g (x ∷ xs) ≡ g x + sum_by g xs = sum_by-cons g x xs in
-    let here : f x ≤ g x = less x in
-    let rest : sum_by f xs ≤ sum_by g xs = sum_less f g less xs in
-    omega (arith, one, two, here, rest)
+-- a page that is counted lies on the device
+pub room_block : (t : Table) (p : KeptPage) (n : ℕ) → HasRoom t (one_at (Some p)) n → p.block < t.geometry.blocks
+room_block t p n r = elim (cases_lt p.block t.geometry.blocks) [
+  | inl lt ↦ lt
+  | inr ge ↦ let none : one_at (Some p) p.block ≡ 0 = r.within p.block ge in absurd (grind (arith, nat_tests, none))
+]
+
+-- ---- one key among all
+
+-- what an entry adds is part of what all of its object add
+part_of_object : (f : Entry → ℕ) (es : List Entry) (c : ℕ) → weight f (find_by chunk es c) ≤ weigh f es
+part_of_object f [] c = omega arith
+part_of_object f (e ∷ es) c =
+    let all : weigh f (e ∷ es) ≡ f e + weigh f es = sum_by-cons f e es in
+    elim (cases_eq (chunk e) c) [
+      | inl is ↦ let here : find_by chunk (e ∷ es) c ≡ Some e = grind (arith, nat_tests, is) in let told : weight f (find_by chunk (e ∷ es) c) ≡ f e = ap (weight f) here in omega (arith, all, told)
+      | inr ne ↦
+          let there : find_by chunk (e ∷ es) c ≡ find_by chunk es c = grind (arith, nat_tests, ne) in
+          let told : weight f (find_by chunk (e ∷ es) c) ≡ weight f (find_by chunk es c) = ap (weight f) there in
+          let rest = part_of_object f es c in
+          omega (arith, all, told, rest)
+    ]
+
+-- and of what all add
+pub part_of_all : (f : Entry → ℕ) (m : ObjectMap) (o c : ℕ) → weight f (look m o c) ≤ total f m
+part_of_all f m o c = go (get nat_cmp m o) refl where
+  go : (v : Option ObjectEntries) → get nat_cmp m o ≡ v → weight f (look m o c) ≤ total f m
+  go None is = let none : weight f (look m o c) ≡ 0 = ap (λ v. weight f (option_and_then (entry_of c) v)) is in omega (arith, none)
+  go (Some x) is =
+      let g = λ (z : ObjectEntries). weigh f z.entries.items in
+      let told : weight f (look m o c) ≡ weight f (find_by chunk x.entries.items c) = ap (λ v. weight f (option_and_then (entry_of c) v)) is in
+      let one = part_of_object f x.entries.items c in
+      let all = sum_by-remove_entry g (is_at (nat_cmp o)) m.entries in
+      let here = ap (λ v. Rattle.std.specs.Option.unwrap_or (Rattle.std.specs.Option.option_map g v) 0) is in
+      omega (arith, told, one, all, here)
+
+-- sums of two add up
+pub two_sums : {X : Type 0} (f g h : X → ℕ) → ((x : X) → f x + g x ≡ h x) → (xs : List X) → sum_by f xs + sum_by g xs ≡ sum_by h xs
+two_sums f g h each [] = refl
+two_sums f g h each (x ∷ xs) =
+    let one = sum_by-cons f x xs in
+    let two = sum_by-cons g x xs in
+    let three = sum_by-cons h x xs in
+    let here : f x + g x ≡ h x = each x in
+    let rest = two_sums f g h each xs in
+    omega (arith, one, two, three, here, rest)
+
+-- where one entry adds less than 1, all add less than there are
+pub less_than_all : (f : Entry → ℕ) → ((e : Entry) → f e ≤ 1) → (m : ObjectMap) (o c : ℕ) → IsSome (look m o c) → total f m + 1 ≤ total (λ (e : Entry). 1) m + weight f (look m o c)
+less_than_all f most m o c some =
+    let g : Entry → ℕ = λ e. 1 - f e in
+    let split : total f m + total g m ≡ total (λ (e : Entry). 1) m =
+    two_sums (λ (x : ObjectEntries). weigh f x.entries.items) (λ (x : ObjectEntries). weigh g x.entries.items) (λ (x : ObjectEntries). weigh (λ (e : Entry). 1) x.entries.items) (λ x. two_sums f g (λ (e : Entry). 1) (λ e. let le = most e in omega (arith, le)) x.entries.items) (values m) in
+    let part = part_of_all g m o c in
+    let whole : weight f (look m o c) + weight g (look m o c) ≡ 1 = go (look m o c) some in
+    omega (arith, split, part, whole) where
+      go : (v : Option Entry) → IsSome v → weight f v + weight (λ e. 1 - f e) v ≡ 1
+      go None is = absurd (false≢true is)
+      go (Some e) is = let le : f e ≤ 1 = most e in omega (arith, le)
+
+-- a page is in one block
+pub one_most : (p : Option KeptPage) (b : ℕ) → one_at p b ≤ 1
+one_most None b = omega arith
+one_most (Some p) b = elim (cases_eq p.block b) [
+  | inl is ↦ grind (arith, nat_tests, is)
+  | inr ne ↦ grind (arith, nat_tests, ne)
+]
+
+told_count : (v : Option Entry) (b : ℕ) → weight (counted_at b) v ≡ one_at (kept_of v) b
+told_count None b = refl
+told_count (Some e) b = refl
+
+-- a key has room to be counted elsewhere
+pub room_for : (t : Table) (m : ObjectMap) (o c : ℕ) → Tallies t m → IsSome (look m o c) → (size : ℕ) → total (λ (e : Entry). 1) m ≡ size → size < 4294967296 → HasRoom t (one_at (kept_of (look m o c))) 1
+room_for t m o c tallies some size counted few = record {
+  enough = λ b.
+      let all : (t.entry b).kept ≡ total (counted_at b) m = tallies.counts b in
+      let part = part_of_all (counted_at b) m o c in
+      let told = told_count (look m o c) b in
+      omega (arith, all, part, told);
+  room = λ b.
+      let all : (t.entry b).kept ≡ total (counted_at b) m = tallies.counts b in
+      let less = less_than_all (counted_at b) (λ e. one_most e.kept b) m o c some in
+      let told = told_count (look m o c) b in
+      omega (arith, all, less, told, counted, few);
+  within = λ b le.
+      let none : total (counted_at b) m ≡ 0 = tallies.within b le in
+      let part = part_of_all (counted_at b) m o c in
+      let told = told_count (look m o c) b in
+      omega (arith, none, part, told);
+}
+
+-- the counts follow the change of one key
+pub tallies_altered : (t u : Table) (m n : ObjectMap) (o c : ℕ) (to : Option Entry) → AltersKey o c to m n → Recounts (one_at (kept_of (look m o c))) (one_at (kept_of to)) t u → Tallies t m → Tallies u n
+tallies_altered t u m n o c to alters recounts tallies = record {
+  counts = λ b.
+      let was : (t.entry b).kept ≡ total (counted_at b) m = tallies.counts b in
+      let sum = alters.weighs (counted_at b) in
+      let is : (u.entry b).kept + one_at (kept_of (look m o c)) b ≡ (t.entry b).kept + one_at (kept_of to) b = recounts.kept b in
+      omega (arith, was, sum, is, told_count (look m o c) b, told_count to b);
+  within = λ b le.
+      let out : t.geometry.blocks ≤ b = subst (λ (x : _). x.blocks ≤ b) recounts.geometry le in
+      let was : (t.entry b).kept ≡ total (counted_at b) m = tallies.counts b in
+      let none : total (counted_at b) m ≡ 0 = tallies.within b out in
+      let sum = alters.weighs (counted_at b) in
+      let is : (u.entry b).kept + one_at (kept_of (look m o c)) b ≡ (t.entry b).kept + one_at (kept_of to) b = recounts.kept b in
+      let same : (u.entry b).kept ≡ (t.entry b).kept = recounts.outside b out in
+      omega (arith, was, none, sum, is, same, told_count (look m o c) b, told_count to b);
+}
+
+pub recounts_altered : (t u : Table) (m n : ObjectMap) (o c : ℕ) (to : Option Entry) → AltersKey o c to m n → Recounts (one_at (kept_of (look m o c))) (one_at (kept_of to)) t u
+    → Recounts (λ b. total (counted_at b) m) (λ b. total (counted_at b) n) t u
+recounts_altered t u m n o c to alters recounts = recounts_more (λ b.
+    let sum = alters.weighs (counted_at b) in
+    omega (arith, sum, told_count (look m o c) b, told_count to b)) recounts
+
+-- the room of an entry that is there
+pub entry_room : (t : Table) (m : ObjectMap) (o c : ℕ) (e : Entry) → look m o c ≡ Some e → Tallies t m → (size : ℕ) → total (λ (x : Entry). 1) m ≡ size → size < 4294967296 → HasRoom t (one_at e.kept) 1
+entry_room t m o c e is tallies size counted few = subst (λ v. HasRoom t (one_at (kept_of v)) 1) is (room_for t m o c tallies (rw is refl) size counted few)
+
+-- the count of an entry that is there
+pub entry_counts : (t u : Table) (m : ObjectMap) (o c : ℕ) (e : Entry) (to : Option Entry) → look m o c ≡ Some e → Recounts (one_at e.kept) (one_at (kept_of to)) t u → Recounts (one_at (kept_of (look m o c))) (one_at (kept_of to)) t u
+entry_counts t u m o c e to is recounts = subst (λ v. Recounts (one_at (kept_of v)) (one_at (kept_of to)) t u) (sym is) recounts
 
 -- the length counts 1 for each
 pub sum_ones : {X : Type 0} (xs : List X) → sum_by (λ (x : X). 1) xs ≡ length xs
@@ -90,30 +217,3 @@ sum_ones {X} (x ∷ xs) =
     let one : sum_by (λ (x : X). 1) (x ∷ xs) ≡ 1 + sum_by (λ (x : X). 1) xs = sum_by-cons (λ (x : X). 1) x xs in
     let rest : sum_by (λ (x : X). 1) xs ≡ length xs = sum_ones xs in
     omega (arith, one, rest)
-
--- what has room for all elements has room for one of them
-pub room_part : {X : Type 0} (f : X → ℕ → ℕ) (m : X → ℕ) → ((b : ℕ) (x : X) → f x b ≤ m x) → (t : Table) (xs : List X) (i : ℕ) (d : X) → i < length xs
-    → HasRoom t (λ b. sum_by (λ x. f x b) xs) (sum_by m xs) → HasRoom t (f (get_or xs i d)) (m (get_or xs i d))
-room_part f m less t xs i d within r =
-    let parts : (b : ℕ) → sum_by (λ x. f x b) (remove xs i) + f (get_or xs i d) b ≡ sum_by (λ x. f x b) xs = λ b. sum_by-remove (λ x. f x b) xs i d within in
-    let all : sum_by m (remove xs i) + m (get_or xs i d) ≡ sum_by m xs = sum_by-remove m xs i d within in
-    let rest : (b : ℕ) → sum_by (λ x. f x b) (remove xs i) ≤ sum_by m (remove xs i) = λ b. sum_less (λ x. f x b) m (less b) (remove xs i) in
-    record {
-      enough = λ b.
-          let one : sum_by (λ x. f x b) (remove xs i) + f (get_or xs i d) b ≡ sum_by (λ x. f x b) xs = parts b in
-          let two : sum_by (λ x. f x b) xs ≤ (t.entry b).kept = r.enough b in
-          omega (arith, one, two);
-      room = λ b.
-          let one : sum_by (λ x. f x b) (remove xs i) + f (get_or xs i d) b ≡ sum_by (λ x. f x b) xs = parts b in
-          let two : (t.entry b).kept + sum_by m xs ≤ 4294967295 + sum_by (λ x. f x b) xs = r.room b in
-          let three : sum_by (λ x. f x b) (remove xs i) ≤ sum_by m (remove xs i) = rest b in
-          omega (arith, one, two, three, all);
-      within = λ b le.
-          let one : sum_by (λ x. f x b) (remove xs i) + f (get_or xs i d) b ≡ sum_by (λ x. f x b) xs = parts b in
-          let two : sum_by (λ x. f x b) xs ≡ 0 = r.within b le in
-          omega (arith, one, two);
-    }
-
--- no sum is above that of what each is at most
-pub sum_most : {X : Type 0} (f g : X → ℕ) → ((x : X) → f x ≤ g x) → (xs : List X) → sum_by f xs ≤ sum_by g xs
-sum_most = sum_less

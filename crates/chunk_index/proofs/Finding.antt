@@ -1,16 +1,15 @@
 -- What a search finds in a list whose numbers rise, and what an edit at that place does.
 use Rattle.std.proofs.Common.{◌≡◌, Bool, ℕ, zero, suc, ◌+◌, ◌-◌, ◌<◌, ◌≤◌, eqb, ◌≢◌, List, [], ◌∷◌, length, get_or, set, map, if◌then◌else◌, Some, None, Result, Ok, Err, IfOk, IfErr, refl, sym, ap, ◌∙◌, subst, inl, inr, arith}
-use Rattle.std.specs.List.{insert, filter}
+use Rattle.std.specs.List.{insert, remove, filter}
 use Rattle.std.proofs.lemmas.List.Kept.{AllPairs-filter}
-use Rattle.std.specs.Option.{option_map}
 use Rattle.std.specs.List.Sorted.{IsSearchInRange, IsBinarySearchResult, IsNonDecreasingBy}
 use Rattle.std.specs.Ordering.{nat_cmp, ordering_index}
 use Rattle.std.proofs.lemmas.Cmp.{ranked}
 use Rattle.std.proofs.lemmas.Bool.{cases_lt, cases_eq}
 use Rattle.std.proofs.lemmas.Bool.Decides.{nat_tests}
 use Rattle.std.proofs.lemmas.List.{get_or-set_same, get_or-set_other, length-set}
-use Rattle.std.proofs.lemmas.List.Edits.{length-insert, get_or-insert_below, get_or-insert_at, get_or-insert_above}
-use Rattle.chunk_index.specs.Lists.{find_by, Rises, IsAt, IsGapFor}
+use Rattle.std.proofs.lemmas.List.Edits.{length-insert, length-remove, get_or-insert_below, get_or-insert_at, get_or-insert_above, get_or-remove_below, get_or-remove_above}
+use Rattle.chunk_index.specs.Lists.{find_by, Rises, IsAt, IsGapFor, IsEndFor}
 
 -- one equation for every number
 abbrev pub FindsAfterSet : {X : Type 0} → (X → ℕ) → List X → List X → ℕ → X → Type 0
@@ -50,6 +49,23 @@ module _ {X : Type 0} (f : X → ℕ) where
   find_insert [] n (suc i) y is none q = grind (arith, nat_tests, is)
   find_insert (x ∷ xs) n (suc i) y is none q = let first : f x ≢ n = none 0 x (omega arith) in grind (arith, nat_tests, first, find_insert xs n i y is (none_before_tail x xs n i none) q)
 
+  -- without it nothing is found at its number, where it comes once
+  pub find_remove : (xs : List X) (n i : ℕ) → IsAt f xs n i → NoneBefore xs n i → ((j : ℕ) (d : X) → i < j → j < length xs → f (get_or xs j d) ≢ n)
+      → (q : ℕ) → find_by f (remove xs i) q ≡ (if eqb n q then None else find_by f xs q)
+  find_remove [] n i at none after q = absurd (omega (arith, at.within))
+  find_remove (x ∷ xs) n zero at none after q =
+      let first : f x ≡ n = at.number x in
+      elim (cases_eq n q) [
+        | inl e ↦
+            let gone : find_by f xs n ≡ None = find_absent xs n (λ j d lt. after (suc j) d (omega arith) (omega (arith, lt))) in
+            grind (arith, nat_tests, first, gone, e)
+        | inr ne ↦ grind (arith, nat_tests, first, ne)
+      ]
+  find_remove (x ∷ xs) n (suc i) at none after q =
+      let first : f x ≢ n = none 0 x (omega arith) in
+      let rest = find_remove xs n i (is_at_tail x xs n i at) (none_before_tail x xs n i none) (λ j d lt within. after (suc j) d (omega (arith, lt)) (omega (arith, within))) q in
+      grind (arith, nat_tests, first, rest)
+
   module _ (xs : List X) (rises : Rises f xs) (n : ℕ) where
     comparisons_rise : IsNonDecreasingBy (λ x. ordering_index (nat_cmp (f x) n)) xs
     comparisons_rise i j d le within =
@@ -83,6 +99,43 @@ module _ {X : Type 0} (f : X → ℕ) where
     pub find_at_set : (y : X) → f y ≡ n → FindsAfterSet f xs (set xs i y) n y
     find_at_set y is = find_set xs n i y is at none_before_at
 
+    -- without it nothing is found at its number, and nothing else changes
+    pub find_at_remove : (q : ℕ) → find_by f (remove xs i) q ≡ (if eqb n q then None else find_by f xs q)
+    find_at_remove = find_remove xs n i at none_before_at (λ j d lt within same. let r : f (get_or xs i d) < f (get_or xs j d) = rises i j d lt within in let e : f (get_or xs i d) ≡ n = at.number d in omega (arith, r, e, same))
+
+    pub rises_remove : Rises f (remove xs i)
+    rises_remove a b d lt within =
+        let shorter : length (remove xs i) + 1 ≡ length xs = length-remove xs i at.within in
+        let below : (k : ℕ) → k < i → f (get_or (remove xs i) k d) ≡ f (get_or xs k d) = λ k less. ap f (get_or-remove_below xs i d k less at.within) in
+        let above : (k : ℕ) → i ≤ k → f (get_or (remove xs i) k d) ≡ f (get_or xs (k + 1) d) = λ k le. ap f (get_or-remove_above xs i d k le at.within) in
+        elim (cases_lt b i) [
+          | inl b_below ↦
+              let r : f (get_or xs a d) < f (get_or xs b d) = rises a b d lt (omega (arith, within, shorter)) in
+              omega (arith, r, below a (omega (arith, lt, b_below)), below b b_below)
+          | inr b_above ↦ elim (cases_lt a i) [
+            | inl a_below ↦
+                let r : f (get_or xs a d) < f (get_or xs (b + 1) d) = rises a (b + 1) d (omega (arith, lt)) (omega (arith, within, shorter)) in
+                omega (arith, r, below a a_below, above b b_above)
+            | inr a_above ↦
+                let r : f (get_or xs (a + 1) d) < f (get_or xs (b + 1) d) = rises (a + 1) (b + 1) d (omega (arith, lt)) (omega (arith, within, shorter)) in
+                omega (arith, r, above a a_above, above b b_above)
+          ]
+        ]
+
+    -- the elements before it are those with lesser numbers
+    pub ends_at : IsEndFor f xs (Some n) i
+    ends_at = record {
+      within = let lt : i < length xs = at.within in omega (arith, lt);
+      lesser = λ j d lt. let r : f (get_or xs j d) < f (get_or xs i d) = rises j i d lt at.within in let e : f (get_or xs i d) ≡ n = at.number d in omega (arith, r, e);
+      greater = λ j d le lt below. elim (cases_eq i j) [
+        | inl e ↦ let here : f (get_or xs j d) ≡ n = ap (λ k. f (get_or xs k d)) (sym e) ∙ at.number d in omega (arith, here, below)
+        | inr ne ↦
+            let r : f (get_or xs i d) < f (get_or xs j d) = rises i j d (omega (arith, le, ne)) lt in
+            let e : f (get_or xs i d) ≡ n = at.number d in
+            omega (arith, r, e, below)
+      ];
+    }
+
     -- and the numbers still rise
     pub rises_set : (y : X) → f y ≡ n → Rises f (set xs i y)
     rises_set y is a b d lt within =
@@ -103,6 +156,14 @@ module _ {X : Type 0} (f : X → ℕ) where
       | inl below ↦ let r : f (get_or xs j d) < n = gap.lesser j d below in omega (arith, r, same)
       | inr above ↦ let r : n < f (get_or xs j d) = gap.greater j d above lt in omega (arith, r, same)
     ])
+
+    -- the elements before it are those with lesser numbers
+    pub ends_in_gap : IsEndFor f xs (Some n) i
+    ends_in_gap = record {
+      within = gap.within;
+      lesser = gap.lesser;
+      greater = λ j d le lt below. let r : n < f (get_or xs j d) = gap.greater j d le lt in omega (arith, r, below);
+    }
 
     -- a new element in the gap is found at its number alone
     pub find_gap_insert : (y : X) → f y ≡ n → FindsAfterSet f xs (insert xs i y) n y
@@ -128,10 +189,9 @@ module _ {X : Type 0} (f : X → ℕ) where
       number = λ d. ap f (get_or-insert_at xs i y d gap.within) ∙ is;
     }
 
-  -- where each element becomes another with its number, what is found becomes that
-  pub find_map : (g : X → X) → ((x : X) → f (g x) ≡ f x) → (xs : List X) (n : ℕ) → find_by f (map g xs) n ≡ option_map g (find_by f xs n)
-  find_map g same [] n = refl
-  find_map g same (x ∷ xs) n = grind (arith, nat_tests, same x, find_map g same xs n)
+  -- with no bound all elements lie before it
+  pub ends_all : (xs : List X) → IsEndFor f xs None (length xs)
+  ends_all xs = record { within = omega arith; lesser = λ j d lt. tt; greater = λ j d le lt below. omega (arith, le, lt) }
 
   -- the numbers of those that stay still rise
   pub rises_filter : (p : X → Bool) (xs : List X) → Rises f xs → Rises f (filter p xs)

@@ -1,209 +1,130 @@
--- The two maps, from what is told of each key.
-use Rattle.std.proofs.Common.{◌≡◌, ◌↔◌, IsTrue, ℕ, ◌+◌, ◌-◌, ◌<◌, ◌≤◌, ◌^◌, Bool, true, false, Option, Some, None, IsSome, if◌then◌else◌, length, refl, sym, ap, subst, ◌∙◌, arith, inl, inr}
+-- What a change of one entry does to what an index tells.
+use Rattle.std.proofs.Common.{◌≡◌, ◌≢◌, ℕ, ◌+◌, ◌-◌, ◌<◌, ◌≤◌, List, [], ◌∷◌, ◌++◌, length, get_or, Bool, true, false, Option, Some, None, Result, Ok, Err, IsSome, IsOk, is_ok, IsTrue, OnOk, OnErr, if◌then◌else◌, refl, sym, ap, subst, ◌∙◌, arith, inl, inr}
 use mathlib.Core.Bool.{false≢true}
-use Rattle.std.proofs.lemmas.Bool.{cases_eq, cases_lt}
-use Rattle.std.specs.Option.{option_map, unwrap_or}
-use Rattle.block_state.specs.Table.{Table}
-use Rattle.chunk_index.specs.declared.form.Place.{Place}
+use mathlib.Core.Logic.{∥∥₁_elim}
+use Rattle.std.specs.List.{sum_by}
+use Rattle.std.specs.BTreeMap.{values}
+use Rattle.std.proofs.lemmas.Bool.{cases_eq}
+use Rattle.std.proofs.lemmas.List.{length-append, get_or_append_left, get_or-append_right}
+use Rattle.flash_tree.specs.declared.place.Key.{Key}
+use Rattle.chunk_index.specs.declared.entry.Entry.{Entry}
+use Rattle.chunk_index.specs.declared.object.ObjectEntries.{ObjectEntries}
 use Rattle.chunk_index.specs.declared.form.Form.{Form}
 use Rattle.chunk_index.specs.declared.form.Form.TheVariants as forms
-use Rattle.chunk_index.specs.declared.entry.Entry.{Entry}
-use Rattle.chunk_index.specs.declared.index.Index.{Index}
-use Rattle.chunk_index.specs.Entries.{blank, one_at, kept_among, kept_of, present_of, present_by, as_kept, settled, settled_kept, with_form, with_kept}
-use Rattle.chunk_index.specs.Objects.{look, entry_count, ChangesKey}
-use Rattle.chunk_index.specs.Counts.{Recounts, HasRoom}
-use Rattle.chunk_index.specs.Maps.{kept, kept_in, IsPrepared, StaysPrepared, CountsAgree, SameMaps, Places, Copies, Settles, Retains, written, moved_to}
-use Rattle.chunk_index.specs.Told.{SameTold}
-use Rattle.chunk_index.proofs.Counting.{recounts_more, sum_most}
-use Rattle.chunk_index.proofs.Changing.{kept_most}
+use Rattle.chunk_index.specs.Entries.{state_of, is_same_state, same_of, is_same, changed, weight, weigh, kept_of, counted_at}
+use Rattle.chunk_index.specs.Shelves.{ObjectMap, look, total, Differs, AltersKey, SameEntries, IsListed}
+use Rattle.chunk_index.proofs.Shelving.{look_chunk}
+use Rattle.chunk_index.proofs.Counting.{less_than_all, two_sums}
 
--- an entry stays an entry
-some_map : (f : Entry → Entry) (m : Option Entry) → IsSome m → IsSome (option_map f m)
-some_map f None some = some
-some_map f (Some e) some = refl
+-- the entry that is put is of the key
+pub at_chunk : (m n : ObjectMap) (o c : ℕ) (e new : Entry) → look m o c ≡ Some e → new.chunk ≡ e.chunk → AltersKey o new.chunk (Some new) m n → AltersKey o c (Some new) m n
+at_chunk m n o c e new is same alters = subst (λ l. AltersKey o l (Some new) m n) (same ∙ look_chunk m o c e is) alters
 
--- what is kept and present is told by the entry, or by none
-pub kept_told : (m : Option Entry) (c : ℕ) → kept_of m ≡ (unwrap_or m (blank c)).kept
-kept_told None c = refl
-kept_told (Some e) c = refl
+pub there_at : (m : ObjectMap) (o c : ℕ) (e : Entry) (l : ℕ) → look m o c ≡ Some e → l ≡ e.chunk → IsSome (look m o l)
+there_at m o c e l is same = subst (λ k. IsSome (look m o k)) (sym (same ∙ look_chunk m o c e is)) (rw is refl)
 
-pub present_told : (m : Option Entry) (c : ℕ) → present_of m ≡ present_by (unwrap_or m (blank c)).kept (unwrap_or m (blank c)).form
-present_told None c = refl
-present_told (Some e) c = refl
-
-pub same_maps : (old new : Index) → SameTold old new → SameMaps old new
-same_maps old new s = record {
-  kept = λ o c. kept_told (look new.objects.items o c) c ∙ ap (λ (e : Entry). e.kept) (s.told o c) ∙ sym (kept_told (look old.objects.items o c) c);
-  present = λ o c. present_told (look new.objects.items o c) c ∙ ap (λ (e : Entry). present_by e.kept e.form) (s.told o c) ∙ sym (present_told (look old.objects.items o c) c);
-  prepared = s.prepared;
-  counts = s.counts;
-}
-
--- a key that is kept is prepared
-pub kept_prepared : (m : Option Entry) → IsSome (kept_of m) → IsSome m
-kept_prepared None some = some
-kept_prepared (Some e) some = refl
-
--- where the counts agree there is room to count each key in any block
-pub agree_room : (t : Table) (x : Index) → CountsAgree t x → HasRoom t (kept_in x) (entry_count x.objects.items)
-agree_room t x a =
-    let size : entry_count x.objects.items ≡ x.size = x.counted in
-    let small : x.size < 2 ^ 32 = x.bounded in
-    record {
-      enough = λ b. let same : (t.entry b).kept ≡ kept_in x b = a.counts b in omega (arith, same);
-      room = λ b. let same : (t.entry b).kept ≡ kept_in x b = a.counts b in omega (arith, same, size, small);
-      within = a.within;
-    }
-
--- and to count one more, where an index has an entry more than is counted
-pub agree_grown : (t : Table) (x y : Index) → CountsAgree t x → entry_count y.objects.items ≡ entry_count x.objects.items + 1 → HasRoom t (one_at None) 1
-agree_grown t x y a more =
-    let size : entry_count y.objects.items ≡ y.size = y.counted in
-    let small : y.size < 2 ^ 32 = y.bounded in
-    record {
-      enough = λ b. omega arith;
-      room = λ b.
-          let same : (t.entry b).kept ≡ kept_in x b = a.counts b in
-          let most : kept_in x b ≤ entry_count x.objects.items = sum_most (λ z. kept_among z.entries.items b) (λ z. length z.entries.items) (λ z. kept_most b z.entries.items) x.objects.items in
-          omega (arith, same, most, more, size, small);
-      within = λ b le. refl;
-    }
-
--- an index that is not full has room for one entry more
-pub not_full : (full : Bool) (n : ℕ) → (IsTrue full ↔ (2 ^ 32 - 1 ≤ n)) → full ≡ false → n + 1 < 2 ^ 32
-not_full full n says not = elim (cases_lt n (2 ^ 32 - 1)) [
-  | inl lt ↦ omega (arith, lt)
-  | inr ge ↦ absurd (false≢true (sym not ∙ says.1 ge))
-]
-
--- and they agree again after a change that recounts
-pub agree_after : (t u : Table) (old new : Index) → CountsAgree t old → Recounts (kept_in old) (kept_in new) t u → CountsAgree u new
-agree_after t u old new a c = record {
-  counts = λ b.
-      let same : (t.entry b).kept ≡ kept_in old b = a.counts b in
-      let all : (u.entry b).kept + kept_in old b ≡ (t.entry b).kept + kept_in new b = c.kept b in
-      omega (arith, same, all);
-  within = λ b le.
-      let was : t.geometry.blocks ≤ b = subst (λ (g : _). g.blocks ≤ b) c.geometry le in
-      let none : kept_in old b ≡ 0 = a.within b was in
-      let all : (u.entry b).kept + kept_in old b ≡ (t.entry b).kept + kept_in new b = c.kept b in
-      let still : (u.entry b).kept ≡ (t.entry b).kept = c.outside b was in
-      omega (arith, none, all, still);
-}
-
--- whichever key it is, it has an entry still
-pub change_prepared : (old new : Index) (o c : ℕ) (to : Entry → Entry) → ChangesKey o c to old.objects.items new.objects.items → StaysPrepared old new
-change_prepared old new o c to ch k l some = elim (cases_eq k o) [
-  | inl e ↦ elim (cases_eq l c) [
-    | inl f ↦
-        let was : IsSome (look old.objects.items o c) = subst (λ n. IsSome (look old.objects.items n c)) e (subst (λ n. IsSome (look old.objects.items k n)) f some) in
-        let is : IsSome (look new.objects.items o c) = subst (λ (m : Option Entry). IsSome m) (sym ch.here) (some_map to _ was) in
-        subst (λ n. IsSome (look new.objects.items n l)) (sym e) (subst (λ n. IsSome (look new.objects.items o n)) (sym f) is)
-    | inr ne ↦ subst (λ (m : Option Entry). IsSome m) (sym (ch.others k l (inr ne))) some
-  ]
-  | inr ne ↦ subst (λ (m : Option Entry). IsSome m) (sym (ch.others k l (inl ne))) some
-]
-
-form_kept : (form : Form) (m : Option Entry) → kept_of (option_map (with_form form) m) ≡ kept_of m
-form_kept form None = refl
-form_kept form (Some e) = refl
-
-form_present : (form : Form) (m : Option Entry) → IsSome m → present_of (option_map (with_form form) m) ≡ present_by (kept_of m) form
-form_present form None some = absurd (false≢true some)
-form_present form (Some e) some = refl
-
-pub places_key : (old new : Index) (o c : ℕ) (form : Form) → IsPrepared old o c → ChangesKey o c (with_form form) old.objects.items new.objects.items → ((b : ℕ) → kept_in new b ≡ kept_in old b) → Places o c form old new
-places_key old new o c form some ch counts = record {
-  here = ap present_of ch.here ∙ form_present form _ some;
-  others = λ k l d. ap present_of (ch.others k l d);
-  kept = λ k l. elim (cases_eq k o) [
+module _ {m n : ObjectMap} {o c : ℕ} {to : Option Entry} (alters : AltersKey o c to m n) where
+  -- what is the same of the entry is the same of each
+  pub told_same : {X : Type 0} (f : Option Entry → X) → f to ≡ f (look m o c) → (k l : ℕ) → f (look n k l) ≡ f (look m k l)
+  told_same f same k l = elim (cases_eq k o) [
+    | inr ne ↦ ap f (alters.others k l (inl ne))
     | inl e ↦ elim (cases_eq l c) [
-      | inl f ↦
-          let here : kept new o c ≡ kept old o c = ap kept_of ch.here ∙ form_kept form (look old.objects.items o c) in
-          subst (λ n. kept new n l ≡ kept old n l) (sym e) (subst (λ n. kept new o n ≡ kept old o n) (sym f) here)
-      | inr ne ↦ ap kept_of (ch.others k l (inr ne))
+      | inr ne ↦ ap f (alters.others k l (inr ne))
+      | inl d ↦ ap (λ p. f (look n p l)) e ∙ ap (λ q. f (look n o q)) d ∙ ap f alters.here ∙ same ∙ sym (ap (λ p. f (look m p l)) e ∙ ap (λ q. f (look m o q)) d)
     ]
-    | inr ne ↦ ap kept_of (ch.others k l (inl ne))
-  ];
-  prepared = change_prepared old new o c _ ch;
-  counts = counts;
-}
+  ]
 
-move_kept : (p : Place) (m : Option Entry) → IsSome m → kept_of (option_map (with_kept (Some p)) m) ≡ Some p
-move_kept p None some = absurd (false≢true some)
-move_kept p (Some e) some = refl
+  -- what holds of the entry still holds of each of which it held
+  pub told_still : (f : Option Entry → Bool) → f to ≡ true → (k l : ℕ) → f (look m k l) ≡ true → f (look n k l) ≡ true
+  told_still f holds k l was = elim (cases_eq k o) [
+    | inr ne ↦ ap f (alters.others k l (inl ne)) ∙ was
+    | inl e ↦ elim (cases_eq l c) [
+      | inr ne ↦ ap f (alters.others k l (inr ne)) ∙ was
+      | inl d ↦ ap (λ p. f (look n p l)) e ∙ ap (λ q. f (look n o q)) d ∙ ap f alters.here ∙ holds
+    ]
+  ]
 
-move_by : (p : Place) (k : Option Place) (f : Form) → IsSome k → present_by (Some p) f ≡ moved_to p (present_by k f)
-move_by p None forms.Same some = absurd (false≢true some)
-move_by p (Some q) forms.Same some = refl
-move_by p k (forms.Buffered i) some = refl
-move_by p k forms.Dropped some = refl
+  -- where it adds as much, all add as much
+  pub total_same : (f : Entry → ℕ) → weight f to ≡ weight f (look m o c) → total f n ≡ total f m
+  total_same f same = let sum = alters.weighs f in omega (arith, sum, same)
 
-move_present : (p : Place) (m : Option Entry) → IsSome (kept_of m) → present_of (option_map (with_kept (Some p)) m) ≡ moved_to p (present_of m)
-move_present p None some = absurd (false≢true some)
-move_present p (Some e) some = move_by p e.kept e.form some
+  -- the changed keys are listed, where this one is and the others still are
+  pub listed_after : (old new : List Key) → ((k l : ℕ) → same_of (look m k l) ≡ false → ∥ IsListed old k l ∥₁) → ((k l : ℕ) → ∥ IsListed old k l ∥₁ → ∥ IsListed new k l ∥₁)
+      → (same_of to ≡ false → ∥ IsListed new o c ∥₁) → (k l : ℕ) → same_of (look n k l) ≡ false → ∥ IsListed new k l ∥₁
+  listed_after old new listed still here k l is = elim (cases_eq k o) [
+    | inr ne ↦ still k l (listed k l (sym (ap same_of (alters.others k l (inl ne))) ∙ is))
+    | inl e ↦ elim (cases_eq l c) [
+      | inr ne ↦ still k l (listed k l (sym (ap same_of (alters.others k l (inr ne))) ∙ is))
+      | inl d ↦
+          let at : same_of to ≡ false = sym (ap (λ p. same_of (look n p l)) e ∙ ap (λ q. same_of (look n o q)) d ∙ ap same_of alters.here) ∙ is in
+          subst (λ p. ∥ IsListed new p l ∥₁) (sym e) (subst (λ q. ∥ IsListed new o q ∥₁) (sym d) (here at))
+    ]
+  ]
 
-pub copies_key : (old new : Index) (o c : ℕ) (p : Place) → IsSome (kept old o c) → ChangesKey o c (with_kept (Some p)) old.objects.items new.objects.items → Copies o c p old new
-copies_key old new o c p some ch = record {
-  kept_here = ap kept_of ch.here ∙ move_kept p _ (kept_prepared _ some);
-  present_here = ap present_of ch.here ∙ move_present p _ some;
-  kept_elsewhere = λ k l d. ap kept_of (ch.others k l d);
-  present_elsewhere = λ k l d. ap present_of (ch.others k l d);
-  prepared = change_prepared old new o c _ ch;
-}
+-- ---- the list of changed keys
 
-settle_by : (block first : ℕ) (p : Option Place) (f : Form) → settled_kept block first p f ≡ written block first (present_by p f)
-settle_by block first None forms.Same = refl
-settle_by block first (Some p) forms.Same = refl
-settle_by block first p (forms.Buffered i) = refl
-settle_by block first p forms.Dropped = refl
+changed_most : (e : Entry) → changed e ≤ 1
+changed_most e = go (is_same e) where
+  go : (b : Bool) → (if b then 0 else 1) ≤ 1
+  go true = omega arith
+  go false = omega arith
 
-settle_kept : (block first : ℕ) (m : Option Entry) → kept_of (option_map (settled block first) m) ≡ written block first (present_of m)
-settle_kept block first None = refl
-settle_kept block first (Some e) = settle_by block first e.kept e.form
+-- no more keys changed than there are
+pub changed_few : (m : ObjectMap) → total changed m ≤ total (λ (e : Entry). 1) m
+changed_few m =
+    let split : total changed m + total (λ e. 1 - changed e) m ≡ total (λ (e : Entry). 1) m =
+    two_sums (λ (x : ObjectEntries). weigh changed x.entries.items) (λ (x : ObjectEntries). weigh (λ e. 1 - changed e) x.entries.items) (λ (x : ObjectEntries). weigh (λ (e : Entry). 1) x.entries.items)
+    (λ x. two_sums changed (λ e. 1 - changed e) (λ (e : Entry). 1) (λ e. let le = changed_most e in omega (arith, le)) x.entries.items) (values m) in
+    omega (arith, split)
 
-settle_present : (block first : ℕ) (m : Option Entry) → present_of (option_map (settled block first) m) ≡ as_kept (kept_of (option_map (settled block first) m))
-settle_present block first None = refl
-settle_present block first (Some e) = refl
+-- there is room for a key that did not change
+pub changed_room : (m : ObjectMap) (o c : ℕ) (e : Entry) → look m o c ≡ Some e → is_same e ≡ true → (n size capacity : ℕ) → n ≤ total changed m → total (λ (x : Entry). 1) m ≡ size → size ≤ capacity → n < capacity
+changed_room m o c e is same n size capacity few counted room =
+    let less = less_than_all changed changed_most m o c (rw is refl) in
+    let none : weight changed (look m o c) ≡ 0 = ap (weight changed) is ∙ ap (λ b. if b then 0 else 1) same in
+    omega (arith, less, none, few, counted, room)
 
-pub settles_all : (block first : ℕ) (old new : Index) → ((o c : ℕ) → look new.objects.items o c ≡ option_map (settled block first) (look old.objects.items o c)) → Settles block first old new
-settles_all block first old new looks = record {
-  kept_places = λ o c. ap kept_of (looks o c) ∙ settle_kept block first (look old.objects.items o c);
-  presents = λ o c. ap present_of (looks o c) ∙ settle_present block first (look old.objects.items o c) ∙ ap (λ m. as_kept (kept_of m)) (sym (looks o c));
-  prepared = λ o c some. subst (λ (m : Option Entry). IsSome m) (sym (looks o c)) (some_map (settled block first) _ some);
-}
+-- a push that has room succeeds
+pub pushed : {E : Type 0} (r : Result (Unit {0}) E) (old new : List Key) (k : Key) → IsOk r → new ≡ (if is_ok r then old ++ k ∷ [] else old) → new ≡ old ++ k ∷ []
+pushed (Ok u) old new k ok is = is
+pushed (Err e) old new k ok is = absurd (false≢true ok)
 
-stays_here : (b : Bool) (m n : Option Entry) → b ≡ true → (if b then m else n) ≡ m
-stays_here b m n is = ap (λ x. if x then m else n) is
+-- what was listed still is, and so is the key that was pushed
+pub listed_push : (keys : List Key) (k : Key) (o c : ℕ) → ∥ IsListed keys o c ∥₁ → ∥ IsListed (keys ++ k ∷ []) o c ∥₁
+listed_push keys k o c listed = ∥∥₁_elim listed (λ x y. squash₁ x y) (λ (at : IsListed keys o c). ∣ (
+  at.0,
+  (let longer = length-append keys (k ∷ []) in let lt = at.1 in omega (arith, longer, lt)),
+  λ d. let same : get_or (keys ++ k ∷ []) at.0 d ≡ get_or keys at.0 d = get_or_append_left keys (k ∷ []) d at.0 at.1 in rw same (at.2 d),
+) ∣₁)
 
-goes_here : (b : Bool) (m n : Option Entry) → b ≡ false → (if b then m else n) ≡ n
-goes_here b m n is = ap (λ x. if x then m else n) is
+pub listed_last : (keys : List Key) (k : Key) → ∥ IsListed (keys ++ k ∷ []) k.object k.chunk ∥₁
+listed_last keys k = ∣ (
+  length keys,
+  (let longer = length-append keys (k ∷ []) in omega (arith, longer)),
+  λ d. let same : get_or (keys ++ k ∷ []) (length keys) d ≡ k = get_or-append_right keys (k ∷ []) (length keys) (length keys) d refl (omega arith) ∙ ap (λ i. get_or (k ∷ []) i d) (let e : length keys - length keys ≡ 0 = omega arith in e) in rw same (refl, refl),
+) ∣₁
 
-pub retains_all : (keeps : ℕ → ℕ → Bool) (old new : Index) → ((o c : ℕ) → look new.objects.items o c ≡ (if keeps o c then look old.objects.items o c else None)) → Retains keeps old new
-retains_all keeps old new looks =
-    let stays : (o c : ℕ) → keeps o c ≡ true → look new.objects.items o c ≡ look old.objects.items o c = λ o c is. looks o c ∙ stays_here (keeps o c) (look old.objects.items o c) None is in
-    let goes : (o c : ℕ) → keeps o c ≡ false → look new.objects.items o c ≡ None = λ o c is. looks o c ∙ goes_here (keeps o c) (look old.objects.items o c) None is in
-    record {
-      kept_stays = λ o c is. ap kept_of (stays o c is);
-      present_stays = λ o c is. ap present_of (stays o c is);
-      prepared = λ o c is some. subst (λ (m : Option Entry). IsSome m) (sym (stays o c is)) some;
-      kept_goes = λ o c is. ap kept_of (goes o c is);
-      present_goes = λ o c is. ap present_of (goes o c is);
-    }
+-- ---- an entry that is put, or refused
 
--- what is told of each key decides
-pub retains_same : (keeps : ℕ → ℕ → Bool) (old cur new : Index) → Retains keeps old cur → ((o c : ℕ) → look new.objects.items o c ≡ look cur.objects.items o c) → Retains keeps old new
-retains_same keeps old cur new r looks = record {
-  kept_stays = λ o c is. ap kept_of (looks o c) ∙ r.kept_stays o c is;
-  present_stays = λ o c is. ap present_of (looks o c) ∙ r.present_stays o c is;
-  prepared = λ o c is some. subst (λ (m : Option Entry). IsSome m) (sym (looks o c)) (r.prepared o c is some);
-  kept_goes = λ o c is. ap kept_of (looks o c) ∙ r.kept_goes o c is;
-  present_goes = λ o c is. ap present_of (looks o c) ∙ r.present_goes o c is;
-}
+module _ {E : Type 0} (r : Result (Unit {0}) E) (m n : ObjectMap) (o c : ℕ) (e : Entry) (ok : OnOk r (AltersKey o c (Some e) m n)) (err : OnErr r (SameEntries m n)) (none : look m o c ≡ None) where
+  -- what it tells as little of as no entry is the same
+  pub told_inserted : {X : Type 0} (f : Option Entry → X) → f (Some e) ≡ f None → (k l : ℕ) → f (look n k l) ≡ f (look m k l)
+  told_inserted f same k l = go r ok err where
+    go : (q : Result (Unit {0}) E) → OnOk q (AltersKey o c (Some e) m n) → OnErr q (SameEntries m n) → f (look n k l) ≡ f (look m k l)
+    go (Ok u) alters x = told_same alters f (same ∙ sym (ap f none)) k l
+    go (Err x) u entries = ap f (entries.looks k l)
 
--- and so do the counts
-pub agree_same : (t : Table) (cur new : Index) → CountsAgree t cur → ((b : ℕ) → kept_in new b ≡ kept_in cur b) → CountsAgree t new
-agree_same t cur new a same = record { counts = λ b. a.counts b ∙ sym (same b); within = λ b le. same b ∙ a.within b le }
+  pub total_inserted : (f : Entry → ℕ) → f e ≡ 0 → total f n ≡ total f m
+  total_inserted f nothing = go r ok err where
+    go : (q : Result (Unit {0}) E) → OnOk q (AltersKey o c (Some e) m n) → OnErr q (SameEntries m n) → total f n ≡ total f m
+    go (Ok u) alters x = total_same alters f (nothing ∙ sym (ap (weight f) none))
+    go (Err x) u entries = entries.weighs f
 
-pub recounts_same : (t u : Table) (old cur new : Index) → Recounts (kept_in old) (kept_in cur) t u → ((b : ℕ) → kept_in new b ≡ kept_in cur b) → Recounts (kept_in old) (kept_in new) t u
-recounts_same t u old cur new c same = recounts_more (λ b. let one : kept_in new b ≡ kept_in cur b = same b in omega (arith, one)) c
+pub room_inserted : {E : Type 0} (r : Result (Unit {0}) E) (old new n capacity : ℕ) → OnOk r (new ≡ old + 1) → OnErr r (new ≡ old) → n ≤ old → n + (old - n + 1) ≤ capacity → new ≤ capacity
+room_inserted (Ok u) old new n capacity ok err le room = omega (arith, ok, le, room)
+room_inserted (Err e) old new n capacity ok err le room = omega (arith, err, le, room)
+
+-- a form changes what is present
+pub state_changes : (f : Form) → is_same_state (state_of f) ≡ false
+state_changes (forms.Buffered i) = refl
+state_changes forms.Dropped = refl

@@ -1,6 +1,8 @@
 -- The kept counts of blocks, while kept places change.
 use Rattle.std.specs.Prelude.{◌≡◌, ◌≤◌, ℕ, ◌+◌}
 use Rattle.block_state.specs.Table.{Table}
+use Rattle.chunk_index.specs.Entries.{counted_at}
+use Rattle.chunk_index.specs.Shelves.{ObjectMap, total}
 
 -- Of each block so many keys were counted and so many are now; all else of the blocks stays.
 pub record Recounts (before after : ℕ → ℕ) (old new : Table) : Type 0 where
@@ -19,3 +21,8 @@ pub record HasRoom (t : Table) (counted : ℕ → ℕ) (n : ℕ) : Type 0 where
   pub enough : (b : ℕ) → counted b ≤ (t.entry b).kept
   pub room : (b : ℕ) → (t.entry b).kept + n ≤ 4294967295 + counted b
   pub within : (b : ℕ) → t.geometry.blocks ≤ b → counted b ≡ 0
+
+-- The kept count of each block is the number of entries that are kept in it, and none is kept past the last block.
+pub record Tallies (t : Table) (m : ObjectMap) : Type 0 where
+  pub counts : (b : ℕ) → (t.entry b).kept ≡ total (counted_at b) m
+  pub within : (b : ℕ) → t.geometry.blocks ≤ b → total (counted_at b) m ≡ 0

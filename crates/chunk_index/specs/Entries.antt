@@ -1,101 +1,138 @@
 -- What the entries of an index tell.
-use Rattle.std.specs.Prelude.{◌≡◌, ◌≢◌, ◌<◌, ◌^◌, ℕ, ◌+◌, List, length, if◌then◌else◌, ◌==◌, Option, Some, None, IsSome, Bool}
-use Rattle.std.specs.Option.{option_map, option_map_or, option_and_then, unwrap_or}
+use Rattle.std.specs.Prelude.{◌≡◌, ◌≢◌, ◌<◌, ℕ, ◌+◌, List, if◌then◌else◌, ◌==◌, Bool, true, false, Option, Some, None, IsSome}
+use Rattle.std.specs.Option.{option_map_or, option_and_then}
 use Rattle.std.specs.List.{sum_by}
-use Rattle.chunk_index.specs.Lists.{find_by}
-use Rattle.chunk_index.specs.declared.form.Place.{Place}
+use Rattle.chunk_index.specs.Lists.{find_by, IsBelow}
+use Rattle.chunk_index.specs.declared.form.KeptPage.{KeptPage}
 use Rattle.chunk_index.specs.declared.form.Form.{Form}
 use Rattle.chunk_index.specs.declared.form.Form.TheVariants as forms
 use Rattle.chunk_index.specs.declared.form.Present.{Present}
 use Rattle.chunk_index.specs.declared.form.Present.TheVariants as presents
+use Rattle.chunk_index.specs.declared.form.WrittenGroup.{WrittenGroup}
 use Rattle.chunk_index.specs.declared.entry.Entry.{Entry}
+use Rattle.chunk_index.specs.declared.entry.State.{State}
+use Rattle.chunk_index.specs.declared.entry.State.TheVariants as states
 
 -- the chunk of an entry
 abbrev pub chunk : Entry → ℕ
 chunk e = e.chunk
 
--- the kept place that an entry tells; no entry tells of none
-abbrev pub kept_of : Option Entry → Option Place
-kept_of e = option_and_then (λ x. x.kept) e
-
 -- the page is where it is kept, if it is kept
-abbrev pub as_kept : Option Place → Present
+abbrev pub as_kept : Option KeptPage → Present
 as_kept None = presents.Absent
 as_kept (Some p) = presents.OnFlash p
 
--- the present page, by the kept place and the form
-abbrev pub present_by : Option Place → Form → Present
-present_by p forms.Same = as_kept p
-present_by p (forms.Buffered i) = presents.InBuffer i
-present_by p forms.Dropped = presents.Absent
+-- the present page, by the kept one and the state
+abbrev pub present_by : Option KeptPage → State → Present
+present_by p states.Same = as_kept p
+present_by p (states.Buffered i) = presents.InBuffer i
+present_by p states.Dropped = presents.Absent
+present_by p states.Vacant = presents.Absent
+
+-- the present page of a form
+abbrev pub shown_by : Form → Present
+shown_by (forms.Buffered i) = presents.InBuffer i
+shown_by forms.Dropped = presents.Absent
+
+-- the state that a form gives an entry
+abbrev pub state_of : Form → State
+state_of (forms.Buffered i) = states.Buffered i
+state_of forms.Dropped = states.Dropped
+
+-- what is present is what is kept
+abbrev pub is_same_state : State → Bool
+is_same_state states.Same = true
+is_same_state (states.Buffered i) = false
+is_same_state states.Dropped = false
+is_same_state states.Vacant = false
+
+abbrev pub is_same : Entry → Bool
+is_same e = is_same_state e.state
+
+-- the entry stays when the changes are settled
+abbrev pub stays_state : State → Bool
+stays_state states.Same = true
+stays_state (states.Buffered i) = true
+stays_state states.Dropped = false
+stays_state states.Vacant = true
+
+-- the kept page that an entry tells; no entry tells of none
+abbrev pub kept_of : Option Entry → Option KeptPage
+kept_of m = option_and_then (λ (e : Entry). e.kept) m
 
 -- the present page that an entry tells; no entry tells of none
 abbrev pub present_of : Option Entry → Present
 present_of None = presents.Absent
-present_of (Some e) = present_by e.kept e.form
+present_of (Some e) = present_by e.kept e.state
 
--- the kept place once what is present was written from page `first` of a block on
-abbrev pub settled_kept : ℕ → ℕ → Option Place → Form → Option Place
-settled_kept block first p forms.Same = p
-settled_kept block first p (forms.Buffered i) = Some (record { block = block; page = first + i })
-settled_kept block first p forms.Dropped = None
+-- there is an entry, and it stays when the changes are settled
+abbrev pub stays_of : Option Entry → Bool
+stays_of m = option_map_or (λ (e : Entry). stays_state e.state) m false
 
--- what an entry becomes then
-abbrev pub settled : ℕ → ℕ → Entry → Entry
-settled block first e = record e { kept = settled_kept block first e.kept e.form; form = forms.Same }
+-- what is present is what is kept; so it is without an entry
+abbrev pub same_of : Option Entry → Bool
+same_of m = option_map_or is_same m true
 
--- an entry that tells of nothing
-abbrev pub blank : ℕ → Entry
-blank c = record { chunk = c; kept = None; form = forms.Same }
+-- the entry of a chunk whose present page is the kept one
+abbrev pub kept_at : ℕ → Option KeptPage → Entry
+kept_at c p = record { chunk = c; kept = p; state = states.Same }
 
--- the entry of a chunk that is kept at a place, and present there
-abbrev pub kept_at : ℕ → Place → Entry
-kept_at c p = record { chunk = c; kept = Some p; form = forms.Same }
+-- an entry in another state
+abbrev pub with_state : State → Entry → Entry
+with_state s e = record e { state = s }
 
--- an entry that stays where it is to be kept, and else tells of nothing
-abbrev pub retained : (ℕ → ℕ → Bool) → ℕ → Entry → Entry
-retained keeps o e = if keeps o e.chunk then e else blank e.chunk
-
--- an entry in another form
-abbrev pub with_form : Form → Entry → Entry
-with_form form e = record e { form = form }
-
--- an entry with another kept place
-abbrev pub with_kept : Option Place → Entry → Entry
+-- an entry with another kept page
+abbrev pub with_kept : Option KeptPage → Entry → Entry
 with_kept p e = record e { kept = p }
 
--- 1 for the block that a place is in, and 0 for each other
-abbrev pub one_at : Option Place → ℕ → ℕ
+-- the page of number i of a group that was written
+abbrev pub written_page : WrittenGroup → ℕ → KeptPage
+written_page g i = record { block = g.block; page = g.first + i; version = g.number }
+
+-- what an entry becomes once the pages of the buffer were written as this group; a dropped one goes
+abbrev pub settled_by : WrittenGroup → Entry → State → Option Entry
+settled_by g e states.Same = Some e
+settled_by g e (states.Buffered i) = Some (record e { kept = Some (written_page g i); state = states.Same })
+settled_by g e states.Dropped = None
+settled_by g e states.Vacant = Some (record e { kept = None; state = states.Same })
+
+abbrev pub settled : WrittenGroup → Option Entry → Option Entry
+settled g m = option_and_then (λ e. settled_by g e e.state) m
+
+-- 1 for the block that a page is kept in, and 0 for each other
+abbrev pub one_at : Option KeptPage → ℕ → ℕ
 one_at p b = option_map_or (λ q. if q.block == b then 1 else 0) p 0
 
--- how many of an object's chunks are kept in a block
-abbrev pub kept_among : List Entry → ℕ → ℕ
-kept_among es b = sum_by (λ e. one_at e.kept b) es
+-- 1 for the block that an entry's page is kept in, and 0 for each other
+abbrev pub counted_at : ℕ → Entry → ℕ
+counted_at b e = one_at e.kept b
 
--- The chunk has an entry, and no other chunk's changes. The one that was there stays; a new one tells of nothing.
-pub record Prepares (c : ℕ) (grown : Bool) (old new : List Entry) : Type 0 where
-  pub here : find_by chunk new c ≡ Some (unwrap_or (find_by chunk old c) (blank c))
+-- 1 for an entry whose present page is not the kept one, and else 0
+abbrev pub changed : Entry → ℕ
+changed e = if is_same e then 0 else 1
+
+-- what an entry adds; no entry adds nothing
+abbrev pub weight : (Entry → ℕ) → Option Entry → ℕ
+weight f m = option_map_or f m 0
+
+-- what all entries of an object add
+abbrev pub weigh : (Entry → ℕ) → List Entry → ℕ
+weigh f es = sum_by f es
+
+-- A chunk has this entry, or none, and no other chunk's entry changes; sums over the entries follow.
+pub record Alters (c : ℕ) (to : Option Entry) (old new : List Entry) : Type 0 where
+  pub here : find_by chunk new c ≡ to
   pub others : (l : ℕ) → l ≢ c → find_by chunk new l ≡ find_by chunk old l
-  pub counts : (b : ℕ) → kept_among new b ≡ kept_among old b
-  pub count : length new ≡ length old + (if grown then 1 else 0)
+  pub weighs : (f : Entry → ℕ) → weigh f new + weight f (find_by chunk old c) ≡ weigh f old + weight f to
 
--- the chunk comes after each that has an entry
-abbrev pub IsAfter : ℕ → List Entry → Type 0
-IsAfter c es = (l : ℕ) → IsSome (find_by chunk es l) → l < c
+-- the last entry before a bound, or none where none lies before it
+abbrev pub IsLastBelow : List Entry → Option ℕ → Option Entry → Type 0
+IsLastBelow es bound None = (l : ℕ) → IsBelow l bound → find_by chunk es l ≡ None
+IsLastBelow es bound (Some e) = (find_by chunk es (chunk e) ≡ Some e) × IsBelow (chunk e) bound × ((l : ℕ) → chunk e < l → IsBelow l bound → find_by chunk es l ≡ None)
 
--- There is this entry more, and no other chunk's changes.
-pub record Adds (e : Entry) (old new : List Entry) : Type 0 where
-  pub here : find_by chunk new (chunk e) ≡ Some e
-  pub others : (l : ℕ) → l ≢ chunk e → find_by chunk new l ≡ find_by chunk old l
-  pub counts : (b : ℕ) → kept_among new b ≡ kept_among old b + one_at e.kept b
-  pub count : length new ≡ length old + 1
-
--- The entry of the chunk becomes another, and no other chunk's changes.
-pub record Changes (c : ℕ) (to : Entry → Entry) (old new : List Entry) : Type 0 where
-  pub here : find_by chunk new c ≡ option_map to (find_by chunk old c)
-  pub others : (l : ℕ) → l ≢ c → find_by chunk new l ≡ find_by chunk old l
-  pub count : length new ≡ length old
-
--- the numbers of the pages in the buffer are such that each has a page from `first` on
-abbrev pub Follow : ℕ → List Entry → Type 0
-Follow first es = (c i : ℕ) → present_of (find_by chunk es c) ≡ presents.InBuffer i → first + i < 2 ^ 32
+-- each page of the buffer has a number for its page on the flash, from the group's first on
+abbrev pub HasPage : WrittenGroup → State → Type 0
+HasPage g (states.Buffered i) = g.first + i < 4294967296
+HasPage g states.Same = Unit {0}
+HasPage g states.Dropped = Unit {0}
+HasPage g states.Vacant = Unit {0}

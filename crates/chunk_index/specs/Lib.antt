@@ -1,7 +1,11 @@
 pub mod Lists
 pub mod Entries
-pub mod Objects
+pub mod Shelves
 pub mod Counts
 pub mod Maps
 pub mod Newest
-pub mod Told
+pub mod Found
+pub mod Listing
+pub mod KeptLaws
+pub mod Kept
+pub mod MapLaws

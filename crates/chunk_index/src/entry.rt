@@ -1,29 +1,69 @@
 // What the index has of one chunk.
 ghost use Rattle.std.specs.Prelude.{◌≡◌};
 
-use crate::form::{Form, Place, Present};
+use crate::form::{Form, KeptPage, Present};
+
+/// How what is present of a chunk differs from what is kept.
+#[derive(Clone, Copy, Debug, PartialEq, Eq)]
+pub enum State {
+    /// It is the same.
+    Same,
+    /// The page of this number in the buffer is present.
+    Buffered(u32),
+    /// Nothing is present, and the entry goes once the changes are settled.
+    Dropped,
+    /// Nothing is present, and the entry stays, for a page that it was prepared for.
+    Vacant,
+}
 
 #[derive(Clone, Copy, Debug, PartialEq, Eq)]
 pub struct Entry {
     pub chunk: u64,
-    pub kept: Option<Place>,
-    pub form: Form,
+    pub kept: Option<KeptPage>,
+    pub state: State,
 }
 
 impl Entry {
-    ghost use Rattle.chunk_index.specs.Entries.{present_by};
+    ghost use Rattle.chunk_index.specs.Entries.{present_by, is_same};
 
     /// The present page.
     pub fn present(&self) -> Present
-        ensures { result ≡ present_by self.now.kept self.now.form }
+        ensures { result ≡ present_by self.now.kept self.now.state }
     {
-        match self.form {
-            Form::Same => match self.kept {
-                Some(place) => Present::OnFlash(place),
+        match self.state {
+            State::Same => match self.kept {
+                Some(page) => Present::OnFlash(page),
                 None => Present::Absent,
             },
-            Form::Buffered(i) => Present::InBuffer(i),
-            Form::Dropped => Present::Absent,
+            State::Buffered(i) => Present::InBuffer(i),
+            State::Dropped => Present::Absent,
+            State::Vacant => Present::Absent,
+        }
+    }
+
+    /// Whether what is present is what is kept.
+    pub fn is_same(&self) -> bool
+        ensures { result ≡ is_same self.now }
+    {
+        match self.state {
+            State::Same => true,
+            State::Buffered(_) => false,
+            State::Dropped => false,
+            State::Vacant => false,
+        }
+    }
+}
+
+impl Form {
+    ghost use Rattle.chunk_index.specs.Entries.{state_of};
+
+    /// The state of an entry that was given this form.
+    pub(crate) fn state(self) -> State
+        ensures { result ≡ state_of self }
+    {
+        match self {
+            Form::Buffered(i) => State::Buffered(i),
+            Form::Dropped => State::Dropped,
         }
     }
 }

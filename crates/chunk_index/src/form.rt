@@ -1,4 +1,5 @@
 // What is told of a key.
+use flash_tree::Key;
 
 /// A place of a page on the flash.
 #[derive(Clone, Copy, Debug, PartialEq, Eq)]
@@ -7,14 +8,27 @@ pub struct Place {
     pub page: u32,
 }
 
-/// The present form of a key.
+/// Where the page of a key is kept on the flash, and the version that it has there.
+#[derive(Clone, Copy, Debug, PartialEq, Eq)]
+pub struct KeptPage {
+    pub block: u32,
+    pub page: u32,
+    pub version: u64,
+}
+
+/// A key with its kept page.
+#[derive(Clone, Copy, Debug, PartialEq, Eq)]
+pub struct KeptKey {
+    pub key: Key,
+    pub at: KeptPage,
+}
+
+/// What becomes present of a key.
 #[derive(Clone, Copy, Debug, PartialEq, Eq)]
 pub enum Form {
-    /// As it is kept.
-    Same,
     /// The page of this number in the buffer.
     Buffered(u32),
-    /// Gone.
+    /// Nothing.
     Dropped,
 }
 
@@ -22,6 +36,15 @@ pub enum Form {
 #[derive(Clone, Copy, Debug, PartialEq, Eq)]
 pub enum Present {
     Absent,
-    OnFlash(Place),
+    OnFlash(KeptPage),
     InBuffer(u32),
+}
+
+/// Where the pages of the buffer were written as one group: the page of number i at page `first + i` of the block, in the
+/// version that is the group's number.
+#[derive(Clone, Copy, Debug, PartialEq, Eq)]
+pub struct WrittenGroup {
+    pub block: u32,
+    pub first: u32,
+    pub number: u64,
 }

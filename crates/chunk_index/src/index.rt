@@ -1,39 +1,33 @@
 // The index.
-ghost use Rattle.std.specs.Prelude.{◌≡◌, ◌<◌, ◌≤◌, ◌-◌, ◌^◌, ◌↔◌, ℕ, [], length, Some, OnOk, OnErr, IfOk, IfErr, IsSome, IsTrue};
+ghost use Rattle.std.specs.Prelude.{◌≡◌, ◌≢◌, ◌<◌, ◌≤◌, ◌+◌, ◌^◌, ℕ, true, false, length, vec_capacity, None, Some, OnOk, OnErr, IsOk, IsSome};
 ghost use Rattle.block_state.specs.Table.{Table};
 ghost use Rattle.block_state.specs.TableOf.{table};
-ghost use Rattle.chunk_index.specs.Lists.{Rises, IsAt, IsGapFor};
-ghost use Rattle.chunk_index.specs.Objects.{number, entry_count, look, ChangesKey, AddsKey, NoneAbove, ComesAfter};
-ghost use Rattle.chunk_index.specs.Entries.{with_kept, kept_at};
+ghost use Rattle.chunk_index.specs.Entries.{same_of, is_same, changed, with_state, with_kept, kept_at, state_of};
+ghost use Rattle.chunk_index.specs.Shelves.{look, total, Differs, AltersKey, SameEntries, IsListed};
 ghost use Rattle.chunk_index.specs.Counts.{Recounts};
+ghost use Rattle.chunk_index.specs.declared.form.KeptPage.{KeptPage};
 
 use crate::change;
-use crate::entry::Entry;
-use crate::form::{Form, Place, Present};
-use crate::keep::KeepKeys;
-use crate::object::ObjectEntries;
+use crate::entry::{Entry, State};
+use crate::form::{Form, KeptPage, Place, Present, WrittenGroup};
+use crate::shelf::Shelf;
 use block_state::Blocks;
 use flash_tree::Key;
 use std::alloc::{AllocError, Global};
 
-/// No more than a kept count can tell.
-const MOST_ENTRIES: usize = 4_294_967_295;
-
-/// For each key its kept place and its present form. An object without entries and one that is not here mean the
-/// same.
+/// For each key its kept page on the flash and its present page, and a list of the keys where these differ. There is room
+/// in the list for all entries, so that only `prepare` and the making of an index take memory.
 #[derive(Drop)]
 pub struct Index {
-    alloc: Global,
-    objects: Vec<ObjectEntries>,
-    size: usize,
-    ghost rises: { Rises number objects.items },
-    ghost counted: { entry_count objects.items ≡ size },
-    ghost bounded: { size < 2 ^ 32 },
+    pub(crate) shelf: Shelf,
+    changed_keys: Vec<Key>,
+    ghost listed: { (o c : ℕ) → same_of (look shelf.objects o c) ≡ false → ∥ IsListed changed_keys.items o c ∥₁ },
+    ghost few: { length changed_keys.items ≤ total changed shelf.objects },
+    ghost room: { shelf.size ≤ vec_capacity changed_keys },
 }
 
 impl Index {
-    ghost use Rattle.chunk_index.specs.Maps.{kept, present, kept_in, IsPrepared, IsEmpty, CountsAgree, SameMaps, Places, Copies, Settles, Retains, Fits};
-    ghost use Rattle.chunk_index.specs.Told.{SameTold};
+    ghost use Rattle.chunk_index.specs.Maps.{kept_pages, present, kept_in, IsPrepared, IsReady, StaysPrepared, IsEmpty, CountsAgree, SameKept, SamePresent, Places, Copies, Settles, Fits};
 
     /// No key is kept or present.
     pub fn new(alloc: Global) -> Index
@@ -43,22 +37,23 @@ impl Index {
         Index::bare(alloc)
     }
 
-    /// There is no object.
+    /// There is no entry.
     pub(crate) fn bare(alloc: Global) -> Index
-        ensures { result.objects.items ≡ [] }
+        ensures looks { (o c : ℕ) → look result.shelf.objects o c ≡ None }
+        ensures counts { (b : ℕ) → kept_in result b ≡ 0 }
+        ensures size { result.shelf.size ≡ 0 }
     {
         Index {
-            alloc,
-            objects: Vec::new(alloc),
-            size: 0,
+            shelf: Shelf::new(alloc),
+            changed_keys: Vec::new(alloc),
         }
     }
 
-    /// The kept place of a key.
-    pub fn kept(&self, key: Key) -> Option<Place>
-        ensures { result ≡ kept self.now key.object key.chunk }
+    /// The kept page of a key.
+    pub fn kept(&self, key: Key) -> Option<KeptPage>
+        ensures { result ≡ kept_pages self.now key.object key.chunk }
     {
-        match self.entry(key) {
+        match self.shelf.entry(key) {
             Some(entry) => entry.kept,
             None => None,
         }
@@ -68,233 +63,168 @@ impl Index {
     pub fn present(&self, key: Key) -> Present
         ensures { result ≡ present self.now key.object key.chunk }
     {
-        match self.entry(key) {
+        match self.shelf.entry(key) {
             Some(entry) => entry.present(),
             None => Present::Absent,
         }
     }
 
-    /// Sees that a key has an entry, so that `place` takes no memory. Neither map changes, also where memory is
-    /// refused.
+    /// Sees that there is room for the present page of a key, also once the changes are settled, so that `place` and
+    /// `settle_group` take no memory. No kept and no present page changes, also where memory is refused, which it never is
+    /// for a key that is kept or present.
     pub fn prepare(&mut self, key: Key) -> Result<(), AllocError>
-        ensures same { SameMaps self.old self.new }
-        ensures prepared { OnOk result (IsPrepared self.new key.object key.chunk) }
-        ensures agree { (t : Table) → CountsAgree t self.old → CountsAgree t self.new }
+        ensures kept { SameKept self.old self.new }
+        ensures present { SamePresent self.old self.new }
+        ensures ready { OnOk result (IsReady self.new key.object key.chunk) }
+        ensures stays { (o c : ℕ) → IsReady self.old o c → IsReady self.new o c }
+        ensures prepared { StaysPrepared self.old self.new }
+        ensures succeeds { IsPrepared self.old key.object key.chunk → IsOk result }
     {
-        self.prepare_entry(key)
+        match self.shelf.entry(key) {
+            Some(entry) => {
+                self.keep_entry(key, entry);
+                Ok(())
+            }
+            None => self.add_entry(key),
+        }
     }
 
-    /// Gives a prepared key another present form.
+    /// Sees that the entry of a key stays once the changes are settled.
+    fn keep_entry(&mut self, key: Key, entry: Entry)
+        requires { look self.old.shelf.objects key.object key.chunk ≡ Some entry }
+        ensures kept { SameKept self.old self.new }
+        ensures present { SamePresent self.old self.new }
+        ensures ready { IsReady self.new key.object key.chunk }
+        ensures stays { (o c : ℕ) → IsReady self.old o c → IsReady self.new o c }
+        ensures prepared { StaysPrepared self.old self.new }
+    {
+        match entry.state {
+            State::Dropped => {
+                let state = State::Vacant;
+                self.shelf.set(key.object, Entry { state, ..entry });
+            }
+            State::Same => {}
+            State::Buffered(_) => {}
+            State::Vacant => {}
+        }
+    }
+
+    /// Gives a key an entry, which tells of nothing.
+    fn add_entry(&mut self, key: Key) -> Result<(), AllocError>
+        requires { look self.old.shelf.objects key.object key.chunk ≡ None }
+        ensures kept { SameKept self.old self.new }
+        ensures present { SamePresent self.old self.new }
+        ensures ready { OnOk result (IsReady self.new key.object key.chunk) }
+        ensures stays { (o c : ℕ) → IsReady self.old o c → IsReady self.new o c }
+        ensures prepared { StaysPrepared self.old self.new }
+    {
+        self.add(key, None)
+    }
+
+    /// Gives a key an entry, whose present page is the kept one.
+    pub(crate) fn add(&mut self, key: Key, kept: Option<KeptPage>) -> Result<(), AllocError>
+        requires { look self.old.shelf.objects key.object key.chunk ≡ None }
+        ensures ok { OnOk result (AltersKey key.object key.chunk (Some (kept_at key.chunk kept)) self.old.shelf.objects self.new.shelf.objects) }
+        ensures err { OnErr result (SameEntries self.old.shelf.objects self.new.shelf.objects) }
+    {
+        let room = self.shelf.size() - self.changed_keys.len() + 1;
+        self.changed_keys.reserve(room)?;
+        let entry = Entry {
+            chunk: key.chunk,
+            kept,
+            state: State::Same,
+        };
+        self.shelf.insert(key.object, entry)
+    }
+
+    /// Gives a prepared key another present page.
     pub fn place(&mut self, key: Key, form: Form)
         requires prepared { IsPrepared self.old key.object key.chunk }
         ensures places { Places key.object key.chunk form self.old self.new }
-        ensures agree { (t : Table) → CountsAgree t self.old → CountsAgree t self.new }
+        ensures kept { SameKept self.old self.new }
+        ensures prepared { StaysPrepared self.old self.new }
+        ensures ready { (o c : ℕ) → Differs key.object key.chunk o c → IsReady self.old o c → IsReady self.new o c }
     {
-        match self.search(key.object) {
-            Ok(at) => self.objects[at].place(key.chunk, form),
-            Err(_) => {}
+        match self.shelf.entry(key) {
+            Some(entry) => {
+                if entry.is_same() {
+                    self.place_first(key, entry, form);
+                } else {
+                    self.place_again(key, entry, form);
+                }
+            }
+            None => {}
         }
     }
 
-    /// Notes that the kept page of a key was copied to another place. The key keeps its form.
+    /// Gives a key whose present page is the kept one another present page.
+    fn place_first(&mut self, key: Key, entry: Entry, form: Form)
+        requires entry { look self.old.shelf.objects key.object key.chunk ≡ Some entry }
+        requires same { is_same entry ≡ true }
+        ensures { AltersKey key.object key.chunk (Some (with_state (state_of form) entry)) self.old.shelf.objects self.new.shelf.objects }
+    {
+        let _ = self.changed_keys.push(key);
+        let state = form.state();
+        self.shelf.set(key.object, Entry { state, ..entry });
+    }
+
+    /// Gives a key whose present page is not the kept one another present page.
+    fn place_again(&mut self, key: Key, entry: Entry, form: Form)
+        requires entry { look self.old.shelf.objects key.object key.chunk ≡ Some entry }
+        requires changed { is_same entry ≡ false }
+        ensures { AltersKey key.object key.chunk (Some (with_state (state_of form) entry)) self.old.shelf.objects self.new.shelf.objects }
+    {
+        let state = form.state();
+        self.shelf.set(key.object, Entry { state, ..entry });
+    }
+
+    /// Notes that the kept page of a key was copied to another place, in the same version.
     pub fn copied(&mut self, key: Key, place: Place, blocks: &mut Blocks)
-        requires kept { IsSome (kept self.old key.object key.chunk) }
+        requires kept { IsSome (kept_pages self.old key.object key.chunk) }
         requires block { place.block < (table blocks.old).geometry.blocks }
         requires agree { CountsAgree (table blocks.old) self.old }
-        ensures copies { Copies key.object key.chunk place self.old self.new }
+        ensures copies { (was : KeptPage) → kept_pages self.old key.object key.chunk ≡ Some was → Copies key.object key.chunk place was self.old self.new }
+        ensures prepared { StaysPrepared self.old self.new }
+        ensures ready { (o c : ℕ) → IsReady self.old o c → IsReady self.new o c }
         ensures agree { CountsAgree (table blocks.new) self.new }
         ensures counts { Recounts (kept_in self.old) (kept_in self.new) (table blocks.old) (table blocks.new) }
     {
-        self.keep(key, place, blocks);
-    }
-
-    /// Settles all keys: the pages of the buffer were written as one group, the page of number i at page `first + i`
-    /// of the block.
-    pub fn settle_group(&mut self, block: u32, first: u32, blocks: &mut Blocks)
-        requires block { block < (table blocks.old).geometry.blocks }
-        requires fits { Fits first self.old }
-        requires agree { CountsAgree (table blocks.old) self.old }
-        ensures settles { Settles block first self.old self.new }
-        ensures agree { CountsAgree (table blocks.new) self.new }
-        ensures counts { Recounts (kept_in self.old) (kept_in self.new) (table blocks.old) (table blocks.new) }
-    {
-        for at in 0..self.objects.len() {
-            self.objects[at].settle(block, first, blocks);
-        }
-    }
-
-    /// Drops each key that is not to be kept.
-    pub fn retain<K: KeepKeys>(&mut self, keep: &K, blocks: &mut Blocks)
-        requires agree { CountsAgree (table blocks.old) self.old }
-        ensures retains { Retains (K.keeps keep.now) self.old self.new }
-        ensures agree { CountsAgree (table blocks.new) self.new }
-        ensures counts { Recounts (kept_in self.old) (kept_in self.new) (table blocks.old) (table blocks.new) }
-    {
-        self.drop_keys(keep, blocks);
-        self.drop_empty();
-    }
-
-    /// Drops the entry of each key that is not to be kept.
-    fn drop_keys<K: KeepKeys>(&mut self, keep: &K, blocks: &mut Blocks)
-        requires agree { CountsAgree (table blocks.old) self.old }
-        ensures retains { Retains (K.keeps keep.now) self.old self.new }
-        ensures agree { CountsAgree (table blocks.new) self.new }
-        ensures counts { Recounts (kept_in self.old) (kept_in self.new) (table blocks.old) (table blocks.new) }
-    {
-        for at in 0..self.objects.len() {
-            let gone = self.objects[at].retain(keep, blocks);
-            self.size -= gone;
-        }
-    }
-
-    /// Drops each object without entries. No key gets or loses an entry.
-    fn drop_empty(&mut self)
-        ensures entries { (o c : ℕ) → look self.new.objects.items o c ≡ look self.old.objects.items o c }
-        ensures counts { (b : ℕ) → kept_in self.new b ≡ kept_in self.old b }
-    {
-        self.objects.retain(|object| !object.is_empty());
-    }
-
-    /// Where an object is, or where it would go.
-    fn search(&self, object: u64) -> Result<usize, usize>
-        ensures found { IfOk result (IsAt number self.now.objects.items object) }
-        ensures absent { IfErr result (IsGapFor number self.now.objects.items object) }
-    {
-        self.objects
-            .binary_search_by_key(&object, |entries| entries.object)
-    }
-
-    /// The entry of a key.
-    fn entry(&self, key: Key) -> Option<Entry>
-        ensures { result ≡ look self.now.objects.items key.object key.chunk }
-    {
-        match self.search(key.object) {
-            Ok(at) => self.objects[at].get(key.chunk),
-            Err(_) => None,
-        }
-    }
-
-    /// Whether one entry more would be more than a kept count can tell.
-    fn is_full(&self) -> bool
-        ensures { IsTrue result ↔ (2 ^ 32 - 1 ≤ self.now.size) }
-    {
-        self.size >= MOST_ENTRIES
-    }
-
-    /// Sees that a key has an entry; a new one tells of nothing.
-    fn prepare_entry(&mut self, key: Key) -> Result<(), AllocError>
-        ensures same { SameTold self.old self.new }
-        ensures prepared { OnOk result (IsPrepared self.new key.object key.chunk) }
-    {
-        if self.is_full() {
-            return Err(AllocError);
-        }
-        let at = self.prepare_object(key.object)?;
-        let grown = self.objects[at].prepare(key.chunk)?;
-        if grown {
-            self.size += 1;
-        }
-        Ok(())
-    }
-
-    /// Sees that an object is here, and says where. No key gets or loses an entry.
-    fn prepare_object(&mut self, object: u64) -> Result<usize, AllocError>
-        ensures entries { (o c : ℕ) → look self.new.objects.items o c ≡ look self.old.objects.items o c }
-        ensures counts { (b : ℕ) → kept_in self.new b ≡ kept_in self.old b }
-        ensures size { self.new.size ≡ self.old.size }
-        ensures found { IfOk result (IsAt number self.new.objects.items object) }
-    {
-        match self.search(object) {
-            Ok(at) => Ok(at),
-            Err(at) => {
-                let entries = ObjectEntries::new(self.alloc, object);
-                self.objects.insert(at, entries)?;
-                Ok(at)
+        if let Some(entry) = self.shelf.entry(key) {
+            if let Some(was) = entry.kept {
+                let page = KeptPage {
+                    block: place.block,
+                    page: place.page,
+                    version: was.version,
+                };
+                self.move_to(key, entry, page, blocks);
             }
         }
     }
 
-    /// Gives a prepared key another kept place, in its form.
-    fn keep(&mut self, key: Key, place: Place, blocks: &mut Blocks)
-        requires prepared { IsPrepared self.old key.object key.chunk }
-        requires block { place.block < (table blocks.old).geometry.blocks }
+    /// Gives the entry of a key another kept page.
+    fn move_to(&mut self, key: Key, entry: Entry, page: KeptPage, blocks: &mut Blocks)
+        requires entry { look self.old.shelf.objects key.object key.chunk ≡ Some entry }
+        requires block { page.block < (table blocks.old).geometry.blocks }
         requires agree { CountsAgree (table blocks.old) self.old }
-        ensures entries { ChangesKey key.object key.chunk (with_kept (Some place)) self.old.objects.items self.new.objects.items }
+        ensures alters { AltersKey key.object key.chunk (Some (with_kept (Some page) entry)) self.old.shelf.objects self.new.shelf.objects }
         ensures agree { CountsAgree (table blocks.new) self.new }
         ensures counts { Recounts (kept_in self.old) (kept_in self.new) (table blocks.old) (table blocks.new) }
     {
-        match self.search(key.object) {
-            Ok(at) => self.objects[at].keep(key.chunk, place, blocks),
-            Err(_) => {}
-        }
+        change::recount(entry.kept, Some(page), blocks);
+        let kept = Some(page);
+        self.shelf.set(key.object, Entry { kept, ..entry });
     }
 
-    /// Appends an entry for a key that comes after all that are here, kept at a place, and counts it in the block. No
-    /// entry is looked up or moved.
-    pub(crate) fn append(
-        &mut self,
-        key: Key,
-        place: Place,
-        blocks: &mut Blocks,
-    ) -> Result<(), AllocError>
-        requires after { ComesAfter key.object key.chunk self.old.objects.items }
-        requires block { place.block < (table blocks.old).geometry.blocks }
+    /// Settles all keys: the pages of the buffer were written as this group. Only keys that changed are touched.
+    pub fn settle_group(&mut self, group: WrittenGroup, blocks: &mut Blocks)
+        requires block { group.block < (table blocks.old).geometry.blocks }
+        requires fits { Fits group self.old }
         requires agree { CountsAgree (table blocks.old) self.old }
-        ensures adds { OnOk result (AddsKey key.object (kept_at key.chunk place) self.old.objects.items self.new.objects.items) }
-        ensures greatest { OnOk result (NoneAbove key.object self.new.objects.items) }
+        ensures settles { Settles group self.old self.new }
         ensures agree { CountsAgree (table blocks.new) self.new }
         ensures counts { Recounts (kept_in self.old) (kept_in self.new) (table blocks.old) (table blocks.new) }
     {
-        self.append_entry(key, place)?;
-        change::keep(Some(place), blocks);
-        Ok(())
-    }
-
-    /// Appends an entry for a key that comes after all that are here, kept at a place.
-    fn append_entry(&mut self, key: Key, place: Place) -> Result<(), AllocError>
-        requires after { ComesAfter key.object key.chunk self.old.objects.items }
-        ensures adds { OnOk result (AddsKey key.object (kept_at key.chunk place) self.old.objects.items self.new.objects.items) }
-        ensures greatest { OnOk result (NoneAbove key.object self.new.objects.items) }
-        ensures counts { OnErr result ((b : ℕ) → kept_in self.new b ≡ kept_in self.old b) }
-    {
-        if self.is_full() {
-            return Err(AllocError);
-        }
-        let at = self.append_object(key.object)?;
-        self.objects[at].append(Entry {
-            chunk: key.chunk,
-            kept: Some(place),
-            form: Form::Same,
-        })?;
-        self.size += 1;
-        Ok(())
-    }
-
-    /// Sees that an object is the last one, where none is greater, and says where. No key gets or loses an entry.
-    fn append_object(&mut self, object: u64) -> Result<usize, AllocError>
-        requires greatest { NoneAbove object self.old.objects.items }
-        ensures entries { (o c : ℕ) → look self.new.objects.items o c ≡ look self.old.objects.items o c }
-        ensures counts { (b : ℕ) → kept_in self.new b ≡ kept_in self.old b }
-        ensures size { self.new.size ≡ self.old.size }
-        ensures found { IfOk result (IsAt number self.new.objects.items object) }
-        ensures greatest { OnOk result (NoneAbove object self.new.objects.items) }
-    {
-        let count = self.objects.len();
-        if self.ends_with(object) {
-            return Ok(count - 1);
-        }
-        let entries = ObjectEntries::new(self.alloc, object);
-        self.objects.push(entries)?;
-        Ok(count)
-    }
-
-    /// Whether an object is the last one.
-    fn ends_with(&self, object: u64) -> bool
-        ensures { IsTrue result ↔ IsAt number self.now.objects.items object (length self.now.objects.items - 1) }
-    {
-        match self.objects.last() {
-            Some(last) => last.object == object,
-            None => false,
-        }
+        self.shelf.settle(&self.changed_keys, group, blocks);
+        self.changed_keys.clear();
     }
 }

@@ -1,17 +1,21 @@
-//! The index of the store: for each key its kept place on the flash and its present form.
+//! The index of the store: for each key its kept page on the flash, and what is present.
 #![tactic(auto)]
 
 mod change;
+mod cut;
 mod entry;
 mod form;
 mod index;
-mod keep;
+mod law;
+mod listing;
 mod newest;
 mod object;
+mod settle;
+mod shelf;
 
-pub use form::{Form, Place, Present};
+pub use form::{Form, KeptKey, KeptPage, Place, Present, WrittenGroup};
 pub use index::Index;
-pub use keep::KeepKeys;
+pub use law::{the_counts_are_of_the_keys, the_list_of_a_block_is_whole};
 
 #[cfg(test)]
 mod tests;

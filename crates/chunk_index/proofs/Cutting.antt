@@ -1,0 +1,72 @@
+-- The cut of one entry after another, from the last one on.
+use Rattle.std.proofs.Common.{◌≡◌, ◌≢◌, ◌⊎◌, ℕ, ◌<◌, ◌≤◌, Option, Some, None, IsTrue, refl, sym, ap, ◌∙◌, arith, inl, inr}
+use Rattle.std.proofs.lemmas.Bool.{cases_eq, cases_lt}
+use Rattle.chunk_index.specs.Lists.{IsBelow}
+use Rattle.chunk_index.specs.Entries.{chunk, present_of}
+use Rattle.chunk_index.specs.Shelves.{look, Differs, IsLastFrom}
+use Rattle.chunk_index.specs.Maps.{present, IsReady, StaysPrepared, SameKept, Places, Cuts}
+use Rattle.chunk_index.specs.declared.entry.Entry.{Entry}
+use Rattle.chunk_index.specs.declared.form.Form.TheVariants as forms
+use Rattle.chunk_index.specs.declared.form.Present.TheVariants as presents
+use Rattle.chunk_index.specs.declared.index.Index.{Index}
+
+abbrev pub bound_or : Option ℕ → ℕ → ℕ
+bound_or None n = n
+bound_or (Some b) n = b
+
+-- What is told of the object from the chunk on and not before the bound is gone, and all else is as it was.
+pub record Cutting (o from : ℕ) (bound : Option ℕ) (old new : Index) : Type 0 where
+  pub gone : (l : ℕ) → from ≤ l → (IsBelow l bound → ⊥) → present new o l ≡ presents.Absent
+  pub others : (k l : ℕ) → (k ≢ o) ⊎ (l < from) → present new k l ≡ present old k l
+  pub kept : SameKept old new
+  pub prepared : StaysPrepared old new
+  pub ready : (k l : ℕ) → (k ≢ o) ⊎ (l < from) → IsReady old k l → IsReady new k l
+
+pub cutting_none : (o from : ℕ) (x : Index) → Cutting o from None x x
+cutting_none o from x = record {
+  gone = λ l le not. absurd (not tt);
+  others = λ k l other. refl;
+  kept = record { kept = λ k l. refl; counts = λ b. refl };
+  prepared = λ k l is. is;
+  ready = λ k l other is. is;
+}
+
+below_or_not : (l : ℕ) (bound : Option ℕ) → IsBelow l bound ⊎ (IsBelow l bound → ⊥)
+below_or_not l None = inl tt
+below_or_not l (Some b) = elim (cases_lt l b) [ inl lt ↦ inl lt | inr ge ↦ inr (λ lt. omega (arith, ge, lt)) ]
+
+absent : (x : Index) (o l : ℕ) → look x.shelf.objects o l ≡ None → present x o l ≡ presents.Absent
+absent x o l none = ap present_of none
+
+-- a key that is not cut differs from one that is
+differs : (o from k l c : ℕ) → from ≤ c → (k ≢ o) ⊎ (l < from) → Differs o c k l
+differs o from k l c le (inl ne) = inl ne
+differs o from k l c le (inr lt) = inr (λ e. omega (arith, le, lt, e))
+
+pub cutting_more : (o from : ℕ) (bound : Option ℕ) (old mid new : Index) (e : Entry) → Cutting o from bound old mid → IsLastFrom mid.shelf.objects o from bound (Some e)
+    → Places o (chunk e) forms.Dropped mid new → SameKept mid new → StaysPrepared mid new → ((k l : ℕ) → Differs o (chunk e) k l → IsReady mid k l → IsReady new k l)
+    → Cutting o from (Some (chunk e)) old new
+cutting_more o from bound old mid new e was last places kept prepared ready = record {
+  gone = λ l le not. elim (cases_eq l (chunk e)) [
+    | inl same ↦ ap (present new o) same ∙ places.here
+    | inr ne ↦
+        let above : chunk e < l = elim (cases_lt l (chunk e)) [ inl lt ↦ absurd (not lt) | inr ge ↦ omega (arith, ge, ne) ] in
+        places.others o l (inr ne) ∙ elim (below_or_not l bound) [
+          | inl below ↦ absent mid o l (last.3 l above below)
+          | inr past ↦ was.gone l le past
+        ]
+  ];
+  others = λ k l other. places.others k l (differs o from k l (chunk e) last.1 other) ∙ was.others k l other;
+  kept = record { kept = λ k l. kept.kept k l ∙ was.kept.kept k l; counts = λ b. kept.counts b ∙ was.kept.counts b };
+  prepared = λ k l is. prepared k l (was.prepared k l is);
+  ready = λ k l other is. ready k l (differs o from k l (chunk e) last.1 other) (was.ready k l other is);
+}
+
+pub cutting_all : (o from : ℕ) (bound : Option ℕ) (old new : Index) → Cutting o from bound old new → IsLastFrom new.shelf.objects o from bound None → Cuts o from old new
+cutting_all o from bound old new was last = record {
+  gone = λ l le. elim (below_or_not l bound) [
+    | inl below ↦ absent new o l (last l le below)
+    | inr past ↦ was.gone l le past
+  ];
+  others = was.others;
+}

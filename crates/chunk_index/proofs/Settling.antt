@@ -1,0 +1,181 @@
+-- The settling of one key after another.
+use Rattle.std.proofs.Common.{◌≡◌, ◌≢◌, ◌⊎◌, ℕ, ◌+◌, ◌<◌, ◌≤◌, List, length, get_or, Option, Some, None, true, false, IsSome, IfSome, refl, sym, ap, subst, ◌∙◌, arith, inl, inr}
+use mathlib.Core.Bool.{false≢true}
+use mathlib.Core.Logic.{∥∥₁_elim}
+use Rattle.std.proofs.lemmas.Bool.{cases_eq, cases_Bool}
+use Rattle.std.proofs.lemmas.List.{get_or_default}
+use Rattle.flash_tree.specs.declared.place.Key.{Key}
+use Rattle.chunk_index.specs.declared.form.WrittenGroup.{WrittenGroup}
+use Rattle.chunk_index.specs.declared.form.KeptPage.{KeptPage}
+use Rattle.chunk_index.specs.declared.form.Present.TheVariants as presents
+use Rattle.chunk_index.specs.declared.entry.Entry.{Entry}
+use Rattle.chunk_index.specs.declared.entry.State.{State}
+use Rattle.chunk_index.specs.declared.entry.State.TheVariants as states
+use Rattle.block_state.specs.Table.{Table}
+use Rattle.chunk_index.specs.Entries.{settled, settled_by, same_of, present_of, present_by, kept_of, one_at, weight, HasPage}
+use Rattle.chunk_index.specs.Shelves.{ObjectMap, look, total, Differs, AltersKey, IsListed}
+use Rattle.chunk_index.specs.Counts.{Recounts, HasRoom, Tallies}
+use Rattle.chunk_index.proofs.Counting.{room_for, room_block}
+
+-- settling twice is settling once
+settled_twice : (g : WrittenGroup) (v : Option Entry) → settled g (settled g v) ≡ settled g v
+settled_twice g None = refl
+settled_twice g (Some e) = go e.state refl where
+  go : (s : State) → e.state ≡ s → settled g (settled g (Some e)) ≡ settled g (Some e)
+  go states.Same is = let one : settled g (Some e) ≡ Some e = ap (settled_by g e) is in ap (settled g) one
+  go (states.Buffered i) is = let one : settled g (Some e) ≡ settled_by g e (states.Buffered i) = ap (settled_by g e) is in ap (settled g) one ∙ sym one
+  go states.Dropped is = let one : settled g (Some e) ≡ None = ap (settled_by g e) is in ap (settled g) one ∙ sym one
+  go states.Vacant is = let one : settled g (Some e) ≡ settled_by g e states.Vacant = ap (settled_by g e) is in ap (settled g) one ∙ sym one
+
+-- an entry whose present page is the kept one stays
+settled_same : (g : WrittenGroup) (v : Option Entry) → same_of v ≡ true → settled g v ≡ v
+settled_same g None is = refl
+settled_same g (Some e) same = go e.state refl where
+  go : (s : State) → e.state ≡ s → settled g (Some e) ≡ Some e
+  go states.Same is = ap (settled_by g e) is
+  go (states.Buffered i) is = absurd (false≢true (rw is at same))
+  go states.Dropped is = absurd (false≢true (rw is at same))
+  go states.Vacant is = absurd (false≢true (rw is at same))
+
+-- a key was settled, or is as it was and not among the first n
+pub record Settling (g : WrittenGroup) (keys : List Key) (n : ℕ) (old new : ObjectMap) : Type 0 where
+  pub each : (o c : ℕ) → (look new o c ≡ settled g (look old o c))
+      ⊎ ((look new o c ≡ look old o c) × ((j : ℕ) (d : Key) → j < n → ((get_or keys j d).object ≡ o) × ((get_or keys j d).chunk ≡ c) → ⊥))
+
+pub settling_none : (g : WrittenGroup) (keys : List Key) (m : ObjectMap) → Settling g keys 0 m m
+settling_none g keys m = record { each = λ o c. inr (refl, λ j d lt is. omega (arith, lt)) }
+
+pub settling_more : (g : WrittenGroup) (keys : List Key) (n : ℕ) (old mid new : ObjectMap) (k : Key) → Settling g keys n old mid → n < length keys → ((d : Key) → get_or keys n d ≡ k)
+    → AltersKey k.object k.chunk (settled g (look mid k.object k.chunk)) mid new → Settling g keys (n + 1) old new
+settling_more g keys n old mid new k was lt here alters = record {
+  each = λ o c. elim (cases_eq o k.object) [
+    | inl e ↦ elim (cases_eq c k.chunk) [
+      | inl f ↦ this o c e f
+      | inr ne ↦ other o c (inr ne) (λ same. ne (sym same.1))
+    ]
+    | inr ne ↦ other o c (inl ne) (λ same. ne (sym same.0))
+  ];
+} where
+  this : (o c : ℕ) → o ≡ k.object → c ≡ k.chunk → (look new o c ≡ settled g (look old o c))
+      ⊎ ((look new o c ≡ look old o c) × ((j : ℕ) (d : Key) → j < n + 1 → ((get_or keys j d).object ≡ o) × ((get_or keys j d).chunk ≡ c) → ⊥))
+  this o c e f =
+      let is : look new o c ≡ settled g (look mid o c) = ap (λ p. look new p c) e ∙ ap (look new k.object) f ∙ alters.here ∙ ap (λ p. settled g (look mid p k.chunk)) (sym e) ∙ ap (λ l. settled g (look mid o l)) (sym f) in
+      elim (was.each o c) [
+        | inl done ↦ inl (is ∙ ap (settled g) done ∙ settled_twice g (look old o c))
+        | inr (same, none) ↦ inl (is ∙ ap (settled g) same)
+      ]
+
+  other : (o c : ℕ) → Differs k.object k.chunk o c → ((k.object ≡ o) × (k.chunk ≡ c) → ⊥) → (look new o c ≡ settled g (look old o c))
+      ⊎ ((look new o c ≡ look old o c) × ((j : ℕ) (d : Key) → j < n + 1 → ((get_or keys j d).object ≡ o) × ((get_or keys j d).chunk ≡ c) → ⊥))
+  other o c differs not = elim (was.each o c) [
+    | inl done ↦ inl (alters.others o c differs ∙ done)
+    | inr (same, none) ↦ inr (
+      alters.others o c differs ∙ same,
+      λ j d less at. elim (cases_eq j n) [
+        | inl e ↦
+            let key : get_or keys j d ≡ k = ap (λ i. get_or keys i d) e ∙ here d in
+            not (sym (ap (λ (x : Key). x.object) key) ∙ at.0, sym (ap (λ (x : Key). x.chunk) key) ∙ at.1)
+        | inr ne ↦ none j d (omega (arith, less, ne)) at
+      ],
+    )
+  ]
+
+-- at the end of the list all keys are settled
+pub settling_all : (g : WrittenGroup) (keys : List Key) (n : ℕ) (old new : ObjectMap) → Settling g keys n old new → length keys ≤ n
+    → ((o c : ℕ) → same_of (look old o c) ≡ false → ∥ IsListed keys o c ∥₁) → (o c : ℕ) → look new o c ≡ settled g (look old o c)
+settling_all g keys n old new was all listed o c = elim (was.each o c) [
+  | inl done ↦ done
+  | inr (same, none) ↦ elim (cases_Bool (same_of (look old o c))) [
+    | inl is ↦ same ∙ sym (settled_same g (look old o c) is)
+    | inr not ↦
+        let d : Key = record { object = 0; chunk = 0 } in
+        absurd (∥∥₁_elim (listed o c not) (λ x y. absurd x) (λ (at : IsListed keys o c). none at.0 d (omega (arith, at.1, all)) (at.2 d)))
+  ]
+]
+
+-- the pages of the buffer still have their numbers
+pub settling_fits : (g : WrittenGroup) (keys : List Key) (n : ℕ) (old new : ObjectMap) → Settling g keys n old new → ((o c i : ℕ) → present_of (look old o c) ≡ presents.InBuffer i → g.first + i < 4294967296)
+    → (o c i : ℕ) → present_of (look new o c) ≡ presents.InBuffer i → g.first + i < 4294967296
+settling_fits g keys n old new was fits o c i is = elim (was.each o c) [
+  | inl done ↦ absurd (no_buffer g (look old o c) i (sym (ap present_of done) ∙ is))
+  | inr (same, none) ↦ fits o c i (sym (ap present_of same) ∙ is)
+] where
+  on_flash : (p : Option KeptPage) (i : ℕ) → present_by p states.Same ≡ presents.InBuffer i → ⊥
+  on_flash None i is = cc
+  on_flash (Some p) i is = cc
+
+  no_buffer : (g : WrittenGroup) (v : Option Entry) (i : ℕ) → present_of (settled g v) ≡ presents.InBuffer i → ⊥
+  no_buffer g None i is = cc
+  no_buffer g (Some e) i shown = go e.state refl where
+    go : (s : State) → e.state ≡ s → ⊥
+    go states.Same is =
+        let one : settled g (Some e) ≡ Some e = ap (settled_by g e) is in
+        on_flash e.kept i (ap (present_by e.kept) (sym is) ∙ sym (ap present_of one) ∙ shown)
+    go (states.Buffered j) is = let one : settled g (Some e) ≡ settled_by g e (states.Buffered j) = ap (settled_by g e) is in let two : presents.OnFlash (record { block = g.block; page = g.first + j; version = g.number }) ≡ presents.InBuffer i = sym (ap present_of one) ∙ shown in absurd cc
+    go states.Dropped is = let one : settled g (Some e) ≡ None = ap (settled_by g e) is in let two : presents.Absent ≡ presents.InBuffer i = sym (ap present_of one) ∙ shown in absurd cc
+    go states.Vacant is = let one : settled g (Some e) ≡ settled_by g e states.Vacant = ap (settled_by g e) is in let two : presents.Absent ≡ presents.InBuffer i = sym (ap present_of one) ∙ shown in absurd cc
+
+-- the page that an entry shows has its number
+pub has_page : (g : WrittenGroup) (e : Entry) → ((i : ℕ) → present_by e.kept e.state ≡ presents.InBuffer i → g.first + i < 4294967296) → HasPage g e.state
+has_page g e fits = go e.state refl where
+  go : (s : State) → e.state ≡ s → HasPage g s
+  go states.Same is = tt
+  go (states.Buffered i) is = fits i (ap (present_by e.kept) is)
+  go states.Dropped is = tt
+  go states.Vacant is = tt
+
+-- ---- one key
+
+module _ (g : WrittenGroup) (m : ObjectMap) (o c : ℕ) (e : Entry) (is : look m o c ≡ Some e) where
+  settles_to : (to : Option Entry) → to ≡ settled_by g e e.state → to ≡ settled g (look m o c)
+  settles_to to by = by ∙ sym (ap (settled g) is)
+
+  pub settled_set : (n : ObjectMap) (new : Entry) → Some new ≡ settled_by g e e.state → new.chunk ≡ c → AltersKey o new.chunk (Some new) m n → AltersKey o c (settled g (look m o c)) m n
+  settled_set n new by same alters = subst (λ v. AltersKey o c v m n) (settles_to (Some new) by) (subst (λ l. AltersKey o l (Some new) m n) same alters)
+
+  pub settled_remove : (n : ObjectMap) → None ≡ settled_by g e e.state → AltersKey o c None m n → AltersKey o c (settled g (look m o c)) m n
+  settled_remove n by alters = subst (λ v. AltersKey o c v m n) (settles_to None by) alters
+
+  pub settled_counts : (t u : Table) (to : Option Entry) → to ≡ settled_by g e e.state → Recounts (one_at e.kept) (one_at (kept_of to)) t u → Recounts (one_at (kept_of (look m o c))) (one_at (kept_of (settled g (look m o c)))) t u
+  settled_counts t u to by recounts =
+      subst (λ v. Recounts (one_at (kept_of (look m o c))) (one_at (kept_of v)) t u) (settles_to to by) (subst (λ v. Recounts (one_at (kept_of v)) (one_at (kept_of to)) t u) (sym is) recounts)
+
+  pub settled_room : (t : Table) → Tallies t m → (size : ℕ) → total (λ (x : Entry). 1) m ≡ size → size < 4294967296 → HasRoom t (one_at e.kept) 1
+  settled_room t tallies size counted few = subst (λ v. HasRoom t (one_at (kept_of v)) 1) is (room_for t m o c tallies (rw is refl) size counted few)
+
+  pub settled_page : (fits : (i : ℕ) → present_of (look m o c) ≡ presents.InBuffer i → g.first + i < 4294967296) → HasPage g e.state
+  settled_page fits = has_page g e (λ i shown. fits i (ap present_of is ∙ shown))
+
+-- a key without an entry
+pub settled_none : (g : WrittenGroup) (m : ObjectMap) (o c : ℕ) → look m o c ≡ None → AltersKey o c (settled g (look m o c)) m m
+settled_none g m o c none =
+    let to : settled g (look m o c) ≡ None = ap (settled g) none in
+    record {
+      here = none ∙ sym to;
+      others = λ k l differs. refl;
+      weighs = λ f.
+          let one : weight f (look m o c) ≡ 0 = ap (weight f) none in
+          let two : weight f (settled g (look m o c)) ≡ 0 = ap (weight f) to in
+          omega (arith, one, two);
+    }
+
+-- the place of a settled page lies on the device
+pub settled_within : (g : WrittenGroup) (e new : Entry) (t : Table) → g.block < t.geometry.blocks → HasRoom t (one_at e.kept) 1 → Some new ≡ settled_by g e e.state → IfSome new.kept (λ (p : KeptPage). p.block < t.geometry.blocks)
+settled_within g e new t lt room by = go e.state refl where
+  own : (p : Option KeptPage) → HasRoom t (one_at p) 1 → IfSome p (λ (q : KeptPage). q.block < t.geometry.blocks)
+  own None r = tt
+  own (Some p) r = room_block t p 1 r
+
+  go : (s : State) → e.state ≡ s → IfSome new.kept (λ (p : KeptPage). p.block < t.geometry.blocks)
+  go states.Same is = let both : Some new ≡ Some e = by ∙ ap (settled_by g e) is in let same : new ≡ e = cc in subst (λ (x : Entry). IfSome x.kept (λ (p : KeptPage). p.block < t.geometry.blocks)) (sym same) (own e.kept room)
+  go (states.Buffered i) is =
+      let to : Entry = record e { kept = Some (record { block = g.block; page = g.first + i; version = g.number }); state = states.Same } in
+      let both : Some new ≡ Some to = by ∙ ap (settled_by g e) is in
+      let same : new ≡ to = cc in
+      subst (λ (x : Entry). IfSome x.kept (λ (p : KeptPage). p.block < t.geometry.blocks)) (sym same) lt
+  go states.Dropped is = let both : Some new ≡ None = by ∙ ap (settled_by g e) is in absurd cc
+  go states.Vacant is =
+      let to : Entry = record e { kept = None; state = states.Same } in
+      let both : Some new ≡ Some to = by ∙ ap (settled_by g e) is in
+      let same : new ≡ to = cc in
+      subst (λ (x : Entry). IfSome x.kept (λ (p : KeptPage). p.block < t.geometry.blocks)) (sym same) tt

@@ -1,0 +1,41 @@
+use Rattle.std.proofs.Common.{sym, ap, ◌∙◌, arith, refl, Some}
+use Rattle.block_state.specs.TableOf.{table}
+use Rattle.chunk_index.specs.Entries.{same_of, changed, weight, with_kept}
+use Rattle.chunk_index.specs.Counts.{Tallies}
+use Rattle.chunk_index.proofs.Counting.{entry_room, entry_counts, tallies_altered, recounts_altered}
+use Rattle.chunk_index.proofs.Mapping.{at_chunk, there_at, total_same, told_same, listed_after}
+use Rattle.chunk_index.proofs.index.Index.move_to.Goals as goal
+
+pub recount-requires-clause-room : goal.recount-requires-clause-room
+recount-requires-clause-room c =
+    let shelf = c.args.self.now.shelf in
+    entry_room _ shelf.objects c.args.key.object c.args.key.chunk c.args.entry c.requires.entry (record { counts = c.requires.agree.counts; within = c.requires.agree.within }) shelf.size shelf.counted shelf.bounded
+
+pub set-requires : goal.set-requires
+set-requires c = there_at c.args.self.now.shelf.objects c.args.key.object c.args.key.chunk c.args.entry c.args.entry.chunk c.requires.entry refl
+
+pub invariant_of-self : goal.invariant_of-self
+invariant_of-self c =
+    let self = c.args.self.now in
+    let alters = at_chunk self.shelf.objects c.set.new.self.objects c.args.key.object c.args.key.chunk c.args.entry _ c.requires.entry refl c.set.ensures.alters in
+    let same = total_same alters changed (sym (ap (weight changed) c.requires.entry)) in
+    let told = told_same alters same_of (sym (ap same_of c.requires.entry)) in
+    record { listed = λ k l not. self.listed k l (sym (told k l) ∙ not); few = omega (arith, same, self.few); room = omega (arith, self.room, c.set.ensures.size) }
+
+pub returns-clause-alters : goal.returns-clause-alters
+returns-clause-alters c = at_chunk c.args.self.now.shelf.objects c.set.new.self.objects c.args.key.object c.args.key.chunk c.args.entry _ c.requires.entry refl c.set.ensures.alters
+
+pub returns-clause-agree : goal.returns-clause-agree
+returns-clause-agree c =
+    let m = c.args.self.now.shelf.objects in
+    let alters = at_chunk m c.set.new.self.objects c.args.key.object c.args.key.chunk c.args.entry _ c.requires.entry refl c.set.ensures.alters in
+    let counts = entry_counts _ _ m c.args.key.object c.args.key.chunk c.args.entry (Some (with_kept (Some c.args.page) c.args.entry)) c.requires.entry c.recount.ensures in
+    let tallies = tallies_altered _ _ m c.set.new.self.objects c.args.key.object c.args.key.chunk _ alters counts (record { counts = c.requires.agree.counts; within = c.requires.agree.within }) in
+    record { counts = tallies.counts; within = tallies.within }
+
+pub returns-clause-counts : goal.returns-clause-counts
+returns-clause-counts c =
+    let m = c.args.self.now.shelf.objects in
+    let alters = at_chunk m c.set.new.self.objects c.args.key.object c.args.key.chunk c.args.entry _ c.requires.entry refl c.set.ensures.alters in
+    let counts = entry_counts _ _ m c.args.key.object c.args.key.chunk c.args.entry (Some (with_kept (Some c.args.page) c.args.entry)) c.requires.entry c.recount.ensures in
+    recounts_altered _ _ m c.set.new.self.objects c.args.key.object c.args.key.chunk _ alters counts

@@ -1,0 +1,44 @@
+use Rattle.std.proofs.Common.{Some, sym, ◌∙◌, IsSome, subst, refl}
+use Rattle.block_state.specs.TableOf.{table}
+use Rattle.chunk_index.specs.Shelves.{look}
+use Rattle.chunk_index.proofs.Counting.{tallies_altered, recounts_altered}
+use Rattle.chunk_index.proofs.Settling.{settled_set, settled_remove, settled_counts, settled_room, settled_page, settled_none, settled_within}
+use Rattle.chunk_index.proofs.shelf.Shelf.settle_key.Goals as goal
+
+pub settled-requires : goal.settled-requires
+settled-requires c = settled_page c.args.group c.args.self.now.objects c.args.key.object c.args.key.chunk c.in-Some.entry (sym c.in-Some.ensures.entry) c.requires.fits
+
+pub recount-requires-clause-within : goal.recount-requires-clause-within
+recount-requires-clause-within c =
+    let room = settled_room c.args.group c.args.self.now.objects c.args.key.object c.args.key.chunk c.in-Some.entry (sym c.in-Some.ensures.entry) (table c.args.blocks.now) c.requires.tallies _ c.args.self.now.counted c.args.self.now.bounded in
+    settled_within c.args.group c.in-Some.entry c.in-Some-settled.new (table c.args.blocks.now) c.requires.block room c.in-Some-settled.ensures.result
+
+pub recount-requires-clause-room : goal.recount-requires-clause-room
+recount-requires-clause-room c = settled_room c.args.group c.args.self.now.objects c.args.key.object c.args.key.chunk c.in-Some.entry (sym c.in-Some.ensures.entry) (table c.args.blocks.now) c.requires.tallies _ c.args.self.now.counted c.args.self.now.bounded
+
+pub recount-requires-in-None-clause-room : goal.recount-requires-in-None-clause-room
+recount-requires-in-None-clause-room c = settled_room c.args.group c.args.self.now.objects c.args.key.object c.args.key.chunk c.in-Some.entry (sym c.in-Some.ensures.entry) (table c.args.blocks.now) c.requires.tallies _ c.args.self.now.counted c.args.self.now.bounded
+
+pub set-requires : goal.set-requires
+set-requires c =
+    let chunk = c.in-Some-settled.ensures.chunk ∙ c.in-Some.ensures.chunk in
+    subst (λ l. IsSome (look c.args.self.now.objects c.args.key.object l)) (sym chunk) (rw (sym c.in-Some.ensures.entry) refl)
+
+pub returns-in-Some-settled-clause-alters : goal.returns-in-Some-settled-clause-alters
+returns-in-Some-settled-clause-alters c = settled_set c.args.group c.args.self.now.objects c.args.key.object c.args.key.chunk c.in-Some.entry (sym c.in-Some.ensures.entry) _ _ c.in-Some-settled.ensures.result (c.in-Some-settled.ensures.chunk ∙ c.in-Some.ensures.chunk) c.set.ensures.alters
+
+pub returns-in-Some-settled-clause-tallies : goal.returns-in-Some-settled-clause-tallies
+returns-in-Some-settled-clause-tallies c =
+    let m = c.args.self.now.objects in
+    let is = sym c.in-Some.ensures.entry in
+    let alters = settled_set c.args.group m c.args.key.object c.args.key.chunk c.in-Some.entry is c.set.new.self.objects c.in-Some-settled.new c.in-Some-settled.ensures.result (c.in-Some-settled.ensures.chunk ∙ c.in-Some.ensures.chunk) c.set.ensures.alters in
+    let counts = settled_counts c.args.group m c.args.key.object c.args.key.chunk c.in-Some.entry is (table c.args.blocks.now) (table c.recount.new.blocks) (Some c.in-Some-settled.new) c.in-Some-settled.ensures.result c.recount.ensures in
+    tallies_altered _ _ m c.set.new.self.objects c.args.key.object c.args.key.chunk _ alters counts c.requires.tallies
+
+pub returns-in-Some-settled-clause-counts : goal.returns-in-Some-settled-clause-counts
+returns-in-Some-settled-clause-counts c =
+    let m = c.args.self.now.objects in
+    let is = sym c.in-Some.ensures.entry in
+    let alters = settled_set c.args.group m c.args.key.object c.args.key.chunk c.in-Some.entry is c.set.new.self.objects c.in-Some-settled.new c.in-Some-settled.ensures.result (c.in-Some-settled.ensures.chunk ∙ c.in-Some.ensures.chunk) c.set.ensures.alters in
+    let counts = settled_counts c.args.group m c.args.key.object c.args.key.chunk c.in-Some.entry is (table c.args.blocks.now) (table c.recount.new.blocks) (Some c.in-Some-settled.new) c.in-Some-settled.ensures.result c.recount.ensures in
+    recounts_altered _ _ m c.set.new.self.objects c.args.key.object c.args.key.chunk _ alters counts

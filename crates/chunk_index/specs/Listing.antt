@@ -1,0 +1,25 @@
+-- The list of the keys that are kept in a block, in rising order.
+use Rattle.std.specs.Prelude.{ℕ, List, [], ◌∷◌, ◌++◌, if◌then◌else◌, ◌==◌}
+use Rattle.std.specs.Option.{option_map_or}
+use Rattle.chunk_index.specs.declared.form.KeptKey.{KeptKey}
+use Rattle.chunk_index.specs.declared.entry.Entry.{Entry}
+use Rattle.chunk_index.specs.declared.object.ObjectEntries.{ObjectEntries}
+use Rattle.chunk_index.specs.declared.index.Index.{Index}
+
+-- the key of an entry of object o with its page, if it is kept in the block
+abbrev pub key_in : ℕ → ℕ → Entry → List KeptKey
+key_in b o e = option_map_or (λ p. if p.block == b then record { key = record { object = o; chunk = e.chunk }; at = p } ∷ [] else []) e.kept []
+
+-- those of an object
+abbrev pub keys_of : ℕ → ℕ → List Entry → List KeptKey
+keys_of b o [] = []
+keys_of b o (e ∷ es) = key_in b o e ++ keys_of b o es
+
+-- those of all objects
+abbrev pub keys_in : ℕ → List (ℕ × ObjectEntries) → List KeptKey
+keys_in b [] = []
+keys_in b (x ∷ xs) = keys_of b x.0 x.1.entries.items ++ keys_in b xs
+
+-- the kept keys of the block
+abbrev pub block_keys : Index → ℕ → List KeptKey
+block_keys x b = keys_in b x.shelf.objects.entries

@@ -1,0 +1,63 @@
+// Keys that are no longer present, whole objects and ends of objects.
+ghost use Rattle.std.specs.Prelude.{◌≡◌, ◌⊎◌, ◌≢◌, ◌<◌, ℕ, Some};
+ghost use Rattle.chunk_index.specs.Shelves.{look, Differs, IsLastFrom};
+ghost use Rattle.chunk_index.specs.Maps.{IsReady, StaysPrepared, SameKept, Places, Cuts};
+ghost use Rattle.chunk_index.specs.declared.form.Form.TheVariants as forms;
+
+use crate::entry::Entry;
+use crate::form::{Form, Present};
+use crate::index::Index;
+use flash_tree::Key;
+
+impl Index {
+    /// Nothing of an object is present any more. It takes no memory, and touches the entries of the object alone.
+    pub fn forget(&mut self, object: u64)
+        ensures cuts { Cuts object 0 self.old self.new }
+        ensures kept { SameKept self.old self.new }
+        ensures prepared { StaysPrepared self.old self.new }
+        ensures ready { (k l : ℕ) → k ≢ object → IsReady self.old k l → IsReady self.new k l }
+    {
+        self.cut(object, 0);
+    }
+
+    /// Nothing of an object is present from a chunk on. It takes no memory, and touches these entries alone.
+    pub fn cut(&mut self, object: u64, from: u64)
+        ensures cuts { Cuts object from self.old self.new }
+        ensures kept { SameKept self.old self.new }
+        ensures prepared { StaysPrepared self.old self.new }
+        ensures ready { (k l : ℕ) → (k ≢ object) ⊎ (l < from) → IsReady self.old k l → IsReady self.new k l }
+    {
+        let mut bound = None;
+        while let Some(entry) = self.last_from(object, from, bound) {
+            let chunk = entry.chunk;
+            self.drop_entry(Key { object, chunk }, entry);
+            bound = Some(chunk);
+        }
+    }
+
+    /// The last entry of an object from a chunk on, before a bound.
+    fn last_from(&self, object: u64, from: u64, bound: Option<u64>) -> Option<Entry>
+        ensures { IsLastFrom self.now.shelf.objects object from bound result }
+    {
+        let entry = self.shelf.last_below(object, bound)?;
+        if entry.chunk < from {
+            return None;
+        }
+        Some(entry)
+    }
+
+    /// A key is no longer present.
+    fn drop_entry(&mut self, key: Key, entry: Entry)
+        requires { look self.old.shelf.objects key.object key.chunk ≡ Some entry }
+        ensures places { Places key.object key.chunk forms.Dropped self.old self.new }
+        ensures kept { SameKept self.old self.new }
+        ensures prepared { StaysPrepared self.old self.new }
+        ensures ready { (k l : ℕ) → Differs key.object key.chunk k l → IsReady self.old k l → IsReady self.new k l }
+    {
+        match entry.present() {
+            Present::Absent => {}
+            Present::OnFlash(_) => self.place(key, Form::Dropped),
+            Present::InBuffer(_) => self.place(key, Form::Dropped),
+        }
+    }
+}

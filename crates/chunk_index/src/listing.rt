@@ -1,0 +1,64 @@
+// The list of the keys that are kept in a block.
+ghost use Rattle.std.specs.Prelude.{◌≡◌, ◌≤◌, ◌+◌, ◌++◌, length, vec_capacity};
+ghost use Rattle.chunk_index.specs.Maps.{kept_in};
+ghost use Rattle.chunk_index.specs.Listing.{key_in, keys_of, keys_in, block_keys};
+
+use crate::entry::Entry;
+use crate::form::KeptKey;
+use crate::index::Index;
+use crate::object::ObjectEntries;
+use crate::shelf::Shelf;
+use flash_tree::Key;
+
+impl Index {
+    /// Adds the keys that are kept in a block, with their pages, to a list that has room for them. It goes over the index
+    /// once.
+    pub fn kept_in_block(&self, block: u32, keys: &mut Vec<KeptKey>)
+        requires { length keys.old.items + kept_in self.now block ≤ vec_capacity keys.old }
+        ensures { keys.new.items ≡ keys.old.items ++ block_keys self.now block }
+    {
+        self.shelf.list_block(block, keys);
+    }
+}
+
+impl Shelf {
+    /// Adds the keys that are kept in a block to a list that has room for them.
+    fn list_block(&self, block: u32, keys: &mut Vec<KeptKey>)
+        requires { length keys.old.items + length (keys_in block self.now.objects.entries) ≤ vec_capacity keys.old }
+        ensures { keys.new.items ≡ keys.old.items ++ keys_in block self.now.objects.entries }
+    {
+        for (object, entries) in &self.objects {
+            entries.list_block(*object, block, keys);
+        }
+    }
+}
+
+impl ObjectEntries {
+    /// Adds the keys of this object that are kept in a block to a list that has room for them.
+    fn list_block(&self, object: u64, block: u32, keys: &mut Vec<KeptKey>)
+        requires { length keys.old.items + length (keys_of block object self.now.entries.items) ≤ vec_capacity keys.old }
+        ensures items { keys.new.items ≡ keys.old.items ++ keys_of block object self.now.entries.items }
+        ensures capacity { vec_capacity keys.old ≤ vec_capacity keys.new }
+    {
+        for entry in &self.entries {
+            entry.list_block(object, block, keys);
+        }
+    }
+}
+
+impl Entry {
+    /// Adds the key of this entry, if it is kept in a block, to a list that has room for it.
+    fn list_block(&self, object: u64, block: u32, keys: &mut Vec<KeptKey>)
+        requires { length keys.old.items + length (key_in block object self.now) ≤ vec_capacity keys.old }
+        ensures items { keys.new.items ≡ keys.old.items ++ key_in block object self.now }
+        ensures capacity { vec_capacity keys.old ≤ vec_capacity keys.new }
+    {
+        if let Some(at) = self.kept {
+            if at.block == block {
+                let chunk = self.chunk;
+                let key = Key { object, chunk };
+                let _ = keys.push(KeptKey { key, at });
+            }
+        }
+    }
+}

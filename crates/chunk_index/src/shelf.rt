@@ -1,0 +1,184 @@
+// The entries of all objects.
+ghost use Rattle.std.specs.Prelude.{◌≡◌, ◌<◌, ◌≤◌, ◌+◌, ◌-◌, ◌^◌, ◌↔◌, [], None, IsSome, IfSome, Some, IsTrue, OnOk, OnErr};
+ghost use Rattle.std.specs.Ordering.{nat_cmp};
+ghost use Rattle.std.proofs.Props.{props};
+ghost use Rattle.std.specs.BTreeMap.{get, IsEmpty, IsOrdered};
+ghost use Rattle.chunk_index.specs.Shelves.{look, total, AltersKey, SameEntries, IsLastOf};
+
+use crate::entry::Entry;
+use crate::object::ObjectEntries;
+use flash_tree::Key;
+use std::alloc::{AllocError, Global};
+use std::collections::BTreeMap;
+
+/// No more than a kept count can tell.
+const MOST_ENTRIES: usize = 4_294_967_295;
+
+/// The entries of all objects, in an ordered map by their numbers. An object without entries and one that is not here
+/// mean the same.
+#[derive(Drop)]
+pub struct Shelf {
+    alloc: Global,
+    pub(crate) objects: BTreeMap<u64, ObjectEntries>,
+    size: usize,
+    ghost ordered: { IsOrdered nat_cmp objects } by { Prim.hlevel props },
+    ghost counted: { total (λ e. 1) objects ≡ size },
+    ghost bounded: { size < 2 ^ 32 },
+}
+
+impl Shelf {
+    /// There are none.
+    pub fn new(alloc: Global) -> Shelf
+        ensures empty { IsEmpty result.objects }
+        ensures size { result.size ≡ 0 }
+    {
+        Shelf {
+            alloc,
+            objects: BTreeMap::new(alloc),
+            size: 0,
+        }
+    }
+
+    /// How many entries there are.
+    pub fn size(&self) -> usize
+        ensures { result ≡ self.now.size }
+    {
+        self.size
+    }
+
+    /// The entry of a key.
+    pub fn entry(&self, key: Key) -> Option<Entry>
+        ensures entry { result ≡ look self.now.objects key.object key.chunk }
+        ensures chunk { IfSome result (λ e. e.chunk ≡ key.chunk) }
+    {
+        match self.objects.get(&key.object) {
+            Some(entries) => entries.get(key.chunk),
+            None => None,
+        }
+    }
+
+    /// Whether one entry more would be more than a kept count can tell.
+    fn is_full(&self) -> bool
+        ensures { IsTrue result ↔ (2 ^ 32 - 1 ≤ self.now.size) }
+    {
+        self.size >= MOST_ENTRIES
+    }
+
+    /// Puts an entry in place of that of its key.
+    pub fn set(&mut self, object: u64, entry: Entry)
+        requires { IsSome (look self.old.objects object entry.chunk) }
+        ensures alters { AltersKey object entry.chunk (Some entry) self.old.objects self.new.objects }
+        ensures size { self.new.size ≡ self.old.size }
+    {
+        match self.objects.get_mut(&object) {
+            Some(entries) => entries.set(entry),
+            None => {}
+        }
+    }
+
+    /// Puts an entry of a key that has none.
+    pub fn insert(&mut self, object: u64, entry: Entry) -> Result<(), AllocError>
+        requires { look self.old.objects object entry.chunk ≡ None }
+        ensures ok { OnOk result (AltersKey object entry.chunk (Some entry) self.old.objects self.new.objects) }
+        ensures grown { OnOk result (self.new.size ≡ self.old.size + 1) }
+        ensures err { OnErr result (SameEntries self.old.objects self.new.objects) }
+        ensures same_size { OnErr result (self.new.size ≡ self.old.size) }
+    {
+        if self.is_full() {
+            return Err(AllocError);
+        }
+        self.prepare_object(object)?;
+        self.put(object, entry)
+    }
+
+    /// Sees that an object is here. No key gets or loses an entry.
+    fn prepare_object(&mut self, object: u64) -> Result<(), AllocError>
+        ensures same { SameEntries self.old.objects self.new.objects }
+        ensures here { OnOk result (IsSome (get nat_cmp self.new.objects object)) }
+        ensures size { self.new.size ≡ self.old.size }
+    {
+        if self.objects.contains_key(&object) {
+            return Ok(());
+        }
+        let entries = ObjectEntries::new(self.alloc);
+        let _ = self.objects.insert(object, entries)?;
+        Ok(())
+    }
+
+    /// Puts an entry of a key that has none, of an object that is here.
+    fn put(&mut self, object: u64, entry: Entry) -> Result<(), AllocError>
+        requires absent { look self.old.objects object entry.chunk ≡ None }
+        requires here { IsSome (get nat_cmp self.old.objects object) }
+        requires room { self.old.size < 2 ^ 32 - 1 }
+        ensures ok { OnOk result (AltersKey object entry.chunk (Some entry) self.old.objects self.new.objects) }
+        ensures grown { OnOk result (self.new.size ≡ self.old.size + 1) }
+        ensures err { OnErr result (SameEntries self.old.objects self.new.objects) }
+        ensures same_size { OnErr result (self.new.size ≡ self.old.size) }
+    {
+        match self.objects.get_mut(&object) {
+            Some(entries) => match entries.insert(entry) {
+                Ok(()) => {
+                    self.size += 1;
+                    Ok(())
+                }
+                Err(error) => Err(error),
+            },
+            None => Ok(()),
+        }
+    }
+
+    /// Takes the entry of a key out, and its object where it was the last one. Those after it in its object are moved.
+    pub fn remove(&mut self, key: Key)
+        requires { IsSome (look self.old.objects key.object key.chunk) }
+        ensures alters { AltersKey key.object key.chunk None self.old.objects self.new.objects }
+        ensures size { self.new.size + 1 ≡ self.old.size }
+    {
+        self.take_out(key);
+        self.drop_empty(key.object);
+    }
+
+    /// Takes the entry of a key out.
+    fn take_out(&mut self, key: Key)
+        requires { IsSome (look self.old.objects key.object key.chunk) }
+        ensures alters { AltersKey key.object key.chunk None self.old.objects self.new.objects }
+        ensures size { self.new.size + 1 ≡ self.old.size }
+    {
+        match self.objects.get_mut(&key.object) {
+            Some(entries) => {
+                entries.remove(key.chunk);
+                self.size -= 1;
+            }
+            None => {}
+        }
+    }
+
+    /// Drops an object that has no entries.
+    fn drop_empty(&mut self, object: u64)
+        ensures same { SameEntries self.old.objects self.new.objects }
+        ensures size { self.new.size ≡ self.old.size }
+    {
+        if self.is_bare(object) {
+            let _ = self.objects.remove(&object);
+        }
+    }
+
+    /// Whether an object is here and has no entries.
+    fn is_bare(&self, object: u64) -> bool
+        ensures { IsTrue result → IfSome (get nat_cmp self.now.objects object) (λ x. x.entries.items ≡ []) }
+    {
+        match self.objects.get(&object) {
+            Some(entries) => entries.is_empty(),
+            None => false,
+        }
+    }
+
+    /// The last entry of an object whose chunk lies before a bound.
+    pub fn last_below(&self, object: u64, bound: Option<u64>) -> Option<Entry>
+        ensures { IsLastOf self.now.objects object bound result }
+    {
+        match self.objects.get(&object) {
+            Some(entries) => entries.last_below(bound),
+            None => None,
+        }
+    }
+}

@@ -77,3 +77,20 @@ module _ (z : Sizes) (old new : PageMap) (o before moment : ℕ) (entries : Entr
         | inr p ↦ kept k y p.0 x.3 (r.each k y (ap (slice_get r.slots) (sym p.1) ∙ x.1))
       ])
       (once_fewer r.slots r.once entries r.entries_are i e at_i last len l.0 l.1) (entries_fewer r.slots r.once entries r.entries_are i e at_i last len l.0 l.1)
+
+-- a directory whose pages stay
+pub reads_kept : (z : Sizes) (m n : PageMap) (o moment : ℕ) (entries : Entries) (r : ReadsDir z (has m) o moment entries) → ((c : ℕ) → n o c ≡ m o c) → ReadsAs z n o moment entries r.fields.spare
+reads_kept z m n o moment entries r same = (
+  record {
+    fields = r.fields;
+    has = (same 0 ∙ r.has.0, r.has.1);
+    kind = r.kind;
+    when = r.when;
+    slots = r.slots;
+    size = r.size;
+    each = λ i e at. let s = r.each i e at in (s.0, same _ ∙ s.1, s.2, s.3);
+    once = r.once;
+    entries_are = r.entries_are;
+  },
+  refl,
+)

@@ -1,5 +1,10 @@
 -- Results that say more.
-use Rattle.std.specs.Prelude.{Result, Ok, Err, IfOk, IfErr}
+use Rattle.std.specs.Prelude.{ℕ, Result, Ok, Err, IfOk, IfErr}
+use Rattle.pages.specs.Faults.{MayLack, MayLackMemory}
+use Rattle.pages.specs.State.{PagesState}
+use Rattle.pages.specs.declared.fault.PageFault.{PageFault}
+use Rattle.pages.specs.declared.fault.PageFault.TheVariants as faults
+use Rattle.directories.specs.Faults.{MayLackRoom}
 
 pub on_ok : {A E : Type 0} (P Q : A → Type 0) (r : Result A E) → ((x : A) → P x → Q x) → IfOk r P → IfOk r Q
 on_ok P Q (Ok x) f is = f x is
@@ -8,3 +13,18 @@ on_ok P Q (Err e) f is = tt
 pub on_err : {A E : Type 0} (P Q : E → Type 0) (r : Result A E) → ((e : E) → P e → Q e) → IfErr r P → IfErr r Q
 on_err P Q (Ok x) f is = tt
 on_err P Q (Err e) f is = f e is
+
+-- what may lack to a call that adds no name may lack to one that adds one
+pub lacks_room : (n : ℕ) (new : PagesState) (fault : PageFault) → MayLack new fault → MayLackRoom n new fault
+lacks_room n new faults.NoMemory is = tt
+lacks_room n new faults.Device is = is
+lacks_room n new faults.Worn is = is
+lacks_room n new faults.Damaged is = is
+lacks_room n new faults.Full is = absurd is
+
+pub memory_room : (n : ℕ) (new : PagesState) (fault : PageFault) → MayLackMemory new fault → MayLackRoom n new fault
+memory_room n new faults.NoMemory is = tt
+memory_room n new faults.Device is = is
+memory_room n new faults.Worn is = is
+memory_room n new faults.Damaged is = is
+memory_room n new faults.Full is = absurd is

@@ -1,0 +1,115 @@
+use Rattle.std.proofs.Common.{◌≡◌, ◌∙◌, Some, None, sym, subst, arith}
+use Rattle.std.proofs.lemmas.Result.{err_from_is_err_and}
+use Rattle.std.specs.FinMap as map
+use Rattle.pages.specs.Afterwards.{after}
+use Rattle.pages.specs.ChangeLaws.{others_keep}
+use Rattle.pages.specs.Changes.{IsChange, IsOnlyOf, AreSized}
+use Rattle.pages.specs.Maps.{PageMap, changed}
+use Rattle.pages.specs.State.{PagesState}
+use Rattle.pages.specs.declared.change.Change.{Change}
+use Rattle.posix_profile.specs.State.{Entries}
+use Rattle.directories.specs.Directories.{DirIn, ReadsAs}
+use Rattle.directories.proofs.Changed.{reads_kept}
+use Rattle.directories.proofs.Results.{memory_room}
+use Rattle.directories.proofs.moving.rename_between.Goals as goal
+
+pub returns-in_err-first-clause-fault : goal.returns-in_err-first-clause-fault
+returns-in_err-first-clause-fault g c = λ z s t left entries source target.
+    let old : PagesState = g.P.Pages.state c.args.pages.now in
+    let mid : PagesState = g.P.Pages.state c.remove_after.new.pages in
+    let finds = c.remove_after.ensures.finds in
+    let here : DirIn (after None old) z c.args.route.source s left = record { sound = source.sound; size = source.size; reads = source.reads } in
+    let r = err_from_is_err_and c.from_residual.result c.from_residual.ensures.1 in
+    rw (r.1, r.2) (memory_room (map.len entries) mid _ (c.in_err-first.ensures.fault z s left here))
+
+pub returns-in_default-clause-named : goal.returns-in_default-clause-named
+returns-in_default-clause-named g c = λ z moment entries d.
+    let old : PagesState = g.P.Pages.state c.args.pages.now in
+    let mid : PagesState = g.P.Pages.state c.remove_after.new.pages in
+    let finds = c.remove_after.ensures.finds in
+    let here : DirIn (after None old) z c.args.route.source moment entries = record { sound = d.sound; size = d.size; reads = d.reads } in
+    rw c.in_default.is at (c.in_ok-first.ensures.named z moment entries here)
+
+pub returns-in_err-second-clause-fault : goal.returns-in_err-second-clause-fault
+returns-in_err-second-clause-fault g c = λ z s moment left entries source d.
+    let old : PagesState = g.P.Pages.state c.args.pages.now in
+    let mid : PagesState = g.P.Pages.state c.remove_after.new.pages in
+    let finds = c.remove_after.ensures.finds in
+    let first : Change = c.in-Some.first in
+    let only : IsOnlyOf first c.args.route.source = rw c.in-Some.is at c.in_ok-first.ensures.only in
+    let kept : ReadsAs z (changed first old.present) c.args.route.target moment entries d.reads.fields.spare =
+    reads_kept z old.present (changed first old.present) c.args.route.target moment entries d.reads
+    (λ k. others_keep first c.args.route.source only old.present c.args.route.target k (λ same. c.requires.apart (sym same))) in
+    let reads : ReadsAs z (changed first mid.present) c.args.route.target moment entries d.reads.fields.spare =
+    subst (λ (k : PageMap). ReadsAs z (changed first k) c.args.route.target moment entries d.reads.fields.spare) (sym finds.present) kept in
+    let then_dir : DirIn (after (Some first) mid) z c.args.route.target moment entries = record { sound = finds.sound ∙ d.sound; size = d.size ∙ sym finds.page_bytes; reads = reads.0 } in
+    let r = err_from_is_err_and c.from_residual-in_err-second.result c.from_residual-in_err-second.ensures.1 in
+    rw (r.1, r.2) (c.in_err-second.ensures.fault z moment entries then_dir)
+
+pub returns-clause-change : goal.returns-clause-change
+returns-clause-change g c =
+    let old : PagesState = g.P.Pages.state c.args.pages.now in
+    let mid : PagesState = g.P.Pages.state c.remove_after.new.pages in
+    let finds = c.remove_after.ensures.finds in
+    let a : IsChange c.in-Some.first old.page_bytes 2 = rw c.in-Some.is at c.in_ok-first.ensures.change in
+    let b : IsChange c.in_ok-second.second mid.page_bytes 2 = c.in_ok-second.ensures.change in
+    let few = c.in_ok-change.ensures.few in
+    record {
+      apart = c.in_ok-change.ensures.apart a.apart b.apart;
+      size = c.in_ok-change.ensures.size old.page_bytes a.size (subst (AreSized c.in_ok-second.second.pages.items) finds.page_bytes b.size);
+      few = omega (arith, few, a.few, b.few);
+    }
+
+pub returns-clause-others : goal.returns-clause-others
+returns-clause-others g c = λ o k not_source not_target.
+    let old : PagesState = g.P.Pages.state c.args.pages.now in
+    let mid : PagesState = g.P.Pages.state c.remove_after.new.pages in
+    let finds = c.remove_after.ensures.finds in
+    let only : IsOnlyOf c.in-Some.first c.args.route.source = rw c.in-Some.is at c.in_ok-first.ensures.only in
+    c.in_ok-change.ensures.pages old.present o k
+    ∙ others_keep c.in_ok-second.second c.args.route.target c.in_ok-second.ensures.only (changed c.in-Some.first old.present) o k not_target
+    ∙ others_keep c.in-Some.first c.args.route.source only old.present o k not_source
+
+pub returns-clause-named : goal.returns-clause-named
+returns-clause-named g c = λ z moment entries d.
+    let old : PagesState = g.P.Pages.state c.args.pages.now in
+    let mid : PagesState = g.P.Pages.state c.remove_after.new.pages in
+    let finds = c.remove_after.ensures.finds in
+    let here : DirIn (after None old) z c.args.route.source moment entries = record { sound = d.sound; size = d.size; reads = d.reads } in
+    rw c.in-Some.is at (c.in_ok-first.ensures.named z moment entries here)
+
+pub returns-clause-takes : goal.returns-clause-takes
+returns-clause-takes g c = λ z moment entries d.
+    let old : PagesState = g.P.Pages.state c.args.pages.now in
+    let mid : PagesState = g.P.Pages.state c.remove_after.new.pages in
+    let finds = c.remove_after.ensures.finds in
+    let here : DirIn (after None old) z c.args.route.source moment entries = record { sound = d.sound; size = d.size; reads = d.reads } in
+    let first : Change = c.in-Some.first in
+    let second : Change = c.in_ok-second.second in
+    let less = rw c.in-Some.is at (c.in_ok-first.ensures.removes z moment entries here) in
+    let both : changed second (changed first old.present) ≡ changed c.in_ok-change.change old.present = λ i o k. sym (c.in_ok-change.ensures.pages old.present o k) i in
+    let kept = reads_kept z (changed first old.present) (changed second (changed first old.present)) c.args.route.source c.args.moment (map.remove entries c.args.from.now) less.0
+    (λ k. others_keep second c.args.route.target c.in_ok-second.ensures.only (changed first old.present) c.args.route.source k c.requires.apart) in
+    subst (λ (m : PageMap). ReadsAs z m c.args.route.source c.args.moment (map.remove entries c.args.from.now) d.reads.fields.spare) both (kept.0, kept.1 ∙ less.1)
+
+pub returns-clause-gives : goal.returns-clause-gives
+returns-clause-gives g c = λ z moment entries d.
+    let old : PagesState = g.P.Pages.state c.args.pages.now in
+    let mid : PagesState = g.P.Pages.state c.remove_after.new.pages in
+    let finds = c.remove_after.ensures.finds in
+    let first : Change = c.in-Some.first in
+    let only : IsOnlyOf first c.args.route.source = rw c.in-Some.is at c.in_ok-first.ensures.only in
+    let kept : ReadsAs z (changed first old.present) c.args.route.target moment entries d.reads.fields.spare =
+    reads_kept z old.present (changed first old.present) c.args.route.target moment entries d.reads
+    (λ k. others_keep first c.args.route.source only old.present c.args.route.target k (λ same. c.requires.apart (sym same))) in
+    let reads : ReadsAs z (changed first mid.present) c.args.route.target moment entries d.reads.fields.spare =
+    subst (λ (k : PageMap). ReadsAs z (changed first k) c.args.route.target moment entries d.reads.fields.spare) (sym finds.present) kept in
+    let then_dir : DirIn (after (Some first) mid) z c.args.route.target moment entries = record { sound = finds.sound ∙ d.sound; size = d.size ∙ sym finds.page_bytes; reads = reads.0 } in
+    let second : Change = c.in_ok-second.second in
+    let puts = c.in_ok-second.ensures.puts z moment entries then_dir in
+    let now : Entries = map.insert entries c.args.to.now.name.now c.args.to.now.object in
+    let spare : reads.0.fields.spare ≡ d.reads.fields.spare = reads.1 in
+    let both : changed second (changed first old.present) ≡ changed c.in_ok-change.change old.present = λ i o k. sym (c.in_ok-change.ensures.pages old.present o k) i in
+    subst (λ (m : PageMap). ReadsAs z m c.args.route.target c.args.moment now d.reads.fields.spare) both
+    (subst (λ (k : PageMap). ReadsAs z (changed second (changed first k)) c.args.route.target c.args.moment now d.reads.fields.spare) finds.present
+    (subst (λ n. ReadsAs z (changed second (changed first mid.present)) c.args.route.target c.args.moment now n) spare puts))

@@ -1,0 +1,184 @@
+// The move of a name.
+ghost use Rattle.std.specs.Prelude.{◌≡◌, ◌≢◌, ◌≤◌, ◌+◌, ℕ, true, OnOk, IfOk, IfErr, IfSome, option_copied};
+ghost use Rattle.std.specs.FinMap as map;
+ghost use Rattle.std.specs.Int.{div_ceil};
+ghost use Rattle.page_tags.specs.SlotEntry.{entry_of};
+ghost use Rattle.page_tags.specs.Slots.{IsSlot};
+ghost use Rattle.volume_terms.specs.Sizes.{Sizes, page_slots};
+ghost use Rattle.posix_profile.specs.State.{Entries};
+ghost use Rattle.pages.specs.Afterwards.{after, IsSizedBy};
+ghost use Rattle.pages.specs.Changes.{IsChange, IsOnlyOf};
+ghost use Rattle.pages.specs.Maps.{changed};
+ghost use Rattle.pages.specs.State.{OnlyFinds};
+ghost use Rattle.directories.specs.Directories.{DirIn, ReadsAs, SlotOf, IsNamed};
+ghost use Rattle.directories.specs.Faults.{MayLackRoom, SaysWhyAdding};
+ghost use Rattle.directories.specs.Heads.{IsHeaded};
+ghost use Rattle.directories.specs.Slots.{AreSlots};
+ghost use Rattle.directories.specs.Writes.{HasHead, HasKey, KeepsSlots};
+
+use crate::head::{DirectoryHead, head_after};
+use crate::lookup::search;
+use crate::removal::remove_after;
+use crate::writing::{Writing, write};
+use page_tags::Slot;
+use pages::{Change, PageFault, Pages};
+use std::alloc::Global;
+
+/// The change that gives an entry of a directory another name in it, which then leads to the slot's object, also where
+/// it led to another. There is none where the directory has no such name.
+pub fn rename_within<P: Pages>(
+    alloc: Global,
+    pages: &mut P,
+    directory: u64,
+    from: &[u8],
+    to: &Slot,
+    moment: u64,
+) -> Result<Option<Change>, PageFault>
+    requires { IsSlot (entry_of to.now) }
+    ensures finds { OnlyFinds (P.state pages.old) (P.state pages.new) }
+    ensures change { IfOk result (λ made. IfSome made (λ change. IsChange change (P.state pages.old).page_bytes 3)) }
+    ensures others { (o c : ℕ) → o ≢ directory → IfOk result (λ made. IfSome made (λ change. changed change (P.state pages.old).present o c ≡ (P.state pages.old).present o c)) }
+    ensures named { (z : Sizes) (before : ℕ) (entries : Entries) (d : DirIn (P.state pages.old) z directory before entries)
+        → IfOk result (λ made. IsNamed entries from.now made) }
+    ensures moves { (z : Sizes) (before : ℕ) (entries : Entries) (d : DirIn (P.state pages.old) z directory before entries)
+        → IfOk result (λ made. IfSome made (λ change. ReadsAs z (changed change (P.state pages.old).present) directory moment
+        (map.insert (map.remove entries from.now) to.now.name.now to.now.object) d.reads.fields.spare)) }
+    ensures told { (P.state pages.old).sound ≡ true → OnOk result (IsHeaded (P.state pages.old) directory) }
+    ensures why { IfErr result (SaysWhyAdding (P.state pages.new)) }
+    ensures fault { (z : Sizes) (before : ℕ) (entries : Entries) (d : DirIn (P.state pages.old) z directory before entries)
+        → IfErr result (MayLackRoom (map.len (map.remove entries from.now)) (P.state pages.new)) }
+{
+    let Some(first) = remove_after(alloc, pages, None, directory, from, moment)? else {
+        return Ok(None);
+    };
+    let second = put_after(alloc, pages, Some(&first), directory, to, moment)?;
+    let change = first.then(second)?;
+    Ok(Some(change))
+}
+
+/// The directory that an entry is moved from, and the one that it is moved to.
+#[derive(Clone, Copy, Debug, PartialEq, Eq)]
+pub struct Route {
+    pub source: u64,
+    pub target: u64,
+}
+
+/// The change that moves an entry of one directory to another, under a name which then leads to the slot's object, also
+/// where it led to another. There is none where the first has no such name.
+pub fn rename_between<P: Pages>(
+    alloc: Global,
+    pages: &mut P,
+    route: Route,
+    from: &[u8],
+    to: &Slot,
+    moment: u64,
+) -> Result<Option<Change>, PageFault>
+    requires apart { route.source ≢ route.target }
+    requires valid { IsSlot (entry_of to.now) }
+    ensures finds { OnlyFinds (P.state pages.old) (P.state pages.new) }
+    ensures change { IfOk result (λ made. IfSome made (λ change. IsChange change (P.state pages.old).page_bytes 4)) }
+    ensures others { (o c : ℕ) → o ≢ route.source → o ≢ route.target
+        → IfOk result (λ made. IfSome made (λ change. changed change (P.state pages.old).present o c ≡ (P.state pages.old).present o c)) }
+    ensures named { (z : Sizes) (before : ℕ) (entries : Entries) (d : DirIn (P.state pages.old) z route.source before entries)
+        → IfOk result (λ made. IsNamed entries from.now made) }
+    ensures takes { (z : Sizes) (before : ℕ) (entries : Entries) (d : DirIn (P.state pages.old) z route.source before entries)
+        → IfOk result (λ made. IfSome made (λ change. ReadsAs z (changed change (P.state pages.old).present) route.source moment (map.remove entries from.now) d.reads.fields.spare)) }
+    ensures gives { (z : Sizes) (before : ℕ) (entries : Entries) (d : DirIn (P.state pages.old) z route.target before entries)
+        → IfOk result (λ made. IfSome made (λ change. ReadsAs z (changed change (P.state pages.old).present) route.target moment
+        (map.insert entries to.now.name.now to.now.object) d.reads.fields.spare)) }
+    ensures told { (P.state pages.old).sound ≡ true → OnOk result (IsHeaded (P.state pages.old) route.source) }
+    ensures why { IfErr result (SaysWhyAdding (P.state pages.new)) }
+    ensures fault { (z : Sizes) (s t : ℕ) (left entries : Entries) (source : DirIn (P.state pages.old) z route.source s left) (target : DirIn (P.state pages.old) z route.target t entries)
+        → IfErr result (MayLackRoom (map.len entries) (P.state pages.new)) }
+{
+    let Some(first) = remove_after(alloc, pages, None, route.source, from, moment)? else {
+        return Ok(None);
+    };
+    let second = put_after(alloc, pages, Some(&first), route.target, to, moment)?;
+    let change = first.then(second)?;
+    Ok(Some(change))
+}
+
+/// The change that leads a name of a directory to an object, whether it is there or not, after an earlier change.
+fn put_after<P: Pages>(
+    alloc: Global,
+    pages: &mut P,
+    earlier: Option<&Change>,
+    directory: u64,
+    slot: &Slot,
+    moment: u64,
+) -> Result<Change, PageFault>
+    requires sized { IsSizedBy (option_copied earlier) (P.state pages.old).page_bytes }
+    requires valid { IsSlot (entry_of slot.now) }
+    ensures finds { OnlyFinds (P.state pages.old) (P.state pages.new) }
+    ensures asked { (z : Sizes) (before : ℕ) (entries : Entries) (d : DirIn (after (option_copied earlier.entry) (P.state pages.old)) z directory before entries)
+        → (P.state pages.new).asked ≤ (P.state pages.old).asked + 2 + div_ceil (map.len entries) (page_slots z) }
+    ensures change { IfOk result (λ change. IsChange change (P.state pages.old).page_bytes 2) }
+    ensures only { IfOk result (λ change. IsOnlyOf change directory) }
+    ensures head { IfOk result (λ change. HasKey change directory 0) }
+    ensures puts { (z : Sizes) (before : ℕ) (entries : Entries) (d : DirIn (after (option_copied earlier.entry) (P.state pages.old)) z directory before entries)
+        → IfOk result (λ change. ReadsAs z (changed change (after (option_copied earlier.entry) (P.state pages.old)).present) directory moment
+        (map.insert entries slot.now.name.now slot.now.object) d.reads.fields.spare) }
+    ensures told { (P.state pages.old).sound ≡ true → OnOk result (IsHeaded (after (option_copied earlier.entry) (P.state pages.old)) directory) }
+    ensures why { IfErr result (SaysWhyAdding (P.state pages.new)) }
+    ensures fault { (z : Sizes) (before : ℕ) (entries : Entries) (d : DirIn (after (option_copied earlier.entry) (P.state pages.old)) z directory before entries)
+        → IfErr result (MayLackRoom (map.len entries) (P.state pages.new)) }
+{
+    let head = head_after(pages, earlier, directory)?;
+    let found = search(pages, earlier, directory, head.length, slot.name)?;
+    match found {
+        Some(found) => {
+            let writing = Writing {
+                number: found.place,
+                before: head.length,
+                afterwards: head.length,
+            };
+            let later = DirectoryHead { moment, ..head };
+            write(alloc, pages, earlier, directory, writing, slot, later)
+        }
+        None => push_slot(alloc, pages, earlier, directory, head, slot, moment),
+    }
+}
+
+/// Writes a slot behind those that the header counts, after an earlier change.
+fn push_slot<P: Pages>(
+    alloc: Global,
+    pages: &mut P,
+    earlier: Option<&Change>,
+    directory: u64,
+    head: DirectoryHead,
+    slot: &Slot,
+    moment: u64,
+) -> Result<Change, PageFault>
+    requires sized { IsSizedBy (option_copied earlier) (P.state pages.old).page_bytes }
+    requires valid { IsSlot (entry_of slot.now) }
+    ensures finds { OnlyFinds (P.state pages.old) (P.state pages.new) }
+    ensures asked { (P.state pages.new).asked ≤ (P.state pages.old).asked + 1 }
+    ensures change { IfOk result (λ change. IsChange change (P.state pages.old).page_bytes 2) }
+    ensures only { IfOk result (λ change. IsOnlyOf change directory) }
+    ensures head { IfOk result (λ change. HasKey change directory 0) }
+    ensures pushes { (P.state pages.old).sound ≡ true → (z : Sizes) → z.page_bytes ≡ (P.state pages.old).page_bytes
+        → let old = (after (option_copied earlier.entry) (P.state pages.old)).present in
+        IfOk result (λ change. HasHead z (changed change old) directory (record { spare = head.spare; length = head.length + 1; moment = moment })
+        × SlotOf z (changed change old) directory head.length (entry_of slot.now)
+        × KeepsSlots z old (changed change old) directory head.length head.length) }
+    ensures why { IfErr result (SaysWhyAdding (P.state pages.new)) }
+    ensures fault { (P.state pages.old).sound ≡ true → (z : Sizes) → z.page_bytes ≡ (P.state pages.old).page_bytes
+        → AreSlots (SlotOf z (after (option_copied earlier.entry) (P.state pages.old)).present directory) 0 head.length
+        → IfErr result (MayLackRoom head.length (P.state pages.new)) }
+{
+    let Some(length) = head.length.checked_add(1) else {
+        return Err(PageFault::Full);
+    };
+    let writing = Writing {
+        number: head.length,
+        before: head.length,
+        afterwards: length,
+    };
+    let longer = DirectoryHead {
+        length,
+        moment,
+        ..head
+    };
+    write(alloc, pages, earlier, directory, writing, slot, longer)
+}

@@ -1,0 +1,102 @@
+//! Settles changes of a few keys in an index in memory that has many entries.
+//!
+//! The first argument is the number of blocks, of 256 pages each, whose pages are all kept. With a second one, `time`,
+//! the times go to standard error.
+#![tactic(auto)]
+
+ghost use Rattle.std.specs.Prelude.{◌<◌};
+
+mod filled;
+
+use anyhow::{Context, Result, anyhow};
+use filled::Filled;
+use flash_tree::Key;
+use std::env;
+use std::time::Instant;
+
+/// The pages of a block, of a group that fills it, and of a change.
+const PAGES: u32 = 256;
+
+const GROUP: u32 = 64;
+
+const CHANGE: u32 = 16;
+
+/// How often a change is made and settled.
+const ROUNDS: u32 = 1000;
+
+/// The key of a page of an index that is filled in turn.
+fn key(block: u32, page: u32) -> Key {
+    Key {
+        object: 1 + block as u64,
+        chunk: page as u64,
+    }
+}
+
+/// Fills the index: each page of each block is kept.
+fn fill(filled: &mut Filled, blocks: u32) -> Result<()> {
+    for block in 0..blocks {
+        for group in 0..PAGES / GROUP {
+            fill_group(filled, block, group * GROUP)?;
+        }
+    }
+    Ok(())
+}
+
+/// Fills one group.
+fn fill_group(filled: &mut Filled, block: u32, first: u32) -> Result<()>
+    requires { first < 256 }
+{
+    for page in 0..GROUP {
+        filled.buffer(key(block, first + page), page)?;
+    }
+    filled.settle(block, first, 1);
+    Ok(())
+}
+
+/// Changes some keys that lie far apart.
+fn change(filled: &mut Filled, blocks: u32, round: u32) -> Result<()> {
+    for page in 0..CHANGE {
+        let place = (round.wrapping_mul(CHANGE).wrapping_add(page)).wrapping_mul(40503);
+        filled.buffer(key(place % blocks.max(1), place / 4096 % PAGES), page)?;
+    }
+    Ok(())
+}
+
+fn main(rt: HostRuntime) -> Result<()> {
+    let mut args = env::args(&rt)?;
+    let _program = args.next();
+    let blocks: u32 = args
+        .next()
+        .context("the number of blocks is missing")?
+        .parse()
+        .context("the number of blocks")?;
+    let timed = args.next().is_some();
+    let Some(mut filled) = Filled::new(rt.alloc(), blocks)? else {
+        return Err(anyhow!("the number of blocks is out of range"));
+    };
+    let start = Instant::now(&rt)?;
+    fill(&mut filled, blocks)?;
+    let filling = start.elapsed(&rt)?.as_micros();
+    let mut changing = 0u128;
+    let mut settling = 0u128;
+    for round in 0..ROUNDS {
+        let start = Instant::now(&rt)?;
+        change(&mut filled, blocks, round)?;
+        let changed = start.elapsed(&rt)?.as_nanos();
+        filled.settle(0, 0, 2);
+        let settled = start.elapsed(&rt)?.as_nanos();
+        changing = changing.saturating_add(changed);
+        settling = settling.saturating_add(settled.saturating_sub(changed));
+    }
+    if timed {
+        eprintln!(rt; "filled in {} microseconds", filling)?;
+        eprintln!(rt;
+            "a change of {} keys took {} nanoseconds, and was settled in {}",
+            CHANGE,
+            changing / 1000,
+            settling / 1000
+        )?;
+    }
+    println!(rt; "{} pages", blocks as u64 * PAGES as u64)?;
+    Ok(())
+}

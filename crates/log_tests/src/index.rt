@@ -2,7 +2,7 @@
 
 use crate::worked::{flashes, written};
 use block_state::Blocks;
-use chunk_index::{Index, Place};
+use chunk_index::{Index, KeptPage};
 use flash_tree::{Found, Key};
 use mount_scan::scan_newest;
 use nand_model::Nand;
@@ -42,13 +42,14 @@ fn the_newest_pages_of_a_scan_are_kept(rt: HostRuntime) -> Result<(), Fail> {
                 object: found.tag.object,
                 chunk: found.tag.chunk,
             };
-            let place = Place {
+            let page = KeptPage {
                 block: found.block,
                 page: found.page,
+                version: found.tag.version,
             };
             assert_eq!(rt;
                 mounted.index.kept(key),
-                Some(place),
+                Some(page),
                 "{}, {key:?}",
                 flash.what
             );

@@ -1,0 +1,10 @@
+pub mod HeadBits
+pub mod FilePages
+pub mod Ranges
+pub mod Written
+pub mod ChunkPages
+pub mod PageLists
+pub mod Becoming
+pub mod Filling
+pub mod WriteChunks
+pub mod WholeWrites

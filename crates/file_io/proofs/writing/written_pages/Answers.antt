@@ -1,0 +1,147 @@
+use Rattle.std.proofs.Common.{◌≡◌, ◌≤◌, ◌<◌, ◌+◌, ◌-◌, ◌*◌, ◌/◌, ◌%◌, ◌++◌, ◌∙◌, ℕ, List, [], ◌∷◌, min, inl, inr, refl, sym, ap, subst, length, arith, rules}
+use Rattle.std.proofs.lemmas.List.{length-append}
+use Rattle.std.proofs.lemmas.Result.{err_from_is_err_and}
+use Rattle.posix_profile.specs.Changes.{written}
+use Rattle.pages.specs.Changes.{AreSized}
+use Rattle.pages.specs.State.{PagesState}
+use Rattle.pages.specs.StateLaws.{finds_on}
+use Rattle.pages.specs.declared.change.FreshPage.{FreshPage}
+use Rattle.file_io.specs.Chunks.{AreOf, HoldsChunk, HoldChunks, IsTail, IsWritten}
+use Rattle.file_io.proofs.FilePages.{later}
+use Rattle.file_io.proofs.Filling.{tail_before, among_none, among_more, among_this, among_only, among_fresh, asked_tail, asked_more}
+use Rattle.file_io.proofs.PageLists.{each_push, of_push, of_same, hold_push, of_chunk}
+use Rattle.file_io.proofs.Ranges.{chunks_order}
+use Rattle.file_io.proofs.writing.written_pages.Goals as goal
+
+pub returns-in_err-fresh-clause-asked : goal.returns-in_err-fresh-clause-asked
+returns-in_err-fresh-clause-asked g c =
+    let old : PagesState = g.P.Pages.state c.args.pages.now in
+    let d : ℕ = c.from-page_bytes.result in
+    let size_old : d ≡ old.page_bytes = c.from-page_bytes.ensures ∙ c.page_bytes.ensures.bytes in
+    let tail = asked_tail old.page_bytes c.args.offset c.args.head.now.length old.asked (g.P.Pages.state c.tail_pages.new.pages).asked c.tail_pages.ensures.asked
+    (λ le. c.tail_pages.ensures.unasked (subst (λ n. c.args.offset / n ≤ c.args.head.now.length / old.page_bytes) (sym size_old) le)) in
+    omega (arith, tail)
+
+pub returns-in_err-fresh-clause-fault : goal.returns-in_err-fresh-clause-fault
+returns-in_err-fresh-clause-fault g c = λ z moment all f head.
+    let p = err_from_is_err_and c.from_residual.result c.from_residual.ensures.1 in
+    rw (p.1, p.2) (c.in_err-fresh.ensures.fault z moment all f head)
+
+pub loop-index-init : goal.loop-index-init
+loop-index-init g c =
+    let old : PagesState = g.P.Pages.state c.args.pages.now in
+    let d : ℕ = c.from-page_bytes.result in
+    let len : ℕ = c.args.head.now.length in
+    let bits : List ℕ = c.args.head.now.bits.items in
+    let first : ℕ = c.args.offset / d in
+    let fresh : List FreshPage = c.in_ok-fresh.fresh.items in
+    let size_old : d ≡ old.page_bytes = c.from-page_bytes.ensures ∙ c.page_bytes.ensures.bytes in
+    let of : AreOf c.args.object (IsTail d len bits first) fresh = subst (λ n. AreOf c.args.object (IsTail n len bits first) fresh) (sym size_old) c.in_ok-fresh.ensures.of in
+    let tail = asked_tail d c.args.offset len old.asked (g.P.Pages.state c.tail_pages.new.pages).asked c.tail_pages.ensures.asked
+    (λ le. c.tail_pages.ensures.unasked (subst (λ n. first ≤ len / n) size_old le)) in
+    record {
+      finds = c.tail_pages.ensures.finds;
+      asked = omega (arith, tail);
+      of = of_same c.args.object (IsTail d len bits first) (IsWritten d len bits first first) fresh (λ k is. inl is) (λ k. among_none d len bits first k) of;
+      few = omega (arith, c.in_ok-fresh.ensures.few);
+      sized = subst (AreSized fresh) (sym size_old) c.in_ok-fresh.ensures.sized;
+      hold = λ z moment all f head. tail_before c.args.object d len bits c.args.offset c.args.bytes.now all fresh of
+          (subst (λ n. HoldChunks n all fresh) (sym size_old) (c.in_ok-fresh.ensures.hold z moment all f head));
+    }
+
+pub returns-in_err-page-clause-finds : goal.returns-in_err-page-clause-finds
+returns-in_err-page-clause-finds g c = finds_on _ _ _ c.loop-index.invariant.finds c.written_bytes.ensures.finds
+
+-- how many pages were asked for up to this chunk
+within : (d size off n k start was got : ℕ) → d ≡ size → 1 ≤ d → 1 ≤ n → off / d ≤ k → k < (off + n - 1) / d + 1 → got ≤ was + 1 → (off ≤ k * d → k * d + d ≤ off + n → got ≡ was)
+    → was ≤ start + min (min 1 (off % d)) (k - off / d) + min (min 1 ((off + n) % d)) (k - ((off + n - 1) / d + 1 - 1))
+    → got ≤ start + min 1 (off % size) + min 1 ((off + n) % size)
+within d size off n k start was got is some any low high most none before =
+    subst (λ x. got ≤ start + min 1 (off % x) + min 1 ((off + n) % x)) is (omega (arith, asked_more d off n k start was got some any low high most none before))
+
+pub returns-in_err-page-clause-asked : goal.returns-in_err-page-clause-asked
+returns-in_err-page-clause-asked g c =
+    let old : PagesState = g.P.Pages.state c.args.pages.now in
+    let now : PagesState = g.P.Pages.state c.loop-index.pages in
+    let d : ℕ = c.from-page_bytes.result in
+    let k : ℕ = c.loop-index.index in
+    let size_old : d ≡ old.page_bytes = c.from-page_bytes.ensures ∙ c.page_bytes.ensures.bytes in
+    let size_now : d ≡ now.page_bytes = size_old ∙ sym c.loop-index.invariant.finds.page_bytes in
+    within d old.page_bytes c.args.offset (length c.args.bytes.now) k (old.asked + min 1 (c.args.offset - c.args.head.now.length)) now.asked (g.P.Pages.state c.written_bytes.new.pages).asked size_old
+    (omega (arith, c.from-page_bytes.ensures, c.page_bytes.ensures.least)) c.requires.some c.loop-index.auto.index c.loop-index-test.true c.written_bytes.ensures.asked
+    (λ a b. c.written_bytes.ensures.unasked (subst (λ x. c.args.offset ≤ k * x) size_now a) (subst (λ x. k * x + x ≤ c.args.offset + length c.args.bytes.now) size_now b)) c.loop-index.invariant.asked
+
+pub returns-in_err-page-clause-fault : goal.returns-in_err-page-clause-fault
+returns-in_err-page-clause-fault g c = λ z moment all f head.
+    let old : PagesState = g.P.Pages.state c.args.pages.now in
+    let now : PagesState = g.P.Pages.state c.loop-index.pages in
+    let p = err_from_is_err_and c.from_residual-in_err-page.result c.from_residual-in_err-page.ensures.1 in
+    rw (p.1, p.2) (c.in_err-page.ensures.fault z moment all (later old now z c.args.object moment all c.loop-index.invariant.finds f) head)
+
+pub returns-in_err-push-clause-asked : goal.returns-in_err-push-clause-asked
+returns-in_err-push-clause-asked g c =
+    let old : PagesState = g.P.Pages.state c.args.pages.now in
+    let now : PagesState = g.P.Pages.state c.loop-index.pages in
+    let d : ℕ = c.from-page_bytes.result in
+    let k : ℕ = c.loop-index.index in
+    let size_old : d ≡ old.page_bytes = c.from-page_bytes.ensures ∙ c.page_bytes.ensures.bytes in
+    let size_now : d ≡ now.page_bytes = size_old ∙ sym c.loop-index.invariant.finds.page_bytes in
+    within d old.page_bytes c.args.offset (length c.args.bytes.now) k (old.asked + min 1 (c.args.offset - c.args.head.now.length)) now.asked (g.P.Pages.state c.written_bytes.new.pages).asked size_old
+    (omega (arith, c.from-page_bytes.ensures, c.page_bytes.ensures.least)) c.requires.some c.loop-index.auto.index c.loop-index-test.true c.written_bytes.ensures.asked
+    (λ a b. c.written_bytes.ensures.unasked (subst (λ x. c.args.offset ≤ k * x) size_now a) (subst (λ x. k * x + x ≤ c.args.offset + length c.args.bytes.now) size_now b)) c.loop-index.invariant.asked
+
+pub loop-index-preserved : goal.loop-index-preserved
+loop-index-preserved g c =
+    let old : PagesState = g.P.Pages.state c.args.pages.now in
+    let now : PagesState = g.P.Pages.state c.loop-index.pages in
+    let d : ℕ = c.from-page_bytes.result in
+    let k : ℕ = c.loop-index.index in
+    let o : ℕ = c.args.object in
+    let len : ℕ = c.args.head.now.length in
+    let bits : List ℕ = c.args.head.now.bits.items in
+    let first : ℕ = c.args.offset / d in
+    let fresh : List FreshPage = c.loop-index.fresh.items in
+    let size_old : d ≡ old.page_bytes = c.from-page_bytes.ensures ∙ c.page_bytes.ensures.bytes in
+    let size_now : d ≡ now.page_bytes = size_old ∙ sym c.loop-index.invariant.finds.page_bytes in
+    let low : first ≤ k = c.loop-index.auto.index in
+    let q : FreshPage = record { key = record { object = o; chunk = 1 + k }; bytes = c.in_ok-page.page } in
+    let items : c.push.new.self.items ≡ fresh ++ q ∷ [] = c.in_ok-push.ensures.items in
+    let size : length c.in_ok-page.page.items ≡ d = c.in_ok-page.ensures.size ∙ sym size_now in
+    let count : length c.push.new.self.items ≡ length fresh + 1 = ap length items ∙ length-append fresh (q ∷ []) in
+    record {
+      finds = finds_on _ _ _ c.loop-index.invariant.finds c.written_bytes.ensures.finds;
+      asked = asked_more d c.args.offset (length c.args.bytes.now) k (old.asked + min 1 (c.args.offset - len)) now.asked (g.P.Pages.state c.written_bytes.new.pages).asked
+          (omega (arith, c.from-page_bytes.ensures, c.page_bytes.ensures.least)) c.requires.some low c.loop-index-test.true c.written_bytes.ensures.asked
+          (λ a b. c.written_bytes.ensures.unasked (subst (λ x. c.args.offset ≤ k * x) size_now a) (subst (λ x. k * x + x ≤ c.args.offset + length c.args.bytes.now) size_now b)) c.loop-index.invariant.asked;
+      of = subst (λ (xs : List FreshPage). AreOf o (IsWritten d len bits first (k + 1)) xs) (sym items)
+          (of_push o (IsWritten d len bits first k) (IsWritten d len bits first (k + 1)) fresh q c.loop-index.invariant.of refl
+          (λ is. among_fresh d len bits first k (1 + k) low refl is) (λ n is. among_more d len bits first k n is) (among_this d len bits first k (1 + k) low refl) (λ n is. among_only d len bits first k n (1 + k) refl is));
+      few = omega (arith, count, c.loop-index.invariant.few);
+      sized = subst (λ (xs : List FreshPage). AreSized xs d) (sym items) (each_push (λ i p. length p.bytes.items ≡ d) fresh q c.loop-index.invariant.sized (λ i. size));
+      hold = λ z moment all f head. subst (λ (xs : List FreshPage). HoldChunks d (written all c.args.offset c.args.bytes.now) xs) (sym items)
+          (hold_push d (written all c.args.offset c.args.bytes.now) fresh q (c.loop-index.invariant.hold z moment all f head)
+          (of_chunk d (written all c.args.offset c.args.bytes.now) q k refl
+          (subst (λ x. HoldsChunk x (written all c.args.offset c.args.bytes.now) k c.in_ok-page.page.items) (sym size_now)
+          (c.in_ok-page.ensures.holds z moment all (later old now z o moment all c.loop-index.invariant.finds f) head))));
+    }
+
+pub returns-clause-of : goal.returns-clause-of
+returns-clause-of g c =
+    let old : PagesState = g.P.Pages.state c.args.pages.now in
+    let d : ℕ = c.from-page_bytes.result in
+    let len : ℕ = c.args.head.now.length in
+    let bits : List ℕ = c.args.head.now.bits.items in
+    let fresh : List FreshPage = c.loop-index.fresh.items in
+    let n : ℕ = c.args.offset + length c.args.bytes.now - 1 in
+    let size_old : d ≡ old.page_bytes = c.from-page_bytes.ensures ∙ c.page_bytes.ensures.bytes in
+    let order : c.args.offset / d ≤ n / d + 1 = chunks_order d c.args.offset (c.args.offset + length c.args.bytes.now) (omega (arith, c.requires.some)) in
+    let up : c.loop-index.index ≤ n / d + 1 = c.loop-index.auto.index-end order in
+    let is : c.loop-index.index ≡ n / d + 1 = omega (arith, up, c.loop-index-test.false) in
+    subst (λ x. AreOf c.args.object (IsWritten x len bits (c.args.offset / x) (n / x + 1)) fresh) size_old
+    (subst (λ e. AreOf c.args.object (IsWritten d len bits (c.args.offset / d) e) fresh) is c.loop-index.invariant.of)
+
+pub returns-clause-hold : goal.returns-clause-hold
+returns-clause-hold g c = λ z moment all f head.
+    let old : PagesState = g.P.Pages.state c.args.pages.now in
+    let size_old : c.from-page_bytes.result ≡ old.page_bytes = c.from-page_bytes.ensures ∙ c.page_bytes.ensures.bytes in
+    subst (λ x. HoldChunks x (written all c.args.offset c.args.bytes.now) c.loop-index.fresh.items) size_old (c.loop-index.invariant.hold z moment all f head)

@@ -1,0 +1,51 @@
+-- The chunks of a file, counted from 0: chunk k of its bytes is chunk 1 + k of the object.
+use Rattle.std.specs.Prelude.{◌≡◌, ◌<◌, ◌≤◌, ◌⊎◌, ℕ, zero, suc, ◌+◌, ◌-◌, ◌*◌, ◌/◌, ◌%◌, true, List, ◌++◌, length, take, drop, slice_get, slice_index, count_by, Some}
+use Rattle.std.specs.List.{range_with_len}
+use Rattle.page_tags.specs.Headers.{is_present}
+use Rattle.pages.specs.Maps.{IsOf}
+use Rattle.pages.specs.Changes.{AreApart}
+use Rattle.pages.specs.declared.change.FreshPage.{FreshPage}
+
+-- over so many chunks n bytes from a place on extend
+abbrev pub chunks_over : ℕ → ℕ → ℕ → ℕ
+chunks_over d off zero = 0
+chunks_over d off (suc n) = (off + n) / d - off / d + 1
+
+-- so many of the n chunks from k on are present
+abbrev pub count_present : List ℕ → ℕ → ℕ → ℕ
+count_present bits k n = count_by (is_present bits) (range_with_len (1 + k) n)
+
+-- the page has the bytes of chunk k, and zeros where the file has none
+pub record HoldsChunk (d : ℕ) (bytes : List ℕ) (k : ℕ) (page : List ℕ) : Type 0 where
+  pub size : length page ≡ d
+  pub each : (j : ℕ) → j < d → slice_index page j ≡ slice_index bytes (k * d + j)
+
+-- each of the pages that is of a chunk of bytes holds it
+abbrev pub HoldChunks : ℕ → List ℕ → List FreshPage → Type 0
+HoldChunks d bytes pages = (i k : ℕ) (p : FreshPage) → slice_get pages i ≡ Some p → p.key.chunk ≡ 1 + k → HoldsChunk d bytes k p.bytes.items
+
+-- the pages are of these chunks of the object, one of each
+pub record AreOf (o : ℕ) (IsOne : ℕ → Type 0) (pages : List FreshPage) : Type 0 where
+  pub each : (i : ℕ) (p : FreshPage) → slice_get pages i ≡ Some p → (p.key.object ≡ o) × IsOne p.key.chunk
+  pub all : (c : ℕ) → IsOne c → (i : ℕ) × IsOf pages o c i
+  pub apart : AreApart pages
+
+-- The last chunk of a file of this length, where it is present, partly used, and before chunk k.
+pub record IsTail (d len : ℕ) (bits : List ℕ) (k c : ℕ) : Type 0 where
+  pub chunk : c ≡ 1 + len / d
+  pub partly : 1 ≤ len % d
+  pub before : len / d < k
+  pub there : is_present bits c ≡ true
+
+-- the chunk is one of those from k on, before chunk n
+pub record IsAmong (k n c : ℕ) : Type 0 where
+  pub from : k < c
+  pub to : c ≤ n
+
+-- the chunks of which a write into the chunks from k on has made pages when it comes to chunk n
+abbrev pub IsWritten : ℕ → ℕ → List ℕ → ℕ → ℕ → ℕ → Type 0
+IsWritten d len bits k n c = IsTail d len bits k c ⊎ IsAmong k n c
+
+-- the bytes with others over them from a place on, where there is room for these
+abbrev pub overwritten : List ℕ → ℕ → List ℕ → List ℕ
+overwritten xs at bytes = take at xs ++ (bytes ++ drop (at + length bytes) xs)

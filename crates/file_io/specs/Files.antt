@@ -1,0 +1,35 @@
+-- A file of a store's pages, and what a change makes of it.
+use Rattle.std.specs.Prelude.{◌≡◌, ◌≤◌, ℕ, true, false, List, Some, None}
+use Rattle.page_tags.specs.Headers.{Fields, IsHeader, header_bytes, is_present}
+use Rattle.page_tags.specs.declared.header.Format.TheVariants as formats
+use Rattle.page_tags.specs.declared.header.ObjectKind.TheVariants as kinds
+use Rattle.flash_tree.specs.Tree.{ReadsFile}
+use Rattle.volume_terms.specs.Sizes.{Sizes}
+use Rattle.pages.specs.Maps.{PageMap, has}
+use Rattle.pages.specs.State.{PagesState}
+
+-- the object is this file, in a sound store with pages of this size
+pub record FileIn (p : PagesState) (z : Sizes) (o moment : ℕ) (bytes : List ℕ) : Type 0 where
+  pub sound : p.sound ≡ true
+  pub size : z.page_bytes ≡ p.page_bytes
+  pub reads : ReadsFile z (has p.present) o moment bytes
+
+-- the page of the object's chunk 0 is the header of a file
+pub record HasFileHeader (p : PagesState) (o : ℕ) : Type 0 where
+  pub fields : Fields
+  pub there : p.present o 0 ≡ Some (header_bytes fields)
+  pub valid : IsHeader p.page_bytes fields
+  pub kind : fields.kind ≡ kinds.File
+
+-- what the header of a file says: it is written in format 2
+abbrev pub fields_in : ℕ → ℕ → List ℕ → Fields
+fields_in len moment bits = record { format = formats.Two; kind = kinds.File; spare = 0; length = len; moment = moment; bits = bits }
+
+-- the object has no chunk besides those that the header names
+abbrev pub HasOnly : PageMap → ℕ → Fields → Type 0
+HasOnly m o f = (c : ℕ) → 1 ≤ c → is_present f.bits c ≡ false → m o c ≡ None
+
+-- The object is this file in the new pages; and has there no chunk that its header does not name, if it had none in the old.
+pub record Becomes (z : Sizes) (old new : PageMap) (o : ℕ) (f : Fields) (moment : ℕ) (bytes : List ℕ) : Type 0 where
+  pub reads : ReadsFile z (has new) o moment bytes
+  pub only : HasOnly old o f → HasOnly new o reads.fields

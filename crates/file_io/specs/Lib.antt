@@ -1,0 +1,4 @@
+pub mod Files
+pub mod Heads
+pub mod Chunks
+pub mod Parts

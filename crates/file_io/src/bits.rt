@@ -1,0 +1,31 @@
+// The presence bits of a range of chunks, counted from 0.
+ghost use Rattle.std.specs.Prelude.{◌≡◌, ◌<◌, ◌≤◌, ◌+◌, ◌-◌, ◌*◌, ◌^◌, ◌⊎◌, ℕ, true, false, length};
+ghost use Rattle.page_tags.specs.Headers.{is_present};
+
+use page_tags::{is_present, set_present};
+
+/// Whether the chunks from `first` on and before `end` are all present.
+pub(crate) fn has_all(bits: &[u8], first: u64, end: u64) -> bool
+    requires { end < 2 ^ 64 - 1 }
+    ensures all { result ≡ true → (k : ℕ) → first ≤ k → k < end → is_present bits.now (1 + k) ≡ true }
+    ensures lacks { result ≡ false → (k : ℕ) × (first ≤ k) × (k < end) × (is_present bits.now (1 + k) ≡ false) }
+{
+    for index in first..end {
+        if !is_present(bits, 1 + index) {
+            return false;
+        }
+    }
+    true
+}
+
+/// Marks the chunks from `first` on and before `end` as present or not.
+pub(crate) fn mark(bits: &mut [u8], first: u64, end: u64, present: bool)
+    requires small { end < 2 ^ 64 - 1 }
+    requires within { end ≤ 8 * length bits.old }
+    ensures here { (k : ℕ) → first ≤ k → k < end → is_present bits.new (1 + k) ≡ present }
+    ensures others { (k : ℕ) → (k < first) ⊎ (end ≤ k) → is_present bits.new (1 + k) ≡ is_present bits.old (1 + k) }
+{
+    for index in first..end {
+        set_present(bits, 1 + index, present);
+    }
+}

@@ -1,0 +1,86 @@
+// The chunks of a file, counted from 0, as they are before a change.
+ghost use Rattle.std.specs.Prelude.{◌≡◌, ◌<◌, ◌≤◌, ◌+◌, ◌-◌, ◌*◌, ◌/◌, ◌^◌, ℕ, List, IfOk, IfErr, length, slice_index};
+ghost use Rattle.volume_terms.specs.Sizes.{Sizes};
+ghost use Rattle.pages.specs.Changes.{AreSized};
+ghost use Rattle.pages.specs.State.{OnlyFinds};
+ghost use Rattle.file_io.specs.Files.{FileIn};
+ghost use Rattle.file_io.specs.Heads.{IsHeadOf};
+ghost use Rattle.file_io.specs.Chunks.{AreOf, HoldChunks, HoldsChunk, IsTail};
+ghost use Rattle.pages.specs.Faults.{MayLackMemory, SaysWhyMaking};
+
+use crate::head::FileHead;
+use flash_tree::Key;
+use page_tags::is_present;
+use pages::{FreshPage, PageFault, Pages, load};
+use std::alloc::Global;
+
+/// Writes zeros over the bytes from a place on.
+fn clear_from(bytes: &mut [u8], from: usize)
+    ensures before { (i : ℕ) → i < from → slice_index bytes.new i ≡ slice_index bytes.old i }
+    ensures after { (i : ℕ) → from ≤ i → slice_index bytes.new i ≡ 0 }
+{
+    for i in from..bytes.len() {
+        bytes[i] = 0;
+    }
+}
+
+/// The bytes of a chunk, with zeros where the file has none.
+pub(crate) fn chunk_bytes<P: Pages>(
+    alloc: Global,
+    pages: &mut P,
+    object: u64,
+    head: &FileHead,
+    index: u64,
+) -> Result<Vec<u8>, PageFault>
+    requires { index < 2 ^ 32 }
+    ensures finds { OnlyFinds (P.state pages.old) (P.state pages.new) }
+    ensures asked { (P.state pages.new).asked ≤ (P.state pages.old).asked + 1 }
+    ensures size { IfOk result (λ bytes. length bytes.items ≡ (P.state pages.old).page_bytes) }
+    ensures holds { (z : Sizes) (moment : ℕ) (all : List ℕ) (f : FileIn (P.state pages.old) z object moment all)
+        → IsHeadOf head.now f.reads.fields → IfOk result (λ bytes. HoldsChunk (P.state pages.old).page_bytes all index bytes.items) }
+    ensures why { IfErr result (SaysWhyMaking (P.state pages.new)) }
+    ensures fault { (z : Sizes) (moment : ℕ) (all : List ℕ) (f : FileIn (P.state pages.old) z object moment all)
+        → IsHeadOf head.now f.reads.fields → IfErr result (MayLackMemory (P.state pages.new)) }
+{
+    let page_bytes = u64::from(pages.page_bytes());
+    if !is_present(&head.bits, 1 + index) {
+        return Ok(vec![in alloc; 0u8; page_bytes as usize]?);
+    }
+    load(pages, Key { object, chunk: 1 + index })?;
+    let mut bytes = pages.page().to_vec(alloc)?;
+    let used = head.length.saturating_sub(index * page_bytes);
+    clear_from(&mut bytes, used as usize);
+    Ok(bytes)
+}
+
+/// The page of a file's last chunk with zeros past the end of the file, where that chunk is present, partly used and
+/// before chunk `before`; else no page. A file that grows without it would show what the page held past the old end.
+pub(crate) fn tail_pages<P: Pages>(
+    alloc: Global,
+    pages: &mut P,
+    object: u64,
+    head: &FileHead,
+    before: u64,
+) -> Result<Vec<FreshPage>, PageFault>
+    requires { head.now.length < 2 ^ 32 }
+    ensures finds { OnlyFinds (P.state pages.old) (P.state pages.new) }
+    ensures asked { (P.state pages.new).asked ≤ (P.state pages.old).asked + 1 }
+    ensures unasked { before ≤ head.now.length / (P.state pages.old).page_bytes → (P.state pages.new).asked ≡ (P.state pages.old).asked }
+    ensures of { IfOk result (λ fresh. AreOf object (IsTail (P.state pages.old).page_bytes head.now.length head.now.bits.items before) fresh.items) }
+    ensures few { IfOk result (λ fresh. length fresh.items ≤ 1) }
+    ensures sized { IfOk result (λ fresh. AreSized fresh.items (P.state pages.old).page_bytes) }
+    ensures hold { (z : Sizes) (moment : ℕ) (all : List ℕ) (f : FileIn (P.state pages.old) z object moment all)
+        → IsHeadOf head.now f.reads.fields → IfOk result (λ fresh. HoldChunks (P.state pages.old).page_bytes all fresh.items) }
+    ensures why { IfErr result (SaysWhyMaking (P.state pages.new)) }
+    ensures fault { (z : Sizes) (moment : ℕ) (all : List ℕ) (f : FileIn (P.state pages.old) z object moment all)
+        → IsHeadOf head.now f.reads.fields → IfErr result (MayLackMemory (P.state pages.new)) }
+{
+    let page_bytes = u64::from(pages.page_bytes());
+    let index = head.length / page_bytes;
+    if head.length % page_bytes == 0 || index >= before || !is_present(&head.bits, 1 + index) {
+        return Ok(Vec::new(alloc));
+    }
+    let bytes = chunk_bytes(alloc, pages, object, head, index)?;
+    let key = Key { object, chunk: 1 + index };
+    Ok(vec![in alloc; FreshPage { key, bytes }]?)
+}

@@ -1,0 +1,148 @@
+// The header of a file.
+ghost use Rattle.std.specs.Prelude.{◌≡◌, ◌≤◌, ◌+◌, ◌-◌, ℕ, List, [], true, Some, IfOk, IfErr, IsOkAnd, OnOk, length, replicate};
+ghost use Rattle.page_tags.specs.HeaderFields.{fields_of};
+ghost use Rattle.page_tags.specs.Headers.{Fields, IsBytes, IsHeader, IsHeaderOf, header_bytes};
+ghost use Rattle.page_tags.specs.declared.header.ObjectKind.TheVariants as kinds;
+ghost use Rattle.flash_tree.specs.Tree.{ReadsFile};
+ghost use Rattle.volume_terms.specs.Sizes.{Sizes};
+ghost use Rattle.pages.specs.Maps.{PageMap, has};
+ghost use Rattle.pages.specs.State.{OnlyFinds};
+ghost use Rattle.file_io.specs.Files.{FileIn, HasFileHeader, fields_in};
+ghost use Rattle.file_io.specs.Heads.{IsHeadOf};
+ghost use Rattle.pages.specs.Faults.{MayLack, MayLackMemory, SaysWhy, SaysWhyMaking};
+ghost use Rattle.pages.specs.declared.fault.PageFault.TheVariants as faults;
+
+use flash_tree::Key;
+use page_tags::{Format, Header, ObjectKind, decode_header, encode_header};
+use pages::{FreshPage, PageFault, Pages, load};
+use std::alloc::{AllocError, Global};
+
+/// The length of a file in bytes, and the moment of its last change.
+#[derive(Clone, Copy, Debug, PartialEq, Eq)]
+pub struct FileInfo {
+    pub length: u64,
+    pub moment: u64,
+}
+
+/// What the header of a file says: its length, the moment of its last change, and the presence bits of its chunks.
+#[derive(Drop)]
+pub(crate) struct FileHead {
+    pub length: u64,
+    pub moment: u64,
+    pub bits: Vec<u8>,
+}
+
+/// What a page says as the header of a file.
+fn decode_file(page: &[u8]) -> Result<Header<'_>, PageFault>
+    requires least { 32 ≤ length page.now }
+    requires most { length page.now ≤ 4096 }
+    ensures found { IfOk result (λ h. IsHeaderOf page.now (fields_of h)) }
+    ensures kind { IfOk result (λ h. h.kind ≡ kinds.File) }
+    ensures read { (f : Fields) → IsHeaderOf page.now f → f.kind ≡ kinds.File → IsOkAnd result (λ h. fields_of h ≡ f) }
+    ensures fault { IfErr result (λ e. e ≡ faults.Damaged) }
+{
+    let Ok(header) = decode_header(page) else {
+        return Err(PageFault::Damaged);
+    };
+    if header.kind != ObjectKind::File {
+        return Err(PageFault::Damaged);
+    }
+    Ok(header)
+}
+
+/// The length of a file and the moment of its last change. Its header is asked for.
+pub fn read_info<P: Pages>(pages: &mut P, object: u64) -> Result<FileInfo, PageFault>
+    ensures finds { OnlyFinds (P.state pages.old) (P.state pages.new) }
+    ensures asked { (P.state pages.new).asked ≤ (P.state pages.old).asked + 1 }
+    ensures length { (z : Sizes) (moment : ℕ) (all : List ℕ) (f : FileIn (P.state pages.old) z object moment all)
+        → IfOk result (λ info. info.length ≡ length all) }
+    ensures moment { (z : Sizes) (moment : ℕ) (all : List ℕ) (f : FileIn (P.state pages.old) z object moment all)
+        → IfOk result (λ info. info.moment ≡ moment) }
+    ensures told { (P.state pages.old).sound ≡ true → OnOk result (HasFileHeader (P.state pages.old) object) }
+    ensures why { IfErr result (SaysWhy (P.state pages.new)) }
+    ensures fault { (z : Sizes) (moment : ℕ) (all : List ℕ) (f : FileIn (P.state pages.old) z object moment all)
+        → IfErr result (MayLack (P.state pages.new)) }
+{
+    load(pages, Key { object, chunk: 0 })?;
+    let header = decode_file(pages.page())?;
+    Ok(FileInfo {
+        length: header.length,
+        moment: header.moment,
+    })
+}
+
+/// Reads the header of a file.
+pub(crate) fn read_head<P: Pages>(
+    alloc: Global,
+    pages: &mut P,
+    object: u64,
+) -> Result<FileHead, PageFault>
+    ensures finds { OnlyFinds (P.state pages.old) (P.state pages.new) }
+    ensures asked { (P.state pages.new).asked ≤ (P.state pages.old).asked + 1 }
+    ensures head { (z : Sizes) (moment : ℕ) (all : List ℕ) (f : FileIn (P.state pages.old) z object moment all)
+        → IfOk result (λ head. IsHeadOf head f.reads.fields) }
+    ensures valid { IfOk result (λ head. IsHeader (P.state pages.old).page_bytes (fields_in head.length head.moment head.bits.items)) }
+    ensures told { (P.state pages.old).sound ≡ true → OnOk result (HasFileHeader (P.state pages.old) object) }
+    ensures why { IfErr result (SaysWhyMaking (P.state pages.new)) }
+    ensures fault { (z : Sizes) (moment : ℕ) (all : List ℕ) (f : FileIn (P.state pages.old) z object moment all)
+        → IfErr result (MayLackMemory (P.state pages.new)) }
+{
+    load(pages, Key { object, chunk: 0 })?;
+    let header = decode_file(pages.page())?;
+    Ok(FileHead {
+        length: header.length,
+        moment: header.moment,
+        bits: header.bits.to_vec(alloc)?,
+    })
+}
+
+/// The page of a file's header.
+pub(crate) fn head_page(
+    alloc: Global,
+    page_bytes: u32,
+    object: u64,
+    len: u64,
+    moment: u64,
+    bits: &[u8],
+) -> Result<FreshPage, AllocError>
+    requires least { 32 ≤ page_bytes }
+    requires most { page_bytes ≤ 4096 }
+    requires valid { IsBytes bits.now → IsHeader page_bytes (fields_in len moment bits.now) }
+    ensures object { IfOk result (λ page. page.key.object ≡ object) }
+    ensures chunk { IfOk result (λ page. page.key.chunk ≡ 0) }
+    ensures size { IfOk result (λ page. length page.bytes.items ≡ page_bytes) }
+    ensures header { IfOk result (λ page. page.bytes.items ≡ header_bytes (fields_in len moment bits.now)) }
+    ensures valid { IsHeader page_bytes (fields_in len moment bits.now) }
+{
+    let mut bytes = vec![in alloc; 0u8; page_bytes as usize]?;
+    let header = Header {
+        format: Format::Two,
+        kind: ObjectKind::File,
+        spare: 0,
+        length: len,
+        moment,
+        bits,
+    };
+    encode_header(&header, &mut bytes);
+    let key = Key { object, chunk: 0 };
+    Ok(FreshPage { key, bytes })
+}
+
+/// The page that makes an object a file of no bytes: its header.
+pub fn create<P: Pages>(
+    alloc: Global,
+    pages: &P,
+    object: u64,
+    moment: u64,
+) -> Result<FreshPage, PageFault>
+    ensures object { IfOk result (λ page. page.key.object ≡ object) }
+    ensures chunk { IfOk result (λ page. page.key.chunk ≡ 0) }
+    ensures size { IfOk result (λ page. length page.bytes.items ≡ (P.state pages.now).page_bytes) }
+    ensures reads { (z : Sizes) (m : PageMap) → z.page_bytes ≡ (P.state pages.now).page_bytes
+        → IfOk result (λ page. m object 0 ≡ Some page.bytes.items → ReadsFile z (has m) object moment []) }
+    ensures fault { IfErr result (λ e. e ≡ faults.NoMemory) }
+{
+    let page_bytes = pages.page_bytes();
+    let bits = vec![in alloc; 0u8; page_bytes as usize - 32]?;
+    Ok(head_page(alloc, page_bytes, object, 0, moment, &bits)?)
+}

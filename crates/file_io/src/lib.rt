@@ -1,0 +1,12 @@
+//! Files as lists of bytes, over pages that are found by their keys.
+#![tactic(auto)]
+
+mod bits;
+mod chunk;
+mod head;
+mod reading;
+mod writing;
+
+pub use head::{FileInfo, create, read_info};
+pub use reading::read_at;
+pub use writing::write_at;

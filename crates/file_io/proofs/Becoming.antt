@@ -1,12 +1,12 @@
 -- What a file becomes, chunk by chunk.
-use Rattle.std.specs.Prelude.{◌≡◌, ◌≢◌, ◌⊎◌, ◌<◌, ◌≤◌, ℕ, zero, suc, ◌+◌, ◌-◌, ◌*◌, ◌/◌, ◌%◌, true, false, List, length, get_or, Some, None}
-use Rattle.std.proofs.Common.{refl, sym, ◌∙◌, ap, subst, inl, inr, arith}
+use Rattle.std.specs.Prelude.{◌≡◌, ◌⊎◌, ◌<◌, ◌≤◌, ℕ, ◌+◌, ◌-◌, ◌*◌, ◌/◌, ◌%◌, true, false, List, length, get_or, Some, None}
+use Rattle.std.proofs.Common.{sym, ◌∙◌, ap, subst, inl, inr, arith}
 use Rattle.std.proofs.Math.Nat.{div-add-mod'}
 use Rattle.std.proofs.lemmas.Bool.{cases_lt}
 use Rattle.std.proofs.lemmas.List.{get_or_past}
 use Rattle.page_tags.specs.Headers.{Fields, IsHeader, header_bytes, is_present}
 use Rattle.page_tags.specs.declared.header.ObjectKind.TheVariants as kinds
-use Rattle.flash_tree.specs.Tree.{ReadsFile, ByteIs}
+use Rattle.flash_tree.specs.Tree.{ByteIs}
 use Rattle.volume_terms.specs.Sizes.{Sizes}
 use Rattle.pages.specs.Maps.{PageMap, has}
 use Rattle.pages.specs.State.{PagesState}

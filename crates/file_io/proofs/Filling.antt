@@ -1,12 +1,12 @@
 -- The pages of a write, one after the other.
-use Rattle.std.specs.Prelude.{◌≡◌, ◌⊎◌, ◌<◌, ◌≤◌, ℕ, ◌+◌, ◌-◌, ◌*◌, ◌/◌, ◌%◌, min, List, length, slice_get, get_or}
-use Rattle.std.proofs.Common.{refl, sym, ◌∙◌, ap, subst, inl, inr, arith}
+use Rattle.std.specs.Prelude.{◌≡◌, ◌⊎◌, ◌<◌, ◌≤◌, ℕ, ◌+◌, ◌-◌, ◌*◌, ◌/◌, ◌%◌, min, List}
+use Rattle.std.proofs.Common.{sym, ◌∙◌, ap, inl, inr, arith}
 use Rattle.std.proofs.Math.Nat.{div-add-mod', lt-div-mul-add, div-mul-le_self, mul-le-mul_right}
-use Rattle.std.proofs.lemmas.Bool.{cases_lt, cases_eq}
+use Rattle.std.proofs.lemmas.Bool.{cases_lt}
 use Rattle.std.proofs.lemmas.Nat.{div-mul-add, mod-mul-add}
 use Rattle.posix_profile.specs.Changes.{written}
 use Rattle.pages.specs.declared.change.FreshPage.{FreshPage}
-use Rattle.file_io.specs.Chunks.{AreOf, HoldsChunk, HoldChunks, IsTail, IsAmong, IsWritten}
+use Rattle.file_io.specs.Chunks.{AreOf, HoldChunks, IsTail, IsWritten}
 use Rattle.file_io.proofs.Ranges.{begins_before}
 use Rattle.file_io.proofs.Written.{written_before}
 

@@ -8,3 +8,4 @@ pub mod Becoming
 pub mod Filling
 pub mod WriteChunks
 pub mod WholeWrites
+pub mod Resized

@@ -1,26 +1,24 @@
 -- A write as a whole: its pages and the header.
-use Rattle.std.specs.Prelude.{◌≡◌, ◌⊎◌, ◌<◌, ◌≤◌, ℕ, ◌+◌, ◌-◌, ◌*◌, ◌/◌, ◌%◌, ◌^◌, true, false, max, List, [], ◌∷◌, ◌++◌, length, slice_get, Some}
+use Rattle.std.specs.Prelude.{◌≡◌, ◌⊎◌, ◌<◌, ◌≤◌, ℕ, ◌+◌, ◌-◌, ◌*◌, ◌/◌, ◌^◌, true, max, List, [], ◌∷◌, ◌++◌, length, slice_get, Some}
 use Rattle.std.proofs.Common.{refl, sym, ◌∙◌, ap, subst, inl, inr, arith}
 use Rattle.std.proofs.Math.Nat.{div-mul-le_self, lt-div-mul-add, mul-le-mul_right}
 use Rattle.std.proofs.lemmas.Bool.{cases_lt}
-use Rattle.std.proofs.lemmas.List.{length-append}
 use Rattle.std.proofs.lemmas.Nat.{le-div}
-use Rattle.page_tags.specs.Headers.{Fields, IsHeader, IsBytes, header_bytes, is_present}
-use Rattle.page_tags.specs.declared.header.ObjectKind.TheVariants as kinds
+use Rattle.page_tags.specs.Headers.{IsHeader, IsBytes, header_bytes, is_present}
 use Rattle.posix_profile.specs.Changes.{written}
 use Rattle.volume_terms.specs.Sizes.{Sizes}
-use Rattle.pages.specs.Maps.{PageMap, with_pages, without_cuts, changed, IsOf, IsCut}
+use Rattle.pages.specs.Maps.{PageMap, without_cuts, changed, IsCut}
 use Rattle.pages.specs.MapLaws.{page_here}
-use Rattle.pages.specs.Changes.{AreSized, IsChange, IsOnlyOf}
+use Rattle.pages.specs.Changes.{IsOnlyOf}
 use Rattle.pages.specs.State.{PagesState}
 use Rattle.pages.specs.declared.change.Change.{Change}
 use Rattle.pages.specs.declared.change.Cut.{Cut}
 use Rattle.pages.specs.declared.change.FreshPage.{FreshPage}
 use Rattle.file_io.specs.Files.{FileIn, Becomes, fields_in}
-use Rattle.file_io.specs.Chunks.{AreOf, HoldChunks, IsTail, IsWritten}
+use Rattle.file_io.specs.Chunks.{AreOf, HoldChunks, IsWritten}
 use Rattle.file_io.proofs.Becoming.{becomes}
 use Rattle.file_io.proofs.Filling.{among_chunks, chunk_order}
-use Rattle.file_io.proofs.PageLists.{each_push, last_place, none_of, of_push, hold_push}
+use Rattle.file_io.proofs.PageLists.{last_place, none_of, of_push, hold_push}
 use Rattle.file_io.proofs.WriteChunks.{write_chunks}
 use Rattle.file_io.proofs.Written.{length-written}
 

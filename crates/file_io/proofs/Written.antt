@@ -2,7 +2,7 @@
 use Rattle.std.specs.Prelude.{◌≡◌, ◌<◌, ◌≤◌, ℕ, ◌+◌, ◌-◌, max, List, ◌++◌, length, take, drop, replicate, get_or}
 use Rattle.std.proofs.Common.{refl, sym, ◌∙◌, ap, inl, inr, arith}
 use Rattle.std.proofs.lemmas.Bool.{cases_lt}
-use Rattle.std.proofs.lemmas.List.{get_or_append_left, get_or-append_right, get_or-take, get_or-drop, get_or_past, length-append, length-take-le, length-take, length-drop, length-replicate}
+use Rattle.std.proofs.lemmas.List.{get_or_append_left, get_or-append_right, get_or-take, get_or-drop, get_or_past, length-append, length-take-le, length-drop, length-replicate}
 use Rattle.posix_profile.specs.Changes.{written, resized}
 use Rattle.file_io.specs.Chunks.{overwritten}
 use Rattle.file_io.proofs.HeadBits.{zero_at}

@@ -1,5 +1,5 @@
 -- What is told of the header of a file.
-use Rattle.std.specs.Prelude.{◌≡◌, List}
+use Rattle.std.specs.Prelude.{◌≡◌}
 use Rattle.page_tags.specs.Headers.{Fields}
 use Rattle.file_io.specs.declared.head.FileHead.{FileHead}
 

@@ -46,7 +46,13 @@ pub(crate) fn chunk_bytes<P: Pages>(
     if !is_present(&head.bits, 1 + index) {
         return Ok(vec![in alloc; 0u8; page_bytes as usize]?);
     }
-    load(pages, Key { object, chunk: 1 + index })?;
+    load(
+        pages,
+        Key {
+            object,
+            chunk: 1 + index,
+        },
+    )?;
     let mut bytes = pages.page().to_vec(alloc)?;
     let used = head.length.saturating_sub(index * page_bytes);
     clear_from(&mut bytes, used as usize);
@@ -81,6 +87,9 @@ pub(crate) fn tail_pages<P: Pages>(
         return Ok(Vec::new(alloc));
     }
     let bytes = chunk_bytes(alloc, pages, object, head, index)?;
-    let key = Key { object, chunk: 1 + index };
+    let key = Key {
+        object,
+        chunk: 1 + index,
+    };
     Ok(vec![in alloc; FreshPage { key, bytes }]?)
 }

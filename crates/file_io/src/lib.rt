@@ -5,8 +5,10 @@ mod bits;
 mod chunk;
 mod head;
 mod reading;
+mod resizing;
 mod writing;
 
 pub use head::{FileInfo, create, read_info};
 pub use reading::read_at;
+pub use resizing::set_length;
 pub use writing::write_at;

@@ -103,7 +103,10 @@ fn written_pages<P: Pages>(
     let mut fresh = tail_pages(alloc, pages, object, head, first)?;
     for index in first..end {
         let page = written_bytes(alloc, pages, object, head, index, offset, bytes)?;
-        let key = Key { object, chunk: 1 + index };
+        let key = Key {
+            object,
+            chunk: 1 + index,
+        };
         fresh.push(FreshPage { key, bytes: page })?;
     }
     Ok(fresh)
@@ -127,7 +130,7 @@ pub fn write_at<P: Pages>(
     ensures finds { OnlyFinds (P.state pages.old) (P.state pages.new) }
     ensures writes { (z : Sizes) (before : ℕ) (all : List ℕ) (f : FileIn (P.state pages.old) z object before all) → 1 ≤ length bytes.now
         → IfOk result (λ change. Becomes z (P.state pages.old).present (changed change (P.state pages.old).present) object f.reads.fields
-            moment (written all offset bytes.now)) }
+        moment (written all offset bytes.now)) }
     ensures same { length bytes.now ≡ 0
         → IfOk result IsNothing }
     ensures only { IfOk result (λ change. IsOnlyOf change object) }
@@ -138,7 +141,7 @@ pub fn write_at<P: Pages>(
         → IfOk result (λ change. (i : ℕ) → IsOf change.pages.items object 0 i → ⊥) }
     ensures asked { (z : Sizes) (before : ℕ) (all : List ℕ) (f : FileIn (P.state pages.old) z object before all)
         → (P.state pages.new).asked ≤ (P.state pages.old).asked + 1 + min 1 (offset - length all)
-            + min 1 (offset % z.page_bytes) + min 1 ((offset + length bytes.now) % z.page_bytes) }
+        + min 1 (offset % z.page_bytes) + min 1 ((offset + length bytes.now) % z.page_bytes) }
     ensures told { (P.state pages.old).sound ≡ true → OnOk result (HasFileHeader (P.state pages.old) object) }
     ensures why { IfErr result (SaysWhyMaking (P.state pages.new)) }
     ensures fault { (z : Sizes) (before : ℕ) (all : List ℕ) (f : FileIn (P.state pages.old) z object before all)

@@ -1,9 +1,9 @@
-use Rattle.std.proofs.Common.{◌≡◌, ◌≤◌, ◌<◌, ◌+◌, ◌-◌, ◌*◌, ◌/◌, ◌%◌, ◌∙◌, ℕ, List, [], ◌∷◌, true, refl, sym, ap, subst, length, arith, rules}
+use Rattle.std.proofs.Common.{◌≡◌, ◌+◌, ◌/◌, ◌∙◌, ℕ, List, [], ◌∷◌, true, refl, sym, ap, subst, arith, rules}
 use Rattle.std.proofs.lemmas.Result.{err_from_is_err_and}
 use Rattle.page_tags.specs.Headers.{is_present}
 use Rattle.pages.specs.State.{PagesState}
 use Rattle.pages.specs.declared.change.FreshPage.{FreshPage}
-use Rattle.file_io.specs.Chunks.{AreOf, HoldsChunk, HoldChunks, IsTail}
+use Rattle.file_io.specs.Chunks.{AreOf, HoldChunks, IsTail}
 use Rattle.file_io.proofs.PageLists.{of_one, hold_none, hold_push, of_chunk}
 use Rattle.file_io.proofs.chunk.tail_pages.Goals as goal
 

@@ -1,4 +1,4 @@
-use Rattle.std.proofs.Common.{◌≡◌, ◌-◌, ◌∙◌, ℕ, replicate, List, rules, ap, sym}
+use Rattle.std.proofs.Common.{◌≡◌, ◌-◌, replicate, rules}
 use Rattle.file_io.proofs.HeadBits.{empty_header}
 use Rattle.file_io.proofs.head.create.Goals as goal
 

@@ -1,11 +1,10 @@
-use Rattle.std.proofs.Common.{◌≡◌, ◌⊎◌, ◌<◌, ◌≤◌, ◌+◌, ◌-◌, ◌*◌, ◌/◌, ◌^◌, ◌++◌, ◌∙◌, ℕ, List, [], cond, refl, ap, sym, subst, take, drop, length, min, arith, rules}
+use Rattle.std.proofs.Common.{◌≡◌, ◌⊎◌, ◌<◌, ◌≤◌, ◌+◌, ◌-◌, ◌*◌, ◌/◌, ◌^◌, ◌∙◌, ℕ, List, cond, refl, ap, sym, subst, take, drop, length, min, arith, rules}
 use Rattle.std.proofs.lemmas.Result.{err_from_is_err_and}
-use Rattle.pages.specs.State.{PagesState, OnlyFinds}
+use Rattle.pages.specs.State.{PagesState}
 use Rattle.pages.specs.StateLaws.{finds_on}
-use Rattle.volume_terms.specs.Sizes.{Sizes}
 use Rattle.page_tags.specs.Headers.{IsHeader, is_present}
-use Rattle.file_io.specs.Files.{FileIn, fields_in}
-use Rattle.file_io.specs.Chunks.{chunks_over, count_present}
+use Rattle.file_io.specs.Files.{fields_in}
+use Rattle.file_io.specs.Chunks.{count_present}
 use Rattle.file_io.specs.Parts.{AppendsPart}
 use Rattle.file_io.proofs.FilePages.{later}
 use Rattle.file_io.proofs.HeadBits.{small_length}

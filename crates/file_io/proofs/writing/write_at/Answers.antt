@@ -1,11 +1,9 @@
-use Rattle.std.proofs.Common.{◌≡◌, ◌⊎◌, ◌≤◌, ◌<◌, ◌+◌, ◌-◌, ◌*◌, ◌/◌, ◌%◌, ◌++◌, ◌∙◌, ℕ, List, [], ◌∷◌, true, false, max, min, inl, inr, refl, sym, ap, subst, length, arith, rules}
+use Rattle.std.proofs.Common.{◌≡◌, ◌≤◌, ◌+◌, ◌-◌, ◌*◌, ◌/◌, ◌%◌, ◌++◌, ◌∙◌, ℕ, List, [], ◌∷◌, true, false, min, refl, sym, ap, subst, length, arith, rules}
 use Rattle.std.proofs.lemmas.List.{length-append, with_items_is, places}
 use Rattle.std.proofs.lemmas.Result.{err_from_is_err_and}
-use Rattle.page_tags.specs.Headers.{IsHeader, IsBytes, is_present}
+use Rattle.page_tags.specs.Headers.{IsHeader, is_present}
 use Rattle.posix_profile.specs.Changes.{written}
-use Rattle.volume_terms.specs.Sizes.{Sizes}
 use Rattle.pages.specs.Changes.{AreSized}
-use Rattle.pages.specs.Maps.{IsOf}
 use Rattle.pages.specs.State.{PagesState}
 use Rattle.pages.specs.declared.change.Change.{Change}
 use Rattle.pages.specs.declared.change.FreshPage.{FreshPage}

@@ -1,0 +1,98 @@
+// The length of a file.
+ghost use Rattle.std.specs.Prelude.{◌≡◌, ◌<◌, ◌≤◌, ◌⊎◌, ◌+◌, ◌-◌, ◌*◌, ◌/◌, ◌^◌, ℕ, List, true, false, IfOk, IfErr, OnOk, length, min};
+ghost use Rattle.page_tags.specs.Headers.{greatest_length, is_present};
+ghost use Rattle.page_tags.specs.declared.header.ObjectKind.TheVariants as kinds;
+ghost use Rattle.posix_profile.specs.Changes.{resized};
+ghost use Rattle.volume_terms.specs.Sizes.{Sizes};
+ghost use Rattle.pages.specs.Maps.{changed};
+ghost use Rattle.pages.specs.Changes.{IsChange, IsNothing, IsOnlyOf};
+ghost use Rattle.pages.specs.State.{OnlyFinds};
+ghost use Rattle.pages.specs.Faults.{MayLackMemory, SaysWhyMaking};
+ghost use Rattle.file_io.specs.Files.{Becomes, FileIn, HasFileHeader};
+ghost use Rattle.file_io.specs.Cuts.{CutsFrom};
+
+use crate::bits::mark;
+use crate::chunk::tail_pages;
+use crate::head::{head_page, read_head};
+use pages::{Change, Cut, PageFault, Pages};
+use std::alloc::{AllocError, Global};
+
+/// Before which chunk the last one of a file has to be written anew, where the file grows to so many chunks.
+fn tail_limit(old: u64, len: u64, chunks: u64) -> u64
+    ensures grows { old < len → result ≡ chunks }
+    ensures cuts { len ≤ old → result ≡ 0 }
+{
+    if old < len { chunks } else { 0 }
+}
+
+/// The cut of an object's chunks, of which so many stay, whose presence bits are cleared. Where the file has no more
+/// than that, nothing is cut.
+fn cut_chunks(
+    alloc: Global,
+    object: u64,
+    bits: &mut [u8],
+    kept: u64,
+    chunks: u64,
+) -> Result<Vec<Cut>, AllocError>
+    requires small { kept < 2 ^ 32 }
+    requires short { chunks < 2 ^ 32 }
+    requires within { chunks ≤ 8 * length bits.old }
+    ensures cuts { IfOk result (λ cuts. CutsFrom object kept chunks cuts.items) }
+    ensures cleared { (k : ℕ) → kept ≤ k → k < chunks → OnOk result (is_present bits.new (1 + k) ≡ false) }
+    ensures others { (k : ℕ) → (k < kept) ⊎ (chunks ≤ k) → is_present bits.new (1 + k) ≡ is_present bits.old (1 + k) }
+{
+    if chunks <= kept {
+        return Ok(Vec::new(alloc));
+    }
+    let cut = Cut {
+        object,
+        from: 1 + kept,
+    };
+    let cuts = vec![in alloc; cut]?;
+    mark(bits, kept, chunks, false);
+    Ok(cuts)
+}
+
+/// The change that cuts a file to a length, or lets it grow to that with zeros, at this moment.
+///
+/// It has the header, if that says something else than before, and the page of the last chunk where the file grows
+/// past it; the chunks past the end are cut. These two pages are asked for.
+pub fn set_length<P: Pages>(
+    alloc: Global,
+    pages: &mut P,
+    object: u64,
+    len: u64,
+    moment: u64,
+) -> Result<Change, PageFault>
+    requires { len ≤ greatest_length (P.state pages.old).page_bytes kinds.File }
+    ensures finds { OnlyFinds (P.state pages.old) (P.state pages.new) }
+    ensures sets { (z : Sizes) (before : ℕ) (all : List ℕ) (f : FileIn (P.state pages.old) z object before all)
+        → IfOk result (λ change. Becomes z (P.state pages.old).present (changed change (P.state pages.old).present) object f.reads.fields
+        moment (resized all len)) }
+    ensures same { (z : Sizes) (before : ℕ) (all : List ℕ) (f : FileIn (P.state pages.old) z object before all) → moment ≡ before → len ≡ length all
+        → IfOk result IsNothing }
+    ensures only { IfOk result (λ change. IsOnlyOf change object) }
+    ensures change { IfOk result (λ change. IsChange change (P.state pages.old).page_bytes 2) }
+    ensures asked { (z : Sizes) (before : ℕ) (all : List ℕ) (f : FileIn (P.state pages.old) z object before all)
+        → (P.state pages.new).asked ≤ (P.state pages.old).asked + 1 + min 1 (len - length all) }
+    ensures told { (P.state pages.old).sound ≡ true → OnOk result (HasFileHeader (P.state pages.old) object) }
+    ensures why { IfErr result (SaysWhyMaking (P.state pages.new)) }
+    ensures fault { (z : Sizes) (before : ℕ) (all : List ℕ) (f : FileIn (P.state pages.old) z object before all)
+        → IfErr result (MayLackMemory (P.state pages.new)) }
+{
+    let mut head = read_head(alloc, pages, object)?;
+    let page_bytes = pages.page_bytes();
+    let size = u64::from(page_bytes);
+    let mut change = Change::none(alloc);
+    if head.length == len && head.moment == moment {
+        return Ok(change);
+    }
+    let kept = (len + size - 1) / size;
+    let chunks = (head.length + size - 1) / size;
+    let limit = tail_limit(head.length, len, kept);
+    change.pages = tail_pages(alloc, pages, object, &head, limit)?;
+    change.cuts = cut_chunks(alloc, object, &mut head.bits, kept, chunks)?;
+    let header = head_page(alloc, page_bytes, object, len, moment, &head.bits)?;
+    change.pages.push(header)?;
+    Ok(change)
+}

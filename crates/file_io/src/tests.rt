@@ -1,0 +1,259 @@
+// Files over pages in memory.
+ghost use Rattle.std.specs.Prelude.{◌≡◌, ◌-◌, ◌*◌};
+ghost use Rattle.pages.specs.MemoryState.{kept};
+
+use super::*;
+use pages::{Change, Lack, MemPages, PageFault, Pages, Refusal};
+use rand_core::utils::NextWord;
+use rand_pcg::Pcg32;
+use std::alloc::Global;
+use std::test::Fail;
+
+const FILE: u64 = 5;
+
+/// A store with a file of no bytes.
+fn empty_file(alloc: Global, page_bytes: u32) -> Result<MemPages, Fail> {
+    if !(512..=4096).contains(&page_bytes) {
+        return Err("no such page".into());
+    }
+    let pages = MemPages::new(alloc, page_bytes)?;
+    let header = create(alloc, &pages, FILE, 0)?;
+    let change = Change {
+        pages: vec![in alloc; header]?,
+        cuts: Vec::new(alloc),
+    };
+    Ok(pages.apply(alloc, change)?)
+}
+
+/// The most bytes of a file.
+fn greatest(pages: &MemPages) -> u64
+    ensures { result ≡ 8 * ((kept pages.now).page_bytes - 32) * (kept pages.now).page_bytes }
+{
+    let page_bytes = u64::from(pages.page_bytes());
+    8 * (page_bytes - 32) * page_bytes
+}
+
+/// The store after a write.
+fn written(
+    alloc: Global,
+    mut pages: MemPages,
+    offset: u64,
+    bytes: &[u8],
+    moment: u64,
+) -> Result<MemPages, Fail> {
+    let most = greatest(&pages);
+    if offset > most || bytes.len() as u64 > most - offset {
+        return Err("too long".into());
+    }
+    let change = write_at(alloc, &mut pages, FILE, offset, bytes, moment)?;
+    Ok(pages.apply(alloc, change)?)
+}
+
+/// The store after a change of the length.
+fn resized(alloc: Global, mut pages: MemPages, len: u64, moment: u64) -> Result<MemPages, Fail> {
+    if len > greatest(&pages) {
+        return Err("too long".into());
+    }
+    let change = set_length(alloc, &mut pages, FILE, len, moment)?;
+    Ok(pages.apply(alloc, change)?)
+}
+
+#[test]
+fn a_gap_reads_as_zeros(rt: HostRuntime) -> Result<(), Fail> {
+    let alloc = rt.alloc();
+    let mut pages = written(alloc, empty_file(alloc, 512)?, 1000, b"x", 7)?;
+    assert_eq!(rt;
+        read_info(&mut pages, FILE)?,
+        FileInfo {
+            length: 1001,
+            moment: 7
+        }
+    );
+    let read = read_at(alloc, &mut pages, FILE, 998, 5)?;
+    assert_eq!(rt; read.as_slice(), b"\0\0x".as_slice());
+    assert_eq!(rt; read_at(alloc, &mut pages, FILE, 1001, 5)?.len(), 0);
+    Ok(())
+}
+
+#[test]
+fn what_was_cut_does_not_come_back(rt: HostRuntime) -> Result<(), Fail> {
+    let alloc = rt.alloc();
+    let pages = written(alloc, empty_file(alloc, 512)?, 0, &[b'x'; 1000], 1)?;
+    let mut pages = resized(alloc, resized(alloc, pages, 100, 2)?, 600, 3)?;
+    assert_eq!(rt;
+        read_info(&mut pages, FILE)?,
+        FileInfo {
+            length: 600,
+            moment: 3
+        }
+    );
+    let read = read_at(alloc, &mut pages, FILE, 99, 501)?;
+    assert_eq!(rt; read.len(), 501);
+    assert_eq!(rt; read[0], b'x');
+    assert!(rt; read[1..].iter().all(|byte| *byte == 0));
+    Ok(())
+}
+
+#[test]
+fn a_file_has_its_greatest_length(rt: HostRuntime) -> Result<(), Fail> {
+    let alloc = rt.alloc();
+    let mut pages = written(alloc, empty_file(alloc, 512)?, 1_966_079, b"x", 1)?;
+    assert_eq!(rt; read_info(&mut pages, FILE)?.length, 1_966_080);
+    let read = read_at(alloc, &mut pages, FILE, 1_966_078, 5)?;
+    assert_eq!(rt; read.as_slice(), b"\0x".as_slice());
+    let mut pages = resized(alloc, empty_file(alloc, 512)?, 1_966_080, 1)?;
+    assert_eq!(rt; read_info(&mut pages, FILE)?.length, 1_966_080);
+    Ok(())
+}
+
+#[test]
+fn bytes_are_appended(rt: HostRuntime) -> Result<(), Fail> {
+    let alloc = rt.alloc();
+    let pages = written(alloc, empty_file(alloc, 512)?, 0, b"ab", 1)?;
+    let mut pages = written(alloc, pages, 2, b"cd", 1)?;
+    assert_eq!(rt;
+        read_at(alloc, &mut pages, FILE, 0, 10)?.as_slice(),
+        b"abcd".as_slice()
+    );
+    Ok(())
+}
+
+#[test]
+fn the_header_says_what_was_written(rt: HostRuntime) -> Result<(), Fail> {
+    let alloc = rt.alloc();
+    let mut pages = empty_file(alloc, 512)?;
+    let change = write_at(alloc, &mut pages, FILE, 0, b"hello", 7)?;
+    assert_eq!(rt; change.pages.len(), 2);
+    let header = change.pages.as_slice().last().ok_or("no header")?;
+    assert_eq!(rt; header.key.chunk, 0);
+    let said = header.bytes.as_slice().get(..33).ok_or("no page")?;
+    let want = b"NLFS\x02\x01\0\0\x05\0\0\0\0\0\0\0\x07\0\0\0\0\0\0\0\0\0\0\0\0\0\0\0\x01";
+    assert_eq!(rt; said, want.as_slice());
+    let mut pages = written(alloc, pages, 0, b"hello", 7)?;
+    let nothing = write_at(alloc, &mut pages, FILE, 3, b"", 9)?;
+    assert_eq!(rt; nothing.pages.len(), 0);
+    let again = write_at(alloc, &mut pages, FILE, 1, b"a", 7)?;
+    assert_eq!(rt; again.pages.len(), 1);
+    Ok(())
+}
+
+#[test]
+fn a_write_has_few_pages(rt: HostRuntime) -> Result<(), Fail> {
+    let alloc = rt.alloc();
+    let mut pages = empty_file(alloc, 512)?;
+    let change = write_at(alloc, &mut pages, FILE, 0, &[1; 2560], 1)?;
+    assert_eq!(rt; change.pages.len(), 6);
+    let mut pages = written(alloc, pages, 0, b"old end", 1)?;
+    let change = write_at(alloc, &mut pages, FILE, 600, &[1; 2560], 1)?;
+    assert_eq!(rt; change.pages.len(), 8);
+    Ok(())
+}
+
+#[test]
+fn what_is_no_file_is_damaged(rt: HostRuntime) -> Result<(), Fail> {
+    let alloc = rt.alloc();
+    let mut pages = empty_file(alloc, 512)?;
+    assert_eq!(rt;
+        read_at(alloc, &mut pages, 9, 0, 1).err(),
+        Some(PageFault::Damaged)
+    );
+    assert_eq!(rt; read_info(&mut pages, 9).err(), Some(PageFault::Damaged));
+    assert!(rt; write_at(alloc, &mut pages, 9, 0, b"a", 1).is_err());
+    assert!(rt; set_length(alloc, &mut pages, 9, 1, 1).is_err());
+    Ok(())
+}
+
+#[test]
+fn each_refused_look_up_changes_nothing(rt: HostRuntime) -> Result<(), Fail> {
+    let alloc = rt.alloc();
+    for number in 1..4 {
+        let mut pages = written(alloc, empty_file(alloc, 512)?, 0, &[1; 700], 1)?;
+        let lack = if number == 2 {
+            Lack::Device
+        } else {
+            Lack::Memory
+        };
+        let number = pages.finds().saturating_add(number);
+        pages.refuse(Refusal { number, lack });
+        assert!(rt; write_at(alloc, &mut pages, FILE, 300, &[2; 300], 2).is_err());
+        let mut pages = written(alloc, pages, 300, &[2; 300], 2)?;
+        let read = read_at(alloc, &mut pages, FILE, 298, 304)?;
+        assert_eq!(rt; read.len(), 304);
+        assert!(rt; read[..2].iter().all(|byte| *byte == 1));
+        assert!(rt; read[2..302].iter().all(|byte| *byte == 2));
+        assert!(rt; read[302..].iter().all(|byte| *byte == 1));
+    }
+    Ok(())
+}
+
+/// What a file should have: so many of the bytes, zeros behind them.
+#[derive(Drop)]
+struct Plain {
+    bytes: Vec<u8>,
+    len: usize,
+}
+
+impl Plain {
+    fn write(&mut self, offset: usize, bytes: &[u8]) {
+        for (i, byte) in bytes.iter().enumerate() {
+            if let Some(place) = self.bytes.get_mut(offset.saturating_add(i)) {
+                *place = *byte;
+            }
+        }
+        self.len = self.len.max(offset.saturating_add(bytes.len()));
+    }
+
+    fn resize(&mut self, len: usize) {
+        for i in len..self.bytes.len() {
+            self.bytes[i] = 0;
+        }
+        self.len = len;
+    }
+
+    fn is(&self, read: &[u8]) -> bool {
+        Some(read) == self.bytes.as_slice().get(..self.len)
+    }
+}
+
+/// Writes, cuts and growths at random places, each compared with the plain bytes.
+fn change_at_random(alloc: Global, random: &mut Pcg32, page_bytes: u32) -> Result<bool, Fail> {
+    let mut pages = empty_file(alloc, page_bytes)?;
+    let mut plain = Plain {
+        bytes: vec![in alloc; 0u8; 20_000]?,
+        len: 0,
+    };
+    for step in 0..60u64 {
+        let place = random.next_word() % 10_000;
+        let count = random.next_word() % 5_000;
+        if random.next_word() % 3 == 0 {
+            pages = resized(alloc, pages, u64::from(place), step)?;
+            plain.resize(place as usize);
+        } else {
+            let bytes = vec![in alloc; 1 + (step % 200) as u8; count as usize]?;
+            pages = written(alloc, pages, u64::from(place), &bytes, step)?;
+            if count > 0 {
+                plain.write(place as usize, &bytes);
+            }
+        }
+        let read = read_at(alloc, &mut pages, FILE, 0, 100_000)?;
+        let from = random.next_word() % 10_000;
+        let part = read_at(alloc, &mut pages, FILE, u64::from(from), 3_000)?;
+        let end = (from as usize + 3_000).min(read.len());
+        if !plain.is(&read)
+            || part.as_slice() != read.as_slice().get(from as usize..end).unwrap_or(b"")
+        {
+            return Ok(false);
+        }
+    }
+    Ok(true)
+}
+
+#[test]
+fn files_are_as_plain_bytes(rt: HostRuntime) -> Result<(), Fail> {
+    let alloc = rt.alloc();
+    let mut random = Pcg32::new(42, 54);
+    for page_bytes in [512, 1024, 2048, 4096] {
+        assert!(rt; change_at_random(alloc, &mut random, page_bytes)?);
+    }
+    Ok(())
+}

@@ -11,7 +11,7 @@ use Rattle.volume_terms.specs.Sizes.{Sizes}
 use Rattle.pages.specs.Maps.{PageMap, has}
 use Rattle.pages.specs.State.{PagesState}
 use Rattle.file_io.specs.Files.{FileIn, HasOnly, Becomes}
-use Rattle.file_io.specs.Chunks.{HoldsChunk}
+use Rattle.file_io.specs.Chunks.{HoldsChunk, IsAmong}
 use Rattle.file_io.proofs.FilePages.{byte_in, ByteIn}
 
 -- a chunk of which there is a new page
@@ -68,8 +68,9 @@ module _ (p : PagesState) (z : Sizes) (o before moment : ℕ) (all new : List �
         | inr (inr x) ↦ x.page
       ])
 
-  pub becomes : Becomes z p.present m o f.reads.fields moment new
-  becomes = record {
+  pub becomes : (first end : ℕ) → ((k : ℕ) → first ≤ k → k < end → is_present head.bits (1 + k) ≡ true)
+      → ((k : ℕ) → is_present head.bits (1 + k) ≡ true → (is_present f.reads.fields.bits (1 + k) ≡ true) ⊎ IsAmong first end (1 + k)) → Becomes z p.present m o f.reads.fields first end moment new
+  becomes first end written others = record {
     reads = record {
       fields = head;
       has = (there, subst (λ n. IsHeader n head) size valid);
@@ -78,5 +79,11 @@ module _ (p : PagesState) (z : Sizes) (o before moment : ℕ) (all new : List �
       size = long;
       each = new_at;
     };
+    written = λ c among.
+        let place : 1 + (c - 1) ≡ c = omega (arith, among.from) in
+        sym (ap (is_present head.bits) place) ∙ written (c - 1) (omega (arith, among.from)) (omega (arith, among.from, among.to));
+    others = λ c some set.
+        let place : 1 + (c - 1) ≡ c = omega (arith, some) in
+        subst (λ n. (is_present f.reads.fields.bits n ≡ true) ⊎ IsAmong first end n) place (others (c - 1) (ap (is_present head.bits) place ∙ set));
     only = only;
   }

@@ -14,7 +14,7 @@ use Rattle.pages.specs.declared.change.Change.{Change}
 use Rattle.pages.specs.declared.change.Cut.{Cut}
 use Rattle.pages.specs.declared.change.FreshPage.{FreshPage}
 use Rattle.file_io.specs.Files.{FileIn, Becomes, fields_in}
-use Rattle.file_io.specs.Chunks.{AreOf, HoldChunks, IsTail}
+use Rattle.file_io.specs.Chunks.{AreOf, HoldChunks, IsTail, IsAmong}
 use Rattle.file_io.specs.Cuts.{CutsFrom}
 use Rattle.file_io.proofs.Becoming.{becomes}
 use Rattle.file_io.proofs.PageLists.{last_place, hold_push}
@@ -84,7 +84,7 @@ tail_grows o d len limit n bits all pages (inr none) of hold i k p is chunk = ab
 module _ (p : PagesState) (z : Sizes) (o before : ℕ) (all : List ℕ) (f : FileIn p z o before all) (d : ℕ) (size : d ≡ z.page_bytes) (some : 1 ≤ d)
     (len : ℕ) (len_is : len ≡ length all) (was : List ℕ) (was_is : was ≡ f.reads.fields.bits) (n moment : ℕ) where
   -- a file that has the length and the moment already
-  pub resize_same : n ≡ len → f.reads.fields.moment ≡ moment → (change : Change) → change.pages.items ≡ [] → change.cuts.items ≡ [] → Becomes z p.present (changed change p.present) o f.reads.fields moment (resized all n)
+  pub resize_same : n ≡ len → f.reads.fields.moment ≡ moment → (change : Change) → change.pages.items ≡ [] → change.cuts.items ≡ [] → Becomes z p.present (changed change p.present) o f.reads.fields 0 0 moment (resized all n)
   resize_same is when change no_pages no_cuts =
       let stays = λ (c : ℕ). keeps change no_pages no_cuts c in
       becomes p z o before moment all (resized all n) f d size some (changed change p.present) f.reads.fields (stays 0 ∙ f.reads.has.0)
@@ -95,6 +95,7 @@ module _ (p : PagesState) (z : Sizes) (o before : ℕ) (all : List ℕ) (f : Fil
         same = λ j less within. grown_at all n (omega (arith, is, len_is)) (k * d + j);
         hole = λ j less within past. absurd (omega (arith, within, past, is, len_is, length-resized all n));
       })))
+      0 0 (λ k low high. absurd (omega (arith, high))) (λ k is. inl is)
     where
       keeps : (change : Change) → change.pages.items ≡ [] → change.cuts.items ≡ [] → (c : ℕ) → changed change p.present o c ≡ p.present o c
       keeps change no_pages no_cuts c =
@@ -151,7 +152,13 @@ module _ (p : PagesState) (z : Sizes) (o before : ℕ) (all : List ℕ) (f : Fil
       )
     ]
 
-    pub resize_new : Becomes z p.present (changed change p.present) o f.reads.fields moment (resized all n)
+    old_bit : (k : ℕ) → is_present bits (1 + k) ≡ true → (is_present f.reads.fields.bits (1 + k) ≡ true) ⊎ IsAmong 0 0 (1 + k)
+    old_bit k is = elim (cases_lt k ((n + d - 1) / d)) [
+      | inl low ↦ inl (ap (λ (xs : List ℕ). is_present xs (1 + k)) (sym was_is) ∙ sym (others k (inl low)) ∙ is)
+      | inr high ↦ let two : true ≡ false = sym is ∙ unset_past k high in absurd cc
+    ]
+
+    pub resize_new : Becomes z p.present (changed change p.present) o f.reads.fields 0 0 moment (resized all n)
     resize_new =
         let IsOne : ℕ → Type 0 = IsTail d len was limit in
         let pushed = header_push o (IsTail d len was limit) pages q of (λ tail. omega (arith, tail.chunk)) object chunk in
@@ -166,3 +173,4 @@ module _ (p : PagesState) (z : Sizes) (o before : ℕ) (all : List ℕ) (f : Fil
         (resize_chunks p z o before all f d size some len len_is was was_is n limit ((n + d - 1) / d) (ceil_low n d some) (ceil_high n d some) (λ more. grows (omega (arith, more, len_is))) (λ less. stays (omega (arith, less, len_is)))
         (OrHeader (IsTail d len was limit)) change.pages.items of' (but_header (IsTail d len was limit)) (λ c is. inl is) hold' bits (λ k low. others k (inl low)) (without_cuts change.cuts.items p.present)
         (λ k low. uncut_before (1 + k) (omega (arith, low))) past)
+        0 0 (λ k low high. absurd (omega (arith, high))) old_bit

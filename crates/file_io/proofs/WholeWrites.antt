@@ -15,7 +15,7 @@ use Rattle.pages.specs.declared.change.Change.{Change}
 use Rattle.pages.specs.declared.change.Cut.{Cut}
 use Rattle.pages.specs.declared.change.FreshPage.{FreshPage}
 use Rattle.file_io.specs.Files.{FileIn, Becomes, fields_in}
-use Rattle.file_io.specs.Chunks.{AreOf, HoldChunks, IsWritten}
+use Rattle.file_io.specs.Chunks.{AreOf, HoldChunks, IsAmong, IsWritten}
 use Rattle.file_io.proofs.Becoming.{becomes}
 use Rattle.file_io.proofs.Filling.{among_chunks, chunk_order}
 use Rattle.file_io.proofs.PageLists.{last_place, none_of, of_push, hold_push}
@@ -110,7 +110,7 @@ module _ (p : PagesState) (z : Sizes) (o before : ℕ) (all : List ℕ) (f : Fil
   -- a write that leaves the header as it was
   pub write_same : (change : Change) → change.pages.items ≡ pages → change.cuts.items ≡ [] → f.reads.fields.moment ≡ moment → off + length bytes ≤ len
       → ((k : ℕ) → off / d ≤ k → k < (off + length bytes - 1) / d + 1 → is_present was (1 + k) ≡ true)
-      → Becomes z p.present (changed change p.present) o f.reads.fields moment (written all off bytes)
+      → Becomes z p.present (changed change p.present) o f.reads.fields (off / d) ((off + length bytes - 1) / d + 1) moment (written all off bytes)
   write_same change items cuts when fits set =
       let IsOne : ℕ → Type 0 = IsWritten d len was (off / d) ((off + length bytes - 1) / d + 1) in
       let m : PageMap = without_cuts change.cuts.items p.present in
@@ -122,13 +122,14 @@ module _ (p : PagesState) (z : Sizes) (o before : ℕ) (all : List ℕ) (f : Fil
       (subst (λ n. IsHeader n f.reads.fields) (sym size) f.reads.has.1) f.reads.kind when (f.reads.size ∙ sym len_is ∙ omega (arith, fits, len_is, length-written all off bytes))
       (write_chunks p z o before all f d size some len len_is was was_is off bytes any IsOne change.pages.items of' (λ c first is. is) (λ c is. is) hold' f.reads.fields.bits
       (λ k low high. ap (λ (xs : List ℕ). is_present xs (1 + k)) (sym was_is) ∙ set k low high) (λ k outside. ap (λ (xs : List ℕ). is_present xs (1 + k)) (sym was_is)) m same)
+      (off / d) ((off + length bytes - 1) / d + 1) (λ k low high. ap (λ (xs : List ℕ). is_present xs (1 + k)) (sym was_is) ∙ set k low high) (λ k is. inl is)
 
   -- a write with a header
   pub write_new : (change : Change) (q : FreshPage) (long : ℕ) (bits : List ℕ) → change.pages.items ≡ pages ++ q ∷ [] → change.cuts.items ≡ [] → q.key.object ≡ o → q.key.chunk ≡ 0
       → q.bytes.items ≡ header_bytes (fields_in long moment bits) → IsHeader d (fields_in long moment bits) → long ≡ max len (off + length bytes)
       → ((k : ℕ) → off / d ≤ k → k < (off + length bytes - 1) / d + 1 → is_present bits (1 + k) ≡ true)
       → ((k : ℕ) → (k < off / d) ⊎ ((off + length bytes - 1) / d + 1 ≤ k) → is_present bits (1 + k) ≡ is_present was (1 + k))
-      → Becomes z p.present (changed change p.present) o f.reads.fields moment (written all off bytes)
+      → Becomes z p.present (changed change p.present) o f.reads.fields (off / d) ((off + length bytes - 1) / d + 1) moment (written all off bytes)
   write_new change q long bits items cuts object chunk header valid long_is marked others =
       let IsOne : ℕ → Type 0 = IsWritten d len was (off / d) ((off + length bytes - 1) / d + 1) in
       let m : PageMap = without_cuts change.cuts.items p.present in
@@ -142,3 +143,15 @@ module _ (p : PagesState) (z : Sizes) (o before : ℕ) (all : List ℕ) (f : Fil
       becomes p z o before moment all (written all off bytes) f d size some (changed change p.present) (fields_in long moment bits) at valid refl refl
       (long_is ∙ omega (arith, len_is, length-written all off bytes))
       (write_chunks p z o before all f d size some len len_is was was_is off bytes any (OrHeader IsOne) change.pages.items of' (but_header IsOne) (λ c is. inl is) hold' bits marked others m same)
+      (off / d) ((off + length bytes - 1) / d + 1) marked (λ k is. new_bit k bits is marked others)
+    where
+      new_bit : (k : ℕ) (bits : List ℕ) → is_present bits (1 + k) ≡ true → ((k : ℕ) → off / d ≤ k → k < (off + length bytes - 1) / d + 1 → is_present bits (1 + k) ≡ true)
+          → ((k : ℕ) → (k < off / d) ⊎ ((off + length bytes - 1) / d + 1 ≤ k) → is_present bits (1 + k) ≡ is_present was (1 + k))
+          → (is_present f.reads.fields.bits (1 + k) ≡ true) ⊎ IsAmong (off / d) ((off + length bytes - 1) / d + 1) (1 + k)
+      new_bit k bits is marked others = elim (cases_lt k (off / d)) [
+        | inl below ↦ inl (ap (λ (xs : List ℕ). is_present xs (1 + k)) (sym was_is) ∙ sym (others k (inl below)) ∙ is)
+        | inr from ↦ elim (cases_lt k ((off + length bytes - 1) / d + 1)) [
+          | inl to ↦ inr (record { from = omega (arith, from); to = omega (arith, to) })
+          | inr past ↦ inl (ap (λ (xs : List ℕ). is_present xs (1 + k)) (sym was_is) ∙ sym (others k (inr past)) ∙ is)
+        ]
+      ]

@@ -1,5 +1,5 @@
 -- A file of a store's pages, and what a change makes of it.
-use Rattle.std.specs.Prelude.{◌≡◌, ◌≤◌, ℕ, true, false, List, Some, None}
+use Rattle.std.specs.Prelude.{◌≡◌, ◌⊎◌, ◌≤◌, ℕ, true, false, List, Some, None}
 use Rattle.page_tags.specs.Headers.{Fields, IsHeader, header_bytes, is_present}
 use Rattle.page_tags.specs.declared.header.Format.TheVariants as formats
 use Rattle.page_tags.specs.declared.header.ObjectKind.TheVariants as kinds
@@ -7,6 +7,7 @@ use Rattle.flash_tree.specs.Tree.{ReadsFile}
 use Rattle.volume_terms.specs.Sizes.{Sizes}
 use Rattle.pages.specs.Maps.{PageMap, has}
 use Rattle.pages.specs.State.{PagesState}
+use Rattle.file_io.specs.Chunks.{IsAmong}
 
 -- the object is this file, in a sound store with pages of this size
 pub record FileIn (p : PagesState) (z : Sizes) (o moment : ℕ) (bytes : List ℕ) : Type 0 where
@@ -29,7 +30,10 @@ fields_in len moment bits = record { format = formats.Two; kind = kinds.File; sp
 abbrev pub HasOnly : PageMap → ℕ → Fields → Type 0
 HasOnly m o f = (c : ℕ) → 1 ≤ c → is_present f.bits c ≡ false → m o c ≡ None
 
--- The object is this file in the new pages; and has there no chunk that its header does not name, if it had none in the old.
-pub record Becomes (z : Sizes) (old new : PageMap) (o : ℕ) (f : Fields) (moment : ℕ) (bytes : List ℕ) : Type 0 where
+-- The object is this file in the new pages, where it was one with the header f in the old. Of the chunks from `first` on
+-- and before `end` there are pages now, of others only where there were; and the header names all chunks, if it did before.
+pub record Becomes (z : Sizes) (old new : PageMap) (o : ℕ) (f : Fields) (first end moment : ℕ) (bytes : List ℕ) : Type 0 where
   pub reads : ReadsFile z (has new) o moment bytes
+  pub written : (c : ℕ) → IsAmong first end c → is_present reads.fields.bits c ≡ true
+  pub others : (c : ℕ) → 1 ≤ c → is_present reads.fields.bits c ≡ true → (is_present f.bits c ≡ true) ⊎ IsAmong first end c
   pub only : HasOnly old o f → HasOnly new o reads.fields

@@ -68,7 +68,7 @@ pub fn set_length<P: Pages>(
     ensures finds { OnlyFinds (P.state pages.old) (P.state pages.new) }
     ensures sets { (z : Sizes) (before : ℕ) (all : List ℕ) (f : FileIn (P.state pages.old) z object before all)
         → IfOk result (λ change. Becomes z (P.state pages.old).present (changed change (P.state pages.old).present) object f.reads.fields
-        moment (resized all len)) }
+        0 0 moment (resized all len)) }
     ensures same { (z : Sizes) (before : ℕ) (all : List ℕ) (f : FileIn (P.state pages.old) z object before all) → moment ≡ before → len ≡ length all
         → IfOk result IsNothing }
     ensures only { IfOk result (λ change. IsOnlyOf change object) }

@@ -130,7 +130,7 @@ pub fn write_at<P: Pages>(
     ensures finds { OnlyFinds (P.state pages.old) (P.state pages.new) }
     ensures writes { (z : Sizes) (before : ℕ) (all : List ℕ) (f : FileIn (P.state pages.old) z object before all) → 1 ≤ length bytes.now
         → IfOk result (λ change. Becomes z (P.state pages.old).present (changed change (P.state pages.old).present) object f.reads.fields
-        moment (written all offset bytes.now)) }
+        (offset / z.page_bytes) ((offset + length bytes.now - 1) / z.page_bytes + 1) moment (written all offset bytes.now)) }
     ensures same { length bytes.now ≡ 0
         → IfOk result IsNothing }
     ensures only { IfOk result (λ change. IsOnlyOf change object) }

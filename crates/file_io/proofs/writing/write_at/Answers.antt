@@ -4,10 +4,11 @@ use Rattle.std.proofs.lemmas.Result.{err_from_is_err_and}
 use Rattle.page_tags.specs.Headers.{IsHeader, is_present}
 use Rattle.posix_profile.specs.Changes.{written}
 use Rattle.pages.specs.Changes.{AreSized}
+use Rattle.pages.specs.Maps.{changed}
 use Rattle.pages.specs.State.{PagesState}
 use Rattle.pages.specs.declared.change.Change.{Change}
 use Rattle.pages.specs.declared.change.FreshPage.{FreshPage}
-use Rattle.file_io.specs.Files.{fields_in}
+use Rattle.file_io.specs.Files.{Becomes, fields_in}
 use Rattle.file_io.specs.Chunks.{AreOf, HoldChunks, IsAmong, IsWritten}
 use Rattle.file_io.proofs.FilePages.{later}
 use Rattle.file_io.proofs.Filling.{among_chunks}
@@ -65,8 +66,9 @@ returns-then-has_all-clause-writes g c = λ z before all f any.
     let hold : HoldChunks d (written all off c.args.bytes.now) pages =
     subst (λ x. HoldChunks x (written all off c.args.bytes.now) pages) (sym size_now) (c.in_ok-change.ensures.hold z before all (later old now z c.args.object before all c.read_head.ensures.finds f) head) in
     let change : Change = record { pages = c.in_ok-change.field-0; cuts = c.none-change.result.cuts } in
-    write_same old z c.args.object before all f d size some len (head.length_is ∙ f.reads.size) bits head.bits off c.args.bytes.now any c.args.moment pages of hold change refl c.none-change.ensures.cuts
-    (sym head.moment ∙ c.if-head-moment.true) c.if-to-head.true (λ k low high. ap (λ (xs : List ℕ). is_present xs (1 + k)) (sym c.deref.ensures.value) ∙ c.has_all.ensures.all c.if-has_all.true k low high)
+    subst (λ x. Becomes z old.present (changed change old.present) c.args.object f.reads.fields (off / x) ((off + n - 1) / x + 1) c.args.moment (written all off c.args.bytes.now)) size
+    (write_same old z c.args.object before all f d size some len (head.length_is ∙ f.reads.size) bits head.bits off c.args.bytes.now any c.args.moment pages of hold change refl c.none-change.ensures.cuts
+    (sym head.moment ∙ c.if-head-moment.true) c.if-to-head.true (λ k low high. ap (λ (xs : List ℕ). is_present xs (1 + k)) (sym c.deref.ensures.value) ∙ c.has_all.ensures.all c.if-has_all.true k low high))
 
 pub returns-then-has_all-clause-only : goal.returns-then-has_all-clause-only
 returns-then-has_all-clause-only g c =
@@ -159,10 +161,11 @@ returns-clause-writes g c = λ z before all f any.
     let bits_are : now_bits ≡ c.mark.new.bits = c.deref-2.ensures.value ∙ with_items_is c.in_ok-head.head.bits c.mark.new.bits (search (rules, places)) in
     let was : c.deref_mut.result.now ≡ bits = c.deref_mut.ensures.value in
     let valid : IsHeader d (fields_in c.max-length.result c.args.moment now_bits) = subst (λ x. IsHeader x (fields_in c.max-length.result c.args.moment now_bits)) (sym c.from-size.ensures) c.head_page.ensures.valid in
-    write_new old z c.args.object before all f d size some len (head.length_is ∙ f.reads.size) bits head.bits off c.args.bytes.now any c.args.moment pages of hold change q c.max-length.result now_bits items c.none-change.ensures.cuts
+    subst (λ x. Becomes z old.present (changed change old.present) c.args.object f.reads.fields (off / x) ((off + n - 1) / x + 1) c.args.moment (written all off c.args.bytes.now)) size
+    (write_new old z c.args.object before all f d size some len (head.length_is ∙ f.reads.size) bits head.bits off c.args.bytes.now any c.args.moment pages of hold change q c.max-length.result now_bits items c.none-change.ensures.cuts
     c.in_ok-header.ensures.object c.in_ok-header.ensures.chunk c.in_ok-header.ensures.header valid c.max-length.ensures
     (λ k low high. ap (λ (xs : List ℕ). is_present xs (1 + k)) bits_are ∙ c.mark.ensures.here k low high)
-    (λ k outside. ap (λ (xs : List ℕ). is_present xs (1 + k)) bits_are ∙ c.mark.ensures.others k outside ∙ ap (λ (xs : List ℕ). is_present xs (1 + k)) was)
+    (λ k outside. ap (λ (xs : List ℕ). is_present xs (1 + k)) bits_are ∙ c.mark.ensures.others k outside ∙ ap (λ (xs : List ℕ). is_present xs (1 + k)) was))
 
 pub returns-clause-only : goal.returns-clause-only
 returns-clause-only g c =

@@ -49,6 +49,30 @@ fn written(
     Ok(pages.apply(alloc, change)?)
 }
 
+/// The change of a write, which is asked for once more where memory was refused.
+fn write_again(alloc: Global, pages: &mut MemPages) -> Result<Change, PageFault> {
+    match write_at(alloc, pages, FILE, 300, b"again", 2) {
+        Err(PageFault::NoMemory) => write_at(alloc, pages, FILE, 300, b"again", 2),
+        change => change,
+    }
+}
+
+/// The change of a length, which is asked for once more where memory was refused.
+fn resize_again(alloc: Global, pages: &mut MemPages) -> Result<Change, PageFault> {
+    match set_length(alloc, pages, FILE, 900, 2) {
+        Err(PageFault::NoMemory) => set_length(alloc, pages, FILE, 900, 2),
+        change => change,
+    }
+}
+
+/// The bytes of a file, which are asked for once more where memory was refused.
+fn read_again(alloc: Global, pages: &mut MemPages) -> Result<Vec<u8>, PageFault> {
+    match read_at(alloc, pages, FILE, 299, 700) {
+        Err(PageFault::NoMemory) => read_at(alloc, pages, FILE, 299, 700),
+        bytes => bytes,
+    }
+}
+
 /// The store after a change of the length.
 fn resized(alloc: Global, mut pages: MemPages, len: u64, moment: u64) -> Result<MemPages, Fail> {
     if len > greatest(&pages) {
@@ -183,6 +207,21 @@ fn each_refused_look_up_changes_nothing(rt: HostRuntime) -> Result<(), Fail> {
         assert!(rt; read[2..302].iter().all(|byte| *byte == 2));
         assert!(rt; read[302..].iter().all(|byte| *byte == 1));
     }
+    Ok(())
+}
+
+// Run it with each allocation of the three calls refused in turn.
+#[test]
+fn a_refused_growth_changes_nothing(rt: HostRuntime) -> Result<(), Fail> {
+    let alloc = rt.alloc();
+    let mut pages = written(alloc, empty_file(alloc, 512)?, 0, &[1; 700], 1)?;
+    let write = write_again(alloc, &mut pages)?;
+    assert_eq!(rt; write.pages.len(), 2);
+    let resize = resize_again(alloc, &mut pages)?;
+    assert_eq!(rt; resize.pages.len(), 2);
+    let read = read_again(alloc, &mut pages)?;
+    assert_eq!(rt; read.len(), 401);
+    assert!(rt; read.iter().all(|byte| *byte == 1));
     Ok(())
 }
 

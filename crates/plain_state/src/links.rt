@@ -55,7 +55,7 @@ fn entry_count(object: &PlainObject) -> u64
 }
 
 /// How many entries a directory at this number has.
-fn entry_count_at(objects: &ObjectMap, number: u64) -> u64
+pub fn entry_count_at(objects: &ObjectMap, number: u64) -> u64
     ensures { result ≡ map.len (entries_of (map.get (objects_in objects.now) number)) }
 {
     match object_at(objects, number) {
@@ -89,7 +89,7 @@ pub(crate) fn has_entry_to(object: &PlainObject, number: u64) -> bool
 }
 
 /// The directory that names the object, and the root where none does.
-pub(crate) fn parent(objects: &ObjectMap, number: u64) -> u64
+pub fn parent(objects: &ObjectMap, number: u64) -> u64
     ensures { result ≡ parent (objects_in objects.now) number }
 {
     for (directory, object) in objects.iter() {
@@ -101,7 +101,7 @@ pub(crate) fn parent(objects: &ObjectMap, number: u64) -> u64
 }
 
 /// Whether some directory names the object.
-pub(crate) fn is_named(objects: &ObjectMap, number: u64) -> bool
+pub fn is_named(objects: &ObjectMap, number: u64) -> bool
     ensures { result ≡ is_named (objects_in objects.now) number }
 {
     for object in objects.values() {

@@ -135,7 +135,7 @@ fn entry_of(object: &PlainObject, name: &[u8]) -> Option<u64>
 }
 
 /// The object that a name leads to from a directory at this number.
-fn entry_at(objects: &ObjectMap, directory: u64, name: &[u8]) -> Option<u64>
+pub fn entry_at(objects: &ObjectMap, directory: u64, name: &[u8]) -> Option<u64>
     ensures { result ≡ map.get (entries_of (map.get (objects_in objects.now) directory)) name.now }
 {
     match object_at(objects, directory) {

@@ -1,0 +1,130 @@
+-- How a plan that is carried out ends, and a command.
+use Rattle.std.specs.Prelude.{◌≡◌, ◌≢◌, ◌⊎◌, Bool, true, false, Result, Ok, Err}
+use Rattle.std.proofs.Common.{refl, sym, ◌∙◌, ap, subst, inl, inr}
+use Rattle.std.proofs.lemmas.Bool.{false_from_ne_true, true≢false}
+use Rattle.posix_profile.specs.Outcomes.{Outcome, refuse}
+use Rattle.volume_terms.specs.Sizes.{Sizes}
+use Rattle.posix_profile.specs.laws.Sound.{IsSound}
+use Rattle.posix_profile.specs.State.{Objects, State}
+use Rattle.posix_profile.specs.Steps.{step_at, step}
+use Rattle.posix_profile.specs.declared.command.Command.{Command}
+use Rattle.posix_profile.specs.declared.command.Stamped.{Stamped}
+use Rattle.posix_profile.specs.declared.reply.Errno.{Errno}
+use Rattle.posix_profile.specs.declared.reply.Errno.TheVariants as errors
+use Rattle.posix_profile.specs.declared.reply.Reply.{Reply}
+use Rattle.posix_profile.specs.declared.reply.Reply.TheVariants as replies
+use Rattle.object_store.specs.Stores.{Meaning, IsLawful, Has}
+use Rattle.object_store.specs.StoreLaws.{has_on}
+use Rattle.object_store.specs.declared.refusal.Refusal.{Refusal}
+use Rattle.object_commands.specs.Classes.{Class, Telling, Changing, Syncing, class_of, is_error}
+use Rattle.object_commands.specs.Endings.{IsAt, Leaves, IsDone, IsPassedOver, IsStopped, Ends}
+use Rattle.object_commands.specs.Plans.{Holds, IsPlan, Plans, Suits, Did, worked, planned, handled}
+use Rattle.object_commands.specs.Tables.{handles_in}
+use Rattle.object_commands.specs.declared.plan.Plan.{Plan}
+use Rattle.object_commands.specs.declared.plan.StoreWork.{StoreWork}
+use Rattle.object_commands.specs.declared.plan.StoreWork.TheVariants as work
+use Rattle.object_commands.specs.declared.volume.Volume.{Volume}
+use Rattle.object_commands.proofs.Outcomes.{plans_is}
+
+-- a plan for a command is one for the stamped command that it is
+pub plans_step : {S : Type 0} (m : Meaning S) (z : Sizes) (read_only : Bool) (s : State) (stamped : Stamped) (command : Command) (meant : Outcome) (a b : S) → stamped.command ≡ command
+    → meant ≡ step_at z read_only s stamped.moment command → (r : Result Plan Refusal) → Plans m z (class_of command) s meant a b r → Plans m z (class_of stamped.command) s (step z read_only s stamped) a b r
+plans_step m z read_only s stamped command meant a b is means r told =
+    subst (λ c. Plans m z (class_of c) s (step_at z read_only s stamped.moment c) a b r) (sym is) (plans_is m z (class_of command) s meant (step_at z read_only s stamped.moment command) a b means r told)
+
+work_leaves : {S : Type 0} (m : Meaning S) (class : Class) (reply : Reply) (objects : Objects) (w : StoreWork) (a b : S) → Suits class reply w → Did m objects w a b → Leaves m class reply objects (worked objects w) a b
+work_leaves m Telling reply objects work.Nothing a b suits did = (refl, did)
+work_leaves m Telling reply objects (work.Change change) a b suits did = absurd suits
+work_leaves m Telling reply objects work.Commit a b suits did = absurd suits
+work_leaves m Changing reply objects work.Nothing a b suits did = inl (refl, did)
+work_leaves m Changing reply objects (work.Change change) a b suits did = inr (suits, did)
+work_leaves m Changing reply objects work.Commit a b suits did = absurd suits
+work_leaves m Syncing reply objects work.Nothing a b suits did = absurd suits
+work_leaves m Syncing reply objects (work.Change change) a b suits did = absurd suits
+work_leaves m Syncing reply objects work.Commit a b suits did = (refl, inr (suits, did))
+
+error_leaves : {S : Type 0} (m : Meaning S) (class : Class) (e : Errno) (objects : Objects) (a b : S) → m.reads a b → Leaves m class (replies.Error e) objects objects a b
+error_leaves m Telling e objects a b reads = (refl, reads)
+error_leaves m Changing e objects a b reads = inl (refl, reads)
+error_leaves m Syncing e objects a b reads = (refl, inl (refl, reads))
+
+leaves_on : {S : Type 0} (m : Meaning S) (law : IsLawful m) (class : Class) (reply : Reply) (old new : Objects) (a b c : S) → m.reads a b → Leaves m class reply old new b c → Leaves m class reply old new a c
+leaves_on m law Telling reply old new a b c reads left = (left.0, law.reads_on a b c reads left.1)
+leaves_on m law Changing reply old new a b c reads (inl same) = inl (same.0, law.reads_on a b c reads same.1)
+leaves_on m law Changing reply old new a b c reads (inr made) = inr (made.0, law.changes_on a b c old new reads made.1)
+leaves_on m law Syncing reply old new a b c reads left = (left.0, go left.1)
+  where
+    go : ((is_error reply ≡ true) × m.reads b c) ⊎ ((reply ≡ replies.Done) × m.commits old b c) → ((is_error reply ≡ true) × m.reads a c) ⊎ ((reply ≡ replies.Done) × m.commits old a c)
+    go (inl same) = inl (same.0, law.reads_on a b c reads same.1)
+    go (inr done) = inr (done.0, law.commits_on a b c old reads done.1)
+
+-- the store has what it stands for after a call
+has_after : {S : Type 0} (m : Meaning S) (law : IsLawful m) (z : Sizes) (old : Objects) (s : State) (a b : S) → Has m z old a → m.lasts a b → m.stands b s.objects → IsSound z s → Has m z s.objects b
+has_after m law z old s a b has lasts stands sound = record {
+  numbers = has.numbers;
+  sizes = law.lasts_sizes a b lasts ∙ has.sizes;
+  stands = stands;
+  forest = sound.well_formed.forest;
+  fit = sound.fit;
+}
+
+-- the volume goes on to stand for a state
+pub at_on : {S : Type 0} (m : Meaning S) (law : IsLawful m) (z : Sizes) (s : State) (a b : Volume S) → m.reads a.store b.store → b.table ≡ a.table → IsAt m z s a → IsAt m z s b
+at_on m law z s a b reads same at = record {
+  has = has_on m law z s.objects a.store b.store reads at.has;
+  handles = ap handles_in same ∙ at.handles;
+  sound = at.sound;
+}
+
+pub is_done : {S : Type 0} (m : Meaning S) (law : IsLawful m) (z : Sizes) (class : Class) (s : State) (meant : Outcome) (plan : Plan) (a b : Volume S) → IsAt m z s a → IsPlan z class s meant plan → IsSound z meant.state
+    → m.lasts a.store b.store → m.stands b.store (worked s.objects plan.work) → Did m s.objects plan.work a.store b.store → handles_in b.table ≡ handled (handles_in a.table) plan.handles → b.stopped ≡ false
+    → IsDone m z class s meant a b plan.reply
+is_done m law z class s meant plan a b at is sound lasts stands did same goes =
+    let sound' : IsSound z (planned s plan).state = subst (λ (o : Outcome). IsSound z o.state) (sym is.means) sound in
+    subst (λ o. IsDone m z class s o a b plan.reply) is.means (record {
+      reply = refl;
+      state = record {
+        has = has_after m law z s.objects (planned s plan).state a.store b.store at.has lasts stands sound';
+        handles = same ∙ ap (λ h. handled h plan.handles) at.handles;
+        sound = sound';
+      };
+      left = work_leaves m class plan.reply s.objects plan.work a.store b.store is.suits did;
+      goes_on = goes;
+    })
+
+pub is_stopped : {S : Type 0} (m : Meaning S) (z : Sizes) (class : Class) (s : State) (meant : Outcome) (plan : Plan) (a b : Volume S) (told : Reply) → IsPlan z class s meant plan
+    → m.fails s.objects (worked s.objects plan.work) a.store b.store → told ≡ replies.Error errors.EIO → b.stopped ≡ true → IsStopped m s meant a b told
+is_stopped m z class s meant plan a b told is fails reply stops = record {
+  reply = reply;
+  left = subst (λ (o : Outcome). m.fails s.objects o.state.objects a.store b.store) is.means fails;
+  stops = stops;
+}
+
+-- a command that is answered by an error
+pub error_ends : {S : Type 0} (m : Meaning S) (law : IsLawful m) (z : Sizes) (class : Class) (s : State) (meant : Outcome) (e : Errno) (a b : Volume S) → IsAt m z s a → refuse s e ≡ meant
+    → m.reads a.store b.store → b.table ≡ a.table → b.stopped ≡ false → IsDone m z class s meant a b (replies.Error e)
+error_ends m law z class s meant e a b at is reads same goes = subst (λ o. IsDone m z class s o a b (replies.Error e)) is (record {
+  reply = refl;
+  state = at_on m law z s a b reads same at;
+  left = error_leaves m class e s.objects a.store b.store reads;
+  goes_on = goes;
+})
+
+-- a plan that is carried out after calls that read; it takes memory only where the command may
+pub ends_on : {S : Type 0} (m : Meaning S) (law : IsLawful m) (z : Sizes) (class : Class) (frees takes_none : Bool) (s : State) (meant : Outcome) (a b c : Volume S) (told : Reply)
+    → m.reads a.store b.store → (takes_none ≡ true → frees ≡ true) → Ends m z class frees s meant b c told → Ends m z class takes_none s meant a c told
+ends_on m law z class frees takes_none s meant a b c told reads none (inl done) = inl (record {
+  reply = done.reply;
+  state = done.state;
+  left = leaves_on m law class meant.reply s.objects meant.state.objects a.store b.store c.store reads done.left;
+  goes_on = done.goes_on;
+})
+ends_on m law z class frees takes_none s meant a b c told reads none (inr (inl passed)) = inr (inl (
+  false_from_ne_true takes_none (λ yes'. true≢false (sym (none yes') ∙ passed.0)),
+  record { reply = passed.1.reply; state = passed.1.state; left = law.reads_on a.store b.store c.store reads passed.1.left; goes_on = passed.1.goes_on },
+))
+ends_on m law z class frees takes_none s meant a b c told reads none (inr (inr stopped)) = inr (inr (record {
+  reply = stopped.reply;
+  left = law.fails_on a.store b.store c.store s.objects meant.state.objects reads stopped.left;
+  stops = stopped.stops;
+}))

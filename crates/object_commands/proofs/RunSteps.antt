@@ -1,0 +1,192 @@
+-- A run goes on by one command.
+use Rattle.std.specs.Prelude.{◌≡◌, ◌⊎◌, ◌||◌, ◌++◌, ◌+◌, ◌<◌, ℕ, Bool, true, false, List, [], ◌∷◌, length, Some, slice_get, get_or}
+use Rattle.std.specs.List.{list_any}
+use Rattle.std.proofs.Common.{refl, sym, ◌∙◌, ap, subst, inl, inr, arith}
+use Rattle.std.proofs.lemmas.Bool.{cases_Bool, cond-true, cond-false, true≢false}
+use Rattle.std.proofs.lemmas.List.{append_assoc, append-nil, length_push}
+use Rattle.posix_profile.specs.laws.Loss.{loss_more}
+use Rattle.posix_profile.specs.Losses.{is_synced, LossLeaves}
+use Rattle.posix_profile.specs.laws.Own.{command_own}
+use Rattle.posix_profile.specs.Outcomes.{Outcome}
+use Rattle.posix_profile.specs.laws.Run.{after_more, holds_more}
+use Rattle.posix_profile.specs.Runs.{is_no_memory, is_stop, takes_no_memory, after_one, after, Replies, AllStopped, RunHolds}
+use Rattle.volume_terms.specs.Sizes.{Sizes}
+use Rattle.posix_profile.specs.laws.Sound.{IsStamped}
+use Rattle.posix_profile.specs.State.{Objects, State}
+use Rattle.posix_profile.specs.laws.Step.{AreStamped}
+use Rattle.posix_profile.specs.Steps.{step}
+use Rattle.posix_profile.specs.declared.command.Command.{Command}
+use Rattle.posix_profile.specs.declared.command.Command.TheVariants as commands
+use Rattle.posix_profile.specs.declared.command.Stamped.{Stamped}
+use Rattle.posix_profile.specs.declared.reply.Errno.{Errno}
+use Rattle.posix_profile.specs.declared.reply.Errno.TheVariants as errors
+use Rattle.posix_profile.specs.declared.reply.Reply.{Reply}
+use Rattle.posix_profile.specs.declared.reply.Reply.TheVariants as replies
+use Rattle.object_store.specs.Stores.{Meaning, IsLawful, KeepsOrSettles, settled}
+use Rattle.object_commands.specs.Classes.{Class, Telling, Changing, Syncing, class_of, is_error}
+use Rattle.object_commands.specs.Endings.{IsAt, Leaves, Ends}
+use Rattle.object_commands.specs.Running.{Ran, Runs}
+use Rattle.object_commands.specs.declared.volume.Volume.{Volume}
+
+-- what a done command leaves keeps the tree that a mount shows or settles it
+leaves_shows : {S : Type 0} (m : Meaning S) (law : IsLawful m) (class : Class) (reply : Reply) (old new : Objects) (a b : S) → Leaves m class reply old new a b → KeepsOrSettles m old a b
+leaves_shows m law Telling reply old new a b left = λ t shown. inl (law.reads_shows a b t left.1 shown)
+leaves_shows m law Changing reply old new a b (inl same) = λ t shown. inl (law.reads_shows a b t same.1 shown)
+leaves_shows m law Changing reply old new a b (inr made) = law.changes_shows a b old new made.1
+leaves_shows m law Syncing reply old new a b left = go left.1
+  where
+    go : ((is_error reply ≡ true) × m.reads a b) ⊎ ((reply ≡ replies.Done) × m.commits old a b) → KeepsOrSettles m old a b
+    go (inl same) = λ t shown. inl (law.reads_shows a b t same.1 shown)
+    go (inr done) = λ t shown. inr (law.commits_shows a b old done.1)
+
+-- a sync that is done settles it
+sync_done : {S : Type 0} (m : Meaning S) (law : IsLawful m) (reply : Reply) (old new : Objects) (a b : S) → reply ≡ replies.Done → Leaves m Syncing reply old new a b → m.shows b (settled old)
+sync_done m law reply old new a b is left = go left.1
+  where
+    go : ((is_error reply ≡ true) × m.reads a b) ⊎ ((reply ≡ replies.Done) × m.commits old a b) → m.shows b (settled old)
+    go (inl same) = let two : false ≡ true = sym (ap is_error is) ∙ same.0 in absurd cc
+    go (inr done) = law.commits_shows a b old done.1
+
+synced_is : (command : Command) (reply : Reply) → is_synced command reply ≡ true → (class_of command ≡ Syncing) × (reply ≡ replies.Done)
+synced_is commands.Sync replies.Done is = (refl, refl)
+synced_is (commands.Fsync fd) replies.Done is = (refl, refl)
+synced_is command reply is = let two : false ≡ true = is in absurd cc
+
+error_unsynced : (command : Command) (e : Errno) → is_synced command (replies.Error e) ≡ true → ⊥
+error_unsynced command e is = let done = (synced_is command (replies.Error e) is).1 in absurd cc
+
+-- One command, from the state that the volume stands for: its reply, what it leaves of the tree that a mount shows, and the state.
+pub record One {S : Type 0} (m : Meaning S) (z : Sizes) (read_only : Bool) (s : State) (c : Stamped) (r : Reply) (a b : Volume S) : Type 0 where
+  pub replies : Replies z read_only s c r
+  pub loss : KeepsOrSettles m s.objects a.store b.store
+  pub sync : is_synced c.command r ≡ true → m.shows b.store (settled s.objects)
+  pub stops : b.stopped ≡ is_stop r
+  pub state : is_stop r ≡ false → IsAt m z (after_one z read_only s c r) b
+
+one_ends : {S : Type 0} (m : Meaning S) (law : IsLawful m) (z : Sizes) (read_only : Bool) (s : State) (c : Stamped) (r : Reply) (a b : Volume S)
+    → Ends m z (class_of c.command) (takes_no_memory c.command) s (step z read_only s c) a b r → One m z read_only s c r a b
+one_ends m law z read_only s c r a b (inl done) =
+    let own = command_own s z read_only c.moment c.command in
+    let memory : is_no_memory r ≡ false = ap is_no_memory done.reply ∙ own.memory in
+    let goes : is_stop r ≡ false = ap is_stop done.reply ∙ own.goes in
+    let is : after_one z read_only s c r ≡ (step z read_only s c).state = cond-false _ _ _ memory ∙ cond-false _ _ _ goes in
+    let o = step z read_only s c in
+    record {
+      replies = inl done.reply;
+      loss = leaves_shows m law (class_of c.command) o.reply s.objects o.state.objects a.store b.store done.left;
+      sync = λ synced.
+          let told = synced_is c.command r synced in
+          sync_done m law o.reply s.objects o.state.objects a.store b.store (sym done.reply ∙ told.1) (subst (λ k. Leaves m k o.reply s.objects o.state.objects a.store b.store) told.0 done.left);
+      stops = done.goes_on ∙ sym goes;
+      state = λ _. subst (λ x. IsAt m z x b) (sym is) done.state;
+    }
+one_ends m law z read_only s c r a b (inr (inl passed)) =
+    let memory : is_no_memory r ≡ true = ap is_no_memory passed.1.reply in
+    record {
+      replies = inr (inl (memory, passed.0));
+      loss = λ t shown. inl (law.reads_shows a.store b.store t passed.1.left shown);
+      sync = λ synced. absurd (error_unsynced c.command errors.ENOMEM (ap (is_synced c.command) (sym passed.1.reply) ∙ synced));
+      stops = passed.1.goes_on ∙ sym (ap is_stop passed.1.reply);
+      state = λ _. subst (λ x. IsAt m z x b) (sym (cond-true _ _ _ memory)) passed.1.state;
+    }
+one_ends m law z read_only s c r a b (inr (inr stopped)) = record {
+  replies = inr (inr (ap is_stop stopped.reply));
+  loss = law.fails_shows a.store b.store s.objects (step z read_only s c).state.objects stopped.left;
+  sync = λ synced. absurd (error_unsynced c.command errors.EIO (ap (is_synced c.command) (sym stopped.reply) ∙ synced));
+  stops = stopped.stops ∙ sym (ap is_stop stopped.reply);
+  state = λ goes. absurd (true≢false (sym (ap is_stop stopped.reply) ∙ goes));
+}
+
+any_push : {A : Type 0} (p : A → Bool) (xs : List A) (x : A) → list_any p (xs ++ x ∷ []) ≡ (list_any p xs || p x)
+any_push p [] x = or_false (p x)
+  where
+    or_false : (b : Bool) → (b || false) ≡ b
+    or_false true = refl
+    or_false false = refl
+any_push p (y ∷ ys) x = ap (λ b. p y || b) (any_push p ys x) ∙ assoc (p y) (list_any p ys) (p x)
+  where
+    assoc : (a b c : Bool) → (a || (b || c)) ≡ ((a || b) || c)
+    assoc true b c = refl
+    assoc false b c = refl
+
+all_push : (rs : List Reply) (r : Reply) → AllStopped rs → is_stop r ≡ true → AllStopped (rs ++ r ∷ [])
+all_push [] r all stop = (stop, tt)
+all_push (x ∷ rs) r all stop = (all.0, all_push rs r all.1 stop)
+
+-- each of them is stamped
+stamped_at : (cs : List Stamped) (i : ℕ) (c : Stamped) → AreStamped cs → slice_get cs i ≡ Some c → IsStamped c
+stamped_at [] i c are is = absurd cc
+stamped_at (k ∷ cs) ℕ.zero c are is = let same : k ≡ c = cc in subst IsStamped same are.0
+stamped_at (k ∷ cs) (ℕ.suc i) c are is = stamped_at cs i c are.1 is
+
+-- from a state
+ran_more : {S : Type 0} (m : Meaning S) (z : Sizes) (s : State) (cs : List Stamped) (rs : List Reply) (c : Stamped) (r : Reply) (a b d : Volume S) → slice_get cs (length rs) ≡ Some c
+    → Ran m z s cs rs a b → b.stopped ≡ false → One m z a.read_only (after z a.read_only s cs rs) c r b d → Ran m z s cs (rs ++ r ∷ []) a d
+ran_more m z s cs rs c r a b d at ran goes one =
+    let now = after z a.read_only s cs rs in
+    let none : list_any is_stop rs ≡ false = sym ran.stops ∙ goes in
+    let more = after_more z a.read_only s cs rs c r at in
+    record {
+      holds = holds_more z a.read_only s cs rs c r at ran.holds one.replies (λ stop. absurd (true≢false (sym stop ∙ none)));
+      losses = λ t shown. loss_more (m.shows b.store) (m.shows d.store) t z a.read_only s cs rs c r at one.loss one.sync (ran.losses t shown);
+      stops = one.stops ∙ sym (any_push is_stop rs r ∙ ap (λ b. b || is_stop r) none);
+      state = λ still. subst (λ x. IsAt m z x d) (sym more) (one.state (sym one.stops ∙ still));
+    }
+
+-- once it is stopped
+ran_stopped : {S : Type 0} (m : Meaning S) (z : Sizes) (s : State) (cs : List Stamped) (rs : List Reply) (c : Stamped) (r : Reply) (a b d : Volume S) → slice_get cs (length rs) ≡ Some c
+    → Ran m z s cs rs a b → b.stopped ≡ true → r ≡ replies.Error errors.EIO → d ≡ b → Ran m z s cs (rs ++ r ∷ []) a d
+ran_stopped m z s cs rs c r a b d at ran stopped told same =
+    let stop : is_stop r ≡ true = ap is_stop told in
+    let some : list_any is_stop rs ≡ true = sym ran.stops ∙ stopped in
+    subst (λ d. Ran m z s cs (rs ++ r ∷ []) a d) (sym same) (record {
+      holds = holds_more z a.read_only s cs rs c r at ran.holds (inr (inr stop)) (λ _. stop);
+      losses = λ t shown. loss_more (m.shows b.store) (m.shows b.store) t z a.read_only s cs rs c r at (λ t is. inl is) (λ synced. absurd (error_unsynced c.command errors.EIO (ap (is_synced c.command) (sym told) ∙ synced))) (ran.losses t shown);
+      stops = stopped ∙ sym (any_push is_stop rs r ∙ ap (λ b. b || is_stop r) some);
+      state = λ goes. absurd (true≢false (sym stopped ∙ goes));
+    })
+
+-- the run, with one reply more
+pub runs_more : {S : Type 0} (m : Meaning S) (law : IsLawful m) (cs : List Stamped) (n : ℕ) (before now next : List Reply) (c : Stamped) (r : Reply) (a b d : Volume S)
+    → Runs m cs n before now a b → slice_get cs n ≡ Some c → next ≡ now ++ r ∷ [] → b.read_only ≡ a.read_only
+    → (b.stopped ≡ true → (r ≡ replies.Error errors.EIO) × (d ≡ b))
+    → (b.stopped ≡ false → IsStamped c → (z : Sizes) (s : State) → IsAt m z s b → Ends m z (class_of c.command) (takes_no_memory c.command) s (step z b.read_only s c) b d r)
+    → Runs m cs (n + 1) before next a d
+runs_more m law cs n before now next c r a b d runs is pushed same stays goes =
+    let at : slice_get cs (length runs.answered) ≡ Some c = ap (slice_get cs) runs.count ∙ is in
+    record {
+      answered = runs.answered ++ r ∷ [];
+      count = length_push runs.answered r ∙ (let one : length runs.answered + 1 ≡ n + 1 = ap (λ k. k + 1) runs.count in one);
+      behind = pushed ∙ ap (λ (rs : List Reply). rs ++ r ∷ []) runs.behind ∙ append_assoc before runs.answered (r ∷ []);
+      stopped = λ stop.
+          let was = runs.stopped stop in
+          let told = stays (ap (λ (v : Volume _). v.stopped) was.1 ∙ stop) in
+          (all_push runs.answered r was.0 (ap is_stop told.0), told.1 ∙ was.1);
+      ran = λ going are z s has.
+          let ran = runs.ran going are z s has in
+          elim (cases_Bool b.stopped) [
+            | inl stop ↦ let told = stays stop in ran_stopped m z s cs runs.answered c r a b d at ran stop told.0 told.1
+            | inr still ↦
+                let x = after z a.read_only s cs runs.answered in
+                let ended = goes still (stamped_at cs n c are is) z x (ran.state still) in
+                ran_more m z s cs runs.answered c r a b d at ran still
+                (one_ends m law z a.read_only x c r b d (subst (λ ro. Ends m z (class_of c.command) (takes_no_memory c.command) x (step z ro x c) b d r) same ended))
+          ];
+    }
+
+none_at : (i : ℕ) (r : Reply) → slice_get [] i ≡ Some r → ⊥
+none_at i r is = cc
+
+pub runs_none : {S : Type 0} (m : Meaning S) (cs : List Stamped) (before : List Reply) (a : Volume S) → Runs m cs 0 before before a a
+runs_none m cs before a = record {
+  answered = [];
+  count = refl;
+  behind = sym (append-nil before);
+  stopped = λ stop. (tt, refl);
+  ran = λ going are z s has. record { holds = tt; losses = λ t shown. inr (λ i done. absurd (none_at i done.1 done.3), shown); stops = going; state = λ _. has };
+}
+
+pub at_index : (cs : List Stamped) (i : ℕ) (c : Stamped) → i < length cs → c ≡ get_or cs i c → slice_get cs i ≡ Some c
+at_index [] i c lt is = absurd (omega arith)
+at_index (k ∷ cs) ℕ.zero c lt is = ap Some (sym is)
+at_index (k ∷ cs) (ℕ.suc i) c lt is = at_index cs i c (omega arith) is

@@ -1,0 +1,32 @@
+use Rattle.std.proofs.Common.{◌∙◌}
+use Rattle.std.proofs.lemmas.Result.{err_from_is_err_and}
+use Rattle.posix_profile.specs.Outcomes.{Outcome, at_place}
+use Rattle.posix_profile.specs.Paths.{Place, resolve}
+use Rattle.path_walk.specs.Places.{place_of}
+use Rattle.object_commands.specs.Classes.{Changing}
+use Rattle.object_commands.specs.Names.{rename_places}
+use Rattle.object_commands.proofs.Outcomes.{holds_on, plans_same, plans_of, plans_nowhere}
+use Rattle.object_commands.proofs.rename.rename.Goals as goal
+
+pub returns-in_err-to-clause-plans : goal.returns-in_err-to-clause-plans
+returns-in_err-to-clause-plans g c z s holds same =
+    let m = g.S.ObjectStore.meaning in
+    let law = g.met.S.ObjectStore.lawful in
+    let p = err_from_is_err_and c.from_residual-in_err-to.result c.from_residual-in_err-to.ensures.1 in
+    let here = holds_on m law z s c.args.store.now c.find_place.new.store c.find_place.ensures.reads holds in
+    let from = c.in_ok-from.ensures.finds z s holds in
+    let act : Place → Outcome = λ from. at_place s (resolve s.objects c.args.new.now) (rename_places z c.args.read_only c.args.moment s from) in
+    plans_same m law z Changing s _ _ c.args.store.now c.find_place.new.store c.find_place-2.new.store c.find_place.ensures.reads (from.act act) c.from_residual-in_err-to.result
+    (plans_nowhere m z Changing s _ (rename_places z c.args.read_only c.args.moment s (place_of c.in_ok-from.from)) c.find_place.new.store c.find_place-2.new.store c.from_residual-in_err-to.result p.0 c.in_err-to.field-0.0 p.1 p.2 (c.in_err-to.ensures.finds z s here))
+
+pub returns-clause-plans : goal.returns-clause-plans
+returns-clause-plans g c z s holds same =
+    let m = g.S.ObjectStore.meaning in
+    let law = g.met.S.ObjectStore.lawful in
+    let mid = holds_on m law z s c.args.store.now c.find_place.new.store c.find_place.ensures.reads holds in
+    let here = holds_on m law z s c.find_place.new.store c.find_place-2.new.store c.find_place-2.ensures.reads mid in
+    let from = c.in_ok-from.ensures.finds z s holds in
+    let to = c.in_ok-to.ensures.finds z s mid in
+    let act : Place → Outcome = λ from. at_place s (resolve s.objects c.args.new.now) (rename_places z c.args.read_only c.args.moment s from) in
+    plans_of m z Changing s _ _ c.args.store.now c.find_place-2.new.store (to.act (rename_places z c.args.read_only c.args.moment s (place_of c.in_ok-from.from)) ∙ from.act act)
+    c.rename_places.result c.hand_on.result c.hand_on.ensures (c.rename_places.ensures z s here same from.place to.place)

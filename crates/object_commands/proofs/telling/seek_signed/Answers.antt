@@ -1,0 +1,15 @@
+use Rattle.std.proofs.Common.{◌≡◌, ◌∙◌, pos, sym, ap}
+use Rattle.std.specs.Int.{w128}
+use Rattle.std.proofs.lemmas.Int.{to_z-of_z}
+use Rattle.posix_profile.specs.HandleSteps.{seek_to}
+use Rattle.object_commands.specs.Classes.{Telling}
+use Rattle.object_commands.specs.Tables.{handle_of}
+use Rattle.object_commands.proofs.ObjectFacts.{not_negative}
+use Rattle.object_commands.proofs.Outcomes.{tries_same}
+use Rattle.object_commands.proofs.telling.seek_signed.Goals as goal
+
+pub returns-clause-plans : goal.returns-clause-plans
+returns-clause-plans c z s small =
+    let same = to_z-of_z w128 c.args.target c.ranges.target in
+    let is : c.args.target ≡ pos c.unsigned_abs.result = sym same ∙ not_negative _ c.if-target-lt0.false ∙ ap pos (sym c.unsigned_abs.ensures.value) in
+    tries_same z Telling s _ _ (ap (seek_to s c.args.fd (handle_of c.args.description)) (sym is)) c.seek_to.result (c.seek_to.ensures.plans z s small)

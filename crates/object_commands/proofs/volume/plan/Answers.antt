@@ -1,0 +1,136 @@
+use Rattle.std.proofs.Common.{refl, ap, ap₂, w64}
+use Rattle.std.specs.Prelude.{Ok}
+use Rattle.std.proofs.lemmas.Int.{to_z-of_z}
+use Rattle.posix_profile.specs.HandleSteps.{open_step, write_step, seek_step, truncate_step}
+use Rattle.posix_profile.specs.NameSteps.{stat_step, mkdir_step, rmdir_step, link_step, unlink_step, rename_step, list_step}
+use Rattle.posix_profile.specs.Steps.{step_at}
+use Rattle.object_commands.specs.Classes.{Telling, Changing, Syncing}
+use Rattle.object_commands.proofs.Ending.{plans_step}
+use Rattle.object_commands.proofs.Outcomes.{plans_of}
+use Rattle.object_commands.proofs.volume.plan.Goals as goal
+
+pub returns-in-Open-clause-plans : goal.returns-in-Open-clause-plans
+unfolding step_at
+returns-in-Open-clause-plans g c z s holds same =
+    let m = g.S.ObjectStore.meaning in
+    let stamped = c.args.stamped.now in
+    plans_step m z c.args.read_only s stamped _ _ c.args.store.now c.open.new.store c.in-Open.is (ap (λ x. open_step z c.args.read_only stamped.moment s x c.in-Open.flags) c.as_slice.ensures)
+    c.open.result (c.open.ensures.plans z s holds same)
+
+pub returns-in-Close-clause-plans : goal.returns-in-Close-clause-plans
+unfolding step_at
+returns-in-Close-clause-plans g c z s holds same =
+    let m = g.S.ObjectStore.meaning in
+    let stamped = c.args.stamped.now in
+    plans_step m z c.args.read_only s stamped _ _ c.args.store.now c.args.store.now c.in-Close.is refl
+    c.hand_on.result (plans_of m z Changing s _ _ c.args.store.now c.args.store.now (refl) c.close.result c.hand_on.result c.hand_on.ensures (c.close.ensures.plans z s holds same))
+
+pub returns-in-Read-clause-plans : goal.returns-in-Read-clause-plans
+unfolding step_at
+returns-in-Read-clause-plans g c z s holds same =
+    let m = g.S.ObjectStore.meaning in
+    let stamped = c.args.stamped.now in
+    plans_step m z c.args.read_only s stamped _ _ c.args.store.now c.read.new.store c.in-Read.is (refl)
+    c.read.result (c.read.ensures.plans z s holds same)
+
+pub returns-in-Write-clause-plans : goal.returns-in-Write-clause-plans
+unfolding step_at
+returns-in-Write-clause-plans g c z s holds same =
+    let m = g.S.ObjectStore.meaning in
+    let stamped = c.args.stamped.now in
+    plans_step m z c.args.read_only s stamped _ _ c.args.store.now c.args.store.now c.in-Write.is refl
+    c.hand_on-in-Write.result (plans_of m z Changing s _ _ c.args.store.now c.args.store.now (ap (write_step z stamped.moment s c.in-Write.fd) c.as_slice-in-Write.ensures) c.write.result c.hand_on-in-Write.result c.hand_on-in-Write.ensures (c.write.ensures z s holds same))
+
+pub returns-in-Seek-clause-plans : goal.returns-in-Seek-clause-plans
+unfolding step_at
+returns-in-Seek-clause-plans g c z s holds same =
+    let m = g.S.ObjectStore.meaning in
+    let stamped = c.args.stamped.now in
+    plans_step m z c.args.read_only s stamped _ _ c.args.store.now c.args.store.now c.in-Seek.is refl
+    c.hand_on-in-Seek.result (plans_of m z Telling s _ _ c.args.store.now c.args.store.now (ap (λ n. seek_step s c.in-Seek.fd n c.in-Seek.whence) c.signed.ensures.value) c.seek.result c.hand_on-in-Seek.result c.hand_on-in-Seek.ensures (rw (to_z-of_z w64 c.signed.result c.signed.ensures.range) at (c.seek.ensures.plans z s holds same)))
+
+pub returns-in-Truncate-clause-plans : goal.returns-in-Truncate-clause-plans
+unfolding step_at
+returns-in-Truncate-clause-plans g c z s holds same =
+    let m = g.S.ObjectStore.meaning in
+    let stamped = c.args.stamped.now in
+    plans_step m z c.args.read_only s stamped _ _ c.args.store.now c.args.store.now c.in-Truncate.is refl
+    c.hand_on-in-Truncate.result (plans_of m z Changing s _ _ c.args.store.now c.args.store.now (ap (truncate_step z stamped.moment s c.in-Truncate.fd) c.signed-in-Truncate.ensures.value) c.truncate.result c.hand_on-in-Truncate.result c.hand_on-in-Truncate.ensures (rw (to_z-of_z w64 c.signed-in-Truncate.result c.signed-in-Truncate.ensures.range) at (c.truncate.ensures z s holds same)))
+
+pub returns-in-Fsync-clause-plans : goal.returns-in-Fsync-clause-plans
+unfolding step_at
+returns-in-Fsync-clause-plans g c z s holds same =
+    let m = g.S.ObjectStore.meaning in
+    let stamped = c.args.stamped.now in
+    plans_step m z c.args.read_only s stamped _ _ c.args.store.now c.args.store.now c.in-Fsync.is refl
+    c.hand_on-in-Fsync.result (plans_of m z Syncing s _ _ c.args.store.now c.args.store.now (refl) c.fsync.result c.hand_on-in-Fsync.result c.hand_on-in-Fsync.ensures (c.fsync.ensures.plans z s same))
+
+pub returns-in-Sync-clause-plans : goal.returns-in-Sync-clause-plans
+unfolding step_at
+returns-in-Sync-clause-plans g c z s holds same =
+    let m = g.S.ObjectStore.meaning in
+    let stamped = c.args.stamped.now in
+    plans_step m z c.args.read_only s stamped _ _ c.args.store.now c.args.store.now c.in-Sync.is refl (Ok c.sync.result) (c.sync.ensures.plans z s)
+
+pub returns-in-Stat-clause-plans : goal.returns-in-Stat-clause-plans
+unfolding step_at
+returns-in-Stat-clause-plans g c z s holds same =
+    let m = g.S.ObjectStore.meaning in
+    let stamped = c.args.stamped.now in
+    plans_step m z c.args.read_only s stamped _ _ c.args.store.now c.stat.new.store c.in-Stat.is (ap (stat_step s) c.as_slice-in-Stat.ensures)
+    c.stat.result (c.stat.ensures.plans z s holds)
+
+pub returns-in-Mkdir-clause-plans : goal.returns-in-Mkdir-clause-plans
+unfolding step_at
+returns-in-Mkdir-clause-plans g c z s holds same =
+    let m = g.S.ObjectStore.meaning in
+    let stamped = c.args.stamped.now in
+    plans_step m z c.args.read_only s stamped _ _ c.args.store.now c.mkdir.new.store c.in-Mkdir.is (ap (mkdir_step z c.args.read_only stamped.moment s) c.as_slice-in-Mkdir.ensures)
+    c.mkdir.result (c.mkdir.ensures.plans z s holds)
+
+pub returns-in-Rmdir-clause-plans : goal.returns-in-Rmdir-clause-plans
+unfolding step_at
+returns-in-Rmdir-clause-plans g c z s holds same =
+    let m = g.S.ObjectStore.meaning in
+    let stamped = c.args.stamped.now in
+    plans_step m z c.args.read_only s stamped _ _ c.args.store.now c.rmdir.new.store c.in-Rmdir.is (ap (rmdir_step c.args.read_only stamped.moment s) c.as_slice-in-Rmdir.ensures)
+    c.rmdir.result (c.rmdir.ensures.plans z s holds same)
+
+pub returns-in-Link-clause-plans : goal.returns-in-Link-clause-plans
+unfolding step_at
+returns-in-Link-clause-plans g c z s holds same =
+    let m = g.S.ObjectStore.meaning in
+    let stamped = c.args.stamped.now in
+    plans_step m z c.args.read_only s stamped _ _ c.args.store.now c.link.new.store c.in-Link.is (ap₂ (link_step z c.args.read_only stamped.moment s) c.as_slice-in-Link.ensures c.as_slice-in-Link-2.ensures)
+    c.link.result (c.link.ensures.plans z s holds)
+
+pub returns-in-Unlink-clause-plans : goal.returns-in-Unlink-clause-plans
+unfolding step_at
+returns-in-Unlink-clause-plans g c z s holds same =
+    let m = g.S.ObjectStore.meaning in
+    let stamped = c.args.stamped.now in
+    plans_step m z c.args.read_only s stamped _ _ c.args.store.now c.unlink.new.store c.in-Unlink.is (ap (unlink_step c.args.read_only stamped.moment s) c.as_slice-in-Unlink.ensures)
+    c.unlink.result (c.unlink.ensures.plans z s holds same)
+
+pub returns-in-List-clause-plans : goal.returns-in-List-clause-plans
+unfolding step_at
+returns-in-List-clause-plans g c z s holds same =
+    let m = g.S.ObjectStore.meaning in
+    let stamped = c.args.stamped.now in
+    plans_step m z c.args.read_only s stamped _ _ c.args.store.now c.list.new.store c.in-List.is (ap (list_step s) c.as_slice-in-List.ensures)
+    c.list.result (c.list.ensures.plans z s holds)
+
+pub returns-in-Space-clause-plans : goal.returns-in-Space-clause-plans
+unfolding step_at
+returns-in-Space-clause-plans g c z s holds same =
+    let m = g.S.ObjectStore.meaning in
+    let stamped = c.args.stamped.now in
+    plans_step m z c.args.read_only s stamped _ _ c.args.store.now c.args.store.now c.in-Space.is refl (Ok c.space.result) (c.space.ensures.plans z s holds)
+
+pub returns-in-Rename-clause-plans : goal.returns-in-Rename-clause-plans
+unfolding step_at
+returns-in-Rename-clause-plans g c z s holds same =
+    let m = g.S.ObjectStore.meaning in
+    let stamped = c.args.stamped.now in
+    plans_step m z c.args.read_only s stamped _ _ c.args.store.now c.rename.new.store c.in-Rename.is (ap₂ (rename_step z c.args.read_only stamped.moment s) c.as_slice-in-Rename.ensures c.as_slice-in-Rename-2.ensures)
+    c.rename.result (c.rename.ensures.plans z s holds same)

@@ -1,0 +1,23 @@
+use Rattle.std.proofs.Common.{◌∙◌, sym, ap, not, refl, w64}
+use Rattle.std.proofs.lemmas.Int.{to_z-of_z}
+use Rattle.std.specs.FinMap as map
+use Rattle.posix_profile.specs.State.{Handles}
+use Rattle.object_commands.specs.Classes.{Changing}
+use Rattle.object_commands.specs.Tables.{handle_of}
+use Rattle.object_commands.proofs.Outcomes.{tries_same, refused, passed, passed_all, no_handle, this_handle}
+use Rattle.object_commands.proofs.writing.truncate.Goals as goal
+
+pub returns-then-not-may_write : goal.returns-then-not-may_write
+returns-then-not-may_write g c z s holds same =
+    refused s _ _ _ _ (ap not (sym c.may_write.ensures ∙ c.if-not-may_write.true)) ∙ this_handle s _ _ (handle_of c.in-Some.description) (c.in-Some.ensures ∙ ap (λ (h : Handles). map.get h c.args.fd) same)
+
+pub returns-else-not-may_write : goal.returns-else-not-may_write
+returns-else-not-may_write g c z s holds same =
+    let stood = c.in-Some.ensures ∙ ap (λ (h : Handles). map.get h c.args.fd) same in
+    let may = sym c.may_write.ensures ∙ c.if-not-may_write.false in
+    let file = (holds.sound.well_formed.handles c.args.fd (handle_of c.in-Some.description) (sym stood)).writes may in
+    tries_same z Changing s _ _ (passed_all s _ ∙ passed s _ _ _ _ (ap not may) ∙ this_handle s _ _ (handle_of c.in-Some.description) stood) c.truncate_signed.result
+    (rw (to_z-of_z w64 c.args.length c.ranges.length) at (c.truncate_signed.ensures z s holds file (handle_of c.in-Some.description) refl))
+
+pub returns-in-None : goal.returns-in-None
+returns-in-None g c z s holds same = no_handle s _ _ (c.in-None.ensures ∙ ap (λ (h : Handles). map.get h c.args.fd) same)

@@ -1,0 +1,53 @@
+-- How a command of a volume ends.
+use Rattle.std.specs.Prelude.{◌≡◌, ◌⊎◌, Bool, true, false}
+use Rattle.volume_terms.specs.Sizes.{Sizes}
+use Rattle.posix_profile.specs.State.{Objects, State}
+use Rattle.posix_profile.specs.Outcomes.{Outcome}
+use Rattle.posix_profile.specs.laws.Sound.{IsSound}
+use Rattle.posix_profile.specs.declared.reply.Errno.TheVariants as errors
+use Rattle.posix_profile.specs.declared.reply.Reply.{Reply}
+use Rattle.posix_profile.specs.declared.reply.Reply.TheVariants as replies
+use Rattle.object_store.specs.Stores.{Meaning, Has}
+use Rattle.object_commands.specs.Classes.{Class, Telling, Changing, Syncing, is_error}
+use Rattle.object_commands.specs.Tables.{handles_in}
+use Rattle.object_commands.specs.declared.volume.Volume.{Volume}
+
+-- The volume stands for a state that it can have.
+pub record IsAt {S : Type 0} (m : Meaning S) (z : Sizes) (s : State) (v : Volume S) : Type 0 where
+  pub has : Has m z s.objects v.store
+  pub handles : handles_in v.table ≡ s.handles
+  pub sound : IsSound z s
+
+-- what a done command leaves of a store: one that tells, and one that is answered by an error, only reads; one that may
+-- change makes a change or only reads; a done sync commits
+abbrev pub Leaves : {S : Type 0} (m : Meaning S) → Class → Reply → Objects → Objects → S → S → Type 0
+Leaves m Telling reply old new a b = (new ≡ old) × m.reads a b
+Leaves m Changing reply old new a b = ((new ≡ old) × m.reads a b) ⊎ ((is_error reply ≡ false) × m.changes old new a b)
+Leaves m Syncing reply old new a b = (new ≡ old) × (((is_error reply ≡ true) × m.reads a b) ⊎ ((reply ≡ replies.Done) × m.commits old a b))
+
+-- The command is done.
+pub record IsDone {S : Type 0} (m : Meaning S) (z : Sizes) (class : Class) (s : State) (meant : Outcome) (a b : Volume S) (told : Reply) : Type 0 where
+  pub reply : told ≡ meant.reply
+  pub state : IsAt m z meant.state b
+  pub left : Leaves m class meant.reply s.objects meant.state.objects a.store b.store
+  pub goes_on : b.stopped ≡ false
+
+-- Memory was refused, and nothing is done.
+pub record IsPassedOver {S : Type 0} (m : Meaning S) (z : Sizes) (s : State) (a b : Volume S) (told : Reply) : Type 0 where
+  pub reply : told ≡ replies.Error errors.ENOMEM
+  pub state : IsAt m z s b
+  pub left : m.reads a.store b.store
+  pub goes_on : b.stopped ≡ false
+
+-- The store has failed, and the volume is stopped.
+pub record IsStopped {S : Type 0} (m : Meaning S) (s : State) (meant : Outcome) (a b : Volume S) (told : Reply) : Type 0 where
+  pub reply : told ≡ replies.Error errors.EIO
+  pub left : m.fails s.objects meant.state.objects a.store b.store
+  pub stops : b.stopped ≡ true
+
+-- how a command that means this ends; one that takes no memory is not passed over for it
+abbrev pub Ends : {S : Type 0} (m : Meaning S) → Sizes → Class → Bool → State → Outcome → Volume S → Volume S → Reply → Type 0
+Ends m z class takes_none s meant a b told =
+    IsDone m z class s meant a b told
+    ⊎ ((takes_none ≡ false) × IsPassedOver m z s a b told)
+    ⊎ IsStopped m s meant a b told

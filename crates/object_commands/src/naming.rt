@@ -1,0 +1,336 @@
+// The commands that change names: Mkdir, Unlink, Rmdir, Link.
+ghost use Rattle.std.specs.Prelude.{◌≡◌, ◌≢◌, ◌⊎◌, ℕ, List, [], ◌∷◌, Some, None, nat_lt};
+ghost use Rattle.std.specs.FinMap as map;
+ghost use Rattle.volume_terms.specs.Sizes.{Sizes};
+ghost use Rattle.posix_profile.specs.State.{Objects, State, IsFile, is_directory, is_file, entries_of};
+ghost use Rattle.posix_profile.specs.Names.{prune};
+ghost use Rattle.posix_profile.specs.NameSteps.{mkdir_at, mkdir_step, name_removed, unlink_step, rmdir_step, link_at, link_step};
+ghost use Rattle.posix_profile.specs.Outcomes.{answer, unless, at_place};
+ghost use Rattle.posix_profile.specs.laws.Path.{IsPlace};
+ghost use Rattle.posix_profile.specs.Paths.{resolve};
+ghost use Rattle.path_walk.specs.Places.{place_of};
+ghost use Rattle.object_store.specs.Changes.{without};
+ghost use Rattle.object_commands.specs.Classes.{Changing};
+ghost use Rattle.object_commands.specs.Names.{Unnames, LeadsHere, EndsInName, rmdir_named, rmdir_at};
+ghost use Rattle.object_commands.specs.Plans.{Holds, Plans, Tries, IsPlan};
+ghost use Rattle.object_commands.specs.Tables.{handles_in};
+
+use crate::facts::{has_other_name, is_directory};
+use crate::place::{
+    ends_in_dot, ends_in_dot_dot, entry_at, find_object, find_place, is_only_slashes,
+};
+use crate::plan::{Plan, change, hand_on};
+use crate::room::{has_name_room, has_object_room};
+use crate::table::DescriptorTable;
+use object_store::{ObjectChange, ObjectStore, Refusal, is_file};
+use path_walk::PathPlace;
+use posix_profile::{Errno, Kind, Reply};
+use std::alloc::Global;
+
+/// Mkdir of an absent name.
+fn mkdir_absent<'a, S: ObjectStore>(
+    store: &S,
+    read_only: bool,
+    moment: u64,
+    place: PathPlace<'a>,
+) -> Result<Plan<'a>, Errno>
+    ensures { (z : Sizes) (s : State) → Holds S.meaning z s store.now → IsPlace s.objects (place_of place.entry) → (place_of place.entry).object ≡ None
+        → Tries z Changing s (mkdir_at z read_only moment s (place_of place.entry) None) result }
+{
+    if read_only {
+        return Err(Errno::EROFS);
+    }
+    if !has_object_room(store, place.directory) {
+        return Err(Errno::ENOSPC);
+    }
+    Ok(change(
+        Reply::Done,
+        ObjectChange::Create {
+            entry: entry_at(place),
+            kind: Kind::Directory,
+            moment,
+        },
+    ))
+}
+
+/// Mkdir at a place.
+fn mkdir_at<'a, S: ObjectStore>(
+    store: &S,
+    read_only: bool,
+    moment: u64,
+    place: PathPlace<'a>,
+) -> Result<Plan<'a>, Errno>
+    ensures { (z : Sizes) (s : State) → Holds S.meaning z s store.now → IsPlace s.objects (place_of place.entry)
+        → Tries z Changing s (mkdir_at z read_only moment s (place_of place.entry) (place_of place.entry).object) result }
+{
+    match place.object {
+        Some(_) => Err(Errno::EEXIST),
+        None => mkdir_absent(store, read_only, moment, place),
+    }
+}
+
+/// Mkdir.
+pub(crate) fn mkdir<'a, S: ObjectStore>(
+    alloc: Global,
+    store: &mut S,
+    read_only: bool,
+    moment: u64,
+    path: &'a [u8],
+) -> Result<Plan<'a>, Refusal>
+    ensures reads { S.meaning.reads store.old store.new }
+    ensures plans { (z : Sizes) (s : State) → Holds S.meaning z s store.old
+        → Plans S.meaning z Changing s (mkdir_step z read_only moment s path.now) store.old store.new result }
+{
+    let place = find_place(alloc, store, path)?;
+    hand_on(mkdir_at(store, read_only, moment, place))
+}
+
+/// The object, if nothing keeps it but one name.
+pub(crate) fn unkept<S: ObjectStore>(store: &S, table: &DescriptorTable, number: u64) -> Option<u64>
+    ensures only { (result ≡ None) ⊎ (result ≡ Some number) }
+    ensures left { (z : Sizes) (s : State) → Holds S.meaning z s store.now → handles_in table.now ≡ s.handles
+        → (left : Objects) (directory : ℕ) (name : List ℕ) → Unnames s.objects left directory name number
+        → without result left ≡ (prune (record s { objects = left })).objects }
+{
+    if has_other_name(store, number) {
+        return None;
+    }
+    if table.is_open(number) {
+        return None;
+    }
+    Some(number)
+}
+
+/// The name goes, and the object if nothing else keeps it.
+fn remove_at<'a, S: ObjectStore>(
+    store: &S,
+    table: &DescriptorTable,
+    moment: u64,
+    place: PathPlace<'a>,
+    number: u64,
+) -> Plan<'a>
+    ensures { (z : Sizes) (s : State) → Holds S.meaning z s store.now → handles_in table.now ≡ s.handles
+        → LeadsHere s.objects (place_of place.entry) number
+        → IsPlan z Changing s (answer (name_removed moment s (place_of place.entry)) Reply.Done) result }
+{
+    change(
+        Reply::Done,
+        ObjectChange::Remove {
+            entry: entry_at(place),
+            dropped: unkept(store, table, number),
+            moment,
+        },
+    )
+}
+
+/// Unlink of an object at a place.
+fn unlink_object<'a, S: ObjectStore>(
+    store: &S,
+    table: &DescriptorTable,
+    read_only: bool,
+    moment: u64,
+    place: PathPlace<'a>,
+    number: u64,
+) -> Result<Plan<'a>, Errno>
+    ensures { (z : Sizes) (s : State) → Holds S.meaning z s store.now → handles_in table.now ≡ s.handles
+        → IsPlace s.objects (place_of place.entry) → (place_of place.entry).object ≡ Some number
+        → Tries z Changing s (unless s
+        ((is_directory (map.get s.objects number), Errno.EPERM) ∷ (read_only, Errno.EROFS) ∷ [])
+        (answer (name_removed moment s (place_of place.entry)) Reply.Done)) result }
+{
+    if is_directory(store, number) {
+        return Err(Errno::EPERM);
+    }
+    if read_only {
+        return Err(Errno::EROFS);
+    }
+    Ok(remove_at(store, table, moment, place, number))
+}
+
+/// Unlink.
+pub(crate) fn unlink<'a, S: ObjectStore>(
+    alloc: Global,
+    store: &mut S,
+    table: &DescriptorTable,
+    read_only: bool,
+    moment: u64,
+    path: &'a [u8],
+) -> Result<Plan<'a>, Refusal>
+    ensures reads { S.meaning.reads store.old store.new }
+    ensures plans { (z : Sizes) (s : State) → Holds S.meaning z s store.old → handles_in table.now ≡ s.handles
+        → Plans S.meaning z Changing s (unlink_step read_only moment s path.now) store.old store.new result }
+{
+    let found = find_object(alloc, store, path)?;
+    hand_on(unlink_object(store, table, read_only, moment, found.place, found.number))
+}
+
+/// Rmdir of an object at a place.
+fn rmdir_object<'a, S: ObjectStore>(
+    store: &S,
+    table: &DescriptorTable,
+    read_only: bool,
+    moment: u64,
+    place: PathPlace<'a>,
+    number: u64,
+) -> Result<Plan<'a>, Errno>
+    ensures { (z : Sizes) (s : State) → Holds S.meaning z s store.now → handles_in table.now ≡ s.handles
+        → EndsInName s.objects (place_of place.entry) → (place_of place.entry).object ≡ Some number
+        → Tries z Changing s (unless s
+        ((is_file (map.get s.objects number), Errno.ENOTDIR)
+        ∷ (nat_lt 0 (map.len (entries_of (map.get s.objects number))), Errno.ENOTEMPTY)
+        ∷ (read_only, Errno.EROFS) ∷ [])
+        (answer (name_removed moment s (place_of place.entry)) Reply.Done)) result }
+{
+    if is_file(store, number) {
+        return Err(Errno::ENOTDIR);
+    }
+    if store.entry_count(number) > 0 {
+        return Err(Errno::ENOTEMPTY);
+    }
+    if read_only {
+        return Err(Errno::EROFS);
+    }
+    Ok(remove_at(store, table, moment, place, number))
+}
+
+/// Rmdir at a place that ends in a name.
+fn rmdir_named<'a, S: ObjectStore>(
+    store: &S,
+    table: &DescriptorTable,
+    read_only: bool,
+    moment: u64,
+    place: PathPlace<'a>,
+) -> Result<Plan<'a>, Errno>
+    ensures { (z : Sizes) (s : State) → Holds S.meaning z s store.now → handles_in table.now ≡ s.handles
+        → EndsInName s.objects (place_of place.entry)
+        → Tries z Changing s (rmdir_named read_only moment s (place_of place.entry)) result }
+{
+    match place.object {
+        Some(number) => rmdir_object(store, table, read_only, moment, place, number),
+        None => Err(Errno::ENOENT),
+    }
+}
+
+/// Rmdir at a place.
+fn rmdir_at<'a, S: ObjectStore>(
+    store: &S,
+    table: &DescriptorTable,
+    read_only: bool,
+    moment: u64,
+    place: PathPlace<'a>,
+) -> Result<Plan<'a>, Errno>
+    ensures { (z : Sizes) (s : State) → Holds S.meaning z s store.now → handles_in table.now ≡ s.handles → IsPlace s.objects (place_of place.entry)
+        → Tries z Changing s (rmdir_at read_only moment s (place_of place.entry)) result }
+{
+    if ends_in_dot(place) {
+        return Err(Errno::EINVAL);
+    }
+    if ends_in_dot_dot(place) {
+        return Err(Errno::ENOTEMPTY);
+    }
+    if is_only_slashes(place) {
+        return Err(Errno::EBUSY);
+    }
+    rmdir_named(store, table, read_only, moment, place)
+}
+
+/// Rmdir.
+pub(crate) fn rmdir<'a, S: ObjectStore>(
+    alloc: Global,
+    store: &mut S,
+    table: &DescriptorTable,
+    read_only: bool,
+    moment: u64,
+    path: &'a [u8],
+) -> Result<Plan<'a>, Refusal>
+    ensures reads { S.meaning.reads store.old store.new }
+    ensures plans { (z : Sizes) (s : State) → Holds S.meaning z s store.old → handles_in table.now ≡ s.handles
+        → Plans S.meaning z Changing s (rmdir_step read_only moment s path.now) store.old store.new result }
+{
+    let place = find_place(alloc, store, path)?;
+    hand_on(rmdir_at(store, table, read_only, moment, place))
+}
+
+/// Link of a file to an absent name.
+fn link_absent<'a, S: ObjectStore>(
+    store: &S,
+    read_only: bool,
+    moment: u64,
+    number: u64,
+    to: PathPlace<'a>,
+) -> Result<Plan<'a>, Errno>
+    ensures { (z : Sizes) (s : State) → Holds S.meaning z s store.now → IsFile s.objects number → IsPlace s.objects (place_of to.entry) → (place_of to.entry).object ≡ None
+        → Tries z Changing s (link_at z read_only moment s number (place_of to.entry) None) result }
+{
+    if to.slash_follows {
+        return Err(Errno::ENOENT);
+    }
+    if read_only {
+        return Err(Errno::EROFS);
+    }
+    if !has_name_room(store, to.directory) {
+        return Err(Errno::ENOSPC);
+    }
+    Ok(change(
+        Reply::Done,
+        ObjectChange::Name {
+            entry: entry_at(to),
+            number,
+            moment,
+        },
+    ))
+}
+
+/// Link of a file to a place.
+fn link_at<'a, S: ObjectStore>(
+    store: &S,
+    read_only: bool,
+    moment: u64,
+    number: u64,
+    to: PathPlace<'a>,
+) -> Result<Plan<'a>, Errno>
+    ensures { (z : Sizes) (s : State) → Holds S.meaning z s store.now → IsFile s.objects number → IsPlace s.objects (place_of to.entry)
+        → Tries z Changing s (link_at z read_only moment s number (place_of to.entry) (place_of to.entry).object) result }
+{
+    match to.object {
+        Some(_) => Err(Errno::EEXIST),
+        None => link_absent(store, read_only, moment, number, to),
+    }
+}
+
+/// Link of a file to a path.
+fn link_to<'a, S: ObjectStore>(
+    alloc: Global,
+    store: &mut S,
+    read_only: bool,
+    moment: u64,
+    number: u64,
+    new: &'a [u8],
+) -> Result<Plan<'a>, Refusal>
+    ensures reads { S.meaning.reads store.old store.new }
+    ensures plans { (z : Sizes) (s : State) → Holds S.meaning z s store.old → IsFile s.objects number
+        → Plans S.meaning z Changing s (at_place s (resolve s.objects new.now) (λ to. link_at z read_only moment s number to to.object)) store.old store.new result }
+{
+    let to = find_place(alloc, store, new)?;
+    hand_on(link_at(store, read_only, moment, number, to))
+}
+
+/// Link.
+pub(crate) fn link<'a, S: ObjectStore>(
+    alloc: Global,
+    store: &mut S,
+    read_only: bool,
+    moment: u64,
+    old: &[u8],
+    new: &'a [u8],
+) -> Result<Plan<'a>, Refusal>
+    ensures reads { S.meaning.reads store.old store.new }
+    ensures plans { (z : Sizes) (s : State) → Holds S.meaning z s store.old
+        → Plans S.meaning z Changing s (link_step z read_only moment s old.now new.now) store.old store.new result }
+{
+    let found = find_object(alloc, store, old)?;
+    if is_directory(store, found.number) {
+        return Err(Refusal::Error(Errno::EPERM));
+    }
+    link_to(alloc, store, read_only, moment, found.number, new)
+}

@@ -1,0 +1,36 @@
+// The commands that make the objects last: Fsync and Sync.
+ghost use Rattle.std.specs.Prelude.{◌≡◌, true};
+ghost use Rattle.posix_profile.specs.HandleSteps.{fsync_step};
+ghost use Rattle.posix_profile.specs.Outcomes.{answer};
+ghost use Rattle.volume_terms.specs.Sizes.{Sizes};
+ghost use Rattle.posix_profile.specs.State.{State};
+ghost use Rattle.object_commands.specs.Classes.{Syncing};
+ghost use Rattle.object_commands.specs.Plans.{Tries, Frees, IsPlan, frees};
+ghost use Rattle.object_commands.specs.Tables.{handles_in};
+
+use crate::plan::{HandleChange, Plan, StoreWork};
+use crate::table::DescriptorTable;
+use posix_profile::{Errno, Reply};
+
+/// Sync: all objects, whatever they are.
+pub(crate) fn sync<'a>() -> Plan<'a>
+    ensures plans { (z : Sizes) (s : State) → IsPlan z Syncing s (answer s Reply.Done) result }
+    ensures memory { frees result.work ≡ true }
+{
+    Plan {
+        reply: Reply::Done,
+        handles: HandleChange::Nothing,
+        work: StoreWork::Commit,
+    }
+}
+
+/// Fsync: all objects, and not those of the descriptor alone.
+pub(crate) fn fsync<'a>(table: &DescriptorTable, fd: u32) -> Result<Plan<'a>, Errno>
+    ensures plans { (z : Sizes) (s : State) → handles_in table.now ≡ s.handles → Tries z Syncing s (fsync_step s fd) result }
+    ensures memory { Frees result }
+{
+    match table.get(fd) {
+        Some(_) => Ok(sync()),
+        None => Err(Errno::EBADF),
+    }
+}

@@ -1,0 +1,265 @@
+// A volume over any store of objects.
+ghost use Rattle.std.specs.Prelude.{◌≡◌, ◌⊎◌, ◌≤◌, ℕ, true, false, length, Err, IfOk, OnOk, FitsSigned};
+ghost use Rattle.std.specs.Int.{w64};
+ghost use Rattle.std.specs.FinMap as map;
+ghost use Rattle.std.specs.List.{list_any};
+ghost use Rattle.posix_profile.specs.Losses.{LossLeaves};
+ghost use Rattle.posix_profile.specs.Outcomes.{Outcome};
+ghost use Rattle.posix_profile.specs.Runs.{takes_no_memory, is_stop, after, AllStopped, RunHolds};
+ghost use Rattle.volume_terms.specs.Sizes.{Sizes};
+ghost use Rattle.posix_profile.specs.laws.Sound.{IsStamped, IsSound};
+ghost use Rattle.posix_profile.specs.laws.Step.{AreStamped};
+ghost use Rattle.posix_profile.specs.State.{Objects, State};
+ghost use Rattle.posix_profile.specs.Steps.{step};
+ghost use Rattle.posix_profile.specs.declared.reply.Errno.TheVariants as errors;
+ghost use Rattle.posix_profile.specs.declared.reply.Reply.TheVariants as replies;
+ghost use Rattle.posix_profile.specs.declared.reply.Reply.{Reply};
+ghost use Rattle.object_store.specs.Stores.{Has};
+ghost use Rattle.volume_terms.specs.declared.fault.StoreFault.TheVariants as faults;
+ghost use Rattle.object_commands.specs.Classes.{Class, class_of};
+ghost use Rattle.object_commands.specs.Plans.{Holds, Plans, Works, IsPlan, TakesNone, CanDo, InRange, frees, handled};
+ghost use Rattle.object_commands.specs.Tables.{handles_in};
+
+use crate::naming::{link, mkdir, rmdir, unlink};
+use crate::opening::{close, open};
+use crate::plan::{HandleChange, Plan, StoreWork, hand_on};
+use crate::rename::rename;
+use crate::syncing::{fsync, sync};
+use crate::table::DescriptorTable;
+use crate::telling::{list, read, seek, space, stat};
+use crate::writing::{truncate, write};
+use object_store::{ObjectStore, Refusal};
+use posix_profile::{Command, Errno, Reply, Stamped};
+use std::alloc::{AllocError, Global};
+use volume_terms::StoreFault;
+
+/// The number that a command gives.
+fn signed(number: &i64) -> i64
+    ensures value { result ≡ number.now }
+    ensures range { FitsSigned w64 result }
+{
+    *number
+}
+
+/// What a command is to do.
+fn plan<'a, S: ObjectStore>(
+    alloc: Global,
+    store: &mut S,
+    table: &DescriptorTable,
+    read_only: bool,
+    stamped: &'a Stamped,
+) -> Result<Plan<'a>, Refusal>
+    ensures reads { S.meaning.reads store.old store.new }
+    ensures plans { (z : Sizes) (s : State) → Holds S.meaning z s store.old → handles_in table.now ≡ s.handles
+        → Plans S.meaning z (class_of stamped.now.command) s (step z read_only s stamped.now) store.old store.new result }
+    ensures memory { takes_no_memory stamped.now.command ≡ true → TakesNone result }
+{
+    let moment = stamped.moment;
+    match &stamped.command {
+        Command::Open { path, flags } => open(
+            alloc,
+            store,
+            table,
+            read_only,
+            moment,
+            path.as_slice(),
+            *flags,
+        ),
+        Command::Close { fd } => hand_on(close(store, table, *fd)),
+        Command::Read { fd, count } => read(alloc, store, table, *fd, *count),
+        Command::Write { fd, bytes } => {
+            hand_on(write(store, table, moment, *fd, bytes.as_slice()))
+        }
+        Command::Seek { fd, offset, whence } => {
+            hand_on(seek(store, table, *fd, signed(offset), *whence))
+        }
+        Command::Truncate { fd, length } => {
+            hand_on(truncate(store, table, moment, *fd, signed(length)))
+        }
+        Command::Fsync { fd } => hand_on(fsync(table, *fd)),
+        Command::Sync => Ok(sync()),
+        Command::Stat { path } => stat(alloc, store, path.as_slice()),
+        Command::Mkdir { path } => mkdir(alloc, store, read_only, moment, path.as_slice()),
+        Command::Rmdir { path } => rmdir(alloc, store, table, read_only, moment, path.as_slice()),
+        Command::Link { old, new } => link(
+            alloc,
+            store,
+            read_only,
+            moment,
+            old.as_slice(),
+            new.as_slice(),
+        ),
+        Command::Unlink { path } => unlink(alloc, store, table, read_only, moment, path.as_slice()),
+        Command::Rename { old, new } => rename(
+            alloc,
+            store,
+            table,
+            read_only,
+            moment,
+            old.as_slice(),
+            new.as_slice(),
+        ),
+        Command::List { path } => list(alloc, store, path.as_slice()),
+        Command::Space => Ok(space(store)),
+    }
+}
+
+/// Does what a plan asks of the store.
+fn work<S: ObjectStore>(store: &mut S, asked: &StoreWork<'_>) -> Result<(), StoreFault>
+    ensures lasts { S.meaning.lasts store.old store.new }
+    ensures works { (z : Sizes) (objects : Objects) → Has S.meaning z objects store.old → CanDo z objects asked.now
+        → Works S.meaning objects asked.now store.old store.new result }
+    ensures memory { frees asked.now ≡ true → result ≡ Err faults.NoMemory → ⊥ }
+{
+    match asked {
+        StoreWork::Nothing => Ok(()),
+        StoreWork::Change(change) => store.apply(change),
+        StoreWork::Commit => store.commit(),
+    }
+}
+
+/// Changes the descriptors.
+fn handle(table: &mut DescriptorTable, change: HandleChange)
+    ensures { InRange change → handles_in table.new ≡ handled (handles_in table.old) change }
+{
+    match change {
+        HandleChange::Nothing => {}
+        HandleChange::Remove(fd) => table.remove(fd),
+        HandleChange::Put(fd, description) => table.put(fd, description),
+    }
+}
+
+/// A volume: a store, and what its descriptors stand for. One that is stopped answers EIO to each command.
+#[derive(Drop)]
+pub struct Volume<S> {
+    alloc: Global,
+    store: S,
+    table: DescriptorTable,
+    read_only: bool,
+    stopped: bool,
+}
+
+impl<S: ObjectStore> Volume<S> {
+    ghost use Rattle.object_commands.specs.Endings.{IsAt, Ends};
+    ghost use Rattle.object_commands.specs.Running.{Runs};
+
+    /// A volume over the store: no descriptor is open.
+    pub fn new(alloc: Global, store: S, read_only: bool) -> Result<Volume<S>, (S, AllocError)>
+        ensures { IfOk result (λ volume. (volume.store ≡ store) × (handles_in volume.table ≡ map.empty) × (volume.read_only ≡ read_only) × (volume.stopped ≡ false)) }
+    {
+        match DescriptorTable::new(alloc) {
+            Ok(table) => Ok(Volume {
+                alloc,
+                store,
+                table,
+                read_only,
+                stopped: false,
+            }),
+            Err(error) => Err((store, error)),
+        }
+    }
+
+    /// Its store.
+    pub fn store(&self) -> &S
+        ensures { result.now ≡ self.now.store }
+    {
+        &self.store
+    }
+
+    /// Gives its store back.
+    pub fn into_store(self) -> S
+        ensures { result ≡ self.store }
+    {
+        let Volume {
+            alloc: _,
+            store,
+            table: _,
+            read_only: _,
+            stopped: _,
+        } = self;
+        store
+    }
+
+    /// Whether commands that would change it are refused.
+    pub fn read_only(&self) -> bool
+        ensures { result ≡ self.now.read_only }
+    {
+        self.read_only
+    }
+
+    /// Whether it answers EIO to each command.
+    pub fn stopped(&self) -> bool
+        ensures { result ≡ self.now.stopped }
+    {
+        self.stopped
+    }
+
+    /// Carries out a plan and replies.
+    fn carry_out(&mut self, plan: Plan<'_>) -> Reply
+        ensures keeps { self.new.read_only ≡ self.old.read_only }
+        ensures lasts { S.meaning.lasts self.old.store self.new.store }
+        ensures ends { self.old.stopped ≡ false → (z : Sizes) (s : State) → IsAt S.meaning z s self.old
+            → (class : Class) (meant : Outcome) → IsPlan z class s meant plan.entry → IsSound z meant.state
+            → Ends S.meaning z class (frees plan.entry.work) s meant self.old self.new result }
+    {
+        match work(&mut self.store, &plan.work) {
+            Ok(()) => {
+                handle(&mut self.table, plan.handles);
+                plan.reply
+            }
+            Err(StoreFault::NoMemory) => Reply::Error(Errno::ENOMEM),
+            Err(StoreFault::Device) => self.stop(),
+            Err(StoreFault::Worn) => self.stop(),
+        }
+    }
+
+    /// Answers EIO from now on.
+    fn stop(&mut self) -> Reply
+        ensures { (result ≡ replies.Error errors.EIO) × (self.new ≡ record self.old { stopped = true }) }
+    {
+        self.stopped = true;
+        Reply::Error(Errno::EIO)
+    }
+
+    /// Does a command and replies to it.
+    pub fn call(&mut self, stamped: &Stamped) -> Reply
+        ensures keeps { self.new.read_only ≡ self.old.read_only }
+        ensures lasts { S.meaning.lasts self.old.store self.new.store }
+        ensures stopped { self.old.stopped ≡ true → (result ≡ replies.Error errors.EIO) × (self.new ≡ self.old) }
+        ensures ends { self.old.stopped ≡ false → IsStamped stamped.now → (z : Sizes) (s : State) → IsAt S.meaning z s self.old
+            → Ends S.meaning z (class_of stamped.now.command) (takes_no_memory stamped.now.command) s (step z self.old.read_only s stamped.now) self.old self.new result }
+    {
+        if self.stopped {
+            return Reply::Error(Errno::EIO);
+        }
+        match plan(
+            self.alloc,
+            &mut self.store,
+            &self.table,
+            self.read_only,
+            stamped,
+        ) {
+            Ok(plan) => self.carry_out(plan),
+            Err(Refusal::Error(error)) => Reply::Error(error),
+            Err(Refusal::Fault(StoreFault::NoMemory)) => Reply::Error(Errno::ENOMEM),
+            Err(Refusal::Fault(StoreFault::Device)) => self.stop(),
+            Err(Refusal::Fault(StoreFault::Worn)) => self.stop(),
+        }
+    }
+
+    /// Does the commands in turn and adds their replies at the end of the vector. Where a reply finds no room its command
+    /// is not begun, nor is any after it.
+    pub fn run(&mut self, commands: &[Stamped], replies: &mut Vec<Reply>) -> Result<(), AllocError>
+        ensures keeps { self.new.read_only ≡ self.old.read_only }
+        ensures lasts { S.meaning.lasts self.old.store self.new.store }
+        ensures runs { (n : ℕ) × (n ≤ length commands.now) × OnOk result (n ≡ length commands.now)
+            × Runs S.meaning commands.now n replies.old.items replies.new.items self.old self.new }
+    {
+        for i in 0..commands.len() {
+            replies.reserve(1)?;
+            let reply = self.call(&commands[i]);
+            replies.push(reply)?;
+        }
+        Ok(())
+    }
+}

@@ -1,0 +1,4 @@
+pub mod Facts
+pub mod Changes
+pub mod Stores
+pub mod StoreLaws

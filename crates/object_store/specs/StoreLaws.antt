@@ -1,0 +1,40 @@
+-- What a store has after calls that read.
+use Rattle.std.specs.Prelude.{Result, Ok, Err}
+use Rattle.std.proofs.Common.{◌∙◌}
+use Rattle.volume_terms.specs.Sizes.{Sizes}
+use Rattle.posix_profile.specs.State.{Objects}
+use Rattle.posix_profile.specs.declared.reply.Errno.{Errno}
+use Rattle.volume_terms.specs.declared.fault.StoreFault.{StoreFault}
+use Rattle.volume_terms.specs.declared.fault.StoreFault.TheVariants as faults
+use Rattle.object_store.specs.declared.refusal.Refusal.{Refusal}
+use Rattle.object_store.specs.declared.refusal.Refusal.TheVariants as refusals
+use Rattle.object_store.specs.Stores.{Meaning, IsLawful, Has, Faults, Tells}
+
+-- the store goes on to have its objects
+pub has_on : {S : Type 0} (m : Meaning S) (law : IsLawful m) (z : Sizes) (objects : Objects) (a b : S) → m.reads a b → Has m z objects a → Has m z objects b
+has_on m law z objects a b reads has = record {
+  numbers = has.numbers;
+  sizes = law.lasts_sizes a b (law.reads_lasts a b reads) ∙ has.sizes;
+  stands = law.reads_stands a b objects reads has.stands;
+  forest = has.forest;
+  fit = has.fit;
+}
+
+-- a fault after calls that read
+pub faults_on : {S : Type 0} (m : Meaning S) (law : IsLawful m) (old new : Objects) (a b c : S) → m.reads a b → (fault : StoreFault) → Faults m old new b c fault → Faults m old new a c fault
+faults_on m law old new a b c reads faults.NoMemory left = law.reads_on a b c reads left
+faults_on m law old new a b c reads faults.Device left = law.fails_on a b c old new reads left
+faults_on m law old new a b c reads faults.Worn left = law.fails_on a b c old new reads left
+
+-- the fault of a call that reads is one of a call that would change
+pub faults_wide : {S : Type 0} (m : Meaning S) (law : IsLawful m) (old new : Objects) (a b : S) (fault : StoreFault) → Faults m old old a b fault → Faults m old new a b fault
+faults_wide m law old new a b faults.NoMemory left = left
+faults_wide m law old new a b faults.Device left = law.fails_wide a b old new left
+faults_wide m law old new a b faults.Worn left = law.fails_wide a b old new left
+
+-- what is told after calls that read
+pub tells_on : {S A : Type 0} (m : Meaning S) (law : IsLawful m) (objects : Objects) (a b c : S) (P : A → Type 0) (Q : Errno → Type 0)
+    → m.reads a b → (r : Result A Refusal) → Tells m objects b c P Q r → Tells m objects a c P Q r
+tells_on m law objects a b c P Q reads (Ok x) told = told
+tells_on m law objects a b c P Q reads (Err (refusals.Fault fault)) told = faults_on m law objects objects a b c reads fault told
+tells_on m law objects a b c P Q reads (Err (refusals.Error error)) told = told

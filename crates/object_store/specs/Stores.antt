@@ -1,0 +1,87 @@
+-- What a store of objects stands for, and what its calls leave.
+use Rattle.std.specs.Prelude.{◌≡◌, ◌⊎◌, true, Result, Ok, Err}
+use Rattle.std.specs.FinMap as map
+use Rattle.volume_terms.specs.Sizes.{Sizes, IsSizes}
+use Rattle.posix_profile.specs.State.{Objects}
+use Rattle.posix_profile.specs.Names.{settle}
+use Rattle.posix_profile.specs.Charge.{fits}
+use Rattle.posix_profile.specs.WellFormed.{IsForest}
+use Rattle.posix_profile.specs.declared.reply.Errno.{Errno}
+use Rattle.volume_terms.specs.declared.fault.StoreFault.{StoreFault}
+use Rattle.volume_terms.specs.declared.fault.StoreFault.TheVariants as faults
+use Rattle.object_store.specs.declared.refusal.Refusal.{Refusal}
+use Rattle.object_store.specs.declared.refusal.Refusal.TheVariants as refusals
+
+-- the objects that names keep, which a mount shows
+abbrev pub settled : Objects → Objects
+settled objects = (settle (record { objects = objects; handles = map.empty })).objects
+
+-- What a store stands for: the numbers of its volume, its objects, and the tree that a mount would show. And what is left by
+-- every call, by calls that only read, by a done change from these objects to those, by a call that the device ended, which
+-- was to make those of these, and by a done commit of these objects.
+pub record Meaning (S : Type 0) : Type 1 where
+  pub sizes : S → Sizes
+  pub stands : S → Objects → Type 0
+  pub shows : S → Objects → Type 0
+  pub lasts : S → S → Type 0
+  pub reads : S → S → Type 0
+  pub changes : Objects → Objects → S → S → Type 0
+  pub fails : Objects → Objects → S → S → Type 0
+  pub commits : Objects → S → S → Type 0
+
+-- A mount shows the tree that it did, or the settled objects.
+abbrev pub KeepsOrSettles : {S : Type 0} (m : Meaning S) → Objects → S → S → Type 0
+KeepsOrSettles m objects a b = (tree : Objects) → m.shows a tree → m.shows b tree ⊎ m.shows b (settled objects)
+
+-- Reads leave what was, and reads before a call do not matter. A change, and a call that fails, leave the tree that a mount
+-- shows or settle the objects that were; a done commit settles them.
+pub record IsLawful {S : Type 0} (m : Meaning S) : Type 0 where
+  pub reads_nothing : (a : S) → m.reads a a
+  pub reads_on : (a b c : S) → m.reads a b → m.reads b c → m.reads a c
+  pub reads_lasts : (a b : S) → m.reads a b → m.lasts a b
+  pub lasts_on : (a b c : S) → m.lasts a b → m.lasts b c → m.lasts a c
+  pub lasts_sizes : (a b : S) → m.lasts a b → m.sizes b ≡ m.sizes a
+  pub reads_stands : (a b : S) (objects : Objects) → m.reads a b → m.stands a objects → m.stands b objects
+  pub reads_shows : (a b : S) (tree : Objects) → m.reads a b → m.shows a tree → m.shows b tree
+  pub changes_on : (a b c : S) (old new : Objects) → m.reads a b → m.changes old new b c → m.changes old new a c
+  pub changes_shows : (a b : S) (old new : Objects) → m.changes old new a b → KeepsOrSettles m old a b
+  pub fails_on : (a b c : S) (old new : Objects) → m.reads a b → m.fails old new b c → m.fails old new a c
+  pub fails_wide : (a b : S) (old new : Objects) → m.fails old old a b → m.fails old new a b
+  pub fails_shows : (a b : S) (old new : Objects) → m.fails old new a b → KeepsOrSettles m old a b
+  pub commits_on : (a b c : S) (objects : Objects) → m.reads a b → m.commits objects b c → m.commits objects a c
+  pub commits_shows : (a b : S) (objects : Objects) → m.commits objects a b → m.shows b (settled objects)
+
+-- The store stands for objects that its volume can have.
+pub record Has {S : Type 0} (m : Meaning S) (z : Sizes) (objects : Objects) (a : S) : Type 0 where
+  pub numbers : IsSizes z
+  pub sizes : m.sizes a ≡ z
+  pub stands : m.stands a objects
+  pub forest : IsForest z objects
+  pub fit : fits z objects ≡ true
+
+-- What a fault leaves: reads alone where memory was refused, else what the device left.
+abbrev pub Faults : {S : Type 0} (m : Meaning S) → Objects → Objects → S → S → StoreFault → Type 0
+Faults m old new a b faults.NoMemory = m.reads a b
+Faults m old new a b faults.Device = m.fails old new a b
+Faults m old new a b faults.Worn = m.fails old new a b
+
+-- the answer of a call that reads
+abbrev pub Finds : {S A : Type 0} (m : Meaning S) → Objects → A → S → S → Result A StoreFault → Type 0
+Finds m objects meant a b (Ok found) = found ≡ meant
+Finds m objects meant a b (Err fault) = Faults m objects objects a b fault
+
+-- the end of a change
+abbrev pub Applies : {S : Type 0} (m : Meaning S) → Objects → Objects → S → S → Result (Unit {0}) StoreFault → Type 0
+Applies m old new a b (Ok done) = m.stands b new × m.changes old new a b
+Applies m old new a b (Err fault) = Faults m old new a b fault
+
+-- the end of a commit
+abbrev pub Commits : {S : Type 0} (m : Meaning S) → Objects → S → S → Result (Unit {0}) StoreFault → Type 0
+Commits m objects a b (Ok done) = m.stands b objects × m.commits objects a b
+Commits m objects a b (Err fault) = Faults m objects objects a b fault
+
+-- what is told of a value, or of an error, unless the store has a fault
+abbrev pub Tells : {S A : Type 0} (m : Meaning S) → Objects → S → S → (A → Type 0) → (Errno → Type 0) → Result A Refusal → Type 0
+Tells m objects a b P Q (Ok x) = P x
+Tells m objects a b P Q (Err (refusals.Fault fault)) = Faults m objects objects a b fault
+Tells m objects a b P Q (Err (refusals.Error error)) = Q error

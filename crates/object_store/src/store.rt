@@ -1,0 +1,91 @@
+// A store of objects.
+ghost use Rattle.std.specs.Prelude.{◌≡◌, true, Err, take, drop};
+ghost use Rattle.std.specs.FinMap as map;
+ghost use Rattle.volume_terms.specs.Sizes.{Sizes};
+ghost use Rattle.posix_profile.specs.State.{Objects, IsFile, IsDirectory, entries_of};
+ghost use Rattle.posix_profile.specs.Charge.{charge};
+ghost use Rattle.posix_profile.specs.Changes.{new_number};
+ghost use Rattle.volume_terms.specs.VolumeSizes.{sizes_of};
+ghost use Rattle.object_store.specs.Stores.{Meaning, IsLawful, Has, Finds, Applies, Commits};
+ghost use Rattle.object_store.specs.Changes.{made, CanMake, takes_none};
+ghost use Rattle.object_store.specs.Facts.{info_of, bytes_of, NamedBy};
+ghost use Rattle.volume_terms.specs.declared.fault.StoreFault.TheVariants as faults;
+
+use crate::change::ObjectChange;
+use posix_profile::{Bytes, Info, NameList};
+use std::alloc::Global;
+use volume_terms::{StoreFault, VolumeSizes};
+
+/// Objects, which are looked up and changed. What a `&self` call tells it knows without reading.
+///
+/// A fault other than `NoMemory` ends the use of the store: then its objects are known no longer, and only the tree that
+/// a mount would show is.
+pub trait ObjectStore {
+    /// What it stands for, and what its calls leave.
+    ghost meaning: { Meaning Self };
+
+    /// The numbers of its volume.
+    fn sizes(&self) -> VolumeSizes
+        ensures { sizes_of result ≡ meaning.sizes self.now };
+
+    /// What is told of the object at this number, if there is one.
+    fn info(&self, number: u64) -> Option<Info>
+        ensures { (z : Sizes) (objects : Objects) → Has meaning z objects self.now → result ≡ info_of objects number (map.get objects number) };
+
+    /// The directory that names a directory. The root has none, nor has one that was removed while it was open.
+    fn parent(&self, directory: u64) -> Option<u64>
+        ensures { (z : Sizes) (objects : Objects) → Has meaning z objects self.now → IsDirectory objects directory → NamedBy objects directory result };
+
+    /// How many entries a directory has.
+    fn entry_count(&self, directory: u64) -> u64
+        ensures { (z : Sizes) (objects : Objects) → Has meaning z objects self.now → IsDirectory objects directory → result ≡ map.len (entries_of (map.get objects directory)) };
+
+    /// The units that the objects cost.
+    fn charge(&self) -> u64
+        ensures { (z : Sizes) (objects : Objects) → Has meaning z objects self.now → result ≡ charge z objects };
+
+    /// The number that the next new object gets.
+    fn new_number(&self) -> u64
+        ensures { (z : Sizes) (objects : Objects) → Has meaning z objects self.now → result ≡ new_number objects };
+
+    /// The object that a name of a directory leads to.
+    fn find(&mut self, directory: u64, name: &[u8]) -> Result<Option<u64>, StoreFault>
+        ensures reads { meaning.reads self.old self.new }
+        ensures finds { (z : Sizes) (objects : Objects) → Has meaning z objects self.old → IsDirectory objects directory
+            → Finds meaning objects (map.get (entries_of (map.get objects directory)) name.now) self.old self.new result };
+
+    /// The names of a directory, in the order of their bytes.
+    fn names(&mut self, alloc: Global, directory: u64) -> Result<NameList, StoreFault>
+        ensures reads { meaning.reads self.old self.new }
+        ensures finds { (z : Sizes) (objects : Objects) → Has meaning z objects self.old → IsDirectory objects directory
+            → Finds meaning objects (map.keys (entries_of (map.get objects directory))) self.old self.new result };
+
+    /// The bytes of a file from the offset, at most so many.
+    fn read(
+        &mut self,
+        alloc: Global,
+        file: u64,
+        offset: u64,
+        count: u32,
+    ) -> Result<Bytes, StoreFault>
+        ensures reads { meaning.reads self.old self.new }
+        ensures finds { (z : Sizes) (objects : Objects) → Has meaning z objects self.old → IsFile objects file
+            → Finds meaning objects (take count (drop offset (bytes_of (map.get objects file)))) self.old self.new result };
+
+    /// Makes a change. One that only forgets an object takes no memory.
+    fn apply(&mut self, change: &ObjectChange<'_>) -> Result<(), StoreFault>
+        ensures lasts { meaning.lasts self.old self.new }
+        ensures applies { (z : Sizes) (objects : Objects) → Has meaning z objects self.old → CanMake z objects change.now
+            → Applies meaning objects (made objects change.now) self.old self.new result }
+        ensures memory { takes_none change.now ≡ true → result ≡ Err faults.NoMemory → ⊥ };
+
+    /// Makes the objects, without those that only descriptors keep, the tree that a mount shows.
+    fn commit(&mut self) -> Result<(), StoreFault>
+        ensures lasts { meaning.lasts self.old self.new }
+        ensures commits { (z : Sizes) (objects : Objects) → Has meaning z objects self.old
+            → Commits meaning objects self.old self.new result }
+        ensures memory { result ≡ Err faults.NoMemory → ⊥ };
+
+    /// Its words fit together.
+    ghost lawful: { IsLawful meaning };
+}

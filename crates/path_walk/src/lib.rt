@@ -1,0 +1,8 @@
+//! Where a path leads, over any store of objects.
+#![tactic(auto)]
+
+mod parts;
+mod walk;
+
+pub use parts::{PathPart, PathPlace};
+pub use walk::{ROOT, resolve};

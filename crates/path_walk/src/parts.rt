@@ -1,0 +1,117 @@
+// The parts of a path, and the tests before the tree is looked at.
+ghost use Rattle.std.specs.Prelude.{◌≡◌, length, filter, nat_eq, nat_lt, IfOk, map as list_map};
+ghost use Rattle.std.specs.Result.{result_err};
+ghost use Rattle.std.specs.List.{list_any, slice_split};
+ghost use Rattle.volume_terms.specs.Sizes.{name_limit};
+ghost use Rattle.posix_profile.specs.Paths.{component, slash, parts, path_tests, first_error, ends_in_slash};
+ghost use Rattle.path_walk.specs.Places.{component_of};
+
+use posix_profile::Errno;
+use std::alloc::{AllocError, Global};
+
+const SLASH: u8 = b'/';
+
+const NAME_LIMIT: usize = 255;
+
+const PATH_LIMIT: usize = 4095;
+
+/// A component of a path.
+#[derive(Clone, Copy)]
+pub enum PathPart<'a> {
+    Dot,
+    DotDot,
+    Named(&'a [u8]),
+}
+
+/// Where a path leads: the directory, the last component, which is none where the path is only slashes, the object,
+/// which is none where the name is absent, and whether a slash follows.
+#[derive(Clone, Copy)]
+pub struct PathPlace<'a> {
+    pub directory: u64,
+    pub last: Option<PathPart<'a>>,
+    pub object: Option<u64>,
+    pub slash_follows: bool,
+}
+
+/// What stands between slashes, also where that is nothing.
+fn pieces_of(alloc: Global, path: &[u8]) -> Result<Vec<&[u8]>, AllocError>
+    ensures { IfOk result (λ all. list_map (λ piece. piece.now) all.items ≡ slice_split (nat_eq slash) path.now) }
+{
+    path.split(|byte| SLASH == *byte).collect(alloc)
+}
+
+/// The parts of a path between slashes.
+pub(crate) fn parts_of(alloc: Global, path: &[u8]) -> Result<Vec<&[u8]>, AllocError>
+    ensures { IfOk result (λ all. list_map (λ part. part.now) all.items ≡ parts path.now) }
+{
+    let pieces = pieces_of(alloc, path)?;
+    some_of(alloc, &pieces)
+}
+
+/// The pieces that are not empty.
+fn some_of<'a>(alloc: Global, pieces: &[&'a [u8]]) -> Result<Vec<&'a [u8]>, AllocError>
+    ensures { IfOk result (λ all. list_map (λ part. part.now) all.items ≡ filter (λ part. nat_lt 0 (length part)) (list_map (λ piece. piece.now) pieces.now)) }
+{
+    let mut found = Vec::new(alloc);
+    for piece in pieces {
+        if 0 < piece.len() {
+            found.push(*piece)?;
+        }
+    }
+    Ok(found)
+}
+
+/// The component that these bytes are.
+pub(crate) fn part_of(bytes: &[u8]) -> PathPart<'_>
+    ensures { component_of result ≡ component bytes.now }
+{
+    if bytes == b".".as_slice() {
+        PathPart::Dot
+    } else if bytes == b"..".as_slice() {
+        PathPart::DotDot
+    } else {
+        PathPart::Named(bytes)
+    }
+}
+
+/// Whether a part is longer than a name may be.
+fn has_long_part(pieces: &[&[u8]]) -> bool
+    ensures { result ≡ list_any (λ part. nat_lt name_limit (length part)) (list_map (λ part. part.now) pieces.now) }
+{
+    for part in pieces {
+        if part.len() > NAME_LIMIT {
+            return true;
+        }
+    }
+    false
+}
+
+/// The first error that shows before the tree is looked at.
+pub(crate) fn test_path(path: &[u8], pieces: &[&[u8]]) -> Result<(), Errno>
+    requires { list_map (λ part. part.now) pieces.now ≡ parts path.now }
+    ensures { result_err result ≡ first_error (path_tests path.now) }
+{
+    if path.is_empty() {
+        return Err(Errno::ENOENT);
+    }
+    if path.len() > PATH_LIMIT {
+        return Err(Errno::ENAMETOOLONG);
+    }
+    if path.contains(&0) {
+        return Err(Errno::EINVAL);
+    }
+    if has_long_part(pieces) {
+        return Err(Errno::ENAMETOOLONG);
+    }
+    Ok(())
+}
+
+/// Whether the path ends in a slash.
+pub(crate) fn ends_in_slash(path: &[u8]) -> bool
+    ensures { result ≡ ends_in_slash path.now }
+{
+    match path.last() {
+        Some(last) => *last == SLASH,
+        None => false,
+    }
+}

@@ -1,0 +1,171 @@
+// Maps as a store.
+ghost use Rattle.std.specs.Prelude.{◌≡◌, ◌<◌, ◌^◌, Some, IfOk, true, take, drop};
+ghost use Rattle.std.specs.FinMap as map;
+ghost use Rattle.volume_terms.specs.Sizes.{IsSizes};
+ghost use Rattle.volume_terms.specs.VolumeSizes.{sizes_of};
+ghost use Rattle.posix_profile.specs.Charge.{charge, fits};
+ghost use Rattle.posix_profile.specs.laws.Fresh.{fresh};
+ghost use Rattle.object_store.specs.Facts.{bytes_of};
+ghost use Rattle.plain_state.specs.PlainState.{objects_in};
+
+use crate::changes::{bytes_at, changed, forget};
+use crate::names::names_at;
+use object_store::{ObjectChange, ObjectStore};
+use plain_state::change::new_number;
+use plain_state::charge::{charge, fits};
+use plain_state::links::{ROOT, entry_count_at, info, is_named, parent};
+use plain_state::object::{EntryMap, ObjectMap, PlainObject};
+use plain_state::path::entry_at;
+use plain_state::table::{object_at, put_object};
+use posix_profile::{Bytes, Info, NameList};
+use std::alloc::{AllocError, Global};
+use volume_terms::{StoreFault, VolumeSizes};
+
+/// Objects in maps, for which there is room.
+#[derive(Drop)]
+pub struct PlainObjects {
+    alloc: Global,
+    sizes: VolumeSizes,
+    objects: ObjectMap,
+    ghost fit: { fits (sizes_of sizes) (objects_in objects) ≡ true },
+}
+
+impl PlainObjects {
+    /// An empty root, at moment 0.
+    pub fn new(alloc: Global, sizes: VolumeSizes) -> Result<PlainObjects, AllocError>
+        requires { IsSizes (sizes_of sizes) }
+        ensures objects { IfOk result (λ store. objects_in store.objects ≡ fresh.objects) }
+        ensures sizes { IfOk result (λ store. sizes_of store.sizes ≡ sizes_of sizes) }
+    {
+        let root = PlainObject::Directory {
+            moment: 0,
+            entries: EntryMap::new(alloc),
+        };
+        let mut objects = ObjectMap::new(alloc);
+        put_object(&mut objects, ROOT, root)?;
+        Ok(PlainObjects {
+            alloc,
+            sizes,
+            objects,
+        })
+    }
+}
+
+/// The units that the objects cost.
+fn charge_of(sizes: VolumeSizes, objects: &ObjectMap) -> u64
+    requires { fits (sizes_of sizes) (objects_in objects.now) ≡ true }
+    ensures { result ≡ charge (sizes_of sizes) (objects_in objects.now) }
+{
+    let _capacity = sizes.capacity();
+    charge(sizes, objects)
+}
+
+/// The bytes from the offset, at most so many.
+fn window(bytes: &[u8], offset: u64, count: u32) -> &[u8]
+    ensures { result.now ≡ take count (drop offset bytes.now) }
+{
+    let start = offset.min(bytes.len() as u64) as usize;
+    let (_before, rest) = bytes.split_at(start);
+    let end = rest.len().min(count as usize);
+    let (there, _after) = rest.split_at(end);
+    there
+}
+
+/// A copy of the bytes of a file from the offset, at most so many.
+fn read_at(
+    alloc: Global,
+    objects: &ObjectMap,
+    file: u64,
+    offset: u64,
+    count: u32,
+) -> Result<Bytes, AllocError>
+    ensures { IfOk result (λ bytes. bytes ≡ take count (drop offset (bytes_of (map.get (objects_in objects.now) file)))) }
+{
+    let all = bytes_at(alloc, objects, file)?;
+    let there = Vec::from_slice(alloc, window(&all, offset, count))?;
+    Ok(Bytes::new(there))
+}
+
+impl ObjectStore for PlainObjects {
+    ghost use Rattle.plain_objects.specs.PlainMeaning.{plain_meaning, plain_lawful};
+
+    ghost meaning = { plain_meaning };
+
+    fn sizes(&self) -> VolumeSizes {
+        self.sizes
+    }
+
+    fn info(&self, number: u64) -> Option<Info> {
+        match object_at(&self.objects, number) {
+            Some(object) => Some(info(self.sizes, &self.objects, number, object)),
+            None => None,
+        }
+    }
+
+    fn parent(&self, directory: u64) -> Option<u64> {
+        if is_named(&self.objects, directory) {
+            Some(parent(&self.objects, directory))
+        } else {
+            None
+        }
+    }
+
+    fn entry_count(&self, directory: u64) -> u64 {
+        entry_count_at(&self.objects, directory)
+    }
+
+    fn charge(&self) -> u64 {
+        charge_of(self.sizes, &self.objects)
+    }
+
+    fn new_number(&self) -> u64 {
+        new_number(&self.objects)
+    }
+
+    fn find(&mut self, directory: u64, name: &[u8]) -> Result<Option<u64>, StoreFault> {
+        Ok(entry_at(&self.objects, directory, name))
+    }
+
+    fn names(&mut self, alloc: Global, directory: u64) -> Result<NameList, StoreFault> {
+        match names_at(alloc, &self.objects, directory) {
+            Ok(names) => Ok(NameList::new(names)),
+            Err(_) => Err(StoreFault::NoMemory),
+        }
+    }
+
+    fn read(
+        &mut self,
+        alloc: Global,
+        file: u64,
+        offset: u64,
+        count: u32,
+    ) -> Result<Bytes, StoreFault> {
+        match read_at(alloc, &self.objects, file, offset, count) {
+            Ok(bytes) => Ok(bytes),
+            Err(_) => Err(StoreFault::NoMemory),
+        }
+    }
+
+    fn apply(&mut self, change: &ObjectChange<'_>) -> Result<(), StoreFault> {
+        if let ObjectChange::Forget { number } = change {
+            forget(&mut self.objects, *number);
+            return Ok(());
+        }
+        match changed(self.alloc, &self.objects, change) {
+            Ok(objects) => {
+                if !fits(self.sizes, &objects) {
+                    return Err(StoreFault::NoMemory);
+                }
+                self.objects = objects;
+                Ok(())
+            }
+            Err(_) => Err(StoreFault::NoMemory),
+        }
+    }
+
+    fn commit(&mut self) -> Result<(), StoreFault> {
+        Ok(())
+    }
+
+    ghost lawful = { plain_lawful };
+}

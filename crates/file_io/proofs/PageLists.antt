@@ -1,11 +1,18 @@
 -- The pages of a change, as a list.
 use Rattle.std.specs.Prelude.{◌≡◌, ◌≢◌, ◌⊎◌, ℕ, zero, suc, ◌+◌, List, [], ◌∷◌, ◌++◌, length, slice_get, Some, None}
 use Rattle.std.proofs.Common.{refl, sym, ◌∙◌, ap, subst, inl, inr, arith}
-use Rattle.flash_tree.specs.FindingExists.{slice_get_push}
+use Rattle.volume_terms.specs.laws.List.{get_push}
 use Rattle.pages.specs.Maps.{PageMap, with_pages, IsOf}
 use Rattle.pages.specs.MapLaws.{page_here, page_elsewhere}
 use Rattle.pages.specs.declared.change.FreshPage.{FreshPage}
 use Rattle.file_io.specs.Chunks.{AreOf, HoldsChunk, HoldChunks}
+
+-- the element at a place of a longer list: one of before, or the new one
+slice_get_push : {A : Type 0} (xs : List A) (y : A) (i : ℕ) (x : A) → slice_get (xs ++ y ∷ []) i ≡ Some x → (slice_get xs i ≡ Some x) ⊎ ((i ≡ length xs) × (y ≡ x))
+slice_get_push xs y i x is = elim (get_push xs y i x is) [
+  | inl before ↦ inl before.1
+  | inr last ↦ inr (last.0, sym last.1)
+]
 
 -- what was there is there with one more at the end
 keeps_place : {A : Type 0} (xs : List A) (y : A) (i : ℕ) (x : A) → slice_get xs i ≡ Some x → slice_get (xs ++ y ∷ []) i ≡ Some x

@@ -6,7 +6,7 @@ use Rattle.nand_model.specs.Calls.{Device, Erases, Marks}
 use Rattle.nand_model.specs.declared.nand.EraseFault.{EraseFault}
 use Rattle.nand_model.specs.declared.nand.Gone.{Gone}
 use Rattle.block_state.specs.Kept.{bad_count}
-use Rattle.block_state.specs.KeptLaws.{mark_bad}
+use Rattle.block_state.specs.laws.Kept.{mark_bad}
 use Rattle.block_state.specs.Table.{Table, Sets, is_free, is_open}
 use Rattle.transactions.specs.Marking.{NotesMark}
 

@@ -1,7 +1,5 @@
 pub mod Table
 pub mod TableOf
-pub mod TableLaws
 pub mod Counting
-pub mod CountingLaws
 pub mod Kept
-pub mod KeptLaws
+pub mod laws

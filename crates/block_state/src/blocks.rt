@@ -119,7 +119,7 @@ impl Blocks {
     }
 
     /// Notes that a block is bad. The block is not the open one.
-    #[tactic(auto, using(crate::specs::TableLaws::whole_set))]
+    #[tactic(auto, using(crate::specs::laws::Table::whole_set))]
     pub fn mark_bad(&mut self, block: u32)
         requires block { block < (table self.old).geometry.blocks }
         requires closed { (table self.old).open_block ≢ Some block }
@@ -132,7 +132,7 @@ impl Blocks {
     }
 
     /// Notes the number that a block got when it was last taken, as its pages tell.
-    #[tactic(auto, using(crate::specs::TableLaws::whole_set))]
+    #[tactic(auto, using(crate::specs::laws::Table::whole_set))]
     pub fn note_seq(&mut self, block: u32, seq: u64)
         requires block { block < (table self.old).geometry.blocks }
         requires below { seq < (table self.old).next_seq }
@@ -145,7 +145,7 @@ impl Blocks {
     }
 
     /// Notes that one more page of a block is kept.
-    #[tactic(auto, using(crate::specs::TableLaws::whole_set))]
+    #[tactic(auto, using(crate::specs::laws::Table::whole_set))]
     pub fn keep(&mut self, block: u32)
         requires block { block < (table self.old).geometry.blocks }
         requires room { ((table self.old).entry block).kept < 2 ^ 32 - 1 }
@@ -161,7 +161,7 @@ impl Blocks {
     }
 
     /// Notes that one page less of a block is kept.
-    #[tactic(auto, using(crate::specs::TableLaws::whole_set))]
+    #[tactic(auto, using(crate::specs::laws::Table::whole_set))]
     pub fn release(&mut self, block: u32)
         requires block { block < (table self.old).geometry.blocks }
         requires some { 1 ≤ ((table self.old).entry block).kept }
@@ -177,7 +177,7 @@ impl Blocks {
     }
 
     /// Makes a good block, which was erased, the open one, and gives it the next number.
-    #[tactic(auto, using(crate::specs::TableLaws::whole_set))]
+    #[tactic(auto, using(crate::specs::laws::Table::whole_set))]
     pub fn open(&mut self, block: u32)
         requires block { block < (table self.old).geometry.blocks }
         requires good { ((table self.old).entry block).bad ≡ false }
@@ -194,7 +194,7 @@ impl Blocks {
     }
 
     /// Takes so many pages of the open block, which are written.
-    #[tactic(auto, using(crate::specs::TableLaws::whole_set))]
+    #[tactic(auto, using(crate::specs::laws::Table::whole_set))]
     pub fn fill(&mut self, block: u32, count: u32)
         requires open { (table self.old).open_block ≡ Some block }
         requires room { count ≤ room (table self.old) }

@@ -18,7 +18,7 @@ impl Blocks {
     }
 
     /// How many blocks are free, in one pass over the blocks.
-    #[tactic(auto, using(crate::specs::CountingLaws::counts_one, crate::specs::CountingLaws::counts_none, crate::specs::CountingLaws::counts_most))]
+    #[tactic(auto, using(crate::specs::laws::Counting::counts_one, crate::specs::laws::Counting::counts_none, crate::specs::laws::Counting::counts_most))]
     pub fn free_count(&self) -> u32
         ensures { result ≡ free_count (table self.now) }
     {
@@ -32,7 +32,7 @@ impl Blocks {
     }
 
     /// How many blocks are marked bad, in one pass over the blocks.
-    #[tactic(auto, using(crate::specs::CountingLaws::counts_one, crate::specs::CountingLaws::counts_none, crate::specs::CountingLaws::counts_most))]
+    #[tactic(auto, using(crate::specs::laws::Counting::counts_one, crate::specs::laws::Counting::counts_none, crate::specs::laws::Counting::counts_most))]
     pub fn bad_count(&self) -> u32
         ensures { result ≡ bad_count (table self.now) }
     {

@@ -6,6 +6,5 @@ pub mod Maps
 pub mod Newest
 pub mod Found
 pub mod Listing
-pub mod KeptLaws
 pub mod Kept
-pub mod MapLaws
+pub mod laws

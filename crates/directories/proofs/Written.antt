@@ -10,8 +10,8 @@ use Rattle.page_tags.specs.Headers.{IsHeader, header_bytes}
 use Rattle.page_tags.specs.Slots.{Entry, IsSlot, slot_bytes}
 use Rattle.volume_terms.specs.Sizes.{Sizes, page_slots}
 use Rattle.pages.specs.Maps.{PageMap, has, IsOf, IsCut, changed, takes, with_pages, without_cuts}
-use Rattle.pages.specs.MapLaws.{here, elsewhere, cut_cases}
-use Rattle.pages.specs.ChangeLaws.{pages_same}
+use Rattle.pages.specs.laws.Maps.{here, elsewhere, cut_cases}
+use Rattle.pages.specs.laws.Changes.{pages_same}
 use Rattle.pages.specs.Changes.{AreApart, AreSized, IsChange, IsOnlyOf}
 use Rattle.pages.specs.declared.change.FreshPage.{FreshPage}
 use Rattle.pages.specs.declared.change.Change.{Change}

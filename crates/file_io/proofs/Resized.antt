@@ -8,7 +8,7 @@ use Rattle.page_tags.specs.declared.header.ObjectKind.TheVariants as kinds
 use Rattle.posix_profile.specs.Changes.{resized}
 use Rattle.volume_terms.specs.Sizes.{Sizes}
 use Rattle.pages.specs.Maps.{PageMap, with_pages, without_cuts, changed}
-use Rattle.pages.specs.MapLaws.{page_here, cut_here, cut_elsewhere}
+use Rattle.pages.specs.laws.Maps.{page_here, cut_here, cut_elsewhere}
 use Rattle.pages.specs.State.{PagesState}
 use Rattle.pages.specs.declared.change.Change.{Change}
 use Rattle.pages.specs.declared.change.Cut.{Cut}

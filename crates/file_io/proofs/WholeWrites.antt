@@ -8,7 +8,7 @@ use Rattle.page_tags.specs.Headers.{IsHeader, IsBytes, header_bytes, is_present}
 use Rattle.posix_profile.specs.Changes.{written}
 use Rattle.volume_terms.specs.Sizes.{Sizes}
 use Rattle.pages.specs.Maps.{PageMap, without_cuts, changed, IsCut}
-use Rattle.pages.specs.MapLaws.{page_here}
+use Rattle.pages.specs.laws.Maps.{page_here}
 use Rattle.pages.specs.Changes.{IsOnlyOf}
 use Rattle.pages.specs.State.{PagesState}
 use Rattle.pages.specs.declared.change.Change.{Change}

@@ -4,7 +4,7 @@ use Rattle.std.proofs.Common.{sym, ◌∙◌, ap, subst}
 use Rattle.nand_model.specs.Flash.{Flash, Erased}
 use Rattle.nand_model.specs.Calls.{Device, Erases}
 use Rattle.nand_model.specs.Changes.{OnlyReads}
-use Rattle.nand_model.specs.ChangeLaws.{shrinks-erase}
+use Rattle.nand_model.specs.laws.Changes.{shrinks-erase}
 use Rattle.nand_model.specs.declared.nand.EraseFault.{EraseFault}
 use Rattle.flash_tree.specs.Newest.{HasNewest}
 use Rattle.flash_tree.specs.laws.Newest.{erase_keeps_elsewhere, has_newest_stays}

@@ -7,7 +7,7 @@ use Rattle.nand_model.specs.Flash.{Flash}
 use Rattle.nand_model.specs.Calls.{Device}
 use Rattle.nand_model.specs.declared.geometry.Geometry.{Geometry}
 use Rattle.nand_model.specs.Changes.{OnlyReads}
-use Rattle.nand_model.specs.ChangeLaws.{only_reads_on, only_reads_here}
+use Rattle.nand_model.specs.laws.Changes.{only_reads_on, only_reads_here}
 use Rattle.mount_scan.specs.Scanned.{good_pages, TellsGone, ReadsEach}
 use Rattle.mount_scan.specs.declared.fault.ScanFault.{ScanFault}
 use Rattle.mount_scan.specs.declared.fault.ScanFault.TheVariants as faults

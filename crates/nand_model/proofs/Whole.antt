@@ -4,7 +4,7 @@ use Rattle.std.proofs.lemmas.Bool.{cases_eq, cases_lt}
 use Rattle.nand_model.specs.Flash.{Flash, Page, Erased, Written, Uncorrectable, IsClean, IsSized, AreBytes}
 use Rattle.nand_model.specs.Plans.{programmed, erased, left_by, page_by, fate_at, erase_result}
 use Rattle.nand_model.specs.Calls.{EraseLeaves}
-use Rattle.nand_model.specs.MemoryLaws.{view_at_past}
+use Rattle.nand_model.specs.laws.Memory.{view_at_past}
 use Rattle.nand_model.specs.Memory.{IsWhole, flash_of, view_at, pages_at, size_at, next_at}
 use Rattle.nand_model.specs.declared.fate.Fate.{Fate}
 use Rattle.nand_model.specs.declared.fate.Fate.TheVariants as fates

@@ -1,14 +1,12 @@
 pub mod Size
 pub mod Flash
 pub mod Calls
-pub mod CallLaws
 pub mod Changes
-pub mod ChangeLaws
 pub mod Plans
 pub mod Planned
 pub mod Scripts
 pub mod Powers
 pub mod Memory
-pub mod MemoryLaws
 pub mod MemoryState
 pub mod SmallDevices
+pub mod laws

@@ -116,7 +116,7 @@ impl MemNand {
 
 impl Nand for MemNand {
     ghost use Rattle.nand_model.specs.MemoryState.{device, plan};
-    ghost use Rattle.nand_model.specs.MemoryLaws.{within_of};
+    ghost use Rattle.nand_model.specs.laws.Memory.{within_of};
 
     ghost state = { device };
 

@@ -14,7 +14,7 @@ use Rattle.posix_profile.specs.declared.reply.Errno.TheVariants as errors
 use Rattle.posix_profile.specs.declared.reply.Reply.{Reply}
 use Rattle.posix_profile.specs.declared.reply.Reply.TheVariants as replies
 use Rattle.object_store.specs.Stores.{Meaning, IsLawful, Has}
-use Rattle.object_store.specs.StoreLaws.{has_on}
+use Rattle.object_store.specs.laws.Store.{has_on}
 use Rattle.object_store.specs.declared.refusal.Refusal.{Refusal}
 use Rattle.object_commands.specs.Classes.{Class, Telling, Changing, Syncing, class_of, is_error}
 use Rattle.object_commands.specs.Endings.{IsAt, Leaves, IsDone, IsPassedOver, IsStopped, Ends}

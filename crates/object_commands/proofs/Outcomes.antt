@@ -20,7 +20,7 @@ use Rattle.posix_profile.specs.declared.reply.Reply.{Reply}
 use Rattle.posix_profile.specs.declared.reply.Reply.TheVariants as replies
 use Rattle.object_store.specs.Facts.{bytes_of, info_of}
 use Rattle.object_store.specs.Stores.{Meaning, IsLawful, Faults, Finds, Tells}
-use Rattle.object_store.specs.StoreLaws.{has_on, tells_on}
+use Rattle.object_store.specs.laws.Store.{has_on, tells_on}
 use Rattle.volume_terms.specs.declared.fault.StoreFault.{StoreFault}
 use Rattle.object_store.specs.declared.refusal.Refusal.{Refusal}
 use Rattle.object_store.specs.declared.refusal.Refusal.TheVariants as refusals

@@ -1,4 +1,4 @@
 pub mod Facts
 pub mod Changes
 pub mod Stores
-pub mod StoreLaws
+pub mod laws

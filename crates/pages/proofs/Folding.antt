@@ -4,8 +4,8 @@ use Rattle.std.proofs.Common.{refl, sym, ◌∙◌, ap, subst, inl, inr, arith}
 use Rattle.std.proofs.lemmas.Bool.{cond-true, cond-false}
 use Rattle.std.proofs.lemmas.List.{length-append}
 use Rattle.pages.specs.Maps.{PageMap, is_of, with_pages, without_cuts, IsOf, IsCut}
-use Rattle.pages.specs.MapLaws.{key_cases, cut_here, cut_elsewhere}
-use Rattle.pages.specs.ChangeLaws.{pages_append, pages_same, cuts_same, cuts_append}
+use Rattle.pages.specs.laws.Maps.{key_cases, cut_here, cut_elsewhere}
+use Rattle.pages.specs.laws.Changes.{pages_append, pages_same, cuts_same, cuts_append}
 use Rattle.pages.specs.Changes.{AreApart, AreSized, IsPutBehind}
 use Rattle.pages.specs.declared.change.FreshPage.{FreshPage}
 use Rattle.pages.specs.declared.change.Cut.{Cut}

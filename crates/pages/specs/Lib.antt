@@ -1,12 +1,8 @@
 pub mod Maps
-pub mod MapLaws
 pub mod Changes
-pub mod ChangeLaws
 pub mod State
-pub mod StateLaws
 pub mod Faults
-pub mod FaultLaws
 pub mod Afterwards
-pub mod AfterwardsLaws
 pub mod Memory
 pub mod MemoryState
+pub mod laws

@@ -3,7 +3,7 @@ use Rattle.std.proofs.Common.{◌≡◌, ◌≢◌, ◌⊎◌, ◌+◌, ◌-◌,
 use Rattle.std.proofs.lemmas.Bool.{cases_eq, cases_lt}
 use Rattle.nand_model.specs.Flash.{Page, Erased, Written, Uncorrectable}
 use Rattle.nand_model.specs.Calls.{Device, Lasts}
-use Rattle.nand_model.specs.CallLaws.{lasts_on, lasts_here}
+use Rattle.nand_model.specs.laws.Calls.{lasts_on, lasts_here}
 use Rattle.nand_model.specs.Changes.{Grows}
 use Rattle.page_tags.specs.Tags.{tag_bytes}
 use Rattle.flash_tree.specs.Groups.{Group, AllThere}

@@ -28,7 +28,7 @@ fn tag_of(place: &GroupPlace, name: PageName, i: u32) -> Tag
 }
 
 /// Writes page `i` of the group.
-#[tactic(auto, using(nand_model::specs::CallLaws::lasts_on))]
+#[tactic(auto, using(nand_model::specs::laws::Calls::lasts_on))]
 fn write_page<N: Nand, S: PageSource>(
     device: &mut N,
     source: &S,

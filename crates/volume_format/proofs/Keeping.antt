@@ -4,7 +4,7 @@ use Rattle.std.specs.List.{range_with_len}
 use Rattle.std.proofs.Common.{refl, sym, ◌∙◌, ap, subst, arith}
 use Rattle.nand_model.specs.Flash.{Flash, Page}
 use Rattle.nand_model.specs.Calls.{Device, Erases, Programs, Marks}
-use Rattle.nand_model.specs.CallLaws.{lasts_on, lasts_here}
+use Rattle.nand_model.specs.laws.Calls.{lasts_on, lasts_here}
 use Rattle.nand_model.specs.declared.geometry.Geometry.{Geometry}
 use Rattle.nand_model.specs.declared.nand.Gone.{Gone}
 use Rattle.nand_model.specs.declared.nand.ProgramFault.{ProgramFault}

@@ -10,7 +10,7 @@ use Rattle.flash_tree.specs.Keeping.{KeepsElsewhere}
 use Rattle.flash_tree.specs.laws.Newest.{stays_on}
 use Rattle.block_state.specs.declared.blocks.BlockEntry.{BlockEntry}
 use Rattle.block_state.specs.Kept.{bad_count, unkept_count, SameCounts}
-use Rattle.block_state.specs.KeptLaws.{mark_bad, mark_unkept, same_bad_count, same_unkept_count}
+use Rattle.block_state.specs.laws.Kept.{mark_bad, mark_unkept, same_bad_count, same_unkept_count}
 use Rattle.block_state.specs.Table.{Table, Sets}
 use Rattle.transactions.specs.Marking.{NotesMark}
 use Rattle.transactions.specs.Opening.{Opens}

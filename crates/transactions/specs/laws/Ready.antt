@@ -5,7 +5,7 @@ use Rattle.std.proofs.lemmas.Bool.{cases_eq, cases_lt}
 use Rattle.nand_model.specs.Flash.{Flash, IsWithin}
 use Rattle.nand_model.specs.Calls.{Device, Erases, Marks}
 use Rattle.nand_model.specs.Changes.{Shrinks, OnlyReads, PowersUp}
-use Rattle.nand_model.specs.ChangeLaws.{shrinks-erase}
+use Rattle.nand_model.specs.laws.Changes.{shrinks-erase}
 use Rattle.nand_model.specs.declared.geometry.Geometry.{Geometry}
 use Rattle.nand_model.specs.declared.nand.EraseFault.{EraseFault}
 use Rattle.nand_model.specs.declared.nand.Gone.{Gone}

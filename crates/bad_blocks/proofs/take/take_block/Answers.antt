@@ -1,5 +1,5 @@
 use Rattle.std.proofs.Common.{◌≤◌, ◌∙◌, sym, subst, arith, rules}
-use Rattle.nand_model.specs.CallLaws.{lasts_on}
+use Rattle.nand_model.specs.laws.Calls.{lasts_on}
 use Rattle.block_state.specs.Kept.{bad_count}
 use Rattle.block_state.specs.Table.{Table}
 use Rattle.block_state.specs.TableOf.{table}

@@ -1,4 +1,4 @@
-use Rattle.block_state.specs.KeptLaws.{mark_unkept, mark_bad, mark_kept}
+use Rattle.block_state.specs.laws.Kept.{mark_unkept, mark_bad, mark_kept}
 use Rattle.block_state.proofs.law.a_mark_moves_a_block.Goals as goal
 
 pub returns : goal.returns

@@ -1,4 +1,4 @@
-use Rattle.block_state.specs.KeptLaws.{same_bad_count, same_unkept_count, same_kept_count}
+use Rattle.block_state.specs.laws.Kept.{same_bad_count, same_unkept_count, same_kept_count}
 use Rattle.block_state.proofs.law.the_same_counts_count_the_same.Goals as goal
 
 pub returns : goal.returns

@@ -1,11 +1,11 @@
 use Rattle.std.proofs.Common.{◌≡◌, ◌+◌, ◌∙◌, ℕ, min, Option, None, length, refl, sym, subst, arith, rules}
 use Rattle.pages.specs.Afterwards.{after}
-use Rattle.pages.specs.AfterwardsLaws.{finds_after}
+use Rattle.pages.specs.laws.Afterwards.{finds_after}
 use Rattle.pages.specs.State.{PagesState}
 use Rattle.pages.specs.declared.change.Change.{Change}
 use Rattle.directories.specs.Directories.{DirIn}
 use Rattle.page_tags.specs.SlotEntry.{entry_of}
-use Rattle.pages.specs.FaultLaws.{says_more}
+use Rattle.pages.specs.laws.Faults.{says_more}
 use Rattle.pages.specs.Maps.{PageMap, changed}
 use Rattle.directories.specs.Directories.{SlotOf}
 use Rattle.directories.specs.Writes.{HasHead, KeepsSlots}

@@ -1,6 +1,6 @@
 use Rattle.std.proofs.Common.{◌∙◌, Some, option_copied, sym, ap, subst}
 use Rattle.page_tags.specs.Headers.{IsHeader}
-use Rattle.pages.specs.AfterwardsLaws.{sized_on}
+use Rattle.pages.specs.laws.Afterwards.{sized_on}
 use Rattle.directories.proofs.head.head_after.Goals as goal
 
 pub returns-in-Some-clause-told : goal.returns-in-Some-clause-told

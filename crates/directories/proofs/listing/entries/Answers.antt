@@ -6,7 +6,7 @@ use Rattle.flash_tree.specs.Tree.{IsPageSize}
 use Rattle.volume_terms.specs.Sizes.{page_slots}
 use Rattle.pages.specs.Maps.{PageMap}
 use Rattle.pages.specs.State.{PagesState}
-use Rattle.pages.specs.StateLaws.{finds_none, finds_on}
+use Rattle.pages.specs.laws.State.{finds_none, finds_on}
 use Rattle.directories.specs.Listings.{ReadsFirst}
 use Rattle.directories.proofs.Listed.{none_read, all_read, same_entries}
 use Rattle.directories.proofs.Reading.{later}

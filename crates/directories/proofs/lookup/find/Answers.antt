@@ -1,7 +1,7 @@
 use Rattle.std.proofs.Common.{◌∙◌, Option, None, sym}
 use Rattle.std.proofs.lemmas.Result.{err_from_is_err_and}
 use Rattle.pages.specs.Afterwards.{after}
-use Rattle.pages.specs.AfterwardsLaws.{finds_after}
+use Rattle.pages.specs.laws.Afterwards.{finds_after}
 use Rattle.pages.specs.State.{PagesState}
 use Rattle.pages.specs.declared.change.Change.{Change}
 use Rattle.directories.specs.Directories.{DirIn}

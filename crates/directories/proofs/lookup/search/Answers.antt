@@ -6,7 +6,7 @@ use Rattle.volume_terms.specs.Sizes.{page_slots}
 use Rattle.pages.specs.Afterwards.{changed_by}
 use Rattle.pages.specs.Maps.{PageMap}
 use Rattle.pages.specs.State.{PagesState}
-use Rattle.pages.specs.StateLaws.{finds_on}
+use Rattle.pages.specs.laws.State.{finds_on}
 use Rattle.directories.specs.Directories.{SlotOf}
 use Rattle.directories.specs.Slots.{AreSlots, Finds}
 use Rattle.directories.proofs.Searching.{begins, ends, none_on, slots_among, found_among, none_found, chunk_end}

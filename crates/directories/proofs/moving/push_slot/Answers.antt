@@ -1,6 +1,6 @@
 use Rattle.std.proofs.Common.{◌≡◌, ◌+◌, ℕ, min, option_copied, subst, arith, rules}
 use Rattle.pages.specs.Afterwards.{changed_by}
-use Rattle.pages.specs.FaultLaws.{says_more}
+use Rattle.pages.specs.laws.Faults.{says_more}
 use Rattle.pages.specs.Maps.{PageMap, changed}
 use Rattle.pages.specs.State.{PagesState}
 use Rattle.directories.specs.Writes.{HasHead, KeepsSlots}

@@ -2,8 +2,8 @@ use Rattle.std.proofs.Common.{◌≡◌, ◌+◌, ◌∙◌, ℕ, min, Option, o
 use Rattle.std.proofs.lemmas.Result.{err_from_is_err_and}
 use Rattle.std.specs.FinMap as map
 use Rattle.pages.specs.Afterwards.{after, changed_by}
-use Rattle.pages.specs.FaultLaws.{says_more}
-use Rattle.pages.specs.AfterwardsLaws.{finds_after}
+use Rattle.pages.specs.laws.Faults.{says_more}
+use Rattle.pages.specs.laws.Afterwards.{finds_after}
 use Rattle.pages.specs.State.{PagesState}
 use Rattle.pages.specs.declared.change.Change.{Change}
 use Rattle.directories.specs.Directories.{DirIn}

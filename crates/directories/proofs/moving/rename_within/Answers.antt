@@ -2,7 +2,7 @@ use Rattle.std.proofs.Common.{◌≡◌, ◌∙◌, Some, None, sym, subst, arit
 use Rattle.std.proofs.lemmas.Result.{err_from_is_err_and}
 use Rattle.std.specs.FinMap as map
 use Rattle.pages.specs.Afterwards.{after}
-use Rattle.pages.specs.ChangeLaws.{others_keep}
+use Rattle.pages.specs.laws.Changes.{others_keep}
 use Rattle.pages.specs.Changes.{IsChange, AreSized}
 use Rattle.pages.specs.Maps.{PageMap, changed}
 use Rattle.pages.specs.State.{PagesState}

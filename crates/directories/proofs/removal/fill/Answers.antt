@@ -3,7 +3,7 @@ use Rattle.std.proofs.lemmas.Result.{err_from_is_err_and}
 use Rattle.page_tags.specs.SlotEntry.{entry_of}
 use Rattle.page_tags.specs.Slots.{Entry}
 use Rattle.pages.specs.Afterwards.{changed_by}
-use Rattle.pages.specs.FaultLaws.{lacks_memory}
+use Rattle.pages.specs.laws.Faults.{lacks_memory}
 use Rattle.pages.specs.Maps.{PageMap, changed}
 use Rattle.pages.specs.State.{PagesState}
 use Rattle.directories.specs.Directories.{SlotOf}

@@ -1,8 +1,8 @@
 use Rattle.std.proofs.Common.{◌≡◌, ◌∙◌, ℕ, min, Option, None, length, refl, sym, subst, arith}
 use Rattle.std.proofs.lemmas.Result.{err_from_is_err_and}
 use Rattle.pages.specs.Afterwards.{after}
-use Rattle.pages.specs.FaultLaws.{lacks_memory}
-use Rattle.pages.specs.AfterwardsLaws.{finds_after}
+use Rattle.pages.specs.laws.Faults.{lacks_memory}
+use Rattle.pages.specs.laws.Afterwards.{finds_after}
 use Rattle.pages.specs.State.{PagesState}
 use Rattle.pages.specs.declared.change.Change.{Change}
 use Rattle.directories.specs.Directories.{DirIn}

@@ -1,7 +1,7 @@
 use Rattle.std.proofs.Common.{◌≡◌, ◌-◌, ◌*◌, ◌≤◌, ◌++◌, ◌∙◌, ℕ, List, [], Some, take, drop, replicate, length, sym, ap, arith, rules}
 use Rattle.std.proofs.lemmas.List.{drop-replicate, with_items_is, places}
 use Rattle.std.specs.Vec.{with_items}
-use Rattle.pages.specs.AfterwardsLaws.{sized_on}
+use Rattle.pages.specs.laws.Afterwards.{sized_on}
 use Rattle.pages.specs.State.{PagesState}
 use Rattle.directories.proofs.Written.{blank}
 use Rattle.directories.proofs.writing.page_with.Goals as goal

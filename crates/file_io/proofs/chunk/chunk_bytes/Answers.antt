@@ -3,7 +3,7 @@ use Rattle.std.proofs.lemmas.List.{with_items_is, places}
 use Rattle.std.proofs.lemmas.Result.{err_from_is_err_and}
 use Rattle.std.specs.Vec.{with_items}
 use Rattle.page_tags.specs.Headers.{is_present}
-use Rattle.pages.specs.FaultLaws.{lacks_memory}
+use Rattle.pages.specs.laws.Faults.{lacks_memory}
 use Rattle.pages.specs.State.{PagesState}
 use Rattle.file_io.specs.Chunks.{HoldsChunk}
 use Rattle.file_io.proofs.ChunkPages.{absent_holds, chunk_there, present_holds}

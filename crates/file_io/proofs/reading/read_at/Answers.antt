@@ -1,7 +1,7 @@
 use Rattle.std.proofs.Common.{◌≡◌, ◌⊎◌, ◌<◌, ◌≤◌, ◌+◌, ◌-◌, ◌*◌, ◌/◌, ◌^◌, ◌∙◌, ℕ, List, cond, refl, ap, sym, subst, take, drop, length, min, arith, rules}
 use Rattle.std.proofs.lemmas.Result.{err_from_is_err_and}
 use Rattle.pages.specs.State.{PagesState}
-use Rattle.pages.specs.StateLaws.{finds_on}
+use Rattle.pages.specs.laws.State.{finds_on}
 use Rattle.page_tags.specs.Headers.{IsHeader, is_present}
 use Rattle.file_io.specs.Files.{fields_in}
 use Rattle.file_io.specs.Chunks.{count_present}

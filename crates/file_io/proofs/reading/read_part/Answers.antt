@@ -1,7 +1,7 @@
 use Rattle.std.proofs.Common.{◌≡◌, ◌<◌, ◌+◌, ◌-◌, ◌*◌, ◌++◌, ◌∙◌, ℕ, List, sym, ap, subst, take, drop, length, Some, true, false, arith}
 use Rattle.std.proofs.lemmas.Result.{err_from_is_err_and}
 use Rattle.page_tags.specs.Headers.{is_present}
-use Rattle.pages.specs.FaultLaws.{lacks_memory}
+use Rattle.pages.specs.laws.Faults.{lacks_memory}
 use Rattle.pages.specs.State.{PagesState}
 use Rattle.file_io.specs.Parts.{AppendsPart, part_from, part_to}
 use Rattle.file_io.proofs.FilePages.{part_present, part_absent, page_there}

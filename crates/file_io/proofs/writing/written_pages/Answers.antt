@@ -4,7 +4,7 @@ use Rattle.std.proofs.lemmas.Result.{err_from_is_err_and}
 use Rattle.posix_profile.specs.Changes.{written}
 use Rattle.pages.specs.Changes.{AreSized}
 use Rattle.pages.specs.State.{PagesState}
-use Rattle.pages.specs.StateLaws.{finds_on}
+use Rattle.pages.specs.laws.State.{finds_on}
 use Rattle.pages.specs.declared.change.FreshPage.{FreshPage}
 use Rattle.file_io.specs.Chunks.{AreOf, HoldsChunk, HoldChunks, IsTail, IsWritten}
 use Rattle.file_io.proofs.FilePages.{later}

@@ -3,7 +3,7 @@ use Rattle.std.proofs.lemmas.Bool.{cases_eq}
 use Rattle.std.proofs.lemmas.Result.{err_from_is_err_and}
 use Rattle.std.specs.FinMap as map
 use Rattle.nand_model.specs.Calls.{Device}
-use Rattle.nand_model.specs.ChangeLaws.{only_reads_on}
+use Rattle.nand_model.specs.laws.Changes.{only_reads_on}
 use Rattle.nand_model.specs.declared.geometry.Geometry.{Geometry}
 use Rattle.flash_tree.specs.laws.Tree.{slice_get_within}
 use Rattle.page_tags.specs.Slots.{Entry}

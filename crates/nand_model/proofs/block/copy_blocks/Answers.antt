@@ -6,7 +6,7 @@ use Rattle.std.proofs.lemmas.Option.{gets}
 use Rattle.nand_model.specs.declared.block.MemBlock.{MemBlock}
 use Rattle.nand_model.specs.Memory.{view_at, size_at, pages_at, bad_at, next_at}
 use Rattle.nand_model.proofs.Slots.{map_or_push_old, map_or_push_new, everywhere}
-use Rattle.nand_model.specs.MemoryLaws.{map_or_past}
+use Rattle.nand_model.specs.laws.Memory.{map_or_past}
 use Rattle.nand_model.proofs.block.copy_blocks.Goals as goal
 
 pub loop-block-preserved : goal.loop-block-preserved

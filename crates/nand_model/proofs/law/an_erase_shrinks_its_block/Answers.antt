@@ -1,4 +1,4 @@
-use Rattle.nand_model.specs.ChangeLaws.{shrinks-erase}
+use Rattle.nand_model.specs.laws.Changes.{shrinks-erase}
 use Rattle.nand_model.proofs.law.an_erase_shrinks_its_block.Goals as goal
 
 pub returns : goal.returns

@@ -1,4 +1,4 @@
-use Rattle.nand_model.specs.ChangeLaws.{only_reads-read, only_reads_on}
+use Rattle.nand_model.specs.laws.Changes.{only_reads-read, only_reads_on}
 use Rattle.nand_model.proofs.law.reads_change_nothing.Goals as goal
 
 pub returns : goal.returns

@@ -1,7 +1,7 @@
 use Rattle.std.proofs.Common.{◌≡◌, ◌<◌, ◌∙◌, ℕ, List, Some, None, slice_get, sym, ap, subst}
 use Rattle.std.proofs.lemmas.Result.{err_from_is_err_and}
 use Rattle.pages.specs.Maps.{IsOf, IsCut}
-use Rattle.pages.specs.MapLaws.{first_here, gone, elsewhere}
+use Rattle.pages.specs.laws.Maps.{first_here, gone, elsewhere}
 use Rattle.pages.specs.Afterwards.{bytes_or}
 use Rattle.pages.specs.State.{PagesState}
 use Rattle.pages.specs.declared.change.FreshPage.{FreshPage}

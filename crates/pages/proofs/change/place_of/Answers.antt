@@ -2,7 +2,7 @@ use Rattle.std.proofs.Common.{◌≡◌, ◌<◌, ◌∙◌, Some, slice_get, le
 use Rattle.std.proofs.lemmas.Bool.{cases_eq}
 use Rattle.std.proofs.lemmas.Option.{slice_get_read}
 use Rattle.flash_tree.specs.laws.Tree.{slice_get_within}
-use Rattle.pages.specs.MapLaws.{key_cases}
+use Rattle.pages.specs.laws.Maps.{key_cases}
 use Rattle.pages.specs.declared.change.FreshPage.{FreshPage}
 use Rattle.pages.proofs.change.place_of.Goals as goal
 

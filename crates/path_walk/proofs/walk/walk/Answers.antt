@@ -2,7 +2,7 @@ use Rattle.std.proofs.Common.{map as list_map, ap}
 use Rattle.std.proofs.lemmas.Result.{err_from_is_err_and}
 use Rattle.std.proofs.lemmas.List.{drop_all}
 use Rattle.posix_profile.specs.Paths.{component}
-use Rattle.object_store.specs.StoreLaws.{has_on}
+use Rattle.object_store.specs.laws.Store.{has_on}
 use Rattle.path_walk.specs.Places.{last_of}
 use Rattle.path_walk.proofs.Walks.{drop_at, some_at, going_start, walk_more, walk_err, walk_done, leads_same}
 use Rattle.path_walk.proofs.walk.walk.Goals as goal

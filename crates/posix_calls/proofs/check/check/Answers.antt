@@ -1,7 +1,7 @@
 use Rattle.std.proofs.Common.{ap, ℕ, ◌≡◌, ◌∙◌, true, false, sym, subst}
 use Rattle.std.proofs.lemmas.Result.{err_from_is_err_and}
 use Rattle.nand_model.specs.Calls.{Device}
-use Rattle.nand_model.specs.ChangeLaws.{only_reads_on}
+use Rattle.nand_model.specs.laws.Changes.{only_reads_on}
 use Rattle.nand_model.specs.Flash.{Flash}
 use Rattle.nand_model.specs.declared.geometry.Geometry.{Geometry}
 use Rattle.flash_tree.specs.Mount.{sizes_of}

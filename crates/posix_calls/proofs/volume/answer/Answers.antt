@@ -1,6 +1,6 @@
 use Rattle.std.proofs.Common.{◌∙◌, refl, sym, ap, inl, [], ◌∷◌}
 use Rattle.nand_model.specs.Calls.{Device}
-use Rattle.nand_model.specs.ChangeLaws.{only_reads_here}
+use Rattle.nand_model.specs.laws.Changes.{only_reads_here}
 use Rattle.flash_tree.specs.Mount.{sizes_of}
 use Rattle.posix_profile.specs.Outcomes.{answer}
 use Rattle.posix_profile.specs.Paths.{slash}

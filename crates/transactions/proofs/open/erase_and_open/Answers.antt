@@ -1,6 +1,6 @@
 use Rattle.std.proofs.Common.{◌∙◌, rules}
 use Rattle.nand_model.specs.Calls.{Device}
-use Rattle.nand_model.specs.ChangeLaws.{shrinks-erase}
+use Rattle.nand_model.specs.laws.Changes.{shrinks-erase}
 use Rattle.flash_tree.specs.laws.Newest.{erase_keeps_elsewhere}
 use Rattle.block_state.specs.TableOf.{table}
 use Rattle.transactions.specs.laws.Ready.{ready_erased, ready_opened}

@@ -1,5 +1,5 @@
 use Rattle.std.proofs.Common.{arith}
-use Rattle.block_state.specs.TableLaws.{whole_set}
+use Rattle.block_state.specs.laws.Table.{whole_set}
 use Rattle.block_state.proofs.blocks.Blocks.note_seq.Goals as goal
 
 pub invariant_of-self : goal.invariant_of-self

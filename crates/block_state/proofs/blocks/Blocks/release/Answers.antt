@@ -1,4 +1,4 @@
-use Rattle.block_state.specs.TableLaws.{whole_set}
+use Rattle.block_state.specs.laws.Table.{whole_set}
 use Rattle.block_state.proofs.blocks.Blocks.release.Goals as goal
 
 pub invariant_of-self : goal.invariant_of-self

@@ -1,4 +1,4 @@
-use Rattle.chunk_index.specs.MapLaws.{agree_same, below_same, below_placed}
+use Rattle.chunk_index.specs.laws.Maps.{agree_same, below_same, below_placed}
 use Rattle.chunk_index.proofs.tests.Store.buffer.Goals as goal
 
 pub invariant_of-self : goal.invariant_of-self

@@ -1,5 +1,5 @@
 use Rattle.std.proofs.Common.{sym, ◌∙◌}
-use Rattle.chunk_index.specs.MapLaws.{below_copied}
+use Rattle.chunk_index.specs.laws.Maps.{below_copied}
 use Rattle.chunk_index.proofs.tests.Store.copy.Goals as goal
 
 pub invariant_of-self : goal.invariant_of-self

@@ -1,7 +1,7 @@
 use Rattle.std.proofs.Common.{ap, refl}
 use Rattle.block_state.specs.Table.{Table}
 use Rattle.block_state.specs.TableOf.{table}
-use Rattle.chunk_index.specs.MapLaws.{below_empty}
+use Rattle.chunk_index.specs.laws.Maps.{below_empty}
 use Rattle.index_times.proofs.filled.Filled.new.Goals as goal
 
 pub invariant_of-result-clause-agree : goal.invariant_of-result-clause-agree

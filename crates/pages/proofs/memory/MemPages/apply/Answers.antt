@@ -1,5 +1,5 @@
 use Rattle.std.proofs.Common.{◌∙◌, List, refl, sym, ap}
-use Rattle.pages.specs.ChangeLaws.{pages_same, cuts_nothing, changed_same}
+use Rattle.pages.specs.laws.Changes.{pages_same, cuts_nothing, changed_same}
 use Rattle.pages.specs.Maps.{with_pages, without_cuts}
 use Rattle.pages.specs.Memory.{nothing}
 use Rattle.pages.specs.declared.change.Cut.{Cut}

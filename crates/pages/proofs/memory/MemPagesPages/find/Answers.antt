@@ -1,6 +1,6 @@
 use Rattle.std.proofs.Common.{◌≡◌, ◌<◌, ◌∙◌, ℕ, List, Some, slice_get, sym, ap, subst}
 use Rattle.pages.specs.Maps.{IsOf}
-use Rattle.pages.specs.MapLaws.{first_here, page_elsewhere}
+use Rattle.pages.specs.laws.Maps.{first_here, page_elsewhere}
 use Rattle.pages.specs.Memory.{nothing}
 use Rattle.pages.specs.Afterwards.{bytes_or}
 use Rattle.pages.specs.declared.change.FreshPage.{FreshPage}

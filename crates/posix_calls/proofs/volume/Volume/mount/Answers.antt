@@ -1,6 +1,6 @@
 use Rattle.std.proofs.Common.{◌≡◌, ◌⊎◌, ◌↔◌, ◌<◌, ◌∙◌, Bool, false, sym, subst, IsTrue, arith}
 use Rattle.nand_model.specs.Calls.{Device}
-use Rattle.nand_model.specs.ChangeLaws.{only_reads_on}
+use Rattle.nand_model.specs.laws.Changes.{only_reads_on}
 use Rattle.nand_model.specs.Changes.{OnlyReads}
 use Rattle.nand_model.specs.Flash.{Flash}
 use Rattle.nand_model.specs.declared.geometry.Geometry.{Geometry}

@@ -3,7 +3,7 @@ use Rattle.std.proofs.lemmas.Result.{err_from_is_err_and}
 use Rattle.std.proofs.lemmas.List.{append_assoc, append-nil, take_more, take_all, length-append}
 use Rattle.std.proofs.Math.Seq.{length-take-le}
 use Rattle.nand_model.specs.Calls.{Device}
-use Rattle.nand_model.specs.CallLaws.{lasts_on, lasts_here}
+use Rattle.nand_model.specs.laws.Calls.{lasts_on, lasts_here}
 use Rattle.nand_model.specs.declared.geometry.Geometry.{Geometry}
 use Rattle.block_state.specs.TableOf.{table}
 use Rattle.flash_tree.specs.Mount.{sizes_of}

@@ -3,7 +3,7 @@ use Rattle.std.specs.Prelude.{◌≡◌, ◌≢◌, ℕ, List, [], ◌∷◌, �
 use Rattle.std.proofs.Common.{refl, sym, ◌∙◌, ap, inl, inr}
 use Rattle.std.proofs.lemmas.Bool.{cases_eq, cond-true, cond-false}
 use Rattle.pages.specs.Maps.{PageMap, is_of, with_pages, takes, without_cuts, changed}
-use Rattle.pages.specs.MapLaws.{cut_cases, elsewhere}
+use Rattle.pages.specs.laws.Maps.{cut_cases, elsewhere}
 use Rattle.pages.specs.Changes.{IsNothing, IsOnlyOf}
 use Rattle.pages.specs.declared.change.FreshPage.{FreshPage}
 use Rattle.pages.specs.declared.change.Cut.{Cut}

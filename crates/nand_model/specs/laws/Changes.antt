@@ -4,7 +4,7 @@ use Rattle.std.proofs.Common.{refl, sym, ◌∙◌, ap, arith, inl, inr}
 use Rattle.std.proofs.lemmas.Bool.{cases_eq}
 use Rattle.nand_model.specs.Flash.{Flash, Page, Erased, Uncorrectable, IsClean}
 use Rattle.nand_model.specs.Calls.{Device, Reads, ReadEnds, Programs, Erases, EraseLeaves}
-use Rattle.nand_model.specs.CallLaws.{lasts_on, lasts_here}
+use Rattle.nand_model.specs.laws.Calls.{lasts_on, lasts_here}
 use Rattle.nand_model.specs.Changes.{Grows, Shrinks, OnlyReads}
 use Rattle.nand_model.specs.declared.nand.PageKind.{PageKind}
 use Rattle.nand_model.specs.declared.nand.Gone.{Gone}

@@ -6,7 +6,7 @@ use Rattle.std.proofs.Math.Nat.{mul-le-mul_right, mul-le-mul_left}
 use Rattle.nand_model.specs.declared.geometry.Geometry.{Geometry}
 use Rattle.block_state.specs.declared.blocks.BlockEntry.{BlockEntry}
 use Rattle.block_state.specs.Counting.{how_many, sum_below}
-use Rattle.block_state.specs.CountingLaws.{one_if, sum_below-suc, sum_below-same, sum_below-zero, counts_same, counts_less, counts_nothing}
+use Rattle.block_state.specs.laws.Counting.{one_if, sum_below-suc, sum_below-same, sum_below-zero, counts_same, counts_less, counts_nothing}
 use Rattle.block_state.specs.Kept.{is_unkept, bad_count, free_count, unkept_count, kept_count, HasSpare, IsScarce, SameCounts}
 use Rattle.block_state.specs.Table.{Table, Sets, is_bad, is_open, is_free, IsFewest, NoneKept, NoneFree}
 

@@ -1,0 +1,5 @@
+pub mod Afterwards
+pub mod Changes
+pub mod Faults
+pub mod Maps
+pub mod State

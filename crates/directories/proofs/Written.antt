@@ -13,7 +13,7 @@ use Rattle.pages.specs.Maps.{PageMap, has, IsOf, IsCut, changed, takes, with_pag
 use Rattle.pages.specs.laws.Maps.{here, elsewhere, cut_cases}
 use Rattle.pages.specs.laws.Changes.{pages_same}
 use Rattle.pages.specs.Changes.{AreApart, AreSized, IsChange, IsOnlyOf}
-use Rattle.pages.specs.declared.change.FreshPage.{FreshPage}
+use Rattle.flash_tree.specs.declared.place.FreshPage.{FreshPage}
 use Rattle.pages.specs.declared.change.Change.{Change}
 use Rattle.pages.specs.declared.change.Cut.{Cut}
 use Rattle.directories.specs.Directories.{SlotOf}

@@ -1,7 +1,7 @@
 -- The page of a directory's header.
 use Rattle.std.specs.Prelude.{◌≡◌, ℕ, List, length}
 use Rattle.page_tags.specs.Headers.{IsHeader, header_bytes}
-use Rattle.pages.specs.declared.change.FreshPage.{FreshPage}
+use Rattle.flash_tree.specs.declared.place.FreshPage.{FreshPage}
 use Rattle.directories.specs.Heads.{fields_in}
 use Rattle.directories.specs.declared.head.DirectoryHead.{DirectoryHead}
 

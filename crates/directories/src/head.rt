@@ -8,9 +8,9 @@ ghost use Rattle.pages.specs.State.{OnlyFinds};
 ghost use Rattle.directories.specs.HeadPages.{IsHeadIn, IsHeadPage};
 ghost use Rattle.directories.specs.Heads.{IsHeadOf, IsHeaded, SaysHead};
 
-use flash_tree::Key;
+use flash_tree::{FreshPage, Key};
 use page_tags::{Format, Header, ObjectKind, decode_header, encode_header};
-use pages::{Change, FreshPage, PageFault, Pages, load_after, page_after};
+use pages::{Change, PageFault, Pages, load_after, page_after};
 use std::alloc::{AllocError, Global};
 
 /// What the header of a directory says: its spare blocks, which are meant in the root's alone, how many entries it

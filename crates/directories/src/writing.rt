@@ -14,9 +14,9 @@ ghost use Rattle.directories.specs.Writes.{IsSlotsPage, IsSlotPage, HasHead, Has
 
 use crate::head::{DirectoryHead, head_page};
 use crate::page::{copy_slots, write_slot};
-use flash_tree::Key;
+use flash_tree::{FreshPage, Key};
 use page_tags::{SLOT_BYTES, Slot};
-use pages::{Change, FreshPage, PageFault, Pages, load_after, page_after};
+use pages::{Change, PageFault, Pages, load_after, page_after};
 use std::alloc::Global;
 
 /// A slot that is written: its number, and how many slots the directory has before and afterwards.

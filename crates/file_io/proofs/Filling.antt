@@ -5,7 +5,7 @@ use Rattle.std.proofs.Math.Nat.{div-add-mod', lt-div-mul-add, div-mul-le_self, m
 use Rattle.std.proofs.lemmas.Bool.{cases_lt}
 use Rattle.std.proofs.lemmas.Nat.{div-mul-add, mod-mul-add}
 use Rattle.posix_profile.specs.Changes.{written}
-use Rattle.pages.specs.declared.change.FreshPage.{FreshPage}
+use Rattle.flash_tree.specs.declared.place.FreshPage.{FreshPage}
 use Rattle.file_io.specs.Chunks.{AreOf, HoldChunks, IsTail, IsWritten}
 use Rattle.file_io.proofs.Ranges.{begins_before}
 use Rattle.file_io.proofs.Written.{written_before}

@@ -4,7 +4,7 @@ use Rattle.std.proofs.Common.{refl, sym, ◌∙◌, ap, subst, inl, inr, arith}
 use Rattle.volume_terms.specs.laws.List.{get_push}
 use Rattle.pages.specs.Maps.{PageMap, with_pages, IsOf}
 use Rattle.pages.specs.laws.Maps.{page_here, page_elsewhere}
-use Rattle.pages.specs.declared.change.FreshPage.{FreshPage}
+use Rattle.flash_tree.specs.declared.place.FreshPage.{FreshPage}
 use Rattle.file_io.specs.Chunks.{AreOf, HoldsChunk, HoldChunks}
 
 -- the element at a place of a longer list: one of before, or the new one

@@ -12,7 +12,7 @@ use Rattle.pages.specs.laws.Maps.{page_here, cut_here, cut_elsewhere}
 use Rattle.pages.specs.State.{PagesState}
 use Rattle.pages.specs.declared.change.Change.{Change}
 use Rattle.pages.specs.declared.change.Cut.{Cut}
-use Rattle.pages.specs.declared.change.FreshPage.{FreshPage}
+use Rattle.flash_tree.specs.declared.place.FreshPage.{FreshPage}
 use Rattle.file_io.specs.Files.{FileIn, Becomes, fields_in}
 use Rattle.file_io.specs.Chunks.{AreOf, HoldChunks, IsTail, IsAmong}
 use Rattle.file_io.specs.Cuts.{CutsFrom}

@@ -13,7 +13,7 @@ use Rattle.pages.specs.Changes.{IsOnlyOf}
 use Rattle.pages.specs.State.{PagesState}
 use Rattle.pages.specs.declared.change.Change.{Change}
 use Rattle.pages.specs.declared.change.Cut.{Cut}
-use Rattle.pages.specs.declared.change.FreshPage.{FreshPage}
+use Rattle.flash_tree.specs.declared.place.FreshPage.{FreshPage}
 use Rattle.file_io.specs.Files.{FileIn, Becomes, fields_in}
 use Rattle.file_io.specs.Chunks.{AreOf, HoldChunks, IsAmong, IsWritten}
 use Rattle.file_io.proofs.Becoming.{becomes}

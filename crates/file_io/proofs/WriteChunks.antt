@@ -9,7 +9,7 @@ use Rattle.posix_profile.specs.Changes.{written, resized}
 use Rattle.volume_terms.specs.Sizes.{Sizes}
 use Rattle.pages.specs.Maps.{PageMap, with_pages}
 use Rattle.pages.specs.State.{PagesState}
-use Rattle.pages.specs.declared.change.FreshPage.{FreshPage}
+use Rattle.flash_tree.specs.declared.place.FreshPage.{FreshPage}
 use Rattle.file_io.specs.Files.{FileIn}
 use Rattle.file_io.specs.Chunks.{AreOf, HoldChunks, IsTail, IsAmong, IsWritten}
 use Rattle.file_io.proofs.Becoming.{IsFresh, IsKept, IsGone}

@@ -4,7 +4,7 @@ use Rattle.std.specs.List.{range_with_len}
 use Rattle.page_tags.specs.Headers.{is_present}
 use Rattle.pages.specs.Maps.{IsOf}
 use Rattle.pages.specs.Changes.{AreApart}
-use Rattle.pages.specs.declared.change.FreshPage.{FreshPage}
+use Rattle.flash_tree.specs.declared.place.FreshPage.{FreshPage}
 
 -- over so many chunks n bytes from a place on extend
 abbrev pub chunks_over : ℕ → ℕ → ℕ → ℕ

@@ -9,9 +9,9 @@ ghost use Rattle.file_io.specs.Chunks.{AreOf, HoldChunks, HoldsChunk, IsTail};
 ghost use Rattle.pages.specs.Faults.{MayLackMemory, SaysWhyMaking};
 
 use crate::head::FileHead;
-use flash_tree::Key;
+use flash_tree::{FreshPage, Key};
 use page_tags::is_present;
-use pages::{FreshPage, PageFault, Pages, load};
+use pages::{PageFault, Pages, load};
 use std::alloc::Global;
 
 /// Writes zeros over the bytes from a place on.

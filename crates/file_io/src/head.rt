@@ -12,9 +12,9 @@ ghost use Rattle.file_io.specs.Heads.{IsHeadOf};
 ghost use Rattle.pages.specs.Faults.{MayLack, MayLackMemory, SaysWhy, SaysWhyMaking};
 ghost use Rattle.pages.specs.declared.fault.PageFault.TheVariants as faults;
 
-use flash_tree::Key;
+use flash_tree::{FreshPage, Key};
 use page_tags::{Format, Header, ObjectKind, decode_header, encode_header};
-use pages::{FreshPage, PageFault, Pages, load};
+use pages::{PageFault, Pages, load};
 use std::alloc::{AllocError, Global};
 
 /// The length of a file in bytes, and the moment of its last change.

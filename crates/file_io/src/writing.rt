@@ -15,8 +15,8 @@ ghost use Rattle.pages.specs.Faults.{MayLackMemory, SaysWhyMaking};
 use crate::bits::{has_all, mark};
 use crate::chunk::{chunk_bytes, tail_pages};
 use crate::head::{FileHead, head_page, read_head};
-use flash_tree::Key;
-use pages::{Change, FreshPage, PageFault, Pages};
+use flash_tree::{FreshPage, Key};
+use pages::{Change, PageFault, Pages};
 use std::alloc::Global;
 
 /// Writes bytes over a part of a page.

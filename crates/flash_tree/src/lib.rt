@@ -14,5 +14,5 @@ pub use law::{
     the_footprint_shows_the_tree, the_greatest_numbers_are_one, the_same_groups_show_the_same,
     what_stays_newest_has_its_data,
 };
-pub use place::{Found, Key, TagNumbers};
+pub use place::{Found, FreshPage, Key, TagNumbers};
 pub use tag::tag_at;

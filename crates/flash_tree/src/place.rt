@@ -24,3 +24,10 @@ pub struct TagNumbers {
     pub group: u64,
     pub seq: u64,
 }
+
+/// A page of a key, as it is to be.
+#[derive(Drop)]
+pub struct FreshPage {
+    pub key: Key,
+    pub bytes: Vec<u8>,
+}

@@ -20,7 +20,7 @@ use Rattle.flash_tree.specs.Tree.{ReadsDir, SlotIs}
 use Rattle.volume_terms.specs.Sizes.{Sizes, page_slots}
 use Rattle.posix_profile.specs.State.{Name, Entries}
 use Rattle.flat_store.specs.Changes.{IsOf, AreApart}
-use Rattle.transactions.specs.declared.fresh.FreshPage.{FreshPage}
+use Rattle.flash_tree.specs.declared.place.FreshPage.{FreshPage}
 use Rattle.flat_directories.specs.Additions.{IsSlotPage, IsEntriesPage, ArePagesOf, HasPages, KeepsOthersOf, AddsEntry}
 use Rattle.flat_directories.proofs.SlotLists.{once_push, entries_push}
 use Rattle.volume_terms.specs.laws.List.{get_push}

@@ -8,7 +8,7 @@ use Rattle.flash_tree.specs.Tree.{ReadsDir, SlotIs}
 use Rattle.volume_terms.specs.Sizes.{Sizes, page_slots}
 use Rattle.posix_profile.specs.State.{Entries}
 use Rattle.flat_store.specs.Changes.{IsOf, AreApart}
-use Rattle.transactions.specs.declared.fresh.FreshPage.{FreshPage}
+use Rattle.flash_tree.specs.declared.place.FreshPage.{FreshPage}
 
 -- the page of slot i of a directory: this entry stands there, and the slots before it in the page are those that stood on the flash
 pub record IsSlotPage (z : Sizes) (old : Flash) (d i : ℕ) (entry : Entry) (page : FreshPage) : Type 0 where

@@ -3,7 +3,7 @@ use Rattle.std.specs.Prelude.{◌≡◌, ℕ, ◌-◌, List, length, replicate}
 use Rattle.page_tags.specs.Headers.{Fields, IsHeader, header_bytes}
 use Rattle.page_tags.specs.declared.header.Format.TheVariants as formats
 use Rattle.page_tags.specs.declared.header.ObjectKind.TheVariants as kinds
-use Rattle.transactions.specs.declared.fresh.FreshPage.{FreshPage}
+use Rattle.flash_tree.specs.declared.place.FreshPage.{FreshPage}
 use Rattle.flat_directories.specs.declared.head.DirectoryHead.{DirectoryHead}
 
 -- what the header of a directory says in a page of d bytes: it is written in format 2, and no presence bit is set

@@ -15,12 +15,11 @@ ghost use Rattle.flat_directories.specs.Heads.{MayLack, MayLackRoom, SaysGone};
 use crate::fault::DirectoryFault;
 use crate::head::{DirectoryHead, read_head};
 use crate::page::{head_page, write_slot};
-use flash_tree::Key;
+use flash_tree::{FreshPage, Key};
 use flat_store::{Change, Store};
 use nand_model::Nand;
 use page_tags::{SLOT_BYTES, Slot};
 use std::alloc::Global;
-use transactions::FreshPage;
 
 /// The page that a slot is to stand in, at this place: one of zeros for the first slot of the page.
 fn page_with_room<N: Nand>(

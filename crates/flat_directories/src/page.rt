@@ -5,11 +5,10 @@ ghost use Rattle.page_tags.specs.Slots.{IsSlot, slot_bytes};
 ghost use Rattle.flat_directories.specs.HeadPages.{IsHeadIn, IsHeadPage};
 
 use crate::head::DirectoryHead;
-use flash_tree::Key;
+use flash_tree::{FreshPage, Key};
 use nand_model::Geometry;
 use page_tags::{Format, Header, ObjectKind, SLOT_BYTES, Slot, encode_header, encode_slot};
 use std::alloc::{AllocError, Global};
-use transactions::FreshPage;
 
 /// The presence bits of a directory, of which none is set.
 const NO_BITS: [u8; 4064] = [0; 4064];

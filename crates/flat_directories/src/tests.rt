@@ -1,14 +1,13 @@
 // Directories of pages that are typed by hand.
 
 use super::*;
-use flash_tree::Key;
+use flash_tree::{FreshPage, Key};
 use flat_store::{Change, Store};
 use nand_model::{Geometry, MemNand};
 use page_tags::Slot;
 use std::alloc::Global;
 use std::process::Abort;
 use std::test::Fail;
-use transactions::FreshPage;
 use volume_terms::is_name;
 
 /// Copies bytes to a place of a page.

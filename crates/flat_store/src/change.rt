@@ -3,7 +3,7 @@ ghost use Rattle.std.specs.Prelude.{◌≡◌, ◌↔◌, ◌<◌, ℕ, List, Is
 ghost use Rattle.flat_store.specs.Changes.{IsPageFor, IsNewKey, MayStand, CanApply};
 
 use nand_model::Geometry;
-use transactions::FreshPage;
+use flash_tree::FreshPage;
 
 /// Pages that are written together, each of a key of its own.
 #[derive(Drop)]

@@ -1,14 +1,13 @@
 // A store on a device in memory.
 
 use super::*;
-use flash_tree::Key;
+use flash_tree::{FreshPage, Key};
 use nand_model::{Fate, Geometry, MemNand, Nand};
 use page_tags::Tag;
 use std::alloc::Global;
 use std::process::Abort;
 use std::test::Fail;
 use test_flash::TestFlash;
-use transactions::FreshPage;
 
 /// A store on eight erased blocks of 32 pages of 512 bytes.
 fn fresh(alloc: Global) -> Result<Store<MemNand>, Fail> {

@@ -10,7 +10,8 @@ use crate::room::make_room;
 use crate::store::StoreFault;
 use block_state::Blocks;
 use nand_model::Nand;
-use transactions::{Fresh, FreshPage, GroupFault, write_group};
+use flash_tree::FreshPage;
+use transactions::{Fresh, GroupFault, write_group};
 
 /// Writes the pages of a change as one group.
 pub(crate) fn write_change<N: Nand>(

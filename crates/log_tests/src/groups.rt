@@ -9,17 +9,14 @@ ghost use Rattle.transactions.specs.Ready.{IsReady};
 ghost use Rattle.transactions.specs.CopyingOne.{MayCopy};
 
 use block_state::Blocks;
-use flash_tree::{Found, Key, TagNumbers};
+use flash_tree::{Found, FreshPage, Key, TagNumbers};
 use nand_model::{EraseFault, Fate, Geometry, MemNand, Nand};
 use page_tags::Tag;
 use plain_search::newest;
 use std::alloc::Global;
 use std::process::Abort;
 use std::test::Fail;
-use transactions::{
-    Copies, CopyOf, Fresh, FreshPage, GroupFault, PageName, Placed, erase_and_open, table_of,
-    write_group,
-};
+use transactions::{Copies, CopyOf, Fresh, GroupFault, PageName, Placed, erase_and_open, table_of, write_group};
 
 /// A device in memory with its table.
 #[derive(Drop)]

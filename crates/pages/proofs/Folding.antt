@@ -7,7 +7,7 @@ use Rattle.pages.specs.Maps.{PageMap, is_of, with_pages, without_cuts, IsOf, IsC
 use Rattle.pages.specs.laws.Maps.{key_cases, cut_here, cut_elsewhere}
 use Rattle.pages.specs.laws.Changes.{pages_append, pages_same, cuts_same, cuts_append}
 use Rattle.pages.specs.Changes.{AreApart, AreSized, IsPutBehind}
-use Rattle.pages.specs.declared.change.FreshPage.{FreshPage}
+use Rattle.flash_tree.specs.declared.place.FreshPage.{FreshPage}
 use Rattle.pages.specs.declared.change.Cut.{Cut}
 
 -- a page of a list is one of the longer list, at a later place

@@ -3,7 +3,7 @@ use Rattle.std.specs.Prelude.{◌<◌, ℕ, List, length, slice_get, Option, Som
 use Rattle.pages.specs.Maps.{PageMap, changed}
 use Rattle.pages.specs.Changes.{AreSized}
 use Rattle.pages.specs.State.{PagesState}
-use Rattle.pages.specs.declared.change.FreshPage.{FreshPage}
+use Rattle.flash_tree.specs.declared.place.FreshPage.{FreshPage}
 use Rattle.pages.specs.declared.change.Change.{Change}
 use Rattle.pages.specs.declared.after.Source.{Source}
 use Rattle.pages.specs.declared.after.Source.TheVariants as sources

@@ -1,7 +1,7 @@
 -- Which page each key has, and what a change makes of that.
 use Rattle.std.specs.Prelude.{◌≡◌, ◌<◌, ◌≤◌, ℕ, Bool, ◌&&◌, nat_eq, nat_le, List, [], ◌∷◌, Option, Some, None, slice_get, cond}
 use Rattle.flash_tree.specs.Tree.{NewestMap}
-use Rattle.pages.specs.declared.change.FreshPage.{FreshPage}
+use Rattle.flash_tree.specs.declared.place.FreshPage.{FreshPage}
 use Rattle.pages.specs.declared.change.Cut.{Cut}
 use Rattle.pages.specs.declared.change.Change.{Change}
 

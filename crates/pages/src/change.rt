@@ -3,15 +3,8 @@ ghost use Rattle.std.specs.Prelude.{◌≡◌, ◌≤◌, ◌+◌, ℕ, true, fa
 ghost use Rattle.pages.specs.Maps.{PageMap, changed, IsOf, IsFirstOf, takes, IsCut};
 ghost use Rattle.pages.specs.Changes.{AreApart, AreSized, IsNothing, IsPutBehind};
 
-use flash_tree::Key;
+use flash_tree::{FreshPage, Key};
 use std::alloc::{AllocError, Global};
-
-/// A page as it is to be.
-#[derive(Drop)]
-pub struct FreshPage {
-    pub key: Key,
-    pub bytes: Vec<u8>,
-}
 
 /// The pages of an object from a chunk on, which are to go: from chunk 0 on, the whole object.
 #[derive(Clone, Copy, Debug, PartialEq, Eq)]
@@ -22,7 +15,7 @@ pub struct Cut {
 
 impl Cut {
     /// Tells whether the page of a key goes.
-    fn takes(self, key: Key) -> bool
+    pub fn takes(self, key: Key) -> bool
         ensures { result ≡ takes self key.object key.chunk }
     {
         self.object == key.object && self.from <= key.chunk

@@ -10,7 +10,7 @@ mod memory;
 mod store;
 
 pub use after::{Source, load_after, page_after};
-pub use change::{Change, Cut, FreshPage};
+pub use change::{Change, Cut};
 pub use fault::PageFault;
 pub use law::{
     changes_of_two_objects_commute, no_change_keeps_all_pages, other_objects_keep_their_pages,

@@ -3,9 +3,9 @@ ghost use Rattle.std.specs.Prelude.{◌≡◌, ◌≤◌, ℕ, true, None, IfOk,
 ghost use Rattle.pages.specs.Maps.{changed};
 ghost use Rattle.pages.specs.Changes.{AreSized};
 
-use crate::change::{Change, FreshPage, place_of};
+use crate::change::{Change, place_of};
 use crate::store::{Pages, Presence};
-use flash_tree::Key;
+use flash_tree::{FreshPage, Key};
 use std::alloc::{AllocError, Global};
 use volume_terms::StoreFault;
 

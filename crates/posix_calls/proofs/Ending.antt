@@ -31,7 +31,7 @@ use Rattle.flat_store.specs.Changes.{KeepsNewest, HasChange}
 use Rattle.flat_store.specs.Rooms.{NoneToTake, WhyNot}
 use Rattle.flat_store.specs.declared.store.StoreFault.{StoreFault}
 use Rattle.flat_store.specs.declared.store.StoreFault.TheVariants as faults
-use Rattle.transactions.specs.declared.fresh.FreshPage.{FreshPage}
+use Rattle.flash_tree.specs.declared.place.FreshPage.{FreshPage}
 use Rattle.volume_format.specs.Volumes.{IsFlatVolume}
 use Rattle.posix_calls.specs.Endings.{Ends, EndsWell, store_error}
 use Rattle.posix_calls.specs.Plans.{IsLack, MayMake, WhyNone, MakesDirectory, with_directory, has_room_for_one}

@@ -24,7 +24,7 @@ use Rattle.flash_tree.specs.laws.Newest.{one_newest}
 use Rattle.flash_tree.specs.laws.Place.{same_flash}
 use Rattle.flash_tree.specs.Tree.{ReadsAs, ReadsDir, Shows}
 use Rattle.flat_profile.specs.MkdirLaws.{IsMade, mkdir_flat, mkdir_fits}
-use Rattle.transactions.specs.declared.fresh.FreshPage.{FreshPage}
+use Rattle.flash_tree.specs.declared.place.FreshPage.{FreshPage}
 use Rattle.flat_store.specs.Changes.{IsOf, AreApart, CanApply, HasChange}
 use Rattle.flat_directories.specs.Additions.{ArePagesOf, AddsEntry}
 use Rattle.flat_directories.specs.HeadPages.{IsHeadPage, fields_in}

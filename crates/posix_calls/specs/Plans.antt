@@ -15,7 +15,7 @@ use Rattle.flat_directories.specs.declared.fault.DirectoryFault.TheVariants as d
 use Rattle.flash_tree.specs.Mount.{sizes_of}
 use Rattle.flat_store.specs.Changes.{HasChange}
 use Rattle.flat_store.specs.declared.change.Change.{Change}
-use Rattle.transactions.specs.declared.fresh.FreshPage.{FreshPage}
+use Rattle.flash_tree.specs.declared.place.FreshPage.{FreshPage}
 use Rattle.volume_format.specs.Volumes.{IsFlatVolume}
 
 -- whether a root with so many names has room for one more

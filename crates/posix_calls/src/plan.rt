@@ -23,7 +23,7 @@ use nand_model::{Geometry, Nand};
 use page_tags::Slot;
 use posix_profile::Errno;
 use std::alloc::{AllocError, Global};
-use transactions::FreshPage;
+use flash_tree::FreshPage;
 
 /// The root directory.
 pub(crate) const ROOT: u64 = 1;

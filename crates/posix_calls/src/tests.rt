@@ -1,14 +1,13 @@
 // Volumes on a device in memory.
 
 use super::*;
-use flash_tree::Key;
+use flash_tree::{FreshPage, Key};
 use flat_store::{Change, Store};
 use nand_model::{Fate, Geometry, MemNand};
 use posix_profile::{Command, Errno, FilePath, Reply, Stamped};
 use std::alloc::Global;
 use std::process::Abort;
 use std::test::Fail;
-use transactions::FreshPage;
 
 /// Eight blocks of 32 pages of 512 bytes, all erased.
 fn blank(alloc: Global) -> Result<MemNand, Fail> {

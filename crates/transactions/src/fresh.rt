@@ -4,15 +4,8 @@ ghost use Rattle.nand_model.specs.Changes.{OnlyReads};
 ghost use Rattle.transactions.specs.Sources.{IsName};
 
 use crate::source::{PageName, PageSource, SourceFault};
-use flash_tree::Key;
+use flash_tree::{FreshPage, Key};
 use nand_model::Nand;
-
-/// A page as it is to be on the flash.
-#[derive(Drop)]
-pub struct FreshPage {
-    pub key: Key,
-    pub bytes: Vec<u8>,
-}
 
 /// Pages that are committed together. The number of their group is their version.
 #[derive(Clone, Copy)]

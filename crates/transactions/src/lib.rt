@@ -13,7 +13,7 @@ mod source;
 mod table;
 
 pub use copies::{Copies, CopyOf};
-pub use fresh::{Fresh, FreshPage};
+pub use fresh::Fresh;
 pub use group::{GroupFault, Placed, write_group};
 pub use law::{
     a_group_comes_last, a_group_is_newest_of_its_keys, erases_and_marks_bring_no_number,

@@ -23,7 +23,7 @@ use Rattle.flash_tree.specs.laws.Order.{not_after_itself}
 use Rattle.flash_tree.specs.Tree.{ReadsDir, ReadsAs}
 use Rattle.flash_tree.specs.Mount.{sizes_of, bad_blocks}
 use Rattle.volume_terms.specs.Sizes.{number_limit}
-use Rattle.transactions.specs.declared.fresh.FreshPage.{FreshPage}
+use Rattle.flash_tree.specs.declared.place.FreshPage.{FreshPage}
 use Rattle.flat_directories.specs.HeadPages.{IsHeadPage, fields_in}
 use Rattle.flat_directories.specs.declared.head.DirectoryHead.{DirectoryHead}
 use Rattle.volume_format.specs.Volumes.{IsSoundVolume}

@@ -6,7 +6,7 @@ use Rattle.nand_model.specs.Flash.{Erased, IsClean, IsWithin}
 use Rattle.nand_model.specs.Calls.{Device}
 use Rattle.nand_model.specs.declared.geometry.Geometry.{Geometry}
 use Rattle.page_tags.specs.declared.tag.Tag.{Tag}
-use Rattle.transactions.specs.declared.fresh.FreshPage.{FreshPage}
+use Rattle.flash_tree.specs.declared.place.FreshPage.{FreshPage}
 use Rattle.volume_format.specs.Formatting.{Keeps, AreReady, OthersStay, single_tag, HasFirstPage, Takes, StandsAlone, StandsFirst}
 
 -- Where the blocks before one are bad and those after it are ready, its first page is the only one.

@@ -6,7 +6,7 @@ use Rattle.page_tags.specs.declared.tag.Tag.{Tag}
 use Rattle.page_tags.specs.Tags.{tag_bytes}
 use Rattle.flash_tree.specs.Mount.{bad_blocks}
 use Rattle.flash_tree.specs.declared.place.Key.{Key}
-use Rattle.transactions.specs.declared.fresh.FreshPage.{FreshPage}
+use Rattle.flash_tree.specs.declared.place.FreshPage.{FreshPage}
 use Rattle.volume_format.specs.declared.fault.FormatFault.{FormatFault}
 use Rattle.volume_format.specs.declared.fault.FormatFault.TheVariants as faults
 

@@ -13,7 +13,7 @@ use crate::wear::bad_count;
 use flat_directories::{DirectoryHead, head_page};
 use nand_model::Nand;
 use std::alloc::Global;
-use transactions::FreshPage;
+use flash_tree::FreshPage;
 
 /// The number of the root.
 const ROOT: u64 = 1;

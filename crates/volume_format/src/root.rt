@@ -4,7 +4,7 @@ ghost use Rattle.volume_format.specs.Formatting.{Keeps, AreReady, OthersStay, si
 
 use nand_model::{Gone, Nand, ProgramFault};
 use page_tags::Tag;
-use transactions::FreshPage;
+use flash_tree::FreshPage;
 
 /// Writes the page to the start of a block, as a group of its own with this number, and marks the block where that
 /// fails. Whether the block took it.

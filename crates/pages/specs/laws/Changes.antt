@@ -5,7 +5,7 @@ use Rattle.std.proofs.lemmas.Bool.{cases_eq, cond-true, cond-false}
 use Rattle.pages.specs.Maps.{PageMap, is_of, with_pages, takes, without_cuts, changed}
 use Rattle.pages.specs.laws.Maps.{cut_cases, elsewhere}
 use Rattle.pages.specs.Changes.{IsNothing, IsOnlyOf}
-use Rattle.pages.specs.declared.change.FreshPage.{FreshPage}
+use Rattle.flash_tree.specs.declared.place.FreshPage.{FreshPage}
 use Rattle.pages.specs.declared.change.Cut.{Cut}
 use Rattle.pages.specs.declared.change.Change.{Change}
 

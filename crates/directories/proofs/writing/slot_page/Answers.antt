@@ -7,7 +7,7 @@ use Rattle.volume_terms.specs.Sizes.{page_slots}
 use Rattle.pages.specs.Afterwards.{changed_by}
 use Rattle.pages.specs.Maps.{PageMap}
 use Rattle.pages.specs.State.{PagesState}
-use Rattle.pages.specs.declared.change.FreshPage.{FreshPage}
+use Rattle.flash_tree.specs.declared.place.FreshPage.{FreshPage}
 use Rattle.directories.proofs.Written.{page_made, page_there}
 use Rattle.directories.proofs.writing.slot_page.Goals as goal
 

@@ -2,7 +2,7 @@ use Rattle.std.proofs.Common.{◌≡◌, ◌+◌, ◌/◌, ◌∙◌, ℕ, List,
 use Rattle.std.proofs.lemmas.Result.{err_from_is_err_and}
 use Rattle.page_tags.specs.Headers.{is_present}
 use Rattle.pages.specs.State.{PagesState}
-use Rattle.pages.specs.declared.change.FreshPage.{FreshPage}
+use Rattle.flash_tree.specs.declared.place.FreshPage.{FreshPage}
 use Rattle.file_io.specs.Chunks.{AreOf, HoldChunks, IsTail}
 use Rattle.file_io.proofs.PageLists.{of_one, hold_none, hold_push, of_chunk}
 use Rattle.file_io.proofs.chunk.tail_pages.Goals as goal

@@ -6,7 +6,7 @@ use Rattle.page_tags.specs.Headers.{IsHeader, is_present}
 use Rattle.pages.specs.Changes.{AreSized}
 use Rattle.pages.specs.State.{PagesState}
 use Rattle.pages.specs.declared.change.Change.{Change}
-use Rattle.pages.specs.declared.change.FreshPage.{FreshPage}
+use Rattle.flash_tree.specs.declared.place.FreshPage.{FreshPage}
 use Rattle.file_io.specs.Files.{fields_in}
 use Rattle.file_io.specs.Chunks.{AreOf, HoldChunks, IsTail}
 use Rattle.file_io.proofs.FilePages.{later}

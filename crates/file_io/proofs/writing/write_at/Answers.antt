@@ -7,7 +7,7 @@ use Rattle.pages.specs.Changes.{AreSized}
 use Rattle.pages.specs.Maps.{changed}
 use Rattle.pages.specs.State.{PagesState}
 use Rattle.pages.specs.declared.change.Change.{Change}
-use Rattle.pages.specs.declared.change.FreshPage.{FreshPage}
+use Rattle.flash_tree.specs.declared.place.FreshPage.{FreshPage}
 use Rattle.file_io.specs.Files.{Becomes, fields_in}
 use Rattle.file_io.specs.Chunks.{AreOf, HoldChunks, IsAmong, IsWritten}
 use Rattle.file_io.proofs.FilePages.{later}

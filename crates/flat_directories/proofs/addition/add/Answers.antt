@@ -8,7 +8,7 @@ use Rattle.page_tags.specs.SlotEntry.{entry_of}
 use Rattle.flash_tree.specs.Newest.{HasNewest}
 use Rattle.flash_tree.specs.laws.Place.{same_flash}
 use Rattle.volume_terms.specs.Sizes.{page_slots}
-use Rattle.transactions.specs.declared.fresh.FreshPage.{FreshPage}
+use Rattle.flash_tree.specs.declared.place.FreshPage.{FreshPage}
 use Rattle.flat_directories.specs.Additions.{IsSlotPage, IsEntriesPage, ArePagesOf, AddsEntry}
 use Rattle.flat_directories.specs.HeadPages.{IsHeadPage}
 use Rattle.flat_directories.specs.declared.head.DirectoryHead.{DirectoryHead}

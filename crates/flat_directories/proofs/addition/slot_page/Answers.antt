@@ -5,7 +5,7 @@ use Rattle.nand_model.specs.declared.geometry.Geometry.{Geometry}
 use Rattle.page_tags.specs.SlotEntry.{entry_of}
 use Rattle.flash_tree.specs.Newest.{HasNewest}
 use Rattle.volume_terms.specs.Sizes.{page_slots}
-use Rattle.transactions.specs.declared.fresh.FreshPage.{FreshPage}
+use Rattle.flash_tree.specs.declared.place.FreshPage.{FreshPage}
 use Rattle.flat_directories.proofs.Added.{slot_page_made}
 use Rattle.flat_directories.proofs.addition.slot_page.Goals as goal
 

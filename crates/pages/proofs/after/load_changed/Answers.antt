@@ -4,7 +4,7 @@ use Rattle.pages.specs.Maps.{IsOf, IsCut}
 use Rattle.pages.specs.laws.Maps.{first_here, gone, elsewhere}
 use Rattle.pages.specs.Afterwards.{bytes_or}
 use Rattle.pages.specs.State.{PagesState}
-use Rattle.pages.specs.declared.change.FreshPage.{FreshPage}
+use Rattle.flash_tree.specs.declared.place.FreshPage.{FreshPage}
 use Rattle.pages.specs.declared.change.Cut.{Cut}
 use Rattle.pages.proofs.after.load_changed.Goals as goal
 

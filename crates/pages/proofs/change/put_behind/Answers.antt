@@ -1,6 +1,6 @@
 use Rattle.std.proofs.Common.{ℕ, List, subst, inl}
 use Rattle.pages.specs.Maps.{IsOf}
-use Rattle.pages.specs.declared.change.FreshPage.{FreshPage}
+use Rattle.flash_tree.specs.declared.place.FreshPage.{FreshPage}
 use Rattle.pages.proofs.Folding.{where_none}
 use Rattle.pages.proofs.change.put_behind.Goals as goal
 

@@ -5,7 +5,7 @@ use Rattle.volume_terms.specs.Sizes.{root_number}
 use Rattle.flash_tree.specs.Mount.{sizes_of}
 use Rattle.flat_store.specs.Changes.{CanApply}
 use Rattle.flat_store.specs.declared.change.Change.{Change}
-use Rattle.transactions.specs.declared.fresh.FreshPage.{FreshPage}
+use Rattle.flash_tree.specs.declared.place.FreshPage.{FreshPage}
 use Rattle.flat_directories.specs.Additions.{AddsEntry}
 use Rattle.flat_directories.specs.HeadPages.{IsHeadPage}
 use Rattle.posix_calls.specs.Plans.{MakesDirectory}

@@ -1,7 +1,7 @@
 use Rattle.std.proofs.Common.{◌<◌, ◌+◌, ap, subst, arith}
 use Rattle.nand_model.specs.Calls.{Device}
 use Rattle.nand_model.specs.declared.geometry.Geometry.{Geometry}
-use Rattle.transactions.specs.declared.fresh.FreshPage.{FreshPage}
+use Rattle.flash_tree.specs.declared.place.FreshPage.{FreshPage}
 use Rattle.volume_format.specs.Formatting.{single_tag, Takes}
 use Rattle.volume_format.proofs.Standing.{stands_first}
 use Rattle.volume_format.proofs.root.write_first.Goals as goal

@@ -1,7 +1,7 @@
 use Rattle.std.proofs.Common.{◌≡◌, ◌∙◌, List, [], length, sym, ap, subst, arith, rules}
 use Rattle.std.specs.Vec.Iter.{into_iter_items}
 use Rattle.pages.specs.Changes.{IsPutBehind}
-use Rattle.pages.specs.declared.change.FreshPage.{FreshPage}
+use Rattle.flash_tree.specs.declared.place.FreshPage.{FreshPage}
 use Rattle.pages.specs.declared.change.Cut.{Cut}
 use Rattle.pages.proofs.Folding.{Folding, folding_starts, folding_goes, folding_shows, folding_shares, no_items}
 use Rattle.pages.proofs.change.Change.then.Goals as goal

@@ -3,7 +3,7 @@ use Rattle.pages.specs.Maps.{IsOf}
 use Rattle.pages.specs.laws.Maps.{first_here, page_elsewhere}
 use Rattle.pages.specs.Memory.{nothing}
 use Rattle.pages.specs.Afterwards.{bytes_or}
-use Rattle.pages.specs.declared.change.FreshPage.{FreshPage}
+use Rattle.flash_tree.specs.declared.place.FreshPage.{FreshPage}
 use Rattle.pages.proofs.memory.MemPagesPages.find.Goals as goal
 
 pub returns-in-Some-clause-page : goal.returns-in-Some-clause-page

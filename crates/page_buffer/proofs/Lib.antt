@@ -1,0 +1,8 @@
+pub mod Counted
+pub mod Single
+pub mod Slots
+pub mod Preparing
+pub mod Keys
+pub mod SlotDropped
+pub mod Putting
+pub mod Cutting

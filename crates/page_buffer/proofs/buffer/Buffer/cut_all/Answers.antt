@@ -1,0 +1,24 @@
+use Rattle.std.proofs.Common.{◌≡◌, ◌<◌, ◌∙◌, ℕ, List, length, Some, slice_get, refl, sym, ap, arith, take, suc, ◌+◌}
+use Rattle.std.proofs.Math.Seq.{take-suc}
+use Rattle.std.proofs.lemmas.List.{take_all}
+use Rattle.pages.specs.Maps.{without_cuts}
+use Rattle.pages.specs.declared.change.Cut.{Cut}
+use Rattle.page_buffer.specs.Shown.{present_data}
+use Rattle.page_buffer.specs.BufferOf.{buffered}
+use Rattle.page_buffer.proofs.Cutting.{cutting_starts, cutting_more}
+use Rattle.page_buffer.proofs.buffer.Buffer.cut_all.Goals as goal
+
+add_one : (n : ℕ) → n + 1 ≡ suc n
+add_one n = omega arith
+
+pub loop-cut-preserved : goal.loop-cut-preserved
+loop-cut-preserved c = record {
+  cutting = cutting_more c.args.cuts.now c.loop-cut.cut-index _ c.args.index.now c.loop-cut.index c.cut.new.index (buffered c.args.self.now) (buffered c.loop-cut.self) (buffered c.cut.new.self)
+      (ap (λ n. take n c.args.cuts.now) (add_one c.loop-cut.cut-index) ∙ take-suc c.args.cuts.now c.loop-cut.cut-index _ c.loop-cut-test.true) c.loop-cut.invariant.cutting c.cut.ensures.buffers c.cut.ensures.kept c.cut.ensures.prepared c.cut.ensures.cuts c.cut.ensures.room;
+  sizes = (c.cut.ensures.sizes.0 ∙ c.loop-cut.invariant.sizes.0, c.cut.ensures.sizes.1 ∙ c.loop-cut.invariant.sizes.1);
+}
+
+pub returns-clause-cuts : goal.returns-clause-cuts
+returns-clause-cuts c = λ flash o k.
+    c.loop-cut.invariant.cutting.shown flash o k
+    ∙ ap (λ (xs : List Cut). without_cuts xs (present_data c.args.index.now (buffered c.args.self.now) flash) o k) (take_all c.loop-cut.cut-index c.args.cuts.now (omega (arith, c.loop-cut-test.false)))

@@ -1,0 +1,4 @@
+pub mod Shown
+pub mod BufferOf
+pub mod Buffering
+pub mod laws

@@ -1,0 +1,169 @@
+-- What reads of the device leave of a store.
+use Rattle.std.specs.Prelude.{◌≡◌, ◌<◌, ℕ, Bool, true, false, not, ◌&&◌, ◌||◌, zero, suc, List, [], ◌∷◌, length, Option, Some, None, IsSome, Result, Ok, Err, IfOk, IfErr, OnOk}
+use Rattle.std.specs.Option.{option_and_then}
+use Rattle.std.proofs.Common.{refl, sym, ◌∙◌, ap, subst, inl, inr, arith}
+use Rattle.std.proofs.lemmas.Bool.{cases_Bool, or_left, or_right}
+use Rattle.nand_model.specs.Flash.{Flash}
+use Rattle.nand_model.specs.Calls.{Device}
+use Rattle.nand_model.specs.Changes.{OnlyReads}
+use Rattle.nand_model.specs.declared.geometry.Geometry.{Geometry}
+use Rattle.flash_tree.specs.declared.place.FreshPage.{FreshPage}
+use Rattle.flash_tree.specs.declared.place.Key.{Key}
+use Rattle.chunk_index.specs.declared.entry.Entry.{Entry}
+use Rattle.chunk_index.specs.declared.entry.State.{State}
+use Rattle.chunk_index.specs.declared.entry.State.TheVariants as states
+use Rattle.chunk_index.specs.declared.form.KeptPage.{KeptPage}
+use Rattle.chunk_index.specs.declared.form.Present.TheVariants as presents
+use Rattle.chunk_index.specs.declared.index.Index.{Index}
+use Rattle.chunk_index.specs.Entries.{as_kept, present_by, present_of, kept_of}
+use Rattle.chunk_index.specs.Shelves.{look}
+use Rattle.chunk_index.specs.Maps.{KeptMap, kept_pages, present}
+use Rattle.page_buffer.specs.Shown.{data_at, data_by, data_in, kept_data, present_data}
+use Rattle.page_cache.specs.Cached.{cached}
+use Rattle.page_cache.specs.declared.cache.PageCache.{PageCache}
+use Rattle.pages.specs.Maps.{PageMap}
+use Rattle.pages.specs.State.{OnlyFinds, FindsPage, FailsBy}
+use Rattle.pages.specs.declared.store.Presence.{Presence}
+use Rattle.pages.specs.declared.store.Presence.TheVariants as presences
+use Rattle.volume_terms.specs.declared.fault.StoreFault.{StoreFault}
+use Rattle.volume_terms.specs.declared.fault.StoreFault.TheVariants as faults
+use Rattle.page_buffer.specs.BufferOf.{buffered}
+use Rattle.page_buffer.specs.declared.buffer.Buffer.{Buffer}
+use Rattle.objects.specs.declared.store.Found.{Found}
+use Rattle.objects.specs.Found.{bytes_or}
+use Rattle.objects.specs.Reading.{Caches, IsFindFault}
+use Rattle.objects.specs.StoreOf.{LieOn, known, seen}
+
+-- the flash of an honest device stays
+pub flash_is : (a b : Device) → OnlyReads a b → a.honest ≡ true → b.flash ≡ a.flash
+flash_is a b reads honest =
+    ap (λ x. record { bad = x; next = b.flash.next; page = b.flash.page }) reads.bad
+    ∙ ap (λ x. record { bad = a.flash.bad; next = x; page = b.flash.page }) reads.next
+    ∙ ap (λ x. record { bad = a.flash.bad; next = a.flash.next; page = x }) (reads.page honest)
+
+-- the pages that are known stay
+pub known_same : (a b : Device) (m : Flash → PageMap) → OnlyReads a b → known b.honest (m b.flash) ≡ known a.honest (m a.flash)
+known_same a b m reads = elim (cases_Bool a.honest) [
+  | inr lies ↦
+      let then : b.honest ≡ false = reads.lasts.honest ∙ lies in
+      ap (λ h. known h (m b.flash)) then ∙ sym (ap (λ h. known h (m a.flash)) lies)
+  | inl honest ↦
+      let then : b.honest ≡ true = reads.lasts.honest ∙ honest in
+      ap (λ h. known h (m b.flash)) then ∙ ap m (flash_is a b reads honest) ∙ sym (ap (λ h. known h (m a.flash)) honest)
+]
+
+-- a page that is present on the flash is the kept one
+on_flash : (p : Option KeptPage) (k : KeptPage) → as_kept p ≡ presents.OnFlash k → p ≡ Some k
+on_flash None k is = absurd cc
+on_flash (Some q) k is = cc
+
+by_state : (p : Option KeptPage) (s : State) (k : KeptPage) → present_by p s ≡ presents.OnFlash k → p ≡ Some k
+by_state p states.Same k is = on_flash p k is
+by_state p (states.Buffered i) k is = absurd cc
+by_state p states.Dropped k is = absurd cc
+by_state p states.Vacant k is = absurd cc
+
+of_entry : (m : Option Entry) (k : KeptPage) → present_of m ≡ presents.OnFlash k → kept_of m ≡ Some k
+of_entry None k is = absurd cc
+of_entry (Some e) k is = by_state e.kept e.state k is
+
+pub kept_there : (x : Index) (o c : ℕ) (k : KeptPage) → present x o c ≡ presents.OnFlash k → kept_pages x o c ≡ Some k
+kept_there x o c k is = of_entry (look x.shelf.objects o c) k is
+
+-- what lies on the device still does
+pub lie_same : (g h : Geometry) (m : KeptMap) → h ≡ g → LieOn g m → LieOn h m
+lie_same g h m same lie = subst (λ (k : Geometry). LieOn k m) (sym same) lie
+
+-- kept pages are still written
+pub written_same : (a b : Device) (m : KeptMap) → OnlyReads a b → (a.honest ≡ true → (o c : ℕ) (k : KeptPage) → m o c ≡ Some k → IsSome (data_at a.flash k))
+    → b.honest ≡ true → (o c : ℕ) (k : KeptPage) → m o c ≡ Some k → IsSome (data_at b.flash k)
+written_same a b m reads written honest o c k is =
+    let before : a.honest ≡ true = sym reads.lasts.honest ∙ honest in
+    subst (λ (f : Flash). IsSome (data_at f k)) (sym (flash_is a b reads before)) (written before o c k is)
+
+-- and what is cached is still what is kept
+pub cached_same : (a b : Device) (x : Index) (key : Key) (at : KeptPage) (old new : PageCache) → OnlyReads a b → kept_pages x key.object key.chunk ≡ Some at → Caches a key at old new
+    → (a.honest ≡ true → (o c : ℕ) (xs : List ℕ) → cached old o c ≡ Some xs → kept_data x a.flash o c ≡ Some xs)
+    → b.honest ≡ true → (o c : ℕ) (xs : List ℕ) → cached new o c ≡ Some xs → kept_data x b.flash o c ≡ Some xs
+cached_same a b x key at old new reads kept caches same honest o c xs is =
+    let before : a.honest ≡ true = sym reads.lasts.honest ∙ honest in
+    subst (λ (f : Flash). kept_data x f o c ≡ Some xs) (sym (flash_is a b reads before)) (elim (caches o c xs is) [
+      | inl was ↦ same before o c xs was
+      | inr put ↦ ap (λ n. kept_data x a.flash n c) put.0.0 ∙ ap (λ n. kept_data x a.flash key.object n) put.0.1 ∙ ap (option_and_then (data_at a.flash)) kept ∙ put.1 before
+    ])
+
+-- a call that only reads the device, and changes no index and no buffer, only finds
+pub finds_seen : (a b : Device) (x y : Index) (buffer buffer' : Buffer) (cache cache' : PageCache) (scratch scratch' : List ℕ) (found found' : Found) (broken broken' refused refused' : Bool)
+    → OnlyReads a b → y ≡ x → buffer' ≡ buffer → broken' ≡ broken → (refused ≡ true → refused' ≡ true)
+    → OnlyFinds (seen a x buffer cache scratch found broken refused) (seen b y buffer' cache' scratch' found' broken' refused')
+finds_seen a b x y buffer buffer' cache cache' scratch scratch' found found' broken broken' refused refused' reads index buffers breaks refuses = record {
+  page_bytes = ap (λ (g : Geometry). g.bytes) reads.lasts.geometry;
+  present = ap (λ i. known b.honest (present_data i (buffered buffer') b.flash)) index
+      ∙ ap (λ i. known b.honest (present_data x (buffered i) b.flash)) buffers
+      ∙ known_same a b (present_data x (buffered buffer)) reads;
+  sound = ap (λ h. h && not broken') reads.lasts.honest ∙ ap (λ w. a.honest && not w) breaks;
+  failed = failed;
+  refused = refuses;
+  asked = reads.lasts.reads;
+} where
+  failed : (a.gone || (not a.honest || broken)) ≡ true → (b.gone || (not b.honest || broken')) ≡ true
+  failed is = elim (cases_Bool a.gone) [
+    | inl gone ↦
+        let same : b ≡ a = reads.lasts.gone gone in
+        ap (λ (d : Device). d.gone || (not d.honest || broken')) same ∙ ap (λ w. a.gone || (not a.honest || w)) breaks ∙ is
+    | inr powered ↦
+        let rest : (not a.honest || broken) ≡ true = sym (ap (λ w. w || (not a.honest || broken)) powered) ∙ is in
+        let new : (not b.honest || broken') ≡ true = ap (λ h. not h || broken') reads.lasts.honest ∙ ap (λ w. not a.honest || w) breaks ∙ rest in
+        or_right b.gone (not b.honest || broken') new
+  ]
+
+-- a store that is sound is on an honest device, and is not broken
+pub sound_honest : (h w : Bool) → (h && not w) ≡ true → h ≡ true
+sound_honest true w is = refl
+sound_honest false w is = absurd cc
+
+pub sound_whole : (h w : Bool) → (h && not w) ≡ true → w ≡ false
+sound_whole true false is = refl
+sound_whole true true is = absurd cc
+sound_whole false w is = absurd cc
+
+-- a page that is there is what is lent
+some_bytes : (m : Option (List ℕ)) (xs scratch : List ℕ) → m ≡ Some xs → m ≡ Some (bytes_or m scratch)
+some_bytes m xs scratch is = is ∙ ap (λ ys. Some ys) (sym (ap (λ o. bytes_or o scratch) is))
+
+data_there : (pages : List FreshPage) (i : ℕ) → i < length pages → (xs : List ℕ) × (data_in pages i ≡ Some xs)
+data_there [] i lt = absurd (omega (arith, lt))
+data_there (p ∷ ps) zero lt = (p.bytes.items, refl)
+data_there (p ∷ ps) (suc i) lt = data_there ps i (omega (arith, lt))
+
+-- a key that is present in the buffer has the page that is lent
+pub buffered_lent : (a : Device) (x : Index) (pages : List FreshPage) (scratch : List ℕ) (o c i : ℕ) (broken : Bool) → present x o c ≡ presents.InBuffer i → i < length pages
+    → (a.honest && not broken) ≡ true → known a.honest (present_data x pages a.flash) o c ≡ Some (bytes_or (data_in pages i) scratch)
+buffered_lent a x pages scratch o c i broken is within sound =
+    let there = data_there pages i within in
+    ap (λ h. known h (present_data x pages a.flash) o c) (sound_honest a.honest broken sound)
+    ∙ ap (data_by a.flash pages) is ∙ some_bytes (data_in pages i) there.0 scratch there.1
+
+-- a key that is present on the flash has the page that is lent
+pub kept_lent : (a : Device) (x : Index) (pages : List FreshPage) (lent : List ℕ) (o c : ℕ) (at : KeptPage) (broken : Bool) (result : Result Presence StoreFault) → present x o c ≡ presents.OnFlash at
+    → (a.honest && not broken) ≡ true → IfOk result (λ presence. presence ≡ presences.Present) → (broken ≡ false → a.honest ≡ true → OnOk result (data_at a.flash at ≡ Some lent))
+    → IfOk result (FindsPage (known a.honest (present_data x pages a.flash)) o c lent)
+kept_lent a x pages lent o c at broken (Err fault) is sound there page = tt
+kept_lent a x pages lent o c at broken (Ok told) is sound there page =
+    let honest = sound_honest a.honest broken sound in
+    subst (FindsPage (known a.honest (present_data x pages a.flash)) o c lent) (sym there)
+    (ap (λ h. known h (present_data x pages a.flash) o c) honest ∙ ap (data_by a.flash pages) is ∙ page (sound_whole a.honest broken sound) honest)
+
+-- each fault has its cause
+pub fault_seen : (b : Device) (x : Index) (buffer : Buffer) (cache : PageCache) (scratch : List ℕ) (found : Found) (broken refused : Bool) (result : Result Presence StoreFault)
+    → IfErr result (IsFindFault b broken refused) → IfErr result (FailsBy (seen b x buffer cache scratch found broken refused))
+fault_seen b x buffer cache scratch found broken refused (Ok told) why = tt
+fault_seen b x buffer cache scratch found broken refused (Err faults.NoMemory) why = why
+fault_seen b x buffer cache scratch found broken refused (Err faults.Worn) why = why
+fault_seen b x buffer cache scratch found broken refused (Err faults.Device) why = elim why [
+  | inl gone ↦ or_left b.gone (not b.honest || broken) gone
+  | inr rest ↦ or_right b.gone (not b.honest || broken) (elim rest [
+    | inl lies ↦ or_left (not b.honest) broken (ap not lies)
+    | inr breaks ↦ or_right (not b.honest) broken breaks
+  ])
+]

@@ -1,0 +1,53 @@
+use Rattle.std.proofs.Common.{◌≡◌, ◌<◌, length, ◌∙◌, sym, subst}
+use Rattle.chunk_index.specs.declared.form.Present.TheVariants as presents
+use Rattle.chunk_index.specs.Maps.{present}
+use Rattle.page_buffer.specs.laws.Buffering.{place_within}
+use Rattle.page_buffer.specs.BufferOf.{buffered}
+use Rattle.objects.specs.Found.{found_bytes}
+use Rattle.objects.proofs.ReadOnly.{finds_seen, buffered_lent, kept_lent, fault_seen}
+use Rattle.objects.proofs.store.StorePages.find.Goals as goal
+
+pub invariant_of-self : goal.invariant_of-self
+invariant_of-self g c =
+    let self = c.args.self.now in
+    let is : present self.index c.args.key.object c.args.key.chunk ≡ presents.InBuffer c.in-InBuffer.place = sym c.present.ensures ∙ c.in-InBuffer.is in
+    record {
+      buffers = self.buffers;
+      size = self.size;
+      buffer_size = self.buffer_size;
+      cache_size = self.cache_size;
+      place = λ i same.
+          let one : c.in-InBuffer.place ≡ i = cc in
+          subst (λ n. n < length (buffered self.buffer)) one (place_within (buffered self.buffer) c.in-InBuffer.place _ (self.buffers.there _ _ c.in-InBuffer.place is));
+      lie = self.lie;
+      written = self.written;
+      same = self.same;
+    }
+
+pub returns-in-InBuffer-clause-page : goal.returns-in-InBuffer-clause-page
+returns-in-InBuffer-clause-page g c = λ sound.
+    let self = c.args.self.now in
+    let is : present self.index c.args.key.object c.args.key.chunk ≡ presents.InBuffer c.in-InBuffer.place = sym c.present.ensures ∙ c.in-InBuffer.is in
+    buffered_lent (g.N.Nand.state self.device) self.index (buffered self.buffer) self.scratch.items c.args.key.object c.args.key.chunk c.in-InBuffer.place self.broken is
+    (place_within (buffered self.buffer) c.in-InBuffer.place _ (self.buffers.there _ _ c.in-InBuffer.place is)) sound
+
+pub returns-in-OnFlash-clause-finds : goal.returns-in-OnFlash-clause-finds
+returns-in-OnFlash-clause-finds g c =
+    let e = c.find_kept.ensures in
+    let self = c.args.self.now in
+    let new = c.find_kept.new.self in
+    finds_seen (g.N.Nand.state self.device) (g.N.Nand.state new.device) self.index new.index self.buffer new.buffer self.cache new.cache self.scratch.items new.scratch.items self.found new.found self.broken new.broken self.refused new.refused
+    e.reads e.same.0 e.same.1 e.same.2 e.refused
+
+pub returns-in-OnFlash-clause-page : goal.returns-in-OnFlash-clause-page
+returns-in-OnFlash-clause-page g c = λ sound.
+    let e = c.find_kept.ensures in
+    let self = c.args.self.now in
+    let new = c.find_kept.new.self in
+    kept_lent (g.N.Nand.state self.device) self.index (buffered self.buffer) (found_bytes (buffered new.buffer) new.cache new.scratch.items new.found) c.args.key.object c.args.key.chunk c.in-OnFlash.at self.broken c.find_kept.result
+    (sym c.present.ensures ∙ c.in-OnFlash.is) sound e.there e.page
+
+pub returns-in-OnFlash-clause-fault : goal.returns-in-OnFlash-clause-fault
+returns-in-OnFlash-clause-fault g c =
+    let new = c.find_kept.new.self in
+    fault_seen (g.N.Nand.state new.device) new.index new.buffer new.cache new.scratch.items new.found new.broken new.refused c.find_kept.result c.find_kept.ensures.fault

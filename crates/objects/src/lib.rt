@@ -1,0 +1,7 @@
+//! The store: pages of keys, kept on the flash, with a buffer over them and a cache beside.
+#![tactic(auto)]
+
+mod reading;
+mod store;
+
+pub use store::Store;

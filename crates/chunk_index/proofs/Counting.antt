@@ -17,7 +17,7 @@ use Rattle.chunk_index.specs.declared.form.KeptPage.{KeptPage}
 use Rattle.chunk_index.specs.Lists.{find_by}
 use Rattle.chunk_index.specs.Entries.{chunk, weight, weigh, one_at, counted_at, kept_of}
 use Rattle.chunk_index.specs.Shelves.{ObjectMap, entry_of, look, total, AltersKey}
-use Rattle.chunk_index.specs.Counts.{Recounts, HasRoom, Tallies}
+use Rattle.chunk_index.specs.Counts.{Recounts, HasRoom, HasCounted, Tallies}
 
 -- after a change there is room for what is counted then
 pub room_after : {t u : Table} {f g : ℕ → ℕ} {n : ℕ} → HasRoom t f n → Recounts f g t u → HasRoom u g n
@@ -89,6 +89,12 @@ recounts_more {t} {u} {f} {g} {h} {k} more c = record {
 -- a page that is counted lies on the device
 pub room_block : (t : Table) (p : KeptPage) (n : ℕ) → HasRoom t (one_at (Some p)) n → p.block < t.geometry.blocks
 room_block t p n r = elim (cases_lt p.block t.geometry.blocks) [
+  | inl lt ↦ lt
+  | inr ge ↦ let none : one_at (Some p) p.block ≡ 0 = r.within p.block ge in absurd (grind (arith, nat_tests, none))
+]
+
+pub counted_block : (t : Table) (p : KeptPage) → HasCounted t (one_at (Some p)) → p.block < t.geometry.blocks
+counted_block t p r = elim (cases_lt p.block t.geometry.blocks) [
   | inl lt ↦ lt
   | inr ge ↦ let none : one_at (Some p) p.block ≡ 0 = r.within p.block ge in absurd (grind (arith, nat_tests, none))
 ]

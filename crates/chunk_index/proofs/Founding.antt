@@ -1,5 +1,5 @@
 -- The adding of one page after another, and their counts.
-use Rattle.std.proofs.Common.{◌≡◌, ◌≢◌, ◌⊎◌, ℕ, ◌+◌, ◌<◌, ◌≤◌, List, length, get_or, take, Option, Some, None, refl, sym, ap, subst, ◌∙◌, arith, inl, inr}
+use Rattle.std.proofs.Common.{◌≡◌, ◌≢◌, ℕ, ◌+◌, ◌<◌, ◌≤◌, List, length, get_or, Some, None, refl, sym, ap, subst, ◌∙◌, arith, inl, inr}
 use Rattle.std.specs.List.{sum_by}
 use Rattle.std.proofs.lemmas.Bool.{cases_eq}
 use Rattle.std.proofs.lemmas.List.{get_or_default}
@@ -16,7 +16,7 @@ use Rattle.chunk_index.specs.Counts.{Recounts}
 use Rattle.chunk_index.specs.Maps.{kept_in, CountsAgree}
 use Rattle.chunk_index.proofs.Counting.{one_most, recounts_more, sum_ones}
 use Rattle.std.proofs.lemmas.Bool.Decides.{nat_tests}
-use Rattle.chunk_index.specs.Newest.{page_of, IsOf, Precedes, KeysRise, LieWithin, Indexes}
+use Rattle.chunk_index.specs.Newest.{page_of, IsOf, Precedes, KeysRise, Indexes}
 use Rattle.chunk_index.specs.Found.{found_in, HasPages}
 
 -- keys that rise differ

@@ -1,6 +1,5 @@
 -- The kept keys of a block, as a list and as a map.
-use Rattle.std.proofs.Common.{◌≡◌, ◌≢◌, ℕ, zero, suc, ◌+◌, ◌<◌, ◌≤◌, List, [], ◌∷◌, ◌++◌, length, get_or, slice_get, Option, Some, None, if◌then◌else◌, ◌==◌, refl, sym, ap, subst, ◌∙◌, arith, inl, inr}
-use mathlib.Core.Bool.{false≢true}
+use Rattle.std.proofs.Common.{◌≡◌, ℕ, zero, suc, ◌<◌, List, [], ◌∷◌, ◌++◌, length, get_or, slice_get, Option, Some, None, if◌then◌else◌, ◌==◌, refl, sym, ap, subst, ◌∙◌, arith, inl, inr}
 use Rattle.std.specs.Option.{option_and_then, option_map_or}
 use Rattle.std.specs.Ordering.{nat_cmp}
 use Rattle.std.specs.Cmp.{nat_cmp_total}
@@ -15,27 +14,26 @@ use Rattle.chunk_index.specs.declared.form.KeptKey.{KeptKey}
 use Rattle.chunk_index.specs.declared.entry.Entry.{Entry}
 use Rattle.chunk_index.specs.declared.object.ObjectEntries.{ObjectEntries}
 use Rattle.chunk_index.specs.declared.index.Index.{Index}
-use Rattle.chunk_index.specs.Lists.{find_by, Rises, IsAt}
-use Rattle.chunk_index.specs.Entries.{chunk, weight, counted_at, one_at, kept_of}
-use Rattle.chunk_index.specs.Shelves.{entry_of, look}
+use Rattle.chunk_index.specs.Lists.{find_by}
+use Rattle.chunk_index.specs.Entries.{chunk, kept_of}
+use Rattle.chunk_index.specs.Shelves.{entry_of}
 use Rattle.chunk_index.specs.Listing.{key_in, keys_of, keys_in, block_keys}
 use Rattle.chunk_index.specs.Kept.{HoldsNone}
 use Rattle.chunk_index.specs.laws.Kept.{length-keys_in}
 use Rattle.chunk_index.specs.Maps.{kept_pages, kept_in}
 use Rattle.chunk_index.proofs.Finding.{find_at}
-use Rattle.chunk_index.proofs.Counting.{part_of_all}
 
 -- a key stands in a list
 pub data Stands (k : KeptKey) : List KeptKey → Type 0 where
   first : {ks : List KeptKey} → Stands k (k ∷ ks)
   later : {j : KeptKey} {ks : List KeptKey} → Stands k ks → Stands k (j ∷ ks)
 
-stands_left : (k : KeptKey) (xs ys : List KeptKey) → Stands k xs → Stands k (xs ++ ys)
+pub stands_left : (k : KeptKey) (xs ys : List KeptKey) → Stands k xs → Stands k (xs ++ ys)
 stands_left k [] ys s = elim s [ ]
 stands_left k (x ∷ xs) ys first = first
 stands_left k (x ∷ xs) ys (later s) = later (stands_left k xs ys s)
 
-stands_right : (k : KeptKey) (xs ys : List KeptKey) → Stands k ys → Stands k (xs ++ ys)
+pub stands_right : (k : KeptKey) (xs ys : List KeptKey) → Stands k ys → Stands k (xs ++ ys)
 stands_right k [] ys s = s
 stands_right k (x ∷ xs) ys s = later (stands_right k xs ys s)
 
@@ -45,7 +43,7 @@ stands_place k (x ∷ xs) first = (0, refl)
 stands_place k (x ∷ xs) (later s) = let at = stands_place k xs s in (suc at.0, at.1)
 
 -- what holds of each of two lists holds of both, one after the other
-each_append : (P : KeptKey → Type 0) (xs ys : List KeptKey) → ((i : ℕ) (k : KeptKey) → slice_get xs i ≡ Some k → P k) → ((i : ℕ) (k : KeptKey) → slice_get ys i ≡ Some k → P k)
+pub each_append : (P : KeptKey → Type 0) (xs ys : List KeptKey) → ((i : ℕ) (k : KeptKey) → slice_get xs i ≡ Some k → P k) → ((i : ℕ) (k : KeptKey) → slice_get ys i ≡ Some k → P k)
     → (i : ℕ) (k : KeptKey) → slice_get (xs ++ ys) i ≡ Some k → P k
 each_append P [] ys one two i k is = two i k is
 each_append P (x ∷ xs) ys one two zero k is = one 0 k is

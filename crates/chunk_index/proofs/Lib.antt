@@ -9,3 +9,8 @@ pub mod Cutting
 pub mod Founding
 pub mod Parts
 pub mod Keys
+pub mod Retaining
+pub mod Staying
+pub mod Totals
+pub mod Rising
+pub mod Following

@@ -1,8 +1,7 @@
 -- What a change of one entry does to what an index tells.
-use Rattle.std.proofs.Common.{◌≡◌, ◌≢◌, ℕ, ◌+◌, ◌-◌, ◌<◌, ◌≤◌, List, [], ◌∷◌, ◌++◌, length, get_or, Bool, true, false, Option, Some, None, Result, Ok, Err, IsSome, IsOk, is_ok, IsTrue, OnOk, OnErr, if◌then◌else◌, refl, sym, ap, subst, ◌∙◌, arith, inl, inr}
+use Rattle.std.proofs.Common.{◌≡◌, ℕ, ◌+◌, ◌-◌, ◌<◌, ◌≤◌, List, [], ◌∷◌, ◌++◌, length, get_or, Bool, true, false, Option, Some, None, Result, Ok, Err, IsSome, IsOk, is_ok, OnOk, OnErr, if◌then◌else◌, refl, sym, ap, subst, ◌∙◌, arith, inl, inr}
 use mathlib.Core.Bool.{false≢true}
 use mathlib.Core.Logic.{∥∥₁_elim}
-use Rattle.std.specs.List.{sum_by}
 use Rattle.std.specs.BTreeMap.{values}
 use Rattle.std.proofs.lemmas.Bool.{cases_eq}
 use Rattle.std.proofs.lemmas.List.{length-append, get_or_append_left, get_or-append_right}
@@ -11,8 +10,8 @@ use Rattle.chunk_index.specs.declared.entry.Entry.{Entry}
 use Rattle.chunk_index.specs.declared.object.ObjectEntries.{ObjectEntries}
 use Rattle.chunk_index.specs.declared.form.Form.{Form}
 use Rattle.chunk_index.specs.declared.form.Form.TheVariants as forms
-use Rattle.chunk_index.specs.Entries.{state_of, is_same_state, same_of, is_same, changed, weight, weigh, kept_of, counted_at}
-use Rattle.chunk_index.specs.Shelves.{ObjectMap, look, total, Differs, AltersKey, SameEntries, IsListed}
+use Rattle.chunk_index.specs.Entries.{state_of, is_same_state, same_of, is_same, changed, weight, weigh}
+use Rattle.chunk_index.specs.Shelves.{ObjectMap, look, total, AltersKey, SameEntries, IsListed}
 use Rattle.chunk_index.proofs.Shelving.{look_chunk}
 use Rattle.chunk_index.proofs.Counting.{less_than_all, two_sums}
 

@@ -1,12 +1,12 @@
 -- What a change of one object's entries does to what is told of all keys.
-use Rattle.std.proofs.Common.{◌≡◌, ◌≢◌, ℕ, ◌+◌, Bool, true, false, List, [], ◌∷◌, Option, Some, None, Result, Ok, Err, IsSome, IfSome, OnOk, OnErr, is_some, refl, sym, ap, subst, ◌∙◌, arith, inl, inr}
+use Rattle.std.proofs.Common.{◌≡◌, ◌≢◌, ℕ, suc, ◌+◌, ◌<◌, false, List, [], ◌∷◌, length, get_or, Option, Some, None, Result, Ok, Err, IsSome, IfSome, OnOk, OnErr, is_some, refl, sym, ap, ◌∙◌, arith, inl, inr}
 use mathlib.Core.Bool.{false≢true}
 use Rattle.std.specs.Option.{option_and_then, option_map, unwrap_or}
 use Rattle.std.specs.List.{sum_by}
 use Rattle.std.specs.Ordering.{nat_cmp}
 use Rattle.std.specs.Cmp.{nat_cmp_total}
 use Rattle.std.specs.Map.{lookup, values_of, remove_entry, set_value}
-use Rattle.std.specs.BTreeMap.{BTreeMap, is_at, get, values, insert_entry, WritesThrough, Updates, IsOrdered}
+use Rattle.std.specs.BTreeMap.{is_at, get, values, insert_entry, WritesThrough, Updates, IsOrdered}
 use Rattle.std.proofs.lemmas.Bool.{cases_eq}
 use Rattle.std.proofs.lemmas.Bool.Decides.{nat_tests}
 use Rattle.std.proofs.lemmas.Map.Entries.{sum_by-set_value, sum_by-remove_entry, sum_by-insert_entry}
@@ -14,14 +14,14 @@ use Rattle.chunk_index.specs.declared.entry.Entry.{Entry}
 use Rattle.chunk_index.specs.declared.object.ObjectEntries.{ObjectEntries}
 use Rattle.chunk_index.specs.Lists.{find_by}
 use Rattle.chunk_index.specs.Entries.{chunk, weight, weigh, Alters}
-use Rattle.chunk_index.specs.Shelves.{ObjectMap, entry_of, look, total, Differs, AltersKey, SameEntries}
+use Rattle.chunk_index.specs.Shelves.{ObjectMap, entry_of, look, total, AltersKey, SameEntries}
 
 -- a number is at its own place alone
-not_at : (o k : ℕ) → k ≢ o → is_at (nat_cmp o) k ≡ false
+pub not_at : (o k : ℕ) → k ≢ o → is_at (nat_cmp o) k ≡ false
 not_at o k ne = grind (arith, nat_tests, ne)
 
 -- what an object's entries tell
-look_in : (m : ObjectMap) (o c : ℕ) (x : ObjectEntries) → get nat_cmp m o ≡ Some x → look m o c ≡ find_by chunk x.entries.items c
+pub look_in : (m : ObjectMap) (o c : ℕ) (x : ObjectEntries) → get nat_cmp m o ≡ Some x → look m o c ≡ find_by chunk x.entries.items c
 look_in m o c x found = ap (option_and_then (entry_of c)) found
 
 -- an entry that is there stands among the entries of its object
@@ -29,7 +29,7 @@ pub look_there : (m : ObjectMap) (o c : ℕ) → get nat_cmp m o ≡ None → Is
 look_there m o c none some = false≢true (rw (ap (option_and_then (entry_of c)) none) at some)
 
 -- what is told of the keys of another object stays
-look_other : (m n : ObjectMap) (k l : ℕ) → get nat_cmp n k ≡ get nat_cmp m k → look n k l ≡ look m k l
+pub look_other : (m n : ObjectMap) (k l : ℕ) → get nat_cmp n k ≡ get nat_cmp m k → look n k l ≡ look m k l
 look_other m n k l same = ap (option_and_then (entry_of l)) same
 
 -- where the entries of one object change at one chunk, and no other object does
@@ -53,10 +53,10 @@ alters_in m n o c to x y was is others sums alters = record {
 }
 
 module _ (o : ℕ) (m n : ObjectMap) (x y : ObjectEntries) (found : get nat_cmp m o ≡ Some x) (through : WritesThrough nat_cmp (nat_cmp o) m y n) where
-  there : IsSome (get nat_cmp m o)
+  pub there : IsSome (get nat_cmp m o)
   there = rw found refl
 
-  sums : (f : Entry → ℕ) → total f n + weigh f x.entries.items ≡ total f m + weigh f y.entries.items
+  pub sums : (f : Entry → ℕ) → total f n + weigh f x.entries.items ≡ total f m + weigh f y.entries.items
   sums f =
       let g = λ (z : ObjectEntries). weigh f z.entries.items in
       let set : sum_by g (values n) ≡ sum_by g (values_of (set_value (is_at (nat_cmp o)) m.entries y)) = ap (λ es. sum_by g (values_of es)) through.0 in
@@ -211,7 +211,7 @@ object_put o m n x empty absent (Ok v) ordered inserts updates err = object_more
 object_put o m n x empty absent (Err e) ordered inserts updates err = same_map_entries m n err
 
 -- an entry that is found among those of an object is of the chunk
-found_chunk : (es : List Entry) (c : ℕ) (e : Entry) → find_by chunk es c ≡ Some e → chunk e ≡ c
+pub found_chunk : (es : List Entry) (c : ℕ) (e : Entry) → find_by chunk es c ≡ Some e → chunk e ≡ c
 found_chunk [] c e is = absurd cc
 found_chunk (x ∷ es) c e is = elim (cases_eq (chunk x) c) [
   | inl at ↦
@@ -232,3 +232,18 @@ look_chunk m o c e is = go (get nat_cmp m o) refl where
 pub found_if : (es : List Entry) (c : ℕ) (r : Option Entry) → r ≡ find_by chunk es c → IfSome r (λ (e : Entry). e.chunk ≡ c)
 found_if es c None is = tt
 found_if es c (Some e) is = found_chunk es c e (sym is)
+
+-- it stands at a place
+pub found_place : (es : List Entry) (c : ℕ) (e : Entry) → find_by chunk es c ≡ Some e → (j : ℕ) × (j < length es) × (get_or es j e ≡ e)
+found_place [] c e is = absurd cc
+found_place (x ∷ es) c e is = elim (cases_eq (chunk x) c) [
+  | inl at ↦
+      let here : find_by chunk (x ∷ es) c ≡ Some x = grind (arith, nat_tests, at) in
+      let both : Some x ≡ Some e = sym here ∙ is in
+      let same : x ≡ e = cc in
+      (0, omega arith, same)
+  | inr ne ↦
+      let there : find_by chunk (x ∷ es) c ≡ find_by chunk es c = grind (arith, nat_tests, ne) in
+      let rest = found_place es c e (sym there ∙ is) in
+      (suc rest.0, omega (arith, rest.1), rest.2)
+]

@@ -22,6 +22,11 @@ pub record HasRoom (t : Table) (counted : ℕ → ℕ) (n : ℕ) : Type 0 where
   pub room : (b : ℕ) → (t.entry b).kept + n ≤ 4294967295 + counted b
   pub within : (b : ℕ) → t.geometry.blocks ≤ b → counted b ≡ 0
 
+-- the blocks count at least so many keys each, and none past the last block is counted
+pub record HasCounted (t : Table) (counted : ℕ → ℕ) : Type 0 where
+  pub enough : (b : ℕ) → counted b ≤ (t.entry b).kept
+  pub within : (b : ℕ) → t.geometry.blocks ≤ b → counted b ≡ 0
+
 -- The kept count of each block is the number of entries that are kept in it, and none is kept past the last block.
 pub record Tallies (t : Table) (m : ObjectMap) : Type 0 where
   pub counts : (b : ℕ) → (t.entry b).kept ≡ total (counted_at b) m

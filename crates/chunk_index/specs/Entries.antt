@@ -1,5 +1,5 @@
 -- What the entries of an index tell.
-use Rattle.std.specs.Prelude.{◌≡◌, ◌≢◌, ◌<◌, ℕ, ◌+◌, List, if◌then◌else◌, ◌==◌, Bool, true, false, Option, Some, None, IsSome}
+use Rattle.std.specs.Prelude.{◌≡◌, ◌≢◌, ◌<◌, ℕ, ◌+◌, List, if◌then◌else◌, ◌==◌, Bool, true, false, Option, Some, None}
 use Rattle.std.specs.Option.{option_map_or, option_and_then}
 use Rattle.std.specs.List.{sum_by}
 use Rattle.chunk_index.specs.Lists.{find_by, IsBelow}

@@ -1,8 +1,39 @@
--- Which block holds a kept key.
-use Rattle.std.specs.Prelude.{◌≡◌, ◌≢◌, ℕ, Some}
+-- Which keys are kept, in a block and in all.
+use Rattle.std.specs.Prelude.{◌≡◌, ◌≢◌, ◌⊎◌, ◌<◌, ℕ, List, length, slice_get, Option, Some, None}
 use Rattle.chunk_index.specs.declared.form.KeptPage.{KeptPage}
+use Rattle.chunk_index.specs.declared.form.KeptKey.{KeptKey}
+use Rattle.flash_tree.specs.declared.place.Key.{Key}
 use Rattle.chunk_index.specs.Maps.{KeptMap}
 
 -- no key is kept in the block
 abbrev pub HoldsNone : KeptMap → ℕ → Type 0
 HoldsNone m b = (o c : ℕ) (p : KeptPage) → m o c ≡ Some p → p.block ≢ b
+
+-- the key of chunk c of object o comes before that of chunk l of object k: by the object, then by the chunk
+abbrev pub ComesBefore : ℕ → ℕ → ℕ → ℕ → Type 0
+ComesBefore o c k l = (o < k) ⊎ ((o ≡ k) × (c < l))
+
+-- the keys rise, so that no key comes twice
+abbrev pub KeyRises : List KeptKey → Type 0
+KeyRises ks = (i j : ℕ) (k l : KeptKey) → i < j → slice_get ks i ≡ Some k → slice_get ks j ≡ Some l → ComesBefore k.key.object k.key.chunk l.key.object l.key.chunk
+
+-- The list has each kept key with its page, and no other, in rising order.
+pub record IsListOf (m : KeptMap) (ks : List KeptKey) : Type 0 where
+  pub each : (i : ℕ) (k : KeptKey) → slice_get ks i ≡ Some k → m k.key.object k.key.chunk ≡ Some k.at
+  pub all : (o c : ℕ) (p : KeptPage) → m o c ≡ Some p → (i : ℕ) × (slice_get ks i ≡ Some (record { key = record { object = o; chunk = c }; at = p }))
+  pub rise : KeyRises ks
+
+-- so many keys are kept: there is a list of them of this length
+abbrev pub HasKept : KeptMap → ℕ → Type 0
+HasKept m n = (ks : List KeptKey) × IsListOf m ks × (length ks ≡ n)
+
+-- the key of chunk c of object o comes after another, where there is one
+abbrev pub IsAfterKey : ℕ → ℕ → Option Key → Type 0
+IsAfterKey o c None = Unit {0}
+IsAfterKey o c (Some k) = ComesBefore k.object k.chunk o c
+
+-- the first kept key after another, or of all, with its page; with none, no key is kept after it
+abbrev pub IsNextKept : KeptMap → Option Key → Option KeptKey → Type 0
+IsNextKept m after None = (o c : ℕ) → IsAfterKey o c after → m o c ≡ None
+IsNextKept m after (Some k) = (m k.key.object k.key.chunk ≡ Some k.at) × IsAfterKey k.key.object k.key.chunk after
+    × ((o c : ℕ) → IsAfterKey o c after → ComesBefore o c k.key.object k.key.chunk → m o c ≡ None)

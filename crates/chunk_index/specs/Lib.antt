@@ -2,9 +2,11 @@ pub mod Lists
 pub mod Entries
 pub mod Shelves
 pub mod Counts
+pub mod Retained
 pub mod Maps
 pub mod Newest
 pub mod Found
 pub mod Listing
 pub mod Kept
+pub mod Following
 pub mod laws

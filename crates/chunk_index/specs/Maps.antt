@@ -103,3 +103,12 @@ pub record Settles (g : WrittenGroup) (old new : Index) : Type 0 where
 -- each page of the buffer has a number for its page on the flash
 abbrev pub Fits : WrittenGroup → Index → Type 0
 Fits g x = (o c i : ℕ) → present x o c ≡ presents.InBuffer i → g.first + i < 4294967296
+
+-- The keys that stay are kept, present, prepared and ready as they were, and of all others nothing is kept or present.
+pub record Retains (keeps : ℕ → ℕ → Bool) (old new : Index) : Type 0 where
+  pub kept_no_more : (o c : ℕ) → keeps o c ≡ false → kept_pages new o c ≡ None
+  pub present_no_more : (o c : ℕ) → keeps o c ≡ false → present new o c ≡ presents.Absent
+  pub kept : (o c : ℕ) → keeps o c ≡ true → kept_pages new o c ≡ kept_pages old o c
+  pub present : (o c : ℕ) → keeps o c ≡ true → present new o c ≡ present old o c
+  pub prepared : (o c : ℕ) → keeps o c ≡ true → IsPrepared old o c → IsPrepared new o c
+  pub ready : (o c : ℕ) → keeps o c ≡ true → IsReady old o c → IsReady new o c

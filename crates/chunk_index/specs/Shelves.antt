@@ -1,5 +1,5 @@
 -- The entries of all objects.
-use Rattle.std.specs.Prelude.{◌≡◌, ◌≢◌, ◌⊎◌, ◌<◌, ◌≤◌, ◌+◌, ℕ, List, length, get_or, Option, Some, None}
+use Rattle.std.specs.Prelude.{◌≡◌, ◌≢◌, ◌⊎◌, ◌<◌, ◌≤◌, ◌+◌, ℕ, List, length, get_or, Option, Some, None, IsSome}
 use Rattle.flash_tree.specs.declared.place.Key.{Key}
 use Rattle.std.specs.Option.{option_and_then}
 use Rattle.std.specs.List.{sum_by}
@@ -54,3 +54,13 @@ IsLastOf m o bound (Some e) = (look m o (chunk e) ≡ Some e) × IsBelow (chunk 
 abbrev pub IsLastFrom : ObjectMap → ℕ → ℕ → Option ℕ → Option Entry → Type 0
 IsLastFrom m o from bound None = (l : ℕ) → from ≤ l → IsBelow l bound → look m o l ≡ None
 IsLastFrom m o from bound (Some e) = (look m o (chunk e) ≡ Some e) × (from ≤ chunk e) × IsBelow (chunk e) bound × ((l : ℕ) → chunk e < l → IsBelow l bound → look m o l ≡ None)
+
+-- the number lies after another, where there is one
+abbrev pub IsAfterNumber : ℕ → Option ℕ → Type 0
+IsAfterNumber n None = Unit {0}
+IsAfterNumber n (Some m) = m < n
+
+-- the first object after a number, or none where there is none after it
+abbrev pub IsNextObject : ObjectMap → Option ℕ → Option ℕ → Type 0
+IsNextObject m after None = (k : ℕ) → IsAfterNumber k after → get nat_cmp m k ≡ None
+IsNextObject m after (Some o) = IsSome (get nat_cmp m o) × IsAfterNumber o after × ((k : ℕ) → IsAfterNumber k after → k < o → get nat_cmp m k ≡ None)

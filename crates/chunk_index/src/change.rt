@@ -2,14 +2,14 @@
 ghost use Rattle.std.specs.Prelude.{◌≡◌, ◌<◌, ℕ, None, IfSome};
 ghost use Rattle.block_state.specs.TableOf.{table};
 ghost use Rattle.chunk_index.specs.Entries.{one_at};
-ghost use Rattle.chunk_index.specs.Counts.{Recounts, HasRoom};
+ghost use Rattle.chunk_index.specs.Counts.{Recounts, HasRoom, HasCounted};
 
 use crate::form::KeptPage;
 use block_state::Blocks;
 
 /// Counts a page no longer as kept.
-fn release(page: Option<KeptPage>, blocks: &mut Blocks)
-    requires room { HasRoom (table blocks.old) (one_at page) 1 }
+pub fn release(page: Option<KeptPage>, blocks: &mut Blocks)
+    requires counted { HasCounted (table blocks.old) (one_at page) }
     ensures { Recounts (one_at page) (one_at None) (table blocks.old) (table blocks.new) }
 {
     if let Some(page) = page {

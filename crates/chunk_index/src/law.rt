@@ -1,11 +1,13 @@
 // What follows from what an index tells. A function here does nothing: its clauses are the laws.
 ghost use Rattle.std.specs.Prelude.{◌≡◌, ℕ, Some, slice_get, length};
+ghost use Rattle.block_state.specs.Table.{Table};
+ghost use Rattle.block_state.specs.Kept.{kept_count};
 ghost use Rattle.chunk_index.specs.declared.form.KeptPage.{KeptPage};
 ghost use Rattle.chunk_index.specs.declared.form.KeptKey.{KeptKey};
 ghost use Rattle.chunk_index.specs.declared.index.Index.{Index};
-ghost use Rattle.chunk_index.specs.Kept.{HoldsNone};
+ghost use Rattle.chunk_index.specs.Kept.{HoldsNone, HasKept};
 ghost use Rattle.chunk_index.specs.Listing.{block_keys};
-ghost use Rattle.chunk_index.specs.Maps.{kept_pages, kept_in};
+ghost use Rattle.chunk_index.specs.Maps.{KeptMap, kept_pages, kept_in, CountsAgree};
 
 /// The count of a block is 0 exactly where no key is kept in it.
 pub fn the_counts_are_of_the_keys()
@@ -20,4 +22,10 @@ pub fn the_list_of_a_block_is_whole()
     ensures count { (x : Index) (b : ℕ) → length (block_keys x b) ≡ kept_in x b }
     ensures all { (x : Index) (b o c : ℕ) (p : KeptPage) → kept_pages x o c ≡ Some p → p.block ≡ b
         → (i : ℕ) × (slice_get (block_keys x b) i ≡ Some (record { key = record { object = o; chunk = c }; at = p })) }
+{}
+
+/// The kept counts of all blocks add up to the number of kept keys, and a map keeps one number of keys.
+pub fn the_counts_add_up_to_the_kept_keys()
+    ensures all { (t : Table) (x : Index) → CountsAgree t x → HasKept (kept_pages x) (kept_count t) }
+    ensures one { (m : KeptMap) (n k : ℕ) → HasKept m n → HasKept m k → n ≡ k }
 {}

@@ -4,18 +4,24 @@
 mod change;
 mod cut;
 mod entry;
+mod filter;
 mod form;
 mod index;
 mod law;
 mod listing;
 mod newest;
+mod next;
 mod object;
+mod retain;
 mod settle;
 mod shelf;
 
+pub use filter::KeyFilter;
 pub use form::{Form, KeptKey, KeptPage, Place, Present, WrittenGroup};
 pub use index::Index;
-pub use law::{the_counts_are_of_the_keys, the_list_of_a_block_is_whole};
+pub use law::{
+    the_counts_add_up_to_the_kept_keys, the_counts_are_of_the_keys, the_list_of_a_block_is_whole,
+};
 
 #[cfg(test)]
 mod tests;

@@ -24,7 +24,7 @@ impl ObjectEntries {
     }
 
     /// Where the entry of a chunk is, or where it would go.
-    fn search(&self, number: u64) -> Result<usize, usize>
+    pub(crate) fn search(&self, number: u64) -> Result<usize, usize>
         ensures found { IfOk result (IsAt chunk self.now.entries.items number) }
         ensures absent { IfErr result (IsGapFor chunk self.now.entries.items number) }
     {

@@ -3,13 +3,14 @@ ghost use Rattle.std.specs.Prelude.{◌≡◌, ◌<◌, ◌≤◌, ◌+◌, ◌-
 ghost use Rattle.std.specs.Ordering.{nat_cmp};
 ghost use Rattle.std.proofs.Props.{props};
 ghost use Rattle.std.specs.BTreeMap.{get, IsEmpty, IsOrdered};
-ghost use Rattle.chunk_index.specs.Shelves.{look, total, AltersKey, SameEntries, IsLastOf};
+ghost use Rattle.chunk_index.specs.Shelves.{look, total, AltersKey, SameEntries, IsLastOf, IsNextObject};
 
 use crate::entry::Entry;
 use crate::object::ObjectEntries;
 use flash_tree::Key;
 use std::alloc::{AllocError, Global};
 use std::collections::BTreeMap;
+use std::ops::Bound;
 
 /// No more than a kept count can tell.
 const MOST_ENTRIES: usize = 4_294_967_295;
@@ -20,7 +21,7 @@ const MOST_ENTRIES: usize = 4_294_967_295;
 pub struct Shelf {
     alloc: Global,
     pub(crate) objects: BTreeMap<u64, ObjectEntries>,
-    size: usize,
+    pub(crate) size: usize,
     ghost ordered: { IsOrdered nat_cmp objects } by { Prim.hlevel props },
     ghost counted: { total (λ e. 1) objects ≡ size },
     ghost bounded: { size < 2 ^ 32 },
@@ -153,7 +154,7 @@ impl Shelf {
     }
 
     /// Drops an object that has no entries.
-    fn drop_empty(&mut self, object: u64)
+    pub fn drop_empty(&mut self, object: u64)
         ensures same { SameEntries self.old.objects self.new.objects }
         ensures size { self.new.size ≡ self.old.size }
     {
@@ -169,6 +170,23 @@ impl Shelf {
         match self.objects.get(&object) {
             Some(entries) => entries.is_empty(),
             None => false,
+        }
+    }
+
+    /// The first object after a number, or of all.
+    pub fn next_object(&self, after: Option<u64>) -> Option<u64>
+        ensures { IsNextObject self.now.objects after result }
+    {
+        match after {
+            Some(number) => {
+                let range = (Bound::Excluded(number), Bound::Unbounded);
+                let (object, _) = self.objects.range(range).next()?;
+                Some(*object)
+            }
+            None => {
+                let (object, _) = self.objects.first_key_value()?;
+                Some(*object)
+            }
         }
     }
 

@@ -61,6 +61,14 @@ impl Store {
         }
     }
 
+    fn prepare(&mut self, key: Key) -> Result<(), AllocError> {
+        self.index.prepare(key)
+    }
+
+    fn retain(&mut self, filter: &UpTo) {
+        self.index.retain(filter, &mut self.blocks);
+    }
+
     fn cut(&mut self, object: u64, from: u64) {
         self.index.cut(object, from);
     }
@@ -73,6 +81,22 @@ impl Store {
         requires { block < 8 }
     {
         self.blocks.entry(block).kept
+    }
+}
+
+/// Keeps the chunks of one object up to one.
+struct UpTo {
+    object: u64,
+    last: u64,
+}
+
+impl KeyFilter for UpTo {
+    ghost use Rattle.std.specs.Prelude.{◌&&◌, not, nat_eq, nat_lt};
+
+    ghost keeps = { λ filter o c. nat_eq o filter.object && not (nat_lt filter.last c) };
+
+    fn keeps(&self, key: Key) -> bool {
+        key.object == self.object && key.chunk <= self.last
     }
 }
 
@@ -120,5 +144,58 @@ fn a_group_is_settled_copied_and_forgotten(rt: HostRuntime) -> Result<(), Fail> 
         (None, None)
     );
     assert_eq!(&rt; (store.count(3), store.count(4), store.count(6)), (1, 0, 1));
+    Ok(())
+}
+
+fn kept(key: Key, at: KeptPage) -> Option<KeptKey> {
+    Some(KeptKey { key, at })
+}
+
+#[test]
+fn keys_come_in_order_and_some_stay(rt: HostRuntime) -> Result<(), Fail> {
+    let mut store = Store::new(rt.alloc())?;
+    store.buffer(key(5, 2), 0)?;
+    store.buffer(key(1, 9), 1)?;
+    store.buffer(key(5, 0), 2)?;
+    store.settle(3, 10, 7);
+    store.buffer(key(2, 0), 0)?;
+    let first = kept(key(1, 9), at(3, 11, 7));
+    let second = kept(key(5, 0), at(3, 12, 7));
+    let third = kept(key(5, 2), at(3, 10, 7));
+    assert_eq!(&rt; store.index.next_kept(None), first);
+    assert_eq!(&rt; store.index.next_kept(Some(key(1, 9))), second);
+    assert_eq!(&rt; store.index.next_kept(Some(key(3, 7))), second);
+    assert_eq!(&rt; store.index.next_kept(Some(key(5, 0))), third);
+    assert_eq!(&rt; store.index.next_kept(Some(key(5, 2))), None);
+    store.retain(&UpTo { object: 5, last: 1 });
+    assert_eq!(&rt; store.index.next_kept(None), second);
+    assert_eq!(&rt; store.index.next_kept(Some(key(5, 0))), None);
+    assert_eq!(&rt; store.index.present(key(2, 0)), Present::Absent);
+    assert_eq!(&rt; store.count(3), 1);
+    store.settle(4, 0, 8);
+    assert_eq!(&rt; store.index.kept(key(5, 0)), Some(at(3, 12, 7)));
+    assert_eq!(&rt; store.index.kept(key(2, 0)), None);
+    Ok(())
+}
+
+// Run it with each allocation of the preparation refused in turn.
+#[test]
+fn a_refused_preparation_changes_nothing(rt: HostRuntime) -> Result<(), Fail> {
+    let mut store = Store::new(rt.alloc())?;
+    store.buffer(key(5, 0), 0)?;
+    store.settle(3, 10, 7);
+    if store.prepare(key(6, 0)).is_err() {
+        assert_eq!(&rt; store.index.kept(key(5, 0)), Some(at(3, 10, 7)));
+        assert_eq!(&rt; store.index.kept(key(6, 0)), None);
+        assert_eq!(&rt; store.index.present(key(6, 0)), Present::Absent);
+        store.prepare(key(6, 0))?;
+    }
+    assert_eq!(&rt; store.index.present(key(6, 0)), Present::Absent);
+    store.buffer(key(6, 0), 1)?;
+    assert_eq!(&rt; store.index.present(key(6, 0)), Present::InBuffer(1));
+    assert_eq!(&rt;
+        store.index.present(key(5, 0)),
+        Present::OnFlash(at(3, 10, 7))
+    );
     Ok(())
 }

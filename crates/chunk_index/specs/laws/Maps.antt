@@ -1,16 +1,15 @@
 -- What holds of an index after a change, where it held before.
-use Rattle.std.specs.Prelude.{◌≡◌, ◌≢◌, ◌⊎◌, ◌<◌, ℕ}
+use Rattle.std.specs.Prelude.{◌≡◌, ◌<◌, ℕ, Bool}
 use Rattle.std.proofs.Common.{sym, ap, ◌∙◌, inl, inr, arith}
-use Rattle.std.proofs.lemmas.Bool.{cases_eq, cases_lt}
+use Rattle.std.proofs.lemmas.Bool.{cases_eq, cases_lt, cases_Bool}
 use Rattle.block_state.specs.Table.{Table}
 use Rattle.chunk_index.specs.declared.form.Place.{Place}
 use Rattle.chunk_index.specs.declared.form.KeptPage.{KeptPage}
-use Rattle.chunk_index.specs.declared.form.Form.{Form}
 use Rattle.chunk_index.specs.declared.form.Form.TheVariants as forms
 use Rattle.chunk_index.specs.declared.form.Present.{Present}
 use Rattle.chunk_index.specs.declared.form.Present.TheVariants as presents
 use Rattle.chunk_index.specs.declared.index.Index.{Index}
-use Rattle.chunk_index.specs.Maps.{present, CountsAgree, IsEmpty, SameKept, SamePresent, Places, Cuts, Copies, moved_to}
+use Rattle.chunk_index.specs.Maps.{present, CountsAgree, IsEmpty, SameKept, SamePresent, Places, Cuts, Copies, Retains, moved_to}
 
 -- the counts agree, where no kept page changes
 pub agree_same : (t : Table) (old new : Index) → SameKept old new → CountsAgree t old → CountsAgree t new
@@ -64,4 +63,11 @@ below_copied n o c place was old new copies below k l i is = elim (cases_eq k o)
         let there : present old o c ≡ presents.InBuffer i = moved_buffer _ (present old o c) i (sym copies.present_here ∙ sym (ap (λ q. present new q l) e ∙ ap (present new o) d) ∙ is) in
         below k l i (ap (λ q. present old q l) e ∙ ap (present old o) d ∙ there)
   ]
+]
+
+-- where only some keys stay
+pub below_retained : (n : ℕ) (keeps : ℕ → ℕ → Bool) (old new : Index) → Retains keeps old new → BufferBelow n old → BufferBelow n new
+below_retained n keeps old new retains below k l i is = elim (cases_Bool (keeps k l)) [
+  | inl stays ↦ below k l i (sym (retains.present k l stays) ∙ is)
+  | inr goes ↦ let both : presents.Absent ≡ presents.InBuffer i = sym (retains.present_no_more k l goes) ∙ is in absurd cc
 ]

@@ -1,6 +1,5 @@
-use Rattle.std.proofs.Common.{sym, ap, ◌∙◌, arith, refl, subst, ◌≡◌, ◌≤◌, length}
+use Rattle.std.proofs.Common.{sym, ◌∙◌, arith, refl, ◌≤◌}
 use Rattle.chunk_index.specs.Entries.{same_of, changed}
-use Rattle.chunk_index.specs.Shelves.{total}
 use Rattle.chunk_index.proofs.Mapping.{changed_few, told_inserted, total_inserted, room_inserted}
 use Rattle.chunk_index.proofs.index.Index.add.Goals as goal
 

@@ -1,9 +1,7 @@
 use Rattle.std.proofs.Common.{sym, ap, ◌∙◌, arith, refl, Some}
-use Rattle.block_state.specs.TableOf.{table}
 use Rattle.chunk_index.specs.Entries.{same_of, changed, weight, with_kept}
-use Rattle.chunk_index.specs.Counts.{Tallies}
 use Rattle.chunk_index.proofs.Counting.{entry_room, entry_counts, tallies_altered, recounts_altered}
-use Rattle.chunk_index.proofs.Mapping.{at_chunk, there_at, total_same, told_same, listed_after}
+use Rattle.chunk_index.proofs.Mapping.{at_chunk, there_at, total_same, told_same}
 use Rattle.chunk_index.proofs.index.Index.move_to.Goals as goal
 
 pub recount-requires-clause-room : goal.recount-requires-clause-room

@@ -1,4 +1,4 @@
-use Rattle.std.proofs.Common.{sym, ap, ◌∙◌, arith, refl, if◌then◌else◌, subst}
+use Rattle.std.proofs.Common.{sym, ap, ◌∙◌, arith, refl, if◌then◌else◌}
 use Rattle.chunk_index.specs.Entries.{same_of, changed, weight, is_same_state}
 use Rattle.chunk_index.proofs.Mapping.{at_chunk, there_at, total_same, listed_after, state_changes}
 use Rattle.chunk_index.proofs.index.Index.place_again.Goals as goal

@@ -1,8 +1,8 @@
-use Rattle.std.proofs.Common.{sym, ap, ◌∙◌, arith, refl, if◌then◌else◌, subst, ◌++◌, ◌∷◌, [], length, ◌<◌, ℕ}
+use Rattle.std.proofs.Common.{ap, ◌∙◌, arith, refl, if◌then◌else◌, ◌∷◌, [], length, ◌<◌, ℕ}
 use Rattle.std.specs.Vec.{vec_capacity}
-use Rattle.chunk_index.specs.Entries.{same_of, changed, weight, is_same_state}
+use Rattle.chunk_index.specs.Entries.{changed, weight, is_same_state}
 use Rattle.std.proofs.lemmas.List.{length-append}
-use Rattle.chunk_index.proofs.Mapping.{at_chunk, there_at, total_same, listed_after, state_changes, listed_push, listed_last, changed_room, pushed}
+use Rattle.chunk_index.proofs.Mapping.{at_chunk, there_at, listed_after, state_changes, listed_push, listed_last, changed_room, pushed}
 use Rattle.chunk_index.proofs.index.Index.place_first.Goals as goal
 
 pub set-requires : goal.set-requires

@@ -1,6 +1,6 @@
 use Rattle.std.proofs.Common.{arith, sym, ap, ◌∙◌}
-use Rattle.chunk_index.proofs.Telling.{settled_same_of, settles_kept, settles_present, settles_ready}
-use Rattle.chunk_index.specs.Entries.{same_of, kept_of, present_of, stays_of}
+use Rattle.chunk_index.proofs.Telling.{settled_same_of}
+use Rattle.chunk_index.specs.Entries.{same_of}
 use Rattle.chunk_index.proofs.index.Index.settle_group.Goals as goal
 
 pub settle-requires-clause-listed : goal.settle-requires-clause-listed

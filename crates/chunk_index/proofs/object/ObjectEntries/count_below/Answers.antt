@@ -1,7 +1,7 @@
 use Rattle.std.proofs.Common.{subst, sym}
 use Rattle.chunk_index.specs.Lists.{IsEndFor}
 use Rattle.chunk_index.specs.Entries.{chunk}
-use Rattle.chunk_index.proofs.Finding.{ends_at, ends_in_gap}
+use Rattle.chunk_index.proofs.Finding.{ends_at}
 use Rattle.chunk_index.proofs.object.ObjectEntries.count_below.Goals as goal
 
 pub returns-in-Ok : goal.returns-in-Ok

@@ -1,4 +1,4 @@
-use Rattle.std.proofs.Common.{refl, subst, sym, ap, ◌∙◌}
+use Rattle.std.proofs.Common.{refl, subst, sym}
 use Rattle.chunk_index.specs.Lists.{Rises}
 use Rattle.chunk_index.specs.Entries.{chunk}
 use Rattle.chunk_index.proofs.Finding.{rises_insert}

@@ -1,4 +1,4 @@
-use Rattle.std.proofs.Common.{subst, sym, arith}
+use Rattle.std.proofs.Common.{subst, arith}
 use Rattle.chunk_index.specs.Lists.{IsEndFor}
 use Rattle.chunk_index.specs.Entries.{chunk}
 use Rattle.chunk_index.proofs.Altering.{none_below, last_below}

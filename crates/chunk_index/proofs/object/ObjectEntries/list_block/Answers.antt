@@ -1,5 +1,5 @@
 use Rattle.std.proofs.Common.{ap, sym, ◌∙◌, ◌++◌}
-use Rattle.chunk_index.specs.Listing.{keys_of, key_in}
+use Rattle.chunk_index.specs.Listing.{keys_of}
 use Rattle.std.proofs.Common.{drop, ◌+◌}
 use Rattle.chunk_index.proofs.Parts.{list_room, rest_more}
 use Rattle.chunk_index.proofs.object.ObjectEntries.list_block.Goals as goal

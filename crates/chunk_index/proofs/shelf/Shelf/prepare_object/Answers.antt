@@ -1,4 +1,4 @@
-use Rattle.std.proofs.Common.{arith, sym, ◌∙◌}
+use Rattle.std.proofs.Common.{sym, ◌∙◌}
 use Rattle.chunk_index.proofs.Shelving.{object_put}
 use Rattle.chunk_index.proofs.shelf.Shelf.prepare_object.Goals as goal
 

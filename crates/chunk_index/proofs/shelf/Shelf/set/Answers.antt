@@ -1,5 +1,4 @@
 use Rattle.std.proofs.Common.{sym}
-use Rattle.chunk_index.specs.Entries.{chunk}
 use Rattle.chunk_index.proofs.Shelving.{written, same_size}
 use Rattle.chunk_index.proofs.shelf.Shelf.set.Goals as goal
 

@@ -2,7 +2,7 @@ use Rattle.std.proofs.Common.{Some, sym, ◌∙◌, IsSome, subst, refl}
 use Rattle.block_state.specs.TableOf.{table}
 use Rattle.chunk_index.specs.Shelves.{look}
 use Rattle.chunk_index.proofs.Counting.{tallies_altered, recounts_altered}
-use Rattle.chunk_index.proofs.Settling.{settled_set, settled_remove, settled_counts, settled_room, settled_page, settled_none, settled_within}
+use Rattle.chunk_index.proofs.Settling.{settled_set, settled_counts, settled_room, settled_page, settled_within}
 use Rattle.chunk_index.proofs.shelf.Shelf.settle_key.Goals as goal
 
 pub settled-requires : goal.settled-requires

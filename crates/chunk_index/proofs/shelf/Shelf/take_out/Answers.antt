@@ -1,5 +1,5 @@
-use Rattle.std.proofs.Common.{sym, arith, Option, None, Some, IsSome}
-use Rattle.chunk_index.proofs.Shelving.{written, size_less, look_there}
+use Rattle.std.proofs.Common.{sym, arith}
+use Rattle.chunk_index.proofs.Shelving.{written, size_less}
 use Rattle.chunk_index.proofs.shelf.Shelf.take_out.Goals as goal
 
 pub invariant_of-self : goal.invariant_of-self

@@ -1,4 +1,4 @@
-use Rattle.std.proofs.Common.{sym, ◌∙◌}
+use Rattle.std.proofs.Common.{sym}
 use Rattle.chunk_index.specs.laws.Maps.{below_copied}
 use Rattle.chunk_index.proofs.tests.Store.copy.Goals as goal
 

@@ -1,0 +1,191 @@
+-- The kept key that comes next, in an object and among all.
+use Rattle.std.proofs.Common.{◌≡◌, ◌≢◌, ◌⊎◌, ℕ, ◌+◌, ◌<◌, ◌≤◌, List, length, get_or, Option, Some, None, refl, sym, ap, subst, ◌∙◌, arith, inl, inr}
+use Rattle.std.specs.Option.{option_and_then}
+use Rattle.std.specs.Ordering.{nat_cmp}
+use Rattle.std.specs.BTreeMap.{get}
+use Rattle.std.proofs.lemmas.Bool.{cases_eq, cases_lt}
+use Rattle.std.proofs.lemmas.List.{get_or_default}
+use Rattle.chunk_index.specs.declared.form.KeptPage.{KeptPage}
+use Rattle.chunk_index.specs.declared.form.KeptKey.{KeptKey}
+use Rattle.chunk_index.specs.declared.entry.Entry.{Entry}
+use Rattle.chunk_index.specs.declared.index.Index.{Index}
+use Rattle.chunk_index.specs.Lists.{find_by, Rises, IsAt, IsGapFor}
+use Rattle.chunk_index.specs.Entries.{chunk, kept_of}
+use Rattle.chunk_index.specs.Shelves.{entry_of, look, IsAfterNumber, IsNextObject}
+use Rattle.chunk_index.specs.Kept.{IsNextKept}
+use Rattle.chunk_index.specs.Following.{IsStartFor, IsNextChunk, IsNextBeyond, kept_chunk}
+use Rattle.chunk_index.specs.Maps.{KeptMap, kept_pages}
+use Rattle.chunk_index.proofs.Finding.{find_at}
+
+-- ---- one object
+
+-- those after the entry of a number
+pub start_at : (es : List Entry) → Rises chunk es → (n i : ℕ) → IsAt chunk es n i → IsStartFor chunk es (Some n) (i + 1)
+start_at es rises n i at = record {
+  within = omega (arith, at.within);
+  lesser = λ j d lt after. elim (cases_eq j i) [
+    | inl same ↦ let here : chunk (get_or es j d) ≡ n = ap (λ k. chunk (get_or es k d)) same ∙ at.number d in omega (arith, here, after)
+    | inr ne ↦
+        let r : chunk (get_or es j d) < chunk (get_or es i d) = rises j i d (omega (arith, lt, ne)) at.within in
+        let here : chunk (get_or es i d) ≡ n = at.number d in
+        omega (arith, r, here, after)
+  ];
+  greater = λ j d le lt.
+      let r : chunk (get_or es i d) < chunk (get_or es j d) = rises i j d (omega (arith, le)) lt in
+      let here : chunk (get_or es i d) ≡ n = at.number d in
+      omega (arith, r, here);
+}
+
+-- those after its gap
+pub start_in_gap : (es : List Entry) (n i : ℕ) → IsGapFor chunk es n i → IsStartFor chunk es (Some n) i
+start_in_gap es n i gap = record {
+  within = gap.within;
+  lesser = λ j d lt after. let less : chunk (get_or es j d) < n = gap.lesser j d lt in omega (arith, less, after);
+  greater = λ j d le lt. gap.greater j d le lt;
+}
+
+pub start_of_all : (es : List Entry) → IsStartFor chunk es None 0
+start_of_all es = record { within = omega arith; lesser = λ j d lt after. omega (arith, lt); greater = λ j d le lt. tt }
+
+-- none of the entries from place i on and before n is kept
+abbrev pub NoneKept : List Entry → ℕ → ℕ → Type 0
+NoneKept es i n = (j : ℕ) (d : Entry) → i ≤ j → j < n → j < length es → (get_or es j d).kept ≡ None
+
+pub none_more : (es : List Entry) (i n : ℕ) (e : Entry) → NoneKept es i n → n < length es → e ≡ get_or es n e → e.kept ≡ None → NoneKept es i (n + 1)
+none_more es i n e none lt here is j d le less within = elim (cases_eq j n) [
+  | inl same ↦ ap (λ k. (get_or es k d).kept) same ∙ ap (λ (x : Entry). x.kept) (get_or_default es n d e lt ∙ sym here) ∙ is
+  | inr ne ↦ none j d le (omega (arith, less, ne)) within
+]
+
+-- a chunk that lies after another, and before place n, is not kept
+module _ (es : List Entry) (rises : Rises chunk es) (after : Option ℕ) (i : ℕ) (start : IsStartFor chunk es after i) (n : ℕ) (none : NoneKept es i n) where
+  not_kept : (c : ℕ) → IsAfterNumber c after → ((j : ℕ) (d : Entry) → n ≤ j → j < length es → chunk (get_or es j d) ≢ c) → kept_chunk es c ≡ None
+  not_kept c is_after later = go (find_by chunk es c) refl where
+    go : (v : Option Entry) → find_by chunk es c ≡ v → kept_chunk es c ≡ None
+    go None is = ap kept_of is
+    go (Some e) is =
+        let at = place es c e is in
+        elim (cases_lt at.0 i) [
+          | inl before ↦ absurd (start.lesser at.0 e before (subst (λ m. IsAfterNumber m after) (sym (ap chunk at.2 ∙ found es c e is)) is_after))
+          | inr from ↦ elim (cases_lt at.0 n) [
+            | inl less ↦ ap kept_of is ∙ sym (ap (λ (x : Entry). x.kept) at.2) ∙ none at.0 e from less at.1
+            | inr more ↦ absurd (later at.0 e more at.1 (ap chunk at.2 ∙ found es c e is))
+          ]
+        ] where
+          found : (es : List Entry) (c : ℕ) (e : Entry) → find_by chunk es c ≡ Some e → chunk e ≡ c
+          found es c e is = Rattle.chunk_index.proofs.Shelving.found_chunk es c e is
+
+          place : (es : List Entry) (c : ℕ) (e : Entry) → find_by chunk es c ≡ Some e → (j : ℕ) × (j < length es) × (get_or es j e ≡ e)
+          place es c e is = Rattle.chunk_index.proofs.Shelving.found_place es c e is
+
+  -- the first that is kept
+  pub next_here : (e : Entry) (p : KeptPage) → i ≤ n → n < length es → e ≡ get_or es n e → e.kept ≡ Some p → IsNextChunk (kept_chunk es) after (Some (chunk e, p))
+  next_here e p le lt here is =
+      let at : IsAt chunk es (chunk e) n = record { within = lt; number = λ d. ap chunk (get_or_default es n d e lt ∙ sym here) } in (
+        ap kept_of (find_at chunk es rises (chunk e) n at e ∙ ap Some (sym here)) ∙ is,
+        subst (λ m. IsAfterNumber m after) (ap chunk (sym here)) (start.greater n e le lt),
+        λ c is_after less. not_kept c is_after (λ j d more within same. elim (cases_eq j n) [
+          | inl e_n ↦ let one : chunk (get_or es j d) ≡ chunk e = ap (λ k. chunk (get_or es k d)) e_n ∙ at.number d in omega (arith, one, same, less)
+          | inr ne ↦
+              let r : chunk (get_or es n d) < chunk (get_or es j d) = rises n j d (omega (arith, more, ne)) within in
+              let one : chunk (get_or es n d) ≡ chunk e = at.number d in
+              omega (arith, r, one, same, less)
+        ]),
+      )
+
+  -- or there is none
+  pub next_none : length es ≤ n → IsNextChunk (kept_chunk es) after None
+  next_none le c is_after = not_kept c is_after (λ j d more within same. omega (arith, le, more, within))
+
+-- ---- all objects
+
+module _ (x : Index) where
+  -- none of the objects after one, but for those after another, has a kept key
+  pub record Passed (after last : Option ℕ) : Type 0 where
+    pub none : (o c : ℕ) → IsAfterNumber o after → (IsAfterNumber o last → ⊥) → kept_pages x o c ≡ None
+    pub beyond : (o : ℕ) → IsAfterNumber o last → IsAfterNumber o after
+
+  pub passed_none : (after : Option ℕ) → Passed after after
+  passed_none after = record { none = λ o c is not. absurd (not is); beyond = λ o is. is }
+
+  -- an object that is not there has none
+  absent_none : (o c : ℕ) → get nat_cmp x.shelf.objects o ≡ None → kept_pages x o c ≡ None
+  absent_none o c none = ap kept_of (ap (option_and_then (entry_of c)) none)
+
+  -- between the last object and the next there is none
+  between : (after last : Option ℕ) (object : ℕ) → Passed after last → IsNextObject x.shelf.objects last (Some object) → (o c : ℕ) → IsAfterNumber o after → o < object → kept_pages x o c ≡ None
+  between after last object passed next o c is lt = elim (after_or_not o last) [
+    | inl beyond ↦ absent_none o c (next.2 o beyond lt)
+    | inr not ↦ passed.none o c is not
+  ] where
+    after_or_not : (k : ℕ) (done : Option ℕ) → IsAfterNumber k done ⊎ (IsAfterNumber k done → ⊥)
+    after_or_not k None = inl tt
+    after_or_not k (Some o) = elim (cases_lt o k) [ inl lt ↦ inl lt | inr ge ↦ inr (λ lt. omega (arith, ge, lt)) ]
+
+  pub passed_more : (after last : Option ℕ) (object : ℕ) → Passed after last → IsNextObject x.shelf.objects last (Some object) → IsNextChunk (λ c. kept_of (look x.shelf.objects object c)) None None → Passed after (Some object)
+  passed_more after last object passed next empty = record {
+    none = λ o c is not. elim (cases_eq o object) [
+      | inl same ↦ ap (λ j. kept_pages x j c) same ∙ empty c tt
+      | inr ne ↦ between after last object passed next o c is (elim (cases_lt object o) [ inl lt ↦ absurd (not lt) | inr ge ↦ omega (arith, ge, ne) ])
+    ];
+    beyond = λ o lt. passed.beyond o (further last o lt next.1);
+  } where
+    further : (last : Option ℕ) (o : ℕ) → object < o → IsAfterNumber object last → IsAfterNumber o last
+    further None o lt is = tt
+    further (Some n) o lt is = omega (arith, lt, is)
+
+  pub beyond_found : (after last : Option ℕ) (object : ℕ) → Passed after last → IsNextObject x.shelf.objects last (Some object) → (k : KeptKey) → k.key.object ≡ object
+      → IsNextChunk (λ c. kept_of (look x.shelf.objects object c)) None (Some (k.key.chunk, k.at)) → IsNextBeyond (kept_pages x) after (Some k)
+  beyond_found after last object passed next k same found = (
+    ap (λ o. kept_pages x o k.key.chunk) same ∙ found.0,
+    subst (λ o. IsAfterNumber o after) (sym same) (passed.beyond object next.1),
+    λ o c is before. elim before [
+      | inl lt ↦ between after last object passed next o c is (omega (arith, lt, same))
+      | inr equal ↦ ap (λ j. kept_pages x j c) (equal.0 ∙ same) ∙ found.2 c tt equal.1
+    ],
+  )
+
+  pub beyond_none : (after last : Option ℕ) → Passed after last → IsNextObject x.shelf.objects last None → IsNextBeyond (kept_pages x) after None
+  beyond_none after last passed ends o c is = elim (after_or_not o last) [
+    | inl beyond ↦ absent_none o c (ends o beyond)
+    | inr not ↦ passed.none o c is not
+  ] where
+    after_or_not : (k : ℕ) (done : Option ℕ) → IsAfterNumber k done ⊎ (IsAfterNumber k done → ⊥)
+    after_or_not k None = inl tt
+    after_or_not k (Some o) = elim (cases_lt o k) [ inl lt ↦ inl lt | inr ge ↦ inr (λ lt. omega (arith, ge, lt)) ]
+
+-- ---- all keys
+
+-- with no key to begin after
+pub kept_of_all : (m : KeptMap) (r : Option KeptKey) → IsNextBeyond m None r → IsNextKept m None r
+kept_of_all m None none = λ o c is. none o c tt
+kept_of_all m (Some k) found = (found.0, tt, λ o c is before. found.2 o c tt before)
+
+-- the next chunk of the same object
+pub kept_in_object : (m : KeptMap) (o c d : ℕ) (p : KeptPage) → IsNextChunk (m o) (Some c) (Some (d, p)) → IsNextKept m (Some (record { object = o; chunk = c })) (Some (record { key = record { object = o; chunk = d }; at = p }))
+kept_in_object m o c d p next = (
+  next.0,
+  inr (refl, next.1),
+  λ k l is before. elim is [
+    | inl lt ↦ elim before [ inl less ↦ absurd (omega (arith, lt, less)) | inr same ↦ absurd (omega (arith, lt, same.0)) ]
+    | inr at ↦ elim before [
+      | inl less ↦ absurd (omega (arith, at.0, less))
+      | inr same ↦ ap (λ j. m j l) same.0 ∙ next.2 l at.1 same.1
+    ]
+  ],
+)
+
+-- the next object, where no chunk is left
+pub kept_beyond : (m : KeptMap) (o c : ℕ) (r : Option KeptKey) → IsNextChunk (m o) (Some c) None → IsNextBeyond m (Some o) r → IsNextKept m (Some (record { object = o; chunk = c })) r
+kept_beyond m o c None empty none = λ k l is. elim is [
+  | inl lt ↦ none k l lt
+  | inr at ↦ ap (λ j. m j l) (sym at.0) ∙ empty l at.1
+]
+kept_beyond m o c (Some f) empty found = (
+  found.0,
+  inl found.1,
+  λ k l is before. elim is [
+    | inl lt ↦ found.2 k l lt before
+    | inr at ↦ ap (λ j. m j l) (sym at.0) ∙ empty l at.1
+  ],
+)

@@ -1,0 +1,264 @@
+-- What is told of the keys of an object, and what is counted, where only some of its entries stay.
+use Rattle.std.proofs.Common.{◌≡◌, ◌≢◌, ℕ, zero, suc, ◌+◌, ◌<◌, ◌≤◌, List, [], ◌∷◌, ◌++◌, length, get_or, take, set, Bool, true, false, Option, Some, None, if◌then◌else◌, refl, sym, ap, subst, ◌∙◌, arith, inl, inr}
+use mathlib.Core.Bool.{false≢true}
+use Rattle.std.specs.List.{cons_option}
+use Rattle.std.proofs.lemmas.Bool.{cases_eq}
+use Rattle.std.proofs.lemmas.Bool.Decides.{nat_tests}
+use Rattle.std.proofs.lemmas.List.{take_more, take_more_set, length-set, get_or-set_other, append-nil, take_all}
+use Rattle.std.proofs.lemmas.List.Elements.{filter_map-append}
+use Rattle.std.proofs.lemmas.List.Sums.{sum_by-cons, sum_by_more, sum_by_more_le, sum_by-append}
+use Rattle.block_state.specs.Table.{Table}
+use Rattle.chunk_index.specs.declared.entry.Entry.{Entry}
+use Rattle.chunk_index.specs.declared.entry.State.TheVariants as states
+use Rattle.chunk_index.specs.declared.form.Present.TheVariants as presents
+use Rattle.chunk_index.specs.Lists.{find_by, Rises}
+use Rattle.chunk_index.specs.Entries.{chunk, is_same, same_of, kept_of, present_of, changed, weight, weigh, one_at, counted_at}
+use Rattle.chunk_index.specs.Counts.{Recounts, HasCounted}
+use Rattle.chunk_index.specs.Retained.{forgotten, retained, retained_told, retained_of}
+use Rattle.chunk_index.proofs.Finding.{find_absent}
+
+-- ---- one entry
+
+retained_chunk : (stays : Bool) (e x : Entry) → retained stays e ≡ Some x → x.chunk ≡ e.chunk
+retained_chunk true e x is = let same : e ≡ x = cc in ap chunk (sym same)
+retained_chunk false e x is = go (is_same e) is where
+  go : (b : Bool) → forgotten b e ≡ Some x → x.chunk ≡ e.chunk
+  go true none = absurd cc
+  go false left = let same : record { chunk = e.chunk; kept = None; state = states.Dropped } ≡ x = cc in ap chunk (sym same)
+
+-- as many entries are changed ones
+retained_changed : (stays : Bool) (e : Entry) → weight changed (retained stays e) ≡ changed e
+retained_changed true e = refl
+retained_changed false e = go (is_same e) refl where
+  go : (b : Bool) → is_same e ≡ b → weight changed (forgotten b e) ≡ changed e
+  go true is = sym (ap (λ (b : Bool). if b then 0 else 1) is)
+  go false is = sym (ap (λ (b : Bool). if b then 0 else 1) is)
+
+-- a key whose entry is a changed one had one that was
+pub retained_same_of : (stays : Bool) (v : Option Entry) → same_of (retained_told stays v) ≡ false → same_of v ≡ false
+retained_same_of stays None is = is
+retained_same_of true (Some e) is = is
+retained_same_of false (Some e) is = go (is_same e) refl is where
+  go : (b : Bool) → is_same e ≡ b → same_of (forgotten b e) ≡ false → is_same e ≡ false
+  go true same not = absurd (false≢true (sym not))
+  go false same not = same
+
+-- a key that stays has its entry
+pub retained_stays : (stays : Bool) (v : Option Entry) → stays ≡ true → retained_told stays v ≡ v
+retained_stays stays None is = refl
+retained_stays stays (Some e) is = ap (λ b. retained b e) is
+
+-- nothing is kept of another, and nothing is present
+pub retained_kept : (stays : Bool) (v : Option Entry) → stays ≡ false → kept_of (retained_told stays v) ≡ None
+retained_kept stays None is = refl
+retained_kept stays (Some e) is = ap (λ b. kept_of (retained b e)) is ∙ go (is_same e) where
+  go : (b : Bool) → kept_of (forgotten b e) ≡ None
+  go true = refl
+  go false = refl
+
+pub retained_present : (stays : Bool) (v : Option Entry) → stays ≡ false → present_of (retained_told stays v) ≡ presents.Absent
+retained_present stays None is = refl
+retained_present stays (Some e) is = ap (λ b. present_of (retained b e)) is ∙ go (is_same e) where
+  go : (b : Bool) → present_of (forgotten b e) ≡ presents.Absent
+  go true = refl
+  go false = refl
+
+-- ---- the entries of an object
+
+-- each has a chunk above a number
+abbrev pub Above : ℕ → List Entry → Type 0
+Above n es = (j : ℕ) (d : Entry) → j < length es → n < chunk (get_or es j d)
+
+rises_tail : (e : Entry) (es : List Entry) → Rises chunk (e ∷ es) → Rises chunk es
+rises_tail e es rises i j d lt within = rises (suc i) (suc j) d (omega (arith, lt)) (omega (arith, within))
+
+rises_above : (e : Entry) (es : List Entry) → Rises chunk (e ∷ es) → Above (chunk e) es
+rises_above e es rises j d within = rises 0 (suc j) d (omega arith) (omega (arith, within))
+
+above_cons : (n : ℕ) (e : Entry) (es : List Entry) → n < chunk e → Above n es → Above n (e ∷ es)
+above_cons n e es lt above zero d within = lt
+above_cons n e es lt above (suc j) d within = above j d (omega (arith, within))
+
+rises_cons : (e : Entry) (es : List Entry) → Above (chunk e) es → Rises chunk es → Rises chunk (e ∷ es)
+rises_cons e es above rises zero zero d lt within = absurd (omega (arith, lt))
+rises_cons e es above rises zero (suc j) d lt within = above j d (omega (arith, within))
+rises_cons e es above rises (suc i) zero d lt within = absurd (omega (arith, lt))
+rises_cons e es above rises (suc i) (suc j) d lt within = rises i j d (omega (arith, lt)) (omega (arith, within))
+
+above_tail : (n : ℕ) (e : Entry) (es : List Entry) → Above n (e ∷ es) → Above n es
+above_tail n e es above j d within = above (suc j) d (omega (arith, within))
+
+module _ (keeps : ℕ → Bool) where
+  above_retained : (n : ℕ) (es : List Entry) → Above n es → Above n (retained_of keeps es)
+  above_retained n [] above = above
+  above_retained n (e ∷ es) above = go (above_retained n es (above_tail n e es above)) (retained (keeps (chunk e)) e) refl where
+    go : Above n (retained_of keeps es) → (v : Option Entry) → retained (keeps (chunk e)) e ≡ v → Above n (cons_option v (retained_of keeps es))
+    go rest None is = rest
+    go rest (Some x) is =
+        let lt : n < chunk e = above 0 e (omega arith) in
+        let same = retained_chunk (keeps (chunk e)) e x is in
+        above_cons n x (retained_of keeps es) (omega (arith, lt, same)) rest
+
+  -- the chunks of those that are left still rise
+  pub rises_retained : (es : List Entry) → Rises chunk es → Rises chunk (retained_of keeps es)
+  rises_retained [] rises = rises
+  rises_retained (e ∷ es) rises = go (rises_retained es (rises_tail e es rises)) (retained (keeps (chunk e)) e) refl where
+    go : Rises chunk (retained_of keeps es) → (v : Option Entry) → retained (keeps (chunk e)) e ≡ v → Rises chunk (cons_option v (retained_of keeps es))
+    go rest None is = rest
+    go rest (Some x) is =
+        let same = retained_chunk (keeps (chunk e)) e x is in
+        rises_cons x (retained_of keeps es) (above_retained (chunk x) es (subst (λ n. Above n es) (sym same) (rises_above e es rises))) rest
+
+  -- and each is found where it was
+  pub find_retained : (es : List Entry) → Rises chunk es → (c : ℕ) → find_by chunk (retained_of keeps es) c ≡ retained_told (keeps c) (find_by chunk es c)
+  find_retained [] rises c = refl
+  find_retained (e ∷ es) rises c = go (find_retained es (rises_tail e es rises) c) where
+    v : Option Entry
+    v = retained (keeps (chunk e)) e
+
+    absent : chunk e ≡ c → find_by chunk es c ≡ None
+    absent is = find_absent chunk es c (λ j d lt same. let above : chunk e < chunk (get_or es j d) = rises_above e es rises j d lt in omega (arith, above, same, is))
+
+    first : find_by chunk (retained_of keeps es) c ≡ retained_told (keeps c) (find_by chunk es c) → (w : Option Entry) → v ≡ w → chunk e ≡ c → find_by chunk (cons_option w (retained_of keeps es)) c ≡ w
+    first rest None is at = rest ∙ ap (retained_told (keeps c)) (absent at)
+    first rest (Some x) is at = let same : chunk x ≡ c = retained_chunk (keeps (chunk e)) e x is ∙ at in grind (arith, nat_tests, same)
+
+    other : (w : Option Entry) → v ≡ w → chunk e ≢ c → find_by chunk (cons_option w (retained_of keeps es)) c ≡ find_by chunk (retained_of keeps es) c
+    other None is ne = refl
+    other (Some x) is ne = let apart : chunk x ≢ c = λ same. ne (sym (retained_chunk (keeps (chunk e)) e x is) ∙ same) in grind (arith, nat_tests, apart)
+
+    go : find_by chunk (retained_of keeps es) c ≡ retained_told (keeps c) (find_by chunk es c) → find_by chunk (cons_option v (retained_of keeps es)) c ≡ retained_told (keeps c) (find_by chunk (e ∷ es) c)
+    go rest = elim (cases_eq (chunk e) c) [
+      | inl at ↦
+          let here : find_by chunk (e ∷ es) c ≡ Some e = grind (arith, nat_tests, at) in
+          let told : retained_told (keeps c) (find_by chunk (e ∷ es) c) ≡ v = ap (retained_told (keeps c)) here ∙ ap (λ l. retained (keeps l) e) (sym at) in
+          first rest v refl at ∙ sym told
+      | inr ne ↦
+          let there : find_by chunk (e ∷ es) c ≡ find_by chunk es c = grind (arith, nat_tests, ne) in
+          other v refl ne ∙ rest ∙ sym (ap (retained_told (keeps c)) there)
+    ]
+
+  -- as many are changed ones
+  pub changed_retained : (es : List Entry) → weigh changed (retained_of keeps es) ≡ weigh changed es
+  changed_retained [] = refl
+  changed_retained (e ∷ es) =
+      let rest = changed_retained es in
+      let one = retained_changed (keeps (chunk e)) e in
+      let all : weigh changed (e ∷ es) ≡ changed e + weigh changed es = sum_by-cons changed e es in
+      let left = weigh_option changed (retained (keeps (chunk e)) e) (retained_of keeps es) in
+      omega (arith, rest, one, all, left) where
+        weigh_option : (f : Entry → ℕ) (v : Option Entry) (es : List Entry) → weigh f (cons_option v es) ≡ weight f v + weigh f es
+        weigh_option f None es = omega arith
+        weigh_option f (Some x) es = sum_by-cons f x es
+
+-- ---- the entries that are gathered in front
+
+-- Of the first n entries those that are left stand in front, the others from n on are as they were, and so many pages are
+-- counted.
+pub record Gathers (keeps : ℕ → Bool) (first : List Entry) (n : ℕ) (now : List Entry) (kept : ℕ) (t u : Table) : Type 0 where
+  pub long : length now ≡ length first
+  pub front : kept ≤ n
+  pub left : take kept now ≡ retained_of keeps (take n first)
+  pub rest : (k : ℕ) (d : Entry) → n ≤ k → get_or now k d ≡ get_or first k d
+  pub counts : Recounts (λ b. weigh (counted_at b) (take n first)) (λ b. weigh (counted_at b) (take kept now)) t u
+
+pub gathers_none : (keeps : ℕ → Bool) (first : List Entry) (t : Table) → Gathers keeps first 0 first 0 t t
+gathers_none keeps first t = record {
+  long = refl;
+  front = omega arith;
+  left = refl;
+  rest = λ k d le. refl;
+  counts = record { kept = λ b. refl; outside = λ b le. refl; bad = λ b. refl; seq = λ b. refl; next = λ b. refl; geometry = refl; open_block = refl; next_seq = refl; next_group = refl };
+}
+
+module _ (keeps : ℕ → Bool) (first : List Entry) (n : ℕ) (now : List Entry) (kept : ℕ) (t u : Table) (was : Gathers keeps first n now kept t u) (lt : n < length first) (e : Entry) (here : e ≡ get_or now n e) where
+  at_first : e ≡ get_or first n e
+  at_first = here ∙ was.rest n e (omega arith)
+
+  -- the page of the next entry is counted
+  pub next_counted : HasCounted t (λ b. weigh (counted_at b) first) → HasCounted u (one_at e.kept)
+  next_counted counted = record {
+    enough = λ b.
+        let all : weigh (counted_at b) first ≤ (t.entry b).kept = counted.enough b in
+        let most = sum_by_more_le (counted_at b) first n e lt in
+        let one : counted_at b (get_or first n e) ≡ one_at e.kept b = ap (counted_at b) (sym at_first) in
+        let is : (u.entry b).kept + weigh (counted_at b) (take n first) ≡ (t.entry b).kept + weigh (counted_at b) (take kept now) = was.counts.kept b in
+        omega (arith, all, most, one, is);
+    within = λ b le.
+        let none : weigh (counted_at b) first ≡ 0 = counted.within b (subst (λ (x : _). x.blocks ≤ b) was.counts.geometry le) in
+        let most = sum_by_more_le (counted_at b) first n e lt in
+        let one : counted_at b (get_or first n e) ≡ one_at e.kept b = ap (counted_at b) (sym at_first) in
+        omega (arith, none, most, one);
+  }
+
+  more : (v : Option Entry) → v ≡ retained (keeps (chunk e)) e → retained_of keeps (take (n + 1) first) ≡ take kept now ++ cons_option v []
+  more v is =
+      ap (retained_of keeps) (take_more first n e lt ∙ ap (λ x. take n first ++ x ∷ []) (sym at_first))
+      ∙ filter_map-append (λ (x : Entry). retained (keeps x.chunk) x) (take n first) (e ∷ [])
+      ∙ ap (λ xs. xs ++ cons_option (retained (keeps (chunk e)) e) []) (sym was.left)
+      ∙ ap (λ w. take kept now ++ cons_option w []) (sym is)
+
+  counts_more : (v : Option Entry) (w : Table) (front : List Entry) → front ≡ take kept now ++ cons_option v [] → Recounts (one_at e.kept) (one_at (kept_of v)) u w
+      → Recounts (λ b. weigh (counted_at b) (take (n + 1) first)) (λ b. weigh (counted_at b) front) t w
+  counts_more v w front is counts = record {
+    kept = λ b.
+        let all : (u.entry b).kept + weigh (counted_at b) (take n first) ≡ (t.entry b).kept + weigh (counted_at b) (take kept now) = was.counts.kept b in
+        let one : (w.entry b).kept + one_at e.kept b ≡ (u.entry b).kept + one_at (kept_of v) b = counts.kept b in
+        let sum : weigh (counted_at b) (take (n + 1) first) ≡ weigh (counted_at b) (take n first) + counted_at b (get_or first n e) = sum_by_more (counted_at b) first n e lt in
+        let same : counted_at b (get_or first n e) ≡ one_at e.kept b = ap (counted_at b) (sym at_first) in
+        let left : weigh (counted_at b) front ≡ weigh (counted_at b) (take kept now) + one_at (kept_of v) b = ap (weigh (counted_at b)) is ∙ weigh_more b (take kept now) v in
+        omega (arith, all, one, sum, same, left);
+    outside = λ b le. counts.outside b (subst (λ (x : _). x.blocks ≤ b) (sym was.counts.geometry) le) ∙ was.counts.outside b le;
+    bad = λ b. counts.bad b ∙ was.counts.bad b;
+    seq = λ b. counts.seq b ∙ was.counts.seq b;
+    next = λ b. counts.next b ∙ was.counts.next b;
+    geometry = counts.geometry ∙ was.counts.geometry;
+    open_block = counts.open_block ∙ was.counts.open_block;
+    next_seq = counts.next_seq ∙ was.counts.next_seq;
+    next_group = counts.next_group ∙ was.counts.next_group;
+  } where
+    weigh_more : (b : ℕ) (xs : List Entry) (v : Option Entry) → weigh (counted_at b) (xs ++ cons_option v []) ≡ weigh (counted_at b) xs + one_at (kept_of v) b
+    weigh_more b xs None = ap (weigh (counted_at b)) (append-nil xs) ∙ omega arith
+    weigh_more b xs (Some x) =
+        let two = sum_by-append (counted_at b) xs (x ∷ []) in
+        let one : weigh (counted_at b) (x ∷ []) ≡ counted_at b x + 0 = sum_by-cons (counted_at b) x [] in
+        omega (arith, two, one)
+
+  -- the next entry is left
+  pub gathers_left : (x : Entry) (w : Table) → Some x ≡ retained (keeps (chunk e)) e → Recounts (one_at e.kept) (one_at (kept_of (Some x))) u w → Gathers keeps first (n + 1) (set now kept x) (kept + 1) t w
+  gathers_left x w is counts =
+      let within : kept < length now = omega (arith, was.front, was.long, lt) in
+      let front : take (kept + 1) (set now kept x) ≡ take kept now ++ x ∷ [] = take_more_set now kept x within in
+      record {
+        long = length-set now kept x ∙ was.long;
+        front = omega (arith, was.front);
+        left = front ∙ sym (more (Some x) is);
+        rest = λ k d le. get_or-set_other now kept k x d (λ same. omega (arith, was.front, le, same)) ∙ was.rest k d (omega (arith, le));
+        counts = counts_more (Some x) w (take (kept + 1) (set now kept x)) front counts;
+      }
+
+  -- or it went
+  pub gathers_gone : (w : Table) → None ≡ retained (keeps (chunk e)) e → Recounts (one_at e.kept) (one_at None) u w → Gathers keeps first (n + 1) now kept t w
+  gathers_gone w is counts = record {
+    long = was.long;
+    front = omega (arith, was.front);
+    left = sym (more None is ∙ append-nil (take kept now));
+    rest = λ k d le. was.rest k d (omega (arith, le));
+    counts = counts_more None w (take kept now) (sym (append-nil (take kept now))) counts;
+  }
+
+-- at the end they are all that are left
+pub gathers_items : (keeps : ℕ → Bool) (first : List Entry) (n : ℕ) (now : List Entry) (kept : ℕ) (t u : Table) → Gathers keeps first n now kept t u → length first ≤ n → take kept now ≡ retained_of keeps first
+gathers_items keeps first n now kept t u was le = was.left ∙ ap (retained_of keeps) (take_all n first le)
+
+pub gathers_counts : (keeps : ℕ → Bool) (first : List Entry) (n : ℕ) (now : List Entry) (kept : ℕ) (t u : Table) → Gathers keeps first n now kept t u → length first ≤ n
+    → (new : List Entry) → new ≡ take kept now → Recounts (λ b. weigh (counted_at b) first) (λ b. weigh (counted_at b) new) t u
+gathers_counts keeps first n now kept t u was le new is = subst (λ xs. Recounts (λ b. weigh (counted_at b) first) (λ b. weigh (counted_at b) xs) t u) (sym is) (subst (λ xs. Recounts (λ b. weigh (counted_at b) xs) (λ b. weigh (counted_at b) (take kept now)) t u) (take_all n first le) was.counts)
+
+-- no more are left than there were
+pub retained_fewer : (keeps : ℕ → Bool) (es : List Entry) → length (retained_of keeps es) ≤ length es
+retained_fewer keeps [] = omega arith
+retained_fewer keeps (e ∷ es) = go (retained (keeps (chunk e)) e) (retained_fewer keeps es) where
+  go : (v : Option Entry) → length (retained_of keeps es) ≤ length es → length (cons_option v (retained_of keeps es)) ≤ length (e ∷ es)
+  go None rest = omega (arith, rest)
+  go (Some x) rest = omega (arith, rest)

@@ -1,0 +1,20 @@
+use Rattle.std.proofs.Common.{subst, sym, arith, ap, length}
+use Rattle.chunk_index.specs.Lists.{Rises}
+use Rattle.chunk_index.specs.Entries.{chunk}
+use Rattle.chunk_index.proofs.Retaining.{rises_retained, retained_fewer}
+use Rattle.chunk_index.proofs.object.ObjectEntries.retain.Goals as goal
+
+pub invariant_of-self : goal.invariant_of-self
+invariant_of-self g c = record { rises = subst (Rises chunk) (sym c.gather.ensures.items) (rises_retained (g.F.KeyFilter.keeps c.args.filter.now c.args.object) c.args.self.now.entries.items c.args.self.now.rises) }
+
+pub overflow_sub-result : goal.overflow_sub-result
+overflow_sub-result g c =
+    let same = ap length c.gather.ensures.items in
+    let fewer = retained_fewer (g.F.KeyFilter.keeps c.args.filter.now c.args.object) c.args.self.now.entries.items in
+    omega (arith, same, fewer, c.len-before.ensures, c.len.ensures)
+
+pub returns-clause-gone : goal.returns-clause-gone
+returns-clause-gone g c =
+    let same = ap length c.gather.ensures.items in
+    let fewer = retained_fewer (g.F.KeyFilter.keeps c.args.filter.now c.args.object) c.args.self.now.entries.items in
+    omega (arith, same, fewer, c.len-before.ensures, c.len.ensures)

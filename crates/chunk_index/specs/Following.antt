@@ -1,0 +1,31 @@
+-- The kept key that comes next.
+use Rattle.std.specs.Prelude.{◌≡◌, ◌<◌, ◌≤◌, ℕ, List, length, get_or, Option, Some, None}
+use Rattle.chunk_index.specs.declared.form.KeptPage.{KeptPage}
+use Rattle.chunk_index.specs.declared.form.KeptKey.{KeptKey}
+use Rattle.chunk_index.specs.declared.entry.Entry.{Entry}
+use Rattle.chunk_index.specs.Lists.{find_by}
+use Rattle.chunk_index.specs.Entries.{chunk, kept_of}
+use Rattle.chunk_index.specs.Shelves.{IsAfterNumber}
+use Rattle.chunk_index.specs.Kept.{ComesBefore}
+use Rattle.chunk_index.specs.Maps.{KeptMap}
+
+-- the elements from place i on are those whose numbers lie after another
+pub record IsStartFor {X : Type 0} (f : X → ℕ) (xs : List X) (after : Option ℕ) (i : ℕ) : Type 0 where
+  pub within : i ≤ length xs
+  pub lesser : (j : ℕ) (d : X) → j < i → IsAfterNumber (f (get_or xs j d)) after → ⊥
+  pub greater : (j : ℕ) (d : X) → i ≤ j → j < length xs → IsAfterNumber (f (get_or xs j d)) after
+
+-- the first chunk after another with its page, in a map of an object's kept chunks; with none, none is kept after it
+abbrev pub IsNextChunk : (ℕ → Option KeptPage) → Option ℕ → Option (ℕ × KeptPage) → Type 0
+IsNextChunk m after None = (c : ℕ) → IsAfterNumber c after → m c ≡ None
+IsNextChunk m after (Some x) = (m x.0 ≡ Some x.1) × IsAfterNumber x.0 after × ((c : ℕ) → IsAfterNumber c after → c < x.0 → m c ≡ None)
+
+-- the kept page of a chunk of an object
+abbrev pub kept_chunk : List Entry → ℕ → Option KeptPage
+kept_chunk es c = kept_of (find_by chunk es c)
+
+-- the first kept key of the objects after another; with none, no key of these is kept
+abbrev pub IsNextBeyond : KeptMap → Option ℕ → Option KeptKey → Type 0
+IsNextBeyond m object None = (o c : ℕ) → IsAfterNumber o object → m o c ≡ None
+IsNextBeyond m object (Some k) = (m k.key.object k.key.chunk ≡ Some k.at) × IsAfterNumber k.key.object object
+    × ((o c : ℕ) → IsAfterNumber o object → ComesBefore o c k.key.object k.key.chunk → m o c ≡ None)

@@ -1,0 +1,134 @@
+// The keys that stay, and the end of all others.
+ghost use Rattle.std.specs.Prelude.{◌≡◌, ◌<◌, ◌≤◌, ◌+◌, ℕ, length};
+ghost use Rattle.block_state.specs.TableOf.{table};
+ghost use Rattle.chunk_index.specs.Entries.{kept_of, one_at, counted_at, changed, weigh};
+ghost use Rattle.chunk_index.specs.Shelves.{look, total, IsNextObject};
+ghost use Rattle.chunk_index.specs.Counts.{Recounts, HasCounted, Tallies};
+ghost use Rattle.chunk_index.specs.Retained.{retained, retained_told, retained_of, RetainsObject};
+ghost use Rattle.chunk_index.specs.Maps.{kept_in, CountsAgree, Retains};
+
+use crate::change;
+use crate::entry::{Entry, State};
+use crate::filter::KeyFilter;
+use crate::index::Index;
+use crate::object::ObjectEntries;
+use crate::shelf::Shelf;
+use block_state::Blocks;
+use flash_tree::Key;
+
+impl Index {
+    /// Forgets all keys but those that a filter keeps: they are neither kept nor present any more. It takes no memory,
+    /// asks of each key once, and goes over the index once.
+    pub fn retain<F: KeyFilter>(&mut self, filter: &F, blocks: &mut Blocks)
+        requires agree { CountsAgree (table blocks.old) self.old }
+        ensures retains { Retains (F.keeps filter.now) self.old self.new }
+        ensures agree { CountsAgree (table blocks.new) self.new }
+        ensures counts { Recounts (kept_in self.old) (kept_in self.new) (table blocks.old) (table blocks.new) }
+    {
+        self.shelf.retain(filter, blocks);
+    }
+}
+
+impl Shelf {
+    /// Keeps of each object the entries that a filter keeps. A key that is on a list of changed keys may have an entry
+    /// still, which tells of nothing.
+    fn retain<F: KeyFilter>(&mut self, filter: &F, blocks: &mut Blocks)
+        requires tallies { Tallies (table blocks.old) self.old.objects }
+        ensures size { self.new.size ≤ self.old.size }
+        ensures looks { (o c : ℕ) → look self.new.objects o c ≡ retained_told (F.keeps filter.now o c) (look self.old.objects o c) }
+        ensures changed { total changed self.new.objects ≡ total changed self.old.objects }
+        ensures tallies { Tallies (table blocks.new) self.new.objects }
+        ensures counts { Recounts (λ b. total (counted_at b) self.old.objects) (λ b. total (counted_at b) self.new.objects) (table blocks.old) (table blocks.new) }
+    {
+        let mut done = None;
+        while let Some(object) = self.next_object(done) {
+            self.retain_object(object, filter, blocks);
+            done = Some(object);
+        }
+    }
+
+    /// Keeps of one object the entries that a filter keeps, and the object where one is left.
+    fn retain_object<F: KeyFilter>(&mut self, object: u64, filter: &F, blocks: &mut Blocks)
+        requires tallies { Tallies (table blocks.old) self.old.objects }
+        ensures size { self.new.size ≤ self.old.size }
+        ensures retains { RetainsObject object (F.keeps filter.now object) self.old.objects self.new.objects }
+        ensures tallies { Tallies (table blocks.new) self.new.objects }
+        ensures counts { Recounts (λ b. total (counted_at b) self.old.objects) (λ b. total (counted_at b) self.new.objects) (table blocks.old) (table blocks.new) }
+    {
+        self.retain_entries(object, filter, blocks);
+        self.drop_empty(object);
+    }
+
+    /// Keeps of one object the entries that a filter keeps.
+    fn retain_entries<F: KeyFilter>(&mut self, object: u64, filter: &F, blocks: &mut Blocks)
+        requires tallies { Tallies (table blocks.old) self.old.objects }
+        ensures size { self.new.size ≤ self.old.size }
+        ensures retains { RetainsObject object (F.keeps filter.now object) self.old.objects self.new.objects }
+        ensures tallies { Tallies (table blocks.new) self.new.objects }
+        ensures counts { Recounts (λ b. total (counted_at b) self.old.objects) (λ b. total (counted_at b) self.new.objects) (table blocks.old) (table blocks.new) }
+    {
+        match self.objects.get_mut(&object) {
+            Some(entries) => {
+                let gone = entries.retain(object, filter, blocks);
+                self.size -= gone;
+            }
+            None => {}
+        }
+    }
+}
+
+impl ObjectEntries {
+    /// Keeps the entries of this object that a filter keeps, and tells how many went.
+    fn retain<F: KeyFilter>(&mut self, object: u64, filter: &F, blocks: &mut Blocks) -> usize
+        requires counted { HasCounted (table blocks.old) (λ b. weigh (counted_at b) self.old.entries.items) }
+        ensures items { self.new.entries.items ≡ retained_of (F.keeps filter.now object) self.old.entries.items }
+        ensures gone { length self.new.entries.items + result ≡ length self.old.entries.items }
+        ensures counts { Recounts (λ b. weigh (counted_at b) self.old.entries.items) (λ b. weigh (counted_at b) self.new.entries.items) (table blocks.old) (table blocks.new) }
+    {
+        let before = self.entries.len();
+        gather(&mut self.entries, object, filter, blocks);
+        before - self.entries.len()
+    }
+}
+
+/// Keeps the entries of an object that a filter keeps, in their order, and counts the pages of all others no longer.
+fn gather<F: KeyFilter>(entries: &mut Vec<Entry>, object: u64, filter: &F, blocks: &mut Blocks)
+    requires counted { HasCounted (table blocks.old) (λ b. weigh (counted_at b) entries.old.items) }
+    ensures items { entries.new.items ≡ retained_of (F.keeps filter.now object) entries.old.items }
+    ensures counts { Recounts (λ b. weigh (counted_at b) entries.old.items) (λ b. weigh (counted_at b) entries.new.items) (table blocks.old) (table blocks.new) }
+{
+    let mut kept = 0;
+    for at in 0..entries.len() {
+        let entry = entries[at];
+        let chunk = entry.chunk;
+        let stays = filter.keeps(Key { object, chunk });
+        if let Some(left) = entry.retained(stays, blocks) {
+            entries[kept] = left;
+            kept += 1;
+        }
+    }
+    entries.truncate(kept);
+}
+
+impl Entry {
+    /// What is left of the entry, whose key stays or is forgotten. One on the list of changed keys stays until the changes
+    /// are settled, and tells of nothing.
+    fn retained(self, stays: bool, blocks: &mut Blocks) -> Option<Entry>
+        requires counted { HasCounted (table blocks.old) (one_at self.kept) }
+        ensures result { result ≡ retained stays self }
+        ensures counts { Recounts (one_at self.kept) (one_at (kept_of result)) (table blocks.old) (table blocks.new) }
+    {
+        if stays {
+            return Some(self);
+        }
+        change::release(self.kept, blocks);
+        if self.is_same() {
+            return None;
+        }
+        Some(Entry {
+            chunk: self.chunk,
+            kept: None,
+            state: State::Dropped,
+        })
+    }
+}

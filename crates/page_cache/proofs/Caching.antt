@@ -1,0 +1,179 @@
+-- What becomes of the keys of a cache.
+use Rattle.std.proofs.Common.{◌≡◌, ◌≤◌, ◌<◌, ℕ, zero, suc, ◌+◌, ◌-◌, ◌==◌, Bool, true, false, ◌&&◌, ◌⊎◌, List, [], ◌∷◌, length, Contains, Option, Some, None, IsSome, refl, sym, ◌∙◌, ap, subst, inl, inr, arith, is_some, option_map, slice_get, IfSome, Bor, Result, Ok, Err, OnOk, OnErr, option_and_then}
+use Rattle.std.proofs.lemmas.Bool.{cases_Bool, true≢false, cond-true, and_parts, eqb-true, eq-eqb}
+use Rattle.std.proofs.lemmas.Cmp.{nat_eq_equiv, and_equiv, on_equiv}
+use Rattle.std.specs.Cmp.{IsEquivalence}
+use Rattle.std.specs.List.{IsDistinct}
+use Rattle.std.specs.Map.{lookup, remove_entry, keys_of}
+use Rattle.std.proofs.lemmas.Map.{lookup-remove_entry}
+use Rattle.lru.specs.LruCache.{LruCache, lru_cache, promoted, put_entries, displaced}
+use Rattle.lru.proofs.Splits.{Contains-head, Contains-tail}
+use Rattle.lru.proofs.CallerLemmas.{Contains-put_entries, Contains-promoted, Contains-remove_entry, Contains-lookup, lookup-put_entries}
+use Rattle.std.specs.Option.{option_copied, option_map_or}
+use Rattle.page_cache.specs.Slots.{held_in, page_in, is_key, frame_of, AreSized}
+use Rattle.page_cache.specs.Cached.{held, held_count, capacity_of}
+use Rattle.page_cache.specs.Changes.{HasTheSame, IsOther, Changes, Puts}
+use Rattle.page_cache.specs.declared.slot.Slot.{Slot}
+use Rattle.page_cache.specs.declared.slot.Slot.TheVariants as slots
+use Rattle.page_cache.specs.declared.cache.PageCache.{PageCache}
+use Rattle.page_cache.proofs.Lookups.{length-removed, length-promoted, lookup-removed, lookup-promoted, lookup-promoted_same, put_others, put_room}
+
+-- whether two keys are one
+abbrev pub key_eq : ℕ × ℕ → ℕ × ℕ → Bool
+key_eq a b = (a.0 == b.0) && (a.1 == b.1)
+
+pub key_same : (o c : ℕ) (k : ℕ × ℕ) → is_key o c k ≡ true → (o ≡ k.0) × (c ≡ k.1)
+key_same o c k e = let p = and_parts (o == k.0) (c == k.1) e in (eqb-true o k.0 p.0, eqb-true c k.1 p.1)
+
+pub same_key : (o c : ℕ) (k : ℕ × ℕ) → o ≡ k.0 → c ≡ k.1 → is_key o c k ≡ true
+same_key o c k a b = rw (eq-eqb o k.0 a, eq-eqb c k.1 b) refl
+
+-- a key that passes both tests is of both
+keys_apart : (o c p q : ℕ) → IsOther o c p q → (k : ℕ × ℕ) → is_key o c k ≡ true → is_key p q k ≡ false
+keys_apart o c p q other k e = elim (cases_Bool (is_key p q k)) [
+  | inl both ↦ let a = key_same o c k e in let b = key_same p q k both in absurd (other (b.0 ∙ sym a.0) (b.1 ∙ sym a.1))
+  | inr no' ↦ no'
+]
+
+got_contains : {X : Type 0} (xs : List X) (i : ℕ) (x : X) → slice_get xs i ≡ Some x → Contains xs x
+got_contains [] i x e = absurd cc
+got_contains (y ∷ xs) zero x e = let same : y ≡ x = cc in subst (Contains (y ∷ xs)) same (Contains-head y xs)
+got_contains (y ∷ xs) (suc i) x e = Contains-tail y xs x (got_contains xs i x e)
+
+pub key_laws : IsEquivalence key_eq
+key_laws = and_equiv (on_equiv (λ (t : ℕ × ℕ). t.0) nat_eq_equiv) (on_equiv (λ (t : ℕ × ℕ). t.1) nat_eq_equiv)
+
+some_held : (f : Option Slot) → IsSome (option_map held_in f) → IsSome f
+some_held None is = is
+some_held (Some slot) is = refl
+
+pub held_some : (f : Option Slot) → IsSome f → IsSome (option_map held_in f)
+held_some None is = is
+held_some (Some slot) is = refl
+
+module _ (old new : PageCache) (o c : ℕ) (size : new.page_bytes ≡ old.page_bytes) where
+  pub puts : (slot : Slot) → new.slots ≡ lru_cache (put_entries key_eq old.slots (o, c) slot) old.slots.cap → Puts o c (held_in slot) old new
+  puts slot is = record {
+    sizes = record { page_bytes = size; capacity = ap (λ (s : LruCache (ℕ × ℕ) Slot). s.cap) is };
+    here = ap (λ (s : LruCache (ℕ × ℕ) Slot). option_map held_in (lookup (is_key o c) s.entries)) is ∙ ap (option_map held_in) (lookup-put_entries key_eq old.slots (o, c) slot key_laws);
+    others = λ p q other. elim (put_others key_eq key_laws old.slots (o, c) slot (is_key p q) (keys_apart o c p q other)) [
+      | inl same ↦ inl (ap (λ (s : LruCache (ℕ × ℕ) Slot). option_map held_in (lookup (is_key p q) s.entries)) is ∙ ap (option_map held_in) same)
+      | inr none ↦ inr (ap (λ (s : LruCache (ℕ × ℕ) Slot). option_map held_in (lookup (is_key p q) s.entries)) is ∙ ap (option_map held_in) none)
+    ];
+    room = λ room p q other.
+        ap (λ (s : LruCache (ℕ × ℕ) Slot). option_map held_in (lookup (is_key p q) s.entries)) is
+        ∙ ap (option_map held_in) (put_room key_eq key_laws old.slots (o, c) slot (is_key p q) (keys_apart o c p q other) (entry_room room));
+  }
+    where
+      entry_room : IsSome (held old o c) ⊎ (held_count old < capacity_of old) → IsSome (lookup (key_eq (o, c)) old.slots.entries) ⊎ (length old.slots.entries < old.slots.cap)
+      entry_room (inl there) = inl (some_held (lookup (is_key o c) old.slots.entries) there)
+      entry_room (inr few) = inr few
+
+  pub changes : (slot : Slot) → IsSome (held old o c) → new.slots ≡ lru_cache (put_entries key_eq old.slots (o, c) slot) old.slots.cap → Changes o c (Some (held_in slot)) old new
+  changes slot there is = let p = puts slot is in record { sizes = p.sizes; here = p.here; others = p.room (inl there) }
+
+  pub removes : IsDistinct key_eq (keys_of old.slots.entries) → new.slots ≡ lru_cache (remove_entry (is_key o c) old.slots.entries) old.slots.cap → Changes o c None old new
+  removes distinct is = record {
+    sizes = record { page_bytes = size; capacity = ap (λ (s : LruCache (ℕ × ℕ) Slot). s.cap) is };
+    here =
+        ap (λ (s : LruCache (ℕ × ℕ) Slot). option_map held_in (lookup (is_key o c) s.entries)) is
+        ∙ ap (option_map held_in) (lookup-remove_entry key_laws (is_key o c) one (o, c) old.slots.entries distinct ∙ cond-true _ None (lookup (is_key o c) old.slots.entries) (key_laws.refl (o, c)));
+    others = λ p q other.
+        ap (λ (s : LruCache (ℕ × ℕ) Slot). option_map held_in (lookup (is_key p q) s.entries)) is
+        ∙ ap (option_map held_in) (lookup-removed (is_key o c) (is_key p q) (keys_apart o c p q other) old.slots.entries);
+  }
+    where
+      one : (x y : ℕ × ℕ) → is_key o c x ≡ true → is_key o c y ≡ key_eq x y
+      one x y e = key_laws.congr (o, c) x y e
+
+  pub promotes : new.slots ≡ lru_cache (promoted (is_key o c) old.slots.entries) old.slots.cap → HasTheSame old new
+  promotes is = record {
+    sizes = record { page_bytes = size; capacity = ap (λ (s : LruCache (ℕ × ℕ) Slot). s.cap) is };
+    count = ap (λ (s : LruCache (ℕ × ℕ) Slot). length s.entries) is ∙ length-promoted (is_key o c) old.slots.entries;
+    each = λ p q. ap (λ (s : LruCache (ℕ × ℕ) Slot). option_map held_in (lookup (is_key p q) s.entries)) is ∙ ap (option_map held_in) (each' p q (cases_Bool (is_key o c (p, q))));
+  }
+    where
+      each' : (p q : ℕ) → (is_key o c (p, q) ≡ true) ⊎ (is_key o c (p, q) ≡ false) → lookup (is_key p q) (promoted (is_key o c) old.slots.entries) ≡ lookup (is_key p q) old.slots.entries
+      each' p q (inl e) =
+          let same = key_same o c (p, q) e in
+          subst (λ a. lookup (is_key a q) (promoted (is_key o c) old.slots.entries) ≡ lookup (is_key a q) old.slots.entries) same.0
+          (subst (λ b. lookup (is_key o b) (promoted (is_key o c) old.slots.entries) ≡ lookup (is_key o b) old.slots.entries) same.1
+          (lookup-promoted_same (is_key o c) old.slots.entries))
+      each' p q (inr n) = lookup-promoted (is_key o c) (is_key p q) (keys_apart o c p q (λ a b. true≢false (sym (same_key o c (p, q) (sym a) (sym b)) ∙ n))) old.slots.entries
+
+pub removed_count : (old new : LruCache (ℕ × ℕ) Slot) (k : ℕ × ℕ) → IsSome (option_map held_in (lookup (key_eq k) old.entries))
+    → new ≡ lru_cache (remove_entry (key_eq k) old.entries) old.cap → length new.entries + 1 ≡ length old.entries
+removed_count old new k there is = ap (λ (s : LruCache (ℕ × ℕ) Slot). length s.entries + 1) is ∙ length-removed (key_eq k) old.entries (some_held (lookup (key_eq k) old.entries) there)
+
+pub same_slots : (old new : PageCache) → new.page_bytes ≡ old.page_bytes → new.slots ≡ old.slots → HasTheSame old new
+same_slots old new size is = record {
+  sizes = record { page_bytes = size; capacity = ap (λ (s : LruCache (ℕ × ℕ) Slot). s.cap) is };
+  count = ap (λ (s : LruCache (ℕ × ℕ) Slot). length s.entries) is;
+  each = λ p q. ap (λ (s : LruCache (ℕ × ℕ) Slot). option_map held_in (lookup (is_key p q) s.entries)) is;
+}
+
+-- the frames after a slot was put, a key was used and one was taken away
+module _ (bytes : ℕ) (old : LruCache (ℕ × ℕ) Slot) (new : LruCache (ℕ × ℕ) Slot) (sized : AreSized bytes old.entries) where
+  pub put_sized : (k : ℕ × ℕ) (slot : Slot) → length (frame_of slot).items ≡ bytes → new ≡ lru_cache (put_entries key_eq old k slot) old.cap → AreSized bytes new.entries
+  put_sized k slot size is key it in' = elim (Contains-put_entries key_eq old k slot (key, it) (subst (λ (s : LruCache (ℕ × ℕ) Slot). Contains s.entries (key, it)) is in')) [
+    | inl was ↦ sized key it was
+    | inr put ↦ ap (λ s. length (frame_of s).items) put.0 ∙ size
+  ]
+
+  pub promoted_sized : (k : ℕ × ℕ) → new ≡ lru_cache (promoted (key_eq k) old.entries) old.cap → AreSized bytes new.entries
+  promoted_sized k is key it in' = sized key it (Contains-promoted (key_eq k) old.entries (key, it) (subst (λ (s : LruCache (ℕ × ℕ) Slot). Contains s.entries (key, it)) is in'))
+
+  pub removed_sized : (k : ℕ × ℕ) → new ≡ lru_cache (remove_entry (key_eq k) old.entries) old.cap → AreSized bytes new.entries
+  removed_sized k is key it in' = sized key it (Contains-remove_entry (key_eq k) old.entries (key, it) (subst (λ (s : LruCache (ℕ × ℕ) Slot). Contains s.entries (key, it)) is in'))
+
+  pub same_sized : new ≡ old → AreSized bytes new.entries
+  same_sized is key it in' = sized key it (subst (λ (s : LruCache (ℕ × ℕ) Slot). Contains s.entries (key, it)) is in')
+
+  found_sized : (k : ℕ × ℕ) (f : Option Slot) (it : Slot) → lookup (key_eq k) old.entries ≡ f → f ≡ Some it → length (frame_of it).items ≡ bytes
+  found_sized k f it is found = let c = Contains-lookup (key_eq k) old.entries it (is ∙ found) in sized c.0 it c.1
+
+  -- and the frame of the slot that was over
+  pub displaced_sized : (k key : ℕ × ℕ) (slot it : Slot) → displaced key_eq old k slot ≡ Some (key, it) → length (frame_of it).items ≡ bytes
+  displaced_sized k key slot it = go (lookup (key_eq k) old.entries) refl
+    where
+      go : (f : Option Slot) → lookup (key_eq k) old.entries ≡ f
+          → option_map_or (λ (was : Slot). Some (k, was)) f (slice_get old.entries (old.cap - 1)) ≡ Some (key, it) → length (frame_of it).items ≡ bytes
+      go None is e = sized key it (got_contains old.entries (old.cap - 1) (key, it) e)
+      go (Some was) is e =
+          let two : Some (k, was) ≡ Some (key, it) = e in
+          let pair : ◌≡◌ {A = (ℕ × ℕ) × Slot} (k, was) (key, it) = cc in
+          let same : was ≡ it = ap (λ (p : (ℕ × ℕ) × Slot). p.1) pair in
+          found_sized k (Some was) it is (ap Some same)
+
+  -- the page of a slot that is found
+  pub page_sized : (k : ℕ × ℕ) (it : Slot) (page : Option (Bor (List ℕ))) → lookup (key_eq k) old.entries ≡ Some it → option_copied page ≡ page_in (held_in it)
+      → IfSome page (λ p. length p.now ≡ bytes)
+  page_sized k it None is e = tt
+  page_sized k (slots.Place frame) (Some p) is e = absurd cc
+  page_sized k (slots.Page frame) (Some p) is e =
+      let same : p.now ≡ frame.items = cc in ap length same ∙ found_sized k (Some (slots.Page frame)) (slots.Page frame) is refl
+
+  -- the frames whether a slot was put or not
+  pub either_sized : {A E : Type 0} (k : ℕ × ℕ) (slot : Slot) (r : Result A E) → length (frame_of slot).items ≡ bytes
+      → OnOk r (new ≡ lru_cache (put_entries key_eq old k slot) old.cap) → OnErr r (new ≡ old) → AreSized bytes new.entries
+  either_sized k slot (Ok done) size ok err = put_sized k slot size ok
+  either_sized k slot (Err e) size ok err = same_sized err
+
+some_copied : {X : Type 0} (page : Option (Bor X)) → is_some (option_copied page) ≡ is_some page
+some_copied None = refl
+some_copied (Some p) = refl
+
+-- a key that is used has a page where it had one
+pub use_finds : (old new : LruCache (ℕ × ℕ) Slot) (o c : ℕ) (b : Bool) (page : Option (Bor (List ℕ))) → new ≡ lru_cache (promoted (is_key o c) old.entries) old.cap
+    → b ≡ is_some page → option_copied page ≡ option_and_then page_in (option_map held_in (lookup (is_key o c) new.entries))
+    → b ≡ is_some (option_and_then page_in (option_map held_in (lookup (is_key o c) old.entries)))
+use_finds old new o c b page after is told =
+    is ∙ sym (some_copied page) ∙ ap is_some (told ∙ ap (λ (s : LruCache (ℕ × ℕ) Slot). option_and_then page_in (option_map held_in (lookup (is_key o c) s.entries))) after
+    ∙ ap (λ f. option_and_then page_in (option_map held_in f)) (lookup-promoted_same (is_key o c) old.entries))
+
+-- a key that is passed over is none of those that are looked for
+pub passed_over : (o c q : ℕ) (k : ℕ × ℕ) → (k.0 ≡ o → k.1 < c) → c ≤ q → is_key o q k ≡ false
+passed_over o c q k below le = elim (cases_Bool (is_key o q k)) [
+  | inl both ↦ let a = key_same o q k both in let lt : k.1 < c = below (sym a.0) in absurd (omega (arith, lt, le, a.1))
+  | inr no' ↦ no'
+]

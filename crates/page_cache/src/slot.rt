@@ -1,0 +1,36 @@
+// What the cache has of a key.
+ghost use Rattle.std.specs.Prelude.{◌≡◌};
+ghost use Rattle.std.specs.Option.{option_copied};
+
+/// What the cache has of a key, in a frame, which is a page's room in memory.
+#[derive(Drop)]
+pub enum Slot {
+    /// The key's page.
+    Page(Vec<u8>),
+    /// A place for the page that the key is to get. Its bytes are of no page.
+    Place(Vec<u8>),
+}
+
+impl Slot {
+    ghost use Rattle.page_cache.specs.Slots.{frame_of, held_in, page_in};
+
+    /// The frame, whatever its bytes are of.
+    pub(crate) fn into_frame(self) -> Vec<u8>
+        ensures { result ≡ frame_of self }
+    {
+        match self {
+            Slot::Page(frame) => frame,
+            Slot::Place(frame) => frame,
+        }
+    }
+
+    /// The bytes of the page.
+    pub(crate) fn page(&self) -> Option<&[u8]>
+        ensures { option_copied result ≡ page_in (held_in self.now) }
+    {
+        match self {
+            Slot::Page(frame) => Some(frame),
+            Slot::Place(_) => None,
+        }
+    }
+}

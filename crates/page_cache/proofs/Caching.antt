@@ -4,19 +4,19 @@ use Rattle.std.proofs.lemmas.Bool.{cases_Bool, true≢false, cond-true, and_part
 use Rattle.std.proofs.lemmas.Cmp.{nat_eq_equiv, and_equiv, on_equiv}
 use Rattle.std.specs.Cmp.{IsEquivalence}
 use Rattle.std.specs.List.{IsDistinct}
-use Rattle.std.specs.Map.{lookup, lookup_entry, remove_entry, keys_of}
+use Rattle.std.specs.Map.{lookup, remove_entry, keys_of}
 use Rattle.std.proofs.lemmas.Map.{lookup-remove_entry}
 use Rattle.lru.specs.LruCache.{LruCache, lru_cache, promoted, put_entries, displaced}
 use Rattle.lru.proofs.Splits.{Contains-head, Contains-tail}
 use Rattle.lru.proofs.CallerLemmas.{Contains-put_entries, Contains-promoted, Contains-remove_entry, Contains-lookup, lookup-put_entries}
 use Rattle.std.specs.Option.{option_copied, option_map_or}
-use Rattle.page_cache.specs.Slots.{Held, held_in, page_in, is_key, frame_of, AreSized}
-use Rattle.page_cache.specs.Cached.{held, held_count, capacity_of, page_bytes_of}
-use Rattle.page_cache.specs.Changes.{KeepsSizes, HasTheSame, IsOther, Changes, Puts, DropsFrom}
+use Rattle.page_cache.specs.Slots.{held_in, page_in, is_key, frame_of, AreSized}
+use Rattle.page_cache.specs.Cached.{held, held_count, capacity_of}
+use Rattle.page_cache.specs.Changes.{HasTheSame, IsOther, Changes, Puts}
 use Rattle.page_cache.specs.declared.slot.Slot.{Slot}
 use Rattle.page_cache.specs.declared.slot.Slot.TheVariants as slots
 use Rattle.page_cache.specs.declared.cache.PageCache.{PageCache}
-use Rattle.page_cache.proofs.Lookups.{lookup_some, length-removed, length-promoted, lookup-removed, lookup-promoted, lookup-promoted_same, put_others, put_room, put_count}
+use Rattle.page_cache.proofs.Lookups.{length-removed, length-promoted, lookup-removed, lookup-promoted, lookup-promoted_same, put_others, put_room}
 
 -- whether two keys are one
 abbrev pub key_eq : ℕ × ℕ → ℕ × ℕ → Bool

@@ -5,3 +5,6 @@ mod cache;
 mod slot;
 
 pub use cache::PageCache;
+
+#[cfg(test)]
+mod tests;

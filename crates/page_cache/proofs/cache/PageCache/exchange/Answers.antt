@@ -1,4 +1,4 @@
-use Rattle.std.proofs.Common.{◌≡◌, length, sym, ◌∙◌, ap, refl}
+use Rattle.std.proofs.Common.{length, sym, ◌∙◌, ap, refl}
 use Rattle.page_cache.specs.declared.slot.Slot.TheVariants as slots
 use Rattle.page_cache.proofs.Caching.{changes, either_sized, displaced_sized}
 use Rattle.page_cache.proofs.cache.PageCache.exchange.Goals as goal

@@ -1,4 +1,4 @@
-use Rattle.std.proofs.Common.{◌≡◌, Some, length, sym, ◌∙◌, ap, refl}
+use Rattle.std.proofs.Common.{◌≡◌, length, sym, ◌∙◌, ap, refl}
 use Rattle.page_cache.specs.Slots.{frame_of}
 use Rattle.page_cache.proofs.Caching.{puts, put_sized, same_sized, displaced_sized}
 use Rattle.page_cache.proofs.cache.PageCache.insert.Goals as goal

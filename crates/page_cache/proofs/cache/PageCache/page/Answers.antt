@@ -1,4 +1,4 @@
-use Rattle.std.proofs.Common.{sym, ◌∙◌}
+use Rattle.std.proofs.Common.{sym}
 use Rattle.page_cache.proofs.Caching.{page_sized}
 use Rattle.page_cache.proofs.cache.PageCache.page.Goals as goal
 

@@ -1,10 +1,15 @@
 -- Results that say more.
-use Rattle.std.specs.Prelude.{ℕ, Result, Ok, Err, IfOk, IfErr}
+use Rattle.std.specs.Prelude.{ℕ, Result, Ok, Err, IfOk, OnOk, IfErr}
 use Rattle.pages.specs.Faults.{MayLack, MayLackMemory}
 use Rattle.pages.specs.State.{PagesState}
 use Rattle.pages.specs.declared.fault.PageFault.{PageFault}
 use Rattle.pages.specs.declared.fault.PageFault.TheVariants as faults
 use Rattle.directories.specs.Faults.{MayLackRoom}
+
+-- what holds anyway holds of a result that is there
+pub always : {A E P : Type 0} (r : Result A E) → P → OnOk r P
+always (Ok x) is = is
+always (Err e) is = tt
 
 pub on_ok : {A E : Type 0} (P Q : A → Type 0) (r : Result A E) → ((x : A) → P x → Q x) → IfOk r P → IfOk r Q
 on_ok P Q (Ok x) f is = f x is

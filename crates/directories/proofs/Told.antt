@@ -9,7 +9,7 @@ use Rattle.posix_profile.specs.State.{Name, Entries}
 use Rattle.pages.specs.Afterwards.{after}
 use Rattle.pages.specs.Maps.{PageMap}
 use Rattle.pages.specs.State.{PagesState, OnlyFinds}
-use Rattle.directories.specs.Directories.{DirIn, SlotOf, TellsName}
+use Rattle.directories.specs.Directories.{DirIn, SlotOf, TellsName, TellsOf}
 use Rattle.directories.specs.Heads.{IsHeadOf, IsHeaded, SaysHead}
 use Rattle.directories.specs.Slots.{AreSlots, Finds}
 use Rattle.directories.specs.declared.head.DirectoryHead.{DirectoryHead}
@@ -72,18 +72,23 @@ module _ (p q : PagesState) (finds : OnlyFinds p q) (z : Sizes) (o moment : ℕ)
   asked_more old mid next new most first rest last = let at = asked_for old mid next first rest in omega (arith, at, last)
 
 -- what is told of a name, whatever is there
-module _ (p q : PagesState) (finds : OnlyFinds p q) (z : Sizes) (o : ℕ) (head : DirectoryHead) (s : SaysHead (after None p) o head) where
-  abbrev whole : IsHeaded p o
-  whole = record { fields = s.0.fields; has = s.0.has; valid = s.0.valid; kind = s.0.kind }
-
+module _ (p q : PagesState) (finds : OnlyFinds p q) (z : Sizes) (o : ℕ) (head : DirectoryHead) (s : SaysHead p o head) where
   pub told_leads : (name : Name) (l : Located) → Finds (SlotOf z q.present o) 0 head.length name (Some l) → TellsName z p o name (Some l.object)
   told_leads name l is =
       let at : Finds (SlotOf z p.present o) 0 s.0.fields.length name (Some l) = subst (λ n. Finds (SlotOf z p.present o) 0 n name (Some l)) s.1.length_is
       (subst (λ (m : PageMap). Finds (SlotOf z m o) 0 head.length name (Some l)) finds.present is) in
-      (whole, (l.place, at.most, (at.entry, at.there, at.name_is, at.object_is)))
+      (s.0, (l.place, at.most, (at.entry, at.there, at.name_is, at.object_is)))
 
   pub told_none : (name : Name) → Finds (SlotOf z q.present o) 0 head.length name None → TellsName z p o name None
   told_none name is =
       let at : Finds (SlotOf z p.present o) 0 s.0.fields.length name None = subst (λ n. Finds (SlotOf z p.present o) 0 n name None) s.1.length_is
       (subst (λ (m : PageMap). Finds (SlotOf z m o) 0 head.length name None) finds.present is) in
-      (whole, λ i less. at i (omega arith) less)
+      (s.0, λ i less. at i (omega arith) less)
+
+  pub told_of : (name : Name) (found : Option Located) → Finds (SlotOf z q.present o) 0 head.length name found → TellsOf z p o name
+  told_of name (Some l) is = (Some l.object, told_leads name l is)
+  told_of name None is = (None, told_none name is)
+
+-- what a header says after no change, it says
+pub said_now : (p : PagesState) (o : ℕ) (head : DirectoryHead) → SaysHead (after None p) o head → SaysHead p o head
+said_now p o head s = (record { fields = s.0.fields; has = s.0.has; valid = s.0.valid; kind = s.0.kind }, s.1)

@@ -33,6 +33,15 @@ LeadsFrom at count name (Some object) = (i : ℕ) × (i < count) × ((e : Entry)
 abbrev pub TellsName : Sizes → PagesState → ℕ → List ℕ → Option ℕ → Type 0
 TellsName z p d name found = (h : IsHeaded p d) × LeadsFrom (SlotOf z p.present d) h.fields.length name found
 
+-- there is a change exactly where the header and the slots say that the name is there
+abbrev pub TellsChange : Sizes → PagesState → ℕ → List ℕ → Option Change → Type 0
+TellsChange z p d name None = TellsName z p d name None
+TellsChange z p d name (Some change) = (object : ℕ) × TellsName z p d name (Some object)
+
+-- the header and the slots say whether the name is there
+abbrev pub TellsOf : Sizes → PagesState → ℕ → List ℕ → Type 0
+TellsOf z p d name = (found : Option ℕ) × TellsName z p d name found
+
 -- there is a change exactly where the directory has the name
 abbrev pub IsNamed : Entries → List ℕ → Option Change → Type 0
 IsNamed entries name None = map.get entries name ≡ None

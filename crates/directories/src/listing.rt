@@ -10,7 +10,7 @@ ghost use Rattle.pages.specs.Faults.{MayLackMemory, SaysWhyMaking};
 ghost use Rattle.pages.specs.Maps.{PageMap, has};
 ghost use Rattle.pages.specs.State.{PagesState, OnlyFinds};
 ghost use Rattle.directories.specs.Directories.{DirIn};
-ghost use Rattle.directories.specs.Listings.{TakesEntry, ReadsFirst};
+ghost use Rattle.directories.specs.Listings.{TakesEntry, TellsNames, ReadsFirst};
 
 use crate::head::read_head;
 use crate::page::slot_of;
@@ -26,6 +26,8 @@ pub fn names<P: Pages>(alloc: Global, pages: &mut P, directory: u64) -> Result<N
     ensures finds { OnlyFinds (P.state pages.old) (P.state pages.new) }
     ensures asked { (z : Sizes) (moment : ℕ) (entries : Entries) (d : DirIn (P.state pages.old) z directory moment entries)
         → (P.state pages.new).asked ≤ (P.state pages.old).asked + 1 + div_ceil (map.len entries) (page_slots z) }
+    ensures told { (P.state pages.old).sound ≡ true → (z : Sizes) → z.page_bytes ≡ (P.state pages.old).page_bytes
+        → IfOk result (TellsNames z (P.state pages.old).present directory) }
     ensures found { (z : Sizes) (moment : ℕ) (entries : Entries) (d : DirIn (P.state pages.old) z directory moment entries) → IfOk result (λ names. names ≡ map.keys entries) }
     ensures why { IfErr result (SaysWhyMaking (P.state pages.new)) }
     ensures fault { (z : Sizes) (moment : ℕ) (entries : Entries) (d : DirIn (P.state pages.old) z directory moment entries) → IfErr result (MayLackMemory (P.state pages.new)) }

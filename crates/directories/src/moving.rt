@@ -10,9 +10,8 @@ ghost use Rattle.pages.specs.Afterwards.{after, IsSizedBy};
 ghost use Rattle.pages.specs.Changes.{IsChange, IsOnlyOf};
 ghost use Rattle.pages.specs.Maps.{changed};
 ghost use Rattle.pages.specs.State.{OnlyFinds};
-ghost use Rattle.directories.specs.Directories.{DirIn, ReadsAs, SlotOf, IsNamed};
+ghost use Rattle.directories.specs.Directories.{DirIn, ReadsAs, SlotOf, IsNamed, TellsChange, TellsOf};
 ghost use Rattle.directories.specs.Faults.{MayLackRoom, SaysWhyAdding};
-ghost use Rattle.directories.specs.Heads.{IsHeaded};
 ghost use Rattle.directories.specs.Slots.{AreSlots};
 ghost use Rattle.directories.specs.Writes.{HasHead, HasKey, KeepsSlots};
 
@@ -36,6 +35,8 @@ pub fn rename_within<P: Pages>(
 ) -> Result<Option<Change>, PageFault>
     requires { IsSlot (entry_of to.now) }
     ensures finds { OnlyFinds (P.state pages.old) (P.state pages.new) }
+    ensures asked { (z : Sizes) (before : ℕ) (entries : Entries) (d : DirIn (P.state pages.old) z directory before entries)
+        → (P.state pages.new).asked ≤ (P.state pages.old).asked + 5 + div_ceil (map.len entries) (page_slots z) + div_ceil (map.len (map.remove entries from.now)) (page_slots z) }
     ensures change { IfOk result (λ made. IfSome made (λ change. IsChange change (P.state pages.old).page_bytes 3)) }
     ensures others { (o c : ℕ) → o ≢ directory → IfOk result (λ made. IfSome made (λ change. changed change (P.state pages.old).present o c ≡ (P.state pages.old).present o c)) }
     ensures named { (z : Sizes) (before : ℕ) (entries : Entries) (d : DirIn (P.state pages.old) z directory before entries)
@@ -43,7 +44,8 @@ pub fn rename_within<P: Pages>(
     ensures moves { (z : Sizes) (before : ℕ) (entries : Entries) (d : DirIn (P.state pages.old) z directory before entries)
         → IfOk result (λ made. IfSome made (λ change. ReadsAs z (changed change (P.state pages.old).present) directory moment
         (map.insert (map.remove entries from.now) to.now.name.now to.now.object) d.reads.fields.spare)) }
-    ensures told { (P.state pages.old).sound ≡ true → OnOk result (IsHeaded (P.state pages.old) directory) }
+    ensures told { (P.state pages.old).sound ≡ true → (z : Sizes) → z.page_bytes ≡ (P.state pages.old).page_bytes
+        → IfOk result (TellsChange z (P.state pages.old) directory from.now) }
     ensures why { IfErr result (SaysWhyAdding (P.state pages.new)) }
     ensures fault { (z : Sizes) (before : ℕ) (entries : Entries) (d : DirIn (P.state pages.old) z directory before entries)
         → IfErr result (MayLackRoom (map.len (map.remove entries from.now)) (P.state pages.new)) }
@@ -76,6 +78,8 @@ pub fn rename_between<P: Pages>(
     requires apart { route.source ≢ route.target }
     requires valid { IsSlot (entry_of to.now) }
     ensures finds { OnlyFinds (P.state pages.old) (P.state pages.new) }
+    ensures asked { (z : Sizes) (s t : ℕ) (left entries : Entries) (source : DirIn (P.state pages.old) z route.source s left) (target : DirIn (P.state pages.old) z route.target t entries)
+        → (P.state pages.new).asked ≤ (P.state pages.old).asked + 5 + div_ceil (map.len left) (page_slots z) + div_ceil (map.len entries) (page_slots z) }
     ensures change { IfOk result (λ made. IfSome made (λ change. IsChange change (P.state pages.old).page_bytes 4)) }
     ensures others { (o c : ℕ) → o ≢ route.source → o ≢ route.target
         → IfOk result (λ made. IfSome made (λ change. changed change (P.state pages.old).present o c ≡ (P.state pages.old).present o c)) }
@@ -86,7 +90,10 @@ pub fn rename_between<P: Pages>(
     ensures gives { (z : Sizes) (before : ℕ) (entries : Entries) (d : DirIn (P.state pages.old) z route.target before entries)
         → IfOk result (λ made. IfSome made (λ change. ReadsAs z (changed change (P.state pages.old).present) route.target moment
         (map.insert entries to.now.name.now to.now.object) d.reads.fields.spare)) }
-    ensures told { (P.state pages.old).sound ≡ true → OnOk result (IsHeaded (P.state pages.old) route.source) }
+    ensures told { (P.state pages.old).sound ≡ true → (z : Sizes) → z.page_bytes ≡ (P.state pages.old).page_bytes
+        → IfOk result (TellsChange z (P.state pages.old) route.source from.now) }
+    ensures target { (P.state pages.old).sound ≡ true → (z : Sizes) → z.page_bytes ≡ (P.state pages.old).page_bytes
+        → IfOk result (λ made. IfSome made (λ change. TellsOf z (P.state pages.old) route.target to.now.name.now)) }
     ensures why { IfErr result (SaysWhyAdding (P.state pages.new)) }
     ensures fault { (z : Sizes) (s t : ℕ) (left entries : Entries) (source : DirIn (P.state pages.old) z route.source s left) (target : DirIn (P.state pages.old) z route.target t entries)
         → IfErr result (MayLackRoom (map.len entries) (P.state pages.new)) }
@@ -119,7 +126,8 @@ fn put_after<P: Pages>(
     ensures puts { (z : Sizes) (before : ℕ) (entries : Entries) (d : DirIn (after (option_copied earlier.entry) (P.state pages.old)) z directory before entries)
         → IfOk result (λ change. ReadsAs z (changed change (after (option_copied earlier.entry) (P.state pages.old)).present) directory moment
         (map.insert entries slot.now.name.now slot.now.object) d.reads.fields.spare) }
-    ensures told { (P.state pages.old).sound ≡ true → OnOk result (IsHeaded (after (option_copied earlier.entry) (P.state pages.old)) directory) }
+    ensures told { (P.state pages.old).sound ≡ true → (z : Sizes) → z.page_bytes ≡ (P.state pages.old).page_bytes
+        → OnOk result (TellsOf z (after (option_copied earlier.entry) (P.state pages.old)) directory slot.now.name.now) }
     ensures why { IfErr result (SaysWhyAdding (P.state pages.new)) }
     ensures fault { (z : Sizes) (before : ℕ) (entries : Entries) (d : DirIn (after (option_copied earlier.entry) (P.state pages.old)) z directory before entries)
         → IfErr result (MayLackRoom (map.len entries) (P.state pages.new)) }

@@ -1,5 +1,5 @@
 // The removal of a name.
-ghost use Rattle.std.specs.Prelude.{◌≡◌, ◌<◌, ◌≤◌, ◌+◌, ◌^◌, ℕ, [], true, OnOk, IfOk, IfErr, IfSome, option_copied};
+ghost use Rattle.std.specs.Prelude.{◌≡◌, ◌<◌, ◌≤◌, ◌+◌, ◌^◌, ℕ, [], true, IfOk, IfErr, IfSome, option_copied};
 ghost use Rattle.std.specs.FinMap as map;
 ghost use Rattle.std.specs.Int.{div_ceil};
 ghost use Rattle.page_tags.specs.Slots.{Entry};
@@ -10,8 +10,7 @@ ghost use Rattle.pages.specs.Changes.{IsChange, IsOnlyOf};
 ghost use Rattle.pages.specs.Faults.{MayLack, SaysWhy, MayLackMemory, SaysWhyMaking};
 ghost use Rattle.pages.specs.Maps.{PageMap, changed};
 ghost use Rattle.pages.specs.State.{OnlyFinds};
-ghost use Rattle.directories.specs.Directories.{DirIn, ReadsAs, SlotOf, IsNamed};
-ghost use Rattle.directories.specs.Heads.{IsHeaded};
+ghost use Rattle.directories.specs.Directories.{DirIn, ReadsAs, SlotOf, IsNamed, TellsChange};
 ghost use Rattle.directories.specs.Slots.{AreSlots};
 ghost use Rattle.directories.specs.Writes.{HasHead, HasKey, IsSlotBytes, KeepsSlots, LosesSlot, CutsBehind};
 
@@ -42,7 +41,8 @@ pub fn remove<P: Pages>(
         → IfOk result (λ made. IsNamed entries name.now made) }
     ensures removes { (z : Sizes) (before : ℕ) (entries : Entries) (d : DirIn (P.state pages.old) z directory before entries)
         → IfOk result (λ made. IfSome made (λ change. ReadsAs z (changed change (P.state pages.old).present) directory moment (map.remove entries name.now) d.reads.fields.spare)) }
-    ensures told { (P.state pages.old).sound ≡ true → OnOk result (IsHeaded (P.state pages.old) directory) }
+    ensures told { (P.state pages.old).sound ≡ true → (z : Sizes) → z.page_bytes ≡ (P.state pages.old).page_bytes
+        → IfOk result (TellsChange z (P.state pages.old) directory name.now) }
     ensures why { IfErr result (SaysWhyMaking (P.state pages.new)) }
     ensures fault { (z : Sizes) (before : ℕ) (entries : Entries) (d : DirIn (P.state pages.old) z directory before entries)
         → IfErr result (MayLackMemory (P.state pages.new)) }
@@ -71,7 +71,8 @@ pub(crate) fn remove_after<P: Pages>(
     ensures removes { (z : Sizes) (before : ℕ) (entries : Entries) (d : DirIn (after (option_copied earlier.entry) (P.state pages.old)) z directory before entries)
         → IfOk result (λ made. IfSome made (λ change. ReadsAs z (changed change (after (option_copied earlier.entry) (P.state pages.old)).present) directory moment
         (map.remove entries name.now) d.reads.fields.spare)) }
-    ensures told { (P.state pages.old).sound ≡ true → OnOk result (IsHeaded (after (option_copied earlier.entry) (P.state pages.old)) directory) }
+    ensures told { (P.state pages.old).sound ≡ true → (z : Sizes) → z.page_bytes ≡ (P.state pages.old).page_bytes
+        → IfOk result (TellsChange z (after (option_copied earlier.entry) (P.state pages.old)) directory name.now) }
     ensures why { IfErr result (SaysWhyMaking (P.state pages.new)) }
     ensures fault { (z : Sizes) (before : ℕ) (entries : Entries) (d : DirIn (after (option_copied earlier.entry) (P.state pages.old)) z directory before entries)
         → IfErr result (MayLackMemory (P.state pages.new)) }

@@ -1,5 +1,5 @@
 // A name that leads to another object.
-ghost use Rattle.std.specs.Prelude.{◌≡◌, ◌≤◌, ◌+◌, ℕ, true, OnOk, IfOk, IfErr, IfSome};
+ghost use Rattle.std.specs.Prelude.{◌≡◌, ◌≤◌, ◌+◌, ℕ, true, IfOk, IfErr, IfSome};
 ghost use Rattle.std.specs.FinMap as map;
 ghost use Rattle.std.specs.Int.{div_ceil};
 ghost use Rattle.page_tags.specs.SlotEntry.{entry_of};
@@ -10,8 +10,7 @@ ghost use Rattle.pages.specs.Changes.{IsChange, IsOnlyOf};
 ghost use Rattle.pages.specs.Faults.{MayLackMemory, SaysWhyMaking};
 ghost use Rattle.pages.specs.Maps.{changed};
 ghost use Rattle.pages.specs.State.{OnlyFinds};
-ghost use Rattle.directories.specs.Directories.{DirIn, ReadsAs, IsNamed};
-ghost use Rattle.directories.specs.Heads.{IsHeaded};
+ghost use Rattle.directories.specs.Directories.{DirIn, ReadsAs, IsNamed, TellsChange};
 
 use crate::head::{DirectoryHead, head_after};
 use crate::lookup::search;
@@ -39,7 +38,8 @@ pub fn replace<P: Pages>(
         → IfOk result (λ made. IsNamed entries slot.now.name.now made) }
     ensures replaces { (z : Sizes) (before : ℕ) (entries : Entries) (d : DirIn (P.state pages.old) z directory before entries)
         → IfOk result (λ made. IfSome made (λ change. ReadsAs z (changed change (P.state pages.old).present) directory moment (map.insert entries slot.now.name.now slot.now.object) d.reads.fields.spare)) }
-    ensures told { (P.state pages.old).sound ≡ true → OnOk result (IsHeaded (P.state pages.old) directory) }
+    ensures told { (P.state pages.old).sound ≡ true → (z : Sizes) → z.page_bytes ≡ (P.state pages.old).page_bytes
+        → IfOk result (TellsChange z (P.state pages.old) directory slot.now.name.now) }
     ensures why { IfErr result (SaysWhyMaking (P.state pages.new)) }
     ensures fault { (z : Sizes) (before : ℕ) (entries : Entries) (d : DirIn (P.state pages.old) z directory before entries)
         → IfErr result (MayLackMemory (P.state pages.new)) }

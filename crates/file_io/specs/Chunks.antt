@@ -42,6 +42,30 @@ pub record IsAmong (k n c : ℕ) : Type 0 where
   pub from : k < c
   pub to : c ≤ n
 
+-- chunk c has a byte from one place on and before another
+pub record HasByte (d from end c : ℕ) : Type 0 where
+  pub place : ℕ
+  pub least : from ≤ place
+  pub most : place < end
+  pub chunk : c ≡ 1 + place / d
+
+-- it has such a byte, and one that lies before or behind these
+pub record IsSplit (d from end c : ℕ) : Type 0 where
+  pub inside : HasByte d from end c
+  pub place : ℕ
+  pub chunk : c ≡ 1 + place / d
+  pub outside : (place < from) ⊎ (end ≤ place)
+
+-- the last chunk of so many bytes, which do not fill it
+pub record IsPartLast (d len c : ℕ) : Type 0 where
+  pub chunk : c ≡ 1 + len / d
+  pub partly : 1 ≤ len % d
+
+-- A chunk of which a write of n bytes keeps a part: it goes over some of its bytes and not over others, or a file of this
+-- length, whose last chunk it is, grows past it.
+abbrev pub IsPartKept : ℕ → ℕ → ℕ → ℕ → ℕ → Type 0
+IsPartKept d len off n c = IsSplit d off (off + n) c ⊎ ((1 ≤ n) × (len < off) × IsPartLast d len c)
+
 -- the chunks of which a write into the chunks from k on has made pages when it comes to chunk n
 abbrev pub IsWritten : ℕ → ℕ → List ℕ → ℕ → ℕ → ℕ → Type 0
 IsWritten d len bits k n c = IsTail d len bits k c ⊎ IsAmong k n c

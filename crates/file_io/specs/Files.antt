@@ -22,6 +22,10 @@ pub record HasFileHeader (p : PagesState) (o : ℕ) : Type 0 where
   pub valid : IsHeader p.page_bytes fields
   pub kind : fields.kind ≡ kinds.File
 
+-- each of these chunks that the bits name has a page
+abbrev pub HasPages : PageMap → ℕ → List ℕ → (ℕ → Type 0) → Type 0
+HasPages m o bits IsOne = (c : ℕ) → IsOne c → is_present bits c ≡ true → (page : List ℕ) × (m o c ≡ Some page)
+
 -- what the header of a file says: it is written in format 2
 abbrev pub fields_in : ℕ → ℕ → List ℕ → Fields
 fields_in len moment bits = record { format = formats.Two; kind = kinds.File; spare = 0; length = len; moment = moment; bits = bits }

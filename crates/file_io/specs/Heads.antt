@@ -1,6 +1,8 @@
 -- What is told of the header of a file.
-use Rattle.std.specs.Prelude.{◌≡◌}
+use Rattle.std.specs.Prelude.{◌≡◌, ℕ}
 use Rattle.page_tags.specs.Headers.{Fields}
+use Rattle.pages.specs.State.{PagesState}
+use Rattle.file_io.specs.Files.{HasFileHeader}
 use Rattle.file_io.specs.declared.head.FileHead.{FileHead}
 
 -- what the header says of its file
@@ -8,3 +10,7 @@ pub record IsHeadOf (head : FileHead) (f : Fields) : Type 0 where
   pub length_is : head.length ≡ f.length
   pub moment : head.moment ≡ f.moment
   pub bits : head.bits.items ≡ f.bits
+
+-- the object has the header of a file, and this is what it says
+abbrev pub SaysHead : PagesState → ℕ → FileHead → Type 0
+SaysHead p o head = (h : HasFileHeader p o) × IsHeadOf head h.fields

@@ -1,11 +1,12 @@
 // The chunks of a file, counted from 0, as they are before a change.
-ghost use Rattle.std.specs.Prelude.{◌≡◌, ◌<◌, ◌≤◌, ◌+◌, ◌-◌, ◌*◌, ◌/◌, ◌^◌, ℕ, List, IfOk, IfErr, length, slice_index};
+ghost use Rattle.std.specs.Prelude.{◌≡◌, ◌<◌, ◌≤◌, ◌+◌, ◌-◌, ◌*◌, ◌/◌, ◌^◌, ℕ, List, true, Some, IfOk, OnOk, IfErr, length, slice_index};
+ghost use Rattle.page_tags.specs.Headers.{is_present};
 ghost use Rattle.volume_terms.specs.Sizes.{Sizes};
 ghost use Rattle.pages.specs.Changes.{AreSized};
 ghost use Rattle.pages.specs.State.{OnlyFinds};
-ghost use Rattle.file_io.specs.Files.{FileIn};
+ghost use Rattle.file_io.specs.Files.{FileIn, HasPages};
 ghost use Rattle.file_io.specs.Heads.{IsHeadOf};
-ghost use Rattle.file_io.specs.Chunks.{AreOf, HoldChunks, HoldsChunk, IsTail};
+ghost use Rattle.file_io.specs.Chunks.{AreOf, HoldChunks, HoldsChunk, IsPartLast, IsTail};
 ghost use Rattle.pages.specs.Faults.{MayLackMemory, SaysWhyMaking};
 
 use crate::head::FileHead;
@@ -35,6 +36,8 @@ pub(crate) fn chunk_bytes<P: Pages>(
     requires { index < 2 ^ 32 }
     ensures finds { OnlyFinds (P.state pages.old) (P.state pages.new) }
     ensures asked { (P.state pages.new).asked ≤ (P.state pages.old).asked + 1 }
+    ensures told { (P.state pages.old).sound ≡ true → is_present head.now.bits.items (1 + index) ≡ true
+        → OnOk result ((page : List ℕ) × ((P.state pages.old).present object (1 + index) ≡ Some page)) }
     ensures size { IfOk result (λ bytes. length bytes.items ≡ (P.state pages.old).page_bytes) }
     ensures holds { (z : Sizes) (moment : ℕ) (all : List ℕ) (f : FileIn (P.state pages.old) z object moment all)
         → IsHeadOf head.now f.reads.fields → IfOk result (λ bytes. HoldsChunk (P.state pages.old).page_bytes all index bytes.items) }
@@ -72,6 +75,8 @@ pub(crate) fn tail_pages<P: Pages>(
     ensures finds { OnlyFinds (P.state pages.old) (P.state pages.new) }
     ensures asked { (P.state pages.new).asked ≤ (P.state pages.old).asked + 1 }
     ensures unasked { before ≤ head.now.length / (P.state pages.old).page_bytes → (P.state pages.new).asked ≡ (P.state pages.old).asked }
+    ensures told { (P.state pages.old).sound ≡ true → head.now.length / (P.state pages.old).page_bytes < before
+        → OnOk result (HasPages (P.state pages.old).present object head.now.bits.items (IsPartLast (P.state pages.old).page_bytes head.now.length)) }
     ensures of { IfOk result (λ fresh. AreOf object (IsTail (P.state pages.old).page_bytes head.now.length head.now.bits.items before) fresh.items) }
     ensures few { IfOk result (λ fresh. length fresh.items ≤ 1) }
     ensures sized { IfOk result (λ fresh. AreSized fresh.items (P.state pages.old).page_bytes) }

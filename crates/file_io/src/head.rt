@@ -8,7 +8,7 @@ ghost use Rattle.volume_terms.specs.Sizes.{Sizes};
 ghost use Rattle.pages.specs.Maps.{PageMap, has};
 ghost use Rattle.pages.specs.State.{OnlyFinds};
 ghost use Rattle.file_io.specs.Files.{FileIn, HasFileHeader, fields_in};
-ghost use Rattle.file_io.specs.Heads.{IsHeadOf};
+ghost use Rattle.file_io.specs.Heads.{IsHeadOf, SaysHead};
 ghost use Rattle.pages.specs.Faults.{MayLack, MayLackMemory, SaysWhy, SaysWhyMaking};
 ghost use Rattle.pages.specs.declared.fault.PageFault.TheVariants as faults;
 
@@ -82,7 +82,7 @@ pub(crate) fn read_head<P: Pages>(
     ensures head { (z : Sizes) (moment : ℕ) (all : List ℕ) (f : FileIn (P.state pages.old) z object moment all)
         → IfOk result (λ head. IsHeadOf head f.reads.fields) }
     ensures valid { IfOk result (λ head. IsHeader (P.state pages.old).page_bytes (fields_in head.length head.moment head.bits.items)) }
-    ensures told { (P.state pages.old).sound ≡ true → OnOk result (HasFileHeader (P.state pages.old) object) }
+    ensures told { (P.state pages.old).sound ≡ true → IfOk result (SaysHead (P.state pages.old) object) }
     ensures why { IfErr result (SaysWhyMaking (P.state pages.new)) }
     ensures fault { (z : Sizes) (moment : ℕ) (all : List ℕ) (f : FileIn (P.state pages.old) z object moment all)
         → IfErr result (MayLackMemory (P.state pages.new)) }

@@ -12,6 +12,3 @@ pub use head::{FileInfo, create, read_info};
 pub use reading::read_at;
 pub use resizing::set_length;
 pub use writing::write_at;
-
-#[cfg(test)]
-mod tests;

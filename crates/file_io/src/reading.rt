@@ -1,10 +1,10 @@
 // The reading of a file.
-ghost use Rattle.std.specs.Prelude.{◌≡◌, ◌<◌, ◌≤◌, ◌+◌, ◌-◌, ◌*◌, ◌/◌, ◌^◌, ◌++◌, ℕ, List, IfOk, IfErr, OnOk, true, cond, length, take, drop, replicate};
+ghost use Rattle.std.specs.Prelude.{◌≡◌, ◌<◌, ◌≤◌, ◌+◌, ◌-◌, ◌*◌, ◌/◌, ◌^◌, ◌++◌, ℕ, List, IfOk, IfErr, OnOk, true, Some, cond, length, min, take, drop, replicate};
 ghost use Rattle.page_tags.specs.Headers.{is_present};
 ghost use Rattle.volume_terms.specs.Sizes.{Sizes};
 ghost use Rattle.pages.specs.State.{OnlyFinds};
-ghost use Rattle.file_io.specs.Files.{FileIn, HasFileHeader};
-ghost use Rattle.file_io.specs.Chunks.{chunks_over, count_present};
+ghost use Rattle.file_io.specs.Files.{FileIn, HasFileHeader, HasPages};
+ghost use Rattle.file_io.specs.Chunks.{HasByte, chunks_over, count_present};
 ghost use Rattle.file_io.specs.Parts.{AppendsPart};
 ghost use Rattle.pages.specs.Faults.{MayLackMemory, SaysWhyMaking};
 
@@ -47,6 +47,8 @@ fn read_part<P: Pages>(
     requires ends { offset < index * (P.state pages.old).page_bytes + (P.state pages.old).page_bytes }
     ensures finds { OnlyFinds (P.state pages.old) (P.state pages.new) }
     ensures asked { (P.state pages.new).asked ≤ (P.state pages.old).asked + (cond (is_present bits.now (1 + index)) 1 0) }
+    ensures told { (P.state pages.old).sound ≡ true → is_present bits.now (1 + index) ≡ true
+        → OnOk result ((page : List ℕ) × ((P.state pages.old).present object (1 + index) ≡ Some page)) }
     ensures part { (z : Sizes) (moment : ℕ) (all : List ℕ) (f : FileIn (P.state pages.old) z object moment all)
         → bits.now ≡ f.reads.fields.bits → end ≤ length all
         → OnOk result (AppendsPart (P.state pages.old).page_bytes all index offset end bytes.old.items bytes.new.items) }
@@ -91,7 +93,8 @@ pub fn read_at<P: Pages>(
     ensures asked { (z : Sizes) (moment : ℕ) (all : List ℕ) (f : FileIn (P.state pages.old) z object moment all)
         → (P.state pages.new).asked ≤ (P.state pages.old).asked + 1 + count_present f.reads.fields.bits (offset / z.page_bytes)
         (chunks_over z.page_bytes offset (length (take count (drop offset all)))) }
-    ensures told { (P.state pages.old).sound ≡ true → OnOk result (HasFileHeader (P.state pages.old) object) }
+    ensures told { (P.state pages.old).sound ≡ true → OnOk result ((h : HasFileHeader (P.state pages.old) object)
+        × HasPages (P.state pages.old).present object h.fields.bits (HasByte (P.state pages.old).page_bytes offset (min h.fields.length (offset + count)))) }
     ensures why { IfErr result (SaysWhyMaking (P.state pages.new)) }
     ensures fault { (z : Sizes) (moment : ℕ) (all : List ℕ) (f : FileIn (P.state pages.old) z object moment all)
         → IfErr result (MayLackMemory (P.state pages.new)) }

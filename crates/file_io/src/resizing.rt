@@ -8,7 +8,8 @@ ghost use Rattle.pages.specs.Maps.{changed};
 ghost use Rattle.pages.specs.Changes.{IsChange, IsNothing, IsOnlyOf};
 ghost use Rattle.pages.specs.State.{OnlyFinds};
 ghost use Rattle.pages.specs.Faults.{MayLackMemory, SaysWhyMaking};
-ghost use Rattle.file_io.specs.Files.{Becomes, FileIn, HasFileHeader};
+ghost use Rattle.file_io.specs.Files.{Becomes, FileIn, HasFileHeader, HasPages};
+ghost use Rattle.file_io.specs.Chunks.{IsPartLast};
 ghost use Rattle.file_io.specs.Cuts.{CutsFrom};
 
 use crate::bits::mark;
@@ -75,7 +76,8 @@ pub fn set_length<P: Pages>(
     ensures change { IfOk result (λ change. IsChange change (P.state pages.old).page_bytes 2) }
     ensures asked { (z : Sizes) (before : ℕ) (all : List ℕ) (f : FileIn (P.state pages.old) z object before all)
         → (P.state pages.new).asked ≤ (P.state pages.old).asked + 1 + min 1 (len - length all) }
-    ensures told { (P.state pages.old).sound ≡ true → OnOk result (HasFileHeader (P.state pages.old) object) }
+    ensures told { (P.state pages.old).sound ≡ true → OnOk result ((h : HasFileHeader (P.state pages.old) object)
+        × (h.fields.length < len → HasPages (P.state pages.old).present object h.fields.bits (IsPartLast (P.state pages.old).page_bytes h.fields.length))) }
     ensures why { IfErr result (SaysWhyMaking (P.state pages.new)) }
     ensures fault { (z : Sizes) (before : ℕ) (all : List ℕ) (f : FileIn (P.state pages.old) z object before all)
         → IfErr result (MayLackMemory (P.state pages.new)) }

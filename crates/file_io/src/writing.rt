@@ -1,5 +1,5 @@
 // The writing of a file.
-ghost use Rattle.std.specs.Prelude.{◌≡◌, ◌≢◌, ◌<◌, ◌≤◌, ◌+◌, ◌-◌, ◌*◌, ◌/◌, ◌%◌, ◌^◌, ℕ, List, [], true, IfOk, IfErr, OnOk, length, min};
+ghost use Rattle.std.specs.Prelude.{◌≡◌, ◌≢◌, ◌<◌, ◌≤◌, ◌+◌, ◌-◌, ◌*◌, ◌/◌, ◌%◌, ◌^◌, ◌⊎◌, ℕ, List, [], true, Some, IfOk, IfErr, OnOk, length, min};
 ghost use Rattle.page_tags.specs.Headers.{greatest_length, is_present};
 ghost use Rattle.page_tags.specs.declared.header.ObjectKind.TheVariants as kinds;
 ghost use Rattle.posix_profile.specs.Changes.{written};
@@ -7,9 +7,9 @@ ghost use Rattle.volume_terms.specs.Sizes.{Sizes};
 ghost use Rattle.pages.specs.Maps.{changed, IsOf};
 ghost use Rattle.pages.specs.Changes.{AreSized, IsChange, IsNothing, IsOnlyOf};
 ghost use Rattle.pages.specs.State.{OnlyFinds};
-ghost use Rattle.file_io.specs.Files.{Becomes, FileIn, HasFileHeader};
+ghost use Rattle.file_io.specs.Files.{Becomes, FileIn, HasFileHeader, HasPages};
 ghost use Rattle.file_io.specs.Heads.{IsHeadOf};
-ghost use Rattle.file_io.specs.Chunks.{AreOf, HoldChunks, HoldsChunk, IsAmong, IsWritten, overwritten};
+ghost use Rattle.file_io.specs.Chunks.{AreOf, HoldChunks, HoldsChunk, IsAmong, IsPartKept, IsWritten, overwritten};
 ghost use Rattle.pages.specs.Faults.{MayLackMemory, SaysWhyMaking};
 
 use crate::bits::{has_all, mark};
@@ -47,6 +47,9 @@ fn written_bytes<P: Pages>(
     ensures unasked { offset ≤ index * (P.state pages.old).page_bytes
         → index * (P.state pages.old).page_bytes + (P.state pages.old).page_bytes ≤ offset + length bytes.now
         → (P.state pages.new).asked ≡ (P.state pages.old).asked }
+    ensures told { (P.state pages.old).sound ≡ true
+        → (index * (P.state pages.old).page_bytes < offset) ⊎ (offset + length bytes.now < index * (P.state pages.old).page_bytes + (P.state pages.old).page_bytes)
+        → is_present head.now.bits.items (1 + index) ≡ true → OnOk result ((page : List ℕ) × ((P.state pages.old).present object (1 + index) ≡ Some page)) }
     ensures size { IfOk result (λ page. length page.items ≡ (P.state pages.old).page_bytes) }
     ensures holds { (z : Sizes) (moment : ℕ) (all : List ℕ) (f : FileIn (P.state pages.old) z object moment all)
         → IsHeadOf head.now f.reads.fields
@@ -85,6 +88,8 @@ fn written_pages<P: Pages>(
     ensures finds { OnlyFinds (P.state pages.old) (P.state pages.new) }
     ensures asked { (P.state pages.new).asked ≤ (P.state pages.old).asked + min 1 (offset - head.now.length)
         + min 1 (offset % (P.state pages.old).page_bytes) + min 1 ((offset + length bytes.now) % (P.state pages.old).page_bytes) }
+    ensures told { (P.state pages.old).sound ≡ true
+        → OnOk result (HasPages (P.state pages.old).present object head.now.bits.items (IsPartKept (P.state pages.old).page_bytes head.now.length offset (length bytes.now))) }
     ensures of { IfOk result (λ fresh. AreOf object (IsWritten (P.state pages.old).page_bytes head.now.length head.now.bits.items
         (offset / (P.state pages.old).page_bytes) ((offset + length bytes.now - 1) / (P.state pages.old).page_bytes + 1)) fresh.items) }
     ensures few { IfOk result (λ fresh. length fresh.items + offset / (P.state pages.old).page_bytes
@@ -142,7 +147,8 @@ pub fn write_at<P: Pages>(
     ensures asked { (z : Sizes) (before : ℕ) (all : List ℕ) (f : FileIn (P.state pages.old) z object before all)
         → (P.state pages.new).asked ≤ (P.state pages.old).asked + 1 + min 1 (offset - length all)
         + min 1 (offset % z.page_bytes) + min 1 ((offset + length bytes.now) % z.page_bytes) }
-    ensures told { (P.state pages.old).sound ≡ true → OnOk result (HasFileHeader (P.state pages.old) object) }
+    ensures told { (P.state pages.old).sound ≡ true → OnOk result ((h : HasFileHeader (P.state pages.old) object)
+        × HasPages (P.state pages.old).present object h.fields.bits (IsPartKept (P.state pages.old).page_bytes h.fields.length offset (length bytes.now))) }
     ensures why { IfErr result (SaysWhyMaking (P.state pages.new)) }
     ensures fault { (z : Sizes) (before : ℕ) (all : List ℕ) (f : FileIn (P.state pages.old) z object before all)
         → IfErr result (MayLackMemory (P.state pages.new)) }

@@ -5,7 +5,7 @@ use Rattle.pages.specs.laws.Afterwards.{finds_after}
 use Rattle.pages.specs.State.{PagesState}
 use Rattle.pages.specs.declared.change.Change.{Change}
 use Rattle.directories.specs.Directories.{DirIn}
-use Rattle.directories.proofs.Told.{sound_on, size_on, are_on, told_leads, told_none, leads_to, leads_nowhere, asked_for}
+use Rattle.directories.proofs.Told.{sound_on, size_on, are_on, told_leads, told_none, leads_to, leads_nowhere, asked_for, said_now}
 use Rattle.directories.proofs.lookup.find.Goals as goal
 
 pub returns-in_err-found-clause-asked : goal.returns-in_err-found-clause-asked
@@ -92,11 +92,11 @@ returns-in-Some-clause-told g c = λ sound z size.
     let old : PagesState = g.P.Pages.state c.args.pages.now in
     let mid : PagesState = g.P.Pages.state c.head_after.new.pages in
     let finds = c.head_after.ensures.finds in
-    told_leads old mid finds z c.args.directory c.in_ok-head.head (c.in_ok-head.ensures.told sound) c.args.name.now c.in-Some.found (rw c.in-Some.is at (c.in_ok-found.ensures.told (finds.sound ∙ sound) z (size ∙ sym finds.page_bytes)))
+    told_leads old mid finds z c.args.directory c.in_ok-head.head (said_now old c.args.directory c.in_ok-head.head (c.in_ok-head.ensures.told sound)) c.args.name.now c.in-Some.found (rw c.in-Some.is at (c.in_ok-found.ensures.told (finds.sound ∙ sound) z (size ∙ sym finds.page_bytes)))
 
 pub returns-in-None-clause-told : goal.returns-in-None-clause-told
 returns-in-None-clause-told g c = λ sound z size.
     let old : PagesState = g.P.Pages.state c.args.pages.now in
     let mid : PagesState = g.P.Pages.state c.head_after.new.pages in
     let finds = c.head_after.ensures.finds in
-    told_none old mid finds z c.args.directory c.in_ok-head.head (c.in_ok-head.ensures.told sound) c.args.name.now (rw c.in-None.is at (c.in_ok-found.ensures.told (finds.sound ∙ sound) z (size ∙ sym finds.page_bytes)))
+    told_none old mid finds z c.args.directory c.in_ok-head.head (said_now old c.args.directory c.in_ok-head.head (c.in_ok-head.ensures.told sound)) c.args.name.now (rw c.in-None.is at (c.in_ok-found.ensures.told (finds.sound ∙ sound) z (size ∙ sym finds.page_bytes)))

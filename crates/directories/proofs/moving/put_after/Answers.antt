@@ -14,8 +14,8 @@ use Rattle.directories.specs.Slots.{AreSlots}
 use Rattle.directories.specs.Writes.{HasHead, KeepsSlots}
 use Rattle.directories.specs.declared.head.DirectoryHead.{DirectoryHead}
 use Rattle.directories.proofs.Changed.{reads_put, reads_added}
-use Rattle.directories.proofs.Results.{on_ok, on_err, lacks_room}
-use Rattle.directories.proofs.Told.{sound_on, size_on, are_on, head_says, length_is, count_is, located, leads_nowhere, asked_for, asked_more}
+use Rattle.directories.proofs.Results.{always, on_ok, on_err, lacks_room}
+use Rattle.directories.proofs.Told.{sound_on, size_on, are_on, head_says, length_is, count_is, located, leads_nowhere, asked_for, asked_more, told_of}
 use Rattle.directories.proofs.moving.put_after.Goals as goal
 
 pub returns-in_err-found-clause-asked : goal.returns-in_err-found-clause-asked
@@ -162,3 +162,21 @@ returns-in-None-clause-puts g c = λ z moment entries d.
     (subst (λ (k : PageMap). KeepsSlots z (changed_by e k) (changed change (changed_by e k)) c.args.directory n n) all w.2) in
     reads_added z m (changed change m) c.args.directory moment c.args.moment entries d.reads head header says.spare refl (omega (arith, len)) (entry_of c.args.slot.now) absent slot kept)
     (c.push_slot.ensures.pushes (next.sound ∙ sound_on p q finds z c.args.directory moment entries here sized c.in_ok-head.head s) z (size_on p q finds z c.args.directory moment entries here sized c.in_ok-head.head s ∙ sym next.page_bytes))
+
+pub returns-in-Some-clause-told : goal.returns-in-Some-clause-told
+returns-in-Some-clause-told g c = λ sound z size.
+    let old : PagesState = g.P.Pages.state c.args.pages.now in
+    let e : Option Change = option_copied c.args.earlier in
+    let mid : PagesState = g.P.Pages.state c.head_after.new.pages in
+    let finds = finds_after e old mid c.head_after.ensures.finds in
+    always c.write.result (told_of (after e old) (after e mid) finds z c.args.directory c.in_ok-head.head (c.in_ok-head.ensures.told sound) c.args.slot.now.name.now c.in_ok-found.found
+    (c.in_ok-found.ensures.told (finds.sound ∙ sound) z (size ∙ sym finds.page_bytes)))
+
+pub returns-in-None-clause-told : goal.returns-in-None-clause-told
+returns-in-None-clause-told g c = λ sound z size.
+    let old : PagesState = g.P.Pages.state c.args.pages.now in
+    let e : Option Change = option_copied c.args.earlier in
+    let mid : PagesState = g.P.Pages.state c.head_after.new.pages in
+    let finds = finds_after e old mid c.head_after.ensures.finds in
+    always c.push_slot.result (told_of (after e old) (after e mid) finds z c.args.directory c.in_ok-head.head (c.in_ok-head.ensures.told sound) c.args.slot.now.name.now c.in_ok-found.found
+    (c.in_ok-found.ensures.told (finds.sound ∙ sound) z (size ∙ sym finds.page_bytes)))

@@ -1,4 +1,4 @@
-use Rattle.std.proofs.Common.{◌≡◌, ◌∙◌, Some, None, sym, subst, arith}
+use Rattle.std.proofs.Common.{◌≡◌, ◌∙◌, Some, None, ap, sym, subst, arith}
 use Rattle.std.proofs.lemmas.Result.{err_from_is_err_and}
 use Rattle.std.specs.FinMap as map
 use Rattle.pages.specs.Afterwards.{after}
@@ -10,6 +10,7 @@ use Rattle.pages.specs.declared.change.Change.{Change}
 use Rattle.posix_profile.specs.State.{Entries}
 use Rattle.directories.specs.Directories.{DirIn, ReadsAs}
 use Rattle.directories.proofs.Changed.{reads_kept}
+use Rattle.directories.proofs.Moves.{read_then, read_besides, told_there}
 use Rattle.directories.proofs.Results.{memory_room}
 use Rattle.directories.proofs.moving.rename_between.Goals as goal
 
@@ -113,3 +114,62 @@ returns-clause-gives g c = λ z moment entries d.
     subst (λ (m : PageMap). ReadsAs z m c.args.route.target c.args.moment now d.reads.fields.spare) both
     (subst (λ (k : PageMap). ReadsAs z (changed second (changed first k)) c.args.route.target c.args.moment now d.reads.fields.spare) finds.present
     (subst (λ n. ReadsAs z (changed second (changed first mid.present)) c.args.route.target c.args.moment now n) spare puts))
+
+pub returns-in_err-first-clause-asked : goal.returns-in_err-first-clause-asked
+returns-in_err-first-clause-asked g c = λ z s t left entries source target.
+    let old : PagesState = g.P.Pages.state c.args.pages.now in
+    let here : DirIn (after None old) z c.args.route.source s left = record { sound = source.sound; size = source.size; reads = source.reads } in
+    omega (arith, c.remove_after.ensures.asked z s left here)
+
+pub returns-in_default-clause-asked : goal.returns-in_default-clause-asked
+returns-in_default-clause-asked g c = λ z s t left entries source target.
+    let old : PagesState = g.P.Pages.state c.args.pages.now in
+    let here : DirIn (after None old) z c.args.route.source s left = record { sound = source.sound; size = source.size; reads = source.reads } in
+    omega (arith, c.remove_after.ensures.asked z s left here)
+
+pub returns-in_err-second-clause-asked : goal.returns-in_err-second-clause-asked
+returns-in_err-second-clause-asked g c = λ z s t left entries source target.
+    let old : PagesState = g.P.Pages.state c.args.pages.now in
+    let mid : PagesState = g.P.Pages.state c.remove_after.new.pages in
+    let here : DirIn (after None old) z c.args.route.source s left = record { sound = source.sound; size = source.size; reads = source.reads } in
+    let only : IsOnlyOf c.in-Some.first c.args.route.source = rw c.in-Some.is at c.in_ok-first.ensures.only in
+    let kept = read_besides c.in-Some.first c.args.route.source only old.present z c.args.route.target t entries c.requires.apart target.reads in
+    let then_dir = read_then old mid c.remove_after.ensures.finds c.in-Some.first z c.args.route.target t entries target.reads.fields.spare target.sound target.size kept in
+    omega (arith, c.remove_after.ensures.asked z s left here, c.put_after.ensures.asked z t entries then_dir)
+
+pub returns-in_err-change-clause-asked : goal.returns-in_err-change-clause-asked
+returns-in_err-change-clause-asked g c = λ z s t left entries source target.
+    let old : PagesState = g.P.Pages.state c.args.pages.now in
+    let mid : PagesState = g.P.Pages.state c.remove_after.new.pages in
+    let here : DirIn (after None old) z c.args.route.source s left = record { sound = source.sound; size = source.size; reads = source.reads } in
+    let only : IsOnlyOf c.in-Some.first c.args.route.source = rw c.in-Some.is at c.in_ok-first.ensures.only in
+    let kept = read_besides c.in-Some.first c.args.route.source only old.present z c.args.route.target t entries c.requires.apart target.reads in
+    let then_dir = read_then old mid c.remove_after.ensures.finds c.in-Some.first z c.args.route.target t entries target.reads.fields.spare target.sound target.size kept in
+    omega (arith, c.remove_after.ensures.asked z s left here, c.put_after.ensures.asked z t entries then_dir)
+
+pub returns-clause-asked : goal.returns-clause-asked
+returns-clause-asked g c = λ z s t left entries source target.
+    let old : PagesState = g.P.Pages.state c.args.pages.now in
+    let mid : PagesState = g.P.Pages.state c.remove_after.new.pages in
+    let here : DirIn (after None old) z c.args.route.source s left = record { sound = source.sound; size = source.size; reads = source.reads } in
+    let only : IsOnlyOf c.in-Some.first c.args.route.source = rw c.in-Some.is at c.in_ok-first.ensures.only in
+    let kept = read_besides c.in-Some.first c.args.route.source only old.present z c.args.route.target t entries c.requires.apart target.reads in
+    let then_dir = read_then old mid c.remove_after.ensures.finds c.in-Some.first z c.args.route.target t entries target.reads.fields.spare target.sound target.size kept in
+    omega (arith, c.remove_after.ensures.asked z s left here, c.put_after.ensures.asked z t entries then_dir)
+
+pub returns-clause-target : goal.returns-clause-target
+returns-clause-target g c = λ sound z size.
+    let old : PagesState = g.P.Pages.state c.args.pages.now in
+    let mid : PagesState = g.P.Pages.state c.remove_after.new.pages in
+    let finds = c.remove_after.ensures.finds in
+    let first : Change = c.in-Some.first in
+    let only : IsOnlyOf first c.args.route.source = rw c.in-Some.is at c.in_ok-first.ensures.only in
+    told_there old (after (Some first) mid) z c.args.route.target finds.page_bytes
+    (λ k. sym (ap (λ (m : PageMap). changed first m c.args.route.target k) finds.present ∙ others_keep first c.args.route.source only old.present c.args.route.target k (λ same. c.requires.apart (sym same))))
+    c.args.to.now.name.now (c.in_ok-second.ensures.told (finds.sound ∙ sound) z (size ∙ sym finds.page_bytes))
+
+pub returns-in_default-clause-told : goal.returns-in_default-clause-told
+returns-in_default-clause-told g c = λ sound z size. rw c.in_default.is at (c.in_ok-first.ensures.told sound z size)
+
+pub returns-clause-told : goal.returns-clause-told
+returns-clause-told g c = λ sound z size. let t = rw c.in-Some.is at (c.in_ok-first.ensures.told sound z size) in (t.0, t.1)

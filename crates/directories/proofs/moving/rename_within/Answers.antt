@@ -9,6 +9,7 @@ use Rattle.pages.specs.State.{PagesState}
 use Rattle.pages.specs.declared.change.Change.{Change}
 use Rattle.posix_profile.specs.State.{Entries}
 use Rattle.directories.specs.Directories.{DirIn, ReadsAs}
+use Rattle.directories.proofs.Moves.{read_then}
 use Rattle.directories.proofs.Results.{memory_room}
 use Rattle.directories.proofs.moving.rename_within.Goals as goal
 
@@ -96,3 +97,48 @@ returns-clause-moves g c = λ z moment entries d.
     subst (λ (m : PageMap). ReadsAs z m c.args.directory c.args.moment now d.reads.fields.spare) both
     (subst (λ (k : PageMap). ReadsAs z (changed second (changed first k)) c.args.directory c.args.moment now d.reads.fields.spare) finds.present
     (subst (λ n. ReadsAs z (changed second (changed first mid.present)) c.args.directory c.args.moment now n) spare puts))
+
+pub returns-in_err-first-clause-asked : goal.returns-in_err-first-clause-asked
+returns-in_err-first-clause-asked g c = λ z moment entries d.
+    let old : PagesState = g.P.Pages.state c.args.pages.now in
+    let here : DirIn (after None old) z c.args.directory moment entries = record { sound = d.sound; size = d.size; reads = d.reads } in
+    omega (arith, c.remove_after.ensures.asked z moment entries here)
+
+pub returns-in_default-clause-asked : goal.returns-in_default-clause-asked
+returns-in_default-clause-asked g c = λ z moment entries d.
+    let old : PagesState = g.P.Pages.state c.args.pages.now in
+    let here : DirIn (after None old) z c.args.directory moment entries = record { sound = d.sound; size = d.size; reads = d.reads } in
+    omega (arith, c.remove_after.ensures.asked z moment entries here)
+
+pub returns-in_err-second-clause-asked : goal.returns-in_err-second-clause-asked
+returns-in_err-second-clause-asked g c = λ z moment entries d.
+    let old : PagesState = g.P.Pages.state c.args.pages.now in
+    let mid : PagesState = g.P.Pages.state c.remove_after.new.pages in
+    let here : DirIn (after None old) z c.args.directory moment entries = record { sound = d.sound; size = d.size; reads = d.reads } in
+    let less = rw c.in-Some.is at (c.in_ok-first.ensures.removes z moment entries here) in
+    let then_dir = read_then old mid c.remove_after.ensures.finds c.in-Some.first z c.args.directory c.args.moment (map.remove entries c.args.from.now) d.reads.fields.spare d.sound d.size less in
+    omega (arith, c.remove_after.ensures.asked z moment entries here, c.put_after.ensures.asked z c.args.moment (map.remove entries c.args.from.now) then_dir)
+
+pub returns-in_err-change-clause-asked : goal.returns-in_err-change-clause-asked
+returns-in_err-change-clause-asked g c = λ z moment entries d.
+    let old : PagesState = g.P.Pages.state c.args.pages.now in
+    let mid : PagesState = g.P.Pages.state c.remove_after.new.pages in
+    let here : DirIn (after None old) z c.args.directory moment entries = record { sound = d.sound; size = d.size; reads = d.reads } in
+    let less = rw c.in-Some.is at (c.in_ok-first.ensures.removes z moment entries here) in
+    let then_dir = read_then old mid c.remove_after.ensures.finds c.in-Some.first z c.args.directory c.args.moment (map.remove entries c.args.from.now) d.reads.fields.spare d.sound d.size less in
+    omega (arith, c.remove_after.ensures.asked z moment entries here, c.put_after.ensures.asked z c.args.moment (map.remove entries c.args.from.now) then_dir)
+
+pub returns-clause-asked : goal.returns-clause-asked
+returns-clause-asked g c = λ z moment entries d.
+    let old : PagesState = g.P.Pages.state c.args.pages.now in
+    let mid : PagesState = g.P.Pages.state c.remove_after.new.pages in
+    let here : DirIn (after None old) z c.args.directory moment entries = record { sound = d.sound; size = d.size; reads = d.reads } in
+    let less = rw c.in-Some.is at (c.in_ok-first.ensures.removes z moment entries here) in
+    let then_dir = read_then old mid c.remove_after.ensures.finds c.in-Some.first z c.args.directory c.args.moment (map.remove entries c.args.from.now) d.reads.fields.spare d.sound d.size less in
+    omega (arith, c.remove_after.ensures.asked z moment entries here, c.put_after.ensures.asked z c.args.moment (map.remove entries c.args.from.now) then_dir)
+
+pub returns-in_default-clause-told : goal.returns-in_default-clause-told
+returns-in_default-clause-told g c = λ sound z size. rw c.in_default.is at (c.in_ok-first.ensures.told sound z size)
+
+pub returns-clause-told : goal.returns-clause-told
+returns-clause-told g c = λ sound z size. let t = rw c.in-Some.is at (c.in_ok-first.ensures.told sound z size) in (t.0, t.1)

@@ -13,7 +13,7 @@ use Rattle.directories.specs.Slots.{AreSlots}
 use Rattle.directories.specs.Writes.{LosesSlot}
 use Rattle.directories.specs.declared.head.DirectoryHead.{DirectoryHead}
 use Rattle.directories.proofs.Changed.{reads_fewer}
-use Rattle.directories.proofs.Told.{few, sound_on, size_on, are_on, head_says, length_is, located, leads_to, leads_nowhere, asked_for, asked_more}
+use Rattle.directories.proofs.Told.{few, sound_on, size_on, are_on, head_says, length_is, located, leads_to, leads_nowhere, asked_for, asked_more, told_leads, told_none}
 use Rattle.directories.proofs.removal.remove_after.Goals as goal
 
 less_one : (place length : ℕ) → place < length → place ≤ length - 1
@@ -161,3 +161,23 @@ returns-clause-removes g c = λ z moment entries d.
     subst (λ k. ReadsAs z (changed c.in_ok-change.change m) c.args.directory c.args.moment (map.remove entries k) d.reads.fields.spare) at.2
     (reads_fewer z m (changed c.in_ok-change.change m) c.args.directory moment c.args.moment entries d.reads head loses.header says.spare refl (few p q finds z c.args.directory moment entries here sized c.in_ok-head.head s)
     (omega (arith, length_is p q finds z c.args.directory moment entries here sized c.in_ok-head.head s, within)) c.in-Some.found.place at.0 at.1 loses.filled loses.others)
+
+pub returns-in_default-clause-told : goal.returns-in_default-clause-told
+returns-in_default-clause-told g c = λ sound z size.
+    let old : PagesState = g.P.Pages.state c.args.pages.now in
+    let e : Option Change = option_copied c.args.earlier in
+    let mid : PagesState = g.P.Pages.state c.head_after.new.pages in
+    let finds = finds_after e old mid c.head_after.ensures.finds in
+    told_none (after e old) (after e mid) finds z c.args.directory c.in_ok-head.head (c.in_ok-head.ensures.told sound) c.args.name.now
+    (rw c.in_default.is at (c.in_ok-found.ensures.told (finds.sound ∙ sound) z (size ∙ sym finds.page_bytes)))
+
+pub returns-clause-told : goal.returns-clause-told
+returns-clause-told g c = λ sound z size.
+    let old : PagesState = g.P.Pages.state c.args.pages.now in
+    let e : Option Change = option_copied c.args.earlier in
+    let mid : PagesState = g.P.Pages.state c.head_after.new.pages in
+    let finds = finds_after e old mid c.head_after.ensures.finds in (
+      c.in-Some.found.object,
+      told_leads (after e old) (after e mid) finds z c.args.directory c.in_ok-head.head (c.in_ok-head.ensures.told sound) c.args.name.now c.in-Some.found
+          (rw c.in-Some.is at (c.in_ok-found.ensures.told (finds.sound ∙ sound) z (size ∙ sym finds.page_bytes))),
+    )

@@ -13,7 +13,7 @@ use Rattle.directories.specs.Slots.{AreSlots}
 use Rattle.directories.specs.Writes.{HasHead, KeepsSlots}
 use Rattle.directories.specs.declared.head.DirectoryHead.{DirectoryHead}
 use Rattle.directories.proofs.Changed.{reads_put}
-use Rattle.directories.proofs.Told.{sound_on, size_on, are_on, head_says, length_is, located, leads_to, leads_nowhere, asked_for, asked_more}
+use Rattle.directories.proofs.Told.{sound_on, size_on, are_on, head_says, length_is, located, leads_to, leads_nowhere, asked_for, asked_more, told_leads, told_none, said_now}
 use Rattle.directories.proofs.replacement.replace.Goals as goal
 
 pub write-requires-clause-within : goal.write-requires-clause-within
@@ -155,3 +155,21 @@ returns-clause-replaces g c = λ z moment entries d.
     let kept = subst (λ k. KeepsSlots z m (changed c.in_ok-change.change m) c.args.directory k place) count
     (subst (λ (k : PageMap). KeepsSlots z k (changed c.in_ok-change.change k) c.args.directory (min c.in_ok-head.head.length c.in_ok-head.head.length) place) all w.2) in
     reads_put z m (changed c.in_ok-change.change m) c.args.directory moment c.args.moment entries d.reads head header says.spare refl len place at.0 at.1 (entry_of c.args.slot.now) (sym at.2) slot kept
+
+pub returns-in_default-clause-told : goal.returns-in_default-clause-told
+returns-in_default-clause-told g c = λ sound z size.
+    let old : PagesState = g.P.Pages.state c.args.pages.now in
+    let mid : PagesState = g.P.Pages.state c.head_after.new.pages in
+    let finds = c.head_after.ensures.finds in
+    told_none old mid finds z c.args.directory c.in_ok-head.head (said_now old c.args.directory c.in_ok-head.head (c.in_ok-head.ensures.told sound)) c.args.slot.now.name.now
+    (rw c.in_default.is at (c.in_ok-found.ensures.told (finds.sound ∙ sound) z (size ∙ sym finds.page_bytes)))
+
+pub returns-clause-told : goal.returns-clause-told
+returns-clause-told g c = λ sound z size.
+    let old : PagesState = g.P.Pages.state c.args.pages.now in
+    let mid : PagesState = g.P.Pages.state c.head_after.new.pages in
+    let finds = c.head_after.ensures.finds in (
+      c.in-Some.found.object,
+      told_leads old mid finds z c.args.directory c.in_ok-head.head (said_now old c.args.directory c.in_ok-head.head (c.in_ok-head.ensures.told sound)) c.args.slot.now.name.now c.in-Some.found
+          (rw c.in-Some.is at (c.in_ok-found.ensures.told (finds.sound ∙ sound) z (size ∙ sym finds.page_bytes))),
+    )

@@ -1,13 +1,15 @@
-use Rattle.std.proofs.Common.{◌≡◌, ◌⊎◌, ◌<◌, ◌≤◌, ◌+◌, ◌-◌, ◌*◌, ◌/◌, ◌^◌, ◌∙◌, ℕ, List, cond, refl, ap, sym, subst, take, drop, length, min, arith, rules}
+use Rattle.std.proofs.Common.{◌≡◌, ◌⊎◌, ◌<◌, ◌≤◌, ◌+◌, ◌-◌, ◌*◌, ◌/◌, ◌^◌, ◌∙◌, ℕ, List, cond, refl, ap, sym, subst, take, drop, length, min, Some, arith, rules}
 use Rattle.std.proofs.lemmas.Result.{err_from_is_err_and}
 use Rattle.pages.specs.State.{PagesState}
 use Rattle.pages.specs.laws.State.{finds_on}
 use Rattle.page_tags.specs.Headers.{IsHeader, is_present}
-use Rattle.file_io.specs.Files.{fields_in}
-use Rattle.file_io.specs.Chunks.{count_present}
+use Rattle.pages.specs.Maps.{PageMap}
+use Rattle.file_io.specs.Files.{HasPages, fields_in}
+use Rattle.file_io.specs.Chunks.{HasByte, count_present}
 use Rattle.file_io.specs.Parts.{AppendsPart}
 use Rattle.file_io.proofs.FilePages.{later}
 use Rattle.file_io.proofs.HeadBits.{small_length}
+use Rattle.file_io.proofs.KeptPages.{IsThere, there_next, read_pages, read_no_pages, reach}
 use Rattle.file_io.proofs.Ranges.{present_more, next_part, begins_before, ends_behind, ends_at, range_end, read_none, read_len, read_all, asked_for, chunks_order}
 use Rattle.file_io.proofs.reading.read_at.Goals as goal
 
@@ -54,6 +56,9 @@ loop-index-preserved g c =
       finds = finds_on _ _ _ c.loop-index.invariant.finds c.read_part.ensures.finds;
       asked = step (g.P.Pages.state c.read_head.new.pages).asked now.asked (g.P.Pages.state c.read_part.new.pages).asked c.in_ok-head.head.bits.items c.deref.result.now (c.args.offset / d) c.loop-index.index
           c.deref.ensures.value low c.loop-index.invariant.asked c.read_part.ensures.asked;
+      told = λ sound. there_next old.present c.args.object c.in_ok-head.head.bits.items (c.args.offset / d) c.loop-index.index (c.loop-index.invariant.told sound) (λ set.
+          let p = c.in_ok-read_part.ensures.told (c.loop-index.invariant.finds.sound ∙ sound) (ap (λ (xs : List ℕ). is_present xs (1 + c.loop-index.index)) c.deref.ensures.value ∙ set) in
+          (p.0, subst (λ (m : PageMap). m c.args.object (1 + c.loop-index.index) ≡ Some p.0) c.loop-index.invariant.finds.present p.1));
       read = λ z moment all f.
           let head = c.in_ok-head.ensures.head z moment all f in
           let end : c.min-end.result ≤ c.in_ok-head.head.length = search rules in
@@ -118,3 +123,33 @@ returns-clause-asked g c = λ z moment all f.
     let few = asked_for c.in_ok-head.head.bits.items f.reads.fields.bits d z.page_bytes c.args.offset c.min-end.result (length (take c.args.count (drop c.args.offset all))) (c.loop-index.index - c.args.offset / d)
     head.bits (size ∙ sym f.size) c.if-end-offset.false (read_len c.args.offset c.args.count c.min-end.result all is c.if-end-offset.false) (omega (arith, up)) in
     omega (arith, c.loop-index.invariant.asked, c.read_head.ensures.asked, few)
+
+-- how far the range reaches, by the header
+reach_of : (old len of_file off count sum end : ℕ) (moment : ℕ) (bits : List ℕ) → old ≤ 4096 → IsHeader old (fields_in len moment bits) → len ≡ of_file → end ≡ min len sum → sum ≡ min (off + count) (2 ^ 64 - 1) → min of_file (off + count) ≤ end
+reach_of old len of_file off count sum end moment bits most valid same cut is =
+    let small : len ≤ 2 ^ 28 = small_length old len moment bits most valid in
+    reach of_file off count end (cut ∙ ap (λ n. min n sum) same ∙ ap (min of_file) is) (omega (arith, small, same))
+
+pub returns-then-end-offset-clause-told : goal.returns-then-end-offset-clause-told
+returns-then-end-offset-clause-told g c = λ sound.
+    let old : PagesState = g.P.Pages.state c.args.pages.now in
+    let s = c.in_ok-head.ensures.told sound in
+    let size : c.from-page_bytes.result ≡ old.page_bytes = c.from-page_bytes.ensures ∙ c.page_bytes.ensures.bytes ∙ c.read_head.ensures.finds.page_bytes in
+    let within = reach_of old.page_bytes c.in_ok-head.head.length s.0.fields.length c.args.offset c.args.count c.saturating_add.result c.min-end.result c.in_ok-head.head.moment c.in_ok-head.head.bits.items
+    (omega (arith, c.from-page_bytes.ensures, c.page_bytes.ensures.most, size)) c.in_ok-head.ensures.valid s.1.length_is c.min-end.ensures c.saturating_add.ensures in
+    (s.0, read_no_pages old.present c.args.object s.0.fields.bits old.page_bytes s.0.fields.length c.args.offset c.args.count c.min-end.result within c.if-end-offset.true)
+
+pub returns-clause-told : goal.returns-clause-told
+returns-clause-told g c = λ sound.
+    let d : ℕ = c.from-page_bytes.result in
+    let old : PagesState = g.P.Pages.state c.args.pages.now in
+    let s = c.in_ok-head.ensures.told sound in
+    let size : d ≡ old.page_bytes = c.from-page_bytes.ensures ∙ c.page_bytes.ensures.bytes ∙ c.read_head.ensures.finds.page_bytes in
+    let within = reach_of old.page_bytes c.in_ok-head.head.length s.0.fields.length c.args.offset c.args.count c.saturating_add.result c.min-end.result c.in_ok-head.head.moment c.in_ok-head.head.bits.items
+    (omega (arith, c.from-page_bytes.ensures, c.page_bytes.ensures.most, size)) c.in_ok-head.ensures.valid s.1.length_is c.min-end.ensures c.saturating_add.ensures in
+    let past : (c.min-end.result - 1) / d + 1 ≤ c.loop-index.index = c.loop-index-test.false in (
+      s.0,
+      subst (λ n. HasPages old.present c.args.object s.0.fields.bits (HasByte n c.args.offset (min s.0.fields.length (c.args.offset + c.args.count)))) size
+          (read_pages old.present c.args.object s.0.fields.bits d s.0.fields.length c.args.offset c.args.count c.min-end.result within
+          (λ k low less. subst (λ (xs : List ℕ). IsThere old.present c.args.object xs k) s.1.bits (c.loop-index.invariant.told sound k low (omega (arith, less, past))))),
+    )

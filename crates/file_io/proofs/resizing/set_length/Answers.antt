@@ -1,4 +1,4 @@
-use Rattle.std.proofs.Common.{◌≡◌, ◌≤◌, ◌+◌, ◌-◌, ◌*◌, ◌/◌, ◌++◌, ◌∙◌, ℕ, List, [], ◌∷◌, min, inl, inr, sym, ap, subst, length, arith, rules}
+use Rattle.std.proofs.Common.{◌≡◌, ◌<◌, ◌≤◌, ◌+◌, ◌-◌, ◌*◌, ◌/◌, ◌++◌, ◌∙◌, ℕ, List, [], ◌∷◌, min, inl, inr, sym, ap, subst, length, arith, rules}
 use Rattle.std.proofs.lemmas.Bool.{cases_lt}
 use Rattle.std.proofs.lemmas.List.{length-append, with_items_is, places}
 use Rattle.std.proofs.lemmas.Result.{err_from_is_err_and}
@@ -10,6 +10,7 @@ use Rattle.flash_tree.specs.declared.place.FreshPage.{FreshPage}
 use Rattle.file_io.specs.Files.{fields_in}
 use Rattle.file_io.specs.Chunks.{AreOf, HoldChunks, IsTail}
 use Rattle.file_io.proofs.FilePages.{later}
+use Rattle.file_io.proofs.KeptPages.{last_at_entry, grows_past}
 use Rattle.file_io.proofs.PageLists.{each_push}
 use Rattle.file_io.proofs.WholeWrites.{only_of, OrHeader, header_push}
 use Rattle.file_io.proofs.Resized.{resize_same, resize_new, resize_valid}
@@ -157,3 +158,26 @@ returns-clause-change g c =
           (each_push (λ i p. length p.bytes.items ≡ old.page_bytes) pages q (subst (AreSized pages) same c.in_ok-change.ensures.sized) (λ i. size));
       few = omega (arith, long, c.in_ok-change.ensures.few);
     }
+
+pub returns-then-head-moment-clause-told : goal.returns-then-head-moment-clause-told
+returns-then-head-moment-clause-told g c = λ sound.
+    let s = c.in_ok-head.ensures.told sound in
+    (s.0, λ more. absurd (omega (arith, more, s.1.length_is, c.if-head-len.true)))
+
+pub returns-clause-told : goal.returns-clause-told
+returns-clause-told g c = λ sound.
+    let old : PagesState = g.P.Pages.state c.args.pages.now in
+    let now : PagesState = g.P.Pages.state c.read_head.new.pages in
+    let d : ℕ = c.from-size.result in
+    let finds = c.read_head.ensures.finds in
+    let size_now : d ≡ now.page_bytes = c.from-size.ensures ∙ c.page_bytes-page_bytes.ensures.bytes in
+    let some : 1 ≤ d = omega (arith, c.from-size.ensures, c.page_bytes-page_bytes.ensures.least) in
+    let s = c.in_ok-head.ensures.told sound in (
+      s.0,
+      λ more.
+          let grows : c.in_ok-head.head.length < c.args.len = omega (arith, more, s.1.length_is) in
+          let limit : c.tail_limit-limit.result ≡ (c.args.len + d - 1) / d = c.tail_limit-limit.ensures.grows grows in
+          let before : c.in_ok-head.head.length / now.page_bytes < c.tail_limit-limit.result =
+          subst (λ x. c.in_ok-head.head.length / x < c.tail_limit-limit.result) size_now (subst (λ n. c.in_ok-head.head.length / d < n) (sym limit) (grows_past d c.in_ok-head.head.length c.args.len some grows)) in
+          last_at_entry old now finds c.args.object c.in_ok-head.head s (c.in_ok-change.ensures.told (finds.sound ∙ sound) before),
+    )

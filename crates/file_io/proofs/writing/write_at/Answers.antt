@@ -12,6 +12,7 @@ use Rattle.file_io.specs.Files.{Becomes, fields_in}
 use Rattle.file_io.specs.Chunks.{AreOf, HoldChunks, IsAmong, IsWritten}
 use Rattle.file_io.proofs.FilePages.{later}
 use Rattle.file_io.proofs.Filling.{among_chunks}
+use Rattle.file_io.proofs.KeptPages.{kept_at_entry, kept_none}
 use Rattle.file_io.proofs.PageLists.{each_push}
 use Rattle.file_io.proofs.WholeWrites.{write_valid, chunks_few, only_of, no_cuts, OrHeader, header_push, write_same, write_new}
 use Rattle.file_io.proofs.writing.write_at.Goals as goal
@@ -226,3 +227,22 @@ returns-clause-quiet g c = λ z before all f when fits set i is.
       | else-head-moment-via-then-head-moment+else-to-head w ↦ absurd (omega (arith, w.if-to-head.false, fits, head.length_is, f.reads.size))
       | else-head-moment-via-else-head-moment w ↦ absurd (w.if-head-moment.false (head.moment ∙ f.reads.when ∙ sym when))
     ]
+
+pub returns-then-has_all-clause-told : goal.returns-then-has_all-clause-told
+returns-then-has_all-clause-told g c = λ sound.
+    let finds = c.read_head.ensures.finds in
+    kept_at_entry (g.P.Pages.state c.args.pages.now) (g.P.Pages.state c.read_head.new.pages) finds c.args.object c.in_ok-head.head (c.in_ok-head.ensures.told sound) c.args.offset (length c.args.bytes.now)
+    (c.in_ok-change.ensures.told (finds.sound ∙ sound))
+
+pub returns-clause-told : goal.returns-clause-told
+returns-clause-told g c = λ sound.
+    let finds = c.read_head.ensures.finds in
+    kept_at_entry (g.P.Pages.state c.args.pages.now) (g.P.Pages.state c.read_head.new.pages) finds c.args.object c.in_ok-head.head (c.in_ok-head.ensures.told sound) c.args.offset (length c.args.bytes.now)
+    (c.in_ok-change.ensures.told (finds.sound ∙ sound))
+
+pub returns-then-is_empty-clause-told : goal.returns-then-is_empty-clause-told
+returns-then-is_empty-clause-told g c = λ sound.
+    let old : PagesState = g.P.Pages.state c.args.pages.now in
+    let s = c.in_ok-head.ensures.told sound in
+    let none : length c.args.bytes.now ≡ 0 = search rules in
+    (s.0, kept_none old.present c.args.object s.0.fields.bits old.page_bytes s.0.fields.length c.args.offset (length c.args.bytes.now) none)

@@ -1,4 +1,4 @@
-use Rattle.std.proofs.Common.{◌≡◌, ◌≤◌, ◌<◌, ◌+◌, ◌-◌, ◌*◌, ◌/◌, ◌%◌, ◌++◌, ◌∙◌, ℕ, List, [], ◌∷◌, min, inl, refl, sym, ap, subst, length, arith}
+use Rattle.std.proofs.Common.{◌≡◌, ◌⊎◌, ◌≤◌, ◌<◌, ◌+◌, ◌-◌, ◌*◌, ◌/◌, ◌%◌, ◌++◌, ◌∙◌, ℕ, List, [], ◌∷◌, min, Some, inl, refl, sym, ap, subst, length, arith}
 use Rattle.std.proofs.lemmas.List.{length-append}
 use Rattle.std.proofs.lemmas.Result.{err_from_is_err_and}
 use Rattle.posix_profile.specs.Changes.{written}
@@ -6,9 +6,12 @@ use Rattle.pages.specs.Changes.{AreSized}
 use Rattle.pages.specs.State.{PagesState}
 use Rattle.pages.specs.laws.State.{finds_on}
 use Rattle.flash_tree.specs.declared.place.FreshPage.{FreshPage}
-use Rattle.file_io.specs.Chunks.{AreOf, HoldsChunk, HoldChunks, IsTail, IsWritten}
+use Rattle.file_io.specs.Chunks.{AreOf, HoldsChunk, HoldChunks, IsPartKept, IsPartLast, IsTail, IsWritten}
+use Rattle.pages.specs.Maps.{PageMap}
+use Rattle.file_io.specs.Files.{HasPages}
 use Rattle.file_io.proofs.FilePages.{later}
 use Rattle.file_io.proofs.Filling.{tail_before, among_none, among_more, among_this, among_only, among_fresh, asked_tail, asked_more}
+use Rattle.file_io.proofs.KeptPages.{there_more, kept_pages}
 use Rattle.file_io.proofs.PageLists.{each_push, of_push, of_same, hold_push, of_chunk}
 use Rattle.file_io.proofs.Ranges.{chunks_order}
 use Rattle.file_io.proofs.writing.written_pages.Goals as goal
@@ -42,6 +45,7 @@ loop-index-init g c =
     record {
       finds = c.tail_pages.ensures.finds;
       asked = omega (arith, tail);
+      told = λ sound k low less. absurd (omega (arith, low, less));
       of = of_same c.args.object (IsTail d len bits first) (IsWritten d len bits first first) fresh (λ k is. inl is) (λ k. among_none d len bits first k) of;
       few = omega (arith, c.in_ok-fresh.ensures.few);
       sized = subst (AreSized fresh) (sym size_old) c.in_ok-fresh.ensures.sized;
@@ -113,6 +117,10 @@ loop-index-preserved g c =
       asked = asked_more d c.args.offset (length c.args.bytes.now) k (old.asked + min 1 (c.args.offset - len)) now.asked (g.P.Pages.state c.written_bytes.new.pages).asked
           (omega (arith, c.from-page_bytes.ensures, c.page_bytes.ensures.least)) c.requires.some low c.loop-index-test.true c.written_bytes.ensures.asked
           (λ a b. c.written_bytes.ensures.unasked (subst (λ x. c.args.offset ≤ k * x) size_now a) (subst (λ x. k * x + x ≤ c.args.offset + length c.args.bytes.now) size_now b)) c.loop-index.invariant.asked;
+      told = λ sound. there_more old.present o bits (λ i. (i * d < c.args.offset) ⊎ (c.args.offset + length c.args.bytes.now < i * d + d)) first k (c.loop-index.invariant.told sound) (λ part set.
+          let p = c.in_ok-page.ensures.told (c.loop-index.invariant.finds.sound ∙ sound)
+          (subst (λ x. (k * x < c.args.offset) ⊎ (c.args.offset + length c.args.bytes.now < k * x + x)) size_now part) set in
+          (p.0, subst (λ (m : PageMap). m o (1 + k) ≡ Some p.0) c.loop-index.invariant.finds.present p.1));
       of = subst (λ (xs : List FreshPage). AreOf o (IsWritten d len bits first (k + 1)) xs) (sym items)
           (of_push o (IsWritten d len bits first k) (IsWritten d len bits first (k + 1)) fresh q c.loop-index.invariant.of refl
           (λ is. among_fresh d len bits first k (1 + k) low refl is) (λ n is. among_more d len bits first k n is) (among_this d len bits first k (1 + k) low refl) (λ n is. among_only d len bits first k n (1 + k) refl is));
@@ -145,3 +153,19 @@ returns-clause-hold g c = λ z moment all f head.
     let old : PagesState = g.P.Pages.state c.args.pages.now in
     let size_old : c.from-page_bytes.result ≡ old.page_bytes = c.from-page_bytes.ensures ∙ c.page_bytes.ensures.bytes in
     subst (λ x. HoldChunks x (written all c.args.offset c.args.bytes.now) c.loop-index.fresh.items) size_old (c.loop-index.invariant.hold z moment all f head)
+
+pub returns-clause-told : goal.returns-clause-told
+returns-clause-told g c = λ sound.
+    let old : PagesState = g.P.Pages.state c.args.pages.now in
+    let d : ℕ = c.from-page_bytes.result in
+    let o : ℕ = c.args.object in
+    let len : ℕ = c.args.head.now.length in
+    let bits : List ℕ = c.args.head.now.bits.items in
+    let off : ℕ = c.args.offset in
+    let n : ℕ = length c.args.bytes.now in
+    let size_old : d ≡ old.page_bytes = c.from-page_bytes.ensures ∙ c.page_bytes.ensures.bytes in
+    let past : (off + n - 1) / d + 1 ≤ c.loop-index.index = c.loop-index-test.false in
+    subst (λ x. HasPages old.present o bits (IsPartKept x len off n)) size_old
+    (kept_pages old.present o bits d len off n (omega (arith, c.from-page_bytes.ensures, c.page_bytes.ensures.least))
+    (λ k low less part. c.loop-index.invariant.told sound k low (omega (arith, less, past)) part)
+    (λ before. subst (λ x. HasPages old.present o bits (IsPartLast x len)) (sym size_old) (c.in_ok-fresh.ensures.told sound (subst (λ x. len / x < off / d) size_old before))))

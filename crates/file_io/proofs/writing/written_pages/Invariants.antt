@@ -1,4 +1,4 @@
-use Rattle.std.proofs.Common.{◌≤◌, ◌+◌, ◌-◌, ◌%◌, ℕ, List, min, length}
+use Rattle.std.proofs.Common.{◌≡◌, ◌⊎◌, ◌<◌, ◌≤◌, ◌+◌, ◌-◌, ◌*◌, ◌%◌, ℕ, List, true, min, length}
 use Rattle.volume_terms.specs.Sizes.{Sizes}
 use Rattle.posix_profile.specs.Changes.{written}
 use Rattle.pages.specs.Changes.{AreSized}
@@ -6,6 +6,7 @@ use Rattle.pages.specs.State.{OnlyFinds}
 use Rattle.file_io.specs.Files.{FileIn}
 use Rattle.file_io.specs.Heads.{IsHeadOf}
 use Rattle.file_io.specs.Chunks.{AreOf, IsWritten, HoldChunks}
+use Rattle.file_io.proofs.KeptPages.{IsThere}
 use Rattle.file_io.proofs.writing.written_pages.Given as goal
 
 abbrev pub invariant-loop-index : goal.invariant-loop-index
@@ -13,6 +14,8 @@ invariant-loop-index g l = record {
   finds : OnlyFinds (g.P.Pages.state l.fn.pages) (g.P.Pages.state l.pages);
   asked : (g.P.Pages.state l.pages).asked ≤ (g.P.Pages.state l.fn.pages).asked + min 1 (l.offset - l.head.length)
       + min (min 1 (l.offset % l.page_bytes)) (l.index - l.first) + min (min 1 ((l.offset + length l.bytes) % l.page_bytes)) (l.index - (l.end - 1));
+  told : (g.P.Pages.state l.fn.pages).sound ≡ true → (k : ℕ) → l.first ≤ k → k < l.index → (k * l.page_bytes < l.offset) ⊎ (l.offset + length l.bytes < k * l.page_bytes + l.page_bytes)
+      → IsThere (g.P.Pages.state l.fn.pages).present l.object l.head.bits.items k;
   of : AreOf l.object (IsWritten l.page_bytes l.head.length l.head.bits.items l.first l.index) l.fresh.items;
   few : length l.fresh.items + l.first ≤ l.index + 1;
   sized : AreSized l.fresh.items l.page_bytes;

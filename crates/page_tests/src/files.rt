@@ -2,7 +2,7 @@
 ghost use Rattle.std.specs.Prelude.{◌≡◌, ◌-◌, ◌*◌};
 ghost use Rattle.pages.specs.MemoryState.{kept};
 
-use super::*;
+use file_io::{FileInfo, create, read_at, read_info, set_length, write_at};
 use pages::{Change, Lack, MemPages, PageFault, Pages, Refusal};
 use rand_core::utils::NextWord;
 use rand_pcg::Pcg32;

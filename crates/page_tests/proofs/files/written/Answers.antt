@@ -1,7 +1,7 @@
 use Rattle.std.proofs.Common.{◌≤◌, ◌*◌, ℕ, sym, subst, length, arith}
 use Rattle.std.proofs.Math.Nat.{mul-le-mul_left}
 use Rattle.pages.specs.Changes.{AreSized}
-use Rattle.file_io.proofs.tests.written.Goals as goal
+use Rattle.page_tests.proofs.files.written.Goals as goal
 
 -- so many bytes lie over at most so many chunks
 pub apply-requires : goal.apply-requires

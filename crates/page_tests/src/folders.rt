@@ -1,0 +1,252 @@
+// Directories beside maps from names.
+use crate::store::{AWAY, HOME, slot_of, taken, two_directories};
+use directories::{
+    Route, add, entries, find, names, read_head, remove, rename_between, rename_within, replace,
+};
+use pages::MemPages;
+use rand_core::utils::NextWord;
+use rand_pcg::Pcg32;
+use std::alloc::Global;
+use std::collections::BTreeMap;
+use std::test::Fail;
+
+/// The names that a directory should have, and the objects that they should lead to.
+type Names = BTreeMap<Vec<u8>, u64>;
+
+/// Whether the directory has these names and no others, and lists them in the order of their bytes. Some of them are
+/// looked for one by one.
+fn has_names(
+    alloc: Global,
+    pages: &mut MemPages,
+    directory: u64,
+    wanted: &Names,
+) -> Result<bool, Fail> {
+    let listed = names(alloc, pages, directory)?;
+    let found = entries(alloc, pages, directory)?;
+    let length = read_head(pages, directory)?.length as usize;
+    if [listed.as_slice().len(), found.len(), length] != [wanted.len(); 3] {
+        return Ok(false);
+    }
+    for (name, (key, object)) in listed.as_slice().iter().zip(wanted.iter()) {
+        let led = found.get(key.as_slice());
+        if name.as_slice() != key.as_slice() || led != Some(*object) {
+            return Ok(false);
+        }
+        if *object % 16 == 0 && find(pages, directory, key.as_slice())? != led {
+            return Ok(false);
+        }
+    }
+    Ok(find(pages, directory, b"nowhere")?.is_none())
+}
+
+/// The store after a name leads to an object, whether it is there or not.
+fn put(
+    alloc: Global,
+    mut pages: MemPages,
+    directory: u64,
+    wanted: &mut Names,
+    name: &[u8],
+    object: u64,
+) -> Result<MemPages, Fail> {
+    let slot = slot_of(name, object)?;
+    let change = match wanted.insert(name.to_vec(alloc)?, object)? {
+        None => add(alloc, &mut pages, directory, &slot, object)?,
+        Some(_) => replace(alloc, &mut pages, directory, &slot, object)?.ok_or("it has no name")?,
+    };
+    taken(alloc, pages, change)
+}
+
+/// The store after a name is removed where it is there.
+fn take_away(
+    alloc: Global,
+    mut pages: MemPages,
+    directory: u64,
+    wanted: &mut Names,
+    name: &[u8],
+) -> Result<MemPages, Fail> {
+    let change = remove(alloc, &mut pages, directory, name, 7)?;
+    match (change, wanted.remove(name)) {
+        (Some(change), Some(_)) => taken(alloc, pages, change),
+        (None, None) => Ok(pages),
+        _ => Err("a name is there and is not".into()),
+    }
+}
+
+/// The store after a name gives way to another of the same directory where it is there.
+fn rename(
+    alloc: Global,
+    mut pages: MemPages,
+    directory: u64,
+    wanted: &mut Names,
+    from: &[u8],
+    to: &[u8],
+    object: u64,
+) -> Result<MemPages, Fail> {
+    let change = rename_within(alloc, &mut pages, directory, from, &slot_of(to, object)?, 8)?;
+    match (change, wanted.remove(from)) {
+        (Some(change), Some(_)) => {
+            wanted.insert(to.to_vec(alloc)?, object)?;
+            taken(alloc, pages, change)
+        }
+        (None, None) => Ok(pages),
+        _ => Err("a name is there and is not".into()),
+    }
+}
+
+/// The store after a name of one directory gives way to one of another where it is there.
+fn carry(
+    alloc: Global,
+    mut pages: MemPages,
+    wanted: &mut Names,
+    others: &mut Names,
+    from: &[u8],
+    to: &[u8],
+    object: u64,
+) -> Result<MemPages, Fail> {
+    let route = Route {
+        source: HOME,
+        target: AWAY,
+    };
+    let change = rename_between(alloc, &mut pages, route, from, &slot_of(to, object)?, 9)?;
+    match (change, wanted.remove(from)) {
+        (Some(change), Some(_)) => {
+            others.insert(to.to_vec(alloc)?, object)?;
+            taken(alloc, pages, change)
+        }
+        (None, None) => Ok(pages),
+        _ => Err("a name is there and is not".into()),
+    }
+}
+
+/// The name of a number.
+fn name_of(alloc: Global, number: u32) -> Result<Vec<u8>, Fail> {
+    let text = format!(in alloc; "n{number}")?;
+    Ok(text.as_bytes().to_vec(alloc)?)
+}
+
+/// The numbers below one, in a random order.
+fn shuffled(alloc: Global, random: &mut Pcg32, count: u32) -> Result<Vec<u32>, Fail> {
+    let mut drawn = Vec::new(alloc);
+    for number in 0..count {
+        drawn.push((random.next_word(), number))?;
+    }
+    drawn.sort()?;
+    let mut numbers = Vec::new(alloc);
+    for (_, number) in drawn {
+        numbers.push(number)?;
+    }
+    Ok(numbers)
+}
+
+/// Adds so many names in a random order, and removes a hundred of them, or all where there are fewer, in another.
+fn fill_and_empty(
+    alloc: Global,
+    random: &mut Pcg32,
+    page_bytes: u32,
+    count: u32,
+) -> Result<bool, Fail> {
+    let mut pages = two_directories(alloc, page_bytes)?;
+    let mut wanted = BTreeMap::new(alloc);
+    for number in shuffled(alloc, random, count)? {
+        let name = name_of(alloc, number)?;
+        pages = put(
+            alloc,
+            pages,
+            HOME,
+            &mut wanted,
+            &name,
+            2 + u64::from(number),
+        )?;
+    }
+    if !has_names(alloc, &mut pages, HOME, &wanted)? {
+        return Ok(false);
+    }
+    for number in shuffled(alloc, random, count)?.into_iter().take(100) {
+        let name = name_of(alloc, number)?;
+        pages = take_away(alloc, pages, HOME, &mut wanted, &name)?;
+        if number % 64 == 0 && !has_names(alloc, &mut pages, HOME, &wanted)? {
+            return Ok(false);
+        }
+    }
+    let none = BTreeMap::new(alloc);
+    Ok(has_names(alloc, &mut pages, HOME, &wanted)? && has_names(alloc, &mut pages, AWAY, &none)?)
+}
+
+#[test]
+fn names_are_added_and_removed_in_any_order(rt: HostRuntime) -> Result<(), Fail> {
+    let alloc = rt.alloc();
+    let mut random = Pcg32::new(1, 2);
+    for (page_bytes, count) in [
+        (512, 0),
+        (512, 1),
+        (512, 2),
+        (1024, 3),
+        (1024, 4),
+        (4096, 15),
+        (4096, 16),
+        (4096, 1000),
+    ] {
+        assert!(rt; fill_and_empty(alloc, &mut random, page_bytes, count)?);
+    }
+    Ok(())
+}
+
+/// Changes of two directories at random, with few names, so that many are there already.
+fn change_at_random(alloc: Global, random: &mut Pcg32, page_bytes: u32) -> Result<bool, Fail> {
+    let mut pages = two_directories(alloc, page_bytes)?;
+    let mut wanted = BTreeMap::new(alloc);
+    let mut others = BTreeMap::new(alloc);
+    for object in 2..120u64 {
+        let name = name_of(alloc, random.next_word() % 20)?;
+        let to = name_of(alloc, random.next_word() % 20)?;
+        pages = match random.next_word() % 6 {
+            0 => take_away(alloc, pages, HOME, &mut wanted, &name)?,
+            1 => rename(alloc, pages, HOME, &mut wanted, &name, &to, object)?,
+            2 => carry(alloc, pages, &mut wanted, &mut others, &name, &to, object)?,
+            _ => put(alloc, pages, HOME, &mut wanted, &name, object)?,
+        };
+        if !has_names(alloc, &mut pages, HOME, &wanted)?
+            || !has_names(alloc, &mut pages, AWAY, &others)?
+        {
+            return Ok(false);
+        }
+    }
+    Ok(!wanted.is_empty() && !others.is_empty())
+}
+
+#[test]
+fn directories_are_as_maps(rt: HostRuntime) -> Result<(), Fail> {
+    let alloc = rt.alloc();
+    let mut random = Pcg32::new(3, 4);
+    for page_bytes in [512, 1024, 2048, 4096] {
+        assert!(rt; change_at_random(alloc, &mut random, page_bytes)?);
+    }
+    Ok(())
+}
+
+#[test]
+fn the_last_slot_takes_the_place_of_a_removed_one(rt: HostRuntime) -> Result<(), Fail> {
+    let alloc = rt.alloc();
+    let mut pages = two_directories(alloc, 1024)?;
+    let mut wanted = BTreeMap::new(alloc);
+    for (name, object) in [(b"a", 2), (b"b", 3), (b"c", 4)] {
+        pages = put(alloc, pages, HOME, &mut wanted, name, object)?;
+    }
+    let change = remove(alloc, &mut pages, HOME, b"a", 0x0102)?.ok_or("no such name")?;
+    assert_eq!(rt; change.pages.len(), 2);
+    let [slots, header] = change.pages.as_slice() else {
+        return Err("not two pages".into());
+    };
+    assert_eq!(rt; slots.key.chunk, 1);
+    let first = slots.bytes.as_slice().get(..12).ok_or("no slot")?;
+    assert_eq!(rt; first, b"\x04\0\0\0\0\0\0\0\x01\0c\0".as_slice());
+    let second = slots.bytes.as_slice().get(272..284).ok_or("no slot")?;
+    assert_eq!(rt; second, b"\x03\0\0\0\0\0\0\0\x01\0b\0".as_slice());
+    let past = slots.bytes.as_slice().get(544..).ok_or("no page")?;
+    assert!(rt; past.iter().all(|byte| *byte == 0));
+    assert_eq!(rt; header.key.chunk, 0);
+    let said = header.bytes.as_slice().get(..24).ok_or("no header")?;
+    let want = b"NLFS\x02\x02\0\0\x02\0\0\0\0\0\0\0\x02\x01\0\0\0\0\0\0";
+    assert_eq!(rt; said, want.as_slice());
+    Ok(())
+}

@@ -1,0 +1,67 @@
+// A store in memory that takes changes, and slots that a directory takes.
+ghost use Rattle.std.specs.Prelude.{◌≡◌, ℕ, true, IfOk};
+ghost use Rattle.page_tags.specs.SlotEntry.{entry_of};
+ghost use Rattle.page_tags.specs.Slots.{IsSlot};
+ghost use Rattle.pages.specs.Changes.{AreSized};
+
+use directories::{DirectoryHead, head_page};
+use page_tags::Slot;
+use flash_tree::FreshPage;
+use pages::{Change, MemPages, Pages};
+use std::alloc::Global;
+use std::test::Fail;
+use volume_terms::is_name;
+
+/// The two directories of a store.
+pub(crate) const HOME: u64 = 1;
+
+pub(crate) const AWAY: u64 = 2;
+
+/// Whether all pages have so many bytes.
+fn are_sized(pages: &[FreshPage], size: u32) -> bool
+    ensures { result ≡ true → AreSized pages.now size }
+{
+    for page in pages {
+        if page.bytes.len() != size as usize {
+            return false;
+        }
+    }
+    true
+}
+
+/// The store after a change.
+pub(crate) fn taken(alloc: Global, pages: MemPages, change: Change) -> Result<MemPages, Fail> {
+    if !are_sized(&change.pages, pages.page_bytes()) {
+        return Err("a page of another size".into());
+    }
+    Ok(pages.apply(alloc, change)?)
+}
+
+/// A store with the two directories, without names.
+pub(crate) fn two_directories(alloc: Global, page_bytes: u32) -> Result<MemPages, Fail> {
+    if !(512..=4096).contains(&page_bytes) {
+        return Err("no such page".into());
+    }
+    let head = DirectoryHead {
+        spare: 0,
+        length: 0,
+        moment: 0,
+    };
+    let home = head_page(alloc, page_bytes, HOME, head)?;
+    let away = head_page(alloc, page_bytes, AWAY, head)?;
+    let change = Change {
+        pages: vec![in alloc; home, away]?,
+        cuts: Vec::new(alloc),
+    };
+    taken(alloc, MemPages::new(alloc, page_bytes)?, change)
+}
+
+/// A slot with this name, which leads to the object.
+pub(crate) fn slot_of(name: &[u8], object: u64) -> Result<Slot<'_>, Fail>
+    ensures { IfOk result (λ slot. IsSlot (entry_of slot)) }
+{
+    if object < 2 || !is_name(name) {
+        return Err("no such slot".into());
+    }
+    Ok(Slot { object, name })
+}

@@ -7,5 +7,6 @@ pub mod Opens
 pub mod Reads
 pub mod Rooms
 pub mod Plans
+pub mod Volumes
 pub mod Endings
 pub mod Running

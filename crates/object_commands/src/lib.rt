@@ -8,6 +8,7 @@ mod place;
 mod plan;
 mod rename;
 mod room;
+mod stamp;
 mod syncing;
 mod table;
 mod telling;

@@ -39,6 +39,14 @@ impl DescriptorTable {
         Ok(DescriptorTable { slots })
     }
 
+    /// A table of the same descriptors.
+    pub fn copy(&self, alloc: Global) -> Result<DescriptorTable, AllocError>
+        ensures { IfOk result (λ copy. handles_in copy ≡ handles_in self.now) }
+    {
+        let slots = Vec::from_slice(alloc, &self.slots)?;
+        Ok(DescriptorTable { slots })
+    }
+
     /// What the descriptor stands for, if it is open.
     pub fn get(&self, fd: u32) -> Option<OpenDescription>
         ensures { option_map handle_of result ≡ map.get (handles_in self.now) fd }

@@ -21,7 +21,7 @@ use Rattle.posix_profile.specs.declared.reply.Errno.TheVariants as errors
 use Rattle.posix_profile.specs.declared.reply.Reply.{Reply}
 use Rattle.posix_profile.specs.declared.reply.Reply.TheVariants as replies
 use Rattle.object_store.specs.Stores.{Meaning, IsLawful, KeepsOrSettles, settled}
-use Rattle.object_commands.specs.Classes.{Class, Telling, Changing, Syncing, class_of, is_error}
+use Rattle.command_plans.specs.Classes.{Class, Telling, Changing, Syncing, class_of, is_error}
 use Rattle.object_commands.specs.Endings.{IsAt, Leaves, Ends}
 use Rattle.object_commands.specs.Running.{Failure, Ran, Runs}
 use Rattle.object_commands.specs.declared.volume.Volume.{Volume}

@@ -1,7 +1,7 @@
 -- What a volume is.
 use Rattle.std.specs.Prelude.{Bool}
 use Rattle.posix_profile.specs.State.{Handles}
-use Rattle.object_commands.specs.Tables.{handles_in}
+use Rattle.command_plans.specs.Tables.{handles_in}
 use Rattle.object_commands.specs.declared.volume.Volume.{Volume}
 
 -- the store that it is over

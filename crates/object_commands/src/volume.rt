@@ -15,19 +15,19 @@ ghost use Rattle.posix_profile.specs.declared.reply.Reply.TheVariants as replies
 ghost use Rattle.posix_profile.specs.declared.reply.Reply.{Reply};
 ghost use Rattle.object_store.specs.Stores.{Has};
 ghost use Rattle.volume_terms.specs.declared.fault.StoreFault.TheVariants as faults;
-ghost use Rattle.object_commands.specs.Classes.{Class, class_of};
-ghost use Rattle.object_commands.specs.Plans.{Holds, Plans, Works, IsPlan, TakesNone, CanDo, InRange, frees, handled};
-ghost use Rattle.object_commands.specs.Tables.{handles_in};
+ghost use Rattle.command_plans.specs.Classes.{Class, class_of};
+ghost use Rattle.command_plans.specs.Plans.{Holds, Plans, Works, IsPlan, TakesNone, CanDo, InRange, frees, handled};
+ghost use Rattle.command_plans.specs.Tables.{handles_in};
 
 use crate::naming::{link, mkdir, rmdir, unlink};
 use crate::opening::{close, open};
-use crate::plan::{HandleChange, Plan, StoreWork, hand_on};
 use crate::rename::rename;
-use crate::stamp::is_stamped;
 use crate::syncing::{fsync, sync};
-use crate::table::DescriptorTable;
 use crate::telling::{list, read, seek, space, stat};
 use crate::writing::{truncate, write};
+use command_plans::plan::{HandleChange, Plan, StoreWork, hand_on};
+use command_plans::stamp::is_stamped;
+use command_plans::table::DescriptorTable;
 use object_store::{ObjectStore, Refusal};
 use posix_profile::{Command, Errno, Reply, Stamped};
 use std::alloc::{AllocError, Global};

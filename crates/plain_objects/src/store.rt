@@ -14,10 +14,9 @@ use crate::names::names_at;
 use object_store::{ObjectChange, ObjectStore};
 use plain_state::change::new_number;
 use plain_state::charge::{charge, fits};
-use plain_state::links::{ROOT, entry_count_at, info, is_named, parent};
-use plain_state::object::{EntryMap, HandleMap, ObjectMap, PlainObject};
-use plain_state::path::entry_at;
-use plain_state::prune::pruned;
+use plain_state::links::{ROOT, entry_at, entry_count_at, info, is_named, parent};
+use plain_state::object::{EntryMap, ObjectMap, PlainObject};
+use plain_state::prune::settled;
 use plain_state::table::{copy_objects, object_at, put_object};
 use posix_profile::{Bytes, Info, NameList};
 use std::alloc::{AllocError, Global};
@@ -72,7 +71,7 @@ impl PlainObjects {
         ensures objects { IfOk result (λ kept. objects_of kept ≡ settled (objects_of self.now)) }
         ensures sizes { IfOk result (λ kept. numbers_of kept ≡ numbers_of self.now) }
     {
-        let objects = pruned(&self.objects, &HandleMap::new(self.alloc))?;
+        let objects = settled(&self.objects)?;
         Ok(PlainObjects {
             alloc: self.alloc,
             sizes: self.sizes,

@@ -10,7 +10,7 @@ use Rattle.posix_profile.specs.laws.Own.{command_own}
 use Rattle.posix_profile.specs.laws.Sound.{IsSound}
 use Rattle.posix_profile.specs.declared.command.Stamped.{Stamped}
 use Rattle.posix_profile.specs.declared.reply.Reply.{Reply}
-use Rattle.object_commands.specs.Classes.{class_of}
+use Rattle.command_plans.specs.Classes.{class_of}
 use Rattle.object_commands.specs.Endings.{IsAt, Ends}
 use Rattle.object_commands.specs.Running.{Ran, Runs}
 use Rattle.object_commands.specs.Volumes.{store_of, handles_of, is_read_only, is_stopped}

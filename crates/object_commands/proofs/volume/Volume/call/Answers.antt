@@ -1,7 +1,7 @@
 use Rattle.std.proofs.Common.{refl}
 use Rattle.posix_profile.specs.laws.Step.{step_sound}
 use Rattle.posix_profile.specs.Steps.{step}
-use Rattle.object_commands.specs.Classes.{class_of}
+use Rattle.command_plans.specs.Classes.{class_of}
 use Rattle.object_commands.proofs.Ending.{at_on, ends_on}
 use Rattle.object_commands.proofs.volume.Volume.call.Goals as goal
 

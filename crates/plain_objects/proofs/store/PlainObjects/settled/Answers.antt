@@ -1,10 +1,11 @@
 use Rattle.std.proofs.Common.{◌≡◌, sym, subst}
 use Rattle.std.specs.Prelude.{true}
+use Rattle.std.specs.FinMap as map
 use Rattle.posix_profile.specs.Charge.{fits}
 use Rattle.posix_profile.specs.State.{Objects}
-use Rattle.posix_profile.specs.laws.Charge.{fits_less, prune_less}
+use Rattle.posix_profile.specs.laws.Charge.{settle_fits}
 use Rattle.volume_terms.specs.VolumeSizes.{sizes_of}
-use Rattle.plain_state.specs.PlainState.{objects_in, handles_in}
+use Rattle.plain_state.specs.PlainState.{objects_in}
 use Rattle.plain_objects.proofs.store.PlainObjects.settled.Goals as goal
 
 pub invariant_of-result : goal.invariant_of-result
@@ -12,5 +13,5 @@ invariant_of-result c =
     let z = sizes_of c.args.self.now.sizes in
     record {
       fit = subst (λ (o : Objects). fits z o ≡ true) (sym c.in_ok-objects.ensures)
-          (fits_less z (objects_in c.args.self.now.objects) _ (prune_less z (record { objects = objects_in c.args.self.now.objects; handles = handles_in c.new.result })) c.args.self.now.fit);
+          (settle_fits z (record { objects = objects_in c.args.self.now.objects; handles = map.empty }) c.args.self.now.fit);
     }

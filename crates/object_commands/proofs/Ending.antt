@@ -16,15 +16,15 @@ use Rattle.posix_profile.specs.declared.reply.Reply.TheVariants as replies
 use Rattle.object_store.specs.Stores.{Meaning, IsLawful, Has}
 use Rattle.object_store.specs.laws.Store.{has_on}
 use Rattle.object_store.specs.declared.refusal.Refusal.{Refusal}
-use Rattle.object_commands.specs.Classes.{Class, Telling, Changing, Syncing, class_of, is_error}
+use Rattle.command_plans.specs.Classes.{Class, Telling, Changing, Syncing, class_of, is_error}
 use Rattle.object_commands.specs.Endings.{IsAt, Leaves, IsDone, IsPassedOver, IsStopped, Ends}
-use Rattle.object_commands.specs.Plans.{Holds, IsPlan, Plans, Suits, Did, worked, planned, handled}
-use Rattle.object_commands.specs.Tables.{handles_in}
-use Rattle.object_commands.specs.declared.plan.Plan.{Plan}
-use Rattle.object_commands.specs.declared.plan.StoreWork.{StoreWork}
-use Rattle.object_commands.specs.declared.plan.StoreWork.TheVariants as work
+use Rattle.command_plans.specs.Plans.{Holds, IsPlan, Plans, Suits, Did, worked, planned, handled}
+use Rattle.command_plans.specs.Tables.{handles_in}
+use Rattle.command_plans.specs.declared.plan.Plan.{Plan}
+use Rattle.command_plans.specs.declared.plan.StoreWork.{StoreWork}
+use Rattle.command_plans.specs.declared.plan.StoreWork.TheVariants as work
 use Rattle.object_commands.specs.declared.volume.Volume.{Volume}
-use Rattle.object_commands.proofs.Outcomes.{plans_is}
+use Rattle.command_plans.specs.laws.Plan.{plans_is}
 
 -- a plan for a command is one for the stamped command that it is
 pub plans_step : {S : Type 0} (m : Meaning S) (z : Sizes) (read_only : Bool) (s : State) (stamped : Stamped) (command : Command) (meant : Outcome) (a b : S) → stamped.command ≡ command

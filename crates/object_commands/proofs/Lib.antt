@@ -1,9 +1,5 @@
-pub mod Counts
-pub mod ObjectFacts
-pub mod Outcomes
 pub mod PruneOne
 pub mod NamesLost
-pub mod RoomLaws
 pub mod Making
 pub mod Ending
 pub mod RunSteps

@@ -23,14 +23,14 @@ use Rattle.posix_profile.specs.declared.reply.Reply.{Reply}
 use Rattle.object_store.specs.Changes.{made, CanMake, IsAbsent, LeadsTo}
 use Rattle.object_store.specs.declared.change.DirectoryEntry.{DirectoryEntry}
 use Rattle.object_store.specs.declared.change.ObjectChange.{ObjectChange}
-use Rattle.object_commands.specs.Classes.{Changing, is_error}
+use Rattle.command_plans.specs.Classes.{Changing, is_error}
 use Rattle.object_commands.specs.Names.{LeadsHere, EndsInName}
 use Rattle.object_commands.specs.Opens.{cut_by, opened}
-use Rattle.object_commands.specs.Plans.{IsPlan, CanDo, Suits, worked}
-use Rattle.object_commands.specs.declared.plan.StoreWork.{StoreWork}
-use Rattle.object_commands.specs.declared.plan.HandleChange.TheVariants as handle_changes
-use Rattle.object_commands.specs.declared.plan.StoreWork.TheVariants as work
-use Rattle.object_commands.specs.declared.plan.Plan.{Plan}
+use Rattle.command_plans.specs.Plans.{IsPlan, CanDo, Suits, worked}
+use Rattle.command_plans.specs.declared.plan.StoreWork.{StoreWork}
+use Rattle.command_plans.specs.declared.plan.HandleChange.TheVariants as handle_changes
+use Rattle.command_plans.specs.declared.plan.StoreWork.TheVariants as work
+use Rattle.command_plans.specs.declared.plan.Plan.{Plan}
 
 -- a change of objects alone
 pub plan_changed : (z : Sizes) (s : State) (reply : Reply) (change : ObjectChange) (meant : Outcome) (plan : Plan) → plan ≡ record { reply = reply; handles = handle_changes.Nothing; work = work.Change change }

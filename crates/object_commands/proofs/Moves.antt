@@ -20,9 +20,9 @@ use Rattle.posix_profile.specs.NameSteps.{is_object, rename_tests_onto}
 use Rattle.posix_profile.specs.Paths.{Place, first_error}
 use Rattle.posix_profile.specs.declared.reply.Errno.{Errno}
 use Rattle.posix_profile.specs.declared.reply.Errno.TheVariants as errors
-use Rattle.object_commands.specs.Rooms.{entry_units}
-use Rattle.object_commands.proofs.Outcomes.{directory_unless}
-use Rattle.object_commands.proofs.RoomLaws.{entries_charge, one_more, name_charge, removed_fits}
+use Rattle.command_plans.specs.Rooms.{entry_units}
+use Rattle.command_plans.specs.laws.Plan.{directory_unless}
+use Rattle.command_plans.specs.laws.Room.{entries_charge, one_more, name_charge, removed_fits}
 
 module _ (z : Sizes) (objects : Objects) (moment d x : ℕ) (a : Name) (some : 0 < page_slots z) (from : Names objects d a x) where
   abbrev between : Objects

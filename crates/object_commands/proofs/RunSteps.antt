@@ -1,9 +1,9 @@
 -- A run goes on by one command.
-use Rattle.std.specs.Prelude.{◌≡◌, ◌⊎◌, ◌||◌, ◌++◌, ◌+◌, ◌<◌, ℕ, Bool, true, false, List, [], ◌∷◌, length, Some, slice_get, get_or}
+use Rattle.std.specs.Prelude.{◌≡◌, ◌⊎◌, ◌||◌, ◌++◌, ◌+◌, ◌<◌, ◌≤◌, ℕ, Bool, true, false, List, [], ◌∷◌, length, take, Some, slice_get, get_or}
 use Rattle.std.specs.List.{list_any}
 use Rattle.std.proofs.Common.{refl, sym, ◌∙◌, ap, subst, inl, inr, arith}
 use Rattle.std.proofs.lemmas.Bool.{cases_Bool, cond-true, cond-false, true≢false}
-use Rattle.std.proofs.lemmas.List.{append_assoc, append-nil, length_push}
+use Rattle.std.proofs.lemmas.List.{append_assoc, append-nil, length_push, take-append-le, take_all}
 use Rattle.posix_profile.specs.laws.Loss.{loss_more}
 use Rattle.posix_profile.specs.Losses.{is_synced, LossLeaves}
 use Rattle.posix_profile.specs.laws.Own.{command_own}
@@ -11,9 +11,7 @@ use Rattle.posix_profile.specs.Outcomes.{Outcome}
 use Rattle.posix_profile.specs.laws.Run.{after_more, holds_more}
 use Rattle.posix_profile.specs.Runs.{is_no_memory, is_stop, takes_no_memory, after_one, after, Replies, AllStopped, RunHolds}
 use Rattle.volume_terms.specs.Sizes.{Sizes}
-use Rattle.posix_profile.specs.laws.Sound.{IsStamped}
 use Rattle.posix_profile.specs.State.{Objects, State}
-use Rattle.posix_profile.specs.laws.Step.{AreStamped}
 use Rattle.posix_profile.specs.Steps.{step}
 use Rattle.posix_profile.specs.declared.command.Command.{Command}
 use Rattle.posix_profile.specs.declared.command.Command.TheVariants as commands
@@ -23,9 +21,9 @@ use Rattle.posix_profile.specs.declared.reply.Errno.TheVariants as errors
 use Rattle.posix_profile.specs.declared.reply.Reply.{Reply}
 use Rattle.posix_profile.specs.declared.reply.Reply.TheVariants as replies
 use Rattle.object_store.specs.Stores.{Meaning, IsLawful, KeepsOrSettles, settled}
-use Rattle.object_commands.specs.Classes.{Class, Telling, Changing, Syncing, class_of, is_error}
+use Rattle.command_plans.specs.Classes.{Class, Telling, Changing, Syncing, class_of, is_error}
 use Rattle.object_commands.specs.Endings.{IsAt, Leaves, Ends}
-use Rattle.object_commands.specs.Running.{Ran, Runs}
+use Rattle.object_commands.specs.Running.{Failure, Ran, Runs}
 use Rattle.object_commands.specs.declared.volume.Volume.{Volume}
 
 -- what a done command leaves keeps the tree that a mount shows or settles it
@@ -61,6 +59,7 @@ pub record One {S : Type 0} (m : Meaning S) (z : Sizes) (read_only : Bool) (s : 
   pub loss : KeepsOrSettles m s.objects a.store b.store
   pub sync : is_synced c.command r ≡ true → m.shows b.store (settled s.objects)
   pub stops : b.stopped ≡ is_stop r
+  pub fails : is_stop r ≡ true → m.fails s.objects (step z read_only s c).state.objects a.store b.store
   pub state : is_stop r ≡ false → IsAt m z (after_one z read_only s c r) b
 
 one_ends : {S : Type 0} (m : Meaning S) (law : IsLawful m) (z : Sizes) (read_only : Bool) (s : State) (c : Stamped) (r : Reply) (a b : Volume S)
@@ -78,6 +77,7 @@ one_ends m law z read_only s c r a b (inl done) =
           let told = synced_is c.command r synced in
           sync_done m law o.reply s.objects o.state.objects a.store b.store (sym done.reply ∙ told.1) (subst (λ k. Leaves m k o.reply s.objects o.state.objects a.store b.store) told.0 done.left);
       stops = done.goes_on ∙ sym goes;
+      fails = λ stop. absurd (true≢false (sym stop ∙ goes));
       state = λ _. subst (λ x. IsAt m z x b) (sym is) done.state;
     }
 one_ends m law z read_only s c r a b (inr (inl passed)) =
@@ -87,6 +87,7 @@ one_ends m law z read_only s c r a b (inr (inl passed)) =
       loss = λ t shown. inl (law.reads_shows a.store b.store t passed.1.left shown);
       sync = λ synced. absurd (error_unsynced c.command errors.ENOMEM (ap (is_synced c.command) (sym passed.1.reply) ∙ synced));
       stops = passed.1.goes_on ∙ sym (ap is_stop passed.1.reply);
+      fails = λ stop. absurd (true≢false (sym stop ∙ ap is_stop passed.1.reply));
       state = λ _. subst (λ x. IsAt m z x b) (sym (cond-true _ _ _ memory)) passed.1.state;
     }
 one_ends m law z read_only s c r a b (inr (inr stopped)) = record {
@@ -94,6 +95,7 @@ one_ends m law z read_only s c r a b (inr (inr stopped)) = record {
   loss = law.fails_shows a.store b.store s.objects (step z read_only s c).state.objects stopped.left;
   sync = λ synced. absurd (error_unsynced c.command errors.EIO (ap (is_synced c.command) (sym stopped.reply) ∙ synced));
   stops = stopped.stops ∙ sym (ap is_stop stopped.reply);
+  fails = λ stop. stopped.left;
   state = λ goes. absurd (true≢false (sym (ap is_stop stopped.reply) ∙ goes));
 }
 
@@ -113,16 +115,44 @@ all_push : (rs : List Reply) (r : Reply) → AllStopped rs → is_stop r ≡ tru
 all_push [] r all stop = (stop, tt)
 all_push (x ∷ rs) r all stop = (all.0, all_push rs r all.1 stop)
 
--- each of them is stamped
-stamped_at : (cs : List Stamped) (i : ℕ) (c : Stamped) → AreStamped cs → slice_get cs i ≡ Some c → IsStamped c
-stamped_at [] i c are is = absurd cc
-stamped_at (k ∷ cs) ℕ.zero c are is = let same : k ≡ c = cc in subst IsStamped same are.0
-stamped_at (k ∷ cs) (ℕ.suc i) c are is = stamped_at cs i c are.1 is
+-- the replies so far come first in those with one more
+front : (rs : List Reply) (r : Reply) (n : ℕ) → n ≤ length rs → take n (rs ++ r ∷ []) ≡ take n rs
+front rs r n le = take-append-le n rs (r ∷ []) le
+
+all_front : (rs : List Reply) (r : Reply) → take (length rs) (rs ++ r ∷ []) ≡ rs
+all_front rs r = front rs r (length rs) (omega arith) ∙ take_all (length rs) rs (omega arith)
+
+-- the last command is the one in which the store failed
+fails_last : {S : Type 0} (m : Meaning S) (z : Sizes) (read_only : Bool) (s : State) (cs : List Stamped) (rs : List Reply) (c : Stamped) (r : Reply) (a b d : S) → slice_get cs (length rs) ≡ Some c
+    → m.lasts a b → m.fails (after z read_only s cs rs).objects (step z read_only (after z read_only s cs rs) c).state.objects b d → Failure m z read_only s cs (rs ++ r ∷ []) a d
+fails_last m z read_only s cs rs c r a b d at lasts fails = record {
+  place = length rs;
+  command = c;
+  from = b;
+  at = at;
+  within = omega (arith, length_push rs r);
+  lasts = lasts;
+  fails = subst (λ (x : List Reply). m.fails (after z read_only s cs x).objects (step z read_only (after z read_only s cs x) c).state.objects b d) (sym (all_front rs r)) fails;
+}
+
+-- or it was one before
+fails_before : {S : Type 0} (m : Meaning S) (z : Sizes) (read_only : Bool) (s : State) (cs : List Stamped) (rs : List Reply) (r : Reply) (a d : S)
+    → Failure m z read_only s cs rs a d → Failure m z read_only s cs (rs ++ r ∷ []) a d
+fails_before m z read_only s cs rs r a d was = record {
+  place = was.place;
+  command = was.command;
+  from = was.from;
+  at = was.at;
+  within = omega (arith, was.within, length_push rs r);
+  lasts = was.lasts;
+  fails = subst (λ (x : List Reply). m.fails (after z read_only s cs x).objects (step z read_only (after z read_only s cs x) was.command).state.objects was.from d)
+      (sym (front rs r was.place (omega (arith, was.within)))) was.fails;
+}
 
 -- from a state
 ran_more : {S : Type 0} (m : Meaning S) (z : Sizes) (s : State) (cs : List Stamped) (rs : List Reply) (c : Stamped) (r : Reply) (a b d : Volume S) → slice_get cs (length rs) ≡ Some c
-    → Ran m z s cs rs a b → b.stopped ≡ false → One m z a.read_only (after z a.read_only s cs rs) c r b d → Ran m z s cs (rs ++ r ∷ []) a d
-ran_more m z s cs rs c r a b d at ran goes one =
+    → Ran m z s cs rs a b → b.stopped ≡ false → m.lasts a.store b.store → One m z a.read_only (after z a.read_only s cs rs) c r b d → Ran m z s cs (rs ++ r ∷ []) a d
+ran_more m z s cs rs c r a b d at ran goes lasts one =
     let now = after z a.read_only s cs rs in
     let none : list_any is_stop rs ≡ false = sym ran.stops ∙ goes in
     let more = after_more z a.read_only s cs rs c r at in
@@ -130,6 +160,7 @@ ran_more m z s cs rs c r a b d at ran goes one =
       holds = holds_more z a.read_only s cs rs c r at ran.holds one.replies (λ stop. absurd (true≢false (sym stop ∙ none)));
       losses = λ t shown. loss_more (m.shows b.store) (m.shows d.store) t z a.read_only s cs rs c r at one.loss one.sync (ran.losses t shown);
       stops = one.stops ∙ sym (any_push is_stop rs r ∙ ap (λ b. b || is_stop r) none);
+      failure = λ stop. fails_last m z a.read_only s cs rs c r a.store b.store d.store at lasts (one.fails (sym one.stops ∙ stop));
       state = λ still. subst (λ x. IsAt m z x d) (sym more) (one.state (sym one.stops ∙ still));
     }
 
@@ -143,16 +174,17 @@ ran_stopped m z s cs rs c r a b d at ran stopped told same =
       holds = holds_more z a.read_only s cs rs c r at ran.holds (inr (inr stop)) (λ _. stop);
       losses = λ t shown. loss_more (m.shows b.store) (m.shows b.store) t z a.read_only s cs rs c r at (λ t is. inl is) (λ synced. absurd (error_unsynced c.command errors.EIO (ap (is_synced c.command) (sym told) ∙ synced))) (ran.losses t shown);
       stops = stopped ∙ sym (any_push is_stop rs r ∙ ap (λ b. b || is_stop r) some);
+      failure = λ stop. fails_before m z a.read_only s cs rs r a.store b.store (ran.failure stop);
       state = λ goes. absurd (true≢false (sym stopped ∙ goes));
     })
 
 -- the run, with one reply more
 pub runs_more : {S : Type 0} (m : Meaning S) (law : IsLawful m) (cs : List Stamped) (n : ℕ) (before now next : List Reply) (c : Stamped) (r : Reply) (a b d : Volume S)
-    → Runs m cs n before now a b → slice_get cs n ≡ Some c → next ≡ now ++ r ∷ [] → b.read_only ≡ a.read_only
+    → Runs m cs n before now a b → slice_get cs n ≡ Some c → next ≡ now ++ r ∷ [] → b.read_only ≡ a.read_only → m.lasts a.store b.store
     → (b.stopped ≡ true → (r ≡ replies.Error errors.EIO) × (d ≡ b))
-    → (b.stopped ≡ false → IsStamped c → (z : Sizes) (s : State) → IsAt m z s b → Ends m z (class_of c.command) (takes_no_memory c.command) s (step z b.read_only s c) b d r)
+    → (b.stopped ≡ false → (z : Sizes) (s : State) → IsAt m z s b → Ends m z (class_of c.command) (takes_no_memory c.command) s (step z b.read_only s c) b d r)
     → Runs m cs (n + 1) before next a d
-runs_more m law cs n before now next c r a b d runs is pushed same stays goes =
+runs_more m law cs n before now next c r a b d runs is pushed same lasts stays goes =
     let at : slice_get cs (length runs.answered) ≡ Some c = ap (slice_get cs) runs.count ∙ is in
     record {
       answered = runs.answered ++ r ∷ [];
@@ -162,14 +194,14 @@ runs_more m law cs n before now next c r a b d runs is pushed same stays goes =
           let was = runs.stopped stop in
           let told = stays (ap (λ (v : Volume _). v.stopped) was.1 ∙ stop) in
           (all_push runs.answered r was.0 (ap is_stop told.0), told.1 ∙ was.1);
-      ran = λ going are z s has.
-          let ran = runs.ran going are z s has in
+      ran = λ going z s has.
+          let ran = runs.ran going z s has in
           elim (cases_Bool b.stopped) [
             | inl stop ↦ let told = stays stop in ran_stopped m z s cs runs.answered c r a b d at ran stop told.0 told.1
             | inr still ↦
                 let x = after z a.read_only s cs runs.answered in
-                let ended = goes still (stamped_at cs n c are is) z x (ran.state still) in
-                ran_more m z s cs runs.answered c r a b d at ran still
+                let ended = goes still z x (ran.state still) in
+                ran_more m z s cs runs.answered c r a b d at ran still lasts
                 (one_ends m law z a.read_only x c r b d (subst (λ ro. Ends m z (class_of c.command) (takes_no_memory c.command) x (step z ro x c) b d r) same ended))
           ];
     }
@@ -183,7 +215,7 @@ runs_none m cs before a = record {
   count = refl;
   behind = sym (append-nil before);
   stopped = λ stop. (tt, refl);
-  ran = λ going are z s has. record { holds = tt; losses = λ t shown. inr (λ i done. absurd (none_at i done.1 done.3), shown); stops = going; state = λ _. has };
+  ran = λ going z s has. record { holds = tt; losses = λ t shown. inr (λ i done. absurd (none_at i done.1 done.3), shown); stops = going; failure = λ stop. absurd (true≢false (sym stop ∙ going)); state = λ _. has };
 }
 
 pub at_index : (cs : List Stamped) (i : ℕ) (c : Stamped) → i < length cs → c ≡ get_or cs i c → slice_get cs i ≡ Some c

@@ -8,8 +8,8 @@ use Rattle.posix_profile.specs.declared.reply.Errno.TheVariants as errors
 use Rattle.posix_profile.specs.declared.reply.Reply.{Reply}
 use Rattle.posix_profile.specs.declared.reply.Reply.TheVariants as replies
 use Rattle.object_store.specs.Stores.{Meaning, Has}
-use Rattle.object_commands.specs.Classes.{Class, Telling, Changing, Syncing, is_error}
-use Rattle.object_commands.specs.Tables.{handles_in}
+use Rattle.command_plans.specs.Classes.{Class, Telling, Changing, Syncing, is_error}
+use Rattle.command_plans.specs.Tables.{handles_in}
 use Rattle.object_commands.specs.declared.volume.Volume.{Volume}
 
 -- The volume stands for a state that it can have.

@@ -1,11 +1,6 @@
-pub mod Tables
-pub mod TableLaws
-pub mod Classes
-pub mod Places
 pub mod Names
 pub mod Opens
 pub mod Reads
-pub mod Rooms
-pub mod Plans
+pub mod Volumes
 pub mod Endings
 pub mod Running

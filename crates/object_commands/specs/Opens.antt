@@ -10,10 +10,10 @@ use Rattle.posix_profile.specs.declared.command.OpenFlags.{OpenFlags}
 use Rattle.posix_profile.specs.declared.reply.Errno.TheVariants as errors
 use Rattle.posix_profile.specs.declared.reply.Reply.TheVariants as replies
 use Rattle.object_store.specs.declared.change.ObjectChange.TheVariants as changes
-use Rattle.object_commands.specs.declared.plan.HandleChange.TheVariants as handle_changes
-use Rattle.object_commands.specs.declared.plan.StoreWork.{StoreWork}
-use Rattle.object_commands.specs.declared.plan.StoreWork.TheVariants as work
-use Rattle.object_commands.specs.declared.plan.Plan.{Plan}
+use Rattle.command_plans.specs.declared.plan.HandleChange.TheVariants as handle_changes
+use Rattle.command_plans.specs.declared.plan.StoreWork.{StoreWork}
+use Rattle.command_plans.specs.declared.plan.StoreWork.TheVariants as work
+use Rattle.command_plans.specs.declared.plan.Plan.{Plan}
 
 -- Open of an object that is there
 abbrev pub open_found_on : Sizes → Bool → ℕ → State → OpenFlags → ℕ → ℕ → Outcome

@@ -1,29 +1,42 @@
 -- What a run of commands answers and leaves.
-use Rattle.std.specs.Prelude.{◌≡◌, ◌++◌, ℕ, true, false, List, length}
+use Rattle.std.specs.Prelude.{◌≡◌, ◌<◌, ◌++◌, ℕ, Bool, true, false, List, length, take, Some, slice_get}
 use Rattle.std.specs.List.{list_any}
 use Rattle.posix_profile.specs.Losses.{LossLeaves}
 use Rattle.posix_profile.specs.Runs.{is_stop, after, AllStopped, RunHolds}
 use Rattle.volume_terms.specs.Sizes.{Sizes}
 use Rattle.posix_profile.specs.State.{Objects, State}
-use Rattle.posix_profile.specs.laws.Step.{AreStamped}
+use Rattle.posix_profile.specs.Steps.{step}
 use Rattle.posix_profile.specs.declared.command.Stamped.{Stamped}
 use Rattle.posix_profile.specs.declared.reply.Reply.{Reply}
 use Rattle.object_store.specs.Stores.{Meaning}
+use Rattle.object_commands.specs.Volumes.{store_of, is_read_only, is_stopped}
 use Rattle.object_commands.specs.Endings.{IsAt}
 use Rattle.object_commands.specs.declared.volume.Volume.{Volume}
 
+-- The store failed in the command at this place, from where the commands before it had left it, and was not called since.
+pub record Failure {S : Type 0} (m : Meaning S) (z : Sizes) (read_only : Bool) (s : State) (commands : List Stamped) (answered : List Reply) (a b : S) : Type 0 where
+  pub place : ℕ
+  pub command : Stamped
+  pub from : S
+  pub at : slice_get commands place ≡ Some command
+  pub within : place < length answered
+  pub lasts : m.lasts a from
+  pub fails : m.fails (after z read_only s commands (take place answered)).objects (step z read_only (after z read_only s commands (take place answered)) command).state.objects from b
+
 -- From a state: the replies are right, a mount shows the tree after some of the commands, at least those that a sync covers,
--- the volume is stopped exactly where a reply is EIO, and else it stands for the state after the commands that were answered.
+-- the volume is stopped exactly where a reply is EIO, and then for a failure of the store, and else it stands for the state
+-- after the commands that were answered.
 pub record Ran {S : Type 0} (m : Meaning S) (z : Sizes) (s : State) (commands : List Stamped) (answered : List Reply) (a b : Volume S) : Type 0 where
-  pub holds : RunHolds z a.read_only s commands answered
-  pub losses : (tree : Objects) → m.shows a.store tree → LossLeaves (m.shows b.store) tree z a.read_only s commands answered
-  pub stops : b.stopped ≡ list_any is_stop answered
-  pub state : b.stopped ≡ false → IsAt m z (after z a.read_only s commands answered) b
+  pub holds : RunHolds z (is_read_only a) s commands answered
+  pub losses : (tree : Objects) → m.shows (store_of a) tree → LossLeaves (m.shows (store_of b)) tree z (is_read_only a) s commands answered
+  pub stops : is_stopped b ≡ list_any is_stop answered
+  pub failure : is_stopped b ≡ true → Failure m z (is_read_only a) s commands answered (store_of a) (store_of b)
+  pub state : is_stopped b ≡ false → IsAt m z (after z (is_read_only a) s commands answered) b
 
 -- So many of the commands are answered, behind the old replies: on a stopped volume by EIO, and it stays as it was.
 pub record Runs {S : Type 0} (m : Meaning S) (commands : List Stamped) (n : ℕ) (before now : List Reply) (a b : Volume S) : Type 0 where
   pub answered : List Reply
   pub count : length answered ≡ n
   pub behind : now ≡ before ++ answered
-  pub stopped : a.stopped ≡ true → AllStopped answered × (b ≡ a)
-  pub ran : a.stopped ≡ false → AreStamped commands → (z : Sizes) (s : State) → IsAt m z s a → Ran m z s commands answered a b
+  pub stopped : is_stopped a ≡ true → AllStopped answered × (b ≡ a)
+  pub ran : is_stopped a ≡ false → (z : Sizes) (s : State) → IsAt m z s a → Ran m z s commands answered a b

@@ -10,18 +10,18 @@ ghost use Rattle.posix_profile.specs.laws.Path.{IsPlace};
 ghost use Rattle.posix_profile.specs.Paths.{resolve};
 ghost use Rattle.path_walk.specs.Places.{place_of};
 ghost use Rattle.object_store.specs.Changes.{without};
-ghost use Rattle.object_commands.specs.Classes.{Changing};
+ghost use Rattle.command_plans.specs.Classes.{Changing};
 ghost use Rattle.object_commands.specs.Names.{Unnames, LeadsHere, EndsInName, rmdir_named, rmdir_at};
-ghost use Rattle.object_commands.specs.Plans.{Holds, Plans, Tries, IsPlan};
-ghost use Rattle.object_commands.specs.Tables.{handles_in};
+ghost use Rattle.command_plans.specs.Plans.{Holds, Plans, Tries, IsPlan};
+ghost use Rattle.command_plans.specs.Tables.{handles_in};
 
-use crate::facts::{has_other_name, is_directory};
-use crate::place::{
+use command_plans::facts::{has_other_name, is_directory};
+use command_plans::place::{
     ends_in_dot, ends_in_dot_dot, entry_at, find_object, find_place, is_only_slashes,
 };
-use crate::plan::{Plan, change, hand_on};
-use crate::room::{has_name_room, has_object_room};
-use crate::table::DescriptorTable;
+use command_plans::plan::{Plan, change, hand_on};
+use command_plans::room::{has_name_room, has_object_room};
+use command_plans::table::DescriptorTable;
 use object_store::{ObjectChange, ObjectStore, Refusal, is_file};
 use path_walk::PathPlace;
 use posix_profile::{Errno, Kind, Reply};

@@ -4,12 +4,12 @@ ghost use Rattle.posix_profile.specs.HandleSteps.{fsync_step};
 ghost use Rattle.posix_profile.specs.Outcomes.{answer};
 ghost use Rattle.volume_terms.specs.Sizes.{Sizes};
 ghost use Rattle.posix_profile.specs.State.{State};
-ghost use Rattle.object_commands.specs.Classes.{Syncing};
-ghost use Rattle.object_commands.specs.Plans.{Tries, Frees, IsPlan, frees};
-ghost use Rattle.object_commands.specs.Tables.{handles_in};
+ghost use Rattle.command_plans.specs.Classes.{Syncing};
+ghost use Rattle.command_plans.specs.Plans.{Tries, Frees, IsPlan, frees};
+ghost use Rattle.command_plans.specs.Tables.{handles_in};
 
-use crate::plan::{HandleChange, Plan, StoreWork};
-use crate::table::DescriptorTable;
+use command_plans::plan::{HandleChange, Plan, StoreWork};
+use command_plans::table::DescriptorTable;
 use posix_profile::{Errno, Reply};
 
 /// Sync: all objects, whatever they are.

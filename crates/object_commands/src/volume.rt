@@ -7,8 +7,7 @@ ghost use Rattle.posix_profile.specs.Losses.{LossLeaves};
 ghost use Rattle.posix_profile.specs.Outcomes.{Outcome};
 ghost use Rattle.posix_profile.specs.Runs.{takes_no_memory, is_stop, after, AllStopped, RunHolds};
 ghost use Rattle.volume_terms.specs.Sizes.{Sizes};
-ghost use Rattle.posix_profile.specs.laws.Sound.{IsStamped, IsSound};
-ghost use Rattle.posix_profile.specs.laws.Step.{AreStamped};
+ghost use Rattle.posix_profile.specs.laws.Sound.{IsSound};
 ghost use Rattle.posix_profile.specs.State.{Objects, State};
 ghost use Rattle.posix_profile.specs.Steps.{step};
 ghost use Rattle.posix_profile.specs.declared.reply.Errno.TheVariants as errors;
@@ -16,18 +15,19 @@ ghost use Rattle.posix_profile.specs.declared.reply.Reply.TheVariants as replies
 ghost use Rattle.posix_profile.specs.declared.reply.Reply.{Reply};
 ghost use Rattle.object_store.specs.Stores.{Has};
 ghost use Rattle.volume_terms.specs.declared.fault.StoreFault.TheVariants as faults;
-ghost use Rattle.object_commands.specs.Classes.{Class, class_of};
-ghost use Rattle.object_commands.specs.Plans.{Holds, Plans, Works, IsPlan, TakesNone, CanDo, InRange, frees, handled};
-ghost use Rattle.object_commands.specs.Tables.{handles_in};
+ghost use Rattle.command_plans.specs.Classes.{Class, class_of};
+ghost use Rattle.command_plans.specs.Plans.{Holds, Plans, Works, IsPlan, TakesNone, CanDo, InRange, frees, handled};
+ghost use Rattle.command_plans.specs.Tables.{handles_in};
 
 use crate::naming::{link, mkdir, rmdir, unlink};
 use crate::opening::{close, open};
-use crate::plan::{HandleChange, Plan, StoreWork, hand_on};
 use crate::rename::rename;
 use crate::syncing::{fsync, sync};
-use crate::table::DescriptorTable;
 use crate::telling::{list, read, seek, space, stat};
 use crate::writing::{truncate, write};
+use command_plans::plan::{HandleChange, Plan, StoreWork, hand_on};
+use command_plans::stamp::is_stamped;
+use command_plans::table::DescriptorTable;
 use object_store::{ObjectStore, Refusal};
 use posix_profile::{Command, Errno, Reply, Stamped};
 use std::alloc::{AllocError, Global};
@@ -140,12 +140,13 @@ pub struct Volume<S> {
 }
 
 impl<S: ObjectStore> Volume<S> {
+    ghost use Rattle.object_commands.specs.Volumes.{store_of, handles_of, is_read_only, is_stopped};
     ghost use Rattle.object_commands.specs.Endings.{IsAt, Ends};
     ghost use Rattle.object_commands.specs.Running.{Runs};
 
     /// A volume over the store: no descriptor is open.
     pub fn new(alloc: Global, store: S, read_only: bool) -> Result<Volume<S>, (S, AllocError)>
-        ensures { IfOk result (λ volume. (volume.store ≡ store) × (handles_in volume.table ≡ map.empty) × (volume.read_only ≡ read_only) × (volume.stopped ≡ false)) }
+        ensures { IfOk result (λ volume. (store_of volume ≡ store) × (handles_of volume ≡ map.empty) × (is_read_only volume ≡ read_only) × (is_stopped volume ≡ false)) }
     {
         match DescriptorTable::new(alloc) {
             Ok(table) => Ok(Volume {
@@ -159,16 +160,32 @@ impl<S: ObjectStore> Volume<S> {
         }
     }
 
+    /// A volume over another store, with the same descriptors: it goes on, or is stopped, as this one.
+    pub fn copy_over(&self, store: S) -> Result<Volume<S>, (S, AllocError)>
+        ensures { IfOk result (λ copy. (store_of copy ≡ store) × (handles_of copy ≡ handles_of self.now) × (is_read_only copy ≡ is_read_only self.now) × (is_stopped copy ≡ is_stopped self.now)) }
+    {
+        match self.table.copy(self.alloc) {
+            Ok(table) => Ok(Volume {
+                alloc: self.alloc,
+                store,
+                table,
+                read_only: self.read_only,
+                stopped: self.stopped,
+            }),
+            Err(error) => Err((store, error)),
+        }
+    }
+
     /// Its store.
     pub fn store(&self) -> &S
-        ensures { result.now ≡ self.now.store }
+        ensures { result.now ≡ store_of self.now }
     {
         &self.store
     }
 
     /// Gives its store back.
     pub fn into_store(self) -> S
-        ensures { result ≡ self.store }
+        ensures { result ≡ store_of self }
     {
         let Volume {
             alloc: _,
@@ -182,23 +199,23 @@ impl<S: ObjectStore> Volume<S> {
 
     /// Whether commands that would change it are refused.
     pub fn read_only(&self) -> bool
-        ensures { result ≡ self.now.read_only }
+        ensures { result ≡ is_read_only self.now }
     {
         self.read_only
     }
 
     /// Whether it answers EIO to each command.
     pub fn stopped(&self) -> bool
-        ensures { result ≡ self.now.stopped }
+        ensures { result ≡ is_stopped self.now }
     {
         self.stopped
     }
 
     /// Carries out a plan and replies.
     fn carry_out(&mut self, plan: Plan<'_>) -> Reply
-        ensures keeps { self.new.read_only ≡ self.old.read_only }
-        ensures lasts { S.meaning.lasts self.old.store self.new.store }
-        ensures ends { self.old.stopped ≡ false → (z : Sizes) (s : State) → IsAt S.meaning z s self.old
+        ensures keeps { is_read_only self.new ≡ is_read_only self.old }
+        ensures lasts { S.meaning.lasts (store_of self.old) (store_of self.new) }
+        ensures ends { is_stopped self.old ≡ false → (z : Sizes) (s : State) → IsAt S.meaning z s self.old
             → (class : Class) (meant : Outcome) → IsPlan z class s meant plan.entry → IsSound z meant.state
             → Ends S.meaning z class (frees plan.entry.work) s meant self.old self.new result }
     {
@@ -223,15 +240,16 @@ impl<S: ObjectStore> Volume<S> {
 
     /// Does a command and replies to it.
     pub fn call(&mut self, stamped: &Stamped) -> Reply
-        ensures keeps { self.new.read_only ≡ self.old.read_only }
-        ensures lasts { S.meaning.lasts self.old.store self.new.store }
-        ensures stopped { self.old.stopped ≡ true → (result ≡ replies.Error errors.EIO) × (self.new ≡ self.old) }
-        ensures ends { self.old.stopped ≡ false → IsStamped stamped.now → (z : Sizes) (s : State) → IsAt S.meaning z s self.old
-            → Ends S.meaning z (class_of stamped.now.command) (takes_no_memory stamped.now.command) s (step z self.old.read_only s stamped.now) self.old self.new result }
+        ensures keeps { is_read_only self.new ≡ is_read_only self.old }
+        ensures lasts { S.meaning.lasts (store_of self.old) (store_of self.new) }
+        ensures stopped { is_stopped self.old ≡ true → (result ≡ replies.Error errors.EIO) × (self.new ≡ self.old) }
+        ensures ends { is_stopped self.old ≡ false → (z : Sizes) (s : State) → IsAt S.meaning z s self.old
+            → Ends S.meaning z (class_of stamped.now.command) (takes_no_memory stamped.now.command) s (step z (is_read_only self.old) s stamped.now) self.old self.new result }
     {
         if self.stopped {
             return Reply::Error(Errno::EIO);
         }
+        is_stamped(stamped);
         match plan(
             self.alloc,
             &mut self.store,
@@ -250,8 +268,8 @@ impl<S: ObjectStore> Volume<S> {
     /// Does the commands in turn and adds their replies at the end of the vector. Where a reply finds no room its command
     /// is not begun, nor is any after it.
     pub fn run(&mut self, commands: &[Stamped], replies: &mut Vec<Reply>) -> Result<(), AllocError>
-        ensures keeps { self.new.read_only ≡ self.old.read_only }
-        ensures lasts { S.meaning.lasts self.old.store self.new.store }
+        ensures keeps { is_read_only self.new ≡ is_read_only self.old }
+        ensures lasts { S.meaning.lasts (store_of self.old) (store_of self.new) }
         ensures runs { (n : ℕ) × (n ≤ length commands.now) × OnOk result (n ≡ length commands.now)
             × Runs S.meaning commands.now n replies.old.items replies.new.items self.old self.new }
     {

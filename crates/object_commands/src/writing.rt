@@ -5,14 +5,14 @@ ghost use Rattle.posix_profile.specs.HandleSteps.{may_write, write_offset, write
 ghost use Rattle.volume_terms.specs.Sizes.{Sizes};
 ghost use Rattle.posix_profile.specs.State.{Handle, State, IsFile};
 ghost use Rattle.object_store.specs.Facts.{bytes_of};
-ghost use Rattle.object_commands.specs.Classes.{Changing};
-ghost use Rattle.object_commands.specs.Plans.{Holds, Tries};
-ghost use Rattle.object_commands.specs.Tables.{handle_of, handles_in};
+ghost use Rattle.command_plans.specs.Classes.{Changing};
+ghost use Rattle.command_plans.specs.Plans.{Holds, Tries};
+ghost use Rattle.command_plans.specs.Tables.{handle_of, handles_in};
 
-use crate::facts::length;
-use crate::plan::{HandleChange, Plan, StoreWork, change, tell};
-use crate::room::{has_bytes_room, units_for};
-use crate::table::{DescriptorTable, OpenDescription};
+use command_plans::facts::length;
+use command_plans::plan::{HandleChange, Plan, StoreWork, change, tell};
+use command_plans::room::{has_bytes_room, units_for};
+use command_plans::table::{DescriptorTable, OpenDescription};
 use object_store::{ObjectChange, ObjectStore};
 use posix_profile::{Access, Errno, Reply};
 

@@ -1,19 +1,29 @@
 -- What maps stand for.
 use Rattle.std.specs.Prelude.{◌≡◌}
 use Rattle.std.proofs.Common.{refl, ◌∙◌, inl}
+use Rattle.volume_terms.specs.Sizes.{Sizes}
 use Rattle.volume_terms.specs.VolumeSizes.{sizes_of}
+use Rattle.posix_profile.specs.State.{Objects}
 use Rattle.object_store.specs.Stores.{Meaning, IsLawful}
 use Rattle.plain_state.specs.PlainState.{objects_in}
 use Rattle.plain_objects.specs.declared.store.PlainObjects.{PlainObjects}
 
+-- the objects of the maps
+abbrev pub objects_of : PlainObjects → Objects
+objects_of a = objects_in a.objects
+
+-- the numbers of their volume
+abbrev pub numbers_of : PlainObjects → Sizes
+numbers_of a = sizes_of a.sizes
+
 -- The objects of the map. Reads leave it, a change leaves the new objects, and no device fails. Maps are not mounted, so nothing is said of what a mount would show.
 abbrev pub plain_meaning : Meaning PlainObjects
 plain_meaning = record {
-  sizes = λ a. sizes_of a.sizes;
-  stands = λ a objects. objects_in a.objects ≡ objects;
+  sizes = numbers_of;
+  stands = λ a objects. objects_of a ≡ objects;
   shows = λ a tree. Unit {0};
-  lasts = λ a b. sizes_of b.sizes ≡ sizes_of a.sizes;
-  reads = λ a b. (objects_in b.objects ≡ objects_in a.objects) × (sizes_of b.sizes ≡ sizes_of a.sizes);
+  lasts = λ a b. numbers_of b ≡ numbers_of a;
+  reads = λ a b. (objects_of b ≡ objects_of a) × (numbers_of b ≡ numbers_of a);
   changes = λ old new a b. Unit {0};
   fails = λ old new a b. ⊥;
   commits = λ objects a b. Unit {0};

@@ -6,6 +6,7 @@ ghost use Rattle.volume_terms.specs.VolumeSizes.{sizes_of};
 ghost use Rattle.posix_profile.specs.Charge.{charge, fits};
 ghost use Rattle.posix_profile.specs.laws.Fresh.{fresh};
 ghost use Rattle.object_store.specs.Facts.{bytes_of};
+ghost use Rattle.object_store.specs.Stores.{settled};
 ghost use Rattle.plain_state.specs.PlainState.{objects_in};
 
 use crate::changes::{bytes_at, changed, forget};
@@ -13,10 +14,10 @@ use crate::names::names_at;
 use object_store::{ObjectChange, ObjectStore};
 use plain_state::change::new_number;
 use plain_state::charge::{charge, fits};
-use plain_state::links::{ROOT, entry_count_at, info, is_named, parent};
+use plain_state::links::{ROOT, entry_at, entry_count_at, info, is_named, parent};
 use plain_state::object::{EntryMap, ObjectMap, PlainObject};
-use plain_state::path::entry_at;
-use plain_state::table::{object_at, put_object};
+use plain_state::prune::settled;
+use plain_state::table::{copy_objects, object_at, put_object};
 use posix_profile::{Bytes, Info, NameList};
 use std::alloc::{AllocError, Global};
 use volume_terms::{StoreFault, VolumeSizes};
@@ -31,11 +32,13 @@ pub struct PlainObjects {
 }
 
 impl PlainObjects {
+    ghost use Rattle.plain_objects.specs.PlainMeaning.{objects_of, numbers_of};
+
     /// An empty root, at moment 0.
     pub fn new(alloc: Global, sizes: VolumeSizes) -> Result<PlainObjects, AllocError>
         requires { IsSizes (sizes_of sizes) }
-        ensures objects { IfOk result (λ store. objects_in store.objects ≡ fresh.objects) }
-        ensures sizes { IfOk result (λ store. sizes_of store.sizes ≡ sizes_of sizes) }
+        ensures objects { IfOk result (λ store. objects_of store ≡ fresh.objects) }
+        ensures sizes { IfOk result (λ store. numbers_of store ≡ sizes_of sizes) }
     {
         let root = PlainObject::Directory {
             moment: 0,
@@ -46,6 +49,32 @@ impl PlainObjects {
         Ok(PlainObjects {
             alloc,
             sizes,
+            objects,
+        })
+    }
+
+    /// The same objects once more.
+    pub fn copy(&self) -> Result<PlainObjects, AllocError>
+        ensures objects { IfOk result (λ copy. objects_of copy ≡ objects_of self.now) }
+        ensures sizes { IfOk result (λ copy. numbers_of copy ≡ numbers_of self.now) }
+    {
+        let objects = copy_objects(&self.objects)?;
+        Ok(PlainObjects {
+            alloc: self.alloc,
+            sizes: self.sizes,
+            objects,
+        })
+    }
+
+    /// Those that names keep, which a mount would show.
+    pub fn settled(&self) -> Result<PlainObjects, AllocError>
+        ensures objects { IfOk result (λ kept. objects_of kept ≡ settled (objects_of self.now)) }
+        ensures sizes { IfOk result (λ kept. numbers_of kept ≡ numbers_of self.now) }
+    {
+        let objects = settled(&self.objects)?;
+        Ok(PlainObjects {
+            alloc: self.alloc,
+            sizes: self.sizes,
             objects,
         })
     }

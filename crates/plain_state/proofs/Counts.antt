@@ -10,14 +10,12 @@ use Rattle.std.specs.BTreeMap.{BTreeMap}
 use Rattle.std.specs.FinMap as map
 use Rattle.volume_terms.specs.Sizes.{root_number}
 use Rattle.std.proofs.lemmas.List.Recursion.{is_count_by}
-use Rattle.posix_profile.specs.State.{Object, Dir, Handle}
-use Rattle.posix_profile.specs.NameSteps.{directories_above}
+use Rattle.posix_profile.specs.State.{Object, Dir}
 use Rattle.posix_profile.specs.Names.{has_entry_to, names_to, parent, is_named}
 use Rattle.plain_state.specs.declared.object.PlainObject.{PlainObject}
-use Rattle.plain_state.specs.declared.object.PlainHandle.{PlainHandle}
 use Rattle.name_map.specs.NameEntries.{entries_in, name_cmp, entries_entries, values_entries}
-use Rattle.plain_state.specs.PlainState.{object_of, objects_in, handle_of, handles_in}
-use Rattle.plain_state.specs.Views.{entries_objects, values_objects, values_handles}
+use Rattle.plain_state.specs.PlainState.{object_of, objects_in}
+use Rattle.plain_state.specs.Views.{entries_objects, values_objects}
 
 any_map : {X Y : Type 0} (p : Y → Bool) (f : X → Y) (xs : List X) → list_any p (list_map f xs) ≡ list_any (λ x. p (f x)) xs
 any_map p f [] = refl
@@ -25,9 +23,6 @@ any_map p f (x ∷ xs) = ap (λ b. p (f x) || b) (any_map p f xs)
 
 pub named_values : (m : BTreeMap ℕ PlainObject) (o : ℕ) → tree.IsOrdered nat_cmp m → is_named (objects_in m) o ≡ list_any (λ x. has_entry_to o (object_of x)) (tree.values m)
 named_values m o sorted = ap (list_any (has_entry_to o)) (values_objects m sorted) ∙ any_map (has_entry_to o) object_of (tree.values m)
-
-pub open_values : (m : BTreeMap ℕ PlainHandle) (o : ℕ) → tree.IsOrdered nat_cmp m → list_any (λ h. nat_eq o h.object) (map.values (handles_in m)) ≡ list_any (λ h. nat_eq o h.object) (tree.values m)
-open_values m o sorted = ap (list_any (λ (h : Handle). nat_eq o h.object)) (values_handles m sorted) ∙ any_map (λ (h : Handle). nat_eq o h.object) handle_of (tree.values m)
 
 pub entry_values : (m : BTreeMap (Vec ℕ) ℕ) (o : ℕ) → tree.IsOrdered name_cmp m → list_any (nat_eq o) (map.values (entries_in m)) ≡ list_any (nat_eq o) (tree.values m)
 entry_values m o sorted = ap (list_any (nat_eq o)) (values_entries m sorted)
@@ -48,13 +43,6 @@ parent_entries m o sorted = ap (λ es. option_map_or (λ (e : ℕ × Object). e.
 abbrev pub count_left : (p : ℕ → Bool) → List ℕ → ℕ
 count_left p [] = 0
 count_left p (x ∷ xs) = cond (p x) (1 + count_left p xs) (count_left p xs)
-
--- one step up
-pub above_step : (objects : map.FinMap nat_cmp Object) (o d j k : ℕ) → k ≡ j + 1 → nat_eq o d ≡ false
-    → list_any (nat_eq o) (directories_above objects k d) ≡ list_any (nat_eq o) (directories_above objects j (parent objects d))
-above_step objects o d j k is no' =
-    let more : k ≡ suc j = omega arith in
-    ap (λ n. list_any (nat_eq o) (directories_above objects n d)) more ∙ ap (λ b. b || list_any (nat_eq o) (directories_above objects j (parent objects d))) no'
 
 -- the search among numbers that follow one another
 pub find_hit : (p : ℕ → Bool) (a m k : ℕ) → m ≡ k + 1 → p a ≡ true → find p (range_with_len a m) ≡ Some a

@@ -1,3 +1,3 @@
 pub mod Counts
-pub mod Walks
 pub mod Few
+pub mod Kept

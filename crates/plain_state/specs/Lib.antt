@@ -1,3 +1,2 @@
 pub mod PlainState
-pub mod Places
 pub mod Views

@@ -1,13 +1,12 @@
--- What the maps and vectors of a plain volume stand for.
+-- What maps and vectors stand for.
 -- From: this project.
 use Rattle.std.specs.Prelude.{ℕ, map as list_map}
 use Rattle.std.specs.FinMap as map
 use Rattle.std.specs.BTreeMap.{BTreeMap}
-use Rattle.posix_profile.specs.State.{Object, File, Dir, Objects, Handle, Handles}
+use Rattle.posix_profile.specs.State.{Object, File, Dir, Objects}
 use Rattle.name_map.specs.NameEntries.{entries_in}
 use Rattle.plain_state.specs.declared.object.PlainObject.{PlainObject}
 use Rattle.plain_state.specs.declared.object.PlainObject.TheVariants as plain
-use Rattle.plain_state.specs.declared.object.PlainHandle.{PlainHandle}
 
 -- a file with its bytes, or a directory with its entries
 abbrev pub object_of : PlainObject → Object
@@ -17,11 +16,3 @@ object_of (plain.Directory moment entries) = Dir moment (entries_in entries)
 -- the objects by their numbers
 abbrev pub objects_in : BTreeMap ℕ PlainObject → Objects
 objects_in m = map.from_entries (list_map (λ e. (e.0, object_of e.1)) m.entries)
-
--- what a descriptor stands for
-abbrev pub handle_of : PlainHandle → Handle
-handle_of h = record { object = h.object; flags = h.flags; offset = h.offset }
-
--- what the descriptors stand for
-abbrev pub handles_in : BTreeMap ℕ PlainHandle → Handles
-handles_in m = map.from_entries (list_map (λ e. (e.0, handle_of e.1)) m.entries)

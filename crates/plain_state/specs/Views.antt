@@ -1,10 +1,9 @@
--- The maps of the plain volume seen as those of its state.
+-- Maps seen as those of a state.
 use Rattle.std.specs.Prelude.{◌≡◌, ◌<◌, ℕ, ◌+◌, ◌/◌, ◌%◌, min, List, [], ◌∷◌, map as list_map, length, sum_by, Option, Some, None, is_some}
 use Rattle.std.proofs.Common.{refl, ◌∙◌, ap, arith}
 use Rattle.std.specs.Ordering.{nat_cmp, is_eq}
 use Rattle.std.specs.Cmp.{nat_cmp_total}
 use Rattle.std.specs.Option.{option_map, option_copied}
-use Rattle.std.specs.Map.{remove_entry}
 use Rattle.std.specs.BTreeMap as tree
 use Rattle.std.specs.BTreeMap.{BTreeMap, insert_entry}
 use Rattle.std.specs.FinMap as map
@@ -20,9 +19,8 @@ use Rattle.volume_terms.specs.Rounding.{ceiling}
 use Rattle.volume_terms.specs.laws.Rounding.{ceiling_is}
 use Rattle.posix_profile.specs.State.{Object}
 use Rattle.plain_state.specs.declared.object.PlainObject.{PlainObject}
-use Rattle.plain_state.specs.declared.object.PlainHandle.{PlainHandle}
-use Rattle.plain_state.specs.PlainState.{object_of, objects_in, handle_of, handles_in}
-use Rattle.name_map.specs.Seen.{get_seen, entries_seen, insert_seen, remove_seen}
+use Rattle.plain_state.specs.PlainState.{object_of, objects_in}
+use Rattle.name_map.specs.Seen.{get_seen, entries_seen, insert_seen}
 use denote.Bor.{Bor}
 
 -- a view of what a reference points to
@@ -33,20 +31,11 @@ mapped_copied f (Some x) o is = ap (option_map f) is
 pub get_object : (m : BTreeMap ℕ PlainObject) (o : ℕ) → map.get (objects_in m) o ≡ option_map object_of (tree.get nat_cmp m o)
 get_object m o = get_seen nat_cmp (λ (k : ℕ). k) object_of nat_cmp_total m.entries o
 
-pub get_handle : (m : BTreeMap ℕ PlainHandle) (fd : ℕ) → map.get (handles_in m) fd ≡ option_map handle_of (tree.get nat_cmp m fd)
-get_handle m fd = get_seen nat_cmp (λ (k : ℕ). k) handle_of nat_cmp_total m.entries fd
-
 pub insert_object : (m n : BTreeMap ℕ PlainObject) (k : ℕ) (v : PlainObject) → tree.IsOrdered nat_cmp m → tree.IsOrdered nat_cmp n → n.entries ≡ insert_entry nat_cmp m.entries k v → objects_in n ≡ map.insert (objects_in m) k (object_of v)
 insert_object m n k v old new is = insert_seen nat_cmp (λ (k : ℕ). k) object_of nat_cmp_total m.entries n.entries k v old new is
 
-pub insert_handle : (m n : BTreeMap ℕ PlainHandle) (k : ℕ) (v : PlainHandle) → tree.IsOrdered nat_cmp m → tree.IsOrdered nat_cmp n → n.entries ≡ insert_entry nat_cmp m.entries k v → handles_in n ≡ map.insert (handles_in m) k (handle_of v)
-insert_handle m n k v old new is = insert_seen nat_cmp (λ (k : ℕ). k) handle_of nat_cmp_total m.entries n.entries k v old new is
-
 pub entries_objects : (m : BTreeMap ℕ PlainObject) → tree.IsOrdered nat_cmp m → map.entries (objects_in m) ≡ list_map (λ e. (e.0, object_of e.1)) m.entries
 entries_objects m sorted = entries_seen nat_cmp (λ (k : ℕ). k) object_of nat_cmp_total m.entries sorted
-
-pub entries_handles : (m : BTreeMap ℕ PlainHandle) → tree.IsOrdered nat_cmp m → map.entries (handles_in m) ≡ list_map (λ e. (e.0, handle_of e.1)) m.entries
-entries_handles m sorted = entries_seen nat_cmp (λ (k : ℕ). k) handle_of nat_cmp_total m.entries sorted
 
 value_list : {K L X Y : Type 0} (f : K → L) (g : X → Y) (es : List (K × X)) → list_map (λ e. e.1) (list_map {B = L × Y} (λ (e : K × X). (f e.0, g e.1)) es) ≡ list_map g (list_map (λ e. e.1) es)
 value_list f g [] = refl
@@ -54,9 +43,6 @@ value_list f g (e ∷ es) = ap (λ xs. g e.1 ∷ xs) (value_list f g es)
 
 pub values_objects : (m : BTreeMap ℕ PlainObject) → tree.IsOrdered nat_cmp m → map.values (objects_in m) ≡ list_map object_of (tree.values m)
 values_objects m sorted = ap (list_map (λ (e : ℕ × Object). e.1)) (entries_objects m sorted) ∙ value_list (λ (k : ℕ). k) object_of m.entries
-
-pub values_handles : (m : BTreeMap ℕ PlainHandle) → tree.IsOrdered nat_cmp m → map.values (handles_in m) ≡ list_map handle_of (tree.values m)
-values_handles m sorted = ap (list_map (λ e. e.1)) (entries_handles m sorted) ∙ value_list (λ (k : ℕ). k) handle_of m.entries
 
 pub len_objects : (m : BTreeMap ℕ PlainObject) → tree.IsOrdered nat_cmp m → map.len (objects_in m) ≡ tree.btree_map_len m
 len_objects m sorted = map.len-entries (objects_in m) ∙ ap length (entries_objects m sorted) ∙ length-map m.entries _
@@ -82,14 +68,5 @@ is_some_map f (Some x) = refl
 pub has_object_is : (m : BTreeMap ℕ PlainObject) (o : ℕ) → map.contains_key (objects_in m) o ≡ is_some (tree.get nat_cmp m o)
 has_object_is m o = ap is_some (get_object m o) ∙ is_some_map object_of (tree.get nat_cmp m o)
 
-pub has_handle_is : (m : BTreeMap ℕ PlainHandle) (fd : ℕ) → map.contains_key (handles_in m) fd ≡ is_some (tree.get nat_cmp m fd)
-has_handle_is m fd = ap is_some (get_handle m fd) ∙ is_some_map handle_of (tree.get nat_cmp m fd)
-
-pub remove_handle : (m n : BTreeMap ℕ PlainHandle) (k : ℕ) → tree.IsOrdered nat_cmp m → n.entries ≡ remove_entry (λ x. is_eq (nat_cmp k x)) m.entries → handles_in n ≡ map.remove (handles_in m) k
-remove_handle m n k old is = remove_seen nat_cmp (λ (k : ℕ). k) handle_of nat_cmp_total map.nat_cmp-IsAntisymmetric m.entries n.entries k old is
-
 pub empty_objects : (m : BTreeMap ℕ PlainObject) → tree.IsEmpty m → objects_in m ≡ map.empty
 empty_objects m is = ap (λ es. map.from_entries {R = nat_cmp} (list_map (λ (e : ℕ × PlainObject). (e.0, object_of e.1)) es)) is
-
-pub empty_handles : (m : BTreeMap ℕ PlainHandle) → tree.IsEmpty m → handles_in m ≡ map.empty
-empty_handles m is = ap (λ es. map.from_entries {R = nat_cmp} (list_map (λ (e : ℕ × PlainHandle). (e.0, handle_of e.1)) es)) is

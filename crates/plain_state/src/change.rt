@@ -2,16 +2,13 @@
 ghost use Rattle.std.specs.Prelude.{◌≡◌, ◌<◌, ◌+◌, ◌^◌, length, Some, IfOk, OnOk};
 ghost use Rattle.std.specs.FinMap as map;
 ghost use Rattle.posix_profile.specs.State.{entries_of};
-ghost use Rattle.posix_profile.specs.Changes.{new_number, free_descriptor, with_name, without_name, with_object, written, resized};
+ghost use Rattle.posix_profile.specs.Changes.{new_number, with_name, without_name, with_object, written, resized};
 ghost use Rattle.name_map.specs.NameEntries.{entries_in};
-ghost use Rattle.plain_state.specs.PlainState.{object_of, objects_in, handles_in};
+ghost use Rattle.plain_state.specs.PlainState.{object_of, objects_in};
 
-use crate::object::{EntryMap, HandleMap, ObjectMap, PlainObject};
-use crate::table::{copy_entries, is_closed, is_free, object_at, put_object};
+use crate::object::{EntryMap, ObjectMap, PlainObject};
+use crate::table::{copy_entries, is_free, object_at, put_object};
 use std::alloc::{AllocError, Global};
-
-/// How many descriptors there are.
-const DESCRIPTORS: u32 = 64;
 
 /// The least number from 2 up that no object has.
 pub fn new_number(objects: &ObjectMap) -> u64
@@ -24,18 +21,6 @@ pub fn new_number(objects: &ObjectMap) -> u64
         }
     }
     0
-}
-
-/// The least descriptor that is not open, if there is one.
-pub fn free_descriptor(handles: &HandleMap) -> Option<u32>
-    ensures { result ≡ free_descriptor (handles_in handles.now) }
-{
-    for fd in 0..DESCRIPTORS {
-        if is_closed(handles, fd) {
-            return Some(fd);
-        }
-    }
-    None
 }
 
 /// A copy of the entries of a directory; a file has none.

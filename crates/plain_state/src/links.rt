@@ -1,16 +1,15 @@
 // Which objects name which.
-ghost use Rattle.std.specs.Prelude.{◌≡◌, ◌<◌, ◌^◌, length, nat_eq, nat_lt, true, count_by};
-ghost use Rattle.std.specs.List.{list_any};
+ghost use Rattle.std.specs.Prelude.{◌≡◌, ◌<◌, ◌^◌, length, Some, true, count_by};
 ghost use Rattle.std.specs.FinMap as map;
-ghost use Rattle.posix_profile.specs.State.{is_directory, is_file, entries_of};
+ghost use Rattle.posix_profile.specs.State.{is_directory, entries_of};
 ghost use Rattle.posix_profile.specs.Names.{has_entry_to, names_to, link_pairs, parent, is_named};
-ghost use Rattle.posix_profile.specs.NameSteps.{info, is_below};
+ghost use Rattle.posix_profile.specs.NameSteps.{info};
 ghost use Rattle.posix_profile.specs.Charge.{fits};
 ghost use Rattle.name_map.specs.NameEntries.{entries_in};
-ghost use Rattle.plain_state.specs.PlainState.{object_of, objects_in, handles_in};
+ghost use Rattle.plain_state.specs.PlainState.{object_of, objects_in};
 ghost use Rattle.volume_terms.specs.VolumeSizes.{sizes_of};
 
-use crate::object::{EntryMap, HandleMap, ObjectMap, PlainObject};
+use crate::object::{EntryMap, ObjectMap, PlainObject};
 use crate::table::object_at;
 use posix_profile::{Info, Kind};
 use volume_terms::VolumeSizes;
@@ -19,26 +18,13 @@ use volume_terms::VolumeSizes;
 pub const ROOT: u64 = 1;
 
 /// Whether a directory is at this number.
-pub fn is_directory_at(objects: &ObjectMap, number: u64) -> bool
+fn is_directory_at(objects: &ObjectMap, number: u64) -> bool
     ensures { result ≡ is_directory (map.get (objects_in objects.now) number) }
 {
     match object_at(objects, number) {
         Some(object) => match object {
             PlainObject::File { .. } => false,
             PlainObject::Directory { .. } => true,
-        },
-        None => false,
-    }
-}
-
-/// Whether a file is at this number.
-pub fn is_file_at(objects: &ObjectMap, number: u64) -> bool
-    ensures { result ≡ is_file (map.get (objects_in objects.now) number) }
-{
-    match object_at(objects, number) {
-        Some(object) => match object {
-            PlainObject::File { .. } => true,
-            PlainObject::Directory { .. } => false,
         },
         None => false,
     }
@@ -64,11 +50,24 @@ pub fn entry_count_at(objects: &ObjectMap, number: u64) -> u64
     }
 }
 
-/// Whether a directory at this number has entries.
-pub fn has_entries_at(objects: &ObjectMap, number: u64) -> bool
-    ensures { result ≡ nat_lt 0 (map.len (entries_of (map.get (objects_in objects.now) number))) }
+/// The object that a name of a directory leads to.
+fn entry_of(object: &PlainObject, name: &[u8]) -> Option<u64>
+    ensures { result ≡ map.get (entries_of (Some (object_of object.now))) name.now }
 {
-    0 < entry_count_at(objects, number)
+    match object {
+        PlainObject::File { .. } => None,
+        PlainObject::Directory { entries, .. } => entries.get(name).copied(),
+    }
+}
+
+/// The object that a name leads to from a directory at this number.
+pub fn entry_at(objects: &ObjectMap, directory: u64, name: &[u8]) -> Option<u64>
+    ensures { result ≡ map.get (entries_of (map.get (objects_in objects.now) directory)) name.now }
+{
+    match object_at(objects, directory) {
+        Some(object) => entry_of(object, name),
+        None => None,
+    }
 }
 
 /// Whether the object is a directory that names the number.
@@ -106,18 +105,6 @@ pub fn is_named(objects: &ObjectMap, number: u64) -> bool
 {
     for object in objects.values() {
         if has_entry_to(object, number) {
-            return true;
-        }
-    }
-    false
-}
-
-/// Whether some descriptor stands for the object.
-pub(crate) fn is_open(handles: &HandleMap, number: u64) -> bool
-    ensures { result ≡ list_any (λ h. nat_eq number h.object) (map.values (handles_in handles.now)) }
-{
-    for handle in handles.values() {
-        if number == handle.object {
             return true;
         }
     }
@@ -189,19 +176,4 @@ pub fn info(sizes: VolumeSizes, objects: &ObjectMap, number: u64, object: &Plain
             moment: *moment,
         },
     }
-}
-
-/// Whether the directory is this object or lies below it.
-pub fn is_below(objects: &ObjectMap, number: u64, directory: u64) -> bool
-    ensures { result ≡ is_below (objects_in objects.now) number directory }
-{
-    let count = objects.len();
-    let mut here = directory;
-    for step in 0..count {
-        if number == here {
-            return true;
-        }
-        here = parent(objects, here);
-    }
-    number == here
 }

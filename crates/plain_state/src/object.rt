@@ -1,8 +1,7 @@
-// What the plain volume holds.
+// What the maps hold.
 ghost use Rattle.std.specs.Prelude.{◌≡◌};
 
 use crate::table::{copy_bytes, copy_entries};
-use posix_profile::OpenFlags;
 use std::alloc::AllocError;
 use std::collections::BTreeMap;
 
@@ -14,9 +13,6 @@ pub type EntryMap = BTreeMap<EntryName, u64>;
 
 /// From numbers to objects.
 pub type ObjectMap = BTreeMap<u64, PlainObject>;
-
-/// From descriptors to what they stand for.
-pub type HandleMap = BTreeMap<u32, PlainHandle>;
 
 /// A file or a directory, with the moment of its last change.
 #[derive(Drop, Debug)]
@@ -42,12 +38,4 @@ impl Clone for PlainObject {
             },
         })
     }
-}
-
-/// What an open descriptor stands for. The offset is in bytes.
-#[derive(Clone, Copy, Debug, PartialEq, Eq)]
-pub struct PlainHandle {
-    pub object: u64,
-    pub flags: OpenFlags,
-    pub offset: u64,
 }

@@ -3,9 +3,9 @@ ghost use Rattle.std.specs.Prelude.{◌≡◌, not, OnOk, IfOk};
 ghost use Rattle.std.specs.Option.{option_map};
 ghost use Rattle.std.specs.FinMap as map;
 ghost use Rattle.name_map.specs.NameEntries.{entries_in};
-ghost use Rattle.plain_state.specs.PlainState.{object_of, objects_in, handle_of, handles_in};
+ghost use Rattle.plain_state.specs.PlainState.{object_of, objects_in};
 
-use crate::object::{EntryMap, HandleMap, ObjectMap, PlainHandle, PlainObject};
+use crate::object::{EntryMap, ObjectMap, PlainObject};
 use std::alloc::AllocError;
 
 /// The object of this number.
@@ -20,13 +20,6 @@ pub(crate) fn is_free(objects: &ObjectMap, number: u64) -> bool
     ensures { result ≡ not (map.contains_key (objects_in objects.now) number) }
 {
     !objects.contains_key(&number)
-}
-
-/// Whether this descriptor is not open.
-pub(crate) fn is_closed(handles: &HandleMap, fd: u32) -> bool
-    ensures { result ≡ not (map.contains_key (handles_in handles.now) fd) }
-{
-    !handles.contains_key(&fd)
 }
 
 /// Puts an object at a number.
@@ -46,36 +39,6 @@ pub fn copy_objects(objects: &ObjectMap) -> Result<ObjectMap, AllocError>
     ensures { IfOk result (λ copy. objects_in copy ≡ objects_in objects.now) }
 {
     objects.clone()
-}
-
-/// A copy of the descriptors.
-pub fn copy_handles(handles: &HandleMap) -> Result<HandleMap, AllocError>
-    ensures { IfOk result (λ copy. handles_in copy ≡ handles_in handles.now) }
-{
-    handles.clone()
-}
-
-/// A copy of the descriptors, one of which stands for this.
-pub fn with_handle(
-    handles: &HandleMap,
-    fd: u32,
-    handle: PlainHandle,
-) -> Result<HandleMap, AllocError>
-    ensures { IfOk result (λ new. handles_in new ≡ map.insert (handles_in handles.now) fd (handle_of handle)) }
-{
-    let mut new = copy_handles(handles)?;
-    new.insert(fd, handle)?;
-    Ok(new)
-}
-
-/// A copy of the descriptors without one.
-pub fn without_handle(handles: &HandleMap, fd: u32) -> Result<HandleMap, AllocError>
-    ensures { IfOk result (λ new. handles_in new ≡ map.remove (handles_in handles.now) fd) }
-{
-    let mut new = copy_handles(handles)?;
-    let _count = new.len();
-    let _ = new.remove(&fd);
-    Ok(new)
 }
 
 /// A copy of the bytes.

@@ -8,8 +8,8 @@ use Rattle.posix_profile.specs.Outcomes.{Outcome, unless, at_place}
 use Rattle.posix_profile.specs.Paths.{Place, resolve}
 use Rattle.posix_profile.specs.State.{is_directory}
 use Rattle.posix_profile.specs.declared.reply.Errno.TheVariants as errors
-use Rattle.object_commands.specs.Classes.{Changing}
-use Rattle.object_commands.proofs.Outcomes.{holds_on, plans_same, plans_nothing, refused, passed, passed_all}
+use Rattle.command_plans.specs.Classes.{Changing}
+use Rattle.command_plans.specs.laws.Plan.{holds_on, plans_same, plans_nothing, refused, passed, passed_all}
 use Rattle.object_commands.proofs.naming.link.Goals as goal
 
 pub returns-in_err-found-clause-plans : goal.returns-in_err-found-clause-plans

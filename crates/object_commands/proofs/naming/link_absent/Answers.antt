@@ -8,7 +8,7 @@ use Rattle.posix_profile.specs.laws.Place.{absent_name}
 use Rattle.posix_profile.specs.declared.reply.Reply.TheVariants as replies
 use Rattle.path_walk.specs.Places.{last_of, place_of}
 use Rattle.object_commands.proofs.Making.{plan_changed, entry_is, absent_at}
-use Rattle.object_commands.proofs.Outcomes.{change_fits, change_full, refused, passed, passed_all}
+use Rattle.command_plans.specs.laws.Plan.{change_fits, change_full, refused, passed, passed_all}
 use Rattle.object_commands.proofs.naming.link_absent.Goals as goal
 
 pub returns-then-to : goal.returns-then-to

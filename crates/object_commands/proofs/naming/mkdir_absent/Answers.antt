@@ -11,7 +11,7 @@ use Rattle.posix_profile.specs.declared.reply.Kind.TheVariants as kinds
 use Rattle.posix_profile.specs.declared.reply.Reply.TheVariants as replies
 use Rattle.path_walk.specs.Places.{last_of, place_of}
 use Rattle.object_commands.proofs.Making.{plan_changed, entry_is, absent_at}
-use Rattle.object_commands.proofs.Outcomes.{change_fits, change_full, refused, passed, passed_all}
+use Rattle.command_plans.specs.laws.Plan.{change_fits, change_full, refused, passed, passed_all}
 use Rattle.object_commands.proofs.naming.mkdir_absent.Goals as goal
 
 pub returns-then-read_only : goal.returns-then-read_only

@@ -8,7 +8,7 @@ use Rattle.posix_profile.specs.declared.reply.Reply.TheVariants as replies
 use Rattle.path_walk.specs.Places.{place_of}
 use Rattle.object_commands.proofs.Making.{plan_changed, entry_is, leads_at}
 use Rattle.object_commands.proofs.NamesLost.{removed_unnames}
-use Rattle.object_commands.proofs.RoomLaws.{removed_fits, without_fits}
+use Rattle.command_plans.specs.laws.Room.{removed_fits, without_fits}
 use Rattle.object_commands.proofs.naming.remove_at.Goals as goal
 
 pub returns : goal.returns

@@ -1,6 +1,6 @@
-use Rattle.object_commands.specs.Classes.{Changing}
+use Rattle.command_plans.specs.Classes.{Changing}
 use Rattle.object_commands.specs.Names.{rmdir_at}
-use Rattle.object_commands.proofs.Outcomes.{holds_on, plans_of}
+use Rattle.command_plans.specs.laws.Plan.{holds_on, plans_of}
 use Rattle.object_commands.proofs.naming.rmdir.Goals as goal
 
 pub returns-clause-plans : goal.returns-clause-plans

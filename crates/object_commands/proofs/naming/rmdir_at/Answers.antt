@@ -1,6 +1,6 @@
 use Rattle.std.proofs.Common.{◌∙◌, sym}
-use Rattle.object_commands.specs.Classes.{Changing}
-use Rattle.object_commands.proofs.Outcomes.{tries_same, refused, passed, passed_all}
+use Rattle.command_plans.specs.Classes.{Changing}
+use Rattle.command_plans.specs.laws.Plan.{tries_same, refused, passed, passed_all}
 use Rattle.object_commands.proofs.naming.rmdir_at.Goals as goal
 
 pub returns-then-ends_in_dot : goal.returns-then-ends_in_dot

@@ -1,5 +1,5 @@
-use Rattle.object_commands.specs.Classes.{Changing}
-use Rattle.object_commands.proofs.Outcomes.{tries_same, this_object, no_object}
+use Rattle.command_plans.specs.Classes.{Changing}
+use Rattle.command_plans.specs.laws.Plan.{tries_same, this_object, no_object}
 use Rattle.object_commands.proofs.naming.rmdir_named.Goals as goal
 
 pub returns-in-Some : goal.returns-in-Some

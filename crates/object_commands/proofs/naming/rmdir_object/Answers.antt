@@ -4,9 +4,9 @@ use Rattle.std.proofs.Common.{le-ltb}
 use Rattle.posix_profile.specs.laws.Name.{directory_or}
 use Rattle.posix_profile.specs.laws.Place.{found_there}
 use Rattle.path_walk.specs.Places.{last_of, place_of}
-use Rattle.object_commands.specs.Classes.{Changing}
+use Rattle.command_plans.specs.Classes.{Changing}
 use Rattle.object_commands.proofs.Making.{name_leads}
-use Rattle.object_commands.proofs.Outcomes.{plan_same, refused, passed, passed_all}
+use Rattle.command_plans.specs.laws.Plan.{plan_same, refused, passed, passed_all}
 use Rattle.object_commands.proofs.naming.rmdir_object.Goals as goal
 
 pub returns-then-is_file : goal.returns-then-is_file

@@ -6,8 +6,8 @@ use Rattle.posix_profile.specs.Outcomes.{answer, unless}
 use Rattle.posix_profile.specs.State.{is_directory}
 use Rattle.posix_profile.specs.declared.reply.Errno.TheVariants as errors
 use Rattle.posix_profile.specs.declared.reply.Reply.TheVariants as replies
-use Rattle.object_commands.specs.Classes.{Changing}
-use Rattle.object_commands.proofs.Outcomes.{holds_on, plans_nothing, plans_of}
+use Rattle.command_plans.specs.Classes.{Changing}
+use Rattle.command_plans.specs.laws.Plan.{holds_on, plans_nothing, plans_of}
 use Rattle.object_commands.proofs.naming.unlink.Goals as goal
 
 pub returns-in_err-found-clause-plans : goal.returns-in_err-found-clause-plans

@@ -3,8 +3,8 @@ use Rattle.std.specs.FinMap as map
 use Rattle.posix_profile.specs.State.{Objects, Handles}
 use Rattle.posix_profile.specs.Outcomes.{answer}
 use Rattle.posix_profile.specs.declared.reply.Reply.TheVariants as replies
-use Rattle.object_commands.specs.Tables.{handle_of}
-use Rattle.object_commands.proofs.Outcomes.{no_handle, this_handle}
+use Rattle.command_plans.specs.Tables.{handle_of}
+use Rattle.command_plans.specs.laws.Plan.{no_handle, this_handle}
 use Rattle.object_commands.proofs.opening.close.Goals as goal
 
 pub returns-in-Some-clause-plans : goal.returns-in-Some-clause-plans

@@ -3,7 +3,7 @@ use Rattle.std.specs.FinMap as map
 use Rattle.posix_profile.specs.State.{Handles}
 use Rattle.posix_profile.specs.WellFormed.{IsNamed, IsOpen}
 use Rattle.object_commands.proofs.NamesLost.{closed_keeps, closed_drops}
-use Rattle.object_commands.proofs.RoomLaws.{forget_fits}
+use Rattle.command_plans.specs.laws.Room.{forget_fits}
 use Rattle.object_commands.proofs.opening.forgotten.Goals as goal
 
 pub returns-then-number-eq-ROOT-clause-leaves : goal.returns-then-number-eq-ROOT-clause-leaves

@@ -1,8 +1,8 @@
 use Rattle.std.proofs.Common.{◌∙◌, sym}
 use Rattle.std.proofs.lemmas.Result.{err_from_is_err_and}
 use Rattle.posix_profile.specs.HandleSteps.{open_at}
-use Rattle.object_commands.specs.Classes.{Changing}
-use Rattle.object_commands.proofs.Outcomes.{holds_on, plans_of, plans_is, plans_nowhere, refused, passed, passed_all}
+use Rattle.command_plans.specs.Classes.{Changing}
+use Rattle.command_plans.specs.laws.Plan.{holds_on, plans_of, plans_is, plans_nowhere, refused, passed, passed_all}
 use Rattle.object_commands.proofs.opening.open.Goals as goal
 
 pub returns-then-cuts_what_is_only_read-clause-plans : goal.returns-then-cuts_what_is_only_read-clause-plans

@@ -2,9 +2,9 @@ use Rattle.std.proofs.Common.{◌∙◌, sym, ap}
 use Rattle.posix_profile.specs.Changes.{free_descriptor}
 use Rattle.posix_profile.specs.laws.Number.{free_descriptor_is}
 use Rattle.path_walk.specs.Places.{place_of}
-use Rattle.object_commands.specs.Classes.{Changing}
+use Rattle.command_plans.specs.Classes.{Changing}
 use Rattle.object_commands.specs.Opens.{open_absent_on}
-use Rattle.object_commands.proofs.Outcomes.{tries_same, refused, passed, passed_all, no_descriptor, this_descriptor}
+use Rattle.command_plans.specs.laws.Plan.{tries_same, refused, passed, passed_all, no_descriptor, this_descriptor}
 use Rattle.object_commands.proofs.opening.open_absent.Goals as goal
 
 pub returns-then-not-flags : goal.returns-then-not-flags

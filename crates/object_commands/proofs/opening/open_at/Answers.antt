@@ -2,8 +2,8 @@ use Rattle.std.proofs.Common.{sym, ap}
 use Rattle.posix_profile.specs.HandleSteps.{open_at}
 use Rattle.posix_profile.specs.laws.Place.{found_there}
 use Rattle.path_walk.specs.Places.{last_of, place_of}
-use Rattle.object_commands.specs.Classes.{Changing}
-use Rattle.object_commands.proofs.Outcomes.{tries_same}
+use Rattle.command_plans.specs.Classes.{Changing}
+use Rattle.command_plans.specs.laws.Plan.{tries_same}
 use Rattle.object_commands.proofs.opening.open_at.Goals as goal
 
 pub returns-in-Some : goal.returns-in-Some

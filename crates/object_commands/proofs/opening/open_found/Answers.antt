@@ -2,10 +2,10 @@ use Rattle.std.proofs.Common.{◌∙◌, sym, ap}
 use Rattle.posix_profile.specs.Changes.{free_descriptor}
 use Rattle.posix_profile.specs.HandleSteps.{may_write}
 use Rattle.posix_profile.specs.laws.Number.{free_descriptor_is}
-use Rattle.object_commands.specs.Classes.{Changing}
+use Rattle.command_plans.specs.Classes.{Changing}
 use Rattle.object_commands.specs.Opens.{open_found_on}
 use Rattle.object_commands.proofs.Making.{cut_file}
-use Rattle.object_commands.proofs.Outcomes.{tries_same, refused, passed, passed_all, no_descriptor, this_descriptor}
+use Rattle.command_plans.specs.laws.Plan.{tries_same, refused, passed, passed_all, no_descriptor, this_descriptor}
 use Rattle.object_commands.proofs.opening.open_found.Goals as goal
 
 pub returns-then-is_exclusive : goal.returns-then-is_exclusive

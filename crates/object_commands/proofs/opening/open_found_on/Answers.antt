@@ -5,7 +5,7 @@ use Rattle.posix_profile.specs.State.{Objects}
 use Rattle.posix_profile.specs.declared.reply.Reply.TheVariants as replies
 use Rattle.object_commands.specs.Opens.{cut_by, opened}
 use Rattle.object_commands.proofs.Making.{opened_plan, cut_made, cut_can, cut_suits, cut_fits}
-use Rattle.object_commands.proofs.Outcomes.{change_fits, refused, passed, passed_all}
+use Rattle.command_plans.specs.laws.Plan.{change_fits, refused, passed, passed_all}
 use Rattle.object_commands.proofs.opening.open_found_on.Goals as goal
 
 pub returns-then-is_write_refused : goal.returns-then-is_write_refused

@@ -6,7 +6,7 @@ use Rattle.posix_profile.specs.laws.Name.{namer_directory}
 use Rattle.posix_profile.specs.laws.Number.{capacity_few}
 use Rattle.volume_terms.specs.Sizes.{capacity, page_slots}
 use Rattle.posix_profile.specs.State.{entries_of}
-use Rattle.object_commands.specs.Rooms.{entry_units}
+use Rattle.command_plans.specs.Rooms.{entry_units}
 use Rattle.object_commands.proofs.Moves.{same_room, other_room}
 use Rattle.object_commands.proofs.rename.has_move_room.Goals as goal
 

@@ -11,8 +11,8 @@ use Rattle.path_walk.specs.Places.{place_of, last_of}
 use Rattle.object_commands.proofs.Making.{plan_changed, entry_is, leads_at, name_leads}
 use Rattle.object_commands.proofs.Moves.{onto_fits}
 use Rattle.object_commands.proofs.NamesLost.{moved_unnames}
-use Rattle.object_commands.proofs.Outcomes.{change_fits}
-use Rattle.object_commands.proofs.RoomLaws.{without_fits}
+use Rattle.command_plans.specs.laws.Plan.{change_fits}
+use Rattle.command_plans.specs.laws.Room.{without_fits}
 use Rattle.object_commands.proofs.rename.move_onto.Goals as goal
 
 pub returns : goal.returns

@@ -10,7 +10,7 @@ use Rattle.posix_profile.specs.declared.reply.Reply.TheVariants as replies
 use Rattle.path_walk.specs.Places.{place_of, last_of}
 use Rattle.object_commands.proofs.Making.{plan_changed, entry_is, leads_at, absent_at, name_leads}
 use Rattle.object_commands.proofs.NamesLost.{moved_keeps}
-use Rattle.object_commands.proofs.Outcomes.{change_fits, change_full}
+use Rattle.command_plans.specs.laws.Plan.{change_fits, change_full}
 use Rattle.object_commands.proofs.rename.move_to_absent.Goals as goal
 
 pub returns-then-not-has_move_room : goal.returns-then-not-has_move_room

@@ -3,9 +3,9 @@ use Rattle.std.proofs.lemmas.Result.{err_from_is_err_and}
 use Rattle.posix_profile.specs.Outcomes.{Outcome, at_place}
 use Rattle.posix_profile.specs.Paths.{Place, resolve}
 use Rattle.path_walk.specs.Places.{place_of}
-use Rattle.object_commands.specs.Classes.{Changing}
+use Rattle.command_plans.specs.Classes.{Changing}
 use Rattle.object_commands.specs.Names.{rename_places}
-use Rattle.object_commands.proofs.Outcomes.{holds_on, plans_same, plans_of, plans_nowhere}
+use Rattle.command_plans.specs.laws.Plan.{holds_on, plans_same, plans_of, plans_nowhere}
 use Rattle.object_commands.proofs.rename.rename.Goals as goal
 
 pub returns-in_err-to-clause-plans : goal.returns-in_err-to-clause-plans

@@ -1,8 +1,8 @@
 use Rattle.std.proofs.Common.{◌∙◌}
 use Rattle.posix_profile.specs.laws.Place.{found_there}
 use Rattle.path_walk.specs.Places.{last_of}
-use Rattle.object_commands.specs.Classes.{Changing}
-use Rattle.object_commands.proofs.Outcomes.{tries_same, refused, passed, passed_all, first_refused, none_refused}
+use Rattle.command_plans.specs.Classes.{Changing}
+use Rattle.command_plans.specs.laws.Plan.{tries_same, refused, passed, passed_all, first_refused, none_refused}
 use Rattle.object_commands.proofs.rename.rename_onto.Goals as goal
 
 pub returns-then-read_only : goal.returns-then-read_only

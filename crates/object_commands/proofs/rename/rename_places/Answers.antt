@@ -1,8 +1,8 @@
 use Rattle.std.proofs.Common.{◌∙◌, sym}
 use Rattle.path_walk.specs.Places.{place_of}
-use Rattle.object_commands.specs.Classes.{Changing}
+use Rattle.command_plans.specs.Classes.{Changing}
 use Rattle.object_commands.proofs.Making.{both_end}
-use Rattle.object_commands.proofs.Outcomes.{tries_same, refused, passed, passed_all, no_object, this_object}
+use Rattle.command_plans.specs.laws.Plan.{tries_same, refused, passed, passed_all, no_object, this_object}
 use Rattle.object_commands.proofs.rename.rename_places.Goals as goal
 
 pub returns-then-have_dots : goal.returns-then-have_dots

@@ -4,9 +4,9 @@ use Rattle.posix_profile.specs.Outcomes.{answer}
 use Rattle.posix_profile.specs.declared.reply.Errno.TheVariants as errors
 use Rattle.posix_profile.specs.declared.reply.Reply.TheVariants as replies
 use Rattle.path_walk.specs.Places.{place_of}
-use Rattle.object_commands.specs.Classes.{Changing}
+use Rattle.command_plans.specs.Classes.{Changing}
 use Rattle.object_commands.specs.Names.{rename_onto}
-use Rattle.object_commands.proofs.Outcomes.{plan_told, tries_same, refused, passed, passed_all, then_is, else_is}
+use Rattle.command_plans.specs.laws.Plan.{plan_told, tries_same, refused, passed, passed_all, then_is, else_is}
 use Rattle.object_commands.proofs.rename.rename_to.Goals as goal
 
 pub returns-then-is_same : goal.returns-then-is_same

@@ -1,9 +1,9 @@
 use Rattle.std.proofs.Common.{◌∙◌, ap}
 use Rattle.std.specs.FinMap as map
 use Rattle.posix_profile.specs.State.{Handles}
-use Rattle.object_commands.specs.Classes.{Syncing}
-use Rattle.object_commands.specs.Tables.{handle_of}
-use Rattle.object_commands.proofs.Outcomes.{plan_same, no_handle, this_handle}
+use Rattle.command_plans.specs.Classes.{Syncing}
+use Rattle.command_plans.specs.Tables.{handle_of}
+use Rattle.command_plans.specs.laws.Plan.{plan_same, no_handle, this_handle}
 use Rattle.object_commands.proofs.syncing.fsync.Goals as goal
 
 pub returns-in-Some-clause-plans : goal.returns-in-Some-clause-plans

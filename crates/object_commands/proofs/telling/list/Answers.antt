@@ -3,8 +3,8 @@ use Rattle.std.proofs.lemmas.Result.{err_from_is_err_and}
 use Rattle.std.specs.FinMap as map
 use Rattle.posix_profile.specs.laws.Name.{directory_or}
 use Rattle.posix_profile.specs.NameSteps.{list_of}
-use Rattle.object_commands.specs.Classes.{Telling}
-use Rattle.object_commands.proofs.Outcomes.{holds_on, plans_nothing, plans_fault, plan_told, list_file, list_told}
+use Rattle.command_plans.specs.Classes.{Telling}
+use Rattle.command_plans.specs.laws.Plan.{holds_on, plans_nothing, plans_fault, plan_told, list_file, list_told}
 use Rattle.object_commands.proofs.telling.list.Goals as goal
 
 pub returns-in_err-found-clause-plans : goal.returns-in_err-found-clause-plans

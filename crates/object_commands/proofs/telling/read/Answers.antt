@@ -1,9 +1,9 @@
 use Rattle.std.proofs.Common.{◌∙◌, sym, ap, not}
 use Rattle.std.specs.FinMap as map
 use Rattle.posix_profile.specs.State.{Handles}
-use Rattle.object_commands.specs.Classes.{Telling}
-use Rattle.object_commands.specs.Tables.{handle_of}
-use Rattle.object_commands.proofs.Outcomes.{plans_is, refused, passed, passed_all, no_handle, this_handle}
+use Rattle.command_plans.specs.Classes.{Telling}
+use Rattle.command_plans.specs.Tables.{handle_of}
+use Rattle.command_plans.specs.laws.Plan.{plans_is, refused, passed, passed_all, no_handle, this_handle}
 use Rattle.object_commands.proofs.telling.read.Goals as goal
 
 pub returns-then-not-may_read-clause-plans : goal.returns-then-not-may_read-clause-plans

@@ -7,10 +7,10 @@ use Rattle.posix_profile.specs.Outcomes.{answer}
 use Rattle.volume_terms.specs.Sizes.{offset_limit}
 use Rattle.posix_profile.specs.declared.reply.Reply.TheVariants as replies
 use Rattle.object_store.specs.Facts.{bytes_of}
-use Rattle.object_commands.specs.Classes.{Telling}
+use Rattle.command_plans.specs.Classes.{Telling}
 use Rattle.object_commands.specs.Reads.{read_told}
-use Rattle.object_commands.specs.Tables.{handle_of}
-use Rattle.object_commands.proofs.Outcomes.{plans_fault}
+use Rattle.command_plans.specs.Tables.{handle_of}
+use Rattle.command_plans.specs.laws.Plan.{plans_fault}
 use Rattle.object_commands.proofs.telling.read_file.Goals as goal
 
 pub returns-in_err-bytes-clause-plans : goal.returns-in_err-bytes-clause-plans

@@ -1,9 +1,9 @@
 use Rattle.std.proofs.Common.{◌∙◌, sym}
 use Rattle.posix_profile.specs.declared.reply.Errno.TheVariants as errors
-use Rattle.object_commands.specs.Classes.{Telling}
+use Rattle.command_plans.specs.Classes.{Telling}
 use Rattle.object_commands.specs.Reads.{read_of}
-use Rattle.object_commands.specs.Tables.{handle_of}
-use Rattle.object_commands.proofs.Outcomes.{plans_is, no_file, this_file, file_of}
+use Rattle.command_plans.specs.Tables.{handle_of}
+use Rattle.command_plans.specs.laws.Plan.{plans_is, no_file, this_file, file_of}
 use Rattle.object_commands.proofs.telling.read_open.Goals as goal
 
 pub returns-then-not-is_file-clause-plans : goal.returns-then-not-is_file-clause-plans

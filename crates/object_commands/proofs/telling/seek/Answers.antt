@@ -2,9 +2,9 @@ use Rattle.std.proofs.Common.{◌∙◌, sym, ap, w64}
 use Rattle.std.proofs.lemmas.Int.{to_z-of_z}
 use Rattle.std.specs.FinMap as map
 use Rattle.posix_profile.specs.State.{Handles}
-use Rattle.object_commands.specs.Classes.{Telling}
-use Rattle.object_commands.specs.Tables.{handle_of}
-use Rattle.object_commands.proofs.Outcomes.{tries_same, no_handle, this_handle}
+use Rattle.command_plans.specs.Classes.{Telling}
+use Rattle.command_plans.specs.Tables.{handle_of}
+use Rattle.command_plans.specs.laws.Plan.{tries_same, no_handle, this_handle}
 use Rattle.object_commands.proofs.telling.seek.Goals as goal
 
 pub returns-in-Some-clause-plans : goal.returns-in-Some-clause-plans

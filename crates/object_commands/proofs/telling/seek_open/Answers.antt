@@ -7,9 +7,9 @@ use Rattle.posix_profile.specs.HandleSteps.{seek_origin, seek_to}
 use Rattle.posix_profile.specs.Outcomes.{Outcome}
 use Rattle.posix_profile.specs.declared.reply.Errno.TheVariants as errors
 use Rattle.object_store.specs.Facts.{bytes_of}
-use Rattle.object_commands.specs.Classes.{Telling}
-use Rattle.object_commands.specs.Tables.{handle_of}
-use Rattle.object_commands.proofs.Outcomes.{tries_same, no_file, this_file, file_of}
+use Rattle.command_plans.specs.Classes.{Telling}
+use Rattle.command_plans.specs.Tables.{handle_of}
+use Rattle.command_plans.specs.laws.Plan.{tries_same, no_file, this_file, file_of}
 use Rattle.object_commands.proofs.telling.seek_open.Goals as goal
 
 pub returns-then-not-is_file-clause-plans : goal.returns-then-not-is_file-clause-plans

@@ -2,10 +2,10 @@ use Rattle.std.proofs.Common.{◌≡◌, ◌∙◌, pos, sym, ap}
 use Rattle.std.specs.Int.{w128}
 use Rattle.std.proofs.lemmas.Int.{to_z-of_z}
 use Rattle.posix_profile.specs.HandleSteps.{seek_to}
-use Rattle.object_commands.specs.Classes.{Telling}
-use Rattle.object_commands.specs.Tables.{handle_of}
-use Rattle.object_commands.proofs.ObjectFacts.{not_negative}
-use Rattle.object_commands.proofs.Outcomes.{tries_same}
+use Rattle.command_plans.specs.Classes.{Telling}
+use Rattle.command_plans.specs.Tables.{handle_of}
+use Rattle.command_plans.specs.laws.Fact.{not_negative}
+use Rattle.command_plans.specs.laws.Plan.{tries_same}
 use Rattle.object_commands.proofs.telling.seek_signed.Goals as goal
 
 pub returns-clause-plans : goal.returns-clause-plans

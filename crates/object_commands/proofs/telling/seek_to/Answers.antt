@@ -1,6 +1,6 @@
 use Rattle.std.proofs.Common.{◌∙◌, le-ltb}
 use Rattle.std.proofs.lemmas.Bool.{lt-ltb}
-use Rattle.object_commands.proofs.Outcomes.{refused, passed, passed_all}
+use Rattle.command_plans.specs.laws.Plan.{refused, passed, passed_all}
 use Rattle.object_commands.proofs.telling.seek_to.Goals as goal
 
 pub returns-then-target-gt-OFFSET_LIMIT-clause-plans : goal.returns-then-target-gt-OFFSET_LIMIT-clause-plans

@@ -3,9 +3,9 @@ use Rattle.posix_profile.specs.Charge.{charge}
 use Rattle.posix_profile.specs.Outcomes.{answer}
 use Rattle.volume_terms.specs.Sizes.{capacity}
 use Rattle.posix_profile.specs.declared.reply.Reply.TheVariants as replies
-use Rattle.object_commands.specs.Classes.{Telling}
-use Rattle.object_commands.specs.Plans.{frees}
-use Rattle.object_commands.proofs.Outcomes.{plan_told}
+use Rattle.command_plans.specs.Classes.{Telling}
+use Rattle.command_plans.specs.Plans.{frees}
+use Rattle.command_plans.specs.laws.Plan.{plan_told}
 use Rattle.object_commands.proofs.telling.space.Goals as goal
 
 pub returns-clause-plans : goal.returns-clause-plans

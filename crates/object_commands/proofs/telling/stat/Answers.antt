@@ -2,9 +2,9 @@ use Rattle.std.proofs.Common.{◌∙◌}
 use Rattle.std.proofs.lemmas.Result.{err_from_is_err_and}
 use Rattle.std.specs.FinMap as map
 use Rattle.posix_profile.specs.NameSteps.{stat_of}
-use Rattle.object_commands.specs.Classes.{Telling}
-use Rattle.object_commands.proofs.ObjectFacts.{none_info}
-use Rattle.object_commands.proofs.Outcomes.{holds_on, plans_nothing, plan_told, stat_told, stat_none}
+use Rattle.command_plans.specs.Classes.{Telling}
+use Rattle.command_plans.specs.laws.Fact.{none_info}
+use Rattle.command_plans.specs.laws.Plan.{holds_on, plans_nothing, plan_told, stat_told, stat_none}
 use Rattle.object_commands.proofs.telling.stat.Goals as goal
 
 pub returns-in_err-found-clause-plans : goal.returns-in_err-found-clause-plans

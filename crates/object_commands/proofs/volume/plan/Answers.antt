@@ -4,9 +4,9 @@ use Rattle.std.proofs.lemmas.Int.{to_z-of_z}
 use Rattle.posix_profile.specs.HandleSteps.{open_step, write_step, seek_step, truncate_step}
 use Rattle.posix_profile.specs.NameSteps.{stat_step, mkdir_step, rmdir_step, link_step, unlink_step, rename_step, list_step}
 use Rattle.posix_profile.specs.Steps.{step_at}
-use Rattle.object_commands.specs.Classes.{Telling, Changing, Syncing}
+use Rattle.command_plans.specs.Classes.{Telling, Changing, Syncing}
 use Rattle.object_commands.proofs.Ending.{plans_step}
-use Rattle.object_commands.proofs.Outcomes.{plans_of}
+use Rattle.command_plans.specs.laws.Plan.{plans_of}
 use Rattle.object_commands.proofs.volume.plan.Goals as goal
 
 pub returns-in-Open-clause-plans : goal.returns-in-Open-clause-plans

@@ -2,9 +2,9 @@ use Rattle.std.proofs.Common.{◌∙◌, sym, ap, not, refl, w64}
 use Rattle.std.proofs.lemmas.Int.{to_z-of_z}
 use Rattle.std.specs.FinMap as map
 use Rattle.posix_profile.specs.State.{Handles}
-use Rattle.object_commands.specs.Classes.{Changing}
-use Rattle.object_commands.specs.Tables.{handle_of}
-use Rattle.object_commands.proofs.Outcomes.{tries_same, refused, passed, passed_all, no_handle, this_handle}
+use Rattle.command_plans.specs.Classes.{Changing}
+use Rattle.command_plans.specs.Tables.{handle_of}
+use Rattle.command_plans.specs.laws.Plan.{tries_same, refused, passed, passed_all, no_handle, this_handle}
 use Rattle.object_commands.proofs.writing.truncate.Goals as goal
 
 pub returns-then-not-may_write : goal.returns-then-not-may_write

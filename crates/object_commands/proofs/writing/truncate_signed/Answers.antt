@@ -1,9 +1,9 @@
 use Rattle.std.proofs.Common.{◌≡◌, ◌∙◌, pos, sym, ap, w64}
 use Rattle.std.proofs.lemmas.Int.{to_z-of_z}
 use Rattle.posix_profile.specs.HandleSteps.{truncate_to}
-use Rattle.object_commands.specs.Classes.{Changing}
-use Rattle.object_commands.proofs.ObjectFacts.{not_negative}
-use Rattle.object_commands.proofs.Outcomes.{tries_same}
+use Rattle.command_plans.specs.Classes.{Changing}
+use Rattle.command_plans.specs.laws.Fact.{not_negative}
+use Rattle.command_plans.specs.laws.Plan.{tries_same}
 use Rattle.object_commands.proofs.writing.truncate_signed.Goals as goal
 
 pub returns : goal.returns

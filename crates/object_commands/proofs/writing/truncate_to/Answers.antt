@@ -10,7 +10,7 @@ use Rattle.posix_profile.specs.declared.reply.Errno.TheVariants as errors
 use Rattle.posix_profile.specs.declared.reply.Reply.TheVariants as replies
 use Rattle.object_store.specs.Facts.{bytes_of}
 use Rattle.object_commands.proofs.Making.{plan_changed}
-use Rattle.object_commands.proofs.Outcomes.{change_fits, change_full, refused, passed, passed_all, this_file}
+use Rattle.command_plans.specs.laws.Plan.{change_fits, change_full, refused, passed, passed_all, this_file}
 use Rattle.object_commands.proofs.writing.truncate_to.Goals as goal
 
 pub returns-then-greatest_length-length : goal.returns-then-greatest_length-length

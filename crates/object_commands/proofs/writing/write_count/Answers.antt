@@ -5,8 +5,8 @@ use Rattle.posix_profile.specs.State.{File}
 use Rattle.posix_profile.specs.laws.Number.{product_le}
 use Rattle.posix_profile.specs.laws.Write.{units_for, write_count_is}
 use Rattle.object_store.specs.Facts.{bytes_of}
-use Rattle.object_commands.specs.Tables.{handle_of}
-use Rattle.object_commands.proofs.RoomLaws.{page_some, page_few}
+use Rattle.command_plans.specs.Tables.{handle_of}
+use Rattle.command_plans.specs.laws.Room.{page_some, page_few}
 use Rattle.object_commands.proofs.writing.write_count.Goals as goal
 
 min_of_three : (a b n : ℕ) → min (min a b) n ≡ min a (min b n)

@@ -9,9 +9,9 @@ use Rattle.posix_profile.specs.Changes.{with_bytes, with_offset, written}
 use Rattle.posix_profile.specs.HandleSteps.{write_offset, write_count, objects_written}
 use Rattle.posix_profile.specs.laws.Number.{greatest_cases}
 use Rattle.posix_profile.specs.declared.reply.Reply.TheVariants as replies
-use Rattle.object_commands.specs.Tables.{handle_of}
+use Rattle.command_plans.specs.Tables.{handle_of}
 use Rattle.object_store.specs.Facts.{bytes_of}
-use Rattle.object_commands.proofs.Outcomes.{refused, passed, passed_all}
+use Rattle.command_plans.specs.laws.Plan.{refused, passed, passed_all}
 use Rattle.object_commands.proofs.writing.write_file.Goals as goal
 
 pub returns-then-greatest_length-offset : goal.returns-then-greatest_length-offset

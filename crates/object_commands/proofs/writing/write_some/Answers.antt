@@ -5,10 +5,10 @@ use Rattle.volume_terms.specs.Sizes.{Sizes}
 use Rattle.posix_profile.specs.State.{IsFile, Handle, State}
 use Rattle.posix_profile.specs.HandleSteps.{at_file, write_file, write_bytes}
 use Rattle.posix_profile.specs.declared.reply.Errno.TheVariants as errors
-use Rattle.object_commands.specs.Tables.{handle_of}
-use Rattle.object_commands.specs.Classes.{Changing}
+use Rattle.command_plans.specs.Tables.{handle_of}
+use Rattle.command_plans.specs.Classes.{Changing}
 use Rattle.object_store.specs.Facts.{bytes_of}
-use Rattle.object_commands.proofs.Outcomes.{tries_same}
+use Rattle.command_plans.specs.laws.Plan.{tries_same}
 use Rattle.object_commands.proofs.writing.write_some.Goals as goal
 
 some_written : (z : Sizes) (moment : ℕ) (s : State) (fd : ℕ) (h : Handle) (new : List ℕ) → 0 < length new → IsFile s.objects h.object

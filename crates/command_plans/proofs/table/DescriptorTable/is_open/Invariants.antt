@@ -1,0 +1,7 @@
+use Rattle.command_plans.specs.Tables.{handles_in}
+use Rattle.command_plans.specs.laws.Table.{NoneBelow}
+use Rattle.command_plans.proofs.table.DescriptorTable.is_open.Given as goal
+
+-- none so far
+abbrev pub invariant-loop-fd : goal.invariant-loop-fd
+invariant-loop-fd l = NoneBelow (handles_in l.self) l.number l.fd

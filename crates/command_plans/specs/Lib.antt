@@ -1,0 +1,6 @@
+pub mod Tables
+pub mod Classes
+pub mod Places
+pub mod Rooms
+pub mod Plans
+pub mod laws

@@ -1,0 +1,4 @@
+pub mod Table
+pub mod Fact
+pub mod Plan
+pub mod Room

@@ -1,0 +1,131 @@
+// The table of descriptors: it takes memory when it is made, and none later.
+ghost use Rattle.std.specs.Prelude.{◌≡◌, ◌≢◌, ◌<◌, Some, None, length, IfOk, MatchBool, not};
+ghost use Rattle.std.specs.Option.{option_map};
+ghost use Rattle.std.specs.FinMap as map;
+ghost use Rattle.posix_profile.specs.Changes.{free_descriptor};
+ghost use Rattle.posix_profile.specs.State.{Handle};
+ghost use Rattle.posix_profile.specs.WellFormed.{IsOpen};
+
+use posix_profile::OpenFlags;
+use std::alloc::{AllocError, Global};
+
+/// How many descriptors there are.
+const DESCRIPTORS: u32 = 64;
+
+/// What an open descriptor stands for. The offset is in bytes.
+#[derive(Clone, Copy, Debug, PartialEq, Eq)]
+pub struct OpenDescription {
+    pub object: u64,
+    pub flags: OpenFlags,
+    pub offset: u64,
+}
+
+/// What the descriptors stand for.
+#[derive(Drop)]
+pub struct DescriptorTable {
+    slots: Vec<Option<OpenDescription>>,
+    ghost size: { length slots.items ≡ 64 },
+}
+
+impl DescriptorTable {
+    ghost use Rattle.command_plans.specs.Tables.{handle_of, handles_in, StandsFor};
+
+    /// No descriptor is open.
+    pub fn new(alloc: Global) -> Result<DescriptorTable, AllocError>
+        ensures { IfOk result (λ table. handles_in table ≡ map.empty) }
+    {
+        let mut slots = Vec::new(alloc);
+        slots.resize(DESCRIPTORS as usize, None)?;
+        Ok(DescriptorTable { slots })
+    }
+
+    /// A table of the same descriptors.
+    pub fn copy(&self, alloc: Global) -> Result<DescriptorTable, AllocError>
+        ensures { IfOk result (λ copy. handles_in copy ≡ handles_in self.now) }
+    {
+        let slots = Vec::from_slice(alloc, &self.slots)?;
+        Ok(DescriptorTable { slots })
+    }
+
+    /// What the descriptor stands for, if it is open.
+    pub fn get(&self, fd: u32) -> Option<OpenDescription>
+        ensures { option_map handle_of result ≡ map.get (handles_in self.now) fd }
+    {
+        if fd < DESCRIPTORS {
+            self.slots[fd as usize]
+        } else {
+            None
+        }
+    }
+
+    /// The descriptor stands for this. One that there is not stays as it is.
+    pub fn put(&mut self, fd: u32, description: OpenDescription)
+        ensures { fd < 64 → handles_in self.new ≡ map.insert (handles_in self.old) fd (handle_of description) }
+    {
+        if fd < DESCRIPTORS {
+            self.slots[fd as usize] = Some(description);
+        }
+    }
+
+    /// The descriptor is open no longer.
+    pub fn remove(&mut self, fd: u32)
+        ensures { handles_in self.new ≡ map.remove (handles_in self.old) fd }
+    {
+        if fd < DESCRIPTORS {
+            self.slots[fd as usize] = None;
+        }
+    }
+
+    /// Whether the descriptor is not open.
+    fn is_closed(&self, fd: u32) -> bool
+        ensures { result ≡ not (map.contains_key (handles_in self.now) fd) }
+    {
+        self.get(fd).is_none()
+    }
+
+    /// The least descriptor that is not open, if there is one.
+    pub fn free(&self) -> Option<u32>
+        ensures { result ≡ free_descriptor (handles_in self.now) }
+    {
+        for fd in 0..DESCRIPTORS {
+            if self.is_closed(fd) {
+                return Some(fd);
+            }
+        }
+        None
+    }
+
+    /// Whether the descriptor stands for the object.
+    fn stands_for(&self, fd: u32, number: u64) -> bool
+        ensures { MatchBool result (StandsFor (handles_in self.now) fd number) ((handle : Handle) → map.get (handles_in self.now) fd ≡ Some handle → handle.object ≢ number) }
+    {
+        match self.get(fd) {
+            Some(description) => description.object == number,
+            None => false,
+        }
+    }
+
+    /// Whether some descriptor stands for the object.
+    pub fn is_open(&self, number: u64) -> bool
+        ensures { MatchBool result (IsOpen (handles_in self.now) number) (IsOpen (handles_in self.now) number → ⊥) }
+    {
+        for fd in 0..DESCRIPTORS {
+            if self.stands_for(fd, number) {
+                return true;
+            }
+        }
+        false
+    }
+
+    /// Whether a descriptor other than this one stands for the object.
+    pub fn is_open_besides(&self, fd: u32, number: u64) -> bool
+        ensures { MatchBool result (IsOpen (map.remove (handles_in self.now) fd) number) (IsOpen (map.remove (handles_in self.now) fd) number → ⊥) }
+    {
+        for other in 0..DESCRIPTORS {
+            if other != fd && self.stands_for(other, number) {
+                return true;
+            }
+        }
+        false
+    }
+}

@@ -1,7 +1,0 @@
-use Rattle.object_commands.specs.Tables.{handles_in}
-use Rattle.object_commands.specs.TableLaws.{NoneBesides}
-use Rattle.object_commands.proofs.table.DescriptorTable.is_open_besides.Given as goal
-
--- none so far
-abbrev pub invariant-loop-other : goal.invariant-loop-other
-invariant-loop-other l = NoneBesides (handles_in l.self) l.fd l.number l.other

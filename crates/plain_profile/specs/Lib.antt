@@ -1,2 +1,0 @@
-pub mod VolumeState
-pub mod Meaning

@@ -1,0 +1,6 @@
+//! A volume in memory over maps: the sixteen commands by the book, with nothing for a caller to show. It is slow on purpose.
+#![tactic(auto)]
+
+mod volume;
+
+pub use volume::PlainVolume;

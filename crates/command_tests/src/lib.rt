@@ -1,5 +1,12 @@
-//! Sessions of commands over maps: what is asked, and what is told.
+//! Sessions of commands over maps: what is asked, and what is told; and runs that are cut off at each of their calls.
 #![tactic(auto)]
 
 #[cfg(test)]
+mod asks;
+#[cfg(test)]
+mod cuts;
+mod kept;
+#[cfg(test)]
 mod tests;
+
+pub use kept::KeptObjects;

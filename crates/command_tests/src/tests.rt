@@ -1,212 +1,36 @@
 // Worked rows: what is asked, and what is told.
-use object_commands::Volume;
-use plain_objects::PlainObjects;
-use posix_profile::{
-    Access, Bytes, Command, Errno, FilePath, Kind, OpenFlags, Reply, Stamped, Whence,
-};
+use crate::asks::{Ask, command_of, reply_text};
+use plain_volume::PlainVolume;
+use posix_profile::{Stamped, Whence};
 use std::alloc::{AllocError, Global};
 use std::process::Abort;
 use std::test::Fail;
 use volume_terms::VolumeSizes;
 
-/// A command, written short.
-#[derive(Clone, Copy)]
-enum Ask<'a> {
-    Open(&'a str, &'a str),
-    Close(u32),
-    Read(u32, u32),
-    Write(u32, &'a str),
-    Fill(u32, usize),
-    Seek(u32, i64, Whence),
-    Truncate(u32, i64),
-    Fsync(u32),
-    Sync,
-    Stat(&'a str),
-    Mkdir(&'a str),
-    Rmdir(&'a str),
-    Link(&'a str, &'a str),
-    Unlink(&'a str),
-    Rename(&'a str, &'a str),
-    List(&'a str),
-    Space,
-}
-
-fn path_of(alloc: Global, text: &str) -> Result<FilePath, AllocError> {
-    Ok(FilePath::new(text.as_bytes().to_vec(alloc)?))
-}
-
-fn has_letter(text: &str, letter: u8) -> bool {
-    text.as_bytes().contains(&letter)
-}
-
-fn flags_of(text: &str) -> OpenFlags {
-    let access = if !has_letter(text, b'w') {
-        Access::Read
-    } else if has_letter(text, b'r') {
-        Access::Both
-    } else {
-        Access::Write
-    };
-    OpenFlags {
-        access,
-        create: has_letter(text, b'c'),
-        excl: has_letter(text, b'x'),
-        trunc: has_letter(text, b't'),
-        append: has_letter(text, b'a'),
-    }
-}
-
-fn filled(alloc: Global, count: usize) -> Result<Vec<u8>, AllocError> {
-    let mut bytes = Vec::new(alloc);
-    for _ in 0..count {
-        bytes.push(b'x')?;
-    }
-    Ok(bytes)
-}
-
-fn command_of(alloc: Global, ask: Ask<'_>) -> Result<Command, AllocError> {
-    Ok(match ask {
-        Ask::Open(path, flags) => Command::Open {
-            path: path_of(alloc, path)?,
-            flags: flags_of(flags),
-        },
-        Ask::Close(fd) => Command::Close { fd },
-        Ask::Read(fd, count) => Command::Read { fd, count },
-        Ask::Write(fd, text) => Command::Write {
-            fd,
-            bytes: Bytes::new(text.as_bytes().to_vec(alloc)?),
-        },
-        Ask::Fill(fd, count) => Command::Write {
-            fd,
-            bytes: Bytes::new(filled(alloc, count)?),
-        },
-        Ask::Seek(fd, offset, whence) => Command::Seek { fd, offset, whence },
-        Ask::Truncate(fd, length) => Command::Truncate { fd, length },
-        Ask::Fsync(fd) => Command::Fsync { fd },
-        Ask::Sync => Command::Sync,
-        Ask::Stat(path) => Command::Stat {
-            path: path_of(alloc, path)?,
-        },
-        Ask::Mkdir(path) => Command::Mkdir {
-            path: path_of(alloc, path)?,
-        },
-        Ask::Rmdir(path) => Command::Rmdir {
-            path: path_of(alloc, path)?,
-        },
-        Ask::Link(old, new) => Command::Link {
-            old: path_of(alloc, old)?,
-            new: path_of(alloc, new)?,
-        },
-        Ask::Unlink(path) => Command::Unlink {
-            path: path_of(alloc, path)?,
-        },
-        Ask::Rename(old, new) => Command::Rename {
-            old: path_of(alloc, old)?,
-            new: path_of(alloc, new)?,
-        },
-        Ask::List(path) => Command::List {
-            path: path_of(alloc, path)?,
-        },
-        Ask::Space => Command::Space,
-    })
-}
-
-/// Adds bytes as a shell writes them: a backslash twice, no bytes as `\e`, and what is no plain letter as two hexadecimal digits.
-fn push_bytes(text: &mut String, bytes: &[u8]) -> Result<(), AllocError> {
-    let digits = b"0123456789abcdef";
-    if bytes.is_empty() {
-        text.push_str("\\e")?;
-    }
-    for byte in bytes {
-        if *byte == b'\\' {
-            text.push_str("\\\\")?;
-        } else if *byte < 0x21 || *byte > 0x7e {
-            text.push_str("\\x")?;
-            text.push(char::from(digits[(*byte / 16) as usize]))?;
-            text.push(char::from(digits[(*byte % 16) as usize]))?;
-        } else {
-            text.push(char::from(*byte))?;
-        }
-    }
-    Ok(())
-}
-
-fn reply_text(alloc: Global, reply: &Reply) -> Result<String, AllocError> {
-    match reply {
-        Reply::Done => String::from_str(alloc, "ok"),
-        Reply::Fd(fd) => format!(in alloc; "fd {fd}"),
-        Reply::Data(bytes) => {
-            let mut text = format!(in alloc; "data {} ", bytes.as_slice().len())?;
-            push_bytes(&mut text, bytes.as_slice())?;
-            Ok(text)
-        }
-        Reply::Wrote(count) => format!(in alloc; "wrote {count}"),
-        Reply::At(offset) => format!(in alloc; "at {offset}"),
-        Reply::Info(info) => {
-            let kind = match info.kind {
-                Kind::File => "file",
-                Kind::Directory => "dir",
-            };
-            format!(in alloc;
-                "info {kind} {} {} {} {}",
-                info.object, info.links, info.size, info.moment
-            )
-        }
-        Reply::Names(names) => {
-            let mut text = format!(in alloc; "names {}", names.as_slice().len())?;
-            for name in names.as_slice() {
-                text.push_str(" ")?;
-                push_bytes(&mut text, name.as_slice())?;
-            }
-            Ok(text)
-        }
-        Reply::SpaceInfo(space) => format!(in alloc;
-            "space {} {} {}",
-            space.unit, space.total, space.free
-        ),
-        Reply::Error(error) => format!(in alloc; "error {error:?}"),
-    }
-}
-
-/// A volume over maps.
-type MapVolume = Volume<PlainObjects>;
-
-fn over(alloc: Global, store: PlainObjects, read_only: bool) -> Result<MapVolume, AllocError> {
-    match Volume::new(alloc, store, read_only) {
-        Ok(volume) => Ok(volume),
-        Err((_store, error)) => Err(error),
-    }
-}
-
-fn new_volume(alloc: Global) -> Result<MapVolume, AllocError> {
-    let store = PlainObjects::new(alloc, VolumeSizes::new(512, 32, 8, 1))?;
-    over(alloc, store, false)
-}
-
-fn is_want(reply: &Reply) -> bool {
-    matches!(reply, Reply::Error(Errno::ENOMEM))
+fn new_volume(alloc: Global) -> Result<PlainVolume, AllocError> {
+    PlainVolume::new(alloc, VolumeSizes::new(512, 32, 8, 1), false)
 }
 
 /// What the volume tells of a command, which is asked again where memory was refused.
 fn told(
     alloc: Global,
-    volume: &mut MapVolume,
+    volume: &mut PlainVolume,
     moment: u64,
     ask: Ask<'_>,
 ) -> Result<String, AllocError> {
     let command = command_of(alloc, ask)?;
     let stamped = Stamped { moment, command };
-    let mut reply = volume.call(&stamped);
-    if is_want(&reply) {
-        reply = volume.call(&stamped);
-    }
+    let reply = match volume.step(&stamped) {
+        Ok(reply) => reply,
+        Err(_) => volume.step(&stamped)?,
+    };
     reply_text(alloc, &reply)
 }
 
 fn run_rows(
     rt: &impl Abort,
     alloc: Global,
-    volume: &mut MapVolume,
+    volume: &mut PlainVolume,
     moment: u64,
     rows: &[(Ask<'_>, &str)],
 ) -> Result<(), AllocError> {
@@ -243,14 +67,14 @@ fn run_new(
     rt: &impl Abort,
     alloc: Global,
     rows: &[(Ask<'_>, &str)],
-) -> Result<MapVolume, AllocError> {
+) -> Result<PlainVolume, AllocError> {
     let mut volume = new_volume(alloc)?;
     run_rows(rt, alloc, &mut volume, 0, rows)?;
     Ok(volume)
 }
 
 /// A volume whose one file takes all room.
-fn full_volume(rt: &impl Abort, alloc: Global) -> Result<MapVolume, AllocError> {
+fn full_volume(rt: &impl Abort, alloc: Global) -> Result<PlainVolume, AllocError> {
     let mut volume = run_new(rt, alloc, &[(Ask::Open("/a", "rwc"), "fd 0")])?;
     for _ in 0..28 {
         run_rows(
@@ -356,13 +180,18 @@ fn a_file_without_a_name_lives_while_it_is_open(rt: HostRuntime) -> Result<(), F
         (Ask::Sync, "ok"),
     ];
     run_rows(&rt, rt.alloc(), &mut volume, 0, &rows)?;
-    run_rows(
-        &rt,
-        rt.alloc(),
-        &mut volume,
-        0,
-        &[(Ask::Space, "space 512 144 141")],
-    )?;
+    let mut kept = volume.copy()?;
+    volume.settle()?;
+    let rows = [
+        (Ask::List("/"), "names 0"),
+        (Ask::Space, "space 512 144 143"),
+    ];
+    run_rows(&rt, rt.alloc(), &mut volume, 0, &rows)?;
+    let rows = [
+        (Ask::Space, "space 512 144 141"),
+        (Ask::Read(0, 10), "data 0 \\e"),
+    ];
+    run_rows(&rt, rt.alloc(), &mut kept, 0, &rows)?;
     Ok(())
 }
 
@@ -452,8 +281,8 @@ fn what_may_only_be_read_stays(rt: HostRuntime) -> Result<(), Fail> {
         (Ask::Close(0), "ok"),
         (Ask::Mkdir("/d"), "ok"),
     ];
-    let mut volume = run_new(&rt, rt.alloc(), &rows)?;
-    let mut volume = over(rt.alloc(), volume.into_store(), true)?;
+    let volume = run_new(&rt, rt.alloc(), &rows)?;
+    let mut volume = volume.settled(true)?;
     let rows = [
         (Ask::Open("/a", "rw"), "error EROFS"),
         (Ask::Open("/a", "wt"), "error EROFS"),

@@ -14,5 +14,5 @@ pub returns-clause-runs : goal.returns-clause-runs
 returns-clause-runs c =
     let runs = c.run.ensures.runs in
     subst (λ (v : PlainView). (n : ℕ) × (n ≤ length c.args.commands.now) × OnOk c.run.result (n ≡ length c.args.commands.now)
-        × RunsPlain v (view_of c.run.new.self) c.args.commands.now n c.args.replies.now.items c.run.new.replies.items) c.self.view_is
+    × RunsPlain v (view_of c.run.new.self) c.args.commands.now n c.args.replies.now.items c.run.new.replies.items) c.self.view_is
     (runs.0, runs.1, runs.2, runs_plain c.args.commands.now runs.0 c.args.replies.now.items c.run.new.replies.items c.self.inside.volume c.run.new.self c.self.invariant runs.3)

@@ -1,0 +1,236 @@
+// Runs that are cut off at each of their calls: what was committed is a tree that a loss may leave.
+use crate::asks::{Ask, command_of, reply_text};
+use crate::kept::KeptObjects;
+use fused_store::{FusedStore, LastCall};
+use object_commands::Volume;
+use plain_objects::PlainObjects;
+use posix_profile::{Access, Command, Errno, FilePath, OpenFlags, Reply, Stamped};
+use std::alloc::{AllocError, Global};
+use std::process::Abort;
+use std::test::Fail;
+use volume_terms::VolumeSizes;
+
+const SESSION: [Ask<'static>; 18] = [
+    Ask::Mkdir("/a"),
+    Ask::Open("/a/f", "rwc"),
+    Ask::Write(0, "hello"),
+    Ask::Sync,
+    Ask::Write(0, " world"),
+    Ask::Link("/a/f", "/g"),
+    Ask::Fsync(0),
+    Ask::Unlink("/g"),
+    Ask::Rename("/a", "/b"),
+    Ask::Mkdir("/c"),
+    Ask::Sync,
+    Ask::Truncate(0, 3),
+    Ask::Unlink("/b/f"),
+    Ask::Read(0, 9),
+    Ask::Close(0),
+    Ask::Rmdir("/c"),
+    Ask::List("/"),
+    Ask::Sync,
+];
+
+/// The commands, with rising moments.
+fn stamped(alloc: Global, asks: &[Ask<'_>]) -> Result<Vec<Stamped>, AllocError> {
+    let mut commands = Vec::new(alloc);
+    for (i, ask) in asks.iter().enumerate() {
+        let command = command_of(alloc, *ask)?;
+        commands.push(Stamped {
+            moment: i as u64,
+            command,
+        })?;
+    }
+    Ok(commands)
+}
+
+fn no_objects(alloc: Global) -> Result<PlainObjects, AllocError> {
+    PlainObjects::new(alloc, VolumeSizes::new(512, 32, 8, 1))
+}
+
+fn path_of(alloc: Global, path: &[u8]) -> Result<FilePath, AllocError> {
+    Ok(FilePath::new(path.to_vec(alloc)?))
+}
+
+fn told(volume: &mut Volume<PlainObjects>, command: Command) -> Reply {
+    volume.call(&Stamped { moment: 0, command })
+}
+
+/// What is told of the bytes of a file.
+fn bytes_text(
+    alloc: Global,
+    volume: &mut Volume<PlainObjects>,
+    path: &[u8],
+) -> Result<String, AllocError> {
+    let path = path_of(alloc, path)?;
+    let flags = OpenFlags {
+        access: Access::Read,
+        create: false,
+        excl: false,
+        trunc: false,
+        append: false,
+    };
+    let _fd = told(volume, Command::Open { path, flags });
+    let bytes = told(volume, Command::Read { fd: 0, count: 4096 });
+    let _done = told(volume, Command::Close { fd: 0 });
+    reply_text(alloc, &bytes)
+}
+
+/// Adds what is told of an object to the text, and the paths of what a directory names.
+fn add_object(
+    alloc: Global,
+    volume: &mut Volume<PlainObjects>,
+    path: &[u8],
+    paths: &mut Vec<Vec<u8>>,
+    text: &mut String,
+) -> Result<(), AllocError> {
+    let info = told(
+        volume,
+        Command::Stat {
+            path: path_of(alloc, path)?,
+        },
+    );
+    text.push_str(&reply_text(alloc, &info)?)?;
+    let list = told(
+        volume,
+        Command::List {
+            path: path_of(alloc, path)?,
+        },
+    );
+    text.push_str(" ")?;
+    match list {
+        Reply::Names(names) => {
+            for name in names.as_slice() {
+                let mut below = path.to_vec(alloc)?;
+                below.push(b'/')?;
+                below.extend_from_slice(name.as_slice())?;
+                paths.push(below)?;
+            }
+            text.push_str(&reply_text(alloc, &Reply::Names(names))?)?;
+        }
+        _ => text.push_str(&bytes_text(alloc, volume, path)?)?,
+    }
+    text.push_str("\n")
+}
+
+/// What a tree of at most 50 objects holds: what is told of each.
+fn tree_text(alloc: Global, objects: PlainObjects) -> Result<String, AllocError> {
+    let mut volume = match Volume::new(alloc, objects, true) {
+        Ok(volume) => volume,
+        Err((_objects, error)) => return Err(error),
+    };
+    let mut text = String::new(alloc);
+    let mut paths = Vec::new(alloc);
+    paths.push(b"/".to_vec(alloc)?)?;
+    for _ in 0..50 {
+        match paths.pop() {
+            Some(path) => add_object(alloc, &mut volume, &path, &mut paths, &mut text)?,
+            None => return Ok(text),
+        }
+    }
+    Ok(text)
+}
+
+/// The trees before the first command and after each one, as a mount would show them.
+fn trees_of(alloc: Global, commands: &[Stamped]) -> Result<Vec<String>, AllocError> {
+    let mut volume = match Volume::new(alloc, no_objects(alloc)?, false) {
+        Ok(volume) => volume,
+        Err((_objects, error)) => return Err(error),
+    };
+    let mut trees = Vec::new(alloc);
+    trees.push(tree_text(alloc, volume.store().settled()?)?)?;
+    for command in commands {
+        let _reply = volume.call(command);
+        trees.push(tree_text(alloc, volume.store().settled()?)?)?;
+    }
+    Ok(trees)
+}
+
+/// What is left of a run, and what it answered.
+fn cut_run(
+    alloc: Global,
+    commands: &[Stamped],
+    calls: u64,
+    last: LastCall,
+) -> Result<(Vec<Reply>, String), AllocError> {
+    let inner = KeptObjects::new(no_objects(alloc)?)?;
+    let store = FusedStore { inner, calls, last };
+    let mut volume = match Volume::new(alloc, store, false) {
+        Ok(volume) => volume,
+        Err((_store, error)) => return Err(error),
+    };
+    let mut replies = Vec::new(alloc);
+    volume.run(commands, &mut replies)?;
+    let FusedStore {
+        inner,
+        calls: _,
+        last: _,
+    } = volume.into_store();
+    let KeptObjects { objects: _, shown } = inner;
+    Ok((replies, tree_text(alloc, shown)?))
+}
+
+fn is_stop(reply: &Reply) -> bool {
+    matches!(reply, Reply::Error(Errno::EIO))
+}
+
+fn is_synced(command: &Command, reply: &Reply) -> bool {
+    matches!(command, Command::Sync | Command::Fsync { .. }) && matches!(reply, Reply::Done)
+}
+
+/// How many commands are covered by a sync that is done.
+fn covered(commands: &[Stamped], replies: &[Reply]) -> usize {
+    let mut covered = 0;
+    for (i, (stamped, reply)) in commands.iter().zip(replies).enumerate() {
+        if is_synced(&stamped.command, reply) {
+            covered = i + 1;
+        }
+    }
+    covered
+}
+
+/// How many commands were answered before the device was lost.
+fn answered(replies: &[Reply]) -> usize {
+    replies.iter().take_while(|reply| !is_stop(reply)).count()
+}
+
+/// Cuts the run off at a call, looks at what is left, and tells whether there was such a call.
+fn cut_at(
+    rt: &impl Abort,
+    alloc: Global,
+    commands: &[Stamped],
+    trees: &[String],
+    calls: u64,
+    last: LastCall,
+) -> Result<bool, AllocError> {
+    let (replies, left) = cut_run(alloc, commands, calls, last)?;
+    let from = covered(commands, &replies);
+    let to = answered(&replies);
+    let mut is_left = false;
+    for (k, tree) in trees.iter().enumerate() {
+        if from <= k && k <= to && tree.as_str() == left.as_str() {
+            is_left = true;
+        }
+    }
+    assert!(rt; is_left);
+    assert_eq!(rt; replies.len(), commands.len());
+    Ok(to < commands.len())
+}
+
+#[test]
+fn what_a_cut_leaves_is_the_tree_after_some_commands(rt: HostRuntime) -> Result<(), Fail> {
+    let alloc = rt.alloc();
+    let commands = stamped(alloc, &SESSION)?;
+    let trees = trees_of(alloc, &commands)?;
+    let mut cuts = 0u64;
+    for calls in 0..100 {
+        let before = cut_at(&rt, alloc, &commands, &trees, calls, LastCall::NotDone)?;
+        let after = cut_at(&rt, alloc, &commands, &trees, calls, LastCall::Done)?;
+        assert_eq!(&rt; before, after);
+        if before {
+            cuts = calls + 1;
+        }
+    }
+    assert_eq!(&rt; cuts, 31);
+    Ok(())
+}

@@ -1,0 +1,85 @@
+// Maps that keep a copy of what was committed.
+use object_store::{ObjectChange, ObjectStore};
+use plain_objects::PlainObjects;
+use posix_profile::{Bytes, Info, NameList};
+use std::alloc::{AllocError, Global};
+use volume_terms::{StoreFault, VolumeSizes};
+
+/// Objects in maps, and those that a mount would show.
+#[derive(Drop)]
+pub struct KeptObjects {
+    pub objects: PlainObjects,
+    pub shown: PlainObjects,
+}
+
+impl KeptObjects {
+    /// A mount would show these.
+    pub fn new(objects: PlainObjects) -> Result<KeptObjects, AllocError> {
+        let shown = objects.settled()?;
+        Ok(KeptObjects { objects, shown })
+    }
+}
+
+impl ObjectStore for KeptObjects {
+    ghost use Rattle.command_tests.specs.Kept.{kept_meaning, kept_lawful};
+
+    ghost meaning = { kept_meaning };
+
+    fn sizes(&self) -> VolumeSizes {
+        self.objects.sizes()
+    }
+
+    fn info(&self, number: u64) -> Option<Info> {
+        self.objects.info(number)
+    }
+
+    fn parent(&self, directory: u64) -> Option<u64> {
+        self.objects.parent(directory)
+    }
+
+    fn entry_count(&self, directory: u64) -> u64 {
+        self.objects.entry_count(directory)
+    }
+
+    fn charge(&self) -> u64 {
+        self.objects.charge()
+    }
+
+    fn new_number(&self) -> u64 {
+        self.objects.new_number()
+    }
+
+    fn find(&mut self, directory: u64, name: &[u8]) -> Result<Option<u64>, StoreFault> {
+        self.objects.find(directory, name)
+    }
+
+    fn names(&mut self, alloc: Global, directory: u64) -> Result<NameList, StoreFault> {
+        self.objects.names(alloc, directory)
+    }
+
+    fn read(
+        &mut self,
+        alloc: Global,
+        file: u64,
+        offset: u64,
+        count: u32,
+    ) -> Result<Bytes, StoreFault> {
+        self.objects.read(alloc, file, offset, count)
+    }
+
+    fn apply(&mut self, change: &ObjectChange<'_>) -> Result<(), StoreFault> {
+        self.objects.apply(change)
+    }
+
+    fn commit(&mut self) -> Result<(), StoreFault> {
+        match self.objects.settled() {
+            Ok(shown) => {
+                self.shown = shown;
+                Ok(())
+            }
+            Err(_) => Err(StoreFault::Device),
+        }
+    }
+
+    ghost lawful = { kept_lawful };
+}

@@ -11,7 +11,7 @@ use Rattle.pages.specs.Afterwards.{after}
 use Rattle.pages.specs.Maps.{PageMap}
 use Rattle.pages.specs.State.{PagesState, OnlyFinds}
 use Rattle.directories.specs.Directories.{DirIn, SlotOf, TellsName, TellsOf}
-use Rattle.directories.specs.Heads.{IsHeadOf, IsHeaded, SaysHead}
+use Rattle.directories.specs.Heads.{IsHeadOf, SaysHead}
 use Rattle.directories.specs.Slots.{AreSlots, Finds}
 use Rattle.directories.specs.declared.head.DirectoryHead.{DirectoryHead}
 use Rattle.directories.specs.declared.lookup.Located.{Located}

@@ -2,9 +2,9 @@
 use Rattle.std.specs.Prelude.{◌≡◌, ◌<◌, ◌≤◌, ℕ, List, length, Option, Some, None, option_map, slice_get}
 use Rattle.std.specs.FinMap as map
 use Rattle.std.proofs.Common.{sym, ◌∙◌, ap, subst, arith}
-use Rattle.page_tags.specs.Headers.{IsHeader, header_bytes}
+use Rattle.page_tags.specs.Headers.{Fields, IsHeader, header_bytes}
 use Rattle.page_tags.specs.Slots.{Entry}
-use Rattle.flash_tree.specs.Tree.{IsPageSize}
+use Rattle.flash_tree.specs.Tree.{IsPageSize, ReadsDir}
 use Rattle.flash_tree.specs.laws.Finding.{slice_get_there, same_header}
 use Rattle.flash_tree.specs.laws.OneTree.{one_slot}
 use Rattle.flash_tree.specs.laws.Tree.{slice_get_within}
@@ -13,11 +13,12 @@ use Rattle.posix_profile.specs.State.{Name, Entries}
 use Rattle.pages.specs.Maps.{PageMap, has}
 use Rattle.pages.specs.State.{PagesState, OnlyFinds}
 use Rattle.directories.specs.Directories.{DirIn, SlotOf}
-use Rattle.directories.specs.Heads.{IsHeadOf, IsHeaded, SaysHead}
+use Rattle.directories.specs.Heads.{IsHeadOf, IsHeaded, SaysHead, fields_in}
+use Rattle.directories.specs.Writes.{HasHead}
 use Rattle.directories.specs.Slots.{AreSlots, Finds}
 use Rattle.directories.specs.declared.head.DirectoryHead.{DirectoryHead}
 use Rattle.directories.specs.declared.lookup.Located.{Located}
-use Rattle.directories.proofs.Lists.{leads, none}
+use Rattle.directories.proofs.Lists.{entries_len, leads, none}
 use Rattle.directories.proofs.Searching.{one_page}
 
 single : (m : PageMap) (o c : ℕ) (xs ys : List ℕ) → m o c ≡ Some xs → m o c ≡ Some ys → xs ≡ ys
@@ -26,6 +27,12 @@ single m o c xs ys = one_page m o c xs ys
 -- a slot is one entry
 pub one_entry : (z : Sizes) → z.page_bytes ≤ 4096 → (m : PageMap) (d i : ℕ) (a b : Entry) → SlotOf z m d i a → SlotOf z m d i b → a ≡ b
 one_entry z few m d i a b = one_slot z few (has m) (single m) d i a b
+
+-- the header counts the entries
+pub count_after : (z : Sizes) → IsPageSize z.page_bytes → (m : PageMap) (o moment : ℕ) (entries : Entries) (r : ReadsDir z (has m) o moment entries) (head : DirectoryHead) → HasHead z m o head → map.len entries ≡ head.length
+count_after z size m o moment entries r head h =
+    entries_len r.slots r.once entries r.entries_are ∙ sym r.size
+    ∙ ap (λ (f : Fields). f.length) (same_header z size (has m) (single m) o r.fields (fields_in z.page_bytes head) r.has (h.has, h.valid))
 
 module _ (p : PagesState) (z : Sizes) (o moment : ℕ) (entries : Entries) (d : DirIn p z o moment entries) where
   -- it has a header

@@ -15,6 +15,11 @@ pub on_ok : {A E : Type 0} (P Q : A → Type 0) (r : Result A E) → ((x : A) �
 on_ok P Q (Ok x) f is = f x is
 on_ok P Q (Err e) f is = tt
 
+-- what follows of three things that hold of a result that is there
+pub on_all : {A E : Type 0} (P Q S T : A → Type 0) (r : Result A E) → ((x : A) → P x → Q x → S x → T x) → IfOk r P → IfOk r Q → IfOk r S → IfOk r T
+on_all P Q S T (Ok x) f p q s = f x p q s
+on_all P Q S T (Err e) f p q s = tt
+
 pub on_err : {A E : Type 0} (P Q : E → Type 0) (r : Result A E) → ((e : E) → P e → Q e) → IfErr r P → IfErr r Q
 on_err P Q (Ok x) f is = tt
 on_err P Q (Err e) f is = f e is

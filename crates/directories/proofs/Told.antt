@@ -4,13 +4,14 @@ use Rattle.std.specs.FinMap as map
 use Rattle.std.specs.Int.{div_ceil}
 use Rattle.std.proofs.Common.{sym, ◌∙◌, subst, arith}
 use Rattle.page_tags.specs.Slots.{Entry}
+use Rattle.flash_tree.specs.Tree.{IsPageSize}
 use Rattle.volume_terms.specs.Sizes.{Sizes, page_slots}
 use Rattle.posix_profile.specs.State.{Name, Entries}
 use Rattle.pages.specs.Afterwards.{after}
 use Rattle.pages.specs.Maps.{PageMap}
 use Rattle.pages.specs.State.{PagesState, OnlyFinds}
 use Rattle.directories.specs.Directories.{DirIn, SlotOf, TellsName, TellsOf}
-use Rattle.directories.specs.Heads.{IsHeadOf, IsHeaded, SaysHead}
+use Rattle.directories.specs.Heads.{IsHeadOf, SaysHead}
 use Rattle.directories.specs.Slots.{AreSlots, Finds}
 use Rattle.directories.specs.declared.head.DirectoryHead.{DirectoryHead}
 use Rattle.directories.specs.declared.lookup.Located.{Located}
@@ -25,8 +26,15 @@ module _ (p q : PagesState) (finds : OnlyFinds p q) (z : Sizes) (o moment : ℕ)
   least : 512 ≤ z.page_bytes
   least = let low : 512 ≤ p.page_bytes = sized.0 in omega (arith, d.size, low)
 
+  pub page_size : IsPageSize z.page_bytes
+  page_size = record { least = omega (arith, least); most = few }
+
+  -- a page has a slot
+  pub some_slots : 1 ≤ page_slots z
+  some_slots = omega (arith, least)
+
   pub head_says : IsHeadOf head d.reads.fields
-  head_says = head_is p z o moment entries d (record { least = omega (arith, least); most = few }) head s
+  head_says = head_is p z o moment entries d page_size head s
 
   pub length_is : head.length ≡ length d.reads.slots
   length_is = head_says.length_is ∙ d.reads.size

@@ -1,5 +1,6 @@
 -- What the pages of a change say of a directory's slots.
 use Rattle.std.specs.Prelude.{◌≡◌, ◌≢◌, ◌⊎◌, ◌<◌, ◌≤◌, ℕ, zero, suc, ◌+◌, ◌-◌, ◌*◌, ◌/◌, ◌%◌, min, List, [], ◌∷◌, ◌++◌, length, take, drop, replicate, Some, None, slice_get, slice_index}
+use Rattle.std.specs.Int.{div_ceil}
 use Rattle.std.proofs.Common.{refl, sym, ◌∙◌, ap, subst, inl, inr, get_or, arith}
 use Rattle.std.proofs.Math.Nat.{div-add-mod', mul-le-mul_right}
 use Rattle.std.proofs.lemmas.Bool.{cases_eq, cases_lt, cond-false}
@@ -10,19 +11,20 @@ use Rattle.page_tags.specs.Headers.{IsHeader, header_bytes}
 use Rattle.page_tags.specs.Slots.{Entry, IsSlot, slot_bytes}
 use Rattle.volume_terms.specs.Sizes.{Sizes, page_slots}
 use Rattle.pages.specs.Maps.{PageMap, has, IsOf, IsCut, changed, takes, with_pages, without_cuts}
-use Rattle.pages.specs.laws.Maps.{here, elsewhere, cut_cases}
+use Rattle.pages.specs.laws.Maps.{here, elsewhere, cut_cases, cut_here}
 use Rattle.pages.specs.laws.Changes.{pages_same}
 use Rattle.pages.specs.Changes.{AreApart, AreSized, IsChange, IsOnlyOf}
 use Rattle.flash_tree.specs.declared.place.FreshPage.{FreshPage}
 use Rattle.pages.specs.declared.change.Change.{Change}
 use Rattle.pages.specs.declared.change.Cut.{Cut}
-use Rattle.directories.specs.Directories.{SlotOf}
+use Rattle.directories.specs.Directories.{HasOnly, SlotOf}
 use Rattle.directories.specs.HeadPages.{IsHeadPage}
 use Rattle.directories.specs.Heads.{fields_in}
 use Rattle.directories.specs.Slots.{AreSlots}
-use Rattle.directories.specs.Writes.{IsSlotsPage, IsSlotPage, IsSlotBytes, HasHead, HasKey, KeepsSlots, LosesSlot, CutsBehind}
+use Rattle.directories.specs.Writes.{KeepsPages, KeepsBehind, IsSlotsPage, IsSlotPage, IsSlotBytes, HasHead, HasKey, KeepsSlots, LosesSlot, CutsBehind}
 use Rattle.directories.specs.declared.head.DirectoryHead.{DirectoryHead}
 use Rattle.directories.specs.declared.writing.Writing.{Writing}
+use Rattle.directories.proofs.PageCounts.{one_more_page}
 use Rattle.directories.proofs.Searching.{one_page}
 
 -- ---- the pages of a change
@@ -129,6 +131,14 @@ module _ (d bytes : ℕ) (slot_page head_page : FreshPage) (head : DirectoryHead
         )
       ]
 
+    -- the pages of the other slots
+    pub two_pages : (z : Sizes) (number : ℕ) → slot_page.key.chunk ≡ 1 + number / page_slots z → KeepsPages z old (changed change old) d number
+    two_pages z number chunk c some other = elsewhere change old d c
+        (λ i of. elim (one_of slot_page head_page d c i (subst (λ (ps : List FreshPage). IsOf ps d c i) pages of)) [
+          | inl x ↦ other (omega (arith, x.2, chunk))
+          | inr x ↦ omega (arith, x.2, head_is.chunk_is, some)
+        ]) (no_cut change.cuts.items cuts d c)
+
 module _ (d bytes : ℕ) (head_page : FreshPage) (head : DirectoryHead) (head_is : IsHeadPage head_page bytes d head)
     (change : Change) (pages : change.pages.items ≡ head_page ∷ []) (cuts : change.cuts.items ≡ []) where
   only_head : (o c i : ℕ) → IsOf change.pages.items o c i → (i ≡ 0) × (head_page.key.object ≡ o) × (head_page.key.chunk ≡ c)
@@ -183,6 +193,10 @@ module _ (d bytes : ℕ) (head_page : FreshPage) (head : DirectoryHead) (head_is
       is.2,
       is.3,
     )
+
+  -- the pages of slots
+  pub one_pages : (old : PageMap) (c : ℕ) → 1 ≤ c → changed change old d c ≡ old d c
+  one_pages old c some = elsewhere change old d c (λ i of. omega (arith, (only_head d c i of).2, head_is.chunk_is, some)) (no_cut change.cuts.items cuts d c)
 
 -- ---- a cut behind the slots
 
@@ -349,6 +363,25 @@ module _ (z : Sizes) (old : PageMap) (d : ℕ) (head : DirectoryHead) (i : ℕ) 
     filled = λ less. let f = l.filled less in (f.0, f.1, slot_stays i f.0 less f.2);
     others = λ k e other less is. slot_stays k e less (l.others k e other less is);
   }
+
+-- what lies behind the slots is gone, where that was so of one slot more
+module _ (z : Sizes) (old : PageMap) (d len : ℕ) (change cut_change : Change) (pages : cut_change.pages.items ≡ change.pages.items) (uncut : change.cuts.items ≡ [])
+    (n : ℕ) (slots : n ≡ page_slots z) (some : 1 ≤ n) (cuts : CutsBehind d n len cut_change) (keeps : (m : PageMap) → KeepsBehind z m (changed change m) d len) where
+  as_written : (c : ℕ) → changed cut_change old d c ≡ changed change (without_cuts cut_change.cuts.items old) d c
+  as_written c = ap (λ (ps : List FreshPage). with_pages ps (without_cuts cut_change.cuts.items old) d c) pages
+      ∙ ap (λ (xs : List Cut). with_pages change.pages.items (without_cuts xs (without_cuts cut_change.cuts.items old)) d c) (sym uncut)
+
+  pub only_behind : HasOnly z old d (len + 1) → HasOnly z (changed cut_change old) d len
+  only_behind only c behind = as_written c ∙ keeps (without_cuts cut_change.cuts.items old) c behind ∙ elim cuts [
+    | inl none ↦ ap (λ (xs : List Cut). without_cuts xs old d c) none.1
+        ∙ only c (subst (λ k. div_ceil (len + 1) k < c) slots (one_more_page len n c some none.0 (subst (λ k. div_ceil len k < c) (sym slots) behind)))
+    | inr cut ↦ cut_here cut_change.cuts.items old d c 0 (record {
+      cut = cut.1.0;
+      there = ap (λ (xs : List Cut). slice_get xs 0) cut.1.1;
+      object = cut.1.2;
+      chunk = (let past : div_ceil len n < c = subst (λ k. div_ceil len k < c) (sym slots) behind in omega (arith, cut.1.3, past));
+    })
+  ]
 
 pub only_cut : (d n len : ℕ) (change cut_change : Change) → cut_change.pages.items ≡ change.pages.items → CutsBehind d n len cut_change → IsOnlyOf change d → IsOnlyOf cut_change d
 only_cut d n len change cut_change pages cuts is = record {

@@ -1,9 +1,10 @@
 -- A directory of a store's pages.
 use Rattle.std.specs.Prelude.{◌≡◌, ◌≢◌, ◌<◌, ℕ, true, List, Option, Some, None}
 use Rattle.std.specs.FinMap as map
+use Rattle.std.specs.Int.{div_ceil}
 use Rattle.flash_tree.specs.Tree.{ReadsDir, SlotIs}
 use Rattle.page_tags.specs.Slots.{Entry}
-use Rattle.volume_terms.specs.Sizes.{Sizes}
+use Rattle.volume_terms.specs.Sizes.{Sizes, page_slots}
 use Rattle.posix_profile.specs.State.{Entries}
 use Rattle.pages.specs.Maps.{PageMap, has}
 use Rattle.pages.specs.State.{PagesState}
@@ -19,6 +20,10 @@ pub record DirIn (p : PagesState) (z : Sizes) (o moment : ℕ) (entries : Entrie
 -- slot i of the directory is this entry
 abbrev pub SlotOf : Sizes → PageMap → ℕ → ℕ → Entry → Type 0
 SlotOf z m d i entry = SlotIs z (has m) d i entry
+
+-- the object has no page behind those of so many slots
+abbrev pub HasOnly : Sizes → PageMap → ℕ → ℕ → Type 0
+HasOnly z m d count = (c : ℕ) → div_ceil count (page_slots z) < c → m d c ≡ None
 
 -- after a change of the pages the object is this directory, with the spare blocks that were there
 abbrev pub ReadsAs : Sizes → PageMap → ℕ → ℕ → Entries → ℕ → Type 0

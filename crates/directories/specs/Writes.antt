@@ -1,5 +1,6 @@
 -- What the change of a directory writes, and what it leaves.
 use Rattle.std.specs.Prelude.{◌≡◌, ◌≢◌, ◌⊎◌, ◌<◌, ◌≤◌, ℕ, ◌+◌, ◌-◌, ◌*◌, ◌/◌, ◌%◌, List, [], ◌∷◌, length, take, drop, Some, slice_index}
+use Rattle.std.specs.Int.{div_ceil}
 use Rattle.page_tags.specs.Headers.{IsHeader, header_bytes}
 use Rattle.page_tags.specs.Slots.{Entry}
 use Rattle.volume_terms.specs.Sizes.{Sizes, page_slots}
@@ -38,6 +39,14 @@ pub record HasHead (z : Sizes) (m : PageMap) (d : ℕ) (head : DirectoryHead) : 
 -- the slots below a number stay, but for one
 abbrev pub KeepsSlots : Sizes → PageMap → PageMap → ℕ → ℕ → ℕ → Type 0
 KeepsSlots z old new d count but = (k : ℕ) (e : Entry) → k ≢ but → k < count → SlotOf z old d k e → SlotOf z new d k e
+
+-- the pages of slots stay, but for that of one slot
+abbrev pub KeepsPages : Sizes → PageMap → PageMap → ℕ → ℕ → Type 0
+KeepsPages z old new d but = (c : ℕ) → 1 ≤ c → c ≢ 1 + but / page_slots z → new d c ≡ old d c
+
+-- the pages behind those of so many slots stay
+abbrev pub KeepsBehind : Sizes → PageMap → PageMap → ℕ → ℕ → Type 0
+KeepsBehind z old new d count = (c : ℕ) → div_ceil count (page_slots z) < c → new d c ≡ old d c
 
 -- a page of the key is written
 abbrev pub HasKey : Change → ℕ → ℕ → Type 0

@@ -8,7 +8,7 @@ ghost use Rattle.posix_profile.specs.State.{Entries};
 ghost use Rattle.pages.specs.Changes.{IsChange, IsOnlyOf};
 ghost use Rattle.pages.specs.Maps.{changed};
 ghost use Rattle.pages.specs.State.{OnlyFinds};
-ghost use Rattle.directories.specs.Directories.{DirIn, ReadsAs};
+ghost use Rattle.directories.specs.Directories.{DirIn, HasOnly, ReadsAs};
 ghost use Rattle.directories.specs.Faults.{MayLackRoom, SaysWhyAdding};
 ghost use Rattle.directories.specs.Heads.{IsHeaded};
 
@@ -35,6 +35,9 @@ pub fn add<P: Pages>(
     ensures only { IfOk result (λ change. IsOnlyOf change directory) }
     ensures adds { (z : Sizes) (before : ℕ) (entries : Entries) (d : DirIn (P.state pages.old) z directory before entries) → map.get entries slot.now.name.now ≡ None
         → IfOk result (λ change. ReadsAs z (changed change (P.state pages.old).present) directory moment (map.insert entries slot.now.name.now slot.now.object) d.reads.fields.spare) }
+    ensures besides { (z : Sizes) (before : ℕ) (entries : Entries) (d : DirIn (P.state pages.old) z directory before entries) → map.get entries slot.now.name.now ≡ None
+        → HasOnly z (P.state pages.old).present directory (map.len entries)
+        → IfOk result (λ change. HasOnly z (changed change (P.state pages.old).present) directory (map.len (map.insert entries slot.now.name.now slot.now.object))) }
     ensures told { (P.state pages.old).sound ≡ true → OnOk result (IsHeaded (P.state pages.old) directory) }
     ensures why { IfErr result (SaysWhyAdding (P.state pages.new)) }
     ensures fault { (z : Sizes) (before : ℕ) (entries : Entries) (d : DirIn (P.state pages.old) z directory before entries)

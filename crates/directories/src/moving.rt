@@ -8,12 +8,12 @@ ghost use Rattle.volume_terms.specs.Sizes.{Sizes, page_slots};
 ghost use Rattle.posix_profile.specs.State.{Entries};
 ghost use Rattle.pages.specs.Afterwards.{after, IsSizedBy};
 ghost use Rattle.pages.specs.Changes.{IsChange, IsOnlyOf};
-ghost use Rattle.pages.specs.Maps.{changed};
+ghost use Rattle.pages.specs.Maps.{PageMap, changed};
 ghost use Rattle.pages.specs.State.{OnlyFinds};
-ghost use Rattle.directories.specs.Directories.{DirIn, ReadsAs, SlotOf, IsNamed, TellsChange, TellsOf};
+ghost use Rattle.directories.specs.Directories.{DirIn, HasOnly, ReadsAs, SlotOf, IsNamed, TellsChange, TellsOf};
 ghost use Rattle.directories.specs.Faults.{MayLackRoom, SaysWhyAdding};
 ghost use Rattle.directories.specs.Slots.{AreSlots};
-ghost use Rattle.directories.specs.Writes.{HasHead, HasKey, KeepsSlots};
+ghost use Rattle.directories.specs.Writes.{HasHead, HasKey, KeepsPages, KeepsSlots};
 
 use crate::head::{DirectoryHead, head_after};
 use crate::lookup::search;
@@ -44,6 +44,9 @@ pub fn rename_within<P: Pages>(
     ensures moves { (z : Sizes) (before : ℕ) (entries : Entries) (d : DirIn (P.state pages.old) z directory before entries)
         → IfOk result (λ made. IfSome made (λ change. ReadsAs z (changed change (P.state pages.old).present) directory moment
         (map.insert (map.remove entries from.now) to.now.name.now to.now.object) d.reads.fields.spare)) }
+    ensures besides { (z : Sizes) (before : ℕ) (entries : Entries) (d : DirIn (P.state pages.old) z directory before entries) → HasOnly z (P.state pages.old).present directory (map.len entries)
+        → IfOk result (λ made. IfSome made (λ change. HasOnly z (changed change (P.state pages.old).present) directory
+        (map.len (map.insert (map.remove entries from.now) to.now.name.now to.now.object)))) }
     ensures told { (P.state pages.old).sound ≡ true → (z : Sizes) → z.page_bytes ≡ (P.state pages.old).page_bytes
         → IfOk result (TellsChange z (P.state pages.old) directory from.now) }
     ensures why { IfErr result (SaysWhyAdding (P.state pages.new)) }
@@ -90,6 +93,10 @@ pub fn rename_between<P: Pages>(
     ensures gives { (z : Sizes) (before : ℕ) (entries : Entries) (d : DirIn (P.state pages.old) z route.target before entries)
         → IfOk result (λ made. IfSome made (λ change. ReadsAs z (changed change (P.state pages.old).present) route.target moment
         (map.insert entries to.now.name.now to.now.object) d.reads.fields.spare)) }
+    ensures source_besides { (z : Sizes) (before : ℕ) (entries : Entries) (d : DirIn (P.state pages.old) z route.source before entries) → HasOnly z (P.state pages.old).present route.source (map.len entries)
+        → IfOk result (λ made. IfSome made (λ change. HasOnly z (changed change (P.state pages.old).present) route.source (map.len (map.remove entries from.now)))) }
+    ensures target_besides { (z : Sizes) (before : ℕ) (entries : Entries) (d : DirIn (P.state pages.old) z route.target before entries) → HasOnly z (P.state pages.old).present route.target (map.len entries)
+        → IfOk result (λ made. IfSome made (λ change. HasOnly z (changed change (P.state pages.old).present) route.target (map.len (map.insert entries to.now.name.now to.now.object)))) }
     ensures told { (P.state pages.old).sound ≡ true → (z : Sizes) → z.page_bytes ≡ (P.state pages.old).page_bytes
         → IfOk result (TellsChange z (P.state pages.old) route.source from.now) }
     ensures target { (P.state pages.old).sound ≡ true → (z : Sizes) → z.page_bytes ≡ (P.state pages.old).page_bytes
@@ -126,6 +133,10 @@ fn put_after<P: Pages>(
     ensures puts { (z : Sizes) (before : ℕ) (entries : Entries) (d : DirIn (after (option_copied earlier.entry) (P.state pages.old)) z directory before entries)
         → IfOk result (λ change. ReadsAs z (changed change (after (option_copied earlier.entry) (P.state pages.old)).present) directory moment
         (map.insert entries slot.now.name.now slot.now.object) d.reads.fields.spare) }
+    ensures besides { (z : Sizes) (before : ℕ) (entries : Entries) (d : DirIn (after (option_copied earlier.entry) (P.state pages.old)) z directory before entries)
+        → HasOnly z (after (option_copied earlier.entry) (P.state pages.old)).present directory (map.len entries)
+        → IfOk result (λ change. HasOnly z (changed change (after (option_copied earlier.entry) (P.state pages.old)).present) directory
+        (map.len (map.insert entries slot.now.name.now slot.now.object))) }
     ensures told { (P.state pages.old).sound ≡ true → (z : Sizes) → z.page_bytes ≡ (P.state pages.old).page_bytes
         → OnOk result (TellsOf z (after (option_copied earlier.entry) (P.state pages.old)) directory slot.now.name.now) }
     ensures why { IfErr result (SaysWhyAdding (P.state pages.new)) }
@@ -170,6 +181,8 @@ fn push_slot<P: Pages>(
         IfOk result (λ change. HasHead z (changed change old) directory (record { spare = head.spare; length = head.length + 1; moment = moment })
         × SlotOf z (changed change old) directory head.length (entry_of slot.now)
         × KeepsSlots z old (changed change old) directory head.length head.length) }
+    ensures pages { (P.state pages.old).sound ≡ true → (z : Sizes) (m : PageMap) → z.page_bytes ≡ (P.state pages.old).page_bytes
+        → IfOk result (λ change. KeepsPages z m (changed change m) directory head.length) }
     ensures why { IfErr result (SaysWhyAdding (P.state pages.new)) }
     ensures fault { (P.state pages.old).sound ≡ true → (z : Sizes) → z.page_bytes ≡ (P.state pages.old).page_bytes
         → AreSlots (SlotOf z (after (option_copied earlier.entry) (P.state pages.old)).present directory) 0 head.length

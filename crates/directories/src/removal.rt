@@ -10,9 +10,9 @@ ghost use Rattle.pages.specs.Changes.{IsChange, IsOnlyOf};
 ghost use Rattle.pages.specs.Faults.{MayLack, SaysWhy, MayLackMemory, SaysWhyMaking};
 ghost use Rattle.pages.specs.Maps.{PageMap, changed};
 ghost use Rattle.pages.specs.State.{OnlyFinds};
-ghost use Rattle.directories.specs.Directories.{DirIn, ReadsAs, SlotOf, IsNamed, TellsChange};
+ghost use Rattle.directories.specs.Directories.{DirIn, HasOnly, ReadsAs, SlotOf, IsNamed, TellsChange};
 ghost use Rattle.directories.specs.Slots.{AreSlots};
-ghost use Rattle.directories.specs.Writes.{HasHead, HasKey, IsSlotBytes, KeepsSlots, LosesSlot, CutsBehind};
+ghost use Rattle.directories.specs.Writes.{HasHead, HasKey, IsSlotBytes, KeepsBehind, KeepsSlots, LosesSlot, CutsBehind};
 
 use crate::head::{DirectoryHead, head_after, head_page};
 use crate::lookup::search;
@@ -41,6 +41,8 @@ pub fn remove<P: Pages>(
         → IfOk result (λ made. IsNamed entries name.now made) }
     ensures removes { (z : Sizes) (before : ℕ) (entries : Entries) (d : DirIn (P.state pages.old) z directory before entries)
         → IfOk result (λ made. IfSome made (λ change. ReadsAs z (changed change (P.state pages.old).present) directory moment (map.remove entries name.now) d.reads.fields.spare)) }
+    ensures besides { (z : Sizes) (before : ℕ) (entries : Entries) (d : DirIn (P.state pages.old) z directory before entries) → HasOnly z (P.state pages.old).present directory (map.len entries)
+        → IfOk result (λ made. IfSome made (λ change. HasOnly z (changed change (P.state pages.old).present) directory (map.len (map.remove entries name.now)))) }
     ensures told { (P.state pages.old).sound ≡ true → (z : Sizes) → z.page_bytes ≡ (P.state pages.old).page_bytes
         → IfOk result (TellsChange z (P.state pages.old) directory name.now) }
     ensures why { IfErr result (SaysWhyMaking (P.state pages.new)) }
@@ -71,6 +73,9 @@ pub(crate) fn remove_after<P: Pages>(
     ensures removes { (z : Sizes) (before : ℕ) (entries : Entries) (d : DirIn (after (option_copied earlier.entry) (P.state pages.old)) z directory before entries)
         → IfOk result (λ made. IfSome made (λ change. ReadsAs z (changed change (after (option_copied earlier.entry) (P.state pages.old)).present) directory moment
         (map.remove entries name.now) d.reads.fields.spare)) }
+    ensures besides { (z : Sizes) (before : ℕ) (entries : Entries) (d : DirIn (after (option_copied earlier.entry) (P.state pages.old)) z directory before entries)
+        → HasOnly z (after (option_copied earlier.entry) (P.state pages.old)).present directory (map.len entries)
+        → IfOk result (λ made. IfSome made (λ change. HasOnly z (changed change (after (option_copied earlier.entry) (P.state pages.old)).present) directory (map.len (map.remove entries name.now)))) }
     ensures told { (P.state pages.old).sound ≡ true → (z : Sizes) → z.page_bytes ≡ (P.state pages.old).page_bytes
         → IfOk result (TellsChange z (after (option_copied earlier.entry) (P.state pages.old)) directory name.now) }
     ensures why { IfErr result (SaysWhyMaking (P.state pages.new)) }
@@ -111,6 +116,9 @@ fn remove_slot<P: Pages>(
     ensures removes { (P.state pages.old).sound ≡ true → (z : Sizes) → z.page_bytes ≡ (P.state pages.old).page_bytes
         → let old = (after (option_copied earlier.entry) (P.state pages.old)).present in
         IfOk result (λ change. LosesSlot z old (changed change old) directory shorter place) }
+    ensures besides { (P.state pages.old).sound ≡ true → (z : Sizes) → z.page_bytes ≡ (P.state pages.old).page_bytes
+        → let old = (after (option_copied earlier.entry) (P.state pages.old)).present in
+        HasOnly z old directory (shorter.length + 1) → IfOk result (λ change. HasOnly z (changed change old) directory shorter.length) }
     ensures why { IfErr result (SaysWhyMaking (P.state pages.new)) }
     ensures fault { (P.state pages.old).sound ≡ true → (z : Sizes) → z.page_bytes ≡ (P.state pages.old).page_bytes
         → AreSlots (SlotOf z (after (option_copied earlier.entry) (P.state pages.old)).present directory) 0 (shorter.length + 1)
@@ -143,6 +151,8 @@ fn shorten<P: Pages>(
     ensures shortens { (P.state pages.old).sound ≡ true → (z : Sizes) → z.page_bytes ≡ (P.state pages.old).page_bytes
         → let old = (after (option_copied earlier.entry) (P.state pages.old)).present in
         IfOk result (λ change. LosesSlot z old (changed change old) directory shorter place) }
+    ensures pages { (P.state pages.old).sound ≡ true → (z : Sizes) (m : PageMap) → z.page_bytes ≡ (P.state pages.old).page_bytes
+        → IfOk result (λ change. KeepsBehind z m (changed change m) directory shorter.length) }
     ensures why { IfErr result (SaysWhyMaking (P.state pages.new)) }
     ensures fault { (P.state pages.old).sound ≡ true → (z : Sizes) → z.page_bytes ≡ (P.state pages.old).page_bytes
         → AreSlots (SlotOf z (after (option_copied earlier.entry) (P.state pages.old)).present directory) 0 (shorter.length + 1)
@@ -200,6 +210,8 @@ fn fill<P: Pages>(
     ensures fills { (P.state pages.old).sound ≡ true → (z : Sizes) → z.page_bytes ≡ (P.state pages.old).page_bytes
         → let old = (after (option_copied earlier.entry) (P.state pages.old)).present in
         IfOk result (λ change. LosesSlot z old (changed change old) directory shorter place) }
+    ensures pages { (P.state pages.old).sound ≡ true → (z : Sizes) (m : PageMap) → z.page_bytes ≡ (P.state pages.old).page_bytes
+        → IfOk result (λ change. KeepsBehind z m (changed change m) directory shorter.length) }
     ensures why { IfErr result (SaysWhyMaking (P.state pages.new)) }
     ensures fault { (P.state pages.old).sound ≡ true → (z : Sizes) → z.page_bytes ≡ (P.state pages.old).page_bytes
         → AreSlots (SlotOf z (after (option_copied earlier.entry) (P.state pages.old)).present directory) 0 (shorter.length + 1)
@@ -259,6 +271,7 @@ fn head_change(
     ensures head { IfOk result (λ change. HasKey change directory 0) }
     ensures writes { (z : Sizes) (old : PageMap) → z.page_bytes ≡ page_bytes → IfOk result (λ change. HasHead z (changed change old) directory head
         × ((count : ℕ) → KeepsSlots z old (changed change old) directory count count)) }
+    ensures pages { (m : PageMap) (c : ℕ) → 1 ≤ c → IfOk result (λ change. changed change m directory c ≡ m directory c) }
 {
     let page = head_page(alloc, page_bytes, directory, head)?;
     let pages = vec![in alloc; page]?;

@@ -6,11 +6,11 @@ ghost use Rattle.volume_terms.specs.Sizes.{Sizes, page_slots};
 ghost use Rattle.pages.specs.Afterwards.{after, IsSizedBy};
 ghost use Rattle.pages.specs.Changes.{IsChange, IsOnlyOf};
 ghost use Rattle.pages.specs.Faults.{MayLackMemory, SaysWhyMaking};
-ghost use Rattle.pages.specs.Maps.{changed};
+ghost use Rattle.pages.specs.Maps.{PageMap, changed};
 ghost use Rattle.pages.specs.State.{OnlyFinds};
 ghost use Rattle.directories.specs.Directories.{SlotOf};
 ghost use Rattle.directories.specs.Slots.{AreSlots};
-ghost use Rattle.directories.specs.Writes.{IsSlotsPage, IsSlotPage, HasHead, HasKey, KeepsSlots};
+ghost use Rattle.directories.specs.Writes.{IsSlotsPage, IsSlotPage, HasHead, HasKey, KeepsPages, KeepsSlots};
 
 use crate::head::{DirectoryHead, head_page};
 use crate::page::{copy_slots, write_slot};
@@ -117,6 +117,8 @@ pub(crate) fn write<P: Pages>(
         IfOk result (λ change. HasHead z (changed change old) directory head
         × SlotOf z (changed change old) directory writing.number (entry_of slot.now)
         × KeepsSlots z old (changed change old) directory (min writing.before writing.afterwards) writing.number) }
+    ensures pages { (P.state pages.old).sound ≡ true → (z : Sizes) (m : PageMap) → z.page_bytes ≡ (P.state pages.old).page_bytes
+        → IfOk result (λ change. KeepsPages z m (changed change m) directory writing.number) }
     ensures why { IfErr result (SaysWhyMaking (P.state pages.new)) }
     ensures fault { (P.state pages.old).sound ≡ true → (z : Sizes) → z.page_bytes ≡ (P.state pages.old).page_bytes
         → AreSlots (SlotOf z (after (option_copied earlier.entry) (P.state pages.old)).present directory) 0 writing.before

@@ -1,4 +1,5 @@
 use Rattle.std.proofs.Common.{◌≡◌, ◌+◌, ◌∙◌, ℕ, min, Option, None, length, refl, sym, subst, arith, rules}
+use Rattle.std.specs.FinMap as map
 use Rattle.pages.specs.Afterwards.{after}
 use Rattle.pages.specs.laws.Afterwards.{finds_after}
 use Rattle.pages.specs.State.{PagesState}
@@ -7,12 +8,14 @@ use Rattle.directories.specs.Directories.{DirIn}
 use Rattle.page_tags.specs.SlotEntry.{entry_of}
 use Rattle.pages.specs.laws.Faults.{says_more}
 use Rattle.pages.specs.Maps.{PageMap, changed}
-use Rattle.directories.specs.Directories.{SlotOf}
+use Rattle.directories.specs.Directories.{HasOnly, SlotOf}
 use Rattle.directories.specs.Writes.{HasHead, KeepsSlots}
 use Rattle.directories.specs.declared.head.DirectoryHead.{DirectoryHead}
 use Rattle.directories.proofs.Changed.{reads_added}
-use Rattle.directories.proofs.Results.{on_ok, on_err}
-use Rattle.directories.proofs.Told.{sound_on, size_on, are_on, head_says, length_is, count_is}
+use Rattle.directories.proofs.Results.{on_all, on_ok, on_err}
+use Rattle.directories.proofs.PageCounts.{only_written}
+use Rattle.directories.proofs.Reading.{count_after}
+use Rattle.directories.proofs.Told.{page_size, some_slots, sound_on, size_on, are_on, head_says, length_is, count_is}
 use Rattle.directories.proofs.addition.add.Goals as goal
 
 pub returns-in_default-clause-fault : goal.returns-in_default-clause-fault
@@ -69,3 +72,33 @@ returns-clause-fault g c = λ z moment entries d.
     let s = c.in_ok-head.ensures.told here.sound in
     let sized = g.met.P.Pages.sized c.args.pages.now in
     on_err _ _ c.write.result (λ fault is. says_more _ _ _ _ _ _ (g.P.Pages.state c.write.new.pages) fault (λ x. x) (λ x. x) (λ x. absurd x) is) (c.write.ensures.fault (sound_on p q finds z c.args.directory moment entries here sized c.in_ok-head.head s) z (size_on p q finds z c.args.directory moment entries here sized c.in_ok-head.head s) (are_on p q finds z c.args.directory moment entries here sized c.in_ok-head.head s))
+
+pub returns-clause-besides : goal.returns-clause-besides
+returns-clause-besides g c = λ z moment entries d absent only.
+    let old : PagesState = g.P.Pages.state c.args.pages.now in
+    let e : Option Change = None in
+    let p : PagesState = after e old in
+    let mid : PagesState = g.P.Pages.state c.head_after.new.pages in
+    let q : PagesState = after e mid in
+    let finds = finds_after e old mid c.head_after.ensures.finds in
+    let here : DirIn p z c.args.directory moment entries = record { sound = d.sound; size = d.size; reads = d.reads } in
+    let s = c.in_ok-head.ensures.told here.sound in
+    let sized = g.met.P.Pages.sized c.args.pages.now in
+    let size = page_size p q finds z c.args.directory moment entries here sized c.in_ok-head.head s in
+    let some = some_slots p q finds z c.args.directory moment entries here sized c.in_ok-head.head s in
+    let counted = count_is p q finds z c.args.directory moment entries here sized c.in_ok-head.head s in
+    let sound_on' = sound_on p q finds z c.args.directory moment entries here sized c.in_ok-head.head s in
+    let size_on' = size_on p q finds z c.args.directory moment entries here sized c.in_ok-head.head s in
+    let n : ℕ = c.in_ok-head.head.length in
+    let more : c.in-Some.length ≡ n + 1 = search rules in
+    let head : DirectoryHead = record { spare = c.in_ok-head.head.spare; length = c.in-Some.length; moment = c.args.moment } in
+    let m : PageMap = old.present in
+    on_all _ _ _ _ c.write.result
+    (λ change r w keeps.
+    let header = subst (λ (k : PageMap). HasHead z (changed change k) c.args.directory head) c.head_after.ensures.finds.present w.0 in
+    let count = count_after z size (changed change m) c.args.directory c.args.moment (map.insert entries c.args.slot.now.name.now c.args.slot.now.object) r.0 head header in
+    subst (HasOnly z (changed change m) c.args.directory) (sym count)
+    (only_written z m (changed change m) c.args.directory n c.in-Some.length some (omega (arith, more)) keeps (map.len entries) (omega (arith, more, counted)) only))
+    (returns-clause-adds g c z moment entries d absent)
+    (c.write.ensures.writes sound_on' z size_on')
+    (c.write.ensures.pages sound_on' z m size_on')

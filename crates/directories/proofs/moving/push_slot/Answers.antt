@@ -26,3 +26,6 @@ returns-clause-pushes g c = λ sound z size.
 pub returns-clause-fault : goal.returns-clause-fault
 returns-clause-fault g c = λ sound z size are.
     on_err _ _ c.write.result (λ fault is. says_more _ _ _ _ _ _ (g.P.Pages.state c.write.new.pages) fault (λ x. x) (λ x. x) (λ x. absurd x) is) (c.write.ensures.fault sound z size are)
+
+pub returns-clause-pages : goal.returns-clause-pages
+returns-clause-pages g c = λ sound z m size. c.write.ensures.pages sound z m size

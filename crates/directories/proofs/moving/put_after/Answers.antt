@@ -1,4 +1,4 @@
-use Rattle.std.proofs.Common.{◌≡◌, ◌+◌, ◌∙◌, ℕ, min, Option, option_copied, length, refl, sym, subst, arith}
+use Rattle.std.proofs.Common.{◌≡◌, ◌<◌, ◌+◌, ◌∙◌, ℕ, min, Option, option_copied, length, refl, sym, subst, arith}
 use Rattle.std.proofs.lemmas.Result.{err_from_is_err_and}
 use Rattle.std.specs.FinMap as map
 use Rattle.pages.specs.Afterwards.{after, changed_by}
@@ -9,13 +9,15 @@ use Rattle.pages.specs.declared.change.Change.{Change}
 use Rattle.directories.specs.Directories.{DirIn}
 use Rattle.page_tags.specs.SlotEntry.{entry_of}
 use Rattle.pages.specs.Maps.{PageMap, changed}
-use Rattle.directories.specs.Directories.{SlotOf}
+use Rattle.directories.specs.Directories.{HasOnly, SlotOf}
 use Rattle.directories.specs.Slots.{AreSlots}
 use Rattle.directories.specs.Writes.{HasHead, KeepsSlots}
 use Rattle.directories.specs.declared.head.DirectoryHead.{DirectoryHead}
 use Rattle.directories.proofs.Changed.{reads_put, reads_added}
-use Rattle.directories.proofs.Results.{always, on_ok, on_err, lacks_room}
-use Rattle.directories.proofs.Told.{sound_on, size_on, are_on, head_says, length_is, count_is, located, leads_nowhere, asked_for, asked_more, told_of}
+use Rattle.directories.proofs.Results.{always, on_all, on_ok, on_err, lacks_room}
+use Rattle.directories.proofs.PageCounts.{only_written}
+use Rattle.directories.proofs.Reading.{count_after}
+use Rattle.directories.proofs.Told.{page_size, some_slots, sound_on, size_on, are_on, head_says, length_is, count_is, located, leads_nowhere, asked_for, asked_more, told_of}
 use Rattle.directories.proofs.moving.put_after.Goals as goal
 
 pub returns-in_err-found-clause-asked : goal.returns-in_err-found-clause-asked
@@ -180,3 +182,66 @@ returns-in-None-clause-told g c = λ sound z size.
     let finds = finds_after e old mid c.head_after.ensures.finds in
     always c.push_slot.result (told_of (after e old) (after e mid) finds z c.args.directory c.in_ok-head.head (c.in_ok-head.ensures.told sound) c.args.slot.now.name.now c.in_ok-found.found
     (c.in_ok-found.ensures.told (finds.sound ∙ sound) z (size ∙ sym finds.page_bytes)))
+
+pub returns-in-Some-clause-besides : goal.returns-in-Some-clause-besides
+returns-in-Some-clause-besides g c = λ z moment entries d only.
+    let old : PagesState = g.P.Pages.state c.args.pages.now in
+    let e : Option Change = option_copied c.args.earlier in
+    let p : PagesState = after e old in
+    let mid : PagesState = g.P.Pages.state c.head_after.new.pages in
+    let q : PagesState = after e mid in
+    let finds = finds_after e old mid c.head_after.ensures.finds in
+    let here : DirIn p z c.args.directory moment entries = d in
+    let s = c.in_ok-head.ensures.told here.sound in
+    let sized = g.met.P.Pages.sized c.args.pages.now in
+    let size = page_size p q finds z c.args.directory moment entries here sized c.in_ok-head.head s in
+    let some = some_slots p q finds z c.args.directory moment entries here sized c.in_ok-head.head s in
+    let counted = count_is p q finds z c.args.directory moment entries here sized c.in_ok-head.head s in
+    let sound_on' = sound_on p q finds z c.args.directory moment entries here sized c.in_ok-head.head s in
+    let size_on' = size_on p q finds z c.args.directory moment entries here sized c.in_ok-head.head s in
+    let within : c.in-Some.found.place < c.in_ok-head.head.length = rw c.in-Some.is at c.in_ok-found.ensures.within in
+    let next = c.search.ensures.finds in
+    let n : ℕ = c.in_ok-head.head.length in
+    let head : DirectoryHead = record { spare = c.in_ok-head.head.spare; length = n; moment = c.args.moment } in
+    let m : PageMap = p.present in
+    let all : (g.P.Pages.state c.search.new.pages).present ≡ old.present = next.present ∙ c.head_after.ensures.finds.present in
+    on_all _ _ _ _ c.write.result
+    (λ change r w keeps.
+    let header = subst (λ (k : PageMap). HasHead z (changed change (changed_by e k)) c.args.directory head) all w.0 in
+    let count = count_after z size (changed change m) c.args.directory c.args.moment (map.insert entries c.args.slot.now.name.now c.args.slot.now.object) r.0 head header in
+    subst (HasOnly z (changed change m) c.args.directory) (sym count)
+    (only_written z m (changed change m) c.args.directory c.in-Some.found.place n some within keeps (map.len entries) (omega (arith, counted)) only))
+    (returns-in-Some-clause-puts g c z moment entries d)
+    (c.write.ensures.writes (next.sound ∙ sound_on') z (size_on' ∙ sym next.page_bytes))
+    (c.write.ensures.pages (next.sound ∙ sound_on') z m (size_on' ∙ sym next.page_bytes))
+
+pub returns-in-None-clause-besides : goal.returns-in-None-clause-besides
+returns-in-None-clause-besides g c = λ z moment entries d only.
+    let old : PagesState = g.P.Pages.state c.args.pages.now in
+    let e : Option Change = option_copied c.args.earlier in
+    let p : PagesState = after e old in
+    let mid : PagesState = g.P.Pages.state c.head_after.new.pages in
+    let q : PagesState = after e mid in
+    let finds = finds_after e old mid c.head_after.ensures.finds in
+    let here : DirIn p z c.args.directory moment entries = d in
+    let s = c.in_ok-head.ensures.told here.sound in
+    let sized = g.met.P.Pages.sized c.args.pages.now in
+    let size = page_size p q finds z c.args.directory moment entries here sized c.in_ok-head.head s in
+    let some = some_slots p q finds z c.args.directory moment entries here sized c.in_ok-head.head s in
+    let counted = count_is p q finds z c.args.directory moment entries here sized c.in_ok-head.head s in
+    let sound_on' = sound_on p q finds z c.args.directory moment entries here sized c.in_ok-head.head s in
+    let size_on' = size_on p q finds z c.args.directory moment entries here sized c.in_ok-head.head s in
+    let next = c.search.ensures.finds in
+    let n : ℕ = c.in_ok-head.head.length in
+    let head : DirectoryHead = record { spare = c.in_ok-head.head.spare; length = n + 1; moment = c.args.moment } in
+    let m : PageMap = p.present in
+    let all : (g.P.Pages.state c.search.new.pages).present ≡ old.present = next.present ∙ c.head_after.ensures.finds.present in
+    on_all _ _ _ _ c.push_slot.result
+    (λ change r w keeps.
+    let header = subst (λ (k : PageMap). HasHead z (changed change (changed_by e k)) c.args.directory head) all w.0 in
+    let count = count_after z size (changed change m) c.args.directory c.args.moment (map.insert entries c.args.slot.now.name.now c.args.slot.now.object) r.0 head header in
+    subst (HasOnly z (changed change m) c.args.directory) (sym count)
+    (only_written z m (changed change m) c.args.directory n (n + 1) some (omega arith) keeps (map.len entries) (omega (arith, counted)) only))
+    (returns-in-None-clause-puts g c z moment entries d)
+    (c.push_slot.ensures.pushes (next.sound ∙ sound_on') z (size_on' ∙ sym next.page_bytes))
+    (c.push_slot.ensures.pages (next.sound ∙ sound_on') z m (size_on' ∙ sym next.page_bytes))

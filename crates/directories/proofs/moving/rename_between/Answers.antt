@@ -1,4 +1,4 @@
-use Rattle.std.proofs.Common.{◌≡◌, ◌∙◌, Some, None, ap, sym, subst, arith}
+use Rattle.std.proofs.Common.{◌≡◌, ◌∙◌, ℕ, Some, None, ap, sym, subst, arith}
 use Rattle.std.proofs.lemmas.Result.{err_from_is_err_and}
 use Rattle.std.specs.FinMap as map
 use Rattle.pages.specs.Afterwards.{after}
@@ -8,7 +8,7 @@ use Rattle.pages.specs.Maps.{PageMap, changed}
 use Rattle.pages.specs.State.{PagesState}
 use Rattle.pages.specs.declared.change.Change.{Change}
 use Rattle.posix_profile.specs.State.{Entries}
-use Rattle.directories.specs.Directories.{DirIn, ReadsAs}
+use Rattle.directories.specs.Directories.{DirIn, HasOnly, ReadsAs}
 use Rattle.directories.proofs.Changed.{reads_kept}
 use Rattle.directories.proofs.Moves.{read_then, read_besides, told_there}
 use Rattle.directories.proofs.Results.{memory_room}
@@ -173,3 +173,33 @@ returns-in_default-clause-told g c = λ sound z size. rw c.in_default.is at (c.i
 
 pub returns-clause-told : goal.returns-clause-told
 returns-clause-told g c = λ sound z size. let t = rw c.in-Some.is at (c.in_ok-first.ensures.told sound z size) in (t.0, t.1)
+
+pub returns-clause-source_besides : goal.returns-clause-source_besides
+returns-clause-source_besides g c = λ z moment entries d only k behind.
+    let old : PagesState = g.P.Pages.state c.args.pages.now in
+    let o : ℕ = c.args.route.source in
+    let here : DirIn (after None old) z o moment entries = record { sound = d.sound; size = d.size; reads = d.reads } in
+    let first : Change = c.in-Some.first in
+    let few = rw c.in-Some.is at (c.in_ok-first.ensures.besides z moment entries here only) in
+    c.in_ok-change.ensures.pages old.present o k
+    ∙ others_keep c.in_ok-second.second c.args.route.target c.in_ok-second.ensures.only (changed first old.present) o k c.requires.apart
+    ∙ few k behind
+
+pub returns-clause-target_besides : goal.returns-clause-target_besides
+returns-clause-target_besides g c = λ z moment entries d only.
+    let old : PagesState = g.P.Pages.state c.args.pages.now in
+    let mid : PagesState = g.P.Pages.state c.remove_after.new.pages in
+    let finds = c.remove_after.ensures.finds in
+    let o : ℕ = c.args.route.target in
+    let first : Change = c.in-Some.first in
+    let second : Change = c.in_ok-second.second in
+    let n : ℕ = map.len (map.insert entries c.args.to.now.name.now c.args.to.now.object) in
+    let of_first : IsOnlyOf first c.args.route.source = rw c.in-Some.is at c.in_ok-first.ensures.only in
+    let kept = read_besides first c.args.route.source of_first old.present z o moment entries c.requires.apart d.reads in
+    let then_dir = read_then old mid finds first z o moment entries d.reads.fields.spare d.sound d.size kept in
+    let few : HasOnly z (changed first old.present) o (map.len entries) = λ k behind. others_keep first c.args.route.source of_first old.present o k (λ same. c.requires.apart (sym same)) ∙ only k behind in
+    let few_then : HasOnly z (changed first mid.present) o (map.len entries) = subst (λ (k : PageMap). HasOnly z (changed first k) o (map.len entries)) (sym finds.present) few in
+    let both : changed second (changed first old.present) ≡ changed c.in_ok-change.change old.present = λ i x k. sym (c.in_ok-change.ensures.pages old.present x k) i in
+    subst (λ (m : PageMap). HasOnly z m o n) both
+    (subst (λ (k : PageMap). HasOnly z (changed second (changed first k)) o n) finds.present
+    (c.in_ok-second.ensures.besides z moment entries then_dir few_then))

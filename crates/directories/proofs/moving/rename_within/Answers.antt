@@ -1,4 +1,4 @@
-use Rattle.std.proofs.Common.{◌≡◌, ◌∙◌, Some, None, sym, subst, arith}
+use Rattle.std.proofs.Common.{◌≡◌, ◌∙◌, ℕ, Some, None, sym, subst, arith}
 use Rattle.std.proofs.lemmas.Result.{err_from_is_err_and}
 use Rattle.std.specs.FinMap as map
 use Rattle.pages.specs.Afterwards.{after}
@@ -8,7 +8,7 @@ use Rattle.pages.specs.Maps.{PageMap, changed}
 use Rattle.pages.specs.State.{PagesState}
 use Rattle.pages.specs.declared.change.Change.{Change}
 use Rattle.posix_profile.specs.State.{Entries}
-use Rattle.directories.specs.Directories.{DirIn, ReadsAs}
+use Rattle.directories.specs.Directories.{DirIn, HasOnly, ReadsAs}
 use Rattle.directories.proofs.Moves.{read_then}
 use Rattle.directories.proofs.Results.{memory_room}
 use Rattle.directories.proofs.moving.rename_within.Goals as goal
@@ -142,3 +142,23 @@ returns-in_default-clause-told g c = λ sound z size. rw c.in_default.is at (c.i
 
 pub returns-clause-told : goal.returns-clause-told
 returns-clause-told g c = λ sound z size. let t = rw c.in-Some.is at (c.in_ok-first.ensures.told sound z size) in (t.0, t.1)
+
+pub returns-clause-besides : goal.returns-clause-besides
+returns-clause-besides g c = λ z moment entries d only.
+    let old : PagesState = g.P.Pages.state c.args.pages.now in
+    let mid : PagesState = g.P.Pages.state c.remove_after.new.pages in
+    let finds = c.remove_after.ensures.finds in
+    let o : ℕ = c.args.directory in
+    let here : DirIn (after None old) z o moment entries = record { sound = d.sound; size = d.size; reads = d.reads } in
+    let first : Change = c.in-Some.first in
+    let second : Change = c.in_ok-second.second in
+    let left : Entries = map.remove entries c.args.from.now in
+    let n : ℕ = map.len (map.insert left c.args.to.now.name.now c.args.to.now.object) in
+    let less = rw c.in-Some.is at (c.in_ok-first.ensures.removes z moment entries here) in
+    let then_dir = read_then old mid finds first z o c.args.moment left d.reads.fields.spare d.sound d.size less in
+    let few = rw c.in-Some.is at (c.in_ok-first.ensures.besides z moment entries here only) in
+    let few_then : HasOnly z (changed first mid.present) o (map.len left) = subst (λ (k : PageMap). HasOnly z (changed first k) o (map.len left)) (sym finds.present) few in
+    let both : changed second (changed first old.present) ≡ changed c.in_ok-change.change old.present = λ i x k. sym (c.in_ok-change.ensures.pages old.present x k) i in
+    subst (λ (m : PageMap). HasOnly z m o n) both
+    (subst (λ (k : PageMap). HasOnly z (changed second (changed first k)) o n) finds.present
+    (c.in_ok-second.ensures.besides z c.args.moment left then_dir few_then))

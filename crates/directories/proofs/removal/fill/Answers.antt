@@ -1,4 +1,4 @@
-use Rattle.std.proofs.Common.{◌≡◌, ◌+◌, ◌∙◌, ℕ, min, option_copied, sym, subst, arith}
+use Rattle.std.proofs.Common.{◌≡◌, ◌≤◌, ◌+◌, ◌∙◌, ℕ, min, option_copied, sym, subst, arith}
 use Rattle.std.proofs.lemmas.Result.{err_from_is_err_and}
 use Rattle.page_tags.specs.SlotEntry.{entry_of}
 use Rattle.page_tags.specs.Slots.{Entry}
@@ -9,6 +9,8 @@ use Rattle.pages.specs.State.{PagesState}
 use Rattle.directories.specs.Directories.{SlotOf}
 use Rattle.directories.specs.Slots.{AreSlots}
 use Rattle.directories.specs.Writes.{HasHead, KeepsSlots}
+use Rattle.volume_terms.specs.Sizes.{page_slots}
+use Rattle.directories.proofs.PageCounts.{kept_behind}
 use Rattle.directories.proofs.Results.{on_ok}
 use Rattle.directories.proofs.Written.{bytes_slot, slot_of_bytes}
 use Rattle.directories.proofs.removal.fill.Goals as goal
@@ -54,3 +56,11 @@ returns-clause-fault g c = λ sound z size are.
     let by : PageMap → PageMap = changed_by (option_copied c.args.earlier) in
     c.write.ensures.fault (finds.sound ∙ sound) z (size ∙ sym finds.page_bytes)
     (subst (λ (k : PageMap). AreSlots (SlotOf z (by k) c.args.directory) 0 (c.args.shorter.length + 1)) (sym finds.present) are)
+
+pub returns-clause-pages : goal.returns-clause-pages
+returns-clause-pages g c = λ sound z m size.
+    let finds = c.slot_bytes.ensures.finds in
+    let low = (g.met.P.Pages.sized c.args.pages.now).0 in
+    let some : 1 ≤ page_slots z = omega (arith, low, size) in
+    on_ok _ _ c.write.result (λ change keeps. kept_behind z m (changed change m) c.args.directory c.args.place c.args.shorter.length some c.requires.within keeps)
+    (c.write.ensures.pages (finds.sound ∙ sound) z m (size ∙ sym finds.page_bytes))

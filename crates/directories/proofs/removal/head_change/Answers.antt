@@ -1,5 +1,5 @@
 use Rattle.pages.specs.declared.change.Change.{Change}
-use Rattle.directories.proofs.Written.{one_change, one_only, one_head, one_has, one_keeps}
+use Rattle.directories.proofs.Written.{one_change, one_only, one_head, one_has, one_keeps, one_pages}
 use Rattle.directories.proofs.removal.head_change.Goals as goal
 
 pub returns-clause-change : goal.returns-clause-change
@@ -23,3 +23,8 @@ returns-clause-writes c = λ z old size.
       one_has c.args.directory c.args.page_bytes c.in_ok-page.page c.args.head c.in_ok-page.ensures change c.in_ok-pages.ensures.items c.new.ensures.items old z size,
       one_keeps c.args.directory c.args.page_bytes c.in_ok-page.page c.args.head c.in_ok-page.ensures change c.in_ok-pages.ensures.items c.new.ensures.items old z size,
     )
+
+pub returns-clause-pages : goal.returns-clause-pages
+returns-clause-pages c = λ old k some.
+    let change : Change = record { pages = c.in_ok-pages.pages; cuts = c.new.result } in
+    one_pages c.args.directory c.args.page_bytes c.in_ok-page.page c.args.head c.in_ok-page.ensures change c.in_ok-pages.ensures.items c.new.ensures.items old k some

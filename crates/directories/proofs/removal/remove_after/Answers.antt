@@ -8,12 +8,13 @@ use Rattle.pages.specs.State.{PagesState}
 use Rattle.pages.specs.declared.change.Change.{Change}
 use Rattle.directories.specs.Directories.{DirIn}
 use Rattle.pages.specs.Maps.{PageMap, changed}
-use Rattle.directories.specs.Directories.{ReadsAs, SlotOf}
+use Rattle.directories.specs.Directories.{HasOnly, ReadsAs, SlotOf}
 use Rattle.directories.specs.Slots.{AreSlots}
 use Rattle.directories.specs.Writes.{LosesSlot}
 use Rattle.directories.specs.declared.head.DirectoryHead.{DirectoryHead}
 use Rattle.directories.proofs.Changed.{reads_fewer}
-use Rattle.directories.proofs.Told.{few, sound_on, size_on, are_on, head_says, length_is, located, leads_to, leads_nowhere, asked_for, asked_more, told_leads, told_none}
+use Rattle.directories.proofs.Reading.{count_after}
+use Rattle.directories.proofs.Told.{page_size, count_is, few, sound_on, size_on, are_on, head_says, length_is, located, leads_to, leads_nowhere, asked_for, asked_more, told_leads, told_none}
 use Rattle.directories.proofs.removal.remove_after.Goals as goal
 
 less_one : (place length : ℕ) → place < length → place ≤ length - 1
@@ -181,3 +182,31 @@ returns-clause-told g c = λ sound z size.
       told_leads (after e old) (after e mid) finds z c.args.directory c.in_ok-head.head (c.in_ok-head.ensures.told sound) c.args.name.now c.in-Some.found
           (rw c.in-Some.is at (c.in_ok-found.ensures.told (finds.sound ∙ sound) z (size ∙ sym finds.page_bytes))),
     )
+
+pub returns-clause-besides : goal.returns-clause-besides
+returns-clause-besides g c = λ z moment entries d only.
+    let old : PagesState = g.P.Pages.state c.args.pages.now in
+    let e : Option Change = option_copied c.args.earlier in
+    let p : PagesState = after e old in
+    let mid : PagesState = g.P.Pages.state c.head_after.new.pages in
+    let q : PagesState = after e mid in
+    let finds = finds_after e old mid c.head_after.ensures.finds in
+    let here : DirIn p z c.args.directory moment entries = d in
+    let s = c.in_ok-head.ensures.told here.sound in
+    let sized = g.met.P.Pages.sized c.args.pages.now in
+    let within : c.in-Some.found.place < c.in_ok-head.head.length = rw c.in-Some.is at c.in_ok-found.ensures.within in
+    let back : c.in_ok-head.head.length ≡ c.in_ok-head.head.length - 1 + 1 = omega (arith, within) in
+    let next = c.search.ensures.finds in
+    let n : ℕ = c.in_ok-head.head.length - 1 in
+    let head : DirectoryHead = record { spare = c.in_ok-head.head.spare; length = n; moment = c.args.moment } in
+    let m : PageMap = p.present in
+    let change : Change = c.in_ok-change.change in
+    let all : (g.P.Pages.state c.search.new.pages).present ≡ old.present = next.present ∙ c.head_after.ensures.finds.present in
+    let sound_now = next.sound ∙ sound_on p q finds z c.args.directory moment entries here sized c.in_ok-head.head s in
+    let size_now = size_on p q finds z c.args.directory moment entries here sized c.in_ok-head.head s ∙ sym next.page_bytes in
+    let loses = subst (λ (k : PageMap). LosesSlot z (changed_by e k) (changed change (changed_by e k)) c.args.directory head c.in-Some.found.place) all (c.in_ok-change.ensures.removes sound_now z size_now) in
+    let turns = subst (λ (k : PageMap). HasOnly z (changed_by e k) c.args.directory (n + 1) → HasOnly z (changed change (changed_by e k)) c.args.directory n) all (c.in_ok-change.ensures.besides sound_now z size_now) in
+    let before : HasOnly z m c.args.directory (n + 1) = subst (HasOnly z m c.args.directory) (sym (count_is p q finds z c.args.directory moment entries here sized c.in_ok-head.head s) ∙ back) only in
+    let r = returns-clause-removes g c z moment entries d in
+    let count = count_after z (page_size p q finds z c.args.directory moment entries here sized c.in_ok-head.head s) (changed change m) c.args.directory c.args.moment (map.remove entries c.args.name.now) r.0 head loses.header in
+    subst (HasOnly z (changed change m) c.args.directory) (sym count) (turns before)

@@ -4,7 +4,7 @@ use Rattle.volume_terms.specs.Sizes.{page_slots}
 use Rattle.pages.specs.Afterwards.{changed_by}
 use Rattle.pages.specs.Maps.{PageMap}
 use Rattle.pages.specs.State.{PagesState}
-use Rattle.directories.proofs.Written.{cut_change_is, only_cut, key_stays, loses_cut}
+use Rattle.directories.proofs.Written.{cut_change_is, only_cut, key_stays, loses_cut, only_behind}
 use Rattle.directories.proofs.removal.remove_slot.Goals as goal
 
 pub returns-in_err-change-clause-fault : goal.returns-in_err-change-clause-fault
@@ -30,3 +30,13 @@ returns-clause-removes g c = λ sound z size.
     let some : 1 ≤ n = omega (arith, c.page_bytes.ensures.least) in
     loses_cut z m c.args.directory c.args.shorter c.args.place c.in_ok-change.change c.in_ok-cut.cut c.in_ok-cut.ensures.pages c.in_ok-change.ensures.cuts n slots some c.in_ok-cut.ensures.cuts
     (c.in_ok-change.ensures.shortens sound z size)
+
+pub returns-clause-besides : goal.returns-clause-besides
+returns-clause-besides g c = λ sound z size only.
+    let old : PagesState = g.P.Pages.state c.args.pages.now in
+    let m : PageMap = changed_by (option_copied c.args.earlier) old.present in
+    let n : ℕ = c.page_bytes.result / 272 in
+    let slots : n ≡ page_slots z = ap (λ k. k / 272) (c.page_bytes.ensures.bytes ∙ sym size) in
+    let some : 1 ≤ n = omega (arith, c.page_bytes.ensures.least) in
+    only_behind z m c.args.directory c.args.shorter.length c.in_ok-change.change c.in_ok-cut.cut c.in_ok-cut.ensures.pages c.in_ok-change.ensures.cuts n slots some c.in_ok-cut.ensures.cuts
+    (λ k. c.in_ok-change.ensures.pages sound z k size) only

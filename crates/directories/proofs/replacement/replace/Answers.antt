@@ -1,5 +1,6 @@
-use Rattle.std.proofs.Common.{◌≡◌, ◌∙◌, ℕ, min, Option, None, length, refl, sym, subst, arith}
+use Rattle.std.proofs.Common.{◌≡◌, ◌<◌, ◌∙◌, ℕ, min, Option, None, length, refl, sym, subst, arith}
 use Rattle.std.proofs.lemmas.Result.{err_from_is_err_and}
+use Rattle.std.specs.FinMap as map
 use Rattle.pages.specs.Afterwards.{after}
 use Rattle.pages.specs.laws.Faults.{lacks_memory}
 use Rattle.pages.specs.laws.Afterwards.{finds_after}
@@ -8,12 +9,14 @@ use Rattle.pages.specs.declared.change.Change.{Change}
 use Rattle.directories.specs.Directories.{DirIn}
 use Rattle.page_tags.specs.SlotEntry.{entry_of}
 use Rattle.pages.specs.Maps.{PageMap, changed}
-use Rattle.directories.specs.Directories.{SlotOf}
+use Rattle.directories.specs.Directories.{HasOnly, SlotOf}
 use Rattle.directories.specs.Slots.{AreSlots}
 use Rattle.directories.specs.Writes.{HasHead, KeepsSlots}
 use Rattle.directories.specs.declared.head.DirectoryHead.{DirectoryHead}
 use Rattle.directories.proofs.Changed.{reads_put}
-use Rattle.directories.proofs.Told.{sound_on, size_on, are_on, head_says, length_is, located, leads_to, leads_nowhere, asked_for, asked_more, told_leads, told_none, said_now}
+use Rattle.directories.proofs.PageCounts.{only_written}
+use Rattle.directories.proofs.Reading.{count_after}
+use Rattle.directories.proofs.Told.{page_size, some_slots, count_is, sound_on, size_on, are_on, head_says, length_is, located, leads_to, leads_nowhere, asked_for, asked_more, told_leads, told_none, said_now}
 use Rattle.directories.proofs.replacement.replace.Goals as goal
 
 pub write-requires-clause-within : goal.write-requires-clause-within
@@ -173,3 +176,34 @@ returns-clause-told g c = λ sound z size.
       told_leads old mid finds z c.args.directory c.in_ok-head.head (said_now old c.args.directory c.in_ok-head.head (c.in_ok-head.ensures.told sound)) c.args.slot.now.name.now c.in-Some.found
           (rw c.in-Some.is at (c.in_ok-found.ensures.told (finds.sound ∙ sound) z (size ∙ sym finds.page_bytes))),
     )
+
+pub returns-clause-besides : goal.returns-clause-besides
+returns-clause-besides g c = λ z moment entries d only.
+    let old : PagesState = g.P.Pages.state c.args.pages.now in
+    let e : Option Change = None in
+    let p : PagesState = after e old in
+    let mid : PagesState = g.P.Pages.state c.head_after.new.pages in
+    let q : PagesState = after e mid in
+    let finds = finds_after e old mid c.head_after.ensures.finds in
+    let here : DirIn p z c.args.directory moment entries = record { sound = d.sound; size = d.size; reads = d.reads } in
+    let s = c.in_ok-head.ensures.told here.sound in
+    let sized = g.met.P.Pages.sized c.args.pages.now in
+    let size = page_size p q finds z c.args.directory moment entries here sized c.in_ok-head.head s in
+    let some = some_slots p q finds z c.args.directory moment entries here sized c.in_ok-head.head s in
+    let counted = count_is p q finds z c.args.directory moment entries here sized c.in_ok-head.head s in
+    let sound_on' = sound_on p q finds z c.args.directory moment entries here sized c.in_ok-head.head s in
+    let size_on' = size_on p q finds z c.args.directory moment entries here sized c.in_ok-head.head s in
+    let within : c.in-Some.found.place < c.in_ok-head.head.length = rw c.in-Some.is at c.in_ok-found.ensures.within in
+    let next = c.search.ensures.finds in
+    let n : ℕ = c.in_ok-head.head.length in
+    let head : DirectoryHead = record { spare = c.in_ok-head.head.spare; length = n; moment = c.args.moment } in
+    let m : PageMap = old.present in
+    let change : Change = c.in_ok-change.change in
+    let all : (g.P.Pages.state c.search.new.pages).present ≡ m = next.present ∙ c.head_after.ensures.finds.present in
+    let w = c.in_ok-change.ensures.writes (next.sound ∙ sound_on') z (size_on' ∙ sym next.page_bytes) in
+    let keeps = c.in_ok-change.ensures.pages (next.sound ∙ sound_on') z m (size_on' ∙ sym next.page_bytes) in
+    let header = subst (λ (k : PageMap). HasHead z (changed change k) c.args.directory head) all w.0 in
+    let r = returns-clause-replaces g c z moment entries d in
+    let count = count_after z size (changed change m) c.args.directory c.args.moment (map.insert entries c.args.slot.now.name.now c.args.slot.now.object) r.0 head header in
+    subst (HasOnly z (changed change m) c.args.directory) (sym count)
+    (only_written z m (changed change m) c.args.directory c.in-Some.found.place n some within keeps (map.len entries) (omega (arith, counted)) only)

@@ -7,7 +7,7 @@ use Rattle.pages.specs.declared.change.Change.{Change}
 use Rattle.std.proofs.Common.{option_copied}
 use Rattle.directories.specs.HeadPages.{IsHeadPage}
 use Rattle.page_tags.specs.SlotEntry.{entry_of}
-use Rattle.directories.proofs.Written.{two_change, two_only, two_head, two_has, two_slot, two_keeps}
+use Rattle.directories.proofs.Written.{two_change, two_only, two_head, two_has, two_slot, two_keeps, two_pages}
 use Rattle.directories.proofs.writing.write.Goals as goal
 
 pub returns-in_err-slot_page-clause-fault : goal.returns-in_err-slot_page-clause-fault
@@ -51,3 +51,12 @@ returns-clause-writes g c = λ sound z size.
       two_slot c.args.directory old.page_bytes c.in_ok-slot_page.slot_page c.in_ok-head_page.head_page c.args.head c.in_ok-slot_page.ensures.sized head_is change c.in_ok-pages.ensures.items c.new.ensures.items m z c.args.writing (entry_of c.args.slot.now) slot,
       two_keeps c.args.directory old.page_bytes c.in_ok-slot_page.slot_page c.in_ok-head_page.head_page c.args.head c.in_ok-slot_page.ensures.sized head_is change c.in_ok-pages.ensures.items c.new.ensures.items m z c.args.writing (entry_of c.args.slot.now) slot,
     )
+
+pub returns-clause-pages : goal.returns-clause-pages
+returns-clause-pages g c = λ sound z m size.
+    let old : PagesState = g.P.Pages.state c.args.pages.now in
+    let bytes : c.page_bytes.result ≡ old.page_bytes = c.page_bytes.ensures.bytes ∙ c.slot_page.ensures.finds.page_bytes in
+    let head_is = subst (λ n. IsHeadPage c.in_ok-head_page.head_page n c.args.directory c.args.head) bytes c.in_ok-head_page.ensures in
+    let change : Change = record { pages = c.in_ok-pages.pages; cuts = c.new.result } in
+    two_pages c.args.directory old.page_bytes c.in_ok-slot_page.slot_page c.in_ok-head_page.head_page c.args.head c.in_ok-slot_page.ensures.sized head_is change c.in_ok-pages.ensures.items c.new.ensures.items m z c.args.writing.number
+    (c.in_ok-slot_page.ensures.page sound z size).chunk_is

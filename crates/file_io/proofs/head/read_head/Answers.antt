@@ -1,6 +1,6 @@
 use Rattle.std.proofs.Common.{◌≡◌, ◌∙◌, List, ℕ, Some, refl, ap, sym, subst, length, rules}
 use Rattle.page_tags.specs.HeaderFields.{fields_of}
-use Rattle.page_tags.specs.Headers.{Fields, IsHeader, header_bytes}
+use Rattle.page_tags.specs.Headers.{Fields, IsHeader}
 use Rattle.pages.specs.State.{PagesState}
 use Rattle.file_io.proofs.head.read_head.Goals as goal
 

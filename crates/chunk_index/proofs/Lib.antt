@@ -14,3 +14,4 @@ pub mod Staying
 pub mod Totals
 pub mod Rising
 pub mod Following
+pub mod Freeing

@@ -9,4 +9,5 @@ pub mod Found
 pub mod Listing
 pub mod Kept
 pub mod Following
+pub mod Free
 pub mod laws

@@ -1,11 +1,16 @@
 // What follows from what an index tells. A function here does nothing: its clauses are the laws.
-ghost use Rattle.std.specs.Prelude.{◌≡◌, ℕ, Some, slice_get, length};
+ghost use Rattle.std.specs.Prelude.{◌≡◌, ◌≤◌, ℕ, Some, slice_get, length};
 ghost use Rattle.block_state.specs.Table.{Table};
-ghost use Rattle.block_state.specs.Kept.{kept_count};
+ghost use Rattle.block_state.specs.Kept.{kept_count, unkept_count, bad_count};
+ghost use Rattle.nand_model.specs.Flash.{Flash};
+ghost use Rattle.volume_terms.specs.Sizes.{Sizes};
+ghost use Rattle.posix_profile.specs.State.{Objects};
+ghost use Rattle.flash_tree.specs.Mount.{HasFree, bad_blocks};
 ghost use Rattle.chunk_index.specs.declared.form.KeptPage.{KeptPage};
 ghost use Rattle.chunk_index.specs.declared.form.KeptKey.{KeptKey};
 ghost use Rattle.chunk_index.specs.declared.index.Index.{Index};
 ghost use Rattle.chunk_index.specs.Kept.{HoldsNone, HasKept};
+ghost use Rattle.chunk_index.specs.Free.{KeepsTree, HasMarks};
 ghost use Rattle.chunk_index.specs.Listing.{block_keys};
 ghost use Rattle.chunk_index.specs.Maps.{KeptMap, kept_pages, kept_in, CountsAgree};
 
@@ -28,4 +33,12 @@ pub fn the_list_of_a_block_is_whole()
 pub fn the_counts_add_up_to_the_kept_keys()
     ensures all { (t : Table) (x : Index) → CountsAgree t x → HasKept (kept_pages x) (kept_count t) }
     ensures one { (m : KeptMap) (n k : ℕ) → HasKept m n → HasKept m k → n ≡ k }
+{}
+
+/// Where each key that is looked up to see a tree is kept in the block of its newest page, the good blocks without a kept
+/// page are free: so many as the table counts of them are free on the flash, and as many are bad.
+pub fn blocks_without_kept_pages_are_free()
+    ensures free { (x : Index) (t : Table) (flash : Flash) (z : Sizes) (objects : Objects) (count : ℕ) → CountsAgree t x → HasMarks flash t → KeepsTree flash z objects (kept_pages x)
+        → count ≤ unkept_count t → HasFree t.geometry flash z objects count }
+    ensures bad { (t : Table) (flash : Flash) → HasMarks flash t → bad_count t ≡ bad_blocks t.geometry flash }
 {}

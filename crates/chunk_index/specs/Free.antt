@@ -1,0 +1,18 @@
+-- What an index and a table of blocks say of the blocks of a flash.
+use Rattle.std.specs.Prelude.{◌≡◌, ◌<◌, ℕ, Some}
+use Rattle.nand_model.specs.Flash.{Flash}
+use Rattle.volume_terms.specs.Sizes.{Sizes}
+use Rattle.posix_profile.specs.State.{Objects}
+use Rattle.flash_tree.specs.Newest.{Spot, IsNewest, HasNewest}
+use Rattle.flash_tree.specs.Tree.{InFootprint}
+use Rattle.block_state.specs.Table.{Table}
+use Rattle.chunk_index.specs.declared.form.KeptPage.{KeptPage}
+use Rattle.chunk_index.specs.Maps.{KeptMap}
+
+-- each key that is looked up to see the objects is kept in the block where its newest page lies
+abbrev pub KeepsTree : Flash → Sizes → Objects → KeptMap → Type 0
+KeepsTree flash z objects m = (o c : ℕ) (s : Spot) → InFootprint z (HasNewest flash) objects o c → IsNewest flash o c s → (p : KeptPage) × (m o c ≡ Some p) × (p.block ≡ s.block)
+
+-- the blocks of the table are marked as those of the flash
+abbrev pub HasMarks : Flash → Table → Type 0
+HasMarks flash t = (b : ℕ) → b < t.geometry.blocks → (t.entry b).bad ≡ flash.bad b

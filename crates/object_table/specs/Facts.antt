@@ -1,0 +1,67 @@
+-- What the table keeps of an object.
+use Rattle.std.specs.Prelude.{◌≡◌, ℕ, ◌+◌, List, length, Option, Some, None}
+use Rattle.std.specs.FinMap as map
+use Rattle.volume_terms.specs.Sizes.{Sizes, page_slots}
+use Rattle.volume_terms.specs.Rounding.{ceiling}
+use Rattle.posix_profile.specs.State.{Name, Object, File, Dir, Objects}
+use Rattle.posix_profile.specs.Names.{Names}
+use Rattle.posix_profile.specs.declared.reply.Kind.{Kind}
+use Rattle.posix_profile.specs.declared.reply.Kind.TheVariants as kinds
+use Rattle.posix_profile.specs.declared.reply.Info.{Info}
+use Rattle.posix_profile.specs.laws.Link.{Lists, IsSubdirectory}
+use Rattle.object_store.specs.Facts.{NamedBy}
+use Rattle.object_table.specs.declared.facts.ObjectFacts.{ObjectFacts}
+
+-- the links of an object without names or content
+abbrev pub fresh_links : Kind → ℕ
+fresh_links kinds.File = 0
+fresh_links kinds.Directory = 2
+
+-- an object without names or content
+abbrev pub fresh_facts : Kind → ℕ → ObjectFacts
+fresh_facts kind moment = record { kind = kind; moment = moment; links = fresh_links kind; size = 0; parent = None }
+
+-- what a unit of an object's size is: the bytes of a page, or its slots
+abbrev pub unit_of : Sizes → Kind → ℕ
+unit_of z kinds.File = z.page_bytes
+unit_of z kinds.Directory = page_slots z
+
+-- the units that an object with these facts costs
+abbrev pub facts_cost : Sizes → ObjectFacts → ℕ
+facts_cost z f = 1 + ceiling f.size (unit_of z f.kind)
+
+-- the size that is told: a directory has none
+abbrev pub told_size : Kind → ℕ → ℕ
+told_size kinds.File size = size
+told_size kinds.Directory size = 0
+
+-- what is told of an object with these facts
+abbrev pub told_info : ℕ → ObjectFacts → Info
+told_info o f = record { kind = f.kind; object = o; links = f.links; size = told_size f.kind f.size; moment = f.moment }
+
+-- The facts are of a file that is there: its moment and length, and as many links as it has names.
+pub record IsFileFacts (objects : Objects) (o stamp length' : ℕ) (f : ObjectFacts) : Type 0 where
+  pub kind : f.kind ≡ kinds.File
+  pub moment : f.moment ≡ stamp
+  pub size : f.size ≡ length'
+  pub links : (pairs : List (ℕ × Name)) × Lists (λ pair. Names objects pair.0 pair.1 o) pairs × (f.links ≡ length pairs)
+
+-- The facts are of a directory that is there: its moment, how many entries it has, a link for each directory in it above 2, and the directory that names it.
+pub record IsDirectoryFacts (objects : Objects) (o stamp entries : ℕ) (f : ObjectFacts) : Type 0 where
+  pub kind : f.kind ≡ kinds.Directory
+  pub moment : f.moment ≡ stamp
+  pub size : f.size ≡ entries
+  pub links : (children : List ℕ) × Lists (IsSubdirectory objects o) children × (f.links ≡ 2 + length children)
+  pub parent : NamedBy objects o f.parent
+
+-- the facts are of this object
+abbrev pub AreFactsOf : Objects → ℕ → Object → ObjectFacts → Type 0
+AreFactsOf objects o (File moment bytes) f = IsFileFacts objects o moment (length bytes) f
+AreFactsOf objects o (Dir moment entries) f = IsDirectoryFacts objects o moment (map.len entries) f
+
+-- there are facts exactly where there is an object, and they are of it
+abbrev pub IsTold : Objects → ℕ → Option Object → Option ObjectFacts → Type 0
+IsTold objects o None None = Unit {0}
+IsTold objects o None (Some f) = ⊥
+IsTold objects o (Some x) None = ⊥
+IsTold objects o (Some x) (Some f) = AreFactsOf objects o x f

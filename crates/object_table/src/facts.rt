@@ -1,0 +1,71 @@
+// What the table keeps of an object.
+ghost use Rattle.std.specs.Prelude.{◌≡◌, ◌<◌, ◌+◌, ◌-◌, ◌^◌, min};
+ghost use Rattle.volume_terms.specs.Rounding.{ceiling};
+
+use posix_profile::{Info, Kind};
+use volume_terms::VolumeSizes;
+
+/// What is told of an object without reading. `size` counts the bytes of a file, or the entries of a directory; a file has
+/// as many links as names, a directory 2 and one for each directory in it; `parent` is the directory that names a directory.
+#[derive(Clone, Copy, Debug, PartialEq, Eq)]
+pub struct ObjectFacts {
+    pub kind: Kind,
+    pub moment: u64,
+    pub links: u64,
+    pub size: u64,
+    pub parent: Option<u64>,
+}
+
+impl ObjectFacts {
+    ghost use Rattle.volume_terms.specs.VolumeSizes.{sizes_of};
+    ghost use Rattle.object_table.specs.Facts.{facts_cost, fresh_facts, told_info};
+
+    /// An object without content and without a name.
+    pub fn fresh(kind: Kind, moment: u64) -> ObjectFacts
+        ensures { result ≡ fresh_facts kind moment }
+    {
+        ObjectFacts {
+            kind,
+            moment,
+            links: match kind {
+                Kind::File => 0,
+                Kind::Directory => 2,
+            },
+            size: 0,
+            parent: None,
+        }
+    }
+
+    /// The units that the object costs.
+    pub(crate) fn cost(&self, sizes: VolumeSizes) -> u64
+        ensures { result ≡ min (facts_cost (sizes_of sizes) self.now) (2 ^ 64 - 1) }
+    {
+        match self.kind {
+            Kind::File => units(self.size, sizes.page_bytes()),
+            Kind::Directory => units(self.size, sizes.page_slots()),
+        }
+    }
+
+    pub(crate) fn info(&self, number: u64) -> Info
+        ensures { result ≡ told_info number self.now }
+    {
+        Info {
+            kind: self.kind,
+            object: number,
+            links: self.links,
+            size: match self.kind {
+                Kind::File => self.size,
+                Kind::Directory => 0,
+            },
+            moment: self.moment,
+        }
+    }
+}
+
+/// One and the units that hold so much, or the greatest number where there are more.
+fn units(size: u64, unit: u64) -> u64
+    requires { 0 < unit }
+    ensures { result ≡ min (1 + ceiling size unit) (2 ^ 64 - 1) }
+{
+    size.div_ceil(unit).saturating_add(1)
+}

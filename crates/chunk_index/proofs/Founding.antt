@@ -4,6 +4,7 @@ use Rattle.std.specs.List.{sum_by}
 use Rattle.std.proofs.lemmas.Bool.{cases_eq}
 use Rattle.std.proofs.lemmas.List.{get_or_default}
 use Rattle.std.proofs.lemmas.List.Sums.{sum_by_more, sum_by_more_le_part}
+use Rattle.flash_tree.specs.Places.{IsKeyBefore}
 use Rattle.flash_tree.specs.declared.place.Found.{Found}
 use Rattle.block_state.specs.declared.blocks.BlockEntry.{BlockEntry}
 use Rattle.block_state.specs.Table.{Table, Sets}
@@ -16,11 +17,11 @@ use Rattle.chunk_index.specs.Counts.{Recounts}
 use Rattle.chunk_index.specs.Maps.{kept_in, CountsAgree}
 use Rattle.chunk_index.proofs.Counting.{one_most, recounts_more, sum_ones}
 use Rattle.std.proofs.lemmas.Bool.Decides.{nat_tests}
-use Rattle.chunk_index.specs.Newest.{page_of, IsOf, Precedes, KeysRise, Indexes}
+use Rattle.chunk_index.specs.Newest.{page_of, IsOf, KeysRise, Indexes}
 use Rattle.chunk_index.specs.Found.{found_in, HasPages}
 
 -- keys that rise differ
-precedes_differs : (f g : Found) → Precedes f g → Differs g.tag.object g.tag.chunk f.tag.object f.tag.chunk
+precedes_differs : (f g : Found) → IsKeyBefore f g → Differs g.tag.object g.tag.chunk f.tag.object f.tag.chunk
 precedes_differs f g (inl lt) = inl (λ e. omega (arith, lt, e))
 precedes_differs f g (inr same) = inr (λ e. omega (arith, same.1, e))
 
@@ -38,8 +39,8 @@ module _ (fs : List Found) (n : ℕ) (old : ObjectMap) (rise : KeysRise fs) (was
   here : (e : Found) → get_or fs n e ≡ f
   here e = get_or_default fs n e d lt
 
-  before : (i : ℕ) (e : Found) → i < n → Precedes (get_or fs i e) f
-  before i e less = subst (Precedes (get_or fs i e)) (here e) (rise i n e less lt)
+  before : (i : ℕ) (e : Found) → i < n → IsKeyBefore (get_or fs i e) f
+  before i e less = subst (IsKeyBefore (get_or fs i e)) (here e) (rise i n e less lt)
 
   not_of : (i : ℕ) (e : Found) → i < n → IsOf f.tag.object f.tag.chunk (get_or fs i e) → ⊥
   not_of i e less is = elim (precedes_differs (get_or fs i e) f (before i e less)) [ inl ne ↦ ne is.0 | inr ne ↦ ne is.1 ]

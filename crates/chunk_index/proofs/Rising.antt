@@ -23,7 +23,8 @@ use Rattle.chunk_index.specs.declared.index.Index.{Index}
 use Rattle.chunk_index.specs.Lists.{find_by, Rises}
 use Rattle.chunk_index.specs.Entries.{chunk, kept_of, weigh}
 use Rattle.chunk_index.specs.Shelves.{entry_of}
-use Rattle.chunk_index.specs.Kept.{ComesBefore, KeyRises, IsListOf, HasKept}
+use Rattle.flash_tree.specs.Places.{ComesBefore}
+use Rattle.chunk_index.specs.Kept.{KeyRises, IsListOf, HasKept}
 use Rattle.chunk_index.specs.Maps.{KeptMap, kept_pages, CountsAgree}
 use Rattle.chunk_index.proofs.Finding.{find_at}
 use Rattle.chunk_index.proofs.Keys.{Stands, first, later, stands_left, stands_right, stands_place, each_append}

@@ -6,7 +6,7 @@ use Rattle.chunk_index.specs.declared.entry.Entry.{Entry}
 use Rattle.chunk_index.specs.Lists.{find_by}
 use Rattle.chunk_index.specs.Entries.{chunk, kept_of}
 use Rattle.chunk_index.specs.Shelves.{IsAfterNumber}
-use Rattle.chunk_index.specs.Kept.{ComesBefore}
+use Rattle.flash_tree.specs.Places.{ComesBefore}
 use Rattle.chunk_index.specs.Maps.{KeptMap}
 
 -- the elements from place i on are those whose numbers lie after another

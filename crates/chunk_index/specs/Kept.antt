@@ -1,17 +1,14 @@
 -- Which keys are kept, in a block and in all.
-use Rattle.std.specs.Prelude.{◌≡◌, ◌≢◌, ◌⊎◌, ◌<◌, ℕ, List, length, slice_get, Option, Some, None}
+use Rattle.std.specs.Prelude.{◌≡◌, ◌≢◌, ◌<◌, ℕ, List, length, slice_get, Option, Some, None}
 use Rattle.chunk_index.specs.declared.form.KeptPage.{KeptPage}
 use Rattle.chunk_index.specs.declared.form.KeptKey.{KeptKey}
+use Rattle.flash_tree.specs.Places.{ComesBefore}
 use Rattle.flash_tree.specs.declared.place.Key.{Key}
 use Rattle.chunk_index.specs.Maps.{KeptMap}
 
 -- no key is kept in the block
 abbrev pub HoldsNone : KeptMap → ℕ → Type 0
 HoldsNone m b = (o c : ℕ) (p : KeptPage) → m o c ≡ Some p → p.block ≢ b
-
--- the key of chunk c of object o comes before that of chunk l of object k: by the object, then by the chunk
-abbrev pub ComesBefore : ℕ → ℕ → ℕ → ℕ → Type 0
-ComesBefore o c k l = (o < k) ⊎ ((o ≡ k) × (c < l))
 
 -- the keys rise, so that no key comes twice
 abbrev pub KeyRises : List KeptKey → Type 0

@@ -1,10 +1,10 @@
 -- The newest pages of a scan, and the index of them.
 use Rattle.std.specs.Prelude.{◌≡◌, ◌<◌, ℕ, List, length, get_or, Some, None}
+use Rattle.flash_tree.specs.Places.{IsKeyBefore}
 use Rattle.flash_tree.specs.declared.place.Found.{Found}
 use Rattle.chunk_index.specs.declared.form.KeptPage.{KeptPage}
 use Rattle.chunk_index.specs.declared.form.Present.TheVariants as presents
 use Rattle.chunk_index.specs.declared.index.Index.{Index}
-use Rattle.chunk_index.specs.Kept.{ComesBefore}
 use Rattle.chunk_index.specs.Maps.{kept_pages, present}
 
 -- where a page lies, and its version
@@ -15,13 +15,9 @@ page_of f = record { block = f.block; page = f.page; version = f.tag.version }
 abbrev pub IsOf : ℕ → ℕ → Found → Type 0
 IsOf o c f = (f.tag.object ≡ o) × (f.tag.chunk ≡ c)
 
--- the key of one page comes before that of another
-abbrev pub Precedes : Found → Found → Type 0
-Precedes f g = ComesBefore f.tag.object f.tag.chunk g.tag.object g.tag.chunk
-
 -- the keys rise, so that no key comes twice
 abbrev pub KeysRise : List Found → Type 0
-KeysRise fs = (i j : ℕ) (d : Found) → i < j → j < length fs → Precedes (get_or fs i d) (get_or fs j d)
+KeysRise fs = (i j : ℕ) (d : Found) → i < j → j < length fs → IsKeyBefore (get_or fs i d) (get_or fs j d)
 
 -- each page lies in one of so many blocks
 abbrev pub LieWithin : ℕ → List Found → Type 0

@@ -1,6 +1,6 @@
 -- Places and tags, as programs have them and as the definitions see them.
 -- From: this project.
-use Rattle.std.specs.Prelude.{◌≡◌, ◌≤◌, ℕ, ◌-◌, Option, Some, None}
+use Rattle.std.specs.Prelude.{◌≡◌, ◌⊎◌, ◌<◌, ◌≤◌, ℕ, ◌-◌, Option, Some, None}
 use Rattle.nand_model.specs.Flash.{Flash}
 use Rattle.page_tags.specs.declared.tag.Tag.{Tag}
 use Rattle.flash_tree.specs.Groups.{HasTag, Group, IsGroup}
@@ -15,6 +15,14 @@ spot_of f = record { block = f.block; page = f.page; tag = f.tag }
 -- the three numbers
 abbrev pub numbers_of : TagNumbers → Numbers
 numbers_of n = record { version = n.version; group = n.group; seq = n.seq }
+
+-- the key of chunk c of object o comes before that of chunk l of object k: by the object, then by the chunk
+abbrev pub ComesBefore : ℕ → ℕ → ℕ → ℕ → Type 0
+ComesBefore o c k l = (o < k) ⊎ ((o ≡ k) × (c < l))
+
+-- the key of one page comes before that of another
+abbrev pub IsKeyBefore : Found → Found → Type 0
+IsKeyBefore f g = ComesBefore f.tag.object f.tag.chunk g.tag.object g.tag.chunk
 
 -- what a page's tag was told to be: with none the page has no valid tag
 abbrev pub TagIs : Flash → ℕ → ℕ → Option Tag → Type 0

@@ -15,8 +15,8 @@ use Rattle.flash_tree.specs.laws.Newest.{one_tag}
 use Rattle.flash_tree.specs.laws.Newest.{one_is_after}
 use Rattle.flash_tree.specs.laws.Order.{not_after_itself}
 use Rattle.flash_tree.specs.declared.place.Found.{Found}
-use Rattle.flash_tree.specs.Places.{spot_of}
-use Rattle.mount_scan.specs.Scanned.{IsKeyBefore, AreCounted, AreNewest, TellsCounted, TellsNewest}
+use Rattle.flash_tree.specs.Places.{spot_of, IsKeyBefore}
+use Rattle.mount_scan.specs.Scanned.{AreCounted, AreNewest, TellsCounted, TellsNewest}
 use Rattle.mount_scan.specs.laws.Scan.{found_of, listed_spot, pair_at, not_before_itself}
 use Rattle.mount_scan.proofs.Ranked.{AreSorted}
 use Rattle.mount_scan.proofs.Tagged.{placed_among}

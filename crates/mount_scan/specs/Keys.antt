@@ -3,8 +3,7 @@ use Rattle.std.specs.Prelude.{◌≡◌, ◌⊎◌, ◌↔◌, ◌<◌, ◌≤�
 use Rattle.std.specs.List.{AllPairs}
 use Rattle.flash_tree.specs.Newest.{IsAfter}
 use Rattle.flash_tree.specs.declared.place.Found.{Found}
-use Rattle.flash_tree.specs.Places.{spot_of}
-use Rattle.mount_scan.specs.Scanned.{IsKeyBefore}
+use Rattle.flash_tree.specs.Places.{spot_of, IsKeyBefore}
 
 -- what pages are sorted by: the key, and then what orders the pages of one key
 abbrev pub rank_of : Found → ℕ × ℕ × ℕ × ℕ × ℕ × ℕ

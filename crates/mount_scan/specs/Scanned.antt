@@ -6,17 +6,13 @@ use Rattle.nand_model.specs.Calls.{Device}
 use Rattle.nand_model.specs.Changes.{OnlyReads}
 use Rattle.flash_tree.specs.Newest.{Spot, Holds, IsNewest}
 use Rattle.flash_tree.specs.declared.place.Found.{Found}
-use Rattle.flash_tree.specs.Places.{spot_of}
+use Rattle.flash_tree.specs.Places.{spot_of, IsKeyBefore}
 use Rattle.mount_scan.specs.declared.fault.ScanFault.{ScanFault}
 use Rattle.mount_scan.specs.declared.fault.ScanFault.TheVariants as faults
 
 -- one place comes before another: by block, then by page
 abbrev pub IsPlaceBefore : Found → Found → Type 0
 IsPlaceBefore f g = (f.block < g.block) ⊎ ((f.block ≡ g.block) × (f.page < g.page))
-
--- one key comes before another: by object, then by chunk
-abbrev pub IsKeyBefore : Found → Found → Type 0
-IsKeyBefore f g = (f.tag.object < g.tag.object) ⊎ ((f.tag.object ≡ g.tag.object) × (f.tag.chunk < g.tag.chunk))
 
 -- exactly the pages that count, in the strict order of their places, so that none stands twice
 pub record AreCounted (flash : Flash) (list : List Found) : Type 0 where

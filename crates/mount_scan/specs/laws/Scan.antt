@@ -9,8 +9,8 @@ use Rattle.nand_model.specs.Flash.{Flash, Written}
 use Rattle.page_tags.specs.Tags.{tag_bytes}
 use Rattle.flash_tree.specs.Newest.{Spot, IsNewest, HasNewest}
 use Rattle.flash_tree.specs.declared.place.Found.{Found}
-use Rattle.flash_tree.specs.Places.{spot_of}
-use Rattle.mount_scan.specs.Scanned.{IsKeyBefore, AreNewest}
+use Rattle.flash_tree.specs.Places.{spot_of, IsKeyBefore}
+use Rattle.mount_scan.specs.Scanned.{AreNewest}
 
 -- a place with a tag, as programs have it
 abbrev pub found_of : Spot → Found

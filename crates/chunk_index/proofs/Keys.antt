@@ -45,7 +45,7 @@ stands_place k (x ∷ xs) first = (0, refl)
 stands_place k (x ∷ xs) (later s) = let at = stands_place k xs s in (suc at.0, at.1)
 
 -- what holds of each of two lists holds of both, one after the other
-each_append : (P : KeptKey → Type 0) (xs ys : List KeptKey) → ((i : ℕ) (k : KeptKey) → slice_get xs i ≡ Some k → P k) → ((i : ℕ) (k : KeptKey) → slice_get ys i ≡ Some k → P k)
+pub each_append : (P : KeptKey → Type 0) (xs ys : List KeptKey) → ((i : ℕ) (k : KeptKey) → slice_get xs i ≡ Some k → P k) → ((i : ℕ) (k : KeptKey) → slice_get ys i ≡ Some k → P k)
     → (i : ℕ) (k : KeptKey) → slice_get (xs ++ ys) i ≡ Some k → P k
 each_append P [] ys one two i k is = two i k is
 each_append P (x ∷ xs) ys one two zero k is = one 0 k is

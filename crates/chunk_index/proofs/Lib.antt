@@ -9,3 +9,4 @@ pub mod Cutting
 pub mod Founding
 pub mod Parts
 pub mod Keys
+pub mod Once

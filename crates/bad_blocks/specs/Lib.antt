@@ -1,3 +1,10 @@
 pub mod Passing
 pub mod Taking
+pub mod Faults
+pub mod Standing
+pub mod Lists
+pub mod Moving
+pub mod Copying
+pub mod Telling
+pub mod Room
 pub mod laws

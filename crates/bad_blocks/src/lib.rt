@@ -1,10 +1,18 @@
-//! The taking of free blocks, past those that went bad.
+//! The taking of free blocks, past those that went bad, and the move of kept pages out of a block.
 #![tactic(auto)]
 
+mod copying;
+mod fault;
 mod law;
+mod moving;
+mod room;
 mod take;
+mod telling;
 
+pub use fault::MoveFault;
 pub use law::blocks_are_taken_in_turn;
+pub use moving::{Moved, move_kept};
+pub use room::MoveRoom;
 pub use take::{TakeFault, take_block};
 
 #[cfg(test)]

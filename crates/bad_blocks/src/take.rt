@@ -12,7 +12,7 @@ use nand_model::{EraseFault, Gone, Nand};
 use transactions::{erase_and_open, mark_block};
 
 /// Numbers from here on are not handed out.
-const LIMIT: u64 = 1 << 62;
+pub(crate) const LIMIT: u64 = 1 << 62;
 
 /// Why no block was taken.
 #[derive(Clone, Copy, Debug, PartialEq, Eq)]

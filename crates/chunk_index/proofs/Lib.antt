@@ -15,3 +15,4 @@ pub mod Totals
 pub mod Rising
 pub mod Following
 pub mod Freeing
+pub mod Once

@@ -15,7 +15,8 @@ impl Index {
     /// once.
     pub fn kept_in_block(&self, block: u32, keys: &mut Vec<KeptKey>)
         requires { length keys.old.items + kept_in self.now block ≤ vec_capacity keys.old }
-        ensures { keys.new.items ≡ keys.old.items ++ block_keys self.now block }
+        ensures items { keys.new.items ≡ keys.old.items ++ block_keys self.now block }
+        ensures capacity { vec_capacity keys.old ≤ vec_capacity keys.new }
     {
         self.shelf.list_block(block, keys);
     }
@@ -25,7 +26,8 @@ impl Shelf {
     /// Adds the keys that are kept in a block to a list that has room for them.
     fn list_block(&self, block: u32, keys: &mut Vec<KeptKey>)
         requires { length keys.old.items + length (keys_in block self.now.objects.entries) ≤ vec_capacity keys.old }
-        ensures { keys.new.items ≡ keys.old.items ++ keys_in block self.now.objects.entries }
+        ensures items { keys.new.items ≡ keys.old.items ++ keys_in block self.now.objects.entries }
+        ensures capacity { vec_capacity keys.old ≤ vec_capacity keys.new }
     {
         for (object, entries) in &self.objects {
             entries.list_block(*object, block, keys);

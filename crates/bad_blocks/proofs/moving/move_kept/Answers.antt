@@ -1,0 +1,21 @@
+use Rattle.std.proofs.Common.{◌≡◌, ◌≤◌, ℕ, refl, sym, ap, subst, ◌∙◌, length, arith, rules}
+use Rattle.nand_model.specs.declared.geometry.Geometry.{Geometry}
+use Rattle.block_state.specs.Table.{Table}
+use Rattle.block_state.specs.TableOf.{table}
+use Rattle.bad_blocks.proofs.moving.move_kept.Goals as goal
+
+pub list-requires-clause-keys : goal.list-requires-clause-keys
+list-requires-clause-keys g c =
+    let tables = c.requires.stands.tables in
+    let fits = tables.fits c.args.block in
+    let count = tables.counts.counts c.args.block in
+    let pages = ap (λ (x : Geometry). x.pages) c.requires.ready.geometry in
+    omega (arith, fits, count, pages, c.requires.room.keys)
+
+pub list-requires-clause-copies : goal.list-requires-clause-copies
+list-requires-clause-copies g c =
+    let tables = c.requires.stands.tables in
+    let fits = tables.fits c.args.block in
+    let count = tables.counts.counts c.args.block in
+    let pages = ap (λ (x : Geometry). x.pages) c.requires.ready.geometry in
+    omega (arith, fits, count, pages, c.requires.room.copies)

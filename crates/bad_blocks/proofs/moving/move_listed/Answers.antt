@@ -1,0 +1,186 @@
+use Rattle.std.proofs.Common.{◌≡◌, ◌≢◌, ◌<◌, ◌≤◌, ℕ, true, false, Ok, Err, refl, sym, ap, subst, ◌∙◌, length, arith, rules}
+use Rattle.std.proofs.lemmas.Result.{err_from_is_err_and}
+use Rattle.nand_model.specs.Calls.{Device}
+use Rattle.nand_model.specs.declared.geometry.Geometry.{Geometry}
+use Rattle.block_state.specs.Table.{Table}
+use Rattle.block_state.specs.TableOf.{table}
+use Rattle.bad_blocks.proofs.Moves.{AreHeld, are_held, may_be_copied, stands_kept, moves_kept, same_bads, stands_moved, moves_moved, is_open, is_moved, is_closed}
+use Rattle.bad_blocks.proofs.moving.move_listed.Goals as goal
+
+pub copy_listed-requires-clause-copies : goal.copy_listed-requires-clause-copies
+copy_listed-requires-clause-copies g c = may_be_copied c.args.spare c.requires.listed.0 _ (table c.args.blocks.now) c.args.index.now c.args.copies.now c.requires.ready c.requires.stands c.requires.listed.1
+
+pub tell_copies-requires-clause-within : goal.tell_copies-requires-clause-within
+tell_copies-requires-clause-within g c =
+    let copied = c.in_ok-target.ensures in
+    subst (λ (geometry : Geometry). c.in_ok-target.target.block < geometry.blocks) (sym copied.keeps.geometry) copied.ends.0.within
+
+pub tell_copies-requires-clause-agree : goal.tell_copies-requires-clause-agree
+tell_copies-requires-clause-agree g c =
+    let copied = c.in_ok-target.ensures in
+    let agree = c.requires.stands.tables.counts in
+    record { counts = λ b. copied.keeps.kept b ∙ agree.counts b; within = λ b le. agree.within b (subst (λ (geometry : Geometry). geometry.blocks ≤ b) copied.keeps.geometry le) }
+
+pub tell_copies-requires-clause-few : goal.tell_copies-requires-clause-few
+tell_copies-requires-clause-few g c =
+    let may = may_be_copied c.args.spare c.requires.listed.0 _ (table c.args.blocks.now) c.args.index.now c.args.copies.now c.requires.ready c.requires.stands c.requires.listed.1 in
+    may.can.few
+
+-- the block of the copies had no kept page
+unlike : (v w : ℕ) (t : Table) → 1 ≤ (t.entry v).kept → (t.entry w).kept ≡ 0 → v ≢ w
+unlike v w t some none e = let same : (t.entry v).kept ≡ (t.entry w).kept = ap (λ b. (t.entry b).kept) e in omega (arith, same, some, none)
+
+pub tell_copies-requires-clause-listed : goal.tell_copies-requires-clause-listed
+tell_copies-requires-clause-listed g c =
+    let listed = c.requires.listed in
+    (listed.0, listed.1.lists, unlike listed.0 c.in_ok-target.target.block (table c.args.blocks.now) listed.1.some c.in_ok-target.ensures.ends.0.unkept)
+
+pub returns-in_err-target-clause-moves : goal.returns-in_err-target-clause-moves
+returns-in_err-target-clause-moves g c = λ v listed.
+    let d0 : Device = g.N.Nand.state c.args.device.now in
+    let d1 : Device = g.N.Nand.state c.copy_listed.new.device in
+    let t0 : Table = table c.args.blocks.now in
+    let t1 : Table = table c.copy_listed.new.blocks in
+    let x = c.args.index.now in
+    let held = are_held t0 x (c.the_counts_are_of_the_keys.ensures.none x) c.requires.stands.tables.counts in
+    let copied = c.in_err-target.ensures in
+    moves_kept c.args.spare d0 d1 t0 t1 x held copied.keeps c.requires.stands v copied.data
+
+pub returns-in_err-target-clause-stands : goal.returns-in_err-target-clause-stands
+returns-in_err-target-clause-stands g c =
+    let d0 : Device = g.N.Nand.state c.args.device.now in
+    let d1 : Device = g.N.Nand.state c.copy_listed.new.device in
+    let t0 : Table = table c.args.blocks.now in
+    let t1 : Table = table c.copy_listed.new.blocks in
+    let x = c.args.index.now in
+    let held = are_held t0 x (c.the_counts_are_of_the_keys.ensures.none x) c.requires.stands.tables.counts in
+    let copied = c.in_err-target.ensures in
+    stands_kept c.args.spare d0 d1 t0 t1 x held copied.keeps c.requires.stands copied.ends.0 copied.newest
+
+pub returns-in_err-target-clause-ends : goal.returns-in_err-target-clause-ends
+returns-in_err-target-clause-ends g c = λ v listed.
+    let p = err_from_is_err_and c.from_residual.result c.from_residual.ensures.1 in
+    rw (p.1, p.2) (c.in_err-target.ensures.ends.1)
+
+pub returns-then-suspect-clause-moves : goal.returns-then-suspect-clause-moves
+returns-then-suspect-clause-moves g c = λ v listed.
+    let d0 : Device = g.N.Nand.state c.args.device.now in
+    let d1 : Device = g.N.Nand.state c.copy_listed.new.device in
+    let t0 : Table = table c.args.blocks.now in
+    let t1 : Table = table c.copy_listed.new.blocks in
+    let x = c.args.index.now in
+    let held = are_held t0 x (c.the_counts_are_of_the_keys.ensures.none x) c.requires.stands.tables.counts in
+    let t2 : Table = table c.tell_copies.new.blocks in
+    let y = c.tell_copies.new.index in
+    let copied = c.in_ok-target.ensures in
+    let target = c.in_ok-target.target in
+    moves_moved c.args.spare v target d0 d1 t0 t1 t2 x y c.args.copies.now listed held copied.keeps c.requires.stands copied.ends.0
+    (c.tell_copies.ensures.tells v listed.lists (unlike v target.block t0 listed.some copied.ends.0.unkept)) c.tell_copies.ensures.agree copied.newest copied.data
+
+pub returns-then-suspect-clause-stands : goal.returns-then-suspect-clause-stands
+returns-then-suspect-clause-stands g c =
+    let d0 : Device = g.N.Nand.state c.args.device.now in
+    let d1 : Device = g.N.Nand.state c.copy_listed.new.device in
+    let t0 : Table = table c.args.blocks.now in
+    let t1 : Table = table c.copy_listed.new.blocks in
+    let x = c.args.index.now in
+    let held = are_held t0 x (c.the_counts_are_of_the_keys.ensures.none x) c.requires.stands.tables.counts in
+    let t2 : Table = table c.tell_copies.new.blocks in
+    let y = c.tell_copies.new.index in
+    let copied = c.in_ok-target.ensures in
+    let target = c.in_ok-target.target in
+    let v : ℕ = c.requires.listed.0 in
+    let listed = c.requires.listed.1 in
+    stands_moved c.args.spare v target d0 d1 t0 t1 t2 x y c.args.copies.now listed held copied.keeps c.requires.stands copied.ends.0
+    (c.tell_copies.ensures.tells v listed.lists (unlike v target.block t0 listed.some copied.ends.0.unkept)) c.tell_copies.ensures.agree copied.newest copied.keeps.ready
+
+pub returns-then-suspect-clause-ends : goal.returns-then-suspect-clause-ends
+returns-then-suspect-clause-ends g c = λ v listed.
+    let d0 : Device = g.N.Nand.state c.args.device.now in
+    let d1 : Device = g.N.Nand.state c.copy_listed.new.device in
+    let t0 : Table = table c.args.blocks.now in
+    let t1 : Table = table c.copy_listed.new.blocks in
+    let x = c.args.index.now in
+    let held = are_held t0 x (c.the_counts_are_of_the_keys.ensures.none x) c.requires.stands.tables.counts in
+    let t2 : Table = table c.tell_copies.new.blocks in
+    let y = c.tell_copies.new.index in
+    let copied = c.in_ok-target.ensures in
+    let target = c.in_ok-target.target in (
+      (
+        is_moved c.args.spare v target d0 d1 t0 t1 t2 x y c.args.copies.now listed held copied.keeps c.requires.stands copied.ends.0
+            (c.tell_copies.ensures.tells v listed.lists (unlike v target.block t0 listed.some copied.ends.0.unkept)) c.tell_copies.ensures.agree copied.newest,
+        is_closed c.args.spare v target d0 d1 t0 t1 t2 x y c.args.copies.now listed held copied.keeps c.requires.stands copied.ends.0
+            (c.tell_copies.ensures.tells v listed.lists (unlike v target.block t0 listed.some copied.ends.0.unkept)) c.tell_copies.ensures.agree copied.newest c.if-suspect.true,
+      ),
+      copied.ends.1,
+    )
+
+pub returns-clause-moves : goal.returns-clause-moves
+returns-clause-moves g c = λ v listed.
+    let d0 : Device = g.N.Nand.state c.args.device.now in
+    let d1 : Device = g.N.Nand.state c.copy_listed.new.device in
+    let t0 : Table = table c.args.blocks.now in
+    let t1 : Table = table c.copy_listed.new.blocks in
+    let x = c.args.index.now in
+    let held = are_held t0 x (c.the_counts_are_of_the_keys.ensures.none x) c.requires.stands.tables.counts in
+    let t2 : Table = table c.tell_copies.new.blocks in
+    let y = c.tell_copies.new.index in
+    let copied = c.in_ok-target.ensures in
+    let target = c.in_ok-target.target in
+    moves_moved c.args.spare v target d0 d1 t0 t1 t2 x y c.args.copies.now listed held copied.keeps c.requires.stands copied.ends.0
+    (c.tell_copies.ensures.tells v listed.lists (unlike v target.block t0 listed.some copied.ends.0.unkept)) c.tell_copies.ensures.agree copied.newest copied.data
+
+pub returns-clause-stands : goal.returns-clause-stands
+returns-clause-stands g c =
+    let d0 : Device = g.N.Nand.state c.args.device.now in
+    let d1 : Device = g.N.Nand.state c.copy_listed.new.device in
+    let t0 : Table = table c.args.blocks.now in
+    let t1 : Table = table c.copy_listed.new.blocks in
+    let x = c.args.index.now in
+    let held = are_held t0 x (c.the_counts_are_of_the_keys.ensures.none x) c.requires.stands.tables.counts in
+    let t2 : Table = table c.tell_copies.new.blocks in
+    let y = c.tell_copies.new.index in
+    let copied = c.in_ok-target.ensures in
+    let target = c.in_ok-target.target in
+    let v : ℕ = c.requires.listed.0 in
+    let listed = c.requires.listed.1 in
+    stands_moved c.args.spare v target d0 d1 t0 t1 t2 x y c.args.copies.now listed held copied.keeps c.requires.stands copied.ends.0
+    (c.tell_copies.ensures.tells v listed.lists (unlike v target.block t0 listed.some copied.ends.0.unkept)) c.tell_copies.ensures.agree copied.newest copied.keeps.ready
+
+pub returns-clause-ends : goal.returns-clause-ends
+returns-clause-ends g c = λ v listed.
+    let d0 : Device = g.N.Nand.state c.args.device.now in
+    let d1 : Device = g.N.Nand.state c.copy_listed.new.device in
+    let t0 : Table = table c.args.blocks.now in
+    let t1 : Table = table c.copy_listed.new.blocks in
+    let x = c.args.index.now in
+    let held = are_held t0 x (c.the_counts_are_of_the_keys.ensures.none x) c.requires.stands.tables.counts in
+    let t2 : Table = table c.tell_copies.new.blocks in
+    let y = c.tell_copies.new.index in
+    let copied = c.in_ok-target.ensures in
+    let target = c.in_ok-target.target in (
+      (
+        target.block,
+        is_open c.args.spare v target d0 d1 t0 t1 t2 x y c.args.copies.now listed held copied.keeps c.requires.stands copied.ends.0
+            (c.tell_copies.ensures.tells v listed.lists (unlike v target.block t0 listed.some copied.ends.0.unkept)) c.tell_copies.ensures.agree copied.newest c.if-suspect.false,
+      ),
+      copied.ends.1,
+    )
+
+pub returns-clause-marks : goal.returns-clause-marks
+returns-clause-marks g c =
+    let d0 : Device = g.N.Nand.state c.args.device.now in
+    let d1 : Device = g.N.Nand.state c.copy_listed.new.device in
+    let t0 : Table = table c.args.blocks.now in
+    let t1 : Table = table c.copy_listed.new.blocks in
+    let x = c.args.index.now in
+    let held = are_held t0 x (c.the_counts_are_of_the_keys.ensures.none x) c.requires.stands.tables.counts in
+    let t2 : Table = table c.tell_copies.new.blocks in
+    let y = c.tell_copies.new.index in
+    let copied = c.in_ok-target.ensures in
+    let target = c.in_ok-target.target in
+    let v : ℕ = c.requires.listed.0 in
+    let listed = c.requires.listed.1 in
+    let same = same_bads c.args.spare v target d0 d1 t0 t1 t2 x y c.args.copies.now listed held copied.keeps c.requires.stands copied.ends.0
+    (c.tell_copies.ensures.tells v listed.lists (unlike v target.block t0 listed.some copied.ends.0.unkept)) c.tell_copies.ensures.agree copied.newest in
+    omega (arith, same, copied.marks)

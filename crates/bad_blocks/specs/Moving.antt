@@ -1,0 +1,96 @@
+-- The move of the kept pages of a block.
+-- From: this project.
+use Rattle.std.specs.Prelude.{◌≡◌, ◌≢◌, ◌⊎◌, ◌<◌, ◌≤◌, ◌^◌, ℕ, ◌+◌, ◌*◌, true, false, Some, None, Result, Ok, Err}
+use Rattle.nand_model.specs.Calls.{Device, Lasts}
+use Rattle.block_state.specs.Kept.{bad_count, kept_count}
+use Rattle.block_state.specs.Table.{Table}
+use Rattle.chunk_index.specs.declared.form.KeptPage.{KeptPage}
+use Rattle.chunk_index.specs.declared.index.Index.{Index}
+use Rattle.chunk_index.specs.Maps.{kept_pages, present, moved_to, StaysPrepared, IsReady as IsReadyKey}
+use Rattle.transactions.specs.Handing.{HandsOut}
+use Rattle.transactions.specs.Ready.{IsReady}
+use Rattle.bad_blocks.specs.Standing.{SameData}
+use Rattle.bad_blocks.specs.declared.moving.Moved.{Moved}
+use Rattle.bad_blocks.specs.declared.moving.Moved.TheVariants as places
+use Rattle.bad_blocks.specs.declared.fault.MoveFault.{MoveFault}
+use Rattle.bad_blocks.specs.declared.fault.MoveFault.TheVariants as faults
+
+-- the key is kept in the block
+abbrev pub IsKeptIn : ℕ → Index → ℕ → ℕ → Type 0
+IsKeptIn v x o c = (p : KeptPage) × (kept_pages x o c ≡ Some p) × (p.block ≡ v)
+
+-- a key has a kept page in the same version, perhaps elsewhere, and what is present of it follows; what is buffered or
+-- dropped stays so
+pub record Follows (o c : ℕ) (p : KeptPage) (old new : Index) : Type 0 where
+  pub at : KeptPage
+  pub is : kept_pages new o c ≡ Some at
+  pub version : at.version ≡ p.version
+  pub present : present new o c ≡ moved_to at (present old o c)
+
+-- Keys that were kept in block v may be kept elsewhere now, in their versions. Of all other keys nothing changes, and
+-- no key loses the room that it was prepared.
+pub record MovesOut (v : ℕ) (old new : Index) : Type 0 where
+  pub moved : (o c : ℕ) (p : KeptPage) → kept_pages old o c ≡ Some p → p.block ≡ v → Follows o c p old new
+  pub kept : (o c : ℕ) → (IsKeptIn v old o c → ⊥) → kept_pages new o c ≡ kept_pages old o c
+  pub present : (o c : ℕ) → (IsKeptIn v old o c → ⊥) → present new o c ≡ present old o c
+  pub prepared : StaysPrepared old new
+  pub ready : (o c : ℕ) → IsReadyKey old o c → IsReadyKey new o c
+
+-- What a call keeps that moves kept pages out of block v, wherever it ends: the newest page of each kept key has its
+-- version and its data, and as many pages are kept.
+pub record Moves (v : ℕ) (old new : Device) (t t' : Table) (x x' : Index) : Type 0 where
+  pub lasts : Lasts old new
+  pub ready : IsReady new t'
+  pub numbers : HandsOut old new t t'
+  pub geometry : t'.geometry ≡ t.geometry
+  pub marks : (b : ℕ) → (t.entry b).bad ≡ true → (t'.entry b).bad ≡ true
+  pub kept_count : kept_count t' ≡ kept_count t
+  pub index : MovesOut v x x'
+  pub same_data : old.honest ≡ true → SameData (kept_pages x) old.flash new.flash
+
+-- Each mark but `more` answers a failure that the device counted, and `unanswered` failures have none.
+abbrev pub MarksFailures : (more unanswered : ℕ) → Device → Device → Table → Table → Type 0
+MarksFailures more unanswered old new t t' = bad_count t' + old.failures + unanswered ≤ bad_count t + new.failures + more
+
+-- the device counts at most so many changes, and so many besides for each failure but those that are unanswered
+abbrev pub Costs : (changes each unanswered : ℕ) → Device → Device → Type 0
+Costs changes each unanswered old new = new.changes + each * (old.failures + unanswered) ≤ old.changes + each * new.failures + changes
+
+-- a suspect copy is a failure that no mark has answered yet
+abbrev pub unanswered : Result Moved MoveFault → ℕ
+unanswered (Ok places.Trusted) = 0
+unanswered (Ok (places.Suspect block)) = 1
+unanswered (Err fault) = 0
+
+-- all that was kept in block v, which is good still, is kept in block w, which had nothing
+pub record IsMoved (v w : ℕ) (old new : Table) : Type 0 where
+  pub within : w < old.geometry.blocks
+  pub good : (new.entry w).bad ≡ false
+  pub was : (old.entry w).kept ≡ 0
+  pub there : (new.entry w).kept ≡ (old.entry v).kept
+  pub here : (new.entry v).kept ≡ 0
+  pub still : (new.entry v).bad ≡ false
+  pub elsewhere : (b : ℕ) → b ≢ v → b ≢ w → (new.entry b).kept ≡ (old.entry b).kept
+
+-- block w is the open one, and nothing else was written to it
+pub record IsOpenAfter (v w : ℕ) (old new : Table) : Type 0 where
+  pub moved : IsMoved v w old new
+  pub open_block : new.open_block ≡ Some w
+  pub next : (new.entry w).next ≡ (old.entry v).kept
+
+-- where the pages lie: in the open block; or, where the device said that the last page failed, in one that is not open
+abbrev pub IsMovedTo : ℕ → Table → Table → Moved → Type 0
+IsMovedTo v old new places.Trusted = (w : ℕ) × IsOpenAfter v w old new
+IsMovedTo v old new (places.Suspect w) = IsMoved v w old new × (new.open_block ≡ None)
+
+-- Why nothing was moved, or not all that had to be: a number of 2^62 or more would be needed, or more blocks are bad than
+-- there are to spare; the device is not honest; it is gone.
+abbrev pub WhyNotMoved : (spare : ℕ) → Device → Table → MoveFault → Type 0
+WhyNotMoved spare device t faults.Worn = (2 ^ 62 ≤ t.next_seq) ⊎ (2 ^ 62 ≤ t.next_group) ⊎ ((spare < bad_count t) × (device.gone ≡ false))
+WhyNotMoved spare device t faults.Lost = device.honest ≡ false
+WhyNotMoved spare device t faults.Gone = device.gone ≡ true
+
+-- how a move ends
+abbrev pub MoveEnds : (v spare : ℕ) → Device → Table → Table → Result Moved MoveFault → Type 0
+MoveEnds v spare device old new (Ok moved) = IsMovedTo v old new moved × (device.gone ≡ false)
+MoveEnds v spare device old new (Err fault) = WhyNotMoved spare device new fault

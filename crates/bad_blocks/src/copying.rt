@@ -1,0 +1,129 @@
+// The copying of listed pages into a block that is taken.
+ghost use Rattle.std.specs.Prelude.{◌≡◌, ◌<◌, ◌≤◌, ◌^◌, ◌+◌, ℕ, length, true, false, None};
+ghost use Rattle.nand_model.specs.Calls.{Device};
+ghost use Rattle.block_state.specs.Kept.{bad_count};
+ghost use Rattle.block_state.specs.TableOf.{table};
+ghost use Rattle.transactions.specs.Ready.{IsReady};
+ghost use Rattle.bad_blocks.specs.Taking.{HasUnkept};
+ghost use Rattle.bad_blocks.specs.Moving.{MarksFailures, Costs};
+ghost use Rattle.bad_blocks.specs.Copying.{MayBeCopied, KeepsCounts, KeepsDataAt, NewestAfterCopies, CopiesEnd, CopiesCost, IsFresh, left_open, most_changes, as_copied};
+
+use crate::fault::MoveFault;
+use crate::take::{LIMIT, take_block};
+use block_state::Blocks;
+use nand_model::Nand;
+use transactions::{Copies, CopyOf, GroupFault, mark_block, write_group};
+
+/// Where copies were made.
+#[derive(Clone, Copy, Debug, PartialEq, Eq)]
+pub struct Target {
+    pub block: u32,
+    /// The device said that the last page failed, and it reads whole.
+    pub suspect: bool,
+}
+
+/// What became of copies.
+#[derive(Clone, Copy, Debug, PartialEq, Eq)]
+pub enum Copied {
+    Into(Target),
+    /// A program failed, and the block is marked.
+    Marked,
+}
+
+/// Writes copies as one group into the open block, to which nothing is written as yet, and marks it where that fails.
+fn write_copies<N: Nand>(
+    device: &mut N,
+    blocks: &mut Blocks,
+    block: u32,
+    copies: &[CopyOf],
+    scratch: &mut [u8],
+) -> Result<Copied, MoveFault>
+    requires ready { IsReady (N.state device.old) (table blocks.old) }
+    requires fresh { IsFresh block (N.state device.old) (table blocks.old) }
+    requires group { (table blocks.old).next_group < 2 ^ 62 }
+    requires size { length scratch.old ≡ (N.state device.old).geometry.bytes }
+    requires copies { MayBeCopied (N.state device.old) (table blocks.old) copies.now }
+    ensures keeps { KeepsCounts (N.state device.old) (N.state device.new) (table blocks.old) (table blocks.new) }
+    ensures marks { MarksFailures 0 (left_open result) (N.state device.old) (N.state device.new) (table blocks.old) (table blocks.new) }
+    ensures costs { CopiesCost (length copies.now) (N.state device.old) (N.state device.new) result }
+    ensures data { (N.state device.old).honest ≡ true → KeepsDataAt (table blocks.old) (N.state device.old).flash (N.state device.new).flash }
+    ensures newest { (N.state device.old).honest ≡ true → (N.state device.new).gone ≡ false
+        → NewestAfterCopies copies.now (table blocks.old) (N.state device.old).flash (N.state device.new).flash result }
+    ensures ends { (spare : ℕ) → CopiesEnd (length copies.now) spare (N.state device.new) (table blocks.old) (table blocks.new) result }
+{
+    match write_group(device, blocks, &Copies { places: copies }, scratch) {
+        Ok(placed) => Ok(Copied::Into(Target {
+            block: placed.block,
+            suspect: placed.suspect,
+        })),
+        Err(GroupFault::Failed) => match mark_block(device, blocks, block) {
+            Ok(()) => Ok(Copied::Marked),
+            Err(_) => Err(MoveFault::Gone),
+        },
+        Err(GroupFault::NoRoom) => unreachable!(),
+        Err(GroupFault::Lost) => Err(MoveFault::Lost),
+        Err(GroupFault::Gone) => Err(MoveFault::Gone),
+    }
+}
+
+/// Takes a block and copies pages into it, or marks it where that fails.
+fn copy_once<N: Nand>(
+    device: &mut N,
+    blocks: &mut Blocks,
+    copies: &[CopyOf],
+    scratch: &mut [u8],
+    spare: u32,
+) -> Result<Copied, MoveFault>
+    requires ready { IsReady (N.state device.old) (table blocks.old) }
+    requires closed { (table blocks.old).open_block ≡ None }
+    requires some { HasUnkept (table blocks.old) spare }
+    requires size { length scratch.old ≡ (N.state device.old).geometry.bytes }
+    requires copies { MayBeCopied (N.state device.old) (table blocks.old) copies.now }
+    ensures keeps { KeepsCounts (N.state device.old) (N.state device.new) (table blocks.old) (table blocks.new) }
+    ensures marks { MarksFailures 0 (left_open result) (N.state device.old) (N.state device.new) (table blocks.old) (table blocks.new) }
+    ensures costs { Costs (most_changes (N.state device.old).geometry.pages result) ((N.state device.old).geometry.pages + 2) (left_open result) (N.state device.old) (N.state device.new) }
+    ensures data { (N.state device.old).honest ≡ true → KeepsDataAt (table blocks.old) (N.state device.old).flash (N.state device.new).flash }
+    ensures newest { (N.state device.old).honest ≡ true → (N.state device.new).gone ≡ false
+        → NewestAfterCopies copies.now (table blocks.old) (N.state device.old).flash (N.state device.new).flash result }
+    ensures ends { CopiesEnd (length copies.now) spare (N.state device.new) (table blocks.old) (table blocks.new) result }
+{
+    if blocks.next_group() >= LIMIT {
+        return Err(MoveFault::Worn);
+    }
+    let block = take_block(device, blocks, spare)?;
+    write_copies(device, blocks, block, copies, scratch)
+}
+
+/// Copies pages as one group into a freshly erased free block. A block in which that fails is marked, and they are copied
+/// into the next, as long as no more than `spare` blocks are bad.
+pub(crate) fn copy_listed<N: Nand>(
+    device: &mut N,
+    blocks: &mut Blocks,
+    copies: &[CopyOf],
+    scratch: &mut [u8],
+    spare: u32,
+) -> Result<Target, MoveFault>
+    requires ready { IsReady (N.state device.old) (table blocks.old) }
+    requires some { HasUnkept (table blocks.old) spare }
+    requires size { length scratch.old ≡ (N.state device.old).geometry.bytes }
+    requires copies { MayBeCopied (N.state device.old) (table blocks.old) copies.now }
+    ensures keeps { KeepsCounts (N.state device.old) (N.state device.new) (table blocks.old) (table blocks.new) }
+    ensures marks { MarksFailures 0 (left_open (as_copied result)) (N.state device.old) (N.state device.new) (table blocks.old) (table blocks.new) }
+    ensures costs { Costs ((N.state device.old).geometry.pages + 1) ((N.state device.old).geometry.pages + 2) (left_open (as_copied result)) (N.state device.old) (N.state device.new) }
+    ensures data { (N.state device.old).honest ≡ true → KeepsDataAt (table blocks.old) (N.state device.old).flash (N.state device.new).flash }
+    ensures newest { (N.state device.old).honest ≡ true → (N.state device.new).gone ≡ false
+        → NewestAfterCopies copies.now (table blocks.old) (N.state device.old).flash (N.state device.new).flash (as_copied result) }
+    ensures ends { CopiesEnd (length copies.now) spare (N.state device.new) (table blocks.old) (table blocks.new) (as_copied result) }
+{
+    blocks.close();
+    loop {
+        match copy_once(device, blocks, copies, scratch, spare)? {
+            Copied::Into(target) => return Ok(target),
+            Copied::Marked => {
+                if blocks.bad_count() > spare {
+                    return Err(MoveFault::Worn);
+                }
+            }
+        }
+    }
+}

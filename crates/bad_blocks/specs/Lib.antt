@@ -6,5 +6,6 @@ pub mod Lists
 pub mod Moving
 pub mod Copying
 pub mod Telling
+pub mod Retiring
 pub mod Room
 pub mod laws

@@ -1,0 +1,118 @@
+-- Blocks that are emptied, marked and out.
+use Rattle.std.proofs.Common.{◌≡◌, ◌≢◌, ◌⊎◌, ◌<◌, ◌≤◌, ℕ, ◌+◌, ◌*◌, true, false, Option, Some, None, Result, Ok, Err, refl, sym, ap, subst, ◌∙◌, arith, inl, inr}
+use Rattle.std.proofs.lemmas.Bool.{cases_Bool, cases_eq}
+use Rattle.nand_model.specs.Calls.{Device, Marks}
+use Rattle.nand_model.specs.declared.nand.Gone.{Gone}
+use Rattle.flash_tree.specs.Keeping.{KeepsElsewhere}
+use Rattle.chunk_index.specs.declared.index.Index.{Index}
+use Rattle.chunk_index.specs.Kept.{HoldsNone}
+use Rattle.chunk_index.specs.Maps.{kept_pages, kept_in}
+use Rattle.block_state.specs.declared.blocks.BlockEntry.{BlockEntry}
+use Rattle.block_state.specs.laws.Kept.{mark_bad}
+use Rattle.transactions.specs.Handing.{HandsOut}
+use Rattle.transactions.specs.Marking.{NotesMark}
+use Rattle.transactions.specs.Ready.{IsReady}
+use Rattle.nand_model.specs.declared.geometry.Geometry.{Geometry}
+use Rattle.block_state.specs.Kept.{bad_count, free_count, unkept_count}
+use Rattle.block_state.specs.Table.{Table, Sets}
+use Rattle.bad_blocks.specs.Copying.{KeepsCounts}
+use Rattle.bad_blocks.specs.Moving.{Moves, IsMoved, IsOpenAfter}
+use Rattle.bad_blocks.specs.Standing.{Stands}
+use Rattle.bad_blocks.proofs.Keeping.{bad_rises}
+use Rattle.bad_blocks.proofs.Moves.{AreHeld, are_held, stands_still, moves_kept}
+use Rattle.bad_blocks.proofs.Turns.{marked_entry, keeps_marked, kept_marked, written_marked, one_more_bad, moves_join}
+use Rattle.bad_blocks.specs.Retiring.{LiesIn, LiesOpen, IsAway, IsEmptied, IsOut}
+
+pub lies_moved : (v w : ℕ) (t u : Table) → IsMoved v w t u → LiesIn v w t u
+lies_moved v w t u m = record { within = m.within; good = m.good; was = m.was; there = m.there; elsewhere = m.elsewhere }
+
+pub lies_open : (v w : ℕ) (t u : Table) → IsOpenAfter v w t u → LiesOpen v w t u
+lies_open v w t u m = record { lies = lies_moved v w t u m.moved; open_block = m.open_block; next = m.next }
+
+-- what was moved away
+pub emptied_moved : (v : ℕ) (t u : Table) (suspect : Option ℕ) → 1 ≤ (t.entry v).kept → (u.entry v).kept ≡ 0 → (u.entry v).bad ≡ false → IsAway v t u suspect → IsEmptied v t u suspect
+emptied_moved v t u suspect some here good away = record {
+  unkept = here;
+  good = good;
+  was_empty = λ none. absurd (omega (arith, some, none));
+  moved = λ _. away;
+}
+
+-- nothing was there
+pub emptied_none : (v : ℕ) (t : Table) → (t.entry v).kept ≡ 0 → (t.entry v).bad ≡ false → t.open_block ≡ None → IsEmptied v t t None
+emptied_none v t none good closed = record {
+  unkept = none;
+  good = good;
+  was_empty = λ _. (closed, refl);
+  moved = λ some. absurd (omega (arith, some, none));
+}
+
+module _ (v : ℕ) (t u s : Table) (kept : (b : ℕ) → (s.entry b).kept ≡ (u.entry b).kept) (next : (b : ℕ) → (s.entry b).next ≡ (u.entry b).next) (bad : (b : ℕ) → b ≢ v → (s.entry b).bad ≡ (u.entry b).bad)
+    (open_block : s.open_block ≡ u.open_block) (none : (u.entry v).kept ≡ 0) where
+  -- a block with kept pages is not v
+  not_v : (w : ℕ) → 1 ≤ (t.entry v).kept → (u.entry w).kept ≡ (t.entry v).kept → w ≢ v
+  not_v w some there e = let same : (u.entry w).kept ≡ (u.entry v).kept = ap (λ b. (u.entry b).kept) e in omega (arith, same, none, there, some)
+
+  marked_lies : (w : ℕ) → 1 ≤ (t.entry v).kept → LiesIn v w t u → LiesIn v w t s
+  marked_lies w some l = record {
+    within = l.within;
+    good = bad w (not_v w some l.there) ∙ l.good;
+    was = l.was;
+    there = kept w ∙ l.there;
+    elsewhere = λ b nv nw. kept b ∙ l.elsewhere b nv nw;
+  }
+
+  marked_away : (suspect : Option ℕ) → 1 ≤ (t.entry v).kept → IsAway v t u suspect → IsAway v t s suspect
+  marked_away None some (w, l) = (w, record { lies = marked_lies w some l.lies; open_block = open_block ∙ l.open_block; next = next w ∙ l.next })
+  marked_away (Some w) some (l, closed) = (marked_lies w some l, open_block ∙ closed)
+
+  -- the mark of an emptied block
+  pub out_marked : (spare : ℕ) (suspect : Option ℕ) → IsEmptied v t u suspect → (s.entry v).bad ≡ true → bad_count s ≤ spare → bad_count t < bad_count s → IsOut v spare t s suspect
+  out_marked spare suspect e is few more = record {
+    bad = is;
+    unkept = kept v ∙ none;
+    was_empty = λ zero_there. (open_block ∙ (e.was_empty zero_there).0, (e.was_empty zero_there).1);
+    moved = λ some. marked_away suspect some (e.moved some);
+    few = few;
+    more = more;
+  }
+
+-- a block that was emptied is marked
+module _ (spare v : ℕ) (d1 d2 d3 : Device) (t1 t2 t3 : Table) (x y : Index) (gone : Result (Unit {0}) Gone) (moves : Moves v d1 d2 t1 t2 x y) (stands : Stands spare d2 t2 y)
+    (law : (b : ℕ) → kept_in y b ≡ 0 → HoldsNone (kept_pages y) b) (within : v < t1.geometry.blocks) (empty : (t2.entry v).kept ≡ 0)
+    (marks : Marks v d2 d3 gone) (ready : IsReady d3 t3) (notes : NotesMark v d3.flash t2 t3) (newest : d2.honest ≡ true → KeepsElsewhere v d2.flash d3.flash) (numbers : HandsOut d2 d3 t2 t3) where
+  inside : v < t2.geometry.blocks
+  inside = subst (λ (g : Geometry). v < g.blocks) (sym moves.geometry) within
+
+  keeps : KeepsCounts d2 d3 t2 t3
+  keeps = keeps_marked v d2 d3 t2 t3 gone inside empty marks notes moves.ready ready numbers
+
+  held : AreHeld t2 y
+  held = are_held t2 y law stands.tables.counts
+
+  pub moves_marked : Moves v d1 d3 t1 t3 x y
+  moves_marked = moves_join v v v d1 d2 d3 t1 t2 t3 x y y moves
+      (moves_kept spare d2 d3 t2 t3 y held keeps stands v (λ honest. (kept_marked v d2 d3 t2 t3 gone inside empty marks notes honest (newest honest)).1)) moves.index
+
+  pub stands_marked : Stands spare d3 t3 y
+  stands_marked = stands_still spare d2 d3 t2 t3 y held keeps stands (written_marked v d2 d3 t2 t3 gone inside empty marks notes stands.tables.written)
+      (λ honest power. (kept_marked v d2 d3 t2 t3 gone inside empty marks notes honest (newest honest)).0)
+
+  pub bad_marked : bad_count t3 ≤ bad_count t2 + 1
+  bad_marked = one_more_bad v d2 d3 t2 t3 gone inside empty marks notes moves.ready
+
+  pub more_bad : (t2.entry v).bad ≡ false → (t3.entry v).bad ≡ true → bad_count t1 < bad_count t3
+  more_bad good is =
+      let sets : Sets v (record (t2.entry v) { bad = true }) t2 t3 = record {
+        here = notes.sets.here ∙ ap (λ b. record (t2.entry v) { bad = b }) (sym (ap (λ (e : BlockEntry). e.bad) notes.sets.here) ∙ is);
+        others = notes.sets.others;
+        geometry = notes.sets.geometry;
+        next_group = notes.sets.next_group;
+      } in
+      let more : bad_count t3 ≡ bad_count t2 + 1 = mark_bad t2 t3 v sets inside good in
+      let rises : bad_count t1 ≤ bad_count t2 = bad_rises t1 t2 moves.geometry moves.marks in
+      omega (arith, more, rises)
+
+  pub out : (suspect : Option ℕ) → IsEmptied v t1 t2 suspect → (t3.entry v).bad ≡ true → bad_count t3 ≤ spare → IsOut v spare t1 t3 suspect
+  out suspect e is few = out_marked v t1 t2 t3 keeps.kept (λ b. (marked_entry v d3.flash t2 t3 notes b).1) (λ b ne. ap (λ (z : BlockEntry). z.bad) (notes.sets.others b ne)) notes.open_block empty
+      spare suspect e is few (more_bad e.good is)

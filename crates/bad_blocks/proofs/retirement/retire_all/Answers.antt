@@ -1,0 +1,111 @@
+use Rattle.std.proofs.Common.{rules, ◌≡◌, ◌≢◌, ◌<◌, ◌≤◌, ◌+◌, ◌-◌, ℕ, true, false, Some, None, Ok, Err, refl, sym, ap, subst, ◌∙◌, arith}
+use Rattle.std.proofs.lemmas.Result.{err_from_is_err_and}
+use Rattle.nand_model.specs.Calls.{Device}
+use Rattle.nand_model.specs.declared.geometry.Geometry.{Geometry}
+use Rattle.block_state.specs.Kept.{bad_count}
+use Rattle.block_state.specs.Table.{Table}
+use Rattle.block_state.specs.TableOf.{table}
+use Rattle.chunk_index.specs.Kept.{HoldsNone}
+use Rattle.chunk_index.specs.Maps.{kept_pages}
+use Rattle.bad_blocks.specs.Moving.{MarksFailures, Costs}
+use Rattle.bad_blocks.proofs.RetireTurns.{Retiring, open_of, open_is, next_closed, next_good, next_unkept, next_within, moves_next, marks_next, costs_next, retiring_next, retired_all}
+use Rattle.bad_blocks.proofs.retirement.retire_all.Goals as goal
+
+pub loop-suspect-init : goal.loop-suspect-init
+loop-suspect-init g c =
+    let e = c.in_ok-suspect.ensures in
+    let d0 : Device = g.N.Nand.state c.args.device.now in
+    let d : Device = g.N.Nand.state c.retire_one.new.device in
+    record {
+      retiring = record {
+        moves = e.moves;
+        stands = e.stands;
+        marks = subst (λ n. MarksFailures 1 n d0 d (table c.args.blocks.now) (table c.retire_one.new.blocks)) (open_is c.in_ok-suspect.suspect) e.marks;
+        costs = subst (λ n. Costs (d0.geometry.pages + 2) (d0.geometry.pages + 2) n d0 d) (open_is c.in_ok-suspect.suspect) e.costs;
+        out = e.ends.0;
+        power = e.ends.1;
+      };
+      room = e.room;
+    }
+
+pub returns-in_err-suspect-2-clause-moves : goal.returns-in_err-suspect-2-clause-moves
+returns-in_err-suspect-2-clause-moves g c =
+    let d0 : Device = g.N.Nand.state c.args.device.now in
+    let d : Device = g.N.Nand.state c.loop-suspect.device in
+    let t0 : Table = table c.args.blocks.now in
+    let t : Table = table c.loop-suspect.blocks in
+    let x0 = c.args.index.now in
+    let x = c.loop-suspect.index in
+    let w : ℕ = c.in-Some.next in
+    let r : Retiring c.args.spare c.args.block d0 d t0 t x0 x (Some w) = subst (Retiring c.args.spare c.args.block d0 d t0 t x0 x) c.in-Some.is c.loop-suspect.invariant.retiring in
+    let none : HoldsNone (kept_pages x0) w = c.the_counts_are_of_the_keys.ensures.none x0 w (sym (c.requires.stands.tables.counts.counts w) ∙ next_unkept c.args.spare c.args.block w d0 d t0 t x0 x r) in
+    let d' : Device = g.N.Nand.state c.retire_one-in-Some.new.device in
+    let t' : Table = table c.retire_one-in-Some.new.blocks in
+    let y = c.retire_one-in-Some.new.index in
+    moves_next c.args.spare c.args.block w d0 d t0 t x0 x r d' t' y none c.in_err-suspect-2.ensures.moves
+
+pub returns-in_err-suspect-2-clause-marks : goal.returns-in_err-suspect-2-clause-marks
+returns-in_err-suspect-2-clause-marks g c =
+    let d0 : Device = g.N.Nand.state c.args.device.now in
+    let d : Device = g.N.Nand.state c.loop-suspect.device in
+    let t0 : Table = table c.args.blocks.now in
+    let t : Table = table c.loop-suspect.blocks in
+    let x0 = c.args.index.now in
+    let x = c.loop-suspect.index in
+    let w : ℕ = c.in-Some.next in
+    let r : Retiring c.args.spare c.args.block d0 d t0 t x0 x (Some w) = subst (Retiring c.args.spare c.args.block d0 d t0 t x0 x) c.in-Some.is c.loop-suspect.invariant.retiring in
+    let none : HoldsNone (kept_pages x0) w = c.the_counts_are_of_the_keys.ensures.none x0 w (sym (c.requires.stands.tables.counts.counts w) ∙ next_unkept c.args.spare c.args.block w d0 d t0 t x0 x r) in
+    let d' : Device = g.N.Nand.state c.retire_one-in-Some.new.device in
+    let t' : Table = table c.retire_one-in-Some.new.blocks in
+    let y = c.retire_one-in-Some.new.index in
+    marks_next c.args.spare c.args.block w d0 d t0 t x0 x r 0 d' t' c.in_err-suspect-2.ensures.marks
+
+pub returns-in_err-suspect-2-clause-costs : goal.returns-in_err-suspect-2-clause-costs
+returns-in_err-suspect-2-clause-costs g c =
+    let d0 : Device = g.N.Nand.state c.args.device.now in
+    let d : Device = g.N.Nand.state c.loop-suspect.device in
+    let t0 : Table = table c.args.blocks.now in
+    let t : Table = table c.loop-suspect.blocks in
+    let x0 = c.args.index.now in
+    let x = c.loop-suspect.index in
+    let w : ℕ = c.in-Some.next in
+    let r : Retiring c.args.spare c.args.block d0 d t0 t x0 x (Some w) = subst (Retiring c.args.spare c.args.block d0 d t0 t x0 x) c.in-Some.is c.loop-suspect.invariant.retiring in
+    let none : HoldsNone (kept_pages x0) w = c.the_counts_are_of_the_keys.ensures.none x0 w (sym (c.requires.stands.tables.counts.counts w) ∙ next_unkept c.args.spare c.args.block w d0 d t0 t x0 x r) in
+    let d' : Device = g.N.Nand.state c.retire_one-in-Some.new.device in
+    let t' : Table = table c.retire_one-in-Some.new.blocks in
+    let y = c.retire_one-in-Some.new.index in
+    costs_next c.args.spare c.args.block w d0 d t0 t x0 x r 0 d' c.in_err-suspect-2.ensures.costs
+
+pub loop-suspect-preserved : goal.loop-suspect-preserved
+loop-suspect-preserved g c =
+    let d0 : Device = g.N.Nand.state c.args.device.now in
+    let d : Device = g.N.Nand.state c.loop-suspect.device in
+    let t0 : Table = table c.args.blocks.now in
+    let t : Table = table c.loop-suspect.blocks in
+    let x0 = c.args.index.now in
+    let x = c.loop-suspect.index in
+    let w : ℕ = c.in-Some.next in
+    let r : Retiring c.args.spare c.args.block d0 d t0 t x0 x (Some w) = subst (Retiring c.args.spare c.args.block d0 d t0 t x0 x) c.in-Some.is c.loop-suspect.invariant.retiring in
+    let none : HoldsNone (kept_pages x0) w = c.the_counts_are_of_the_keys.ensures.none x0 w (sym (c.requires.stands.tables.counts.counts w) ∙ next_unkept c.args.spare c.args.block w d0 d t0 t x0 x r) in
+    let d' : Device = g.N.Nand.state c.retire_one-in-Some.new.device in
+    let t' : Table = table c.retire_one-in-Some.new.blocks in
+    let y = c.retire_one-in-Some.new.index in
+    let e = c.in_ok-suspect-2.ensures in
+    let s = c.in_ok-suspect-2.suspect in
+    record {
+      retiring = retiring_next c.args.spare c.args.block w d0 d t0 t x0 x r d' t' y s none e.moves e.ends.0 e.stands
+          (subst (λ n. MarksFailures 1 n d d' t t') (open_is s) e.marks)
+          (subst (λ n. Costs (d.geometry.pages + 2) (d.geometry.pages + 2) n d d') (open_is s) e.costs) e.ends.1;
+      room = e.room;
+    }
+
+pub returns-clause-ends : goal.returns-clause-ends
+returns-clause-ends g c =
+    let d0 : Device = g.N.Nand.state c.args.device.now in
+    let d : Device = g.N.Nand.state c.loop-suspect.device in
+    let t0 : Table = table c.args.blocks.now in
+    let t : Table = table c.loop-suspect.blocks in
+    let x0 = c.args.index.now in
+    let x = c.loop-suspect.index in
+    let r : Retiring c.args.spare c.args.block d0 d t0 t x0 x None = subst (Retiring c.args.spare c.args.block d0 d t0 t x0 x) c.in_default.is c.loop-suspect.invariant.retiring in
+    (retired_all c.args.spare c.args.block d0 d t0 t x0 x r, r.power)

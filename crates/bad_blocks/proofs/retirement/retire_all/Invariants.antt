@@ -1,0 +1,15 @@
+use Rattle.std.proofs.Common.{◌-◌}
+use Rattle.block_state.specs.Kept.{bad_count}
+use Rattle.block_state.specs.TableOf.{table}
+use Rattle.bad_blocks.specs.Room.{IsRoomFor}
+use Rattle.bad_blocks.proofs.RetireTurns.{Retiring}
+use Rattle.bad_blocks.proofs.retirement.retire_all.Given as goal
+
+abbrev pub invariant-loop-suspect : goal.invariant-loop-suspect
+invariant-loop-suspect g l = record {
+  retiring : Retiring l.spare l.block (g.N.Nand.state l.fn.device) (g.N.Nand.state l.device) (table l.fn.blocks) (table l.blocks) l.fn.index l.index l.suspect;
+  room : IsRoomFor (g.N.Nand.state l.device).geometry l.room;
+}
+
+abbrev pub decreases-loop-suspect : goal.decreases-loop-suspect
+decreases-loop-suspect g l = l.spare - bad_count (table l.blocks)

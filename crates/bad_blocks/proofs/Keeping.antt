@@ -1,5 +1,5 @@
 -- What steps keep that leave the index.
-use Rattle.std.proofs.Common.{◌≡◌, ◌≢◌, ◌⊎◌, ◌<◌, ◌≤◌, ◌^◌, ℕ, zero, suc, ◌+◌, ◌*◌, Bool, true, false, cond, List, length, Option, Some, None, Result, Ok, Err, slice_get, refl, sym, ap, subst, ◌∙◌, arith, inl, inr}
+use Rattle.std.proofs.Common.{◌≡◌, ◌<◌, ◌≤◌, ℕ, zero, suc, ◌+◌, Bool, true, false, cond, List, length, Option, Some, None, Result, Ok, Err, refl, sym, ap, subst, ◌∙◌, arith, inl, inr}
 use Rattle.std.proofs.lemmas.Bool.{cases_Bool, cases_eq}
 use Rattle.nand_model.specs.Flash.{Flash}
 use Rattle.nand_model.specs.Calls.{Device, Lasts}
@@ -11,25 +11,21 @@ use Rattle.block_state.specs.laws.Counting.{one_if, sum_below-suc}
 use Rattle.block_state.specs.Kept.{bad_count, unkept_count, SameCounts}
 use Rattle.block_state.specs.laws.Kept.{same_bad_count, same_unkept_count}
 use Rattle.block_state.specs.Table.{Table, is_bad}
-use Rattle.chunk_index.specs.declared.form.KeptPage.{KeptPage}
-use Rattle.transactions.specs.Copying.{name_at, CanCopy}
 use Rattle.transactions.specs.Groups.{TakesPages, OkTable, TableEnds, closed}
 use Rattle.transactions.specs.Handing.{HandsOut}
 use Rattle.transactions.specs.Ready.{IsReady}
-use Rattle.transactions.specs.Sources.{IsName}
 use Rattle.transactions.specs.laws.Handing.{hands_on}
 use Rattle.transactions.specs.laws.Ready.{ready_closed}
 use Rattle.transactions.specs.declared.copies.CopyOf.{CopyOf}
 use Rattle.transactions.specs.declared.group.Placed.{Placed}
 use Rattle.transactions.specs.declared.group.GroupFault.{GroupFault}
 use Rattle.transactions.specs.declared.group.GroupFault.TheVariants as groups
-use Rattle.bad_blocks.specs.Copying.{KeepsCounts, KeepsKeptAt, KeepsDataAt, MayBeCopied, AreCopied, NewestAfterCopies}
+use Rattle.bad_blocks.specs.Copying.{KeepsCounts, KeepsKeptAt, KeepsDataAt, MayBeCopied, NewestAfterCopies}
 use Rattle.bad_blocks.specs.Passing.{Passes}
-use Rattle.bad_blocks.specs.Standing.{IsKeptAt, HasVersion}
+use Rattle.bad_blocks.specs.Standing.{HasVersion}
 use Rattle.bad_blocks.specs.declared.copying.Copied.{Copied}
 use Rattle.bad_blocks.specs.declared.copying.Copied.TheVariants as ends
 use Rattle.bad_blocks.specs.declared.fault.MoveFault.{MoveFault}
-use Rattle.bad_blocks.proofs.KeptPages.{kept_where, data_where}
 
 -- ---- tables
 

@@ -1,29 +1,27 @@
 -- What becomes of kept pages and of their data.
-use Rattle.std.proofs.Common.{◌≡◌, ◌⊎◌, ◌<◌, ◌≤◌, ℕ, zero, suc, ◌+◌, true, List, [], ◌∷◌, length, slice_get, Option, Some, None, refl, sym, ap, subst, ◌∙◌, arith, inl, inr}
+use Rattle.std.proofs.Common.{◌≡◌, ◌⊎◌, ◌<◌, ℕ, zero, suc, ◌+◌, List, [], ◌∷◌, length, slice_get, Option, Some, refl, sym, ap, subst, ◌∙◌, arith, inl, inr}
 use Rattle.std.specs.Option.{option_map_or}
 use Rattle.std.proofs.lemmas.Bool.{cases_eq}
 use Rattle.std.proofs.lemmas.Option.{slice_get_within}
-use Rattle.nand_model.specs.Flash.{Flash, Page, Erased, Written}
+use Rattle.nand_model.specs.Flash.{Flash, Erased, Written}
 use Rattle.nand_model.specs.Calls.{bytes_of}
 use Rattle.page_tags.specs.Tags.{tag_bytes}
 use Rattle.page_tags.specs.declared.tag.Tag.{Tag}
 use Rattle.flash_tree.specs.Groups.{Group}
-use Rattle.flash_tree.specs.Keeping.{StaysNewest, KeepsNewest}
-use Rattle.flash_tree.specs.Newest.{Spot, IsNewest, IsNewestWith}
+use Rattle.flash_tree.specs.Keeping.{StaysNewest}
+use Rattle.flash_tree.specs.Newest.{Spot, IsNewest}
 use Rattle.flash_tree.specs.laws.Finding.{slice_get_there}
 use Rattle.flash_tree.specs.laws.Newest.{one_spot}
-use Rattle.flash_tree.specs.declared.place.Key.{Key}
 use Rattle.block_state.specs.Table.{Table}
 use Rattle.chunk_index.specs.declared.form.KeptPage.{KeptPage}
-use Rattle.transactions.specs.Copying.{name_at, no_name, page_at, bytes_at, IsTagOf, HasItsName, HasCopy}
+use Rattle.transactions.specs.Copying.{name_at, no_name, page_at, bytes_at, HasCopy}
 use Rattle.transactions.specs.Naming.{IsNamed, NamesOnce}
 use Rattle.transactions.specs.Newest.{spot_at, IsOfCopies, ShowsGroup}
 use Rattle.transactions.specs.Ready.{AreBelow}
-use Rattle.transactions.specs.Sources.{name_of}
 use Rattle.transactions.specs.Written.{tag_in}
 use Rattle.transactions.specs.declared.copies.CopyOf.{CopyOf}
 use Rattle.transactions.specs.declared.source.PageName.{PageName}
-use Rattle.bad_blocks.specs.Copying.{IsCopyOf, KeepsKeptAt, KeepsDataAt, AreKeptAt, AreCopied, copy_in}
+use Rattle.bad_blocks.specs.Copying.{IsCopyOf, KeepsKeptAt, KeepsDataAt, AreKeptAt, AreCopied}
 use Rattle.bad_blocks.specs.Lists.{kept_by}
 use Rattle.bad_blocks.specs.Passing.{KeepsKept}
 use Rattle.bad_blocks.specs.Standing.{IsKeptAt, HasVersion}

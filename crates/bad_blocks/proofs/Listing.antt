@@ -1,6 +1,5 @@
 -- The list of copies is that of the kept keys.
-use Rattle.std.proofs.Common.{◌≡◌, ℕ, List, [], ◌∷◌, length, Some, slice_get, map, zero, suc, refl, sym, ap, subst, ◌∙◌}
-use Rattle.flash_tree.specs.declared.place.Key.{Key}
+use Rattle.std.proofs.Common.{◌≡◌, ℕ, List, [], ◌∷◌, Some, slice_get, map, zero, suc, refl, sym, ap, subst, ◌∙◌}
 use Rattle.chunk_index.specs.declared.form.KeptKey.{KeptKey}
 use Rattle.chunk_index.specs.declared.form.KeptPage.{KeptPage}
 use Rattle.chunk_index.specs.declared.index.Index.{Index}

@@ -1,10 +1,9 @@
 -- What stands after a move.
-use Rattle.std.proofs.Common.{◌≡◌, ◌≢◌, ◌⊎◌, ◌<◌, ◌≤◌, ◌^◌, ℕ, zero, suc, ◌+◌, ◌*◌, Bool, true, false, List, length, Option, Some, None, Result, Ok, Err, slice_get, if◌then◌else◌, ◌==◌, refl, sym, ap, subst, ◌∙◌, arith, inl, inr}
+use Rattle.std.proofs.Common.{◌≡◌, ◌≢◌, ◌<◌, ◌≤◌, ℕ, ◌+◌, Bool, true, false, List, length, Option, Some, None, slice_get, if◌then◌else◌, ◌==◌, refl, sym, ap, subst, ◌∙◌, arith, inl, inr}
 use Rattle.std.proofs.lemmas.Bool.{cases_Bool, cases_eq}
 use Rattle.std.proofs.lemmas.Bool.Decides.{nat_tests}
 use Rattle.std.proofs.lemmas.Option.{slice_get_within}
-use Rattle.nand_model.specs.Flash.{Flash}
-use Rattle.nand_model.specs.Calls.{Device, Lasts}
+use Rattle.nand_model.specs.Calls.{Device}
 use Rattle.nand_model.specs.declared.geometry.Geometry.{Geometry}
 use Rattle.flash_tree.specs.laws.Finding.{slice_get_there}
 use Rattle.block_state.specs.Counting.{how_many, sum_below}
@@ -13,25 +12,21 @@ use Rattle.block_state.specs.Table.{Table, is_bad}
 use Rattle.block_state.specs.laws.Counting.{sum_below-same, sum_below-changed, sum_below-zero, sum_below-balanced, counts_same, counts_swap}
 use Rattle.block_state.specs.laws.Kept.{unkept_if, kept_if, unkept_same}
 use Rattle.chunk_index.specs.declared.form.KeptPage.{KeptPage}
-use Rattle.chunk_index.specs.declared.form.Present.{Present}
-use Rattle.chunk_index.specs.declared.form.Present.TheVariants as presents
 use Rattle.chunk_index.specs.declared.entry.Entry.{Entry}
 use Rattle.chunk_index.specs.declared.entry.State.{State}
 use Rattle.chunk_index.specs.declared.entry.State.TheVariants as states
 use Rattle.chunk_index.specs.declared.index.Index.{Index}
 use Rattle.chunk_index.specs.Entries.{kept_of, as_kept, present_of, present_by}
 use Rattle.chunk_index.specs.Kept.{HoldsNone}
-use Rattle.chunk_index.specs.Maps.{kept_pages, present, kept_in, moved_to, CountsAgree}
+use Rattle.chunk_index.specs.Maps.{kept_pages, kept_in, moved_to, CountsAgree}
 use Rattle.chunk_index.specs.Shelves.{look}
-use Rattle.transactions.specs.Copying.{name_at}
-use Rattle.transactions.specs.Handing.{HandsOut}
 use Rattle.transactions.specs.Ready.{AreBelow, IsReady}
 use Rattle.transactions.specs.Sources.{IsName}
 use Rattle.transactions.specs.declared.copies.CopyOf.{CopyOf}
 use Rattle.bad_blocks.specs.Copying.{KeepsCounts, KeepsKeptAt, KeepsDataAt, MayBeCopied, AreCopied, IsCopyOf, IsTarget, OpenAfter, copy_in}
-use Rattle.bad_blocks.specs.Lists.{IsListed, ListsKept, kept_by}
-use Rattle.bad_blocks.specs.Moving.{Moves, MovesOut, Follows, IsKeptIn, IsMoved, IsOpenAfter}
-use Rattle.bad_blocks.specs.Standing.{AreKept, SameData, HasVersion, IsKeptAt, MayLie, TablesAgree, Stands}
+use Rattle.bad_blocks.specs.Lists.{IsListed, kept_by}
+use Rattle.bad_blocks.specs.Moving.{Moves, MovesOut, IsKeptIn, IsMoved, IsOpenAfter}
+use Rattle.bad_blocks.specs.Standing.{SameData, HasVersion, IsKeptAt, MayLie, Stands}
 use Rattle.bad_blocks.specs.Telling.{Tells}
 use Rattle.bad_blocks.specs.declared.copying.Target.{Target}
 use Rattle.bad_blocks.proofs.Keeping.{had_power}

@@ -1,8 +1,7 @@
 -- One copy more is told.
-use Rattle.std.proofs.Common.{◌≡◌, ◌≢◌, ◌⊎◌, ◌<◌, ◌≤◌, ℕ, ◌+◌, List, length, Some, slice_get, if◌then◌else◌, ◌==◌, refl, sym, ap, subst, ◌∙◌, arith, inl, inr}
+use Rattle.std.proofs.Common.{◌≡◌, ◌≢◌, ◌⊎◌, ◌<◌, ℕ, ◌+◌, List, Some, slice_get, refl, sym, ap, ◌∙◌, arith, inl, inr}
 use Rattle.std.proofs.lemmas.Bool.{cases_eq}
 use Rattle.std.proofs.lemmas.Bool.Decides.{nat_tests}
-use Rattle.flash_tree.specs.declared.place.Key.{Key}
 use Rattle.block_state.specs.Table.{Table}
 use Rattle.chunk_index.specs.declared.form.KeptPage.{KeptPage}
 use Rattle.chunk_index.specs.declared.form.Place.{Place}
@@ -14,7 +13,7 @@ use Rattle.chunk_index.specs.Shelves.{Differs}
 use Rattle.transactions.specs.declared.copies.CopyOf.{CopyOf}
 use Rattle.bad_blocks.specs.Copying.{IsCopyOf, copy_in}
 use Rattle.bad_blocks.specs.Lists.{ListsKept, kept_by}
-use Rattle.bad_blocks.specs.Telling.{IsNone, TellsFirst, CountsMoved, Tells}
+use Rattle.bad_blocks.specs.Telling.{IsNone, Tells}
 
 one_here : (p : KeptPage) (b : ℕ) → p.block ≡ b → one_at (Some p) b ≡ 1
 one_here p b is = grind (arith, nat_tests, is)

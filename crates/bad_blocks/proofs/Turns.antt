@@ -1,8 +1,8 @@
 -- Moves in turn, and marks after them.
-use Rattle.std.proofs.Common.{◌≡◌, ◌≢◌, ◌⊎◌, ◌<◌, ◌≤◌, ℕ, ◌+◌, ◌*◌, Bool, true, false, Option, Some, None, Result, Ok, Err, refl, sym, ap, subst, ◌∙◌, arith, inl, inr}
+use Rattle.std.proofs.Common.{◌≡◌, ◌≢◌, ◌⊎◌, ◌<◌, ◌≤◌, ℕ, ◌+◌, true, false, Some, None, Result, refl, sym, ap, subst, ◌∙◌, arith, inl, inr}
 use Rattle.std.proofs.lemmas.Bool.{cases_Bool, cases_eq}
 use Rattle.nand_model.specs.Flash.{Flash}
-use Rattle.nand_model.specs.Calls.{Device, Lasts, Marks}
+use Rattle.nand_model.specs.Calls.{Device, Marks}
 use Rattle.nand_model.specs.laws.Calls.{lasts_on, lasts_here}
 use Rattle.nand_model.specs.declared.geometry.Geometry.{Geometry}
 use Rattle.nand_model.specs.declared.nand.Gone.{Gone}
@@ -23,9 +23,9 @@ use Rattle.transactions.specs.Ready.{IsReady}
 use Rattle.transactions.specs.laws.Handing.{hands_on, hands_nothing}
 use Rattle.transactions.specs.laws.Ready.{ready_closed}
 use Rattle.bad_blocks.specs.Copying.{KeepsCounts, KeepsKeptAt, KeepsDataAt}
-use Rattle.bad_blocks.specs.Moving.{Moves, MovesOut, Follows, IsKeptIn, IsMoved, IsOpenAfter}
+use Rattle.bad_blocks.specs.Moving.{Moves, MovesOut, IsKeptIn, IsMoved}
 use Rattle.bad_blocks.specs.Standing.{HasVersion, Stands}
-use Rattle.bad_blocks.proofs.Keeping.{bad_rises, keeps_same}
+use Rattle.bad_blocks.proofs.Keeping.{keeps_same}
 use Rattle.bad_blocks.proofs.Moves.{moves_out_none}
 use Rattle.bad_blocks.proofs.KeptPages.{kept_where, data_where}
 

@@ -1,7 +1,6 @@
 -- What the writing of copies does, and what it costs.
-use Rattle.std.proofs.Common.{◌≡◌, ◌≢◌, ◌⊎◌, ◌<◌, ◌≤◌, ℕ, ◌+◌, ◌-◌, ◌*◌, Bool, true, false, if◌then◌else◌, List, length, Some, None, Result, Ok, Err, refl, sym, ap, subst, ◌∙◌, arith, inl, inr}
+use Rattle.std.proofs.Common.{◌≡◌, ◌<◌, ◌≤◌, ℕ, ◌+◌, ◌-◌, ◌*◌, true, false, if◌then◌else◌, List, length, Result, Ok, Err, refl, sym, ap, subst, ◌∙◌, arith, inl, inr}
 use Rattle.std.proofs.Math.Nat.{mul-le-mul_right, mul-le-mul_left}
-use Rattle.nand_model.specs.Flash.{Flash}
 use Rattle.nand_model.specs.Calls.{Device, Lasts, Marks}
 use Rattle.nand_model.specs.Changes.{Grows}
 use Rattle.nand_model.specs.declared.geometry.Geometry.{Geometry}
@@ -19,7 +18,7 @@ use Rattle.transactions.specs.declared.copies.CopyOf.{CopyOf}
 use Rattle.transactions.specs.declared.group.Placed.{Placed}
 use Rattle.transactions.specs.declared.group.GroupFault.{GroupFault}
 use Rattle.transactions.specs.declared.group.GroupFault.TheVariants as groups
-use Rattle.bad_blocks.specs.Copying.{IsFresh, MayBeCopied, KeepsCounts, KeepsDataAt, KeepsKeptAt, AreCopied, IsTarget, CopiesEnd, CopiesCost, left_open, most_changes}
+use Rattle.bad_blocks.specs.Copying.{IsFresh, MayBeCopied, KeepsDataAt, AreCopied, CopiesEnd, CopiesCost, left_open, most_changes}
 use Rattle.bad_blocks.specs.Moving.{Costs}
 use Rattle.bad_blocks.specs.Passing.{Passes}
 use Rattle.bad_blocks.specs.Taking.{Takes, CostsATake}
@@ -27,7 +26,7 @@ use Rattle.bad_blocks.specs.declared.copying.Copied.{Copied}
 use Rattle.bad_blocks.specs.declared.copying.Copied.TheVariants as ends
 use Rattle.bad_blocks.specs.declared.fault.MoveFault.{MoveFault}
 use Rattle.bad_blocks.specs.laws.Passing.{passes_marked}
-use Rattle.bad_blocks.proofs.KeptPages.{is_of_copies, are_copied, data_copied, kept_where, data_where}
+use Rattle.bad_blocks.proofs.KeptPages.{is_of_copies, are_copied, data_copied, data_where}
 
 module _ (copies : List CopyOf) (w : ℕ) (d0 d1 : Device) (t : Table) (fresh : IsFresh w d0 t) (may : MayBeCopied d0 t copies) (honest : d0.honest ≡ true) (grows : Grows d0.flash d1.flash) where
   after : (r : Result Placed GroupFault) → GroupsAfter (next_group t (length copies) w) (name_at copies) (bytes_at copies d0.flash) d0.flash d1.flash r

@@ -6,7 +6,6 @@ use Rattle.nand_model.specs.Calls.{Device, Lasts}
 use Rattle.block_state.specs.Kept.{bad_count, unkept_count}
 use Rattle.block_state.specs.Table.{Table}
 use Rattle.chunk_index.specs.declared.form.KeptPage.{KeptPage}
-use Rattle.flash_tree.specs.declared.place.Key.{Key}
 use Rattle.transactions.specs.Copying.{CanCopy}
 use Rattle.transactions.specs.Handing.{HandsOut}
 use Rattle.transactions.specs.Ready.{AreBelow, IsReady}

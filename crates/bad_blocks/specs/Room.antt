@@ -1,5 +1,5 @@
 -- Room for a move.
-use Rattle.std.specs.Prelude.{◌≡◌, ◌≤◌, ℕ, length, vec_capacity}
+use Rattle.std.specs.Prelude.{◌≡◌, ◌≤◌, length, vec_capacity}
 use Rattle.nand_model.specs.declared.geometry.Geometry.{Geometry}
 use Rattle.bad_blocks.specs.declared.room.MoveRoom.{MoveRoom}
 

@@ -1,6 +1,6 @@
 -- What stands between two calls of a store, over the map of the kept pages and the table of blocks.
 -- From: this project.
-use Rattle.std.specs.Prelude.{◌≡◌, ◌<◌, ◌≤◌, ℕ, ◌+◌, true, false, List, Option, Some}
+use Rattle.std.specs.Prelude.{◌≡◌, ◌<◌, ◌≤◌, ℕ, ◌+◌, true, false, List, Some}
 use Rattle.nand_model.specs.Flash.{Flash, Written}
 use Rattle.nand_model.specs.Calls.{Device}
 use Rattle.page_tags.specs.Tags.{tag_bytes}

@@ -1,7 +1,5 @@
-use Rattle.std.proofs.Common.{◌≡◌, ℕ, ◌≤◌, true, Ok, Err, refl, sym, subst, ◌∙◌, length, arith, rules}
+use Rattle.std.proofs.Common.{◌∙◌, length, arith}
 use Rattle.std.proofs.lemmas.Result.{err_from_is_err_and}
-use Rattle.nand_model.specs.Calls.{Device}
-use Rattle.block_state.specs.Table.{Table}
 use Rattle.block_state.specs.TableOf.{table}
 use Rattle.bad_blocks.proofs.Keeping.{same_here, keeps_passes, keeps_on, may_later, data_on, newest_on}
 use Rattle.bad_blocks.proofs.KeptPages.{kept_where, data_where}

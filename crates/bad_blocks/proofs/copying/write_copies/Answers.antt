@@ -1,4 +1,4 @@
-use Rattle.std.proofs.Common.{◌≡◌, ◌<◌, ◌+◌, ℕ, true, Ok, Err, refl, subst, ◌∙◌, length, arith, rules}
+use Rattle.std.proofs.Common.{◌≡◌, ◌+◌, Ok, Err, refl, subst, length, arith}
 use Rattle.nand_model.specs.Calls.{Device}
 use Rattle.nand_model.specs.laws.Calls.{lasts_on}
 use Rattle.block_state.specs.Kept.{bad_count}

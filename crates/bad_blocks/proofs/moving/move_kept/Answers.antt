@@ -1,7 +1,5 @@
-use Rattle.std.proofs.Common.{◌≡◌, ◌≤◌, ℕ, refl, sym, ap, subst, ◌∙◌, length, arith, rules}
+use Rattle.std.proofs.Common.{ap, arith}
 use Rattle.nand_model.specs.declared.geometry.Geometry.{Geometry}
-use Rattle.block_state.specs.Table.{Table}
-use Rattle.block_state.specs.TableOf.{table}
 use Rattle.bad_blocks.proofs.moving.move_kept.Goals as goal
 
 pub list-requires-clause-keys : goal.list-requires-clause-keys

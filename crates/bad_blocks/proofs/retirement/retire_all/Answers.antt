@@ -1,14 +1,11 @@
-use Rattle.std.proofs.Common.{rules, ◌≡◌, ◌≢◌, ◌<◌, ◌≤◌, ◌+◌, ◌-◌, ℕ, true, false, Some, None, Ok, Err, refl, sym, ap, subst, ◌∙◌, arith}
-use Rattle.std.proofs.lemmas.Result.{err_from_is_err_and}
+use Rattle.std.proofs.Common.{◌+◌, ℕ, Some, None, sym, subst, ◌∙◌}
 use Rattle.nand_model.specs.Calls.{Device}
-use Rattle.nand_model.specs.declared.geometry.Geometry.{Geometry}
-use Rattle.block_state.specs.Kept.{bad_count}
 use Rattle.block_state.specs.Table.{Table}
 use Rattle.block_state.specs.TableOf.{table}
 use Rattle.chunk_index.specs.Kept.{HoldsNone}
 use Rattle.chunk_index.specs.Maps.{kept_pages}
 use Rattle.bad_blocks.specs.Moving.{MarksFailures, Costs}
-use Rattle.bad_blocks.proofs.RetireTurns.{Retiring, open_of, open_is, next_closed, next_good, next_unkept, next_within, moves_next, marks_next, costs_next, retiring_next, retired_all}
+use Rattle.bad_blocks.proofs.RetireTurns.{Retiring, open_is, next_unkept, moves_next, marks_next, costs_next, retiring_next, retired_all}
 use Rattle.bad_blocks.proofs.retirement.retire_all.Goals as goal
 
 pub loop-suspect-init : goal.loop-suspect-init

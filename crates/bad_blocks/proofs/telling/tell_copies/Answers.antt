@@ -1,10 +1,8 @@
-use Rattle.std.proofs.Common.{◌≡◌, ◌≢◌, ◌<◌, ◌≤◌, ℕ, Some, IsSome, slice_get, get_or, length, refl, sym, ap, subst, ◌∙◌, arith, rules}
+use Rattle.std.proofs.Common.{◌≡◌, ◌<◌, ℕ, IsSome, length, refl, sym, subst, ◌∙◌, rules}
 use Rattle.std.proofs.lemmas.Option.{slice_get-get_or}
 use Rattle.nand_model.specs.declared.geometry.Geometry.{Geometry}
-use Rattle.block_state.specs.Table.{Table}
 use Rattle.block_state.specs.TableOf.{table}
 use Rattle.transactions.specs.declared.copies.CopyOf.{CopyOf}
-use Rattle.bad_blocks.specs.Lists.{kept_by}
 use Rattle.bad_blocks.specs.Telling.{Tells}
 use Rattle.bad_blocks.proofs.Told.{tells_none, kept_yet, tells_more}
 use Rattle.bad_blocks.proofs.telling.tell_copies.Goals as goal

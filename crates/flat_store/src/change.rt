@@ -2,8 +2,8 @@
 ghost use Rattle.std.specs.Prelude.{◌≡◌, ◌↔◌, ◌<◌, ℕ, List, IsTrue, length};
 ghost use Rattle.flat_store.specs.Changes.{IsPageFor, IsNewKey, MayStand, CanApply};
 
-use nand_model::Geometry;
 use flash_tree::FreshPage;
+use nand_model::Geometry;
 
 /// Pages that are written together, each of a key of its own.
 #[derive(Drop)]

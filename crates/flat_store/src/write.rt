@@ -9,8 +9,8 @@ ghost use Rattle.flat_store.specs.Rooms.{WhyNot};
 use crate::room::make_room;
 use crate::store::StoreFault;
 use block_state::Blocks;
-use nand_model::Nand;
 use flash_tree::FreshPage;
+use nand_model::Nand;
 use transactions::{Fresh, GroupFault, write_group};
 
 /// Writes the pages of a change as one group.

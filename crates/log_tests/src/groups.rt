@@ -16,7 +16,9 @@ use plain_search::newest;
 use std::alloc::Global;
 use std::process::Abort;
 use std::test::Fail;
-use transactions::{Copies, CopyOf, Fresh, GroupFault, PageName, Placed, erase_and_open, table_of, write_group};
+use transactions::{
+    Copies, CopyOf, Fresh, GroupFault, PageName, Placed, erase_and_open, table_of, write_group,
+};
 
 /// A device in memory with its table.
 #[derive(Drop)]

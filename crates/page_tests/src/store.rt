@@ -5,8 +5,8 @@ ghost use Rattle.page_tags.specs.Slots.{IsSlot};
 ghost use Rattle.pages.specs.Changes.{AreSized};
 
 use directories::{DirectoryHead, head_page};
-use page_tags::Slot;
 use flash_tree::FreshPage;
+use page_tags::Slot;
 use pages::{Change, MemPages, Pages};
 use std::alloc::Global;
 use std::test::Fail;

@@ -15,6 +15,7 @@ ghost use Rattle.flat_store.specs.Changes.{CanApply};
 ghost use Rattle.volume_format.specs.Volumes.{IsFlatVolume};
 ghost use Rattle.posix_calls.specs.Plans.{error_of, IsLack, MayMake, NumberTold, MakesDirectory, IsPlan};
 
+use flash_tree::FreshPage;
 use flat_directories::{DirectoryFault, DirectoryHead, add, entries, head_page};
 use flat_profile::{flat_fits, least_free};
 use flat_store::{Change, Store};
@@ -23,7 +24,6 @@ use nand_model::{Geometry, Nand};
 use page_tags::Slot;
 use posix_profile::Errno;
 use std::alloc::{AllocError, Global};
-use flash_tree::FreshPage;
 
 /// The root directory.
 pub(crate) const ROOT: u64 = 1;

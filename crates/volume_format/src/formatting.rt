@@ -10,10 +10,10 @@ use crate::clear::clear_all;
 use crate::fault::FormatFault;
 use crate::root::write_first;
 use crate::wear::bad_count;
+use flash_tree::FreshPage;
 use flat_directories::{DirectoryHead, head_page};
 use nand_model::Nand;
 use std::alloc::Global;
-use flash_tree::FreshPage;
 
 /// The number of the root.
 const ROOT: u64 = 1;

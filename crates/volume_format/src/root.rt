@@ -2,9 +2,9 @@
 ghost use Rattle.std.specs.Prelude.{◌≡◌, ◌<◌, ◌+◌, ℕ, true, false, length, Some, IfOk, OnErr};
 ghost use Rattle.volume_format.specs.Formatting.{Keeps, AreReady, OthersStay, single_tag, HasFirstPage, Takes, StandsFirst};
 
+use flash_tree::FreshPage;
 use nand_model::{Gone, Nand, ProgramFault};
 use page_tags::Tag;
-use flash_tree::FreshPage;
 
 /// Writes the page to the start of a block, as a group of its own with this number, and marks the block where that
 /// fails. Whether the block took it.

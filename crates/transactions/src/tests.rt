@@ -10,7 +10,7 @@ ghost use Rattle.transactions.specs.CopyingOne.{MayCopy};
 
 use super::*;
 use block_state::Blocks;
-use flash_tree::{Key, TagNumbers, tag_at};
+use flash_tree::{FreshPage, Key, TagNumbers, tag_at};
 use nand_model::{EraseFault, Fate, Geometry, Gone, MemNand, Nand};
 use page_tags::Tag;
 use std::alloc::Global;

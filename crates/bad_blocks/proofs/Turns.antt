@@ -23,7 +23,7 @@ use Rattle.transactions.specs.Ready.{IsReady}
 use Rattle.transactions.specs.laws.Handing.{hands_on, hands_nothing}
 use Rattle.transactions.specs.laws.Ready.{ready_closed}
 use Rattle.bad_blocks.specs.Copying.{KeepsCounts, KeepsKeptAt, KeepsDataAt}
-use Rattle.bad_blocks.specs.Moving.{Moves, MovesOut, IsKeptIn, IsMoved}
+use Rattle.bad_blocks.specs.Moving.{Moves, MovesOut, IsKeptIn}
 use Rattle.bad_blocks.specs.Standing.{HasVersion, Stands}
 use Rattle.bad_blocks.proofs.Keeping.{keeps_same}
 use Rattle.bad_blocks.proofs.Moves.{moves_out_none}
@@ -181,23 +181,6 @@ moves_join v v1 v2 a b c t u s x y z first second index = record {
       let mid : HasVersion b.flash o d after.0.version bytes = subst (λ n. HasVersion b.flash o d n bytes) (sym after.2) (first.same_data honest o d p bytes is has) in
       subst (λ n. HasVersion c.flash o d n bytes) after.2 (second.same_data (first.lasts.honest ∙ honest) o d after.0 bytes after.1 mid);
 }
-
--- what was moved and then moved on
-pub moved_on : (v w k : ℕ) (t u s : Table) → u.geometry ≡ t.geometry → (t.entry v).bad ≡ false → (u.entry v).bad ≡ true → (s.entry v).bad ≡ true → 1 ≤ (t.entry v).kept
-    → (u.entry v).kept ≡ 0 → (w ≢ v) → ((u.entry w).kept ≡ (t.entry v).kept) → (t.entry w).kept ≡ 0 → ((b : ℕ) → b ≢ v → b ≢ w → (u.entry b).kept ≡ (t.entry b).kept)
-    → IsMoved w k u s → (k < t.geometry.blocks) × ((t.entry k).kept ≡ 0) × ((s.entry k).kept ≡ (t.entry v).kept) × ((s.entry v).kept ≡ 0) × ((b : ℕ) → b ≢ v → b ≢ k → (s.entry b).kept ≡ (t.entry b).kept)
-moved_on v w k t u s geometry good now later some none ne there was others moved =
-    let not_v : k ≢ v = λ e. let two : true ≡ false = sym later ∙ ap (λ b. (s.entry b).bad) (sym e) ∙ moved.good in cc in
-    let not_w : k ≢ w = λ e. let same : (u.entry k).kept ≡ (u.entry w).kept = ap (λ b. (u.entry b).kept) e in omega (arith, same, moved.was, there, some) in (
-      subst (λ (g : Geometry). k < g.blocks) geometry moved.within,
-      sym (others k not_v not_w) ∙ moved.was,
-      moved.there ∙ there,
-      moved.elsewhere v (λ e. ne (sym e)) (λ e. not_v (sym e)) ∙ none,
-      λ b nv nk. elim (cases_eq b w) [
-        | inl e ↦ ap (λ l. (s.entry l).kept) e ∙ moved.here ∙ sym (ap (λ l. (t.entry l).kept) e ∙ was)
-        | inr nw ↦ moved.elsewhere b nw nk ∙ others b nv nw
-      ],
-    )
 
 -- ---- where nothing is done
 

@@ -19,7 +19,7 @@ use Rattle.bad_blocks.specs.Standing.{AreHeld, HasFree, Stands}
 use Rattle.bad_blocks.specs.Taking.{Takes, TakesNone}
 use Rattle.bad_blocks.specs.laws.KeptPages.{kept_where, data_where}
 use Rattle.bad_blocks.specs.laws.Keeping.{same_here, keeps_passes}
-use Rattle.collector.specs.Making.{FitsOpen}
+use Rattle.collector.specs.Making.{FitsOpen, HasMore}
 use Rattle.bad_blocks.specs.laws.Moves.{are_held, moves_kept, stands_still, stands_kept}
 
 module _ (spare : ℕ) (d0 d1 : Device) (t u : Table) (x : Index) (law : (b : ℕ) → kept_in x b ≡ 0 → HoldsNone (kept_pages x) b)
@@ -50,7 +50,7 @@ module _ (spare : ℕ) (d0 d1 : Device) (t u : Table) (x : Index) (law : (b : �
     stands_taken = stands_still spare d0 d1 t u x held keeps stands written (λ honest power. kept_where d0.flash d1.flash t (passes.newest honest))
 
     -- so one is free less than are without a kept page
-    pub free_taken : 1 + spare < unkept_count t + bad_count t → HasFree u spare
+    pub free_taken : HasMore t spare → HasFree u spare
     free_taken more =
         let good = ready.marks b ∙ (ready.open_block b takes.open_block).good in
         let one : unkept_count u ≡ free_count u + 1 = free_where_unkept u b takes.open_block within good none_kept in
@@ -69,7 +69,7 @@ fits_open count w n t is next le =
     omega (arith, pages, next, le)
 
 -- where no block without a kept page is to be taken
-pub scarce_unless : (spare : ℕ) (t : Table) → (1 + spare < unkept_count t + bad_count t → ⊥) → IsScarce t spare
+pub scarce_unless : (spare : ℕ) (t : Table) → (HasMore t spare → ⊥) → IsScarce t spare
 scarce_unless spare t none = elim (cases_lt (1 + spare) (unkept_count t + bad_count t)) [
   | inl more ↦ absurd (none more)
   | inr few ↦ omega (arith, few)

@@ -1,8 +1,8 @@
 -- The making of room in the open block.
 -- From: this project.
-use Rattle.std.specs.Prelude.{◌≡◌, ◌⊎◌, ◌≤◌, ℕ, ◌+◌, false, Some, Result, Ok, Err}
+use Rattle.std.specs.Prelude.{◌≡◌, ◌⊎◌, ◌<◌, ◌≤◌, ℕ, ◌+◌, false, Some, Result, Ok, Err}
 use Rattle.nand_model.specs.Calls.{Device}
-use Rattle.block_state.specs.Kept.{bad_count, HasSpare, IsScarce}
+use Rattle.block_state.specs.Kept.{bad_count, unkept_count, HasSpare, IsScarce}
 use Rattle.block_state.specs.Table.{Table, IsFewest, room}
 use Rattle.chunk_index.specs.declared.index.Index.{Index}
 use Rattle.bad_blocks.specs.Moving.{MovesOut, WhyNotMoved}
@@ -20,6 +20,10 @@ LeavesRoom t spare count = (most : ℕ) × (most + count ≤ t.geometry.pages) �
 pub record IsVictim (count : ℕ) (t : Table) (v : ℕ) : Type 0 where
   pub fewest : IsFewest t t.geometry.blocks v
   pub leaves : (t.entry v).kept + count ≤ t.geometry.pages
+
+-- more good blocks are without a kept page than may be needed for retirements, and one for a collection
+abbrev pub HasMore : Table → (spare : ℕ) → Type 0
+HasMore t spare = 1 + spare < unkept_count t + bad_count t
 
 -- Kept pages lie where they lay; or, where no block without a kept page can be taken, those of the block with the fewest
 -- were moved.

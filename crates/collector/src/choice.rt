@@ -1,8 +1,8 @@
 // Whether a block can be taken, and which is to be collected else.
-ghost use Rattle.std.specs.Prelude.{◌≡◌, ◌≤◌, ◌<◌, ◌+◌, ◌↔◌, ℕ, IsTrue, IfSome, IfNone};
-ghost use Rattle.block_state.specs.Kept.{bad_count, unkept_count, IsScarce};
+ghost use Rattle.std.specs.Prelude.{◌≡◌, ◌≤◌, ◌↔◌, ℕ, IsTrue, IfSome, IfNone};
+ghost use Rattle.block_state.specs.Kept.{unkept_count, IsScarce};
 ghost use Rattle.block_state.specs.TableOf.{table};
-ghost use Rattle.collector.specs.Making.{IsVictim, LeavesRoom};
+ghost use Rattle.collector.specs.Making.{HasMore, IsVictim, LeavesRoom};
 
 use block_state::Blocks;
 
@@ -19,7 +19,7 @@ fn unkept_count(blocks: &Blocks) -> u32
 
 /// Whether more blocks are without a kept page than may be needed for retirements, and one for a collection.
 pub(crate) fn has_unkept(blocks: &Blocks, spare: u32) -> bool
-    ensures { IsTrue result ↔ (1 + spare < unkept_count (table blocks.now) + bad_count (table blocks.now)) }
+    ensures { IsTrue result ↔ HasMore (table blocks.now) spare }
 {
     let (unkept, bad) = (unkept_count(blocks), blocks.bad_count());
     u64::from(unkept) + u64::from(bad) > 1 + u64::from(spare)

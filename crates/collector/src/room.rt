@@ -6,7 +6,8 @@ ghost use Rattle.transactions.specs.Ready.{IsReady};
 ghost use Rattle.bad_blocks.specs.Moving.{Moves, MarksFailures, Costs};
 ghost use Rattle.bad_blocks.specs.Room.{IsRoomFor};
 ghost use Rattle.bad_blocks.specs.Standing.{Stands};
-ghost use Rattle.collector.specs.Making.{FitsOpen, MovesFewest, RoomEnds, StaysWhole, StaysWhereFull};
+ghost use Rattle.bad_blocks.specs.Taking.{CostsATake};
+ghost use Rattle.collector.specs.Making.{FitsOpen, HasMore, MovesFewest, RoomEnds, StaysWhole, StaysWhereFull};
 
 use crate::choice::{has_unkept, victim};
 use crate::collection::collect;
@@ -37,6 +38,8 @@ pub fn make_room<N: Nand>(
     ensures stands { Stands spare (N.state device.new) (table blocks.new) index.new }
     ensures marks { MarksFailures 0 0 (N.state device.old) (N.state device.new) (table blocks.old) (table blocks.new) }
     ensures costs { Costs ((N.state device.old).geometry.pages + 1) ((N.state device.old).geometry.pages + 2) 0 (N.state device.old) (N.state device.new) }
+    // While blocks are left that can be taken, no more is done than the taking of one.
+    ensures takes { HasMore (table blocks.old) spare → CostsATake (N.state device.old) (N.state device.new) }
     ensures ends { RoomEnds count spare (N.state device.old) (N.state device.new) (table blocks.old) (table blocks.new) result }
     ensures room { IsRoomFor (N.state device.new).geometry room.new }
     ensures succeeds { FitsOpen count (table blocks.old) → IsOk result }

@@ -29,7 +29,7 @@ use Rattle.collector.specs.declared.fault.RoomFault.{RoomFault}
 use Rattle.collector.specs.declared.fault.RoomFault.TheVariants as faults
 use Rattle.commits.specs.Carrying.{Carries, CarriesEither, KeepsOrShows}
 use Rattle.commits.specs.Committing.{CommitEnds}
-use Rattle.commits.specs.Keeping.{Keeps, Commits, Leaves}
+use Rattle.commits.specs.Keeping.{Keeps, Commits, IsAnswered, Leaves}
 use Rattle.commits.specs.Writing.{AttemptEnds, IsWhole, IsWaiting, WholeEnds}
 use Rattle.commits.proofs.Following.{moves_kept_out, moves_kept_none, moves_kept_on, buffers_moved, presents_moved, carries_kept, same_data_on, same_kept, same_present}
 
@@ -72,19 +72,20 @@ keeps_on spare a b c t u v x y z first then = record {
 }
 
 -- no buffered page counts
-pub leaves_kept : (spare : ℕ) (d e : Device) (t u : Table) (x y : Index) (pages rest : List FreshPage) → Keeps spare d e t u x y → Buffers y rest → Leaves spare d e t u x y pages rest
-leaves_kept spare d e t u x y pages rest keeps buffers = record {
+pub leaves_kept : (spare : ℕ) (d e : Device) (t u : Table) (x y : Index) (pages rest : List FreshPage) → Keeps spare d e t u x y → rest ≡ pages → Buffers y rest → Leaves spare d e t u x y pages rest
+leaves_kept spare d e t u x y pages rest keeps same buffers = record {
   lasts = keeps.lasts;
   ready = keeps.ready;
   stands = keeps.stands;
   numbers = keeps.numbers;
   buffers = buffers;
+  waits = inl (same, keeps.index);
   keys = keeps.index.ready;
   newest = λ honest. inl (keeps.same_data honest);
 }
 
 pub leaves_moved : (spare : ℕ) (d e : Device) (t u : Table) (x y : Index) (pages : List FreshPage) → Keeps spare d e t u x y → Buffers x pages → Leaves spare d e t u x y pages pages
-leaves_moved spare d e t u x y pages keeps buffers = leaves_kept spare d e t u x y pages pages keeps (buffers_moved x y keeps.index pages buffers)
+leaves_moved spare d e t u x y pages keeps buffers = leaves_kept spare d e t u x y pages pages keeps refl (buffers_moved x y keeps.index pages buffers)
 
 -- what is kept is not in the buffer
 pub unbuffered : (y : Index) → ((o c : ℕ) → present y o c ≡ as_kept (kept_pages y o c)) → IsUnbuffered y
@@ -101,6 +102,7 @@ leaves_committed spare d e t u x y pages rest commits empty = record {
   stands = commits.stands;
   numbers = commits.numbers;
   buffers = buffers_empty y rest (unbuffered y commits.presents) empty;
+  waits = inr (empty, commits.presents);
   keys = commits.keys;
   newest = λ honest. inr (commits.newest honest);
 }
@@ -122,6 +124,7 @@ module _ (spare : ℕ) (a b c : Device) (t u v : Table) (x y z : Index) (pages :
     stands = then.stands;
     numbers = hands_on a b c t u v first.lasts then.lasts first.numbers then.numbers;
     buffers = then.buffers;
+    waits = elim then.waits [ inl (same, moves) ↦ inl (same, moves_kept_on x y z first.index moves) | inr settled ↦ inr settled ];
     keys = λ o k is. then.keys o k (first.index.ready o k is);
     newest = λ honest. newest honest (cases_Bool b.gone);
   } where
@@ -202,6 +205,16 @@ waiting_then spare a b c t u v x y z b0 b1 first then power = record {
   power = power;
 }
 
+-- what was answered later was so from the beginning on
+pub answered_after : (spare : ℕ) (a b c : Device) (t u v : Table) (x y : Index) → Keeps spare a b t u x y → IsAnswered spare b c u v y → IsAnswered spare a c t v x
+answered_after spare a b c t u v x y first then = record {
+  device = then.device;
+  table = then.table;
+  index = then.index;
+  before = keeps_on spare a b then.device t u then.table x y then.index first then.before;
+  answered = then.answered;
+}
+
 -- ---- room
 
 -- what leaves room does so still, where as much is kept and no more blocks are bad than there are to spare
@@ -254,7 +267,7 @@ shown_kept y f rest same o c = ap (data_by f rest) (same o c) ∙ as_kept_shown 
 pub whole_committed : (spare : ℕ) (d e : Device) (t u : Table) (x y : Index) (b b' : Buffer) (result : Result (Unit {0}) RoomFault) → WholeEnds (length (buffered b)) spare d e t u x y b b' result
     → CommitEnds spare d e t u x y b b' result
 whole_committed spare d e t u x y b b' (Err fault) why = why
-whole_committed spare d e t u x y b b' (Ok done) (whole, few) = record {
+whole_committed spare d e t u x y b b' (Ok done) (whole, few, answered) = record {
   unbuffered = unbuffered y whole.commits.presents;
   empty = whole.out.empty;
   last = whole.out.last;
@@ -264,4 +277,5 @@ whole_committed spare d e t u x y b b' (Ok done) (whole, few) = record {
   few = few;
   free = whole.free;
   power = λ _. whole.power;
+  answered = λ _. answered;
 }

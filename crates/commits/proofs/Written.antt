@@ -1,5 +1,5 @@
 -- What the writing of the buffered pages leaves, however it ends.
-use Rattle.std.proofs.Common.{◌≡◌, ◌⊎◌, ◌<◌, ◌≤◌, ℕ, true, false, List, length, Some, Ok, Err, sym, ap, subst, ◌∙◌, inl, inr}
+use Rattle.std.proofs.Common.{refl, ◌≡◌, ◌⊎◌, ◌<◌, ◌≤◌, ℕ, true, false, List, length, Some, Ok, Err, sym, ap, subst, ◌∙◌, inl, inr}
 use Rattle.std.proofs.lemmas.Bool.{cases_Bool}
 use Rattle.nand_model.specs.Calls.{Device, Lasts}
 use Rattle.nand_model.specs.Changes.{Grows}
@@ -29,6 +29,7 @@ use Rattle.commits.specs.Carrying.{AreWritable, HaveRanges, KeepsOrShows}
 use Rattle.commits.specs.Keeping.{Commits, Keeps, Leaves}
 use Rattle.commits.specs.Writing.{IsGoodBlock}
 use Rattle.commits.proofs.Counts.{ListsAreWhole}
+use Rattle.commits.proofs.Following.{moves_kept_none}
 use Rattle.commits.proofs.Grouping.{carries_present, keeps_group, newest_written, same_kept_pages, tables_closed}
 use Rattle.commits.proofs.Settling.{commits_whole, free_whole, open_after}
 
@@ -72,6 +73,7 @@ leaves_gone spare d e t u x pages o stands buffers ready is lasts then numbers g
   };
   numbers = numbers;
   buffers = buffers;
+  waits = inl (refl, moves_kept_none x);
   keys = λ o k is. is;
   newest = λ honest. newest honest (cases_Bool d.gone);
 } where

@@ -12,6 +12,7 @@ use Rattle.bad_blocks.specs.Standing.{HasFree}
 use Rattle.collector.specs.Making.{WhyNoRoom}
 use Rattle.collector.specs.declared.fault.RoomFault.{RoomFault}
 use Rattle.commits.specs.Carrying.{Carries}
+use Rattle.commits.specs.Keeping.{IsAnswered}
 
 -- the buffer holds as many pages of as many bytes at most
 pub record SameSizes (old new : Buffer) : Type 0 where
@@ -20,8 +21,9 @@ pub record SameSizes (old new : Buffer) : Type 0 where
 
 -- A commit that is done: the buffer is empty, and has the pages that it had as those that were written last; what was
 -- present is kept, with its data, and what was dropped is not; of an honest device the present pages are the newest.
--- No more blocks are bad than there are to spare, and blocks enough are free. A device that wrote has power.
-pub record IsCommitted (spare : ℕ) (old new : Device) (t' : Table) (x x' : Index) (b b' : Buffer) : Type 0 where
+-- No more blocks are bad than there are to spare, and blocks enough are free. A device that wrote has power, and no block
+-- of which a program of the group failed is trusted.
+pub record IsCommitted (spare : ℕ) (old new : Device) (t t' : Table) (x x' : Index) (b b' : Buffer) : Type 0 where
   pub unbuffered : IsUnbuffered x'
   pub empty : buffered b' ≡ []
   pub last : written b' ≡ buffered b
@@ -31,8 +33,9 @@ pub record IsCommitted (spare : ℕ) (old new : Device) (t' : Table) (x x' : Ind
   pub few : bad_count t' ≤ spare
   pub free : HasFree t' spare
   pub power : 1 ≤ length (buffered b) → new.gone ≡ false
+  pub answered : 1 ≤ length (buffered b) → IsAnswered spare old new t t' x
 
 -- How a commit ends: done; or not, for lack of room for so many pages in one block, or as where kept pages are not moved.
 abbrev pub CommitEnds : (spare : ℕ) → Device → Device → Table → Table → Index → Index → Buffer → Buffer → Result (Unit {0}) RoomFault → Type 0
-CommitEnds spare old new t t' x x' b b' (Ok done) = IsCommitted spare old new t' x x' b b'
+CommitEnds spare old new t t' x x' b b' (Ok done) = IsCommitted spare old new t t' x x' b b'
 CommitEnds spare old new t t' x x' b b' (Err fault) = WhyNoRoom (length (buffered b)) spare new t t' fault

@@ -13,7 +13,7 @@ use Rattle.commits.specs.declared.writing.Attempt.{Attempt}
 use Rattle.commits.specs.declared.writing.Attempt.TheVariants as attempts
 use Rattle.commits.specs.declared.turn.Turn.{Turn}
 use Rattle.commits.specs.declared.turn.Turn.TheVariants as turns
-use Rattle.commits.specs.Keeping.{Keeps, Commits}
+use Rattle.commits.specs.Keeping.{Keeps, Commits, IsAnswered}
 use Rattle.collector.specs.Making.{WhyNoRoom}
 
 -- the buffer is empty, and its pages are those that were written last
@@ -41,7 +41,7 @@ pub record IsGoodBlock (w : ℕ) (device : Device) (t : Table) : Type 0 where
 
 -- how the writing of the group ends
 abbrev pub AttemptEnds : (spare : ℕ) → Device → Device → Table → Table → Index → Index → Buffer → Buffer → Result Attempt RoomFault → Type 0
-AttemptEnds spare old new t t' x x' b b' (Ok attempts.Trusted) = IsWhole spare old new t t' x x' b b'
+AttemptEnds spare old new t t' x x' b b' (Ok attempts.Trusted) = IsWhole spare old new t t' x x' b b' × (new.failures ≡ old.failures)
 AttemptEnds spare old new t t' x x' b b' (Ok (attempts.Suspect w)) = IsWhole spare old new t t' x x' b b' × IsGoodBlock w new t'
 AttemptEnds spare old new t t' x x' b b' (Ok (attempts.Failed w)) = IsWaiting spare old new t t' x x' b b' × IsGoodBlock w new t'
 AttemptEnds spare old new t t' x x' b b' (Err faults.Full) = ⊥
@@ -58,11 +58,11 @@ unanswered (Err fault) = 0
 
 -- how a turn ends: the pages count; or not, and a block more is bad; with no more bad than there are to spare
 abbrev pub TurnEnds : (count spare : ℕ) → Device → Device → Table → Table → Index → Index → Buffer → Buffer → Result Turn RoomFault → Type 0
-TurnEnds count spare old new t t' x x' b b' (Ok turns.Written) = IsWhole spare old new t t' x x' b b' × (bad_count t' ≤ spare)
+TurnEnds count spare old new t t' x x' b b' (Ok turns.Written) = IsWhole spare old new t t' x x' b b' × (bad_count t' ≤ spare) × IsAnswered spare old new t t' x
 TurnEnds count spare old new t t' x x' b b' (Ok turns.Again) = IsWaiting spare old new t t' x x' b b' × HasFree t' spare × (bad_count t < bad_count t') × (bad_count t' ≤ spare)
 TurnEnds count spare old new t t' x x' b b' (Err fault) = WhyNoRoom count spare new t t' fault
 
 -- how the writing ends, of as many turns as it takes
 abbrev pub WholeEnds : (count spare : ℕ) → Device → Device → Table → Table → Index → Index → Buffer → Buffer → Result (Unit {0}) RoomFault → Type 0
-WholeEnds count spare old new t t' x x' b b' (Ok done) = IsWhole spare old new t t' x x' b b' × (bad_count t' ≤ spare)
+WholeEnds count spare old new t t' x x' b b' (Ok done) = IsWhole spare old new t t' x x' b b' × (bad_count t' ≤ spare) × IsAnswered spare old new t t' x
 WholeEnds count spare old new t t' x x' b b' (Err fault) = WhyNoRoom count spare new t t' fault

@@ -15,7 +15,7 @@ ghost use Rattle.bad_blocks.specs.Room.{IsRoomFor};
 ghost use Rattle.bad_blocks.specs.Standing.{HasFree, Stands};
 ghost use Rattle.commits.specs.Carrying.{AreWritable, CarriesEither, KeepsOrShows};
 ghost use Rattle.commits.specs.Committing.{CommitEnds, SameSizes};
-ghost use Rattle.commits.specs.Keeping.{StaysReady};
+ghost use Rattle.commits.specs.Keeping.{StaysReady, WaitsOrSettles};
 
 use crate::turn::write_whole;
 use bad_blocks::MoveRoom;
@@ -73,6 +73,7 @@ pub fn commit<N: Nand>(
     ensures marks { MarksFailures 0 0 (N.state device.old) (N.state device.new) (table blocks.old) (table blocks.new) }
     ensures room { IsRoomFor (N.state device.new).geometry room.new }
     ensures buffers { Buffers index.new (buffered buffer.new) }
+    ensures waits { WaitsOrSettles index.old index.new (buffered buffer.old) (buffered buffer.new) }
     ensures sizes { SameSizes buffer.old buffer.new }
     ensures keys { StaysReady index.old index.new }
     // Wherever it ends, the flash carries what was kept, or all that was present.

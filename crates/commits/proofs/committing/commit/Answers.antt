@@ -1,4 +1,4 @@
-use Rattle.std.proofs.Common.{◌≡◌, List, [], length, sym, ap, ◌∙◌, arith}
+use Rattle.std.proofs.Common.{◌≡◌, List, [], length, sym, ap, ◌∙◌, arith, inr}
 use Rattle.std.proofs.lemmas.Bool.{eqb-true}
 use Rattle.std.proofs.lemmas.List.{nil_from_length}
 use Rattle.nand_model.specs.Calls.{Device}
@@ -61,6 +61,7 @@ returns-then-is_empty-clause-ends g c =
       few = omega (arith, same, r.few);
       free = free_empty c.args.spare lists w d t v x y pages none r.buffers r.ready r.stands r.free settles settled.agree settled.counts;
       power = λ some. let zero_long : length pages ≡ 0 = ap length none in absurd (omega (arith, some, zero_long));
+      answered = λ some. let zero_long : length pages ≡ 0 = ap length none in absurd (omega (arith, some, zero_long));
     }
 
 pub returns-clause-newest : goal.returns-clause-newest
@@ -72,3 +73,6 @@ pub returns-clause-ends : goal.returns-clause-ends
 returns-clause-ends g c =
     whole_committed c.args.spare (g.N.Nand.state c.args.device.now) (g.N.Nand.state c.write_whole.new.device) (table c.args.blocks.now) (table c.write_whole.new.blocks) c.args.index.now c.write_whole.new.index
     c.args.buffer.now c.write_whole.new.buffer c.write_whole.result c.write_whole.ensures.ends
+
+pub returns-then-is_empty-clause-waits : goal.returns-then-is_empty-clause-waits
+returns-then-is_empty-clause-waits g c = inr (c.settle_empty.ensures.empty, c.settle_empty.ensures.settles.1.presents)

@@ -1,4 +1,4 @@
-use Rattle.std.proofs.Common.{◌≤◌, List, length, refl, arith}
+use Rattle.std.proofs.Common.{◌≡◌, ◌<◌, ◌≤◌, ◌+◌, ◌*◌, ℕ, List, length, refl, sym, ap, subst, arith, inl, inr, ◌∙◌}
 use Rattle.std.proofs.lemmas.Result.{err_from_is_err_and}
 use Rattle.nand_model.specs.Calls.{Device}
 use Rattle.flash_tree.specs.declared.place.FreshPage.{FreshPage}
@@ -320,7 +320,7 @@ returns-in_err-retire-in-Failed-clause-leaves g c =
     let x3 : Index = c.retire-in-Failed.new.index in
     let then : Keeps c.args.spare d2 d3 t2 t3 x2 x3 = keeps_moved c.args.spare c.in-Failed.block d2 d3 t2 t3 x2 x3 c.retire-in-Failed.ensures.moves c.retire-in-Failed.ensures.stands in
     let after = (c.write_buffered.ensures.leaves c.args.spare room.stands free).buffers in
-    leaves_kept c.args.spare d0 d3 t0 t3 x0 x3 pages (buffered b2) (keeps_on c.args.spare d0 d2 d3 t0 t2 t3 x0 x2 x3 waits.keeps then) (buffers_moved x2 x3 then.index (buffered b2) after)
+    leaves_kept c.args.spare d0 d3 t0 t3 x0 x3 pages (buffered b2) (keeps_on c.args.spare d0 d2 d3 t0 t2 t3 x0 x2 x3 waits.keeps then) waits.buffered_still (buffers_moved x2 x3 then.index (buffered b2) after)
 
 pub returns-in_ok-retire-in-Suspect-clause-leaves : goal.returns-in_ok-retire-in-Suspect-clause-leaves
 returns-in_ok-retire-in-Suspect-clause-leaves g c =
@@ -373,7 +373,7 @@ returns-in_ok-retire-in-Failed-clause-leaves g c =
     let x3 : Index = c.retire-in-Failed.new.index in
     let then : Keeps c.args.spare d2 d3 t2 t3 x2 x3 = keeps_moved c.args.spare c.in-Failed.block d2 d3 t2 t3 x2 x3 c.retire-in-Failed.ensures.moves c.retire-in-Failed.ensures.stands in
     let after = (c.write_buffered.ensures.leaves c.args.spare room.stands free).buffers in
-    leaves_kept c.args.spare d0 d3 t0 t3 x0 x3 pages (buffered b2) (keeps_on c.args.spare d0 d2 d3 t0 t2 t3 x0 x2 x3 waits.keeps then) (buffers_moved x2 x3 then.index (buffered b2) after)
+    leaves_kept c.args.spare d0 d3 t0 t3 x0 x3 pages (buffered b2) (keeps_on c.args.spare d0 d2 d3 t0 t2 t3 x0 x2 x3 waits.keeps then) waits.buffered_still (buffers_moved x2 x3 then.index (buffered b2) after)
 
 pub returns-in-Trusted-clause-leaves : goal.returns-in-Trusted-clause-leaves
 returns-in-Trusted-clause-leaves g c =
@@ -415,7 +415,7 @@ returns-in-Trusted-clause-ends g c =
     let b2 : Buffer = c.write_buffered.new.buffer in
     let done = (rw c.in-Trusted.is at c.in_ok-write_buffered.ensures).ends c.args.spare room.stands free in
     let same = c.write_buffered.ensures.bad in
-    (whole_after c.args.spare d0 d1 d2 t0 t1 t2 x0 x1 x2 b0 b0 b2 c.requires.stands first refl done, omega (arith, same, made.few))
+    (whole_after c.args.spare d0 d1 d2 t0 t1 t2 x0 x1 x2 b0 b0 b2 c.requires.stands first refl done.0, omega (arith, same, made.few), record { device = d1; table = t1; index = x1; before = first; answered = inl done.1 })
 
 pub returns-in_ok-retire-in-Suspect-clause-ends : goal.returns-in_ok-retire-in-Suspect-clause-ends
 returns-in_ok-retire-in-Suspect-clause-ends g c =
@@ -442,7 +442,12 @@ returns-in_ok-retire-in-Suspect-clause-ends g c =
     let x3 : Index = c.retire.new.index in
     let then : Keeps c.args.spare d2 d3 t2 t3 x2 x3 = keeps_moved c.args.spare c.in-Suspect.block d2 d3 t2 t3 x2 x3 c.retire.ensures.moves c.retire.ensures.stands in
     let retired = c.in_ok-retire-in-Suspect.ensures.ends in
-    (whole_then c.args.spare d0 d2 d3 t0 t2 t3 x0 x2 x3 b0 b2 whole then retired.0.free retired.1, retired.0.few)
+    let same = c.write_buffered.ensures.bad in
+    let more : bad_count t1 < bad_count t3 = omega (arith, same, retired.0.more) in (
+      whole_then c.args.spare d0 d2 d3 t0 t2 t3 x0 x2 x3 b0 b2 whole then retired.0.free retired.1,
+      retired.0.few,
+      record { device = d1; table = t1; index = x1; before = first; answered = inr more },
+    )
 
 pub returns-in_ok-retire-in-Failed-clause-ends : goal.returns-in_ok-retire-in-Failed-clause-ends
 returns-in_ok-retire-in-Failed-clause-ends g c =

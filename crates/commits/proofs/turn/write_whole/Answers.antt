@@ -8,7 +8,7 @@ use Rattle.chunk_index.specs.declared.index.Index.{Index}
 use Rattle.page_buffer.specs.BufferOf.{buffered}
 use Rattle.collector.specs.Making.{WhyNoRoom}
 use Rattle.commits.specs.Keeping.{Leaves}
-use Rattle.commits.proofs.Turning.{keeps_here, keeps_on, leaves_on, whole_after, why_before}
+use Rattle.commits.proofs.Turning.{answered_after, keeps_here, keeps_on, leaves_on, whole_after, why_before}
 use Rattle.commits.proofs.turn.write_whole.Goals as goal
 
 pub loop-init : goal.loop-init
@@ -70,7 +70,7 @@ returns-in-Written-clause-ends g c =
     let rest : List FreshPage = buffered c.take_turn.new.buffer in
     let so_far = c.loop.invariant in
     let done = rw c.in-Written.is at c.in_ok-take_turn.ensures in
-    (whole_after c.args.spare d0 d e t0 t u x0 x y c.args.buffer.now c.loop.buffer c.take_turn.new.buffer c.requires.stands so_far.keeps so_far.same done.ends.0, done.ends.1)
+    (whole_after c.args.spare d0 d e t0 t u x0 x y c.args.buffer.now c.loop.buffer c.take_turn.new.buffer c.requires.stands so_far.keeps so_far.same done.ends.0, done.ends.1, answered_after c.args.spare d0 d e t0 t u x0 x so_far.keeps done.ends.2)
 
 pub returns-in_err-take_turn-clause-ends : goal.returns-in_err-take_turn-clause-ends
 returns-in_err-take_turn-clause-ends g c =

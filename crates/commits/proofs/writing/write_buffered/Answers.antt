@@ -130,7 +130,8 @@ returns-else-placed-clause-ends g c = λ spare stands free.
     c.settle.ensures.settles c.settle.ensures.agree c.settle.ensures.counts in
     let frees = free_written spare lists d e t u v x y pages o c.in-Ok.placed c.requires.buffers opened c.requires.ready stands free c.requires.pages ranges c.requires.open_room w.lasts w.ready w.numbers w.grows ok w.ends.1 tells adds
     c.settle.ensures.settles c.settle.ensures.agree c.settle.ensures.counts in
-    record { commits = commits; out = record { empty = c.settle.ensures.empty; last = c.settle.ensures.written }; free = frees; power = w.ends.1 }
+    let none : e.failures ≡ d.failures + 0 = w.ends.0 ∙ ap (λ s. d.failures + (if s then 1 else 0)) c.if-placed.false in
+    (record { commits = commits; out = record { empty = c.settle.ensures.empty; last = c.settle.ensures.written }; free = frees; power = w.ends.1 }, omega (arith, none))
 
 pub returns-else-placed-clause-marks : goal.returns-else-placed-clause-marks
 returns-else-placed-clause-marks g c =
@@ -193,7 +194,7 @@ returns-in-Err-Failed-clause-leaves g c = λ spare stands free.
     let xs : List FreshPage = c.pages-pages.result.now in
     let newest : d.honest ≡ true → KeepsNewest d.flash e.flash = λ honest. newest_written d e t xs o c.requires.ready honest (w.grows honest) (Err groups.Failed) (w.groups honest o opened) in
     let keeps = keeps_written spare d e t u x xs o stands c.requires.ready w.table w.lasts w.ready w.numbers newest in
-    leaves_kept spare d e t u x x (buffered c.args.buffer.now) (buffered c.args.buffer.now) keeps c.requires.buffers
+    leaves_kept spare d e t u x x (buffered c.args.buffer.now) (buffered c.args.buffer.now) keeps refl c.requires.buffers
 
 pub returns-in-Err-Failed-clause-ends : goal.returns-in-Err-Failed-clause-ends
 returns-in-Err-Failed-clause-ends g c = λ spare stands free.
@@ -223,7 +224,7 @@ returns-in-Err-Lost-clause-leaves g c = λ spare stands free.
     let xs : List FreshPage = c.pages-pages.result.now in
     let newest : d.honest ≡ true → KeepsNewest d.flash e.flash = λ honest. newest_written d e t xs o c.requires.ready honest (w.grows honest) (Err groups.Lost) (w.groups honest o opened) in
     let keeps = keeps_written spare d e t u x xs o stands c.requires.ready w.table w.lasts w.ready w.numbers newest in
-    leaves_kept spare d e t u x x (buffered c.args.buffer.now) (buffered c.args.buffer.now) keeps c.requires.buffers
+    leaves_kept spare d e t u x x (buffered c.args.buffer.now) (buffered c.args.buffer.now) keeps refl c.requires.buffers
 
 pub returns-in-Err-Gone-clause-leaves : goal.returns-in-Err-Gone-clause-leaves
 returns-in-Err-Gone-clause-leaves g c = λ spare stands free.

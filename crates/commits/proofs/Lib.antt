@@ -6,3 +6,4 @@ pub mod Grouping
 pub mod Settling
 pub mod Turning
 pub mod Written
+pub mod Costing

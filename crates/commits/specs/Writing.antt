@@ -1,11 +1,12 @@
 -- How the buffered pages are written as one group.
-use Rattle.std.specs.Prelude.{◌≡◌, ◌<◌, ◌≤◌, ℕ, true, false, [], Result, Ok, Err}
+use Rattle.std.specs.Prelude.{◌≡◌, ◌<◌, ◌≤◌, ℕ, true, false, [], Result, Ok, Err, ◌*◌, ◌+◌}
 use Rattle.nand_model.specs.Calls.{Device}
 use Rattle.block_state.specs.Kept.{bad_count}
 use Rattle.block_state.specs.Table.{Table}
 use Rattle.chunk_index.specs.declared.index.Index.{Index}
 use Rattle.page_buffer.specs.declared.buffer.Buffer.{Buffer}
 use Rattle.page_buffer.specs.BufferOf.{buffered, written}
+use Rattle.bad_blocks.specs.Moving.{Costs}
 use Rattle.bad_blocks.specs.Standing.{HasFree}
 use Rattle.collector.specs.declared.fault.RoomFault.{RoomFault}
 use Rattle.collector.specs.declared.fault.RoomFault.TheVariants as faults
@@ -61,6 +62,13 @@ abbrev pub TurnEnds : (count spare : ℕ) → Device → Device → Table → Ta
 TurnEnds count spare old new t t' x x' b b' (Ok turns.Written) = IsWhole spare old new t t' x x' b b' × (bad_count t' ≤ spare) × IsAnswered spare old new t t' x
 TurnEnds count spare old new t t' x x' b b' (Ok turns.Again) = IsWaiting spare old new t t' x x' b b' × HasFree t' spare × (bad_count t < bad_count t') × (bad_count t' ≤ spare)
 TurnEnds count spare old new t t' x x' b b' (Err fault) = WhyNoRoom count spare new t t' fault
+
+-- What a turn costs: so much for each failure that the device counts; and besides, but where the pages are to be written again,
+-- the making of room and their programs.
+abbrev pub TurnCosts : (count : ℕ) → Device → Device → Result Turn RoomFault → Type 0
+TurnCosts count old new (Ok turns.Written) = Costs (count + old.geometry.pages + 1) (3 * old.geometry.pages + 3) 0 old new
+TurnCosts count old new (Ok turns.Again) = Costs 0 (3 * old.geometry.pages + 3) 0 old new
+TurnCosts count old new (Err fault) = Costs (count + old.geometry.pages + 1) (3 * old.geometry.pages + 3) 0 old new
 
 -- how the writing ends, of as many turns as it takes
 abbrev pub WholeEnds : (count spare : ℕ) → Device → Device → Table → Table → Index → Index → Buffer → Buffer → Result (Unit {0}) RoomFault → Type 0

@@ -1,5 +1,5 @@
 // The writing of the buffered pages as one group.
-ghost use Rattle.std.specs.Prelude.{◌≡◌, ◌<◌, ◌≤◌, ◌^◌, ℕ, length};
+ghost use Rattle.std.specs.Prelude.{◌≡◌, ◌<◌, ◌≤◌, ◌+◌, ◌^◌, ℕ, length};
 ghost use Rattle.nand_model.specs.Calls.{Lasts};
 ghost use Rattle.block_state.specs.Kept.{bad_count};
 ghost use Rattle.block_state.specs.Table.{room};
@@ -56,6 +56,7 @@ pub(crate) fn write_buffered<N: Nand>(
     ensures leaves { (spare : ℕ) → Stands spare (N.state device.old) (table blocks.old) index.old → HasFree (table blocks.old) spare
         → Leaves spare (N.state device.old) (N.state device.new) (table blocks.old) (table blocks.new) index.old index.new (buffered buffer.old) (buffered buffer.new) }
     ensures marks { MarksFailures 0 (unanswered result) (N.state device.old) (N.state device.new) (table blocks.old) (table blocks.new) }
+    ensures costs { (N.state device.new).changes ≤ (N.state device.old).changes + length (buffered buffer.old) }
     ensures ends { (spare : ℕ) → Stands spare (N.state device.old) (table blocks.old) index.old → HasFree (table blocks.old) spare
         → AttemptEnds spare (N.state device.old) (N.state device.new) (table blocks.old) (table blocks.new) index.old index.new buffer.old buffer.new result }
     ensures sizes { SameSizes buffer.old buffer.new }

@@ -1,4 +1,4 @@
-use Rattle.std.proofs.Common.{◌≡◌, List, [], length, sym, ap, ◌∙◌, arith, inr}
+use Rattle.std.proofs.Common.{◌≡◌, ◌+◌, ◌*◌, ℕ, List, [], length, sym, ap, ◌∙◌, arith, inr}
 use Rattle.std.proofs.lemmas.Bool.{eqb-true}
 use Rattle.std.proofs.lemmas.List.{nil_from_length}
 use Rattle.nand_model.specs.Calls.{Device}
@@ -8,6 +8,7 @@ use Rattle.block_state.specs.Table.{Table}
 use Rattle.block_state.specs.TableOf.{table}
 use Rattle.chunk_index.specs.declared.index.Index.{Index}
 use Rattle.page_buffer.specs.BufferOf.{buffered}
+use Rattle.commits.proofs.Costing.{costs_more, costs_none}
 use Rattle.commits.proofs.Counts.{ListsAreWhole}
 use Rattle.commits.proofs.Settling.{bad_empty, carries_empty, free_empty, kept_empty, ready_counted, stands_empty}
 use Rattle.commits.proofs.Turning.{carries_either, shown_kept, whole_committed}
@@ -76,3 +77,9 @@ returns-clause-ends g c =
 
 pub returns-then-is_empty-clause-waits : goal.returns-then-is_empty-clause-waits
 returns-then-is_empty-clause-waits g c = inr (c.settle_empty.ensures.empty, c.settle_empty.ensures.settles.1.presents)
+
+pub returns-then-is_empty-clause-costs : goal.returns-then-is_empty-clause-costs
+returns-then-is_empty-clause-costs g c =
+    let d : Device = g.N.Nand.state c.args.device.now in
+    let count : ℕ = length (buffered c.args.buffer.now) in
+    costs_more 0 (count + d.geometry.pages + 1) (3 * d.geometry.pages + 3) d d (omega arith) (costs_none (3 * d.geometry.pages + 3) d)

@@ -3,7 +3,10 @@ use Rattle.std.proofs.lemmas.Result.{err_from_is_err_and}
 use Rattle.nand_model.specs.Calls.{Device}
 use Rattle.flash_tree.specs.declared.place.FreshPage.{FreshPage}
 use Rattle.block_state.specs.Kept.{bad_count}
-use Rattle.block_state.specs.Table.{Table}
+use Rattle.nand_model.specs.declared.geometry.Geometry.{Geometry}
+use Rattle.block_state.specs.Table.{Table, room as room_of}
+use Rattle.bad_blocks.specs.Moving.{Costs}
+use Rattle.commits.proofs.Costing.{costs_changes, costs_each, costs_failed, costs_more, costs_on, room_most}
 use Rattle.block_state.specs.TableOf.{table}
 use Rattle.chunk_index.specs.declared.index.Index.{Index}
 use Rattle.page_buffer.specs.declared.buffer.Buffer.{Buffer}
@@ -477,3 +480,165 @@ returns-in_ok-retire-in-Failed-clause-ends g c =
     let same = c.write_buffered.ensures.bad in
     let rises : bad_count t0 ≤ bad_count t1 = bad_rises t0 t1 room.moves.1.geometry room.moves.1.marks in
     (waiting_then c.args.spare d0 d2 d3 t0 t2 t3 x0 x2 x3 b0 b2 waits then retired.1, retired.0.free, omega (arith, same, rises, retired.0.more), retired.0.few)
+
+pub returns-in_err-make_room-clause-costs : goal.returns-in_err-make_room-clause-costs
+returns-in_err-make_room-clause-costs g c =
+    let d0 : Device = g.N.Nand.state c.args.device.now in
+    let d1 : Device = g.N.Nand.state c.make_room.new.device in
+    let pages : List FreshPage = buffered c.args.buffer.now in
+    let count : ℕ = length pages in
+    let size : ℕ = d0.geometry.pages in
+    let each : ℕ = 3 * size + 3 in
+    let room = c.make_room.ensures in
+    let made : Costs (size + 1) each 0 d0 d1 = costs_each (size + 1) (size + 2) each d0 d1 (omega arith) room.moves.1.lasts room.costs in
+    let p = err_from_is_err_and c.from_residual.result c.from_residual.ensures.1 in
+    rw p.1 (costs_more (size + 1) (count + size + 1) each d0 d1 (omega arith) made)
+
+pub returns-then-next_group-ge-LIMIT-clause-costs : goal.returns-then-next_group-ge-LIMIT-clause-costs
+returns-then-next_group-ge-LIMIT-clause-costs g c =
+    let d0 : Device = g.N.Nand.state c.args.device.now in
+    let d1 : Device = g.N.Nand.state c.make_room.new.device in
+    let pages : List FreshPage = buffered c.args.buffer.now in
+    let count : ℕ = length pages in
+    let size : ℕ = d0.geometry.pages in
+    let each : ℕ = 3 * size + 3 in
+    let room = c.make_room.ensures in
+    let made : Costs (size + 1) each 0 d0 d1 = costs_each (size + 1) (size + 2) each d0 d1 (omega arith) room.moves.1.lasts room.costs in
+    costs_more (size + 1) (count + size + 1) each d0 d1 (omega arith) made
+
+pub returns-in_err-write_buffered-clause-costs : goal.returns-in_err-write_buffered-clause-costs
+returns-in_err-write_buffered-clause-costs g c =
+    let d0 : Device = g.N.Nand.state c.args.device.now in
+    let d1 : Device = g.N.Nand.state c.make_room.new.device in
+    let pages : List FreshPage = buffered c.args.buffer.now in
+    let count : ℕ = length pages in
+    let size : ℕ = d0.geometry.pages in
+    let each : ℕ = 3 * size + 3 in
+    let room = c.make_room.ensures in
+    let made : Costs (size + 1) each 0 d0 d1 = costs_each (size + 1) (size + 2) each d0 d1 (omega arith) room.moves.1.lasts room.costs in
+    let d2 : Device = g.N.Nand.state c.write_buffered.new.device in
+    let wrote : Costs (size + 1 + count) each 0 d0 d2 = costs_on (size + 1) count each d0 d1 d2 made (costs_changes count each d1 d2 c.write_buffered.ensures.lasts c.write_buffered.ensures.costs) in
+    let all : Costs (count + size + 1) each 0 d0 d2 = costs_more (size + 1 + count) (count + size + 1) each d0 d2 (omega arith) wrote in
+    let p = err_from_is_err_and c.from_residual-in_err-write_buffered.result c.from_residual-in_err-write_buffered.ensures.1 in
+    rw p.1 all
+
+pub returns-in-Trusted-clause-costs : goal.returns-in-Trusted-clause-costs
+returns-in-Trusted-clause-costs g c =
+    let d0 : Device = g.N.Nand.state c.args.device.now in
+    let d1 : Device = g.N.Nand.state c.make_room.new.device in
+    let pages : List FreshPage = buffered c.args.buffer.now in
+    let count : ℕ = length pages in
+    let size : ℕ = d0.geometry.pages in
+    let each : ℕ = 3 * size + 3 in
+    let room = c.make_room.ensures in
+    let made : Costs (size + 1) each 0 d0 d1 = costs_each (size + 1) (size + 2) each d0 d1 (omega arith) room.moves.1.lasts room.costs in
+    let d2 : Device = g.N.Nand.state c.write_buffered.new.device in
+    let wrote : Costs (size + 1 + count) each 0 d0 d2 = costs_on (size + 1) count each d0 d1 d2 made (costs_changes count each d1 d2 c.write_buffered.ensures.lasts c.write_buffered.ensures.costs) in
+    let all : Costs (count + size + 1) each 0 d0 d2 = costs_more (size + 1 + count) (count + size + 1) each d0 d2 (omega arith) wrote in
+    all
+
+pub returns-in_err-retire-in-Suspect-clause-costs : goal.returns-in_err-retire-in-Suspect-clause-costs
+returns-in_err-retire-in-Suspect-clause-costs g c =
+    let d0 : Device = g.N.Nand.state c.args.device.now in
+    let d1 : Device = g.N.Nand.state c.make_room.new.device in
+    let pages : List FreshPage = buffered c.args.buffer.now in
+    let count : ℕ = length pages in
+    let size : ℕ = d0.geometry.pages in
+    let each : ℕ = 3 * size + 3 in
+    let room = c.make_room.ensures in
+    let made : Costs (size + 1) each 0 d0 d1 = costs_each (size + 1) (size + 2) each d0 d1 (omega arith) room.moves.1.lasts room.costs in
+    let t1 : Table = table c.make_room.new.blocks in
+    let d2 : Device = g.N.Nand.state c.write_buffered.new.device in
+    let d3 : Device = g.N.Nand.state c.retire.new.device in
+    let same : d2.geometry ≡ d0.geometry = c.write_buffered.ensures.lasts.geometry ∙ room.moves.1.lasts.geometry in
+    let retired : Costs (size + 2) (size + 2) 0 d2 d3 = subst (λ (z : Geometry). Costs (z.pages + 2) (z.pages + 2) 0 d2 d3) same c.retire.ensures.costs in
+    let after : Costs (size + 2) each 0 d2 d3 = costs_each (size + 2) (size + 2) each d2 d3 (omega arith) c.retire.ensures.moves.lasts retired in
+    let bad = c.write_buffered.ensures.bad in
+    let failed : d1.failures + 1 ≤ d2.failures = omega (arith, bad, (rw c.in-Suspect.is at c.in_ok-write_buffered.ensures).marks) in
+    let sized : t1.geometry ≡ d0.geometry = room.moves.1.ready.geometry ∙ room.moves.1.lasts.geometry in
+    let most : t1.geometry.pages ≡ size = ap (λ (z : Geometry). z.pages) sized in
+    let held : room_of t1 ≤ t1.geometry.pages = room_most t1 in
+    let many = ap length c.pages.ensures in
+    let fit : count ≤ size = omega (arith, held, most, many, c.in_ok-make_room.ensures.ends.fits) in
+    let paid : Costs 0 each 0 d0 d3 = costs_failed (size + 1) count (size + 2) each d0 d1 d2 d3 made c.write_buffered.ensures.costs failed after (omega (arith, fit)) in
+    let p = err_from_is_err_and c.from_residual-in_err-retire-in-Suspect.result c.from_residual-in_err-retire-in-Suspect.ensures.1 in
+    rw p.1 (costs_more 0 (count + size + 1) each d0 d3 (omega arith) paid)
+
+pub returns-in_err-retire-in-Failed-clause-costs : goal.returns-in_err-retire-in-Failed-clause-costs
+returns-in_err-retire-in-Failed-clause-costs g c =
+    let d0 : Device = g.N.Nand.state c.args.device.now in
+    let d1 : Device = g.N.Nand.state c.make_room.new.device in
+    let pages : List FreshPage = buffered c.args.buffer.now in
+    let count : ℕ = length pages in
+    let size : ℕ = d0.geometry.pages in
+    let each : ℕ = 3 * size + 3 in
+    let room = c.make_room.ensures in
+    let made : Costs (size + 1) each 0 d0 d1 = costs_each (size + 1) (size + 2) each d0 d1 (omega arith) room.moves.1.lasts room.costs in
+    let t1 : Table = table c.make_room.new.blocks in
+    let d2 : Device = g.N.Nand.state c.write_buffered.new.device in
+    let d3 : Device = g.N.Nand.state c.retire-in-Failed.new.device in
+    let same : d2.geometry ≡ d0.geometry = c.write_buffered.ensures.lasts.geometry ∙ room.moves.1.lasts.geometry in
+    let retired : Costs (size + 2) (size + 2) 0 d2 d3 = subst (λ (z : Geometry). Costs (z.pages + 2) (z.pages + 2) 0 d2 d3) same c.retire-in-Failed.ensures.costs in
+    let after : Costs (size + 2) each 0 d2 d3 = costs_each (size + 2) (size + 2) each d2 d3 (omega arith) c.retire-in-Failed.ensures.moves.lasts retired in
+    let bad = c.write_buffered.ensures.bad in
+    let failed : d1.failures + 1 ≤ d2.failures = omega (arith, bad, (rw c.in-Failed.is at c.in_ok-write_buffered.ensures).marks) in
+    let sized : t1.geometry ≡ d0.geometry = room.moves.1.ready.geometry ∙ room.moves.1.lasts.geometry in
+    let most : t1.geometry.pages ≡ size = ap (λ (z : Geometry). z.pages) sized in
+    let held : room_of t1 ≤ t1.geometry.pages = room_most t1 in
+    let many = ap length c.pages.ensures in
+    let fit : count ≤ size = omega (arith, held, most, many, c.in_ok-make_room.ensures.ends.fits) in
+    let paid : Costs 0 each 0 d0 d3 = costs_failed (size + 1) count (size + 2) each d0 d1 d2 d3 made c.write_buffered.ensures.costs failed after (omega (arith, fit)) in
+    let p = err_from_is_err_and c.from_residual-in_err-retire-in-Failed.result c.from_residual-in_err-retire-in-Failed.ensures.1 in
+    rw p.1 (costs_more 0 (count + size + 1) each d0 d3 (omega arith) paid)
+
+pub returns-in_ok-retire-in-Suspect-clause-costs : goal.returns-in_ok-retire-in-Suspect-clause-costs
+returns-in_ok-retire-in-Suspect-clause-costs g c =
+    let d0 : Device = g.N.Nand.state c.args.device.now in
+    let d1 : Device = g.N.Nand.state c.make_room.new.device in
+    let pages : List FreshPage = buffered c.args.buffer.now in
+    let count : ℕ = length pages in
+    let size : ℕ = d0.geometry.pages in
+    let each : ℕ = 3 * size + 3 in
+    let room = c.make_room.ensures in
+    let made : Costs (size + 1) each 0 d0 d1 = costs_each (size + 1) (size + 2) each d0 d1 (omega arith) room.moves.1.lasts room.costs in
+    let t1 : Table = table c.make_room.new.blocks in
+    let d2 : Device = g.N.Nand.state c.write_buffered.new.device in
+    let d3 : Device = g.N.Nand.state c.retire.new.device in
+    let same : d2.geometry ≡ d0.geometry = c.write_buffered.ensures.lasts.geometry ∙ room.moves.1.lasts.geometry in
+    let retired : Costs (size + 2) (size + 2) 0 d2 d3 = subst (λ (z : Geometry). Costs (z.pages + 2) (z.pages + 2) 0 d2 d3) same c.retire.ensures.costs in
+    let after : Costs (size + 2) each 0 d2 d3 = costs_each (size + 2) (size + 2) each d2 d3 (omega arith) c.retire.ensures.moves.lasts retired in
+    let bad = c.write_buffered.ensures.bad in
+    let failed : d1.failures + 1 ≤ d2.failures = omega (arith, bad, (rw c.in-Suspect.is at c.in_ok-write_buffered.ensures).marks) in
+    let sized : t1.geometry ≡ d0.geometry = room.moves.1.ready.geometry ∙ room.moves.1.lasts.geometry in
+    let most : t1.geometry.pages ≡ size = ap (λ (z : Geometry). z.pages) sized in
+    let held : room_of t1 ≤ t1.geometry.pages = room_most t1 in
+    let many = ap length c.pages.ensures in
+    let fit : count ≤ size = omega (arith, held, most, many, c.in_ok-make_room.ensures.ends.fits) in
+    let paid : Costs 0 each 0 d0 d3 = costs_failed (size + 1) count (size + 2) each d0 d1 d2 d3 made c.write_buffered.ensures.costs failed after (omega (arith, fit)) in
+    costs_more 0 (count + size + 1) each d0 d3 (omega arith) paid
+
+pub returns-in_ok-retire-in-Failed-clause-costs : goal.returns-in_ok-retire-in-Failed-clause-costs
+returns-in_ok-retire-in-Failed-clause-costs g c =
+    let d0 : Device = g.N.Nand.state c.args.device.now in
+    let d1 : Device = g.N.Nand.state c.make_room.new.device in
+    let pages : List FreshPage = buffered c.args.buffer.now in
+    let count : ℕ = length pages in
+    let size : ℕ = d0.geometry.pages in
+    let each : ℕ = 3 * size + 3 in
+    let room = c.make_room.ensures in
+    let made : Costs (size + 1) each 0 d0 d1 = costs_each (size + 1) (size + 2) each d0 d1 (omega arith) room.moves.1.lasts room.costs in
+    let t1 : Table = table c.make_room.new.blocks in
+    let d2 : Device = g.N.Nand.state c.write_buffered.new.device in
+    let d3 : Device = g.N.Nand.state c.retire-in-Failed.new.device in
+    let same : d2.geometry ≡ d0.geometry = c.write_buffered.ensures.lasts.geometry ∙ room.moves.1.lasts.geometry in
+    let retired : Costs (size + 2) (size + 2) 0 d2 d3 = subst (λ (z : Geometry). Costs (z.pages + 2) (z.pages + 2) 0 d2 d3) same c.retire-in-Failed.ensures.costs in
+    let after : Costs (size + 2) each 0 d2 d3 = costs_each (size + 2) (size + 2) each d2 d3 (omega arith) c.retire-in-Failed.ensures.moves.lasts retired in
+    let bad = c.write_buffered.ensures.bad in
+    let failed : d1.failures + 1 ≤ d2.failures = omega (arith, bad, (rw c.in-Failed.is at c.in_ok-write_buffered.ensures).marks) in
+    let sized : t1.geometry ≡ d0.geometry = room.moves.1.ready.geometry ∙ room.moves.1.lasts.geometry in
+    let most : t1.geometry.pages ≡ size = ap (λ (z : Geometry). z.pages) sized in
+    let held : room_of t1 ≤ t1.geometry.pages = room_most t1 in
+    let many = ap length c.pages.ensures in
+    let fit : count ≤ size = omega (arith, held, most, many, c.in_ok-make_room.ensures.ends.fits) in
+    let paid : Costs 0 each 0 d0 d3 = costs_failed (size + 1) count (size + 2) each d0 d1 d2 d3 made c.write_buffered.ensures.costs failed after (omega (arith, fit)) in
+    paid

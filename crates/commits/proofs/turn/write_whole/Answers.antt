@@ -1,8 +1,11 @@
-use Rattle.std.proofs.Common.{List, length, refl, ap, subst, ◌∙◌, arith}
+use Rattle.std.proofs.Common.{◌≡◌, ◌+◌, ◌*◌, List, length, refl, ap, subst, ◌∙◌, arith}
 use Rattle.std.proofs.lemmas.Result.{err_from_is_err_and}
 use Rattle.nand_model.specs.Calls.{Device}
 use Rattle.flash_tree.specs.declared.place.FreshPage.{FreshPage}
+use Rattle.nand_model.specs.declared.geometry.Geometry.{Geometry}
 use Rattle.block_state.specs.Table.{Table}
+use Rattle.bad_blocks.specs.Moving.{Costs}
+use Rattle.commits.proofs.Costing.{costs_more, costs_none, costs_on}
 use Rattle.block_state.specs.TableOf.{table}
 use Rattle.chunk_index.specs.declared.index.Index.{Index}
 use Rattle.page_buffer.specs.BufferOf.{buffered}
@@ -17,6 +20,7 @@ loop-init g c = record {
   buffers = c.requires.buffers;
   same = refl;
   marks = omega arith;
+  costs = costs_none (3 * (g.N.Nand.state c.args.device.now).geometry.pages + 3) (g.N.Nand.state c.args.device.now);
   few = c.requires.few;
   free = c.requires.free;
   room = c.requires.room;
@@ -111,8 +115,35 @@ loop-preserved g c =
       buffers = again.leaves.buffers;
       same = again.ends.0.buffered_still ∙ so_far.same;
       marks = omega (arith, so_far.marks, again.marks);
+      costs = costs_on 0 0 (3 * d0.geometry.pages + 3) d0 d e so_far.costs (subst (λ (z : Geometry). Costs 0 (3 * z.pages + 3) 0 d e) so_far.keeps.lasts.geometry again.costs);
       few = again.ends.3;
       free = again.ends.1;
       room = again.room;
       sizes = record { most = again.sizes.most ∙ so_far.sizes.most; bytes = again.sizes.bytes ∙ so_far.sizes.bytes };
     }
+
+pub returns-in_err-take_turn-clause-costs : goal.returns-in_err-take_turn-clause-costs
+returns-in_err-take_turn-clause-costs g c =
+    let d0 : Device = g.N.Nand.state c.args.device.now in
+    let d : Device = g.N.Nand.state c.loop.device in
+    let e : Device = g.N.Nand.state c.take_turn.new.device in
+    let pages : List FreshPage = buffered c.args.buffer.now in
+    let so_far = c.loop.invariant in
+    let same = so_far.keeps.lasts.geometry in
+    let many : length (buffered c.loop.buffer) ≡ length pages = ap length so_far.same in
+    let turn : Costs (length (buffered c.loop.buffer) + d0.geometry.pages + 1) (3 * d0.geometry.pages + 3) 0 d e = subst (λ (z : Geometry). Costs (length (buffered c.loop.buffer) + z.pages + 1) (3 * z.pages + 3) 0 d e) same (c.in_err-take_turn.ensures.costs) in
+    let both = costs_on 0 (length (buffered c.loop.buffer) + d0.geometry.pages + 1) (3 * d0.geometry.pages + 3) d0 d e so_far.costs turn in
+    costs_more (0 + (length (buffered c.loop.buffer) + d0.geometry.pages + 1)) (length pages + d0.geometry.pages + 1) (3 * d0.geometry.pages + 3) d0 e (omega (arith, many)) both
+
+pub returns-in-Written-clause-costs : goal.returns-in-Written-clause-costs
+returns-in-Written-clause-costs g c =
+    let d0 : Device = g.N.Nand.state c.args.device.now in
+    let d : Device = g.N.Nand.state c.loop.device in
+    let e : Device = g.N.Nand.state c.take_turn.new.device in
+    let pages : List FreshPage = buffered c.args.buffer.now in
+    let so_far = c.loop.invariant in
+    let same = so_far.keeps.lasts.geometry in
+    let many : length (buffered c.loop.buffer) ≡ length pages = ap length so_far.same in
+    let turn : Costs (length (buffered c.loop.buffer) + d0.geometry.pages + 1) (3 * d0.geometry.pages + 3) 0 d e = subst (λ (z : Geometry). Costs (length (buffered c.loop.buffer) + z.pages + 1) (3 * z.pages + 3) 0 d e) same ((rw c.in-Written.is at c.in_ok-take_turn.ensures).costs) in
+    let both = costs_on 0 (length (buffered c.loop.buffer) + d0.geometry.pages + 1) (3 * d0.geometry.pages + 3) d0 d e so_far.costs turn in
+    costs_more (0 + (length (buffered c.loop.buffer) + d0.geometry.pages + 1)) (length pages + d0.geometry.pages + 1) (3 * d0.geometry.pages + 3) d0 e (omega (arith, many)) both

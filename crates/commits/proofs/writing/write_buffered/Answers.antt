@@ -247,3 +247,27 @@ returns-then-placed-clause-ready g c =
 pub returns-else-placed-clause-ready : goal.returns-else-placed-clause-ready
 returns-else-placed-clause-ready g c =
     ready_counted (g.N.Nand.state c.write_group.new.device) (table c.write_group.new.blocks) (table c.settle.new.blocks) _ _ c.settle.ensures.counts c.in-Ok.ensures.ready
+
+pub returns-then-placed-clause-costs : goal.returns-then-placed-clause-costs
+returns-then-placed-clause-costs g c = let many = ap length c.pages-pages.ensures in omega (arith, c.in-Ok.ensures.ends.2, many)
+
+pub returns-else-placed-clause-costs : goal.returns-else-placed-clause-costs
+returns-else-placed-clause-costs g c = let many = ap length c.pages-pages.ensures in omega (arith, c.in-Ok.ensures.ends.2, many)
+
+pub returns-in-Err-Failed-clause-costs : goal.returns-in-Err-Failed-clause-costs
+returns-in-Err-Failed-clause-costs g c =
+    let w = rw c.in-Err-Failed.field-0-is at c.in-Err-Failed.ensures in
+    let many = ap length c.pages-pages.ensures in
+    omega (arith, w.ends.3, many)
+
+pub returns-in-Err-Lost-clause-costs : goal.returns-in-Err-Lost-clause-costs
+returns-in-Err-Lost-clause-costs g c =
+    let w = rw c.in-Err-Lost.field-0-is at c.in-Err-Lost.ensures in
+    let many = ap length c.pages-pages.ensures in
+    omega (arith, w.ends.1, many)
+
+pub returns-in-Err-Gone-clause-costs : goal.returns-in-Err-Gone-clause-costs
+returns-in-Err-Gone-clause-costs g c =
+    let w = rw c.in-Err-Gone.field-0-is at c.in-Err-Gone.ensures in
+    let many = ap length c.pages-pages.ensures in
+    omega (arith, w.ends.1, many)

@@ -1,0 +1,60 @@
+-- What calls in turn cost.
+use Rattle.std.proofs.Common.{◌≡◌, ◌≤◌, ℕ, ◌+◌, ◌-◌, ◌*◌, Option, Some, None, ap, ◌∙◌, arith}
+use Rattle.std.specs.Option.{option_map_or}
+use Rattle.std.proofs.Math.Nat.{mul-le-mul_right, mul-le-mul_left}
+use Rattle.nand_model.specs.Calls.{Device, Lasts}
+use Rattle.block_state.specs.Table.{Table, room}
+use Rattle.bad_blocks.specs.Moving.{Costs}
+
+-- what each failure costs more
+each_more : (k m a b : ℕ) → k ≤ m → a ≤ b → k * b + m * a ≤ m * b + k * a
+each_more k m a b few le =
+    let more : b ≡ a + (b - a) = omega (arith, le) in
+    let times : k * (b - a) ≤ m * (b - a) = mul-le-mul_right (b - a) few in
+    let left : k * b ≡ k * a + k * (b - a) = ap (λ n. k * n) more ∙ (omega arith) in
+    let right : m * b ≡ m * a + m * (b - a) = ap (λ n. m * n) more ∙ (omega arith) in
+    omega (arith, times, left, right)
+
+-- more may be counted for each failure
+pub costs_each : (n k m : ℕ) (d e : Device) → k ≤ m → Lasts d e → Costs n k 0 d e → Costs n m 0 d e
+costs_each n k m d e few lasts costs =
+    let more = each_more k m d.failures e.failures few lasts.failures in
+    let one : k * (d.failures + 0) ≡ k * d.failures = omega arith in
+    let two : m * (d.failures + 0) ≡ m * d.failures = omega arith in
+    omega (arith, costs, more, one, two)
+
+-- and more besides
+pub costs_more : (m n k : ℕ) (d e : Device) → m ≤ n → Costs m k 0 d e → Costs n k 0 d e
+costs_more m n k d e few costs = omega (arith, few, costs)
+
+pub costs_on : (m n k : ℕ) (a b c : Device) → Costs m k 0 a b → Costs n k 0 b c → Costs (m + n) k 0 a c
+costs_on m n k a b c first then =
+    let one : k * (a.failures + 0) ≡ k * a.failures = omega arith in
+    let two : k * (b.failures + 0) ≡ k * b.failures = omega arith in
+    omega (arith, first, then, one, two)
+
+pub costs_none : (k : ℕ) (d : Device) → Costs 0 k 0 d d
+costs_none k d = let one : k * (d.failures + 0) ≡ k * d.failures = omega arith in omega (arith, one)
+
+-- so many changes
+pub costs_changes : (n k : ℕ) (d e : Device) → Lasts d e → e.changes ≤ d.changes + n → Costs n k 0 d e
+costs_changes n k d e lasts few =
+    let one : k * (d.failures + 0) ≡ k * d.failures = omega arith in
+    let more : k * d.failures ≤ k * e.failures = mul-le-mul_left k lasts.failures in
+    omega (arith, few, one, more)
+
+-- a failure in the middle pays for all that is done before and after
+pub costs_failed : (m n r k : ℕ) (a b c d : Device) → Costs m k 0 a b → c.changes ≤ b.changes + n → b.failures + 1 ≤ c.failures → Costs r k 0 c d → m + n + r ≤ k → Costs 0 k 0 a d
+costs_failed m n r k a b c d first few failed then pays =
+    let one : k * (a.failures + 0) ≡ k * a.failures = omega arith in
+    let two : k * (c.failures + 0) ≡ k * c.failures = omega arith in
+    let more : k * (b.failures + 1) ≤ k * c.failures = mul-le-mul_left k failed in
+    let split : k * (b.failures + 1) ≡ k * b.failures + k = omega arith in
+    omega (arith, first, few, then, pays, one, two, more, split)
+
+-- no more pages can be written than a block has
+pub room_most : (t : Table) → room t ≤ t.geometry.pages
+room_most t = go t.open_block where
+  go : (o : Option ℕ) → option_map_or (λ b. t.geometry.pages - (t.entry b).next) o 0 ≤ t.geometry.pages
+  go None = omega arith
+  go (Some b) = omega arith

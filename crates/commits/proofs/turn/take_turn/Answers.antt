@@ -1,0 +1,644 @@
+use Rattle.std.proofs.Common.{◌≡◌, ◌<◌, ◌≤◌, ◌+◌, ◌*◌, ℕ, List, length, refl, sym, ap, subst, arith, inl, inr, ◌∙◌}
+use Rattle.std.proofs.lemmas.Result.{err_from_is_err_and}
+use Rattle.nand_model.specs.Calls.{Device}
+use Rattle.flash_tree.specs.declared.place.FreshPage.{FreshPage}
+use Rattle.block_state.specs.Kept.{bad_count}
+use Rattle.nand_model.specs.declared.geometry.Geometry.{Geometry}
+use Rattle.block_state.specs.Table.{Table, room as room_of}
+use Rattle.bad_blocks.specs.Moving.{Costs}
+use Rattle.commits.proofs.Costing.{costs_changes, costs_each, costs_failed, costs_more, costs_on, room_most}
+use Rattle.block_state.specs.TableOf.{table}
+use Rattle.chunk_index.specs.declared.index.Index.{Index}
+use Rattle.page_buffer.specs.declared.buffer.Buffer.{Buffer}
+use Rattle.page_buffer.specs.BufferOf.{buffered}
+use Rattle.bad_blocks.specs.laws.Keeping.{bad_rises}
+use Rattle.bad_blocks.specs.Standing.{HasFree}
+use Rattle.commits.specs.Keeping.{Keeps}
+use Rattle.commits.proofs.Following.{buffers_moved}
+use Rattle.commits.proofs.Turning.{keeps_moved, keeps_on, leaves_moved, leaves_kept, leaves_committed, leaves_on, commits_then, whole_after, whole_then, waiting_after, waiting_then, attempt_err}
+use Rattle.commits.proofs.turn.take_turn.Goals as goal
+
+pub returns-in_err-make_room-clause-leaves : goal.returns-in_err-make_room-clause-leaves
+returns-in_err-make_room-clause-leaves g c =
+    let d0 : Device = g.N.Nand.state c.args.device.now in
+    let d1 : Device = g.N.Nand.state c.make_room.new.device in
+    let t0 : Table = table c.args.blocks.now in
+    let t1 : Table = table c.make_room.new.blocks in
+    let x0 : Index = c.args.index.now in
+    let x1 : Index = c.make_room.new.index in
+    let pages : List FreshPage = buffered c.args.buffer.now in
+    let room = c.make_room.ensures in
+    let first : Keeps c.args.spare d0 d1 t0 t1 x0 x1 = keeps_moved c.args.spare room.moves.0 d0 d1 t0 t1 x0 x1 room.moves.1 room.stands in
+    leaves_moved c.args.spare d0 d1 t0 t1 x0 x1 pages first c.requires.buffers
+
+pub returns-then-next_group-ge-LIMIT-clause-leaves : goal.returns-then-next_group-ge-LIMIT-clause-leaves
+returns-then-next_group-ge-LIMIT-clause-leaves g c =
+    let d0 : Device = g.N.Nand.state c.args.device.now in
+    let d1 : Device = g.N.Nand.state c.make_room.new.device in
+    let t0 : Table = table c.args.blocks.now in
+    let t1 : Table = table c.make_room.new.blocks in
+    let x0 : Index = c.args.index.now in
+    let x1 : Index = c.make_room.new.index in
+    let pages : List FreshPage = buffered c.args.buffer.now in
+    let room = c.make_room.ensures in
+    let first : Keeps c.args.spare d0 d1 t0 t1 x0 x1 = keeps_moved c.args.spare room.moves.0 d0 d1 t0 t1 x0 x1 room.moves.1 room.stands in
+    leaves_moved c.args.spare d0 d1 t0 t1 x0 x1 pages first c.requires.buffers
+
+pub write_buffered-requires-clause-buffers : goal.write_buffered-requires-clause-buffers
+write_buffered-requires-clause-buffers g c =
+    let d0 : Device = g.N.Nand.state c.args.device.now in
+    let d1 : Device = g.N.Nand.state c.make_room.new.device in
+    let t0 : Table = table c.args.blocks.now in
+    let t1 : Table = table c.make_room.new.blocks in
+    let x0 : Index = c.args.index.now in
+    let x1 : Index = c.make_room.new.index in
+    let pages : List FreshPage = buffered c.args.buffer.now in
+    let room = c.make_room.ensures in
+    let first : Keeps c.args.spare d0 d1 t0 t1 x0 x1 = keeps_moved c.args.spare room.moves.0 d0 d1 t0 t1 x0 x1 room.moves.1 room.stands in
+    buffers_moved x0 x1 first.index pages c.requires.buffers
+
+pub returns-in_err-write_buffered-clause-leaves : goal.returns-in_err-write_buffered-clause-leaves
+returns-in_err-write_buffered-clause-leaves g c =
+    let d0 : Device = g.N.Nand.state c.args.device.now in
+    let d1 : Device = g.N.Nand.state c.make_room.new.device in
+    let t0 : Table = table c.args.blocks.now in
+    let t1 : Table = table c.make_room.new.blocks in
+    let x0 : Index = c.args.index.now in
+    let x1 : Index = c.make_room.new.index in
+    let pages : List FreshPage = buffered c.args.buffer.now in
+    let room = c.make_room.ensures in
+    let first : Keeps c.args.spare d0 d1 t0 t1 x0 x1 = keeps_moved c.args.spare room.moves.0 d0 d1 t0 t1 x0 x1 room.moves.1 room.stands in
+    let made = c.in_ok-make_room.ensures.ends in
+    let free : HasFree t1 c.args.spare = made.free c.requires.free in
+    let d2 : Device = g.N.Nand.state c.write_buffered.new.device in
+    let t2 : Table = table c.write_buffered.new.blocks in
+    let x2 : Index = c.write_buffered.new.index in
+    let b0 : Buffer = c.args.buffer.now in
+    let b2 : Buffer = c.write_buffered.new.buffer in
+    leaves_on c.args.spare d0 d1 d2 t0 t1 t2 x0 x1 x2 pages c.requires.stands first (buffered b2) (c.write_buffered.ensures.leaves c.args.spare room.stands free)
+
+pub returns-in_err-write_buffered-clause-ends : goal.returns-in_err-write_buffered-clause-ends
+returns-in_err-write_buffered-clause-ends g c =
+    let d0 : Device = g.N.Nand.state c.args.device.now in
+    let d1 : Device = g.N.Nand.state c.make_room.new.device in
+    let t0 : Table = table c.args.blocks.now in
+    let t1 : Table = table c.make_room.new.blocks in
+    let x0 : Index = c.args.index.now in
+    let x1 : Index = c.make_room.new.index in
+    let pages : List FreshPage = buffered c.args.buffer.now in
+    let room = c.make_room.ensures in
+    let first : Keeps c.args.spare d0 d1 t0 t1 x0 x1 = keeps_moved c.args.spare room.moves.0 d0 d1 t0 t1 x0 x1 room.moves.1 room.stands in
+    let made = c.in_ok-make_room.ensures.ends in
+    let free : HasFree t1 c.args.spare = made.free c.requires.free in
+    let d2 : Device = g.N.Nand.state c.write_buffered.new.device in
+    let t2 : Table = table c.write_buffered.new.blocks in
+    let x2 : Index = c.write_buffered.new.index in
+    let b0 : Buffer = c.args.buffer.now in
+    let b2 : Buffer = c.write_buffered.new.buffer in
+    let p = err_from_is_err_and c.from_residual-in_err-write_buffered.result c.from_residual-in_err-write_buffered.ensures.1 in
+    rw (p.1, p.2) (attempt_err (length pages) c.args.spare d1 d2 t0 t1 t2 x1 x2 b0 b2 c.in_err-write_buffered.field-0.0 (c.in_err-write_buffered.ensures.ends c.args.spare room.stands free))
+
+pub retire-requires-clause-stands : goal.retire-requires-clause-stands
+retire-requires-clause-stands g c =
+    let d0 : Device = g.N.Nand.state c.args.device.now in
+    let d1 : Device = g.N.Nand.state c.make_room.new.device in
+    let t0 : Table = table c.args.blocks.now in
+    let t1 : Table = table c.make_room.new.blocks in
+    let x0 : Index = c.args.index.now in
+    let x1 : Index = c.make_room.new.index in
+    let pages : List FreshPage = buffered c.args.buffer.now in
+    let room = c.make_room.ensures in
+    let first : Keeps c.args.spare d0 d1 t0 t1 x0 x1 = keeps_moved c.args.spare room.moves.0 d0 d1 t0 t1 x0 x1 room.moves.1 room.stands in
+    let made = c.in_ok-make_room.ensures.ends in
+    let free : HasFree t1 c.args.spare = made.free c.requires.free in
+    let d2 : Device = g.N.Nand.state c.write_buffered.new.device in
+    let t2 : Table = table c.write_buffered.new.blocks in
+    let x2 : Index = c.write_buffered.new.index in
+    let b0 : Buffer = c.args.buffer.now in
+    let b2 : Buffer = c.write_buffered.new.buffer in
+    let done = (rw c.in-Suspect.is at c.in_ok-write_buffered.ensures).ends c.args.spare room.stands free in
+    let whole = whole_after c.args.spare d0 d1 d2 t0 t1 t2 x0 x1 x2 b0 b0 b2 c.requires.stands first refl done.0 in
+    done.0.commits.stands
+
+pub retire-requires-clause-few : goal.retire-requires-clause-few
+retire-requires-clause-few g c =
+    let d0 : Device = g.N.Nand.state c.args.device.now in
+    let d1 : Device = g.N.Nand.state c.make_room.new.device in
+    let t0 : Table = table c.args.blocks.now in
+    let t1 : Table = table c.make_room.new.blocks in
+    let x0 : Index = c.args.index.now in
+    let x1 : Index = c.make_room.new.index in
+    let pages : List FreshPage = buffered c.args.buffer.now in
+    let room = c.make_room.ensures in
+    let first : Keeps c.args.spare d0 d1 t0 t1 x0 x1 = keeps_moved c.args.spare room.moves.0 d0 d1 t0 t1 x0 x1 room.moves.1 room.stands in
+    let made = c.in_ok-make_room.ensures.ends in
+    let free : HasFree t1 c.args.spare = made.free c.requires.free in
+    let d2 : Device = g.N.Nand.state c.write_buffered.new.device in
+    let t2 : Table = table c.write_buffered.new.blocks in
+    let x2 : Index = c.write_buffered.new.index in
+    let b0 : Buffer = c.args.buffer.now in
+    let b2 : Buffer = c.write_buffered.new.buffer in
+    let same = c.write_buffered.ensures.bad in
+    omega (arith, same, made.few)
+
+pub retire-requires-clause-block : goal.retire-requires-clause-block
+retire-requires-clause-block g c =
+    let d0 : Device = g.N.Nand.state c.args.device.now in
+    let d1 : Device = g.N.Nand.state c.make_room.new.device in
+    let t0 : Table = table c.args.blocks.now in
+    let t1 : Table = table c.make_room.new.blocks in
+    let x0 : Index = c.args.index.now in
+    let x1 : Index = c.make_room.new.index in
+    let pages : List FreshPage = buffered c.args.buffer.now in
+    let room = c.make_room.ensures in
+    let first : Keeps c.args.spare d0 d1 t0 t1 x0 x1 = keeps_moved c.args.spare room.moves.0 d0 d1 t0 t1 x0 x1 room.moves.1 room.stands in
+    let made = c.in_ok-make_room.ensures.ends in
+    let free : HasFree t1 c.args.spare = made.free c.requires.free in
+    let d2 : Device = g.N.Nand.state c.write_buffered.new.device in
+    let t2 : Table = table c.write_buffered.new.blocks in
+    let x2 : Index = c.write_buffered.new.index in
+    let b0 : Buffer = c.args.buffer.now in
+    let b2 : Buffer = c.write_buffered.new.buffer in
+    let done = (rw c.in-Suspect.is at c.in_ok-write_buffered.ensures).ends c.args.spare room.stands free in
+    let whole = whole_after c.args.spare d0 d1 d2 t0 t1 t2 x0 x1 x2 b0 b0 b2 c.requires.stands first refl done.0 in
+    done.1.within
+
+pub retire-requires-clause-good : goal.retire-requires-clause-good
+retire-requires-clause-good g c =
+    let d0 : Device = g.N.Nand.state c.args.device.now in
+    let d1 : Device = g.N.Nand.state c.make_room.new.device in
+    let t0 : Table = table c.args.blocks.now in
+    let t1 : Table = table c.make_room.new.blocks in
+    let x0 : Index = c.args.index.now in
+    let x1 : Index = c.make_room.new.index in
+    let pages : List FreshPage = buffered c.args.buffer.now in
+    let room = c.make_room.ensures in
+    let first : Keeps c.args.spare d0 d1 t0 t1 x0 x1 = keeps_moved c.args.spare room.moves.0 d0 d1 t0 t1 x0 x1 room.moves.1 room.stands in
+    let made = c.in_ok-make_room.ensures.ends in
+    let free : HasFree t1 c.args.spare = made.free c.requires.free in
+    let d2 : Device = g.N.Nand.state c.write_buffered.new.device in
+    let t2 : Table = table c.write_buffered.new.blocks in
+    let x2 : Index = c.write_buffered.new.index in
+    let b0 : Buffer = c.args.buffer.now in
+    let b2 : Buffer = c.write_buffered.new.buffer in
+    let done = (rw c.in-Suspect.is at c.in_ok-write_buffered.ensures).ends c.args.spare room.stands free in
+    let whole = whole_after c.args.spare d0 d1 d2 t0 t1 t2 x0 x1 x2 b0 b0 b2 c.requires.stands first refl done.0 in
+    done.1.good
+
+pub retire-requires-in-Failed-clause-stands : goal.retire-requires-in-Failed-clause-stands
+retire-requires-in-Failed-clause-stands g c =
+    let d0 : Device = g.N.Nand.state c.args.device.now in
+    let d1 : Device = g.N.Nand.state c.make_room.new.device in
+    let t0 : Table = table c.args.blocks.now in
+    let t1 : Table = table c.make_room.new.blocks in
+    let x0 : Index = c.args.index.now in
+    let x1 : Index = c.make_room.new.index in
+    let pages : List FreshPage = buffered c.args.buffer.now in
+    let room = c.make_room.ensures in
+    let first : Keeps c.args.spare d0 d1 t0 t1 x0 x1 = keeps_moved c.args.spare room.moves.0 d0 d1 t0 t1 x0 x1 room.moves.1 room.stands in
+    let made = c.in_ok-make_room.ensures.ends in
+    let free : HasFree t1 c.args.spare = made.free c.requires.free in
+    let d2 : Device = g.N.Nand.state c.write_buffered.new.device in
+    let t2 : Table = table c.write_buffered.new.blocks in
+    let x2 : Index = c.write_buffered.new.index in
+    let b0 : Buffer = c.args.buffer.now in
+    let b2 : Buffer = c.write_buffered.new.buffer in
+    let failed = (rw c.in-Failed.is at c.in_ok-write_buffered.ensures).ends c.args.spare room.stands free in
+    let waits = waiting_after c.args.spare d0 d1 d2 t0 t1 t2 x0 x1 x2 b0 b2 first failed.0 in
+    failed.0.keeps.stands
+
+pub retire-requires-in-Failed-clause-few : goal.retire-requires-in-Failed-clause-few
+retire-requires-in-Failed-clause-few g c =
+    let d0 : Device = g.N.Nand.state c.args.device.now in
+    let d1 : Device = g.N.Nand.state c.make_room.new.device in
+    let t0 : Table = table c.args.blocks.now in
+    let t1 : Table = table c.make_room.new.blocks in
+    let x0 : Index = c.args.index.now in
+    let x1 : Index = c.make_room.new.index in
+    let pages : List FreshPage = buffered c.args.buffer.now in
+    let room = c.make_room.ensures in
+    let first : Keeps c.args.spare d0 d1 t0 t1 x0 x1 = keeps_moved c.args.spare room.moves.0 d0 d1 t0 t1 x0 x1 room.moves.1 room.stands in
+    let made = c.in_ok-make_room.ensures.ends in
+    let free : HasFree t1 c.args.spare = made.free c.requires.free in
+    let d2 : Device = g.N.Nand.state c.write_buffered.new.device in
+    let t2 : Table = table c.write_buffered.new.blocks in
+    let x2 : Index = c.write_buffered.new.index in
+    let b0 : Buffer = c.args.buffer.now in
+    let b2 : Buffer = c.write_buffered.new.buffer in
+    let same = c.write_buffered.ensures.bad in
+    omega (arith, same, made.few)
+
+pub retire-requires-in-Failed-clause-block : goal.retire-requires-in-Failed-clause-block
+retire-requires-in-Failed-clause-block g c =
+    let d0 : Device = g.N.Nand.state c.args.device.now in
+    let d1 : Device = g.N.Nand.state c.make_room.new.device in
+    let t0 : Table = table c.args.blocks.now in
+    let t1 : Table = table c.make_room.new.blocks in
+    let x0 : Index = c.args.index.now in
+    let x1 : Index = c.make_room.new.index in
+    let pages : List FreshPage = buffered c.args.buffer.now in
+    let room = c.make_room.ensures in
+    let first : Keeps c.args.spare d0 d1 t0 t1 x0 x1 = keeps_moved c.args.spare room.moves.0 d0 d1 t0 t1 x0 x1 room.moves.1 room.stands in
+    let made = c.in_ok-make_room.ensures.ends in
+    let free : HasFree t1 c.args.spare = made.free c.requires.free in
+    let d2 : Device = g.N.Nand.state c.write_buffered.new.device in
+    let t2 : Table = table c.write_buffered.new.blocks in
+    let x2 : Index = c.write_buffered.new.index in
+    let b0 : Buffer = c.args.buffer.now in
+    let b2 : Buffer = c.write_buffered.new.buffer in
+    let failed = (rw c.in-Failed.is at c.in_ok-write_buffered.ensures).ends c.args.spare room.stands free in
+    let waits = waiting_after c.args.spare d0 d1 d2 t0 t1 t2 x0 x1 x2 b0 b2 first failed.0 in
+    failed.1.within
+
+pub retire-requires-in-Failed-clause-good : goal.retire-requires-in-Failed-clause-good
+retire-requires-in-Failed-clause-good g c =
+    let d0 : Device = g.N.Nand.state c.args.device.now in
+    let d1 : Device = g.N.Nand.state c.make_room.new.device in
+    let t0 : Table = table c.args.blocks.now in
+    let t1 : Table = table c.make_room.new.blocks in
+    let x0 : Index = c.args.index.now in
+    let x1 : Index = c.make_room.new.index in
+    let pages : List FreshPage = buffered c.args.buffer.now in
+    let room = c.make_room.ensures in
+    let first : Keeps c.args.spare d0 d1 t0 t1 x0 x1 = keeps_moved c.args.spare room.moves.0 d0 d1 t0 t1 x0 x1 room.moves.1 room.stands in
+    let made = c.in_ok-make_room.ensures.ends in
+    let free : HasFree t1 c.args.spare = made.free c.requires.free in
+    let d2 : Device = g.N.Nand.state c.write_buffered.new.device in
+    let t2 : Table = table c.write_buffered.new.blocks in
+    let x2 : Index = c.write_buffered.new.index in
+    let b0 : Buffer = c.args.buffer.now in
+    let b2 : Buffer = c.write_buffered.new.buffer in
+    let failed = (rw c.in-Failed.is at c.in_ok-write_buffered.ensures).ends c.args.spare room.stands free in
+    let waits = waiting_after c.args.spare d0 d1 d2 t0 t1 t2 x0 x1 x2 b0 b2 first failed.0 in
+    failed.1.good
+
+pub returns-in_err-retire-in-Suspect-clause-leaves : goal.returns-in_err-retire-in-Suspect-clause-leaves
+returns-in_err-retire-in-Suspect-clause-leaves g c =
+    let d0 : Device = g.N.Nand.state c.args.device.now in
+    let d1 : Device = g.N.Nand.state c.make_room.new.device in
+    let t0 : Table = table c.args.blocks.now in
+    let t1 : Table = table c.make_room.new.blocks in
+    let x0 : Index = c.args.index.now in
+    let x1 : Index = c.make_room.new.index in
+    let pages : List FreshPage = buffered c.args.buffer.now in
+    let room = c.make_room.ensures in
+    let first : Keeps c.args.spare d0 d1 t0 t1 x0 x1 = keeps_moved c.args.spare room.moves.0 d0 d1 t0 t1 x0 x1 room.moves.1 room.stands in
+    let made = c.in_ok-make_room.ensures.ends in
+    let free : HasFree t1 c.args.spare = made.free c.requires.free in
+    let d2 : Device = g.N.Nand.state c.write_buffered.new.device in
+    let t2 : Table = table c.write_buffered.new.blocks in
+    let x2 : Index = c.write_buffered.new.index in
+    let b0 : Buffer = c.args.buffer.now in
+    let b2 : Buffer = c.write_buffered.new.buffer in
+    let done = (rw c.in-Suspect.is at c.in_ok-write_buffered.ensures).ends c.args.spare room.stands free in
+    let whole = whole_after c.args.spare d0 d1 d2 t0 t1 t2 x0 x1 x2 b0 b0 b2 c.requires.stands first refl done.0 in
+    let d3 : Device = g.N.Nand.state c.retire.new.device in
+    let t3 : Table = table c.retire.new.blocks in
+    let x3 : Index = c.retire.new.index in
+    let then : Keeps c.args.spare d2 d3 t2 t3 x2 x3 = keeps_moved c.args.spare c.in-Suspect.block d2 d3 t2 t3 x2 x3 c.retire.ensures.moves c.retire.ensures.stands in
+    leaves_committed c.args.spare d0 d3 t0 t3 x0 x3 pages (buffered b2) (commits_then c.args.spare d0 d2 d3 t0 t2 t3 x0 x2 x3 pages whole.commits then) whole.out.empty
+
+pub returns-in_err-retire-in-Failed-clause-leaves : goal.returns-in_err-retire-in-Failed-clause-leaves
+returns-in_err-retire-in-Failed-clause-leaves g c =
+    let d0 : Device = g.N.Nand.state c.args.device.now in
+    let d1 : Device = g.N.Nand.state c.make_room.new.device in
+    let t0 : Table = table c.args.blocks.now in
+    let t1 : Table = table c.make_room.new.blocks in
+    let x0 : Index = c.args.index.now in
+    let x1 : Index = c.make_room.new.index in
+    let pages : List FreshPage = buffered c.args.buffer.now in
+    let room = c.make_room.ensures in
+    let first : Keeps c.args.spare d0 d1 t0 t1 x0 x1 = keeps_moved c.args.spare room.moves.0 d0 d1 t0 t1 x0 x1 room.moves.1 room.stands in
+    let made = c.in_ok-make_room.ensures.ends in
+    let free : HasFree t1 c.args.spare = made.free c.requires.free in
+    let d2 : Device = g.N.Nand.state c.write_buffered.new.device in
+    let t2 : Table = table c.write_buffered.new.blocks in
+    let x2 : Index = c.write_buffered.new.index in
+    let b0 : Buffer = c.args.buffer.now in
+    let b2 : Buffer = c.write_buffered.new.buffer in
+    let failed = (rw c.in-Failed.is at c.in_ok-write_buffered.ensures).ends c.args.spare room.stands free in
+    let waits = waiting_after c.args.spare d0 d1 d2 t0 t1 t2 x0 x1 x2 b0 b2 first failed.0 in
+    let d3 : Device = g.N.Nand.state c.retire-in-Failed.new.device in
+    let t3 : Table = table c.retire-in-Failed.new.blocks in
+    let x3 : Index = c.retire-in-Failed.new.index in
+    let then : Keeps c.args.spare d2 d3 t2 t3 x2 x3 = keeps_moved c.args.spare c.in-Failed.block d2 d3 t2 t3 x2 x3 c.retire-in-Failed.ensures.moves c.retire-in-Failed.ensures.stands in
+    let after = (c.write_buffered.ensures.leaves c.args.spare room.stands free).buffers in
+    leaves_kept c.args.spare d0 d3 t0 t3 x0 x3 pages (buffered b2) (keeps_on c.args.spare d0 d2 d3 t0 t2 t3 x0 x2 x3 waits.keeps then) waits.buffered_still (buffers_moved x2 x3 then.index (buffered b2) after)
+
+pub returns-in_ok-retire-in-Suspect-clause-leaves : goal.returns-in_ok-retire-in-Suspect-clause-leaves
+returns-in_ok-retire-in-Suspect-clause-leaves g c =
+    let d0 : Device = g.N.Nand.state c.args.device.now in
+    let d1 : Device = g.N.Nand.state c.make_room.new.device in
+    let t0 : Table = table c.args.blocks.now in
+    let t1 : Table = table c.make_room.new.blocks in
+    let x0 : Index = c.args.index.now in
+    let x1 : Index = c.make_room.new.index in
+    let pages : List FreshPage = buffered c.args.buffer.now in
+    let room = c.make_room.ensures in
+    let first : Keeps c.args.spare d0 d1 t0 t1 x0 x1 = keeps_moved c.args.spare room.moves.0 d0 d1 t0 t1 x0 x1 room.moves.1 room.stands in
+    let made = c.in_ok-make_room.ensures.ends in
+    let free : HasFree t1 c.args.spare = made.free c.requires.free in
+    let d2 : Device = g.N.Nand.state c.write_buffered.new.device in
+    let t2 : Table = table c.write_buffered.new.blocks in
+    let x2 : Index = c.write_buffered.new.index in
+    let b0 : Buffer = c.args.buffer.now in
+    let b2 : Buffer = c.write_buffered.new.buffer in
+    let done = (rw c.in-Suspect.is at c.in_ok-write_buffered.ensures).ends c.args.spare room.stands free in
+    let whole = whole_after c.args.spare d0 d1 d2 t0 t1 t2 x0 x1 x2 b0 b0 b2 c.requires.stands first refl done.0 in
+    let d3 : Device = g.N.Nand.state c.retire.new.device in
+    let t3 : Table = table c.retire.new.blocks in
+    let x3 : Index = c.retire.new.index in
+    let then : Keeps c.args.spare d2 d3 t2 t3 x2 x3 = keeps_moved c.args.spare c.in-Suspect.block d2 d3 t2 t3 x2 x3 c.retire.ensures.moves c.retire.ensures.stands in
+    leaves_committed c.args.spare d0 d3 t0 t3 x0 x3 pages (buffered b2) (commits_then c.args.spare d0 d2 d3 t0 t2 t3 x0 x2 x3 pages whole.commits then) whole.out.empty
+
+pub returns-in_ok-retire-in-Failed-clause-leaves : goal.returns-in_ok-retire-in-Failed-clause-leaves
+returns-in_ok-retire-in-Failed-clause-leaves g c =
+    let d0 : Device = g.N.Nand.state c.args.device.now in
+    let d1 : Device = g.N.Nand.state c.make_room.new.device in
+    let t0 : Table = table c.args.blocks.now in
+    let t1 : Table = table c.make_room.new.blocks in
+    let x0 : Index = c.args.index.now in
+    let x1 : Index = c.make_room.new.index in
+    let pages : List FreshPage = buffered c.args.buffer.now in
+    let room = c.make_room.ensures in
+    let first : Keeps c.args.spare d0 d1 t0 t1 x0 x1 = keeps_moved c.args.spare room.moves.0 d0 d1 t0 t1 x0 x1 room.moves.1 room.stands in
+    let made = c.in_ok-make_room.ensures.ends in
+    let free : HasFree t1 c.args.spare = made.free c.requires.free in
+    let d2 : Device = g.N.Nand.state c.write_buffered.new.device in
+    let t2 : Table = table c.write_buffered.new.blocks in
+    let x2 : Index = c.write_buffered.new.index in
+    let b0 : Buffer = c.args.buffer.now in
+    let b2 : Buffer = c.write_buffered.new.buffer in
+    let failed = (rw c.in-Failed.is at c.in_ok-write_buffered.ensures).ends c.args.spare room.stands free in
+    let waits = waiting_after c.args.spare d0 d1 d2 t0 t1 t2 x0 x1 x2 b0 b2 first failed.0 in
+    let d3 : Device = g.N.Nand.state c.retire-in-Failed.new.device in
+    let t3 : Table = table c.retire-in-Failed.new.blocks in
+    let x3 : Index = c.retire-in-Failed.new.index in
+    let then : Keeps c.args.spare d2 d3 t2 t3 x2 x3 = keeps_moved c.args.spare c.in-Failed.block d2 d3 t2 t3 x2 x3 c.retire-in-Failed.ensures.moves c.retire-in-Failed.ensures.stands in
+    let after = (c.write_buffered.ensures.leaves c.args.spare room.stands free).buffers in
+    leaves_kept c.args.spare d0 d3 t0 t3 x0 x3 pages (buffered b2) (keeps_on c.args.spare d0 d2 d3 t0 t2 t3 x0 x2 x3 waits.keeps then) waits.buffered_still (buffers_moved x2 x3 then.index (buffered b2) after)
+
+pub returns-in-Trusted-clause-leaves : goal.returns-in-Trusted-clause-leaves
+returns-in-Trusted-clause-leaves g c =
+    let d0 : Device = g.N.Nand.state c.args.device.now in
+    let d1 : Device = g.N.Nand.state c.make_room.new.device in
+    let t0 : Table = table c.args.blocks.now in
+    let t1 : Table = table c.make_room.new.blocks in
+    let x0 : Index = c.args.index.now in
+    let x1 : Index = c.make_room.new.index in
+    let pages : List FreshPage = buffered c.args.buffer.now in
+    let room = c.make_room.ensures in
+    let first : Keeps c.args.spare d0 d1 t0 t1 x0 x1 = keeps_moved c.args.spare room.moves.0 d0 d1 t0 t1 x0 x1 room.moves.1 room.stands in
+    let made = c.in_ok-make_room.ensures.ends in
+    let free : HasFree t1 c.args.spare = made.free c.requires.free in
+    let d2 : Device = g.N.Nand.state c.write_buffered.new.device in
+    let t2 : Table = table c.write_buffered.new.blocks in
+    let x2 : Index = c.write_buffered.new.index in
+    let b0 : Buffer = c.args.buffer.now in
+    let b2 : Buffer = c.write_buffered.new.buffer in
+    leaves_on c.args.spare d0 d1 d2 t0 t1 t2 x0 x1 x2 pages c.requires.stands first (buffered b2) (c.write_buffered.ensures.leaves c.args.spare room.stands free)
+
+pub returns-in-Trusted-clause-ends : goal.returns-in-Trusted-clause-ends
+returns-in-Trusted-clause-ends g c =
+    let d0 : Device = g.N.Nand.state c.args.device.now in
+    let d1 : Device = g.N.Nand.state c.make_room.new.device in
+    let t0 : Table = table c.args.blocks.now in
+    let t1 : Table = table c.make_room.new.blocks in
+    let x0 : Index = c.args.index.now in
+    let x1 : Index = c.make_room.new.index in
+    let pages : List FreshPage = buffered c.args.buffer.now in
+    let room = c.make_room.ensures in
+    let first : Keeps c.args.spare d0 d1 t0 t1 x0 x1 = keeps_moved c.args.spare room.moves.0 d0 d1 t0 t1 x0 x1 room.moves.1 room.stands in
+    let made = c.in_ok-make_room.ensures.ends in
+    let free : HasFree t1 c.args.spare = made.free c.requires.free in
+    let d2 : Device = g.N.Nand.state c.write_buffered.new.device in
+    let t2 : Table = table c.write_buffered.new.blocks in
+    let x2 : Index = c.write_buffered.new.index in
+    let b0 : Buffer = c.args.buffer.now in
+    let b2 : Buffer = c.write_buffered.new.buffer in
+    let done = (rw c.in-Trusted.is at c.in_ok-write_buffered.ensures).ends c.args.spare room.stands free in
+    let same = c.write_buffered.ensures.bad in
+    (whole_after c.args.spare d0 d1 d2 t0 t1 t2 x0 x1 x2 b0 b0 b2 c.requires.stands first refl done.0, omega (arith, same, made.few), record { device = d1; table = t1; index = x1; before = first; answered = inl done.1 })
+
+pub returns-in_ok-retire-in-Suspect-clause-ends : goal.returns-in_ok-retire-in-Suspect-clause-ends
+returns-in_ok-retire-in-Suspect-clause-ends g c =
+    let d0 : Device = g.N.Nand.state c.args.device.now in
+    let d1 : Device = g.N.Nand.state c.make_room.new.device in
+    let t0 : Table = table c.args.blocks.now in
+    let t1 : Table = table c.make_room.new.blocks in
+    let x0 : Index = c.args.index.now in
+    let x1 : Index = c.make_room.new.index in
+    let pages : List FreshPage = buffered c.args.buffer.now in
+    let room = c.make_room.ensures in
+    let first : Keeps c.args.spare d0 d1 t0 t1 x0 x1 = keeps_moved c.args.spare room.moves.0 d0 d1 t0 t1 x0 x1 room.moves.1 room.stands in
+    let made = c.in_ok-make_room.ensures.ends in
+    let free : HasFree t1 c.args.spare = made.free c.requires.free in
+    let d2 : Device = g.N.Nand.state c.write_buffered.new.device in
+    let t2 : Table = table c.write_buffered.new.blocks in
+    let x2 : Index = c.write_buffered.new.index in
+    let b0 : Buffer = c.args.buffer.now in
+    let b2 : Buffer = c.write_buffered.new.buffer in
+    let done = (rw c.in-Suspect.is at c.in_ok-write_buffered.ensures).ends c.args.spare room.stands free in
+    let whole = whole_after c.args.spare d0 d1 d2 t0 t1 t2 x0 x1 x2 b0 b0 b2 c.requires.stands first refl done.0 in
+    let d3 : Device = g.N.Nand.state c.retire.new.device in
+    let t3 : Table = table c.retire.new.blocks in
+    let x3 : Index = c.retire.new.index in
+    let then : Keeps c.args.spare d2 d3 t2 t3 x2 x3 = keeps_moved c.args.spare c.in-Suspect.block d2 d3 t2 t3 x2 x3 c.retire.ensures.moves c.retire.ensures.stands in
+    let retired = c.in_ok-retire-in-Suspect.ensures.ends in
+    let same = c.write_buffered.ensures.bad in
+    let more : bad_count t1 < bad_count t3 = omega (arith, same, retired.0.more) in (
+      whole_then c.args.spare d0 d2 d3 t0 t2 t3 x0 x2 x3 b0 b2 whole then retired.0.free retired.1,
+      retired.0.few,
+      record { device = d1; table = t1; index = x1; before = first; answered = inr more },
+    )
+
+pub returns-in_ok-retire-in-Failed-clause-ends : goal.returns-in_ok-retire-in-Failed-clause-ends
+returns-in_ok-retire-in-Failed-clause-ends g c =
+    let d0 : Device = g.N.Nand.state c.args.device.now in
+    let d1 : Device = g.N.Nand.state c.make_room.new.device in
+    let t0 : Table = table c.args.blocks.now in
+    let t1 : Table = table c.make_room.new.blocks in
+    let x0 : Index = c.args.index.now in
+    let x1 : Index = c.make_room.new.index in
+    let pages : List FreshPage = buffered c.args.buffer.now in
+    let room = c.make_room.ensures in
+    let first : Keeps c.args.spare d0 d1 t0 t1 x0 x1 = keeps_moved c.args.spare room.moves.0 d0 d1 t0 t1 x0 x1 room.moves.1 room.stands in
+    let made = c.in_ok-make_room.ensures.ends in
+    let free : HasFree t1 c.args.spare = made.free c.requires.free in
+    let d2 : Device = g.N.Nand.state c.write_buffered.new.device in
+    let t2 : Table = table c.write_buffered.new.blocks in
+    let x2 : Index = c.write_buffered.new.index in
+    let b0 : Buffer = c.args.buffer.now in
+    let b2 : Buffer = c.write_buffered.new.buffer in
+    let failed = (rw c.in-Failed.is at c.in_ok-write_buffered.ensures).ends c.args.spare room.stands free in
+    let waits = waiting_after c.args.spare d0 d1 d2 t0 t1 t2 x0 x1 x2 b0 b2 first failed.0 in
+    let d3 : Device = g.N.Nand.state c.retire-in-Failed.new.device in
+    let t3 : Table = table c.retire-in-Failed.new.blocks in
+    let x3 : Index = c.retire-in-Failed.new.index in
+    let then : Keeps c.args.spare d2 d3 t2 t3 x2 x3 = keeps_moved c.args.spare c.in-Failed.block d2 d3 t2 t3 x2 x3 c.retire-in-Failed.ensures.moves c.retire-in-Failed.ensures.stands in
+    let retired = c.in_ok-retire-in-Failed.ensures.ends in
+    let same = c.write_buffered.ensures.bad in
+    let rises : bad_count t0 ≤ bad_count t1 = bad_rises t0 t1 room.moves.1.geometry room.moves.1.marks in
+    (waiting_then c.args.spare d0 d2 d3 t0 t2 t3 x0 x2 x3 b0 b2 waits then retired.1, retired.0.free, omega (arith, same, rises, retired.0.more), retired.0.few)
+
+pub returns-in_err-make_room-clause-costs : goal.returns-in_err-make_room-clause-costs
+returns-in_err-make_room-clause-costs g c =
+    let d0 : Device = g.N.Nand.state c.args.device.now in
+    let d1 : Device = g.N.Nand.state c.make_room.new.device in
+    let pages : List FreshPage = buffered c.args.buffer.now in
+    let count : ℕ = length pages in
+    let size : ℕ = d0.geometry.pages in
+    let each : ℕ = 3 * size + 3 in
+    let room = c.make_room.ensures in
+    let made : Costs (size + 1) each 0 d0 d1 = costs_each (size + 1) (size + 2) each d0 d1 (omega arith) room.moves.1.lasts room.costs in
+    let p = err_from_is_err_and c.from_residual.result c.from_residual.ensures.1 in
+    rw p.1 (costs_more (size + 1) (count + size + 1) each d0 d1 (omega arith) made)
+
+pub returns-then-next_group-ge-LIMIT-clause-costs : goal.returns-then-next_group-ge-LIMIT-clause-costs
+returns-then-next_group-ge-LIMIT-clause-costs g c =
+    let d0 : Device = g.N.Nand.state c.args.device.now in
+    let d1 : Device = g.N.Nand.state c.make_room.new.device in
+    let pages : List FreshPage = buffered c.args.buffer.now in
+    let count : ℕ = length pages in
+    let size : ℕ = d0.geometry.pages in
+    let each : ℕ = 3 * size + 3 in
+    let room = c.make_room.ensures in
+    let made : Costs (size + 1) each 0 d0 d1 = costs_each (size + 1) (size + 2) each d0 d1 (omega arith) room.moves.1.lasts room.costs in
+    costs_more (size + 1) (count + size + 1) each d0 d1 (omega arith) made
+
+pub returns-in_err-write_buffered-clause-costs : goal.returns-in_err-write_buffered-clause-costs
+returns-in_err-write_buffered-clause-costs g c =
+    let d0 : Device = g.N.Nand.state c.args.device.now in
+    let d1 : Device = g.N.Nand.state c.make_room.new.device in
+    let pages : List FreshPage = buffered c.args.buffer.now in
+    let count : ℕ = length pages in
+    let size : ℕ = d0.geometry.pages in
+    let each : ℕ = 3 * size + 3 in
+    let room = c.make_room.ensures in
+    let made : Costs (size + 1) each 0 d0 d1 = costs_each (size + 1) (size + 2) each d0 d1 (omega arith) room.moves.1.lasts room.costs in
+    let d2 : Device = g.N.Nand.state c.write_buffered.new.device in
+    let wrote : Costs (size + 1 + count) each 0 d0 d2 = costs_on (size + 1) count each d0 d1 d2 made (costs_changes count each d1 d2 c.write_buffered.ensures.lasts c.write_buffered.ensures.costs) in
+    let all : Costs (count + size + 1) each 0 d0 d2 = costs_more (size + 1 + count) (count + size + 1) each d0 d2 (omega arith) wrote in
+    let p = err_from_is_err_and c.from_residual-in_err-write_buffered.result c.from_residual-in_err-write_buffered.ensures.1 in
+    rw p.1 all
+
+pub returns-in-Trusted-clause-costs : goal.returns-in-Trusted-clause-costs
+returns-in-Trusted-clause-costs g c =
+    let d0 : Device = g.N.Nand.state c.args.device.now in
+    let d1 : Device = g.N.Nand.state c.make_room.new.device in
+    let pages : List FreshPage = buffered c.args.buffer.now in
+    let count : ℕ = length pages in
+    let size : ℕ = d0.geometry.pages in
+    let each : ℕ = 3 * size + 3 in
+    let room = c.make_room.ensures in
+    let made : Costs (size + 1) each 0 d0 d1 = costs_each (size + 1) (size + 2) each d0 d1 (omega arith) room.moves.1.lasts room.costs in
+    let d2 : Device = g.N.Nand.state c.write_buffered.new.device in
+    let wrote : Costs (size + 1 + count) each 0 d0 d2 = costs_on (size + 1) count each d0 d1 d2 made (costs_changes count each d1 d2 c.write_buffered.ensures.lasts c.write_buffered.ensures.costs) in
+    let all : Costs (count + size + 1) each 0 d0 d2 = costs_more (size + 1 + count) (count + size + 1) each d0 d2 (omega arith) wrote in
+    all
+
+pub returns-in_err-retire-in-Suspect-clause-costs : goal.returns-in_err-retire-in-Suspect-clause-costs
+returns-in_err-retire-in-Suspect-clause-costs g c =
+    let d0 : Device = g.N.Nand.state c.args.device.now in
+    let d1 : Device = g.N.Nand.state c.make_room.new.device in
+    let pages : List FreshPage = buffered c.args.buffer.now in
+    let count : ℕ = length pages in
+    let size : ℕ = d0.geometry.pages in
+    let each : ℕ = 3 * size + 3 in
+    let room = c.make_room.ensures in
+    let made : Costs (size + 1) each 0 d0 d1 = costs_each (size + 1) (size + 2) each d0 d1 (omega arith) room.moves.1.lasts room.costs in
+    let t1 : Table = table c.make_room.new.blocks in
+    let d2 : Device = g.N.Nand.state c.write_buffered.new.device in
+    let d3 : Device = g.N.Nand.state c.retire.new.device in
+    let same : d2.geometry ≡ d0.geometry = c.write_buffered.ensures.lasts.geometry ∙ room.moves.1.lasts.geometry in
+    let retired : Costs (size + 2) (size + 2) 0 d2 d3 = subst (λ (z : Geometry). Costs (z.pages + 2) (z.pages + 2) 0 d2 d3) same c.retire.ensures.costs in
+    let after : Costs (size + 2) each 0 d2 d3 = costs_each (size + 2) (size + 2) each d2 d3 (omega arith) c.retire.ensures.moves.lasts retired in
+    let bad = c.write_buffered.ensures.bad in
+    let failed : d1.failures + 1 ≤ d2.failures = omega (arith, bad, (rw c.in-Suspect.is at c.in_ok-write_buffered.ensures).marks) in
+    let sized : t1.geometry ≡ d0.geometry = room.moves.1.ready.geometry ∙ room.moves.1.lasts.geometry in
+    let most : t1.geometry.pages ≡ size = ap (λ (z : Geometry). z.pages) sized in
+    let held : room_of t1 ≤ t1.geometry.pages = room_most t1 in
+    let many = ap length c.pages.ensures in
+    let fit : count ≤ size = omega (arith, held, most, many, c.in_ok-make_room.ensures.ends.fits) in
+    let paid : Costs 0 each 0 d0 d3 = costs_failed (size + 1) count (size + 2) each d0 d1 d2 d3 made c.write_buffered.ensures.costs failed after (omega (arith, fit)) in
+    let p = err_from_is_err_and c.from_residual-in_err-retire-in-Suspect.result c.from_residual-in_err-retire-in-Suspect.ensures.1 in
+    rw p.1 (costs_more 0 (count + size + 1) each d0 d3 (omega arith) paid)
+
+pub returns-in_err-retire-in-Failed-clause-costs : goal.returns-in_err-retire-in-Failed-clause-costs
+returns-in_err-retire-in-Failed-clause-costs g c =
+    let d0 : Device = g.N.Nand.state c.args.device.now in
+    let d1 : Device = g.N.Nand.state c.make_room.new.device in
+    let pages : List FreshPage = buffered c.args.buffer.now in
+    let count : ℕ = length pages in
+    let size : ℕ = d0.geometry.pages in
+    let each : ℕ = 3 * size + 3 in
+    let room = c.make_room.ensures in
+    let made : Costs (size + 1) each 0 d0 d1 = costs_each (size + 1) (size + 2) each d0 d1 (omega arith) room.moves.1.lasts room.costs in
+    let t1 : Table = table c.make_room.new.blocks in
+    let d2 : Device = g.N.Nand.state c.write_buffered.new.device in
+    let d3 : Device = g.N.Nand.state c.retire-in-Failed.new.device in
+    let same : d2.geometry ≡ d0.geometry = c.write_buffered.ensures.lasts.geometry ∙ room.moves.1.lasts.geometry in
+    let retired : Costs (size + 2) (size + 2) 0 d2 d3 = subst (λ (z : Geometry). Costs (z.pages + 2) (z.pages + 2) 0 d2 d3) same c.retire-in-Failed.ensures.costs in
+    let after : Costs (size + 2) each 0 d2 d3 = costs_each (size + 2) (size + 2) each d2 d3 (omega arith) c.retire-in-Failed.ensures.moves.lasts retired in
+    let bad = c.write_buffered.ensures.bad in
+    let failed : d1.failures + 1 ≤ d2.failures = omega (arith, bad, (rw c.in-Failed.is at c.in_ok-write_buffered.ensures).marks) in
+    let sized : t1.geometry ≡ d0.geometry = room.moves.1.ready.geometry ∙ room.moves.1.lasts.geometry in
+    let most : t1.geometry.pages ≡ size = ap (λ (z : Geometry). z.pages) sized in
+    let held : room_of t1 ≤ t1.geometry.pages = room_most t1 in
+    let many = ap length c.pages.ensures in
+    let fit : count ≤ size = omega (arith, held, most, many, c.in_ok-make_room.ensures.ends.fits) in
+    let paid : Costs 0 each 0 d0 d3 = costs_failed (size + 1) count (size + 2) each d0 d1 d2 d3 made c.write_buffered.ensures.costs failed after (omega (arith, fit)) in
+    let p = err_from_is_err_and c.from_residual-in_err-retire-in-Failed.result c.from_residual-in_err-retire-in-Failed.ensures.1 in
+    rw p.1 (costs_more 0 (count + size + 1) each d0 d3 (omega arith) paid)
+
+pub returns-in_ok-retire-in-Suspect-clause-costs : goal.returns-in_ok-retire-in-Suspect-clause-costs
+returns-in_ok-retire-in-Suspect-clause-costs g c =
+    let d0 : Device = g.N.Nand.state c.args.device.now in
+    let d1 : Device = g.N.Nand.state c.make_room.new.device in
+    let pages : List FreshPage = buffered c.args.buffer.now in
+    let count : ℕ = length pages in
+    let size : ℕ = d0.geometry.pages in
+    let each : ℕ = 3 * size + 3 in
+    let room = c.make_room.ensures in
+    let made : Costs (size + 1) each 0 d0 d1 = costs_each (size + 1) (size + 2) each d0 d1 (omega arith) room.moves.1.lasts room.costs in
+    let t1 : Table = table c.make_room.new.blocks in
+    let d2 : Device = g.N.Nand.state c.write_buffered.new.device in
+    let d3 : Device = g.N.Nand.state c.retire.new.device in
+    let same : d2.geometry ≡ d0.geometry = c.write_buffered.ensures.lasts.geometry ∙ room.moves.1.lasts.geometry in
+    let retired : Costs (size + 2) (size + 2) 0 d2 d3 = subst (λ (z : Geometry). Costs (z.pages + 2) (z.pages + 2) 0 d2 d3) same c.retire.ensures.costs in
+    let after : Costs (size + 2) each 0 d2 d3 = costs_each (size + 2) (size + 2) each d2 d3 (omega arith) c.retire.ensures.moves.lasts retired in
+    let bad = c.write_buffered.ensures.bad in
+    let failed : d1.failures + 1 ≤ d2.failures = omega (arith, bad, (rw c.in-Suspect.is at c.in_ok-write_buffered.ensures).marks) in
+    let sized : t1.geometry ≡ d0.geometry = room.moves.1.ready.geometry ∙ room.moves.1.lasts.geometry in
+    let most : t1.geometry.pages ≡ size = ap (λ (z : Geometry). z.pages) sized in
+    let held : room_of t1 ≤ t1.geometry.pages = room_most t1 in
+    let many = ap length c.pages.ensures in
+    let fit : count ≤ size = omega (arith, held, most, many, c.in_ok-make_room.ensures.ends.fits) in
+    let paid : Costs 0 each 0 d0 d3 = costs_failed (size + 1) count (size + 2) each d0 d1 d2 d3 made c.write_buffered.ensures.costs failed after (omega (arith, fit)) in
+    costs_more 0 (count + size + 1) each d0 d3 (omega arith) paid
+
+pub returns-in_ok-retire-in-Failed-clause-costs : goal.returns-in_ok-retire-in-Failed-clause-costs
+returns-in_ok-retire-in-Failed-clause-costs g c =
+    let d0 : Device = g.N.Nand.state c.args.device.now in
+    let d1 : Device = g.N.Nand.state c.make_room.new.device in
+    let pages : List FreshPage = buffered c.args.buffer.now in
+    let count : ℕ = length pages in
+    let size : ℕ = d0.geometry.pages in
+    let each : ℕ = 3 * size + 3 in
+    let room = c.make_room.ensures in
+    let made : Costs (size + 1) each 0 d0 d1 = costs_each (size + 1) (size + 2) each d0 d1 (omega arith) room.moves.1.lasts room.costs in
+    let t1 : Table = table c.make_room.new.blocks in
+    let d2 : Device = g.N.Nand.state c.write_buffered.new.device in
+    let d3 : Device = g.N.Nand.state c.retire-in-Failed.new.device in
+    let same : d2.geometry ≡ d0.geometry = c.write_buffered.ensures.lasts.geometry ∙ room.moves.1.lasts.geometry in
+    let retired : Costs (size + 2) (size + 2) 0 d2 d3 = subst (λ (z : Geometry). Costs (z.pages + 2) (z.pages + 2) 0 d2 d3) same c.retire-in-Failed.ensures.costs in
+    let after : Costs (size + 2) each 0 d2 d3 = costs_each (size + 2) (size + 2) each d2 d3 (omega arith) c.retire-in-Failed.ensures.moves.lasts retired in
+    let bad = c.write_buffered.ensures.bad in
+    let failed : d1.failures + 1 ≤ d2.failures = omega (arith, bad, (rw c.in-Failed.is at c.in_ok-write_buffered.ensures).marks) in
+    let sized : t1.geometry ≡ d0.geometry = room.moves.1.ready.geometry ∙ room.moves.1.lasts.geometry in
+    let most : t1.geometry.pages ≡ size = ap (λ (z : Geometry). z.pages) sized in
+    let held : room_of t1 ≤ t1.geometry.pages = room_most t1 in
+    let many = ap length c.pages.ensures in
+    let fit : count ≤ size = omega (arith, held, most, many, c.in_ok-make_room.ensures.ends.fits) in
+    let paid : Costs 0 each 0 d0 d3 = costs_failed (size + 1) count (size + 2) each d0 d1 d2 d3 made c.write_buffered.ensures.costs failed after (omega (arith, fit)) in
+    paid

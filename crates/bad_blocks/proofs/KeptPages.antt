@@ -1,4 +1,4 @@
--- What becomes of kept pages and of their data.
+-- What becomes of listed pages that are copied, and of all others.
 use Rattle.std.proofs.Common.{◌≡◌, ◌⊎◌, ◌<◌, ℕ, zero, suc, ◌+◌, List, [], ◌∷◌, length, slice_get, Option, Some, refl, sym, ap, subst, ◌∙◌, arith, inl, inr}
 use Rattle.std.specs.Option.{option_map_or}
 use Rattle.std.proofs.lemmas.Bool.{cases_eq}
@@ -6,7 +6,6 @@ use Rattle.std.proofs.lemmas.Option.{slice_get_within}
 use Rattle.nand_model.specs.Flash.{Flash, Erased, Written}
 use Rattle.nand_model.specs.Calls.{bytes_of}
 use Rattle.page_tags.specs.Tags.{tag_bytes}
-use Rattle.page_tags.specs.declared.tag.Tag.{Tag}
 use Rattle.flash_tree.specs.Groups.{Group}
 use Rattle.flash_tree.specs.Keeping.{StaysNewest}
 use Rattle.flash_tree.specs.Newest.{Spot, IsNewest}
@@ -21,42 +20,10 @@ use Rattle.transactions.specs.Ready.{AreBelow}
 use Rattle.transactions.specs.Written.{tag_in}
 use Rattle.transactions.specs.declared.copies.CopyOf.{CopyOf}
 use Rattle.transactions.specs.declared.source.PageName.{PageName}
-use Rattle.bad_blocks.specs.Copying.{IsCopyOf, KeepsKeptAt, KeepsDataAt, AreKeptAt, AreCopied}
+use Rattle.bad_blocks.specs.Copying.{IsCopyOf, KeepsDataAt, AreKeptAt, AreCopied}
 use Rattle.bad_blocks.specs.Lists.{kept_by}
-use Rattle.bad_blocks.specs.Passing.{KeepsKept}
-use Rattle.bad_blocks.specs.Standing.{IsKeptAt, HasVersion}
-
--- the place of a kept page, with its tag
-abbrev pub spot_of : KeptPage → Tag → Spot
-spot_of p t = record { block = p.block; page = p.page; tag = t }
-
-module _ (old new : Flash) where
-  -- a kept page that stays the newest is kept
-  pub kept_stays : (o c : ℕ) (p : KeptPage) (at : IsKeptAt old o c p) → StaysNewest old new o c (spot_of p at.tag) → IsKeptAt new o c p
-  kept_stays o c p at stays = record { tag = at.tag; newest = stays.newest; version = at.version }
-
-  -- and whatever is its data stays so
-  pub data_stays : (o c : ℕ) (p : KeptPage) (bytes : List ℕ) (at : IsKeptAt old o c p) → HasVersion old o c p.version bytes
-      → StaysNewest old new o c (spot_of p at.tag) → HasVersion new o c p.version bytes
-  data_stays o c p bytes at has stays =
-      let same : spot_of p at.tag ≡ has.spot = one_spot old o c (spot_of p at.tag) has.spot at.newest has.newest in
-      let here : StaysNewest old new o c has.spot = subst (StaysNewest old new o c) same stays in
-      record { spot = has.spot; newest = here.newest; version_is = has.version_is; stored = here.page ∙ has.stored }
-
-  pub kept_where : (t : Table) → KeepsKept t old new → KeepsKeptAt t old new
-  kept_where t keeps o c p some at = kept_stays o c p at (keeps o c (spot_of p at.tag) at.newest some)
-
-  pub data_where : (t : Table) → KeepsKept t old new → KeepsDataAt t old new
-  data_where t keeps o c p bytes some at has = data_stays o c p bytes at has (keeps o c (spot_of p at.tag) at.newest some)
-
--- where nothing is other
-pub kept_here : (t : Table) (f : Flash) → KeepsKeptAt t f f
-kept_here t f o c p some at = at
-
-pub data_here : (t : Table) (f : Flash) → KeepsDataAt t f f
-data_here t f o c p bytes some at has = has
-
--- ---- listed copies
+use Rattle.bad_blocks.specs.Standing.{IsKeptAt}
+use Rattle.bad_blocks.specs.laws.KeptPages.{spot_of, kept_stays, data_stays}
 
 -- a key is one of those that are copied, or it is not
 pub listed_or_not : (copies : List CopyOf) (o c : ℕ) → ((i : ℕ) × (x : CopyOf) × (slice_get copies i ≡ Some x) × IsCopyOf x o c)

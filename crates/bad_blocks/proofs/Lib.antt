@@ -5,6 +5,6 @@ pub mod Writing
 pub mod Told
 pub mod Moves
 pub mod Listing
-pub mod Turns
+pub mod Marked
 pub mod Retired
 pub mod RetireTurns

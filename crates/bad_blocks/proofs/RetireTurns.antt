@@ -1,5 +1,5 @@
 -- Blocks that are retired in turn, each the block of the suspect copy of the one before.
-use Rattle.std.proofs.Common.{◌≡◌, ◌≢◌, ◌<◌, ◌≤◌, ℕ, ◌+◌, ◌*◌, true, false, Option, Some, None, Result, Ok, Err, refl, sym, ap, subst, ◌∙◌, arith, inl, inr}
+use Rattle.std.proofs.Common.{◌≡◌, ◌≢◌, ◌<◌, ◌≤◌, ℕ, ◌+◌, true, false, Option, Some, None, Result, Ok, Err, refl, sym, ap, subst, ◌∙◌, arith, inl, inr}
 use Rattle.std.proofs.lemmas.Bool.{cases_eq}
 use Rattle.nand_model.specs.Calls.{Device}
 use Rattle.nand_model.specs.declared.geometry.Geometry.{Geometry}
@@ -9,11 +9,12 @@ use Rattle.block_state.specs.laws.Kept.{free_where_closed, free_where_held}
 use Rattle.chunk_index.specs.declared.index.Index.{Index}
 use Rattle.chunk_index.specs.Kept.{HoldsNone}
 use Rattle.chunk_index.specs.Maps.{kept_pages}
-use Rattle.bad_blocks.specs.Moving.{Moves, MarksFailures, Costs}
-use Rattle.bad_blocks.specs.Retiring.{LiesIn, IsAway, IsOut, IsRetired, RetireEnds, open_failures}
+use Rattle.bad_blocks.specs.Moving.{Moves, MarksFailures, Costs, LiesIn}
+use Rattle.bad_blocks.specs.Retiring.{IsAway, IsOut, IsRetired, RetireEnds, open_failures}
 use Rattle.bad_blocks.specs.Standing.{Stands}
 use Rattle.bad_blocks.specs.declared.fault.MoveFault.{MoveFault}
-use Rattle.bad_blocks.proofs.Turns.{moves_out_on, moves_join}
+use Rattle.bad_blocks.specs.laws.Costs.{costs_join}
+use Rattle.bad_blocks.specs.laws.Turns.{moves_out_on, moves_join}
 
 -- a suspect copy is a failure without its mark
 abbrev pub open_of : Option ℕ → ℕ
@@ -32,14 +33,6 @@ pub record Retiring (spare v : ℕ) (d0 d : Device) (t0 t : Table) (x0 x : Index
   pub costs : Costs (d0.geometry.pages + 2) (d0.geometry.pages + 2) (open_of suspect) d0 d
   pub out : IsOut v spare t0 t suspect
   pub power : d.gone ≡ false
-
--- what one block costs and what those before it did
-pub costs_join : (e o : ℕ) (a b c : Device) → Costs e e 1 a b → Costs e e o b c → Costs e e o a c
-costs_join e o a b c first second =
-    let one : e * (a.failures + 1) ≡ e * a.failures + e = omega arith in
-    let two : e * (b.failures + o) ≡ e * b.failures + e * o = omega arith in
-    let all : e * (a.failures + o) ≡ e * a.failures + e * o = omega arith in
-    omega (arith, first, second, one, two, all)
 
 module _ (spare v w : ℕ) (d0 d : Device) (t0 t : Table) (x0 x : Index) (r : Retiring spare v d0 d t0 t x0 x (Some w)) where
   -- the first block held kept pages
@@ -135,6 +128,7 @@ retired_all spare v d0 d t0 t x0 x r = record {
   unkept = r.out.unkept;
   moved = r.out.moved;
   few = r.out.few;
+  more = r.out.more;
   free = elim (cases_eq (t0.entry v).kept 0) [
     | inl none ↦ let same : free_count t ≡ unkept_count t = free_where_closed t (r.out.was_empty none).0 in omega (arith, same, r.stands.tables.unkept)
     | inr ne ↦
@@ -155,6 +149,7 @@ ends_closed v spare d t t' (Ok done) (is, power) = (
     moved = λ some. let m = is.moved some in
         (m.0, record { lies = record { within = m.1.lies.within; good = m.1.lies.good; was = m.1.lies.was; there = m.1.lies.there; elsewhere = m.1.lies.elsewhere }; open_block = m.1.open_block; next = m.1.next });
     few = is.few;
+    more = is.more;
     free = is.free;
   },
   power,

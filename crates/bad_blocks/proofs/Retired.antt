@@ -1,5 +1,5 @@
 -- Blocks that are emptied, marked and out.
-use Rattle.std.proofs.Common.{◌≡◌, ◌≢◌, ◌<◌, ◌≤◌, ℕ, ◌+◌, true, false, Option, Some, None, Result, refl, sym, ap, subst, ◌∙◌, arith}
+use Rattle.std.proofs.Common.{◌≡◌, ◌≢◌, ◌<◌, ◌≤◌, ℕ, ◌+◌, true, false, Option, Some, None, Result, sym, ap, subst, ◌∙◌, arith}
 use Rattle.nand_model.specs.Calls.{Device, Marks}
 use Rattle.nand_model.specs.declared.nand.Gone.{Gone}
 use Rattle.flash_tree.specs.Keeping.{KeepsElsewhere}
@@ -15,36 +15,13 @@ use Rattle.nand_model.specs.declared.geometry.Geometry.{Geometry}
 use Rattle.block_state.specs.Kept.{bad_count}
 use Rattle.block_state.specs.Table.{Table, Sets}
 use Rattle.bad_blocks.specs.Copying.{KeepsCounts}
-use Rattle.bad_blocks.specs.Moving.{Moves, IsMoved, IsOpenAfter}
-use Rattle.bad_blocks.specs.Standing.{Stands}
-use Rattle.bad_blocks.proofs.Keeping.{bad_rises}
-use Rattle.bad_blocks.proofs.Moves.{AreHeld, are_held, stands_still, moves_kept}
-use Rattle.bad_blocks.proofs.Turns.{marked_entry, keeps_marked, kept_marked, written_marked, one_more_bad, moves_join}
-use Rattle.bad_blocks.specs.Retiring.{LiesIn, LiesOpen, IsAway, IsEmptied, IsOut}
-
-pub lies_moved : (v w : ℕ) (t u : Table) → IsMoved v w t u → LiesIn v w t u
-lies_moved v w t u m = record { within = m.within; good = m.good; was = m.was; there = m.there; elsewhere = m.elsewhere }
-
-pub lies_open : (v w : ℕ) (t u : Table) → IsOpenAfter v w t u → LiesOpen v w t u
-lies_open v w t u m = record { lies = lies_moved v w t u m.moved; open_block = m.open_block; next = m.next }
-
--- what was moved away
-pub emptied_moved : (v : ℕ) (t u : Table) (suspect : Option ℕ) → 1 ≤ (t.entry v).kept → (u.entry v).kept ≡ 0 → (u.entry v).bad ≡ false → IsAway v t u suspect → IsEmptied v t u suspect
-emptied_moved v t u suspect some here good away = record {
-  unkept = here;
-  good = good;
-  was_empty = λ none. absurd (omega (arith, some, none));
-  moved = λ _. away;
-}
-
--- nothing was there
-pub emptied_none : (v : ℕ) (t : Table) → (t.entry v).kept ≡ 0 → (t.entry v).bad ≡ false → t.open_block ≡ None → IsEmptied v t t None
-emptied_none v t none good closed = record {
-  unkept = none;
-  good = good;
-  was_empty = λ _. (closed, refl);
-  moved = λ some. absurd (omega (arith, some, none));
-}
+use Rattle.bad_blocks.specs.Moving.{Moves, LiesIn}
+use Rattle.bad_blocks.specs.Standing.{AreHeld, Stands}
+use Rattle.bad_blocks.specs.laws.Keeping.{bad_rises}
+use Rattle.bad_blocks.specs.laws.Moves.{are_held, stands_still, moves_kept}
+use Rattle.bad_blocks.specs.laws.Turns.{moves_join}
+use Rattle.bad_blocks.proofs.Marked.{marked_entry, keeps_marked, kept_marked, written_marked, one_more_bad}
+use Rattle.bad_blocks.specs.Retiring.{IsAway, IsEmptied, IsOut}
 
 module _ (v : ℕ) (t u s : Table) (kept : (b : ℕ) → (s.entry b).kept ≡ (u.entry b).kept) (next : (b : ℕ) → (s.entry b).next ≡ (u.entry b).next) (bad : (b : ℕ) → b ≢ v → (s.entry b).bad ≡ (u.entry b).bad)
     (open_block : s.open_block ≡ u.open_block) (none : (u.entry v).kept ≡ 0) where

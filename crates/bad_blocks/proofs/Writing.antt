@@ -1,6 +1,6 @@
 -- What the writing of copies does, and what it costs.
-use Rattle.std.proofs.Common.{◌≡◌, ◌<◌, ◌≤◌, ℕ, ◌+◌, ◌-◌, ◌*◌, true, false, if◌then◌else◌, List, length, Result, Ok, Err, refl, sym, ap, subst, ◌∙◌, arith, inl, inr}
-use Rattle.std.proofs.Math.Nat.{mul-le-mul_right, mul-le-mul_left}
+use Rattle.std.proofs.Common.{◌≡◌, ◌<◌, ◌≤◌, ℕ, ◌+◌, ◌*◌, true, false, if◌then◌else◌, List, length, Result, Ok, Err, refl, sym, ap, subst, ◌∙◌, arith, inl, inr}
+use Rattle.std.proofs.Math.Nat.{mul-le-mul_left}
 use Rattle.nand_model.specs.Calls.{Device, Lasts, Marks}
 use Rattle.nand_model.specs.Changes.{Grows}
 use Rattle.nand_model.specs.declared.geometry.Geometry.{Geometry}
@@ -25,8 +25,10 @@ use Rattle.bad_blocks.specs.Taking.{Takes, CostsATake}
 use Rattle.bad_blocks.specs.declared.copying.Copied.{Copied}
 use Rattle.bad_blocks.specs.declared.copying.Copied.TheVariants as ends
 use Rattle.bad_blocks.specs.declared.fault.MoveFault.{MoveFault}
+use Rattle.bad_blocks.specs.laws.Costs.{each_more}
 use Rattle.bad_blocks.specs.laws.Passing.{passes_marked}
-use Rattle.bad_blocks.proofs.KeptPages.{is_of_copies, are_copied, data_copied, data_where}
+use Rattle.bad_blocks.specs.laws.KeptPages.{data_where}
+use Rattle.bad_blocks.proofs.KeptPages.{is_of_copies, are_copied, data_copied}
 
 module _ (copies : List CopyOf) (w : ℕ) (d0 d1 : Device) (t : Table) (fresh : IsFresh w d0 t) (may : MayBeCopied d0 t copies) (honest : d0.honest ≡ true) (grows : Grows d0.flash d1.flash) where
   after : (r : Result Placed GroupFault) → GroupsAfter (next_group t (length copies) w) (name_at copies) (bytes_at copies d0.flash) d0.flash d1.flash r
@@ -85,15 +87,6 @@ fresh_taken w d0 d1 t u passes ready takes power = record {
 
 -- ---- costs
 
--- what each failure costs more
-each_more : (k a b : ℕ) → 2 ≤ k → a ≤ b → 2 * b + k * a ≤ k * b + 2 * a
-each_more k a b two le =
-    let more : b ≡ a + (b - a) = omega (arith, le) in
-    let times : 2 * (b - a) ≤ k * (b - a) = mul-le-mul_right (b - a) two in
-    let left : 2 * b ≡ 2 * a + 2 * (b - a) = ap (λ n. 2 * n) more ∙ (omega arith) in
-    let right : k * b ≡ k * a + k * (b - a) = ap (λ n. k * n) more ∙ (omega arith) in
-    omega (arith, times, left, right)
-
 pub costs_once : (pages count : ℕ) (d0 d1 d2 : Device) (r : Result Copied MoveFault) → count ≤ pages → Lasts d0 d1 → CostsATake d0 d1 → Lasts d1 d2 → CopiesCost count d1 d2 r
     → Costs (most_changes pages r) (pages + 2) (left_open r) d0 d2
 costs_once pages count d0 d1 d2 (Ok (ends.Into target)) few first take second (changes, failures) =
@@ -117,12 +110,6 @@ costs_once pages count d0 d1 d2 (Err fault) few first take second costs = elim c
       let times : (pages + 2) * (d1.failures + 1) ≤ (pages + 2) * d2.failures = mul-le-mul_left (pages + 2) failures in
       omega (arith, few, take, changes, more, times)
 ]
-
--- where no block was taken
-pub costs_none : (pages : ℕ) (d0 d1 : Device) → Lasts d0 d1 → CostsATake d0 d1 → Costs (pages + 1) (pages + 2) 0 d0 d1
-costs_none pages d0 d1 lasts take =
-    let more = each_more (pages + 2) d0.failures d1.failures (omega arith) lasts.failures in
-    omega (arith, take, more)
 
 -- ---- ends
 

@@ -90,6 +90,12 @@ CopiesEnd count spare device old new (Ok (ends.Into target)) = IsTarget count ta
 CopiesEnd count spare device old new (Ok ends.Marked) = (new.open_block ≡ None) × (bad_count old < bad_count new) × (device.gone ≡ false)
 CopiesEnd count spare device old new (Err fault) = (new.open_block ≡ None) × WhyNotMoved spare device new fault
 
+-- where copies are made, no more blocks are bad than there are to spare
+abbrev pub FewBad : (spare : ℕ) → Table → Result Copied MoveFault → Type 0
+FewBad spare new (Ok (ends.Into target)) = bad_count new ≤ spare
+FewBad spare new (Ok ends.Marked) = Unit {0}
+FewBad spare new (Err fault) = Unit {0}
+
 -- a suspect copy is a failure that no mark has answered yet
 abbrev pub left_open : Result Copied MoveFault → ℕ
 left_open (Ok (ends.Into target)) = if target.suspect then 1 else 0

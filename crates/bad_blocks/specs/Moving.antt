@@ -62,26 +62,29 @@ unanswered (Ok places.Trusted) = 0
 unanswered (Ok (places.Suspect block)) = 1
 unanswered (Err fault) = 0
 
--- all that was kept in block v, which is good still, is kept in block w, which had nothing
-pub record IsMoved (v w : ℕ) (old new : Table) : Type 0 where
+-- all that was kept in block v is kept in block w, which is good and had nothing
+pub record LiesIn (v w : ℕ) (old new : Table) : Type 0 where
   pub within : w < old.geometry.blocks
   pub good : (new.entry w).bad ≡ false
   pub was : (old.entry w).kept ≡ 0
   pub there : (new.entry w).kept ≡ (old.entry v).kept
-  pub here : (new.entry v).kept ≡ 0
-  pub still : (new.entry v).bad ≡ false
   pub elsewhere : (b : ℕ) → b ≢ v → b ≢ w → (new.entry b).kept ≡ (old.entry b).kept
 
--- block w is the open one, and nothing else was written to it
-pub record IsOpenAfter (v w : ℕ) (old new : Table) : Type 0 where
-  pub moved : IsMoved v w old new
+-- block w is the open one besides, and nothing else was written to it
+pub record LiesOpen (v w : ℕ) (old new : Table) : Type 0 where
+  pub lies : LiesIn v w old new
   pub open_block : new.open_block ≡ Some w
   pub next : (new.entry w).next ≡ (old.entry v).kept
 
 -- where the pages lie: in the open block; or, where the device said that the last page failed, in one that is not open
 abbrev pub IsMovedTo : ℕ → Table → Table → Moved → Type 0
-IsMovedTo v old new places.Trusted = (w : ℕ) × IsOpenAfter v w old new
-IsMovedTo v old new (places.Suspect w) = IsMoved v w old new × (new.open_block ≡ None)
+IsMovedTo v old new places.Trusted = (w : ℕ) × LiesOpen v w old new
+IsMovedTo v old new (places.Suspect w) = LiesIn v w old new × (new.open_block ≡ None)
+
+-- the block holds no kept page, and it is good
+pub record IsLeft (v : ℕ) (t : Table) : Type 0 where
+  pub unkept : (t.entry v).kept ≡ 0
+  pub good : (t.entry v).bad ≡ false
 
 -- Why nothing was moved, or not all that had to be: a number of 2^62 or more would be needed, or more blocks are bad than
 -- there are to spare; the device is not honest; it is gone.
@@ -92,5 +95,5 @@ WhyNotMoved spare device t faults.Gone = device.gone ≡ true
 
 -- how a move ends
 abbrev pub MoveEnds : (v spare : ℕ) → Device → Table → Table → Result Moved MoveFault → Type 0
-MoveEnds v spare device old new (Ok moved) = IsMovedTo v old new moved × (device.gone ≡ false)
+MoveEnds v spare device old new (Ok moved) = IsLeft v new × IsMovedTo v old new moved × (device.gone ≡ false)
 MoveEnds v spare device old new (Err fault) = WhyNotMoved spare device new fault

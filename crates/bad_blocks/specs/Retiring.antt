@@ -1,26 +1,12 @@
 -- The retirement of a block.
 -- From: this project.
-use Rattle.std.specs.Prelude.{◌≡◌, ◌≢◌, ◌<◌, ◌≤◌, ℕ, true, false, Option, Some, None, Result, Ok, Err}
+use Rattle.std.specs.Prelude.{◌≡◌, ◌<◌, ◌≤◌, ℕ, true, false, Option, Some, None, Result, Ok, Err}
 use Rattle.nand_model.specs.Calls.{Device}
 use Rattle.block_state.specs.Kept.{bad_count}
 use Rattle.block_state.specs.Table.{Table}
-use Rattle.bad_blocks.specs.Moving.{WhyNotMoved}
+use Rattle.bad_blocks.specs.Moving.{LiesIn, LiesOpen, WhyNotMoved}
 use Rattle.bad_blocks.specs.Standing.{HasFree}
 use Rattle.bad_blocks.specs.declared.fault.MoveFault.{MoveFault}
-
--- all that was kept in block v is kept in block w, which is good and had nothing
-pub record LiesIn (v w : ℕ) (old new : Table) : Type 0 where
-  pub within : w < old.geometry.blocks
-  pub good : (new.entry w).bad ≡ false
-  pub was : (old.entry w).kept ≡ 0
-  pub there : (new.entry w).kept ≡ (old.entry v).kept
-  pub elsewhere : (b : ℕ) → b ≢ v → b ≢ w → (new.entry b).kept ≡ (old.entry b).kept
-
--- block w is the open one besides, and nothing else was written to it
-pub record LiesOpen (v w : ℕ) (old new : Table) : Type 0 where
-  pub lies : LiesIn v w old new
-  pub open_block : new.open_block ≡ Some w
-  pub next : (new.entry w).next ≡ (old.entry v).kept
 
 -- where the pages lie that were kept in block v: in the open block; or in a suspect one, which is not open
 abbrev pub IsAway : ℕ → Table → Table → Option ℕ → Type 0
@@ -45,12 +31,13 @@ open_failures (Ok (Some w)) = 1
 open_failures (Err fault) = 0
 
 -- The block is bad and holds no kept page; what it held, if anything, lies in the open block, to which nothing else was
--- written. No more blocks are bad than there are to spare, and blocks enough are free.
+-- written. More blocks are bad than before, but no more than there are to spare, and blocks enough are free.
 pub record IsRetired (v spare : ℕ) (old new : Table) : Type 0 where
   pub bad : (new.entry v).bad ≡ true
   pub unkept : (new.entry v).kept ≡ 0
   pub moved : 1 ≤ (old.entry v).kept → (w : ℕ) × LiesOpen v w old new
   pub few : bad_count new ≤ spare
+  pub more : bad_count old < bad_count new
   pub free : HasFree new spare
 
 -- how a retirement ends

@@ -55,6 +55,10 @@ pub record Stands (spare : ℕ) (device : Device) (t : Table) (x : Index) : Type
   pub tables : TablesAgree spare t x
   pub newest : device.honest ≡ true → device.gone ≡ false → AreKept device.flash (kept_pages x)
 
+-- each kept page lies in a block with kept pages
+abbrev pub AreHeld : Table → Index → Type 0
+AreHeld t x = (o c : ℕ) (p : KeptPage) → kept_pages x o c ≡ Some p → 1 ≤ (t.entry p.block).kept
+
 -- so many blocks as may still be needed for retirements, and one for a collection, are bad already or free
 abbrev pub HasFree : Table → (spare : ℕ) → Type 0
 HasFree t spare = 1 + spare ≤ free_count t + bad_count t

@@ -40,6 +40,12 @@ TriesOne device old new (Ok (tries.Taken block)) = Takes block device old new ×
 TriesOne device old new (Ok tries.Marked) = TakesNone old new × (bad_count new ≡ bad_count old + 1) × (device.gone ≡ false)
 TriesOne device old new (Err gone) = TakesNone old new × (device.gone ≡ true)
 
+-- where a block is taken, as many are bad as before
+abbrev pub AsManyBad : Table → Table → Result Tried Gone → Type 0
+AsManyBad old new (Ok (tries.Taken block)) = bad_count new ≡ bad_count old
+AsManyBad old new (Ok tries.Marked) = Unit {0}
+AsManyBad old new (Err gone) = Unit {0}
+
 -- Why no block was taken: more are bad than there are to spare, after a mark of this call, or no number is left; or the
 -- device is gone.
 abbrev pub WhyNone : (spare : ℕ) → Device → Table → Table → TakeFault → Type 0

@@ -1,1 +1,6 @@
 pub mod Passing
+pub mod Costs
+pub mod Keeping
+pub mod KeptPages
+pub mod Moves
+pub mod Turns

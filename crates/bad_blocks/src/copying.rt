@@ -1,12 +1,12 @@
 // The copying of listed pages into a block that is taken.
-ghost use Rattle.std.specs.Prelude.{◌≡◌, ◌<◌, ◌≤◌, ◌^◌, ◌+◌, ℕ, length, true, false, None};
+ghost use Rattle.std.specs.Prelude.{◌≡◌, ◌<◌, ◌≤◌, ◌^◌, ◌+◌, ℕ, length, true, false, None, OnOk};
 ghost use Rattle.nand_model.specs.Calls.{Device};
 ghost use Rattle.block_state.specs.Kept.{bad_count};
 ghost use Rattle.block_state.specs.TableOf.{table};
 ghost use Rattle.transactions.specs.Ready.{IsReady};
 ghost use Rattle.bad_blocks.specs.Taking.{HasUnkept};
 ghost use Rattle.bad_blocks.specs.Moving.{MarksFailures, Costs};
-ghost use Rattle.bad_blocks.specs.Copying.{MayBeCopied, KeepsCounts, KeepsDataAt, NewestAfterCopies, CopiesEnd, CopiesCost, IsFresh, left_open, most_changes, as_copied};
+ghost use Rattle.bad_blocks.specs.Copying.{MayBeCopied, KeepsCounts, KeepsDataAt, NewestAfterCopies, CopiesEnd, CopiesCost, FewBad, IsFresh, left_open, most_changes, as_copied};
 
 use crate::fault::MoveFault;
 use crate::take::{LIMIT, take_block};
@@ -49,6 +49,7 @@ fn write_copies<N: Nand>(
     ensures data { (N.state device.old).honest ≡ true → KeepsDataAt (table blocks.old) (N.state device.old).flash (N.state device.new).flash }
     ensures newest { (N.state device.old).honest ≡ true → (N.state device.new).gone ≡ false
         → NewestAfterCopies copies.now (table blocks.old) (N.state device.old).flash (N.state device.new).flash result }
+    ensures few { (spare : ℕ) → bad_count (table blocks.old) ≤ spare → FewBad spare (table blocks.new) result }
     ensures ends { (spare : ℕ) → CopiesEnd (length copies.now) spare (N.state device.new) (table blocks.old) (table blocks.new) result }
 {
     match write_group(device, blocks, &Copies { places: copies }, scratch) {
@@ -85,6 +86,7 @@ fn copy_once<N: Nand>(
     ensures data { (N.state device.old).honest ≡ true → KeepsDataAt (table blocks.old) (N.state device.old).flash (N.state device.new).flash }
     ensures newest { (N.state device.old).honest ≡ true → (N.state device.new).gone ≡ false
         → NewestAfterCopies copies.now (table blocks.old) (N.state device.old).flash (N.state device.new).flash result }
+    ensures few { FewBad spare (table blocks.new) result }
     ensures ends { CopiesEnd (length copies.now) spare (N.state device.new) (table blocks.old) (table blocks.new) result }
 {
     if blocks.next_group() >= LIMIT {
@@ -113,6 +115,7 @@ pub(crate) fn copy_listed<N: Nand>(
     ensures data { (N.state device.old).honest ≡ true → KeepsDataAt (table blocks.old) (N.state device.old).flash (N.state device.new).flash }
     ensures newest { (N.state device.old).honest ≡ true → (N.state device.new).gone ≡ false
         → NewestAfterCopies copies.now (table blocks.old) (N.state device.old).flash (N.state device.new).flash (as_copied result) }
+    ensures few { OnOk result (bad_count (table blocks.new) ≤ spare) }
     ensures ends { CopiesEnd (length copies.now) spare (N.state device.new) (table blocks.old) (table blocks.new) (as_copied result) }
 {
     blocks.close();

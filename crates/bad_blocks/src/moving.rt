@@ -1,5 +1,5 @@
 // The move of the kept pages of a block.
-ghost use Rattle.std.specs.Prelude.{◌≡◌, ◌<◌, ◌≤◌, ◌+◌, ℕ, length, false};
+ghost use Rattle.std.specs.Prelude.{◌≡◌, ◌<◌, ◌≤◌, ◌+◌, ℕ, length, false, OnOk};
 ghost use Rattle.block_state.specs.Kept.{bad_count};
 ghost use Rattle.block_state.specs.TableOf.{table};
 ghost use Rattle.transactions.specs.Ready.{IsReady};
@@ -45,6 +45,7 @@ fn move_listed<N: Nand>(
     ensures stands { Stands spare (N.state device.new) (table blocks.new) index.new }
     ensures marks { MarksFailures 0 (unanswered result) (N.state device.old) (N.state device.new) (table blocks.old) (table blocks.new) }
     ensures costs { Costs ((N.state device.old).geometry.pages + 1) ((N.state device.old).geometry.pages + 2) (unanswered result) (N.state device.old) (N.state device.new) }
+    ensures few { OnOk result (bad_count (table blocks.new) ≤ spare) }
     ensures ends { (v : ℕ) → IsListed v (table blocks.old) index.old copies.now
         → MoveEnds v spare (N.state device.new) (table blocks.old) (table blocks.new) result }
 {
@@ -79,6 +80,7 @@ pub fn move_kept<N: Nand>(
     ensures stands { Stands spare (N.state device.new) (table blocks.new) index.new }
     ensures marks { MarksFailures 0 (unanswered result) (N.state device.old) (N.state device.new) (table blocks.old) (table blocks.new) }
     ensures costs { Costs ((N.state device.old).geometry.pages + 1) ((N.state device.old).geometry.pages + 2) (unanswered result) (N.state device.old) (N.state device.new) }
+    ensures few { OnOk result (bad_count (table blocks.new) ≤ spare) }
     ensures ends { MoveEnds block spare (N.state device.new) (table blocks.old) (table blocks.new) result }
     ensures room { IsRoomFor (N.state device.new).geometry room.new }
 {

@@ -74,21 +74,25 @@ passes_erased b old new t t' is none lasts keeps =
     lasts.failures
     (λ honest. keeps_kept b t old.flash new.flash none (keeps honest))
 
--- and its opening
+-- its opening changes no count
+pub same_opened : (b : ℕ) (t t' : Table) → Opens b t t' → SameCounts t t'
+same_opened b t t' opens = record {
+  bad = λ k. elim (cases_eq k b) [
+    | inl e ↦ ap (λ n. (t'.entry n).bad) e ∙ ap (λ (x : BlockEntry). x.bad) opens.sets.here ∙ ap (λ n. (t.entry n).bad) (sym e)
+    | inr ne ↦ ap (λ (x : BlockEntry). x.bad) (opens.sets.others k ne)
+  ];
+  kept = λ k. elim (cases_eq k b) [
+    | inl e ↦ ap (λ n. (t'.entry n).kept) e ∙ ap (λ (x : BlockEntry). x.kept) opens.sets.here ∙ ap (λ n. (t.entry n).kept) (sym e)
+    | inr ne ↦ ap (λ (x : BlockEntry). x.kept) (opens.sets.others k ne)
+  ];
+  geometry = opens.sets.geometry;
+}
+
+-- and nothing that is kept
 pub passes_opened : (b : ℕ) (d : Device) (t t' : Table) → Opens b t t' → Passes d d t t'
 passes_opened b d t t' opens =
     passes_same d d t t'
-    (record {
-      bad = λ k. elim (cases_eq k b) [
-        | inl e ↦ ap (λ n. (t'.entry n).bad) e ∙ ap (λ (x : BlockEntry). x.bad) opens.sets.here ∙ ap (λ n. (t.entry n).bad) (sym e)
-        | inr ne ↦ ap (λ (x : BlockEntry). x.bad) (opens.sets.others k ne)
-      ];
-      kept = λ k. elim (cases_eq k b) [
-        | inl e ↦ ap (λ n. (t'.entry n).kept) e ∙ ap (λ (x : BlockEntry). x.kept) opens.sets.here ∙ ap (λ n. (t.entry n).kept) (sym e)
-        | inr ne ↦ ap (λ (x : BlockEntry). x.kept) (opens.sets.others k ne)
-      ];
-      geometry = opens.sets.geometry;
-    })
+    (same_opened b t t' opens)
     opens.sets.next_group
     (omega arith)
     (λ _ o c s newest some. record { newest = newest; page = refl })

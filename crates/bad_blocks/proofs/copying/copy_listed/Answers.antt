@@ -6,8 +6,9 @@ use Rattle.block_state.specs.Kept.{bad_count}
 use Rattle.block_state.specs.Table.{Table}
 use Rattle.block_state.specs.TableOf.{table}
 use Rattle.bad_blocks.specs.declared.copying.Copied.TheVariants as ends
-use Rattle.bad_blocks.proofs.Keeping.{keeps_closed, keeps_on, had_power, kept_on, data_on, newest_on, may_later}
-use Rattle.bad_blocks.proofs.KeptPages.{kept_here, data_here}
+use Rattle.bad_blocks.specs.laws.Keeping.{keeps_closed, keeps_on, had_power}
+use Rattle.bad_blocks.proofs.Keeping.{kept_on, data_on, newest_on, may_later}
+use Rattle.bad_blocks.specs.laws.KeptPages.{kept_here, data_here}
 use Rattle.bad_blocks.proofs.copying.copy_listed.Goals as goal
 
 pub loop-target-init : goal.loop-target-init

@@ -1,8 +1,9 @@
 use Rattle.std.proofs.Common.{◌∙◌, length, arith}
 use Rattle.std.proofs.lemmas.Result.{err_from_is_err_and}
 use Rattle.block_state.specs.TableOf.{table}
-use Rattle.bad_blocks.proofs.Keeping.{same_here, keeps_passes, keeps_on, may_later, data_on, newest_on}
-use Rattle.bad_blocks.proofs.KeptPages.{kept_where, data_where}
+use Rattle.bad_blocks.specs.laws.Keeping.{same_here, keeps_passes, keeps_on}
+use Rattle.bad_blocks.proofs.Keeping.{may_later, data_on, newest_on}
+use Rattle.bad_blocks.specs.laws.KeptPages.{kept_where, data_where}
 use Rattle.bad_blocks.proofs.Writing.{fresh_taken, costs_once, ends_on}
 use Rattle.bad_blocks.proofs.copying.copy_once.Goals as goal
 
@@ -60,3 +61,6 @@ pub returns-clause-keeps : goal.returns-clause-keeps
 returns-clause-keeps g c =
     let took = c.take_block.ensures in
     keeps_on _ _ _ (table c.args.blocks.now) _ _ (keeps_passes _ _ (table c.args.blocks.now) (table c.args.blocks.now) _ (same_here _) took.lasts took.ready took.numbers took.passes) c.write_copies.ensures.keeps
+
+pub returns-clause-few : goal.returns-clause-few
+returns-clause-few g c = c.write_copies.ensures.few c.args.spare c.in_ok-block.ensures.few

@@ -2,6 +2,7 @@ use Rattle.std.proofs.Common.{◌≡◌, ◌+◌, Ok, Err, refl, subst, length, 
 use Rattle.nand_model.specs.Calls.{Device}
 use Rattle.nand_model.specs.laws.Calls.{lasts_on}
 use Rattle.block_state.specs.Kept.{bad_count}
+use Rattle.block_state.specs.laws.Kept.{same_bad_count}
 use Rattle.block_state.specs.Table.{Table}
 use Rattle.block_state.specs.TableOf.{table}
 use Rattle.transactions.specs.Groups.{closed}
@@ -9,8 +10,9 @@ use Rattle.transactions.specs.Marking.{NotesMark}
 use Rattle.transactions.specs.laws.Handing.{hands_on}
 use Rattle.transactions.specs.declared.group.GroupFault.TheVariants as groups
 use Rattle.bad_blocks.proofs.Free.{one_more}
-use Rattle.bad_blocks.proofs.Keeping.{same_closed, same_ends, keeps_passes, keeps_same}
-use Rattle.bad_blocks.proofs.KeptPages.{has_copies, kept_where, data_where}
+use Rattle.bad_blocks.specs.laws.Keeping.{same_closed, same_ends, keeps_passes, keeps_same}
+use Rattle.bad_blocks.specs.laws.KeptPages.{kept_where, data_where}
+use Rattle.bad_blocks.proofs.KeptPages.{has_copies}
 use Rattle.bad_blocks.proofs.Writing.{data_written, copies_written, passes_failed}
 use Rattle.bad_blocks.proofs.copying.write_copies.Goals as goal
 
@@ -21,6 +23,12 @@ pub returns-in-Ok-clause-keeps : goal.returns-in-Ok-clause-keeps
 returns-in-Ok-clause-keeps g c =
     let wrote = c.in-Ok.ensures in
     keeps_same _ _ (table c.args.blocks.now) (table c.write_group.new.blocks) (same_ends (length c.args.copies.now) _ _ (Ok c.in-Ok.placed) wrote.table) wrote.lasts wrote.ready wrote.numbers
+
+pub returns-in-Ok-clause-few : goal.returns-in-Ok-clause-few
+returns-in-Ok-clause-few g c = λ spare few.
+    let wrote = c.in-Ok.ensures in
+    let same : bad_count (table c.write_group.new.blocks) ≡ bad_count (table c.args.blocks.now) = same_bad_count _ _ (same_ends (length c.args.copies.now) _ _ (Ok c.in-Ok.placed) wrote.table) in
+    omega (arith, same, few)
 
 pub returns-in-Ok-clause-data : goal.returns-in-Ok-clause-data
 returns-in-Ok-clause-data g c = λ honest.

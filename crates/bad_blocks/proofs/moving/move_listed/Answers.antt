@@ -4,7 +4,8 @@ use Rattle.nand_model.specs.Calls.{Device}
 use Rattle.nand_model.specs.declared.geometry.Geometry.{Geometry}
 use Rattle.block_state.specs.Table.{Table}
 use Rattle.block_state.specs.TableOf.{table}
-use Rattle.bad_blocks.proofs.Moves.{are_held, may_be_copied, stands_kept, moves_kept, same_bads, stands_moved, moves_moved, is_open, is_moved, is_closed}
+use Rattle.bad_blocks.specs.laws.Moves.{are_held, stands_kept, moves_kept}
+use Rattle.bad_blocks.proofs.Moves.{may_be_copied, same_bads, stands_moved, moves_moved, is_left, lies_in, lies_open, is_closed}
 use Rattle.bad_blocks.proofs.moving.move_listed.Goals as goal
 
 pub copy_listed-requires-clause-copies : goal.copy_listed-requires-clause-copies
@@ -106,8 +107,10 @@ returns-then-suspect-clause-ends g c = λ v listed.
     let y = c.tell_copies.new.index in
     let copied = c.in_ok-target.ensures in
     let target = c.in_ok-target.target in (
+      is_left c.args.spare v target d0 d1 t0 t1 t2 x y c.args.copies.now listed held copied.keeps c.requires.stands copied.ends.0
+          (c.tell_copies.ensures.tells v listed.lists (unlike v target.block t0 listed.some copied.ends.0.unkept)) c.tell_copies.ensures.agree copied.newest,
       (
-        is_moved c.args.spare v target d0 d1 t0 t1 t2 x y c.args.copies.now listed held copied.keeps c.requires.stands copied.ends.0
+        lies_in c.args.spare v target d0 d1 t0 t1 t2 x y c.args.copies.now listed held copied.keeps c.requires.stands copied.ends.0
             (c.tell_copies.ensures.tells v listed.lists (unlike v target.block t0 listed.some copied.ends.0.unkept)) c.tell_copies.ensures.agree copied.newest,
         is_closed c.args.spare v target d0 d1 t0 t1 t2 x y c.args.copies.now listed held copied.keeps c.requires.stands copied.ends.0
             (c.tell_copies.ensures.tells v listed.lists (unlike v target.block t0 listed.some copied.ends.0.unkept)) c.tell_copies.ensures.agree copied.newest c.if-suspect.true,
@@ -159,9 +162,11 @@ returns-clause-ends g c = λ v listed.
     let y = c.tell_copies.new.index in
     let copied = c.in_ok-target.ensures in
     let target = c.in_ok-target.target in (
+      is_left c.args.spare v target d0 d1 t0 t1 t2 x y c.args.copies.now listed held copied.keeps c.requires.stands copied.ends.0
+          (c.tell_copies.ensures.tells v listed.lists (unlike v target.block t0 listed.some copied.ends.0.unkept)) c.tell_copies.ensures.agree copied.newest,
       (
         target.block,
-        is_open c.args.spare v target d0 d1 t0 t1 t2 x y c.args.copies.now listed held copied.keeps c.requires.stands copied.ends.0
+        lies_open c.args.spare v target d0 d1 t0 t1 t2 x y c.args.copies.now listed held copied.keeps c.requires.stands copied.ends.0
             (c.tell_copies.ensures.tells v listed.lists (unlike v target.block t0 listed.some copied.ends.0.unkept)) c.tell_copies.ensures.agree copied.newest c.if-suspect.false,
       ),
       copied.ends.1,
@@ -184,3 +189,39 @@ returns-clause-marks g c =
     let same = same_bads c.args.spare v target d0 d1 t0 t1 t2 x y c.args.copies.now listed held copied.keeps c.requires.stands copied.ends.0
     (c.tell_copies.ensures.tells v listed.lists (unlike v target.block t0 listed.some copied.ends.0.unkept)) c.tell_copies.ensures.agree copied.newest in
     omega (arith, same, copied.marks)
+
+pub returns-then-suspect-clause-few : goal.returns-then-suspect-clause-few
+returns-then-suspect-clause-few g c =
+    let d0 : Device = g.N.Nand.state c.args.device.now in
+    let d1 : Device = g.N.Nand.state c.copy_listed.new.device in
+    let t0 : Table = table c.args.blocks.now in
+    let t1 : Table = table c.copy_listed.new.blocks in
+    let x = c.args.index.now in
+    let held = are_held t0 x (c.the_counts_are_of_the_keys.ensures.none x) c.requires.stands.tables.counts in
+    let t2 : Table = table c.tell_copies.new.blocks in
+    let y = c.tell_copies.new.index in
+    let copied = c.in_ok-target.ensures in
+    let target = c.in_ok-target.target in
+    let v : ℕ = c.requires.listed.0 in
+    let listed = c.requires.listed.1 in
+    let same = same_bads c.args.spare v target d0 d1 t0 t1 t2 x y c.args.copies.now listed held copied.keeps c.requires.stands copied.ends.0
+    (c.tell_copies.ensures.tells v listed.lists (unlike v target.block t0 listed.some copied.ends.0.unkept)) c.tell_copies.ensures.agree copied.newest in
+    omega (arith, same, copied.few)
+
+pub returns-clause-few : goal.returns-clause-few
+returns-clause-few g c =
+    let d0 : Device = g.N.Nand.state c.args.device.now in
+    let d1 : Device = g.N.Nand.state c.copy_listed.new.device in
+    let t0 : Table = table c.args.blocks.now in
+    let t1 : Table = table c.copy_listed.new.blocks in
+    let x = c.args.index.now in
+    let held = are_held t0 x (c.the_counts_are_of_the_keys.ensures.none x) c.requires.stands.tables.counts in
+    let t2 : Table = table c.tell_copies.new.blocks in
+    let y = c.tell_copies.new.index in
+    let copied = c.in_ok-target.ensures in
+    let target = c.in_ok-target.target in
+    let v : ℕ = c.requires.listed.0 in
+    let listed = c.requires.listed.1 in
+    let same = same_bads c.args.spare v target d0 d1 t0 t1 t2 x y c.args.copies.now listed held copied.keeps c.requires.stands copied.ends.0
+    (c.tell_copies.ensures.tells v listed.lists (unlike v target.block t0 listed.some copied.ends.0.unkept)) c.tell_copies.ensures.agree copied.newest in
+    omega (arith, same, copied.few)

@@ -3,7 +3,7 @@ use Rattle.nand_model.specs.Calls.{Device}
 use Rattle.block_state.specs.Kept.{bad_count}
 use Rattle.block_state.specs.Table.{Table}
 use Rattle.block_state.specs.TableOf.{table}
-use Rattle.bad_blocks.proofs.Turns.{moves_closed, moves_join, stands_closed}
+use Rattle.bad_blocks.specs.laws.Turns.{moves_closed, moves_join, stands_closed}
 use Rattle.transactions.specs.Ready.{IsReady}
 use Rattle.transactions.specs.laws.Ready.{ready_closed}
 use Rattle.bad_blocks.proofs.RetireTurns.{ends_closed}

@@ -67,3 +67,8 @@ returns-then-bad_count-spare-clause-costs g c =
 
 pub returns-in-Err-clause-costs : goal.returns-in-Err-clause-costs
 returns-in-Err-clause-costs g c = omega (arith, c.loop-block.invariant.costs, c.in-Err.ensures.costs)
+
+pub returns-in-Ok-Taken-clause-few : goal.returns-in-Ok-Taken-clause-few
+returns-in-Ok-Taken-clause-few g c =
+    let took = rw c.in-Ok-Taken.field-0-is at c.in-Ok-Taken.ensures in
+    omega (arith, c.loop-block.invariant.few, took.few)

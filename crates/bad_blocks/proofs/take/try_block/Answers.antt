@@ -1,10 +1,10 @@
 use Rattle.std.proofs.Common.{ℕ, refl, sym, ◌∙◌, ap, subst, arith}
 use Rattle.std.proofs.lemmas.Result.{err_from_is_err_and}
-use Rattle.block_state.specs.laws.Kept.{free_where_closed, none_free}
+use Rattle.block_state.specs.laws.Kept.{free_where_closed, none_free, same_bad_count}
 use Rattle.block_state.specs.Table.{Table}
 use Rattle.block_state.specs.TableOf.{table}
 use Rattle.transactions.specs.Marking.{NotesMark}
-use Rattle.bad_blocks.specs.laws.Passing.{passes_on, passes_erased, passes_opened, passes_marked}
+use Rattle.bad_blocks.specs.laws.Passing.{passes_on, passes_erased, passes_opened, passes_marked, same_opened}
 use Rattle.bad_blocks.proofs.Free.{was_unkept, one_more, erase_costs, mark_costs}
 use Rattle.bad_blocks.proofs.take.try_block.Goals as goal
 
@@ -40,6 +40,9 @@ returns-in-Ok-clause-ends g c =
       },
       does.erases.ends.is,
     )
+
+pub returns-in-Ok-clause-few : goal.returns-in-Ok-clause-few
+returns-in-Ok-clause-few g c = same_bad_count (table c.args.blocks.now) _ (same_opened c.in-Some.block _ _ c.in-Ok.ensures.opens)
 
 pub returns-in_ok-mark_block-in-Err-Failed-clause-passes : goal.returns-in_ok-mark_block-in-Err-Failed-clause-passes
 returns-in_ok-mark_block-in-Err-Failed-clause-passes g c =

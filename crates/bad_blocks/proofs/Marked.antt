@@ -1,34 +1,20 @@
--- Moves in turn, and marks after them.
-use Rattle.std.proofs.Common.{◌≡◌, ◌⊎◌, ◌<◌, ◌≤◌, ℕ, ◌+◌, true, false, Some, None, Result, refl, sym, ap, subst, ◌∙◌, arith, inl, inr}
+-- What a mark keeps.
+use Rattle.std.proofs.Common.{◌≡◌, ◌⊎◌, ◌<◌, ◌≤◌, ℕ, ◌+◌, true, false, Some, Result, sym, ap, ◌∙◌, arith, inl, inr}
 use Rattle.std.proofs.lemmas.Bool.{cases_Bool, cases_eq}
 use Rattle.nand_model.specs.Flash.{Flash}
 use Rattle.nand_model.specs.Calls.{Device, Marks}
-use Rattle.nand_model.specs.laws.Calls.{lasts_on, lasts_here}
 use Rattle.nand_model.specs.declared.nand.Gone.{Gone}
 use Rattle.flash_tree.specs.Keeping.{KeepsElsewhere}
 use Rattle.block_state.specs.declared.blocks.BlockEntry.{BlockEntry}
 use Rattle.block_state.specs.Kept.{bad_count, unkept_count, SameCounts}
 use Rattle.block_state.specs.Table.{Table, Sets}
 use Rattle.block_state.specs.laws.Kept.{mark_bad, mark_unkept, same_bad_count}
-use Rattle.chunk_index.specs.declared.form.KeptPage.{KeptPage}
-use Rattle.chunk_index.specs.declared.form.Present.{Present}
-use Rattle.chunk_index.specs.declared.form.Present.TheVariants as presents
-use Rattle.chunk_index.specs.declared.index.Index.{Index}
-use Rattle.chunk_index.specs.Kept.{HoldsNone}
-use Rattle.chunk_index.specs.Maps.{kept_pages, present, moved_to}
 use Rattle.transactions.specs.Handing.{HandsOut}
 use Rattle.transactions.specs.Marking.{NotesMark}
 use Rattle.transactions.specs.Ready.{IsReady}
-use Rattle.transactions.specs.laws.Handing.{hands_on, hands_nothing}
-use Rattle.transactions.specs.laws.Ready.{ready_closed}
 use Rattle.bad_blocks.specs.Copying.{KeepsCounts, KeepsKeptAt, KeepsDataAt}
-use Rattle.bad_blocks.specs.Moving.{Moves, MovesOut, IsKeptIn}
-use Rattle.bad_blocks.specs.Standing.{HasVersion, Stands}
-use Rattle.bad_blocks.proofs.Keeping.{keeps_same}
-use Rattle.bad_blocks.proofs.Moves.{moves_out_none}
-use Rattle.bad_blocks.proofs.KeptPages.{kept_where, data_where}
-
--- ---- a mark
+use Rattle.bad_blocks.specs.laws.Keeping.{keeps_same}
+use Rattle.bad_blocks.specs.laws.KeptPages.{kept_where, data_where}
 
 -- the entries after a mark, but for the mark, are those before it
 pub marked_entry : (v : ℕ) (flash : Flash) (t u : Table) → NotesMark v flash t u → (b : ℕ) → ((u.entry b).kept ≡ (t.entry b).kept) × ((u.entry b).next ≡ (t.entry b).next)
@@ -122,100 +108,3 @@ module _ (v : ℕ) (d0 d1 : Device) (t u : Table) (result : Result (Unit {0}) Go
       let same = marked_entry v d1.flash t u notes o in
       let was = written o (sym notes.open_block ∙ is) in
       omega (arith, same.0, same.1, was)
-
--- ---- moves in turn
-
-moved_twice : (q r : KeptPage) (p : Present) → moved_to r (moved_to q p) ≡ moved_to r p
-moved_twice q r presents.Absent = refl
-moved_twice q r (presents.OnFlash k) = refl
-moved_twice q r (presents.InBuffer i) = refl
-
--- each kept key has a kept page in its version afterwards
-pub version_after : (v : ℕ) (x y : Index) → MovesOut v x y → (o c : ℕ) (p : KeptPage) → kept_pages x o c ≡ Some p → (q : KeptPage) × (kept_pages y o c ≡ Some q) × (q.version ≡ p.version)
-version_after v x y moves o c p is = elim (cases_eq p.block v) [
-  | inl here ↦ let f = moves.moved o c p is here in (f.at, f.is, f.version)
-  | inr ne ↦ (
-    p,
-    moves.kept o c (λ (q, at, inside).
-        let both : Some p ≡ Some q = sym is ∙ at in
-        let same : p ≡ q = cc in
-        ne (ap (λ (k : KeptPage). k.block) same ∙ inside)) ∙ is,
-    refl,
-  )
-]
-
--- pages that were moved out of a block, into one that held none, and then out of that
-pub moves_out_on : (v w : ℕ) (x y z : Index) → HoldsNone (kept_pages x) w → MovesOut v x y → MovesOut w y z → MovesOut v x z
-moves_out_on v w x y z none first second = record {
-  moved = λ o c p is here.
-      let f = first.moved o c p is here in
-      elim (cases_eq f.at.block w) [
-        | inl inside ↦
-            let s = second.moved o c f.at f.is inside in
-            record { at = s.at; is = s.is; version = s.version ∙ f.version; present = s.present ∙ ap (moved_to s.at) f.present ∙ moved_twice f.at s.at (present x o c) }
-        | inr ne ↦
-            let out : IsKeptIn w y o c → ⊥ = λ (q, at, inside).
-            let both : Some f.at ≡ Some q = sym f.is ∙ at in
-            let same : f.at ≡ q = cc in
-            ne (ap (λ (k : KeptPage). k.block) same ∙ inside) in
-            record { at = f.at; is = second.kept o c out ∙ f.is; version = f.version; present = second.present o c out ∙ f.present }
-      ];
-  kept = λ o c out. second.kept o c (λ (q, at, inside). none o c q (sym (first.kept o c out) ∙ at) inside) ∙ first.kept o c out;
-  present = λ o c out. second.present o c (λ (q, at, inside). none o c q (sym (first.kept o c out) ∙ at) inside) ∙ first.present o c out;
-  prepared = λ o c is. second.prepared o c (first.prepared o c is);
-  ready = λ o c is. second.ready o c (first.ready o c is);
-}
-
-pub moves_join : (v v1 v2 : ℕ) (a b c : Device) (t u s : Table) (x y z : Index) → Moves v1 a b t u x y → Moves v2 b c u s y z → MovesOut v x z → Moves v a c t s x z
-moves_join v v1 v2 a b c t u s x y z first second index = record {
-  lasts = lasts_on a b c first.lasts second.lasts;
-  ready = second.ready;
-  numbers = hands_on a b c t u s first.lasts second.lasts first.numbers second.numbers;
-  geometry = second.geometry ∙ first.geometry;
-  marks = λ k is. second.marks k (first.marks k is);
-  kept_count = second.kept_count ∙ first.kept_count;
-  index = index;
-  same_data = λ honest o d p bytes is has.
-      let after = version_after v1 x y first.index o d p is in
-      let mid : HasVersion b.flash o d after.0.version bytes = subst (λ n. HasVersion b.flash o d n bytes) (sym after.2) (first.same_data honest o d p bytes is has) in
-      subst (λ n. HasVersion c.flash o d n bytes) after.2 (second.same_data (first.lasts.honest ∙ honest) o d after.0 bytes after.1 mid);
-}
-
--- ---- where nothing is done
-
-pub moves_none : (v : ℕ) (d : Device) (t : Table) (x : Index) → IsReady d t → Moves v d d t t x x
-moves_none v d t x ready = record {
-  lasts = lasts_here d;
-  ready = ready;
-  numbers = hands_nothing d t;
-  geometry = refl;
-  marks = λ b is. is;
-  kept_count = refl;
-  index = moves_out_none v x;
-  same_data = λ honest o c p bytes is has. has;
-}
-
--- a table that is closed besides
-pub moves_closed : (v : ℕ) (d : Device) (t u : Table) (x : Index) → u ≡ record t { open_block = None } → IsReady d t → Moves v d d t u x x
-moves_closed v d t u x is ready = subst (λ (s : Table). Moves v d d t s x x) (sym is) (record {
-  lasts = lasts_here d;
-  ready = ready_closed d t ready;
-  numbers = record { groups_rise = omega arith; seqs_rise = omega arith; seqs = omega arith; groups = λ _ _. omega arith };
-  geometry = refl;
-  marks = λ b is. is;
-  kept_count = refl;
-  index = moves_out_none v x;
-  same_data = λ honest o c p bytes is has. has;
-})
-
-pub stands_closed : (spare : ℕ) (d : Device) (t u : Table) (x : Index) → u ≡ record t { open_block = None } → Stands spare d t x → Stands spare d u x
-stands_closed spare d t u x is stands = subst (λ (s : Table). Stands spare d s x) (sym is) (record {
-  tables = record {
-    counts = record { counts = stands.tables.counts.counts; within = stands.tables.counts.within };
-    within = λ o c p at. let may = stands.tables.within o c p at in record { block = may.block; page = may.page; name = may.name };
-    fits = stands.tables.fits;
-    written = λ o at. let two : None ≡ Some o = at in absurd cc;
-    unkept = stands.tables.unkept;
-  };
-  newest = stands.newest;
-})

@@ -1,0 +1,54 @@
+use Rattle.std.proofs.Common.{◌≡◌, true, false, refl, ap, sym, ◌∙◌, arith}
+use Rattle.nand_model.specs.declared.geometry.Geometry.{Geometry}
+use Rattle.block_state.specs.TableOf.{table}
+use Rattle.collector.proofs.Taken.{moves_taken, stands_taken, stands_none, free_taken, fits_open, scarce_unless}
+use Rattle.collector.proofs.room.make_room.Goals as goal
+
+pub returns-in_err-take_block-clause-moves : goal.returns-in_err-take_block-clause-moves
+returns-in_err-take_block-clause-moves g c =
+    let law = c.the_counts_are_of_the_keys.ensures.none c.args.index.now in
+    let took = c.take_block.ensures in (
+      0,
+      moves_taken c.args.spare (g.N.Nand.state c.args.device.now) (g.N.Nand.state c.take_block.new.device) (table c.args.blocks.now) (table c.take_block.new.blocks) c.args.index.now law
+          took.lasts took.ready took.numbers took.passes c.requires.stands,
+    )
+
+pub returns-then-has_unkept-clause-moves : goal.returns-then-has_unkept-clause-moves
+returns-then-has_unkept-clause-moves g c =
+    let law = c.the_counts_are_of_the_keys.ensures.none c.args.index.now in
+    let took = c.take_block.ensures in (
+      0,
+      moves_taken c.args.spare (g.N.Nand.state c.args.device.now) (g.N.Nand.state c.take_block.new.device) (table c.args.blocks.now) (table c.take_block.new.blocks) c.args.index.now law
+          took.lasts took.ready took.numbers took.passes c.requires.stands,
+    )
+
+pub returns-in_err-take_block-clause-stands : goal.returns-in_err-take_block-clause-stands
+returns-in_err-take_block-clause-stands g c =
+    let law = c.the_counts_are_of_the_keys.ensures.none c.args.index.now in
+    let took = c.in_err-take_block.ensures in
+    stands_none c.args.spare (g.N.Nand.state c.args.device.now) (g.N.Nand.state c.take_block.new.device) (table c.args.blocks.now) (table c.take_block.new.blocks) c.args.index.now law
+    took.lasts took.ready took.numbers took.passes c.requires.stands took.ends.0
+
+pub returns-then-has_unkept-clause-stands : goal.returns-then-has_unkept-clause-stands
+returns-then-has_unkept-clause-stands g c =
+    let law = c.the_counts_are_of_the_keys.ensures.none c.args.index.now in
+    let took = c.in_ok-take_block.ensures in
+    stands_taken c.args.spare (g.N.Nand.state c.args.device.now) (g.N.Nand.state c.take_block.new.device) (table c.args.blocks.now) (table c.take_block.new.blocks) c.args.index.now law
+    took.lasts took.ready took.numbers took.passes c.requires.stands c.in_ok-take_block.field-0 took.ends.0
+
+pub returns-then-has_unkept-clause-ends : goal.returns-then-has_unkept-clause-ends
+returns-then-has_unkept-clause-ends g c =
+    let law = c.the_counts_are_of_the_keys.ensures.none c.args.index.now in
+    let took = c.in_ok-take_block.ensures in
+    let free = free_taken c.args.spare (g.N.Nand.state c.args.device.now) (g.N.Nand.state c.take_block.new.device) (table c.args.blocks.now) (table c.take_block.new.blocks) c.args.index.now law
+    took.lasts took.ready took.numbers took.passes c.requires.stands c.in_ok-take_block.field-0 took.ends.0 in
+    let pages : c.pages.result ≡ (table c.take_block.new.blocks).geometry.pages = c.pages.ensures ∙ ap (λ (x : Geometry). x.pages) (c.geometry.ensures ∙ sym took.passes.geometry) in
+    record {
+      fits = fits_open c.args.count c.in_ok-take_block.field-0 0 (table c.take_block.new.blocks) took.ends.0.open_block took.ends.0.next (omega (arith, pages, c.if-count-pages.false));
+      few = took.few;
+      free = λ _. free (c.if-has_unkept.ensures.0 refl);
+      power = λ _. took.ends.1;
+    }
+
+pub returns-in_default-clause-ends : goal.returns-in_default-clause-ends
+returns-in_default-clause-ends g c = c.in_default.ensures.none c.args.spare (scarce_unless c.args.spare (table c.args.blocks.now) (λ more. let two : false ≡ true = c.if-has_unkept.ensures.1 more in cc))

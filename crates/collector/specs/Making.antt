@@ -1,0 +1,81 @@
+-- The making of room in the open block.
+-- From: this project.
+use Rattle.std.specs.Prelude.{◌≡◌, ◌⊎◌, ◌<◌, ◌≤◌, ℕ, ◌+◌, false, Some, Result, Ok, Err}
+use Rattle.nand_model.specs.Calls.{Device}
+use Rattle.block_state.specs.Kept.{bad_count, unkept_count, HasSpare, IsScarce}
+use Rattle.block_state.specs.Table.{Table, IsFewest, room}
+use Rattle.chunk_index.specs.declared.index.Index.{Index}
+use Rattle.bad_blocks.specs.Moving.{MovesOut, WhyNotMoved}
+use Rattle.bad_blocks.specs.Standing.{HasFree}
+use Rattle.bad_blocks.specs.declared.fault.MoveFault.{MoveFault}
+use Rattle.bad_blocks.specs.declared.fault.MoveFault.TheVariants as moves
+use Rattle.collector.specs.declared.fault.RoomFault.{RoomFault}
+use Rattle.collector.specs.declared.fault.RoomFault.TheVariants as faults
+
+-- With the kept pages spread over all blocks that are not to spare but one, each has room for so many besides.
+abbrev pub LeavesRoom : Table → (spare count : ℕ) → Type 0
+LeavesRoom t spare count = (most : ℕ) × (most + count ≤ t.geometry.pages) × HasSpare t spare most
+
+-- the block to be collected: the one with the fewest kept pages, which leave room for so many
+pub record IsVictim (count : ℕ) (t : Table) (v : ℕ) : Type 0 where
+  pub fewest : IsFewest t t.geometry.blocks v
+  pub leaves : (t.entry v).kept + count ≤ t.geometry.pages
+
+-- more good blocks are without a kept page than may be needed for retirements, and one for a collection
+abbrev pub HasMore : Table → (spare : ℕ) → Type 0
+HasMore t spare = 1 + spare < unkept_count t + bad_count t
+
+-- Kept pages lie where they lay; or, where no block without a kept page can be taken, those of the block with the fewest
+-- were moved.
+abbrev pub MovesFewest : (spare : ℕ) → Table → Index → Index → Type 0
+MovesFewest spare t x x' = (x' ≡ x) ⊎ (IsScarce t spare × ((v : ℕ) × IsFewest t t.geometry.blocks v × MovesOut v x x'))
+
+-- What was kept in block v lies in the open block, to which nothing else was written. No more blocks are bad than there
+-- are to spare, and blocks enough are free.
+pub record IsCollected (v spare : ℕ) (old new : Table) : Type 0 where
+  pub opened : (w : ℕ) × (new.open_block ≡ Some w) × ((new.entry w).next ≡ (old.entry v).kept)
+  pub few : bad_count new ≤ spare
+  pub free : HasFree new spare
+
+-- how the collection of block v ends
+abbrev pub CollectEnds : (v spare : ℕ) → Device → Table → Table → Result (Unit {0}) MoveFault → Type 0
+CollectEnds v spare device old new (Ok done) = IsCollected v spare old new × (device.gone ≡ false)
+CollectEnds v spare device old new (Err fault) = WhyNotMoved spare device new fault
+
+-- so many pages can still be written in the open block
+abbrev pub FitsOpen : (count : ℕ) → Table → Type 0
+FitsOpen count t = count ≤ room t
+
+-- The open block has room for so many pages. No more blocks are bad than there are to spare, and where blocks enough were
+-- free they are. A device that had power has it.
+pub record HasRoom (count spare : ℕ) (old new : Device) (t t' : Table) : Type 0 where
+  pub fits : FitsOpen count t'
+  pub few : bad_count t' ≤ spare
+  pub free : HasFree t spare → HasFree t' spare
+  pub power : old.gone ≡ false → new.gone ≡ false
+
+-- Why no room was made: too much is kept; or as with a move.
+abbrev pub WhyNoRoom : (count spare : ℕ) → Device → Table → Table → RoomFault → Type 0
+WhyNoRoom count spare device old new faults.Full = LeavesRoom old spare count → ⊥
+WhyNoRoom count spare device old new faults.Worn = WhyNotMoved spare device new moves.Worn
+WhyNoRoom count spare device old new faults.Lost = WhyNotMoved spare device new moves.Lost
+WhyNoRoom count spare device old new faults.Gone = WhyNotMoved spare device new moves.Gone
+
+-- how the making of room ends
+abbrev pub RoomEnds : (count spare : ℕ) → Device → Device → Table → Table → Result (Unit {0}) RoomFault → Type 0
+RoomEnds count spare old new t t' (Ok done) = HasRoom count spare old new t t'
+RoomEnds count spare old new t t' (Err fault) = WhyNoRoom count spare new t t' fault
+
+-- nothing changed
+pub record StaysWhole (old new : Device) (t t' : Table) (x x' : Index) : Type 0 where
+  pub device : new ≡ old
+  pub table : t' ≡ t
+  pub index : x' ≡ x
+
+-- where too much is kept nothing changed
+abbrev pub StaysWhereFull : Device → Device → Table → Table → Index → Index → Result (Unit {0}) RoomFault → Type 0
+StaysWhereFull old new t t' x x' (Ok done) = Unit {0}
+StaysWhereFull old new t t' x x' (Err faults.Full) = StaysWhole old new t t' x x'
+StaysWhereFull old new t t' x x' (Err faults.Worn) = Unit {0}
+StaysWhereFull old new t t' x x' (Err faults.Lost) = Unit {0}
+StaysWhereFull old new t t' x x' (Err faults.Gone) = Unit {0}

@@ -9,8 +9,8 @@ use Rattle.block_state.specs.laws.Kept.{free_where_closed, free_where_held}
 use Rattle.chunk_index.specs.declared.index.Index.{Index}
 use Rattle.chunk_index.specs.Kept.{HoldsNone}
 use Rattle.chunk_index.specs.Maps.{kept_pages}
-use Rattle.bad_blocks.specs.Moving.{Moves, MarksFailures, Costs, LiesIn}
-use Rattle.bad_blocks.specs.Retiring.{IsAway, IsOut, IsRetired, RetireEnds, open_failures}
+use Rattle.bad_blocks.specs.Moving.{Moves, MarksFailures, Costs, LiesIn, IsAway}
+use Rattle.bad_blocks.specs.Retiring.{IsOut, IsRetired, RetireEnds, open_failures}
 use Rattle.bad_blocks.specs.Standing.{Stands}
 use Rattle.bad_blocks.specs.declared.fault.MoveFault.{MoveFault}
 use Rattle.bad_blocks.specs.laws.Costs.{costs_join}

@@ -15,13 +15,13 @@ use Rattle.nand_model.specs.declared.geometry.Geometry.{Geometry}
 use Rattle.block_state.specs.Kept.{bad_count}
 use Rattle.block_state.specs.Table.{Table, Sets}
 use Rattle.bad_blocks.specs.Copying.{KeepsCounts}
-use Rattle.bad_blocks.specs.Moving.{Moves, LiesIn}
+use Rattle.bad_blocks.specs.Moving.{Moves, LiesIn, IsAway}
 use Rattle.bad_blocks.specs.Standing.{AreHeld, Stands}
 use Rattle.bad_blocks.specs.laws.Keeping.{bad_rises}
 use Rattle.bad_blocks.specs.laws.Moves.{are_held, stands_still, moves_kept}
 use Rattle.bad_blocks.specs.laws.Turns.{moves_join}
 use Rattle.bad_blocks.proofs.Marked.{marked_entry, keeps_marked, kept_marked, written_marked, one_more_bad}
-use Rattle.bad_blocks.specs.Retiring.{IsAway, IsEmptied, IsOut}
+use Rattle.bad_blocks.specs.Retiring.{IsEmptied, IsOut}
 
 module _ (v : ℕ) (t u s : Table) (kept : (b : ℕ) → (s.entry b).kept ≡ (u.entry b).kept) (next : (b : ℕ) → (s.entry b).next ≡ (u.entry b).next) (bad : (b : ℕ) → b ≢ v → (s.entry b).bad ≡ (u.entry b).bad)
     (open_block : s.open_block ≡ u.open_block) (none : (u.entry v).kept ≡ 0) where
@@ -91,4 +91,4 @@ module _ (spare v : ℕ) (d1 d2 d3 : Device) (t1 t2 t3 : Table) (x y : Index) (g
 
   pub out : (suspect : Option ℕ) → IsEmptied v t1 t2 suspect → (t3.entry v).bad ≡ true → bad_count t3 ≤ spare → IsOut v spare t1 t3 suspect
   out suspect e is few = out_marked v t1 t2 t3 keeps.kept (λ b. (marked_entry v d3.flash t2 t3 notes b).1) (λ b ne. ap (λ (z : BlockEntry). z.bad) (notes.sets.others b ne)) notes.open_block empty
-      spare suspect e is few (more_bad e.good is)
+      spare suspect e is few (more_bad e.left.good is)

@@ -1,6 +1,6 @@
 -- The move of the kept pages of a block.
 -- From: this project.
-use Rattle.std.specs.Prelude.{◌≡◌, ◌≢◌, ◌⊎◌, ◌<◌, ◌≤◌, ◌^◌, ℕ, ◌+◌, ◌*◌, true, false, Some, None, Result, Ok, Err}
+use Rattle.std.specs.Prelude.{◌≡◌, ◌≢◌, ◌⊎◌, ◌<◌, ◌≤◌, ◌^◌, ℕ, ◌+◌, ◌*◌, true, false, Option, Some, None, Result, Ok, Err}
 use Rattle.nand_model.specs.Calls.{Device, Lasts}
 use Rattle.block_state.specs.Kept.{bad_count, kept_count}
 use Rattle.block_state.specs.Table.{Table}
@@ -76,10 +76,15 @@ pub record LiesOpen (v w : ℕ) (old new : Table) : Type 0 where
   pub open_block : new.open_block ≡ Some w
   pub next : (new.entry w).next ≡ (old.entry v).kept
 
--- where the pages lie: in the open block; or, where the device said that the last page failed, in one that is not open
+-- where the pages lie that were kept in block v: in the open block; or in a suspect one, which is not open
+abbrev pub IsAway : ℕ → Table → Table → (suspect : Option ℕ) → Type 0
+IsAway v old new None = (w : ℕ) × LiesOpen v w old new
+IsAway v old new (Some w) = LiesIn v w old new × (new.open_block ≡ None)
+
+-- the same; the block is suspect where the device said that the last page failed
 abbrev pub IsMovedTo : ℕ → Table → Table → Moved → Type 0
-IsMovedTo v old new places.Trusted = (w : ℕ) × LiesOpen v w old new
-IsMovedTo v old new (places.Suspect w) = LiesIn v w old new × (new.open_block ≡ None)
+IsMovedTo v old new places.Trusted = IsAway v old new None
+IsMovedTo v old new (places.Suspect w) = IsAway v old new (Some w)
 
 -- the block holds no kept page, and it is good
 pub record IsLeft (v : ℕ) (t : Table) : Type 0 where

@@ -4,19 +4,13 @@ use Rattle.std.specs.Prelude.{◌≡◌, ◌<◌, ◌≤◌, ℕ, true, false, O
 use Rattle.nand_model.specs.Calls.{Device}
 use Rattle.block_state.specs.Kept.{bad_count}
 use Rattle.block_state.specs.Table.{Table}
-use Rattle.bad_blocks.specs.Moving.{LiesIn, LiesOpen, WhyNotMoved}
+use Rattle.bad_blocks.specs.Moving.{LiesOpen, IsAway, IsLeft, WhyNotMoved}
 use Rattle.bad_blocks.specs.Standing.{HasFree}
 use Rattle.bad_blocks.specs.declared.fault.MoveFault.{MoveFault}
 
--- where the pages lie that were kept in block v: in the open block; or in a suspect one, which is not open
-abbrev pub IsAway : ℕ → Table → Table → Option ℕ → Type 0
-IsAway v old new None = (w : ℕ) × LiesOpen v w old new
-IsAway v old new (Some w) = LiesIn v w old new × (new.open_block ≡ None)
-
 -- The good block holds no kept page: it held none, and no block is open; or its pages lie elsewhere.
 pub record IsEmptied (v : ℕ) (old new : Table) (suspect : Option ℕ) : Type 0 where
-  pub unkept : (new.entry v).kept ≡ 0
-  pub good : (new.entry v).bad ≡ false
+  pub left : IsLeft v new
   pub was_empty : (old.entry v).kept ≡ 0 → (new.open_block ≡ None) × (suspect ≡ None)
   pub moved : 1 ≤ (old.entry v).kept → IsAway v old new suspect
 

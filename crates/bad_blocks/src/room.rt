@@ -15,7 +15,8 @@ use transactions::{CopyOf, PageName};
 pub struct MoveRoom {
     keys: Vec<KeptKey>,
     pub(crate) copies: Vec<CopyOf>,
-    pub(crate) scratch: Vec<u8>,
+    /// One page, by way of which groups are written.
+    pub scratch: Vec<u8>,
 }
 
 impl MoveRoom {

@@ -19,7 +19,7 @@ returns-in_err-mark_emptied-clause-moves g c =
     let e = c.in_ok-suspect.ensures in
     let m = c.mark_emptied.ensures in
     let within : c.args.block < t1.geometry.blocks = subst (λ (z : Geometry). c.args.block < z.blocks) (sym c.requires.ready.geometry) c.requires.block in
-    moves_marked c.args.spare c.args.block d1 d2 d3 t1 t2 t3 c.args.index.now y m.marks.0 e.moves e.stands (c.the_counts_are_of_the_keys.ensures.none y) within e.ends.unkept m.marks.1 m.ready m.notes m.newest m.numbers
+    moves_marked c.args.spare c.args.block d1 d2 d3 t1 t2 t3 c.args.index.now y m.marks.0 e.moves e.stands (c.the_counts_are_of_the_keys.ensures.none y) within e.ends.left.unkept m.marks.1 m.ready m.notes m.newest m.numbers
 
 pub returns-in_err-mark_emptied-clause-stands : goal.returns-in_err-mark_emptied-clause-stands
 returns-in_err-mark_emptied-clause-stands g c =
@@ -33,7 +33,7 @@ returns-in_err-mark_emptied-clause-stands g c =
     let e = c.in_ok-suspect.ensures in
     let m = c.mark_emptied.ensures in
     let within : c.args.block < t1.geometry.blocks = subst (λ (z : Geometry). c.args.block < z.blocks) (sym c.requires.ready.geometry) c.requires.block in
-    stands_marked c.args.spare c.args.block d1 d2 d3 t1 t2 t3 c.args.index.now y m.marks.0 e.moves e.stands (c.the_counts_are_of_the_keys.ensures.none y) within e.ends.unkept m.marks.1 m.ready m.notes m.newest m.numbers
+    stands_marked c.args.spare c.args.block d1 d2 d3 t1 t2 t3 c.args.index.now y m.marks.0 e.moves e.stands (c.the_counts_are_of_the_keys.ensures.none y) within e.ends.left.unkept m.marks.1 m.ready m.notes m.newest m.numbers
 
 pub returns-in_err-mark_emptied-clause-marks : goal.returns-in_err-mark_emptied-clause-marks
 returns-in_err-mark_emptied-clause-marks g c =
@@ -49,7 +49,7 @@ returns-in_err-mark_emptied-clause-marks g c =
     let within : c.args.block < t1.geometry.blocks = subst (λ (z : Geometry). c.args.block < z.blocks) (sym c.requires.ready.geometry) c.requires.block in
     let p = err_from_is_err_and c.from_residual-in_err-mark_emptied.result c.from_residual-in_err-mark_emptied.ensures.1 in
     let lasts = m.marks.1.lasts.failures in
-    rw (p.1) (omega (arith, bad_marked c.args.spare c.args.block d1 d2 d3 t1 t2 t3 c.args.index.now y m.marks.0 e.moves e.stands (c.the_counts_are_of_the_keys.ensures.none y) within e.ends.unkept m.marks.1 m.ready m.notes m.newest m.numbers, e.marks, lasts))
+    rw (p.1) (omega (arith, bad_marked c.args.spare c.args.block d1 d2 d3 t1 t2 t3 c.args.index.now y m.marks.0 e.moves e.stands (c.the_counts_are_of_the_keys.ensures.none y) within e.ends.left.unkept m.marks.1 m.ready m.notes m.newest m.numbers, e.marks, lasts))
 
 pub returns-clause-moves : goal.returns-clause-moves
 returns-clause-moves g c =
@@ -63,7 +63,7 @@ returns-clause-moves g c =
     let e = c.in_ok-suspect.ensures in
     let m = c.mark_emptied.ensures in
     let within : c.args.block < t1.geometry.blocks = subst (λ (z : Geometry). c.args.block < z.blocks) (sym c.requires.ready.geometry) c.requires.block in
-    moves_marked c.args.spare c.args.block d1 d2 d3 t1 t2 t3 c.args.index.now y m.marks.0 e.moves e.stands (c.the_counts_are_of_the_keys.ensures.none y) within e.ends.unkept m.marks.1 m.ready m.notes m.newest m.numbers
+    moves_marked c.args.spare c.args.block d1 d2 d3 t1 t2 t3 c.args.index.now y m.marks.0 e.moves e.stands (c.the_counts_are_of_the_keys.ensures.none y) within e.ends.left.unkept m.marks.1 m.ready m.notes m.newest m.numbers
 
 pub returns-clause-stands : goal.returns-clause-stands
 returns-clause-stands g c =
@@ -77,7 +77,7 @@ returns-clause-stands g c =
     let e = c.in_ok-suspect.ensures in
     let m = c.mark_emptied.ensures in
     let within : c.args.block < t1.geometry.blocks = subst (λ (z : Geometry). c.args.block < z.blocks) (sym c.requires.ready.geometry) c.requires.block in
-    stands_marked c.args.spare c.args.block d1 d2 d3 t1 t2 t3 c.args.index.now y m.marks.0 e.moves e.stands (c.the_counts_are_of_the_keys.ensures.none y) within e.ends.unkept m.marks.1 m.ready m.notes m.newest m.numbers
+    stands_marked c.args.spare c.args.block d1 d2 d3 t1 t2 t3 c.args.index.now y m.marks.0 e.moves e.stands (c.the_counts_are_of_the_keys.ensures.none y) within e.ends.left.unkept m.marks.1 m.ready m.notes m.newest m.numbers
 
 pub returns-clause-marks : goal.returns-clause-marks
 returns-clause-marks g c =
@@ -92,7 +92,7 @@ returns-clause-marks g c =
     let m = c.mark_emptied.ensures in
     let within : c.args.block < t1.geometry.blocks = subst (λ (z : Geometry). c.args.block < z.blocks) (sym c.requires.ready.geometry) c.requires.block in
     let lasts = m.marks.1.lasts.failures in
-    omega (arith, bad_marked c.args.spare c.args.block d1 d2 d3 t1 t2 t3 c.args.index.now y m.marks.0 e.moves e.stands (c.the_counts_are_of_the_keys.ensures.none y) within e.ends.unkept m.marks.1 m.ready m.notes m.newest m.numbers, e.marks, lasts)
+    omega (arith, bad_marked c.args.spare c.args.block d1 d2 d3 t1 t2 t3 c.args.index.now y m.marks.0 e.moves e.stands (c.the_counts_are_of_the_keys.ensures.none y) within e.ends.left.unkept m.marks.1 m.ready m.notes m.newest m.numbers, e.marks, lasts)
 
 pub returns-clause-ends : goal.returns-clause-ends
 returns-clause-ends g c =
@@ -107,4 +107,4 @@ returns-clause-ends g c =
     let m = c.mark_emptied.ensures in
     let within : c.args.block < t1.geometry.blocks = subst (λ (z : Geometry). c.args.block < z.blocks) (sym c.requires.ready.geometry) c.requires.block in
     let ends = c.in_ok-mark_emptied.ensures.ends in
-    (out c.args.spare c.args.block d1 d2 d3 t1 t2 t3 c.args.index.now y m.marks.0 e.moves e.stands (c.the_counts_are_of_the_keys.ensures.none y) within e.ends.unkept m.marks.1 m.ready m.notes m.newest m.numbers c.in_ok-suspect.suspect e.ends ends.0 ends.1, ends.2)
+    (out c.args.spare c.args.block d1 d2 d3 t1 t2 t3 c.args.index.now y m.marks.0 e.moves e.stands (c.the_counts_are_of_the_keys.ensures.none y) within e.ends.left.unkept m.marks.1 m.ready m.notes m.newest m.numbers c.in_ok-suspect.suspect e.ends ends.0 ends.1, ends.2)

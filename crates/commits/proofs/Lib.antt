@@ -1,0 +1,8 @@
+pub mod Pigeons
+pub mod Following
+pub mod Counts
+pub mod Freeing
+pub mod Grouping
+pub mod Settling
+pub mod Turning
+pub mod Written

@@ -1,0 +1,311 @@
+-- The tables once the buffered pages count.
+use Rattle.std.proofs.Common.{◌≡◌, ◌≢◌, ◌⊎◌, ◌<◌, ◌≤◌, ℕ, ◌+◌, ◌-◌, ◌^◌, Bool, true, false, List, [], length, Some, None, refl, sym, ap, subst, ◌∙◌, arith, inl, inr}
+use Rattle.std.specs.Option.{option_map, option_map_or, option_and_then}
+use Rattle.std.proofs.lemmas.Bool.{cases_eq, eq-eqb}
+use Rattle.nand_model.specs.Flash.{Flash}
+use Rattle.nand_model.specs.Calls.{Device, Lasts}
+use Rattle.nand_model.specs.declared.geometry.Geometry.{Geometry}
+use Rattle.flash_tree.specs.Newest.{HasNewest}
+use Rattle.flash_tree.specs.declared.place.FreshPage.{FreshPage}
+use Rattle.flash_tree.specs.declared.place.Key.{Key}
+use Rattle.flash_tree.specs.laws.Finding.{slice_get_there}
+use Rattle.block_state.specs.declared.blocks.BlockEntry.{BlockEntry}
+use Rattle.block_state.specs.Kept.{bad_count, SameCounts}
+use Rattle.block_state.specs.Table.{Table, is_free, is_open, room}
+use Rattle.chunk_index.specs.declared.form.KeptPage.{KeptPage}
+use Rattle.chunk_index.specs.declared.form.Present.{Present}
+use Rattle.chunk_index.specs.declared.form.Present.TheVariants as presents
+use Rattle.chunk_index.specs.declared.form.WrittenGroup.{WrittenGroup}
+use Rattle.chunk_index.specs.declared.index.Index.{Index}
+use Rattle.chunk_index.specs.Counts.{Recounts}
+use Rattle.chunk_index.specs.Entries.{written_page}
+use Rattle.chunk_index.specs.Maps.{kept_pages, kept_in, present, written, CountsAgree, Settles}
+use Rattle.page_buffer.specs.Buffering.{Buffers}
+use Rattle.page_buffer.specs.laws.Buffering.{place_within, written_kept}
+use Rattle.page_buffer.specs.Shown.{data_at, data_by, kept_data, present_data}
+use Rattle.transactions.specs.Committing.{name_at, bytes_at}
+use Rattle.transactions.specs.Groups.{OkTable, next_group}
+use Rattle.transactions.specs.Handing.{HandsOut}
+use Rattle.transactions.specs.Newest.{ShowsGroup}
+use Rattle.transactions.specs.Ready.{AreBelow, IsReady}
+use Rattle.bad_blocks.specs.Standing.{AreKept, HasFree, IsKeptAt, MayLie, Stands, TablesAgree}
+use Rattle.bad_blocks.specs.laws.Keeping.{had_power}
+use Rattle.bad_blocks.specs.laws.Moves.{may_lie_later}
+use Rattle.commits.specs.Carrying.{AreWritable, Carries, HaveRanges}
+use Rattle.commits.specs.Keeping.{Commits}
+use Rattle.commits.proofs.Counts.{ListsAreWhole, settled_most, settled_elsewhere}
+use Rattle.commits.proofs.Following.{on_flash_kept}
+use Rattle.commits.proofs.Freeing.{bad_still, free_is, has_free, has_unkept}
+use Rattle.commits.proofs.Grouping.{kept_buffered, reads_buffered, kept_on_flash, reads_on_flash, carries_present}
+
+-- the table is ready still, since only counts changed
+pub ready_counted : (d : Device) (t u : Table) (before after : ℕ → ℕ) → Recounts before after t u → IsReady d t → IsReady d u
+ready_counted d t u before after counts ready = record {
+  geometry = counts.geometry ∙ ready.geometry;
+  marks = λ b. counts.bad b ∙ ready.marks b;
+  open_block = λ o opened.
+      let was = ready.open_block o (sym counts.open_block ∙ opened) in
+      let next = counts.next o in
+      let seq = counts.seq o in
+      let next_seq = counts.next_seq in
+      record {
+        within = was.within;
+        good = was.good;
+        next = was.next ∙ ap Some (sym next);
+        pages = let pages = was.pages in omega (arith, next, pages);
+        seq = (let one = was.seq.0 in omega (arith, seq, one), let below = was.seq.1 in omega (arith, seq, next_seq, below));
+      };
+  numbers = (let group = counts.next_group in let one = ready.numbers.0 in omega (arith, group, one), let seq = counts.next_seq in let one = ready.numbers.1 in omega (arith, seq, one));
+  below = λ honest. subst (λ n. AreBelow d.flash n u.next_seq) (sym counts.next_group) (subst (λ n. AreBelow d.flash t.next_group n) (sym counts.next_seq) (ready.below honest));
+}
+
+-- and as many numbers are handed out
+pub hands_counted : (d e : Device) (t u v : Table) (before after : ℕ → ℕ) → Recounts before after u v → HandsOut d e t u → HandsOut d e t v
+hands_counted d e t u v before after counts hands =
+    let group = counts.next_group in
+    let seq = counts.next_seq in
+    record {
+      groups_rise = omega (arith, group, hands.groups_rise);
+      seqs_rise = omega (arith, seq, hands.seqs_rise);
+      seqs = omega (arith, seq, hands.seqs);
+      groups = λ honest power. let few = hands.groups honest power in omega (arith, group, few);
+    }
+
+-- Tables where the index was settled: pages of the buffer may lie where the group says, its block has room for them, and
+-- it was not free.
+module _ (spare : ℕ) (lists : ListsAreWhole) (w : WrittenGroup) (t u v : Table) (x y : Index) (pages : List FreshPage) (settles : Settles w x y) (buffers : Buffers x pages)
+    (agree : CountsAgree v y) (counts : Recounts (kept_in x) (kept_in y) u v) (same : SameCounts t u) (tables : TablesAgree spare t x) (free : HasFree t spare) (rises : t.next_group ≤ u.next_group)
+    (lies : (q c i : ℕ) → present x q c ≡ presents.InBuffer i → MayLie v q c (written_page w i))
+    (fills : (t.entry w.block).kept + length pages ≤ t.geometry.pages)
+    (opened : (b : ℕ) → u.open_block ≡ Some b → (t.entry b).kept + length pages ≤ (u.entry b).next)
+    (not_free : is_free t w.block ≡ true → length pages ≡ 0)
+    (shut : (u.open_block ≡ t.open_block) ⊎ (u.open_block ≡ None)) where
+  most : (b : ℕ) → (v.entry b).kept ≤ (t.entry b).kept + length pages
+  most b =
+      let now = agree.counts b in
+      let was = tables.counts.counts b in
+      let few = settled_most lists w x y pages settles buffers b in
+      omega (arith, now, was, few)
+
+  elsewhere : (b : ℕ) → b ≢ w.block → (v.entry b).kept ≤ (t.entry b).kept
+  elsewhere b ne =
+      let now = agree.counts b in
+      let was = tables.counts.counts b in
+      let few = settled_elsewhere lists w x y pages settles buffers b ne in
+      omega (arith, now, was, few)
+
+  geometry : v.geometry ≡ t.geometry
+  geometry = counts.geometry ∙ same.geometry
+
+  less : (b : ℕ) → is_free t b ≡ true → (v.entry b).kept ≤ (t.entry b).kept
+  less b is = elim (cases_eq b w.block) [
+    | inr ne ↦ elsewhere b ne
+    | inl e ↦
+        let none : length pages ≡ 0 = not_free (sym (ap (is_free t) e) ∙ is) in
+        let few = most b in
+        omega (arith, none, few)
+  ]
+
+  marks : (b : ℕ) → (v.entry b).bad ≡ (t.entry b).bad
+  marks b = counts.bad b ∙ same.bad b
+
+  closes : (v.open_block ≡ t.open_block) ⊎ (v.open_block ≡ None)
+  closes = elim shut [ inl still ↦ inl (counts.open_block ∙ still) | inr none ↦ inr (counts.open_block ∙ none) ]
+
+  pub free_settled : HasFree v spare
+  free_settled = has_free t v geometry marks less closes spare free
+
+  pub bad_settled : bad_count v ≡ bad_count t
+  bad_settled = bad_still t v geometry marks less closes
+
+  pub tables_settled : TablesAgree spare v y
+  tables_settled = record {
+    counts = agree;
+    within = λ q c p is. within q c p is (present x q c) refl;
+    fits = λ b. subst (λ (z : Geometry). (v.entry b).kept ≤ z.pages) (sym geometry) (fits b);
+    written = λ o is.
+        let few = most o in
+        let next = counts.next o in
+        let fit = opened o (sym counts.open_block ∙ is) in
+        omega (arith, few, next, fit);
+    unkept = has_unkept t v geometry marks less closes spare free;
+  } where
+    fits : (b : ℕ) → (v.entry b).kept ≤ t.geometry.pages
+    fits b = elim (cases_eq b w.block) [
+      | inr ne ↦ let few = elsewhere b ne in let fit = tables.fits b in omega (arith, few, fit)
+      | inl e ↦ let few = most b in let there : (t.entry b).kept ≡ (t.entry w.block).kept = ap (λ k. (t.entry k).kept) e in omega (arith, few, there, fills)
+    ]
+
+    within : (q c : ℕ) (p : KeptPage) → kept_pages y q c ≡ Some p → (r : Present) → present x q c ≡ r → MayLie v q c p
+    within q c p is presents.Absent at = let two : None ≡ Some p = sym (settles.kept q c ∙ ap (written w) at) ∙ is in absurd cc
+    within q c p is (presents.OnFlash k) at =
+        let both : Some k ≡ Some p = sym (settles.kept q c ∙ ap (written w) at) ∙ is in
+        let e : k ≡ p = cc in
+        let group = counts.next_group in
+        subst (MayLie v q c) e (may_lie_later t v q c k geometry (omega (arith, group, rises)) (tables.within q c k (on_flash_kept x q c k at)))
+    within q c p is (presents.InBuffer i) at =
+        let both : Some (written_page w i) ≡ Some p = sym (settles.kept q c ∙ ap (written w) at) ∙ is in
+        let e : written_page w i ≡ p = cc in
+        subst (MayLie v q c) e (lies q c i at)
+
+-- the newest pages are kept, where those of the buffer are newest and all others that are present stay so
+pub newest_settled : (w : WrittenGroup) (f : Flash) (x y : Index) → Settles w x y → ((q c i : ℕ) → present x q c ≡ presents.InBuffer i → IsKeptAt f q c (written_page w i))
+    → ((q c : ℕ) (k : KeptPage) → present x q c ≡ presents.OnFlash k → IsKeptAt f q c k) → AreKept f (kept_pages y)
+newest_settled w f x y settles buffered on_flash q c p is = go (present x q c) refl where
+  go : (r : Present) → present x q c ≡ r → IsKeptAt f q c p
+  go presents.Absent at = let two : None ≡ Some p = sym (settles.kept q c ∙ ap (written w) at) ∙ is in absurd cc
+  go (presents.OnFlash k) at =
+      let both : Some k ≡ Some p = sym (settles.kept q c ∙ ap (written w) at) ∙ is in
+      let e : k ≡ p = cc in
+      subst (IsKeptAt f q c) e (on_flash q c k at)
+  go (presents.InBuffer i) at =
+      let both : Some (written_page w i) ≡ Some p = sym (settles.kept q c ∙ ap (written w) at) ∙ is in
+      let e : written_page w i ≡ p = cc in
+      subst (IsKeptAt f q c) e (buffered q c i at)
+
+-- ---- the table after a group that counts
+
+-- the block stays open, with so many pages more written, or none is open
+abbrev pub StaysOrCloses : (count o : ℕ) → Table → Table → Type 0
+StaysOrCloses count o t u = ((u.open_block ≡ t.open_block) × ((u.entry o).next ≡ (t.entry o).next + count)) ⊎ (u.open_block ≡ None)
+
+pub open_after : (suspect : Bool) (count o : ℕ) (t u : Table) → t.open_block ≡ Some o → OkTable suspect count t u → StaysOrCloses count o t u
+open_after true count o t u is closes = inr (ap (λ (s : Table). s.open_block) closes)
+open_after false count o t u is takes = inl (takes.open_block, ap (λ (e : BlockEntry). e.next) (takes.here o is))
+
+-- ---- the group of the buffered pages counts, and the index is settled
+
+module _ (spare : ℕ) (lists : ListsAreWhole) (d e : Device) (t u v : Table) (x y : Index) (pages : List FreshPage) (o : ℕ)
+    (buffers : Buffers x pages) (is : t.open_block ≡ Some o) (ready : IsReady d t) (stands : Stands spare d t x) (free : HasFree t spare)
+    (writable : AreWritable d.geometry pages) (ranges : HaveRanges pages) (fit : length pages ≤ room t)
+    (lasts : Lasts d e) (then : IsReady e u) (numbers : HandsOut d e t u) (same : SameCounts t u) (after : StaysOrCloses (length pages) o t u) (power : e.gone ≡ false)
+    (shows : d.honest ≡ true → ShowsGroup (next_group t (length pages) o) (name_at pages t.next_group) (bytes_at pages) d.flash e.flash)
+    (settles : Settles (record { block = o; first = (t.entry o).next; number = t.next_group }) x y) (agree : CountsAgree v y) (counts : Recounts (kept_in x) (kept_in y) u v) where
+  abbrev group : WrittenGroup
+  group = record { block = o; first = (t.entry o).next; number = t.next_group }
+
+  room_is : room t ≡ t.geometry.pages - (t.entry o).next
+  room_is = ap (λ z. option_map_or (λ b. t.geometry.pages - (t.entry b).next) z 0) is
+
+  pages_fit : (t.entry o).next + length pages ≤ t.geometry.pages
+  pages_fit =
+      let room = room_is in
+      let next : (t.entry o).next ≤ t.geometry.pages = subst (λ (z : Geometry). (t.entry o).next ≤ z.pages) (sym ready.geometry) (ready.open_block o is).pages in
+      omega (arith, room, fit, next)
+
+  lies : (q c i : ℕ) → present x q c ≡ presents.InBuffer i → MayLie v q c (written_page group i)
+  lies q c i at =
+      let key = buffers.there q c i at in
+      let k : Key = record { object = q; chunk = c } in
+      let lt : i < length pages = place_within pages i k key in
+      let there = slice_get_there pages i lt in
+      let both : Some there.0.key ≡ Some k = sym (ap (option_map (λ (p : FreshPage). p.key)) there.1) ∙ key in
+      let same_key : there.0.key ≡ k = cc in
+      let range = ranges i there.0 there.1 in
+      let first = (writable.each i there.0 there.1).0 in
+      let rise = numbers.groups_rise in
+      let rises = counts.next_group in
+      let fits = pages_fit in
+      record {
+        block = subst (λ (z : Geometry). o < z.blocks) (sym (counts.geometry ∙ same.geometry ∙ ready.geometry)) (ready.open_block o is).within;
+        page = subst (λ (z : Geometry). (t.entry o).next + i < z.pages) (sym (counts.geometry ∙ same.geometry)) (omega (arith, fits, lt));
+        name = record {
+          object = (subst (λ (z : Key). 1 ≤ z.object) same_key first, subst (λ (z : Key). z.object < 2 ^ 64) same_key range.object);
+          chunk = subst (λ (z : Key). z.chunk < 2 ^ 64) same_key range.chunk;
+          version = (ready.numbers.0, omega (arith, rise, rises));
+        };
+      }
+
+  fills : (t.entry o).kept + length pages ≤ t.geometry.pages
+  fills = let few = stands.tables.written o is in let fits = pages_fit in omega (arith, few, fits)
+
+  opened : (b : ℕ) → u.open_block ≡ Some b → (t.entry b).kept + length pages ≤ (u.entry b).next
+  opened b at = elim after [
+    | inr none ↦ let two : None ≡ Some b = sym none ∙ at in absurd cc
+    | inl (still, next) ↦
+        let both : Some o ≡ Some b = sym is ∙ sym still ∙ at in
+        let one : o ≡ b = cc in
+        let few = stands.tables.written o is in
+        let here : (t.entry o).kept + length pages ≤ (u.entry o).next = omega (arith, few, next) in
+        subst (λ k. (t.entry k).kept + length pages ≤ (u.entry k).next) one here
+  ]
+
+  not_free : is_free t o ≡ true → length pages ≡ 0
+  not_free at =
+      let shut : is_open t.open_block o ≡ false = (free_is t o at).2 in
+      let two : true ≡ false = sym (ap (λ z. is_open z o) is ∙ eq-eqb o o refl) ∙ shut in
+      absurd cc
+
+  shut : (u.open_block ≡ t.open_block) ⊎ (u.open_block ≡ None)
+  shut = elim after [ inl (still, next) ↦ inl still | inr none ↦ inr none ]
+
+  pub free_whole : HasFree v spare
+  free_whole = free_settled spare lists group t u v x y pages settles buffers agree counts same stands.tables free numbers.groups_rise lies fills opened not_free shut
+
+  pub bad_whole : bad_count v ≡ bad_count t
+  bad_whole = bad_settled spare lists group t u v x y pages settles buffers agree counts same stands.tables free numbers.groups_rise lies fills opened not_free shut
+
+  pub commits_whole : Commits spare d e t v x y pages
+  commits_whole = record {
+    lasts = lasts;
+    ready = ready_counted e u v (kept_in x) (kept_in y) counts then;
+    stands = record {
+      tables = tables_settled spare lists group t u v x y pages settles buffers agree counts same stands.tables free numbers.groups_rise lies fills opened not_free shut;
+      newest = λ honest on.
+          let was : d.honest ≡ true = sym lasts.honest ∙ honest in
+          newest_settled group e.flash x y settles (kept_buffered t x pages o buffers d.flash e.flash (shows was)) (kept_on_flash t x pages o buffers d.flash e.flash (shows was) (kept was));
+    };
+    numbers = hands_counted d e t u v (kept_in x) (kept_in y) counts numbers;
+    presents = settles.presents;
+    keys = settles.ready;
+    kept = λ honest on. written_kept group x y pages d.flash e.flash settles buffers (reads_buffered t x pages o buffers d.flash e.flash (shows honest)) (reads_on_flash t x pages o buffers d.flash e.flash (shows honest) (kept honest));
+    newest = λ honest. carries_present t x pages o buffers d.flash e.flash (shows honest) (kept honest);
+  } where
+    kept : d.honest ≡ true → AreKept d.flash (kept_pages x)
+    kept honest = stands.newest honest (had_power d e lasts power)
+
+-- ---- nothing is buffered
+
+module _ (spare : ℕ) (lists : ListsAreWhole) (w : WrittenGroup) (d : Device) (t v : Table) (x y : Index) (pages : List FreshPage) (none : pages ≡ [])
+    (buffers : Buffers x pages) (ready : IsReady d t) (stands : Stands spare d t x) (free : HasFree t spare)
+    (settles : Settles w x y) (agree : CountsAgree v y) (counts : Recounts (kept_in x) (kept_in y) t v) where
+  no_page : length pages ≡ 0
+  no_page = ap length none
+
+  not_there : (q c i : ℕ) → present x q c ≡ presents.InBuffer i → ⊥
+  not_there q c i at =
+      let lt : i < length pages = place_within pages i (record { object = q; chunk = c }) (buffers.there q c i at) in
+      let zero_long = no_page in
+      omega (arith, lt, zero_long)
+
+  here : SameCounts t t
+  here = record { bad = λ b. refl; kept = λ b. refl; geometry = refl }
+
+  full : (t.entry w.block).kept + length pages ≤ t.geometry.pages
+  full = let fit = stands.tables.fits w.block in let zero_long = no_page in omega (arith, fit, zero_long)
+
+  written_is : (b : ℕ) → t.open_block ≡ Some b → (t.entry b).kept + length pages ≤ (t.entry b).next
+  written_is b at = let fit = stands.tables.written b at in let zero_long = no_page in omega (arith, fit, zero_long)
+
+  pub free_empty : HasFree v spare
+  free_empty = free_settled spare lists w t t v x y pages settles buffers agree counts here stands.tables free (omega arith) (λ q c i at. absurd (not_there q c i at)) full written_is (λ _. no_page) (inl refl)
+
+  pub bad_empty : bad_count v ≡ bad_count t
+  bad_empty = bad_settled spare lists w t t v x y pages settles buffers agree counts here stands.tables free (omega arith) (λ q c i at. absurd (not_there q c i at)) full written_is (λ _. no_page) (inl refl)
+
+  pub stands_empty : Stands spare d v y
+  stands_empty = record {
+    tables = tables_settled spare lists w t t v x y pages settles buffers agree counts here stands.tables free (omega arith) (λ q c i at. absurd (not_there q c i at)) full written_is (λ _. no_page) (inl refl);
+    newest = λ honest power. newest_settled w d.flash x y settles (λ q c i at. absurd (not_there q c i at)) (λ q c k at. stands.newest honest power q c k (on_flash_kept x q c k at));
+  }
+
+  -- what is present is what is kept of it
+  pub carries_empty : Carries d.flash (kept_data x d.flash) → Carries d.flash (present_data x pages d.flash)
+  carries_empty carries q c xs is = go (present x q c) refl where
+    go : (r : Present) → present x q c ≡ r → HasNewest d.flash q c xs
+    go presents.Absent at = let two : None ≡ Some xs = sym (ap (data_by d.flash pages) at) ∙ is in absurd cc
+    go (presents.OnFlash k) at = carries q c xs (ap (option_and_then (data_at d.flash)) (on_flash_kept x q c k at) ∙ sym (ap (data_by d.flash pages) at) ∙ is)
+    go (presents.InBuffer i) at = absurd (not_there q c i at)
+
+  pub kept_empty : (q c : ℕ) → kept_data y d.flash q c ≡ present_data x pages d.flash q c
+  kept_empty = written_kept w x y pages d.flash d.flash settles buffers (λ i lt. let zero_long = no_page in absurd (omega (arith, lt, zero_long))) (λ q c k at. refl)

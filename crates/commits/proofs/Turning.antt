@@ -1,0 +1,267 @@
+-- What stands after one call and then another.
+use Rattle.std.proofs.Common.{◌≡◌, ◌⊎◌, ◌≤◌, ℕ, ◌+◌, ◌-◌, ◌*◌, true, false, List, [], length, Option, Some, None, Result, Ok, Err, refl, sym, ap, subst, ◌∙◌, inl, inr}
+use Rattle.std.specs.Option.{option_and_then}
+use Rattle.std.proofs.lemmas.Bool.{cases_Bool}
+use Rattle.nand_model.specs.Flash.{Flash}
+use Rattle.nand_model.specs.Calls.{Device, Lasts}
+use Rattle.nand_model.specs.declared.geometry.Geometry.{Geometry}
+use Rattle.nand_model.specs.laws.Calls.{lasts_on, lasts_here}
+use Rattle.flash_tree.specs.declared.place.FreshPage.{FreshPage}
+use Rattle.block_state.specs.Kept.{bad_count, kept_count}
+use Rattle.block_state.specs.Table.{Table}
+use Rattle.chunk_index.specs.declared.form.KeptPage.{KeptPage}
+use Rattle.chunk_index.specs.declared.form.Present.TheVariants as presents
+use Rattle.chunk_index.specs.declared.index.Index.{Index}
+use Rattle.chunk_index.specs.Entries.{as_kept}
+use Rattle.chunk_index.specs.Maps.{kept_pages, present}
+use Rattle.page_buffer.specs.declared.buffer.Buffer.{Buffer}
+use Rattle.page_buffer.specs.BufferOf.{buffered}
+use Rattle.page_buffer.specs.Buffering.{Buffers, IsUnbuffered}
+use Rattle.page_buffer.specs.Shown.{data_at, data_by, kept_data, present_data}
+use Rattle.page_buffer.specs.laws.Buffering.{buffers_empty}
+use Rattle.transactions.specs.Ready.{IsReady}
+use Rattle.transactions.specs.laws.Handing.{hands_on, hands_nothing}
+use Rattle.bad_blocks.specs.Moving.{Moves}
+use Rattle.bad_blocks.specs.Standing.{AreKept, HasFree, SameData, Stands}
+use Rattle.bad_blocks.specs.laws.Keeping.{had_power}
+use Rattle.collector.specs.Making.{LeavesRoom, WhyNoRoom}
+use Rattle.collector.specs.declared.fault.RoomFault.{RoomFault}
+use Rattle.collector.specs.declared.fault.RoomFault.TheVariants as faults
+use Rattle.commits.specs.Carrying.{Carries, CarriesEither, KeepsOrShows}
+use Rattle.commits.specs.Committing.{CommitEnds}
+use Rattle.commits.specs.Keeping.{Keeps, Commits, Leaves}
+use Rattle.commits.specs.Writing.{AttemptEnds, IsWhole, IsWaiting, WholeEnds}
+use Rattle.commits.proofs.Following.{moves_kept_out, moves_kept_none, moves_kept_on, buffers_moved, presents_moved, carries_kept, same_data_on, same_kept, same_present}
+
+-- nothing was done
+pub keeps_here : (spare : ℕ) (d : Device) (t : Table) (x : Index) → IsReady d t → Stands spare d t x → Keeps spare d d t t x x
+keeps_here spare d t x ready stands = record {
+  lasts = lasts_here d;
+  ready = ready;
+  stands = stands;
+  numbers = hands_nothing d t;
+  geometry = refl;
+  kept_count = refl;
+  index = moves_kept_none x;
+  same_data = λ honest o c p xs is v. v;
+}
+
+-- kept pages were moved out of a block
+pub keeps_moved : (spare v : ℕ) (d e : Device) (t u : Table) (x y : Index) → Moves v d e t u x y → Stands spare e u y → Keeps spare d e t u x y
+keeps_moved spare v d e t u x y moves stands = record {
+  lasts = moves.lasts;
+  ready = moves.ready;
+  stands = stands;
+  numbers = moves.numbers;
+  geometry = moves.geometry;
+  kept_count = moves.kept_count;
+  index = moves_kept_out v x y moves.index;
+  same_data = moves.same_data;
+}
+
+pub keeps_on : (spare : ℕ) (a b c : Device) (t u v : Table) (x y z : Index) → Keeps spare a b t u x y → Keeps spare b c u v y z → Keeps spare a c t v x z
+keeps_on spare a b c t u v x y z first then = record {
+  lasts = lasts_on a b c first.lasts then.lasts;
+  ready = then.ready;
+  stands = then.stands;
+  numbers = hands_on a b c t u v first.lasts then.lasts first.numbers then.numbers;
+  geometry = then.geometry ∙ first.geometry;
+  kept_count = then.kept_count ∙ first.kept_count;
+  index = moves_kept_on x y z first.index then.index;
+  same_data = λ honest. same_data_on x y a.flash b.flash c.flash first.index (first.same_data honest) (then.same_data (first.lasts.honest ∙ honest));
+}
+
+-- no buffered page counts
+pub leaves_kept : (spare : ℕ) (d e : Device) (t u : Table) (x y : Index) (pages rest : List FreshPage) → Keeps spare d e t u x y → Buffers y rest → Leaves spare d e t u x y pages rest
+leaves_kept spare d e t u x y pages rest keeps buffers = record {
+  lasts = keeps.lasts;
+  ready = keeps.ready;
+  stands = keeps.stands;
+  numbers = keeps.numbers;
+  buffers = buffers;
+  keys = keeps.index.ready;
+  newest = λ honest. inl (keeps.same_data honest);
+}
+
+pub leaves_moved : (spare : ℕ) (d e : Device) (t u : Table) (x y : Index) (pages : List FreshPage) → Keeps spare d e t u x y → Buffers x pages → Leaves spare d e t u x y pages pages
+leaves_moved spare d e t u x y pages keeps buffers = leaves_kept spare d e t u x y pages pages keeps (buffers_moved x y keeps.index pages buffers)
+
+-- what is kept is not in the buffer
+pub unbuffered : (y : Index) → ((o c : ℕ) → present y o c ≡ as_kept (kept_pages y o c)) → IsUnbuffered y
+unbuffered y same o c i is = go (kept_pages y o c) (sym (same o c) ∙ is) where
+  go : (m : Option KeptPage) → as_kept m ≡ presents.InBuffer i → ⊥
+  go None at = cc
+  go (Some p) at = cc
+
+-- the buffered pages count
+pub leaves_committed : (spare : ℕ) (d e : Device) (t u : Table) (x y : Index) (pages rest : List FreshPage) → Commits spare d e t u x y pages → rest ≡ [] → Leaves spare d e t u x y pages rest
+leaves_committed spare d e t u x y pages rest commits empty = record {
+  lasts = commits.lasts;
+  ready = commits.ready;
+  stands = commits.stands;
+  numbers = commits.numbers;
+  buffers = buffers_empty y rest (unbuffered y commits.presents) empty;
+  keys = commits.keys;
+  newest = λ honest. inr (commits.newest honest);
+}
+
+module _ (spare : ℕ) (a b c : Device) (t u v : Table) (x y z : Index) (pages : List FreshPage) (stands : Stands spare a t x) (first : Keeps spare a b t u x y) where
+  was_kept : a.honest ≡ true → b.gone ≡ false → AreKept a.flash (kept_pages x)
+  was_kept honest power = stands.newest honest (had_power a b first.lasts power)
+
+  now_kept : a.honest ≡ true → b.gone ≡ false → AreKept b.flash (kept_pages y)
+  now_kept honest power = first.stands.newest (first.lasts.honest ∙ honest) power
+
+  same_shown : a.honest ≡ true → b.gone ≡ false → (o k : ℕ) → present_data y pages b.flash o k ≡ present_data x pages a.flash o k
+  same_shown honest power = same_present x y a.flash b.flash first.index (was_kept honest power) (now_kept honest power) (first.same_data honest) pages
+
+  pub leaves_on : (rest : List FreshPage) → Leaves spare b c u v y z pages rest → Leaves spare a c t v x z pages rest
+  leaves_on rest then = record {
+    lasts = lasts_on a b c first.lasts then.lasts;
+    ready = then.ready;
+    stands = then.stands;
+    numbers = hands_on a b c t u v first.lasts then.lasts first.numbers then.numbers;
+    buffers = then.buffers;
+    keys = λ o k is. then.keys o k (first.index.ready o k is);
+    newest = λ honest. newest honest (cases_Bool b.gone);
+  } where
+    powered : a.honest ≡ true → b.gone ≡ false → KeepsOrShows y pages b.flash c.flash → KeepsOrShows x pages a.flash c.flash
+    powered honest power (inl same) = inl (same_data_on x y a.flash b.flash c.flash first.index (first.same_data honest) same)
+    powered honest power (inr shows) = inr (λ o k xs is. shows o k xs (same_shown honest power o k ∙ is))
+
+    newest : a.honest ≡ true → (b.gone ≡ true) ⊎ (b.gone ≡ false) → KeepsOrShows x pages a.flash c.flash
+    newest honest (inl gone) = inl (subst (λ (d : Device). SameData (kept_pages x) a.flash d.flash) (sym (then.lasts.gone gone)) (first.same_data honest))
+    newest honest (inr power) = powered honest power (then.newest (first.lasts.honest ∙ honest))
+
+  pub commits_after : c.gone ≡ false → Commits spare b c u v y z pages → Commits spare a c t v x z pages
+  commits_after on then =
+      let power : b.gone ≡ false = had_power b c then.lasts on in
+      record {
+        lasts = lasts_on a b c first.lasts then.lasts;
+        ready = then.ready;
+        stands = then.stands;
+        numbers = hands_on a b c t u v first.lasts then.lasts first.numbers then.numbers;
+        presents = then.presents;
+        keys = λ o k is. then.keys o k (first.index.ready o k is);
+        kept = λ honest still o k. then.kept (first.lasts.honest ∙ honest) still o k ∙ same_shown honest power o k;
+        newest = λ honest o k xs is. then.newest (first.lasts.honest ∙ honest) o k xs (same_shown honest power o k ∙ is);
+      }
+
+-- kept pages are moved once the buffered pages count
+pub commits_then : (spare : ℕ) (a b c : Device) (t u v : Table) (x y z : Index) (pages : List FreshPage) → Commits spare a b t u x y pages → Keeps spare b c u v y z → Commits spare a c t v x z pages
+commits_then spare a b c t u v x y z pages first then = record {
+  lasts = lasts_on a b c first.lasts then.lasts;
+  ready = then.ready;
+  stands = then.stands;
+  numbers = hands_on a b c t u v first.lasts then.lasts first.numbers then.numbers;
+  presents = presents_moved y z then.index first.presents;
+  keys = λ o k is. then.index.ready o k (first.keys o k is);
+  kept = λ honest on o k.
+      let mid : b.honest ≡ true = first.lasts.honest ∙ honest in
+      let power : b.gone ≡ false = had_power b c then.lasts on in
+      same_kept y z b.flash c.flash then.index (first.stands.newest mid power) (then.stands.newest (then.lasts.honest ∙ mid) on) (then.same_data mid) o k ∙ first.kept honest power o k;
+  newest = λ honest. newest honest (cases_Bool b.gone);
+} where
+  newest : a.honest ≡ true → (b.gone ≡ true) ⊎ (b.gone ≡ false) → Carries c.flash (present_data x pages a.flash)
+  newest honest (inl gone) = subst (λ (d : Device). Carries d.flash (present_data x pages a.flash)) (sym (then.lasts.gone gone)) (first.newest honest)
+  newest honest (inr power) =
+      let mid : b.honest ≡ true = first.lasts.honest ∙ honest in
+      λ o k xs is. carries_kept y b.flash c.flash (first.stands.newest mid power) (then.same_data mid) o k xs (first.kept honest power o k ∙ is)
+
+-- ---- the same with the buffer
+
+pub whole_after : (spare : ℕ) (a b c : Device) (t u v : Table) (x y z : Index) (b0 b1 b2 : Buffer) → Stands spare a t x → Keeps spare a b t u x y → buffered b1 ≡ buffered b0
+    → IsWhole spare b c u v y z b1 b2 → IsWhole spare a c t v x z b0 b2
+whole_after spare a b c t u v x y z b0 b1 b2 stands first same then = record {
+  commits = commits_after spare a b c t u v x y z (buffered b0) stands first then.power (subst (Commits spare b c u v y z) same then.commits);
+  out = record { empty = then.out.empty; last = then.out.last ∙ same };
+  free = then.free;
+  power = then.power;
+}
+
+pub whole_then : (spare : ℕ) (a b c : Device) (t u v : Table) (x y z : Index) (b0 b1 : Buffer) → IsWhole spare a b t u x y b0 b1 → Keeps spare b c u v y z → HasFree v spare → c.gone ≡ false
+    → IsWhole spare a c t v x z b0 b1
+whole_then spare a b c t u v x y z b0 b1 first then free power = record {
+  commits = commits_then spare a b c t u v x y z (buffered b0) first.commits then;
+  out = first.out;
+  free = free;
+  power = power;
+}
+
+pub waiting_after : (spare : ℕ) (a b c : Device) (t u v : Table) (x y z : Index) (b0 b1 : Buffer) → Keeps spare a b t u x y → IsWaiting spare b c u v y z b0 b1 → IsWaiting spare a c t v x z b0 b1
+waiting_after spare a b c t u v x y z b0 b1 first then = record {
+  keeps = keeps_on spare a b c t u v x y z first then.keeps;
+  buffered_still = then.buffered_still;
+  power = then.power;
+}
+
+pub waiting_then : (spare : ℕ) (a b c : Device) (t u v : Table) (x y z : Index) (b0 b1 : Buffer) → IsWaiting spare a b t u x y b0 b1 → Keeps spare b c u v y z → c.gone ≡ false → IsWaiting spare a c t v x z b0 b1
+waiting_then spare a b c t u v x y z b0 b1 first then power = record {
+  keeps = keeps_on spare a b c t u v x y z first.keeps then;
+  buffered_still = first.buffered_still;
+  power = power;
+}
+
+-- ---- room
+
+-- what leaves room does so still, where as much is kept and no more blocks are bad than there are to spare
+pub leaves_room : (t u : Table) (spare count : ℕ) → u.geometry ≡ t.geometry → kept_count u ≡ kept_count t → bad_count u ≤ spare → LeavesRoom t spare count → LeavesRoom u spare count
+leaves_room t u spare count geometry kept few (most, fits, has) = (
+  most,
+  subst (λ (g : Geometry). most + count ≤ g.pages) (sym geometry) fits,
+  record {
+    blocks = subst (λ (g : Geometry). spare + 2 ≤ g.blocks) (sym geometry) has.blocks;
+    bad = few;
+    kept = subst (λ (g : Geometry). kept_count u ≤ (g.blocks - spare - 1) * most) (sym geometry) (subst (λ n. n ≤ (t.geometry.blocks - spare - 1) * most) (sym kept) has.kept);
+  },
+)
+
+-- and so no room is made for the reason that none is made now
+pub why_before : (count spare : ℕ) (d : Device) (t u v : Table) (fault : RoomFault) → u.geometry ≡ t.geometry → kept_count u ≡ kept_count t → bad_count u ≤ spare
+    → WhyNoRoom count spare d u v fault → WhyNoRoom count spare d t v fault
+why_before count spare d t u v faults.Full geometry kept few why = λ leaves. why (leaves_room t u spare count geometry kept few leaves)
+why_before count spare d t u v faults.Worn geometry kept few why = why
+why_before count spare d t u v faults.Lost geometry kept few why = why
+why_before count spare d t u v faults.Gone geometry kept few why = why
+
+-- how the writing of the group ends short
+pub attempt_err : (count spare : ℕ) (d e : Device) (t u v : Table) (x y : Index) (b b' : Buffer) (fault : RoomFault) → AttemptEnds spare d e u v x y b b' (Err fault) → WhyNoRoom count spare e t v fault
+attempt_err count spare d e t u v x y b b' faults.Full ends = absurd ends
+attempt_err count spare d e t u v x y b b' faults.Worn ends = absurd ends
+attempt_err count spare d e t u v x y b b' faults.Lost ends = ends
+attempt_err count spare d e t u v x y b b' faults.Gone ends = ends
+
+-- ---- what is carried
+
+-- the kept pages are carried still, or the present ones are
+pub carries_either : (spare : ℕ) (d e : Device) (t : Table) (x : Index) (pages : List FreshPage) → Stands spare d t x → Lasts d e → d.honest ≡ true → KeepsOrShows x pages d.flash e.flash
+    → CarriesEither x pages d.flash e.flash
+carries_either spare d e t x pages stands lasts honest (inr shows) was = inr shows
+carries_either spare d e t x pages stands lasts honest (inl same) was = elim (cases_Bool d.gone) [
+  | inl gone ↦ inl (subst (λ (z : Device). Carries z.flash (kept_data x d.flash)) (sym (lasts.gone gone)) was)
+  | inr power ↦ inl (carries_kept x d.flash e.flash (stands.newest honest power) same)
+]
+
+as_kept_shown : (f : Flash) (m : Option KeptPage) (pages : List FreshPage) → data_by f pages (as_kept m) ≡ option_and_then (data_at f) m
+as_kept_shown f None pages = refl
+as_kept_shown f (Some p) pages = refl
+
+-- what is present is what is kept, and has its data
+pub shown_kept : (y : Index) (f : Flash) (rest : List FreshPage) → ((o c : ℕ) → present y o c ≡ as_kept (kept_pages y o c)) → (o c : ℕ) → present_data y rest f o c ≡ kept_data y f o c
+shown_kept y f rest same o c = ap (data_by f rest) (same o c) ∙ as_kept_shown f (kept_pages y o c) rest
+
+-- the buffered pages were written, and nothing else is to be done
+pub whole_committed : (spare : ℕ) (d e : Device) (t u : Table) (x y : Index) (b b' : Buffer) (result : Result (Unit {0}) RoomFault) → WholeEnds (length (buffered b)) spare d e t u x y b b' result
+    → CommitEnds spare d e t u x y b b' result
+whole_committed spare d e t u x y b b' (Err fault) why = why
+whole_committed spare d e t u x y b b' (Ok done) (whole, few) = record {
+  unbuffered = unbuffered y whole.commits.presents;
+  empty = whole.out.empty;
+  last = whole.out.last;
+  kept = λ honest. whole.commits.kept honest whole.power;
+  present = λ honest o c. shown_kept y e.flash (buffered b') whole.commits.presents o c ∙ whole.commits.kept honest whole.power o c;
+  newest = λ honest _. whole.commits.newest honest;
+  few = few;
+  free = whole.free;
+  power = λ _. whole.power;
+}

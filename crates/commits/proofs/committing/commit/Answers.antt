@@ -1,0 +1,74 @@
+use Rattle.std.proofs.Common.{◌≡◌, List, [], length, sym, ap, ◌∙◌, arith}
+use Rattle.std.proofs.lemmas.Bool.{eqb-true}
+use Rattle.std.proofs.lemmas.List.{nil_from_length}
+use Rattle.nand_model.specs.Calls.{Device}
+use Rattle.flash_tree.specs.declared.place.FreshPage.{FreshPage}
+use Rattle.block_state.specs.Kept.{bad_count}
+use Rattle.block_state.specs.Table.{Table}
+use Rattle.block_state.specs.TableOf.{table}
+use Rattle.chunk_index.specs.declared.index.Index.{Index}
+use Rattle.page_buffer.specs.BufferOf.{buffered}
+use Rattle.commits.proofs.Counts.{ListsAreWhole}
+use Rattle.commits.proofs.Settling.{bad_empty, carries_empty, free_empty, kept_empty, ready_counted, stands_empty}
+use Rattle.commits.proofs.Turning.{carries_either, shown_kept, whole_committed}
+use Rattle.commits.proofs.committing.commit.Goals as goal
+
+pub returns-then-is_empty-clause-ready : goal.returns-then-is_empty-clause-ready
+returns-then-is_empty-clause-ready g c =
+    ready_counted (g.N.Nand.state c.args.device.now) (table c.args.blocks.now) (table c.settle_empty.new.blocks) _ _ c.settle_empty.ensures.counts c.requires.ready
+
+pub returns-then-is_empty-clause-stands : goal.returns-then-is_empty-clause-stands
+returns-then-is_empty-clause-stands g c =
+    let d : Device = g.N.Nand.state c.args.device.now in
+    let t : Table = table c.args.blocks.now in
+    let v : Table = table c.settle_empty.new.blocks in
+    let x : Index = c.args.index.now in
+    let y : Index = c.settle_empty.new.index in
+    let pages : List FreshPage = buffered c.args.buffer.now in
+    let long : length c.pages.result.now ≡ 0 = eqb-true (length c.pages.result.now) 0 (sym c.if-is_empty.ensures) in
+    let none : pages ≡ [] = nil_from_length pages (sym (ap length c.pages.ensures) ∙ long) in
+    let lists : ListsAreWhole = let l = c.the_list_of_a_block_is_whole.ensures in record { kept = l.kept; here = l.here; count = l.count; all = l.all; once = l.once } in
+    let settled = c.settle_empty.ensures in
+    let w = settled.settles.0 in
+    let settles = settled.settles.1 in
+    let r = c.requires in
+    stands_empty c.args.spare lists w d t v x y pages none r.buffers r.ready r.stands r.free settles settled.agree settled.counts
+
+pub returns-then-is_empty-clause-ends : goal.returns-then-is_empty-clause-ends
+returns-then-is_empty-clause-ends g c =
+    let d : Device = g.N.Nand.state c.args.device.now in
+    let t : Table = table c.args.blocks.now in
+    let v : Table = table c.settle_empty.new.blocks in
+    let x : Index = c.args.index.now in
+    let y : Index = c.settle_empty.new.index in
+    let pages : List FreshPage = buffered c.args.buffer.now in
+    let long : length c.pages.result.now ≡ 0 = eqb-true (length c.pages.result.now) 0 (sym c.if-is_empty.ensures) in
+    let none : pages ≡ [] = nil_from_length pages (sym (ap length c.pages.ensures) ∙ long) in
+    let lists : ListsAreWhole = let l = c.the_list_of_a_block_is_whole.ensures in record { kept = l.kept; here = l.here; count = l.count; all = l.all; once = l.once } in
+    let settled = c.settle_empty.ensures in
+    let w = settled.settles.0 in
+    let settles = settled.settles.1 in
+    let r = c.requires in
+    let same : bad_count v ≡ bad_count t = bad_empty c.args.spare lists w d t v x y pages none r.buffers r.ready r.stands r.free settles settled.agree settled.counts in
+    let kept = kept_empty c.args.spare lists w d t v x y pages none r.buffers r.ready r.stands r.free settles settled.agree settled.counts in
+    record {
+      unbuffered = settled.unbuffered;
+      empty = settled.empty;
+      last = settled.last;
+      kept = λ _. kept;
+      present = λ _ q k. shown_kept y d.flash (buffered c.settle_empty.new.buffer) settles.presents q k ∙ kept q k;
+      newest = λ _. carries_empty c.args.spare lists w d t v x y pages none r.buffers r.ready r.stands r.free settles settled.agree settled.counts;
+      few = omega (arith, same, r.few);
+      free = free_empty c.args.spare lists w d t v x y pages none r.buffers r.ready r.stands r.free settles settled.agree settled.counts;
+      power = λ some. let zero_long : length pages ≡ 0 = ap length none in absurd (omega (arith, some, zero_long));
+    }
+
+pub returns-clause-newest : goal.returns-clause-newest
+returns-clause-newest g c =
+    λ honest. carries_either c.args.spare (g.N.Nand.state c.args.device.now) (g.N.Nand.state c.write_whole.new.device) (table c.args.blocks.now) c.args.index.now (buffered c.args.buffer.now)
+    c.requires.stands c.write_whole.ensures.leaves.lasts honest (c.write_whole.ensures.leaves.newest honest)
+
+pub returns-clause-ends : goal.returns-clause-ends
+returns-clause-ends g c =
+    whole_committed c.args.spare (g.N.Nand.state c.args.device.now) (g.N.Nand.state c.write_whole.new.device) (table c.args.blocks.now) (table c.write_whole.new.blocks) c.args.index.now c.write_whole.new.index
+    c.args.buffer.now c.write_whole.new.buffer c.write_whole.result c.write_whole.ensures.ends

@@ -1,0 +1,26 @@
+use Rattle.std.proofs.Common.{◌≡◌, ◌≤◌, ◌-◌}
+use Rattle.block_state.specs.Kept.{bad_count}
+use Rattle.block_state.specs.TableOf.{table}
+use Rattle.page_buffer.specs.BufferOf.{buffered}
+use Rattle.page_buffer.specs.Buffering.{Buffers}
+use Rattle.bad_blocks.specs.Moving.{MarksFailures}
+use Rattle.bad_blocks.specs.Room.{IsRoomFor}
+use Rattle.bad_blocks.specs.Standing.{HasFree}
+use Rattle.commits.specs.Committing.{SameSizes}
+use Rattle.commits.specs.Keeping.{Keeps}
+use Rattle.commits.proofs.turn.write_whole.Given as goal
+
+abbrev pub invariant-loop : goal.invariant-loop
+invariant-loop g l = record {
+  keeps : Keeps l.spare (g.N.Nand.state l.fn.device) (g.N.Nand.state l.device) (table l.fn.blocks) (table l.blocks) l.fn.index l.index;
+  buffers : Buffers l.index (buffered l.buffer);
+  same : buffered l.buffer ≡ buffered l.fn.buffer;
+  marks : MarksFailures 0 0 (g.N.Nand.state l.fn.device) (g.N.Nand.state l.device) (table l.fn.blocks) (table l.blocks);
+  few : bad_count (table l.blocks) ≤ l.spare;
+  free : HasFree (table l.blocks) l.spare;
+  room : IsRoomFor (g.N.Nand.state l.device).geometry l.room;
+  sizes : SameSizes l.fn.buffer l.buffer;
+}
+
+abbrev pub decreases-loop : goal.decreases-loop
+decreases-loop g l = l.spare - bad_count (table l.blocks)

@@ -1,0 +1,38 @@
+-- How a commit ends.
+use Rattle.std.specs.Prelude.{◌≡◌, ◌≤◌, ℕ, true, false, [], length, Result, Ok, Err}
+use Rattle.nand_model.specs.Calls.{Device}
+use Rattle.block_state.specs.Kept.{bad_count}
+use Rattle.block_state.specs.Table.{Table}
+use Rattle.chunk_index.specs.declared.index.Index.{Index}
+use Rattle.page_buffer.specs.declared.buffer.Buffer.{Buffer}
+use Rattle.page_buffer.specs.BufferOf.{buffered, written, most_pages, bytes_of_page}
+use Rattle.page_buffer.specs.Buffering.{IsUnbuffered}
+use Rattle.page_buffer.specs.Shown.{kept_data, present_data}
+use Rattle.bad_blocks.specs.Standing.{HasFree}
+use Rattle.collector.specs.Making.{WhyNoRoom}
+use Rattle.collector.specs.declared.fault.RoomFault.{RoomFault}
+use Rattle.commits.specs.Carrying.{Carries}
+
+-- the buffer holds as many pages of as many bytes at most
+pub record SameSizes (old new : Buffer) : Type 0 where
+  pub most : most_pages new ≡ most_pages old
+  pub bytes : bytes_of_page new ≡ bytes_of_page old
+
+-- A commit that is done: the buffer is empty, and has the pages that it had as those that were written last; what was
+-- present is kept, with its data, and what was dropped is not; of an honest device the present pages are the newest.
+-- No more blocks are bad than there are to spare, and blocks enough are free. A device that wrote has power.
+pub record IsCommitted (spare : ℕ) (old new : Device) (t' : Table) (x x' : Index) (b b' : Buffer) : Type 0 where
+  pub unbuffered : IsUnbuffered x'
+  pub empty : buffered b' ≡ []
+  pub last : written b' ≡ buffered b
+  pub kept : old.honest ≡ true → (o c : ℕ) → kept_data x' new.flash o c ≡ present_data x (buffered b) old.flash o c
+  pub present : old.honest ≡ true → (o c : ℕ) → present_data x' (buffered b') new.flash o c ≡ present_data x (buffered b) old.flash o c
+  pub newest : old.honest ≡ true → Carries old.flash (kept_data x old.flash) → Carries new.flash (present_data x (buffered b) old.flash)
+  pub few : bad_count t' ≤ spare
+  pub free : HasFree t' spare
+  pub power : 1 ≤ length (buffered b) → new.gone ≡ false
+
+-- How a commit ends: done; or not, for lack of room for so many pages in one block, or as where kept pages are not moved.
+abbrev pub CommitEnds : (spare : ℕ) → Device → Device → Table → Table → Index → Index → Buffer → Buffer → Result (Unit {0}) RoomFault → Type 0
+CommitEnds spare old new t t' x x' b b' (Ok done) = IsCommitted spare old new t' x x' b b'
+CommitEnds spare old new t t' x x' b b' (Err fault) = WhyNoRoom (length (buffered b)) spare new t t' fault

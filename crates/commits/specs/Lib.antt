@@ -1,0 +1,4 @@
+pub mod Carrying
+pub mod Keeping
+pub mod Writing
+pub mod Committing

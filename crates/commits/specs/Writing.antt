@@ -1,0 +1,68 @@
+-- How the buffered pages are written as one group.
+use Rattle.std.specs.Prelude.{◌≡◌, ◌<◌, ◌≤◌, ℕ, true, false, [], Result, Ok, Err}
+use Rattle.nand_model.specs.Calls.{Device}
+use Rattle.block_state.specs.Kept.{bad_count}
+use Rattle.block_state.specs.Table.{Table}
+use Rattle.chunk_index.specs.declared.index.Index.{Index}
+use Rattle.page_buffer.specs.declared.buffer.Buffer.{Buffer}
+use Rattle.page_buffer.specs.BufferOf.{buffered, written}
+use Rattle.bad_blocks.specs.Standing.{HasFree}
+use Rattle.collector.specs.declared.fault.RoomFault.{RoomFault}
+use Rattle.collector.specs.declared.fault.RoomFault.TheVariants as faults
+use Rattle.commits.specs.declared.writing.Attempt.{Attempt}
+use Rattle.commits.specs.declared.writing.Attempt.TheVariants as attempts
+use Rattle.commits.specs.declared.turn.Turn.{Turn}
+use Rattle.commits.specs.declared.turn.Turn.TheVariants as turns
+use Rattle.commits.specs.Keeping.{Keeps, Commits}
+use Rattle.collector.specs.Making.{WhyNoRoom}
+
+-- the buffer is empty, and its pages are those that were written last
+pub record IsWrittenOut (old new : Buffer) : Type 0 where
+  pub empty : buffered new ≡ []
+  pub last : written new ≡ buffered old
+
+-- the buffered pages count, blocks enough are free, and the device has power
+pub record IsWhole (spare : ℕ) (old new : Device) (t t' : Table) (x x' : Index) (b b' : Buffer) : Type 0 where
+  pub commits : Commits spare old new t t' x x' (buffered b)
+  pub out : IsWrittenOut b b'
+  pub free : HasFree t' spare
+  pub power : new.gone ≡ false
+
+-- no buffered page counts, all are buffered still, and the device has power
+pub record IsWaiting (spare : ℕ) (old new : Device) (t t' : Table) (x x' : Index) (b b' : Buffer) : Type 0 where
+  pub keeps : Keeps spare old new t t' x x'
+  pub buffered_still : buffered b' ≡ buffered b
+  pub power : new.gone ≡ false
+
+-- a good block of the device
+pub record IsGoodBlock (w : ℕ) (device : Device) (t : Table) : Type 0 where
+  pub within : w < device.geometry.blocks
+  pub good : (t.entry w).bad ≡ false
+
+-- how the writing of the group ends
+abbrev pub AttemptEnds : (spare : ℕ) → Device → Device → Table → Table → Index → Index → Buffer → Buffer → Result Attempt RoomFault → Type 0
+AttemptEnds spare old new t t' x x' b b' (Ok attempts.Trusted) = IsWhole spare old new t t' x x' b b'
+AttemptEnds spare old new t t' x x' b b' (Ok (attempts.Suspect w)) = IsWhole spare old new t t' x x' b b' × IsGoodBlock w new t'
+AttemptEnds spare old new t t' x x' b b' (Ok (attempts.Failed w)) = IsWaiting spare old new t t' x x' b b' × IsGoodBlock w new t'
+AttemptEnds spare old new t t' x x' b b' (Err faults.Full) = ⊥
+AttemptEnds spare old new t t' x x' b b' (Err faults.Worn) = ⊥
+AttemptEnds spare old new t t' x x' b b' (Err faults.Lost) = new.honest ≡ false
+AttemptEnds spare old new t t' x x' b b' (Err faults.Gone) = new.gone ≡ true
+
+-- a failed group and a suspect one are a failure that no mark has answered yet
+abbrev pub unanswered : Result Attempt RoomFault → ℕ
+unanswered (Ok attempts.Trusted) = 0
+unanswered (Ok (attempts.Suspect w)) = 1
+unanswered (Ok (attempts.Failed w)) = 1
+unanswered (Err fault) = 0
+
+-- how a turn ends: the pages count; or not, and a block more is bad; with no more bad than there are to spare
+abbrev pub TurnEnds : (count spare : ℕ) → Device → Device → Table → Table → Index → Index → Buffer → Buffer → Result Turn RoomFault → Type 0
+TurnEnds count spare old new t t' x x' b b' (Ok turns.Written) = IsWhole spare old new t t' x x' b b' × (bad_count t' ≤ spare)
+TurnEnds count spare old new t t' x x' b b' (Ok turns.Again) = IsWaiting spare old new t t' x x' b b' × HasFree t' spare × (bad_count t < bad_count t') × (bad_count t' ≤ spare)
+TurnEnds count spare old new t t' x x' b b' (Err fault) = WhyNoRoom count spare new t t' fault
+
+-- how the writing ends, of as many turns as it takes
+abbrev pub WholeEnds : (count spare : ℕ) → Device → Device → Table → Table → Index → Index → Buffer → Buffer → Result (Unit {0}) RoomFault → Type 0
+WholeEnds count spare old new t t' x x' b b' (Ok done) = IsWhole spare old new t t' x x' b b' × (bad_count t' ≤ spare)
+WholeEnds count spare old new t t' x x' b b' (Err fault) = WhyNoRoom count spare new t t' fault

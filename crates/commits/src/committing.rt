@@ -1,0 +1,90 @@
+// The commit.
+ghost use Rattle.std.specs.Prelude.{◌≡◌, ◌≤◌, ℕ, [], true};
+ghost use Rattle.nand_model.specs.Calls.{Lasts};
+ghost use Rattle.block_state.specs.Kept.{bad_count};
+ghost use Rattle.block_state.specs.TableOf.{table};
+ghost use Rattle.chunk_index.specs.declared.form.WrittenGroup.{WrittenGroup};
+ghost use Rattle.chunk_index.specs.Counts.{Recounts};
+ghost use Rattle.chunk_index.specs.Maps.{CountsAgree, Settles, kept_in};
+ghost use Rattle.page_buffer.specs.BufferOf.{buffered, written};
+ghost use Rattle.page_buffer.specs.Buffering.{Buffers, IsUnbuffered};
+ghost use Rattle.transactions.specs.Handing.{HandsOut};
+ghost use Rattle.transactions.specs.Ready.{IsReady};
+ghost use Rattle.bad_blocks.specs.Moving.{MarksFailures};
+ghost use Rattle.bad_blocks.specs.Room.{IsRoomFor};
+ghost use Rattle.bad_blocks.specs.Standing.{HasFree, Stands};
+ghost use Rattle.commits.specs.Carrying.{AreWritable, CarriesEither, KeepsOrShows};
+ghost use Rattle.commits.specs.Committing.{CommitEnds, SameSizes};
+ghost use Rattle.commits.specs.Keeping.{StaysReady};
+
+use crate::turn::write_whole;
+use bad_blocks::MoveRoom;
+use block_state::Blocks;
+use chunk_index::{Index, WrittenGroup, the_list_of_a_block_is_whole};
+use collector::RoomFault;
+use nand_model::Nand;
+use page_buffer::Buffer;
+
+/// Settles the index, where no page is buffered: what was dropped is not kept any more.
+fn settle_empty(index: &mut Index, buffer: &mut Buffer, blocks: &mut Blocks)
+    requires buffers { Buffers index.old (buffered buffer.old) }
+    requires none { buffered buffer.old ≡ [] }
+    requires agree { CountsAgree (table blocks.old) index.old }
+    ensures settles { (g : WrittenGroup) × Settles g index.old index.new }
+    ensures agree { CountsAgree (table blocks.new) index.new }
+    ensures counts { Recounts (kept_in index.old) (kept_in index.new) (table blocks.old) (table blocks.new) }
+    ensures unbuffered { IsUnbuffered index.new }
+    ensures empty { buffered buffer.new ≡ [] }
+    ensures last { written buffer.new ≡ buffered buffer.old }
+    ensures sizes { SameSizes buffer.old buffer.new }
+{
+    let group = WrittenGroup {
+        block: 0,
+        first: 0,
+        number: 0,
+    };
+    buffer.settle(index, group, blocks);
+}
+
+/// Writes the pages of the buffer to the flash as one group, so that they count all or none, and settles the index: what is
+/// present is kept then, and what was dropped is not. Where a program fails, its block is retired and the group is written
+/// again, as long as no more than `spare` blocks are bad. It takes no memory. With no page in the buffer there is no call of
+/// the device.
+pub fn commit<N: Nand>(
+    device: &mut N,
+    blocks: &mut Blocks,
+    index: &mut Index,
+    buffer: &mut Buffer,
+    room: &mut MoveRoom,
+    spare: u32,
+) -> Result<(), RoomFault>
+    requires ready { IsReady (N.state device.old) (table blocks.old) }
+    requires stands { Stands spare (N.state device.old) (table blocks.old) index.old }
+    requires few { bad_count (table blocks.old) ≤ spare }
+    requires free { HasFree (table blocks.old) spare }
+    requires room { IsRoomFor (N.state device.old).geometry room.old }
+    requires buffers { Buffers index.old (buffered buffer.old) }
+    requires pages { AreWritable (N.state device.old).geometry (buffered buffer.old) }
+    ensures lasts { Lasts (N.state device.old) (N.state device.new) }
+    ensures ready { IsReady (N.state device.new) (table blocks.new) }
+    ensures stands { Stands spare (N.state device.new) (table blocks.new) index.new }
+    ensures numbers { HandsOut (N.state device.old) (N.state device.new) (table blocks.old) (table blocks.new) }
+    // Each mark answers a failure.
+    ensures marks { MarksFailures 0 0 (N.state device.old) (N.state device.new) (table blocks.old) (table blocks.new) }
+    ensures room { IsRoomFor (N.state device.new).geometry room.new }
+    ensures buffers { Buffers index.new (buffered buffer.new) }
+    ensures sizes { SameSizes buffer.old buffer.new }
+    ensures keys { StaysReady index.old index.new }
+    // Wherever it ends, the flash carries what was kept, or all that was present.
+    ensures newest { (N.state device.old).honest ≡ true → CarriesEither index.old (buffered buffer.old) (N.state device.old).flash (N.state device.new).flash }
+    ensures data { (N.state device.old).honest ≡ true → KeepsOrShows index.old (buffered buffer.old) (N.state device.old).flash (N.state device.new).flash }
+    ensures no_call { buffered buffer.old ≡ [] → N.state device.new ≡ N.state device.old }
+    ensures ends { CommitEnds spare (N.state device.old) (N.state device.new) (table blocks.old) (table blocks.new) index.old index.new buffer.old buffer.new result }
+{
+    if buffer.pages().is_empty() {
+        the_list_of_a_block_is_whole();
+        settle_empty(index, buffer, blocks);
+        return Ok(());
+    }
+    write_whole(device, blocks, index, buffer, room, spare)
+}

@@ -34,7 +34,7 @@ use Rattle.page_buffer.specs.declared.buffer.Buffer.{Buffer}
 use Rattle.objects.specs.declared.store.Found.{Found}
 use Rattle.objects.specs.Found.{bytes_or}
 use Rattle.objects.specs.Caching.{Shows}
-use Rattle.objects.specs.Changing.{Carries}
+use Rattle.commits.specs.Carrying.{Carries}
 use Rattle.objects.specs.Reading.{Caches, IsLoadFault, IsFindFault}
 use Rattle.objects.specs.StoreOf.{known, seen}
 

@@ -19,7 +19,7 @@ invariant_of-result g c =
       stands = c.requires.stands;
       room_size = subst (λ (k : Geometry). IsRoomFor k made.room) sizes e.room;
       buffers = buffers_empty c.args.index _ c.requires.none e.buffer.0;
-      objects = λ i p is. absurd (let two : None ≡ Some p = ap (λ (xs : List FreshPage). slice_get xs i) (sym e.buffer.0) ∙ is in cc);
+      objects = λ _ i p is. absurd (let two : None ≡ Some p = ap (λ (xs : List FreshPage). slice_get xs i) (sym e.buffer.0) ∙ is in cc);
       most = e.buffer.1 ∙ ap (λ (k : Geometry). k.pages / 4) sizes;
       size = e.page ∙ ap (λ (k : Geometry). k.bytes) sizes;
       buffer_size = e.buffer.2 ∙ ap (λ (k : Geometry). k.bytes) sizes;

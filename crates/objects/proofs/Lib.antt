@@ -1,1 +1,4 @@
 pub mod ReadOnly
+pub mod Shown
+pub mod Kept
+pub mod Steps

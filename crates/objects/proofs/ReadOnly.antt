@@ -1,10 +1,13 @@
 -- What reads of the device leave of a store.
-use Rattle.std.specs.Prelude.{◌≡◌, ◌<◌, ℕ, Bool, true, false, not, ◌&&◌, ◌||◌, zero, suc, List, [], ◌∷◌, length, Option, Some, None, IsSome, Result, Ok, Err, IfOk, IfErr, OnOk}
-use Rattle.std.specs.Option.{option_and_then}
+use Rattle.std.specs.Prelude.{◌≡◌, ◌<◌, ℕ, Bool, true, false, not, ◌&&◌, ◌||◌, zero, suc, List, [], ◌∷◌, length, Option, Some, None, Result, Ok, Err, IfOk, IfErr, OnOk}
 use Rattle.std.proofs.Common.{refl, sym, ◌∙◌, ap, subst, inl, inr, arith}
 use Rattle.std.proofs.lemmas.Bool.{cases_Bool, or_left, or_right}
 use Rattle.nand_model.specs.Flash.{Flash}
-use Rattle.nand_model.specs.Calls.{Device}
+use Rattle.nand_model.specs.Calls.{Device, Lasts}
+use Rattle.flash_tree.specs.laws.Place.{same_flash}
+use Rattle.block_state.specs.Table.{Table}
+use Rattle.transactions.specs.Ready.{IsReady}
+use Rattle.bad_blocks.specs.Standing.{IsKeptAt, AreKept, MayLie, Stands}
 use Rattle.nand_model.specs.Changes.{OnlyReads}
 use Rattle.nand_model.specs.declared.geometry.Geometry.{Geometry}
 use Rattle.flash_tree.specs.declared.place.FreshPage.{FreshPage}
@@ -17,9 +20,8 @@ use Rattle.chunk_index.specs.declared.form.Present.TheVariants as presents
 use Rattle.chunk_index.specs.declared.index.Index.{Index}
 use Rattle.chunk_index.specs.Entries.{as_kept, present_by, present_of, kept_of}
 use Rattle.chunk_index.specs.Shelves.{look}
-use Rattle.chunk_index.specs.Maps.{KeptMap, kept_pages, present}
-use Rattle.page_buffer.specs.Shown.{data_at, data_by, data_in, kept_data, present_data}
-use Rattle.page_cache.specs.Cached.{cached}
+use Rattle.chunk_index.specs.Maps.{kept_pages, present}
+use Rattle.page_buffer.specs.Shown.{data_of, data_at, data_by, data_in, kept_data, present_data}
 use Rattle.page_cache.specs.declared.cache.PageCache.{PageCache}
 use Rattle.pages.specs.Maps.{PageMap}
 use Rattle.pages.specs.State.{OnlyFinds, FindsPage, FailsBy}
@@ -31,15 +33,10 @@ use Rattle.page_buffer.specs.BufferOf.{buffered}
 use Rattle.page_buffer.specs.declared.buffer.Buffer.{Buffer}
 use Rattle.objects.specs.declared.store.Found.{Found}
 use Rattle.objects.specs.Found.{bytes_or}
-use Rattle.objects.specs.Reading.{Caches, IsFindFault}
-use Rattle.objects.specs.StoreOf.{LieOn, known, seen}
-
--- the flash of an honest device stays
-pub flash_is : (a b : Device) → OnlyReads a b → a.honest ≡ true → b.flash ≡ a.flash
-flash_is a b reads honest =
-    ap (λ x. record { bad = x; next = b.flash.next; page = b.flash.page }) reads.bad
-    ∙ ap (λ x. record { bad = a.flash.bad; next = x; page = b.flash.page }) reads.next
-    ∙ ap (λ x. record { bad = a.flash.bad; next = a.flash.next; page = x }) (reads.page honest)
+use Rattle.objects.specs.Caching.{Shows}
+use Rattle.commits.specs.Carrying.{Carries}
+use Rattle.objects.specs.Reading.{Caches, IsLoadFault, IsFindFault}
+use Rattle.objects.specs.StoreOf.{known, seen}
 
 -- the pages that are known stay
 pub known_same : (a b : Device) (m : Flash → PageMap) → OnlyReads a b → known b.honest (m b.flash) ≡ known a.honest (m a.flash)
@@ -49,7 +46,7 @@ known_same a b m reads = elim (cases_Bool a.honest) [
       ap (λ h. known h (m b.flash)) then ∙ sym (ap (λ h. known h (m a.flash)) lies)
   | inl honest ↦
       let then : b.honest ≡ true = reads.lasts.honest ∙ honest in
-      ap (λ h. known h (m b.flash)) then ∙ ap m (flash_is a b reads honest) ∙ sym (ap (λ h. known h (m a.flash)) honest)
+      ap (λ h. known h (m b.flash)) then ∙ ap m (same_flash a b reads honest) ∙ sym (ap (λ h. known h (m a.flash)) honest)
 ]
 
 -- a page that is present on the flash is the kept one
@@ -70,27 +67,67 @@ of_entry (Some e) k is = by_state e.kept e.state k is
 pub kept_there : (x : Index) (o c : ℕ) (k : KeptPage) → present x o c ≡ presents.OnFlash k → kept_pages x o c ≡ Some k
 kept_there x o c k is = of_entry (look x.shelf.objects o c) k is
 
--- what lies on the device still does
-pub lie_same : (g h : Geometry) (m : KeptMap) → h ≡ g → LieOn g m → LieOn h m
-lie_same g h m same lie = subst (λ (k : Geometry). LieOn k m) (sym same) lie
+-- a page that is present on the flash lies on the device
+pub lies : (spare : ℕ) (d : Device) (t : Table) (x : Index) (o c : ℕ) (k : KeptPage) → IsReady d t → Stands spare d t x → present x o c ≡ presents.OnFlash k
+    → (k.block < d.geometry.blocks) × (k.page < d.geometry.pages)
+lies spare d t x o c k ready stands is =
+    let at : MayLie t o c k = stands.tables.within o c k (kept_there x o c k is) in
+    (subst (λ (g : Geometry). k.block < g.blocks) ready.geometry at.block, subst (λ (g : Geometry). k.page < g.pages) ready.geometry at.page)
 
--- kept pages are still written
-pub written_same : (a b : Device) (m : KeptMap) → OnlyReads a b → (a.honest ≡ true → (o c : ℕ) (k : KeptPage) → m o c ≡ Some k → IsSome (data_at a.flash k))
-    → b.honest ≡ true → (o c : ℕ) (k : KeptPage) → m o c ≡ Some k → IsSome (data_at b.flash k)
-written_same a b m reads written honest o c k is =
-    let before : a.honest ≡ true = sym reads.lasts.honest ∙ honest in
-    subst (λ (f : Flash). IsSome (data_at f k)) (sym (flash_is a b reads before)) (written before o c k is)
+-- a device that has power had it before
+pub had_power : (a b : Device) → Lasts a b → b.gone ≡ false → a.gone ≡ false
+had_power a b lasts power = elim (cases_Bool a.gone) [
+  | inr is ↦ is
+  | inl gone ↦ let two : true ≡ false = sym gone ∙ sym (ap (λ (d : Device). d.gone) (lasts.gone gone)) ∙ power in absurd cc
+]
 
--- and what is cached is still what is kept
-pub cached_same : (a b : Device) (x : Index) (key : Key) (at : KeptPage) (old new : PageCache) → OnlyReads a b → kept_pages x key.object key.chunk ≡ Some at → Caches a key at old new
-    → (a.honest ≡ true → (o c : ℕ) (xs : List ℕ) → cached old o c ≡ Some xs → kept_data x a.flash o c ≡ Some xs)
-    → b.honest ≡ true → (o c : ℕ) (xs : List ℕ) → cached new o c ≡ Some xs → kept_data x b.flash o c ≡ Some xs
-cached_same a b x key at old new reads kept caches same honest o c xs is =
+-- what stands still does
+pub stands_read : (spare : ℕ) (a b : Device) (t : Table) (x : Index) → OnlyReads a b → Stands spare a t x → Stands spare b t x
+stands_read spare a b t x reads stands = record {
+  tables = stands.tables;
+  newest = λ honest power.
+      let before : a.honest ≡ true = sym reads.lasts.honest ∙ honest in
+      subst (λ (f : Flash). AreKept f (kept_pages x)) (sym (same_flash a b reads before)) (stands.newest before (had_power a b reads.lasts power));
+}
+
+-- kept pages are still the newest of their keys
+pub carried_read : (a b : Device) (x : Index) → OnlyReads a b → (a.honest ≡ true → Carries a.flash (kept_data x a.flash)) → b.honest ≡ true → Carries b.flash (kept_data x b.flash)
+carried_read a b x reads carried honest =
     let before : a.honest ≡ true = sym reads.lasts.honest ∙ honest in
-    subst (λ (f : Flash). kept_data x f o c ≡ Some xs) (sym (flash_is a b reads before)) (elim (caches o c xs is) [
+    subst (λ (f : Flash). Carries f (kept_data x f)) (sym (same_flash a b reads before)) (carried before)
+
+-- and what is cached is still what is present
+pub shown_read : (a b : Device) (x : Index) (pages : List FreshPage) (key : Key) (at : KeptPage) (old new : PageCache) → OnlyReads a b → present x key.object key.chunk ≡ presents.OnFlash at
+    → Caches a key at old new → (a.honest ≡ true → Shows old (present_data x pages a.flash)) → b.honest ≡ true → Shows new (present_data x pages b.flash)
+shown_read a b x pages key at old new reads there caches same honest o c xs is =
+    let before : a.honest ≡ true = sym reads.lasts.honest ∙ honest in
+    subst (λ (f : Flash). present_data x pages f o c ≡ Some xs) (sym (same_flash a b reads before)) (elim (caches o c xs is) [
       | inl was ↦ same before o c xs was
-      | inr put ↦ ap (λ n. kept_data x a.flash n c) put.0.0 ∙ ap (λ n. kept_data x a.flash key.object n) put.0.1 ∙ ap (option_and_then (data_at a.flash)) kept ∙ put.1 before
+      | inr put ↦ ap (λ n. present_data x pages a.flash n c) put.0.0 ∙ ap (λ n. present_data x pages a.flash key.object n) put.0.1 ∙ ap (data_by a.flash pages) there ∙ put.1 before
     ])
+
+-- a kept page of an honest device that has power is written
+pub kept_written : (f : Flash) (x : Index) (o c : ℕ) (k : KeptPage) → AreKept f (kept_pages x) → kept_pages x o c ≡ Some k → data_at f k ≡ None → ⊥
+kept_written f x o c k kept is none =
+    let at : IsKeptAt f o c k = kept o c k is in
+    let two : None ≡ Some at.newest.holds.has.bytes = sym none ∙ ap data_of at.newest.holds.has.page in
+    absurd cc
+
+-- each fault of a load has its cause
+pub load_fails : (spare : ℕ) (a b : Device) (t : Table) (x : Index) (o c : ℕ) (at : KeptPage) (broken refused : Bool) (fault : StoreFault) → OnlyReads a b → Stands spare a t x
+    → present x o c ≡ presents.OnFlash at → IsLoadFault a b at fault → (fault ≡ faults.NoMemory → refused ≡ true) → IsFindFault b broken refused fault
+load_fails spare a b t x o c at broken refused faults.NoMemory reads stands there why is = is refl
+load_fails spare a b t x o c at broken refused faults.Worn reads stands there why is = why
+load_fails spare a b t x o c at broken refused faults.Device reads stands there why is = elim why [
+  | inl gone ↦ inl gone
+  | inr none ↦ elim (cases_Bool a.honest) [
+    | inr lies' ↦ inr (inl (reads.lasts.honest ∙ lies'))
+    | inl honest ↦ elim (cases_Bool a.gone) [
+      | inl gone ↦ inl (ap (λ (d : Device). d.gone) (reads.lasts.gone gone) ∙ gone)
+      | inr power ↦ absurd (kept_written a.flash x o c at (stands.newest honest power) (kept_there x o c at there) (none honest))
+    ]
+  ]
+]
 
 -- a call that only reads the device, and changes no index and no buffer, only finds
 pub finds_seen : (a b : Device) (x y : Index) (buffer buffer' : Buffer) (cache cache' : PageCache) (scratch scratch' : List ℕ) (found found' : Found) (broken broken' refused refused' : Bool)

@@ -1,3 +1,6 @@
 pub mod Found
 pub mod Reading
 pub mod StoreOf
+pub mod Caching
+pub mod Changing
+pub mod laws

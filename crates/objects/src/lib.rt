@@ -1,6 +1,9 @@
 //! The store: pages of keys, kept on the flash, with a buffer over them and a cache beside.
 #![tactic(auto)]
 
+mod caching;
+mod changing;
+mod committing;
 mod reading;
 mod store;
 

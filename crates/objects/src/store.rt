@@ -1,7 +1,12 @@
 // The store.
-ghost use Rattle.std.specs.Prelude.{◌≡◌, ◌<◌, ◌≤◌, ℕ, List, length, true, false, Some, None, IsSome, IfOk, IfErr, OnOk, ◌+◌, ◌/◌, []};
-ghost use Rattle.chunk_index.specs.Maps.{kept_pages};
-ghost use Rattle.chunk_index.specs.declared.form.KeptPage.{KeptPage};
+ghost use Rattle.std.specs.Prelude.{◌≡◌, ◌<◌, ◌≤◌, ℕ, List, length, true, false, Some, None, IfOk, IfErr, OnOk, ◌+◌, ◌/◌, []};
+ghost use Rattle.block_state.specs.Kept.{bad_count};
+ghost use Rattle.block_state.specs.TableOf.{table};
+ghost use Rattle.transactions.specs.Ready.{IsReady};
+ghost use Rattle.bad_blocks.specs.Room.{IsRoomFor};
+ghost use Rattle.bad_blocks.specs.Standing.{Stands, HasFree};
+ghost use Rattle.chunk_index.specs.Maps.{present};
+ghost use Rattle.chunk_index.specs.declared.form.Present.TheVariants as presents;
 ghost use Rattle.page_buffer.specs.Buffering.{Buffers, IsUnbuffered};
 ghost use Rattle.page_buffer.specs.BufferOf.{buffered, most_pages, bytes_of_page};
 ghost use Rattle.page_buffer.specs.Shown.{data_at, kept_data, present_data};
@@ -9,9 +14,14 @@ ghost use Rattle.page_cache.specs.Cached.{held, cached, page_bytes_of};
 ghost use Rattle.nand_model.specs.Changes.{OnlyReads};
 ghost use Rattle.objects.specs.Found.{IsFound, found_bytes};
 ghost use Rattle.objects.specs.Reading.{IsFindFault};
-ghost use Rattle.objects.specs.StoreOf.{LieOn};
+ghost use Rattle.objects.specs.Caching.{Shows};
+ghost use Rattle.commits.specs.Carrying.{Carries};
+ghost use Rattle.objects.specs.Changing.{AreOfObjects};
+ghost use Rattle.objects.specs.laws.OneProof.{stands_prop, carried_prop};
 
 use crate::reading::load_kept;
+use bad_blocks::MoveRoom;
+use block_state::Blocks;
 use chunk_index::{Index, KeptPage, Present};
 use flash_tree::Key;
 use nand_model::{Geometry, Nand};
@@ -33,71 +43,113 @@ pub(crate) enum Found {
 }
 
 /// The pages of a volume's objects: kept on a device, with a buffer of pages that are not written yet, and a cache of
-/// kept ones.
+/// present ones.
 #[derive(Drop)]
 pub struct Store<N: Nand> {
-    device: N,
-    index: Index,
-    buffer: Buffer,
-    cache: PageCache,
+    pub(crate) device: N,
+    pub(crate) blocks: Blocks,
+    pub(crate) index: Index,
+    pub(crate) buffer: Buffer,
+    pub(crate) cache: PageCache,
+    pub(crate) room: MoveRoom,
     // What a page of the device is read into, and what is lent before a page was found.
     scratch: Vec<u8>,
-    found: Found,
-    // Whether a change or a commit failed, so that nothing is known of the pages any more.
-    broken: bool,
+    pub(crate) found: Found,
+    // How many blocks may be bad.
+    pub(crate) spare: u32,
+    // Whether a commit failed, so that nothing is known of the pages any more.
+    pub(crate) broken: bool,
     // Whether memory was refused once.
-    refused: bool,
+    pub(crate) refused: bool,
+    ghost ready: { IsReady (N.state device) (table blocks) },
+    ghost stands: { Stands spare (N.state device) (table blocks) index } by { stands_prop spare (N.state device) (table blocks) index },
+    ghost room_size: { IsRoomFor (N.state device).geometry room },
     ghost buffers: { Buffers index (buffered buffer) },
+    ghost objects: { broken ≡ false → AreOfObjects (buffered buffer) },
+    ghost most: { most_pages buffer ≡ (N.state device).geometry.pages / 4 },
     ghost size: { length scratch.items ≡ (N.state device).geometry.bytes },
     ghost buffer_size: { bytes_of_page buffer ≡ (N.state device).geometry.bytes },
     ghost cache_size: { page_bytes_of cache ≡ (N.state device).geometry.bytes },
     ghost place: { IsFound (buffered buffer) found },
-    ghost lie: { LieOn (N.state device).geometry (kept_pages index) },
-    ghost written: { broken ≡ false → (N.state device).honest ≡ true → (o c : ℕ) (k : KeptPage) → kept_pages index o c ≡ Some k → IsSome (data_at (N.state device).flash k) },
-    ghost same: { broken ≡ false → (N.state device).honest ≡ true → (o c : ℕ) (xs : List ℕ) → cached cache o c ≡ Some xs → kept_data index (N.state device).flash o c ≡ Some xs },
+    ghost few: { broken ≡ false → bad_count (table blocks) ≤ spare },
+    ghost free: { broken ≡ false → HasFree (table blocks) spare },
+    // Each kept page is the newest of its key, also where the device has gone in a read.
+    ghost carried: { broken ≡ false → (N.state device).honest ≡ true → Carries (N.state device).flash (kept_data index (N.state device).flash) } by { carried_prop broken (N.state device).honest (N.state device).flash (kept_data index (N.state device).flash) },
+    ghost shown: { broken ≡ false → (N.state device).honest ≡ true → Shows cache (present_data index (buffered buffer) (N.state device).flash) },
 }
 
-/// An empty buffer of a quarter of a block, an empty cache, and a page.
-fn rooms(
+/// What a store takes of memory at once.
+struct Rooms {
+    buffer: Buffer,
+    cache: PageCache,
+    room: MoveRoom,
+    scratch: Vec<u8>,
+}
+
+/// An empty buffer of a quarter of a block, an empty cache, room for moves, and a page.
+fn make_rooms(
     alloc: Global,
     geometry: Geometry,
     capacity: NonZeroUsize,
-) -> Result<(Buffer, PageCache, Vec<u8>), AllocError>
-    ensures buffer { IfOk result (λ made. (buffered made.0 ≡ []) × (most_pages made.0 ≡ geometry.pages / 4) × (bytes_of_page made.0 ≡ geometry.bytes)) }
-    ensures cache { IfOk result (λ made. (page_bytes_of made.1 ≡ geometry.bytes) × ((o c : ℕ) → held made.1 o c ≡ None)) }
-    ensures page { IfOk result (λ made. length made.2.items ≡ geometry.bytes) }
+) -> Result<Rooms, AllocError>
+    ensures buffer { IfOk result (λ made. (buffered made.buffer ≡ []) × (most_pages made.buffer ≡ geometry.pages / 4) × (bytes_of_page made.buffer ≡ geometry.bytes)) }
+    ensures cache { IfOk result (λ made. (page_bytes_of made.cache ≡ geometry.bytes) × ((o c : ℕ) → held made.cache o c ≡ None)) }
+    ensures room { IfOk result (λ made. IsRoomFor geometry made.room) }
+    ensures page { IfOk result (λ made. length made.scratch.items ≡ geometry.bytes) }
 {
-    let buffer = Buffer::new(alloc, geometry.pages() / 4, geometry.bytes())?;
-    let cache = PageCache::new(alloc, capacity, geometry.bytes() as usize)?;
-    let page = vec![in alloc; 0u8; geometry.bytes() as usize]?;
-    Ok((buffer, cache, page))
+    Ok(Rooms {
+        buffer: Buffer::new(alloc, geometry.pages() / 4, geometry.bytes())?,
+        cache: PageCache::new(alloc, capacity, geometry.bytes() as usize)?,
+        room: MoveRoom::new(alloc, geometry)?,
+        scratch: vec![in alloc; 0u8; geometry.bytes() as usize]?,
+    })
 }
 
 impl<N: Nand> Store<N> {
-    /// A store over what is kept on a device, with a cache of at most so many pages. Where memory is refused the device is
-    /// given back as it is.
+    ghost use Rattle.objects.specs.StoreOf.{kept_map, present_map};
+
+    /// A store over what is kept on a device, of whose blocks so many are to spare, with a buffer of a quarter of a block
+    /// and a cache of at most so many pages. Where memory is refused the device is given back as it is.
     pub fn new(
         alloc: Global,
         device: N,
+        blocks: Blocks,
         index: Index,
+        spare: u32,
         capacity: NonZeroUsize,
     ) -> Result<Store<N>, (N, AllocError)>
+        requires ready { IsReady (N.state device) (table blocks) }
+        requires stands { Stands spare (N.state device) (table blocks) index }
+        requires power { (N.state device).gone ≡ false }
+        requires few { bad_count (table blocks) ≤ spare }
+        requires free { HasFree (table blocks) spare }
         requires none { IsUnbuffered index }
-        requires lie { LieOn (N.state device).geometry (kept_pages index) }
-        requires written { (N.state device).honest ≡ true → (o c : ℕ) (k : KeptPage) → kept_pages index o c ≡ Some k → IsSome (data_at (N.state device).flash k) }
         ensures device { IfOk result (λ store. N.state store.device ≡ N.state device) }
+        ensures blocks { IfOk result (λ store. (table store.blocks ≡ table blocks) × (store.spare ≡ spare)) }
         ensures whole { IfOk result (λ store. store.broken ≡ false) }
+        ensures most { IfOk result (λ store. most_pages store.buffer ≡ (N.state device).geometry.pages / 4) }
+        ensures kept { (o c : ℕ) → IfOk result (λ store. kept_map (N.state store.device) store.index o c ≡ kept_map (N.state device) index o c) }
         ensures pages { (o c : ℕ) → IfOk result (λ store. present_data store.index (buffered store.buffer) (N.state device).flash o c ≡ present_data index [] (N.state device).flash o c) }
         ensures given_back { IfErr result (λ back. N.state back.0 ≡ N.state device) }
     {
-        match rooms(alloc, device.geometry(), capacity) {
-            Ok((buffer, cache, scratch)) => Ok(Store {
+        match make_rooms(alloc, device.geometry(), capacity) {
+            Ok(
+                Rooms {
+                    buffer,
+                    cache,
+                    room,
+                    scratch,
+                },
+            ) => Ok(Store {
                 device,
+                blocks,
                 index,
                 buffer,
                 cache,
+                room,
                 scratch,
                 found: Found::Nowhere,
+                spare,
                 broken: false,
                 refused: false,
             }),
@@ -114,7 +166,7 @@ impl<N: Nand> Store<N> {
 
     /// Finds the page of a key that is kept there.
     fn find_kept(&mut self, key: Key, at: KeptPage) -> Result<Presence, StoreFault>
-        requires { kept_pages self.old.index key.object key.chunk ≡ Some at }
+        requires { present self.old.index key.object key.chunk ≡ presents.OnFlash at }
         ensures reads { OnlyReads (N.state self.old.device) (N.state self.new.device) }
         ensures same { (self.new.index ≡ self.old.index) × (self.new.buffer ≡ self.old.buffer) × (self.new.broken ≡ self.old.broken) }
         ensures asked { (N.state self.new.device).reads ≤ (N.state self.old.device).reads + 1 }

@@ -1,9 +1,12 @@
-use Rattle.std.proofs.Common.{◌≡◌, ◌∙◌, sym, ap, arith}
+use Rattle.std.proofs.Common.{◌≡◌, ◌∙◌, ◌/◌, sym, ap, subst, arith}
 use Rattle.std.proofs.lemmas.Grind.{common_steps}
 use Rattle.nand_model.specs.declared.geometry.Geometry.{Geometry}
-use Rattle.chunk_index.specs.Maps.{kept_pages}
+use Rattle.transactions.specs.laws.Ready.{ready_read}
+use Rattle.bad_blocks.specs.Room.{IsRoomFor}
+use Rattle.page_buffer.specs.BufferOf.{buffered}
 use Rattle.objects.specs.declared.store.Found.TheVariants as places
-use Rattle.objects.proofs.ReadOnly.{lie_same, written_same, cached_same}
+use Rattle.objects.proofs.ReadOnly.{lies, stands_read, carried_read, shown_read, load_fails}
+use Rattle.objects.proofs.store.Store.find_kept.Goals.{then-self, else-self}
 use Rattle.objects.proofs.store.Store.find_kept.Goals as goal
 
 pub invariant_of-self : goal.invariant_of-self
@@ -12,14 +15,20 @@ invariant_of-self g c =
     let reads = c.load_kept.ensures.reads in
     let bytes = ap (λ (k : Geometry). k.bytes) reads.lasts.geometry in
     record {
+      ready = ready_read _ _ _ self.ready reads;
+      stands = stands_read _ _ _ _ self.index reads self.stands;
+      room_size = subst (λ (k : Geometry). IsRoomFor k self.room) (sym reads.lasts.geometry) self.room_size;
       buffers = self.buffers;
+      objects = self.objects;
+      most = self.most ∙ ap (λ (k : Geometry). k.pages / 4) (sym reads.lasts.geometry);
       size = let was = self.size in let len = c.load_kept.ensures.size in let all = c.deref_mut.ensures.len in grind (arith, common_steps);
       buffer_size = self.buffer_size ∙ sym bytes;
       cache_size = c.load_kept.ensures.sizes.page_bytes ∙ self.cache_size ∙ sym bytes;
       place = λ i is. absurd (let two : places.Cached c.args.key ≡ places.Buffered i = is in cc);
-      lie = lie_same _ _ (kept_pages self.index) reads.lasts.geometry self.lie;
-      written = λ whole. written_same _ _ (kept_pages self.index) reads (self.written whole);
-      same = λ whole. cached_same _ _ self.index c.args.key c.args.at self.cache c.load_kept.new.cache reads c.requires c.load_kept.ensures.caches (self.same whole);
+      few = self.few;
+      free = self.free;
+      carried = λ whole. carried_read _ _ self.index reads (self.carried whole);
+      shown = λ whole. shown_read _ _ self.index (buffered self.buffer) c.args.key c.args.at self.cache c.load_kept.new.cache reads c.requires c.load_kept.ensures.caches (self.shown whole);
     }
 
 pub invariant_of-self-in-Err : goal.invariant_of-self-in-Err
@@ -28,12 +37,29 @@ invariant_of-self-in-Err g c =
     let reads = c.load_kept.ensures.reads in
     let bytes = ap (λ (k : Geometry). k.bytes) reads.lasts.geometry in
     record {
+      ready = ready_read _ _ _ self.ready reads;
+      stands = stands_read _ _ _ _ self.index reads self.stands;
+      room_size = subst (λ (k : Geometry). IsRoomFor k self.room) (sym reads.lasts.geometry) self.room_size;
       buffers = self.buffers;
+      objects = self.objects;
+      most = self.most ∙ ap (λ (k : Geometry). k.pages / 4) (sym reads.lasts.geometry);
       size = let was = self.size in let len = c.load_kept.ensures.size in let all = c.deref_mut.ensures.len in grind (arith, common_steps);
       buffer_size = self.buffer_size ∙ sym bytes;
       cache_size = c.load_kept.ensures.sizes.page_bytes ∙ self.cache_size ∙ sym bytes;
       place = self.place;
-      lie = lie_same _ _ (kept_pages self.index) reads.lasts.geometry self.lie;
-      written = λ whole. written_same _ _ (kept_pages self.index) reads (self.written whole);
-      same = λ whole. cached_same _ _ self.index c.args.key c.args.at self.cache c.load_kept.new.cache reads c.requires c.load_kept.ensures.caches (self.same whole);
+      few = self.few;
+      free = self.free;
+      carried = λ whole. carried_read _ _ self.index reads (self.carried whole);
+      shown = λ whole. shown_read _ _ self.index (buffered self.buffer) c.args.key c.args.at self.cache c.load_kept.new.cache reads c.requires c.load_kept.ensures.caches (self.shown whole);
     }
+
+pub load_kept-requires-clause-block : goal.load_kept-requires-clause-block
+load_kept-requires-clause-block g c = let self = c.args.self.now in (lies _ _ _ self.index c.args.key.object c.args.key.chunk c.args.at self.ready self.stands c.requires).0
+
+pub load_kept-requires-clause-page : goal.load_kept-requires-clause-page
+load_kept-requires-clause-page g c = let self = c.args.self.now in (lies _ _ _ self.index c.args.key.object c.args.key.chunk c.args.at self.ready self.stands c.requires).1
+
+pub returns-after-self-clause-fault : goal.returns-after-self-clause-fault
+returns-after-self-clause-fault g c =
+    let self = c.args.self.now in
+    load_fails _ _ _ _ self.index c.args.key.object c.args.key.chunk c.args.at self.broken _ c.in-Err.fault c.load_kept.ensures.reads self.stands c.requires c.in-Err.ensures.fault (λ is. elim c.if-self.branch [ then-self w ↦ w.self-is ∙ w.if-self.true | else-self w ↦ w.self-is ∙ (let b = rw is at w.eq-self.ensures in b) ])

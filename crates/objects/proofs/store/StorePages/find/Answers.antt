@@ -12,16 +12,22 @@ invariant_of-self g c =
     let self = c.args.self.now in
     let is : present self.index c.args.key.object c.args.key.chunk ≡ presents.InBuffer c.in-InBuffer.place = sym c.present.ensures ∙ c.in-InBuffer.is in
     record {
+      ready = self.ready;
+      stands = self.stands;
+      room_size = self.room_size;
       buffers = self.buffers;
+      objects = self.objects;
+      most = self.most;
       size = self.size;
       buffer_size = self.buffer_size;
       cache_size = self.cache_size;
       place = λ i same.
           let one : c.in-InBuffer.place ≡ i = cc in
           subst (λ n. n < length (buffered self.buffer)) one (place_within (buffered self.buffer) c.in-InBuffer.place _ (self.buffers.there _ _ c.in-InBuffer.place is));
-      lie = self.lie;
-      written = self.written;
-      same = self.same;
+      few = self.few;
+      free = self.free;
+      carried = self.carried;
+      shown = self.shown;
     }
 
 pub returns-in-InBuffer-clause-page : goal.returns-in-InBuffer-clause-page

@@ -1,0 +1,202 @@
+-- What a change and a commit leave of a store.
+use Rattle.std.specs.Prelude.{◌≡◌, ◌⊎◌, ◌<◌, ◌≤◌, ◌^◌, ℕ, Bool, true, false, List, [], ◌∷◌, length, Option, Some, None, IsSome, IsTrue, Result, Ok, Err, OnOk, slice_get}
+use Rattle.std.specs.Option.{option_map, option_and_then}
+use Rattle.std.proofs.Common.{refl, sym, ◌∙◌, ap, subst, inl, inr, arith}
+use Rattle.std.proofs.lemmas.Bool.{cases_eq, false≢true}
+use Rattle.nand_model.specs.Flash.{Flash}
+use Rattle.nand_model.specs.Calls.{Device}
+use Rattle.flash_tree.specs.declared.place.FreshPage.{FreshPage}
+use Rattle.flash_tree.specs.declared.place.Key.{Key}
+use Rattle.block_state.specs.Table.{Table}
+use Rattle.chunk_index.specs.declared.entry.Entry.{Entry}
+use Rattle.chunk_index.specs.declared.form.Present.{Present}
+use Rattle.chunk_index.specs.declared.form.Present.TheVariants as presents
+use Rattle.chunk_index.specs.declared.index.Index.{Index}
+use Rattle.chunk_index.specs.Entries.{stays_of}
+use Rattle.chunk_index.specs.Shelves.{look}
+use Rattle.chunk_index.specs.Maps.{present, IsPrepared, IsReady, SameKept, SamePresent}
+use Rattle.chunk_index.specs.laws.Maps.{agree_same}
+use Rattle.bad_blocks.specs.Standing.{MayLie, Stands}
+use Rattle.pages.specs.Maps.{PageMap, without_cuts, changed}
+use Rattle.pages.specs.laws.Maps.{page_elsewhere, elsewhere}
+use Rattle.pages.specs.laws.Changes.{cuts_nothing}
+use Rattle.pages.specs.declared.change.Change.{Change}
+use Rattle.page_buffer.specs.BufferOf.{buffered, most_pages, bytes_of_page}
+use Rattle.page_buffer.specs.declared.buffer.Buffer.{Buffer}
+use Rattle.page_buffer.specs.Shown.{data_at, data_by, kept_data, present_data}
+use Rattle.page_buffer.specs.Buffering.{Buffers, lacks, new_keys, with_new}
+use Rattle.page_cache.specs.declared.cache.PageCache.{PageCache}
+use Rattle.volume_terms.specs.declared.fault.StoreFault.{StoreFault}
+use Rattle.objects.specs.Caching.{Shows, HasNoMore, LacksCuts, LacksPages, AreIn}
+use Rattle.commits.specs.Carrying.{Carries, AreWritable}
+use Rattle.objects.specs.Changing.{AreOfObjects, SamePages, IsCommitFault, fault_of}
+use Rattle.nand_model.specs.declared.geometry.Geometry.{Geometry}
+use Rattle.collector.specs.Making.{WhyNoRoom}
+use Rattle.collector.specs.declared.fault.RoomFault.{RoomFault}
+use Rattle.collector.specs.declared.fault.RoomFault.TheVariants as causes
+use Rattle.objects.specs.StoreOf.{known, kept_map, present_map}
+use Rattle.objects.proofs.ReadOnly.{kept_there}
+
+-- maps that have the same pages
+pub carries_same : (f : Flash) (m n : PageMap) → SamePages n m → Carries f m → Carries f n
+carries_same f m n same carries o c xs is = carries o c xs (sym (same o c) ∙ is)
+
+pub known_pages : (h : Bool) (m n : PageMap) → (h ≡ true → SamePages n m) → SamePages (known h n) (known h m)
+known_pages true m n same = same refl
+known_pages false m n same = λ o c. refl
+
+pub known_changed : (h : Bool) (change : Change) (m n : PageMap) → h ≡ true → SamePages n (changed change m) → SamePages (known h n) (changed change (known h m))
+known_changed true change m n is same = same
+known_changed false change m n is same = absurd (false≢true is)
+
+-- what is not known is carried
+pub either_known : (h : Bool) (f : Flash) (m n : PageMap) → (h ≡ true → Carries f m ⊎ Carries f n) → Carries f (known h m) ⊎ Carries f (known h n)
+either_known true f m n is = is refl
+either_known false f m n is = inl (λ o c xs some. absurd (let two : None ≡ Some xs = some in cc))
+
+pub carried_known : (h : Bool) (f : Flash) (m : PageMap) → (h ≡ true → Carries f m) → Carries f (known h m)
+carried_known true f m is = is refl
+carried_known false f m is = λ o c xs some. absurd (let two : None ≡ Some xs = some in cc)
+
+-- where no key's kept page changes
+module _ (x y : Index) (same : SameKept x y) where
+  pub kept_same : (f : Flash) → SamePages (kept_data y f) (kept_data x f)
+  kept_same f o c = ap (option_and_then (data_at f)) (same.kept o c)
+
+  pub stands_kept : (spare : ℕ) (d : Device) (t : Table) → Stands spare d t x → Stands spare d t y
+  stands_kept spare d t stands = record {
+    tables = record {
+      counts = agree_same t x y same stands.tables.counts;
+      within = λ o c p is. stands.tables.within o c p (sym (same.kept o c) ∙ is);
+      fits = stands.tables.fits;
+      written = stands.tables.written;
+      unkept = stands.tables.unkept;
+    };
+    newest = λ honest power o c p is. stands.newest honest power o c p (sym (same.kept o c) ∙ is);
+  }
+
+  pub carried_kept : (f : Flash) → Carries f (kept_data x f) → Carries f (kept_data y f)
+  carried_kept f = carries_same f (kept_data x f) (kept_data y f) (kept_same f)
+
+-- where no key's present page changes
+pub present_same : (x y : Index) (pages : List FreshPage) (f : Flash) → SamePresent x y → SamePages (present_data y pages f) (present_data x pages f)
+present_same x y pages f same o c = ap (data_by f pages) (same o c)
+
+pub shown_same : (x y : Index) (pages : List FreshPage) (f : Flash) (old new : PageCache) → SamePresent x y → HasNoMore old new → Shows old (present_data x pages f) → Shows new (present_data y pages f)
+shown_same x y pages f old new same fewer shows o c xs is = present_same x y pages f same o c ∙ shows o c xs (fewer o c xs is)
+
+-- a page of the buffer is the present one of its key
+pub buffered_shown : (x : Index) (pages : List FreshPage) (f : Flash) → Buffers x pages → AreIn pages (present_data x pages f)
+buffered_shown x pages f buffers i p is =
+    ap (data_by f pages) (buffers.told p.key.object p.key.chunk i (ap (option_map (λ (q : FreshPage). q.key)) is)) ∙ ap (option_map (λ (q : FreshPage). q.bytes.items)) is
+
+-- no page of object 0 is present, before a change and after it
+none_zero : (spare : ℕ) (d : Device) (t : Table) (x : Index) (pages : List FreshPage) (f : Flash) (c : ℕ) → Stands spare d t x → Buffers x pages → AreOfObjects pages → present_data x pages f 0 c ≡ None
+none_zero spare d t x pages f c stands buffers objects = go (present x 0 c) refl
+  where
+    go : (p : Present) → present x 0 c ≡ p → data_by f pages p ≡ None
+    go presents.Absent is = refl
+    go (presents.OnFlash k) is =
+        let at : MayLie t 0 c k = stands.tables.within 0 c k (kept_there x 0 c k is) in
+        absurd (omega (arith, at.name.object.0))
+    go (presents.InBuffer i) is = page (slice_get pages i) refl
+      where
+        page : (m : Option FreshPage) → slice_get pages i ≡ m → option_map (λ (q : FreshPage). q.bytes.items) m ≡ None
+        page None none = refl
+        page (Some p) some =
+            let two : Some p.key ≡ Some (record { object = 0; chunk = c }) = sym (ap (option_map (λ (q : FreshPage). q.key)) some) ∙ buffers.there 0 c i is in
+            let one : p.key ≡ record { object = 0; chunk = c } = cc in
+            let some' : 1 ≤ p.key.object = objects i p some in
+            let zero' : p.key.object ≡ 0 = ap (λ (k : Key). k.object) one in
+            absurd (omega (arith, some', zero'))
+
+pub objects_changed : (spare : ℕ) (d : Device) (t : Table) (x y : Index) (old new : List FreshPage) (change : Change) (f : Flash) → Stands spare d t x → Buffers x old → AreOfObjects old → AreOfObjects change.pages.items
+    → Buffers y new → SamePages (present_data y new f) (changed change (present_data x old f)) → AreOfObjects new
+objects_changed spare d t x y old new change f stands before objects writes after is i p there = elim (cases_eq p.key.object 0) [
+  | inr some ↦ omega (arith, some)
+  | inl zero' ↦
+      let m : PageMap = present_data x old f in
+      let here : present_data y new f p.key.object p.key.chunk ≡ Some p.bytes.items = buffered_shown y new f after i p there in
+      let shown : changed change m 0 p.key.chunk ≡ Some p.bytes.items = sym (is 0 p.key.chunk) ∙ ap (λ n. present_data y new f n p.key.chunk) (sym zero') ∙ here in
+      let none : changed change m 0 p.key.chunk ≡ None =
+      page_elsewhere change.pages.items (without_cuts change.cuts.items m) 0 p.key.chunk (λ k of. let some' : 1 ≤ of.page.key.object = writes k of.page of.there in omega (arith, some', of.object))
+      ∙ cuts_nothing change.cuts.items m 0 p.key.chunk (none_zero spare d t x old f p.key.chunk stands before objects) in
+      absurd (let two : None ≡ Some p.bytes.items = sym none ∙ shown in cc)
+]
+
+-- what the cache has left is present after a change
+pub shown_changed : (change : Change) (m : PageMap) (a b c : PageCache) → Shows a m → HasNoMore a b → HasNoMore b c → LacksCuts change.cuts.items b → LacksPages change.pages.items c → Shows c (changed change m)
+shown_changed change m a b c shows first then cuts pages o k xs is =
+    elsewhere change m o k
+    (λ i of. absurd (let two : None ≡ Some xs = sym (pages o k i of) ∙ is in cc))
+    (λ i cut. absurd (let two : None ≡ Some xs = sym (cuts o k i cut) ∙ then o k xs is in cc))
+    ∙ shows o k xs (first o k xs (then o k xs is))
+
+-- an empty buffer has room for as many pages as it holds
+few_new : (x : Index) (pages : List FreshPage) → new_keys x pages ≤ length pages
+few_new x [] = omega arith
+few_new x (p ∷ ps) = omega (arith, one (present x p.key.object p.key.chunk), few_new x ps)
+  where
+    one : (q : Present) → lacks q ≤ 1
+    one presents.Absent = omega arith
+    one (presents.OnFlash k) = omega arith
+    one (presents.InBuffer i) = omega arith
+
+pub room_after : (result : Result (Unit {0}) StoreFault) (x : Index) (buffer pages : List FreshPage) (most : ℕ) → OnOk result (buffer ≡ []) → length pages ≤ most → OnOk result (with_new x buffer pages ≤ most)
+room_after (Err fault) x buffer pages most empty few = tt
+room_after (Ok done) x buffer pages most empty few = let none : length buffer ≡ 0 = ap length empty in omega (arith, none, few_new x pages, few)
+
+-- a key that is ready is prepared
+pub ready_prepared : (x : Index) (o c : ℕ) → IsReady x o c → IsPrepared x o c
+ready_prepared x o c = go (look x.shelf.objects o c)
+  where
+    go : (m : Option Entry) → IsTrue (stays_of m) → IsSome m
+    go None is = absurd (false≢true is)
+    go (Some e) is = refl
+
+-- maps of a store that is as it was but for its index's room
+pub same_back : (m n : PageMap) → SamePages m n → SamePages n m
+same_back m n same o c = sym (same o c)
+
+pub same_on : (m n k : PageMap) → SamePages m n → SamePages n k → SamePages m k
+same_on m n k first then o c = first o c ∙ then o c
+
+pub kept_map_same : (d e : Device) (x y : Index) → e ≡ d → SameKept x y → SamePages (kept_map e y) (kept_map d x)
+kept_map_same d e x y is same = subst (λ (k : Device). SamePages (kept_map k y) (kept_map d x)) (sym is) (known_pages d.honest (kept_data x d.flash) (kept_data y d.flash) (λ _. kept_same x y same d.flash))
+
+pub present_map_same : (d e : Device) (x y : Index) (b b' : Buffer) → e ≡ d → SamePresent x y → b' ≡ b → SamePages (present_map e y b') (present_map d x b)
+present_map_same d e x y b b' is same buffers =
+    subst (λ (k : Device). SamePages (present_map k y b') (present_map d x b)) (sym is)
+    (subst (λ (k : Buffer). SamePages (present_map d y k) (present_map d x b)) (sym buffers)
+    (known_pages d.honest (present_data x (buffered b) d.flash) (present_data y (buffered b) d.flash) (λ _. present_same x y (buffered b) d.flash same)))
+
+pub either_same : (f : Flash) (m n m' n' : PageMap) → SamePages m' m → SamePages n' n → Carries f m ⊎ Carries f n → Carries f m' ⊎ Carries f n'
+either_same f m n m' n' first then is = elim is [
+  | inl kept ↦ inl (carries_same f m m' first kept)
+  | inr present' ↦ inr (carries_same f n n' then present')
+]
+
+-- each fault of a commit has its cause
+pub commit_fails : (spare count : ℕ) (d : Device) (t u : Table) (broken : Bool) (fault : RoomFault) → WhyNoRoom count spare d t u fault → IsCommitFault spare count d t u broken (fault_of fault)
+commit_fails spare count d t u broken causes.Full why = inr why
+commit_fails spare count d t u broken causes.Worn why = inl why
+commit_fails spare count d t u broken causes.Lost why = inr (inl why)
+commit_fails spare count d t u broken causes.Gone why = inl why
+
+-- the pages of a buffer can be written
+pub writable : (g : Geometry) (b : Buffer) → AreOfObjects (buffered b) → bytes_of_page b ≡ g.bytes → AreWritable g (buffered b)
+writable g b objects size = record {
+  few = let few : length (buffered b) ≤ b.most = b.few in let small : b.most < 2 ^ 32 = b.small in omega (arith, few, small);
+  each = λ i p is. (objects i p is, b.sized i p is ∙ size);
+}
+
+-- as many pages are new where what is present is the same
+pub new_same : (x y : Index) (pages : List FreshPage) → SamePresent x y → new_keys y pages ≡ new_keys x pages
+new_same x y [] same = refl
+new_same x y (p ∷ ps) same = omega (arith, ap lacks (same p.key.object p.key.chunk), new_same x y ps same)
+
+-- and so they have room as before
+pub fits_on : (x y : Index) (b b' : Buffer) (ps qs : List FreshPage) → SamePresent x y → b' ≡ b → qs ≡ ps → with_new x (buffered b) ps ≤ most_pages b → with_new y (buffered b') qs ≤ most_pages b'
+fits_on x y b b' ps qs same buffers pages fits =
+    subst (λ (k : Buffer). with_new y (buffered k) qs ≤ most_pages k) (sym buffers)
+    (subst (λ (l : List FreshPage). with_new y (buffered b) l ≤ most_pages b) (sym pages) (omega (arith, fits, new_same x y ps same)))

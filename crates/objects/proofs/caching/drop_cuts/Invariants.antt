@@ -1,0 +1,13 @@
+use Rattle.std.proofs.Common.{◌≡◌, ◌<◌, ℕ, None}
+use Rattle.pages.specs.Maps.{IsCut}
+use Rattle.page_cache.specs.Cached.{cached}
+use Rattle.page_cache.specs.Changes.{KeepsSizes}
+use Rattle.objects.specs.Caching.{HasNoMore}
+use Rattle.objects.proofs.caching.drop_cuts.Given as goal
+
+abbrev pub invariant-loop-cut : goal.invariant-loop-cut
+invariant-loop-cut l = record {
+  sizes : KeepsSizes l.fn.cache l.cache;
+  fewer : HasNoMore l.fn.cache l.cache;
+  lacks : (o c i : ℕ) → i < l.cut-index → IsCut l.cuts o c i → cached l.cache o c ≡ None;
+}

@@ -1,0 +1,13 @@
+use Rattle.std.proofs.Common.{◌≡◌, ◌<◌, ℕ, None}
+use Rattle.pages.specs.Maps.{IsOf}
+use Rattle.page_cache.specs.Cached.{cached}
+use Rattle.page_cache.specs.Changes.{KeepsSizes}
+use Rattle.objects.specs.Caching.{HasNoMore}
+use Rattle.objects.proofs.caching.drop_pages.Given as goal
+
+abbrev pub invariant-loop-page : goal.invariant-loop-page
+invariant-loop-page l = record {
+  sizes : KeepsSizes l.fn.cache l.cache;
+  fewer : HasNoMore l.fn.cache l.cache;
+  lacks : (o c i : ℕ) → i < l.page-index → IsOf l.pages o c i → cached l.cache o c ≡ None;
+}

@@ -1,0 +1,92 @@
+use Rattle.std.specs.Prelude.{◌≡◌, ◌⊎◌, true}
+use Rattle.std.proofs.Common.{◌∙◌, sym, ap, subst, arith}
+use Rattle.nand_model.specs.Calls.{Device}
+use Rattle.block_state.specs.Kept.{bad_count}
+use Rattle.block_state.specs.TableOf.{table}
+use Rattle.block_state.specs.declared.blocks.Blocks.{Blocks}
+use Rattle.chunk_index.specs.Maps.{SameKept}
+use Rattle.pages.specs.laws.Changes.{changed_same}
+use Rattle.page_buffer.specs.Buffering.{AreReady}
+use Rattle.commits.specs.Carrying.{Carries}
+use Rattle.objects.specs.StoreOf.{kept_map, present_map}
+use Rattle.objects.proofs.Steps.{same_back, same_on, fits_on, kept_map_same, present_map_same, either_same, ready_prepared}
+use Rattle.objects.proofs.store.Store.apply.Goals as goal
+
+pub returns-in_err-make_room-clause-newest : goal.returns-in_err-make_room-clause-newest
+returns-in_err-make_room-clause-newest g c = λ whole.
+    let self = c.args.self.now in
+    let p = c.prepare.new.self in
+    let same = c.prepare.ensures.same in
+    let old = g.N.Nand.state self.device in
+    let mid = g.N.Nand.state p.device in
+    let still : mid ≡ old = ap g.N.Nand.state same.0 in
+    either_same _ (kept_map mid p.index) (present_map mid p.index p.buffer) (kept_map old self.index) (present_map old self.index self.buffer)
+    (same_back _ _ (kept_map_same old mid self.index p.index still c.prepare.ensures.kept))
+    (same_back _ _ (present_map_same old mid self.index p.index self.buffer p.buffer still c.prepare.ensures.present same.2)) c.make_room.ensures.newest
+
+pub make-requires-clause-prepared : goal.make-requires-clause-prepared
+make-requires-clause-prepared g c =
+    let m = c.make_room.new.self in
+    let ready : AreReady c.prepare.new.self.index c.args.change.pages.items = subst (AreReady c.prepare.new.self.index) c.deref.ensures.value c.in_ok-prepare.ensures.ready in
+    λ o k i of. ready_prepared m.index o k (c.make_room.ensures.keys o k (ready o k i of))
+
+pub returns-clause-marks : goal.returns-clause-marks
+returns-clause-marks g c =
+    let first = c.prepare.ensures.same in
+    let last = c.make.ensures.same in
+    let a = ap (λ x. (g.N.Nand.state x).failures) first.0 in
+    let b = ap (λ (x : Blocks). bad_count (table x)) first.1 in
+    let d = ap (λ x. (g.N.Nand.state x).failures) last.0 in
+    let e = ap (λ (x : Blocks). bad_count (table x)) last.1 in
+    omega (arith, c.make_room.ensures.marks, a, b, d, e)
+
+pub returns-clause-present : goal.returns-clause-present
+returns-clause-present g c = λ honest o k.
+    let self = c.args.self.now in
+    let p = c.prepare.new.self in
+    let m = c.make_room.new.self in
+    let same = c.prepare.ensures.same in
+    let old = g.N.Nand.state self.device in
+    let mid = g.N.Nand.state p.device in
+    let now = g.N.Nand.state m.device in
+    let still : mid ≡ old = ap g.N.Nand.state same.0 in
+    let told : now.honest ≡ true = c.make_room.ensures.lasts.honest ∙ ap (λ (x : Device). x.honest) still ∙ honest in
+    c.make.ensures.present told o k
+    ∙ changed_same c.args.change (present_map now m.index m.buffer) (present_map old self.index self.buffer) o k
+    (c.in_ok-make_room.ensures.present o k ∙ present_map_same old mid self.index p.index self.buffer p.buffer still c.prepare.ensures.present same.2 o k)
+
+pub returns-clause-newest : goal.returns-clause-newest
+returns-clause-newest g c = λ whole.
+    let self = c.args.self.now in
+    let p = c.prepare.new.self in
+    let same = c.prepare.ensures.same in
+    let old = g.N.Nand.state self.device in
+    let mid = g.N.Nand.state p.device in
+    let still : mid ≡ old = ap g.N.Nand.state same.0 in
+    let after : g.N.Nand.state c.make.new.self.device ≡ g.N.Nand.state c.make_room.new.self.device = ap g.N.Nand.state c.make.ensures.same.0 in
+    subst (λ (d : Device). Carries d.flash (kept_map old self.index) ⊎ Carries d.flash (present_map old self.index self.buffer)) (sym after)
+    (either_same _ (kept_map mid p.index) (present_map mid p.index p.buffer) (kept_map old self.index) (present_map old self.index self.buffer)
+    (same_back _ _ (kept_map_same old mid self.index p.index still c.prepare.ensures.kept))
+    (same_back _ _ (present_map_same old mid self.index p.index self.buffer p.buffer still c.prepare.ensures.present same.2)) c.make_room.ensures.newest)
+
+pub returns-in_err-make_room-clause-room : goal.returns-in_err-make_room-clause-room
+returns-in_err-make_room-clause-room g c = λ fits.
+    let self = c.args.self.now in
+    let p = c.prepare.new.self in
+    let m = c.make_room.new.self in
+    let same = c.prepare.ensures.same in
+    let enough = c.make_room.ensures.enough (fits_on self.index p.index self.buffer p.buffer c.args.change.pages.items c.deref-2.result.now c.prepare.ensures.present same.2 c.deref-2.ensures.value fits) in
+    let still : g.N.Nand.state m.device ≡ g.N.Nand.state self.device = ap g.N.Nand.state (enough.0 ∙ same.0) in
+    (still, kept_map_same (g.N.Nand.state self.device) (g.N.Nand.state m.device) self.index m.index still (subst (SameKept self.index) (sym enough.1) c.prepare.ensures.kept))
+
+pub returns-clause-room : goal.returns-clause-room
+returns-clause-room g c = λ fits.
+    let self = c.args.self.now in
+    let p = c.prepare.new.self in
+    let m = c.make_room.new.self in
+    let same = c.prepare.ensures.same in
+    let enough = c.make_room.ensures.enough (fits_on self.index p.index self.buffer p.buffer c.args.change.pages.items c.deref-2.result.now c.prepare.ensures.present same.2 c.deref-2.ensures.value fits) in
+    let still : g.N.Nand.state m.device ≡ g.N.Nand.state self.device = ap g.N.Nand.state (enough.0 ∙ same.0) in (
+      ap g.N.Nand.state c.make.ensures.same.0 ∙ still,
+      same_on _ _ _ c.make.ensures.kept (kept_map_same (g.N.Nand.state self.device) (g.N.Nand.state m.device) self.index m.index still (subst (SameKept self.index) (sym enough.1) c.prepare.ensures.kept)),
+    )

@@ -1,0 +1,65 @@
+use Rattle.std.specs.Prelude.{◌≡◌, ◌/◌, List, [], Some, None, length, slice_get}
+use Rattle.std.proofs.Common.{◌∙◌, sym, ap, subst}
+use Rattle.nand_model.specs.declared.geometry.Geometry.{Geometry}
+use Rattle.page_buffer.specs.BufferOf.{buffered}
+use Rattle.page_buffer.specs.Shown.{kept_data, present_data}
+use Rattle.flash_tree.specs.declared.place.FreshPage.{FreshPage}
+use Rattle.page_buffer.specs.BufferOf.{written}
+use Rattle.page_buffer.specs.Buffering.{Buffers}
+use Rattle.objects.specs.Caching.{Shows, AreIn}
+use Rattle.block_state.specs.TableOf.{table}
+use Rattle.objects.specs.Changing.{IsCommitFault}
+use Rattle.objects.specs.declared.store.Found.TheVariants as places
+use Rattle.objects.proofs.Steps.{carries_same, either_known, buffered_shown, commit_fails, writable}
+use Rattle.objects.proofs.store.Store.commit.Goals as goal
+
+pub invariant_of-self : goal.invariant_of-self
+invariant_of-self g c =
+    let self = c.args.self.now in
+    let w = c.commit.ensures in
+    let k = c.keep_written.ensures in
+    let done = c.in-Ok.ensures.ends in
+    let old = g.N.Nand.state self.device in
+    let new = g.N.Nand.state c.commit.new.device in
+    let y = c.commit.new.index in
+    let empty : buffered c.keep_written.new.buffer ≡ [] = k.pages ∙ done.empty in
+    let bytes = ap (λ (z : Geometry). z.bytes) w.lasts.geometry in
+    record {
+      ready = w.ready;
+      stands = w.stands;
+      room_size = w.room;
+      buffers = subst (Buffers y) (sym k.pages) w.buffers;
+      objects = λ _ i p is. absurd (let two : None ≡ Some p = sym (ap (λ (l : List FreshPage). slice_get l i) empty) ∙ is in cc);
+      most = k.buffer_sizes.0 ∙ w.sizes.most ∙ self.most ∙ ap (λ (z : Geometry). z.pages / 4) (sym w.lasts.geometry);
+      size = self.size ∙ sym bytes;
+      buffer_size = k.buffer_sizes.1 ∙ w.sizes.bytes ∙ self.buffer_size ∙ sym bytes;
+      cache_size = k.sizes.page_bytes ∙ self.cache_size ∙ sym bytes;
+      place = λ i is. absurd (let two : places.Nowhere ≡ places.Buffered i = is in cc);
+      few = λ _. done.few;
+      free = λ _. done.free;
+      carried = λ whole honest.
+          let before = sym w.lasts.honest ∙ honest in
+          carries_same new.flash _ _ (done.kept before) (done.newest before (self.carried whole before));
+      shown = λ whole honest.
+          let before = sym w.lasts.honest ∙ honest in
+          let m = present_data y (buffered c.commit.new.buffer) new.flash in
+          let shows : Shows self.cache m = λ o l xs is. done.present before o l ∙ self.shown whole before o l xs is in
+          let are : AreIn (written c.commit.new.buffer) m = λ i p is. done.present before p.key.object p.key.chunk
+          ∙ buffered_shown self.index (buffered self.buffer) old.flash self.buffers i p (subst (λ (l : List FreshPage). slice_get l i ≡ Some p) done.last is) in
+          subst (λ (l : List FreshPage). Shows c.keep_written.new.cache (present_data y l new.flash)) (sym k.pages) (k.shows m shows are);
+    }
+
+pub returns-in-Err-clause-newest : goal.returns-in-Err-clause-newest
+returns-in-Err-clause-newest g c = λ whole.
+    let self = c.args.self.now in
+    let d = g.N.Nand.state self.device in
+    either_known d.honest _ (kept_data self.index d.flash) (present_data self.index (buffered self.buffer) d.flash) (λ honest. c.commit.ensures.newest honest (self.carried whole honest))
+
+pub commit-requires-clause-pages : goal.commit-requires-clause-pages
+commit-requires-clause-pages g c = let self = c.args.self.now in writable (g.N.Nand.state self.device).geometry self.buffer (self.objects c.if-self.false) self.buffer_size
+
+pub returns-in-Err-clause-fault : goal.returns-in-Err-clause-fault
+returns-in-Err-clause-fault g c =
+    let self = c.args.self.now in
+    subst (IsCommitFault self.spare (length (buffered self.buffer)) (g.N.Nand.state c.commit.new.device) (table self.blocks) (table c.commit.new.blocks) self.broken) (sym c.store_fault.ensures)
+    (commit_fails self.spare (length (buffered self.buffer)) (g.N.Nand.state c.commit.new.device) (table self.blocks) (table c.commit.new.blocks) self.broken c.in-Err.fault c.in-Err.ensures.ends)

@@ -1,0 +1,41 @@
+use Rattle.std.specs.Prelude.{◌≡◌, List}
+use Rattle.std.proofs.Common.{◌∙◌, subst}
+use Rattle.page_buffer.specs.BufferOf.{buffered}
+use Rattle.page_buffer.specs.Shown.{present_data}
+use Rattle.flash_tree.specs.declared.place.FreshPage.{FreshPage}
+use Rattle.pages.specs.declared.change.Cut.{Cut}
+use Rattle.objects.specs.Caching.{LacksCuts, LacksPages}
+use Rattle.objects.specs.declared.store.Found.TheVariants as places
+use Rattle.objects.proofs.Steps.{stands_kept, carried_kept, known_changed, objects_changed, shown_changed}
+use Rattle.objects.proofs.store.Store.make.Goals as goal
+
+pub invariant_of-self : goal.invariant_of-self
+invariant_of-self g c =
+    let self = c.args.self.now in
+    let e = c.apply.ensures in
+    let y = c.apply.new.index in
+    let flash = (g.N.Nand.state self.device).flash in
+    record {
+      ready = self.ready;
+      stands = stands_kept self.index y e.kept _ _ _ self.stands;
+      room_size = self.room_size;
+      buffers = e.buffers;
+      objects = λ whole. objects_changed _ _ _ self.index y (buffered self.buffer) (buffered c.apply.new.self) c.args.change flash self.stands self.buffers (self.objects whole) c.requires.objects e.buffers (e.changes flash);
+      most = e.sizes.0 ∙ self.most;
+      size = self.size;
+      buffer_size = e.sizes.1 ∙ self.buffer_size;
+      cache_size = c.drop_pages.ensures.sizes.page_bytes ∙ c.drop_cuts.ensures.sizes.page_bytes ∙ self.cache_size;
+      place = λ i is. absurd (let two : places.Nowhere ≡ places.Buffered i = is in cc);
+      few = self.few;
+      free = self.free;
+      carried = λ whole honest. carried_kept self.index y e.kept (g.N.Nand.state self.device).flash (self.carried whole honest);
+      shown = λ whole honest o k xs is. e.changes flash o k
+          ∙ shown_changed c.args.change (present_data self.index (buffered self.buffer) flash) self.cache c.drop_cuts.new.cache c.drop_pages.new.cache (self.shown whole honest)
+          c.drop_cuts.ensures.fewer c.drop_pages.ensures.fewer (subst (λ (l : List Cut). LacksCuts l c.drop_cuts.new.cache) c.deref.ensures.value c.drop_cuts.ensures.lacks) (subst (λ (l : List FreshPage). LacksPages l c.drop_pages.new.cache) c.deref-2.ensures.value c.drop_pages.ensures.lacks) o k xs is;
+    }
+
+pub returns-clause-present : goal.returns-clause-present
+returns-clause-present g c = λ honest.
+    let self = c.args.self.now in
+    let d = g.N.Nand.state self.device in
+    known_changed d.honest c.args.change (present_data self.index (buffered self.buffer) d.flash) (present_data c.apply.new.index (buffered c.apply.new.self) d.flash) honest (c.apply.ensures.changes d.flash)

@@ -1,0 +1,32 @@
+use Rattle.std.specs.Prelude.{◌≡◌, ◌/◌, List, Some, None, slice_get, option_and_then}
+use Rattle.std.proofs.Common.{◌∙◌, sym, ap, subst}
+use Rattle.nand_model.specs.declared.geometry.Geometry.{Geometry}
+use Rattle.flash_tree.specs.declared.place.FreshPage.{FreshPage}
+use Rattle.bad_blocks.specs.Room.{IsRoomFor}
+use Rattle.page_buffer.specs.laws.Buffering.{buffers_empty}
+use Rattle.page_cache.specs.Slots.{page_in}
+use Rattle.objects.specs.declared.store.Found.TheVariants as places
+use Rattle.objects.proofs.Kept.{kept_carried}
+use Rattle.objects.proofs.store.Store.new.Goals as goal
+
+pub invariant_of-result : goal.invariant_of-result
+invariant_of-result g c =
+    let made = c.in-Ok.field-0 in
+    let e = c.in-Ok.ensures in
+    let sizes = c.geometry.ensures in
+    record {
+      ready = c.requires.ready;
+      stands = c.requires.stands;
+      room_size = subst (λ (k : Geometry). IsRoomFor k made.room) sizes e.room;
+      buffers = buffers_empty c.args.index _ c.requires.none e.buffer.0;
+      objects = λ _ i p is. absurd (let two : None ≡ Some p = ap (λ (xs : List FreshPage). slice_get xs i) (sym e.buffer.0) ∙ is in cc);
+      most = e.buffer.1 ∙ ap (λ (k : Geometry). k.pages / 4) sizes;
+      size = e.page ∙ ap (λ (k : Geometry). k.bytes) sizes;
+      buffer_size = e.buffer.2 ∙ ap (λ (k : Geometry). k.bytes) sizes;
+      cache_size = e.cache.0 ∙ ap (λ (k : Geometry). k.bytes) sizes;
+      place = λ i is. absurd (let two : places.Nowhere ≡ places.Buffered i = is in cc);
+      few = λ _. c.requires.few;
+      free = λ _. c.requires.free;
+      carried = λ _ honest. kept_carried _ c.args.index (c.requires.stands.newest honest c.requires.power);
+      shown = λ _ _ o k xs is. absurd (let two : None ≡ Some xs = sym (ap (option_and_then page_in) (e.cache.1 o k)) ∙ is in cc);
+    }

@@ -1,0 +1,49 @@
+use Rattle.std.proofs.Common.{◌∙◌}
+use Rattle.page_buffer.specs.BufferOf.{buffered}
+use Rattle.page_buffer.specs.laws.Buffering.{buffers_same}
+use Rattle.objects.proofs.Steps.{stands_kept, carried_kept, shown_same}
+use Rattle.objects.proofs.store.Store.prepare.Goals as goal
+
+pub invariant_of-self : goal.invariant_of-self
+invariant_of-self g c =
+    let self = c.args.self.now in
+    let e = c.prepare_all.ensures in
+    let y = c.prepare_all.new.index in
+    record {
+      ready = self.ready;
+      stands = stands_kept self.index y e.kept _ _ _ self.stands;
+      room_size = self.room_size;
+      buffers = buffers_same self.index y (buffered self.buffer) e.present self.buffers;
+      objects = self.objects;
+      most = self.most;
+      size = self.size;
+      buffer_size = self.buffer_size;
+      cache_size = e.sizes.page_bytes ∙ self.cache_size;
+      place = self.place;
+      few = self.few;
+      free = self.free;
+      carried = λ whole honest. carried_kept self.index y e.kept (g.N.Nand.state self.device).flash (self.carried whole honest);
+      shown = λ whole honest. shown_same self.index y (buffered self.buffer) (g.N.Nand.state self.device).flash self.cache c.prepare_all.new.cache e.present e.fewer (self.shown whole honest);
+    }
+
+pub invariant_of-self-in-Err : goal.invariant_of-self-in-Err
+invariant_of-self-in-Err g c =
+    let self = c.args.self.now in
+    let e = c.prepare_all.ensures in
+    let y = c.prepare_all.new.index in
+    record {
+      ready = self.ready;
+      stands = stands_kept self.index y e.kept _ _ _ self.stands;
+      room_size = self.room_size;
+      buffers = buffers_same self.index y (buffered self.buffer) e.present self.buffers;
+      objects = self.objects;
+      most = self.most;
+      size = self.size;
+      buffer_size = self.buffer_size;
+      cache_size = e.sizes.page_bytes ∙ self.cache_size;
+      place = self.place;
+      few = self.few;
+      free = self.free;
+      carried = λ whole honest. carried_kept self.index y e.kept (g.N.Nand.state self.device).flash (self.carried whole honest);
+      shown = λ whole honest. shown_same self.index y (buffered self.buffer) (g.N.Nand.state self.device).flash self.cache c.prepare_all.new.cache e.present e.fewer (self.shown whole honest);
+    }

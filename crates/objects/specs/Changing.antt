@@ -1,0 +1,46 @@
+-- What changes and commits of a store leave.
+use Rattle.std.specs.Prelude.{◌≡◌, ◌⊎◌, ◌≤◌, ℕ, Bool, true, false, List, Some, slice_get}
+use Rattle.nand_model.specs.Calls.{Device}
+use Rattle.flash_tree.specs.declared.place.FreshPage.{FreshPage}
+use Rattle.collector.specs.Making.{LeavesRoom}
+use Rattle.collector.specs.declared.fault.RoomFault.{RoomFault}
+use Rattle.collector.specs.declared.fault.RoomFault.TheVariants as causes
+use Rattle.block_state.specs.Table.{Table}
+use Rattle.bad_blocks.specs.Moving.{WhyNotMoved}
+use Rattle.bad_blocks.specs.declared.fault.MoveFault.TheVariants as moves
+use Rattle.pages.specs.Maps.{PageMap}
+use Rattle.volume_terms.specs.declared.fault.StoreFault.{StoreFault}
+use Rattle.volume_terms.specs.declared.fault.StoreFault.TheVariants as faults
+
+-- each page is of an object: none is of object 0
+abbrev pub AreOfObjects : List FreshPage → Type 0
+AreOfObjects pages = (i : ℕ) (p : FreshPage) → slice_get pages i ≡ Some p → 1 ≤ p.key.object
+
+-- each key has the same page in both
+abbrev pub SamePages : PageMap → PageMap → Type 0
+SamePages m n = (o c : ℕ) → m o c ≡ n o c
+
+-- what a fault of a commit is to those above: there are no more blocks or numbers, or the device failed
+abbrev pub fault_of : RoomFault → StoreFault
+fault_of causes.Full = faults.Worn
+fault_of causes.Worn = faults.Worn
+fault_of causes.Lost = faults.Device
+fault_of causes.Gone = faults.Device
+
+-- There is nothing left to write with: no number is left, more blocks are bad than there are to spare, or more is kept than
+-- leaves room for so many pages.
+abbrev pub IsWornOut : (spare count : ℕ) → Device → Table → Table → Type 0
+IsWornOut spare count device old new = WhyNotMoved spare device new moves.Worn ⊎ (LeavesRoom old spare count → ⊥)
+
+-- Why a store did not commit: its device is gone or not honest, or a commit failed before; or there is nothing left to write
+-- with. It takes no memory.
+abbrev pub IsCommitFault : (spare count : ℕ) → Device → Table → Table → (was_broken : Bool) → StoreFault → Type 0
+IsCommitFault spare count device old new was_broken faults.NoMemory = ⊥
+IsCommitFault spare count device old new was_broken faults.Device = (device.gone ≡ true) ⊎ (device.honest ≡ false) ⊎ (was_broken ≡ true)
+IsCommitFault spare count device old new was_broken faults.Worn = IsWornOut spare count device old new
+
+-- the same of a change, for which memory may have been refused
+abbrev pub IsChangeFault : (spare count : ℕ) → Device → Table → Table → (was_broken refused : Bool) → StoreFault → Type 0
+IsChangeFault spare count device old new was_broken refused faults.NoMemory = refused ≡ true
+IsChangeFault spare count device old new was_broken refused faults.Device = (device.gone ≡ true) ⊎ (device.honest ≡ false) ⊎ (was_broken ≡ true)
+IsChangeFault spare count device old new was_broken refused faults.Worn = IsWornOut spare count device old new

@@ -1,0 +1,71 @@
+// What a change and a commit do to the cache.
+ghost use Rattle.std.specs.Prelude.{◌≡◌, None};
+ghost use Rattle.pages.specs.Maps.{PageMap};
+ghost use Rattle.page_buffer.specs.BufferOf.{buffered, written, most_pages, bytes_of_page};
+ghost use Rattle.page_cache.specs.Cached.{cached, page_bytes_of};
+ghost use Rattle.page_cache.specs.Changes.{KeepsSizes};
+ghost use Rattle.objects.specs.Caching.{Shows, HasNoMore, LacksCuts, LacksPages, AreIn};
+
+use flash_tree::{FreshPage, Key};
+use page_buffer::Buffer;
+use page_cache::PageCache;
+use pages::Cut;
+use std::alloc::AllocError;
+
+/// Makes a place in the cache for each of the pages, so that they can stay there once they are written. What the cache has
+/// of their keys goes.
+pub(crate) fn make_places(cache: &mut PageCache, pages: &[FreshPage]) -> Result<(), AllocError>
+    ensures sizes { KeepsSizes cache.old cache.new }
+    ensures fewer { HasNoMore cache.old cache.new }
+{
+    for page in pages {
+        cache.reserve(page.key)?;
+    }
+    Ok(())
+}
+
+/// What the cuts take goes.
+pub(crate) fn drop_cuts(cache: &mut PageCache, cuts: &[Cut])
+    ensures sizes { KeepsSizes cache.old cache.new }
+    ensures fewer { HasNoMore cache.old cache.new }
+    ensures lacks { LacksCuts cuts.now cache.new }
+{
+    for cut in cuts {
+        cache.remove_from(cut.object, cut.from);
+    }
+}
+
+/// The page of a key goes. A place for one stays.
+fn drop_page(cache: &mut PageCache, key: Key)
+    ensures sizes { KeepsSizes cache.old cache.new }
+    ensures fewer { HasNoMore cache.old cache.new }
+    ensures gone { cached cache.new key.object key.chunk ≡ None }
+{
+    if cache.page(key).is_some() {
+        cache.remove(key);
+    }
+}
+
+/// What the cache has of the keys of the pages goes. Places for them stay.
+pub(crate) fn drop_pages(cache: &mut PageCache, pages: &[FreshPage])
+    ensures sizes { KeepsSizes cache.old cache.new }
+    ensures fewer { HasNoMore cache.old cache.new }
+    ensures lacks { LacksPages pages.now cache.new }
+{
+    for page in pages {
+        drop_page(cache, page.key);
+    }
+}
+
+/// Moves the pages that were written last into the cache, where there is a place for them. It takes no memory.
+pub(crate) fn keep_written(buffer: &mut Buffer, cache: &mut PageCache)
+    requires size { bytes_of_page buffer.old ≡ page_bytes_of cache.old }
+    ensures pages { buffered buffer.new ≡ buffered buffer.old }
+    ensures buffer_sizes { (most_pages buffer.new ≡ most_pages buffer.old) × (bytes_of_page buffer.new ≡ bytes_of_page buffer.old) }
+    ensures sizes { KeepsSizes cache.old cache.new }
+    ensures shows { (m : PageMap) → Shows cache.old m → AreIn (written buffer.old) m → Shows cache.new m }
+{
+    while let Some(page) = buffer.take_written() {
+        let _frame = cache.exchange(page.key, page.bytes);
+    }
+}

@@ -1,0 +1,154 @@
+// The change of a store's pages.
+ghost use Rattle.std.specs.Prelude.{◌≡◌, ◌≤◌, ◌/◌, ◌⊎◌, ℕ, length, true, false, OnOk, IfErr, OnErr, IsErrOf};
+ghost use Rattle.nand_model.specs.Calls.{Lasts};
+ghost use Rattle.block_state.specs.TableOf.{table};
+ghost use Rattle.chunk_index.specs.Maps.{IsReady as IsReadyKey, SameKept, SamePresent, StaysPrepared};
+ghost use Rattle.transactions.specs.Handing.{HandsOut};
+ghost use Rattle.bad_blocks.specs.Moving.{MarksFailures};
+ghost use Rattle.pages.specs.Changes.{AreApart, AreSized};
+ghost use Rattle.pages.specs.Maps.{changed};
+ghost use Rattle.page_buffer.specs.BufferOf.{buffered, most_pages, bytes_of_page};
+ghost use Rattle.page_buffer.specs.Buffering.{ArePrepared, AreReady, with_new};
+ghost use Rattle.page_cache.specs.Changes.{KeepsSizes};
+ghost use Rattle.volume_terms.specs.declared.fault.StoreFault.TheVariants as faults;
+ghost use Rattle.objects.specs.Caching.{HasNoMore, LacksCuts, LacksPages};
+ghost use Rattle.commits.specs.Carrying.{Carries};
+ghost use Rattle.objects.specs.Changing.{AreOfObjects, SamePages, IsCommitFault, IsChangeFault};
+
+use crate::caching::{drop_cuts, drop_pages, make_places};
+use crate::store::{Found, Store};
+use chunk_index::Index;
+use flash_tree::FreshPage;
+use nand_model::Nand;
+use page_buffer::prepare;
+use page_cache::PageCache;
+use pages::Change;
+use std::alloc::AllocError;
+use volume_terms::StoreFault;
+
+impl<N: Nand> Store<N> {
+    ghost use Rattle.objects.specs.StoreOf.{kept_map, present_map};
+
+    /// Makes a change of what is present: all of it or, where memory is refused, none. What is buffered is committed before
+    /// where there is no room for the change besides; so a change has at most a quarter of the pages of a block, each of a
+    /// key of its own.
+    ///
+    /// After another fault nothing is known of the pages of the store any more. The device has those that were kept, or those
+    /// that were present.
+    pub fn apply(&mut self, change: Change) -> Result<(), StoreFault>
+        requires apart { AreApart change.pages.items }
+        requires size { AreSized change.pages.items (N.state self.old.device).geometry.bytes }
+        requires few { length change.pages.items ≤ (N.state self.old.device).geometry.pages / 4 }
+        requires objects { AreOfObjects change.pages.items }
+        ensures lasts { Lasts (N.state self.old.device) (N.state self.new.device) }
+        ensures numbers { HandsOut (N.state self.old.device) (N.state self.new.device) (table self.old.blocks) (table self.new.blocks) }
+        ensures marks { MarksFailures 0 0 (N.state self.old.device) (N.state self.new.device) (table self.old.blocks) (table self.new.blocks) }
+        ensures same { (self.new.spare ≡ self.old.spare) × (self.old.refused ≡ true → self.new.refused ≡ true) }
+        ensures whole { OnOk result ((self.old.broken ≡ false) × (self.new.broken ≡ false)) }
+        ensures present { (N.state self.old.device).honest ≡ true → OnOk result (SamePages (present_map (N.state self.new.device) self.new.index self.new.buffer)
+            (changed change (present_map (N.state self.old.device) self.old.index self.old.buffer))) }
+        // What is kept stays, or the buffer was committed before.
+        ensures kept { OnOk result (SamePages (kept_map (N.state self.new.device) self.new.index) (kept_map (N.state self.old.device) self.old.index)
+            ⊎ SamePages (kept_map (N.state self.new.device) self.new.index) (present_map (N.state self.old.device) self.old.index self.old.buffer)) }
+        ensures newest { self.old.broken ≡ false
+            → Carries (N.state self.new.device).flash (kept_map (N.state self.old.device) self.old.index)
+            ⊎ Carries (N.state self.new.device).flash (present_map (N.state self.old.device) self.old.index self.old.buffer) }
+        ensures refused { IsErrOf result faults.NoMemory → (N.state self.new.device ≡ N.state self.old.device) × (table self.new.blocks ≡ table self.old.blocks)
+            × (self.new.broken ≡ self.old.broken)
+            × SamePages (kept_map (N.state self.new.device) self.new.index) (kept_map (N.state self.old.device) self.old.index)
+            × SamePages (present_map (N.state self.new.device) self.new.index self.new.buffer) (present_map (N.state self.old.device) self.old.index self.old.buffer) }
+        // Where the buffer has room there is no call of the device.
+        ensures room { with_new self.old.index (buffered self.old.buffer) change.pages.items ≤ most_pages self.old.buffer
+            → (N.state self.new.device ≡ N.state self.old.device) × SamePages (kept_map (N.state self.new.device) self.new.index) (kept_map (N.state self.old.device) self.old.index) }
+        ensures stops { IfErr result (λ fault. (fault ≡ faults.NoMemory) ⊎ (self.new.broken ≡ true)) }
+        ensures fault { IfErr result (IsChangeFault self.old.spare (length (buffered self.old.buffer)) (N.state self.new.device) (table self.old.blocks) (table self.new.blocks) self.old.broken self.new.refused) }
+    {
+        if self.broken {
+            return Err(StoreFault::Device);
+        }
+        self.prepare(&change.pages)?;
+        self.make_room(&change.pages)?;
+        self.make(change);
+        Ok(())
+    }
+
+    /// Sees that there is room for pages in the index and in the cache.
+    fn prepare(&mut self, pages: &[FreshPage]) -> Result<(), StoreFault>
+        ensures same { (self.new.device ≡ self.old.device) × (self.new.blocks ≡ self.old.blocks) × (self.new.buffer ≡ self.old.buffer)
+            × (self.new.spare ≡ self.old.spare) × (self.new.broken ≡ self.old.broken) × (self.old.refused ≡ true → self.new.refused ≡ true) }
+        ensures kept { SameKept self.old.index self.new.index }
+        ensures present { SamePresent self.old.index self.new.index }
+        ensures ready { OnOk result (AreReady self.new.index pages.now) }
+        ensures fault { IfErr result (λ fault. (fault ≡ faults.NoMemory) × (self.new.refused ≡ true)) }
+    {
+        match prepare_all(&mut self.index, &mut self.cache, pages) {
+            Ok(()) => Ok(()),
+            Err(_) => {
+                self.refused = true;
+                Err(StoreFault::NoMemory)
+            }
+        }
+    }
+
+    /// Commits what is buffered, where the buffer has no room for the pages besides.
+    fn make_room(&mut self, pages: &[FreshPage]) -> Result<(), StoreFault>
+        requires whole { self.old.broken ≡ false }
+        requires few { length pages.now ≤ (N.state self.old.device).geometry.pages / 4 }
+        ensures lasts { Lasts (N.state self.old.device) (N.state self.new.device) }
+        ensures numbers { HandsOut (N.state self.old.device) (N.state self.new.device) (table self.old.blocks) (table self.new.blocks) }
+        ensures marks { MarksFailures 0 0 (N.state self.old.device) (N.state self.new.device) (table self.old.blocks) (table self.new.blocks) }
+        ensures same { (self.new.spare ≡ self.old.spare) × (self.new.refused ≡ self.old.refused) }
+        ensures keys { (o c : ℕ) → IsReadyKey self.old.index o c → IsReadyKey self.new.index o c }
+        ensures whole { OnOk result (self.new.broken ≡ false) }
+        ensures kept { OnOk result (SamePages (kept_map (N.state self.new.device) self.new.index) (kept_map (N.state self.old.device) self.old.index)
+            ⊎ SamePages (kept_map (N.state self.new.device) self.new.index) (present_map (N.state self.old.device) self.old.index self.old.buffer)) }
+        ensures present { OnOk result (SamePages (present_map (N.state self.new.device) self.new.index self.new.buffer) (present_map (N.state self.old.device) self.old.index self.old.buffer)) }
+        ensures room { OnOk result (with_new self.new.index (buffered self.new.buffer) pages.now ≤ most_pages self.new.buffer) }
+        ensures newest { Carries (N.state self.new.device).flash (kept_map (N.state self.old.device) self.old.index)
+            ⊎ Carries (N.state self.new.device).flash (present_map (N.state self.old.device) self.old.index self.old.buffer) }
+        ensures enough { with_new self.old.index (buffered self.old.buffer) pages.now ≤ most_pages self.old.buffer
+            → (self.new.device ≡ self.old.device) × (self.new.index ≡ self.old.index) }
+        ensures stops { OnErr result (self.new.broken ≡ true) }
+        ensures fault { IfErr result (IsCommitFault self.old.spare (length (buffered self.old.buffer)) (N.state self.new.device) (table self.old.blocks) (table self.new.blocks) false) }
+    {
+        if self.buffer.has_room(&self.index, pages) {
+            return Ok(());
+        }
+        self.commit()
+    }
+
+    /// Makes a change, for which there is room.
+    fn make(&mut self, change: Change)
+        requires prepared { ArePrepared self.old.index change.pages.items }
+        requires size { AreSized change.pages.items (N.state self.old.device).geometry.bytes }
+        requires apart { AreApart change.pages.items }
+        requires objects { AreOfObjects change.pages.items }
+        requires room { with_new self.old.index (buffered self.old.buffer) change.pages.items ≤ most_pages self.old.buffer }
+        ensures same { (self.new.device ≡ self.old.device) × (self.new.blocks ≡ self.old.blocks) × (self.new.spare ≡ self.old.spare)
+            × (self.new.broken ≡ self.old.broken) × (self.new.refused ≡ self.old.refused) }
+        ensures kept { SamePages (kept_map (N.state self.new.device) self.new.index) (kept_map (N.state self.old.device) self.old.index) }
+        ensures present { (N.state self.old.device).honest ≡ true → SamePages (present_map (N.state self.new.device) self.new.index self.new.buffer)
+            (changed change (present_map (N.state self.old.device) self.old.index self.old.buffer)) }
+    {
+        self.found = Found::Nowhere;
+        drop_cuts(&mut self.cache, &change.cuts);
+        drop_pages(&mut self.cache, &change.pages);
+        self.buffer.apply(&mut self.index, change);
+    }
+}
+
+/// Sees that there is room for pages in an index and in a cache. Where memory is refused the cache may have less.
+fn prepare_all(
+    index: &mut Index,
+    cache: &mut PageCache,
+    pages: &[FreshPage],
+) -> Result<(), AllocError>
+    ensures kept { SameKept index.old index.new }
+    ensures present { SamePresent index.old index.new }
+    ensures ready { OnOk result (AreReady index.new pages.now) }
+    ensures sizes { KeepsSizes cache.old cache.new }
+    ensures fewer { HasNoMore cache.old cache.new }
+{
+    prepare(index, pages)?;
+    make_places(cache, pages)
+}

@@ -1,0 +1,79 @@
+// The commit of a store's pages.
+ghost use Rattle.std.specs.Prelude.{◌≡◌, ◌⊎◌, ℕ, [], length, true, false, OnOk, OnErr, IfErr};
+ghost use Rattle.nand_model.specs.Calls.{Lasts};
+ghost use Rattle.block_state.specs.TableOf.{table};
+ghost use Rattle.chunk_index.specs.Maps.{IsReady as IsReadyKey};
+ghost use Rattle.transactions.specs.Handing.{HandsOut};
+ghost use Rattle.bad_blocks.specs.Moving.{MarksFailures};
+ghost use Rattle.page_buffer.specs.BufferOf.{buffered};
+ghost use Rattle.commits.specs.Carrying.{Carries};
+ghost use Rattle.objects.specs.Changing.{SamePages, IsCommitFault, fault_of};
+
+use crate::caching::keep_written;
+use crate::store::{Found, Store};
+use collector::RoomFault;
+use commits::commit;
+use nand_model::Nand;
+use volume_terms::StoreFault;
+
+/// What a fault of a commit is to those above: a lack of blocks or of numbers, or a device that failed.
+fn store_fault(fault: RoomFault) -> StoreFault
+    ensures { result ≡ fault_of fault }
+{
+    match fault {
+        RoomFault::Full => StoreFault::Worn,
+        RoomFault::Worn => StoreFault::Worn,
+        RoomFault::Lost => StoreFault::Device,
+        RoomFault::Gone => StoreFault::Device,
+    }
+}
+
+impl<N: Nand> Store<N> {
+    ghost use Rattle.objects.specs.StoreOf.{kept_map, present_map};
+
+    /// Writes what is buffered to the device as one group, so that what is kept is what is present. It takes no memory, and
+    /// makes no call of the device where nothing is buffered.
+    ///
+    /// After a fault nothing is known of the pages of the store any more. The device has those that were kept, or those that
+    /// were present.
+    pub fn commit(&mut self) -> Result<(), StoreFault>
+        ensures lasts { Lasts (N.state self.old.device) (N.state self.new.device) }
+        ensures numbers { HandsOut (N.state self.old.device) (N.state self.new.device) (table self.old.blocks) (table self.new.blocks) }
+        ensures marks { MarksFailures 0 0 (N.state self.old.device) (N.state self.new.device) (table self.old.blocks) (table self.new.blocks) }
+        ensures same { (self.new.spare ≡ self.old.spare) × (self.new.refused ≡ self.old.refused) }
+        ensures keys { (o c : ℕ) → IsReadyKey self.old.index o c → IsReadyKey self.new.index o c }
+        ensures whole { OnOk result ((self.old.broken ≡ false) × (self.new.broken ≡ false)) }
+        ensures kept { OnOk result (SamePages (kept_map (N.state self.new.device) self.new.index) (present_map (N.state self.old.device) self.old.index self.old.buffer)) }
+        ensures present { OnOk result (SamePages (present_map (N.state self.new.device) self.new.index self.new.buffer) (present_map (N.state self.old.device) self.old.index self.old.buffer)) }
+        ensures empty { OnOk result (buffered self.new.buffer ≡ []) }
+        ensures newest { self.old.broken ≡ false
+            → Carries (N.state self.new.device).flash (kept_map (N.state self.old.device) self.old.index)
+            ⊎ Carries (N.state self.new.device).flash (present_map (N.state self.old.device) self.old.index self.old.buffer) }
+        ensures committed { OnOk result (Carries (N.state self.new.device).flash (present_map (N.state self.old.device) self.old.index self.old.buffer)) }
+        ensures nothing { buffered self.old.buffer ≡ [] → N.state self.new.device ≡ N.state self.old.device }
+        ensures stops { OnErr result (self.new.broken ≡ true) }
+        ensures fault { IfErr result (IsCommitFault self.old.spare (length (buffered self.old.buffer)) (N.state self.new.device) (table self.old.blocks) (table self.new.blocks) self.old.broken) }
+    {
+        if self.broken {
+            return Err(StoreFault::Device);
+        }
+        self.found = Found::Nowhere;
+        match commit(
+            &mut self.device,
+            &mut self.blocks,
+            &mut self.index,
+            &mut self.buffer,
+            &mut self.room,
+            self.spare,
+        ) {
+            Ok(()) => {
+                keep_written(&mut self.buffer, &mut self.cache);
+                Ok(())
+            }
+            Err(fault) => {
+                self.broken = true;
+                Err(store_fault(fault))
+            }
+        }
+    }
+}

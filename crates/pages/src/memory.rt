@@ -1,5 +1,5 @@
 // Pages in memory, for tests.
-ghost use Rattle.std.specs.Prelude.{◌≡◌, ◌≤◌, ℕ, true, None, IfOk, length};
+ghost use Rattle.std.specs.Prelude.{◌≡◌, ◌≤◌, ℕ, true, false, None, IfOk, length};
 ghost use Rattle.pages.specs.Maps.{changed};
 ghost use Rattle.pages.specs.Changes.{AreSized};
 
@@ -51,6 +51,9 @@ impl MemPages {
         ensures size { IfOk result (λ it. (kept it).page_bytes ≡ page_bytes) }
         ensures sound { IfOk result (λ it. (kept it).sound ≡ true) }
         ensures none { (o c : ℕ) → IfOk result (λ it. (kept it).present o c ≡ None) }
+        ensures asked { IfOk result (λ it. (kept it).asked ≡ 0) }
+        ensures failed { IfOk result (λ it. (kept it).failed ≡ false) }
+        ensures refused { IfOk result (λ it. (kept it).refused ≡ false) }
     {
         Ok(MemPages {
             page_bytes,
@@ -70,6 +73,9 @@ impl MemPages {
         ensures size { IfOk result (λ it. (kept it).page_bytes ≡ (kept self).page_bytes) }
         ensures sound { IfOk result (λ it. (kept it).sound ≡ (kept self).sound) }
         ensures pages { (o c : ℕ) → IfOk result (λ it. (kept it).present o c ≡ changed change (kept self).present o c) }
+        ensures asked { IfOk result (λ it. (kept it).asked ≡ (kept self).asked) }
+        ensures failed { IfOk result (λ it. (kept it).failed ≡ (kept self).failed) }
+        ensures refused { IfOk result (λ it. (kept it).refused ≡ (kept self).refused) }
     {
         let old = Change {
             pages: self.pages,

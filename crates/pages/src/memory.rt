@@ -1,5 +1,5 @@
 // Pages in memory, for tests.
-ghost use Rattle.std.specs.Prelude.{◌≡◌, ◌≤◌, ℕ, true, false, None, IfOk, length};
+ghost use Rattle.std.specs.Prelude.{◌≡◌, ◌≤◌, ℕ, true, false, Some, None, IfOk, length};
 ghost use Rattle.pages.specs.Maps.{changed};
 ghost use Rattle.pages.specs.Changes.{AreSized};
 
@@ -42,7 +42,7 @@ pub struct MemPages {
 }
 
 impl MemPages {
-    ghost use Rattle.pages.specs.MemoryState.{kept};
+    ghost use Rattle.pages.specs.MemoryState.{kept, refusing};
 
     /// No key has a page.
     pub fn new(alloc: Global, page_bytes: u32) -> Result<MemPages, AllocError>
@@ -54,6 +54,7 @@ impl MemPages {
         ensures asked { IfOk result (λ it. (kept it).asked ≡ 0) }
         ensures failed { IfOk result (λ it. (kept it).failed ≡ false) }
         ensures refused { IfOk result (λ it. (kept it).refused ≡ false) }
+        ensures willing { IfOk result (λ it. refusing it ≡ None) }
     {
         Ok(MemPages {
             page_bytes,
@@ -76,6 +77,7 @@ impl MemPages {
         ensures asked { IfOk result (λ it. (kept it).asked ≡ (kept self).asked) }
         ensures failed { IfOk result (λ it. (kept it).failed ≡ (kept self).failed) }
         ensures refused { IfOk result (λ it. (kept it).refused ≡ (kept self).refused) }
+        ensures refusing { IfOk result (λ it. refusing it ≡ refusing self) }
     {
         let old = Change {
             pages: self.pages,
@@ -96,7 +98,8 @@ impl MemPages {
 
     /// One look-up is refused, in place of the one that was told before.
     pub fn refuse(&mut self, refusal: Refusal)
-        ensures { kept self.new ≡ kept self.old }
+        ensures state { kept self.new ≡ kept self.old }
+        ensures refusing { refusing self.new ≡ Some refusal }
     {
         self.refusal = Some(refusal);
     }

@@ -11,6 +11,10 @@ pub always : {A E P : Type 0} (r : Result A E) → P → OnOk r P
 always (Ok x) is = is
 always (Err e) is = tt
 
+pub on_done : {A E : Type 0} (P Q : Type 0) (r : Result A E) → (P → Q) → OnOk r P → OnOk r Q
+on_done P Q (Ok x) f is = f is
+on_done P Q (Err e) f is = tt
+
 pub on_ok : {A E : Type 0} (P Q : A → Type 0) (r : Result A E) → ((x : A) → P x → Q x) → IfOk r P → IfOk r Q
 on_ok P Q (Ok x) f is = f x is
 on_ok P Q (Err e) f is = tt

@@ -10,7 +10,7 @@ use Rattle.posix_profile.specs.State.{Name, Entries}
 use Rattle.pages.specs.Afterwards.{after}
 use Rattle.pages.specs.Maps.{PageMap}
 use Rattle.pages.specs.State.{PagesState, OnlyFinds}
-use Rattle.directories.specs.Directories.{DirIn, SlotOf, TellsName, TellsOf}
+use Rattle.directories.specs.Directories.{DirIn, HasBeside, SlotOf, TellsEnd, TellsName, TellsOf}
 use Rattle.directories.specs.Heads.{IsHeadOf, SaysHead}
 use Rattle.directories.specs.Slots.{AreSlots, Finds}
 use Rattle.directories.specs.declared.head.DirectoryHead.{DirectoryHead}
@@ -96,6 +96,10 @@ module _ (p q : PagesState) (finds : OnlyFinds p q) (z : Sizes) (o : ℕ) (head 
   pub told_of : (name : Name) (found : Option Located) → Finds (SlotOf z q.present o) 0 head.length name found → TellsOf z p o name
   told_of name (Some l) is = (Some l.object, told_leads name l is)
   told_of name None is = (None, told_none name is)
+
+  -- and of the page behind the slots
+  pub told_end : HasBeside z q.present o head.length head.length → TellsEnd z p o
+  told_end is = (s.0, subst (λ n. HasBeside z p.present o n n) s.1.length_is (subst (λ (m : PageMap). HasBeside z m o head.length head.length) finds.present is))
 
 -- what a header says after no change, it says
 pub said_now : (p : PagesState) (o : ℕ) (head : DirectoryHead) → SaysHead (after None p) o head → SaysHead p o head

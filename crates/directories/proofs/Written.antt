@@ -17,7 +17,7 @@ use Rattle.pages.specs.Changes.{AreApart, AreSized, IsChange, IsOnlyOf}
 use Rattle.flash_tree.specs.declared.place.FreshPage.{FreshPage}
 use Rattle.pages.specs.declared.change.Change.{Change}
 use Rattle.pages.specs.declared.change.Cut.{Cut}
-use Rattle.directories.specs.Directories.{HasOnly, SlotOf}
+use Rattle.directories.specs.Directories.{HasBeside, HasOnly, SlotOf}
 use Rattle.directories.specs.HeadPages.{IsHeadPage}
 use Rattle.directories.specs.Heads.{fields_in}
 use Rattle.directories.specs.Slots.{AreSlots}
@@ -247,6 +247,15 @@ page_there z m d number before n slots some less are =
     let s = are (number / n * n + 0) (omega arith) (omega (arith, less)) in
     let one : (number / n * n + 0) / page_slots z ≡ number / n = ap (λ k. (number / n * n + 0) / k) (sym slots) ∙ div-mul-add (number / n) n 0 (omega (arith, some)) in
     (s.1.0, subst (λ k. m d (1 + k) ≡ Some s.1.0) one s.1.1)
+
+-- the page on which slots stay was read
+pub beside_there : (z : Sizes) (m : PageMap) (d number stay n count : ℕ) (xs : List ℕ) → n ≡ page_slots z → 1 ≤ n → count ≡ min (stay - number / n * n) n
+    → (count ≢ 0 → m d (1 + number / n) ≡ Some xs) → HasBeside z m d stay number
+beside_there z m d number stay n count xs slots some is there k less same =
+    let a : k / n * n + k % n ≡ k = div-add-mod' k n in
+    let one : k / n ≡ number / n = ap (λ j. k / j) slots ∙ same ∙ ap (λ j. number / j) (sym slots) in
+    let whole : k / n * n ≡ number / n * n = ap (λ j. j * n) one in
+    (xs, subst (λ j. m d (1 + j) ≡ Some xs) (sym one ∙ ap (λ j. k / j) slots) (there (λ none. omega (arith, a, whole, less, some, is, none))))
 
 -- a page of zeros
 pub blank : (n d count : ℕ) → count ≡ 0 → n ≡ d → replicate {A = ℕ} n 0 ≡ take (272 * count) [] ++ replicate (d - 272 * count) 0

@@ -1,5 +1,5 @@
 -- A directory of a store's pages.
-use Rattle.std.specs.Prelude.{◌≡◌, ◌≢◌, ◌<◌, ℕ, true, List, Option, Some, None}
+use Rattle.std.specs.Prelude.{◌≡◌, ◌≢◌, ◌<◌, ◌+◌, ◌/◌, ℕ, true, List, Option, Some, None}
 use Rattle.std.specs.FinMap as map
 use Rattle.std.specs.Int.{div_ceil}
 use Rattle.flash_tree.specs.Tree.{ReadsDir, SlotIs}
@@ -25,6 +25,10 @@ SlotOf z m d i entry = SlotIs z (has m) d i entry
 abbrev pub HasOnly : Sizes → PageMap → ℕ → ℕ → Type 0
 HasOnly z m d count = (c : ℕ) → div_ceil count (page_slots z) < c → m d c ≡ None
 
+-- the page of each of so many slots that stands on the page of slot i is there
+abbrev pub HasBeside : Sizes → PageMap → ℕ → ℕ → ℕ → Type 0
+HasBeside z m d count i = (k : ℕ) → k < count → k / page_slots z ≡ i / page_slots z → (page : List ℕ) × (m d (1 + k / page_slots z) ≡ Some page)
+
 -- after a change of the pages the object is this directory, with the spare blocks that were there
 abbrev pub ReadsAs : Sizes → PageMap → ℕ → ℕ → Entries → ℕ → Type 0
 ReadsAs z m o moment entries spare = (r : ReadsDir z (has m) o moment entries) × (r.fields.spare ≡ spare)
@@ -46,6 +50,10 @@ TellsChange z p d name (Some change) = (object : ℕ) × TellsName z p d name (S
 -- the header and the slots say whether the name is there
 abbrev pub TellsOf : Sizes → PagesState → ℕ → List ℕ → Type 0
 TellsOf z p d name = (found : Option ℕ) × TellsName z p d name found
+
+-- the header is there, and so is the page on which the next slot would stand beside others
+abbrev pub TellsEnd : Sizes → PagesState → ℕ → Type 0
+TellsEnd z p d = (h : IsHeaded p d) × HasBeside z p.present d h.fields.length h.fields.length
 
 -- there is a change exactly where the directory has the name
 abbrev pub IsNamed : Entries → List ℕ → Option Change → Type 0

@@ -8,9 +8,8 @@ ghost use Rattle.posix_profile.specs.State.{Entries};
 ghost use Rattle.pages.specs.Changes.{IsChange, IsOnlyOf};
 ghost use Rattle.pages.specs.Maps.{changed};
 ghost use Rattle.pages.specs.State.{OnlyFinds};
-ghost use Rattle.directories.specs.Directories.{DirIn, HasOnly, ReadsAs};
+ghost use Rattle.directories.specs.Directories.{DirIn, HasOnly, ReadsAs, TellsEnd};
 ghost use Rattle.directories.specs.Faults.{MayLackRoom, SaysWhyAdding};
-ghost use Rattle.directories.specs.Heads.{IsHeaded};
 
 use crate::head::{DirectoryHead, head_after};
 use crate::writing::{Writing, write};
@@ -38,7 +37,8 @@ pub fn add<P: Pages>(
     ensures besides { (z : Sizes) (before : ℕ) (entries : Entries) (d : DirIn (P.state pages.old) z directory before entries) → map.get entries slot.now.name.now ≡ None
         → HasOnly z (P.state pages.old).present directory (map.len entries)
         → IfOk result (λ change. HasOnly z (changed change (P.state pages.old).present) directory (map.len (map.insert entries slot.now.name.now slot.now.object))) }
-    ensures told { (P.state pages.old).sound ≡ true → OnOk result (IsHeaded (P.state pages.old) directory) }
+    ensures told { (P.state pages.old).sound ≡ true → (z : Sizes) → z.page_bytes ≡ (P.state pages.old).page_bytes
+        → OnOk result (TellsEnd z (P.state pages.old) directory) }
     ensures why { IfErr result (SaysWhyAdding (P.state pages.new)) }
     ensures fault { (z : Sizes) (before : ℕ) (entries : Entries) (d : DirIn (P.state pages.old) z directory before entries)
         → IfErr result (MayLackRoom (map.len entries) (P.state pages.new)) }

@@ -1,5 +1,5 @@
 // A slot of a directory that is written, with the directory's header.
-ghost use Rattle.std.specs.Prelude.{◌≡◌, ◌≢◌, ◌<◌, ◌≤◌, ◌+◌, ◌-◌, ◌*◌, ◌/◌, ◌++◌, min, ℕ, List, [], true, Some, IfOk, IfErr, take, length, replicate, option_copied};
+ghost use Rattle.std.specs.Prelude.{◌≡◌, ◌≢◌, ◌<◌, ◌≤◌, ◌+◌, ◌-◌, ◌*◌, ◌/◌, ◌++◌, min, ℕ, List, [], true, Some, IfOk, OnOk, IfErr, take, length, replicate, option_copied};
 ghost use Rattle.page_tags.specs.SlotEntry.{entry_of};
 ghost use Rattle.page_tags.specs.Slots.{IsSlot};
 ghost use Rattle.volume_terms.specs.Sizes.{Sizes, page_slots};
@@ -8,7 +8,7 @@ ghost use Rattle.pages.specs.Changes.{IsChange, IsOnlyOf};
 ghost use Rattle.pages.specs.Faults.{MayLackMemory, SaysWhyMaking};
 ghost use Rattle.pages.specs.Maps.{PageMap, changed};
 ghost use Rattle.pages.specs.State.{OnlyFinds};
-ghost use Rattle.directories.specs.Directories.{SlotOf};
+ghost use Rattle.directories.specs.Directories.{SlotOf, HasBeside};
 ghost use Rattle.directories.specs.Slots.{AreSlots};
 ghost use Rattle.directories.specs.Writes.{IsSlotsPage, IsSlotPage, HasHead, HasKey, KeepsPages, KeepsSlots};
 
@@ -75,6 +75,8 @@ pub(crate) fn slot_page<P: Pages>(
     ensures sized { IfOk result (IsSlotsPage directory (P.state pages.old).page_bytes) }
     ensures page { (P.state pages.old).sound ≡ true → (z : Sizes) → z.page_bytes ≡ (P.state pages.old).page_bytes
         → IfOk result (IsSlotPage z (after (option_copied earlier.entry) (P.state pages.old)).present directory writing (entry_of slot.now)) }
+    ensures beside { (P.state pages.old).sound ≡ true → (z : Sizes) → z.page_bytes ≡ (P.state pages.old).page_bytes
+        → OnOk result (HasBeside z (after (option_copied earlier.entry) (P.state pages.old)).present directory (min writing.before writing.afterwards) writing.number) }
     ensures why { IfErr result (SaysWhyMaking (P.state pages.new)) }
     ensures fault { (P.state pages.old).sound ≡ true → (z : Sizes) → z.page_bytes ≡ (P.state pages.old).page_bytes
         → AreSlots (SlotOf z (after (option_copied earlier.entry) (P.state pages.old)).present directory) 0 writing.before
@@ -119,6 +121,8 @@ pub(crate) fn write<P: Pages>(
         × KeepsSlots z old (changed change old) directory (min writing.before writing.afterwards) writing.number) }
     ensures pages { (P.state pages.old).sound ≡ true → (z : Sizes) (m : PageMap) → z.page_bytes ≡ (P.state pages.old).page_bytes
         → IfOk result (λ change. KeepsPages z m (changed change m) directory writing.number) }
+    ensures beside { (P.state pages.old).sound ≡ true → (z : Sizes) → z.page_bytes ≡ (P.state pages.old).page_bytes
+        → OnOk result (HasBeside z (after (option_copied earlier.entry) (P.state pages.old)).present directory (min writing.before writing.afterwards) writing.number) }
     ensures why { IfErr result (SaysWhyMaking (P.state pages.new)) }
     ensures fault { (P.state pages.old).sound ≡ true → (z : Sizes) → z.page_bytes ≡ (P.state pages.old).page_bytes
         → AreSlots (SlotOf z (after (option_copied earlier.entry) (P.state pages.old)).present directory) 0 writing.before

@@ -3,7 +3,7 @@ ghost use Rattle.std.specs.Prelude.{◌≡◌, ◌-◌, ◌*◌};
 ghost use Rattle.pages.specs.MemoryState.{kept};
 
 use file_io::{FileInfo, create, read_at, read_info, set_length, write_at};
-use pages::{Change, Lack, MemPages, PageFault, Pages, Refusal};
+use pages::{Change, MemPages, PageFault, Pages};
 use rand_core::utils::NextWord;
 use rand_pcg::Pcg32;
 use std::alloc::Global;
@@ -47,30 +47,6 @@ fn written(
     }
     let change = write_at(alloc, &mut pages, FILE, offset, bytes, moment)?;
     Ok(pages.apply(alloc, change)?)
-}
-
-/// The change of a write, which is asked for once more where memory was refused.
-fn write_again(alloc: Global, pages: &mut MemPages) -> Result<Change, PageFault> {
-    match write_at(alloc, pages, FILE, 300, b"again", 2) {
-        Err(PageFault::NoMemory) => write_at(alloc, pages, FILE, 300, b"again", 2),
-        change => change,
-    }
-}
-
-/// The change of a length, which is asked for once more where memory was refused.
-fn resize_again(alloc: Global, pages: &mut MemPages) -> Result<Change, PageFault> {
-    match set_length(alloc, pages, FILE, 900, 2) {
-        Err(PageFault::NoMemory) => set_length(alloc, pages, FILE, 900, 2),
-        change => change,
-    }
-}
-
-/// The bytes of a file, which are asked for once more where memory was refused.
-fn read_again(alloc: Global, pages: &mut MemPages) -> Result<Vec<u8>, PageFault> {
-    match read_at(alloc, pages, FILE, 299, 700) {
-        Err(PageFault::NoMemory) => read_at(alloc, pages, FILE, 299, 700),
-        bytes => bytes,
-    }
 }
 
 /// The store after a change of the length.
@@ -184,44 +160,6 @@ fn what_is_no_file_is_damaged(rt: HostRuntime) -> Result<(), Fail> {
     assert_eq!(rt; read_info(&mut pages, 9).err(), Some(PageFault::Damaged));
     assert!(rt; write_at(alloc, &mut pages, 9, 0, b"a", 1).is_err());
     assert!(rt; set_length(alloc, &mut pages, 9, 1, 1).is_err());
-    Ok(())
-}
-
-#[test]
-fn each_refused_look_up_changes_nothing(rt: HostRuntime) -> Result<(), Fail> {
-    let alloc = rt.alloc();
-    for number in 1..4 {
-        let mut pages = written(alloc, empty_file(alloc, 512)?, 0, &[1; 700], 1)?;
-        let lack = if number == 2 {
-            Lack::Device
-        } else {
-            Lack::Memory
-        };
-        let number = pages.finds().saturating_add(number);
-        pages.refuse(Refusal { number, lack });
-        assert!(rt; write_at(alloc, &mut pages, FILE, 300, &[2; 300], 2).is_err());
-        let mut pages = written(alloc, pages, 300, &[2; 300], 2)?;
-        let read = read_at(alloc, &mut pages, FILE, 298, 304)?;
-        assert_eq!(rt; read.len(), 304);
-        assert!(rt; read[..2].iter().all(|byte| *byte == 1));
-        assert!(rt; read[2..302].iter().all(|byte| *byte == 2));
-        assert!(rt; read[302..].iter().all(|byte| *byte == 1));
-    }
-    Ok(())
-}
-
-// Run it with each allocation of the three calls refused in turn.
-#[test]
-fn a_refused_growth_changes_nothing(rt: HostRuntime) -> Result<(), Fail> {
-    let alloc = rt.alloc();
-    let mut pages = written(alloc, empty_file(alloc, 512)?, 0, &[1; 700], 1)?;
-    let write = write_again(alloc, &mut pages)?;
-    assert_eq!(rt; write.pages.len(), 2);
-    let resize = resize_again(alloc, &mut pages)?;
-    assert_eq!(rt; resize.pages.len(), 2);
-    let read = read_again(alloc, &mut pages)?;
-    assert_eq!(rt; read.len(), 401);
-    assert!(rt; read.iter().all(|byte| *byte == 1));
     Ok(())
 }
 

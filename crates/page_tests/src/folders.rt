@@ -138,7 +138,7 @@ fn shuffled(alloc: Global, random: &mut Pcg32, count: u32) -> Result<Vec<u32>, F
     Ok(numbers)
 }
 
-/// Adds so many names in a random order, and removes a hundred of them, or all where there are fewer, in another.
+/// Adds so many names in a random order, and removes them in another.
 fn fill_and_empty(
     alloc: Global,
     random: &mut Pcg32,
@@ -161,15 +161,18 @@ fn fill_and_empty(
     if !has_names(alloc, &mut pages, HOME, &wanted)? {
         return Ok(false);
     }
-    for number in shuffled(alloc, random, count)?.into_iter().take(100) {
+    for number in shuffled(alloc, random, count)? {
         let name = name_of(alloc, number)?;
         pages = take_away(alloc, pages, HOME, &mut wanted, &name)?;
-        if number % 64 == 0 && !has_names(alloc, &mut pages, HOME, &wanted)? {
+        if number % 128 == 0 && !has_names(alloc, &mut pages, HOME, &wanted)? {
             return Ok(false);
         }
     }
-    let none = BTreeMap::new(alloc);
-    Ok(has_names(alloc, &mut pages, HOME, &wanted)? && has_names(alloc, &mut pages, AWAY, &none)?)
+    Ok(
+        wanted.is_empty()
+            && has_names(alloc, &mut pages, HOME, &wanted)?
+            && has_names(alloc, &mut pages, AWAY, &wanted)?,
+    )
 }
 
 #[test]
@@ -182,12 +185,21 @@ fn names_are_added_and_removed_in_any_order(rt: HostRuntime) -> Result<(), Fail>
         (512, 2),
         (1024, 3),
         (1024, 4),
+        (2048, 7),
+        (2048, 8),
         (4096, 15),
         (4096, 16),
-        (4096, 1000),
     ] {
         assert!(rt; fill_and_empty(alloc, &mut random, page_bytes, count)?);
     }
+    Ok(())
+}
+
+#[test]
+fn a_thousand_names_are_added_and_removed(rt: HostRuntime) -> Result<(), Fail> {
+    let alloc = rt.alloc();
+    let mut random = Pcg32::new(5, 6);
+    assert!(rt; fill_and_empty(alloc, &mut random, 4096, 1000)?);
     Ok(())
 }
 

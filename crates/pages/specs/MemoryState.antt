@@ -1,10 +1,11 @@
 -- What a store in memory keeps.
-use Rattle.std.specs.Prelude.{true, slice_get}
+use Rattle.std.specs.Prelude.{true, Option, slice_get}
 use Rattle.pages.specs.Maps.{with_pages}
 use Rattle.pages.specs.State.{PagesState}
 use Rattle.pages.specs.Afterwards.{bytes_or}
 use Rattle.pages.specs.Memory.{nothing}
 use Rattle.pages.specs.declared.memory.MemPages.{MemPages}
+use Rattle.pages.specs.declared.memory.Refusal.{Refusal}
 
 abbrev pub kept : MemPages → PagesState
 kept it = record {
@@ -16,3 +17,7 @@ kept it = record {
   refused = it.refused;
   asked = it.finds;
 }
+
+-- the look-up that it is told to refuse
+abbrev pub refusing : MemPages → Option Refusal
+refusing it = it.refusal

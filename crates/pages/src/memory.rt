@@ -1,5 +1,5 @@
 // Pages in memory, for tests.
-ghost use Rattle.std.specs.Prelude.{◌≡◌, ◌≤◌, ℕ, true, None, IfOk, length};
+ghost use Rattle.std.specs.Prelude.{◌≡◌, ◌≤◌, ℕ, true, false, Some, None, IfOk, length};
 ghost use Rattle.pages.specs.Maps.{changed};
 ghost use Rattle.pages.specs.Changes.{AreSized};
 
@@ -42,7 +42,7 @@ pub struct MemPages {
 }
 
 impl MemPages {
-    ghost use Rattle.pages.specs.MemoryState.{kept};
+    ghost use Rattle.pages.specs.MemoryState.{kept, refusing};
 
     /// No key has a page.
     pub fn new(alloc: Global, page_bytes: u32) -> Result<MemPages, AllocError>
@@ -51,6 +51,10 @@ impl MemPages {
         ensures size { IfOk result (λ it. (kept it).page_bytes ≡ page_bytes) }
         ensures sound { IfOk result (λ it. (kept it).sound ≡ true) }
         ensures none { (o c : ℕ) → IfOk result (λ it. (kept it).present o c ≡ None) }
+        ensures asked { IfOk result (λ it. (kept it).asked ≡ 0) }
+        ensures failed { IfOk result (λ it. (kept it).failed ≡ false) }
+        ensures refused { IfOk result (λ it. (kept it).refused ≡ false) }
+        ensures willing { IfOk result (λ it. refusing it ≡ None) }
     {
         Ok(MemPages {
             page_bytes,
@@ -70,6 +74,10 @@ impl MemPages {
         ensures size { IfOk result (λ it. (kept it).page_bytes ≡ (kept self).page_bytes) }
         ensures sound { IfOk result (λ it. (kept it).sound ≡ (kept self).sound) }
         ensures pages { (o c : ℕ) → IfOk result (λ it. (kept it).present o c ≡ changed change (kept self).present o c) }
+        ensures asked { IfOk result (λ it. (kept it).asked ≡ (kept self).asked) }
+        ensures failed { IfOk result (λ it. (kept it).failed ≡ (kept self).failed) }
+        ensures refused { IfOk result (λ it. (kept it).refused ≡ (kept self).refused) }
+        ensures refusing { IfOk result (λ it. refusing it ≡ refusing self) }
     {
         let old = Change {
             pages: self.pages,
@@ -90,7 +98,8 @@ impl MemPages {
 
     /// One look-up is refused, in place of the one that was told before.
     pub fn refuse(&mut self, refusal: Refusal)
-        ensures { kept self.new ≡ kept self.old }
+        ensures state { kept self.new ≡ kept self.old }
+        ensures refusing { refusing self.new ≡ Some refusal }
     {
         self.refusal = Some(refusal);
     }

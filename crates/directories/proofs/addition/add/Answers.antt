@@ -8,14 +8,14 @@ use Rattle.directories.specs.Directories.{DirIn}
 use Rattle.page_tags.specs.SlotEntry.{entry_of}
 use Rattle.pages.specs.laws.Faults.{says_more}
 use Rattle.pages.specs.Maps.{PageMap, changed}
-use Rattle.directories.specs.Directories.{HasOnly, SlotOf}
+use Rattle.directories.specs.Directories.{HasBeside, HasOnly, SlotOf}
 use Rattle.directories.specs.Writes.{HasHead, KeepsSlots}
 use Rattle.directories.specs.declared.head.DirectoryHead.{DirectoryHead}
 use Rattle.directories.proofs.Changed.{reads_added}
-use Rattle.directories.proofs.Results.{on_all, on_ok, on_err}
+use Rattle.directories.proofs.Results.{on_all, on_done, on_ok, on_err}
 use Rattle.directories.proofs.PageCounts.{only_written}
 use Rattle.directories.proofs.Reading.{count_after}
-use Rattle.directories.proofs.Told.{page_size, some_slots, sound_on, size_on, are_on, head_says, length_is, count_is}
+use Rattle.directories.proofs.Told.{page_size, some_slots, sound_on, size_on, are_on, head_says, length_is, count_is, said_now, told_end}
 use Rattle.directories.proofs.addition.add.Goals as goal
 
 pub returns-in_default-clause-fault : goal.returns-in_default-clause-fault
@@ -102,3 +102,15 @@ returns-clause-besides g c = λ z moment entries d absent only.
     (returns-clause-adds g c z moment entries d absent)
     (c.write.ensures.writes sound_on' z size_on')
     (c.write.ensures.pages sound_on' z m size_on')
+
+pub returns-clause-told : goal.returns-clause-told
+returns-clause-told g c = λ sound z size.
+    let old : PagesState = g.P.Pages.state c.args.pages.now in
+    let mid : PagesState = g.P.Pages.state c.head_after.new.pages in
+    let finds = c.head_after.ensures.finds in
+    let counted : c.in-Some.length ≡ c.in_ok-head.head.length + 1 = search rules in
+    let count : min c.in_ok-head.head.length c.in-Some.length ≡ c.in_ok-head.head.length = grind (arith, counted) in
+    let says = said_now old c.args.directory c.in_ok-head.head (c.in_ok-head.ensures.told sound) in
+    on_done _ _ c.write.result
+    (λ is. told_end old mid finds z c.args.directory c.in_ok-head.head says (subst (λ k. HasBeside z mid.present c.args.directory k c.in_ok-head.head.length) count is))
+    (c.write.ensures.beside (finds.sound ∙ sound) z (size ∙ sym finds.page_bytes))

@@ -8,7 +8,7 @@ use Rattle.pages.specs.Afterwards.{changed_by}
 use Rattle.pages.specs.Maps.{PageMap}
 use Rattle.pages.specs.State.{PagesState}
 use Rattle.flash_tree.specs.declared.place.FreshPage.{FreshPage}
-use Rattle.directories.proofs.Written.{page_made, page_there}
+use Rattle.directories.proofs.Written.{beside_there, page_made, page_there}
 use Rattle.directories.proofs.writing.slot_page.Goals as goal
 
 pub returns-in_err-bytes-clause-fault : goal.returns-in_err-bytes-clause-fault
@@ -52,3 +52,16 @@ returns-clause-page g c = λ sound z size.
     (ap (λ (xs : List ℕ). take 272 (drop (272 * place) xs)) items ∙ c.write_slot.ensures.here)
     (λ k apart within. ap (λ (xs : List ℕ). take 272 (drop (272 * k) xs)) items ∙ c.write_slot.ensures.others k apart within)
     (ap (drop (272 * place + 272)) items ∙ c.write_slot.ensures.past)
+
+pub returns-clause-beside : goal.returns-clause-beside
+returns-clause-beside g c = λ sound z size.
+    let old : PagesState = g.P.Pages.state c.args.pages.now in
+    let m : PageMap = changed_by (option_copied c.args.earlier) old.present in
+    let made = c.in_ok-bytes.ensures.page sound in
+    let n : ℕ = c.page_bytes.result / 272 in
+    let number : ℕ = c.args.writing.number in
+    let stay : ℕ = min c.args.writing.before c.args.writing.afterwards in
+    let slots : n ≡ page_slots z = ap (λ k. k / 272) (c.page_bytes.ensures.bytes ∙ sym size) in
+    let some : 1 ≤ n = omega (arith, c.page_bytes.ensures.least) in
+    let count_is : c.min-count.result ≡ min (stay - number / n * n) n = search rules in
+    beside_there z m c.args.directory number stay n c.min-count.result made.0 slots some count_is (λ ne. subst (λ k. m c.args.directory (1 + k) ≡ Some made.0) c.from.ensures (made.1 ne))

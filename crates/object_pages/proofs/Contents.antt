@@ -1,12 +1,12 @@
 -- The bytes of a file after a change.
-use Rattle.std.specs.Prelude.{◌≡◌, ◌≤◌, ◌<◌, ℕ, ◌+◌, ◌-◌, ◌++◌, List, [], length, take, drop, replicate, max}
+use Rattle.std.specs.Prelude.{◌≡◌, ◌≤◌, ℕ, ◌+◌, ◌-◌, ◌++◌, List, [], length, take, drop, replicate, max}
 use Rattle.std.proofs.Common.{sym, ◌∙◌, ap, subst, inl, inr, arith}
 use Rattle.std.proofs.lemmas.Bool.{cases_lt}
 use Rattle.std.specs.FinMap as map
 use Rattle.std.proofs.lemmas.List.{append-nil, take-append-drop}
 use Rattle.std.proofs.Math.Seq.{take-append_seam}
 use Rattle.std.proofs.Math.ListN.{drop_of_length-le}
-use Rattle.page_tags.specs.Headers.{Fields, greatest_length}
+use Rattle.page_tags.specs.Headers.{greatest_length}
 use Rattle.page_tags.specs.declared.header.ObjectKind.{ObjectKind}
 use Rattle.page_tags.specs.declared.header.ObjectKind.TheVariants as kinds
 use Rattle.volume_terms.specs.Sizes.{Sizes, most_file_bytes}
@@ -19,7 +19,7 @@ use Rattle.pages.specs.State.{PagesState}
 use Rattle.pages.specs.laws.Changes.{others_keep}
 use Rattle.pages.specs.declared.change.Change.{Change}
 use Rattle.file_io.specs.Files.{Becomes}
-use Rattle.object_pages.specs.Holding.{HoldsFile, HoldsObjects, HoldsIn}
+use Rattle.object_pages.specs.Holding.{HoldsObjects, HoldsIn}
 use Rattle.object_pages.specs.laws.Holding.{held_file, file_in, put_object}
 
 -- a write of no bytes lets a shorter file grow to the offset

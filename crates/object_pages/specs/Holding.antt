@@ -1,5 +1,5 @@
 -- What objects the pages of a store hold.
-use Rattle.std.specs.Prelude.{◌≡◌, ◌≢◌, ℕ, true, List, Option, Some, None}
+use Rattle.std.specs.Prelude.{◌≡◌, ℕ, true, List, Option, Some, None}
 use Rattle.std.specs.FinMap as map
 use Rattle.flash_tree.specs.Tree.{ReadsFile, ReadsDir}
 use Rattle.volume_terms.specs.Sizes.{Sizes, IsSizes, root_number}

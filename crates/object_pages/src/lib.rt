@@ -2,7 +2,18 @@
 #![tactic(auto)]
 
 mod content;
+mod creation;
+mod law;
+mod moving;
+mod naming;
+mod planning;
 mod reading;
+mod removal;
 
 pub use content::{resize, write};
+pub use law::{held_objects_are_a_volume, held_objects_are_shown};
+pub use moving::move_name;
+pub use naming::{create, name};
+pub use planning::plan;
 pub use reading::{find, names, read};
+pub use removal::{forget, remove};

@@ -1,15 +1,13 @@
 -- Pages that hold objects, read one object at a time, and after a change of one.
-use Rattle.std.specs.Prelude.{◌≡◌, ◌≢◌, ◌/◌, ◌%◌, ◌+◌, ℕ, true, List, Option, Some, None, slice_index}
+use Rattle.std.specs.Prelude.{◌≡◌, ◌≢◌, ◌/◌, ◌+◌, ℕ, List, Option, Some, None}
 use Rattle.std.proofs.Common.{sym, ◌∙◌, ap, subst, inl, inr}
 use Rattle.std.proofs.lemmas.Bool.{cases_eq}
 use Rattle.std.specs.Cmp.{nat_cmp_total}
 use Rattle.std.specs.FinMap as map
-use Rattle.page_tags.specs.Headers.{Fields, header_bytes}
-use Rattle.flash_tree.specs.Tree.{ReadsFile, ReadsDir, HasHeader, ByteIs, SlotIs}
 use Rattle.volume_terms.specs.Sizes.{Sizes, page_slots}
 use Rattle.posix_profile.specs.State.{Entries, Object, File, Dir, Objects, IsFile, IsDirectory}
 use Rattle.posix_profile.specs.laws.Map.{get_here, get_there, get_removed, removed_none}
-use Rattle.pages.specs.Maps.{PageMap, has}
+use Rattle.pages.specs.Maps.{PageMap}
 use Rattle.pages.specs.State.{PagesState, OnlyFinds}
 use Rattle.directories.specs.Directories.{DirIn}
 use Rattle.file_io.specs.Files.{FileIn}

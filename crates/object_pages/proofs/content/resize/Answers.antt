@@ -1,5 +1,4 @@
 use Rattle.std.proofs.Common.{ℕ, List, IfOk, subst}
-use Rattle.posix_profile.specs.State.{Objects}
 use Rattle.posix_profile.specs.Changes.{with_bytes, resized}
 use Rattle.pages.specs.Changes.{IsOnlyOf}
 use Rattle.pages.specs.Maps.{changed}

@@ -1,0 +1,6 @@
+pub mod Contents
+pub mod Entries
+pub mod Holdings
+pub mod Results
+pub mod Wholes
+pub mod Sensible

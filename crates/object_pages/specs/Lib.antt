@@ -1,0 +1,4 @@
+pub mod Holding
+pub mod Faults
+pub mod Plans
+pub mod laws

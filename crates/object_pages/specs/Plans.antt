@@ -1,0 +1,20 @@
+-- The pages that a change of objects may write.
+use Rattle.std.specs.Prelude.{◌≡◌, ◌≤◌, ℕ, ◌+◌, List, length, Some, slice_get}
+use Rattle.volume_terms.specs.Rounding.{ceiling}
+use Rattle.flash_tree.specs.declared.place.FreshPage.{FreshPage}
+use Rattle.object_store.specs.declared.change.ObjectChange.{ObjectChange}
+use Rattle.object_store.specs.declared.change.ObjectChange.TheVariants as changes
+
+-- most pages of d bytes that a change writes
+abbrev pub most_pages : ℕ → ObjectChange → ℕ
+most_pages d (changes.Create entry kind moment) = 3
+most_pages d (changes.Name entry number moment) = 2
+most_pages d (changes.Remove entry dropped moment) = 2
+most_pages d (changes.Move from to number dropped moment) = 4
+most_pages d (changes.Write number offset bytes moment) = ceiling (length bytes.now) d + 3
+most_pages d (changes.Resize number length moment) = 2
+most_pages d (changes.Forget number) = 0
+
+-- each page is of a number that an object can have
+abbrev pub AreNumbered : List FreshPage → Type 0
+AreNumbered pages = (i : ℕ) (p : FreshPage) → slice_get pages i ≡ Some p → 1 ≤ p.key.object

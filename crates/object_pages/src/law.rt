@@ -1,0 +1,24 @@
+// What a mount shows of pages that hold objects.
+ghost use Rattle.std.specs.Prelude.{◌≤◌, ◌+◌, ℕ};
+ghost use Rattle.nand_model.specs.declared.geometry.Geometry.{Geometry};
+ghost use Rattle.flash_tree.specs.Mount.{sizes_of, IsVolume};
+ghost use Rattle.flash_tree.specs.Tree.{Shows};
+ghost use Rattle.volume_terms.specs.Sizes.{Sizes};
+ghost use Rattle.posix_profile.specs.State.{Objects};
+ghost use Rattle.posix_profile.specs.WellFormed.{IsForest};
+ghost use Rattle.object_store.specs.Stores.{settled};
+ghost use Rattle.pages.specs.Maps.{PageMap, has};
+ghost use Rattle.object_pages.specs.Holding.{HoldsObjects};
+
+/// Pages that hold objects show those of them that names keep.
+#[tactic(auto, using(crate::specs::laws::Settled::shows_settled))]
+pub fn held_objects_are_shown()
+    ensures { (z : Sizes) (m : PageMap) (objects : Objects) → HoldsObjects z m objects → IsForest z objects → Shows z (has m) (settled objects) }
+{}
+
+/// Pages that hold the objects of a volume are those of a volume with as many spare blocks.
+#[tactic(auto, using(crate::specs::laws::Settled::holds_volume))]
+pub fn held_objects_are_a_volume()
+    ensures { (g : Geometry) (spare : ℕ) (m : PageMap) (objects : Objects) → HoldsObjects (sizes_of g spare) m objects → IsForest (sizes_of g spare) objects
+        → spare + 4 ≤ g.blocks → IsVolume g (has m) spare }
+{}

@@ -1,0 +1,124 @@
+// A change of objects as one of pages.
+ghost use Rattle.std.specs.Prelude.{◌≡◌, ◌≤◌, ℕ, [], true, false, IfOk, IfErr, IsOk, Some, slice_get, vec_capacity};
+ghost use Rattle.volume_terms.specs.Sizes.{Sizes};
+ghost use Rattle.posix_profile.specs.State.{Objects};
+ghost use Rattle.posix_profile.specs.Changes.{new_number};
+ghost use Rattle.flash_tree.specs.declared.place.FreshPage.{FreshPage};
+ghost use Rattle.object_store.specs.Changes.{made, CanMake, takes_none};
+ghost use Rattle.pages.specs.Changes.{IsChange};
+ghost use Rattle.pages.specs.Faults.{MayLackMemory};
+ghost use Rattle.pages.specs.Maps.{changed};
+ghost use Rattle.pages.specs.State.{OnlyFinds};
+ghost use Rattle.object_pages.specs.Faults.{SaysWhyChanging};
+ghost use Rattle.object_pages.specs.Holding.{CanHave, HoldsIn, HoldsObjects};
+ghost use Rattle.object_pages.specs.Plans.{most_pages, AreNumbered};
+
+use crate::content::{resize, write};
+use crate::moving::move_name;
+use crate::naming::{create, name};
+use crate::removal::{forget, remove};
+use flash_tree::FreshPage;
+use object_store::ObjectChange;
+use pages::{Change, Cut, PageFault, Pages};
+use std::alloc::Global;
+
+/// Whether each page is of a number that an object can have.
+fn are_numbered(pages: &[FreshPage]) -> bool
+    ensures numbered { result ≡ true → AreNumbered pages.now }
+    ensures not { result ≡ false → (i : ℕ) × (p : FreshPage) × (slice_get pages.now i ≡ Some p) × (p.key.object ≡ 0) }
+{
+    for page in pages {
+        if page.key.object == 0 {
+            return false;
+        }
+    }
+    true
+}
+
+/// The change of pages that makes a change of objects.
+///
+/// `new` is the number that a new object gets. A change that only forgets takes no memory: then `room` is an empty vector
+/// in which there is room for one cut, and which becomes the change's; for others it may be any.
+pub fn plan<P: Pages>(
+    pages: &mut P,
+    alloc: Global,
+    change: &ObjectChange<'_>,
+    new: u64,
+    room: Vec<Cut>,
+) -> Result<Change, PageFault>
+    requires empty { takes_none change.now ≡ true → room.items ≡ [] }
+    requires room { takes_none change.now ≡ true → 1 ≤ vec_capacity room }
+    ensures finds { OnlyFinds (P.state pages.old) (P.state pages.new) }
+    ensures change { IfOk result (λ it. IsChange it (P.state pages.old).page_bytes (most_pages (P.state pages.old).page_bytes change.now)) }
+    ensures numbered { IfOk result (λ it. AreNumbered it.pages.items) }
+    ensures makes { (z : Sizes) (objects : Objects) → HoldsIn (P.state pages.old) z objects → CanMake z objects change.now → new ≡ new_number objects
+        → IfOk result (λ it. HoldsObjects z (changed it (P.state pages.old).present) (made objects change.now)) }
+    ensures memory { takes_none change.now ≡ true → IsOk result }
+    ensures why { IfErr result (SaysWhyChanging (P.state pages.new)) }
+    ensures fault { (z : Sizes) (objects : Objects) → HoldsIn (P.state pages.old) z objects → CanHave z objects → CanMake z objects change.now → new ≡ new_number objects
+        → IfErr result (MayLackMemory (P.state pages.new)) }
+{
+    let planned = plan_each(pages, alloc, change, new, room)?;
+    if are_numbered(&planned.pages) {
+        Ok(planned)
+    } else {
+        Err(PageFault::Damaged)
+    }
+}
+
+/// The same for each kind of change; of no number it is told that no page is of it.
+fn plan_each<P: Pages>(
+    pages: &mut P,
+    alloc: Global,
+    change: &ObjectChange<'_>,
+    new: u64,
+    room: Vec<Cut>,
+) -> Result<Change, PageFault>
+    requires empty { takes_none change.now ≡ true → room.items ≡ [] }
+    requires room { takes_none change.now ≡ true → 1 ≤ vec_capacity room }
+    ensures finds { OnlyFinds (P.state pages.old) (P.state pages.new) }
+    ensures change { IfOk result (λ it. IsChange it (P.state pages.old).page_bytes (most_pages (P.state pages.old).page_bytes change.now)) }
+    ensures makes { (z : Sizes) (objects : Objects) → HoldsIn (P.state pages.old) z objects → CanMake z objects change.now → new ≡ new_number objects
+        → IfOk result (λ it. HoldsObjects z (changed it (P.state pages.old).present) (made objects change.now)) }
+    ensures memory { takes_none change.now ≡ true → IsOk result }
+    ensures why { IfErr result (SaysWhyChanging (P.state pages.new)) }
+    ensures fault { (z : Sizes) (objects : Objects) → HoldsIn (P.state pages.old) z objects → CanHave z objects → CanMake z objects change.now → new ≡ new_number objects
+        → IfErr result (MayLackMemory (P.state pages.new)) }
+{
+    match change {
+        ObjectChange::Create {
+            entry,
+            kind,
+            moment,
+        } => create(pages, alloc, new, *entry, *kind, *moment),
+        ObjectChange::Name {
+            entry,
+            number,
+            moment,
+        } => name(pages, alloc, *entry, *number, *moment),
+        ObjectChange::Remove {
+            entry,
+            dropped,
+            moment,
+        } => remove(pages, alloc, *entry, *dropped, *moment),
+        ObjectChange::Move {
+            from,
+            to,
+            number,
+            dropped,
+            moment,
+        } => move_name(pages, alloc, *from, *to, *number, *dropped, *moment),
+        ObjectChange::Write {
+            number,
+            offset,
+            bytes,
+            moment,
+        } => write(pages, alloc, *number, *offset, bytes, *moment),
+        ObjectChange::Resize {
+            number,
+            length,
+            moment,
+        } => resize(pages, alloc, *number, *length, *moment),
+        ObjectChange::Forget { number } => Ok(forget(alloc, room, *number)),
+    }
+}

@@ -1,0 +1,56 @@
+// What is read of the objects that the pages hold.
+ghost use Rattle.std.specs.Prelude.{◌≡◌, IfOk, IfErr, take, drop};
+ghost use Rattle.std.specs.FinMap as map;
+ghost use Rattle.volume_terms.specs.Sizes.{Sizes};
+ghost use Rattle.posix_profile.specs.State.{Objects, IsFile, IsDirectory, entries_of};
+ghost use Rattle.object_store.specs.Facts.{bytes_of};
+ghost use Rattle.pages.specs.Faults.{MayLack, MayLackMemory, SaysWhy, SaysWhyMaking};
+ghost use Rattle.pages.specs.State.{OnlyFinds};
+ghost use Rattle.object_pages.specs.Holding.{HoldsIn};
+
+use pages::{PageFault, Pages};
+use posix_profile::{Bytes, NameList};
+use std::alloc::Global;
+
+/// The object that a name of a directory leads to.
+pub fn find<P: Pages>(pages: &mut P, directory: u64, name: &[u8]) -> Result<Option<u64>, PageFault>
+    ensures finds { OnlyFinds (P.state pages.old) (P.state pages.new) }
+    ensures found { (z : Sizes) (objects : Objects) → HoldsIn (P.state pages.old) z objects → IsDirectory objects directory
+        → IfOk result (λ found. found ≡ map.get (entries_of (map.get objects directory)) name.now) }
+    ensures why { IfErr result (SaysWhy (P.state pages.new)) }
+    ensures fault { (z : Sizes) (objects : Objects) → HoldsIn (P.state pages.old) z objects → IsDirectory objects directory
+        → IfErr result (MayLack (P.state pages.new)) }
+{
+    directories::find(pages, directory, name)
+}
+
+/// The names of a directory, in the order of their bytes.
+pub fn names<P: Pages>(pages: &mut P, alloc: Global, directory: u64) -> Result<NameList, PageFault>
+    ensures finds { OnlyFinds (P.state pages.old) (P.state pages.new) }
+    ensures found { (z : Sizes) (objects : Objects) → HoldsIn (P.state pages.old) z objects → IsDirectory objects directory
+        → IfOk result (λ names. names ≡ map.keys (entries_of (map.get objects directory))) }
+    ensures why { IfErr result (SaysWhyMaking (P.state pages.new)) }
+    ensures fault { (z : Sizes) (objects : Objects) → HoldsIn (P.state pages.old) z objects → IsDirectory objects directory
+        → IfErr result (MayLackMemory (P.state pages.new)) }
+{
+    directories::names(alloc, pages, directory)
+}
+
+/// The bytes of a file from the offset on, at most so many.
+pub fn read<P: Pages>(
+    pages: &mut P,
+    alloc: Global,
+    file: u64,
+    offset: u64,
+    count: u32,
+) -> Result<Bytes, PageFault>
+    ensures finds { OnlyFinds (P.state pages.old) (P.state pages.new) }
+    ensures found { (z : Sizes) (objects : Objects) → HoldsIn (P.state pages.old) z objects → IsFile objects file
+        → IfOk result (λ bytes. bytes ≡ take count (drop offset (bytes_of (map.get objects file)))) }
+    ensures why { IfErr result (SaysWhyMaking (P.state pages.new)) }
+    ensures fault { (z : Sizes) (objects : Objects) → HoldsIn (P.state pages.old) z objects → IsFile objects file
+        → IfErr result (MayLackMemory (P.state pages.new)) }
+{
+    let bytes = file_io::read_at(alloc, pages, file, offset, u64::from(count))?;
+    Ok(Bytes::new(bytes))
+}

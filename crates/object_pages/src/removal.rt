@@ -1,0 +1,75 @@
+// Names and objects that go.
+ghost use Rattle.std.specs.Prelude.{◌≡◌, ◌≤◌, ℕ, [], IfOk, IfErr, vec_capacity};
+ghost use Rattle.std.specs.FinMap as map;
+ghost use Rattle.volume_terms.specs.Sizes.{Sizes};
+ghost use Rattle.posix_profile.specs.State.{Objects};
+ghost use Rattle.posix_profile.specs.Changes.{without_name};
+ghost use Rattle.object_store.specs.Changes.{LeadsTo, without};
+ghost use Rattle.pages.specs.Changes.{IsChange, IsOnlyOf};
+ghost use Rattle.pages.specs.Faults.{MayLackMemory};
+ghost use Rattle.pages.specs.Maps.{PageMap, changed};
+ghost use Rattle.pages.specs.State.{OnlyFinds};
+ghost use Rattle.object_pages.specs.Faults.{SaysWhyChanging};
+ghost use Rattle.object_pages.specs.Holding.{HoldsIn, HoldsObjects};
+
+use object_store::DirectoryEntry;
+use pages::{Change, Cut, PageFault, Pages};
+use std::alloc::{AllocError, Global};
+
+/// The change that takes all pages of an object away. It takes no memory: the vector that is given holds its cut.
+pub fn forget(alloc: Global, mut room: Vec<Cut>, number: u64) -> Change
+    requires empty { room.items ≡ [] }
+    requires room { 1 ≤ vec_capacity room }
+    ensures pages { result.pages.items ≡ [] }
+    ensures only { IsOnlyOf result number }
+    ensures forgets { (z : Sizes) (m : PageMap) (objects : Objects) → HoldsObjects z m objects → HoldsObjects z (changed result m) (map.remove objects number) }
+{
+    room.push_reserved(Cut {
+        object: number,
+        from: 0,
+    });
+    Change {
+        pages: Vec::new(alloc),
+        cuts: room,
+    }
+}
+
+/// A change, after which the object that is told has no pages.
+pub(crate) fn and_forget(
+    alloc: Global,
+    change: Change,
+    dropped: Option<u64>,
+) -> Result<Change, AllocError>
+    ensures change { (bytes most : ℕ) → IsChange change bytes most → IfOk result (λ both. IsChange both bytes most) }
+    ensures forgets { (z : Sizes) (m : PageMap) (objects : Objects) → HoldsObjects z (changed change m) objects
+        → IfOk result (λ both. HoldsObjects z (changed both m) (without dropped objects)) }
+{
+    let Some(number) = dropped else {
+        return Ok(change);
+    };
+    let room = Vec::with_capacity(alloc, 1)?;
+    change.then(forget(alloc, room, number))
+}
+
+/// The change that takes a name from a directory, and the object that is told.
+pub fn remove<P: Pages>(
+    pages: &mut P,
+    alloc: Global,
+    at: DirectoryEntry<'_>,
+    dropped: Option<u64>,
+    moment: u64,
+) -> Result<Change, PageFault>
+    ensures finds { OnlyFinds (P.state pages.old) (P.state pages.new) }
+    ensures change { IfOk result (λ change. IsChange change (P.state pages.old).page_bytes 2) }
+    ensures removes { (z : Sizes) (objects : Objects) (o : ℕ) → HoldsIn (P.state pages.old) z objects → LeadsTo objects at.entry o
+        → IfOk result (λ change. HoldsObjects z (changed change (P.state pages.old).present)
+        (without dropped (without_name objects moment at.entry.directory at.entry.name.now))) }
+    ensures why { IfErr result (SaysWhyChanging (P.state pages.new)) }
+    ensures fault { (z : Sizes) (objects : Objects) (o : ℕ) → HoldsIn (P.state pages.old) z objects → LeadsTo objects at.entry o
+        → IfErr result (MayLackMemory (P.state pages.new)) }
+{
+    let Some(change) = directories::remove(alloc, pages, at.directory, at.name, moment)? else {
+        return Err(PageFault::Damaged);
+    };
+    Ok(and_forget(alloc, change, dropped)?)
+}

@@ -1,0 +1,227 @@
+// A small tree over pages in memory: each kind of change, and what is read after it.
+ghost use Rattle.std.specs.Prelude.{◌≡◌, ℕ, true};
+ghost use Rattle.pages.specs.Changes.{AreSized};
+
+use crate::{find, names, plan, read};
+use directories::{DirectoryHead, head_page, read_head};
+use flash_tree::{FreshPage, Key};
+use object_store::{DirectoryEntry, ObjectChange};
+use pages::{Change, Lack, MemPages, PageFault, Pages, Presence, Refusal};
+use posix_profile::Kind;
+use std::alloc::Global;
+use std::test::Fail;
+
+const ROOT: u64 = 1;
+
+const DOCS: u64 = 2;
+
+const FILE: u64 = 3;
+
+/// A name in a directory.
+fn entry(directory: u64, name: &[u8]) -> DirectoryEntry<'_> {
+    DirectoryEntry { directory, name }
+}
+
+/// Whether all pages have so many bytes.
+fn are_sized(pages: &[FreshPage], size: u32) -> bool
+    ensures { result ≡ true → AreSized pages.now size }
+{
+    for page in pages {
+        if page.bytes.len() != size as usize {
+            return false;
+        }
+    }
+    true
+}
+
+/// The store after a change of its pages.
+fn taken(alloc: Global, pages: MemPages, change: Change) -> Result<MemPages, Fail> {
+    if !are_sized(&change.pages, pages.page_bytes()) {
+        return Err("a page of another size".into());
+    }
+    Ok(pages.apply(alloc, change)?)
+}
+
+/// A store with a root without names, whose header says three spare blocks.
+fn empty_volume(alloc: Global) -> Result<MemPages, Fail> {
+    let head = DirectoryHead {
+        spare: 3,
+        length: 0,
+        moment: 0,
+    };
+    let root = head_page(alloc, 512, ROOT, head)?;
+    let change = Change {
+        pages: vec![in alloc; root]?,
+        cuts: Vec::new(alloc),
+    };
+    taken(alloc, MemPages::new(alloc, 512)?, change)
+}
+
+/// The change of pages that makes a change of objects.
+fn planned(
+    alloc: Global,
+    pages: &mut MemPages,
+    change: &ObjectChange<'_>,
+    new: u64,
+) -> Result<Change, PageFault> {
+    let room = Vec::with_capacity(alloc, 1)?;
+    plan(pages, alloc, change, new, room)
+}
+
+/// The store after a change of objects.
+fn changed(
+    alloc: Global,
+    mut pages: MemPages,
+    change: ObjectChange<'_>,
+    new: u64,
+) -> Result<MemPages, Fail> {
+    let change = planned(alloc, &mut pages, &change, new)?;
+    taken(alloc, pages, change)
+}
+
+/// A volume with a directory `docs`, and in it a file `a` of some bytes.
+fn small_volume(alloc: Global) -> Result<MemPages, Fail> {
+    let pages = empty_volume(alloc)?;
+    let docs = ObjectChange::Create {
+        entry: entry(ROOT, b"docs"),
+        kind: Kind::Directory,
+        moment: 1,
+    };
+    let pages = changed(alloc, pages, docs, DOCS)?;
+    let file = ObjectChange::Create {
+        entry: entry(DOCS, b"a"),
+        kind: Kind::File,
+        moment: 2,
+    };
+    let pages = changed(alloc, pages, file, FILE)?;
+    let write = ObjectChange::Write {
+        number: FILE,
+        offset: 510,
+        bytes: b"abcd",
+        moment: 3,
+    };
+    changed(alloc, pages, write, 4)
+}
+
+#[test]
+fn a_file_is_found_and_read(rt: HostRuntime) -> Result<(), Fail> {
+    let alloc = rt.alloc();
+    let mut pages = small_volume(alloc)?;
+    assert_eq!(rt; find(&mut pages, ROOT, b"docs")?, Some(DOCS));
+    assert_eq!(rt; find(&mut pages, DOCS, b"a")?, Some(FILE));
+    assert_eq!(rt; find(&mut pages, DOCS, b"b")?, None);
+    let bytes = read(&mut pages, alloc, FILE, 508, 9)?;
+    assert_eq!(rt; bytes.as_slice(), b"\0\0abcd".as_slice());
+    assert_eq!(rt; names(&mut pages, alloc, ROOT)?.as_slice().len(), 1);
+    Ok(())
+}
+
+#[test]
+fn a_write_of_no_bytes_grows_a_file(rt: HostRuntime) -> Result<(), Fail> {
+    let alloc = rt.alloc();
+    let write = ObjectChange::Write {
+        number: FILE,
+        offset: 516,
+        bytes: b"",
+        moment: 4,
+    };
+    let mut pages = changed(alloc, small_volume(alloc)?, write, 4)?;
+    let bytes = read(&mut pages, alloc, FILE, 510, 9)?;
+    assert_eq!(rt; bytes.as_slice(), b"abcd\0\0".as_slice());
+    Ok(())
+}
+
+#[test]
+fn an_object_that_is_forgotten_has_no_pages(rt: HostRuntime) -> Result<(), Fail> {
+    let alloc = rt.alloc();
+    let pages = small_volume(alloc)?;
+    let moved = ObjectChange::Move {
+        from: entry(DOCS, b"a"),
+        to: entry(ROOT, b"b"),
+        number: FILE,
+        dropped: None,
+        moment: 4,
+    };
+    let pages = changed(alloc, pages, moved, 4)?;
+    let named = ObjectChange::Name {
+        entry: entry(ROOT, b"c"),
+        number: FILE,
+        moment: 5,
+    };
+    let pages = changed(alloc, pages, named, 4)?;
+    let removed = ObjectChange::Remove {
+        entry: entry(ROOT, b"docs"),
+        dropped: Some(DOCS),
+        moment: 6,
+    };
+    let mut pages = changed(alloc, pages, removed, 4)?;
+    assert_eq!(rt; find(&mut pages, ROOT, b"b")?, Some(FILE));
+    assert_eq!(rt; find(&mut pages, ROOT, b"docs")?, None);
+    let header = Key {
+        object: DOCS,
+        chunk: 0,
+    };
+    assert_eq!(rt; pages.find(header)?, Presence::Absent);
+    let mut pages = changed(alloc, pages, ObjectChange::Forget { number: FILE }, 2)?;
+    for chunk in 0..3 {
+        let key = Key {
+            object: FILE,
+            chunk,
+        };
+        assert_eq!(rt; pages.find(key)?, Presence::Absent);
+    }
+    assert_eq!(rt; read_head(&mut pages, ROOT)?.spare, 3);
+    Ok(())
+}
+
+#[test]
+fn a_target_gives_way(rt: HostRuntime) -> Result<(), Fail> {
+    let alloc = rt.alloc();
+    let created = ObjectChange::Create {
+        entry: entry(DOCS, b"b"),
+        kind: Kind::File,
+        moment: 4,
+    };
+    let pages = changed(alloc, small_volume(alloc)?, created, 4)?;
+    let moved = ObjectChange::Move {
+        from: entry(DOCS, b"a"),
+        to: entry(DOCS, b"b"),
+        number: FILE,
+        dropped: Some(4),
+        moment: 5,
+    };
+    let mut pages = changed(alloc, pages, moved, 4)?;
+    assert_eq!(rt; find(&mut pages, DOCS, b"b")?, Some(FILE));
+    assert_eq!(rt; names(&mut pages, alloc, DOCS)?.as_slice().len(), 1);
+    let gone = Key {
+        object: 4,
+        chunk: 0,
+    };
+    assert_eq!(rt; pages.find(gone)?, Presence::Absent);
+    Ok(())
+}
+
+#[test]
+fn a_refused_page_is_told(rt: HostRuntime) -> Result<(), Fail> {
+    let alloc = rt.alloc();
+    let mut pages = small_volume(alloc)?;
+    let resized = ObjectChange::Resize {
+        number: FILE,
+        length: 600,
+        moment: 4,
+    };
+    pages.refuse(Refusal {
+        number: pages.finds().saturating_add(1),
+        lack: Lack::Memory,
+    });
+    assert!(rt;
+        matches!(
+            planned(alloc, &mut pages, &resized, 4),
+            Err(PageFault::NoMemory)
+        )
+    );
+    let mut pages = changed(alloc, pages, resized, 4)?;
+    let bytes = read(&mut pages, alloc, FILE, 512, 200)?;
+    assert_eq!(rt; bytes.as_slice().len(), 88);
+    Ok(())
+}

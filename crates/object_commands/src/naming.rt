@@ -9,7 +9,7 @@ ghost use Rattle.posix_profile.specs.Outcomes.{answer, unless, at_place};
 ghost use Rattle.posix_profile.specs.laws.Path.{IsPlace};
 ghost use Rattle.posix_profile.specs.Paths.{resolve};
 ghost use Rattle.path_walk.specs.Places.{place_of};
-ghost use Rattle.object_store.specs.Changes.{without};
+ghost use Rattle.object_store.specs.Changes.{without, NamesNothing};
 ghost use Rattle.command_plans.specs.Classes.{Changing};
 ghost use Rattle.object_commands.specs.Names.{Unnames, LeadsHere, EndsInName, rmdir_named, rmdir_at};
 ghost use Rattle.command_plans.specs.Plans.{Holds, Plans, Tries, IsPlan};
@@ -110,7 +110,7 @@ fn remove_at<'a, S: ObjectStore>(
     number: u64,
 ) -> Plan<'a>
     ensures { (z : Sizes) (s : State) → Holds S.meaning z s store.now → handles_in table.now ≡ s.handles
-        → LeadsHere s.objects (place_of place.entry) number
+        → LeadsHere s.objects (place_of place.entry) number → NamesNothing s.objects number
         → IsPlan z Changing s (answer (name_removed moment s (place_of place.entry)) Reply.Done) result }
 {
     change(

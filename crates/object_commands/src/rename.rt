@@ -12,6 +12,7 @@ ghost use Rattle.posix_profile.specs.Paths.{first_error, is_dot, is_dot_dot};
 ghost use Rattle.volume_terms.specs.Sizes.{Sizes};
 ghost use Rattle.posix_profile.specs.State.{Object, Objects, State, IsDirectory, is_directory, entries_of};
 ghost use Rattle.path_walk.specs.Places.{place_of};
+ghost use Rattle.object_store.specs.Changes.{NamesNothing};
 ghost use Rattle.object_store.specs.Stores.{Has};
 ghost use Rattle.command_plans.specs.Classes.{Changing};
 ghost use Rattle.object_commands.specs.Names.{EndsInName, rename_onto, rename_places};
@@ -136,7 +137,7 @@ fn move_onto<'a, S: ObjectStore>(
 ) -> Plan<'a>
     ensures { (z : Sizes) (s : State) → Holds S.meaning z s store.now → handles_in table.now ≡ s.handles
         → EndsInName s.objects (place_of from.entry) → (place_of from.entry).object ≡ Some number
-        → EndsInName s.objects (place_of to.entry) → (place_of to.entry).object ≡ Some there → there ≢ number
+        → EndsInName s.objects (place_of to.entry) → (place_of to.entry).object ≡ Some there → there ≢ number → NamesNothing s.objects there
         → IsPlan z Changing s (change_to z s (name_moved moment s (place_of from.entry) (place_of to.entry) number) Reply.Done) result }
 {
     change(
@@ -191,6 +192,7 @@ fn move_name<'a, S: ObjectStore>(
     ensures { (z : Sizes) (s : State) → Holds S.meaning z s store.now → handles_in table.now ≡ s.handles
         → EndsInName s.objects (place_of from.entry) → (place_of from.entry).object ≡ Some number
         → EndsInName s.objects (place_of to.entry) → is_object number (place_of to.entry).object ≡ false
+        → None ≡ first_error (rename_tests_onto s number (place_of to.entry) (place_of to.entry).object)
         → Tries z Changing s (change_to z s (name_moved moment s (place_of from.entry) (place_of to.entry) number) Reply.Done) result }
 {
     match to.object {

@@ -62,9 +62,21 @@ IsSensible z objects (changes.Write number offset bytes moment) = IsFile objects
 IsSensible z objects (changes.Resize number length moment) = IsFile objects number × (length ≤ greatest_length z)
 IsSensible z objects (changes.Forget number) = (number ≢ root_number) × (IsNamed objects number → ⊥)
 
--- a change that can be made: it is sensible and there is room
+-- the object that goes with a change, if one does
+abbrev pub dropped_by : ObjectChange → Option ℕ
+dropped_by (changes.Remove entry dropped moment) = dropped
+dropped_by (changes.Move from to number dropped moment) = dropped
+dropped_by (changes.Forget number) = Some number
+dropped_by change = None
+
+-- no name leads from the object: it is no directory, or one without entries
+abbrev pub NamesNothing : Objects → ℕ → Type 0
+NamesNothing objects o = (child : ℕ) (name : Name) → Names objects o name child → ⊥
+
+-- a change that can be made: it is sensible, what goes has no entries, and there is room
 pub record CanMake (z : Sizes) (objects : Objects) (change : ObjectChange) : Type 0 where
   pub sensible : IsSensible z objects change
+  pub empty : (o : ℕ) → dropped_by change ≡ Some o → NamesNothing objects o
   pub fits : fits z (made objects change) ≡ true
 
 -- whether a change takes no memory

@@ -25,7 +25,7 @@ use Rattle.posix_profile.specs.laws.Total.{total_without, total_replace}
 use Rattle.object_store.specs.Facts.{info_of, NamedBy}
 use Rattle.object_table.specs.Facts.{facts_cost, told_info, told_size, unit_of, IsFileFacts, IsDirectoryFacts, AreFactsOf, IsTold}
 use Rattle.object_table.specs.declared.facts.ObjectFacts.{ObjectFacts}
-use Rattle.object_table.proofs.Counting.{same_length}
+use Rattle.object_table.proofs.Counting.{same_length, list_other}
 
 -- the units, counted by a division
 pub units_are : (size unit : ℕ) → 0 < unit → min (div_ceil size unit + 1) (2 ^ 64 - 1) ≡ min (1 + ceiling size unit) (2 ^ 64 - 1)
@@ -74,44 +74,56 @@ pub record KeepsNames (old new : Objects) : Type 0 where
   pub directory : (d : ℕ) → IsDirectory old d → IsDirectory new d
   pub was : (d : ℕ) → IsDirectory new d → IsDirectory old d
 
-list_other : {X : Type 0} (P Q : X → Type 0) (xs : List X) → ((x : X) → P x → Q x) → ((x : X) → Q x → P x) → Lists P xs → Lists Q xs
-list_other P Q xs to from is = record { distinct = is.distinct; only = λ x in'. to x (is.only x in'); all = λ x q. is.all x (from x q) }
+-- The same names lead to an object, and it names the same directories.
+pub record SameAt (old new : Objects) (k : ℕ) : Type 0 where
+  pub to : (p : ℕ) (n : Name) → Names old p n k → Names new p n k
+  pub from : (p : ℕ) (n : Name) → Names new p n k → Names old p n k
+  pub child : (c : ℕ) → IsSubdirectory old k c → IsSubdirectory new k c
+  pub was : (c : ℕ) → IsSubdirectory new k c → IsSubdirectory old k c
 
-named_by : (old new : Objects) (keeps : KeepsNames old new) (o : ℕ) (parent : Option ℕ) → NamedBy old o parent → NamedBy new o parent
-named_by old new keeps o None none = λ named. none (named.0, named.1, keeps.from named.0 o named.1 named.2)
-named_by old new keeps o (Some d) by' = (by'.0, keeps.to d o by'.0 by'.1)
+pub keeps_same : (old new : Objects) → KeepsNames old new → (k : ℕ) → SameAt old new k
+keeps_same old new keeps k = record {
+  to = λ p n. keeps.to p k n;
+  from = λ p n. keeps.from p k n;
+  child = λ c sub. ((sub.0.0, keeps.to k c sub.0.0 sub.0.1), keeps.directory c sub.1);
+  was = λ c sub. ((sub.0.0, keeps.from k c sub.0.0 sub.0.1), keeps.was c sub.1);
+}
 
-pairs_kept : (old new : Objects) (keeps : KeepsNames old new) (o n : ℕ) → (pairs : List (ℕ × Name)) × Lists (λ pair. Names old pair.0 pair.1 o) pairs × (n ≡ length pairs)
-    → (pairs : List (ℕ × Name)) × Lists (λ pair. Names new pair.0 pair.1 o) pairs × (n ≡ length pairs)
-pairs_kept old new keeps o n l =
-    (l.0, list_other (λ pair. Names old pair.0 pair.1 o) (λ pair. Names new pair.0 pair.1 o) l.0 (λ p is. keeps.to p.0 o p.1 is) (λ p is. keeps.from p.0 o p.1 is) l.1, l.2)
+-- what names it still does
+pub named_same : (old new : Objects) (k : ℕ) → SameAt old new k → (parent : Option ℕ) → NamedBy old k parent → NamedBy new k parent
+named_same old new k same None none = λ named. none (named.0, named.1, same.from named.0 named.1 named.2)
+named_same old new k same (Some d) by' = (by'.0, same.to d by'.0 by'.1)
 
--- facts stay those of an object where names are kept
-pub facts_kept : (old new : Objects) (keeps : KeepsNames old new) (o : ℕ) (x : Object) (f : ObjectFacts) → AreFactsOf old o x f → AreFactsOf new o x f
-facts_kept old new keeps o (File moment bytes) f facts = record { kind = facts.kind; moment = facts.moment; size = facts.size; links = pairs_kept old new keeps o f.links facts.links }
-facts_kept old new keeps o (Dir moment entries) f facts = record {
+-- so its facts stay
+pub facts_same : (old new : Objects) (k : ℕ) → SameAt old new k → (x : Object) (f : ObjectFacts) → AreFactsOf old k x f → AreFactsOf new k x f
+facts_same old new k same (File moment bytes) f facts = record {
   kind = facts.kind;
   moment = facts.moment;
   size = facts.size;
   links = (
     facts.links.0,
-    list_other (IsSubdirectory old o) (IsSubdirectory new o) facts.links.0
-        (λ c sub. ((sub.0.0, keeps.to o c sub.0.0 sub.0.1), keeps.directory c sub.1))
-        (λ c sub. ((sub.0.0, keeps.from o c sub.0.0 sub.0.1), keeps.was c sub.1)) facts.links.1,
+    list_other (λ pair. Names old pair.0 pair.1 k) (λ pair. Names new pair.0 pair.1 k) facts.links.0 (λ p is. same.to p.0 p.1 is) (λ p is. same.from p.0 p.1 is) facts.links.1,
     facts.links.2,
   );
-  parent = named_by old new keeps o f.parent facts.parent;
+}
+facts_same old new k same (Dir moment entries) f facts = record {
+  kind = facts.kind;
+  moment = facts.moment;
+  size = facts.size;
+  links = (facts.links.0, list_other (IsSubdirectory old k) (IsSubdirectory new k) facts.links.0 same.child same.was facts.links.1, facts.links.2);
+  parent = named_same old new k same f.parent facts.parent;
 }
 
-pub told_kept : (old new : Objects) (keeps : KeepsNames old new) (o : ℕ) (x : Option Object) (f : Option ObjectFacts) → IsTold old o x f → IsTold new o x f
-told_kept old new keeps o None None told = told
-told_kept old new keeps o None (Some f) told = told
-told_kept old new keeps o (Some x) None told = told
-told_kept old new keeps o (Some x) (Some f) told = facts_kept old new keeps o x f told
+pub told_same : (old new : Objects) (k : ℕ) → SameAt old new k → (x : Option Object) (f : Option ObjectFacts) → IsTold old k x f → IsTold new k x f
+told_same old new k same None None told = told
+told_same old new k same None (Some f) told = told
+told_same old new k same (Some x) None told = told
+told_same old new k same (Some x) (Some f) told = facts_same old new k same x f told
 
 -- the units of what is there, as the facts have them
-pub file_cost : (z : Sizes) (objects : Objects) (o moment : ℕ) (bytes : List ℕ) (f : ObjectFacts) → IsFileFacts objects o moment (length bytes) f → facts_cost z f ≡ cost z (File moment bytes)
-file_cost z objects o moment bytes f facts = λ i. 1 + ceiling (facts.size i) (unit_of z (facts.kind i))
+pub facts_cost_is : (z : Sizes) (objects : Objects) (o : ℕ) (x : Object) (f : ObjectFacts) → AreFactsOf objects o x f → facts_cost z f ≡ cost z x
+facts_cost_is z objects o (File moment bytes) f facts = λ i. 1 + ceiling (facts.size i) (unit_of z (facts.kind i))
+facts_cost_is z objects o (Dir moment entries) f facts = λ i. 1 + ceiling (facts.size i) (unit_of z (facts.kind i))
 
 -- a number that is free and the least such is the one that a new object gets
 pub new_unique : (objects : Objects) (n : ℕ) → map.get objects n ≡ None → 2 ≤ n → ((k : ℕ) → 2 ≤ k → k < n → (object : Object) × (map.get objects k ≡ Some object)) → n ≡ new_number objects
@@ -159,61 +171,12 @@ module _ (objects : Objects) (o moment : ℕ) (bytes : List ℕ) (file : IsFile 
     was = λ d dir. (dir.0, dir.1, sym (there d (λ is. not_both after o is_file_after (subst (IsDirectory after) is dir))) ∙ dir.2);
   }
 
-  -- what is told of each number
-  pub bytes_told : (old new : ℕ → Option ObjectFacts) (facts : ObjectFacts) → ((k : ℕ) → IsTold objects k (map.get objects k) (old k))
-      → ((k : ℕ) → k ≢ o → new k ≡ old k) → new o ≡ Some (record facts { moment = moment; size = length bytes }) → old o ≡ Some facts
-      → (k : ℕ) → IsTold after k (map.get after k) (new k)
-  bytes_told old new facts each others now was k = elim (cases_eq k o) [
-    | inl is ↦
-        let f = file_facts objects o (old o) file (each o) in
-        let same : f.0 ≡ facts = (let two : Some f.0 ≡ Some facts = sym f.1 ∙ was in cc) in
-        let kept = pairs_kept objects after bytes_names o f.0.links f.2.links in
-        let told : IsFileFacts after o moment (length bytes) (record facts { moment = moment; size = length bytes }) =
-        subst (λ (g : ObjectFacts). IsFileFacts after o moment (length bytes) (record g { moment = moment; size = length bytes })) same (record { kind = f.2.kind; moment = refl; size = refl; links = kept }) in
-        subst (λ j. IsTold after j (map.get after j) (new j)) (sym is)
-        (subst (λ (x : Option Object). IsTold after o x (new o)) (sym here) (subst (λ (g : Option ObjectFacts). IsTold after o (Some (File moment bytes)) g) (sym now) told))
-    | inr ne ↦
-        subst (λ (x : Option Object). IsTold after k x (new k)) (sym (there k ne))
-        (subst (λ (g : Option ObjectFacts). IsTold after k (map.get objects k) g) (sym (others k ne)) (told_kept objects after bytes_names k (map.get objects k) (old k) (each k)))
-  ]
-
-  -- the units after the change
-  pub bytes_charge : (z : Sizes) (old : ℕ) (facts : ObjectFacts) → IsSizes z → fits z objects ≡ true → fits z after ≡ true → old ≡ charge z objects
-      → facts_cost z facts ≡ cost z (File file.0 file.1) → facts.kind ≡ kinds.File
-      → min (old - min (facts_cost z facts) (2 ^ 64 - 1) + min (facts_cost z (record facts { moment = moment; size = length bytes })) (2 ^ 64 - 1)) (2 ^ 64 - 1) ≡ charge z after
-  bytes_charge z old facts sizes fitted fit is paid kind =
-      let before = total_without nat_cmp_total map.nat_cmp-IsAntisymmetric (cost z) objects o (File file.0 file.1) file.2 in
-      let now = total_replace nat_cmp_total map.nat_cmp-IsAntisymmetric (cost z) objects o (File moment bytes) in
-      let small = leb-true (charge z after) (capacity z) fit in
-      let was = leb-true (charge z objects) (capacity z) fitted in
-      let unit : facts_cost z (record facts { moment = moment; size = length bytes }) ≡ cost z (File moment bytes) = (λ i. 1 + ceiling (length bytes) (unit_of z (kind i))) in
-      omega (arith, before, now, small, was, capacity_few z sizes, unit, paid, is)
-
-  -- and the number that is next
-  pub bytes_next : new_number objects ≡ new_number after
-  bytes_next =
-      let new = new_number_is objects in
-      let ne : new_number objects ≢ o = λ is. let two : None ≡ Some (File file.0 file.1) = sym new.free ∙ ap (map.get objects) is ∙ file.2 in cc in
-      new_unique after (new_number objects) (there (new_number objects) ne ∙ new.free) new.low
-      (λ k low lt. let was = new.least k low lt in elim (cases_eq k o) [
-        | inl is ↦ (File moment bytes, ap (map.get after) is ∙ here)
-        | inr no' ↦ (was.0, there k no' ∙ was.1)
-      ])
-
 -- another key in the map
 pub other_key : (n k : ℕ) → k ≢ n → is_eq (nat_cmp n k) ≡ false
 other_key n k ne = elim (cases_Bool (is_eq (nat_cmp n k))) [
   | inl e ↦ absurd (ne (sym (same_key nat_cmp_total map.nat_cmp-IsAntisymmetric n k e)))
   | inr no' ↦ no'
 ]
-
--- what the facts of a file that is there say of its units
-pub paid_file : (z : Sizes) (objects : Objects) (o : ℕ) (file : IsFile objects o) (f : Option ObjectFacts) (facts : ObjectFacts) → IsTold objects o (map.get objects o) f → f ≡ Some facts
-    → (facts_cost z facts ≡ cost z (File file.0 file.1)) × (facts.kind ≡ kinds.File)
-paid_file z objects o file f facts told was =
-    let there = file_facts objects o f file told in
-    let same : there.0 ≡ facts = (let two : Some there.0 ≡ Some facts = sym there.1 ∙ was in cc) in
-    subst (λ (g : ObjectFacts). (facts_cost z g ≡ cost z (File file.0 file.1)) × (g.kind ≡ kinds.File)) same (file_cost z objects o file.0 file.1 there.0 there.2, there.2.kind)
 
 -- facts that are told of a directory that is there are its facts
 pub directory_told : (objects : Objects) (o : ℕ) (f : Option ObjectFacts) (facts : ObjectFacts) (dir : IsDirectory objects o) → IsTold objects o (map.get objects o) f → f ≡ Some facts

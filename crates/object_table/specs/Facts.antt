@@ -1,5 +1,5 @@
 -- What the table keeps of an object.
-use Rattle.std.specs.Prelude.{◌≡◌, ℕ, ◌+◌, List, length, Option, Some, None}
+use Rattle.std.specs.Prelude.{◌≡◌, ℕ, ◌+◌, ◌-◌, ◌^◌, min, List, length, Option, Some, None}
 use Rattle.std.specs.FinMap as map
 use Rattle.volume_terms.specs.Sizes.{Sizes, page_slots}
 use Rattle.volume_terms.specs.Rounding.{ceiling}
@@ -38,6 +38,42 @@ told_size kinds.Directory size = 0
 -- what is told of an object with these facts
 abbrev pub told_info : ℕ → ObjectFacts → Info
 told_info o f = record { kind = f.kind; object = o; links = f.links; size = told_size f.kind f.size; moment = f.moment }
+
+-- one more, as far as numbers of 64 bits go
+abbrev pub one_more : ℕ → ℕ
+one_more n = min (n + 1) (2 ^ 64 - 1)
+
+-- the links of a directory after an object of this kind comes into it
+abbrev pub links_with : Kind → ℕ → ℕ
+links_with kinds.File n = n
+links_with kinds.Directory n = one_more n
+
+-- the links of a directory after an object of this kind leaves it
+abbrev pub links_without : Kind → ℕ → ℕ
+links_without kinds.File n = n
+links_without kinds.Directory n = n - 1
+
+-- a directory with an entry more, which leads to an object of this kind
+abbrev pub entry_added : Kind → ℕ → ObjectFacts → ObjectFacts
+entry_added child moment f = record { kind = f.kind; moment = moment; links = links_with child f.links; size = one_more f.size; parent = f.parent }
+
+-- a directory with an entry less, which led to an object of this kind
+abbrev pub entry_removed : Kind → ℕ → ObjectFacts → ObjectFacts
+entry_removed child moment f = record { kind = f.kind; moment = moment; links = links_without child f.links; size = f.size - 1; parent = f.parent }
+
+-- an object of this kind with a name more, in this directory: a file has a link more
+abbrev pub name_added : Kind → ℕ → ObjectFacts → ObjectFacts
+name_added kinds.File directory f = record { kind = f.kind; moment = f.moment; links = one_more f.links; size = f.size; parent = f.parent }
+name_added kinds.Directory directory f = record { kind = f.kind; moment = f.moment; links = f.links; size = f.size; parent = Some directory }
+
+-- an object of this kind with a name less
+abbrev pub name_removed : Kind → ObjectFacts → ObjectFacts
+name_removed kinds.File f = record { kind = f.kind; moment = f.moment; links = f.links - 1; size = f.size; parent = f.parent }
+name_removed kinds.Directory f = record { kind = f.kind; moment = f.moment; links = f.links; size = f.size; parent = None }
+
+-- an object of another size
+abbrev pub resized_facts : ℕ → ℕ → ObjectFacts → ObjectFacts
+resized_facts size moment f = record { kind = f.kind; moment = moment; links = f.links; size = size; parent = f.parent }
 
 -- The facts are of a file that is there: its moment and length, and as many links as it has names.
 pub record IsFileFacts (objects : Objects) (o stamp length' : ℕ) (f : ObjectFacts) : Type 0 where

@@ -1,2 +1,6 @@
 pub mod Facts
+pub mod Taken
+pub mod Numbers
+pub mod Counted
+pub mod Parts
 pub mod Told

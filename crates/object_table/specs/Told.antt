@@ -1,42 +1,41 @@
 -- What a table of objects stands for.
-use Rattle.std.specs.Prelude.{◌≡◌, ℕ, Option, IsSome, option_and_then}
+use Rattle.std.specs.Prelude.{◌≡◌, ◌<◌, ℕ, true, Option, None}
 use Rattle.std.specs.FinMap as map
-use Rattle.std.specs.Ordering.{nat_cmp}
-use Rattle.std.specs.BTreeMap.{get}
-use Rattle.volume_terms.specs.Sizes.{Sizes}
-use Rattle.volume_terms.specs.VolumeSizes as volume
-use Rattle.posix_profile.specs.State.{Objects}
-use Rattle.posix_profile.specs.Charge.{charge}
-use Rattle.posix_profile.specs.Changes.{new_number}
-use Rattle.object_table.specs.Facts.{IsTold}
+use Rattle.volume_terms.specs.Sizes.{Sizes, IsSizes}
+use Rattle.posix_profile.specs.State.{Name, Object, Objects, IsDirectory, entries_of}
+use Rattle.posix_profile.specs.Charge.{fits}
+use Rattle.posix_profile.specs.Changes.{with_object}
+use Rattle.posix_profile.specs.WellFormed.{IsForest}
+use Rattle.object_store.specs.declared.change.ObjectChange.{ObjectChange}
+use Rattle.object_store.specs.declared.change.ObjectChange.TheVariants as changes
+use Rattle.object_table.specs.Numbers.{next_number}
+use Rattle.object_table.specs.Counted.{told_at, sizes_in, charge_in, HasRoomIn, Counts}
 use Rattle.object_table.specs.declared.facts.ObjectFacts.{ObjectFacts}
 use Rattle.object_table.specs.declared.table.ObjectTable.{ObjectTable}
 
 -- the facts of the object with this number, if there is one
 abbrev pub told : ObjectTable → ℕ → Option ObjectFacts
-told table o = option_and_then (λ f. f) (get nat_cmp table.facts o)
+told table o = told_at table.counted o
 
 -- the numbers of the volume
 abbrev pub sizes_of : ObjectTable → Sizes
-sizes_of table = volume.sizes_of table.sizes
+sizes_of table = sizes_in table.counted
 
 -- the units that are told
 abbrev pub charge_of : ObjectTable → ℕ
-charge_of table = table.charge
+charge_of table = charge_in table.counted
 
 -- the number that is told to be next
 abbrev pub next_of : ObjectTable → ℕ
-next_of table = table.next
+next_of table = next_number table.numbers
 
 -- there is room for an object with this number
 abbrev pub HasRoomAt : ObjectTable → ℕ → Type 0
-HasRoomAt table o = IsSome (get nat_cmp table.facts o)
+HasRoomAt table o = HasRoomIn table.counted o
 
--- The table tells these objects: of each number what is there, what all of them cost, and which number is next.
-pub record Tells (table : ObjectTable) (objects : Objects) : Type 0 where
-  pub each : (o : ℕ) → IsTold objects o (map.get objects o) (told table o)
-  pub charge : charge_of table ≡ charge (sizes_of table) objects
-  pub next : next_of table ≡ new_number objects
+-- The table tells these objects: of each number what is there, and what all of them cost.
+abbrev pub Tells : ObjectTable → Objects → Type 0
+Tells table objects = Counts table.counted objects
 
 -- the table tells of the same volume what it told
 pub record TellsTheSame (old new : ObjectTable) : Type 0 where
@@ -44,3 +43,26 @@ pub record TellsTheSame (old new : ObjectTable) : Type 0 where
   pub each : (o : ℕ) → told new o ≡ told old o
   pub charge : charge_of new ≡ charge_of old
   pub next : next_of new ≡ next_of old
+
+-- there is room for what the change makes
+abbrev pub IsReadyFor : ObjectTable → ObjectChange → Type 0
+IsReadyFor table (changes.Create entry kind moment) = HasRoomAt table (next_of table)
+IsReadyFor table change = Unit {0}
+
+-- what the name led to that a removal takes away, or that a move gives, if it led anywhere
+abbrev pub LedBefore : Objects → ObjectChange → Option ℕ → Type 0
+LedBefore objects (changes.Remove entry dropped moment) replaced = replaced ≡ map.get (entries_of (map.get objects entry.directory)) entry.name.now
+LedBefore objects (changes.Move from to number dropped moment) replaced = replaced ≡ map.get (entries_of (map.get objects to.directory)) to.name.now
+LedBefore objects change replaced = Unit {0}
+
+-- objects that a volume of these numbers can have
+pub record CanHave (z : Sizes) (objects : Objects) : Type 0 where
+  pub sizes : IsSizes z
+  pub forest : IsForest z objects
+  pub fit : fits z objects ≡ true
+
+-- A directory may get a new object, by a name that it has not, and there is room.
+pub record GetsObject (z : Sizes) (objects : Objects) (moment directory : ℕ) (name : Name) (x : Object) : Type 0 where
+  pub directory_is : IsDirectory objects directory
+  pub absent : map.get (entries_of (map.get objects directory)) name ≡ None
+  pub fits : fits z (with_object objects moment directory name x) ≡ true

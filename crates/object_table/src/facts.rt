@@ -18,7 +18,7 @@ pub struct ObjectFacts {
 
 impl ObjectFacts {
     ghost use Rattle.volume_terms.specs.VolumeSizes.{sizes_of};
-    ghost use Rattle.object_table.specs.Facts.{facts_cost, fresh_facts, told_info};
+    ghost use Rattle.object_table.specs.Facts.{facts_cost, fresh_facts, told_info, entry_added, entry_removed, name_added, name_removed, resized_facts};
 
     /// An object without content and without a name.
     pub fn fresh(kind: Kind, moment: u64) -> ObjectFacts
@@ -43,6 +43,95 @@ impl ObjectFacts {
         match self.kind {
             Kind::File => units(self.size, sizes.page_bytes()),
             Kind::Directory => units(self.size, sizes.page_slots()),
+        }
+    }
+
+    /// A directory with an entry more, which leads to an object of this kind.
+    pub(crate) fn with_entry(self, child: Kind, moment: u64) -> ObjectFacts
+        ensures { result ≡ entry_added child moment self }
+    {
+        ObjectFacts {
+            kind: self.kind,
+            moment,
+            links: match child {
+                Kind::File => self.links,
+                Kind::Directory => self.links.saturating_add(1),
+            },
+            size: self.size.saturating_add(1),
+            parent: self.parent,
+        }
+    }
+
+    /// A directory with an entry less, which led to an object of this kind.
+    pub(crate) fn without_entry(self, child: Kind, moment: u64) -> ObjectFacts
+        ensures { result ≡ entry_removed child moment self }
+    {
+        ObjectFacts {
+            kind: self.kind,
+            moment,
+            links: match child {
+                Kind::File => self.links,
+                Kind::Directory => self.links.saturating_sub(1),
+            },
+            size: self.size.saturating_sub(1),
+            parent: self.parent,
+        }
+    }
+
+    /// An object with a name more, in this directory.
+    pub(crate) fn with_name(self, directory: u64) -> ObjectFacts
+        ensures { result ≡ name_added self.kind directory self }
+    {
+        match self.kind {
+            Kind::File => ObjectFacts {
+                kind: self.kind,
+                moment: self.moment,
+                links: self.links.saturating_add(1),
+                size: self.size,
+                parent: self.parent,
+            },
+            Kind::Directory => ObjectFacts {
+                kind: self.kind,
+                moment: self.moment,
+                links: self.links,
+                size: self.size,
+                parent: Some(directory),
+            },
+        }
+    }
+
+    /// An object with a name less.
+    pub(crate) fn without_name(self) -> ObjectFacts
+        ensures { result ≡ name_removed self.kind self }
+    {
+        match self.kind {
+            Kind::File => ObjectFacts {
+                kind: self.kind,
+                moment: self.moment,
+                links: self.links.saturating_sub(1),
+                size: self.size,
+                parent: self.parent,
+            },
+            Kind::Directory => ObjectFacts {
+                kind: self.kind,
+                moment: self.moment,
+                links: self.links,
+                size: self.size,
+                parent: None,
+            },
+        }
+    }
+
+    /// An object of another size.
+    pub(crate) fn with_size(self, size: u64, moment: u64) -> ObjectFacts
+        ensures { result ≡ resized_facts size moment self }
+    {
+        ObjectFacts {
+            kind: self.kind,
+            moment,
+            links: self.links,
+            size,
+            parent: self.parent,
         }
     }
 

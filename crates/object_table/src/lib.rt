@@ -1,7 +1,10 @@
 //! The table of objects: what is told of each without reading a page.
 #![tactic(auto)]
 
+mod counted_facts;
 mod facts;
+mod free_numbers;
+mod parts;
 mod table;
 
 pub use facts::ObjectFacts;

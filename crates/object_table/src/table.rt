@@ -1,21 +1,26 @@
 // The table of objects.
-ghost use Rattle.std.specs.Prelude.{◌≡◌, ◌≢◌, ◌+◌, ◌-◌, ◌^◌, ℕ, min, length, true, Some, None, IsSome, OnOk, option_and_then, List};
+ghost use Rattle.std.specs.Prelude.{◌≡◌, ◌≤◌, ◌<◌, ◌+◌, ◌^◌, ℕ, Option, Some, None, OnOk, IfOk, List, length};
 ghost use Rattle.std.specs.FinMap as map;
-ghost use Rattle.std.specs.Ordering.{nat_cmp};
-ghost use Rattle.std.specs.BTreeMap.{get};
-ghost use Rattle.volume_terms.specs.Sizes.{IsSizes};
+ghost use Rattle.std.specs.BTreeMap.{btree_map_len};
+ghost use Rattle.std.specs.BinaryHeap.{heap_len, heap_capacity};
 ghost use Rattle.volume_terms.specs.VolumeSizes as volume;
 ghost use Rattle.posix_profile.specs.State.{Objects, IsFile, IsDirectory, entries_of};
-ghost use Rattle.posix_profile.specs.Charge.{charge, fits};
-ghost use Rattle.posix_profile.specs.Changes.{new_number, with_bytes};
+ghost use Rattle.posix_profile.specs.Charge.{charge};
+ghost use Rattle.posix_profile.specs.Changes.{new_number, with_bytes, with_name, with_object, without_name, written};
 ghost use Rattle.posix_profile.specs.WellFormed.{IsForest};
-ghost use Rattle.object_store.specs.Facts.{info_of, NamedBy};
-ghost use Rattle.object_table.specs.Facts.{facts_cost};
+ghost use Rattle.object_store.specs.Facts.{info_of, bytes_of, NamedBy};
+ghost use Rattle.object_store.specs.Changes.{made, without, empty_object, CanMake};
+ghost use Rattle.object_table.specs.Numbers.{KnowsFree};
+ghost use Rattle.object_table.specs.Taken.{taken_in};
+ghost use Rattle.object_table.specs.Counted.{CanGo, GetsName, LosesName, IsCountable};
 
+use crate::counted_facts::CountedFacts;
 use crate::facts::ObjectFacts;
-use posix_profile::Info;
+use crate::free_numbers::FreeNumbers;
+use crate::parts::{add_object, drop_object, make_room};
+use object_store::ObjectChange;
+use posix_profile::{Info, Kind};
 use std::alloc::{AllocError, Global};
-use std::collections::BTreeMap;
 use volume_terms::VolumeSizes;
 
 /// What is told of each object without reading a page. It knows no names and no bytes.
@@ -23,58 +28,39 @@ use volume_terms::VolumeSizes;
 /// A new object needs room, which `prepare` makes; no other change takes memory.
 #[derive(Drop)]
 pub struct ObjectTable {
-    sizes: VolumeSizes,
-    // An entry without facts is room for an object that is to come.
-    facts: BTreeMap<u64, Option<ObjectFacts>>,
-    charge: u64,
-    next: u64,
-}
-
-/// The facts at a number, if there are any.
-fn facts_at(facts: &BTreeMap<u64, Option<ObjectFacts>>, number: u64) -> Option<ObjectFacts>
-    ensures { result ≡ option_and_then (λ f. f) (get nat_cmp facts.now number) }
-{
-    match facts.get(&number) {
-        Some(facts) => *facts,
-        None => None,
-    }
-}
-
-/// Puts facts at a number at which there is room.
-fn put_facts(facts: &mut BTreeMap<u64, Option<ObjectFacts>>, number: u64, new: ObjectFacts)
-    requires { IsSome (get nat_cmp facts.old number) }
-    ensures here { get nat_cmp facts.new number ≡ Some (Some new) }
-    ensures others { (k : ℕ) → k ≢ number → get nat_cmp facts.new k ≡ get nat_cmp facts.old k }
-{
-    match facts.insert(number, Some(new)) {
-        Ok(_) => {}
-        Err(_) => unreachable!(),
-    }
+    counted: CountedFacts,
+    numbers: FreeNumbers,
+    ghost free: { KnowsFree numbers (taken_in counted.facts) },
+    ghost room: { heap_len numbers.freed + btree_map_len counted.facts ≤ heap_capacity numbers.freed },
 }
 
 impl ObjectTable {
-    ghost use Rattle.object_table.specs.Told.{told, sizes_of, charge_of, next_of, HasRoomAt, Tells, TellsTheSame};
+    ghost use Rattle.object_table.specs.Told.{sizes_of, next_of, HasRoomAt, IsReadyFor, LedBefore, CanHave, GetsObject, Tells, TellsTheSame};
 
     /// A table that tells no objects.
     pub fn new(alloc: Global, sizes: VolumeSizes) -> ObjectTable
         ensures size { sizes_of result ≡ volume.sizes_of sizes }
-        ensures none { (o : ℕ) → told result o ≡ None }
-        ensures charge { charge_of result ≡ 0 }
-        ensures next { next_of result ≡ 2 }
+        ensures tells { Tells result map.empty }
     {
-        ObjectTable {
-            sizes,
-            facts: BTreeMap::new(alloc),
-            charge: 0,
-            next: 2,
-        }
+        let counted = CountedFacts::new(alloc, sizes);
+        let numbers = FreeNumbers::new(alloc, &counted.facts);
+        ObjectTable { counted, numbers }
+    }
+
+    /// A table of these facts.
+    pub(crate) fn of(alloc: Global, counted: CountedFacts) -> Result<ObjectTable, AllocError>
+        ensures { IfOk result (λ table. table.counted ≡ counted) }
+    {
+        let mut numbers = FreeNumbers::new(alloc, &counted.facts);
+        numbers.reserve(counted.facts.len())?;
+        Ok(ObjectTable { counted, numbers })
     }
 
     /// What is told of the object at this number, if there is one.
     pub fn info(&self, number: u64) -> Option<Info>
         ensures { (objects : Objects) → Tells self.now objects → IsForest (sizes_of self.now) objects → result ≡ info_of objects number (map.get objects number) }
     {
-        match facts_at(&self.facts, number) {
+        match self.counted.at(number) {
             Some(facts) => Some(facts.info(number)),
             None => None,
         }
@@ -84,7 +70,7 @@ impl ObjectTable {
     pub fn parent(&self, directory: u64) -> Option<u64>
         ensures { (objects : Objects) → Tells self.now objects → IsDirectory objects directory → NamedBy objects directory result }
     {
-        match facts_at(&self.facts, directory) {
+        match self.counted.at(directory) {
             Some(facts) => facts.parent,
             None => None,
         }
@@ -94,7 +80,7 @@ impl ObjectTable {
     pub fn entry_count(&self, directory: u64) -> u64
         ensures { (objects : Objects) → Tells self.now objects → IsDirectory objects directory → result ≡ map.len (entries_of (map.get objects directory)) }
     {
-        match facts_at(&self.facts, directory) {
+        match self.counted.at(directory) {
             Some(facts) => facts.size,
             None => 0,
         }
@@ -104,14 +90,14 @@ impl ObjectTable {
     pub fn charge(&self) -> u64
         ensures { (objects : Objects) → Tells self.now objects → result ≡ charge (sizes_of self.now) objects }
     {
-        self.charge
+        self.counted.charge
     }
 
     /// The number that the next new object gets.
     pub fn new_number(&self) -> u64
         ensures { (objects : Objects) → Tells self.now objects → result ≡ new_number objects }
     {
-        self.next
+        self.numbers.next()
     }
 
     /// Makes room for the next new object.
@@ -119,45 +105,133 @@ impl ObjectTable {
         ensures same { TellsTheSame self.old self.new }
         ensures room { OnOk result (HasRoomAt self.new (next_of self.new)) }
     {
-        if self.facts.contains_key(&self.next) {
-            return Ok(());
-        }
-        self.facts.insert(self.next, None)?;
-        Ok(())
+        make_room(&mut self.counted, &mut self.numbers)
     }
 
-    /// A file has so many bytes now.
-    pub fn set_length(&mut self, number: u64, size: u64, moment: u64)
-        ensures { (objects : Objects) (bytes : List ℕ) → Tells self.old objects → IsFile objects number → length bytes ≡ size
-            → IsSizes (sizes_of self.old) → fits (sizes_of self.old) objects ≡ true → fits (sizes_of self.old) (with_bytes objects moment number bytes) ≡ true
-            → Tells self.new (with_bytes objects moment number bytes) }
+    /// Makes a change, in the room that was made. `replaced` is what the name led to that a removal takes away, or that
+    /// a move gives, if it led anywhere.
+    pub fn apply(&mut self, change: &ObjectChange<'_>, replaced: Option<u64>)
+        requires { IsReadyFor self.old change.now }
+        ensures size { sizes_of self.new ≡ sizes_of self.old }
+        ensures tells { (objects : Objects) → Tells self.old objects → CanHave (sizes_of self.old) objects → CanMake (sizes_of self.old) objects change.now
+            → LedBefore objects change.now replaced → Tells self.new (made objects change.now) }
     {
-        match facts_at(&self.facts, number) {
+        match *change {
+            ObjectChange::Create {
+                entry,
+                kind,
+                moment,
+            } => self.create(entry.directory, kind, moment),
+            ObjectChange::Name {
+                entry,
+                number,
+                moment,
+            } => self.add_name(entry.directory, number, moment),
+            ObjectChange::Remove {
+                entry,
+                dropped,
+                moment,
+            } => {
+                self.remove_name(entry.directory, replaced, moment);
+                self.forget(dropped);
+            }
+            ObjectChange::Move {
+                from,
+                to,
+                number,
+                dropped,
+                moment,
+            } => {
+                self.remove_name(from.directory, Some(number), moment);
+                self.remove_name(to.directory, replaced, moment);
+                self.add_name(to.directory, number, moment);
+                self.forget(dropped);
+            }
+            ObjectChange::Write {
+                number,
+                offset,
+                bytes,
+                moment,
+            } => self.write(number, offset, bytes.len() as u64, moment),
+            ObjectChange::Resize {
+                number,
+                length,
+                moment,
+            } => self.set_length(number, length, moment),
+            ObjectChange::Forget { number } => self.forget(Some(number)),
+        }
+    }
+
+    /// A new object, without content, gets a name in a directory.
+    fn create(&mut self, directory: u64, kind: Kind, moment: u64)
+        requires { HasRoomAt self.old (next_of self.old) }
+        ensures size { sizes_of self.new ≡ sizes_of self.old }
+        ensures tells { (objects : Objects) (name : List ℕ) → Tells self.old objects → CanHave (sizes_of self.old) objects
+            → GetsObject (sizes_of self.old) objects moment directory name (empty_object kind moment)
+            → Tells self.new (with_object objects moment directory name (empty_object kind moment)) }
+    {
+        let facts = ObjectFacts::fresh(kind, moment);
+        let number = add_object(&mut self.counted, &mut self.numbers, facts);
+        self.add_name(directory, number, moment);
+    }
+
+    /// A name of a directory leads to an object.
+    fn add_name(&mut self, directory: u64, number: u64, moment: u64)
+        ensures size { sizes_of self.new ≡ sizes_of self.old }
+        ensures tells { (objects : Objects) (name : List ℕ) → Tells self.old objects → GetsName (sizes_of self.old) objects moment directory name number
+            → Tells self.new (with_name objects moment directory name number) }
+    {
+        self.counted.add_name(directory, number, moment);
+    }
+
+    /// A name of a directory goes, if it led anywhere.
+    fn remove_name(&mut self, directory: u64, number: Option<u64>, moment: u64)
+        ensures size { sizes_of self.new ≡ sizes_of self.old }
+        ensures some { (objects : Objects) (name : List ℕ) (o : ℕ) → number ≡ Some o → Tells self.old objects → LosesName (sizes_of self.old) objects directory name o
+            → Tells self.new (without_name objects moment directory name) }
+        ensures none { (objects : Objects) → number ≡ None → Tells self.old objects → Tells self.new objects }
+    {
+        match number {
+            Some(number) => self.counted.remove_name(directory, number, moment),
+            None => {}
+        }
+    }
+
+    /// An object goes, if there is one to go.
+    fn forget(&mut self, dropped: Option<u64>)
+        ensures size { sizes_of self.new ≡ sizes_of self.old }
+        ensures tells { (objects : Objects) → Tells self.old objects → ((o : ℕ) → dropped ≡ Some o → CanGo (sizes_of self.old) objects o) → Tells self.new (without dropped objects) }
+    {
+        match dropped {
+            Some(number) => drop_object(&mut self.counted, &mut self.numbers, number),
+            None => {}
+        }
+    }
+
+    /// So many bytes of a file are written at an offset.
+    fn write(&mut self, number: u64, offset: u64, count: u64, moment: u64)
+        ensures size { sizes_of self.new ≡ sizes_of self.old }
+        ensures tells { (objects : Objects) (bytes : List ℕ) → Tells self.old objects → IsFile objects number → length bytes ≡ count → offset + count < 2 ^ 64
+            → IsCountable (sizes_of self.old) objects
+            → IsCountable (sizes_of self.old) (with_bytes objects moment number (written (bytes_of (map.get objects number)) offset bytes))
+            → Tells self.new (with_bytes objects moment number (written (bytes_of (map.get objects number)) offset bytes)) }
+    {
+        match self.counted.at(number) {
             Some(facts) => {
-                let changed = ObjectFacts {
-                    kind: facts.kind,
-                    moment,
-                    links: facts.links,
-                    size,
-                    parent: facts.parent,
-                };
-                self.set(number, facts, changed);
+                let end = offset.saturating_add(count);
+                self.counted.set_length(number, facts.size.max(end), moment);
             }
             None => {}
         }
     }
 
-    /// Puts facts in the place of others.
-    fn set(&mut self, number: u64, old: ObjectFacts, new: ObjectFacts)
-        requires { HasRoomAt self.old number }
-        ensures sizes { sizes_of self.new ≡ sizes_of self.old }
-        ensures here { told self.new number ≡ Some new }
-        ensures others { (k : ℕ) → k ≢ number → told self.new k ≡ told self.old k }
-        ensures charge { charge_of self.new ≡ min (charge_of self.old - min (facts_cost (sizes_of self.old) old) (2 ^ 64 - 1) + min (facts_cost (sizes_of self.old) new) (2 ^ 64 - 1)) (2 ^ 64 - 1) }
-        ensures next { next_of self.new ≡ next_of self.old }
+    /// A file has so many bytes now.
+    fn set_length(&mut self, number: u64, size: u64, moment: u64)
+        ensures size { sizes_of self.new ≡ sizes_of self.old }
+        ensures tells { (objects : Objects) (bytes : List ℕ) → Tells self.old objects → IsFile objects number → length bytes ≡ size
+            → IsCountable (sizes_of self.old) objects → IsCountable (sizes_of self.old) (with_bytes objects moment number bytes)
+            → Tells self.new (with_bytes objects moment number bytes) }
     {
-        put_facts(&mut self.facts, number, new);
-        let less = self.charge.saturating_sub(old.cost(self.sizes));
-        self.charge = less.saturating_add(new.cost(self.sizes));
+        self.counted.set_length(number, size, moment);
     }
 }

@@ -7,7 +7,7 @@ use Rattle.posix_profile.specs.Paths.{last_name}
 use Rattle.posix_profile.specs.laws.Place.{absent_name}
 use Rattle.posix_profile.specs.declared.reply.Reply.TheVariants as replies
 use Rattle.path_walk.specs.Places.{last_of, place_of}
-use Rattle.object_commands.proofs.Making.{plan_changed, entry_is, absent_at}
+use Rattle.object_commands.proofs.Making.{plan_changed, entry_is, absent_at, none_dropped}
 use Rattle.command_plans.specs.laws.Plan.{change_fits, change_full, refused, passed, passed_all}
 use Rattle.object_commands.proofs.naming.link_absent.Goals as goal
 
@@ -33,6 +33,7 @@ returns g c z s holds file is none =
     plan_changed z s replies.Done _ _ _ c.change.ensures refl
     (record {
       sensible = (absent_at s.objects (place_of c.args.to) entry is none c.entry_at.ensures.directory c.entry_at.ensures.name, file);
+      empty = none_dropped s.objects;
       fits = entry_is (λ d n. fits z (with_name s.objects c.args.moment d n c.args.number)) entry _ _ c.entry_at.ensures.directory c.entry_at.ensures.name ∙ room;
     })
     (entry_is (λ d n. answer (record { objects = with_name s.objects c.args.moment d n c.args.number; handles = s.handles }) replies.Done) entry _ _ c.entry_at.ensures.directory c.entry_at.ensures.name

@@ -1,7 +1,8 @@
-use Rattle.std.proofs.Common.{◌∙◌, sym, ap, subst, inl, inr}
+use Rattle.std.proofs.Common.{◌∙◌, refl, sym, ap, subst, inl, inr, Some}
 use Rattle.std.specs.FinMap as map
 use Rattle.posix_profile.specs.State.{Handles}
 use Rattle.posix_profile.specs.WellFormed.{IsNamed, IsOpen}
+use Rattle.object_commands.proofs.Making.{dropped_empty, unnamed_names_nothing}
 use Rattle.object_commands.proofs.NamesLost.{closed_keeps, closed_drops}
 use Rattle.command_plans.specs.laws.Room.{forget_fits}
 use Rattle.object_commands.proofs.opening.forgotten.Goals as goal
@@ -37,4 +38,4 @@ pub returns-clause-can : goal.returns-clause-can
 returns-clause-can g c z s holds same handle stood is =
     let there = (holds.sound.well_formed.handles c.args.fd handle stood).there in
     let unnamed = (rw c.if-is_named.false at c.is_named.ensures) z s.objects holds.has there.0 (ap (map.get s.objects) is ∙ there.1) in
-    record { sensible = (c.if-number-eq-ROOT.false, unnamed); fits = forget_fits z s.objects c.args.number holds.sound.fit }
+    record { sensible = (c.if-number-eq-ROOT.false, unnamed); empty = dropped_empty s.objects (Some c.args.number) c.args.number (inr refl) (unnamed_names_nothing z s.objects holds.has.forest c.args.number c.if-number-eq-ROOT.false unnamed); fits = forget_fits z s.objects c.args.number holds.sound.fit }

@@ -8,7 +8,7 @@ use Rattle.posix_profile.specs.State.{Objects}
 use Rattle.posix_profile.specs.declared.reply.Reply.TheVariants as replies
 use Rattle.object_store.specs.Changes.{without}
 use Rattle.path_walk.specs.Places.{place_of, last_of}
-use Rattle.object_commands.proofs.Making.{plan_changed, entry_is, leads_at, name_leads}
+use Rattle.object_commands.proofs.Making.{plan_changed, entry_is, leads_at, name_leads, dropped_empty}
 use Rattle.object_commands.proofs.Moves.{onto_fits}
 use Rattle.object_commands.proofs.NamesLost.{moved_unnames}
 use Rattle.command_plans.specs.laws.Plan.{change_fits}
@@ -16,7 +16,7 @@ use Rattle.command_plans.specs.laws.Room.{without_fits}
 use Rattle.object_commands.proofs.rename.move_onto.Goals as goal
 
 pub returns : goal.returns
-returns g c z s holds same from number to object ne =
+returns g c z s holds same from number to object ne empty =
     let f = c.entry_at.result in
     let t = c.entry_at-2.result in
     let x = c.args.number in
@@ -27,7 +27,7 @@ returns g c z s holds same from number to object ne =
     let lost = moved_unnames s.objects c.args.moment f.directory t.directory x f.name.now t.name.now leads dir c.args.there onto ne in
     let fit = without_fits z c.unkept.result moved (onto_fits z s.objects c.args.moment f.directory t.directory x c.args.there f.name.now t.name.now leads onto ne holds.sound.fit) in
     plan_changed z s replies.Done _ _ _ c.change.ensures refl
-    (record { sensible = (leads, inr (c.args.there, onto, ne, c.unkept.ensures.only)); fits = fit })
+    (record { sensible = (leads, inr (c.args.there, onto, ne, c.unkept.ensures.only)); empty = dropped_empty s.objects c.unkept.result c.args.there c.unkept.ensures.only empty; fits = fit })
     (change_fits z s (record { objects = without c.unkept.result moved; handles = s.handles }) replies.Done fit
     ∙ ap (λ (o : Objects). change_to z s (record { objects = o; handles = s.handles }) replies.Done) (c.unkept.ensures.left z s holds same moved t.directory t.name.now lost)
     ∙ entry_is (λ d n. change_to z s (prune (record s { objects = with_name (without_name s.objects c.args.moment d n) c.args.moment t.directory t.name.now x })) replies.Done) f _ _ c.entry_at.ensures.directory c.entry_at.ensures.name

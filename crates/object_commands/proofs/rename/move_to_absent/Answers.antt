@@ -8,7 +8,7 @@ use Rattle.posix_profile.specs.laws.Place.{absent_name}
 use Rattle.posix_profile.specs.State.{Objects}
 use Rattle.posix_profile.specs.declared.reply.Reply.TheVariants as replies
 use Rattle.path_walk.specs.Places.{place_of, last_of}
-use Rattle.object_commands.proofs.Making.{plan_changed, entry_is, leads_at, absent_at, name_leads}
+use Rattle.object_commands.proofs.Making.{plan_changed, entry_is, leads_at, absent_at, name_leads, none_dropped}
 use Rattle.object_commands.proofs.NamesLost.{moved_keeps}
 use Rattle.command_plans.specs.laws.Plan.{change_fits, change_full}
 use Rattle.object_commands.proofs.rename.move_to_absent.Goals as goal
@@ -43,6 +43,7 @@ returns g c z s holds from number to none =
         leads_at s.objects (place_of c.args.from) f x leads c.entry_at.ensures.directory c.entry_at.ensures.name,
         inl (absent_at s.objects (place_of c.args.to) t to none c.entry_at-2.ensures.directory c.entry_at-2.ensures.name, refl),
       );
+      empty = none_dropped s.objects;
       fits = ap (fits z) same ∙ room;
     })
     (change_fits z s (record { objects = with_name (without_name s.objects c.args.moment f.directory f.name.now) c.args.moment t.directory t.name.now x; handles = s.handles }) replies.Done (ap (fits z) same ∙ room)

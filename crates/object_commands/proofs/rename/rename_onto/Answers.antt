@@ -14,7 +14,7 @@ pub returns-else-read_only : goal.returns-else-read_only
 returns-else-read_only g c z s holds same from number to other =
     let at = found_there z s.objects holds.has.forest c.args.from.directory c.args.number (last_of c.args.from.last) c.args.from.object from.place.directory number from.place.ends in
     tries_same z Changing s _ _ (passed_all s _ ∙ passed s _ _ _ _ c.if-read_only.false ∙ none_refused s _ _ (c.in-Ok.ensures z s holds to.place at.0 at.1))
-    c.move_name.result (c.move_name.ensures z s holds same from number to other)
+    c.move_name.result (c.move_name.ensures z s holds same from number to other (c.in-Ok.ensures z s holds to.place at.0 at.1))
 
 pub returns-in-Err : goal.returns-in-Err
 returns-in-Err g c z s holds same from number to other =

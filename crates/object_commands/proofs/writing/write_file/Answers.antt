@@ -12,6 +12,7 @@ use Rattle.posix_profile.specs.declared.reply.Reply.TheVariants as replies
 use Rattle.command_plans.specs.Tables.{handle_of}
 use Rattle.object_store.specs.Facts.{bytes_of}
 use Rattle.command_plans.specs.laws.Plan.{refused, passed, passed_all}
+use Rattle.object_commands.proofs.Making.{none_dropped}
 use Rattle.object_commands.proofs.writing.write_file.Goals as goal
 
 pub returns-then-greatest_length-offset : goal.returns-then-greatest_length-offset
@@ -61,6 +62,7 @@ returns g c z s holds file small =
       range = small;
       can = record {
         sensible = (file, far);
+        empty = none_dropped s.objects;
         fits = subst (λ off. fits z (with_bytes s.objects c.args.moment c.args.description.object (written bytes off c.split_at.result.0.now)) ≡ true) (sym off)
             (subst (λ part. fits z (with_bytes s.objects c.args.moment c.args.description.object (written bytes o part)) ≡ true) (sym part) fit);
       };

@@ -1,0 +1,113 @@
+// The numbers that no object has.
+ghost use Rattle.std.proofs.Props.{props};
+ghost use Rattle.std.specs.Prelude.{◌≡◌, ◌≤◌, ◌<◌, ◌+◌, ℕ, Bool, true, false, OnOk};
+ghost use Rattle.std.specs.BinaryHeap.{IsHeap, heap_items, heap_len, heap_capacity};
+ghost use Rattle.object_table.specs.Taken.{by_number, IsLeastFree, AllTaken, Takes, GivesBack, taken_in};
+
+use crate::facts::ObjectFacts;
+use std::alloc::{AllocError, Global};
+use std::cmp::Reverse;
+use std::collections::{BTreeMap, BinaryHeap};
+
+/// The least number that a new object gets: 1 is the root's.
+pub(crate) const FIRST: u64 = 2;
+
+/// The numbers that are free: those that were given back, and from `low` up those that no object has.
+#[derive(Drop)]
+pub(crate) struct FreeNumbers {
+    freed: BinaryHeap<Reverse<u64>>,
+    low: u64,
+    ghost ordered: { IsHeap by_number (heap_items freed) } by { Prim.hlevel props },
+}
+
+impl FreeNumbers {
+    ghost use Rattle.object_table.specs.Numbers.{KnowsFree, next_number};
+
+    /// The free numbers where these facts are all that there are.
+    pub(crate) fn new(alloc: Global, facts: &BTreeMap<u64, Option<ObjectFacts>>) -> FreeNumbers
+        ensures knows { KnowsFree result (taken_in facts.now) }
+        ensures none { heap_len result.freed ≡ 0 }
+    {
+        let freed = BinaryHeap::new(alloc);
+        let low = first_free(facts, FIRST);
+        FreeNumbers { freed, low }
+    }
+
+    /// The least number that is free.
+    pub(crate) fn next(&self) -> u64
+        ensures is { result ≡ next_number self.now }
+        ensures least { (taken : ℕ → Bool) → KnowsFree self.now taken → IsLeastFree taken result }
+    {
+        match self.freed.peek() {
+            Some(number) => number.0,
+            None => self.low,
+        }
+    }
+
+    /// Makes room for so many numbers to be given back.
+    pub(crate) fn reserve(&mut self, count: usize) -> Result<(), AllocError>
+        ensures same { (taken : ℕ → Bool) → KnowsFree self.old taken → KnowsFree self.new taken }
+        ensures next { next_number self.new ≡ next_number self.old }
+        ensures len { heap_len self.new.freed ≡ heap_len self.old.freed }
+        ensures capacity { heap_capacity self.old.freed ≤ heap_capacity self.new.freed }
+        ensures room { OnOk result (heap_len self.new.freed + count ≤ heap_capacity self.new.freed) }
+    {
+        self.freed.reserve(count)
+    }
+
+    /// The least number that is free is taken, as these facts say.
+    pub(crate) fn take(&mut self, facts: &BTreeMap<u64, Option<ObjectFacts>>)
+        ensures knows { (before : ℕ → Bool) → KnowsFree self.old before → Takes before (taken_in facts.now) (next_number self.old) → KnowsFree self.new (taken_in facts.now) }
+        ensures len { heap_len self.new.freed ≤ heap_len self.old.freed }
+        ensures capacity { heap_capacity self.new.freed ≡ heap_capacity self.old.freed }
+    {
+        match self.freed.pop() {
+            Some(_) => {}
+            None => {
+                let low = first_free(facts, self.low);
+                self.low = low;
+            }
+        }
+    }
+
+    /// A number is free again.
+    pub(crate) fn give_back(&mut self, number: u64)
+        requires { heap_len self.old.freed < heap_capacity self.old.freed }
+        ensures knows { (before after : ℕ → Bool) → KnowsFree self.old before → GivesBack before after number → KnowsFree self.new after }
+        ensures len { heap_len self.new.freed ≤ heap_len self.old.freed + 1 }
+        ensures capacity { heap_capacity self.old.freed ≤ heap_capacity self.new.freed }
+    {
+        if FIRST <= number && number < self.low {
+            match self.freed.push(Reverse(number)) {
+                Ok(()) => {}
+                Err(_) => unreachable!(),
+            }
+        }
+    }
+}
+
+/// Whether there are facts at a number.
+fn is_taken(facts: &BTreeMap<u64, Option<ObjectFacts>>, number: u64) -> bool
+    ensures { result ≡ taken_in facts.now number }
+{
+    match facts.get(&number) {
+        Some(facts) => facts.is_some(),
+        None => false,
+    }
+}
+
+/// The least number from this one up at which there are no facts, where there are facts at each below. Of one number more
+/// than there are entries, one has none.
+fn first_free(facts: &BTreeMap<u64, Option<ObjectFacts>>, from: u64) -> u64
+    ensures low { AllTaken (taken_in facts.now) from → from ≤ result }
+    ensures free { AllTaken (taken_in facts.now) from → taken_in facts.now result ≡ false }
+    ensures below { AllTaken (taken_in facts.now) from → AllTaken (taken_in facts.now) result }
+{
+    let last = facts.len() as u64 + FIRST;
+    for number in from..last {
+        if !is_taken(facts, number) {
+            return number;
+        }
+    }
+    last
+}

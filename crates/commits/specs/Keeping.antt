@@ -1,7 +1,7 @@
 -- What is kept while the buffered pages are written.
-use Rattle.std.specs.Prelude.{◌≡◌, ◌⊎◌, ◌<◌, ℕ, true, false, List, [], Some, None}
+use Rattle.std.specs.Prelude.{◌≡◌, ◌⊎◌, ℕ, true, false, List, [], Some, None}
 use Rattle.nand_model.specs.Calls.{Device, Lasts}
-use Rattle.block_state.specs.Kept.{bad_count, kept_count}
+use Rattle.block_state.specs.Kept.{kept_count}
 use Rattle.block_state.specs.Table.{Table}
 use Rattle.flash_tree.specs.declared.place.FreshPage.{FreshPage}
 use Rattle.chunk_index.specs.declared.form.KeptPage.{KeptPage}
@@ -52,14 +52,14 @@ pub record Commits (spare : ℕ) (old new : Device) (t t' : Table) (x x' : Index
   pub kept : old.honest ≡ true → new.gone ≡ false → (o c : ℕ) → kept_data x' new.flash o c ≡ present_data x pages old.flash o c
   pub newest : old.honest ≡ true → Carries new.flash (present_data x pages old.flash)
 
--- Since there was room for the group, before any of its pages counted, the device has counted no failure, or a block more is
--- bad: no block of which a program failed is trusted.
+-- Since there was room for the group, before any of its pages counted, the device has counted no failure, or the block that
+-- was open for it is bad: no block is trusted in which a program of the group failed.
 pub record IsAnswered (spare : ℕ) (old new : Device) (t t' : Table) (x : Index) : Type 0 where
   pub device : Device
   pub table : Table
   pub index : Index
   pub before : Keeps spare old device t table x index
-  pub answered : (new.failures ≡ device.failures) ⊎ (bad_count table < bad_count t')
+  pub answered : (new.failures ≡ device.failures) ⊎ ((o : ℕ) × (table.open_block ≡ Some o) × ((t'.entry o).bad ≡ true))
 
 -- the buffer has all its pages still, and kept pages were moved at most; or it is empty, and what is present is kept
 abbrev pub WaitsOrSettles : Index → Index → List FreshPage → List FreshPage → Type 0

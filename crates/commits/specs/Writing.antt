@@ -1,5 +1,5 @@
 -- How the buffered pages are written as one group.
-use Rattle.std.specs.Prelude.{◌≡◌, ◌<◌, ◌≤◌, ℕ, true, false, [], Result, Ok, Err, ◌*◌, ◌+◌}
+use Rattle.std.specs.Prelude.{◌≡◌, ◌<◌, ◌≤◌, ℕ, true, false, [], Some, Result, Ok, Err, ◌*◌, ◌+◌, Some}
 use Rattle.nand_model.specs.Calls.{Device}
 use Rattle.block_state.specs.Kept.{bad_count}
 use Rattle.block_state.specs.Table.{Table}
@@ -43,8 +43,8 @@ pub record IsGoodBlock (w : ℕ) (device : Device) (t : Table) : Type 0 where
 -- how the writing of the group ends
 abbrev pub AttemptEnds : (spare : ℕ) → Device → Device → Table → Table → Index → Index → Buffer → Buffer → Result Attempt RoomFault → Type 0
 AttemptEnds spare old new t t' x x' b b' (Ok attempts.Trusted) = IsWhole spare old new t t' x x' b b' × (new.failures ≡ old.failures)
-AttemptEnds spare old new t t' x x' b b' (Ok (attempts.Suspect w)) = IsWhole spare old new t t' x x' b b' × IsGoodBlock w new t'
-AttemptEnds spare old new t t' x x' b b' (Ok (attempts.Failed w)) = IsWaiting spare old new t t' x x' b b' × IsGoodBlock w new t'
+AttemptEnds spare old new t t' x x' b b' (Ok (attempts.Suspect w)) = IsWhole spare old new t t' x x' b b' × IsGoodBlock w new t' × (t.open_block ≡ Some w)
+AttemptEnds spare old new t t' x x' b b' (Ok (attempts.Failed w)) = IsWaiting spare old new t t' x x' b b' × IsGoodBlock w new t' × (t.open_block ≡ Some w)
 AttemptEnds spare old new t t' x x' b b' (Err faults.Full) = ⊥
 AttemptEnds spare old new t t' x x' b b' (Err faults.Worn) = ⊥
 AttemptEnds spare old new t t' x x' b b' (Err faults.Lost) = new.honest ≡ false
@@ -57,10 +57,11 @@ unanswered (Ok (attempts.Suspect w)) = 1
 unanswered (Ok (attempts.Failed w)) = 1
 unanswered (Err fault) = 0
 
--- how a turn ends: the pages count; or not, and a block more is bad; with no more bad than there are to spare
+-- how a turn ends: the pages count; or not, and a block more is bad; with no more bad than there are to spare, and the block in
+-- which a program failed among them
 abbrev pub TurnEnds : (count spare : ℕ) → Device → Device → Table → Table → Index → Index → Buffer → Buffer → Result Turn RoomFault → Type 0
 TurnEnds count spare old new t t' x x' b b' (Ok turns.Written) = IsWhole spare old new t t' x x' b b' × (bad_count t' ≤ spare) × IsAnswered spare old new t t' x
-TurnEnds count spare old new t t' x x' b b' (Ok turns.Again) = IsWaiting spare old new t t' x x' b b' × HasFree t' spare × (bad_count t < bad_count t') × (bad_count t' ≤ spare)
+TurnEnds count spare old new t t' x x' b b' (Ok turns.Again) = IsWaiting spare old new t t' x x' b b' × HasFree t' spare × (bad_count t < bad_count t') × (bad_count t' ≤ spare) × IsAnswered spare old new t t' x
 TurnEnds count spare old new t t' x x' b b' (Err fault) = WhyNoRoom count spare new t t' fault
 
 -- What a turn costs: so much for each failure that the device counts; and besides, but where the pages are to be written again,

@@ -444,12 +444,10 @@ returns-in_ok-retire-in-Suspect-clause-ends g c =
     let t3 : Table = table c.retire.new.blocks in
     let x3 : Index = c.retire.new.index in
     let then : Keeps c.args.spare d2 d3 t2 t3 x2 x3 = keeps_moved c.args.spare c.in-Suspect.block d2 d3 t2 t3 x2 x3 c.retire.ensures.moves c.retire.ensures.stands in
-    let retired = c.in_ok-retire-in-Suspect.ensures.ends in
-    let same = c.write_buffered.ensures.bad in
-    let more : bad_count t1 < bad_count t3 = omega (arith, same, retired.0.more) in (
+    let retired = c.in_ok-retire-in-Suspect.ensures.ends in (
       whole_then c.args.spare d0 d2 d3 t0 t2 t3 x0 x2 x3 b0 b2 whole then retired.0.free retired.1,
       retired.0.few,
-      record { device = d1; table = t1; index = x1; before = first; answered = inr more },
+      record { device = d1; table = t1; index = x1; before = first; answered = inr (c.in-Suspect.block, done.2, retired.0.bad) },
     )
 
 pub returns-in_ok-retire-in-Failed-clause-ends : goal.returns-in_ok-retire-in-Failed-clause-ends
@@ -479,7 +477,7 @@ returns-in_ok-retire-in-Failed-clause-ends g c =
     let retired = c.in_ok-retire-in-Failed.ensures.ends in
     let same = c.write_buffered.ensures.bad in
     let rises : bad_count t0 ≤ bad_count t1 = bad_rises t0 t1 room.moves.1.geometry room.moves.1.marks in
-    (waiting_then c.args.spare d0 d2 d3 t0 t2 t3 x0 x2 x3 b0 b2 waits then retired.1, retired.0.free, omega (arith, same, rises, retired.0.more), retired.0.few)
+    (waiting_then c.args.spare d0 d2 d3 t0 t2 t3 x0 x2 x3 b0 b2 waits then retired.1, retired.0.free, omega (arith, same, rises, retired.0.more), retired.0.few, record { device = d1; table = t1; index = x1; before = first; answered = inr (c.in-Failed.block, failed.2, retired.0.bad) })
 
 pub returns-in_err-make_room-clause-costs : goal.returns-in_err-make_room-clause-costs
 returns-in_err-make_room-clause-costs g c =

@@ -76,7 +76,7 @@ returns-then-placed-clause-ends g c = λ spare stands free.
     c.settle.ensures.settles c.settle.ensures.agree c.settle.ensures.counts in
     let frees = free_written spare lists d e t u v x y pages o c.in-Ok.placed c.requires.buffers opened c.requires.ready stands free c.requires.pages ranges c.requires.open_room w.lasts w.ready w.numbers w.grows ok w.ends.1 tells adds
     c.settle.ensures.settles c.settle.ensures.agree c.settle.ensures.counts in
-    (record { commits = commits; out = record { empty = c.settle.ensures.empty; last = c.settle.ensures.written }; free = frees; power = w.ends.1 }, good_block o d e t v c.requires.ready opened w.lasts (c.settle.ensures.counts.bad o ∙ (same_ends (length pages) t u (Ok c.in-Ok.placed) ok).bad o))
+    (record { commits = commits; out = record { empty = c.settle.ensures.empty; last = c.settle.ensures.written }; free = frees; power = w.ends.1 }, good_block o d e t v c.requires.ready opened w.lasts (c.settle.ensures.counts.bad o ∙ (same_ends (length pages) t u (Ok c.in-Ok.placed) ok).bad o), opened)
 
 pub returns-else-placed-clause-bad : goal.returns-else-placed-clause-bad
 returns-else-placed-clause-bad g c =
@@ -209,7 +209,7 @@ returns-in-Err-Failed-clause-ends g c = λ spare stands free.
     let xs : List FreshPage = c.pages-pages.result.now in
     let newest : d.honest ≡ true → KeepsNewest d.flash e.flash = λ honest. newest_written d e t xs o c.requires.ready honest (w.grows honest) (Err groups.Failed) (w.groups honest o opened) in
     let keeps = keeps_written spare d e t u x xs o stands c.requires.ready w.table w.lasts w.ready w.numbers newest in
-    (record { keeps = keeps; buffered_still = refl; power = w.ends.1 }, good_block o d e t u c.requires.ready opened w.lasts ((same_closed t u w.table).bad o))
+    (record { keeps = keeps; buffered_still = refl; power = w.ends.1 }, good_block o d e t u c.requires.ready opened w.lasts ((same_closed t u w.table).bad o), opened)
 
 pub returns-in-Err-Lost-clause-leaves : goal.returns-in-Err-Lost-clause-leaves
 returns-in-Err-Lost-clause-leaves g c = λ spare stands free.

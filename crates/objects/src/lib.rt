@@ -8,3 +8,6 @@ mod reading;
 mod store;
 
 pub use store::Store;
+
+#[cfg(test)]
+mod tests;

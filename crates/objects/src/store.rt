@@ -157,6 +157,13 @@ impl<N: Nand> Store<N> {
         }
     }
 
+    /// How many pages a change has at most: a quarter of a block's.
+    pub fn most_pages(&self) -> u32
+        ensures { result ≡ (N.state self.now.device).geometry.pages / 4 }
+    {
+        self.buffer.most()
+    }
+
     /// The device, as it is.
     pub fn into_device(self) -> N
         ensures { N.state result ≡ N.state self.device }

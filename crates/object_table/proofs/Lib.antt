@@ -5,3 +5,4 @@ pub mod OneName
 pub mod Edits
 pub mod Free
 pub mod Applying
+pub mod Building

@@ -21,6 +21,11 @@ fresh_links kinds.Directory = 2
 abbrev pub fresh_facts : Kind → ℕ → ObjectFacts
 fresh_facts kind moment = record { kind = kind; moment = moment; links = fresh_links kind; size = 0; parent = None }
 
+-- an object without a name, of so many bytes where it is a file, and else without entries
+abbrev pub bare_facts : Kind → ℕ → ℕ → ObjectFacts
+bare_facts kinds.File moment n = record { kind = kinds.File; moment = moment; links = 0; size = n; parent = None }
+bare_facts kinds.Directory moment n = fresh_facts kinds.Directory moment
+
 -- what a unit of an object's size is: the bytes of a page, or its slots
 abbrev pub unit_of : Sizes → Kind → ℕ
 unit_of z kinds.File = z.page_bytes

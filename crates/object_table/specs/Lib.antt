@@ -4,3 +4,4 @@ pub mod Numbers
 pub mod Counted
 pub mod Parts
 pub mod Told
+pub mod Built

@@ -18,7 +18,7 @@ pub struct ObjectFacts {
 
 impl ObjectFacts {
     ghost use Rattle.volume_terms.specs.VolumeSizes.{sizes_of};
-    ghost use Rattle.object_table.specs.Facts.{facts_cost, fresh_facts, told_info, entry_added, entry_removed, name_added, name_removed, resized_facts};
+    ghost use Rattle.object_table.specs.Facts.{facts_cost, fresh_facts, bare_facts, told_info, entry_added, entry_removed, name_added, name_removed, resized_facts};
 
     /// An object without content and without a name.
     pub fn fresh(kind: Kind, moment: u64) -> ObjectFacts
@@ -33,6 +33,16 @@ impl ObjectFacts {
             },
             size: 0,
             parent: None,
+        }
+    }
+
+    /// An object without a name, of so many bytes where it is a file, and else without entries.
+    pub(crate) fn bare(kind: Kind, moment: u64, length: u64) -> ObjectFacts
+        ensures { result ≡ bare_facts kind moment length }
+    {
+        match kind {
+            Kind::File => ObjectFacts::fresh(kind, moment).with_size(length, moment),
+            Kind::Directory => ObjectFacts::fresh(kind, moment),
         }
     }
 

@@ -1,11 +1,16 @@
 //! The table of objects: what is told of each without reading a page.
 #![tactic(auto)]
 
+mod builder;
 mod counted_facts;
 mod facts;
 mod free_numbers;
 mod parts;
 mod table;
 
+pub use builder::TableBuilder;
 pub use facts::ObjectFacts;
 pub use table::ObjectTable;
+
+#[cfg(test)]
+mod tests;

@@ -12,7 +12,7 @@ ghost use Rattle.object_store.specs.Facts.{info_of, bytes_of, NamedBy};
 ghost use Rattle.object_store.specs.Changes.{made, without, empty_object, CanMake};
 ghost use Rattle.object_table.specs.Numbers.{KnowsFree};
 ghost use Rattle.object_table.specs.Taken.{taken_in};
-ghost use Rattle.object_table.specs.Counted.{CanGo, GetsName, LosesName, IsCountable};
+ghost use Rattle.object_table.specs.Counted.{sizes_in, Counts, CanGo, GetsName, LosesName, IsCountable};
 
 use crate::counted_facts::CountedFacts;
 use crate::facts::ObjectFacts;
@@ -49,7 +49,8 @@ impl ObjectTable {
 
     /// A table of these facts.
     pub(crate) fn of(alloc: Global, counted: CountedFacts) -> Result<ObjectTable, AllocError>
-        ensures { IfOk result (λ table. table.counted ≡ counted) }
+        ensures size { IfOk result (λ table. sizes_of table ≡ sizes_in counted) }
+        ensures tells { (objects : Objects) → Counts counted objects → IfOk result (λ table. Tells table objects) }
     {
         let mut numbers = FreeNumbers::new(alloc, &counted.facts);
         numbers.reserve(counted.facts.len())?;

@@ -1,0 +1,11 @@
+pub mod SlotSteps
+pub mod SlotPages
+pub mod HeadBits
+pub mod Telling
+pub mod Visiting
+pub mod Seeing
+pub mod Lists
+pub mod Putting
+pub mod Going
+pub mod Twice
+pub mod Looking

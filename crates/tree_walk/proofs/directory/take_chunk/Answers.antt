@@ -1,0 +1,22 @@
+use Rattle.std.proofs.Common.{◌≡◌, ◌≤◌, ◌+◌, ◌∙◌, None, Some, refl, sym, ap, arith}
+use Rattle.volume_terms.specs.Sizes.{page_slots}
+use Rattle.pages.specs.State.{PagesState}
+use Rattle.tree_walk.proofs.SlotSteps.{no_page, slots_fit}
+use Rattle.tree_walk.proofs.directory.take_chunk.Goals as goal
+
+pub returns-in-Present-clause-fault : goal.returns-in-Present-clause-fault
+returns-in-Present-clause-fault g c = λ sound z total size some within first.
+    let old : PagesState = g.P.Pages.state c.args.pages.now in
+    let found = rw c.in-Present.is at c.in_ok-find.ensures.page sound in
+    let page : old.present c.args.directory (1 + c.args.chunk) ≡ Some c.page.result.now = found ∙ ap Some (sym c.page.ensures.bytes) in
+    c.take_page.ensures.fault (g.P.Pages.state c.find.new.self) z old.present c.args.directory total page (size ∙ sym c.find.ensures.finds.page_bytes ∙ sym c.page.ensures.size) within first
+
+pub returns-in-Present-clause-why : goal.returns-in-Present-clause-why
+returns-in-Present-clause-why g c = c.take_page.ensures.why (g.P.Pages.state c.find.new.self)
+
+pub returns-in-Absent-clause-fault : goal.returns-in-Absent-clause-fault
+returns-in-Absent-clause-fault g c = λ sound z total size some within first.
+    let old : PagesState = g.P.Pages.state c.args.pages.now in
+    let absent : old.present c.args.directory (1 + c.args.chunk) ≡ None = rw c.in-Absent.is at c.in_ok-find.ensures.page sound in
+    let fits : c.args.count ≤ page_slots z = slots_fit z.page_bytes old.page_bytes c.args.count size c.requires.room in
+    (refl, no_page z old.present c.args.directory c.args.chunk total (omega (arith, fits, some)) (omega (arith, within, some)) absent)

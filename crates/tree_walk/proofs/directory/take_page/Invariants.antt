@@ -1,0 +1,9 @@
+use Rattle.std.proofs.Common.{◌≡◌, ◌+◌, ◌*◌, ℕ, Some, length}
+use Rattle.volume_terms.specs.Sizes.{Sizes, page_slots}
+use Rattle.pages.specs.Maps.{PageMap}
+use Rattle.tree_walk.specs.SlotLists.{HasSlots}
+use Rattle.tree_walk.proofs.directory.take_page.Given as goal
+
+abbrev pub invariant-loop-place : goal.invariant-loop-place
+invariant-loop-place l = (z : Sizes) (m : PageMap) (d : ℕ) → m d (1 + l.chunk) ≡ Some l.page → z.page_bytes ≡ length l.page → HasSlots z m d (l.chunk * page_slots z) l.fn.seen
+    → HasSlots z m d (l.chunk * page_slots z + l.place) l.seen

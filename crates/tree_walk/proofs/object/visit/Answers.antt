@@ -1,0 +1,53 @@
+use Rattle.std.proofs.Common.{◌≡◌, ◌∙◌, List, ℕ, true, false, sym, ap, subst, rules}
+use Rattle.std.proofs.lemmas.Result.{err_from_is_err_and}
+use Rattle.page_tags.specs.Headers.{is_present}
+use Rattle.flash_tree.specs.Mount.{Stops, Leads, Finds}
+use Rattle.pages.specs.Maps.{PageMap, has}
+use Rattle.pages.specs.State.{PagesState}
+use Rattle.tree_walk.specs.SlotLists.{NamesFrom, LacksOf}
+use Rattle.tree_walk.proofs.Telling.{tells_as}
+use Rattle.tree_walk.proofs.Visiting.{file_there, file_lacks, directory_there, directory_lacks}
+use Rattle.tree_walk.proofs.object.visit.Goals as goal
+
+pub returns-in_err-head-clause-stops : goal.returns-in_err-head-clause-stops
+returns-in_err-head-clause-stops g c = λ z seen.
+    let p = err_from_is_err_and c.from_residual.result c.from_residual.ensures.1 in
+    rw (p.1, p.2) (c.in_err-head.ensures.stops seen.sound z seen.size)
+
+pub returns-then-not-has_chunks-clause-stops : goal.returns-then-not-has_chunks-clause-stops
+returns-then-not-has_chunks-clause-stops g c = λ z seen.
+    let off : c.has_chunks.result ≡ false = search rules in
+    let lacks = c.has_chunks.ensures.lacks off in
+    file_lacks z (g.K.KeyPresence.has c.args.keys.now) (g.P.Pages.state c.args.pages.now) c.args.object c.in_ok-head.head (c.in_ok-head.ensures.told seen.sound z seen.size) seen c.in-File.is
+    (lacks.0, lacks.1, ap (λ (bs : List ℕ). is_present bs lacks.0) (sym c.deref.ensures.value) ∙ lacks.2, lacks.3)
+
+pub returns-in_err-named-in-Directory-clause-stops : goal.returns-in_err-named-in-Directory-clause-stops
+returns-in_err-named-in-Directory-clause-stops g c = λ z seen.
+    let old : PagesState = g.P.Pages.state c.args.pages.now in
+    let mid : PagesState = g.P.Pages.state c.read_head.new.pages in
+    let finds = c.read_head.ensures.finds in
+    let says = c.in_ok-head.ensures.told seen.sound z seen.size in
+    let p = err_from_is_err_and c.from_residual-in_err-named-in-Directory.result c.from_residual-in_err-named-in-Directory.ensures.1 in
+    rw (p.1, p.2) (tells_as (LacksOf z mid.present c.args.object c.in_ok-head.head.length) (λ wrong. Finds z (has old.present) c.args.object (Stops wrong))
+    (λ wrong lacks. directory_lacks z (g.K.KeyPresence.has c.args.keys.now) old c.args.object c.in_ok-head.head says c.in-Directory.is wrong
+    (subst (λ (m : PageMap). LacksOf z m c.args.object c.in_ok-head.head.length wrong) finds.present lacks))
+    (g.P.Pages.state c.read_slots.new.pages) _ (c.in_err-named-in-Directory.ensures.fault (finds.sound ∙ seen.sound) z (seen.size ∙ sym finds.page_bytes)))
+
+pub returns-else-not-has_chunks-clause-leads : goal.returns-else-not-has_chunks-clause-leads
+returns-else-not-has_chunks-clause-leads g c = λ z seen.
+    let old : PagesState = g.P.Pages.state c.args.pages.now in
+    let on : c.has_chunks.result ≡ true = search rules in
+    let says = c.in_ok-head.ensures.told seen.sound z seen.size in
+    let leads = file_there z (g.K.KeyPresence.has c.args.keys.now) old c.args.object c.in_ok-head.head says seen c.in-File.is
+    (λ n from present. c.has_chunks.ensures.all on n from (ap (λ (bs : List ℕ). is_present bs n) c.deref.ensures.value ∙ present)) in
+    record { head = says; leads = subst (λ (xs : List ℕ). Finds z (has old.present) c.args.object (Leads xs)) (sym c.new.ensures.items) leads }
+
+pub returns-in_ok-named-in-Directory-clause-leads : goal.returns-in_ok-named-in-Directory-clause-leads
+returns-in_ok-named-in-Directory-clause-leads g c = λ z seen.
+    let old : PagesState = g.P.Pages.state c.args.pages.now in
+    let finds = c.read_head.ensures.finds in
+    let says = c.in_ok-head.ensures.told seen.sound z seen.size in
+    let named : List ℕ = c.in_ok-named-in-Directory.named.items in
+    let told = c.in_ok-named-in-Directory.ensures.told (finds.sound ∙ seen.sound) z (seen.size ∙ sym finds.page_bytes) in
+    let from = subst (λ (m : PageMap). NamesFrom z m c.args.object c.in_ok-head.head.length named) finds.present told in
+    record { head = says; leads = directory_there z (g.K.KeyPresence.has c.args.keys.now) old c.args.object c.in_ok-head.head says c.in-Directory.is named from }

@@ -1,0 +1,41 @@
+use Rattle.std.proofs.Common.{◌≡◌, ◌+◌, ◌∙◌, ℕ, Some, slice_get, sym, ap}
+use Rattle.std.proofs.lemmas.Option.{slice_get-get_or}
+use Rattle.std.proofs.lemmas.Result.{err_from_is_err_and}
+use Rattle.flash_tree.specs.Mount.{Stops, Finds}
+use Rattle.pages.specs.Maps.{has}
+use Rattle.pages.specs.State.{PagesState}
+use Rattle.tree_walk.specs.Walks.{Visits, Knows, IsGoing}
+use Rattle.tree_walk.proofs.Going.{goes_on}
+use Rattle.tree_walk.proofs.Seeing.{page_size, single}
+use Rattle.tree_walk.proofs.Telling.{tells_as, result_lacks_memory, when_done}
+use Rattle.tree_walk.proofs.walking.WalkState.step.Goals as goal
+
+pub returns-in_err-visited-clause-stops : goal.returns-in_err-visited-clause-stops
+returns-in_err-visited-clause-stops g c = λ z seen.
+    let old : PagesState = g.P.Pages.state c.args.pages.now in
+    let list = c.args.self.now.objects.items in
+    let object : ℕ = c.index-object.result.now in
+    let at : slice_get list c.args.place ≡ Some object = slice_get-get_or list c.args.place object c.requires.within ∙ ap Some (sym c.index-object.ensures) in
+    let p = err_from_is_err_and c.from_residual.result c.from_residual.ensures.1 in
+    rw (p.1, p.2) (tells_as (λ wrong. Finds z (has old.present) object (Stops wrong)) (λ wrong. (o : ℕ) × (slice_get list c.args.place ≡ Some o) × Finds z (has old.present) o (Stops wrong))
+    (λ wrong finds. (object, at, finds)) (g.P.Pages.state c.visit.new.pages) _ (c.in_err-visited.ensures.stops z seen))
+
+pub returns-clause-knows : goal.returns-clause-knows
+returns-clause-knows g c = when_done (Visits c.index-object.result.now c.in_ok-visited.visited c.args.self.now c.take.new.self) (Knows c.take.new.self) c.take.result (λ t. t.knows) c.take.ensures.takes
+
+pub returns-clause-goes : goal.returns-clause-goes
+returns-clause-goes g c = λ z seen going.
+    let old : PagesState = g.P.Pages.state c.args.pages.now in
+    let list = c.args.self.now.objects.items in
+    let object : ℕ = c.index-object.result.now in
+    let at : slice_get list c.args.place ≡ Some object = slice_get-get_or list c.args.place object c.requires.within ∙ ap Some (sym c.index-object.ensures) in
+    let sized = g.met.P.Pages.sized c.args.pages.now in
+    let size = page_size z (g.K.KeyPresence.has c.args.keys.now) old sized.0 sized.1 seen in
+    when_done (Visits object c.in_ok-visited.visited c.args.self.now c.take.new.self) (IsGoing z (has old.present) (c.args.place + 1) c.take.new.self) c.take.result
+    (λ t. goes_on z size (has old.present) (single old.present) c.args.place object c.args.self.now c.in_ok-visited.visited c.take.new.self going at (c.in_ok-visited.ensures.leads z seen) t) c.take.ensures.takes
+
+pub returns-clause-stops : goal.returns-clause-stops
+returns-clause-stops g c = λ z seen. result_lacks_memory (λ wrong. (o : ℕ) × (slice_get c.args.self.now.objects.items c.args.place ≡ Some o) × Finds z (has (g.P.Pages.state c.args.pages.now).present) o (Stops wrong)) (g.P.Pages.state c.visit.new.pages) c.take.result c.take.ensures.why
+
+pub returns-clause-why : goal.returns-clause-why
+returns-clause-why g c = result_lacks_memory (λ wrong. Unit {0}) (g.P.Pages.state c.visit.new.pages) c.take.result c.take.ensures.why

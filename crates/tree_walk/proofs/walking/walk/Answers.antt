@@ -1,0 +1,111 @@
+use Rattle.std.proofs.Common.{◌≡◌, ◌+◌, ℕ, false, true, Some, slice_get, length, refl, sym, subst, inl, inr, arith, rules}
+use Rattle.std.proofs.lemmas.Result.{err_from_is_err_and}
+use Rattle.flash_tree.specs.laws.Tree.{slice_get_within}
+use Rattle.flash_tree.specs.Mount.{Wrong, Wrongly, stops, Stops, Finds}
+use Rattle.pages.specs.Maps.{PageMap, has}
+use Rattle.pages.specs.State.{PagesState}
+use Rattle.pages.specs.laws.State.{finds_none, finds_on}
+use Rattle.tree_walk.specs.Trees.{IsWrongTree}
+use Rattle.tree_walk.specs.Walks.{IsGoing}
+use Rattle.tree_walk.proofs.Going.{begins_going}
+use Rattle.tree_walk.proofs.Seeing.{page_size, single, still_seen}
+use Rattle.tree_walk.proofs.Telling.{tells_as, lacks_memory}
+use Rattle.tree_walk.proofs.Twice.{gone_through, twice_names, names_twice}
+use Rattle.tree_walk.proofs.walking.walk.Goals as goal
+
+pub step-requires-clause-knows : goal.step-requires-clause-knows
+step-requires-clause-knows g c = c.loop-place.invariant.knows
+
+pub loop-place-init : goal.loop-place-init
+loop-place-init g c = record {
+  finds = finds_none (g.P.Pages.state c.args.pages.now);
+  knows = c.in_ok-walk.ensures.begins.knows;
+  going = λ z seen. begins_going z (has (g.P.Pages.state c.args.pages.now).present) c.in_ok-walk.walk c.in_ok-walk.ensures.begins;
+}
+
+pub loop-place-preserved : goal.loop-place-preserved
+loop-place-preserved g c = record {
+  finds = finds_on _ _ _ c.loop-place.invariant.finds c.step.ensures.finds;
+  knows = c.in_ok-step.ensures.knows;
+  going = λ z seen.
+      let old : PagesState = g.P.Pages.state c.args.pages.now in
+      let now : PagesState = g.P.Pages.state c.loop-place.pages in
+      let finds = c.loop-place.invariant.finds in
+      let going = subst (λ (m : PageMap). IsGoing z (has m) c.loop-place.place c.loop-place.walk) (sym finds.present) (c.loop-place.invariant.going z seen) in
+      subst (λ (m : PageMap). IsGoing z (has m) (c.loop-place.place + 1) c.step.new.self) finds.present
+      (c.in_ok-step.ensures.goes z (still_seen z (g.K.KeyPresence.has c.args.keys.now) old now finds seen) going);
+}
+
+pub returns-in_err-step-clause-fault : goal.returns-in_err-step-clause-fault
+returns-in_err-step-clause-fault g c = λ z seen.
+    let old : PagesState = g.P.Pages.state c.args.pages.now in
+    let now : PagesState = g.P.Pages.state c.loop-place.pages in
+    let list = c.loop-place.walk.objects.items in
+    let finds = c.loop-place.invariant.finds in
+    let going = c.loop-place.invariant.going z seen in
+    let p = err_from_is_err_and c.from_residual-in_err-step.result c.from_residual-in_err-step.ensures.1 in
+    rw (p.1, p.2) (tells_as (λ wrong. (o : ℕ) × (slice_get list c.loop-place.place ≡ Some o) × Finds z (has now.present) o (Stops wrong)) (IsWrongTree z (has old.present))
+    (λ wrong (o, at, found). inl (going.so_far (Wrongly wrong) (stops o wrong at (subst (λ (m : PageMap). Finds z (has m) o (Stops wrong)) finds.present found))))
+    (g.P.Pages.state c.step.new.pages) _ (c.in_err-step.ensures.stops z (still_seen z (g.K.KeyPresence.has c.args.keys.now) old now finds seen)))
+
+pub returns-in_err-walk-clause-fault : goal.returns-in_err-walk-clause-fault
+returns-in_err-walk-clause-fault g c = λ z seen.
+    let p = err_from_is_err_and c.from_residual.result c.from_residual.ensures.1 in
+    rw (p.1, p.2) (lacks_memory (IsWrongTree z (has (g.P.Pages.state c.args.pages.now).present)) (g.P.Pages.state c.args.pages.now) _ c.in_err-walk.ensures.why)
+
+pub returns-in_err-walk-clause-why : goal.returns-in_err-walk-clause-why
+returns-in_err-walk-clause-why g c =
+    let p = err_from_is_err_and c.from_residual.result c.from_residual.ensures.1 in
+    rw (p.1, p.2) (lacks_memory (λ (wrong : Wrong). Unit {0}) (g.P.Pages.state c.args.pages.now) _ c.in_err-walk.ensures.why)
+
+pub returns-then-names_directory_again-clause-fault : goal.returns-then-names_directory_again-clause-fault
+returns-then-names_directory_again-clause-fault g c = λ z seen.
+    let old : PagesState = g.P.Pages.state c.args.pages.now in
+    let walk = c.loop-place.walk in
+    let going = c.loop-place.invariant.going z seen in
+    let sized = g.met.P.Pages.sized c.args.pages.now in
+    let size = page_size z (g.K.KeyPresence.has c.args.keys.now) old sized.0 sized.1 seen in
+    let all : length walk.objects.items ≡ c.loop-place.place = omega (arith, going.within, c.loop-place-test.false, c.len.ensures) in
+    let on : c.names_directory_again.result ≡ true = search rules in
+    let d = c.names_directory_again.ensures.is on in
+    inr (
+      refl,
+      (
+        walk.objects.items,
+        gone_through z size (has old.present) (single old.present) c.loop-place.place walk going all,
+        twice_names z size (has old.present) (single old.present) c.loop-place.place walk going all d.0 d.1,
+      ),
+    )
+
+pub returns-clause-through : goal.returns-clause-through
+returns-clause-through g c = λ z seen.
+    let old : PagesState = g.P.Pages.state c.args.pages.now in
+    let walk = c.loop-place.walk in
+    let going = c.loop-place.invariant.going z seen in
+    let sized = g.met.P.Pages.sized c.args.pages.now in
+    let size = page_size z (g.K.KeyPresence.has c.args.keys.now) old sized.0 sized.1 seen in
+    let all : length walk.objects.items ≡ c.loop-place.place = omega (arith, going.within, c.loop-place-test.false, c.len.ensures) in
+    gone_through z size (has old.present) (single old.present) c.loop-place.place walk going all
+
+pub returns-clause-once : goal.returns-clause-once
+returns-clause-once g c = λ z seen twice.
+    let old : PagesState = g.P.Pages.state c.args.pages.now in
+    let walk = c.loop-place.walk in
+    let going = c.loop-place.invariant.going z seen in
+    let sized = g.met.P.Pages.sized c.args.pages.now in
+    let size = page_size z (g.K.KeyPresence.has c.args.keys.now) old sized.0 sized.1 seen in
+    let all : length walk.objects.items ≡ c.loop-place.place = omega (arith, going.within, c.loop-place-test.false, c.len.ensures) in
+    let off : c.names_directory_again.result ≡ false = search rules in
+    let d = names_twice z size (has old.present) (single old.present) c.loop-place.place walk going all twice in
+    c.names_directory_again.ensures.not off d.0 d.1
+
+pub returns-clause-heads : goal.returns-clause-heads
+returns-clause-heads g c = λ z seen.
+    let walk = c.loop-place.walk in
+    let going = c.loop-place.invariant.going z seen in
+    let all : length walk.objects.items ≡ c.loop-place.place = omega (arith, going.within, c.loop-place-test.false, c.len.ensures) in
+    record {
+      each = λ i o is. going.heads i o (omega (arith, all, slice_get_within walk.objects.items i o is)) is;
+      only = λ o head there. let w = going.only o head there in (w.0, w.2);
+      says = λ o head there. going.says o head there;
+    }

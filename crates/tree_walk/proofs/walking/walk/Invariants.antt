@@ -1,0 +1,17 @@
+use Rattle.std.proofs.Common.{◌-◌}
+use Rattle.pages.specs.Maps.{has}
+use Rattle.pages.specs.State.{OnlyFinds}
+use Rattle.volume_terms.specs.Sizes.{Sizes}
+use Rattle.tree_walk.specs.Visits.{IsSeen}
+use Rattle.tree_walk.specs.Walks.{Knows, IsGoing}
+use Rattle.tree_walk.proofs.walking.walk.Given as goal
+
+abbrev pub invariant-loop-place : goal.invariant-loop-place
+invariant-loop-place g l = record {
+  finds : OnlyFinds (g.P.Pages.state l.fn.pages) (g.P.Pages.state l.pages);
+  knows : Knows l.walk;
+  going : (z : Sizes) → IsSeen z (g.K.KeyPresence.has l.keys) (g.P.Pages.state l.fn.pages) → IsGoing z (has (g.P.Pages.state l.fn.pages).present) l.place l.walk;
+}
+
+abbrev pub decreases-loop-place : goal.decreases-loop-place
+decreases-loop-place g l = 18446744073709551616 - l.place

@@ -1,0 +1,59 @@
+-- Why pages show no volume or no tree.
+use Rattle.std.specs.Prelude.{◌≡◌, true}
+use Rattle.pages.specs.State.{PagesState}
+use Rattle.page_tags.specs.declared.header.HeaderFault.{HeaderFault}
+use Rattle.page_tags.specs.declared.header.HeaderFault.TheVariants as headers
+use Rattle.volume_terms.specs.declared.fault.StoreFault.{StoreFault}
+use Rattle.volume_terms.specs.declared.fault.StoreFault.TheVariants as store_faults
+use Rattle.flash_tree.specs.Tree.{NewestMap}
+use Rattle.flash_tree.specs.Mount.{Wrong, IsNewer, IsDamaged, IsNoVolume, HasWrongRoot}
+use Rattle.nand_model.specs.declared.geometry.Geometry.{Geometry}
+use Rattle.tree_walk.specs.declared.fault.WalkFault.{WalkFault}
+use Rattle.tree_walk.specs.declared.fault.WalkFault.TheVariants as faults
+use Rattle.tree_walk.specs.declared.fault.RootFault.{RootFault}
+use Rattle.tree_walk.specs.declared.fault.RootFault.TheVariants as roots
+
+-- a look-up's fault, as one of the walk: it wears nothing
+abbrev pub of_store : StoreFault → WalkFault
+of_store store_faults.NoMemory = faults.NoMemory
+of_store store_faults.Device = faults.Device
+of_store store_faults.Worn = faults.Device
+
+-- a header's fault, as one of the walk
+abbrev pub of_header : HeaderFault → WalkFault
+of_header headers.Magic = faults.Damaged
+of_header (headers.Newer format) = faults.Newer format
+of_header headers.Kind = faults.Damaged
+of_header headers.Length = faults.Damaged
+of_header headers.Pad = faults.Damaged
+
+-- each fault only where its cause is given: want of memory, what is wrong with the pages; the device has failed
+abbrev pub Tells : Type 0 → (Wrong → Type 0) → PagesState → WalkFault → Type 0
+Tells memory amiss new faults.NoMemory = memory
+Tells memory amiss new faults.Device = new.failed ≡ true
+Tells memory amiss new (faults.Newer format) = amiss (IsNewer format)
+Tells memory amiss new faults.Damaged = amiss IsDamaged
+
+-- a call that takes memory, where this is wrong with the pages
+abbrev pub TellsWrong : (Wrong → Type 0) → PagesState → WalkFault → Type 0
+TellsWrong amiss new = Tells (Unit {0}) amiss new
+
+-- and where nothing is known of them
+abbrev pub TellsWhy : PagesState → WalkFault → Type 0
+TellsWhy new = Tells (Unit {0}) (λ wrong. Unit {0}) new
+
+-- what a fault says of the root's header: that there is none, or what is wrong with it
+abbrev pub TellsRoot : Geometry → NewestMap → RootFault → Type 0
+TellsRoot g m roots.NoMemory = Unit {0}
+TellsRoot g m roots.Device = Unit {0}
+TellsRoot g m roots.NotAVolume = IsNoVolume m
+TellsRoot g m (roots.Newer format) = HasWrongRoot g m (IsNewer format)
+TellsRoot g m roots.Damaged = HasWrongRoot g m IsDamaged
+
+-- memory was refused where it is wanted, and the device has failed where it is told so
+abbrev pub RootFailsBy : PagesState → RootFault → Type 0
+RootFailsBy new roots.NoMemory = new.refused ≡ true
+RootFailsBy new roots.Device = new.failed ≡ true
+RootFailsBy new roots.NotAVolume = Unit {0}
+RootFailsBy new (roots.Newer format) = Unit {0}
+RootFailsBy new roots.Damaged = Unit {0}

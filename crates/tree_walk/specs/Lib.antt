@@ -1,0 +1,7 @@
+pub mod Faults
+pub mod Roots
+pub mod Heads
+pub mod SlotLists
+pub mod Visits
+pub mod Walks
+pub mod Trees

@@ -1,0 +1,43 @@
+-- What is told of a tree that was gone through.
+use Rattle.std.specs.Prelude.{◌≡◌, ◌⊎◌, ℕ, List, [], ◌∷◌, Option, Some, slice_get}
+use Rattle.std.specs.Ordering.{nat_cmp}
+use Rattle.std.specs.BTreeMap.{get}
+use Rattle.page_tags.specs.Headers.{Fields}
+use Rattle.flash_tree.specs.Tree.{NewestMap, HasHeader, LooksUp}
+use Rattle.flash_tree.specs.Mount.{Wrong, IsDamaged, Wrongly, Wholly, GoesThrough, NamesTwice}
+use Rattle.volume_terms.specs.Sizes.{Sizes, root_number}
+use Rattle.tree_walk.specs.Heads.{SaysHead}
+use Rattle.tree_walk.specs.declared.head.Head.{Head}
+use Rattle.tree_walk.specs.declared.tree.Tree.{Tree}
+
+-- the objects, in the order in which they were gone through
+abbrev pub numbers_of : Tree → List ℕ
+numbers_of tree = tree.objects.items
+
+-- what is told of an object's header
+abbrev pub head_at : Tree → ℕ → Option Head
+head_at tree o = get nat_cmp tree.heads o
+
+-- the bytes of a page
+abbrev pub page_size : Tree → ℕ
+page_size tree = tree.page_bytes
+
+-- of each object of the list, and of no other, it is told what its header says
+pub record Tells (z : Sizes) (m : NewestMap) (tree : Tree) : Type 0 where
+  pub each : (i o : ℕ) → slice_get (numbers_of tree) i ≡ Some o → (head : Head) × (head_at tree o ≡ Some head)
+  pub only : (o : ℕ) (head : Head) → head_at tree o ≡ Some head → (i : ℕ) × (slice_get (numbers_of tree) i ≡ Some o)
+  pub says : (o : ℕ) (head : Head) → head_at tree o ≡ Some head → SaysHead z m o head
+
+-- the page of the key is looked up to see the objects of the list
+pub record IsLookedUp (z : Sizes) (m : NewestMap) (list : List ℕ) (o c : ℕ) : Type 0 where
+  pub place : ℕ
+  pub listed : slice_get list place ≡ Some o
+  pub fields : Fields
+  pub has : HasHeader z m o fields
+  pub looks : LooksUp z fields c
+
+-- going through the objects ends at something wrong, or two names lead to one directory
+abbrev pub IsWrongTree : Sizes → NewestMap → Wrong → Type 0
+IsWrongTree z m wrong =
+    GoesThrough z m (root_number ∷ []) 0 (Wrongly wrong)
+    ⊎ ((wrong ≡ IsDamaged) × ((list : List ℕ) × GoesThrough z m (root_number ∷ []) 0 (Wholly list) × NamesTwice z m list))

@@ -1,0 +1,27 @@
+-- What is told of one object of the tree.
+use Rattle.std.specs.Prelude.{◌≡◌, ℕ, Bool, true, is_some}
+use Rattle.std.specs.Int.{div_ceil}
+use Rattle.page_tags.specs.declared.header.ObjectKind.{ObjectKind}
+use Rattle.page_tags.specs.declared.header.ObjectKind.TheVariants as kinds
+use Rattle.flash_tree.specs.Tree.{NewestMap}
+use Rattle.flash_tree.specs.Mount.{Leads, Finds}
+use Rattle.pages.specs.State.{PagesState}
+use Rattle.volume_terms.specs.Sizes.{Sizes, page_slots}
+use Rattle.tree_walk.specs.Heads.{SaysHead}
+use Rattle.tree_walk.specs.declared.object.Visited.{Visited}
+
+-- a sound store with pages of this size, and the keys that are told to have one are those that have one
+pub record IsSeen (z : Sizes) (told : ℕ → ℕ → Bool) (p : PagesState) : Type 0 where
+  pub sound : p.sound ≡ true
+  pub size : z.page_bytes ≡ p.page_bytes
+  pub keys : (o c : ℕ) → told o c ≡ is_some (p.present o c)
+
+-- how many pages the slots of an object of this length take
+abbrev pub slot_pages : Sizes → ObjectKind → ℕ → ℕ
+slot_pages z kinds.File len = 0
+slot_pages z kinds.Directory len = div_ceil len (page_slots z)
+
+-- the object is there whole: what its header says, and the objects that it names
+pub record IsVisited (z : Sizes) (m : NewestMap) (o : ℕ) (visit : Visited) : Type 0 where
+  pub head : SaysHead z m o visit.head
+  pub leads : Finds z m o (Leads visit.named.items)

@@ -1,0 +1,141 @@
+// The slots of a directory.
+ghost use Rattle.std.specs.Prelude.{◌≡◌, ◌<◌, ◌≤◌, ◌+◌, ◌*◌, ◌^◌, ℕ, [], true, IfOk, IfErr, OnOk, Some, length, take, drop};
+ghost use Rattle.std.specs.FinMap as map;
+ghost use Rattle.std.specs.Int.{div_ceil};
+ghost use Rattle.page_tags.specs.Slots.{Entry, IsSlot, slot_bytes};
+ghost use Rattle.pages.specs.Maps.{PageMap};
+ghost use Rattle.pages.specs.State.{PagesState, OnlyFinds};
+ghost use Rattle.volume_terms.specs.Sizes.{Sizes, page_slots};
+ghost use Rattle.tree_walk.specs.Faults.{TellsWhy, TellsWrong};
+ghost use Rattle.tree_walk.specs.SlotLists.{TakesEntry, TakesNone, HasSlots, LacksOf, NamesFrom};
+
+use crate::fault::WalkFault;
+use flash_tree::Key;
+use name_map::NameMap;
+use page_tags::{SLOT_BYTES, decode_slot};
+use pages::{Pages, Presence};
+use std::alloc::Global;
+
+/// The names of the slots that were gone through, and the objects that these name, slot by slot.
+#[derive(Drop)]
+pub(crate) struct Slots {
+    names: NameMap,
+    objects: Vec<u64>,
+}
+
+/// No slot was gone through yet.
+fn no_slots(alloc: Global) -> Slots
+    ensures names { result.names ≡ map.empty }
+    ensures objects { result.objects.items ≡ [] }
+{
+    Slots {
+        names: NameMap::new(alloc),
+        objects: Vec::new(alloc),
+    }
+}
+
+/// The objects that the slots of a directory name, in their order. Each page is asked for once.
+pub(crate) fn read_slots<P: Pages>(
+    alloc: Global,
+    pages: &mut P,
+    directory: u64,
+    length: u64,
+) -> Result<Vec<u64>, WalkFault>
+    requires few { length < 2 ^ 32 }
+    ensures finds { OnlyFinds (P.state pages.old) (P.state pages.new) }
+    ensures asked { (z : Sizes) → z.page_bytes ≡ (P.state pages.old).page_bytes
+        → (P.state pages.new).asked ≤ (P.state pages.old).asked + div_ceil length (page_slots z) }
+    ensures told { (P.state pages.old).sound ≡ true → (z : Sizes) → z.page_bytes ≡ (P.state pages.old).page_bytes
+        → IfOk result (λ objects. NamesFrom z (P.state pages.old).present directory length objects.items) }
+    ensures fault { (P.state pages.old).sound ≡ true → (z : Sizes) → z.page_bytes ≡ (P.state pages.old).page_bytes
+        → IfErr result (TellsWrong (LacksOf z (P.state pages.old).present directory length) (P.state pages.new)) }
+    ensures why { IfErr result (TellsWhy (P.state pages.new)) }
+{
+    let slots = u64::from(pages.page_bytes() / SLOT_BYTES as u32);
+    let mut seen = no_slots(alloc);
+    for chunk in 0..length.div_ceil(slots) {
+        let count = slots.min(length - chunk * slots);
+        take_chunk(alloc, pages, directory, chunk, count, &mut seen)?;
+    }
+    Ok(seen.objects)
+}
+
+/// Goes through the first slots of a chunk of a directory's slots. A name that was seen already is `Damaged`.
+fn take_chunk<P: Pages>(
+    alloc: Global,
+    pages: &mut P,
+    directory: u64,
+    chunk: u64,
+    count: u64,
+    seen: &mut Slots,
+) -> Result<(), WalkFault>
+    requires room { 272 * count ≤ (P.state pages.old).page_bytes }
+    requires few { chunk < 2 ^ 32 }
+    ensures finds { OnlyFinds (P.state pages.old) (P.state pages.new) }
+    ensures asked { (P.state pages.new).asked ≤ (P.state pages.old).asked + 1 }
+    ensures told { (P.state pages.old).sound ≡ true → (z : Sizes) → z.page_bytes ≡ (P.state pages.old).page_bytes
+        → HasSlots z (P.state pages.old).present directory (chunk * page_slots z) seen.old
+        → OnOk result (HasSlots z (P.state pages.old).present directory (chunk * page_slots z + count) seen.new) }
+    ensures fault { (P.state pages.old).sound ≡ true → (z : Sizes) (total : ℕ) → z.page_bytes ≡ (P.state pages.old).page_bytes
+        → 1 ≤ count → chunk * page_slots z + count ≤ total → HasSlots z (P.state pages.old).present directory (chunk * page_slots z) seen.old
+        → IfErr result (TellsWrong (LacksOf z (P.state pages.old).present directory total) (P.state pages.new)) }
+    ensures why { IfErr result (TellsWhy (P.state pages.new)) }
+{
+    let key = Key {
+        object: directory,
+        chunk: 1 + chunk,
+    };
+    match pages.find(key)? {
+        Presence::Present => take_page(alloc, pages.page(), chunk, count, seen),
+        Presence::Absent => Err(WalkFault::Damaged),
+    }
+}
+
+/// Goes through the first slots of a page, which is of this chunk. A name that was seen already is `Damaged`.
+fn take_page(
+    alloc: Global,
+    page: &[u8],
+    chunk: u64,
+    count: u64,
+    seen: &mut Slots,
+) -> Result<(), WalkFault>
+    requires room { 272 * count ≤ length page.now }
+    requires few { length page.now ≤ 4096 }
+    ensures told { (z : Sizes) (m : PageMap) (d : ℕ) → m d (1 + chunk) ≡ Some page.now → z.page_bytes ≡ length page.now → HasSlots z m d (chunk * page_slots z) seen.old
+        → OnOk result (HasSlots z m d (chunk * page_slots z + count) seen.new) }
+    ensures fault { (new : PagesState) (z : Sizes) (m : PageMap) (d total : ℕ) → m d (1 + chunk) ≡ Some page.now → z.page_bytes ≡ length page.now
+        → chunk * page_slots z + count ≤ total → HasSlots z m d (chunk * page_slots z) seen.old → IfErr result (TellsWrong (LacksOf z m d total) new) }
+    ensures why { (new : PagesState) → IfErr result (TellsWhy new) }
+{
+    for place in 0..count {
+        take_entry(alloc, slot_of(page, place), seen)?;
+    }
+    Ok(())
+}
+
+/// The bytes of a slot of a page.
+fn slot_of(page: &[u8], place: u64) -> &[u8]
+    requires room { 272 * place + 272 ≤ length page.now }
+    requires few { length page.now ≤ 4096 }
+    ensures bytes { result.now ≡ take 272 (drop (272 * place) page.now) }
+    ensures len { length result.now ≡ 272 }
+{
+    let at = SLOT_BYTES * place as usize;
+    &page[at..at + SLOT_BYTES]
+}
+
+/// Goes through the slot that these bytes are. A name that was seen already is `Damaged`.
+fn take_entry(alloc: Global, bytes: &[u8], seen: &mut Slots) -> Result<(), WalkFault>
+    requires { length bytes.now ≡ 272 }
+    ensures told { OnOk result ((entry : Entry) × IsSlot entry × (bytes.now ≡ slot_bytes entry) × TakesEntry entry seen.old seen.new) }
+    ensures fault { (new : PagesState) → IfErr result (TellsWrong (TakesNone bytes.now seen.old) new) }
+{
+    let Some(slot) = decode_slot(bytes) else {
+        return Err(WalkFault::Damaged);
+    };
+    if !seen.names.insert(slot.name.to_vec(alloc)?, slot.object)? {
+        return Err(WalkFault::Damaged);
+    }
+    seen.objects.push(slot.object)?;
+    Ok(())
+}

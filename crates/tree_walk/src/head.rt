@@ -1,0 +1,93 @@
+// The header of an object of a tree.
+ghost use Rattle.std.specs.Prelude.{◌≡◌, ◌↔◌, ◌<◌, ◌≤◌, ◌+◌, ◌^◌, true, IsTrue, IfOk, IfErr, length};
+ghost use Rattle.page_tags.specs.Headers.{Fields, IsHeaderOf};
+ghost use Rattle.page_tags.specs.declared.header.ObjectKind.TheVariants as kinds;
+ghost use Rattle.flash_tree.specs.Mount.{Stops, Finds};
+ghost use Rattle.flash_tree.specs.Tree.{LooksUp};
+ghost use Rattle.pages.specs.Maps.{has};
+ghost use Rattle.pages.specs.State.{PagesState, OnlyFinds};
+ghost use Rattle.volume_terms.specs.Sizes.{Sizes};
+ghost use Rattle.tree_walk.specs.Faults.{TellsWhy, TellsWrong};
+ghost use Rattle.tree_walk.specs.Heads.{IsHeadOf, IsNoHeader, SaysHead};
+
+use crate::fault::WalkFault;
+use flash_tree::Key;
+use page_tags::{ObjectKind, SLOT_BYTES, decode_header, is_present};
+use pages::{Pages, Presence};
+use std::alloc::Global;
+
+/// What the header of an object says. `length` counts the bytes of a file or the entries of a directory.
+#[derive(Drop)]
+pub struct Head {
+    pub kind: ObjectKind,
+    pub length: u64,
+    pub moment: u64,
+    // The presence bits of a file's chunks, up to its last.
+    pub(crate) bits: Vec<u8>,
+}
+
+impl Head {
+    /// Whether the page of a chunk of the object is looked up: the header's, that of a file's chunk that is present, or one
+    /// of a directory's slots.
+    pub(crate) fn looks_up(&self, page_bytes: u32, chunk: u64) -> bool
+        requires { 512 ≤ page_bytes }
+        ensures { (z : Sizes) (f : Fields) → z.page_bytes ≡ page_bytes → IsHeadOf self.now f → IsTrue result ↔ LooksUp z f chunk }
+    {
+        if chunk == 0 {
+            return true;
+        }
+        match self.kind {
+            ObjectKind::File => is_present(&self.bits, chunk),
+            ObjectKind::Directory => {
+                chunk
+                    <= self
+                        .length
+                        .div_ceil(u64::from(page_bytes / SLOT_BYTES as u32))
+            }
+        }
+    }
+}
+
+/// Reads the header of an object.
+pub(crate) fn read_head<P: Pages>(
+    alloc: Global,
+    pages: &mut P,
+    object: u64,
+) -> Result<Head, WalkFault>
+    ensures finds { OnlyFinds (P.state pages.old) (P.state pages.new) }
+    ensures asked { (P.state pages.new).asked ≤ (P.state pages.old).asked + 1 }
+    ensures few { IfOk result (λ head. length head.bits.items ≤ 4064) }
+    ensures entries { IfOk result (λ head. head.kind ≡ kinds.Directory → head.length < 2 ^ 32) }
+    ensures told { (P.state pages.old).sound ≡ true → (z : Sizes) → z.page_bytes ≡ (P.state pages.old).page_bytes
+        → IfOk result (SaysHead z (has (P.state pages.old).present) object) }
+    ensures stops { (P.state pages.old).sound ≡ true → (z : Sizes) → z.page_bytes ≡ (P.state pages.old).page_bytes
+        → IfErr result (TellsWrong (λ wrong. Finds z (has (P.state pages.old).present) object (Stops wrong)) (P.state pages.new)) }
+    ensures why { IfErr result (TellsWhy (P.state pages.new)) }
+{
+    match pages.find(Key { object, chunk: 0 })? {
+        Presence::Present => decode_head(alloc, pages.page()),
+        Presence::Absent => Err(WalkFault::Damaged),
+    }
+}
+
+/// What a page says as a header.
+fn decode_head(alloc: Global, page: &[u8]) -> Result<Head, WalkFault>
+    requires least { 32 ≤ length page.now }
+    requires most { length page.now ≤ 4096 }
+    ensures told { IfOk result (λ head. (f : Fields) × IsHeaderOf page.now f × IsHeadOf head f) }
+    ensures few { IfOk result (λ head. length head.bits.items ≤ 4064) }
+    ensures fault { (new : PagesState) → IfErr result (TellsWrong (IsNoHeader page.now) new) }
+{
+    let header = decode_header(page)?;
+    let chunks = match header.kind {
+        ObjectKind::File => header.length.div_ceil(page.len() as u64),
+        ObjectKind::Directory => 0,
+    };
+    let kept = header.bits.len().min(chunks.div_ceil(8) as usize);
+    Ok(Head {
+        kind: header.kind,
+        length: header.length,
+        moment: header.moment,
+        bits: header.bits[..kept].to_vec(alloc)?,
+    })
+}

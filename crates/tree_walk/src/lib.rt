@@ -1,0 +1,20 @@
+//! The tree of a volume is gone through over pages that are found by their keys, as a mount does.
+#![tactic(auto)]
+
+mod directory;
+mod fault;
+mod file;
+mod head;
+mod object;
+mod presence;
+mod tree;
+mod volume;
+mod walking;
+
+pub use fault::{RootFault, WalkFault};
+pub use head::Head;
+pub use object::{Visited, visit};
+pub use presence::KeyPresence;
+pub use tree::Tree;
+pub use volume::root;
+pub use walking::walk;

@@ -1,0 +1,48 @@
+// What is known of a tree that was gone through.
+ghost use Rattle.std.specs.Prelude.{◌≡◌, ◌≤◌, ◌↔◌, IsTrue, option_copied};
+ghost use Rattle.pages.specs.Maps.{PageMap, has};
+ghost use Rattle.volume_terms.specs.Sizes.{Sizes};
+
+use crate::head::Head;
+use flash_tree::Key;
+use std::collections::BTreeMap;
+
+/// The objects of a tree in the order in which they were gone through, the root first, and what their headers say.
+#[derive(Drop)]
+pub struct Tree {
+    pub(crate) page_bytes: u32,
+    pub(crate) objects: Vec<u64>,
+    pub(crate) heads: BTreeMap<u64, Head>,
+    ghost least: { 512 ≤ page_bytes },
+    ghost most: { page_bytes ≤ 4096 },
+}
+
+impl Tree {
+    ghost use Rattle.tree_walk.specs.Trees.{Tells, IsLookedUp, head_at, numbers_of, page_size};
+
+    /// The numbers of the objects.
+    pub fn objects(&self) -> &[u64]
+        ensures { result.now ≡ numbers_of self.now }
+    {
+        &self.objects
+    }
+
+    /// What the header of an object says.
+    pub fn head(&self, object: u64) -> Option<&Head>
+        ensures { option_copied result ≡ head_at self.now object }
+    {
+        self.heads.get(&object)
+    }
+
+    /// Whether the page of a key is looked up to see the tree: a header, a chunk of a file that is present, or a page of
+    /// slots.
+    pub fn looks_up(&self, key: Key) -> bool
+        ensures { (z : Sizes) (m : PageMap) → z.page_bytes ≡ page_size self.now → Tells z (has m) self.now
+            → IsTrue result ↔ IsLookedUp z (has m) (numbers_of self.now) key.object key.chunk }
+    {
+        match self.heads.get(&key.object) {
+            Some(head) => head.looks_up(self.page_bytes, key.chunk),
+            None => false,
+        }
+    }
+}

@@ -1,0 +1,172 @@
+// The objects of a tree, one after the other.
+ghost use Rattle.std.specs.Prelude.{◌≡◌, ◌<◌, ◌+◌, ℕ, [], ◌∷◌, true, false, Some, IfOk, IfErr, OnOk, length, slice_get};
+ghost use Rattle.page_tags.specs.declared.header.ObjectKind.TheVariants as kinds;
+ghost use Rattle.flash_tree.specs.Mount.{Wholly, GoesThrough, NamesTwice, Stops, Finds};
+ghost use Rattle.pages.specs.Maps.{has};
+ghost use Rattle.pages.specs.State.{OnlyFinds};
+ghost use Rattle.volume_terms.specs.Sizes.{Sizes, root_number};
+ghost use Rattle.tree_walk.specs.Faults.{TellsWhy, TellsWrong};
+ghost use Rattle.tree_walk.specs.Visits.{IsSeen};
+ghost use Rattle.tree_walk.specs.Trees.{Tells, IsWrongTree, numbers_of, page_size};
+ghost use Rattle.tree_walk.specs.Walks.{Begins, HasAgain, HasHead, IsGoing, IsDirectoryAgain, Knows, Puts, Visits};
+ghost use Rattle.tree_walk.specs.declared.fault.WalkFault.TheVariants as faults;
+
+use crate::fault::WalkFault;
+use crate::head::Head;
+use crate::object::{Visited, visit};
+use crate::presence::KeyPresence;
+use crate::tree::Tree;
+use crate::volume::ROOT;
+use page_tags::ObjectKind;
+use pages::Pages;
+use std::alloc::Global;
+use std::collections::{BTreeMap, BTreeSet};
+
+/// Goes through all objects of a tree from the root on, each once, in the order in which they are named.
+pub fn walk<P: Pages, K: KeyPresence>(
+    alloc: Global,
+    pages: &mut P,
+    keys: &K,
+) -> Result<Tree, WalkFault>
+    ensures finds { OnlyFinds (P.state pages.old) (P.state pages.new) }
+    ensures through { (z : Sizes) → IsSeen z (K.has keys.now) (P.state pages.old)
+        → IfOk result (λ tree. GoesThrough z (has (P.state pages.old).present) (root_number ∷ []) 0 (Wholly (numbers_of tree))) }
+    ensures once { (z : Sizes) → IsSeen z (K.has keys.now) (P.state pages.old)
+        → IfOk result (λ tree. NamesTwice z (has (P.state pages.old).present) (numbers_of tree) → ⊥) }
+    ensures size { IfOk result (λ tree. page_size tree ≡ (P.state pages.old).page_bytes) }
+    ensures heads { (z : Sizes) → IsSeen z (K.has keys.now) (P.state pages.old) → IfOk result (Tells z (has (P.state pages.old).present)) }
+    ensures fault { (z : Sizes) → IsSeen z (K.has keys.now) (P.state pages.old)
+        → IfErr result (TellsWrong (IsWrongTree z (has (P.state pages.old).present)) (P.state pages.new)) }
+    ensures why { IfErr result (TellsWhy (P.state pages.new)) }
+{
+    let mut walk = begin(alloc)?;
+    let mut place = 0;
+    while place < walk.objects.len() {
+        walk.step(alloc, pages, keys, place)?;
+        place += 1;
+    }
+    if walk.names_directory_again() {
+        return Err(WalkFault::Damaged);
+    }
+    Ok(Tree {
+        page_bytes: pages.page_bytes(),
+        objects: walk.objects,
+        heads: walk.heads,
+    })
+}
+
+/// A walk that is on its way: the objects in the order in which they were named, which are also known as a set; those
+/// that were named again; and the headers of those that were visited.
+#[derive(Drop)]
+struct WalkState {
+    objects: Vec<u64>,
+    known: BTreeSet<u64>,
+    again: BTreeSet<u64>,
+    heads: BTreeMap<u64, Head>,
+}
+
+/// A walk that has come to the root.
+fn begin(alloc: Global) -> Result<WalkState, WalkFault>
+    ensures begins { IfOk result Begins }
+    ensures why { IfErr result (λ fault. fault ≡ faults.NoMemory) }
+{
+    let mut known = BTreeSet::new(alloc);
+    known.insert(ROOT)?;
+    Ok(WalkState {
+        objects: vec![in alloc; ROOT]?,
+        known,
+        again: BTreeSet::new(alloc),
+        heads: BTreeMap::new(alloc),
+    })
+}
+
+impl WalkState {
+    /// Visits the object at a place.
+    fn step<P: Pages, K: KeyPresence>(
+        &mut self,
+        alloc: Global,
+        pages: &mut P,
+        keys: &K,
+        place: usize,
+    ) -> Result<(), WalkFault>
+        requires within { place < length self.old.objects.items }
+        requires knows { Knows self.old }
+        ensures finds { OnlyFinds (P.state pages.old) (P.state pages.new) }
+        ensures knows { OnOk result (Knows self.new) }
+        ensures goes { (z : Sizes) → IsSeen z (K.has keys.now) (P.state pages.old) → IsGoing z (has (P.state pages.old).present) place self.old
+            → OnOk result (IsGoing z (has (P.state pages.old).present) (place + 1) self.new) }
+        ensures stops { (z : Sizes) → IsSeen z (K.has keys.now) (P.state pages.old)
+            → IfErr result (TellsWrong (λ wrong. (o : ℕ) × (slice_get self.old.objects.items place ≡ Some o) × Finds z (has (P.state pages.old).present) o (Stops wrong)) (P.state pages.new)) }
+        ensures why { IfErr result (TellsWhy (P.state pages.new)) }
+    {
+        let object = self.objects[place];
+        let visited = visit(alloc, pages, keys, object)?;
+        self.take(object, visited)
+    }
+
+    /// Takes what was found of an object.
+    fn take(&mut self, object: u64, visited: Visited) -> Result<(), WalkFault>
+        requires { Knows self.old }
+        ensures takes { OnOk result (Visits object visited self.old self.new) }
+        ensures why { IfErr result (λ fault. fault ≡ faults.NoMemory) }
+    {
+        let Visited { head, named } = visited;
+        self.put_all(&named)?;
+        self.heads.insert(object, head)?;
+        Ok(())
+    }
+
+    /// Puts the objects that one names behind the others.
+    fn put_all(&mut self, named: &[u64]) -> Result<(), WalkFault>
+        requires { Knows self.old }
+        ensures puts { OnOk result (Puts named.now self.old self.new) }
+        ensures why { IfErr result (λ fault. fault ≡ faults.NoMemory) }
+    {
+        for place in 0..named.len() {
+            self.put(named[place])?;
+        }
+        Ok(())
+    }
+
+    /// Puts an object that is named behind the others, unless it is one of them: then it is named again.
+    fn put(&mut self, object: u64) -> Result<(), WalkFault>
+        requires { Knows self.old }
+        ensures puts { OnOk result (Puts (object ∷ []) self.old self.new) }
+        ensures why { IfErr result (λ fault. fault ≡ faults.NoMemory) }
+    {
+        if !self.known.insert(object)? {
+            self.again.insert(object)?;
+            return Ok(());
+        }
+        self.objects.push(object)?;
+        Ok(())
+    }
+
+    /// Whether an object that was named again is a directory.
+    fn names_directory_again(&self) -> bool
+        ensures is { result ≡ true → (o : ℕ) × IsDirectoryAgain self.now o }
+        ensures not { result ≡ false → (o : ℕ) → IsDirectoryAgain self.now o → ⊥ }
+    {
+        for place in 0..self.objects.len() {
+            let object = self.objects[place];
+            if self.is_directory_again(object) {
+                return true;
+            }
+        }
+        false
+    }
+
+    /// Whether an object was named again and is a directory.
+    fn is_directory_again(&self, object: u64) -> bool
+        ensures is { result ≡ true → (head : Head) × HasAgain self.now object × HasHead self.now object head × (head.kind ≡ kinds.Directory) }
+        ensures not { result ≡ false → (head : Head) → HasAgain self.now object → HasHead self.now object head → head.kind ≡ kinds.Directory → ⊥ }
+    {
+        if !self.again.contains(&object) {
+            return false;
+        }
+        match self.heads.get(&object) {
+            Some(head) => head.kind == ObjectKind::Directory,
+            None => false,
+        }
+    }
+}

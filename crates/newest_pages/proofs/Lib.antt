@@ -1,3 +1,4 @@
 pub mod Reading
+pub mod Noting
 pub mod Tables
 pub mod Data

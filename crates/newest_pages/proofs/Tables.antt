@@ -26,7 +26,7 @@ use Rattle.transactions.specs.Ready.{IsReady}
 use Rattle.mount_scan.specs.Scanned.{AreNewest, TellsNewest}
 use Rattle.mount_scan.specs.laws.Scan.{found_of, listed_spot}
 use Rattle.bad_blocks.specs.Standing.{IsKeptAt, AreKept, MayLie}
-use Rattle.newest_pages.specs.Opened.{HaveNames, AreLeft, IsTableOf, IsOpened, kept_at}
+use Rattle.newest_pages.specs.Opened.{OnlySeqs, NotesSeq, HasItsSeq, HaveNames, AreLeft, IsTableOf, IsOpened, kept_at}
 use Rattle.newest_pages.proofs.Reading.{flash_is}
 
 -- a table without marks, where there are no numbers left
@@ -40,6 +40,7 @@ blank_tables d n g (Ok blocks) none same made = subst (λ (t : Table). IsTableOf
   none = λ b. refl;
   ready = λ left. absurd (none left);
   group = λ left. absurd (none left);
+  seq = λ left. absurd (none left);
 })
 
 -- ---- what was found is named
@@ -63,6 +64,9 @@ have_names d list n tells honest greatest i f at =
 
 pub names_same : (n : ℕ) (a b : List Found) → a ≡ b → HaveNames n a → HaveNames n b
 names_same n a b same names = subst (HaveNames n) same names
+
+pub notes_same : (a b : List Found) (t t' : Table) (v : ℕ) → a ≡ b → NotesSeq a (length a) t t' v → NotesSeq b (length b) t t' v
+notes_same a b t t' v same notes = subst (λ (fs : List Found). NotesSeq fs (length fs) t t' v) same notes
 
 -- ---- what was found is kept
 
@@ -194,6 +198,53 @@ counted_ready d t t' before after closed recounts ready = record {
       (subst (λ k. tag.version < k) (sym recounts.next_group) was.0, subst (λ k. tag.group < k) (sym recounts.next_group) was.1, subst (λ k. tag.seq < k) (sym recounts.next_seq) was.2);
 }
 
+-- a table whose blocks have other numbers is as ready, with no block open
+noted_ready : (d : Device) (t t' : Table) → t.open_block ≡ None → OnlySeqs t t' → IsReady d t → IsReady d t'
+noted_ready d t t' closed only ready = record {
+  geometry = only.geometry ∙ ready.geometry;
+  marks = λ b. only.bad b ∙ ready.marks b;
+  open_block = λ o is. absurd (let two : None ≡ Some o = sym closed ∙ sym only.open_block ∙ is in cc);
+  numbers = (subst (λ k. 1 ≤ k) (sym only.next_group) ready.numbers.0, subst (λ k. 1 ≤ k) (sym only.next_seq) ready.numbers.1);
+  below = λ honest b p tag good has.
+      let was = ready.below honest b p tag good has in
+      (subst (λ k. tag.version < k) (sym only.next_group) was.0, subst (λ k. tag.group < k) (sym only.next_group) was.1, subst (λ k. tag.seq < k) (sym only.next_seq) was.2);
+}
+
+-- it is a table of the device still
+pub noted_table : (d : Device) (n : Numbers) (t t' : Table) → OnlySeqs t t' → IsTableOf d n t → IsTableOf d n t'
+noted_table d n t t' only is = record {
+  geometry = only.geometry ∙ is.geometry;
+  closed = only.open_block ∙ is.closed;
+  none = λ b. only.kept b ∙ is.none b;
+  ready = λ left. noted_ready d t t' is.closed only (is.ready left);
+  group = λ left. only.next_group ∙ is.group left;
+  seq = λ left. only.next_seq ∙ is.seq left;
+}
+
+-- and on an honest device blocks have the numbers of their newest pages
+pub has_its_seq : (d : Device) (list : List Found) (n : Numbers) (t t' : Table) (b : ℕ) → TellsNewest d list → d.honest ≡ true → AreGreatest d.flash n → t.next_seq ≡ n.seq + 1
+    → NotesSeq list (length list) t t' b → HasItsSeq d.flash t' b
+has_its_seq d list n t t' b tells honest greatest next (inl has) =
+    inr (has.found.tag.object, has.found.tag.chunk, spot_of has.found, is_newest d.flash list has.index has.found (tells.exact honest) has.there, has.block, has.seq_is)
+has_its_seq d list n t t' b tells honest greatest next (inr is) = inl (λ o c s newest here.
+    let told = ((tells.exact honest).each o c s).0 newest in
+    let has = (listed_spot list s).0 told.0 in
+    let at : slice_get list has.0 ≡ Some (found_of s) = subst (λ y. slice_get list has.0 ≡ Some y) has.2 (slice_get-get_or list has.0 (found_of s) has.1) in
+    let above : t.next_seq ≤ s.tag.seq = is.1 has.0 (found_of s) has.1 at here in
+    let held = newest.holds in
+    let good : d.flash.bad s.block ≡ false = ap d.flash.bad held.block ∙ held.whole.good in
+    let most = greatest.above s.block s.page s.tag good held.has in
+    omega (arith, above, next, most))
+
+pub seqs_are : (d : Device) (list : List Found) (n : Numbers) (t t' : Table) → TellsNewest d list → (d.honest ≡ true → AreGreatest d.flash n) → IsTableOf d n t
+    → ((b : ℕ) → NotesSeq list (length list) t t' b) → d.honest ≡ true → AreLeft n → (b : ℕ) → HasItsSeq d.flash t' b
+seqs_are d list n t t' tells greatest is notes honest left b = has_its_seq d list n t t' b tells honest (greatest honest) (is.seq left) (notes b)
+
+-- counting leaves the numbers of blocks
+counted_seq : (d : Device) (t t' : Table) (before after : ℕ → ℕ) (b : ℕ) → Recounts before after t t' → HasItsSeq d.flash t b → HasItsSeq d.flash t' b
+counted_seq d t t' before after b recounts (inl none) = inl none
+counted_seq d t t' before after b recounts (inr is) = inr (is.0, is.1, is.2, is.3, is.4, recounts.seq b ∙ is.5)
+
 -- what a scan told of a device before it was read is so of it afterwards
 pub tells_read : (a b : Device) (list : List Found) → OnlyReads a b → TellsNewest a list → TellsNewest b list
 tells_read a b list reads tells = record {
@@ -211,8 +262,8 @@ greatest_read a b n reads greatest honest =
 
 -- all of it together
 pub opened : (d : Device) (list : List Found) (x : Index) (t t' : Table) (n : Numbers) → TellsNewest d list → (d.honest ≡ true → AreGreatest d.flash n) → HaveNames n.group list
-    → IsTableOf d n t → Indexes list (length list) x → CountsAgree t' x → Recounts (λ b. 0) (kept_in x) t t' → IsOpened d t' x n
-opened d list x t t' n tells greatest names is indexes counts recounts = record {
+    → IsTableOf d n t → (d.honest ≡ true → AreLeft n → (b : ℕ) → HasItsSeq d.flash t b) → Indexes list (length list) x → CountsAgree t' x → Recounts (λ b. 0) (kept_in x) t t' → IsOpened d t' x n
+opened d list x t t' n tells greatest names is seqs indexes counts recounts = record {
   counts = counts;
   geometry = recounts.geometry ∙ is.geometry;
   closed = recounts.open_block ∙ is.closed;
@@ -222,6 +273,7 @@ opened d list x t t' n tells greatest names is indexes counts recounts = record 
   all = all_kept list x indexes d tells;
   numbers = greatest;
   ready = λ left. counted_ready d t t' _ _ is.closed recounts (is.ready left);
+  seqs = λ honest left b. counted_seq d t t' _ _ b recounts (seqs honest left b);
   lie = λ left.
       let next : t'.next_group ≡ n.group + 1 = recounts.next_group ∙ is.group left in
       may_lie list x indexes d t' n tells (recounts.geometry ∙ is.geometry) names (omega (arith, next));

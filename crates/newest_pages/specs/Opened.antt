@@ -1,10 +1,11 @@
 -- The tables of a device that was scanned.
 -- From: this project.
-use Rattle.std.specs.Prelude.{◌≡◌, ◌<◌, ◌^◌, ℕ, ◌+◌, true, false, List, Some, None, slice_get}
+use Rattle.std.specs.Prelude.{◌≡◌, ◌≢◌, ◌⊎◌, ◌<◌, ◌≤◌, ◌^◌, ℕ, ◌+◌, true, false, List, Some, None, slice_get}
+use Rattle.nand_model.specs.Flash.{Flash}
 use Rattle.nand_model.specs.Calls.{Device}
 use Rattle.flash_tree.specs.Newest.{Spot, IsNewest, Numbers, AreGreatest}
 use Rattle.flash_tree.specs.declared.place.Found.{Found}
-use Rattle.block_state.specs.Table.{Table}
+use Rattle.block_state.specs.Table.{Table, Sets}
 use Rattle.chunk_index.specs.declared.form.KeptPage.{KeptPage}
 use Rattle.chunk_index.specs.declared.index.Index.{Index}
 use Rattle.chunk_index.specs.Maps.{kept_pages, CountsAgree}
@@ -37,10 +38,50 @@ pub record IsTableOf (device : Device) (n : Numbers) (t : Table) : Type 0 where
   pub none : (b : ℕ) → (t.entry b).kept ≡ 0
   pub ready : AreLeft n → IsReady device t
   pub group : AreLeft n → t.next_group ≡ n.group + 1
+  pub seq : AreLeft n → t.next_seq ≡ n.seq + 1
+
+-- only the numbers of blocks are other
+pub record OnlySeqs (old new : Table) : Type 0 where
+  pub bad : (b : ℕ) → (new.entry b).bad ≡ (old.entry b).bad
+  pub kept : (b : ℕ) → (new.entry b).kept ≡ (old.entry b).kept
+  pub geometry : new.geometry ≡ old.geometry
+  pub open_block : new.open_block ≡ old.open_block
+  pub next_group : new.next_group ≡ old.next_group
+  pub next_seq : new.next_seq ≡ old.next_seq
+
+-- The block of a page gets the page's seq, where that was handed out, and else nothing changes.
+pub record NotesOne (f : Found) (old new : Table) : Type 0 where
+  pub sets : f.tag.seq < old.next_seq → Sets f.block (record (old.entry f.block) { seq = f.tag.seq }) old new
+  pub open_block : new.open_block ≡ old.open_block
+  pub next_seq : new.next_seq ≡ old.next_seq
+  pub same : old.next_seq ≤ f.tag.seq → new ≡ old
+
+-- one of the first n pages lies in block b, and has this seq
+pub record HasSeqOf (list : List Found) (n b seq : ℕ) : Type 0 where
+  pub index : ℕ
+  pub found : Found
+  pub before : index < n
+  pub there : slice_get list index ≡ Some found
+  pub block : found.block ≡ b
+  pub seq_is : seq ≡ found.tag.seq
+
+-- no seq of the first n pages in block b is below this number
+abbrev pub AreNotBelow : List Found → (n b next : ℕ) → Type 0
+AreNotBelow list n b next = (i : ℕ) (f : Found) → i < n → slice_get list i ≡ Some f → f.block ≡ b → next ≤ f.tag.seq
+
+-- Block b has the seq of one of the first n pages, which lies in it; or the seq that it had, where none of them that lies
+-- in it has a seq that was handed out.
+abbrev pub NotesSeq : List Found → (n : ℕ) → Table → Table → ℕ → Type 0
+NotesSeq list n old new b = HasSeqOf list n b (new.entry b).seq ⊎ (((new.entry b).seq ≡ (old.entry b).seq) × AreNotBelow list n b old.next_seq)
+
+-- no newest page lies in block b; or its number is the seq of one that does
+abbrev pub HasItsSeq : Flash → Table → ℕ → Type 0
+HasItsSeq flash t b = ((o c : ℕ) (s : Spot) → IsNewest flash o c s → s.block ≢ b)
+    ⊎ ((o : ℕ) × (c : ℕ) × (s : Spot) × IsNewest flash o c s × (s.block ≡ b) × ((t.entry b).seq ≡ s.tag.seq))
 
 -- The newest page of each key is kept, with its place and version, and nothing else; nothing is buffered, and no block is
 -- open. The counts of blocks are those of the index. Where there are numbers left, groups can be written: the next
--- numbers are one above the greatest, and each kept page may be copied.
+-- numbers are one above the greatest, each kept page may be copied, and blocks have the numbers that their pages tell.
 pub record IsOpened (device : Device) (t : Table) (x : Index) (n : Numbers) : Type 0 where
   pub counts : CountsAgree t x
   pub geometry : t.geometry ≡ device.geometry
@@ -51,6 +92,7 @@ pub record IsOpened (device : Device) (t : Table) (x : Index) (n : Numbers) : Ty
   pub all : device.honest ≡ true → (o c : ℕ) (s : Spot) → IsNewest device.flash o c s → kept_pages x o c ≡ Some (kept_at s)
   pub numbers : device.honest ≡ true → AreGreatest device.flash n
   pub ready : AreLeft n → IsReady device t
+  pub seqs : device.honest ≡ true → AreLeft n → (b : ℕ) → HasItsSeq device.flash t b
   pub lie : AreLeft n → (o c : ℕ) (p : KeptPage) → kept_pages x o c ≡ Some p → MayLie t o c p
 
 -- what a scan's fault is here

@@ -5,6 +5,7 @@ mod law;
 mod names;
 mod opening;
 mod reader;
+mod seqs;
 
 pub use law::the_opened_pages_are_the_newest;
 pub use opening::{OpenFault, Opened, open};

@@ -7,6 +7,7 @@ ghost use Rattle.block_state.specs.TableOf.{table};
 ghost use Rattle.newest_pages.specs.Opened.{IsOpened, AreLeft, IsTableOf, WhyNotOpened};
 
 use crate::names::have_names;
+use crate::seqs::note_seqs;
 use block_state::Blocks;
 use chunk_index::Index;
 use flash_tree::{Found, TagNumbers};
@@ -92,6 +93,7 @@ pub fn open<N: Nand>(alloc: Global, device: &mut N) -> Result<Opened, OpenFault>
         return Err(OpenFault::Lost);
     }
     let mut blocks = table_above(alloc, device, numbers)?;
+    note_seqs(&newest, &mut blocks);
     let index = Index::from_newest(alloc, &newest, &mut blocks)?;
     Ok(Opened {
         blocks,

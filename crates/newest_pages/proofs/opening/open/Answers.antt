@@ -1,8 +1,9 @@
 use Rattle.std.proofs.Common.{List, length, ◌∙◌, sym, inl, inr, IsTrue, subst, false}
 use Rattle.std.proofs.lemmas.Bool.{cases_Bool}
 use Rattle.flash_tree.specs.declared.place.Found.{Found}
+use Rattle.block_state.specs.TableOf.{table}
 use Rattle.chunk_index.specs.Newest.{KeysRise, Indexes}
-use Rattle.newest_pages.proofs.Tables.{have_names, names_same, tells_read, greatest_read, opened}
+use Rattle.newest_pages.proofs.Tables.{have_names, names_same, notes_same, noted_table, seqs_are, tells_read, greatest_read, opened}
 use Rattle.newest_pages.proofs.opening.open.Goals as goal
 
 pub returns-then-not-have_names-clause-fault : goal.returns-then-not-have_names-clause-fault
@@ -23,7 +24,7 @@ table_above-requires g c = record {
 }
 
 pub from_newest-requires-clause-rise : goal.from_newest-requires-clause-rise
-from_newest-requires-clause-rise g c = subst (λ (fs : List Found). KeysRise fs) (sym c.deref-2.ensures.value) c.in_ok-newest.ensures.newest.order
+from_newest-requires-clause-rise g c = subst (λ (fs : List Found). KeysRise fs) (sym c.deref-3.ensures.value) c.in_ok-newest.ensures.newest.order
 
 pub returns-clause-opened : goal.returns-clause-opened
 returns-clause-opened g c =
@@ -34,4 +35,7 @@ returns-clause-opened g c =
     (tells_read old new _ reads c.in_ok-newest.ensures.newest)
     (greatest_read old new _ reads c.in_ok-newest.ensures.numbers)
     (names_same _ _ _ c.deref.ensures.value (c.have_names.ensures.0 c.if-not-have_names.false))
-    c.in_ok-blocks.ensures (subst (λ (fs : List Found). Indexes fs (length fs) c.in_ok-index.index) c.deref-2.ensures.value c.in_ok-index.ensures.indexes) c.in_ok-index.ensures.agree c.in_ok-index.ensures.counts
+    (noted_table new _ _ _ c.note_seqs.ensures.only c.in_ok-blocks.ensures)
+    (seqs_are new _ _ (table c.in_ok-blocks.blocks) (table c.note_seqs.new.blocks) (tells_read old new _ reads c.in_ok-newest.ensures.newest) (greatest_read old new _ reads c.in_ok-newest.ensures.numbers) c.in_ok-blocks.ensures
+    (λ b. notes_same _ _ (table c.in_ok-blocks.blocks) (table c.note_seqs.new.blocks) b c.deref-2.ensures.value (c.note_seqs.ensures.notes b)))
+    (subst (λ (fs : List Found). Indexes fs (length fs) c.in_ok-index.index) c.deref-3.ensures.value c.in_ok-index.ensures.indexes) c.in_ok-index.ensures.agree c.in_ok-index.ensures.counts

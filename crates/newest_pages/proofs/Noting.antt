@@ -1,0 +1,94 @@
+-- The numbers of blocks that pages tell.
+use Rattle.std.specs.Prelude.{◌≡◌, ◌≤◌, ℕ, ◌+◌, List, Some, slice_get}
+use Rattle.std.proofs.Common.{refl, sym, ◌∙◌, ap, subst, inl, inr, arith}
+use Rattle.std.proofs.lemmas.Bool.{cases_eq, cases_order}
+use Rattle.flash_tree.specs.declared.place.Found.{Found}
+use Rattle.block_state.specs.declared.blocks.BlockEntry.{BlockEntry}
+use Rattle.block_state.specs.Table.{Table, Sets}
+use Rattle.newest_pages.specs.Opened.{OnlySeqs, NotesOne, HasSeqOf, AreNotBelow, NotesSeq}
+
+-- what is known once the first n pages were gone through
+pub record Notes (list : List Found) (n : ℕ) (old new : Table) : Type 0 where
+  pub only : OnlySeqs old new
+  pub each : (b : ℕ) → NotesSeq list n old new b
+
+pub notes_none : (list : List Found) (t : Table) → Notes list 0 t t
+notes_none list t = record {
+  only = record { bad = λ b. refl; kept = λ b. refl; geometry = refl; open_block = refl; next_group = refl; next_seq = refl };
+  each = λ b. inr (refl, λ i f lt at block. absurd (omega (arith, lt)));
+}
+
+one_at : (list : List Found) (n : ℕ) (f g : Found) → slice_get list n ≡ Some f → slice_get list n ≡ Some g → f ≡ g
+one_at list n f g x y = let two : Some f ≡ Some g = sym x ∙ y in cc
+
+-- a page more that tells nothing of the block
+on_elsewhere : (list : List Found) (n next b : ℕ) (f : Found) → slice_get list n ≡ Some f → (f.block ≡ b → next ≤ f.tag.seq) → AreNotBelow list n b next → AreNotBelow list (n + 1) b next
+on_elsewhere list n next b f at above before i g lt there block = elim (cases_eq i n) [
+  | inl same ↦
+      let here : f ≡ g = one_at list n f g at (subst (λ k. slice_get list k ≡ Some g) same there) in
+      subst (λ (x : Found). next ≤ x.tag.seq) here (above (ap (λ (x : Found). x.block) here ∙ block))
+  | inr ne ↦ before i g (omega (arith, lt, ne)) there block
+]
+
+wider : (list : List Found) (n b seq : ℕ) → HasSeqOf list n b seq → HasSeqOf list (n + 1) b seq
+wider list n b seq has = record { index = has.index; found = has.found; before = omega (arith, has.before); there = has.there; block = has.block; seq_is = has.seq_is }
+
+-- a page whose seq was not handed out
+pub notes_skip : (list : List Found) (n : ℕ) (old new : Table) (f : Found) → slice_get list n ≡ Some f → new.next_seq ≤ f.tag.seq → Notes list n old new → Notes list (n + 1) old new
+notes_skip list n old new f at above notes = record {
+  only = notes.only;
+  each = λ b. elim (notes.each b) [
+    | inl has ↦ inl (wider list n b _ has)
+    | inr is ↦ inr (is.0, on_elsewhere list n old.next_seq b f at (λ block. omega (arith, above, notes.only.next_seq)) is.1)
+  ];
+}
+
+entry_bad : (f : Found) (t t' : Table) → Sets f.block (record (t.entry f.block) { seq = f.tag.seq }) t t' → (b : ℕ) → (t'.entry b).bad ≡ (t.entry b).bad
+entry_bad f t t' sets b = elim (cases_eq b f.block) [
+  | inl here ↦ ap (λ k. (t'.entry k).bad) here ∙ ap (λ (e : BlockEntry). e.bad) sets.here ∙ ap (λ k. (t.entry k).bad) (sym here)
+  | inr ne ↦ ap (λ (e : BlockEntry). e.bad) (sets.others b ne)
+]
+
+entry_kept : (f : Found) (t t' : Table) → Sets f.block (record (t.entry f.block) { seq = f.tag.seq }) t t' → (b : ℕ) → (t'.entry b).kept ≡ (t.entry b).kept
+entry_kept f t t' sets b = elim (cases_eq b f.block) [
+  | inl here ↦ ap (λ k. (t'.entry k).kept) here ∙ ap (λ (e : BlockEntry). e.kept) sets.here ∙ ap (λ k. (t.entry k).kept) (sym here)
+  | inr ne ↦ ap (λ (e : BlockEntry). e.kept) (sets.others b ne)
+]
+
+-- a page whose seq becomes its block's
+pub notes_more : (list : List Found) (n : ℕ) (old t t' : Table) (f : Found) → slice_get list n ≡ Some f → Sets f.block (record (t.entry f.block) { seq = f.tag.seq }) t t'
+    → t'.open_block ≡ t.open_block → t'.next_seq ≡ t.next_seq → Notes list n old t → Notes list (n + 1) old t'
+notes_more list n old t t' f at sets open_same seq_same notes = record {
+  only = record {
+    bad = λ b. entry_bad f t t' sets b ∙ notes.only.bad b;
+    kept = λ b. entry_kept f t t' sets b ∙ notes.only.kept b;
+    geometry = sets.geometry ∙ notes.only.geometry;
+    open_block = open_same ∙ notes.only.open_block;
+    next_group = sets.next_group ∙ notes.only.next_group;
+    next_seq = seq_same ∙ notes.only.next_seq;
+  };
+  each = λ b. elim (cases_eq b f.block) [
+    | inl here ↦ inl (record {
+      index = n;
+      found = f;
+      before = omega arith;
+      there = at;
+      block = sym here;
+      seq_is = ap (λ k. (t'.entry k).seq) here ∙ ap (λ (e : BlockEntry). e.seq) sets.here;
+    })
+    | inr ne ↦
+        let same : (t'.entry b).seq ≡ (t.entry b).seq = ap (λ (e : BlockEntry). e.seq) (sets.others b ne) in
+        elim (notes.each b) [
+          | inl has ↦ inl (subst (HasSeqOf list (n + 1) b) (sym same) (wider list n b _ has))
+          | inr is ↦ inr (same ∙ is.0, on_elsewhere list n old.next_seq b f at (λ block. absurd (ne (sym block))) is.1)
+        ]
+  ];
+}
+
+-- a page more
+pub notes_one : (list : List Found) (n : ℕ) (old t t' : Table) (f : Found) → slice_get list n ≡ Some f → NotesOne f t t' → Notes list n old t → Notes list (n + 1) old t'
+notes_one list n old t t' f at one notes = elim (cases_order f.tag.seq t.next_seq) [
+  | inl same ↦ subst (Notes list (n + 1) old) (sym (one.same (omega (arith, same)))) (notes_skip list n old t f at (omega (arith, same)) notes)
+  | inr (inl lt) ↦ notes_more list n old t t' f at (one.sets lt) one.open_block one.next_seq notes
+  | inr (inr gt) ↦ subst (Notes list (n + 1) old) (sym (one.same (omega (arith, gt)))) (notes_skip list n old t f at (omega (arith, gt)) notes)
+]

@@ -1,0 +1,29 @@
+// The numbers that blocks got when they were last taken, as their pages tell.
+ghost use Rattle.std.specs.Prelude.{◌<◌, ℕ, length};
+ghost use Rattle.block_state.specs.TableOf.{table};
+ghost use Rattle.chunk_index.specs.Newest.{LieWithin};
+ghost use Rattle.newest_pages.specs.Opened.{OnlySeqs, NotesOne, NotesSeq};
+
+use block_state::Blocks;
+use flash_tree::Found;
+
+/// Notes the number of the block of a page, where it was handed out.
+fn note_one(found: Found, blocks: &mut Blocks)
+    requires block { found.block < (table blocks.old).geometry.blocks }
+    ensures { NotesOne found (table blocks.old) (table blocks.new) }
+{
+    if found.tag.seq < blocks.next_seq() {
+        blocks.note_seq(found.block, found.tag.seq);
+    }
+}
+
+/// Notes the number of the block of each page, where it was handed out, so that blocks go on to take their turn.
+pub(crate) fn note_seqs(list: &[Found], blocks: &mut Blocks)
+    requires within { LieWithin (table blocks.old).geometry.blocks list.now }
+    ensures only { OnlySeqs (table blocks.old) (table blocks.new) }
+    ensures notes { (b : ℕ) → NotesSeq list.now (length list.now) (table blocks.old) (table blocks.new) b }
+{
+    for found in list {
+        note_one(*found, blocks);
+    }
+}

@@ -119,7 +119,7 @@ fn a_second_failure_of_a_collection_loses_no_page(rt: HostRuntime) -> Result<(),
         assert_eq!(rt; result, Ok(()), "{what}");
         let bad = two.failures(again(*two));
         let marks = marked(&rt, alloc, &nand, &blocks)?;
-        assert_eq!(rt; marks.len() as u32, bad, "{what}");
+        assert_eq!(rt; marks.len(), bad as usize, "{what}");
         assert_eq!(rt; blocks.open_room(), 29, "{what}");
         nand.power_up();
         assert_stored(&rt, &mut nand, &FULL, &what)?;

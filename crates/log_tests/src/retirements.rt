@@ -87,7 +87,7 @@ fn a_second_failure_of_a_retirement_loses_no_page(rt: HostRuntime) -> Result<(),
             };
             assert_eq!(rt; result, wanted, "{what}");
             let marks = marked(&rt, alloc, &nand, &blocks)?;
-            assert_eq!(rt; marks.len() as u32, bad, "{what}");
+            assert_eq!(rt; marks.len(), bad as usize, "{what}");
             nand.power_up();
             assert_stored(&rt, &mut nand, &KEPT, &what)?;
         }

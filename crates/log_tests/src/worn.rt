@@ -65,7 +65,7 @@ fn wears_out(
     let failures = spare.saturating_add(1);
     assert_eq!(rt; nand.calls(), failing.calls(failures), "{what}");
     let marks = marked(rt, alloc, &nand, &blocks)?;
-    assert_eq!(rt; marks.len() as u32, failures, "{what}");
+    assert_eq!(rt; marks.len(), failures as usize, "{what}");
     nand.power_up();
     assert_stored(rt, &mut nand, &KEPT, &what)
 }

@@ -1,97 +1,21 @@
 // What counts and what is newest after groups that were cut or failed at each page, by a search of the flash.
 
-ghost use Rattle.std.specs.Prelude.{◌≡◌, ◌<◌, ◌≤◌, ◌^◌, ℕ, IsTrue, IfOk, IfSome};
+ghost use Rattle.std.specs.Prelude.{IfOk, IfSome};
 ghost use Rattle.nand_model.specs.MemoryState.{device};
-ghost use Rattle.nand_model.specs.declared.geometry.Geometry.{Geometry};
 ghost use Rattle.block_state.specs.TableOf.{table};
-ghost use Rattle.transactions.specs.Committing.{CanCommit};
-ghost use Rattle.transactions.specs.Ready.{IsReady};
 ghost use Rattle.transactions.specs.CopyingOne.{MayCopy};
 
-use block_state::Blocks;
-use flash_tree::{Found, FreshPage, Key, TagNumbers};
-use nand_model::{EraseFault, Fate, Geometry, MemNand, Nand};
+use crate::volumes::{Volume, pages_from};
+use flash_tree::{Found, FreshPage, Key};
+use nand_model::{Fate, MemNand, Nand};
 use page_tags::Tag;
 use plain_search::newest;
 use std::alloc::Global;
 use std::process::Abort;
 use std::test::Fail;
-use transactions::{
-    Copies, CopyOf, Fresh, GroupFault, PageName, Placed, erase_and_open, table_of, write_group,
-};
-
-/// A device in memory with its table.
-#[derive(Drop)]
-struct Volume {
-    nand: MemNand,
-    blocks: Blocks,
-    ghost ready: { IsReady (device nand) (table blocks) },
-}
+use transactions::{Copies, CopyOf, GroupFault, PageName, Placed, write_group};
 
 impl Volume {
-    /// Eight blocks of 32 pages of 512 bytes, all erased.
-    fn new(alloc: Global) -> Result<Volume, Fail> {
-        let nand = MemNand::new(alloc, Geometry::new(512, 32, 8)?)?;
-        let none = TagNumbers {
-            version: 0,
-            group: 0,
-            seq: 0,
-        };
-        let blocks = table_of(alloc, &nand, none)?;
-        Ok(Volume { nand, blocks })
-    }
-
-    /// The call of this number is cut.
-    fn cut_at(self, call: u64, fates: Vec<Fate>) -> Volume {
-        let Volume { nand, blocks } = self;
-        Volume {
-            nand: nand.with_fuse(call, fates),
-            blocks,
-        }
-    }
-
-    /// The calls of these numbers fail.
-    fn failing(self, failures: Vec<(u64, Vec<Fate>)>) -> Volume {
-        let Volume { nand, blocks } = self;
-        Volume {
-            nand: nand.with_failures(failures),
-            blocks,
-        }
-    }
-
-    fn into_nand(self) -> MemNand {
-        self.nand
-    }
-
-    /// Power comes back. No block is open then.
-    fn power_up(&mut self) {
-        self.blocks.close();
-        self.nand.power_up();
-    }
-
-    /// Takes a block that is not open.
-    fn take(&mut self, rt: &impl Abort, block: u32) -> Result<(), EraseFault> {
-        assert!(rt; block < self.nand.geometry().blocks());
-        assert!(rt; !self.blocks.entry(block).bad);
-        assert!(rt; self.blocks.open_block() != Some(block));
-        assert!(rt; self.blocks.next_seq() < 1 << 62);
-        erase_and_open(&mut self.nand, &mut self.blocks, block)
-    }
-
-    /// Commits pages as one group.
-    fn commit(&mut self, rt: &impl Abort, pages: &[FreshPage]) -> Result<Placed, GroupFault> {
-        assert!(rt; self.blocks.next_group() < 1 << 62);
-        assert!(rt; may_commit(pages, self.nand.geometry().bytes()));
-        let mut scratch = [0; 512];
-        assert!(rt; self.nand.geometry().bytes() == 512);
-        write_group(
-            &mut self.nand,
-            &mut self.blocks,
-            &Fresh { pages },
-            &mut scratch,
-        )
-    }
-
     /// Copies the newest page of a key.
     fn copy(&mut self, rt: &impl Abort, key: Key) -> Result<Result<Placed, GroupFault>, Fail> {
         let Some(of) = copy_of(self, key)? else {
@@ -126,36 +50,9 @@ fn copy_of(volume: &mut Volume, key: Key) -> Result<Option<CopyOf>, Fail>
     }
 }
 
-/// Whether there are pages, and each is of an object and has so many bytes.
-fn may_commit(pages: &[FreshPage], bytes: u32) -> bool
-    ensures { (g : Geometry) (number : ℕ) → IsTrue result → g.bytes ≡ bytes → 1 ≤ number → CanCommit pages.now g number }
-{
-    if pages.is_empty() || pages.len() > 256 {
-        return false;
-    }
-    for i in 0..pages.len() {
-        if pages[i].key.object == 0 || pages[i].bytes.len() != bytes as usize {
-            return false;
-        }
-    }
-    true
-}
-
-/// A page of chunk 0 of an object, all bytes the same.
-fn page_of(alloc: Global, object: u64, fill: u8) -> Result<FreshPage, Fail> {
-    Ok(FreshPage {
-        key: Key { object, chunk: 0 },
-        bytes: vec![in alloc; fill; 512]?,
-    })
-}
-
 /// So many pages, of the objects from 1 up.
 fn pages_of(alloc: Global, count: u64, fill: u8) -> Result<Vec<FreshPage>, Fail> {
-    let mut pages = Vec::new(alloc);
-    for i in 0..count {
-        pages.push(page_of(alloc, i + 1, fill)?)?;
-    }
-    Ok(pages)
+    pages_from(alloc, 1, count, fill)
 }
 
 /// The version of the newest page of each object from 1 to 8, with 0 for none.

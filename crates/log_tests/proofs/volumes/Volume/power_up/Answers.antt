@@ -4,7 +4,7 @@ use Rattle.block_state.specs.Table.{Table}
 use Rattle.block_state.specs.TableOf.{table}
 use Rattle.transactions.specs.Ready.{IsReady}
 use Rattle.transactions.specs.laws.Ready.{ready_powered, ready_closed}
-use Rattle.log_tests.proofs.groups.Volume.power_up.Goals as goal
+use Rattle.log_tests.proofs.volumes.Volume.power_up.Goals as goal
 
 pub invariant_of-self : goal.invariant_of-self
 invariant_of-self c =

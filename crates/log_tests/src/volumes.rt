@@ -1,0 +1,130 @@
+// A device in memory to which groups are written.
+
+ghost use Rattle.std.specs.Prelude.{◌≡◌, ◌<◌, ◌≤◌, ℕ, IsTrue};
+ghost use Rattle.nand_model.specs.MemoryState.{device};
+ghost use Rattle.nand_model.specs.declared.geometry.Geometry.{Geometry};
+ghost use Rattle.block_state.specs.TableOf.{table};
+ghost use Rattle.transactions.specs.Committing.{CanCommit};
+ghost use Rattle.transactions.specs.Ready.{IsReady};
+
+use block_state::Blocks;
+use flash_tree::{FreshPage, Key, TagNumbers};
+use nand_model::{EraseFault, Fate, Geometry, MemNand, Nand};
+use std::alloc::Global;
+use std::process::Abort;
+use std::test::Fail;
+use transactions::{Fresh, GroupFault, Placed, erase_and_open, table_of, write_group};
+
+/// A device in memory with its table.
+#[derive(Drop)]
+pub(crate) struct Volume {
+    pub(crate) nand: MemNand,
+    pub(crate) blocks: Blocks,
+    ghost ready: { IsReady (device nand) (table blocks) },
+}
+
+impl Volume {
+    /// Eight blocks of 32 pages of 512 bytes, all erased.
+    pub(crate) fn new(alloc: Global) -> Result<Volume, Fail> {
+        let nand = MemNand::new(alloc, Geometry::new(512, 32, 8)?)?;
+        let none = TagNumbers {
+            version: 0,
+            group: 0,
+            seq: 0,
+        };
+        let blocks = table_of(alloc, &nand, none)?;
+        Ok(Volume { nand, blocks })
+    }
+
+    /// The call of this number is cut.
+    pub(crate) fn cut_at(self, call: u64, fates: Vec<Fate>) -> Volume {
+        let Volume { nand, blocks } = self;
+        Volume {
+            nand: nand.with_fuse(call, fates),
+            blocks,
+        }
+    }
+
+    /// The calls of these numbers fail.
+    pub(crate) fn failing(self, failures: Vec<(u64, Vec<Fate>)>) -> Volume {
+        let Volume { nand, blocks } = self;
+        Volume {
+            nand: nand.with_failures(failures),
+            blocks,
+        }
+    }
+
+    pub(crate) fn into_nand(self) -> MemNand {
+        self.nand
+    }
+
+    /// Power comes back. No block is open then.
+    pub(crate) fn power_up(&mut self) {
+        self.blocks.close();
+        self.nand.power_up();
+    }
+
+    /// Takes a block that is not open.
+    pub(crate) fn take(&mut self, rt: &impl Abort, block: u32) -> Result<(), EraseFault> {
+        assert!(rt; block < self.nand.geometry().blocks());
+        assert!(rt; !self.blocks.entry(block).bad);
+        assert!(rt; self.blocks.open_block() != Some(block));
+        assert!(rt; self.blocks.next_seq() < 1 << 62);
+        erase_and_open(&mut self.nand, &mut self.blocks, block)
+    }
+
+    /// Commits pages as one group.
+    pub(crate) fn commit(
+        &mut self,
+        rt: &impl Abort,
+        pages: &[FreshPage],
+    ) -> Result<Placed, GroupFault> {
+        assert!(rt; self.blocks.next_group() < 1 << 62);
+        assert!(rt; may_commit(pages, self.nand.geometry().bytes()));
+        let mut scratch = [0; 512];
+        assert!(rt; self.nand.geometry().bytes() == 512);
+        write_group(
+            &mut self.nand,
+            &mut self.blocks,
+            &Fresh { pages },
+            &mut scratch,
+        )
+    }
+}
+
+/// Whether there are pages, and each is of an object and has so many bytes.
+fn may_commit(pages: &[FreshPage], bytes: u32) -> bool
+    ensures { (g : Geometry) (number : ℕ) → IsTrue result → g.bytes ≡ bytes → 1 ≤ number → CanCommit pages.now g number }
+{
+    if pages.is_empty() || pages.len() > 256 {
+        return false;
+    }
+    for i in 0..pages.len() {
+        if pages[i].key.object == 0 || pages[i].bytes.len() != bytes as usize {
+            return false;
+        }
+    }
+    true
+}
+
+/// A page of chunk 0 of an object, all bytes the same.
+pub(crate) fn page_of(alloc: Global, object: u64, fill: u8) -> Result<FreshPage, Fail> {
+    Ok(FreshPage {
+        key: Key { object, chunk: 0 },
+        bytes: vec![in alloc; fill; 512]?,
+    })
+}
+
+/// So many pages, of the objects from this one up.
+pub(crate) fn pages_from(
+    alloc: Global,
+    first: u64,
+    count: u64,
+    fill: u8,
+) -> Result<Vec<FreshPage>, Fail> {
+    let mut pages = Vec::new(alloc);
+    for i in 0..count {
+        pages.push(page_of(alloc, first.saturating_add(i), fill)?)?;
+    }
+    Ok(pages)
+}

@@ -1,0 +1,228 @@
+-- The tables of what a scan found.
+use Rattle.std.specs.Prelude.{◌≡◌, ◌⊎◌, ◌<◌, ◌≤◌, ◌^◌, ℕ, zero, suc, ◌+◌, true, false, List, [], ◌∷◌, length, Some, None, Result, Ok, Err, IfOk, slice_get, Contains}
+use Rattle.std.proofs.Common.{refl, sym, ◌∙◌, ap, subst, inl, inr, arith, get_or}
+use Rattle.std.proofs.lemmas.Bool.{cases_eq}
+use Rattle.std.proofs.lemmas.Option.{get_or_from_slice_get, slice_get_within, slice_get-get_or}
+use Rattle.std.specs.declared.alloc.AllocError.{AllocError}
+use Rattle.nand_model.specs.Flash.{Flash}
+use Rattle.nand_model.specs.Calls.{Device}
+use Rattle.nand_model.specs.Changes.{OnlyReads}
+use Rattle.nand_model.specs.declared.geometry.Geometry.{Geometry}
+use Rattle.page_tags.specs.Tags.{IsTag}
+use Rattle.flash_tree.specs.Newest.{Spot, IsNewest, Numbers, AreGreatest}
+use Rattle.flash_tree.specs.Places.{spot_of}
+use Rattle.flash_tree.specs.declared.place.Found.{Found}
+use Rattle.block_state.specs.Table.{Table, blank}
+use Rattle.block_state.specs.TableOf.{table}
+use Rattle.block_state.specs.declared.blocks.Blocks.{Blocks}
+use Rattle.chunk_index.specs.declared.form.KeptPage.{KeptPage}
+use Rattle.chunk_index.specs.declared.form.Present.TheVariants as presents
+use Rattle.chunk_index.specs.declared.index.Index.{Index}
+use Rattle.chunk_index.specs.Counts.{Recounts}
+use Rattle.chunk_index.specs.Maps.{kept_pages, present, kept_in, CountsAgree}
+use Rattle.chunk_index.specs.Newest.{Indexes, IsOf, page_of}
+use Rattle.page_buffer.specs.Buffering.{IsUnbuffered}
+use Rattle.transactions.specs.Ready.{IsReady}
+use Rattle.mount_scan.specs.Scanned.{AreNewest, TellsNewest}
+use Rattle.mount_scan.specs.laws.Scan.{found_of, listed_spot}
+use Rattle.bad_blocks.specs.Standing.{IsKeptAt, AreKept, MayLie}
+use Rattle.newest_pages.specs.Opened.{HaveNames, AreLeft, IsTableOf, IsOpened, kept_at}
+use Rattle.newest_pages.proofs.Reading.{flash_is}
+
+-- a table without marks, where there are no numbers left
+pub blank_tables : (d : Device) (n : Numbers) (g : Geometry) (r : Result Blocks AllocError) → (AreLeft n → ⊥) → g ≡ d.geometry
+    → IfOk r (λ blocks. table blocks ≡ record { geometry = g; entry = λ b. blank; open_block = None; next_seq = 1; next_group = 1 })
+    → IfOk r (λ blocks. IsTableOf d n (table blocks))
+blank_tables d n g (Err e) none same made = tt
+blank_tables d n g (Ok blocks) none same made = subst (λ (t : Table). IsTableOf d n t) (sym made) (record {
+  geometry = same;
+  closed = refl;
+  none = λ b. refl;
+  ready = λ left. absurd (none left);
+  group = λ left. absurd (none left);
+})
+
+-- ---- what was found is named
+
+contains_at : (list : List Found) (i : ℕ) (f : Found) → slice_get list i ≡ Some f → Contains list f
+contains_at list i f at = (i, slice_get_within list i f at, get_or_from_slice_get list i f f at)
+
+-- a page that was found is the newest of its key
+is_newest : (flash : Flash) (list : List Found) (i : ℕ) (f : Found) → AreNewest flash list → slice_get list i ≡ Some f → IsNewest flash f.tag.object f.tag.chunk (spot_of f)
+is_newest flash list i f are at = (are.each f.tag.object f.tag.chunk (spot_of f)).1 ((listed_spot list (spot_of f)).1 (contains_at list i f at), refl, refl)
+
+-- so it may be named in a group of the greatest number
+pub have_names : (d : Device) (list : List Found) (n : Numbers) → TellsNewest d list → d.honest ≡ true → AreGreatest d.flash n → HaveNames n.group list
+have_names d list n tells honest greatest i f at =
+    let newest = is_newest d.flash list i f (tells.exact honest) at in
+    let held = newest.holds in
+    let tag : IsTag f.tag = held.has.valid in
+    let good : d.flash.bad f.block ≡ false = ap d.flash.bad held.block ∙ held.whole.good in
+    let above = greatest.above f.block f.page f.tag good held.has in
+    record { object = tag.object; chunk = tag.chunk; version = (tag.version.0, omega (arith, above, tag.version)) }
+
+pub names_same : (n : ℕ) (a b : List Found) → a ≡ b → HaveNames n a → HaveNames n b
+names_same n a b same names = subst (HaveNames n) same names
+
+-- ---- what was found is kept
+
+abbrev FindsOne : List Found → ℕ → ℕ → Type 0
+FindsOne list o c = (i : ℕ) × (f : Found) × (slice_get list i ≡ Some f) × IsOf o c f
+
+abbrev FindsNone : List Found → ℕ → ℕ → Type 0
+FindsNone list o c = (i : ℕ) (f : Found) → slice_get list i ≡ Some f → IsOf o c f → ⊥
+
+none_first : (f : Found) (list : List Found) (o c : ℕ) → (IsOf o c f → ⊥) → FindsNone list o c → FindsNone (f ∷ list) o c
+none_first f list o c not rest zero g at of =
+    let same : f ≡ g = cc in
+    not (subst (IsOf o c) (sym same) of)
+none_first f list o c not rest (suc i) g at of = rest i g at of
+
+later : (f : Found) (list : List Found) (o c : ℕ) → (IsOf o c f → ⊥) → FindsOne list o c ⊎ FindsNone list o c → FindsOne (f ∷ list) o c ⊎ FindsNone (f ∷ list) o c
+later f list o c not (inl one) = inl (suc one.0, one.1, one.2, one.3)
+later f list o c not (inr none) = inr (none_first f list o c not none)
+
+no_page : (o c : ℕ) → FindsNone [] o c
+no_page o c zero f at of = absurd cc
+no_page o c (suc i) f at of = absurd cc
+
+-- a page of the key was found, or none was
+finds : (list : List Found) (o c : ℕ) → FindsOne list o c ⊎ FindsNone list o c
+finds [] o c = inr (no_page o c)
+finds (f ∷ list) o c = elim (cases_eq f.tag.object o) [
+  | inl object ↦ elim (cases_eq f.tag.chunk c) [
+    | inl chunk ↦ inl (0, f, refl, (object, chunk))
+    | inr ne ↦ later f list o c (λ of. ne of.1) (finds list o c)
+  ]
+  | inr ne ↦ later f list o c (λ of. ne of.0) (finds list o c)
+]
+
+module _ (list : List Found) (x : Index) (indexes : Indexes list (length list) x) where
+  elsewhere : (o c : ℕ) → FindsNone list o c → (i : ℕ) (d : Found) → i < length list → IsOf o c (get_or list i d) → ⊥
+  elsewhere o c none i d lt of = none i (get_or list i d) (slice_get-get_or list i d lt) of
+
+  kept_found : (i : ℕ) (f : Found) → slice_get list i ≡ Some f → kept_pages x f.tag.object f.tag.chunk ≡ Some (page_of f)
+  kept_found i f at = subst (λ (g : Found). kept_pages x g.tag.object g.tag.chunk ≡ Some (page_of g)) (get_or_from_slice_get list i f f at) (indexes.kept_here i f (slice_get_within list i f at))
+
+  present_found : (i : ℕ) (f : Found) → slice_get list i ≡ Some f → present x f.tag.object f.tag.chunk ≡ presents.OnFlash (page_of f)
+  present_found i f at = subst (λ (g : Found). present x g.tag.object g.tag.chunk ≡ presents.OnFlash (page_of g)) (get_or_from_slice_get list i f f at) (indexes.present_here i f (slice_get_within list i f at))
+
+  -- a page that is kept was found
+  pub was_found : (o c : ℕ) (p : KeptPage) → kept_pages x o c ≡ Some p → (i : ℕ) × (f : Found) × (slice_get list i ≡ Some f) × IsOf o c f × (page_of f ≡ p)
+  was_found o c p kept = elim (finds list o c) [
+    | inl one ↦
+        let f : Found = one.1 in
+        let here = kept_found one.0 f one.2 in
+        let key : kept_pages x f.tag.object f.tag.chunk ≡ kept_pages x o c = ap (λ k. kept_pages x k f.tag.chunk) one.3.0 ∙ ap (kept_pages x o) one.3.1 in
+        let two : Some (page_of f) ≡ Some p = sym here ∙ key ∙ kept in
+        (one.0, f, one.2, one.3, cc)
+    | inr none ↦
+        let two : Some p ≡ None = sym kept ∙ indexes.kept_elsewhere o c (elsewhere o c none) in
+        absurd cc
+  ]
+
+  pub not_buffered : IsUnbuffered x
+  not_buffered o c j is = elim (finds list o c) [
+    | inl one ↦
+        let f : Found = one.1 in
+        let here = present_found one.0 f one.2 in
+        let key : present x f.tag.object f.tag.chunk ≡ present x o c = ap (λ k. present x k f.tag.chunk) one.3.0 ∙ ap (present x o) one.3.1 in
+        let two : presents.OnFlash (page_of f) ≡ presents.InBuffer j = sym here ∙ key ∙ is in
+        absurd cc
+    | inr none ↦
+        let two : presents.InBuffer j ≡ presents.Absent = sym is ∙ indexes.present_elsewhere o c (elsewhere o c none) in
+        absurd cc
+  ]
+
+  -- it lies where it was found
+  pub lies_within : (d : Device) → TellsNewest d list → (o c : ℕ) (p : KeptPage) → kept_pages x o c ≡ Some p → (p.block < d.geometry.blocks) × (p.page < d.geometry.pages)
+  lies_within d tells o c p kept =
+      let was = was_found o c p kept in
+      let f : Found = was.1 in
+      let at : (get_or list was.0 f) ≡ f = get_or_from_slice_get list was.0 f f was.2 in
+      let placed = subst (λ (g : Found). (g.block < d.geometry.blocks) × (g.page < d.geometry.pages)) at (tells.placed was.0 f (slice_get_within list was.0 f was.2)) in
+      subst (λ (q : KeptPage). (q.block < d.geometry.blocks) × (q.page < d.geometry.pages)) was.4 placed
+
+  -- and may be copied
+  pub may_lie : (d : Device) (t : Table) (n : Numbers) → TellsNewest d list → t.geometry ≡ d.geometry → HaveNames n.group list → n.group ≤ t.next_group
+      → (o c : ℕ) (p : KeptPage) → kept_pages x o c ≡ Some p → MayLie t o c p
+  may_lie d t n tells geometry names le o c p kept =
+      let was = was_found o c p kept in
+      let f : Found = was.1 in
+      let of : IsOf o c f = was.3 in
+      let within = lies_within d tells o c p kept in
+      let name = names was.0 f was.2 in
+      let version : f.tag.version ≡ p.version = ap (λ (q : KeptPage). q.version) was.4 in
+      record {
+        block = subst (λ (g : Geometry). p.block < g.blocks) (sym geometry) within.0;
+        page = subst (λ (g : Geometry). p.page < g.pages) (sym geometry) within.1;
+        name = record {
+          object = subst (λ k. (1 ≤ k) × (k < 2 ^ 64)) of.0 name.object;
+          chunk = subst (λ k. k < 2 ^ 64) of.1 name.chunk;
+          version = (omega (arith, name.version, version), omega (arith, name.version, version, le));
+        };
+      }
+
+  -- it is the newest of its key
+  pub are_kept : (d : Device) → TellsNewest d list → d.honest ≡ true → AreKept d.flash (kept_pages x)
+  are_kept d tells honest o c p kept =
+      let was = was_found o c p kept in
+      let f : Found = was.1 in
+      let of : IsOf o c f = was.3 in
+      let newest = is_newest d.flash list was.0 f (tells.exact honest) was.2 in
+      let there : IsNewest d.flash o c (spot_of f) = subst (λ k. IsNewest d.flash o k (spot_of f)) of.1 (subst (λ k. IsNewest d.flash k f.tag.chunk (spot_of f)) of.0 newest) in
+      subst (λ (q : KeptPage). IsKeptAt d.flash o c q) was.4 (record { tag = f.tag; newest = there; version = refl })
+
+  -- and each newest page is kept
+  pub all_kept : (d : Device) → TellsNewest d list → d.honest ≡ true → (o c : ℕ) (s : Spot) → IsNewest d.flash o c s → kept_pages x o c ≡ Some (kept_at s)
+  all_kept d tells honest o c s newest =
+      let is = ((tells.exact honest).each o c s).0 newest in
+      let has = (listed_spot list s).0 is.0 in
+      let at : slice_get list has.0 ≡ Some (found_of s) = subst (λ y. slice_get list has.0 ≡ Some y) has.2 (slice_get-get_or list has.0 (found_of s) has.1) in
+      let here = kept_found has.0 (found_of s) at in
+      sym (ap (λ k. kept_pages x k s.tag.chunk) is.1 ∙ ap (kept_pages x o) is.2) ∙ here
+
+-- a table whose kept counts alone changed, with no block open, is as ready
+counted_ready : (d : Device) (t t' : Table) (before after : ℕ → ℕ) → t.open_block ≡ None → Recounts before after t t' → IsReady d t → IsReady d t'
+counted_ready d t t' before after closed recounts ready = record {
+  geometry = recounts.geometry ∙ ready.geometry;
+  marks = λ b. recounts.bad b ∙ ready.marks b;
+  open_block = λ o is. absurd (let two : None ≡ Some o = sym closed ∙ sym recounts.open_block ∙ is in cc);
+  numbers = (subst (λ k. 1 ≤ k) (sym recounts.next_group) ready.numbers.0, subst (λ k. 1 ≤ k) (sym recounts.next_seq) ready.numbers.1);
+  below = λ honest b p tag good has.
+      let was = ready.below honest b p tag good has in
+      (subst (λ k. tag.version < k) (sym recounts.next_group) was.0, subst (λ k. tag.group < k) (sym recounts.next_group) was.1, subst (λ k. tag.seq < k) (sym recounts.next_seq) was.2);
+}
+
+-- what a scan told of a device before it was read is so of it afterwards
+pub tells_read : (a b : Device) (list : List Found) → OnlyReads a b → TellsNewest a list → TellsNewest b list
+tells_read a b list reads tells = record {
+  placed = subst (λ (g : Geometry). (k : ℕ) (d : Found) → k < length list → ((get_or list k d).block < g.blocks) × ((get_or list k d).page < g.pages)) (sym reads.lasts.geometry) tells.placed;
+  order = tells.order;
+  exact = λ honest.
+      let before : a.honest ≡ true = sym reads.lasts.honest ∙ honest in
+      subst (λ (f : Flash). AreNewest f list) (sym (flash_is a b reads before)) (tells.exact before);
+}
+
+pub greatest_read : (a b : Device) (n : Numbers) → OnlyReads a b → (a.honest ≡ true → AreGreatest a.flash n) → b.honest ≡ true → AreGreatest b.flash n
+greatest_read a b n reads greatest honest =
+    let before : a.honest ≡ true = sym reads.lasts.honest ∙ honest in
+    subst (λ (f : Flash). AreGreatest f n) (sym (flash_is a b reads before)) (greatest before)
+
+-- all of it together
+pub opened : (d : Device) (list : List Found) (x : Index) (t t' : Table) (n : Numbers) → TellsNewest d list → (d.honest ≡ true → AreGreatest d.flash n) → HaveNames n.group list
+    → IsTableOf d n t → Indexes list (length list) x → CountsAgree t' x → Recounts (λ b. 0) (kept_in x) t t' → IsOpened d t' x n
+opened d list x t t' n tells greatest names is indexes counts recounts = record {
+  counts = counts;
+  geometry = recounts.geometry ∙ is.geometry;
+  closed = recounts.open_block ∙ is.closed;
+  unbuffered = not_buffered list x indexes;
+  within = lies_within list x indexes d tells;
+  newest = are_kept list x indexes d tells;
+  all = all_kept list x indexes d tells;
+  numbers = greatest;
+  ready = λ left. counted_ready d t t' _ _ is.closed recounts (is.ready left);
+  lie = λ left.
+      let next : t'.next_group ≡ n.group + 1 = recounts.next_group ∙ is.group left in
+      may_lie list x indexes d t' n tells (recounts.geometry ∙ is.geometry) names (omega (arith, next));
+}

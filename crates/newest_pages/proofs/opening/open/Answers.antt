@@ -1,0 +1,37 @@
+use Rattle.std.proofs.Common.{List, length, ◌∙◌, sym, inl, inr, IsTrue, subst, false}
+use Rattle.std.proofs.lemmas.Bool.{cases_Bool}
+use Rattle.flash_tree.specs.declared.place.Found.{Found}
+use Rattle.chunk_index.specs.Newest.{KeysRise, Indexes}
+use Rattle.newest_pages.proofs.Tables.{have_names, names_same, tells_read, greatest_read, opened}
+use Rattle.newest_pages.proofs.opening.open.Goals as goal
+
+pub returns-then-not-have_names-clause-fault : goal.returns-then-not-have_names-clause-fault
+returns-then-not-have_names-clause-fault g c =
+    let old = g.N.Nand.state c.args.device.now in
+    let reads = c.scan_newest.ensures.reads.only in
+    elim (cases_Bool old.honest) [
+      | inl honest ↦
+          let named = have_names old _ _ c.in_ok-newest.ensures.newest honest (c.in_ok-newest.ensures.numbers honest) in
+          let two : IsTrue false = subst (λ b. IsTrue b) c.if-not-have_names.true (rw c.deref.ensures.value at c.have_names.ensures.1 named) in
+          absurd cc
+      | inr lies ↦ reads.lasts.honest ∙ lies
+    ]
+
+pub table_above-requires : goal.table_above-requires
+table_above-requires g c = record {
+  above = λ honest. (greatest_read (g.N.Nand.state c.args.device.now) (g.N.Nand.state c.scan_newest.new.device) _ c.scan_newest.ensures.reads.only c.in_ok-newest.ensures.numbers honest).above;
+}
+
+pub from_newest-requires-clause-rise : goal.from_newest-requires-clause-rise
+from_newest-requires-clause-rise g c = subst (λ (fs : List Found). KeysRise fs) (sym c.deref-2.ensures.value) c.in_ok-newest.ensures.newest.order
+
+pub returns-clause-opened : goal.returns-clause-opened
+returns-clause-opened g c =
+    let old = g.N.Nand.state c.args.device.now in
+    let new = g.N.Nand.state c.scan_newest.new.device in
+    let reads = c.scan_newest.ensures.reads.only in
+    opened new _ c.in_ok-index.index _ _ _
+    (tells_read old new _ reads c.in_ok-newest.ensures.newest)
+    (greatest_read old new _ reads c.in_ok-newest.ensures.numbers)
+    (names_same _ _ _ c.deref.ensures.value (c.have_names.ensures.0 c.if-not-have_names.false))
+    c.in_ok-blocks.ensures (subst (λ (fs : List Found). Indexes fs (length fs) c.in_ok-index.index) c.deref-2.ensures.value c.in_ok-index.ensures.indexes) c.in_ok-index.ensures.agree c.in_ok-index.ensures.counts

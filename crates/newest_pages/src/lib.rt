@@ -1,0 +1,11 @@
+//! What a scan found of a device: its tables, and the newest pages as a store of pages, which a mount goes through.
+#![tactic(auto)]
+
+mod law;
+mod names;
+mod opening;
+mod reader;
+
+pub use law::the_opened_pages_are_the_newest;
+pub use opening::{OpenFault, Opened, open};
+pub use reader::NewestPages;

@@ -1,0 +1,25 @@
+// Whether what a scan found may be copied.
+ghost use Rattle.std.specs.Prelude.{◌↔◌, IsTrue};
+ghost use Rattle.transactions.specs.Sources.{IsName, name_of};
+ghost use Rattle.newest_pages.specs.Opened.{HaveNames};
+
+use flash_tree::Found;
+
+/// Whether the page's name may stand in a tag of the group of this number.
+fn has_name(found: Found, number: u64) -> bool
+    ensures { IsTrue result ↔ IsName number (name_of found.tag) }
+{
+    found.tag.object >= 1 && found.tag.version >= 1 && found.tag.version <= number
+}
+
+/// Whether this is so of each page.
+pub(crate) fn have_names(list: &[Found], number: u64) -> bool
+    ensures { IsTrue result ↔ HaveNames number list.now }
+{
+    for found in list {
+        if !has_name(*found, number) {
+            return false;
+        }
+    }
+    true
+}

@@ -1,0 +1,101 @@
+// The tables of a device, by a scan.
+ghost use Rattle.std.specs.Prelude.{◌≡◌, ◌↔◌, true, IsTrue, IfOk, IfErr};
+ghost use Rattle.nand_model.specs.Changes.{OnlyReads};
+ghost use Rattle.flash_tree.specs.Newest.{AreAbove};
+ghost use Rattle.flash_tree.specs.Places.{numbers_of};
+ghost use Rattle.block_state.specs.TableOf.{table};
+ghost use Rattle.newest_pages.specs.Opened.{IsOpened, AreLeft, IsTableOf, WhyNotOpened};
+
+use crate::names::have_names;
+use block_state::Blocks;
+use chunk_index::Index;
+use flash_tree::{Found, TagNumbers};
+use mount_scan::{NewestScan, ScanFault, scan_newest};
+use nand_model::Nand;
+use std::alloc::{AllocError, Global};
+use transactions::table_of;
+
+/// Numbers from here on are not handed out.
+const LIMIT: u64 = 1 << 62;
+
+/// Why a device was not opened.
+#[derive(Clone, Copy, Debug, PartialEq, Eq)]
+pub enum OpenFault {
+    NoMemory,
+    /// The device did not give back what it was told.
+    Lost,
+    Gone,
+}
+
+impl From<ScanFault> for OpenFault {
+    ghost use Rattle.newest_pages.specs.Opened.{of_scan};
+
+    ghost from_gives = { λ fault e. e ≡ of_scan fault };
+
+    fn from(fault: ScanFault) -> OpenFault {
+        match fault {
+            ScanFault::NoMemory => OpenFault::NoMemory,
+            ScanFault::Gone => OpenFault::Gone,
+        }
+    }
+}
+
+impl From<AllocError> for OpenFault {
+    ghost use Rattle.newest_pages.specs.declared.opening.OpenFault.TheVariants as faults;
+
+    ghost from_gives = { λ _ e. e ≡ faults.NoMemory };
+
+    fn from(_e: AllocError) -> OpenFault {
+        OpenFault::NoMemory
+    }
+}
+
+/// What a scan found: the table of blocks, the index of the newest pages, and the greatest numbers.
+#[derive(Drop)]
+pub struct Opened {
+    pub blocks: Blocks,
+    pub index: Index,
+    pub numbers: TagNumbers,
+}
+
+/// Whether there are numbers left above these.
+pub(crate) fn are_left(numbers: TagNumbers) -> bool
+    ensures { IsTrue result ↔ AreLeft (numbers_of numbers) }
+{
+    numbers.group < LIMIT && numbers.seq < LIMIT
+}
+
+/// The table of the device, whose tags are not above these numbers. With no numbers left nothing can be written, and the
+/// table is one without marks.
+fn table_above<N: Nand>(
+    alloc: Global,
+    device: &N,
+    numbers: TagNumbers,
+) -> Result<Blocks, AllocError>
+    requires above { (N.state device.now).honest ≡ true → AreAbove (N.state device.now).flash (numbers_of numbers) }
+    ensures { IfOk result (λ blocks. IsTableOf (N.state device.now) (numbers_of numbers) (table blocks)) }
+{
+    if !are_left(numbers) {
+        return Blocks::new(alloc, device.geometry());
+    }
+    table_of(alloc, device, numbers)
+}
+
+/// Scans a device, which is only read: the newest page of each key is kept.
+pub fn open<N: Nand>(alloc: Global, device: &mut N) -> Result<Opened, OpenFault>
+    ensures reads { OnlyReads (N.state device.old) (N.state device.new) }
+    ensures opened { IfOk result (λ opened. IsOpened (N.state device.new) (table opened.blocks) opened.index (numbers_of opened.numbers)) }
+    ensures fault { IfErr result (WhyNotOpened (N.state device.new)) }
+{
+    let NewestScan { newest, numbers } = scan_newest(alloc, device)?;
+    if !have_names(&newest, numbers.group) {
+        return Err(OpenFault::Lost);
+    }
+    let mut blocks = table_above(alloc, device, numbers)?;
+    let index = Index::from_newest(alloc, &newest, &mut blocks)?;
+    Ok(Opened {
+        blocks,
+        index,
+        numbers,
+    })
+}

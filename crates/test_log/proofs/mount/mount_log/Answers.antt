@@ -1,0 +1,31 @@
+use Rattle.std.proofs.Common.{◌≡◌, refl, sym, subst, ◌∙◌, rules}
+use Rattle.mount_scan.specs.Scanned.{TellsNewest}
+use Rattle.nand_model.specs.MemoryState.{device}
+use Rattle.test_log.proofs.Mounting.{above_read, all_kept, ready_counted, tells_read, stands_mounted}
+use Rattle.test_log.proofs.mount.mount_log.Goals as goal
+
+pub table_of-requires-clause-above : goal.table_of-requires-clause-above
+table_of-requires-clause-above c honest = above_read (device c.args.nand.now) (device c.scan_newest.new.device) _ c.scan_newest.ensures.reads.only refl (c.in_ok-found.ensures.numbers refl)
+
+pub returns-clause-ready : goal.returns-clause-ready
+returns-clause-ready c = ready_counted _ _ _ _ _ c.in_ok-index.ensures.counts c.in_ok-blocks.ensures.ready
+
+pub returns-clause-stands : goal.returns-clause-stands
+returns-clause-stands c =
+    let same : c.deref.result.now ≡ c.in_ok-found.found.newest.items = search rules in
+    stands_mounted c.args.spare (device c.scan_newest.new.device) _ c.in_ok-index.index c.deref.result.now (record {
+      honest = refl;
+      ready = ready_counted _ _ _ _ _ c.in_ok-index.ensures.counts c.in_ok-blocks.ensures.ready;
+      tells = subst (TellsNewest (device c.scan_newest.new.device)) (sym same) (tells_read (device c.args.nand.now) _ _ c.scan_newest.ensures.reads.only refl c.in_ok-found.ensures.newest);
+      indexes = c.in_ok-index.ensures.indexes;
+      counts = c.in_ok-index.ensures.agree;
+      open_block = c.in_ok-index.ensures.counts.open_block ∙ c.in_ok-blocks.ensures.open;
+      fits = search rules;
+      unkept = search rules;
+    })
+
+pub returns-clause-all : goal.returns-clause-all
+returns-clause-all c =
+    let same : c.deref.result.now ≡ c.in_ok-found.found.newest.items = search rules in
+    let tells = subst (TellsNewest (device c.scan_newest.new.device)) (sym same) (tells_read (device c.args.nand.now) _ _ c.scan_newest.ensures.reads.only refl c.in_ok-found.ensures.newest) in
+    all_kept (device c.scan_newest.new.device) c.deref.result.now c.in_ok-index.index refl tells c.in_ok-index.ensures.indexes

@@ -1,0 +1,38 @@
+-- What a store needs of a device that was opened.
+use Rattle.std.specs.Prelude.{◌≡◌, ◌<◌, ◌≤◌, ℕ, Some, None}
+use Rattle.std.proofs.Common.{sym, ◌∙◌, inl, inr, arith}
+use Rattle.std.proofs.lemmas.Bool.{cases_lt}
+use Rattle.nand_model.specs.Calls.{Device}
+use Rattle.flash_tree.specs.Newest.{Numbers}
+use Rattle.block_state.specs.Table.{Table}
+use Rattle.block_state.specs.laws.Kept.{free_where_closed}
+use Rattle.chunk_index.specs.declared.index.Index.{Index}
+use Rattle.bad_blocks.specs.Standing.{Stands, HasFree}
+use Rattle.newest_pages.specs.Opened.{IsOpened, AreLeft}
+
+-- What was tested after a device was opened.
+pub record IsTested (spare : ℕ) (t : Table) (n : Numbers) : Type 0 where
+  pub left : AreLeft n
+  pub fits : (b : ℕ) → b < t.geometry.blocks → (t.entry b).kept ≤ t.geometry.pages
+  pub free : HasFree t spare
+
+-- a block has no more kept pages than it has pages, also where there is no such block
+fits_all : (t : Table) (x : Index) (d : Device) (n : Numbers) → IsOpened d t x n → ((b : ℕ) → b < t.geometry.blocks → (t.entry b).kept ≤ t.geometry.pages)
+    → (b : ℕ) → (t.entry b).kept ≤ t.geometry.pages
+fits_all t x d n opened fits b = elim (cases_lt b t.geometry.blocks) [
+  | inl lt ↦ fits b lt
+  | inr ge ↦ let none : (t.entry b).kept ≡ 0 = opened.counts.counts b ∙ opened.counts.within b ge in omega (arith, none)
+]
+
+-- what stands then
+pub stands_tested : (spare : ℕ) (d : Device) (t : Table) (x : Index) (n : Numbers) → IsOpened d t x n → IsTested spare t n → Stands spare d t x
+stands_tested spare d t x n opened tested = record {
+  tables = record {
+    counts = opened.counts;
+    within = opened.lie tested.left;
+    fits = fits_all t x d n opened tested.fits;
+    written = λ o at. let both : None ≡ Some o = sym opened.closed ∙ at in absurd cc;
+    unkept = let same = free_where_closed t opened.closed in omega (arith, same, tested.free);
+  };
+  newest = λ honest power. opened.newest honest;
+}

@@ -63,3 +63,9 @@ returns-in-Err-clause-fault g c =
     let self = c.args.self.now in
     subst (IsCommitFault self.spare (length (buffered self.buffer)) (g.N.Nand.state c.commit.new.device) (table self.blocks) (table c.commit.new.blocks) self.broken) (sym c.store_fault.ensures)
     (commit_fails self.spare (length (buffered self.buffer)) (g.N.Nand.state c.commit.new.device) (table self.blocks) (table c.commit.new.blocks) self.broken c.in-Err.fault c.in-Err.ensures.ends)
+
+pub returns-in-Ok-clause-newest : goal.returns-in-Ok-clause-newest
+returns-in-Ok-clause-newest g c = λ whole.
+    let self = c.args.self.now in
+    let d = g.N.Nand.state self.device in
+    either_known d.honest _ (kept_data self.index d.flash) (present_data self.index (buffered self.buffer) d.flash) (λ honest. c.commit.ensures.newest honest (self.carried whole honest))

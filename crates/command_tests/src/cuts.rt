@@ -44,7 +44,7 @@ fn stamped(alloc: Global, asks: &[Ask<'_>]) -> Result<Vec<Stamped>, AllocError> 
     Ok(commands)
 }
 
-fn no_objects(alloc: Global) -> Result<PlainObjects, AllocError> {
+pub(crate) fn no_objects(alloc: Global) -> Result<PlainObjects, AllocError> {
     PlainObjects::new(alloc, VolumeSizes::new(512, 32, 8, 1))
 }
 

@@ -1,4 +1,5 @@
-//! Sessions of commands over maps: what is asked, and what is told; and runs that are cut off at each of their calls.
+//! Sessions of commands over maps: what is asked, and what is told, with each call refused memory in turn; and runs that are
+//! cut off at each of their calls.
 #![tactic(auto)]
 
 #[cfg(test)]
@@ -6,6 +7,10 @@ mod asks;
 #[cfg(test)]
 mod cuts;
 mod kept;
+#[cfg(test)]
+mod refused;
+#[cfg(test)]
+mod session;
 #[cfg(test)]
 mod tests;
 

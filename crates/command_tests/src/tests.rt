@@ -1,41 +1,35 @@
 // Worked rows: what is asked, and what is told.
-use crate::asks::{Ask, command_of, reply_text};
-use plain_volume::PlainVolume;
+use crate::asks::{Ask, command_of};
+use crate::session::Session;
 use posix_profile::{Stamped, Whence};
 use std::alloc::{AllocError, Global};
 use std::process::Abort;
 use std::test::Fail;
-use volume_terms::VolumeSizes;
-
-fn new_volume(alloc: Global) -> Result<PlainVolume, AllocError> {
-    PlainVolume::new(alloc, VolumeSizes::new(512, 32, 8, 1), false)
-}
-
-/// What the volume tells of a command, which is asked again where memory was refused.
-fn told(
-    alloc: Global,
-    volume: &mut PlainVolume,
-    moment: u64,
-    ask: Ask<'_>,
-) -> Result<String, AllocError> {
-    let command = command_of(alloc, ask)?;
-    let stamped = Stamped { moment, command };
-    let reply = match volume.step(&stamped) {
-        Ok(reply) => reply,
-        Err(_) => volume.step(&stamped)?,
-    };
-    reply_text(alloc, &reply)
-}
 
 fn run_rows(
     rt: &impl Abort,
     alloc: Global,
-    volume: &mut PlainVolume,
+    volume: &mut Session,
     moment: u64,
     rows: &[(Ask<'_>, &str)],
 ) -> Result<(), AllocError> {
     for (ask, expected) in rows {
-        let text = told(alloc, volume, moment, *ask)?;
+        let text = volume.told(rt, alloc, moment, *ask)?;
+        assert_eq!(rt; text.as_str(), *expected);
+    }
+    Ok(())
+}
+
+/// Rows that the plain volume alone is told.
+fn run_plain_rows(
+    rt: &impl Abort,
+    alloc: Global,
+    volume: &mut Session,
+    rows: &[(Ask<'_>, &str)],
+) -> Result<(), AllocError> {
+    for (ask, expected) in rows {
+        let command = command_of(alloc, *ask)?;
+        let text = volume.plain_told(alloc, &Stamped { moment: 0, command })?;
         assert_eq!(rt; text.as_str(), *expected);
     }
     Ok(())
@@ -51,7 +45,7 @@ const HELLO: [(Ask<'static>, &str); 5] = [
 
 #[test]
 fn an_empty_volume_has_room(rt: HostRuntime) -> Result<(), Fail> {
-    let mut volume = new_volume(rt.alloc())?;
+    let mut volume = Session::new(rt.alloc())?;
     run_rows(
         &rt,
         rt.alloc(),
@@ -67,14 +61,14 @@ fn run_new(
     rt: &impl Abort,
     alloc: Global,
     rows: &[(Ask<'_>, &str)],
-) -> Result<PlainVolume, AllocError> {
-    let mut volume = new_volume(alloc)?;
+) -> Result<Session, AllocError> {
+    let mut volume = Session::new(alloc)?;
     run_rows(rt, alloc, &mut volume, 0, rows)?;
     Ok(volume)
 }
 
 /// A volume whose one file takes all room.
-fn full_volume(rt: &impl Abort, alloc: Global) -> Result<PlainVolume, AllocError> {
+fn full_volume(rt: &impl Abort, alloc: Global) -> Result<Session, AllocError> {
     let mut volume = run_new(rt, alloc, &[(Ask::Open("/a", "rwc"), "fd 0")])?;
     for _ in 0..28 {
         run_rows(
@@ -163,8 +157,9 @@ fn a_full_file_is_written_again_and_again(rt: HostRuntime) -> Result<(), Fail> {
         (Ask::Fill(0, 512), "wrote 512"),
         (Ask::Fsync(0), "ok"),
     ];
+    run_rows(&rt, rt.alloc(), &mut volume, 0, &rows)?;
     for _ in 0..500 {
-        run_rows(&rt, rt.alloc(), &mut volume, 0, &rows)?;
+        run_plain_rows(&rt, rt.alloc(), &mut volume, &rows)?;
     }
     Ok(())
 }
@@ -181,7 +176,7 @@ fn a_file_without_a_name_lives_while_it_is_open(rt: HostRuntime) -> Result<(), F
     ];
     run_rows(&rt, rt.alloc(), &mut volume, 0, &rows)?;
     let mut kept = volume.copy()?;
-    volume.settle()?;
+    volume.settle(rt.alloc())?;
     let rows = [
         (Ask::List("/"), "names 0"),
         (Ask::Space, "space 512 144 143"),
@@ -282,7 +277,7 @@ fn what_may_only_be_read_stays(rt: HostRuntime) -> Result<(), Fail> {
         (Ask::Mkdir("/d"), "ok"),
     ];
     let volume = run_new(&rt, rt.alloc(), &rows)?;
-    let mut volume = volume.settled(true)?;
+    let mut volume = volume.settled(rt.alloc(), true)?;
     let rows = [
         (Ask::Open("/a", "rw"), "error EROFS"),
         (Ask::Open("/a", "wt"), "error EROFS"),
@@ -343,7 +338,7 @@ fn directories_move(rt: HostRuntime) -> Result<(), Fail> {
 #[test]
 fn directories_take_all_room(rt: HostRuntime) -> Result<(), Fail> {
     let alloc = rt.alloc();
-    let mut volume = new_volume(alloc)?;
+    let mut volume = Session::new(alloc)?;
     let mut name = String::from_str(alloc, "/")?;
     for _ in 0..71 {
         name.push_str("n")?;
@@ -362,7 +357,7 @@ fn directories_take_all_room(rt: HostRuntime) -> Result<(), Fail> {
 #[test]
 fn changes_set_moments(rt: HostRuntime) -> Result<(), Fail> {
     let alloc = rt.alloc();
-    let mut volume = new_volume(alloc)?;
+    let mut volume = Session::new(alloc)?;
     run_rows(
         &rt,
         alloc,
@@ -413,7 +408,7 @@ fn changes_set_moments(rt: HostRuntime) -> Result<(), Fail> {
 #[test]
 fn sixty_four_descriptors_are_open(rt: HostRuntime) -> Result<(), Fail> {
     let alloc = rt.alloc();
-    let mut volume = new_volume(alloc)?;
+    let mut volume = Session::new(alloc)?;
     for fd in 0..64u32 {
         let expected = format!(in alloc; "fd {fd}")?;
         run_rows(

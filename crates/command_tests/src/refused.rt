@@ -1,0 +1,219 @@
+// Commands whose calls of the store are refused memory in turn.
+use crate::asks::{Ask, command_of, reply_text};
+use crate::cuts::no_objects;
+use fused_store::RefusingStore;
+use object_commands::Volume;
+use object_store::ObjectStore;
+use plain_objects::PlainObjects;
+use posix_profile::{Command, Errno, Kind, Reply, Stamped, Whence};
+use std::alloc::{AllocError, Global};
+use std::process::Abort;
+use std::test::Fail;
+use volume_terms::StoreFault;
+
+/// A volume over maps that may refuse memory.
+pub(crate) type RefusingVolume = Volume<RefusingStore<PlainObjects>>;
+
+/// More calls than a command makes that is told here.
+const MOST_CALLS: u64 = 20;
+
+/// More than the number of each object that is told of here.
+const NUMBERS: u64 = 80;
+
+/// A volume over these maps, which refuse nothing, with no descriptor open.
+pub(crate) fn volume_over(
+    alloc: Global,
+    inner: PlainObjects,
+    read_only: bool,
+) -> Result<RefusingVolume, AllocError> {
+    match Volume::new(alloc, RefusingStore { inner, calls: None }, read_only) {
+        Ok(volume) => Ok(volume),
+        Err((_store, error)) => Err(error),
+    }
+}
+
+/// The same volume over a copy of its maps, which refuses memory after so many calls.
+pub(crate) fn refusing(
+    volume: &RefusingVolume,
+    calls: Option<u64>,
+) -> Result<RefusingVolume, AllocError> {
+    let inner = volume.store().inner.copy()?;
+    match volume.copy_over(RefusingStore { inner, calls }) {
+        Ok(copy) => Ok(copy),
+        Err((_store, error)) => Err(error),
+    }
+}
+
+/// Whether a command may be answered by ENOMEM.
+fn takes_memory(command: &Command) -> bool {
+    !matches!(
+        command,
+        Command::Close { .. }
+            | Command::Seek { .. }
+            | Command::Fsync { .. }
+            | Command::Sync
+            | Command::Space
+    )
+}
+
+fn is_no_memory(reply: &Reply) -> bool {
+    matches!(reply, Reply::Error(Errno::ENOMEM))
+}
+
+/// Looks whether a directory has the same names, which lead to the same objects.
+fn expect_same_names(
+    rt: &impl Abort,
+    alloc: Global,
+    left: &mut PlainObjects,
+    right: &mut PlainObjects,
+    directory: u64,
+) -> Result<(), StoreFault> {
+    let names = left.names(alloc, directory)?;
+    let others = right.names(alloc, directory)?;
+    assert_eq!(rt; names.as_slice().len(), others.as_slice().len());
+    for (name, other) in names.as_slice().iter().zip(others.as_slice()) {
+        assert_eq!(rt; name.as_slice(), other.as_slice());
+        let there = left.find(directory, name.as_slice())?;
+        assert_eq!(rt; there, right.find(directory, name.as_slice())?);
+    }
+    Ok(())
+}
+
+/// Looks whether an object is the same.
+fn expect_same_object(
+    rt: &impl Abort,
+    alloc: Global,
+    left: &mut PlainObjects,
+    right: &mut PlainObjects,
+    number: u64,
+) -> Result<(), StoreFault> {
+    let info = left.info(number);
+    assert_eq!(rt; info, right.info(number));
+    match info {
+        Some(info) => match info.kind {
+            Kind::File => {
+                let bytes = left.read(alloc, number, 0, u32::MAX)?;
+                let others = right.read(alloc, number, 0, u32::MAX)?;
+                assert!(rt; bytes.as_slice() == others.as_slice());
+                Ok(())
+            }
+            Kind::Directory => expect_same_names(rt, alloc, left, right, number),
+        },
+        None => Ok(()),
+    }
+}
+
+/// Looks whether two volumes have the same objects.
+fn expect_same_objects(
+    rt: &impl Abort,
+    alloc: Global,
+    left: &RefusingVolume,
+    right: &RefusingVolume,
+) -> Result<(), AllocError> {
+    let mut left = left.store().inner.copy()?;
+    let mut right = right.store().inner.copy()?;
+    assert!(rt; left.new_number() < NUMBERS);
+    for number in 0..NUMBERS {
+        match expect_same_object(rt, alloc, &mut left, &mut right, number) {
+            Ok(()) => {}
+            Err(_) => return Err(AllocError),
+        }
+    }
+    Ok(())
+}
+
+/// What a volume tells of a command, which is asked again where memory was refused.
+fn told_again(
+    alloc: Global,
+    volume: &mut RefusingVolume,
+    stamped: &Stamped,
+) -> Result<String, AllocError> {
+    let mut reply = volume.call(stamped);
+    if is_no_memory(&reply) {
+        reply = volume.call(stamped);
+    }
+    reply_text(alloc, &reply)
+}
+
+/// What becomes of a volume whose command is refused this call, and is then asked again: it was as before, and is as after.
+/// `None` where the command makes no such call.
+fn refused_at(
+    rt: &impl Abort,
+    alloc: Global,
+    before: &RefusingVolume,
+    after: &RefusingVolume,
+    stamped: &Stamped,
+    told: &str,
+    calls: u64,
+) -> Result<Option<RefusingVolume>, AllocError> {
+    let mut volume = refusing(before, Some(calls))?;
+    let reply = volume.call(stamped);
+    if volume.store().calls.is_some() {
+        return Ok(None);
+    }
+    assert!(rt; is_no_memory(&reply));
+    assert!(rt; takes_memory(&stamped.command));
+    expect_same_objects(rt, alloc, &volume, before)?;
+    assert_eq!(rt; told_again(alloc, &mut volume, stamped)?.as_str(), told);
+    expect_same_objects(rt, alloc, &volume, after)?;
+    Ok(Some(volume))
+}
+
+/// Does a command with each of its calls refused in turn, and asks for it again after each. The volume becomes the one that
+/// was refused last. The result is how many calls were refused.
+pub(crate) fn refuse_each(
+    rt: &impl Abort,
+    alloc: Global,
+    volume: &mut RefusingVolume,
+    stamped: &Stamped,
+    told: &str,
+) -> Result<u64, AllocError> {
+    let mut after = refusing(volume, None)?;
+    assert_eq!(rt; told_again(alloc, &mut after, stamped)?.as_str(), told);
+    for calls in 0..MOST_CALLS {
+        match refused_at(rt, alloc, volume, &after, stamped, told, calls)? {
+            Some(again) => after = again,
+            None => {
+                *volume = after;
+                return Ok(calls);
+            }
+        }
+    }
+    assert!(rt; false, "more than {MOST_CALLS} calls");
+    Ok(MOST_CALLS)
+}
+
+/// What is asked, what is told, and how many calls of the store may be refused.
+const COUNTED: [(Ask<'static>, &str, u64); 18] = [
+    (Ask::Mkdir("/d"), "ok", 2),
+    (Ask::Open("/d/f", "rwc"), "fd 0", 3),
+    (Ask::Write(0, "hello"), "wrote 5", 1),
+    (Ask::Seek(0, 0, Whence::Set), "at 0", 0),
+    (Ask::Read(0, 10), "data 5 hello", 1),
+    (Ask::Stat("/d/f"), "info file 3 1 5 0", 2),
+    (Ask::List("/d"), "names 1 f", 2),
+    (Ask::Link("/d/f", "/g"), "ok", 4),
+    (Ask::Rename("/g", "/h"), "ok", 3),
+    (Ask::Truncate(0, 3), "ok", 1),
+    (Ask::Fsync(0), "ok", 0),
+    (Ask::Unlink("/h"), "ok", 2),
+    (Ask::Unlink("/d/f"), "ok", 3),
+    (Ask::Sync, "ok", 0),
+    (Ask::Space, "space 512 144 139", 0),
+    (Ask::Close(0), "ok", 0),
+    (Ask::Rmdir("/d"), "ok", 2),
+    (Ask::Stat("/d"), "error ENOENT", 1),
+];
+
+#[test]
+fn each_call_may_be_refused(rt: HostRuntime) -> Result<(), Fail> {
+    let alloc = rt.alloc();
+    let mut volume = volume_over(alloc, no_objects(alloc)?, false)?;
+    for (ask, told, calls) in COUNTED {
+        let command = command_of(alloc, ask)?;
+        let stamped = Stamped { moment: 0, command };
+        let refused = refuse_each(&rt, alloc, &mut volume, &stamped, told)?;
+        assert_eq!(&rt; refused, calls, "{told}");
+    }
+    Ok(())
+}

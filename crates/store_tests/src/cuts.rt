@@ -15,7 +15,7 @@ use volume_terms::StoreFault;
 const SPARE: u32 = 1;
 
 /// How many steps the run has.
-const STEPS: u32 = 60;
+const STEPS: u32 = 1_000;
 
 const FATES: [Fate; 4] = [Fate::Old, Fate::New, Fate::Erased, Fate::Uncorrectable];
 

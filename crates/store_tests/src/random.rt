@@ -38,7 +38,7 @@ fn a_store_has_the_pages_of_plain_maps(rt: HostRuntime) -> Result<(), Fail> {
         let nand = erased(alloc, 8)?;
         let mut store = open_store(alloc, nand, 2, capacity, Trouble::Nothing)?;
         let mut plain = Plain::new([0; KEYS]);
-        for number in 0..1_000u32 {
+        for number in 0..100_000u32 {
             let next = random_step(&mut random, 1 + number * 8);
             let taken = take_step(&rt, alloc, &mut store, &mut plain, next)?;
             assert_eq!(rt; taken, Ok(()), "step {number}, {next:?}");

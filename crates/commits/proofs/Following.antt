@@ -21,7 +21,7 @@ use Rattle.page_buffer.specs.Shown.{data_of, data_at, data_by, kept_data, presen
 use Rattle.bad_blocks.specs.Moving.{IsKeptIn, MovesOut}
 use Rattle.bad_blocks.specs.Standing.{AreKept, HasVersion, IsKeptAt, SameData}
 use Rattle.bad_blocks.specs.laws.Moves.{moves_out_none}
-use Rattle.commits.specs.Carrying.{Carries}
+use Rattle.pages.specs.Stores.{Carries}
 use Rattle.commits.specs.Keeping.{MovesKept}
 
 -- what is present on the flash is the kept page

@@ -32,7 +32,7 @@ use Rattle.transactions.specs.laws.Newest.{commit_comes_last, newest_after}
 use Rattle.bad_blocks.specs.Standing.{AreKept, IsKeptAt, SameData, Stands, TablesAgree}
 use Rattle.bad_blocks.specs.laws.Keeping.{had_power}
 use Rattle.bad_blocks.specs.laws.Moves.{may_lie_later}
-use Rattle.commits.specs.Carrying.{Carries}
+use Rattle.pages.specs.Stores.{Carries}
 use Rattle.commits.specs.Keeping.{Keeps}
 use Rattle.commits.proofs.Following.{on_flash_kept, kept_reads, moves_kept_none}
 

@@ -31,7 +31,8 @@ use Rattle.transactions.specs.Ready.{AreBelow, IsReady}
 use Rattle.bad_blocks.specs.Standing.{AreKept, HasFree, IsKeptAt, MayLie, Stands, TablesAgree}
 use Rattle.bad_blocks.specs.laws.Keeping.{had_power}
 use Rattle.bad_blocks.specs.laws.Moves.{may_lie_later}
-use Rattle.commits.specs.Carrying.{AreWritable, Carries, HaveRanges}
+use Rattle.commits.specs.Carrying.{AreWritable, HaveRanges}
+use Rattle.pages.specs.Stores.{Carries}
 use Rattle.commits.specs.Keeping.{Commits}
 use Rattle.commits.proofs.Counts.{ListsAreWhole, settled_most, settled_elsewhere}
 use Rattle.commits.proofs.Following.{on_flash_kept}

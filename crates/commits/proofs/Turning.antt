@@ -27,7 +27,8 @@ use Rattle.bad_blocks.specs.laws.Keeping.{had_power}
 use Rattle.collector.specs.Making.{LeavesRoom, WhyNoRoom}
 use Rattle.collector.specs.declared.fault.RoomFault.{RoomFault}
 use Rattle.collector.specs.declared.fault.RoomFault.TheVariants as faults
-use Rattle.commits.specs.Carrying.{Carries, CarriesEither, KeepsOrShows}
+use Rattle.commits.specs.Carrying.{CarriesEither, KeepsOrShows}
+use Rattle.pages.specs.Stores.{Carries}
 use Rattle.commits.specs.Committing.{CommitEnds}
 use Rattle.commits.specs.Keeping.{Keeps, Commits, IsAnswered, Leaves}
 use Rattle.commits.specs.Writing.{AttemptEnds, IsWhole, IsWaiting, WholeEnds}

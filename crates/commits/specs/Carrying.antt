@@ -2,18 +2,13 @@
 use Rattle.std.specs.Prelude.{◌≡◌, ◌⊎◌, ◌<◌, ◌≤◌, ◌^◌, ℕ, List, length, Some, slice_get}
 use Rattle.nand_model.specs.Flash.{Flash}
 use Rattle.nand_model.specs.declared.geometry.Geometry.{Geometry}
-use Rattle.flash_tree.specs.Newest.{HasNewest}
 use Rattle.flash_tree.specs.declared.place.FreshPage.{FreshPage}
 use Rattle.flash_tree.specs.declared.place.Key.{Key}
-use Rattle.pages.specs.Maps.{PageMap}
+use Rattle.pages.specs.Stores.{Carries}
 use Rattle.chunk_index.specs.declared.index.Index.{Index}
 use Rattle.chunk_index.specs.Maps.{kept_pages}
 use Rattle.page_buffer.specs.Shown.{kept_data, present_data}
 use Rattle.bad_blocks.specs.Standing.{SameData}
-
--- each page of the map is the newest of its key on the flash
-abbrev pub Carries : Flash → PageMap → Type 0
-Carries flash m = (o c : ℕ) (xs : List ℕ) → m o c ≡ Some xs → HasNewest flash o c xs
 
 -- the kept pages are the newest still, or the present ones are it, all of the one or all of the other
 abbrev pub CarriesEither : Index → List FreshPage → Flash → Flash → Type 0

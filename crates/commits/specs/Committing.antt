@@ -11,7 +11,7 @@ use Rattle.page_buffer.specs.Shown.{kept_data, present_data}
 use Rattle.bad_blocks.specs.Standing.{HasFree}
 use Rattle.collector.specs.Making.{WhyNoRoom}
 use Rattle.collector.specs.declared.fault.RoomFault.{RoomFault}
-use Rattle.commits.specs.Carrying.{Carries}
+use Rattle.pages.specs.Stores.{Carries}
 use Rattle.commits.specs.Keeping.{IsAnswered}
 
 -- the buffer holds as many pages of as many bytes at most

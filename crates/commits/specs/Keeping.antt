@@ -14,7 +14,8 @@ use Rattle.transactions.specs.Handing.{HandsOut}
 use Rattle.transactions.specs.Ready.{IsReady}
 use Rattle.bad_blocks.specs.Moving.{Follows}
 use Rattle.bad_blocks.specs.Standing.{Stands, SameData}
-use Rattle.commits.specs.Carrying.{Carries, KeepsOrShows}
+use Rattle.commits.specs.Carrying.{KeepsOrShows}
+use Rattle.pages.specs.Stores.{Carries}
 
 -- there is room for each key still, also once the changes are settled
 abbrev pub StaysReady : Index → Index → Type 0

@@ -4,5 +4,6 @@ pub mod Keeping
 pub mod Places
 pub mod Tree
 pub mod Mount
+pub mod FreeBlocks
 pub mod Sound
 pub mod laws

@@ -52,11 +52,16 @@ lie_same a b m reads lie o c k is = subst (λ (g : Geometry). (k.block < g.block
 pub finds_seen : (a b : Device) (x y : Index) (page page' : List ℕ) → OnlyReads a b → y ≡ x → OnlyFinds (seen a x page) (seen b y page')
 finds_seen a b x y page page' reads index = record {
   page_bytes = ap (λ (g : Geometry). g.bytes) reads.lasts.geometry;
+  most = refl;
   present = ap (λ i. known_pages b.honest (kept_data i b.flash)) index ∙ known_same a b (kept_data x) reads;
+  kept = ap (λ i. known_pages b.honest (kept_data i b.flash)) index ∙ known_same a b (kept_data x) reads;
   sound = reads.lasts.honest;
   failed = failed;
   refused = λ is. is;
   asked = reads.lasts.reads;
+  device = reads;
+  next = refl;
+  spare = refl;
 } where
   failed : (a.gone || not a.honest) ≡ true → (b.gone || not b.honest) ≡ true
   failed is = elim (cases_Bool a.gone) [

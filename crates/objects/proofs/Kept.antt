@@ -11,7 +11,7 @@ use Rattle.chunk_index.specs.declared.index.Index.{Index}
 use Rattle.chunk_index.specs.Maps.{kept_pages}
 use Rattle.bad_blocks.specs.Standing.{IsKeptAt, AreKept}
 use Rattle.page_buffer.specs.Shown.{data_of, data_at, kept_data}
-use Rattle.commits.specs.Carrying.{Carries}
+use Rattle.pages.specs.Stores.{Carries}
 
 -- the flash carries what is kept
 pub kept_carried : (f : Flash) (x : Index) → AreKept f (kept_pages x) → Carries f (kept_data x f)

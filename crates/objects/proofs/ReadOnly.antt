@@ -6,6 +6,8 @@ use Rattle.nand_model.specs.Flash.{Flash}
 use Rattle.nand_model.specs.Calls.{Device, Lasts}
 use Rattle.flash_tree.specs.laws.Place.{same_flash}
 use Rattle.block_state.specs.Table.{Table}
+use Rattle.block_state.specs.TableOf.{table}
+use Rattle.block_state.specs.declared.blocks.Blocks.{Blocks}
 use Rattle.transactions.specs.Ready.{IsReady}
 use Rattle.bad_blocks.specs.Standing.{IsKeptAt, AreKept, MayLie, Stands}
 use Rattle.nand_model.specs.Changes.{OnlyReads}
@@ -29,14 +31,14 @@ use Rattle.pages.specs.declared.store.Presence.{Presence}
 use Rattle.pages.specs.declared.store.Presence.TheVariants as presences
 use Rattle.volume_terms.specs.declared.fault.StoreFault.{StoreFault}
 use Rattle.volume_terms.specs.declared.fault.StoreFault.TheVariants as faults
-use Rattle.page_buffer.specs.BufferOf.{buffered}
+use Rattle.page_buffer.specs.BufferOf.{buffered, most_pages}
 use Rattle.page_buffer.specs.declared.buffer.Buffer.{Buffer}
 use Rattle.objects.specs.declared.store.Found.{Found}
 use Rattle.objects.specs.Found.{bytes_or}
 use Rattle.objects.specs.Caching.{Shows}
-use Rattle.commits.specs.Carrying.{Carries}
+use Rattle.pages.specs.Stores.{Carries}
 use Rattle.objects.specs.Reading.{Caches, IsLoadFault, IsFindFault}
-use Rattle.objects.specs.StoreOf.{known, seen}
+use Rattle.objects.specs.StoreOf.{known, seen, next_numbers}
 
 -- the pages that are known stay
 pub known_same : (a b : Device) (m : Flash → PageMap) → OnlyReads a b → known b.honest (m b.flash) ≡ known a.honest (m a.flash)
@@ -130,18 +132,23 @@ load_fails spare a b t x o c at broken refused faults.Device reads stands there 
 ]
 
 -- a call that only reads the device, and changes no index and no buffer, only finds
-pub finds_seen : (a b : Device) (x y : Index) (buffer buffer' : Buffer) (cache cache' : PageCache) (scratch scratch' : List ℕ) (found found' : Found) (broken broken' refused refused' : Bool)
-    → OnlyReads a b → y ≡ x → buffer' ≡ buffer → broken' ≡ broken → (refused ≡ true → refused' ≡ true)
-    → OnlyFinds (seen a x buffer cache scratch found broken refused) (seen b y buffer' cache' scratch' found' broken' refused')
-finds_seen a b x y buffer buffer' cache cache' scratch scratch' found found' broken broken' refused refused' reads index buffers breaks refuses = record {
+pub finds_seen : (a b : Device) (t u : Blocks) (x y : Index) (buffer buffer' : Buffer) (cache cache' : PageCache) (scratch scratch' : List ℕ) (found found' : Found) (spare spare' : ℕ) (broken broken' refused refused' : Bool)
+    → OnlyReads a b → u ≡ t → y ≡ x → buffer' ≡ buffer → spare' ≡ spare → broken' ≡ broken → (refused ≡ true → refused' ≡ true)
+    → OnlyFinds (seen a (table t) x buffer cache scratch found spare broken refused) (seen b (table u) y buffer' cache' scratch' found' spare' broken' refused')
+finds_seen a b t u x y buffer buffer' cache cache' scratch scratch' found found' spare spare' broken broken' refused refused' reads blocks index buffers spares breaks refuses = record {
   page_bytes = ap (λ (g : Geometry). g.bytes) reads.lasts.geometry;
+  most = ap most_pages buffers;
   present = ap (λ i. known b.honest (present_data i (buffered buffer') b.flash)) index
       ∙ ap (λ i. known b.honest (present_data x (buffered i) b.flash)) buffers
       ∙ known_same a b (present_data x (buffered buffer)) reads;
+  kept = ap (λ i. known b.honest (kept_data i b.flash)) index ∙ known_same a b (kept_data x) reads;
   sound = ap (λ h. h && not broken') reads.lasts.honest ∙ ap (λ w. a.honest && not w) breaks;
   failed = failed;
   refused = refuses;
   asked = reads.lasts.reads;
+  device = reads;
+  next = ap (λ (w : Blocks). next_numbers (table w)) blocks;
+  spare = spares;
 } where
   failed : (a.gone || (not a.honest || broken)) ≡ true → (b.gone || (not b.honest || broken')) ≡ true
   failed is = elim (cases_Bool a.gone) [
@@ -192,12 +199,12 @@ kept_lent a x pages lent o c at broken (Ok told) is sound there page =
     (ap (λ h. known h (present_data x pages a.flash) o c) honest ∙ ap (data_by a.flash pages) is ∙ page (sound_whole a.honest broken sound) honest)
 
 -- each fault has its cause
-pub fault_seen : (b : Device) (x : Index) (buffer : Buffer) (cache : PageCache) (scratch : List ℕ) (found : Found) (broken refused : Bool) (result : Result Presence StoreFault)
-    → IfErr result (IsFindFault b broken refused) → IfErr result (FailsBy (seen b x buffer cache scratch found broken refused))
-fault_seen b x buffer cache scratch found broken refused (Ok told) why = tt
-fault_seen b x buffer cache scratch found broken refused (Err faults.NoMemory) why = why
-fault_seen b x buffer cache scratch found broken refused (Err faults.Worn) why = why
-fault_seen b x buffer cache scratch found broken refused (Err faults.Device) why = elim why [
+pub fault_seen : (b : Device) (t : Table) (x : Index) (buffer : Buffer) (cache : PageCache) (scratch : List ℕ) (found : Found) (spare : ℕ) (broken refused : Bool) (result : Result Presence StoreFault)
+    → IfErr result (IsFindFault b broken refused) → IfErr result (FailsBy (seen b t x buffer cache scratch found spare broken refused))
+fault_seen b t x buffer cache scratch found spare broken refused (Ok told) why = tt
+fault_seen b t x buffer cache scratch found spare broken refused (Err faults.NoMemory) why = why
+fault_seen b t x buffer cache scratch found spare broken refused (Err faults.Worn) why = why
+fault_seen b t x buffer cache scratch found spare broken refused (Err faults.Device) why = elim why [
   | inl gone ↦ or_left b.gone (not b.honest || broken) gone
   | inr rest ↦ or_right b.gone (not b.honest || broken) (elim rest [
     | inl lies ↦ or_left (not b.honest) broken (ap not lies)

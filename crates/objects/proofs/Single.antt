@@ -3,7 +3,7 @@ use Rattle.std.specs.Prelude.{◌≡◌, ◌≤◌, ℕ, zero, suc, List, [], �
 use Rattle.std.proofs.Common.{refl, sym, ◌∙◌, ap, subst}
 use Rattle.flash_tree.specs.declared.place.FreshPage.{FreshPage}
 use Rattle.pages.specs.Changes.{AreApart, AreSized}
-use Rattle.objects.specs.Changing.{AreOfObjects}
+use Rattle.pages.specs.Changes.{AreOfObjects}
 
 first_only : (p q : FreshPage) (i : ℕ) → slice_get (p ∷ []) i ≡ Some q → (i ≡ 0) × (q ≡ p)
 first_only p q zero is = (refl, cc)

@@ -28,8 +28,11 @@ use Rattle.page_buffer.specs.Buffering.{Buffers, lacks, new_keys, with_new}
 use Rattle.page_cache.specs.declared.cache.PageCache.{PageCache}
 use Rattle.volume_terms.specs.declared.fault.StoreFault.{StoreFault}
 use Rattle.objects.specs.Caching.{Shows, HasNoMore, LacksCuts, LacksPages, AreIn}
-use Rattle.commits.specs.Carrying.{Carries, AreWritable}
-use Rattle.objects.specs.Changing.{AreOfObjects, SamePages, IsCommitFault, fault_of}
+use Rattle.commits.specs.Carrying.{AreWritable}
+use Rattle.pages.specs.Stores.{Carries}
+use Rattle.objects.specs.Changing.{IsCommitFault, fault_of}
+use Rattle.pages.specs.Changes.{AreOfObjects}
+use Rattle.pages.specs.Stores.{SamePages}
 use Rattle.nand_model.specs.declared.geometry.Geometry.{Geometry}
 use Rattle.collector.specs.Making.{WhyNoRoom}
 use Rattle.collector.specs.declared.fault.RoomFault.{RoomFault}

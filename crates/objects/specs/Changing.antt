@@ -1,24 +1,14 @@
 -- What changes and commits of a store leave.
-use Rattle.std.specs.Prelude.{◌≡◌, ◌⊎◌, ◌≤◌, ℕ, Bool, true, false, List, Some, slice_get}
+use Rattle.std.specs.Prelude.{◌≡◌, ◌⊎◌, ◌≤◌, ℕ, Bool, true, false}
 use Rattle.nand_model.specs.Calls.{Device}
-use Rattle.flash_tree.specs.declared.place.FreshPage.{FreshPage}
 use Rattle.collector.specs.Making.{LeavesRoom}
 use Rattle.collector.specs.declared.fault.RoomFault.{RoomFault}
 use Rattle.collector.specs.declared.fault.RoomFault.TheVariants as causes
 use Rattle.block_state.specs.Table.{Table}
 use Rattle.bad_blocks.specs.Moving.{WhyNotMoved}
 use Rattle.bad_blocks.specs.declared.fault.MoveFault.TheVariants as moves
-use Rattle.pages.specs.Maps.{PageMap}
 use Rattle.volume_terms.specs.declared.fault.StoreFault.{StoreFault}
 use Rattle.volume_terms.specs.declared.fault.StoreFault.TheVariants as faults
-
--- each page is of an object: none is of object 0
-abbrev pub AreOfObjects : List FreshPage → Type 0
-AreOfObjects pages = (i : ℕ) (p : FreshPage) → slice_get pages i ≡ Some p → 1 ≤ p.key.object
-
--- each key has the same page in both
-abbrev pub SamePages : PageMap → PageMap → Type 0
-SamePages m n = (o c : ℕ) → m o c ≡ n o c
 
 -- what a fault of a commit is to those above: there are no more blocks or numbers, or the device failed
 abbrev pub fault_of : RoomFault → StoreFault

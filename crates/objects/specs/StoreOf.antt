@@ -3,8 +3,9 @@ use Rattle.std.specs.Prelude.{ℕ, Bool, true, false, not, ◌&&◌, ◌||◌, L
 use Rattle.nand_model.specs.Calls.{Device}
 use Rattle.chunk_index.specs.declared.index.Index.{Index}
 use Rattle.pages.specs.Maps.{PageMap}
-use Rattle.pages.specs.State.{PagesState}
-use Rattle.page_buffer.specs.BufferOf.{buffered}
+use Rattle.block_state.specs.Table.{Table}
+use Rattle.pages.specs.State.{PagesState, NextNumbers}
+use Rattle.page_buffer.specs.BufferOf.{buffered, most_pages}
 use Rattle.page_buffer.specs.Shown.{kept_data, present_data}
 use Rattle.page_buffer.specs.declared.buffer.Buffer.{Buffer}
 use Rattle.page_cache.specs.declared.cache.PageCache.{PageCache}
@@ -24,15 +25,24 @@ kept_map device x = known device.honest (kept_data x device.flash)
 abbrev pub present_map : Device → Index → Buffer → PageMap
 present_map device x buffer = known device.honest (present_data x (buffered buffer) device.flash)
 
+-- the numbers that the next group and the next block get
+abbrev pub next_numbers : Table → NextNumbers
+next_numbers t = record { group = t.next_group; seq = t.next_seq }
+
 -- A store as a store of pages: it is sound where its device is honest and no change or commit failed, and it has failed
 -- where its device is gone or is not honest, or a change or commit failed.
-abbrev pub seen : Device → Index → Buffer → PageCache → List ℕ → Found → (broken refused : Bool) → PagesState
-seen device x buffer cache scratch found broken refused = record {
+abbrev pub seen : Device → Table → Index → Buffer → PageCache → List ℕ → Found → (spare : ℕ) → (broken refused : Bool) → PagesState
+seen device t x buffer cache scratch found spare broken refused = record {
   page_bytes = device.geometry.bytes;
+  most = most_pages buffer;
   present = present_map device x buffer;
+  kept = kept_map device x;
   lent = found_bytes (buffered buffer) cache scratch found;
   sound = device.honest && not broken;
   failed = device.gone || (not device.honest || broken);
   refused = refused;
   asked = device.reads;
+  device = device;
+  next = next_numbers t;
+  spare = spare;
 }

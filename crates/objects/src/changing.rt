@@ -12,8 +12,10 @@ ghost use Rattle.page_buffer.specs.Buffering.{ArePrepared, AreReady, with_new};
 ghost use Rattle.page_cache.specs.Changes.{KeepsSizes};
 ghost use Rattle.volume_terms.specs.declared.fault.StoreFault.TheVariants as faults;
 ghost use Rattle.objects.specs.Caching.{HasNoMore, LacksCuts, LacksPages};
-ghost use Rattle.commits.specs.Carrying.{Carries};
-ghost use Rattle.objects.specs.Changing.{AreOfObjects, SamePages, IsCommitFault, IsChangeFault};
+ghost use Rattle.pages.specs.Stores.{Carries};
+ghost use Rattle.objects.specs.Changing.{IsCommitFault, IsChangeFault};
+ghost use Rattle.pages.specs.Changes.{AreOfObjects};
+ghost use Rattle.pages.specs.Stores.{SamePages};
 
 use crate::caching::{drop_cuts, drop_pages, make_places};
 use crate::store::{Found, Store};

@@ -6,8 +6,9 @@ ghost use Rattle.chunk_index.specs.Maps.{IsReady as IsReadyKey};
 ghost use Rattle.transactions.specs.Handing.{HandsOut};
 ghost use Rattle.bad_blocks.specs.Moving.{MarksFailures};
 ghost use Rattle.page_buffer.specs.BufferOf.{buffered};
-ghost use Rattle.commits.specs.Carrying.{Carries};
-ghost use Rattle.objects.specs.Changing.{SamePages, IsCommitFault, fault_of};
+ghost use Rattle.pages.specs.Stores.{Carries};
+ghost use Rattle.objects.specs.Changing.{IsCommitFault, fault_of};
+ghost use Rattle.pages.specs.Stores.{SamePages};
 
 use crate::caching::keep_written;
 use crate::store::{Found, Store};

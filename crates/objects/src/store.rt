@@ -15,8 +15,8 @@ ghost use Rattle.nand_model.specs.Changes.{OnlyReads};
 ghost use Rattle.objects.specs.Found.{IsFound, found_bytes};
 ghost use Rattle.objects.specs.Reading.{IsFindFault};
 ghost use Rattle.objects.specs.Caching.{Shows};
-ghost use Rattle.commits.specs.Carrying.{Carries};
-ghost use Rattle.objects.specs.Changing.{AreOfObjects};
+ghost use Rattle.pages.specs.Stores.{Carries};
+ghost use Rattle.pages.specs.Changes.{AreOfObjects};
 ghost use Rattle.objects.specs.laws.OneProof.{stands_prop, carried_prop};
 
 use crate::reading::load_kept;
@@ -175,7 +175,7 @@ impl<N: Nand> Store<N> {
     fn find_kept(&mut self, key: Key, at: KeptPage) -> Result<Presence, StoreFault>
         requires { present self.old.index key.object key.chunk ≡ presents.OnFlash at }
         ensures reads { OnlyReads (N.state self.old.device) (N.state self.new.device) }
-        ensures same { (self.new.index ≡ self.old.index) × (self.new.buffer ≡ self.old.buffer) × (self.new.broken ≡ self.old.broken) }
+        ensures same { (self.new.index ≡ self.old.index) × (self.new.buffer ≡ self.old.buffer) × (self.new.broken ≡ self.old.broken) × (self.new.blocks ≡ self.old.blocks) × (self.new.spare ≡ self.old.spare) }
         ensures asked { (N.state self.new.device).reads ≤ (N.state self.old.device).reads + 1 }
         ensures refused { self.old.refused ≡ true → self.new.refused ≡ true }
         ensures there { IfOk result (λ presence. presence ≡ Presence.Present) }
@@ -205,7 +205,7 @@ impl<N: Nand> Store<N> {
 impl<N: Nand> Pages for Store<N> {
     ghost use Rattle.objects.specs.StoreOf.{seen};
 
-    ghost state = { λ s. seen (N.state s.device) s.index s.buffer s.cache s.scratch.items s.found s.broken s.refused };
+    ghost state = { λ s. seen (N.state s.device) (table s.blocks) s.index s.buffer s.cache s.scratch.items s.found s.spare s.broken s.refused };
 
     ghost sized = { λ s. ((N.state s.device).geometry.least_bytes, (N.state s.device).geometry.most_bytes) };
 

@@ -5,7 +5,7 @@ ghost use Rattle.block_state.specs.Kept.{bad_count};
 ghost use Rattle.block_state.specs.TableOf.{table};
 ghost use Rattle.bad_blocks.specs.Standing.{HasFree};
 ghost use Rattle.pages.specs.Changes.{AreApart, AreSized};
-ghost use Rattle.objects.specs.Changing.{AreOfObjects};
+ghost use Rattle.pages.specs.Changes.{AreOfObjects};
 
 use super::*;
 use block_state::Blocks;

@@ -17,12 +17,17 @@ changed_by (Some change) m = changed change m
 abbrev pub after : Option Change → PagesState → PagesState
 after earlier p = record {
   page_bytes = p.page_bytes;
+  most = p.most;
   present = changed_by earlier p.present;
+  kept = p.kept;
   lent = p.lent;
   sound = p.sound;
   failed = p.failed;
   refused = p.refused;
   asked = p.asked;
+  device = p.device;
+  next = p.next;
+  spare = p.spare;
 }
 
 -- the bytes of a page, or what was lent where there is none

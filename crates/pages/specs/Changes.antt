@@ -13,6 +13,10 @@ AreApart pages = (o c i j : ℕ) → IsOf pages o c i → IsOf pages o c j → i
 abbrev pub AreSized : List FreshPage → ℕ → Type 0
 AreSized pages bytes = (i : ℕ) (p : FreshPage) → slice_get pages i ≡ Some p → length p.bytes.items ≡ bytes
 
+-- each page is of an object: none is of object 0
+abbrev pub AreOfObjects : List FreshPage → Type 0
+AreOfObjects pages = (i : ℕ) (p : FreshPage) → slice_get pages i ≡ Some p → 1 ≤ p.key.object
+
 -- at most so many pages, of so many bytes each, and each of a key of its own
 pub record IsChange (change : Change) (bytes most : ℕ) : Type 0 where
   pub apart : AreApart change.pages.items

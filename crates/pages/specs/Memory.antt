@@ -1,7 +1,43 @@
 -- Pages in memory.
-use Rattle.std.specs.Prelude.{None}
+use Rattle.std.specs.Prelude.{ℕ, false, None}
+use Rattle.std.proofs.Common.{refl, arith, inl}
+use Rattle.nand_model.specs.Size.{IsSize}
+use Rattle.nand_model.specs.Flash.{Flash, Erased}
+use Rattle.nand_model.specs.Calls.{Device}
+use Rattle.nand_model.specs.declared.geometry.Geometry.{Geometry}
 use Rattle.pages.specs.Maps.{PageMap}
+use Rattle.pages.specs.State.{NextNumbers}
 
 -- no key has a page
 abbrev pub nothing : PageMap
 nothing o c = None
+
+least_size : IsSize 512 32 5
+least_size = record { bytes_of_page = inl refl; pages_of_block = inl refl; few_blocks = (omega arith, omega arith) }
+
+-- the sizes of the least device
+pub least_geometry : Geometry
+least_geometry = record {
+  bytes = 512;
+  pages = 32;
+  blocks = 5;
+  least_bytes = omega arith;
+  most_bytes = omega arith;
+  least_pages = omega arith;
+  most_pages = omega arith;
+  least_blocks = omega arith;
+  most_blocks = omega arith;
+  sizes = ∣ least_size ∣₁;
+}
+
+-- a flash on which nothing is written
+abbrev pub blank_flash : Flash
+blank_flash = record { bad = λ b. false; next = λ b. None; page = λ b p. Erased }
+
+-- no device: one that promises nothing
+abbrev pub no_device : Device
+no_device = record { geometry = least_geometry; flash = blank_flash; gone = false; honest = false; cuts = 0; failures = 0; changes = 0; reads = 0 }
+
+-- no number was handed out
+abbrev pub first_numbers : NextNumbers
+first_numbers = record { group = 0; seq = 0 }

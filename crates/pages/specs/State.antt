@@ -1,30 +1,48 @@
 -- What is known of a store's pages at one moment, and what a look-up leaves of it.
 use Rattle.std.specs.Prelude.{◌≡◌, ◌≤◌, ℕ, Bool, true, List, Some, None}
+use Rattle.nand_model.specs.Calls.{Device}
+use Rattle.nand_model.specs.Changes.{OnlyReads}
 use Rattle.pages.specs.Maps.{PageMap}
 use Rattle.pages.specs.declared.store.Presence.{Presence}
 use Rattle.pages.specs.declared.store.Presence.TheVariants as presences
 use Rattle.volume_terms.specs.declared.fault.StoreFault.{StoreFault}
 use Rattle.volume_terms.specs.declared.fault.StoreFault.TheVariants as faults
 
--- The bytes of a page, the page of each key, the page that was found last, whether the store keeps what it is told,
--- whether its device has failed, whether it was refused memory, and how many pages it has asked for so far.
+-- the numbers that the next group and the next block get
+pub record NextNumbers : Type 0 where
+  pub group : ℕ
+  pub seq : ℕ
+
+-- The bytes of a page, how many pages a change has at most, the page of each key now and at the last commit, the page that
+-- was found last, whether the store keeps what it is told, whether its device has failed, whether it was refused memory, how
+-- many pages it has asked for so far; and its device, the numbers that come next, and how many blocks may be bad.
 pub record PagesState : Type 0 where
   pub page_bytes : ℕ
+  pub most : ℕ
   pub present : PageMap
+  pub kept : PageMap
   pub lent : List ℕ
   pub sound : Bool
   pub failed : Bool
   pub refused : Bool
   pub asked : ℕ
+  pub device : Device
+  pub next : NextNumbers
+  pub spare : ℕ
 
 -- a call that only looks for pages keeps all but the page that was found last
 pub record OnlyFinds (old new : PagesState) : Type 0 where
   pub page_bytes : new.page_bytes ≡ old.page_bytes
+  pub most : new.most ≡ old.most
   pub present : new.present ≡ old.present
+  pub kept : new.kept ≡ old.kept
   pub sound : new.sound ≡ old.sound
   pub failed : old.failed ≡ true → new.failed ≡ true
   pub refused : old.refused ≡ true → new.refused ≡ true
   pub asked : old.asked ≤ new.asked
+  pub device : OnlyReads old.device new.device
+  pub next : new.next ≡ old.next
+  pub spare : new.spare ≡ old.spare
 
 -- the key has the page that is lent, or none
 abbrev pub FindsPage : PageMap → ℕ → ℕ → List ℕ → Presence → Type 0

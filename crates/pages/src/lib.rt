@@ -5,8 +5,10 @@ mod after;
 mod change;
 mod fault;
 mod law;
+mod known;
 mod loading;
 mod memory;
+mod page_store;
 mod store;
 
 pub use after::{Source, load_after, page_after};
@@ -15,6 +17,8 @@ pub use fault::PageFault;
 pub use law::{
     changes_of_two_objects_commute, no_change_keeps_all_pages, other_objects_keep_their_pages,
 };
+pub use known::KnownPages;
 pub use loading::load;
 pub use memory::{Lack, MemPages, Refusal};
+pub use page_store::PageStore;
 pub use store::{Pages, Presence};

@@ -1,7 +1,7 @@
 // Changes of a store, put together page by page.
 ghost use Rattle.std.specs.Prelude.{◌≡◌, ◌≤◌, IsTrue, IfOk, length};
 ghost use Rattle.pages.specs.Changes.{AreApart, AreSized};
-ghost use Rattle.objects.specs.Changing.{AreOfObjects};
+ghost use Rattle.pages.specs.Changes.{AreOfObjects};
 
 use flash_tree::{FreshPage, Key};
 use nand_model::MemNand;

@@ -16,7 +16,7 @@ use Rattle.bad_blocks.specs.Standing.{IsKeptAt, AreKept, TablesAgree, Stands}
 use Rattle.nand_model.specs.Calls.{Device}
 use Rattle.block_state.specs.Table.{Table}
 use Rattle.pages.specs.Maps.{PageMap}
-use Rattle.commits.specs.Carrying.{Carries}
+use Rattle.pages.specs.Stores.{Carries}
 
 abbrev tag_from : (f : Flash) (b p : ℕ) (t : Tag) → (bytes : List ℕ) × ((f.page b p ≡ Written bytes (tag_bytes t)) × IsTag t) → HasTag f b p t
 tag_from f b p t s = record { bytes = s.0; page = s.1.0; valid = s.1.1 }

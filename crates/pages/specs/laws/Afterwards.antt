@@ -9,11 +9,16 @@ use Rattle.pages.specs.declared.change.Change.{Change}
 pub finds_after : (earlier : Option Change) (a b : PagesState) → OnlyFinds a b → OnlyFinds (after earlier a) (after earlier b)
 finds_after earlier a b x = record {
   page_bytes = x.page_bytes;
+  most = x.most;
   present = ap (changed_by earlier) x.present;
+  kept = x.kept;
   sound = x.sound;
   failed = x.failed;
   refused = x.refused;
   asked = x.asked;
+  device = x.device;
+  next = x.next;
+  spare = x.spare;
 }
 
 -- pages of so many bytes

@@ -1,16 +1,34 @@
 -- Look-ups one after the other.
 use Rattle.std.proofs.Common.{refl, ◌∙◌, arith}
+use Rattle.nand_model.specs.laws.Changes.{only_reads_on, only_reads_here}
 use Rattle.pages.specs.State.{PagesState, OnlyFinds}
 
 pub finds_none : (a : PagesState) → OnlyFinds a a
-finds_none a = record { page_bytes = refl; present = refl; sound = refl; failed = λ is. is; refused = λ is. is; asked = omega arith }
+finds_none a = record {
+  page_bytes = refl;
+  most = refl;
+  present = refl;
+  kept = refl;
+  sound = refl;
+  failed = λ is. is;
+  refused = λ is. is;
+  asked = omega arith;
+  device = only_reads_here a.device;
+  next = refl;
+  spare = refl;
+}
 
 pub finds_on : (a b c : PagesState) → OnlyFinds a b → OnlyFinds b c → OnlyFinds a c
 finds_on a b c x y = record {
   page_bytes = y.page_bytes ∙ x.page_bytes;
+  most = y.most ∙ x.most;
   present = y.present ∙ x.present;
+  kept = y.kept ∙ x.kept;
   sound = y.sound ∙ x.sound;
   failed = λ is. y.failed (x.failed is);
   refused = λ is. y.refused (x.refused is);
   asked = omega (arith, x.asked, y.asked);
+  device = only_reads_on a.device b.device c.device x.device y.device;
+  next = y.next ∙ x.next;
+  spare = y.spare ∙ x.spare;
 }

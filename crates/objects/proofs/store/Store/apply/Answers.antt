@@ -7,7 +7,7 @@ use Rattle.block_state.specs.declared.blocks.Blocks.{Blocks}
 use Rattle.chunk_index.specs.Maps.{SameKept}
 use Rattle.pages.specs.laws.Changes.{changed_same}
 use Rattle.page_buffer.specs.Buffering.{AreReady}
-use Rattle.commits.specs.Carrying.{Carries}
+use Rattle.pages.specs.Stores.{Carries}
 use Rattle.objects.specs.StoreOf.{kept_map, present_map}
 use Rattle.objects.proofs.Steps.{same_back, same_on, fits_on, kept_map_same, present_map_same, either_same, ready_prepared}
 use Rattle.objects.proofs.store.Store.apply.Goals as goal

@@ -1,0 +1,96 @@
+-- What a store of pages that is changed leaves.
+use Rattle.std.specs.Prelude.{◌≡◌, ◌≢◌, ◌⊎◌, ◌<◌, ◌≤◌, ◌^◌, ℕ, ◌+◌, ◌-◌, ◌*◌, true, false, List, length, slice_get, Some}
+use Rattle.nand_model.specs.Flash.{Flash}
+use Rattle.nand_model.specs.Calls.{Device, Lasts}
+use Rattle.flash_tree.specs.Newest.{HasNewest}
+use Rattle.flash_tree.specs.Mount.{bad_blocks}
+use Rattle.flash_tree.specs.FreeBlocks.{LeavesFree}
+use Rattle.flash_tree.specs.declared.place.Key.{Key}
+use Rattle.volume_terms.specs.declared.fault.StoreFault.{StoreFault}
+use Rattle.volume_terms.specs.declared.fault.StoreFault.TheVariants as faults
+use Rattle.pages.specs.Maps.{PageMap}
+use Rattle.pages.specs.State.{PagesState, NextNumbers}
+
+-- each key has the same page in both
+abbrev pub SamePages : PageMap → PageMap → Type 0
+SamePages m n = (o c : ℕ) → m o c ≡ n o c
+
+-- the key has a page
+abbrev pub HasPage : PageMap → ℕ → ℕ → Type 0
+HasPage m o c = (xs : List ℕ) × (m o c ≡ Some xs)
+
+-- each page of the map is the newest of its key on the flash
+abbrev pub Carries : Flash → PageMap → Type 0
+Carries flash m = (o c : ℕ) (xs : List ℕ) → m o c ≡ Some xs → HasNewest flash o c xs
+
+-- the device has the pages of the map, and blocks enough hold none of them
+pub record IsCarried (device : Device) (spare : ℕ) (m : PageMap) : Type 0 where
+  pub newest : Carries device.flash m
+  pub free : LeavesFree device.geometry device.flash spare (HasPage m)
+
+-- No number is taken back, and no more are handed out than the device counted changes: block numbers on every path, and
+-- group numbers where an honest device still has power.
+pub record HandsOutNumbers (old new : Device) (n n' : NextNumbers) : Type 0 where
+  pub groups_rise : n.group ≤ n'.group
+  pub seqs_rise : n.seq ≤ n'.seq
+  pub seqs : n'.seq + old.changes ≤ n.seq + new.changes
+  pub groups : old.honest ≡ true → new.gone ≡ false → n'.group + old.changes ≤ n.group + new.changes
+
+-- how many blocks of a device are bad
+abbrev pub bad_on : Device → ℕ
+bad_on device = bad_blocks device.geometry device.flash
+
+-- What every call of a store keeps, whatever its device does: the sizes, and what calls of the device keep. Each block that
+-- goes bad answers a failure that the device counted.
+pub record GoesOn (old new : PagesState) : Type 0 where
+  pub page_bytes : new.page_bytes ≡ old.page_bytes
+  pub most : new.most ≡ old.most
+  pub spare : new.spare ≡ old.spare
+  pub refused : old.refused ≡ true → new.refused ≡ true
+  pub failed : old.failed ≡ true → new.failed ≡ true
+  pub device : Lasts old.device new.device
+  pub numbers : HandsOutNumbers old.device new.device old.next new.next
+  pub marks : bad_on new.device + old.device.failures ≤ bad_on old.device + new.device.failures
+
+-- Where the store is sound still, these are the pages of its last commit; an honest device has them, in either case.
+pub record KeptAs (new : PagesState) (m : PageMap) : Type 0 where
+  pub carried : new.device.honest ≡ true → IsCarried new.device new.spare m
+  pub kept : new.sound ≡ true → SamePages new.kept m
+
+-- The pages that were kept are so still, or those are that were present: all of the ones, or all of the others.
+abbrev pub KeepsEither : PagesState → PagesState → Type 0
+KeepsEither old new = KeptAs new old.kept ⊎ KeptAs new old.present
+
+-- nothing changed, but for what is lent
+pub record StaysSame (old new : PagesState) : Type 0 where
+  pub present : SamePages new.present old.present
+  pub kept : SamePages new.kept old.kept
+  pub sound : new.sound ≡ old.sound
+  pub device : new.device ≡ old.device
+  pub next : new.next ≡ old.next
+
+-- More is kept than leaves room for a change: with so many pages in each of all blocks that are not to spare but one, there
+-- are more.
+pub record IsCrowded (p : PagesState) : Type 0 where
+  pub keys : List Key
+  pub once : (i j : ℕ) (k : Key) → slice_get keys i ≡ Some k → slice_get keys j ≡ Some k → i ≡ j
+  pub each : (i : ℕ) (k : Key) → slice_get keys i ≡ Some k → HasPage p.kept k.object k.chunk
+  pub many : (p.device.geometry.blocks - p.spare - 1) * (p.device.geometry.pages - p.most) < length keys
+
+-- Nothing is left to write with: a number of 2^62 would be needed, more blocks are bad than there are to spare, there are too
+-- few blocks, or more is kept than leaves room.
+abbrev pub IsWornOut : PagesState → PagesState → Type 0
+IsWornOut old new = (2 ^ 62 ≤ new.next.group) ⊎ (2 ^ 62 ≤ new.next.seq) ⊎ (new.spare < bad_on new.device)
+    ⊎ (new.device.geometry.blocks < new.spare + 2) ⊎ IsCrowded old
+
+-- each fault of a change has its cause
+abbrev pub ChangeFailsBy : PagesState → PagesState → StoreFault → Type 0
+ChangeFailsBy old new faults.NoMemory = new.refused ≡ true
+ChangeFailsBy old new faults.Device = new.failed ≡ true
+ChangeFailsBy old new faults.Worn = IsWornOut old new
+
+-- each fault of a commit, and of a cut, which take no memory
+abbrev pub CommitFailsBy : PagesState → PagesState → StoreFault → Type 0
+CommitFailsBy old new faults.NoMemory = ⊥
+CommitFailsBy old new faults.Device = new.failed ≡ true
+CommitFailsBy old new faults.Worn = IsWornOut old new

@@ -1,0 +1,53 @@
+// Pages that are changed and kept.
+ghost use Rattle.std.specs.Prelude.{◌≡◌, ◌⊎◌, ◌≤◌, true, false, length, OnOk, IfErr, IsErrOf, ◌∷◌, []};
+ghost use Rattle.pages.specs.Changes.{AreApart, AreSized, AreOfObjects};
+ghost use Rattle.pages.specs.Maps.{changed, without_cuts};
+ghost use Rattle.pages.specs.Stores.{SamePages, GoesOn, KeptAs, KeepsEither, StaysSame, ChangeFailsBy, CommitFailsBy};
+ghost use Rattle.volume_terms.specs.declared.fault.StoreFault.TheVariants as faults;
+
+use crate::change::{Change, Cut};
+use crate::store::Pages;
+use volume_terms::StoreFault;
+
+/// Pages that are changed, all of a change or none of it, and kept from one commit to the next.
+///
+/// After a fault other than `NoMemory` the store is sound no longer. Its device has the pages that were kept, or those that
+/// were present.
+pub trait PageStore: Pages {
+    /// How many pages a change has at most.
+    fn most_pages(&self) -> u32
+        ensures { result ≡ (Self.state self.now).most };
+
+    /// Makes a change of what is present, or none where memory is refused. What is present may be committed before.
+    fn apply(&mut self, change: Change) -> Result<(), StoreFault>
+        requires apart { AreApart change.pages.items }
+        requires size { AreSized change.pages.items (Self.state self.old).page_bytes }
+        requires few { length change.pages.items ≤ (Self.state self.old).most }
+        requires objects { AreOfObjects change.pages.items }
+        ensures goes_on { GoesOn (Self.state self.old) (Self.state self.new) }
+        ensures sound { OnOk result ((Self.state self.old).sound ≡ true → (Self.state self.new).sound ≡ true) }
+        ensures present { (Self.state self.old).sound ≡ true → OnOk result (SamePages (Self.state self.new).present (changed change (Self.state self.old).present)) }
+        ensures kept { (Self.state self.old).sound ≡ true → KeepsEither (Self.state self.old) (Self.state self.new) }
+        ensures refused { IsErrOf result faults.NoMemory → StaysSame (Self.state self.old) (Self.state self.new) }
+        ensures stops { IfErr result (λ fault. (fault ≡ faults.NoMemory) ⊎ ((Self.state self.new).sound ≡ false)) }
+        ensures fault { (Self.state self.old).sound ≡ true → IfErr result (ChangeFailsBy (Self.state self.old) (Self.state self.new)) };
+
+    /// Cuts pages of an object. It makes no call of the device and takes no memory.
+    fn cut(&mut self, cut: Cut) -> Result<(), StoreFault>
+        ensures goes_on { GoesOn (Self.state self.old) (Self.state self.new) }
+        ensures sound { OnOk result ((Self.state self.old).sound ≡ true → (Self.state self.new).sound ≡ true) }
+        ensures present { (Self.state self.old).sound ≡ true → OnOk result (SamePages (Self.state self.new).present (without_cuts (cut ∷ []) (Self.state self.old).present)) }
+        ensures kept { (Self.state self.old).sound ≡ true → KeptAs (Self.state self.new) (Self.state self.old).kept }
+        ensures stops { IfErr result (λ fault. (Self.state self.new).sound ≡ false) }
+        ensures fault { (Self.state self.old).sound ≡ true → IfErr result (CommitFailsBy (Self.state self.old) (Self.state self.new)) };
+
+    /// Keeps what is present: its device has all of it then. It takes no memory.
+    fn commit(&mut self) -> Result<(), StoreFault>
+        ensures goes_on { GoesOn (Self.state self.old) (Self.state self.new) }
+        ensures sound { OnOk result ((Self.state self.old).sound ≡ true → (Self.state self.new).sound ≡ true) }
+        ensures present { (Self.state self.old).sound ≡ true → OnOk result (SamePages (Self.state self.new).present (Self.state self.old).present) }
+        ensures kept { (Self.state self.old).sound ≡ true → KeepsEither (Self.state self.old) (Self.state self.new) }
+        ensures committed { (Self.state self.old).sound ≡ true → OnOk result (KeptAs (Self.state self.new) (Self.state self.old).present) }
+        ensures stops { IfErr result (λ fault. (Self.state self.new).sound ≡ false) }
+        ensures fault { (Self.state self.old).sound ≡ true → IfErr result (CommitFailsBy (Self.state self.old) (Self.state self.new)) };
+}

@@ -2,10 +2,11 @@
 use Rattle.std.specs.Prelude.{◌≡◌, ◌≢◌, ◌⊎◌, ◌<◌, ◌≤◌, ◌^◌, ℕ, ◌+◌, ◌-◌, ◌*◌, true, false, List, length, slice_get, Some}
 use Rattle.nand_model.specs.Flash.{Flash}
 use Rattle.nand_model.specs.Calls.{Device, Lasts}
-use Rattle.flash_tree.specs.Newest.{HasNewest}
+use Rattle.flash_tree.specs.Newest.{HasNewest, AreAbove}
 use Rattle.flash_tree.specs.Mount.{bad_blocks}
 use Rattle.flash_tree.specs.FreeBlocks.{LeavesFree}
 use Rattle.flash_tree.specs.declared.place.Key.{Key}
+use Rattle.volume_terms.specs.Sizes.{number_limit}
 use Rattle.volume_terms.specs.declared.fault.StoreFault.{StoreFault}
 use Rattle.volume_terms.specs.declared.fault.StoreFault.TheVariants as faults
 use Rattle.pages.specs.Maps.{PageMap}
@@ -40,8 +41,12 @@ pub record HandsOutNumbers (old new : Device) (n n' : NextNumbers) : Type 0 wher
 abbrev pub bad_on : Device → ℕ
 bad_on device = bad_blocks device.geometry device.flash
 
+-- no valid tag of a good block has a number of 2^62 or more
+abbrev pub HasNumbersLeft : Flash → Type 0
+HasNumbersLeft flash = AreAbove flash (record { version = number_limit; group = number_limit; seq = number_limit })
+
 -- What every call of a store keeps, whatever its device does: the sizes, and what calls of the device keep. Each block that
--- goes bad answers a failure that the device counted.
+-- goes bad answers a failure that the device counted. No number of 2^62 is written.
 pub record GoesOn (old new : PagesState) : Type 0 where
   pub page_bytes : new.page_bytes ≡ old.page_bytes
   pub most : new.most ≡ old.most
@@ -51,6 +56,7 @@ pub record GoesOn (old new : PagesState) : Type 0 where
   pub device : Lasts old.device new.device
   pub numbers : HandsOutNumbers old.device new.device old.next new.next
   pub marks : bad_on new.device + old.device.failures ≤ bad_on old.device + new.device.failures
+  pub limits : old.device.honest ≡ true → HasNumbersLeft old.device.flash → HasNumbersLeft new.device.flash
 
 -- Where the store is sound still, these are the pages of its last commit; an honest device has them, in either case.
 pub record KeptAs (new : PagesState) (m : PageMap) : Type 0 where

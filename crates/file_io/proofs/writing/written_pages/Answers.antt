@@ -169,3 +169,6 @@ returns-clause-told g c = λ sound.
     (kept_pages old.present o bits d len off n (omega (arith, c.from-page_bytes.ensures, c.page_bytes.ensures.least))
     (λ k low less part. c.loop-index.invariant.told sound k low (omega (arith, less, past)) part)
     (λ before. subst (λ x. HasPages old.present o bits (IsPartLast x len)) (sym size_old) (c.in_ok-fresh.ensures.told sound (subst (λ x. len / x < off / d) size_old before))))
+
+pub returns-in_err-push-clause-finds : goal.returns-in_err-push-clause-finds
+returns-in_err-push-clause-finds g c = finds_on _ _ _ c.loop-index.invariant.finds c.written_bytes.ensures.finds

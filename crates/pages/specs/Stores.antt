@@ -24,10 +24,14 @@ HasPage m o c = (xs : List ℕ) × (m o c ≡ Some xs)
 abbrev pub Carries : Flash → PageMap → Type 0
 Carries flash m = (o c : ℕ) (xs : List ℕ) → m o c ≡ Some xs → HasNewest flash o c xs
 
--- the device has the pages of the map, and blocks enough hold none of them
+-- no valid tag of a good block has a number of 2^62 or more
+abbrev pub HasNumbersLeft : Flash → Type 0
+HasNumbersLeft flash = AreAbove flash (record { version = number_limit; group = number_limit; seq = number_limit })
+
+-- the device has the pages of the map, and, as long as numbers are left, blocks enough that hold none of them
 pub record IsCarried (device : Device) (spare : ℕ) (m : PageMap) : Type 0 where
   pub newest : Carries device.flash m
-  pub free : LeavesFree device.geometry device.flash spare (HasPage m)
+  pub free : HasNumbersLeft device.flash → LeavesFree device.geometry device.flash spare (HasPage m)
 
 -- No number is taken back, and no more are handed out than the device counted changes: block numbers on every path, and
 -- group numbers where an honest device still has power.
@@ -40,10 +44,6 @@ pub record HandsOutNumbers (old new : Device) (n n' : NextNumbers) : Type 0 wher
 -- how many blocks of a device are bad
 abbrev pub bad_on : Device → ℕ
 bad_on device = bad_blocks device.geometry device.flash
-
--- no valid tag of a good block has a number of 2^62 or more
-abbrev pub HasNumbersLeft : Flash → Type 0
-HasNumbersLeft flash = AreAbove flash (record { version = number_limit; group = number_limit; seq = number_limit })
 
 -- What every call of a store keeps, whatever its device does: the sizes, and what calls of the device keep. Each block that
 -- goes bad answers a failure that the device counted. No number of 2^62 is written.

@@ -121,6 +121,9 @@ with_prop f o c xs x y =
     ap (with_from f o c xs) (Σ_prop_path (λ (s : Spot). Prim.hlevel (props, newest_prop f o c s))
     {u = (x.spot, (x.newest, x.stored))} {v = (y.spot, (y.newest, y.stored))} (one_spot f o c x.spot y.spot x.newest y.newest))
 
+pub carries_prop : (f : Flash) (m : PageMap) → IsProp (Carries f m)
+carries_prop f m x y = λ k o c xs is. with_prop f o c xs (x o c xs is) (y o c xs is) k
+
 -- where no commit failed, and of an honest device
-pub carried_prop : (broken honest : Bool) (f : Flash) (m : PageMap) → IsProp (broken ≡ false → honest ≡ true → Carries f m)
-carried_prop broken honest f m x y = λ k whole told o c xs is. with_prop f o c xs (x whole told o c xs is) (y whole told o c xs is) k
+pub newest_kept_prop : (broken honest : Bool) (f : Flash) (m : KeptMap) → IsProp (broken ≡ false → honest ≡ true → AreKept f m)
+newest_kept_prop broken honest f m x y = λ k whole told. are_kept_prop f m (x whole told) (y whole told) k

@@ -79,8 +79,8 @@ pub fn commit<N: Nand>(
     ensures waits { WaitsOrSettles index.old index.new (buffered buffer.old) (buffered buffer.new) }
     ensures sizes { SameSizes buffer.old buffer.new }
     ensures keys { StaysReady index.old index.new }
-    // Wherever it ends, the flash carries what was kept, or all that was present.
-    ensures newest { (N.state device.old).honest ≡ true → CarriesEither index.old (buffered buffer.old) (N.state device.old).flash (N.state device.new).flash }
+    // Wherever it ends, the device carries what was kept, or all that was present, with blocks enough free of it.
+    ensures newest { (N.state device.old).honest ≡ true → CarriesEither spare index.old (buffered buffer.old) (N.state device.old) (N.state device.new) }
     ensures data { (N.state device.old).honest ≡ true → KeepsOrShows index.old (buffered buffer.old) (N.state device.old).flash (N.state device.new).flash }
     ensures no_call { buffered buffer.old ≡ [] → N.state device.new ≡ N.state device.old }
     ensures no_move { buffered buffer.old ≡ [] → (o c : ℕ) (p : KeptPage) → kept_pages index.new o c ≡ Some p → kept_pages index.old o c ≡ Some p }

@@ -89,6 +89,7 @@ stands_read spare a b t x reads stands = record {
   newest = λ honest power.
       let before : a.honest ≡ true = sym reads.lasts.honest ∙ honest in
       subst (λ (f : Flash). AreKept f (kept_pages x)) (sym (same_flash a b reads before)) (stands.newest before (had_power a b reads.lasts power));
+  limits = stands.limits;
 }
 
 -- kept pages are still the newest of their keys

@@ -1,5 +1,5 @@
 -- What a change and a commit leave of a store.
-use Rattle.std.specs.Prelude.{◌≡◌, ◌⊎◌, ◌<◌, ◌≤◌, ◌^◌, ℕ, Bool, true, false, List, [], ◌∷◌, length, Option, Some, None, IsSome, IsTrue, Result, Ok, Err, OnOk, slice_get}
+use Rattle.std.specs.Prelude.{◌≡◌, ◌<◌, ◌≤◌, ◌^◌, ℕ, Bool, true, false, List, [], ◌∷◌, length, Option, Some, None, IsSome, IsTrue, Result, Ok, Err, OnOk, slice_get}
 use Rattle.std.specs.Option.{option_map, option_and_then}
 use Rattle.std.proofs.Common.{refl, sym, ◌∙◌, ap, subst, inl, inr, arith}
 use Rattle.std.proofs.lemmas.Bool.{cases_eq, false≢true}
@@ -64,6 +64,7 @@ module _ (x y : Index) (same : SameKept x y) where
       unkept = stands.tables.unkept;
     };
     newest = λ honest power o c p is. stands.newest honest power o c p (sym (same.kept o c) ∙ is);
+    limits = stands.limits;
   }
 
 -- where no key's present page changes

@@ -17,7 +17,8 @@ use Rattle.chunk_index.specs.declared.index.Index.{Index}
 use Rattle.transactions.specs.Handing.{HandsOut}
 use Rattle.transactions.specs.Ready.{IsReady}
 use Rattle.bad_blocks.specs.Moving.{MarksFailures}
-use Rattle.bad_blocks.specs.Standing.{Stands}
+use Rattle.bad_blocks.specs.Standing.{IsWithinLimits}
+use Rattle.bad_blocks.specs.laws.FreeBlocks.{same_bad_blocks}
 use Rattle.pages.specs.Maps.{PageMap}
 use Rattle.pages.specs.State.{PagesState}
 use Rattle.pages.specs.Stores.{HandsOutNumbers, HasNumbersLeft, HasPage, IsCarried, IsCrowded, IsWornOut, KeptAs, SamePages, ChangeFailsBy, CommitFailsBy, bad_on}
@@ -25,7 +26,7 @@ use Rattle.volume_terms.specs.declared.fault.StoreFault.{StoreFault}
 use Rattle.volume_terms.specs.declared.fault.StoreFault.TheVariants as faults
 use Rattle.objects.specs.Changing.{IsWornOut as HasNothingLeft, IsCommitFault, IsChangeFault}
 use Rattle.objects.specs.StoreOf.{next_numbers}
-use Rattle.objects.proofs.Carried.{as_many_bad, carried_same}
+use Rattle.objects.proofs.Carried.{carried_same}
 use Rattle.objects.proofs.Steps.{same_back}
 
 -- ---- what every call keeps
@@ -35,15 +36,12 @@ hands_told d e t u hands = record { groups_rise = hands.groups_rise; seqs_rise =
 
 pub marks_told : (d e : Device) (t u : Table) → IsReady d t → IsReady e u → MarksFailures 0 0 d e t u → bad_on e + d.failures ≤ bad_on d + e.failures
 marks_told d e t u before after marks =
-    let was = as_many_bad d t before in
-    let is = as_many_bad e u after in
+    let was = same_bad_blocks d t before in
+    let is = same_bad_blocks e u after in
     omega (arith, was, is, marks)
 
-pub open_limits : (spare : ℕ) (d : Device) (t : Table) (x : Index) → Stands spare d t x → (t.next_group ≤ 2 ^ 62) × (t.next_seq ≤ 2 ^ 62)
-open_limits spare d t x stands = ?
-
 -- no number of 2^62 was written
-pub limits_told : (e : Device) (u : Table) → IsReady e u → (u.next_group ≤ 2 ^ 62) × (u.next_seq ≤ 2 ^ 62) → e.honest ≡ true → HasNumbersLeft e.flash
+pub limits_told : (e : Device) (u : Table) → IsReady e u → IsWithinLimits u → e.honest ≡ true → HasNumbersLeft e.flash
 limits_told e u ready limits honest b p tag good has =
     let below = ready.below honest b p tag good has in
     (omega (arith, below.0, limits.0), omega (arith, below.1, limits.0), omega (arith, below.2, limits.1))
@@ -182,7 +180,7 @@ module _ (p q : PagesState) (t u : Table) (x : Index) (count : ℕ) (table_is : 
   worn_told (inl (inl seq)) = inr (inl (subst (λ n. 2 ^ 62 ≤ n.seq) (sym next) seq))
   worn_told (inl (inr (inl group))) = inl (subst (λ n. 2 ^ 62 ≤ n.group) (sym next) group)
   worn_told (inl (inr (inr more))) =
-      let bad = as_many_bad q.device u ready in
+      let bad = same_bad_blocks q.device u ready in
       let over = more.0 in
       inr (inr (inl (omega (arith, spare, bad, over))))
   worn_told (inr full) = elim (cases_lt q.device.geometry.blocks (q.spare + 2)) [

@@ -1,4 +1,4 @@
-use Rattle.std.specs.Prelude.{◌≡◌, ◌⊎◌, ◌≤◌, ◌/◌, length, true, not, ◌&&◌, ◌||◌}
+use Rattle.std.specs.Prelude.{◌≡◌, ◌⊎◌, ◌≤◌, ◌/◌, length, not, ◌&&◌, ◌||◌}
 use Rattle.std.proofs.Common.{refl, ◌∙◌, sym, ap, subst, arith}
 use Rattle.std.proofs.lemmas.Bool.{or_left, or_right}
 use Rattle.nand_model.specs.Calls.{Device}
@@ -10,7 +10,7 @@ use Rattle.pages.specs.State.{PagesState}
 use Rattle.objects.specs.StoreOf.{kept_map, present_map, next_numbers, seen}
 use Rattle.objects.proofs.Carried.{has_page, store_carries}
 use Rattle.objects.proofs.ReadOnly.{sound_honest, sound_whole}
-use Rattle.objects.proofs.Told.{breaks_on, change_told, failed_stays, hands_told, is_sound, keeps_either, limits_told, open_limits, marks_told, sound_on, sound_stays, stops_told, ways}
+use Rattle.objects.proofs.Told.{breaks_on, change_told, failed_stays, hands_told, is_sound, keeps_either, limits_told, marks_told, sound_on, sound_stays, stops_told, ways}
 use Rattle.objects.proofs.page_store.StorePageStore.apply.Goals as goal
 
 pub returns-clause-goes_on : goal.returns-clause-goes_on
@@ -29,7 +29,7 @@ returns-clause-goes_on g c =
       device = e.lasts;
       numbers = hands_told old now (table self.blocks) (table new.blocks) e.numbers;
       marks = marks_told old now (table self.blocks) (table new.blocks) self.ready new.ready e.marks;
-      limits = λ honest _. limits_told now (table new.blocks) new.ready (open_limits new.spare now (table new.blocks) new.index new.stands) (e.lasts.honest ∙ honest);
+      limits = λ honest _. limits_told now (table new.blocks) new.ready new.stands.limits (e.lasts.honest ∙ honest);
     }
 
 pub returns-clause-sound : goal.returns-clause-sound

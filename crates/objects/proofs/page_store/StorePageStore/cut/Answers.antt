@@ -1,9 +1,8 @@
-use Rattle.std.specs.Prelude.{◌≡◌, ◌/◌, true, false, not, ◌&&◌, ◌||◌}
+use Rattle.std.specs.Prelude.{◌≡◌, ◌/◌, true, false}
 use Rattle.std.proofs.Common.{◌∙◌, sym, ap, subst}
 use Rattle.nand_model.specs.Calls.{Device, Lasts}
 use Rattle.nand_model.specs.declared.geometry.Geometry.{Geometry}
 use Rattle.nand_model.specs.laws.Calls.{lasts_here}
-use Rattle.block_state.specs.Table.{Table}
 use Rattle.block_state.specs.TableOf.{table}
 use Rattle.pages.specs.State.{PagesState}
 use Rattle.pages.specs.Stores.{HasNumbersLeft}

@@ -10,7 +10,7 @@ use Rattle.objects.specs.Caching.{Shows, AreIn}
 use Rattle.block_state.specs.TableOf.{table}
 use Rattle.objects.specs.Changing.{IsCommitFault}
 use Rattle.objects.specs.declared.store.Found.TheVariants as places
-use Rattle.objects.proofs.Carried.{open_either, either_known, kept_is_carried, newest_committed}
+use Rattle.objects.proofs.Carried.{either_known, kept_is_carried, newest_committed}
 use Rattle.objects.proofs.Steps.{buffered_shown, commit_fails, writable}
 use Rattle.objects.proofs.store.Store.write_out.Goals as goal
 
@@ -55,7 +55,7 @@ returns-in-Err-clause-carried g c = λ whole honest.
     let self = c.args.self.now in
     let d = g.N.Nand.state self.device in
     let carried = kept_is_carried self.spare d (table self.blocks) self.index c.the_counts_are_of_the_keys.ensures.none self.ready self.stands.tables (self.newest whole honest) in
-    either_known d.honest (g.N.Nand.state c.commit.new.device) self.spare (kept_data self.index d.flash) (present_data self.index (buffered self.buffer) d.flash) (open_either d (g.N.Nand.state c.commit.new.device) self.spare self.index (buffered self.buffer) (c.commit.ensures.newest honest) carried)
+    either_known d.honest (g.N.Nand.state c.commit.new.device) self.spare (kept_data self.index d.flash) (present_data self.index (buffered self.buffer) d.flash) (c.commit.ensures.newest honest carried)
 
 pub commit-requires-clause-pages : goal.commit-requires-clause-pages
 commit-requires-clause-pages g c = let self = c.args.self.now in writable (g.N.Nand.state self.device).geometry self.buffer (self.objects c.if-self.false) self.buffer_size
@@ -71,4 +71,4 @@ returns-in-Ok-clause-carried g c = λ whole honest.
     let self = c.args.self.now in
     let d = g.N.Nand.state self.device in
     let carried = kept_is_carried self.spare d (table self.blocks) self.index c.the_counts_are_of_the_keys.ensures.none self.ready self.stands.tables (self.newest whole honest) in
-    either_known d.honest (g.N.Nand.state c.commit.new.device) self.spare (kept_data self.index d.flash) (present_data self.index (buffered self.buffer) d.flash) (open_either d (g.N.Nand.state c.commit.new.device) self.spare self.index (buffered self.buffer) (c.commit.ensures.newest honest) carried)
+    either_known d.honest (g.N.Nand.state c.commit.new.device) self.spare (kept_data self.index d.flash) (present_data self.index (buffered self.buffer) d.flash) (c.commit.ensures.newest honest carried)

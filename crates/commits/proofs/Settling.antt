@@ -326,3 +326,15 @@ module _ (spare : ℕ) (lists : ListsAreWhole) (w : WrittenGroup) (d : Device) (
 
   pub kept_empty : (q c : ℕ) → kept_data y d.flash q c ≡ present_data x pages d.flash q c
   kept_empty = written_kept w x y pages d.flash d.flash settles buffers (λ i lt. let zero_long = no_page in absurd (omega (arith, lt, zero_long))) (λ q c k at. refl)
+
+-- with nothing buffered a page that is kept was kept there
+pub kept_before : (w : WrittenGroup) (x y : Index) (pages : List FreshPage) → pages ≡ [] → Buffers x pages → Settles w x y → (q c : ℕ) (p : KeptPage) → kept_pages y q c ≡ Some p → kept_pages x q c ≡ Some p
+kept_before w x y pages none buffers settles q c p is = go (present x q c) refl
+  where
+    go : (r : Present) → present x q c ≡ r → kept_pages x q c ≡ Some p
+    go presents.Absent at = let two : None ≡ Some p = sym (settles.kept q c ∙ ap (written w) at) ∙ is in absurd cc
+    go (presents.OnFlash k) at = on_flash_kept x q c k at ∙ sym (settles.kept q c ∙ ap (written w) at) ∙ is
+    go (presents.InBuffer i) at =
+        let lt : i < length pages = place_within pages i _ (buffers.there q c i at) in
+        let zero_long : length pages ≡ 0 = ap length none in
+        absurd (omega (arith, lt, zero_long))

@@ -5,6 +5,7 @@ use crate::opening::{Trouble, erased, open_store, scanned};
 use crate::plain::{Plain, Stamps, Step, are_found, read_all, take_step};
 use crate::random::random_step;
 use nand_model::{Fate, MemNand};
+use pages::PageStore;
 use rand_pcg::Pcg32;
 use std::alloc::Global;
 use std::process::Abort;

@@ -1,13 +1,11 @@
 -- How the parts of a change end.
-use Rattle.std.specs.Prelude.{◌≡◌, ◌≤◌, ◌∷◌, [], ℕ, true, false, OnOk, IfErr, IsErrOf, Result, Ok, Err}
-use Rattle.std.proofs.Common.{refl, sym, ◌∙◌, ap, subst, inl, inr}
+use Rattle.std.specs.Prelude.{◌≡◌, ◌∷◌, [], ℕ, true, OnOk, IfErr, IsErrOf, Result, Ok, Err}
+use Rattle.std.proofs.Common.{refl, ◌∙◌, inl, inr}
 use Rattle.std.specs.FinMap as map
-use Rattle.volume_terms.specs.Sizes.{Sizes, IsSizes}
+use Rattle.volume_terms.specs.Sizes.{Sizes}
 use Rattle.volume_terms.specs.declared.fault.StoreFault.{StoreFault}
 use Rattle.volume_terms.specs.declared.fault.StoreFault.TheVariants as faults
 use Rattle.posix_profile.specs.State.{Objects}
-use Rattle.posix_profile.specs.Charge.{fits}
-use Rattle.posix_profile.specs.WellFormed.{IsForest}
 use Rattle.object_table.specs.Told.{sizes_of, Tells, TellsTheSame}
 use Rattle.object_table.specs.declared.table.ObjectTable.{ObjectTable}
 use Rattle.pages.specs.Faults.{MayLackMemory}
@@ -16,12 +14,12 @@ use Rattle.pages.specs.State.{PagesState, OnlyFinds}
 use Rattle.pages.specs.Stores.{SamePages, GoesOn, StaysSame, KeptAs, KeepsEither, ChangeFailsBy, CommitFailsBy}
 use Rattle.pages.specs.declared.fault.PageFault.{PageFault}
 use Rattle.pages.specs.declared.fault.PageFault.TheVariants as page_faults
-use Rattle.object_pages.specs.Holding.{HoldsObjects, CanHave}
+use Rattle.object_pages.specs.Holding.{HoldsObjects}
 use Rattle.object_pages.specs.laws.Holding.{cut_object}
 use Rattle.paged_objects.specs.Faults.{fault_of, ending_fault, ReadFailsBy}
-use Rattle.paged_objects.specs.Standing.{Stands, Shown}
-use Rattle.paged_objects.specs.Ending.{StaysAs, Turns, Fails, Commits, HasPages, HasObjects, EndsPages, Ends, EndsCommit}
-use Rattle.paged_objects.specs.laws.Going.{finds_stay, refused_stays, stays_goes, stays_on, volume_on}
+use Rattle.paged_objects.specs.Standing.{Stands}
+use Rattle.paged_objects.specs.Ending.{StaysAs, Turns, Fails, Commits, HasPages, EndsPages, Ends}
+use Rattle.paged_objects.specs.laws.Going.{finds_stay, refused_stays, stays_on, volume_on}
 use Rattle.paged_objects.specs.laws.Showing.{stays_stands, changed_stands, still_shown, either_turns, kept_shown, turns_after, fails_after, read_fails}
 
 -- a fault of reads, as the store's
@@ -102,7 +100,7 @@ never_memory faults.Device is = absurd cc
 never_memory faults.Worn is = absurd cc
 
 -- a commit that is done
-pub committed : (z : Sizes) (p q : PagesState) (objects : Objects) → HasPages z p objects → GoesOn p q → q.sound ≡ true → SamePages q.present p.present → KeptAs q p.present → EndsCommit z p q objects (Ok tt)
+pub committed : (z : Sizes) (p q : PagesState) (objects : Objects) → HasPages z p objects → GoesOn p q → q.sound ≡ true → SamePages q.present p.present → KeptAs q p.present → Stands z q objects × Commits z objects p q
 committed z p q objects has goes sound same kept = (
   changed_stands z p q objects objects p.present goes has.stands sound has.stands.holds same,
   record { goes_on = goes; shown = kept_shown z q p.present objects (volume_on p q goes ∙ has.stands.sizes) kept has.stands.holds has.can },

@@ -1,6 +1,6 @@
 -- What the words of the trait say of pages and a table.
 use Rattle.std.specs.Prelude.{◌≡◌, ℕ, true, Result, Ok, Err}
-use Rattle.std.proofs.Common.{refl, sym, ◌∙◌, subst}
+use Rattle.std.proofs.Common.{refl, sym, subst}
 use Rattle.volume_terms.specs.Sizes.{Sizes, IsSizes}
 use Rattle.volume_terms.specs.declared.fault.StoreFault.{StoreFault}
 use Rattle.volume_terms.specs.declared.fault.StoreFault.TheVariants as faults
@@ -10,7 +10,7 @@ use Rattle.posix_profile.specs.WellFormed.{IsForest}
 use Rattle.object_store.specs.Changes.{CanMake, takes_none}
 use Rattle.object_store.specs.declared.change.ObjectChange.{ObjectChange}
 use Rattle.object_store.specs.declared.change.ObjectChange.TheVariants as changes
-use Rattle.object_store.specs.Stores.{Meaning, Has, Faults, Applies}
+use Rattle.object_store.specs.Stores.{Faults, Applies}
 use Rattle.object_table.specs.Told.{sizes_of, Tells, TellsTheSame}
 use Rattle.object_table.specs.Told as told
 use Rattle.object_pages.specs.Holding.{CanHave}

@@ -1,6 +1,6 @@
 -- What is known of a change where it is planned.
-use Rattle.std.specs.Prelude.{◌≡◌, ◌<◌, ◌≤◌, ◌-◌, ℕ, Option, length}
-use Rattle.std.proofs.Common.{sym, subst, inl, inr, arith}
+use Rattle.std.specs.Prelude.{◌<◌, ◌≤◌, ◌-◌, ℕ, Option, length}
+use Rattle.std.proofs.Common.{inl, inr, arith}
 use Rattle.volume_terms.specs.Sizes.{Sizes, IsSizes, buffer_pages}
 use Rattle.volume_terms.specs.Rounding.{ceiling}
 use Rattle.posix_profile.specs.State.{Objects, IsDirectory}

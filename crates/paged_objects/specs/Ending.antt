@@ -73,10 +73,3 @@ Ends p q table after old new (Ok done) = Stands (sizes_of table) q new × Tells 
 Ends p q table after old new (Err faults.NoMemory) = StaysAs p q × TellsTheSame table after
 Ends p q table after old new (Err faults.Device) = Fails (sizes_of table) old p q
 Ends p q table after old new (Err faults.Worn) = Fails (sizes_of table) old p q
-
--- how a commit ends
-abbrev pub EndsCommit : Sizes → PagesState → PagesState → Objects → Result (Unit {0}) StoreFault → Type 0
-EndsCommit z p q objects (Ok done) = Stands z q objects × Commits z objects p q
-EndsCommit z p q objects (Err faults.NoMemory) = ⊥
-EndsCommit z p q objects (Err faults.Device) = Fails z objects p q
-EndsCommit z p q objects (Err faults.Worn) = Fails z objects p q

@@ -1,6 +1,5 @@
 -- What objects over pages stand for.
 use Rattle.std.specs.Prelude.{◌≡◌}
-use Rattle.posix_profile.specs.State.{Objects}
 use Rattle.object_store.specs.Stores.{Meaning}
 use Rattle.object_table.specs.Told.{sizes_of, Tells, TellsTheSame}
 use Rattle.object_table.specs.declared.table.ObjectTable.{ObjectTable}

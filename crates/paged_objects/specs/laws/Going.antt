@@ -1,5 +1,5 @@
 -- Calls of a store of pages, one after the other.
-use Rattle.std.specs.Prelude.{◌≡◌, ◌⊎◌, ◌+◌, ◌≤◌, ℕ, true, false}
+use Rattle.std.specs.Prelude.{◌≡◌, true, false}
 use Rattle.std.proofs.Common.{refl, sym, ◌∙◌, ap, subst, inl, inr, arith}
 use Rattle.std.proofs.lemmas.Bool.{cases_Bool}
 use Rattle.nand_model.specs.Flash.{Flash}
@@ -11,7 +11,7 @@ use Rattle.nand_model.specs.declared.geometry.Geometry.{Geometry}
 use Rattle.flash_tree.specs.laws.Place.{same_flash}
 use Rattle.flash_tree.specs.Mount.{bad_blocks, sizes_of}
 use Rattle.pages.specs.State.{PagesState, NextNumbers, OnlyFinds}
-use Rattle.pages.specs.Stores.{SamePages, GoesOn, StaysSame, HandsOutNumbers, HasNumbersLeft, IsCrowded, IsWornOut, bad_on}
+use Rattle.pages.specs.Stores.{GoesOn, StaysSame, HandsOutNumbers, HasNumbersLeft, IsCrowded, bad_on}
 use Rattle.paged_objects.specs.Standing.{volume_of}
 use Rattle.paged_objects.specs.Ending.{StaysAs, HasEnded}
 

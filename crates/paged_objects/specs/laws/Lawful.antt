@@ -1,18 +1,17 @@
 -- The words of a store of objects over pages fit together.
-use Rattle.std.specs.Prelude.{◌≡◌, ◌⊎◌, ℕ, Option}
+use Rattle.std.specs.Prelude.{◌≡◌, ◌⊎◌}
 use Rattle.std.proofs.Common.{refl, sym, ◌∙◌, ap, subst, inl, inr}
 use Rattle.std.specs.FinMap as map
 use Rattle.volume_terms.specs.Sizes.{Sizes}
 use Rattle.posix_profile.specs.State.{Objects}
 use Rattle.posix_profile.specs.Charge.{charge}
-use Rattle.object_store.specs.Stores.{Meaning, IsLawful, settled}
+use Rattle.object_store.specs.Stores.{IsLawful, settled}
 use Rattle.object_table.specs.Facts.{IsTold}
-use Rattle.object_table.specs.Told.{sizes_of, told, charge_of, Tells, TellsTheSame}
-use Rattle.object_table.specs.declared.facts.ObjectFacts.{ObjectFacts}
+use Rattle.object_table.specs.Told.{sizes_of, Tells, TellsTheSame}
 use Rattle.object_table.specs.declared.table.ObjectTable.{ObjectTable}
 use Rattle.pages.specs.State.{PagesState}
 use Rattle.paged_objects.specs.Standing.{Stands, Shown}
-use Rattle.paged_objects.specs.Ending.{Turns, Changes, Fails, Commits}
+use Rattle.paged_objects.specs.Ending.{Changes, Fails, Commits}
 use Rattle.paged_objects.specs.Meaning.{paged_meaning}
 use Rattle.paged_objects.specs.laws.Going.{stays_here, stays_on, stays_goes, goes_on}
 use Rattle.paged_objects.specs.laws.Showing.{stays_shown, stays_stands, changes_after, fails_after, commits_after}

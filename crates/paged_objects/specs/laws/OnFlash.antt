@@ -1,5 +1,5 @@
 -- The tree that is shown is on the flash of an honest device.
-use Rattle.std.specs.Prelude.{◌≡◌, ◌⊎◌, ◌<◌, ◌≤◌, ◌+◌, ◌-◌, ◌*◌, ◌/◌, ℕ, zero, suc, Bool, true, false, List, [], ◌∷◌, length, slice_get, Some}
+use Rattle.std.specs.Prelude.{◌≡◌, ◌<◌, ◌≤◌, ◌+◌, ◌-◌, ◌*◌, ◌/◌, ℕ, zero, suc, true, List, [], ◌∷◌, length, slice_get, Some}
 use Rattle.std.proofs.Common.{refl, sym, ◌∙◌, ap, subst, inl, inr, arith}
 use Rattle.std.proofs.Math.Nat.{mul-div_cancel}
 use Rattle.std.proofs.lemmas.Bool.{cases_lt, true≢false, leb-true}
@@ -11,16 +11,15 @@ use Rattle.page_tags.specs.Headers.{Fields, IsHeader, MayBeSet, header_bytes, is
 use Rattle.page_tags.specs.laws.Header.{same_fields}
 use Rattle.page_tags.specs.declared.header.ObjectKind.{ObjectKind}
 use Rattle.page_tags.specs.declared.header.ObjectKind.TheVariants as kinds
-use Rattle.volume_terms.specs.Sizes.{Sizes, IsSizes, page_slots, capacity}
+use Rattle.volume_terms.specs.Sizes.{Sizes, IsSizes, page_slots}
 use Rattle.volume_terms.specs.Rounding.{ceiling}
 use Rattle.posix_profile.specs.State.{Entries, Object, File, Dir, Objects}
-use Rattle.posix_profile.specs.Charge.{charge, fits}
 use Rattle.posix_profile.specs.laws.Charge.{settle_fits}
 use Rattle.posix_profile.specs.laws.Map.{retain_cases}
 use Rattle.posix_profile.specs.laws.Write.{ceiling_at_most}
 use Rattle.object_store.specs.Stores.{settled}
 use Rattle.flash_tree.specs.FreeBlocks.{LeavesFree}
-use Rattle.flash_tree.specs.Newest.{Spot, IsNewest, HasNewest}
+use Rattle.flash_tree.specs.Newest.{HasNewest}
 use Rattle.flash_tree.specs.Tree.{ReadsFile, ReadsDir, LooksUp, InFootprint, Shows}
 use Rattle.flash_tree.specs.Mount.{sizes_of, bad_blocks, IsVolume, HasFree, HasRoom}
 use Rattle.flash_tree.specs.Sound.{IsSound}
@@ -29,7 +28,7 @@ use Rattle.flash_tree.specs.laws.Newest.{one_newest}
 use Rattle.flash_tree.specs.laws.Tree.{footprint_law}
 use Rattle.pages.specs.Maps.{PageMap, has}
 use Rattle.pages.specs.State.{PagesState}
-use Rattle.pages.specs.Stores.{Carries, HasPage, HasNumbersLeft, IsCarried, bad_on}
+use Rattle.pages.specs.Stores.{Carries, HasPage, HasNumbersLeft, bad_on}
 use Rattle.object_pages.specs.Holding.{HoldsObject, HoldsObjects, CanHave}
 use Rattle.object_pages.specs.laws.Holding.{held}
 use Rattle.object_pages.specs.laws.Settled.{shows_settled, holds_volume}

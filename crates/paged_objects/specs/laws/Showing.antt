@@ -1,6 +1,6 @@
 -- What a mount shows after calls of a store of pages.
-use Rattle.std.specs.Prelude.{◌≡◌, ◌⊎◌, ℕ, true, Result, Ok, Err}
-use Rattle.std.proofs.Common.{refl, sym, ◌∙◌, ap, subst, inl, inr}
+use Rattle.std.specs.Prelude.{◌≡◌, ℕ, true}
+use Rattle.std.proofs.Common.{refl, sym, ◌∙◌, subst, inl, inr}
 use Rattle.nand_model.specs.Flash.{Flash}
 use Rattle.nand_model.specs.Calls.{Device}
 use Rattle.nand_model.specs.Changes.{OnlyReads}
@@ -8,8 +8,6 @@ use Rattle.nand_model.specs.declared.geometry.Geometry.{Geometry}
 use Rattle.flash_tree.specs.FreeBlocks.{LeavesFree}
 use Rattle.flash_tree.specs.laws.Place.{same_flash}
 use Rattle.volume_terms.specs.Sizes.{Sizes}
-use Rattle.volume_terms.specs.declared.fault.StoreFault.{StoreFault}
-use Rattle.volume_terms.specs.declared.fault.StoreFault.TheVariants as faults
 use Rattle.posix_profile.specs.State.{Objects}
 use Rattle.object_store.specs.Stores.{settled}
 use Rattle.pages.specs.Maps.{PageMap}
@@ -18,7 +16,7 @@ use Rattle.pages.specs.Stores.{Carries, HasPage, HasNumbersLeft, IsCarried, Same
 use Rattle.object_pages.specs.Holding.{HoldsObjects, HoldsIn, CanHave}
 use Rattle.object_pages.specs.laws.Holding.{same_objects}
 use Rattle.paged_objects.specs.Standing.{volume_of, Stands, Shown}
-use Rattle.paged_objects.specs.Ending.{StaysAs, Turns, Changes, Fails, Commits, EndsPages}
+use Rattle.paged_objects.specs.Ending.{StaysAs, Turns, Changes, Fails, Commits}
 use Rattle.paged_objects.specs.laws.Going.{stays_goes, goes_on, volume_on, ended_before}
 
 -- what a device carries it carries after reads

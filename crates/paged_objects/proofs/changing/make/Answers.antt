@@ -1,4 +1,4 @@
-use Rattle.std.proofs.Common.{◌≡◌, ◌∙◌, ℕ, Ok, Err}
+use Rattle.std.proofs.Common.{◌≡◌, Ok, Err}
 use Rattle.std.proofs.lemmas.Result.{err_from_is_err_and}
 use Rattle.volume_terms.specs.Sizes.{Sizes}
 use Rattle.object_store.specs.Changes.{made}

@@ -1,4 +1,3 @@
-use Rattle.std.proofs.Common.{arith}
 use Rattle.pages.specs.Maps.{changed}
 use Rattle.pages.specs.State.{PagesState}
 use Rattle.paged_objects.proofs.Ends.{took}

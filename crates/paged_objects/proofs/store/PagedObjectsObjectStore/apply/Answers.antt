@@ -1,4 +1,3 @@
-use Rattle.std.proofs.Common.{refl, sym, subst}
 use Rattle.std.specs.FinMap as map
 use Rattle.object_store.specs.Changes.{made}
 use Rattle.object_store.specs.declared.change.ObjectChange.TheVariants as changes

@@ -1,4 +1,4 @@
-use Rattle.std.proofs.Common.{refl, sym, subst}
+use Rattle.std.proofs.Common.{refl}
 use Rattle.pages.specs.State.{PagesState}
 use Rattle.paged_objects.proofs.Ends.{committed, commit_failed}
 use Rattle.paged_objects.proofs.Meant.{has_objects, ending_faults}

@@ -1,6 +1,4 @@
-use Rattle.std.proofs.Common.{refl, sym, subst}
-use Rattle.volume_terms.specs.declared.fault.StoreFault.{StoreFault}
-use Rattle.object_store.specs.Stores.{Faults}
+use Rattle.std.proofs.Common.{refl}
 use Rattle.pages.specs.State.{PagesState}
 use Rattle.paged_objects.specs.Faults.{fault_of}
 use Rattle.paged_objects.specs.laws.Showing.{holds_in}

@@ -13,6 +13,6 @@ mod walking;
 pub use fault::{RootFault, WalkFault};
 pub use head::Head;
 pub use object::{Visited, visit};
-pub use tree::Tree;
+pub use tree::{NamedObject, Tree};
 pub use volume::root;
 pub use walking::walk;

@@ -1,17 +1,17 @@
 -- The objects of a tree come one after the other, without their names.
-use Rattle.std.specs.Prelude.{◌≡◌, ◌≢◌, ◌⊎◌, ◌<◌, ◌+◌, ℕ, List, length, slice_get, Some, None, true}
+use Rattle.std.specs.Prelude.{◌≡◌, ◌≢◌, ◌⊎◌, ◌<◌, ◌≤◌, ◌+◌, ℕ, List, length, slice_get, Some, None, true}
 use Rattle.std.proofs.Common.{refl, sym, ◌∙◌, ap, subst, inl, inr, arith}
 use Rattle.std.proofs.lemmas.Bool.{cases_eq, cases_lt}
 use Rattle.std.specs.Ordering.{nat_cmp}
 use Rattle.std.specs.Cmp.{nat_cmp_total}
 use Rattle.std.specs.Cmp.Lexicographic.{slice_cmp}
 use Rattle.std.specs.FinMap as map
-use Rattle.page_tags.specs.declared.header.ObjectKind.TheVariants as headers
 use Rattle.volume_terms.specs.Sizes.{Sizes, IsSizes}
 use Rattle.posix_profile.specs.State.{Name, Entries, Object, File, Dir, Objects}
 use Rattle.posix_profile.specs.Names.{Names}
 use Rattle.posix_profile.specs.Charge.{fits}
 use Rattle.posix_profile.specs.laws.Map.{get_here, get_there, insert_cases}
+use Rattle.flash_tree.specs.laws.Tree.{slice_get_within}
 use Rattle.object_table.specs.Built.{IsBare, CanCome}
 use Rattle.tree_walk.specs.Walks.{IsOn, IsOnce}
 use Rattle.tree_walk.specs.declared.head.Head.{Head}
@@ -109,9 +109,10 @@ module _ (z : Sizes) (sizes : IsSizes z) (objects : Objects) (fit : fits z objec
   }
 
 -- all objects came
-pub nameless : (objects : Objects) (list : List ℕ) (part : Objects) → ((o : ℕ) (x : Object) → map.get objects o ≡ Some x → IsOn list o) → HasBare objects list (length list) part → ((i o : ℕ) → slice_get list i ≡ Some o → i < length list) → IsNameless objects part
-nameless objects list part listed h within = record {
+pub nameless : (objects : Objects) (list : List ℕ) (n : ℕ) (part : Objects) → ((o : ℕ) (x : Object) → map.get objects o ≡ Some x → IsOn list o) → HasBare objects list n part
+    → length list ≤ n → IsNameless objects part
+nameless objects list n part listed h le = record {
   part_of = h.part_of;
-  all = λ o x is. let on = listed o x is in h.here on.0 o (within on.0 o on.1) on.1;
+  all = λ o x is. let on = listed o x is in h.here on.0 o (omega (arith, slice_get_within list on.0 o on.1, le)) on.1;
   unnamed = h.unnamed;
 }

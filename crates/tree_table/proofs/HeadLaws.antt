@@ -9,7 +9,7 @@ use Rattle.page_tags.specs.Headers.{Fields}
 use Rattle.page_tags.specs.Slots.{Entry}
 use Rattle.page_tags.specs.declared.header.ObjectKind.TheVariants as kinds
 use Rattle.volume_terms.specs.Sizes.{Sizes}
-use Rattle.posix_profile.specs.State.{Name, Object, File, Dir}
+use Rattle.posix_profile.specs.State.{Object, File, Dir}
 use Rattle.posix_profile.specs.Charge.{cost}
 use Rattle.flash_tree.specs.Tree.{NewestMap, IsSingle, IsPageSize, ReadsAs, slot_pairs}
 use Rattle.flash_tree.specs.laws.Finding.{same_header}
@@ -17,7 +17,7 @@ use Rattle.flash_tree.specs.laws.Pairs.{at_find}
 use Rattle.flash_tree.specs.laws.Slot.{slot_of_pair}
 use Rattle.tree_walk.specs.Heads.{SaysHead}
 use Rattle.tree_walk.specs.declared.head.Head.{Head}
-use Rattle.tree_table.specs.Units.{head_cost, unit_of}
+use Rattle.tree_table.specs.Units.{head_cost}
 use Rattle.tree_table.proofs.Elements.{none_of}
 
 -- ---- how many entries slots make

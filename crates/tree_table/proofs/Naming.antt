@@ -1,5 +1,5 @@
 -- The objects of a tree, which came without names, get them one after the other.
-use Rattle.std.specs.Prelude.{◌≡◌, ◌<◌, ◌+◌, ℕ, true, List, length, slice_get, Some}
+use Rattle.std.specs.Prelude.{◌≡◌, ◌<◌, ◌+◌, ℕ, true, List, slice_get, Some}
 use Rattle.std.proofs.Common.{refl, sym, ◌∙◌, ap, subst, inl, inr, arith}
 use Rattle.std.proofs.lemmas.Bool.{cases_eq}
 use Rattle.std.specs.Cmp.{nat_cmp_total}
@@ -154,10 +154,10 @@ module _ (objects : Objects) (all : List NamedSlot) (n : ℕ) (part : Objects) (
   whole q (File moment bytes) y there is of = sym of
   whole q (Dir moment entries) y there is (some, same, among) =
       let back : (name : Name) (c : ℕ) → map.get entries name ≡ Some c → map.get some name ≡ Some c = λ name c got.
-          let k = came q c name (record { moment = moment; entries = entries; directory_is = there; object_is = got }) in
-          let two : Some (Dir moment some) ≡ Some (Dir k.moment k.entries) = ap Some (sym same) ∙ sym is ∙ k.directory_is in
-          let one : some ≡ k.entries = cc in
-          ap (λ (es : Entries). map.get es name) one ∙ k.object_is in
+      let k = came q c name (record { moment = moment; entries = entries; directory_is = there; object_is = got }) in
+      let two : Some (Dir moment some) ≡ Some (Dir k.moment k.entries) = ap Some (sym same) ∙ sym is ∙ k.directory_is in
+      let one : some ≡ k.entries = cc in
+      ap (λ (es : Entries). map.get es name) one ∙ k.object_is in
       let all_same : some ≡ entries = map.same_map nat_list_cmp_total name_same some entries (λ name. same_options (map.get some name) (map.get entries name) (among name) (back name)) in
       ap (Dir moment) (sym all_same) ∙ sym same
 

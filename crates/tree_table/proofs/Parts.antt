@@ -1,5 +1,5 @@
 -- What came of the objects so far costs no more than all of them.
-use Rattle.std.specs.Prelude.{◌≡◌, ◌<◌, ◌≤◌, ◌^◌, ℕ, ◌+◌, List, [], ◌∷◌, length, map as list_map, sum_by, Some, true}
+use Rattle.std.specs.Prelude.{◌≡◌, ◌≤◌, ℕ, List, [], ◌∷◌, length, map as list_map, sum_by, Some, true}
 use Rattle.std.proofs.Common.{refl, sym, ◌∙◌, ap, arith}
 use Rattle.std.proofs.lemmas.Bool.{leb-true}
 use Rattle.std.proofs.lemmas.List.Sums.{sum_by-cons}
@@ -22,7 +22,7 @@ ones : {A : Type 0} (xs : List A) → sum_by (λ _. 1) xs ≡ length xs
 ones [] = refl
 ones (x ∷ xs) = omega (arith, sum_by-cons (λ _. 1) x xs, ones xs)
 
-len_mapped : {A B : Type 0} (f : A → B) (xs : List A) → length (list_map f xs) ≡ length xs
+pub len_mapped : {A B : Type 0} (f : A → B) (xs : List A) → length (list_map f xs) ≡ length xs
 len_mapped f [] = refl
 len_mapped f (x ∷ xs) = omega (arith, len_mapped f xs)
 

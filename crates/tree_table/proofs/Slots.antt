@@ -1,5 +1,5 @@
 -- The slots of all directories of a tree, one after the other: what its names are of.
-use Rattle.std.specs.Prelude.{◌≡◌, ◌⊎◌, ◌<◌, ◌+◌, ℕ, zero, suc, List, [], ◌∷◌, ◌++◌, length, slice_get, map as list_map, Some, None}
+use Rattle.std.specs.Prelude.{◌≡◌, ◌⊎◌, ◌<◌, ◌+◌, ℕ, zero, suc, List, [], ◌∷◌, ◌++◌, length, slice_get, map as list_map, Some}
 use Rattle.std.proofs.Common.{refl, sym, ◌∙◌, ap, subst, inl, inr, arith}
 use Rattle.std.proofs.lemmas.Bool.{cases_lt}
 use Rattle.std.proofs.lemmas.List.{map-append}
@@ -9,7 +9,7 @@ use Rattle.page_tags.specs.Slots.{Entry}
 use Rattle.volume_terms.specs.Sizes.{Sizes}
 use Rattle.posix_profile.specs.State.{Name, Entries, Object, File, Dir, Objects}
 use Rattle.posix_profile.specs.Names.{Names}
-use Rattle.flash_tree.specs.Tree.{NewestMap, IsSingle, IsPageSize, ReadsAs, ReadsDir, Shows}
+use Rattle.flash_tree.specs.Tree.{NewestMap, IsSingle, IsPageSize, ReadsAs, Shows}
 use Rattle.flash_tree.specs.Mount.{Leads, Finds}
 use Rattle.flash_tree.specs.laws.Finding.{kinds_apart, one_finding}
 use Rattle.flash_tree.specs.laws.Shown.{pairs, found}
@@ -41,11 +41,15 @@ record AreSlotsAt (objects : Objects) (o : ℕ) (slots : List Entry) : Type 0 wh
 module _ (z : Sizes) (size : IsPageSize z.page_bytes) (m : NewestMap) (single : IsSingle m) (objects : Objects) (shown : Shows z m objects) where
   slots_at : (o : ℕ) (x : Object) → map.get objects o ≡ Some x → ReadsAs z m o x → (named : List ℕ) → Finds z m o (Leads named)
       → (slots : List Entry) × AreSlotsAt objects o slots × (named ≡ list_map (λ e. e.object) slots)
-  slots_at o (File moment bytes) is r named finds = ([], record {
-    each = λ k e at. absurd (nothing k e at);
-    once = λ i j a b at. absurd (nothing i a at);
-    every = λ name c n. let two : Some (File moment bytes) ≡ Some (Dir n.moment n.entries) = sym is ∙ n.directory_is in absurd cc;
-  }, none finds) where
+  slots_at o (File moment bytes) is r named finds = (
+    [],
+    record {
+      each = λ k e at. absurd (nothing k e at);
+      once = λ i j a b at. absurd (nothing i a at);
+      every = λ name c n. let two : Some (File moment bytes) ≡ Some (Dir n.moment n.entries) = sym is ∙ n.directory_is in absurd cc;
+    },
+    none finds,
+  ) where
     nothing : (k : ℕ) (e : Entry) → slice_get [] k ≡ Some e → ⊥
     nothing k e at = cc
 
@@ -54,21 +58,24 @@ module _ (z : Sizes) (size : IsPageSize z.page_bytes) (m : NewestMap) (single : 
     none (inr (f, has, kind, slots, are, all)) = absurd (kinds_apart z size m single o r.fields f r.has has r.kind kind)
   slots_at o (Dir moment entries) is r named finds =
       let leads : Finds z m o (Leads (list_map (λ (e : Entry). e.object) r.slots)) = inr (r.fields, r.has, r.kind, r.slots, record { size = r.size; each = r.each; once = r.once }, refl) in
-      let two : Leads named ≡ Leads (list_map (λ (e : Entry). e.object) r.slots) = one_finding z size m single o _ _ finds leads in
-      (r.slots, record {
-        each = λ k e at. record {
-          moment = moment;
-          entries = entries;
-          directory_is = is;
-          object_is = ap (λ (es : Entries). map.get es e.name) r.entries_are ∙ map.get-from_entries nat_list_cmp_total (pairs r.slots) e.name
-              ∙ found r.slots k e at (λ j b there same. r.once j k b e there at same);
-        };
-        once = r.once;
-        every = λ name c n.
-            let dirs : Some (Dir moment entries) ≡ Some (Dir n.moment n.entries) = sym is ∙ n.directory_is in
-            let same : entries ≡ n.entries = cc in
-            entry_slot z m o moment entries r name c (ap (λ (es : Entries). map.get es name) same ∙ n.object_is);
-      }, (let same : named ≡ list_map (λ (e : Entry). e.object) r.slots = cc in same))
+      let two : Leads named ≡ Leads (list_map (λ (e : Entry). e.object) r.slots) = one_finding z size m single o _ _ finds leads in (
+        r.slots,
+        record {
+          each = λ k e at. record {
+            moment = moment;
+            entries = entries;
+            directory_is = is;
+            object_is = ap (λ (es : Entries). map.get es e.name) r.entries_are ∙ map.get-from_entries nat_list_cmp_total (pairs r.slots) e.name
+                ∙ found r.slots k e at (λ j b there same. r.once j k b e there at same);
+          };
+          once = r.once;
+          every = λ name c n.
+              let dirs : Some (Dir moment entries) ≡ Some (Dir n.moment n.entries) = sym is ∙ n.directory_is in
+              let same : entries ≡ n.entries = cc in
+              entry_slot z m o moment entries r name c (ap (λ (es : Entries). map.get es name) same ∙ n.object_is);
+        },
+        (let same : named ≡ list_map (λ (e : Entry). e.object) r.slots = cc in same),
+      )
 
 -- ---- the slots of the first objects of a list
 
@@ -136,12 +143,15 @@ module _ (objects : Objects) (list : List ℕ) (once : IsOnce list) (n o : ℕ) 
 module _ (z : Sizes) (size : IsPageSize z.page_bytes) (m : NewestMap) (single : IsSingle m) (objects : Objects) (shown : Shows z m objects)
     (list : List ℕ) (once : IsOnce list) (there : (i o : ℕ) → slice_get list i ≡ Some o → (x : Object) × (map.get objects o ≡ Some x)) where
   pub all_slots : (n : ℕ) (names : List NamedObject) → AreNamesOf z m list n names → (all : List NamedSlot) × AreSlotsOf objects list n all names
-  all_slots zero names none = ([], record {
-    pairs_are = none;
-    each = λ i s is. absurd (nothing i s is);
-    once = λ i j s t is. absurd (nothing i s is);
-    every = λ p d c name lt. absurd (omega (arith, lt));
-  }) where
+  all_slots zero names none = (
+    [],
+    record {
+      pairs_are = none;
+      each = λ i s is. absurd (nothing i s is);
+      once = λ i j s t is. absurd (nothing i s is);
+      every = λ p d c name lt. absurd (omega (arith, lt));
+    },
+  ) where
     nothing : (i : ℕ) (s : NamedSlot) → slice_get [] i ≡ Some s → ⊥
     nothing i s is = cc
   all_slots (suc n) names (o, named, before, at, finds, are, is) =

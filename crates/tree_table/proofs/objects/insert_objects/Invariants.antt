@@ -12,5 +12,5 @@ abbrev pub invariant-loop-place : goal.invariant-loop-place
 invariant-loop-place l = record {
   size : sizes_built l.builder ≡ sizes_built l.fn.builder;
   builds : (m : PageMap) (objects : Objects) → IsShown (sizes_built l.fn.builder) m l.tree objects → Builds l.fn.builder map.empty
-    → (part : Objects) × HasBare objects (numbers_of l.tree) l.place part × Builds l.builder part;
+      → (part : Objects) × HasBare objects (numbers_of l.tree) l.place part × Builds l.builder part;
 }

@@ -1,6 +1,7 @@
-use Rattle.std.proofs.Common.{◌≡◌, ◌<◌, ◌≤◌, ◌+◌, ◌-◌, ◌^◌, ◌∙◌, [], ◌∷◌, min, ℕ, zero, suc, List, length, take, slice_index, refl, ap, arith}
+use Rattle.std.proofs.Common.{◌≡◌, ◌<◌, ◌+◌, ◌-◌, ◌^◌, ◌∙◌, [], ◌∷◌, min, ℕ, suc, List, length, take, slice_index, ap, arith}
 use Rattle.std.specs.Prelude.{sum_by}
 use Rattle.std.proofs.Math.Seq.{take-suc}
+use Rattle.std.proofs.lemmas.List.{take_all}
 use Rattle.std.proofs.lemmas.List.Sums.{sum_by-append, sum_by-cons}
 use Rattle.volume_terms.specs.Sizes.{Sizes}
 use Rattle.volume_terms.specs.VolumeSizes.{sizes_of}
@@ -9,13 +10,6 @@ use Rattle.tree_walk.specs.Trees.{numbers_of}
 use Rattle.tree_table.specs.Units.{told_cost}
 use Rattle.tree_table.proofs.Told.{charged}
 use Rattle.tree_table.proofs.units.charge.Goals as goal
-
--- the first elements of a list are all where it has no more
-take-all : (xs : List ℕ) (n : ℕ) → length xs ≤ n → take n xs ≡ xs
-take-all [] zero le = refl
-take-all [] (suc n) le = refl
-take-all (x ∷ xs) zero le = absurd (omega (arith, le))
-take-all (x ∷ xs) (suc n) le = ap (λ ys. x ∷ ys) (take-all xs n (omega (arith, le)))
 
 -- one more number adds its units
 grown : (f : ℕ → ℕ) (list : List ℕ) (n : ℕ) → n < length list → sum_by f (take (n + 1) list) ≡ sum_by f (take n list) + f (slice_index list n)
@@ -41,6 +35,6 @@ returns c = λ m objects tree shows.
     let list : List ℕ = numbers_of c.args.tree.now in
     let f : ℕ → ℕ = told_cost z c.args.tree.now in
     let same : length c.objects-objects.result.now ≡ length list = ap length c.objects-objects.ensures in
-    let whole : take c.loop-place.place list ≡ list = take-all list c.loop-place.place (omega (arith, c.loop-place-test.false, same)) in
+    let whole : take c.loop-place.place list ≡ list = take_all c.loop-place.place list (omega (arith, c.loop-place-test.false, same)) in
     let size : IsPageSize z.page_bytes = record { least = omega (arith, c.args.sizes.least_page); most = omega (arith, c.args.sizes.greatest_page) } in
     c.loop-place.invariant ∙ ap (λ (xs : List ℕ). min (sum_by f xs) (2 ^ 64 - 1)) whole ∙ ap (λ n. min n (2 ^ 64 - 1)) (charged z size m c.args.tree.now objects tree shows)

@@ -29,7 +29,8 @@ pub record IsShown (z : Sizes) (m : PageMap) (tree : Tree) (objects : Objects) :
 -- of an object what came of it so far: a file, or a directory of the same moment with some of the entries
 abbrev pub IsPartOf : Object → Object → Type 0
 IsPartOf (File moment bytes) part = part ≡ File moment bytes
-IsPartOf (Dir moment entries) part = (some : Entries) × (part ≡ Dir moment some) × ((name : Name) (o : ℕ) → map.get some name ≡ Some o → map.get entries name ≡ Some o)
+IsPartOf (Dir moment entries) part =
+    (some : Entries) × (part ≡ Dir moment some) × ((name : Name) (o : ℕ) → map.get some name ≡ Some o → map.get entries name ≡ Some o)
 
 -- each object of these is a part of one that is there
 abbrev pub ArePartOf : Objects → Objects → Type 0

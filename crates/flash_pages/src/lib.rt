@@ -1,0 +1,6 @@
+//! The pages of a mounted volume: a store, or pages of a worn device that are only read.
+#![tactic(auto)]
+
+mod read_only;
+
+pub use read_only::ReadOnlyPages;

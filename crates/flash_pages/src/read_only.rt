@@ -1,18 +1,21 @@
 // Pages of a worn device, which are read and not changed.
 ghost use Rattle.std.specs.Prelude.{◌≡◌, ◌≤◌, true, false};
 ghost use Rattle.flash_tree.specs.Places.{numbers_of};
+ghost use Rattle.newest_pages.specs.Newest.{seen};
 ghost use Rattle.flash_pages.specs.ReadOnly.{IsWorn, HasGreatest, IsCarrying, only_read};
 ghost use Rattle.flash_pages.specs.laws.OneProof.{carrying_prop};
 
 use flash_tree::{Key, TagNumbers};
+use nand_model::Nand;
+use newest_pages::NewestPages;
 use pages::{Change, Cut, PageStore, Pages, Presence};
 use volume_terms::StoreFault;
 
 /// The newest pages of a volume that is only read, since its device is worn out. A commit has nothing to do; a change is
 /// refused.
 #[derive(Drop)]
-pub struct ReadOnlyPages<P: Pages> {
-    pages: P,
+pub struct ReadOnlyPages<N: Nand> {
+    pages: NewestPages<N>,
     // The greatest numbers that stand on the device.
     greatest: TagNumbers,
     // How many blocks may be bad.
@@ -21,19 +24,19 @@ pub struct ReadOnlyPages<P: Pages> {
     most: u32,
     // Whether a change was refused, so that the pages are not what its caller meant any more.
     refused_change: bool,
-    ghost worn: { IsWorn (P.state pages).device (numbers_of greatest) spare },
-    ghost numbers: { HasGreatest (P.state pages).device (numbers_of greatest) },
-    ghost carrying: { IsCarrying (P.state pages) } by { carrying_prop (P.state pages) },
+    ghost worn: { IsWorn (N.state pages.device) (numbers_of greatest) spare },
+    ghost numbers: { HasGreatest (N.state pages.device) (numbers_of greatest) },
+    ghost carrying: { IsCarrying (seen (N.state pages.device) pages.index pages.page.items) } by { carrying_prop (seen (N.state pages.device) pages.index pages.page.items) },
 }
 
-impl<P: Pages> ReadOnlyPages<P> {
+impl<N: Nand> ReadOnlyPages<N> {
     /// These pages of a device whose greatest numbers these are, with so many blocks to spare. A change that is refused
     /// has at most so many pages.
-    pub fn new(pages: P, greatest: TagNumbers, spare: u32, most: u32) -> ReadOnlyPages<P>
-        requires worn { IsWorn (P.state pages).device (numbers_of greatest) spare }
-        requires numbers { HasGreatest (P.state pages).device (numbers_of greatest) }
-        requires carrying { IsCarrying (P.state pages) }
-        ensures { ⟦<ReadOnlyPages<P> as Pages>⟧.state result ≡ only_read (P.state pages) (numbers_of greatest) spare most false }
+    pub fn new(pages: NewestPages<N>, greatest: TagNumbers, spare: u32, most: u32) -> ReadOnlyPages<N>
+        requires worn { IsWorn (⟦<NewestPages<N> as Pages>⟧.state pages).device (numbers_of greatest) spare }
+        requires numbers { HasGreatest (⟦<NewestPages<N> as Pages>⟧.state pages).device (numbers_of greatest) }
+        requires carrying { IsCarrying (⟦<NewestPages<N> as Pages>⟧.state pages) }
+        ensures { ⟦<ReadOnlyPages<N> as Pages>⟧.state result ≡ only_read (⟦<NewestPages<N> as Pages>⟧.state pages) (numbers_of greatest) spare most false }
     {
         ReadOnlyPages {
             pages,
@@ -44,18 +47,19 @@ impl<P: Pages> ReadOnlyPages<P> {
         }
     }
 
-    /// The pages, as they are.
-    pub fn into_pages(self) -> P
-        ensures { P.state result ≡ P.state self.pages }
+    /// The device, as it is.
+    pub fn into_device(self) -> N
+        ensures { N.state result ≡ (⟦<ReadOnlyPages<N> as Pages>⟧.state self).device }
     {
-        self.pages
+        let (device, _index) = self.pages.into_parts();
+        device
     }
 }
 
-impl<P: Pages> Pages for ReadOnlyPages<P> {
-    ghost state = { λ s. only_read (P.state s.pages) (numbers_of s.greatest) s.spare s.most s.refused_change };
+impl<N: Nand> Pages for ReadOnlyPages<N> {
+    ghost state = { λ s. only_read (seen (N.state s.pages.device) s.pages.index s.pages.page.items) (numbers_of s.greatest) s.spare s.most s.refused_change };
 
-    ghost sized = { λ s. P.sized s.pages };
+    ghost sized = { λ s. ((N.state s.pages.device).geometry.least_bytes, (N.state s.pages.device).geometry.most_bytes) };
 
     fn page_bytes(&self) -> u32 {
         self.pages.page_bytes()
@@ -70,7 +74,7 @@ impl<P: Pages> Pages for ReadOnlyPages<P> {
     }
 }
 
-impl<P: Pages> PageStore for ReadOnlyPages<P> {
+impl<N: Nand> PageStore for ReadOnlyPages<N> {
     fn most_pages(&self) -> u32 {
         self.most
     }

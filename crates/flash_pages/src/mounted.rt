@@ -1,6 +1,6 @@
 // The pages of a mounted volume.
 ghost use Rattle.std.specs.Prelude.{◌≡◌};
-ghost use Rattle.flash_pages.specs.declared.pages.FlashPages.TheVariants as kinds;
+ghost use Rattle.flash_pages.specs.declared.mounted.FlashPages.TheVariants as kinds;
 
 use crate::read_only::ReadOnlyPages;
 use flash_tree::Key;

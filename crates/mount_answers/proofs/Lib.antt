@@ -1,3 +1,5 @@
 pub mod SameMaps
 pub mod NewestMaps
 pub mod WholeTrees
+pub mod SlotCounts
+pub mod Footprints

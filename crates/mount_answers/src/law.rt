@@ -2,13 +2,17 @@
 ghost use Rattle.std.specs.Prelude.{◌≡◌, ◌<◌, ℕ, List, [], ◌∷◌};
 ghost use Rattle.nand_model.specs.Flash.{Flash, IsWithin, IsSized};
 ghost use Rattle.nand_model.specs.declared.geometry.Geometry.{Geometry};
-ghost use Rattle.volume_terms.specs.Sizes.{root_number};
+ghost use Rattle.volume_terms.specs.Sizes.{Sizes, root_number};
 ghost use Rattle.posix_profile.specs.State.{Objects};
+ghost use Rattle.posix_profile.specs.WellFormed.{IsForest};
+ghost use Rattle.object_store.specs.Stores.{settled};
+ghost use Rattle.object_pages.specs.Holding.{HoldsObjects};
 ghost use Rattle.flash_tree.specs.Newest.{HasNewest};
 ghost use Rattle.flash_tree.specs.Tree.{Shows};
 ghost use Rattle.flash_tree.specs.Mount.{Wrong, IsDamaged, Wrongly, Wholly, GoesThrough, sizes_of, IsVolume, IsNoVolume, HasWrongRoot, NamesTwice, NotAVolume, IsWrong, Answers};
 ghost use Rattle.pages.specs.Maps.{PageMap, has};
 ghost use Rattle.mount_answers.specs.Newest.{IsNewestMap};
+ghost use Rattle.mount_answers.specs.Footprints.{IsFootprint};
 
 use flash_tree::a_flash_has_an_answer;
 
@@ -34,3 +38,12 @@ pub fn a_whole_list_shows_a_tree()
 {
     a_flash_has_an_answer();
 }
+
+/// The pages that are looked up to see the tree of a volume, without any others, hold the objects of the tree. These hang
+/// together, and settle to themselves.
+pub fn the_footprint_holds_the_tree()
+    ensures holds { (g : Geometry) (spare : ℕ) (m part : PageMap) (objects : Objects) → IsVolume g (has m) spare → Shows (sizes_of g spare) (has m) objects
+        → IsFootprint (sizes_of g spare) m objects part → HoldsObjects (sizes_of g spare) part objects }
+    ensures forest { (z : Sizes) (m : PageMap) (objects : Objects) → Shows z (has m) objects → IsForest z objects }
+    ensures settled { (z : Sizes) (m : PageMap) (objects : Objects) → Shows z (has m) objects → settled objects ≡ objects }
+{}

@@ -5,3 +5,5 @@ pub mod SlotCounts
 pub mod Footprints
 pub mod Picked
 pub mod Room
+pub mod Listed
+pub mod Filtered

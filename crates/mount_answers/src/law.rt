@@ -1,5 +1,5 @@
 // What follows for a flash from a map of its newest pages. A function here does nothing: its clauses are the laws.
-ghost use Rattle.std.specs.Prelude.{◌≡◌, ◌<◌, ◌≤◌, ◌+◌, ℕ, List, [], ◌∷◌};
+ghost use Rattle.std.specs.Prelude.{◌≡◌, ◌↔◌, ◌<◌, ◌≤◌, ◌+◌, ℕ, Bool, true, false, None, List, [], ◌∷◌};
 ghost use Rattle.nand_model.specs.Flash.{Flash, IsWithin, IsSized};
 ghost use Rattle.nand_model.specs.declared.geometry.Geometry.{Geometry};
 ghost use Rattle.volume_terms.specs.Sizes.{Sizes, capacity, root_number};
@@ -9,17 +9,18 @@ ghost use Rattle.posix_profile.specs.WellFormed.{IsForest};
 ghost use Rattle.object_store.specs.Stores.{settled};
 ghost use Rattle.object_pages.specs.Holding.{HoldsObjects};
 ghost use Rattle.flash_tree.specs.Newest.{HasNewest};
-ghost use Rattle.flash_tree.specs.Tree.{Shows};
+ghost use Rattle.flash_tree.specs.Tree.{Shows, InFootprint};
 ghost use Rattle.flash_tree.specs.Mount.{Wrong, IsDamaged, Wrongly, Wholly, GoesThrough, sizes_of, IsVolume, IsNoVolume, HasWrongRoot, NamesTwice, NotAVolume, IsWrong, IsTreeOf, Answers};
 ghost use Rattle.pages.specs.Maps.{PageMap, has};
 ghost use Rattle.block_state.specs.Table.{Table};
 ghost use Rattle.block_state.specs.Kept.{unkept_count, bad_count};
 ghost use Rattle.chunk_index.specs.declared.index.Index.{Index};
 ghost use Rattle.chunk_index.specs.Free.{HasMarks};
-ghost use Rattle.chunk_index.specs.Maps.{kept_pages, CountsAgree};
+ghost use Rattle.chunk_index.specs.Maps.{kept_pages, CountsAgree, Retains};
+ghost use Rattle.tree_walk.specs.Trees.{IsLookedUp};
 ghost use Rattle.mount_answers.specs.Newest.{IsNewestMap};
-ghost use Rattle.mount_answers.specs.KeptTrees.{KeepsOnlyTree};
-ghost use Rattle.mount_answers.specs.Footprints.{IsFootprint};
+ghost use Rattle.mount_answers.specs.KeptTrees.{LieNewest, KeepsAll, KeepsOnlyTree};
+ghost use Rattle.mount_answers.specs.Footprints.{KeepsFootprint, IsFootprint};
 
 use chunk_index::{blocks_without_kept_pages_are_free, the_counts_are_of_the_keys};
 use flash_tree::a_flash_has_an_answer;
@@ -72,3 +73,19 @@ pub fn a_shown_tree_has_room_or_not()
     blocks_without_kept_pages_are_free();
     the_counts_are_of_the_keys();
 }
+
+/// Where all objects were gone through, the keys that are looked up to see the objects of the list are those that are
+/// looked up to see the tree that is shown.
+pub fn the_tree_looks_up_its_footprint()
+    ensures { (z : Sizes) (m : PageMap) (objects : Objects) (list : List ℕ) → 32 ≤ z.page_bytes → z.page_bytes ≤ 4096 → Shows z (has m) objects
+        → GoesThrough z (has m) (root_number ∷ []) 0 (Wholly list) → (o c : ℕ) → IsLookedUp z (has m) list o c ↔ InFootprint z (has m) objects o c }
+{}
+
+/// Where a test keeps exactly the keys that are looked up to see a tree, what is left of a map is the tree's pages, and
+/// what is left of an index that kept the newest pages of all keys is the tree's, and no others.
+pub fn what_the_tree_looks_up_is_kept()
+    ensures part { (z : Sizes) (m part : PageMap) (objects : Objects) (keeps : ℕ → ℕ → Bool) → KeepsFootprint z m objects keeps
+        → ((o c : ℕ) → keeps o c ≡ true → part o c ≡ m o c) → ((o c : ℕ) → keeps o c ≡ false → part o c ≡ None) → IsFootprint z m objects part }
+    ensures index { (flash : Flash) (z : Sizes) (m : PageMap) (objects : Objects) (keeps : ℕ → ℕ → Bool) (old new : Index) → KeepsFootprint z m objects keeps
+        → Retains keeps old new → LieNewest flash (kept_pages old) → KeepsAll flash (kept_pages old) → KeepsOnlyTree flash z m objects (kept_pages new) }
+{}

@@ -5,9 +5,10 @@ use Rattle.std.proofs.lemmas.Bool.{cases_Bool}
 use Rattle.nand_model.specs.Flash.{Flash}
 use Rattle.volume_terms.specs.Sizes.{Sizes}
 use Rattle.posix_profile.specs.State.{Objects}
+use Rattle.flash_tree.specs.Newest.{Spot, IsNewest}
 use Rattle.chunk_index.specs.declared.form.KeptPage.{KeptPage}
 use Rattle.chunk_index.specs.declared.index.Index.{Index}
-use Rattle.chunk_index.specs.Maps.{kept_pages, Retains}
+use Rattle.chunk_index.specs.Maps.{KeptMap, kept_pages, Retains}
 use Rattle.pages.specs.Maps.{PageMap}
 use Rattle.mount_answers.specs.Footprints.{KeepsFootprint, IsFootprint}
 use Rattle.mount_answers.specs.KeptTrees.{LieNewest, KeepsAll, KeepsOnlyTree}
@@ -19,17 +20,28 @@ part_left z m part objects keeps those kept gone = record {
   none = λ o c not. elim (cases_Bool (keeps o c)) [ inl is ↦ absurd (not ((those o c).0 is)) | inr is ↦ gone o c is ];
 }
 
-module _ (flash : Flash) (z : Sizes) (m : PageMap) (objects : Objects) (keeps : ℕ → ℕ → Bool) (old new : Index) (those : KeepsFootprint z m objects keeps) (retains : Retains keeps old new) where
-  -- a key that is kept is one that stays
-  stayed : (o c : ℕ) (p : KeptPage) → kept_pages new o c ≡ Some p → (keeps o c ≡ true) × (kept_pages old o c ≡ Some p)
-  stayed o c p is = elim (cases_Bool (keeps o c)) [
-    | inl stays ↦ (stays, sym (retains.kept o c stays) ∙ is)
+-- of kept pages only those of the tree are left
+pub kept_left : (flash : Flash) (z : Sizes) (m : PageMap) (objects : Objects) (keeps : ℕ → ℕ → Bool) (kept : KeptMap) → KeepsFootprint z m objects keeps → LieNewest flash kept
+    → ((o c : ℕ) (s : Spot) → keeps o c ≡ true → IsNewest flash o c s → (p : KeptPage) × (kept o c ≡ Some p)) → ((o c : ℕ) → keeps o c ≡ false → kept o c ≡ None)
+    → KeepsOnlyTree flash z m objects kept
+kept_left flash z m objects keeps kept those lie all gone = record {
+  all = λ o c s looked newest. all o c s ((those o c).1 looked) newest;
+  only = λ o c p is. elim (cases_Bool (keeps o c)) [
+    | inl stays ↦ (those o c).0 stays
+    | inr goes ↦ let two : None ≡ Some p = sym (gone o c goes) ∙ is in absurd cc
+  ];
+  newest = lie;
+}
+
+-- and so it is with an index
+pub index_left : (flash : Flash) (z : Sizes) (m : PageMap) (objects : Objects) (keeps : ℕ → ℕ → Bool) (old new : Index) → KeepsFootprint z m objects keeps
+    → Retains keeps old new → LieNewest flash (kept_pages old) → KeepsAll flash (kept_pages old) → KeepsOnlyTree flash z m objects (kept_pages new)
+index_left flash z m objects keeps old new those retains lie all = kept_left flash z m objects keeps (kept_pages new) those still_lie still_there retains.kept_no_more where
+  still_lie : LieNewest flash (kept_pages new)
+  still_lie o c p is = elim (cases_Bool (keeps o c)) [
+    | inl stays ↦ lie o c p (sym (retains.kept o c stays) ∙ is)
     | inr goes ↦ let two : None ≡ Some p = sym (retains.kept_no_more o c goes) ∙ is in absurd cc
   ]
 
-  pub tree_left : LieNewest flash (kept_pages old) → KeepsAll flash (kept_pages old) → KeepsOnlyTree flash z m objects (kept_pages new)
-  tree_left lie all = record {
-    all = λ o c s looked newest. let p = all o c s newest in (p.0, retains.kept o c ((those o c).1 looked) ∙ p.1);
-    only = λ o c p is. (those o c).0 (stayed o c p is).0;
-    newest = λ o c p is. lie o c p (stayed o c p is).1;
-  }
+  still_there : (o c : ℕ) (s : Spot) → keeps o c ≡ true → IsNewest flash o c s → (p : KeptPage) × (kept_pages new o c ≡ Some p)
+  still_there o c s stays newest = let p = all o c s newest in (p.0, retains.kept o c stays ∙ p.1)

@@ -7,3 +7,4 @@ pub mod Picked
 pub mod Room
 pub mod Listed
 pub mod Filtered
+pub mod VolumeSizes

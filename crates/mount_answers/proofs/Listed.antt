@@ -1,5 +1,5 @@
 -- The list that was gone through has the objects of the tree that is shown.
-use Rattle.std.specs.Prelude.{◌≡◌, ◌↔◌, ◌<◌, ◌≤◌, ℕ, zero, suc, ◌+◌, List, [], ◌∷◌, ◌++◌, length, slice_get, map as list_map, nat_eq, Some, None}
+use Rattle.std.specs.Prelude.{◌≡◌, ◌↔◌, ◌<◌, ◌≤◌, ℕ, zero, suc, ◌+◌, List, [], ◌∷◌, ◌++◌, Bool, true, length, slice_get, map as list_map, nat_eq, Some, None}
 use Rattle.std.specs.List.{list_any}
 use Rattle.std.specs.FinMap as map
 use Rattle.std.proofs.Common.{refl, sym, ◌∙◌, ap, subst, inl, inr, arith}
@@ -16,6 +16,7 @@ use Rattle.flash_tree.specs.laws.Slot.{entry_slot}
 use Rattle.flash_tree.specs.laws.Tree.{slice_get_within}
 use Rattle.pages.specs.Maps.{PageMap, has}
 use Rattle.tree_walk.specs.Trees.{IsLookedUp}
+use Rattle.mount_answers.specs.Footprints.{KeepsFootprint}
 use Rattle.mount_answers.proofs.Footprints.{one_page}
 use Rattle.mount_answers.proofs.Picked.{place_of}
 
@@ -140,3 +141,9 @@ module _ (z : Sizes) (size : IsPageSize z.page_bytes) (m : PageMap) (objects : O
 pub keys_are_footprint : (z : Sizes) (m : PageMap) (objects : Objects) (list : List ℕ) → 32 ≤ z.page_bytes → z.page_bytes ≤ 4096 → Shows z (has m) objects
     → GoesThrough z (has m) (root_number ∷ []) 0 (Wholly list) → (o c : ℕ) → IsLookedUp z (has m) list o c ↔ InFootprint z (has m) objects o c
 keys_are_footprint z m objects list least most shown on = same_keys z (record { least = least; most = most }) m objects shown list on
+
+pub test_keeps_footprint : (z : Sizes) (m : PageMap) (objects : Objects) (list : List ℕ) (keeps : ℕ → ℕ → Bool) → 32 ≤ z.page_bytes → z.page_bytes ≤ 4096 → Shows z (has m) objects
+    → GoesThrough z (has m) (root_number ∷ []) 0 (Wholly list) → ((o c : ℕ) → (keeps o c ≡ true) ↔ IsLookedUp z (has m) list o c) → KeepsFootprint z m objects keeps
+test_keeps_footprint z m objects list keeps least most shown on those o c =
+    let same = keys_are_footprint z m objects list least most shown on o c in
+    (λ stays. same.0 ((those o c).0 stays), λ looked. (those o c).1 (same.1 looked))

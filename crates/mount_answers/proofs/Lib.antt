@@ -1,0 +1,10 @@
+pub mod SameMaps
+pub mod NewestMaps
+pub mod WholeTrees
+pub mod SlotCounts
+pub mod Footprints
+pub mod Picked
+pub mod Room
+pub mod Listed
+pub mod Filtered
+pub mod VolumeSizes

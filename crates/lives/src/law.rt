@@ -1,16 +1,18 @@
 // The laws of lives, each by a function that does nothing.
-ghost use Rattle.std.specs.Prelude.{◌≡◌, ◌++◌, ℕ, ◌+◌, true, false, List, [], ◌∷◌};
-ghost use Rattle.std.specs.List.{All};
+ghost use Rattle.std.specs.Prelude.{◌≡◌, ◌⊎◌, ◌≤◌, ◌++◌, ℕ, ◌+◌, true, false, List, [], ◌∷◌, length, Some};
+ghost use Rattle.std.specs.List.{All, list_any};
 ghost use Rattle.volume_terms.specs.Sizes.{Sizes, IsSizes};
 ghost use Rattle.posix_profile.specs.Charge.{fits};
 ghost use Rattle.posix_profile.specs.Losses.{IsSyncDone, settled_after};
 ghost use Rattle.posix_profile.specs.Names.{settle};
-ghost use Rattle.posix_profile.specs.Runs.{RunHolds};
+ghost use Rattle.posix_profile.specs.Runs.{is_stop, RunHolds};
 ghost use Rattle.posix_profile.specs.State.{Objects};
 ghost use Rattle.posix_profile.specs.WellFormed.{IsTree};
 ghost use Rattle.posix_profile.specs.declared.command.Stamped.{Stamped};
+ghost use Rattle.posix_profile.specs.declared.reply.Reply.{Reply};
+ghost use Rattle.posix_profile.specs.declared.reply.Reply.TheVariants as replies;
 ghost use Rattle.posix_profile.specs.laws.Step.{AreStamped};
-ghost use Rattle.lives.specs.Lives.{Mounted, Faulty, SessionRecord, at_mount, KeepsPrefix, IsSessionFrom, IsLife};
+ghost use Rattle.lives.specs.Lives.{Mounted, NoMemory, Faulty, SessionRecord, at_mount, KeepsPrefix, IsSessionFrom, IsLife};
 ghost use Rattle.lives.specs.PlainLives.{step_replies, plain_sessions, plain_end, commands_of, IsUndisturbed, IsWhole};
 
 /// No session is a life; lives in turn are a life, and a life has a tree wherever it is divided.
@@ -27,6 +29,19 @@ pub fn a_life_keeps_its_tree_sound()
     ensures { (z : Sizes) (first last : Objects) (sessions : List SessionRecord)
         → IsSizes z → All (λ (session : SessionRecord). AreStamped session.commands) sessions → IsTree z first → fits z first ≡ true → IsLife z first sessions last
         → IsTree z last × (fits z last ≡ true) × ((settle (at_mount last)).objects ≡ last) }
+{}
+
+/// Each command that was begun has its reply, and no other has one.
+pub fn each_command_begun_has_a_reply()
+    ensures { (z : Sizes) (before after : Objects) (session : SessionRecord) → IsSessionFrom z before session after
+        → (length session.replies ≡ session.begun) × (session.begun ≤ length session.commands) }
+{}
+
+/// Where power was not lost a mount fails for want of memory alone, no reply is the stop, and an unmount is done.
+pub fn only_a_cut_stops_a_session()
+    ensures { (z : Sizes) (before after : Objects) (session : SessionRecord) → IsSessionFrom z before session after → session.cut ≡ false
+        → ((session.mounted ≡ Mounted) ⊎ (session.mounted ≡ NoMemory)) × (list_any is_stop session.replies ≡ false)
+        × ((reply : Reply) → session.unmounted ≡ Some reply → reply ≡ replies.Done) }
 {}
 
 /// No mount in a life finds a fault on the flash.

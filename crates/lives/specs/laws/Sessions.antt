@@ -1,5 +1,5 @@
 -- What follows of one session.
-use Rattle.std.specs.Prelude.{◌≡◌, ◌<◌, ◌≤◌, ◌+◌, ℕ, suc, Bool, true, false, ◌||◌, List, [], ◌∷◌, ◌++◌, length, take, Some}
+use Rattle.std.specs.Prelude.{◌≡◌, ◌⊎◌, ◌<◌, ◌≤◌, ◌+◌, ℕ, suc, Bool, true, false, ◌||◌, List, [], ◌∷◌, ◌++◌, length, take, Some, None}
 use Rattle.std.specs.List.{list_any}
 use Rattle.std.proofs.Common.{refl, sym, ap, subst, ◌∙◌, inl, inr, arith}
 use Rattle.std.proofs.lemmas.Bool.{cases_Bool, or_right}
@@ -21,7 +21,7 @@ use Rattle.posix_profile.specs.declared.command.Stamped.{Stamped}
 use Rattle.posix_profile.specs.declared.reply.Errno.TheVariants as errors
 use Rattle.posix_profile.specs.declared.reply.Reply.{Reply}
 use Rattle.posix_profile.specs.declared.reply.Reply.TheVariants as replies
-use Rattle.lives.specs.Lives.{Mounted, NoMemory, Gone, Faulty, SessionRecord, at_mount, Serves, IsSessionFrom}
+use Rattle.lives.specs.Lives.{Mounted, NoMemory, Gone, Faulty, SessionRecord, at_mount, Serves, IsSessionFrom, FailsToMount}
 use Rattle.lives.specs.PlainLives.{step_replies, step_state, plain_tree, plain_session, IsUndisturbed, IsWhole}
 
 -- no session finds a fault on the flash
@@ -51,9 +51,19 @@ stays_unmounted z before session after is not = elim is.ends [
   | inr serves ↦ absurd (not serves.mounted)
 ]
 
--- a stop at the end is a stop
-stop_there : (before : List Reply) → list_any is_stop (before ++ replies.Error errors.EIO ∷ []) ≡ true
-stop_there before = list_any-append is_stop before (replies.Error errors.EIO ∷ []) ∙ or_right (list_any is_stop before) true refl
+-- a run has no more replies than commands
+run_within : (z : Sizes) (s : State) (cs : List Stamped) (rs : List Reply) → RunHolds z false s cs rs → length rs ≤ length cs
+run_within z s [] [] holds = omega arith
+run_within z s (c ∷ cs) [] holds = omega arith
+run_within z s [] (r ∷ rs) holds = absurd holds
+run_within z s (c ∷ cs) (r ∷ rs) holds = omega (arith, run_within z (after_one z false s c r) cs rs holds.2)
+
+-- each command that was begun has its reply, and no others have one
+pub replies_begun : (z : Sizes) (before after : Objects) (session : SessionRecord) → IsSessionFrom z before session after → (length session.replies ≡ session.begun) × (session.begun ≤ length session.commands)
+replies_begun z before after session is = elim is.ends [
+  | inl fails ↦ (ap length fails.replies ∙ sym fails.begun, omega (arith, fails.begun))
+  | inr serves ↦ (serves.answered, omega (arith, serves.answered, run_within z (at_mount before) session.commands session.replies serves.run))
+]
 
 -- without a cut no command is answered by the stop
 pub goes_on : (session : SessionRecord) → (list_any is_stop session.replies ≡ true → session.cut ≡ true) → session.cut ≡ false → list_any is_stop session.replies ≡ false
@@ -61,6 +71,29 @@ goes_on session cuts uncut = elim (cases_Bool (list_any is_stop session.replies)
   | inl stops ↦ let two : true ≡ false = sym (cuts stops) ∙ uncut in absurd cc
   | inr goes ↦ goes
 ]
+
+-- without a cut a mount fails for want of memory alone, no command is answered by the stop, and an unmount is done
+pub uncut_session : (z : Sizes) (before after : Objects) (session : SessionRecord) → IsSessionFrom z before session after → session.cut ≡ false
+    → ((session.mounted ≡ Mounted) ⊎ (session.mounted ≡ NoMemory)) × (list_any is_stop session.replies ≡ false) × ((reply : Reply) → session.unmounted ≡ Some reply → reply ≡ replies.Done)
+uncut_session z before after session is uncut = (mount is.ends, goes_on session is.cuts.commands uncut, done is.ends)
+  where
+    mount : FailsToMount before session after ⊎ Serves z before session after → (session.mounted ≡ Mounted) ⊎ (session.mounted ≡ NoMemory)
+    mount (inl fails) = elim fails.mounted [
+      | inl memory ↦ inr memory
+      | inr gone ↦ let two : true ≡ false = sym (is.cuts.mount gone) ∙ uncut in absurd cc
+    ]
+    mount (inr serves) = inl serves.mounted
+
+    done : FailsToMount before session after ⊎ Serves z before session after → (reply : Reply) → session.unmounted ≡ Some reply → reply ≡ replies.Done
+    done (inl fails) reply told = let two : None ≡ Some reply = sym fails.unmounted ∙ told in absurd cc
+    done (inr serves) reply told = elim (serves.unmounted reply told) [
+      | inl is_done ↦ is_done
+      | inr stop ↦ let two : true ≡ false = sym (is.cuts.unmount (told ∙ ap Some stop)) ∙ uncut in absurd cc
+    ]
+
+-- a stop at the end is a stop
+stop_there : (before : List Reply) → list_any is_stop (before ++ replies.Error errors.EIO ∷ []) ≡ true
+stop_there before = list_any-append is_stop before (replies.Error errors.EIO ∷ []) ∙ or_right (list_any is_stop before) true refl
 
 -- then all of them are begun
 pub all_begun : (z : Sizes) (before : Objects) (session : SessionRecord) (after : Objects) → Serves z before session after → list_any is_stop session.replies ≡ false → session.begun ≡ length session.commands

@@ -24,11 +24,15 @@ pub fn lives_in_turn_are_a_life()
         → IsLife z first (earlier ++ later) last → (between : Objects) × IsLife z first earlier between × IsLife z between later last }
 {}
 
-/// From a tree that fits a life leads to trees that fit, and a mount would show them again.
+/// From a tree that fits each tree of a life is one that fits, and a mount would show it again.
 pub fn a_life_keeps_its_tree_sound()
-    ensures { (z : Sizes) (first last : Objects) (sessions : List SessionRecord)
+    ensures last { (z : Sizes) (first last : Objects) (sessions : List SessionRecord)
         → IsSizes z → All (λ (session : SessionRecord). AreStamped session.commands) sessions → IsTree z first → fits z first ≡ true → IsLife z first sessions last
         → IsTree z last × (fits z last ≡ true) × ((settle (at_mount last)).objects ≡ last) }
+    ensures between { (z : Sizes) (first last : Objects) (earlier later : List SessionRecord)
+        → IsSizes z → All (λ (session : SessionRecord). AreStamped session.commands) earlier → IsTree z first → fits z first ≡ true → IsLife z first (earlier ++ later) last
+        → (between : Objects) × IsLife z first earlier between × IsLife z between later last
+        × IsTree z between × (fits z between ≡ true) × ((settle (at_mount between)).objects ≡ between) }
 {}
 
 /// Each command that was begun has its reply, and no other has one.

@@ -55,6 +55,14 @@ life_tree z first last xs sizes stamped tree fit is =
     let sound = life_sound z first last xs sizes stamped is (record { well_formed = tree_well_formed z first tree; fit = fit }) in
     (well_formed_tree z last sound.well_formed, sound.fit, ap (λ s. s.objects) (prune_same z (at_mount last) sound.well_formed))
 
+-- and so is each tree between
+pub life_trees : (z : Sizes) (first last : Objects) (xs ys : List SessionRecord) → IsSizes z → All (λ (x : SessionRecord). AreStamped x.commands) xs → IsTree z first → fits z first ≡ true → IsLife z first (xs ++ ys) last
+    → (between : Objects) × IsLife z first xs between × IsLife z between ys last × IsTree z between × (fits z between ≡ true) × ((settle (at_mount between)).objects ≡ between)
+life_trees z first last xs ys sizes stamped tree fit is =
+    let at = life_split z first last xs ys is in
+    let sound = life_tree z first at.0 xs sizes stamped tree fit at.1 in
+    (at.0, at.1, at.2, sound.0, sound.1, sound.2)
+
 -- a session of a life that was mounted, without a cut or want of memory, has the replies of the steps
 pub life_replies : (z : Sizes) (first last : Objects) (xs ys : List SessionRecord) (x : SessionRecord) → IsLife z first (xs ++ x ∷ ys) last → IsUndisturbed x
     → (before : Objects) × IsLife z first xs before × (x.replies ≡ step_replies z (at_mount before) x.commands)

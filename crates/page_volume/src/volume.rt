@@ -1,7 +1,7 @@
 // A volume over pages.
 ghost use Rattle.std.specs.Prelude.{◌≡◌, ◌⊎◌, ◌≤◌, ℕ, true, false, length, IfOk, IfErr, OnOk};
 ghost use Rattle.std.specs.FinMap as map;
-ghost use Rattle.volume_terms.specs.Sizes.{Sizes};
+ghost use Rattle.volume_terms.specs.Sizes.{Sizes, IsSizes};
 ghost use Rattle.posix_profile.specs.Losses.{is_synced};
 ghost use Rattle.posix_profile.specs.Runs.{Replies, after_one, is_stop};
 ghost use Rattle.posix_profile.specs.State.{Objects, State};
@@ -43,7 +43,7 @@ impl<P: PageStore> PageVolume<P> {
         ensures table { IfOk result (λ v. table_of v ≡ table) }
         ensures read_only { IfOk result (λ v. is_read_only v ≡ read_only) }
         ensures goes_on { IfOk result (λ v. is_stopped v ≡ false) }
-        ensures at { (objects : Objects) → Stands (sizes_of table) (P.state pages) objects → Tells table objects → IsSound (sizes_of table) (record { objects = objects; handles = map.empty })
+        ensures at { (objects : Objects) → IsSizes (sizes_of table) → Stands (sizes_of table) (P.state pages) objects → Tells table objects → IsSound (sizes_of table) (record { objects = objects; handles = map.empty })
             → IfOk result (IsVolumeOf P.state (sizes_of table) (record { objects = objects; handles = map.empty })) }
         ensures given_back { IfErr result (λ back. P.state back.0 ≡ P.state pages) }
     {

@@ -1,5 +1,5 @@
 -- What is told of one object of the tree.
-use Rattle.std.specs.Prelude.{◌≡◌, ℕ, Bool, true, is_some}
+use Rattle.std.specs.Prelude.{◌≡◌, ℕ, true}
 use Rattle.std.specs.Int.{div_ceil}
 use Rattle.page_tags.specs.declared.header.ObjectKind.{ObjectKind}
 use Rattle.page_tags.specs.declared.header.ObjectKind.TheVariants as kinds
@@ -10,11 +10,10 @@ use Rattle.volume_terms.specs.Sizes.{Sizes, page_slots}
 use Rattle.tree_walk.specs.Heads.{SaysHead}
 use Rattle.tree_walk.specs.declared.object.Visited.{Visited}
 
--- a sound store with pages of this size, and the keys that are told to have one are those that have one
-pub record IsSeen (z : Sizes) (told : ℕ → ℕ → Bool) (p : PagesState) : Type 0 where
+-- a sound store with pages of this size
+pub record IsSeen (z : Sizes) (p : PagesState) : Type 0 where
   pub sound : p.sound ≡ true
   pub size : z.page_bytes ≡ p.page_bytes
-  pub keys : (o c : ℕ) → told o c ≡ is_some (p.present o c)
 
 -- how many pages the slots of an object of this length take
 abbrev pub slot_pages : Sizes → ObjectKind → ℕ → ℕ

@@ -1,23 +1,23 @@
 // The chunks of a file.
-ghost use Rattle.std.specs.Prelude.{◌≡◌, ◌≤◌, ℕ, true, false, length};
+ghost use Rattle.std.specs.Prelude.{◌≡◌, ◌≤◌, ℕ, true, false, IsSome, IsNone, length};
 ghost use Rattle.page_tags.specs.Headers.{is_present};
 
-use crate::presence::KeyPresence;
 use flash_tree::Key;
 use page_tags::is_present;
+use pages::KnownPages;
 
-/// Whether each chunk that a file's presence bits name has a page.
-pub(crate) fn has_chunks<K: KeyPresence>(keys: &K, file: u64, bits: &[u8]) -> bool
+/// Whether each chunk that a file's presence bits name has a page, in pages that are sound.
+pub(crate) fn has_chunks<P: KnownPages>(pages: &P, file: u64, bits: &[u8]) -> bool
     requires { length bits.now ≤ 4064 }
-    ensures all { result ≡ true → (c : ℕ) → 1 ≤ c → is_present bits.now c ≡ true → K.has keys.now file c ≡ true }
-    ensures lacks { result ≡ false → (c : ℕ) × (1 ≤ c) × (is_present bits.now c ≡ true) × (K.has keys.now file c ≡ false) }
+    ensures all { (P.state pages.now).sound ≡ true → result ≡ true → (c : ℕ) → 1 ≤ c → is_present bits.now c ≡ true → IsSome ((P.state pages.now).present file c) }
+    ensures lacks { (P.state pages.now).sound ≡ true → result ≡ false → (c : ℕ) × (1 ≤ c) × (is_present bits.now c ≡ true) × IsNone ((P.state pages.now).present file c) }
 {
     for place in 0..8 * bits.len() as u64 {
         let key = Key {
             object: file,
             chunk: 1 + place,
         };
-        if is_present(bits, key.chunk) && !keys.has(key) {
+        if is_present(bits, key.chunk) && !pages.has(key) {
             return false;
         }
     }

@@ -11,9 +11,8 @@ use crate::directory::read_slots;
 use crate::fault::WalkFault;
 use crate::file::has_chunks;
 use crate::head::{Head, read_head};
-use crate::presence::KeyPresence;
 use page_tags::ObjectKind;
-use pages::Pages;
+use pages::KnownPages;
 use std::alloc::Global;
 
 /// What is found of an object: its header, and the objects that it names, in the order of its slots.
@@ -24,24 +23,19 @@ pub struct Visited {
 }
 
 /// Goes through one object. Its header is read, and each page of a directory's slots once; a file's chunks are not read.
-pub fn visit<P: Pages, K: KeyPresence>(
-    alloc: Global,
-    pages: &mut P,
-    keys: &K,
-    object: u64,
-) -> Result<Visited, WalkFault>
+pub fn visit<P: KnownPages>(alloc: Global, pages: &mut P, object: u64) -> Result<Visited, WalkFault>
     ensures finds { OnlyFinds (P.state pages.old) (P.state pages.new) }
     ensures asked { (z : Sizes) → z.page_bytes ≡ (P.state pages.old).page_bytes
         → IfOk result (λ visited. (P.state pages.new).asked ≤ (P.state pages.old).asked + 1 + slot_pages z visited.head.kind visited.head.length) }
-    ensures leads { (z : Sizes) → IsSeen z (K.has keys.now) (P.state pages.old) → IfOk result (IsVisited z (has (P.state pages.old).present) object) }
-    ensures stops { (z : Sizes) → IsSeen z (K.has keys.now) (P.state pages.old)
+    ensures leads { (z : Sizes) → IsSeen z (P.state pages.old) → IfOk result (IsVisited z (has (P.state pages.old).present) object) }
+    ensures stops { (z : Sizes) → IsSeen z (P.state pages.old)
         → IfErr result (TellsWrong (λ wrong. Finds z (has (P.state pages.old).present) object (Stops wrong)) (P.state pages.new)) }
     ensures why { IfErr result (TellsWhy (P.state pages.new)) }
 {
     let head = read_head(alloc, pages, object)?;
     match head.kind {
         ObjectKind::File => {
-            if !has_chunks(keys, object, &head.bits) {
+            if !has_chunks(pages, object, &head.bits) {
                 return Err(WalkFault::Damaged);
             }
             Ok(Visited {

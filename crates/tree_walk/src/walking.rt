@@ -14,35 +14,30 @@ ghost use Rattle.tree_walk.specs.declared.fault.WalkFault.TheVariants as faults;
 use crate::fault::WalkFault;
 use crate::head::Head;
 use crate::object::{Visited, visit};
-use crate::presence::KeyPresence;
 use crate::tree::Tree;
 use crate::volume::ROOT;
 use page_tags::ObjectKind;
-use pages::Pages;
+use pages::KnownPages;
 use std::alloc::Global;
 use std::collections::{BTreeMap, BTreeSet};
 
 /// Goes through all objects of a tree from the root on, each once, in the order in which they are named.
-pub fn walk<P: Pages, K: KeyPresence>(
-    alloc: Global,
-    pages: &mut P,
-    keys: &K,
-) -> Result<Tree, WalkFault>
+pub fn walk<P: KnownPages>(alloc: Global, pages: &mut P) -> Result<Tree, WalkFault>
     ensures finds { OnlyFinds (P.state pages.old) (P.state pages.new) }
-    ensures through { (z : Sizes) → IsSeen z (K.has keys.now) (P.state pages.old)
+    ensures through { (z : Sizes) → IsSeen z (P.state pages.old)
         → IfOk result (λ tree. GoesThrough z (has (P.state pages.old).present) (root_number ∷ []) 0 (Wholly (numbers_of tree))) }
-    ensures once { (z : Sizes) → IsSeen z (K.has keys.now) (P.state pages.old)
+    ensures once { (z : Sizes) → IsSeen z (P.state pages.old)
         → IfOk result (λ tree. NamesTwice z (has (P.state pages.old).present) (numbers_of tree) → ⊥) }
     ensures size { IfOk result (λ tree. page_size tree ≡ (P.state pages.old).page_bytes) }
-    ensures heads { (z : Sizes) → IsSeen z (K.has keys.now) (P.state pages.old) → IfOk result (Tells z (has (P.state pages.old).present)) }
-    ensures fault { (z : Sizes) → IsSeen z (K.has keys.now) (P.state pages.old)
+    ensures heads { (z : Sizes) → IsSeen z (P.state pages.old) → IfOk result (Tells z (has (P.state pages.old).present)) }
+    ensures fault { (z : Sizes) → IsSeen z (P.state pages.old)
         → IfErr result (TellsWrong (IsWrongTree z (has (P.state pages.old).present)) (P.state pages.new)) }
     ensures why { IfErr result (TellsWhy (P.state pages.new)) }
 {
     let mut walk = begin(alloc)?;
     let mut place = 0;
     while place < walk.objects.len() {
-        walk.step(alloc, pages, keys, place)?;
+        walk.step(alloc, pages, place)?;
         place += 1;
     }
     if walk.names_directory_again() {
@@ -82,25 +77,24 @@ fn begin(alloc: Global) -> Result<WalkState, WalkFault>
 
 impl WalkState {
     /// Visits the object at a place.
-    fn step<P: Pages, K: KeyPresence>(
+    fn step<P: KnownPages>(
         &mut self,
         alloc: Global,
         pages: &mut P,
-        keys: &K,
         place: usize,
     ) -> Result<(), WalkFault>
         requires within { place < length self.old.objects.items }
         requires knows { Knows self.old }
         ensures finds { OnlyFinds (P.state pages.old) (P.state pages.new) }
         ensures knows { OnOk result (Knows self.new) }
-        ensures goes { (z : Sizes) → IsSeen z (K.has keys.now) (P.state pages.old) → IsGoing z (has (P.state pages.old).present) place self.old
+        ensures goes { (z : Sizes) → IsSeen z (P.state pages.old) → IsGoing z (has (P.state pages.old).present) place self.old
             → OnOk result (IsGoing z (has (P.state pages.old).present) (place + 1) self.new) }
-        ensures stops { (z : Sizes) → IsSeen z (K.has keys.now) (P.state pages.old)
+        ensures stops { (z : Sizes) → IsSeen z (P.state pages.old)
             → IfErr result (TellsWrong (λ wrong. (o : ℕ) × (slice_get self.old.objects.items place ≡ Some o) × Finds z (has (P.state pages.old).present) o (Stops wrong)) (P.state pages.new)) }
         ensures why { IfErr result (TellsWhy (P.state pages.new)) }
     {
         let object = self.objects[place];
-        let visited = visit(alloc, pages, keys, object)?;
+        let visited = visit(alloc, pages, object)?;
         self.take(object, visited)
     }
 

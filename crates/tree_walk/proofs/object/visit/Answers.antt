@@ -1,4 +1,4 @@
-use Rattle.std.proofs.Common.{◌≡◌, ◌∙◌, List, ℕ, true, false, sym, ap, subst, rules}
+use Rattle.std.proofs.Common.{◌≡◌, ◌∙◌, List, ℕ, true, false, IsSome, IsNone, sym, ap, subst, rules}
 use Rattle.std.proofs.lemmas.Result.{err_from_is_err_and}
 use Rattle.page_tags.specs.Headers.{is_present}
 use Rattle.flash_tree.specs.Mount.{Stops, Leads, Finds}
@@ -17,9 +17,10 @@ returns-in_err-head-clause-stops g c = λ z seen.
 pub returns-then-not-has_chunks-clause-stops : goal.returns-then-not-has_chunks-clause-stops
 returns-then-not-has_chunks-clause-stops g c = λ z seen.
     let off : c.has_chunks.result ≡ false = search rules in
-    let lacks = c.has_chunks.ensures.lacks off in
-    file_lacks z (g.K.KeyPresence.has c.args.keys.now) (g.P.Pages.state c.args.pages.now) c.args.object c.in_ok-head.head (c.in_ok-head.ensures.told seen.sound z seen.size) seen c.in-File.is
-    (lacks.0, lacks.1, ap (λ (bs : List ℕ). is_present bs lacks.0) (sym c.deref.ensures.value) ∙ lacks.2, lacks.3)
+    let finds = c.read_head.ensures.finds in
+    let lacks = c.has_chunks.ensures.lacks (finds.sound ∙ seen.sound) off in
+    file_lacks z (g.P.Pages.state c.args.pages.now) c.args.object c.in_ok-head.head (c.in_ok-head.ensures.told seen.sound z seen.size) c.in-File.is
+    (lacks.0, lacks.1, ap (λ (bs : List ℕ). is_present bs lacks.0) (sym c.deref.ensures.value) ∙ lacks.2, subst (λ (m : PageMap). IsNone (m c.args.object lacks.0)) finds.present lacks.3)
 
 pub returns-in_err-named-in-Directory-clause-stops : goal.returns-in_err-named-in-Directory-clause-stops
 returns-in_err-named-in-Directory-clause-stops g c = λ z seen.
@@ -29,17 +30,19 @@ returns-in_err-named-in-Directory-clause-stops g c = λ z seen.
     let says = c.in_ok-head.ensures.told seen.sound z seen.size in
     let p = err_from_is_err_and c.from_residual-in_err-named-in-Directory.result c.from_residual-in_err-named-in-Directory.ensures.1 in
     rw (p.1, p.2) (tells_as (LacksOf z mid.present c.args.object c.in_ok-head.head.length) (λ wrong. Finds z (has old.present) c.args.object (Stops wrong))
-    (λ wrong lacks. directory_lacks z (g.K.KeyPresence.has c.args.keys.now) old c.args.object c.in_ok-head.head says c.in-Directory.is wrong
+    (λ wrong lacks. directory_lacks z old c.args.object c.in_ok-head.head says c.in-Directory.is wrong
     (subst (λ (m : PageMap). LacksOf z m c.args.object c.in_ok-head.head.length wrong) finds.present lacks))
     (g.P.Pages.state c.read_slots.new.pages) _ (c.in_err-named-in-Directory.ensures.fault (finds.sound ∙ seen.sound) z (seen.size ∙ sym finds.page_bytes)))
 
 pub returns-else-not-has_chunks-clause-leads : goal.returns-else-not-has_chunks-clause-leads
 returns-else-not-has_chunks-clause-leads g c = λ z seen.
     let old : PagesState = g.P.Pages.state c.args.pages.now in
+    let finds = c.read_head.ensures.finds in
     let on : c.has_chunks.result ≡ true = search rules in
     let says = c.in_ok-head.ensures.told seen.sound z seen.size in
-    let leads = file_there z (g.K.KeyPresence.has c.args.keys.now) old c.args.object c.in_ok-head.head says seen c.in-File.is
-    (λ n from present. c.has_chunks.ensures.all on n from (ap (λ (bs : List ℕ). is_present bs n) c.deref.ensures.value ∙ present)) in
+    let leads = file_there z old c.args.object c.in_ok-head.head says c.in-File.is
+    (λ n from present. subst (λ (m : PageMap). IsSome (m c.args.object n)) finds.present
+    (c.has_chunks.ensures.all (finds.sound ∙ seen.sound) on n from (ap (λ (bs : List ℕ). is_present bs n) c.deref.ensures.value ∙ present))) in
     record { head = says; leads = subst (λ (xs : List ℕ). Finds z (has old.present) c.args.object (Leads xs)) (sym c.new.ensures.items) leads }
 
 pub returns-in_ok-named-in-Directory-clause-leads : goal.returns-in_ok-named-in-Directory-clause-leads
@@ -50,4 +53,4 @@ returns-in_ok-named-in-Directory-clause-leads g c = λ z seen.
     let named : List ℕ = c.in_ok-named-in-Directory.named.items in
     let told = c.in_ok-named-in-Directory.ensures.told (finds.sound ∙ seen.sound) z (seen.size ∙ sym finds.page_bytes) in
     let from = subst (λ (m : PageMap). NamesFrom z m c.args.object c.in_ok-head.head.length named) finds.present told in
-    record { head = says; leads = directory_there z (g.K.KeyPresence.has c.args.keys.now) old c.args.object c.in_ok-head.head says c.in-Directory.is named from }
+    record { head = says; leads = directory_there z old c.args.object c.in_ok-head.head says c.in-Directory.is named from }

@@ -33,7 +33,7 @@ loop-place-preserved g c = record {
       let finds = c.loop-place.invariant.finds in
       let going = subst (λ (m : PageMap). IsGoing z (has m) c.loop-place.place c.loop-place.walk) (sym finds.present) (c.loop-place.invariant.going z seen) in
       subst (λ (m : PageMap). IsGoing z (has m) (c.loop-place.place + 1) c.step.new.self) finds.present
-      (c.in_ok-step.ensures.goes z (still_seen z (g.K.KeyPresence.has c.args.keys.now) old now finds seen) going);
+      (c.in_ok-step.ensures.goes z (still_seen z old now finds seen) going);
 }
 
 pub returns-in_err-step-clause-fault : goal.returns-in_err-step-clause-fault
@@ -46,7 +46,7 @@ returns-in_err-step-clause-fault g c = λ z seen.
     let p = err_from_is_err_and c.from_residual-in_err-step.result c.from_residual-in_err-step.ensures.1 in
     rw (p.1, p.2) (tells_as (λ wrong. (o : ℕ) × (slice_get list c.loop-place.place ≡ Some o) × Finds z (has now.present) o (Stops wrong)) (IsWrongTree z (has old.present))
     (λ wrong (o, at, found). inl (going.so_far (Wrongly wrong) (stops o wrong at (subst (λ (m : PageMap). Finds z (has m) o (Stops wrong)) finds.present found))))
-    (g.P.Pages.state c.step.new.pages) _ (c.in_err-step.ensures.stops z (still_seen z (g.K.KeyPresence.has c.args.keys.now) old now finds seen)))
+    (g.P.Pages.state c.step.new.pages) _ (c.in_err-step.ensures.stops z (still_seen z old now finds seen)))
 
 pub returns-in_err-walk-clause-fault : goal.returns-in_err-walk-clause-fault
 returns-in_err-walk-clause-fault g c = λ z seen.
@@ -64,7 +64,7 @@ returns-then-names_directory_again-clause-fault g c = λ z seen.
     let walk = c.loop-place.walk in
     let going = c.loop-place.invariant.going z seen in
     let sized = g.met.P.Pages.sized c.args.pages.now in
-    let size = page_size z (g.K.KeyPresence.has c.args.keys.now) old sized.0 sized.1 seen in
+    let size = page_size z old sized.0 sized.1 seen in
     let all : length walk.objects.items ≡ c.loop-place.place = omega (arith, going.within, c.loop-place-test.false, c.len.ensures) in
     let on : c.names_directory_again.result ≡ true = search rules in
     let d = c.names_directory_again.ensures.is on in
@@ -83,7 +83,7 @@ returns-clause-through g c = λ z seen.
     let walk = c.loop-place.walk in
     let going = c.loop-place.invariant.going z seen in
     let sized = g.met.P.Pages.sized c.args.pages.now in
-    let size = page_size z (g.K.KeyPresence.has c.args.keys.now) old sized.0 sized.1 seen in
+    let size = page_size z old sized.0 sized.1 seen in
     let all : length walk.objects.items ≡ c.loop-place.place = omega (arith, going.within, c.loop-place-test.false, c.len.ensures) in
     gone_through z size (has old.present) (single old.present) c.loop-place.place walk going all
 
@@ -93,7 +93,7 @@ returns-clause-once g c = λ z seen twice.
     let walk = c.loop-place.walk in
     let going = c.loop-place.invariant.going z seen in
     let sized = g.met.P.Pages.sized c.args.pages.now in
-    let size = page_size z (g.K.KeyPresence.has c.args.keys.now) old sized.0 sized.1 seen in
+    let size = page_size z old sized.0 sized.1 seen in
     let all : length walk.objects.items ≡ c.loop-place.place = omega (arith, going.within, c.loop-place-test.false, c.len.ensures) in
     let off : c.names_directory_again.result ≡ false = search rules in
     let d = names_twice z size (has old.present) (single old.present) c.loop-place.place walk going all twice in

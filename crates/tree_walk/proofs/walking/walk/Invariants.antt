@@ -10,7 +10,7 @@ abbrev pub invariant-loop-place : goal.invariant-loop-place
 invariant-loop-place g l = record {
   finds : OnlyFinds (g.P.Pages.state l.fn.pages) (g.P.Pages.state l.pages);
   knows : Knows l.walk;
-  going : (z : Sizes) → IsSeen z (g.K.KeyPresence.has l.keys) (g.P.Pages.state l.fn.pages) → IsGoing z (has (g.P.Pages.state l.fn.pages).present) l.place l.walk;
+  going : (z : Sizes) → IsSeen z (g.P.Pages.state l.fn.pages) → IsGoing z (has (g.P.Pages.state l.fn.pages).present) l.place l.walk;
 }
 
 abbrev pub decreases-loop-place : goal.decreases-loop-place

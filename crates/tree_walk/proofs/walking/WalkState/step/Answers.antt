@@ -30,7 +30,7 @@ returns-clause-goes g c = λ z seen going.
     let object : ℕ = c.index-object.result.now in
     let at : slice_get list c.args.place ≡ Some object = slice_get-get_or list c.args.place object c.requires.within ∙ ap Some (sym c.index-object.ensures) in
     let sized = g.met.P.Pages.sized c.args.pages.now in
-    let size = page_size z (g.K.KeyPresence.has c.args.keys.now) old sized.0 sized.1 seen in
+    let size = page_size z old sized.0 sized.1 seen in
     when_done (Visits object c.in_ok-visited.visited c.args.self.now c.take.new.self) (IsGoing z (has old.present) (c.args.place + 1) c.take.new.self) c.take.result
     (λ t. goes_on z size (has old.present) (single old.present) c.args.place object c.args.self.now c.in_ok-visited.visited c.take.new.self going at (c.in_ok-visited.ensures.leads z seen) t) c.take.ensures.takes
 

@@ -1,0 +1,3 @@
+pub mod SameMaps
+pub mod NewestMaps
+pub mod WholeTrees

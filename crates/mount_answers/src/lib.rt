@@ -1,0 +1,6 @@
+//! What a mount answers of a flash, read off a map of its newest pages.
+#![tactic(auto)]
+
+mod law;
+
+pub use law::{a_map_of_the_newest_pages_answers, a_whole_list_shows_a_tree};

@@ -10,7 +10,7 @@ ghost use Rattle.newest_pages.specs.Newest.{seen};
 use chunk_index::{Index, KeptPage};
 use flash_tree::Key;
 use nand_model::{Nand, PageKind};
-use pages::{Pages, Presence};
+use pages::{KnownPages, Pages, Presence};
 use std::alloc::{AllocError, Global};
 use volume_terms::StoreFault;
 
@@ -95,5 +95,11 @@ impl<N: Nand> Pages for NewestPages<N> {
 
     fn page(&self) -> &[u8] {
         &self.page
+    }
+}
+
+impl<N: Nand> KnownPages for NewestPages<N> {
+    fn has(&self, key: Key) -> bool {
+        self.index.kept(key).is_some()
     }
 }

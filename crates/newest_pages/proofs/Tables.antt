@@ -27,7 +27,7 @@ use Rattle.mount_scan.specs.Scanned.{AreNewest, TellsNewest}
 use Rattle.mount_scan.specs.laws.Scan.{found_of, listed_spot}
 use Rattle.bad_blocks.specs.Standing.{IsKeptAt, AreKept, MayLie}
 use Rattle.newest_pages.specs.Opened.{OnlySeqs, NotesSeq, HasItsSeq, HaveNames, AreLeft, IsTableOf, IsOpened, kept_at}
-use Rattle.newest_pages.proofs.Reading.{flash_is}
+use Rattle.newest_pages.specs.laws.Reading.{flash_is}
 
 -- a table without marks, where there are no numbers left
 pub blank_tables : (d : Device) (n : Numbers) (g : Geometry) (r : Result Blocks AllocError) → (AreLeft n → ⊥) → g ≡ d.geometry

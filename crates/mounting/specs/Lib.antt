@@ -1,0 +1,4 @@
+pub mod Marked
+pub mod Tables
+pub mod Trees
+pub mod Faults

@@ -1,1 +1,3 @@
 pub mod Newest
+pub mod Footprints
+pub mod KeptTrees

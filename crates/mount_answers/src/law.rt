@@ -1,15 +1,27 @@
 // What follows for a flash from a map of its newest pages. A function here does nothing: its clauses are the laws.
-ghost use Rattle.std.specs.Prelude.{◌≡◌, ◌<◌, ℕ, List, [], ◌∷◌};
+ghost use Rattle.std.specs.Prelude.{◌≡◌, ◌<◌, ◌≤◌, ◌+◌, ℕ, List, [], ◌∷◌};
 ghost use Rattle.nand_model.specs.Flash.{Flash, IsWithin, IsSized};
 ghost use Rattle.nand_model.specs.declared.geometry.Geometry.{Geometry};
-ghost use Rattle.volume_terms.specs.Sizes.{root_number};
+ghost use Rattle.volume_terms.specs.Sizes.{Sizes, capacity, root_number};
 ghost use Rattle.posix_profile.specs.State.{Objects};
+ghost use Rattle.posix_profile.specs.Charge.{charge};
+ghost use Rattle.posix_profile.specs.WellFormed.{IsForest};
+ghost use Rattle.object_store.specs.Stores.{settled};
+ghost use Rattle.object_pages.specs.Holding.{HoldsObjects};
 ghost use Rattle.flash_tree.specs.Newest.{HasNewest};
 ghost use Rattle.flash_tree.specs.Tree.{Shows};
-ghost use Rattle.flash_tree.specs.Mount.{Wrong, IsDamaged, Wrongly, Wholly, GoesThrough, sizes_of, IsVolume, IsNoVolume, HasWrongRoot, NamesTwice, NotAVolume, IsWrong, Answers};
+ghost use Rattle.flash_tree.specs.Mount.{Wrong, IsDamaged, Wrongly, Wholly, GoesThrough, sizes_of, IsVolume, IsNoVolume, HasWrongRoot, NamesTwice, NotAVolume, IsWrong, IsTreeOf, Answers};
 ghost use Rattle.pages.specs.Maps.{PageMap, has};
+ghost use Rattle.block_state.specs.Table.{Table};
+ghost use Rattle.block_state.specs.Kept.{unkept_count, bad_count};
+ghost use Rattle.chunk_index.specs.declared.index.Index.{Index};
+ghost use Rattle.chunk_index.specs.Free.{HasMarks};
+ghost use Rattle.chunk_index.specs.Maps.{kept_pages, CountsAgree};
 ghost use Rattle.mount_answers.specs.Newest.{IsNewestMap};
+ghost use Rattle.mount_answers.specs.KeptTrees.{KeepsOnlyTree};
+ghost use Rattle.mount_answers.specs.Footprints.{IsFootprint};
 
+use chunk_index::{blocks_without_kept_pages_are_free, the_counts_are_of_the_keys};
 use flash_tree::a_flash_has_an_answer;
 
 /// What is wrong with a map of the newest pages of a flash is the flash's answer: there is no volume, the root's header
@@ -33,4 +45,30 @@ pub fn a_whole_list_shows_a_tree()
         → (objects : Objects) × Shows (sizes_of g spare) (has m) objects × Shows (sizes_of g spare) (HasNewest flash) objects }
 {
     a_flash_has_an_answer();
+}
+
+/// The pages that are looked up to see the tree of a volume, without any others, hold the objects of the tree. These hang
+/// together, and settle to themselves.
+pub fn the_footprint_holds_the_tree()
+    ensures holds { (g : Geometry) (spare : ℕ) (m part : PageMap) (objects : Objects) → IsVolume g (has m) spare → Shows (sizes_of g spare) (has m) objects
+        → IsFootprint (sizes_of g spare) m objects part → HoldsObjects (sizes_of g spare) part objects }
+    ensures forest { (z : Sizes) (m : PageMap) (objects : Objects) → Shows z (has m) objects → IsForest z objects }
+    ensures settled { (z : Sizes) (m : PageMap) (objects : Objects) → Shows z (has m) objects → settled objects ≡ objects }
+{}
+
+/// Where an index keeps the pages of a tree that is shown, and no others, the flash's answer is the tree, if it fits and
+/// blocks enough are bad or without a kept page; else something is amiss. More bad blocks than spare ones are no fault.
+pub fn a_shown_tree_has_room_or_not()
+    ensures full { (g : Geometry) (flash : Flash) (m : PageMap) (spare : ℕ) (objects : Objects) → IsNewestMap flash m → IsVolume g (has m) spare
+        → Shows (sizes_of g spare) (has m) objects → capacity (sizes_of g spare) < charge (sizes_of g spare) objects → Answers g flash (IsWrong IsDamaged) }
+    ensures scarce { (g : Geometry) (flash : Flash) (m : PageMap) (spare : ℕ) (objects : Objects) (x : Index) (t : Table) → IsNewestMap flash m → IsVolume g (has m) spare
+        → Shows (sizes_of g spare) (has m) objects → t.geometry ≡ g → CountsAgree t x → HasMarks flash t → KeepsOnlyTree flash (sizes_of g spare) m objects (kept_pages x)
+        → bad_count t ≤ spare → unkept_count t + bad_count t < 1 + spare → Answers g flash (IsWrong IsDamaged) }
+    ensures room { (g : Geometry) (flash : Flash) (m : PageMap) (spare : ℕ) (objects : Objects) (x : Index) (t : Table) → IsNewestMap flash m → IsVolume g (has m) spare
+        → Shows (sizes_of g spare) (has m) objects → t.geometry ≡ g → CountsAgree t x → HasMarks flash t → KeepsOnlyTree flash (sizes_of g spare) m objects (kept_pages x)
+        → charge (sizes_of g spare) objects ≤ capacity (sizes_of g spare) → (bad_count t ≤ spare → 1 + spare ≤ unkept_count t + bad_count t)
+        → Answers g flash (IsTreeOf spare objects) }
+{
+    blocks_without_kept_pages_are_free();
+    the_counts_are_of_the_keys();
 }

@@ -50,7 +50,7 @@ impl<'a, N: Nand> LentPages<'a, N> {
 
     /// The device, as it is.
     pub(crate) fn into_device(self) -> N
-        ensures { N.state result ≡ N.state self.device }
+        ensures { N.state result ≡ N.state self.entry.device }
     {
         self.device
     }

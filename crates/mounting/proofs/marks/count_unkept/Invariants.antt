@@ -6,4 +6,4 @@ use Rattle.mounting.specs.Marked.{marked}
 use Rattle.mounting.proofs.marks.count_unkept.Given as goal
 
 abbrev pub invariant-loop-block : goal.invariant-loop-block
-invariant-loop-block g l = l.count ≡ how_many (is_unkept (marked (g.N.Nand.state l.device.now).flash (table l.blocks.now))) l.block
+invariant-loop-block g l = l.count ≡ how_many (is_unkept (marked (g.N.Nand.state l.device).flash (table l.blocks))) l.block

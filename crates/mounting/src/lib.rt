@@ -4,6 +4,9 @@
 mod fault;
 mod keys;
 mod marks;
+mod naming;
 mod reader;
+mod scanning;
+mod tree;
 
 pub use fault::MountFault;

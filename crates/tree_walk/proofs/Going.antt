@@ -11,12 +11,14 @@ use Rattle.flash_tree.specs.laws.Tree.{slice_get_within}
 use Rattle.flash_tree.specs.Mount.{Leads, Finds, GoesThrough, goes}
 use Rattle.volume_terms.specs.Sizes.{Sizes, root_number}
 use Rattle.tree_walk.specs.Heads.{SaysHead}
+use Rattle.tree_walk.specs.Trees.{AreNamesOf, named_in}
 use Rattle.tree_walk.specs.Visits.{IsVisited}
 use Rattle.tree_walk.specs.Walks.{IsOn, IsOnce, IsAgain, HasAgain, HasHead, Begins, Visits, IsNamedAt, IsNamedBefore, IsNamedTwice, IsGoing}
 use Rattle.tree_walk.specs.declared.head.Head.{Head}
 use Rattle.tree_walk.specs.declared.object.Visited.{Visited}
+use Rattle.tree_walk.specs.declared.tree.NamedObject.{NamedObject}
 use Rattle.tree_walk.specs.declared.walking.WalkState.{WalkState}
-use Rattle.tree_walk.proofs.Lists.{IsAdded, added}
+use Rattle.tree_walk.specs.laws.Lists.{IsAdded, added}
 
 -- an object of slots stands in one
 pub at_mapped : (slots : List Entry) (k x : ℕ) → slice_get (list_map (λ entry. entry.object) slots) k ≡ Some x → (e : Entry) × (slice_get slots k ≡ Some e) × (e.object ≡ x)
@@ -53,6 +55,7 @@ begins_going z m walk b = record {
   heads = λ p o lt. absurd (omega (arith, lt));
   says = λ o head has. absurd (b.heads o head has);
   only = λ o head has. absurd (b.heads o head has);
+  names = b.names;
 } where
   alone : (p o : ℕ) → 1 ≤ p → slice_get (root_number ∷ []) p ≡ Some o → ⊥
   alone zero o from at = omega (arith, from)
@@ -168,6 +171,17 @@ module _ (z : Sizes) (size : IsPageSize z.page_bytes) (m : NewestMap) (single : 
     ]
   ]
 
+  -- the names of the first objects are what they were
+  names_stay : (k : ℕ) (names : List NamedObject) → AreNamesOf z m list k names → AreNamesOf z m new.objects.items k names
+  names_stay zero names are = are
+  names_stay (suc k) names (x, ns, before, is, finds, are, all) = (x, ns, before, b.stays k x is, finds, names_stay k before are, all)
+
+  names_on : AreNamesOf z m new.objects.items (n + 1) new.names.items
+  names_on =
+      let more : AreNamesOf z m new.objects.items (suc n) new.names.items = (o, named, old.names.items, here, v.leads, names_stay n old.names.items going.names, t.names) in
+      let one : suc n ≡ n + 1 = omega arith in
+      subst (λ k. AreNamesOf z m new.objects.items k new.names.items) one more
+
   was : (x : ℕ) (head : Head) → x ≢ o → HasHead new x head → HasHead old x head
   was x head ne has = sym (t.others x (ne_eqb x o ne)) ∙ has
 
@@ -193,4 +207,5 @@ module _ (z : Sizes) (size : IsPageSize z.page_bytes) (m : NewestMap) (single : 
       | inl same ↦ (n, omega arith, here ∙ ap Some (sym same))
       | inr ne ↦ let w = going.only x head (was x head ne has) in (w.0, omega (arith, w.1), b.stays w.0 x w.2)
     ];
+    names = names_on;
   }

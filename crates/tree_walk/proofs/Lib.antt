@@ -4,7 +4,6 @@ pub mod HeadBits
 pub mod Telling
 pub mod Visiting
 pub mod Seeing
-pub mod Lists
 pub mod Putting
 pub mod Going
 pub mod Twice

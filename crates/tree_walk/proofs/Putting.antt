@@ -14,11 +14,13 @@ use Rattle.std.proofs.lemmas.Bool.{cases_eq, cases_order, cond-true, cond-false,
 use Rattle.std.proofs.lemmas.List.Folds.{list_any-append}
 use Rattle.volume_terms.specs.laws.List.{push_last}
 use Rattle.flash_tree.specs.Mount.{with_new}
+use Rattle.tree_walk.specs.Trees.{named_in}
 use Rattle.tree_walk.specs.Walks.{IsAgain, Knows, HasAgain, Puts, Visits}
 use Rattle.tree_walk.specs.declared.head.Head.{Head}
 use Rattle.tree_walk.specs.declared.object.Visited.{Visited}
+use Rattle.tree_walk.specs.declared.tree.NamedObject.{NamedObject}
 use Rattle.tree_walk.specs.declared.walking.WalkState.{WalkState}
-use Rattle.tree_walk.proofs.Lists.{of_on, on_of, not_on, with_new_first, again_first, again_none, again_one}
+use Rattle.tree_walk.specs.laws.Lists.{of_on, on_of, not_on, with_new_first, again_first, again_none, again_one}
 
 -- ---- sets and maps of numbers
 
@@ -47,8 +49,8 @@ or_off false b off = off
 
 module _ (object : ℕ) (old new : WalkState) (knows : Knows old) where
   pub put_new : set.contains nat_cmp old.known object ≡ false → new.objects.items ≡ old.objects.items ++ object ∷ [] → set.Updates nat_cmp old.known new.known object true
-      → new.again ≡ old.again → new.heads ≡ old.heads → Puts (object ∷ []) old new
-  put_new unknown objects updates again heads = record {
+      → new.again ≡ old.again → new.heads ≡ old.heads → new.names ≡ old.names → Puts (object ∷ []) old new
+  put_new unknown objects updates again heads names = record {
     objects = objects ∙ sym (cond-false (list_any (nat_eq object) old.objects.items) old.objects.items (old.objects.items ++ object ∷ []) off);
     knows = λ o. elim (cases_eq o object) [
       | inl same ↦ has_here old.known new.known object updates o same ∙ sym (ap (list_any (nat_eq o)) objects ∙ of_on (old.objects.items ++ object ∷ []) o (length old.objects.items) (push_last old.objects.items object ∙ ap Some (sym same)))
@@ -63,13 +65,14 @@ module _ (object : ℕ) (old new : WalkState) (knows : Knows old) where
       ],
     );
     heads = heads;
+    names = names;
   } where
     off : list_any (nat_eq object) old.objects.items ≡ false
     off = sym (knows object) ∙ unknown
 
   pub put_again : set.contains nat_cmp old.known object ≡ true → new.objects ≡ old.objects → new.known.keys ≡ old.known.keys → set.Updates nat_cmp old.again new.again object true
-      → new.heads ≡ old.heads → Puts (object ∷ []) old new
-  put_again is_known objects known updates heads = record {
+      → new.heads ≡ old.heads → new.names ≡ old.names → Puts (object ∷ []) old new
+  put_again is_known objects known updates heads names = record {
     objects = ap (λ (v : Vec ℕ). v.items) objects ∙ sym (cond-true (list_any (nat_eq object) old.objects.items) old.objects.items (old.objects.items ++ object ∷ []) on);
     knows = λ o. ap (list_any (is_at (nat_cmp o))) known ∙ knows o ∙ ap (λ (v : Vec ℕ). list_any (nat_eq o) v.items) (sym objects);
     again = λ o. (
@@ -86,6 +89,7 @@ module _ (object : ℕ) (old new : WalkState) (knows : Knows old) where
       ],
     );
     heads = heads;
+    names = names;
   } where
     on : list_any (nat_eq object) old.objects.items ≡ true
     on = sym (knows object) ∙ is_known
@@ -98,9 +102,10 @@ pub record IsPutting (first : WalkState) (named : List ℕ) (now : WalkState) (r
   pub knows : Knows now
   pub again : (o : ℕ) → (HasAgain now o ⊎ IsAgain now.objects.items rest o) ↔ (HasAgain first o ⊎ IsAgain first.objects.items named o)
   pub heads : now.heads ≡ first.heads
+  pub names : now.names ≡ first.names
 
 pub put_none : (first : WalkState) (named : List ℕ) → Knows first → IsPutting first named first named
-put_none first named knows = record { objects = refl; knows = knows; again = λ o. (λ x. x, λ x. x); heads = refl }
+put_none first named knows = record { objects = refl; knows = knows; again = λ o. (λ x. x, λ x. x); heads = refl; names = refl }
 
 pub put_next : (first : WalkState) (named : List ℕ) (now : WalkState) (y : ℕ) (rest : List ℕ) (next : WalkState) → IsPutting first named now (y ∷ rest) → Puts (y ∷ []) now next → IsPutting first named next rest
 put_next first named now y rest next p one = record {
@@ -108,6 +113,7 @@ put_next first named now y rest next p one = record {
   knows = one.knows;
   again = λ o. (λ is. (p.again o).0 (back o is), λ is. forth o ((p.again o).1 is));
   heads = one.heads ∙ p.heads;
+  names = one.names ∙ p.names;
 } where
   back : (o : ℕ) → HasAgain next o ⊎ IsAgain next.objects.items rest o → HasAgain now o ⊎ IsAgain now.objects.items (y ∷ rest) o
   back o (inl has) = elim ((one.again o).0 has) [
@@ -129,16 +135,18 @@ put_all first named last rest none p = record {
   knows = p.knows;
   again = λ o. (λ has. (p.again o).0 (inl has), λ is. elim ((p.again o).1 is) [ inl has ↦ has | inr a ↦ absurd (again_none last.objects.items o (subst (λ (r : List ℕ). IsAgain last.objects.items r o) none a)) ]);
   heads = p.heads;
+  names = p.names;
 }
 
 -- ---- the header of the object that names them
 
 pub visits : (o : ℕ) (visited : Visited) (old mid new : WalkState) → Puts visited.named.items old mid → new.objects ≡ mid.objects → new.known ≡ mid.known → new.again ≡ mid.again
-    → table.Updates nat_cmp mid.heads new.heads o (Some visited.head) → Visits o visited old new
-visits o visited old mid new p objects known again updates = record {
+    → table.Updates nat_cmp mid.heads new.heads o (Some visited.head) → new.names.items ≡ mid.names.items ++ named_in o visited.named.items → Visits o visited old new
+visits o visited old mid new p objects known again updates names = record {
   objects = ap (λ (v : Vec ℕ). v.items) objects ∙ p.objects;
   knows = λ q. ap (λ (s : BTreeSet ℕ). set.contains nat_cmp s q) known ∙ p.knows q ∙ ap (λ (v : Vec ℕ). list_any (nat_eq q) v.items) (sym objects);
   again = λ q. (λ has. (p.again q).0 (ap (λ (s : BTreeSet ℕ). set.contains nat_cmp s q) (sym again) ∙ has), λ is. ap (λ (s : BTreeSet ℕ). set.contains nat_cmp s q) again ∙ (p.again q).1 is);
   here = updates.0 o ∙ cond-true _ _ _ (at_same o o refl);
   others = λ q ne. updates.0 q ∙ cond-false _ _ _ (at_other o q (λ same. true≢false (sym (eq-eqb q o same) ∙ ne))) ∙ ap (λ (hs : BTreeMap ℕ Head). table.get nat_cmp hs q) p.heads;
+  names = names ∙ ap (λ (v : Vec NamedObject). v.items ++ named_in o visited.named.items) p.names;
 }

@@ -3,5 +3,6 @@ pub mod Roots
 pub mod Heads
 pub mod SlotLists
 pub mod Visits
-pub mod Walks
 pub mod Trees
+pub mod Walks
+pub mod laws

@@ -1,14 +1,15 @@
 -- What is told of a tree that was gone through.
-use Rattle.std.specs.Prelude.{◌≡◌, ◌⊎◌, ℕ, Bool, false, List, [], ◌∷◌, Option, Some, slice_get}
+use Rattle.std.specs.Prelude.{◌≡◌, ◌⊎◌, ℕ, zero, suc, Bool, false, List, [], ◌∷◌, ◌++◌, length, map as list_map, Option, Some, slice_get}
 use Rattle.std.specs.Option.{option_map_or}
 use Rattle.std.specs.Ordering.{nat_cmp}
 use Rattle.std.specs.BTreeMap.{get}
 use Rattle.page_tags.specs.Headers.{Fields}
 use Rattle.flash_tree.specs.Tree.{NewestMap, HasHeader, LooksUp}
-use Rattle.flash_tree.specs.Mount.{Wrong, IsDamaged, Wrongly, Wholly, GoesThrough, NamesTwice}
+use Rattle.flash_tree.specs.Mount.{Wrong, IsDamaged, Leads, Finds, Wrongly, Wholly, GoesThrough, NamesTwice}
 use Rattle.volume_terms.specs.Sizes.{Sizes, root_number}
 use Rattle.tree_walk.specs.Heads.{SaysHead, head_looks_up}
 use Rattle.tree_walk.specs.declared.head.Head.{Head}
+use Rattle.tree_walk.specs.declared.tree.NamedObject.{NamedObject}
 use Rattle.tree_walk.specs.declared.tree.Tree.{Tree}
 
 -- the objects, in the order in which they were gone through
@@ -26,6 +27,29 @@ page_size tree = tree.page_bytes
 -- whether the page of a key is looked up to see the tree, as the headers say
 abbrev pub keeps_key : Tree → ℕ → ℕ → Bool
 keeps_key tree o c = option_map_or (λ head. head_looks_up (page_size tree) head c) (head_at tree o) false
+
+-- a directory names an object
+abbrev pub name_in : ℕ → ℕ → NamedObject
+name_in directory object = record { directory = directory; object = object }
+
+-- a directory names these objects
+abbrev pub named_in : ℕ → List ℕ → List NamedObject
+named_in directory named = list_map (name_in directory) named
+
+-- what the slots of the directories name, directory by directory
+abbrev pub names_of : Tree → List NamedObject
+names_of tree = tree.names.items
+
+-- these are the names that are found of the first n objects of the list, object by object
+abbrev pub AreNamesOf : Sizes → NewestMap → List ℕ → ℕ → List NamedObject → Type 0
+AreNamesOf z m list zero names = names ≡ []
+AreNamesOf z m list (suc n) names =
+    (o : ℕ) × (named : List ℕ) × (before : List NamedObject) × (slice_get list n ≡ Some o) × Finds z m o (Leads named) × AreNamesOf z m list n before
+    × (names ≡ before ++ named_in o named)
+
+-- the names of a tree are those of all its objects
+abbrev pub HasNames : Sizes → NewestMap → Tree → Type 0
+HasNames z m tree = AreNamesOf z m (numbers_of tree) (length (numbers_of tree)) (names_of tree)
 
 -- of each object of the list, and of no other, it is told what its header says
 pub record Tells (z : Sizes) (m : NewestMap) (tree : Tree) : Type 0 where
@@ -46,3 +70,10 @@ abbrev pub IsWrongTree : Sizes → NewestMap → Wrong → Type 0
 IsWrongTree z m wrong =
     GoesThrough z m (root_number ∷ []) 0 (Wrongly wrong)
     ⊎ ((wrong ≡ IsDamaged) × ((list : List ℕ) × GoesThrough z m (root_number ∷ []) 0 (Wholly list) × NamesTwice z m list))
+
+-- The tree of these pages was gone through wholly: no directory is named twice, and all is told that the tree keeps of them.
+pub record IsTreeOf (z : Sizes) (m : NewestMap) (tree : Tree) : Type 0 where
+  pub through : GoesThrough z m (root_number ∷ []) 0 (Wholly (numbers_of tree))
+  pub once : NamesTwice z m (numbers_of tree) → ⊥
+  pub heads : Tells z m tree
+  pub names : HasNames z m tree

@@ -1,5 +1,5 @@
 -- A walk over the objects of a tree that is on its way.
-use Rattle.std.specs.Prelude.{◌≡◌, ◌⊎◌, ◌↔◌, ◌<◌, ◌≤◌, ℕ, true, false, List, [], ◌∷◌, length, slice_get, nat_eq, Some}
+use Rattle.std.specs.Prelude.{◌≡◌, ◌⊎◌, ◌↔◌, ◌<◌, ◌≤◌, ℕ, true, false, List, [], ◌∷◌, ◌++◌, length, slice_get, nat_eq, Some}
 use Rattle.std.specs.List.{list_any}
 use Rattle.std.specs.Ordering.{nat_cmp}
 use Rattle.std.specs.BTreeMap as table
@@ -9,6 +9,7 @@ use Rattle.flash_tree.specs.Tree.{NewestMap}
 use Rattle.flash_tree.specs.Mount.{Leads, Finds, with_new, ListEnd, GoesThrough}
 use Rattle.volume_terms.specs.Sizes.{Sizes, root_number}
 use Rattle.tree_walk.specs.Heads.{SaysHead}
+use Rattle.tree_walk.specs.Trees.{AreNamesOf, named_in}
 use Rattle.tree_walk.specs.declared.head.Head.{Head}
 use Rattle.tree_walk.specs.declared.object.Visited.{Visited}
 use Rattle.tree_walk.specs.declared.walking.WalkState.{WalkState}
@@ -45,6 +46,7 @@ pub record Puts (named : List ℕ) (old new : WalkState) : Type 0 where
   pub knows : Knows new
   pub again : (o : ℕ) → HasAgain new o ↔ (HasAgain old o ⊎ IsAgain old.objects.items named o)
   pub heads : new.heads ≡ old.heads
+  pub names : new.names ≡ old.names
 
 -- the object was visited
 pub record Visits (o : ℕ) (visited : Visited) (old new : WalkState) : Type 0 where
@@ -53,6 +55,7 @@ pub record Visits (o : ℕ) (visited : Visited) (old new : WalkState) : Type 0 w
   pub again : (p : ℕ) → HasAgain new p ↔ (HasAgain old p ⊎ IsAgain old.objects.items visited.named.items p)
   pub here : HasHead new o visited.head
   pub others : (p : ℕ) → nat_eq p o ≡ false → table.get nat_cmp new.heads p ≡ table.get nat_cmp old.heads p
+  pub names : new.names.items ≡ old.names.items ++ named_in o visited.named.items
 
 -- the root is known, nothing is named again, and nothing was visited
 pub record Begins (walk : WalkState) : Type 0 where
@@ -60,6 +63,7 @@ pub record Begins (walk : WalkState) : Type 0 where
   pub knows : Knows walk
   pub again : (o : ℕ) → HasAgain walk o → ⊥
   pub heads : (o : ℕ) (head : Head) → HasHead walk o head → ⊥
+  pub names : walk.names.items ≡ []
 
 -- the object at place p of the list names this one at place i
 pub record IsNamedAt (z : Sizes) (m : NewestMap) (list : List ℕ) (p i o : ℕ) : Type 0 where
@@ -100,6 +104,7 @@ pub record IsGoing (z : Sizes) (m : NewestMap) (n : ℕ) (walk : WalkState) : Ty
   pub heads : (p o : ℕ) → p < n → slice_get walk.objects.items p ≡ Some o → (head : Head) × HasHead walk o head
   pub says : (o : ℕ) (head : Head) → HasHead walk o head → SaysHead z m o head
   pub only : (o : ℕ) (head : Head) → HasHead walk o head → (p : ℕ) × (p < n) × (slice_get walk.objects.items p ≡ Some o)
+  pub names : AreNamesOf z m walk.objects.items n walk.names.items
 
 -- the object was named again, and is a directory
 pub record IsDirectoryAgain (walk : WalkState) (o : ℕ) : Type 0 where

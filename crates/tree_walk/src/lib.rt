@@ -15,6 +15,6 @@ pub use fault::{RootFault, WalkFault};
 pub use head::Head;
 pub use law::the_headers_tell_the_keys;
 pub use object::{Visited, visit};
-pub use tree::Tree;
+pub use tree::{NamedObject, Tree};
 pub use volume::root;
 pub use walking::walk;

@@ -7,18 +7,27 @@ use crate::head::Head;
 use flash_tree::Key;
 use std::collections::BTreeMap;
 
-/// The objects of a tree in the order in which they were gone through, the root first, and what their headers say.
+/// A directory, and an object that one of its slots names.
+#[derive(Clone, Copy, Debug, PartialEq, Eq)]
+pub struct NamedObject {
+    pub directory: u64,
+    pub object: u64,
+}
+
+/// The objects of a tree in the order in which they were gone through, the root first, what their headers say, and which
+/// objects their slots name.
 #[derive(Drop)]
 pub struct Tree {
     pub(crate) page_bytes: u32,
     pub(crate) objects: Vec<u64>,
     pub(crate) heads: BTreeMap<u64, Head>,
+    pub(crate) names: Vec<NamedObject>,
     ghost least: { 512 ≤ page_bytes },
     ghost most: { page_bytes ≤ 4096 },
 }
 
 impl Tree {
-    ghost use Rattle.tree_walk.specs.Trees.{Tells, IsLookedUp, head_at, keeps_key, numbers_of, page_size};
+    ghost use Rattle.tree_walk.specs.Trees.{Tells, IsLookedUp, head_at, keeps_key, names_of, numbers_of, page_size};
 
     /// The numbers of the objects.
     pub fn objects(&self) -> &[u64]
@@ -32,6 +41,13 @@ impl Tree {
         ensures { option_copied result ≡ head_at self.now object }
     {
         self.heads.get(&object)
+    }
+
+    /// What the slots of each directory name, directory by directory in the order of the objects, and slot by slot.
+    pub fn names(&self) -> &[NamedObject]
+        ensures { result.now ≡ names_of self.now }
+    {
+        &self.names
     }
 
     /// Whether the page of a key is looked up to see the tree: a header, a chunk of a file that is present, or a page of

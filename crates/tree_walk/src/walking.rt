@@ -1,5 +1,5 @@
 // The objects of a tree, one after the other.
-ghost use Rattle.std.specs.Prelude.{◌≡◌, ◌<◌, ◌+◌, ℕ, [], ◌∷◌, true, false, Some, IfOk, IfErr, OnOk, length, slice_get};
+ghost use Rattle.std.specs.Prelude.{◌≡◌, ◌<◌, ◌+◌, ℕ, [], ◌∷◌, ◌++◌, true, false, Some, IfOk, IfErr, OnOk, length, slice_get};
 ghost use Rattle.page_tags.specs.declared.header.ObjectKind.TheVariants as kinds;
 ghost use Rattle.flash_tree.specs.Mount.{Wholly, GoesThrough, NamesTwice, Stops, Finds};
 ghost use Rattle.pages.specs.Maps.{has};
@@ -7,18 +7,18 @@ ghost use Rattle.pages.specs.State.{OnlyFinds};
 ghost use Rattle.volume_terms.specs.Sizes.{Sizes, root_number};
 ghost use Rattle.tree_walk.specs.Faults.{TellsWhy, TellsWrong};
 ghost use Rattle.tree_walk.specs.Visits.{IsSeen};
-ghost use Rattle.tree_walk.specs.Trees.{Tells, IsWrongTree, numbers_of, page_size};
+ghost use Rattle.tree_walk.specs.Trees.{Tells, HasNames, IsWrongTree, named_in, numbers_of, page_size};
 ghost use Rattle.tree_walk.specs.Walks.{Begins, HasAgain, HasHead, IsGoing, IsDirectoryAgain, Knows, Puts, Visits};
 ghost use Rattle.tree_walk.specs.declared.fault.WalkFault.TheVariants as faults;
 
 use crate::fault::WalkFault;
 use crate::head::Head;
 use crate::object::{Visited, visit};
-use crate::tree::Tree;
+use crate::tree::{NamedObject, Tree};
 use crate::volume::ROOT;
 use page_tags::ObjectKind;
 use pages::KnownPages;
-use std::alloc::Global;
+use std::alloc::{AllocError, Global};
 use std::collections::{BTreeMap, BTreeSet};
 
 /// Goes through all objects of a tree from the root on, each once, in the order in which they are named.
@@ -30,6 +30,7 @@ pub fn walk<P: KnownPages>(alloc: Global, pages: &mut P) -> Result<Tree, WalkFau
         → IfOk result (λ tree. NamesTwice z (has (P.state pages.old).present) (numbers_of tree) → ⊥) }
     ensures size { IfOk result (λ tree. page_size tree ≡ (P.state pages.old).page_bytes) }
     ensures heads { (z : Sizes) → IsSeen z (P.state pages.old) → IfOk result (Tells z (has (P.state pages.old).present)) }
+    ensures names { (z : Sizes) → IsSeen z (P.state pages.old) → IfOk result (HasNames z (has (P.state pages.old).present)) }
     ensures fault { (z : Sizes) → IsSeen z (P.state pages.old)
         → IfErr result (TellsWrong (IsWrongTree z (has (P.state pages.old).present)) (P.state pages.new)) }
     ensures why { IfErr result (TellsWhy (P.state pages.new)) }
@@ -47,17 +48,19 @@ pub fn walk<P: KnownPages>(alloc: Global, pages: &mut P) -> Result<Tree, WalkFau
         page_bytes: pages.page_bytes(),
         objects: walk.objects,
         heads: walk.heads,
+        names: walk.names,
     })
 }
 
 /// A walk that is on its way: the objects in the order in which they were named, which are also known as a set; those
-/// that were named again; and the headers of those that were visited.
+/// that were named again; and of those that were visited the headers, and what they name.
 #[derive(Drop)]
 struct WalkState {
     objects: Vec<u64>,
     known: BTreeSet<u64>,
     again: BTreeSet<u64>,
     heads: BTreeMap<u64, Head>,
+    names: Vec<NamedObject>,
 }
 
 /// A walk that has come to the root.
@@ -72,7 +75,19 @@ fn begin(alloc: Global) -> Result<WalkState, WalkFault>
         known,
         again: BTreeSet::new(alloc),
         heads: BTreeMap::new(alloc),
+        names: Vec::new(alloc),
     })
+}
+
+/// Puts what a directory names behind the other names.
+fn put_names(names: &mut Vec<NamedObject>, directory: u64, named: &[u64]) -> Result<(), AllocError>
+    ensures puts { OnOk result (names.new.items ≡ names.old.items ++ named_in directory named.now) }
+{
+    for place in 0..named.len() {
+        let object = named[place];
+        names.push(NamedObject { directory, object })?;
+    }
+    Ok(())
 }
 
 impl WalkState {
@@ -107,6 +122,7 @@ impl WalkState {
         let Visited { head, named } = visited;
         self.put_all(&named)?;
         self.heads.insert(object, head)?;
+        put_names(&mut self.names, object, &named)?;
         Ok(())
     }
 

@@ -5,7 +5,7 @@ use Rattle.flash_tree.specs.Mount.{Wrong, Wrongly, stops, Stops, Finds}
 use Rattle.pages.specs.Maps.{PageMap, has}
 use Rattle.pages.specs.State.{PagesState}
 use Rattle.pages.specs.laws.State.{finds_none, finds_on}
-use Rattle.tree_walk.specs.Trees.{IsWrongTree}
+use Rattle.tree_walk.specs.Trees.{AreNamesOf, IsWrongTree}
 use Rattle.tree_walk.specs.Walks.{IsGoing}
 use Rattle.tree_walk.proofs.Going.{begins_going}
 use Rattle.tree_walk.proofs.Seeing.{page_size, single, still_seen}
@@ -109,3 +109,11 @@ returns-clause-heads g c = λ z seen.
       only = λ o head there. let w = going.only o head there in (w.0, w.2);
       says = λ o head there. going.says o head there;
     }
+
+pub returns-clause-names : goal.returns-clause-names
+returns-clause-names g c = λ z seen.
+    let old : PagesState = g.P.Pages.state c.args.pages.now in
+    let walk = c.loop-place.walk in
+    let going = c.loop-place.invariant.going z seen in
+    let all : length walk.objects.items ≡ c.loop-place.place = omega (arith, going.within, c.loop-place-test.false, c.len.ensures) in
+    subst (λ n. AreNamesOf z (has old.present) walk.objects.items n walk.names.items) (sym all) going.names

@@ -1,1 +1,3 @@
-
+pub mod Finding
+pub mod Pigeons
+pub mod Pruning

@@ -1,25 +1,21 @@
 -- The tree of a volume that was gone through.
-use Rattle.std.specs.Prelude.{◌≡◌, ◌⊎◌, ℕ, List, [], ◌∷◌, true, false}
+use Rattle.std.specs.Prelude.{◌≡◌, ◌⊎◌, ℕ, true}
 use Rattle.flash_tree.specs.Tree.{NewestMap}
-use Rattle.flash_tree.specs.Mount.{Wrong, IsNewer, IsDamaged, Wholly, GoesThrough, NamesTwice, sizes_of, IsVolume, IsNoVolume, HasWrongRoot}
+use Rattle.flash_tree.specs.Mount.{Wrong, IsNewer, IsDamaged, sizes_of, IsVolume, IsNoVolume, HasWrongRoot}
 use Rattle.nand_model.specs.declared.geometry.Geometry.{Geometry}
 use Rattle.pages.specs.State.{PagesState}
-use Rattle.volume_terms.specs.Sizes.{root_number}
-use Rattle.tree_walk.specs.Trees.{Tells, IsWrongTree, numbers_of, page_size}
+use Rattle.tree_walk.specs.Trees.{IsTreeOf, IsWrongTree, page_size}
 use Rattle.tree_walk.specs.declared.fault.RootFault.{RootFault}
 use Rattle.tree_walk.specs.declared.fault.RootFault.TheVariants as roots
 use Rattle.tree_walk.specs.declared.fault.WalkFault.{WalkFault}
 use Rattle.tree_walk.specs.declared.fault.WalkFault.TheVariants as walks
 use Rattle.tree_walk.specs.declared.tree.Tree.{Tree}
 
--- The pages are those of a volume with so many spare blocks, and its objects were gone through wholly: no directory is named
--- twice, and what the headers say is told.
+-- The pages are those of a volume with so many spare blocks, and its tree was gone through wholly.
 pub record IsGoneThrough (g : Geometry) (m : NewestMap) (spare : ℕ) (tree : Tree) : Type 0 where
   pub volume : IsVolume g m spare
-  pub through : GoesThrough (sizes_of g spare) m (root_number ∷ []) 0 (Wholly (numbers_of tree))
-  pub once : NamesTwice (sizes_of g spare) m (numbers_of tree) → ⊥
   pub size : page_size tree ≡ g.bytes
-  pub heads : Tells (sizes_of g spare) m tree
+  pub tree_is : IsTreeOf (sizes_of g spare) m tree
 
 -- the root's header, an object or the names of directories are wrong
 abbrev pub HasWrongTree : Geometry → NewestMap → Wrong → Type 0

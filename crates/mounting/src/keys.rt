@@ -6,6 +6,7 @@ use flash_tree::Key;
 use tree_walk::Tree;
 
 /// Keeps the keys that a tree looks up.
+#[derive(Drop)]
 pub(crate) struct TreeKeys<'a> {
     pub(crate) tree: &'a Tree,
 }

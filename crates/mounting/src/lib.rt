@@ -5,7 +5,9 @@ mod fault;
 mod keys;
 mod marks;
 mod naming;
+mod prune;
 mod reader;
+mod reading;
 mod scanning;
 mod tree;
 

@@ -5,3 +5,6 @@ pub mod SlotCounts
 pub mod Footprints
 pub mod Picked
 pub mod Room
+pub mod Listed
+pub mod Filtered
+pub mod VolumeSizes

@@ -1,12 +1,13 @@
 -- What is wrong with a map of the newest pages of a flash is wrong with the flash.
 use Rattle.std.specs.Prelude.{ℕ, List, [], ◌∷◌}
-use Rattle.std.proofs.Common.{refl, inl, inr}
+use Rattle.std.proofs.Common.{refl, sym, subst, inl, inr}
 use Rattle.nand_model.specs.Flash.{Flash}
 use Rattle.nand_model.specs.declared.geometry.Geometry.{Geometry}
 use Rattle.volume_terms.specs.Sizes.{root_number}
 use Rattle.flash_tree.specs.Newest.{HasNewest}
 use Rattle.flash_tree.specs.Mount.{Wrong, IsDamaged, Wrongly, Wholly, GoesThrough, sizes_of, IsVolume, IsNoVolume, HasWrongRoot, NamesTwice, NotAVolume, IsWrong, Answers}
 use Rattle.pages.specs.Maps.{PageMap, has}
+use Rattle.tree_walk.specs.Trees.{IsWrongTree}
 use Rattle.mount_answers.specs.Newest.{IsNewestMap}
 use Rattle.mount_answers.proofs.SameMaps.{through_too, twice_too, no_volume_too, wrong_root_too, volume_too}
 
@@ -38,3 +39,8 @@ module _ (g : Geometry) (flash : Flash) (m : PageMap) where
     through_too (has m) (HasNewest flash) (λ o c xs. (is o c xs).0) (λ o c xs. (is o c xs).1) (sizes_of g spare) (root_number ∷ []) 0 (Wholly list) on,
     twice_too (has m) (HasNewest flash) (λ o c xs. (is o c xs).0) (λ o c xs. (is o c xs).1) (sizes_of g spare) list twice,
   )))
+
+  pub wrong_tree : (spare : ℕ) (wrong : Wrong) → IsNewestMap flash m → IsVolume g (has m) spare → IsWrongTree (sizes_of g spare) (has m) wrong → Answers g flash (IsWrong wrong)
+  wrong_tree spare wrong is volume (inl on) = wrong_object spare wrong is volume on
+  wrong_tree spare wrong is volume (inr (damaged, (list, on, twice))) =
+      subst (λ w. Answers g flash (IsWrong w)) (sym damaged) (two_names spare list is volume on twice)

@@ -10,7 +10,7 @@ use Rattle.std.specs.Cmp.{nat_eq_equiv}
 use Rattle.flash_tree.specs.laws.Finding.{slice_get_there}
 
 -- a number that is on a list has a place there
-place_of : (xs : List ℕ) (q : ℕ) → list_any (nat_eq q) xs ≡ true → (i : ℕ) × (slice_get xs i ≡ Some q)
+pub place_of : (xs : List ℕ) (q : ℕ) → list_any (nat_eq q) xs ≡ true → (i : ℕ) × (slice_get xs i ≡ Some q)
 place_of [] q is = absurd cc
 place_of (x ∷ xs) q is = elim (or_cases (nat_eq q x) (list_any (nat_eq q) xs) is) [
   | inl here ↦ (zero, ap Some (sym (eqb-true q x here)))

@@ -2,3 +2,4 @@ pub mod Marked
 pub mod Tables
 pub mod Trees
 pub mod Faults
+pub mod Mounted

@@ -10,5 +10,6 @@ mod reader;
 mod reading;
 mod scanning;
 mod tree;
+mod tree_on;
 
 pub use fault::MountFault;

@@ -11,7 +11,7 @@ use Rattle.flash_tree.specs.laws.Tree.{slice_get_within}
 use Rattle.flash_tree.specs.Mount.{Leads, Finds, GoesThrough, goes}
 use Rattle.volume_terms.specs.Sizes.{Sizes, root_number}
 use Rattle.tree_walk.specs.Heads.{SaysHead}
-use Rattle.tree_walk.specs.Trees.{AreNamesOf, named_in}
+use Rattle.tree_walk.specs.Trees.{AreNamesOf}
 use Rattle.tree_walk.specs.Visits.{IsVisited}
 use Rattle.tree_walk.specs.Walks.{IsOn, IsOnce, IsAgain, HasAgain, HasHead, Begins, Visits, IsNamedAt, IsNamedBefore, IsNamedTwice, IsGoing}
 use Rattle.tree_walk.specs.declared.head.Head.{Head}

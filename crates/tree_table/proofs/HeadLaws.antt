@@ -1,0 +1,64 @@
+-- What is told of a header is true of the object that is shown.
+use Rattle.std.specs.Prelude.{◌≡◌, ℕ, zero, suc, ◌+◌, List, [], ◌∷◌, length, slice_get, Some, None, is_some}
+use Rattle.std.proofs.Common.{refl, sym, ◌∙◌, ap, arith}
+use Rattle.std.proofs.lemmas.Bool.{cond-false}
+use Rattle.std.specs.Ordering.{nat_cmp}
+use Rattle.std.specs.Cmp.Lexicographic.{slice_cmp, nat_list_cmp_total}
+use Rattle.std.specs.FinMap as map
+use Rattle.page_tags.specs.Headers.{Fields}
+use Rattle.page_tags.specs.Slots.{Entry}
+use Rattle.page_tags.specs.declared.header.ObjectKind.TheVariants as kinds
+use Rattle.volume_terms.specs.Sizes.{Sizes}
+use Rattle.posix_profile.specs.State.{Object, File, Dir}
+use Rattle.posix_profile.specs.Charge.{cost}
+use Rattle.flash_tree.specs.Tree.{NewestMap, IsSingle, IsPageSize, ReadsAs, slot_pairs}
+use Rattle.flash_tree.specs.laws.Finding.{same_header}
+use Rattle.flash_tree.specs.laws.Pairs.{at_find}
+use Rattle.flash_tree.specs.laws.Slot.{slot_of_pair}
+use Rattle.tree_walk.specs.Heads.{SaysHead}
+use Rattle.tree_walk.specs.declared.head.Head.{Head}
+use Rattle.tree_table.specs.Units.{head_cost}
+use Rattle.tree_table.proofs.Elements.{none_of}
+
+-- ---- how many entries slots make
+
+-- no name stands twice
+abbrev AreOnce : List Entry → Type 0
+AreOnce slots = (i j : ℕ) (a b : Entry) → slice_get slots i ≡ Some a → slice_get slots j ≡ Some b → a.name ≡ b.name → i ≡ j
+
+pairs_len : (slots : List Entry) → AreOnce slots → map.len (map.from_entries {R = slice_cmp nat_cmp} (slot_pairs slots)) ≡ length slots
+pairs_len [] once = map.len-empty (slice_cmp nat_cmp) ℕ
+pairs_len (s ∷ slots) once =
+    let rest_once : AreOnce slots = λ i j a b at bt same. let one : suc i ≡ suc j = once (suc i) (suc j) a b at bt same in omega (arith, one) in
+    let none : map.get (map.from_entries {R = slice_cmp nat_cmp} (slot_pairs slots)) s.name ≡ None = none_of _ (λ o is.
+    let at = at_find nat_list_cmp_total (map.slice_cmp-IsAntisymmetric map.nat_cmp-IsAntisymmetric) (slot_pairs slots) s.name o (sym (map.get-from_entries nat_list_cmp_total (slot_pairs slots) s.name) ∙ is) in
+    let slot = slot_of_pair slots at.0 s.name o at.1 in
+    let one : suc at.0 ≡ zero = once (suc at.0) zero slot.0 s slot.1 refl slot.2 in
+    omega (arith, one)) in
+    map.len-insert nat_list_cmp_total (map.from_entries (slot_pairs slots)) s.name s.object ∙ cond-false _ _ _ (ap is_some none) ∙ ap (λ n. n + 1) (pairs_len slots rest_once) ∙ omega arith
+
+-- ---- heads and objects
+
+-- the header is that of the object: its kind, its moment, and its bytes or entries
+abbrev pub IsHeaderOfObject : Head → Object → Type 0
+IsHeaderOfObject head (File moment bytes) = (head.kind ≡ kinds.File) × (head.moment ≡ moment) × (head.length ≡ length bytes)
+IsHeaderOfObject head (Dir moment entries) = (head.kind ≡ kinds.Directory) × (head.moment ≡ moment) × (head.length ≡ map.len entries)
+
+pub said : (z : Sizes) (size : IsPageSize z.page_bytes) (m : NewestMap) (single : IsSingle m) (o : ℕ) (head : Head) (x : Object) → SaysHead z m o head → ReadsAs z m o x → IsHeaderOfObject head x
+said z size m single o head (File moment bytes) (f, has, is) r =
+    let same : f ≡ r.fields = same_header z size m single o f r.fields has r.has in (
+      is.kind ∙ ap (λ (x : Fields). x.kind) same ∙ r.kind,
+      is.moment ∙ ap (λ (x : Fields). x.moment) same ∙ r.when,
+      is.length_is ∙ ap (λ (x : Fields). x.length) same ∙ r.size,
+    )
+said z size m single o head (Dir moment entries) (f, has, is) r =
+    let same : f ≡ r.fields = same_header z size m single o f r.fields has r.has in (
+      is.kind ∙ ap (λ (x : Fields). x.kind) same ∙ r.kind,
+      is.moment ∙ ap (λ (x : Fields). x.moment) same ∙ r.when,
+      is.length_is ∙ ap (λ (x : Fields). x.length) same ∙ r.size ∙ sym (pairs_len r.slots r.once) ∙ ap map.len (sym r.entries_are),
+    )
+
+-- so it tells what the object costs
+pub costs_as : (z : Sizes) (head : Head) (x : Object) → IsHeaderOfObject head x → head_cost z head ≡ cost z x
+costs_as z head (File moment bytes) is = ap (λ k. head_cost z (record head { kind = k })) is.0 ∙ ap (λ n. head_cost z (record head { kind = kinds.File; length = n })) is.2
+costs_as z head (Dir moment entries) is = ap (λ k. head_cost z (record head { kind = k })) is.0 ∙ ap (λ n. head_cost z (record head { kind = kinds.Directory; length = n })) is.2

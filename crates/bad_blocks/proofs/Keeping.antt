@@ -6,7 +6,7 @@ use Rattle.nand_model.specs.Calls.{Device, Lasts}
 use Rattle.nand_model.specs.declared.geometry.Geometry.{Geometry}
 use Rattle.block_state.specs.Table.{Table}
 use Rattle.transactions.specs.declared.copies.CopyOf.{CopyOf}
-use Rattle.bad_blocks.specs.Copying.{KeepsKeptAt, KeepsDataAt, MayBeCopied, NewestAfterCopies}
+use Rattle.bad_blocks.specs.Copying.{KeepsKeptAt, KeepsDataAt, MayBeCopied, NewestAfterCopies, StayOrLieApart}
 use Rattle.bad_blocks.specs.Standing.{HasVersion}
 use Rattle.bad_blocks.specs.declared.copying.Copied.{Copied}
 use Rattle.bad_blocks.specs.declared.copying.Copied.TheVariants as ends
@@ -33,6 +33,19 @@ module _ (t u : Table) (kept : (b : ℕ) → (u.entry b).kept ≡ (t.entry b).ke
   }
   newest_on copies f g h (Ok ends.Marked) first then = kept_on f g h first then
   newest_on copies f g h (Err fault) first then = kept_on f g h first then
+
+  pub apart_on : u.geometry ≡ t.geometry → (copies : List CopyOf) (f g : Flash) (d : Device) → KeepsKeptAt t f g → StayOrLieApart copies u g d → StayOrLieApart copies t f d
+  apart_on geometry copies f g d first (inl stays) = inl (kept_on f g d.flash first stays)
+  apart_on geometry copies f g d first (inr lie) = inr (record {
+    block = lie.block;
+    within = subst (λ (x : Geometry). lie.block < x.blocks) geometry lie.within;
+    unkept = sym (kept lie.block) ∙ lie.unkept;
+    good = lie.good;
+    copied = record {
+      copied = lie.copied.copied;
+      others = λ o c p some apart at. lie.copied.others o c p (still p.block some) apart (first o c p some at);
+    };
+  })
 
 -- pages that may be copied still may after a step that left the index
 pub may_later : (a b : Device) (t u : Table) (copies : List CopyOf) → Lasts a b → t.next_group ≤ u.next_group → ((k : ℕ) → (u.entry k).kept ≡ (t.entry k).kept)

@@ -19,10 +19,11 @@ use Rattle.transactions.specs.declared.copies.CopyOf.{CopyOf}
 use Rattle.bad_blocks.specs.Copying.{KeepsCounts, KeepsDataAt, MayBeCopied, AreCopied, IsCopyOf, IsTarget, OpenAfter, copy_in}
 use Rattle.bad_blocks.specs.Lists.{IsListed, kept_by}
 use Rattle.bad_blocks.specs.Moving.{Moves, MovesOut, IsKeptIn, LiesIn, LiesOpen, IsLeft}
-use Rattle.bad_blocks.specs.Standing.{IsKeptAt, MayLie, AreHeld, Stands}
+use Rattle.bad_blocks.specs.Standing.{IsKeptAt, MayLie, AreHeld, Stands, KeepsFree}
 use Rattle.bad_blocks.specs.Telling.{Tells}
 use Rattle.bad_blocks.specs.declared.copying.Target.{Target}
 use Rattle.bad_blocks.proofs.KeptPages.{listed_or_not, name_is}
+use Rattle.bad_blocks.specs.laws.FreeBlocks.{free_where_stands}
 use Rattle.bad_blocks.specs.laws.Keeping.{had_power}
 use Rattle.bad_blocks.specs.laws.Moves.{same_kept_sum, may_lie_later, same_data}
 
@@ -192,6 +193,10 @@ module _ (spare v : ℕ) (target : Target) (d0 d1 : Device) (t0 t1 t2 : Table) (
               let before : kept_pages x o c ≡ Some p = sym (tells.index.kept_elsewhere o c (λ j z lt there of. none j z there of)) ∙ at in
               all.others o c p (held o c p before) none (stands.newest was (had_power d0 d1 keeps.lasts power) o c p before)
         ];
+    limits = let now = keeps.limits stands.limits in (
+      let group = tells.counts.next_group in omega (arith, group, now.0),
+      let seq = tells.counts.next_seq in omega (arith, seq, now.1),
+    );
   } where
     fits_then : (b : ℕ) → (t2.entry b).kept ≤ t0.geometry.pages
     fits_then b = elim (cases_eq b v) [
@@ -258,6 +263,10 @@ module _ (spare v : ℕ) (target : Target) (d0 d1 : Device) (t0 t1 t2 : Table) (
     index = moves_out;
     same_data = same_data spare d0 d1 t0 t1 x held keeps stands stays;
   }
+
+  -- the device has power, so blocks are free by the table
+  pub free_moved : AreHeld t2 y → d1.gone ≡ false → KeepsFree spare d0 d1 x y
+  free_moved there power honest free = free_where_stands spare d1 t2 y (ready_told keeps.ready) there (stands_moved keeps.ready) (keeps.lasts.honest ∙ honest) power
 
   pub is_left : IsLeft v t2
   is_left = record { unkept = now_none; good = tells.counts.bad v ∙ still_good }

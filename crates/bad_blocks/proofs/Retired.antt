@@ -16,7 +16,8 @@ use Rattle.block_state.specs.Kept.{bad_count}
 use Rattle.block_state.specs.Table.{Table, Sets}
 use Rattle.bad_blocks.specs.Copying.{KeepsCounts}
 use Rattle.bad_blocks.specs.Moving.{Moves, LiesIn, IsAway}
-use Rattle.bad_blocks.specs.Standing.{AreHeld, Stands}
+use Rattle.bad_blocks.specs.Standing.{AreHeld, Stands, KeepsFree}
+use Rattle.bad_blocks.specs.laws.FreeBlocks.{free_on, free_still}
 use Rattle.bad_blocks.specs.laws.Keeping.{bad_rises}
 use Rattle.bad_blocks.specs.laws.Moves.{are_held, stands_still, moves_kept}
 use Rattle.bad_blocks.specs.laws.Turns.{moves_join}
@@ -73,6 +74,10 @@ module _ (spare v : ℕ) (d1 d2 d3 : Device) (t1 t2 t3 : Table) (x y : Index) (g
   pub stands_marked : Stands spare d3 t3 y
   stands_marked = stands_still spare d2 d3 t2 t3 y held keeps stands (written_marked v d2 d3 t2 t3 gone inside empty marks notes stands.tables.written)
       (λ honest power. (kept_marked v d2 d3 t2 t3 gone inside empty marks notes honest (newest honest)).0)
+
+  pub free_marked : KeepsFree spare d1 d2 x y → KeepsFree spare d1 d3 x y
+  free_marked first = free_on spare d1 d2 d3 x y y moves.lasts.honest first
+      (free_still spare d2 d3 t2 t3 y held keeps stands stands_marked.tables (λ honest. (kept_marked v d2 d3 t2 t3 gone inside empty marks notes honest (newest honest)).0))
 
   pub bad_marked : bad_count t3 ≤ bad_count t2 + 1
   bad_marked = one_more_bad v d2 d3 t2 t3 gone inside empty marks notes moves.ready

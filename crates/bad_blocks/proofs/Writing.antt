@@ -1,5 +1,5 @@
 -- What the writing of copies does, and what it costs.
-use Rattle.std.proofs.Common.{◌≡◌, ◌<◌, ◌≤◌, ℕ, ◌+◌, ◌*◌, true, false, if◌then◌else◌, List, length, Result, Ok, Err, refl, sym, ap, subst, ◌∙◌, arith, inl, inr}
+use Rattle.std.proofs.Common.{◌≡◌, ◌<◌, ◌≤◌, ℕ, ◌+◌, ◌*◌, Bool, true, false, if◌then◌else◌, List, length, Result, Ok, Err, refl, sym, ap, subst, ◌∙◌, arith, inl, inr}
 use Rattle.std.proofs.Math.Nat.{mul-le-mul_left}
 use Rattle.nand_model.specs.Calls.{Device, Lasts, Marks}
 use Rattle.nand_model.specs.Changes.{Grows}
@@ -18,7 +18,7 @@ use Rattle.transactions.specs.declared.copies.CopyOf.{CopyOf}
 use Rattle.transactions.specs.declared.group.Placed.{Placed}
 use Rattle.transactions.specs.declared.group.GroupFault.{GroupFault}
 use Rattle.transactions.specs.declared.group.GroupFault.TheVariants as groups
-use Rattle.bad_blocks.specs.Copying.{IsFresh, MayBeCopied, KeepsDataAt, AreCopied, CopiesEnd, CopiesCost, left_open, most_changes}
+use Rattle.bad_blocks.specs.Copying.{IsFresh, MayBeCopied, KeepsDataAt, AreCopied, StayOrLieApart, CopiesEnd, CopiesCost, left_open, most_changes}
 use Rattle.bad_blocks.specs.Moving.{Costs}
 use Rattle.bad_blocks.specs.Passing.{Passes}
 use Rattle.bad_blocks.specs.Taking.{Takes, CostsATake}
@@ -27,7 +27,7 @@ use Rattle.bad_blocks.specs.declared.copying.Copied.TheVariants as ends
 use Rattle.bad_blocks.specs.declared.fault.MoveFault.{MoveFault}
 use Rattle.bad_blocks.specs.laws.Costs.{each_more}
 use Rattle.bad_blocks.specs.laws.Passing.{passes_marked}
-use Rattle.bad_blocks.specs.laws.KeptPages.{data_where}
+use Rattle.bad_blocks.specs.laws.KeptPages.{kept_where, data_where}
 use Rattle.bad_blocks.proofs.KeptPages.{is_of_copies, are_copied, data_copied}
 
 module _ (copies : List CopyOf) (w : ℕ) (d0 d1 : Device) (t : Table) (fresh : IsFresh w d0 t) (may : MayBeCopied d0 t copies) (honest : d0.honest ≡ true) (grows : Grows d0.flash d1.flash) where
@@ -58,6 +58,34 @@ module _ (copies : List CopyOf) (w : ℕ) (d0 d1 : Device) (t : Table) (fresh : 
   -- and where it is done they are copied
   pub copies_written : (placed : Placed) → GroupsAfter (next_group t (length copies) w) (name_at copies) (bytes_at copies d0.flash) d0.flash d1.flash (Ok placed) → AreCopied w copies t d0.flash d1.flash
   copies_written placed groups = are_copied copies may.once (next_group t (length copies) w) refl d0.flash (may.newest honest fresh.power) d1.flash t w refl fresh.next (after (Ok placed) groups)
+
+  apart_by : IsReady d0 t → d1.flash.bad ≡ d0.flash.bad → (r : Result Placed GroupFault)
+      → NewestAfter (next_group t (length copies) w) (name_at copies) (bytes_at copies d0.flash) d0.flash d1.flash r → StayOrLieApart copies t d0.flash d1
+  apart_by ready bad = by where
+    stay : KeepsNewest d0.flash d1.flash → StayOrLieApart copies t d0.flash d1
+    stay keeps = inl (kept_where d0.flash d1.flash t (λ o c s newest some. keeps o c s newest))
+
+    lie : ShowsGroup (next_group t (length copies) w) (name_at copies) (bytes_at copies d0.flash) d0.flash d1.flash → StayOrLieApart copies t d0.flash d1
+    lie shows = inr (record {
+      block = w;
+      within = fresh.within;
+      unkept = fresh.unkept;
+      good = ap (λ (f : ℕ → Bool). f w) bad ∙ sym (ready.marks w) ∙ fresh.good;
+      copied = are_copied copies may.once (next_group t (length copies) w) refl d0.flash (may.newest honest fresh.power) d1.flash t w refl fresh.next shows;
+    })
+
+    by : (r : Result Placed GroupFault) → NewestAfter (next_group t (length copies) w) (name_at copies) (bytes_at copies d0.flash) d0.flash d1.flash r → StayOrLieApart copies t d0.flash d1
+    by (Ok placed) shows = lie shows
+    by (Err groups.NoRoom) keeps = stay keeps
+    by (Err groups.Failed) keeps = stay keeps
+    by (Err groups.Lost) keeps = stay keeps
+    by (Err groups.Gone) (inl keeps) = stay keeps
+    by (Err groups.Gone) (inr shows) = lie shows
+
+  -- however it ends, what is kept stays where it is, or the copies lie in the block that was fresh
+  pub apart_written : IsReady d0 t → d1.flash.bad ≡ d0.flash.bad → (r : Result Placed GroupFault)
+      → GroupsAfter (next_group t (length copies) w) (name_at copies) (bytes_at copies d0.flash) d0.flash d1.flash r → StayOrLieApart copies t d0.flash d1
+  apart_written ready bad r groups = apart_by ready bad r (after r groups)
 
   pub keeps_failed : GroupsAfter (next_group t (length copies) w) (name_at copies) (bytes_at copies d0.flash) d0.flash d1.flash (Err groups.Failed) → KeepsNewest d0.flash d1.flash
   keeps_failed counted = after (Err groups.Failed) counted

@@ -12,13 +12,14 @@ use Rattle.transactions.specs.Ready.{AreBelow, IsReady}
 use Rattle.transactions.specs.declared.copies.CopyOf.{CopyOf}
 use Rattle.bad_blocks.specs.Lists.{kept_by}
 use Rattle.bad_blocks.specs.Moving.{WhyNotMoved}
-use Rattle.bad_blocks.specs.Standing.{IsKeptAt, HasVersion}
+use Rattle.bad_blocks.specs.Standing.{IsKeptAt, HasVersion, IsWithinLimits}
 use Rattle.bad_blocks.specs.declared.copying.Copied.{Copied}
 use Rattle.bad_blocks.specs.declared.copying.Copied.TheVariants as ends
 use Rattle.bad_blocks.specs.declared.copying.Target.{Target}
 use Rattle.bad_blocks.specs.declared.fault.MoveFault.{MoveFault}
 
--- What a step keeps that leaves the index: no block's kept count changes, and no block with a kept page is marked.
+-- What a step keeps that leaves the index: no block's kept count changes, no block with a kept page is marked, and no number
+-- of 2^62 is handed out.
 pub record KeepsCounts (old new : Device) (t t' : Table) : Type 0 where
   pub lasts : Lasts old new
   pub ready : IsReady new t'
@@ -29,6 +30,7 @@ pub record KeepsCounts (old new : Device) (t t' : Table) : Type 0 where
   pub marked : (b : ℕ) → (t'.entry b).bad ≡ true → ((t.entry b).bad ≡ true) ⊎ ((t.entry b).kept ≡ 0)
   pub unkept : unkept_count t' + bad_count t' ≡ unkept_count t + bad_count t
   pub rises : bad_count t ≤ bad_count t'
+  pub limits : IsWithinLimits t → IsWithinLimits t'
 
 -- the copy is of the key of object o and chunk c
 abbrev pub IsCopyOf : CopyOf → ℕ → ℕ → Type 0
@@ -71,6 +73,19 @@ abbrev pub NewestAfterCopies : List CopyOf → Table → Flash → Flash → Res
 NewestAfterCopies copies t old new (Ok (ends.Into target)) = AreCopied target.block copies t old new
 NewestAfterCopies copies t old new (Ok ends.Marked) = KeepsKeptAt t old new
 NewestAfterCopies copies t old new (Err fault) = KeepsKeptAt t old new
+
+-- The copies lie in a block that is good and without a kept page.
+pub record LieApart (copies : List CopyOf) (t : Table) (old : Flash) (new : Device) : Type 0 where
+  pub block : ℕ
+  pub within : block < t.geometry.blocks
+  pub unkept : (t.entry block).kept ≡ 0
+  pub good : new.flash.bad block ≡ false
+  pub copied : AreCopied block copies t old new.flash
+
+-- What is newest wherever the copying ends, also where the power went in it: in blocks with kept pages all stays, or the
+-- copies are the newest of their keys. No third way.
+abbrev pub StayOrLieApart : List CopyOf → Table → Flash → Device → Type 0
+StayOrLieApart copies t old new = KeepsKeptAt t old new.flash ⊎ LieApart copies t old new
 
 -- the block is the open one, with so many pages written, and where its last page is suspect none is open
 abbrev pub OpenAfter : ℕ → ℕ → Bool → Table → Type 0

@@ -1,10 +1,11 @@
 -- What stands between two calls of a store, over the map of the kept pages and the table of blocks.
 -- From: this project.
-use Rattle.std.specs.Prelude.{◌≡◌, ◌<◌, ◌≤◌, ℕ, ◌+◌, true, false, List, Some}
+use Rattle.std.specs.Prelude.{◌≡◌, ◌<◌, ◌≤◌, ◌^◌, ℕ, ◌+◌, true, false, List, Some}
 use Rattle.nand_model.specs.Flash.{Flash, Written}
 use Rattle.nand_model.specs.Calls.{Device}
 use Rattle.page_tags.specs.Tags.{tag_bytes}
 use Rattle.page_tags.specs.declared.tag.Tag.{Tag}
+use Rattle.flash_tree.specs.FreeBlocks.{LeavesFree}
 use Rattle.flash_tree.specs.Newest.{Spot, IsNewest}
 use Rattle.block_state.specs.Kept.{bad_count, free_count, unkept_count}
 use Rattle.block_state.specs.Table.{Table}
@@ -50,10 +51,16 @@ pub record TablesAgree (spare : ℕ) (t : Table) (x : Index) : Type 0 where
   pub written : (o : ℕ) → t.open_block ≡ Some o → (t.entry o).kept ≤ (t.entry o).next
   pub unkept : 1 + spare ≤ unkept_count t + bad_count t
 
--- What stands: the tables agree; and each kept page of an honest device that has power is the newest of its key.
+-- no number past 2^62 is the next
+abbrev pub IsWithinLimits : Table → Type 0
+IsWithinLimits t = (t.next_group ≤ 2 ^ 62) × (t.next_seq ≤ 2 ^ 62)
+
+-- What stands: the tables agree; each kept page of an honest device that has power is the newest of its key; and no number
+-- of 2^62 was handed out.
 pub record Stands (spare : ℕ) (device : Device) (t : Table) (x : Index) : Type 0 where
   pub tables : TablesAgree spare t x
   pub newest : device.honest ≡ true → device.gone ≡ false → AreKept device.flash (kept_pages x)
+  pub limits : IsWithinLimits t
 
 -- each kept page lies in a block with kept pages
 abbrev pub AreHeld : Table → Index → Type 0
@@ -62,3 +69,13 @@ AreHeld t x = (o c : ℕ) (p : KeptPage) → kept_pages x o c ≡ Some p → 1 �
 -- so many blocks as may still be needed for retirements, and one for a collection, are bad already or free
 abbrev pub HasFree : Table → (spare : ℕ) → Type 0
 HasFree t spare = 1 + spare ≤ free_count t + bad_count t
+
+-- the key is kept
+abbrev pub IsKept : KeptMap → ℕ → ℕ → Type 0
+IsKept m o c = (p : KeptPage) × (m o c ≡ Some p)
+
+-- On an honest device so many blocks as may still be needed for retirements, and one for a collection, are bad already or
+-- hold no newest page of a kept key: wherever the power went, if it was so before.
+abbrev pub KeepsFree : (spare : ℕ) → Device → Device → Index → Index → Type 0
+KeepsFree spare old new x y = old.honest ≡ true
+    → LeavesFree old.geometry old.flash spare (IsKept (kept_pages x)) → LeavesFree new.geometry new.flash spare (IsKept (kept_pages y))

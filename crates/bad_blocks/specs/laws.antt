@@ -4,3 +4,4 @@ pub mod Keeping
 pub mod KeptPages
 pub mod Moves
 pub mod Turns
+pub mod FreeBlocks

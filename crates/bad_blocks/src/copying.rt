@@ -6,7 +6,7 @@ ghost use Rattle.block_state.specs.TableOf.{table};
 ghost use Rattle.transactions.specs.Ready.{IsReady};
 ghost use Rattle.bad_blocks.specs.Taking.{HasUnkept};
 ghost use Rattle.bad_blocks.specs.Moving.{MarksFailures, Costs};
-ghost use Rattle.bad_blocks.specs.Copying.{MayBeCopied, KeepsCounts, KeepsDataAt, NewestAfterCopies, CopiesEnd, CopiesCost, FewBad, IsFresh, left_open, most_changes, as_copied};
+ghost use Rattle.bad_blocks.specs.Copying.{MayBeCopied, KeepsCounts, KeepsDataAt, NewestAfterCopies, StayOrLieApart, CopiesEnd, CopiesCost, FewBad, IsFresh, left_open, most_changes, as_copied};
 
 use crate::fault::MoveFault;
 use crate::take::{LIMIT, take_block};
@@ -49,6 +49,7 @@ fn write_copies<N: Nand>(
     ensures data { (N.state device.old).honest ≡ true → KeepsDataAt (table blocks.old) (N.state device.old).flash (N.state device.new).flash }
     ensures newest { (N.state device.old).honest ≡ true → (N.state device.new).gone ≡ false
         → NewestAfterCopies copies.now (table blocks.old) (N.state device.old).flash (N.state device.new).flash result }
+    ensures apart { (N.state device.old).honest ≡ true → StayOrLieApart copies.now (table blocks.old) (N.state device.old).flash (N.state device.new) }
     ensures few { (spare : ℕ) → bad_count (table blocks.old) ≤ spare → FewBad spare (table blocks.new) result }
     ensures ends { (spare : ℕ) → CopiesEnd (length copies.now) spare (N.state device.new) (table blocks.old) (table blocks.new) result }
 {
@@ -86,6 +87,7 @@ fn copy_once<N: Nand>(
     ensures data { (N.state device.old).honest ≡ true → KeepsDataAt (table blocks.old) (N.state device.old).flash (N.state device.new).flash }
     ensures newest { (N.state device.old).honest ≡ true → (N.state device.new).gone ≡ false
         → NewestAfterCopies copies.now (table blocks.old) (N.state device.old).flash (N.state device.new).flash result }
+    ensures apart { (N.state device.old).honest ≡ true → StayOrLieApart copies.now (table blocks.old) (N.state device.old).flash (N.state device.new) }
     ensures few { FewBad spare (table blocks.new) result }
     ensures ends { CopiesEnd (length copies.now) spare (N.state device.new) (table blocks.old) (table blocks.new) result }
 {
@@ -115,6 +117,7 @@ pub(crate) fn copy_listed<N: Nand>(
     ensures data { (N.state device.old).honest ≡ true → KeepsDataAt (table blocks.old) (N.state device.old).flash (N.state device.new).flash }
     ensures newest { (N.state device.old).honest ≡ true → (N.state device.new).gone ≡ false
         → NewestAfterCopies copies.now (table blocks.old) (N.state device.old).flash (N.state device.new).flash (as_copied result) }
+    ensures apart { (N.state device.old).honest ≡ true → StayOrLieApart copies.now (table blocks.old) (N.state device.old).flash (N.state device.new) }
     ensures few { OnOk result (bad_count (table blocks.new) ≤ spare) }
     ensures ends { CopiesEnd (length copies.now) spare (N.state device.new) (table blocks.old) (table blocks.new) (as_copied result) }
 {

@@ -6,7 +6,7 @@ ghost use Rattle.transactions.specs.Ready.{IsReady};
 ghost use Rattle.bad_blocks.specs.Lists.{IsListed};
 ghost use Rattle.bad_blocks.specs.Moving.{Moves, MarksFailures, Costs, MoveEnds, unanswered};
 ghost use Rattle.bad_blocks.specs.Room.{IsRoomFor};
-ghost use Rattle.bad_blocks.specs.Standing.{Stands};
+ghost use Rattle.bad_blocks.specs.Standing.{Stands, KeepsFree};
 
 use crate::copying::copy_listed;
 use crate::fault::MoveFault;
@@ -43,6 +43,7 @@ fn move_listed<N: Nand>(
     ensures moves { (v : ℕ) → IsListed v (table blocks.old) index.old copies.now
         → Moves v (N.state device.old) (N.state device.new) (table blocks.old) (table blocks.new) index.old index.new }
     ensures stands { Stands spare (N.state device.new) (table blocks.new) index.new }
+    ensures free { KeepsFree spare (N.state device.old) (N.state device.new) index.old index.new }
     ensures marks { MarksFailures 0 (unanswered result) (N.state device.old) (N.state device.new) (table blocks.old) (table blocks.new) }
     ensures costs { Costs ((N.state device.old).geometry.pages + 1) ((N.state device.old).geometry.pages + 2) (unanswered result) (N.state device.old) (N.state device.new) }
     ensures few { OnOk result (bad_count (table blocks.new) ≤ spare) }
@@ -78,6 +79,7 @@ pub fn move_kept<N: Nand>(
     requires some { 1 ≤ ((table blocks.old).entry block).kept }
     ensures moves { Moves block (N.state device.old) (N.state device.new) (table blocks.old) (table blocks.new) index.old index.new }
     ensures stands { Stands spare (N.state device.new) (table blocks.new) index.new }
+    ensures free { KeepsFree spare (N.state device.old) (N.state device.new) index.old index.new }
     ensures marks { MarksFailures 0 (unanswered result) (N.state device.old) (N.state device.new) (table blocks.old) (table blocks.new) }
     ensures costs { Costs ((N.state device.old).geometry.pages + 1) ((N.state device.old).geometry.pages + 2) (unanswered result) (N.state device.old) (N.state device.new) }
     ensures few { OnOk result (bad_count (table blocks.new) ≤ spare) }

@@ -11,7 +11,7 @@ ghost use Rattle.transactions.specs.Ready.{IsReady};
 ghost use Rattle.bad_blocks.specs.Moving.{Moves, MarksFailures, Costs};
 ghost use Rattle.bad_blocks.specs.Retiring.{EmptyEnds, MarkedEnds, OneEnds, RetireEnds, open_failures};
 ghost use Rattle.bad_blocks.specs.Room.{IsRoomFor};
-ghost use Rattle.bad_blocks.specs.Standing.{Stands};
+ghost use Rattle.bad_blocks.specs.Standing.{Stands, KeepsFree};
 
 use crate::fault::MoveFault;
 use crate::moving::{Moved, move_kept};
@@ -39,6 +39,7 @@ fn empty_block<N: Nand>(
     requires good { ((table blocks.old).entry block).bad ≡ false }
     ensures moves { Moves block (N.state device.old) (N.state device.new) (table blocks.old) (table blocks.new) index.old index.new }
     ensures stands { Stands spare (N.state device.new) (table blocks.new) index.new }
+    ensures free { KeepsFree spare (N.state device.old) (N.state device.new) index.old index.new }
     ensures marks { MarksFailures 0 (open_failures result) (N.state device.old) (N.state device.new) (table blocks.old) (table blocks.new) }
     ensures costs { Costs ((N.state device.old).geometry.pages + 1) ((N.state device.old).geometry.pages + 2) (open_failures result) (N.state device.old) (N.state device.new) }
     ensures ends { EmptyEnds block spare (N.state device.new) (table blocks.old) (table blocks.new) result }
@@ -99,6 +100,7 @@ fn retire_one<N: Nand>(
     requires good { ((table blocks.old).entry block).bad ≡ false }
     ensures moves { Moves block (N.state device.old) (N.state device.new) (table blocks.old) (table blocks.new) index.old index.new }
     ensures stands { Stands spare (N.state device.new) (table blocks.new) index.new }
+    ensures free { KeepsFree spare (N.state device.old) (N.state device.new) index.old index.new }
     ensures marks { MarksFailures 1 (open_failures result) (N.state device.old) (N.state device.new) (table blocks.old) (table blocks.new) }
     ensures costs { Costs ((N.state device.old).geometry.pages + 2) ((N.state device.old).geometry.pages + 2) (open_failures result) (N.state device.old) (N.state device.new) }
     ensures ends { OneEnds block spare (N.state device.new) (table blocks.old) (table blocks.new) result }
@@ -128,6 +130,7 @@ fn retire_all<N: Nand>(
     requires good { ((table blocks.old).entry block).bad ≡ false }
     ensures moves { Moves block (N.state device.old) (N.state device.new) (table blocks.old) (table blocks.new) index.old index.new }
     ensures stands { Stands spare (N.state device.new) (table blocks.new) index.new }
+    ensures free { KeepsFree spare (N.state device.old) (N.state device.new) index.old index.new }
     ensures marks { MarksFailures 1 0 (N.state device.old) (N.state device.new) (table blocks.old) (table blocks.new) }
     ensures costs { Costs ((N.state device.old).geometry.pages + 2) ((N.state device.old).geometry.pages + 2) 0 (N.state device.old) (N.state device.new) }
     ensures ends { RetireEnds block spare (N.state device.new) (table blocks.old) (table blocks.new) result }
@@ -159,6 +162,7 @@ pub fn retire<N: Nand>(
     requires good { ((table blocks.old).entry block).bad ≡ false }
     ensures moves { Moves block (N.state device.old) (N.state device.new) (table blocks.old) (table blocks.new) index.old index.new }
     ensures stands { Stands spare (N.state device.new) (table blocks.new) index.new }
+    ensures free { KeepsFree spare (N.state device.old) (N.state device.new) index.old index.new }
     // Each mark but that of the block answers a failure.
     ensures marks { MarksFailures 1 0 (N.state device.old) (N.state device.new) (table blocks.old) (table blocks.new) }
     ensures costs { Costs ((N.state device.old).geometry.pages + 2) ((N.state device.old).geometry.pages + 2) 0 (N.state device.old) (N.state device.new) }

@@ -15,8 +15,9 @@ use Rattle.transactions.specs.Ready.{IsReady}
 use Rattle.bad_blocks.specs.Copying.{KeepsCounts}
 use Rattle.bad_blocks.specs.Moving.{Moves}
 use Rattle.bad_blocks.specs.Passing.{Passes}
-use Rattle.bad_blocks.specs.Standing.{AreHeld, HasFree, Stands}
+use Rattle.bad_blocks.specs.Standing.{AreHeld, HasFree, KeepsFree, Stands}
 use Rattle.bad_blocks.specs.Taking.{Takes, TakesNone}
+use Rattle.bad_blocks.specs.laws.FreeBlocks.{free_still}
 use Rattle.bad_blocks.specs.laws.KeptPages.{kept_where, data_where}
 use Rattle.bad_blocks.specs.laws.Keeping.{same_here, keeps_passes}
 use Rattle.collector.specs.Making.{FitsOpen, HasMore}
@@ -25,7 +26,7 @@ use Rattle.bad_blocks.specs.laws.Moves.{are_held, moves_kept, stands_still, stan
 module _ (spare : ℕ) (d0 d1 : Device) (t u : Table) (x : Index) (law : (b : ℕ) → kept_in x b ≡ 0 → HoldsNone (kept_pages x) b)
     (lasts : Lasts d0 d1) (ready : IsReady d1 u) (numbers : HandsOut d0 d1 t u) (passes : Passes d0 d1 t u) (stands : Stands spare d0 t x) where
   keeps : KeepsCounts d0 d1 t u
-  keeps = keeps_passes d0 d1 t t u (same_here t) lasts ready numbers passes
+  keeps = keeps_passes d0 d1 t t u (same_here t) lasts ready numbers (λ is. is) passes
 
   held : AreHeld t x
   held = are_held t x law stands.tables.counts
@@ -49,6 +50,9 @@ module _ (spare : ℕ) (d0 d1 : Device) (t u : Table) (x : Index) (law : (b : �
     pub stands_taken : Stands spare d1 u x
     stands_taken = stands_still spare d0 d1 t u x held keeps stands written (λ honest power. kept_where d0.flash d1.flash t (passes.newest honest))
 
+    pub free_where_taken : KeepsFree spare d0 d1 x x
+    free_where_taken = free_still spare d0 d1 t u x held keeps stands stands_taken.tables (λ honest. kept_where d0.flash d1.flash t (passes.newest honest))
+
     -- so one is free less than are without a kept page
     pub free_taken : HasMore t spare → HasFree u spare
     free_taken more =
@@ -61,6 +65,9 @@ module _ (spare : ℕ) (d0 d1 : Device) (t u : Table) (x : Index) (law : (b : �
   -- none was
   pub stands_none : TakesNone t u → Stands spare d1 u x
   stands_none none = stands_kept spare d0 d1 t u x held keeps stands none.open_block (λ honest power. kept_where d0.flash d1.flash t (passes.newest honest))
+
+  pub free_where_none : TakesNone t u → KeepsFree spare d0 d1 x x
+  free_where_none none = free_still spare d0 d1 t u x held keeps stands (stands_none none).tables (λ honest. kept_where d0.flash d1.flash t (passes.newest honest))
 
 -- the open block has the pages that were not written
 pub fits_open : (count w n : ℕ) (t : Table) → t.open_block ≡ Some w → (t.entry w).next ≡ n → n + count ≤ t.geometry.pages → FitsOpen count t

@@ -5,7 +5,7 @@ ghost use Rattle.block_state.specs.TableOf.{table};
 ghost use Rattle.transactions.specs.Ready.{IsReady};
 ghost use Rattle.bad_blocks.specs.Moving.{Moves, MarksFailures, Costs};
 ghost use Rattle.bad_blocks.specs.Room.{IsRoomFor};
-ghost use Rattle.bad_blocks.specs.Standing.{Stands};
+ghost use Rattle.bad_blocks.specs.Standing.{Stands, KeepsFree};
 ghost use Rattle.collector.specs.Making.{CollectEnds};
 
 use bad_blocks::{MoveFault, MoveRoom, Moved, move_kept, retire};
@@ -32,6 +32,7 @@ pub(crate) fn collect<N: Nand>(
     requires some { 1 ≤ ((table blocks.old).entry block).kept }
     ensures moves { Moves block (N.state device.old) (N.state device.new) (table blocks.old) (table blocks.new) index.old index.new }
     ensures stands { Stands spare (N.state device.new) (table blocks.new) index.new }
+    ensures free { KeepsFree spare (N.state device.old) (N.state device.new) index.old index.new }
     ensures marks { MarksFailures 0 0 (N.state device.old) (N.state device.new) (table blocks.old) (table blocks.new) }
     ensures costs { Costs ((N.state device.old).geometry.pages + 1) ((N.state device.old).geometry.pages + 2) 0 (N.state device.old) (N.state device.new) }
     ensures ends { CollectEnds block spare (N.state device.new) (table blocks.old) (table blocks.new) result }

@@ -5,7 +5,7 @@ ghost use Rattle.block_state.specs.TableOf.{table};
 ghost use Rattle.transactions.specs.Ready.{IsReady};
 ghost use Rattle.bad_blocks.specs.Moving.{Moves, MarksFailures, Costs};
 ghost use Rattle.bad_blocks.specs.Room.{IsRoomFor};
-ghost use Rattle.bad_blocks.specs.Standing.{Stands};
+ghost use Rattle.bad_blocks.specs.Standing.{Stands, KeepsFree};
 ghost use Rattle.bad_blocks.specs.Taking.{CostsATake};
 ghost use Rattle.collector.specs.Making.{FitsOpen, HasMore, MovesFewest, RoomEnds, StaysWhole, StaysWhereFull};
 
@@ -36,6 +36,7 @@ pub fn make_room<N: Nand>(
     ensures moves { (v : ℕ) × Moves v (N.state device.old) (N.state device.new) (table blocks.old) (table blocks.new) index.old index.new }
     ensures fewest { MovesFewest spare (table blocks.old) index.old index.new }
     ensures stands { Stands spare (N.state device.new) (table blocks.new) index.new }
+    ensures free { KeepsFree spare (N.state device.old) (N.state device.new) index.old index.new }
     ensures marks { MarksFailures 0 0 (N.state device.old) (N.state device.new) (table blocks.old) (table blocks.new) }
     ensures costs { Costs ((N.state device.old).geometry.pages + 1) ((N.state device.old).geometry.pages + 2) 0 (N.state device.old) (N.state device.new) }
     // While blocks are left that can be taken, no more is done than the taking of one.

@@ -4,6 +4,7 @@ use Rattle.std.proofs.lemmas.Option.{slice_get_within}
 use Rattle.flash_tree.specs.declared.place.FreshPage.{FreshPage}
 use Rattle.flash_tree.specs.declared.place.Key.{Key}
 use Rattle.flash_tree.specs.laws.Finding.{slice_get_there}
+use Rattle.block_state.specs.Table.{Table}
 use Rattle.chunk_index.specs.declared.form.KeptKey.{KeptKey}
 use Rattle.chunk_index.specs.declared.form.KeptPage.{KeptPage}
 use Rattle.chunk_index.specs.declared.form.Present.{Present}
@@ -12,9 +13,10 @@ use Rattle.chunk_index.specs.declared.form.WrittenGroup.{WrittenGroup}
 use Rattle.chunk_index.specs.declared.index.Index.{Index}
 use Rattle.chunk_index.specs.Entries.{written_page}
 use Rattle.chunk_index.specs.Listing.{block_keys}
-use Rattle.chunk_index.specs.Maps.{kept_pages, kept_in, present, written, Settles}
+use Rattle.chunk_index.specs.Maps.{kept_pages, kept_in, present, written, CountsAgree, Settles}
 use Rattle.page_buffer.specs.Buffering.{Buffers, key_at}
 use Rattle.page_buffer.specs.laws.Buffering.{place_within}
+use Rattle.bad_blocks.specs.Standing.{AreHeld}
 use Rattle.commits.proofs.Following.{on_flash_kept}
 use Rattle.commits.proofs.Pigeons.{no_more_than_places}
 
@@ -25,6 +27,15 @@ pub record ListsAreWhole : Type 0 where
   pub count : (x : Index) (b : ℕ) → length (block_keys x b) ≡ kept_in x b
   pub all : (x : Index) (b o c : ℕ) (p : KeptPage) → kept_pages x o c ≡ Some p → p.block ≡ b → (i : ℕ) × (slice_get (block_keys x b) i ≡ Some (record { key = record { object = o; chunk = c }; at = p }))
   pub once : (x : Index) (b i j : ℕ) (k l : KeptKey) → slice_get (block_keys x b) i ≡ Some k → slice_get (block_keys x b) j ≡ Some l → k.key ≡ l.key → i ≡ j
+
+-- each kept page lies in a block that counts it
+pub held_lists : ListsAreWhole → (t : Table) (x : Index) → CountsAgree t x → AreHeld t x
+held_lists lists t x agree o c p is =
+    let found = lists.all x p.block o c p is refl in
+    let lt : found.0 < length (block_keys x p.block) = slice_get_within (block_keys x p.block) found.0 _ found.1 in
+    let count = lists.count x p.block in
+    let same = agree.counts p.block in
+    omega (arith, lt, count, same)
 
 module _ (lists : ListsAreWhole) (g : WrittenGroup) (x y : Index) (pages : List FreshPage) (settles : Settles g x y) (buffers : Buffers x pages) (b : ℕ) where
   -- A number for the key: its place in the list of the keys that were kept in the block, or behind these its place in the

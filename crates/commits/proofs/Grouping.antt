@@ -1,16 +1,22 @@
 -- The newest pages after a group of the buffered pages.
-use Rattle.std.proofs.Common.{◌≡◌, ◌<◌, ℕ, ◌+◌, true, List, [], length, Result, Some, None, refl, sym, ap, subst, ◌∙◌, arith}
+use Rattle.std.proofs.Common.{◌≡◌, ◌≢◌, ◌<◌, ◌≤◌, ◌^◌, ℕ, ◌+◌, true, false, List, [], length, Result, Err, Some, None, refl, sym, ap, subst, ◌∙◌, arith, inl, inr}
 use Rattle.std.specs.Option.{option_map, option_map_or}
+use Rattle.std.proofs.lemmas.Bool.{cases_Bool, eq-eqb}
 use Rattle.nand_model.specs.Flash.{Flash}
 use Rattle.nand_model.specs.Calls.{Device, Lasts}
 use Rattle.nand_model.specs.Changes.{Grows}
+use Rattle.nand_model.specs.declared.geometry.Geometry.{Geometry}
+use Rattle.flash_tree.specs.FreeBlocks.{LeavesFree}
 use Rattle.flash_tree.specs.Keeping.{KeepsNewest}
-use Rattle.flash_tree.specs.Newest.{Spot, HasNewest}
+use Rattle.flash_tree.specs.Mount.{bad_blocks}
+use Rattle.flash_tree.specs.Newest.{Spot, IsNewest, HasNewest}
 use Rattle.flash_tree.specs.declared.place.FreshPage.{FreshPage}
 use Rattle.flash_tree.specs.declared.place.Key.{Key}
 use Rattle.flash_tree.specs.laws.Finding.{slice_get_there}
-use Rattle.block_state.specs.Kept.{kept_count}
-use Rattle.block_state.specs.Table.{Table}
+use Rattle.block_state.specs.Counting.{how_many}
+use Rattle.block_state.specs.Kept.{bad_count, free_count, kept_count}
+use Rattle.block_state.specs.Table.{Table, is_bad, is_free, is_open}
+use Rattle.block_state.specs.laws.Counting.{counts_same}
 use Rattle.chunk_index.specs.declared.form.KeptPage.{KeptPage}
 use Rattle.chunk_index.specs.declared.form.Present.{Present}
 use Rattle.chunk_index.specs.declared.form.Present.TheVariants as presents
@@ -29,12 +35,15 @@ use Rattle.transactions.specs.Written.{tag_in}
 use Rattle.transactions.specs.declared.group.GroupFault.{GroupFault}
 use Rattle.transactions.specs.declared.group.Placed.{Placed}
 use Rattle.transactions.specs.laws.Newest.{commit_comes_last, newest_after}
-use Rattle.bad_blocks.specs.Standing.{AreKept, IsKeptAt, SameData, Stands, TablesAgree}
-use Rattle.bad_blocks.specs.laws.Keeping.{had_power}
+use Rattle.transactions.specs.declared.group.GroupFault.TheVariants as group_faults
+use Rattle.bad_blocks.specs.Standing.{AreHeld, AreKept, HasFree, IsKept, IsKeptAt, KeepsFree, SameData, Stands, TablesAgree}
+use Rattle.bad_blocks.specs.laws.FreeBlocks.{leaves_unkept, newest_where_kept}
+use Rattle.bad_blocks.specs.laws.Keeping.{had_power, limits_ends}
 use Rattle.bad_blocks.specs.laws.Moves.{may_lie_later}
-use Rattle.pages.specs.Stores.{Carries}
+use Rattle.pages.specs.Stores.{Carries, HasPage}
 use Rattle.commits.specs.Keeping.{Keeps}
 use Rattle.commits.proofs.Following.{on_flash_kept, kept_reads, moves_kept_none}
+use Rattle.commits.proofs.Freeing.{free_is}
 
 -- ---- a group that does not count
 
@@ -53,23 +62,38 @@ same_kept_pages x f g keeps o c p xs is v =
     let s = keeps o c v.spot v.newest in
     record { spot = v.spot; newest = s.newest; version_is = v.version_is; stored = s.page ∙ v.stored }
 
-pub keeps_group : (spare : ℕ) (d e : Device) (t u : Table) (x : Index) → Stands spare d t x → u ≡ closed t → Lasts d e → IsReady e u → HandsOut d e t u → (d.honest ≡ true → KeepsNewest d.flash e.flash) → Keeps spare d e t u x x
-keeps_group spare d e t u x stands is lasts ready numbers newest = record {
+pub kept_group : (x : Index) (f g : Flash) → KeepsNewest f g → AreKept f (kept_pages x) → AreKept g (kept_pages x)
+kept_group x f g keeps kept o c p at =
+    let k = kept o c p at in
+    let spot : Spot = record { block = p.block; page = p.page; tag = k.tag } in
+    record { tag = k.tag; newest = (keeps o c spot k.newest).newest; version = k.version }
+
+-- blocks that were free of kept pages are it still
+pub free_group : (spare : ℕ) (d e : Device) (t u : Table) (x : Index) → Stands spare d t x → AreHeld t x → u ≡ closed t → Lasts d e → IsReady e u → (d.honest ≡ true → KeepsNewest d.flash e.flash) → KeepsFree spare d e x x
+free_group spare d e t u x stands held is lasts ready newest honest free = elim (cases_Bool d.gone) [
+  | inl gone ↦ subst (λ (z : Device). LeavesFree z.geometry z.flash spare (IsKept (kept_pages x))) (sym (lasts.gone gone)) free
+  | inr power ↦ leaves_unkept spare e u x ready (subst (λ (s : Table). TablesAgree spare s x) (sym is) (tables_closed spare t x stands.tables))
+      (subst (λ (s : Table). AreHeld s x) (sym is) held) (kept_group x d.flash e.flash (newest honest) (stands.newest honest power))
+]
+
+pub keeps_group : (spare : ℕ) (d e : Device) (t u : Table) (x : Index) → Stands spare d t x → AreHeld t x → t.next_group < 2 ^ 62 → u ≡ closed t → Lasts d e → IsReady e u → HandsOut d e t u
+    → (d.honest ≡ true → KeepsNewest d.flash e.flash) → Keeps spare d e t u x x
+keeps_group spare d e t u x stands held less is lasts ready numbers newest = record {
   lasts = lasts;
   ready = ready;
   stands = record {
     tables = subst (λ (s : Table). TablesAgree spare s x) (sym is) (tables_closed spare t x stands.tables);
-    newest = λ honest power o c p at.
+    newest = λ honest power.
         let was : d.honest ≡ true = sym lasts.honest ∙ honest in
-        let k = stands.newest was (had_power d e lasts power) o c p at in
-        let spot : Spot = record { block = p.block; page = p.page; tag = k.tag } in
-        record { tag = k.tag; newest = (newest was o c spot k.newest).newest; version = k.version };
+        kept_group x d.flash e.flash (newest was) (stands.newest was (had_power d e lasts power));
+    limits = limits_ends 0 t u (Err group_faults.Failed) is less stands.limits;
   };
   numbers = numbers;
   geometry = ap (λ (s : Table). s.geometry) is;
   kept_count = ap kept_count is;
   index = moves_kept_none x;
   same_data = λ honest. same_kept_pages x d.flash e.flash (newest honest);
+  free = free_group spare d e t u x stands held is lasts ready newest;
 }
 
 -- ---- its names
@@ -172,3 +196,31 @@ module _ (t : Table) (x : Index) (pages : List FreshPage) (o : ℕ) (buffers : B
           let key = buffers.there q c i at in
           let lt : i < length pages = place_within pages i (record { object = q; chunk = c }) key in
           carried (record { block = o; page = (t.entry o).next + i; version = t.next_group }) (kept_buffered q c i at) (reads_buffered i lt ∙ sym (ap (data_by f pages) at) ∙ is)
+
+    -- and none of them lies in a free block of the table that was
+    pub free_present : (spare : ℕ) (z : Geometry) → z ≡ t.geometry → ((b : ℕ) → g.bad b ≡ (t.entry b).bad) → t.open_block ≡ Some o → AreHeld t x → HasFree t spare → LeavesFree z g spare (HasPage (present_data x pages f))
+    free_present spare z size bad opened held free = record {
+      free = is_free t;
+      enough =
+          let bads : bad_blocks z g ≡ bad_count t = ap (λ (y : Geometry). how_many g.bad y.blocks) size ∙ counts_same g.bad (is_bad t) t.geometry.blocks (λ b lt. bad b) in
+          let many : how_many (is_free t) z.blocks ≡ free_count t = ap (λ (y : Geometry). how_many (is_free t) y.blocks) size in
+          omega (arith, bads, many, free);
+      each = λ b lt is. record { good = bad b ∙ (free_is t b is).0; apart = λ q c s (xs, has) newest. apart b is q c s xs has newest (present x q c) refl };
+    } where
+      not_open : (b : ℕ) → is_free t b ≡ true → o ≢ b
+      not_open b is e =
+          let shut : is_open t.open_block b ≡ false = (free_is t b is).2 in
+          let two : true ≡ false = sym (ap (λ z. is_open z b) opened ∙ eq-eqb o b e) ∙ shut in
+          absurd cc
+
+      apart : (b : ℕ) → is_free t b ≡ true → (q c : ℕ) (s : Spot) (xs : List ℕ) → present_data x pages f q c ≡ Some xs → IsNewest g q c s → (r : Present) → present x q c ≡ r → s.block ≢ b
+      apart b is q c s xs has newest presents.Absent at = let two : None ≡ Some xs = sym (ap (data_by f pages) at) ∙ has in absurd cc
+      apart b is q c s xs has newest (presents.OnFlash k) at = λ here.
+          let there : s.block ≡ k.block = newest_where_kept g q c k s (kept_on_flash q c k at) newest in
+          let some = held q c k (on_flash_kept x q c k at) in
+          let none = (free_is t b is).1 in
+          let same : (t.entry k.block).kept ≡ (t.entry b).kept = ap (λ n. (t.entry n).kept) (sym there ∙ here) in
+          omega (arith, some, none, same)
+      apart b is q c s xs has newest (presents.InBuffer i) at = λ here.
+          let there : s.block ≡ o = newest_where_kept g q c (record { block = o; page = (t.entry o).next + i; version = t.next_group }) s (kept_buffered q c i at) newest in
+          not_open b is (sym there ∙ here)

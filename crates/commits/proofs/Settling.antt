@@ -5,7 +5,6 @@ use Rattle.std.proofs.lemmas.Bool.{cases_eq, eq-eqb}
 use Rattle.nand_model.specs.Flash.{Flash}
 use Rattle.nand_model.specs.Calls.{Device, Lasts}
 use Rattle.nand_model.specs.declared.geometry.Geometry.{Geometry}
-use Rattle.flash_tree.specs.Newest.{HasNewest}
 use Rattle.flash_tree.specs.declared.place.FreshPage.{FreshPage}
 use Rattle.flash_tree.specs.declared.place.Key.{Key}
 use Rattle.flash_tree.specs.laws.Finding.{slice_get_there}
@@ -28,16 +27,17 @@ use Rattle.transactions.specs.Groups.{OkTable, next_group}
 use Rattle.transactions.specs.Handing.{HandsOut}
 use Rattle.transactions.specs.Newest.{ShowsGroup}
 use Rattle.transactions.specs.Ready.{AreBelow, IsReady}
-use Rattle.bad_blocks.specs.Standing.{AreKept, HasFree, IsKeptAt, MayLie, Stands, TablesAgree}
+use Rattle.bad_blocks.specs.Standing.{AreKept, HasFree, IsKeptAt, IsWithinLimits, MayLie, Stands, TablesAgree}
+use Rattle.bad_blocks.specs.laws.FreeBlocks.{leaves_fewer}
 use Rattle.bad_blocks.specs.laws.Keeping.{had_power}
 use Rattle.bad_blocks.specs.laws.Moves.{may_lie_later}
 use Rattle.commits.specs.Carrying.{AreWritable, HaveRanges}
-use Rattle.pages.specs.Stores.{Carries}
+use Rattle.pages.specs.Stores.{HasPage, IsCarried}
 use Rattle.commits.specs.Keeping.{Commits}
-use Rattle.commits.proofs.Counts.{ListsAreWhole, settled_most, settled_elsewhere}
+use Rattle.commits.proofs.Counts.{ListsAreWhole, held_lists, settled_most, settled_elsewhere}
 use Rattle.commits.proofs.Following.{on_flash_kept}
 use Rattle.commits.proofs.Freeing.{bad_still, free_is, has_free, has_unkept}
-use Rattle.commits.proofs.Grouping.{kept_buffered, reads_buffered, kept_on_flash, reads_on_flash, carries_present}
+use Rattle.commits.proofs.Grouping.{kept_buffered, reads_buffered, kept_on_flash, reads_on_flash, carries_present, free_present}
 
 -- the table is ready still, since only counts changed
 pub ready_counted : (d : Device) (t u : Table) (before after : ℕ → ℕ) → Recounts before after t u → IsReady d t → IsReady d u
@@ -59,6 +59,10 @@ ready_counted d t u before after counts ready = record {
   numbers = (let group = counts.next_group in let one = ready.numbers.0 in omega (arith, group, one), let seq = counts.next_seq in let one = ready.numbers.1 in omega (arith, seq, one));
   below = λ honest. subst (λ n. AreBelow d.flash n u.next_seq) (sym counts.next_group) (subst (λ n. AreBelow d.flash t.next_group n) (sym counts.next_seq) (ready.below honest));
 }
+
+-- no number past the limit is the next
+limits_counted : (t u : Table) (before after : ℕ → ℕ) → Recounts before after t u → IsWithinLimits t → IsWithinLimits u
+limits_counted t u before after counts (groups, seqs) = (let same = counts.next_group in omega (arith, same, groups), let same = counts.next_seq in omega (arith, same, seqs))
 
 -- and as many numbers are handed out
 pub hands_counted : (d e : Device) (t u v : Table) (before after : ℕ → ℕ) → Recounts before after u v → HandsOut d e t u → HandsOut d e t v
@@ -179,7 +183,7 @@ open_after false count o t u is takes = inl (takes.open_block, ap (λ (e : Block
 module _ (spare : ℕ) (lists : ListsAreWhole) (d e : Device) (t u v : Table) (x y : Index) (pages : List FreshPage) (o : ℕ)
     (buffers : Buffers x pages) (is : t.open_block ≡ Some o) (ready : IsReady d t) (stands : Stands spare d t x) (free : HasFree t spare)
     (writable : AreWritable d.geometry pages) (ranges : HaveRanges pages) (fit : length pages ≤ room t)
-    (lasts : Lasts d e) (then : IsReady e u) (numbers : HandsOut d e t u) (same : SameCounts t u) (after : StaysOrCloses (length pages) o t u) (power : e.gone ≡ false)
+    (lasts : Lasts d e) (then : IsReady e u) (numbers : HandsOut d e t u) (same : SameCounts t u) (after : StaysOrCloses (length pages) o t u) (limits : IsWithinLimits t → IsWithinLimits u) (power : e.gone ≡ false)
     (shows : d.honest ≡ true → ShowsGroup (next_group t (length pages) o) (name_at pages t.next_group) (bytes_at pages) d.flash e.flash)
     (settles : Settles (record { block = o; first = (t.entry o).next; number = t.next_group }) x y) (agree : CountsAgree v y) (counts : Recounts (kept_in x) (kept_in y) u v) where
   abbrev group : WrittenGroup
@@ -255,12 +259,17 @@ module _ (spare : ℕ) (lists : ListsAreWhole) (d e : Device) (t u v : Table) (x
       newest = λ honest on.
           let was : d.honest ≡ true = sym lasts.honest ∙ honest in
           newest_settled group e.flash x y settles (kept_buffered t x pages o buffers d.flash e.flash (shows was)) (kept_on_flash t x pages o buffers d.flash e.flash (shows was) (kept was));
+      limits = limits_counted u v (kept_in x) (kept_in y) counts (limits stands.limits);
     };
     numbers = hands_counted d e t u v (kept_in x) (kept_in y) counts numbers;
     presents = settles.presents;
     keys = settles.ready;
     kept = λ honest on. written_kept group x y pages d.flash e.flash settles buffers (reads_buffered t x pages o buffers d.flash e.flash (shows honest)) (reads_on_flash t x pages o buffers d.flash e.flash (shows honest) (kept honest));
-    newest = λ honest. carries_present t x pages o buffers d.flash e.flash (shows honest) (kept honest);
+    newest = λ honest. record {
+      newest = carries_present t x pages o buffers d.flash e.flash (shows honest) (kept honest);
+      free = free_present t x pages o buffers d.flash e.flash (shows honest) (kept honest) spare e.geometry (sym then.geometry ∙ same.geometry) (λ b. sym (then.marks b) ∙ same.bad b) is
+          (held_lists lists t x stands.tables.counts) free;
+    };
   } where
     kept : d.honest ≡ true → AreKept d.flash (kept_pages x)
     kept honest = stands.newest honest (had_power d e lasts power)
@@ -298,15 +307,34 @@ module _ (spare : ℕ) (lists : ListsAreWhole) (w : WrittenGroup) (d : Device) (
   stands_empty = record {
     tables = tables_settled spare lists w t t v x y pages settles buffers agree counts here stands.tables free (omega arith) (λ q c i at. absurd (not_there q c i at)) full written_is (λ _. no_page) (inl refl);
     newest = λ honest power. newest_settled w d.flash x y settles (λ q c i at. absurd (not_there q c i at)) (λ q c k at. stands.newest honest power q c k (on_flash_kept x q c k at));
+    limits = limits_counted t v (kept_in x) (kept_in y) counts stands.limits;
   }
 
   -- what is present is what is kept of it
-  pub carries_empty : Carries d.flash (kept_data x d.flash) → Carries d.flash (present_data x pages d.flash)
-  carries_empty carries q c xs is = go (present x q c) refl where
-    go : (r : Present) → present x q c ≡ r → HasNewest d.flash q c xs
+  shown_was_kept : (q c : ℕ) (xs : List ℕ) → present_data x pages d.flash q c ≡ Some xs → kept_data x d.flash q c ≡ Some xs
+  shown_was_kept q c xs is = go (present x q c) refl where
+    go : (r : Present) → present x q c ≡ r → kept_data x d.flash q c ≡ Some xs
     go presents.Absent at = let two : None ≡ Some xs = sym (ap (data_by d.flash pages) at) ∙ is in absurd cc
-    go (presents.OnFlash k) at = carries q c xs (ap (option_and_then (data_at d.flash)) (on_flash_kept x q c k at) ∙ sym (ap (data_by d.flash pages) at) ∙ is)
+    go (presents.OnFlash k) at = ap (option_and_then (data_at d.flash)) (on_flash_kept x q c k at) ∙ sym (ap (data_by d.flash pages) at) ∙ is
     go (presents.InBuffer i) at = absurd (not_there q c i at)
+
+  pub carries_empty : IsCarried d spare (kept_data x d.flash) → IsCarried d spare (present_data x pages d.flash)
+  carries_empty was = record {
+    newest = λ q c xs is. was.newest q c xs (shown_was_kept q c xs is);
+    free = λ left. leaves_fewer d.geometry d.flash spare (HasPage (kept_data x d.flash)) (HasPage (present_data x pages d.flash)) (λ q c (xs, is). (xs, shown_was_kept q c xs is)) (was.free left);
+  }
 
   pub kept_empty : (q c : ℕ) → kept_data y d.flash q c ≡ present_data x pages d.flash q c
   kept_empty = written_kept w x y pages d.flash d.flash settles buffers (λ i lt. let zero_long = no_page in absurd (omega (arith, lt, zero_long))) (λ q c k at. refl)
+
+-- with nothing buffered a page that is kept was kept there
+pub kept_before : (w : WrittenGroup) (x y : Index) (pages : List FreshPage) → pages ≡ [] → Buffers x pages → Settles w x y → (q c : ℕ) (p : KeptPage) → kept_pages y q c ≡ Some p → kept_pages x q c ≡ Some p
+kept_before w x y pages none buffers settles q c p is = go (present x q c) refl
+  where
+    go : (r : Present) → present x q c ≡ r → kept_pages x q c ≡ Some p
+    go presents.Absent at = let two : None ≡ Some p = sym (settles.kept q c ∙ ap (written w) at) ∙ is in absurd cc
+    go (presents.OnFlash k) at = on_flash_kept x q c k at ∙ sym (settles.kept q c ∙ ap (written w) at) ∙ is
+    go (presents.InBuffer i) at =
+        let lt : i < length pages = place_within pages i _ (buffers.there q c i at) in
+        let zero_long : length pages ≡ 0 = ap length none in
+        absurd (omega (arith, lt, zero_long))

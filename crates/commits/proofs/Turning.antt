@@ -1,11 +1,12 @@
 -- What stands after one call and then another.
-use Rattle.std.proofs.Common.{◌≡◌, ◌⊎◌, ◌≤◌, ℕ, ◌+◌, ◌-◌, ◌*◌, true, false, List, [], length, Option, Some, None, Result, Ok, Err, refl, sym, ap, subst, ◌∙◌, inl, inr}
+use Rattle.std.proofs.Common.{◌≡◌, ◌⊎◌, ◌≤◌, ℕ, ◌+◌, ◌-◌, ◌*◌, true, false, List, [], length, Option, Some, None, Result, Ok, Err, refl, sym, ap, subst, ◌∙◌, inl, inr, arith}
 use Rattle.std.specs.Option.{option_and_then}
 use Rattle.std.proofs.lemmas.Bool.{cases_Bool}
 use Rattle.nand_model.specs.Flash.{Flash}
 use Rattle.nand_model.specs.Calls.{Device, Lasts}
 use Rattle.nand_model.specs.declared.geometry.Geometry.{Geometry}
 use Rattle.nand_model.specs.laws.Calls.{lasts_on, lasts_here}
+use Rattle.flash_tree.specs.FreeBlocks.{LeavesFree}
 use Rattle.flash_tree.specs.declared.place.FreshPage.{FreshPage}
 use Rattle.block_state.specs.Kept.{bad_count, kept_count}
 use Rattle.block_state.specs.Table.{Table}
@@ -22,17 +23,57 @@ use Rattle.page_buffer.specs.laws.Buffering.{buffers_empty}
 use Rattle.transactions.specs.Ready.{IsReady}
 use Rattle.transactions.specs.laws.Handing.{hands_on, hands_nothing}
 use Rattle.bad_blocks.specs.Moving.{Moves}
-use Rattle.bad_blocks.specs.Standing.{AreKept, HasFree, SameData, Stands}
+use Rattle.bad_blocks.specs.Standing.{AreKept, HasFree, IsKept, IsWithinLimits, KeepsFree, SameData, Stands}
+use Rattle.bad_blocks.specs.laws.FreeBlocks.{free_here, free_on, leaves_fewer}
 use Rattle.bad_blocks.specs.laws.Keeping.{had_power}
 use Rattle.collector.specs.Making.{LeavesRoom, WhyNoRoom}
 use Rattle.collector.specs.declared.fault.RoomFault.{RoomFault}
 use Rattle.collector.specs.declared.fault.RoomFault.TheVariants as faults
-use Rattle.commits.specs.Carrying.{CarriesEither, KeepsOrShows}
-use Rattle.pages.specs.Stores.{Carries}
+use Rattle.commits.specs.Carrying.{CarriesEither, CarriesFree, KeepsOrShows, StaysOrShows}
+use Rattle.pages.specs.Maps.{PageMap}
+use Rattle.pages.specs.Stores.{HasNumbersLeft, HasPage, IsCarried}
 use Rattle.commits.specs.Committing.{CommitEnds}
-use Rattle.commits.specs.Keeping.{Keeps, Commits, IsAnswered, Leaves}
+use Rattle.commits.specs.Keeping.{Keeps, Commits, IsAnswered, Leaves, MovesKept}
 use Rattle.commits.specs.Writing.{AttemptEnds, IsWhole, IsWaiting, WholeEnds}
-use Rattle.commits.proofs.Following.{moves_kept_out, moves_kept_none, moves_kept_on, buffers_moved, presents_moved, carries_kept, same_data_on, same_kept, same_present}
+use Rattle.commits.proofs.Following.{moves_kept_out, moves_kept_none, moves_kept_on, buffers_moved, presents_moved, carries_kept, kept_reads, same_data_on, same_kept, same_present}
+
+-- ---- keys
+
+-- kept keys that were moved are kept
+kept_moved : (x y : Index) → MovesKept x y → (o c : ℕ) → IsKept (kept_pages x) o c → IsKept (kept_pages y) o c
+kept_moved x y moves o c (p, is) = let m = moves.moved o c p is in (m.at, m.is)
+
+leaves_as_kept : (spare : ℕ) (d : Device) (x y : Index) → MovesKept x y → LeavesFree d.geometry d.flash spare (IsKept (kept_pages y)) → LeavesFree d.geometry d.flash spare (IsKept (kept_pages x))
+leaves_as_kept spare d x y moves leaves = leaves_fewer d.geometry d.flash spare (IsKept (kept_pages y)) (IsKept (kept_pages x)) (kept_moved x y moves) leaves
+
+-- a key with the data of a kept page is kept
+data_kept : (x : Index) (f : Flash) (o c : ℕ) → HasPage (kept_data x f) o c → IsKept (kept_pages x) o c
+data_kept x f o c (xs, has) = go (kept_pages x o c) refl where
+  go : (m : Option KeptPage) → kept_pages x o c ≡ m → IsKept (kept_pages x) o c
+  go None none = let two : None ≡ Some xs = sym (ap (option_and_then (data_at f)) none) ∙ has in absurd cc
+  go (Some p) some = (p, some)
+
+-- and a kept key has data, where its page is the newest
+kept_has : (x : Index) (f : Flash) → AreKept f (kept_pages x) → (o c : ℕ) → IsKept (kept_pages x) o c → HasPage (kept_data x f) o c
+kept_has x f kept o c (p, is) = let reads = kept_reads f o c p (kept o c p is) in (reads.0, ap (option_and_then (data_at f)) is ∙ reads.1)
+
+-- the same map is carried as well
+carries_same : (d : Device) (spare : ℕ) (m n : PageMap) → ((o c : ℕ) → m o c ≡ n o c) → CarriesFree d spare m → CarriesFree d spare n
+carries_same d spare m n same carries = record {
+  newest = λ o c xs is. carries.newest o c xs (same o c ∙ is);
+  free = leaves_fewer d.geometry d.flash spare (HasPage m) (HasPage n) (λ o c (xs, is). (xs, same o c ∙ is)) carries.free;
+}
+
+-- numbers are left
+numbers_left : (d : Device) (t : Table) → IsReady d t → IsWithinLimits t → d.honest ≡ true → HasNumbersLeft d.flash
+numbers_left d t ready (groups, seqs) honest b p tag good has =
+    let below = ready.below honest b p tag good has in
+    let version = below.0 in
+    let group = below.1 in
+    let seq = below.2 in
+    (omega (arith, version, groups), omega (arith, group, groups), omega (arith, seq, seqs))
+
+-- ---- calls
 
 -- nothing was done
 pub keeps_here : (spare : ℕ) (d : Device) (t : Table) (x : Index) → IsReady d t → Stands spare d t x → Keeps spare d d t t x x
@@ -45,11 +86,12 @@ keeps_here spare d t x ready stands = record {
   kept_count = refl;
   index = moves_kept_none x;
   same_data = λ honest o c p xs is v. v;
+  free = free_here spare d x;
 }
 
 -- kept pages were moved out of a block
-pub keeps_moved : (spare v : ℕ) (d e : Device) (t u : Table) (x y : Index) → Moves v d e t u x y → Stands spare e u y → Keeps spare d e t u x y
-keeps_moved spare v d e t u x y moves stands = record {
+pub keeps_moved : (spare v : ℕ) (d e : Device) (t u : Table) (x y : Index) → Moves v d e t u x y → Stands spare e u y → KeepsFree spare d e x y → Keeps spare d e t u x y
+keeps_moved spare v d e t u x y moves stands free = record {
   lasts = moves.lasts;
   ready = moves.ready;
   stands = stands;
@@ -58,6 +100,7 @@ keeps_moved spare v d e t u x y moves stands = record {
   kept_count = moves.kept_count;
   index = moves_kept_out v x y moves.index;
   same_data = moves.same_data;
+  free = free;
 }
 
 pub keeps_on : (spare : ℕ) (a b c : Device) (t u v : Table) (x y z : Index) → Keeps spare a b t u x y → Keeps spare b c u v y z → Keeps spare a c t v x z
@@ -70,6 +113,7 @@ keeps_on spare a b c t u v x y z first then = record {
   kept_count = then.kept_count ∙ first.kept_count;
   index = moves_kept_on x y z first.index then.index;
   same_data = λ honest. same_data_on x y a.flash b.flash c.flash first.index (first.same_data honest) (then.same_data (first.lasts.honest ∙ honest));
+  free = free_on spare a b c x y z first.lasts.honest first.free then.free;
 }
 
 -- no buffered page counts
@@ -82,7 +126,7 @@ leaves_kept spare d e t u x y pages rest keeps same buffers = record {
   buffers = buffers;
   waits = inl (same, keeps.index);
   keys = keeps.index.ready;
-  newest = λ honest. inl (keeps.same_data honest);
+  newest = λ honest. inl (record { same_data = keeps.same_data honest; free = λ free. leaves_as_kept spare e x y keeps.index (keeps.free honest free) });
 }
 
 pub leaves_moved : (spare : ℕ) (d e : Device) (t u : Table) (x y : Index) (pages : List FreshPage) → Keeps spare d e t u x y → Buffers x pages → Leaves spare d e t u x y pages pages
@@ -129,12 +173,18 @@ module _ (spare : ℕ) (a b c : Device) (t u v : Table) (x y z : Index) (pages :
     keys = λ o k is. then.keys o k (first.index.ready o k is);
     newest = λ honest. newest honest (cases_Bool b.gone);
   } where
-    powered : a.honest ≡ true → b.gone ≡ false → KeepsOrShows y pages b.flash c.flash → KeepsOrShows x pages a.flash c.flash
-    powered honest power (inl same) = inl (same_data_on x y a.flash b.flash c.flash first.index (first.same_data honest) same)
-    powered honest power (inr shows) = inr (λ o k xs is. shows o k xs (same_shown honest power o k ∙ is))
+    powered : a.honest ≡ true → b.gone ≡ false → StaysOrShows spare y pages b c → StaysOrShows spare x pages a c
+    powered honest power (inl stays) = inl (record {
+      same_data = same_data_on x y a.flash b.flash c.flash first.index (first.same_data honest) stays.same_data;
+      free = λ free. leaves_as_kept spare c x y first.index (stays.free (first.free honest free));
+    })
+    powered honest power (inr shows) = inr (carries_same c spare (present_data y pages b.flash) (present_data x pages a.flash) (same_shown honest power) shows)
 
-    newest : a.honest ≡ true → (b.gone ≡ true) ⊎ (b.gone ≡ false) → KeepsOrShows x pages a.flash c.flash
-    newest honest (inl gone) = inl (subst (λ (d : Device). SameData (kept_pages x) a.flash d.flash) (sym (then.lasts.gone gone)) (first.same_data honest))
+    newest : a.honest ≡ true → (b.gone ≡ true) ⊎ (b.gone ≡ false) → StaysOrShows spare x pages a c
+    newest honest (inl gone) = inl (record {
+      same_data = subst (λ (d : Device). SameData (kept_pages x) a.flash d.flash) (sym (then.lasts.gone gone)) (first.same_data honest);
+      free = λ free. subst (λ (d : Device). LeavesFree d.geometry d.flash spare (IsKept (kept_pages x))) (sym (then.lasts.gone gone)) (leaves_as_kept spare b x y first.index (first.free honest free));
+    })
     newest honest (inr power) = powered honest power (then.newest (first.lasts.honest ∙ honest))
 
   pub commits_after : c.gone ≡ false → Commits spare b c u v y z pages → Commits spare a c t v x z pages
@@ -148,7 +198,7 @@ module _ (spare : ℕ) (a b c : Device) (t u v : Table) (x y z : Index) (pages :
         presents = then.presents;
         keys = λ o k is. then.keys o k (first.index.ready o k is);
         kept = λ honest still o k. then.kept (first.lasts.honest ∙ honest) still o k ∙ same_shown honest power o k;
-        newest = λ honest o k xs is. then.newest (first.lasts.honest ∙ honest) o k xs (same_shown honest power o k ∙ is);
+        newest = λ honest. carries_same c spare (present_data y pages b.flash) (present_data x pages a.flash) (same_shown honest power) (then.newest (first.lasts.honest ∙ honest));
       }
 
 -- kept pages are moved once the buffered pages count
@@ -166,11 +216,19 @@ commits_then spare a b c t u v x y z pages first then = record {
       same_kept y z b.flash c.flash then.index (first.stands.newest mid power) (then.stands.newest (then.lasts.honest ∙ mid) on) (then.same_data mid) o k ∙ first.kept honest power o k;
   newest = λ honest. newest honest (cases_Bool b.gone);
 } where
-  newest : a.honest ≡ true → (b.gone ≡ true) ⊎ (b.gone ≡ false) → Carries c.flash (present_data x pages a.flash)
-  newest honest (inl gone) = subst (λ (d : Device). Carries d.flash (present_data x pages a.flash)) (sym (then.lasts.gone gone)) (first.newest honest)
+  newest : a.honest ≡ true → (b.gone ≡ true) ⊎ (b.gone ≡ false) → CarriesFree c spare (present_data x pages a.flash)
+  newest honest (inl gone) = subst (λ (d : Device). CarriesFree d spare (present_data x pages a.flash)) (sym (then.lasts.gone gone)) (first.newest honest)
   newest honest (inr power) =
       let mid : b.honest ≡ true = first.lasts.honest ∙ honest in
-      λ o k xs is. carries_kept y b.flash c.flash (first.stands.newest mid power) (then.same_data mid) o k xs (first.kept honest power o k ∙ is)
+      let kept : AreKept b.flash (kept_pages y) = first.stands.newest mid power in
+      let same : (o k : ℕ) → kept_data y b.flash o k ≡ present_data x pages a.flash o k = first.kept honest power in
+      let before = leaves_fewer b.geometry b.flash spare (HasPage (present_data x pages a.flash)) (IsKept (kept_pages y))
+      (λ o k is. let has = kept_has y b.flash kept o k is in (has.0, sym (same o k) ∙ has.1)) (first.newest honest).free in
+      record {
+        newest = λ o k xs is. carries_kept y b.flash c.flash kept (then.same_data mid) o k xs (same o k ∙ is);
+        free = leaves_fewer c.geometry c.flash spare (IsKept (kept_pages z)) (HasPage (present_data x pages a.flash))
+            (λ o k (xs, is). kept_moved y z then.index o k (data_kept y b.flash o k (xs, same o k ∙ is))) (then.free mid before);
+      }
 
 -- ---- the same with the buffer
 
@@ -247,13 +305,27 @@ attempt_err count spare d e t u v x y b b' faults.Gone ends = ends
 
 -- ---- what is carried
 
+carried : (d : Device) (spare : ℕ) (m : PageMap) → CarriesFree d spare m → IsCarried d spare m
+carried d spare m carries = record { newest = carries.newest; free = λ _. carries.free }
+
+-- the data of what was kept, or of what was present
+pub keeps_or_shows : (spare : ℕ) (d e : Device) (x : Index) (pages : List FreshPage) → StaysOrShows spare x pages d e → KeepsOrShows x pages d.flash e.flash
+keeps_or_shows spare d e x pages (inl stays) = inl stays.same_data
+keeps_or_shows spare d e x pages (inr shows) = inr shows.newest
+
 -- the kept pages are carried still, or the present ones are
-pub carries_either : (spare : ℕ) (d e : Device) (t : Table) (x : Index) (pages : List FreshPage) → Stands spare d t x → Lasts d e → d.honest ≡ true → KeepsOrShows x pages d.flash e.flash
-    → CarriesEither x pages d.flash e.flash
-carries_either spare d e t x pages stands lasts honest (inr shows) was = inr shows
-carries_either spare d e t x pages stands lasts honest (inl same) was = elim (cases_Bool d.gone) [
-  | inl gone ↦ inl (subst (λ (z : Device). Carries z.flash (kept_data x d.flash)) (sym (lasts.gone gone)) was)
-  | inr power ↦ inl (carries_kept x d.flash e.flash (stands.newest honest power) same)
+pub carries_either : (spare : ℕ) (d e : Device) (t : Table) (x : Index) (pages : List FreshPage) → IsReady d t → Stands spare d t x → Lasts d e → d.honest ≡ true → StaysOrShows spare x pages d e
+    → CarriesEither spare x pages d e
+carries_either spare d e t x pages ready stands lasts honest (inr shows) was = inr (carried e spare (present_data x pages d.flash) shows)
+carries_either spare d e t x pages ready stands lasts honest (inl stays) was = elim (cases_Bool d.gone) [
+  | inl gone ↦ inl (subst (λ (z : Device). IsCarried z spare (kept_data x d.flash)) (sym (lasts.gone gone)) was)
+  | inr power ↦
+      let kept : AreKept d.flash (kept_pages x) = stands.newest honest power in
+      let before = leaves_fewer d.geometry d.flash spare (HasPage (kept_data x d.flash)) (IsKept (kept_pages x)) (kept_has x d.flash kept) (was.free (numbers_left d t ready stands.limits honest)) in
+      inl (record {
+        newest = carries_kept x d.flash e.flash kept stays.same_data;
+        free = λ _. leaves_fewer e.geometry e.flash spare (IsKept (kept_pages x)) (HasPage (kept_data x d.flash)) (data_kept x d.flash) (stays.free before);
+      })
 ]
 
 as_kept_shown : (f : Flash) (m : Option KeptPage) (pages : List FreshPage) → data_by f pages (as_kept m) ≡ option_and_then (data_at f) m
@@ -274,7 +346,7 @@ whole_committed spare d e t u x y b b' (Ok done) (whole, few, answered) = record
   last = whole.out.last;
   kept = λ honest. whole.commits.kept honest whole.power;
   present = λ honest o c. shown_kept y e.flash (buffered b') whole.commits.presents o c ∙ whole.commits.kept honest whole.power o c;
-  newest = λ honest _. whole.commits.newest honest;
+  newest = λ honest _. carried e spare (present_data x (buffered b) d.flash) (whole.commits.newest honest);
   few = few;
   free = whole.free;
   power = λ _. whole.power;

@@ -1,9 +1,10 @@
 -- What the writing of the buffered pages leaves, however it ends.
-use Rattle.std.proofs.Common.{refl, ◌≡◌, ◌⊎◌, ◌<◌, ◌≤◌, ℕ, true, false, List, length, Some, Ok, Err, sym, ap, subst, ◌∙◌, inl, inr}
+use Rattle.std.proofs.Common.{refl, ◌≡◌, ◌⊎◌, ◌<◌, ◌≤◌, ◌^◌, ℕ, true, false, List, length, Some, Ok, Err, sym, ap, subst, ◌∙◌, inl, inr}
 use Rattle.std.proofs.lemmas.Bool.{cases_Bool}
 use Rattle.nand_model.specs.Calls.{Device, Lasts}
 use Rattle.nand_model.specs.Changes.{Grows}
 use Rattle.nand_model.specs.declared.geometry.Geometry.{Geometry}
+use Rattle.flash_tree.specs.FreeBlocks.{LeavesFree}
 use Rattle.flash_tree.specs.Keeping.{KeepsNewest}
 use Rattle.flash_tree.specs.declared.place.FreshPage.{FreshPage}
 use Rattle.block_state.specs.Counting.{how_many}
@@ -14,7 +15,7 @@ use Rattle.block_state.specs.Table.{Table, is_bad, room}
 use Rattle.chunk_index.specs.declared.form.WrittenGroup.{WrittenGroup}
 use Rattle.chunk_index.specs.declared.index.Index.{Index}
 use Rattle.chunk_index.specs.Counts.{Recounts}
-use Rattle.chunk_index.specs.Maps.{kept_in, CountsAgree, Settles}
+use Rattle.chunk_index.specs.Maps.{kept_in, kept_pages, CountsAgree, Settles}
 use Rattle.page_buffer.specs.Buffering.{Buffers}
 use Rattle.transactions.specs.Committing.{name_at, bytes_at}
 use Rattle.transactions.specs.Groups.{AddsPages, GroupsAfter, OkTable, TellsGroup, closed, next_group}
@@ -23,14 +24,14 @@ use Rattle.transactions.specs.Newest.{NewestAfter, ShowsGroup}
 use Rattle.transactions.specs.Ready.{IsReady}
 use Rattle.transactions.specs.declared.group.GroupFault.TheVariants as group_faults
 use Rattle.transactions.specs.declared.group.Placed.{Placed}
-use Rattle.bad_blocks.specs.Standing.{HasFree, HasVersion, Stands, TablesAgree}
-use Rattle.bad_blocks.specs.laws.Keeping.{same_ends, same_closed}
-use Rattle.commits.specs.Carrying.{AreWritable, HaveRanges, KeepsOrShows}
+use Rattle.bad_blocks.specs.Standing.{AreHeld, HasFree, HasVersion, IsKept, Stands, TablesAgree}
+use Rattle.bad_blocks.specs.laws.Keeping.{same_ends, same_closed, limits_ends}
+use Rattle.commits.specs.Carrying.{AreWritable, HaveRanges, StaysOrShows}
 use Rattle.commits.specs.Keeping.{Commits, Keeps, Leaves}
 use Rattle.commits.specs.Writing.{IsGoodBlock}
-use Rattle.commits.proofs.Counts.{ListsAreWhole}
+use Rattle.commits.proofs.Counts.{ListsAreWhole, held_lists}
 use Rattle.commits.proofs.Following.{moves_kept_none}
-use Rattle.commits.proofs.Grouping.{carries_present, keeps_group, newest_written, same_kept_pages, tables_closed}
+use Rattle.commits.proofs.Grouping.{carries_present, free_group, free_present, keeps_group, newest_written, same_kept_pages, tables_closed}
 use Rattle.commits.proofs.Settling.{commits_whole, free_whole, open_after}
 
 -- the counts agree still, where no count changes
@@ -56,20 +57,21 @@ good_block o d e t v ready is lasts same = record {
 }
 
 -- the group does not count
-pub keeps_written : (spare : ℕ) (d e : Device) (t u : Table) (x : Index) (xs : List FreshPage) (o : ℕ) → Stands spare d t x → IsReady d t → u ≡ closed t → Lasts d e → IsReady e u → HandsOut d e t u
-    → (d.honest ≡ true → KeepsNewest d.flash e.flash) → Keeps spare d e t u x x
-keeps_written spare d e t u x xs o stands ready is lasts then numbers newest = keeps_group spare d e t u x stands is lasts then numbers newest
+pub keeps_written : (spare : ℕ) (d e : Device) (t u : Table) (x : Index) (xs : List FreshPage) (o : ℕ) → ListsAreWhole → Stands spare d t x → t.next_group < 2 ^ 62 → u ≡ closed t → Lasts d e → IsReady e u
+    → HandsOut d e t u → (d.honest ≡ true → KeepsNewest d.flash e.flash) → Keeps spare d e t u x x
+keeps_written spare d e t u x xs o lists stands less is lasts then numbers newest = keeps_group spare d e t u x stands (held_lists lists t x stands.tables.counts) less is lasts then numbers newest
 
 -- the device went, and the group counts or not
-pub leaves_gone : (spare : ℕ) (d e : Device) (t u : Table) (x : Index) (pages : List FreshPage) (o : ℕ) → Stands spare d t x → Buffers x pages → IsReady d t → u ≡ closed t → Lasts d e → IsReady e u → HandsOut d e t u
-    → e.gone ≡ true → (d.honest ≡ true → Grows d.flash e.flash)
+pub leaves_gone : (spare : ℕ) (d e : Device) (t u : Table) (x : Index) (pages : List FreshPage) (o : ℕ) → ListsAreWhole → Stands spare d t x → HasFree t spare → t.next_group < 2 ^ 62 → t.open_block ≡ Some o → Buffers x pages → IsReady d t
+    → u ≡ closed t → Lasts d e → IsReady e u → HandsOut d e t u → e.gone ≡ true → (d.honest ≡ true → Grows d.flash e.flash)
     → (d.honest ≡ true → GroupsAfter (next_group t (length pages) o) (name_at pages t.next_group) (bytes_at pages) d.flash e.flash (Err group_faults.Gone)) → Leaves spare d e t u x x pages pages
-leaves_gone spare d e t u x pages o stands buffers ready is lasts then numbers gone grows groups = record {
+leaves_gone spare d e t u x pages o lists stands free less opened buffers ready is lasts then numbers gone grows groups = record {
   lasts = lasts;
   ready = then;
   stands = record {
     tables = subst (λ (s : Table). TablesAgree spare s x) (sym is) (tables_closed spare t x stands.tables);
     newest = λ honest power. let two : true ≡ false = sym gone ∙ power in absurd cc;
+    limits = limits_ends (length pages) t u (Err group_faults.Gone) is less stands.limits;
   };
   numbers = numbers;
   buffers = buffers;
@@ -77,18 +79,30 @@ leaves_gone spare d e t u x pages o stands buffers ready is lasts then numbers g
   keys = λ o k is. is;
   newest = λ honest. newest honest (cases_Bool d.gone);
 } where
-  after : (honest : d.honest ≡ true) → d.gone ≡ false → NewestAfter (next_group t (length pages) o) (name_at pages t.next_group) (bytes_at pages) d.flash e.flash (Err group_faults.Gone) → KeepsOrShows x pages d.flash e.flash
-  after honest power (inl keeps) = inl (same_kept_pages x d.flash e.flash keeps)
-  after honest power (inr shows) = inr (carries_present t x pages o buffers d.flash e.flash shows (stands.newest honest power))
+  held : AreHeld t x
+  held = held_lists lists t x stands.tables.counts
 
-  newest : d.honest ≡ true → (d.gone ≡ true) ⊎ (d.gone ≡ false) → KeepsOrShows x pages d.flash e.flash
-  newest honest (inl was) = inl (λ o c p xs at v. subst (λ (z : Device). HasVersion z.flash o c p.version xs) (sym (lasts.gone was)) v)
+  same : SameCounts t u
+  same = same_closed t u is
+
+  after : (honest : d.honest ≡ true) → d.gone ≡ false → NewestAfter (next_group t (length pages) o) (name_at pages t.next_group) (bytes_at pages) d.flash e.flash (Err group_faults.Gone) → StaysOrShows spare x pages d e
+  after honest power (inl keeps) = inl (record { same_data = same_kept_pages x d.flash e.flash keeps; free = free_group spare d e t u x stands held is lasts then (λ _. keeps) honest })
+  after honest power (inr shows) = inr (record {
+    newest = carries_present t x pages o buffers d.flash e.flash shows (stands.newest honest power);
+    free = free_present t x pages o buffers d.flash e.flash shows (stands.newest honest power) spare e.geometry (sym then.geometry ∙ same.geometry) (λ b. sym (then.marks b) ∙ same.bad b) opened held free;
+  })
+
+  newest : d.honest ≡ true → (d.gone ≡ true) ⊎ (d.gone ≡ false) → StaysOrShows spare x pages d e
+  newest honest (inl was) = inl (record {
+    same_data = λ o c p xs at v. subst (λ (z : Device). HasVersion z.flash o c p.version xs) (sym (lasts.gone was)) v;
+    free = λ before. subst (λ (z : Device). LeavesFree z.geometry z.flash spare (IsKept (kept_pages x))) (sym (lasts.gone was)) before;
+  })
   newest honest (inr power) = after honest power (newest_written d e t pages o ready honest (grows honest) (Err group_faults.Gone) (groups honest))
 
 -- the group counts
 module _ (spare : ℕ) (lists : ListsAreWhole) (d e : Device) (t u v : Table) (x y : Index) (pages : List FreshPage) (o : ℕ) (placed : Placed)
     (buffers : Buffers x pages) (is : t.open_block ≡ Some o) (ready : IsReady d t) (stands : Stands spare d t x) (free : HasFree t spare)
-    (writable : AreWritable d.geometry pages) (ranges : HaveRanges pages) (fit : length pages ≤ room t)
+    (writable : AreWritable d.geometry pages) (ranges : HaveRanges pages) (fit : length pages ≤ room t) (less : t.next_group < 2 ^ 62)
     (lasts : Lasts d e) (then : IsReady e u) (numbers : HandsOut d e t u) (grows : d.honest ≡ true → Grows d.flash e.flash) (table : OkTable placed.suspect (length pages) t u) (power : e.gone ≡ false)
     (tells : TellsGroup (next_group t (length pages) o) placed)
     (groups : d.honest ≡ true → AddsPages (next_group t (length pages) o) (name_at pages t.next_group) (bytes_at pages) d.flash e.flash)
@@ -104,8 +118,8 @@ module _ (spare : ℕ) (lists : ListsAreWhole) (d e : Device) (t u v : Table) (x
 
   pub commits_written : Commits spare d e t v x y pages
   commits_written = commits_whole spare lists d e t u v x y pages o buffers is ready stands free writable ranges fit lasts then numbers (same_ends (length pages) t u (Ok placed) table)
-      (open_after placed.suspect (length pages) o t u is table) power shows settles_there agree counts
+      (open_after placed.suspect (length pages) o t u is table) (limits_ends (length pages) t u (Ok placed) table less) power shows settles_there agree counts
 
   pub free_written : HasFree v spare
   free_written = free_whole spare lists d e t u v x y pages o buffers is ready stands free writable ranges fit lasts then numbers (same_ends (length pages) t u (Ok placed) table)
-      (open_after placed.suspect (length pages) o t u is table) power shows settles_there agree counts
+      (open_after placed.suspect (length pages) o t u is table) (limits_ends (length pages) t u (Ok placed) table less) power shows settles_there agree counts

@@ -11,7 +11,7 @@ use Rattle.page_buffer.specs.Shown.{kept_data, present_data}
 use Rattle.bad_blocks.specs.Standing.{HasFree}
 use Rattle.collector.specs.Making.{WhyNoRoom}
 use Rattle.collector.specs.declared.fault.RoomFault.{RoomFault}
-use Rattle.pages.specs.Stores.{Carries}
+use Rattle.pages.specs.Stores.{IsCarried}
 use Rattle.commits.specs.Keeping.{IsAnswered}
 
 -- the buffer holds as many pages of as many bytes at most
@@ -20,7 +20,7 @@ pub record SameSizes (old new : Buffer) : Type 0 where
   pub bytes : bytes_of_page new ≡ bytes_of_page old
 
 -- A commit that is done: the buffer is empty, and has the pages that it had as those that were written last; what was
--- present is kept, with its data, and what was dropped is not; of an honest device the present pages are the newest.
+-- present is kept, with its data, and what was dropped is not; an honest device carries the present pages.
 -- No more blocks are bad than there are to spare, and blocks enough are free. A device that wrote has power, and no block
 -- of which a program of the group failed is trusted.
 pub record IsCommitted (spare : ℕ) (old new : Device) (t t' : Table) (x x' : Index) (b b' : Buffer) : Type 0 where
@@ -29,7 +29,7 @@ pub record IsCommitted (spare : ℕ) (old new : Device) (t t' : Table) (x x' : I
   pub last : written b' ≡ buffered b
   pub kept : old.honest ≡ true → (o c : ℕ) → kept_data x' new.flash o c ≡ present_data x (buffered b) old.flash o c
   pub present : old.honest ≡ true → (o c : ℕ) → present_data x' (buffered b') new.flash o c ≡ present_data x (buffered b) old.flash o c
-  pub newest : old.honest ≡ true → Carries old.flash (kept_data x old.flash) → Carries new.flash (present_data x (buffered b) old.flash)
+  pub newest : old.honest ≡ true → IsCarried old spare (kept_data x old.flash) → IsCarried new spare (present_data x (buffered b) old.flash)
   pub few : bad_count t' ≤ spare
   pub free : HasFree t' spare
   pub power : 1 ≤ length (buffered b) → new.gone ≡ false

@@ -13,9 +13,8 @@ use Rattle.page_buffer.specs.Shown.{kept_data, present_data}
 use Rattle.transactions.specs.Handing.{HandsOut}
 use Rattle.transactions.specs.Ready.{IsReady}
 use Rattle.bad_blocks.specs.Moving.{Follows}
-use Rattle.bad_blocks.specs.Standing.{Stands, SameData}
-use Rattle.commits.specs.Carrying.{KeepsOrShows}
-use Rattle.pages.specs.Stores.{Carries}
+use Rattle.bad_blocks.specs.Standing.{Stands, SameData, KeepsFree}
+use Rattle.commits.specs.Carrying.{CarriesFree, StaysOrShows}
 
 -- there is room for each key still, also once the changes are settled
 abbrev pub StaysReady : Index → Index → Type 0
@@ -40,9 +39,10 @@ pub record Keeps (spare : ℕ) (old new : Device) (t t' : Table) (x x' : Index) 
   pub kept_count : kept_count t' ≡ kept_count t
   pub index : MovesKept x x'
   pub same_data : old.honest ≡ true → SameData (kept_pages x) old.flash new.flash
+  pub free : KeepsFree spare old new x x'
 
 -- What stands once the buffered pages count: what is present is what is kept, and of an honest device each key has the
--- data that was present.
+-- data that was present, and its device blocks enough that hold none of it.
 pub record Commits (spare : ℕ) (old new : Device) (t t' : Table) (x x' : Index) (pages : List FreshPage) : Type 0 where
   pub lasts : Lasts old new
   pub ready : IsReady new t'
@@ -51,7 +51,7 @@ pub record Commits (spare : ℕ) (old new : Device) (t t' : Table) (x x' : Index
   pub presents : (o c : ℕ) → present x' o c ≡ as_kept (kept_pages x' o c)
   pub keys : StaysReady x x'
   pub kept : old.honest ≡ true → new.gone ≡ false → (o c : ℕ) → kept_data x' new.flash o c ≡ present_data x pages old.flash o c
-  pub newest : old.honest ≡ true → Carries new.flash (present_data x pages old.flash)
+  pub newest : old.honest ≡ true → CarriesFree new spare (present_data x pages old.flash)
 
 -- Since there was room for the group, before any of its pages counted, the device has counted no failure, or the block that
 -- was open for it is bad: no block is trusted in which a program of the group failed.
@@ -75,4 +75,4 @@ pub record Leaves (spare : ℕ) (old new : Device) (t t' : Table) (x x' : Index)
   pub buffers : Buffers x' pages'
   pub waits : WaitsOrSettles x x' pages pages'
   pub keys : StaysReady x x'
-  pub newest : old.honest ≡ true → KeepsOrShows x pages old.flash new.flash
+  pub newest : old.honest ≡ true → StaysOrShows spare x pages old new

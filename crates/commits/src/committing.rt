@@ -1,11 +1,12 @@
 // The commit.
-ghost use Rattle.std.specs.Prelude.{◌≡◌, ◌≤◌, ◌+◌, ◌*◌, ℕ, [], length, true};
+ghost use Rattle.std.specs.Prelude.{◌≡◌, ◌≤◌, ◌+◌, ◌*◌, ℕ, [], length, true, Some};
 ghost use Rattle.nand_model.specs.Calls.{Lasts};
 ghost use Rattle.block_state.specs.Kept.{bad_count};
 ghost use Rattle.block_state.specs.TableOf.{table};
 ghost use Rattle.chunk_index.specs.declared.form.WrittenGroup.{WrittenGroup};
 ghost use Rattle.chunk_index.specs.Counts.{Recounts};
-ghost use Rattle.chunk_index.specs.Maps.{CountsAgree, Settles, kept_in};
+ghost use Rattle.chunk_index.specs.Maps.{CountsAgree, Settles, kept_in, kept_pages};
+ghost use Rattle.chunk_index.specs.declared.form.KeptPage.{KeptPage};
 ghost use Rattle.page_buffer.specs.BufferOf.{buffered, written};
 ghost use Rattle.page_buffer.specs.Buffering.{Buffers, IsUnbuffered};
 ghost use Rattle.transactions.specs.Handing.{HandsOut};
@@ -78,10 +79,11 @@ pub fn commit<N: Nand>(
     ensures waits { WaitsOrSettles index.old index.new (buffered buffer.old) (buffered buffer.new) }
     ensures sizes { SameSizes buffer.old buffer.new }
     ensures keys { StaysReady index.old index.new }
-    // Wherever it ends, the flash carries what was kept, or all that was present.
-    ensures newest { (N.state device.old).honest ≡ true → CarriesEither index.old (buffered buffer.old) (N.state device.old).flash (N.state device.new).flash }
+    // Wherever it ends, the device carries what was kept, or all that was present, with blocks enough free of it.
+    ensures newest { (N.state device.old).honest ≡ true → CarriesEither spare index.old (buffered buffer.old) (N.state device.old) (N.state device.new) }
     ensures data { (N.state device.old).honest ≡ true → KeepsOrShows index.old (buffered buffer.old) (N.state device.old).flash (N.state device.new).flash }
     ensures no_call { buffered buffer.old ≡ [] → N.state device.new ≡ N.state device.old }
+    ensures no_move { buffered buffer.old ≡ [] → (o c : ℕ) (p : KeptPage) → kept_pages index.new o c ≡ Some p → kept_pages index.old o c ≡ Some p }
     ensures ends { CommitEnds spare (N.state device.old) (N.state device.new) (table blocks.old) (table blocks.new) index.old index.new buffer.old buffer.new result }
 {
     if buffer.pages().is_empty() {

@@ -1,5 +1,7 @@
 pub mod ReadOnly
 pub mod Shown
 pub mod Kept
+pub mod Carried
 pub mod Steps
+pub mod Told
 pub mod Single

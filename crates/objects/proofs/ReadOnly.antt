@@ -36,7 +36,6 @@ use Rattle.page_buffer.specs.declared.buffer.Buffer.{Buffer}
 use Rattle.objects.specs.declared.store.Found.{Found}
 use Rattle.objects.specs.Found.{bytes_or}
 use Rattle.objects.specs.Caching.{Shows}
-use Rattle.pages.specs.Stores.{Carries}
 use Rattle.objects.specs.Reading.{Caches, IsLoadFault, IsFindFault}
 use Rattle.objects.specs.StoreOf.{known, seen, next_numbers}
 
@@ -90,13 +89,14 @@ stands_read spare a b t x reads stands = record {
   newest = λ honest power.
       let before : a.honest ≡ true = sym reads.lasts.honest ∙ honest in
       subst (λ (f : Flash). AreKept f (kept_pages x)) (sym (same_flash a b reads before)) (stands.newest before (had_power a b reads.lasts power));
+  limits = stands.limits;
 }
 
 -- kept pages are still the newest of their keys
-pub carried_read : (a b : Device) (x : Index) → OnlyReads a b → (a.honest ≡ true → Carries a.flash (kept_data x a.flash)) → b.honest ≡ true → Carries b.flash (kept_data x b.flash)
-carried_read a b x reads carried honest =
+pub newest_read : (a b : Device) (x : Index) → OnlyReads a b → (a.honest ≡ true → AreKept a.flash (kept_pages x)) → b.honest ≡ true → AreKept b.flash (kept_pages x)
+newest_read a b x reads kept honest =
     let before : a.honest ≡ true = sym reads.lasts.honest ∙ honest in
-    subst (λ (f : Flash). Carries f (kept_data x f)) (sym (same_flash a b reads before)) (carried before)
+    subst (λ (f : Flash). AreKept f (kept_pages x)) (sym (same_flash a b reads before)) (kept before)
 
 -- and what is cached is still what is present
 pub shown_read : (a b : Device) (x : Index) (pages : List FreshPage) (key : Key) (at : KeptPage) (old new : PageCache) → OnlyReads a b → present x key.object key.chunk ≡ presents.OnFlash at

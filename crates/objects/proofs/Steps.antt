@@ -1,5 +1,5 @@
 -- What a change and a commit leave of a store.
-use Rattle.std.specs.Prelude.{◌≡◌, ◌⊎◌, ◌<◌, ◌≤◌, ◌^◌, ℕ, Bool, true, false, List, [], ◌∷◌, length, Option, Some, None, IsSome, IsTrue, Result, Ok, Err, OnOk, slice_get}
+use Rattle.std.specs.Prelude.{◌≡◌, ◌<◌, ◌≤◌, ◌^◌, ℕ, Bool, true, false, List, [], ◌∷◌, length, Option, Some, None, IsSome, IsTrue, Result, Ok, Err, OnOk, slice_get}
 use Rattle.std.specs.Option.{option_map, option_and_then}
 use Rattle.std.proofs.Common.{refl, sym, ◌∙◌, ap, subst, inl, inr, arith}
 use Rattle.std.proofs.lemmas.Bool.{cases_eq, false≢true}
@@ -18,9 +18,10 @@ use Rattle.chunk_index.specs.Maps.{present, IsPrepared, IsReady, SameKept, SameP
 use Rattle.chunk_index.specs.laws.Maps.{agree_same}
 use Rattle.bad_blocks.specs.Standing.{MayLie, Stands}
 use Rattle.pages.specs.Maps.{PageMap, without_cuts, changed}
-use Rattle.pages.specs.laws.Maps.{page_elsewhere, elsewhere}
+use Rattle.pages.specs.laws.Maps.{page_elsewhere, cut_elsewhere, elsewhere}
 use Rattle.pages.specs.laws.Changes.{cuts_nothing}
 use Rattle.pages.specs.declared.change.Change.{Change}
+use Rattle.pages.specs.declared.change.Cut.{Cut}
 use Rattle.page_buffer.specs.BufferOf.{buffered, most_pages, bytes_of_page}
 use Rattle.page_buffer.specs.declared.buffer.Buffer.{Buffer}
 use Rattle.page_buffer.specs.Shown.{data_at, data_by, kept_data, present_data}
@@ -29,7 +30,6 @@ use Rattle.page_cache.specs.declared.cache.PageCache.{PageCache}
 use Rattle.volume_terms.specs.declared.fault.StoreFault.{StoreFault}
 use Rattle.objects.specs.Caching.{Shows, HasNoMore, LacksCuts, LacksPages, AreIn}
 use Rattle.commits.specs.Carrying.{AreWritable}
-use Rattle.pages.specs.Stores.{Carries}
 use Rattle.objects.specs.Changing.{IsCommitFault, fault_of}
 use Rattle.pages.specs.Changes.{AreOfObjects}
 use Rattle.pages.specs.Stores.{SamePages}
@@ -40,10 +40,7 @@ use Rattle.collector.specs.declared.fault.RoomFault.TheVariants as causes
 use Rattle.objects.specs.StoreOf.{known, kept_map, present_map}
 use Rattle.objects.proofs.ReadOnly.{kept_there}
 
--- maps that have the same pages
-pub carries_same : (f : Flash) (m n : PageMap) → SamePages n m → Carries f m → Carries f n
-carries_same f m n same carries o c xs is = carries o c xs (sym (same o c) ∙ is)
-
+-- maps that have the same pages, where they are known
 pub known_pages : (h : Bool) (m n : PageMap) → (h ≡ true → SamePages n m) → SamePages (known h n) (known h m)
 known_pages true m n same = same refl
 known_pages false m n same = λ o c. refl
@@ -51,15 +48,6 @@ known_pages false m n same = λ o c. refl
 pub known_changed : (h : Bool) (change : Change) (m n : PageMap) → h ≡ true → SamePages n (changed change m) → SamePages (known h n) (changed change (known h m))
 known_changed true change m n is same = same
 known_changed false change m n is same = absurd (false≢true is)
-
--- what is not known is carried
-pub either_known : (h : Bool) (f : Flash) (m n : PageMap) → (h ≡ true → Carries f m ⊎ Carries f n) → Carries f (known h m) ⊎ Carries f (known h n)
-either_known true f m n is = is refl
-either_known false f m n is = inl (λ o c xs some. absurd (let two : None ≡ Some xs = some in cc))
-
-pub carried_known : (h : Bool) (f : Flash) (m : PageMap) → (h ≡ true → Carries f m) → Carries f (known h m)
-carried_known true f m is = is refl
-carried_known false f m is = λ o c xs some. absurd (let two : None ≡ Some xs = some in cc)
 
 -- where no key's kept page changes
 module _ (x y : Index) (same : SameKept x y) where
@@ -76,10 +64,8 @@ module _ (x y : Index) (same : SameKept x y) where
       unkept = stands.tables.unkept;
     };
     newest = λ honest power o c p is. stands.newest honest power o c p (sym (same.kept o c) ∙ is);
+    limits = stands.limits;
   }
-
-  pub carried_kept : (f : Flash) → Carries f (kept_data x f) → Carries f (kept_data y f)
-  carried_kept f = carries_same f (kept_data x f) (kept_data y f) (kept_same f)
 
 -- where no key's present page changes
 pub present_same : (x y : Index) (pages : List FreshPage) (f : Flash) → SamePresent x y → SamePages (present_data y pages f) (present_data x pages f)
@@ -113,19 +99,27 @@ none_zero spare d t x pages f c stands buffers objects = go (present x 0 c) refl
             let zero' : p.key.object ≡ 0 = ap (λ (k : Key). k.object) one in
             absurd (omega (arith, some', zero'))
 
-pub objects_changed : (spare : ℕ) (d : Device) (t : Table) (x y : Index) (old new : List FreshPage) (change : Change) (f : Flash) → Stands spare d t x → Buffers x old → AreOfObjects old → AreOfObjects change.pages.items
-    → Buffers y new → SamePages (present_data y new f) (changed change (present_data x old f)) → AreOfObjects new
-objects_changed spare d t x y old new change f stands before objects writes after is i p there = elim (cases_eq p.key.object 0) [
+-- so no page of the buffer is of it
+objects_from : (y : Index) (new : List FreshPage) (f : Flash) → Buffers y new → ((c : ℕ) → present_data y new f 0 c ≡ None) → AreOfObjects new
+objects_from y new f buffers none i p there = elim (cases_eq p.key.object 0) [
   | inr some ↦ omega (arith, some)
   | inl zero' ↦
-      let m : PageMap = present_data x old f in
-      let here : present_data y new f p.key.object p.key.chunk ≡ Some p.bytes.items = buffered_shown y new f after i p there in
-      let shown : changed change m 0 p.key.chunk ≡ Some p.bytes.items = sym (is 0 p.key.chunk) ∙ ap (λ n. present_data y new f n p.key.chunk) (sym zero') ∙ here in
-      let none : changed change m 0 p.key.chunk ≡ None =
-      page_elsewhere change.pages.items (without_cuts change.cuts.items m) 0 p.key.chunk (λ k of. let some' : 1 ≤ of.page.key.object = writes k of.page of.there in omega (arith, some', of.object))
-      ∙ cuts_nothing change.cuts.items m 0 p.key.chunk (none_zero spare d t x old f p.key.chunk stands before objects) in
-      absurd (let two : None ≡ Some p.bytes.items = sym none ∙ shown in cc)
+      let here : present_data y new f p.key.object p.key.chunk ≡ Some p.bytes.items = buffered_shown y new f buffers i p there in
+      absurd (let two : None ≡ Some p.bytes.items = sym (none p.key.chunk) ∙ ap (λ n. present_data y new f n p.key.chunk) (sym zero') ∙ here in cc)
 ]
+
+pub objects_changed : (spare : ℕ) (d : Device) (t : Table) (x y : Index) (old new : List FreshPage) (change : Change) (f : Flash) → Stands spare d t x → Buffers x old → AreOfObjects old → AreOfObjects change.pages.items
+    → Buffers y new → SamePages (present_data y new f) (changed change (present_data x old f)) → AreOfObjects new
+objects_changed spare d t x y old new change f stands before objects writes after is = objects_from y new f after (λ c.
+    let m : PageMap = present_data x old f in
+    is 0 c
+    ∙ page_elsewhere change.pages.items (without_cuts change.cuts.items m) 0 c (λ k of. let some' : 1 ≤ of.page.key.object = writes k of.page of.there in omega (arith, some', of.object))
+    ∙ cuts_nothing change.cuts.items m 0 c (none_zero spare d t x old f c stands before objects))
+
+pub objects_cut : (spare : ℕ) (d : Device) (t : Table) (x y : Index) (old new : List FreshPage) (cuts : List Cut) (f : Flash) → Stands spare d t x → Buffers x old → AreOfObjects old
+    → Buffers y new → SamePages (present_data y new f) (without_cuts cuts (present_data x old f)) → AreOfObjects new
+objects_cut spare d t x y old new cuts f stands before objects after is =
+    objects_from y new f after (λ c. is 0 c ∙ cuts_nothing cuts (present_data x old f) 0 c (none_zero spare d t x old f c stands before objects))
 
 -- what the cache has left is present after a change
 pub shown_changed : (change : Change) (m : PageMap) (a b c : PageCache) → Shows a m → HasNoMore a b → HasNoMore b c → LacksCuts change.cuts.items b → LacksPages change.pages.items c → Shows c (changed change m)
@@ -134,6 +128,15 @@ shown_changed change m a b c shows first then cuts pages o k xs is =
     (λ i of. absurd (let two : None ≡ Some xs = sym (pages o k i of) ∙ is in cc))
     (λ i cut. absurd (let two : None ≡ Some xs = sym (cuts o k i cut) ∙ then o k xs is in cc))
     ∙ shows o k xs (first o k xs (then o k xs is))
+
+-- and after a cut
+pub shown_cut : (cuts : List Cut) (m : PageMap) (a b : PageCache) → Shows a m → HasNoMore a b → LacksCuts cuts b → Shows b (without_cuts cuts m)
+shown_cut cuts m a b shows fewer lacks' o k xs is =
+    cut_elsewhere cuts m o k (λ i cut. absurd (let two : None ≡ Some xs = sym (lacks' o k i cut) ∙ is in cc)) ∙ shows o k xs (fewer o k xs is)
+
+pub known_cut : (h : Bool) (cuts : List Cut) (m n : PageMap) → h ≡ true → SamePages n (without_cuts cuts m) → SamePages (known h n) (without_cuts cuts (known h m))
+known_cut true cuts m n is same = same
+known_cut false cuts m n is same = absurd (false≢true is)
 
 -- an empty buffer has room for as many pages as it holds
 few_new : (x : Index) (pages : List FreshPage) → new_keys x pages ≤ length pages
@@ -172,12 +175,6 @@ present_map_same d e x y b b' is same buffers =
     subst (λ (k : Device). SamePages (present_map k y b') (present_map d x b)) (sym is)
     (subst (λ (k : Buffer). SamePages (present_map d y k) (present_map d x b)) (sym buffers)
     (known_pages d.honest (present_data x (buffered b) d.flash) (present_data y (buffered b) d.flash) (λ _. present_same x y (buffered b) d.flash same)))
-
-pub either_same : (f : Flash) (m n m' n' : PageMap) → SamePages m' m → SamePages n' n → Carries f m ⊎ Carries f n → Carries f m' ⊎ Carries f n'
-either_same f m n m' n' first then is = elim is [
-  | inl kept ↦ inl (carries_same f m m' first kept)
-  | inr present' ↦ inr (carries_same f n n' then present')
-]
 
 -- each fault of a commit has its cause
 pub commit_fails : (spare count : ℕ) (d : Device) (t u : Table) (broken : Bool) (fault : RoomFault) → WhyNoRoom count spare d t u fault → IsCommitFault spare count d t u broken (fault_of fault)

@@ -1,5 +1,5 @@
 -- What changes and commits of a store leave.
-use Rattle.std.specs.Prelude.{◌≡◌, ◌⊎◌, ◌≤◌, ℕ, Bool, true, false}
+use Rattle.std.specs.Prelude.{◌≡◌, ◌⊎◌, ℕ, Bool, true, false}
 use Rattle.nand_model.specs.Calls.{Device}
 use Rattle.collector.specs.Making.{LeavesRoom}
 use Rattle.collector.specs.declared.fault.RoomFault.{RoomFault}

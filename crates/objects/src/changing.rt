@@ -5,21 +5,19 @@ ghost use Rattle.block_state.specs.TableOf.{table};
 ghost use Rattle.chunk_index.specs.Maps.{IsReady as IsReadyKey, SameKept, SamePresent, StaysPrepared};
 ghost use Rattle.transactions.specs.Handing.{HandsOut};
 ghost use Rattle.bad_blocks.specs.Moving.{MarksFailures};
-ghost use Rattle.pages.specs.Changes.{AreApart, AreSized};
+ghost use Rattle.pages.specs.Changes.{AreApart, AreSized, AreOfObjects};
 ghost use Rattle.pages.specs.Maps.{changed};
 ghost use Rattle.page_buffer.specs.BufferOf.{buffered, most_pages, bytes_of_page};
 ghost use Rattle.page_buffer.specs.Buffering.{ArePrepared, AreReady, with_new};
 ghost use Rattle.page_cache.specs.Changes.{KeepsSizes};
 ghost use Rattle.volume_terms.specs.declared.fault.StoreFault.TheVariants as faults;
 ghost use Rattle.objects.specs.Caching.{HasNoMore, LacksCuts, LacksPages};
-ghost use Rattle.pages.specs.Stores.{Carries};
+ghost use Rattle.pages.specs.Stores.{SamePages, IsCarried};
 ghost use Rattle.objects.specs.Changing.{IsCommitFault, IsChangeFault};
-ghost use Rattle.pages.specs.Changes.{AreOfObjects};
-ghost use Rattle.pages.specs.Stores.{SamePages};
 
 use crate::caching::{drop_cuts, drop_pages, make_places};
 use crate::store::{Found, Store};
-use chunk_index::Index;
+use chunk_index::{Index, the_counts_are_of_the_keys};
 use flash_tree::FreshPage;
 use nand_model::Nand;
 use page_buffer::prepare;
@@ -37,7 +35,7 @@ impl<N: Nand> Store<N> {
     ///
     /// After another fault nothing is known of the pages of the store any more. The device has those that were kept, or those
     /// that were present.
-    pub fn apply(&mut self, change: Change) -> Result<(), StoreFault>
+    pub fn change(&mut self, change: Change) -> Result<(), StoreFault>
         requires apart { AreApart change.pages.items }
         requires size { AreSized change.pages.items (N.state self.old.device).geometry.bytes }
         requires few { length change.pages.items ≤ (N.state self.old.device).geometry.pages / 4 }
@@ -52,9 +50,9 @@ impl<N: Nand> Store<N> {
         // What is kept stays, or the buffer was committed before.
         ensures kept { OnOk result (SamePages (kept_map (N.state self.new.device) self.new.index) (kept_map (N.state self.old.device) self.old.index)
             ⊎ SamePages (kept_map (N.state self.new.device) self.new.index) (present_map (N.state self.old.device) self.old.index self.old.buffer)) }
-        ensures newest { self.old.broken ≡ false
-            → Carries (N.state self.new.device).flash (kept_map (N.state self.old.device) self.old.index)
-            ⊎ Carries (N.state self.new.device).flash (present_map (N.state self.old.device) self.old.index self.old.buffer) }
+        ensures carried { self.old.broken ≡ false → (N.state self.old.device).honest ≡ true
+            → IsCarried (N.state self.new.device) self.old.spare (kept_map (N.state self.old.device) self.old.index)
+            ⊎ IsCarried (N.state self.new.device) self.old.spare (present_map (N.state self.old.device) self.old.index self.old.buffer) }
         ensures refused { IsErrOf result faults.NoMemory → (N.state self.new.device ≡ N.state self.old.device) × (table self.new.blocks ≡ table self.old.blocks)
             × (self.new.broken ≡ self.old.broken)
             × SamePages (kept_map (N.state self.new.device) self.new.index) (kept_map (N.state self.old.device) self.old.index)
@@ -68,6 +66,7 @@ impl<N: Nand> Store<N> {
         if self.broken {
             return Err(StoreFault::Device);
         }
+        the_counts_are_of_the_keys();
         self.prepare(&change.pages)?;
         self.make_room(&change.pages)?;
         self.make(change);
@@ -106,17 +105,19 @@ impl<N: Nand> Store<N> {
             ⊎ SamePages (kept_map (N.state self.new.device) self.new.index) (present_map (N.state self.old.device) self.old.index self.old.buffer)) }
         ensures present { OnOk result (SamePages (present_map (N.state self.new.device) self.new.index self.new.buffer) (present_map (N.state self.old.device) self.old.index self.old.buffer)) }
         ensures room { OnOk result (with_new self.new.index (buffered self.new.buffer) pages.now ≤ most_pages self.new.buffer) }
-        ensures newest { Carries (N.state self.new.device).flash (kept_map (N.state self.old.device) self.old.index)
-            ⊎ Carries (N.state self.new.device).flash (present_map (N.state self.old.device) self.old.index self.old.buffer) }
+        ensures carried { (N.state self.old.device).honest ≡ true
+            → IsCarried (N.state self.new.device) self.old.spare (kept_map (N.state self.old.device) self.old.index)
+            ⊎ IsCarried (N.state self.new.device) self.old.spare (present_map (N.state self.old.device) self.old.index self.old.buffer) }
         ensures enough { with_new self.old.index (buffered self.old.buffer) pages.now ≤ most_pages self.old.buffer
             → (self.new.device ≡ self.old.device) × (self.new.index ≡ self.old.index) }
         ensures stops { OnErr result (self.new.broken ≡ true) }
         ensures fault { IfErr result (IsCommitFault self.old.spare (length (buffered self.old.buffer)) (N.state self.new.device) (table self.old.blocks) (table self.new.blocks) false) }
     {
+        the_counts_are_of_the_keys();
         if self.buffer.has_room(&self.index, pages) {
             return Ok(());
         }
-        self.commit()
+        self.write_out()
     }
 
     /// Makes a change, for which there is room.

@@ -6,12 +6,12 @@ ghost use Rattle.chunk_index.specs.Maps.{IsReady as IsReadyKey};
 ghost use Rattle.transactions.specs.Handing.{HandsOut};
 ghost use Rattle.bad_blocks.specs.Moving.{MarksFailures};
 ghost use Rattle.page_buffer.specs.BufferOf.{buffered};
-ghost use Rattle.pages.specs.Stores.{Carries};
+ghost use Rattle.pages.specs.Stores.{SamePages, IsCarried};
 ghost use Rattle.objects.specs.Changing.{IsCommitFault, fault_of};
-ghost use Rattle.pages.specs.Stores.{SamePages};
 
 use crate::caching::keep_written;
 use crate::store::{Found, Store};
+use chunk_index::the_counts_are_of_the_keys;
 use collector::RoomFault;
 use commits::commit;
 use nand_model::Nand;
@@ -37,7 +37,7 @@ impl<N: Nand> Store<N> {
     ///
     /// After a fault nothing is known of the pages of the store any more. The device has those that were kept, or those that
     /// were present.
-    pub fn commit(&mut self) -> Result<(), StoreFault>
+    pub fn write_out(&mut self) -> Result<(), StoreFault>
         ensures lasts { Lasts (N.state self.old.device) (N.state self.new.device) }
         ensures numbers { HandsOut (N.state self.old.device) (N.state self.new.device) (table self.old.blocks) (table self.new.blocks) }
         ensures marks { MarksFailures 0 0 (N.state self.old.device) (N.state self.new.device) (table self.old.blocks) (table self.new.blocks) }
@@ -47,10 +47,9 @@ impl<N: Nand> Store<N> {
         ensures kept { OnOk result (SamePages (kept_map (N.state self.new.device) self.new.index) (present_map (N.state self.old.device) self.old.index self.old.buffer)) }
         ensures present { OnOk result (SamePages (present_map (N.state self.new.device) self.new.index self.new.buffer) (present_map (N.state self.old.device) self.old.index self.old.buffer)) }
         ensures empty { OnOk result (buffered self.new.buffer ≡ []) }
-        ensures newest { self.old.broken ≡ false
-            → Carries (N.state self.new.device).flash (kept_map (N.state self.old.device) self.old.index)
-            ⊎ Carries (N.state self.new.device).flash (present_map (N.state self.old.device) self.old.index self.old.buffer) }
-        ensures committed { OnOk result (Carries (N.state self.new.device).flash (present_map (N.state self.old.device) self.old.index self.old.buffer)) }
+        ensures carried { self.old.broken ≡ false → (N.state self.old.device).honest ≡ true
+            → IsCarried (N.state self.new.device) self.old.spare (kept_map (N.state self.old.device) self.old.index)
+            ⊎ IsCarried (N.state self.new.device) self.old.spare (present_map (N.state self.old.device) self.old.index self.old.buffer) }
         ensures nothing { buffered self.old.buffer ≡ [] → N.state self.new.device ≡ N.state self.old.device }
         ensures stops { OnErr result (self.new.broken ≡ true) }
         ensures fault { IfErr result (IsCommitFault self.old.spare (length (buffered self.old.buffer)) (N.state self.new.device) (table self.old.blocks) (table self.new.blocks) self.old.broken) }
@@ -58,6 +57,7 @@ impl<N: Nand> Store<N> {
         if self.broken {
             return Err(StoreFault::Device);
         }
+        the_counts_are_of_the_keys();
         self.found = Found::Nowhere;
         match commit(
             &mut self.device,

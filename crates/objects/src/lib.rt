@@ -4,6 +4,8 @@
 mod caching;
 mod changing;
 mod committing;
+mod cutting;
+mod page_store;
 mod reading;
 mod store;
 

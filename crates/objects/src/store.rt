@@ -4,8 +4,8 @@ ghost use Rattle.block_state.specs.Kept.{bad_count};
 ghost use Rattle.block_state.specs.TableOf.{table};
 ghost use Rattle.transactions.specs.Ready.{IsReady};
 ghost use Rattle.bad_blocks.specs.Room.{IsRoomFor};
-ghost use Rattle.bad_blocks.specs.Standing.{Stands, HasFree};
-ghost use Rattle.chunk_index.specs.Maps.{present};
+ghost use Rattle.bad_blocks.specs.Standing.{AreKept, Stands, HasFree};
+ghost use Rattle.chunk_index.specs.Maps.{kept_pages, present};
 ghost use Rattle.chunk_index.specs.declared.form.Present.TheVariants as presents;
 ghost use Rattle.page_buffer.specs.Buffering.{Buffers, IsUnbuffered};
 ghost use Rattle.page_buffer.specs.BufferOf.{buffered, most_pages, bytes_of_page};
@@ -15,9 +15,8 @@ ghost use Rattle.nand_model.specs.Changes.{OnlyReads};
 ghost use Rattle.objects.specs.Found.{IsFound, found_bytes};
 ghost use Rattle.objects.specs.Reading.{IsFindFault};
 ghost use Rattle.objects.specs.Caching.{Shows};
-ghost use Rattle.pages.specs.Stores.{Carries};
 ghost use Rattle.pages.specs.Changes.{AreOfObjects};
-ghost use Rattle.objects.specs.laws.OneProof.{stands_prop, carried_prop};
+ghost use Rattle.objects.specs.laws.OneProof.{stands_prop, newest_kept_prop};
 
 use crate::reading::load_kept;
 use bad_blocks::MoveRoom;
@@ -74,7 +73,7 @@ pub struct Store<N: Nand> {
     ghost few: { broken ≡ false → bad_count (table blocks) ≤ spare },
     ghost free: { broken ≡ false → HasFree (table blocks) spare },
     // Each kept page is the newest of its key, also where the device has gone in a read.
-    ghost carried: { broken ≡ false → (N.state device).honest ≡ true → Carries (N.state device).flash (kept_data index (N.state device).flash) } by { carried_prop broken (N.state device).honest (N.state device).flash (kept_data index (N.state device).flash) },
+    ghost newest: { broken ≡ false → (N.state device).honest ≡ true → AreKept (N.state device).flash (kept_pages index) } by { newest_kept_prop broken (N.state device).honest (N.state device).flash (kept_pages index) },
     ghost shown: { broken ≡ false → (N.state device).honest ≡ true → Shows cache (present_data index (buffered buffer) (N.state device).flash) },
 }
 
@@ -120,7 +119,7 @@ impl<N: Nand> Store<N> {
     ) -> Result<Store<N>, (N, AllocError)>
         requires ready { IsReady (N.state device) (table blocks) }
         requires stands { Stands spare (N.state device) (table blocks) index }
-        requires power { (N.state device).gone ≡ false }
+        requires kept { (N.state device).honest ≡ true → AreKept (N.state device).flash (kept_pages index) }
         requires few { bad_count (table blocks) ≤ spare }
         requires free { HasFree (table blocks) spare }
         requires none { IsUnbuffered index }
@@ -155,13 +154,6 @@ impl<N: Nand> Store<N> {
             }),
             Err(refused) => Err((device, refused)),
         }
-    }
-
-    /// How many pages a change has at most: a quarter of a block's.
-    pub fn most_pages(&self) -> u32
-        ensures { result ≡ (N.state self.now.device).geometry.pages / 4 }
-    {
-        self.buffer.most()
     }
 
     /// The device, as it is.

@@ -12,7 +12,7 @@ use block_state::Blocks;
 use chunk_index::Index;
 use flash_tree::{FreshPage, Key, TagNumbers};
 use nand_model::{Fate, Geometry, MemNand};
-use pages::{Change, Cut, Pages, Presence};
+use pages::{Change, Cut, PageStore, Pages, Presence};
 use std::alloc::{AllocError, Global};
 use std::num::NonZeroUsize;
 use std::process::Abort;

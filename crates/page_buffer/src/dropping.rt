@@ -71,7 +71,7 @@ impl Buffer {
     }
 
     /// Nothing that one of the cuts takes is present any more.
-    pub(crate) fn cut_all(&mut self, index: &mut Index, cuts: &[Cut])
+    pub fn cut_all(&mut self, index: &mut Index, cuts: &[Cut])
         requires buffers { Buffers index.old (buffered self.old) }
         ensures buffers { Buffers index.new (buffered self.new) }
         ensures kept { SameKept index.old index.new }

@@ -1,5 +1,5 @@
 -- What a store needs of a device that was opened.
-use Rattle.std.specs.Prelude.{◌≡◌, ◌<◌, ◌≤◌, ℕ, Some, None}
+use Rattle.std.specs.Prelude.{◌≡◌, ◌<◌, ◌≤◌, ◌^◌, ℕ, Some, None}
 use Rattle.std.proofs.Common.{sym, ◌∙◌, inl, inr, arith}
 use Rattle.std.proofs.lemmas.Bool.{cases_lt}
 use Rattle.nand_model.specs.Calls.{Device}
@@ -15,6 +15,7 @@ pub record IsTested (spare : ℕ) (t : Table) (n : Numbers) : Type 0 where
   pub left : AreLeft n
   pub fits : (b : ℕ) → b < t.geometry.blocks → (t.entry b).kept ≤ t.geometry.pages
   pub free : HasFree t spare
+  pub limits : (t.next_group ≤ 2 ^ 62) × (t.next_seq ≤ 2 ^ 62)
 
 -- a block has no more kept pages than it has pages, also where there is no such block
 fits_all : (t : Table) (x : Index) (d : Device) (n : Numbers) → IsOpened d t x n → ((b : ℕ) → b < t.geometry.blocks → (t.entry b).kept ≤ t.geometry.pages)
@@ -35,4 +36,5 @@ stands_tested spare d t x n opened tested = record {
     unkept = let same = free_where_closed t opened.closed in omega (arith, same, tested.free);
   };
   newest = λ honest power. opened.newest honest;
+  limits = tested.limits;
 }

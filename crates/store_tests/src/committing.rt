@@ -5,6 +5,7 @@ use crate::opening::{Trouble, erased, open_store};
 use crate::plain::{Plain, Step, read_all, take_step};
 use nand_model::MemNand;
 use objects::Store;
+use pages::PageStore;
 use std::alloc::Global;
 use std::process::Abort;
 use std::test::Fail;

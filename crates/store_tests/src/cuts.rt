@@ -6,6 +6,7 @@ use crate::plain::{Plain, Stamps, Step, are_found, read_all, take_step};
 use crate::random::random_step;
 use nand_model::{Fate, MemNand};
 use rand_pcg::Pcg32;
+use pages::PageStore;
 use std::alloc::Global;
 use std::process::Abort;
 use std::test::Fail;

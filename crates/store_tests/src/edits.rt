@@ -1,12 +1,11 @@
 // Changes of a store, put together page by page.
 ghost use Rattle.std.specs.Prelude.{◌≡◌, ◌≤◌, IsTrue, IfOk, length};
-ghost use Rattle.pages.specs.Changes.{AreApart, AreSized};
-ghost use Rattle.pages.specs.Changes.{AreOfObjects};
+ghost use Rattle.pages.specs.Changes.{AreApart, AreSized, AreOfObjects};
 
 use flash_tree::{FreshPage, Key};
 use nand_model::MemNand;
 use objects::Store;
-use pages::{Change, Cut, Pages};
+use pages::{Change, Cut, PageStore, Pages};
 use std::alloc::Global;
 use std::process::Abort;
 use std::test::Fail;
@@ -136,14 +135,14 @@ fn are_of_objects(pages: &[FreshPage]) -> bool
     true
 }
 
-/// Makes a change of at most 8 pages.
+/// Makes a change.
 pub(crate) fn apply(
     rt: &impl Abort,
     store: &mut Store<MemNand>,
     apart: Apart,
 ) -> Result<(), StoreFault> {
     let Apart { change } = apart;
-    assert!(rt; change.pages.len() <= 8);
+    assert!(rt; change.pages.len() <= store.most_pages() as usize);
     assert!(rt; are_sized(&change.pages, store.page_bytes()));
     assert!(rt; are_of_objects(&change.pages));
     store.apply(change)

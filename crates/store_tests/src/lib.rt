@@ -7,6 +7,8 @@ mod committing;
 #[cfg(test)]
 mod cuts;
 #[cfg(test)]
+mod cutting;
+#[cfg(test)]
 mod edits;
 #[cfg(test)]
 mod opening;

@@ -84,6 +84,9 @@ fn may_stand(opened: &Opened, spare: u32) -> bool
     if opened.numbers.group >= LIMIT || opened.numbers.seq >= LIMIT {
         return false;
     }
+    if opened.blocks.next_group() > LIMIT || opened.blocks.next_seq() > LIMIT {
+        return false;
+    }
     if !fit(&opened.blocks) || !has_free(&opened.blocks, spare) {
         return false;
     }
@@ -104,7 +107,7 @@ pub(crate) fn open_store(
     trouble: Trouble,
 ) -> Result<Store<MemNand>, Fail> {
     let opened = open(alloc, &mut nand)?;
-    if nand.gone() || !may_stand(&opened, spare) {
+    if !may_stand(&opened, spare) {
         return Err("a store cannot stand there".into());
     }
     let capacity = NonZeroUsize::new(capacity).ok_or("no cache")?;

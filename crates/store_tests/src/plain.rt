@@ -3,7 +3,7 @@
 use crate::edits::{Apart, Edit, KEYS, apply, key_of, stamp_of};
 use nand_model::MemNand;
 use objects::Store;
-use pages::{Pages, Presence};
+use pages::{Cut, PageStore, Pages, Presence};
 use std::alloc::Global;
 use std::process::Abort;
 use std::test::Fail;
@@ -27,6 +27,7 @@ pub(crate) struct Plain {
 #[derive(Clone, Copy, Debug)]
 pub(crate) enum Step {
     Change(Edit),
+    Cut(Cut),
     Commit,
     Read(usize),
 }
@@ -69,9 +70,9 @@ impl Plain {
     }
 
     /// What a cut takes is absent.
-    fn cut(&mut self, edit: Edit) {
+    pub fn cut(&mut self, cut: Cut) {
         for number in 0..KEYS {
-            if edit.cut.is_some_and(|cut| cut.takes(key_of(number))) {
+            if cut.takes(key_of(number)) {
                 self.present[number] = 0;
                 self.buffered[number] = false;
             }
@@ -93,7 +94,9 @@ impl Plain {
         if self.count_with(edit) > MOST {
             self.commit();
         }
-        self.cut(edit);
+        if let Some(cut) = edit.cut {
+            self.cut(cut);
+        }
         self.put(edit);
     }
 }
@@ -129,6 +132,12 @@ pub(crate) fn take_step(
                 return Ok(Err(fault));
             }
             plain.change(edit);
+        }
+        Step::Cut(cut) => {
+            if let Err(fault) = store.cut(cut) {
+                return Ok(Err(fault));
+            }
+            plain.cut(cut);
         }
         Step::Commit => {
             if let Err(fault) = store.commit() {

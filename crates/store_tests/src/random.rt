@@ -8,11 +8,13 @@ use rand_core::utils::NextWord;
 use rand_pcg::Pcg32;
 use std::test::Fail;
 
-/// One cut in eight, of an object from a chunk on.
-fn random_cut(random: &mut Pcg32) -> Option<Cut> {
+/// A cut of an object from a chunk on.
+fn random_cut(random: &mut Pcg32) -> Cut {
     let word = random.next_word();
-    let (object, from) = (1 + u64::from(word / 8 % 4), u64::from(word / 32 % 12));
-    (word % 8 == 0).then_some(Cut { object, from })
+    Cut {
+        object: 1 + u64::from(word / 8 % 4),
+        from: u64::from(word / 32 % 12),
+    }
 }
 
 /// A step, whose pages have stamps from this one on.
@@ -20,12 +22,13 @@ pub(crate) fn random_step(random: &mut Pcg32, stamp: u32) -> Step {
     let number = random.next_word() as usize % KEYS;
     match random.next_word() % 16 {
         0..8 => Step::Change(Edit {
-            cut: random_cut(random),
+            cut: (random.next_word() % 8 == 0).then_some(random_cut(random)),
             first: number,
             count: random.next_word() as usize % 5,
             stamp,
         }),
         8 => Step::Commit,
+        9 => Step::Cut(random_cut(random)),
         _ => Step::Read(number),
     }
 }

@@ -4,6 +4,7 @@ use crate::edits::{Edit, KEYS};
 use crate::opening::{Trouble, erased, open_store};
 use crate::plain::{Plain, Step, read, take_step};
 use nand_model::MemNand;
+use pages::PageStore;
 use std::alloc::Global;
 use std::process::Abort;
 use std::test::Fail;

@@ -3,7 +3,7 @@
 use crate::edits::{Apart, Edit, KEYS, apply};
 use crate::opening::{Trouble, erased, open_store, scanned};
 use crate::plain::{Plain, Step, are_found, read_all, take_step};
-use pages::Cut;
+use pages::{Cut, PageStore};
 use std::test::Fail;
 use volume_terms::StoreFault;
 

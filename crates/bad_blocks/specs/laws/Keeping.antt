@@ -1,5 +1,5 @@
 -- What holds of steps that leave the index.
-use Rattle.std.proofs.Common.{◌≡◌, ◌≤◌, ℕ, zero, suc, ◌+◌, Bool, true, false, cond, Option, Some, None, Result, Ok, Err, refl, sym, ap, subst, ◌∙◌, arith, inl, inr}
+use Rattle.std.proofs.Common.{◌≡◌, ◌<◌, ◌≤◌, ◌^◌, ℕ, zero, suc, ◌+◌, Bool, true, false, cond, Option, Some, None, Result, Ok, Err, refl, sym, ap, subst, ◌∙◌, arith, inl, inr}
 use Rattle.std.proofs.lemmas.Bool.{cases_Bool, cases_eq}
 use Rattle.nand_model.specs.Calls.{Device, Lasts}
 use Rattle.nand_model.specs.declared.geometry.Geometry.{Geometry}
@@ -20,6 +20,7 @@ use Rattle.transactions.specs.declared.group.GroupFault.{GroupFault}
 use Rattle.transactions.specs.declared.group.GroupFault.TheVariants as groups
 use Rattle.bad_blocks.specs.Copying.{KeepsCounts}
 use Rattle.bad_blocks.specs.Passing.{Passes}
+use Rattle.bad_blocks.specs.Standing.{IsWithinLimits}
 
 -- ---- tables
 
@@ -66,6 +67,28 @@ same_ends count t u (Err groups.Failed) is = same_closed t u is
 same_ends count t u (Err groups.Lost) is = same_closed t u is
 same_ends count t u (Err groups.Gone) is = same_closed t u is
 
+-- ---- numbers
+
+-- a group's number is used
+limits_used : (t u : Table) → u.next_group ≤ t.next_group + 1 → u.next_seq ≡ t.next_seq → t.next_group < 2 ^ 62 → IsWithinLimits t → IsWithinLimits u
+limits_used t u group seq less (groups, seqs) = (omega (arith, group, less), omega (arith, seq, seqs))
+
+limits_closed : (t u : Table) → u ≡ closed t → t.next_group < 2 ^ 62 → IsWithinLimits t → IsWithinLimits u
+limits_closed t u is less =
+    let group : u.next_group ≡ t.next_group + 1 = ap (λ (x : Table). x.next_group) is in
+    limits_used t u (omega (arith, group)) (ap (λ (x : Table). x.next_seq) is) less
+
+-- however the writing of a group ends, no number of 2^62 is handed out
+pub limits_ends : (count : ℕ) (t u : Table) (result : Result Placed GroupFault) → TableEnds count t u result → t.next_group < 2 ^ 62 → IsWithinLimits t → IsWithinLimits u
+limits_ends count t u (Ok placed) ends less limits = go placed.suspect ends limits where
+  go : (suspect : Bool) → OkTable suspect count t u → IsWithinLimits t → IsWithinLimits u
+  go true is = limits_closed t u is less
+  go false takes = let group = takes.next_number in limits_used t u (omega (arith, group)) takes.next_seq less
+limits_ends count t u (Err groups.NoRoom) is less limits = subst IsWithinLimits (sym is) limits
+limits_ends count t u (Err groups.Failed) is less limits = limits_closed t u is less limits
+limits_ends count t u (Err groups.Lost) is less limits = limits_closed t u is less limits
+limits_ends count t u (Err groups.Gone) is less limits = limits_closed t u is less limits
+
 -- ---- steps
 
 -- as many have a property where each keeps it
@@ -85,8 +108,8 @@ counts_more f g (suc n) each =
 pub bad_rises : (t u : Table) → u.geometry ≡ t.geometry → ((b : ℕ) → (t.entry b).bad ≡ true → (u.entry b).bad ≡ true) → bad_count t ≤ bad_count u
 bad_rises t u geometry marks = subst (λ (g : Geometry). bad_count t ≤ how_many (is_bad u) g.blocks) (sym geometry) (counts_more (is_bad t) (is_bad u) t.geometry.blocks marks)
 
-pub keeps_passes : (old new : Device) (t u v : Table) → SameCounts t u → Lasts old new → IsReady new v → HandsOut old new t v → Passes old new u v → KeepsCounts old new t v
-keeps_passes old new t u v same lasts ready numbers passes =
+pub keeps_passes : (old new : Device) (t u v : Table) → SameCounts t u → Lasts old new → IsReady new v → HandsOut old new t v → (IsWithinLimits t → IsWithinLimits u) → Passes old new u v → KeepsCounts old new t v
+keeps_passes old new t u v same lasts ready numbers limits passes =
     let bad : bad_count u ≡ bad_count t = same_bad_count t u same in
     let unkept : unkept_count u ≡ unkept_count t = same_unkept_count t u same in
     record {
@@ -99,10 +122,11 @@ keeps_passes old new t u v same lasts ready numbers passes =
       marked = λ b is. elim (passes.marked b is) [ inl was ↦ inl (sym (same.bad b) ∙ was) | inr none ↦ inr (sym (same.kept b) ∙ none) ];
       unkept = omega (arith, passes.unkept, bad, unkept);
       rises = bad_rises t v (passes.geometry ∙ same.geometry) (λ b is. passes.marks_stay b (same.bad b ∙ is));
+      limits = λ is. let now = limits is in let group = passes.next_group in (omega (arith, group, now.0), passes.limit now.1);
     }
 
-pub keeps_same : (old new : Device) (t u : Table) → SameCounts t u → Lasts old new → IsReady new u → HandsOut old new t u → KeepsCounts old new t u
-keeps_same old new t u same lasts ready numbers =
+pub keeps_same : (old new : Device) (t u : Table) → SameCounts t u → Lasts old new → IsReady new u → HandsOut old new t u → (IsWithinLimits t → IsWithinLimits u) → KeepsCounts old new t u
+keeps_same old new t u same lasts ready numbers limits =
     let bad : bad_count u ≡ bad_count t = same_bad_count t u same in
     let unkept : unkept_count u ≡ unkept_count t = same_unkept_count t u same in
     record {
@@ -115,6 +139,7 @@ keeps_same old new t u same lasts ready numbers =
       marked = λ b is. inl (sym (same.bad b) ∙ is);
       unkept = omega (arith, bad, unkept);
       rises = omega (arith, bad);
+      limits = limits;
     }
 
 pub keeps_on : (a b c : Device) (t u v : Table) → KeepsCounts a b t u → KeepsCounts b c u v → KeepsCounts a c t v
@@ -128,6 +153,7 @@ keeps_on a b c t u v first then = record {
   marked = λ k is. elim (then.marked k is) [ inl was ↦ first.marked k was | inr none ↦ inr (sym (first.kept k) ∙ none) ];
   unkept = then.unkept ∙ first.unkept;
   rises = omega (arith, first.rises, then.rises);
+  limits = λ is. then.limits (first.limits is);
 }
 
 -- no block is open any longer
@@ -137,6 +163,10 @@ keeps_closed d t u is ready = keeps_same d d t u
     (lasts_here d)
     (subst (IsReady d) (sym is) (ready_closed d t ready))
     (subst (HandsOut d d t) (sym is) (record { groups_rise = omega arith; seqs_rise = omega arith; seqs = omega arith; groups = λ _ _. omega arith }))
+    (λ (groups, seqs). (
+      let same = ap (λ (x : Table). x.next_group) is in omega (arith, same, groups),
+      let same = ap (λ (x : Table). x.next_seq) is in omega (arith, same, seqs),
+    ))
 
 -- a device that has power had it before
 pub had_power : (a b : Device) → Lasts a b → b.gone ≡ false → a.gone ≡ false

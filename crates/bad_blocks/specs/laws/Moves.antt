@@ -90,6 +90,7 @@ module _ (spare : ℕ) (d0 d1 : Device) (t0 t1 : Table) (x : Index) (held : AreH
     newest = λ honest power o c p is.
         let was : d0.honest ≡ true = sym keeps.lasts.honest ∙ honest in
         stays was power o c p (held o c p is) (stands.newest was (had_power d0 d1 keeps.lasts power) o c p is);
+    limits = keeps.limits stands.limits;
   }
 
   -- and no block is open

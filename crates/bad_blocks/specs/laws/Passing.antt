@@ -1,5 +1,5 @@
 -- What holds of blocks that are passed over.
-use Rattle.std.specs.Prelude.{◌≡◌, ◌≢◌, ◌⊎◌, ◌<◌, ◌≤◌, ℕ, ◌+◌, true, false, None, Result}
+use Rattle.std.specs.Prelude.{◌≡◌, ◌≢◌, ◌⊎◌, ◌<◌, ◌≤◌, ◌^◌, ℕ, ◌+◌, true, false, None, Result}
 use Rattle.std.proofs.Common.{refl, sym, ◌∙◌, ap, subst, inl, inr, arith}
 use Rattle.std.proofs.lemmas.Bool.{cases_Bool, cases_eq}
 use Rattle.nand_model.specs.Flash.{Flash}
@@ -28,6 +28,7 @@ pub passes_on : (a b c : Device) (t u v : Table) → Lasts a b → Passes a b t 
 passes_on a b c t u v lasts first then = record {
   geometry = then.geometry ∙ first.geometry;
   next_group = then.next_group ∙ first.next_group;
+  limit = λ le. then.limit (first.limit le);
   kept = λ k. then.kept k ∙ first.kept k;
   marks_stay = λ k is. then.marks_stay k (first.marks_stay k is);
   marked = λ k is. elim (then.marked k is) [ inl was ↦ first.marked k was | inr none ↦ inr (sym (first.kept k) ∙ none) ];
@@ -40,14 +41,15 @@ passes_on a b c t u v lasts first then = record {
 }
 
 -- where marks and counts are the same
-pub passes_same : (old new : Device) (t t' : Table) → SameCounts t t' → t'.next_group ≡ t.next_group → old.failures ≤ new.failures
-    → (old.honest ≡ true → KeepsKept t old.flash new.flash) → Passes old new t t'
-passes_same old new t t' same group failures newest =
+pub passes_same : (old new : Device) (t t' : Table) → SameCounts t t' → t'.next_group ≡ t.next_group → (t.next_seq ≤ 2 ^ 62 → t'.next_seq ≤ 2 ^ 62)
+    → old.failures ≤ new.failures → (old.honest ≡ true → KeepsKept t old.flash new.flash) → Passes old new t t'
+passes_same old new t t' same group limit failures newest =
     let bad : bad_count t' ≡ bad_count t = same_bad_count t t' same in
     let unkept : unkept_count t' ≡ unkept_count t = same_unkept_count t t' same in
     record {
       geometry = same.geometry;
       next_group = group;
+      limit = limit;
       kept = same.kept;
       marks_stay = λ b is. same.bad b ∙ is;
       marked = λ b is. inl (sym (same.bad b) ∙ is);
@@ -62,6 +64,7 @@ passes_closed d t t' is =
     passes_same d d t t'
     (record { bad = λ b. ap (λ (x : Table). (x.entry b).bad) is; kept = λ b. ap (λ (x : Table). (x.entry b).kept) is; geometry = ap (λ (x : Table). x.geometry) is })
     (ap (λ (x : Table). x.next_group) is)
+    (λ le. let seq = ap (λ (x : Table). x.next_seq) is in omega (arith, seq, le))
     (omega arith)
     (λ _ o c s newest some. record { newest = newest; page = refl })
 
@@ -71,6 +74,7 @@ passes_erased b old new t t' is none lasts keeps =
     passes_same old new t t'
     (record { bad = λ k. ap (λ (x : Table). (x.entry k).bad) is; kept = λ k. ap (λ (x : Table). (x.entry k).kept) is; geometry = ap (λ (x : Table). x.geometry) is })
     (ap (λ (x : Table). x.next_group) is)
+    (λ le. let seq = ap (λ (x : Table). x.next_seq) is in omega (arith, seq, le))
     lasts.failures
     (λ honest. keeps_kept b t old.flash new.flash none (keeps honest))
 
@@ -89,11 +93,12 @@ same_opened b t t' opens = record {
 }
 
 -- and nothing that is kept
-pub passes_opened : (b : ℕ) (d : Device) (t t' : Table) → Opens b t t' → Passes d d t t'
-passes_opened b d t t' opens =
+pub passes_opened : (b : ℕ) (d : Device) (t t' : Table) → t.next_seq < 2 ^ 62 → Opens b t t' → Passes d d t t'
+passes_opened b d t t' less opens =
     passes_same d d t t'
     (same_opened b t t' opens)
     opens.sets.next_group
+    (λ _. let seq = opens.next_seq in omega (arith, seq, less))
     (omega arith)
     (λ _ o c s newest some. record { newest = newest; page = refl })
 
@@ -133,6 +138,7 @@ passes_marked b old mid new t t' result within good none lasts failed erased mar
       record {
         geometry = notes.sets.geometry;
         next_group = notes.sets.next_group;
+        limit = λ le. let seq = notes.next_seq in omega (arith, seq, le);
         kept = kept;
         marks_stay = λ k was. elim (cases_eq k b) [
           | inl e ↦ ap (λ n. (t'.entry n).bad) e ∙ here ∙ is
@@ -160,6 +166,7 @@ passes_marked b old mid new t t' result within good none lasts failed erased mar
         geometry = notes.sets.geometry;
       })
       notes.sets.next_group
+      (λ le. let seq = notes.next_seq in omega (arith, seq, le))
       (omega (arith, failed, marks.lasts.failures))
       newest
 

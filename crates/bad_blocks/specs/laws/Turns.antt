@@ -110,4 +110,5 @@ stands_closed spare d t u x is stands = subst (λ (s : Table). Stands spare d s 
     unkept = stands.tables.unkept;
   };
   newest = stands.newest;
+  limits = stands.limits;
 })

@@ -12,7 +12,7 @@ use Rattle.flash_tree.specs.laws.Newest.{one_tag, one_spot}
 use Rattle.chunk_index.specs.declared.form.KeptPage.{KeptPage}
 use Rattle.chunk_index.specs.declared.index.Index.{Index}
 use Rattle.chunk_index.specs.Maps.{KeptMap, kept_pages}
-use Rattle.bad_blocks.specs.Standing.{IsKeptAt, AreKept, TablesAgree, Stands}
+use Rattle.bad_blocks.specs.Standing.{IsKeptAt, AreKept, IsWithinLimits, TablesAgree, Stands}
 use Rattle.nand_model.specs.Calls.{Device}
 use Rattle.block_state.specs.Table.{Table}
 use Rattle.pages.specs.Maps.{PageMap}
@@ -111,6 +111,7 @@ pub stands_prop : (spare : ℕ) (d : Device) (t : Table) (x : Index) → IsProp 
 stands_prop spare d t x a b = λ k. record {
   tables = let p : IsProp (TablesAgree spare t x) = Prim.hlevel props in p a.tables b.tables k;
   newest = λ honest power. are_kept_prop d.flash (kept_pages x) (a.newest honest power) (b.newest honest power) k;
+  limits = let p : IsProp (IsWithinLimits t) = Prim.hlevel props in p a.limits b.limits k;
 }
 
 abbrev with_from : (f : Flash) (o c : ℕ) (xs : List ℕ) → (s : Spot) × (IsNewest f o c s × (f.page s.block s.page ≡ Written xs (tag_bytes s.tag))) → HasNewest f o c xs
@@ -121,6 +122,9 @@ with_prop f o c xs x y =
     ap (with_from f o c xs) (Σ_prop_path (λ (s : Spot). Prim.hlevel (props, newest_prop f o c s))
     {u = (x.spot, (x.newest, x.stored))} {v = (y.spot, (y.newest, y.stored))} (one_spot f o c x.spot y.spot x.newest y.newest))
 
+pub carries_prop : (f : Flash) (m : PageMap) → IsProp (Carries f m)
+carries_prop f m x y = λ k o c xs is. with_prop f o c xs (x o c xs is) (y o c xs is) k
+
 -- where no commit failed, and of an honest device
-pub carried_prop : (broken honest : Bool) (f : Flash) (m : PageMap) → IsProp (broken ≡ false → honest ≡ true → Carries f m)
-carried_prop broken honest f m x y = λ k whole told o c xs is. with_prop f o c xs (x whole told o c xs is) (y whole told o c xs is) k
+pub newest_kept_prop : (broken honest : Bool) (f : Flash) (m : KeptMap) → IsProp (broken ≡ false → honest ≡ true → AreKept f m)
+newest_kept_prop broken honest f m x y = λ k whole told. are_kept_prop f m (x whole told) (y whole told) k

@@ -1,4 +1,4 @@
-use Rattle.std.proofs.Common.{◌≡◌, ◌≤◌, ◌+◌, ◌-◌, true, false, None, length}
+use Rattle.std.proofs.Common.{◌≡◌, ◌≤◌, ◌+◌, ◌-◌, true, None, length}
 use Rattle.block_state.specs.Kept.{bad_count}
 use Rattle.block_state.specs.TableOf.{table}
 use Rattle.bad_blocks.specs.Copying.{MayBeCopied, KeepsCounts, KeepsDataAt, KeepsKeptAt}
@@ -11,7 +11,7 @@ invariant-loop-target g l = record {
   marks : MarksFailures 0 0 (g.N.Nand.state l.fn.device) (g.N.Nand.state l.device) (table l.fn.blocks) (table l.blocks);
   costs : Costs 0 ((g.N.Nand.state l.fn.device).geometry.pages + 2) 0 (g.N.Nand.state l.fn.device) (g.N.Nand.state l.device);
   stored : (g.N.Nand.state l.fn.device).honest ≡ true → KeepsDataAt (table l.fn.blocks) (g.N.Nand.state l.fn.device).flash (g.N.Nand.state l.device).flash;
-  newest : (g.N.Nand.state l.fn.device).honest ≡ true → (g.N.Nand.state l.device).gone ≡ false → KeepsKeptAt (table l.fn.blocks) (g.N.Nand.state l.fn.device).flash (g.N.Nand.state l.device).flash;
+  newest : (g.N.Nand.state l.fn.device).honest ≡ true → KeepsKeptAt (table l.fn.blocks) (g.N.Nand.state l.fn.device).flash (g.N.Nand.state l.device).flash;
   closed : (table l.blocks).open_block ≡ None;
   few : bad_count (table l.blocks) ≤ l.spare;
   size : length l.scratch ≡ (g.N.Nand.state l.device).geometry.bytes;

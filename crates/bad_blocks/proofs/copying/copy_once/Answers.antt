@@ -1,8 +1,8 @@
-use Rattle.std.proofs.Common.{◌∙◌, length, arith}
+use Rattle.std.proofs.Common.{◌∙◌, length, arith, inl}
 use Rattle.std.proofs.lemmas.Result.{err_from_is_err_and}
 use Rattle.block_state.specs.TableOf.{table}
 use Rattle.bad_blocks.specs.laws.Keeping.{same_here, keeps_passes, keeps_on}
-use Rattle.bad_blocks.proofs.Keeping.{may_later, data_on, newest_on}
+use Rattle.bad_blocks.proofs.Keeping.{may_later, data_on, newest_on, apart_on}
 use Rattle.bad_blocks.specs.laws.KeptPages.{kept_where, data_where}
 use Rattle.bad_blocks.proofs.Writing.{fresh_taken, costs_once, ends_on}
 use Rattle.bad_blocks.proofs.copying.copy_once.Goals as goal
@@ -49,18 +49,28 @@ returns-clause-newest g c = λ honest power.
 pub returns-clause-ends : goal.returns-clause-ends
 returns-clause-ends g c =
     let took = c.take_block.ensures in
-    let keeps = keeps_passes _ _ (table c.args.blocks.now) (table c.args.blocks.now) _ (same_here _) took.lasts took.ready took.numbers took.passes in
+    let keeps = keeps_passes _ _ (table c.args.blocks.now) (table c.args.blocks.now) _ (same_here _) took.lasts took.ready took.numbers (λ is. is) took.passes in
     ends_on (length c.args.copies.now) c.args.spare (g.N.Nand.state c.write_copies.new.device) (table c.args.blocks.now) (table c.take_block.new.blocks) (table c.write_copies.new.blocks) c.write_copies.result took.passes.geometry took.passes.kept keeps.rises (c.write_copies.ensures.ends c.args.spare)
 
 pub returns-in_err-block-clause-keeps : goal.returns-in_err-block-clause-keeps
 returns-in_err-block-clause-keeps g c =
     let took = c.take_block.ensures in
-    keeps_passes _ _ (table c.args.blocks.now) (table c.args.blocks.now) _ (same_here _) took.lasts took.ready took.numbers took.passes
+    keeps_passes _ _ (table c.args.blocks.now) (table c.args.blocks.now) _ (same_here _) took.lasts took.ready took.numbers (λ is. is) took.passes
 
 pub returns-clause-keeps : goal.returns-clause-keeps
 returns-clause-keeps g c =
     let took = c.take_block.ensures in
-    keeps_on _ _ _ (table c.args.blocks.now) _ _ (keeps_passes _ _ (table c.args.blocks.now) (table c.args.blocks.now) _ (same_here _) took.lasts took.ready took.numbers took.passes) c.write_copies.ensures.keeps
+    keeps_on _ _ _ (table c.args.blocks.now) _ _ (keeps_passes _ _ (table c.args.blocks.now) (table c.args.blocks.now) _ (same_here _) took.lasts took.ready took.numbers (λ is. is) took.passes) c.write_copies.ensures.keeps
 
 pub returns-clause-few : goal.returns-clause-few
 returns-clause-few g c = c.write_copies.ensures.few c.args.spare c.in_ok-block.ensures.few
+
+pub returns-in_err-block-clause-apart : goal.returns-in_err-block-clause-apart
+returns-in_err-block-clause-apart g c = λ honest. inl (kept_where _ _ (table c.args.blocks.now) (c.take_block.ensures.passes.newest honest))
+
+pub returns-clause-apart : goal.returns-clause-apart
+returns-clause-apart g c = λ honest.
+    let took = c.take_block.ensures in
+    apart_on (table c.args.blocks.now) (table c.take_block.new.blocks) took.passes.kept took.passes.geometry c.args.copies.now (g.N.Nand.state c.args.device.now).flash (g.N.Nand.state c.take_block.new.device).flash (g.N.Nand.state c.write_copies.new.device)
+    (kept_where _ _ (table c.args.blocks.now) (took.passes.newest honest))
+    (c.write_copies.ensures.apart (took.lasts.honest ∙ honest))

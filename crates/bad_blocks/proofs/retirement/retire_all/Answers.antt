@@ -5,6 +5,7 @@ use Rattle.block_state.specs.TableOf.{table}
 use Rattle.chunk_index.specs.Kept.{HoldsNone}
 use Rattle.chunk_index.specs.Maps.{kept_pages}
 use Rattle.bad_blocks.specs.Moving.{MarksFailures, Costs}
+use Rattle.bad_blocks.specs.laws.FreeBlocks.{free_on}
 use Rattle.bad_blocks.proofs.RetireTurns.{Retiring, open_is, next_unkept, moves_next, marks_next, costs_next, retiring_next, retired_all}
 use Rattle.bad_blocks.proofs.retirement.retire_all.Goals as goal
 
@@ -22,6 +23,7 @@ loop-suspect-init g c =
         out = e.ends.0;
         power = e.ends.1;
       };
+      free = e.free;
       room = e.room;
     }
 
@@ -93,6 +95,7 @@ loop-suspect-preserved g c =
       retiring = retiring_next c.args.spare c.args.block w d0 d t0 t x0 x r d' t' y s none e.moves e.ends.0 e.stands
           (subst (λ n. MarksFailures 1 n d d' t t') (open_is s) e.marks)
           (subst (λ n. Costs (d.geometry.pages + 2) (d.geometry.pages + 2) n d d') (open_is s) e.costs) e.ends.1;
+      free = free_on c.args.spare d0 d d' x0 x y r.moves.lasts.honest c.loop-suspect.invariant.free e.free;
       room = e.room;
     }
 
@@ -106,3 +109,9 @@ returns-clause-ends g c =
     let x = c.loop-suspect.index in
     let r : Retiring c.args.spare c.args.block d0 d t0 t x0 x None = subst (Retiring c.args.spare c.args.block d0 d t0 t x0 x) c.in_default.is c.loop-suspect.invariant.retiring in
     (retired_all c.args.spare c.args.block d0 d t0 t x0 x r, r.power)
+
+pub returns-in_err-suspect-2-clause-free : goal.returns-in_err-suspect-2-clause-free
+returns-in_err-suspect-2-clause-free g c =
+    let so_far = c.loop-suspect.invariant in
+    free_on c.args.spare (g.N.Nand.state c.args.device.now) (g.N.Nand.state c.loop-suspect.device) (g.N.Nand.state c.retire_one-in-Some.new.device)
+    c.args.index.now c.loop-suspect.index c.retire_one-in-Some.new.index so_far.retiring.moves.lasts.honest so_far.free c.in_err-suspect-2.ensures.free

@@ -2,12 +2,14 @@ use Rattle.std.proofs.Common.{◌-◌}
 use Rattle.block_state.specs.Kept.{bad_count}
 use Rattle.block_state.specs.TableOf.{table}
 use Rattle.bad_blocks.specs.Room.{IsRoomFor}
+use Rattle.bad_blocks.specs.Standing.{KeepsFree}
 use Rattle.bad_blocks.proofs.RetireTurns.{Retiring}
 use Rattle.bad_blocks.proofs.retirement.retire_all.Given as goal
 
 abbrev pub invariant-loop-suspect : goal.invariant-loop-suspect
 invariant-loop-suspect g l = record {
   retiring : Retiring l.spare l.block (g.N.Nand.state l.fn.device) (g.N.Nand.state l.device) (table l.fn.blocks) (table l.blocks) l.fn.index l.index l.suspect;
+  free : KeepsFree l.spare (g.N.Nand.state l.fn.device) (g.N.Nand.state l.device) l.fn.index l.index;
   room : IsRoomFor (g.N.Nand.state l.device).geometry l.room;
 }
 

@@ -21,7 +21,7 @@ returns-in-Ok-clause-passes g c =
     let t : Table = table c.args.blocks.now in
     let free = was_unkept t c.in-Some.block c.in-Some.ensures.found.free in
     let does = c.erase_and_open.ensures in
-    passes_on _ _ _ t t _ does.erases.lasts (passes_erased c.in-Some.block _ _ t t refl free.1 does.erases.lasts does.newest) (passes_opened c.in-Some.block _ t _ c.in-Ok.ensures.opens)
+    passes_on _ _ _ t t _ does.erases.lasts (passes_erased c.in-Some.block _ _ t t refl free.1 does.erases.lasts does.newest) (passes_opened c.in-Some.block _ t _ c.requires.seq c.in-Ok.ensures.opens)
 
 pub returns-in-Ok-clause-ends : goal.returns-in-Ok-clause-ends
 returns-in-Ok-clause-ends g c =

@@ -1,4 +1,5 @@
 use Rattle.block_state.specs.TableOf.{table}
+use Rattle.bad_blocks.specs.laws.FreeBlocks.{free_on}
 use Rattle.collector.proofs.Collected.{collected_open, moves_retired}
 use Rattle.collector.proofs.collection.collect.Goals as goal
 
@@ -16,3 +17,9 @@ returns-in-Suspect-clause-moves g c =
     moves_retired c.args.block c.in-Suspect.copies c.args.spare (g.N.Nand.state c.args.device.now) (g.N.Nand.state c.move_kept.new.device) (g.N.Nand.state c.retire.new.device)
     (table c.args.blocks.now) (table c.move_kept.new.blocks) (table c.retire.new.blocks) c.args.index.now c.move_kept.new.index c.retire.new.index (c.the_counts_are_of_the_keys.ensures.none c.args.index.now)
     c.requires.stands moved.ends.1.0 moved.moves c.retire.ensures.moves
+
+pub returns-in-Suspect-clause-free : goal.returns-in-Suspect-clause-free
+returns-in-Suspect-clause-free g c =
+    let moved = rw c.in-Suspect.is at c.in_ok-move_kept.ensures in
+    free_on c.args.spare (g.N.Nand.state c.args.device.now) (g.N.Nand.state c.move_kept.new.device) (g.N.Nand.state c.retire.new.device) c.args.index.now c.move_kept.new.index c.retire.new.index
+    moved.moves.lasts.honest moved.free c.retire.ensures.free

@@ -1,7 +1,7 @@
 use Rattle.std.proofs.Common.{◌≡◌, true, false, refl, ap, sym, ◌∙◌, arith}
 use Rattle.nand_model.specs.declared.geometry.Geometry.{Geometry}
 use Rattle.block_state.specs.TableOf.{table}
-use Rattle.collector.proofs.Taken.{moves_taken, stands_taken, stands_none, free_taken, fits_open, scarce_unless}
+use Rattle.collector.proofs.Taken.{moves_taken, stands_taken, stands_none, free_where_taken, free_where_none, free_taken, fits_open, scarce_unless}
 use Rattle.collector.proofs.room.make_room.Goals as goal
 
 pub returns-in_err-take_block-clause-moves : goal.returns-in_err-take_block-clause-moves
@@ -52,3 +52,17 @@ returns-then-has_unkept-clause-ends g c =
 
 pub returns-in_default-clause-ends : goal.returns-in_default-clause-ends
 returns-in_default-clause-ends g c = c.in_default.ensures.none c.args.spare (scarce_unless c.args.spare (table c.args.blocks.now) (λ more. let two : false ≡ true = c.if-has_unkept.ensures.1 more in cc))
+
+pub returns-in_err-take_block-clause-free : goal.returns-in_err-take_block-clause-free
+returns-in_err-take_block-clause-free g c =
+    let law = c.the_counts_are_of_the_keys.ensures.none c.args.index.now in
+    let took = c.in_err-take_block.ensures in
+    free_where_none c.args.spare (g.N.Nand.state c.args.device.now) (g.N.Nand.state c.take_block.new.device) (table c.args.blocks.now) (table c.take_block.new.blocks) c.args.index.now law
+    took.lasts took.ready took.numbers took.passes c.requires.stands took.ends.0
+
+pub returns-then-has_unkept-clause-free : goal.returns-then-has_unkept-clause-free
+returns-then-has_unkept-clause-free g c =
+    let law = c.the_counts_are_of_the_keys.ensures.none c.args.index.now in
+    let took = c.in_ok-take_block.ensures in
+    free_where_taken c.args.spare (g.N.Nand.state c.args.device.now) (g.N.Nand.state c.take_block.new.device) (table c.args.blocks.now) (table c.take_block.new.blocks) c.args.index.now law
+    took.lasts took.ready took.numbers took.passes c.requires.stands c.in_ok-take_block.field-0 took.ends.0

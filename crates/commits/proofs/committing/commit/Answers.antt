@@ -10,8 +10,8 @@ use Rattle.chunk_index.specs.declared.index.Index.{Index}
 use Rattle.page_buffer.specs.BufferOf.{buffered}
 use Rattle.commits.proofs.Costing.{costs_more, costs_none}
 use Rattle.commits.proofs.Counts.{ListsAreWhole}
-use Rattle.commits.proofs.Settling.{bad_empty, carries_empty, free_empty, kept_empty, ready_counted, stands_empty}
-use Rattle.commits.proofs.Turning.{carries_either, shown_kept, whole_committed}
+use Rattle.commits.proofs.Settling.{bad_empty, carries_empty, free_empty, kept_before, kept_empty, ready_counted, stands_empty}
+use Rattle.commits.proofs.Turning.{carries_either, keeps_or_shows, shown_kept, whole_committed}
 use Rattle.commits.proofs.committing.commit.Goals as goal
 
 pub returns-then-is_empty-clause-ready : goal.returns-then-is_empty-clause-ready
@@ -68,7 +68,7 @@ returns-then-is_empty-clause-ends g c =
 pub returns-clause-newest : goal.returns-clause-newest
 returns-clause-newest g c =
     λ honest. carries_either c.args.spare (g.N.Nand.state c.args.device.now) (g.N.Nand.state c.write_whole.new.device) (table c.args.blocks.now) c.args.index.now (buffered c.args.buffer.now)
-    c.requires.stands c.write_whole.ensures.leaves.lasts honest (c.write_whole.ensures.leaves.newest honest)
+    c.requires.ready c.requires.stands c.write_whole.ensures.leaves.lasts honest (c.write_whole.ensures.leaves.newest honest)
 
 pub returns-clause-ends : goal.returns-clause-ends
 returns-clause-ends g c =
@@ -83,3 +83,12 @@ returns-then-is_empty-clause-costs g c =
     let d : Device = g.N.Nand.state c.args.device.now in
     let count : ℕ = length (buffered c.args.buffer.now) in
     costs_more 0 (count + d.geometry.pages + 1) (3 * d.geometry.pages + 3) d d (omega arith) (costs_none (3 * d.geometry.pages + 3) d)
+
+pub returns-then-is_empty-clause-no_move : goal.returns-then-is_empty-clause-no_move
+returns-then-is_empty-clause-no_move g c = λ none.
+    let settles = c.settle_empty.ensures.settles in
+    kept_before settles.0 c.args.index.now c.settle_empty.new.index (buffered c.args.buffer.now) none c.requires.buffers settles.1
+
+pub returns-clause-data : goal.returns-clause-data
+returns-clause-data g c =
+    λ honest. keeps_or_shows c.args.spare (g.N.Nand.state c.args.device.now) (g.N.Nand.state c.write_whole.new.device) c.args.index.now (buffered c.args.buffer.now) (c.write_whole.ensures.leaves.newest honest)

@@ -46,7 +46,7 @@ returns-then-placed-clause-leaves g c = λ spare stands free.
     let lists : ListsAreWhole = let l = c.the_list_of_a_block_is_whole.ensures in record { kept = l.kept; here = l.here; count = l.count; all = l.all; once = l.once } in
     let ranges : HaveRanges pages = subst HaveRanges c.pages.ensures c.have_ranges.ensures in
     let w = c.in-Ok.ensures in
-    let commits = commits_written spare lists d e t u v x y pages o c.in-Ok.placed c.requires.buffers opened c.requires.ready stands free c.requires.pages ranges c.requires.open_room w.lasts w.ready w.numbers w.grows
+    let commits = commits_written spare lists d e t u v x y pages o c.in-Ok.placed c.requires.buffers opened c.requires.ready stands free c.requires.pages ranges c.requires.open_room c.requires.number w.lasts w.ready w.numbers w.grows
     (subst (λ (xs : List FreshPage). OkTable c.in-Ok.placed.suspect (length xs) t u) same w.table) w.ends.1
     (subst (λ (xs : List FreshPage). TellsGroup (next_group t (length xs) o) c.in-Ok.placed) same (w.placed o opened))
     (subst (λ (xs : List FreshPage). d.honest ≡ true → AddsPages (next_group t (length xs) o) (name_at xs t.next_group) (bytes_at xs) d.flash e.flash) same (λ honest. w.groups honest o opened))
@@ -72,9 +72,9 @@ returns-then-placed-clause-ends g c = λ spare stands free.
     let ok = subst (λ (xs : List FreshPage). OkTable c.in-Ok.placed.suspect (length xs) t u) same w.table in
     let tells = subst (λ (xs : List FreshPage). TellsGroup (next_group t (length xs) o) c.in-Ok.placed) same (w.placed o opened) in
     let adds = subst (λ (xs : List FreshPage). d.honest ≡ true → AddsPages (next_group t (length xs) o) (name_at xs t.next_group) (bytes_at xs) d.flash e.flash) same (λ honest. w.groups honest o opened) in
-    let commits = commits_written spare lists d e t u v x y pages o c.in-Ok.placed c.requires.buffers opened c.requires.ready stands free c.requires.pages ranges c.requires.open_room w.lasts w.ready w.numbers w.grows ok w.ends.1 tells adds
+    let commits = commits_written spare lists d e t u v x y pages o c.in-Ok.placed c.requires.buffers opened c.requires.ready stands free c.requires.pages ranges c.requires.open_room c.requires.number w.lasts w.ready w.numbers w.grows ok w.ends.1 tells adds
     c.settle.ensures.settles c.settle.ensures.agree c.settle.ensures.counts in
-    let frees = free_written spare lists d e t u v x y pages o c.in-Ok.placed c.requires.buffers opened c.requires.ready stands free c.requires.pages ranges c.requires.open_room w.lasts w.ready w.numbers w.grows ok w.ends.1 tells adds
+    let frees = free_written spare lists d e t u v x y pages o c.in-Ok.placed c.requires.buffers opened c.requires.ready stands free c.requires.pages ranges c.requires.open_room c.requires.number w.lasts w.ready w.numbers w.grows ok w.ends.1 tells adds
     c.settle.ensures.settles c.settle.ensures.agree c.settle.ensures.counts in
     (record { commits = commits; out = record { empty = c.settle.ensures.empty; last = c.settle.ensures.written }; free = frees; power = w.ends.1 }, good_block o d e t v c.requires.ready opened w.lasts (c.settle.ensures.counts.bad o ∙ (same_ends (length pages) t u (Ok c.in-Ok.placed) ok).bad o), opened)
 
@@ -100,7 +100,7 @@ returns-else-placed-clause-leaves g c = λ spare stands free.
     let lists : ListsAreWhole = let l = c.the_list_of_a_block_is_whole.ensures in record { kept = l.kept; here = l.here; count = l.count; all = l.all; once = l.once } in
     let ranges : HaveRanges pages = subst HaveRanges c.pages.ensures c.have_ranges.ensures in
     let w = c.in-Ok.ensures in
-    let commits = commits_written spare lists d e t u v x y pages o c.in-Ok.placed c.requires.buffers opened c.requires.ready stands free c.requires.pages ranges c.requires.open_room w.lasts w.ready w.numbers w.grows
+    let commits = commits_written spare lists d e t u v x y pages o c.in-Ok.placed c.requires.buffers opened c.requires.ready stands free c.requires.pages ranges c.requires.open_room c.requires.number w.lasts w.ready w.numbers w.grows
     (subst (λ (xs : List FreshPage). OkTable c.in-Ok.placed.suspect (length xs) t u) same w.table) w.ends.1
     (subst (λ (xs : List FreshPage). TellsGroup (next_group t (length xs) o) c.in-Ok.placed) same (w.placed o opened))
     (subst (λ (xs : List FreshPage). d.honest ≡ true → AddsPages (next_group t (length xs) o) (name_at xs t.next_group) (bytes_at xs) d.flash e.flash) same (λ honest. w.groups honest o opened))
@@ -126,9 +126,9 @@ returns-else-placed-clause-ends g c = λ spare stands free.
     let ok = subst (λ (xs : List FreshPage). OkTable c.in-Ok.placed.suspect (length xs) t u) same w.table in
     let tells = subst (λ (xs : List FreshPage). TellsGroup (next_group t (length xs) o) c.in-Ok.placed) same (w.placed o opened) in
     let adds = subst (λ (xs : List FreshPage). d.honest ≡ true → AddsPages (next_group t (length xs) o) (name_at xs t.next_group) (bytes_at xs) d.flash e.flash) same (λ honest. w.groups honest o opened) in
-    let commits = commits_written spare lists d e t u v x y pages o c.in-Ok.placed c.requires.buffers opened c.requires.ready stands free c.requires.pages ranges c.requires.open_room w.lasts w.ready w.numbers w.grows ok w.ends.1 tells adds
+    let commits = commits_written spare lists d e t u v x y pages o c.in-Ok.placed c.requires.buffers opened c.requires.ready stands free c.requires.pages ranges c.requires.open_room c.requires.number w.lasts w.ready w.numbers w.grows ok w.ends.1 tells adds
     c.settle.ensures.settles c.settle.ensures.agree c.settle.ensures.counts in
-    let frees = free_written spare lists d e t u v x y pages o c.in-Ok.placed c.requires.buffers opened c.requires.ready stands free c.requires.pages ranges c.requires.open_room w.lasts w.ready w.numbers w.grows ok w.ends.1 tells adds
+    let frees = free_written spare lists d e t u v x y pages o c.in-Ok.placed c.requires.buffers opened c.requires.ready stands free c.requires.pages ranges c.requires.open_room c.requires.number w.lasts w.ready w.numbers w.grows ok w.ends.1 tells adds
     c.settle.ensures.settles c.settle.ensures.agree c.settle.ensures.counts in
     let none : e.failures ≡ d.failures + 0 = w.ends.0 ∙ ap (λ s. d.failures + (if s then 1 else 0)) c.if-placed.false in
     (record { commits = commits; out = record { empty = c.settle.ensures.empty; last = c.settle.ensures.written }; free = frees; power = w.ends.1 }, omega (arith, none))
@@ -193,7 +193,8 @@ returns-in-Err-Failed-clause-leaves g c = λ spare stands free.
     let w = rw c.in-Err-Failed.field-0-is at c.in-Err-Failed.ensures in
     let xs : List FreshPage = c.pages-pages.result.now in
     let newest : d.honest ≡ true → KeepsNewest d.flash e.flash = λ honest. newest_written d e t xs o c.requires.ready honest (w.grows honest) (Err groups.Failed) (w.groups honest o opened) in
-    let keeps = keeps_written spare d e t u x xs o stands c.requires.ready w.table w.lasts w.ready w.numbers newest in
+    let lists : ListsAreWhole = let l = c.the_list_of_a_block_is_whole.ensures in record { kept = l.kept; here = l.here; count = l.count; all = l.all; once = l.once } in
+    let keeps = keeps_written spare d e t u x xs o lists stands c.requires.number w.table w.lasts w.ready w.numbers newest in
     leaves_kept spare d e t u x x (buffered c.args.buffer.now) (buffered c.args.buffer.now) keeps refl c.requires.buffers
 
 pub returns-in-Err-Failed-clause-ends : goal.returns-in-Err-Failed-clause-ends
@@ -208,7 +209,8 @@ returns-in-Err-Failed-clause-ends g c = λ spare stands free.
     let w = rw c.in-Err-Failed.field-0-is at c.in-Err-Failed.ensures in
     let xs : List FreshPage = c.pages-pages.result.now in
     let newest : d.honest ≡ true → KeepsNewest d.flash e.flash = λ honest. newest_written d e t xs o c.requires.ready honest (w.grows honest) (Err groups.Failed) (w.groups honest o opened) in
-    let keeps = keeps_written spare d e t u x xs o stands c.requires.ready w.table w.lasts w.ready w.numbers newest in
+    let lists : ListsAreWhole = let l = c.the_list_of_a_block_is_whole.ensures in record { kept = l.kept; here = l.here; count = l.count; all = l.all; once = l.once } in
+    let keeps = keeps_written spare d e t u x xs o lists stands c.requires.number w.table w.lasts w.ready w.numbers newest in
     (record { keeps = keeps; buffered_still = refl; power = w.ends.1 }, good_block o d e t u c.requires.ready opened w.lasts ((same_closed t u w.table).bad o), opened)
 
 pub returns-in-Err-Lost-clause-leaves : goal.returns-in-Err-Lost-clause-leaves
@@ -223,7 +225,8 @@ returns-in-Err-Lost-clause-leaves g c = λ spare stands free.
     let w = rw c.in-Err-Lost.field-0-is at c.in-Err-Lost.ensures in
     let xs : List FreshPage = c.pages-pages.result.now in
     let newest : d.honest ≡ true → KeepsNewest d.flash e.flash = λ honest. newest_written d e t xs o c.requires.ready honest (w.grows honest) (Err groups.Lost) (w.groups honest o opened) in
-    let keeps = keeps_written spare d e t u x xs o stands c.requires.ready w.table w.lasts w.ready w.numbers newest in
+    let lists : ListsAreWhole = let l = c.the_list_of_a_block_is_whole.ensures in record { kept = l.kept; here = l.here; count = l.count; all = l.all; once = l.once } in
+    let keeps = keeps_written spare d e t u x xs o lists stands c.requires.number w.table w.lasts w.ready w.numbers newest in
     leaves_kept spare d e t u x x (buffered c.args.buffer.now) (buffered c.args.buffer.now) keeps refl c.requires.buffers
 
 pub returns-in-Err-Gone-clause-leaves : goal.returns-in-Err-Gone-clause-leaves
@@ -237,7 +240,8 @@ returns-in-Err-Gone-clause-leaves g c = λ spare stands free.
     let opened : t.open_block ≡ Some o = sym c.in-Some.ensures in
     let w = rw c.in-Err-Gone.field-0-is at c.in-Err-Gone.ensures in
     let pages : List FreshPage = buffered c.args.buffer.now in
-    leaves_gone spare d e t u x pages o stands c.requires.buffers c.requires.ready w.table w.lasts w.ready w.numbers w.ends.0 w.grows
+    let lists : ListsAreWhole = let l = c.the_list_of_a_block_is_whole.ensures in record { kept = l.kept; here = l.here; count = l.count; all = l.all; once = l.once } in
+    leaves_gone spare d e t u x pages o lists stands free c.requires.number opened c.requires.buffers c.requires.ready w.table w.lasts w.ready w.numbers w.ends.0 w.grows
     (subst (λ (xs : List FreshPage). d.honest ≡ true → GroupsAfter (next_group t (length xs) o) (name_at xs t.next_group) (bytes_at xs) d.flash e.flash (Err groups.Gone)) c.pages-pages.ensures (λ honest. w.groups honest o opened))
 
 pub returns-then-placed-clause-ready : goal.returns-then-placed-clause-ready

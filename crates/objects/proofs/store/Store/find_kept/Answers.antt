@@ -5,7 +5,7 @@ use Rattle.transactions.specs.laws.Ready.{ready_read}
 use Rattle.bad_blocks.specs.Room.{IsRoomFor}
 use Rattle.page_buffer.specs.BufferOf.{buffered}
 use Rattle.objects.specs.declared.store.Found.TheVariants as places
-use Rattle.objects.proofs.ReadOnly.{lies, stands_read, carried_read, shown_read, load_fails}
+use Rattle.objects.proofs.ReadOnly.{lies, stands_read, newest_read, shown_read, load_fails}
 use Rattle.objects.proofs.store.Store.find_kept.Goals.{then-self, else-self}
 use Rattle.objects.proofs.store.Store.find_kept.Goals as goal
 
@@ -27,7 +27,7 @@ invariant_of-self g c =
       place = λ i is. absurd (let two : places.Cached c.args.key ≡ places.Buffered i = is in cc);
       few = self.few;
       free = self.free;
-      carried = λ whole. carried_read _ _ self.index reads (self.carried whole);
+      newest = λ whole. newest_read _ _ self.index reads (self.newest whole);
       shown = λ whole. shown_read _ _ self.index (buffered self.buffer) c.args.key c.args.at self.cache c.load_kept.new.cache reads c.requires c.load_kept.ensures.caches (self.shown whole);
     }
 
@@ -49,7 +49,7 @@ invariant_of-self-in-Err g c =
       place = self.place;
       few = self.few;
       free = self.free;
-      carried = λ whole. carried_read _ _ self.index reads (self.carried whole);
+      newest = λ whole. newest_read _ _ self.index reads (self.newest whole);
       shown = λ whole. shown_read _ _ self.index (buffered self.buffer) c.args.key c.args.at self.cache c.load_kept.new.cache reads c.requires c.load_kept.ensures.caches (self.shown whole);
     }
 

@@ -6,7 +6,8 @@ use Rattle.flash_tree.specs.declared.place.FreshPage.{FreshPage}
 use Rattle.pages.specs.declared.change.Cut.{Cut}
 use Rattle.objects.specs.Caching.{LacksCuts, LacksPages}
 use Rattle.objects.specs.declared.store.Found.TheVariants as places
-use Rattle.objects.proofs.Steps.{stands_kept, carried_kept, known_changed, objects_changed, shown_changed}
+use Rattle.objects.proofs.Carried.{newest_kept}
+use Rattle.objects.proofs.Steps.{stands_kept, known_changed, objects_changed, shown_changed}
 use Rattle.objects.proofs.store.Store.make.Goals as goal
 
 pub invariant_of-self : goal.invariant_of-self
@@ -28,7 +29,7 @@ invariant_of-self g c =
       place = λ i is. absurd (let two : places.Nowhere ≡ places.Buffered i = is in cc);
       few = self.few;
       free = self.free;
-      carried = λ whole honest. carried_kept self.index y e.kept (g.N.Nand.state self.device).flash (self.carried whole honest);
+      newest = λ whole honest. newest_kept (g.N.Nand.state self.device).flash self.index y e.kept (self.newest whole honest);
       shown = λ whole honest o k xs is. e.changes flash o k
           ∙ shown_changed c.args.change (present_data self.index (buffered self.buffer) flash) self.cache c.drop_cuts.new.cache c.drop_pages.new.cache (self.shown whole honest)
           c.drop_cuts.ensures.fewer c.drop_pages.ensures.fewer (subst (λ (l : List Cut). LacksCuts l c.drop_cuts.new.cache) c.deref.ensures.value c.drop_cuts.ensures.lacks) (subst (λ (l : List FreshPage). LacksPages l c.drop_pages.new.cache) c.deref-2.ensures.value c.drop_pages.ensures.lacks) o k xs is;

@@ -1,12 +1,19 @@
 use Rattle.std.specs.Prelude.{◌≤◌, ◌/◌, length}
-use Rattle.std.proofs.Common.{◌∙◌, sym, ap, subst}
+use Rattle.std.proofs.Common.{◌∙◌, sym, ap, subst, inl}
 use Rattle.nand_model.specs.declared.geometry.Geometry.{Geometry}
 use Rattle.page_buffer.specs.BufferOf.{buffered}
+use Rattle.block_state.specs.TableOf.{table}
+use Rattle.objects.proofs.Carried.{store_carries}
 use Rattle.objects.proofs.Steps.{room_after}
 use Rattle.objects.proofs.store.Store.make_room.Goals as goal
 
 pub returns-clause-room : goal.returns-clause-room
 returns-clause-room g c =
-    let new = c.commit.new.self in
-    let most = new.most ∙ ap (λ (k : Geometry). k.pages / 4) c.commit.ensures.lasts.geometry in
-    room_after c.commit.result new.index (buffered new.buffer) c.args.pages.now _ c.commit.ensures.empty (subst (λ n. length c.args.pages.now ≤ n) (sym most) c.requires.few)
+    let new = c.write_out.new.self in
+    let most = new.most ∙ ap (λ (k : Geometry). k.pages / 4) c.write_out.ensures.lasts.geometry in
+    room_after c.write_out.result new.index (buffered new.buffer) c.args.pages.now _ c.write_out.ensures.empty (subst (λ n. length c.args.pages.now ≤ n) (sym most) c.requires.few)
+
+pub returns-then-has_room-clause-carried : goal.returns-then-has_room-clause-carried
+returns-then-has_room-clause-carried g c = λ honest.
+    let self = c.args.self.now in
+    inl (store_carries self.spare (g.N.Nand.state self.device) (table self.blocks) self.index c.the_counts_are_of_the_keys.ensures.none self.ready self.stands.tables (self.newest c.requires.whole honest))

@@ -6,7 +6,6 @@ use Rattle.bad_blocks.specs.Room.{IsRoomFor}
 use Rattle.page_buffer.specs.laws.Buffering.{buffers_empty}
 use Rattle.page_cache.specs.Slots.{page_in}
 use Rattle.objects.specs.declared.store.Found.TheVariants as places
-use Rattle.objects.proofs.Kept.{kept_carried}
 use Rattle.objects.proofs.store.Store.new.Goals as goal
 
 pub invariant_of-result : goal.invariant_of-result
@@ -27,6 +26,6 @@ invariant_of-result g c =
       place = λ i is. absurd (let two : places.Nowhere ≡ places.Buffered i = is in cc);
       few = λ _. c.requires.few;
       free = λ _. c.requires.free;
-      carried = λ _ honest. kept_carried _ c.args.index (c.requires.stands.newest honest c.requires.power);
+      newest = λ _ honest. c.requires.kept honest;
       shown = λ _ _ o k xs is. absurd (let two : None ≡ Some xs = sym (ap (option_and_then page_in) (e.cache.1 o k)) ∙ is in cc);
     }

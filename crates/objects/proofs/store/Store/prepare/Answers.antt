@@ -1,7 +1,8 @@
 use Rattle.std.proofs.Common.{◌∙◌}
 use Rattle.page_buffer.specs.BufferOf.{buffered}
 use Rattle.page_buffer.specs.laws.Buffering.{buffers_same}
-use Rattle.objects.proofs.Steps.{stands_kept, carried_kept, shown_same}
+use Rattle.objects.proofs.Carried.{newest_kept}
+use Rattle.objects.proofs.Steps.{stands_kept, shown_same}
 use Rattle.objects.proofs.store.Store.prepare.Goals as goal
 
 pub invariant_of-self : goal.invariant_of-self
@@ -22,7 +23,7 @@ invariant_of-self g c =
       place = self.place;
       few = self.few;
       free = self.free;
-      carried = λ whole honest. carried_kept self.index y e.kept (g.N.Nand.state self.device).flash (self.carried whole honest);
+      newest = λ whole honest. newest_kept (g.N.Nand.state self.device).flash self.index y e.kept (self.newest whole honest);
       shown = λ whole honest. shown_same self.index y (buffered self.buffer) (g.N.Nand.state self.device).flash self.cache c.prepare_all.new.cache e.present e.fewer (self.shown whole honest);
     }
 
@@ -44,6 +45,6 @@ invariant_of-self-in-Err g c =
       place = self.place;
       few = self.few;
       free = self.free;
-      carried = λ whole honest. carried_kept self.index y e.kept (g.N.Nand.state self.device).flash (self.carried whole honest);
+      newest = λ whole honest. newest_kept (g.N.Nand.state self.device).flash self.index y e.kept (self.newest whole honest);
       shown = λ whole honest. shown_same self.index y (buffered self.buffer) (g.N.Nand.state self.device).flash self.cache c.prepare_all.new.cache e.present e.fewer (self.shown whole honest);
     }

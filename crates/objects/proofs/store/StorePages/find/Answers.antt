@@ -27,7 +27,7 @@ invariant_of-self g c =
           subst (λ n. n < length (buffered self.buffer)) one (place_within (buffered self.buffer) c.in-InBuffer.place _ (self.buffers.there _ _ c.in-InBuffer.place is));
       few = self.few;
       free = self.free;
-      carried = self.carried;
+      newest = self.newest;
       shown = self.shown;
     }
 

@@ -10,8 +10,9 @@ use Rattle.objects.specs.Caching.{Shows, AreIn}
 use Rattle.block_state.specs.TableOf.{table}
 use Rattle.objects.specs.Changing.{IsCommitFault}
 use Rattle.objects.specs.declared.store.Found.TheVariants as places
-use Rattle.objects.proofs.Steps.{carries_same, either_known, buffered_shown, commit_fails, writable}
-use Rattle.objects.proofs.store.Store.commit.Goals as goal
+use Rattle.objects.proofs.Carried.{either_known, kept_is_carried, newest_committed}
+use Rattle.objects.proofs.Steps.{buffered_shown, commit_fails, writable}
+use Rattle.objects.proofs.store.Store.write_out.Goals as goal
 
 pub invariant_of-self : goal.invariant_of-self
 invariant_of-self g c =
@@ -37,9 +38,9 @@ invariant_of-self g c =
       place = λ i is. absurd (let two : places.Nowhere ≡ places.Buffered i = is in cc);
       few = λ _. done.few;
       free = λ _. done.free;
-      carried = λ whole honest.
+      newest = λ whole honest.
           let before = sym w.lasts.honest ∙ honest in
-          carries_same new.flash _ _ (done.kept before) (done.newest before (self.carried whole before));
+          newest_committed (buffered self.buffer) old new self.index y w.no_call w.no_move (self.newest whole before) done.power (w.stands.newest honest);
       shown = λ whole honest.
           let before = sym w.lasts.honest ∙ honest in
           let m = present_data y (buffered c.commit.new.buffer) new.flash in
@@ -49,11 +50,12 @@ invariant_of-self g c =
           subst (λ (l : List FreshPage). Shows c.keep_written.new.cache (present_data y l new.flash)) (sym k.pages) (k.shows m shows are);
     }
 
-pub returns-in-Err-clause-newest : goal.returns-in-Err-clause-newest
-returns-in-Err-clause-newest g c = λ whole.
+pub returns-in-Err-clause-carried : goal.returns-in-Err-clause-carried
+returns-in-Err-clause-carried g c = λ whole honest.
     let self = c.args.self.now in
     let d = g.N.Nand.state self.device in
-    either_known d.honest _ (kept_data self.index d.flash) (present_data self.index (buffered self.buffer) d.flash) (λ honest. c.commit.ensures.newest honest (self.carried whole honest))
+    let carried = kept_is_carried self.spare d (table self.blocks) self.index c.the_counts_are_of_the_keys.ensures.none self.ready self.stands.tables (self.newest whole honest) in
+    either_known d.honest (g.N.Nand.state c.commit.new.device) self.spare (kept_data self.index d.flash) (present_data self.index (buffered self.buffer) d.flash) (c.commit.ensures.newest honest carried)
 
 pub commit-requires-clause-pages : goal.commit-requires-clause-pages
 commit-requires-clause-pages g c = let self = c.args.self.now in writable (g.N.Nand.state self.device).geometry self.buffer (self.objects c.if-self.false) self.buffer_size
@@ -64,8 +66,9 @@ returns-in-Err-clause-fault g c =
     subst (IsCommitFault self.spare (length (buffered self.buffer)) (g.N.Nand.state c.commit.new.device) (table self.blocks) (table c.commit.new.blocks) self.broken) (sym c.store_fault.ensures)
     (commit_fails self.spare (length (buffered self.buffer)) (g.N.Nand.state c.commit.new.device) (table self.blocks) (table c.commit.new.blocks) self.broken c.in-Err.fault c.in-Err.ensures.ends)
 
-pub returns-in-Ok-clause-newest : goal.returns-in-Ok-clause-newest
-returns-in-Ok-clause-newest g c = λ whole.
+pub returns-in-Ok-clause-carried : goal.returns-in-Ok-clause-carried
+returns-in-Ok-clause-carried g c = λ whole honest.
     let self = c.args.self.now in
     let d = g.N.Nand.state self.device in
-    either_known d.honest _ (kept_data self.index d.flash) (present_data self.index (buffered self.buffer) d.flash) (λ honest. c.commit.ensures.newest honest (self.carried whole honest))
+    let carried = kept_is_carried self.spare d (table self.blocks) self.index c.the_counts_are_of_the_keys.ensures.none self.ready self.stands.tables (self.newest whole honest) in
+    either_known d.honest (g.N.Nand.state c.commit.new.device) self.spare (kept_data self.index d.flash) (present_data self.index (buffered self.buffer) d.flash) (c.commit.ensures.newest honest carried)

@@ -1,5 +1,5 @@
 use Rattle.std.specs.Prelude.{◌≡◌, ◌⊎◌, true}
-use Rattle.std.proofs.Common.{◌∙◌, sym, ap, subst, arith}
+use Rattle.std.proofs.Common.{◌∙◌, sym, ap, subst, inl, inr, arith}
 use Rattle.nand_model.specs.Calls.{Device}
 use Rattle.block_state.specs.Kept.{bad_count}
 use Rattle.block_state.specs.TableOf.{table}
@@ -7,22 +7,38 @@ use Rattle.block_state.specs.declared.blocks.Blocks.{Blocks}
 use Rattle.chunk_index.specs.Maps.{SameKept}
 use Rattle.pages.specs.laws.Changes.{changed_same}
 use Rattle.page_buffer.specs.Buffering.{AreReady}
-use Rattle.pages.specs.Stores.{Carries}
+use Rattle.pages.specs.Stores.{IsCarried}
 use Rattle.objects.specs.StoreOf.{kept_map, present_map}
-use Rattle.objects.proofs.Steps.{same_back, same_on, fits_on, kept_map_same, present_map_same, either_same, ready_prepared}
-use Rattle.objects.proofs.store.Store.apply.Goals as goal
+use Rattle.objects.proofs.Carried.{carried_same, either_same, store_carries}
+use Rattle.objects.proofs.Steps.{same_back, same_on, fits_on, kept_map_same, present_map_same, ready_prepared}
+use Rattle.objects.proofs.store.Store.change.Goals as goal
 
-pub returns-in_err-make_room-clause-newest : goal.returns-in_err-make_room-clause-newest
-returns-in_err-make_room-clause-newest g c = λ whole.
+pub returns-in_err-prepare-clause-carried : goal.returns-in_err-prepare-clause-carried
+returns-in_err-prepare-clause-carried g c = λ whole honest.
     let self = c.args.self.now in
     let p = c.prepare.new.self in
     let same = c.prepare.ensures.same in
     let old = g.N.Nand.state self.device in
     let mid = g.N.Nand.state p.device in
     let still : mid ≡ old = ap g.N.Nand.state same.0 in
-    either_same _ (kept_map mid p.index) (present_map mid p.index p.buffer) (kept_map old self.index) (present_map old self.index self.buffer)
+    let told : mid.honest ≡ true = ap (λ (x : Device). x.honest) still ∙ honest in
+    inl (carried_same mid self.spare (kept_map mid p.index) (kept_map old self.index) (same_back _ _ (kept_map_same old mid self.index p.index still c.prepare.ensures.kept))
+    (subst (λ n. IsCarried mid n (kept_map mid p.index)) same.3 (store_carries p.spare mid (table p.blocks) p.index c.the_counts_are_of_the_keys.ensures.none p.ready p.stands.tables (p.newest (same.4 ∙ whole) told))))
+
+pub returns-in_err-make_room-clause-carried : goal.returns-in_err-make_room-clause-carried
+returns-in_err-make_room-clause-carried g c = λ whole honest.
+    let self = c.args.self.now in
+    let p = c.prepare.new.self in
+    let same = c.prepare.ensures.same in
+    let old = g.N.Nand.state self.device in
+    let mid = g.N.Nand.state p.device in
+    let now = g.N.Nand.state c.make_room.new.self.device in
+    let still : mid ≡ old = ap g.N.Nand.state same.0 in
+    let told : mid.honest ≡ true = ap (λ (x : Device). x.honest) still ∙ honest in
+    either_same now self.spare (kept_map mid p.index) (present_map mid p.index p.buffer) (kept_map old self.index) (present_map old self.index self.buffer)
     (same_back _ _ (kept_map_same old mid self.index p.index still c.prepare.ensures.kept))
-    (same_back _ _ (present_map_same old mid self.index p.index self.buffer p.buffer still c.prepare.ensures.present same.2)) c.make_room.ensures.newest
+    (same_back _ _ (present_map_same old mid self.index p.index self.buffer p.buffer still c.prepare.ensures.present same.2))
+    (subst (λ n. IsCarried now n (kept_map mid p.index) ⊎ IsCarried now n (present_map mid p.index p.buffer)) same.3 (c.make_room.ensures.carried told))
 
 pub make-requires-clause-prepared : goal.make-requires-clause-prepared
 make-requires-clause-prepared g c =
@@ -55,19 +71,22 @@ returns-clause-present g c = λ honest o k.
     ∙ changed_same c.args.change (present_map now m.index m.buffer) (present_map old self.index self.buffer) o k
     (c.in_ok-make_room.ensures.present o k ∙ present_map_same old mid self.index p.index self.buffer p.buffer still c.prepare.ensures.present same.2 o k)
 
-pub returns-clause-newest : goal.returns-clause-newest
-returns-clause-newest g c = λ whole.
+pub returns-clause-carried : goal.returns-clause-carried
+returns-clause-carried g c = λ whole honest.
     let self = c.args.self.now in
     let p = c.prepare.new.self in
     let same = c.prepare.ensures.same in
     let old = g.N.Nand.state self.device in
     let mid = g.N.Nand.state p.device in
+    let now = g.N.Nand.state c.make_room.new.self.device in
     let still : mid ≡ old = ap g.N.Nand.state same.0 in
-    let after : g.N.Nand.state c.make.new.self.device ≡ g.N.Nand.state c.make_room.new.self.device = ap g.N.Nand.state c.make.ensures.same.0 in
-    subst (λ (d : Device). Carries d.flash (kept_map old self.index) ⊎ Carries d.flash (present_map old self.index self.buffer)) (sym after)
-    (either_same _ (kept_map mid p.index) (present_map mid p.index p.buffer) (kept_map old self.index) (present_map old self.index self.buffer)
+    let told : mid.honest ≡ true = ap (λ (x : Device). x.honest) still ∙ honest in
+    let after : g.N.Nand.state c.make.new.self.device ≡ now = ap g.N.Nand.state c.make.ensures.same.0 in
+    subst (λ (d : Device). IsCarried d self.spare (kept_map old self.index) ⊎ IsCarried d self.spare (present_map old self.index self.buffer)) (sym after)
+    (either_same now self.spare (kept_map mid p.index) (present_map mid p.index p.buffer) (kept_map old self.index) (present_map old self.index self.buffer)
     (same_back _ _ (kept_map_same old mid self.index p.index still c.prepare.ensures.kept))
-    (same_back _ _ (present_map_same old mid self.index p.index self.buffer p.buffer still c.prepare.ensures.present same.2)) c.make_room.ensures.newest)
+    (same_back _ _ (present_map_same old mid self.index p.index self.buffer p.buffer still c.prepare.ensures.present same.2))
+    (subst (λ n. IsCarried now n (kept_map mid p.index) ⊎ IsCarried now n (present_map mid p.index p.buffer)) same.3 (c.make_room.ensures.carried told)))
 
 pub returns-in_err-make_room-clause-room : goal.returns-in_err-make_room-clause-room
 returns-in_err-make_room-clause-room g c = λ fits.
@@ -90,3 +109,21 @@ returns-clause-room g c = λ fits.
       ap g.N.Nand.state c.make.ensures.same.0 ∙ still,
       same_on _ _ _ c.make.ensures.kept (kept_map_same (g.N.Nand.state self.device) (g.N.Nand.state m.device) self.index m.index still (subst (SameKept self.index) (sym enough.1) c.prepare.ensures.kept)),
     )
+
+pub returns-clause-kept : goal.returns-clause-kept
+returns-clause-kept g c =
+    let self = c.args.self.now in
+    let p = c.prepare.new.self in
+    let m = c.make_room.new.self in
+    let n = c.make.new.self in
+    let same = c.prepare.ensures.same in
+    let old = g.N.Nand.state self.device in
+    let mid = g.N.Nand.state p.device in
+    let still : mid ≡ old = ap g.N.Nand.state same.0 in
+    let now = kept_map (g.N.Nand.state n.device) n.index in
+    let then = kept_map (g.N.Nand.state m.device) m.index in
+    elim c.in_ok-make_room.ensures.kept [
+      | inl kept ↦ inl (same_on now (kept_map mid p.index) (kept_map old self.index) (same_on now then (kept_map mid p.index) c.make.ensures.kept kept) (kept_map_same old mid self.index p.index still c.prepare.ensures.kept))
+      | inr shown ↦ inr (same_on now (present_map mid p.index p.buffer) (present_map old self.index self.buffer) (same_on now then (present_map mid p.index p.buffer) c.make.ensures.kept shown)
+          (present_map_same old mid self.index p.index self.buffer p.buffer still c.prepare.ensures.present same.2))
+    ]

@@ -1,0 +1,64 @@
+use Rattle.std.specs.Prelude.{◌≡◌, ◌/◌, true, false}
+use Rattle.std.proofs.Common.{◌∙◌, sym, ap, subst}
+use Rattle.nand_model.specs.Calls.{Device, Lasts}
+use Rattle.nand_model.specs.declared.geometry.Geometry.{Geometry}
+use Rattle.nand_model.specs.laws.Calls.{lasts_here}
+use Rattle.block_state.specs.TableOf.{table}
+use Rattle.pages.specs.State.{PagesState}
+use Rattle.pages.specs.Stores.{HasNumbersLeft}
+use Rattle.objects.specs.StoreOf.{kept_map, seen}
+use Rattle.objects.proofs.Carried.{store_carries}
+use Rattle.objects.proofs.ReadOnly.{sound_honest, sound_whole}
+use Rattle.objects.proofs.Told.{cut_stopped, cut_told, failed_stays, hands_none, kept_as, marks_none}
+use Rattle.objects.proofs.page_store.StorePageStore.cut.Goals as goal
+
+pub returns-clause-goes_on : goal.returns-clause-goes_on
+returns-clause-goes_on g c =
+    let self = c.args.self.now in
+    let new = c.cut_away.new.self in
+    let same = c.cut_away.ensures.same in
+    let old = g.N.Nand.state self.device in
+    let now = g.N.Nand.state new.device in
+    let still : now ≡ old = ap g.N.Nand.state same.0 in
+    let tables : table new.blocks ≡ table self.blocks = ap table same.1 in
+    let lasts : Lasts old now = subst (λ (k : Device). Lasts old k) (sym still) (lasts_here old) in
+    record {
+      page_bytes = ap (λ (k : Geometry). k.bytes) lasts.geometry;
+      most = new.most ∙ ap (λ (k : Geometry). k.pages / 4) lasts.geometry ∙ sym self.most;
+      spare = same.2;
+      refused = λ is. same.4 ∙ is;
+      failed = failed_stays old now self.broken new.broken lasts (λ is. same.3 ∙ is);
+      device = lasts;
+      numbers = hands_none old now (table self.blocks) (table new.blocks) still tables;
+      marks = marks_none old now (table self.blocks) (table new.blocks) still tables;
+      limits = λ _ left. subst (λ (k : Device). HasNumbersLeft k.flash) (sym still) left;
+    }
+
+pub returns-clause-present : goal.returns-clause-present
+returns-clause-present g c = λ sound. let self = c.args.self.now in c.cut_away.ensures.present (sound_honest (g.N.Nand.state self.device).honest self.broken sound)
+
+pub returns-clause-kept : goal.returns-clause-kept
+returns-clause-kept g c = λ sound.
+    let self = c.args.self.now in
+    let new = c.cut_away.new.self in
+    let e = c.cut_away.ensures in
+    let old = g.N.Nand.state self.device in
+    let now = g.N.Nand.state new.device in
+    let honest : now.honest ≡ true = ap (λ x. (g.N.Nand.state x).honest) e.same.0 ∙ sound_honest old.honest self.broken sound in
+    let whole : new.broken ≡ false = e.same.3 ∙ sound_whole old.honest self.broken sound in
+    let q : PagesState = seen now (table new.blocks) new.index new.buffer new.cache new.scratch.items new.found new.spare new.broken new.refused in
+    kept_as q (kept_map old self.index) e.kept (store_carries new.spare now (table new.blocks) new.index c.the_counts_are_of_the_keys.ensures.none new.ready new.stands.tables (new.newest whole honest))
+
+pub returns-clause-stops : goal.returns-clause-stops
+returns-clause-stops g c =
+    let self = c.args.self.now in
+    let new = c.cut_away.new.self in
+    cut_stopped c.cut_away.result (g.N.Nand.state new.device).honest self.broken new.broken c.cut_away.ensures.same.3 c.cut_away.ensures.fault
+
+pub returns-clause-fault : goal.returns-clause-fault
+returns-clause-fault g c = λ sound.
+    let self = c.args.self.now in
+    let new = c.cut_away.new.self in
+    cut_told c.cut_away.result (seen (g.N.Nand.state self.device) (table self.blocks) self.index self.buffer self.cache self.scratch.items self.found self.spare self.broken self.refused)
+    (seen (g.N.Nand.state new.device) (table new.blocks) new.index new.buffer new.cache new.scratch.items new.found new.spare new.broken new.refused) self.broken
+    (sound_whole (g.N.Nand.state self.device).honest self.broken sound) c.cut_away.ensures.fault

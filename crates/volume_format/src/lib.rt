@@ -1,4 +1,4 @@
-//! What a volume is, and the formatting of a device as one.
+//! What a volume of the first kind is, and the formatting of a device as one. This crate goes: `formatting` takes its place.
 #![tactic(auto)]
 
 mod clear;

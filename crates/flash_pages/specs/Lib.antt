@@ -1,0 +1,2 @@
+pub mod ReadOnly
+pub mod laws

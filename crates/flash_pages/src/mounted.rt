@@ -1,0 +1,56 @@
+// The pages of a mounted volume.
+ghost use Rattle.std.specs.Prelude.{◌≡◌};
+ghost use Rattle.flash_pages.specs.declared.pages.FlashPages.TheVariants as kinds;
+
+use crate::read_only::ReadOnlyPages;
+use flash_tree::Key;
+use nand_model::Nand;
+use objects::Store;
+use pages::{Change, Cut, PageStore, Pages, Presence};
+use volume_terms::StoreFault;
+
+/// The pages of a mounted volume: a store, or pages that are only read.
+#[derive(Drop)]
+pub enum FlashPages<N: Nand> {
+    Store(Store<N>),
+    ReadOnly(ReadOnlyPages<N>),
+}
+
+impl<N: Nand> FlashPages<N> {
+    /// The device, as it is.
+    pub fn into_device(self) -> N
+        ensures { N.state result ≡ (⟦<FlashPages<N> as Pages>⟧.state self).device }
+    {
+        match self {
+            FlashPages::Store(store) => store.into_device(),
+            FlashPages::ReadOnly(pages) => pages.into_device(),
+        }
+    }
+}
+
+impl<N: Nand> Pages for FlashPages<N> {
+    ghost state = { elim [ kinds.Store store ↦ ⟦<Store<N> as Pages>⟧.state store | kinds.ReadOnly pages ↦ ⟦<ReadOnlyPages<N> as Pages>⟧.state pages ] };
+
+    ghost sized = { elim [ kinds.Store s ↦ ((N.state s.device).geometry.least_bytes, (N.state s.device).geometry.most_bytes) | kinds.ReadOnly s ↦ ((N.state s.pages.device).geometry.least_bytes, (N.state s.pages.device).geometry.most_bytes) ] };
+
+    fn page_bytes(&self) -> u32 {
+        match self {
+            FlashPages::Store(store) => store.page_bytes(),
+            FlashPages::ReadOnly(pages) => pages.page_bytes(),
+        }
+    }
+
+    fn find(&mut self, key: Key) -> Result<Presence, StoreFault> {
+        match self {
+            FlashPages::Store(store) => store.find(key),
+            FlashPages::ReadOnly(pages) => pages.find(key),
+        }
+    }
+
+    fn page(&self) -> &[u8] {
+        match self {
+            FlashPages::Store(store) => store.page(),
+            FlashPages::ReadOnly(pages) => pages.page(),
+        }
+    }
+}

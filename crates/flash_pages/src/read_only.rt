@@ -1,0 +1,98 @@
+// Pages of a worn device, which are read and not changed.
+ghost use Rattle.std.specs.Prelude.{◌≡◌, ◌≤◌, true, false};
+ghost use Rattle.flash_tree.specs.Places.{numbers_of};
+ghost use Rattle.newest_pages.specs.Newest.{seen};
+ghost use Rattle.flash_pages.specs.ReadOnly.{IsWorn, HasGreatest, IsCarrying, only_read};
+ghost use Rattle.flash_pages.specs.laws.OneProof.{carrying_prop};
+
+use flash_tree::{Key, TagNumbers};
+use nand_model::Nand;
+use newest_pages::NewestPages;
+use pages::{Change, Cut, PageStore, Pages, Presence};
+use volume_terms::StoreFault;
+
+/// The newest pages of a volume that is only read, since its device is worn out. A commit has nothing to do; a change is
+/// refused.
+#[derive(Drop)]
+pub struct ReadOnlyPages<N: Nand> {
+    pages: NewestPages<N>,
+    // The greatest numbers that stand on the device.
+    greatest: TagNumbers,
+    // How many blocks may be bad.
+    spare: u32,
+    // How many pages a change may have.
+    most: u32,
+    // Whether a change was refused, so that the pages are not what its caller meant any more.
+    refused_change: bool,
+    ghost worn: { IsWorn (N.state pages.device) (numbers_of greatest) spare },
+    ghost numbers: { HasGreatest (N.state pages.device) (numbers_of greatest) },
+    ghost carrying: { IsCarrying (seen (N.state pages.device) pages.index pages.page.items) } by { carrying_prop (seen (N.state pages.device) pages.index pages.page.items) },
+}
+
+impl<N: Nand> ReadOnlyPages<N> {
+    /// These pages of a device whose greatest numbers these are, with so many blocks to spare. A change that is refused
+    /// has at most so many pages.
+    pub fn new(pages: NewestPages<N>, greatest: TagNumbers, spare: u32, most: u32) -> ReadOnlyPages<N>
+        requires worn { IsWorn (⟦<NewestPages<N> as Pages>⟧.state pages).device (numbers_of greatest) spare }
+        requires numbers { HasGreatest (⟦<NewestPages<N> as Pages>⟧.state pages).device (numbers_of greatest) }
+        requires carrying { IsCarrying (⟦<NewestPages<N> as Pages>⟧.state pages) }
+        ensures { ⟦<ReadOnlyPages<N> as Pages>⟧.state result ≡ only_read (⟦<NewestPages<N> as Pages>⟧.state pages) (numbers_of greatest) spare most false }
+    {
+        ReadOnlyPages {
+            pages,
+            greatest,
+            spare,
+            most,
+            refused_change: false,
+        }
+    }
+
+    /// The device, as it is.
+    pub fn into_device(self) -> N
+        ensures { N.state result ≡ (⟦<ReadOnlyPages<N> as Pages>⟧.state self).device }
+    {
+        let (device, _index) = self.pages.into_parts();
+        device
+    }
+}
+
+impl<N: Nand> Pages for ReadOnlyPages<N> {
+    ghost state = { λ s. only_read (seen (N.state s.pages.device) s.pages.index s.pages.page.items) (numbers_of s.greatest) s.spare s.most s.refused_change };
+
+    ghost sized = { λ s. ((N.state s.pages.device).geometry.least_bytes, (N.state s.pages.device).geometry.most_bytes) };
+
+    fn page_bytes(&self) -> u32 {
+        self.pages.page_bytes()
+    }
+
+    fn find(&mut self, key: Key) -> Result<Presence, StoreFault> {
+        self.pages.find(key)
+    }
+
+    fn page(&self) -> &[u8] {
+        self.pages.page()
+    }
+}
+
+impl<N: Nand> PageStore for ReadOnlyPages<N> {
+    fn most_pages(&self) -> u32 {
+        self.most
+    }
+
+    fn apply(&mut self, _change: Change) -> Result<(), StoreFault> {
+        self.refused_change = true;
+        Err(StoreFault::Worn)
+    }
+
+    fn cut(&mut self, _cut: Cut) -> Result<(), StoreFault> {
+        self.refused_change = true;
+        Err(StoreFault::Worn)
+    }
+
+    fn commit(&mut self) -> Result<(), StoreFault> {
+        if self.refused_change {
+            return Err(StoreFault::Worn);
+        }
+        Ok(())
+    }
+}

@@ -1,0 +1,16 @@
+use Rattle.std.proofs.Common.{◌≡◌, ◌≤◌, ◌+◌, ◌∙◌, ap, subst, arith}
+use Rattle.nand_model.specs.Calls.{Device}
+use Rattle.nand_model.specs.declared.geometry.Geometry.{Geometry}
+use Rattle.volume_terms.specs.Sizes.{root_number}
+use Rattle.directories.specs.HeadPages.{IsHeadPage}
+use Rattle.formatting.proofs.Rooted.{volume_of}
+use Rattle.formatting.proofs.formatting.format.Goals as goal
+
+pub returns-in-Ok-lay_out-clause-formatted : goal.returns-in-Ok-lay_out-clause-formatted
+returns-in-Ok-lay_out-clause-formatted g c = λ honest.
+    let old : Device = g.N.Nand.state c.args.device in
+    let same : c.geometry-geometry.result ≡ old.geometry = c.geometry-geometry.ensures in
+    let room : c.args.spare + 4 ≤ old.geometry.blocks = omega (arith, ap (λ (x : Geometry). x.blocks) same, c.blocks-2.ensures, c.geometry-geometry.result.least_blocks) in
+    let size : c.bytes.result ≡ old.geometry.bytes = c.bytes.ensures ∙ ap (λ (x : Geometry). x.bytes) same in
+    let head = subst (λ d. IsHeadPage c.in-Ok.page d root_number (record { spare = c.args.spare; length = 0; moment = 0 })) size c.in-Ok.ensures in
+    volume_of old (g.N.Nand.state c.lay_out.new.device) c.args.spare c.in-Ok.page honest room c.lay_out.ensures.keeps c.in-Ok-lay_out.ensures.few_bad head c.in-Ok-lay_out.ensures.stands

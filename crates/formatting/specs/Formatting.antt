@@ -1,0 +1,77 @@
+-- What the formatting of a device does on its way.
+use Rattle.std.specs.Prelude.{◌≡◌, ◌≢◌, ◌⊎◌, ◌≤◌, ◌<◌, ℕ, ◌+◌, ◌-◌, Bool, true, false, Some, Result, Ok, Err, List}
+use Rattle.nand_model.specs.Flash.{Flash, Erased, Written}
+use Rattle.nand_model.specs.Calls.{Device, Lasts}
+use Rattle.page_tags.specs.declared.tag.Tag.{Tag}
+use Rattle.page_tags.specs.Tags.{tag_bytes}
+use Rattle.flash_tree.specs.Mount.{bad_blocks}
+use Rattle.flash_tree.specs.declared.place.Key.{Key}
+use Rattle.flash_tree.specs.declared.place.FreshPage.{FreshPage}
+use Rattle.formatting.specs.declared.fault.FormatFault.{FormatFault}
+use Rattle.formatting.specs.declared.fault.FormatFault.TheVariants as faults
+
+-- What each step keeps: what every call keeps, the pages of blocks that were bad, and that each block that becomes bad failed.
+pub record Keeps (old new : Device) : Type 0 where
+  pub lasts : Lasts old new
+  pub bad_pages : old.honest ≡ true → (b p : ℕ) → old.flash.bad b ≡ true → new.flash.page b p ≡ old.flash.page b p
+  pub new_bad : bad_blocks old.geometry new.flash ≤ bad_blocks old.geometry old.flash + (new.failures - old.failures)
+
+-- the block is bad, or its first page can be programmed, and so all its pages are erased
+abbrev pub IsReady : Flash → ℕ → Type 0
+IsReady flash b = flash.bad b ≡ false → flash.next b ≡ Some 0
+
+-- every block from this one on is ready
+abbrev pub AreReady : Device → ℕ → Type 0
+AreReady device first = (b : ℕ) → first ≤ b → b < device.geometry.blocks → IsReady device.flash b
+
+-- mark and next page of every block but this one are as they were
+abbrev pub OthersStay : ℕ → Flash → Flash → Type 0
+OthersStay b old new = (k : ℕ) → k ≢ b → (new.bad k ≡ old.bad k) × (new.next k ≡ old.next k)
+
+-- the tag of the page of a key that is a group of its own, with this number throughout
+abbrev pub single_tag : Key → ℕ → Tag
+single_tag key number = record { index = 0; count = 1; object = key.object; chunk = key.chunk; version = number; group = number; seq = number }
+
+-- the block is good, and its first page alone was programmed; of an honest device that page is known
+pub record HasFirstPage (device : Device) (b : ℕ) (bytes : List ℕ) (tag : Tag) : Type 0 where
+  pub good : device.flash.bad b ≡ false
+  pub next : device.flash.next b ≡ Some 1
+  pub page : device.honest ≡ true → device.flash.page b 0 ≡ Written bytes (tag_bytes tag)
+
+-- the page stands at the start of a good block, and every other page of good blocks is erased
+pub record StandsAlone (flash : Flash) (bytes : List ℕ) (tag : Tag) : Type 0 where
+  pub block : ℕ
+  pub good : flash.bad block ≡ false
+  pub page : flash.page block 0 ≡ Written bytes (tag_bytes tag)
+  pub others : (k l : ℕ) → flash.bad k ≡ false → (k ≢ block) ⊎ (l ≢ 0) → flash.page k l ≡ Erased
+
+-- whether the block took the page: a block that did not has failed, and is marked bad
+abbrev pub Takes : Device → Device → ℕ → List ℕ → Tag → Bool → Type 0
+Takes old new b bytes tag true = HasFirstPage new b bytes tag × (new.failures ≡ old.failures) × (new.gone ≡ false)
+Takes old new b bytes tag false = (new.flash.bad b ≡ true) × (new.failures ≡ old.failures + 1)
+
+-- the page is the only one, and its number is one more than the count of the blocks that failed before one took it
+pub record StandsFirst (old new : Device) (page : FreshPage) : Type 0 where
+  pub alone : old.honest ≡ true → StandsAlone new.flash page.bytes.items (single_tag page.key (1 + (new.failures - old.failures)))
+  pub few : new.failures < old.failures + old.geometry.blocks
+  pub has_power : new.gone ≡ false
+
+-- the page is the only one of the device, with a number from 1 to the count of blocks
+pub record HoldsOnly (device : Device) (page : FreshPage) : Type 0 where
+  pub number : ℕ
+  pub some : 1 ≤ number
+  pub few : number ≤ device.geometry.blocks
+  pub alone : device.honest ≡ true → StandsAlone device.flash page.bytes.items (single_tag page.key number)
+  pub has_power : device.gone ≡ false
+
+-- what a fault says of the device, where it is neither of the spare blocks nor of memory
+abbrev pub Explains : ℕ → Device → FormatFault → Type 0
+Explains spare new faults.Spare = ⊥
+Explains spare new faults.NoMemory = ⊥
+Explains spare new faults.Worn = spare < bad_blocks new.geometry new.flash
+Explains spare new faults.Gone = new.gone ≡ true
+
+-- the device, which is given back in any case
+abbrev pub given_back : {D : Type 0} → Result D (D × FormatFault) → D
+given_back (Ok device) = device
+given_back (Err back) = back.0

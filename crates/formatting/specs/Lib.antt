@@ -1,0 +1,2 @@
+pub mod SizesOf
+pub mod Formatting

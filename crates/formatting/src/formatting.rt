@@ -1,0 +1,73 @@
+// The formatting of a device as a volume.
+ghost use Rattle.std.specs.Prelude.{◌≡◌, ◌↔◌, ◌⊎◌, ◌<◌, ◌≤◌, ◌+◌, ◌-◌, ℕ, true, false, length, IfOk, IfErr, IsErrAnd, OnOk};
+ghost use Rattle.nand_model.specs.Calls.{Lasts};
+ghost use Rattle.flash_tree.specs.Mount.{bad_blocks};
+ghost use Rattle.flash_tree.specs.Sound.{IsSound};
+ghost use Rattle.posix_profile.specs.laws.Fresh.{fresh};
+ghost use Rattle.formatting.specs.Formatting.{Keeps, HoldsOnly, Explains, given_back};
+
+use crate::clear::clear_all;
+use crate::fault::FormatFault;
+use crate::root::write_first;
+use crate::wear::bad_count;
+use directories::{DirectoryHead, head_page};
+use flash_tree::FreshPage;
+use nand_model::Nand;
+use std::alloc::Global;
+
+/// The number of the root.
+const ROOT: u64 = 1;
+
+/// Erases the device and writes the page of the root.
+fn lay_out<N: Nand>(device: &mut N, page: &FreshPage, spare: u32) -> Result<(), FormatFault>
+    requires size { length page.now.bytes.items ≡ (N.state device.old).geometry.bytes }
+    requires room { spare + 4 ≤ (N.state device.old).geometry.blocks }
+    ensures keeps { Keeps (N.state device.old) (N.state device.new) }
+    ensures few_bad { OnOk result (bad_blocks (N.state device.new).geometry (N.state device.new).flash ≤ spare) }
+    ensures stands { OnOk result (HoldsOnly (N.state device.new) page.now) }
+    ensures fault { IfErr result (Explains spare (N.state device.new)) }
+{
+    clear_all(device)?;
+    if !write_first(device, page)? {
+        return Err(FormatFault::Worn);
+    }
+    if bad_count(device) > spare {
+        return Err(FormatFault::Worn);
+    }
+    Ok(())
+}
+
+/// Makes the device a volume with so many spare blocks, whose root is an empty directory of moment 0. All that stands
+/// in good blocks is erased; a block that fails is marked bad. What `Spare` and `NoMemory` refuse is left as it is.
+pub fn format<N: Nand>(alloc: Global, device: N, spare: u32) -> Result<N, (N, FormatFault)>
+    ensures lasts { Lasts (N.state device) (N.state (given_back result)) }
+    ensures formatted { (N.state device).honest ≡ true → IfOk result (λ d. IsSound (N.state d).geometry (N.state d).flash spare fresh.objects) }
+    ensures few_bad { IfOk result (λ d. bad_blocks (N.state d).geometry (N.state d).flash ≤ spare) }
+    ensures has_power { IfOk result (λ d. (N.state d).gone ≡ false) }
+    ensures spare { IsErrAnd result (λ back. back.1 ≡ FormatFault.Spare) ↔ ((N.state device).geometry.blocks < spare + 4) }
+    ensures unchanged { IfErr result (λ back. (back.1 ≡ FormatFault.Spare) ⊎ (back.1 ≡ FormatFault.NoMemory) → N.state back.0 ≡ N.state device) }
+    ensures gone { IfErr result (λ back. back.1 ≡ FormatFault.Gone → (N.state back.0).gone ≡ true) }
+    ensures worn { IfErr result (λ back. back.1 ≡ FormatFault.Worn → spare < bad_blocks (N.state back.0).geometry (N.state back.0).flash) }
+    ensures marks { bad_blocks (N.state device).geometry (N.state (given_back result)).flash
+        ≤ bad_blocks (N.state device).geometry (N.state device).flash + ((N.state (given_back result)).failures - (N.state device).failures) }
+    ensures bad_pages { (N.state device).honest ≡ true → (b p : ℕ) → (N.state device).flash.bad b ≡ true
+        → (N.state (given_back result)).flash.page b p ≡ (N.state device).flash.page b p }
+{
+    let geometry = device.geometry();
+    if spare > geometry.blocks() - 4 {
+        return Err((device, FormatFault::Spare));
+    }
+    let head = DirectoryHead {
+        spare: spare as u16,
+        length: 0,
+        moment: 0,
+    };
+    let Ok(page) = head_page(alloc, geometry.bytes(), ROOT, head) else {
+        return Err((device, FormatFault::NoMemory));
+    };
+    let mut device = device;
+    match lay_out(&mut device, &page, spare) {
+        Ok(()) => Ok(device),
+        Err(fault) => Err((device, fault)),
+    }
+}

@@ -1,0 +1,67 @@
+// The writing of the root.
+ghost use Rattle.std.specs.Prelude.{◌≡◌, ◌<◌, ◌+◌, ℕ, true, false, length, Some, IfOk, OnErr};
+ghost use Rattle.formatting.specs.Formatting.{Keeps, AreReady, OthersStay, single_tag, HasFirstPage, Takes, StandsFirst};
+
+use flash_tree::FreshPage;
+use nand_model::{Gone, Nand, ProgramFault};
+use page_tags::Tag;
+
+/// Writes the page to the start of a block, as a group of its own with this number, and marks the block where that
+/// fails. Whether the block took it.
+#[tactic(auto, using(crate::proofs::Keeping::keeps_program, crate::proofs::Keeping::keeps_mark))]
+fn write_at<N: Nand>(
+    device: &mut N,
+    block: u32,
+    page: &FreshPage,
+    number: u64,
+) -> Result<bool, Gone>
+    requires block { block < (N.state device.old).geometry.blocks }
+    requires good { (N.state device.old).flash.bad block ≡ false }
+    requires next { (N.state device.old).flash.next block ≡ Some 0 }
+    requires size { length page.now.bytes.items ≡ (N.state device.old).geometry.bytes }
+    ensures keeps { Keeps (N.state device.old) (N.state device.new) }
+    ensures others { OthersStay block (N.state device.old).flash (N.state device.new).flash }
+    ensures takes { IfOk result (Takes (N.state device.old) (N.state device.new) block page.now.bytes.items (single_tag page.now.key number)) }
+    ensures gone { OnErr result ((N.state device.new).gone ≡ true) }
+{
+    let tag = Tag {
+        index: 0,
+        count: 1,
+        object: page.key.object,
+        chunk: page.key.chunk,
+        version: number,
+        group: number,
+        seq: number,
+    };
+    match device.program(block, 0, &page.bytes, &tag.encode()) {
+        Ok(()) => Ok(true),
+        Err(ProgramFault::Failed) => {
+            device.mark_bad(block)?;
+            Ok(false)
+        }
+        Err(ProgramFault::Gone) => Err(Gone),
+    }
+}
+
+/// Writes the page to the first good block that takes it. The first block is tried with number 1, and each further one
+/// with the next. Whether a block took it.
+pub(crate) fn write_first<N: Nand>(device: &mut N, page: &FreshPage) -> Result<bool, Gone>
+    requires size { length page.now.bytes.items ≡ (N.state device.old).geometry.bytes }
+    requires ready { AreReady (N.state device.old) 0 }
+    ensures keeps { Keeps (N.state device.old) (N.state device.new) }
+    ensures stands { IfOk result (λ took. took ≡ true → StandsFirst (N.state device.old) (N.state device.new) page.now) }
+    ensures worn { IfOk result (λ took. took ≡ false → (b : ℕ) → b < (N.state device.old).geometry.blocks → (N.state device.new).flash.bad b ≡ true) }
+    ensures gone { OnErr result ((N.state device.new).gone ≡ true) }
+{
+    let mut failed = 0;
+    for block in 0..device.geometry().blocks() {
+        if device.is_bad(block) {
+            continue;
+        }
+        if write_at(device, block, page, failed + 1)? {
+            return Ok(true);
+        }
+        failed += 1;
+    }
+    Ok(false)
+}

@@ -2,6 +2,7 @@
 #![tactic(auto)]
 
 mod fault;
+mod going_on;
 mod keys;
 mod marks;
 mod naming;

@@ -1,4 +1,3 @@
-pub mod Reading
 pub mod Noting
 pub mod Tables
 pub mod Data

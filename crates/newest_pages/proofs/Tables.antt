@@ -27,7 +27,7 @@ use Rattle.mount_scan.specs.Scanned.{AreNewest, TellsNewest}
 use Rattle.mount_scan.specs.laws.Scan.{found_of, listed_spot}
 use Rattle.bad_blocks.specs.Standing.{IsKeptAt, AreKept, MayLie}
 use Rattle.newest_pages.specs.Opened.{OnlySeqs, NotesSeq, HasItsSeq, HaveNames, AreLeft, IsTableOf, IsOpened, kept_at}
-use Rattle.newest_pages.proofs.Reading.{flash_is}
+use Rattle.newest_pages.specs.laws.Reading.{flash_is}
 
 -- a table without marks, where there are no numbers left
 pub blank_tables : (d : Device) (n : Numbers) (g : Geometry) (r : Result Blocks AllocError) → (AreLeft n → ⊥) → g ≡ d.geometry
@@ -273,6 +273,8 @@ opened d list x t t' n tells greatest names is seqs indexes counts recounts = re
   all = all_kept list x indexes d tells;
   numbers = greatest;
   ready = λ left. counted_ready d t t' _ _ is.closed recounts (is.ready left);
+  group = λ left. recounts.next_group ∙ is.group left;
+  seq = λ left. recounts.next_seq ∙ is.seq left;
   seqs = λ honest left b. counted_seq d t t' _ _ b recounts (seqs honest left b);
   lie = λ left.
       let next : t'.next_group ≡ n.group + 1 = recounts.next_group ∙ is.group left in

@@ -1,2 +1,3 @@
 pub mod Opened
 pub mod Newest
+pub mod laws

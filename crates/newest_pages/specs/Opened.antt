@@ -92,6 +92,8 @@ pub record IsOpened (device : Device) (t : Table) (x : Index) (n : Numbers) : Ty
   pub all : device.honest ≡ true → (o c : ℕ) (s : Spot) → IsNewest device.flash o c s → kept_pages x o c ≡ Some (kept_at s)
   pub numbers : device.honest ≡ true → AreGreatest device.flash n
   pub ready : AreLeft n → IsReady device t
+  pub group : AreLeft n → t.next_group ≡ n.group + 1
+  pub seq : AreLeft n → t.next_seq ≡ n.seq + 1
   pub seqs : device.honest ≡ true → AreLeft n → (b : ℕ) → HasItsSeq device.flash t b
   pub lie : AreLeft n → (o c : ℕ) (p : KeptPage) → kept_pages x o c ≡ Some p → MayLie t o c p
 

@@ -1,18 +1,20 @@
 -- Which pages of an object are looked up.
 use Rattle.std.specs.Prelude.{◌≡◌, ◌↔◌, ◌<◌, ◌≤◌, ℕ, ◌+◌, ◌-◌, ◌*◌, ◌/◌, Bool, true, false, IsTrue, Some, None}
 use Rattle.std.specs.Int.{div_ceil}
-use Rattle.std.proofs.Common.{sym, ◌∙◌, subst, inl, inr, arith}
+use Rattle.std.proofs.Common.{refl, sym, ◌∙◌, ap, subst, inl, inr, arith, ◌||◌, nat_eq, Option}
 use Rattle.std.proofs.lemmas.Nat.{div-mul-add}
-use Rattle.std.proofs.lemmas.Bool.{cases_lt}
+use Rattle.std.proofs.lemmas.Bool.{cases_lt, cases_eq, eq-eqb, ne_eqb, leb-true, le-leb}
+use Rattle.std.specs.Option.{option_map_or}
 use Rattle.std.proofs.Math.Nat.{div-mul-le_self}
 use Rattle.page_tags.specs.Headers.{Fields, is_present}
+use Rattle.page_tags.specs.declared.header.ObjectKind.{ObjectKind}
 use Rattle.page_tags.specs.declared.header.ObjectKind.TheVariants as kinds
 use Rattle.flash_tree.specs.Tree.{LooksUp, IsPageSize}
 use Rattle.flash_tree.specs.laws.Finding.{same_header}
 use Rattle.pages.specs.Maps.{PageMap, has}
 use Rattle.volume_terms.specs.Sizes.{Sizes, page_slots}
-use Rattle.tree_walk.specs.Heads.{IsHeadOf}
-use Rattle.tree_walk.specs.Trees.{Tells, IsLookedUp, head_at, numbers_of}
+use Rattle.tree_walk.specs.Heads.{IsHeadOf, head_looks_up, kind_looks_up}
+use Rattle.tree_walk.specs.Trees.{Tells, IsLookedUp, head_at, keeps_key, numbers_of, page_size}
 use Rattle.tree_walk.specs.declared.head.Head.{Head}
 use Rattle.tree_walk.specs.declared.tree.Tree.{Tree}
 use Rattle.tree_walk.proofs.Seeing.{single}
@@ -64,3 +66,32 @@ module _ (z : Sizes) (size : IsPageSize z.page_bytes) (m : PageMap) (tree : Tree
 
   pub none_looks : head_at tree o ≡ None → (b : Bool) → b ≡ false → IsTrue b ↔ IsLookedUp z (has m) (numbers_of tree) o chunk
   none_looks none b off = (λ t. absurd (let two : false ≡ true = sym off ∙ t in cc), λ l. absurd (let h = tells.each l.place o l.listed in let two : None ≡ Some h.0 = sym none ∙ h.1 in cc))
+
+-- what the header says of a chunk, by its kind
+kind_looks : (z : Sizes) (f : Fields) (head : Head) → IsHeadOf head f → 1 ≤ page_slots z → (c : ℕ) → 1 ≤ c → (k : ObjectKind) → head.kind ≡ k
+    → IsTrue (kind_looks_up z.page_bytes head k c) ↔ LooksUp z f c
+kind_looks z f head is some c from kinds.File kind = file_looks z f head is c from kind _ refl
+kind_looks z f head is some c from kinds.Directory kind = directory_looks z f head is c from kind some _ (λ on. leb-true c (div_ceil head.length (page_slots z)) on) (λ le. le-leb c (div_ceil head.length (page_slots z)) le)
+
+pub chunk_looks : (z : Sizes) (f : Fields) (head : Head) → IsHeadOf head f → 1 ≤ page_slots z → (c : ℕ) → IsTrue (head_looks_up z.page_bytes head c) ↔ LooksUp z f c
+chunk_looks z f head is some c = elim (cases_eq c 0) [
+  | inl here ↦ (λ t. inl here, λ l. ap (λ b. b || kind_looks_up z.page_bytes head head.kind c) (eq-eqb c 0 here))
+  | inr ne ↦
+      let off : nat_eq c 0 ≡ false = ne_eqb c 0 ne in
+      subst (λ (b : Bool). IsTrue b ↔ LooksUp z f c) (sym (ap (λ b. b || kind_looks_up z.page_bytes head head.kind c) off)) (kind_looks z f head is some c (omega (arith, ne)) head.kind refl)
+]
+
+pub keys_are_told : (z : Sizes) (m : PageMap) (tree : Tree) → z.page_bytes ≡ page_size tree → Tells z (has m) tree
+    → (o c : ℕ) → (keeps_key tree o c ≡ true) ↔ IsLookedUp z (has m) (numbers_of tree) o c
+keys_are_told z m tree size tells o c = go (head_at tree o) refl where
+  page : IsPageSize z.page_bytes
+  page = record { least = omega (arith, size, tree.least); most = omega (arith, size, tree.most) }
+
+  some : 1 ≤ page_slots z
+  some = omega (arith, size, tree.least)
+
+  go : (h : Option Head) → head_at tree o ≡ h → (keeps_key tree o c ≡ true) ↔ IsLookedUp z (has m) (numbers_of tree) o c
+  go None at = none_looks z page m tree tells o c at (keeps_key tree o c) (ap (λ (h : Option Head). option_map_or (λ head. head_looks_up (page_size tree) head c) h false) at)
+  go (Some head) at =
+      let is : keeps_key tree o c ≡ head_looks_up z.page_bytes head c = ap (λ (h : Option Head). option_map_or (λ head. head_looks_up (page_size tree) head c) h false) at ∙ ap (λ d. head_looks_up d head c) (sym size) in
+      head_looks z page m tree tells o c head at (keeps_key tree o c) (λ f of. subst (λ (b : Bool). IsTrue b ↔ LooksUp z f c) (sym is) (chunk_looks z f head of some c))

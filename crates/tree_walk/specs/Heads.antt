@@ -1,7 +1,10 @@
 -- What is told of an object's header.
-use Rattle.std.specs.Prelude.{◌≡◌, ◌≤◌, ℕ, List}
+use Rattle.std.specs.Prelude.{◌≡◌, ◌≤◌, ◌/◌, ◌||◌, ℕ, Bool, List, nat_eq, nat_le}
+use Rattle.std.specs.Int.{div_ceil}
 use Rattle.page_tags.specs.Headers.{Fields, IsFirstFault, is_present}
 use Rattle.page_tags.specs.declared.header.HeaderFault.{HeaderFault}
+use Rattle.page_tags.specs.declared.header.ObjectKind.{ObjectKind}
+use Rattle.page_tags.specs.declared.header.ObjectKind.TheVariants as kinds
 use Rattle.flash_tree.specs.Tree.{NewestMap, HasHeader}
 use Rattle.flash_tree.specs.Mount.{Wrong, wrong_by}
 use Rattle.volume_terms.specs.Sizes.{Sizes}
@@ -21,3 +24,12 @@ SaysHead z m o head = (f : Fields) × HasHeader z m o f × IsHeadOf head f
 -- the page is no header, for this reason
 abbrev pub IsNoHeader : List ℕ → Wrong → Type 0
 IsNoHeader page wrong = (fault : HeaderFault) × IsFirstFault page fault × (wrong ≡ wrong_by fault)
+
+-- whether a chunk behind the header is looked up: of a file where it is present, of a directory where it has slots
+abbrev pub kind_looks_up : (d : ℕ) → Head → ObjectKind → ℕ → Bool
+kind_looks_up d head kinds.File c = is_present head.bits.items c
+kind_looks_up d head kinds.Directory c = nat_le c (div_ceil head.length (d / 272))
+
+-- whether a chunk of an object with this header is looked up on pages of d bytes: the header itself, or one behind it
+abbrev pub head_looks_up : (d : ℕ) → Head → ℕ → Bool
+head_looks_up d head c = nat_eq c 0 || kind_looks_up d head head.kind c

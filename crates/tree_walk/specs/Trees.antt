@@ -1,12 +1,13 @@
 -- What is told of a tree that was gone through.
-use Rattle.std.specs.Prelude.{◌≡◌, ◌⊎◌, ℕ, zero, suc, List, [], ◌∷◌, ◌++◌, length, map as list_map, Option, Some, slice_get}
+use Rattle.std.specs.Prelude.{◌≡◌, ◌⊎◌, ℕ, zero, suc, Bool, false, List, [], ◌∷◌, ◌++◌, length, map as list_map, Option, Some, slice_get}
+use Rattle.std.specs.Option.{option_map_or}
 use Rattle.std.specs.Ordering.{nat_cmp}
 use Rattle.std.specs.BTreeMap.{get}
 use Rattle.page_tags.specs.Headers.{Fields}
 use Rattle.flash_tree.specs.Tree.{NewestMap, HasHeader, LooksUp}
 use Rattle.flash_tree.specs.Mount.{Wrong, IsDamaged, Leads, Finds, Wrongly, Wholly, GoesThrough, NamesTwice}
 use Rattle.volume_terms.specs.Sizes.{Sizes, root_number}
-use Rattle.tree_walk.specs.Heads.{SaysHead}
+use Rattle.tree_walk.specs.Heads.{SaysHead, head_looks_up}
 use Rattle.tree_walk.specs.declared.head.Head.{Head}
 use Rattle.tree_walk.specs.declared.tree.NamedObject.{NamedObject}
 use Rattle.tree_walk.specs.declared.tree.Tree.{Tree}
@@ -22,6 +23,10 @@ head_at tree o = get nat_cmp tree.heads o
 -- the bytes of a page
 abbrev pub page_size : Tree → ℕ
 page_size tree = tree.page_bytes
+
+-- whether the page of a key is looked up to see the tree, as the headers say
+abbrev pub keeps_key : Tree → ℕ → ℕ → Bool
+keeps_key tree o c = option_map_or (λ head. head_looks_up (page_size tree) head c) (head_at tree o) false
 
 -- a directory names an object
 abbrev pub name_in : ℕ → ℕ → NamedObject

@@ -8,7 +8,7 @@ ghost use Rattle.pages.specs.Maps.{has};
 ghost use Rattle.pages.specs.State.{PagesState, OnlyFinds};
 ghost use Rattle.volume_terms.specs.Sizes.{Sizes};
 ghost use Rattle.tree_walk.specs.Faults.{TellsWhy, TellsWrong};
-ghost use Rattle.tree_walk.specs.Heads.{IsHeadOf, IsNoHeader, SaysHead};
+ghost use Rattle.tree_walk.specs.Heads.{IsHeadOf, IsNoHeader, SaysHead, head_looks_up};
 
 use crate::fault::WalkFault;
 use flash_tree::Key;
@@ -31,7 +31,8 @@ impl Head {
     /// of a directory's slots.
     pub(crate) fn looks_up(&self, page_bytes: u32, chunk: u64) -> bool
         requires { 512 ≤ page_bytes }
-        ensures { (z : Sizes) (f : Fields) → z.page_bytes ≡ page_bytes → IsHeadOf self.now f → IsTrue result ↔ LooksUp z f chunk }
+        ensures chunks { (z : Sizes) (f : Fields) → z.page_bytes ≡ page_bytes → IsHeadOf self.now f → IsTrue result ↔ LooksUp z f chunk }
+        ensures told { result ≡ head_looks_up page_bytes self.now chunk }
     {
         if chunk == 0 {
             return true;

@@ -5,6 +5,7 @@ mod directory;
 mod fault;
 mod file;
 mod head;
+mod law;
 mod object;
 mod tree;
 mod volume;
@@ -12,6 +13,7 @@ mod walking;
 
 pub use fault::{RootFault, WalkFault};
 pub use head::Head;
+pub use law::the_headers_tell_the_keys;
 pub use object::{Visited, visit};
 pub use tree::{NamedObject, Tree};
 pub use volume::root;

@@ -27,7 +27,7 @@ pub struct Tree {
 }
 
 impl Tree {
-    ghost use Rattle.tree_walk.specs.Trees.{Tells, IsLookedUp, head_at, names_of, numbers_of, page_size};
+    ghost use Rattle.tree_walk.specs.Trees.{Tells, IsLookedUp, head_at, keeps_key, names_of, numbers_of, page_size};
 
     /// The numbers of the objects.
     pub fn objects(&self) -> &[u64]
@@ -53,7 +53,8 @@ impl Tree {
     /// Whether the page of a key is looked up to see the tree: a header, a chunk of a file that is present, or a page of
     /// slots.
     pub fn looks_up(&self, key: Key) -> bool
-        ensures { (z : Sizes) (m : PageMap) → z.page_bytes ≡ page_size self.now → Tells z (has m) self.now
+        ensures told { result ≡ keeps_key self.now key.object key.chunk }
+        ensures keys { (z : Sizes) (m : PageMap) → z.page_bytes ≡ page_size self.now → Tells z (has m) self.now
             → IsTrue result ↔ IsLookedUp z (has m) (numbers_of self.now) key.object key.chunk }
     {
         match self.heads.get(&key.object) {

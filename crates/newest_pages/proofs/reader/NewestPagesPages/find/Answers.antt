@@ -1,5 +1,5 @@
 use Rattle.std.proofs.Common.{◌∙◌, sym}
-use Rattle.newest_pages.proofs.Reading.{fault_seen}
+use Rattle.newest_pages.specs.laws.Reading.{fault_seen}
 use Rattle.newest_pages.proofs.reader.NewestPagesPages.find.Goals as goal
 
 pub returns-in-Some-clause-fault : goal.returns-in-Some-clause-fault

@@ -4,8 +4,8 @@ use Rattle.volume_terms.specs.Sizes.{page_slots}
 use Rattle.tree_walk.proofs.Looking.{directory_looks}
 use Rattle.tree_walk.proofs.head.Head.looks_up.Goals as goal
 
-pub returns-in-Directory : goal.returns-in-Directory
-returns-in-Directory c = λ z f size is.
+pub returns-in-Directory-clause-chunks : goal.returns-in-Directory-clause-chunks
+returns-in-Directory-clause-chunks c = λ z f size is.
     let slots : c.from.result ≡ page_slots z = c.from.ensures ∙ ap (λ n. n / 272) (sym size) in
     let count : c.div_ceil.result ≡ div_ceil c.args.self.now.length (page_slots z) = c.div_ceil.ensures ∙ ap (div_ceil c.args.self.now.length) slots in
     let from : 1 ≤ c.args.chunk = omega (arith, c.if-chunk-eq0.false) in

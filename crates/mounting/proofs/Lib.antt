@@ -1,0 +1,5 @@
+pub mod Finding
+pub mod Pigeons
+pub mod Pruning
+pub mod Answering
+pub mod Shown

@@ -1,0 +1,146 @@
+-- The tables once all pages but those of some keys are forgotten.
+use Rattle.std.specs.Prelude.{◌≡◌, ◌<◌, ◌≤◌, ℕ, ◌+◌, Bool, true, false, List, length, Some, None, slice_get}
+use Rattle.std.proofs.Common.{refl, sym, ◌∙◌, ap, subst, inl, inr, arith}
+use Rattle.std.proofs.lemmas.Bool.{cases_Bool}
+use Rattle.nand_model.specs.Flash.{Flash}
+use Rattle.nand_model.specs.Calls.{Device}
+use Rattle.nand_model.specs.Changes.{OnlyReads}
+use Rattle.nand_model.specs.declared.geometry.Geometry.{Geometry}
+use Rattle.page_tags.specs.declared.tag.Tag.{Tag}
+use Rattle.flash_tree.specs.Groups.{HasTag}
+use Rattle.flash_tree.specs.Newest.{Spot, IsNewest, Numbers, AreGreatest}
+use Rattle.flash_tree.specs.laws.Finding.{slice_get_there}
+use Rattle.flash_tree.specs.laws.Newest.{one_tag}
+use Rattle.flash_tree.specs.laws.Place.{same_flash}
+use Rattle.flash_tree.specs.declared.place.Key.{Key}
+use Rattle.block_state.specs.Table.{Table}
+use Rattle.chunk_index.specs.Counts.{Recounts}
+use Rattle.chunk_index.specs.Listing.{block_keys}
+use Rattle.chunk_index.specs.Maps.{kept_pages, kept_in, present, CountsAgree, Retains}
+use Rattle.chunk_index.specs.declared.form.KeptKey.{KeptKey}
+use Rattle.chunk_index.specs.declared.form.KeptPage.{KeptPage}
+use Rattle.chunk_index.specs.declared.form.Present.TheVariants as presents
+use Rattle.chunk_index.specs.declared.index.Index.{Index}
+use Rattle.transactions.specs.Ready.{IsReady}
+use Rattle.bad_blocks.specs.Standing.{IsKeptAt, AreKept, MayLie}
+use Rattle.newest_pages.specs.Opened.{IsOpened, AreLeft, kept_at}
+use Rattle.mounting.specs.Marked.{AreFitting}
+use Rattle.mounting.specs.Tables.{IsPruned}
+use Rattle.mounting.proofs.Pigeons.{no_more_than_places}
+
+module _ (keeps : ℕ → ℕ → Bool) (a b : Device) (t u : Table) (x y : Index) (n : Numbers) (reads : OnlyReads a b) (opened : IsOpened a t x n) (retains : Retains keeps x y)
+    (counts : CountsAgree u y) (recounts : Recounts (kept_in x) (kept_in y) t u) where
+  was_honest : b.honest ≡ true → a.honest ≡ true
+  was_honest honest = sym reads.lasts.honest ∙ honest
+
+  flash_is : b.honest ≡ true → b.flash ≡ a.flash
+  flash_is honest = same_flash a b reads (was_honest honest)
+
+  -- what is kept was kept before
+  was_kept : (o c : ℕ) (p : KeptPage) → kept_pages y o c ≡ Some p → kept_pages x o c ≡ Some p
+  was_kept o c p is = elim (cases_Bool (keeps o c)) [
+    | inl stays ↦ sym (retains.kept o c stays) ∙ is
+    | inr goes ↦ let two : None ≡ Some p = sym (retains.kept_no_more o c goes) ∙ is in absurd cc
+  ]
+
+  unbuffered : (o c i : ℕ) → present y o c ≡ presents.InBuffer i → ⊥
+  unbuffered o c i is = elim (cases_Bool (keeps o c)) [
+    | inl stays ↦ opened.unbuffered o c i (sym (retains.present o c stays) ∙ is)
+    | inr goes ↦ let two : presents.Absent ≡ presents.InBuffer i = sym (retains.present_no_more o c goes) ∙ is in absurd cc
+  ]
+
+  closed : u.open_block ≡ None
+  closed = recounts.open_block ∙ opened.closed
+
+  geometry : u.geometry ≡ b.geometry
+  geometry = recounts.geometry ∙ opened.geometry ∙ sym reads.lasts.geometry
+
+  ready : AreLeft n → IsReady b u
+  ready left =
+      let was = opened.ready left in
+      record {
+        geometry = geometry;
+        marks = λ k. recounts.bad k ∙ was.marks k ∙ sym (ap (λ (f : ℕ → Bool). f k) reads.bad);
+        open_block = λ o is. absurd (let two : None ≡ Some o = sym closed ∙ is in cc);
+        numbers = (subst (λ k. 1 ≤ k) (sym recounts.next_group) was.numbers.0, subst (λ k. 1 ≤ k) (sym recounts.next_seq) was.numbers.1);
+        below = below;
+      } where
+    below : b.honest ≡ true → (k p : ℕ) (tag : Tag) → b.flash.bad k ≡ false → HasTag b.flash k p tag → (tag.version < u.next_group) × (tag.group < u.next_group) × (tag.seq < u.next_seq)
+    below honest k p tag good has =
+        let same : b.flash ≡ a.flash = flash_is honest in
+        let before = (opened.ready left).below (was_honest honest) k p tag (sym (ap (λ (f : Flash). f.bad k) same) ∙ good) (subst (λ (f : Flash). HasTag f k p tag) same has) in
+        (subst (λ m. tag.version < m) (sym recounts.next_group) before.0, subst (λ m. tag.group < m) (sym recounts.next_group) before.1, subst (λ m. tag.seq < m) (sym recounts.next_seq) before.2)
+
+  lie : AreLeft n → (o c : ℕ) (p : KeptPage) → kept_pages y o c ≡ Some p → MayLie u o c p
+  lie left o c p is =
+      let was = opened.lie left o c p (was_kept o c p is) in
+      record {
+        block = subst (λ (g : Geometry). p.block < g.blocks) (sym recounts.geometry) was.block;
+        page = subst (λ (g : Geometry). p.page < g.pages) (sym recounts.geometry) was.page;
+        name = record {
+          object = was.name.object;
+          chunk = was.name.chunk;
+          version = (was.name.version.0, subst (λ m. p.version ≤ m) (sym recounts.next_group) was.name.version.1);
+        };
+      }
+
+  pub pruned : IsPruned keeps b u y n
+  pruned = record {
+    counts = counts;
+    geometry = geometry;
+    closed = closed;
+    unbuffered = unbuffered;
+    within = λ o c p is. subst (λ (g : Geometry). (p.block < g.blocks) × (p.page < g.pages)) (sym reads.lasts.geometry) (opened.within o c p (was_kept o c p is));
+    newest = λ honest o c p is. subst (λ (f : Flash). IsKeptAt f o c p) (sym (flash_is honest)) (opened.newest (was_honest honest) o c p (was_kept o c p is));
+    all = λ honest o c s stays newest. retains.kept o c stays ∙ opened.all (was_honest honest) o c s (subst (λ (f : Flash). IsNewest f o c s) (flash_is honest) newest);
+    others = retains.kept_no_more;
+    numbers = λ honest. subst (λ (f : Flash). AreGreatest f n) (sym (flash_is honest)) (opened.numbers (was_honest honest));
+    ready = ready;
+    group = λ left. recounts.next_group ∙ opened.group left;
+    seq = λ left. recounts.next_seq ∙ opened.seq left;
+    lie = lie;
+  }
+
+-- the lists of the keys that are kept in a block are whole
+pub record ListsAreWhole : Type 0 where
+  pub kept : (x : Index) (b i : ℕ) (k : KeptKey) → slice_get (block_keys x b) i ≡ Some k → kept_pages x k.key.object k.key.chunk ≡ Some k.at
+  pub here : (x : Index) (b i : ℕ) (k : KeptKey) → slice_get (block_keys x b) i ≡ Some k → k.at.block ≡ b
+  pub count : (x : Index) (b : ℕ) → length (block_keys x b) ≡ kept_in x b
+  pub once : (x : Index) (b i j : ℕ) (k l : KeptKey) → slice_get (block_keys x b) i ≡ Some k → slice_get (block_keys x b) j ≡ Some l → k.key ≡ l.key → i ≡ j
+
+-- On an honest device no block has more kept pages than it has pages: two keys are never in one page, since a page has one tag.
+module _ (lists : ListsAreWhole) (pages : ℕ) (flash : Flash) (x : Index) (kept : AreKept flash (kept_pages x)) (within : (o c : ℕ) (p : KeptPage) → kept_pages x o c ≡ Some p → p.page < pages) (b : ℕ) where
+  at : (i : ℕ) → i < kept_in x b → (k : KeptKey) × (slice_get (block_keys x b) i ≡ Some k)
+  at i lt = let count = lists.count x b in slice_get_there (block_keys x b) i (omega (arith, lt, count))
+
+  abbrev page_at : (i : ℕ) → i < kept_in x b → ℕ
+  page_at i lt = (at i lt).0.at.page
+
+  below : (i : ℕ) (lt : i < kept_in x b) → page_at i lt < pages
+  below i lt = let k = at i lt in within k.0.key.object k.0.key.chunk k.0.at (lists.kept x b i k.0 k.1)
+
+  -- two keys in one page are one key
+  one_key : (k l : KeptKey) → kept_pages x k.key.object k.key.chunk ≡ Some k.at → kept_pages x l.key.object l.key.chunk ≡ Some l.at → k.at.block ≡ l.at.block → k.at.page ≡ l.at.page → k.key ≡ l.key
+  one_key k l is also block page =
+      let first = kept k.key.object k.key.chunk k.at is in
+      let second = kept l.key.object l.key.chunk l.at also in
+      let moved : HasTag flash l.at.block l.at.page first.tag = subst (λ q. HasTag flash l.at.block q first.tag) page (subst (λ q. HasTag flash q k.at.page first.tag) block first.newest.holds.has) in
+      let same : first.tag ≡ second.tag = one_tag flash l.at.block l.at.page first.tag second.tag moved second.newest.holds.has in
+      let object : k.key.object ≡ l.key.object = sym first.newest.holds.object ∙ ap (λ (t : Tag). t.object) same ∙ second.newest.holds.object in
+      let chunk : k.key.chunk ≡ l.key.chunk = sym first.newest.holds.chunk ∙ ap (λ (t : Tag). t.chunk) same ∙ second.newest.holds.chunk in
+      λ i. record { object = object i; chunk = chunk i }
+
+  once : (i j : ℕ) (k : i < kept_in x b) (l : j < kept_in x b) → page_at i k ≡ page_at j l → i ≡ j
+  once i j k l same =
+      let one = at i k in
+      let two = at j l in
+      lists.once x b i j one.0 two.0 one.1 two.1
+      (one_key one.0 two.0 (lists.kept x b i one.0 one.1) (lists.kept x b j two.0 two.1) (lists.here x b i one.0 one.1 ∙ sym (lists.here x b j two.0 two.1)) same)
+
+  pub few_kept : kept_in x b ≤ pages
+  few_kept = no_more_than_places (kept_in x b) pages page_at below once
+
+pub fitting : (lists : ListsAreWhole) (keeps : ℕ → ℕ → Bool) (d : Device) (t : Table) (x : Index) (n : Numbers) → IsPruned keeps d t x n → d.honest ≡ true → AreFitting t
+fitting lists keeps d t x n pruned honest b =
+    let few = few_kept lists t.geometry.pages d.flash x (pruned.newest honest) (λ o c p is. subst (λ (g : Geometry). p.page < g.pages) (sym pruned.geometry) (pruned.within o c p is).1) b in
+    omega (arith, few, pruned.counts.counts b)

@@ -1,0 +1,161 @@
+-- The tree that a device shows, and what a mount answers of it.
+use Rattle.std.specs.Prelude.{◌≡◌, ◌↔◌, ◌<◌, ◌≤◌, ℕ, ◌+◌, Bool, true, false, List, [], ◌∷◌, Option, Some, None}
+use Rattle.std.specs.Option.{option_and_then}
+use Rattle.std.proofs.Common.{refl, sym, ◌∙◌, ap, subst, inl, inr, arith}
+use Rattle.std.proofs.lemmas.Bool.{cases_lt}
+use Rattle.nand_model.specs.Flash.{Flash, Written, IsWithin, IsSized}
+use Rattle.nand_model.specs.Calls.{Device}
+use Rattle.nand_model.specs.declared.geometry.Geometry.{Geometry}
+use Rattle.page_tags.specs.Tags.{tag_bytes}
+use Rattle.volume_terms.specs.Sizes.{Sizes, capacity, root_number}
+use Rattle.posix_profile.specs.State.{Objects}
+use Rattle.posix_profile.specs.Charge.{charge}
+use Rattle.flash_tree.specs.Newest.{Spot, IsNewest, HasNewest, Numbers}
+use Rattle.flash_tree.specs.Tree.{Shows}
+use Rattle.flash_tree.specs.Mount.{Wholly, GoesThrough, NamesTwice, Answers, IsWrong, IsDamaged, IsTreeOf as answer_tree, sizes_of, IsVolume, bad_blocks}
+use Rattle.block_state.specs.Kept.{bad_count, unkept_count}
+use Rattle.block_state.specs.Table.{Table}
+use Rattle.chunk_index.specs.Free.{HasMarks}
+use Rattle.chunk_index.specs.Maps.{KeptMap, kept_pages, CountsAgree}
+use Rattle.chunk_index.specs.declared.form.KeptPage.{KeptPage}
+use Rattle.chunk_index.specs.declared.index.Index.{Index}
+use Rattle.bad_blocks.specs.Standing.{AreKept, IsKeptAt}
+use Rattle.object_pages.specs.Holding.{HoldsObjects}
+use Rattle.page_buffer.specs.Shown.{data_of, data_at, kept_data}
+use Rattle.pages.specs.Maps.{PageMap, has}
+use Rattle.pages.specs.Stores.{bad_on, Carries}
+use Rattle.newest_pages.specs.Opened.{kept_at}
+use Rattle.tree_walk.specs.Trees.{IsLookedUp, Tells, keeps_key, numbers_of, page_size}
+use Rattle.tree_walk.specs.declared.tree.Tree.{Tree}
+use Rattle.mount_answers.specs.Footprints.{KeepsFootprint, IsFootprint}
+use Rattle.mount_answers.specs.KeptTrees.{LieNewest, KeepsOnlyTree}
+use Rattle.mount_answers.specs.Newest.{IsNewestMap}
+use Rattle.mounting.specs.Marked.{marked}
+use Rattle.mounting.specs.Mounted.{IsTreeOn, IsTreeRead, IsTreeShown, HasRoomOn}
+use Rattle.mounting.specs.Tables.{IsPruned}
+
+-- the laws that are used
+pub record TreeLaws : Type 0 where
+  pub shown : (g : Geometry) (flash : Flash) (m : PageMap) (spare : ℕ) (list : List ℕ) → IsWithin g.pages g.blocks flash → IsSized g.bytes flash
+      → IsNewestMap flash m → IsVolume g (has m) spare → GoesThrough (sizes_of g spare) (has m) (root_number ∷ []) 0 (Wholly list)
+      → (NamesTwice (sizes_of g spare) (has m) list → ⊥)
+      → (objects : Objects) × Shows (sizes_of g spare) (has m) objects × Shows (sizes_of g spare) (HasNewest flash) objects
+  pub holds : (g : Geometry) (spare : ℕ) (m part : PageMap) (objects : Objects) → IsVolume g (has m) spare → Shows (sizes_of g spare) (has m) objects
+      → IsFootprint (sizes_of g spare) m objects part → HoldsObjects (sizes_of g spare) part objects
+  pub full : (g : Geometry) (flash : Flash) (m : PageMap) (spare : ℕ) (objects : Objects) → IsNewestMap flash m → IsVolume g (has m) spare
+      → Shows (sizes_of g spare) (has m) objects → capacity (sizes_of g spare) < charge (sizes_of g spare) objects → Answers g flash (IsWrong IsDamaged)
+  pub scarce : (g : Geometry) (flash : Flash) (m : PageMap) (spare : ℕ) (objects : Objects) (x : Index) (t : Table) → IsNewestMap flash m → IsVolume g (has m) spare
+      → Shows (sizes_of g spare) (has m) objects → t.geometry ≡ g → CountsAgree t x → HasMarks flash t → KeepsOnlyTree flash (sizes_of g spare) m objects (kept_pages x)
+      → bad_count t ≤ spare → unkept_count t + bad_count t < 1 + spare → Answers g flash (IsWrong IsDamaged)
+  pub room : (g : Geometry) (flash : Flash) (m : PageMap) (spare : ℕ) (objects : Objects) (x : Index) (t : Table) → IsNewestMap flash m → IsVolume g (has m) spare
+      → Shows (sizes_of g spare) (has m) objects → t.geometry ≡ g → CountsAgree t x → HasMarks flash t → KeepsOnlyTree flash (sizes_of g spare) m objects (kept_pages x)
+      → charge (sizes_of g spare) objects ≤ capacity (sizes_of g spare) → (bad_count t ≤ spare → 1 + spare ≤ unkept_count t + bad_count t)
+      → Answers g flash (answer_tree spare objects)
+  pub test : (z : Sizes) (m : PageMap) (objects : Objects) (list : List ℕ) (keeps : ℕ → ℕ → Bool) → 32 ≤ z.page_bytes → z.page_bytes ≤ 4096 → Shows z (has m) objects
+      → GoesThrough z (has m) (root_number ∷ []) 0 (Wholly list) → ((o c : ℕ) → (keeps o c ≡ true) ↔ IsLookedUp z (has m) list o c) → KeepsFootprint z m objects keeps
+  pub part : (z : Sizes) (m part : PageMap) (objects : Objects) (keeps : ℕ → ℕ → Bool) → KeepsFootprint z m objects keeps
+      → ((o c : ℕ) → keeps o c ≡ true → part o c ≡ m o c) → ((o c : ℕ) → keeps o c ≡ false → part o c ≡ None) → IsFootprint z m objects part
+  pub kept : (flash : Flash) (z : Sizes) (m : PageMap) (objects : Objects) (keeps : ℕ → ℕ → Bool) (kept : KeptMap) → KeepsFootprint z m objects keeps → LieNewest flash kept
+      → ((o c : ℕ) (s : Spot) → keeps o c ≡ true → IsNewest flash o c s → (p : KeptPage) × (kept o c ≡ Some p)) → ((o c : ℕ) → keeps o c ≡ false → kept o c ≡ None)
+      → KeepsOnlyTree flash z m objects kept
+  pub keys : (z : Sizes) (m : PageMap) (tree : Tree) → z.page_bytes ≡ page_size tree → Tells z (has m) tree
+      → (o c : ℕ) → (keeps_key tree o c ≡ true) ↔ IsLookedUp z (has m) (numbers_of tree) o c
+  pub bad : (t : Table) (flash : Flash) → HasMarks flash t → bad_count t ≡ bad_blocks t.geometry flash
+
+-- the data of a page that is the newest of its key
+data_is : (flash : Flash) (o c : ℕ) (k : KeptPage) (at : IsKeptAt flash o c k) → data_at flash k ≡ Some at.newest.holds.has.bytes
+data_is flash o c k at = ap data_of at.newest.holds.has.page
+
+newest_of : (flash : Flash) (o c : ℕ) (xs : List ℕ) (k : KeptPage) → IsKeptAt flash o c k → data_at flash k ≡ Some xs → HasNewest flash o c xs
+newest_of flash o c xs k at is =
+    let two : Some at.newest.holds.has.bytes ≡ Some xs = sym (data_is flash o c k at) ∙ is in
+    let same : at.newest.holds.has.bytes ≡ xs = cc in
+    record {
+      spot = record { block = k.block; page = k.page; tag = at.tag };
+      newest = at.newest;
+      stored = at.newest.holds.has.page ∙ ap (λ ys. Written ys (tag_bytes at.tag)) same;
+    }
+
+from_kept : (flash : Flash) (o c : ℕ) (xs : List ℕ) (m : Option KeptPage) → ((k : KeptPage) → m ≡ Some k → IsKeptAt flash o c k) → option_and_then (data_at flash) m ≡ Some xs → HasNewest flash o c xs
+from_kept flash o c xs None kept is = absurd cc
+from_kept flash o c xs (Some k) kept is = newest_of flash o c xs k (kept k refl) is
+
+-- what is kept is the newest
+pub kept_newest : (flash : Flash) (x : Index) → AreKept flash (kept_pages x) → Carries flash (kept_data x flash)
+kept_newest flash x kept o c xs is = from_kept flash o c xs (kept_pages x o c) (kept o c) is
+
+module _ (laws : TreeLaws) (d : Device) (t : Table) (x : Index) (n : Numbers) (spare : ℕ) (tree : Tree) (within : IsWithin d.geometry.pages d.geometry.blocks d.flash) (sized : IsSized d.geometry.bytes d.flash)
+    (pruned : IsPruned (keeps_key tree) d t x n) (honest : d.honest ≡ true) (on : IsTreeOn d spare tree) where
+  abbrev z : Sizes
+  z = sizes_of d.geometry spare
+
+  abbrev m : PageMap
+  m = on.pages
+
+  -- a key that stays has its newest page, and so what the map has
+  stays : (o c : ℕ) → keeps_key tree o c ≡ true → kept_data x d.flash o c ≡ m o c
+  stays o c keeps = go (m o c) (kept_data x d.flash o c) refl refl where
+    held : (xs : List ℕ) → m o c ≡ Some xs → kept_data x d.flash o c ≡ Some xs
+    held xs is =
+        let newest = (on.newest o c xs).0 is in
+        ap (option_and_then (data_at d.flash)) (pruned.all honest o c newest.spot keeps newest.newest) ∙ ap data_of newest.stored
+
+    go : (a b : Option (List ℕ)) → m o c ≡ a → kept_data x d.flash o c ≡ b → kept_data x d.flash o c ≡ m o c
+    go (Some xs) b is told = held xs is ∙ sym is
+    go None None is told = told ∙ sym is
+    go None (Some ys) is told =
+        let there : m o c ≡ Some ys = (on.newest o c ys).1 (kept_newest d.flash x (pruned.newest honest) o c ys told) in
+        let two : None ≡ Some ys = sym is ∙ there in
+        absurd cc
+
+  goes : (o c : ℕ) → keeps_key tree o c ≡ false → kept_data x d.flash o c ≡ None
+  goes o c not_kept = ap (option_and_then (data_at d.flash)) (pruned.others o c not_kept)
+
+  lies : LieNewest d.flash (kept_pages x)
+  lies o c p is = let at = pruned.newest honest o c p is in (record { block = p.block; page = p.page; tag = at.tag }, at.newest, refl)
+
+  pub shows : (objects : Objects) × Shows z (has m) objects × Shows z (HasNewest d.flash) objects
+  shows = laws.shown d.geometry d.flash m spare (numbers_of tree) within sized on.newest on.through.volume on.through.tree_is.through on.through.tree_is.once
+
+  module _ (objects : Objects) (shown : Shows z (has m) objects) where
+    footprint : KeepsFootprint z m objects (keeps_key tree)
+    footprint =
+        let size = d.geometry.least_bytes in
+        laws.test z m objects (numbers_of tree) (keeps_key tree) (omega (arith, size)) d.geometry.most_bytes shown on.through.tree_is.through (laws.keys z m tree (sym on.through.size) on.through.tree_is.heads)
+
+    pub holds : HoldsObjects z (kept_data x d.flash) objects
+    holds = laws.holds d.geometry spare m (kept_data x d.flash) objects on.through.volume shown (laws.part z m (kept_data x d.flash) objects (keeps_key tree) footprint stays goes)
+
+    only : KeepsOnlyTree d.flash z m objects (kept_pages x)
+    only = laws.kept d.flash z m objects (keeps_key tree) (kept_pages x) footprint lies (λ o c s keeps newest. (kept_at s, pruned.all honest o c s keeps newest)) pruned.others
+
+    counts : CountsAgree (marked d.flash t) x
+    counts = record { counts = pruned.counts.counts; within = pruned.counts.within }
+
+    marks : HasMarks d.flash (marked d.flash t)
+    marks b lt = refl
+
+    bad_is : bad_count (marked d.flash t) ≡ bad_on d
+    bad_is = laws.bad (marked d.flash t) d.flash marks ∙ ap (λ (g : Geometry). bad_blocks g d.flash) pruned.geometry
+
+    pub answers_room : charge z objects ≤ capacity z → HasRoomOn d t spare → Answers d.geometry d.flash (answer_tree spare objects)
+    answers_room fits room = laws.room d.geometry d.flash m spare objects x (marked d.flash t) on.newest on.through.volume shown pruned.geometry counts marks only fits
+        (λ few. let enough = room (omega (arith, few, bad_is)) in omega (arith, enough, bad_is))
+
+    pub answers_full : (charge z objects ≤ capacity z → ⊥) → Answers d.geometry d.flash (IsWrong IsDamaged)
+    answers_full over = laws.full d.geometry d.flash m spare objects on.newest on.through.volume shown (elim (cases_lt (capacity z) (charge z objects)) [
+      | inl lt ↦ lt
+      | inr le ↦ absurd (over le)
+    ])
+
+    pub answers_scarce : (HasRoomOn d t spare → ⊥) → Answers d.geometry d.flash (IsWrong IsDamaged)
+    answers_scarce none = elim (cases_lt spare (bad_count (marked d.flash t))) [
+      | inl many ↦ absurd (none (λ few. absurd (omega (arith, few, many, bad_is))))
+      | inr few ↦ elim (cases_lt (unkept_count (marked d.flash t) + bad_count (marked d.flash t)) (1 + spare)) [
+        | inl lt ↦ laws.scarce d.geometry d.flash m spare objects x (marked d.flash t) on.newest on.through.volume shown pruned.geometry counts marks only few lt
+        | inr ge ↦ absurd (none (λ f. omega (arith, ge, bad_is)))
+      ]
+    ]
+
+    pub tree_shown : IsTreeShown d x spare tree objects
+    tree_shown = record { on = on; shows = shown; holds = holds }

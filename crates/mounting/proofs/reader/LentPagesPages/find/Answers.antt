@@ -1,0 +1,10 @@
+use Rattle.std.proofs.Common.{◌∙◌, sym}
+use Rattle.newest_pages.specs.laws.Reading.{fault_seen}
+use Rattle.mounting.proofs.reader.LentPagesPages.find.Goals as goal
+
+pub returns-in-Some-clause-fault : goal.returns-in-Some-clause-fault
+returns-in-Some-clause-fault g c =
+    let self = c.args.self.now in
+    let new = c.read.new.self in
+    fault_seen (g.N.Nand.state self.device) (g.N.Nand.state new.device) self.index.now new.index.now new.page.items c.args.key.object c.args.key.chunk c.in-Some.at c.read.result
+    c.read.ensures.reads (sym c.kept.ensures ∙ c.in-Some.is) self.written c.read.ensures.fault

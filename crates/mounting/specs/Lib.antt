@@ -1,0 +1,5 @@
+pub mod Marked
+pub mod Tables
+pub mod Trees
+pub mod Faults
+pub mod Mounted

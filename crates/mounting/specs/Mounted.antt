@@ -1,0 +1,43 @@
+-- A device that is mounted.
+-- From: this project.
+use Rattle.std.specs.Prelude.{◌≡◌, ◌≤◌, ℕ, ◌+◌, true}
+use Rattle.nand_model.specs.Calls.{Device}
+use Rattle.flash_tree.specs.Newest.{Numbers}
+use Rattle.flash_tree.specs.Mount.{Answers, IsTreeOf, sizes_of}
+use Rattle.block_state.specs.Kept.{unkept_count}
+use Rattle.block_state.specs.Table.{Table}
+use Rattle.chunk_index.specs.declared.index.Index.{Index}
+use Rattle.object_pages.specs.Holding.{HoldsObjects}
+use Rattle.page_buffer.specs.Shown.{kept_data}
+use Rattle.pages.specs.Maps.{PageMap, has}
+use Rattle.pages.specs.Stores.{bad_on}
+use Rattle.posix_profile.specs.State.{Objects}
+use Rattle.tree_walk.specs.Trees.{keeps_key}
+use Rattle.tree_walk.specs.declared.tree.Tree.{Tree}
+use Rattle.flash_tree.specs.Tree.{Shows}
+use Rattle.mount_answers.specs.Newest.{IsNewestMap}
+use Rattle.mounting.specs.Marked.{marked}
+use Rattle.mounting.specs.Tables.{IsPruned}
+use Rattle.mounting.specs.Trees.{IsGoneThrough}
+
+-- the tree of the newest pages of a device was gone through wholly
+pub record IsTreeOn (device : Device) (spare : ℕ) (tree : Tree) : Type 0 where
+  pub pages : PageMap
+  pub newest : IsNewestMap device.flash pages
+  pub through : IsGoneThrough device.geometry (has pages) spare tree
+
+-- The pages of a tree are kept, and nothing else; and on an honest device the tree is that of its newest pages.
+pub record IsTreeRead (device : Device) (t : Table) (x : Index) (n : Numbers) (spare : ℕ) (tree : Tree) : Type 0 where
+  pub tables : IsPruned (keeps_key tree) device t x n
+  pub tree_on : device.honest ≡ true → IsTreeOn device spare tree
+
+-- blocks enough are bad or without a kept page, unless more are bad than there are to spare
+abbrev pub HasRoomOn : Device → Table → (spare : ℕ) → Type 0
+HasRoomOn device t spare = bad_on device ≤ spare → 1 + spare ≤ unkept_count (marked device.flash t) + bad_on device
+
+-- These objects are the tree that the newest pages show, and the pages that are kept are theirs and no others. What is told of
+-- the tree is told of pages that show them.
+pub record IsTreeShown (device : Device) (x : Index) (spare : ℕ) (tree : Tree) (objects : Objects) : Type 0 where
+  pub on : IsTreeOn device spare tree
+  pub shows : Shows (sizes_of device.geometry spare) (has on.pages) objects
+  pub holds : HoldsObjects (sizes_of device.geometry spare) (kept_data x device.flash) objects

@@ -1,0 +1,16 @@
+//! The mount of a device: its newest pages, the tree that they show, and whether a volume can go on with it.
+#![tactic(auto)]
+
+mod fault;
+mod going_on;
+mod keys;
+mod marks;
+mod naming;
+mod prune;
+mod reader;
+mod reading;
+mod scanning;
+mod tree;
+mod tree_on;
+
+pub use fault::MountFault;

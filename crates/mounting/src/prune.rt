@@ -1,0 +1,51 @@
+// The tables of a tree, without the pages of anything else.
+ghost use Rattle.std.specs.Prelude.{◌≡◌, ◌↔◌, ◌<◌, ◌≤◌, ◌+◌, ℕ, IsTrue};
+ghost use Rattle.nand_model.specs.Calls.{Device};
+ghost use Rattle.nand_model.specs.Changes.{OnlyReads};
+ghost use Rattle.flash_tree.specs.Newest.{Numbers};
+ghost use Rattle.block_state.specs.Kept.{unkept_count};
+ghost use Rattle.block_state.specs.TableOf.{table};
+ghost use Rattle.chunk_index.specs.Maps.{CountsAgree};
+ghost use Rattle.newest_pages.specs.Opened.{IsOpened};
+ghost use Rattle.tree_walk.specs.Trees.{keeps_key};
+ghost use Rattle.pages.specs.Stores.{bad_on};
+ghost use Rattle.mounting.specs.Marked.{marked};
+ghost use Rattle.mounting.specs.Tables.{IsPruned};
+
+use crate::keys::TreeKeys;
+use crate::marks::{count_bad, count_unkept};
+use block_state::Blocks;
+use chunk_index::Index;
+use nand_model::Nand;
+use tree_walk::Tree;
+
+/// Forgets all pages but those that a tree looks up.
+pub(crate) fn prune(tree: &Tree, index: &mut Index, blocks: &mut Blocks)
+    requires { CountsAgree (table blocks.old) index.old }
+    ensures { (a b : Device) (n : Numbers) → OnlyReads a b → IsOpened a (table blocks.old) index.old n → IsPruned (keeps_key tree.now) b (table blocks.new) index.new n }
+{
+    index.retain(&TreeKeys { tree }, blocks);
+}
+
+/// Whether no block has more kept pages than it has pages.
+pub(crate) fn are_fitting(blocks: &Blocks) -> bool
+    ensures { IsTrue result ↔ ((b : ℕ) → b < (table blocks.now).geometry.blocks → ((table blocks.now).entry b).kept ≤ (table blocks.now).geometry.pages) }
+{
+    for block in 0..blocks.geometry().blocks() {
+        if blocks.entry(block).kept > blocks.geometry().pages() {
+            return false;
+        }
+    }
+    true
+}
+
+/// Whether there are blocks enough to go on with: unless more are bad than there are to spare, so many as may still be needed
+/// for retirements, and one for a collection, are bad or without a kept page.
+pub(crate) fn has_room<N: Nand>(device: &N, blocks: &Blocks, spare: u16) -> bool
+    requires { (table blocks.now).geometry ≡ (N.state device.now).geometry }
+    ensures { IsTrue result ↔ (bad_on (N.state device.now) ≤ spare → 1 + spare ≤ unkept_count (marked (N.state device.now).flash (table blocks.now)) + bad_on (N.state device.now)) }
+{
+    let bad = count_bad(device);
+    let spare = u32::from(spare);
+    bad > spare || u64::from(count_unkept(device, blocks)) + u64::from(bad) > u64::from(spare)
+}

@@ -1,0 +1,106 @@
+// The newest pages of a device, over an index that stays.
+ghost use Rattle.std.specs.Prelude.{◌≡◌, ◌<◌, ℕ, length, true, Some, IsSome, IfOk, IfErr, OnOk, ◌≤◌, ◌+◌, ◌⊎◌, None};
+ghost use Rattle.nand_model.specs.Changes.{OnlyReads};
+ghost use Rattle.chunk_index.specs.Maps.{kept_pages};
+ghost use Rattle.chunk_index.specs.declared.form.KeptPage.{KeptPage};
+ghost use Rattle.page_buffer.specs.Shown.{data_at};
+ghost use Rattle.newest_pages.specs.Newest.{seen};
+
+use chunk_index::{Index, KeptPage};
+use flash_tree::Key;
+use nand_model::{Nand, PageKind};
+use pages::{KnownPages, Pages, Presence};
+use std::alloc::{AllocError, Global};
+use volume_terms::StoreFault;
+
+/// The kept pages of a device, which are read and not changed, over an index that is lent.
+#[derive(Drop)]
+pub(crate) struct LentPages<'a, N: Nand> {
+    pub(crate) device: N,
+    pub(crate) index: &'a Index,
+    // The page that was found last.
+    pub(crate) page: Vec<u8>,
+    ghost size: { length page.items ≡ (N.state device).geometry.bytes },
+    ghost lie: { (o c : ℕ) (k : KeptPage) → kept_pages index.now o c ≡ Some k → (k.block < (N.state device).geometry.blocks) × (k.page < (N.state device).geometry.pages) },
+    ghost written: { (N.state device).honest ≡ true → (o c : ℕ) (k : KeptPage) → kept_pages index.now o c ≡ Some k → IsSome (data_at (N.state device).flash k) },
+}
+
+impl<'a, N: Nand> LentPages<'a, N> {
+    /// The pages that an index keeps on a device. Where memory is refused the device is given back.
+    pub(crate) fn new(
+        alloc: Global,
+        device: N,
+        index: &'a Index,
+    ) -> Result<LentPages<'a, N>, (N, AllocError)>
+        requires lie { (o c : ℕ) (k : KeptPage) → kept_pages index.now o c ≡ Some k → (k.block < (N.state device).geometry.blocks) × (k.page < (N.state device).geometry.pages) }
+        requires written { (N.state device).honest ≡ true → (o c : ℕ) (k : KeptPage) → kept_pages index.now o c ≡ Some k → IsSome (data_at (N.state device).flash k) }
+        ensures device { IfOk result (λ pages. N.state pages.device ≡ N.state device) }
+        ensures index { IfOk result (λ pages. pages.index.now ≡ index.now) }
+        ensures given_back { IfErr result (λ back. N.state back.0 ≡ N.state device) }
+    {
+        match vec![in alloc; 0u8; device.geometry().bytes() as usize] {
+            Ok(page) => Ok(LentPages {
+                device,
+                index,
+                page,
+            }),
+            Err(refused) => Err((device, refused)),
+        }
+    }
+
+    /// The device, as it is.
+    pub(crate) fn into_device(self) -> N
+        ensures { N.state result ≡ N.state self.entry.device }
+    {
+        self.device
+    }
+
+    /// Reads the page that is kept there.
+    fn read(&mut self, at: KeptPage) -> Result<Presence, StoreFault>
+        requires { (o : ℕ) × (c : ℕ) × (kept_pages self.old.index.now o c ≡ Some at) }
+        ensures reads { OnlyReads (N.state self.old.device) (N.state self.new.device) }
+        ensures index { self.new.index.now ≡ self.old.index.now }
+        ensures asked { (N.state self.new.device).reads ≤ (N.state self.old.device).reads + 1 }
+        ensures there { IfOk result (λ presence. presence ≡ Presence.Present) }
+        ensures page { (N.state self.old.device).honest ≡ true → OnOk result (data_at (N.state self.old.device).flash at ≡ Some self.new.page.items) }
+        ensures fault { IfErr result (λ fault. (fault ≡ StoreFault.Device) × (((N.state self.new.device).gone ≡ true) ⊎ ((N.state self.old.device).honest ≡ true → data_at (N.state self.old.device).flash at ≡ None))) }
+    {
+        let mut tag = [0; 48];
+        match self
+            .device
+            .read_page(at.block, at.page, &mut self.page, &mut tag)
+        {
+            Ok(PageKind::Written) => Ok(Presence::Present),
+            Ok(PageKind::Erased) => Err(StoreFault::Device),
+            Ok(PageKind::Uncorrectable) => Err(StoreFault::Device),
+            Err(_) => Err(StoreFault::Device),
+        }
+    }
+}
+
+impl<N: Nand> Pages for LentPages<'_, N> {
+    ghost state = { λ s. seen (N.state s.device) s.index.now s.page.items };
+
+    ghost sized = { λ s. ((N.state s.device).geometry.least_bytes, (N.state s.device).geometry.most_bytes) };
+
+    fn page_bytes(&self) -> u32 {
+        self.device.geometry().bytes()
+    }
+
+    fn find(&mut self, key: Key) -> Result<Presence, StoreFault> {
+        match self.index.kept(key) {
+            Some(at) => self.read(at),
+            None => Ok(Presence::Absent),
+        }
+    }
+
+    fn page(&self) -> &[u8] {
+        &self.page
+    }
+}
+
+impl<N: Nand> KnownPages for LentPages<'_, N> {
+    fn has(&self, key: Key) -> bool {
+        self.index.kept(key).is_some()
+    }
+}

@@ -1,0 +1,52 @@
+// The tree of a device that was scanned.
+ghost use Rattle.std.specs.Prelude.{◌≡◌, true, IfOk, IfErr};
+ghost use Rattle.nand_model.specs.Changes.{OnlyReads};
+ghost use Rattle.flash_tree.specs.Newest.{Numbers};
+ghost use Rattle.block_state.specs.Table.{Table};
+ghost use Rattle.page_buffer.specs.Shown.{kept_data};
+ghost use Rattle.pages.specs.Maps.{has};
+ghost use Rattle.newest_pages.specs.Opened.{IsOpened};
+ghost use Rattle.mounting.specs.Faults.{WhyNotMounted};
+ghost use Rattle.mounting.specs.Trees.{IsGoneThrough};
+
+use crate::fault::MountFault;
+use crate::naming::mount_fault;
+use crate::reader::LentPages;
+use crate::tree::{FoundTree, find_tree};
+use chunk_index::Index;
+use mount_answers::a_map_of_the_newest_pages_answers;
+use nand_model::Nand;
+use newest_pages::the_opened_pages_are_the_newest;
+use std::alloc::Global;
+
+/// Goes through the tree of a device whose newest pages an index keeps. The device is given back with the tree, or with the
+/// reason why there is none.
+pub(crate) fn read_tree<N: Nand>(
+    alloc: Global,
+    device: N,
+    index: &Index,
+) -> Result<(N, FoundTree), (N, MountFault)>
+    requires { (t : Table) × (n : Numbers) × IsOpened (N.state device) t index.now n }
+    ensures reads { IfOk result (λ read. OnlyReads (N.state device) (N.state read.0)) }
+    ensures tree { (N.state device).honest ≡ true
+        → IfOk result (λ read. IsGoneThrough (N.state device).geometry (has (kept_data index.now (N.state device).flash)) read.1.spare read.1.tree) }
+    ensures back { IfErr result (λ failed. OnlyReads (N.state device) (N.state failed.0)) }
+    ensures fault { IfErr result (λ failed. WhyNotMounted (N.state failed.0) failed.1) }
+{
+    the_opened_pages_are_the_newest();
+    a_map_of_the_newest_pages_answers();
+    let geometry = device.geometry();
+    let mut pages = match LentPages::new(alloc, device, index) {
+        Ok(pages) => pages,
+        Err((device, _)) => return Err((device, MountFault::NoMemory)),
+    };
+    let found = find_tree(alloc, &mut pages, geometry);
+    let mut device = pages.into_device();
+    match found {
+        Ok(tree) => Ok((device, tree)),
+        Err(fault) => {
+            let why = mount_fault(&mut device, fault);
+            Err((device, why))
+        }
+    }
+}

@@ -1,0 +1,28 @@
+// The scan of a device that is mounted.
+ghost use Rattle.std.specs.Prelude.{◌≡◌, true, IfOk, IfErr};
+ghost use Rattle.nand_model.specs.Changes.{OnlyReads};
+ghost use Rattle.flash_tree.specs.Places.{numbers_of};
+ghost use Rattle.block_state.specs.TableOf.{table};
+ghost use Rattle.newest_pages.specs.Opened.{IsOpened};
+ghost use Rattle.mounting.specs.Faults.{WhyNotMounted};
+
+use crate::fault::MountFault;
+use nand_model::Nand;
+use newest_pages::{OpenFault, Opened, open};
+use std::alloc::Global;
+
+/// Scans a device, which is given back with what was found, or with the reason why nothing was.
+pub(crate) fn scan<N: Nand>(alloc: Global, device: N) -> Result<(N, Opened), (N, MountFault)>
+    ensures reads { IfOk result (λ scanned. OnlyReads (N.state device) (N.state scanned.0)) }
+    ensures opened { IfOk result (λ scanned. IsOpened (N.state scanned.0) (table scanned.1.blocks) scanned.1.index (numbers_of scanned.1.numbers)) }
+    ensures back { IfErr result (λ failed. OnlyReads (N.state device) (N.state failed.0)) }
+    ensures fault { IfErr result (λ failed. WhyNotMounted (N.state failed.0) failed.1) }
+{
+    let mut device = device;
+    match open(alloc, &mut device) {
+        Ok(opened) => Ok((device, opened)),
+        Err(OpenFault::NoMemory) => Err((device, MountFault::NoMemory)),
+        Err(OpenFault::Lost) => Err((device, MountFault::Damaged)),
+        Err(OpenFault::Gone) => Err((device, MountFault::Gone)),
+    }
+}

@@ -1,0 +1,51 @@
+// The tree of a volume, read from pages.
+ghost use Rattle.std.specs.Prelude.{◌≡◌, true, IfOk, IfErr};
+ghost use Rattle.pages.specs.Maps.{has};
+ghost use Rattle.pages.specs.State.{OnlyFinds};
+ghost use Rattle.mounting.specs.Trees.{IsGoneThrough, TellsTree, FailsTree, of_walk};
+
+use nand_model::Geometry;
+use pages::KnownPages;
+use std::alloc::Global;
+use tree_walk::{RootFault, Tree, WalkFault, root, walk};
+
+/// A tree that was gone through, of a volume with so many spare blocks.
+#[derive(Drop)]
+pub(crate) struct FoundTree {
+    pub(crate) spare: u16,
+    pub(crate) tree: Tree,
+}
+
+/// The fault of a walk, as one of the root.
+fn root_fault(fault: WalkFault) -> RootFault
+    ensures { result ≡ of_walk fault }
+{
+    match fault {
+        WalkFault::NoMemory => RootFault::NoMemory,
+        WalkFault::Device => RootFault::Device,
+        WalkFault::Newer(format) => RootFault::Newer(format),
+        WalkFault::Damaged => RootFault::Damaged,
+    }
+}
+
+/// Goes through the tree of a volume on a device of these sizes.
+pub(crate) fn find_tree<P: KnownPages>(
+    alloc: Global,
+    pages: &mut P,
+    geometry: Geometry,
+) -> Result<FoundTree, RootFault>
+    ensures finds { OnlyFinds (P.state pages.old) (P.state pages.new) }
+    ensures tree { (P.state pages.old).sound ≡ true → geometry.bytes ≡ (P.state pages.old).page_bytes
+        → IfOk result (λ found. IsGoneThrough geometry (has (P.state pages.old).present) found.spare found.tree) }
+    ensures fault { (P.state pages.old).sound ≡ true → geometry.bytes ≡ (P.state pages.old).page_bytes
+        → IfErr result (TellsTree geometry (has (P.state pages.old).present)) }
+    ensures why { IfErr result (FailsTree (P.state pages.new)) }
+{
+    match root(pages, geometry) {
+        Ok(spare) => match walk(alloc, pages) {
+            Ok(tree) => Ok(FoundTree { spare, tree }),
+            Err(fault) => Err(root_fault(fault)),
+        },
+        Err(fault) => Err(fault),
+    }
+}

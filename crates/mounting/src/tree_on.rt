@@ -1,0 +1,64 @@
+// A device whose tree is read, and whether a volume can go on with it.
+ghost use Rattle.std.specs.Prelude.{◌≡◌, true, IfOk, IfErr};
+ghost use Rattle.nand_model.specs.Changes.{OnlyReads};
+ghost use Rattle.flash_tree.specs.Places.{numbers_of};
+ghost use Rattle.block_state.specs.TableOf.{table};
+ghost use Rattle.mounting.specs.Faults.{WhyNotMounted};
+ghost use Rattle.mounting.specs.Mounted.{IsTreeRead};
+
+use crate::fault::MountFault;
+use crate::prune::prune;
+use crate::reading::read_tree;
+use crate::scanning::scan;
+use block_state::Blocks;
+use chunk_index::Index;
+use flash_tree::TagNumbers;
+use nand_model::Nand;
+use newest_pages::{Opened, the_opened_pages_are_the_newest};
+use std::alloc::Global;
+use tree_walk::Tree;
+
+/// A device whose tree was gone through: the tables of the tree's pages, the greatest numbers, how many blocks are to spare,
+/// and the tree.
+pub(crate) struct TreeOn<N: Nand> {
+    pub(crate) device: N,
+    pub(crate) blocks: Blocks,
+    pub(crate) index: Index,
+    pub(crate) numbers: TagNumbers,
+    pub(crate) spare: u16,
+    pub(crate) tree: Tree,
+}
+
+/// Scans a device and goes through its tree, whose pages alone are kept then.
+pub(crate) fn open_tree<N: Nand>(alloc: Global, device: N) -> Result<TreeOn<N>, (N, MountFault)>
+    ensures reads { IfOk result (λ on. OnlyReads (N.state device) (N.state on.device)) }
+    ensures read { IfOk result (λ on. IsTreeRead (N.state on.device) (table on.blocks) on.index (numbers_of on.numbers) on.spare on.tree) }
+    ensures back { IfErr result (λ failed. OnlyReads (N.state device) (N.state failed.0)) }
+    ensures fault { IfErr result (λ failed. WhyNotMounted (N.state failed.0) failed.1) }
+{
+    the_opened_pages_are_the_newest();
+    let (device, opened) = match scan(alloc, device) {
+        Ok(scanned) => scanned,
+        Err(failed) => return Err(failed),
+    };
+    let Opened {
+        blocks,
+        index,
+        numbers,
+    } = opened;
+    let (device, found) = match read_tree(alloc, device, &index) {
+        Ok(read) => read,
+        Err(failed) => return Err(failed),
+    };
+    let mut blocks = blocks;
+    let mut index = index;
+    prune(&found.tree, &mut index, &mut blocks);
+    Ok(TreeOn {
+        device,
+        blocks,
+        index,
+        numbers,
+        spare: found.spare,
+        tree: found.tree,
+    })
+}

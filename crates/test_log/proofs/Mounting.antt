@@ -21,7 +21,7 @@ use Rattle.chunk_index.specs.Newest.{IsOf, Indexes, page_of}
 use Rattle.transactions.specs.Ready.{AreBelow, IsOpenOn, IsReady}
 use Rattle.mount_scan.specs.Scanned.{TellsNewest, ArePlaced, AreNewest}
 use Rattle.mount_scan.specs.laws.Scan.{found_of, listed_spot}
-use Rattle.bad_blocks.specs.Standing.{IsKeptAt, MayLie, Stands}
+use Rattle.bad_blocks.specs.Standing.{IsKeptAt, MayLie, IsWithinLimits, Stands}
 use Rattle.bad_blocks.specs.Taking.{HasUnkept}
 
 -- one of the first n pages is of the key, or none is
@@ -92,6 +92,7 @@ pub record IsMounted (spare : ℕ) (d : Device) (t : Table) (x : Index) (fs : Li
   pub open_block : t.open_block ≡ None
   pub fits : (b : ℕ) → b < t.geometry.blocks → (t.entry b).kept ≤ t.geometry.pages
   pub unkept : HasUnkept t spare
+  pub limits : IsWithinLimits t
 
 module _ (spare : ℕ) (d : Device) (t : Table) (x : Index) (fs : List Found) (is : IsMounted spare d t x fs) where
   newest_of : (f : Found) → Contains fs f → IsNewest d.flash f.tag.object f.tag.chunk (spot_of f)
@@ -141,6 +142,7 @@ module _ (spare : ℕ) (d : Device) (t : Table) (x : Index) (fs : List Found) (i
       unkept = is.unkept.unkept;
     };
     newest = λ honest power o c p at. kept_at o c p (kept_listed fs x o c p is.indexes at);
+    limits = is.limits;
   }
 
 -- the greatest numbers of a scan are above those of all tags after it too

@@ -1,4 +1,4 @@
-use Rattle.std.proofs.Common.{◌≡◌, refl, sym, subst, ◌∙◌, rules}
+use Rattle.std.proofs.Common.{◌≡◌, refl, sym, subst, ◌∙◌, rules, arith}
 use Rattle.mount_scan.specs.Scanned.{TellsNewest}
 use Rattle.nand_model.specs.MemoryState.{device}
 use Rattle.test_log.proofs.Mounting.{above_read, all_kept, ready_counted, tells_read, stands_mounted}
@@ -22,6 +22,10 @@ returns-clause-stands c =
       open_block = c.in_ok-index.ensures.counts.open_block ∙ c.in_ok-blocks.ensures.open;
       fits = search rules;
       unkept = search rules;
+      limits = (
+        omega (arith, c.in_ok-index.ensures.counts.next_group, c.in_ok-blocks.ensures.group, c.if-found-ge-LIMIT.false),
+        omega (arith, c.in_ok-index.ensures.counts.next_seq, c.in_ok-blocks.ensures.seq, c.if-found-ge-LIMIT-2.false),
+      );
     })
 
 pub returns-clause-all : goal.returns-clause-all

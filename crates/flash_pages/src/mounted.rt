@@ -1,6 +1,6 @@
 // The pages of a mounted volume.
 ghost use Rattle.std.specs.Prelude.{◌≡◌};
-ghost use Rattle.flash_pages.specs.declared.pages.FlashPages.TheVariants as kinds;
+ghost use Rattle.flash_pages.specs.declared.mounted.FlashPages.TheVariants as kinds;
 
 use crate::read_only::ReadOnlyPages;
 use flash_tree::Key;
@@ -51,6 +51,36 @@ impl<N: Nand> Pages for FlashPages<N> {
         match self {
             FlashPages::Store(store) => store.page(),
             FlashPages::ReadOnly(pages) => pages.page(),
+        }
+    }
+}
+
+impl<N: Nand> PageStore for FlashPages<N> {
+    fn most_pages(&self) -> u32 {
+        match self {
+            FlashPages::Store(store) => PageStore::most_pages(store),
+            FlashPages::ReadOnly(pages) => PageStore::most_pages(pages),
+        }
+    }
+
+    fn apply(&mut self, change: Change) -> Result<(), StoreFault> {
+        match self {
+            FlashPages::Store(store) => PageStore::apply(store, change),
+            FlashPages::ReadOnly(pages) => PageStore::apply(pages, change),
+        }
+    }
+
+    fn cut(&mut self, cut: Cut) -> Result<(), StoreFault> {
+        match self {
+            FlashPages::Store(store) => PageStore::cut(store, cut),
+            FlashPages::ReadOnly(pages) => PageStore::cut(pages, cut),
+        }
+    }
+
+    fn commit(&mut self) -> Result<(), StoreFault> {
+        match self {
+            FlashPages::Store(store) => PageStore::commit(store),
+            FlashPages::ReadOnly(pages) => PageStore::commit(pages),
         }
     }
 }

@@ -32,7 +32,12 @@ pub struct ReadOnlyPages<N: Nand> {
 impl<N: Nand> ReadOnlyPages<N> {
     /// These pages of a device whose greatest numbers these are, with so many blocks to spare. A change that is refused
     /// has at most so many pages.
-    pub fn new(pages: NewestPages<N>, greatest: TagNumbers, spare: u32, most: u32) -> ReadOnlyPages<N>
+    pub fn new(
+        pages: NewestPages<N>,
+        greatest: TagNumbers,
+        spare: u32,
+        most: u32,
+    ) -> ReadOnlyPages<N>
         requires worn { IsWorn (⟦<NewestPages<N> as Pages>⟧.state pages).device (numbers_of greatest) spare }
         requires numbers { HasGreatest (⟦<NewestPages<N> as Pages>⟧.state pages).device (numbers_of greatest) }
         requires carrying { IsCarrying (⟦<NewestPages<N> as Pages>⟧.state pages) }

@@ -1,5 +1,8 @@
 // A store with a fuse.
+ghost use Rattle.std.specs.Prelude.{◌≡◌, ◌+◌};
 ghost use Rattle.fused_store.specs.Fuses.{fused_meaning, fused_lawful};
+ghost use Rattle.fused_store.specs.declared.fuse.CallEnd.TheVariants as ends;
+ghost use Rattle.fused_store.specs.declared.fuse.LastCall.TheVariants as fates;
 
 use object_store::{ObjectChange, ObjectStore};
 use posix_profile::{Bytes, Info, NameList};
@@ -21,8 +24,35 @@ pub struct FusedStore<S> {
     pub last: LastCall,
 }
 
+/// What becomes of a call.
+#[derive(Clone, Copy, Debug, PartialEq, Eq)]
+enum CallEnd {
+    Goes,
+    DoneAndLost,
+    NotDone,
+}
+
+impl<S> FusedStore<S> {
+    /// What becomes of the next call: it takes one of those that are left, or is the last one.
+    fn next_call(&mut self) -> CallEnd
+        ensures same { (self.new.inner ≡ self.old.inner) × (self.new.last ≡ self.old.last) }
+        ensures goes { result ≡ ends.Goes → self.old.calls ≡ self.new.calls + 1 }
+        ensures done { result ≡ ends.DoneAndLost → (self.new.calls ≡ 0) × (self.old.calls ≡ 0) × (self.old.last ≡ fates.Done) }
+        ensures not_done { result ≡ ends.NotDone → (self.new.calls ≡ 0) × (self.old.calls ≡ 0) × (self.old.last ≡ fates.NotDone) }
+    {
+        if self.calls > 0 {
+            self.calls -= 1;
+            return CallEnd::Goes;
+        }
+        match self.last {
+            LastCall::Done => CallEnd::DoneAndLost,
+            LastCall::NotDone => CallEnd::NotDone,
+        }
+    }
+}
+
 impl<S: ObjectStore> ObjectStore for FusedStore<S> {
-    ghost meaning = { fused_meaning S.meaning (λ a. a.inner) };
+    ghost meaning = { fused_meaning S.meaning (λ a. a.inner) (λ a. a.calls) (λ a. a.last) };
 
     fn sizes(&self) -> VolumeSizes {
         self.inner.sizes()
@@ -49,19 +79,19 @@ impl<S: ObjectStore> ObjectStore for FusedStore<S> {
     }
 
     fn find(&mut self, directory: u64, name: &[u8]) -> Result<Option<u64>, StoreFault> {
-        if self.calls == 0 {
-            return Err(StoreFault::Device);
+        match self.next_call() {
+            CallEnd::Goes => self.inner.find(directory, name),
+            CallEnd::DoneAndLost => Err(StoreFault::Device),
+            CallEnd::NotDone => Err(StoreFault::Device),
         }
-        self.calls -= 1;
-        self.inner.find(directory, name)
     }
 
     fn names(&mut self, alloc: Global, directory: u64) -> Result<NameList, StoreFault> {
-        if self.calls == 0 {
-            return Err(StoreFault::Device);
+        match self.next_call() {
+            CallEnd::Goes => self.inner.names(alloc, directory),
+            CallEnd::DoneAndLost => Err(StoreFault::Device),
+            CallEnd::NotDone => Err(StoreFault::Device),
         }
-        self.calls -= 1;
-        self.inner.names(alloc, directory)
     }
 
     fn read(
@@ -71,40 +101,34 @@ impl<S: ObjectStore> ObjectStore for FusedStore<S> {
         offset: u64,
         count: u32,
     ) -> Result<Bytes, StoreFault> {
-        if self.calls == 0 {
-            return Err(StoreFault::Device);
+        match self.next_call() {
+            CallEnd::Goes => self.inner.read(alloc, file, offset, count),
+            CallEnd::DoneAndLost => Err(StoreFault::Device),
+            CallEnd::NotDone => Err(StoreFault::Device),
         }
-        self.calls -= 1;
-        self.inner.read(alloc, file, offset, count)
     }
 
     fn apply(&mut self, change: &ObjectChange<'_>) -> Result<(), StoreFault> {
-        if self.calls > 0 {
-            self.calls -= 1;
-            return self.inner.apply(change);
-        }
-        if self.last == LastCall::NotDone {
-            return Err(StoreFault::Device);
-        }
-        match self.inner.apply(change) {
-            Ok(()) => Err(StoreFault::Device),
-            Err(fault) => Err(fault),
+        match self.next_call() {
+            CallEnd::Goes => self.inner.apply(change),
+            CallEnd::DoneAndLost => {
+                self.inner.apply(change)?;
+                Err(StoreFault::Device)
+            }
+            CallEnd::NotDone => Err(StoreFault::Device),
         }
     }
 
     fn commit(&mut self) -> Result<(), StoreFault> {
-        if self.calls > 0 {
-            self.calls -= 1;
-            return self.inner.commit();
-        }
-        if self.last == LastCall::NotDone {
-            return Err(StoreFault::Device);
-        }
-        match self.inner.commit() {
-            Ok(()) => Err(StoreFault::Device),
-            Err(fault) => Err(fault),
+        match self.next_call() {
+            CallEnd::Goes => self.inner.commit(),
+            CallEnd::DoneAndLost => {
+                self.inner.commit()?;
+                Err(StoreFault::Device)
+            }
+            CallEnd::NotDone => Err(StoreFault::Device),
         }
     }
 
-    ghost lawful = { fused_lawful S.meaning S.lawful (λ a. a.inner) };
+    ghost lawful = { fused_lawful S.meaning S.lawful (λ a. a.inner) (λ a. a.calls) (λ a. a.last) };
 }

@@ -4,3 +4,4 @@ pub mod Reads
 pub mod Volumes
 pub mod Endings
 pub mod Running
+pub mod laws

@@ -1,5 +1,5 @@
 // A volume over any store of objects.
-ghost use Rattle.std.specs.Prelude.{◌≡◌, ◌⊎◌, ◌≤◌, ℕ, true, false, length, Err, IfOk, OnOk, FitsSigned};
+ghost use Rattle.std.specs.Prelude.{◌≡◌, ◌⊎◌, ◌≤◌, ℕ, true, false, length, Err, IfOk, IfErr, OnOk, FitsSigned};
 ghost use Rattle.std.specs.Int.{w64};
 ghost use Rattle.std.specs.FinMap as map;
 ghost use Rattle.std.specs.List.{list_any};
@@ -146,7 +146,8 @@ impl<S: ObjectStore> Volume<S> {
 
     /// A volume over the store: no descriptor is open.
     pub fn new(alloc: Global, store: S, read_only: bool) -> Result<Volume<S>, (S, AllocError)>
-        ensures { IfOk result (λ volume. (store_of volume ≡ store) × (handles_of volume ≡ map.empty) × (is_read_only volume ≡ read_only) × (is_stopped volume ≡ false)) }
+        ensures volume { IfOk result (λ volume. (store_of volume ≡ store) × (handles_of volume ≡ map.empty) × (is_read_only volume ≡ read_only) × (is_stopped volume ≡ false)) }
+        ensures given_back { IfErr result (λ back. back.0 ≡ store) }
     {
         match DescriptorTable::new(alloc) {
             Ok(table) => Ok(Volume {

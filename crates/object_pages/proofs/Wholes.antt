@@ -60,3 +60,10 @@ first_cut cut (suc i) it is = absurd cc
 
 pub one_cut : (cuts : List Cut) (cut : Cut) (o c i : ℕ) → cuts ≡ cut ∷ [] → IsCut cuts o c i → o ≡ cut.object
 one_cut cuts cut o c i one is = sym is.object ∙ ap (λ (x : Cut). x.object) (first_cut cut i is.cut (sym (ap (λ (xs : List Cut). slice_get xs i) one) ∙ is.there))
+
+-- a change of one cut is of its object alone
+pub only_one_cut : (change : Change) (cut : Cut) → change.pages.items ≡ [] → change.cuts.items ≡ cut ∷ [] → IsOnlyOf change cut.object
+only_one_cut change cut pages cuts = record {
+  pages = λ o c i is. absurd (nothing_of change.pages.items o c i pages is);
+  cuts = λ o c i is. one_cut change.cuts.items cut o c i cuts is;
+}

@@ -1,5 +1,6 @@
 // What a mount shows of pages that hold objects.
-ghost use Rattle.std.specs.Prelude.{◌≤◌, ◌+◌, ℕ};
+ghost use Rattle.std.specs.Prelude.{◌≤◌, ◌+◌, ℕ, ◌∷◌, []};
+ghost use Rattle.std.specs.FinMap as map;
 ghost use Rattle.nand_model.specs.declared.geometry.Geometry.{Geometry};
 ghost use Rattle.flash_tree.specs.Mount.{sizes_of, IsVolume};
 ghost use Rattle.flash_tree.specs.Tree.{Shows};
@@ -7,7 +8,7 @@ ghost use Rattle.volume_terms.specs.Sizes.{Sizes};
 ghost use Rattle.posix_profile.specs.State.{Objects};
 ghost use Rattle.posix_profile.specs.WellFormed.{IsForest};
 ghost use Rattle.object_store.specs.Stores.{settled};
-ghost use Rattle.pages.specs.Maps.{PageMap, has};
+ghost use Rattle.pages.specs.Maps.{PageMap, has, without_cuts};
 ghost use Rattle.object_pages.specs.Holding.{HoldsObjects};
 
 /// Pages that hold objects show those of them that names keep.
@@ -21,4 +22,11 @@ pub fn held_objects_are_shown()
 pub fn held_objects_are_a_volume()
     ensures { (g : Geometry) (spare : ℕ) (m : PageMap) (objects : Objects) → HoldsObjects (sizes_of g spare) m objects → IsForest (sizes_of g spare) objects
         → spare + 4 ≤ g.blocks → IsVolume g (has m) spare }
+{}
+
+/// Pages that hold objects hold them without the one that is cut whole.
+#[tactic(auto, using(crate::specs::laws::Holding::cut_object))]
+pub fn a_cut_object_is_held_no_more()
+    ensures { (z : Sizes) (m : PageMap) (objects : Objects) → HoldsObjects z m objects → (o : ℕ)
+        → HoldsObjects z (without_cuts (record { object = o; from = 0 } ∷ []) m) (map.remove objects o) }
 {}

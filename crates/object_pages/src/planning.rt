@@ -1,10 +1,10 @@
 // A change of objects as one of pages.
-ghost use Rattle.std.specs.Prelude.{◌≡◌, ◌≤◌, ℕ, [], true, false, IfOk, IfErr, IsOk, Some, slice_get, vec_capacity};
+ghost use Rattle.std.specs.Prelude.{◌≡◌, ◌≤◌, ℕ, true, false, IfOk, IfErr, Some, slice_get};
 ghost use Rattle.volume_terms.specs.Sizes.{Sizes};
 ghost use Rattle.posix_profile.specs.State.{Objects};
 ghost use Rattle.posix_profile.specs.Changes.{new_number};
 ghost use Rattle.flash_tree.specs.declared.place.FreshPage.{FreshPage};
-ghost use Rattle.object_store.specs.Changes.{made, CanMake, takes_none};
+ghost use Rattle.object_store.specs.Changes.{made, CanMake};
 ghost use Rattle.pages.specs.Changes.{IsChange};
 ghost use Rattle.pages.specs.Faults.{MayLackMemory};
 ghost use Rattle.pages.specs.Maps.{changed};
@@ -19,7 +19,7 @@ use crate::naming::{create, name};
 use crate::removal::{forget, remove};
 use flash_tree::FreshPage;
 use object_store::ObjectChange;
-use pages::{Change, Cut, PageFault, Pages};
+use pages::{Change, PageFault, Pages};
 use std::alloc::Global;
 
 /// Whether each page is of a number that an object can have.
@@ -37,28 +37,23 @@ fn are_numbered(pages: &[FreshPage]) -> bool
 
 /// The change of pages that makes a change of objects.
 ///
-/// `new` is the number that a new object gets. A change that only forgets takes no memory: then `room` is an empty vector
-/// in which there is room for one cut, and which becomes the change's; for others it may be any.
+/// `new` is the number that a new object gets.
 pub fn plan<P: Pages>(
     pages: &mut P,
     alloc: Global,
     change: &ObjectChange<'_>,
     new: u64,
-    room: Vec<Cut>,
 ) -> Result<Change, PageFault>
-    requires empty { takes_none change.now ≡ true → room.items ≡ [] }
-    requires room { takes_none change.now ≡ true → 1 ≤ vec_capacity room }
     ensures finds { OnlyFinds (P.state pages.old) (P.state pages.new) }
     ensures change { IfOk result (λ it. IsChange it (P.state pages.old).page_bytes (most_pages (P.state pages.old).page_bytes change.now)) }
     ensures numbered { IfOk result (λ it. AreNumbered it.pages.items) }
     ensures makes { (z : Sizes) (objects : Objects) → HoldsIn (P.state pages.old) z objects → CanMake z objects change.now → new ≡ new_number objects
         → IfOk result (λ it. HoldsObjects z (changed it (P.state pages.old).present) (made objects change.now)) }
-    ensures memory { takes_none change.now ≡ true → IsOk result }
     ensures why { IfErr result (SaysWhyChanging (P.state pages.new)) }
     ensures fault { (z : Sizes) (objects : Objects) → HoldsIn (P.state pages.old) z objects → CanHave z objects → CanMake z objects change.now → new ≡ new_number objects
         → IfErr result (MayLackMemory (P.state pages.new)) }
 {
-    let planned = plan_each(pages, alloc, change, new, room)?;
+    let planned = plan_each(pages, alloc, change, new)?;
     if are_numbered(&planned.pages) {
         Ok(planned)
     } else {
@@ -72,15 +67,11 @@ fn plan_each<P: Pages>(
     alloc: Global,
     change: &ObjectChange<'_>,
     new: u64,
-    room: Vec<Cut>,
 ) -> Result<Change, PageFault>
-    requires empty { takes_none change.now ≡ true → room.items ≡ [] }
-    requires room { takes_none change.now ≡ true → 1 ≤ vec_capacity room }
     ensures finds { OnlyFinds (P.state pages.old) (P.state pages.new) }
     ensures change { IfOk result (λ it. IsChange it (P.state pages.old).page_bytes (most_pages (P.state pages.old).page_bytes change.now)) }
     ensures makes { (z : Sizes) (objects : Objects) → HoldsIn (P.state pages.old) z objects → CanMake z objects change.now → new ≡ new_number objects
         → IfOk result (λ it. HoldsObjects z (changed it (P.state pages.old).present) (made objects change.now)) }
-    ensures memory { takes_none change.now ≡ true → IsOk result }
     ensures why { IfErr result (SaysWhyChanging (P.state pages.new)) }
     ensures fault { (z : Sizes) (objects : Objects) → HoldsIn (P.state pages.old) z objects → CanHave z objects → CanMake z objects change.now → new ≡ new_number objects
         → IfErr result (MayLackMemory (P.state pages.new)) }
@@ -119,6 +110,6 @@ fn plan_each<P: Pages>(
             length,
             moment,
         } => resize(pages, alloc, *number, *length, *moment),
-        ObjectChange::Forget { number } => Ok(forget(alloc, room, *number)),
+        ObjectChange::Forget { number } => Ok(forget(alloc, *number)?),
     }
 }

@@ -1,5 +1,5 @@
 // Names and objects that go.
-ghost use Rattle.std.specs.Prelude.{◌≡◌, ◌≤◌, ℕ, [], IfOk, IfErr, vec_capacity};
+ghost use Rattle.std.specs.Prelude.{◌≡◌, ◌≤◌, ℕ, [], IfOk, IfErr};
 ghost use Rattle.std.specs.FinMap as map;
 ghost use Rattle.volume_terms.specs.Sizes.{Sizes};
 ghost use Rattle.posix_profile.specs.State.{Objects};
@@ -16,22 +16,22 @@ use object_store::DirectoryEntry;
 use pages::{Change, Cut, PageFault, Pages};
 use std::alloc::{AllocError, Global};
 
-/// The change that takes all pages of an object away. It takes no memory: the vector that is given holds its cut.
-pub fn forget(alloc: Global, mut room: Vec<Cut>, number: u64) -> Change
-    requires empty { room.items ≡ [] }
-    requires room { 1 ≤ vec_capacity room }
-    ensures pages { result.pages.items ≡ [] }
-    ensures only { IsOnlyOf result number }
-    ensures forgets { (z : Sizes) (m : PageMap) (objects : Objects) → HoldsObjects z m objects → HoldsObjects z (changed result m) (map.remove objects number) }
+/// The change that takes all pages of an object away.
+pub fn forget(alloc: Global, number: u64) -> Result<Change, AllocError>
+    ensures pages { IfOk result (λ change. change.pages.items ≡ []) }
+    ensures only { IfOk result (λ change. IsOnlyOf change number) }
+    ensures forgets { (z : Sizes) (m : PageMap) (objects : Objects) → HoldsObjects z m objects
+        → IfOk result (λ change. HoldsObjects z (changed change m) (map.remove objects number)) }
 {
-    room.push_reserved(Cut {
+    let mut cuts = Vec::new(alloc);
+    cuts.push(Cut {
         object: number,
         from: 0,
-    });
-    Change {
+    })?;
+    Ok(Change {
         pages: Vec::new(alloc),
-        cuts: room,
-    }
+        cuts,
+    })
 }
 
 /// A change, after which the object that is told has no pages.
@@ -47,8 +47,8 @@ pub(crate) fn and_forget(
     let Some(number) = dropped else {
         return Ok(change);
     };
-    let room = Vec::with_capacity(alloc, 1)?;
-    change.then(forget(alloc, room, number))
+    let cut = forget(alloc, number)?;
+    change.then(cut)
 }
 
 /// The change that takes a name from a directory, and the object that is told.

@@ -57,17 +57,6 @@ fn empty_volume(alloc: Global) -> Result<MemPages, Fail> {
     taken(alloc, MemPages::new(alloc, 512)?, change)
 }
 
-/// The change of pages that makes a change of objects.
-fn planned(
-    alloc: Global,
-    pages: &mut MemPages,
-    change: &ObjectChange<'_>,
-    new: u64,
-) -> Result<Change, PageFault> {
-    let room = Vec::with_capacity(alloc, 1)?;
-    plan(pages, alloc, change, new, room)
-}
-
 /// The store after a change of objects.
 fn changed(
     alloc: Global,
@@ -75,7 +64,7 @@ fn changed(
     change: ObjectChange<'_>,
     new: u64,
 ) -> Result<MemPages, Fail> {
-    let change = planned(alloc, &mut pages, &change, new)?;
+    let change = plan(&mut pages, alloc, &change, new)?;
     taken(alloc, pages, change)
 }
 
@@ -216,7 +205,7 @@ fn a_refused_page_is_told(rt: HostRuntime) -> Result<(), Fail> {
     });
     assert!(rt;
         matches!(
-            planned(alloc, &mut pages, &resized, 4),
+            plan(&mut pages, alloc, &resized, 4),
             Err(PageFault::NoMemory)
         )
     );

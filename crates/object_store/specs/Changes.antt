@@ -1,7 +1,7 @@
 -- How a store is changed.
 use Rattle.std.specs.Prelude.{◌≡◌, ◌≢◌, ◌⊎◌, ◌≤◌, ℕ, ◌+◌, Bool, true, false, List, [], length, Option, Some, None}
 use Rattle.std.specs.FinMap as map
-use Rattle.volume_terms.specs.Sizes.{Sizes, greatest_length, root_number}
+use Rattle.volume_terms.specs.Sizes.{Sizes, greatest_length, most_written, root_number}
 use Rattle.posix_profile.specs.State.{Name, Object, File, Dir, Objects, IsFile, IsDirectory, entries_of}
 use Rattle.posix_profile.specs.Names.{Names}
 use Rattle.posix_profile.specs.Charge.{fits}
@@ -58,7 +58,7 @@ IsSensible z objects (changes.Create entry kind moment) = IsAbsent objects entry
 IsSensible z objects (changes.Name entry number moment) = IsAbsent objects entry × IsFile objects number
 IsSensible z objects (changes.Remove entry dropped moment) = (o : ℕ) × LeadsTo objects entry o × ((dropped ≡ None) ⊎ (dropped ≡ Some o))
 IsSensible z objects (changes.Move from to number dropped moment) = LeadsTo objects from number × IsTarget objects to number dropped
-IsSensible z objects (changes.Write number offset bytes moment) = IsFile objects number × (offset + length bytes.now ≤ greatest_length z)
+IsSensible z objects (changes.Write number offset bytes moment) = IsFile objects number × (offset + length bytes.now ≤ greatest_length z) × (length bytes.now ≤ most_written z)
 IsSensible z objects (changes.Resize number length moment) = IsFile objects number × (length ≤ greatest_length z)
 IsSensible z objects (changes.Forget number) = (number ≢ root_number) × (IsNamed objects number → ⊥)
 

@@ -57,6 +57,13 @@ impl ObjectTable {
         Ok(ObjectTable { counted, numbers })
     }
 
+    /// The numbers of the volume.
+    pub fn sizes(&self) -> VolumeSizes
+        ensures { volume.sizes_of result ≡ sizes_of self.now }
+    {
+        self.counted.sizes
+    }
+
     /// What is told of the object at this number, if there is one.
     pub fn info(&self, number: u64) -> Option<Info>
         ensures { (objects : Objects) → Tells self.now objects → IsForest (sizes_of self.now) objects → result ≡ info_of objects number (map.get objects number) }

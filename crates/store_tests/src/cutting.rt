@@ -2,7 +2,7 @@
 
 use crate::edits::{Edit, KEYS};
 use crate::opening::{Trouble, erased, open_store, scanned};
-use crate::plain::{Plain, Step, Stamps, read, read_all, take_step};
+use crate::plain::{Plain, Stamps, Step, read, read_all, take_step};
 use nand_model::MemNand;
 use objects::Store;
 use pages::{Cut, PageStore};

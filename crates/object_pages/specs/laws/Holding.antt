@@ -1,13 +1,15 @@
 -- Pages that hold objects, read one object at a time, and after a change of one.
-use Rattle.std.specs.Prelude.{◌≡◌, ◌≢◌, ◌/◌, ◌+◌, ℕ, List, Option, Some, None}
-use Rattle.std.proofs.Common.{sym, ◌∙◌, ap, subst, inl, inr}
+use Rattle.std.specs.Prelude.{◌≡◌, ◌≢◌, ◌/◌, ◌+◌, ℕ, zero, suc, List, [], ◌∷◌, Option, Some, None, slice_get}
+use Rattle.std.proofs.Common.{refl, sym, ◌∙◌, ap, subst, inl, inr, arith}
 use Rattle.std.proofs.lemmas.Bool.{cases_eq}
 use Rattle.std.specs.Cmp.{nat_cmp_total}
 use Rattle.std.specs.FinMap as map
 use Rattle.volume_terms.specs.Sizes.{Sizes, page_slots}
 use Rattle.posix_profile.specs.State.{Entries, Object, File, Dir, Objects, IsFile, IsDirectory}
 use Rattle.posix_profile.specs.laws.Map.{get_here, get_there, get_removed, removed_none}
-use Rattle.pages.specs.Maps.{PageMap}
+use Rattle.pages.specs.Maps.{PageMap, without_cuts, IsCut}
+use Rattle.pages.specs.laws.Maps.{cut_here, cut_elsewhere}
+use Rattle.pages.specs.declared.change.Cut.{Cut}
 use Rattle.pages.specs.State.{PagesState, OnlyFinds}
 use Rattle.directories.specs.Directories.{DirIn}
 use Rattle.file_io.specs.Files.{FileIn}
@@ -111,3 +113,17 @@ module _ (z : Sizes) (m n : PageMap) (objects : Objects) (holds : HoldsObjects z
           (same_object z m n q (λ c. keeps q c other) (map.get objects q) (holds.each q))
     ];
   }
+
+-- one cut is of its object alone
+only_cut : (cut it : Cut) (i : ℕ) → slice_get (cut ∷ []) i ≡ Some it → it ≡ cut
+only_cut cut it zero is = cc
+only_cut cut it (suc i) is = absurd cc
+
+-- with its cut an object goes
+pub cut_object : (z : Sizes) (m : PageMap) (objects : Objects) → HoldsObjects z m objects → (o : ℕ)
+    → HoldsObjects z (without_cuts (record { object = o; from = 0 } ∷ []) m) (map.remove objects o)
+cut_object z m objects holds o =
+    let cut : Cut = record { object = o; from = 0 } in
+    take_object z m (without_cuts (cut ∷ []) m) objects holds o
+    (λ q c other. cut_elsewhere (cut ∷ []) m q c (λ i is. other (sym is.object ∙ ap (λ (x : Cut). x.object) (only_cut cut is.cut i is.there))))
+    (λ c. cut_here (cut ∷ []) m o c 0 (record { cut = cut; there = refl; object = refl; chunk = omega arith }))

@@ -52,6 +52,7 @@ returns g c z s holds file small =
     let part : c.split_at.result.0.now ≡ take (write_count z c.args.moment s h bytes c.args.new.now) c.args.new.now = c.split_at.ensures.front ∙ ap (λ k. take k c.args.new.now) count in
     let part_few : length c.split_at.result.0.now ≡ c.write_count-count.result = omega (arith, c.split_at.ensures) in
     let far : c.write_offset-offset.result + length c.split_at.result.0.now ≤ greatest_length z = omega (arith, part_few, count, off, (greatest_cases (λ k. fits z (objects_written c.args.moment s h bytes c.args.new.now k)) (min (length c.args.new.now) (min (most_written z) (greatest_length z - o)))).0) in
+    let short : length c.split_at.result.0.now ≤ most_written z = omega (arith, part_few, count, (greatest_cases (λ k. fits z (objects_written c.args.moment s h bytes c.args.new.now k)) (min (length c.args.new.now) (min (most_written z) (greatest_length z - o)))).0) in
     record {
       means =
           ap (λ off. out off c.split_at.result.0.now c.saturating_add.result c.write_count-count.result) off
@@ -61,7 +62,7 @@ returns g c z s holds file small =
           ∙ passed_all s _ ∙ passed s _ _ _ _ (ne_eqb _ _ some) ∙ passed s _ _ _ _ (lt-leb _ _ lt);
       range = small;
       can = record {
-        sensible = (file, far);
+        sensible = (file, far, short);
         empty = none_dropped s.objects;
         fits = subst (λ off. fits z (with_bytes s.objects c.args.moment c.args.description.object (written bytes off c.split_at.result.0.now)) ≡ true) (sym off)
             (subst (λ part. fits z (with_bytes s.objects c.args.moment c.args.description.object (written bytes o part)) ≡ true) (sym part) fit);

@@ -12,17 +12,17 @@ use Rattle.object_pages.proofs.removal.and_forget.Goals as goal
 
 pub returns-clause-change : goal.returns-clause-change
 returns-clause-change c = λ bytes most is.
-    let none : c.forget.result.pages.items ≡ [] = c.forget.ensures.pages in
-    on_three (λ (both : Change). AreApart both.pages.items) (λ (both : Change). AreSized both.pages.items bytes) (λ (both : Change). length both.pages.items ≤ length c.args.change.pages.items + length c.forget.result.pages.items)
+    let none : c.in_ok-cut.cut.pages.items ≡ [] = c.in_ok-cut.ensures.pages in
+    on_three (λ (both : Change). AreApart both.pages.items) (λ (both : Change). AreSized both.pages.items bytes) (λ (both : Change). length both.pages.items ≤ length c.args.change.pages.items + length c.in_ok-cut.cut.pages.items)
     (λ both. IsChange both bytes most) c.then.result
     (λ both apart size few. record { apart = apart; size = size; few = omega (arith, few, is.few, ap (λ (ps : List FreshPage). length ps) none) })
-    (c.then.ensures.apart is.apart (none_apart c.forget.result.pages.items none)) (c.then.ensures.size bytes is.size (none_sized c.forget.result.pages.items bytes none)) c.then.ensures.few
+    (c.then.ensures.apart is.apart (none_apart c.in_ok-cut.cut.pages.items none)) (c.then.ensures.size bytes is.size (none_sized c.in_ok-cut.cut.pages.items bytes none)) c.then.ensures.few
 
 pub returns-clause-forgets : goal.returns-clause-forgets
 returns-clause-forgets c = λ z m objects holds.
-    let cut : Change = c.forget.result in
+    let cut : Change = c.in_ok-cut.cut in
     let n : PageMap = changed cut (changed c.args.change m) in
-    let left = c.forget.ensures.forgets z (changed c.args.change m) objects holds in
+    let left = c.in_ok-cut.ensures.forgets z (changed c.args.change m) objects holds in
     rw c.in-Some.is (on_ok (λ (both : Change). (o k : ℕ) → changed both m o k ≡ n o k) (λ (both : Change). HoldsObjects z (changed both m) (map.remove objects c.in-Some.number)) c.then.result
     (λ both same. same_objects z n (changed both m) (map.remove objects c.in-Some.number) left same)
     (on_each (λ o k (both : Change). changed both m o k ≡ n o k) c.then.result (λ o k. c.then.ensures.pages m o k)))

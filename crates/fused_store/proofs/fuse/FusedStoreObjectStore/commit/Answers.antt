@@ -1,13 +1,23 @@
-use Rattle.std.proofs.Common.{inl}
-use Rattle.fused_store.specs.Fuses.{cut_before, cut_commit, inner_has}
+use Rattle.std.proofs.Common.{inl, inr, sym, ◌∙◌, subst}
+use Rattle.object_store.specs.Stores.{Has}
 use Rattle.fused_store.specs.declared.fuse.FusedStore.{FusedStore}
+use Rattle.fused_store.specs.Fuses.{lost_before, lost_after, inner_has}
 use Rattle.fused_store.proofs.fuse.FusedStoreObjectStore.commit.Goals as goal
 
-pub returns-then-eq-clause-commits : goal.returns-then-eq-clause-commits
-returns-then-eq-clause-commits g c z objects has = inl (cut_before g.S.ObjectStore.meaning g.met.S.ObjectStore.lawful c.args.self.now.inner objects objects)
-
-pub returns-in-Ok-clause-commits : goal.returns-in-Ok-clause-commits
-returns-in-Ok-clause-commits g c z objects has =
+pub returns-in_ok-commit-in-DoneAndLost-clause-commits : goal.returns-in_ok-commit-in-DoneAndLost-clause-commits
+returns-in_ok-commit-in-DoneAndLost-clause-commits g c z objects has =
     let m = g.S.ObjectStore.meaning in
-    let done = c.in-Ok.ensures.commits z objects (inner_has m (λ (a : FusedStore _). a.inner) z objects c.args.self.now has) in
-    inl (cut_commit m c.args.self.now.inner c.commit-2.new.self objects done.1)
+    let self = c.args.self.now in
+    let now = c.next_call.new.self in
+    let left = c.commit-in-DoneAndLost.new.self in
+    let same = c.next_call.ensures.same in
+    let lost = c.next_call.ensures.done c.in-DoneAndLost.is in
+    let inner = inner_has m (λ (a : FusedStore _). a.inner) (λ (a : FusedStore _). a.calls) (λ (a : FusedStore _). a.last) z objects self has in
+    let ends = c.in_ok-commit-in-DoneAndLost.ensures.commits z objects (subst (Has m z objects) (sym same.0) inner) in
+    inl (lost_after m now.calls now.last self.inner left objects objects lost.0 (same.1 ∙ lost.2)
+    (inr (subst (λ a. m.commits objects a left) same.0 ends.1)))
+
+pub returns-in-NotDone-clause-commits : goal.returns-in-NotDone-clause-commits
+returns-in-NotDone-clause-commits g c z objects has =
+    let now = c.next_call.new.self in
+    inl (lost_before g.S.ObjectStore.meaning g.met.S.ObjectStore.lawful now.calls now.last c.args.self.now.inner now.inner objects objects (c.next_call.ensures.not_done c.in-NotDone.is).0 c.next_call.ensures.same.0)

@@ -1,6 +1,13 @@
 use Rattle.std.proofs.Common.{inl}
-use Rattle.fused_store.specs.Fuses.{cut_before}
+use Rattle.fused_store.specs.Fuses.{lost_before}
 use Rattle.fused_store.proofs.fuse.FusedStoreObjectStore.names.Goals as goal
 
-pub returns-then-self-eq0-clause-finds : goal.returns-then-self-eq0-clause-finds
-returns-then-self-eq0-clause-finds g c z objects has there = inl (cut_before g.S.ObjectStore.meaning g.met.S.ObjectStore.lawful c.args.self.now.inner objects objects)
+pub returns-in-DoneAndLost-clause-finds : goal.returns-in-DoneAndLost-clause-finds
+returns-in-DoneAndLost-clause-finds g c z objects has there =
+    let now = c.next_call.new.self in
+    inl (lost_before g.S.ObjectStore.meaning g.met.S.ObjectStore.lawful now.calls now.last c.args.self.now.inner now.inner objects objects (c.next_call.ensures.done c.in-DoneAndLost.is).0 c.next_call.ensures.same.0)
+
+pub returns-in-NotDone-clause-finds : goal.returns-in-NotDone-clause-finds
+returns-in-NotDone-clause-finds g c z objects has there =
+    let now = c.next_call.new.self in
+    inl (lost_before g.S.ObjectStore.meaning g.met.S.ObjectStore.lawful now.calls now.last c.args.self.now.inner now.inner objects objects (c.next_call.ensures.not_done c.in-NotDone.is).0 c.next_call.ensures.same.0)

@@ -1,0 +1,106 @@
+// The pages of a worn device in memory.
+
+use super::*;
+use flash_tree::Key;
+use nand_model::{Geometry, MemNand};
+use newest_pages::{NewestPages, open, the_opened_pages_are_the_newest};
+use page_tags::Tag;
+use pages::{Change, Cut, PageStore, Pages, Presence};
+use std::alloc::Global;
+use std::test::Fail;
+use test_flash::TestFlash;
+use volume_terms::StoreFault;
+
+/// Numbers from here on are not handed out.
+const LIMIT: u64 = 1 << 62;
+
+/// A group of one page, after which there is no number left for another.
+const LAST: Tag = Tag {
+    index: 0,
+    count: 1,
+    object: 7,
+    chunk: 3,
+    version: 2,
+    group: LIMIT,
+    seq: 5,
+};
+
+const KEY: Key = Key {
+    object: 7,
+    chunk: 3,
+};
+
+const OTHER: Key = Key {
+    object: 7,
+    chunk: 4,
+};
+
+/// Five blocks of 32 pages of 512 bytes, with a page in block 2.
+fn worn(alloc: Global) -> Result<MemNand, Fail> {
+    let mut flash = TestFlash::new(alloc, Geometry::new(512, 32, 5)?)?;
+    match flash.write(2, &LAST, 9) {
+        Ok(()) => Ok(flash.into_nand()),
+        Err(_) => Err("the page is not written".into()),
+    }
+}
+
+/// The pages of a device with no number left, of whose blocks one is to spare.
+fn read_only(alloc: Global, mut nand: MemNand) -> Result<ReadOnlyPages<MemNand>, Fail> {
+    the_opened_pages_are_the_newest();
+    let opened = open(alloc, &mut nand)?;
+    let numbers = opened.numbers;
+    if numbers.group < LIMIT {
+        return Err("numbers are left".into());
+    }
+    match NewestPages::new(alloc, nand, opened.index) {
+        Ok(pages) => Ok(ReadOnlyPages::new(pages, numbers, 1, 8)),
+        Err((_nand, refused)) => Err(refused.into()),
+    }
+}
+
+/// The first byte of the page of a key.
+fn fill<P: Pages>(pages: &mut P, key: Key) -> Result<Option<u8>, StoreFault> {
+    match pages.find(key)? {
+        Presence::Present => Ok(pages.page().first().copied()),
+        Presence::Absent => Ok(None),
+    }
+}
+
+/// What the store answers to a change that changes nothing.
+fn change<P: PageStore>(alloc: Global, pages: &mut P) -> Result<(), StoreFault> {
+    pages.apply(Change::none(alloc))
+}
+
+/// And to a commit.
+fn commit<P: PageStore>(pages: &mut P) -> Result<(), StoreFault> {
+    pages.commit()
+}
+
+#[test]
+fn pages_of_a_worn_device_are_read(rt: HostRuntime) -> Result<(), Fail> {
+    let alloc = rt.alloc();
+    let mut pages = FlashPages::ReadOnly(read_only(alloc, worn(alloc)?)?);
+    assert_eq!(rt; pages.page_bytes(), 512);
+    assert_eq!(rt; fill(&mut pages, KEY), Ok(Some(9)));
+    assert_eq!(rt; fill(&mut pages, OTHER), Ok(None));
+    let nand = pages.into_device();
+    assert_eq!(rt; nand.changes(), 2, "those of the making");
+    Ok(())
+}
+
+#[test]
+fn a_change_of_a_worn_device_is_refused(rt: HostRuntime) -> Result<(), Fail> {
+    let alloc = rt.alloc();
+    let mut pages = read_only(alloc, worn(alloc)?)?;
+    assert_eq!(rt; pages.most_pages(), 8);
+    assert_eq!(rt; commit(&mut pages), Ok(()));
+    assert_eq!(rt; change(alloc, &mut pages), Err(StoreFault::Worn));
+    assert_eq!(rt; commit(&mut pages), Err(StoreFault::Worn));
+    assert_eq!(rt; fill(&mut pages, KEY), Ok(Some(9)));
+    let mut again = read_only(alloc, pages.into_device())?;
+    let cut = Cut { object: 7, from: 0 };
+    assert_eq!(rt; again.cut(cut), Err(StoreFault::Worn));
+    assert_eq!(rt; commit(&mut again), Err(StoreFault::Worn));
+    assert_eq!(rt; again.into_device().changes(), 2);
+    Ok(())
+}

@@ -1,0 +1,3 @@
+pub mod Lives
+pub mod PlainLives
+pub mod laws

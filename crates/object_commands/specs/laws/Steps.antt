@@ -1,0 +1,113 @@
+-- One command of a volume: its reply, what it leaves, and the state after it.
+use Rattle.std.specs.Prelude.{◌≡◌, ◌⊎◌, Bool, true, false}
+use Rattle.std.proofs.Common.{refl, sym, ◌∙◌, ap, subst, inl, inr}
+use Rattle.std.proofs.lemmas.Bool.{cond-true, cond-false, true≢false}
+use Rattle.posix_profile.specs.Losses.{is_synced}
+use Rattle.posix_profile.specs.laws.Own.{command_own}
+use Rattle.posix_profile.specs.Runs.{is_no_memory, is_stop, takes_no_memory, after_one, Replies}
+use Rattle.volume_terms.specs.Sizes.{Sizes}
+use Rattle.posix_profile.specs.State.{Objects, State}
+use Rattle.posix_profile.specs.Steps.{step}
+use Rattle.posix_profile.specs.declared.command.Command.{Command}
+use Rattle.posix_profile.specs.declared.command.Command.TheVariants as commands
+use Rattle.posix_profile.specs.declared.command.Stamped.{Stamped}
+use Rattle.posix_profile.specs.declared.reply.Errno.{Errno}
+use Rattle.posix_profile.specs.declared.reply.Errno.TheVariants as errors
+use Rattle.posix_profile.specs.declared.reply.Reply.{Reply}
+use Rattle.posix_profile.specs.declared.reply.Reply.TheVariants as replies
+use Rattle.object_store.specs.Stores.{Meaning, IsLawful, KeepsOrSettles, settled}
+use Rattle.command_plans.specs.Classes.{Class, Telling, Changing, Syncing, class_of, is_error}
+use Rattle.object_commands.specs.Endings.{IsAt, Leaves, Ends}
+use Rattle.object_commands.specs.declared.volume.Volume.{Volume}
+
+-- what a done command leaves keeps the tree that a mount shows or settles it
+leaves_shows : {S : Type 0} (m : Meaning S) (law : IsLawful m) (class : Class) (reply : Reply) (old new : Objects) (a b : S) → Leaves m class reply old new a b → KeepsOrSettles m old a b
+leaves_shows m law Telling reply old new a b left = λ t shown. inl (law.reads_shows a b t left.1 shown)
+leaves_shows m law Changing reply old new a b (inl same) = λ t shown. inl (law.reads_shows a b t same.1 shown)
+leaves_shows m law Changing reply old new a b (inr made) = law.changes_shows a b old new made.1
+leaves_shows m law Syncing reply old new a b left = go left.1
+  where
+    go : ((is_error reply ≡ true) × m.reads a b) ⊎ ((reply ≡ replies.Done) × m.commits old a b) → KeepsOrSettles m old a b
+    go (inl same) = λ t shown. inl (law.reads_shows a b t same.1 shown)
+    go (inr done) = λ t shown. inr (law.commits_shows a b old done.1)
+
+-- a sync that is done settles it
+sync_done : {S : Type 0} (m : Meaning S) (law : IsLawful m) (reply : Reply) (old new : Objects) (a b : S) → reply ≡ replies.Done → Leaves m Syncing reply old new a b → m.shows b (settled old)
+sync_done m law reply old new a b is left = go left.1
+  where
+    go : ((is_error reply ≡ true) × m.reads a b) ⊎ ((reply ≡ replies.Done) × m.commits old a b) → m.shows b (settled old)
+    go (inl same) = let two : false ≡ true = sym (ap is_error is) ∙ same.0 in absurd cc
+    go (inr done) = law.commits_shows a b old done.1
+
+-- what tells, and what is answered by an error, only reads
+leaves_reads : {S : Type 0} (m : Meaning S) (class : Class) (reply : Reply) (old new : Objects) (a b : S) → Leaves m class reply old new a b → (class ≡ Telling) ⊎ (is_error reply ≡ true) → m.reads a b
+leaves_reads m Telling reply old new a b left why = left.1
+leaves_reads m Changing reply old new a b (inl same) why = same.1
+leaves_reads m Changing reply old new a b (inr made) (inl tells) = absurd cc
+leaves_reads m Changing reply old new a b (inr made) (inr error) = absurd (true≢false (sym error ∙ made.0))
+leaves_reads m Syncing reply old new a b left why = go left.1 why
+  where
+    go : ((is_error reply ≡ true) × m.reads a b) ⊎ ((reply ≡ replies.Done) × m.commits old a b) → (Syncing ≡ Telling) ⊎ (is_error reply ≡ true) → m.reads a b
+    go (inl same) why' = same.1
+    go (inr done) (inl tells) = absurd cc
+    go (inr done) (inr error) = absurd (true≢false (sym error ∙ ap is_error done.0))
+
+synced_is : (command : Command) (reply : Reply) → is_synced command reply ≡ true → (class_of command ≡ Syncing) × (reply ≡ replies.Done)
+synced_is commands.Sync replies.Done is = (refl, refl)
+synced_is (commands.Fsync fd) replies.Done is = (refl, refl)
+synced_is command reply is = let two : false ≡ true = is in absurd cc
+
+pub error_unsynced : (command : Command) (e : Errno) → is_synced command (replies.Error e) ≡ true → ⊥
+error_unsynced command e is = let done = (synced_is command (replies.Error e) is).1 in absurd cc
+
+-- One command, from the state that the volume stands for: its reply, what it leaves of the tree that a mount shows, and the
+-- state. One that tells, or that is answered by an error, only reads.
+pub record One {S : Type 0} (m : Meaning S) (z : Sizes) (read_only : Bool) (s : State) (c : Stamped) (r : Reply) (a b : Volume S) : Type 0 where
+  pub replies : Replies z read_only s c r
+  pub loss : KeepsOrSettles m s.objects a.store b.store
+  pub sync : is_synced c.command r ≡ true → m.shows b.store (settled s.objects)
+  pub stops : b.stopped ≡ is_stop r
+  pub fails : is_stop r ≡ true → m.fails s.objects (step z read_only s c).state.objects a.store b.store
+  pub state : is_stop r ≡ false → IsAt m z (after_one z read_only s c r) b
+  pub reads : is_stop r ≡ false → (class_of c.command ≡ Telling) ⊎ (is_error r ≡ true) → m.reads a.store b.store
+
+pub one_ends : {S : Type 0} (m : Meaning S) (law : IsLawful m) (z : Sizes) (read_only : Bool) (s : State) (c : Stamped) (r : Reply) (a b : Volume S)
+    → Ends m z (class_of c.command) (takes_no_memory c.command) s (step z read_only s c) a b r → One m z read_only s c r a b
+one_ends m law z read_only s c r a b (inl done) =
+    let own = command_own s z read_only c.moment c.command in
+    let memory : is_no_memory r ≡ false = ap is_no_memory done.reply ∙ own.memory in
+    let goes : is_stop r ≡ false = ap is_stop done.reply ∙ own.goes in
+    let is : after_one z read_only s c r ≡ (step z read_only s c).state = cond-false _ _ _ memory ∙ cond-false _ _ _ goes in
+    let o = step z read_only s c in
+    let why_meant : (class_of c.command ≡ Telling) ⊎ (is_error r ≡ true) → (class_of c.command ≡ Telling) ⊎ (is_error o.reply ≡ true) = λ why. elim why [ inl tells ↦ inl tells | inr error ↦ inr (sym (ap is_error done.reply) ∙ error) ] in
+    record {
+      replies = inl done.reply;
+      loss = leaves_shows m law (class_of c.command) o.reply s.objects o.state.objects a.store b.store done.left;
+      sync = λ synced.
+          let told = synced_is c.command r synced in
+          sync_done m law o.reply s.objects o.state.objects a.store b.store (sym done.reply ∙ told.1) (subst (λ k. Leaves m k o.reply s.objects o.state.objects a.store b.store) told.0 done.left);
+      stops = done.goes_on ∙ sym goes;
+      fails = λ stop. absurd (true≢false (sym stop ∙ goes));
+      state = λ _. subst (λ x. IsAt m z x b) (sym is) done.state;
+      reads = λ _ why. leaves_reads m (class_of c.command) o.reply s.objects o.state.objects a.store b.store done.left (why_meant why);
+    }
+one_ends m law z read_only s c r a b (inr (inl passed)) =
+    let memory : is_no_memory r ≡ true = ap is_no_memory passed.1.reply in
+    record {
+      replies = inr (inl (memory, passed.0));
+      loss = λ t shown. inl (law.reads_shows a.store b.store t passed.1.left shown);
+      sync = λ synced. absurd (error_unsynced c.command errors.ENOMEM (ap (is_synced c.command) (sym passed.1.reply) ∙ synced));
+      stops = passed.1.goes_on ∙ sym (ap is_stop passed.1.reply);
+      fails = λ stop. absurd (true≢false (sym stop ∙ ap is_stop passed.1.reply));
+      state = λ _. subst (λ x. IsAt m z x b) (sym (cond-true _ _ _ memory)) passed.1.state;
+      reads = λ _ _. passed.1.left;
+    }
+one_ends m law z read_only s c r a b (inr (inr stopped)) = record {
+  replies = inr (inr (ap is_stop stopped.reply));
+  loss = law.fails_shows a.store b.store s.objects (step z read_only s c).state.objects stopped.left;
+  sync = λ synced. absurd (error_unsynced c.command errors.EIO (ap (is_synced c.command) (sym stopped.reply) ∙ synced));
+  stops = stopped.stops ∙ sym (ap is_stop stopped.reply);
+  fails = λ stop. stopped.left;
+  state = λ goes. absurd (true≢false (sym (ap is_stop stopped.reply) ∙ goes));
+  reads = λ goes _. absurd (true≢false (sym (ap is_stop stopped.reply) ∙ goes));
+}

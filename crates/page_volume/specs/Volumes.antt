@@ -1,0 +1,37 @@
+-- What a volume over pages is, and which state it stands for.
+use Rattle.std.specs.Prelude.{◌≡◌, Bool}
+use Rattle.volume_terms.specs.Sizes.{Sizes, IsSizes}
+use Rattle.posix_profile.specs.State.{State}
+use Rattle.posix_profile.specs.laws.Sound.{IsSound}
+use Rattle.object_commands.specs.Volumes as volumes
+use Rattle.object_table.specs.Told.{sizes_of, Tells}
+use Rattle.object_table.specs.declared.table.ObjectTable.{ObjectTable}
+use Rattle.pages.specs.State.{PagesState}
+use Rattle.paged_objects.specs.Standing.{Stands}
+use Rattle.page_volume.specs.declared.volume.PageVolume.{PageVolume}
+
+-- its pages
+abbrev pub pages_of : {P : Type 0} → PageVolume P → P
+pages_of v = (volumes.store_of v.volume).pages
+
+-- the table of its objects
+abbrev pub table_of : {P : Type 0} → PageVolume P → ObjectTable
+table_of v = (volumes.store_of v.volume).table
+
+-- commands that would change it are refused
+abbrev pub is_read_only : {P : Type 0} → PageVolume P → Bool
+is_read_only v = volumes.is_read_only v.volume
+
+-- it answers EIO to each command
+abbrev pub is_stopped : {P : Type 0} → PageVolume P → Bool
+is_stopped v = volumes.is_stopped v.volume
+
+-- The volume stands for a state: its sound pages hold the objects, its table tells them, and its descriptors are those of
+-- the state, which is one that a volume of these sizes can have.
+pub record IsVolumeOf {P : Type 0} (state : P → PagesState) (z : Sizes) (s : State) (v : PageVolume P) : Type 0 where
+  pub numbers : IsSizes z
+  pub sizes : sizes_of (table_of v) ≡ z
+  pub stands : Stands z (state (pages_of v)) s.objects
+  pub tells : Tells (table_of v) s.objects
+  pub handles : volumes.handles_of v.volume ≡ s.handles
+  pub sound : IsSound z s

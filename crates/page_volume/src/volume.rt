@@ -1,0 +1,136 @@
+// A volume over pages.
+ghost use Rattle.std.specs.Prelude.{◌≡◌, ◌⊎◌, ◌≤◌, ℕ, true, false, length, IfOk, IfErr, OnOk};
+ghost use Rattle.std.specs.FinMap as map;
+ghost use Rattle.volume_terms.specs.Sizes.{Sizes, IsSizes};
+ghost use Rattle.posix_profile.specs.Losses.{is_synced};
+ghost use Rattle.posix_profile.specs.Runs.{Replies, after_one, is_stop};
+ghost use Rattle.posix_profile.specs.State.{Objects, State};
+ghost use Rattle.posix_profile.specs.laws.Sound.{IsSound};
+ghost use Rattle.posix_profile.specs.declared.reply.Errno.TheVariants as errors;
+ghost use Rattle.posix_profile.specs.declared.reply.Reply.TheVariants as replies;
+ghost use Rattle.object_store.specs.Stores.{settled};
+ghost use Rattle.object_table.specs.Told.{sizes_of, Tells};
+ghost use Rattle.pages.specs.Stores.{GoesOn};
+ghost use Rattle.paged_objects.specs.Ending.{StaysAs, HasEnded};
+ghost use Rattle.paged_objects.specs.Standing.{Stands, Shown};
+
+use object_commands::Volume;
+use object_store::ObjectStore;
+use object_table::ObjectTable;
+use paged_objects::PagedObjects;
+use pages::PageStore;
+use posix_profile::{Errno, Reply, Stamped};
+use std::alloc::{AllocError, Global};
+
+/// A volume whose objects lie in pages. One that is stopped answers EIO to each command.
+#[derive(Drop)]
+pub struct PageVolume<P: PageStore> {
+    volume: Volume<PagedObjects<P>>,
+}
+
+impl<P: PageStore> PageVolume<P> {
+    ghost use Rattle.page_volume.specs.Volumes.{pages_of, table_of, is_read_only, is_stopped, IsVolumeOf};
+    ghost use Rattle.page_volume.specs.Running.{RunsPages, OnlyTells};
+
+    /// A volume of the objects that the pages hold and the table tells, with no descriptor open.
+    pub fn new(
+        alloc: Global,
+        pages: P,
+        table: ObjectTable,
+        read_only: bool,
+    ) -> Result<PageVolume<P>, (P, AllocError)>
+        ensures pages { IfOk result (λ v. P.state (pages_of v) ≡ P.state pages) }
+        ensures table { IfOk result (λ v. table_of v ≡ table) }
+        ensures read_only { IfOk result (λ v. is_read_only v ≡ read_only) }
+        ensures goes_on { IfOk result (λ v. is_stopped v ≡ false) }
+        ensures at { (objects : Objects) → IsSizes (sizes_of table) → Stands (sizes_of table) (P.state pages) objects → Tells table objects → IsSound (sizes_of table) (record { objects = objects; handles = map.empty })
+            → IfOk result (IsVolumeOf P.state (sizes_of table) (record { objects = objects; handles = map.empty })) }
+        ensures given_back { IfErr result (λ back. P.state back.0 ≡ P.state pages) }
+    {
+        match Volume::new(alloc, PagedObjects::new(alloc, pages, table), read_only) {
+            Ok(volume) => Ok(PageVolume { volume }),
+            Err((objects, error)) => Err((objects.into_pages(), error)),
+        }
+    }
+
+    /// Does a command and replies to it.
+    pub fn call(&mut self, stamped: &Stamped) -> Reply
+        ensures goes_on { GoesOn (P.state (pages_of self.old)) (P.state (pages_of self.new)) }
+        ensures keeps { (is_read_only self.new ≡ is_read_only self.old) × (sizes_of (table_of self.new) ≡ sizes_of (table_of self.old)) }
+        ensures stopped { is_stopped self.old ≡ true → (result ≡ replies.Error errors.EIO) × (self.new ≡ self.old) }
+        ensures stops { is_stopped self.old ≡ false → (z : Sizes) (s : State) → IsVolumeOf P.state z s self.old → is_stopped self.new ≡ is_stop result }
+        // The reply is the step's; or want of memory, of a command that takes some; or the stop.
+        ensures replies { is_stopped self.old ≡ false → (z : Sizes) (s : State) → IsVolumeOf P.state z s self.old
+            → Replies z (is_read_only self.old) s stamped.now result }
+        ensures state { is_stopped self.old ≡ false → (z : Sizes) (s : State) → IsVolumeOf P.state z s self.old → is_stop result ≡ false
+            → IsVolumeOf P.state z (after_one z (is_read_only self.old) s stamped.now result) self.new }
+        // A mount shows the tree that it did, or what names keep of the objects before the command.
+        ensures tree { is_stopped self.old ≡ false → (z : Sizes) (s : State) → IsVolumeOf P.state z s self.old → (tree : Objects) → Shown z (P.state (pages_of self.old)) tree
+            → Shown z (P.state (pages_of self.new)) tree ⊎ Shown z (P.state (pages_of self.new)) (settled s.objects) }
+        ensures synced { is_stopped self.old ≡ false → (z : Sizes) (s : State) → IsVolumeOf P.state z s self.old → is_synced stamped.now.command result ≡ true
+            → Shown z (P.state (pages_of self.new)) (settled s.objects) }
+        ensures cause { is_stopped self.old ≡ false → (z : Sizes) (s : State) → IsVolumeOf P.state z s self.old → is_stop result ≡ true
+            → HasEnded (P.state (pages_of self.old)) (P.state (pages_of self.new)) }
+        // What only tells, and what is answered by another error, leaves the pages.
+        ensures reads { is_stopped self.old ≡ false → (z : Sizes) (s : State) → IsVolumeOf P.state z s self.old → OnlyTells stamped.now result
+            → StaysAs (P.state (pages_of self.old)) (P.state (pages_of self.new)) }
+    {
+        self.volume.call(stamped)
+    }
+
+    /// Does the commands in turn and adds their replies at the end of the vector. Where a reply finds no room its command
+    /// is not begun, nor is any after it.
+    pub fn run(&mut self, commands: &[Stamped], replies: &mut Vec<Reply>) -> Result<(), AllocError>
+        ensures goes_on { GoesOn (P.state (pages_of self.old)) (P.state (pages_of self.new)) }
+        ensures keeps { (is_read_only self.new ≡ is_read_only self.old) × (sizes_of (table_of self.new) ≡ sizes_of (table_of self.old)) }
+        ensures runs { (n : ℕ) × (n ≤ length commands.now) × OnOk result (n ≡ length commands.now)
+            × RunsPages P.state commands.now n replies.old.items replies.new.items self.old self.new }
+    {
+        self.volume.run(commands, replies)
+    }
+
+    /// Commits what was accepted and gives the pages back, with the reply Done or EIO.
+    pub fn finish(self) -> (P, Reply)
+        ensures goes_on { GoesOn (P.state (pages_of self)) (P.state result.0) }
+        ensures stopped { is_stopped self ≡ true → (result.1 ≡ replies.Error errors.EIO) × (P.state result.0 ≡ P.state (pages_of self)) }
+        ensures replies { is_stopped self ≡ false → (result.1 ≡ replies.Done) ⊎ (result.1 ≡ replies.Error errors.EIO) }
+        ensures done { is_stopped self ≡ false → (z : Sizes) (s : State) → IsVolumeOf P.state z s self → result.1 ≡ replies.Done
+            → Shown z (P.state result.0) (settled s.objects) }
+        ensures tree { is_stopped self ≡ false → (z : Sizes) (s : State) → IsVolumeOf P.state z s self → (tree : Objects) → Shown z (P.state (pages_of self)) tree
+            → Shown z (P.state result.0) tree ⊎ Shown z (P.state result.0) (settled s.objects) }
+        ensures cause { is_stopped self ≡ false → (z : Sizes) (s : State) → IsVolumeOf P.state z s self → result.1 ≡ replies.Error errors.EIO
+            → HasEnded (P.state (pages_of self)) (P.state result.0) }
+    {
+        let stopped = self.volume.stopped();
+        let mut objects = self.volume.into_store();
+        if stopped {
+            return (objects.into_pages(), Reply::Error(Errno::EIO));
+        }
+        let reply = match objects.commit() {
+            Ok(()) => Reply::Done,
+            Err(_) => Reply::Error(Errno::EIO),
+        };
+        (objects.into_pages(), reply)
+    }
+
+    /// Gives the pages back as they are, as if power were lost between two calls.
+    pub fn into_pages(self) -> P
+        ensures { P.state result ≡ P.state (pages_of self) }
+    {
+        self.volume.into_store().into_pages()
+    }
+
+    /// Whether commands that would change it are refused.
+    pub fn read_only(&self) -> bool
+        ensures { result ≡ is_read_only self.now }
+    {
+        self.volume.read_only()
+    }
+
+    /// Whether it answers EIO to each command.
+    pub fn stopped(&self) -> bool
+        ensures { result ≡ is_stopped self.now }
+    {
+        self.volume.stopped()
+    }
+}

@@ -1,0 +1,111 @@
+-- How the parts of a change end.
+use Rattle.std.specs.Prelude.{◌≡◌, ◌∷◌, [], ℕ, true, OnOk, IfErr, IsErrOf, Result, Ok, Err}
+use Rattle.std.proofs.Common.{refl, ◌∙◌, inl, inr}
+use Rattle.std.specs.FinMap as map
+use Rattle.volume_terms.specs.Sizes.{Sizes}
+use Rattle.volume_terms.specs.declared.fault.StoreFault.{StoreFault}
+use Rattle.volume_terms.specs.declared.fault.StoreFault.TheVariants as faults
+use Rattle.posix_profile.specs.State.{Objects}
+use Rattle.object_table.specs.Told.{sizes_of, Tells, TellsTheSame}
+use Rattle.object_table.specs.declared.table.ObjectTable.{ObjectTable}
+use Rattle.pages.specs.Faults.{MayLackMemory}
+use Rattle.pages.specs.Maps.{PageMap, without_cuts}
+use Rattle.pages.specs.State.{PagesState, OnlyFinds}
+use Rattle.pages.specs.Stores.{SamePages, GoesOn, StaysSame, KeptAs, KeepsEither, ChangeFailsBy, CommitFailsBy}
+use Rattle.pages.specs.declared.fault.PageFault.{PageFault}
+use Rattle.pages.specs.declared.fault.PageFault.TheVariants as page_faults
+use Rattle.object_pages.specs.Holding.{HoldsObjects}
+use Rattle.object_pages.specs.laws.Holding.{cut_object}
+use Rattle.paged_objects.specs.Faults.{fault_of, ending_fault, ReadFailsBy}
+use Rattle.paged_objects.specs.Standing.{Stands}
+use Rattle.paged_objects.specs.Ending.{StaysAs, Turns, Fails, Commits, HasPages, EndsPages, Ends}
+use Rattle.paged_objects.specs.laws.Going.{finds_stay, refused_stays, stays_on, volume_on}
+use Rattle.paged_objects.specs.laws.Showing.{stays_stands, changed_stands, still_shown, either_turns, kept_shown, turns_after, fails_after, read_fails}
+
+-- a fault of reads, as the store's
+pub read_fault : (q : PagesState) (fault : PageFault) → MayLackMemory q fault → ReadFailsBy q (fault_of fault)
+read_fault q page_faults.NoMemory why = tt
+read_fault q page_faults.Device why = why
+read_fault q page_faults.Worn why = absurd why
+read_fault q page_faults.Damaged why = absurd why
+read_fault q page_faults.Full why = absurd why
+
+-- objects that are there after look-ups
+pub has_after : (z : Sizes) (p q : PagesState) (objects : Objects) → OnlyFinds p q → HasPages z p objects → HasPages z q objects
+has_after z p q objects finds has = record { stands = stays_stands z p q objects (finds_stay p q finds) has.stands; can = has.can }
+
+-- a change of pages that was taken or not
+pub took : (z : Sizes) (p q : PagesState) (old new : Objects) (m : PageMap) (result : Result (Unit {0}) StoreFault) → HasPages z p old → HoldsObjects z m new → GoesOn p q
+    → OnOk result (p.sound ≡ true → q.sound ≡ true) → OnOk result (SamePages q.present m) → KeepsEither p q → (IsErrOf result faults.NoMemory → StaysSame p q) → IfErr result (ChangeFailsBy p q)
+    → EndsPages z p q old new result
+took z p q old new m (Ok done) has holds goes sound same keeps refused why =
+    (changed_stands z p q old new m goes has.stands (sound has.stands.sound) holds same, either_turns z p q old goes has.stands has.can keeps)
+took z p q old new m (Err faults.NoMemory) has holds goes sound same keeps refused why = refused_stays p q goes (refused refl)
+took z p q old new m (Err faults.Device) has holds goes sound same keeps refused why = record { goes_on = goes; turns = either_turns z p q old goes has.stands has.can keeps; cause = inl why }
+took z p q old new m (Err faults.Worn) has holds goes sound same keeps refused why = record { goes_on = goes; turns = either_turns z p q old goes has.stands has.can keeps; cause = inr why }
+
+-- reads before a change do not matter
+pub ends_after : (z : Sizes) (p q r : PagesState) (old new : Objects) (result : Result (Unit {0}) StoreFault) → StaysAs p q → EndsPages z q r old new result → EndsPages z p r old new result
+ends_after z p q r old new (Ok done) stays ends = (ends.0, turns_after z p q r old stays ends.1)
+ends_after z p q r old new (Err faults.NoMemory) stays ends = stays_on p q r stays ends
+ends_after z p q r old new (Err faults.Device) stays ends = fails_after z p q r old stays ends
+ends_after z p q r old new (Err faults.Worn) stays ends = fails_after z p q r old stays ends
+
+-- a change that is not made for want of what it reads
+pub read_ends : (z : Sizes) (p q : PagesState) (old new : Objects) (fault : StoreFault) → OnlyFinds p q → ReadFailsBy q fault → EndsPages z p q old new (Err fault)
+read_ends z p q old new faults.NoMemory finds why = finds_stay p q finds
+read_ends z p q old new faults.Device finds why = read_fails z p q old (finds_stay p q finds) why
+read_ends z p q old new faults.Worn finds why = absurd why
+
+-- a change of the pages that is not made leaves the table
+pub not_made : (p q : PagesState) (table after : ObjectTable) (old new : Objects) (fault : StoreFault) → TellsTheSame table after → EndsPages (sizes_of table) p q old new (Err fault) → Ends p q table after old new (Err fault)
+not_made p q table after old new faults.NoMemory same ends = (ends, same)
+not_made p q table after old new faults.Device same ends = ends
+not_made p q table after old new faults.Worn same ends = ends
+
+-- what a cut leaves of what a mount shows
+cut_turns : (z : Sizes) (p q : PagesState) (objects : Objects) → HasPages z p objects → GoesOn p q → KeptAs q p.kept → Turns z objects p q
+cut_turns z p q objects has goes kept tree shown = inl (still_shown z p q tree goes has.stands.sound kept shown)
+
+-- an object whose pages are cut is gone
+pub cut_done : (p q : PagesState) (table after : ObjectTable) (objects : Objects) (number : ℕ) → HasPages (sizes_of table) p objects → GoesOn p q → q.sound ≡ true
+    → SamePages q.present (without_cuts (record { object = number; from = 0 } ∷ []) p.present) → KeptAs q p.kept → Tells after (map.remove objects number)
+    → Ends p q table after objects (map.remove objects number) (Ok tt)
+cut_done p q table after objects number has goes sound same kept tells = (
+  changed_stands (sizes_of table) p q objects (map.remove objects number) (without_cuts (record { object = number; from = 0 } ∷ []) p.present) goes has.stands sound
+      (cut_object (sizes_of table) p.present objects has.stands.holds number) same,
+  tells,
+  cut_turns (sizes_of table) p q objects has goes kept,
+)
+
+ended_so : (z : Sizes) (p q : PagesState) (objects : Objects) (fault : StoreFault) → GoesOn p q → Turns z objects p q → CommitFailsBy p q fault → Fails z objects p q
+ended_so z p q objects faults.NoMemory goes turns why = absurd why
+ended_so z p q objects faults.Device goes turns why = record { goes_on = goes; turns = turns; cause = inl why }
+ended_so z p q objects faults.Worn goes turns why = record { goes_on = goes; turns = turns; cause = inr why }
+
+fails_ends : (p q : PagesState) (table after : ObjectTable) (old new : Objects) (fault : StoreFault) → Fails (sizes_of table) old p q → Ends p q table after old new (Err (ending_fault fault))
+fails_ends p q table after old new faults.NoMemory fails = fails
+fails_ends p q table after old new faults.Device fails = fails
+fails_ends p q table after old new faults.Worn fails = fails
+
+pub cut_failed : (p q : PagesState) (table after : ObjectTable) (objects new : Objects) (fault : StoreFault) → HasPages (sizes_of table) p objects → GoesOn p q → KeptAs q p.kept → CommitFailsBy p q fault
+    → Ends p q table after objects new (Err (ending_fault fault))
+cut_failed p q table after objects new fault has goes kept why =
+    fails_ends p q table after objects new fault (ended_so (sizes_of table) p q objects fault goes (cut_turns (sizes_of table) p q objects has goes kept) why)
+
+-- no fault of a call that takes no memory is want of it
+pub never_memory : (fault : StoreFault) → ending_fault fault ≡ faults.NoMemory → ⊥
+never_memory faults.NoMemory is = absurd cc
+never_memory faults.Device is = absurd cc
+never_memory faults.Worn is = absurd cc
+
+-- a commit that is done
+pub committed : (z : Sizes) (p q : PagesState) (objects : Objects) → HasPages z p objects → GoesOn p q → q.sound ≡ true → SamePages q.present p.present → KeptAs q p.present → Stands z q objects × Commits z objects p q
+committed z p q objects has goes sound same kept = (
+  changed_stands z p q objects objects p.present goes has.stands sound has.stands.holds same,
+  record { goes_on = goes; shown = kept_shown z q p.present objects (volume_on p q goes ∙ has.stands.sizes) kept has.stands.holds has.can },
+)
+
+-- one that ended the use of the store
+pub commit_failed : (z : Sizes) (p q : PagesState) (objects : Objects) (fault : StoreFault) → HasPages z p objects → GoesOn p q → KeepsEither p q → CommitFailsBy p q fault → Fails z objects p q
+commit_failed z p q objects fault has goes keeps why = ended_so z p q objects fault goes (either_turns z p q objects goes has.stands has.can keeps) why

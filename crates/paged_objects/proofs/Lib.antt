@@ -1,0 +1,3 @@
+pub mod Ends
+pub mod Planned
+pub mod Meant

@@ -1,0 +1,89 @@
+-- What the words of the trait say of pages and a table.
+use Rattle.std.specs.Prelude.{◌≡◌, ℕ, true, Result, Ok, Err}
+use Rattle.std.proofs.Common.{refl, sym, subst}
+use Rattle.volume_terms.specs.Sizes.{Sizes, IsSizes}
+use Rattle.volume_terms.specs.declared.fault.StoreFault.{StoreFault}
+use Rattle.volume_terms.specs.declared.fault.StoreFault.TheVariants as faults
+use Rattle.posix_profile.specs.State.{Objects}
+use Rattle.posix_profile.specs.Charge.{fits}
+use Rattle.posix_profile.specs.WellFormed.{IsForest}
+use Rattle.object_store.specs.Changes.{CanMake, takes_none}
+use Rattle.object_store.specs.declared.change.ObjectChange.{ObjectChange}
+use Rattle.object_store.specs.declared.change.ObjectChange.TheVariants as changes
+use Rattle.object_store.specs.Stores.{Faults, Applies}
+use Rattle.object_table.specs.Told.{sizes_of, Tells, TellsTheSame}
+use Rattle.object_table.specs.Told as told
+use Rattle.object_pages.specs.Holding.{CanHave}
+use Rattle.object_table.specs.declared.table.ObjectTable.{ObjectTable}
+use Rattle.pages.specs.State.{PagesState, OnlyFinds}
+use Rattle.pages.specs.Stores.{GoesOn}
+use Rattle.paged_objects.specs.Faults.{ReadFailsBy, ending_fault}
+use Rattle.paged_objects.specs.Standing.{Stands}
+use Rattle.paged_objects.specs.Ending.{HasObjects, Fails, Ends}
+use Rattle.paged_objects.specs.Meaning.{paged_meaning}
+use Rattle.paged_objects.specs.laws.Going.{finds_stay}
+use Rattle.paged_objects.specs.laws.Lawful.{same_here}
+use Rattle.paged_objects.specs.laws.Showing.{read_fails}
+
+-- what the trait says of a store that has objects
+pub has_objects : (p : PagesState) (t : ObjectTable) (z : Sizes) (objects : Objects) → IsSizes z → sizes_of t ≡ z → Stands (sizes_of t) p objects → Tells t objects → IsForest z objects → fits z objects ≡ true
+    → HasObjects p t objects
+has_objects p t z objects numbers is stands tells forest fit = record {
+  pages = record {
+    stands = stands;
+    can = record {
+      numbers = subst IsSizes (sym is) numbers;
+      forest = subst (λ (k : Sizes). IsForest k objects) (sym is) forest;
+      fit = subst (λ (k : Sizes). fits k objects ≡ true) (sym is) fit;
+    };
+  };
+  tells = tells;
+}
+
+-- what a volume can have, as the table says it
+pub can_have : (z y : Sizes) (objects : Objects) → y ≡ z → CanHave z objects → told.CanHave y objects
+can_have z y objects is can = record {
+  sizes = subst IsSizes (sym is) can.numbers;
+  forest = subst (λ (k : Sizes). IsForest k objects) (sym is) can.forest;
+  fit = subst (λ (k : Sizes). fits k objects ≡ true) (sym is) can.fit;
+}
+
+-- a change that can be made, with the table's own sizes
+pub can_make : (z y : Sizes) (objects : Objects) (change : ObjectChange) → y ≡ z → CanMake z objects change → CanMake y objects change
+can_make z y objects change is make = subst (λ (k : Sizes). CanMake k objects change) (sym is) make
+
+module _ {S P : Type 0} (state : P → PagesState) (pages : S → P) (table : S → ObjectTable) where
+  -- a fault of a read
+  pub read_faults : (a b : S) (objects : Objects) (fault : StoreFault) → OnlyFinds (state (pages a)) (state (pages b)) → table b ≡ table a → ReadFailsBy (state (pages b)) fault
+      → Faults (paged_meaning state pages table) objects objects a b fault
+  read_faults a b objects faults.NoMemory finds same why = (finds_stay _ _ finds, subst (TellsTheSame (table a)) (sym same) (same_here (table a)))
+  read_faults a b objects faults.Device finds same why = (read_fails _ _ _ objects (finds_stay _ _ finds) why, subst (λ (t : ObjectTable). sizes_of t ≡ sizes_of (table a)) (sym same) refl)
+  read_faults a b objects faults.Worn finds same why = absurd why
+
+  -- a fault of a call that takes no memory
+  pub ending_faults : (a b : S) (old new : Objects) (fault : StoreFault) → Fails (sizes_of (table a)) old (state (pages a)) (state (pages b)) → table b ≡ table a
+      → Faults (paged_meaning state pages table) old new a b (ending_fault fault)
+  ending_faults a b old new faults.NoMemory fails same = (fails, subst (λ (t : ObjectTable). sizes_of t ≡ sizes_of (table a)) (sym same) refl)
+  ending_faults a b old new faults.Device fails same = (fails, subst (λ (t : ObjectTable). sizes_of t ≡ sizes_of (table a)) (sym same) refl)
+  ending_faults a b old new faults.Worn fails same = (fails, subst (λ (t : ObjectTable). sizes_of t ≡ sizes_of (table a)) (sym same) refl)
+
+  -- the end of a change
+  pub applied : (a b : S) (old new : Objects) (result : Result (Unit {0}) StoreFault) → GoesOn (state (pages a)) (state (pages b)) → sizes_of (table b) ≡ sizes_of (table a)
+      → Ends (state (pages a)) (state (pages b)) (table a) (table b) old new result → Applies (paged_meaning state pages table) old new a b result
+  applied a b old new (Ok done) goes same ends = (
+    (subst (λ (k : Sizes). Stands k (state (pages b)) new) (sym same) ends.0, ends.1),
+    (record { goes_on = goes; turns = ends.2 }, same),
+  )
+  applied a b old new (Err faults.NoMemory) goes same ends = ends
+  applied a b old new (Err faults.Device) goes same ends = (ends, same)
+  applied a b old new (Err faults.Worn) goes same ends = (ends, same)
+
+-- only one that forgets takes no memory
+pub forgets : (change : ObjectChange) → takes_none change ≡ true → (number : ℕ) × (change ≡ changes.Forget number)
+forgets (changes.Create entry kind moment) is = absurd cc
+forgets (changes.Name entry number moment) is = absurd cc
+forgets (changes.Remove entry dropped moment) is = absurd cc
+forgets (changes.Move from to number dropped moment) is = absurd cc
+forgets (changes.Write number offset bytes moment) is = absurd cc
+forgets (changes.Resize number length moment) is = absurd cc
+forgets (changes.Forget number) is = (number, refl)

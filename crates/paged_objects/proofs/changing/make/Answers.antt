@@ -1,0 +1,72 @@
+use Rattle.std.proofs.Common.{◌≡◌, Ok, Err}
+use Rattle.std.proofs.lemmas.Result.{err_from_is_err_and}
+use Rattle.volume_terms.specs.Sizes.{Sizes}
+use Rattle.object_store.specs.Changes.{made}
+use Rattle.posix_profile.specs.Changes.{new_number}
+use Rattle.object_table.specs.Told.{sizes_of, LedBefore}
+use Rattle.pages.specs.State.{PagesState}
+use Rattle.paged_objects.specs.Ending.{EndsPages}
+use Rattle.paged_objects.specs.laws.Going.{finds_stay, stays_goes, goes_on}
+use Rattle.paged_objects.specs.laws.Showing.{turns_after}
+use Rattle.paged_objects.specs.laws.Lawful.{tells_on}
+use Rattle.paged_objects.proofs.Ends.{has_after, ends_after, read_ends, not_made}
+use Rattle.paged_objects.proofs.Meant.{can_make, can_have}
+use Rattle.paged_objects.proofs.changing.make.Goals as goal
+
+pub returns-in_err-replaced-clause-goes_on : goal.returns-in_err-replaced-clause-goes_on
+returns-in_err-replaced-clause-goes_on g c =
+    stays_goes (g.P.Pages.state c.args.pages.now) (g.P.Pages.state c.find_replaced.new.pages) (finds_stay _ _ c.find_replaced.ensures.finds)
+
+pub returns-in_err-replaced-clause-makes : goal.returns-in_err-replaced-clause-makes
+returns-in_err-replaced-clause-makes g c = λ objects has make.
+    let p : PagesState = g.P.Pages.state c.args.pages.now in
+    let q : PagesState = g.P.Pages.state c.find_replaced.new.pages in
+    let z : Sizes = sizes_of c.args.table.now in
+    let new = made objects c.args.change.now in
+    let e = err_from_is_err_and c.from_residual-in_err-replaced.result c.from_residual-in_err-replaced.ensures.1 in
+    rw (e.1, e.2) (not_made p q c.args.table.now c.prepare.new.table objects new c.in_err-replaced.field-0.0 c.prepare.ensures.same
+    (read_ends z p q objects new c.in_err-replaced.field-0.0 c.find_replaced.ensures.finds (c.in_err-replaced.ensures.fault z objects has.pages make)))
+
+pub returns-in_err-change_pages-clause-goes_on : goal.returns-in_err-change_pages-clause-goes_on
+returns-in_err-change_pages-clause-goes_on g c =
+    let p : PagesState = g.P.Pages.state c.args.pages.now in
+    let q : PagesState = g.P.Pages.state c.find_replaced.new.pages in
+    goes_on p q (g.P.Pages.state c.change_pages.new.pages) (stays_goes p q (finds_stay p q c.find_replaced.ensures.finds)) c.change_pages.ensures.goes_on
+
+pub returns-in_err-change_pages-clause-makes : goal.returns-in_err-change_pages-clause-makes
+returns-in_err-change_pages-clause-makes g c = λ objects has make.
+    let p : PagesState = g.P.Pages.state c.args.pages.now in
+    let q : PagesState = g.P.Pages.state c.find_replaced.new.pages in
+    let r : PagesState = g.P.Pages.state c.change_pages.new.pages in
+    let z : Sizes = sizes_of c.args.table.now in
+    let new = made objects c.args.change.now in
+    let stays = finds_stay p q c.find_replaced.ensures.finds in
+    let next : c.new_number-new.result ≡ new_number objects = c.new_number-new.ensures objects (tells_on c.args.table.now c.prepare.new.table objects c.prepare.ensures.same has.tells) in
+    let ends : EndsPages z q r objects new (Err c.in_err-change_pages.field-0.0) = c.in_err-change_pages.ensures.makes z objects (has_after z p q objects c.find_replaced.ensures.finds has.pages) make next in
+    let e = err_from_is_err_and c.from_residual-in_err-change_pages.result c.from_residual-in_err-change_pages.ensures.1 in
+    rw (e.1, e.2) (not_made p r c.args.table.now c.prepare.new.table objects new c.in_err-change_pages.field-0.0 c.prepare.ensures.same
+    (ends_after z p q r objects new (Err c.in_err-change_pages.field-0.0) stays ends))
+
+pub returns-clause-goes_on : goal.returns-clause-goes_on
+returns-clause-goes_on g c =
+    let p : PagesState = g.P.Pages.state c.args.pages.now in
+    let q : PagesState = g.P.Pages.state c.find_replaced.new.pages in
+    goes_on p q (g.P.Pages.state c.change_pages.new.pages) (stays_goes p q (finds_stay p q c.find_replaced.ensures.finds)) c.change_pages.ensures.goes_on
+
+pub returns-clause-makes : goal.returns-clause-makes
+returns-clause-makes g c = λ objects has make.
+    let p : PagesState = g.P.Pages.state c.args.pages.now in
+    let q : PagesState = g.P.Pages.state c.find_replaced.new.pages in
+    let r : PagesState = g.P.Pages.state c.change_pages.new.pages in
+    let z : Sizes = sizes_of c.args.table.now in
+    let new = made objects c.args.change.now in
+    let same = c.prepare.ensures.same in
+    let stays = finds_stay p q c.find_replaced.ensures.finds in
+    let tells = tells_on c.args.table.now c.prepare.new.table objects same has.tells in
+    let next : c.new_number-new.result ≡ new_number objects = c.new_number-new.ensures objects tells in
+    let ends : EndsPages z q r objects new (Ok tt) = c.in_ok-change_pages.ensures.makes z objects (has_after z p q objects c.find_replaced.ensures.finds has.pages) make next in
+    let led : LedBefore objects c.args.change.now c.in_ok-replaced.replaced = c.in_ok-replaced.ensures.found z objects has.pages make in (
+      ends.0,
+      c.apply.ensures.tells objects tells (can_have z (sizes_of c.prepare.new.table) objects same.sizes has.pages.can) (can_make z (sizes_of c.prepare.new.table) objects c.args.change.now same.sizes make) led,
+      turns_after z p q r objects stays ends.1,
+    )

@@ -1,0 +1,10 @@
+use Rattle.pages.specs.Maps.{changed}
+use Rattle.pages.specs.State.{PagesState}
+use Rattle.paged_objects.proofs.Ends.{took}
+use Rattle.paged_objects.proofs.changing.take.Goals as goal
+
+pub returns-clause-makes : goal.returns-clause-makes
+returns-clause-makes g c = λ z old new has few holds.
+    let p : PagesState = g.P.Pages.state c.args.pages.now in
+    let e = c.apply.ensures in
+    took z p (g.P.Pages.state c.apply.new.self) old new (changed c.args.planned p.present) c.apply.result has holds e.goes_on e.sound (e.present has.stands.sound) (e.kept has.stands.sound) e.refused (e.fault has.stands.sound)

@@ -1,0 +1,75 @@
+-- What calls of a store of objects leave of its pages and of its table.
+use Rattle.std.specs.Prelude.{◌≡◌, ◌⊎◌, true, Result, Ok, Err}
+use Rattle.nand_model.specs.Changes.{OnlyReads}
+use Rattle.volume_terms.specs.Sizes.{Sizes}
+use Rattle.volume_terms.specs.declared.fault.StoreFault.{StoreFault}
+use Rattle.volume_terms.specs.declared.fault.StoreFault.TheVariants as faults
+use Rattle.posix_profile.specs.State.{Objects}
+use Rattle.object_store.specs.Stores.{settled}
+use Rattle.object_table.specs.Told.{sizes_of, Tells, TellsTheSame}
+use Rattle.object_table.specs.declared.table.ObjectTable.{ObjectTable}
+use Rattle.pages.specs.State.{PagesState}
+use Rattle.pages.specs.Stores.{SamePages, GoesOn, IsWornOut}
+use Rattle.object_pages.specs.Holding.{CanHave}
+use Rattle.paged_objects.specs.Standing.{Stands, Shown}
+
+-- The pages are the same, and the device was only read: so look-ups leave them, and a change that was refused memory.
+pub record StaysAs (old new : PagesState) : Type 0 where
+  pub page_bytes : new.page_bytes ≡ old.page_bytes
+  pub most : new.most ≡ old.most
+  pub spare : new.spare ≡ old.spare
+  pub present : SamePages new.present old.present
+  pub kept : SamePages new.kept old.kept
+  pub sound : new.sound ≡ old.sound
+  pub failed : old.failed ≡ true → new.failed ≡ true
+  pub refused : old.refused ≡ true → new.refused ≡ true
+  pub device : OnlyReads old.device new.device
+  pub next : new.next ≡ old.next
+
+-- a mount shows the tree that it did, or the settled objects
+abbrev pub Turns : Sizes → Objects → PagesState → PagesState → Type 0
+Turns z objects p q = (tree : Objects) → Shown z p tree → Shown z q tree ⊎ Shown z q (settled objects)
+
+-- what ended the use of a store: its device has failed, or there is nothing left to write with
+abbrev pub HasEnded : PagesState → PagesState → Type 0
+HasEnded p q = (q.failed ≡ true) ⊎ IsWornOut p q
+
+-- a change of the objects was made
+pub record Changes (z : Sizes) (objects : Objects) (p q : PagesState) : Type 0 where
+  pub goes_on : GoesOn p q
+  pub turns : Turns z objects p q
+
+-- a call ended the use of the store that had these objects
+pub record Fails (z : Sizes) (objects : Objects) (p q : PagesState) : Type 0 where
+  pub goes_on : GoesOn p q
+  pub turns : Turns z objects p q
+  pub cause : HasEnded p q
+
+-- the objects were committed: a mount shows them settled
+pub record Commits (z : Sizes) (objects : Objects) (p q : PagesState) : Type 0 where
+  pub goes_on : GoesOn p q
+  pub shown : Shown z q (settled objects)
+
+-- a store of pages holds objects that its volume can have
+pub record HasPages (z : Sizes) (p : PagesState) (objects : Objects) : Type 0 where
+  pub stands : Stands z p objects
+  pub can : CanHave z objects
+
+-- and its table tells them
+pub record HasObjects (p : PagesState) (table : ObjectTable) (objects : Objects) : Type 0 where
+  pub pages : HasPages (sizes_of table) p objects
+  pub tells : Tells table objects
+
+-- how a change of the pages ends, which was to make the second objects of the first
+abbrev pub EndsPages : Sizes → PagesState → PagesState → Objects → Objects → Result (Unit {0}) StoreFault → Type 0
+EndsPages z p q old new (Ok done) = Stands z q new × Turns z old p q
+EndsPages z p q old new (Err faults.NoMemory) = StaysAs p q
+EndsPages z p q old new (Err faults.Device) = Fails z old p q
+EndsPages z p q old new (Err faults.Worn) = Fails z old p q
+
+-- how a change ends with the table that tells of them
+abbrev pub Ends : PagesState → PagesState → ObjectTable → ObjectTable → Objects → Objects → Result (Unit {0}) StoreFault → Type 0
+Ends p q table after old new (Ok done) = Stands (sizes_of table) q new × Tells after new × Turns (sizes_of table) old p q
+Ends p q table after old new (Err faults.NoMemory) = StaysAs p q × TellsTheSame table after
+Ends p q table after old new (Err faults.Device) = Fails (sizes_of table) old p q
+Ends p q table after old new (Err faults.Worn) = Fails (sizes_of table) old p q

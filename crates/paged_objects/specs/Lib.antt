@@ -1,0 +1,5 @@
+pub mod Standing
+pub mod Ending
+pub mod Faults
+pub mod Meaning
+pub mod laws

@@ -1,0 +1,23 @@
+-- What objects over pages stand for.
+use Rattle.std.specs.Prelude.{◌≡◌}
+use Rattle.object_store.specs.Stores.{Meaning}
+use Rattle.object_table.specs.Told.{sizes_of, Tells, TellsTheSame}
+use Rattle.object_table.specs.declared.table.ObjectTable.{ObjectTable}
+use Rattle.pages.specs.State.{PagesState}
+use Rattle.pages.specs.Stores.{GoesOn}
+use Rattle.paged_objects.specs.Standing.{Stands, Shown}
+use Rattle.paged_objects.specs.Ending.{StaysAs, Changes, Fails, Commits}
+
+-- The objects that the pages hold and the table tells. A mount shows those that names keep of what the device kept last.
+-- Each call goes on with the same volume; one that only reads leaves pages and table as they were.
+abbrev pub paged_meaning : {S P : Type 0} (state : P → PagesState) (pages : S → P) (table : S → ObjectTable) → Meaning S
+paged_meaning state pages table = record {
+  sizes = λ s. sizes_of (table s);
+  stands = λ s objects. Stands (sizes_of (table s)) (state (pages s)) objects × Tells (table s) objects;
+  shows = λ s tree. Shown (sizes_of (table s)) (state (pages s)) tree;
+  lasts = λ a b. GoesOn (state (pages a)) (state (pages b)) × (sizes_of (table b) ≡ sizes_of (table a));
+  reads = λ a b. StaysAs (state (pages a)) (state (pages b)) × TellsTheSame (table a) (table b);
+  changes = λ old new a b. Changes (sizes_of (table a)) old (state (pages a)) (state (pages b)) × (sizes_of (table b) ≡ sizes_of (table a));
+  fails = λ old new a b. Fails (sizes_of (table a)) old (state (pages a)) (state (pages b)) × (sizes_of (table b) ≡ sizes_of (table a));
+  commits = λ objects a b. Commits (sizes_of (table a)) objects (state (pages a)) (state (pages b)) × (sizes_of (table b) ≡ sizes_of (table a));
+}

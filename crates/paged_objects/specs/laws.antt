@@ -1,0 +1,4 @@
+pub mod Going
+pub mod Showing
+pub mod Lawful
+pub mod OnFlash

@@ -1,0 +1,132 @@
+-- What a mount shows after calls of a store of pages.
+use Rattle.std.specs.Prelude.{◌≡◌, ℕ, true}
+use Rattle.std.proofs.Common.{refl, sym, ◌∙◌, subst, inl, inr}
+use Rattle.nand_model.specs.Flash.{Flash}
+use Rattle.nand_model.specs.Calls.{Device}
+use Rattle.nand_model.specs.Changes.{OnlyReads}
+use Rattle.nand_model.specs.declared.geometry.Geometry.{Geometry}
+use Rattle.flash_tree.specs.FreeBlocks.{LeavesFree}
+use Rattle.flash_tree.specs.laws.Place.{same_flash}
+use Rattle.volume_terms.specs.Sizes.{Sizes}
+use Rattle.posix_profile.specs.State.{Objects}
+use Rattle.object_store.specs.Stores.{settled}
+use Rattle.pages.specs.Maps.{PageMap}
+use Rattle.pages.specs.State.{PagesState}
+use Rattle.pages.specs.Stores.{Carries, HasPage, HasNumbersLeft, IsCarried, SamePages, GoesOn, KeptAs, KeepsEither}
+use Rattle.object_pages.specs.Holding.{HoldsObjects, HoldsIn, CanHave}
+use Rattle.object_pages.specs.laws.Holding.{same_objects}
+use Rattle.paged_objects.specs.Standing.{volume_of, Stands, Shown}
+use Rattle.paged_objects.specs.Ending.{StaysAs, Turns, Changes, Fails, Commits}
+use Rattle.paged_objects.specs.laws.Going.{stays_goes, goes_on, volume_on, ended_before}
+
+-- what a device carries it carries after reads
+carried_read : (a b : Device) (spare : ℕ) (m : PageMap) → OnlyReads a b → a.honest ≡ true → IsCarried a spare m → IsCarried b spare m
+carried_read a b spare m reads honest carried =
+    let same = sym (same_flash a b reads honest) in
+    record {
+      newest = subst (λ (f : Flash). Carries f m) same carried.newest;
+      free = subst (λ (g : Geometry). HasNumbersLeft b.flash → LeavesFree g b.flash spare (HasPage m)) (sym reads.lasts.geometry)
+          (subst (λ (f : Flash). HasNumbersLeft f → LeavesFree a.geometry f spare (HasPage m)) same carried.free);
+    }
+
+-- pages that stay show the same tree
+pub stays_shown : (z : Sizes) (p q : PagesState) (tree : Objects) → StaysAs p q → Shown z p tree → Shown z q tree
+stays_shown z p q tree stays shown = record {
+  pages = shown.pages;
+  objects = shown.objects;
+  sizes = volume_on p q (stays_goes p q stays) ∙ shown.sizes;
+  carried = λ honest.
+      let before : p.device.honest ≡ true = sym stays.device.lasts.honest ∙ honest in
+      subst (λ spare. IsCarried q.device spare shown.pages) (sym stays.spare) (carried_read p.device q.device p.spare shown.pages stays.device before (shown.carried before));
+  kept = λ sound o c. stays.kept o c ∙ shown.kept (sym stays.sound ∙ sound) o c;
+  holds = shown.holds;
+  can = shown.can;
+  settles = shown.settles;
+}
+
+-- and hold the same objects
+pub stays_stands : (z : Sizes) (p q : PagesState) (objects : Objects) → StaysAs p q → Stands z p objects → Stands z q objects
+stays_stands z p q objects stays stands = record {
+  sound = stays.sound ∙ stands.sound;
+  sizes = volume_on p q (stays_goes p q stays) ∙ stands.sizes;
+  page_bytes = stays.page_bytes ∙ stands.page_bytes;
+  most = stays.most ∙ stands.most;
+  holds = same_objects z p.present q.present objects stands.holds stays.present;
+}
+
+-- what objects stand in is what their changes are planned from
+pub holds_in : (z : Sizes) (p : PagesState) (objects : Objects) → Stands z p objects → HoldsIn p z objects
+holds_in z p objects stands = record { sound = stands.sound; size = sym stands.page_bytes; holds = stands.holds }
+
+-- after a change that was made the store has the new objects
+pub changed_stands : (z : Sizes) (p q : PagesState) (old new : Objects) (m : PageMap) → GoesOn p q → Stands z p old → q.sound ≡ true → HoldsObjects z m new → SamePages q.present m
+    → Stands z q new
+changed_stands z p q old new m goes stands sound holds same = record {
+  sound = sound;
+  sizes = volume_on p q goes ∙ stands.sizes;
+  page_bytes = goes.page_bytes ∙ stands.page_bytes;
+  most = goes.most ∙ stands.most;
+  holds = same_objects z m q.present new holds same;
+}
+
+-- pages that are kept show what they hold, settled
+pub kept_shown : (z : Sizes) (q : PagesState) (m : PageMap) (objects : Objects) → volume_of q ≡ z → KeptAs q m → HoldsObjects z m objects → CanHave z objects → Shown z q (settled objects)
+kept_shown z q m objects sizes kept holds can = record {
+  pages = m;
+  objects = objects;
+  sizes = sizes;
+  carried = kept.carried;
+  kept = kept.kept;
+  holds = holds;
+  can = can;
+  settles = refl;
+}
+
+-- where the kept pages of a sound store are kept, the tree that was shown is shown
+pub still_shown : (z : Sizes) (p q : PagesState) (tree : Objects) → GoesOn p q → p.sound ≡ true → KeptAs q p.kept → Shown z p tree → Shown z q tree
+still_shown z p q tree goes sound kept shown = record {
+  pages = p.kept;
+  objects = shown.objects;
+  sizes = volume_on p q goes ∙ shown.sizes;
+  carried = kept.carried;
+  kept = kept.kept;
+  holds = same_objects z shown.pages p.kept shown.objects shown.holds (shown.kept sound);
+  can = shown.can;
+  settles = shown.settles;
+}
+
+-- kept as they were, or as they are present: the tree that was shown, or the settled objects
+pub either_turns : (z : Sizes) (p q : PagesState) (objects : Objects) → GoesOn p q → Stands z p objects → CanHave z objects → KeepsEither p q → Turns z objects p q
+either_turns z p q objects goes stands can (inl kept) tree shown = inl (still_shown z p q tree goes stands.sound kept shown)
+either_turns z p q objects goes stands can (inr present) tree shown = inr (kept_shown z q p.present objects (volume_on p q goes ∙ stands.sizes) present stands.holds can)
+
+-- reads before a call do not matter
+pub turns_after : (z : Sizes) (p q r : PagesState) (objects : Objects) → StaysAs p q → Turns z objects q r → Turns z objects p r
+turns_after z p q r objects stays turns tree shown = turns tree (stays_shown z p q tree stays shown)
+
+pub changes_after : (z : Sizes) (p q r : PagesState) (objects : Objects) → StaysAs p q → Changes z objects q r → Changes z objects p r
+changes_after z p q r objects stays changes = record {
+  goes_on = goes_on p q r (stays_goes p q stays) changes.goes_on;
+  turns = turns_after z p q r objects stays changes.turns;
+}
+
+pub fails_after : (z : Sizes) (p q r : PagesState) (objects : Objects) → StaysAs p q → Fails z objects q r → Fails z objects p r
+fails_after z p q r objects stays fails = record {
+  goes_on = goes_on p q r (stays_goes p q stays) fails.goes_on;
+  turns = turns_after z p q r objects stays fails.turns;
+  cause = ended_before p q r stays fails.cause;
+}
+
+pub commits_after : (z : Sizes) (p q r : PagesState) (objects : Objects) → StaysAs p q → Commits z objects q r → Commits z objects p r
+commits_after z p q r objects stays commits = record {
+  goes_on = goes_on p q r (stays_goes p q stays) commits.goes_on;
+  shown = commits.shown;
+}
+
+-- a read that ended the use of the store
+pub read_fails : (z : Sizes) (p q : PagesState) (objects : Objects) → StaysAs p q → q.failed ≡ true → Fails z objects p q
+read_fails z p q objects stays failed = record {
+  goes_on = stays_goes p q stays;
+  turns = λ tree shown. inl (stays_shown z p q tree stays shown);
+  cause = inl failed;
+}

@@ -1,0 +1,123 @@
+// Objects over pages, as a store.
+ghost use Rattle.std.specs.Prelude.{◌≡◌, Err};
+ghost use Rattle.volume_terms.specs.declared.fault.StoreFault.TheVariants as faults;
+ghost use Rattle.object_table.specs.Told.{sizes_of};
+
+use crate::changing::{forget, make};
+use crate::fault::{ending_fault, fault_of};
+use object_store::{ObjectChange, ObjectStore};
+use object_table::ObjectTable;
+use pages::PageStore;
+use posix_profile::{Bytes, Info, NameList};
+use std::alloc::Global;
+use volume_terms::{StoreFault, VolumeSizes};
+
+/// Objects in pages. A table tells what it can without reading one.
+#[derive(Drop)]
+pub struct PagedObjects<P: PageStore> {
+    alloc: Global,
+    pages: P,
+    table: ObjectTable,
+}
+
+impl<P: PageStore> PagedObjects<P> {
+    /// The objects that the pages hold and the table tells.
+    pub fn new(alloc: Global, pages: P, table: ObjectTable) -> PagedObjects<P>
+        ensures pages { P.state result.pages ≡ P.state pages }
+        ensures table { result.table ≡ table }
+    {
+        PagedObjects {
+            alloc,
+            pages,
+            table,
+        }
+    }
+
+    /// The pages, as they are.
+    pub fn pages(&self) -> &P
+        ensures { P.state result.now ≡ P.state self.now.pages }
+    {
+        &self.pages
+    }
+
+    /// The pages alone. What was not committed is not on their device.
+    pub fn into_pages(self) -> P
+        ensures { P.state result ≡ P.state self.pages }
+    {
+        self.pages
+    }
+}
+
+impl<P: PageStore> ObjectStore for PagedObjects<P> {
+    ghost use Rattle.paged_objects.specs.Meaning.{paged_meaning};
+    ghost use Rattle.paged_objects.specs.laws.Lawful.{paged_lawful};
+
+    ghost meaning = { paged_meaning P.state (λ s. s.pages) (λ s. s.table) };
+
+    fn sizes(&self) -> VolumeSizes {
+        self.table.sizes()
+    }
+
+    fn info(&self, number: u64) -> Option<Info> {
+        self.table.info(number)
+    }
+
+    fn parent(&self, directory: u64) -> Option<u64> {
+        self.table.parent(directory)
+    }
+
+    fn entry_count(&self, directory: u64) -> u64 {
+        self.table.entry_count(directory)
+    }
+
+    fn charge(&self) -> u64 {
+        self.table.charge()
+    }
+
+    fn new_number(&self) -> u64 {
+        self.table.new_number()
+    }
+
+    fn find(&mut self, directory: u64, name: &[u8]) -> Result<Option<u64>, StoreFault> {
+        match object_pages::find(&mut self.pages, directory, name) {
+            Ok(found) => Ok(found),
+            Err(fault) => Err(fault_of(fault)),
+        }
+    }
+
+    fn names(&mut self, alloc: Global, directory: u64) -> Result<NameList, StoreFault> {
+        match object_pages::names(&mut self.pages, alloc, directory) {
+            Ok(names) => Ok(names),
+            Err(fault) => Err(fault_of(fault)),
+        }
+    }
+
+    fn read(
+        &mut self,
+        alloc: Global,
+        file: u64,
+        offset: u64,
+        count: u32,
+    ) -> Result<Bytes, StoreFault> {
+        match object_pages::read(&mut self.pages, alloc, file, offset, count) {
+            Ok(bytes) => Ok(bytes),
+            Err(fault) => Err(fault_of(fault)),
+        }
+    }
+
+    fn apply(&mut self, change: &ObjectChange<'_>) -> Result<(), StoreFault> {
+        match change {
+            ObjectChange::Forget { number } => { forget(&mut self.pages, &mut self.table, *number) }
+            _ => make(&mut self.pages, &mut self.table, self.alloc, change),
+        }
+    }
+
+    fn commit(&mut self) -> Result<(), StoreFault> {
+        match self.pages.commit() {
+            Ok(()) => Ok(()),
+            Err(fault) => Err(ending_fault(fault)),
+        }
+    }
+
+    ghost lawful = { paged_lawful P.state (λ s. s.pages) (λ s. s.table) };
+}

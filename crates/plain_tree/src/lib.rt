@@ -1,0 +1,13 @@
+//! A tree in memory for tests: a slow reference, read from a volume and compared with one by its commands.
+#![tactic(auto)]
+
+mod asking;
+mod building;
+mod fault;
+mod reading;
+#[cfg(test)]
+mod tests;
+mod tree;
+
+pub use fault::TreeFault;
+pub use tree::PlainTree;

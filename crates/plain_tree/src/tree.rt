@@ -1,0 +1,107 @@
+// A tree for tests.
+ghost use Rattle.std.specs.Prelude.{◌≡◌, false, IfOk, OnOk, OnErr};
+ghost use Rattle.volume_terms.specs.Sizes.{IsSizes};
+ghost use Rattle.volume_terms.specs.VolumeSizes.{sizes_of};
+ghost use Rattle.posix_profile.specs.Names.{settle};
+ghost use Rattle.posix_profile.specs.Runs.{takes_no_memory};
+ghost use Rattle.posix_profile.specs.Steps.{step};
+ghost use Rattle.posix_profile.specs.laws.Fresh.{fresh};
+
+use crate::building::build;
+use crate::fault::TreeFault;
+use crate::reading::{read_tree, same_tree};
+use object_commands::Volume;
+use object_store::ObjectStore;
+use plain_volume::PlainVolume;
+use posix_profile::{Reply, Stamped};
+use std::alloc::{AllocError, Global};
+use std::marker::Model;
+use volume_terms::VolumeSizes;
+
+/// A tree in memory, with descriptors, that is never read-only.
+#[derive(Drop)]
+pub struct PlainTree {
+    alloc: Global,
+    plain: PlainVolume,
+}
+
+impl Model for PlainTree {
+    ghost use Rattle.plain_volume.specs.Views.{PlainView};
+    ghost use Rattle.plain_volume.specs.Codes.{plain_code};
+
+    ghost Value = { PlainView };
+
+    ghost coded = { plain_code };
+
+    ghost view = { λ t. t.plain };
+}
+
+impl PlainTree {
+    /// The tree of a volume that was just formatted.
+    pub fn new(alloc: Global, sizes: VolumeSizes) -> Result<PlainTree, AllocError>
+        requires { IsSizes (sizes_of sizes) }
+        ensures { IfOk result (λ tree. tree ≡ record { sizes = sizes_of sizes; read_only = false; state = fresh }) }
+    {
+        let plain = PlainVolume::new(alloc, sizes, false)?;
+        Ok(PlainTree { alloc, plain })
+    }
+
+    /// The tree of a volume of these sizes, read by its commands and made again by them: the same names, numbers, moments and
+    /// bytes. The volume needs a descriptor that is free. Where objects were removed, room is needed for as many as the
+    /// greatest number.
+    pub fn read_from<S: ObjectStore>(
+        alloc: Global,
+        sizes: VolumeSizes,
+        volume: &mut Volume<S>,
+    ) -> Result<PlainTree, TreeFault>
+        requires { IsSizes (sizes_of sizes) }
+    {
+        let entries = read_tree(alloc, volume)?;
+        let mut plain = PlainVolume::new(alloc, sizes, false)?;
+        build(alloc, &mut plain, &entries)?;
+        let made = read_tree(alloc, &mut plain)?;
+        if same_tree(&entries, &made) {
+            Ok(PlainTree { alloc, plain })
+        } else {
+            Err(TreeFault::Unlike)
+        }
+    }
+
+    /// The same tree once more, with the same descriptors.
+    pub fn copy(&self) -> Result<PlainTree, AllocError>
+        ensures { IfOk result (λ copy. copy ≡ self.now) }
+    {
+        Ok(PlainTree {
+            alloc: self.alloc,
+            plain: self.plain.copy()?,
+        })
+    }
+
+    /// Answers a command. An `Err` leaves the tree.
+    pub fn step(&mut self, stamped: &Stamped) -> Result<Reply, AllocError>
+        ensures sizes { self.new.sizes ≡ self.old.sizes }
+        ensures read_only { self.new.read_only ≡ self.old.read_only }
+        ensures reply { IfOk result (λ reply. reply ≡ (step self.old.sizes self.old.read_only self.old.state stamped.now).reply) }
+        ensures state { OnOk result (self.new.state ≡ (step self.old.sizes self.old.read_only self.old.state stamped.now).state) }
+        ensures memory { OnErr result ((self.new.state ≡ self.old.state) × (takes_no_memory stamped.now.command ≡ false)) }
+    {
+        self.plain.step(stamped)
+    }
+
+    /// What a mount shows, in place of the tree. An `Err` leaves it.
+    pub fn settle(&mut self) -> Result<(), AllocError>
+        ensures settles { OnOk result (self.new ≡ record self.old { state = settle self.old.state }) }
+        ensures memory { OnErr result (self.new ≡ self.old) }
+    {
+        self.plain.settle()
+    }
+
+    /// Whether the volume has the same tree: equal names, and under each the same number, kind, links, length, moment and
+    /// bytes. Objects that descriptors alone keep are not looked at. The volume needs a descriptor that is free.
+    pub fn same<S: ObjectStore>(&self, volume: &mut Volume<S>) -> Result<bool, TreeFault> {
+        let mut plain = self.plain.settled(false)?;
+        let entries = read_tree(self.alloc, &mut plain)?;
+        let others = read_tree(self.alloc, volume)?;
+        Ok(same_tree(&entries, &others))
+    }
+}

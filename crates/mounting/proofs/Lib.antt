@@ -3,3 +3,4 @@ pub mod Pigeons
 pub mod Pruning
 pub mod Answering
 pub mod Shown
+pub mod Standing

@@ -65,11 +65,11 @@ module _ (keeps : ℕ → ℕ → Bool) (a b : Device) (t u : Table) (x y : Inde
         numbers = (subst (λ k. 1 ≤ k) (sym recounts.next_group) was.numbers.0, subst (λ k. 1 ≤ k) (sym recounts.next_seq) was.numbers.1);
         below = below;
       } where
-    below : b.honest ≡ true → (k p : ℕ) (tag : Tag) → b.flash.bad k ≡ false → HasTag b.flash k p tag → (tag.version < u.next_group) × (tag.group < u.next_group) × (tag.seq < u.next_seq)
-    below honest k p tag good has =
-        let same : b.flash ≡ a.flash = flash_is honest in
-        let before = (opened.ready left).below (was_honest honest) k p tag (sym (ap (λ (f : Flash). f.bad k) same) ∙ good) (subst (λ (f : Flash). HasTag f k p tag) same has) in
-        (subst (λ m. tag.version < m) (sym recounts.next_group) before.0, subst (λ m. tag.group < m) (sym recounts.next_group) before.1, subst (λ m. tag.seq < m) (sym recounts.next_seq) before.2)
+        below : b.honest ≡ true → (k p : ℕ) (tag : Tag) → b.flash.bad k ≡ false → HasTag b.flash k p tag → (tag.version < u.next_group) × (tag.group < u.next_group) × (tag.seq < u.next_seq)
+        below honest k p tag good has =
+            let same : b.flash ≡ a.flash = flash_is honest in
+            let before = (opened.ready left).below (was_honest honest) k p tag (sym (ap (λ (f : Flash). f.bad k) same) ∙ good) (subst (λ (f : Flash). HasTag f k p tag) same has) in
+            (subst (λ m. tag.version < m) (sym recounts.next_group) before.0, subst (λ m. tag.group < m) (sym recounts.next_group) before.1, subst (λ m. tag.seq < m) (sym recounts.next_seq) before.2)
 
   lie : AreLeft n → (o c : ℕ) (p : KeptPage) → kept_pages y o c ≡ Some p → MayLie u o c p
   lie left o c p is =

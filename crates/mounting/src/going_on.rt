@@ -17,8 +17,8 @@ use crate::prune::{are_fitting, has_room};
 use crate::tree_on::TreeOn;
 use chunk_index::{blocks_without_kept_pages_are_free, the_list_of_a_block_is_whole};
 use mount_answers::{
-    a_shown_tree_has_room_or_not, a_whole_list_shows_a_tree,
-    the_footprint_holds_the_tree, the_tree_looks_up_its_footprint, what_the_tree_looks_up_is_kept,
+    a_shown_tree_has_room_or_not, a_whole_list_shows_a_tree, the_footprint_holds_the_tree,
+    the_tree_looks_up_its_footprint, what_the_tree_looks_up_is_kept,
 };
 use nand_model::{Geometry, Nand};
 use tree_table::charge;

@@ -38,15 +38,15 @@ returns-then-not-fits-clause-none g c = λ honest.
       bad = c.blocks_without_kept_pages_are_free.ensures.bad;
     } in
     let tree_on = c.requires.read.tree_on honest in
-    let within = g.N.Nand.within on.device in
-    let sized = g.N.Nand.sized on.device honest in
+    let within = g.met.N.Nand.within on.device in
+    let sized = g.met.N.Nand.sized on.device honest in
     let shown = shows laws d (table on.blocks) on.index (numbers_of on.numbers) on.spare on.tree within sized c.requires.read.tables honest tree_on in
     let z : volume.sizes_of c.in-Some.sizes ≡ sizes_of d.geometry on.spare = subst (λ k. volume.sizes_of c.in-Some.sizes ≡ sizes_of k on.spare) c.geometry.ensures c.in-Some.ensures.sizes in
     let told = c.fits.ensures tree_on.pages shown.0 (subst (λ (k : Sizes). IsTreeOf k (has tree_on.pages) on.tree) (sym z) tree_on.through.tree_is) (subst (λ (k : Sizes). Shows k (has tree_on.pages) shown.0) (sym z) shown.1) in
     answers_full laws d (table on.blocks) on.index (numbers_of on.numbers) on.spare on.tree within sized c.requires.read.tables honest tree_on shown.0 shown.1
     (λ le.
-        let two : IsTrue false = subst (λ b. IsTrue b) c.if-not-fits.true (told.1 (subst (λ (k : Sizes). costs.charge k shown.0 ≤ capacity k) (sym z) le)) in
-        absurd cc)
+    let two : IsTrue false = subst (λ b. IsTrue b) c.if-not-fits.true (told.1 (subst (λ (k : Sizes). costs.charge k shown.0 ≤ capacity k) (sym z) le)) in
+    absurd cc)
 
 pub returns-then-not-has_room-clause-none : goal.returns-then-not-has_room-clause-none
 returns-then-not-has_room-clause-none g c = λ honest.
@@ -65,13 +65,13 @@ returns-then-not-has_room-clause-none g c = λ honest.
       bad = c.blocks_without_kept_pages_are_free.ensures.bad;
     } in
     let tree_on = c.requires.read.tree_on honest in
-    let within = g.N.Nand.within on.device in
-    let sized = g.N.Nand.sized on.device honest in
+    let within = g.met.N.Nand.within on.device in
+    let sized = g.met.N.Nand.sized on.device honest in
     let shown = shows laws d (table on.blocks) on.index (numbers_of on.numbers) on.spare on.tree within sized c.requires.read.tables honest tree_on in
     answers_scarce laws d (table on.blocks) on.index (numbers_of on.numbers) on.spare on.tree within sized c.requires.read.tables honest tree_on shown.0 shown.1
     (λ room.
-        let two : IsTrue false = subst (λ b. IsTrue b) c.if-not-has_room.true (c.has_room.ensures.1 room) in
-        absurd cc)
+    let two : IsTrue false = subst (λ b. IsTrue b) c.if-not-has_room.true (c.has_room.ensures.1 room) in
+    absurd cc)
 
 pub returns-clause-tree : goal.returns-clause-tree
 returns-clause-tree g c = λ honest.
@@ -90,16 +90,15 @@ returns-clause-tree g c = λ honest.
       bad = c.blocks_without_kept_pages_are_free.ensures.bad;
     } in
     let tree_on = c.requires.read.tree_on honest in
-    let within = g.N.Nand.within on.device in
-    let sized = g.N.Nand.sized on.device honest in
+    let within = g.met.N.Nand.within on.device in
+    let sized = g.met.N.Nand.sized on.device honest in
     let shown = shows laws d (table on.blocks) on.index (numbers_of on.numbers) on.spare on.tree within sized c.requires.read.tables honest tree_on in
     let z : volume.sizes_of c.in-Some.sizes ≡ sizes_of d.geometry on.spare = subst (λ k. volume.sizes_of c.in-Some.sizes ≡ sizes_of k on.spare) c.geometry.ensures c.in-Some.ensures.sizes in
     let told = c.fits.ensures tree_on.pages shown.0 (subst (λ (k : Sizes). IsTreeOf k (has tree_on.pages) on.tree) (sym z) tree_on.through.tree_is) (subst (λ (k : Sizes). Shows k (has tree_on.pages) shown.0) (sym z) shown.1) in
-    let le = told.0 c.if-not-fits.false in
-    (
+    let le = told.0 c.if-not-fits.false in (
       shown.0,
       answers_room laws d (table on.blocks) on.index (numbers_of on.numbers) on.spare on.tree within sized c.requires.read.tables honest tree_on shown.0 shown.1
-      (subst (λ (k : Sizes). costs.charge k shown.0 ≤ capacity k) z le) (c.has_room.ensures.0 c.if-not-has_room.false),
+          (subst (λ (k : Sizes). costs.charge k shown.0 ≤ capacity k) z le) (c.has_room.ensures.0 c.if-not-has_room.false),
       tree_shown laws d (table on.blocks) on.index (numbers_of on.numbers) on.spare on.tree within sized c.requires.read.tables honest tree_on shown.0 shown.1,
       le,
     )

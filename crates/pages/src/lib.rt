@@ -4,8 +4,8 @@
 mod after;
 mod change;
 mod fault;
-mod law;
 mod known;
+mod law;
 mod loading;
 mod memory;
 mod page_store;
@@ -14,10 +14,10 @@ mod store;
 pub use after::{Source, load_after, page_after};
 pub use change::{Change, Cut};
 pub use fault::PageFault;
+pub use known::KnownPages;
 pub use law::{
     changes_of_two_objects_commute, no_change_keeps_all_pages, other_objects_keep_their_pages,
 };
-pub use known::KnownPages;
 pub use loading::load;
 pub use memory::{Lack, MemPages, Refusal};
 pub use page_store::PageStore;

@@ -1,11 +1,20 @@
 // The pages of a volume on a device whose tree is read.
+ghost use Rattle.std.specs.Prelude.{◌≡◌, true, false, IfOk, IfErr};
+ghost use Rattle.flash_tree.specs.Places.{numbers_of};
+ghost use Rattle.block_state.specs.TableOf.{table};
+ghost use Rattle.flash_pages.specs.ReadOnly.{IsWorn};
+ghost use Rattle.mounting.specs.Made.{ArePagesOn, CanBeWritten};
+ghost use Rattle.mounting.specs.Marked.{AreFitting};
+ghost use Rattle.mounting.specs.Mounted.{IsTreeRead, HasRoomOn};
 
 use crate::marks::count_bad;
 use crate::tree_on::TreeOn;
+use chunk_index::the_counts_are_of_the_keys;
 use flash_pages::{FlashPages, ReadOnlyPages};
 use nand_model::Nand;
-use newest_pages::NewestPages;
+use newest_pages::{NewestPages, the_opened_pages_are_the_newest};
 use objects::Store;
+use pages::Pages;
 use std::alloc::{AllocError, Global};
 use std::num::NonZeroUsize;
 
@@ -13,7 +22,10 @@ use std::num::NonZeroUsize;
 const LIMIT: u64 = 1 << 62;
 
 /// Whether nothing can be written any more: a number stands at the limit, or more blocks are bad than there are to spare.
-pub(crate) fn is_worn<N: Nand>(on: &TreeOn<N>) -> bool {
+pub(crate) fn is_worn<N: Nand>(on: &TreeOn<N>) -> bool
+    ensures worn { result ≡ true → IsWorn (N.state on.now.device) (numbers_of on.now.numbers) on.now.spare }
+    ensures left { result ≡ false → CanBeWritten (N.state on.now.device) (numbers_of on.now.numbers) on.now.spare }
+{
     on.numbers.group >= LIMIT
         || on.numbers.seq >= LIMIT
         || count_bad(&on.device) > u32::from(on.spare)
@@ -24,7 +36,15 @@ fn store_pages<N: Nand>(
     alloc: Global,
     on: TreeOn<N>,
     capacity: NonZeroUsize,
-) -> Result<Store<N>, (N, AllocError)> {
+) -> Result<Store<N>, (N, AllocError)>
+    requires read { IsTreeRead (N.state on.device) (table on.blocks) on.index (numbers_of on.numbers) on.spare on.tree }
+    requires fitting { AreFitting (table on.blocks) }
+    requires room { HasRoomOn (N.state on.device) (table on.blocks) on.spare }
+    requires can { CanBeWritten (N.state on.device) (numbers_of on.numbers) on.spare }
+    ensures made { IfOk result (λ store. ArePagesOn (N.state on.device) on.index (numbers_of on.numbers) on.spare (⟦<Store<N> as Pages>⟧.state store)) }
+    ensures given_back { IfErr result (λ back. N.state back.0 ≡ N.state on.device) }
+{
+    the_counts_are_of_the_keys();
     let TreeOn {
         device,
         blocks,
@@ -32,11 +52,20 @@ fn store_pages<N: Nand>(
         spare,
         ..
     } = on;
-    Store::new(alloc, device, blocks, index, u32::from(spare), capacity)
+    match Store::new(alloc, device, blocks, index, u32::from(spare), capacity) {
+        Ok(store) => Ok(store),
+        Err(refused) => Err(refused),
+    }
 }
 
 /// The pages of a device that can only be read.
-fn read_pages<N: Nand>(alloc: Global, on: TreeOn<N>) -> Result<ReadOnlyPages<N>, (N, AllocError)> {
+fn read_pages<N: Nand>(alloc: Global, on: TreeOn<N>) -> Result<ReadOnlyPages<N>, (N, AllocError)>
+    requires read { IsTreeRead (N.state on.device) (table on.blocks) on.index (numbers_of on.numbers) on.spare on.tree }
+    requires worn { IsWorn (N.state on.device) (numbers_of on.numbers) on.spare }
+    ensures made { IfOk result (λ pages. ArePagesOn (N.state on.device) on.index (numbers_of on.numbers) on.spare (⟦<ReadOnlyPages<N> as Pages>⟧.state pages)) }
+    ensures given_back { IfErr result (λ back. N.state back.0 ≡ N.state on.device) }
+{
+    the_opened_pages_are_the_newest();
     let TreeOn {
         device,
         index,
@@ -57,7 +86,15 @@ pub(crate) fn make_pages<N: Nand>(
     on: TreeOn<N>,
     capacity: NonZeroUsize,
     worn: bool,
-) -> Result<FlashPages<N>, (N, AllocError)> {
+) -> Result<FlashPages<N>, (N, AllocError)>
+    requires read { IsTreeRead (N.state on.device) (table on.blocks) on.index (numbers_of on.numbers) on.spare on.tree }
+    requires fitting { AreFitting (table on.blocks) }
+    requires room { HasRoomOn (N.state on.device) (table on.blocks) on.spare }
+    requires worn { worn ≡ true → IsWorn (N.state on.device) (numbers_of on.numbers) on.spare }
+    requires can { worn ≡ false → CanBeWritten (N.state on.device) (numbers_of on.numbers) on.spare }
+    ensures made { IfOk result (λ pages. ArePagesOn (N.state on.device) on.index (numbers_of on.numbers) on.spare (⟦<FlashPages<N> as Pages>⟧.state pages)) }
+    ensures given_back { IfErr result (λ back. N.state back.0 ≡ N.state on.device) }
+{
     if worn {
         return match read_pages(alloc, on) {
             Ok(pages) => Ok(FlashPages::ReadOnly(pages)),

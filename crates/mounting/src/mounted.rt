@@ -1,12 +1,19 @@
 // The mount.
+ghost use Rattle.std.specs.Prelude.{◌≡◌, ◌↔◌, true, IfOk, IfErr};
+ghost use Rattle.nand_model.specs.Changes.{OnlyReads};
+ghost use Rattle.posix_profile.specs.State.{Objects};
+ghost use Rattle.mounting.specs.Faults.{WhyNotMounted};
+ghost use Rattle.mounting.specs.Made.{CanOnlyBeRead, AreNext, HasSizes, IsMountedWith};
 
 use crate::fault::MountFault;
 use crate::going_on::go_on;
 use crate::making::{is_worn, make_pages};
 use crate::tree_on::open_tree;
 use flash_pages::FlashPages;
+use mount_answers::{a_volume_has_sizes, the_footprint_holds_the_tree};
 use nand_model::Nand;
 use object_table::ObjectTable;
+use pages::Pages;
 use std::alloc::Global;
 use std::num::NonZeroUsize;
 use tree_table::table;
@@ -23,7 +30,17 @@ pub fn mount<N: Nand>(
     alloc: Global,
     device: N,
     capacity: NonZeroUsize,
-) -> Result<Mounted<N>, (N, MountFault)> {
+) -> Result<Mounted<N>, (N, MountFault)>
+    ensures reads { IfOk result (λ mounted. OnlyReads (N.state device) (⟦<FlashPages<N> as Pages>⟧.state mounted.pages).device) }
+    ensures sizes { IfOk result (λ mounted. HasSizes (⟦<FlashPages<N> as Pages>⟧.state mounted.pages) mounted.table) }
+    ensures read_only { IfOk result (λ mounted. (mounted.read_only ≡ true) ↔ CanOnlyBeRead (⟦<FlashPages<N> as Pages>⟧.state mounted.pages)) }
+    ensures next { (N.state device).honest ≡ true → IfOk result (λ mounted. AreNext (⟦<FlashPages<N> as Pages>⟧.state mounted.pages).device.flash (⟦<FlashPages<N> as Pages>⟧.state mounted.pages).next) }
+    ensures tree { (N.state device).honest ≡ true → IfOk result (λ mounted. (objects : Objects) × IsMountedWith (⟦<FlashPages<N> as Pages>⟧.state mounted.pages) mounted.table objects) }
+    ensures back { IfErr result (λ failed. OnlyReads (N.state device) (N.state failed.0)) }
+    ensures fault { IfErr result (λ failed. WhyNotMounted (N.state failed.0) failed.1) }
+{
+    a_volume_has_sizes();
+    the_footprint_holds_the_tree();
     let on = match open_tree(alloc, device) {
         Ok(on) => on,
         Err(failed) => return Err(failed),

@@ -4,3 +4,5 @@ pub mod Pruning
 pub mod Answering
 pub mod Shown
 pub mod Standing
+pub mod PagesMade
+pub mod Giving

@@ -16,6 +16,7 @@ use Rattle.flash_tree.specs.declared.place.Key.{Key}
 use Rattle.block_state.specs.Table.{Table}
 use Rattle.chunk_index.specs.Counts.{Recounts}
 use Rattle.chunk_index.specs.Listing.{block_keys}
+use Rattle.chunk_index.specs.Entries.{as_kept}
 use Rattle.chunk_index.specs.Maps.{kept_pages, kept_in, present, CountsAgree, Retains}
 use Rattle.chunk_index.specs.declared.form.KeptKey.{KeptKey}
 use Rattle.chunk_index.specs.declared.form.KeptPage.{KeptPage}
@@ -41,6 +42,12 @@ module _ (keeps : ℕ → ℕ → Bool) (a b : Device) (t u : Table) (x y : Inde
   was_kept o c p is = elim (cases_Bool (keeps o c)) [
     | inl stays ↦ sym (retains.kept o c stays) ∙ is
     | inr goes ↦ let two : None ≡ Some p = sym (retains.kept_no_more o c goes) ∙ is in absurd cc
+  ]
+
+  shown : (o c : ℕ) → present y o c ≡ as_kept (kept_pages y o c)
+  shown o c = elim (cases_Bool (keeps o c)) [
+    | inl stays ↦ retains.present o c stays ∙ opened.shown o c ∙ sym (ap as_kept (retains.kept o c stays))
+    | inr goes ↦ retains.present_no_more o c goes ∙ sym (ap as_kept (retains.kept_no_more o c goes))
   ]
 
   unbuffered : (o c i : ℕ) → present y o c ≡ presents.InBuffer i → ⊥
@@ -89,6 +96,7 @@ module _ (keeps : ℕ → ℕ → Bool) (a b : Device) (t u : Table) (x y : Inde
     counts = counts;
     geometry = geometry;
     closed = closed;
+    shown = shown;
     unbuffered = unbuffered;
     within = λ o c p is. subst (λ (g : Geometry). (p.block < g.blocks) × (p.page < g.pages)) (sym reads.lasts.geometry) (opened.within o c p (was_kept o c p is));
     newest = λ honest o c p is. subst (λ (f : Flash). IsKeptAt f o c p) (sym (flash_is honest)) (opened.newest (was_honest honest) o c p (was_kept o c p is));

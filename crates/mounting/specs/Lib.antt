@@ -3,3 +3,4 @@ pub mod Tables
 pub mod Trees
 pub mod Faults
 pub mod Mounted
+pub mod Made

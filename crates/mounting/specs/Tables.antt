@@ -6,19 +6,21 @@ use Rattle.flash_tree.specs.Newest.{Spot, IsNewest, Numbers, AreGreatest}
 use Rattle.block_state.specs.Table.{Table}
 use Rattle.chunk_index.specs.declared.form.KeptPage.{KeptPage}
 use Rattle.chunk_index.specs.declared.index.Index.{Index}
-use Rattle.chunk_index.specs.Maps.{kept_pages, CountsAgree}
+use Rattle.chunk_index.specs.Entries.{as_kept}
+use Rattle.chunk_index.specs.Maps.{kept_pages, present, CountsAgree}
 use Rattle.page_buffer.specs.Buffering.{IsUnbuffered}
 use Rattle.transactions.specs.Ready.{IsReady}
 use Rattle.bad_blocks.specs.Standing.{AreKept, MayLie}
 use Rattle.newest_pages.specs.Opened.{AreLeft, kept_at}
 
--- The newest pages of some keys are kept, with their places and versions, and nothing else; nothing is buffered, and no
+-- The newest pages of some keys are kept, with their places and versions, and nothing else; what is kept is present, and no
 -- block is open. The counts of blocks are those of the index. Where there are numbers left, groups can be written: the
 -- next numbers are one above the greatest, and each kept page may be copied.
 pub record IsPruned (keeps : ℕ → ℕ → Bool) (device : Device) (t : Table) (x : Index) (n : Numbers) : Type 0 where
   pub counts : CountsAgree t x
   pub geometry : t.geometry ≡ device.geometry
   pub closed : t.open_block ≡ None
+  pub shown : (o c : ℕ) → present x o c ≡ as_kept (kept_pages x o c)
   pub unbuffered : IsUnbuffered x
   pub within : (o c : ℕ) (p : KeptPage) → kept_pages x o c ≡ Some p → (p.block < device.geometry.blocks) × (p.page < device.geometry.pages)
   pub newest : device.honest ≡ true → AreKept device.flash (kept_pages x)

@@ -4,7 +4,9 @@
 mod fault;
 mod going_on;
 mod keys;
+mod making;
 mod marks;
+mod mounted;
 mod naming;
 mod prune;
 mod reader;
@@ -14,3 +16,4 @@ mod tree;
 mod tree_on;
 
 pub use fault::MountFault;
+pub use mounted::{Mounted, mount};

@@ -20,6 +20,7 @@ use tree_walk::Tree;
 
 /// A device whose tree was gone through: the tables of the tree's pages, the greatest numbers, how many blocks are to spare,
 /// and the tree.
+#[derive(Drop)]
 pub(crate) struct TreeOn<N: Nand> {
     pub(crate) device: N,
     pub(crate) blocks: Blocks,

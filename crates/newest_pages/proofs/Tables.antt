@@ -19,6 +19,7 @@ use Rattle.chunk_index.specs.declared.form.KeptPage.{KeptPage}
 use Rattle.chunk_index.specs.declared.form.Present.TheVariants as presents
 use Rattle.chunk_index.specs.declared.index.Index.{Index}
 use Rattle.chunk_index.specs.Counts.{Recounts}
+use Rattle.chunk_index.specs.Entries.{as_kept}
 use Rattle.chunk_index.specs.Maps.{kept_pages, present, kept_in, CountsAgree}
 use Rattle.chunk_index.specs.Newest.{Indexes, IsOf, page_of}
 use Rattle.page_buffer.specs.Buffering.{IsUnbuffered}
@@ -123,6 +124,20 @@ module _ (list : List Found) (x : Index) (indexes : Indexes list (length list) x
     | inr none ↦
         let two : Some p ≡ None = sym kept ∙ indexes.kept_elsewhere o c (elsewhere o c none) in
         absurd cc
+  ]
+
+  -- what is kept is present
+  pub is_shown : (o c : ℕ) → present x o c ≡ as_kept (kept_pages x o c)
+  is_shown o c = elim (finds list o c) [
+    | inl one ↦
+        let f : Found = one.1 in
+        let here : present x o c ≡ presents.OnFlash (page_of f) =
+            sym (ap (λ k. present x k f.tag.chunk) one.3.0 ∙ ap (present x o) one.3.1) ∙ present_found one.0 f one.2 in
+        let there : kept_pages x o c ≡ Some (page_of f) =
+            sym (ap (λ k. kept_pages x k f.tag.chunk) one.3.0 ∙ ap (kept_pages x o) one.3.1) ∙ kept_found one.0 f one.2 in
+        here ∙ sym (ap as_kept there)
+    | inr none ↦
+        indexes.present_elsewhere o c (elsewhere o c none) ∙ sym (ap as_kept (indexes.kept_elsewhere o c (elsewhere o c none)))
   ]
 
   pub not_buffered : IsUnbuffered x
@@ -267,6 +282,7 @@ opened d list x t t' n tells greatest names is seqs indexes counts recounts = re
   counts = counts;
   geometry = recounts.geometry ∙ is.geometry;
   closed = recounts.open_block ∙ is.closed;
+  shown = is_shown list x indexes;
   unbuffered = not_buffered list x indexes;
   within = lies_within list x indexes d tells;
   newest = are_kept list x indexes d tells;

@@ -8,7 +8,8 @@ use Rattle.flash_tree.specs.declared.place.Found.{Found}
 use Rattle.block_state.specs.Table.{Table, Sets}
 use Rattle.chunk_index.specs.declared.form.KeptPage.{KeptPage}
 use Rattle.chunk_index.specs.declared.index.Index.{Index}
-use Rattle.chunk_index.specs.Maps.{kept_pages, CountsAgree}
+use Rattle.chunk_index.specs.Entries.{as_kept}
+use Rattle.chunk_index.specs.Maps.{kept_pages, present, CountsAgree}
 use Rattle.page_buffer.specs.Buffering.{IsUnbuffered}
 use Rattle.transactions.specs.Ready.{IsReady}
 use Rattle.transactions.specs.Sources.{IsName, name_of}
@@ -79,13 +80,14 @@ abbrev pub HasItsSeq : Flash → Table → ℕ → Type 0
 HasItsSeq flash t b = ((o c : ℕ) (s : Spot) → IsNewest flash o c s → s.block ≢ b)
     ⊎ ((o : ℕ) × (c : ℕ) × (s : Spot) × IsNewest flash o c s × (s.block ≡ b) × ((t.entry b).seq ≡ s.tag.seq))
 
--- The newest page of each key is kept, with its place and version, and nothing else; nothing is buffered, and no block is
+-- The newest page of each key is kept, with its place and version, and nothing else; what is kept is present; no block is
 -- open. The counts of blocks are those of the index. Where there are numbers left, groups can be written: the next
 -- numbers are one above the greatest, each kept page may be copied, and blocks have the numbers that their pages tell.
 pub record IsOpened (device : Device) (t : Table) (x : Index) (n : Numbers) : Type 0 where
   pub counts : CountsAgree t x
   pub geometry : t.geometry ≡ device.geometry
   pub closed : t.open_block ≡ None
+  pub shown : (o c : ℕ) → present x o c ≡ as_kept (kept_pages x o c)
   pub unbuffered : IsUnbuffered x
   pub within : (o c : ℕ) (p : KeptPage) → kept_pages x o c ≡ Some p → (p.block < device.geometry.blocks) × (p.page < device.geometry.pages)
   pub newest : device.honest ≡ true → AreKept device.flash (kept_pages x)

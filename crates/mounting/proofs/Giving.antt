@@ -1,0 +1,137 @@
+-- What a mount gives.
+use Rattle.std.specs.Prelude.{◌≡◌, ◌↔◌, ◌⊎◌, ◌<◌, ◌≤◌, ◌^◌, ◌/◌, ℕ, ◌+◌, Bool, true, false}
+use Rattle.std.proofs.Common.{refl, sym, ◌∙◌, ap, subst, inl, inr, arith}
+use Rattle.std.proofs.lemmas.Bool.{cases_lt, cases_Bool, le-leb}
+use Rattle.nand_model.specs.Calls.{Device}
+use Rattle.volume_terms.specs.Sizes.{Sizes, IsSizes, capacity}
+use Rattle.posix_profile.specs.State.{Objects}
+use Rattle.posix_profile.specs.Charge.{charge, fits}
+use Rattle.posix_profile.specs.WellFormed.{IsForest}
+use Rattle.flash_tree.specs.Newest.{Numbers, AreGreatest}
+use Rattle.flash_tree.specs.Tree.{Shows}
+use Rattle.flash_tree.specs.Mount.{Answers, IsTreeOf as answer_tree, IsVolume, sizes_of}
+use Rattle.chunk_index.specs.declared.index.Index.{Index}
+use Rattle.object_pages.specs.Holding.{HoldsObjects, CanHave}
+use Rattle.object_pages.specs.laws.Holding.{same_objects}
+use Rattle.object_store.specs.Stores.{settled}
+use Rattle.object_table.specs.Told.{sizes_of as table_sizes, Tells}
+use Rattle.object_table.specs.declared.table.ObjectTable.{ObjectTable}
+use Rattle.page_buffer.specs.Shown.{kept_data}
+use Rattle.pages.specs.Maps.{PageMap, has}
+use Rattle.pages.specs.State.{PagesState}
+use Rattle.pages.specs.Stores.{bad_on}
+use Rattle.paged_objects.specs.Standing.{volume_of, Stands, Shown}
+use Rattle.paged_objects.specs.laws.Showing.{kept_shown}
+use Rattle.flash_pages.specs.ReadOnly.{IsWorn, next_after}
+use Rattle.tree_walk.specs.Trees.{IsTreeOf}
+use Rattle.tree_walk.specs.declared.tree.Tree.{Tree}
+use Rattle.mounting.specs.Made.{ArePagesOn, CanBeWritten, CanOnlyBeRead, AreNext, HasSizes, IsMountedWith}
+use Rattle.mounting.specs.Mounted.{IsTreeShown}
+
+-- the laws that are used of a tree that is shown
+pub record ShownLaws : Type 0 where
+  pub sizes : (d : Device) (m : PageMap) (spare : ℕ) → IsVolume d.geometry (has m) spare → IsSizes (sizes_of d.geometry spare)
+  pub forest : (z : Sizes) (m : PageMap) (objects : Objects) → Shows z (has m) objects → IsForest z objects
+  pub settled : (z : Sizes) (m : PageMap) (objects : Objects) → Shows z (has m) objects → settled objects ≡ objects
+
+-- what the making of a table tells
+abbrev pub TableLaw : Sizes → Tree → ObjectTable → Type 0
+TableLaw z tree table = (m : PageMap) (objects : Objects) → IsSizes z → IsTreeOf z (has m) tree → Shows z (has m) objects → fits z objects ≡ true → Tells table objects
+
+module _ (d : Device) (x : Index) (n : Numbers) (spare : ℕ) (p : PagesState) (pages : ArePagesOn d x n spare p) where
+  abbrev z : Sizes
+  z = sizes_of d.geometry spare
+
+  volume_is : volume_of p ≡ z
+  volume_is = ap (λ (k : Device). sizes_of k.geometry p.spare) pages.device_is ∙ ap (λ s. sizes_of d.geometry s) pages.spare_is
+
+  page_bytes_is : p.page_bytes ≡ p.device.geometry.bytes
+  page_bytes_is = pages.page_bytes ∙ sym (ap (λ (k : Device). k.geometry.bytes) pages.device_is)
+
+  most_is : p.most ≡ p.device.geometry.pages / 4
+  most_is = pages.most ∙ sym (ap (λ (k : Device). k.geometry.pages / 4) pages.device_is)
+
+  pub has_sizes : (table : ObjectTable) (told : Sizes) → table_sizes table ≡ told → told ≡ z → HasSizes p table
+  has_sizes table told same is = record { page_bytes = page_bytes_is; most = most_is; volume = same ∙ is ∙ sym volume_is }
+
+  worn_reads : IsWorn d n spare → CanOnlyBeRead p
+  worn_reads worn =
+      let group : p.next.group ≡ n.group + 1 = ap (λ k. k.group) pages.next in
+      let seq : p.next.seq ≡ n.seq + 1 = ap (λ k. k.seq) pages.next in
+      let bad : bad_on p.device ≡ bad_on d = ap bad_on pages.device_is in
+      let spares : p.spare ≡ spare = pages.spare_is in
+      elim (cases_lt n.group (2 ^ 62)) [
+        | inr many ↦ inr (inl (omega (arith, group, many)))
+        | inl few ↦ elim (cases_lt n.seq (2 ^ 62)) [
+          | inr many ↦ inr (inr (omega (arith, seq, many)))
+          | inl some ↦ let over : spare < bad_on d = worn few some in inl (omega (arith, bad, spares, over))
+        ]
+      ]
+
+  reads_worn : CanOnlyBeRead p → CanBeWritten d n spare → ⊥
+  reads_worn only can =
+      let group : p.next.group ≡ n.group + 1 = ap (λ k. k.group) pages.next in
+      let seq : p.next.seq ≡ n.seq + 1 = ap (λ k. k.seq) pages.next in
+      let bad : bad_on p.device ≡ bad_on d = ap bad_on pages.device_is in
+      let spares : p.spare ≡ spare = pages.spare_is in
+      let groups_left = can.0.0 in
+      let seqs_left = can.0.1 in
+      let few = can.1 in
+      elim only [
+        | inl over ↦ absurd (omega (arith, bad, spares, over, few))
+        | inr (inl over) ↦ absurd (omega (arith, group, over, groups_left))
+        | inr (inr over) ↦ absurd (omega (arith, seq, over, seqs_left))
+      ]
+
+  -- only read exactly where nothing can be written
+  pub only_read_where : (r : Bool) → (r ≡ true → IsWorn d n spare) → (r ≡ false → CanBeWritten d n spare) → (r ≡ true) ↔ CanOnlyBeRead p
+  only_read_where r worn can = (
+    λ is. worn_reads (worn is),
+    λ only. elim (cases_Bool r) [
+      | inl is ↦ is
+      | inr not ↦ absurd (reads_worn only (can not))
+    ],
+  )
+
+  pub are_next : AreGreatest d.flash n → AreNext p.device.flash p.next
+  are_next greatest = (n, subst (λ (k : Device). AreGreatest k.flash n) (sym pages.device_is) greatest, pages.next)
+
+  module _ (laws : ShownLaws) (tree : Tree) (objects : Objects) (honest : d.honest ≡ true) (answers : Answers d.geometry d.flash (answer_tree spare objects)) (shown : IsTreeShown d x spare tree objects)
+      (table : ObjectTable) (told : Sizes) (same : told ≡ z) (law : TableLaw told tree table) (fit : charge told objects ≤ capacity told) where
+    sizes : IsSizes z
+    sizes = laws.sizes d shown.on.pages spare shown.on.through.volume
+
+    fits_told : fits told objects ≡ true
+    fits_told = le-leb (charge told objects) (capacity told) fit
+
+    can : CanHave (volume_of p) objects
+    can = subst (λ (k : Sizes). CanHave k objects) (sym volume_is) (record {
+      numbers = sizes;
+      forest = laws.forest z shown.on.pages objects shown.shows;
+      fit = subst (λ (k : Sizes). fits k objects ≡ true) same fits_told;
+    })
+
+    holds : HoldsObjects (volume_of p) (kept_data x d.flash) objects
+    holds = subst (λ (k : Sizes). HoldsObjects k (kept_data x d.flash) objects) (sym volume_is) shown.holds
+
+    settles : settled objects ≡ objects
+    settles = laws.settled z shown.on.pages objects shown.shows
+
+    pub mounted_with : IsMountedWith p table objects
+    mounted_with = record {
+      answers = subst (λ (k : Device). Answers k.geometry k.flash (answer_tree p.spare objects)) (sym pages.device_is)
+          (subst (λ s. Answers d.geometry d.flash (answer_tree s objects)) (sym pages.spare_is) answers);
+      stands = record {
+        sound = pages.sound honest;
+        sizes = refl;
+        page_bytes = page_bytes_is;
+        most = most_is;
+        holds = same_objects (volume_of p) (kept_data x d.flash) p.present objects holds (pages.present honest);
+      };
+      shown = subst (λ (o : Objects). Shown (volume_of p) p o) settles (kept_shown (volume_of p) p (kept_data x d.flash) objects refl (pages.kept honest) holds can);
+      can = can;
+      settles = settles;
+      tells = law shown.on.pages objects (subst (λ (k : Sizes). IsSizes k) (sym same) sizes)
+          (subst (λ (k : Sizes). IsTreeOf k (has shown.on.pages) tree) (sym same) shown.on.through.tree_is)
+          (subst (λ (k : Sizes). Shows k (has shown.on.pages) objects) (sym same) shown.shows) fits_told;
+    }

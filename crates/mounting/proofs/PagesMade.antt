@@ -1,0 +1,165 @@
+-- The pages of a device that is mounted.
+use Rattle.std.specs.Prelude.{◌≡◌, ◌⊎◌, ◌<◌, ◌≤◌, ◌^◌, ◌/◌, ℕ, ◌+◌, Bool, true, false, not, ◌&&◌, List, [], Option, Some, None, count_by}
+use Rattle.std.specs.List.{range_with_len}
+use Rattle.std.specs.Option.{option_and_then}
+use Rattle.std.proofs.Common.{refl, sym, ◌∙◌, ap, subst, inl, inr, arith}
+use Rattle.nand_model.specs.Flash.{Flash}
+use Rattle.nand_model.specs.Calls.{Device}
+use Rattle.volume_terms.specs.Sizes.{number_limit}
+use Rattle.flash_tree.specs.Newest.{Numbers, AreGreatest}
+use Rattle.flash_tree.specs.FreeBlocks.{LeavesFree}
+use Rattle.block_state.specs.Kept.{bad_count, free_count, unkept_count, SameCounts}
+use Rattle.block_state.specs.Table.{Table}
+use Rattle.block_state.specs.laws.Kept.{free_where_closed, same_unkept_count}
+use Rattle.chunk_index.specs.Entries.{as_kept}
+use Rattle.chunk_index.specs.Kept.{HoldsNone}
+use Rattle.chunk_index.specs.Maps.{kept_pages, kept_in, present}
+use Rattle.chunk_index.specs.declared.form.KeptPage.{KeptPage}
+use Rattle.chunk_index.specs.declared.index.Index.{Index}
+use Rattle.transactions.specs.Ready.{IsReady}
+use Rattle.bad_blocks.specs.Standing.{AreHeld, IsKept, Stands, HasFree}
+use Rattle.bad_blocks.specs.laws.FreeBlocks.{leaves_fewer, leaves_unkept, same_bad_blocks}
+use Rattle.bad_blocks.specs.laws.Moves.{are_held}
+use Rattle.page_buffer.specs.BufferOf.{buffered, most_pages}
+use Rattle.page_buffer.specs.Shown.{data_at, data_by, kept_data, present_data}
+use Rattle.page_buffer.specs.declared.buffer.Buffer.{Buffer}
+use Rattle.page_cache.specs.declared.cache.PageCache.{PageCache}
+use Rattle.pages.specs.Maps.{PageMap}
+use Rattle.pages.specs.State.{PagesState, NextNumbers}
+use Rattle.pages.specs.Stores.{bad_on, Carries, HasPage, HasNumbersLeft, IsCarried, SamePages, KeptAs}
+use Rattle.objects.specs.StoreOf.{known, kept_map, next_numbers, seen as store_seen}
+use Rattle.objects.specs.declared.store.Found.{Found}
+use Rattle.newest_pages.specs.Newest.{known_pages, seen}
+use Rattle.newest_pages.specs.Opened.{AreLeft}
+use Rattle.flash_pages.specs.ReadOnly.{IsWorn, only_read, next_after}
+use Rattle.mounting.specs.Made.{ArePagesOn, CanBeWritten}
+use Rattle.mounting.specs.Marked.{marked, AreFitting}
+use Rattle.mounting.specs.Mounted.{HasRoomOn}
+use Rattle.mounting.specs.Tables.{IsPruned}
+use Rattle.mounting.proofs.Shown.{kept_newest}
+use Rattle.mounting.proofs.Standing.{stands_pruned}
+
+-- a key with data is kept
+kept_of_data : (flash : Flash) (xs : List ℕ) (m : Option KeptPage) → option_and_then (data_at flash) m ≡ Some xs → (p : KeptPage) × (m ≡ Some p)
+kept_of_data flash xs None is = absurd cc
+kept_of_data flash xs (Some p) is = (p, refl)
+
+-- what is kept is present
+data_kept : (flash : Flash) (m : Option KeptPage) → data_by flash [] (as_kept m) ≡ option_and_then (data_at flash) m
+data_kept flash None = refl
+data_kept flash (Some p) = refl
+
+-- as much carried where the names of a device and of the spare blocks are others
+pub carried_as : (p : PagesState) (d : Device) (spare : ℕ) (m : PageMap) → p.device ≡ d → p.spare ≡ spare → IsCarried d spare m → IsCarried p.device p.spare m
+carried_as p d spare m device spares carried =
+    subst (λ s. IsCarried p.device s m) (sym spares) (subst (λ (e : Device). IsCarried e spare m) (sym device) carried)
+
+module _ (keeps : ℕ → ℕ → Bool) (d : Device) (t : Table) (x : Index) (n : Numbers) (spare : ℕ) (pruned : IsPruned keeps d t x n) where
+  -- what is present without a buffer is what is kept
+  present_kept : (o c : ℕ) → present_data x [] d.flash o c ≡ kept_data x d.flash o c
+  present_kept o c = ap (data_by d.flash []) (pruned.shown o c) ∙ data_kept d.flash (kept_pages x o c)
+
+  module _ (fits : AreFitting t) (room : HasRoomOn d t spare) (can : CanBeWritten d n spare) where
+    pub ready : IsReady d t
+    ready = pruned.ready can.0
+
+    pub few : bad_count t ≤ spare
+    few = let same : bad_on d ≡ bad_count t = same_bad_blocks d t ready in let le = can.1 in omega (arith, same, le)
+
+    counts : SameCounts t (marked d.flash t)
+    counts = record { bad = λ b. sym (ready.marks b); kept = λ b. refl; geometry = refl }
+
+    pub free : HasFree t spare
+    free =
+        let same : bad_on d ≡ bad_count t = same_bad_blocks d t ready in
+        let enough : 1 + spare ≤ unkept_count (marked d.flash t) + bad_on d = room can.1 in
+        let unkept : unkept_count (marked d.flash t) ≡ unkept_count t = same_unkept_count t (marked d.flash t) counts in
+        let closed : free_count t ≡ unkept_count t = free_where_closed t pruned.closed in
+        omega (arith, same, enough, unkept, closed)
+
+    pub stands : Stands spare d t x
+    stands = stands_pruned keeps spare d t x n pruned can.0 fits free
+
+    module _ (none : (b : ℕ) → kept_in x b ≡ 0 → HoldsNone (kept_pages x) b) where
+      held : AreHeld t x
+      held = are_held t x none pruned.counts
+
+      carried : d.honest ≡ true → IsCarried d spare (kept_data x d.flash)
+      carried honest = record {
+        newest = kept_newest d.flash x (pruned.newest honest);
+        free = λ left. leaves_fewer d.geometry d.flash spare (IsKept (kept_pages x)) (HasPage (kept_data x d.flash)) (λ o c (xs, is). kept_of_data d.flash xs (kept_pages x o c) is)
+            (leaves_unkept spare d t x ready stands.tables held (pruned.newest honest));
+      }
+
+      next_is : next_numbers t ≡ next_after n
+      next_is =
+          ap (λ g. record { group = g; seq = t.next_seq }) (pruned.group can.0) ∙ ap (λ s. record { group = n.group + 1; seq = s }) (pruned.seq can.0)
+
+      -- the pages of a new store
+      pub store_pages : (e : Device) (y : Index) (u : Table) (buffer : Buffer) (cache : PageCache) (scratch : List ℕ) (found : Found) (spare' : ℕ) (broken refused : Bool) → e ≡ d
+          → (u ≡ t) × (spare' ≡ spare) → broken ≡ false → most_pages buffer ≡ d.geometry.pages / 4 → ((o c : ℕ) → kept_map e y o c ≡ kept_map d x o c)
+          → ((o c : ℕ) → present_data y (buffered buffer) d.flash o c ≡ present_data x [] d.flash o c)
+          → ArePagesOn d x n spare (store_seen e u y buffer cache scratch found spare' broken refused)
+      store_pages e y u buffer cache scratch found spare' broken refused device same whole most kept pages = record {
+        device_is = device;
+        spare_is = same.1;
+        page_bytes = ap (λ (k : Device). k.geometry.bytes) device;
+        most = most;
+        next = ap next_numbers same.0 ∙ next_is;
+        sound = λ honest. ap (λ (k : Device). k.honest && not broken) device ∙ ap (λ h. h && not broken) honest ∙ ap (λ b. true && not b) whole;
+        present = λ honest o c.
+            subst (λ (k : Device). known k.honest (present_data y (buffered buffer) k.flash) o c ≡ kept_data x d.flash o c) (sym device)
+            (ap (λ h. known h (present_data y (buffered buffer) d.flash) o c) honest ∙ pages o c ∙ present_kept o c);
+        kept = λ honest. record {
+          carried = λ is. carried_as (store_seen e u y buffer cache scratch found spare' broken refused) d spare (kept_data x d.flash) device same.1 (carried honest);
+          kept = λ sound o c. kept o c ∙ ap (λ h. known h (kept_data x d.flash) o c) honest;
+        };
+      }
+
+  module _ (worn : IsWorn d n spare) where
+    -- where more blocks are bad than there are to spare, none has to be free
+    none_free : (keys : ℕ → ℕ → Type 0) → spare < bad_on d → LeavesFree d.geometry d.flash spare keys
+    none_free keys bad = record {
+      free = λ b. false;
+      enough = let none = count_by (λ (b : ℕ). false) (range_with_len 0 d.geometry.blocks) in omega (arith, bad);
+      each = λ b within is. absurd cc;
+    }
+
+    -- where numbers are left on a worn device, too many blocks are bad
+    too_many_bad : d.honest ≡ true → HasNumbersLeft d.flash → spare < bad_on d
+    too_many_bad honest left =
+        let least = (pruned.numbers honest).least (record { version = number_limit; group = number_limit; seq = number_limit }) left in
+        worn (omega (arith, least.1)) (omega (arith, least.2))
+
+    worn_carried : d.honest ≡ true → IsCarried d spare (kept_data x d.flash)
+    worn_carried honest = record {
+      newest = kept_newest d.flash x (pruned.newest honest);
+      free = λ left. none_free (HasPage (kept_data x d.flash)) (too_many_bad honest left);
+    }
+
+    -- the pages of a device that is only read
+    pub worn_pages : (e : Device) (y : Index) (page : List ℕ) → e ≡ d → y ≡ x → ArePagesOn d x n spare (only_read (seen e y page) n spare (d.geometry.pages / 4) false)
+    worn_pages e y page device index = record {
+      device_is = device;
+      spare_is = refl;
+      page_bytes = ap (λ (k : Device). k.geometry.bytes) device;
+      most = refl;
+      next = refl;
+      sound = λ honest. ap (λ (k : Device). k.honest && true) device ∙ ap (λ h. h && true) honest;
+      present = λ honest o c. there honest o c;
+      kept = λ honest. record {
+        carried = λ is. carried_as (only_read (seen e y page) n spare (d.geometry.pages / 4) false) d spare (kept_data x d.flash) device refl (worn_carried honest);
+        kept = λ sound o c. there honest o c;
+      };
+    } where
+      there : d.honest ≡ true → (o c : ℕ) → known_pages e.honest (kept_data y e.flash) o c ≡ kept_data x d.flash o c
+      there honest o c =
+          subst (λ (k : Device). known_pages k.honest (kept_data y k.flash) o c ≡ kept_data x d.flash o c) (sym device)
+          (ap (λ h. known_pages h (kept_data y d.flash) o c) honest ∙ ap (λ i. kept_data i d.flash o c) index)
+
+    -- what is read is carried
+    pub worn_carries : (e : Device) (y : Index) → e ≡ d → y ≡ x → e.honest ≡ true → Carries e.flash (known_pages e.honest (kept_data y e.flash))
+    worn_carries e y device index honest =
+        subst (λ (k : Device). k.honest ≡ true → Carries k.flash (known_pages k.honest (kept_data y k.flash))) (sym device)
+        (λ is. subst (λ h. Carries d.flash (known_pages h (kept_data y d.flash))) (sym is)
+        (subst (λ i. Carries d.flash (kept_data i d.flash)) (sym index) (kept_newest d.flash x (pruned.newest is)))) honest

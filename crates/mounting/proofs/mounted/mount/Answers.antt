@@ -1,0 +1,30 @@
+use Rattle.std.proofs.Common.{◌≡◌, ◌≤◌, ℕ, true, sym, ◌∙◌, subst, ap}
+use Rattle.flash_tree.specs.Places.{numbers_of}
+use Rattle.volume_terms.specs.VolumeSizes as volume
+use Rattle.mounting.proofs.Giving.{ShownLaws, only_read_where, are_next, mounted_with}
+use Rattle.mounting.proofs.mounted.mount.Goals as goal
+
+pub returns-in-Ok-make_pages-clause-read_only : goal.returns-in-Ok-make_pages-clause-read_only
+returns-in-Ok-make_pages-clause-read_only g c =
+    let on = c.in-Ok.on in
+    only_read_where (g.N.Nand.state on.device) on.index (numbers_of on.numbers) on.spare _ c.in-Ok-make_pages.ensures.made _ c.is_worn-read_only.ensures.worn c.is_worn-read_only.ensures.left
+
+pub returns-in-Ok-make_pages-clause-next : goal.returns-in-Ok-make_pages-clause-next
+returns-in-Ok-make_pages-clause-next g c = λ honest.
+    let on = c.in-Ok.on in
+    are_next (g.N.Nand.state on.device) on.index (numbers_of on.numbers) on.spare _ c.in-Ok-make_pages.ensures.made
+    (c.in-Ok.ensures.read.tables.numbers (c.in-Ok.ensures.reads.lasts.honest ∙ honest))
+
+pub returns-in-Ok-make_pages-clause-tree : goal.returns-in-Ok-make_pages-clause-tree
+returns-in-Ok-make_pages-clause-tree g c = λ honest.
+    let on = c.in-Ok.on in
+    let d = g.N.Nand.state on.device in
+    let is : d.honest ≡ true = c.in-Ok.ensures.reads.lasts.honest ∙ honest in
+    let told = c.in-Some.ensures.tree is in
+    let laws : ShownLaws = record {
+      sizes = λ k m spare volume. c.a_volume_has_sizes.ensures k.geometry m spare volume;
+      forest = c.the_footprint_holds_the_tree.ensures.forest;
+      settled = c.the_footprint_holds_the_tree.ensures.settled;
+    } in
+    (told.0, mounted_with d on.index (numbers_of on.numbers) on.spare _ c.in-Ok-make_pages.ensures.made laws on.tree told.0 is told.1 told.2 c.in-Ok-table.table (volume.sizes_of c.in-Some.sizes)
+        c.in-Some.ensures.sizes c.in-Ok-table.ensures.tells told.3)

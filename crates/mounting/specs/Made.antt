@@ -1,0 +1,58 @@
+-- The pages of a device that is mounted.
+-- From: this project.
+use Rattle.std.specs.Prelude.{◌≡◌, ◌⊎◌, ◌<◌, ◌≤◌, ◌^◌, ◌/◌, ℕ, ◌+◌, Bool, true, false}
+use Rattle.nand_model.specs.Flash.{Flash}
+use Rattle.nand_model.specs.Calls.{Device}
+use Rattle.flash_tree.specs.Newest.{Numbers, AreGreatest}
+use Rattle.flash_tree.specs.Mount.{Answers, IsTreeOf as answer_tree, sizes_of}
+use Rattle.chunk_index.specs.declared.index.Index.{Index}
+use Rattle.flash_pages.specs.ReadOnly.{next_after}
+use Rattle.object_pages.specs.Holding.{CanHave}
+use Rattle.object_store.specs.Stores.{settled}
+use Rattle.object_table.specs.Told.{sizes_of as table_sizes, Tells}
+use Rattle.object_table.specs.declared.table.ObjectTable.{ObjectTable}
+use Rattle.page_buffer.specs.Shown.{kept_data}
+use Rattle.pages.specs.State.{PagesState, NextNumbers}
+use Rattle.pages.specs.Stores.{bad_on, SamePages, KeptAs}
+use Rattle.paged_objects.specs.Standing.{volume_of, Stands, Shown}
+use Rattle.posix_profile.specs.State.{Objects}
+use Rattle.newest_pages.specs.Opened.{AreLeft}
+
+-- groups can be written: there are numbers left, and no more blocks are bad than there are to spare
+abbrev pub CanBeWritten : Device → Numbers → (spare : ℕ) → Type 0
+CanBeWritten device n spare = AreLeft n × (bad_on device ≤ spare)
+
+-- The pages are those that the index keeps on the device, which is as it was. They are present, and the device keeps them.
+pub record ArePagesOn (device : Device) (x : Index) (n : Numbers) (spare : ℕ) (p : PagesState) : Type 0 where
+  pub device_is : p.device ≡ device
+  pub spare_is : p.spare ≡ spare
+  pub page_bytes : p.page_bytes ≡ device.geometry.bytes
+  pub most : p.most ≡ device.geometry.pages / 4
+  pub next : p.next ≡ next_after n
+  pub sound : device.honest ≡ true → p.sound ≡ true
+  pub present : device.honest ≡ true → SamePages p.present (kept_data x device.flash)
+  pub kept : device.honest ≡ true → KeptAs p (kept_data x device.flash)
+
+-- nothing can be written: more blocks are bad than there are to spare, or a number of 2^62 or more stands on the device
+abbrev pub CanOnlyBeRead : PagesState → Type 0
+CanOnlyBeRead p = (p.spare < bad_on p.device) ⊎ (2 ^ 62 < p.next.group) ⊎ (2 ^ 62 < p.next.seq)
+
+-- the next numbers are one above the greatest that stand on the flash
+abbrev pub AreNext : Flash → NextNumbers → Type 0
+AreNext flash next = (n : Numbers) × AreGreatest flash n × (next ≡ next_after n)
+
+-- What a mount gives has the sizes of the volume, and a change has at most as many pages as a quarter of a block.
+pub record HasSizes (p : PagesState) (table : ObjectTable) : Type 0 where
+  pub page_bytes : p.page_bytes ≡ p.device.geometry.bytes
+  pub most : p.most ≡ p.device.geometry.pages / 4
+  pub volume : table_sizes table ≡ volume_of p
+
+-- These objects are the tree that the device shows: the pages hold them, a mount would show them again, and the table
+-- tells of them.
+pub record IsMountedWith (p : PagesState) (table : ObjectTable) (objects : Objects) : Type 0 where
+  pub answers : Answers p.device.geometry p.device.flash (answer_tree p.spare objects)
+  pub stands : Stands (volume_of p) p objects
+  pub shown : Shown (volume_of p) p objects
+  pub can : CanHave (volume_of p) objects
+  pub settles : settled objects ≡ objects
+  pub tells : Tells table objects

@@ -1,0 +1,108 @@
+// The pages of a volume on a device whose tree is read.
+ghost use Rattle.std.specs.Prelude.{◌≡◌, true, false, IfOk, IfErr};
+ghost use Rattle.flash_tree.specs.Places.{numbers_of};
+ghost use Rattle.block_state.specs.TableOf.{table};
+ghost use Rattle.flash_pages.specs.ReadOnly.{IsWorn};
+ghost use Rattle.mounting.specs.Made.{ArePagesOn, CanBeWritten};
+ghost use Rattle.mounting.specs.Marked.{AreFitting};
+ghost use Rattle.mounting.specs.Mounted.{IsTreeRead, HasRoomOn};
+
+use crate::marks::count_bad;
+use crate::tree_on::TreeOn;
+use chunk_index::the_counts_are_of_the_keys;
+use flash_pages::{FlashPages, ReadOnlyPages};
+use nand_model::Nand;
+use newest_pages::{NewestPages, the_opened_pages_are_the_newest};
+use objects::Store;
+use pages::Pages;
+use std::alloc::{AllocError, Global};
+use std::num::NonZeroUsize;
+
+/// No number from here on is handed out.
+const LIMIT: u64 = 1 << 62;
+
+/// Whether nothing can be written any more: a number stands at the limit, or more blocks are bad than there are to spare.
+pub(crate) fn is_worn<N: Nand>(on: &TreeOn<N>) -> bool
+    ensures worn { result ≡ true → IsWorn (N.state on.now.device) (numbers_of on.now.numbers) on.now.spare }
+    ensures left { result ≡ false → CanBeWritten (N.state on.now.device) (numbers_of on.now.numbers) on.now.spare }
+{
+    on.numbers.group >= LIMIT
+        || on.numbers.seq >= LIMIT
+        || count_bad(&on.device) > u32::from(on.spare)
+}
+
+/// The pages of a device on which groups can be written.
+fn store_pages<N: Nand>(
+    alloc: Global,
+    on: TreeOn<N>,
+    capacity: NonZeroUsize,
+) -> Result<Store<N>, (N, AllocError)>
+    requires read { IsTreeRead (N.state on.device) (table on.blocks) on.index (numbers_of on.numbers) on.spare on.tree }
+    requires fitting { AreFitting (table on.blocks) }
+    requires room { HasRoomOn (N.state on.device) (table on.blocks) on.spare }
+    requires can { CanBeWritten (N.state on.device) (numbers_of on.numbers) on.spare }
+    ensures made { IfOk result (λ store. ArePagesOn (N.state on.device) on.index (numbers_of on.numbers) on.spare (⟦<Store<N> as Pages>⟧.state store)) }
+    ensures given_back { IfErr result (λ back. N.state back.0 ≡ N.state on.device) }
+{
+    the_counts_are_of_the_keys();
+    let TreeOn {
+        device,
+        blocks,
+        index,
+        spare,
+        ..
+    } = on;
+    match Store::new(alloc, device, blocks, index, u32::from(spare), capacity) {
+        Ok(store) => Ok(store),
+        Err(refused) => Err(refused),
+    }
+}
+
+/// The pages of a device that can only be read.
+fn read_pages<N: Nand>(alloc: Global, on: TreeOn<N>) -> Result<ReadOnlyPages<N>, (N, AllocError)>
+    requires read { IsTreeRead (N.state on.device) (table on.blocks) on.index (numbers_of on.numbers) on.spare on.tree }
+    requires worn { IsWorn (N.state on.device) (numbers_of on.numbers) on.spare }
+    ensures made { IfOk result (λ pages. ArePagesOn (N.state on.device) on.index (numbers_of on.numbers) on.spare (⟦<ReadOnlyPages<N> as Pages>⟧.state pages)) }
+    ensures given_back { IfErr result (λ back. N.state back.0 ≡ N.state on.device) }
+{
+    the_opened_pages_are_the_newest();
+    let TreeOn {
+        device,
+        index,
+        numbers,
+        spare,
+        ..
+    } = on;
+    let most = device.geometry().pages() / 4;
+    match NewestPages::new(alloc, device, index) {
+        Ok(pages) => Ok(ReadOnlyPages::new(pages, numbers, u32::from(spare), most)),
+        Err(refused) => Err(refused),
+    }
+}
+
+/// The pages of a device, which are only read where it is worn. Where memory is refused the device is given back.
+pub(crate) fn make_pages<N: Nand>(
+    alloc: Global,
+    on: TreeOn<N>,
+    capacity: NonZeroUsize,
+    worn: bool,
+) -> Result<FlashPages<N>, (N, AllocError)>
+    requires read { IsTreeRead (N.state on.device) (table on.blocks) on.index (numbers_of on.numbers) on.spare on.tree }
+    requires fitting { AreFitting (table on.blocks) }
+    requires room { HasRoomOn (N.state on.device) (table on.blocks) on.spare }
+    requires worn { worn ≡ true → IsWorn (N.state on.device) (numbers_of on.numbers) on.spare }
+    requires can { worn ≡ false → CanBeWritten (N.state on.device) (numbers_of on.numbers) on.spare }
+    ensures made { IfOk result (λ pages. ArePagesOn (N.state on.device) on.index (numbers_of on.numbers) on.spare (⟦<FlashPages<N> as Pages>⟧.state pages)) }
+    ensures given_back { IfErr result (λ back. N.state back.0 ≡ N.state on.device) }
+{
+    if worn {
+        return match read_pages(alloc, on) {
+            Ok(pages) => Ok(FlashPages::ReadOnly(pages)),
+            Err(refused) => Err(refused),
+        };
+    }
+    match store_pages(alloc, on, capacity) {
+        Ok(store) => Ok(FlashPages::Store(store)),
+        Err(refused) => Err(refused),
+    }
+}

@@ -1,0 +1,65 @@
+// The mount.
+ghost use Rattle.std.specs.Prelude.{◌≡◌, ◌↔◌, true, IfOk, IfErr};
+ghost use Rattle.nand_model.specs.Changes.{OnlyReads};
+ghost use Rattle.posix_profile.specs.State.{Objects};
+ghost use Rattle.mounting.specs.Faults.{WhyNotMounted};
+ghost use Rattle.mounting.specs.Made.{CanOnlyBeRead, AreNext, HasSizes, IsMountedWith};
+
+use crate::fault::MountFault;
+use crate::going_on::go_on;
+use crate::making::{is_worn, make_pages};
+use crate::tree_on::open_tree;
+use flash_pages::FlashPages;
+use mount_answers::{a_volume_has_sizes, the_footprint_holds_the_tree};
+use nand_model::Nand;
+use object_table::ObjectTable;
+use pages::Pages;
+use std::alloc::Global;
+use std::num::NonZeroUsize;
+use tree_table::table;
+
+/// What a mount gives: the pages of the volume, the table of its objects, and whether it can only be read.
+pub struct Mounted<N: Nand> {
+    pub pages: FlashPages<N>,
+    pub table: ObjectTable,
+    pub read_only: bool,
+}
+
+/// Mounts a device, which is only read, with a cache of at most so many pages. After a fault it is given back.
+pub fn mount<N: Nand>(
+    alloc: Global,
+    device: N,
+    capacity: NonZeroUsize,
+) -> Result<Mounted<N>, (N, MountFault)>
+    ensures reads { IfOk result (λ mounted. OnlyReads (N.state device) (⟦<FlashPages<N> as Pages>⟧.state mounted.pages).device) }
+    ensures sizes { IfOk result (λ mounted. HasSizes (⟦<FlashPages<N> as Pages>⟧.state mounted.pages) mounted.table) }
+    ensures read_only { IfOk result (λ mounted. (mounted.read_only ≡ true) ↔ CanOnlyBeRead (⟦<FlashPages<N> as Pages>⟧.state mounted.pages)) }
+    ensures next { (N.state device).honest ≡ true → IfOk result (λ mounted. AreNext (⟦<FlashPages<N> as Pages>⟧.state mounted.pages).device.flash (⟦<FlashPages<N> as Pages>⟧.state mounted.pages).next) }
+    ensures tree { (N.state device).honest ≡ true → IfOk result (λ mounted. (objects : Objects) × IsMountedWith (⟦<FlashPages<N> as Pages>⟧.state mounted.pages) mounted.table objects) }
+    ensures back { IfErr result (λ failed. OnlyReads (N.state device) (N.state failed.0)) }
+    ensures fault { IfErr result (λ failed. WhyNotMounted (N.state failed.0) failed.1) }
+{
+    a_volume_has_sizes();
+    the_footprint_holds_the_tree();
+    let on = match open_tree(alloc, device) {
+        Ok(on) => on,
+        Err(failed) => return Err(failed),
+    };
+    let sizes = match go_on(&on) {
+        Some(sizes) => sizes,
+        None => return Err((on.device, MountFault::Damaged)),
+    };
+    let table = match table(alloc, &on.tree, sizes) {
+        Ok(table) => table,
+        Err(_) => return Err((on.device, MountFault::NoMemory)),
+    };
+    let read_only = is_worn(&on);
+    match make_pages(alloc, on, capacity, read_only) {
+        Ok(pages) => Ok(Mounted {
+            pages,
+            table,
+            read_only,
+        }),
+        Err((device, _)) => Err((device, MountFault::NoMemory)),
+    }
+}

@@ -132,9 +132,9 @@ module _ (list : List Found) (x : Index) (indexes : Indexes list (length list) x
     | inl one ↦
         let f : Found = one.1 in
         let here : present x o c ≡ presents.OnFlash (page_of f) =
-            sym (ap (λ k. present x k f.tag.chunk) one.3.0 ∙ ap (present x o) one.3.1) ∙ present_found one.0 f one.2 in
+        sym (ap (λ k. present x k f.tag.chunk) one.3.0 ∙ ap (present x o) one.3.1) ∙ present_found one.0 f one.2 in
         let there : kept_pages x o c ≡ Some (page_of f) =
-            sym (ap (λ k. kept_pages x k f.tag.chunk) one.3.0 ∙ ap (kept_pages x o) one.3.1) ∙ kept_found one.0 f one.2 in
+        sym (ap (λ k. kept_pages x k f.tag.chunk) one.3.0 ∙ ap (kept_pages x o) one.3.1) ∙ kept_found one.0 f one.2 in
         here ∙ sym (ap as_kept there)
     | inr none ↦
         indexes.present_elsewhere o c (elsewhere o c none) ∙ sym (ap as_kept (indexes.kept_elsewhere o c (elsewhere o c none)))

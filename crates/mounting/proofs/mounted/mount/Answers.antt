@@ -25,6 +25,8 @@ returns-in-Ok-make_pages-clause-tree g c = λ honest.
       sizes = λ k m spare volume. c.a_volume_has_sizes.ensures k.geometry m spare volume;
       forest = c.the_footprint_holds_the_tree.ensures.forest;
       settled = c.the_footprint_holds_the_tree.ensures.settled;
-    } in
-    (told.0, mounted_with d on.index (numbers_of on.numbers) on.spare _ c.in-Ok-make_pages.ensures.made laws on.tree told.0 is told.1 told.2 c.in-Ok-table.table (volume.sizes_of c.in-Some.sizes)
-        c.in-Some.ensures.sizes c.in-Ok-table.ensures.tells told.3)
+    } in (
+      told.0,
+      mounted_with d on.index (numbers_of on.numbers) on.spare _ c.in-Ok-make_pages.ensures.made laws on.tree told.0 is told.1 told.2 c.in-Ok-table.table (volume.sizes_of c.in-Some.sizes)
+          c.in-Some.ensures.sizes c.in-Ok-table.ensures.tells told.3,
+    )

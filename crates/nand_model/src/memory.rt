@@ -7,6 +7,8 @@ ghost use Rattle.nand_model.specs.Plans.{listed};
 ghost use Rattle.nand_model.specs.Planned.{after_read, after_change, ReadsAsPlanned, ProgramsAsPlanned, ErasesAsPlanned, MarksAsPlanned};
 ghost use Rattle.nand_model.specs.Memory.{IsWhole, flash_of, pages_at};
 
+mod putting;
+
 use crate::block::{
     MemBlock, clear_nexts, copy_blocks, erase_block, kind_after_program, mark_block, new_blocks,
     write_page,

@@ -22,7 +22,7 @@ pub record Device : Type 0 where
   pub reads : ℕ
 
 -- What every call keeps, and so any number of them: the geometry, the honesty, marks that are set, and the whole of a
--- device that is gone. No count falls. Only a cut makes a device gone.
+-- device that is gone. No count falls. Only a cut makes a device gone, and it does, so one cut is counted at most.
 pub record Lasts (old new : Device) : Type 0 where
   pub geometry : new.geometry ≡ old.geometry
   pub honest : new.honest ≡ old.honest
@@ -33,6 +33,8 @@ pub record Lasts (old new : Device) : Type 0 where
   pub marks : (b : ℕ) → old.flash.bad b ≡ true → new.flash.bad b ≡ true
   pub gone : old.gone ≡ true → new ≡ old
   pub goes : new.gone ≡ true → (old.gone ≡ true) ⊎ (old.cuts < new.cuts)
+  pub ends : old.cuts < new.cuts → new.gone ≡ true
+  pub once : new.cuts ≤ old.cuts + 1
 
 -- the call did what it was asked for
 pub record Completes (old new : Device) : Type 0 where

@@ -10,12 +10,14 @@ use Rattle.nand_model.specs.declared.nand.ProgramFault.TheVariants as program_fa
 use Rattle.nand_model.specs.declared.nand.EraseFault.{EraseFault}
 use Rattle.nand_model.specs.declared.nand.EraseFault.TheVariants as erase_faults
 
--- What is known of a device at one moment. It counts since it was made, without end.
+-- What is known of a device at one moment. It counts since it was made, without end. Where it is steady no call of it is cut
+-- until the next power-up.
 pub record Device : Type 0 where
   pub geometry : Geometry
   pub flash : Flash
   pub gone : Bool
   pub honest : Bool
+  pub steady : Bool
   pub cuts : ℕ
   pub failures : ℕ
   pub changes : ℕ
@@ -35,6 +37,7 @@ pub record Lasts (old new : Device) : Type 0 where
   pub goes : new.gone ≡ true → (old.gone ≡ true) ⊎ (old.cuts < new.cuts)
   pub ends : old.cuts < new.cuts → new.gone ≡ true
   pub once : new.cuts ≤ old.cuts + 1
+  pub steady : old.steady ≡ true → (new.steady ≡ true) × (new.cuts ≡ old.cuts)
 
 -- the call did what it was asked for
 pub record Completes (old new : Device) : Type 0 where

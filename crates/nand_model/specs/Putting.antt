@@ -1,5 +1,5 @@
 -- What sets a page or a mark of a device from without, and what a cut leaves that comes before anything was done.
-use Rattle.std.specs.Prelude.{◌≡◌, ◌≢◌, ℕ, ◌+◌, true, None}
+use Rattle.std.specs.Prelude.{◌≡◌, ◌≢◌, ℕ, ◌+◌, true, false, None}
 use Rattle.nand_model.specs.Flash.{Page}
 use Rattle.nand_model.specs.Calls.{Device, Lasts, Goes}
 
@@ -8,6 +8,7 @@ pub record Rests (old new : Device) : Type 0 where
   pub geometry : new.geometry ≡ old.geometry
   pub gone : new.gone ≡ old.gone
   pub honest : new.honest ≡ old.honest
+  pub steady : new.steady ≡ old.steady
   pub cuts : new.cuts ≡ old.cuts
   pub failures : new.failures ≡ old.failures
   pub changes : new.changes ≡ old.changes
@@ -31,9 +32,13 @@ pub record PutsMark (b : ℕ) (old new : Device) : Type 0 where
   pub next : new.flash.next ≡ old.flash.next
   pub page : new.flash.page ≡ old.flash.page
 
+-- the device as one whose calls may be cut
+abbrev pub unsteady : Device → Device
+unsteady device = record device { steady = false }
+
 -- A program or an erase in block b is cut and leaves the old pages: the block has no next page, and else the flash stays.
 pub record CutsChange (b : ℕ) (old new : Device) : Type 0 where
-  pub lasts : Lasts old new
+  pub lasts : Lasts (unsteady old) (unsteady new)
   pub goes : Goes old new
   pub changes : new.changes ≡ old.changes + 1
   pub reads : new.reads ≡ old.reads
@@ -44,7 +49,7 @@ pub record CutsChange (b : ℕ) (old new : Device) : Type 0 where
 
 -- A mark is cut and isn't set: the flash stays.
 pub record CutsMark (old new : Device) : Type 0 where
-  pub lasts : Lasts old new
+  pub lasts : Lasts (unsteady old) (unsteady new)
   pub goes : Goes old new
   pub changes : new.changes ≡ old.changes + 1
   pub reads : new.reads ≡ old.reads

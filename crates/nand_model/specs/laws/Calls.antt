@@ -27,6 +27,7 @@ lasts_on a b c first then = record {
     | inl lt ↦ let same : c.cuts ≡ b.cuts = ap (λ (d : Device). d.cuts) (then.gone (first.ends lt)) in let one = first.once in omega (arith, same, one)
     | inr le ↦ let one = then.once in omega (arith, one, le)
   ];
+  steady = λ was. let one = first.steady was in let two = then.steady one.0 in (two.0, two.1 ∙ one.1);
 } where
   stays_gone : b.gone ≡ true → c.gone ≡ true
   stays_gone is = ap (λ (d : Device). d.gone) (then.gone is) ∙ is
@@ -44,5 +45,6 @@ lasts_here a = record {
   gone = λ was. refl;
   ends = λ more. absurd (omega (arith, more));
   once = omega arith;
+  steady = λ was. (was, refl);
   goes = λ is. inl is;
 }

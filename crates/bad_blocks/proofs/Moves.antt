@@ -13,7 +13,8 @@ use Rattle.block_state.specs.laws.Counting.{sum_below-changed, sum_below-zero, s
 use Rattle.block_state.specs.laws.Kept.{unkept_if, kept_if, unkept_same}
 use Rattle.chunk_index.specs.declared.index.Index.{Index}
 use Rattle.chunk_index.specs.Maps.{kept_pages, CountsAgree}
-use Rattle.transactions.specs.Ready.{AreBelow, IsReady}
+use Rattle.flash_tree.specs.Numbering.{AreBelow}
+use Rattle.transactions.specs.Ready.{IsReady}
 use Rattle.transactions.specs.Sources.{IsName}
 use Rattle.transactions.specs.declared.copies.CopyOf.{CopyOf}
 use Rattle.bad_blocks.specs.Copying.{KeepsCounts, KeepsDataAt, MayBeCopied, AreCopied, IsCopyOf, IsTarget, OpenAfter, copy_in}

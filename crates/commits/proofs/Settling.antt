@@ -26,7 +26,8 @@ use Rattle.transactions.specs.Committing.{name_at, bytes_at}
 use Rattle.transactions.specs.Groups.{OkTable, next_group}
 use Rattle.transactions.specs.Handing.{HandsOut}
 use Rattle.transactions.specs.Newest.{ShowsGroup}
-use Rattle.transactions.specs.Ready.{AreBelow, IsReady}
+use Rattle.flash_tree.specs.Numbering.{AreBelow}
+use Rattle.transactions.specs.Ready.{IsReady}
 use Rattle.bad_blocks.specs.Standing.{AreKept, HasFree, IsKeptAt, IsWithinLimits, MayLie, Stands, TablesAgree}
 use Rattle.bad_blocks.specs.laws.FreeBlocks.{leaves_fewer}
 use Rattle.bad_blocks.specs.laws.Keeping.{had_power}

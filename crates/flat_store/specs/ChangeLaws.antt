@@ -16,7 +16,7 @@ use Rattle.transactions.specs.Groups.{AddsPages}
 use Rattle.transactions.specs.Naming.{IsNamed, NamesOnce}
 use Rattle.transactions.specs.Newest.{ShowsGroup, spot_at}
 use Rattle.transactions.specs.laws.Newest.{commit_comes_last, added_shows}
-use Rattle.transactions.specs.Ready.{AreBelow}
+use Rattle.flash_tree.specs.Numbering.{AreBelow}
 use Rattle.flash_tree.specs.declared.place.FreshPage.{FreshPage}
 use Rattle.flat_store.specs.Changes.{IsOf, AreApart, KeepsNewest, HasChange}
 

@@ -4,7 +4,7 @@ use Rattle.std.proofs.Common.{arith}
 use Rattle.nand_model.specs.Flash.{Flash}
 use Rattle.flash_tree.specs.Newest.{AreAbove}
 use Rattle.volume_terms.specs.Sizes.{number_limit}
-use Rattle.transactions.specs.Ready.{AreBelow}
+use Rattle.flash_tree.specs.Numbering.{AreBelow}
 
 -- numbers below those that no group and no block gets are no greater than what tags may have
 pub within_limit : (f : Flash) (group seq : ℕ) → AreBelow f group seq → group ≤ 2 ^ 62 → seq ≤ 2 ^ 62 → AreAbove f (record { version = number_limit; group = number_limit; seq = number_limit })

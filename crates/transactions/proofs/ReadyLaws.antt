@@ -11,7 +11,8 @@ use Rattle.transactions.specs.declared.source.PageName.{PageName}
 use Rattle.transactions.specs.declared.place.GroupPlace.{GroupPlace}
 use Rattle.transactions.specs.declared.group.GroupFault.{GroupFault}
 use Rattle.transactions.specs.declared.group.GroupFault.TheVariants as faults
-use Rattle.transactions.specs.Ready.{IsOpenOn, IsReady, IsPlaceIn, AreBelow}
+use Rattle.flash_tree.specs.Numbering.{AreBelow}
+use Rattle.transactions.specs.Ready.{IsOpenOn, IsReady, IsPlaceIn}
 use Rattle.transactions.specs.Written.{WritesAll, LastNext, TableAfter, MayWrite, group_at, stays_open}
 use Rattle.transactions.specs.Groups.{next_group, AddsPages, GroupsAfter, OkTable, TakesPages, Stays}
 use Rattle.transactions.proofs.GroupLaws.{IsFresh, is_added, is_not_added, wrote_grows, below_after}

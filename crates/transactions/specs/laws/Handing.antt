@@ -1,5 +1,5 @@
 -- What holds of the numbers that are handed out.
-use Rattle.std.specs.Prelude.{◌≡◌, ◌≤◌, ◌+◌, ◌-◌, ℕ, true, false, Result}
+use Rattle.std.specs.Prelude.{◌≡◌, ◌≤◌, ◌+◌, ◌-◌, ℕ, true, false, None, Result}
 use Rattle.std.proofs.Common.{refl, sym, ◌∙◌, ap, arith, inl, inr}
 use Rattle.std.proofs.lemmas.Bool.{cases_Bool}
 use Rattle.nand_model.specs.Flash.{Flash}
@@ -58,6 +58,23 @@ hands_unwritten old new t t' groups rise seqs stays = record {
 -- where no call is made none is handed out
 pub hands_nothing : (a : Device) (t : Table) → HandsOut a a t t
 hands_nothing a t = hands_unwritten a a t t refl (omega arith) (omega arith) (λ honest group seq is. is)
+
+-- nor where no block is open any longer
+pub hands_closed : (a : Device) (t u : Table) → u ≡ record t { open_block = None } → HandsOut a a t u
+hands_closed a t u is = hands_unwritten a a t u (ap (λ (x : Table). x.next_group) is) (omega (arith, seqs)) (omega (arith, seqs)) (λ honest group seq below. below) where
+  seqs : u.next_seq ≡ t.next_seq
+  seqs = ap (λ (x : Table). x.next_seq) is
+
+-- tables of the same next numbers
+pub hands_same : (a b : Device) (t u v : Table) → v.next_group ≡ u.next_group → v.next_seq ≡ u.next_seq → HandsOut a b t u → HandsOut a b t v
+hands_same a b t u v groups seqs hands = record {
+  groups_rise = omega (arith, groups, hands.groups_rise);
+  seqs_rise = omega (arith, seqs, hands.seqs_rise);
+  seqs = omega (arith, seqs, hands.seqs);
+  groups = λ honest power. omega (arith, groups, hands.groups honest power);
+  below = λ honest is. below_greater b.flash u.next_group u.next_seq _ _ (omega (arith, groups)) (omega (arith, seqs)) (hands.below honest is);
+  written = hands.written;
+}
 
 -- a mark, done or cut, hands out none
 pub hands_marked : (b : ℕ) (old new : Device) (t t' : Table) (result : Result (Unit {0}) Gone) → Marks b old new result → t'.next_group ≡ t.next_group → t'.next_seq ≡ t.next_seq

@@ -15,7 +15,7 @@ ghost use Rattle.posix_profile.specs.declared.reply.Reply.TheVariants as replies
 ghost use Rattle.posix_profile.specs.declared.reply.Reply.{Reply};
 ghost use Rattle.object_store.specs.Stores.{Has};
 ghost use Rattle.volume_terms.specs.declared.fault.StoreFault.TheVariants as faults;
-ghost use Rattle.command_plans.specs.Classes.{Class, class_of};
+ghost use Rattle.command_plans.specs.Classes.{Class, class_of, makes_no_call};
 ghost use Rattle.command_plans.specs.Plans.{Holds, Plans, Works, IsPlan, TakesNone, CanDo, InRange, frees, handled};
 ghost use Rattle.command_plans.specs.Tables.{handles_in};
 
@@ -243,6 +243,7 @@ impl<S: ObjectStore> Volume<S> {
     pub fn call(&mut self, stamped: &Stamped) -> Reply
         ensures keeps { is_read_only self.new ≡ is_read_only self.old }
         ensures lasts { S.meaning.lasts (store_of self.old) (store_of self.new) }
+        ensures leaves { makes_no_call stamped.now.command ≡ true → S.meaning.leaves (store_of self.old) (store_of self.new) }
         ensures stopped { is_stopped self.old ≡ true → (result ≡ replies.Error errors.EIO) × (self.new ≡ self.old) }
         ensures ends { is_stopped self.old ≡ false → (z : Sizes) (s : State) → IsAt S.meaning z s self.old
             → Ends S.meaning z (class_of stamped.now.command) (takes_no_memory stamped.now.command) s (step z (is_read_only self.old) s stamped.now) self.old self.new result }

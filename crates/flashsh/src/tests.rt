@@ -39,6 +39,6 @@ fn other_paths_are_refused_and_other_lines_are_bad(rt: HostRuntime) -> Result<()
         &rt,
         rt.alloc(),
         "nope\nread 0\nspace x\n\nspace\nmkdir /\nlist /a\nmkdir /a/b\nnow 7\r\nlist /\n",
-        "bad line\nbad line\nbad line\nbad line\nerror EINVAL\nerror EINVAL\nerror EINVAL\nok\nnames 0\n",
+        "bad line\nbad line\nbad line\nerror EINVAL\nerror EINVAL\nerror EINVAL\nerror EINVAL\nok\nnames 0\n",
     )
 }

@@ -15,7 +15,6 @@ use Rattle.chunk_index.specs.declared.form.KeptKey.{KeptKey}
 use Rattle.chunk_index.specs.declared.form.KeptPage.{KeptPage}
 use Rattle.chunk_index.specs.declared.index.Index.{Index}
 use Rattle.transactions.specs.Handing.{HandsOut}
-use Rattle.transactions.specs.laws.Handing.{hands_nothing}
 use Rattle.transactions.specs.Ready.{IsReady}
 use Rattle.bad_blocks.specs.Moving.{MarksFailures}
 use Rattle.bad_blocks.specs.Standing.{IsWithinLimits}
@@ -28,7 +27,7 @@ use Rattle.volume_terms.specs.declared.fault.StoreFault.TheVariants as faults
 use Rattle.objects.specs.Changing.{IsWornOut as HasNothingLeft, IsCommitFault, IsChangeFault}
 use Rattle.objects.specs.StoreOf.{next_numbers}
 use Rattle.objects.proofs.Carried.{carried_same}
-use Rattle.objects.proofs.Steps.{same_back}
+use Rattle.objects.proofs.Steps.{same_back, hands_still}
 
 -- ---- what every call keeps
 
@@ -269,7 +268,7 @@ cut_stopped (Err fault) h a b same why = not_sound h b (same ∙ why.1)
 -- where neither the device nor the table changes
 module _ (d e : Device) (t u : Table) (still : e ≡ d) (tables : u ≡ t) where
   pub hands_none : HandsOutNumbers d e (next_numbers t) (next_numbers u)
-  hands_none = hands_told d e t u (subst (λ (k : Device). HandsOut d k t u) (sym still) (subst (λ (x : Table). HandsOut d d t x) (sym tables) (hands_nothing d t)))
+  hands_none = hands_told d e t u (hands_still d e t u still tables)
 
   pub marks_none : bad_on e + d.failures ≤ bad_on d + e.failures
   marks_none =

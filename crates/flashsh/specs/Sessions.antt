@@ -46,12 +46,20 @@ pub record Session {P V : Type 0} (state : P → PagesState) (inside : V → Pag
   pub unmounted : IsUnmounted state (inside last) after reply
   pub result_is : result ≡ told shell reply
 
--- how the lines over a device end: a volume that is not mounted is only read, no line is read and nothing is written
+-- The volume of a device was not mounted: the device was only read, no line was read and nothing written.
+pub record NotMounted (before : Device) (input left written now : Option (List ℕ)) (after : Device) (result : Result (Unit {0}) ProgramFault) : Type 0 where
+  pub fault : MountFault
+  pub result_is : result ≡ Err (faults.Mount fault)
+  pub reads : OnlyReads before after
+  pub why : WhyNotMounted after fault
+  pub unread : left ≡ input
+  pub unwritten : now ≡ written
+
+-- how the lines over a device end
 abbrev pub LinesEnd : {P V : Type 0} → (P → PagesState) → (V → PageVolume P) → (V → Stamped → Reply → V → Type 0)
     → Device → Option (List ℕ) → Option (List ℕ) → Option (List ℕ) → Option (List ℕ) → Device → Result (Unit {0}) ProgramFault → Type 0
-LinesEnd state inside serves before input left written now after (Err (faults.Mount fault)) =
-    OnlyReads before after × WhyNotMounted after fault × (left ≡ input) × (now ≡ written)
-LinesEnd state inside serves before input left written now after result = Session state inside serves before input left written now after result
+LinesEnd state inside serves before input left written now after result =
+    NotMounted before input left written now after result ⊎ Session state inside serves before input left written now after result
 
 -- a fault of the steps before the mount
 abbrev pub IsEarly : ProgramFault → Type 0

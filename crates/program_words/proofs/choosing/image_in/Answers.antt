@@ -1,4 +1,4 @@
-use Rattle.std.proofs.Common.{◌≡◌, ◌∙◌, codes, Some, option_map, sym, ap}
+use Rattle.std.proofs.Common.{◌∙◌, codes, Some, option_map, sym, ap}
 use Rattle.clap.proofs.WalkLemmas.{first_value-rows}
 use Rattle.clap.specs.Words.{found_of}
 use Rattle.program_words.proofs.choosing.image_in.Goals as goal

@@ -1,4 +1,4 @@
-use Rattle.std.proofs.Common.{ℕ, List, codes, refl}
+use Rattle.std.proofs.Common.{codes, refl}
 use Rattle.std.specs.Str.Parse.{ParsesUnsigned, ExplainsUnsignedError, HasUnsignedDigitsIfOk}
 use Rattle.clap.specs.Words.{found_of, one_text}
 use Rattle.program_words.proofs.Reading.{number_read}

@@ -1,3 +1,6 @@
 pub mod Layout
 pub mod Writes
 pub mod Quiet
+pub mod Images
+pub mod Opening
+pub mod Readings

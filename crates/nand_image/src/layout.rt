@@ -4,6 +4,9 @@ ghost use Rattle.nand_image.specs.Layout as spec;
 
 use nand_model::Geometry;
 
+/// What an image begins with.
+pub(crate) const MAGIC: [u8; 8] = *b"NANDIMG1";
+
 /// The bytes of the head of an image.
 pub(crate) const HEAD_BYTES: u64 = 32;
 

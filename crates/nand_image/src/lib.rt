@@ -2,8 +2,11 @@
 #![tactic(auto)]
 
 mod device;
+mod fault;
 mod layout;
+mod reading;
 mod writing;
 
 pub use device::ImageNand;
+pub use fault::ImageFault;
 pub use writing::WriteAt;

@@ -4,3 +4,4 @@ pub mod Quiet
 pub mod Images
 pub mod Opening
 pub mod Readings
+pub mod Creation

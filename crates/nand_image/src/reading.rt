@@ -1,22 +1,22 @@
 // How an image is read: its head, its marks, its pages, and that nothing follows.
-ghost use Rattle.std.specs.Prelude.{◌≡◌, ◌≤◌, ◌<◌, ◌+◌, ◌*◌, false, length, take, drop, IfOk, IfErr, OnOk};
+ghost use Rattle.std.specs.Prelude.{◌≡◌, ◌≤◌, ◌<◌, ◌+◌, ◌*◌, ℕ, false, None, length, drop, IfOk, IfErr, OnOk};
 ghost use Rattle.byteorder.specs.Endian.{little_number};
 ghost use Rattle.nand_model.specs.Changes.{CountsNothing};
 ghost use Rattle.nand_model.specs.MemoryState.{device, plan};
 ghost use Rattle.nand_model.specs.Putting.{PutsPage};
 ghost use Rattle.nand_image.specs.Images.{HasSizes, TellsSize, page_in};
-ghost use Rattle.nand_image.specs.Opening.{Opens};
+ghost use Rattle.nand_image.specs.Opening.{OpensAs, Explains};
 ghost use Rattle.nand_image.specs.Quiet.{IsQuiet};
 ghost use Rattle.nand_image.specs.Readings.{FillsFront, FillsWhole, IsShort, TakesHead, IsNoHead, PutsMarks, PutsPages, TakesPages, IsEnded, IsLong, TakesBody, body_size, IsOfOtherSize};
 ghost use Rattle.nand_image.specs.Layout.{slot_size};
 
 use crate::device::ImageNand;
 use crate::fault::ImageFault;
-use crate::layout::{BESIDE_BYTES, MAGIC};
+use crate::layout::MAGIC;
 use byteorder::{ByteOrder, LittleEndian};
 use nand_model::{Geometry, MemNand, Nand, PageKind};
 use std::alloc::Global;
-use std::io::{ErrorKind, Read};
+use std::io::{ErrorKind, Read, Seek, Write};
 
 /// Reads until the buffer is full or the file is at its end, and tells how many bytes it read. An interrupted read is
 /// tried again.
@@ -188,4 +188,45 @@ fn read_end<F: Read>(file: &mut F) -> Result<(), ImageFault>
         return Err(ImageFault::Size);
     }
     Ok(())
+}
+
+/// Reads what follows the head into a device in memory.
+fn read_flash<F: Read>(
+    alloc: Global,
+    file: &mut F,
+    geometry: Geometry,
+) -> Result<MemNand, ImageFault>
+    ensures geometry { IfOk result (λ d. (device d).geometry ≡ geometry) }
+    ensures gone { IfOk result (λ d. (device d).gone ≡ false) }
+    ensures counts { IfOk result (λ d. CountsNothing (device d)) }
+    ensures nexts { IfOk result (λ d. (b : ℕ) → (device d).flash.next b ≡ None) }
+    ensures quiet { IfOk result (λ d. IsQuiet (plan d)) }
+    ensures body { IfOk result (TakesBody geometry (F.remaining file.old)) }
+    ensures fault { IfErr result (IsOfOtherSize (F.remaining file.old) (body_size geometry)) }
+{
+    let mut memory = MemNand::new(alloc, geometry)?;
+    let mut marks = vec![in alloc; 0u8; geometry.blocks() as usize]?;
+    let mut slot = vec![in alloc; 0u8; 49 + geometry.bytes() as usize]?;
+    read_marks(file, &mut memory, &mut marks)?;
+    read_pages(file, &mut memory, &mut slot)?;
+    read_end(file)?;
+    Ok(memory)
+}
+
+/// The device in a file that holds an image and stands at its start. The file is not moved before.
+pub fn open_image<F: Read + Write + Seek + Drop>(
+    alloc: Global,
+    file: F,
+) -> Result<ImageNand<F>, ImageFault>
+    ensures gone { IfOk result (λ d. (device d.memory).gone ≡ false) }
+    ensures counts { IfOk result (λ d. CountsNothing (device d.memory)) }
+    ensures nexts { IfOk result (λ d. (b : ℕ) → (device d.memory).flash.next b ≡ None) }
+    ensures opens { IfOk result (OpensAs (F.remaining file)) }
+    ensures fault { IfErr result (Explains (F.remaining file)) }
+{
+    let mut file = file;
+    let head = read_head(&mut file)?;
+    let geometry = geometry_in(&head)?;
+    let memory = read_flash(alloc, &mut file, geometry)?;
+    Ok(ImageNand { memory, file })
 }

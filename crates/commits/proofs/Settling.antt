@@ -25,8 +25,10 @@ use Rattle.page_buffer.specs.Shown.{data_at, data_by, kept_data, present_data}
 use Rattle.transactions.specs.Committing.{name_at, bytes_at}
 use Rattle.transactions.specs.Groups.{OkTable, next_group}
 use Rattle.transactions.specs.Handing.{HandsOut}
+use Rattle.transactions.specs.laws.Handing.{below_greater}
 use Rattle.transactions.specs.Newest.{ShowsGroup}
-use Rattle.transactions.specs.Ready.{AreBelow, IsReady}
+use Rattle.flash_tree.specs.Numbering.{AreBelow}
+use Rattle.transactions.specs.Ready.{IsReady}
 use Rattle.bad_blocks.specs.Standing.{AreKept, HasFree, IsKeptAt, IsWithinLimits, MayLie, Stands, TablesAgree}
 use Rattle.bad_blocks.specs.laws.FreeBlocks.{leaves_fewer}
 use Rattle.bad_blocks.specs.laws.Keeping.{had_power}
@@ -74,6 +76,8 @@ hands_counted d e t u v before after counts hands =
       seqs_rise = omega (arith, seq, hands.seqs_rise);
       seqs = omega (arith, seq, hands.seqs);
       groups = λ honest power. let few = hands.groups honest power in omega (arith, group, few);
+      below = λ honest is. below_greater e.flash u.next_group u.next_seq v.next_group v.next_seq (omega (arith, group)) (omega (arith, seq)) (hands.below honest is);
+      written = hands.written;
     }
 
 -- Tables where the index was settled: pages of the buffer may lie where the group says, its block has room for them, and

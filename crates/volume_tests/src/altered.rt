@@ -44,7 +44,7 @@ fn file(format: u8, length: u64, bits: u8) -> Head {
 
 /// What is altered in a flash whose root names a file of five bytes.
 #[derive(Clone, Copy, Debug, PartialEq, Eq)]
-enum Altered {
+pub(crate) enum Altered {
     Nothing,
     RootFormat(u8),
     RootTag,
@@ -89,7 +89,7 @@ fn slot_page(alloc: Global, altered: Altered) -> Result<TestPage, Fail> {
 }
 
 /// The flash of a file of five bytes, with this alteration.
-fn with_file(alloc: Global, format: u8, altered: Altered) -> Result<MemNand, Fail> {
+pub(crate) fn with_file(alloc: Global, format: u8, altered: Altered) -> Result<MemNand, Fail> {
     let head = match altered {
         Altered::File(length, bits) => file(format, length, bits),
         _ => file(format, 5, 1),

@@ -1,5 +1,6 @@
 // The last line of a session is cut at each of its calls: a mount shows the tree of before it or the one of after it.
 
+use crate::altered::{Altered, with_file};
 use crate::devices::{Fates, formatted};
 use crate::served::{Row, Served, expect, repeated};
 use crate::sessions::{HELLO, MOVES};
@@ -160,6 +161,51 @@ fn moves_that_are_cut_leave_one_of_two_trees(rt: HostRuntime) -> Result<(), Fail
         old: str::from_utf8(&old)?,
         new: "names 4 a b e f\ninfo dir 1 6 0 0\nnames 0\nnames 0\nerror ENOENT\ninfo dir 5 2 0 0\ninfo dir 4 2 0 0\nspace 512 144 135\n",
     };
+    let (_calls, news) = trees.cut_each(&rt, alloc, &nand, session, &[])?;
+    assert_eq!(rt; news.len(), 1);
+    Ok(())
+}
+
+#[test]
+fn a_cut_sync_of_which_a_page_fails_is_done_or_not(rt: HostRuntime) -> Result<(), Fail> {
+    let alloc = rt.alloc();
+    let nand = formatted(alloc, 1)?;
+    let session = Session {
+        before: &[("mkdir /a", "ok")],
+        last: "sync",
+    };
+    let trees = Trees {
+        looks: "list /\nspace",
+        old: "names 0\nspace 512 144 143\n",
+        new: "names 1 a\nspace 512 144 141\n",
+    };
+    let calls = session.calls(&rt, alloc, &nand, &[])?;
+    for fate in [Fate::New, Fate::Uncorrectable] {
+        // The third program, after an erase and two programs.
+        let failures = [(calls.first.saturating_add(3), [fate; 3])];
+        let (_calls, news) = trees.cut_each(&rt, alloc, &nand, session, &failures)?;
+        assert!(rt; !news.is_empty());
+    }
+    Ok(())
+}
+
+#[test]
+fn a_cut_sync_over_old_headers_is_done_or_not(rt: HostRuntime) -> Result<(), Fail> {
+    let alloc = rt.alloc();
+    let session = Session {
+        before: &[
+            ("now 4", "ok"),
+            ("open /a w", "fd 0"),
+            ("write 0 x", "wrote 1"),
+        ],
+        last: "sync",
+    };
+    let trees = Trees {
+        looks: "stat /a\nopen /a r\nread 0 10",
+        old: "info file 2 1 5 0\nfd 0\ndata 5 hello\n",
+        new: "info file 2 1 5 4\nfd 0\ndata 5 xello\n",
+    };
+    let nand = with_file(alloc, 1, Altered::Nothing)?;
     let (_calls, news) = trees.cut_each(&rt, alloc, &nand, session, &[])?;
     assert_eq!(rt; news.len(), 1);
     Ok(())

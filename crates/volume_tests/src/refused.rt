@@ -18,7 +18,7 @@ struct Asked {
 }
 
 /// The commands of the rows.
-fn asked(alloc: Global, rows: &[Row<'_>]) -> Result<Vec<Asked>, Fail> {
+fn commands_of(alloc: Global, rows: &[Row<'_>]) -> Result<Vec<Asked>, Fail> {
     let mut all = Vec::new(alloc);
     for (line, reply) in rows {
         match parse(alloc, line.as_bytes())? {
@@ -74,7 +74,7 @@ fn call_again(
 fn what_is_refused_memory_is_done_by_the_next_call(rt: HostRuntime) -> Result<(), Fail> {
     let alloc = rt.alloc();
     for rows in [HELLO.as_slice(), MOVES.as_slice()] {
-        let commands = asked(alloc, rows)?;
+        let commands = commands_of(alloc, rows)?;
         let mut refused = 0u32;
         let mut served = mount_again(&rt, alloc, formatted(alloc, 1)?, &mut refused)?;
         for command in &commands {

@@ -121,7 +121,11 @@ fn main(rt: HostRuntime) -> Result<()> {
         let lines = lines.get(..*end).context("a part is missing")?;
         let report = run(&rt, alloc, size, lines)?;
         let counts = report.counts.since(before.counts);
-        println!(rt; "part {number}: {}, {} errors", counts.text(alloc)?, report.errors)?;
+        println!(rt;
+            "part {number}: {}, {} errors",
+            counts.text(alloc)?,
+            report.errors
+        )?;
         if words.len() > 5 {
             let nanoseconds = report.nanoseconds.saturating_sub(before.nanoseconds);
             eprintln!(rt; "part {number}: {} microseconds", nanoseconds / 1000)?;

@@ -18,7 +18,12 @@ struct Turns {
 }
 
 /// Adds a line, with a number in place of each `#`.
-fn push_line(alloc: Global, lines: &mut Vec<u8>, line: &[u8], number: u64) -> Result<(), AllocError> {
+fn push_line(
+    alloc: Global,
+    lines: &mut Vec<u8>,
+    line: &[u8],
+    number: u64,
+) -> Result<(), AllocError> {
     let number = format!(in alloc; "{number}")?;
     for byte in line {
         if *byte == b'#' {
@@ -41,8 +46,7 @@ fn push_turns(alloc: Global, lines: &mut Vec<u8>, turns: &Turns) -> Result<(), A
 /// Adds a line as it stands.
 fn push_plain(lines: &mut Vec<u8>, line: &str) -> Result<(), AllocError> {
     lines.extend_from_slice(line.as_bytes())?;
-    lines.push(b'\n')
-        .map_err(|failed| failed.into())
+    lines.push(b'\n').map_err(|failed| failed.into())
 }
 
 /// The lines that a text stands for.

@@ -40,8 +40,8 @@ pub(crate) type Fates = [Fate; 3];
 /// The fates of 32 pages.
 pub(crate) fn fates(alloc: Global, fates: Fates) -> Result<Vec<Fate>, Fail> {
     let mut pages = Vec::new(alloc);
-    for fate in fates.iter().cycle().take(32) {
-        pages.push(*fate)?;
+    for page in 0..32usize {
+        pages.push(fates[page % 3])?;
     }
     Ok(pages)
 }

@@ -235,10 +235,10 @@ fn filled(rt: &impl Abort, alloc: Global) -> Result<MemNand, Fail> {
 fn rewrites<'a>(alloc: Global, lines: &'a [String; 2], count: usize) -> Result<Vec<Row<'a>>, Fail> {
     let mut rows = Vec::new(alloc);
     rows.push(("open /b rw", "fd 0"))?;
-    for line in lines.iter().cycle().take(count) {
+    for turn in 0..count {
         rows.push(("fsync 0", "ok"))?;
         rows.push(("seek 0 0 set", "at 0"))?;
-        rows.push((line.as_str(), "wrote 512"))?;
+        rows.push((lines[turn % 2].as_str(), "wrote 512"))?;
     }
     Ok(rows)
 }
@@ -310,15 +310,23 @@ fn a_cut_collection_loses_nothing(rt: HostRuntime) -> Result<(), Fail> {
     Err("no block is collected".into())
 }
 
+/// The tag of a page, where it has one.
+fn tag_at(nand: &mut MemNand, block: u32, page: u32) -> Result<Option<Tag>, Fail> {
+    let geometry = nand.geometry();
+    if block >= geometry.blocks() || page >= geometry.pages() {
+        return Ok(None);
+    }
+    let mut bytes = [0; 48];
+    nand.read_tag(block, page, &mut bytes)?;
+    Ok(Tag::decode(&bytes))
+}
+
 /// The tags that are readable.
 fn tags_of(alloc: Global, nand: &mut MemNand) -> Result<Vec<Tag>, Fail> {
-    let geometry = nand.geometry();
     let mut tags = Vec::new(alloc);
-    for block in 0..geometry.blocks() {
-        for page in 0..geometry.pages() {
-            let mut bytes = [0; 48];
-            nand.read_tag(block, page, &mut bytes)?;
-            if let Some(tag) = Tag::decode(&bytes) {
+    for block in 0..8u32 {
+        for page in 0..32u32 {
+            if let Some(tag) = tag_at(nand, block, page)? {
                 tags.push(tag)?;
             }
         }

@@ -77,7 +77,7 @@ pub(crate) fn slot(
 }
 
 /// Writes pages into a block, from its first page on.
-fn write_block(nand: &mut MemNand, block: u32, pages: &[TestPage]) -> Result<(), Fail> {
+fn write_block<N: Nand>(nand: &mut N, block: u32, pages: &[TestPage]) -> Result<(), Fail> {
     let geometry = nand.geometry();
     if block >= geometry.blocks() || nand.is_bad(block) || geometry.bytes() != 512 {
         return Err("no such block".into());
@@ -102,30 +102,44 @@ pub(crate) fn device_with(alloc: Global, pages: &[TestPage]) -> Result<MemNand, 
     Ok(nand)
 }
 
-/// The newest page of a key, where it counts in a group of its own block.
+/// The page at a place, with its tag, where it has one.
+fn page_at(
+    alloc: Global,
+    nand: &mut MemNand,
+    block: u32,
+    page: u32,
+) -> Result<Option<TestPage>, Fail> {
+    let geometry = nand.geometry();
+    if block >= geometry.blocks() || page >= geometry.pages() {
+        return Ok(None);
+    }
+    let mut bytes = vec![in alloc; 0u8; geometry.bytes() as usize]?;
+    let mut tag = [0; 48];
+    nand.read_page(block, page, &mut bytes, &mut tag)?;
+    match Tag::decode(&tag) {
+        Some(tag) => Ok(Some(TestPage { tag, bytes })),
+        None => Ok(None),
+    }
+}
+
+/// The bytes of the page of a key that has the greatest version. Each group is taken for whole.
 pub(crate) fn newest(
     alloc: Global,
     nand: &mut MemNand,
     object: u64,
     chunk: u64,
 ) -> Result<Vec<u8>, Fail> {
-    let geometry = nand.geometry();
-    let mut version = 0;
-    let mut found = Vec::new(alloc);
-    let mut bytes = vec![in alloc; 0u8; geometry.bytes() as usize]?;
-    for block in 0..geometry.blocks() {
-        for page in 0..geometry.pages() {
-            let mut tag = [0; 48];
-            nand.read_page(block, page, &mut bytes, &mut tag)?;
-            match Tag::decode(&tag) {
-                Some(read)
-                    if read.object == object && read.chunk == chunk && read.version >= version => {
-                    version = read.version;
-                    found = bytes.as_slice().to_vec(alloc)?;
+    let mut newest = page_of(alloc, object, chunk, 0)?;
+    for block in 0..8u32 {
+        for page in 0..32u32 {
+            if let Some(found) = page_at(alloc, nand, block, page)? {
+                let is_of_key = found.tag.object == object && found.tag.chunk == chunk;
+                if is_of_key && found.tag.version > newest.tag.version {
+                    newest = found;
                 }
-                _ => {}
             }
         }
     }
-    Ok(found)
+    let TestPage { tag: _, bytes } = newest;
+    Ok(bytes)
 }

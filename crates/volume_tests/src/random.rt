@@ -14,13 +14,14 @@ use volume_terms::VolumeSizes;
 
 const PATHS: [&str; 9] = ["/", "/a", "/b", "/c", "/d", "/a/a", "/a/b", "/a/c", "/a/d"];
 
-/// The next word, below a bound that is not 0.
-fn below(random: &mut Lcg128Xsl64, bound: u64) -> u64 {
-    random.next_u64() % bound.max(1)
+/// A number below a bound that is not 0.
+fn below(random: &mut Lcg128Xsl64, bound: u32) -> u32 {
+    let word = (random.next_u64() % 4_294_967_296) as u32;
+    word % bound.max(1)
 }
 
 /// Once in so many times.
-fn rarely(random: &mut Lcg128Xsl64, times: u64) -> bool {
+fn rarely(random: &mut Lcg128Xsl64, times: u32) -> bool {
     below(random, times) == 0
 }
 
@@ -49,7 +50,7 @@ fn flags(random: &mut Lcg128Xsl64) -> OpenFlags {
 
 fn bytes(alloc: Global, random: &mut Lcg128Xsl64) -> Result<Bytes, Fail> {
     let count = below(random, 3000);
-    let first = random.next_u64();
+    let first = below(random, 256);
     let mut bytes = Vec::new(alloc);
     for place in 0..count {
         bytes.push((first.wrapping_add(place / 7) % 256) as u8)?;
@@ -67,22 +68,22 @@ fn whence(random: &mut Lcg128Xsl64) -> Whence {
 
 /// A descriptor. Few are open at a time.
 fn descriptor(random: &mut Lcg128Xsl64) -> u32 {
-    below(random, 5) as u32
+    below(random, 5)
 }
 
 /// A number from some bytes before 0 on.
 fn offset(random: &mut Lcg128Xsl64) -> i64 {
-    (below(random, 9000) as i64).wrapping_sub(500)
+    i64::from(below(random, 9000)).wrapping_sub(500)
 }
 
 /// A command of a descriptor.
-fn descriptor_command(alloc: Global, random: &mut Lcg128Xsl64, kind: u64) -> Result<Command, Fail> {
+fn descriptor_command(alloc: Global, random: &mut Lcg128Xsl64, kind: u32) -> Result<Command, Fail> {
     let fd = descriptor(random);
     Ok(match kind {
         0 => Command::Close { fd },
         1 => Command::Read {
             fd,
-            count: below(random, 4000) as u32,
+            count: below(random, 4000),
         },
         2 => Command::Seek {
             fd,
@@ -102,7 +103,7 @@ fn descriptor_command(alloc: Global, random: &mut Lcg128Xsl64, kind: u64) -> Res
 }
 
 /// A command of one path or of two.
-fn path_command(alloc: Global, random: &mut Lcg128Xsl64, kind: u64) -> Result<Command, Fail> {
+fn path_command(alloc: Global, random: &mut Lcg128Xsl64, kind: u32) -> Result<Command, Fail> {
     let path = path(alloc, random)?;
     Ok(match kind {
         6 => Command::Stat { path },
@@ -127,7 +128,7 @@ fn path_command(alloc: Global, random: &mut Lcg128Xsl64, kind: u64) -> Result<Co
 
 /// A command of any kind, at a moment that may go back.
 fn command(alloc: Global, random: &mut Lcg128Xsl64) -> Result<Stamped, Fail> {
-    let moment = below(random, 100);
+    let moment = u64::from(below(random, 100));
     let command = match below(random, 20) {
         18 => Command::Sync,
         19 => Command::Space,

@@ -16,7 +16,7 @@ use counted::{CountedNand, Counts};
 use line_shell::{Serve, shell};
 use nand_model::{Geometry, MemNand};
 use posix_calls::{Reply, Stamped, Volume, format};
-use script::{Script, read_script};
+use script::read_parts;
 use std::alloc::Global;
 use std::env;
 use std::io::Read;
@@ -49,12 +49,12 @@ struct Size {
     spare: u32,
 }
 
-/// What the device of a volume counted after some lines, and the processor's nanoseconds.
+/// What the device of a volume counted, how often an error was replied, and the processor's nanoseconds for the last part.
 #[derive(Clone, Copy)]
 struct Report {
     counts: Counts,
-    nanoseconds: u64,
     errors: u64,
+    nanoseconds: u64,
 }
 
 /// A volume that was just formatted and mounted.
@@ -71,22 +71,31 @@ fn fresh(alloc: Global, size: Size) -> Result<Served> {
     }
 }
 
-/// Asks the lines of a fresh volume.
-fn run<R: Files + Alloc>(rt: &R, alloc: Global, size: Size, lines: &[u8]) -> Result<Report> {
-    let mut served = fresh(alloc, size)?;
+/// Asks the lines of a volume, and tells the processor's nanoseconds for it.
+fn ask<R: Files + Alloc>(rt: &R, alloc: Global, served: &mut Served, lines: &[u8]) -> Result<u64> {
     let mut reader = lines;
     let mut told = std::io::sink();
     let start = processor_time(rt)?;
-    let ended = shell(alloc, &mut reader, &mut told, &mut served);
-    let nanoseconds = processor_time(rt)?.saturating_sub(start);
-    if let Err(fault) = ended {
-        return Err(anyhow!("the shell ended: {fault:?}"));
+    let ended = shell(alloc, &mut reader, &mut told, served);
+    let end = processor_time(rt)?;
+    match ended {
+        Ok(()) => Ok(end.saturating_sub(start)),
+        Err(fault) => Err(anyhow!("the shell ended: {fault:?}")),
+    }
+}
+
+/// Asks the lines of these parts of a fresh volume.
+fn run<R: Files + Alloc>(rt: &R, alloc: Global, size: Size, parts: &[Vec<u8>]) -> Result<Report> {
+    let mut served = fresh(alloc, size)?;
+    let mut nanoseconds = 0;
+    for lines in parts {
+        nanoseconds = ask(rt, alloc, &mut served, lines)?;
     }
     let Served { volume, errors } = served;
     Ok(Report {
         counts: volume.abandon().counts(),
-        nanoseconds,
         errors,
+        nanoseconds,
     })
 }
 
@@ -114,21 +123,16 @@ fn main(rt: HostRuntime) -> Result<()> {
     let size = size_of(&words)?;
     let mut text = Vec::new(alloc);
     rt.stdin().lock().read_to_end(&mut text)?;
-    let Script { lines, parts } = read_script(alloc, &text)?;
+    let parts = read_parts(alloc, &text)?;
     let mut before = run(&rt, alloc, size, &[])?;
     println!(rt; "mount: {}", before.counts.text(alloc)?)?;
-    for (number, end) in parts.iter().enumerate() {
-        let lines = lines.get(..*end).context("a part is missing")?;
-        let report = run(&rt, alloc, size, lines)?;
+    for number in 0..parts.len() {
+        let report = run(&rt, alloc, size, &parts[..number + 1])?;
         let counts = report.counts.since(before.counts);
-        println!(rt;
-            "part {number}: {}, {} errors",
-            counts.text(alloc)?,
-            report.errors
-        )?;
+        let errors = report.errors.saturating_sub(before.errors);
+        println!(rt; "part {number}: {}, {errors} errors", counts.text(alloc)?)?;
         if words.len() > 5 {
-            let nanoseconds = report.nanoseconds.saturating_sub(before.nanoseconds);
-            eprintln!(rt; "part {number}: {} microseconds", nanoseconds / 1000)?;
+            eprintln!(rt; "part {number}: {} microseconds", report.nanoseconds / 1000)?;
         }
         before = report;
     }

@@ -3,13 +3,6 @@
 use anyhow::{Context, Result, anyhow};
 use std::alloc::{AllocError, Global};
 
-/// Lines of a shell, and where each part of them ends.
-#[derive(Drop)]
-pub(crate) struct Script {
-    pub(crate) lines: Vec<u8>,
-    pub(crate) parts: Vec<usize>,
-}
-
 /// Lines that are asked so many times.
 #[derive(Drop)]
 struct Turns {
@@ -49,8 +42,8 @@ fn push_plain(lines: &mut Vec<u8>, line: &str) -> Result<(), AllocError> {
     lines.push(b'\n').map_err(|failed| failed.into())
 }
 
-/// The lines that a text stands for.
-pub(crate) fn read_script(alloc: Global, text: &[u8]) -> Result<Script> {
+/// The lines that a text stands for, by parts.
+pub(crate) fn read_parts(alloc: Global, text: &[u8]) -> Result<Vec<Vec<u8>>> {
     let text = str::from_utf8(text).context("the lines are no text")?;
     let mut lines = Vec::new(alloc);
     let mut parts = Vec::new(alloc);
@@ -69,7 +62,8 @@ pub(crate) fn read_script(alloc: Global, text: &[u8]) -> Result<Script> {
             push_turns(alloc, &mut lines, &done)?;
             turns = None;
         } else if line == "mark" {
-            parts.push(lines.len())?;
+            parts.push(lines)?;
+            lines = Vec::new(alloc);
         } else {
             match &mut turns {
                 Some(turns) => push_plain(&mut turns.lines, line)?,
@@ -77,6 +71,6 @@ pub(crate) fn read_script(alloc: Global, text: &[u8]) -> Result<Script> {
             }
         }
     }
-    parts.push(lines.len())?;
-    Ok(Script { lines, parts })
+    parts.push(lines)?;
+    Ok(parts)
 }

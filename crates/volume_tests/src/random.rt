@@ -1,8 +1,9 @@
 // Commands at random, on a volume and on a plain tree beside it.
 
-use crate::devices::formatted;
+use crate::devices::{format_of, formatted};
 use crate::served::Served;
 use line_shell::write_reply;
+use nand_model::{Geometry, MemNand};
 use plain_tree::PlainTree;
 use posix_calls::{Access, Bytes, Command, Errno, FilePath, OpenFlags, Reply, Stamped, Whence};
 use rand_core::{Rng, SeedableRng};
@@ -178,26 +179,50 @@ fn mount_again(
     Served::after_power_up(alloc, nand, capacity)
 }
 
+/// Does a thousand commands in a volume and in a plain tree. Each fifty of them are followed by an unmount and a mount.
+fn expect_same(
+    rt: &impl Abort,
+    alloc: Global,
+    nand: MemNand,
+    mut tree: PlainTree,
+    capacity: usize,
+) -> Result<(), Fail> {
+    let mut random = Lcg128Xsl64::seed_from_u64(1);
+    let mut served = Served::mount(alloc, nand, capacity)?;
+    let mut done = 0u32;
+    for number in 1..=1000u32 {
+        let stamped = command(alloc, &mut random)?;
+        if do_both(rt, alloc, &mut served, &mut tree, &stamped)? {
+            done = done.saturating_add(1);
+        }
+        if number % 50 == 0 {
+            served = mount_again(rt, alloc, served, capacity)?;
+            tree.settle()?;
+        }
+    }
+    // Enough of them are not refused.
+    assert!(rt; done > 300, "{done}");
+    Ok(())
+}
+
 #[test]
 fn a_volume_replies_as_a_plain_tree(rt: HostRuntime) -> Result<(), Fail> {
     let alloc = rt.alloc();
     for capacity in [1, 16] {
-        let mut random = Lcg128Xsl64::seed_from_u64(1);
-        let mut served = Served::mount(alloc, formatted(alloc, 1)?, capacity)?;
-        let mut tree = PlainTree::new(alloc, VolumeSizes::new(512, 32, 8, 1))?;
-        let mut done = 0u32;
-        for number in 1..=1000u32 {
-            let stamped = command(alloc, &mut random)?;
-            if do_both(&rt, alloc, &mut served, &mut tree, &stamped)? {
-                done = done.saturating_add(1);
-            }
-            if number % 50 == 0 {
-                served = mount_again(&rt, alloc, served, capacity)?;
-                tree.settle()?;
-            }
-        }
-        // Enough of them are not refused.
-        assert!(rt; done > 300, "{done}");
+        let tree = PlainTree::new(alloc, VolumeSizes::new(512, 32, 8, 1))?;
+        expect_same(&rt, alloc, formatted(alloc, 1)?, tree, capacity)?;
     }
     Ok(())
+}
+
+// Here a page of a directory has more than one name.
+#[test]
+fn a_volume_of_larger_pages_replies_as_a_plain_tree(rt: HostRuntime) -> Result<(), Fail> {
+    let alloc = rt.alloc();
+    let nand = MemNand::new(alloc, Geometry::new(2048, 64, 6)?)?;
+    let (mut nand, fault) = format_of(alloc, nand, 2);
+    assert_eq!(rt; fault, None);
+    nand.power_up();
+    let tree = PlainTree::new(alloc, VolumeSizes::new(2048, 64, 6, 2))?;
+    expect_same(&rt, alloc, nand, tree, 2)
 }

@@ -1,0 +1,8 @@
+//! Lives of a volume: sessions in turn on a device in memory, each of which may end at any moment.
+#![tactic(auto)]
+
+mod life;
+mod session;
+
+pub use life::{LiveFault, live};
+pub use session::{Session, SessionEnd};

@@ -2,6 +2,8 @@
 #![tactic(auto)]
 
 mod life;
+mod power;
+mod serving;
 mod session;
 
 pub use life::{LiveFault, live};

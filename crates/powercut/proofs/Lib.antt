@@ -1,0 +1,4 @@
+mod Lasting
+mod Forms
+mod InPower
+mod FailedMount

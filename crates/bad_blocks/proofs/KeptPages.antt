@@ -16,7 +16,7 @@ use Rattle.chunk_index.specs.declared.form.KeptPage.{KeptPage}
 use Rattle.transactions.specs.Copying.{name_at, no_name, page_at, bytes_at, HasCopy}
 use Rattle.transactions.specs.Naming.{IsNamed, NamesOnce}
 use Rattle.transactions.specs.Newest.{spot_at, IsOfCopies, ShowsGroup}
-use Rattle.transactions.specs.Ready.{AreBelow}
+use Rattle.flash_tree.specs.Numbering.{AreBelow}
 use Rattle.transactions.specs.Written.{tag_in}
 use Rattle.transactions.specs.declared.copies.CopyOf.{CopyOf}
 use Rattle.transactions.specs.declared.source.PageName.{PageName}

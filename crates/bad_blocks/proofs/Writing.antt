@@ -12,7 +12,8 @@ use Rattle.transactions.specs.Copying.{name_at, bytes_at}
 use Rattle.transactions.specs.Groups.{GroupsAfter, next_group, closed}
 use Rattle.transactions.specs.Marking.{NotesMark}
 use Rattle.transactions.specs.Newest.{NewestAfter, ShowsGroup}
-use Rattle.transactions.specs.Ready.{AreBelow, IsReady}
+use Rattle.flash_tree.specs.Numbering.{AreBelow}
+use Rattle.transactions.specs.Ready.{IsReady}
 use Rattle.transactions.specs.laws.Newest.{copies_come_last, newest_after}
 use Rattle.transactions.specs.declared.copies.CopyOf.{CopyOf}
 use Rattle.transactions.specs.declared.group.Placed.{Placed}

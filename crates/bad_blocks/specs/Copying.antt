@@ -8,7 +8,8 @@ use Rattle.block_state.specs.Table.{Table}
 use Rattle.chunk_index.specs.declared.form.KeptPage.{KeptPage}
 use Rattle.transactions.specs.Copying.{CanCopy}
 use Rattle.transactions.specs.Handing.{HandsOut}
-use Rattle.transactions.specs.Ready.{AreBelow, IsReady}
+use Rattle.flash_tree.specs.Numbering.{AreBelow}
+use Rattle.transactions.specs.Ready.{IsReady}
 use Rattle.transactions.specs.declared.copies.CopyOf.{CopyOf}
 use Rattle.bad_blocks.specs.Lists.{kept_by}
 use Rattle.bad_blocks.specs.Moving.{WhyNotMoved}

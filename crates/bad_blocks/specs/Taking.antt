@@ -5,7 +5,7 @@ use Rattle.nand_model.specs.Calls.{Device}
 use Rattle.nand_model.specs.declared.nand.Gone.{Gone}
 use Rattle.block_state.specs.Kept.{bad_count, unkept_count}
 use Rattle.block_state.specs.Table.{Table}
-use Rattle.transactions.specs.Ready.{AreBelow}
+use Rattle.flash_tree.specs.Numbering.{AreBelow}
 use Rattle.bad_blocks.specs.declared.take.TakeFault.{TakeFault}
 use Rattle.bad_blocks.specs.declared.take.TakeFault.TheVariants as faults
 use Rattle.bad_blocks.specs.declared.take.Tried.{Tried}

@@ -30,6 +30,13 @@ class_of (commands.Rename old new) = Changing
 class_of (commands.List path) = Telling
 class_of commands.Space = Telling
 
+-- whether a command leaves the device as it is: what it asks for is told without it
+abbrev pub makes_no_call : Command → Bool
+makes_no_call (commands.Close fd) = true
+makes_no_call (commands.Seek fd offset whence) = true
+makes_no_call commands.Space = true
+makes_no_call command = false
+
 -- whether the reply is an error
 abbrev pub is_error : Reply → Bool
 is_error (replies.Error error) = true

@@ -1,5 +1,6 @@
 pub mod Groups
 pub mod Newest
+pub mod Numbering
 pub mod Keeping
 pub mod Places
 pub mod Tree

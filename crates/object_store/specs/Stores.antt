@@ -17,13 +17,14 @@ abbrev pub settled : Objects → Objects
 settled objects = (settle (record { objects = objects; handles = map.empty })).objects
 
 -- What a store stands for: the numbers of its volume, its objects, and the tree that a mount would show. And what is left by
--- every call, by calls that only read, by a done change from these objects to those, by a call that the device ended, which
--- was to make those of these, and by a done commit of these objects.
+-- every call, by a call that leaves the device as it is, by calls that only read, by a done change from these objects to those,
+-- by a call that the device ended, which was to make those of these, and by a done commit of these objects.
 pub record Meaning (S : Type 0) : Type 1 where
   pub sizes : S → Sizes
   pub stands : S → Objects → Type 0
   pub shows : S → Objects → Type 0
   pub lasts : S → S → Type 0
+  pub leaves : S → S → Type 0
   pub reads : S → S → Type 0
   pub changes : Objects → Objects → S → S → Type 0
   pub fails : Objects → Objects → S → S → Type 0
@@ -33,9 +34,10 @@ pub record Meaning (S : Type 0) : Type 1 where
 abbrev pub KeepsOrSettles : {S : Type 0} (m : Meaning S) → Objects → S → S → Type 0
 KeepsOrSettles m objects a b = (tree : Objects) → m.shows a tree → m.shows b tree ⊎ m.shows b (settled objects)
 
--- Reads leave what was, and reads before a call do not matter. A change, and a call that fails, leave the tree that a mount
--- shows or settle the objects that were; a done commit settles them.
+-- Without a call the device is left. Reads leave what was, and reads before a call do not matter. A change, and a call that
+-- fails, leave the tree that a mount shows or settle the objects that were; a done commit settles them.
 pub record IsLawful {S : Type 0} (m : Meaning S) : Type 0 where
+  pub leaves_nothing : (a : S) → m.leaves a a
   pub reads_nothing : (a : S) → m.reads a a
   pub reads_on : (a b c : S) → m.reads a b → m.reads b c → m.reads a c
   pub reads_lasts : (a b : S) → m.reads a b → m.lasts a b

@@ -72,9 +72,10 @@ pub trait ObjectStore {
         ensures finds { (z : Sizes) (objects : Objects) → Has meaning z objects self.old → IsFile objects file
             → Finds meaning objects (take count (drop offset (bytes_of (map.get objects file)))) self.old self.new result };
 
-    /// Makes a change. One that only forgets an object takes no memory.
+    /// Makes a change. One that only forgets an object takes no memory and leaves the device as it is.
     fn apply(&mut self, change: &ObjectChange<'_>) -> Result<(), StoreFault>
         ensures lasts { meaning.lasts self.old self.new }
+        ensures leaves { takes_none change.now ≡ true → meaning.leaves self.old self.new }
         ensures applies { (z : Sizes) (objects : Objects) → Has meaning z objects self.old → CanMake z objects change.now
             → Applies meaning objects (made objects change.now) self.old self.new result }
         ensures memory { takes_none change.now ≡ true → result ≡ Err faults.NoMemory → ⊥ };

@@ -9,7 +9,6 @@ use Rattle.posix_profile.specs.declared.command.Stamped.{Stamped}
 use Rattle.posix_profile.specs.declared.reply.Reply.{Reply}
 use Rattle.command_plans.specs.Classes.{Telling, class_of, is_error}
 use Rattle.pages.specs.State.{PagesState}
-use Rattle.pages.specs.Stores.{GoesOn}
 use Rattle.paged_objects.specs.Ending.{HasEnded}
 use Rattle.paged_objects.specs.Standing.{Shown}
 use Rattle.page_volume.specs.Volumes.{pages_of, is_read_only, is_stopped, IsVolumeOf}
@@ -19,13 +18,6 @@ use Rattle.page_volume.specs.declared.volume.PageVolume.{PageVolume}
 abbrev pub OnlyTells : Stamped → Reply → Type 0
 OnlyTells stamped reply = (is_stop reply ≡ false) × ((class_of stamped.command ≡ Telling) ⊎ (is_error reply ≡ true))
 
--- What ended the use of the pages: from where earlier commands had left them, the device failed, or nothing was left to
--- write with.
-pub record WasEnded (p q : PagesState) : Type 0 where
-  pub from : PagesState
-  pub goes_on : GoesOn p from
-  pub ended : HasEnded from q
-
 -- From a state: the replies are right, a mount shows the tree after some of the commands, at least those that a sync covers,
 -- the volume is stopped exactly where a reply is EIO, and then for its reason, and else it stands for the state after the
 -- commands that were answered.
@@ -33,7 +25,7 @@ pub record RanPages {P : Type 0} (state : P → PagesState) (z : Sizes) (s : Sta
   pub holds : RunHolds z (is_read_only a) s commands answered
   pub losses : (tree : Objects) → Shown z (state (pages_of a)) tree → LossLeaves (Shown z (state (pages_of b))) tree z (is_read_only a) s commands answered
   pub stops : is_stopped b ≡ list_any is_stop answered
-  pub cause : is_stopped b ≡ true → WasEnded (state (pages_of a)) (state (pages_of b))
+  pub cause : is_stopped b ≡ true → HasEnded (state (pages_of b))
   pub state_is : is_stopped b ≡ false → IsVolumeOf state z (after z (is_read_only a) s commands answered) b
 
 -- So many of the commands are answered, behind the old replies: on a stopped volume by EIO, and it stays as it was.

@@ -10,6 +10,7 @@ ghost use Rattle.posix_profile.specs.declared.reply.Errno.TheVariants as errors;
 ghost use Rattle.posix_profile.specs.declared.reply.Reply.TheVariants as replies;
 ghost use Rattle.object_store.specs.Stores.{settled};
 ghost use Rattle.object_table.specs.Told.{sizes_of, Tells};
+ghost use Rattle.command_plans.specs.Classes.{makes_no_call};
 ghost use Rattle.pages.specs.Stores.{GoesOn};
 ghost use Rattle.paged_objects.specs.Ending.{StaysAs, HasEnded};
 ghost use Rattle.paged_objects.specs.Standing.{Stands, Shown};
@@ -57,6 +58,7 @@ impl<P: PageStore> PageVolume<P> {
     pub fn call(&mut self, stamped: &Stamped) -> Reply
         ensures goes_on { GoesOn (P.state (pages_of self.old)) (P.state (pages_of self.new)) }
         ensures keeps { (is_read_only self.new ≡ is_read_only self.old) × (sizes_of (table_of self.new) ≡ sizes_of (table_of self.old)) }
+        ensures leaves { makes_no_call stamped.now.command ≡ true → (P.state (pages_of self.new)).device ≡ (P.state (pages_of self.old)).device }
         ensures stopped { is_stopped self.old ≡ true → (result ≡ replies.Error errors.EIO) × (self.new ≡ self.old) }
         ensures stops { is_stopped self.old ≡ false → (z : Sizes) (s : State) → IsVolumeOf P.state z s self.old → is_stopped self.new ≡ is_stop result }
         // The reply is the step's; or want of memory, of a command that takes some; or the stop.
@@ -70,7 +72,7 @@ impl<P: PageStore> PageVolume<P> {
         ensures synced { is_stopped self.old ≡ false → (z : Sizes) (s : State) → IsVolumeOf P.state z s self.old → is_synced stamped.now.command result ≡ true
             → Shown z (P.state (pages_of self.new)) (settled s.objects) }
         ensures cause { is_stopped self.old ≡ false → (z : Sizes) (s : State) → IsVolumeOf P.state z s self.old → is_stop result ≡ true
-            → HasEnded (P.state (pages_of self.old)) (P.state (pages_of self.new)) }
+            → HasEnded (P.state (pages_of self.new)) }
         // What only tells, and what is answered by another error, leaves the pages.
         ensures reads { is_stopped self.old ≡ false → (z : Sizes) (s : State) → IsVolumeOf P.state z s self.old → OnlyTells stamped.now result
             → StaysAs (P.state (pages_of self.old)) (P.state (pages_of self.new)) }
@@ -99,7 +101,7 @@ impl<P: PageStore> PageVolume<P> {
         ensures tree { is_stopped self ≡ false → (z : Sizes) (s : State) → IsVolumeOf P.state z s self → (tree : Objects) → Shown z (P.state (pages_of self)) tree
             → Shown z (P.state result.0) tree ⊎ Shown z (P.state result.0) (settled s.objects) }
         ensures cause { is_stopped self ≡ false → (z : Sizes) (s : State) → IsVolumeOf P.state z s self → result.1 ≡ replies.Error errors.EIO
-            → HasEnded (P.state (pages_of self)) (P.state result.0) }
+            → HasEnded (P.state result.0) }
     {
         let stopped = self.volume.stopped();
         let mut objects = self.volume.into_store();

@@ -1,5 +1,5 @@
 -- What calls of a store of objects leave of its pages and of its table.
-use Rattle.std.specs.Prelude.{◌≡◌, ◌⊎◌, true, Result, Ok, Err}
+use Rattle.std.specs.Prelude.{◌≡◌, ◌⊎◌, ◌<◌, ◌≤◌, ◌^◌, true, Result, Ok, Err}
 use Rattle.nand_model.specs.Changes.{OnlyReads}
 use Rattle.volume_terms.specs.Sizes.{Sizes}
 use Rattle.volume_terms.specs.declared.fault.StoreFault.{StoreFault}
@@ -9,7 +9,7 @@ use Rattle.object_store.specs.Stores.{settled}
 use Rattle.object_table.specs.Told.{sizes_of, Tells, TellsTheSame}
 use Rattle.object_table.specs.declared.table.ObjectTable.{ObjectTable}
 use Rattle.pages.specs.State.{PagesState}
-use Rattle.pages.specs.Stores.{SamePages, GoesOn, IsWornOut}
+use Rattle.pages.specs.Stores.{SamePages, GoesOn, HasFailed, bad_on}
 use Rattle.object_pages.specs.Holding.{CanHave}
 use Rattle.paged_objects.specs.Standing.{Stands, Shown}
 
@@ -30,9 +30,13 @@ pub record StaysAs (old new : PagesState) : Type 0 where
 abbrev pub Turns : Sizes → Objects → PagesState → PagesState → Type 0
 Turns z objects p q = (tree : Objects) → Shown z p tree → Shown z q tree ⊎ Shown z q (settled objects)
 
--- what ended the use of a store: its device has failed, or there is nothing left to write with
-abbrev pub HasEnded : PagesState → PagesState → Type 0
-HasEnded p q = (q.failed ≡ true) ⊎ IsWornOut p q
+-- nothing is left to write with: a number of 2^62 would be needed, or more blocks are bad than there are to spare
+abbrev pub IsUsedUp : PagesState → Type 0
+IsUsedUp p = (2 ^ 62 ≤ p.next.group) ⊎ (2 ^ 62 ≤ p.next.seq) ⊎ (p.spare < bad_on p.device)
+
+-- what ended the use of a store: its device is gone or not honest, or nothing is left to write with
+abbrev pub HasEnded : PagesState → Type 0
+HasEnded p = HasFailed p.device ⊎ IsUsedUp p
 
 -- a change of the objects was made
 pub record Changes (z : Sizes) (objects : Objects) (p q : PagesState) : Type 0 where
@@ -43,7 +47,7 @@ pub record Changes (z : Sizes) (objects : Objects) (p q : PagesState) : Type 0 w
 pub record Fails (z : Sizes) (objects : Objects) (p q : PagesState) : Type 0 where
   pub goes_on : GoesOn p q
   pub turns : Turns z objects p q
-  pub cause : HasEnded p q
+  pub cause : HasEnded q
 
 -- the objects were committed: a mount shows them settled
 pub record Commits (z : Sizes) (objects : Objects) (p q : PagesState) : Type 0 where

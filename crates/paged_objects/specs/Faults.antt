@@ -1,6 +1,6 @@
 -- Why objects were not read or changed.
-use Rattle.std.specs.Prelude.{◌≡◌, true}
 use Rattle.pages.specs.State.{PagesState}
+use Rattle.pages.specs.Stores.{HasFailed}
 use Rattle.pages.specs.declared.fault.PageFault.{PageFault}
 use Rattle.pages.specs.declared.fault.PageFault.TheVariants as page_faults
 use Rattle.volume_terms.specs.declared.fault.StoreFault.{StoreFault}
@@ -14,14 +14,8 @@ fault_of page_faults.Worn = faults.Worn
 fault_of page_faults.Damaged = faults.Device
 fault_of page_faults.Full = faults.Device
 
--- a fault of a call that takes no memory
-abbrev pub ending_fault : StoreFault → StoreFault
-ending_fault faults.NoMemory = faults.Device
-ending_fault faults.Device = faults.Device
-ending_fault faults.Worn = faults.Worn
-
--- what is read was refused memory, or the device has failed
+-- what is read was refused memory, or the device is gone or not honest
 abbrev pub ReadFailsBy : PagesState → StoreFault → Type 0
 ReadFailsBy new faults.NoMemory = Unit {0}
-ReadFailsBy new faults.Device = new.failed ≡ true
+ReadFailsBy new faults.Device = HasFailed new.device
 ReadFailsBy new faults.Worn = ⊥

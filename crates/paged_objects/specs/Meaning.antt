@@ -9,13 +9,15 @@ use Rattle.paged_objects.specs.Standing.{Stands, Shown}
 use Rattle.paged_objects.specs.Ending.{StaysAs, Changes, Fails, Commits}
 
 -- The objects that the pages hold and the table tells. A mount shows those that names keep of what the device kept last.
--- Each call goes on with the same volume; one that only reads leaves pages and table as they were.
+-- Each call goes on with the same volume; one that only reads leaves pages and table as they were. The device is left where it
+-- is not called.
 abbrev pub paged_meaning : {S P : Type 0} (state : P → PagesState) (pages : S → P) (table : S → ObjectTable) → Meaning S
 paged_meaning state pages table = record {
   sizes = λ s. sizes_of (table s);
   stands = λ s objects. Stands (sizes_of (table s)) (state (pages s)) objects × Tells (table s) objects;
   shows = λ s tree. Shown (sizes_of (table s)) (state (pages s)) tree;
   lasts = λ a b. GoesOn (state (pages a)) (state (pages b)) × (sizes_of (table b) ≡ sizes_of (table a));
+  leaves = λ a b. (state (pages b)).device ≡ (state (pages a)).device;
   reads = λ a b. StaysAs (state (pages a)) (state (pages b)) × TellsTheSame (table a) (table b);
   changes = λ old new a b. Changes (sizes_of (table a)) old (state (pages a)) (state (pages b)) × (sizes_of (table b) ≡ sizes_of (table a));
   fails = λ old new a b. Fails (sizes_of (table a)) old (state (pages a)) (state (pages b)) × (sizes_of (table b) ≡ sizes_of (table a));

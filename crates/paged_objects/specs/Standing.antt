@@ -13,14 +13,6 @@ use Rattle.object_pages.specs.Holding.{HoldsObjects, CanHave}
 abbrev pub volume_of : PagesState → Sizes
 volume_of p = sizes_of p.device.geometry p.spare
 
--- A sound store holds these objects. It has the sizes of the volume, and takes as many pages at once as its buffer has.
-pub record Stands (z : Sizes) (p : PagesState) (objects : Objects) : Type 0 where
-  pub sound : p.sound ≡ true
-  pub sizes : volume_of p ≡ z
-  pub page_bytes : p.page_bytes ≡ z.page_bytes
-  pub most : p.most ≡ buffer_pages z
-  pub holds : HoldsObjects z p.present objects
-
 -- The tree is that of some pages which hold objects of a volume: those of them that names keep. An honest device has these
 -- pages, and where the store is sound they are the ones that it kept last.
 pub record Shown (z : Sizes) (p : PagesState) (tree : Objects) : Type 0 where
@@ -32,3 +24,13 @@ pub record Shown (z : Sizes) (p : PagesState) (tree : Objects) : Type 0 where
   pub holds : HoldsObjects z pages objects
   pub can : CanHave z objects
   pub settles : tree ≡ settled objects
+
+-- A sound store holds these objects. It has the sizes of the volume, and takes as many pages at once as its buffer has. A mount
+-- would show some tree of it.
+pub record Stands (z : Sizes) (p : PagesState) (objects : Objects) : Type 0 where
+  pub sound : p.sound ≡ true
+  pub sizes : volume_of p ≡ z
+  pub page_bytes : p.page_bytes ≡ z.page_bytes
+  pub most : p.most ≡ buffer_pages z
+  pub holds : HoldsObjects z p.present objects
+  pub shown : (tree : Objects) × Shown z p tree

@@ -3,6 +3,7 @@ use Rattle.std.specs.Prelude.{◌≡◌, ◌≢◌, ◌⊎◌, ◌<◌, ◌≤�
 use Rattle.nand_model.specs.Flash.{Flash}
 use Rattle.nand_model.specs.Calls.{Device, Lasts}
 use Rattle.flash_tree.specs.Newest.{HasNewest, AreAbove}
+use Rattle.flash_tree.specs.Numbering.{AreBelow}
 use Rattle.flash_tree.specs.Mount.{bad_blocks}
 use Rattle.flash_tree.specs.FreeBlocks.{LeavesFree}
 use Rattle.flash_tree.specs.declared.place.Key.{Key}
@@ -34,12 +35,16 @@ pub record IsCarried (device : Device) (spare : ℕ) (m : PageMap) : Type 0 wher
   pub free : HasNumbersLeft device.flash → LeavesFree device.geometry device.flash spare (HasPage m)
 
 -- No number is taken back, and no more are handed out than the device counted changes: block numbers on every path, and
--- group numbers where an honest device still has power.
+-- group numbers where an honest device still has power. Where the next numbers were above all that stood on an honest device
+-- they are so still; and what stands there now is below the first ones and one more for each change, also where power went.
 pub record HandsOutNumbers (old new : Device) (n n' : NextNumbers) : Type 0 where
   pub groups_rise : n.group ≤ n'.group
   pub seqs_rise : n.seq ≤ n'.seq
   pub seqs : n'.seq + old.changes ≤ n.seq + new.changes
   pub groups : old.honest ≡ true → new.gone ≡ false → n'.group + old.changes ≤ n.group + new.changes
+  pub below : old.honest ≡ true → AreBelow old.flash n.group n.seq → AreBelow new.flash n'.group n'.seq
+  pub written : old.honest ≡ true → AreBelow old.flash n.group n.seq
+      → (more : ℕ) → new.changes ≡ old.changes + more → AreBelow new.flash (n.group + more) (n.seq + more)
 
 -- how many blocks of a device are bad
 abbrev pub bad_on : Device → ℕ
@@ -89,14 +94,18 @@ abbrev pub IsWornOut : PagesState → PagesState → Type 0
 IsWornOut old new = (2 ^ 62 ≤ new.next.group) ⊎ (2 ^ 62 ≤ new.next.seq) ⊎ (new.spare < bad_on new.device)
     ⊎ (new.device.geometry.blocks < new.spare + 2) ⊎ IsCrowded old
 
+-- the device is gone, or it is not honest
+abbrev pub HasFailed : Device → Type 0
+HasFailed device = (device.gone ≡ true) ⊎ (device.honest ≡ false)
+
 -- each fault of a change has its cause
 abbrev pub ChangeFailsBy : PagesState → PagesState → StoreFault → Type 0
 ChangeFailsBy old new faults.NoMemory = new.refused ≡ true
-ChangeFailsBy old new faults.Device = new.failed ≡ true
+ChangeFailsBy old new faults.Device = HasFailed new.device
 ChangeFailsBy old new faults.Worn = IsWornOut old new
 
 -- each fault of a commit, and of a cut, which take no memory
 abbrev pub CommitFailsBy : PagesState → PagesState → StoreFault → Type 0
 CommitFailsBy old new faults.NoMemory = ⊥
-CommitFailsBy old new faults.Device = new.failed ≡ true
+CommitFailsBy old new faults.Device = HasFailed new.device
 CommitFailsBy old new faults.Worn = IsWornOut old new

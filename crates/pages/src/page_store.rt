@@ -38,6 +38,9 @@ pub trait PageStore: Pages {
         ensures sound { OnOk result ((Self.state self.old).sound ≡ true → (Self.state self.new).sound ≡ true) }
         ensures present { (Self.state self.old).sound ≡ true → OnOk result (SamePages (Self.state self.new).present (without_cuts (cut ∷ []) (Self.state self.old).present)) }
         ensures kept { (Self.state self.old).sound ≡ true → KeptAs (Self.state self.new) (Self.state self.old).kept }
+        ensures device { (Self.state self.new).device ≡ (Self.state self.old).device }
+        ensures next { (Self.state self.new).next ≡ (Self.state self.old).next }
+        ensures memory { IsErrOf result faults.NoMemory → ⊥ }
         ensures stops { IfErr result (λ fault. (Self.state self.new).sound ≡ false) }
         ensures fault { (Self.state self.old).sound ≡ true → IfErr result (CommitFailsBy (Self.state self.old) (Self.state self.new)) };
 
@@ -48,6 +51,10 @@ pub trait PageStore: Pages {
         ensures present { (Self.state self.old).sound ≡ true → OnOk result (SamePages (Self.state self.new).present (Self.state self.old).present) }
         ensures kept { (Self.state self.old).sound ≡ true → KeepsEither (Self.state self.old) (Self.state self.new) }
         ensures committed { (Self.state self.old).sound ≡ true → OnOk result (KeptAs (Self.state self.new) (Self.state self.old).present) }
+        ensures memory { IsErrOf result faults.NoMemory → ⊥ }
         ensures stops { IfErr result (λ fault. (Self.state self.new).sound ≡ false) }
         ensures fault { (Self.state self.old).sound ≡ true → IfErr result (CommitFailsBy (Self.state self.old) (Self.state self.new)) };
+
+    /// A sound store has failed only where its device is gone.
+    ghost lost: { (pages : Self) → (Self.state pages).sound ≡ true → (Self.state pages).failed ≡ true → (Self.state pages).device.gone ≡ true };
 }

@@ -1,6 +1,7 @@
 // A volume on a device.
 ghost use Rattle.std.specs.Prelude.{◌≡◌, ◌⊎◌, ◌≤◌, ℕ, true, false, length, OnOk};
 ghost use Rattle.volume_terms.specs.Sizes.{Sizes};
+ghost use Rattle.command_plans.specs.Classes.{makes_no_call};
 ghost use Rattle.object_store.specs.Stores.{settled};
 ghost use Rattle.paged_objects.specs.Ending.{HasEnded, StaysAs};
 ghost use Rattle.paged_objects.specs.Standing.{Shown};
@@ -36,6 +37,8 @@ impl<N: Nand> Volume<N> {
     pub fn call(&mut self, stamped: &Stamped) -> Reply
         ensures goes_on { GoesOn (⟦<FlashPages<N> as Pages>⟧.state (pages_of self.old.volume)) (⟦<FlashPages<N> as Pages>⟧.state (pages_of self.new.volume)) }
         ensures read_only { is_read_only self.new.volume ≡ is_read_only self.old.volume }
+        ensures leaves { makes_no_call stamped.now.command ≡ true
+            → (⟦<FlashPages<N> as Pages>⟧.state (pages_of self.new.volume)).device ≡ (⟦<FlashPages<N> as Pages>⟧.state (pages_of self.old.volume)).device }
         ensures stopped { is_stopped self.old.volume ≡ true → (result ≡ replies.Error errors.EIO) × (self.new ≡ self.old) }
         ensures stops { is_stopped self.old.volume ≡ false → (z : Sizes) (s : State) → IsVolumeOf ⟦<FlashPages<N> as Pages>⟧.state z s self.old.volume
             → is_stopped self.new.volume ≡ is_stop result }
@@ -51,7 +54,7 @@ impl<N: Nand> Volume<N> {
         ensures synced { is_stopped self.old.volume ≡ false → (z : Sizes) (s : State) → IsVolumeOf ⟦<FlashPages<N> as Pages>⟧.state z s self.old.volume → is_synced stamped.now.command result ≡ true
             → Shown z (⟦<FlashPages<N> as Pages>⟧.state (pages_of self.new.volume)) (settled s.objects) }
         ensures cause { is_stopped self.old.volume ≡ false → (z : Sizes) (s : State) → IsVolumeOf ⟦<FlashPages<N> as Pages>⟧.state z s self.old.volume → is_stop result ≡ true
-            → HasEnded (⟦<FlashPages<N> as Pages>⟧.state (pages_of self.old.volume)) (⟦<FlashPages<N> as Pages>⟧.state (pages_of self.new.volume)) }
+            → HasEnded (⟦<FlashPages<N> as Pages>⟧.state (pages_of self.new.volume)) }
         // What only tells, and what is answered by another error, only reads.
         ensures reads { is_stopped self.old.volume ≡ false → (z : Sizes) (s : State) → IsVolumeOf ⟦<FlashPages<N> as Pages>⟧.state z s self.old.volume → OnlyTells stamped.now result
             → StaysAs (⟦<FlashPages<N> as Pages>⟧.state (pages_of self.old.volume)) (⟦<FlashPages<N> as Pages>⟧.state (pages_of self.new.volume)) }

@@ -18,7 +18,8 @@ use Rattle.chunk_index.specs.declared.index.Index.{Index}
 use Rattle.chunk_index.specs.Counts.{Recounts}
 use Rattle.chunk_index.specs.Maps.{kept_pages, CountsAgree}
 use Rattle.chunk_index.specs.Newest.{IsOf, Indexes, page_of}
-use Rattle.transactions.specs.Ready.{AreBelow, IsOpenOn, IsReady}
+use Rattle.flash_tree.specs.Numbering.{AreBelow}
+use Rattle.transactions.specs.Ready.{IsOpenOn, IsReady}
 use Rattle.mount_scan.specs.Scanned.{TellsNewest, ArePlaced, AreNewest}
 use Rattle.mount_scan.specs.laws.Scan.{found_of, listed_spot}
 use Rattle.bad_blocks.specs.Standing.{IsKeptAt, MayLie, IsWithinLimits, Stands}

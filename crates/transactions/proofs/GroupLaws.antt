@@ -7,7 +7,7 @@ use Rattle.page_tags.specs.Tags.{tag_bytes, IsTag}
 use Rattle.page_tags.specs.laws.Tag.{same_tag}
 use Rattle.nand_model.specs.Changes.{Grows}
 use Rattle.flash_tree.specs.Groups.{HasTag, Group, IsPart, IsGroup, SameGroups, AddsGroup}
-use Rattle.transactions.specs.Ready.{AreBelow}
+use Rattle.flash_tree.specs.Numbering.{AreBelow}
 use Rattle.transactions.specs.Written.{Wrote, tag_in, page_in}
 use Rattle.transactions.specs.declared.source.PageName.{PageName}
 

@@ -1,12 +1,18 @@
 -- The numbers that are handed out.
-use Rattle.std.specs.Prelude.{◌≡◌, ◌≤◌, ◌+◌, true, false}
+use Rattle.std.specs.Prelude.{◌≡◌, ◌≤◌, ℕ, ◌+◌, true, false}
 use Rattle.nand_model.specs.Calls.{Device}
+use Rattle.flash_tree.specs.Numbering.{AreBelow}
 use Rattle.block_state.specs.Table.{Table}
 
 -- No number is taken back, and no more are handed out than the device counted changes: block numbers on every path, and
 -- group numbers where an honest device still has power. (A group of which nothing was programmed has used its number.)
+-- Where the next numbers were above all that stood on an honest device they are so still; and what stands there now is below
+-- the first ones and one more for each change, also where power went.
 pub record HandsOut (old new : Device) (t t' : Table) : Type 0 where
   pub groups_rise : t.next_group ≤ t'.next_group
   pub seqs_rise : t.next_seq ≤ t'.next_seq
   pub seqs : t'.next_seq + old.changes ≤ t.next_seq + new.changes
   pub groups : old.honest ≡ true → new.gone ≡ false → t'.next_group + old.changes ≤ t.next_group + new.changes
+  pub below : old.honest ≡ true → AreBelow old.flash t.next_group t.next_seq → AreBelow new.flash t'.next_group t'.next_seq
+  pub written : old.honest ≡ true → AreBelow old.flash t.next_group t.next_seq
+      → (more : ℕ) → new.changes ≡ old.changes + more → AreBelow new.flash (t.next_group + more) (t.next_seq + more)

@@ -9,7 +9,7 @@ use Rattle.transactions.specs.declared.group.Placed.{Placed}
 use Rattle.transactions.specs.declared.group.GroupFault.{GroupFault}
 use Rattle.transactions.specs.declared.group.GroupFault.TheVariants as faults
 use Rattle.transactions.specs.Naming.{IsNamed, NamesOnce}
-use Rattle.transactions.specs.Ready.{AreBelow}
+use Rattle.flash_tree.specs.Numbering.{AreBelow}
 use Rattle.transactions.specs.Written.{tag_in}
 
 -- the place of page i of a group whose pages have these names

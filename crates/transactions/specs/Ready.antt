@@ -1,9 +1,7 @@
 -- What holds of a device and its table while groups are written.
 use Rattle.std.specs.Prelude.{◌≡◌, ◌<◌, ◌≤◌, ℕ, ◌+◌, true, false, Some}
-use Rattle.nand_model.specs.Flash.{Flash}
 use Rattle.nand_model.specs.Calls.{Device}
-use Rattle.page_tags.specs.declared.tag.Tag.{Tag}
-use Rattle.flash_tree.specs.Groups.{HasTag}
+use Rattle.flash_tree.specs.Numbering.{AreBelow}
 use Rattle.block_state.specs.Table.{Table}
 use Rattle.transactions.specs.declared.place.GroupPlace.{GroupPlace}
 
@@ -15,10 +13,6 @@ pub record IsOpenOn (device : Device) (t : Table) (o : ℕ) : Type 0 where
   pub next : device.flash.next o ≡ Some (t.entry o).next
   pub pages : (t.entry o).next ≤ device.geometry.pages
   pub seq : (1 ≤ (t.entry o).seq) × ((t.entry o).seq < t.next_seq)
-
--- the versions, groups and seqs of all valid tags of good blocks, counted or not, are below the next numbers
-abbrev pub AreBelow : Flash → (group seq : ℕ) → Type 0
-AreBelow flash group seq = (b p : ℕ) (t : Tag) → flash.bad b ≡ false → HasTag flash b p t → (t.version < group) × (t.group < group) × (t.seq < seq)
 
 -- What every group needs, and keeps: the table is of the device, its marks are the device's, the open block can be
 -- written, and the next numbers are above all that stand on an honest device.

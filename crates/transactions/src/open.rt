@@ -5,7 +5,8 @@ ghost use Rattle.flash_tree.specs.Keeping.{KeepsElsewhere};
 ghost use Rattle.block_state.specs.TableOf.{table};
 ghost use Rattle.transactions.specs.Handing.{HandsOut};
 ghost use Rattle.transactions.specs.Opening.{Opens};
-ghost use Rattle.transactions.specs.Ready.{AreBelow, IsReady};
+ghost use Rattle.flash_tree.specs.Numbering.{AreBelow};
+ghost use Rattle.transactions.specs.Ready.{IsReady};
 
 use block_state::Blocks;
 use nand_model::{EraseFault, Nand};

@@ -14,7 +14,7 @@ use Rattle.block_state.specs.laws.Kept.{mark_bad, mark_unkept, same_bad_count, s
 use Rattle.block_state.specs.Table.{Table, Sets}
 use Rattle.transactions.specs.Marking.{NotesMark}
 use Rattle.transactions.specs.Opening.{Opens}
-use Rattle.transactions.specs.Ready.{AreBelow}
+use Rattle.flash_tree.specs.Numbering.{AreBelow}
 use Rattle.bad_blocks.specs.Passing.{KeepsKept, Passes}
 use Rattle.bad_blocks.specs.Taking.{Takes, TakesNone}
 

@@ -11,7 +11,7 @@ use Rattle.transactions.specs.declared.source.PageName.{PageName}
 use Rattle.transactions.specs.declared.group.Placed.{Placed}
 use Rattle.transactions.specs.declared.group.GroupFault.{GroupFault}
 use Rattle.transactions.specs.declared.group.GroupFault.TheVariants as faults
-use Rattle.transactions.specs.Ready.{AreBelow}
+use Rattle.flash_tree.specs.Numbering.{AreBelow}
 use Rattle.transactions.specs.Written.{tag_in}
 use Rattle.transactions.specs.Groups.{AddsPages, GroupsAfter}
 use Rattle.transactions.specs.Newest.{ComesLast, IsCommit, IsOfCopies, ShowsGroup, NewestAfter}

@@ -18,7 +18,8 @@ use Rattle.flash_tree.specs.Mount.{bad_blocks}
 use Rattle.block_state.specs.Counting.{how_many}
 use Rattle.block_state.specs.Kept.{bad_count}
 use Rattle.block_state.specs.Table.{Table, blank, is_bad}
-use Rattle.transactions.specs.Ready.{AreBelow, IsOpenOn, IsReady}
+use Rattle.flash_tree.specs.Numbering.{AreBelow}
+use Rattle.transactions.specs.Ready.{IsOpenOn, IsReady}
 use Rattle.transactions.specs.Opening.{Opens}
 use Rattle.transactions.specs.Marking.{MarksNoted, NotesMark}
 

@@ -19,26 +19,26 @@ use Rattle.posix_profile.specs.declared.reply.Errno.TheVariants as errors
 use Rattle.posix_profile.specs.declared.reply.Reply.{Reply}
 use Rattle.posix_profile.specs.declared.reply.Reply.TheVariants as replies
 use Rattle.flash_tree.specs.Newest.{Numbers, AreGreatest}
+use Rattle.flash_tree.specs.Numbering.{AreBelow}
 use Rattle.flash_tree.specs.Mount.{Answer, Answers, IsTreeOf, sizes_of, bad_blocks}
 use Rattle.flash_tree.specs.Sound.{IsSound}
 use Rattle.lives.specs.Lives.{MountAnswer, Mounted, NoMemory, Gone, SessionRecord, at_mount, IsSessionFrom, IsLife}
 use Rattle.lives.specs.laws.Sessions.{loss_keeps}
-use Rattle.pages.specs.State.{PagesState}
+use Rattle.pages.specs.State.{PagesState, NextNumbers}
 use Rattle.pages.specs.Stores.{GoesOn, HasNumbersLeft, bad_on}
 use Rattle.flash_pages.specs.ReadOnly.{next_after}
 use Rattle.mounting.specs.Made.{CanOnlyBeRead, AreNext}
+use Rattle.paged_objects.specs.Ending.{HasEnded}
 use Rattle.paged_objects.specs.Standing.{volume_of, Shown}
 use Rattle.paged_objects.specs.laws.OnFlash.{shown_sound}
 use Rattle.page_volume.specs.Volumes.{pages_of, is_read_only, is_stopped, IsVolumeOf}
 use Rattle.page_volume.specs.declared.volume.PageVolume.{PageVolume}
 use Rattle.posix_calls.specs.Mounts.{StandsForTree}
-use Rattle.powercut.specs.Causes.{IsEnded}
 use Rattle.powercut.specs.Commands.{LeavesFrom, IsUsed}
 use Rattle.powercut.specs.Limits.{StaysWithin}
 use Rattle.powercut.specs.Living.{HasSame, AreWithin, HasLived}
 use Rattle.powercut.specs.laws.SameFlash.{same_back, within_same, greatest_same, sound_same}
 use Rattle.powercut.specs.laws.Living.{greatest_within}
-use Rattle.powercut.proofs.Forms.{numbers_written}
 
 -- what is recorded of a session whose mount was done
 abbrev pub mounted_record : List Stamped → List Reply → Option Reply → Bool → SessionRecord
@@ -74,7 +74,7 @@ module _ (z : Sizes) (before : Objects) (commands : List Stamped) (told : List R
   ]
 
   -- the session, where what ends the use of a volume is a cut
-  pub session_served : (cut : Bool) → (IsEnded left → cut ≡ true)
+  pub session_served : (cut : Bool) → (HasEnded left → cut ≡ true)
       → (after : Objects) × IsSessionFrom z before (mounted_record commands told unmounted cut) after × Shown z left after
   session_served cut ends =
       let some = keeps_some unmounted refl in (
@@ -96,6 +96,19 @@ module _ (z : Sizes) (before : Objects) (commands : List Stamped) (told : List R
         },
         some.3,
       )
+
+-- what stands on the flash is within the greatest numbers at first and one more for each change
+numbers_written : (p q : PagesState) → GoesOn p q → p.device.honest ≡ true → (n : Numbers) → AreGreatest p.device.flash n → p.next ≡ next_after n
+    → (more : ℕ) → q.device.changes ≡ p.device.changes + more → AreWithin q.device.flash (n.group + more) (n.seq + more)
+numbers_written p q goes honest n greatest next more risen b k t good has =
+    let group : p.next.group ≡ n.group + 1 = ap (λ (x : NextNumbers). x.group) next in
+    let seq : p.next.seq ≡ n.seq + 1 = ap (λ (x : NextNumbers). x.seq) next in
+    let below : AreBelow p.device.flash p.next.group p.next.seq = λ c l u whole there.
+        let at = greatest.above c l u whole there in
+        let valid = there.valid.version.1 in
+        (omega (arith, at.1, valid, group), omega (arith, at.1, group), omega (arith, at.2, seq)) in
+    let all = goes.numbers.written honest below more risen b k t good has in
+    (omega (arith, all.1, group), omega (arith, all.2, seq))
 
 module _ {P : Type 0} (state : P → PagesState) (v : PageVolume P) (d e : Device) (commands : List Stamped) (told : List Reply) (unmounted : Option Reply) (honest : d.honest ≡ true)
     (one : (g : Geometry) (flash : Flash) (a b : Answer) → Answers g flash a → Answers g flash b → a ≡ b)
@@ -124,10 +137,10 @@ module _ {P : Type 0} (state : P → PagesState) (v : PageVolume P) (d e : Devic
   lasts = lasts_on d p.device q.device reads.lasts used.goes_on.device
 
   next_group : p.next.group ≡ n.group + 1
-  next_group = ap (λ (x : _). x.group) next.2
+  next_group = ap (λ (x : NextNumbers). x.group) next.2
 
   next_seq : p.next.seq ≡ n.seq + 1
-  next_seq = ap (λ (x : _). x.seq) next.2
+  next_seq = ap (λ (x : NextNumbers). x.seq) next.2
 
   numbers : (group seq more : ℕ) → AreWithin d.flash group seq → q.device.changes ≡ d.changes + more → AreWithin q.device.flash (group + more) (seq + more)
   numbers group seq more within risen k t tag good has =
@@ -177,7 +190,7 @@ module _ {P : Type 0} (state : P → PagesState) (v : PageVolume P) (d e : Devic
         omega (arith, rose, first, changes, lt)
 
     -- nothing but a cut ends the use
-    ends_by_cut : IsEnded q → q.device.gone ≡ true
+    ends_by_cut : HasEnded q → q.device.gone ≡ true
     ends_by_cut (inl (inl gone)) = gone
     ends_by_cut (inl (inr dishonest)) = absurd (true≢false (sym (lasts.honest ∙ honest) ∙ dishonest))
     ends_by_cut (inr (inl group)) = elim (cases_Bool q.device.gone) [

@@ -1,4 +1,4 @@
 mod Lasting
-mod Forms
 mod InPower
 mod FailedMount
+mod Doing

@@ -14,10 +14,10 @@ use Rattle.posix_profile.specs.declared.reply.Reply.TheVariants as replies
 use Rattle.lives.specs.Lives.{EndsStopped}
 use Rattle.pages.specs.State.{PagesState}
 use Rattle.pages.specs.Stores.{GoesOn}
+use Rattle.paged_objects.specs.Ending.{HasEnded}
 use Rattle.paged_objects.specs.Standing.{Shown}
 use Rattle.page_volume.specs.Volumes.{pages_of, is_read_only, is_stopped, IsVolumeOf}
 use Rattle.page_volume.specs.declared.volume.PageVolume.{PageVolume}
-use Rattle.powercut.specs.Causes.{IsEnded}
 
 -- From a state: the replies are right, and all commands are answered unless the last reply is EIO; a mount shows the tree after
 -- some of the commands, at least those that a sync covers; the volume is stopped exactly where a reply is EIO, and then for its
@@ -27,7 +27,7 @@ pub record DoesCommands {P : Type 0} (state : P → PagesState) (z : Sizes) (s :
   pub begun : (length answered ≡ length commands) ⊎ EndsStopped answered
   pub losses : (tree : Objects) → Shown z (state (pages_of a)) tree → LossLeaves (Shown z (state (pages_of b))) tree z false s commands answered
   pub stops : is_stopped b ≡ list_any is_stop answered
-  pub cause : is_stopped b ≡ true → IsEnded (state (pages_of b))
+  pub cause : is_stopped b ≡ true → HasEnded (state (pages_of b))
   pub state_is : is_stopped b ≡ false → IsVolumeOf state z (after z false s commands answered) b
 
 -- the same of a volume that goes on and is not read-only
@@ -42,7 +42,7 @@ pub record LeavesFrom (z : Sizes) (s : State) (tree : Objects) (commands : List 
   pub holds : RunHolds z false s commands answered
   pub begun : (length answered ≡ length commands) ⊎ EndsStopped answered
   pub unmounts : (reply : Reply) → unmounted ≡ Some reply → (reply ≡ replies.Done) ⊎ (reply ≡ replies.Error errors.EIO)
-  pub cause : (list_any is_stop answered ≡ true) ⊎ (unmounted ≡ Some (replies.Error errors.EIO)) → IsEnded left
+  pub cause : (list_any is_stop answered ≡ true) ⊎ (unmounted ≡ Some (replies.Error errors.EIO)) → HasEnded left
   pub losses : LossLeaves (Shown z left) tree z false s commands answered
   pub done : unmounted ≡ Some replies.Done → Shown z left (settled_after z false s commands answered (length answered))
 

@@ -1,7 +1,6 @@
 pub mod Sessions
 pub mod Limits
 pub mod Living
-pub mod Causes
 pub mod Commands
 pub mod Starting
 pub mod Serving

@@ -24,10 +24,7 @@ use Rattle.pages.specs.Stores.{GoesOn}
 use Rattle.paged_objects.specs.Ending.{HasEnded}
 use Rattle.paged_objects.specs.Standing.{Shown}
 use Rattle.paged_objects.specs.laws.Going.{stays_here, stays_goes, goes_on}
-use Rattle.page_volume.specs.Volumes.{pages_of, is_read_only, is_stopped, IsVolumeOf}
-use Rattle.page_volume.specs.declared.volume.PageVolume.{PageVolume}
-use Rattle.posix_calls.specs.Endings.{IsUnmounted}
-use Rattle.powercut.specs.Commands.{DoesCommands, Does, LeavesFrom, IsUsed}
+use Rattle.powercut.specs.Commands.{Meaning, DoesOne, DoesCommands, Does, LeavesFrom, IsUsed}
 
 -- only one reply is the stop
 stop_is : (r : Reply) → is_stop r ≡ true → r ≡ replies.Error errors.EIO
@@ -50,21 +47,21 @@ pub goes_here : (p : PagesState) → GoesOn p p
 goes_here p = stays_goes p p (stays_here p)
 
 -- So many commands are done, from a state, and the volume is not stopped.
-pub record GoesWell {P : Type 0} (state : P → PagesState) (z : Sizes) (s : State) (commands : List Stamped) (told : List Reply) (a b : PageVolume P) : Type 0 where
+pub record GoesWell {V : Type 0} (m : Meaning V) (z : Sizes) (s : State) (commands : List Stamped) (told : List Reply) (a b : V) : Type 0 where
   pub holds : RunHolds z false s commands told
   pub none : list_any is_stop told ≡ false
-  pub losses : (tree : Objects) → Shown z (state (pages_of a)) tree → LossLeaves (Shown z (state (pages_of b))) tree z false s commands told
-  pub goes : is_stopped b ≡ false
-  pub state_is : IsVolumeOf state z (after z false s commands told) b
+  pub losses : (tree : Objects) → Shown z (m.pages a) tree → LossLeaves (Shown z (m.pages b)) tree z false s commands told
+  pub goes : m.stopped b ≡ false
+  pub state_is : m.stands z (after z false s commands told) b
 
 -- from each state that a volume which goes on and is not read-only stands for
-pub GoesSoFar : {P : Type 0} (state : P → PagesState) (commands : List Stamped) (told : List Reply) (a b : PageVolume P) → Type 0
-GoesSoFar state commands told a b = is_stopped a ≡ false → is_read_only a ≡ false → (z : Sizes) (s : State) → IsVolumeOf state z s a → GoesWell state z s commands told a b
+pub GoesSoFar : {V : Type 0} (m : Meaning V) (commands : List Stamped) (told : List Reply) (a b : V) → Type 0
+GoesSoFar m commands told a b = m.stopped a ≡ false → m.read_only a ≡ false → (z : Sizes) (s : State) → m.stands z s a → GoesWell m z s commands told a b
 
 -- none is done yet
-pub well_none : {P : Type 0} (state : P → PagesState) (commands : List Stamped) (a : PageVolume P) → GoesSoFar state commands [] a a
+pub well_none : {V : Type 0} (m : Meaning V) (commands : List Stamped) (a : V) → GoesSoFar m commands [] a a
 unfolding GoesSoFar
-well_none state commands a goes written z s is = record {
+well_none m commands a goes written z s is = record {
   holds = tt;
   none = refl;
   losses = λ tree shown. inr (λ i done. absurd (none_at i done.1 done.3), shown);
@@ -72,49 +69,46 @@ well_none state commands a goes written z s is = record {
   state_is = is;
 }
 
-module _ {P : Type 0} (state : P → PagesState) (commands : List Stamped) (told : List Reply) (c : Stamped) (r : Reply) (a b d : PageVolume P) (at : slice_get commands (length told) ≡ Some c)
-    (same : is_read_only b ≡ is_read_only a) (so_far : GoesSoFar state commands told a b)
-    (stops : is_stopped b ≡ false → (z : Sizes) (s : State) → IsVolumeOf state z s b → is_stopped d ≡ is_stop r)
-    (right : is_stopped b ≡ false → (z : Sizes) (s : State) → IsVolumeOf state z s b → Replies z (is_read_only b) s c r)
-    (stands : is_stopped b ≡ false → (z : Sizes) (s : State) → IsVolumeOf state z s b → is_stop r ≡ false → IsVolumeOf state z (after_one z (is_read_only b) s c r) d)
-    (tree : is_stopped b ≡ false → (z : Sizes) (s : State) → IsVolumeOf state z s b → (t : Objects) → Shown z (state (pages_of b)) t
-        → Shown z (state (pages_of d)) t ⊎ Shown z (state (pages_of d)) (settled s.objects))
-    (synced : is_stopped b ≡ false → (z : Sizes) (s : State) → IsVolumeOf state z s b → is_synced c.command r ≡ true → Shown z (state (pages_of d)) (settled s.objects))
-    (cause : is_stopped b ≡ false → (z : Sizes) (s : State) → IsVolumeOf state z s b → is_stop r ≡ true → HasEnded (state (pages_of d))) where
-  module _ (going : is_stopped a ≡ false) (written : is_read_only a ≡ false) (z : Sizes) (s : State) (is : IsVolumeOf state z s a) where
-    was : GoesWell state z s commands told a b
+module _ {V : Type 0} (m : Meaning V) (commands : List Stamped) (told : List Reply) (c : Stamped) (r : Reply) (a b d : V) (at : slice_get commands (length told) ≡ Some c)
+    (same : m.read_only b ≡ m.read_only a) (so_far : GoesSoFar m commands told a b)
+    (one : m.stopped b ≡ false → (z : Sizes) (s : State) → m.stands z s b → DoesOne m z s c r b d) where
+  module _ (going : m.stopped a ≡ false) (written : m.read_only a ≡ false) (z : Sizes) (s : State) (is : m.stands z s a) where
+    was : GoesWell m z s commands told a b
     unfolding GoesSoFar
     was = so_far going written z s is
 
     abbrev now : State
     now = after z false s commands told
 
+    does_one : DoesOne m z now c r b d
+    does_one = one was.goes z now was.state_is
+
     holds_now : RunHolds z false s commands (told ++ r ∷ [])
     holds_now =
-        let one = subst (λ ro. Replies z ro now c r) (same ∙ written) (right was.goes z now was.state_is) in
+        let one = subst (λ ro. Replies z ro now c r) (same ∙ written) does_one.right in
         holds_more z false s commands told c r at was.holds one (λ stop. absurd (true≢false (sym stop ∙ was.none)))
 
-    losses_now : (t : Objects) → Shown z (state (pages_of a)) t → LossLeaves (Shown z (state (pages_of d))) t z false s commands (told ++ r ∷ [])
+    losses_now : (t : Objects) → Shown z (m.pages a) t → LossLeaves (Shown z (m.pages d)) t z false s commands (told ++ r ∷ [])
     losses_now t shown =
-        loss_more (Shown z (state (pages_of b))) (Shown z (state (pages_of d))) t z false s commands told c r at
-        (tree was.goes z now was.state_is) (synced was.goes z now was.state_is) (was.losses t shown)
+        loss_more (Shown z (m.pages b)) (Shown z (m.pages d)) t z false s commands told c r at
+        does_one.tree does_one.synced (was.losses t shown)
 
-    stopped_as : is_stopped d ≡ is_stop r
-    stopped_as = stops was.goes z now was.state_is
+    stopped_as : m.stopped d ≡ is_stop r
+    stopped_as = does_one.stops
 
-    well_now : is_stopped d ≡ false → GoesWell state z s commands (told ++ r ∷ []) a d
+    well_now : m.stopped d ≡ false → GoesWell m z s commands (told ++ r ∷ []) a d
     well_now still =
         let quiet : is_stop r ≡ false = sym stopped_as ∙ still in
-        let next = subst (λ ro. IsVolumeOf state z (after_one z ro now c r) d) (same ∙ written) (stands was.goes z now was.state_is quiet) in
+        let next = subst (λ ro. m.stands z (after_one z ro now c r) d) (same ∙ written) (does_one.stands quiet) in
         record {
           holds = holds_now;
           none = any_push told r was.none ∙ quiet;
           losses = losses_now;
           goes = still;
-          state_is = subst (λ x. IsVolumeOf state z x d) (sym (after_more z false s commands told c r at)) next;
+          state_is = subst (λ x. m.stands z x d) (sym (after_more z false s commands told c r at)) next;
         }
 
-    stopped_now : is_stopped d ≡ true → DoesCommands state z s commands (told ++ r ∷ []) a d
+    stopped_now : m.stopped d ≡ true → DoesCommands m z s commands (told ++ r ∷ []) a d
     stopped_now stopped =
         let stop : is_stop r ≡ true = sym stopped_as ∙ stopped in
         record {
@@ -122,24 +116,24 @@ module _ {P : Type 0} (state : P → PagesState) (commands : List Stamped) (told
           begun = inr (told, ap (λ (x : Reply). told ++ x ∷ []) (stop_is r stop));
           losses = losses_now;
           stops = stopped ∙ sym (any_push told r was.none ∙ stop);
-          cause = λ _. cause was.goes z now was.state_is stop;
-          state_is = λ goes. absurd (true≢false (sym stopped ∙ goes));
+          cause = λ _. does_one.cause stop;
+          stands = λ goes. absurd (true≢false (sym stopped ∙ goes));
         }
 
   -- one command more
-  pub well_more : is_stopped d ≡ false → GoesSoFar state commands (told ++ r ∷ []) a d
+  pub well_more : m.stopped d ≡ false → GoesSoFar m commands (told ++ r ∷ []) a d
   unfolding GoesSoFar
   well_more still going written z s is = well_now going written z s is still
 
   -- the last, at the stop
-  pub does_stopped : is_stopped d ≡ true → GoesOn (state (pages_of a)) (state (pages_of d)) → Does state commands (told ++ r ∷ []) a d
+  pub does_stopped : m.stopped d ≡ true → GoesOn (m.pages a) (m.pages d) → Does m commands (told ++ r ∷ []) a d
   does_stopped stopped goes = record { goes_on = goes; does = λ going written z s is. stopped_now going written z s is stopped }
 
 -- all commands are done
-pub does_all : {P : Type 0} (state : P → PagesState) (commands : List Stamped) (told : List Reply) (a b : PageVolume P) → length told ≡ length commands
-    → GoesSoFar state commands told a b → GoesOn (state (pages_of a)) (state (pages_of b)) → Does state commands told a b
+pub does_all : {V : Type 0} (m : Meaning V) (commands : List Stamped) (told : List Reply) (a b : V) → length told ≡ length commands
+    → GoesSoFar m commands told a b → GoesOn (m.pages a) (m.pages b) → Does m commands told a b
 unfolding GoesSoFar
-does_all state commands told a b all so_far goes = record {
+does_all m commands told a b all so_far goes = record {
   goes_on = goes;
   does = λ going written z s is.
       let was = so_far going written z s is in
@@ -149,7 +143,7 @@ does_all state commands told a b all so_far goes = record {
         losses = was.losses;
         stops = was.goes ∙ sym was.none;
         cause = λ stopped. absurd (true≢false (sym stopped ∙ was.goes));
-        state_is = λ _. was.state_is;
+        stands = λ _. was.state_is;
       };
 }
 
@@ -160,11 +154,18 @@ covers_all commands told i (command, reply, there, answered, done) = slice_get_w
 all_told : (z : Sizes) (s : State) (commands : List Stamped) (told : List Reply) → settled_after z false s commands told (length told) ≡ settled (after z false s commands told).objects
 all_told z s commands told = ap (λ (x : List Reply). settled (after z false s commands x).objects) (take_all (length told) told (omega arith))
 
-module _ {P : Type 0} (state : P → PagesState) (commands : List Stamped) (told : List Reply) (a b : PageVolume P) (done : Does state commands told a b) where
+-- What an unmount of a volume that goes on answers and leaves.
+pub record UnmountsOne {V : Type 0} (m : Meaning V) (v : V) (q : PagesState) (reply : Reply) : Type 0 where
+  pub replies_are : (reply ≡ replies.Done) ⊎ (reply ≡ replies.Error errors.EIO)
+  pub done : (z : Sizes) (s : State) → m.stands z s v → reply ≡ replies.Done → Shown z q (settled s.objects)
+  pub tree : (z : Sizes) (s : State) → m.stands z s v → (tree : Objects) → Shown z (m.pages v) tree → Shown z q tree ⊎ Shown z q (settled s.objects)
+  pub cause : (z : Sizes) (s : State) → m.stands z s v → reply ≡ replies.Error errors.EIO → HasEnded q
+
+module _ {V : Type 0} (m : Meaning V) (commands : List Stamped) (told : List Reply) (a b : V) (done : Does m commands told a b) where
   -- the volume is abandoned
-  pub used_abandoned : (device : Device) → device ≡ (state (pages_of b)).device → IsUsed state a commands told None device
+  pub used_abandoned : (device : Device) → device ≡ (m.pages b).device → IsUsed m a commands told None device
   used_abandoned device is = record {
-    left = state (pages_of b);
+    left = m.pages b;
     device_is = sym is;
     goes_on = done.goes_on;
     leaves = λ going written z s tree stands shown.
@@ -182,76 +183,75 @@ module _ {P : Type 0} (state : P → PagesState) (commands : List Stamped) (told
         };
   }
 
-  module _ (device : Device) (reply : Reply) (ends : IsUnmounted state b device reply) (going : is_stopped a ≡ false) (written : is_read_only a ≡ false) (z : Sizes) (s : State) (tree : Objects)
-      (stands : IsVolumeOf state z s a) (shown : Shown z (state (pages_of a)) tree) where
-    does : DoesCommands state z s commands told a b
-    does = done.does going written z s stands
+  -- an unmount of the volume, which leaves these pages, with this reply
+  module _ (device : Device) (reply : Reply) (q : PagesState) (device_is : q.device ≡ device) (on : GoesOn (m.pages b) q) (stops : m.stopped b ≡ true → (reply ≡ replies.Error errors.EIO) × (q ≡ m.pages b))
+      (goes : m.stopped b ≡ false → UnmountsOne m b q reply) where
+    module _ (going : m.stopped a ≡ false) (written : m.read_only a ≡ false) (z : Sizes) (s : State) (tree : Objects) (stands : m.stands z s a) (shown : Shown z (m.pages a) tree) where
+      does : DoesCommands m z s commands told a b
+      does = done.does going written z s stands
 
-    abbrev q : PagesState
-    q = ends.pages
-
-    reply_is : (reply ≡ replies.Done) ⊎ (reply ≡ replies.Error errors.EIO)
-    reply_is = elim (cases_Bool (is_stopped b)) [
-      | inl stopped ↦ inr (ends.stopped stopped).0
-      | inr goes ↦ ends.replies_are goes
-    ]
-
-    -- the tree that a mount would show before the unmount, or all of the commands
-    turned : is_stopped b ≡ false → (t : Objects) → Shown z (state (pages_of b)) t → Shown z q t ⊎ Shown z q (settled_after z false s commands told (length told))
-    turned goes t there = elim (ends.tree goes z (after z false s commands told) (does.state_is goes) t there) [
-      | inl still ↦ inl still
-      | inr all ↦ inr (subst (Shown z q) (sym (all_told z s commands told)) all)
-    ]
-
-    left_goes : is_stopped b ≡ false → LossLeaves (Shown z (state (pages_of b))) tree z false s commands told → LossLeaves (Shown z q) tree z false s commands told
-    left_goes goes (inl some) = elim (turned goes (settled_after z false s commands told some.0) some.3) [
-      | inl still ↦ inl (some.0, some.1, some.2, still)
-      | inr all ↦ inl (length told, covers_all commands told, omega arith, all)
-    ]
-    left_goes goes (inr none) = elim (turned goes tree none.1) [
-      | inl still ↦ inr (none.0, still)
-      | inr all ↦ inl (length told, covers_all commands told, omega arith, all)
-    ]
-
-    left_there : LossLeaves (Shown z q) tree z false s commands told
-    left_there = elim (cases_Bool (is_stopped b)) [
-      | inl stopped ↦ subst (λ (p : PagesState). LossLeaves (Shown z p) tree z false s commands told) (sym (ends.stopped stopped).1) (does.losses tree shown)
-      | inr goes ↦ left_goes goes (does.losses tree shown)
-    ]
-
-    done_there : reply ≡ replies.Done → Shown z q (settled_after z false s commands told (length told))
-    done_there is = elim (cases_Bool (is_stopped b)) [
-      | inl stopped ↦ let two : replies.Done ≡ replies.Error errors.EIO = sym is ∙ (ends.stopped stopped).0 in absurd cc
-      | inr goes ↦ subst (Shown z q) (sym (all_told z s commands told)) (ends.done goes z (after z false s commands told) (does.state_is goes) is)
-    ]
-
-    ended_there : (list_any is_stop told ≡ true) ⊎ (reply ≡ replies.Error errors.EIO) → HasEnded q
-    ended_there why = elim (cases_Bool (is_stopped b)) [
-      | inl stopped ↦ subst HasEnded (sym (ends.stopped stopped).1) (does.cause stopped)
-      | inr goes ↦ elim why [
-        | inl stop ↦ absurd (true≢false (sym (does.stops ∙ stop) ∙ goes))
-        | inr told' ↦ ends.cause goes z (after z false s commands told) (does.state_is goes) told'
+      reply_is : (reply ≡ replies.Done) ⊎ (reply ≡ replies.Error errors.EIO)
+      reply_is = elim (cases_Bool (m.stopped b)) [
+        | inl stopped ↦ inr (stops stopped).0
+        | inr still ↦ (goes still).replies_are
       ]
-    ]
 
-    left_from : LeavesFrom z s tree commands told (Some reply) q
-    left_from = record {
-      holds = does.holds;
-      begun = does.begun;
-      unmounts = λ r is. let one : Some reply ≡ Some r = is in let same : reply ≡ r = cc in subst (λ (x : Reply). (x ≡ replies.Done) ⊎ (x ≡ replies.Error errors.EIO)) same reply_is;
-      cause = λ why. elim why [
-        | inl stop ↦ ended_there (inl stop)
-        | inr is ↦ let one : Some reply ≡ Some (replies.Error errors.EIO) = is in let same : reply ≡ replies.Error errors.EIO = cc in ended_there (inr same)
-      ];
-      losses = left_there;
-      done = λ is. let one : Some reply ≡ Some replies.Done = is in let same : reply ≡ replies.Done = cc in done_there same;
+      -- the tree that a mount would show before the unmount, or all of the commands
+      turned : m.stopped b ≡ false → (t : Objects) → Shown z (m.pages b) t → Shown z q t ⊎ Shown z q (settled_after z false s commands told (length told))
+      turned still t there = elim ((goes still).tree z (after z false s commands told) (does.stands still) t there) [
+        | inl still ↦ inl still
+        | inr all ↦ inr (subst (Shown z q) (sym (all_told z s commands told)) all)
+      ]
+
+      left_goes : m.stopped b ≡ false → LossLeaves (Shown z (m.pages b)) tree z false s commands told → LossLeaves (Shown z q) tree z false s commands told
+      left_goes going' (inl some) = elim (turned going' (settled_after z false s commands told some.0) some.3) [
+        | inl still ↦ inl (some.0, some.1, some.2, still)
+        | inr all ↦ inl (length told, covers_all commands told, omega arith, all)
+      ]
+      left_goes going' (inr none) = elim (turned going' tree none.1) [
+        | inl still ↦ inr (none.0, still)
+        | inr all ↦ inl (length told, covers_all commands told, omega arith, all)
+      ]
+
+      left_there : LossLeaves (Shown z q) tree z false s commands told
+      left_there = elim (cases_Bool (m.stopped b)) [
+        | inl stopped ↦ subst (λ (p : PagesState). LossLeaves (Shown z p) tree z false s commands told) (sym (stops stopped).1) (does.losses tree shown)
+        | inr still ↦ left_goes still (does.losses tree shown)
+      ]
+
+      done_there : reply ≡ replies.Done → Shown z q (settled_after z false s commands told (length told))
+      done_there is = elim (cases_Bool (m.stopped b)) [
+        | inl stopped ↦ let two : replies.Done ≡ replies.Error errors.EIO = sym is ∙ (stops stopped).0 in absurd cc
+        | inr still ↦ subst (Shown z q) (sym (all_told z s commands told)) ((goes still).done z (after z false s commands told) (does.stands still) is)
+      ]
+
+      ended_there : (list_any is_stop told ≡ true) ⊎ (reply ≡ replies.Error errors.EIO) → HasEnded q
+      ended_there why = elim (cases_Bool (m.stopped b)) [
+        | inl stopped ↦ subst HasEnded (sym (stops stopped).1) (does.cause stopped)
+        | inr still ↦ elim why [
+          | inl stop ↦ absurd (true≢false (sym (does.stops ∙ stop) ∙ still))
+          | inr told' ↦ (goes still).cause z (after z false s commands told) (does.stands still) told'
+        ]
+      ]
+
+      left_from : LeavesFrom z s tree commands told (Some reply) q
+      left_from = record {
+        holds = does.holds;
+        begun = does.begun;
+        unmounts = λ r is. let one : Some reply ≡ Some r = is in let same : reply ≡ r = cc in subst (λ (x : Reply). (x ≡ replies.Done) ⊎ (x ≡ replies.Error errors.EIO)) same reply_is;
+        cause = λ why. elim why [
+          | inl stop ↦ ended_there (inl stop)
+          | inr is ↦ let one : Some reply ≡ Some (replies.Error errors.EIO) = is in let same : reply ≡ replies.Error errors.EIO = cc in ended_there (inr same)
+        ];
+        losses = left_there;
+        done = λ is. let one : Some reply ≡ Some replies.Done = is in let same : reply ≡ replies.Done = cc in done_there same;
+      }
+
+    -- the volume is unmounted
+    pub used_unmounted : IsUsed m a commands told (Some reply) device
+    used_unmounted = record {
+      left = q;
+      device_is = device_is;
+      goes_on = goes_on (m.pages a) (m.pages b) q done.goes_on on;
+      leaves = λ going written z s tree stands shown. left_from going written z s tree stands shown;
     }
-
-  -- the volume is unmounted
-  pub used_unmounted : (device : Device) (reply : Reply) → IsUnmounted state b device reply → IsUsed state a commands told (Some reply) device
-  used_unmounted device reply ends = record {
-    left = ends.pages;
-    device_is = ends.device_is;
-    goes_on = goes_on (state (pages_of a)) (state (pages_of b)) ends.pages done.goes_on ends.goes_on;
-    leaves = λ going written z s tree stands shown. left_from device reply ends going written z s tree stands shown;
-  }

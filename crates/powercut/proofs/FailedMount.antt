@@ -1,5 +1,5 @@
 -- A mount that fails leaves the device, and tells no fault of a sound flash.
-use Rattle.std.specs.Prelude.{◌≡◌, ℕ, true, false, Bool, List, [], ◌∷◌, Some, None, Err}
+use Rattle.std.specs.Prelude.{◌≡◌, ℕ, true, false, Bool, List, [], ◌∷◌, length, Some, None, Err}
 use Rattle.std.proofs.Common.{refl, sym, ◌∙◌, ap, subst, inl, inr}
 use Rattle.volume_terms.specs.Sizes.{Sizes}
 use Rattle.nand_model.specs.Flash.{Flash}
@@ -82,3 +82,9 @@ module _ (one : (g : Geometry) (flash : Flash) (a b : Answer) → Answers g flas
             let there = subst (λ (g : Geometry). IsSound g e.flash spare tree) (sym reads.lasts.geometry) (sound_same d.geometry d.flash e.flash same spare tree sound) in
             (tree, (tree, session_failed spare tree there fault why (sizes_of d.geometry spare), refl), there);
       }
+
+-- where nothing was replied that is what is recorded
+pub of_no_replies : (d e : Device) (commands : List Stamped) (answer : MountAnswer) (cut : Bool) (told : List Reply) → told ≡ [] → HasLived d e (failed_record commands answer cut ∷ [])
+    → HasLived d e (record { mounted = answer; commands = commands; begun = length told; replies = told; unmounted = None; cut = cut } ∷ [])
+of_no_replies d e commands answer cut told none lived =
+    subst (λ (rs : List Reply). HasLived d e (record { mounted = answer; commands = commands; begun = length rs; replies = rs; unmounted = None; cut = cut } ∷ [])) (sym none) lived

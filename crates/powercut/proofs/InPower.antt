@@ -31,10 +31,7 @@ use Rattle.mounting.specs.Made.{CanOnlyBeRead, AreNext}
 use Rattle.paged_objects.specs.Ending.{HasEnded}
 use Rattle.paged_objects.specs.Standing.{volume_of, Shown}
 use Rattle.paged_objects.specs.laws.OnFlash.{shown_sound}
-use Rattle.page_volume.specs.Volumes.{pages_of, is_read_only, is_stopped, IsVolumeOf}
-use Rattle.page_volume.specs.declared.volume.PageVolume.{PageVolume}
-use Rattle.posix_calls.specs.Mounts.{StandsForTree}
-use Rattle.powercut.specs.Commands.{LeavesFrom, IsUsed}
+use Rattle.powercut.specs.Commands.{Meaning, LeavesFrom, IsUsed}
 use Rattle.powercut.specs.Limits.{StaysWithin}
 use Rattle.powercut.specs.Living.{HasSame, AreWithin, HasLived}
 use Rattle.powercut.specs.laws.SameFlash.{same_back, within_same, greatest_same, sound_same}
@@ -97,6 +94,10 @@ module _ (z : Sizes) (before : Objects) (commands : List Stamped) (told : List R
         some.3,
       )
 
+-- what the calls of a device keep is kept over the whole use
+pub used_lasts : {V : Type 0} (m : Meaning V) (v : V) (d e : Device) (commands : List Stamped) (told : List Reply) (unmounted : Option Reply) → OnlyReads d (m.pages v).device → IsUsed m v commands told unmounted e → Lasts d e
+used_lasts m v d e commands told unmounted reads used = subst (λ (x : Device). Lasts d x) used.device_is (lasts_on d (m.pages v).device used.left.device reads.lasts used.goes_on.device)
+
 -- what stands on the flash is within the greatest numbers at first and one more for each change
 numbers_written : (p q : PagesState) → GoesOn p q → p.device.honest ≡ true → (n : Numbers) → AreGreatest p.device.flash n → p.next ≡ next_after n
     → (more : ℕ) → q.device.changes ≡ p.device.changes + more → AreWithin q.device.flash (n.group + more) (n.seq + more)
@@ -110,13 +111,20 @@ numbers_written p q goes honest n greatest next more risen b k t good has =
     let all = goes.numbers.written honest below more risen b k t good has in
     (omega (arith, all.1, group), omega (arith, all.2, seq))
 
-module _ {P : Type 0} (state : P → PagesState) (v : PageVolume P) (d e : Device) (commands : List Stamped) (told : List Reply) (unmounted : Option Reply) (honest : d.honest ≡ true)
+-- The volume stands for the tree that its device shows, with no descriptor open; and a mount would show the tree again.
+pub record Stands {V : Type 0} (m : Meaning V) (v : V) (objects : Objects) : Type 0 where
+  pub answers : Answers (m.pages v).device.geometry (m.pages v).device.flash (IsTreeOf (m.pages v).spare objects)
+  pub volume : m.stands (volume_of (m.pages v)) (at_mount objects) v
+  pub sound : IsSoundState (volume_of (m.pages v)) (at_mount objects)
+  pub shown : Shown (volume_of (m.pages v)) (m.pages v) objects
+
+module _ {V : Type 0} (m : Meaning V) (v : V) (d e : Device) (commands : List Stamped) (told : List Reply) (unmounted : Option Reply) (honest : d.honest ≡ true)
     (one : (g : Geometry) (flash : Flash) (a b : Answer) → Answers g flash a → Answers g flash b → a ≡ b)
-    (reads : OnlyReads d (state (pages_of v)).device) (goes : is_stopped v ≡ false) (read_only : (is_read_only v ≡ true) ↔ CanOnlyBeRead (state (pages_of v)))
-    (next : AreNext (state (pages_of v)).device.flash (state (pages_of v)).next) (objects : Objects) (stands : StandsForTree state v objects)
-    (used : IsUsed state v commands told unmounted e) where
+    (reads : OnlyReads d (m.pages v).device) (goes : m.stopped v ≡ false) (read_only : (m.read_only v ≡ true) ↔ CanOnlyBeRead (m.pages v))
+    (next : AreNext (m.pages v).device.flash (m.pages v).next) (objects : Objects) (stands : Stands m v objects)
+    (used : IsUsed m v commands told unmounted e) where
   abbrev p : PagesState
-  p = state (pages_of v)
+  p = m.pages v
 
   abbrev q : PagesState
   q = used.left
@@ -166,8 +174,8 @@ module _ {P : Type 0} (state : P → PagesState) (v : PageVolume P) (d e : Devic
     can_be_written (inr (inl group)) = let most = (next.1.least _ sound_there.numbers).1 in let is = next_group in omega (arith, group, most, is)
     can_be_written (inr (inr seq)) = let most = (next.1.least _ sound_there.numbers).2 in let is = next_seq in omega (arith, seq, most, is)
 
-    is_written : is_read_only v ≡ false
-    is_written = elim (cases_Bool (is_read_only v)) [
+    is_written : m.read_only v ≡ false
+    is_written = elim (cases_Bool (m.read_only v)) [
       | inl yes' ↦ absurd (can_be_written (read_only.0 yes'))
       | inr not ↦ not
     ]
@@ -213,7 +221,7 @@ module _ {P : Type 0} (state : P → PagesState) (v : PageVolume P) (d e : Devic
     life : (after : Objects) × IsLife (sizes_of d.geometry spare) tree (mounted_record commands told unmounted q.device.gone ∷ []) after × IsSound q.device.geometry q.device.flash spare after
     life =
         let leaves = used.leaves goes is_written (volume_of p) (at_mount objects) objects stands.volume stands.shown in
-        let session = session_served (volume_of p) objects commands told unmounted q stands.volume.sound leaves q.device.gone ends_by_cut in
+        let session = session_served (volume_of p) objects commands told unmounted q stands.sound leaves q.device.gone ends_by_cut in
         let record_told = mounted_record commands told unmounted q.device.gone in
         let from_tree = subst (λ (x : Objects). IsSessionFrom (volume_of p) x record_told session.0) tree_is session.1 in
         let of_sizes = subst (λ (z : Sizes). IsSessionFrom z tree record_told session.0) sizes_are from_tree in
@@ -229,9 +237,6 @@ module _ {P : Type 0} (state : P → PagesState) (v : PageVolume P) (d e : Devic
     known = inr (n, at_first);
     life = life;
   }
-
-  pub used_lasts : Lasts d e
-  used_lasts = subst (λ (x : Device). Lasts d x) used.device_is lasts
 
   -- from the device at the mount to the device that is given back
   pub used_lived : HasLived d e (mounted_record commands told unmounted e.gone ∷ [])

@@ -1,4 +1,5 @@
 mod Lasting
+mod Doing
 mod InPower
 mod FailedMount
-mod Doing
+mod Standing

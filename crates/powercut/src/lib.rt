@@ -1,6 +1,7 @@
 //! Lives of a volume: sessions in turn on a device in memory, each of which may end at any moment.
 #![tactic(auto)]
 
+mod commands;
 mod life;
 mod power;
 mod serving;

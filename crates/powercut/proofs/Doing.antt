@@ -23,7 +23,7 @@ use Rattle.pages.specs.State.{PagesState}
 use Rattle.pages.specs.Stores.{GoesOn}
 use Rattle.paged_objects.specs.Ending.{HasEnded}
 use Rattle.paged_objects.specs.Standing.{Shown}
-use Rattle.paged_objects.specs.laws.Going.{stays_here, stays_goes, goes_on}
+use Rattle.paged_objects.specs.laws.Going.{goes_on}
 use Rattle.powercut.specs.Commands.{Meaning, DoesOne, DoesCommands, Does, LeavesFrom, IsUsed}
 
 -- only one reply is the stop
@@ -41,10 +41,6 @@ any_push xs x none = list_any-append is_stop xs (x ∷ []) ∙ ap (λ b. b || (i
 
 none_at : (i : ℕ) (r : Reply) → slice_get [] i ≡ Some r → ⊥
 none_at i r is = cc
-
--- the pages go on as they are
-pub goes_here : (p : PagesState) → GoesOn p p
-goes_here p = stays_goes p p (stays_here p)
 
 -- So many commands are done, from a state, and the volume is not stopped.
 pub record GoesWell {V : Type 0} (m : Meaning V) (z : Sizes) (s : State) (commands : List Stamped) (told : List Reply) (a b : V) : Type 0 where

@@ -56,7 +56,13 @@ impl<N: Nand> Pages for FlashPages<N> {
 }
 
 impl<N: Nand> PageStore for FlashPages<N> {
-    ghost lost = { elim [ kinds.Store store ↦ ⟦<Store<N> as PageStore>⟧.lost store | kinds.ReadOnly pages ↦ ⟦<ReadOnlyPages<N> as PageStore>⟧.lost pages ] };
+    ghost use Rattle.objects.specs.laws.Sound.{lost_alone};
+    ghost use Rattle.flash_pages.specs.laws.Sound.{lost_reading};
+
+    ghost lost = { elim [
+      | kinds.Store s ↦ λ sound failed. lost_alone (N.state s.device).gone (N.state s.device).honest s.broken sound failed
+      | kinds.ReadOnly s ↦ λ sound failed. lost_reading (N.state s.pages.device).gone (N.state s.pages.device).honest s.refused_change sound failed
+    ] };
 
     fn most_pages(&self) -> u32 {
         match self {

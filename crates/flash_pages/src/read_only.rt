@@ -1,7 +1,8 @@
 // Pages of a worn device, which are read and not changed.
-ghost use Rattle.std.specs.Prelude.{◌≡◌, ◌≤◌, true, false};
+ghost use Rattle.std.specs.Prelude.{◌≡◌, ◌≤◌, true, false, OnOk, IfErr};
 ghost use Rattle.flash_tree.specs.Places.{numbers_of};
 ghost use Rattle.newest_pages.specs.Newest.{seen};
+ghost use Rattle.volume_terms.specs.declared.fault.StoreFault.TheVariants as faults;
 ghost use Rattle.flash_pages.specs.ReadOnly.{IsWorn, HasGreatest, IsCarrying, only_read};
 ghost use Rattle.flash_pages.specs.laws.OneProof.{carrying_prop};
 
@@ -52,6 +53,17 @@ impl<N: Nand> ReadOnlyPages<N> {
         }
     }
 
+    /// Refuses a commit where a change was refused, since the pages are not what is to be kept.
+    fn check_unchanged(&self) -> Result<(), StoreFault>
+        ensures whole { OnOk result (self.now.refused_change ≡ false) }
+        ensures fault { IfErr result (λ fault. (fault ≡ faults.Worn) × (self.now.refused_change ≡ true)) }
+    {
+        if self.refused_change {
+            return Err(StoreFault::Worn);
+        }
+        Ok(())
+    }
+
     /// The device, as it is.
     pub fn into_device(self) -> N
         ensures { N.state result ≡ (⟦<ReadOnlyPages<N> as Pages>⟧.state self).device }
@@ -99,9 +111,7 @@ impl<N: Nand> PageStore for ReadOnlyPages<N> {
     }
 
     fn commit(&mut self) -> Result<(), StoreFault> {
-        if self.refused_change {
-            return Err(StoreFault::Worn);
-        }
+        self.check_unchanged()?;
         Ok(())
     }
 }

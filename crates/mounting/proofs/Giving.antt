@@ -117,6 +117,9 @@ module _ (d : Device) (x : Index) (n : Numbers) (spare : ℕ) (p : PagesState) (
     settles : settled objects ≡ objects
     settles = laws.settled z shown.on.pages objects shown.shows
 
+    is_shown : Shown (volume_of p) p objects
+    is_shown = subst (λ (o : Objects). Shown (volume_of p) p o) settles (kept_shown (volume_of p) p (kept_data x d.flash) objects refl (pages.kept honest) holds can)
+
     pub mounted_with : IsMountedWith p table objects
     mounted_with = record {
       answers = subst (λ (k : Device). Answers k.geometry k.flash (answer_tree p.spare objects)) (sym pages.device_is)
@@ -127,8 +130,9 @@ module _ (d : Device) (x : Index) (n : Numbers) (spare : ℕ) (p : PagesState) (
         page_bytes = page_bytes_is;
         most = most_is;
         holds = same_objects (volume_of p) (kept_data x d.flash) p.present objects holds (pages.present honest);
+        shown = (objects, is_shown);
       };
-      shown = subst (λ (o : Objects). Shown (volume_of p) p o) settles (kept_shown (volume_of p) p (kept_data x d.flash) objects refl (pages.kept honest) holds can);
+      shown = is_shown;
       can = can;
       settles = settles;
       tells = law shown.on.pages objects (subst (λ (k : Sizes). IsSizes k) (sym same) sizes)

@@ -1,12 +1,13 @@
 use Rattle.std.proofs.Common.{◌≡◌, Ok, Err}
 use Rattle.std.proofs.lemmas.Result.{err_from_is_err_and}
 use Rattle.volume_terms.specs.Sizes.{Sizes}
+use Rattle.volume_terms.specs.declared.fault.StoreFault.TheVariants as faults
 use Rattle.object_store.specs.Changes.{made}
 use Rattle.posix_profile.specs.Changes.{new_number}
 use Rattle.object_table.specs.Told.{sizes_of, LedBefore}
 use Rattle.pages.specs.State.{PagesState}
 use Rattle.paged_objects.specs.Ending.{EndsPages}
-use Rattle.paged_objects.specs.laws.Going.{finds_stay, stays_goes, goes_here, goes_on}
+use Rattle.paged_objects.specs.laws.Going.{finds_stay, stays_here, stays_goes, goes_here, goes_on}
 use Rattle.paged_objects.specs.laws.Showing.{turns_after}
 use Rattle.paged_objects.specs.laws.Lawful.{tells_on}
 use Rattle.paged_objects.proofs.Ends.{has_after, ends_after, read_ends, not_made}
@@ -15,6 +16,12 @@ use Rattle.paged_objects.proofs.changing.make.Goals as goal
 
 pub returns-in_err-prepare-clause-goes_on : goal.returns-in_err-prepare-clause-goes_on
 returns-in_err-prepare-clause-goes_on g c = goes_here (g.P.Pages.state c.args.pages.now)
+
+pub returns-in_err-prepare-clause-makes : goal.returns-in_err-prepare-clause-makes
+returns-in_err-prepare-clause-makes g c = λ objects has make.
+    let p : PagesState = g.P.Pages.state c.args.pages.now in
+    let e = err_from_is_err_and c.from_residual.result c.from_residual.ensures.1 in
+    rw (e.1, e.2) (not_made p p c.args.table.now c.prepare.new.table objects (made objects c.args.change.now) faults.NoMemory c.prepare.ensures.same (stays_here p))
 
 pub returns-in_err-replaced-clause-goes_on : goal.returns-in_err-replaced-clause-goes_on
 returns-in_err-replaced-clause-goes_on g c =

@@ -19,7 +19,7 @@ returns-clause-goes_on g c =
     let self = c.args.self.now in
     goes_on (seen (g.N.Nand.state self.pages.device) self.pages.index self.pages.page.items) (numbers_of self.greatest) self.spare self.most self.refused_change self.refused_change
 
-pub returns-then-self-clause-goes_on : goal.returns-then-self-clause-goes_on
-returns-then-self-clause-goes_on g c =
+pub returns-in_err-check_unchanged-clause-goes_on : goal.returns-in_err-check_unchanged-clause-goes_on
+returns-in_err-check_unchanged-clause-goes_on g c =
     let self = c.args.self.now in
     goes_on (seen (g.N.Nand.state self.pages.device) self.pages.index self.pages.page.items) (numbers_of self.greatest) self.spare self.most self.refused_change self.refused_change

@@ -1,0 +1,7 @@
+pub mod Layout
+pub mod Writes
+pub mod Quiet
+pub mod Images
+pub mod Opening
+pub mod Readings
+pub mod Creation

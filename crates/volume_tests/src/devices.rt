@@ -1,0 +1,47 @@
+// Devices in memory that are formatted.
+
+use nand_model::{Fate, Geometry, MemNand};
+use posix_calls::{FormatFault, format};
+use std::alloc::Global;
+use std::test::Fail;
+
+/// An erased device of eight blocks of 32 pages of 512 bytes.
+pub(crate) fn erased(alloc: Global) -> Result<MemNand, Fail> {
+    Ok(MemNand::new(alloc, Geometry::new(512, 32, 8)?)?)
+}
+
+/// How a format ends, with the device.
+pub(crate) fn format_of(
+    alloc: Global,
+    nand: MemNand,
+    spare: u32,
+) -> (MemNand, Option<FormatFault>) {
+    match format(alloc, nand, spare) {
+        Ok(nand) => (nand, None),
+        Err((nand, fault)) => (nand, Some(fault)),
+    }
+}
+
+/// A device that was just formatted with so many blocks to spare, after a power-up.
+pub(crate) fn formatted(alloc: Global, spare: u32) -> Result<MemNand, Fail> {
+    let (mut nand, fault) = format_of(alloc, erased(alloc)?, spare);
+    match fault {
+        None => {
+            nand.power_up();
+            Ok(nand)
+        }
+        Some(fault) => Err(fault.into()),
+    }
+}
+
+/// The fates of the pages of a block, in turn.
+pub(crate) type Fates = [Fate; 3];
+
+/// The fates of 32 pages.
+pub(crate) fn fates(alloc: Global, fates: Fates) -> Result<Vec<Fate>, Fail> {
+    let mut pages = Vec::new(alloc);
+    for page in 0..32usize {
+        pages.push(fates[page % 3])?;
+    }
+    Ok(pages)
+}

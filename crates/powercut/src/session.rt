@@ -17,7 +17,7 @@ pub struct Session {
 }
 
 /// How a session ended.
-#[derive(Drop)]
+#[derive(Drop, Debug)]
 pub struct SessionEnd {
     pub mounted: Result<(), MountFault>,
     /// The replies of the commands that were begun.

@@ -1,1 +1,2 @@
 mod Mounting
+mod Unmounting

@@ -105,9 +105,9 @@ numbers_written p q goes honest n greatest next more risen b k t good has =
     let group : p.next.group ≡ n.group + 1 = ap (λ (x : NextNumbers). x.group) next in
     let seq : p.next.seq ≡ n.seq + 1 = ap (λ (x : NextNumbers). x.seq) next in
     let below : AreBelow p.device.flash p.next.group p.next.seq = λ c l u whole there.
-        let at = greatest.above c l u whole there in
-        let valid = there.valid.version.1 in
-        (omega (arith, at.1, valid, group), omega (arith, at.1, group), omega (arith, at.2, seq)) in
+    let at = greatest.above c l u whole there in
+    let valid = there.valid.version.1 in
+    (omega (arith, at.1, valid, group), omega (arith, at.1, group), omega (arith, at.2, seq)) in
     let all = goes.numbers.written honest below more risen b k t good has in
     (omega (arith, all.1, group), omega (arith, all.2, seq))
 

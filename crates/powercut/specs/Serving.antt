@@ -1,4 +1,5 @@
 -- What is recorded of what was served.
+-- From: this project.
 use Rattle.std.specs.Prelude.{Bool, List, length}
 use Rattle.lives.specs.Lives.{SessionRecord}
 use Rattle.posix_profile.specs.declared.command.Stamped.{Stamped}

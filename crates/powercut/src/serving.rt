@@ -16,10 +16,10 @@ use std::alloc::{AllocError, Global};
 
 impl<N: Nand> Commanded for Volume<N> {
     ghost meaning = { record {
-        pages = λ v. ⟦<FlashPages<N> as Pages>⟧.state (pages_of v.volume);
-        stands = λ z s v. IsVolumeOf ⟦<FlashPages<N> as Pages>⟧.state z s v.volume;
-        stopped = λ v. is_stopped v.volume;
-        read_only = λ v. is_read_only v.volume;
+      pages = λ v. ⟦<FlashPages<N> as Pages>⟧.state (pages_of v.volume);
+      stands = λ z s v. IsVolumeOf ⟦<FlashPages<N> as Pages>⟧.state z s v.volume;
+      stopped = λ v. is_stopped v.volume;
+      read_only = λ v. is_read_only v.volume;
     } };
 
     fn answer(&mut self, stamped: &Stamped) -> Reply {

@@ -19,9 +19,9 @@ use Rattle.powercut.specs.laws.SameFlash.{same_on, sound_same, within_same, grea
 pub greatest_within : (f : Flash) (n : Numbers) (group seq : ℕ) → AreGreatest f n → AreWithin f group seq → (n.version ≤ group) × (n.group ≤ group) × (n.seq ≤ seq)
 greatest_within f n group seq greatest within =
     greatest.least (record { version = group; group = group; seq = seq }) (λ b p t good has.
-        let at = within b p t good has in
-        let valid = has.valid.version.1 in
-        (omega (arith, at.0, valid), at.0, at.1))
+    let at = within b p t good has in
+    let valid = has.valid.version.1 in
+    (omega (arith, at.0, valid), at.0, at.1))
 
 -- and all are within the greatest
 pub within_greatest : (f : Flash) (n : Numbers) → AreGreatest f n → AreWithin f n.group n.seq

@@ -1,0 +1,253 @@
+-- The commands of a session, one more at a time.
+use Rattle.std.specs.Prelude.{◌≡◌, ◌⊎◌, ◌||◌, ◌++◌, ◌<◌, ◌≤◌, ◌+◌, ℕ, Bool, true, false, List, [], ◌∷◌, length, take, Option, Some, None, slice_get}
+use Rattle.std.specs.List.{list_any}
+use Rattle.std.proofs.Common.{refl, sym, ◌∙◌, ap, subst, inl, inr, arith}
+use Rattle.std.proofs.lemmas.Bool.{cases_Bool, true≢false}
+use Rattle.std.proofs.lemmas.List.{take_all, length_push}
+use Rattle.std.proofs.lemmas.List.Folds.{list_any-append}
+use Rattle.std.proofs.lemmas.Option.{slice_get_within}
+use Rattle.volume_terms.specs.Sizes.{Sizes}
+use Rattle.object_store.specs.Stores.{settled}
+use Rattle.posix_profile.specs.Losses.{is_synced, IsSyncDone, Covers, LossLeaves, settled_after}
+use Rattle.posix_profile.specs.Runs.{Replies, after_one, after, is_stop, RunHolds}
+use Rattle.posix_profile.specs.State.{Objects, State}
+use Rattle.posix_profile.specs.laws.Loss.{loss_more}
+use Rattle.posix_profile.specs.laws.Run.{after_more, holds_more}
+use Rattle.posix_profile.specs.declared.command.Stamped.{Stamped}
+use Rattle.posix_profile.specs.declared.reply.Errno.TheVariants as errors
+use Rattle.posix_profile.specs.declared.reply.Reply.{Reply}
+use Rattle.posix_profile.specs.declared.reply.Reply.TheVariants as replies
+use Rattle.nand_model.specs.Calls.{Device}
+use Rattle.lives.specs.Lives.{EndsStopped}
+use Rattle.pages.specs.State.{PagesState}
+use Rattle.pages.specs.Stores.{GoesOn}
+use Rattle.paged_objects.specs.Ending.{HasEnded}
+use Rattle.paged_objects.specs.Standing.{Shown}
+use Rattle.paged_objects.specs.laws.Going.{goes_on}
+use Rattle.powercut.specs.Commands.{Meaning, DoesOne, DoesCommands, Does, LeavesFrom, IsUsed}
+
+-- only one reply is the stop
+stop_is : (r : Reply) → is_stop r ≡ true → r ≡ replies.Error errors.EIO
+stop_is (replies.Error errors.EIO) is = refl
+stop_is r is = let two : false ≡ true = is in absurd cc
+
+-- a list with one more is stopped where the last one is, or one before
+any_push : (xs : List Reply) (x : Reply) → list_any is_stop xs ≡ false → list_any is_stop (xs ++ x ∷ []) ≡ is_stop x
+any_push xs x none = list_any-append is_stop xs (x ∷ []) ∙ ap (λ b. b || (is_stop x || false)) none ∙ or_false (is_stop x)
+  where
+    or_false : (b : Bool) → (false || (b || false)) ≡ b
+    or_false true = refl
+    or_false false = refl
+
+none_at : (i : ℕ) (r : Reply) → slice_get [] i ≡ Some r → ⊥
+none_at i r is = cc
+
+-- So many commands are done, from a state, and the volume is not stopped.
+pub record GoesWell {V : Type 0} (m : Meaning V) (z : Sizes) (s : State) (commands : List Stamped) (told : List Reply) (a b : V) : Type 0 where
+  pub holds : RunHolds z false s commands told
+  pub none : list_any is_stop told ≡ false
+  pub losses : (tree : Objects) → Shown z (m.pages a) tree → LossLeaves (Shown z (m.pages b)) tree z false s commands told
+  pub goes : m.stopped b ≡ false
+  pub state_is : m.stands z (after z false s commands told) b
+
+-- from each state that a volume which goes on and is not read-only stands for
+pub GoesSoFar : {V : Type 0} (m : Meaning V) (commands : List Stamped) (told : List Reply) (a b : V) → Type 0
+GoesSoFar m commands told a b = m.stopped a ≡ false → m.read_only a ≡ false → (z : Sizes) (s : State) → m.stands z s a → GoesWell m z s commands told a b
+
+-- none is done yet
+pub well_none : {V : Type 0} (m : Meaning V) (commands : List Stamped) (a : V) → GoesSoFar m commands [] a a
+unfolding GoesSoFar
+well_none m commands a goes written z s is = record {
+  holds = tt;
+  none = refl;
+  losses = λ tree shown. inr (λ i done. absurd (none_at i done.1 done.3), shown);
+  goes = goes;
+  state_is = is;
+}
+
+module _ {V : Type 0} (m : Meaning V) (commands : List Stamped) (told : List Reply) (c : Stamped) (r : Reply) (a b d : V) (at : slice_get commands (length told) ≡ Some c)
+    (same : m.read_only b ≡ m.read_only a) (so_far : GoesSoFar m commands told a b)
+    (one : m.stopped b ≡ false → (z : Sizes) (s : State) → m.stands z s b → DoesOne m z s c r b d) where
+  module _ (going : m.stopped a ≡ false) (written : m.read_only a ≡ false) (z : Sizes) (s : State) (is : m.stands z s a) where
+    was : GoesWell m z s commands told a b
+    unfolding GoesSoFar
+    was = so_far going written z s is
+
+    abbrev now : State
+    now = after z false s commands told
+
+    does_one : DoesOne m z now c r b d
+    does_one = one was.goes z now was.state_is
+
+    holds_now : RunHolds z false s commands (told ++ r ∷ [])
+    holds_now =
+        let one = subst (λ ro. Replies z ro now c r) (same ∙ written) does_one.right in
+        holds_more z false s commands told c r at was.holds one (λ stop. absurd (true≢false (sym stop ∙ was.none)))
+
+    losses_now : (t : Objects) → Shown z (m.pages a) t → LossLeaves (Shown z (m.pages d)) t z false s commands (told ++ r ∷ [])
+    losses_now t shown =
+        loss_more (Shown z (m.pages b)) (Shown z (m.pages d)) t z false s commands told c r at
+        does_one.tree does_one.synced (was.losses t shown)
+
+    stopped_as : m.stopped d ≡ is_stop r
+    stopped_as = does_one.stops
+
+    well_now : m.stopped d ≡ false → GoesWell m z s commands (told ++ r ∷ []) a d
+    well_now still =
+        let quiet : is_stop r ≡ false = sym stopped_as ∙ still in
+        let next = subst (λ ro. m.stands z (after_one z ro now c r) d) (same ∙ written) (does_one.stands quiet) in
+        record {
+          holds = holds_now;
+          none = any_push told r was.none ∙ quiet;
+          losses = losses_now;
+          goes = still;
+          state_is = subst (λ x. m.stands z x d) (sym (after_more z false s commands told c r at)) next;
+        }
+
+    stopped_now : m.stopped d ≡ true → DoesCommands m z s commands (told ++ r ∷ []) a d
+    stopped_now stopped =
+        let stop : is_stop r ≡ true = sym stopped_as ∙ stopped in
+        record {
+          holds = holds_now;
+          begun = inr (told, ap (λ (x : Reply). told ++ x ∷ []) (stop_is r stop));
+          losses = losses_now;
+          stops = stopped ∙ sym (any_push told r was.none ∙ stop);
+          cause = λ _. does_one.cause stop;
+          stands = λ goes. absurd (true≢false (sym stopped ∙ goes));
+        }
+
+  -- one command more
+  pub well_more : m.stopped d ≡ false → GoesSoFar m commands (told ++ r ∷ []) a d
+  unfolding GoesSoFar
+  well_more still going written z s is = well_now going written z s is still
+
+  -- the last, at the stop
+  pub does_stopped : m.stopped d ≡ true → GoesOn (m.pages a) (m.pages d) → Does m commands (told ++ r ∷ []) a d
+  does_stopped stopped goes = record { goes_on = goes; does = λ going written z s is. stopped_now going written z s is stopped }
+
+-- all commands are done
+pub does_all : {V : Type 0} (m : Meaning V) (commands : List Stamped) (told : List Reply) (a b : V) → length told ≡ length commands
+    → GoesSoFar m commands told a b → GoesOn (m.pages a) (m.pages b) → Does m commands told a b
+unfolding GoesSoFar
+does_all m commands told a b all so_far goes = record {
+  goes_on = goes;
+  does = λ going written z s is.
+      let was = so_far going written z s is in
+      record {
+        holds = was.holds;
+        begun = inl all;
+        losses = was.losses;
+        stops = was.goes ∙ sym was.none;
+        cause = λ stopped. absurd (true≢false (sym stopped ∙ was.goes));
+        stands = λ _. was.state_is;
+      };
+}
+
+-- a done sync has its reply
+covers_all : (commands : List Stamped) (told : List Reply) → Covers commands told (length told)
+covers_all commands told i (command, reply, there, answered, done) = slice_get_within told i reply answered
+
+all_told : (z : Sizes) (s : State) (commands : List Stamped) (told : List Reply) → settled_after z false s commands told (length told) ≡ settled (after z false s commands told).objects
+all_told z s commands told = ap (λ (x : List Reply). settled (after z false s commands x).objects) (take_all (length told) told (omega arith))
+
+-- What an unmount of a volume that goes on answers and leaves.
+pub record UnmountsOne {V : Type 0} (m : Meaning V) (v : V) (q : PagesState) (reply : Reply) : Type 0 where
+  pub replies_are : (reply ≡ replies.Done) ⊎ (reply ≡ replies.Error errors.EIO)
+  pub done : (z : Sizes) (s : State) → m.stands z s v → reply ≡ replies.Done → Shown z q (settled s.objects)
+  pub tree : (z : Sizes) (s : State) → m.stands z s v → (tree : Objects) → Shown z (m.pages v) tree → Shown z q tree ⊎ Shown z q (settled s.objects)
+  pub cause : (z : Sizes) (s : State) → m.stands z s v → reply ≡ replies.Error errors.EIO → HasEnded q
+
+module _ {V : Type 0} (m : Meaning V) (commands : List Stamped) (told : List Reply) (a b : V) (done : Does m commands told a b) where
+  -- the volume is abandoned
+  pub used_abandoned : (device : Device) → device ≡ (m.pages b).device → IsUsed m a commands told None device
+  used_abandoned device is = record {
+    left = m.pages b;
+    device_is = sym is;
+    goes_on = done.goes_on;
+    leaves = λ going written z s tree stands shown.
+        let does = done.does going written z s stands in
+        record {
+          holds = does.holds;
+          begun = does.begun;
+          unmounts = λ reply told. let two : None ≡ Some reply = told in absurd cc;
+          cause = λ why. elim why [
+            | inl stop ↦ does.cause (does.stops ∙ stop)
+            | inr told ↦ let two : None ≡ Some (replies.Error errors.EIO) = told in absurd cc
+          ];
+          losses = does.losses tree shown;
+          done = λ told. let two : None ≡ Some replies.Done = told in absurd cc;
+        };
+  }
+
+  -- an unmount of the volume, which leaves these pages, with this reply
+  module _ (device : Device) (reply : Reply) (q : PagesState) (device_is : q.device ≡ device) (on : GoesOn (m.pages b) q) (stops : m.stopped b ≡ true → (reply ≡ replies.Error errors.EIO) × (q ≡ m.pages b))
+      (goes : m.stopped b ≡ false → UnmountsOne m b q reply) where
+    module _ (going : m.stopped a ≡ false) (written : m.read_only a ≡ false) (z : Sizes) (s : State) (tree : Objects) (stands : m.stands z s a) (shown : Shown z (m.pages a) tree) where
+      does : DoesCommands m z s commands told a b
+      does = done.does going written z s stands
+
+      reply_is : (reply ≡ replies.Done) ⊎ (reply ≡ replies.Error errors.EIO)
+      reply_is = elim (cases_Bool (m.stopped b)) [
+        | inl stopped ↦ inr (stops stopped).0
+        | inr still ↦ (goes still).replies_are
+      ]
+
+      -- the tree that a mount would show before the unmount, or all of the commands
+      turned : m.stopped b ≡ false → (t : Objects) → Shown z (m.pages b) t → Shown z q t ⊎ Shown z q (settled_after z false s commands told (length told))
+      turned still t there = elim ((goes still).tree z (after z false s commands told) (does.stands still) t there) [
+        | inl still ↦ inl still
+        | inr all ↦ inr (subst (Shown z q) (sym (all_told z s commands told)) all)
+      ]
+
+      left_goes : m.stopped b ≡ false → LossLeaves (Shown z (m.pages b)) tree z false s commands told → LossLeaves (Shown z q) tree z false s commands told
+      left_goes going' (inl some) = elim (turned going' (settled_after z false s commands told some.0) some.3) [
+        | inl still ↦ inl (some.0, some.1, some.2, still)
+        | inr all ↦ inl (length told, covers_all commands told, omega arith, all)
+      ]
+      left_goes going' (inr none) = elim (turned going' tree none.1) [
+        | inl still ↦ inr (none.0, still)
+        | inr all ↦ inl (length told, covers_all commands told, omega arith, all)
+      ]
+
+      left_there : LossLeaves (Shown z q) tree z false s commands told
+      left_there = elim (cases_Bool (m.stopped b)) [
+        | inl stopped ↦ subst (λ (p : PagesState). LossLeaves (Shown z p) tree z false s commands told) (sym (stops stopped).1) (does.losses tree shown)
+        | inr still ↦ left_goes still (does.losses tree shown)
+      ]
+
+      done_there : reply ≡ replies.Done → Shown z q (settled_after z false s commands told (length told))
+      done_there is = elim (cases_Bool (m.stopped b)) [
+        | inl stopped ↦ let two : replies.Done ≡ replies.Error errors.EIO = sym is ∙ (stops stopped).0 in absurd cc
+        | inr still ↦ subst (Shown z q) (sym (all_told z s commands told)) ((goes still).done z (after z false s commands told) (does.stands still) is)
+      ]
+
+      ended_there : (list_any is_stop told ≡ true) ⊎ (reply ≡ replies.Error errors.EIO) → HasEnded q
+      ended_there why = elim (cases_Bool (m.stopped b)) [
+        | inl stopped ↦ subst HasEnded (sym (stops stopped).1) (does.cause stopped)
+        | inr still ↦ elim why [
+          | inl stop ↦ absurd (true≢false (sym (does.stops ∙ stop) ∙ still))
+          | inr told' ↦ (goes still).cause z (after z false s commands told) (does.stands still) told'
+        ]
+      ]
+
+      left_from : LeavesFrom z s tree commands told (Some reply) q
+      left_from = record {
+        holds = does.holds;
+        begun = does.begun;
+        unmounts = λ r is. let one : Some reply ≡ Some r = is in let same : reply ≡ r = cc in subst (λ (x : Reply). (x ≡ replies.Done) ⊎ (x ≡ replies.Error errors.EIO)) same reply_is;
+        cause = λ why. elim why [
+          | inl stop ↦ ended_there (inl stop)
+          | inr is ↦ let one : Some reply ≡ Some (replies.Error errors.EIO) = is in let same : reply ≡ replies.Error errors.EIO = cc in ended_there (inr same)
+        ];
+        losses = left_there;
+        done = λ is. let one : Some reply ≡ Some replies.Done = is in let same : reply ≡ replies.Done = cc in done_there same;
+      }
+
+    -- the volume is unmounted
+    pub used_unmounted : IsUsed m a commands told (Some reply) device
+    used_unmounted = record {
+      left = q;
+      device_is = device_is;
+      goes_on = goes_on (m.pages a) (m.pages b) q done.goes_on on;
+      leaves = λ going written z s tree stands shown. left_from going written z s tree stands shown;
+    }

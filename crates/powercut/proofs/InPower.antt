@@ -1,0 +1,243 @@
+-- A mounted volume serves its session, and leaves a sound flash.
+use Rattle.std.specs.Prelude.{◌≡◌, ◌⊎◌, ◌↔◌, ◌<◌, ◌≤◌, ◌^◌, ◌+◌, ◌-◌, ℕ, Bool, true, false, List, [], ◌∷◌, length, Option, Some, None}
+use Rattle.std.specs.List.{list_any}
+use Rattle.std.proofs.Common.{refl, sym, ◌∙◌, ap, subst, inl, inr, arith}
+use Rattle.std.proofs.lemmas.Bool.{cases_Bool, true≢false}
+use Rattle.std.proofs.lemmas.Option.{slice_get_within}
+use Rattle.volume_terms.specs.Sizes.{Sizes}
+use Rattle.nand_model.specs.Flash.{Flash}
+use Rattle.nand_model.specs.Calls.{Device, Lasts}
+use Rattle.nand_model.specs.Changes.{OnlyReads}
+use Rattle.nand_model.specs.laws.Calls.{lasts_on}
+use Rattle.nand_model.specs.declared.geometry.Geometry.{Geometry}
+use Rattle.posix_profile.specs.Losses.{Covers, settled_after}
+use Rattle.posix_profile.specs.Runs.{is_stop}
+use Rattle.posix_profile.specs.State.{Objects}
+use Rattle.posix_profile.specs.laws.Sound.{IsSound as IsSoundState}
+use Rattle.posix_profile.specs.declared.command.Stamped.{Stamped}
+use Rattle.posix_profile.specs.declared.reply.Errno.TheVariants as errors
+use Rattle.posix_profile.specs.declared.reply.Reply.{Reply}
+use Rattle.posix_profile.specs.declared.reply.Reply.TheVariants as replies
+use Rattle.flash_tree.specs.Newest.{Numbers, AreGreatest}
+use Rattle.flash_tree.specs.Numbering.{AreBelow}
+use Rattle.flash_tree.specs.Mount.{Answer, Answers, IsTreeOf, sizes_of, bad_blocks}
+use Rattle.flash_tree.specs.Sound.{IsSound}
+use Rattle.lives.specs.Lives.{MountAnswer, Mounted, NoMemory, Gone, SessionRecord, at_mount, IsSessionFrom, IsLife}
+use Rattle.lives.specs.laws.Sessions.{loss_keeps}
+use Rattle.pages.specs.State.{PagesState, NextNumbers}
+use Rattle.pages.specs.Stores.{GoesOn, HasNumbersLeft, bad_on}
+use Rattle.flash_pages.specs.ReadOnly.{next_after}
+use Rattle.mounting.specs.Made.{CanOnlyBeRead, AreNext}
+use Rattle.paged_objects.specs.Ending.{HasEnded}
+use Rattle.paged_objects.specs.Standing.{volume_of, Shown}
+use Rattle.paged_objects.specs.laws.OnFlash.{shown_sound}
+use Rattle.powercut.specs.Commands.{Meaning, LeavesFrom, IsUsed}
+use Rattle.powercut.specs.Limits.{StaysWithin}
+use Rattle.powercut.specs.Living.{HasSame, AreWithin, HasLived}
+use Rattle.powercut.specs.laws.SameFlash.{same_back, within_same, greatest_same, sound_same}
+use Rattle.powercut.specs.laws.Living.{greatest_within}
+
+-- what is recorded of a session whose mount was done
+abbrev pub mounted_record : List Stamped → List Reply → Option Reply → Bool → SessionRecord
+mounted_record commands told unmounted cut = record {
+  mounted = Mounted;
+  commands = commands;
+  begun = length told;
+  replies = told;
+  unmounted = unmounted;
+  cut = cut;
+}
+
+module _ (z : Sizes) (before : Objects) (commands : List Stamped) (told : List Reply) (unmounted : Option Reply) (left : PagesState)
+    (sound : IsSoundState z (at_mount before)) (leaves : LeavesFrom z (at_mount before) before commands told unmounted left) where
+  -- so many of the commands are in the tree that a mount shows
+  abbrev KeepsSome : Option Reply → Type 0
+  KeepsSome u = (k : ℕ) × Covers commands told k × (k ≤ length told) × Shown z left (settled_after z false (at_mount before) commands told k) × (u ≡ Some replies.Done → k ≡ length told)
+
+  keeps_lost : (u : Option Reply) → (u ≡ Some replies.Done → ⊥) → KeepsSome u
+  keeps_lost u not = let some = loss_keeps (Shown z left) z before commands told sound leaves.losses in (some.0, some.1, some.2, some.3, λ is. absurd (not is))
+
+  keeps_some : (u : Option Reply) → unmounted ≡ u → KeepsSome u
+  keeps_some None is = keeps_lost None (λ done. let two : None ≡ Some replies.Done = done in absurd cc)
+  keeps_some (Some reply) is = elim (leaves.unmounts reply is) [
+    | inl done ↦ (
+      length told,
+      (λ i (command, r, there, answered, synced). slice_get_within told i r answered),
+      omega arith,
+      leaves.done (is ∙ ap Some done),
+      λ same. refl,
+    )
+    | inr stop ↦ keeps_lost (Some reply) (λ done. let two : Some replies.Done ≡ Some (replies.Error errors.EIO) = sym done ∙ ap Some stop in absurd cc)
+  ]
+
+  -- the session, where what ends the use of a volume is a cut
+  pub session_served : (cut : Bool) → (HasEnded left → cut ≡ true)
+      → (after : Objects) × IsSessionFrom z before (mounted_record commands told unmounted cut) after × Shown z left after
+  session_served cut ends =
+      let some = keeps_some unmounted refl in (
+        settled_after z false (at_mount before) commands told some.0,
+        record {
+          ends = inr (record {
+            mounted = refl;
+            answered = refl;
+            run = leaves.holds;
+            begun = leaves.begun;
+            unmounted = leaves.unmounts;
+            keeps = record { count = some.0; covers = some.1; within = some.2; unmounted = some.4; tree = refl };
+          });
+          cuts = record {
+            mount = λ is. let two : Mounted ≡ Gone = is in absurd cc;
+            commands = λ stops. ends (leaves.cause (inl stops));
+            unmount = λ is. ends (leaves.cause (inr is));
+          };
+        },
+        some.3,
+      )
+
+-- what the calls of a device keep is kept over the whole use
+pub used_lasts : {V : Type 0} (m : Meaning V) (v : V) (d e : Device) (commands : List Stamped) (told : List Reply) (unmounted : Option Reply) → OnlyReads d (m.pages v).device → IsUsed m v commands told unmounted e → Lasts d e
+used_lasts m v d e commands told unmounted reads used = subst (λ (x : Device). Lasts d x) used.device_is (lasts_on d (m.pages v).device used.left.device reads.lasts used.goes_on.device)
+
+-- what stands on the flash is within the greatest numbers at first and one more for each change
+numbers_written : (p q : PagesState) → GoesOn p q → p.device.honest ≡ true → (n : Numbers) → AreGreatest p.device.flash n → p.next ≡ next_after n
+    → (more : ℕ) → q.device.changes ≡ p.device.changes + more → AreWithin q.device.flash (n.group + more) (n.seq + more)
+numbers_written p q goes honest n greatest next more risen b k t good has =
+    let group : p.next.group ≡ n.group + 1 = ap (λ (x : NextNumbers). x.group) next in
+    let seq : p.next.seq ≡ n.seq + 1 = ap (λ (x : NextNumbers). x.seq) next in
+    let below : AreBelow p.device.flash p.next.group p.next.seq = λ c l u whole there.
+    let at = greatest.above c l u whole there in
+    let valid = there.valid.version.1 in
+    (omega (arith, at.1, valid, group), omega (arith, at.1, group), omega (arith, at.2, seq)) in
+    let all = goes.numbers.written honest below more risen b k t good has in
+    (omega (arith, all.1, group), omega (arith, all.2, seq))
+
+-- The volume stands for the tree that its device shows, with no descriptor open; and a mount would show the tree again.
+pub record Stands {V : Type 0} (m : Meaning V) (v : V) (objects : Objects) : Type 0 where
+  pub answers : Answers (m.pages v).device.geometry (m.pages v).device.flash (IsTreeOf (m.pages v).spare objects)
+  pub volume : m.stands (volume_of (m.pages v)) (at_mount objects) v
+  pub sound : IsSoundState (volume_of (m.pages v)) (at_mount objects)
+  pub shown : Shown (volume_of (m.pages v)) (m.pages v) objects
+
+module _ {V : Type 0} (m : Meaning V) (v : V) (d e : Device) (commands : List Stamped) (told : List Reply) (unmounted : Option Reply) (honest : d.honest ≡ true)
+    (one : (g : Geometry) (flash : Flash) (a b : Answer) → Answers g flash a → Answers g flash b → a ≡ b)
+    (reads : OnlyReads d (m.pages v).device) (goes : m.stopped v ≡ false) (read_only : (m.read_only v ≡ true) ↔ CanOnlyBeRead (m.pages v))
+    (next : AreNext (m.pages v).device.flash (m.pages v).next) (objects : Objects) (stands : Stands m v objects)
+    (used : IsUsed m v commands told unmounted e) where
+  abbrev p : PagesState
+  p = m.pages v
+
+  abbrev q : PagesState
+  q = used.left
+
+  same : HasSame d.flash p.device.flash
+  same = record { page = reads.page honest; bad = reads.bad }
+
+  p_honest : p.device.honest ≡ true
+  p_honest = reads.lasts.honest ∙ honest
+
+  abbrev n : Numbers
+  n = next.0
+
+  at_first : AreGreatest d.flash n
+  at_first = greatest_same p.device.flash d.flash (same_back d.flash p.device.flash same) n next.1
+
+  lasts : Lasts d q.device
+  lasts = lasts_on d p.device q.device reads.lasts used.goes_on.device
+
+  next_group : p.next.group ≡ n.group + 1
+  next_group = ap (λ (x : NextNumbers). x.group) next.2
+
+  next_seq : p.next.seq ≡ n.seq + 1
+  next_seq = ap (λ (x : NextNumbers). x.seq) next.2
+
+  numbers : (group seq more : ℕ) → AreWithin d.flash group seq → q.device.changes ≡ d.changes + more → AreWithin q.device.flash (group + more) (seq + more)
+  numbers group seq more within risen k t tag good has =
+      let at = greatest_within d.flash n group seq at_first within in
+      let all = numbers_written p q used.goes_on p_honest n next.1 next.2 more (risen ∙ ap (λ m. m + more) (sym reads.changes)) k t tag good has in
+      (omega (arith, all.0, at.1), omega (arith, all.1, at.2))
+
+  module _ (spare : ℕ) (tree : Objects) (sound : IsSound d.geometry d.flash spare tree) (within : StaysWithin spare d q.device) where
+    sound_there : IsSound p.device.geometry p.device.flash spare tree
+    sound_there = subst (λ (g : Geometry). IsSound g p.device.flash spare tree) (sym reads.lasts.geometry) (sound_same d.geometry d.flash p.device.flash same spare tree sound)
+
+    found : IsTreeOf p.spare objects ≡ IsTreeOf spare tree
+    found = one p.device.geometry p.device.flash (IsTreeOf p.spare objects) (IsTreeOf spare tree) stands.answers (sound_there.volume, sound_there.shows, sound_there.room)
+
+    spare_is : p.spare ≡ spare
+    spare_is = let is = found in cc
+
+    tree_is : objects ≡ tree
+    tree_is = let is = found in cc
+
+    can_be_written : CanOnlyBeRead p → ⊥
+    can_be_written (inl many) = let few = sound_there.few_bad in let is = spare_is in omega (arith, many, few, is)
+    can_be_written (inr (inl group)) = let most = (next.1.least _ sound_there.numbers).1 in let is = next_group in omega (arith, group, most, is)
+    can_be_written (inr (inr seq)) = let most = (next.1.least _ sound_there.numbers).2 in let is = next_seq in omega (arith, seq, most, is)
+
+    is_written : m.read_only v ≡ false
+    is_written = elim (cases_Bool (m.read_only v)) [
+      | inl yes' ↦ absurd (can_be_written (read_only.0 yes'))
+      | inr not ↦ not
+    ]
+
+    -- the groups and the seqs that are left do not run out while the device has power
+    groups_left : q.device.gone ≡ false → q.next.group < 2 ^ 62
+    groups_left power =
+        let rose = used.goes_on.numbers.groups p_honest power in
+        let first = next_group in
+        let changes = reads.changes in
+        let lt = within.groups n at_first in
+        omega (arith, rose, first, changes, lt)
+
+    seqs_left : q.next.seq < 2 ^ 62
+    seqs_left =
+        let rose = used.goes_on.numbers.seqs in
+        let first = next_seq in
+        let changes = reads.changes in
+        let lt = within.seqs n at_first in
+        omega (arith, rose, first, changes, lt)
+
+    -- nothing but a cut ends the use
+    ends_by_cut : HasEnded q → q.device.gone ≡ true
+    ends_by_cut (inl (inl gone)) = gone
+    ends_by_cut (inl (inr dishonest)) = absurd (true≢false (sym (lasts.honest ∙ honest) ∙ dishonest))
+    ends_by_cut (inr (inl group)) = elim (cases_Bool q.device.gone) [
+      | inl gone ↦ gone
+      | inr power ↦ absurd (omega (arith, group, groups_left power))
+    ]
+    ends_by_cut (inr (inr (inl seq))) = absurd (omega (arith, seq, seqs_left))
+    ends_by_cut (inr (inr (inr many))) = let few = within.few_bad in let kept = used.goes_on.spare in let is = spare_is in absurd (omega (arith, many, few, kept, is))
+
+    left_sound : (after : Objects) → Shown (volume_of p) q after → IsSound q.device.geometry q.device.flash spare after
+    left_sound after shown =
+        let few = within.few_bad in
+        let is : q.spare ≡ spare = used.goes_on.spare ∙ spare_is in
+        subst (λ k. IsSound q.device.geometry q.device.flash k after) is
+        (shown_sound (volume_of p) q after shown (lasts.honest ∙ honest) (used.goes_on.limits p_honest sound_there.numbers) (omega (arith, few, is)))
+
+    sizes_are : volume_of p ≡ sizes_of d.geometry spare
+    sizes_are = ap (λ (g : Geometry). sizes_of g p.spare) reads.lasts.geometry ∙ ap (λ k. sizes_of d.geometry k) spare_is
+
+    life : (after : Objects) × IsLife (sizes_of d.geometry spare) tree (mounted_record commands told unmounted q.device.gone ∷ []) after × IsSound q.device.geometry q.device.flash spare after
+    life =
+        let leaves = used.leaves goes is_written (volume_of p) (at_mount objects) objects stands.volume stands.shown in
+        let session = session_served (volume_of p) objects commands told unmounted q stands.sound leaves q.device.gone ends_by_cut in
+        let record_told = mounted_record commands told unmounted q.device.gone in
+        let from_tree = subst (λ (x : Objects). IsSessionFrom (volume_of p) x record_told session.0) tree_is session.1 in
+        let of_sizes = subst (λ (z : Sizes). IsSessionFrom z tree record_told session.0) sizes_are from_tree in
+        (session.0, (session.0, of_sizes, refl), left_sound session.0 session.2)
+
+  lived_there : HasLived d q.device (mounted_record commands told unmounted q.device.gone ∷ [])
+  lived_there = record {
+    geometry = lasts.geometry;
+    honest = lasts.honest;
+    changes = lasts.changes;
+    marks = lasts.marks;
+    numbers = numbers;
+    known = inr (n, at_first);
+    life = life;
+  }
+
+  -- from the device at the mount to the device that is given back
+  pub used_lived : HasLived d e (mounted_record commands told unmounted e.gone ∷ [])
+  used_lived = subst (λ (x : Device). HasLived d x (mounted_record commands told unmounted x.gone ∷ [])) used.device_is lived_there

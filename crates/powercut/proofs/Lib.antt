@@ -1,0 +1,5 @@
+mod Lasting
+mod Doing
+mod InPower
+mod FailedMount
+mod Standing

@@ -1,0 +1,63 @@
+use Rattle.std.specs.Prelude.{◌≡◌, ◌+◌, ◌++◌, ◌<◌, List, [], ◌∷◌, length, Some, slice_get}
+use Rattle.std.proofs.Common.{refl, sym, ◌∙◌, ap, subst, arith}
+use Rattle.std.proofs.lemmas.List.{length_push}
+use Rattle.posix_profile.specs.declared.reply.Reply.{Reply}
+use Rattle.paged_objects.specs.laws.Going.{goes_here, goes_on}
+use Rattle.powercut.specs.Commands.{Does}
+use Rattle.powercut.specs.laws.Lists.{at_index}
+use Rattle.powercut.proofs.Doing.{GoesSoFar, well_none, well_more, does_stopped, does_all}
+use Rattle.powercut.proofs.commands.do_commands.Goals as goal
+
+pub loop-stamped-init : goal.loop-stamped-init
+loop-stamped-init g c =
+    let m = g.V.Commanded.meaning in
+    let none : c.new-replies.result.items ≡ [] = c.new-replies.ensures.items in
+    record {
+      count = ap (λ (rs : List Reply). length rs) none;
+      goes_on = goes_here (m.pages c.args.volume.now);
+      read_only = refl;
+      does = subst (λ (rs : List Reply). GoesSoFar m c.args.commands.now rs c.args.volume.now c.args.volume.now) (sym none) (well_none m c.args.commands.now c.args.volume.now);
+    }
+
+pub loop-stamped-preserved : goal.loop-stamped-preserved
+loop-stamped-preserved g c =
+    let m = g.V.Commanded.meaning in
+    let commands = c.args.commands.now in
+    let was = c.loop-stamped.invariant in
+    let told = c.loop-stamped.replies.items in
+    let stamped = c.stamped-item.result in
+    let reply = c.answer-reply.result in
+    let lt : c.loop-stamped.stamped-index < length commands = omega (arith, c.loop-stamped-test.true) in
+    let at : slice_get commands (length told) ≡ Some stamped = ap (slice_get commands) was.count ∙ at_index commands c.loop-stamped.stamped-index stamped lt c.stamped-item.is in
+    let pushed : c.push.new.self.items ≡ told ++ reply ∷ [] = c.in_ok-push.ensures.items ∙ ap (λ (rs : List Reply). rs ++ reply ∷ []) c.reserve.ensures.items in
+    record {
+      count = let more : length c.push.new.self.items ≡ length told + 1 = ap (λ (rs : List Reply). length rs) pushed ∙ length_push told reply in more ∙ ap (λ n. n + 1) was.count;
+      goes_on = goes_on (m.pages c.args.volume.now) (m.pages c.loop-stamped.volume) (m.pages c.answer-reply.new.self) was.goes_on c.answer-reply.ensures.goes_on;
+      read_only = c.answer-reply.ensures.read_only ∙ was.read_only;
+      does = subst (λ (rs : List Reply). GoesSoFar m commands rs c.args.volume.now c.answer-reply.new.self) (sym pushed)
+          (well_more m commands told stamped reply c.args.volume.now c.loop-stamped.volume c.answer-reply.new.self at was.read_only was.does c.answer-reply.ensures.one
+          (sym c.is_stopped.ensures ∙ c.if-is_stopped.false));
+    }
+
+pub returns-then-is_stopped : goal.returns-then-is_stopped
+returns-then-is_stopped g c =
+    let m = g.V.Commanded.meaning in
+    let commands = c.args.commands.now in
+    let was = c.loop-stamped.invariant in
+    let told = c.loop-stamped.replies.items in
+    let stamped = c.stamped-item.result in
+    let reply = c.answer-reply.result in
+    let lt : c.loop-stamped.stamped-index < length commands = omega (arith, c.loop-stamped-test.true) in
+    let at : slice_get commands (length told) ≡ Some stamped = ap (slice_get commands) was.count ∙ at_index commands c.loop-stamped.stamped-index stamped lt c.stamped-item.is in
+    let pushed : c.push.new.self.items ≡ told ++ reply ∷ [] = c.in_ok-push.ensures.items ∙ ap (λ (rs : List Reply). rs ++ reply ∷ []) c.reserve.ensures.items in
+    subst (λ (rs : List Reply). Does m commands rs c.args.volume.now c.answer-reply.new.self) (sym pushed)
+    (does_stopped m commands told stamped reply c.args.volume.now c.loop-stamped.volume c.answer-reply.new.self at was.read_only was.does c.answer-reply.ensures.one
+    (sym c.is_stopped.ensures ∙ c.if-is_stopped.true)
+    (goes_on (m.pages c.args.volume.now) (m.pages c.loop-stamped.volume) (m.pages c.answer-reply.new.self) was.goes_on c.answer-reply.ensures.goes_on))
+
+pub returns : goal.returns
+returns g c =
+    let m = g.V.Commanded.meaning in
+    let was = c.loop-stamped.invariant in
+    let all : length c.loop-stamped.replies.items ≡ length c.args.commands.now = omega (arith, was.count, c.loop-stamped-test.false, c.loop-stamped.auto.stamped-index-end) in
+    does_all m c.args.commands.now c.loop-stamped.replies.items c.args.volume.now c.loop-stamped.volume all was.does was.goes_on

@@ -1,0 +1,46 @@
+use Rattle.std.specs.Prelude.{◌≡◌, ◌+◌, ◌++◌, ◌<◌, ℕ, List, [], ◌∷◌, length, Some, slice_get}
+use Rattle.std.proofs.Common.{refl, sym, ◌∙◌, ap, subst, arith}
+use Rattle.std.proofs.lemmas.List.{length_push}
+use Rattle.nand_model.specs.MemoryState.{device}
+use Rattle.lives.specs.Lives.{SessionRecord}
+use Rattle.powercut.specs.Living.{HasLived}
+use Rattle.powercut.specs.Sessions.{record_of, records_of, UnmountsAsAsked, CutsByFuses, cuts_in}
+use Rattle.powercut.specs.declared.session.Session.{Session}
+use Rattle.powercut.specs.declared.session.SessionEnd.{SessionEnd}
+use Rattle.powercut.specs.laws.Lists.{no_records, no_unmounts, no_fuses, records_more, unmounts_more, fuses_more, cuts_more, at_index}
+use Rattle.powercut.specs.laws.Living.{lived_here, lived_on}
+use Rattle.powercut.proofs.life.live.Goals as goal
+
+pub loop-session-init : goal.loop-session-init
+loop-session-init c =
+    let sessions = c.args.sessions.now in
+    let none : c.new-ends.result.items ≡ [] = c.new-ends.ensures.items in
+    record {
+      count = ap (λ (ends : List SessionEnd). length ends) none;
+      lived = subst (λ (ends : List SessionEnd). HasLived (device c.args.nand) (device c.args.nand) (records_of sessions ends)) (sym none)
+          (subst (λ (rs : List SessionRecord). HasLived (device c.args.nand) (device c.args.nand) rs) (sym (no_records sessions)) (lived_here (device c.args.nand)));
+      unmounts = subst (λ (ends : List SessionEnd). UnmountsAsAsked sessions ends) (sym none) (no_unmounts sessions);
+      cuts = let zero : cuts_in c.new-ends.result.items ≡ 0 = ap cuts_in none in omega (arith, zero);
+      fuses = subst (λ (ends : List SessionEnd). CutsByFuses sessions ends) (sym none) (no_fuses sessions);
+    }
+
+pub loop-session-preserved : goal.loop-session-preserved
+loop-session-preserved c =
+    let sessions = c.args.sessions.now in
+    let was = c.loop-session.invariant in
+    let ends = c.loop-session.ends.items in
+    let end = c.in_ok-after.end in
+    let session = c.session-item.result in
+    let one = c.in_ok-after.ensures in
+    let lt : c.loop-session.session-index < length sessions = omega (arith, c.loop-session-test.true) in
+    let at : slice_get sessions (length ends) ≡ Some session = ap (slice_get sessions) was.count ∙ at_index sessions c.loop-session.session-index session lt c.session-item.is in
+    let pushed : c.push.new.self.items ≡ ends ++ end ∷ [] = c.in-Ok.ensures.items ∙ ap (λ (xs : List SessionEnd). xs ++ end ∷ []) c.reserve.ensures.items in
+    let both = lived_on (device c.args.nand) (device c.loop-session.last) (device c.in_ok-after.after) (records_of sessions ends) (record_of session end ∷ []) was.lived one.lived in
+    record {
+      count = let more : length c.push.new.self.items ≡ length ends + 1 = ap (λ (xs : List SessionEnd). length xs) pushed ∙ length_push ends end in more ∙ ap (λ n. n + 1) was.count;
+      lived = subst (λ (xs : List SessionEnd). HasLived (device c.args.nand) (device c.in_ok-after.after) (records_of sessions xs)) (sym pushed)
+          (subst (λ (rs : List SessionRecord). HasLived (device c.args.nand) (device c.in_ok-after.after) rs) (sym (records_more sessions ends session end at)) both);
+      unmounts = subst (λ (xs : List SessionEnd). UnmountsAsAsked sessions xs) (sym pushed) (unmounts_more sessions ends session end at was.unmounts one.unmounts);
+      cuts = let all : cuts_in c.push.new.self.items ≡ cuts_in (ends ++ end ∷ []) = ap cuts_in pushed in omega (arith, all, cuts_more ends end, was.cuts, one.cuts);
+      fuses = subst (λ (xs : List SessionEnd). CutsByFuses sessions xs) (sym pushed) (fuses_more sessions ends session end at was.fuses one.fuse);
+    }

@@ -1,0 +1,23 @@
+use Rattle.std.specs.Prelude.{◌≡◌, List, [], ◌∷◌}
+use Rattle.std.proofs.Common.{sym, subst}
+use Rattle.posix_profile.specs.declared.reply.Reply.{Reply}
+use Rattle.powercut.specs.Living.{HasLived}
+use Rattle.powercut.proofs.FailedMount.{failed_lived, of_no_replies}
+use Rattle.powercut.proofs.InPower.{used_lasts, used_lived}
+use Rattle.powercut.proofs.Standing.{stands_there}
+use Rattle.powercut.proofs.serving.serve.Goals as goal
+
+pub returns-in_ok-device-in-Ok-clause-lasts : goal.returns-in_ok-device-in-Ok-clause-lasts
+returns-in_ok-device-in-Ok-clause-lasts g c = used_lasts _ c.in-Ok.volume _ _ c.args.commands.now _ _ c.in-Ok.ensures.reads c.in_ok-device-in-Ok.ensures.used
+
+pub returns-in_ok-device-in-Ok-clause-lived : goal.returns-in_ok-device-in-Ok-clause-lived
+returns-in_ok-device-in-Ok-clause-lived g c = λ power honest.
+    let mounted = c.in-Ok.ensures in
+    let tree = mounted.tree honest in
+    used_lived _ c.in-Ok.volume _ _ c.args.commands.now _ _ honest c.a_flash_has_one_answer_at_most.ensures mounted.reads mounted.goes_on mounted.read_only (mounted.next honest) tree.0
+    (stands_there _ _ c.in-Ok.volume tree.0 tree.1) c.in_ok-device-in-Ok.ensures.used
+
+pub returns-in-Err-clause-lived : goal.returns-in-Err-clause-lived
+returns-in-Err-clause-lived g c = λ power honest.
+    of_no_replies _ _ c.args.commands.now _ _ c.new.result.items c.new.ensures.items
+    (failed_lived c.a_flash_has_one_answer_at_most.ensures _ _ c.args.commands.now honest c.in-Err.ensures.back c.in-Err.fault c.in-Err.ensures.fault)

@@ -1,0 +1,70 @@
+-- The commands of a session, done one by one up to the end or to the stop, and how the volume is left behind them.
+-- From: this project.
+use Rattle.std.specs.Prelude.{◌≡◌, ◌⊎◌, ℕ, Bool, true, false, List, length, Option, Some}
+use Rattle.std.specs.List.{list_any}
+use Rattle.volume_terms.specs.Sizes.{Sizes}
+use Rattle.nand_model.specs.Calls.{Device}
+use Rattle.object_store.specs.Stores.{settled}
+use Rattle.posix_profile.specs.Losses.{is_synced, LossLeaves, settled_after}
+use Rattle.posix_profile.specs.Runs.{Replies, is_stop, after_one, after, RunHolds}
+use Rattle.posix_profile.specs.State.{Objects, State}
+use Rattle.posix_profile.specs.declared.command.Stamped.{Stamped}
+use Rattle.posix_profile.specs.declared.reply.Errno.TheVariants as errors
+use Rattle.posix_profile.specs.declared.reply.Reply.{Reply}
+use Rattle.posix_profile.specs.declared.reply.Reply.TheVariants as replies
+use Rattle.lives.specs.Lives.{EndsStopped}
+use Rattle.pages.specs.State.{PagesState}
+use Rattle.pages.specs.Stores.{GoesOn}
+use Rattle.paged_objects.specs.Ending.{HasEnded}
+use Rattle.paged_objects.specs.Standing.{Shown}
+
+-- what a volume is: its pages, the states that it stands for, whether it is stopped, and whether it can only be read
+pub record Meaning (V : Type 0) : Type 1 where
+  pub pages : V → PagesState
+  pub stands : Sizes → State → V → Type 0
+  pub stopped : V → Bool
+  pub read_only : V → Bool
+
+-- What one command answers and leaves, from a state of a volume that goes on.
+pub record DoesOne {V : Type 0} (m : Meaning V) (z : Sizes) (s : State) (stamped : Stamped) (reply : Reply) (a b : V) : Type 0 where
+  pub stops : m.stopped b ≡ is_stop reply
+  pub right : Replies z (m.read_only a) s stamped reply
+  pub stands : is_stop reply ≡ false → m.stands z (after_one z (m.read_only a) s stamped reply) b
+  pub tree : (tree : Objects) → Shown z (m.pages a) tree → Shown z (m.pages b) tree ⊎ Shown z (m.pages b) (settled s.objects)
+  pub synced : is_synced stamped.command reply ≡ true → Shown z (m.pages b) (settled s.objects)
+  pub cause : is_stop reply ≡ true → HasEnded (m.pages b)
+
+-- From a state: the replies are right, and all commands are answered unless the last reply is EIO; a mount shows the tree after
+-- some of the commands, at least those that a sync covers; the volume is stopped exactly where a reply is EIO, and then for its
+-- reason, and else it stands for the state after the commands.
+pub record DoesCommands {V : Type 0} (m : Meaning V) (z : Sizes) (s : State) (commands : List Stamped) (answered : List Reply) (a b : V) : Type 0 where
+  pub holds : RunHolds z false s commands answered
+  pub begun : (length answered ≡ length commands) ⊎ EndsStopped answered
+  pub losses : (tree : Objects) → Shown z (m.pages a) tree → LossLeaves (Shown z (m.pages b)) tree z false s commands answered
+  pub stops : m.stopped b ≡ list_any is_stop answered
+  pub cause : m.stopped b ≡ true → HasEnded (m.pages b)
+  pub stands : m.stopped b ≡ false → m.stands z (after z false s commands answered) b
+
+-- the same of a volume that goes on and is not read-only
+pub record Does {V : Type 0} (m : Meaning V) (commands : List Stamped) (answered : List Reply) (a b : V) : Type 0 where
+  pub goes_on : GoesOn (m.pages a) (m.pages b)
+  pub does : m.stopped a ≡ false → m.read_only a ≡ false → (z : Sizes) (s : State) → m.stands z s a → DoesCommands m z s commands answered a b
+
+-- From a state and a tree that a mount would show: the replies are right, and all commands are answered unless the last reply is
+-- EIO; the unmount, if there is one, is done or it is EIO, as a reply is, for its reason; and the pages that are left show the
+-- tree after some of the commands, at least those that a sync covers, and after all of them where the unmount is done.
+pub record LeavesFrom (z : Sizes) (s : State) (tree : Objects) (commands : List Stamped) (answered : List Reply) (unmounted : Option Reply) (left : PagesState) : Type 0 where
+  pub holds : RunHolds z false s commands answered
+  pub begun : (length answered ≡ length commands) ⊎ EndsStopped answered
+  pub unmounts : (reply : Reply) → unmounted ≡ Some reply → (reply ≡ replies.Done) ⊎ (reply ≡ replies.Error errors.EIO)
+  pub cause : (list_any is_stop answered ≡ true) ⊎ (unmounted ≡ Some (replies.Error errors.EIO)) → HasEnded left
+  pub losses : LossLeaves (Shown z left) tree z false s commands answered
+  pub done : unmounted ≡ Some replies.Done → Shown z left (settled_after z false s commands answered (length answered))
+
+-- What is done with a volume from its mount on: the commands, and an unmount, or none. Its device is given back.
+pub record IsUsed {V : Type 0} (m : Meaning V) (v : V) (commands : List Stamped) (answered : List Reply) (unmounted : Option Reply) (device : Device) : Type 0 where
+  pub left : PagesState
+  pub device_is : left.device ≡ device
+  pub goes_on : GoesOn (m.pages v) left
+  pub leaves : m.stopped v ≡ false → m.read_only v ≡ false → (z : Sizes) (s : State) (tree : Objects) → m.stands z s v → Shown z (m.pages v) tree
+      → LeavesFrom z s tree commands answered unmounted left

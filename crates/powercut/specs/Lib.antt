@@ -1,0 +1,7 @@
+pub mod Sessions
+pub mod Limits
+pub mod Living
+pub mod Commands
+pub mod Starting
+pub mod Serving
+pub mod laws

@@ -1,0 +1,35 @@
+-- What sessions in turn make of a device, and the life that they are.
+-- From: this project.
+use Rattle.std.specs.Prelude.{◌≡◌, ◌⊎◌, ◌≤◌, ◌+◌, ℕ, true, false, List}
+use Rattle.nand_model.specs.Flash.{Flash}
+use Rattle.nand_model.specs.Calls.{Device}
+use Rattle.page_tags.specs.declared.tag.Tag.{Tag}
+use Rattle.flash_tree.specs.Groups.{HasTag}
+use Rattle.flash_tree.specs.Newest.{Numbers, AreGreatest}
+use Rattle.flash_tree.specs.Mount.{sizes_of}
+use Rattle.flash_tree.specs.Sound.{IsSound}
+use Rattle.posix_profile.specs.State.{Objects}
+use Rattle.lives.specs.Lives.{SessionRecord, IsLife}
+use Rattle.powercut.specs.Limits.{StaysWithin}
+
+-- the pages and the marks are the same
+pub record HasSame (old new : Flash) : Type 0 where
+  pub page : new.page ≡ old.page
+  pub bad : new.bad ≡ old.bad
+
+-- no valid tag of a good block has a group or a seq above these
+abbrev pub AreWithin : Flash → (group seq : ℕ) → Type 0
+AreWithin flash group seq = (b p : ℕ) (t : Tag) → flash.bad b ≡ false → HasTag flash b p t → (t.group ≤ group) × (t.seq ≤ seq)
+
+-- The one device became the other in these sessions. Marks stay; the numbers on the flash rise by no more than the changes
+-- that were counted; its greatest numbers at first are known, unless nothing was changed; and from each tree of a sound flash,
+-- as long as the limits are kept, the sessions are a life to the tree that is there now.
+pub record HasLived (first last : Device) (sessions : List SessionRecord) : Type 0 where
+  pub geometry : last.geometry ≡ first.geometry
+  pub honest : last.honest ≡ first.honest
+  pub changes : first.changes ≤ last.changes
+  pub marks : (b : ℕ) → first.flash.bad b ≡ true → last.flash.bad b ≡ true
+  pub numbers : (group seq more : ℕ) → AreWithin first.flash group seq → last.changes ≡ first.changes + more → AreWithin last.flash (group + more) (seq + more)
+  pub known : HasSame first.flash last.flash ⊎ ((n : Numbers) × AreGreatest first.flash n)
+  pub life : (spare : ℕ) (tree : Objects) → IsSound first.geometry first.flash spare tree → StaysWithin spare first last
+      → (left : Objects) × IsLife (sizes_of first.geometry spare) tree sessions left × IsSound last.geometry last.flash spare left

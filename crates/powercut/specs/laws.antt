@@ -1,0 +1,3 @@
+pub mod SameFlash
+pub mod Living
+pub mod Lists

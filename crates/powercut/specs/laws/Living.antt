@@ -1,0 +1,113 @@
+-- Sessions in turn.
+use Rattle.std.specs.Prelude.{◌≡◌, ◌⊎◌, ◌<◌, ◌≤◌, ◌+◌, ◌-◌, ◌++◌, ℕ, true, false, List, []}
+use Rattle.std.proofs.Common.{refl, sym, ◌∙◌, ap, subst, inl, inr, arith}
+use Rattle.nand_model.specs.Flash.{Flash}
+use Rattle.nand_model.specs.Calls.{Device}
+use Rattle.nand_model.specs.declared.geometry.Geometry.{Geometry}
+use Rattle.posix_profile.specs.State.{Objects}
+use Rattle.volume_terms.specs.Sizes.{Sizes, number_limit}
+use Rattle.flash_tree.specs.Newest.{Numbers, AreAbove, AreGreatest}
+use Rattle.flash_tree.specs.Mount.{sizes_of, bad_blocks}
+use Rattle.flash_tree.specs.Sound.{IsSound}
+use Rattle.lives.specs.Lives.{SessionRecord, IsLife}
+use Rattle.lives.specs.laws.LifeLaws.{life_append}
+use Rattle.powercut.specs.Limits.{StaysWithin}
+use Rattle.powercut.specs.Living.{HasSame, AreWithin, HasLived}
+use Rattle.powercut.specs.laws.SameFlash.{same_on, sound_same, within_same, greatest_same, bad_more}
+
+-- the greatest numbers are within what all are within, the versions within the groups
+pub greatest_within : (f : Flash) (n : Numbers) (group seq : ℕ) → AreGreatest f n → AreWithin f group seq → (n.version ≤ group) × (n.group ≤ group) × (n.seq ≤ seq)
+greatest_within f n group seq greatest within =
+    greatest.least (record { version = group; group = group; seq = seq }) (λ b p t good has.
+    let at = within b p t good has in
+    let valid = has.valid.version.1 in
+    (omega (arith, at.0, valid), at.0, at.1))
+
+-- and all are within the greatest
+pub within_greatest : (f : Flash) (n : Numbers) → AreGreatest f n → AreWithin f n.group n.seq
+within_greatest f n greatest b p t good has = let at = greatest.above b p t good has in (at.1, at.2)
+
+-- a device that is not changed has lived through nothing
+pub lived_still : (a b : Device) → b.geometry ≡ a.geometry → b.honest ≡ a.honest → b.changes ≡ a.changes → HasSame a.flash b.flash → HasLived a b []
+lived_still a b geometry honest changes same = record {
+  geometry = geometry;
+  honest = honest;
+  changes = omega (arith, changes);
+  marks = λ k is. ap (λ bad. bad k) same.bad ∙ is;
+  numbers = λ group seq more within e.
+      let none : more ≡ 0 = omega (arith, changes, e) in
+      subst (λ n. AreWithin b.flash (group + n) (seq + n)) (sym none) (λ k p t good has. let at = within_same a.flash b.flash same group seq within k p t good has in (omega (arith, at.0), omega (arith, at.1)));
+  known = inl same;
+  life = λ spare tree sound within. (tree, refl, subst (λ (g : Geometry). IsSound g b.flash spare tree) (sym geometry) (sound_same a.geometry a.flash b.flash same spare tree sound));
+}
+
+module _ (a b c : Device) (xs ys : List SessionRecord) (first : HasLived a b xs) (then : HasLived b c ys) where
+  -- the limits of the whole are kept in the earlier sessions
+  earlier : (spare : ℕ) → StaysWithin spare a c → StaysWithin spare a b
+  earlier spare within =
+      let more = then.changes in
+      let fewer : bad_blocks b.geometry b.flash ≤ bad_blocks b.geometry c.flash = bad_more b.geometry b.flash c.flash then.marks in
+      let few : bad_blocks b.geometry c.flash ≤ spare = subst (λ (g : Geometry). bad_blocks g c.flash ≤ spare) then.geometry within.few_bad in
+      record {
+        few_bad = omega (arith, fewer, few);
+        versions = λ n greatest. let lt = within.versions n greatest in omega (arith, lt, more);
+        groups = λ n greatest. let lt = within.groups n greatest in omega (arith, lt, more);
+        seqs = λ n greatest. let lt = within.seqs n greatest in omega (arith, lt, more);
+      }
+
+  -- and in the later ones
+  later : (spare : ℕ) → StaysWithin spare a c → StaysWithin spare b c
+  later spare within = elim first.known [
+    | inl same ↦
+        let rose = first.changes in record {
+          few_bad = within.few_bad;
+          versions = λ n greatest. let lt = within.versions n (greatest_same b.flash a.flash (record { page = sym same.page; bad = sym same.bad }) n greatest) in omega (arith, lt, rose);
+          groups = λ n greatest. let lt = within.groups n (greatest_same b.flash a.flash (record { page = sym same.page; bad = sym same.bad }) n greatest) in omega (arith, lt, rose);
+          seqs = λ n greatest. let lt = within.seqs n (greatest_same b.flash a.flash (record { page = sym same.page; bad = sym same.bad }) n greatest) in omega (arith, lt, rose);
+        }
+    | inr m ↦
+        let rose = first.changes in
+        let group = within.groups m.0 m.1 in
+        let seq = within.seqs m.0 m.1 in
+        let all = first.numbers m.0.group m.0.seq (b.changes - a.changes) (within_greatest a.flash m.0 m.1) (omega (arith, rose)) in record {
+          few_bad = within.few_bad;
+          versions = λ n greatest. let at = (greatest_within b.flash n _ _ greatest all).0 in omega (arith, at, group, rose);
+          groups = λ n greatest. let at = (greatest_within b.flash n _ _ greatest all).1 in omega (arith, at, group, rose);
+          seqs = λ n greatest. let at = (greatest_within b.flash n _ _ greatest all).2 in omega (arith, at, seq, rose);
+        }
+  ]
+
+  known_on : HasSame a.flash c.flash ⊎ ((n : Numbers) × AreGreatest a.flash n)
+  known_on = elim first.known [
+    | inl same ↦ elim then.known [
+      | inl again ↦ inl (same_on a.flash b.flash c.flash same again)
+      | inr m ↦ inr (m.0, greatest_same b.flash a.flash (record { page = sym same.page; bad = sym same.bad }) m.0 m.1)
+    ]
+    | inr m ↦ inr m
+  ]
+
+  -- sessions in turn
+  pub lived_on : HasLived a c (xs ++ ys)
+  lived_on = record {
+    geometry = then.geometry ∙ first.geometry;
+    honest = then.honest ∙ first.honest;
+    changes = let one = first.changes in let two = then.changes in omega (arith, one, two);
+    marks = λ k is. then.marks k (first.marks k is);
+    numbers = λ group seq more within e.
+        let one = first.changes in
+        let two = then.changes in
+        let mid = first.numbers group seq (b.changes - a.changes) within (omega (arith, one)) in
+        let end = then.numbers (group + (b.changes - a.changes)) (seq + (b.changes - a.changes)) (c.changes - b.changes) mid (omega (arith, two)) in
+        λ k p t good has. let at = end k p t good has in (omega (arith, at.0, e, one, two), omega (arith, at.1, e, one, two));
+    known = known_on;
+    life = λ spare tree sound within.
+        let before = first.life spare tree sound (earlier spare within) in
+        let after = then.life spare before.0 before.2 (later spare within) in (
+          after.0,
+          life_append (sizes_of a.geometry spare) tree before.0 after.0 xs ys before.1 (subst (λ (g : Geometry). IsLife (sizes_of g spare) before.0 ys after.0) first.geometry after.1),
+          after.2,
+        );
+  }
+
+pub lived_here : (a : Device) → HasLived a a []
+lived_here a = lived_still a a refl refl refl (record { page = refl; bad = refl })

@@ -1,0 +1,13 @@
+//! Lives of a volume: sessions in turn on a device in memory, each of which may end at any moment.
+#![tactic(auto)]
+
+mod commands;
+mod life;
+mod power;
+mod serving;
+mod session;
+#[cfg(test)]
+mod tests;
+
+pub use life::{LiveFault, live};
+pub use session::{Session, SessionEnd};

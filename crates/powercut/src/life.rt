@@ -1,0 +1,89 @@
+// A life of a volume.
+ghost use Rattle.std.specs.Prelude.{◌≡◌, ◌+◌, ◌∷◌, [], ℕ, true, false, length, is_some, IfOk, if◌then◌else◌};
+ghost use Rattle.nand_model.specs.MemoryState.{device};
+ghost use Rattle.flash_tree.specs.Mount.{sizes_of};
+ghost use Rattle.flash_tree.specs.Sound.{IsSound};
+ghost use Rattle.lives.specs.Lives.{IsLife};
+ghost use Rattle.posix_profile.specs.State.{Objects};
+ghost use Rattle.powercut.specs.Sessions.{record_of, records_of, UnmountAsAsked, UnmountsAsAsked, CutsByFuses, cuts_in};
+ghost use Rattle.powercut.specs.Limits.{StaysWithin};
+ghost use Rattle.powercut.specs.Living.{HasLived};
+
+use crate::power::power_on;
+use crate::serving::serve;
+use crate::session::{Session, SessionEnd};
+use nand_model::MemNand;
+use std::alloc::{AllocError, Global};
+
+/// Why a life was not told to its end.
+#[derive(Clone, Copy, Debug, PartialEq, Eq)]
+pub enum LiveFault {
+    /// A growth was refused, outside the volume's own calls.
+    NoMemory,
+}
+
+impl From<AllocError> for LiveFault {
+    fn from(_error: AllocError) -> LiveFault {
+        LiveFault::NoMemory
+    }
+}
+
+/// Does one session on the device, from its power-up on.
+fn live_one(
+    alloc: Global,
+    nand: MemNand,
+    session: &Session,
+) -> Result<(MemNand, SessionEnd), AllocError>
+    ensures lived { IfOk result (λ lived. HasLived (device nand) (device lived.0) (record_of session.now lived.1 ∷ [])) }
+    ensures unmounts { IfOk result (λ lived. UnmountAsAsked session.now lived.1) }
+    ensures cuts { IfOk result (λ lived. (device lived.0).cuts ≡ (device nand).cuts + (if lived.1.cut then 1 else 0)) }
+    ensures fuse { IfOk result (λ lived. is_some session.now.fuse ≡ false → lived.1.cut ≡ false) }
+{
+    let nand = power_on(alloc, nand, session)?;
+    let (nand, served) = serve(alloc, nand, &session.commands, session.unmount)?;
+    let begun = served.replies.len() as u64;
+    let cut = nand.gone();
+    Ok((
+        nand,
+        SessionEnd {
+            mounted: served.mounted,
+            replies: served.replies,
+            begun,
+            unmounted: served.unmounted,
+            cut,
+        },
+    ))
+}
+
+/// Does the sessions in turn on the device, each from a power-up on, and tells how each ended. After a fault the device is
+/// dropped.
+///
+/// For every list of sessions on a sound flash, each of which may end before or within any program, erase or mark of a block,
+/// the next mount that succeeds shows the tree after some prefix of the session's commands, which holds at least all that a
+/// done sync covered; and every reply is the profile's.
+pub fn live(
+    alloc: Global,
+    nand: MemNand,
+    sessions: &[Session],
+) -> Result<(MemNand, Vec<SessionEnd>), LiveFault>
+    ensures ends { IfOk result (λ lived. length lived.1.items ≡ length sessions.now) }
+    ensures geometry { IfOk result (λ lived. (device lived.0).geometry ≡ (device nand).geometry) }
+    ensures life { IfOk result (λ lived. (spare : ℕ) (tree : Objects) → IsSound (device nand).geometry (device nand).flash spare tree → StaysWithin spare (device nand) (device lived.0)
+        → (last : Objects) × IsLife (sizes_of (device nand).geometry spare) tree (records_of sessions.now lived.1.items) last × IsSound (device lived.0).geometry (device lived.0).flash spare last) }
+    ensures unmounts { IfOk result (λ lived. UnmountsAsAsked sessions.now lived.1.items) }
+    ensures cuts { IfOk result (λ lived. (device lived.0).cuts ≡ (device nand).cuts + cuts_in lived.1.items) }
+    ensures fuses { IfOk result (λ lived. CutsByFuses sessions.now lived.1.items) }
+{
+    let mut last = nand;
+    let mut ends = Vec::new(alloc);
+    for session in sessions {
+        ends.reserve(1)?;
+        let (after, end) = live_one(alloc, last, session)?;
+        last = after;
+        match ends.push(end) {
+            Ok(()) => {}
+            Err(_) => return Err(LiveFault::NoMemory),
+        }
+    }
+    Ok((last, ends))
+}

@@ -1,0 +1,95 @@
+// What is done between a power-up and the end of a session, on any device.
+ghost use Rattle.std.specs.Prelude.{◌≡◌, ◌↔◌, true, false, [], ◌∷◌, length, Ok, is_some, IfOk};
+ghost use Rattle.nand_model.specs.Calls.{Lasts};
+ghost use Rattle.page_volume.specs.Volumes.{pages_of, is_read_only, is_stopped, IsVolumeOf};
+ghost use Rattle.powercut.specs.Commands.{IsUsed};
+ghost use Rattle.powercut.specs.Living.{HasLived};
+ghost use Rattle.powercut.specs.Serving.{served_record};
+
+use crate::commands::{Commanded, do_commands};
+use flash_pages::FlashPages;
+use flash_tree::a_flash_has_one_answer_at_most;
+use nand_model::Nand;
+use pages::Pages;
+use posix_calls::{MountFault, Reply, Stamped, Volume};
+use std::alloc::{AllocError, Global};
+
+impl<N: Nand> Commanded for Volume<N> {
+    ghost meaning = { record {
+      pages = λ v. ⟦<FlashPages<N> as Pages>⟧.state (pages_of v.volume);
+      stands = λ z s v. IsVolumeOf ⟦<FlashPages<N> as Pages>⟧.state z s v.volume;
+      stopped = λ v. is_stopped v.volume;
+      read_only = λ v. is_read_only v.volume;
+    } };
+
+    fn answer(&mut self, stamped: &Stamped) -> Reply {
+        self.call(stamped)
+    }
+
+    fn is_stopped(&self) -> bool {
+        self.stopped()
+    }
+}
+
+/// What was answered in a session.
+#[derive(Drop)]
+pub(crate) struct Served {
+    pub mounted: Result<(), MountFault>,
+    pub replies: Vec<Reply>,
+    pub unmounted: Option<Reply>,
+}
+
+/// Does the commands on a mounted volume, and unmounts or abandons it.
+fn use_volume<N: Nand + Drop>(
+    alloc: Global,
+    mut volume: Volume<N>,
+    commands: &[Stamped],
+    unmount: bool,
+) -> Result<(N, Vec<Reply>, Option<Reply>), AllocError>
+    ensures used { IfOk result (λ r. IsUsed ⟦<Volume<N> as Commanded>⟧.meaning volume commands.now r.1.items r.2 (N.state r.0)) }
+    ensures unmounts { IfOk result (λ r. is_some r.2 ≡ unmount) }
+{
+    let replies = do_commands(alloc, &mut volume, commands)?;
+    if unmount {
+        let (device, reply) = volume.unmount();
+        Ok((device, replies, Some(reply)))
+    } else {
+        Ok((volume.abandon(), replies, None))
+    }
+}
+
+/// Mounts the device, does the commands, and unmounts or abandons the volume. A mount that fails leaves the device.
+pub(crate) fn serve<N: Nand + Drop>(
+    alloc: Global,
+    device: N,
+    commands: &[Stamped],
+    unmount: bool,
+) -> Result<(N, Served), AllocError>
+    ensures lasts { IfOk result (λ r. Lasts (N.state device) (N.state r.0)) }
+    ensures lived { (N.state device).gone ≡ false → (N.state device).honest ≡ true
+        → IfOk result (λ r. HasLived (N.state device) (N.state r.0) (served_record commands.now r.1 (N.state r.0).gone ∷ [])) }
+    ensures unmounts { IfOk result (λ r. (is_some r.1.unmounted ≡ true) ↔ ((unmount ≡ true) × (r.1.mounted ≡ Ok tt))) }
+{
+    a_flash_has_one_answer_at_most();
+    match Volume::mount(alloc, device) {
+        Ok(volume) => {
+            let (device, replies, unmounted) = use_volume(alloc, volume, commands, unmount)?;
+            Ok((
+                device,
+                Served {
+                    mounted: Ok(()),
+                    replies,
+                    unmounted,
+                },
+            ))
+        }
+        Err((device, fault)) => Ok((
+            device,
+            Served {
+                mounted: Err(fault),
+                replies: Vec::new(alloc),
+                unmounted: None,
+            },
+        )),
+    }
+}

@@ -6,6 +6,8 @@ mod device;
 mod fault;
 mod layout;
 mod reading;
+#[cfg(test)]
+mod tests;
 mod writing;
 
 pub use creation::create_image;

@@ -1,5 +1,5 @@
 -- What follows the head of an image: marks, pages, and then nothing.
-use Rattle.std.proofs.Common.{◌≡◌, ◌≢◌, ◌<◌, ◌≤◌, ℕ, ◌+◌, ◌-◌, ◌*◌, ◌/◌, ◌%◌, true, false, List, length, take, drop, slice_index, Option, Some, None, refl, ap, sym, subst, ◌∙◌, arith, length-drop, get_or-take}
+use Rattle.std.proofs.Common.{◌≡◌, ◌<◌, ℕ, ◌+◌, ◌*◌, ◌/◌, ◌%◌, List, length, drop, slice_index, Option, Some, ap, sym, subst, ◌∙◌, arith, length-drop, get_or-take}
 use Rattle.std.proofs.lemmas.List.{drop-drop}
 use Rattle.std.proofs.Math.Nat.{mul_comm}
 use Rattle.std.proofs.lemmas.Nat.{mul-add-lt, div-mul-add, div-add-mod'}
@@ -9,7 +9,7 @@ use Rattle.nand_model.specs.Changes.{IsBlank}
 use Rattle.nand_model.specs.declared.geometry.Geometry.{Geometry}
 use Rattle.nand_image.specs.Layout.{slot_size}
 use Rattle.nand_image.specs.Images.{page_in}
-use Rattle.nand_image.specs.Readings.{IsWhole, FillsWhole, IsShort, PutsMarks, PutsPages, ArePages, TakesPages, IsEnded, IsLong, body_size, IsBody, IsOfOtherSize}
+use Rattle.nand_image.specs.Readings.{IsWhole, FillsWhole, IsShort, PutsMarks, PutsPages, TakesPages, IsEnded, IsLong, body_size, IsBody, IsOfOtherSize}
 use Rattle.nand_image.specs.declared.fault.ImageFault.{ImageFault}
 use Rattle.nand_image.specs.declared.fault.ImageFault.TheVariants as faults
 

@@ -1,5 +1,5 @@
 -- A call that is cut and leaves the old pages is a cut call.
-use Rattle.std.proofs.Common.{◌≡◌, ℕ, List, Option, Some, Bool, true, Err, refl, ap, sym, ◌∙◌, inl, arith}
+use Rattle.std.proofs.Common.{◌≡◌, ℕ, List, Some, Err, ap, ◌∙◌, inl, arith}
 use Rattle.nand_model.specs.Flash.{Flash, IsClean}
 use Rattle.nand_model.specs.Calls.{Device, Programs, Erases, Marks}
 use Rattle.nand_model.specs.Putting.{CutsChange, CutsMark}

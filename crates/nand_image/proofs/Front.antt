@@ -1,9 +1,9 @@
 -- Bytes that are read into a buffer from its front on.
-use Rattle.std.proofs.Common.{◌≡◌, ◌≤◌, ℕ, ◌+◌, ◌-◌, List, [], ◌++◌, length, take, drop, Option, Some, None, refl, sym, ap, subst, ◌∙◌, arith, le_refl, lit≤, take_all, take-take, length-take-le}
+use Rattle.std.proofs.Common.{◌≡◌, ◌≤◌, ℕ, ◌+◌, ◌-◌, List, ◌++◌, length, take, drop, Option, Some, sym, ap, subst, ◌∙◌, arith, le_refl, lit≤, take_all, take-take, length-take-le}
 use Rattle.std.proofs.lemmas.Slice.{take-put_mid_below}
 use Rattle.std.specs.Io.KnownBytes.{Consumes, Keeps}
 use Rattle.std.proofs.KnownBytes.{Consumes-trans, Consumes-kept}
-use borrow.Rule.Slice.PartMut.{put_mid, post_of, mid_of, same_len_mid, mid_len}
+use borrow.Rule.Slice.PartMut.{put_mid, post_of, mid_of, same_len_mid}
 use lib.Seq.{take-append-le}
 use Rattle.std.proofs.Math.Seq.{take-append-add}
 use Rattle.nand_image.specs.Images.{magic}

@@ -1,5 +1,5 @@
 -- What opening answers, from what its parts took.
-use Rattle.std.proofs.Common.{◌≡◌, ◌≢◌, ◌<◌, ◌≤◌, ℕ, ◌+◌, ◌*◌, List, length, take, drop, slice_index, get_or, Option, Some, None, IfSome, Result, Ok, Err, refl, ap, sym, subst, ◌∙◌, arith, length-drop, get_or-take}
+use Rattle.std.proofs.Common.{◌≡◌, ◌≢◌, ◌<◌, ◌≤◌, ℕ, ◌+◌, ◌*◌, List, length, take, drop, Option, Some, None, IfSome, refl, ap, sym, subst, ◌∙◌, arith, length-drop, get_or-take}
 use Rattle.std.proofs.lemmas.List.{drop-take, drop-drop, get_or-drop}
 use Rattle.byteorder.specs.Endian.{little_number}
 use Rattle.nand_model.specs.Size.{IsSize}

@@ -1,5 +1,5 @@
 -- Marks and pages that are put one after the other.
-use Rattle.std.proofs.Common.{◌≡◌, ◌≢◌, ◌<◌, ℕ, ◌+◌, true, List, slice_index, refl, ap, sym, subst, ◌∙◌, inl, inr, arith, below_more}
+use Rattle.std.proofs.Common.{◌≡◌, ◌≢◌, ℕ, ◌+◌, true, List, slice_index, refl, ap, sym, ◌∙◌, inl, inr, arith, below_more}
 use Rattle.std.proofs.lemmas.Bool.{cases_eq}
 use Rattle.nand_model.specs.Flash.{Page}
 use Rattle.nand_model.specs.Calls.{Device}

@@ -1,5 +1,5 @@
 -- Pages that stand one after the other.
-use Rattle.std.proofs.Common.{◌≡◌, ◌≢◌, ◌<◌, ◌≤◌, ℕ, zero, ◌+◌, ◌-◌, ◌*◌, ◌/◌, ◌%◌, List, length, take, drop, slice_index, get_or, Option, Some, None, refl, ap, sym, subst, ◌∙◌, inl, inr, arith, below_more, le_refl, lit≤, lit<, take-take, length-drop, get_or-take}
+use Rattle.std.proofs.Common.{◌≡◌, ◌≢◌, ◌<◌, ◌≤◌, ℕ, ◌+◌, ◌*◌, ◌/◌, ◌%◌, List, length, take, drop, slice_index, Option, Some, ap, sym, ◌∙◌, inl, inr, arith, below_more, le_refl, take-take, length-drop, get_or-take}
 use Rattle.std.proofs.lemmas.Bool.{cases_eq}
 use Rattle.std.proofs.lemmas.List.{drop-take, drop-drop}
 use Rattle.std.proofs.lemmas.Nat.{div-add-mod'}
@@ -9,7 +9,7 @@ use Rattle.nand_model.specs.Memory.{page_of}
 use Rattle.nand_model.specs.Calls.{Device}
 use Rattle.nand_model.specs.Putting.{PutsPage}
 use Rattle.nand_image.specs.Images.{kind_of_byte, page_in}
-use Rattle.nand_image.specs.Readings.{IsWhole, FillsWhole, IsShort, ArePages, TakesPages}
+use Rattle.nand_image.specs.Readings.{FillsWhole, IsShort, TakesPages}
 use Rattle.nand_image.specs.declared.fault.ImageFault.{ImageFault}
 use Rattle.nand_image.specs.declared.fault.ImageFault.TheVariants as faults
 

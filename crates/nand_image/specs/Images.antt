@@ -8,7 +8,7 @@ use Rattle.nand_model.specs.Calls.{Device}
 use Rattle.nand_model.specs.declared.geometry.Geometry.{Geometry}
 use Rattle.nand_model.specs.declared.nand.PageKind.{PageKind}
 use Rattle.nand_model.specs.declared.nand.PageKind.TheVariants as kinds
-use Rattle.nand_image.specs.Layout.{slot_size, mark_place, page_place, image_size}
+use Rattle.nand_image.specs.Layout.{mark_place, page_place, image_size}
 
 -- NANDIMG1
 abbrev pub magic : List ℕ

@@ -7,7 +7,7 @@ use Rattle.nand_model.specs.MemoryState.{device}
 use Rattle.nand_model.specs.declared.geometry.Geometry.{Geometry}
 use Rattle.nand_model.specs.declared.memory.MemNand.{MemNand}
 use Rattle.nand_image.specs.Layout.{slot_size}
-use Rattle.nand_image.specs.Images.{magic, HasHead, HasSizes, page_in}
+use Rattle.nand_image.specs.Images.{HasHead, page_in}
 use Rattle.nand_image.specs.declared.fault.ImageFault.{ImageFault}
 use Rattle.nand_image.specs.declared.fault.ImageFault.TheVariants as faults
 

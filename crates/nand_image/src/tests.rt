@@ -97,17 +97,20 @@ fn fail_at(nand: &mut ImageNand<TestFile>, call: u64) {
     nand.file.fails_at = call;
 }
 
-/// Erases block 1 and programs its first page, in which the file fails at its call of this number.
+/// Erases block 1, with two calls of the file for each page, and programs its first page. The file fails at its call
+/// of this number.
 fn write_page(
     rt: &impl Abort,
     nand: &mut ImageNand<TestFile>,
     call: u64,
 ) -> Result<Result<(), ProgramFault>, Fail> {
+    fail_at(nand, call);
     let geometry = nand.geometry();
     assert!(rt; geometry.bytes() == 512);
-    assert!(rt; !nand.is_bad(1));
+    if nand.is_bad(1) {
+        return Ok(Err(ProgramFault::Failed));
+    }
     nand.erase(1)?;
-    fail_at(nand, call);
     Ok(nand.program(1, 0, &DATA, &TAG))
 }
 
@@ -197,7 +200,10 @@ fn other_bytes_are_no_image(rt: HostRuntime) -> Result<(), Fail> {
     assert_eq!(rt; bytes.len(), IMAGE_BYTES);
     bytes[8] = 100;
     bytes[9] = 0;
-    assert_eq!(rt; open(rt.alloc(), &bytes, 0).err(), Some(ImageFault::BadGeometry));
+    assert_eq!(rt;
+        open(rt.alloc(), &bytes, 0).err(),
+        Some(ImageFault::BadGeometry)
+    );
     bytes[0] = b'M';
     assert_eq!(rt; open(rt.alloc(), &bytes, 0).err(), Some(ImageFault::Magic));
     Ok(())
@@ -206,7 +212,11 @@ fn other_bytes_are_no_image(rt: HostRuntime) -> Result<(), Fail> {
 #[test]
 fn a_file_that_fails_is_no_image(rt: HostRuntime) -> Result<(), Fail> {
     for call in [1u64, 2, 3, 258] {
-        assert_eq!(rt; create(rt.alloc(), call).err(), Some(ImageFault::Write), "{call}");
+        assert_eq!(rt;
+            create(rt.alloc(), call).err(),
+            Some(ImageFault::Write),
+            "{call}"
+        );
     }
     let bytes = bytes_of(create(rt.alloc(), 259)?);
     for call in [1u64, 2, 3, 258, 259] {
@@ -235,15 +245,19 @@ fn expect_gone(
 
 #[test]
 fn a_program_sets_the_kind_last(rt: HostRuntime) -> Result<(), Fail> {
-    for call in 1..7u64 {
+    for call in 65..71u64 {
         let mut nand = create(rt.alloc(), 0)?;
-        assert_eq!(rt; write_page(&rt, &mut nand, call)?, Err(ProgramFault::Gone), "{call}");
+        assert_eq!(rt;
+            write_page(&rt, &mut nand, call)?,
+            Err(ProgramFault::Gone),
+            "{call}"
+        );
         expect_gone(&rt, &mut nand, PageKind::Erased)?;
         let bytes = bytes_of(nand);
         assert_eq!(rt; bytes.len(), IMAGE_BYTES);
         assert_eq!(rt; bytes[PAGE_PLACE], 0);
-        assert_eq!(rt; bytes[PAGE_PLACE + 1] == 9, call > 4);
-        assert_eq!(rt; bytes[PAGE_PLACE + 49] == 7, call > 2);
+        assert_eq!(rt; bytes[PAGE_PLACE + 1] == 9, call > 68);
+        assert_eq!(rt; bytes[PAGE_PLACE + 49] == 7, call > 66);
     }
     Ok(())
 }

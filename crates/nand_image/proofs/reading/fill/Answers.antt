@@ -17,11 +17,11 @@ loop-turn-preserved g c =
     let room : length part ≡ length buffer - at = c.read.auto.buf ∙ mid_len at (length buffer) buffer (le_refl (length buffer)) in
     elim c.match-read.branch [
       | in-Ok w ↦ record {
-          within = rw (w.at-is, size) (omega (arith, room, w.in-Ok.ensures.bound.0, so_far.within));
-          read = rw w.at-is (front_more old mid new at w.in-Ok.n buffer part so_far.within w.in-Ok.ensures.bound.0 so_far.read w.in-Ok.ensures.bytes.0);
-        }
+        within = rw (w.at-is, size) (omega (arith, room, w.in-Ok.ensures.bound.0, so_far.within));
+        read = rw w.at-is (front_more old mid new at w.in-Ok.n buffer part so_far.within w.in-Ok.ensures.bound.0 so_far.read w.in-Ok.ensures.bytes.0);
+      }
       | in-Err+else-ne w ↦ record {
-          within = rw (w.at-is, size) so_far.within;
-          read = rw w.at-is (front_kept old mid new at buffer part so_far.within so_far.read w.in-Err.ensures.bytes);
-        }
+        within = rw (w.at-is, size) so_far.within;
+        read = rw w.at-is (front_kept old mid new at buffer part so_far.within so_far.read w.in-Err.ensures.bytes);
+      }
     ]

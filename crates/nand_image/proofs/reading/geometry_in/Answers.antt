@@ -8,6 +8,8 @@ returns-in-Ok-clause-sizes c =
     c.number_at-bytes.ensures c.number_at-pages.ensures c.number_at-blocks.ensures c.in-Ok.ensures.ok
 
 pub returns-in-Err-clause-fault : goal.returns-in-Err-clause-fault
-returns-in-Err-clause-fault c =
-    (refl, no_size c.args.head.now c.number_at-bytes.result c.number_at-pages.result c.number_at-blocks.result
-    c.number_at-bytes.ensures c.number_at-pages.ensures c.number_at-blocks.ensures c.in-Err.ensures.err)
+returns-in-Err-clause-fault c = (
+  refl,
+  no_size c.args.head.now c.number_at-bytes.result c.number_at-pages.result c.number_at-blocks.result
+      c.number_at-bytes.ensures c.number_at-pages.ensures c.number_at-blocks.ensures c.in-Err.ensures.err,
+)

@@ -22,7 +22,7 @@ module _ {P : Type 0} (state : P → PagesState) (v : PageVolume P) (pages : P) 
       → (is_stopped v ≡ false → (reply ≡ replies.Done) ⊎ (reply ≡ replies.Error errors.EIO))
       → (is_stopped v ≡ false → (z : Sizes) (s : State) → IsVolumeOf state z s v → reply ≡ replies.Done → Shown z (state pages) (settled s.objects))
       → (is_stopped v ≡ false → (z : Sizes) (s : State) → IsVolumeOf state z s v → (tree : Objects) → Shown z (state (pages_of v)) tree
-          → Shown z (state pages) tree ⊎ Shown z (state pages) (settled s.objects))
+      → Shown z (state pages) tree ⊎ Shown z (state pages) (settled s.objects))
       → (is_stopped v ≡ false → (z : Sizes) (s : State) → IsVolumeOf state z s v → reply ≡ replies.Error errors.EIO → HasEnded (state pages))
       → IsUnmounted state v device reply
   unmounted device is goes stopped answers done tree cause = record {

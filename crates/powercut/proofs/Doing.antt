@@ -1,14 +1,14 @@
 -- The commands of a session, one more at a time.
-use Rattle.std.specs.Prelude.{◌≡◌, ◌⊎◌, ◌||◌, ◌++◌, ◌<◌, ◌≤◌, ◌+◌, ℕ, Bool, true, false, List, [], ◌∷◌, length, take, Option, Some, None, slice_get}
+use Rattle.std.specs.Prelude.{◌≡◌, ◌⊎◌, ◌||◌, ◌++◌, ℕ, Bool, true, false, List, [], ◌∷◌, length, Some, None, slice_get}
 use Rattle.std.specs.List.{list_any}
 use Rattle.std.proofs.Common.{refl, sym, ◌∙◌, ap, subst, inl, inr, arith}
 use Rattle.std.proofs.lemmas.Bool.{cases_Bool, true≢false}
-use Rattle.std.proofs.lemmas.List.{take_all, length_push}
+use Rattle.std.proofs.lemmas.List.{take_all}
 use Rattle.std.proofs.lemmas.List.Folds.{list_any-append}
 use Rattle.std.proofs.lemmas.Option.{slice_get_within}
 use Rattle.volume_terms.specs.Sizes.{Sizes}
 use Rattle.object_store.specs.Stores.{settled}
-use Rattle.posix_profile.specs.Losses.{is_synced, IsSyncDone, Covers, LossLeaves, settled_after}
+use Rattle.posix_profile.specs.Losses.{Covers, LossLeaves, settled_after}
 use Rattle.posix_profile.specs.Runs.{Replies, after_one, after, is_stop, RunHolds}
 use Rattle.posix_profile.specs.State.{Objects, State}
 use Rattle.posix_profile.specs.laws.Loss.{loss_more}
@@ -18,7 +18,6 @@ use Rattle.posix_profile.specs.declared.reply.Errno.TheVariants as errors
 use Rattle.posix_profile.specs.declared.reply.Reply.{Reply}
 use Rattle.posix_profile.specs.declared.reply.Reply.TheVariants as replies
 use Rattle.nand_model.specs.Calls.{Device}
-use Rattle.lives.specs.Lives.{EndsStopped}
 use Rattle.pages.specs.State.{PagesState}
 use Rattle.pages.specs.Stores.{GoesOn}
 use Rattle.paged_objects.specs.Ending.{HasEnded}

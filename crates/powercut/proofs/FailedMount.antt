@@ -1,6 +1,6 @@
 -- A mount that fails leaves the device, and tells no fault of a sound flash.
 use Rattle.std.specs.Prelude.{◌≡◌, ℕ, true, false, Bool, List, [], ◌∷◌, length, Some, None, Err}
-use Rattle.std.proofs.Common.{refl, sym, ◌∙◌, ap, subst, inl, inr}
+use Rattle.std.proofs.Common.{refl, sym, ◌∙◌, subst, inl, inr}
 use Rattle.volume_terms.specs.Sizes.{Sizes}
 use Rattle.nand_model.specs.Flash.{Flash}
 use Rattle.nand_model.specs.Calls.{Device}
@@ -13,7 +13,7 @@ use Rattle.posix_profile.specs.declared.reply.Reply.{Reply}
 use Rattle.posix_profile.specs.declared.reply.Reply.TheVariants as replies
 use Rattle.flash_tree.specs.Mount.{Answer, Answers, NotAVolume, IsWrong, IsTreeOf, IsNewer, IsDamaged, sizes_of}
 use Rattle.flash_tree.specs.Sound.{IsSound}
-use Rattle.lives.specs.Lives.{MountAnswer, Mounted, NoMemory, Gone, SessionRecord, IsSessionFrom}
+use Rattle.lives.specs.Lives.{MountAnswer, NoMemory, Gone, SessionRecord, IsSessionFrom}
 use Rattle.mounting.specs.Faults.{WhyNotMounted}
 use Rattle.mounting.specs.declared.fault.MountFault.{MountFault}
 use Rattle.mounting.specs.declared.fault.MountFault.TheVariants as faults

@@ -1,6 +1,5 @@
 -- A mounted volume serves its session, and leaves a sound flash.
-use Rattle.std.specs.Prelude.{◌≡◌, ◌⊎◌, ◌↔◌, ◌<◌, ◌≤◌, ◌^◌, ◌+◌, ◌-◌, ℕ, Bool, true, false, List, [], ◌∷◌, length, Option, Some, None}
-use Rattle.std.specs.List.{list_any}
+use Rattle.std.specs.Prelude.{◌≡◌, ◌↔◌, ◌<◌, ◌≤◌, ◌^◌, ◌+◌, ℕ, Bool, true, false, List, [], ◌∷◌, length, Option, Some, None}
 use Rattle.std.proofs.Common.{refl, sym, ◌∙◌, ap, subst, inl, inr, arith}
 use Rattle.std.proofs.lemmas.Bool.{cases_Bool, true≢false}
 use Rattle.std.proofs.lemmas.Option.{slice_get_within}
@@ -11,7 +10,6 @@ use Rattle.nand_model.specs.Changes.{OnlyReads}
 use Rattle.nand_model.specs.laws.Calls.{lasts_on}
 use Rattle.nand_model.specs.declared.geometry.Geometry.{Geometry}
 use Rattle.posix_profile.specs.Losses.{Covers, settled_after}
-use Rattle.posix_profile.specs.Runs.{is_stop}
 use Rattle.posix_profile.specs.State.{Objects}
 use Rattle.posix_profile.specs.laws.Sound.{IsSound as IsSoundState}
 use Rattle.posix_profile.specs.declared.command.Stamped.{Stamped}
@@ -20,12 +18,12 @@ use Rattle.posix_profile.specs.declared.reply.Reply.{Reply}
 use Rattle.posix_profile.specs.declared.reply.Reply.TheVariants as replies
 use Rattle.flash_tree.specs.Newest.{Numbers, AreGreatest}
 use Rattle.flash_tree.specs.Numbering.{AreBelow}
-use Rattle.flash_tree.specs.Mount.{Answer, Answers, IsTreeOf, sizes_of, bad_blocks}
+use Rattle.flash_tree.specs.Mount.{Answer, Answers, IsTreeOf, sizes_of}
 use Rattle.flash_tree.specs.Sound.{IsSound}
-use Rattle.lives.specs.Lives.{MountAnswer, Mounted, NoMemory, Gone, SessionRecord, at_mount, IsSessionFrom, IsLife}
+use Rattle.lives.specs.Lives.{Mounted, Gone, SessionRecord, at_mount, IsSessionFrom, IsLife}
 use Rattle.lives.specs.laws.Sessions.{loss_keeps}
 use Rattle.pages.specs.State.{PagesState, NextNumbers}
-use Rattle.pages.specs.Stores.{GoesOn, HasNumbersLeft, bad_on}
+use Rattle.pages.specs.Stores.{GoesOn}
 use Rattle.flash_pages.specs.ReadOnly.{next_after}
 use Rattle.mounting.specs.Made.{CanOnlyBeRead, AreNext}
 use Rattle.paged_objects.specs.Ending.{HasEnded}
@@ -34,7 +32,7 @@ use Rattle.paged_objects.specs.laws.OnFlash.{shown_sound}
 use Rattle.powercut.specs.Commands.{Meaning, LeavesFrom, IsUsed}
 use Rattle.powercut.specs.Limits.{StaysWithin}
 use Rattle.powercut.specs.Living.{HasSame, AreWithin, HasLived}
-use Rattle.powercut.specs.laws.SameFlash.{same_back, within_same, greatest_same, sound_same}
+use Rattle.powercut.specs.laws.SameFlash.{same_back, greatest_same, sound_same}
 use Rattle.powercut.specs.laws.Living.{greatest_within}
 
 -- what is recorded of a session whose mount was done

@@ -10,7 +10,6 @@ use Rattle.powercut.specs.Serving.{served_record}
 use Rattle.powercut.specs.Sessions.{answer_of, record_of}
 use Rattle.powercut.specs.declared.serving.Served.{Served}
 use Rattle.powercut.specs.declared.session.Session.{Session}
-use Rattle.powercut.specs.declared.session.SessionEnd.{SessionEnd}
 use Rattle.powercut.specs.Starting.{Starts}
 use Rattle.powercut.specs.laws.Living.{lived_still, lived_on}
 

@@ -1,5 +1,4 @@
 -- A volume that is mounted stands for its tree.
-use Rattle.std.specs.Prelude.{◌≡◌}
 use Rattle.pages.specs.State.{PagesState}
 use Rattle.posix_profile.specs.State.{Objects}
 use Rattle.page_volume.specs.declared.volume.PageVolume.{PageVolume}

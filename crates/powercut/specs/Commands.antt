@@ -1,6 +1,6 @@
 -- The commands of a session, done one by one up to the end or to the stop, and how the volume is left behind them.
 -- From: this project.
-use Rattle.std.specs.Prelude.{◌≡◌, ◌⊎◌, ℕ, Bool, true, false, List, length, Option, Some}
+use Rattle.std.specs.Prelude.{◌≡◌, ◌⊎◌, Bool, true, false, List, length, Option, Some}
 use Rattle.std.specs.List.{list_any}
 use Rattle.volume_terms.specs.Sizes.{Sizes}
 use Rattle.nand_model.specs.Calls.{Device}

@@ -1,15 +1,10 @@
 -- What a session begins and ends with.
 -- From: this project.
-use Rattle.std.specs.Prelude.{◌≡◌, ℕ, Bool, true, false, List, Option, Some, None, Result, is_some, map as list_map}
+use Rattle.std.specs.Prelude.{◌≡◌, ℕ, Bool, true, false, List, Option, Some, None}
 use Rattle.std.specs.Global.{Vec}
 use Rattle.nand_model.specs.Calls.{Device}
 use Rattle.nand_model.specs.Plans.{Plan, listed}
 use Rattle.nand_model.specs.declared.fate.Fate.{Fate}
-use Rattle.lives.specs.Lives.{SessionRecord}
-use Rattle.mounting.specs.declared.fault.MountFault.{MountFault}
-use Rattle.posix_profile.specs.declared.command.Stamped.{Stamped}
-use Rattle.posix_profile.specs.declared.reply.Reply.{Reply}
-use Rattle.powercut.specs.Sessions.{answer_of}
 use Rattle.powercut.specs.declared.session.Session.{Session}
 
 -- Power comes on: pages, marks and counts stay. Where no call is to be cut the device is steady.

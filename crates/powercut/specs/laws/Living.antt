@@ -1,12 +1,10 @@
 -- Sessions in turn.
-use Rattle.std.specs.Prelude.{◌≡◌, ◌⊎◌, ◌<◌, ◌≤◌, ◌+◌, ◌-◌, ◌++◌, ℕ, true, false, List, []}
+use Rattle.std.specs.Prelude.{◌≡◌, ◌⊎◌, ◌≤◌, ◌+◌, ◌-◌, ◌++◌, ℕ, List, []}
 use Rattle.std.proofs.Common.{refl, sym, ◌∙◌, ap, subst, inl, inr, arith}
 use Rattle.nand_model.specs.Flash.{Flash}
 use Rattle.nand_model.specs.Calls.{Device}
 use Rattle.nand_model.specs.declared.geometry.Geometry.{Geometry}
-use Rattle.posix_profile.specs.State.{Objects}
-use Rattle.volume_terms.specs.Sizes.{Sizes, number_limit}
-use Rattle.flash_tree.specs.Newest.{Numbers, AreAbove, AreGreatest}
+use Rattle.flash_tree.specs.Newest.{Numbers, AreGreatest}
 use Rattle.flash_tree.specs.Mount.{sizes_of, bad_blocks}
 use Rattle.flash_tree.specs.Sound.{IsSound}
 use Rattle.lives.specs.Lives.{SessionRecord, IsLife}

@@ -1,5 +1,5 @@
 -- Flashes with the same pages and marks.
-use Rattle.std.specs.Prelude.{◌≡◌, ◌≤◌, ◌+◌, ◌-◌, ℕ, zero, suc, Bool, true, false, List, [], ◌∷◌, count_by, cond}
+use Rattle.std.specs.Prelude.{◌≡◌, ◌≤◌, ◌+◌, ◌-◌, ℕ, Bool, true, false, List, [], ◌∷◌, count_by, cond}
 use Rattle.std.specs.List.{range_with_len}
 use Rattle.std.proofs.Common.{refl, sym, ◌∙◌, ap, subst, arith}
 use Rattle.std.proofs.lemmas.List.Sums.{sum_by-cons}
@@ -8,10 +8,10 @@ use Rattle.nand_model.specs.Changes.{Grows}
 use Rattle.nand_model.specs.declared.geometry.Geometry.{Geometry}
 use Rattle.page_tags.specs.declared.tag.Tag.{Tag}
 use Rattle.posix_profile.specs.State.{Objects}
-use Rattle.flash_tree.specs.Groups.{HasTag, Group, IsPart, IsGroup, SameGroups}
+use Rattle.flash_tree.specs.Groups.{HasTag, Group, IsGroup, SameGroups}
 use Rattle.flash_tree.specs.Newest.{Spot, IsNewest, HasNewest, AreAbove, AreGreatest, Numbers}
-use Rattle.flash_tree.specs.Tree.{InFootprint, Shows}
-use Rattle.flash_tree.specs.Mount.{sizes_of, IsVolume, bad_blocks, IsFree, HasFree, HasRoom}
+use Rattle.flash_tree.specs.Tree.{InFootprint}
+use Rattle.flash_tree.specs.Mount.{sizes_of, IsVolume, bad_blocks, IsFree, HasRoom}
 use Rattle.flash_tree.specs.Sound.{IsSound}
 use Rattle.flash_tree.specs.laws.Newest.{same_groups_keep, has_newest_stays, tag_stays}
 use Rattle.flash_tree.specs.laws.Tree.{footprint_law}

@@ -1,11 +1,10 @@
-use Rattle.std.specs.Prelude.{◌≡◌, ◌+◌, ◌++◌, ◌<◌, ℕ, List, [], ◌∷◌, length, Some, slice_get}
-use Rattle.std.proofs.Common.{refl, sym, ◌∙◌, ap, subst, arith}
+use Rattle.std.specs.Prelude.{◌≡◌, ◌+◌, ◌++◌, ◌<◌, List, [], ◌∷◌, length, Some, slice_get}
+use Rattle.std.proofs.Common.{sym, ◌∙◌, ap, subst, arith}
 use Rattle.std.proofs.lemmas.List.{length_push}
 use Rattle.nand_model.specs.MemoryState.{device}
 use Rattle.lives.specs.Lives.{SessionRecord}
 use Rattle.powercut.specs.Living.{HasLived}
 use Rattle.powercut.specs.Sessions.{record_of, records_of, UnmountsAsAsked, CutsByFuses, cuts_in}
-use Rattle.powercut.specs.declared.session.Session.{Session}
 use Rattle.powercut.specs.declared.session.SessionEnd.{SessionEnd}
 use Rattle.powercut.specs.laws.Lists.{no_records, no_unmounts, no_fuses, records_more, unmounts_more, fuses_more, cuts_more, at_index}
 use Rattle.powercut.specs.laws.Living.{lived_here, lived_on}

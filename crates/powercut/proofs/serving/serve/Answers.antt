@@ -1,7 +1,3 @@
-use Rattle.std.specs.Prelude.{◌≡◌, List, [], ◌∷◌}
-use Rattle.std.proofs.Common.{sym, subst}
-use Rattle.posix_profile.specs.declared.reply.Reply.{Reply}
-use Rattle.powercut.specs.Living.{HasLived}
 use Rattle.powercut.proofs.FailedMount.{failed_lived, of_no_replies}
 use Rattle.powercut.proofs.InPower.{used_lasts, used_lived}
 use Rattle.powercut.proofs.Standing.{stands_there}

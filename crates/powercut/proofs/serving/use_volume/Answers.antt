@@ -1,4 +1,3 @@
-use Rattle.std.proofs.Common.{◌≡◌}
 use Rattle.powercut.proofs.Doing.{used_unmounted, used_abandoned}
 use Rattle.powercut.proofs.serving.use_volume.Goals as goal
 

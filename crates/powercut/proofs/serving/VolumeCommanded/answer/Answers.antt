@@ -1,4 +1,3 @@
-use Rattle.std.proofs.Common.{◌≡◌}
 use Rattle.powercut.proofs.serving.VolumeCommanded.answer.Goals as goal
 
 pub returns-clause-one : goal.returns-clause-one

@@ -38,3 +38,10 @@ pub small_erase : (b : ℕ) (old new : Device) (result : Result (Unit {0}) Erase
 small_erase b old new result small does = small_kept old new small does.lasts.geometry does.bad
 
 pub ruleset small_laws = (small_same, open_same, small_read, small_up, small_program, small_erase)
+
+-- a fuse leaves it
+pub open_unsteady : (page : ℕ) (d : Device) → IsOpen page d → IsOpen page (record d { steady = false })
+open_unsteady page d is = record {
+  small = record { bytes = is.small.bytes; pages = is.small.pages; blocks = is.small.blocks; good = is.small.good };
+  next = is.next;
+}

@@ -1,5 +1,5 @@
 -- What the calls of the tests keep of their devices.
-use Rattle.std.specs.Prelude.{◌≡◌, ℕ, Bool, List, Result}
+use Rattle.std.specs.Prelude.{◌≡◌, ℕ, Bool, false, List, Result}
 use Rattle.std.proofs.Common.{ap, sym, subst, ◌∙◌}
 use Rattle.nand_model.specs.Calls.{Device, Reads, Programs, Erases}
 use Rattle.nand_model.specs.Changes.{PowersUp}

@@ -75,6 +75,7 @@ impl Small {
     /// Nothing is kept. The call of this number is cut.
     fn new(rt: &impl Abort, alloc: Global, cut_at: u64) -> Result<Small, Fail> {
         let nand = MemNand::new(alloc, Geometry::new(512, 32, 8)?)?;
+        let nand = nand.with_fuse(cut_at, vec![in alloc; Fate::Old]?);
         let none = TagNumbers {
             version: 0,
             group: 0,
@@ -83,7 +84,6 @@ impl Small {
         let blocks = table_of(alloc, &nand, none)?;
         let four = NonZeroUsize::new(4).ok_or("four")?;
         assert!(rt; has_free(&blocks, 1));
-        let nand = nand.with_fuse(cut_at, vec![in alloc; Fate::Old]?);
         match Store::new(alloc, nand, blocks, Index::new(alloc), 1, four) {
             Ok(store) => Ok(Small { store }),
             Err((_nand, refused)) => Err(refused.into()),

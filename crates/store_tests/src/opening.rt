@@ -35,11 +35,16 @@ fn fates(alloc: Global, fate: Fate) -> Result<Vec<Fate>, Fail> {
     Ok(vec![in alloc; fate; 32]?)
 }
 
-/// The device, of which this is to go wrong.
-fn troubled(alloc: Global, nand: MemNand, trouble: Trouble) -> Result<MemNand, Fail>
-    ensures { IfOk result (λ troubled. device troubled ≡ device nand) }
-{
-    let (calls, changes) = (nand.calls(), nand.changes());
+/// How many calls, and how many changes, a device has counted once it is opened.
+fn counts_when_opened(alloc: Global, nand: &MemNand) -> Result<(u64, u64), Fail> {
+    let mut copy = nand.copy()?;
+    let _opened = open(alloc, &mut copy)?;
+    Ok((copy.calls(), copy.changes()))
+}
+
+/// The device, of which this is to go wrong once it is opened.
+fn troubled(alloc: Global, nand: MemNand, trouble: Trouble) -> Result<MemNand, Fail> {
+    let (calls, changes) = counts_when_opened(alloc, &nand)?;
     Ok(match trouble {
         Trouble::Nothing => nand,
         Trouble::Cut(call, fate) => nand.with_fuse(calls.saturating_add(call), fates(alloc, fate)?),
@@ -101,17 +106,17 @@ pub(crate) fn erased(alloc: Global, blocks: u32) -> Result<MemNand, Fail> {
 /// A store of the newest pages of a device, with so many blocks to spare and so many pages in the cache.
 pub(crate) fn open_store(
     alloc: Global,
-    mut nand: MemNand,
+    nand: MemNand,
     spare: u32,
     capacity: usize,
     trouble: Trouble,
 ) -> Result<Store<MemNand>, Fail> {
+    let mut nand = troubled(alloc, nand, trouble)?;
     let opened = open(alloc, &mut nand)?;
     if !may_stand(&opened, spare) {
         return Err("a store cannot stand there".into());
     }
     let capacity = NonZeroUsize::new(capacity).ok_or("no cache")?;
-    let nand = troubled(alloc, nand, trouble)?;
     let Opened { blocks, index, .. } = opened;
     match Store::new(alloc, nand, blocks, index, spare, capacity) {
         Ok(store) => Ok(store),

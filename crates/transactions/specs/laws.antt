@@ -2,3 +2,4 @@ pub mod Copying
 pub mod Handing
 pub mod Newest
 pub mod Ready
+pub mod Steady

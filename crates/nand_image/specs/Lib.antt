@@ -1,7 +1,0 @@
-pub mod Layout
-pub mod Writes
-pub mod Quiet
-pub mod Images
-pub mod Opening
-pub mod Readings
-pub mod Creation

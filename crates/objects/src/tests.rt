@@ -11,7 +11,7 @@ use super::*;
 use block_state::Blocks;
 use chunk_index::Index;
 use flash_tree::{FreshPage, Key, TagNumbers};
-use nand_model::{Fate, Geometry, MemNand};
+use nand_model::{Geometry, MemNand};
 use pages::{Change, Cut, PageStore, Pages, Presence};
 use std::alloc::{AllocError, Global};
 use std::num::NonZeroUsize;
@@ -72,10 +72,9 @@ fn has_free(blocks: &Blocks, spare: u32) -> bool
 }
 
 impl Small {
-    /// Nothing is kept. The call of this number is cut.
-    fn new(rt: &impl Abort, alloc: Global, cut_at: u64) -> Result<Small, Fail> {
+    /// Nothing is kept.
+    fn new(rt: &impl Abort, alloc: Global) -> Result<Small, Fail> {
         let nand = MemNand::new(alloc, Geometry::new(512, 32, 8)?)?;
-        let nand = nand.with_fuse(cut_at, vec![in alloc; Fate::Old]?);
         let none = TagNumbers {
             version: 0,
             group: 0,
@@ -121,7 +120,7 @@ impl Small {
 #[test]
 fn changes_show_before_and_after_they_are_committed(rt: HostRuntime) -> Result<(), Fail> {
     let alloc = rt.alloc();
-    let mut small = Small::new(&rt, alloc, 1000)?;
+    let mut small = Small::new(&rt, alloc)?;
     assert_eq!(rt; small.apply(&rt, page(alloc, 1, 0, 10)?), Ok(()));
     assert_eq!(rt; small.apply(&rt, page(alloc, 1, 1, 11)?), Ok(()));
     assert_eq!(rt; small.apply(&rt, page(alloc, 2, 0, 20)?), Ok(()));
@@ -148,7 +147,7 @@ fn changes_show_before_and_after_they_are_committed(rt: HostRuntime) -> Result<(
 #[test]
 fn a_full_buffer_is_committed_first(rt: HostRuntime) -> Result<(), Fail> {
     let alloc = rt.alloc();
-    let mut small = Small::new(&rt, alloc, 1000)?;
+    let mut small = Small::new(&rt, alloc)?;
     for chunk in 0..8u8 {
         assert_eq!(rt;
             small.apply(&rt, page(alloc, 1, u64::from(chunk), chunk)?),
@@ -165,20 +164,5 @@ fn a_full_buffer_is_committed_first(rt: HostRuntime) -> Result<(), Fail> {
     for (chunk, fill) in [(0, 0), (6, 6), (7, 78), (8, 88)] {
         assert_eq!(rt; small.fill(key(1, chunk)), Ok(Some(fill)), "{chunk}");
     }
-    Ok(())
-}
-
-#[test]
-fn a_commit_that_is_cut_stops_the_store(rt: HostRuntime) -> Result<(), Fail> {
-    let alloc = rt.alloc();
-    let mut small = Small::new(&rt, alloc, 3)?;
-    assert_eq!(rt; small.apply(&rt, page(alloc, 1, 0, 10)?), Ok(()));
-    assert_eq!(rt; small.apply(&rt, page(alloc, 1, 1, 11)?), Ok(()));
-    assert_eq!(rt; small.commit(), Err(StoreFault::Device));
-    assert_eq!(rt; small.commit(), Err(StoreFault::Device));
-    assert_eq!(rt;
-        small.apply(&rt, page(alloc, 1, 0, 12)?),
-        Err(StoreFault::Device)
-    );
     Ok(())
 }

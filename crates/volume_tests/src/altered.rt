@@ -56,6 +56,7 @@ pub(crate) enum Altered {
     SlotTail,
     File(u64, u8),
     NoChunk,
+    Number(u64),
 }
 
 /// The root's header in the altered flash.
@@ -69,8 +70,13 @@ fn root_page(alloc: Global, format: u8, altered: Altered) -> Result<TestPage, Fa
         _ => {}
     }
     let mut page = header(alloc, 1, 1, head)?;
-    if altered == Altered::RootTag {
-        page.tag.index = 1;
+    match altered {
+        Altered::RootTag => page.tag.index = 1,
+        Altered::Number(number) => {
+            page.tag.version = number;
+            page.tag.group = number;
+        }
+        _ => {}
     }
     Ok(page)
 }
@@ -298,4 +304,40 @@ fn a_header_has_its_bytes(rt: HostRuntime) -> Result<(), Fail> {
     assert!(rt; page.iter().skip(33).all(|byte| *byte == 0));
     assert_eq!(rt; page.len(), 512);
     Ok(())
+}
+
+/// Beyond the numbers that are handed out.
+const LIMIT: u64 = 1 << 62;
+
+#[test]
+fn numbers_are_used_up(rt: HostRuntime) -> Result<(), Fail> {
+    let alloc = rt.alloc();
+    let nand = with_file(alloc, 2, Altered::Number(LIMIT))?;
+    let mut served = Served::mount(alloc, nand, 16)?;
+    assert!(rt; served.volume.read_only());
+    let rows = [
+        ("list /", "names 1 a"),
+        ("mkdir /c", "error EROFS"),
+        ("sync", "ok"),
+    ];
+    expect(&rt, alloc, &mut served, &rows)?;
+    // One group may still be written.
+    let nand = with_file(alloc, 2, Altered::Number(LIMIT - 2))?;
+    let mut served = Served::mount(alloc, nand, 16)?;
+    let rows = [
+        ("mkdir /c", "ok"),
+        ("sync", "ok"),
+        ("mkdir /d", "ok"),
+        ("sync", "error EIO"),
+        ("list /", "error EIO"),
+    ];
+    expect(&rt, alloc, &mut served, &rows)?;
+    let mut served = Served::after_power_up(alloc, served.abandon(), 16)?;
+    assert!(rt; !served.volume.read_only());
+    let rows = [
+        ("list /", "names 2 a c"),
+        ("mkdir /d", "ok"),
+        ("sync", "error EIO"),
+    ];
+    expect(&rt, alloc, &mut served, &rows)
 }

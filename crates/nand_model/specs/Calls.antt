@@ -10,19 +10,21 @@ use Rattle.nand_model.specs.declared.nand.ProgramFault.TheVariants as program_fa
 use Rattle.nand_model.specs.declared.nand.EraseFault.{EraseFault}
 use Rattle.nand_model.specs.declared.nand.EraseFault.TheVariants as erase_faults
 
--- What is known of a device at one moment. It counts since it was made, without end.
+-- What is known of a device at one moment. It counts since it was made, without end. Where it is steady no call of it is cut
+-- until the next power-up.
 pub record Device : Type 0 where
   pub geometry : Geometry
   pub flash : Flash
   pub gone : Bool
   pub honest : Bool
+  pub steady : Bool
   pub cuts : ℕ
   pub failures : ℕ
   pub changes : ℕ
   pub reads : ℕ
 
 -- What every call keeps, and so any number of them: the geometry, the honesty, marks that are set, and the whole of a
--- device that is gone. No count falls. Only a cut makes a device gone.
+-- device that is gone. No count falls. Only a cut makes a device gone, and it does, so one cut is counted at most.
 pub record Lasts (old new : Device) : Type 0 where
   pub geometry : new.geometry ≡ old.geometry
   pub honest : new.honest ≡ old.honest
@@ -33,6 +35,9 @@ pub record Lasts (old new : Device) : Type 0 where
   pub marks : (b : ℕ) → old.flash.bad b ≡ true → new.flash.bad b ≡ true
   pub gone : old.gone ≡ true → new ≡ old
   pub goes : new.gone ≡ true → (old.gone ≡ true) ⊎ (old.cuts < new.cuts)
+  pub ends : old.cuts < new.cuts → new.gone ≡ true
+  pub once : new.cuts ≤ old.cuts + 1
+  pub steady : old.steady ≡ true → (new.steady ≡ true) × (new.cuts ≡ old.cuts)
 
 -- the call did what it was asked for
 pub record Completes (old new : Device) : Type 0 where

@@ -21,6 +21,7 @@ pub record PowersUp (old new : Device) : Type 0 where
   pub geometry : new.geometry ≡ old.geometry
   pub honest : new.honest ≡ old.honest
   pub gone : new.gone ≡ false
+  pub steady : new.steady ≡ true
   pub page : new.flash.page ≡ old.flash.page
   pub bad : new.flash.bad ≡ old.flash.bad
   pub nexts : (b : ℕ) → new.flash.next b ≡ None

@@ -9,4 +9,5 @@ pub mod Powers
 pub mod Memory
 pub mod MemoryState
 pub mod SmallDevices
+pub mod Putting
 pub mod laws

@@ -2,7 +2,7 @@
 use Rattle.std.specs.Prelude.{true}
 use Rattle.nand_model.specs.Calls.{Device}
 use Rattle.nand_model.specs.Memory.{flash_of}
-use Rattle.nand_model.specs.Plans.{Plan}
+use Rattle.nand_model.specs.Plans.{Plan, is_steady}
 use Rattle.nand_model.specs.Scripts as scripts
 use Rattle.nand_model.specs.declared.memory.MemNand.{MemNand}
 
@@ -13,6 +13,7 @@ device d = record {
   flash = flash_of d.blocks.items;
   gone = d.power.gone;
   honest = true;
+  steady = is_steady (scripts.plan d.power.script);
   cuts = d.power.cuts.total;
   failures = d.power.failures.total;
   changes = d.power.changes.total;

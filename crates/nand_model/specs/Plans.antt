@@ -1,5 +1,5 @@
 -- Which calls of a device in memory are cut or fail, and with which fates.
-use Rattle.std.specs.Prelude.{ℕ, ◌+◌, ◌-◌, ◌^◌, Bool, true, false, Option, Some, None, Result, Ok, Err, List, [], ◌∷◌, slice_get, map, min, nat_eq, is_some, unwrap_or, if◌then◌else◌}
+use Rattle.std.specs.Prelude.{ℕ, ◌+◌, ◌-◌, ◌^◌, Bool, true, false, Option, Some, None, Result, Ok, Err, List, [], ◌∷◌, slice_get, map, min, nat_eq, is_some, not, unwrap_or, if◌then◌else◌}
 use Rattle.std.specs.Global.{Vec}
 use Rattle.nand_model.specs.Flash.{Page, Erased, Written, Uncorrectable}
 use Rattle.nand_model.specs.declared.fate.Fate.{Fate}
@@ -21,6 +21,10 @@ pub record Plan : Type 0 where
 -- the failures of a list, with the fates as lists
 abbrev pub listed : List (ℕ × Vec Fate) → List (ℕ × List Fate)
 listed failures = map (λ f. (f.0, f.1.items)) failures
+
+-- no call is cut
+abbrev pub is_steady : Plan → Bool
+is_steady plan = not (is_some plan.fuse)
 
 -- one more, up to the greatest number of 64 bits
 abbrev pub counted : ℕ → ℕ

@@ -1,6 +1,6 @@
 -- How a call that is not on a gone device begins.
 use Rattle.std.specs.Prelude.{◌≡◌, ℕ, ◌+◌, Bool, true, false, None, []}
-use Rattle.nand_model.specs.Plans.{Plan}
+use Rattle.nand_model.specs.Plans.{Plan, is_steady}
 use Rattle.nand_model.specs.Scripts.{plan}
 use Rattle.nand_model.specs.declared.plan.End.{End}
 use Rattle.nand_model.specs.declared.plan.End.TheVariants as ends
@@ -27,6 +27,7 @@ pub record Begins (end : End) (old new : Power) : Type 0 where
   pub gone : new.gone ≡ is_cut end
   pub cuts : new.cuts.total ≡ cuts_after end old.cuts.total
   pub failures : new.failures.total ≡ failures_after end old.failures.total
+  pub steady : is_steady (plan old.script) ≡ true → (is_steady (plan new.script) ≡ true) × (new.cuts.total ≡ old.cuts.total)
 
 -- nothing was counted since the device was made
 pub record IsUnused (power : Power) : Type 0 where

@@ -7,6 +7,8 @@ ghost use Rattle.nand_model.specs.Plans.{listed};
 ghost use Rattle.nand_model.specs.Planned.{after_read, after_change, ReadsAsPlanned, ProgramsAsPlanned, ErasesAsPlanned, MarksAsPlanned};
 ghost use Rattle.nand_model.specs.Memory.{IsWhole, flash_of, pages_at};
 
+mod putting;
+
 use crate::block::{
     MemBlock, clear_nexts, copy_blocks, erase_block, kind_after_program, mark_block, new_blocks,
     write_page,
@@ -37,6 +39,7 @@ impl MemNand {
         ensures geometry { IfOk result (λ d. (device d).geometry ≡ geometry) }
         ensures blank { IfOk result (λ d. IsBlank (device d).flash) }
         ensures gone { IfOk result (λ d. (device d).gone ≡ false) }
+        ensures steady { IfOk result (λ d. (device d).steady ≡ true) }
         ensures counts { IfOk result (λ d. CountsNothing (device d)) }
         ensures plan { IfOk result (λ d. plan d ≡ record { calls = 0; changes = 0; fuse = None; failures = [] }) }
     {
@@ -61,7 +64,7 @@ impl MemNand {
     /// The call of this number since the power-up is cut, with these fates: of a program and a mark the first, of an
     /// erase one for each page. A missing one is `Old`. It takes the place of an earlier fuse.
     pub fn with_fuse(mut self, op: u64, fates: Vec<Fate>) -> MemNand
-        ensures device { device result ≡ device self }
+        ensures device { device result ≡ record (device self) { steady = false } }
         ensures plan { plan result ≡ record (plan self) { fuse = Some (op, fates.items) } }
     {
         self.power.script.fuse = Some(Fuse { call: op, fates });

@@ -11,10 +11,6 @@ abbrev pub chunks_over : ℕ → ℕ → ℕ → ℕ
 chunks_over d off zero = 0
 chunks_over d off (suc n) = (off + n) / d - off / d + 1
 
--- so many of the n chunks from k on are present
-abbrev pub count_present : List ℕ → ℕ → ℕ → ℕ
-count_present bits k n = count_by (is_present bits) (range_with_len (1 + k) n)
-
 -- the page has the bytes of chunk k, and zeros where the file has none
 pub record HoldsChunk (d : ℕ) (bytes : List ℕ) (k : ℕ) (page : List ℕ) : Type 0 where
   pub size : length page ≡ d

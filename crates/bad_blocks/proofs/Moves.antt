@@ -15,6 +15,7 @@ use Rattle.chunk_index.specs.declared.index.Index.{Index}
 use Rattle.chunk_index.specs.Maps.{kept_pages, CountsAgree}
 use Rattle.flash_tree.specs.Numbering.{AreBelow}
 use Rattle.transactions.specs.Ready.{IsReady}
+use Rattle.transactions.specs.laws.Handing.{hands_same}
 use Rattle.transactions.specs.Sources.{IsName}
 use Rattle.transactions.specs.declared.copies.CopyOf.{CopyOf}
 use Rattle.bad_blocks.specs.Copying.{KeepsCounts, KeepsDataAt, MayBeCopied, AreCopied, IsCopyOf, IsTarget, OpenAfter, copy_in}
@@ -252,12 +253,7 @@ module _ (spare v : ℕ) (target : Target) (d0 d1 : Device) (t0 t1 t2 : Table) (
   moves_moved stays = record {
     lasts = keeps.lasts;
     ready = ready_told keeps.ready;
-    numbers = record {
-      groups_rise = let group = tells.counts.next_group in omega (arith, group, keeps.numbers.groups_rise);
-      seqs_rise = let seq = tells.counts.next_seq in omega (arith, seq, keeps.numbers.seqs_rise);
-      seqs = let seq = tells.counts.next_seq in omega (arith, seq, keeps.numbers.seqs);
-      groups = λ honest power. let group = tells.counts.next_group in let few = keeps.numbers.groups honest power in omega (arith, group, few);
-    };
+    numbers = hands_same d0 d1 t0 t1 t2 tells.counts.next_group tells.counts.next_seq keeps.numbers;
     geometry = tells.counts.geometry ∙ keeps.geometry;
     marks = λ b bad. tells.counts.bad b ∙ keeps.marks b bad;
     kept_count = same_keeps;

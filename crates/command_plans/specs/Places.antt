@@ -1,7 +1,7 @@
 -- What a path leads to, for a command.
 use Rattle.std.specs.Prelude.{◌≡◌, ℕ, Some, Result}
 use Rattle.std.specs.FinMap as map
-use Rattle.posix_profile.specs.State.{Object, Objects, State}
+use Rattle.posix_profile.specs.State.{Object, State}
 use Rattle.posix_profile.specs.NameSteps.{at_object}
 use Rattle.posix_profile.specs.Outcomes.{Outcome, refuse, at_place}
 use Rattle.posix_profile.specs.Paths.{Place}

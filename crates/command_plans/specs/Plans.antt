@@ -57,6 +57,12 @@ frees work.Nothing = true
 frees (work.Change change) = takes_none change
 frees work.Commit = true
 
+-- whether it leaves the device as it is: it is nothing, or only forgets an object
+abbrev pub leaves_device : StoreWork → Bool
+leaves_device work.Nothing = true
+leaves_device (work.Change change) = takes_none change
+leaves_device work.Commit = false
+
 -- a command that tells changes nothing, one that may change makes a change only where its reply is no error, and one that syncs commits
 abbrev pub Suits : Class → Reply → StoreWork → Type 0
 Suits Telling reply work.Nothing = Unit {0}
@@ -98,6 +104,11 @@ handed (Err error) = Err (refusals.Error error)
 abbrev pub Frees : Result Plan Errno → Type 0
 Frees (Ok plan) = frees plan.work ≡ true
 Frees (Err error) = Unit {0}
+
+-- The plan leaves the device as it is.
+abbrev pub LeavesDevice : {E : Type 0} → Result Plan E → Type 0
+LeavesDevice (Ok plan) = leaves_device plan.work ≡ true
+LeavesDevice (Err error) = Unit {0}
 
 -- The plan takes no memory, nor did making it.
 abbrev pub TakesNone : Result Plan Refusal → Type 0

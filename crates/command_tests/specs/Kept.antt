@@ -16,6 +16,7 @@ kept_meaning = record {
   stands = λ a objects. objects_of a.objects ≡ objects;
   shows = λ a tree. Unit {0};
   lasts = λ a b. numbers_of b.objects ≡ numbers_of a.objects;
+  leaves = λ a b. b.shown ≡ a.shown;
   reads = λ a b. (objects_of b.objects ≡ objects_of a.objects) × (numbers_of b.objects ≡ numbers_of a.objects);
   changes = λ old new a b. Unit {0};
   fails = λ old new a b. Unit {0};
@@ -24,6 +25,7 @@ kept_meaning = record {
 
 pub kept_lawful : IsLawful kept_meaning
 kept_lawful = record {
+  leaves_nothing = λ a. refl;
   reads_nothing = λ a. (refl, refl);
   reads_on = λ a b c first then'. (then'.0 ∙ first.0, then'.1 ∙ first.1);
   reads_lasts = λ a b reads. reads.1;

@@ -25,6 +25,7 @@ use Rattle.page_buffer.specs.Shown.{data_at, data_by, kept_data, present_data}
 use Rattle.transactions.specs.Committing.{name_at, bytes_at}
 use Rattle.transactions.specs.Groups.{OkTable, next_group}
 use Rattle.transactions.specs.Handing.{HandsOut}
+use Rattle.transactions.specs.laws.Handing.{hands_same}
 use Rattle.transactions.specs.Newest.{ShowsGroup}
 use Rattle.flash_tree.specs.Numbering.{AreBelow}
 use Rattle.transactions.specs.Ready.{IsReady}
@@ -67,15 +68,7 @@ limits_counted t u before after counts (groups, seqs) = (let same = counts.next_
 
 -- and as many numbers are handed out
 pub hands_counted : (d e : Device) (t u v : Table) (before after : ℕ → ℕ) → Recounts before after u v → HandsOut d e t u → HandsOut d e t v
-hands_counted d e t u v before after counts hands =
-    let group = counts.next_group in
-    let seq = counts.next_seq in
-    record {
-      groups_rise = omega (arith, group, hands.groups_rise);
-      seqs_rise = omega (arith, seq, hands.seqs_rise);
-      seqs = omega (arith, seq, hands.seqs);
-      groups = λ honest power. let few = hands.groups honest power in omega (arith, group, few);
-    }
+hands_counted d e t u v before after counts hands = hands_same d e t u v counts.next_group counts.next_seq hands
 
 -- Tables where the index was settled: pages of the buffer may lie where the group says, its block has room for them, and
 -- it was not free.

@@ -1,15 +1,17 @@
 -- A device that is only read keeps what it has.
-use Rattle.std.specs.Prelude.{◌≡◌, ◌<◌, ℕ, Bool, true, false, count_by}
+use Rattle.std.specs.Prelude.{◌≡◌, ◌<◌, ◌≤◌, ◌+◌, ℕ, Bool, true, false, count_by}
 use Rattle.std.specs.List.{range_with_len}
 use Rattle.std.proofs.Common.{refl, arith}
 use Rattle.nand_model.specs.Flash.{Flash}
+use Rattle.nand_model.specs.laws.Calls.{lasts_here}
 use Rattle.nand_model.specs.declared.geometry.Geometry.{Geometry}
 use Rattle.volume_terms.specs.Sizes.{number_limit}
 use Rattle.flash_tree.specs.Newest.{Numbers}
 use Rattle.flash_tree.specs.Mount.{bad_blocks}
 use Rattle.flash_tree.specs.FreeBlocks.{LeavesFree}
+use Rattle.transactions.specs.laws.Handing.{below_greater}
 use Rattle.pages.specs.State.{PagesState}
-use Rattle.pages.specs.Stores.{HasPage, HasNumbersLeft, KeptAs}
+use Rattle.pages.specs.Stores.{GoesOn, HasPage, HasNumbersLeft, KeptAs}
 use Rattle.flash_pages.specs.ReadOnly.{IsWorn, HasGreatest, IsCarrying, only_read}
 
 -- where more blocks are bad than there are to spare, none has to be free
@@ -36,4 +38,25 @@ keeps_all p n spare most refused_change worn greatest carrying = record {
     free = λ left. none_free p.device.geometry p.device.flash spare (HasPage p.present) (too_many_bad p n spare worn greatest honest left);
   };
   kept = λ sound o c. refl;
+}
+
+-- nor does the device change, nor the numbers that come next
+pub goes_on : (p : PagesState) (n : Numbers) (spare most : ℕ) (was is : Bool) → GoesOn (only_read p n spare most was) (only_read p n spare most is)
+goes_on p n spare most was is = record {
+  page_bytes = refl;
+  most = refl;
+  spare = refl;
+  refused = λ yes. yes;
+  failed = λ yes. yes;
+  device = lasts_here p.device;
+  numbers = record {
+    groups_rise = omega arith;
+    seqs_rise = omega arith;
+    seqs = omega arith;
+    groups = λ honest power. omega arith;
+    below = λ honest below. below;
+    written = λ honest below more counted. below_greater p.device.flash (n.group + 1) (n.seq + 1) _ _ (omega arith) (omega arith) below;
+  };
+  marks = omega arith;
+  limits = λ honest left. left;
 }

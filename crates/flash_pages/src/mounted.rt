@@ -56,6 +56,8 @@ impl<N: Nand> Pages for FlashPages<N> {
 }
 
 impl<N: Nand> PageStore for FlashPages<N> {
+    ghost lost = { elim [ kinds.Store store ↦ ⟦<Store<N> as PageStore>⟧.lost store | kinds.ReadOnly pages ↦ ⟦<ReadOnlyPages<N> as PageStore>⟧.lost pages ] };
+
     fn most_pages(&self) -> u32 {
         match self {
             FlashPages::Store(store) => PageStore::most_pages(store),

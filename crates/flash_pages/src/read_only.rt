@@ -80,6 +80,10 @@ impl<N: Nand> Pages for ReadOnlyPages<N> {
 }
 
 impl<N: Nand> PageStore for ReadOnlyPages<N> {
+    ghost use Rattle.flash_pages.specs.laws.Sound.{lost_reading};
+
+    ghost lost = { λ s sound failed. lost_reading (N.state s.pages.device).gone (N.state s.pages.device).honest s.refused_change sound failed };
+
     fn most_pages(&self) -> u32 {
         self.most
     }

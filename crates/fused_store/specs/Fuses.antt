@@ -33,6 +33,7 @@ fused_meaning m inner calls last = record {
   stands = λ a objects. m.stands (inner a) objects;
   shows = λ a tree. m.shows (inner a) tree;
   lasts = λ a b. m.lasts (inner a) (inner b) × Spends calls last a b;
+  leaves = λ a b. m.leaves (inner a) (inner b);
   reads = λ a b. m.reads (inner a) (inner b) × Spends calls last a b;
   changes = λ old new a b. m.changes old new (inner a) (inner b) × (calls b < calls a);
   fails = λ old new a b. IsLost m (calls b) (last b) old new (inner a) (inner b) ⊎ m.fails old new (inner a) (inner b);
@@ -66,6 +67,7 @@ left_shows m law a b fates.Done old now (inr (inr done)) = λ tree shown. inr (l
 
 pub fused_lawful : {S T : Type 0} (m : Meaning S) (law : IsLawful m) (inner : T → S) (calls : T → ℕ) (last : T → LastCall) → IsLawful (fused_meaning m inner calls last)
 fused_lawful m law inner calls last = record {
+  leaves_nothing = λ a. law.leaves_nothing (inner a);
   reads_nothing = λ a. (law.reads_nothing (inner a), record { calls_fall = omega arith; fate = refl });
   reads_on = λ a b c x y. (law.reads_on (inner a) (inner b) (inner c) x.0 y.0, spends_on calls last a b c x.1 y.1);
   reads_lasts = λ a b x. (law.reads_lasts (inner a) (inner b) x.0, x.1);

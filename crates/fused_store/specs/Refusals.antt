@@ -8,6 +8,7 @@ refusing_meaning m inner = record {
   stands = λ a objects. m.stands (inner a) objects;
   shows = λ a tree. m.shows (inner a) tree;
   lasts = λ a b. m.lasts (inner a) (inner b);
+  leaves = λ a b. m.leaves (inner a) (inner b);
   reads = λ a b. m.reads (inner a) (inner b);
   changes = λ old new a b. m.changes old new (inner a) (inner b);
   fails = λ old new a b. m.fails old new (inner a) (inner b);
@@ -16,6 +17,7 @@ refusing_meaning m inner = record {
 
 pub refusing_lawful : {S T : Type 0} (m : Meaning S) (law : IsLawful m) (inner : T → S) → IsLawful (refusing_meaning m inner)
 refusing_lawful m law inner = record {
+  leaves_nothing = λ a. law.leaves_nothing (inner a);
   reads_nothing = λ a. law.reads_nothing (inner a);
   reads_on = λ a b c. law.reads_on (inner a) (inner b) (inner c);
   reads_lasts = λ a b. law.reads_lasts (inner a) (inner b);

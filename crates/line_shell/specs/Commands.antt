@@ -94,17 +94,10 @@ command_of (name ∷ first ∷ second ∷ []) = command_of_two name first second
 command_of (name ∷ first ∷ second ∷ third ∷ []) = command_of_three name first second third
 command_of (name ∷ first ∷ second ∷ third ∷ more ∷ rest) = None
 
--- whether a line may ask for the command; a line of another one is a bad line
-abbrev pub is_served : Command → Bool
-is_served (commands.Mkdir path) = true
-is_served (commands.List path) = true
-is_served commands.Sync = true
-is_served command = false
-
 -- a line that asks for a command, if it does
 abbrev pub asked : Option Command → Line
 asked None = lines.Bad
-asked (Some command) = if is_served command then lines.Do command else lines.Bad
+asked (Some command) = lines.Do command
 
 -- the moment of `now N`, where the words are that
 abbrev pub moment_of : List (List ℕ) → Option ℕ

@@ -1,6 +1,6 @@
 // What a line asks for.
 ghost use Rattle.std.specs.Prelude.{◌≡◌, IfOk};
-ghost use Rattle.line_shell.specs.Commands.{is_served, asked, moment_of, meaning, line_of};
+ghost use Rattle.line_shell.specs.Commands.{asked, moment_of, meaning, line_of};
 
 use crate::arguments::command_of;
 use crate::line::Line;
@@ -11,22 +11,12 @@ use std::alloc::{AllocError, Global};
 
 const GREATEST_MOMENT: u64 = i64::MAX as u64;
 
-/// Whether a line may ask for the command.
-fn is_served(command: &Command) -> bool
-    ensures { result ≡ is_served command.now }
-{
-    matches!(
-        command,
-        Command::Mkdir { .. } | Command::List { .. } | Command::Sync
-    )
-}
-
 fn asked(command: Option<Command>) -> Line
     ensures { result ≡ asked command }
 {
     match command {
-        Some(command) if is_served(&command) => Line::Do(command),
-        _ => Line::Bad,
+        Some(command) => Line::Do(command),
+        None => Line::Bad,
     }
 }
 

@@ -1,7 +1,5 @@
 // Worked lines: what is asked, and what is told.
-use crate::arguments::command_of;
 use crate::serve::Serve;
-use crate::word::{pieces_of, unescape_words};
 use crate::{Line, ShellFault, parse, shell, write_reply};
 use posix_profile::{
     Access, Bytes, Command, Errno, FilePath, Info, Kind, NameList, OpenFlags, Reply, SpaceInfo,
@@ -20,15 +18,6 @@ fn text(alloc: Global, text: &[u8]) -> Result<Bytes, AllocError> {
     Ok(Bytes::new(text.to_vec(alloc)?))
 }
 
-/// The command of a line, served or not.
-fn command_in(alloc: Global, line: &[u8]) -> Result<Option<Command>, AllocError> {
-    let pieces = pieces_of(alloc, line)?;
-    Ok(match unescape_words(alloc, &pieces)? {
-        Some(words) => command_of(words),
-        None => None,
-    })
-}
-
 /// What the text of a reply is.
 fn reply_of(alloc: Global, reply: &Reply) -> Result<Vec<u8>, Fail> {
     let mut told = Vec::new(alloc);
@@ -38,9 +27,9 @@ fn reply_of(alloc: Global, reply: &Reply) -> Result<Vec<u8>, Fail> {
 
 /// Asserts that the line asks for the command.
 fn asks(rt: &impl Abort, alloc: Global, line: &str, command: Command) -> Result<(), Fail> {
-    let found = command_in(alloc, line.as_bytes())?;
+    let found = parse(alloc, line.as_bytes())?;
     let found = format!(in alloc; "{found:?}")?;
-    let wanted = Some(command);
+    let wanted = Line::Do(command);
     let wanted = format!(in alloc; "{wanted:?}")?;
     assert_eq!(rt; found.as_str(), wanted.as_str(), "{line}");
     Ok(())
@@ -251,7 +240,6 @@ fn other_lines_ask_for_no_command(rt: HostRuntime) -> Result<(), Fail> {
     let alloc = rt.alloc();
     for (kind, lines) in BAD.iter().enumerate() {
         for (place, line) in lines.split(|byte| *byte == b'\n').enumerate() {
-            assert!(rt; command_in(alloc, line)?.is_none(), "{kind} {place}");
             assert!(rt; matches!(parse(alloc, line)?, Line::Bad), "{kind} {place}");
         }
     }
@@ -259,7 +247,7 @@ fn other_lines_ask_for_no_command(rt: HostRuntime) -> Result<(), Fail> {
 }
 
 #[test]
-fn moments_and_empty_lines_and_what_is_served(rt: HostRuntime) -> Result<(), Fail> {
+fn moments_and_empty_lines(rt: HostRuntime) -> Result<(), Fail> {
     let alloc = rt.alloc();
     for line in ["", "   "] {
         assert!(rt; matches!(parse(alloc, line.as_bytes())?, Line::Nothing));
@@ -279,18 +267,9 @@ fn moments_and_empty_lines_and_what_is_served(rt: HostRuntime) -> Result<(), Fai
         "now -1",
         "now 1 1",
         "now \\e",
-        "stat /",
-        "close 1",
-        "space",
     ] {
         assert!(rt;
             matches!(parse(alloc, line.as_bytes())?, Line::Bad),
-            "{line}"
-        );
-    }
-    for line in ["mkdir /a", "list /", "sync"] {
-        assert!(rt;
-            matches!(parse(alloc, line.as_bytes())?, Line::Do(_)),
             "{line}"
         );
     }

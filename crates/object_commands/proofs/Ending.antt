@@ -1,5 +1,5 @@
 -- How a plan that is carried out ends, and a command.
-use Rattle.std.specs.Prelude.{◌≡◌, ◌≢◌, ◌⊎◌, Bool, true, false, Result, Ok, Err}
+use Rattle.std.specs.Prelude.{◌≡◌, ◌⊎◌, Bool, true, false, Result}
 use Rattle.std.proofs.Common.{refl, sym, ◌∙◌, ap, subst, inl, inr}
 use Rattle.std.proofs.lemmas.Bool.{false_from_ne_true, true≢false}
 use Rattle.posix_profile.specs.Outcomes.{Outcome, refuse}
@@ -17,8 +17,8 @@ use Rattle.object_store.specs.Stores.{Meaning, IsLawful, Has}
 use Rattle.object_store.specs.laws.Store.{has_on}
 use Rattle.object_store.specs.declared.refusal.Refusal.{Refusal}
 use Rattle.command_plans.specs.Classes.{Class, Telling, Changing, Syncing, class_of, is_error}
-use Rattle.object_commands.specs.Endings.{IsAt, Leaves, IsDone, IsPassedOver, IsStopped, Ends}
-use Rattle.command_plans.specs.Plans.{Holds, IsPlan, Plans, Suits, Did, worked, planned, handled}
+use Rattle.object_commands.specs.Endings.{IsAt, Leaves, IsDone, IsStopped, Ends}
+use Rattle.command_plans.specs.Plans.{IsPlan, Plans, Suits, Did, worked, planned, handled}
 use Rattle.command_plans.specs.Tables.{handles_in}
 use Rattle.command_plans.specs.declared.plan.Plan.{Plan}
 use Rattle.command_plans.specs.declared.plan.StoreWork.{StoreWork}

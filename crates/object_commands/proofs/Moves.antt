@@ -1,24 +1,23 @@
 -- What a move of a name costs, and when it may be done.
-use Rattle.std.specs.Prelude.{◌≡◌, ◌≢◌, ◌⊎◌, ◌<◌, ◌≤◌, ℕ, ◌+◌, ◌-◌, Bool, true, false, not, ◌&&◌, [], ◌∷◌, List, Option, Some, None, is_some, cond, nat_le, nat_lt, if◌then◌else◌}
+use Rattle.std.specs.Prelude.{◌≡◌, ◌≢◌, ◌<◌, ◌≤◌, ℕ, ◌+◌, ◌-◌, Bool, true, false, not, ◌&&◌, [], ◌∷◌, Option, Some, None, is_some, nat_le, nat_lt}
 use Rattle.std.proofs.Common.{refl, sym, ◌∙◌, ap, subst, inl, inr, arith}
-use Rattle.std.proofs.lemmas.Bool.{cases_eq, cases_Bool, cond-true, cond-false, leb-true, true≢false}
+use Rattle.std.proofs.lemmas.Bool.{cases_eq, cond-true, cond-false, leb-true}
 use Rattle.std.proofs.lemmas.Bool.Decides.{nat_tests}
 use Rattle.std.specs.Cmp.{nat_cmp_total}
 use Rattle.std.specs.Cmp.Lexicographic.{nat_list_cmp_total}
 use Rattle.std.specs.FinMap as map
 use Rattle.volume_terms.specs.Sizes.{Sizes, capacity, page_slots}
-use Rattle.posix_profile.specs.State.{Name, Entries, Object, File, Dir, Objects, State, IsDirectory, is_file, is_directory, entries_of}
+use Rattle.posix_profile.specs.State.{Name, Entries, Object, Dir, Objects, State, IsDirectory, is_file, is_directory, entries_of}
 use Rattle.posix_profile.specs.Names.{Names}
-use Rattle.posix_profile.specs.Charge.{cost, charge, fits}
+use Rattle.posix_profile.specs.Charge.{charge, fits}
 use Rattle.volume_terms.specs.Rounding.{ceiling}
 use Rattle.posix_profile.specs.laws.Charge.{fits_less, insert_less}
 use Rattle.posix_profile.specs.Changes.{with_name, without_name}
 use Rattle.posix_profile.specs.laws.Directory.{directory_after, without_kept}
 use Rattle.posix_profile.specs.laws.Map.{cases_key, get_here, get_there, get_removed, removed_none}
 use Rattle.posix_profile.specs.laws.Name.{name_same, namer_directory, named_entry, one_object}
-use Rattle.posix_profile.specs.NameSteps.{is_object, rename_tests_onto}
+use Rattle.posix_profile.specs.NameSteps.{rename_tests_onto}
 use Rattle.posix_profile.specs.Paths.{Place, first_error}
-use Rattle.posix_profile.specs.declared.reply.Errno.{Errno}
 use Rattle.posix_profile.specs.declared.reply.Errno.TheVariants as errors
 use Rattle.command_plans.specs.Rooms.{entry_units}
 use Rattle.command_plans.specs.laws.Plan.{directory_unless}

@@ -1,5 +1,5 @@
 -- What is left when an object loses a name, or a descriptor.
-use Rattle.std.specs.Prelude.{◌≡◌, ◌≢◌, ◌⊎◌, ◌<◌, ◌≤◌, ℕ, ◌+◌, Bool, true, false, List, [], ◌∷◌, length, Option, Some, None, nat_le}
+use Rattle.std.specs.Prelude.{◌≡◌, ◌≢◌, ◌⊎◌, ◌<◌, ◌≤◌, ℕ, true, false, List, [], ◌∷◌, length, Some, None, nat_le}
 use Rattle.std.proofs.Common.{refl, sym, ◌∙◌, ap, subst, inl, inr, arith}
 use Rattle.std.proofs.lemmas.Bool.{cases_eq, leb-true, leb-false}
 use Rattle.std.specs.Cmp.{nat_cmp_total}
@@ -10,10 +10,10 @@ use Rattle.posix_profile.specs.State.{Name, Object, Dir, Objects, Handle, State,
 use Rattle.posix_profile.specs.Names.{Names, link_pairs, prune}
 use Rattle.posix_profile.specs.Changes.{with_name, without_name}
 use Rattle.posix_profile.specs.WellFormed.{IsNamed, IsOpen, IsWellFormed}
-use Rattle.posix_profile.specs.laws.Map.{Member, cases_key, insert_cases, get_removed, remove_cases}
+use Rattle.posix_profile.specs.laws.Map.{Member, cases_key, insert_cases, get_removed}
 use Rattle.posix_profile.specs.laws.Name.{name_same, one_object, namer_directory}
 use Rattle.posix_profile.specs.laws.Directory.{with_from, with_kept, with_here, without_from, without_kept, directory_after}
-use Rattle.posix_profile.specs.laws.Link.{Lists, AreDistinct, link_pairs_list}
+use Rattle.posix_profile.specs.laws.Link.{Lists, link_pairs_list}
 use Rattle.posix_profile.specs.laws.Prune.{IsKept}
 use Rattle.object_store.specs.Changes.{without}
 use Rattle.object_commands.specs.Names.{Unnames}

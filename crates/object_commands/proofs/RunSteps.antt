@@ -1,28 +1,23 @@
 -- A run goes on by one command.
-use Rattle.std.specs.Prelude.{◌≡◌, ◌⊎◌, ◌||◌, ◌++◌, ◌+◌, ◌<◌, ◌≤◌, ℕ, Bool, true, false, List, [], ◌∷◌, length, take, Some, slice_get, get_or}
+use Rattle.std.specs.Prelude.{◌≡◌, ◌||◌, ◌++◌, ◌+◌, ◌<◌, ◌≤◌, ℕ, Bool, true, false, List, [], ◌∷◌, length, take, Some, slice_get, get_or}
 use Rattle.std.specs.List.{list_any}
 use Rattle.std.proofs.Common.{refl, sym, ◌∙◌, ap, subst, inl, inr, arith}
-use Rattle.std.proofs.lemmas.Bool.{cases_Bool, cond-true, cond-false, true≢false}
+use Rattle.std.proofs.lemmas.Bool.{cases_Bool, true≢false}
 use Rattle.std.proofs.lemmas.List.{append_assoc, append-nil, length_push, take-append-le, take_all}
 use Rattle.posix_profile.specs.laws.Loss.{loss_more}
-use Rattle.posix_profile.specs.Losses.{is_synced, LossLeaves}
-use Rattle.posix_profile.specs.laws.Own.{command_own}
-use Rattle.posix_profile.specs.Outcomes.{Outcome}
+use Rattle.posix_profile.specs.Losses.{is_synced}
 use Rattle.posix_profile.specs.laws.Run.{after_more, holds_more}
-use Rattle.posix_profile.specs.Runs.{is_no_memory, is_stop, takes_no_memory, after_one, after, Replies, AllStopped, RunHolds}
+use Rattle.posix_profile.specs.Runs.{is_stop, takes_no_memory, after, AllStopped}
 use Rattle.volume_terms.specs.Sizes.{Sizes}
-use Rattle.posix_profile.specs.State.{Objects, State}
+use Rattle.posix_profile.specs.State.{State}
 use Rattle.posix_profile.specs.Steps.{step}
-use Rattle.posix_profile.specs.declared.command.Command.{Command}
-use Rattle.posix_profile.specs.declared.command.Command.TheVariants as commands
 use Rattle.posix_profile.specs.declared.command.Stamped.{Stamped}
-use Rattle.posix_profile.specs.declared.reply.Errno.{Errno}
 use Rattle.posix_profile.specs.declared.reply.Errno.TheVariants as errors
 use Rattle.posix_profile.specs.declared.reply.Reply.{Reply}
 use Rattle.posix_profile.specs.declared.reply.Reply.TheVariants as replies
-use Rattle.object_store.specs.Stores.{Meaning, IsLawful, KeepsOrSettles, settled}
-use Rattle.command_plans.specs.Classes.{Class, Telling, Changing, Syncing, class_of, is_error}
-use Rattle.object_commands.specs.Endings.{IsAt, Leaves, Ends}
+use Rattle.object_store.specs.Stores.{Meaning, IsLawful}
+use Rattle.command_plans.specs.Classes.{class_of}
+use Rattle.object_commands.specs.Endings.{IsAt, Ends}
 use Rattle.object_commands.specs.Running.{Failure, Ran, Runs}
 use Rattle.object_commands.specs.laws.Steps.{One, one_ends, error_unsynced}
 use Rattle.object_commands.specs.declared.volume.Volume.{Volume}

@@ -1,7 +1,7 @@
 -- What commands do to names.
-use Rattle.std.specs.Prelude.{◌≡◌, ◌≢◌, ◌||◌, ℕ, Bool, [], ◌∷◌, Option, Some, None, is_none, nat_lt, false}
+use Rattle.std.specs.Prelude.{◌≡◌, ◌≢◌, ◌||◌, ℕ, Bool, [], ◌∷◌, Some, is_none, nat_lt, false}
 use Rattle.std.specs.FinMap as map
-use Rattle.posix_profile.specs.State.{Name, Object, Objects, State, IsDirectory, is_file, entries_of}
+use Rattle.posix_profile.specs.State.{Name, Object, Objects, State, is_file, entries_of}
 use Rattle.posix_profile.specs.Names.{Names}
 use Rattle.posix_profile.specs.NameSteps.{at_object, name_removed, name_moved, rename_tests_onto, rename_to}
 use Rattle.posix_profile.specs.Outcomes.{Outcome, answer, unless, change_to}

@@ -9,7 +9,7 @@ ghost use Rattle.posix_profile.specs.laws.Sound.{IsSound};
 ghost use Rattle.posix_profile.specs.HandleSteps.{may_write, open_found, open_absent, open_at, open_step, close_step};
 ghost use Rattle.path_walk.specs.Places.{place_of};
 ghost use Rattle.command_plans.specs.Classes.{Changing};
-ghost use Rattle.command_plans.specs.Plans.{Holds, Plans, Tries, Frees, CanDo, Suits, worked, frees};
+ghost use Rattle.command_plans.specs.Plans.{Holds, Plans, Tries, Frees, LeavesDevice, CanDo, Suits, worked, frees, leaves_device};
 ghost use Rattle.object_commands.specs.Opens.{open_found_on, open_absent_on, cut_by, opened};
 ghost use Rattle.command_plans.specs.Tables.{handles_in};
 
@@ -38,6 +38,7 @@ fn forgotten<'a, S: ObjectStore>(
         → (handle : Handle) → map.get s.handles fd ≡ Some handle → number ≡ handle.object → CanDo z s.objects result }
     ensures suits { Suits Changing Reply.Done result }
     ensures memory { frees result ≡ true }
+    ensures device { leaves_device result ≡ true }
 {
     if number == ROOT {
         return StoreWork::Nothing;
@@ -60,6 +61,7 @@ pub(crate) fn close<'a, S: ObjectStore>(
     ensures plans { (z : Sizes) (s : State) → Holds S.meaning z s store.now → handles_in table.now ≡ s.handles
         → Tries z Changing s (close_step s fd) result }
     ensures memory { Frees result }
+    ensures device { LeavesDevice result }
 {
     match table.get(fd) {
         Some(description) => Ok(Plan {

@@ -7,7 +7,7 @@ ghost use Rattle.posix_profile.specs.HandleSteps.{at_file, may_read, read_step, 
 ghost use Rattle.posix_profile.specs.NameSteps.{stat_step, list_step, space_step};
 ghost use Rattle.object_store.specs.Facts.{bytes_of};
 ghost use Rattle.command_plans.specs.Classes.{Telling};
-ghost use Rattle.command_plans.specs.Plans.{Holds, Plans, Tries, Frees, IsPlan, frees};
+ghost use Rattle.command_plans.specs.Plans.{Holds, Plans, Tries, Frees, LeavesDevice, IsPlan, frees, leaves_device};
 ghost use Rattle.object_commands.specs.Reads.{read_of};
 ghost use Rattle.command_plans.specs.Tables.{handle_of, handles_in};
 
@@ -161,6 +161,7 @@ fn seek_to<'a>(fd: u32, description: OpenDescription, target: u128) -> Result<Pl
     ensures plans { (z : Sizes) (s : State) → fd < 64
         → Tries z Telling s (seek_to s fd (handle_of description) (pos target)) result }
     ensures memory { Frees result }
+    ensures device { LeavesDevice result }
 {
     if target > OFFSET_LIMIT {
         return Err(Errno::EOVERFLOW);
@@ -184,6 +185,7 @@ fn seek_signed<'a>(fd: u32, description: OpenDescription, target: i128) -> Resul
     ensures plans { (z : Sizes) (s : State) → fd < 64
         → Tries z Telling s (seek_to s fd (handle_of description) target) result }
     ensures memory { Frees result }
+    ensures device { LeavesDevice result }
 {
     if target < 0 {
         return Err(Errno::EINVAL);
@@ -203,6 +205,7 @@ fn seek_open<'a, S: ObjectStore>(
         → Tries z Telling s (at_file s (map.get s.objects description.object) Errno.EINVAL
         (λ bytes. seek_to s fd (handle_of description) (pos (seek_origin whence description.offset (length bytes)) +ℤ offset))) result }
     ensures memory { Frees result }
+    ensures device { LeavesDevice result }
 {
     if !is_file(store, description.object) {
         return Err(Errno::EINVAL);
@@ -226,6 +229,7 @@ pub(crate) fn seek<'a, S: ObjectStore>(
     ensures plans { (z : Sizes) (s : State) → Holds S.meaning z s store.now → handles_in table.now ≡ s.handles
         → Tries z Telling s (seek_step s fd offset whence) result }
     ensures memory { Frees result }
+    ensures device { LeavesDevice result }
 {
     match table.get(fd) {
         Some(description) => seek_open(store, fd, description, offset, whence),
@@ -237,6 +241,7 @@ pub(crate) fn seek<'a, S: ObjectStore>(
 pub(crate) fn space<'a, S: ObjectStore>(store: &S) -> Plan<'a>
     ensures plans { (z : Sizes) (s : State) → Holds S.meaning z s store.now → IsPlan z Telling s (space_step z s) result }
     ensures memory { frees result.work ≡ true }
+    ensures device { leaves_device result.work ≡ true }
 {
     let sizes = store.sizes();
     tell(Reply::SpaceInfo(SpaceInfo {

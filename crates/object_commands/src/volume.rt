@@ -16,7 +16,7 @@ ghost use Rattle.posix_profile.specs.declared.reply.Reply.{Reply};
 ghost use Rattle.object_store.specs.Stores.{Has};
 ghost use Rattle.volume_terms.specs.declared.fault.StoreFault.TheVariants as faults;
 ghost use Rattle.command_plans.specs.Classes.{Class, class_of, makes_no_call};
-ghost use Rattle.command_plans.specs.Plans.{Holds, Plans, Works, IsPlan, TakesNone, CanDo, InRange, frees, handled};
+ghost use Rattle.command_plans.specs.Plans.{Holds, Plans, Works, IsPlan, TakesNone, LeavesDevice, CanDo, InRange, frees, leaves_device, handled};
 ghost use Rattle.command_plans.specs.Tables.{handles_in};
 
 use crate::naming::{link, mkdir, rmdir, unlink};
@@ -53,6 +53,7 @@ fn plan<'a, S: ObjectStore>(
     ensures plans { (z : Sizes) (s : State) → Holds S.meaning z s store.old → handles_in table.now ≡ s.handles
         → Plans S.meaning z (class_of stamped.now.command) s (step z read_only s stamped.now) store.old store.new result }
     ensures memory { takes_no_memory stamped.now.command ≡ true → TakesNone result }
+    ensures leaves { makes_no_call stamped.now.command ≡ true → (store.new ≡ store.old) × LeavesDevice result }
 {
     let moment = stamped.moment;
     match &stamped.command {
@@ -107,6 +108,7 @@ fn plan<'a, S: ObjectStore>(
 /// Does what a plan asks of the store.
 fn work<S: ObjectStore>(store: &mut S, asked: &StoreWork<'_>) -> Result<(), StoreFault>
     ensures lasts { S.meaning.lasts store.old store.new }
+    ensures leaves { leaves_device asked.now ≡ true → S.meaning.leaves store.old store.new }
     ensures works { (z : Sizes) (objects : Objects) → Has S.meaning z objects store.old → CanDo z objects asked.now
         → Works S.meaning objects asked.now store.old store.new result }
     ensures memory { frees asked.now ≡ true → result ≡ Err faults.NoMemory → ⊥ }
@@ -216,6 +218,7 @@ impl<S: ObjectStore> Volume<S> {
     fn carry_out(&mut self, plan: Plan<'_>) -> Reply
         ensures keeps { is_read_only self.new ≡ is_read_only self.old }
         ensures lasts { S.meaning.lasts (store_of self.old) (store_of self.new) }
+        ensures leaves { leaves_device plan.entry.work ≡ true → S.meaning.leaves (store_of self.old) (store_of self.new) }
         ensures ends { is_stopped self.old ≡ false → (z : Sizes) (s : State) → IsAt S.meaning z s self.old
             → (class : Class) (meant : Outcome) → IsPlan z class s meant plan.entry → IsSound z meant.state
             → Ends S.meaning z class (frees plan.entry.work) s meant self.old self.new result }

@@ -1,4 +1,5 @@
 pub mod Holding
+pub mod Counting
 pub mod Faults
 pub mod Plans
 pub mod laws

@@ -1,14 +1,17 @@
-// What a mount shows of pages that hold objects.
-ghost use Rattle.std.specs.Prelude.{◌≤◌, ◌+◌, ℕ, ◌∷◌, []};
+// Laws of pages that hold objects.
+ghost use Rattle.std.specs.Prelude.{◌≤◌, ◌+◌, ℕ, List, ◌∷◌, [], length};
 ghost use Rattle.std.specs.FinMap as map;
 ghost use Rattle.nand_model.specs.declared.geometry.Geometry.{Geometry};
 ghost use Rattle.flash_tree.specs.Mount.{sizes_of, IsVolume};
 ghost use Rattle.flash_tree.specs.Tree.{Shows};
-ghost use Rattle.volume_terms.specs.Sizes.{Sizes};
+ghost use Rattle.flash_tree.specs.declared.place.Key.{Key};
+ghost use Rattle.volume_terms.specs.Sizes.{Sizes, IsSizes};
+ghost use Rattle.posix_profile.specs.Charge.{charge};
 ghost use Rattle.posix_profile.specs.State.{Objects};
 ghost use Rattle.posix_profile.specs.WellFormed.{IsForest};
 ghost use Rattle.object_store.specs.Stores.{settled};
 ghost use Rattle.pages.specs.Maps.{PageMap, has, without_cuts};
+ghost use Rattle.object_pages.specs.Counting.{IsOnce, HavePages};
 ghost use Rattle.object_pages.specs.Holding.{HoldsObjects};
 
 /// Pages that hold objects show those of them that names keep.
@@ -29,4 +32,10 @@ pub fn held_objects_are_a_volume()
 pub fn a_cut_object_is_held_no_more()
     ensures { (z : Sizes) (m : PageMap) (objects : Objects) → HoldsObjects z m objects → (o : ℕ)
         → HoldsObjects z (without_cuts (record { object = o; from = 0 } ∷ []) m) (map.remove objects o) }
+{}
+
+/// Where pages are those of objects, there are no more of them than units that the objects cost.
+pub fn each_page_is_charged()
+    ensures { (z : Sizes) (m : PageMap) (objects : Objects) → IsSizes z → HoldsObjects z m objects → (keys : List Key) → IsOnce keys → HavePages m keys
+        → length keys ≤ charge z objects }
 {}

@@ -11,7 +11,10 @@ mod reading;
 mod removal;
 
 pub use content::{resize, write};
-pub use law::{a_cut_object_is_held_no_more, held_objects_are_a_volume, held_objects_are_shown};
+pub use law::{
+    a_cut_object_is_held_no_more, each_page_is_charged, held_objects_are_a_volume,
+    held_objects_are_shown,
+};
 pub use moving::move_name;
 pub use naming::{create, name};
 pub use planning::plan;

@@ -1,5 +1,5 @@
 -- How a store is changed.
-use Rattle.std.specs.Prelude.{◌≡◌, ◌≢◌, ◌⊎◌, ◌≤◌, ℕ, ◌+◌, Bool, true, false, List, [], length, Option, Some, None}
+use Rattle.std.specs.Prelude.{◌≡◌, ◌≢◌, ◌⊎◌, ◌≤◌, ℕ, ◌+◌, Bool, true, false, [], length, Option, Some, None}
 use Rattle.std.specs.FinMap as map
 use Rattle.volume_terms.specs.Sizes.{Sizes, greatest_length, most_written, root_number}
 use Rattle.posix_profile.specs.State.{Name, Object, File, Dir, Objects, IsFile, IsDirectory, entries_of}

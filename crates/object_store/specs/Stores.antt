@@ -34,8 +34,8 @@ pub record Meaning (S : Type 0) : Type 1 where
 abbrev pub KeepsOrSettles : {S : Type 0} (m : Meaning S) → Objects → S → S → Type 0
 KeepsOrSettles m objects a b = (tree : Objects) → m.shows a tree → m.shows b tree ⊎ m.shows b (settled objects)
 
--- No call leaves all as it was. Reads leave what was, and reads before a call do not matter. A change, and a call that fails, leave the tree that a mount
--- shows or settle the objects that were; a done commit settles them.
+-- Without a call the device is left. Reads leave what was, and reads before a call do not matter. A change, and a call that
+-- fails, leave the tree that a mount shows or settle the objects that were; a done commit settles them.
 pub record IsLawful {S : Type 0} (m : Meaning S) : Type 0 where
   pub leaves_nothing : (a : S) → m.leaves a a
   pub reads_nothing : (a : S) → m.reads a a

@@ -16,6 +16,8 @@ use Rattle.chunk_index.specs.Entries.{stays_of}
 use Rattle.chunk_index.specs.Shelves.{look}
 use Rattle.chunk_index.specs.Maps.{present, IsPrepared, IsReady, SameKept, SamePresent}
 use Rattle.chunk_index.specs.laws.Maps.{agree_same}
+use Rattle.transactions.specs.Handing.{HandsOut}
+use Rattle.transactions.specs.laws.Handing.{hands_nothing}
 use Rattle.bad_blocks.specs.Standing.{MayLie, Stands}
 use Rattle.pages.specs.Maps.{PageMap, without_cuts, changed}
 use Rattle.pages.specs.laws.Maps.{page_elsewhere, cut_elsewhere, elsewhere}
@@ -200,3 +202,15 @@ pub fits_on : (x y : Index) (b b' : Buffer) (ps qs : List FreshPage) → SamePre
 fits_on x y b b' ps qs same buffers pages fits =
     subst (λ (k : Buffer). with_new y (buffered k) qs ≤ most_pages k) (sym buffers)
     (subst (λ (l : List FreshPage). with_new y (buffered b) l ≤ most_pages b) (sym pages) (omega (arith, fits, new_same x y ps same)))
+
+-- ---- the numbers that are handed out
+
+-- where neither the device nor the table is other
+pub hands_still : (d e : Device) (t u : Table) → e ≡ d → u ≡ t → HandsOut d e t u
+hands_still d e t u still tables = subst (λ (k : Device). HandsOut d k t u) (sym still) (subst (λ (x : Table). HandsOut d d t x) (sym tables) (hands_nothing d t))
+
+-- and where they are other between two steps alone
+pub hands_between : (d e f k : Device) (t u v w : Table) → e ≡ d → u ≡ t → HandsOut e f u v → k ≡ f → w ≡ v → HandsOut d k t w
+hands_between d e f k t u v w before tables hands after then =
+    subst (λ (x : Device). HandsOut d x t w) (sym after) (subst (λ (y : Table). HandsOut d f t y) (sym then)
+    (subst (λ (x : Device). HandsOut x f t v) before (subst (λ (y : Table). HandsOut e f y v) tables hands)))

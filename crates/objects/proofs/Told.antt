@@ -27,12 +27,19 @@ use Rattle.volume_terms.specs.declared.fault.StoreFault.TheVariants as faults
 use Rattle.objects.specs.Changing.{IsWornOut as HasNothingLeft, IsCommitFault, IsChangeFault}
 use Rattle.objects.specs.StoreOf.{next_numbers}
 use Rattle.objects.proofs.Carried.{carried_same}
-use Rattle.objects.proofs.Steps.{same_back}
+use Rattle.objects.proofs.Steps.{same_back, hands_still}
 
 -- ---- what every call keeps
 
 pub hands_told : (d e : Device) (t u : Table) → HandsOut d e t u → HandsOutNumbers d e (next_numbers t) (next_numbers u)
-hands_told d e t u hands = record { groups_rise = hands.groups_rise; seqs_rise = hands.seqs_rise; seqs = hands.seqs; groups = hands.groups }
+hands_told d e t u hands = record {
+  groups_rise = hands.groups_rise;
+  seqs_rise = hands.seqs_rise;
+  seqs = hands.seqs;
+  groups = hands.groups;
+  below = hands.below;
+  written = hands.written;
+}
 
 pub marks_told : (d e : Device) (t u : Table) → IsReady d t → IsReady e u → MarksFailures 0 0 d e t u → bad_on e + d.failures ≤ bad_on d + e.failures
 marks_told d e t u before after marks =
@@ -204,23 +211,21 @@ module _ (p q : PagesState) (t u : Table) (x : Index) (count : ℕ) (table_is : 
     ]
   ]
 
-  pub change_told : (result : Result (Unit {0}) StoreFault) (broken : Bool) → broken ≡ false → (q.device.gone ≡ true → q.failed ≡ true) → (q.device.honest ≡ false → q.failed ≡ true)
-      → IfErr result (IsChangeFault p.spare count q.device t u broken q.refused) → IfErr result (ChangeFailsBy p q)
-  change_told (Ok done) broken whole gone lies why = tt
-  change_told (Err faults.NoMemory) broken whole gone lies why = why
-  change_told (Err faults.Worn) broken whole gone lies why = worn_told why
-  change_told (Err faults.Device) broken whole gone lies (inl is) = gone is
-  change_told (Err faults.Device) broken whole gone lies (inr (inl is)) = lies is
-  change_told (Err faults.Device) broken whole gone lies (inr (inr is)) = absurd (let two : true ≡ false = sym is ∙ whole in cc)
+  pub change_told : (result : Result (Unit {0}) StoreFault) (broken : Bool) → broken ≡ false → IfErr result (IsChangeFault p.spare count q.device t u broken q.refused) → IfErr result (ChangeFailsBy p q)
+  change_told (Ok done) broken whole why = tt
+  change_told (Err faults.NoMemory) broken whole why = why
+  change_told (Err faults.Worn) broken whole why = worn_told why
+  change_told (Err faults.Device) broken whole (inl is) = inl is
+  change_told (Err faults.Device) broken whole (inr (inl is)) = inr is
+  change_told (Err faults.Device) broken whole (inr (inr is)) = absurd (let two : true ≡ false = sym is ∙ whole in cc)
 
-  pub commit_told : (result : Result (Unit {0}) StoreFault) (broken : Bool) → broken ≡ false → (q.device.gone ≡ true → q.failed ≡ true) → (q.device.honest ≡ false → q.failed ≡ true)
-      → IfErr result (IsCommitFault p.spare count q.device t u broken) → IfErr result (CommitFailsBy p q)
-  commit_told (Ok done) broken whole gone lies why = tt
-  commit_told (Err faults.NoMemory) broken whole gone lies why = why
-  commit_told (Err faults.Worn) broken whole gone lies why = worn_told why
-  commit_told (Err faults.Device) broken whole gone lies (inl is) = gone is
-  commit_told (Err faults.Device) broken whole gone lies (inr (inl is)) = lies is
-  commit_told (Err faults.Device) broken whole gone lies (inr (inr is)) = absurd (let two : true ≡ false = sym is ∙ whole in cc)
+  pub commit_told : (result : Result (Unit {0}) StoreFault) (broken : Bool) → broken ≡ false → IfErr result (IsCommitFault p.spare count q.device t u broken) → IfErr result (CommitFailsBy p q)
+  commit_told (Ok done) broken whole why = tt
+  commit_told (Err faults.NoMemory) broken whole why = why
+  commit_told (Err faults.Worn) broken whole why = worn_told why
+  commit_told (Err faults.Device) broken whole (inl is) = inl is
+  commit_told (Err faults.Device) broken whole (inr (inl is)) = inr is
+  commit_told (Err faults.Device) broken whole (inr (inr is)) = absurd (let two : true ≡ false = sym is ∙ whole in cc)
 
 -- ---- how a commit and a cut end
 
@@ -251,6 +256,11 @@ pub cut_told : (result : Result (Unit {0}) StoreFault) (p q : PagesState) (broke
 cut_told (Ok done) p q broken whole why = tt
 cut_told (Err fault) p q broken whole why = absurd (let two : true ≡ false = sym why.1 ∙ whole in cc)
 
+-- nor does it take memory
+pub cut_takes_none : (result : Result (Unit {0}) StoreFault) (broken : Bool) → IfErr result (λ fault. (fault ≡ faults.Device) × (broken ≡ true)) → IsErrOf result faults.NoMemory → ⊥
+cut_takes_none (Ok done) broken why is = absurd cc
+cut_takes_none (Err fault) broken why is = let two : faults.Device ≡ faults.NoMemory = sym why.0 ∙ (let same : fault ≡ faults.NoMemory = cc in same) in absurd cc
+
 pub cut_stopped : (result : Result (Unit {0}) StoreFault) (h a b : Bool) → b ≡ a → IfErr result (λ fault. (fault ≡ faults.Device) × (a ≡ true)) → IfErr result (λ fault. (h && not b) ≡ false)
 cut_stopped (Ok done) h a b same why = tt
 cut_stopped (Err fault) h a b same why = not_sound h b (same ∙ why.1)
@@ -258,16 +268,7 @@ cut_stopped (Err fault) h a b same why = not_sound h b (same ∙ why.1)
 -- where neither the device nor the table changes
 module _ (d e : Device) (t u : Table) (still : e ≡ d) (tables : u ≡ t) where
   pub hands_none : HandsOutNumbers d e (next_numbers t) (next_numbers u)
-  hands_none =
-      let group : u.next_group ≡ t.next_group = ap (λ (x : Table). x.next_group) tables in
-      let seq : u.next_seq ≡ t.next_seq = ap (λ (x : Table). x.next_seq) tables in
-      let changes : e.changes ≡ d.changes = ap (λ (x : Device). x.changes) still in
-      record {
-        groups_rise = omega (arith, group);
-        seqs_rise = omega (arith, seq);
-        seqs = omega (arith, seq, changes);
-        groups = λ honest power. omega (arith, group, changes);
-      }
+  hands_none = hands_told d e t u (hands_still d e t u still tables)
 
   pub marks_none : bad_on e + d.failures ≤ bad_on d + e.failures
   marks_none =

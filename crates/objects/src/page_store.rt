@@ -6,6 +6,10 @@ use pages::{Change, Cut, PageStore};
 use volume_terms::StoreFault;
 
 impl<N: Nand> PageStore for Store<N> {
+    ghost use Rattle.objects.specs.laws.Sound.{lost_alone};
+
+    ghost lost = { λ s sound failed. lost_alone (N.state s.device).gone (N.state s.device).honest s.broken sound failed };
+
     fn most_pages(&self) -> u32 {
         self.buffer.most()
     }

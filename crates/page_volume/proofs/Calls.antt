@@ -1,7 +1,6 @@
 -- What the commands promise of a store of objects, in the words of its pages.
 use Rattle.std.specs.Prelude.{◌≡◌, ◌⊎◌, ℕ, Bool, true, List, Result, Ok, Err}
-use Rattle.std.proofs.Common.{refl, sym, ◌∙◌, ap, subst, inl, inr, arith}
-use Rattle.nand_model.specs.laws.Calls.{lasts_here}
+use Rattle.std.proofs.Common.{refl, sym, ◌∙◌, ap, subst, inl, inr}
 use Rattle.volume_terms.specs.Sizes.{Sizes}
 use Rattle.posix_profile.specs.Losses.{is_synced, LossLeaves}
 use Rattle.posix_profile.specs.Runs.{takes_no_memory}
@@ -13,7 +12,6 @@ use Rattle.object_store.specs.Stores.{Meaning, Has, Commits, settled}
 use Rattle.volume_terms.specs.declared.fault.StoreFault.{StoreFault}
 use Rattle.volume_terms.specs.declared.fault.StoreFault.TheVariants as faults
 use Rattle.object_commands.specs.Volumes.{store_of}
-use Rattle.pages.specs.Stores.{GoesOn}
 use Rattle.command_plans.specs.Classes.{class_of}
 use Rattle.object_commands.specs.Endings.{IsAt, Ends}
 use Rattle.object_commands.specs.Running.{Ran, Runs}
@@ -93,7 +91,7 @@ module _ {P : Type 0} (state : P → PagesState) where
     holds = ran.holds;
     losses = λ tree shown. losses_from (ran.losses tree (shown_to state z a tree is shown));
     stops = ran.stops;
-    cause = λ stop. let f = ran.failure stop in record { from = state (f.from).pages; goes_on = f.lasts.0; ended = f.fails.0.cause };
+    cause = λ stop. (ran.failure stop).fails.0.cause;
     state_is = λ goes. is_volume state z _ b (ran.state goes);
   } where
     losses_from : {tree : Objects} → LossLeaves (Shown (sizes_of (table_of b)) (state (pages_of b))) tree z (is_read_only a) s commands answered → LossLeaves (Shown z (state (pages_of b))) tree z (is_read_only a) s commands answered
@@ -111,20 +109,6 @@ module _ {P : Type 0} (state : P → PagesState) where
     stopped = λ stop. let was = runs.stopped stop in (was.0, same_volume a b was.1);
     ran = λ goes z s is. ran_pages z s commands runs.answered a b is.sizes same (runs.ran goes z s (is_at state z s a is));
   }
-
--- nothing is done
-pub goes_here : (p : PagesState) → GoesOn p p
-goes_here p = record {
-  page_bytes = refl;
-  most = refl;
-  spare = refl;
-  refused = λ is. is;
-  failed = λ is. is;
-  device = lasts_here p.device;
-  numbers = record { groups_rise = omega arith; seqs_rise = omega arith; seqs = omega arith; groups = λ _ _. omega arith };
-  marks = omega arith;
-  limits = λ _ is. is;
-}
 
 module _ {P : Type 0} (state : P → PagesState) (z : Sizes) (objects : Objects) (a b : PagedObjects P) (has : Has (meaning_of state) z objects a) where
   by_sizes : {tree : Objects} {p : PagesState} → Shown (sizes_of a.table) p tree → Shown z p tree
@@ -150,7 +134,7 @@ module _ {P : Type 0} (state : P → PagesState) (z : Sizes) (objects : Objects)
   commit_tree (Err faults.Worn) none commits tree shown = either (commits.0.turns tree (to_sizes shown))
 
   -- one that is not done has its cause
-  pub commit_cause : (r : Result (Unit {0}) StoreFault) (fault : StoreFault) → r ≡ Err fault → (r ≡ Err faults.NoMemory → ⊥) → Commits (meaning_of state) objects a b r → HasEnded (state a.pages) (state b.pages)
+  pub commit_cause : (r : Result (Unit {0}) StoreFault) (fault : StoreFault) → r ≡ Err fault → (r ≡ Err faults.NoMemory → ⊥) → Commits (meaning_of state) objects a b r → HasEnded (state b.pages)
   commit_cause r faults.NoMemory is none commits = absurd (none is)
   commit_cause r faults.Device is none commits = let ends : Commits (meaning_of state) objects a b (Err faults.Device) = subst (Commits (meaning_of state) objects a b) is commits in ends.0.cause
   commit_cause r faults.Worn is none commits = let ends : Commits (meaning_of state) objects a b (Err faults.Worn) = subst (Commits (meaning_of state) objects a b) is commits in ends.0.cause

@@ -16,19 +16,20 @@ use Rattle.pages.specs.declared.fault.PageFault.{PageFault}
 use Rattle.pages.specs.declared.fault.PageFault.TheVariants as page_faults
 use Rattle.object_pages.specs.Holding.{HoldsObjects}
 use Rattle.object_pages.specs.laws.Holding.{cut_object}
-use Rattle.paged_objects.specs.Faults.{fault_of, ending_fault, ReadFailsBy}
+use Rattle.paged_objects.specs.Faults.{fault_of, ReadFailsBy}
 use Rattle.paged_objects.specs.Standing.{Stands}
 use Rattle.paged_objects.specs.Ending.{StaysAs, Turns, Fails, Commits, HasPages, EndsPages, Ends}
 use Rattle.paged_objects.specs.laws.Going.{finds_stay, refused_stays, stays_on, volume_on}
+use Rattle.paged_objects.proofs.Causes.{used_up}
 use Rattle.paged_objects.specs.laws.Showing.{stays_stands, changed_stands, still_shown, either_turns, kept_shown, turns_after, fails_after, read_fails}
 
--- a fault of reads, as the store's
-pub read_fault : (q : PagesState) (fault : PageFault) → MayLackMemory q fault → ReadFailsBy q (fault_of fault)
-read_fault q page_faults.NoMemory why = tt
-read_fault q page_faults.Device why = why
-read_fault q page_faults.Worn why = absurd why
-read_fault q page_faults.Damaged why = absurd why
-read_fault q page_faults.Full why = absurd why
+-- a fault of reads, as the store's: one that has failed has lost its device
+pub read_fault : (q : PagesState) (fault : PageFault) → (q.failed ≡ true → q.device.gone ≡ true) → MayLackMemory q fault → ReadFailsBy q (fault_of fault)
+read_fault q page_faults.NoMemory lost why = tt
+read_fault q page_faults.Device lost why = inl (lost why)
+read_fault q page_faults.Worn lost why = absurd why
+read_fault q page_faults.Damaged lost why = absurd why
+read_fault q page_faults.Full lost why = absurd why
 
 -- objects that are there after look-ups
 pub has_after : (z : Sizes) (p q : PagesState) (objects : Objects) → OnlyFinds p q → HasPages z p objects → HasPages z q objects
@@ -39,10 +40,11 @@ pub took : (z : Sizes) (p q : PagesState) (old new : Objects) (m : PageMap) (res
     → OnOk result (p.sound ≡ true → q.sound ≡ true) → OnOk result (SamePages q.present m) → KeepsEither p q → (IsErrOf result faults.NoMemory → StaysSame p q) → IfErr result (ChangeFailsBy p q)
     → EndsPages z p q old new result
 took z p q old new m (Ok done) has holds goes sound same keeps refused why =
-    (changed_stands z p q old new m goes has.stands (sound has.stands.sound) holds same, either_turns z p q old goes has.stands has.can keeps)
+    let turns = either_turns z p q old goes has.stands has.can keeps in
+    (changed_stands z p q old new m goes has.stands (sound has.stands.sound) holds same turns, turns)
 took z p q old new m (Err faults.NoMemory) has holds goes sound same keeps refused why = refused_stays p q goes (refused refl)
 took z p q old new m (Err faults.Device) has holds goes sound same keeps refused why = record { goes_on = goes; turns = either_turns z p q old goes has.stands has.can keeps; cause = inl why }
-took z p q old new m (Err faults.Worn) has holds goes sound same keeps refused why = record { goes_on = goes; turns = either_turns z p q old goes has.stands has.can keeps; cause = inr why }
+took z p q old new m (Err faults.Worn) has holds goes sound same keeps refused why = record { goes_on = goes; turns = either_turns z p q old goes has.stands has.can keeps; cause = inr (used_up z p q old has goes why) }
 
 -- reads before a change do not matter
 pub ends_after : (z : Sizes) (p q r : PagesState) (old new : Objects) (result : Result (Unit {0}) StoreFault) → StaysAs p q → EndsPages z q r old new result → EndsPages z p r old new result
@@ -73,39 +75,32 @@ pub cut_done : (p q : PagesState) (table after : ObjectTable) (objects : Objects
     → Ends p q table after objects (map.remove objects number) (Ok tt)
 cut_done p q table after objects number has goes sound same kept tells = (
   changed_stands (sizes_of table) p q objects (map.remove objects number) (without_cuts (record { object = number; from = 0 } ∷ []) p.present) goes has.stands sound
-      (cut_object (sizes_of table) p.present objects has.stands.holds number) same,
+      (cut_object (sizes_of table) p.present objects has.stands.holds number) same (cut_turns (sizes_of table) p q objects has goes kept),
   tells,
   cut_turns (sizes_of table) p q objects has goes kept,
 )
 
-ended_so : (z : Sizes) (p q : PagesState) (objects : Objects) (fault : StoreFault) → GoesOn p q → Turns z objects p q → CommitFailsBy p q fault → Fails z objects p q
-ended_so z p q objects faults.NoMemory goes turns why = absurd why
-ended_so z p q objects faults.Device goes turns why = record { goes_on = goes; turns = turns; cause = inl why }
-ended_so z p q objects faults.Worn goes turns why = record { goes_on = goes; turns = turns; cause = inr why }
+-- a call that takes no memory ended the use of the store
+ended_so : (z : Sizes) (p q : PagesState) (objects : Objects) (fault : StoreFault) → HasPages z p objects → GoesOn p q → Turns z objects p q → CommitFailsBy p q fault → Fails z objects p q
+ended_so z p q objects faults.NoMemory has goes turns why = absurd why
+ended_so z p q objects faults.Device has goes turns why = record { goes_on = goes; turns = turns; cause = inl why }
+ended_so z p q objects faults.Worn has goes turns why = record { goes_on = goes; turns = turns; cause = inr (used_up z p q objects has goes why) }
 
-fails_ends : (p q : PagesState) (table after : ObjectTable) (old new : Objects) (fault : StoreFault) → Fails (sizes_of table) old p q → Ends p q table after old new (Err (ending_fault fault))
-fails_ends p q table after old new faults.NoMemory fails = fails
-fails_ends p q table after old new faults.Device fails = fails
-fails_ends p q table after old new faults.Worn fails = fails
-
-pub cut_failed : (p q : PagesState) (table after : ObjectTable) (objects new : Objects) (fault : StoreFault) → HasPages (sizes_of table) p objects → GoesOn p q → KeptAs q p.kept → CommitFailsBy p q fault
-    → Ends p q table after objects new (Err (ending_fault fault))
-cut_failed p q table after objects new fault has goes kept why =
-    fails_ends p q table after objects new fault (ended_so (sizes_of table) p q objects fault goes (cut_turns (sizes_of table) p q objects has goes kept) why)
-
--- no fault of a call that takes no memory is want of it
-pub never_memory : (fault : StoreFault) → ending_fault fault ≡ faults.NoMemory → ⊥
-never_memory faults.NoMemory is = absurd cc
-never_memory faults.Device is = absurd cc
-never_memory faults.Worn is = absurd cc
+-- an object whose pages are not cut
+pub cut_failed : (p q : PagesState) (table : ObjectTable) (objects new : Objects) (fault : StoreFault) → HasPages (sizes_of table) p objects → GoesOn p q → KeptAs q p.kept → CommitFailsBy p q fault
+    → Ends p q table table objects new (Err fault)
+cut_failed p q table objects new faults.NoMemory has goes kept why = absurd why
+cut_failed p q table objects new faults.Device has goes kept why = ended_so (sizes_of table) p q objects faults.Device has goes (cut_turns (sizes_of table) p q objects has goes kept) why
+cut_failed p q table objects new faults.Worn has goes kept why = ended_so (sizes_of table) p q objects faults.Worn has goes (cut_turns (sizes_of table) p q objects has goes kept) why
 
 -- a commit that is done
-pub committed : (z : Sizes) (p q : PagesState) (objects : Objects) → HasPages z p objects → GoesOn p q → q.sound ≡ true → SamePages q.present p.present → KeptAs q p.present → Stands z q objects × Commits z objects p q
-committed z p q objects has goes sound same kept = (
-  changed_stands z p q objects objects p.present goes has.stands sound has.stands.holds same,
+pub committed : (z : Sizes) (p q : PagesState) (objects : Objects) → HasPages z p objects → GoesOn p q → q.sound ≡ true → SamePages q.present p.present → KeepsEither p q → KeptAs q p.present
+    → Stands z q objects × Commits z objects p q
+committed z p q objects has goes sound same keeps kept = (
+  changed_stands z p q objects objects p.present goes has.stands sound has.stands.holds same (either_turns z p q objects goes has.stands has.can keeps),
   record { goes_on = goes; shown = kept_shown z q p.present objects (volume_on p q goes ∙ has.stands.sizes) kept has.stands.holds has.can },
 )
 
 -- one that ended the use of the store
 pub commit_failed : (z : Sizes) (p q : PagesState) (objects : Objects) (fault : StoreFault) → HasPages z p objects → GoesOn p q → KeepsEither p q → CommitFailsBy p q fault → Fails z objects p q
-commit_failed z p q objects fault has goes keeps why = ended_so z p q objects fault goes (either_turns z p q objects goes has.stands has.can keeps) why
+commit_failed z p q objects fault has goes keeps why = ended_so z p q objects fault has goes (either_turns z p q objects goes has.stands has.can keeps) why

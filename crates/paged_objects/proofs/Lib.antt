@@ -1,3 +1,4 @@
+pub mod Causes
 pub mod Ends
 pub mod Planned
 pub mod Meant

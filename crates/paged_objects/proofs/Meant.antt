@@ -1,6 +1,6 @@
 -- What the words of the trait say of pages and a table.
-use Rattle.std.specs.Prelude.{◌≡◌, ℕ, true, Result, Ok, Err}
-use Rattle.std.proofs.Common.{refl, sym, subst}
+use Rattle.std.specs.Prelude.{◌≡◌, ℕ, true, OnOk, IfErr, Result, Ok, Err}
+use Rattle.std.proofs.Common.{refl, sym, ap, subst}
 use Rattle.volume_terms.specs.Sizes.{Sizes, IsSizes}
 use Rattle.volume_terms.specs.declared.fault.StoreFault.{StoreFault}
 use Rattle.volume_terms.specs.declared.fault.StoreFault.TheVariants as faults
@@ -11,19 +11,21 @@ use Rattle.object_store.specs.Changes.{CanMake, takes_none}
 use Rattle.object_store.specs.declared.change.ObjectChange.{ObjectChange}
 use Rattle.object_store.specs.declared.change.ObjectChange.TheVariants as changes
 use Rattle.object_store.specs.Stores.{Faults, Applies}
+use Rattle.object_store.specs.Stores as meant
 use Rattle.object_table.specs.Told.{sizes_of, Tells, TellsTheSame}
 use Rattle.object_table.specs.Told as told
 use Rattle.object_pages.specs.Holding.{CanHave}
 use Rattle.object_table.specs.declared.table.ObjectTable.{ObjectTable}
 use Rattle.pages.specs.State.{PagesState, OnlyFinds}
-use Rattle.pages.specs.Stores.{GoesOn}
-use Rattle.paged_objects.specs.Faults.{ReadFailsBy, ending_fault}
+use Rattle.pages.specs.Stores.{GoesOn, SamePages, KeptAs, KeepsEither, CommitFailsBy}
+use Rattle.paged_objects.specs.Faults.{ReadFailsBy}
 use Rattle.paged_objects.specs.Standing.{Stands}
-use Rattle.paged_objects.specs.Ending.{HasObjects, Fails, Ends}
+use Rattle.paged_objects.specs.Ending.{HasObjects, Ends}
 use Rattle.paged_objects.specs.Meaning.{paged_meaning}
 use Rattle.paged_objects.specs.laws.Going.{finds_stay}
 use Rattle.paged_objects.specs.laws.Lawful.{same_here}
 use Rattle.paged_objects.specs.laws.Showing.{read_fails}
+use Rattle.paged_objects.proofs.Ends.{committed, commit_failed}
 
 -- what the trait says of a store that has objects
 pub has_objects : (p : PagesState) (t : ObjectTable) (z : Sizes) (objects : Objects) → IsSizes z → sizes_of t ≡ z → Stands (sizes_of t) p objects → Tells t objects → IsForest z objects → fits z objects ≡ true
@@ -60,12 +62,19 @@ module _ {S P : Type 0} (state : P → PagesState) (pages : S → P) (table : S 
   read_faults a b objects faults.Device finds same why = (read_fails _ _ _ objects (finds_stay _ _ finds) why, subst (λ (t : ObjectTable). sizes_of t ≡ sizes_of (table a)) (sym same) refl)
   read_faults a b objects faults.Worn finds same why = absurd why
 
-  -- a fault of a call that takes no memory
-  pub ending_faults : (a b : S) (old new : Objects) (fault : StoreFault) → Fails (sizes_of (table a)) old (state (pages a)) (state (pages b)) → table b ≡ table a
-      → Faults (paged_meaning state pages table) old new a b (ending_fault fault)
-  ending_faults a b old new faults.NoMemory fails same = (fails, subst (λ (t : ObjectTable). sizes_of t ≡ sizes_of (table a)) (sym same) refl)
-  ending_faults a b old new faults.Device fails same = (fails, subst (λ (t : ObjectTable). sizes_of t ≡ sizes_of (table a)) (sym same) refl)
-  ending_faults a b old new faults.Worn fails same = (fails, subst (λ (t : ObjectTable). sizes_of t ≡ sizes_of (table a)) (sym same) refl)
+  -- the end of a commit, which leaves the table
+  pub commits : (a b : S) (objects : Objects) (result : Result (Unit {0}) StoreFault) → HasObjects (state (pages a)) (table a) objects → table b ≡ table a → GoesOn (state (pages a)) (state (pages b))
+      → OnOk result ((state (pages a)).sound ≡ true → (state (pages b)).sound ≡ true) → OnOk result (SamePages (state (pages b)).present (state (pages a)).present)
+      → KeepsEither (state (pages a)) (state (pages b)) → OnOk result (KeptAs (state (pages b)) (state (pages a)).present)
+      → IfErr result (CommitFailsBy (state (pages a)) (state (pages b))) → meant.Commits (paged_meaning state pages table) objects a b result
+  commits a b objects (Ok done) has same goes sound present keeps kept why =
+      let done = committed (sizes_of (table a)) (state (pages a)) (state (pages b)) objects has.pages goes (sound has.pages.stands.sound) present keeps kept in (
+        (subst (λ (t : ObjectTable). Stands (sizes_of t) (state (pages b)) objects) (sym same) done.0, subst (λ (t : ObjectTable). Tells t objects) (sym same) has.tells),
+        (done.1, ap sizes_of same),
+      )
+  commits a b objects (Err faults.NoMemory) has same goes sound present keeps kept why = absurd why
+  commits a b objects (Err faults.Device) has same goes sound present keeps kept why = (commit_failed (sizes_of (table a)) (state (pages a)) (state (pages b)) objects faults.Device has.pages goes keeps why, ap sizes_of same)
+  commits a b objects (Err faults.Worn) has same goes sound present keeps kept why = (commit_failed (sizes_of (table a)) (state (pages a)) (state (pages b)) objects faults.Worn has.pages goes keeps why, ap sizes_of same)
 
   -- the end of a change
   pub applied : (a b : S) (old new : Objects) (result : Result (Unit {0}) StoreFault) → GoesOn (state (pages a)) (state (pages b)) → sizes_of (table b) ≡ sizes_of (table a)

@@ -1,5 +1,4 @@
 -- Why objects were not read or changed.
-use Rattle.std.specs.Prelude.{◌≡◌, true}
 use Rattle.pages.specs.State.{PagesState}
 use Rattle.pages.specs.Stores.{HasFailed}
 use Rattle.pages.specs.declared.fault.PageFault.{PageFault}

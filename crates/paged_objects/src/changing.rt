@@ -16,7 +16,7 @@ ghost use Rattle.object_pages.specs.Holding.{HoldsObjects};
 ghost use Rattle.paged_objects.specs.Ending.{HasPages, HasObjects, EndsPages, Ends};
 ghost use Rattle.paged_objects.specs.Faults.{ReadFailsBy};
 
-use crate::fault::{ending_fault, fault_of};
+use crate::fault::fault_of;
 use object_pages::{find, plan};
 use object_store::ObjectChange;
 use object_table::ObjectTable;
@@ -132,13 +132,14 @@ pub(crate) fn make<P: PageStore>(
     Ok(())
 }
 
-/// Takes an object's pages away, and then the object from the table.
+/// Takes an object's pages away, and then the object from the table. The device is left as it is.
 pub(crate) fn forget<P: PageStore>(
     pages: &mut P,
     table: &mut ObjectTable,
     number: u64,
 ) -> Result<(), StoreFault>
     ensures goes_on { GoesOn (P.state pages.old) (P.state pages.new) }
+    ensures device { (P.state pages.new).device ≡ (P.state pages.old).device }
     ensures sizes { sizes_of table.new ≡ sizes_of table.old }
     ensures makes { (objects : Objects) → HasObjects (P.state pages.old) table.old objects → CanMake (sizes_of table.old) objects (changes.Forget number)
         → Ends (P.state pages.old) (P.state pages.new) table.old table.new objects (map.remove objects number) result }
@@ -148,11 +149,7 @@ pub(crate) fn forget<P: PageStore>(
         object: number,
         from: 0,
     };
-    match pages.cut(whole) {
-        Ok(()) => {
-            table.apply(&ObjectChange::Forget { number }, None);
-            Ok(())
-        }
-        Err(fault) => Err(ending_fault(fault)),
-    }
+    pages.cut(whole)?;
+    table.apply(&ObjectChange::Forget { number }, None);
+    Ok(())
 }

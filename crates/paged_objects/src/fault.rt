@@ -1,6 +1,6 @@
 // Faults of pages, as the store's own.
 ghost use Rattle.std.specs.Prelude.{◌≡◌};
-ghost use Rattle.paged_objects.specs.Faults.{fault_of, ending_fault};
+ghost use Rattle.paged_objects.specs.Faults.{fault_of};
 
 use pages::PageFault;
 use volume_terms::StoreFault;
@@ -15,16 +15,5 @@ pub(crate) fn fault_of(fault: PageFault) -> StoreFault
         PageFault::Worn => StoreFault::Worn,
         PageFault::Damaged => StoreFault::Device,
         PageFault::Full => StoreFault::Device,
-    }
-}
-
-/// A fault of a call that takes no memory.
-pub(crate) fn ending_fault(fault: StoreFault) -> StoreFault
-    ensures { result ≡ ending_fault fault }
-{
-    match fault {
-        StoreFault::NoMemory => StoreFault::Device,
-        StoreFault::Device => StoreFault::Device,
-        StoreFault::Worn => StoreFault::Worn,
     }
 }

@@ -4,7 +4,7 @@ ghost use Rattle.volume_terms.specs.declared.fault.StoreFault.TheVariants as fau
 ghost use Rattle.object_table.specs.Told.{sizes_of};
 
 use crate::changing::{forget, make};
-use crate::fault::{ending_fault, fault_of};
+use crate::fault::fault_of;
 use object_store::{ObjectChange, ObjectStore};
 use object_table::ObjectTable;
 use pages::PageStore;
@@ -113,10 +113,7 @@ impl<P: PageStore> ObjectStore for PagedObjects<P> {
     }
 
     fn commit(&mut self) -> Result<(), StoreFault> {
-        match self.pages.commit() {
-            Ok(()) => Ok(()),
-            Err(fault) => Err(ending_fault(fault)),
-        }
+        self.pages.commit()
     }
 
     ghost lawful = { paged_lawful P.state (λ s. s.pages) (λ s. s.table) };

@@ -12,7 +12,7 @@ use Rattle.posix_profile.specs.WellFormed.{IsForest}
 use Rattle.posix_profile.specs.declared.reply.Errno.{Errno}
 use Rattle.posix_profile.specs.declared.reply.Errno.TheVariants as errors
 use Rattle.object_store.specs.Facts.{NamedBy}
-use Rattle.object_store.specs.Stores.{Meaning, IsLawful, Faults}
+use Rattle.object_store.specs.Stores.{Meaning, IsLawful}
 use Rattle.object_store.specs.laws.Store.{faults_on, tells_on}
 use Rattle.object_store.specs.declared.refusal.Refusal.{Refusal}
 use Rattle.object_store.specs.declared.refusal.Refusal.TheVariants as refusals

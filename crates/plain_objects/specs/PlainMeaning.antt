@@ -16,13 +16,15 @@ objects_of a = objects_in a.objects
 abbrev pub numbers_of : PlainObjects → Sizes
 numbers_of a = sizes_of a.sizes
 
--- The objects of the map. Reads leave it, a change leaves the new objects, and no device fails. Maps are not mounted, so nothing is said of what a mount would show.
+-- The objects of the map. Reads leave it, and a change leaves the new objects. There is no device: none is called, and none
+-- fails. Maps are not mounted, so nothing is said of what a mount would show.
 abbrev pub plain_meaning : Meaning PlainObjects
 plain_meaning = record {
   sizes = numbers_of;
   stands = λ a objects. objects_of a ≡ objects;
   shows = λ a tree. Unit {0};
   lasts = λ a b. numbers_of b ≡ numbers_of a;
+  leaves = λ a b. Unit {0};
   reads = λ a b. (objects_of b ≡ objects_of a) × (numbers_of b ≡ numbers_of a);
   changes = λ old new a b. Unit {0};
   fails = λ old new a b. ⊥;
@@ -31,6 +33,7 @@ plain_meaning = record {
 
 pub plain_lawful : IsLawful plain_meaning
 plain_lawful = record {
+  leaves_nothing = λ a. tt;
   reads_nothing = λ a. (refl, refl);
   reads_on = λ a b c first then'. (then'.0 ∙ first.0, then'.1 ∙ first.1);
   reads_lasts = λ a b reads. reads.1;

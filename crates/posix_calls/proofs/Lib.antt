@@ -1,9 +1,1 @@
-pub mod Numbers
-pub mod Making
-pub mod Telling
-pub mod Ending
-pub mod Roots
-pub mod Named
-pub mod Mounting
-pub mod Runs
-pub mod Taken
+mod Mounting

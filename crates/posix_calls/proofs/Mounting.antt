@@ -1,51 +1,37 @@
--- When a volume is only read.
-use Rattle.std.specs.Prelude.{◌≡◌, ◌⊎◌, ◌↔◌, ◌<◌, ◌≤◌, ◌^◌, ℕ, Bool, true, false, IsTrue}
-use Rattle.std.proofs.Common.{sym, ◌∙◌, ap, inl, inr, arith}
-use Rattle.std.proofs.lemmas.Bool.{cases_Bool, cases_lt}
-use Rattle.nand_model.specs.Calls.{Device}
-use Rattle.nand_model.specs.Changes.{OnlyReads}
-use Rattle.nand_model.specs.Flash.{Flash}
-use Rattle.nand_model.specs.declared.geometry.Geometry.{Geometry}
-use Rattle.flash_tree.specs.Mount.{bad_blocks}
-use Rattle.flash_tree.specs.Newest.{Numbers}
-use Rattle.flash_tree.specs.laws.Place.{same_flash}
+-- A volume of mounted pages stands for their tree.
+use Rattle.std.specs.Prelude.{◌≡◌, Result, Ok, Err, IfOk}
+use Rattle.std.specs.AllocError.{AllocError}
+use Rattle.std.proofs.Common.{sym, ◌∙◌, ap, subst}
+use Rattle.std.specs.FinMap as map
+use Rattle.volume_terms.specs.Sizes.{Sizes}
+use Rattle.posix_profile.specs.State.{Objects}
+use Rattle.posix_profile.specs.laws.Sound.{IsSound}
+use Rattle.posix_profile.specs.laws.Prune.{tree_well_formed}
+use Rattle.lives.specs.Lives.{at_mount}
+use Rattle.flash_tree.specs.Mount.{Answers, IsTreeOf}
+use Rattle.object_table.specs.Told.{sizes_of}
+use Rattle.object_table.specs.declared.table.ObjectTable.{ObjectTable}
+use Rattle.pages.specs.State.{PagesState}
+use Rattle.paged_objects.specs.Standing.{volume_of, Shown}
+use Rattle.mounting.specs.Made.{IsMountedWith}
+use Rattle.page_volume.specs.Volumes.{pages_of, IsVolumeOf}
+use Rattle.page_volume.specs.declared.volume.PageVolume.{PageVolume}
+use Rattle.posix_calls.specs.Mounts.{StandsForTree}
 
--- a volume's store is only read where a number is used up, and the volume also where too many blocks are bad
-module _ (writable read_only : Bool) (spare bad : ℕ) (told : IsTrue read_only ↔ ((writable ≡ false) ⊎ (spare < bad))) where
-  pub only_read_where : (n : Numbers) → (IsTrue writable ↔ ((n.group < 2 ^ 62) × (n.seq < 2 ^ 62))) → IsTrue read_only ↔ ((spare < bad) ⊎ (2 ^ 62 ≤ n.group) ⊎ (2 ^ 62 ≤ n.seq))
-  only_read_where n can = (
-    λ is. elim (told.0 is) [
-      | inr many ↦ inl many
-      | inl none ↦ elim (cases_lt n.group (2 ^ 62)) [
-        | inr group ↦ inr (inl group)
-        | inl small ↦ elim (cases_lt n.seq (2 ^ 62)) [
-          | inr seq ↦ inr (inr seq)
-          | inl low ↦ let two : true ≡ false = sym (can.1 (small, low)) ∙ none in absurd cc
-        ]
-      ]
-    ],
-    λ why. elim why [
-      | inl many ↦ told.1 (inr many)
-      | inr used ↦ elim (cases_Bool writable) [
-        | inr none ↦ told.1 (inl none)
-        | inl some ↦ elim used [
-          | inl group ↦ absurd (omega (arith, group, (can.0 some).0))
-          | inr seq ↦ absurd (omega (arith, seq, (can.0 some).1))
-        ]
-      ]
-    ],
-  )
+-- a tree that fits is a state that a volume can have
+pub sound_at : (p : PagesState) (table : ObjectTable) (objects : Objects) → sizes_of table ≡ volume_of p → IsMountedWith p table objects → IsSound (sizes_of table) (at_mount objects)
+sound_at p table objects same mounted = subst (λ (z : Sizes). IsSound z (at_mount objects)) (sym same) (record {
+  well_formed = tree_well_formed (volume_of p) objects mounted.answers.1.tree;
+  fit = mounted.can.fit;
+})
 
-  pub written_where : writable ≡ true → bad ≤ spare → read_only ≡ false
-  written_where can few = elim (cases_Bool read_only) [
-    | inr is ↦ is
-    | inl is ↦ elim (told.0 is) [
-      | inl none ↦ let two : true ≡ false = sym can ∙ none in absurd cc
-      | inr many ↦ absurd (omega (arith, many, few))
-    ]
-  ]
-
--- reads leave the marks
-pub bad_stay : (old new : Device) → OnlyReads old new → old.honest ≡ true → bad_blocks new.geometry new.flash ≡ bad_blocks old.geometry old.flash
-bad_stay old new reads honest =
-    ap (λ (g : Geometry). bad_blocks g new.flash) reads.lasts.geometry ∙ ap (λ (f : Flash). bad_blocks old.geometry f) (same_flash old new reads honest)
+-- what a volume over these pages stands for
+pub stands_for : {P E : Type 0} (state : P → PagesState) (p : PagesState) (table : ObjectTable) (objects : Objects) (r : Result (PageVolume P) E)
+    → sizes_of table ≡ volume_of p → IsMountedWith p table objects → IfOk r (λ v. state (pages_of v) ≡ p) → IfOk r (IsVolumeOf state (sizes_of table) (at_mount objects))
+    → IfOk r (λ v. StandsForTree state v objects)
+stands_for state p table objects (Ok v) same mounted pages volume = record {
+  answers = subst (λ (q : PagesState). Answers q.device.geometry q.device.flash (IsTreeOf q.spare objects)) (sym pages) mounted.answers;
+  volume = subst (λ (q : PagesState). IsVolumeOf state (volume_of q) (at_mount objects) v) (sym pages) (subst (λ (z : Sizes). IsVolumeOf state z (at_mount objects) v) same volume);
+  shown = subst (λ (q : PagesState). Shown (volume_of q) q objects) (sym pages) mounted.shown;
+}
+stands_for state p table objects (Err e) same mounted pages volume = tt

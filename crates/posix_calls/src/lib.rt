@@ -1,23 +1,15 @@
-//! The calls of a volume: format, mount, commands and unmount.
+//! A volume on a NAND device: format, mount, commands and unmount.
 #![tactic(auto)]
 
-mod check;
-mod early;
-mod fault;
-mod list;
-mod mkdir;
+mod joining;
 mod mount;
-mod plan;
-mod root;
 mod volume;
 
-pub use fault::MountFault;
+pub use formatting::{FormatFault, format};
+pub use mounting::MountFault;
+pub use paged_objects::a_shown_tree_is_on_the_flash;
 pub use posix_profile::{
     Access, Bytes, Command, Errno, FilePath, Info, Kind, NameList, OpenFlags, Reply, SpaceInfo,
     Stamped, Whence,
 };
 pub use volume::Volume;
-pub use volume_format::{FormatFault, format};
-
-#[cfg(test)]
-mod tests;

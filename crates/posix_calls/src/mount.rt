@@ -1,65 +1,67 @@
 // The mount of a volume.
-ghost use Rattle.std.specs.Prelude.{◌≡◌, ◌⊎◌, ◌↔◌, ◌<◌, ◌≤◌, ◌^◌, ℕ, true, false, IsTrue, IfOk, IfErr};
+ghost use Rattle.std.specs.Prelude.{◌≡◌, ◌↔◌, true, false, IfOk, IfErr};
 ghost use Rattle.nand_model.specs.Changes.{OnlyReads};
-ghost use Rattle.flash_tree.specs.Newest.{Numbers, AreAbove, AreGreatest};
-ghost use Rattle.flash_tree.specs.Mount.{bad_blocks};
-ghost use Rattle.volume_terms.specs.Sizes.{number_limit};
 ghost use Rattle.posix_profile.specs.State.{Objects};
-ghost use Rattle.volume_format.specs.Volumes.{IsFlatVolume, IsSoundVolume};
-ghost use Rattle.posix_calls.specs.MountFaults.{IsWant, Says};
+ghost use Rattle.mounting.specs.Faults.{WhyNotMounted};
+ghost use Rattle.mounting.specs.Made.{CanOnlyBeRead, AreNext};
 
-use crate::check::check;
-use crate::fault::{MountFault, of_open};
+use crate::joining::join;
 use crate::volume::Volume;
-use flat_store::Store;
+use flash_pages::FlashPages;
+use mounting::{MountFault, Mounted};
 use nand_model::Nand;
+use pages::Pages;
 use std::alloc::Global;
-use volume_format::bad_count;
+use std::num::NonZeroUsize;
 
 impl<N: Nand> Volume<N> {
-    /// Mounts the volume on a device, which is only read. After a fault the device is given back.
-    ///
-    /// For now only volumes of one level are mounted: the root's names lead to empty directories.
-    pub fn mount(alloc: Global, device: N) -> Result<Volume<N>, (N, MountFault)>
-        ensures reads { IfOk result (λ volume. OnlyReads (N.state device) (N.state volume.store.device)) }
-        ensures given_back { IfErr result (λ back. OnlyReads (N.state device) (N.state back.0)) }
-        ensures gone { IfErr result (λ back. back.1 ≡ MountFault.Gone → (N.state back.0).gone ≡ true) }
-        ensures says { (N.state device).honest ≡ true → IfErr result (λ back. Says (N.state device).flash (N.state back.0) back.1) }
-        ensures stopped { IfOk result (λ volume. volume.stopped ≡ false) }
-        ensures volume { (N.state device).honest ≡ true → IfOk result (λ volume. (objects : Objects) × IsFlatVolume (N.state device).geometry (N.state device).flash volume.spare objects) }
-        ensures read_only { (N.state device).honest ≡ true → (n : Numbers) → AreGreatest (N.state device).flash n
-            → IfOk result (λ volume. IsTrue volume.read_only ↔ ((volume.spare < bad_blocks (N.state device).geometry (N.state device).flash) ⊎ (2 ^ 62 ≤ n.group) ⊎ (2 ^ 62 ≤ n.seq))) }
-        ensures shown { (N.state device).honest ≡ true → (spare : ℕ) (objects : Objects) → IsFlatVolume (N.state device).geometry (N.state device).flash spare objects
-            → IfOk result (λ volume. volume.spare ≡ spare) }
-        ensures want { (N.state device).honest ≡ true → (spare : ℕ) (objects : Objects) → IsFlatVolume (N.state device).geometry (N.state device).flash spare objects
-            → IfErr result (λ back. IsWant (N.state back.0) back.1) }
-        ensures sound { (N.state device).honest ≡ true → (spare : ℕ) (objects : Objects) → IsSoundVolume (N.state device).geometry (N.state device).flash spare objects
-            → IfOk result (λ volume. volume.read_only ≡ false) }
-    {
-        let mut store = match Store::open(alloc, device) {
-            Ok(store) => store,
-            Err((device, fault)) => return Err((device, of_open(fault))),
-        };
-        match check(alloc, &mut store) {
-            Ok(spare) => Ok(mounted(alloc, store, spare)),
-            Err(fault) => Err((store.into_device(), fault)),
-        }
-    }
-}
+    ghost use Rattle.page_volume.specs.Volumes.{pages_of, is_read_only, is_stopped};
+    ghost use Rattle.posix_calls.specs.Mounts.{StandsForTree};
 
-/// The volume on a store with so many spare blocks.
-fn mounted<N: Nand>(alloc: Global, store: Store<N>, spare: u16) -> Volume<N>
-    ensures device { N.state result.store.device ≡ N.state store.device }
-    ensures spare { result.spare ≡ spare }
-    ensures stopped { result.stopped ≡ false }
-    ensures read_only { IsTrue result.read_only ↔ ((store.writable ≡ false) ⊎ (spare < bad_blocks (N.state store.device).geometry (N.state store.device).flash)) }
-{
-    let read_only = !store.writable() || bad_count(store.device()) > u32::from(spare);
-    Volume {
-        alloc,
-        store,
-        spare,
-        read_only,
-        stopped: false,
+    /// Mounts the volume on a device, with a cache of 16 pages. It only reads; after a fault the device is given back.
+    pub fn mount(alloc: Global, device: N) -> Result<Volume<N>, (N, MountFault)>
+        ensures reads { IfOk result (λ v. OnlyReads (N.state device) (⟦<FlashPages<N> as Pages>⟧.state (pages_of v.volume)).device) }
+        ensures goes_on { IfOk result (λ v. is_stopped v.volume ≡ false) }
+        ensures read_only { IfOk result (λ v. (is_read_only v.volume ≡ true) ↔ CanOnlyBeRead (⟦<FlashPages<N> as Pages>⟧.state (pages_of v.volume))) }
+        ensures next { (N.state device).honest ≡ true
+            → IfOk result (λ v. AreNext (⟦<FlashPages<N> as Pages>⟧.state (pages_of v.volume)).device.flash (⟦<FlashPages<N> as Pages>⟧.state (pages_of v.volume)).next) }
+        ensures tree { (N.state device).honest ≡ true
+            → IfOk result (λ v. (objects : Objects) × StandsForTree ⟦<FlashPages<N> as Pages>⟧.state v.volume objects) }
+        ensures back { IfErr result (λ failed. OnlyReads (N.state device) (N.state failed.0)) }
+        ensures fault { IfErr result (λ failed. WhyNotMounted (N.state failed.0) failed.1) }
+    {
+        Volume::mount_with(alloc, device, 16)
+    }
+
+    /// Mounts the volume on a device, with a cache of so many pages, of one at least. It only reads; after a fault the device
+    /// is given back.
+    pub fn mount_with(
+        alloc: Global,
+        device: N,
+        capacity: usize,
+    ) -> Result<Volume<N>, (N, MountFault)>
+        ensures reads { IfOk result (λ v. OnlyReads (N.state device) (⟦<FlashPages<N> as Pages>⟧.state (pages_of v.volume)).device) }
+        ensures goes_on { IfOk result (λ v. is_stopped v.volume ≡ false) }
+        ensures read_only { IfOk result (λ v. (is_read_only v.volume ≡ true) ↔ CanOnlyBeRead (⟦<FlashPages<N> as Pages>⟧.state (pages_of v.volume))) }
+        ensures next { (N.state device).honest ≡ true
+            → IfOk result (λ v. AreNext (⟦<FlashPages<N> as Pages>⟧.state (pages_of v.volume)).device.flash (⟦<FlashPages<N> as Pages>⟧.state (pages_of v.volume)).next) }
+        ensures tree { (N.state device).honest ≡ true
+            → IfOk result (λ v. (objects : Objects) × StandsForTree ⟦<FlashPages<N> as Pages>⟧.state v.volume objects) }
+        ensures back { IfErr result (λ failed. OnlyReads (N.state device) (N.state failed.0)) }
+        ensures fault { IfErr result (λ failed. WhyNotMounted (N.state failed.0) failed.1) }
+    {
+        let capacity = NonZeroUsize::new(capacity).unwrap_or(NonZeroUsize::MIN);
+        let Mounted {
+            pages,
+            table,
+            read_only,
+        } = match mounting::mount(alloc, device, capacity) {
+            Ok(mounted) => mounted,
+            Err(failed) => return Err(failed),
+        };
+        match join(alloc, pages, table, read_only) {
+            Ok(volume) => Ok(Volume { volume }),
+            Err((pages, _)) => Err((pages.into_device(), MountFault::NoMemory)),
+        }
     }
 }

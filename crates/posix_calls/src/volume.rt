@@ -1,168 +1,104 @@
-// A mounted volume, and its commands.
-ghost use Rattle.std.specs.Prelude.{◌≡◌, ◌≤◌, ◌+◌, ◌++◌, Bool, true, false, List, length, OnOk};
-ghost use Rattle.nand_model.specs.Calls.{Lasts};
-ghost use Rattle.flash_tree.specs.Newest.{AreAbove};
-ghost use Rattle.flash_tree.specs.Mount.{sizes_of};
-ghost use Rattle.volume_terms.specs.Sizes.{number_limit};
-ghost use Rattle.posix_profile.specs.State.{Objects};
-ghost use Rattle.posix_profile.specs.Runs.{is_stop};
+// A volume on a device.
+ghost use Rattle.std.specs.Prelude.{◌≡◌, ◌⊎◌, ◌≤◌, ℕ, true, false, length, OnOk};
+ghost use Rattle.volume_terms.specs.Sizes.{Sizes};
+ghost use Rattle.command_plans.specs.Classes.{makes_no_call};
+ghost use Rattle.object_store.specs.Stores.{settled};
+ghost use Rattle.paged_objects.specs.Ending.{HasEnded, StaysAs};
+ghost use Rattle.paged_objects.specs.Standing.{Shown};
+ghost use Rattle.pages.specs.Stores.{GoesOn};
+ghost use Rattle.posix_profile.specs.Losses.{is_synced};
+ghost use Rattle.posix_profile.specs.Runs.{Replies, after_one, is_stop};
+ghost use Rattle.posix_profile.specs.State.{Objects, State};
 ghost use Rattle.posix_profile.specs.declared.reply.Errno.TheVariants as errors;
 ghost use Rattle.posix_profile.specs.declared.reply.Reply.TheVariants as replies;
-ghost use Rattle.flat_profile.specs.Flat.{early_step, closed};
-ghost use Rattle.block_state.specs.TableOf.{table};
-ghost use Rattle.volume_format.specs.Volumes.{IsFlatVolume, IsSoundVolume};
-ghost use Rattle.posix_calls.specs.Endings.{Ends};
-ghost use Rattle.posix_calls.specs.Running.{RunEnds};
-ghost use Rattle.posix_profile.specs.declared.reply.Reply.{Reply};
 
-use crate::early::{EarlyCommand, early};
-use crate::list::list;
-use crate::mkdir::mkdir;
-use flat_store::Store;
+use flash_pages::FlashPages;
 use nand_model::Nand;
-use posix_profile::{Errno, Reply, Stamped};
-use std::alloc::{AllocError, Global};
+use page_volume::PageVolume;
+use pages::Pages;
+use posix_profile::{Reply, Stamped};
+use std::alloc::AllocError;
 
-/// Does a command and replies to it.
-fn answer<N: Nand>(
-    alloc: Global,
-    store: &mut Store<N>,
-    spare: u16,
-    read_only: bool,
-    stamped: &Stamped,
-) -> Reply
-    requires writable { read_only ≡ false → store.old.writable ≡ true }
-    ensures lasts { Lasts (N.state store.old.device) (N.state store.new.device) }
-    ensures writable { store.new.writable ≡ store.old.writable }
-    ensures marks { (N.state store.new.device).flash.bad ≡ (N.state store.old.device).flash.bad }
-    ensures numbers { (N.state store.old.device).honest ≡ true → AreAbove (N.state store.old.device).flash (record { version = number_limit; group = number_limit; seq = number_limit })
-        → AreAbove (N.state store.new.device).flash (record { version = number_limit; group = number_limit; seq = number_limit }) }
-    ensures ends { (N.state store.old.device).honest ≡ true → (objects : Objects)
-        → IsFlatVolume (N.state store.old.device).geometry (N.state store.old.device).flash spare objects
-        → Ends spare (N.state store.old.device) (N.state store.new.device) (table store.old.blocks) objects stamped.now.command
-        (early_step (sizes_of (N.state store.old.device).geometry spare) read_only (closed objects) stamped.now) result }
-{
-    match early(&stamped.command) {
-        EarlyCommand::Mkdir(name) => {
-            match mkdir(alloc, store, spare, read_only, stamped.moment, name) {
-                Ok(()) => Reply::Done,
-                Err(error) => Reply::Error(error),
-            }
-        }
-        EarlyCommand::ListRoot => match list(alloc, store) {
-            Ok(names) => Reply::Names(names),
-            Err(error) => Reply::Error(error),
-        },
-        EarlyCommand::Sync => Reply::Done,
-        EarlyCommand::Refused => Reply::Error(Errno::EINVAL),
-    }
-}
-
-/// Whether the reply stops the volume.
-fn is_stop(reply: &Reply) -> bool
-    ensures { result ≡ is_stop reply.now }
-{
-    matches!(reply, Reply::Error(Errno::EIO))
-}
-
-/// A mounted volume.
+/// A mounted volume. One that is stopped answers EIO to each command until the next mount.
+///
+/// What was accepted lies in memory until a sync, an unmount, or until it is more than the buffer takes; after a loss of power
+/// the next mount shows the tree after some of the commands, at least all up to the last sync that was done.
 #[derive(Drop)]
 pub struct Volume<N: Nand> {
-    pub(crate) alloc: Global,
-    pub(crate) store: Store<N>,
-    pub(crate) spare: u16,
-    pub(crate) read_only: bool,
-    pub(crate) stopped: bool,
-    ghost writes: { read_only ≡ false → store.writable ≡ true },
+    pub(crate) volume: PageVolume<FlashPages<N>>,
 }
 
 impl<N: Nand> Volume<N> {
-    /// Does a command and replies to it. A volume that is stopped answers EIO to each.
+    ghost use Rattle.page_volume.specs.Running.{RunsPages, OnlyTells};
+    ghost use Rattle.page_volume.specs.Volumes.{pages_of, is_read_only, is_stopped, IsVolumeOf};
+    ghost use Rattle.posix_calls.specs.Endings.{IsUnmounted};
+
+    /// Does a command and replies to it.
     pub fn call(&mut self, stamped: &Stamped) -> Reply
-        ensures lasts { Lasts (N.state self.old.store.device) (N.state self.new.store.device) }
-        ensures keeps { (self.new.spare ≡ self.old.spare) × (self.new.read_only ≡ self.old.read_only) }
-        ensures marks { (N.state self.new.store.device).flash.bad ≡ (N.state self.old.store.device).flash.bad }
-        ensures numbers { (N.state self.old.store.device).honest ≡ true → AreAbove (N.state self.old.store.device).flash (record { version = number_limit; group = number_limit; seq = number_limit })
-            → AreAbove (N.state self.new.store.device).flash (record { version = number_limit; group = number_limit; seq = number_limit }) }
-        ensures stopped { self.old.stopped ≡ true → (result ≡ replies.Error errors.EIO) × (self.new ≡ self.old) }
-        ensures stops { self.old.stopped ≡ false → self.new.stopped ≡ is_stop result }
-        ensures ends { (N.state self.old.store.device).honest ≡ true → self.old.stopped ≡ false → (objects : Objects)
-            → IsFlatVolume (N.state self.old.store.device).geometry (N.state self.old.store.device).flash self.old.spare objects
-            → Ends self.old.spare (N.state self.old.store.device) (N.state self.new.store.device) (table self.old.store.blocks) objects stamped.now.command
-            (early_step (sizes_of (N.state self.old.store.device).geometry self.old.spare) self.old.read_only (closed objects) stamped.now) result }
-        ensures sound { (N.state self.old.store.device).honest ≡ true → (objects : Objects)
-            → IsSoundVolume (N.state self.old.store.device).geometry (N.state self.old.store.device).flash self.old.spare objects
-            → (after : Objects) × IsSoundVolume (N.state self.old.store.device).geometry (N.state self.new.store.device).flash self.old.spare after }
+        ensures goes_on { GoesOn (⟦<FlashPages<N> as Pages>⟧.state (pages_of self.old.volume)) (⟦<FlashPages<N> as Pages>⟧.state (pages_of self.new.volume)) }
+        ensures read_only { is_read_only self.new.volume ≡ is_read_only self.old.volume }
+        ensures leaves { makes_no_call stamped.now.command ≡ true
+            → (⟦<FlashPages<N> as Pages>⟧.state (pages_of self.new.volume)).device ≡ (⟦<FlashPages<N> as Pages>⟧.state (pages_of self.old.volume)).device }
+        ensures stopped { is_stopped self.old.volume ≡ true → (result ≡ replies.Error errors.EIO) × (self.new ≡ self.old) }
+        ensures stops { is_stopped self.old.volume ≡ false → (z : Sizes) (s : State) → IsVolumeOf ⟦<FlashPages<N> as Pages>⟧.state z s self.old.volume
+            → is_stopped self.new.volume ≡ is_stop result }
+        // The reply is the step's; or want of memory, of a command that takes some; or the stop.
+        ensures replies { is_stopped self.old.volume ≡ false → (z : Sizes) (s : State) → IsVolumeOf ⟦<FlashPages<N> as Pages>⟧.state z s self.old.volume
+            → Replies z (is_read_only self.old.volume) s stamped.now result }
+        ensures state { is_stopped self.old.volume ≡ false → (z : Sizes) (s : State) → IsVolumeOf ⟦<FlashPages<N> as Pages>⟧.state z s self.old.volume → is_stop result ≡ false
+            → IsVolumeOf ⟦<FlashPages<N> as Pages>⟧.state z (after_one z (is_read_only self.old.volume) s stamped.now result) self.new.volume }
+        // A mount shows the tree that it did, or what names keep of the objects before the command.
+        ensures tree { is_stopped self.old.volume ≡ false → (z : Sizes) (s : State) → IsVolumeOf ⟦<FlashPages<N> as Pages>⟧.state z s self.old.volume
+            → (tree : Objects) → Shown z (⟦<FlashPages<N> as Pages>⟧.state (pages_of self.old.volume)) tree
+            → Shown z (⟦<FlashPages<N> as Pages>⟧.state (pages_of self.new.volume)) tree ⊎ Shown z (⟦<FlashPages<N> as Pages>⟧.state (pages_of self.new.volume)) (settled s.objects) }
+        ensures synced { is_stopped self.old.volume ≡ false → (z : Sizes) (s : State) → IsVolumeOf ⟦<FlashPages<N> as Pages>⟧.state z s self.old.volume → is_synced stamped.now.command result ≡ true
+            → Shown z (⟦<FlashPages<N> as Pages>⟧.state (pages_of self.new.volume)) (settled s.objects) }
+        ensures cause { is_stopped self.old.volume ≡ false → (z : Sizes) (s : State) → IsVolumeOf ⟦<FlashPages<N> as Pages>⟧.state z s self.old.volume → is_stop result ≡ true
+            → HasEnded (⟦<FlashPages<N> as Pages>⟧.state (pages_of self.new.volume)) }
+        // What only tells, and what is answered by another error, only reads.
+        ensures reads { is_stopped self.old.volume ≡ false → (z : Sizes) (s : State) → IsVolumeOf ⟦<FlashPages<N> as Pages>⟧.state z s self.old.volume → OnlyTells stamped.now result
+            → StaysAs (⟦<FlashPages<N> as Pages>⟧.state (pages_of self.old.volume)) (⟦<FlashPages<N> as Pages>⟧.state (pages_of self.new.volume)) }
     {
-        if self.stopped {
-            return Reply::Error(Errno::EIO);
-        }
-        let reply = answer(
-            self.alloc,
-            &mut self.store,
-            self.spare,
-            self.read_only,
-            stamped,
-        );
-        self.stopped = is_stop(&reply);
-        reply
+        self.volume.call(stamped)
     }
 
-    /// Whether the volume is only read: more blocks are bad than are spare, or its numbers are used up.
-    pub fn read_only(&self) -> bool
-        ensures { result ≡ self.now.read_only }
+    /// Does the commands in turn and adds their replies at the end of the vector. Where a reply finds no room its command
+    /// is not begun, nor is any after it.
+    pub fn run(&mut self, commands: &[Stamped], replies: &mut Vec<Reply>) -> Result<(), AllocError>
+        ensures goes_on { GoesOn (⟦<FlashPages<N> as Pages>⟧.state (pages_of self.old.volume)) (⟦<FlashPages<N> as Pages>⟧.state (pages_of self.new.volume)) }
+        ensures read_only { is_read_only self.new.volume ≡ is_read_only self.old.volume }
+        ensures runs { (n : ℕ) × (n ≤ length commands.now) × OnOk result (n ≡ length commands.now)
+            × RunsPages ⟦<FlashPages<N> as Pages>⟧.state commands.now n replies.old.items replies.new.items self.old.volume self.new.volume }
     {
-        self.read_only
+        self.volume.run(commands, replies)
     }
 
-    /// Whether the volume answers no command any more.
-    pub fn stopped(&self) -> bool
-        ensures { result ≡ self.now.stopped }
+    /// Commits what was accepted and gives the device back, with the reply Done, or Error of EIO where it could not be.
+    pub fn unmount(self) -> (N, Reply)
+        ensures { IsUnmounted ⟦<FlashPages<N> as Pages>⟧.state self.volume (N.state result.0) result.1 }
     {
-        self.stopped
+        let (pages, reply) = self.volume.finish();
+        (pages.into_device(), reply)
     }
 
     /// Gives the device back as it is, as if power were lost between two calls.
     pub fn abandon(self) -> N
-        ensures { N.state result ≡ N.state self.store.device }
+        ensures { N.state result ≡ (⟦<FlashPages<N> as Pages>⟧.state (pages_of self.volume)).device }
     {
-        self.store.into_device()
+        self.volume.into_pages().into_device()
     }
 
-    /// Gives the device back. Each command was written when it was done, so there is nothing to write.
-    pub fn unmount(self) -> (N, Reply)
-        ensures device { N.state result.0 ≡ N.state self.store.device }
-        ensures done { self.stopped ≡ false → result.1 ≡ replies.Done }
-        ensures stopped { self.stopped ≡ true → result.1 ≡ replies.Error errors.EIO }
+    /// Whether commands that would change it are refused.
+    pub fn read_only(&self) -> bool
+        ensures { result ≡ is_read_only self.now.volume }
     {
-        let reply = if self.stopped {
-            Reply::Error(Errno::EIO)
-        } else {
-            Reply::Done
-        };
-        (self.store.into_device(), reply)
+        self.volume.read_only()
     }
-}
 
-impl<N: Nand> Volume<N> {
-    /// Does the commands in turn and adds their replies at the end of the vector. A command whose reply finds no room is
-    /// not begun, and none after it.
-    pub fn run(&mut self, commands: &[Stamped], replies: &mut Vec<Reply>) -> Result<(), AllocError>
-        ensures lasts { Lasts (N.state self.old.store.device) (N.state self.new.store.device) }
-        ensures keeps { (self.new.spare ≡ self.old.spare) × (self.new.read_only ≡ self.old.read_only) }
-        ensures ends { (N.state self.old.store.device).honest ≡ true → self.old.stopped ≡ false → (objects : Objects)
-            → IsFlatVolume (N.state self.old.store.device).geometry (N.state self.old.store.device).flash self.old.spare objects
-            → (answered : List Reply) × (replies.new.items ≡ replies.old.items ++ answered)
-            × RunEnds (sizes_of (N.state self.old.store.device).geometry self.old.spare) self.old.read_only
-            (IsFlatVolume (N.state self.old.store.device).geometry (N.state self.new.store.device).flash self.old.spare)
-            objects commands.now answered self.new.stopped
-            × OnOk result (length answered ≡ length commands.now) }
+    /// Whether it answers EIO to each command.
+    pub fn stopped(&self) -> bool
+        ensures { result ≡ is_stopped self.now.volume }
     {
-        for i in 0..commands.len() {
-            replies.reserve(1)?;
-            let reply = self.call(&commands[i]);
-            replies.push(reply)?;
-        }
-        Ok(())
+        self.volume.stopped()
     }
 }

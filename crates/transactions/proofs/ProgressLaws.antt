@@ -53,6 +53,16 @@ module _ (old mid : Device) (g : Group) (name : ℕ → PageName) (bytes : ℕ �
     ]
   ]
 
+  -- before the first page none is other
+  none_yet : old.honest ≡ true → i ≡ 0 → (k l : ℕ) → mid.flash.page k l ≡ old.flash.page k l
+  none_yet h zero k l = elim (cases_eq k g.block) [
+    | inr ne ↦ so_far.other_blocks h k l ne
+    | inl e ↦ elim (cases_lt l g.start) [
+      | inl less ↦ ap (λ n. mid.flash.page n l) e ∙ so_far.before h l less ∙ ap (λ n. old.flash.page n l) (sym e)
+      | inr le ↦ ap (λ n. mid.flash.page n l) e ∙ so_far.rest h l (omega (arith, le, zero)) ∙ ap (λ n. old.flash.page n l) (sym e)
+    ]
+  ]
+
 module _ (old mid new : Device) (g : Group) (name : ℕ → PageName) (bytes bytes' : ℕ → List ℕ) (i : ℕ) (so_far : Progress old mid g name bytes i) (same : old.honest ≡ true → bytes' i ≡ bytes i) where
   mid_honest : old.honest ≡ true → mid.honest ≡ true
   mid_honest h = so_far.lasts.honest ∙ h
@@ -62,6 +72,13 @@ module _ (old mid new : Device) (g : Group) (name : ℕ → PageName) (bytes byt
 
   asked_same : old.honest ≡ true → (page : Page) → IsAsked g name bytes' i page → IsAsked g name bytes i page
   asked_same h page is = (is.0 ∙ page_same h, is.1)
+
+  -- where no change was counted no page was written
+  still_yet : (mid.honest ≡ true → new.changes ≡ mid.changes → (k l : ℕ) → new.flash.page k l ≡ mid.flash.page k l) → Lasts mid new
+      → old.honest ≡ true → new.changes ≡ old.changes → (k l : ℕ) → new.flash.page k l ≡ old.flash.page k l
+  still_yet still lasts h same k l =
+      let none : i ≡ 0 = omega (arith, so_far.changes, lasts.changes, same) in
+      still (mid_honest h) (omega (arith, so_far.changes, same, none)) k l ∙ none_yet old mid g name bytes i so_far h none k l
 
   -- one more page is written
   pub progress_more : i < g.size → WritesOne mid new g name bytes' i (Ok tt) → Progress old new g name bytes (i + 1)
@@ -142,6 +159,7 @@ module _ (old mid new : Device) (g : Group) (name : ℕ → PageName) (bytes byt
           inside = inside erased same_block h (elim (one.page (mid_honest h)) [ inl is ↦ inl (asked_same h _ is) | inr lost ↦ inr lost ]);
         };
         all = λ h. lacks_leaves fault (lacks h);
+        still = still_yet one.still one.lasts;
       }
     where
       lacks_leaves : (fault : GroupFault) → OneLacks g name bytes new.flash → AllLeaves g name bytes new.flash (Err fault)
@@ -170,6 +188,7 @@ module _ (old mid new : Device) (g : Group) (name : ℕ → PageName) (bytes byt
           inside = inside erased same_block h (left h result (one.page (mid_honest h)));
         };
         all = λ h. leaves h result (one.page (mid_honest h)) (all_there erased same_block h end);
+        still = still_yet one.still one.lasts;
       }
     where
       ends_all : (result : Result Bool GroupFault) → LastEnds mid new result → AllEnds old new g.size result

@@ -13,13 +13,20 @@ use Rattle.transactions.specs.declared.group.GroupFault.{GroupFault}
 use Rattle.transactions.specs.declared.group.GroupFault.TheVariants as faults
 use Rattle.flash_tree.specs.Numbering.{AreBelow}
 use Rattle.transactions.specs.Ready.{IsOpenOn, IsReady, IsPlaceIn}
-use Rattle.transactions.specs.Written.{WritesAll, LastNext, TableAfter, MayWrite, group_at, stays_open}
+use Rattle.transactions.specs.Handing.{HandsOut}
+use Rattle.transactions.specs.laws.Handing.{below_greater}
+use Rattle.transactions.specs.Written.{WritesAll, AllEnds, LastNext, TableAfter, MayWrite, group_at, stays_open}
 use Rattle.transactions.specs.Groups.{next_group, AddsPages, GroupsAfter, OkTable, TakesPages, Stays}
 use Rattle.transactions.proofs.GroupLaws.{IsFresh, is_added, is_not_added, wrote_grows, below_after}
 
 -- the table with the group number handed out
 abbrev pub numbered : Table → Table
 numbered t = record t { next_group = t.next_group + 1 }
+
+-- the next numbers stay when the end of a group is noted
+after_numbers : (block count : ℕ) (open_still : Bool) (t t' : Table) → TableAfter block count open_still t t' → (t'.next_group ≡ t.next_group) × (t'.next_seq ≡ t.next_seq)
+after_numbers block count true t t' (sets, still, seq) = (sets.next_group, seq)
+after_numbers block count false t t' is = (ap (λ (x : Table). x.next_group) is, ap (λ (x : Table). x.next_seq) is)
 
 module _ (old : Device) (t : Table) (count : ℕ) (place : GroupPlace) (ready : IsReady old t) (at : IsPlaceIn t count place) where
   open_now : IsOpenOn old t place.block
@@ -112,6 +119,37 @@ module _ (old : Device) (t : Table) (count : ℕ) (place : GroupPlace) (ready : 
             numbers = (subst (λ n. 1 ≤ n) (sym sets.next_group) (omega (arith, ready.numbers)), subst (λ n. 1 ≤ n) (sym seq) ready.numbers.1);
             below = λ h. subst (λ n. AreBelow new.flash n t'.next_seq) (sym sets.next_group) (subst (λ n. AreBelow new.flash (t.next_group + 1) n) (sym seq) (numbers_below h));
           }
+
+    -- with power an honest device counted a change
+    counts : (result : Result Bool GroupFault) → AllEnds old new place.count result → old.honest ≡ true → new.gone ≡ false → 1 + old.changes ≤ new.changes
+    counts (Ok false) ends honest power = omega (arith, ends.2, some)
+    counts (Ok true) ends honest power = omega (arith, ends.2, some)
+    counts (Err faults.NoRoom) ends honest power = absurd ends
+    counts (Err faults.Failed) ends honest power = omega (arith, ends.2)
+    counts (Err faults.Lost) ends honest power = let lies : true ≡ false = sym honest ∙ ends in absurd cc
+    counts (Err faults.Gone) ends honest power = let two : true ≡ false = sym ends ∙ power in absurd cc
+
+    below_written : old.honest ≡ true → (more : ℕ) → new.changes ≡ old.changes + more → AreBelow new.flash (t.next_group + more) (t.next_seq + more)
+    below_written honest more counted = elim (cases_eq more 0) [
+      | inl none ↦ λ b p u good_block has.
+          let page : new.flash.page b p ≡ old.flash.page b p = all.still honest (omega (arith, counted, none)) b p in
+          let was = ready.below honest b p u (ap (λ f. f b) (sym all.bad) ∙ good_block) (record { bytes = has.bytes; page = sym page ∙ has.page; valid = has.valid }) in
+          (omega (arith, was), omega (arith, was), omega (arith, was))
+      | inr some_more ↦ below_greater new.flash (t.next_group + 1) t.next_seq _ _ (omega (arith, some_more)) (omega arith) (numbers_below (all.lasts.honest ∙ honest))
+    ]
+
+    -- the number of a group is handed out, and of no block
+    pub group_hands : (t' : Table) → TableAfter place.block place.count (stays_open result) (numbered t) t' → HandsOut old new t t'
+    group_hands t' after =
+        let same = after_numbers place.block place.count (stays_open result) (numbered t) t' after in
+        record {
+          groups_rise = omega (arith, same.0);
+          seqs_rise = omega (arith, same.1);
+          seqs = omega (arith, same.1, all.lasts.changes);
+          groups = λ honest power. omega (arith, same.0, counts result all.ends honest power);
+          below = λ honest is. below_greater new.flash (t.next_group + 1) t.next_seq _ _ (omega (arith, same.0)) (omega (arith, same.1)) (numbers_below (all.lasts.honest ∙ honest));
+          written = λ honest is. below_written honest;
+        }
 
     -- what stays, however it ended
     pub group_stays : Stays t old new

@@ -60,7 +60,7 @@ abbrev pub PageEnds : Group → (ℕ → PageName) → (ℕ → List ℕ) → �
 PageEnds g name bytes i (Ok done) page = IsAsked g name bytes i page
 PageEnds g name bytes i (Err fault) page = IsAsked g name bytes i page ⊎ IsNothing page
 
--- what the writing of page i does
+-- what the writing of page i does: where no change was counted no page is other
 pub record WritesOne (old new : Device) (g : Group) (name : ℕ → PageName) (bytes : ℕ → List ℕ) (i : ℕ) (result : Result (Unit {0}) GroupFault) : Type 0 where
   pub lasts : Lasts old new
   pub ends : OneEnds old new result
@@ -71,6 +71,7 @@ pub record WritesOne (old new : Device) (g : Group) (name : ℕ → PageName) (b
   pub page : old.honest ≡ true → PageEnds g name bytes i result (new.flash.page g.block (g.start + i))
   pub same_block : old.honest ≡ true → (l : ℕ) → l ≢ g.start + i → new.flash.page g.block l ≡ old.flash.page g.block l
   pub other_blocks : old.honest ≡ true → (k l : ℕ) → k ≢ g.block → new.flash.page k l ≡ old.flash.page k l
+  pub still : old.honest ≡ true → new.changes ≡ old.changes → (k l : ℕ) → new.flash.page k l ≡ old.flash.page k l
 
 -- how the writing of the last page ends: done, done though the device said that it failed, or short
 abbrev pub LastEnds : Device → Device → Result Bool GroupFault → Type 0
@@ -92,7 +93,7 @@ LastLeaves g name bytes i (Err faults.Failed) page = IsNothing page
 LastLeaves g name bytes i (Err faults.Lost) page = IsAsked g name bytes i page ⊎ IsNothing page
 LastLeaves g name bytes i (Err faults.Gone) page = IsAsked g name bytes i page ⊎ IsNothing page
 
--- what the writing of the last page, page i, does
+-- what the writing of the last page, page i, does: where no change was counted no page is other
 pub record WritesLast (old new : Device) (g : Group) (name : ℕ → PageName) (bytes : ℕ → List ℕ) (i : ℕ) (result : Result Bool GroupFault) : Type 0 where
   pub lasts : Lasts old new
   pub ends : LastEnds old new result
@@ -103,6 +104,7 @@ pub record WritesLast (old new : Device) (g : Group) (name : ℕ → PageName) (
   pub page : old.honest ≡ true → LastLeaves g name bytes i result (new.flash.page g.block (g.start + i))
   pub same_block : old.honest ≡ true → (l : ℕ) → l ≢ g.start + i → new.flash.page g.block l ≡ old.flash.page g.block l
   pub other_blocks : old.honest ≡ true → (k l : ℕ) → k ≢ g.block → new.flash.page k l ≡ old.flash.page k l
+  pub still : old.honest ≡ true → new.changes ≡ old.changes → (k l : ℕ) → new.flash.page k l ≡ old.flash.page k l
 
 -- the first i pages of a group are written, and nothing else is
 pub record Progress (old new : Device) (g : Group) (name : ℕ → PageName) (bytes : ℕ → List ℕ) (i : ℕ) : Type 0 where
@@ -142,7 +144,7 @@ AllLeaves g name bytes flash (Err faults.Failed) = OneLacks g name bytes flash
 AllLeaves g name bytes flash (Err faults.Lost) = AllThere g (tag_in g name) bytes flash ⊎ OneLacks g name bytes flash
 AllLeaves g name bytes flash (Err faults.Gone) = AllThere g (tag_in g name) bytes flash ⊎ OneLacks g name bytes flash
 
--- what the writing of all pages of a group does
+-- what the writing of all pages of a group does: where no change was counted no page is other
 pub record WritesAll (old new : Device) (g : Group) (name : ℕ → PageName) (bytes : ℕ → List ℕ) (result : Result Bool GroupFault) : Type 0 where
   pub lasts : Lasts old new
   pub ends : AllEnds old new g.size result
@@ -152,6 +154,7 @@ pub record WritesAll (old new : Device) (g : Group) (name : ℕ → PageName) (b
   pub other_nexts : (k : ℕ) → k ≢ g.block → new.flash.next k ≡ old.flash.next k
   pub wrote : old.honest ≡ true → Wrote g name bytes old.flash new.flash
   pub all : old.honest ≡ true → AllLeaves g name bytes new.flash result
+  pub still : old.honest ≡ true → new.changes ≡ old.changes → (k l : ℕ) → new.flash.page k l ≡ old.flash.page k l
 
 -- all pages but the last are written, or the writing ended short
 abbrev pub FirstEnds : Device → Device → Group → (ℕ → PageName) → (ℕ → List ℕ) → Result (Unit {0}) GroupFault → Type 0

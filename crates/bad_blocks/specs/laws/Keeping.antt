@@ -13,7 +13,7 @@ use Rattle.block_state.specs.Table.{Table, is_bad}
 use Rattle.transactions.specs.Groups.{TakesPages, OkTable, TableEnds, closed}
 use Rattle.transactions.specs.Handing.{HandsOut}
 use Rattle.transactions.specs.Ready.{IsReady}
-use Rattle.transactions.specs.laws.Handing.{hands_on}
+use Rattle.transactions.specs.laws.Handing.{hands_on, hands_nothing, hands_closed}
 use Rattle.transactions.specs.laws.Ready.{ready_closed}
 use Rattle.transactions.specs.declared.group.Placed.{Placed}
 use Rattle.transactions.specs.declared.group.GroupFault.{GroupFault}
@@ -156,13 +156,17 @@ keeps_on a b c t u v first then = record {
   limits = λ is. then.limits (first.limits is);
 }
 
+-- where no call is made
+pub keeps_nothing : (d : Device) (t : Table) → IsReady d t → KeepsCounts d d t t
+keeps_nothing d t ready = keeps_same d d t t (same_here t) (lasts_here d) ready (hands_nothing d t) (λ is. is)
+
 -- no block is open any longer
 pub keeps_closed : (d : Device) (t u : Table) → u ≡ record t { open_block = None } → IsReady d t → KeepsCounts d d t u
 keeps_closed d t u is ready = keeps_same d d t u
     (record { bad = λ b. ap (λ (x : Table). (x.entry b).bad) is; kept = λ b. ap (λ (x : Table). (x.entry b).kept) is; geometry = ap (λ (x : Table). x.geometry) is })
     (lasts_here d)
     (subst (IsReady d) (sym is) (ready_closed d t ready))
-    (subst (HandsOut d d t) (sym is) (record { groups_rise = omega arith; seqs_rise = omega arith; seqs = omega arith; groups = λ _ _. omega arith }))
+    (hands_closed d t u is)
     (λ (groups, seqs). (
       let same = ap (λ (x : Table). x.next_group) is in omega (arith, same, groups),
       let same = ap (λ (x : Table). x.next_seq) is in omega (arith, same, seqs),

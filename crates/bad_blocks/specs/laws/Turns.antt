@@ -11,7 +11,7 @@ use Rattle.chunk_index.specs.declared.index.Index.{Index}
 use Rattle.chunk_index.specs.Kept.{HoldsNone}
 use Rattle.chunk_index.specs.Maps.{kept_pages, present, moved_to}
 use Rattle.transactions.specs.Ready.{IsReady}
-use Rattle.transactions.specs.laws.Handing.{hands_on, hands_nothing}
+use Rattle.transactions.specs.laws.Handing.{hands_on, hands_nothing, hands_closed}
 use Rattle.transactions.specs.laws.Ready.{ready_closed}
 use Rattle.bad_blocks.specs.Moving.{Moves, MovesOut, IsKeptIn}
 use Rattle.bad_blocks.specs.Standing.{HasVersion, Stands}
@@ -92,7 +92,7 @@ pub moves_closed : (v : ℕ) (d : Device) (t u : Table) (x : Index) → u ≡ re
 moves_closed v d t u x is ready = subst (λ (s : Table). Moves v d d t s x x) (sym is) (record {
   lasts = lasts_here d;
   ready = ready_closed d t ready;
-  numbers = record { groups_rise = omega arith; seqs_rise = omega arith; seqs = omega arith; groups = λ _ _. omega arith };
+  numbers = hands_closed d t (record t { open_block = None }) refl;
   geometry = refl;
   marks = λ b is. is;
   kept_count = refl;

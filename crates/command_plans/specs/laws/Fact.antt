@@ -1,5 +1,5 @@
 -- What follows from what is told of an object.
-use Rattle.std.specs.Prelude.{◌≡◌, ◌⊎◌, ◌<◌, ◌≤◌, ℕ, Bool, true, false, List, [], ◌∷◌, length, Option, Some, None, nat_le, is_some, MatchBool}
+use Rattle.std.specs.Prelude.{◌≡◌, ◌≤◌, ℕ, false, List, [], ◌∷◌, length, Option, Some, None, nat_le, is_some, MatchBool}
 use Rattle.std.proofs.Common.{refl, sym, ◌∙◌, ap, subst, inl, inr, arith}
 use Rattle.std.proofs.lemmas.Bool.{lt-leb, le-leb, true≢false}
 use Rattle.std.specs.Prelude.{ℤ, pos, negsuc}
@@ -10,8 +10,7 @@ use Rattle.volume_terms.specs.Sizes.{Sizes}
 use Rattle.posix_profile.specs.State.{Name, Object, File, Dir, Objects, IsDirectory}
 use Rattle.posix_profile.specs.Names.{Names, link_pairs}
 use Rattle.posix_profile.specs.WellFormed.{IsForest, IsNamed}
-use Rattle.posix_profile.specs.laws.Map.{Member}
-use Rattle.posix_profile.specs.laws.Link.{Lists, AreDistinct, link_pairs_list}
+use Rattle.posix_profile.specs.laws.Link.{Lists, link_pairs_list}
 use Rattle.posix_profile.specs.declared.reply.Info.{Info}
 use Rattle.posix_profile.specs.declared.reply.Kind.TheVariants as kinds
 use Rattle.object_store.specs.Facts.{info_of, NamedBy}

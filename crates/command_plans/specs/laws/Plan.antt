@@ -19,7 +19,7 @@ use Rattle.posix_profile.specs.declared.reply.Info.{Info}
 use Rattle.posix_profile.specs.declared.reply.Reply.{Reply}
 use Rattle.posix_profile.specs.declared.reply.Reply.TheVariants as replies
 use Rattle.object_store.specs.Facts.{bytes_of, info_of}
-use Rattle.object_store.specs.Stores.{Meaning, IsLawful, Faults, Finds, Tells}
+use Rattle.object_store.specs.Stores.{Meaning, IsLawful, Faults}
 use Rattle.object_store.specs.laws.Store.{has_on, tells_on}
 use Rattle.volume_terms.specs.declared.fault.StoreFault.{StoreFault}
 use Rattle.object_store.specs.declared.refusal.Refusal.{Refusal}
@@ -27,7 +27,7 @@ use Rattle.object_store.specs.declared.refusal.Refusal.TheVariants as refusals
 use Rattle.path_walk.specs.Places.{place_of, Leads}
 use Rattle.path_walk.specs.declared.parts.PathPlace.{PathPlace}
 use Rattle.command_plans.specs.Classes.{Class}
-use Rattle.command_plans.specs.Places.{AtPlace, NoPlace, FindsPlace, AtObject, NoObject, FindsObject}
+use Rattle.command_plans.specs.Places.{AtPlace, FindsPlace, AtObject, NoObject, FindsObject}
 use Rattle.command_plans.specs.Plans.{Holds, IsPlan, Plans, Tries, handed, Suits}
 use Rattle.command_plans.specs.declared.plan.Plan.{Plan}
 use Rattle.command_plans.specs.declared.plan.HandleChange.TheVariants as handle_changes

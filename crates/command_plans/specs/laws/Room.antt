@@ -1,7 +1,7 @@
 -- What changes of names cost.
-use Rattle.std.specs.Prelude.{◌≡◌, ◌≢◌, ◌⊎◌, ◌<◌, ◌≤◌, ℕ, ◌+◌, ◌-◌, ◌*◌, ◌^◌, ◌/◌, ◌%◌, Bool, true, false, Option, Some, None, is_some, cond, nat_eq, nat_le, min, List, length}
-use Rattle.std.proofs.Common.{refl, sym, ◌∙◌, ap, subst, inl, inr, arith}
-use Rattle.std.proofs.lemmas.Bool.{cases_eq, cond-true, cond-false, leb-true}
+use Rattle.std.specs.Prelude.{◌≡◌, ◌≢◌, ◌<◌, ◌≤◌, ℕ, ◌+◌, ◌-◌, ◌*◌, ◌^◌, ◌/◌, ◌%◌, true, Option, Some, None, is_some, nat_le, min, List, length}
+use Rattle.std.proofs.Common.{sym, ◌∙◌, ap, subst, inl, inr, arith}
+use Rattle.std.proofs.lemmas.Bool.{cond-false, leb-true}
 use Rattle.std.proofs.lemmas.Bool.Decides.{nat_tests}
 use Rattle.std.proofs.lemmas.Grind.{common_steps}
 use Rattle.std.specs.Cmp.{nat_cmp_total}
@@ -9,13 +9,11 @@ use Rattle.std.specs.Cmp.Lexicographic.{nat_list_cmp_total, slice_cmp}
 use Rattle.std.specs.FinMap as map
 use Rattle.volume_terms.specs.Sizes.{Sizes, IsSizes, capacity, page_slots, greatest_length}
 use Rattle.posix_profile.specs.State.{Name, Entries, Object, File, Dir, Objects, IsDirectory, entries_of}
-use Rattle.posix_profile.specs.Names.{Names}
 use Rattle.posix_profile.specs.Charge.{cost, charge, fits}
 use Rattle.volume_terms.specs.Rounding.{ceiling}
-use Rattle.posix_profile.specs.laws.Charge.{fits_less, insert_less, ceiling_le, without_less}
+use Rattle.posix_profile.specs.laws.Charge.{fits_less, without_less}
 use Rattle.posix_profile.specs.Changes.{new_number, with_object, with_name, without_name, with_bytes}
-use Rattle.posix_profile.specs.laws.Map.{get_here, get_there, remove_cases}
-use Rattle.posix_profile.specs.laws.Name.{namer_directory, named_entry}
+use Rattle.posix_profile.specs.laws.Map.{get_there, remove_cases}
 use Rattle.posix_profile.specs.laws.Number.{new_number_is, product_le, capacity_few}
 use Rattle.posix_profile.specs.laws.Total.{total_insert, total_without, total_replace, total_le}
 use Rattle.posix_profile.specs.laws.Write.{charge_with_bytes, ceiling_at_most}

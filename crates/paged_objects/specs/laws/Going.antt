@@ -1,5 +1,5 @@
 -- Calls of a store of pages, one after the other.
-use Rattle.std.specs.Prelude.{◌≡◌, true, false}
+use Rattle.std.specs.Prelude.{◌≡◌, ◌≤◌, ◌+◌, ◌-◌, ℕ, true, false}
 use Rattle.std.proofs.Common.{refl, sym, ◌∙◌, ap, subst, inl, inr, arith}
 use Rattle.std.proofs.lemmas.Bool.{cases_Bool}
 use Rattle.nand_model.specs.Flash.{Flash}
@@ -10,10 +10,11 @@ use Rattle.nand_model.specs.laws.Changes.{only_reads_on, only_reads_here}
 use Rattle.nand_model.specs.declared.geometry.Geometry.{Geometry}
 use Rattle.flash_tree.specs.laws.Place.{same_flash}
 use Rattle.flash_tree.specs.Mount.{bad_blocks, sizes_of}
+use Rattle.flash_tree.specs.Numbering.{AreBelow}
 use Rattle.pages.specs.State.{PagesState, NextNumbers, OnlyFinds}
-use Rattle.pages.specs.Stores.{GoesOn, StaysSame, HandsOutNumbers, HasNumbersLeft, IsCrowded, bad_on}
+use Rattle.pages.specs.Stores.{GoesOn, StaysSame, HandsOutNumbers, HasNumbersLeft, bad_on}
 use Rattle.paged_objects.specs.Standing.{volume_of}
-use Rattle.paged_objects.specs.Ending.{StaysAs, HasEnded}
+use Rattle.paged_objects.specs.Ending.{StaysAs}
 
 -- look-ups leave the pages as they are
 pub finds_stay : (p q : PagesState) → OnlyFinds p q → StaysAs p q
@@ -79,6 +80,10 @@ same_bad a b reads =
     ap (λ (g : Geometry). bad_blocks g b.flash) reads.lasts.geometry
     ∙ ap (λ bad. bad_blocks a.geometry (record { bad = bad; next = b.flash.next; page = b.flash.page })) reads.bad
 
+-- numbers above all that stand on a flash are so where they are greater
+above : (flash : Flash) (group seq more_group more_seq : ℕ) → group ≤ more_group → seq ≤ more_seq → AreBelow flash group seq → AreBelow flash more_group more_seq
+above flash group seq more_group more_seq groups seqs below b p t good tag = let h = below b p t good tag in (omega (arith, h.0, groups), omega (arith, h.1, groups), omega (arith, h.2, seqs))
+
 -- pages that stay go on
 pub stays_goes : (p q : PagesState) → StaysAs p q → GoesOn p q
 stays_goes p q x =
@@ -99,10 +104,18 @@ stays_goes p q x =
         seqs_rise = omega (arith, seq);
         seqs = omega (arith, seq, changes);
         groups = λ honest power. omega (arith, group, changes);
+        below = λ honest at. above q.device.flash p.next.group p.next.seq q.next.group q.next.seq (omega (arith, group)) (omega (arith, seq))
+            (subst (λ (f : Flash). AreBelow f p.next.group p.next.seq) (sym (same_flash p.device q.device x.device honest)) at);
+        written = λ honest at more is. above q.device.flash p.next.group p.next.seq (p.next.group + more) (p.next.seq + more) (omega arith) (omega arith)
+            (subst (λ (f : Flash). AreBelow f p.next.group p.next.seq) (sym (same_flash p.device q.device x.device honest)) at);
       };
       marks = omega (arith, bad, failures);
       limits = λ honest left. subst (λ (f : Flash). HasNumbersLeft f) (sym (same_flash p.device q.device x.device honest)) left;
     }
+
+-- so they do where nothing is done
+pub goes_here : (p : PagesState) → GoesOn p p
+goes_here p = stays_goes p p (stays_here p)
 
 -- a device that has power had it before
 had_power : (a b : Device) → Lasts a b → b.gone ≡ false → a.gone ≡ false
@@ -111,12 +124,33 @@ had_power a b lasts power = elim (cases_Bool a.gone) [
   | inl gone ↦ let two : true ≡ false = sym gone ∙ sym (ap (λ (d : Device). d.gone) (lasts.gone gone)) ∙ power in absurd cc
 ]
 
+-- what stands on the device after both calls is below the first numbers and one more for each change: a device that is gone
+-- changes no more
+written_on : (a b c : Device) (x y z : NextNumbers) → Lasts a b → Lasts b c → HandsOutNumbers a b x y → HandsOutNumbers b c y z → a.honest ≡ true → AreBelow a.flash x.group x.seq
+    → (more : ℕ) → c.changes ≡ a.changes + more → AreBelow c.flash (x.group + more) (x.seq + more)
+written_on a b c x y z first then' h k honest at more is =
+    let early_is : b.changes ≡ a.changes + (b.changes - a.changes) = omega (arith, first.changes) in
+    let late_is : c.changes ≡ b.changes + (c.changes - b.changes) = omega (arith, then'.changes) in
+    elim (cases_Bool b.gone) [
+      | inl gone ↦
+          let same : c ≡ b = then'.gone gone in
+          let none : c.changes ≡ b.changes = ap (λ (d : Device). d.changes) same in
+          above c.flash (x.group + (b.changes - a.changes)) (x.seq + (b.changes - a.changes)) (x.group + more) (x.seq + more) (omega (arith, none, is, early_is)) (omega (arith, none, is, early_is))
+          (subst (λ (d : Device). AreBelow d.flash (x.group + (b.changes - a.changes)) (x.seq + (b.changes - a.changes))) (sym same) (h.written honest at (b.changes - a.changes) early_is))
+      | inr power ↦
+          let groups = h.groups honest power in
+          above c.flash (y.group + (c.changes - b.changes)) (y.seq + (c.changes - b.changes)) (x.group + more) (x.seq + more) (omega (arith, groups, is, early_is, late_is)) (omega (arith, h.seqs, is, early_is, late_is))
+          (k.written (first.honest ∙ honest) (h.below honest at) (c.changes - b.changes) late_is)
+    ]
+
 numbers_on : (a b c : Device) (x y z : NextNumbers) → Lasts a b → Lasts b c → HandsOutNumbers a b x y → HandsOutNumbers b c y z → HandsOutNumbers a c x z
 numbers_on a b c x y z first then' h k = record {
   groups_rise = omega (arith, h.groups_rise, k.groups_rise);
   seqs_rise = omega (arith, h.seqs_rise, k.seqs_rise);
   seqs = omega (arith, h.seqs, k.seqs);
   groups = λ honest power. omega (arith, h.groups honest (had_power b c then' power), k.groups (first.honest ∙ honest) power);
+  below = λ honest at. k.below (first.honest ∙ honest) (h.below honest at);
+  written = written_on a b c x y z first then' h k;
 }
 
 -- calls go on one after the other
@@ -136,24 +170,3 @@ goes_on a b c x y = record {
 -- the volume stays the same
 pub volume_on : (p q : PagesState) → GoesOn p q → volume_of q ≡ volume_of p
 volume_on p q goes = ap (λ (g : Geometry). sizes_of g q.spare) goes.device.geometry ∙ ap (sizes_of p.device.geometry) goes.spare
-
--- what is crowded after reads was so before them
-crowded_before : (p q : PagesState) → StaysAs p q → IsCrowded q → IsCrowded p
-crowded_before p q x crowded =
-    let blocks : q.device.geometry.blocks ≡ p.device.geometry.blocks = ap (λ (g : Geometry). g.blocks) x.device.lasts.geometry in
-    let pages : q.device.geometry.pages ≡ p.device.geometry.pages = ap (λ (g : Geometry). g.pages) x.device.lasts.geometry in
-    record {
-      keys = crowded.keys;
-      once = crowded.once;
-      each = λ i k is. let there = crowded.each i k is in (there.0, sym (x.kept k.object k.chunk) ∙ there.1);
-      many = rw (← blocks, ← pages, ← x.spare, ← x.most) crowded.many;
-    }
-
--- what ended a store after reads ended it
-pub ended_before : (p q r : PagesState) → StaysAs p q → HasEnded q r → HasEnded p r
-ended_before p q r x (inl failed) = inl failed
-ended_before p q r x (inr (inl group)) = inr (inl group)
-ended_before p q r x (inr (inr (inl seq))) = inr (inr (inl seq))
-ended_before p q r x (inr (inr (inr (inl bad)))) = inr (inr (inr (inl bad)))
-ended_before p q r x (inr (inr (inr (inr (inl few))))) = inr (inr (inr (inr (inl few))))
-ended_before p q r x (inr (inr (inr (inr (inr crowded))))) = inr (inr (inr (inr (inr (crowded_before p q x crowded)))))

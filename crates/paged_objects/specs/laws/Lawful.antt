@@ -39,6 +39,7 @@ either_at z y p tree settles is (inr shown) = inr (shown_at z y p settles is sho
 
 pub paged_lawful : {S P : Type 0} (state : P → PagesState) (pages : S → P) (table : S → ObjectTable) → IsLawful (paged_meaning state pages table)
 paged_lawful {S} {P} state pages table = record {
+  leaves_nothing = λ a. refl;
   reads_nothing = λ a. (stays_here (at a), same_here (table a));
   reads_on = λ a b c x y. (stays_on (at a) (at b) (at c) x.0 y.0, same_on (table a) (table b) (table c) x.1 y.1);
   reads_lasts = λ a b x. (stays_goes (at a) (at b) x.0, x.1.sizes);

@@ -1,5 +1,5 @@
 -- What a mount shows after calls of a store of pages.
-use Rattle.std.specs.Prelude.{◌≡◌, ℕ, true}
+use Rattle.std.specs.Prelude.{◌≡◌, ◌⊎◌, ℕ, true}
 use Rattle.std.proofs.Common.{refl, sym, ◌∙◌, subst, inl, inr}
 use Rattle.nand_model.specs.Flash.{Flash}
 use Rattle.nand_model.specs.Calls.{Device}
@@ -12,12 +12,12 @@ use Rattle.posix_profile.specs.State.{Objects}
 use Rattle.object_store.specs.Stores.{settled}
 use Rattle.pages.specs.Maps.{PageMap}
 use Rattle.pages.specs.State.{PagesState}
-use Rattle.pages.specs.Stores.{Carries, HasPage, HasNumbersLeft, IsCarried, SamePages, GoesOn, KeptAs, KeepsEither}
+use Rattle.pages.specs.Stores.{Carries, HasPage, HasNumbersLeft, HasFailed, IsCarried, SamePages, GoesOn, KeptAs, KeepsEither}
 use Rattle.object_pages.specs.Holding.{HoldsObjects, HoldsIn, CanHave}
 use Rattle.object_pages.specs.laws.Holding.{same_objects}
 use Rattle.paged_objects.specs.Standing.{volume_of, Stands, Shown}
 use Rattle.paged_objects.specs.Ending.{StaysAs, Turns, Changes, Fails, Commits}
-use Rattle.paged_objects.specs.laws.Going.{stays_goes, goes_on, volume_on, ended_before}
+use Rattle.paged_objects.specs.laws.Going.{stays_goes, goes_on, volume_on}
 
 -- what a device carries it carries after reads
 carried_read : (a b : Device) (spare : ℕ) (m : PageMap) → OnlyReads a b → a.honest ≡ true → IsCarried a spare m → IsCarried b spare m
@@ -52,21 +52,28 @@ stays_stands z p q objects stays stands = record {
   page_bytes = stays.page_bytes ∙ stands.page_bytes;
   most = stays.most ∙ stands.most;
   holds = same_objects z p.present q.present objects stands.holds stays.present;
+  shown = (stands.shown.0, stays_shown z p q stands.shown.0 stays stands.shown.1);
 }
 
 -- what objects stand in is what their changes are planned from
 pub holds_in : (z : Sizes) (p : PagesState) (objects : Objects) → Stands z p objects → HoldsIn p z objects
 holds_in z p objects stands = record { sound = stands.sound; size = sym stands.page_bytes; holds = stands.holds }
 
+-- the tree that a mount shows after a call
+tree_after : (z : Sizes) (q : PagesState) (tree other : Objects) → Shown z q tree ⊎ Shown z q other → (shown : Objects) × Shown z q shown
+tree_after z q tree other (inl first) = (tree, first)
+tree_after z q tree other (inr second) = (other, second)
+
 -- after a change that was made the store has the new objects
 pub changed_stands : (z : Sizes) (p q : PagesState) (old new : Objects) (m : PageMap) → GoesOn p q → Stands z p old → q.sound ≡ true → HoldsObjects z m new → SamePages q.present m
-    → Stands z q new
-changed_stands z p q old new m goes stands sound holds same = record {
+    → Turns z old p q → Stands z q new
+changed_stands z p q old new m goes stands sound holds same turns = record {
   sound = sound;
   sizes = volume_on p q goes ∙ stands.sizes;
   page_bytes = goes.page_bytes ∙ stands.page_bytes;
   most = goes.most ∙ stands.most;
   holds = same_objects z m q.present new holds same;
+  shown = tree_after z q stands.shown.0 (settled old) (turns stands.shown.0 stands.shown.1);
 }
 
 -- pages that are kept show what they hold, settled
@@ -114,7 +121,7 @@ pub fails_after : (z : Sizes) (p q r : PagesState) (objects : Objects) → Stays
 fails_after z p q r objects stays fails = record {
   goes_on = goes_on p q r (stays_goes p q stays) fails.goes_on;
   turns = turns_after z p q r objects stays fails.turns;
-  cause = ended_before p q r stays fails.cause;
+  cause = fails.cause;
 }
 
 pub commits_after : (z : Sizes) (p q r : PagesState) (objects : Objects) → StaysAs p q → Commits z objects q r → Commits z objects p r
@@ -124,7 +131,7 @@ commits_after z p q r objects stays commits = record {
 }
 
 -- a read that ended the use of the store
-pub read_fails : (z : Sizes) (p q : PagesState) (objects : Objects) → StaysAs p q → q.failed ≡ true → Fails z objects p q
+pub read_fails : (z : Sizes) (p q : PagesState) (objects : Objects) → StaysAs p q → HasFailed q.device → Fails z objects p q
 read_fails z p q objects stays failed = record {
   goes_on = stays_goes p q stays;
   turns = λ tree shown. inl (stays_shown z p q tree stays shown);

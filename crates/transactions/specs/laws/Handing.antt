@@ -1,10 +1,20 @@
 -- What holds of the numbers that are handed out.
-use Rattle.std.specs.Prelude.{◌≡◌, true, false}
-use Rattle.std.proofs.Common.{sym, ◌∙◌, ap, arith, inl, inr}
+use Rattle.std.specs.Prelude.{◌≡◌, ◌≤◌, ◌+◌, ◌-◌, ℕ, true, false, None, Result}
+use Rattle.std.proofs.Common.{refl, sym, ◌∙◌, ap, arith, inl, inr}
 use Rattle.std.proofs.lemmas.Bool.{cases_Bool}
-use Rattle.nand_model.specs.Calls.{Device, Lasts}
+use Rattle.nand_model.specs.Flash.{Flash}
+use Rattle.nand_model.specs.Calls.{Device, Lasts, Erases, Marks}
+use Rattle.nand_model.specs.laws.Changes.{shrinks-erase}
+use Rattle.nand_model.specs.declared.nand.EraseFault.{EraseFault}
+use Rattle.nand_model.specs.declared.nand.Gone.{Gone}
+use Rattle.flash_tree.specs.Numbering.{AreBelow}
 use Rattle.block_state.specs.Table.{Table}
 use Rattle.transactions.specs.Handing.{HandsOut}
+use Rattle.transactions.specs.laws.Ready.{below_erased, below_marked}
+
+-- what is below some numbers is below greater ones
+pub below_greater : (f : Flash) (g s h r : ℕ) → g ≤ h → s ≤ r → AreBelow f g s → AreBelow f h r
+below_greater f g s h r groups seqs below b p u good has = let was = below b p u good has in (omega (arith, was, groups), omega (arith, was, groups), omega (arith, was, seqs))
 
 -- what one call hands out and then another
 pub hands_on : (a b c : Device) (t u v : Table) → Lasts a b → Lasts b c → HandsOut a b t u → HandsOut b c u v → HandsOut a c t v
@@ -13,6 +23,8 @@ hands_on a b c t u v before after first then = record {
   seqs_rise = omega (arith, first.seqs_rise, then.seqs_rise);
   seqs = omega (arith, first.seqs, then.seqs);
   groups = λ honest power. omega (arith, first.groups honest (had power), then.groups (before.honest ∙ honest) power);
+  below = λ honest is. then.below (before.honest ∙ honest) (first.below honest is);
+  written = written;
 } where
   had : c.gone ≡ false → b.gone ≡ false
   had is = elim (cases_Bool b.gone) [
@@ -20,6 +32,58 @@ hands_on a b c t u v before after first then = record {
     | inl gone ↦ let two : true ≡ false = sym gone ∙ sym (ap (λ (d : Device). d.gone) (after.gone gone)) ∙ is in absurd cc
   ]
 
+  written : a.honest ≡ true → AreBelow a.flash t.next_group t.next_seq → (more : ℕ) → c.changes ≡ a.changes + more → AreBelow c.flash (t.next_group + more) (t.next_seq + more)
+  written honest is more counted = elim (cases_Bool b.gone) [
+    | inl gone ↦ rw (after.gone gone) (first.written honest is more (ap (λ (d : Device). d.changes) (sym (after.gone gone)) ∙ counted))
+    | inr power ↦
+        let still : b.honest ≡ true = before.honest ∙ honest in
+        let rest : c.changes ≡ b.changes + (c.changes - b.changes) = omega (arith, after.changes) in
+        below_greater c.flash (u.next_group + (c.changes - b.changes)) (u.next_seq + (c.changes - b.changes)) _ _
+        (omega (arith, first.groups honest power, counted, after.changes)) (omega (arith, first.seqs, counted, after.changes))
+        (then.written still (first.below honest is) (c.changes - b.changes) rest)
+  ]
+
+-- no group's number is handed out, and no tag came
+pub hands_unwritten : (old new : Device) (t t' : Table) → t'.next_group ≡ t.next_group → t.next_seq ≤ t'.next_seq → t'.next_seq + old.changes ≤ t.next_seq + new.changes
+    → (old.honest ≡ true → (group seq : ℕ) → AreBelow old.flash group seq → AreBelow new.flash group seq) → HandsOut old new t t'
+hands_unwritten old new t t' groups rise seqs stays = record {
+  groups_rise = omega (arith, groups);
+  seqs_rise = rise;
+  seqs = seqs;
+  groups = λ honest power. omega (arith, groups, rise, seqs);
+  below = λ honest is. below_greater new.flash t.next_group t.next_seq _ _ (omega (arith, groups)) rise (stays honest _ _ is);
+  written = λ honest is more counted. below_greater new.flash t.next_group t.next_seq _ _ (omega arith) (omega arith) (stays honest _ _ is);
+}
+
 -- where no call is made none is handed out
 pub hands_nothing : (a : Device) (t : Table) → HandsOut a a t t
-hands_nothing a t = record { groups_rise = omega arith; seqs_rise = omega arith; seqs = omega arith; groups = λ _ _. omega arith }
+hands_nothing a t = hands_unwritten a a t t refl (omega arith) (omega arith) (λ honest group seq is. is)
+
+-- nor where no block is open any longer
+pub hands_closed : (a : Device) (t u : Table) → u ≡ record t { open_block = None } → HandsOut a a t u
+hands_closed a t u is = hands_unwritten a a t u (ap (λ (x : Table). x.next_group) is) (omega (arith, seqs)) (omega (arith, seqs)) (λ honest group seq below. below) where
+  seqs : u.next_seq ≡ t.next_seq
+  seqs = ap (λ (x : Table). x.next_seq) is
+
+-- tables of the same next numbers
+pub hands_same : (a b : Device) (t u v : Table) → v.next_group ≡ u.next_group → v.next_seq ≡ u.next_seq → HandsOut a b t u → HandsOut a b t v
+hands_same a b t u v groups seqs hands = record {
+  groups_rise = omega (arith, groups, hands.groups_rise);
+  seqs_rise = omega (arith, seqs, hands.seqs_rise);
+  seqs = omega (arith, seqs, hands.seqs);
+  groups = λ honest power. omega (arith, groups, hands.groups honest power);
+  below = λ honest is. below_greater b.flash u.next_group u.next_seq _ _ (omega (arith, groups)) (omega (arith, seqs)) (hands.below honest is);
+  written = hands.written;
+}
+
+-- a mark, done or cut, hands out none
+pub hands_marked : (b : ℕ) (old new : Device) (t t' : Table) (result : Result (Unit {0}) Gone) → Marks b old new result → t'.next_group ≡ t.next_group → t'.next_seq ≡ t.next_seq
+    → HandsOut old new t t'
+hands_marked b old new t t' result does groups seqs = hands_unwritten old new t t' groups (omega (arith, seqs)) (omega (arith, seqs, does.lasts.changes))
+    (λ honest group seq. below_marked b old new group seq result honest does)
+
+-- an erase, however it ends, hands out one block's number at most, and only where it was counted
+pub hands_erased : (b : ℕ) (old new : Device) (t t' : Table) (result : Result (Unit {0}) EraseFault) → Erases b old new result → t'.next_group ≡ t.next_group
+    → t.next_seq ≤ t'.next_seq → t'.next_seq + old.changes ≤ t.next_seq + new.changes → HandsOut old new t t'
+hands_erased b old new t t' result does groups rise seqs = hands_unwritten old new t t' groups rise seqs
+    (λ honest group seq. below_erased b old.flash new.flash group seq (shrinks-erase b old new result honest does))

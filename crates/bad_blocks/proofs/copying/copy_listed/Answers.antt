@@ -111,3 +111,12 @@ returns-then-bad_count-spare-clause-apart g c = λ honest.
     let so_far = c.loop-target.invariant in
     apart_on (table c.args.blocks.now) (table c.loop-target.blocks) so_far.keeps.kept so_far.keeps.geometry c.args.copies.now (g.N.Nand.state c.args.device.now).flash (g.N.Nand.state c.loop-target.device).flash (g.N.Nand.state c.copy_once.new.device)
     (so_far.newest honest) (c.copy_once.ensures.apart (so_far.keeps.lasts.honest ∙ honest))
+
+pub returns-in_err-target-clause-keeps : goal.returns-in_err-target-clause-keeps
+returns-in_err-target-clause-keeps g c = keeps_on _ _ _ (table c.args.blocks.now) (table c.loop-target.blocks) _ c.loop-target.invariant.keeps c.copy_once.ensures.keeps
+
+pub returns-in-Into-clause-keeps : goal.returns-in-Into-clause-keeps
+returns-in-Into-clause-keeps g c = keeps_on _ _ _ (table c.args.blocks.now) (table c.loop-target.blocks) _ c.loop-target.invariant.keeps c.copy_once.ensures.keeps
+
+pub returns-then-bad_count-spare-clause-keeps : goal.returns-then-bad_count-spare-clause-keeps
+returns-then-bad_count-spare-clause-keeps g c = keeps_on _ _ _ (table c.args.blocks.now) (table c.loop-target.blocks) _ c.loop-target.invariant.keeps c.copy_once.ensures.keeps

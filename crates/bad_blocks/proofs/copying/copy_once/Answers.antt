@@ -1,7 +1,7 @@
 use Rattle.std.proofs.Common.{◌∙◌, length, arith, inl}
 use Rattle.std.proofs.lemmas.Result.{err_from_is_err_and}
 use Rattle.block_state.specs.TableOf.{table}
-use Rattle.bad_blocks.specs.laws.Keeping.{same_here, keeps_passes, keeps_on}
+use Rattle.bad_blocks.specs.laws.Keeping.{same_here, keeps_passes, keeps_nothing, keeps_on}
 use Rattle.bad_blocks.proofs.Keeping.{may_later, data_on, newest_on, apart_on}
 use Rattle.bad_blocks.specs.laws.KeptPages.{kept_where, data_where}
 use Rattle.bad_blocks.proofs.Writing.{fresh_taken, costs_once, ends_on}
@@ -74,3 +74,6 @@ returns-clause-apart g c = λ honest.
     apart_on (table c.args.blocks.now) (table c.take_block.new.blocks) took.passes.kept took.passes.geometry c.args.copies.now (g.N.Nand.state c.args.device.now).flash (g.N.Nand.state c.take_block.new.device).flash (g.N.Nand.state c.write_copies.new.device)
     (kept_where _ _ (table c.args.blocks.now) (took.passes.newest honest))
     (c.write_copies.ensures.apart (took.lasts.honest ∙ honest))
+
+pub returns-then-next_group-ge-LIMIT-clause-keeps : goal.returns-then-next_group-ge-LIMIT-clause-keeps
+returns-then-next_group-ge-LIMIT-clause-keeps g c = keeps_nothing _ (table c.args.blocks.now) c.requires.ready

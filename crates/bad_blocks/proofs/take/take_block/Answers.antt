@@ -4,7 +4,7 @@ use Rattle.block_state.specs.Kept.{bad_count}
 use Rattle.block_state.specs.Table.{Table}
 use Rattle.block_state.specs.TableOf.{table}
 use Rattle.transactions.specs.Ready.{IsReady}
-use Rattle.transactions.specs.laws.Handing.{hands_on}
+use Rattle.transactions.specs.laws.Handing.{hands_on, hands_closed}
 use Rattle.transactions.specs.laws.Ready.{ready_closed}
 use Rattle.bad_blocks.specs.laws.Passing.{passes_on, passes_closed, takes_from}
 use Rattle.bad_blocks.proofs.take.take_block.Goals as goal
@@ -19,7 +19,7 @@ pub loop-block-init : goal.loop-block-init
 loop-block-init g c = record {
   lasts = search rules;
   ready = subst (IsReady (g.N.Nand.state c.args.device.now)) (sym c.close.ensures) (ready_closed _ (table c.args.blocks.now) c.requires.ready);
-  numbers = search rules;
+  numbers = hands_closed _ (table c.args.blocks.now) _ c.close.ensures;
   passes = passes_closed (g.N.Nand.state c.args.device.now) (table c.args.blocks.now) _ c.close.ensures;
   none = search rules;
   costs = omega arith;
@@ -72,3 +72,21 @@ pub returns-in-Ok-Taken-clause-few : goal.returns-in-Ok-Taken-clause-few
 returns-in-Ok-Taken-clause-few g c =
     let took = rw c.in-Ok-Taken.field-0-is at c.in-Ok-Taken.ensures in
     omega (arith, c.loop-block.invariant.few, took.few)
+
+pub returns-then-next_seq-ge-LIMIT-clause-numbers : goal.returns-then-next_seq-ge-LIMIT-clause-numbers
+returns-then-next_seq-ge-LIMIT-clause-numbers g c = hands_closed _ (table c.args.blocks.now) _ c.close.ensures
+
+pub returns-in-Ok-Taken-clause-numbers : goal.returns-in-Ok-Taken-clause-numbers
+returns-in-Ok-Taken-clause-numbers g c =
+    let so_far = c.loop-block.invariant in
+    hands_on _ _ _ (table c.args.blocks.now) (table c.loop-block.blocks) _ so_far.lasts c.try_block.ensures.lasts so_far.numbers c.try_block.ensures.numbers
+
+pub returns-then-bad_count-spare-clause-numbers : goal.returns-then-bad_count-spare-clause-numbers
+returns-then-bad_count-spare-clause-numbers g c =
+    let so_far = c.loop-block.invariant in
+    hands_on _ _ _ (table c.args.blocks.now) (table c.loop-block.blocks) _ so_far.lasts c.try_block.ensures.lasts so_far.numbers c.try_block.ensures.numbers
+
+pub returns-in-Err-clause-numbers : goal.returns-in-Err-clause-numbers
+returns-in-Err-clause-numbers g c =
+    let so_far = c.loop-block.invariant in
+    hands_on _ _ _ (table c.args.blocks.now) (table c.loop-block.blocks) _ so_far.lasts c.try_block.ensures.lasts so_far.numbers c.try_block.ensures.numbers

@@ -4,6 +4,7 @@ use Rattle.block_state.specs.laws.Kept.{free_where_closed, none_free, same_bad_c
 use Rattle.block_state.specs.Table.{Table}
 use Rattle.block_state.specs.TableOf.{table}
 use Rattle.transactions.specs.Marking.{NotesMark}
+use Rattle.transactions.specs.laws.Handing.{hands_on}
 use Rattle.bad_blocks.specs.laws.Passing.{passes_on, passes_erased, passes_opened, passes_marked, same_opened}
 use Rattle.bad_blocks.proofs.Free.{was_unkept, one_more, erase_costs, mark_costs}
 use Rattle.bad_blocks.proofs.take.try_block.Goals as goal
@@ -101,3 +102,15 @@ returns-in_err-mark_block-in-Err-Failed-clause-costs g c =
     let erased = rw c.in-Err-Failed.field-0-is at c.in-Err-Failed.ensures in
     let p = err_from_is_err_and c.from_residual.result c.from_residual.ensures.1 in
     rw p.1 (omega (arith, erase_costs _ _ _ _ c.erase_and_open.ensures.erases, mark_costs _ _ _ _ c.mark_block.ensures.marks, erased.erases.ends.failures, c.mark_block.ensures.marks.lasts.failures))
+
+pub returns-in_err-mark_block-in-Err-Failed-clause-numbers : goal.returns-in_err-mark_block-in-Err-Failed-clause-numbers
+returns-in_err-mark_block-in-Err-Failed-clause-numbers g c =
+    let erased = c.erase_and_open.ensures in
+    let marked = c.mark_block.ensures in
+    hands_on _ _ _ (table c.args.blocks.now) (table c.erase_and_open.new.blocks) _ erased.erases.lasts marked.marks.lasts erased.numbers marked.numbers
+
+pub returns-in_ok-mark_block-in-Err-Failed-clause-numbers : goal.returns-in_ok-mark_block-in-Err-Failed-clause-numbers
+returns-in_ok-mark_block-in-Err-Failed-clause-numbers g c =
+    let erased = c.erase_and_open.ensures in
+    let marked = c.mark_block.ensures in
+    hands_on _ _ _ (table c.args.blocks.now) (table c.erase_and_open.new.blocks) _ erased.erases.lasts marked.marks.lasts erased.numbers marked.numbers

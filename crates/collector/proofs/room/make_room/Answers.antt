@@ -1,6 +1,7 @@
 use Rattle.std.proofs.Common.{◌≡◌, true, false, refl, ap, sym, ◌∙◌, arith}
 use Rattle.nand_model.specs.declared.geometry.Geometry.{Geometry}
 use Rattle.block_state.specs.TableOf.{table}
+use Rattle.bad_blocks.specs.laws.Turns.{moves_none}
 use Rattle.collector.proofs.Taken.{moves_taken, stands_taken, stands_none, free_where_taken, free_where_none, free_taken, fits_open, scarce_unless}
 use Rattle.collector.proofs.room.make_room.Goals as goal
 
@@ -66,3 +67,12 @@ returns-then-has_unkept-clause-free g c =
     let took = c.in_ok-take_block.ensures in
     free_where_taken c.args.spare (g.N.Nand.state c.args.device.now) (g.N.Nand.state c.take_block.new.device) (table c.args.blocks.now) (table c.take_block.new.blocks) c.args.index.now law
     took.lasts took.ready took.numbers took.passes c.requires.stands c.in_ok-take_block.field-0 took.ends.0
+
+pub returns-then-count-open_room-clause-moves : goal.returns-then-count-open_room-clause-moves
+returns-then-count-open_room-clause-moves g c = (0, moves_none 0 (g.N.Nand.state c.args.device.now) (table c.args.blocks.now) c.args.index.now c.requires.ready)
+
+pub returns-then-count-pages-clause-moves : goal.returns-then-count-pages-clause-moves
+returns-then-count-pages-clause-moves g c = (0, moves_none 0 (g.N.Nand.state c.args.device.now) (table c.args.blocks.now) c.args.index.now c.requires.ready)
+
+pub returns-in_default-clause-moves : goal.returns-in_default-clause-moves
+returns-in_default-clause-moves g c = (0, moves_none 0 (g.N.Nand.state c.args.device.now) (table c.args.blocks.now) c.args.index.now c.requires.ready)

@@ -8,9 +8,10 @@ use Rattle.block_state.specs.Table.{Table}
 use Rattle.block_state.specs.TableOf.{table}
 use Rattle.chunk_index.specs.declared.index.Index.{Index}
 use Rattle.page_buffer.specs.BufferOf.{buffered}
+use Rattle.transactions.specs.laws.Handing.{hands_nothing}
 use Rattle.commits.proofs.Costing.{costs_more, costs_none}
 use Rattle.commits.proofs.Counts.{ListsAreWhole}
-use Rattle.commits.proofs.Settling.{bad_empty, carries_empty, free_empty, kept_before, kept_empty, ready_counted, stands_empty}
+use Rattle.commits.proofs.Settling.{bad_empty, carries_empty, free_empty, hands_counted, kept_before, kept_empty, ready_counted, stands_empty}
 use Rattle.commits.proofs.Turning.{carries_either, keeps_or_shows, shown_kept, whole_committed}
 use Rattle.commits.proofs.committing.commit.Goals as goal
 
@@ -92,3 +93,9 @@ returns-then-is_empty-clause-no_move g c = λ none.
 pub returns-clause-data : goal.returns-clause-data
 returns-clause-data g c =
     λ honest. keeps_or_shows c.args.spare (g.N.Nand.state c.args.device.now) (g.N.Nand.state c.write_whole.new.device) c.args.index.now (buffered c.args.buffer.now) (c.write_whole.ensures.leaves.newest honest)
+
+pub returns-then-is_empty-clause-numbers : goal.returns-then-is_empty-clause-numbers
+returns-then-is_empty-clause-numbers g c =
+    let d : Device = g.N.Nand.state c.args.device.now in
+    let t : Table = table c.args.blocks.now in
+    hands_counted d d t t (table c.settle_empty.new.blocks) _ _ c.settle_empty.ensures.counts (hands_nothing d t)

@@ -4,7 +4,7 @@ use Rattle.posix_profile.specs.Outcomes.{answer}
 use Rattle.volume_terms.specs.Sizes.{capacity}
 use Rattle.posix_profile.specs.declared.reply.Reply.TheVariants as replies
 use Rattle.command_plans.specs.Classes.{Telling}
-use Rattle.command_plans.specs.Plans.{frees}
+use Rattle.command_plans.specs.Plans.{frees, leaves_device}
 use Rattle.command_plans.specs.laws.Plan.{plan_told}
 use Rattle.object_commands.proofs.telling.space.Goals as goal
 
@@ -23,3 +23,6 @@ returns-clause-plans g c z s holds =
 
 pub returns-clause-memory : goal.returns-clause-memory
 returns-clause-memory g c = ap (λ p. frees p.work) c.tell.ensures
+
+pub returns-clause-device : goal.returns-clause-device
+returns-clause-device g c = ap (λ p. leaves_device p.work) c.tell.ensures

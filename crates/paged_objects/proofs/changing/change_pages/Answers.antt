@@ -46,4 +46,4 @@ returns-in-Err-clause-makes g c = λ z objects has make is.
     let q : PagesState = g.P.Pages.state c.plan.new.pages in
     let new = made objects c.args.change.now in
     subst (λ (fault : StoreFault). EndsPages z p q objects new (Err fault)) (sym c.fault_of.ensures)
-    (read_ends z p q objects new (fault_of c.in-Err.fault) c.plan.ensures.finds (read_fault q c.in-Err.fault (c.in-Err.ensures.fault z objects (holds_in z p objects has.stands) has.can make is)))
+    (read_ends z p q objects new (fault_of c.in-Err.fault) c.plan.ensures.finds (read_fault q c.in-Err.fault (g.met.P.PageStore.lost c.plan.new.pages (c.plan.ensures.finds.sound ∙ has.stands.sound)) (c.in-Err.ensures.fault z objects (holds_in z p objects has.stands) has.can make is)))

@@ -6,12 +6,15 @@ use Rattle.posix_profile.specs.Changes.{new_number}
 use Rattle.object_table.specs.Told.{sizes_of, LedBefore}
 use Rattle.pages.specs.State.{PagesState}
 use Rattle.paged_objects.specs.Ending.{EndsPages}
-use Rattle.paged_objects.specs.laws.Going.{finds_stay, stays_goes, goes_on}
+use Rattle.paged_objects.specs.laws.Going.{finds_stay, stays_goes, goes_here, goes_on}
 use Rattle.paged_objects.specs.laws.Showing.{turns_after}
 use Rattle.paged_objects.specs.laws.Lawful.{tells_on}
 use Rattle.paged_objects.proofs.Ends.{has_after, ends_after, read_ends, not_made}
 use Rattle.paged_objects.proofs.Meant.{can_make, can_have}
 use Rattle.paged_objects.proofs.changing.make.Goals as goal
+
+pub returns-in_err-prepare-clause-goes_on : goal.returns-in_err-prepare-clause-goes_on
+returns-in_err-prepare-clause-goes_on g c = goes_here (g.P.Pages.state c.args.pages.now)
 
 pub returns-in_err-replaced-clause-goes_on : goal.returns-in_err-replaced-clause-goes_on
 returns-in_err-replaced-clause-goes_on g c =

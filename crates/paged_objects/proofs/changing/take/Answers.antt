@@ -1,7 +1,11 @@
 use Rattle.pages.specs.Maps.{changed}
 use Rattle.pages.specs.State.{PagesState}
+use Rattle.paged_objects.specs.laws.Going.{goes_here}
 use Rattle.paged_objects.proofs.Ends.{took}
 use Rattle.paged_objects.proofs.changing.take.Goals as goal
+
+pub returns-then-len-most_pages-clause-goes_on : goal.returns-then-len-most_pages-clause-goes_on
+returns-then-len-most_pages-clause-goes_on g c = goes_here (g.P.Pages.state c.args.pages.now)
 
 pub returns-clause-makes : goal.returns-clause-makes
 returns-clause-makes g c = λ z old new has few holds.

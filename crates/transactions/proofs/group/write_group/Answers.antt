@@ -1,4 +1,4 @@
-use Rattle.std.proofs.Common.{◌≡◌, ◌≤◌, ◌+◌, subst, ℕ, true, Err, arith, rules}
+use Rattle.std.proofs.Common.{◌≡◌, ◌≤◌, ◌+◌, sym, subst, ℕ, true, Err, arith, rules}
 use Rattle.std.proofs.lemmas.Result.{err_from_is_err_and}
 use Rattle.nand_model.specs.Calls.{Device}
 use Rattle.flash_tree.specs.Groups.{Group}
@@ -6,7 +6,9 @@ use Rattle.block_state.specs.Table.{Table}
 use Rattle.block_state.specs.TableOf.{table}
 use Rattle.transactions.specs.declared.place.GroupPlace.{GroupPlace}
 use Rattle.transactions.specs.Groups.{AddsPages, GroupsAfter}
-use Rattle.transactions.proofs.ReadyLaws.{room_left, may_write, ready_after, group_is, group_grows, groups_ok, groups_err, ok_table}
+use Rattle.transactions.specs.Handing.{HandsOut}
+use Rattle.transactions.specs.laws.Handing.{hands_nothing}
+use Rattle.transactions.proofs.ReadyLaws.{room_left, may_write, ready_after, group_is, group_grows, group_hands, groups_ok, groups_err, ok_table}
 use Rattle.transactions.proofs.group.write_group.Goals as goal
 
 pub note_end-requires-clause-room : goal.note_end-requires-clause-room
@@ -95,3 +97,31 @@ returns-clause-grows g c = λ h.
     let may = may_write old _ _ place c.requires.ready found in
     let erased = λ (h : old.honest ≡ true) (l : ℕ) (le : place.first ≤ l). g.met.N.Nand.clean c.args.device.now h place.block (place.first + 0) l may.next (omega (arith, le)) in
     group_grows old _ _ place c.requires.ready found _ _ _ _ c.write_pages-written.ensures.writes some erased h
+
+pub returns-in_default-clause-numbers : goal.returns-in_default-clause-numbers
+returns-in_default-clause-numbers g c =
+    let d : Device = g.N.Nand.state c.args.device.now in
+    let same = c.in_default.ensures.none in
+    subst (λ (t : Table). HandsOut d d (table c.args.blocks.now) t) (sym same.1) (hands_nothing d (table c.args.blocks.now))
+
+pub returns-in_err-suspect-clause-numbers : goal.returns-in_err-suspect-clause-numbers
+returns-in_err-suspect-clause-numbers g c =
+    let old : Device = g.N.Nand.state c.args.device.now in
+    let place : GroupPlace = c.in-Some.place in
+    let found = c.in-Some.ensures.found in
+    let some : 1 ≤ place.count = omega (arith, found.count_is, c.count-count.ensures.some) in
+    let may = may_write old _ _ place c.requires.ready found in
+    let erased = λ (h : old.honest ≡ true) (l : ℕ) (le : place.first ≤ l). g.met.N.Nand.clean c.args.device.now h place.block (place.first + 0) l may.next (omega (arith, le)) in
+    let after = rw c.in-Some.ensures.taken at c.note_end.ensures in
+    group_hands old _ _ place c.requires.ready found _ _ _ _ c.write_pages-written.ensures.writes some erased _ after
+
+pub returns-clause-numbers : goal.returns-clause-numbers
+returns-clause-numbers g c =
+    let old : Device = g.N.Nand.state c.args.device.now in
+    let place : GroupPlace = c.in-Some.place in
+    let found = c.in-Some.ensures.found in
+    let some : 1 ≤ place.count = omega (arith, found.count_is, c.count-count.ensures.some) in
+    let may = may_write old _ _ place c.requires.ready found in
+    let erased = λ (h : old.honest ≡ true) (l : ℕ) (le : place.first ≤ l). g.met.N.Nand.clean c.args.device.now h place.block (place.first + 0) l may.next (omega (arith, le)) in
+    let after = rw c.in-Some.ensures.taken at c.note_end.ensures in
+    group_hands old _ _ place c.requires.ready found _ _ _ _ c.write_pages-written.ensures.writes some erased _ after

@@ -1,5 +1,6 @@
-use Rattle.std.proofs.Common.{rules}
+use Rattle.std.proofs.Common.{refl, rules}
 use Rattle.flash_tree.specs.laws.Newest.{mark_keeps_elsewhere}
+use Rattle.transactions.specs.laws.Handing.{hands_marked}
 use Rattle.transactions.specs.laws.Ready.{ready_marked}
 use Rattle.transactions.proofs.mark.mark_block.Goals as goal
 
@@ -14,3 +15,9 @@ returns-else-is_bad-clause-ready g c = ready_marked c.args.block _ _ _ _ _ c.req
 
 pub returns-else-is_bad-clause-newest : goal.returns-else-is_bad-clause-newest
 returns-else-is_bad-clause-newest g c = λ honest. mark_keeps_elsewhere c.args.block _ _ _ honest c.mark_bad-marked.ensures.marks
+
+pub returns-then-is_bad-clause-numbers : goal.returns-then-is_bad-clause-numbers
+returns-then-is_bad-clause-numbers g c = hands_marked c.args.block _ _ _ _ _ c.mark_bad-marked.ensures.marks c.mark_bad.ensures.sets.next_group c.mark_bad.ensures.seq
+
+pub returns-else-is_bad-clause-numbers : goal.returns-else-is_bad-clause-numbers
+returns-else-is_bad-clause-numbers g c = hands_marked c.args.block _ _ _ _ _ c.mark_bad-marked.ensures.marks refl refl

@@ -1,8 +1,9 @@
-use Rattle.std.proofs.Common.{◌∙◌, rules}
+use Rattle.std.proofs.Common.{refl, ◌∙◌, arith, rules}
 use Rattle.nand_model.specs.Calls.{Device}
 use Rattle.nand_model.specs.laws.Changes.{shrinks-erase}
 use Rattle.flash_tree.specs.laws.Newest.{erase_keeps_elsewhere}
 use Rattle.block_state.specs.TableOf.{table}
+use Rattle.transactions.specs.laws.Handing.{hands_erased}
 use Rattle.transactions.specs.laws.Ready.{ready_erased, ready_opened}
 use Rattle.transactions.proofs.open.erase_and_open.Goals as goal
 
@@ -29,3 +30,13 @@ returns-in_err-erase-clause-newest g c = λ honest. erase_keeps_elsewhere c.args
 
 pub returns-clause-newest : goal.returns-clause-newest
 returns-clause-newest g c = λ honest. erase_keeps_elsewhere c.args.block _ _ (shrinks-erase c.args.block _ _ _ honest c.erase.ensures.erases)
+
+pub returns-in_err-erase-clause-numbers : goal.returns-in_err-erase-clause-numbers
+returns-in_err-erase-clause-numbers g c =
+    let does = c.erase.ensures.erases in
+    hands_erased c.args.block _ _ _ _ _ does refl (omega arith) (omega (arith, does.lasts.changes))
+
+pub returns-clause-numbers : goal.returns-clause-numbers
+returns-clause-numbers g c =
+    let done = c.in_ok-erase.ensures.erases in
+    hands_erased c.args.block _ _ _ _ _ c.erase.ensures.erases c.open.ensures.sets.next_group (omega (arith, c.open.ensures.seq)) (omega (arith, c.open.ensures.seq, done.changes done.ends.was))

@@ -1,7 +1,7 @@
 use Rattle.std.proofs.Common.{inl}
 use Rattle.flash_tree.specs.Places.{numbers_of}
 use Rattle.newest_pages.specs.Newest.{seen}
-use Rattle.flash_pages.proofs.Keeping.{keeps_all}
+use Rattle.flash_pages.proofs.Keeping.{goes_on, keeps_all}
 use Rattle.flash_pages.proofs.read_only.ReadOnlyPagesPageStore.commit.Goals as goal
 
 pub returns-clause-kept : goal.returns-clause-kept
@@ -13,3 +13,13 @@ pub returns-clause-committed : goal.returns-clause-committed
 returns-clause-committed g c = λ sound.
     let self = c.args.self.now in
     keeps_all (seen (g.N.Nand.state self.pages.device) self.pages.index self.pages.page.items) (numbers_of self.greatest) self.spare self.most self.refused_change self.worn self.numbers self.carrying
+
+pub returns-clause-goes_on : goal.returns-clause-goes_on
+returns-clause-goes_on g c =
+    let self = c.args.self.now in
+    goes_on (seen (g.N.Nand.state self.pages.device) self.pages.index self.pages.page.items) (numbers_of self.greatest) self.spare self.most self.refused_change self.refused_change
+
+pub returns-then-self-clause-goes_on : goal.returns-then-self-clause-goes_on
+returns-then-self-clause-goes_on g c =
+    let self = c.args.self.now in
+    goes_on (seen (g.N.Nand.state self.pages.device) self.pages.index self.pages.page.items) (numbers_of self.greatest) self.spare self.most self.refused_change self.refused_change

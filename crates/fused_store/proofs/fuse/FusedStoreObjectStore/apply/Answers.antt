@@ -1,4 +1,4 @@
-use Rattle.std.proofs.Common.{inl, inr, sym, ◌∙◌, subst}
+use Rattle.std.proofs.Common.{inl, sym, ◌∙◌, subst}
 use Rattle.object_store.specs.Changes.{made}
 use Rattle.object_store.specs.Stores.{Has}
 use Rattle.fused_store.specs.declared.fuse.FusedStore.{FusedStore}

@@ -1,4 +1,4 @@
-use Rattle.std.proofs.Common.{◌≡◌, ◌<◌, ◌∙◌, ◌++◌, ◌∷◌, [], List, Some, refl, length, ap, arith, slice_get}
+use Rattle.std.proofs.Common.{◌<◌, ◌∙◌, ◌++◌, ◌∷◌, [], List, refl, length, ap, arith}
 use Rattle.posix_profile.specs.declared.reply.Reply.{Reply}
 use Rattle.object_commands.proofs.RunSteps.{runs_none, runs_more, at_index}
 use Rattle.object_commands.proofs.volume.Volume.run.Goals as goal

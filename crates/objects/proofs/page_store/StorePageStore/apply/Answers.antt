@@ -1,6 +1,5 @@
-use Rattle.std.specs.Prelude.{◌≡◌, ◌⊎◌, ◌≤◌, ◌/◌, length, not, ◌&&◌, ◌||◌}
+use Rattle.std.specs.Prelude.{◌≡◌, ◌⊎◌, ◌≤◌, ◌/◌, length, not, ◌&&◌}
 use Rattle.std.proofs.Common.{refl, ◌∙◌, sym, ap, subst, arith}
-use Rattle.std.proofs.lemmas.Bool.{or_left, or_right}
 use Rattle.nand_model.specs.Calls.{Device}
 use Rattle.nand_model.specs.declared.geometry.Geometry.{Geometry}
 use Rattle.block_state.specs.TableOf.{table}
@@ -90,4 +89,4 @@ returns-clause-fault g c = λ sound.
     let most : most_pages self.buffer ≡ old.geometry.pages / 4 = self.most in
     change_told p q (table self.blocks) (table new.blocks) self.index (length (buffered self.buffer)) self.ready.geometry e.lasts.geometry e.same.0 refl new.ready (omega (arith, most)) few (self.few whole)
     (c.the_counts_add_up_to_the_kept_keys.ensures.all (table self.blocks) self.index self.stands.tables.counts) (λ o k at is. has_page old self.index o k at honest (self.newest whole honest) is)
-    c.change.result self.broken whole (λ gone. or_left now.gone (not now.honest || new.broken) gone) (λ lies. or_right now.gone (not now.honest || new.broken) (or_left (not now.honest) new.broken (ap not lies))) e.fault
+    c.change.result self.broken whole e.fault

@@ -1,6 +1,5 @@
-use Rattle.std.specs.Prelude.{◌≡◌, ◌⊎◌, ◌≤◌, ◌/◌, length, not, ◌||◌}
+use Rattle.std.specs.Prelude.{◌≡◌, ◌⊎◌, ◌≤◌, ◌/◌, length}
 use Rattle.std.proofs.Common.{refl, ◌∙◌, sym, ap, subst, arith}
-use Rattle.std.proofs.lemmas.Bool.{or_left, or_right}
 use Rattle.nand_model.specs.declared.geometry.Geometry.{Geometry}
 use Rattle.block_state.specs.TableOf.{table}
 use Rattle.page_buffer.specs.BufferOf.{buffered, most_pages}
@@ -86,4 +85,10 @@ returns-clause-fault g c = λ sound.
     let most : most_pages self.buffer ≡ old.geometry.pages / 4 = self.most in
     commit_told p q (table self.blocks) (table new.blocks) self.index (length (buffered self.buffer)) self.ready.geometry e.lasts.geometry e.same.0 refl new.ready (omega (arith, most)) few (self.few whole)
     (c.the_counts_add_up_to_the_kept_keys.ensures.all (table self.blocks) self.index self.stands.tables.counts) (λ o k at is. has_page old self.index o k at honest (self.newest whole honest) is)
-    c.write_out.result self.broken whole (λ gone. or_left now.gone (not now.honest || new.broken) gone) (λ lies. or_right now.gone (not now.honest || new.broken) (or_left (not now.honest) new.broken (ap not lies))) e.fault
+    c.write_out.result self.broken whole e.fault
+
+pub returns-clause-memory : goal.returns-clause-memory
+returns-clause-memory g c = λ none.
+    let self = c.args.self.now in
+    let new = c.write_out.new.self in
+    takes_none c.write_out.result self.spare (length (buffered self.buffer)) (g.N.Nand.state new.device) (table self.blocks) (table new.blocks) self.broken c.write_out.ensures.fault none

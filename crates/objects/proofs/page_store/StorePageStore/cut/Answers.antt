@@ -6,10 +6,10 @@ use Rattle.nand_model.specs.laws.Calls.{lasts_here}
 use Rattle.block_state.specs.TableOf.{table}
 use Rattle.pages.specs.State.{PagesState}
 use Rattle.pages.specs.Stores.{HasNumbersLeft}
-use Rattle.objects.specs.StoreOf.{kept_map, seen}
+use Rattle.objects.specs.StoreOf.{kept_map, next_numbers, seen}
 use Rattle.objects.proofs.Carried.{store_carries}
 use Rattle.objects.proofs.ReadOnly.{sound_honest, sound_whole}
-use Rattle.objects.proofs.Told.{cut_stopped, cut_told, failed_stays, hands_none, kept_as, marks_none}
+use Rattle.objects.proofs.Told.{cut_stopped, cut_takes_none, cut_told, failed_stays, hands_none, kept_as, marks_none}
 use Rattle.objects.proofs.page_store.StorePageStore.cut.Goals as goal
 
 pub returns-clause-goes_on : goal.returns-clause-goes_on
@@ -62,3 +62,12 @@ returns-clause-fault g c = λ sound.
     cut_told c.cut_away.result (seen (g.N.Nand.state self.device) (table self.blocks) self.index self.buffer self.cache self.scratch.items self.found self.spare self.broken self.refused)
     (seen (g.N.Nand.state new.device) (table new.blocks) new.index new.buffer new.cache new.scratch.items new.found new.spare new.broken new.refused) self.broken
     (sound_whole (g.N.Nand.state self.device).honest self.broken sound) c.cut_away.ensures.fault
+
+pub returns-clause-device : goal.returns-clause-device
+returns-clause-device g c = ap g.N.Nand.state c.cut_away.ensures.same.0
+
+pub returns-clause-next : goal.returns-clause-next
+returns-clause-next g c = ap (λ blocks. next_numbers (table blocks)) c.cut_away.ensures.same.1
+
+pub returns-clause-memory : goal.returns-clause-memory
+returns-clause-memory g c = λ none. cut_takes_none c.cut_away.result c.args.self.now.broken c.cut_away.ensures.fault none

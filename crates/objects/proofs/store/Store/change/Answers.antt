@@ -1,16 +1,17 @@
 use Rattle.std.specs.Prelude.{◌≡◌, ◌⊎◌, true}
-use Rattle.std.proofs.Common.{◌∙◌, sym, ap, subst, inl, inr, arith}
+use Rattle.std.proofs.Common.{refl, ◌∙◌, sym, ap, subst, inl, inr, arith}
 use Rattle.nand_model.specs.Calls.{Device}
 use Rattle.block_state.specs.Kept.{bad_count}
 use Rattle.block_state.specs.TableOf.{table}
 use Rattle.block_state.specs.declared.blocks.Blocks.{Blocks}
 use Rattle.chunk_index.specs.Maps.{SameKept}
+use Rattle.transactions.specs.laws.Handing.{hands_nothing}
 use Rattle.pages.specs.laws.Changes.{changed_same}
 use Rattle.page_buffer.specs.Buffering.{AreReady}
 use Rattle.pages.specs.Stores.{IsCarried}
 use Rattle.objects.specs.StoreOf.{kept_map, present_map}
 use Rattle.objects.proofs.Carried.{carried_same, either_same, store_carries}
-use Rattle.objects.proofs.Steps.{same_back, same_on, fits_on, kept_map_same, present_map_same, ready_prepared}
+use Rattle.objects.proofs.Steps.{same_back, same_on, fits_on, hands_still, hands_between, kept_map_same, present_map_same, ready_prepared}
 use Rattle.objects.proofs.store.Store.change.Goals as goal
 
 pub returns-in_err-prepare-clause-carried : goal.returns-in_err-prepare-clause-carried
@@ -127,3 +128,22 @@ returns-clause-kept g c =
       | inr shown ↦ inr (same_on now (present_map mid p.index p.buffer) (present_map old self.index self.buffer) (same_on now then (present_map mid p.index p.buffer) c.make.ensures.kept shown)
           (present_map_same old mid self.index p.index self.buffer p.buffer still c.prepare.ensures.present same.2))
     ]
+
+pub returns-then-self-clause-numbers : goal.returns-then-self-clause-numbers
+returns-then-self-clause-numbers g c = hands_nothing (g.N.Nand.state c.args.self.now.device) (table c.args.self.now.blocks)
+
+pub returns-in_err-prepare-clause-numbers : goal.returns-in_err-prepare-clause-numbers
+returns-in_err-prepare-clause-numbers g c =
+    let same = c.prepare.ensures.same in
+    hands_still _ _ (table c.args.self.now.blocks) _ (ap g.N.Nand.state same.0) (ap table same.1)
+
+pub returns-in_err-make_room-clause-numbers : goal.returns-in_err-make_room-clause-numbers
+returns-in_err-make_room-clause-numbers g c =
+    let same = c.prepare.ensures.same in
+    hands_between _ _ _ _ (table c.args.self.now.blocks) _ (table c.make_room.new.self.blocks) _ (ap g.N.Nand.state same.0) (ap table same.1) c.make_room.ensures.numbers refl refl
+
+pub returns-clause-numbers : goal.returns-clause-numbers
+returns-clause-numbers g c =
+    let same = c.prepare.ensures.same in
+    let made = c.make.ensures.same in
+    hands_between _ _ _ _ (table c.args.self.now.blocks) _ (table c.make_room.new.self.blocks) _ (ap g.N.Nand.state same.0) (ap table same.1) c.make_room.ensures.numbers (ap g.N.Nand.state made.0) (ap table made.1)

@@ -3,6 +3,7 @@ use Rattle.std.proofs.Common.{◌∙◌, sym, ap, subst, inl}
 use Rattle.nand_model.specs.declared.geometry.Geometry.{Geometry}
 use Rattle.page_buffer.specs.BufferOf.{buffered}
 use Rattle.block_state.specs.TableOf.{table}
+use Rattle.transactions.specs.laws.Handing.{hands_nothing}
 use Rattle.objects.proofs.Carried.{store_carries}
 use Rattle.objects.proofs.Steps.{room_after}
 use Rattle.objects.proofs.store.Store.make_room.Goals as goal
@@ -17,3 +18,6 @@ pub returns-then-has_room-clause-carried : goal.returns-then-has_room-clause-car
 returns-then-has_room-clause-carried g c = λ honest.
     let self = c.args.self.now in
     inl (store_carries self.spare (g.N.Nand.state self.device) (table self.blocks) self.index c.the_counts_are_of_the_keys.ensures.none self.ready self.stands.tables (self.newest c.requires.whole honest))
+
+pub returns-then-has_room-clause-numbers : goal.returns-then-has_room-clause-numbers
+returns-then-has_room-clause-numbers g c = hands_nothing (g.N.Nand.state c.args.self.now.device) (table c.args.self.now.blocks)

@@ -8,6 +8,7 @@ use Rattle.page_buffer.specs.BufferOf.{written}
 use Rattle.page_buffer.specs.Buffering.{Buffers}
 use Rattle.objects.specs.Caching.{Shows, AreIn}
 use Rattle.block_state.specs.TableOf.{table}
+use Rattle.transactions.specs.laws.Handing.{hands_nothing}
 use Rattle.objects.specs.Changing.{IsCommitFault}
 use Rattle.objects.specs.declared.store.Found.TheVariants as places
 use Rattle.objects.proofs.Carried.{either_known, kept_is_carried, newest_committed}
@@ -72,3 +73,6 @@ returns-in-Ok-clause-carried g c = λ whole honest.
     let d = g.N.Nand.state self.device in
     let carried = kept_is_carried self.spare d (table self.blocks) self.index c.the_counts_are_of_the_keys.ensures.none self.ready self.stands.tables (self.newest whole honest) in
     either_known d.honest (g.N.Nand.state c.commit.new.device) self.spare (kept_data self.index d.flash) (present_data self.index (buffered self.buffer) d.flash) (c.commit.ensures.newest honest carried)
+
+pub returns-then-self-clause-numbers : goal.returns-then-self-clause-numbers
+returns-then-self-clause-numbers g c = hands_nothing (g.N.Nand.state c.args.self.now.device) (table c.args.self.now.blocks)

@@ -3,12 +3,13 @@ use Rattle.std.proofs.Common.{sym, ◌∙◌, ap, subst}
 use Rattle.object_store.specs.Stores.{settled}
 use Rattle.paged_objects.specs.Ending.{HasEnded}
 use Rattle.paged_objects.specs.Standing.{Shown}
+use Rattle.paged_objects.specs.laws.Going.{goes_here}
 use Rattle.pages.specs.State.{PagesState}
 use Rattle.pages.specs.Stores.{GoesOn}
 use Rattle.posix_profile.specs.declared.reply.Errno.TheVariants as errors
 use Rattle.posix_profile.specs.declared.reply.Reply.TheVariants as replies
 use Rattle.page_volume.specs.Volumes.{pages_of}
-use Rattle.page_volume.proofs.Calls.{goes_here, has_of, commit_done, commit_tree, commit_cause}
+use Rattle.page_volume.proofs.Calls.{has_of, commit_done, commit_tree, commit_cause}
 use Rattle.page_volume.proofs.volume.PageVolume.finish.Goals.{in-Ok, in-Err}
 use Rattle.page_volume.proofs.volume.PageVolume.finish.Goals as goal
 
@@ -46,9 +47,8 @@ returns-clause-cause g c goes z s is told =
     let a = c.into_store-objects.result in
     let b = c.commit.new.self in
     let has = has_of state z s c.args.self a c.into_store-objects.ensures is in
-    let before : state a.pages ≡ state (pages_of c.args.self) = ap (λ o. state o.pages) c.into_store-objects.ensures in
     elim c.match-commit.branch [
       | in-Ok w ↦ let two : replies.Done ≡ replies.Error errors.EIO = sym w.reply-is ∙ told in absurd cc
-      | in-Err w ↦ subst (λ (q : PagesState). HasEnded q (state c.into_pages-2.result)) before (subst (HasEnded (state a.pages)) (sym c.into_pages-2.ensures)
-          (commit_cause state z s.objects a b has c.commit.result _ w.in-Err.is c.commit.ensures.memory (c.commit.ensures.commits z s.objects has)))
+      | in-Err w ↦ subst HasEnded (sym c.into_pages-2.ensures)
+          (commit_cause state z s.objects a b has c.commit.result _ w.in-Err.is c.commit.ensures.memory (c.commit.ensures.commits z s.objects has))
     ]

@@ -18,6 +18,7 @@ returns-in-Forget-clause-applies g c = λ z objects has make.
 pub returns-in_default : goal.returns-in_default
 returns-in_default g c = record {
   lasts = (c.make.ensures.goes_on, c.make.ensures.sizes);
+  leaves = λ none. let it = forgets c.args.change.now none in absurd (c.in_default.not-Forget it.0 it.1);
   applies = λ z objects has make.
       let p : PagesState = g.P.Pages.state c.args.self.now.pages in
       let mine = has_objects p c.args.self.now.table z objects has.numbers has.sizes has.stands.0 has.stands.1 has.forest has.fit in

@@ -1,4 +1,4 @@
-use Rattle.std.proofs.Common.{refl}
+use Rattle.std.proofs.Common.{refl, ◌∙◌}
 use Rattle.pages.specs.laws.Faults.{lacks_memory}
 use Rattle.pages.specs.State.{PagesState}
 use Rattle.paged_objects.specs.Faults.{fault_of}
@@ -14,4 +14,4 @@ returns-in-Err-clause-finds g c = λ z objects has is.
     let q : PagesState = g.P.Pages.state c.find.new.pages in
     let mine = has_objects p c.args.self.now.table z objects has.numbers has.sizes has.stands.0 has.stands.1 has.forest has.fit in
     rw c.fault_of.ensures (read_faults {S = PagedObjects g.row.P.Denot} g.P.Pages.state (λ (s : PagedObjects g.row.P.Denot). s.pages) (λ (s : PagedObjects g.row.P.Denot). s.table) c.args.self.now (record { alloc = c.args.self.now.alloc; pages = c.find.new.pages; table = c.args.self.now.table }) objects (fault_of c.in-Err.fault) c.find.ensures.finds refl
-    (read_fault q c.in-Err.fault (lacks_memory q c.in-Err.fault (c.in-Err.ensures.fault _ objects (holds_in _ p objects mine.pages.stands) is))))
+    (read_fault q c.in-Err.fault (g.met.P.PageStore.lost c.find.new.pages (c.find.ensures.finds.sound ∙ mine.pages.stands.sound)) (lacks_memory q c.in-Err.fault (c.in-Err.ensures.fault _ objects (holds_in _ p objects mine.pages.stands) is))))

@@ -1,0 +1,13 @@
+use Rattle.std.proofs.Common.{◌≡◌, ◌≤◌, map}
+use Rattle.std.specs.Prelude.{vec_len, vec_capacity}
+use Rattle.rand_core.specs.Stream.{next_u64}
+use Rattle.cut_draws.specs.Draws.{answers, fate_of, next_words}
+use Rattle.cut_draws.proofs.drawing.draw.Given as goal
+
+abbrev pub invariant-loop-page : goal.invariant-loop-page
+invariant-loop-page l = record {
+  fates : l.fates.items ≡ map fate_of (next_words l._page (next_u64 (answers l.fn.generator)).1).0;
+  left : answers l.generator ≡ (next_words l._page (next_u64 (answers l.fn.generator)).1).1;
+  len : vec_len l.fates ≡ l._page;
+  room : l.pages ≤ vec_capacity l.fates;
+}

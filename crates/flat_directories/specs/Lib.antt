@@ -1,4 +1,0 @@
-pub mod Heads
-pub mod Slots
-pub mod HeadPages
-pub mod Additions

@@ -1,2 +1,0 @@
-mod Checks
-mod Places

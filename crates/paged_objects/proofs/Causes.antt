@@ -1,0 +1,38 @@
+-- What ends a store that holds objects of a volume: there is room for each of their changes.
+use Rattle.std.specs.Prelude.{◌≡◌, ◌<◌, ◌≤◌, ◌-◌, ◌*◌, ◌/◌, length}
+use Rattle.std.proofs.Common.{sym, ◌∙◌, ap, subst, inl, inr, arith}
+use Rattle.std.proofs.lemmas.Bool.{leb-true}
+use Rattle.volume_terms.specs.Sizes.{Sizes, IsSizes, capacity, buffer_pages}
+use Rattle.posix_profile.specs.Charge.{charge}
+use Rattle.posix_profile.specs.State.{Objects}
+use Rattle.pages.specs.State.{PagesState}
+use Rattle.pages.specs.Stores.{GoesOn, IsCrowded, IsWornOut}
+use Rattle.object_pages.specs.Counting.{HavePages}
+use Rattle.object_pages.specs.laws.Counting.{pages_charged}
+use Rattle.paged_objects.specs.Standing.{volume_of, Stands, Shown}
+use Rattle.paged_objects.specs.Ending.{HasPages, IsUsedUp}
+use Rattle.paged_objects.specs.laws.Going.{volume_on}
+
+-- no more pages are kept than the volume has units
+pub not_crowded : (z : Sizes) (p : PagesState) (objects : Objects) → Stands z p objects → IsCrowded p → ⊥
+not_crowded z p objects stands crowded =
+    let shown : Shown z p stands.shown.0 = stands.shown.1 in
+    let there : HavePages shown.pages crowded.keys = λ i k is. let page = crowded.each i k is in (page.0, sym (shown.kept stands.sound k.object k.chunk) ∙ page.1) in
+    let few : length crowded.keys ≤ charge z shown.objects = pages_charged z shown.pages shown.objects shown.can.numbers shown.holds crowded.keys crowded.once there in
+    let fit : charge z shown.objects ≤ capacity z = leb-true (charge z shown.objects) (capacity z) shown.can.fit in
+    let room : capacity (volume_of p) ≡ capacity z = ap capacity stands.sizes in
+    let most : p.most ≡ buffer_pages (volume_of p) = stands.most ∙ sym (ap buffer_pages stands.sizes) in
+    let many : (p.device.geometry.blocks - p.spare - 1) * (p.device.geometry.pages - p.device.geometry.pages / 4) < length crowded.keys =
+    subst (λ n. (p.device.geometry.blocks - p.spare - 1) * (p.device.geometry.pages - n) < length crowded.keys) most crowded.many in
+    omega (arith, few, fit, room, many)
+
+-- so a store that is worn has no numbers left, or more bad blocks than there are to spare
+pub used_up : (z : Sizes) (p q : PagesState) (objects : Objects) → HasPages z p objects → GoesOn p q → IsWornOut p q → IsUsedUp q
+used_up z p q objects has goes (inl group) = inl group
+used_up z p q objects has goes (inr (inl seq)) = inr (inl seq)
+used_up z p q objects has goes (inr (inr (inl bad))) = inr (inr bad)
+used_up z p q objects has goes (inr (inr (inr (inl few)))) =
+    let sizes : volume_of q ≡ z = volume_on p q goes ∙ has.stands.sizes in
+    let numbers : IsSizes (volume_of q) = subst IsSizes (sym sizes) has.can.numbers in
+    absurd (omega (arith, few, numbers.spare_blocks))
+used_up z p q objects has goes (inr (inr (inr (inr crowded)))) = absurd (not_crowded z p objects has.stands crowded)

@@ -1,3 +1,0 @@
-pub mod Volumes
-pub mod SizesOf
-pub mod Formatting

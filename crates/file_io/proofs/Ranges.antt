@@ -73,7 +73,7 @@ range_end off count len end is small = omega (arith, is, small)
 pub read_none : (off count end : ℕ) (all : List ℕ) → end ≡ min (length all) (off + count) → end ≤ off → [] ≡ take count (drop off all)
 read_none off count end all is none =
     let len : length (take count (drop off all)) ≡ 0 = omega (arith, length-take count (drop off all), length-drop off all, is, none) in
-    ext_get_or 0 [] (take count (drop off all)) (sym len) (λ i less. let none : ⊥ = omega (arith, less) in absurd none)
+    ext_get_or 0 _ _ (sym len) (λ i less. absurd (omega (arith, less)))
 
 -- what is read of a range that has bytes
 pub read_all : (off count end : ℕ) (all : List ℕ) → end ≡ min (length all) (off + count) → off < end → take (end - off) (drop off all) ≡ take count (drop off all)

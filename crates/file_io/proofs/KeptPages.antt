@@ -1,12 +1,12 @@
 -- The pages that must be there for a range of a file to be read, or for a part of a chunk to be kept.
-use Rattle.std.specs.Prelude.{◌≡◌, ◌⊎◌, ◌<◌, ◌≤◌, ℕ, ◌+◌, ◌-◌, ◌*◌, ◌/◌, ◌^◌, true, min, List, Some}
+use Rattle.std.specs.Prelude.{◌≡◌, ◌⊎◌, ◌<◌, ◌≤◌, ℕ, ◌+◌, ◌-◌, ◌*◌, ◌/◌, true, List, Some}
 use Rattle.std.proofs.Common.{sym, subst, inl, inr, arith}
 use Rattle.std.proofs.Math.Nat.{div-mul-le_self, lt-div-mul-add}
 use Rattle.std.proofs.lemmas.Bool.{cases_lt}
 use Rattle.std.proofs.lemmas.Nat.{le-div}
 use Rattle.page_tags.specs.Headers.{is_present}
 use Rattle.pages.specs.Maps.{PageMap}
-use Rattle.file_io.specs.Chunks.{HasByte, IsSplit, IsPartLast, IsPartKept}
+use Rattle.file_io.specs.Chunks.{IsSplit, IsPartLast, IsPartKept}
 use Rattle.pages.specs.State.{PagesState, OnlyFinds}
 use Rattle.file_io.specs.Files.{HasFileHeader, HasPages}
 use Rattle.file_io.specs.Heads.{SaysHead}

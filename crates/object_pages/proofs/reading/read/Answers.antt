@@ -1,4 +1,4 @@
-use Rattle.std.proofs.Common.{◌≡◌, ◌∙◌, ℕ, ap, length, take, drop}
+use Rattle.std.proofs.Common.{◌≡◌, ◌∙◌, ap, length, take, drop}
 use Rattle.object_store.specs.Facts.{bytes_of}
 use Rattle.object_pages.specs.laws.Holding.{file_in, held_file}
 use Rattle.object_pages.proofs.reading.read.Goals as goal

@@ -1,4 +1,6 @@
-use Rattle.std.proofs.Common.{◌≡◌, ◌∙◌, ℕ, Option, Some, None, option_map_or, length, refl, sym, ap}
+use Rattle.std.specs.Prelude.{◌≡◌, ℕ, Option, Some, None, length}
+use Rattle.std.specs.Option.{option_map_or}
+use Rattle.std.proofs.Common.{◌∙◌, refl, sym, ap}
 use Rattle.std.specs.FinMap as map
 use Rattle.posix_profile.specs.State.{Object, File, Dir, Objects}
 use Rattle.posix_profile.specs.declared.reply.Info.{Info}

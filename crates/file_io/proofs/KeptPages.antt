@@ -1,4 +1,4 @@
--- The pages that must be there for a range of a file to be read, or for a part of a chunk to be kept.
+-- The pages that must be there for a part of a chunk to be kept.
 use Rattle.std.specs.Prelude.{◌≡◌, ◌⊎◌, ◌<◌, ◌≤◌, ℕ, ◌+◌, ◌-◌, ◌*◌, ◌/◌, true, List, Some}
 use Rattle.std.proofs.Common.{sym, subst, inl, inr, arith}
 use Rattle.std.proofs.Math.Nat.{div-mul-le_self, lt-div-mul-add}

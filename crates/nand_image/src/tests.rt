@@ -107,7 +107,9 @@ fn write_page(
     fail_at(nand, call);
     let geometry = nand.geometry();
     assert!(rt; geometry.bytes() == 512);
-    assert!(rt; !nand.is_bad(1));
+    if nand.is_bad(1) {
+        return Ok(Err(ProgramFault::Failed));
+    }
     nand.erase(1)?;
     Ok(nand.program(1, 0, &DATA, &TAG))
 }

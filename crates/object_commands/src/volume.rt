@@ -57,15 +57,10 @@ fn plan<'a, S: ObjectStore>(
 {
     let moment = stamped.moment;
     match &stamped.command {
-        Command::Open { path, flags } => open(
-            alloc,
-            store,
-            table,
-            read_only,
-            moment,
-            path.as_slice(),
-            *flags,
-        ),
+        Command::Open { path, flags } => {
+            let path = path.as_slice();
+            open(alloc, store, table, read_only, moment, path, *flags)
+        }
         Command::Close { fd } => hand_on(close(store, table, *fd)),
         Command::Read { fd, count } => read(alloc, store, table, *fd, *count),
         Command::Write { fd, bytes } => {
@@ -82,24 +77,15 @@ fn plan<'a, S: ObjectStore>(
         Command::Stat { path } => stat(alloc, store, path.as_slice()),
         Command::Mkdir { path } => mkdir(alloc, store, read_only, moment, path.as_slice()),
         Command::Rmdir { path } => rmdir(alloc, store, table, read_only, moment, path.as_slice()),
-        Command::Link { old, new } => link(
-            alloc,
-            store,
-            read_only,
-            moment,
-            old.as_slice(),
-            new.as_slice(),
-        ),
+        Command::Link { old, new } => {
+            let (old, new) = (old.as_slice(), new.as_slice());
+            link(alloc, store, read_only, moment, old, new)
+        }
         Command::Unlink { path } => unlink(alloc, store, table, read_only, moment, path.as_slice()),
-        Command::Rename { old, new } => rename(
-            alloc,
-            store,
-            table,
-            read_only,
-            moment,
-            old.as_slice(),
-            new.as_slice(),
-        ),
+        Command::Rename { old, new } => {
+            let (old, new) = (old.as_slice(), new.as_slice());
+            rename(alloc, store, table, read_only, moment, old, new)
+        }
         Command::List { path } => list(alloc, store, path.as_slice()),
         Command::Space => Ok(space(store)),
     }

@@ -1,7 +1,7 @@
 // Changes of maps: each makes a copy of the objects, changed.
 ghost use Rattle.std.specs.Prelude.{◌≡◌, Some, IfOk, OnOk};
 ghost use Rattle.std.specs.FinMap as map;
-ghost use Rattle.posix_profile.specs.Changes.{written, resized, with_bytes, with_name, without_name};
+ghost use Rattle.posix_profile.specs.Changes.{written, resized, with_bytes, with_object, with_name, without_name};
 ghost use Rattle.object_store.specs.Changes.{empty_object, made, without};
 ghost use Rattle.object_store.specs.Facts.{bytes_of};
 ghost use Rattle.plain_state.specs.PlainState.{object_of, objects_in};
@@ -117,19 +117,64 @@ fn resize(
     put_object(objects, number, PlainObject::File { moment, bytes })
 }
 
-/// Gives an object another name.
+/// Gives an object another name, and takes the object away that is told.
 fn move_name(
     alloc: Global,
     objects: &mut ObjectMap,
     from: DirectoryEntry<'_>,
     to: DirectoryEntry<'_>,
     number: u64,
+    dropped: Option<u64>,
     moment: u64,
 ) -> Result<(), AllocError>
-    ensures { OnOk result (objects_in objects.new ≡ with_name (without_name (objects_in objects.old) moment from.entry.directory from.entry.name.now) moment to.entry.directory to.entry.name.now number) }
+    ensures { OnOk result (objects_in objects.new ≡ without dropped (with_name (without_name (objects_in objects.old) moment from.entry.directory from.entry.name.now) moment to.entry.directory to.entry.name.now number)) }
 {
     remove_name(alloc, objects, moment, from.directory, from.name)?;
-    put_name(alloc, objects, moment, to.directory, to.name, number)
+    put_name(alloc, objects, moment, to.directory, to.name, number)?;
+    drop_told(objects, dropped);
+    Ok(())
+}
+
+/// Makes an object without content, and its name.
+fn create(
+    alloc: Global,
+    objects: &mut ObjectMap,
+    entry: DirectoryEntry<'_>,
+    kind: Kind,
+    moment: u64,
+) -> Result<(), AllocError>
+    ensures { OnOk result (objects_in objects.new ≡ with_object (objects_in objects.old) moment entry.entry.directory entry.entry.name.now (empty_object kind moment)) }
+{
+    let object = empty_object(alloc, kind, moment);
+    add_object(alloc, objects, moment, entry.directory, entry.name, object)
+}
+
+/// Gives an object a further name.
+fn name(
+    alloc: Global,
+    objects: &mut ObjectMap,
+    entry: DirectoryEntry<'_>,
+    number: u64,
+    moment: u64,
+) -> Result<(), AllocError>
+    ensures { OnOk result (objects_in objects.new ≡ with_name (objects_in objects.old) moment entry.entry.directory entry.entry.name.now number) }
+{
+    put_name(alloc, objects, moment, entry.directory, entry.name, number)
+}
+
+/// Takes a name away, and the object that is told.
+fn remove(
+    alloc: Global,
+    objects: &mut ObjectMap,
+    entry: DirectoryEntry<'_>,
+    dropped: Option<u64>,
+    moment: u64,
+) -> Result<(), AllocError>
+    ensures { OnOk result (objects_in objects.new ≡ without dropped (without_name (objects_in objects.old) moment entry.entry.directory entry.entry.name.now)) }
+{
+    remove_name(alloc, objects, moment, entry.directory, entry.name)?;
+    drop_told(objects, dropped);
+    Ok(())
 }
 
 /// Changes the objects. An `Err` leaves some of the change.
@@ -145,42 +190,24 @@ fn change(
             entry,
             kind,
             moment,
-        } => {
-            let object = empty_object(alloc, *kind, *moment);
-            add_object(alloc, objects, *moment, entry.directory, entry.name, object)
-        }
+        } => create(alloc, objects, *entry, *kind, *moment),
         ObjectChange::Name {
             entry,
             number,
             moment,
-        } => put_name(
-            alloc,
-            objects,
-            *moment,
-            entry.directory,
-            entry.name,
-            *number,
-        ),
+        } => name(alloc, objects, *entry, *number, *moment),
         ObjectChange::Remove {
             entry,
             dropped,
             moment,
-        } => {
-            remove_name(alloc, objects, *moment, entry.directory, entry.name)?;
-            drop_told(objects, *dropped);
-            Ok(())
-        }
+        } => remove(alloc, objects, *entry, *dropped, *moment),
         ObjectChange::Move {
             from,
             to,
             number,
             dropped,
             moment,
-        } => {
-            move_name(alloc, objects, *from, *to, *number, *moment)?;
-            drop_told(objects, *dropped);
-            Ok(())
-        }
+        } => move_name(alloc, objects, *from, *to, *number, *dropped, *moment),
         ObjectChange::Write {
             number,
             offset,

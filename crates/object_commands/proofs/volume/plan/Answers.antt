@@ -14,7 +14,7 @@ unfolding step_at
 returns-in-Open-clause-plans g c z s holds same =
     let m = g.S.ObjectStore.meaning in
     let stamped = c.args.stamped.now in
-    plans_step m z c.args.read_only s stamped _ _ c.args.store.now c.open.new.store c.in-Open.is (ap (λ x. open_step z c.args.read_only stamped.moment s x c.in-Open.flags) c.as_slice.ensures)
+    plans_step m z c.args.read_only s stamped _ _ c.args.store.now c.open.new.store c.in-Open.is (ap (λ x. open_step z c.args.read_only stamped.moment s x c.in-Open.flags) c.as_slice-path.ensures)
     c.open.result (c.open.ensures.plans z s holds same)
 
 pub returns-in-Close-clause-plans : goal.returns-in-Close-clause-plans
@@ -39,7 +39,7 @@ returns-in-Write-clause-plans g c z s holds same =
     let m = g.S.ObjectStore.meaning in
     let stamped = c.args.stamped.now in
     plans_step m z c.args.read_only s stamped _ _ c.args.store.now c.args.store.now c.in-Write.is refl
-    c.hand_on-in-Write.result (plans_of m z Changing s _ _ c.args.store.now c.args.store.now (ap (write_step z stamped.moment s c.in-Write.fd) c.as_slice-in-Write.ensures) c.write.result c.hand_on-in-Write.result c.hand_on-in-Write.ensures (c.write.ensures z s holds same))
+    c.hand_on-in-Write.result (plans_of m z Changing s _ _ c.args.store.now c.args.store.now (ap (write_step z stamped.moment s c.in-Write.fd) c.as_slice.ensures) c.write.result c.hand_on-in-Write.result c.hand_on-in-Write.ensures (c.write.ensures z s holds same))
 
 pub returns-in-Seek-clause-plans : goal.returns-in-Seek-clause-plans
 unfolding step_at
@@ -101,7 +101,7 @@ unfolding step_at
 returns-in-Link-clause-plans g c z s holds same =
     let m = g.S.ObjectStore.meaning in
     let stamped = c.args.stamped.now in
-    plans_step m z c.args.read_only s stamped _ _ c.args.store.now c.link.new.store c.in-Link.is (ap₂ (link_step z c.args.read_only stamped.moment s) c.as_slice-in-Link.ensures c.as_slice-in-Link-2.ensures)
+    plans_step m z c.args.read_only s stamped _ _ c.args.store.now c.link.new.store c.in-Link.is (ap₂ (link_step z c.args.read_only stamped.moment s) c.as_slice-old.ensures c.as_slice-new.ensures)
     c.link.result (c.link.ensures.plans z s holds)
 
 pub returns-in-Unlink-clause-plans : goal.returns-in-Unlink-clause-plans
@@ -132,5 +132,5 @@ unfolding step_at
 returns-in-Rename-clause-plans g c z s holds same =
     let m = g.S.ObjectStore.meaning in
     let stamped = c.args.stamped.now in
-    plans_step m z c.args.read_only s stamped _ _ c.args.store.now c.rename.new.store c.in-Rename.is (ap₂ (rename_step z c.args.read_only stamped.moment s) c.as_slice-in-Rename.ensures c.as_slice-in-Rename-2.ensures)
+    plans_step m z c.args.read_only s stamped _ _ c.args.store.now c.rename.new.store c.in-Rename.is (ap₂ (rename_step z c.args.read_only stamped.moment s) c.as_slice-old-in-Rename.ensures c.as_slice-new-in-Rename.ensures)
     c.rename.result (c.rename.ensures.plans z s holds same)

@@ -1,14 +1,14 @@
 -- What the pages of a file say.
-use Rattle.std.specs.Prelude.{◌≡◌, ◌⊎◌, ◌<◌, ◌≤◌, ℕ, ◌+◌, ◌-◌, ◌*◌, ◌/◌, ◌%◌, true, false, List, length, take, drop, replicate, get_or, Some}
+use Rattle.std.specs.Prelude.{◌≡◌, ◌⊎◌, ◌<◌, ◌≤◌, ℕ, ◌+◌, ◌-◌, ◌*◌, ◌/◌, ◌%◌, true, false, List, length, take, drop, replicate, get_or, Some, None}
 use Rattle.std.proofs.Common.{sym, ◌∙◌, ap, subst, inl, inr, arith}
 use Rattle.std.proofs.lemmas.List.{ext_get_or, get_or-take, get_or-drop, length-take-le, length-drop, length-replicate, get_or-replicate}
 use Rattle.std.proofs.lemmas.Nat.{div-mul-add, mod-mul-add}
-use Rattle.page_tags.specs.Headers.{is_present}
+use Rattle.page_tags.specs.Headers.{Fields, is_present}
 use Rattle.flash_tree.specs.Tree.{ByteIs}
 use Rattle.volume_terms.specs.Sizes.{Sizes}
 use Rattle.pages.specs.Maps.{PageMap, has}
 use Rattle.pages.specs.State.{PagesState, OnlyFinds}
-use Rattle.file_io.specs.Files.{FileIn}
+use Rattle.file_io.specs.Files.{FileIn, HasOnly}
 
 -- a key has one page
 pub one_page : (m : PageMap) (o c : ℕ) (xs ys : List ℕ) → m o c ≡ Some xs → m o c ≡ Some ys → xs ≡ ys
@@ -28,6 +28,10 @@ later p q z o moment bytes finds f = record {
     each = λ i less. subst (λ (m : PageMap). ByteIs z (has m) o f.reads.fields i (get_or bytes i 0)) (sym finds.present) (f.reads.each i less);
   };
 }
+
+-- and where it had no other page it has none
+pub only_later : (p q : PagesState) (o : ℕ) (f : Fields) → OnlyFinds p q → HasOnly p.present o f → HasOnly q.present o f
+only_later p q o f finds only = subst (λ (m : PageMap). HasOnly m o f) (sym finds.present) only
 
 -- byte j of the chunk that is chunk 1 + k of the object
 abbrev pub ByteIn : PageMap → ℕ → List ℕ → ℕ → ℕ → ℕ → Type 0
@@ -53,24 +57,24 @@ module _ (p : PagesState) (z : Sizes) (o moment : ℕ) (bytes : List ℕ) (f : F
     part_at j less = get_or-take (to - from) (drop (k * d + from) bytes) j 0 less ∙ get_or-drop (k * d + from) bytes j 0
         ∙ (let place : k * d + from + j ≡ k * d + (from + j) = omega arith in ap (λ n. get_or bytes n 0) place)
 
-    -- a chunk that is present has its part of the bytes
-    pub part_present : is_present f.reads.fields.bits (1 + k) ≡ true → (page : List ℕ) → p.present o (1 + k) ≡ Some page → length page ≡ d
+    -- a chunk that has a page has its part of the bytes there, where the header names all chunks
+    pub part_found : HasOnly p.present o f.reads.fields → (page : List ℕ) → p.present o (1 + k) ≡ Some page → length page ≡ d
         → take (to - from) (drop from page) ≡ take (to - from) (drop (k * d + from) bytes)
-    part_present set page there len =
+    part_found only page there len =
         let here : length (take (to - from) (drop from page)) ≡ to - from = length-take-le (to - from) (drop from page) (omega (arith, few, len, length-drop from page)) in
         ext_get_or 0 _ _ (here ∙ sym part_len) (λ j less.
         let lt : j < to - from = omega (arith, less, here) in
         get_or-take (to - from) (drop from page) j 0 lt ∙ get_or-drop from page j 0 ∙ elim (byte_in k (from + j) (omega (arith, lt, few)) (omega (arith, lt, within))) [
           | inl is ↦ ap (λ (xs : List ℕ). get_or xs (from + j) 0) (one_page p.present o (1 + k) page is.1.0 there is.1.1) ∙ is.1.2
-          | inr is ↦ let two : true ≡ false = sym set ∙ is.0 in absurd cc
+          | inr is ↦ let two : None ≡ Some page = sym (only (1 + k) (omega arith) is.0) ∙ there in absurd cc
         ] ∙ sym (part_at j lt))
 
-    -- one that is not reads as zeros
-    pub part_absent : is_present f.reads.fields.bits (1 + k) ≡ false → replicate (to - from) 0 ≡ take (to - from) (drop (k * d + from) bytes)
-    part_absent unset = ext_get_or 0 _ _ (length-replicate {A = ℕ} (to - from) 0 ∙ sym part_len) (λ j less.
+    -- one that has none reads as zeros
+    pub part_missing : p.present o (1 + k) ≡ None → replicate (to - from) 0 ≡ take (to - from) (drop (k * d + from) bytes)
+    part_missing none = ext_get_or 0 _ _ (length-replicate {A = ℕ} (to - from) 0 ∙ sym part_len) (λ j less.
         let lt : j < to - from = omega (arith, less, length-replicate {A = ℕ} (to - from) 0) in
         get_or-replicate (to - from) j 0 0 lt ∙ elim (byte_in k (from + j) (omega (arith, lt, few)) (omega (arith, lt, within))) [
-          | inl is ↦ let two : true ≡ false = sym is.0 ∙ unset in absurd cc
+          | inl is ↦ let two : None ≡ Some is.1.0 = sym none ∙ is.1.1 in absurd cc
           | inr is ↦ sym is.1
         ] ∙ sym (part_at j lt))
 

@@ -1,12 +1,12 @@
--- The pages that must be there for a range of a file to be read, or for a part of a chunk to be kept.
-use Rattle.std.specs.Prelude.{◌≡◌, ◌⊎◌, ◌<◌, ◌≤◌, ℕ, ◌+◌, ◌-◌, ◌*◌, ◌/◌, ◌^◌, true, min, List, Some}
+-- The pages that must be there for a part of a chunk to be kept.
+use Rattle.std.specs.Prelude.{◌≡◌, ◌⊎◌, ◌<◌, ◌≤◌, ℕ, ◌+◌, ◌-◌, ◌*◌, ◌/◌, true, List, Some}
 use Rattle.std.proofs.Common.{sym, subst, inl, inr, arith}
 use Rattle.std.proofs.Math.Nat.{div-mul-le_self, lt-div-mul-add}
 use Rattle.std.proofs.lemmas.Bool.{cases_lt}
 use Rattle.std.proofs.lemmas.Nat.{le-div}
 use Rattle.page_tags.specs.Headers.{is_present}
 use Rattle.pages.specs.Maps.{PageMap}
-use Rattle.file_io.specs.Chunks.{HasByte, IsSplit, IsPartLast, IsPartKept}
+use Rattle.file_io.specs.Chunks.{IsSplit, IsPartLast, IsPartKept}
 use Rattle.pages.specs.State.{PagesState, OnlyFinds}
 use Rattle.file_io.specs.Files.{HasFileHeader, HasPages}
 use Rattle.file_io.specs.Heads.{SaysHead}
@@ -27,9 +27,6 @@ there_more m o bits IsOne first n before this k low less one = elim (cases_lt k 
       subst (λ i. IsThere m o bits i) same (this (subst IsOne (sym same) one))
 ]
 
-pub there_next : (m : PageMap) (o : ℕ) (bits : List ℕ) (first n : ℕ) → ((k : ℕ) → first ≤ k → k < n → IsThere m o bits k) → IsThere m o bits n → (k : ℕ) → first ≤ k → k < n + 1 → IsThere m o bits k
-there_next m o bits first n before this k low less = there_more m o bits (λ i. Unit {0}) first n (λ i from to one. before i from to) (λ one. this) k low less tt
-
 -- the chunk's page, where the chunk is counted otherwise
 at_chunk : (m : PageMap) (o : ℕ) (bits : List ℕ) (k c : ℕ) → c ≡ 1 + k → IsThere m o bits k → is_present bits c ≡ true → (page : List ℕ) × (m o c ≡ Some page)
 at_chunk m o bits k c is there set =
@@ -37,18 +34,6 @@ at_chunk m o bits k c is there set =
     (p.0, subst (λ i. m o i ≡ Some p.0) (sym is) p.1)
 
 module _ (m : PageMap) (o : ℕ) (bits : List ℕ) (d : ℕ) where
-  -- the pages of a range that is read
-  pub read_pages : (len off count end : ℕ) → min len (off + count) ≤ end → ((k : ℕ) → off / d ≤ k → k < (end - 1) / d + 1 → IsThere m o bits k) → HasPages m o bits (HasByte d off (min len (off + count)))
-  read_pages len off count end within there c h set =
-      let k : ℕ = h.place / d in
-      let low : off / d ≤ k = chunk_order d off h.place h.least in
-      let up : k ≤ (end - 1) / d = chunk_order d h.place (end - 1) (omega (arith, h.most, within)) in
-      at_chunk m o bits k c h.chunk (there k low (omega (arith, up))) set
-
-  -- of a range without bytes none is read
-  pub read_no_pages : (len off count end : ℕ) → min len (off + count) ≤ end → end ≤ off → HasPages m o bits (HasByte d off (min len (off + count)))
-  read_no_pages len off count end within none c h set = absurd (omega (arith, h.least, h.most, within, none))
-
   -- a chunk that is split is written, and not whole
   split_written : (off n c : ℕ) → 1 ≤ d → (s : IsSplit d off (off + n) c) → (off / d ≤ s.inside.place / d) × (s.inside.place / d < (off + n - 1) / d + 1)
       × ((s.inside.place / d * d < off) ⊎ (off + n < s.inside.place / d * d + d))
@@ -92,10 +77,6 @@ pub grows_past : (d old len : ℕ) → 1 ≤ d → old < len → old / d < (len 
 grows_past d old len some more =
     let le = le-div (old / d + 1) (len + d - 1) d some (omega (arith, div-mul-le_self old d, more, some)) in
     omega (arith, le)
-
--- how far a range reaches in a file
-pub reach : (len off count end : ℕ) → end ≡ min len (min (off + count) (2 ^ 64 - 1)) → len < 2 ^ 64 → min len (off + count) ≤ end
-reach len off count end is small = omega (arith, is, small)
 
 -- what was found after the header was read was there before, by the header
 module _ (p q : PagesState) (finds : OnlyFinds p q) (o : ℕ) (head : FileHead) (s : SaysHead p o head) where

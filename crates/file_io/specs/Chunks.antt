@@ -1,6 +1,5 @@
 -- The chunks of a file, counted from 0: chunk k of its bytes is chunk 1 + k of the object.
-use Rattle.std.specs.Prelude.{◌≡◌, ◌<◌, ◌≤◌, ◌⊎◌, ℕ, zero, suc, ◌+◌, ◌-◌, ◌*◌, ◌/◌, ◌%◌, true, List, ◌++◌, length, take, drop, slice_get, slice_index, count_by, Some}
-use Rattle.std.specs.List.{range_with_len}
+use Rattle.std.specs.Prelude.{◌≡◌, ◌<◌, ◌≤◌, ◌⊎◌, ℕ, zero, suc, ◌+◌, ◌-◌, ◌*◌, ◌/◌, ◌%◌, true, List, ◌++◌, length, take, drop, slice_get, slice_index, Some}
 use Rattle.page_tags.specs.Headers.{is_present}
 use Rattle.pages.specs.Maps.{IsOf}
 use Rattle.pages.specs.Changes.{AreApart}
@@ -10,10 +9,6 @@ use Rattle.flash_tree.specs.declared.place.FreshPage.{FreshPage}
 abbrev pub chunks_over : ℕ → ℕ → ℕ → ℕ
 chunks_over d off zero = 0
 chunks_over d off (suc n) = (off + n) / d - off / d + 1
-
--- so many of the n chunks from k on are present
-abbrev pub count_present : List ℕ → ℕ → ℕ → ℕ
-count_present bits k n = count_by (is_present bits) (range_with_len (1 + k) n)
 
 -- the page has the bytes of chunk k, and zeros where the file has none
 pub record HoldsChunk (d : ℕ) (bytes : List ℕ) (k : ℕ) (page : List ℕ) : Type 0 where

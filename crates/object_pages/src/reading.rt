@@ -1,5 +1,5 @@
 // What is read of the objects that the pages hold.
-ghost use Rattle.std.specs.Prelude.{◌≡◌, IfOk, IfErr, take, drop};
+ghost use Rattle.std.specs.Prelude.{◌≡◌, IfOk, IfErr, length, take, drop};
 ghost use Rattle.std.specs.FinMap as map;
 ghost use Rattle.volume_terms.specs.Sizes.{Sizes};
 ghost use Rattle.posix_profile.specs.State.{Objects, IsFile, IsDirectory, entries_of};
@@ -36,21 +36,20 @@ pub fn names<P: Pages>(pages: &mut P, alloc: Global, directory: u64) -> Result<N
     directories::names(alloc, pages, directory)
 }
 
-/// The bytes of a file from the offset on, at most so many.
+/// The bytes of a file of this length from the offset on, at most so many.
 pub fn read<P: Pages>(
     pages: &mut P,
     alloc: Global,
     file: u64,
+    len: u64,
     offset: u64,
     count: u32,
 ) -> Result<Bytes, PageFault>
     ensures finds { OnlyFinds (P.state pages.old) (P.state pages.new) }
-    ensures found { (z : Sizes) (objects : Objects) → HoldsIn (P.state pages.old) z objects → IsFile objects file
+    ensures found { (z : Sizes) (objects : Objects) → HoldsIn (P.state pages.old) z objects → IsFile objects file → len ≡ length (bytes_of (map.get objects file))
         → IfOk result (λ bytes. bytes ≡ take count (drop offset (bytes_of (map.get objects file)))) }
-    ensures why { IfErr result (SaysWhyMaking (P.state pages.new)) }
-    ensures fault { (z : Sizes) (objects : Objects) → HoldsIn (P.state pages.old) z objects → IsFile objects file
-        → IfErr result (MayLackMemory (P.state pages.new)) }
+    ensures fault { IfErr result (MayLackMemory (P.state pages.new)) }
 {
-    let bytes = file_io::read_at(alloc, pages, file, offset, u64::from(count))?;
+    let bytes = file_io::read_at(alloc, pages, file, len, offset, u64::from(count))?;
     Ok(Bytes::new(bytes))
 }

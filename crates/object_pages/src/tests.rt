@@ -99,7 +99,7 @@ fn a_file_is_found_and_read(rt: HostRuntime) -> Result<(), Fail> {
     assert_eq!(rt; find(&mut pages, ROOT, b"docs")?, Some(DOCS));
     assert_eq!(rt; find(&mut pages, DOCS, b"a")?, Some(FILE));
     assert_eq!(rt; find(&mut pages, DOCS, b"b")?, None);
-    let bytes = read(&mut pages, alloc, FILE, 508, 9)?;
+    let bytes = read(&mut pages, alloc, FILE, 514, 508, 9)?;
     assert_eq!(rt; bytes.as_slice(), b"\0\0abcd".as_slice());
     assert_eq!(rt; names(&mut pages, alloc, ROOT)?.as_slice().len(), 1);
     Ok(())
@@ -115,7 +115,7 @@ fn a_write_of_no_bytes_grows_a_file(rt: HostRuntime) -> Result<(), Fail> {
         moment: 4,
     };
     let mut pages = changed(alloc, small_volume(alloc)?, write, 4)?;
-    let bytes = read(&mut pages, alloc, FILE, 510, 9)?;
+    let bytes = read(&mut pages, alloc, FILE, 516, 510, 9)?;
     assert_eq!(rt; bytes.as_slice(), b"abcd\0\0".as_slice());
     Ok(())
 }
@@ -210,7 +210,7 @@ fn a_refused_page_is_told(rt: HostRuntime) -> Result<(), Fail> {
         )
     );
     let mut pages = changed(alloc, pages, resized, 4)?;
-    let bytes = read(&mut pages, alloc, FILE, 512, 200)?;
+    let bytes = read(&mut pages, alloc, FILE, 600, 512, 200)?;
     assert_eq!(rt; bytes.as_slice().len(), 88);
     Ok(())
 }

@@ -1,7 +1,11 @@
 // Objects over pages, as a store.
-ghost use Rattle.std.specs.Prelude.{◌≡◌, Err};
+ghost use Rattle.std.specs.Prelude.{◌≡◌, Err, length};
+ghost use Rattle.std.specs.FinMap as map;
 ghost use Rattle.volume_terms.specs.declared.fault.StoreFault.TheVariants as faults;
-ghost use Rattle.object_table.specs.Told.{sizes_of};
+ghost use Rattle.posix_profile.specs.State.{Objects};
+ghost use Rattle.posix_profile.specs.WellFormed.{IsForest};
+ghost use Rattle.object_store.specs.Facts.{bytes_of};
+ghost use Rattle.object_table.specs.Told.{sizes_of, Tells};
 
 use crate::changing::{forget, make};
 use crate::fault::fault_of;
@@ -11,6 +15,16 @@ use pages::PageStore;
 use posix_profile::{Bytes, Info, NameList};
 use std::alloc::Global;
 use volume_terms::{StoreFault, VolumeSizes};
+
+/// The length of a file in bytes, as the table tells it; 0 of what is no file.
+fn length_of(table: &ObjectTable, file: u64) -> u64
+    ensures { (objects : Objects) → Tells table.now objects → IsForest (sizes_of table.now) objects → result ≡ length (bytes_of (map.get objects file)) }
+{
+    match table.info(file) {
+        Some(info) => info.size,
+        None => 0,
+    }
+}
 
 /// Objects in pages. A table tells what it can without reading one.
 #[derive(Drop)]
@@ -99,7 +113,8 @@ impl<P: PageStore> ObjectStore for PagedObjects<P> {
         offset: u64,
         count: u32,
     ) -> Result<Bytes, StoreFault> {
-        match object_pages::read(&mut self.pages, alloc, file, offset, count) {
+        let len = length_of(&self.table, file);
+        match object_pages::read(&mut self.pages, alloc, file, len, offset, count) {
             Ok(bytes) => Ok(bytes),
             Err(fault) => Err(fault_of(fault)),
         }

@@ -29,6 +29,7 @@ told_pages image = little_number 4 (drop 12 image)
 abbrev pub told_blocks : List ℕ → ℕ
 told_blocks image = little_number 4 (drop 16 image)
 
+-- the head names these sizes
 pub record HasSizes (g : Geometry) (image : List ℕ) : Type 0 where
   pub bytes : told_bytes image ≡ g.bytes
   pub pages : told_pages image ≡ g.pages

@@ -18,6 +18,7 @@ pub record IsFront (buffer left : List ℕ) (now : Option (List ℕ)) (n : ℕ) 
   pub rest : now ≡ Some (drop n left)
   pub ends : n < length buffer → length left ≡ n
 
+-- a buffer after reads that were to fill it
 abbrev pub FillsFront : Option (List ℕ) → Option (List ℕ) → List ℕ → ℕ → Type 0
 FillsFront old new buffer n = (left : List ℕ) → old ≡ Some left → IsFront buffer left new n
 
@@ -27,6 +28,7 @@ pub record IsWhole (buffer left : List ℕ) (now : Option (List ℕ)) : Type 0 w
   pub bytes : buffer ≡ take (length buffer) left
   pub rest : now ≡ Some (drop (length buffer) left)
 
+-- a buffer after reads that filled it
 abbrev pub FillsWhole : Option (List ℕ) → Option (List ℕ) → List ℕ → Type 0
 FillsWhole old new buffer = (left : List ℕ) → old ≡ Some left → IsWhole buffer left new
 
@@ -45,6 +47,7 @@ pub record IsHead (head left : List ℕ) (now : Option (List ℕ)) : Type 0 wher
   pub bytes : head ≡ take 32 left
   pub rest : now ≡ Some (drop 32 left)
 
+-- what was read is the head of an image
 abbrev pub TakesHead : Option (List ℕ) → Option (List ℕ) → List ℕ → Type 0
 TakesHead old new head = (left : List ℕ) → old ≡ Some left → IsHead head left new
 
@@ -77,6 +80,7 @@ pub record ArePages (size per_block count : ℕ) (page : ℕ → ℕ → Page) (
   pub each : (i : ℕ) → i < count → page (i / per_block) (i % per_block) ≡ page_in size (drop (i * (49 + size)) left)
   pub rest : now ≡ Some (drop (count * (49 + size)) left)
 
+-- what was read is so many pages of a device
 abbrev pub TakesPages : Option (List ℕ) → Option (List ℕ) → ℕ → ℕ → ℕ → (ℕ → ℕ → Page) → Type 0
 TakesPages old new size per_block count page = (left : List ℕ) → old ≡ Some left → ArePages size per_block count page left new
 
@@ -97,12 +101,14 @@ IsLong old faults.NoMemory = ⊥
 abbrev pub body_size : Geometry → ℕ
 body_size g = g.blocks + g.blocks * g.pages * slot_size g
 
+-- the marks and the pages of a device, and nothing behind them
 pub record IsBody (g : Geometry) (body : List ℕ) (device : Device) : Type 0 where
   pub size : length body ≡ body_size g
   pub good : (b : ℕ) → b < g.blocks → slice_index body b ≡ 0 → device.flash.bad b ≡ false
   pub bad : (b : ℕ) → b < g.blocks → slice_index body b ≢ 0 → device.flash.bad b ≡ true
   pub pages : (b p : ℕ) → b < g.blocks → p < g.pages → device.flash.page b p ≡ page_in g.bytes (drop (g.blocks + (b * g.pages + p) * slot_size g) body)
 
+-- what was read is all that follows a head with these sizes
 abbrev pub TakesBody : Geometry → Option (List ℕ) → MemNand → Type 0
 TakesBody g old memory = (left : List ℕ) → old ≡ Some left → IsBody g left (device memory)
 

@@ -30,14 +30,15 @@ abbrev pub page_writes : ℕ → List ℕ → List ℕ → List Write
 page_writes place bytes tag =
     record { place = place + 49; bytes = bytes } ∷ record { place = place + 1; bytes = tag } ∷ record { place = place; bytes = 1 ∷ [] } ∷ []
 
+-- and at its place in the image
 abbrev pub program_writes : Geometry → ℕ → ℕ → List ℕ → List ℕ → List Write
 program_writes g b p bytes tag = page_writes (page_place g b p) bytes tag
 
--- What an erase writes: of each page in turn that it is erased.
+-- what an erase writes of a page: that it is erased
 abbrev pub erase_write : Geometry → ℕ → ℕ → Write
 erase_write g b p = record { place = page_place g b p; bytes = 0 ∷ [] }
 
--- the first of them
+-- what an erase writes of the first pages of a block, in turn
 abbrev pub erase_writes : Geometry → ℕ → ℕ → List Write
 erase_writes g b zero = []
 erase_writes g b (suc count) = erase_writes g b count ++ erase_write g b count ∷ []

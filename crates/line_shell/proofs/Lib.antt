@@ -6,3 +6,4 @@ pub mod Reading
 pub mod Running
 pub mod LineLaws
 pub mod WordLaws
+pub mod Scripting

@@ -26,7 +26,7 @@ run_more serves (first ∷ lines) line old mid new text more run answers =
     (run.0, run.1 ++ more, run.2, ap (λ l. l ++ more) run.3 ∙ append_assoc run.0 run.1 more, run.4, run_more serves lines line run.2 mid new run.1 more run.5 answers)
 
 -- the lines of the input are those answered, and those of what is left
-abbrev LinesLeft : Option (List ℕ) → Option (List ℕ) → List (List ℕ) → Type 0
+abbrev pub LinesLeft : Option (List ℕ) → Option (List ℕ) → List (List ℕ) → Type 0
 LinesLeft None left answered = Unit {0}
 LinesLeft (Some input) None answered = ⊥
 LinesLeft (Some input) (Some rest) answered = whole_lines input ≡ answered ++ whole_lines rest
@@ -41,24 +41,24 @@ pub record SoFar {V : Type 0} (serves : V → Stamped → Reply → V → Type 0
   told : Appends before after text
   lines : LinesLeft input left answered
 
-lines_none : (input : Option (List ℕ)) → LinesLeft input input []
+pub lines_none : (input : Option (List ℕ)) → LinesLeft input input []
 lines_none None = tt
 lines_none (Some input) = refl
 
-lines_more : (input left next : Option (List ℕ)) (answered : List (List ℕ)) (line : List ℕ) → LinesLeft input left answered → NextLine left next line → LinesLeft input next (answered ++ line ∷ [])
+pub lines_more : (input left next : Option (List ℕ)) (answered : List (List ℕ)) (line : List ℕ) → LinesLeft input left answered → NextLine left next line → LinesLeft input next (answered ++ line ∷ [])
 lines_more None left next answered line so_far read = tt
 lines_more (Some xs) None next answered line so_far read = absurd so_far
 lines_more (Some xs) (Some ys) None answered line so_far read = absurd read
 lines_more (Some xs) (Some ys) (Some zs) answered line so_far read = so_far ∙ ap (λ l. answered ++ l) read ∙ sym (append_assoc answered (line ∷ []) (whole_lines zs))
 
 -- some lines are left, or none
-lines_some : (input left : Option (List ℕ)) (answered : List (List ℕ)) → LinesLeft input left answered → IfSome input (λ bytes. (rest : List (List ℕ)) × (whole_lines bytes ≡ answered ++ rest))
+pub lines_some : (input left : Option (List ℕ)) (answered : List (List ℕ)) → LinesLeft input left answered → IfSome input (λ bytes. (rest : List (List ℕ)) × (whole_lines bytes ≡ answered ++ rest))
 lines_some None left answered so_far = tt
 lines_some (Some xs) None answered so_far = absurd so_far
 lines_some (Some xs) (Some ys) answered so_far = (whole_lines ys, so_far)
 
 -- an input that is not empty has a line
-lines_there : (b : ℕ) (bs : List ℕ) → (line : List ℕ) × (lines : List (List ℕ)) × (whole_lines (b ∷ bs) ≡ line ∷ lines)
+pub lines_there : (b : ℕ) (bs : List ℕ) → (line : List ℕ) × (lines : List (List ℕ)) × (whole_lines (b ∷ bs) ≡ line ∷ lines)
 unfolding whole_lines
 lines_there b bs = elim (eqb b newline) as (λ t. (line : List ℕ) × (lines : List (List ℕ)) × (cond t ((b ∷ []) ∷ whole_lines bs) (onto_first b (whole_lines bs)) ≡ line ∷ lines)) [
   | true ↦ (b ∷ [], whole_lines bs, refl)
@@ -69,19 +69,19 @@ lines_there b bs = elim (eqb b newline) as (λ t. (line : List ℕ) × (lines : 
     at [] = (b ∷ [], [], refl)
     at (l ∷ ls) = (b ∷ l, ls, refl)
 
-lines_all : (input left : Option (List ℕ)) (answered : List (List ℕ)) → LinesLeft input left answered → IsAtEnd left → IfSome input (λ bytes. whole_lines bytes ≡ answered)
+pub lines_all : (input left : Option (List ℕ)) (answered : List (List ℕ)) → LinesLeft input left answered → IsAtEnd left → IfSome input (λ bytes. whole_lines bytes ≡ answered)
 unfolding whole_lines
 lines_all None left answered so_far end = tt
 lines_all (Some xs) None answered so_far end = absurd so_far
 lines_all (Some xs) (Some ys) answered so_far end = so_far ∙ ap (λ l. answered ++ whole_lines l) end ∙ append-nil answered
 
-ended_left : (input left next : Option (List ℕ)) (answered : List (List ℕ)) → LinesLeft input left answered → IsEnded left next → OnSome input (IsAtEnd next)
+pub ended_left : (input left next : Option (List ℕ)) (answered : List (List ℕ)) → LinesLeft input left answered → IsEnded left next → OnSome input (IsAtEnd next)
 ended_left None left next answered so_far end = tt
 ended_left (Some xs) None next answered so_far end = absurd so_far
 ended_left (Some xs) (Some ys) None answered so_far end = absurd end.1
 ended_left (Some xs) (Some ys) (Some zs) answered so_far end = end.1 ∙ end.0
 
-all_one : (P : List ℕ → Type 0) (x : List ℕ) → P x → All P (x ∷ [])
+pub all_one : (P : List ℕ → Type 0) (x : List ℕ) → P x → All P (x ∷ [])
 all_one P x p zero d lt = p
 all_one P x p (suc k) d lt = absurd (omega arith)
 

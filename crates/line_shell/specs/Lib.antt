@@ -7,3 +7,4 @@ pub mod Written
 pub mod Lines
 pub mod Reading
 pub mod Runs
+pub mod Scripts

@@ -13,6 +13,7 @@ mod number;
 mod output;
 mod reply;
 mod run;
+mod script;
 mod serve;
 #[cfg(test)]
 mod tests;
@@ -24,6 +25,8 @@ pub use law::{
 };
 pub use line::Line;
 pub use meaning::parse;
+pub use output::{write_bytes, write_tagged_numbers};
 pub use reply::write_reply;
 pub use run::shell;
+pub use script::{ScriptFault, read_script};
 pub use serve::Serve;

@@ -12,7 +12,7 @@ use posix_profile::{Reply, Stamped};
 use std::alloc::Global;
 use std::io::{BufRead, Write};
 
-const MOST_LINES: u32 = 16_777_216;
+pub(crate) const MOST_LINES: u32 = 16_777_216;
 
 fn tell<W: Write>(writer: &mut W, reply: &Reply) -> Result<(), ShellFault>
     ensures { IsTold (W.contents writer.old) (W.contents writer.new) (reply_text reply.now) result }

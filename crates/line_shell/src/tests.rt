@@ -1,6 +1,6 @@
 // Worked lines: what is asked, and what is told.
 use crate::serve::Serve;
-use crate::{Line, ShellFault, parse, shell, write_reply};
+use crate::{Line, ScriptFault, ShellFault, parse, read_script, shell, write_reply};
 use posix_profile::{
     Access, Bytes, Command, Errno, FilePath, Info, Kind, NameList, OpenFlags, Reply, SpaceInfo,
     Stamped, Whence,
@@ -593,5 +593,45 @@ fn a_refused_allocation_ends_the_shell(rt: HostRuntime) -> Result<(), Fail> {
             calls as usize
         );
     }
+    Ok(())
+}
+
+/// The commands of a script as a text.
+fn script_of(alloc: Global, input: &[u8]) -> Result<String, Fail> {
+    let mut reader = input;
+    let script = read_script(alloc, &mut reader);
+    Ok(format!(in alloc; "{script:?}")?)
+}
+
+#[test]
+fn a_script_is_read_with_its_moments(rt: HostRuntime) -> Result<(), Fail> {
+    let alloc = rt.alloc();
+    let mut input = b"mkdir /a\n\nnow 5\r\n  \nsync\nnow 3\nclose 1".as_slice();
+    let wanted = vec![in alloc;
+        Stamped {
+            moment: 0,
+            command: Command::Mkdir {
+                path: path(alloc, b"/a")?
+            }
+        },
+        Stamped {
+            moment: 5,
+            command: Command::Sync
+        },
+        Stamped {
+            moment: 3,
+            command: Command::Close { fd: 1 }
+        },
+    ]?;
+    let wanted: Result<Vec<Stamped>, ScriptFault> = Ok(wanted);
+    let wanted = format!(in alloc; "{wanted:?}")?;
+    let found = format!(in alloc; "{:?}", read_script(alloc, &mut input))?;
+    assert_eq!(rt; found.as_str(), wanted.as_str());
+    assert_eq!(rt;
+        script_of(alloc, b"sync\nnope\nsync")?.as_str(),
+        "Err(Line)"
+    );
+    let long = vec![in alloc; b'a'; 65_537]?;
+    assert_eq!(rt; script_of(alloc, &long)?.as_str(), "Err(TooLong)");
     Ok(())
 }

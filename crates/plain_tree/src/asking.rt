@@ -7,7 +7,8 @@ use posix_profile::{Command, Errno, FilePath, Reply, Stamped};
 use std::alloc::{AllocError, Global};
 
 /// What answers commands.
-pub(crate) trait Answers {
+pub trait Answers {
+    /// Does a command and replies to it.
     fn answer(&mut self, stamped: &Stamped) -> Reply;
 }
 

@@ -9,5 +9,6 @@ mod reading;
 mod tests;
 mod tree;
 
+pub use asking::Answers;
 pub use fault::TreeFault;
 pub use tree::PlainTree;

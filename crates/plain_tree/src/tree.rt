@@ -7,11 +7,10 @@ ghost use Rattle.posix_profile.specs.Runs.{takes_no_memory};
 ghost use Rattle.posix_profile.specs.Steps.{step};
 ghost use Rattle.posix_profile.specs.laws.Fresh.{fresh};
 
+use crate::asking::Answers;
 use crate::building::build;
 use crate::fault::TreeFault;
 use crate::reading::{read_tree, same_tree};
-use object_commands::Volume;
-use object_store::ObjectStore;
 use plain_volume::PlainVolume;
 use posix_profile::{Reply, Stamped};
 use std::alloc::{AllocError, Global};
@@ -49,10 +48,10 @@ impl PlainTree {
     /// The tree of a volume of these sizes, read by its commands and made again by them: the same names, numbers, moments and
     /// bytes. The volume needs a descriptor that is free. Where objects were removed, room is needed for as many as the
     /// greatest number.
-    pub fn read_from<S: ObjectStore>(
+    pub fn read_from<V: Answers>(
         alloc: Global,
         sizes: VolumeSizes,
-        volume: &mut Volume<S>,
+        volume: &mut V,
     ) -> Result<PlainTree, TreeFault>
         requires { IsSizes (sizes_of sizes) }
     {
@@ -98,7 +97,7 @@ impl PlainTree {
 
     /// Whether the volume has the same tree: equal names, and under each the same number, kind, links, length, moment and
     /// bytes. Objects that descriptors alone keep are not looked at. The volume needs a descriptor that is free.
-    pub fn same<S: ObjectStore>(&self, volume: &mut Volume<S>) -> Result<bool, TreeFault> {
+    pub fn same<V: Answers>(&self, volume: &mut V) -> Result<bool, TreeFault> {
         let mut plain = self.plain.settled(false)?;
         let entries = read_tree(self.alloc, &mut plain)?;
         let others = read_tree(self.alloc, volume)?;

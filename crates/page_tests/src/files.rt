@@ -69,9 +69,9 @@ fn a_gap_reads_as_zeros(rt: HostRuntime) -> Result<(), Fail> {
             moment: 7
         }
     );
-    let read = read_at(alloc, &mut pages, FILE, 998, 5)?;
+    let read = read_at(alloc, &mut pages, FILE, 1001, 998, 5)?;
     assert_eq!(rt; read.as_slice(), b"\0\0x".as_slice());
-    assert_eq!(rt; read_at(alloc, &mut pages, FILE, 1001, 5)?.len(), 0);
+    assert_eq!(rt; read_at(alloc, &mut pages, FILE, 1001, 1001, 5)?.len(), 0);
     Ok(())
 }
 
@@ -87,7 +87,7 @@ fn what_was_cut_does_not_come_back(rt: HostRuntime) -> Result<(), Fail> {
             moment: 3
         }
     );
-    let read = read_at(alloc, &mut pages, FILE, 99, 501)?;
+    let read = read_at(alloc, &mut pages, FILE, 600, 99, 501)?;
     assert_eq!(rt; read.len(), 501);
     assert_eq!(rt; read[0], b'x');
     assert!(rt; read[1..].iter().all(|byte| *byte == 0));
@@ -99,7 +99,7 @@ fn a_file_has_its_greatest_length(rt: HostRuntime) -> Result<(), Fail> {
     let alloc = rt.alloc();
     let mut pages = written(alloc, empty_file(alloc, 512)?, 1_966_079, b"x", 1)?;
     assert_eq!(rt; read_info(&mut pages, FILE)?.length, 1_966_080);
-    let read = read_at(alloc, &mut pages, FILE, 1_966_078, 5)?;
+    let read = read_at(alloc, &mut pages, FILE, 1_966_080, 1_966_078, 5)?;
     assert_eq!(rt; read.as_slice(), b"\0x".as_slice());
     let mut pages = resized(alloc, empty_file(alloc, 512)?, 1_966_080, 1)?;
     assert_eq!(rt; read_info(&mut pages, FILE)?.length, 1_966_080);
@@ -112,7 +112,7 @@ fn bytes_are_appended(rt: HostRuntime) -> Result<(), Fail> {
     let pages = written(alloc, empty_file(alloc, 512)?, 0, b"ab", 1)?;
     let mut pages = written(alloc, pages, 2, b"cd", 1)?;
     assert_eq!(rt;
-        read_at(alloc, &mut pages, FILE, 0, 10)?.as_slice(),
+        read_at(alloc, &mut pages, FILE, 4, 0, 10)?.as_slice(),
         b"abcd".as_slice()
     );
     Ok(())
@@ -153,10 +153,6 @@ fn a_write_has_few_pages(rt: HostRuntime) -> Result<(), Fail> {
 fn what_is_no_file_is_damaged(rt: HostRuntime) -> Result<(), Fail> {
     let alloc = rt.alloc();
     let mut pages = empty_file(alloc, 512)?;
-    assert_eq!(rt;
-        read_at(alloc, &mut pages, 9, 0, 1).err(),
-        Some(PageFault::Damaged)
-    );
     assert_eq!(rt; read_info(&mut pages, 9).err(), Some(PageFault::Damaged));
     assert!(rt; write_at(alloc, &mut pages, 9, 0, b"a", 1).is_err());
     assert!(rt; set_length(alloc, &mut pages, 9, 1, 1).is_err());
@@ -212,9 +208,10 @@ fn change_at_random(alloc: Global, random: &mut Pcg32, page_bytes: u32) -> Resul
                 plain.write(place as usize, &bytes);
             }
         }
-        let read = read_at(alloc, &mut pages, FILE, 0, 100_000)?;
+        let len = plain.len as u64;
+        let read = read_at(alloc, &mut pages, FILE, len, 0, 100_000)?;
         let from = random.next_word() % 10_000;
-        let part = read_at(alloc, &mut pages, FILE, u64::from(from), 3_000)?;
+        let part = read_at(alloc, &mut pages, FILE, len, u64::from(from), 3_000)?;
         let end = (from as usize + 3_000).min(read.len());
         if !plain.is(&read)
             || part.as_slice() != read.as_slice().get(from as usize..end).unwrap_or(b"")

@@ -46,7 +46,7 @@ const CALLS: [(Call, u64, usize); 13] = [
     (Call::RenameWithin, 5, 3),
     (Call::RenameBetween, 5, 4),
     (Call::Info, 1, 700),
-    (Call::Read, 3, 401),
+    (Call::Read, 2, 401),
     (Call::Write, 3, 3),
     (Call::SetLength, 2, 2),
 ];
@@ -95,7 +95,7 @@ fn ask(alloc: Global, pages: &mut MemPages, call: Call, slot: &Slot) -> Result<u
 {
     Ok(match call {
         Call::Info => read_info(pages, FILE)?.length as usize,
-        Call::Read => read_at(alloc, pages, FILE, 299, 700)?.len(),
+        Call::Read => read_at(alloc, pages, FILE, 700, 299, 700)?.len(),
         Call::Write => count_of(Some(write_at(alloc, pages, FILE, 300, &[2; 300], 9)?)),
         Call::SetLength => count_of(Some(set_length(alloc, pages, FILE, 900, 9)?)),
         _ => ask_directory(alloc, pages, call, slot)?,

@@ -1,0 +1,24 @@
+//! Tests of a store on a device in memory: changes and commits beside two plain maps, calls that are cut or fail, memory that
+//! is refused, and what is read.
+#![tactic(auto)]
+
+#[cfg(test)]
+mod appending;
+#[cfg(test)]
+mod committing;
+#[cfg(test)]
+mod cuts;
+#[cfg(test)]
+mod cutting;
+#[cfg(test)]
+mod edits;
+#[cfg(test)]
+mod opening;
+#[cfg(test)]
+mod plain;
+#[cfg(test)]
+mod random;
+#[cfg(test)]
+mod reading;
+#[cfg(test)]
+mod refusals;

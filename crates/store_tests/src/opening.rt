@@ -1,0 +1,110 @@
+// A store on a device in memory, as a scan finds it.
+ghost use Rattle.std.specs.Prelude.{◌≡◌, List, ℕ};
+ghost use Rattle.store_tests.specs.Stamped.{stamp_in};
+
+use crate::plain::Stamps;
+use chunk_index::KeyFilter;
+use flash_tree::Key;
+use nand_model::{Fate, Geometry, MemNand};
+use newest_pages::{NewestPages, open, the_opened_pages_are_the_newest};
+use objects::Store;
+use std::alloc::Global;
+use std::num::NonZeroUsize;
+use std::test::Fail;
+use test_store::{open_each, open_kept};
+
+/// What is to go wrong with a device.
+#[derive(Clone, Copy, Debug)]
+pub(crate) enum Trouble {
+    Nothing,
+    /// The power goes at this call since the power-up.
+    Cut(u64, Fate),
+    /// This call fails, if it is a program or an erase.
+    Failure(u64, Fate),
+}
+
+/// The device, of which this is to go wrong.
+pub(crate) fn troubled(alloc: Global, nand: MemNand, trouble: Trouble) -> Result<MemNand, Fail> {
+    Ok(match trouble {
+        Trouble::Nothing => nand,
+        Trouble::Cut(call, fate) => nand.with_fuse(call, vec![in alloc; fate; 32]?),
+        Trouble::Failure(call, fate) => {
+            let fates = vec![in alloc; fate; 32]?;
+            nand.with_failures(vec![in alloc; (call, fates)]?)
+        }
+    })
+}
+
+/// How many calls a device has counted once a store on it is opened.
+pub(crate) fn calls_when_opened(alloc: Global, nand: &MemNand) -> Result<u64, Fail> {
+    let mut copy = nand.copy()?;
+    let _opened = open(alloc, &mut copy)?;
+    Ok(copy.calls())
+}
+
+/// The stamp of a key.
+fn stamp_at(stamps: &[u32], key: Key) -> u32
+    ensures { result ≡ stamp_in stamps.now key.object key.chunk }
+{
+    if key.object == 0 || key.object > 4 || key.chunk >= 12 {
+        return 0;
+    }
+    match stamps.get((key.chunk * 4 + key.object - 1) as usize) {
+        Some(stamp) => *stamp,
+        None => 0,
+    }
+}
+
+/// Keeps the keys that have a page in a map.
+#[derive(Drop)]
+struct Stamped<'a> {
+    stamps: &'a [u32],
+}
+
+impl KeyFilter for Stamped<'_> {
+    ghost use Rattle.store_tests.specs.Stamped.{is_stamped};
+
+    ghost keeps = { λ filter o c. is_stamped filter.stamps.now o c };
+
+    fn keeps(&self, key: Key) -> bool {
+        stamp_at(self.stamps, key) != 0
+    }
+}
+
+/// An erased device of so many blocks of 32 pages of 512 bytes.
+pub(crate) fn erased(alloc: Global, blocks: u32) -> Result<MemNand, Fail> {
+    Ok(MemNand::new(alloc, Geometry::new(512, 32, blocks)?)?)
+}
+
+/// A store of the newest pages of a device, with so many blocks to spare and so many pages in the cache.
+pub(crate) fn open_store(
+    alloc: Global,
+    nand: MemNand,
+    spare: u32,
+    capacity: usize,
+) -> Result<Store<MemNand>, Fail> {
+    let capacity = NonZeroUsize::new(capacity).ok_or("no cache")?;
+    Ok(open_each(alloc, nand, spare, capacity)?)
+}
+
+/// The same of the keys alone that have a page in a map.
+pub(crate) fn open_stamped(
+    alloc: Global,
+    nand: MemNand,
+    map: &Stamps,
+    spare: u32,
+    capacity: usize,
+) -> Result<Store<MemNand>, Fail> {
+    let capacity = NonZeroUsize::new(capacity).ok_or("no cache")?;
+    Ok(open_kept(alloc, nand, &Stamped { stamps: map }, spare, capacity)?)
+}
+
+/// The newest pages of a device, by a scan.
+pub(crate) fn scanned(alloc: Global, mut nand: MemNand) -> Result<NewestPages<MemNand>, Fail> {
+    the_opened_pages_are_the_newest();
+    let opened = open(alloc, &mut nand)?;
+    match NewestPages::new(alloc, nand, opened.index) {
+        Ok(pages) => Ok(pages),
+        Err((_, refused)) => Err(refused.into()),
+    }
+}

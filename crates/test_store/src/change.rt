@@ -1,0 +1,80 @@
+// Changes that a store can take.
+ghost use Rattle.std.specs.Prelude.{◌≡◌, ◌≤◌, IsTrue, IfOk, length};
+ghost use Rattle.pages.specs.Changes.{AreApart, AreSized, AreOfObjects};
+ghost use Rattle.page_buffer.specs.BufferOf.{most_pages};
+
+use flash_tree::FreshPage;
+use nand_model::Nand;
+use objects::Store;
+use pages::{Change, Cut, PageStore, Pages};
+use std::alloc::{AllocError, Global};
+
+/// A change whose pages are of different keys.
+#[derive(Drop)]
+pub struct Apart {
+    pub change: Change,
+    ghost apart: { AreApart change.pages.items },
+}
+
+/// The change of one page.
+fn of_page(alloc: Global, page: FreshPage) -> Result<Change, AllocError>
+    ensures { IfOk result (λ change. AreApart change.pages.items) }
+{
+    Ok(Change {
+        pages: vec![in alloc; page]?,
+        cuts: Vec::new(alloc),
+    })
+}
+
+impl Apart {
+    /// What a cut takes, and nothing else.
+    pub fn new(alloc: Global, cut: Option<Cut>) -> Result<Apart, AllocError> {
+        let mut change = Change::none(alloc);
+        if let Some(cut) = cut {
+            change.cuts.push(cut)?;
+        }
+        Ok(Apart { change })
+    }
+
+    /// The change, and then this page. An earlier page of its key goes.
+    pub fn with(self, alloc: Global, page: FreshPage) -> Result<Apart, AllocError> {
+        let next = of_page(alloc, page)?;
+        let change = self.change.then(next)?;
+        Ok(Apart { change })
+    }
+}
+
+/// Whether all pages have so many bytes.
+fn are_sized(pages: &[FreshPage], size: u32) -> bool
+    ensures { IsTrue result → AreSized pages.now size }
+{
+    for page in pages {
+        if page.bytes.len() != size as usize {
+            return false;
+        }
+    }
+    true
+}
+
+/// Whether all pages are of objects.
+fn are_of_objects(pages: &[FreshPage]) -> bool
+    ensures { IsTrue result → AreOfObjects pages.now }
+{
+    for page in pages {
+        if page.key.object == 0 {
+            return false;
+        }
+    }
+    true
+}
+
+/// Whether a store can take a change: its pages are of the store's size and of objects, and there are not too many.
+pub fn fits<N: Nand>(store: &Store<N>, change: &Change) -> bool
+    ensures size { IsTrue result → AreSized change.now.pages.items (N.state store.now.device).geometry.bytes }
+    ensures few { IsTrue result → length change.now.pages.items ≤ most_pages store.now.buffer }
+    ensures objects { IsTrue result → AreOfObjects change.now.pages.items }
+{
+    change.pages.len() <= store.most_pages() as usize
+        && are_sized(&change.pages, store.page_bytes())
+        && are_of_objects(&change.pages)
+}

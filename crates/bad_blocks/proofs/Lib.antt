@@ -1,4 +1,5 @@
 pub mod Free
+pub mod Turning
 pub mod KeptPages
 pub mod Keeping
 pub mod Writing

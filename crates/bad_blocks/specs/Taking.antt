@@ -29,6 +29,22 @@ pub record Takes (block : ℕ) (device : Device) (old new : Table) : Type 0 wher
   pub next_seq : new.next_seq ≡ old.next_seq + 1
   pub below : device.honest ≡ true → AreBelow device.flash old.next_group old.next_seq
 
+-- the block was without a kept page, and is good afterwards
+pub record CouldBeTaken (old new : Table) (k : ℕ) : Type 0 where
+  pub within : k < old.geometry.blocks
+  pub unkept : (old.entry k).kept ≡ 0
+  pub good : (new.entry k).bad ≡ false
+
+-- It was the block's turn: of those that could be taken none was taken longer ago, and of those taken as long ago, which are
+-- those never taken, it is the first.
+pub record IsItsTurn (block : ℕ) (old new : Table) : Type 0 where
+  pub oldest : (k : ℕ) → CouldBeTaken old new k → (old.entry block).seq ≤ (old.entry k).seq
+  pub lowest : (k : ℕ) → CouldBeTaken old new k → (old.entry k).seq ≡ (old.entry block).seq → block ≤ k
+
+-- each block has the number that it got when it was last taken
+abbrev pub SameSeqs : Table → Table → Type 0
+SameSeqs old new = (b : ℕ) → (new.entry b).seq ≡ (old.entry b).seq
+
 -- no block is open, and no number was used
 pub record TakesNone (old new : Table) : Type 0 where
   pub open_block : new.open_block ≡ None
@@ -39,6 +55,12 @@ abbrev pub TriesOne : Device → Table → Table → Result Tried Gone → Type 
 TriesOne device old new (Ok (tries.Taken block)) = Takes block device old new × (device.gone ≡ false)
 TriesOne device old new (Ok tries.Marked) = TakesNone old new × (bad_count new ≡ bad_count old + 1) × (device.gone ≡ false)
 TriesOne device old new (Err gone) = TakesNone old new × (device.gone ≡ true)
+
+-- a block that is taken was at its turn, and the mark of one leaves the turns of the others
+abbrev pub TakesTurn : Table → Table → Result Tried Gone → Type 0
+TakesTurn old new (Ok (tries.Taken block)) = IsItsTurn block old new
+TakesTurn old new (Ok tries.Marked) = SameSeqs old new
+TakesTurn old new (Err gone) = Unit {0}
 
 -- where a block is taken, as many are bad as before
 abbrev pub AsManyBad : Table → Table → Result Tried Gone → Type 0

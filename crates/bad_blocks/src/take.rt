@@ -1,12 +1,12 @@
 // The taking of a block.
-ghost use Rattle.std.specs.Prelude.{◌≡◌, ◌<◌, ◌≤◌, ◌^◌, ℕ, None, OnOk};
+ghost use Rattle.std.specs.Prelude.{◌≡◌, ◌<◌, ◌≤◌, ◌^◌, ℕ, None, IfOk, OnOk};
 ghost use Rattle.nand_model.specs.Calls.{Lasts};
 ghost use Rattle.block_state.specs.Kept.{bad_count};
 ghost use Rattle.block_state.specs.TableOf.{table};
 ghost use Rattle.transactions.specs.Handing.{HandsOut};
 ghost use Rattle.transactions.specs.Ready.{IsReady};
 ghost use Rattle.bad_blocks.specs.Passing.{Passes};
-ghost use Rattle.bad_blocks.specs.Taking.{HasUnkept, TriesOne, AsManyBad, TakeEnds, CostsATry, CostsATake};
+ghost use Rattle.bad_blocks.specs.Taking.{HasUnkept, IsItsTurn, TakesTurn, TriesOne, AsManyBad, TakeEnds, CostsATry, CostsATake};
 
 use block_state::Blocks;
 use nand_model::{EraseFault, Gone, Nand};
@@ -43,6 +43,7 @@ fn try_block<N: Nand>(device: &mut N, blocks: &mut Blocks) -> Result<Tried, Gone
     ensures passes { Passes (N.state device.old) (N.state device.new) (table blocks.old) (table blocks.new) }
     ensures costs { CostsATry (N.state device.old) (N.state device.new) result }
     ensures few { AsManyBad (table blocks.old) (table blocks.new) result }
+    ensures turn { TakesTurn (table blocks.old) (table blocks.new) result }
     ensures ends { TriesOne (N.state device.new) (table blocks.old) (table blocks.new) result }
 {
     let Some(block) = blocks.next_free() else {
@@ -73,6 +74,7 @@ pub fn take_block<N: Nand>(
     ensures passes { Passes (N.state device.old) (N.state device.new) (table blocks.old) (table blocks.new) }
     ensures costs { CostsATake (N.state device.old) (N.state device.new) }
     ensures few { OnOk result (bad_count (table blocks.new) ≤ spare) }
+    ensures turn { IfOk result (λ block. IsItsTurn block (table blocks.old) (table blocks.new)) }
     ensures ends { TakeEnds spare (N.state device.new) (table blocks.old) (table blocks.new) result }
 {
     blocks.close();

@@ -1,5 +1,5 @@
 // The table of descriptors: it takes memory when it is made, and none later.
-ghost use Rattle.std.specs.Prelude.{◌≡◌, ◌≢◌, ◌<◌, Some, None, length, IfOk, MatchBool, not};
+ghost use Rattle.std.specs.Prelude.{◌≡◌, ◌≢◌, ◌<◌, ◌≤◌, Some, None, length, IfOk, MatchBool, not};
 ghost use Rattle.std.specs.Option.{option_map};
 ghost use Rattle.std.specs.FinMap as map;
 ghost use Rattle.posix_profile.specs.Changes.{free_descriptor};
@@ -60,7 +60,8 @@ impl DescriptorTable {
 
     /// The descriptor stands for this. One that there is not stays as it is.
     pub fn put(&mut self, fd: u32, description: OpenDescription)
-        ensures { fd < 64 → handles_in self.new ≡ map.insert (handles_in self.old) fd (handle_of description) }
+        ensures puts { fd < 64 → handles_in self.new ≡ map.insert (handles_in self.old) fd (handle_of description) }
+        ensures stays { 64 ≤ fd → handles_in self.new ≡ handles_in self.old }
     {
         if fd < DESCRIPTORS {
             self.slots[fd as usize] = Some(description);

@@ -151,7 +151,8 @@ impl<S: ObjectStore> Volume<S> {
 
     /// A volume over another store, with the same descriptors: it goes on, or is stopped, as this one.
     pub fn copy_over(&self, store: S) -> Result<Volume<S>, (S, AllocError)>
-        ensures { IfOk result (λ copy. (store_of copy ≡ store) × (handles_of copy ≡ handles_of self.now) × (is_read_only copy ≡ is_read_only self.now) × (is_stopped copy ≡ is_stopped self.now)) }
+        ensures volume { IfOk result (λ copy. (store_of copy ≡ store) × (handles_of copy ≡ handles_of self.now) × (is_read_only copy ≡ is_read_only self.now) × (is_stopped copy ≡ is_stopped self.now)) }
+        ensures given_back { IfErr result (λ back. back.0 ≡ store) }
     {
         match self.table.copy(self.alloc) {
             Ok(table) => Ok(Volume {

@@ -1,4 +1,4 @@
-use Rattle.std.proofs.Common.{◌≤◌, ◌∙◌, sym, subst, arith, rules}
+use Rattle.std.proofs.Common.{◌≤◌, ◌∙◌, sym, ap, subst, arith, rules}
 use Rattle.nand_model.specs.laws.Calls.{lasts_on}
 use Rattle.block_state.specs.Kept.{bad_count}
 use Rattle.block_state.specs.Table.{Table}
@@ -7,6 +7,7 @@ use Rattle.transactions.specs.Ready.{IsReady}
 use Rattle.transactions.specs.laws.Handing.{hands_on, hands_closed}
 use Rattle.transactions.specs.laws.Ready.{ready_closed}
 use Rattle.bad_blocks.specs.laws.Passing.{passes_on, passes_closed, takes_from}
+use Rattle.bad_blocks.proofs.Turning.{turn_from}
 use Rattle.bad_blocks.proofs.take.take_block.Goals as goal
 
 pub returns-then-next_seq-ge-LIMIT-clause-ready : goal.returns-then-next_seq-ge-LIMIT-clause-ready
@@ -24,6 +25,7 @@ loop-block-init g c = record {
   none = search rules;
   costs = omega arith;
   few = subst (λ (x : Table). bad_count x ≤ c.args.spare) (sym c.close.ensures) c.requires.some.bad;
+  seqs = λ b. ap (λ (x : Table). (x.entry b).seq) c.close.ensures;
 }
 
 pub loop-block-preserved : goal.loop-block-preserved
@@ -38,6 +40,7 @@ loop-block-preserved g c =
       none = record { open_block = tried.ends.0.open_block; next_seq = tried.ends.0.next_seq ∙ so_far.none.next_seq };
       costs = omega (arith, so_far.costs, tried.costs);
       few = search rules;
+      seqs = λ b. tried.turn b ∙ so_far.seqs b;
     }
 
 pub returns-in-Ok-Taken-clause-passes : goal.returns-in-Ok-Taken-clause-passes
@@ -90,3 +93,9 @@ pub returns-in-Err-clause-numbers : goal.returns-in-Err-clause-numbers
 returns-in-Err-clause-numbers g c =
     let so_far = c.loop-block.invariant in
     hands_on _ _ _ (table c.args.blocks.now) (table c.loop-block.blocks) _ so_far.lasts c.try_block.ensures.lasts so_far.numbers c.try_block.ensures.numbers
+
+pub returns-in-Ok-Taken-clause-turn : goal.returns-in-Ok-Taken-clause-turn
+returns-in-Ok-Taken-clause-turn g c =
+    let so_far = c.loop-block.invariant in
+    let took = rw c.in-Ok-Taken.field-0-is at c.in-Ok-Taken.ensures in
+    turn_from _ _ _ _ _ _ so_far.passes so_far.seqs took.turn

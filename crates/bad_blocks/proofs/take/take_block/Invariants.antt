@@ -5,7 +5,7 @@ use Rattle.block_state.specs.TableOf.{table}
 use Rattle.transactions.specs.Handing.{HandsOut}
 use Rattle.transactions.specs.Ready.{IsReady}
 use Rattle.bad_blocks.specs.Passing.{Passes}
-use Rattle.bad_blocks.specs.Taking.{TakesNone}
+use Rattle.bad_blocks.specs.Taking.{SameSeqs, TakesNone}
 use Rattle.bad_blocks.proofs.take.take_block.Given as goal
 
 abbrev pub invariant-loop-block : goal.invariant-loop-block
@@ -17,6 +17,7 @@ invariant-loop-block g l = record {
   none : TakesNone (table l.fn.blocks) (table l.blocks);
   costs : (g.N.Nand.state l.device).changes + 2 * (g.N.Nand.state l.fn.device).failures ≤ (g.N.Nand.state l.fn.device).changes + 2 * (g.N.Nand.state l.device).failures;
   few : bad_count (table l.blocks) ≤ l.spare;
+  seqs : SameSeqs (table l.fn.blocks) (table l.blocks);
 }
 
 abbrev pub decreases-loop-block : goal.decreases-loop-block

@@ -7,6 +7,7 @@ use Rattle.transactions.specs.Marking.{NotesMark}
 use Rattle.transactions.specs.laws.Handing.{hands_on}
 use Rattle.bad_blocks.specs.laws.Passing.{passes_on, passes_erased, passes_opened, passes_marked, same_opened}
 use Rattle.bad_blocks.proofs.Free.{was_unkept, one_more, erase_costs, mark_costs}
+use Rattle.bad_blocks.proofs.Turning.{opened_in_turn, seqs_marked}
 use Rattle.bad_blocks.proofs.take.try_block.Goals as goal
 
 pub unreachable-requires : goal.unreachable-requires
@@ -114,3 +115,14 @@ returns-in_ok-mark_block-in-Err-Failed-clause-numbers g c =
     let erased = c.erase_and_open.ensures in
     let marked = c.mark_block.ensures in
     hands_on _ _ _ (table c.args.blocks.now) (table c.erase_and_open.new.blocks) _ erased.erases.lasts marked.marks.lasts erased.numbers marked.numbers
+
+pub returns-in-Ok-clause-turn : goal.returns-in-Ok-clause-turn
+returns-in-Ok-clause-turn g c = opened_in_turn c.in-Some.block (table c.args.blocks.now) _ c.requires.closed c.in-Some.ensures.found c.in-Ok.ensures.opens
+
+pub returns-in_ok-mark_block-in-Err-Failed-clause-turn : goal.returns-in_ok-mark_block-in-Err-Failed-clause-turn
+returns-in_ok-mark_block-in-Err-Failed-clause-turn g c =
+    let t : Table = table c.args.blocks.now in
+    let block : ℕ = c.in-Some.block in
+    let erased = rw c.in-Err-Failed.field-0-is at c.in-Err-Failed.ensures in
+    let notes = subst (λ (x : Table). NotesMark block (g.N.Nand.state c.mark_block.new.device).flash x (table c.mark_block.new.blocks)) erased.unchanged c.mark_block.ensures.notes in
+    seqs_marked block _ t _ notes

@@ -1,3 +1,2 @@
 pub mod ReadOnly
-pub mod Mounted
 pub mod laws

@@ -1,3 +1,2 @@
 pub mod OneProof
 pub mod Sound
-pub mod Mounted

@@ -1,7 +1,6 @@
 // The pages of a mounted volume.
 ghost use Rattle.std.specs.Prelude.{◌≡◌};
-ghost use Rattle.flash_pages.specs.Mounted.{mounted_state};
-ghost use Rattle.flash_pages.specs.laws.Mounted.{mounted_sized, mounted_lost};
+ghost use Rattle.flash_pages.specs.declared.mounted.FlashPages.TheVariants as kinds;
 
 use crate::read_only::ReadOnlyPages;
 use flash_tree::Key;
@@ -17,7 +16,6 @@ pub enum FlashPages<N: Nand> {
     ReadOnly(ReadOnlyPages<N>),
 }
 
-#[tactic(auto, unfolding(crate::specs::Mounted::mounted_state))]
 impl<N: Nand> FlashPages<N> {
     /// The device, as it is.
     pub fn into_device(self) -> N
@@ -30,11 +28,10 @@ impl<N: Nand> FlashPages<N> {
     }
 }
 
-#[tactic(auto, unfolding(crate::specs::Mounted::mounted_state))]
 impl<N: Nand> Pages for FlashPages<N> {
-    ghost state = { mounted_state };
+    ghost state = { elim [ kinds.Store store ↦ ⟦<Store<N> as Pages>⟧.state store | kinds.ReadOnly pages ↦ ⟦<ReadOnlyPages<N> as Pages>⟧.state pages ] };
 
-    ghost sized = { mounted_sized };
+    ghost sized = { elim [ kinds.Store s ↦ ((N.state s.device).geometry.least_bytes, (N.state s.device).geometry.most_bytes) | kinds.ReadOnly s ↦ ((N.state s.pages.device).geometry.least_bytes, (N.state s.pages.device).geometry.most_bytes) ] };
 
     fn page_bytes(&self) -> u32 {
         match self {
@@ -58,9 +55,14 @@ impl<N: Nand> Pages for FlashPages<N> {
     }
 }
 
-#[tactic(auto, unfolding(crate::specs::Mounted::mounted_state))]
 impl<N: Nand> PageStore for FlashPages<N> {
-    ghost lost = { mounted_lost };
+    ghost use Rattle.objects.specs.laws.Sound.{lost_alone};
+    ghost use Rattle.flash_pages.specs.laws.Sound.{lost_reading};
+
+    ghost lost = { elim [
+      | kinds.Store s ↦ λ sound failed. lost_alone (N.state s.device).gone (N.state s.device).honest s.broken sound failed
+      | kinds.ReadOnly s ↦ λ sound failed. lost_reading (N.state s.pages.device).gone (N.state s.pages.device).honest s.refused_change sound failed
+    ] };
 
     fn most_pages(&self) -> u32 {
         match self {

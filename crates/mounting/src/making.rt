@@ -81,7 +81,6 @@ fn read_pages<N: Nand>(alloc: Global, on: TreeOn<N>) -> Result<ReadOnlyPages<N>,
 }
 
 /// The pages of a device, which are only read where it is worn. Where memory is refused the device is given back.
-#[tactic(auto, unfolding(flash_pages::specs::Mounted::mounted_state))]
 pub(crate) fn make_pages<N: Nand>(
     alloc: Global,
     on: TreeOn<N>,

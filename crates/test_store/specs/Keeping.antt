@@ -1,5 +1,5 @@
 -- The tables of a device of which some of the newest pages are kept.
-use Rattle.std.specs.Prelude.{◌≡◌, ◌<◌, ℕ, true, Some, None}
+use Rattle.std.specs.Prelude.{◌≡◌, ℕ, true, Some, None}
 use Rattle.nand_model.specs.Calls.{Device}
 use Rattle.flash_tree.specs.Newest.{Numbers}
 use Rattle.block_state.specs.Table.{Table}

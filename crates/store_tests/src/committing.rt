@@ -5,7 +5,6 @@ use crate::opening::{erased, open_store, scanned};
 use crate::plain::{Plain, Stamps, Step, read_all, take_step};
 use nand_model::MemNand;
 use objects::Store;
-use pages::PageStore;
 use std::alloc::Global;
 use std::process::Abort;
 use std::test::Fail;
@@ -22,34 +21,6 @@ fn change_and_commit(
         let taken = take_step(rt, alloc, store, plain, next)?;
         assert_eq!(rt; taken, Ok(()), "{next:?}");
     }
-    Ok(())
-}
-
-/// The calls of a device after its store was opened, committed so many times and closed, with two pages written.
-fn calls_after(rt: &impl Abort, alloc: Global, commits: u32) -> Result<u64, Fail> {
-    let mut store = open_store(alloc, erased(alloc, 5)?, 1, 1)?;
-    let mut plain = Plain::new([0; KEYS]);
-    let edit = Edit {
-        cut: None,
-        first: 3,
-        count: 2,
-        stamp: 7,
-    };
-    assert_eq!(rt; store.commit(), Ok(()));
-    change_and_commit(rt, alloc, &mut store, &mut plain, edit)?;
-    for _commit in 0..commits {
-        assert_eq!(rt; store.commit(), Ok(()));
-    }
-    assert!(rt; plain.has_none());
-    Ok(store.into_device().calls())
-}
-
-#[test]
-fn a_commit_of_nothing_makes_no_call(rt: HostRuntime) -> Result<(), Fail> {
-    let alloc = rt.alloc();
-    let calls = calls_after(&rt, alloc, 0)?;
-    assert_eq!(rt; calls_after(&rt, alloc, 1)?, calls);
-    assert_eq!(rt; calls_after(&rt, alloc, 5)?, calls);
     Ok(())
 }
 

@@ -18,9 +18,9 @@ use volume_terms::StoreFault;
 const SPARE: u32 = 1;
 
 /// How many parts the run has, between which the power goes, and how many steps a part has.
-const PARTS: u32 = 20;
+const PARTS: u32 = 5;
 
-const STEPS: u32 = 100;
+const STEPS: u32 = 400;
 
 /// How many steps the run goes on with after a power-up.
 const FURTHER: u32 = 40;
@@ -50,14 +50,14 @@ struct Ended {
 }
 
 /// Whether calls are cut, or fail.
-#[derive(Clone, Copy, Debug)]
+#[derive(Clone, Copy)]
 enum Way {
     Cut,
     Failure,
 }
 
 /// The calls of a part of the run: those after the first ones, up to the last one. So many are programs and erases.
-#[derive(Clone, Copy, Debug)]
+#[derive(Clone, Copy)]
 struct Calls {
     first: u64,
     last: u64,

@@ -1,9 +1,9 @@
 // Cuts of present pages.
 
 use crate::edits::{Edit, KEYS};
-use crate::opening::{Trouble, calls_when_opened, erased, open_store, scanned, troubled};
+use crate::opening::{erased, open_store, scanned};
 use crate::plain::{Plain, Stamps, Step, read, read_all, take_step};
-use nand_model::{Fate, MemNand};
+use nand_model::MemNand;
 use objects::Store;
 use pages::{Cut, PageStore};
 use std::alloc::Global;
@@ -111,18 +111,5 @@ fn what_is_cut_in_the_buffer_is_not_written(rt: HostRuntime) -> Result<(), Fail>
     take_all(&rt, alloc, &mut store, &steps)?;
     assert_eq!(rt; stamps(&mut store), Ok([30, 0, 32]));
     assert_eq!(rt; found(alloc, store.into_device())?, [30, 11, 32]);
-    Ok(())
-}
-
-#[test]
-fn a_broken_store_does_not_cut(rt: HostRuntime) -> Result<(), Fail> {
-    let alloc = rt.alloc();
-    let nand = kept(&rt, alloc)?;
-    let call = calls_when_opened(alloc, &nand)?.saturating_add(1);
-    let nand = troubled(alloc, nand, Trouble::Cut(call, Fate::Old))?;
-    let mut store = open_store(alloc, nand, 2, 4)?;
-    take_all(&rt, alloc, &mut store, &[Step::Change(one(CHUNKS[0], 20))])?;
-    assert_eq!(rt; store.commit(), Err(StoreFault::Device));
-    assert_eq!(rt; store.cut(TAIL), Err(StoreFault::Device));
     Ok(())
 }

@@ -16,7 +16,7 @@ const MOST: usize = 8;
 pub(crate) type Stamps = [u32; KEYS];
 
 /// What is kept, what is present, and which keys are buffered.
-#[derive(Clone, Copy, Debug)]
+#[derive(Clone, Copy)]
 pub(crate) struct Plain {
     pub kept: Stamps,
     pub present: Stamps,
@@ -47,11 +47,6 @@ impl Plain {
             present: kept,
             buffered: [false; KEYS],
         }
-    }
-
-    /// Whether nothing is buffered.
-    pub fn has_none(&self) -> bool {
-        !self.buffered.iter().any(|buffered| *buffered)
     }
 
     pub fn commit(&mut self) {

@@ -65,30 +65,3 @@ fn a_page_in_the_cache_is_not_read_again(rt: HostRuntime) -> Result<(), Fail> {
     }
     Ok(())
 }
-
-#[test]
-fn what_was_committed_is_in_the_cache(rt: HostRuntime) -> Result<(), Fail> {
-    let alloc = rt.alloc();
-    let nand = file(&rt, alloc)?;
-    let opened = open_store(alloc, nand.copy()?, 2, 1)?.into_device();
-    let mut store = open_store(alloc, nand, 2, 1)?;
-    let mut plain = Plain::new([0; KEYS]);
-    plain.present[SECOND] = 6;
-    for stamp in 10..20u32 {
-        let edit = Edit {
-            cut: None,
-            first: SECOND,
-            count: 1,
-            stamp,
-        };
-        for next in [Step::Read(SECOND), Step::Change(edit), Step::Commit] {
-            let taken = take_step(&rt, alloc, &mut store, &mut plain, next)?;
-            assert_eq!(rt; taken, Ok(()), "{next:?}");
-        }
-    }
-    let nand = store.into_device();
-    let calls = nand.calls().saturating_sub(opened.calls());
-    let changes = nand.changes().saturating_sub(opened.changes());
-    assert_eq!(rt; calls.saturating_sub(changes), 1);
-    Ok(())
-}

@@ -2,7 +2,7 @@
 use line_shell::{Line, parse, write_reply};
 use nand_model::{Fate, Geometry, MemNand};
 use posix_calls::{Stamped, format};
-use powercut::{Session, SessionEnd};
+use powercut::{Session, SessionEnd, live};
 use std::alloc::Global;
 use std::test::Fail;
 
@@ -61,6 +61,15 @@ pub(crate) fn cut_session(
     let mut cut = session(alloc, lines)?;
     cut.fuse = Some((call, fates.to_vec(alloc)?));
     Ok(cut)
+}
+
+/// Lives through the sessions. It says nothing of what `live` promises, so that what calls it is checked fast.
+pub(crate) fn live_through(
+    alloc: Global,
+    nand: MemNand,
+    sessions: &[Session],
+) -> Result<(MemNand, Vec<SessionEnd>), Fail> {
+    Ok(live(alloc, nand, sessions)?)
 }
 
 /// What a session was told, line by line.

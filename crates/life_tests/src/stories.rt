@@ -1,7 +1,7 @@
 // Stories of three sessions: the second is cut at each of its last calls, and the third tells what is left.
-use crate::lines::{cut_session, formatted, repeated, session, told};
+use crate::lines::{cut_session, formatted, live_through, repeated, session, told};
 use nand_model::{Fate, MemNand};
-use powercut::{Session, live};
+use powercut::Session;
 use std::alloc::Global;
 use std::process::Abort;
 use std::test::Fail;
@@ -30,7 +30,7 @@ struct Story<'a> {
 /// How many calls of the device a session makes, from its power-up on.
 fn calls_of(alloc: Global, nand: &MemNand, lines: &[&str]) -> Result<u64, Fail> {
     let sessions = vec![in alloc; session(alloc, lines)?]?;
-    let (nand, _ends) = live(alloc, nand.copy()?, &sessions)?;
+    let (nand, _ends) = live_through(alloc, nand.copy()?, &sessions)?;
     Ok(nand.calls())
 }
 
@@ -59,7 +59,7 @@ fn left_by(
     story: Story<'_>,
     sessions: &[Session],
 ) -> Result<Left, Fail> {
-    let (_nand, ends) = live(alloc, nand.copy()?, sessions)?;
+    let (_nand, ends) = live_through(alloc, nand.copy()?, sessions)?;
     let (Some(first), Some(last)) = (ends.first(), ends.last()) else {
         return Err("a session has no end".into());
     };
@@ -127,7 +127,7 @@ fn a_renamed_file_takes_the_place_of_another_at_once(rt: HostRuntime) -> Result<
             ]
         )?,
     ]?;
-    let (nand, _ends) = live(alloc, formatted(alloc)?, &files)?;
+    let (nand, _ends) = live_through(alloc, formatted(alloc)?, &files)?;
     let story = Story {
         before: &["rename /x /y"],
         all: &["rename /x /y", "sync"],
@@ -152,7 +152,7 @@ fn a_volume_that_lost_its_spare_block_is_only_read(rt: HostRuntime) -> Result<()
         let one = vec![in alloc; (third, vec![in alloc; fate]?)]?;
         let mut sync = session(alloc, &["mkdir /a", "sync"])?;
         sync.failures = one;
-        let (after, ends) = live(alloc, nand.copy()?, &vec![in alloc; sync]?)?;
+        let (after, ends) = live_through(alloc, nand.copy()?, &vec![in alloc; sync]?)?;
         let Some(end) = ends.first() else {
             return Err("a session has no end".into());
         };
@@ -164,7 +164,7 @@ fn a_volume_that_lost_its_spare_block_is_only_read(rt: HostRuntime) -> Result<()
             (second, vec![in alloc; Fate::Uncorrectable]?),
         ]?;
         let looks = session(alloc, &["list /", "mkdir /c"])?;
-        let (_nand, ends) = live(alloc, nand.copy()?, &vec![in alloc; both, looks]?)?;
+        let (_nand, ends) = live_through(alloc, nand.copy()?, &vec![in alloc; both, looks]?)?;
         let (Some(first), Some(last)) = (ends.first(), ends.last()) else {
             return Err("a session has no end".into());
         };
@@ -189,7 +189,7 @@ fn full(alloc: Global) -> Result<MemNand, Fail> {
     }
     lines.push("sync")?;
     let sessions = vec![in alloc; session(alloc, &lines)?]?;
-    let (nand, _ends) = live(alloc, formatted(alloc)?, &sessions)?;
+    let (nand, _ends) = live_through(alloc, formatted(alloc)?, &sessions)?;
     Ok(nand)
 }
 
@@ -212,7 +212,7 @@ fn a_cut_collection_loses_no_file(rt: HostRuntime) -> Result<(), Fail> {
             cut_session(alloc, &rounds, call, &fates)?,
             session(alloc, &["list /", "open /a r", "read 0 10"])?,
         ]?;
-        let (_nand, ends) = live(alloc, nand.copy()?, &sessions)?;
+        let (_nand, ends) = live_through(alloc, nand.copy()?, &sessions)?;
         let Some(last) = ends.last() else {
             return Err("a session has no end".into());
         };

@@ -1,0 +1,9 @@
+pub mod Bodies
+pub mod Created
+pub mod Cuts
+pub mod Front
+pub mod Heads
+pub mod InTurn
+pub mod Opened
+pub mod Puts
+pub mod Slots

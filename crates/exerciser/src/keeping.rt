@@ -43,11 +43,22 @@ fn follow(tree: &mut PlainTree, stamped: &Stamped, reply: &Reply) -> Result<(), 
     }
 }
 
+/// Does the commands that were answered in the tree, in turn.
+fn follow_all(
+    tree: &mut PlainTree,
+    script: &[Stamped],
+    replies: &[Reply],
+) -> Result<(), AllocError> {
+    for (stamped, reply) in script.iter().zip(replies) {
+        follow(tree, stamped, reply)?;
+    }
+    Ok(())
+}
+
 /// The least number of commands of a session after which its tree is that of the volume: from those that a done sync covers
 /// to those that were begun. `before` is the tree before the session, and `end` how the session ended that was asked these
 /// commands; those answered ENOMEM or EIO change nothing. None where there is no such number. The volume, which needs a free
 /// descriptor, is read by its commands and not changed.
-#[tactic(auto, using(crate::proofs::Covering::covers_more))]
 pub fn kept<V: Answers>(
     before: &PlainTree,
     script: &[Stamped],
@@ -60,12 +71,15 @@ pub fn kept<V: Answers>(
 {
     let mut tree = before.copy()?;
     let covered = covered(script, &end.replies);
+    follow_all(&mut tree, &script[..covered], &end.replies[..covered])?;
     let answered = script.len().min(end.replies.len());
-    for done in 0..answered {
-        if done >= covered && tree.same(volume)? {
+    for done in covered..answered + 1 {
+        if tree.same(volume)? {
             return Ok(Some(done as u64));
         }
-        follow(&mut tree, &script[done], &end.replies[done])?;
+        if done < answered {
+            follow(&mut tree, &script[done], &end.replies[done])?;
+        }
     }
-    Ok(tree.same(volume)?.then_some(answered as u64))
+    Ok(None)
 }

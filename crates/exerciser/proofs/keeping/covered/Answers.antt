@@ -17,7 +17,7 @@ loop-place-preserved c =
           arith,
           w.covered-is,
           covers_other c.args.script.now c.args.replies.now c.loop-place.place c.loop-place.covered c.index-script-place.result c.index-replies-place.result
-              c.loop-place.invariant.covers asked told (sym c.is_synced.ensures ∙ w.if-is_synced) i few sync,
+              c.loop-place.invariant.covers asked told (sym c.is_synced.ensures ∙ w.if-is_synced.false) i few sync,
         );
         within = omega (arith, w.covered-is, c.loop-place.invariant.within);
       }

@@ -1,5 +1,6 @@
-use Rattle.std.proofs.Common.{◌≡◌, ◌<◌, length, slice_get, Some, refl, sym, ◌∙◌, arith}
+use Rattle.std.proofs.Common.{◌≡◌, ◌<◌, length, slice_get, Some, refl, sym, ap, ◌∙◌, arith}
 use Rattle.std.proofs.lemmas.Option.{slice_get_read}
+use Rattle.posix_profile.specs.Losses.{is_synced}
 use Rattle.exerciser.proofs.Covering.{covers_other, covers_all}
 use Rattle.exerciser.proofs.keeping.covered.Goals.{then-is_synced, else-is_synced}
 use Rattle.exerciser.proofs.keeping.covered.Goals as goal
@@ -17,7 +18,7 @@ loop-place-preserved c =
           arith,
           w.covered-is,
           covers_other c.args.script.now c.args.replies.now c.loop-place.place c.loop-place.covered c.index-script-place.result c.index-replies-place.result
-              c.loop-place.invariant.covers asked told (sym c.is_synced.ensures ∙ w.if-is_synced.false) i few sync,
+              c.loop-place.invariant.covers asked told (ap (λ x. is_synced x.command c.index-replies-place.result) c.index-script-place.is ∙ sym c.is_synced.ensures ∙ w.if-is_synced.false) i few sync,
         );
         within = omega (arith, w.covered-is, c.loop-place.invariant.within);
       }

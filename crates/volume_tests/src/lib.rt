@@ -1,0 +1,26 @@
+//! Tests of a volume on a device in memory, by lines of a shell: what sessions are told, what is left where power goes or the
+//! device fails, flashes that no volume wrote, and a plain tree beside it.
+#![tactic(auto)]
+
+#[cfg(test)]
+mod altered;
+#[cfg(test)]
+mod caches;
+#[cfg(test)]
+mod devices;
+#[cfg(test)]
+mod failures;
+#[cfg(test)]
+mod losses;
+#[cfg(test)]
+mod put_pages;
+#[cfg(test)]
+mod random;
+#[cfg(test)]
+mod refused;
+#[cfg(test)]
+mod served;
+#[cfg(test)]
+mod sessions;
+#[cfg(test)]
+mod troubles;

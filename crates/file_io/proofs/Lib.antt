@@ -10,3 +10,4 @@ pub mod KeptPages
 pub mod WriteChunks
 pub mod WholeWrites
 pub mod Resized
+pub mod Holes

@@ -1,7 +1,7 @@
 -- The chunks of a file, counted from 0: chunk k of its bytes is chunk 1 + k of the object.
-use Rattle.std.specs.Prelude.{◌≡◌, ◌<◌, ◌≤◌, ◌⊎◌, ℕ, zero, suc, ◌+◌, ◌-◌, ◌*◌, ◌/◌, ◌%◌, true, List, ◌++◌, length, take, drop, slice_get, slice_index, Some}
+use Rattle.std.specs.Prelude.{◌≡◌, ◌<◌, ◌≤◌, ◌⊎◌, ℕ, zero, suc, ◌+◌, ◌-◌, ◌*◌, ◌/◌, ◌%◌, true, List, ◌++◌, length, take, drop, slice_get, slice_index, Option, Some, None}
 use Rattle.page_tags.specs.Headers.{is_present}
-use Rattle.pages.specs.Maps.{IsOf}
+use Rattle.pages.specs.Maps.{IsOf, PageMap}
 use Rattle.pages.specs.Changes.{AreApart}
 use Rattle.flash_tree.specs.declared.place.FreshPage.{FreshPage}
 
@@ -9,6 +9,16 @@ use Rattle.flash_tree.specs.declared.place.FreshPage.{FreshPage}
 abbrev pub chunks_over : ℕ → ℕ → ℕ → ℕ
 chunks_over d off zero = 0
 chunks_over d off (suc n) = (off + n) / d - off / d + 1
+
+-- 1 where there is a page
+abbrev pub one_page : Option (List ℕ) → ℕ
+one_page None = 0
+one_page (Some page) = 1
+
+-- how many of n chunks of an object, from chunk k on, have a page
+abbrev pub count_pages : PageMap → ℕ → ℕ → ℕ → ℕ
+count_pages m o k zero = 0
+count_pages m o k (suc n) = count_pages m o k n + one_page (m o (k + n))
 
 -- the page has the bytes of chunk k, and zeros where the file has none
 pub record HoldsChunk (d : ℕ) (bytes : List ℕ) (k : ℕ) (page : List ℕ) : Type 0 where

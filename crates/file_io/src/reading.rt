@@ -1,9 +1,9 @@
 // The reading of a file.
-ghost use Rattle.std.specs.Prelude.{◌≡◌, ◌<◌, ◌≤◌, ◌+◌, ◌-◌, ◌*◌, ◌++◌, ℕ, List, IfOk, IfErr, OnOk, length, min, take, drop, replicate};
+ghost use Rattle.std.specs.Prelude.{◌≡◌, ◌<◌, ◌≤◌, ◌+◌, ◌-◌, ◌*◌, ◌/◌, ◌++◌, ℕ, true, List, IfOk, IfErr, OnOk, length, min, take, drop, replicate};
 ghost use Rattle.volume_terms.specs.Sizes.{Sizes};
 ghost use Rattle.pages.specs.State.{OnlyFinds};
 ghost use Rattle.file_io.specs.Files.{FileIn, HasOnly};
-ghost use Rattle.file_io.specs.Chunks.{chunks_over};
+ghost use Rattle.file_io.specs.Chunks.{chunks_over, one_page, count_pages};
 ghost use Rattle.file_io.specs.Parts.{AppendsPart};
 ghost use Rattle.pages.specs.Faults.{MayLackMemory};
 
@@ -42,6 +42,7 @@ fn read_part<P: Pages>(
     requires ends { offset < index * (P.state pages.old).page_bytes + (P.state pages.old).page_bytes }
     ensures finds { OnlyFinds (P.state pages.old) (P.state pages.new) }
     ensures asked { (P.state pages.new).asked ≤ (P.state pages.old).asked + 1 }
+    ensures holes { (P.state pages.old).sound ≡ true → (P.state pages.new).asked ≤ (P.state pages.old).asked + one_page ((P.state pages.old).present object (1 + index)) }
     ensures part { (z : Sizes) (moment : ℕ) (all : List ℕ) (f : FileIn (P.state pages.old) z object moment all)
         → HasOnly (P.state pages.old).present object f.reads.fields → end ≤ length all
         → OnOk result (AppendsPart (P.state pages.old).page_bytes all index offset end bytes.old.items bytes.new.items) }
@@ -67,7 +68,7 @@ fn read_part<P: Pages>(
 
 /// The bytes of a file of this length from a place on, no more than `count` of them. A chunk without a page reads as zeros.
 ///
-/// Each chunk of the range is looked for, and the header is not.
+/// Each chunk of the range is looked for, and the header is not. No page is asked for a hole.
 pub fn read_at<P: Pages>(
     alloc: Global,
     pages: &mut P,
@@ -81,6 +82,8 @@ pub fn read_at<P: Pages>(
         → HasOnly (P.state pages.old).present object f.reads.fields → len ≡ length all
         → IfOk result (λ bytes. bytes.items ≡ take count (drop offset all)) }
     ensures asked { (P.state pages.new).asked ≤ (P.state pages.old).asked + chunks_over (P.state pages.old).page_bytes offset (min count (len - offset)) }
+    ensures holes { (P.state pages.old).sound ≡ true
+        → (P.state pages.new).asked ≤ (P.state pages.old).asked + count_pages (P.state pages.old).present object (1 + offset / (P.state pages.old).page_bytes) (chunks_over (P.state pages.old).page_bytes offset (min count (len - offset))) }
     ensures fault { IfErr result (MayLackMemory (P.state pages.new)) }
 {
     let page_bytes = u64::from(pages.page_bytes());

@@ -198,6 +198,15 @@ kept_lent a x pages lent o c at broken (Ok told) is sound there page =
     subst (FindsPage (known a.honest (present_data x pages a.flash)) o c lent) (sym there)
     (ap (λ h. known h (present_data x pages a.flash) o c) honest ∙ ap (data_by a.flash pages) is ∙ page (sound_whole a.honest broken sound) honest)
 
+-- and so it has one
+pub not_absent : (a : Device) (x : Index) (pages : List FreshPage) (o c : ℕ) (at : KeptPage) (broken : Bool) → present x o c ≡ presents.OnFlash at
+    → (broken ≡ false → a.honest ≡ true → AreKept a.flash (kept_pages x)) → (a.honest && not broken) ≡ true → known a.honest (present_data x pages a.flash) o c ≡ None → ⊥
+not_absent a x pages o c at broken is kept sound none =
+    let honest : a.honest ≡ true = sound_honest a.honest broken sound in
+    let here : known a.honest (present_data x pages a.flash) o c ≡ data_at a.flash at =
+    ap (λ h. known h (present_data x pages a.flash) o c) honest ∙ ap (data_by a.flash pages) is in
+    kept_written a.flash x o c at (kept (sound_whole a.honest broken sound) honest) (kept_there x o c at is) (sym here ∙ none)
+
 -- each fault has its cause
 pub fault_seen : (b : Device) (t : Table) (x : Index) (buffer : Buffer) (cache : PageCache) (scratch : List ℕ) (found : Found) (spare : ℕ) (broken refused : Bool) (result : Result Presence StoreFault)
     → IfErr result (IsFindFault b broken refused) → IfErr result (FailsBy (seen b t x buffer cache scratch found spare broken refused))

@@ -1,5 +1,5 @@
 -- Pages in memory.
-use Rattle.std.specs.Prelude.{ℕ, false, None}
+use Rattle.std.specs.Prelude.{false, None}
 use Rattle.std.proofs.Common.{refl, arith, inl}
 use Rattle.nand_model.specs.Size.{IsSize}
 use Rattle.nand_model.specs.Flash.{Flash, Erased}

@@ -1,7 +1,8 @@
 // Pages in memory, for tests.
-ghost use Rattle.std.specs.Prelude.{◌≡◌, ◌≤◌, ℕ, true, false, Some, None, IfOk, length};
+ghost use Rattle.std.specs.Prelude.{◌≡◌, ◌≤◌, ◌+◌, ℕ, true, false, Some, None, IfOk, IfErr, OnOk, length};
 ghost use Rattle.pages.specs.Maps.{changed};
 ghost use Rattle.pages.specs.Changes.{AreSized};
+ghost use Rattle.pages.specs.State.{FailsBy};
 
 use crate::change::{Change, place_of};
 use crate::store::{Pages, Presence};
@@ -16,7 +17,7 @@ pub enum Lack {
     Device,
 }
 
-/// The look-up of this number is refused, the first of all being 1.
+/// The look-up of this number is refused: those of keys that have a page are counted, and the first is 1.
 #[derive(Clone, Copy, Debug, PartialEq, Eq)]
 pub struct Refusal {
     pub number: u64,
@@ -104,7 +105,7 @@ impl MemPages {
         self.refusal = Some(refusal);
     }
 
-    /// How many look-ups there were.
+    /// How many look-ups of keys that have a page there were.
     pub fn finds(&self) -> u64
         ensures { result ≡ (kept self.now).asked }
     {
@@ -116,6 +117,36 @@ impl MemPages {
         match self.refusal {
             Some(refusal) if refusal.number == self.finds => Some(refusal.lack),
             _ => None,
+        }
+    }
+
+    /// Counts a look-up, and lends the page at this place, unless the look-up is refused.
+    fn look_up(&mut self, place: usize) -> Result<(), StoreFault>
+        ensures sizes { self.new.page_bytes ≡ self.old.page_bytes }
+        ensures pages { self.new.pages ≡ self.old.pages }
+        ensures blank { self.new.blank ≡ self.old.blank }
+        ensures refusal { self.new.refusal ≡ self.old.refusal }
+        ensures failed { self.old.failed ≡ true → self.new.failed ≡ true }
+        ensures refused { self.old.refused ≡ true → self.new.refused ≡ true }
+        ensures rises { self.old.finds ≤ self.new.finds }
+        ensures asked { self.new.finds ≤ self.old.finds + 1 }
+        ensures found { OnOk result (self.new.found ≡ place) }
+        ensures fault { IfErr result (FailsBy (kept self.new)) }
+    {
+        self.finds = self.finds.saturating_add(1);
+        match self.lacking() {
+            Some(Lack::Memory) => {
+                self.refused = true;
+                Err(StoreFault::NoMemory)
+            }
+            Some(Lack::Device) => {
+                self.failed = true;
+                Err(StoreFault::Device)
+            }
+            None => {
+                self.found = place;
+                Ok(())
+            }
         }
     }
 }
@@ -132,21 +163,9 @@ impl Pages for MemPages {
     }
 
     fn find(&mut self, key: Key) -> Result<Presence, StoreFault> {
-        self.finds = self.finds.saturating_add(1);
-        match self.lacking() {
-            Some(Lack::Memory) => {
-                self.refused = true;
-                return Err(StoreFault::NoMemory);
-            }
-            Some(Lack::Device) => {
-                self.failed = true;
-                return Err(StoreFault::Device);
-            }
-            None => {}
-        }
         match place_of(&self.pages, key) {
             Some(place) => {
-                self.found = place;
+                self.look_up(place)?;
                 Ok(Presence::Present)
             }
             None => Ok(Presence::Absent),

@@ -1,5 +1,5 @@
 // The trait of pages.
-ghost use Rattle.std.specs.Prelude.{◌≡◌, ◌≤◌, ◌+◌, true, length, IfOk, IfErr};
+ghost use Rattle.std.specs.Prelude.{◌≡◌, ◌≤◌, ◌+◌, true, None, length, IfOk, IfErr};
 ghost use Rattle.pages.specs.State.{PagesState, OnlyFinds, FindsPage, FailsBy};
 
 use flash_tree::Key;
@@ -23,10 +23,11 @@ pub trait Pages {
         ensures least { 512 ≤ result }
         ensures most { result ≤ 4096 };
 
-    /// Tells whether there is a page of the key; `page` lends it then.
+    /// Tells whether there is a page of the key; `page` lends it then. A key that has none is told without asking for a page.
     fn find(&mut self, key: Key) -> Result<Presence, StoreFault>
         ensures finds { OnlyFinds (state self.old) (state self.new) }
         ensures asked { (state self.new).asked ≤ (state self.old).asked + 1 }
+        ensures absent { (state self.old).sound ≡ true → (state self.old).present key.object key.chunk ≡ None → (state self.new).asked ≡ (state self.old).asked }
         ensures page { (state self.old).sound ≡ true → IfOk result (FindsPage (state self.old).present key.object key.chunk (state self.new).lent) }
         ensures fault { IfErr result (FailsBy (state self.new)) };
 

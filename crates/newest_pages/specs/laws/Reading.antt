@@ -90,6 +90,15 @@ some_or_none : {A : Type 0} (m : Option A) → IsSome m → m ≡ None → ⊥
 some_or_none None some is = absurd cc
 some_or_none (Some x) some is = absurd cc
 
+-- one that is kept has one
+pub not_absent : (a : Device) (x : Index) (o c : ℕ) (at : KeptPage) → kept_pages x o c ≡ Some at
+    → (a.honest ≡ true → (o c : ℕ) (k : KeptPage) → kept_pages x o c ≡ Some k → IsSome (data_at a.flash k))
+    → a.honest ≡ true → known_pages a.honest (kept_data x a.flash) o c ≡ None → ⊥
+not_absent a x o c at is written honest none =
+    let here : known_pages a.honest (kept_data x a.flash) o c ≡ data_at a.flash at =
+    ap (λ h. known_pages h (kept_data x a.flash) o c) honest ∙ ap (option_and_then (data_at a.flash)) is in
+    some_or_none (data_at a.flash at) (written honest o c at is) (sym here ∙ none)
+
 -- each fault has its cause
 pub fault_seen : (a b : Device) (x y : Index) (page : List ℕ) (o c : ℕ) (at : KeptPage) (result : Result Presence StoreFault) → OnlyReads a b → kept_pages x o c ≡ Some at
     → (a.honest ≡ true → (o c : ℕ) (k : KeptPage) → kept_pages x o c ≡ Some k → IsSome (data_at a.flash k))

@@ -4,6 +4,9 @@ use Rattle.pages.specs.laws.State.{finds_on}
 use Rattle.file_io.specs.Parts.{AppendsPart}
 use Rattle.file_io.proofs.FilePages.{later, only_later}
 use Rattle.file_io.proofs.Ranges.{next_part, begins_before, ends_behind, ends_at, range_end, read_none, read_all, asked_for, chunks_order}
+use Rattle.pages.specs.Maps.{PageMap}
+use Rattle.file_io.specs.Chunks.{one_page}
+use Rattle.file_io.proofs.Holes.{count_next, counted_for}
 use Rattle.file_io.proofs.reading.read_at.Goals as goal
 
 pub returns-then-end-offset-clause-read : goal.returns-then-end-offset-clause-read
@@ -23,6 +26,10 @@ loop-index-preserved g c =
     record {
       finds = finds_on _ _ _ c.loop-index.invariant.finds c.read_part.ensures.finds;
       asked = omega (arith, low, c.loop-index.invariant.asked, c.read_part.ensures.asked);
+      holes = λ sound.
+          let kept : now.present ≡ old.present = c.loop-index.invariant.finds.present in
+          count_next old.present c.args.object (c.args.offset / d) c.loop-index.index old.asked now.asked (g.P.Pages.state c.read_part.new.pages).asked low (c.loop-index.invariant.holes sound)
+          (subst (λ (m : PageMap). (g.P.Pages.state c.read_part.new.pages).asked ≤ now.asked + one_page (m c.args.object (1 + c.loop-index.index))) kept (c.read_part.ensures.holes (c.loop-index.invariant.finds.sound ∙ sound)));
       read = λ z moment all f only same.
           let end : c.min-end.result ≤ c.args.len = omega (arith, c.min-end.ensures) in
           let within : c.min-end.result ≤ length all = omega (arith, end, same) in
@@ -69,3 +76,33 @@ returns-clause-asked g c =
     let up : c.loop-index.index ≤ (c.min-end.result - 1) / d + 1 = c.loop-index.auto.index-end order in
     asked_for d old.page_bytes c.args.offset c.args.count c.args.len c.min-end.result old.asked (c.loop-index.index - c.args.offset / d) (g.P.Pages.state c.loop-index.pages).asked size end c.if-end-offset.false
     c.loop-index.invariant.asked (omega (arith, up))
+
+pub returns-in_err-read_part-clause-holes : goal.returns-in_err-read_part-clause-holes
+returns-in_err-read_part-clause-holes g c = λ sound.
+    let d : ℕ = c.from-page_bytes.result in
+    let old : PagesState = g.P.Pages.state c.args.pages.now in
+    let now : PagesState = g.P.Pages.state c.loop-index.pages in
+    let new : ℕ = (g.P.Pages.state c.read_part.new.pages).asked in
+    let size : d ≡ old.page_bytes = c.from-page_bytes.ensures ∙ c.page_bytes.ensures.bytes in
+    let end : c.min-end.result ≡ min c.args.len (c.args.offset + c.args.count) =
+    range_end c.args.offset c.args.count c.args.len c.min-end.result (c.min-end.ensures ∙ ap (min c.args.len) c.saturating_add.ensures) c.ranges.len.fits in
+    let low : c.args.offset / d ≤ c.loop-index.index = c.loop-index.auto.index in
+    let up : c.loop-index.index < (c.min-end.result - 1) / d + 1 = c.loop-index-test.true in
+    let n : ℕ = c.loop-index.index + 1 - c.args.offset / d in
+    let kept : now.present ≡ old.present = c.loop-index.invariant.finds.present in
+    let one : new ≤ now.asked + one_page (old.present c.args.object (1 + c.loop-index.index)) =
+    subst (λ (m : PageMap). new ≤ now.asked + one_page (m c.args.object (1 + c.loop-index.index))) kept (c.read_part.ensures.holes (c.loop-index.invariant.finds.sound ∙ sound)) in
+    counted_for d old.page_bytes c.args.offset c.args.count c.args.len c.min-end.result n old.present c.args.object old.asked new size end c.if-end-offset.false
+    (count_next old.present c.args.object (c.args.offset / d) c.loop-index.index old.asked now.asked new low (c.loop-index.invariant.holes sound) one) (omega (arith, up))
+
+pub returns-clause-holes : goal.returns-clause-holes
+returns-clause-holes g c = λ sound.
+    let d : ℕ = c.from-page_bytes.result in
+    let old : PagesState = g.P.Pages.state c.args.pages.now in
+    let size : d ≡ old.page_bytes = c.from-page_bytes.ensures ∙ c.page_bytes.ensures.bytes in
+    let end : c.min-end.result ≡ min c.args.len (c.args.offset + c.args.count) =
+    range_end c.args.offset c.args.count c.args.len c.min-end.result (c.min-end.ensures ∙ ap (min c.args.len) c.saturating_add.ensures) c.ranges.len.fits in
+    let order : c.args.offset / d ≤ (c.min-end.result - 1) / d + 1 = chunks_order d c.args.offset c.min-end.result c.if-end-offset.false in
+    let up : c.loop-index.index ≤ (c.min-end.result - 1) / d + 1 = c.loop-index.auto.index-end order in
+    counted_for d old.page_bytes c.args.offset c.args.count c.args.len c.min-end.result (c.loop-index.index - c.args.offset / d) old.present c.args.object old.asked (g.P.Pages.state c.loop-index.pages).asked size end c.if-end-offset.false
+    (c.loop-index.invariant.holes sound) (omega (arith, up))

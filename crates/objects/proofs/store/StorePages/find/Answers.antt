@@ -5,7 +5,7 @@ use Rattle.page_buffer.specs.laws.Buffering.{place_within}
 use Rattle.page_buffer.specs.BufferOf.{buffered}
 use Rattle.block_state.specs.TableOf.{table}
 use Rattle.objects.specs.Found.{found_bytes}
-use Rattle.objects.proofs.ReadOnly.{finds_seen, buffered_lent, kept_lent, fault_seen}
+use Rattle.objects.proofs.ReadOnly.{finds_seen, buffered_lent, kept_lent, not_absent, fault_seen}
 use Rattle.objects.proofs.store.StorePages.find.Goals as goal
 
 pub invariant_of-self : goal.invariant_of-self
@@ -53,6 +53,11 @@ returns-in-OnFlash-clause-page g c = λ sound.
     let new = c.find_kept.new.self in
     kept_lent (g.N.Nand.state self.device) self.index (buffered self.buffer) (found_bytes (buffered new.buffer) new.cache new.scratch.items new.found) c.args.key.object c.args.key.chunk c.in-OnFlash.at self.broken c.find_kept.result
     (sym c.present.ensures ∙ c.in-OnFlash.is) sound e.there e.page
+
+pub returns-in-OnFlash-clause-absent : goal.returns-in-OnFlash-clause-absent
+returns-in-OnFlash-clause-absent g c = λ sound none.
+    let self = c.args.self.now in
+    absurd (not_absent (g.N.Nand.state self.device) self.index (buffered self.buffer) c.args.key.object c.args.key.chunk c.in-OnFlash.at self.broken (sym c.present.ensures ∙ c.in-OnFlash.is) self.newest sound none)
 
 pub returns-in-OnFlash-clause-fault : goal.returns-in-OnFlash-clause-fault
 returns-in-OnFlash-clause-fault g c =

@@ -1,21 +1,48 @@
-use Rattle.std.proofs.Common.{◌≡◌, ◌<◌, ◌∙◌, ℕ, List, Some, slice_get, sym, ap, subst}
-use Rattle.pages.specs.Maps.{IsOf}
+use Rattle.std.proofs.Common.{◌≡◌, ◌∙◌, ℕ, List, [], Some, None, slice_get, sym, ap, subst}
+use Rattle.pages.specs.Maps.{IsOf, IsFirstOf, with_pages}
 use Rattle.pages.specs.laws.Maps.{first_here, page_elsewhere}
 use Rattle.pages.specs.Memory.{nothing}
 use Rattle.pages.specs.Afterwards.{bytes_or}
 use Rattle.flash_tree.specs.declared.place.FreshPage.{FreshPage}
 use Rattle.pages.proofs.memory.MemPagesPages.find.Goals as goal
 
-pub returns-in-Some-clause-page : goal.returns-in-Some-clause-page
-returns-in-Some-clause-page c = λ sound.
-    let first = rw c.in-Some.is at c.place_of.ensures.some in
-    let items : List FreshPage = c.args.self.now.pages.items in
-    let at : slice_get items c.in-Some.place ≡ Some first.0.page = ap (λ (ps : List FreshPage). slice_get ps c.in-Some.place) (sym c.deref.ensures.value) ∙ first.0.there in
-    first_here items nothing c.args.key.object c.args.key.chunk c.in-Some.place first.0.page at first.0.object first.0.chunk
-    (subst (λ (ps : List FreshPage). (k : ℕ) → k < c.in-Some.place → IsOf ps c.args.key.object c.args.key.chunk k → ⊥) c.deref.ensures.value first.1)
-    ∙ ap (λ x. Some (bytes_or x c.args.self.now.blank.items)) (sym at)
+-- the first page of a key is the one that it has
+there : (items : List FreshPage) (o c place : ℕ) (blank : List ℕ) → IsFirstOf items o c place → with_pages items nothing o c ≡ Some (bytes_or (slice_get items place) blank)
+there items o c place blank first =
+    first_here items nothing o c place first.0.page first.0.there first.0.object first.0.chunk first.1
+    ∙ ap (λ x. Some (bytes_or x blank)) (sym first.0.there)
 
-pub returns-in-None-place_of-clause-page : goal.returns-in-None-place_of-clause-page
-returns-in-None-place_of-clause-page c = λ sound.
-    let none = subst (λ (ps : List FreshPage). (k : ℕ) → IsOf ps c.args.key.object c.args.key.chunk k → ⊥) c.deref.ensures.value (rw c.in-None-place_of.is at c.place_of.ensures.none) in
+-- and so it has one
+not_absent : (items : List FreshPage) (o c place : ℕ) → IsFirstOf items o c place → with_pages items nothing o c ≡ None → ⊥
+not_absent items o c place first none =
+    let both : None ≡ Some (bytes_or (slice_get items place) []) = sym none ∙ there items o c place [] first in
+    absurd cc
+
+pub returns-in_ok-look_up-in-Some-clause-page : goal.returns-in_ok-look_up-in-Some-clause-page
+returns-in_ok-look_up-in-Some-clause-page c = λ sound.
+    let items : List FreshPage = c.args.self.now.pages.items in
+    let first : IsFirstOf items c.args.key.object c.args.key.chunk c.in-Some.place =
+    subst (λ (ps : List FreshPage). IsFirstOf ps c.args.key.object c.args.key.chunk c.in-Some.place) c.deref.ensures.value (rw c.in-Some.is at c.place_of.ensures.some) in
+    let lent : bytes_or (slice_get items c.in-Some.place) c.args.self.now.blank.items ≡ bytes_or (slice_get c.look_up.new.self.pages.items c.look_up.new.self.found) c.look_up.new.self.blank.items =
+    ap (λ (n : ℕ). bytes_or (slice_get items n) c.args.self.now.blank.items) (sym c.in_ok-look_up-in-Some.ensures.found)
+    ∙ ap (λ (ps : List FreshPage). bytes_or (slice_get ps c.look_up.new.self.found) c.args.self.now.blank.items) (sym (ap (λ v. v.items) c.look_up.ensures.pages))
+    ∙ ap (λ (xs : List ℕ). bytes_or (slice_get c.look_up.new.self.pages.items c.look_up.new.self.found) xs) (sym (ap (λ v. v.items) c.look_up.ensures.blank)) in
+    there items c.args.key.object c.args.key.chunk c.in-Some.place c.args.self.now.blank.items first
+    ∙ ap Some lent
+
+pub returns-in_ok-look_up-in-Some-clause-absent : goal.returns-in_ok-look_up-in-Some-clause-absent
+returns-in_ok-look_up-in-Some-clause-absent c = λ sound none.
+    let first : IsFirstOf c.args.self.now.pages.items c.args.key.object c.args.key.chunk c.in-Some.place =
+    subst (λ (ps : List FreshPage). IsFirstOf ps c.args.key.object c.args.key.chunk c.in-Some.place) c.deref.ensures.value (rw c.in-Some.is at c.place_of.ensures.some) in
+    absurd (not_absent c.args.self.now.pages.items c.args.key.object c.args.key.chunk c.in-Some.place first none)
+
+pub returns-in_err-look_up-in-Some-clause-absent : goal.returns-in_err-look_up-in-Some-clause-absent
+returns-in_err-look_up-in-Some-clause-absent c = λ sound none.
+    let first : IsFirstOf c.args.self.now.pages.items c.args.key.object c.args.key.chunk c.in-Some.place =
+    subst (λ (ps : List FreshPage). IsFirstOf ps c.args.key.object c.args.key.chunk c.in-Some.place) c.deref.ensures.value (rw c.in-Some.is at c.place_of.ensures.some) in
+    absurd (not_absent c.args.self.now.pages.items c.args.key.object c.args.key.chunk c.in-Some.place first none)
+
+pub returns-in-None-clause-page : goal.returns-in-None-clause-page
+returns-in-None-clause-page c = λ sound.
+    let none = subst (λ (ps : List FreshPage). (k : ℕ) → IsOf ps c.args.key.object c.args.key.chunk k → ⊥) c.deref.ensures.value (rw c.in-None.is at c.place_of.ensures.none) in
     page_elsewhere c.args.self.now.pages.items nothing c.args.key.object c.args.key.chunk none

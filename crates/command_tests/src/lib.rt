@@ -12,6 +12,10 @@ mod refused;
 #[cfg(test)]
 mod session;
 #[cfg(test)]
+mod shells;
+#[cfg(test)]
 mod tests;
+#[cfg(test)]
+mod trees;
 
 pub use kept::KeptObjects;

@@ -15,8 +15,6 @@ mod reply;
 mod run;
 mod script;
 mod serve;
-#[cfg(test)]
-mod tests;
 mod word;
 
 pub use fault::ShellFault;

@@ -5,8 +5,6 @@ mod asking;
 mod building;
 mod fault;
 mod reading;
-#[cfg(test)]
-mod tests;
 mod tree;
 
 pub use asking::Answers;

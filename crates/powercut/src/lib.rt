@@ -6,8 +6,6 @@ mod life;
 mod power;
 mod serving;
 mod session;
-#[cfg(test)]
-mod tests;
 
 pub use life::{LiveFault, live};
 pub use session::{Session, SessionEnd};

@@ -1,6 +1,5 @@
 // Worked lines: what is asked, and what is told.
-use crate::serve::Serve;
-use crate::{Line, ScriptFault, ShellFault, parse, read_script, shell, write_reply};
+use line_shell::{Line, ScriptFault, Serve, ShellFault, parse, read_script, shell, write_reply};
 use posix_profile::{
     Access, Bytes, Command, Errno, FilePath, Info, Kind, NameList, OpenFlags, Reply, SpaceInfo,
     Stamped, Whence,

@@ -1,7 +1,7 @@
 // Trees that are read, made again and compared.
-use crate::{PlainTree, TreeFault};
 use object_commands::Volume;
 use plain_objects::PlainObjects;
+use plain_tree::{PlainTree, TreeFault};
 use posix_profile::{Access, Bytes, Command, Errno, FilePath, OpenFlags, Stamped, Whence};
 use std::alloc::{AllocError, Global};
 use std::process::Abort;

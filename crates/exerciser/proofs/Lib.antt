@@ -1,0 +1,4 @@
+pub mod Writing
+pub mod Drawing
+pub mod Sessions
+pub mod Covering

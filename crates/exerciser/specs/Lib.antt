@@ -1,0 +1,4 @@
+pub mod Faults
+pub mod Draws
+pub mod Lines
+pub mod Cutting

@@ -1,0 +1,85 @@
+// The commands that a cut session kept.
+ghost use Rattle.std.specs.Prelude.{◌≡◌, ◌≤◌, length, IfOk, IfSome};
+ghost use Rattle.posix_profile.specs.Losses.{is_synced, Covers};
+
+use plain_tree::{Answers, PlainTree, TreeFault};
+use posix_profile::{Command, Errno, Reply, Stamped};
+use powercut::SessionEnd;
+use std::alloc::AllocError;
+
+/// Whether it is a sync that is done.
+fn is_synced(command: &Command, reply: &Reply) -> bool
+    ensures { result ≡ is_synced command.now reply.now }
+{
+    matches!(
+        (command, reply),
+        (Command::Fsync { .. } | Command::Sync, Reply::Done)
+    )
+}
+
+/// How many of the commands are those up to the last sync that is done.
+fn covered(script: &[Stamped], replies: &[Reply]) -> usize
+    ensures covers { Covers script.now replies.now result }
+    ensures begun { result ≤ length replies.now }
+    ensures within { result ≤ length script.now }
+{
+    let mut covered = 0;
+    for place in 0..script.len().min(replies.len()) {
+        if is_synced(&script[place].command, &replies[place]) {
+            covered = place + 1;
+        }
+    }
+    covered
+}
+
+/// Does a command that was answered in the tree; one that was refused memory, or that the stop answered, is passed over.
+fn follow(tree: &mut PlainTree, stamped: &Stamped, reply: &Reply) -> Result<(), AllocError> {
+    match reply {
+        Reply::Error(Errno::ENOMEM | Errno::EIO) => Ok(()),
+        _ => {
+            let _reply = tree.step(stamped)?;
+            Ok(())
+        }
+    }
+}
+
+/// Does the commands that were answered in the tree, in turn.
+fn follow_all(
+    tree: &mut PlainTree,
+    script: &[Stamped],
+    replies: &[Reply],
+) -> Result<(), AllocError> {
+    for (stamped, reply) in script.iter().zip(replies) {
+        follow(tree, stamped, reply)?;
+    }
+    Ok(())
+}
+
+/// The least number of commands of a session after which its tree is that of the volume: from those that a done sync covers
+/// to those that were begun. `before` is the tree before the session, and `end` how the session ended that was asked these
+/// commands; those answered ENOMEM or EIO change nothing. None where there is no such number. The volume, which needs a free
+/// descriptor, is read by its commands and not changed.
+pub fn kept<V: Answers>(
+    before: &PlainTree,
+    script: &[Stamped],
+    end: &SessionEnd,
+    volume: &mut V,
+) -> Result<Option<u64>, TreeFault>
+    ensures covers { IfOk result (λ found. IfSome found (λ k. Covers script.now end.now.replies.items k)) }
+    ensures begun { IfOk result (λ found. IfSome found (λ k. k ≤ length end.now.replies.items)) }
+    ensures within { IfOk result (λ found. IfSome found (λ k. k ≤ length script.now)) }
+{
+    let mut tree = before.copy()?;
+    let covered = covered(script, &end.replies);
+    follow_all(&mut tree, &script[..covered], &end.replies[..covered])?;
+    let answered = script.len().min(end.replies.len());
+    for done in covered..answered + 1 {
+        if tree.same(volume)? {
+            return Ok(Some(done as u64));
+        }
+        if done < answered {
+            follow(&mut tree, &script[done], &end.replies[done])?;
+        }
+    }
+    Ok(None)
+}

@@ -1,0 +1,19 @@
+//! The exerciser: sessions on a volume in memory, each cut at a drawn call of the device, and what a mount finds after each.
+#![tactic(auto)]
+
+mod cutting;
+mod fault;
+mod finding;
+mod keeping;
+mod looking;
+mod reading;
+mod sizes;
+mod telling;
+#[cfg(test)]
+mod tests;
+
+pub use cutting::cut;
+pub use fault::CutFault;
+pub use finding::{Finding, mount_fault_name};
+pub use keeping::kept;
+pub use reading::ReadVolume;

@@ -1,0 +1,5 @@
+pub mod Writing
+pub mod Reporting
+pub mod Opening
+pub mod Telling
+pub mod CutEndings

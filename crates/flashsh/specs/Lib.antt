@@ -1,2 +1,6 @@
 pub mod Serving
 pub mod Sessions
+pub mod Statuses
+pub mod Spaces
+pub mod Images
+pub mod Acting

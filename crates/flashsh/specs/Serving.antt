@@ -1,5 +1,6 @@
 -- What one call of a volume does.
 use Rattle.std.specs.Prelude.{◌≡◌, ◌⊎◌, true, false}
+use Rattle.command_plans.specs.Classes.{makes_no_call}
 use Rattle.object_store.specs.Stores.{settled}
 use Rattle.page_volume.specs.Volumes.{pages_of, is_read_only, is_stopped, IsVolumeOf}
 use Rattle.page_volume.specs.declared.volume.PageVolume.{PageVolume}
@@ -27,9 +28,10 @@ pub record Replied {P : Type 0} (state : P → PagesState) (z : Sizes) (s : Stat
   pub synced : is_synced command.command reply ≡ true → Shown z (state (pages_of new)) (settled s.objects)
   pub cause : is_stop reply ≡ true → HasEnded (state (pages_of new))
 
--- A volume that is stopped answers EIO and stays as it is; another one replies from the state that it stands for.
+-- What makes no call of the device leaves it. A volume that is stopped answers EIO and stays as it is; another one replies from the state that it stands for.
 pub record Serves {P : Type 0} (state : P → PagesState) (old : PageVolume P) (command : Stamped) (reply : Reply) (new : PageVolume P) : Type 0 where
   pub goes_on : GoesOn (state (pages_of old)) (state (pages_of new))
   pub read_only : is_read_only new ≡ is_read_only old
+  pub leaves : makes_no_call command.command ≡ true → (state (pages_of new)).device ≡ (state (pages_of old)).device
   pub stopped : is_stopped old ≡ true → (reply ≡ replies.Error errors.EIO) × (new ≡ old)
   pub replied : is_stopped old ≡ false → (z : Sizes) (s : State) → IsVolumeOf state z s old → Replied state z s old command reply new

@@ -46,20 +46,19 @@ pub record Session {P V : Type 0} (state : P → PagesState) (inside : V → Pag
   pub unmounted : IsUnmounted state (inside last) after reply
   pub result_is : result ≡ told shell reply
 
--- The volume of a device was not mounted: the device was only read, no line was read and nothing written.
-pub record NotMounted (before : Device) (input left written now : Option (List ℕ)) (after : Device) (result : Result (Unit {0}) ProgramFault) : Type 0 where
+-- The volume of a device was not mounted: the device was only read, and nothing was written.
+pub record NotMounted (before : Device) (written now : Option (List ℕ)) (after : Device) (result : Result (Unit {0}) ProgramFault) : Type 0 where
   pub fault : MountFault
   pub result_is : result ≡ Err (faults.Mount fault)
   pub reads : OnlyReads before after
   pub why : WhyNotMounted after fault
-  pub unread : left ≡ input
   pub unwritten : now ≡ written
 
--- how the lines over a device end
+-- how the lines over a device end; where it is not mounted no line is read
 abbrev pub LinesEnd : {P V : Type 0} → (P → PagesState) → (V → PageVolume P) → (V → Stamped → Reply → V → Type 0)
     → Device → Option (List ℕ) → Option (List ℕ) → Option (List ℕ) → Option (List ℕ) → Device → Result (Unit {0}) ProgramFault → Type 0
 LinesEnd state inside serves before input left written now after result =
-    NotMounted before input left written now after result ⊎ Session state inside serves before input left written now after result
+    (NotMounted before written now after result × (left ≡ input)) ⊎ Session state inside serves before input left written now after result
 
 -- a fault of the steps before the mount
 abbrev pub IsEarly : ProgramFault → Type 0

@@ -1,31 +1,93 @@
-//! A shell over a flash in memory, which is formatted anew at each start. Commands come from standard input, line by
-//! line, and replies go to standard output, a line at a time.
+//! A flash file system, asked line by line: over a flash in memory, which is formatted anew at each start, or over an image.
 //!
-//! Status 0: all lines were answered. 2: the flash could not be formatted, mounted or unmounted. 4: the shell ended
-//! before its input did. With 2 and 4 one line, `fault` and a name, goes to standard error.
+//! Status 0: all was done. 1: the words were not taken. 2: the image, the volume or memory failed. 3: a cut tore the tree. 4:
+//! the lines or standard output failed. With 2 and 4 one line, `fault` and a name, goes to standard error.
 #![tactic(auto)]
 
+mod acting;
+mod checking;
+mod creating;
+mod cutting;
 mod fault;
-mod program;
+mod memory;
+mod report;
+mod running;
 mod serve;
+mod space;
 #[cfg(test)]
 mod tests;
 
+use acting::act;
 use fault::ProgramFault;
-use std::io::LineWriter;
+use program_words::{Chosen, choose, parse};
+use report::report;
+use std::env;
+use std::fs::{File, OpenOptions};
+use std::io::{self, LineWriter};
 use std::process::ExitCode;
 
-fn main(rt: HostRuntime) -> ExitCode {
-    let mut reader = rt.stdin().lock();
-    let ended = match LineWriter::new(rt.alloc(), rt.stdout()) {
-        Ok(mut writer) => program::run(rt.alloc(), &mut reader, &mut writer),
-        Err(_) => Err(ProgramFault::NoMemory),
+/// The words after the program's name.
+fn words(rt: &HostRuntime) -> io::Result<Vec<String>> {
+    let mut words = Vec::new(rt.alloc());
+    for word in env::args(rt)?.skip(1) {
+        words.push(word)?;
+    }
+    Ok(words)
+}
+
+/// The image that was chosen, opened: emptied for a new volume, and read alone where it is not changed.
+fn open(rt: &HostRuntime, chosen: &Chosen) -> Option<File> {
+    let mut options = OpenOptions::new();
+    options.read(true);
+    let image = match chosen {
+        Chosen::Memory => return None,
+        Chosen::Format { image, .. } => {
+            options.write(true).create(true).truncate(true);
+            image
+        }
+        Chosen::Run { image } => {
+            options.write(true);
+            image
+        }
+        Chosen::Check { image } | Chosen::Cut { image, .. } => image,
     };
-    match ended {
-        Ok(()) => ExitCode::SUCCESS,
-        Err(fault) => {
-            let _ = eprintln!(rt; "fault {}", fault.name());
-            ExitCode::from(fault.status())
+    options.open(rt, image.as_str()).ok()
+}
+
+/// Does what was chosen, between standard input, output and error.
+fn perform(rt: &HostRuntime, chosen: &Chosen) -> u8 {
+    let mut input = rt.stdin().lock();
+    let mut err = rt.stderr();
+    match LineWriter::new(rt.alloc(), rt.stdout()) {
+        Ok(mut out) => act(
+            rt.alloc(),
+            chosen,
+            open(rt, chosen),
+            &mut input,
+            &mut out,
+            &mut err,
+        ),
+        Err(_) => report(&mut err, Err(ProgramFault::NoMemory)),
+    }
+}
+
+/// Tells why the words are not taken, or the help or version that they ask for.
+fn explain(rt: &HostRuntime, words: &[String]) -> u8 {
+    match parse(rt.alloc(), words) {
+        Ok(_) => 1,
+        Err(error) => {
+            let _ = error.print(rt);
+            u8::from(error.use_stderr())
         }
     }
+}
+
+fn main(rt: HostRuntime) -> ExitCode {
+    let Ok(words) = words(&rt) else {
+        return ExitCode::from(1);
+    };
+    ExitCode::from(match choose(rt.alloc(), &words) {
+        Ok(chosen) => perform(&rt, &chosen),
+        Err(_) => explain(&rt, &words),
+    })
 }

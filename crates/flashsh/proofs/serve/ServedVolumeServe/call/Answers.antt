@@ -5,6 +5,7 @@ pub returns : goal.returns
 returns g c = record {
   goes_on = c.call.ensures.goes_on;
   read_only = c.call.ensures.read_only;
+  leaves = c.call.ensures.leaves;
   stopped = λ stops. let p = c.call.ensures.stopped stops in (p.0, ap (λ v. v.volume) p.1);
   replied = λ runs z s at. record {
     stops = c.call.ensures.stops runs z s at;

@@ -1,5 +1,5 @@
-use Rattle.std.proofs.Common.{inl, inr}
-use Rattle.flashsh.proofs.program.answer_lines.Goals as goal
+use Rattle.std.proofs.Common.{inr}
+use Rattle.flashsh.proofs.memory.answer_lines.Goals as goal
 
 pub returns : goal.returns
 returns g c = inr (record {

@@ -48,7 +48,7 @@ fn told(ended: Result<(), ShellFault>, reply: &Reply) -> Result<(), ProgramFault
 
 /// Mounts the volume of a device, answers the lines of the reader in the writer, and unmounts it. The device is given
 /// back.
-fn answer_lines<N: Nand, R: BufRead, W: Write>(
+pub(crate) fn answer_lines<N: Nand, R: BufRead, W: Write>(
     alloc: Global,
     device: N,
     reader: &mut R,
@@ -68,7 +68,7 @@ fn answer_lines<N: Nand, R: BufRead, W: Write>(
 }
 
 /// Answers the lines of the reader in the writer, over a new flash in memory.
-pub(crate) fn run<R: BufRead, W: Write>(
+pub(crate) fn run_in_memory<R: BufRead, W: Write>(
     alloc: Global,
     reader: &mut R,
     writer: &mut W,

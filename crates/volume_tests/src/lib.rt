@@ -1,0 +1,30 @@
+//! Tests of a volume on a device in memory, by lines of a shell: what sessions are told, what is left where power goes, where
+//! calls fail and where memory is refused, flashes that no volume wrote, and a plain tree beside it.
+#![tactic(auto)]
+
+#[cfg(test)]
+mod altered;
+#[cfg(test)]
+mod book;
+#[cfg(test)]
+mod caches;
+#[cfg(test)]
+mod cuts;
+#[cfg(test)]
+mod devices;
+#[cfg(test)]
+mod drawn;
+#[cfg(test)]
+mod failures;
+#[cfg(test)]
+mod losses;
+#[cfg(test)]
+mod refused;
+#[cfg(test)]
+mod rows;
+#[cfg(test)]
+mod served;
+#[cfg(test)]
+mod sessions;
+#[cfg(test)]
+mod stories;

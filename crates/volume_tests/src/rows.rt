@@ -1,0 +1,64 @@
+// Rows of a session: a line, an arrow, and what is to be told. `[x*3]` stands for `xxx`.
+
+use crate::served::Served;
+use std::alloc::{AllocError, Global};
+use std::process::Abort;
+use std::test::Fail;
+
+/// Lines, and what is to be told of them.
+#[derive(Drop)]
+struct Script {
+    lines: String,
+    replies: String,
+}
+
+/// The rows, with each text that is repeated.
+fn written_out(alloc: Global, rows: &str) -> Result<String, Fail> {
+    let mut text = String::new(alloc);
+    for piece in rows.split('[') {
+        let rest = match piece.split_once(']') {
+            Some((run, rest)) => {
+                let (unit, count) = run.split_once('*').ok_or("no count")?;
+                text.push_str(&unit.repeat(alloc, count.parse()?)?)?;
+                rest
+            }
+            None => piece,
+        };
+        text.push_str(rest)?;
+    }
+    Ok(text)
+}
+
+fn push_line(text: &mut String, line: &str) -> Result<(), AllocError> {
+    text.push_str(line)?;
+    text.push_str("\n")
+}
+
+/// The lines of rows. One without an arrow is to be told nothing.
+fn script_of(alloc: Global, rows: &str) -> Result<Script, AllocError> {
+    let mut lines = String::new(alloc);
+    let mut replies = String::new(alloc);
+    for row in rows.lines() {
+        match row.split_once(" -> ") {
+            Some((line, reply)) => {
+                push_line(&mut lines, line)?;
+                push_line(&mut replies, reply)?;
+            }
+            None => push_line(&mut lines, row)?,
+        }
+    }
+    Ok(Script { lines, replies })
+}
+
+/// Asks the lines of the rows, which are to be told their replies.
+pub(crate) fn expect(
+    rt: &impl Abort,
+    alloc: Global,
+    served: &mut Served,
+    rows: &str,
+) -> Result<(), Fail> {
+    let Script { lines, replies } = script_of(alloc, &written_out(alloc, rows)?)?;
+    let told = served.told(alloc, lines.as_bytes())?;
+    assert_eq!(rt; str::from_utf8(&told)?, replies.as_str());
+    Ok(())
+}

@@ -1,0 +1,69 @@
+// A volume that a shell serves.
+
+use line_shell::{Serve, shell};
+use nand_model::MemNand;
+use plain_tree::Answers;
+use posix_calls::{MountFault, Reply, Stamped, Volume};
+use std::alloc::Global;
+use std::test::Fail;
+
+/// A volume on a device in memory.
+#[derive(Drop)]
+pub(crate) struct Served {
+    volume: Volume<MemNand>,
+}
+
+impl Serve for Served {
+    ghost serves = { λ old command reply new. Unit {0} };
+
+    fn call(&mut self, command: &Stamped) -> Reply {
+        self.volume.call(command)
+    }
+}
+
+impl Answers for Served {
+    fn answer(&mut self, stamped: &Stamped) -> Reply {
+        self.volume.call(stamped)
+    }
+}
+
+/// Mounts a device as it is, with a cache of so many pages.
+pub(crate) fn try_mount(
+    alloc: Global,
+    nand: MemNand,
+    capacity: usize,
+) -> Result<Served, (MemNand, MountFault)> {
+    match Volume::mount_with(alloc, nand, capacity) {
+        Ok(volume) => Ok(Served { volume }),
+        Err(failed) => Err(failed),
+    }
+}
+
+/// Mounts a device as it is, and fails where it is no volume.
+pub(crate) fn mount(alloc: Global, nand: MemNand, capacity: usize) -> Result<Served, Fail> {
+    match try_mount(alloc, nand, capacity) {
+        Ok(served) => Ok(served),
+        Err((_nand, fault)) => Err(fault.into()),
+    }
+}
+
+impl Served {
+    /// What the shell tells of these lines.
+    pub(crate) fn told(&mut self, alloc: Global, lines: &[u8]) -> Result<Vec<u8>, Fail> {
+        let mut reader = lines;
+        let mut told = Vec::new(alloc);
+        shell(alloc, &mut reader, &mut told, self)?;
+        Ok(told)
+    }
+
+    /// Gives the device back without a call.
+    pub(crate) fn abandon(self) -> MemNand {
+        self.volume.abandon()
+    }
+
+    /// Gives the device back once all is written, and tells whether it is.
+    pub(crate) fn unmount(self) -> (MemNand, bool) {
+        let (nand, reply) = self.volume.unmount();
+        (nand, matches!(reply, Reply::Done))
+    }
+}

@@ -1,0 +1,103 @@
+// Stories: rows that are asked, and between them losses of power and unmounts.
+
+use crate::rows::expect;
+use crate::served::{Served, mount};
+use nand_model::MemNand;
+use std::alloc::Global;
+use std::process::Abort;
+use std::test::Fail;
+
+/// A part of a story.
+#[derive(Clone, Copy)]
+pub(crate) enum Part {
+    Rows(&'static str),
+    /// Rows, so many times. The number of the turn, from 0, stands in place of each `#`.
+    Turns(u32, &'static str),
+    /// Power is lost, and the volume mounted again.
+    Lost,
+    /// The same, where the device was programmed, erased or marked so many times since the last mount.
+    LostAfter(u64),
+    /// The volume is unmounted, and mounted again.
+    Unmounted,
+}
+
+/// Asks rows so many times.
+fn expect_turns(
+    rt: &impl Abort,
+    alloc: Global,
+    served: &mut Served,
+    count: u32,
+    rows: &str,
+) -> Result<(), Fail> {
+    for number in 0..count {
+        let number = format!(in alloc; "{number}")?;
+        let rows = rows.replace(alloc, "#", &number)?;
+        expect(rt, alloc, served, &rows)?;
+    }
+    Ok(())
+}
+
+/// Asks the rows of a part, and tells whether the volume goes on.
+fn ask_part(rt: &impl Abort, alloc: Global, served: &mut Served, part: Part) -> Result<bool, Fail> {
+    match part {
+        Part::Rows(rows) => expect(rt, alloc, served, rows)?,
+        Part::Turns(count, rows) => expect_turns(rt, alloc, served, count, rows)?,
+        _ => return Ok(false),
+    }
+    Ok(true)
+}
+
+/// Ends a volume as a part says, and gives the device back.
+fn end(rt: &impl Abort, served: Served, part: Part) -> MemNand {
+    if matches!(part, Part::Unmounted) {
+        let (nand, is_done) = served.unmount();
+        assert!(rt; is_done);
+        return nand;
+    }
+    let nand = served.abandon();
+    if let Part::LostAfter(changes) = part {
+        assert_eq!(rt; nand.changes(), changes);
+    }
+    nand
+}
+
+/// Tells a part of a story.
+pub(crate) fn tell_part(
+    rt: &impl Abort,
+    alloc: Global,
+    mut served: Served,
+    capacity: usize,
+    part: Part,
+) -> Result<Served, Fail> {
+    if ask_part(rt, alloc, &mut served, part)? {
+        return Ok(served);
+    }
+    let mut nand = end(rt, served, part);
+    nand.power_up();
+    mount(alloc, nand, capacity)
+}
+
+/// The volume of a device, mounted as it is, after a story.
+pub(crate) fn served_after(
+    rt: &impl Abort,
+    alloc: Global,
+    nand: MemNand,
+    capacity: usize,
+    story: &[Part],
+) -> Result<Served, Fail> {
+    let mut served = mount(alloc, nand, capacity)?;
+    for part in story {
+        served = tell_part(rt, alloc, served, capacity, *part)?;
+    }
+    Ok(served)
+}
+
+/// The device after a story, as if power were lost.
+pub(crate) fn tell(
+    rt: &impl Abort,
+    alloc: Global,
+    nand: MemNand,
+    story: &[Part],
+) -> Result<MemNand, Fail> {
+    Ok(served_after(rt, alloc, nand, 16, story)?.abandon())
+}

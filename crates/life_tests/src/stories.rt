@@ -1,0 +1,200 @@
+// Stories of three sessions: the second is cut at each of its last calls, and the third tells what is left.
+use crate::lines::{cut_session, failing_session, formatted, live_through, session, told};
+use nand_model::{Fate, MemNand};
+use powercut::Session;
+use std::alloc::Global;
+use std::process::Abort;
+use std::test::Fail;
+
+/// All that a cut may leave of a page.
+const FATES: [Fate; 4] = [Fate::Old, Fate::New, Fate::Erased, Fate::Uncorrectable];
+
+/// What is told of one of two trees.
+#[derive(Clone, Copy, Debug, PartialEq, Eq)]
+enum Left {
+    Old,
+    New,
+}
+
+/// A story: lines of a session, of which the last ones are cut, lines that tell the tree in the session after it, and
+/// what they are told of the tree before and of the one after the last ones.
+#[derive(Clone, Copy, Debug)]
+struct Story<'a> {
+    before: &'a [&'a str],
+    all: &'a [&'a str],
+    looks: &'a [&'a str],
+    old: &'a str,
+    new: &'a str,
+}
+
+/// How many calls of the device a session makes, from its power-up on.
+fn calls_of(alloc: Global, nand: &MemNand, lines: &[&str]) -> Result<u64, Fail> {
+    let sessions = vec![in alloc; session(alloc, lines)?]?;
+    let (nand, _ends) = live_through(alloc, nand.copy()?, &sessions)?;
+    Ok(nand.calls())
+}
+
+/// The sessions of a cut, of a mount that is cut too where a call is told, and of looks.
+fn sessions_of(
+    alloc: Global,
+    story: Story<'_>,
+    call: u64,
+    fates: &[Fate],
+    again: Option<u64>,
+) -> Result<Vec<Session>, Fail> {
+    let mut sessions = Vec::new(alloc);
+    sessions.push(cut_session(alloc, story.all, call, fates)?)?;
+    if let Some(again) = again {
+        sessions.push(cut_session(alloc, &[], again, fates)?)?;
+    }
+    sessions.push(session(alloc, story.looks)?)?;
+    Ok(sessions)
+}
+
+/// What is left of a story that is cut at this call.
+fn left_by(
+    rt: &impl Abort,
+    alloc: Global,
+    nand: &MemNand,
+    story: Story<'_>,
+    sessions: &[Session],
+) -> Result<Left, Fail> {
+    let (_nand, ends) = live_through(alloc, nand.copy()?, sessions)?;
+    let (Some(first), Some(last)) = (ends.first(), ends.last()) else {
+        return Err("a session has no end".into());
+    };
+    assert!(rt; first.cut);
+    let text = told(alloc, last)?;
+    if text.as_slice() == story.new.as_bytes() {
+        return Ok(Left::New);
+    }
+    assert_eq!(rt; str::from_utf8(&text)?, story.old);
+    Ok(Left::Old)
+}
+
+/// Cuts each of the last calls with all pages left in one way, alone and with a cut in the next mount. Gives the calls
+/// and the fates after which the tree is the one after the last lines, the first of the last calls being 0.
+fn cut_each(
+    rt: &impl Abort,
+    alloc: Global,
+    nand: &MemNand,
+    story: Story<'_>,
+) -> Result<Vec<(u64, Fate)>, Fail> {
+    let first = calls_of(alloc, nand, story.before)?.saturating_add(1);
+    let mut news = Vec::new(alloc);
+    for call in first..=calls_of(alloc, nand, story.all)? {
+        for fate in FATES {
+            let fates = [fate; 32];
+            let once = sessions_of(alloc, story, call, &fates, None)?;
+            let left = left_by(rt, alloc, nand, story, &once)?;
+            let twice = sessions_of(alloc, story, call, &fates, Some(100))?;
+            assert_eq!(rt; left_by(rt, alloc, nand, story, &twice)?, left);
+            if left == Left::New {
+                news.push((call.saturating_sub(first), fate))?;
+            }
+        }
+    }
+    Ok(news)
+}
+
+#[test]
+fn a_sync_is_done_by_its_last_page(rt: HostRuntime) -> Result<(), Fail> {
+    let story = Story {
+        before: &["open /a rwc", "write 0 hello"],
+        all: &["open /a rwc", "write 0 hello", "fsync 0"],
+        looks: &["list /", "open /a r", "read 0 10"],
+        old: "names 0\nerror ENOENT\nerror EBADF\n",
+        new: "names 1 a\nfd 0\ndata 5 hello\n",
+    };
+    let alloc = rt.alloc();
+    let news = cut_each(&rt, alloc, &formatted(alloc)?, story)?;
+    assert_eq!(rt; news.as_slice(), [(4, Fate::New)].as_slice());
+    Ok(())
+}
+
+#[test]
+fn a_renamed_file_takes_the_place_of_another_at_once(rt: HostRuntime) -> Result<(), Fail> {
+    let alloc = rt.alloc();
+    let files = vec![in alloc;
+        session(
+            alloc,
+            &[
+                "open /x wc",
+                "write 0 new",
+                "open /y wc",
+                "write 1 old",
+                "sync",
+            ]
+        )?,
+    ]?;
+    let (nand, _ends) = live_through(alloc, formatted(alloc)?, &files)?;
+    let story = Story {
+        before: &["rename /x /y"],
+        all: &["rename /x /y", "sync"],
+        looks: &["list /", "open /y r", "read 0 10"],
+        old: "names 2 x y\nfd 0\ndata 3 old\n",
+        new: "names 1 y\nfd 0\ndata 3 new\n",
+    };
+    let news = cut_each(&rt, alloc, &nand, story)?;
+    assert_eq!(rt; news.len(), 1);
+    Ok(())
+}
+
+/// Lives through the sessions, of which the first and the last are told this. Gives back how many calls the last made.
+fn tells_at_its_ends(
+    rt: &impl Abort,
+    alloc: Global,
+    nand: &MemNand,
+    sessions: &[Session],
+    first_told: &str,
+    last_told: &str,
+) -> Result<u64, Fail> {
+    let (after, ends) = live_through(alloc, nand.copy()?, sessions)?;
+    let (Some(first), Some(last)) = (ends.first(), ends.last()) else {
+        return Err("a session has no end".into());
+    };
+    assert_eq!(rt; str::from_utf8(&told(alloc, first)?)?, first_told);
+    assert_eq!(rt; str::from_utf8(&told(alloc, last)?)?, last_told);
+    Ok(after.calls())
+}
+
+/// The program of this call fails, and the page is left so; a block to spare makes up for it. Then the first program of the
+/// next sync fails, and the volume stops. The next mount can only read.
+fn stops_without_a_spare_block(
+    rt: &impl Abort,
+    alloc: Global,
+    nand: &MemNand,
+    call: u64,
+    fate: Fate,
+) -> Result<(), Fail> {
+    let lines = ["mkdir /a", "sync"];
+    let sync = vec![in alloc; failing_session(alloc, &lines, &[(call, fate)])?]?;
+    let calls = tells_at_its_ends(rt, alloc, nand, &sync, "ok\nok\n", "ok\nok\n")?;
+    let next = calls.saturating_add(1);
+    let lines = ["mkdir /a", "sync", "mkdir /b", "sync", "list /"];
+    let failures = [(call, fate), (next, Fate::Uncorrectable)];
+    let sessions = vec![in alloc;
+        failing_session(alloc, &lines, &failures)?,
+        session(alloc, &["list /", "mkdir /c"])?,
+    ]?;
+    let stopped = "ok\nok\nok\nerror EIO\n";
+    tells_at_its_ends(
+        rt,
+        alloc,
+        nand,
+        &sessions,
+        stopped,
+        "names 1 a\nerror EROFS\n",
+    )?;
+    Ok(())
+}
+
+#[test]
+fn a_volume_that_lost_its_spare_block_is_only_read(rt: HostRuntime) -> Result<(), Fail> {
+    let alloc = rt.alloc();
+    let nand = formatted(alloc)?;
+    // The mount, the erase and two programs come before.
+    let third = calls_of(alloc, &nand, &["mkdir /a"])?.saturating_add(4);
+    stops_without_a_spare_block(&rt, alloc, &nand, third, Fate::New)?;
+    stops_without_a_spare_block(&rt, alloc, &nand, third, Fate::Uncorrectable)
+}

@@ -1,5 +1,5 @@
 // The buffer.
-ghost use Rattle.std.specs.Prelude.{◌≡◌, ◌≤◌, ◌<◌, ◌+◌, ◌++◌, ◌^◌, ℕ, length, vec_capacity, [], IfOk, option_to_list, true};
+ghost use Rattle.std.specs.Prelude.{◌≡◌, ◌≤◌, ◌<◌, ◌+◌, ◌++◌, ◌^◌, ℕ, length, vec_capacity, [], IfOk, is_some, option_to_list, true, false};
 ghost use Rattle.block_state.specs.Table.{Table};
 ghost use Rattle.block_state.specs.TableOf.{table};
 ghost use Rattle.chunk_index.specs.Maps.{CountsAgree, Settles, kept_in};
@@ -82,6 +82,7 @@ impl Buffer {
     /// One of the pages that were written last, which leaves them.
     pub fn take_written(&mut self) -> Option<FreshPage>
         ensures written { written self.old ≡ written self.new ++ option_to_list result }
+        ensures all { is_some result ≡ false → written self.new ≡ [] }
         ensures pages { buffered self.new ≡ buffered self.old }
         ensures sizes { (most_pages self.new ≡ most_pages self.old) × (bytes_of_page self.new ≡ bytes_of_page self.old) }
     {

@@ -1,15 +1,43 @@
-// A session in which memory may be refused: what is refused is not done, and the same call again is answered.
+// Sessions in which memory may be refused: what is refused is not done, and the same call again is answered.
 
-use crate::book::{Book, book_of};
+use crate::book::{Book, book_of, commands_of, new_tree, step, text_of};
 use crate::devices::formatted;
 use crate::losses::SESSION;
 use crate::served::{Served, mount, try_mount};
 use nand_model::MemNand;
-use plain_tree::Answers;
-use posix_calls::{Errno, MountFault, Reply};
+use plain_tree::{Answers, PlainTree};
+use posix_calls::{Errno, MountFault, Reply, Stamped};
 use std::alloc::Global;
 use std::process::Abort;
 use std::test::Fail;
+
+/// A file that is written and read.
+const FILE: &str = "open /a rwc
+write 0 hello
+seek 0 0 set
+read 0 10
+space";
+
+/// Directories that are moved and taken away, one of them while it is open.
+const TREE: &str = "mkdir /a
+mkdir /b
+mkdir /a/c
+stat /a
+rename /a/c /b/c
+stat /a
+stat /b/c/..
+rename /b /b/c/x
+mkdir /d
+rename /b/c /d
+stat /d
+open /d r
+rmdir /d
+mkdir /d/x
+mkdir /e
+stat /e
+close 0
+mkdir /f
+stat /f";
 
 /// Mounts a device, once more where memory is refused.
 fn mount_again(rt: &impl Abort, alloc: Global, nand: MemNand) -> Result<Served, Fail> {
@@ -39,21 +67,84 @@ fn call_again(
     book.expect_reply(rt, alloc, number, &reply)
 }
 
-// Run it with each allocation refused in turn.
-#[test]
-fn what_is_refused_memory_is_done_by_the_next_call(rt: HostRuntime) -> Result<(), Fail> {
-    let alloc = rt.alloc();
+/// Does a session of these lines, call by call, and mounts its device again.
+fn do_calls(rt: &impl Abort, alloc: Global, lines: &str) -> Result<(), Fail> {
     let nand = formatted(alloc)?;
-    let book = book_of(alloc, SESSION)?;
+    let book = book_of(alloc, lines)?;
     let count = book.commands.len();
-    let mut served = mount_again(&rt, alloc, nand)?;
+    let mut served = mount_again(rt, alloc, nand)?;
     for number in 0..count {
-        call_again(&rt, alloc, &mut served, &book, number)?;
+        call_again(rt, alloc, &mut served, &book, number)?;
     }
     let (mut nand, is_done) = served.unmount();
     assert!(rt; is_done);
     nand.power_up();
-    let mut served = mount_again(&rt, alloc, nand)?;
+    let mut served = mount_again(rt, alloc, nand)?;
     assert!(rt; book.has_tree(&mut served, count, count)?);
+    Ok(())
+}
+
+// Run these with each allocation refused in turn.
+#[test]
+fn what_is_refused_memory_is_done_by_the_next_call(rt: HostRuntime) -> Result<(), Fail> {
+    do_calls(&rt, rt.alloc(), SESSION)
+}
+
+#[test]
+fn a_file_is_refused_memory(rt: HostRuntime) -> Result<(), Fail> {
+    do_calls(&rt, rt.alloc(), FILE)
+}
+
+#[test]
+fn a_tree_is_refused_memory(rt: HostRuntime) -> Result<(), Fail> {
+    do_calls(&rt, rt.alloc(), TREE)
+}
+
+/// Does the commands in a run, and once more those that it did not begin.
+fn run_again(
+    served: &mut Served,
+    replies: &mut Vec<Reply>,
+    commands: &[Stamped],
+) -> Result<(), Fail> {
+    if served.run(commands, replies).is_ok() {
+        return Ok(());
+    }
+    let rest = commands.get(replies.len()..).ok_or("too many replies")?;
+    served.run(rest, replies)?;
+    Ok(())
+}
+
+/// Looks whether a tree tells the same of each command, but for those that were refused memory, which it leaves out.
+fn expect_replies(
+    rt: &impl Abort,
+    alloc: Global,
+    tree: &mut PlainTree,
+    commands: &[Stamped],
+    replies: &[Reply],
+) -> Result<(), Fail> {
+    assert_eq!(rt; replies.len(), commands.len());
+    for (stamped, reply) in commands.iter().zip(replies) {
+        if !matches!(reply, Reply::Error(Errno::ENOMEM)) {
+            let wanted = step(alloc, tree, stamped)?;
+            assert_eq!(rt;
+                text_of(alloc, reply)?.as_str(),
+                wanted.as_str(),
+                "{stamped:?}"
+            );
+        }
+    }
+    Ok(())
+}
+
+#[test]
+fn a_run_that_is_refused_memory_goes_on(rt: HostRuntime) -> Result<(), Fail> {
+    let alloc = rt.alloc();
+    let commands = commands_of(alloc, TREE)?;
+    let mut tree = new_tree(alloc)?;
+    let mut replies = Vec::new(alloc);
+    let mut served = mount_again(&rt, alloc, formatted(alloc)?)?;
+    run_again(&mut served, &mut replies, &commands)?;
+    expect_replies(&rt, alloc, &mut tree, &commands, &replies)?;
+    assert!(&rt; tree.same(&mut served)?);
     Ok(())
 }

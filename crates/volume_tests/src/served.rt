@@ -4,7 +4,7 @@ use line_shell::{Serve, shell};
 use nand_model::MemNand;
 use plain_tree::Answers;
 use posix_calls::{MountFault, Reply, Stamped, Volume};
-use std::alloc::Global;
+use std::alloc::{AllocError, Global};
 use std::test::Fail;
 
 /// A volume on a device in memory.
@@ -54,6 +54,15 @@ impl Served {
         let mut told = Vec::new(alloc);
         shell(alloc, &mut reader, &mut told, self)?;
         Ok(told)
+    }
+
+    /// Does commands in a run.
+    pub(crate) fn run(
+        &mut self,
+        commands: &[Stamped],
+        replies: &mut Vec<Reply>,
+    ) -> Result<(), AllocError> {
+        self.volume.run(commands, replies)
     }
 
     /// Gives the device back without a call.

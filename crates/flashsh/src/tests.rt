@@ -102,19 +102,21 @@ fn what_is_done_on_an_image_is_there_again(rt: HostRuntime) -> Result<(), Fail> 
 fn an_image_that_is_cut_short_is_not_opened(rt: HostRuntime) -> Result<(), Fail> {
     let alloc = rt.alloc();
     let image = small_image(&rt, alloc)?;
-    for (length, fault) in [
-        (0, "fault Magic\n"),
-        (31, "fault Magic\n"),
-        (32, "fault Size\n"),
-        (143_655, "fault Size\n"),
-    ] {
-        let mut short = Vec::from_slice(alloc, &image)?;
-        short.truncate(length);
-        run(alloc, &["check", "I"], short, "")?.tells(&rt, 2, "", fault);
-    }
     let mut long = Vec::from_slice(alloc, &image)?;
     long.push(0)?;
     run(alloc, &["check", "I"], long, "")?.tells(&rt, 2, "", "fault Size\n");
+    let mut short = image;
+    for length in (0..143_656usize).rev() {
+        short.truncate(length);
+        let ran = run(alloc, &["check", "I"], short, "")?;
+        let fault = if length < 32 {
+            "fault Magic\n"
+        } else {
+            "fault Size\n"
+        };
+        ran.tells(&rt, 2, "", fault);
+        short = ran.image;
+    }
     Ok(())
 }
 

@@ -1,0 +1,40 @@
+// What was lived through.
+use crate::judging::Judged;
+use std::alloc::{AllocError, Global};
+
+/// How many sessions there were, how many of them were cut, and how many commands were kept.
+#[derive(Clone, Copy)]
+pub(crate) struct Count {
+    sessions: u64,
+    cut: u64,
+    kept: u64,
+}
+
+impl Count {
+    pub(crate) fn new() -> Count {
+        Count {
+            sessions: 0,
+            cut: 0,
+            kept: 0,
+        }
+    }
+
+    /// Counts one session more.
+    pub(crate) fn add(&mut self, judged: &Judged) {
+        self.sessions = self.sessions.saturating_add(1);
+        self.kept = self.kept.saturating_add(judged.kept);
+        if judged.cut {
+            self.cut = self.cut.saturating_add(1);
+        }
+    }
+
+    /// How many sessions there were, none of which was none of a life.
+    pub(crate) fn text(self, alloc: Global) -> Result<String, AllocError> {
+        format!(in alloc; "{} sessions, each one of a life", self.sessions)
+    }
+
+    /// How many were cut, and what was kept.
+    pub(crate) fn details(self, alloc: Global) -> Result<String, AllocError> {
+        format!(in alloc; "{} cut, {} commands kept", self.cut, self.kept)
+    }
+}

@@ -1,0 +1,80 @@
+//! Lives through sessions on a device in memory, and looks whether each is one of a life: each reply is the plain tree's, and
+//! what the next mount shows is the tree after a prefix of the session, at least up to its last sync. A session that is none
+//! ends the program by an error. At the end a line tells how many sessions there were, and one on standard error how many were
+//! cut and how many commands were kept.
+//!
+//! - `drawn LIVES SEED`: lives of three sessions, whose commands, cuts and failing calls are drawn.
+//! - `cuts [CALL FATE]`: a session of the lines of standard input, cut at each of its calls with each fate of the pages, alone
+//!   and with a cut in the next mount. The call may fail besides, and leaves its page so: `old`, `new`, `erased`, `uncorrectable`.
+//! - `fails`: a session of the lines of standard input, with each of its calls failing with each fate of the pages.
+#![tactic(auto)]
+
+mod commands;
+mod counting;
+mod cuts;
+mod drawing;
+mod drawn;
+mod fails;
+mod judging;
+mod living;
+mod stages;
+
+use crate::counting::Count;
+use crate::cuts::cut_lines;
+use crate::drawn::live_drawn;
+use crate::fails::fail_lines;
+use anyhow::{Context, Result, anyhow};
+use nand_model::Fate;
+use std::alloc::Global;
+use std::env;
+use std::io::Read;
+
+/// The fate of this name.
+fn fate_of(name: &str) -> Result<Fate> {
+    match name {
+        "old" => Ok(Fate::Old),
+        "new" => Ok(Fate::New),
+        "erased" => Ok(Fate::Erased),
+        "uncorrectable" => Ok(Fate::Uncorrectable),
+        _ => Err(anyhow!("{name} is no fate of a page")),
+    }
+}
+
+/// The call that fails, and what it leaves.
+fn failure_of(words: &[String]) -> Result<Option<(u64, Fate)>> {
+    match words {
+        [] => Ok(None),
+        [call, fate] => Ok(Some((call.parse().context("the call")?, fate_of(fate)?))),
+        _ => Err(anyhow!("a call and a fate are wanted")),
+    }
+}
+
+/// Does what the words say.
+fn live_as(alloc: Global, words: &[String], lines: &str) -> Result<Count> {
+    let [_program, what, rest @ ..] = words else {
+        return Err(anyhow!("drawn, cuts or fails is wanted"));
+    };
+    match (what.as_str(), rest) {
+        ("drawn", [lives, seed]) => {
+            let lives = lives.parse().context("the lives")?;
+            live_drawn(alloc, lives, seed.parse().context("the seed")?)
+        }
+        ("cuts", rest) => cut_lines(alloc, lines, failure_of(rest)?),
+        ("fails", []) => fail_lines(alloc, lines),
+        _ => Err(anyhow!("drawn with two numbers, cuts or fails is wanted")),
+    }
+}
+
+fn main(rt: HostRuntime) -> Result<()> {
+    let alloc = rt.alloc();
+    let mut words = Vec::new(alloc);
+    for word in env::args(&rt)? {
+        words.push(word)?;
+    }
+    let mut lines = String::new(alloc);
+    rt.stdin().lock().read_to_string(&mut lines)?;
+    let count = live_as(alloc, &words, &lines)?;
+    println!(rt; "{}", count.text(alloc)?)?;
+    eprintln!(rt; "{}", count.details(alloc)?)?;
+    Ok(())
+}

@@ -21,7 +21,7 @@ DEFINITION = re.compile(r"^(?:(?:abbrev|unfoldable) pub|pub (?:abbrev|unfoldable
 
 
 def crates():
-    """The crates, each below what stands on it; not those that the first volume alone stands on."""
+    """The crates, each below what stands on it."""
     stands_on = {}
     for line in (TOP / "crates.txt").read_text().splitlines():
         if line.strip() and not line.startswith("#"):
@@ -32,7 +32,7 @@ def crates():
         for name, below in stands_on.items():
             if name not in done and all(crate in done or crate not in stands_on for crate in below):
                 done.append(name)
-    return [crate for crate in done if not crate.startswith("flat_")]
+    return done
 
 
 def modules(crate):

@@ -1,10 +1,12 @@
 -- What calls in turn cost.
-use Rattle.std.proofs.Common.{◌≡◌, ◌≤◌, ℕ, ◌+◌, ◌-◌, ◌*◌, Option, Some, None, ap, ◌∙◌, arith}
+use Rattle.std.proofs.Common.{◌≡◌, ◌≤◌, ℕ, ◌+◌, ◌-◌, ◌*◌, Option, Some, None, sym, ap, subst, ◌∙◌, arith}
 use Rattle.std.specs.Option.{option_map_or}
 use Rattle.std.proofs.Math.Nat.{mul-le-mul_right, mul-le-mul_left}
 use Rattle.nand_model.specs.Calls.{Device, Lasts}
 use Rattle.block_state.specs.Table.{Table, room}
 use Rattle.bad_blocks.specs.Moving.{Costs}
+use Rattle.collector.specs.Making.{FitsOpen}
+use Rattle.commits.specs.Committing.{TakesNoBlock}
 
 -- what each failure costs more
 each_more : (k m a b : ℕ) → k ≤ m → a ≤ b → k * b + m * a ≤ m * b + k * a
@@ -58,3 +60,26 @@ room_most t = go t.open_block where
   go : (o : Option ℕ) → option_map_or (λ b. t.geometry.pages - (t.entry b).next) o 0 ≤ t.geometry.pages
   go None = omega arith
   go (Some b) = omega arith
+
+-- ---- no block is taken
+
+-- where the open block has the room, the making of it changes nothing; then come the programs of the pages
+pub takes_none_written : (count : ℕ) (t : Table) (a b c : Device) → (FitsOpen count t → b ≡ a) → c.changes ≤ b.changes + count → TakesNoBlock count t a c
+takes_none_written count t a b c same few = λ fits _.
+    let still : b.changes ≡ a.changes = ap (λ (d : Device). d.changes) (same fits) in
+    omega (arith, few, still)
+
+-- a failure was counted
+pub takes_none_failed : (count : ℕ) (t : Table) (a b c d : Device) → a.failures ≤ b.failures → b.failures + 1 ≤ c.failures → c.failures ≤ d.failures → TakesNoBlock count t a d
+takes_none_failed count t a b c d first failed then = λ _ none. absurd (omega (arith, first, failed, then, none))
+
+-- a turn after others takes none, where it is the first one, or each before it counted a failure
+pub takes_none_turn : (count now : ℕ) (t u : Table) (a b c : Device) → now ≡ count → Lasts a b → Lasts b c → (b.failures ≡ a.failures → (b ≡ a) × (u ≡ t)) → TakesNoBlock now u b c → TakesNoBlock count t a c
+takes_none_turn count now t u a b c same first then here turn = λ fits none.
+    let rise = first.failures in
+    let rises = then.failures in
+    let at : (b ≡ a) × (u ≡ t) = here (omega (arith, rise, rises, none)) in
+    let still : b.changes ≡ a.changes = ap (λ (d : Device). d.changes) at.0 in
+    let fit : now ≤ room t = omega (arith, same, fits) in
+    let few = turn (subst (λ (s : Table). now ≤ room s) (sym at.1) fit) (omega (arith, rise, rises, none)) in
+    omega (arith, few, still, same)

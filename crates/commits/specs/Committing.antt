@@ -1,5 +1,5 @@
 -- How a commit ends.
-use Rattle.std.specs.Prelude.{◌≡◌, ◌≤◌, ℕ, true, false, [], length, Result, Ok, Err}
+use Rattle.std.specs.Prelude.{◌≡◌, ◌≤◌, ◌+◌, ℕ, true, false, [], length, Result, Ok, Err}
 use Rattle.nand_model.specs.Calls.{Device}
 use Rattle.block_state.specs.Kept.{bad_count}
 use Rattle.block_state.specs.Table.{Table}
@@ -9,7 +9,7 @@ use Rattle.page_buffer.specs.BufferOf.{buffered, written, most_pages, bytes_of_p
 use Rattle.page_buffer.specs.Buffering.{IsUnbuffered}
 use Rattle.page_buffer.specs.Shown.{kept_data, present_data}
 use Rattle.bad_blocks.specs.Standing.{HasFree}
-use Rattle.collector.specs.Making.{WhyNoRoom}
+use Rattle.collector.specs.Making.{FitsOpen, WhyNoRoom}
 use Rattle.collector.specs.declared.fault.RoomFault.{RoomFault}
 use Rattle.pages.specs.Stores.{IsCarried}
 use Rattle.commits.specs.Keeping.{IsAnswered}
@@ -39,3 +39,8 @@ pub record IsCommitted (spare : ℕ) (old new : Device) (t t' : Table) (x x' : I
 abbrev pub CommitEnds : (spare : ℕ) → Device → Device → Table → Table → Index → Index → Buffer → Buffer → Result (Unit {0}) RoomFault → Type 0
 CommitEnds spare old new t t' x x' b b' (Ok done) = IsCommitted spare old new t t' x x' b b'
 CommitEnds spare old new t t' x x' b b' (Err fault) = WhyNoRoom (length (buffered b)) spare new t t' fault
+
+-- Where the open block has room for so many pages, and no failure is counted, the device counts no more changes than one for
+-- each of them: no block is taken.
+abbrev pub TakesNoBlock : (count : ℕ) → Table → Device → Device → Type 0
+TakesNoBlock count t old new = FitsOpen count t → new.failures ≡ old.failures → new.changes ≤ old.changes + count

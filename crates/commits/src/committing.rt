@@ -15,7 +15,7 @@ ghost use Rattle.bad_blocks.specs.Moving.{Costs, MarksFailures};
 ghost use Rattle.bad_blocks.specs.Room.{IsRoomFor};
 ghost use Rattle.bad_blocks.specs.Standing.{HasFree, Stands};
 ghost use Rattle.commits.specs.Carrying.{AreWritable, CarriesEither, KeepsOrShows};
-ghost use Rattle.commits.specs.Committing.{CommitEnds, SameSizes};
+ghost use Rattle.commits.specs.Committing.{CommitEnds, SameSizes, TakesNoBlock};
 ghost use Rattle.commits.specs.Keeping.{StaysReady, WaitsOrSettles};
 
 use crate::turn::write_whole;
@@ -74,6 +74,8 @@ pub fn commit<N: Nand>(
     ensures marks { MarksFailures 0 0 (N.state device.old) (N.state device.new) (table blocks.old) (table blocks.new) }
     // The programs of the pages, a making of room, and a retirement and two of these again for each failure.
     ensures costs { Costs (length (buffered buffer.old) + (N.state device.old).geometry.pages + 1) (3 * (N.state device.old).geometry.pages + 3) 0 (N.state device.old) (N.state device.new) }
+    // A block is taken only where the open one lacks the pages, or a program failed.
+    ensures takes_none { TakesNoBlock (length (buffered buffer.old)) (table blocks.old) (N.state device.old) (N.state device.new) }
     ensures room { IsRoomFor (N.state device.new).geometry room.new }
     ensures buffers { Buffers index.new (buffered buffer.new) }
     ensures waits { WaitsOrSettles index.old index.new (buffered buffer.old) (buffered buffer.new) }

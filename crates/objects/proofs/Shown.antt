@@ -1,6 +1,6 @@
 -- What the cache shows after its calls.
-use Rattle.std.specs.Prelude.{◌≡◌, ◌⊎◌, ◌≤◌, ℕ, zero, suc, List, [], ◌∷◌, ◌++◌, Option, Some, None, IsSome, option_and_then, slice_get}
-use Rattle.std.proofs.Common.{refl, sym, ◌∙◌, ap, subst, inl, inr, is_some}
+use Rattle.std.specs.Prelude.{◌≡◌, ◌⊎◌, ◌<◌, ◌≤◌, ◌+◌, ℕ, zero, suc, List, [], ◌∷◌, ◌++◌, length, Option, Some, None, IsSome, option_and_then, slice_get}
+use Rattle.std.proofs.Common.{refl, sym, ◌∙◌, ap, subst, inl, inr, is_some, arith}
 use Rattle.std.proofs.lemmas.Bool.{cases_eq}
 use Rattle.flash_tree.specs.declared.place.FreshPage.{FreshPage}
 use Rattle.pages.specs.Maps.{PageMap, IsOf, IsCut}
@@ -44,11 +44,33 @@ fewer_placed o c old new puts p q xs is = elim (key_cases o c p q) [
 pub fewer_same : (old new : PageCache) → HasTheSame old new → HasNoMore old new
 fewer_same old new same p q xs is = sym (ap (option_and_then page_in) (same.each p q)) ∙ is
 
-pub fewer_removed : (o c : ℕ) (old new : PageCache) → Changes o c None old new → HasNoMore old new
-fewer_removed o c old new changes p q xs is = elim (key_cases o c p q) [
-  | inl at ↦ nothing_is (cached new p q) xs (cached_there new o c p q None at changes.here) is
-  | inr other ↦ sym (ap (option_and_then page_in) (changes.others p q other)) ∙ is
-]
+-- a place that a page left
+module _ (o c : ℕ) (old new : PageCache) (vacated : IsSome (held old o c) → Changes o c (Some Place) old new) (nothing : held old o c ≡ None → HasTheSame old new) where
+  pub sizes_vacated : KeepsSizes old new
+  sizes_vacated = go (held old o c) refl
+    where
+      go : (h : Option Held) → held old o c ≡ h → KeepsSizes old new
+      go None none = (nothing none).sizes
+      go (Some h) some = (vacated (ap (λ (x : Option Held). is_some x) some)).sizes
+
+  pub fewer_vacated : HasNoMore old new
+  fewer_vacated p q xs is = go (held old o c) refl
+    where
+      go : (h : Option Held) → held old o c ≡ h → cached old p q ≡ Some xs
+      go None none = fewer_same old new (nothing none) p q xs is
+      go (Some h) some =
+          let changes : Changes o c (Some Place) old new = vacated (ap (λ (x : Option Held). is_some x) some) in
+          elim (key_cases o c p q) [
+            | inl at ↦ nothing_is (cached new p q) xs (cached_there new o c p q (Some Place) at changes.here) is
+            | inr other ↦ sym (ap (option_and_then page_in) (changes.others p q other)) ∙ is
+          ]
+
+  pub gone_vacated : cached new o c ≡ None
+  gone_vacated = go (held old o c) refl
+    where
+      go : (h : Option Held) → held old o c ≡ h → cached new o c ≡ None
+      go None none = ap (option_and_then page_in) ((nothing none).each o c ∙ none)
+      go (Some h) some = ap (option_and_then page_in) (vacated (ap (λ (x : Option Held). is_some x) some)).here
 
 pub fewer_dropped : (o c : ℕ) (old new : PageCache) → DropsFrom o c old new → HasNoMore old new
 fewer_dropped o c old new drops p q xs is = go (held new p q) refl
@@ -80,6 +102,49 @@ shows_exchanged o c bytes old new m taken given there shows p q xs is = go (held
           | inl at ↦ ap (λ n. m n q) at.0 ∙ ap (λ n. m o n) at.1 ∙ there ∙ sym (cached_there new o c p q (Some (Page bytes)) at changes.here) ∙ is
           | inr other ↦ shows p q xs (sym (ap (option_and_then page_in) (changes.others p q other)) ∙ is)
         ]
+
+-- what the cache has of keys after a page was put in the place of one
+module _ (o c : ℕ) (bytes : List ℕ) (old new : PageCache) (taken : IsSome (held old o c) → Changes o c (Some (Page bytes)) old new) (given : held old o c ≡ None → HasTheSame old new) where
+  pub held_exchanged : (p q : ℕ) → IsSome (held old p q) → IsSome (held new p q)
+  held_exchanged p q was = go (held old o c) refl
+    where
+      go : (h : Option Held) → held old o c ≡ h → IsSome (held new p q)
+      go None none = ap (λ (x : Option Held). is_some x) ((given none).each p q) ∙ was
+      go (Some h) some =
+          let changes : Changes o c (Some (Page bytes)) old new = taken (ap (λ (x : Option Held). is_some x) some) in
+          elim (key_cases o c p q) [
+            | inl at ↦ ap (λ (x : Option Held). is_some x) (ap (λ n. held new n q) at.0 ∙ ap (λ n. held new o n) at.1 ∙ changes.here)
+            | inr other ↦ ap (λ (x : Option Held). is_some x) (changes.others p q other) ∙ was
+          ]
+
+  pub cached_exchanged : (p q : ℕ) → IsSome (cached old p q) → IsSome (cached new p q)
+  cached_exchanged p q was = go (held old o c) refl
+    where
+      go : (h : Option Held) → held old o c ≡ h → IsSome (cached new p q)
+      go None none = ap (λ (x : Option Held). is_some (option_and_then page_in x)) ((given none).each p q) ∙ was
+      go (Some h) some =
+          let changes : Changes o c (Some (Page bytes)) old new = taken (ap (λ (x : Option Held). is_some x) some) in
+          elim (key_cases o c p q) [
+            | inl at ↦ ap (λ (x : Option (List ℕ)). is_some x) (cached_there new o c p q (Some (Page bytes)) at changes.here)
+            | inr other ↦ ap (λ (x : Option Held). is_some (option_and_then page_in x)) (changes.others p q other) ∙ was
+          ]
+
+  pub cached_here : IsSome (held old o c) → IsSome (cached new o c)
+  cached_here there = ap (λ (x : Option Held). is_some (option_and_then page_in x)) (taken there).here
+
+-- the pages of a list before its last one, and that one
+pub get_before : (ps : List FreshPage) (p : FreshPage) (i : ℕ) → i < length ps → slice_get (ps ++ p ∷ []) i ≡ slice_get ps i
+get_before [] p i lt = absurd (omega (arith, lt))
+get_before (q ∷ ps) p zero lt = refl
+get_before (q ∷ ps) p (suc i) lt = get_before ps p i (omega (arith, lt))
+
+pub get_last : (ps : List FreshPage) (p : FreshPage) → slice_get (ps ++ p ∷ []) (length ps) ≡ Some p
+get_last [] p = refl
+get_last (q ∷ ps) p = get_last ps p
+
+pub one_longer : (ps : List FreshPage) (p : FreshPage) → length (ps ++ p ∷ []) ≡ length ps + 1
+one_longer [] p = refl
+one_longer (q ∷ ps) p = let more = one_longer ps p in omega (arith, more)
 
 -- what holds of each of the pages holds of the last and of those before it
 module _ (P : FreshPage → Type 0) where

@@ -1,5 +1,5 @@
 -- What a change and a commit leave of a store.
-use Rattle.std.specs.Prelude.{◌≡◌, ◌<◌, ◌≤◌, ◌^◌, ℕ, Bool, true, false, List, [], ◌∷◌, length, Option, Some, None, IsSome, IsTrue, Result, Ok, Err, OnOk, slice_get}
+use Rattle.std.specs.Prelude.{◌≡◌, ◌<◌, ◌≤◌, ◌+◌, ◌^◌, ℕ, Bool, true, false, List, [], ◌∷◌, length, Option, Some, None, IsSome, IsTrue, Result, Ok, Err, OnOk, slice_get}
 use Rattle.std.specs.Option.{option_map, option_and_then}
 use Rattle.std.proofs.Common.{refl, sym, ◌∙◌, ap, subst, inl, inr, arith}
 use Rattle.std.proofs.lemmas.Bool.{cases_eq, false≢true}
@@ -7,7 +7,7 @@ use Rattle.nand_model.specs.Flash.{Flash}
 use Rattle.nand_model.specs.Calls.{Device}
 use Rattle.flash_tree.specs.declared.place.FreshPage.{FreshPage}
 use Rattle.flash_tree.specs.declared.place.Key.{Key}
-use Rattle.block_state.specs.Table.{Table}
+use Rattle.block_state.specs.Table.{Table, room}
 use Rattle.chunk_index.specs.declared.entry.Entry.{Entry}
 use Rattle.chunk_index.specs.declared.form.Present.{Present}
 use Rattle.chunk_index.specs.declared.form.Present.TheVariants as presents
@@ -32,6 +32,7 @@ use Rattle.page_cache.specs.declared.cache.PageCache.{PageCache}
 use Rattle.volume_terms.specs.declared.fault.StoreFault.{StoreFault}
 use Rattle.objects.specs.Caching.{Shows, HasNoMore, LacksCuts, LacksPages, AreIn}
 use Rattle.commits.specs.Carrying.{AreWritable}
+use Rattle.commits.specs.Committing.{TakesNoBlock}
 use Rattle.objects.specs.Changing.{IsCommitFault, fault_of}
 use Rattle.pages.specs.Changes.{AreOfObjects}
 use Rattle.pages.specs.Stores.{SamePages}
@@ -214,3 +215,18 @@ pub hands_between : (d e f k : Device) (t u v w : Table) → e ≡ d → u ≡ t
 hands_between d e f k t u v w before tables hands after then =
     subst (λ (x : Device). HandsOut d x t w) (sym after) (subst (λ (y : Table). HandsOut d f t y) (sym then)
     (subst (λ (x : Device). HandsOut x f t v) before (subst (λ (y : Table). HandsOut e f y v) tables hands)))
+
+-- ---- no block is taken
+
+pub takes_still : (count : ℕ) (t : Table) (d e : Device) → e ≡ d → TakesNoBlock count t d e
+takes_still count t d e still = λ _ _. let same : e.changes ≡ d.changes = ap (λ (k : Device). k.changes) still in omega (arith, same)
+
+pub takes_between : (count now : ℕ) (t u : Table) (d e f k : Device) → e ≡ d → u ≡ t → now ≡ count → k ≡ f → TakesNoBlock now u e f → TakesNoBlock count t d k
+takes_between count now t u d e f k before tables long after takes = λ fits none.
+    let was : e.failures ≡ d.failures = ap (λ (x : Device). x.failures) before in
+    let is : k.failures ≡ f.failures = ap (λ (x : Device). x.failures) after in
+    let old : e.changes ≡ d.changes = ap (λ (x : Device). x.changes) before in
+    let new : k.changes ≡ f.changes = ap (λ (x : Device). x.changes) after in
+    let fit : now ≤ room t = omega (arith, fits, long) in
+    let few : f.changes ≤ e.changes + now = takes (subst (λ (x : Table). now ≤ room x) (sym tables) fit) (omega (arith, none, was, is)) in
+    omega (arith, few, old, new, long)

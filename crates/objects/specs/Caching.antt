@@ -1,9 +1,9 @@
 -- What the cache has of present pages.
-use Rattle.std.specs.Prelude.{◌≡◌, ℕ, List, Some, None, slice_get}
+use Rattle.std.specs.Prelude.{◌≡◌, ℕ, List, Some, None, IsSome, slice_get}
 use Rattle.flash_tree.specs.declared.place.FreshPage.{FreshPage}
 use Rattle.pages.specs.Maps.{PageMap, IsOf, IsCut}
 use Rattle.pages.specs.declared.change.Cut.{Cut}
-use Rattle.page_cache.specs.Cached.{cached}
+use Rattle.page_cache.specs.Cached.{held, cached}
 use Rattle.page_cache.specs.declared.cache.PageCache.{PageCache}
 
 -- each page in the cache is its key's in the map
@@ -25,3 +25,7 @@ LacksPages pages cache = (o c i : ℕ) → IsOf pages o c i → cached cache o c
 -- each of the pages is its key's in the map
 abbrev pub AreIn : List FreshPage → PageMap → Type 0
 AreIn pages m = (i : ℕ) (p : FreshPage) → slice_get pages i ≡ Some p → m p.key.object p.key.chunk ≡ Some p.bytes.items
+
+-- the key of each of the pages has a page in the cache, where the cache had one of it or a place for one
+abbrev pub TakesPages : List FreshPage → PageCache → PageCache → Type 0
+TakesPages pages old new = (i : ℕ) (p : FreshPage) → slice_get pages i ≡ Some p → IsSome (held old p.key.object p.key.chunk) → IsSome (cached new p.key.object p.key.chunk)

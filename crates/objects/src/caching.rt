@@ -4,9 +4,9 @@ ghost use Rattle.pages.specs.Maps.{PageMap};
 ghost use Rattle.page_buffer.specs.BufferOf.{buffered, written, most_pages, bytes_of_page};
 ghost use Rattle.page_cache.specs.Cached.{cached, page_bytes_of};
 ghost use Rattle.page_cache.specs.Changes.{KeepsSizes};
-ghost use Rattle.objects.specs.Caching.{Shows, HasNoMore, LacksCuts, LacksPages, AreIn};
+ghost use Rattle.objects.specs.Caching.{Shows, HasNoMore, LacksCuts, LacksPages, AreIn, TakesPages};
 
-use flash_tree::{FreshPage, Key};
+use flash_tree::FreshPage;
 use page_buffer::Buffer;
 use page_cache::PageCache;
 use pages::Cut;
@@ -35,25 +35,14 @@ pub(crate) fn drop_cuts(cache: &mut PageCache, cuts: &[Cut])
     }
 }
 
-/// The page of a key goes. A place for one stays.
-fn drop_page(cache: &mut PageCache, key: Key)
-    ensures sizes { KeepsSizes cache.old cache.new }
-    ensures fewer { HasNoMore cache.old cache.new }
-    ensures gone { cached cache.new key.object key.chunk ≡ None }
-{
-    if cache.page(key).is_some() {
-        cache.remove(key);
-    }
-}
-
-/// What the cache has of the keys of the pages goes. Places for them stay.
+/// The pages that the cache has of the keys of these pages go. Places for them stay.
 pub(crate) fn drop_pages(cache: &mut PageCache, pages: &[FreshPage])
     ensures sizes { KeepsSizes cache.old cache.new }
     ensures fewer { HasNoMore cache.old cache.new }
     ensures lacks { LacksPages pages.now cache.new }
 {
     for page in pages {
-        drop_page(cache, page.key);
+        cache.vacate(page.key);
     }
 }
 
@@ -64,6 +53,7 @@ pub(crate) fn keep_written(buffer: &mut Buffer, cache: &mut PageCache)
     ensures buffer_sizes { (most_pages buffer.new ≡ most_pages buffer.old) × (bytes_of_page buffer.new ≡ bytes_of_page buffer.old) }
     ensures sizes { KeepsSizes cache.old cache.new }
     ensures shows { (m : PageMap) → Shows cache.old m → AreIn (written buffer.old) m → Shows cache.new m }
+    ensures takes { TakesPages (written buffer.old) cache.old cache.new }
 {
     while let Some(page) = buffer.take_written() {
         let _frame = cache.exchange(page.key, page.bytes);

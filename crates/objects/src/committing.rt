@@ -6,6 +6,7 @@ ghost use Rattle.chunk_index.specs.Maps.{IsReady as IsReadyKey};
 ghost use Rattle.transactions.specs.Handing.{HandsOut};
 ghost use Rattle.bad_blocks.specs.Moving.{MarksFailures};
 ghost use Rattle.page_buffer.specs.BufferOf.{buffered};
+ghost use Rattle.commits.specs.Committing.{TakesNoBlock};
 ghost use Rattle.pages.specs.Stores.{SamePages, IsCarried};
 ghost use Rattle.objects.specs.Changing.{IsCommitFault, fault_of};
 
@@ -50,6 +51,8 @@ impl<N: Nand> Store<N> {
         ensures carried { self.old.broken ≡ false → (N.state self.old.device).honest ≡ true
             → IsCarried (N.state self.new.device) self.old.spare (kept_map (N.state self.old.device) self.old.index)
             ⊎ IsCarried (N.state self.new.device) self.old.spare (present_map (N.state self.old.device) self.old.index self.old.buffer) }
+        // A block is taken only where the open one lacks the pages, or a program failed.
+        ensures takes_none { TakesNoBlock (length (buffered self.old.buffer)) (table self.old.blocks) (N.state self.old.device) (N.state self.new.device) }
         ensures nothing { buffered self.old.buffer ≡ [] → N.state self.new.device ≡ N.state self.old.device }
         ensures stops { OnErr result (self.new.broken ≡ true) }
         ensures fault { IfErr result (IsCommitFault self.old.spare (length (buffered self.old.buffer)) (N.state self.new.device) (table self.old.blocks) (table self.new.blocks) self.old.broken) }

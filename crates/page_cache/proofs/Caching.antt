@@ -1,16 +1,18 @@
 -- What becomes of the keys of a cache.
-use Rattle.std.proofs.Common.{◌≡◌, ◌≤◌, ◌<◌, ℕ, zero, suc, ◌+◌, ◌-◌, ◌==◌, Bool, true, false, ◌&&◌, ◌⊎◌, List, [], ◌∷◌, length, Contains, Option, Some, None, IsSome, refl, sym, ◌∙◌, ap, subst, inl, inr, arith, is_some, option_map, slice_get, IfSome, Bor, Result, Ok, Err, OnOk, OnErr, option_and_then}
-use Rattle.std.proofs.lemmas.Bool.{cases_Bool, true≢false, cond-true, and_parts, eqb-true, eq-eqb}
+use Rattle.std.proofs.Common.{◌≡◌, ◌≤◌, ◌<◌, ℕ, zero, suc, ◌+◌, ◌-◌, ◌==◌, Bool, true, false, ◌&&◌, ◌⊎◌, List, [], ◌∷◌, length, cond, Contains, Option, Some, None, IsSome, refl, sym, ◌∙◌, ap, subst, inl, inr, arith, is_some, option_map, slice_get, IfSome, Bor, Result, Ok, Err, OnOk, OnErr, option_and_then}
+use Rattle.std.proofs.lemmas.Bool.{cases_Bool, true≢false, cond-true, cond-false, and_parts, eqb-true, eq-eqb}
 use Rattle.std.proofs.lemmas.Cmp.{nat_eq_equiv, and_equiv, on_equiv}
 use Rattle.std.specs.Cmp.{IsEquivalence}
+use Rattle.std.specs.declared.vec.Vec.{Vec}
+use Rattle.std.specs.declared.alloc.Global.{Global}
 use Rattle.std.specs.List.{IsDistinct}
-use Rattle.std.specs.Map.{lookup, remove_entry, keys_of}
-use Rattle.std.proofs.lemmas.Map.{lookup-remove_entry}
+use Rattle.std.specs.Map.{lookup, remove_entry, set_value, keys_of}
+use Rattle.std.proofs.lemmas.Map.{lookup-remove_entry, lookup-set_value}
 use Rattle.lru.specs.LruCache.{LruCache, lru_cache, promoted, put_entries, displaced}
-use Rattle.lru.proofs.Splits.{Contains-head, Contains-tail}
+use Rattle.lru.proofs.Splits.{Contains-cons, Contains-head, Contains-tail}
 use Rattle.lru.proofs.CallerLemmas.{Contains-put_entries, Contains-promoted, Contains-remove_entry, Contains-lookup, lookup-put_entries}
 use Rattle.std.specs.Option.{option_copied, option_map_or}
-use Rattle.page_cache.specs.Slots.{held_in, page_in, is_key, frame_of, AreSized}
+use Rattle.page_cache.specs.Slots.{Place, held_in, page_in, is_key, frame_of, AreSized}
 use Rattle.page_cache.specs.Cached.{held, held_count, capacity_of}
 use Rattle.page_cache.specs.Changes.{HasTheSame, IsOther, Changes, Puts}
 use Rattle.page_cache.specs.declared.slot.Slot.{Slot}
@@ -35,10 +37,34 @@ keys_apart o c p q other k e = elim (cases_Bool (is_key p q k)) [
   | inr no' ↦ no'
 ]
 
+-- another key passes no test of this one
+not_key : (o c p q : ℕ) → IsOther o c p q → is_key o c (p, q) ≡ false
+not_key o c p q other = elim (cases_Bool (is_key o c (p, q))) [
+  | inl e ↦ let same = key_same o c (p, q) e in absurd (other (sym same.0) (sym same.1))
+  | inr no' ↦ no'
+]
+
 got_contains : {X : Type 0} (xs : List X) (i : ℕ) (x : X) → slice_get xs i ≡ Some x → Contains xs x
 got_contains [] i x e = absurd cc
 got_contains (y ∷ xs) zero x e = let same : y ≡ x = cc in subst (Contains (y ∷ xs)) same (Contains-head y xs)
 got_contains (y ∷ xs) (suc i) x e = Contains-tail y xs x (got_contains xs i x e)
+
+-- a value that is set is the one of an entry, and the others were there
+Contains-set : (test : ℕ × ℕ → Bool) (es : List ((ℕ × ℕ) × Slot)) (slot : Slot) (e : (ℕ × ℕ) × Slot) → Contains (set_value test es slot) e → Contains es e ⊎ (e.1 ≡ slot)
+Contains-set test [] slot e in' = inl in'
+Contains-set test (f ∷ es) slot e in' = elim (cases_Bool (test f.0)) [
+  | inl y ↦ elim (Contains-cons (f.0, slot) es e (subst (λ (l : List ((ℕ × ℕ) × Slot)). Contains l e) (cond-true _ ((f.0, slot) ∷ es) (f ∷ set_value test es slot) y) in')) [
+    | inl here ↦ inr (sym (ap (λ (x : (ℕ × ℕ) × Slot). x.1) here))
+    | inr later ↦ inl (Contains-tail f es e later)
+  ]
+  | inr n ↦ elim (Contains-cons f (set_value test es slot) e (subst (λ (l : List ((ℕ × ℕ) × Slot)). Contains l e) (cond-false _ ((f.0, slot) ∷ es) (f ∷ set_value test es slot) n) in')) [
+    | inl here ↦ inl (subst (Contains (f ∷ es)) here (Contains-head f es))
+    | inr later ↦ elim (Contains-set test es slot e later) [
+      | inl there ↦ inl (Contains-tail f es e there)
+      | inr put ↦ inr put
+    ]
+  ]
+]
 
 pub key_laws : IsEquivalence key_eq
 key_laws = and_equiv (on_equiv (λ (t : ℕ × ℕ). t.0) nat_eq_equiv) (on_equiv (λ (t : ℕ × ℕ). t.1) nat_eq_equiv)
@@ -86,6 +112,23 @@ module _ (old new : PageCache) (o c : ℕ) (size : new.page_bytes ≡ old.page_b
       one : (x y : ℕ × ℕ) → is_key o c x ≡ true → is_key o c y ≡ key_eq x y
       one x y e = key_laws.congr (o, c) x y e
 
+  pub vacates : (slot : Slot) → held_in slot ≡ Place → IsSome (held old o c) → new.slots ≡ lru_cache (set_value (is_key o c) old.slots.entries slot) old.slots.cap → Changes o c (Some Place) old new
+  vacates slot place there is = record {
+    sizes = record { page_bytes = size; capacity = ap (λ (s : LruCache (ℕ × ℕ) Slot). s.cap) is };
+    here =
+        ap (λ (s : LruCache (ℕ × ℕ) Slot). option_map held_in (lookup (is_key o c) s.entries)) is
+        ∙ ap (option_map held_in) (set (o, c) ∙ cond-true _ (Some slot) (lookup (is_key o c) old.slots.entries) (key_laws.refl (o, c))) ∙ ap Some place;
+    others = λ p q other.
+        ap (λ (s : LruCache (ℕ × ℕ) Slot). option_map held_in (lookup (is_key p q) s.entries)) is
+        ∙ ap (option_map held_in) (set (p, q) ∙ cond-false _ (Some slot) (lookup (is_key p q) old.slots.entries) (not_key o c p q other));
+  }
+    where
+      one : (x y : ℕ × ℕ) → is_key o c x ≡ true → is_key o c y ≡ key_eq x y
+      one x y e = key_laws.congr (o, c) x y e
+
+      set : (k : ℕ × ℕ) → lookup (key_eq k) (set_value (is_key o c) old.slots.entries slot) ≡ cond (is_key o c k) (Some slot) (lookup (key_eq k) old.slots.entries)
+      set k = lookup-set_value key_laws (is_key o c) one k slot old.slots.entries (some_held (lookup (is_key o c) old.slots.entries) there)
+
   pub promotes : new.slots ≡ lru_cache (promoted (is_key o c) old.slots.entries) old.slots.cap → HasTheSame old new
   promotes is = record {
     sizes = record { page_bytes = size; capacity = ap (λ (s : LruCache (ℕ × ℕ) Slot). s.cap) is };
@@ -131,6 +174,13 @@ module _ (bytes : ℕ) (old : LruCache (ℕ × ℕ) Slot) (new : LruCache (ℕ �
 
   found_sized : (k : ℕ × ℕ) (f : Option Slot) (it : Slot) → lookup (key_eq k) old.entries ≡ f → f ≡ Some it → length (frame_of it).items ≡ bytes
   found_sized k f it is found = let c = Contains-lookup (key_eq k) old.entries it (is ∙ found) in sized c.0 it c.1
+
+  -- and where the slot of a key has another with its frame
+  pub vacated_sized : (k : ℕ × ℕ) (was slot : Slot) → lookup (key_eq k) old.entries ≡ Some was → frame_of slot ≡ frame_of was → new ≡ lru_cache (set_value (key_eq k) old.entries slot) old.cap → AreSized bytes new.entries
+  vacated_sized k was slot found same is key it in' = elim (Contains-set (key_eq k) old.entries slot (key, it) (subst (λ (s : LruCache (ℕ × ℕ) Slot). Contains s.entries (key, it)) is in')) [
+    | inl there ↦ sized key it there
+    | inr put ↦ ap (λ s. length (frame_of s).items) put ∙ ap (λ (f : Vec ℕ Global). length f.items) same ∙ found_sized k (Some was) was found refl
+  ]
 
   -- and the frame of the slot that was over
   pub displaced_sized : (k key : ℕ × ℕ) (slot it : Slot) → displaced key_eq old k slot ≡ Some (key, it) → length (frame_of it).items ≡ bytes

@@ -119,6 +119,16 @@ impl PageCache {
         }
     }
 
+    /// The page of the key goes, and its frame is a place for the one that the key is to get. It takes no memory.
+    pub fn vacate(&mut self, key: Key)
+        ensures vacated { IsSome (held self.old key.object key.chunk) → Changes key.object key.chunk (Some Place) self.old self.new }
+        ensures nothing { held self.old key.object key.chunk ≡ None → HasTheSame self.old self.new }
+    {
+        if let Some(slot) = self.slots.peek_mut(&(key.object, key.chunk)) {
+            slot.vacate(self.alloc);
+        }
+    }
+
     /// What there is of the key goes.
     pub fn remove(&mut self, key: Key)
         ensures gone { Changes key.object key.chunk None self.old self.new }

@@ -2,6 +2,9 @@
 ghost use Rattle.std.specs.Prelude.{◌≡◌};
 ghost use Rattle.std.specs.Option.{option_copied};
 
+use std::alloc::Global;
+use std::mem;
+
 /// What the cache has of a key, in a frame, which is a page's room in memory.
 #[derive(Drop)]
 pub enum Slot {
@@ -12,7 +15,7 @@ pub enum Slot {
 }
 
 impl Slot {
-    ghost use Rattle.page_cache.specs.Slots.{frame_of, held_in, page_in};
+    ghost use Rattle.page_cache.specs.Slots.{Place, frame_of, held_in, page_in};
 
     /// The frame, whatever its bytes are of.
     pub(crate) fn into_frame(self) -> Vec<u8>
@@ -32,5 +35,14 @@ impl Slot {
             Slot::Page(frame) => Some(frame),
             Slot::Place(_) => None,
         }
+    }
+
+    /// The frame is a place, whatever its bytes were of.
+    pub(crate) fn vacate(&mut self, alloc: Global)
+        ensures place { held_in self.new ≡ Place }
+        ensures frame { frame_of self.new ≡ frame_of self.old }
+    {
+        let slot = mem::replace(self, Slot::Place(Vec::new(alloc)));
+        *self = Slot::Place(slot.into_frame());
     }
 }

@@ -1,6 +1,6 @@
 -- Why a sound store has failed.
 use Rattle.std.specs.Prelude.{◌≡◌, Bool, true, false, not, ◌&&◌, ◌||◌}
-use Rattle.std.proofs.Common.{sym, ◌∙◌, refl}
+use Rattle.std.proofs.Common.{refl}
 
 -- its device is gone: it is honest, and no commit failed
 pub lost_alone : (gone honest broken : Bool) → (honest && not broken) ≡ true → (gone || (not honest || broken)) ≡ true → gone ≡ true

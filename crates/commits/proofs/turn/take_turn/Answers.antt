@@ -1,4 +1,4 @@
-use Rattle.std.proofs.Common.{◌≡◌, ◌<◌, ◌≤◌, ◌+◌, ◌*◌, ℕ, List, length, refl, sym, ap, subst, arith, inl, inr, ◌∙◌}
+use Rattle.std.proofs.Common.{◌≡◌, ◌≤◌, ◌+◌, ◌*◌, ℕ, List, length, refl, ap, subst, arith, inl, inr, ◌∙◌}
 use Rattle.std.proofs.lemmas.Result.{err_from_is_err_and}
 use Rattle.nand_model.specs.Calls.{Device}
 use Rattle.flash_tree.specs.declared.place.FreshPage.{FreshPage}
@@ -6,7 +6,8 @@ use Rattle.block_state.specs.Kept.{bad_count}
 use Rattle.nand_model.specs.declared.geometry.Geometry.{Geometry}
 use Rattle.block_state.specs.Table.{Table, room as room_of}
 use Rattle.bad_blocks.specs.Moving.{Costs}
-use Rattle.commits.proofs.Costing.{costs_changes, costs_each, costs_failed, costs_more, costs_on, room_most}
+use Rattle.collector.specs.Making.{FitsOpen}
+use Rattle.commits.proofs.Costing.{costs_changes, costs_each, costs_failed, costs_more, costs_on, room_most, takes_none_written, takes_none_failed}
 use Rattle.block_state.specs.TableOf.{table}
 use Rattle.chunk_index.specs.declared.index.Index.{Index}
 use Rattle.page_buffer.specs.declared.buffer.Buffer.{Buffer}
@@ -640,3 +641,83 @@ returns-in_ok-retire-in-Failed-clause-costs g c =
     let fit : count ≤ size = omega (arith, held, most, many, c.in_ok-make_room.ensures.ends.fits) in
     let paid : Costs 0 each 0 d0 d3 = costs_failed (size + 1) count (size + 2) each d0 d1 d2 d3 made c.write_buffered.ensures.costs failed after (omega (arith, fit)) in
     paid
+
+pub returns-in_err-make_room-clause-takes_none : goal.returns-in_err-make_room-clause-takes_none
+returns-in_err-make_room-clause-takes_none g c =
+    let d0 : Device = g.N.Nand.state c.args.device.now in
+    let d1 : Device = g.N.Nand.state c.make_room.new.device in
+    let t0 : Table = table c.args.blocks.now in
+    let count : ℕ = length (buffered c.args.buffer.now) in
+    let many = ap length c.pages.ensures in
+    let same : FitsOpen count t0 → d1 ≡ d0 = λ fits. (c.make_room.ensures.enough (omega (arith, fits, many))).device in
+    takes_none_written count t0 d0 d1 d1 same (omega arith)
+
+pub returns-then-next_group-ge-LIMIT-clause-takes_none : goal.returns-then-next_group-ge-LIMIT-clause-takes_none
+returns-then-next_group-ge-LIMIT-clause-takes_none g c =
+    let d0 : Device = g.N.Nand.state c.args.device.now in
+    let d1 : Device = g.N.Nand.state c.make_room.new.device in
+    let t0 : Table = table c.args.blocks.now in
+    let count : ℕ = length (buffered c.args.buffer.now) in
+    let many = ap length c.pages.ensures in
+    let same : FitsOpen count t0 → d1 ≡ d0 = λ fits. (c.make_room.ensures.enough (omega (arith, fits, many))).device in
+    takes_none_written count t0 d0 d1 d1 same (omega arith)
+
+pub returns-in_err-write_buffered-clause-takes_none : goal.returns-in_err-write_buffered-clause-takes_none
+returns-in_err-write_buffered-clause-takes_none g c =
+    let d0 : Device = g.N.Nand.state c.args.device.now in
+    let d1 : Device = g.N.Nand.state c.make_room.new.device in
+    let t0 : Table = table c.args.blocks.now in
+    let count : ℕ = length (buffered c.args.buffer.now) in
+    let many = ap length c.pages.ensures in
+    let same : FitsOpen count t0 → d1 ≡ d0 = λ fits. (c.make_room.ensures.enough (omega (arith, fits, many))).device in
+    takes_none_written count t0 d0 d1 (g.N.Nand.state c.write_buffered.new.device) same c.write_buffered.ensures.costs
+
+pub returns-in-Trusted-clause-takes_none : goal.returns-in-Trusted-clause-takes_none
+returns-in-Trusted-clause-takes_none g c =
+    let d0 : Device = g.N.Nand.state c.args.device.now in
+    let d1 : Device = g.N.Nand.state c.make_room.new.device in
+    let t0 : Table = table c.args.blocks.now in
+    let count : ℕ = length (buffered c.args.buffer.now) in
+    let many = ap length c.pages.ensures in
+    let same : FitsOpen count t0 → d1 ≡ d0 = λ fits. (c.make_room.ensures.enough (omega (arith, fits, many))).device in
+    takes_none_written count t0 d0 d1 (g.N.Nand.state c.write_buffered.new.device) same c.write_buffered.ensures.costs
+
+pub returns-in_err-retire-in-Suspect-clause-takes_none : goal.returns-in_err-retire-in-Suspect-clause-takes_none
+returns-in_err-retire-in-Suspect-clause-takes_none g c =
+    let d0 : Device = g.N.Nand.state c.args.device.now in
+    let d1 : Device = g.N.Nand.state c.make_room.new.device in
+    let d2 : Device = g.N.Nand.state c.write_buffered.new.device in
+    let d3 : Device = g.N.Nand.state c.retire.new.device in
+    let bad = c.write_buffered.ensures.bad in
+    let failed : d1.failures + 1 ≤ d2.failures = omega (arith, bad, (rw c.in-Suspect.is at c.in_ok-write_buffered.ensures).marks) in
+    takes_none_failed (length (buffered c.args.buffer.now)) (table c.args.blocks.now) d0 d1 d2 d3 c.make_room.ensures.moves.1.lasts.failures failed c.retire.ensures.moves.lasts.failures
+
+pub returns-in_err-retire-in-Failed-clause-takes_none : goal.returns-in_err-retire-in-Failed-clause-takes_none
+returns-in_err-retire-in-Failed-clause-takes_none g c =
+    let d0 : Device = g.N.Nand.state c.args.device.now in
+    let d1 : Device = g.N.Nand.state c.make_room.new.device in
+    let d2 : Device = g.N.Nand.state c.write_buffered.new.device in
+    let d3 : Device = g.N.Nand.state c.retire-in-Failed.new.device in
+    let bad = c.write_buffered.ensures.bad in
+    let failed : d1.failures + 1 ≤ d2.failures = omega (arith, bad, (rw c.in-Failed.is at c.in_ok-write_buffered.ensures).marks) in
+    takes_none_failed (length (buffered c.args.buffer.now)) (table c.args.blocks.now) d0 d1 d2 d3 c.make_room.ensures.moves.1.lasts.failures failed c.retire-in-Failed.ensures.moves.lasts.failures
+
+pub returns-in_ok-retire-in-Suspect-clause-takes_none : goal.returns-in_ok-retire-in-Suspect-clause-takes_none
+returns-in_ok-retire-in-Suspect-clause-takes_none g c =
+    let d0 : Device = g.N.Nand.state c.args.device.now in
+    let d1 : Device = g.N.Nand.state c.make_room.new.device in
+    let d2 : Device = g.N.Nand.state c.write_buffered.new.device in
+    let d3 : Device = g.N.Nand.state c.retire.new.device in
+    let bad = c.write_buffered.ensures.bad in
+    let failed : d1.failures + 1 ≤ d2.failures = omega (arith, bad, (rw c.in-Suspect.is at c.in_ok-write_buffered.ensures).marks) in
+    takes_none_failed (length (buffered c.args.buffer.now)) (table c.args.blocks.now) d0 d1 d2 d3 c.make_room.ensures.moves.1.lasts.failures failed c.retire.ensures.moves.lasts.failures
+
+pub returns-in_ok-retire-in-Failed-clause-takes_none : goal.returns-in_ok-retire-in-Failed-clause-takes_none
+returns-in_ok-retire-in-Failed-clause-takes_none g c =
+    let d0 : Device = g.N.Nand.state c.args.device.now in
+    let d1 : Device = g.N.Nand.state c.make_room.new.device in
+    let d2 : Device = g.N.Nand.state c.write_buffered.new.device in
+    let d3 : Device = g.N.Nand.state c.retire-in-Failed.new.device in
+    let bad = c.write_buffered.ensures.bad in
+    let failed : d1.failures + 1 ≤ d2.failures = omega (arith, bad, (rw c.in-Failed.is at c.in_ok-write_buffered.ensures).marks) in
+    takes_none_failed (length (buffered c.args.buffer.now)) (table c.args.blocks.now) d0 d1 d2 d3 c.make_room.ensures.moves.1.lasts.failures failed c.retire-in-Failed.ensures.moves.lasts.failures

@@ -5,7 +5,7 @@ use Rattle.flash_tree.specs.declared.place.FreshPage.{FreshPage}
 use Rattle.nand_model.specs.declared.geometry.Geometry.{Geometry}
 use Rattle.block_state.specs.Table.{Table}
 use Rattle.bad_blocks.specs.Moving.{Costs}
-use Rattle.commits.proofs.Costing.{costs_more, costs_none, costs_on}
+use Rattle.commits.proofs.Costing.{costs_more, costs_none, costs_on, takes_none_turn}
 use Rattle.block_state.specs.TableOf.{table}
 use Rattle.chunk_index.specs.declared.index.Index.{Index}
 use Rattle.page_buffer.specs.BufferOf.{buffered}
@@ -21,6 +21,7 @@ loop-init g c = record {
   same = refl;
   marks = omega arith;
   costs = costs_none (3 * (g.N.Nand.state c.args.device.now).geometry.pages + 3) (g.N.Nand.state c.args.device.now);
+  first = λ _. (refl, refl);
   few = c.requires.few;
   free = c.requires.free;
   room = c.requires.room;
@@ -116,6 +117,7 @@ loop-preserved g c =
       same = again.ends.0.buffered_still ∙ so_far.same;
       marks = omega (arith, so_far.marks, again.marks);
       costs = costs_on 0 0 (3 * d0.geometry.pages + 3) d0 d e so_far.costs (subst (λ (z : Geometry). Costs 0 (3 * z.pages + 3) 0 d e) so_far.keeps.lasts.geometry again.costs);
+      first = λ still. let rise = so_far.keeps.lasts.failures in let more = again.ends.2 in let marks = again.marks in absurd (omega (arith, still, rise, more, marks));
       few = again.ends.3;
       free = again.ends.1;
       room = again.room;
@@ -147,3 +149,15 @@ returns-in-Written-clause-costs g c =
     let turn : Costs (length (buffered c.loop.buffer) + d0.geometry.pages + 1) (3 * d0.geometry.pages + 3) 0 d e = subst (λ (z : Geometry). Costs (length (buffered c.loop.buffer) + z.pages + 1) (3 * z.pages + 3) 0 d e) same ((rw c.in-Written.is at c.in_ok-take_turn.ensures).costs) in
     let both = costs_on 0 (length (buffered c.loop.buffer) + d0.geometry.pages + 1) (3 * d0.geometry.pages + 3) d0 d e so_far.costs turn in
     costs_more (0 + (length (buffered c.loop.buffer) + d0.geometry.pages + 1)) (length pages + d0.geometry.pages + 1) (3 * d0.geometry.pages + 3) d0 e (omega (arith, many)) both
+
+pub returns-in_err-take_turn-clause-takes_none : goal.returns-in_err-take_turn-clause-takes_none
+returns-in_err-take_turn-clause-takes_none g c =
+    let so_far = c.loop.invariant in
+    takes_none_turn (length (buffered c.args.buffer.now)) (length (buffered c.loop.buffer)) (table c.args.blocks.now) (table c.loop.blocks) (g.N.Nand.state c.args.device.now) (g.N.Nand.state c.loop.device) (g.N.Nand.state c.take_turn.new.device)
+    (ap length so_far.same) so_far.keeps.lasts c.take_turn.ensures.leaves.lasts so_far.first c.take_turn.ensures.takes_none
+
+pub returns-in-Written-clause-takes_none : goal.returns-in-Written-clause-takes_none
+returns-in-Written-clause-takes_none g c =
+    let so_far = c.loop.invariant in
+    takes_none_turn (length (buffered c.args.buffer.now)) (length (buffered c.loop.buffer)) (table c.args.blocks.now) (table c.loop.blocks) (g.N.Nand.state c.args.device.now) (g.N.Nand.state c.loop.device) (g.N.Nand.state c.take_turn.new.device)
+    (ap length so_far.same) so_far.keeps.lasts c.take_turn.ensures.leaves.lasts so_far.first c.take_turn.ensures.takes_none

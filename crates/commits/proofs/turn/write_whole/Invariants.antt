@@ -17,6 +17,7 @@ invariant-loop g l = record {
   same : buffered l.buffer ≡ buffered l.fn.buffer;
   marks : MarksFailures 0 0 (g.N.Nand.state l.fn.device) (g.N.Nand.state l.device) (table l.fn.blocks) (table l.blocks);
   costs : Costs 0 (3 * (g.N.Nand.state l.fn.device).geometry.pages + 3) 0 (g.N.Nand.state l.fn.device) (g.N.Nand.state l.device);
+  first : (g.N.Nand.state l.device).failures ≡ (g.N.Nand.state l.fn.device).failures → (g.N.Nand.state l.device ≡ g.N.Nand.state l.fn.device) × (table l.blocks ≡ table l.fn.blocks);
   few : bad_count (table l.blocks) ≤ l.spare;
   free : HasFree (table l.blocks) l.spare;
   room : IsRoomFor (g.N.Nand.state l.device).geometry l.room;

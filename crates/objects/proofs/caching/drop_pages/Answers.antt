@@ -3,21 +3,23 @@ use Rattle.std.proofs.Common.{◌∙◌, refl, ap, arith, inl, inr}
 use Rattle.std.proofs.lemmas.Bool.{cases_eq}
 use Rattle.std.proofs.lemmas.Option.{slice_get_within, slice_get_read}
 use Rattle.flash_tree.specs.declared.place.FreshPage.{FreshPage}
-use Rattle.objects.proofs.Shown.{sizes_on, lacks_on, lacks_page}
+use Rattle.objects.proofs.Shown.{sizes_on, sizes_vacated, fewer_vacated, gone_vacated, lacks_on, lacks_page}
 use Rattle.objects.proofs.caching.drop_pages.Goals as goal
 
 pub loop-page-preserved : goal.loop-page-preserved
 loop-page-preserved c =
     let p : FreshPage = c.page-item.result in
     let was = c.loop-page.invariant in
-    let does = c.drop_page.ensures in
+    let does = c.vacate.ensures in
+    let old = c.loop-page.cache in
+    let new = c.vacate.new.self in
     let at : slice_get c.args.pages.now c.loop-page.page-index ≡ Some p = slice_get_read c.args.pages.now (length c.args.pages.now) c.loop-page.page-index p refl c.loop-page-test.true c.page-item.is in
     record {
-      sizes = sizes_on _ _ _ was.sizes does.sizes;
-      fewer = λ o k xs is. was.fewer o k xs (does.fewer o k xs is);
+      sizes = sizes_on _ _ _ was.sizes (sizes_vacated p.key.object p.key.chunk old new does.vacated does.nothing);
+      fewer = λ o k xs is. was.fewer o k xs (fewer_vacated p.key.object p.key.chunk old new does.vacated does.nothing o k xs is);
       lacks = λ o k i lt of. elim (cases_eq i c.loop-page.page-index) [
-        | inr ne ↦ lacks_on c.loop-page.cache c.drop_page.new.cache o k does.fewer (was.lacks o k i (omega (arith, lt, ne)) of)
-        | inl e ↦ lacks_page c.drop_page.new.cache c.args.pages.now o k i p of (ap (slice_get c.args.pages.now) e ∙ at) does.gone
+        | inr ne ↦ lacks_on old new o k (fewer_vacated p.key.object p.key.chunk old new does.vacated does.nothing) (was.lacks o k i (omega (arith, lt, ne)) of)
+        | inl e ↦ lacks_page new c.args.pages.now o k i p of (ap (slice_get c.args.pages.now) e ∙ at) (gone_vacated p.key.object p.key.chunk old new does.vacated does.nothing)
       ];
     }
 

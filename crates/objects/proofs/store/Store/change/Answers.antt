@@ -1,9 +1,11 @@
-use Rattle.std.specs.Prelude.{◌≡◌, ◌⊎◌, true}
+use Rattle.std.specs.Prelude.{◌≡◌, ◌⊎◌, true, length}
 use Rattle.std.proofs.Common.{refl, ◌∙◌, sym, ap, subst, inl, inr, arith}
 use Rattle.nand_model.specs.Calls.{Device}
 use Rattle.block_state.specs.Kept.{bad_count}
 use Rattle.block_state.specs.TableOf.{table}
 use Rattle.block_state.specs.declared.blocks.Blocks.{Blocks}
+use Rattle.page_buffer.specs.BufferOf.{buffered}
+use Rattle.page_buffer.specs.declared.buffer.Buffer.{Buffer}
 use Rattle.chunk_index.specs.Maps.{SameKept}
 use Rattle.transactions.specs.laws.Handing.{hands_nothing}
 use Rattle.pages.specs.laws.Changes.{changed_same}
@@ -11,7 +13,7 @@ use Rattle.page_buffer.specs.Buffering.{AreReady}
 use Rattle.pages.specs.Stores.{IsCarried}
 use Rattle.objects.specs.StoreOf.{kept_map, present_map}
 use Rattle.objects.proofs.Carried.{carried_same, either_same, store_carries}
-use Rattle.objects.proofs.Steps.{same_back, same_on, fits_on, hands_still, hands_between, kept_map_same, present_map_same, ready_prepared}
+use Rattle.objects.proofs.Steps.{same_back, same_on, fits_on, hands_still, hands_between, takes_still, takes_between, kept_map_same, present_map_same, ready_prepared}
 use Rattle.objects.proofs.store.Store.change.Goals as goal
 
 pub returns-in_err-prepare-clause-carried : goal.returns-in_err-prepare-clause-carried
@@ -147,3 +149,27 @@ returns-clause-numbers g c =
     let same = c.prepare.ensures.same in
     let made = c.make.ensures.same in
     hands_between _ _ _ _ (table c.args.self.now.blocks) _ (table c.make_room.new.self.blocks) _ (ap g.N.Nand.state same.0) (ap table same.1) c.make_room.ensures.numbers (ap g.N.Nand.state made.0) (ap table made.1)
+
+pub returns-in_err-prepare-clause-takes_none : goal.returns-in_err-prepare-clause-takes_none
+returns-in_err-prepare-clause-takes_none g c =
+    let self = c.args.self.now in
+    takes_still (length (buffered self.buffer)) (table self.blocks) (g.N.Nand.state self.device) (g.N.Nand.state c.prepare.new.self.device) (ap g.N.Nand.state c.prepare.ensures.same.0)
+
+pub returns-in_err-make_room-clause-takes_none : goal.returns-in_err-make_room-clause-takes_none
+returns-in_err-make_room-clause-takes_none g c =
+    let self = c.args.self.now in
+    let p = c.prepare.new.self in
+    let same = c.prepare.ensures.same in
+    let now : Device = g.N.Nand.state c.make_room.new.self.device in
+    takes_between (length (buffered self.buffer)) (length (buffered p.buffer)) (table self.blocks) (table p.blocks) (g.N.Nand.state self.device) (g.N.Nand.state p.device) now now (ap g.N.Nand.state same.0) (ap table same.1)
+    (ap (λ (b : Buffer). length (buffered b)) same.2) refl c.make_room.ensures.takes_none
+
+pub returns-clause-takes_none : goal.returns-clause-takes_none
+returns-clause-takes_none g c =
+    let self = c.args.self.now in
+    let p = c.prepare.new.self in
+    let same = c.prepare.ensures.same in
+    let now : Device = g.N.Nand.state c.make_room.new.self.device in
+    takes_between (length (buffered self.buffer)) (length (buffered p.buffer)) (table self.blocks) (table p.blocks) (g.N.Nand.state self.device) (g.N.Nand.state p.device) now (g.N.Nand.state c.make.new.self.device)
+    (ap g.N.Nand.state same.0) (ap table same.1)
+    (ap (λ (b : Buffer). length (buffered b)) same.2) (ap g.N.Nand.state c.make.ensures.same.0) c.make_room.ensures.takes_none

@@ -18,16 +18,16 @@ use Rattle.posix_profile.specs.declared.reply.Reply.TheVariants as replies
 use Rattle.object_store.specs.Stores.{Meaning, IsLawful}
 use Rattle.command_plans.specs.Classes.{class_of}
 use Rattle.object_commands.specs.Endings.{IsAt, Ends}
-use Rattle.object_commands.specs.Running.{Failure, Ran, Runs}
+use Rattle.object_commands.specs.Running.{StaysStopped, Failure, Ran, Runs}
 use Rattle.object_commands.specs.laws.Steps.{One, one_ends, error_unsynced}
 use Rattle.object_commands.specs.declared.volume.Volume.{Volume}
 
+or_false : (b : Bool) → (b || false) ≡ b
+or_false true = refl
+or_false false = refl
+
 any_push : {A : Type 0} (p : A → Bool) (xs : List A) (x : A) → list_any p (xs ++ x ∷ []) ≡ (list_any p xs || p x)
 any_push p [] x = or_false (p x)
-  where
-    or_false : (b : Bool) → (b || false) ≡ b
-    or_false true = refl
-    or_false false = refl
 any_push p (y ∷ ys) x = ap (λ b. p y || b) (any_push p ys x) ∙ assoc (p y) (list_any p ys) (p x)
   where
     assoc : (a b c : Bool) → (a || (b || c)) ≡ ((a || b) || c)
@@ -37,6 +37,28 @@ any_push p (y ∷ ys) x = ap (λ b. p y || b) (any_push p ys x) ∙ assoc (p y) 
 all_push : (rs : List Reply) (r : Reply) → AllStopped rs → is_stop r ≡ true → AllStopped (rs ++ r ∷ [])
 all_push [] r all stop = (stop, tt)
 all_push (x ∷ rs) r all stop = (all.0, all_push rs r all.1 stop)
+
+or_some : (a c : Bool) → c ≡ true → (a || c) ≡ true
+or_some true c some = refl
+or_some false c some = some
+
+any_or : (a b c d e : Bool) → b ≡ (a || c) → d ≡ (b || e) → d ≡ (a || (c || e))
+any_or true b c d e was now = now ∙ ap (λ x. x || e) was
+any_or false b c d e was now = now ∙ ap (λ x. x || e) was
+
+stays_push : (rs : List Reply) (r : Reply) → StaysStopped rs → (list_any is_stop rs ≡ true → is_stop r ≡ true) → StaysStopped (rs ++ r ∷ [])
+stays_push [] r stays after_stop = (λ stop. tt, tt)
+stays_push (x ∷ rs) r stays after_stop = (
+  λ stop. all_push rs r (stays.0 stop) (after_stop (ap (λ b. b || list_any is_stop rs) stop)),
+  stays_push rs r stays.1 (λ some. after_stop (or_some (is_stop x) (list_any is_stop rs) some)),
+)
+
+-- a command stops a volume exactly where its reply is EIO, and one that is stopped stays so
+stops_on : {S : Type 0} (r : Reply) (b d : Volume S) → (b.stopped ≡ true → (r ≡ replies.Error errors.EIO) × (d ≡ b)) → (b.stopped ≡ false → d.stopped ≡ is_stop r) → d.stopped ≡ (b.stopped || is_stop r)
+stops_on r b d stays goes = elim (cases_Bool b.stopped) [
+  | inl stop ↦ ap (λ (v : Volume _). v.stopped) (stays stop).1 ∙ stop ∙ sym (ap (λ x. x || is_stop r) stop)
+  | inr still ↦ goes still ∙ sym (ap (λ x. x || is_stop r) still)
+]
 
 -- the replies so far come first in those with one more
 front : (rs : List Reply) (r : Reply) (n : ℕ) → n ≤ length rs → take n (rs ++ r ∷ []) ≡ take n rs
@@ -104,15 +126,17 @@ ran_stopped m z s cs rs c r a b d at ran stopped told same =
 -- the run, with one reply more
 pub runs_more : {S : Type 0} (m : Meaning S) (law : IsLawful m) (cs : List Stamped) (n : ℕ) (before now next : List Reply) (c : Stamped) (r : Reply) (a b d : Volume S)
     → Runs m cs n before now a b → slice_get cs n ≡ Some c → next ≡ now ++ r ∷ [] → b.read_only ≡ a.read_only → m.lasts a.store b.store
-    → (b.stopped ≡ true → (r ≡ replies.Error errors.EIO) × (d ≡ b))
+    → (b.stopped ≡ true → (r ≡ replies.Error errors.EIO) × (d ≡ b)) → (b.stopped ≡ false → d.stopped ≡ is_stop r)
     → (b.stopped ≡ false → (z : Sizes) (s : State) → IsAt m z s b → Ends m z (class_of c.command) (takes_no_memory c.command) s (step z b.read_only s c) b d r)
     → Runs m cs (n + 1) before next a d
-runs_more m law cs n before now next c r a b d runs is pushed same lasts stays goes =
+runs_more m law cs n before now next c r a b d runs is pushed same lasts stays stops goes =
     let at : slice_get cs (length runs.answered) ≡ Some c = ap (slice_get cs) runs.count ∙ is in
     record {
       answered = runs.answered ++ r ∷ [];
       count = length_push runs.answered r ∙ (let one : length runs.answered + 1 ≡ n + 1 = ap (λ k. k + 1) runs.count in one);
       behind = pushed ∙ ap (λ (rs : List Reply). rs ++ r ∷ []) runs.behind ∙ append_assoc before runs.answered (r ∷ []);
+      stays = stays_push runs.answered r runs.stays (λ some. ap is_stop (stays (runs.stops ∙ or_some a.stopped (list_any is_stop runs.answered) some)).0);
+      stops = any_or a.stopped b.stopped (list_any is_stop runs.answered) d.stopped (is_stop r) runs.stops (stops_on r b d stays stops) ∙ ap (λ x. a.stopped || x) (sym (any_push is_stop runs.answered r));
       stopped = λ stop.
           let was = runs.stopped stop in
           let told = stays (ap (λ (v : Volume _). v.stopped) was.1 ∙ stop) in
@@ -137,6 +161,8 @@ runs_none m cs before a = record {
   answered = [];
   count = refl;
   behind = sym (append-nil before);
+  stays = tt;
+  stops = sym (or_false a.stopped);
   stopped = λ stop. (tt, refl);
   ran = λ going z s has. record { holds = tt; losses = λ t shown. inr (λ i done. absurd (none_at i done.1 done.3), shown); stops = going; failure = λ stop. absurd (true≢false (sym stop ∙ going)); state = λ _. has };
 }

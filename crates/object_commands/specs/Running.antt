@@ -1,8 +1,8 @@
 -- What a run of commands answers and leaves.
-use Rattle.std.specs.Prelude.{◌≡◌, ◌<◌, ◌++◌, ℕ, Bool, true, false, List, length, take, Some, slice_get}
+use Rattle.std.specs.Prelude.{◌≡◌, ◌<◌, ◌||◌, ◌++◌, ℕ, Bool, true, false, List, [], ◌∷◌, length, take, Some, slice_get}
 use Rattle.std.specs.List.{list_any}
 use Rattle.posix_profile.specs.Losses.{LossLeaves}
-use Rattle.posix_profile.specs.Runs.{is_stop, after, AllStopped, RunHolds}
+use Rattle.posix_profile.specs.Runs.{is_stop, after, AllStopped, StopsFor, RunHolds}
 use Rattle.volume_terms.specs.Sizes.{Sizes}
 use Rattle.posix_profile.specs.State.{Objects, State}
 use Rattle.posix_profile.specs.Steps.{step}
@@ -12,6 +12,11 @@ use Rattle.object_store.specs.Stores.{Meaning}
 use Rattle.object_commands.specs.Volumes.{store_of, is_read_only, is_stopped}
 use Rattle.object_commands.specs.Endings.{IsAt}
 use Rattle.object_commands.specs.declared.volume.Volume.{Volume}
+
+-- after a reply of EIO each reply is EIO
+abbrev pub StaysStopped : List Reply → Type 0
+StaysStopped [] = Unit {0}
+StaysStopped (reply ∷ replies) = StopsFor reply replies × StaysStopped replies
 
 -- The store failed in the command at this place, from where the commands before it had left it, and was not called since.
 pub record Failure {S : Type 0} (m : Meaning S) (z : Sizes) (read_only : Bool) (s : State) (commands : List Stamped) (answered : List Reply) (a b : S) : Type 0 where
@@ -33,10 +38,13 @@ pub record Ran {S : Type 0} (m : Meaning S) (z : Sizes) (s : State) (commands : 
   pub failure : is_stopped b ≡ true → Failure m z (is_read_only a) s commands answered (store_of a) (store_of b)
   pub state : is_stopped b ≡ false → IsAt m z (after z (is_read_only a) s commands answered) b
 
--- So many of the commands are answered, behind the old replies: on a stopped volume by EIO, and it stays as it was.
+-- So many of the commands are answered, behind the old replies, and after EIO each by EIO: the volume is stopped afterwards
+-- exactly where it was before or a reply is EIO. On a stopped volume all are EIO, and it stays as it was.
 pub record Runs {S : Type 0} (m : Meaning S) (commands : List Stamped) (n : ℕ) (before now : List Reply) (a b : Volume S) : Type 0 where
   pub answered : List Reply
   pub count : length answered ≡ n
   pub behind : now ≡ before ++ answered
+  pub stays : StaysStopped answered
+  pub stops : is_stopped b ≡ (is_stopped a || list_any is_stop answered)
   pub stopped : is_stopped a ≡ true → AllStopped answered × (b ≡ a)
   pub ran : is_stopped a ≡ false → (z : Sizes) (s : State) → IsAt m z s a → Ran m z s commands answered a b

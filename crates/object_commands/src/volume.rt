@@ -117,6 +117,13 @@ fn handle(table: &mut DescriptorTable, change: HandleChange)
     }
 }
 
+/// Whether a reply stops the volume: it is EIO.
+fn is_stop(reply: &Reply) -> bool
+    ensures { result ≡ is_stop reply.now }
+{
+    matches!(reply, Reply::Error(Errno::EIO))
+}
+
 /// A volume: a store, and what its descriptors stand for. One that is stopped answers EIO to each command.
 #[derive(Drop)]
 pub struct Volume<S> {
@@ -201,14 +208,14 @@ impl<S: ObjectStore> Volume<S> {
         self.stopped
     }
 
-    /// Carries out a plan and replies.
+    /// Carries out a plan and replies. Its caller stops the volume by the reply.
     fn carry_out(&mut self, plan: Plan<'_>) -> Reply
         ensures keeps { is_read_only self.new ≡ is_read_only self.old }
         ensures lasts { S.meaning.lasts (store_of self.old) (store_of self.new) }
         ensures leaves { leaves_device plan.entry.work ≡ true → S.meaning.leaves (store_of self.old) (store_of self.new) }
-        ensures ends { is_stopped self.old ≡ false → (z : Sizes) (s : State) → IsAt S.meaning z s self.old
-            → (class : Class) (meant : Outcome) → IsPlan z class s meant plan.entry → IsSound z meant.state
-            → Ends S.meaning z class (frees plan.entry.work) s meant self.old self.new result }
+        ensures ends { (z : Sizes) (s : State) → IsAt S.meaning z s self.old
+            → (class : Class) (meant : Outcome) → IsPlan z class s meant plan.entry → IsSound z meant.state → is_stop meant.reply ≡ false
+            → Ends S.meaning z class (frees plan.entry.work) s meant self.old (record self.new { stopped = is_stop result }) result }
     {
         match work(&mut self.store, &plan.work) {
             Ok(()) => {
@@ -216,31 +223,20 @@ impl<S: ObjectStore> Volume<S> {
                 plan.reply
             }
             Err(StoreFault::NoMemory) => Reply::Error(Errno::ENOMEM),
-            Err(StoreFault::Device) => self.stop(),
-            Err(StoreFault::Worn) => self.stop(),
+            Err(StoreFault::Device) => Reply::Error(Errno::EIO),
+            Err(StoreFault::Worn) => Reply::Error(Errno::EIO),
         }
     }
 
-    /// Answers EIO from now on.
-    fn stop(&mut self) -> Reply
-        ensures { (result ≡ replies.Error errors.EIO) × (self.new ≡ record self.old { stopped = true }) }
-    {
-        self.stopped = true;
-        Reply::Error(Errno::EIO)
-    }
-
-    /// Does a command and replies to it.
-    pub fn call(&mut self, stamped: &Stamped) -> Reply
+    /// Does a command and replies to it. Its caller stops the volume by the reply.
+    fn answer(&mut self, stamped: &Stamped) -> Reply
         ensures keeps { is_read_only self.new ≡ is_read_only self.old }
         ensures lasts { S.meaning.lasts (store_of self.old) (store_of self.new) }
         ensures leaves { makes_no_call stamped.now.command ≡ true → S.meaning.leaves (store_of self.old) (store_of self.new) }
-        ensures stopped { is_stopped self.old ≡ true → (result ≡ replies.Error errors.EIO) × (self.new ≡ self.old) }
-        ensures ends { is_stopped self.old ≡ false → (z : Sizes) (s : State) → IsAt S.meaning z s self.old
-            → Ends S.meaning z (class_of stamped.now.command) (takes_no_memory stamped.now.command) s (step z (is_read_only self.old) s stamped.now) self.old self.new result }
+        ensures ends { (z : Sizes) (s : State) → IsAt S.meaning z s self.old
+            → Ends S.meaning z (class_of stamped.now.command) (takes_no_memory stamped.now.command) s (step z (is_read_only self.old) s stamped.now)
+            self.old (record self.new { stopped = is_stop result }) result }
     {
-        if self.stopped {
-            return Reply::Error(Errno::EIO);
-        }
         is_stamped(stamped);
         match plan(
             self.alloc,
@@ -252,9 +248,27 @@ impl<S: ObjectStore> Volume<S> {
             Ok(plan) => self.carry_out(plan),
             Err(Refusal::Error(error)) => Reply::Error(error),
             Err(Refusal::Fault(StoreFault::NoMemory)) => Reply::Error(Errno::ENOMEM),
-            Err(Refusal::Fault(StoreFault::Device)) => self.stop(),
-            Err(Refusal::Fault(StoreFault::Worn)) => self.stop(),
+            Err(Refusal::Fault(StoreFault::Device)) => Reply::Error(Errno::EIO),
+            Err(Refusal::Fault(StoreFault::Worn)) => Reply::Error(Errno::EIO),
         }
+    }
+
+    /// Does a command and replies to it.
+    pub fn call(&mut self, stamped: &Stamped) -> Reply
+        ensures keeps { is_read_only self.new ≡ is_read_only self.old }
+        ensures lasts { S.meaning.lasts (store_of self.old) (store_of self.new) }
+        ensures leaves { makes_no_call stamped.now.command ≡ true → S.meaning.leaves (store_of self.old) (store_of self.new) }
+        ensures stopped { is_stopped self.old ≡ true → (result ≡ replies.Error errors.EIO) × (self.new ≡ self.old) }
+        ensures stops { is_stopped self.old ≡ false → is_stopped self.new ≡ is_stop result }
+        ensures ends { is_stopped self.old ≡ false → (z : Sizes) (s : State) → IsAt S.meaning z s self.old
+            → Ends S.meaning z (class_of stamped.now.command) (takes_no_memory stamped.now.command) s (step z (is_read_only self.old) s stamped.now) self.old self.new result }
+    {
+        if self.stopped {
+            return Reply::Error(Errno::EIO);
+        }
+        let reply = self.answer(stamped);
+        self.stopped = is_stop(&reply);
+        reply
     }
 
     /// Does the commands in turn and adds their replies at the end of the vector. Where a reply finds no room its command

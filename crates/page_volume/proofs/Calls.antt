@@ -90,7 +90,6 @@ module _ {P : Type 0} (state : P → PagesState) where
   ran_pages z s commands answered a b is same ran = record {
     holds = ran.holds;
     losses = λ tree shown. losses_from (ran.losses tree (shown_to state z a tree is shown));
-    stops = ran.stops;
     cause = λ stop. (ran.failure stop).fails.0.cause;
     state_is = λ goes. is_volume state z _ b (ran.state goes);
   } where
@@ -106,6 +105,8 @@ module _ {P : Type 0} (state : P → PagesState) where
     answered = runs.answered;
     count = runs.count;
     behind = runs.behind;
+    stays = runs.stays;
+    stops = runs.stops;
     stopped = λ stop. let was = runs.stopped stop in (was.0, same_volume a b was.1);
     ran = λ goes z s is. ran_pages z s commands runs.answered a b is.sizes same (runs.ran goes z s (is_at state z s a is));
   }

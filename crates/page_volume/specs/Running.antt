@@ -1,5 +1,5 @@
 -- What a run of commands over pages answers and leaves.
-use Rattle.std.specs.Prelude.{◌≡◌, ◌⊎◌, ◌++◌, ℕ, true, false, List, length}
+use Rattle.std.specs.Prelude.{◌≡◌, ◌⊎◌, ◌||◌, ◌++◌, ℕ, true, false, List, length}
 use Rattle.std.specs.List.{list_any}
 use Rattle.volume_terms.specs.Sizes.{Sizes}
 use Rattle.posix_profile.specs.Losses.{LossLeaves}
@@ -8,6 +8,7 @@ use Rattle.posix_profile.specs.State.{Objects, State}
 use Rattle.posix_profile.specs.declared.command.Stamped.{Stamped}
 use Rattle.posix_profile.specs.declared.reply.Reply.{Reply}
 use Rattle.command_plans.specs.Classes.{Telling, class_of, is_error}
+use Rattle.object_commands.specs.Running.{StaysStopped}
 use Rattle.pages.specs.State.{PagesState}
 use Rattle.paged_objects.specs.Ending.{HasEnded}
 use Rattle.paged_objects.specs.Standing.{Shown}
@@ -19,19 +20,20 @@ abbrev pub OnlyTells : Stamped → Reply → Type 0
 OnlyTells stamped reply = (is_stop reply ≡ false) × ((class_of stamped.command ≡ Telling) ⊎ (is_error reply ≡ true))
 
 -- From a state: the replies are right, a mount shows the tree after some of the commands, at least those that a sync covers,
--- the volume is stopped exactly where a reply is EIO, and then for its reason, and else it stands for the state after the
--- commands that were answered.
+-- and the volume is stopped for its reason, or it stands for the state after the commands that were answered.
 pub record RanPages {P : Type 0} (state : P → PagesState) (z : Sizes) (s : State) (commands : List Stamped) (answered : List Reply) (a b : PageVolume P) : Type 0 where
   pub holds : RunHolds z (is_read_only a) s commands answered
   pub losses : (tree : Objects) → Shown z (state (pages_of a)) tree → LossLeaves (Shown z (state (pages_of b))) tree z (is_read_only a) s commands answered
-  pub stops : is_stopped b ≡ list_any is_stop answered
   pub cause : is_stopped b ≡ true → HasEnded (state (pages_of b))
   pub state_is : is_stopped b ≡ false → IsVolumeOf state z (after z (is_read_only a) s commands answered) b
 
--- So many of the commands are answered, behind the old replies: on a stopped volume by EIO, and it stays as it was.
+-- So many of the commands are answered, behind the old replies, and after EIO each by EIO: the volume is stopped afterwards
+-- exactly where it was before or a reply is EIO. On a stopped volume all are EIO, and it stays as it was.
 pub record RunsPages {P : Type 0} (state : P → PagesState) (commands : List Stamped) (n : ℕ) (before now : List Reply) (a b : PageVolume P) : Type 0 where
   pub answered : List Reply
   pub count : length answered ≡ n
   pub behind : now ≡ before ++ answered
+  pub stays : StaysStopped answered
+  pub stops : is_stopped b ≡ (is_stopped a || list_any is_stop answered)
   pub stopped : is_stopped a ≡ true → AllStopped answered × (b ≡ a)
   pub ran : is_stopped a ≡ false → (z : Sizes) (s : State) → IsVolumeOf state z s a → RanPages state z s commands answered a b

@@ -60,7 +60,7 @@ impl<P: PageStore> PageVolume<P> {
         ensures keeps { (is_read_only self.new ≡ is_read_only self.old) × (sizes_of (table_of self.new) ≡ sizes_of (table_of self.old)) }
         ensures leaves { makes_no_call stamped.now.command ≡ true → (P.state (pages_of self.new)).device ≡ (P.state (pages_of self.old)).device }
         ensures stopped { is_stopped self.old ≡ true → (result ≡ replies.Error errors.EIO) × (self.new ≡ self.old) }
-        ensures stops { is_stopped self.old ≡ false → (z : Sizes) (s : State) → IsVolumeOf P.state z s self.old → is_stopped self.new ≡ is_stop result }
+        ensures stops { is_stopped self.old ≡ false → is_stopped self.new ≡ is_stop result }
         // The reply is the step's; or want of memory, of a command that takes some; or the stop.
         ensures replies { is_stopped self.old ≡ false → (z : Sizes) (s : State) → IsVolumeOf P.state z s self.old
             → Replies z (is_read_only self.old) s stamped.now result }

@@ -40,8 +40,7 @@ impl<N: Nand> Volume<N> {
         ensures leaves { makes_no_call stamped.now.command ≡ true
             → (⟦<FlashPages<N> as Pages>⟧.state (pages_of self.new.volume)).device ≡ (⟦<FlashPages<N> as Pages>⟧.state (pages_of self.old.volume)).device }
         ensures stopped { is_stopped self.old.volume ≡ true → (result ≡ replies.Error errors.EIO) × (self.new ≡ self.old) }
-        ensures stops { is_stopped self.old.volume ≡ false → (z : Sizes) (s : State) → IsVolumeOf ⟦<FlashPages<N> as Pages>⟧.state z s self.old.volume
-            → is_stopped self.new.volume ≡ is_stop result }
+        ensures stops { is_stopped self.old.volume ≡ false → is_stopped self.new.volume ≡ is_stop result }
         // The reply is the step's; or want of memory, of a command that takes some; or the stop.
         ensures replies { is_stopped self.old.volume ≡ false → (z : Sizes) (s : State) → IsVolumeOf ⟦<FlashPages<N> as Pages>⟧.state z s self.old.volume
             → Replies z (is_read_only self.old.volume) s stamped.now result }

@@ -8,7 +8,7 @@ returns g c = record {
   leaves = c.call.ensures.leaves;
   stopped = λ stops. let p = c.call.ensures.stopped stops in (p.0, ap (λ v. v.volume) p.1);
   replied = λ runs z s at. record {
-    stops = c.call.ensures.stops runs z s at;
+    stops = c.call.ensures.stops runs;
     reply_is = c.call.ensures.replies runs z s at;
     state_is = c.call.ensures.state runs z s at;
     tree = c.call.ensures.tree runs z s at;

@@ -5,13 +5,6 @@ use Rattle.page_volume.proofs.volume.PageVolume.call.Goals as goal
 pub returns-clause-goes_on : goal.returns-clause-goes_on
 returns-clause-goes_on g c = c.call.ensures.lasts.0
 
-pub returns-clause-stops : goal.returns-clause-stops
-returns-clause-stops g c goes z s is =
-    let a = c.args.self.now in
-    let b = c.call.new.self in
-    let one = one_call g.P.Pages.state z s c.args.stamped.now c.call.result a (record { volume = b }) (c.call.ensures.ends goes z s (is_at g.P.Pages.state z s a is)) in
-    one.stops
-
 pub returns-clause-replies : goal.returns-clause-replies
 returns-clause-replies g c goes z s is =
     let a = c.args.self.now in

@@ -1,7 +1,7 @@
-// Lives on eight blocks of 32 pages of 512 bytes.
+// A life on eight blocks of 32 pages of 512 bytes.
 use crate::lines::{formatted, live_through};
-use nand_model::{Fate, MemNand};
-use posix_calls::{Command, Errno, FilePath, MountFault, Reply, Stamped};
+use nand_model::MemNand;
+use posix_calls::{Command, FilePath, MountFault, Reply, Stamped};
 use powercut::{Session, SessionEnd};
 use std::alloc::Global;
 use std::process::Abort;
@@ -33,17 +33,6 @@ fn session(alloc: Global, command: Command, unmount: bool) -> Result<Session, Fa
     })
 }
 
-/// A session of `mkdir /z` and `sync`, cut at this call, with nothing of it left.
-fn cut_session(alloc: Global, call: u64) -> Result<Session, Fail> {
-    let mut cut = session(alloc, mkdir(alloc, "/z")?, false)?;
-    cut.commands.push(Stamped {
-        moment: 0,
-        command: Command::Sync,
-    })?;
-    cut.fuse = Some((call, vec![in alloc; Fate::Old]?));
-    Ok(cut)
-}
-
 /// What a session tells.
 #[derive(Clone, Copy, Debug)]
 enum Told {
@@ -55,8 +44,6 @@ enum Told {
     NoNames,
     /// That this is the only name.
     Name(&'static str),
-    /// That power was lost in the second of its commands.
-    Stopped,
 }
 
 impl Told {
@@ -69,26 +56,25 @@ impl Told {
                 [only] => only.as_slice() == name.as_bytes(),
                 _ => false,
             },
-            (Told::Stopped, [Reply::Done, Reply::Error(Errno::EIO)]) => end.cut,
             _ => false,
         }
     }
 }
 
-/// Lives through the sessions and compares what each tells. Gives the device back.
+/// Lives through the sessions and compares what each tells.
 fn expect(
     rt: &impl Abort,
     alloc: Global,
     nand: MemNand,
     sessions: &[Session],
     told: &[Told],
-) -> Result<MemNand, Fail> {
-    let (nand, ends) = live_through(alloc, nand, sessions)?;
+) -> Result<(), Fail> {
+    let (_nand, ends) = live_through(alloc, nand, sessions)?;
     assert_eq!(rt; ends.len(), told.len());
     for (end, told) in ends.iter().zip(told) {
         assert!(rt; told.is_of(end), "{told:?} {end:?}");
     }
-    Ok(nand)
+    Ok(())
 }
 
 #[test]
@@ -112,24 +98,5 @@ fn what_was_unmounted_is_there_again(rt: HostRuntime) -> Result<(), Fail> {
         Told::Gone,
         Told::Name("a"),
     ];
-    let _ = expect(&rt, alloc, formatted(alloc)?, &sessions, &told)?;
-    Ok(())
-}
-
-/// The calls of a mount and of what is told from memory are the same each time, so the first call of the sync is known.
-#[test]
-fn a_sync_that_is_cut_leaves_nothing(rt: HostRuntime) -> Result<(), Fail> {
-    let alloc = rt.alloc();
-    let one = vec![in alloc; session(alloc, mkdir(alloc, "/z")?, false)?]?;
-    let nand = expect(&rt, alloc, formatted(alloc)?, &one, &[Told::Done])?;
-    let calls = nand.calls();
-    let sessions = vec![in alloc;
-        cut_session(alloc, calls.saturating_add(1))?,
-        cut_session(alloc, 1)?,
-        cut_session(alloc, calls.saturating_add(3))?,
-        session(alloc, list(alloc)?, false)?,
-    ]?;
-    let told = [Told::Stopped, Told::Gone, Told::Stopped, Told::NoNames];
-    let _ = expect(&rt, alloc, nand, &sessions, &told)?;
-    Ok(())
+    expect(&rt, alloc, formatted(alloc)?, &sessions, &told)
 }

@@ -1,12 +1,15 @@
 //! Lives through sessions on a device in memory, and looks whether each is one of a life: each reply is the plain tree's, and
 //! what the next mount shows is the tree after a prefix of the session, at least up to its last sync. A session that is none
 //! ends the program by an error. At the end a line tells how many sessions there were, and one on standard error how many were
-//! cut and how many commands were kept.
+//! cut and how many commands were kept; each session of `stories` has two such lines, of its cuts and of its failing calls.
 //!
 //! - `drawn LIVES SEED`: lives of three sessions, whose commands, cuts and failing calls are drawn.
 //! - `cuts [CALL FATE]`: a session of the lines of standard input, cut at each of its calls with each fate of the pages, alone
 //!   and with a cut in the next mount. The call may fail besides, and leaves its page so: `old`, `new`, `erased`, `uncorrectable`.
 //! - `fails`: a session of the lines of standard input, with each of its calls failing with each fate of the pages.
+//! - `stories`: four sessions whose lines are known here, each as by `cuts` and as by `fails`: a collection beside a file that is
+//!   kept; a file that takes the place of another; a full volume that is written again; directories that are moved.
+//! - `all LIVES SEED`: as `drawn`, and then `stories`.
 #![tactic(auto)]
 
 mod commands;
@@ -18,11 +21,13 @@ mod fails;
 mod judging;
 mod living;
 mod stages;
+mod stories;
 
 use crate::counting::Count;
 use crate::cuts::cut_lines;
 use crate::drawn::live_drawn;
 use crate::fails::fail_lines;
+use crate::stories::live_stories;
 use anyhow::{Context, Result, anyhow};
 use nand_model::Fate;
 use std::alloc::Global;
@@ -49,20 +54,32 @@ fn failure_of(words: &[String]) -> Result<Option<(u64, Fate)>> {
     }
 }
 
+/// Lives through drawn lives, and tells of them.
+fn push_drawn(alloc: Global, lives: &str, seed: &str, counts: &mut Vec<Count>) -> Result<()> {
+    let lives = lives.parse().context("the lives")?;
+    let seed = seed.parse().context("the seed")?;
+    counts.push(live_drawn(alloc, lives, seed)?)?;
+    Ok(())
+}
+
 /// Does what the words say.
-fn live_as(alloc: Global, words: &[String], lines: &str) -> Result<Count> {
+fn live_as(alloc: Global, words: &[String], lines: &str) -> Result<Vec<Count>> {
     let [_program, what, rest @ ..] = words else {
-        return Err(anyhow!("drawn, cuts or fails is wanted"));
+        return Err(anyhow!("drawn, cuts, fails, stories or all is wanted"));
     };
+    let mut counts = Vec::new(alloc);
     match (what.as_str(), rest) {
-        ("drawn", [lives, seed]) => {
-            let lives = lives.parse().context("the lives")?;
-            live_drawn(alloc, lives, seed.parse().context("the seed")?)
+        ("drawn", [lives, seed]) => push_drawn(alloc, lives, seed, &mut counts)?,
+        ("cuts", rest) => counts.push(cut_lines(alloc, lines, failure_of(rest)?)?)?,
+        ("fails", []) => counts.push(fail_lines(alloc, lines)?)?,
+        ("stories", []) => live_stories(alloc, &mut counts)?,
+        ("all", [lives, seed]) => {
+            push_drawn(alloc, lives, seed, &mut counts)?;
+            live_stories(alloc, &mut counts)?;
         }
-        ("cuts", rest) => cut_lines(alloc, lines, failure_of(rest)?),
-        ("fails", []) => fail_lines(alloc, lines),
-        _ => Err(anyhow!("drawn with two numbers, cuts or fails is wanted")),
+        _ => return Err(anyhow!("drawn or all with two numbers, cuts, fails or stories is wanted")),
     }
+    Ok(counts)
 }
 
 fn main(rt: HostRuntime) -> Result<()> {
@@ -73,8 +90,9 @@ fn main(rt: HostRuntime) -> Result<()> {
     }
     let mut lines = String::new(alloc);
     rt.stdin().lock().read_to_string(&mut lines)?;
-    let count = live_as(alloc, &words, &lines)?;
-    println!(rt; "{}", count.text(alloc)?)?;
-    eprintln!(rt; "{}", count.details(alloc)?)?;
+    for count in live_as(alloc, &words, &lines)? {
+        println!(rt; "{}", count.text(alloc)?)?;
+        eprintln!(rt; "{}", count.details(alloc)?)?;
+    }
     Ok(())
 }

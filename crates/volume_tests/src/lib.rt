@@ -17,7 +17,11 @@ mod drawn;
 #[cfg(test)]
 mod failures;
 #[cfg(test)]
+mod images;
+#[cfg(test)]
 mod losses;
+#[cfg(test)]
+mod numbers;
 #[cfg(test)]
 mod refused;
 #[cfg(test)]

@@ -1,0 +1,184 @@
+// A volume over an image in memory whose file fails.
+
+use crate::book::commands_of;
+use line_shell::write_reply;
+use nand_image::{ImageNand, create_image, open_image};
+use nand_model::Geometry;
+use posix_calls::{Reply, Stamped, Volume, format};
+use std::alloc::Global;
+use std::io::{Cursor, Error, ErrorKind, Read, Result as IoResult, Seek, SeekFrom, Write};
+use std::process::Abort;
+use std::test::Fail;
+
+/// What a file is asked for.
+#[derive(Clone, Copy, Debug, PartialEq, Eq)]
+enum FileCall {
+    Read,
+    Write,
+    Seek,
+}
+
+/// Bytes in memory that count their calls. The one call of a kind with this number among its kind, from 1 on, fails.
+#[derive(Drop)]
+struct CountingFile {
+    cursor: Cursor<Vec<u8>>,
+    fails: (FileCall, u64),
+    of_kind: u64,
+    calls: u64,
+    /// How many calls were made up to the one that failed.
+    failed: Option<u64>,
+}
+
+impl CountingFile {
+    fn new(bytes: Vec<u8>, fails: (FileCall, u64)) -> CountingFile {
+        CountingFile {
+            cursor: Cursor::new(bytes),
+            fails,
+            of_kind: 0,
+            calls: 0,
+            failed: None,
+        }
+    }
+
+    fn begin(&mut self, call: FileCall) -> IoResult<()> {
+        self.calls = self.calls.saturating_add(1);
+        let (kind, number) = self.fails;
+        if call != kind {
+            return Ok(());
+        }
+        self.of_kind = self.of_kind.saturating_add(1);
+        if self.of_kind != number {
+            return Ok(());
+        }
+        self.failed = Some(self.calls);
+        Err(Error::from(ErrorKind::Other))
+    }
+}
+
+impl Read for CountingFile {
+    fn read(&mut self, buf: &mut [u8]) -> IoResult<usize> {
+        self.begin(FileCall::Read)?;
+        self.cursor.read(buf)
+    }
+}
+
+impl Write for CountingFile {
+    fn write(&mut self, buf: &[u8]) -> IoResult<usize> {
+        self.begin(FileCall::Write)?;
+        self.cursor.write(buf)
+    }
+
+    fn flush(&mut self) -> IoResult<()> {
+        Ok(())
+    }
+}
+
+impl Seek for CountingFile {
+    fn seek(&mut self, to: SeekFrom) -> IoResult<u64> {
+        self.begin(FileCall::Seek)?;
+        self.cursor.seek(to)
+    }
+}
+
+type Image = ImageNand<CountingFile>;
+
+// What these three call promises much, which is not said again, so that what calls them is checked fast.
+
+fn mounted(alloc: Global, image: Image) -> Result<Volume<Image>, Fail> {
+    match Volume::mount(alloc, image) {
+        Ok(volume) => Ok(volume),
+        Err((_image, fault)) => Err(fault.into()),
+    }
+}
+
+fn answered(volume: &mut Volume<Image>, stamped: &Stamped) -> Reply {
+    volume.call(stamped)
+}
+
+fn unmounted(volume: Volume<Image>) -> (Image, Reply) {
+    volume.unmount()
+}
+
+/// No call fails.
+const NONE: (FileCall, u64) = (FileCall::Read, 0);
+
+/// The bytes of an image of eight blocks of 32 pages of 512 bytes, just formatted with one block to spare.
+fn formatted_image(alloc: Global) -> Result<Vec<u8>, Fail> {
+    let file = CountingFile::new(Vec::new(alloc), NONE);
+    let image = create_image(alloc, file, Geometry::new(512, 32, 8)?)?;
+    match format(alloc, image, 1) {
+        Ok(image) => Ok(image.into_file().cursor.into_inner()),
+        Err((_image, fault)) => Err(fault.into()),
+    }
+}
+
+/// Opens an image of these bytes. No write and no seek is made.
+fn opened(alloc: Global, bytes: &[u8], fails: (FileCall, u64)) -> Result<Image, Fail> {
+    let file = CountingFile::new(Vec::from_slice(alloc, bytes)?, fails);
+    Ok(open_image(alloc, file)?)
+}
+
+/// What a session of these lines and an unmount are told, and the file after it.
+fn told_of(alloc: Global, image: Image, lines: &str) -> Result<(Vec<u8>, CountingFile), Fail> {
+    let mut volume = mounted(alloc, image)?;
+    let mut told = Vec::new(alloc);
+    for stamped in &commands_of(alloc, lines)? {
+        write_reply(&mut told, &answered(&mut volume, stamped))?;
+    }
+    let (image, reply) = unmounted(volume);
+    write_reply(&mut told, &reply)?;
+    Ok((told, image.into_file()))
+}
+
+#[test]
+fn a_mount_makes_no_call_of_the_file(rt: HostRuntime) -> Result<(), Fail> {
+    let alloc = rt.alloc();
+    let bytes = formatted_image(alloc)?;
+    let calls = opened(alloc, &bytes, NONE)?.into_file().calls;
+    let (told, file) = told_of(alloc, opened(alloc, &bytes, NONE)?, "list /\n")?;
+    assert_eq!(rt; str::from_utf8(&told)?, "names 0\nok\n");
+    assert_eq!(rt; file.calls, calls);
+    Ok(())
+}
+
+const LINES: &str = "mkdir /a\nsync\nmkdir /b\n";
+
+/// What the lines and an unmount are told, where the write or the seek of this number fails. The sync erases a block, with a
+/// write for each of its 32 pages, and programs three pages, the header of the directory, the entry of its name and the
+/// header of the root, with three writes for each. The unmount programs as many pages again.
+fn wanted(number: u64) -> &'static str {
+    match number {
+        1..=41 => "ok\nerror EIO\nerror EIO\nerror EIO\n",
+        42..=50 => "ok\nok\nok\nerror EIO\n",
+        _ => "ok\nok\nok\nok\n",
+    }
+}
+
+/// The call in which the file fails is told EIO, and so is each later one; the file is not called again.
+fn fails_once(
+    rt: &impl Abort,
+    alloc: Global,
+    bytes: &[u8],
+    kind: FileCall,
+    number: u64,
+) -> Result<(), Fail> {
+    let image = opened(alloc, bytes, (kind, number))?;
+    let (told, file) = told_of(alloc, image, LINES)?;
+    assert_eq!(rt; str::from_utf8(&told)?, wanted(number), "{kind:?} {number}");
+    if let Some(failed) = file.failed {
+        assert_eq!(rt; file.calls, failed, "{kind:?} {number}");
+    }
+    assert_eq!(rt; file.failed.is_some(), number <= 50, "{kind:?} {number}");
+    Ok(())
+}
+
+#[test]
+fn a_file_that_fails_stops_its_volume(rt: HostRuntime) -> Result<(), Fail> {
+    let alloc = rt.alloc();
+    let bytes = formatted_image(alloc)?;
+    for number in 1..52u64 {
+        fails_once(&rt, alloc, &bytes, FileCall::Write, number)?;
+        fails_once(&rt, alloc, &bytes, FileCall::Seek, number)?;
+    }
+    Ok(())
+}

@@ -2,3 +2,4 @@ pub mod Writing
 pub mod Drawing
 pub mod Sessions
 pub mod Covering
+pub mod Causes

@@ -4,7 +4,9 @@ use Rattle.std.specs.Prelude.{◌⊎◌}
 use native.Mathlib.Numerals.{unary_clauses}
 use Rattle.std.proofs.KnownBytes.{Appends-nil, Appends-trans}
 use Rattle.std.specs.Io.KnownBytes.{Appends}
-use Rattle.exerciser.specs.Faults.{IsSilent, of_tree}
+use Rattle.exerciser.specs.Faults.{IsOfReading, of_tree}
+use Rattle.exerciser.specs.Causes.{WhyNotDone, WhyNotBegun}
+use Rattle.nand_model.specs.Calls.{Device}
 use Rattle.exerciser.specs.Draws.{IsDrawn}
 use Rattle.exerciser.specs.Lines.{IsWithin, session_line, IsTold}
 use Rattle.exerciser.specs.Cutting.{Goes, AreKept, AreKeptBefore, Cuts}
@@ -15,11 +17,36 @@ use Rattle.exerciser.specs.declared.finding.Finding.TheVariants as findings
 use Rattle.plain_tree.specs.declared.fault.TreeFault.{TreeFault}
 use Rattle.plain_tree.specs.declared.fault.TreeFault.TheVariants as trees
 
--- a tree that is not read is told by no line
-pub of_tree_is_silent : (fault : TreeFault) → IsSilent (of_tree fault)
-of_tree_is_silent trees.NoMemory = tt
-of_tree_is_silent (trees.Refused error) = tt
-of_tree_is_silent trees.Unlike = tt
+-- a tree that is not read is a fault of the reading
+pub of_tree_is_reading : (fault : TreeFault) → IsOfReading (of_tree fault)
+of_tree_is_reading trees.NoMemory = tt
+of_tree_is_reading (trees.Refused error) = tt
+of_tree_is_reading trees.Unlike = tt
+
+-- a fault of which no line tells, and that is none of the writer
+abbrev pub IsSilent : CutFault → Type 0
+IsSilent faults.NoMemory = Unit {0}
+IsSilent (faults.Mount fault) = Unit {0}
+IsSilent faults.Unmount = Unit {0}
+IsSilent faults.Unread = Unit {0}
+IsSilent faults.Torn = ⊥
+IsSilent faults.Write = ⊥
+
+pub not_done_is_silent : (device : Device) (fault : CutFault) → WhyNotDone device fault → IsSilent fault
+not_done_is_silent device faults.NoMemory why = tt
+not_done_is_silent device (faults.Mount fault) why = tt
+not_done_is_silent device faults.Unmount why = tt
+not_done_is_silent device faults.Unread why = tt
+not_done_is_silent device faults.Torn why = why
+not_done_is_silent device faults.Write why = why
+
+pub not_begun_is_silent : (device : Device) (fault : CutFault) → WhyNotBegun device fault → IsSilent fault
+not_begun_is_silent device faults.NoMemory why = tt
+not_begun_is_silent device (faults.Mount fault) why = tt
+not_begun_is_silent device faults.Unmount why = tt
+not_begun_is_silent device faults.Unread why = tt
+not_begun_is_silent device faults.Torn why = why
+not_begun_is_silent device faults.Write why = why
 
 -- what sessions have told so far, all of which kept a tree
 pub record SoFar (words : ℕ → ℕ) (commands before : ℕ) (old new : Option (List ℕ)) : Type 0 where

@@ -1,4 +1,5 @@
 pub mod Faults
+pub mod Causes
 pub mod Draws
 pub mod Lines
 pub mod Cutting

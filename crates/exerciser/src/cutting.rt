@@ -1,13 +1,14 @@
 // Sessions that are cut at drawn calls of the device.
-ghost use Rattle.std.specs.Prelude.{◌≡◌, ◌≤◌, map, length, Some, IfOk, IfErr, OnOk};
+ghost use Rattle.std.specs.Prelude.{◌≡◌, ◌≤◌, true, map, length, Some, IfOk, IfErr, OnOk};
 ghost use Rattle.rand_core.specs.Stream.{next_u64};
 ghost use Rattle.nand_model.specs.MemoryState.{device};
 ghost use Rattle.cut_draws.specs.Draws.{answers, operation_of, fate_of, next_words};
 ghost use Rattle.powercut.specs.Starting.{fuse_of};
-ghost use Rattle.exerciser.specs.Faults.{IsSilent};
+ghost use Rattle.exerciser.specs.Causes.{StaysSound, WhyNotDone, HasCause};
 ghost use Rattle.exerciser.specs.Draws.{words_after_session, session_word, IsDrawn};
 ghost use Rattle.exerciser.specs.Lines.{IsWithin};
 ghost use Rattle.exerciser.specs.Cutting.{Cuts, Goes};
+ghost use Rattle.exerciser.specs.declared.fault.CutFault.TheVariants as faults;
 
 use crate::fault::CutFault;
 use crate::finding::Finding;
@@ -33,10 +34,11 @@ fn set_fuse(
 ) -> Result<u64, CutFault>
     requires { 1 ≤ calls }
     ensures commands { session.new.commands ≡ session.old.commands }
+    ensures unmount { session.new.unmount ≡ session.old.unmount }
     ensures fuse { IfOk result (λ operation. fuse_of session.new.fuse ≡ Some (operation, map fate_of (next_words pages (next_u64 (answers generator.old)).1).0)) }
     ensures drawn { IfOk result (λ operation. operation ≡ operation_of calls (next_u64 (answers generator.old)).0) }
     ensures left { OnOk result (answers generator.new ≡ words_after_session pages (answers generator.old)) }
-    ensures fault { IfErr result IsSilent }
+    ensures fault { IfErr result (λ e. e ≡ faults.NoMemory) }
 {
     let (operation, fates) = draw(alloc, generator, calls, pages)?;
     session.fuse = Some((operation, fates));
@@ -46,19 +48,20 @@ fn set_fuse(
 /// Draws where the session is cut, among the calls that it makes where it is not.
 fn draw_fuse(
     alloc: Global,
-    device: &MemNand,
+    nand: &MemNand,
     session: &mut Session,
     generator: &mut Lcg128Xsl64,
     pages: u32,
 ) -> Result<u64, CutFault>
     ensures commands { session.new.commands ≡ session.old.commands }
+    ensures unmount { session.new.unmount ≡ session.old.unmount }
     ensures fuse { IfOk result (λ operation. fuse_of session.new.fuse ≡ Some (operation, map fate_of (next_words pages (next_u64 (answers generator.old)).1).0)) }
     ensures drawn { IfOk result (λ operation. IsDrawn (next_u64 (answers generator.old)).0 operation) }
     ensures left { OnOk result (answers generator.new ≡ words_after_session pages (answers generator.old)) }
-    ensures fault { IfErr result IsSilent }
+    ensures fault { session.old.unmount ≡ true → IfErr result (WhyNotDone (device nand.now)) }
 {
     session.fuse = None;
-    let calls = count_calls(alloc, device, session)?.max(1);
+    let calls = count_calls(alloc, nand, session)?.max(1);
     set_fuse(alloc, session, generator, calls, pages)
 }
 
@@ -71,16 +74,18 @@ fn exercise(
     pages: u32,
 ) -> Result<(Standing, u64, Finding), CutFault>
     ensures commands { session.new.commands ≡ session.old.commands }
+    ensures unmount { session.new.unmount ≡ session.old.unmount }
     ensures drawn { IfOk result (λ done. IsDrawn (next_u64 (answers generator.old)).0 done.1) }
     ensures left { OnOk result (answers generator.new ≡ words_after_session pages (answers generator.old)) }
     ensures within { IfOk result (λ done. IsWithin (length session.old.commands.items) done.2) }
-    ensures fault { IfErr result IsSilent }
+    ensures sound { IfOk result (λ done. StaysSound (device standing.device) (device done.0.device)) }
+    ensures fault { session.old.unmount ≡ true → IfErr result (WhyNotDone (device standing.device)) }
 {
     let Standing { device, tree } = standing;
     let operation = draw_fuse(alloc, &device, session, generator, pages)?;
     let (device, end) = live_once(alloc, device, session)?;
-    let (standing, finding) = look(alloc, device, tree, &session.commands, &end)?;
-    Ok((standing, operation, finding))
+    let (tree, finding) = look(alloc, &device, tree, &session.commands, &end)?;
+    Ok((Standing { device, tree }, operation, finding))
 }
 
 /// Whether the sessions go on after this.
@@ -104,7 +109,8 @@ pub fn cut<W: Write>(
     sessions: u32,
     writer: &mut W,
 ) -> Result<(), CutFault>
-    ensures { Cuts (session_word seed (device nand).geometry.pages) (length script.items) sessions (W.contents writer.old) (W.contents writer.new) result }
+    ensures tells { Cuts (session_word seed (device nand).geometry.pages) (length script.items) sessions (W.contents writer.old) (W.contents writer.new) result }
+    ensures fault { IfErr result (HasCause (device nand)) }
 {
     let commands = script.len() as u64;
     let mut session = Session {

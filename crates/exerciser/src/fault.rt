@@ -1,6 +1,6 @@
 // Why sessions were not gone through to the end.
 ghost use Rattle.std.specs.Prelude.{◌≡◌};
-ghost use Rattle.exerciser.specs.Faults.{of_tree};
+ghost use Rattle.exerciser.specs.Faults.{of_tree, of_mount};
 ghost use Rattle.exerciser.specs.declared.fault.CutFault.TheVariants as faults;
 
 use plain_tree::TreeFault;
@@ -11,11 +11,13 @@ use std::alloc::AllocError;
 /// Why sessions were not gone through to the end.
 #[derive(Clone, Copy, Debug, PartialEq, Eq)]
 pub enum CutFault {
-    /// A growth was refused, outside the commands of a session.
+    /// Memory was refused, outside the commands of a session.
     NoMemory,
-    /// The volume could not be mounted where no power was cut.
+    /// The volume could not be mounted where no power was cut, and memory was not refused: a mount answers this of the first
+    /// flash, or a device was used beyond its limits.
     Mount(MountFault),
-    /// The volume could not be unmounted where no power was cut.
+    /// The volume could not be unmounted where no power was cut: a device was used beyond its limits, or the first flash was not
+    /// sound.
     Unmount,
     /// The tree before a session was not told by commands: a path in it is longer than a path may be, or there is too little
     /// room to make its objects again.
@@ -39,6 +41,17 @@ impl From<LiveFault> for CutFault {
 
     fn from(_fault: LiveFault) -> CutFault {
         CutFault::NoMemory
+    }
+}
+
+impl From<MountFault> for CutFault {
+    ghost from_gives = { λ fault e. e ≡ of_mount fault };
+
+    fn from(fault: MountFault) -> CutFault {
+        match fault {
+            MountFault::NoMemory => CutFault::NoMemory,
+            _ => CutFault::Mount(fault),
+        }
     }
 }
 

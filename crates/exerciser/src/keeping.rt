@@ -1,6 +1,7 @@
 // The commands that a cut session kept.
-ghost use Rattle.std.specs.Prelude.{◌≡◌, ◌≤◌, length, IfOk, IfSome};
+ghost use Rattle.std.specs.Prelude.{◌≡◌, ◌≤◌, length, IfOk, IfSome, OnOk, OnErr};
 ghost use Rattle.posix_profile.specs.Losses.{is_synced, Covers};
+ghost use Rattle.posix_profile.specs.Runs.{after_one};
 
 use plain_tree::{Answers, PlainTree, TreeFault};
 use posix_profile::{Command, Errno, Reply, Stamped};
@@ -33,7 +34,12 @@ fn covered(script: &[Stamped], replies: &[Reply]) -> usize
 }
 
 /// Does a command that was answered in the tree; one that was refused memory, or that the stop answered, is passed over.
-fn follow(tree: &mut PlainTree, stamped: &Stamped, reply: &Reply) -> Result<(), AllocError> {
+fn follow(tree: &mut PlainTree, stamped: &Stamped, reply: &Reply) -> Result<(), AllocError>
+    ensures sizes { tree.new.sizes ≡ tree.old.sizes }
+    ensures read_only { tree.new.read_only ≡ tree.old.read_only }
+    ensures state { OnOk result (tree.new.state ≡ after_one tree.old.sizes tree.old.read_only tree.old.state stamped.now reply.now) }
+    ensures memory { OnErr result (tree.new.state ≡ tree.old.state) }
+{
     match reply {
         Reply::Error(Errno::ENOMEM | Errno::EIO) => Ok(()),
         _ => {
@@ -44,11 +50,10 @@ fn follow(tree: &mut PlainTree, stamped: &Stamped, reply: &Reply) -> Result<(), 
 }
 
 /// Does the commands that were answered in the tree, in turn.
-fn follow_all(
-    tree: &mut PlainTree,
-    script: &[Stamped],
-    replies: &[Reply],
-) -> Result<(), AllocError> {
+fn follow_all(tree: &mut PlainTree, script: &[Stamped], replies: &[Reply]) -> Result<(), AllocError>
+    ensures sizes { tree.new.sizes ≡ tree.old.sizes }
+    ensures read_only { tree.new.read_only ≡ tree.old.read_only }
+{
     for (stamped, reply) in script.iter().zip(replies) {
         follow(tree, stamped, reply)?;
     }

@@ -4,23 +4,13 @@
 //! the lines or standard output failed. With 2 and 4 one line, `fault` and a name, goes to standard error.
 #![tactic(auto)]
 
-mod acting;
-mod checking;
-mod creating;
-mod cutting;
-mod fault;
-mod memory;
-mod report;
-mod running;
-mod serve;
-mod space;
-#[cfg(test)]
-mod tests;
+ghost use Rattle.std.specs.Prelude.{◌≡◌, ◌≤◌, None, Result};
+ghost use Rattle.flash_program.specs.Statuses.{status_of};
+ghost use Rattle.flash_program.specs.declared.fault.ProgramFault.{ProgramFault as Fault};
+ghost use Rattle.program_words.specs.declared.chosen.Chosen.TheVariants as choices;
 
-use acting::act;
-use fault::ProgramFault;
+use flash_program::{ProgramFault, act, report};
 use program_words::{Chosen, choose, parse};
-use report::report;
 use std::env;
 use std::fs::{File, OpenOptions};
 use std::io::{self, LineWriter};
@@ -36,7 +26,9 @@ fn words(rt: &HostRuntime) -> io::Result<Vec<String>> {
 }
 
 /// The image that was chosen, opened: emptied for a new volume, and read alone where it is not changed.
-fn open(rt: &HostRuntime, chosen: &Chosen) -> Option<File> {
+fn open(rt: &HostRuntime, chosen: &Chosen) -> Option<File>
+    ensures { chosen.now ≡ choices.Memory → result ≡ None }
+{
     let mut options = OpenOptions::new();
     options.read(true);
     let image = match chosen {
@@ -54,8 +46,10 @@ fn open(rt: &HostRuntime, chosen: &Chosen) -> Option<File> {
     options.open(rt, image.as_str()).ok()
 }
 
-/// Does what was chosen, between standard input, output and error.
-fn perform(rt: &HostRuntime, chosen: &Chosen) -> u8 {
+/// Does what was chosen, between standard input, output and error, and gives the status of its end.
+fn perform(rt: &HostRuntime, chosen: &Chosen) -> u8
+    ensures { (ended : Result (Unit {0}) Fault) × (result ≡ status_of ended) }
+{
     let mut input = rt.stdin().lock();
     let mut err = rt.stderr();
     match LineWriter::new(rt.alloc(), rt.stdout()) {
@@ -72,7 +66,9 @@ fn perform(rt: &HostRuntime, chosen: &Chosen) -> u8 {
 }
 
 /// Tells why the words are not taken, or the help or version that they ask for.
-fn explain(rt: &HostRuntime, words: &[String]) -> u8 {
+fn explain(rt: &HostRuntime, words: &[String]) -> u8
+    ensures { result ≤ 1 }
+{
     match parse(rt.alloc(), words) {
         Ok(_) => 1,
         Err(error) => {

@@ -1,0 +1,44 @@
+-- How sessions that are cut end.
+use Rattle.std.proofs.Common.{◌≡◌, ◌⊎◌, inl, inr, ℕ, List, length, Option, Result, Ok, Err, refl, sym, subst}
+use Rattle.std.specs.Global.{Vec}
+use Rattle.exerciser.specs.Cutting.{Cuts}
+use Rattle.exerciser.specs.declared.fault.CutFault.{CutFault}
+use Rattle.line_shell.specs.Scripts.{ReadsScript}
+use Rattle.exerciser.specs.Draws.{session_word}
+use Rattle.nand_model.specs.Calls.{Device}
+use Rattle.posix_profile.specs.declared.command.Stamped.{Stamped}
+use Rattle.flash_program.specs.Images.{NotOpened, Opens, IsCopy, ReadsAs, CutEnds, of_script, of_cut, cut_ended}
+use Rattle.flash_program.specs.declared.fault.ProgramFault.{ProgramFault}
+use Rattle.flash_program.specs.declared.fault.ProgramFault.TheVariants as faults
+
+-- both ends are the same
+abbrev SameEnd : (one other : Result (Unit {0}) ProgramFault) → Type 0
+SameEnd one other = one ≡ other
+
+ends_alike : (one other : ProgramFault) → one ≡ other → SameEnd (Err one) (Err other)
+ends_alike one other same = subst (λ f. SameEnd (Err one) (Err f)) same refl
+
+module _ {F : Type 0} (known : F → Option (List ℕ)) (image : Option F) (seed sessions : ℕ) where
+  -- there is no copy
+  pub not_copied : (input written : Option (List ℕ)) (fault : ProgramFault)
+      → NotOpened known image (Err fault) ⊎ ((opened : Device) × Opens known image opened × (fault ≡ faults.NoMemory))
+      → CutEnds known image seed sessions input input written written (Err fault)
+  not_copied input written fault (inl closed) = inl (closed, refl, refl)
+  not_copied input written fault (inr (opened, opens, is)) = inr (opened, opens, inl (ends_alike fault faults.NoMemory is, refl, refl))
+
+  module _ (copy : Device) (input left written : Option (List ℕ)) (copied : IsCopy known image copy) where
+    -- the lines are no script
+    pub no_script : (fault : ProgramFault) → ReadsAs input left (Err fault) → CutEnds known image seed sessions input left written written (Err fault)
+    no_script fault (why, reads, is) = inr (copied.0, copied.1, inr (inl (why, reads, ends_alike fault (of_script why) is, refl)))
+
+    -- the commands were done
+    pub script_done : (now : Option (List ℕ)) (script : Vec Stamped) (ended : Result (Unit {0}) CutFault) → ReadsScript input left (Ok script)
+        → Cuts (session_word seed copy.geometry.pages) (length script.items) sessions written now ended → CutEnds known image seed sessions input left written now (cut_ended ended)
+    script_done now script ended reads cuts =
+        let told = subst (λ g. Cuts (session_word seed g.pages) (length script.items) sessions written now ended) copied.2.geometry cuts in
+        inr (copied.0, copied.1, inr (inr (script, ended, reads, told, refl)))
+
+    pub script_stopped : (now : Option (List ℕ)) (script : Vec Stamped) (why : CutFault) (fault : ProgramFault) → fault ≡ of_cut why → ReadsScript input left (Ok script)
+        → Cuts (session_word seed copy.geometry.pages) (length script.items) sessions written now (Err why) → CutEnds known image seed sessions input left written now (Err fault)
+    script_stopped now script why fault is reads cuts =
+        subst (λ f. CutEnds known image seed sessions input left written now (Err f)) (sym is) (script_done now script (Err why) reads cuts)

@@ -1,0 +1,6 @@
+pub mod Writing
+pub mod Reporting
+pub mod Opening
+pub mod Telling
+pub mod CutEndings
+pub mod Early

@@ -1,0 +1,119 @@
+-- What the subcommands do over an image.
+use Rattle.std.specs.Prelude.{◌≡◌, ◌⊎◌, ℕ, List, length, Option, Some, None, Result, Ok, Err}
+use Rattle.std.specs.Global.{Vec}
+use Rattle.exerciser.specs.Cutting.{Cuts}
+use Rattle.exerciser.specs.Draws.{session_word}
+use Rattle.exerciser.specs.declared.fault.CutFault.{CutFault}
+use Rattle.exerciser.specs.declared.fault.CutFault.TheVariants as cuts
+use Rattle.line_shell.specs.Scripts.{ReadsScript}
+use Rattle.line_shell.specs.declared.fault.ShellFault.TheVariants as shells
+use Rattle.line_shell.specs.declared.script.ScriptFault.{ScriptFault}
+use Rattle.line_shell.specs.declared.script.ScriptFault.TheVariants as scripts
+use Rattle.nand_image.specs.ImageState.{device}
+use Rattle.nand_image.specs.Opening.{OpensAs, Explains}
+use Rattle.nand_image.specs.declared.device.ImageNand.{ImageNand}
+use Rattle.nand_image.specs.declared.fault.ImageFault.{ImageFault}
+use Rattle.nand_image.specs.declared.fault.ImageFault.TheVariants as images
+use Rattle.nand_model.specs.Calls.{Device}
+use Rattle.nand_model.specs.Changes.{PowersUp}
+use Rattle.nand_model.specs.Size.{IsSize}
+use Rattle.page_volume.specs.declared.volume.PageVolume.{PageVolume}
+use Rattle.pages.specs.State.{PagesState}
+use Rattle.posix_profile.specs.declared.command.Stamped.{Stamped}
+use Rattle.posix_profile.specs.declared.reply.Reply.{Reply}
+use Rattle.flash_program.specs.Sessions.{LinesEnd}
+use Rattle.flash_program.specs.Spaces.{CheckEnds, FormatEnds}
+use Rattle.flash_program.specs.declared.fault.ProgramFault.{ProgramFault}
+use Rattle.flash_program.specs.declared.fault.ProgramFault.TheVariants as faults
+
+-- there is no file, or what its bytes hold is no image, for the reason that is told
+abbrev pub NotOpened : {F : Type 0} → (F → Option (List ℕ)) → Option F → Result (Unit {0}) ProgramFault → Type 0
+NotOpened known None result = result ≡ Err faults.File
+NotOpened known (Some file) result = (fault : ImageFault) × (result ≡ Err (faults.Image fault)) × Explains (known file) fault
+
+-- the device is what the image in the file says
+abbrev pub Opens : {F : Type 0} → (F → Option (List ℕ)) → Option F → Device → Type 0
+Opens known None opened = ⊥
+Opens {F} known (Some file) opened = (image : ImageNand F) × OpensAs (known file) image × (opened ≡ device image)
+
+-- the device in memory is the flash of the image, powered up
+abbrev pub IsCopy : {F : Type 0} → (F → Option (List ℕ)) → Option F → Device → Type 0
+IsCopy known image copy = (opened : Device) × Opens known image opened × PowersUp opened copy
+
+-- lines over an image: where it does not open none is read and nothing is written, else as they do over its device
+abbrev pub RunEnds : {F P V : Type 0} → (F → Option (List ℕ)) → (P → PagesState) → (V → PageVolume P) → (V → Stamped → Reply → V → Type 0)
+    → Option F → Option (List ℕ) → Option (List ℕ) → Option (List ℕ) → Option (List ℕ) → Result (Unit {0}) ProgramFault → Type 0
+RunEnds known state inside serves image input left written now result =
+    (NotOpened known image result × (left ≡ input) × (now ≡ written))
+    ⊎ ((before : Device) × (after : Device) × Opens known image before × LinesEnd state inside serves before input left written now after result)
+
+-- the check of an image
+abbrev pub ImageCheckEnds : {F P V : Type 0} → (F → Option (List ℕ)) → (P → PagesState) → (V → PageVolume P) → (V → Stamped → Reply → V → Type 0)
+    → Option F → Option (List ℕ) → Option (List ℕ) → Result (Unit {0}) ProgramFault → Type 0
+ImageCheckEnds known state inside serves image written now result =
+    (NotOpened known image result × (now ≡ written))
+    ⊎ ((before : Device) × (after : Device) × Opens known image before × CheckEnds state inside serves before written now after result)
+
+-- a fault of a script
+abbrev pub of_script : ScriptFault → ProgramFault
+of_script scripts.Read = faults.Shell shells.Read
+of_script scripts.TooLong = faults.Shell shells.TooLong
+of_script scripts.NoMemory = faults.NoMemory
+of_script scripts.Line = faults.Line
+
+-- a fault of sessions that are cut
+abbrev pub of_cut : CutFault → ProgramFault
+of_cut cuts.NoMemory = faults.NoMemory
+of_cut (cuts.Mount fault) = faults.Mount fault
+of_cut cuts.Unmount = faults.Unmount
+of_cut cuts.Unread = faults.Unread
+of_cut cuts.Torn = faults.Torn
+of_cut cuts.Write = faults.Write
+
+-- how sessions that are cut end
+abbrev pub cut_ended : Result (Unit {0}) CutFault → Result (Unit {0}) ProgramFault
+cut_ended (Ok done) = Ok done
+cut_ended (Err fault) = Err (of_cut fault)
+
+-- the lines were read as a script, or the fault of that is told
+abbrev pub ReadsAs : Option (List ℕ) → Option (List ℕ) → Result (Vec Stamped) ProgramFault → Type 0
+ReadsAs input left (Ok script) = ReadsScript input left (Ok script)
+ReadsAs input left (Err told) = (fault : ScriptFault) × ReadsScript input left (Err fault) × (told ≡ of_script fault)
+
+-- the lines were no script, and nothing is written
+abbrev pub NoScript : Option (List ℕ) → Option (List ℕ) → Option (List ℕ) → Option (List ℕ) → Result (Unit {0}) ProgramFault → Type 0
+NoScript input left written now result =
+    (fault : ScriptFault) × ReadsScript input left (Err fault) × (result ≡ Err (of_script fault)) × (now ≡ written)
+
+-- the commands of the lines were done in sessions that are cut at calls that these words draw, and the sessions told
+abbrev pub ScriptCut : (words : ℕ → ℕ) → (sessions : ℕ) → Option (List ℕ) → Option (List ℕ) → Option (List ℕ) → Option (List ℕ) → Result (Unit {0}) ProgramFault → Type 0
+ScriptCut words sessions input left written now result =
+    (script : Vec Stamped) × (ended : Result (Unit {0}) CutFault) × ReadsScript input left (Ok script) × Cuts words (length script.items) sessions written now ended × (result ≡ cut_ended ended)
+
+-- sessions that are cut, on a copy of an image: it does not open; or the copy finds no memory; or the lines are no script; or
+-- they are done, and the words of the seed draw the calls
+abbrev pub CutEnds : {F : Type 0} → (F → Option (List ℕ)) → Option F → (seed sessions : ℕ) → Option (List ℕ) → Option (List ℕ) → Option (List ℕ) → Option (List ℕ) → Result (Unit {0}) ProgramFault → Type 0
+CutEnds known image seed sessions input left written now result =
+    (NotOpened known image result × (left ≡ input) × (now ≡ written))
+    ⊎ ((opened : Device) × Opens known image opened
+    × (((result ≡ Err faults.NoMemory) × (left ≡ input) × (now ≡ written)) ⊎ NoScript input left written now result ⊎ ScriptCut (session_word seed opened.geometry.pages) sessions input left written now result))
+
+-- no image was made: there is no file, or the sizes are none of a device, or memory was refused or the file not written
+abbrev pub NotMade : {F : Type 0} → Option F → (size pages blocks : ℕ) → Result (Unit {0}) ProgramFault → Type 0
+NotMade None size pages blocks result = result ≡ Err faults.File
+NotMade (Some file) size pages blocks result =
+    ((result ≡ Err faults.BadGeometry) × (¬ IsSize size pages blocks))
+    ⊎ (IsSize size pages blocks × ((result ≡ Err (faults.Image images.Write)) ⊎ (result ≡ Err (faults.Image images.NoMemory))))
+
+-- the device has these sizes
+pub record HasSizes (size pages blocks : ℕ) (made : Device) : Type 0 where
+  pub bytes_are : made.geometry.bytes ≡ size
+  pub pages_are : made.geometry.pages ≡ pages
+  pub blocks_are : made.geometry.blocks ≡ blocks
+
+-- a new volume in an image
+abbrev pub MakeEnds : {F P V : Type 0} → (P → PagesState) → (V → PageVolume P) → (V → Stamped → Reply → V → Type 0)
+    → Option F → (size pages blocks spare : ℕ) → Option (List ℕ) → Option (List ℕ) → Result (Unit {0}) ProgramFault → Type 0
+MakeEnds state inside serves image size pages blocks spare written now result =
+    (NotMade image size pages blocks result × (now ≡ written))
+    ⊎ ((made : Device) × (after : Device) × HasSizes size pages blocks made × FormatEnds state inside serves spare made written now after result)

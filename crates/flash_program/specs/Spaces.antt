@@ -1,0 +1,102 @@
+-- The space of a volume, as it is told.
+use Rattle.std.specs.Prelude.{◌≡◌, ◌⊎◌, ◌↔◌, ◌<◌, ℕ, ◌+◌, Bool, true, false, List, [], ◌∷◌, ◌++◌, Option, Result, Ok, Err, codes, if◌then◌else◌}
+use Rattle.std.specs.Io.KnownBytes.{Appends}
+use Rattle.flash_tree.specs.Mount.{bad_blocks}
+use Rattle.flash_tree.specs.Sound.{IsSound}
+use Rattle.formatting.specs.declared.fault.FormatFault.{FormatFault}
+use Rattle.formatting.specs.declared.fault.FormatFault.TheVariants as formats
+use Rattle.line_shell.specs.Replies.{newline, reply_text}
+use Rattle.line_shell.specs.Written.{AppendsPart}
+use Rattle.nand_model.specs.Calls.{Device}
+use Rattle.nand_model.specs.Changes.{OnlyReads}
+use Rattle.page_volume.specs.Volumes.{is_read_only}
+use Rattle.page_volume.specs.declared.volume.PageVolume.{PageVolume}
+use Rattle.pages.specs.State.{PagesState}
+use Rattle.posix_calls.specs.Endings.{IsUnmounted}
+use Rattle.posix_profile.specs.declared.command.Command.TheVariants as commands
+use Rattle.posix_profile.specs.declared.command.Stamped.{Stamped}
+use Rattle.posix_profile.specs.declared.reply.Reply.{Reply}
+use Rattle.posix_profile.specs.declared.reply.Reply.TheVariants as replies
+use Rattle.posix_profile.specs.laws.Fresh.{fresh}
+use Rattle.flash_program.specs.Sessions.{IsMounted, NotMounted}
+use Rattle.flash_program.specs.declared.fault.ProgramFault.{ProgramFault}
+use Rattle.flash_program.specs.declared.fault.ProgramFault.TheVariants as faults
+
+-- the command that asks for the space
+abbrev pub space_asked : Stamped
+space_asked = record { moment = 0; command = commands.Space }
+
+-- the text of the reply, and `read-only` on a line of its own where the volume is so
+abbrev pub space_text : Reply → Bool → List ℕ
+space_text reply read_only = reply_text reply ++ (if read_only then codes "read-only" ++ (newline ∷ []) else [])
+
+-- the text is out, unless standard output failed
+abbrev pub IsTold : Option (List ℕ) → Option (List ℕ) → List ℕ → Result (Unit {0}) ProgramFault → Type 0
+IsTold old new text (Ok done) = Appends old new text
+IsTold old new text (Err faults.Write) = AppendsPart old new text
+IsTold old new text (Err fault) = ⊥
+
+-- A volume was mounted, asked for its space, and left as it was: its device was only read.
+pub record Checked {P V : Type 0} (state : P → PagesState) (inside : V → PageVolume P) (serves : V → Stamped → Reply → V → Type 0)
+    (before : Device) (written now : Option (List ℕ)) (after : Device) (result : Result (Unit {0}) ProgramFault) : Type 0 where
+  pub first : V
+  pub last : V
+  pub reply : Reply
+  pub mounted : IsMounted state before (inside first)
+  pub asked : serves first space_asked reply last
+  pub told : IsTold written now (space_text reply (is_read_only (inside last))) result
+  pub reads : OnlyReads before after
+
+-- how the check of a device ends
+abbrev pub CheckEnds : {P V : Type 0} → (P → PagesState) → (V → PageVolume P) → (V → Stamped → Reply → V → Type 0)
+    → Device → Option (List ℕ) → Option (List ℕ) → Device → Result (Unit {0}) ProgramFault → Type 0
+CheckEnds state inside serves before written now after result =
+    NotMounted before written now after result ⊎ Checked state inside serves before written now after result
+
+-- what is told of a new volume, from how its space was told and from the answer to its unmount: the output's fault goes first
+abbrev pub shown : Result (Unit {0}) ProgramFault → Reply → Result (Unit {0}) ProgramFault
+shown (Err fault) reply = Err fault
+shown (Ok done) replies.Done = Ok done
+shown (Ok done) reply = Err faults.Unmount
+
+-- A volume was mounted, asked for its space, and unmounted.
+pub record Shown {P V : Type 0} (state : P → PagesState) (inside : V → PageVolume P) (serves : V → Stamped → Reply → V → Type 0)
+    (before : Device) (written now : Option (List ℕ)) (after : Device) (result : Result (Unit {0}) ProgramFault) : Type 0 where
+  pub first : V
+  pub last : V
+  pub reply : Reply
+  pub spoken : Result (Unit {0}) ProgramFault
+  pub answer : Reply
+  pub mounted : IsMounted state before (inside first)
+  pub asked : serves first space_asked reply last
+  pub told : IsTold written now (reply_text reply) spoken
+  pub unmounted : IsUnmounted state (inside last) after answer
+  pub result_is : result ≡ shown spoken answer
+
+-- how the showing of a device ends
+abbrev pub ShowEnds : {P V : Type 0} → (P → PagesState) → (V → PageVolume P) → (V → Stamped → Reply → V → Type 0)
+    → Device → Option (List ℕ) → Option (List ℕ) → Device → Result (Unit {0}) ProgramFault → Type 0
+ShowEnds state inside serves before written now after result =
+    NotMounted before written now after result ⊎ Shown state inside serves before written now after result
+
+-- the device of an honest one has a new volume, whose root is empty, with so many spare blocks
+pub record IsFormatted (spare : ℕ) (before after : Device) : Type 0 where
+  pub honest : after.honest ≡ before.honest
+  pub has_power : after.gone ≡ false
+  pub sound : before.honest ≡ true → IsSound after.geometry after.flash spare fresh.objects
+
+-- A device was not formatted, and nothing is written: for its spare blocks exactly where there are too few others; as worn only
+-- where more of its blocks are bad by then than are spare; as gone only where it is.
+pub record NotFormatted (spare : ℕ) (before : Device) (written now : Option (List ℕ)) (after : Device) (result : Result (Unit {0}) ProgramFault) : Type 0 where
+  pub fault : FormatFault
+  pub result_is : result ≡ Err (faults.Format fault)
+  pub few : (fault ≡ formats.Spare) ↔ (before.geometry.blocks < spare + 4)
+  pub worn : fault ≡ formats.Worn → spare < bad_blocks after.geometry after.flash
+  pub gone : fault ≡ formats.Gone → after.gone ≡ true
+  pub unwritten : now ≡ written
+
+-- how the formatting of a device ends
+abbrev pub FormatEnds : {P V : Type 0} → (P → PagesState) → (V → PageVolume P) → (V → Stamped → Reply → V → Type 0)
+    → ℕ → Device → Option (List ℕ) → Option (List ℕ) → Device → Result (Unit {0}) ProgramFault → Type 0
+FormatEnds state inside serves spare before written now after result =
+    NotFormatted spare before written now after result ⊎ ((formatted : Device) × IsFormatted spare before formatted × ShowEnds state inside serves formatted written now after result)

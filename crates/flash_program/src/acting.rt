@@ -1,0 +1,68 @@
+// What the program does.
+ghost use Rattle.std.specs.Prelude.{◌≡◌, Result};
+ghost use Rattle.flash_program.specs.Acting.{ActsAs, Means};
+ghost use Rattle.flash_program.specs.Statuses.{status_of, IsReported};
+ghost use Rattle.flash_program.specs.declared.fault.ProgramFault.{ProgramFault as Fault};
+
+use crate::checking::check_image;
+use crate::creating::make_image;
+use crate::cutting::cut_image;
+use crate::ending::report;
+use crate::fault::ProgramFault;
+use crate::memory::run_in_memory;
+use crate::running::run_image;
+use crate::serve::ServedVolume;
+use flash_pages::FlashPages;
+use line_shell::Serve;
+use nand_image::ImageNand;
+use nand_model::MemNand;
+use pages::Pages;
+use program_words::Chosen;
+use std::alloc::Global;
+use std::io::{BufRead, Read, Seek, Write};
+
+/// Does what was chosen.
+fn perform<F: Read + Write + Seek + Drop, R: BufRead, W: Write>(
+    alloc: Global,
+    chosen: &Chosen,
+    image: Option<F>,
+    input: &mut R,
+    out: &mut W,
+) -> Result<(), ProgramFault>
+    ensures { ActsAs F.remaining (record { state = ⟦<FlashPages<MemNand> as Pages>⟧.state; inside = λ v. v.volume.volume; serves = ⟦<ServedVolume<MemNand> as Serve>⟧.serves })
+        (record { state = ⟦<FlashPages<ImageNand<F>> as Pages>⟧.state; inside = λ v. v.volume.volume; serves = ⟦<ServedVolume<ImageNand<F>> as Serve>⟧.serves })
+        chosen.now image (R.remaining input.old) (R.remaining input.new) (W.contents out.old) (W.contents out.new) result }
+{
+    match chosen {
+        Chosen::Memory => run_in_memory(alloc, input, out),
+        Chosen::Run { .. } => run_image(alloc, image, input, out),
+        Chosen::Check { .. } => check_image(alloc, image, out),
+        Chosen::Format {
+            size,
+            pages,
+            blocks,
+            spare,
+            ..
+        } => make_image(alloc, image, *size, *pages, *blocks, *spare, out),
+        Chosen::Cut { seed, sessions, .. } => cut_image(alloc, image, *seed, *sessions, input, out),
+    }
+}
+
+/// Does what was chosen over the file of the image, where none stands for one that could not be opened, and answers the exit
+/// status. Without a subcommand the file is not looked at. A fault is told in `err`, on a line.
+pub fn act<F: Read + Write + Seek + Drop, R: BufRead, W: Write, E: Write>(
+    alloc: Global,
+    chosen: &Chosen,
+    image: Option<F>,
+    input: &mut R,
+    out: &mut W,
+    err: &mut E,
+) -> u8
+    ensures { (ended : Result (Unit {0}) Fault) × (result ≡ status_of ended) × IsReported (E.contents err.old) (E.contents err.new) ended
+        × ActsAs F.remaining (record { state = ⟦<FlashPages<MemNand> as Pages>⟧.state; inside = λ v. v.volume.volume; serves = ⟦<ServedVolume<MemNand> as Serve>⟧.serves })
+        (record { state = ⟦<FlashPages<ImageNand<F>> as Pages>⟧.state; inside = λ v. v.volume.volume; serves = ⟦<ServedVolume<ImageNand<F>> as Serve>⟧.serves })
+        chosen.now image (R.remaining input.old) (R.remaining input.new) (W.contents out.old) (W.contents out.new) ended }
+{
+    let ended = perform(alloc, chosen, image, input, out);
+    report(err, ended)
+}

@@ -1,0 +1,24 @@
+//! What the program does of what its words choose, between a file, a reader and two writers, and the exit status that it
+//! ends with.
+//!
+//! Status 0: all was done. 2: the image, the volume or memory failed. 3: a cut tore the tree. 4: the lines or standard output
+//! failed. With 2 and 4 one line, `fault` and a name, goes to the writer for errors. Words that are not taken come to none of
+//! this: their status is 1 (`program_words::choose`).
+#![tactic(auto)]
+
+mod acting;
+mod checking;
+mod creating;
+mod cutting;
+mod ending;
+mod fault;
+mod memory;
+mod running;
+mod serve;
+mod space;
+#[cfg(test)]
+mod tests;
+
+pub use acting::act;
+pub use ending::report;
+pub use fault::ProgramFault;

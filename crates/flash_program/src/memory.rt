@@ -1,0 +1,83 @@
+// The program: a flash in memory is formatted, mounted, asked by the lines of a shell and unmounted.
+ghost use Rattle.std.specs.Prelude.{◌≡◌, ◌⊎◌, true, false, IfOk, IfErr};
+ghost use Rattle.flash_tree.specs.Sound.{IsSound};
+ghost use Rattle.nand_model.specs.Calls.{Device};
+ghost use Rattle.nand_model.specs.MemoryState.{device};
+ghost use Rattle.posix_profile.specs.laws.Fresh.{fresh};
+ghost use Rattle.flash_program.specs.Sessions.{told, LinesEnd, IsEarly, IsFresh, ProgramEnds};
+ghost use Rattle.flash_program.specs.declared.fault.ProgramFault.TheVariants as faults;
+
+use crate::fault::ProgramFault;
+use crate::serve::ServedVolume;
+use flash_pages::FlashPages;
+use line_shell::{Serve, ShellFault, shell};
+use nand_model::{Geometry, MemNand, Nand};
+use pages::Pages;
+use posix_calls::{Volume, format};
+use posix_profile::Reply;
+use std::alloc::Global;
+use std::io::{BufRead, Write};
+
+/// A flash in memory with a new volume on it: eight blocks of 32 pages of 512 bytes, one of them spare.
+#[tactic(auto, using(crate::proofs::Early::early))]
+fn new_flash(alloc: Global) -> Result<MemNand, ProgramFault>
+    ensures fresh { IfOk result (λ d. IsFresh (device d)) }
+    ensures fault { IfErr result IsEarly }
+{
+    let Ok(geometry) = Geometry::new(512, 32, 8) else {
+        return Err(ProgramFault::BadGeometry);
+    };
+    let Ok(nand) = MemNand::new(alloc, geometry) else {
+        return Err(ProgramFault::NoMemory);
+    };
+    match format(alloc, nand, 1) {
+        Ok(nand) => Ok(nand),
+        Err((_, fault)) => Err(ProgramFault::Format(fault)),
+    }
+}
+
+/// What is told, from how the shell ended and from the answer to the unmount.
+fn told(ended: Result<(), ShellFault>, reply: &Reply) -> Result<(), ProgramFault>
+    ensures { result ≡ told ended reply.now }
+{
+    match (ended, reply) {
+        (Err(fault), _) => Err(ProgramFault::Shell(fault)),
+        (Ok(()), Reply::Done) => Ok(()),
+        (Ok(()), _) => Err(ProgramFault::Unmount),
+    }
+}
+
+/// Mounts the volume of a device, answers the lines of the reader in the writer, and unmounts it. The device is given
+/// back.
+pub(crate) fn answer_lines<N: Nand, R: BufRead, W: Write>(
+    alloc: Global,
+    device: N,
+    reader: &mut R,
+    writer: &mut W,
+) -> (N, Result<(), ProgramFault>)
+    ensures { LinesEnd ⟦<FlashPages<N> as Pages>⟧.state (λ v. v.volume.volume) ⟦<ServedVolume<N> as Serve>⟧.serves (N.state device)
+        (R.remaining reader.old) (R.remaining reader.new) (W.contents writer.old) (W.contents writer.new) (N.state result.0) result.1 }
+{
+    let volume = match Volume::mount(alloc, device) {
+        Ok(volume) => volume,
+        Err((device, fault)) => return (device, Err(ProgramFault::Mount(fault))),
+    };
+    let mut served = ServedVolume { volume };
+    let ended = shell(alloc, reader, writer, &mut served);
+    let (device, reply) = served.volume.unmount();
+    (device, told(ended, &reply))
+}
+
+/// Answers the lines of the reader in the writer, over a new flash in memory.
+pub(crate) fn run_in_memory<R: BufRead, W: Write>(
+    alloc: Global,
+    reader: &mut R,
+    writer: &mut W,
+) -> Result<(), ProgramFault>
+    ensures { ProgramEnds ⟦<FlashPages<MemNand> as Pages>⟧.state (λ v. v.volume.volume) ⟦<ServedVolume<MemNand> as Serve>⟧.serves
+        (R.remaining reader.old) (R.remaining reader.new) (W.contents writer.old) (W.contents writer.new) result }
+{
+    let device = new_flash(alloc)?;
+    let (_, ended) = answer_lines(alloc, device, reader, writer);
+    ended
+}

@@ -1,0 +1,23 @@
+// A volume that serves the commands of a shell.
+ghost use Rattle.flash_program.specs.Serving.{Serves};
+
+use flash_pages::FlashPages;
+use line_shell::Serve;
+use nand_model::Nand;
+use pages::Pages;
+use posix_calls::Volume;
+use posix_profile::{Reply, Stamped};
+
+/// A mounted volume behind a shell.
+#[derive(Drop)]
+pub(crate) struct ServedVolume<N: Nand> {
+    pub(crate) volume: Volume<N>,
+}
+
+impl<N: Nand> Serve for ServedVolume<N> {
+    ghost serves = { λ old command reply new. Serves ⟦<FlashPages<N> as Pages>⟧.state old.volume.volume command reply new.volume.volume };
+
+    fn call(&mut self, command: &Stamped) -> Reply {
+        self.volume.call(command)
+    }
+}

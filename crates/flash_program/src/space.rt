@@ -1,0 +1,96 @@
+// The space of a volume.
+ghost use Rattle.std.specs.Prelude.{◌≡◌};
+ghost use Rattle.flash_program.specs.Spaces.{space_asked, space_text, IsTold, CheckEnds, shown, ShowEnds};
+ghost use Rattle.line_shell.specs.Written.{Writes};
+
+use crate::fault::ProgramFault;
+use crate::serve::ServedVolume;
+use flash_pages::FlashPages;
+use line_shell::{Serve, write_bytes, write_reply};
+use nand_model::Nand;
+use pages::Pages;
+use posix_calls::Volume;
+use posix_profile::{Command, Reply, Stamped};
+use std::alloc::Global;
+use std::io::{self, Write};
+
+/// Asks a volume for its space.
+fn ask_space<V: Serve>(volume: &mut V) -> Reply
+    ensures { V.serves volume.old space_asked result volume.new }
+{
+    volume.call(&Stamped {
+        moment: 0,
+        command: Command::Space,
+    })
+}
+
+/// Writes the reply, and `read-only` on a line of its own where the volume is so.
+fn write_space<W: Write>(writer: &mut W, reply: &Reply, read_only: bool) -> io::Result<()>
+    ensures { Writes (W.contents writer.old) (W.contents writer.new) (space_text reply.now read_only) result }
+{
+    write_reply(writer, reply)?;
+    if read_only {
+        write_bytes(writer, b"read-only\n")
+    } else {
+        Ok(())
+    }
+}
+
+fn tell_space<W: Write>(writer: &mut W, reply: &Reply, read_only: bool) -> Result<(), ProgramFault>
+    ensures { IsTold (W.contents writer.old) (W.contents writer.new) (space_text reply.now read_only) result }
+{
+    match write_space(writer, reply, read_only) {
+        Ok(()) => Ok(()),
+        Err(_) => Err(ProgramFault::Write),
+    }
+}
+
+/// Mounts the volume of a device, tells its space and whether it can only be read, and leaves it as it is.
+pub(crate) fn check_device<N: Nand, W: Write>(
+    alloc: Global,
+    device: N,
+    writer: &mut W,
+) -> (N, Result<(), ProgramFault>)
+    ensures { CheckEnds ⟦<FlashPages<N> as Pages>⟧.state (λ v. v.volume.volume) ⟦<ServedVolume<N> as Serve>⟧.serves
+        (N.state device) (W.contents writer.old) (W.contents writer.new) (N.state result.0) result.1 }
+{
+    let volume = match Volume::mount(alloc, device) {
+        Ok(volume) => volume,
+        Err((device, fault)) => return (device, Err(ProgramFault::Mount(fault))),
+    };
+    let mut served = ServedVolume { volume };
+    let reply = ask_space(&mut served);
+    let told = tell_space(writer, &reply, served.volume.read_only());
+    (served.volume.abandon(), told)
+}
+
+/// What a new volume ends with, from how its space was told and from the answer to the unmount.
+fn shown(told: Result<(), ProgramFault>, reply: &Reply) -> Result<(), ProgramFault>
+    ensures { result ≡ shown told reply.now }
+{
+    match (told, reply) {
+        (Err(fault), _) => Err(fault),
+        (Ok(()), Reply::Done) => Ok(()),
+        (Ok(()), _) => Err(ProgramFault::Unmount),
+    }
+}
+
+/// Mounts the volume of a device, tells its space, and unmounts it.
+pub(crate) fn show_device<N: Nand, W: Write>(
+    alloc: Global,
+    device: N,
+    writer: &mut W,
+) -> (N, Result<(), ProgramFault>)
+    ensures { ShowEnds ⟦<FlashPages<N> as Pages>⟧.state (λ v. v.volume.volume) ⟦<ServedVolume<N> as Serve>⟧.serves
+        (N.state device) (W.contents writer.old) (W.contents writer.new) (N.state result.0) result.1 }
+{
+    let volume = match Volume::mount(alloc, device) {
+        Ok(volume) => volume,
+        Err((device, fault)) => return (device, Err(ProgramFault::Mount(fault))),
+    };
+    let mut served = ServedVolume { volume };
+    let reply = ask_space(&mut served);
+    let told = tell_space(writer, &reply, false);
+    let (device, reply) = served.volume.unmount();
+    (device, shown(told, &reply))
+}

@@ -1,5 +1,0 @@
-pub mod Writing
-pub mod Reporting
-pub mod Opening
-pub mod Telling
-pub mod CutEndings

@@ -5,7 +5,7 @@ use native.Mathlib.Numerals.{unary_clauses}
 use Rattle.std.proofs.KnownBytes.{Appends-nil, Appends-trans}
 use Rattle.std.specs.Io.KnownBytes.{Appends}
 use Rattle.exerciser.specs.Faults.{IsOfReading, of_tree}
-use Rattle.exerciser.specs.Causes.{WhyNotDone, WhyNotBegun}
+use Rattle.exerciser.specs.Causes.{IsOfSession, WhyNotBegun}
 use Rattle.nand_model.specs.Calls.{Device}
 use Rattle.exerciser.specs.Draws.{IsDrawn}
 use Rattle.exerciser.specs.Lines.{IsWithin, session_line, IsTold}
@@ -32,13 +32,13 @@ IsSilent faults.Unread = Unit {0}
 IsSilent faults.Torn = ⊥
 IsSilent faults.Write = ⊥
 
-pub not_done_is_silent : (device : Device) (fault : CutFault) → WhyNotDone device fault → IsSilent fault
-not_done_is_silent device faults.NoMemory why = tt
-not_done_is_silent device (faults.Mount fault) why = tt
-not_done_is_silent device faults.Unmount why = tt
-not_done_is_silent device faults.Unread why = tt
-not_done_is_silent device faults.Torn why = why
-not_done_is_silent device faults.Write why = why
+pub not_done_is_silent : (fault : CutFault) → IsOfSession fault → IsSilent fault
+not_done_is_silent faults.NoMemory of = tt
+not_done_is_silent (faults.Mount fault) of = absurd of
+not_done_is_silent faults.Unmount of = tt
+not_done_is_silent faults.Unread of = tt
+not_done_is_silent faults.Torn of = of
+not_done_is_silent faults.Write of = of
 
 pub not_begun_is_silent : (device : Device) (fault : CutFault) → WhyNotBegun device fault → IsSilent fault
 not_begun_is_silent device faults.NoMemory why = tt

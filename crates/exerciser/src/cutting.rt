@@ -1,10 +1,10 @@
 // Sessions that are cut at drawn calls of the device.
-ghost use Rattle.std.specs.Prelude.{◌≡◌, ◌≤◌, true, map, length, Some, IfOk, IfErr, OnOk};
+ghost use Rattle.std.specs.Prelude.{◌≡◌, ◌≤◌, map, length, Some, IfOk, IfErr, OnOk};
 ghost use Rattle.rand_core.specs.Stream.{next_u64};
 ghost use Rattle.nand_model.specs.MemoryState.{device};
 ghost use Rattle.cut_draws.specs.Draws.{answers, operation_of, fate_of, next_words};
 ghost use Rattle.powercut.specs.Starting.{fuse_of};
-ghost use Rattle.exerciser.specs.Causes.{StaysSound, WhyNotDone, HasCause};
+ghost use Rattle.exerciser.specs.Causes.{IsOfSession, HasCause};
 ghost use Rattle.exerciser.specs.Draws.{words_after_session, session_word, IsDrawn};
 ghost use Rattle.exerciser.specs.Lines.{IsWithin};
 ghost use Rattle.exerciser.specs.Cutting.{Cuts, Goes};
@@ -34,7 +34,6 @@ fn set_fuse(
 ) -> Result<u64, CutFault>
     requires { 1 ≤ calls }
     ensures commands { session.new.commands ≡ session.old.commands }
-    ensures unmount { session.new.unmount ≡ session.old.unmount }
     ensures fuse { IfOk result (λ operation. fuse_of session.new.fuse ≡ Some (operation, map fate_of (next_words pages (next_u64 (answers generator.old)).1).0)) }
     ensures drawn { IfOk result (λ operation. operation ≡ operation_of calls (next_u64 (answers generator.old)).0) }
     ensures left { OnOk result (answers generator.new ≡ words_after_session pages (answers generator.old)) }
@@ -54,11 +53,10 @@ fn draw_fuse(
     pages: u32,
 ) -> Result<u64, CutFault>
     ensures commands { session.new.commands ≡ session.old.commands }
-    ensures unmount { session.new.unmount ≡ session.old.unmount }
     ensures fuse { IfOk result (λ operation. fuse_of session.new.fuse ≡ Some (operation, map fate_of (next_words pages (next_u64 (answers generator.old)).1).0)) }
     ensures drawn { IfOk result (λ operation. IsDrawn (next_u64 (answers generator.old)).0 operation) }
     ensures left { OnOk result (answers generator.new ≡ words_after_session pages (answers generator.old)) }
-    ensures fault { session.old.unmount ≡ true → IfErr result (WhyNotDone (device nand.now)) }
+    ensures fault { IfErr result IsOfSession }
 {
     session.fuse = None;
     let calls = count_calls(alloc, nand, session)?.max(1);
@@ -74,18 +72,16 @@ fn exercise(
     pages: u32,
 ) -> Result<(Standing, u64, Finding), CutFault>
     ensures commands { session.new.commands ≡ session.old.commands }
-    ensures unmount { session.new.unmount ≡ session.old.unmount }
     ensures drawn { IfOk result (λ done. IsDrawn (next_u64 (answers generator.old)).0 done.1) }
     ensures left { OnOk result (answers generator.new ≡ words_after_session pages (answers generator.old)) }
     ensures within { IfOk result (λ done. IsWithin (length session.old.commands.items) done.2) }
-    ensures sound { IfOk result (λ done. StaysSound (device standing.device) (device done.0.device)) }
-    ensures fault { session.old.unmount ≡ true → IfErr result (WhyNotDone (device standing.device)) }
+    ensures fault { IfErr result IsOfSession }
 {
     let Standing { device, tree } = standing;
     let operation = draw_fuse(alloc, &device, session, generator, pages)?;
     let (device, end) = live_once(alloc, device, session)?;
-    let (tree, finding) = look(alloc, &device, tree, &session.commands, &end)?;
-    Ok((Standing { device, tree }, operation, finding))
+    let (standing, finding) = look(alloc, device, tree, &session.commands, &end)?;
+    Ok((standing, operation, finding))
 }
 
 /// Whether the sessions go on after this.

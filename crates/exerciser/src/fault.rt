@@ -13,11 +13,9 @@ use std::alloc::AllocError;
 pub enum CutFault {
     /// Memory was refused, outside the commands of a session.
     NoMemory,
-    /// The volume could not be mounted where no power was cut, and memory was not refused: a mount answers this of the first
-    /// flash, or a device was used beyond its limits.
+    /// A mount of the first device answers this, where memory was not refused.
     Mount(MountFault),
-    /// The volume could not be unmounted where no power was cut: a device was used beyond its limits, or the first flash was not
-    /// sound.
+    /// A session that was not cut was not mounted, or its unmount was not done.
     Unmount,
     /// The tree before a session was not told by commands: a path in it is longer than a path may be, or there is too little
     /// room to make its objects again.

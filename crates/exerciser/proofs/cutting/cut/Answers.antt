@@ -1,20 +1,17 @@
 use Rattle.std.proofs.Common.{◌≡◌, ◌<◌, ◌+◌, length, refl, sym, ap, ◌∙◌, subst, inl, inr, arith, Ok, Err}
 use Rattle.std.proofs.lemmas.Result.{err_from_is_err_and}
-use Rattle.nand_model.specs.Calls.{Device}
 use Rattle.nand_model.specs.MemoryState.{device}
 use Rattle.nand_model.specs.declared.geometry.Geometry.{Geometry}
 use Rattle.cut_draws.specs.Draws.{answers}
 use Rattle.exerciser.specs.Draws.{session_word}
 use Rattle.exerciser.specs.Lines.{IsWithin, IsTold, session_line}
 use Rattle.exerciser.proofs.Drawing.{first_words, more_words, draws_next}
-use Rattle.exerciser.proofs.Causes.{Lasted, lasts_first, lasts_on, not_done, not_begun, not_told, not_kept}
+use Rattle.exerciser.proofs.Causes.{not_done, not_begun, not_told, not_kept}
 use Rattle.exerciser.proofs.Sessions.{not_done_is_silent, not_begun_is_silent, starts, goes_further, stops_telling, stops_torn, stops_silently, ends}
 use Rattle.exerciser.proofs.cutting.cut.Goals as goal
 
 pub loop-before-init : goal.loop-before-init
 loop-before-init g c = record {
-  lasted = subst (λ (d : Device). Lasted (device c.args.nand) d) (sym c.in_ok-standing.ensures.device) (lasts_first (device c.args.nand));
-  unmount = refl;
   commands = refl;
   words = first_words c.args.seed (device c.args.nand).geometry.pages c.seed_from_u64-generator.result c.seed_from_u64-generator.ensures;
   told = starts (session_word c.args.seed (device c.args.nand).geometry.pages) (length c.args.script.items) (g.W.Write.contents c.args.writer.now);
@@ -24,14 +21,14 @@ pub returns-in_err-standing-clause-tells : goal.returns-in_err-standing-clause-t
 returns-in_err-standing-clause-tells g c =
     let p = err_from_is_err_and c.from_residual.result c.from_residual.ensures.1 in
     rw (p.1, p.2) (stops_silently (session_word c.args.seed (device c.args.nand).geometry.pages) (length c.args.script.items) 0 c.args.sessions (g.W.Write.contents c.args.writer.now) (g.W.Write.contents c.args.writer.now) c.in_err-standing.field-0.0 (inr refl)
-    (starts (session_word c.args.seed (device c.args.nand).geometry.pages) (length c.args.script.items) (g.W.Write.contents c.args.writer.now)) (not_begun_is_silent (device c.args.nand) c.in_err-standing.field-0.0 c.in_err-standing.ensures.fault))
+    (starts (session_word c.args.seed (device c.args.nand).geometry.pages) (length c.args.script.items) (g.W.Write.contents c.args.writer.now)) (not_begun_is_silent (device c.args.nand) c.in_err-standing.field-0.0 c.in_err-standing.ensures))
 
 pub returns-in_err-after-clause-tells : goal.returns-in_err-after-clause-tells
 returns-in_err-after-clause-tells g c =
     let p = err_from_is_err_and c.from_residual-in_err-after.result c.from_residual-in_err-after.ensures.1 in
     let few : c.loop-before.before < c.args.sessions = omega (arith, c.from-before-end.ensures) in
     rw (p.1, p.2) (stops_silently (session_word c.args.seed (device c.args.nand).geometry.pages) (length c.args.script.items) c.loop-before.before c.args.sessions _ _ c.in_err-after.field-0.0 (inl few) c.loop-before.invariant.told
-    (not_done_is_silent (device c.loop-before.standing.device) c.in_err-after.field-0.0 (c.in_err-after.ensures.fault c.loop-before.invariant.unmount)))
+    (not_done_is_silent c.in_err-after.field-0.0 c.in_err-after.ensures.fault))
 
 pub returns-in_err-tell-clause-tells : goal.returns-in_err-tell-clause-tells
 returns-in_err-tell-clause-tells g c =
@@ -65,8 +62,6 @@ loop-before-preserved g c =
     let told = subst (λ n. IsTold (g.W.Write.contents c.loop-before.writer) (g.W.Write.contents c.tell.new.writer) (session_line (c.loop-before.before + 1) c.in_ok-after.operation c.in_ok-after.finding n) (Ok tt))
     count c.in_ok-tell.ensures in
     record {
-      lasted = lasts_on (device c.args.nand) (device c.loop-before.standing.device) c.loop-before.invariant.lasted (device c.in_ok-after.after.device) c.in_ok-after.ensures.sound;
-      unmount = c.in_ok-after.ensures.unmount ∙ c.loop-before.invariant.unmount;
       commands = subst (λ v. length v.items ≡ length c.args.script.items) (sym c.in_ok-after.ensures.commands) c.loop-before.invariant.commands;
       words = more_words c.args.seed (device c.args.nand).geometry.pages c.pages-pages.result c.loop-before.before (answers c.loop-before.generator) (answers c.exercise.new.generator)
           (c.pages-pages.ensures ∙ ap (λ (x : Geometry). x.pages) c.geometry.ensures) c.loop-before.invariant.words c.in_ok-after.ensures.left;
@@ -82,12 +77,12 @@ returns-clause-tells g c =
 pub returns-in_err-standing-clause-fault : goal.returns-in_err-standing-clause-fault
 returns-in_err-standing-clause-fault g c =
     let p = err_from_is_err_and c.from_residual.result c.from_residual.ensures.1 in
-    rw (p.1, p.2) (not_begun (device c.args.nand) c.in_err-standing.field-0.0 c.in_err-standing.ensures.fault)
+    rw (p.1, p.2) (not_begun (device c.args.nand) c.in_err-standing.field-0.0 c.in_err-standing.ensures)
 
 pub returns-in_err-after-clause-fault : goal.returns-in_err-after-clause-fault
 returns-in_err-after-clause-fault g c =
     let p = err_from_is_err_and c.from_residual-in_err-after.result c.from_residual-in_err-after.ensures.1 in
-    rw (p.1, p.2) (not_done (device c.args.nand) (device c.loop-before.standing.device) c.loop-before.invariant.lasted c.in_err-after.field-0.0 (c.in_err-after.ensures.fault c.loop-before.invariant.unmount))
+    rw (p.1, p.2) (not_done (device c.args.nand) c.in_err-after.field-0.0 c.in_err-after.ensures.fault)
 
 pub returns-in_err-tell-clause-fault : goal.returns-in_err-tell-clause-fault
 returns-in_err-tell-clause-fault g c =

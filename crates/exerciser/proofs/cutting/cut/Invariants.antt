@@ -1,16 +1,13 @@
-use Rattle.std.proofs.Common.{◌≡◌, true, length}
+use Rattle.std.proofs.Common.{◌≡◌, length}
 use Rattle.nand_model.specs.MemoryState.{device}
 use Rattle.cut_draws.specs.Draws.{answers}
 use Rattle.exerciser.specs.Draws.{words_after, session_word}
-use Rattle.exerciser.proofs.Causes.{Lasted}
 use Rattle.exerciser.proofs.Sessions.{SoFar}
 use Rattle.exerciser.proofs.cutting.cut.Given as goal
 
--- each session so far kept a tree and took its words; the commands are the same, and an unmount is asked for
+-- each session so far kept a tree and took its words, and the commands are the same
 abbrev pub invariant-loop-before : goal.invariant-loop-before
 invariant-loop-before g l = record {
-  lasted : Lasted (device l.fn.nand) (device l.standing.device);
-  unmount : l.session.unmount ≡ true;
   commands : length l.session.commands.items ≡ length l.fn.script.items;
   words : answers l.generator ≡ words_after l.fn.seed (device l.fn.nand).geometry.pages l.before;
   told : SoFar (session_word l.fn.seed (device l.fn.nand).geometry.pages) (length l.fn.script.items) l.before (g.W.Write.contents l.initial.writer) (g.W.Write.contents l.writer);

@@ -33,8 +33,10 @@ impl Images {
     /// Takes the image of this name out of memory, or reads it from the file of that name. None, where there is neither.
     pub(crate) fn find(&mut self, rt: &HostRuntime, name: &str) -> Option<Vec<u8>> {
         match self.place_of(name) {
-            Some(place) => Some(self.images.swap_remove(place).bytes),
-            None => fs::read(rt, name).ok(),
+            Some(place) if place < self.images.len() => {
+                Some(self.images.swap_remove(place).bytes)
+            }
+            _ => fs::read(rt, name).ok(),
         }
     }
 

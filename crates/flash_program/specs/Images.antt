@@ -1,6 +1,7 @@
 -- What the subcommands do over an image.
-use Rattle.std.specs.Prelude.{◌≡◌, ◌⊎◌, ℕ, List, length, Option, Some, None, Result, Ok, Err}
+use Rattle.std.specs.Prelude.{◌≡◌, ◌⊎◌, ℕ, List, length, Option, Some, None, Result, Ok, Err, IfErr}
 use Rattle.std.specs.Global.{Vec}
+use Rattle.exerciser.specs.Causes.{HasCause}
 use Rattle.exerciser.specs.Cutting.{Cuts}
 use Rattle.exerciser.specs.Draws.{session_word}
 use Rattle.exerciser.specs.declared.fault.CutFault.{CutFault}
@@ -85,10 +86,12 @@ abbrev pub NoScript : Option (List ℕ) → Option (List ℕ) → Option (List �
 NoScript input left written now result =
     (fault : ScriptFault) × ReadsScript input left (Err fault) × (result ≡ Err (of_script fault)) × (now ≡ written)
 
--- the commands of the lines were done in sessions that are cut at calls that these words draw, and the sessions told
-abbrev pub ScriptCut : (words : ℕ → ℕ) → (sessions : ℕ) → Option (List ℕ) → Option (List ℕ) → Option (List ℕ) → Option (List ℕ) → Result (Unit {0}) ProgramFault → Type 0
-ScriptCut words sessions input left written now result =
-    (script : Vec Stamped) × (ended : Result (Unit {0}) CutFault) × ReadsScript input left (Ok script) × Cuts words (length script.items) sessions written now ended × (result ≡ cut_ended ended)
+-- The commands of the lines were done in sessions that are cut at calls that these words draw, on a copy of the flash, and the
+-- sessions told; a fault of them has its cause.
+abbrev pub ScriptCut : Device → (words : ℕ → ℕ) → (sessions : ℕ) → Option (List ℕ) → Option (List ℕ) → Option (List ℕ) → Option (List ℕ) → Result (Unit {0}) ProgramFault → Type 0
+ScriptCut opened words sessions input left written now result =
+    (copy : Device) × (script : Vec Stamped) × (ended : Result (Unit {0}) CutFault) × PowersUp opened copy × ReadsScript input left (Ok script)
+    × Cuts words (length script.items) sessions written now ended × IfErr ended (HasCause copy) × (result ≡ cut_ended ended)
 
 -- sessions that are cut, on a copy of an image: it does not open; or the copy finds no memory; or the lines are no script; or
 -- they are done, and the words of the seed draw the calls
@@ -96,7 +99,7 @@ abbrev pub CutEnds : {F : Type 0} → (F → Option (List ℕ)) → Option F →
 CutEnds known image seed sessions input left written now result =
     (NotOpened known image result × (left ≡ input) × (now ≡ written))
     ⊎ ((opened : Device) × Opens known image opened
-    × (((result ≡ Err faults.NoMemory) × (left ≡ input) × (now ≡ written)) ⊎ NoScript input left written now result ⊎ ScriptCut (session_word seed opened.geometry.pages) sessions input left written now result))
+    × (((result ≡ Err faults.NoMemory) × (left ≡ input) × (now ≡ written)) ⊎ NoScript input left written now result ⊎ ScriptCut opened (session_word seed opened.geometry.pages) sessions input left written now result))
 
 -- no image was made: there is no file, or the sizes are none of a device, or memory was refused or the file not written
 abbrev pub NotMade : {F : Type 0} → Option F → (size pages blocks : ℕ) → Result (Unit {0}) ProgramFault → Type 0

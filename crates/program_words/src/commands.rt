@@ -49,7 +49,7 @@ fn format_command<'a>(alloc: Global) -> Result<Command<'a>, AllocError>
     let command = over_image(
         alloc,
         "format",
-        "Makes a new image with an empty volume, and tells its space",
+        "Makes a new image with an empty volume, and tells its space. A file that is there is emptied before",
         "Example: flashsh format flash.img --blocks 128 --spare 4",
     )?;
     command

@@ -16,7 +16,7 @@ use Rattle.chunk_index.specs.Maps.{kept_pages, CountsAgree}
 use Rattle.flash_tree.specs.Numbering.{AreBelow}
 use Rattle.transactions.specs.Ready.{IsReady}
 use Rattle.transactions.specs.laws.Handing.{hands_same}
-use Rattle.transactions.specs.Sources.{IsName}
+use Rattle.transactions.specs.Sources.{IsPageName}
 use Rattle.transactions.specs.declared.copies.CopyOf.{CopyOf}
 use Rattle.bad_blocks.specs.Copying.{KeepsCounts, KeepsDataAt, MayBeCopied, AreCopied, IsCopyOf, IsTarget, OpenAfter, copy_in}
 use Rattle.bad_blocks.specs.Lists.{IsListed, kept_by}
@@ -42,7 +42,7 @@ sum_at b n k lt =
 
 -- ---- what may be copied
 
-name_eta : (t : Table) (x : CopyOf) (n : ℕ) → MayLie t x.name.key.object x.name.key.chunk (kept_by x) → IsName t.next_group x.name
+name_eta : (t : Table) (x : CopyOf) (n : ℕ) → MayLie t x.name.key.object x.name.key.chunk (kept_by x) → IsPageName t.next_group x.name
 name_eta t x n may = record { object = may.name.object; chunk = may.name.chunk; version = may.name.version }
 
 pub may_be_copied : (spare v : ℕ) (d : Device) (t : Table) (x : Index) (copies : List CopyOf) → IsReady d t → Stands spare d t x → IsListed v t x copies → MayBeCopied d t copies
@@ -62,7 +62,7 @@ may_be_copied spare v d t x copies ready stands listed =
         );
         named = λ i lt.
             let there = slice_get_there copies i lt in
-            subst (IsName t.next_group) (sym (name_is copies i there.0 there.1)) (name_eta t there.0 i (each i there.0 there.1));
+            subst (IsPageName t.next_group) (sym (name_is copies i there.0 there.1)) (name_eta t there.0 i (each i there.0 there.1));
       };
       few = subst (λ (g : Geometry). length copies ≤ g.pages) ready.geometry (omega (arith, count, fits));
       held = λ i y at. let here : (t.entry y.block).kept ≡ (t.entry v).kept = ap (λ b. (t.entry b).kept) (listed.lists.here i y at) in omega (arith, here, some);

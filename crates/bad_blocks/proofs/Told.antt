@@ -4,11 +4,11 @@ use Rattle.std.proofs.lemmas.Bool.{cases_eq}
 use Rattle.std.proofs.lemmas.Bool.Decides.{nat_tests}
 use Rattle.block_state.specs.Table.{Table}
 use Rattle.chunk_index.specs.declared.form.KeptPage.{KeptPage}
-use Rattle.chunk_index.specs.declared.form.Place.{Place}
+use Rattle.chunk_index.specs.declared.form.PagePlace.{PagePlace}
 use Rattle.chunk_index.specs.declared.index.Index.{Index}
 use Rattle.chunk_index.specs.Counts.{Recounts}
 use Rattle.chunk_index.specs.Entries.{one_at}
-use Rattle.chunk_index.specs.Maps.{kept_pages, present, kept_in, moved_to, moved_page, Copies, StaysPrepared, IsReady as IsReadyKey}
+use Rattle.chunk_index.specs.Maps.{kept_pages, present, kept_in, moved_to, moved_page, Copies, StaysPrepared, IsReadyKey}
 use Rattle.chunk_index.specs.Shelves.{Differs}
 use Rattle.transactions.specs.declared.copies.CopyOf.{CopyOf}
 use Rattle.bad_blocks.specs.Copying.{IsCopyOf, copy_in}
@@ -69,7 +69,7 @@ module _ (v w i : ℕ) (copies : List CopyOf) (x0 x1 x2 : Index) (t0 t1 t2 : Tab
   pub kept_yet : kept_pages x1 y.name.key.object y.name.key.chunk ≡ Some (kept_by y)
   kept_yet = tells.index.kept_elsewhere y.name.key.object y.name.key.chunk none_before ∙ lists.kept i y at
 
-  module _ (place : Place) (block : place.block ≡ w) (page : place.page ≡ i)
+  module _ (place : PagePlace) (block : place.block ≡ w) (page : place.page ≡ i)
       (copied : Copies y.name.key.object y.name.key.chunk place (kept_by y) x1 x2) (recounts : Recounts (kept_in x1) (kept_in x2) t1 t2)
       (prepared : StaysPrepared x1 x2) (ready : (o c : ℕ) → IsReadyKey x1 o c → IsReadyKey x2 o c) where
     moved_is : moved_page place (kept_by y) ≡ copy_in w i y

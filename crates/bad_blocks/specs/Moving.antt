@@ -6,7 +6,7 @@ use Rattle.block_state.specs.Kept.{bad_count, kept_count}
 use Rattle.block_state.specs.Table.{Table}
 use Rattle.chunk_index.specs.declared.form.KeptPage.{KeptPage}
 use Rattle.chunk_index.specs.declared.index.Index.{Index}
-use Rattle.chunk_index.specs.Maps.{kept_pages, present, moved_to, StaysPrepared, IsReady as IsReadyKey}
+use Rattle.chunk_index.specs.Maps.{kept_pages, present, moved_to, StaysPrepared, IsReadyKey}
 use Rattle.transactions.specs.Handing.{HandsOut}
 use Rattle.transactions.specs.Ready.{IsReady}
 use Rattle.bad_blocks.specs.Standing.{SameData}

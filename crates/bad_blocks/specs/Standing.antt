@@ -12,7 +12,7 @@ use Rattle.block_state.specs.Table.{Table}
 use Rattle.chunk_index.specs.declared.form.KeptPage.{KeptPage}
 use Rattle.chunk_index.specs.declared.index.Index.{Index}
 use Rattle.chunk_index.specs.Maps.{KeptMap, kept_pages, CountsAgree}
-use Rattle.transactions.specs.Sources.{IsName}
+use Rattle.transactions.specs.Sources.{IsPageName}
 
 -- the page there is the newest of the key, in that version
 pub record IsKeptAt (flash : Flash) (o c : ℕ) (p : KeptPage) : Type 0 where
@@ -39,7 +39,7 @@ SameData m old new = (o c : ℕ) (p : KeptPage) (bytes : List ℕ) → m o c ≡
 pub record MayLie (t : Table) (o c : ℕ) (p : KeptPage) : Type 0 where
   pub block : p.block < t.geometry.blocks
   pub page : p.page < t.geometry.pages
-  pub name : IsName t.next_group (record { key = record { object = o; chunk = c }; version = p.version })
+  pub name : IsPageName t.next_group (record { key = record { object = o; chunk = c }; version = p.version })
 
 -- What stands of the table and the index on every path and of every device: the counts of blocks are those of the index;
 -- a block has no more kept pages than it has pages, and the open one no more than were written to it; and so many blocks

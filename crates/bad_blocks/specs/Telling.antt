@@ -3,7 +3,7 @@
 use Rattle.std.specs.Prelude.{◌≡◌, ◌≢◌, ◌<◌, ℕ, ◌+◌, List, Some, slice_get}
 use Rattle.block_state.specs.Table.{Table}
 use Rattle.chunk_index.specs.declared.index.Index.{Index}
-use Rattle.chunk_index.specs.Maps.{kept_pages, present, moved_to, StaysPrepared, IsReady as IsReadyKey}
+use Rattle.chunk_index.specs.Maps.{kept_pages, present, moved_to, StaysPrepared, IsReadyKey}
 use Rattle.transactions.specs.declared.copies.CopyOf.{CopyOf}
 use Rattle.bad_blocks.specs.Copying.{IsCopyOf, copy_in}
 

@@ -6,7 +6,7 @@ ghost use Rattle.bad_blocks.specs.Lists.{ListsKept};
 ghost use Rattle.bad_blocks.specs.Telling.{Tells};
 
 use block_state::Blocks;
-use chunk_index::{Index, Place};
+use chunk_index::{Index, PagePlace};
 use transactions::CopyOf;
 
 /// Tells the index of copies: copy i is page i of the block.
@@ -22,6 +22,6 @@ pub(crate) fn tell_copies(index: &mut Index, blocks: &mut Blocks, copies: &[Copy
     for i in 0..copies.len() {
         let key = copies[i].name.key;
         let page = i as u32;
-        index.copied(key, Place { block, page }, blocks);
+        index.copied(key, PagePlace { block, page }, blocks);
     }
 }

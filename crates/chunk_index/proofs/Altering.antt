@@ -6,13 +6,13 @@ use Rattle.std.proofs.lemmas.Bool.{cases_lt}
 use Rattle.std.proofs.lemmas.Bool.Decides.{nat_tests}
 use Rattle.std.proofs.lemmas.List.{get_or_default}
 use Rattle.std.proofs.lemmas.List.Sums.{sum_by-set, sum_by-insert, sum_by-remove}
-use Rattle.chunk_index.specs.declared.entry.Entry.{Entry}
+use Rattle.chunk_index.specs.declared.entry.KeyEntry.{KeyEntry}
 use Rattle.chunk_index.specs.Lists.{find_by, Rises, IsAt, IsGapFor, IsBelow, IsEndFor}
 use Rattle.chunk_index.specs.Entries.{chunk, weight, weigh, Alters, IsLastBelow}
 use Rattle.chunk_index.proofs.Finding.{find_at, find_at_set, find_at_remove, find_in_gap, find_gap_insert, find_absent}
 
 -- an entry in the gap for it
-pub alters_insert : (es : List Entry) (e : Entry) (i : ℕ) → IsGapFor chunk es (chunk e) i → Alters (chunk e) (Some e) es (insert es i e)
+pub alters_insert : (es : List KeyEntry) (e : KeyEntry) (i : ℕ) → IsGapFor chunk es (chunk e) i → Alters (chunk e) (Some e) es (insert es i e)
 alters_insert es e i gap = record {
   here = grind (arith, nat_tests, find_gap_insert chunk es (chunk e) i gap e refl (chunk e));
   others = λ l ne. grind (arith, nat_tests, find_gap_insert chunk es (chunk e) i gap e refl l, ne);
@@ -23,7 +23,7 @@ alters_insert es e i gap = record {
 }
 
 -- an entry that is written over
-pub alters_set : (es : List Entry) → Rises chunk es → (e : Entry) (i : ℕ) → IsAt chunk es (chunk e) i → Alters (chunk e) (Some e) es (set es i e)
+pub alters_set : (es : List KeyEntry) → Rises chunk es → (e : KeyEntry) (i : ℕ) → IsAt chunk es (chunk e) i → Alters (chunk e) (Some e) es (set es i e)
 alters_set es rises e i at = record {
   here = grind (arith, nat_tests, find_at_set chunk es rises (chunk e) i at e refl (chunk e));
   others = λ l ne. grind (arith, nat_tests, find_at_set chunk es rises (chunk e) i at e refl l, ne);
@@ -34,7 +34,7 @@ alters_set es rises e i at = record {
 }
 
 -- an entry that is taken out
-pub alters_remove : (es : List Entry) → Rises chunk es → (c i : ℕ) (d : Entry) → IsAt chunk es c i → Alters c None es (remove es i)
+pub alters_remove : (es : List KeyEntry) → Rises chunk es → (c i : ℕ) (d : KeyEntry) → IsAt chunk es c i → Alters c None es (remove es i)
 alters_remove es rises c i d at = record {
   here = grind (arith, nat_tests, find_at_remove chunk es rises c i at c);
   others = λ l ne. grind (arith, nat_tests, find_at_remove chunk es rises c i at l, ne);
@@ -50,19 +50,19 @@ either P true x y p q = p
 either P false x y p q = q
 
 -- a chunk that has an entry has no gap
-pub gap_absurd : (es : List Entry) (c i : ℕ) → IsGapFor chunk es c i → IsSome (find_by chunk es c) → ⊥
+pub gap_absurd : (es : List KeyEntry) (c i : ℕ) → IsGapFor chunk es c i → IsSome (find_by chunk es c) → ⊥
 gap_absurd es c i gap some = false≢true (rw (find_in_gap chunk es c i gap) at some)
 
 -- a chunk without an entry stands nowhere
-pub at_absurd : (es : List Entry) → Rises chunk es → (c i : ℕ) (d : Entry) → IsAt chunk es c i → find_by chunk es c ≡ None → ⊥
+pub at_absurd : (es : List KeyEntry) → Rises chunk es → (c i : ℕ) (d : KeyEntry) → IsAt chunk es c i → find_by chunk es c ≡ None → ⊥
 at_absurd es rises c i d at none = let both : Some (get_or es i d) ≡ None = sym (find_at chunk es rises c i at d) ∙ none in absurd cc
 
 -- where no entry lies before a bound
-pub none_below : (es : List Entry) (bound : Option ℕ) → IsEndFor chunk es bound 0 → IsLastBelow es bound None
+pub none_below : (es : List KeyEntry) (bound : Option ℕ) → IsEndFor chunk es bound 0 → IsLastBelow es bound None
 none_below es bound end l below = find_absent chunk es l (λ j d lt same. end.greater j d (omega arith) lt (subst (λ n. IsBelow n bound) (sym same) below))
 
 -- the last one that does
-pub last_below : (es : List Entry) → Rises chunk es → (bound : Option ℕ) (end : ℕ) → IsEndFor chunk es bound end → 1 ≤ end → (e : Entry) → e ≡ get_or es (end - 1) e → IsLastBelow es bound (Some e)
+pub last_below : (es : List KeyEntry) → Rises chunk es → (bound : Option ℕ) (end : ℕ) → IsEndFor chunk es bound end → 1 ≤ end → (e : KeyEntry) → e ≡ get_or es (end - 1) e → IsLastBelow es bound (Some e)
 last_below es rises bound end is some e here =
     let within : end ≤ length es = is.within in
     let at : IsAt chunk es (chunk e) (end - 1) = record { within = omega (arith, within, some); number = λ d. ap chunk (get_or_default es (end - 1) d e (omega (arith, within, some)) ∙ sym here) } in (

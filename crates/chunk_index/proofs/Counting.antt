@@ -11,7 +11,7 @@ use Rattle.std.proofs.lemmas.Bool.Decides.{nat_tests}
 use Rattle.std.proofs.lemmas.List.Sums.{sum_by-cons}
 use Rattle.std.proofs.lemmas.Map.Entries.{sum_by-remove_entry}
 use Rattle.block_state.specs.Table.{Table}
-use Rattle.chunk_index.specs.declared.entry.Entry.{Entry}
+use Rattle.chunk_index.specs.declared.entry.KeyEntry.{KeyEntry}
 use Rattle.chunk_index.specs.declared.object.ObjectEntries.{ObjectEntries}
 use Rattle.chunk_index.specs.declared.form.KeptPage.{KeptPage}
 use Rattle.chunk_index.specs.Lists.{find_by}
@@ -102,7 +102,7 @@ counted_block t p r = elim (cases_lt p.block t.geometry.blocks) [
 -- ---- one key among all
 
 -- what an entry adds is part of what all of its object add
-part_of_object : (f : Entry → ℕ) (es : List Entry) (c : ℕ) → weight f (find_by chunk es c) ≤ weigh f es
+part_of_object : (f : KeyEntry → ℕ) (es : List KeyEntry) (c : ℕ) → weight f (find_by chunk es c) ≤ weigh f es
 part_of_object f [] c = omega arith
 part_of_object f (e ∷ es) c =
     let all : weigh f (e ∷ es) ≡ f e + weigh f es = sum_by-cons f e es in
@@ -116,7 +116,7 @@ part_of_object f (e ∷ es) c =
     ]
 
 -- and of what all add
-pub part_of_all : (f : Entry → ℕ) (m : ObjectMap) (o c : ℕ) → weight f (look m o c) ≤ total f m
+pub part_of_all : (f : KeyEntry → ℕ) (m : ObjectMap) (o c : ℕ) → weight f (look m o c) ≤ total f m
 part_of_all f m o c = go (get nat_cmp m o) refl where
   go : (v : Option ObjectEntries) → get nat_cmp m o ≡ v → weight f (look m o c) ≤ total f m
   go None is = let none : weight f (look m o c) ≡ 0 = ap (λ v. weight f (option_and_then (entry_of c) v)) is in omega (arith, none)
@@ -140,15 +140,15 @@ two_sums f g h each (x ∷ xs) =
     omega (arith, one, two, three, here, rest)
 
 -- where one entry adds less than 1, all add less than there are
-pub less_than_all : (f : Entry → ℕ) → ((e : Entry) → f e ≤ 1) → (m : ObjectMap) (o c : ℕ) → IsSome (look m o c) → total f m + 1 ≤ total (λ (e : Entry). 1) m + weight f (look m o c)
+pub less_than_all : (f : KeyEntry → ℕ) → ((e : KeyEntry) → f e ≤ 1) → (m : ObjectMap) (o c : ℕ) → IsSome (look m o c) → total f m + 1 ≤ total (λ (e : KeyEntry). 1) m + weight f (look m o c)
 less_than_all f most m o c some =
-    let g : Entry → ℕ = λ e. 1 - f e in
-    let split : total f m + total g m ≡ total (λ (e : Entry). 1) m =
-    two_sums (λ (x : ObjectEntries). weigh f x.entries.items) (λ (x : ObjectEntries). weigh g x.entries.items) (λ (x : ObjectEntries). weigh (λ (e : Entry). 1) x.entries.items) (λ x. two_sums f g (λ (e : Entry). 1) (λ e. let le = most e in omega (arith, le)) x.entries.items) (values m) in
+    let g : KeyEntry → ℕ = λ e. 1 - f e in
+    let split : total f m + total g m ≡ total (λ (e : KeyEntry). 1) m =
+    two_sums (λ (x : ObjectEntries). weigh f x.entries.items) (λ (x : ObjectEntries). weigh g x.entries.items) (λ (x : ObjectEntries). weigh (λ (e : KeyEntry). 1) x.entries.items) (λ x. two_sums f g (λ (e : KeyEntry). 1) (λ e. let le = most e in omega (arith, le)) x.entries.items) (values m) in
     let part = part_of_all g m o c in
     let whole : weight f (look m o c) + weight g (look m o c) ≡ 1 = go (look m o c) some in
     omega (arith, split, part, whole) where
-      go : (v : Option Entry) → IsSome v → weight f v + weight (λ e. 1 - f e) v ≡ 1
+      go : (v : Option KeyEntry) → IsSome v → weight f v + weight (λ e. 1 - f e) v ≡ 1
       go None is = absurd (false≢true is)
       go (Some e) is = let le : f e ≤ 1 = most e in omega (arith, le)
 
@@ -160,12 +160,12 @@ one_most (Some p) b = elim (cases_eq p.block b) [
   | inr ne ↦ grind (arith, nat_tests, ne)
 ]
 
-told_count : (v : Option Entry) (b : ℕ) → weight (counted_at b) v ≡ one_at (kept_of v) b
+told_count : (v : Option KeyEntry) (b : ℕ) → weight (counted_at b) v ≡ one_at (kept_of v) b
 told_count None b = refl
 told_count (Some e) b = refl
 
 -- a key has room to be counted elsewhere
-pub room_for : (t : Table) (m : ObjectMap) (o c : ℕ) → Tallies t m → IsSome (look m o c) → (size : ℕ) → total (λ (e : Entry). 1) m ≡ size → size < 4294967296 → HasRoom t (one_at (kept_of (look m o c))) 1
+pub room_for : (t : Table) (m : ObjectMap) (o c : ℕ) → Tallies t m → IsSome (look m o c) → (size : ℕ) → total (λ (e : KeyEntry). 1) m ≡ size → size < 4294967296 → HasRoom t (one_at (kept_of (look m o c))) 1
 room_for t m o c tallies some size counted few = record {
   enough = λ b.
       let all : (t.entry b).kept ≡ total (counted_at b) m = tallies.counts b in
@@ -185,7 +185,7 @@ room_for t m o c tallies some size counted few = record {
 }
 
 -- the counts follow the change of one key
-pub tallies_altered : (t u : Table) (m n : ObjectMap) (o c : ℕ) (to : Option Entry) → AltersKey o c to m n → Recounts (one_at (kept_of (look m o c))) (one_at (kept_of to)) t u → Tallies t m → Tallies u n
+pub tallies_altered : (t u : Table) (m n : ObjectMap) (o c : ℕ) (to : Option KeyEntry) → AltersKey o c to m n → Recounts (one_at (kept_of (look m o c))) (one_at (kept_of to)) t u → Tallies t m → Tallies u n
 tallies_altered t u m n o c to alters recounts tallies = record {
   counts = λ b.
       let was : (t.entry b).kept ≡ total (counted_at b) m = tallies.counts b in
@@ -202,18 +202,18 @@ tallies_altered t u m n o c to alters recounts tallies = record {
       omega (arith, was, none, sum, is, same, told_count (look m o c) b, told_count to b);
 }
 
-pub recounts_altered : (t u : Table) (m n : ObjectMap) (o c : ℕ) (to : Option Entry) → AltersKey o c to m n → Recounts (one_at (kept_of (look m o c))) (one_at (kept_of to)) t u
+pub recounts_altered : (t u : Table) (m n : ObjectMap) (o c : ℕ) (to : Option KeyEntry) → AltersKey o c to m n → Recounts (one_at (kept_of (look m o c))) (one_at (kept_of to)) t u
     → Recounts (λ b. total (counted_at b) m) (λ b. total (counted_at b) n) t u
 recounts_altered t u m n o c to alters recounts = recounts_more (λ b.
     let sum = alters.weighs (counted_at b) in
     omega (arith, sum, told_count (look m o c) b, told_count to b)) recounts
 
 -- the room of an entry that is there
-pub entry_room : (t : Table) (m : ObjectMap) (o c : ℕ) (e : Entry) → look m o c ≡ Some e → Tallies t m → (size : ℕ) → total (λ (x : Entry). 1) m ≡ size → size < 4294967296 → HasRoom t (one_at e.kept) 1
+pub entry_room : (t : Table) (m : ObjectMap) (o c : ℕ) (e : KeyEntry) → look m o c ≡ Some e → Tallies t m → (size : ℕ) → total (λ (x : KeyEntry). 1) m ≡ size → size < 4294967296 → HasRoom t (one_at e.kept) 1
 entry_room t m o c e is tallies size counted few = subst (λ v. HasRoom t (one_at (kept_of v)) 1) is (room_for t m o c tallies (rw is refl) size counted few)
 
 -- the count of an entry that is there
-pub entry_counts : (t u : Table) (m : ObjectMap) (o c : ℕ) (e : Entry) (to : Option Entry) → look m o c ≡ Some e → Recounts (one_at e.kept) (one_at (kept_of to)) t u → Recounts (one_at (kept_of (look m o c))) (one_at (kept_of to)) t u
+pub entry_counts : (t u : Table) (m : ObjectMap) (o c : ℕ) (e : KeyEntry) (to : Option KeyEntry) → look m o c ≡ Some e → Recounts (one_at e.kept) (one_at (kept_of to)) t u → Recounts (one_at (kept_of (look m o c))) (one_at (kept_of to)) t u
 entry_counts t u m o c e to is recounts = subst (λ v. Recounts (one_at (kept_of v)) (one_at (kept_of to)) t u) (sym is) recounts
 
 -- the length counts 1 for each

@@ -4,8 +4,8 @@ use Rattle.std.proofs.lemmas.Bool.{cases_eq, cases_lt}
 use Rattle.chunk_index.specs.Lists.{IsBelow}
 use Rattle.chunk_index.specs.Entries.{chunk, present_of}
 use Rattle.chunk_index.specs.Shelves.{look, Differs, IsLastFrom}
-use Rattle.chunk_index.specs.Maps.{present, IsReady, StaysPrepared, SameKept, Places, Cuts}
-use Rattle.chunk_index.specs.declared.entry.Entry.{Entry}
+use Rattle.chunk_index.specs.Maps.{present, IsReadyKey, StaysPrepared, SameKept, Places, Cuts}
+use Rattle.chunk_index.specs.declared.entry.KeyEntry.{KeyEntry}
 use Rattle.chunk_index.specs.declared.form.Form.TheVariants as forms
 use Rattle.chunk_index.specs.declared.form.Present.TheVariants as presents
 use Rattle.chunk_index.specs.declared.index.Index.{Index}
@@ -20,7 +20,7 @@ pub record Cutting (o from : ℕ) (bound : Option ℕ) (old new : Index) : Type 
   pub others : (k l : ℕ) → (k ≢ o) ⊎ (l < from) → present new k l ≡ present old k l
   pub kept : SameKept old new
   pub prepared : StaysPrepared old new
-  pub ready : (k l : ℕ) → (k ≢ o) ⊎ (l < from) → IsReady old k l → IsReady new k l
+  pub ready : (k l : ℕ) → (k ≢ o) ⊎ (l < from) → IsReadyKey old k l → IsReadyKey new k l
 
 pub cutting_none : (o from : ℕ) (x : Index) → Cutting o from None x x
 cutting_none o from x = record {
@@ -43,8 +43,8 @@ differs : (o from k l c : ℕ) → from ≤ c → (k ≢ o) ⊎ (l < from) → D
 differs o from k l c le (inl ne) = inl ne
 differs o from k l c le (inr lt) = inr (λ e. omega (arith, le, lt, e))
 
-pub cutting_more : (o from : ℕ) (bound : Option ℕ) (old mid new : Index) (e : Entry) → Cutting o from bound old mid → IsLastFrom mid.shelf.objects o from bound (Some e)
-    → Places o (chunk e) forms.Dropped mid new → SameKept mid new → StaysPrepared mid new → ((k l : ℕ) → Differs o (chunk e) k l → IsReady mid k l → IsReady new k l)
+pub cutting_more : (o from : ℕ) (bound : Option ℕ) (old mid new : Index) (e : KeyEntry) → Cutting o from bound old mid → IsLastFrom mid.shelf.objects o from bound (Some e)
+    → Places o (chunk e) forms.Dropped mid new → SameKept mid new → StaysPrepared mid new → ((k l : ℕ) → Differs o (chunk e) k l → IsReadyKey mid k l → IsReadyKey new k l)
     → Cutting o from (Some (chunk e)) old new
 cutting_more o from bound old mid new e was last places kept prepared ready = record {
   gone = λ l le not. elim (cases_eq l (chunk e)) [

@@ -7,7 +7,7 @@ use Rattle.std.proofs.lemmas.Bool.{cases_eq, cases_lt}
 use Rattle.std.proofs.lemmas.List.{get_or_default}
 use Rattle.chunk_index.specs.declared.form.KeptPage.{KeptPage}
 use Rattle.chunk_index.specs.declared.form.KeptKey.{KeptKey}
-use Rattle.chunk_index.specs.declared.entry.Entry.{Entry}
+use Rattle.chunk_index.specs.declared.entry.KeyEntry.{KeyEntry}
 use Rattle.chunk_index.specs.declared.index.Index.{Index}
 use Rattle.chunk_index.specs.Lists.{find_by, Rises, IsAt, IsGapFor}
 use Rattle.chunk_index.specs.Entries.{chunk, kept_of}
@@ -20,7 +20,7 @@ use Rattle.chunk_index.proofs.Finding.{find_at}
 -- ---- one object
 
 -- those after the entry of a number
-pub start_at : (es : List Entry) → Rises chunk es → (n i : ℕ) → IsAt chunk es n i → IsStartFor chunk es (Some n) (i + 1)
+pub start_at : (es : List KeyEntry) → Rises chunk es → (n i : ℕ) → IsAt chunk es n i → IsStartFor chunk es (Some n) (i + 1)
 start_at es rises n i at = record {
   within = omega (arith, at.within);
   lesser = λ j d lt after. elim (cases_eq j i) [
@@ -37,49 +37,49 @@ start_at es rises n i at = record {
 }
 
 -- those after its gap
-pub start_in_gap : (es : List Entry) (n i : ℕ) → IsGapFor chunk es n i → IsStartFor chunk es (Some n) i
+pub start_in_gap : (es : List KeyEntry) (n i : ℕ) → IsGapFor chunk es n i → IsStartFor chunk es (Some n) i
 start_in_gap es n i gap = record {
   within = gap.within;
   lesser = λ j d lt after. let less : chunk (get_or es j d) < n = gap.lesser j d lt in omega (arith, less, after);
   greater = λ j d le lt. gap.greater j d le lt;
 }
 
-pub start_of_all : (es : List Entry) → IsStartFor chunk es None 0
+pub start_of_all : (es : List KeyEntry) → IsStartFor chunk es None 0
 start_of_all es = record { within = omega arith; lesser = λ j d lt after. omega (arith, lt); greater = λ j d le lt. tt }
 
 -- none of the entries from place i on and before n is kept
-abbrev pub NoneKept : List Entry → ℕ → ℕ → Type 0
-NoneKept es i n = (j : ℕ) (d : Entry) → i ≤ j → j < n → j < length es → (get_or es j d).kept ≡ None
+abbrev pub NoneKept : List KeyEntry → ℕ → ℕ → Type 0
+NoneKept es i n = (j : ℕ) (d : KeyEntry) → i ≤ j → j < n → j < length es → (get_or es j d).kept ≡ None
 
-pub none_more : (es : List Entry) (i n : ℕ) (e : Entry) → NoneKept es i n → n < length es → e ≡ get_or es n e → e.kept ≡ None → NoneKept es i (n + 1)
+pub none_more : (es : List KeyEntry) (i n : ℕ) (e : KeyEntry) → NoneKept es i n → n < length es → e ≡ get_or es n e → e.kept ≡ None → NoneKept es i (n + 1)
 none_more es i n e none lt here is j d le less within = elim (cases_eq j n) [
-  | inl same ↦ ap (λ k. (get_or es k d).kept) same ∙ ap (λ (x : Entry). x.kept) (get_or_default es n d e lt ∙ sym here) ∙ is
+  | inl same ↦ ap (λ k. (get_or es k d).kept) same ∙ ap (λ (x : KeyEntry). x.kept) (get_or_default es n d e lt ∙ sym here) ∙ is
   | inr ne ↦ none j d le (omega (arith, less, ne)) within
 ]
 
 -- a chunk that lies after another, and before place n, is not kept
-module _ (es : List Entry) (rises : Rises chunk es) (after : Option ℕ) (i : ℕ) (start : IsStartFor chunk es after i) (n : ℕ) (none : NoneKept es i n) where
-  not_kept : (c : ℕ) → IsAfterNumber c after → ((j : ℕ) (d : Entry) → n ≤ j → j < length es → chunk (get_or es j d) ≢ c) → kept_chunk es c ≡ None
+module _ (es : List KeyEntry) (rises : Rises chunk es) (after : Option ℕ) (i : ℕ) (start : IsStartFor chunk es after i) (n : ℕ) (none : NoneKept es i n) where
+  not_kept : (c : ℕ) → IsAfterNumber c after → ((j : ℕ) (d : KeyEntry) → n ≤ j → j < length es → chunk (get_or es j d) ≢ c) → kept_chunk es c ≡ None
   not_kept c is_after later = go (find_by chunk es c) refl where
-    go : (v : Option Entry) → find_by chunk es c ≡ v → kept_chunk es c ≡ None
+    go : (v : Option KeyEntry) → find_by chunk es c ≡ v → kept_chunk es c ≡ None
     go None is = ap kept_of is
     go (Some e) is =
         let at = place es c e is in
         elim (cases_lt at.0 i) [
           | inl before ↦ absurd (start.lesser at.0 e before (subst (λ m. IsAfterNumber m after) (sym (ap chunk at.2 ∙ found es c e is)) is_after))
           | inr from ↦ elim (cases_lt at.0 n) [
-            | inl less ↦ ap kept_of is ∙ sym (ap (λ (x : Entry). x.kept) at.2) ∙ none at.0 e from less at.1
+            | inl less ↦ ap kept_of is ∙ sym (ap (λ (x : KeyEntry). x.kept) at.2) ∙ none at.0 e from less at.1
             | inr more ↦ absurd (later at.0 e more at.1 (ap chunk at.2 ∙ found es c e is))
           ]
         ] where
-          found : (es : List Entry) (c : ℕ) (e : Entry) → find_by chunk es c ≡ Some e → chunk e ≡ c
+          found : (es : List KeyEntry) (c : ℕ) (e : KeyEntry) → find_by chunk es c ≡ Some e → chunk e ≡ c
           found es c e is = Rattle.chunk_index.proofs.Shelving.found_chunk es c e is
 
-          place : (es : List Entry) (c : ℕ) (e : Entry) → find_by chunk es c ≡ Some e → (j : ℕ) × (j < length es) × (get_or es j e ≡ e)
+          place : (es : List KeyEntry) (c : ℕ) (e : KeyEntry) → find_by chunk es c ≡ Some e → (j : ℕ) × (j < length es) × (get_or es j e ≡ e)
           place es c e is = Rattle.chunk_index.proofs.Shelving.found_place es c e is
 
   -- the first that is kept
-  pub next_here : (e : Entry) (p : KeptPage) → i ≤ n → n < length es → e ≡ get_or es n e → e.kept ≡ Some p → IsNextChunk (kept_chunk es) after (Some (chunk e, p))
+  pub next_here : (e : KeyEntry) (p : KeptPage) → i ≤ n → n < length es → e ≡ get_or es n e → e.kept ≡ Some p → IsNextChunk (kept_chunk es) after (Some (chunk e, p))
   next_here e p le lt here is =
       let at : IsAt chunk es (chunk e) n = record { within = lt; number = λ d. ap chunk (get_or_default es n d e lt ∙ sym here) } in (
         ap kept_of (find_at chunk es rises (chunk e) n at e ∙ ap Some (sym here)) ∙ is,

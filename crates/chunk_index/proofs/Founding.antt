@@ -9,7 +9,7 @@ use Rattle.flash_tree.specs.declared.place.Found.{Found}
 use Rattle.block_state.specs.declared.blocks.BlockEntry.{BlockEntry}
 use Rattle.block_state.specs.Table.{Table, Sets}
 use Rattle.chunk_index.specs.declared.form.KeptPage.{KeptPage}
-use Rattle.chunk_index.specs.declared.entry.Entry.{Entry}
+use Rattle.chunk_index.specs.declared.entry.KeyEntry.{KeyEntry}
 use Rattle.chunk_index.specs.declared.index.Index.{Index}
 use Rattle.chunk_index.specs.Entries.{kept_at, one_at, counted_at, weight, kept_of, present_of}
 use Rattle.chunk_index.specs.Shelves.{ObjectMap, look, total, Differs, AltersKey}
@@ -17,7 +17,7 @@ use Rattle.chunk_index.specs.Counts.{Recounts}
 use Rattle.chunk_index.specs.Maps.{kept_in, CountsAgree}
 use Rattle.chunk_index.proofs.Counting.{one_most, recounts_more, sum_ones}
 use Rattle.std.proofs.lemmas.Bool.Decides.{nat_tests}
-use Rattle.chunk_index.specs.Newest.{page_of, IsOf, KeysRise, Indexes}
+use Rattle.chunk_index.specs.Newest.{page_of, IsFoundOf, KeysRise, Indexes}
 use Rattle.chunk_index.specs.Found.{found_in, HasPages}
 
 -- keys that rise differ
@@ -26,7 +26,7 @@ precedes_differs f g (inl lt) = inl (λ e. omega (arith, lt, e))
 precedes_differs f g (inr same) = inr (λ e. omega (arith, same.1, e))
 
 -- a key that the page is not of is another
-other_differs : (f : Found) (o c : ℕ) → (IsOf o c f → ⊥) → Differs f.tag.object f.tag.chunk o c
+other_differs : (f : Found) (o c : ℕ) → (IsFoundOf o c f → ⊥) → Differs f.tag.object f.tag.chunk o c
 other_differs f o c not = elim (cases_eq o f.tag.object) [
   | inl e ↦ inr (λ h. not (sym e, sym h))
   | inr ne ↦ inl ne
@@ -42,7 +42,7 @@ module _ (fs : List Found) (n : ℕ) (old : ObjectMap) (rise : KeysRise fs) (was
   before : (i : ℕ) (e : Found) → i < n → IsKeyBefore (get_or fs i e) f
   before i e less = subst (IsKeyBefore (get_or fs i e)) (here e) (rise i n e less lt)
 
-  not_of : (i : ℕ) (e : Found) → i < n → IsOf f.tag.object f.tag.chunk (get_or fs i e) → ⊥
+  not_of : (i : ℕ) (e : Found) → i < n → IsFoundOf f.tag.object f.tag.chunk (get_or fs i e) → ⊥
   not_of i e less is = elim (precedes_differs (get_or fs i e) f (before i e less)) [ inl ne ↦ ne is.0 | inr ne ↦ ne is.1 ]
 
   -- the next page's key has no entry
@@ -66,9 +66,9 @@ module _ (fs : List Found) (n : ℕ) (old : ObjectMap) (rise : KeysRise fs) (was
         let more : found_in fs (n + 1) b ≡ found_in fs n b + one_at (Some (page_of f)) b = sum_by_more (λ g. one_at (Some (page_of g)) b) fs n d lt in
         omega (arith, sum, nothing, all, more);
     size =
-        let sum = alters.weighs (λ (e : Entry). 1) in
-        let nothing : weight (λ (e : Entry). 1) (look old f.tag.object f.tag.chunk) ≡ 0 = ap (weight (λ (e : Entry). 1)) next_absent in
-        let all : total (λ (e : Entry). 1) old ≡ n = was.size in
+        let sum = alters.weighs (λ (e : KeyEntry). 1) in
+        let nothing : weight (λ (e : KeyEntry). 1) (look old f.tag.object f.tag.chunk) ≡ 0 = ap (weight (λ (e : KeyEntry). 1)) next_absent in
+        let all : total (λ (e : KeyEntry). 1) old ≡ n = was.size in
         omega (arith, sum, nothing, all);
   }
 
@@ -85,7 +85,7 @@ more_at fs n old new rise was lt d o c p object chunk page alters =
     (subst (λ k. AltersKey k c (Some (kept_at c (Some p))) old new) object alters)))
 
 -- before the first page there is no entry
-pub pages_none : (fs : List Found) (m : ObjectMap) → ((o c : ℕ) → look m o c ≡ None) → ((b : ℕ) → total (counted_at b) m ≡ 0) → (size : ℕ) → total (λ (e : Entry). 1) m ≡ size → size ≡ 0 → HasPages fs 0 m
+pub pages_none : (fs : List Found) (m : ObjectMap) → ((o c : ℕ) → look m o c ≡ None) → ((b : ℕ) → total (counted_at b) m ≡ 0) → (size : ℕ) → total (λ (e : KeyEntry). 1) m ≡ size → size ≡ 0 → HasPages fs 0 m
 pages_none fs m empty none size counted zero_size = record {
   done = λ i d lt. absurd (omega (arith, lt));
   rest = λ o c n. empty o c;

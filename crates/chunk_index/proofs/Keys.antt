@@ -11,7 +11,7 @@ use Rattle.std.proofs.lemmas.List.{get_or_default}
 use Rattle.std.proofs.lemmas.Map.Entries.{btree_map_get_place}
 use Rattle.chunk_index.specs.declared.form.KeptPage.{KeptPage}
 use Rattle.chunk_index.specs.declared.form.KeptKey.{KeptKey}
-use Rattle.chunk_index.specs.declared.entry.Entry.{Entry}
+use Rattle.chunk_index.specs.declared.entry.KeyEntry.{KeyEntry}
 use Rattle.chunk_index.specs.declared.object.ObjectEntries.{ObjectEntries}
 use Rattle.chunk_index.specs.declared.index.Index.{Index}
 use Rattle.chunk_index.specs.Lists.{find_by}
@@ -54,7 +54,7 @@ each_append P (x ∷ xs) ys one two (suc i) k is = each_append P xs ys (λ j l a
 abbrev pub IsKept : Index → ℕ → KeptKey → Type 0
 IsKept x b k = (kept_pages x k.key.object k.key.chunk ≡ Some k.at) × (k.at.block ≡ b)
 
-key_is : (x : Index) (b o : ℕ) (e : Entry) → kept_pages x o (chunk e) ≡ e.kept → (i : ℕ) (k : KeptKey) → slice_get (key_in b o e) i ≡ Some k → IsKept x b k
+key_is : (x : Index) (b o : ℕ) (e : KeyEntry) → kept_pages x o (chunk e) ≡ e.kept → (i : ℕ) (k : KeptKey) → slice_get (key_in b o e) i ≡ Some k → IsKept x b k
 key_is x b o e told i k is = go e.kept refl where
   go : (p : Option KeptPage) → e.kept ≡ p → IsKept x b k
   go None none =
@@ -79,7 +79,7 @@ key_is x b o e told i k is = go e.kept refl where
         only zero e = cc
         only (suc j) e = absurd cc
 
-keys_are : (x : Index) (b o : ℕ) (es : List Entry) → ((j : ℕ) (d : Entry) → j < length es → kept_pages x o (chunk (get_or es j d)) ≡ (get_or es j d).kept) → (i : ℕ) (k : KeptKey) → slice_get (keys_of b o es) i ≡ Some k → IsKept x b k
+keys_are : (x : Index) (b o : ℕ) (es : List KeyEntry) → ((j : ℕ) (d : KeyEntry) → j < length es → kept_pages x o (chunk (get_or es j d)) ≡ (get_or es j d).kept) → (i : ℕ) (k : KeptKey) → slice_get (keys_of b o es) i ≡ Some k → IsKept x b k
 keys_are x b o [] told i k is = absurd cc
 keys_are x b o (e ∷ es) told i k is = each_append (IsKept x b) (key_in b o e) (keys_of b o es) (key_is x b o e (told 0 e (omega arith))) (keys_are x b o es (λ j d lt. told (suc j) d (omega (arith, lt)))) i k is
 
@@ -98,14 +98,14 @@ listed_is_kept x b = all_are x b x.shelf.objects.entries (λ j o z at. btree_map
 
 -- ---- and each key that is kept there is listed
 
-stands_key : (b o : ℕ) (e : Entry) (p : KeptPage) → e.kept ≡ Some p → p.block ≡ b → Stands (record { key = record { object = o; chunk = chunk e }; at = p }) (key_in b o e)
+stands_key : (b o : ℕ) (e : KeyEntry) (p : KeptPage) → e.kept ≡ Some p → p.block ≡ b → Stands (record { key = record { object = o; chunk = chunk e }; at = p }) (key_in b o e)
 stands_key b o e p some at =
     let this : KeptKey = record { key = record { object = o; chunk = e.chunk }; at = p } in
     let listed : key_in b o e ≡ (if p.block == b then this ∷ [] else []) = ap (λ q. option_map_or (λ p. if p.block == b then record { key = record { object = o; chunk = e.chunk }; at = p } ∷ [] else []) q []) some in
     let one : (if p.block == b then this ∷ [] else []) ≡ this ∷ [] = grind (arith, nat_tests, at) in
     subst (Stands this) (sym (listed ∙ one)) first
 
-stands_object : (b o c : ℕ) (p : KeptPage) → p.block ≡ b → (es : List Entry) → kept_of (find_by chunk es c) ≡ Some p → Stands (record { key = record { object = o; chunk = c }; at = p }) (keys_of b o es)
+stands_object : (b o c : ℕ) (p : KeptPage) → p.block ≡ b → (es : List KeyEntry) → kept_of (find_by chunk es c) ≡ Some p → Stands (record { key = record { object = o; chunk = c }; at = p }) (keys_of b o es)
 stands_object b o c p at [] is = absurd cc
 stands_object b o c p at (e ∷ es) is = elim (cases_eq (chunk e) c) [
   | inl same ↦

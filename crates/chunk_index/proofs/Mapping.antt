@@ -6,7 +6,7 @@ use Rattle.std.specs.BTreeMap.{values}
 use Rattle.std.proofs.lemmas.Bool.{cases_eq}
 use Rattle.std.proofs.lemmas.List.{length-append, get_or_append_left, get_or-append_right}
 use Rattle.flash_tree.specs.declared.place.Key.{Key}
-use Rattle.chunk_index.specs.declared.entry.Entry.{Entry}
+use Rattle.chunk_index.specs.declared.entry.KeyEntry.{KeyEntry}
 use Rattle.chunk_index.specs.declared.object.ObjectEntries.{ObjectEntries}
 use Rattle.chunk_index.specs.declared.form.Form.{Form}
 use Rattle.chunk_index.specs.declared.form.Form.TheVariants as forms
@@ -16,15 +16,15 @@ use Rattle.chunk_index.proofs.Shelving.{look_chunk}
 use Rattle.chunk_index.proofs.Counting.{less_than_all, two_sums}
 
 -- the entry that is put is of the key
-pub at_chunk : (m n : ObjectMap) (o c : ℕ) (e new : Entry) → look m o c ≡ Some e → new.chunk ≡ e.chunk → AltersKey o new.chunk (Some new) m n → AltersKey o c (Some new) m n
+pub at_chunk : (m n : ObjectMap) (o c : ℕ) (e new : KeyEntry) → look m o c ≡ Some e → new.chunk ≡ e.chunk → AltersKey o new.chunk (Some new) m n → AltersKey o c (Some new) m n
 at_chunk m n o c e new is same alters = subst (λ l. AltersKey o l (Some new) m n) (same ∙ look_chunk m o c e is) alters
 
-pub there_at : (m : ObjectMap) (o c : ℕ) (e : Entry) (l : ℕ) → look m o c ≡ Some e → l ≡ e.chunk → IsSome (look m o l)
+pub there_at : (m : ObjectMap) (o c : ℕ) (e : KeyEntry) (l : ℕ) → look m o c ≡ Some e → l ≡ e.chunk → IsSome (look m o l)
 there_at m o c e l is same = subst (λ k. IsSome (look m o k)) (sym (same ∙ look_chunk m o c e is)) (rw is refl)
 
-module _ {m n : ObjectMap} {o c : ℕ} {to : Option Entry} (alters : AltersKey o c to m n) where
+module _ {m n : ObjectMap} {o c : ℕ} {to : Option KeyEntry} (alters : AltersKey o c to m n) where
   -- what is the same of the entry is the same of each
-  pub told_same : {X : Type 0} (f : Option Entry → X) → f to ≡ f (look m o c) → (k l : ℕ) → f (look n k l) ≡ f (look m k l)
+  pub told_same : {X : Type 0} (f : Option KeyEntry → X) → f to ≡ f (look m o c) → (k l : ℕ) → f (look n k l) ≡ f (look m k l)
   told_same f same k l = elim (cases_eq k o) [
     | inr ne ↦ ap f (alters.others k l (inl ne))
     | inl e ↦ elim (cases_eq l c) [
@@ -34,7 +34,7 @@ module _ {m n : ObjectMap} {o c : ℕ} {to : Option Entry} (alters : AltersKey o
   ]
 
   -- what holds of the entry still holds of each of which it held
-  pub told_still : (f : Option Entry → Bool) → f to ≡ true → (k l : ℕ) → f (look m k l) ≡ true → f (look n k l) ≡ true
+  pub told_still : (f : Option KeyEntry → Bool) → f to ≡ true → (k l : ℕ) → f (look m k l) ≡ true → f (look n k l) ≡ true
   told_still f holds k l was = elim (cases_eq k o) [
     | inr ne ↦ ap f (alters.others k l (inl ne)) ∙ was
     | inl e ↦ elim (cases_eq l c) [
@@ -44,7 +44,7 @@ module _ {m n : ObjectMap} {o c : ℕ} {to : Option Entry} (alters : AltersKey o
   ]
 
   -- where it adds as much, all add as much
-  pub total_same : (f : Entry → ℕ) → weight f to ≡ weight f (look m o c) → total f n ≡ total f m
+  pub total_same : (f : KeyEntry → ℕ) → weight f to ≡ weight f (look m o c) → total f n ≡ total f m
   total_same f same = let sum = alters.weighs f in omega (arith, sum, same)
 
   -- the changed keys are listed, where this one is and the others still are
@@ -62,22 +62,22 @@ module _ {m n : ObjectMap} {o c : ℕ} {to : Option Entry} (alters : AltersKey o
 
 -- ---- the list of changed keys
 
-changed_most : (e : Entry) → changed e ≤ 1
+changed_most : (e : KeyEntry) → changed e ≤ 1
 changed_most e = go (is_same e) where
   go : (b : Bool) → (if b then 0 else 1) ≤ 1
   go true = omega arith
   go false = omega arith
 
 -- no more keys changed than there are
-pub changed_few : (m : ObjectMap) → total changed m ≤ total (λ (e : Entry). 1) m
+pub changed_few : (m : ObjectMap) → total changed m ≤ total (λ (e : KeyEntry). 1) m
 changed_few m =
-    let split : total changed m + total (λ e. 1 - changed e) m ≡ total (λ (e : Entry). 1) m =
-    two_sums (λ (x : ObjectEntries). weigh changed x.entries.items) (λ (x : ObjectEntries). weigh (λ e. 1 - changed e) x.entries.items) (λ (x : ObjectEntries). weigh (λ (e : Entry). 1) x.entries.items)
-    (λ x. two_sums changed (λ e. 1 - changed e) (λ (e : Entry). 1) (λ e. let le = changed_most e in omega (arith, le)) x.entries.items) (values m) in
+    let split : total changed m + total (λ e. 1 - changed e) m ≡ total (λ (e : KeyEntry). 1) m =
+    two_sums (λ (x : ObjectEntries). weigh changed x.entries.items) (λ (x : ObjectEntries). weigh (λ e. 1 - changed e) x.entries.items) (λ (x : ObjectEntries). weigh (λ (e : KeyEntry). 1) x.entries.items)
+    (λ x. two_sums changed (λ e. 1 - changed e) (λ (e : KeyEntry). 1) (λ e. let le = changed_most e in omega (arith, le)) x.entries.items) (values m) in
     omega (arith, split)
 
 -- there is room for a key that did not change
-pub changed_room : (m : ObjectMap) (o c : ℕ) (e : Entry) → look m o c ≡ Some e → is_same e ≡ true → (n size capacity : ℕ) → n ≤ total changed m → total (λ (x : Entry). 1) m ≡ size → size ≤ capacity → n < capacity
+pub changed_room : (m : ObjectMap) (o c : ℕ) (e : KeyEntry) → look m o c ≡ Some e → is_same e ≡ true → (n size capacity : ℕ) → n ≤ total changed m → total (λ (x : KeyEntry). 1) m ≡ size → size ≤ capacity → n < capacity
 changed_room m o c e is same n size capacity few counted room =
     let less = less_than_all changed changed_most m o c (rw is refl) in
     let none : weight changed (look m o c) ≡ 0 = ap (weight changed) is ∙ ap (λ b. if b then 0 else 1) same in
@@ -105,15 +105,15 @@ listed_last keys k = ∣ (
 
 -- ---- an entry that is put, or refused
 
-module _ {E : Type 0} (r : Result (Unit {0}) E) (m n : ObjectMap) (o c : ℕ) (e : Entry) (ok : OnOk r (AltersKey o c (Some e) m n)) (err : OnErr r (SameEntries m n)) (none : look m o c ≡ None) where
+module _ {E : Type 0} (r : Result (Unit {0}) E) (m n : ObjectMap) (o c : ℕ) (e : KeyEntry) (ok : OnOk r (AltersKey o c (Some e) m n)) (err : OnErr r (SameEntries m n)) (none : look m o c ≡ None) where
   -- what it tells as little of as no entry is the same
-  pub told_inserted : {X : Type 0} (f : Option Entry → X) → f (Some e) ≡ f None → (k l : ℕ) → f (look n k l) ≡ f (look m k l)
+  pub told_inserted : {X : Type 0} (f : Option KeyEntry → X) → f (Some e) ≡ f None → (k l : ℕ) → f (look n k l) ≡ f (look m k l)
   told_inserted f same k l = go r ok err where
     go : (q : Result (Unit {0}) E) → OnOk q (AltersKey o c (Some e) m n) → OnErr q (SameEntries m n) → f (look n k l) ≡ f (look m k l)
     go (Ok u) alters x = told_same alters f (same ∙ sym (ap f none)) k l
     go (Err x) u entries = ap f (entries.looks k l)
 
-  pub total_inserted : (f : Entry → ℕ) → f e ≡ 0 → total f n ≡ total f m
+  pub total_inserted : (f : KeyEntry → ℕ) → f e ≡ 0 → total f n ≡ total f m
   total_inserted f nothing = go r ok err where
     go : (q : Result (Unit {0}) E) → OnOk q (AltersKey o c (Some e) m n) → OnErr q (SameEntries m n) → total f n ≡ total f m
     go (Ok u) alters x = total_same alters f (nothing ∙ sym (ap (weight f) none))

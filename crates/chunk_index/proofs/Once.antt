@@ -13,7 +13,7 @@ use Rattle.std.proofs.lemmas.Map.Keys.{sorted_head, sorted_tail}
 use Rattle.flash_tree.specs.declared.place.Key.{Key}
 use Rattle.chunk_index.specs.declared.form.KeptPage.{KeptPage}
 use Rattle.chunk_index.specs.declared.form.KeptKey.{KeptKey}
-use Rattle.chunk_index.specs.declared.entry.Entry.{Entry}
+use Rattle.chunk_index.specs.declared.entry.KeyEntry.{KeyEntry}
 use Rattle.chunk_index.specs.declared.object.ObjectEntries.{ObjectEntries}
 use Rattle.chunk_index.specs.declared.index.Index.{Index}
 use Rattle.chunk_index.specs.Lists.{Rises}
@@ -50,7 +50,7 @@ once_append (x ∷ xs) ys one two apart = once_cons x (xs ++ ys)
     (λ i j k l at there same. apart (suc i) j k l at there same))
 
 -- the list of one entry has it alone, if at all
-key_in_is : (b o : ℕ) (e : Entry) (i : ℕ) (k : KeptKey) → slice_get (key_in b o e) i ≡ Some k → (i ≡ 0) × (k.key.object ≡ o) × (k.key.chunk ≡ chunk e)
+key_in_is : (b o : ℕ) (e : KeyEntry) (i : ℕ) (k : KeptKey) → slice_get (key_in b o e) i ≡ Some k → (i ≡ 0) × (k.key.object ≡ o) × (k.key.chunk ≡ chunk e)
 key_in_is b o e i k is = go e.kept refl where
   go : (p : Option KeptPage) → e.kept ≡ p → (i ≡ 0) × (k.key.object ≡ o) × (k.key.chunk ≡ chunk e)
   go None none =
@@ -76,19 +76,19 @@ key_in_is b o e i k is = go e.kept refl where
         only (suc j) e = absurd cc
 
 -- all keys of an object are its
-of_object : (b o : ℕ) (es : List Entry) (i : ℕ) (k : KeptKey) → slice_get (keys_of_object b o es) i ≡ Some k → k.key.object ≡ o
+of_object : (b o : ℕ) (es : List KeyEntry) (i : ℕ) (k : KeptKey) → slice_get (keys_of_object b o es) i ≡ Some k → k.key.object ≡ o
 of_object b o [] i k is = absurd cc
 of_object b o (e ∷ es) i k is = each_append (λ k. k.key.object ≡ o) (key_in b o e) (keys_of_object b o es) (λ j l at. (key_in_is b o e j l at).1) (of_object b o es) i k is
 
 -- and above a chunk where all entries are
-above_chunk : (b o n : ℕ) (es : List Entry) → ((j : ℕ) (d : Entry) → j < length es → n < chunk (get_or es j d)) → (i : ℕ) (k : KeptKey) → slice_get (keys_of_object b o es) i ≡ Some k → n < k.key.chunk
+above_chunk : (b o n : ℕ) (es : List KeyEntry) → ((j : ℕ) (d : KeyEntry) → j < length es → n < chunk (get_or es j d)) → (i : ℕ) (k : KeptKey) → slice_get (keys_of_object b o es) i ≡ Some k → n < k.key.chunk
 above_chunk b o n [] above i k is = absurd cc
 above_chunk b o n (e ∷ es) above i k is =
     each_append (λ k. n < k.key.chunk) (key_in b o e) (keys_of_object b o es)
     (λ j l at. let here : l.key.chunk ≡ chunk e = (key_in_is b o e j l at).2 in let lt : n < chunk e = above 0 e (omega arith) in omega (arith, here, lt))
     (above_chunk b o n es (λ j d lt. above (suc j) d (omega (arith, lt)))) i k is
 
-once_object : (b o : ℕ) (es : List Entry) → Rises chunk es → IsOnce (keys_of_object b o es)
+once_object : (b o : ℕ) (es : List KeyEntry) → Rises chunk es → IsOnce (keys_of_object b o es)
 once_object b o [] rises = λ i j k l at there same. absurd cc
 once_object b o (e ∷ es) rises = once_append (key_in b o e) (keys_of_object b o es)
     (λ i j k l at there same. (key_in_is b o e i k at).0 ∙ sym (key_in_is b o e j l there).0)

@@ -2,7 +2,7 @@
 use Rattle.std.proofs.Common.{◌≡◌, ℕ, ◌+◌, ◌<◌, ◌≤◌, List, ◌++◌, length, drop, get_or, sym, ap, ◌∙◌, arith}
 use Rattle.std.proofs.lemmas.List.{length-append, append_assoc, append-nil, drop_more, drop_all}
 use Rattle.chunk_index.specs.declared.form.KeptKey.{KeptKey}
-use Rattle.chunk_index.specs.declared.entry.Entry.{Entry}
+use Rattle.chunk_index.specs.declared.entry.KeyEntry.{KeyEntry}
 use Rattle.chunk_index.specs.Listing.{key_in, keys_of}
 
 -- there is room for the next part
@@ -19,8 +19,8 @@ pub list_more : (now new old part rest all : List KeptKey) → now ++ (part ++ r
 list_more now new old part rest all same added = ap (λ xs. xs ++ rest) added ∙ append_assoc now part rest ∙ same
 
 -- the rest of an object's entries, and the next of them
-pub rest_more : (b o : ℕ) (es : List Entry) (i : ℕ) (d : Entry) → i < length es → keys_of b o (drop i es) ≡ key_in b o (get_or es i d) ++ keys_of b o (drop (i + 1) es)
+pub rest_more : (b o : ℕ) (es : List KeyEntry) (i : ℕ) (d : KeyEntry) → i < length es → keys_of b o (drop i es) ≡ key_in b o (get_or es i d) ++ keys_of b o (drop (i + 1) es)
 rest_more b o es i d lt = ap (keys_of b o) (drop_more es i d lt)
 
-pub rest_none : (b o : ℕ) (es : List Entry) (i : ℕ) (now xs : List KeptKey) → length es ≤ i → now ++ keys_of b o (drop i es) ≡ xs → now ≡ xs
+pub rest_none : (b o : ℕ) (es : List KeyEntry) (i : ℕ) (now xs : List KeptKey) → length es ≤ i → now ++ keys_of b o (drop i es) ≡ xs → now ≡ xs
 rest_none b o es i now xs le same = sym (append-nil now) ∙ ap (λ r. now ++ keys_of b o r) (sym (drop_all i es le)) ∙ same

@@ -8,7 +8,7 @@ use Rattle.std.proofs.lemmas.List.{take_more, take_more_set, length-set, get_or-
 use Rattle.std.proofs.lemmas.List.Elements.{filter_map-append}
 use Rattle.std.proofs.lemmas.List.Sums.{sum_by-cons, sum_by_more, sum_by_more_le, sum_by-append}
 use Rattle.block_state.specs.Table.{Table}
-use Rattle.chunk_index.specs.declared.entry.Entry.{Entry}
+use Rattle.chunk_index.specs.declared.entry.KeyEntry.{KeyEntry}
 use Rattle.chunk_index.specs.declared.entry.State.TheVariants as states
 use Rattle.chunk_index.specs.declared.form.Present.TheVariants as presents
 use Rattle.chunk_index.specs.Lists.{find_by, Rises}
@@ -19,7 +19,7 @@ use Rattle.chunk_index.proofs.Finding.{find_absent}
 
 -- ---- one entry
 
-retained_chunk : (stays : Bool) (e x : Entry) → retained stays e ≡ Some x → x.chunk ≡ e.chunk
+retained_chunk : (stays : Bool) (e x : KeyEntry) → retained stays e ≡ Some x → x.chunk ≡ e.chunk
 retained_chunk true e x is = let same : e ≡ x = cc in ap chunk (sym same)
 retained_chunk false e x is = go (is_same e) is where
   go : (b : Bool) → forgotten b e ≡ Some x → x.chunk ≡ e.chunk
@@ -27,7 +27,7 @@ retained_chunk false e x is = go (is_same e) is where
   go false left = let same : record { chunk = e.chunk; kept = None; state = states.Dropped } ≡ x = cc in ap chunk (sym same)
 
 -- as many entries are changed ones
-retained_changed : (stays : Bool) (e : Entry) → weight changed (retained stays e) ≡ changed e
+retained_changed : (stays : Bool) (e : KeyEntry) → weight changed (retained stays e) ≡ changed e
 retained_changed true e = refl
 retained_changed false e = go (is_same e) refl where
   go : (b : Bool) → is_same e ≡ b → weight changed (forgotten b e) ≡ changed e
@@ -35,7 +35,7 @@ retained_changed false e = go (is_same e) refl where
   go false is = sym (ap (λ (b : Bool). if b then 0 else 1) is)
 
 -- a key whose entry is a changed one had one that was
-pub retained_same_of : (stays : Bool) (v : Option Entry) → same_of (retained_told stays v) ≡ false → same_of v ≡ false
+pub retained_same_of : (stays : Bool) (v : Option KeyEntry) → same_of (retained_told stays v) ≡ false → same_of v ≡ false
 retained_same_of stays None is = is
 retained_same_of true (Some e) is = is
 retained_same_of false (Some e) is = go (is_same e) refl is where
@@ -44,19 +44,19 @@ retained_same_of false (Some e) is = go (is_same e) refl is where
   go false same not = same
 
 -- a key that stays has its entry
-pub retained_stays : (stays : Bool) (v : Option Entry) → stays ≡ true → retained_told stays v ≡ v
+pub retained_stays : (stays : Bool) (v : Option KeyEntry) → stays ≡ true → retained_told stays v ≡ v
 retained_stays stays None is = refl
 retained_stays stays (Some e) is = ap (λ b. retained b e) is
 
 -- nothing is kept of another, and nothing is present
-pub retained_kept : (stays : Bool) (v : Option Entry) → stays ≡ false → kept_of (retained_told stays v) ≡ None
+pub retained_kept : (stays : Bool) (v : Option KeyEntry) → stays ≡ false → kept_of (retained_told stays v) ≡ None
 retained_kept stays None is = refl
 retained_kept stays (Some e) is = ap (λ b. kept_of (retained b e)) is ∙ go (is_same e) where
   go : (b : Bool) → kept_of (forgotten b e) ≡ None
   go true = refl
   go false = refl
 
-pub retained_present : (stays : Bool) (v : Option Entry) → stays ≡ false → present_of (retained_told stays v) ≡ presents.Absent
+pub retained_present : (stays : Bool) (v : Option KeyEntry) → stays ≡ false → present_of (retained_told stays v) ≡ presents.Absent
 retained_present stays None is = refl
 retained_present stays (Some e) is = ap (λ b. present_of (retained b e)) is ∙ go (is_same e) where
   go : (b : Bool) → present_of (forgotten b e) ≡ presents.Absent
@@ -66,33 +66,33 @@ retained_present stays (Some e) is = ap (λ b. present_of (retained b e)) is ∙
 -- ---- the entries of an object
 
 -- each has a chunk above a number
-abbrev pub Above : ℕ → List Entry → Type 0
-Above n es = (j : ℕ) (d : Entry) → j < length es → n < chunk (get_or es j d)
+abbrev pub Above : ℕ → List KeyEntry → Type 0
+Above n es = (j : ℕ) (d : KeyEntry) → j < length es → n < chunk (get_or es j d)
 
-rises_tail : (e : Entry) (es : List Entry) → Rises chunk (e ∷ es) → Rises chunk es
+rises_tail : (e : KeyEntry) (es : List KeyEntry) → Rises chunk (e ∷ es) → Rises chunk es
 rises_tail e es rises i j d lt within = rises (suc i) (suc j) d (omega (arith, lt)) (omega (arith, within))
 
-rises_above : (e : Entry) (es : List Entry) → Rises chunk (e ∷ es) → Above (chunk e) es
+rises_above : (e : KeyEntry) (es : List KeyEntry) → Rises chunk (e ∷ es) → Above (chunk e) es
 rises_above e es rises j d within = rises 0 (suc j) d (omega arith) (omega (arith, within))
 
-above_cons : (n : ℕ) (e : Entry) (es : List Entry) → n < chunk e → Above n es → Above n (e ∷ es)
+above_cons : (n : ℕ) (e : KeyEntry) (es : List KeyEntry) → n < chunk e → Above n es → Above n (e ∷ es)
 above_cons n e es lt above zero d within = lt
 above_cons n e es lt above (suc j) d within = above j d (omega (arith, within))
 
-rises_cons : (e : Entry) (es : List Entry) → Above (chunk e) es → Rises chunk es → Rises chunk (e ∷ es)
+rises_cons : (e : KeyEntry) (es : List KeyEntry) → Above (chunk e) es → Rises chunk es → Rises chunk (e ∷ es)
 rises_cons e es above rises zero zero d lt within = absurd (omega (arith, lt))
 rises_cons e es above rises zero (suc j) d lt within = above j d (omega (arith, within))
 rises_cons e es above rises (suc i) zero d lt within = absurd (omega (arith, lt))
 rises_cons e es above rises (suc i) (suc j) d lt within = rises i j d (omega (arith, lt)) (omega (arith, within))
 
-above_tail : (n : ℕ) (e : Entry) (es : List Entry) → Above n (e ∷ es) → Above n es
+above_tail : (n : ℕ) (e : KeyEntry) (es : List KeyEntry) → Above n (e ∷ es) → Above n es
 above_tail n e es above j d within = above (suc j) d (omega (arith, within))
 
 module _ (keeps : ℕ → Bool) where
-  above_retained : (n : ℕ) (es : List Entry) → Above n es → Above n (retained_of keeps es)
+  above_retained : (n : ℕ) (es : List KeyEntry) → Above n es → Above n (retained_of keeps es)
   above_retained n [] above = above
   above_retained n (e ∷ es) above = go (above_retained n es (above_tail n e es above)) (retained (keeps (chunk e)) e) refl where
-    go : Above n (retained_of keeps es) → (v : Option Entry) → retained (keeps (chunk e)) e ≡ v → Above n (cons_option v (retained_of keeps es))
+    go : Above n (retained_of keeps es) → (v : Option KeyEntry) → retained (keeps (chunk e)) e ≡ v → Above n (cons_option v (retained_of keeps es))
     go rest None is = rest
     go rest (Some x) is =
         let lt : n < chunk e = above 0 e (omega arith) in
@@ -100,30 +100,30 @@ module _ (keeps : ℕ → Bool) where
         above_cons n x (retained_of keeps es) (omega (arith, lt, same)) rest
 
   -- the chunks of those that are left still rise
-  pub rises_retained : (es : List Entry) → Rises chunk es → Rises chunk (retained_of keeps es)
+  pub rises_retained : (es : List KeyEntry) → Rises chunk es → Rises chunk (retained_of keeps es)
   rises_retained [] rises = rises
   rises_retained (e ∷ es) rises = go (rises_retained es (rises_tail e es rises)) (retained (keeps (chunk e)) e) refl where
-    go : Rises chunk (retained_of keeps es) → (v : Option Entry) → retained (keeps (chunk e)) e ≡ v → Rises chunk (cons_option v (retained_of keeps es))
+    go : Rises chunk (retained_of keeps es) → (v : Option KeyEntry) → retained (keeps (chunk e)) e ≡ v → Rises chunk (cons_option v (retained_of keeps es))
     go rest None is = rest
     go rest (Some x) is =
         let same = retained_chunk (keeps (chunk e)) e x is in
         rises_cons x (retained_of keeps es) (above_retained (chunk x) es (subst (λ n. Above n es) (sym same) (rises_above e es rises))) rest
 
   -- and each is found where it was
-  pub find_retained : (es : List Entry) → Rises chunk es → (c : ℕ) → find_by chunk (retained_of keeps es) c ≡ retained_told (keeps c) (find_by chunk es c)
+  pub find_retained : (es : List KeyEntry) → Rises chunk es → (c : ℕ) → find_by chunk (retained_of keeps es) c ≡ retained_told (keeps c) (find_by chunk es c)
   find_retained [] rises c = refl
   find_retained (e ∷ es) rises c = go (find_retained es (rises_tail e es rises) c) where
-    v : Option Entry
+    v : Option KeyEntry
     v = retained (keeps (chunk e)) e
 
     absent : chunk e ≡ c → find_by chunk es c ≡ None
     absent is = find_absent chunk es c (λ j d lt same. let above : chunk e < chunk (get_or es j d) = rises_above e es rises j d lt in omega (arith, above, same, is))
 
-    first : find_by chunk (retained_of keeps es) c ≡ retained_told (keeps c) (find_by chunk es c) → (w : Option Entry) → v ≡ w → chunk e ≡ c → find_by chunk (cons_option w (retained_of keeps es)) c ≡ w
+    first : find_by chunk (retained_of keeps es) c ≡ retained_told (keeps c) (find_by chunk es c) → (w : Option KeyEntry) → v ≡ w → chunk e ≡ c → find_by chunk (cons_option w (retained_of keeps es)) c ≡ w
     first rest None is at = rest ∙ ap (retained_told (keeps c)) (absent at)
     first rest (Some x) is at = let same : chunk x ≡ c = retained_chunk (keeps (chunk e)) e x is ∙ at in grind (arith, nat_tests, same)
 
-    other : (w : Option Entry) → v ≡ w → chunk e ≢ c → find_by chunk (cons_option w (retained_of keeps es)) c ≡ find_by chunk (retained_of keeps es) c
+    other : (w : Option KeyEntry) → v ≡ w → chunk e ≢ c → find_by chunk (cons_option w (retained_of keeps es)) c ≡ find_by chunk (retained_of keeps es) c
     other None is ne = refl
     other (Some x) is ne = let apart : chunk x ≢ c = λ same. ne (sym (retained_chunk (keeps (chunk e)) e x is) ∙ same) in grind (arith, nat_tests, apart)
 
@@ -139,7 +139,7 @@ module _ (keeps : ℕ → Bool) where
     ]
 
   -- as many are changed ones
-  pub changed_retained : (es : List Entry) → weigh changed (retained_of keeps es) ≡ weigh changed es
+  pub changed_retained : (es : List KeyEntry) → weigh changed (retained_of keeps es) ≡ weigh changed es
   changed_retained [] = refl
   changed_retained (e ∷ es) =
       let rest = changed_retained es in
@@ -147,7 +147,7 @@ module _ (keeps : ℕ → Bool) where
       let all : weigh changed (e ∷ es) ≡ changed e + weigh changed es = sum_by-cons changed e es in
       let left = weigh_option changed (retained (keeps (chunk e)) e) (retained_of keeps es) in
       omega (arith, rest, one, all, left) where
-        weigh_option : (f : Entry → ℕ) (v : Option Entry) (es : List Entry) → weigh f (cons_option v es) ≡ weight f v + weigh f es
+        weigh_option : (f : KeyEntry → ℕ) (v : Option KeyEntry) (es : List KeyEntry) → weigh f (cons_option v es) ≡ weight f v + weigh f es
         weigh_option f None es = omega arith
         weigh_option f (Some x) es = sum_by-cons f x es
 
@@ -155,14 +155,14 @@ module _ (keeps : ℕ → Bool) where
 
 -- Of the first n entries those that are left stand in front, the others from n on are as they were, and so many pages are
 -- counted.
-pub record Gathers (keeps : ℕ → Bool) (first : List Entry) (n : ℕ) (now : List Entry) (kept : ℕ) (t u : Table) : Type 0 where
+pub record Gathers (keeps : ℕ → Bool) (first : List KeyEntry) (n : ℕ) (now : List KeyEntry) (kept : ℕ) (t u : Table) : Type 0 where
   pub long : length now ≡ length first
   pub front : kept ≤ n
   pub left : take kept now ≡ retained_of keeps (take n first)
-  pub rest : (k : ℕ) (d : Entry) → n ≤ k → get_or now k d ≡ get_or first k d
+  pub rest : (k : ℕ) (d : KeyEntry) → n ≤ k → get_or now k d ≡ get_or first k d
   pub counts : Recounts (λ b. weigh (counted_at b) (take n first)) (λ b. weigh (counted_at b) (take kept now)) t u
 
-pub gathers_none : (keeps : ℕ → Bool) (first : List Entry) (t : Table) → Gathers keeps first 0 first 0 t t
+pub gathers_none : (keeps : ℕ → Bool) (first : List KeyEntry) (t : Table) → Gathers keeps first 0 first 0 t t
 gathers_none keeps first t = record {
   long = refl;
   front = omega arith;
@@ -171,7 +171,7 @@ gathers_none keeps first t = record {
   counts = record { kept = λ b. refl; outside = λ b le. refl; bad = λ b. refl; seq = λ b. refl; next = λ b. refl; geometry = refl; open_block = refl; next_seq = refl; next_group = refl };
 }
 
-module _ (keeps : ℕ → Bool) (first : List Entry) (n : ℕ) (now : List Entry) (kept : ℕ) (t u : Table) (was : Gathers keeps first n now kept t u) (lt : n < length first) (e : Entry) (here : e ≡ get_or now n e) where
+module _ (keeps : ℕ → Bool) (first : List KeyEntry) (n : ℕ) (now : List KeyEntry) (kept : ℕ) (t u : Table) (was : Gathers keeps first n now kept t u) (lt : n < length first) (e : KeyEntry) (here : e ≡ get_or now n e) where
   at_first : e ≡ get_or first n e
   at_first = here ∙ was.rest n e (omega arith)
 
@@ -191,14 +191,14 @@ module _ (keeps : ℕ → Bool) (first : List Entry) (n : ℕ) (now : List Entry
         omega (arith, none, most, one);
   }
 
-  more : (v : Option Entry) → v ≡ retained (keeps (chunk e)) e → retained_of keeps (take (n + 1) first) ≡ take kept now ++ cons_option v []
+  more : (v : Option KeyEntry) → v ≡ retained (keeps (chunk e)) e → retained_of keeps (take (n + 1) first) ≡ take kept now ++ cons_option v []
   more v is =
       ap (retained_of keeps) (take_more first n e lt ∙ ap (λ x. take n first ++ x ∷ []) (sym at_first))
-      ∙ filter_map-append (λ (x : Entry). retained (keeps x.chunk) x) (take n first) (e ∷ [])
+      ∙ filter_map-append (λ (x : KeyEntry). retained (keeps x.chunk) x) (take n first) (e ∷ [])
       ∙ ap (λ xs. xs ++ cons_option (retained (keeps (chunk e)) e) []) (sym was.left)
       ∙ ap (λ w. take kept now ++ cons_option w []) (sym is)
 
-  counts_more : (v : Option Entry) (w : Table) (front : List Entry) → front ≡ take kept now ++ cons_option v [] → Recounts (one_at e.kept) (one_at (kept_of v)) u w
+  counts_more : (v : Option KeyEntry) (w : Table) (front : List KeyEntry) → front ≡ take kept now ++ cons_option v [] → Recounts (one_at e.kept) (one_at (kept_of v)) u w
       → Recounts (λ b. weigh (counted_at b) (take (n + 1) first)) (λ b. weigh (counted_at b) front) t w
   counts_more v w front is counts = record {
     kept = λ b.
@@ -217,7 +217,7 @@ module _ (keeps : ℕ → Bool) (first : List Entry) (n : ℕ) (now : List Entry
     next_seq = counts.next_seq ∙ was.counts.next_seq;
     next_group = counts.next_group ∙ was.counts.next_group;
   } where
-    weigh_more : (b : ℕ) (xs : List Entry) (v : Option Entry) → weigh (counted_at b) (xs ++ cons_option v []) ≡ weigh (counted_at b) xs + one_at (kept_of v) b
+    weigh_more : (b : ℕ) (xs : List KeyEntry) (v : Option KeyEntry) → weigh (counted_at b) (xs ++ cons_option v []) ≡ weigh (counted_at b) xs + one_at (kept_of v) b
     weigh_more b xs None = ap (weigh (counted_at b)) (append-nil xs) ∙ omega arith
     weigh_more b xs (Some x) =
         let two = sum_by-append (counted_at b) xs (x ∷ []) in
@@ -225,7 +225,7 @@ module _ (keeps : ℕ → Bool) (first : List Entry) (n : ℕ) (now : List Entry
         omega (arith, two, one)
 
   -- the next entry is left
-  pub gathers_left : (x : Entry) (w : Table) → Some x ≡ retained (keeps (chunk e)) e → Recounts (one_at e.kept) (one_at (kept_of (Some x))) u w → Gathers keeps first (n + 1) (set now kept x) (kept + 1) t w
+  pub gathers_left : (x : KeyEntry) (w : Table) → Some x ≡ retained (keeps (chunk e)) e → Recounts (one_at e.kept) (one_at (kept_of (Some x))) u w → Gathers keeps first (n + 1) (set now kept x) (kept + 1) t w
   gathers_left x w is counts =
       let within : kept < length now = omega (arith, was.front, was.long, lt) in
       let front : take (kept + 1) (set now kept x) ≡ take kept now ++ x ∷ [] = take_more_set now kept x within in
@@ -248,17 +248,17 @@ module _ (keeps : ℕ → Bool) (first : List Entry) (n : ℕ) (now : List Entry
   }
 
 -- at the end they are all that are left
-pub gathers_items : (keeps : ℕ → Bool) (first : List Entry) (n : ℕ) (now : List Entry) (kept : ℕ) (t u : Table) → Gathers keeps first n now kept t u → length first ≤ n → take kept now ≡ retained_of keeps first
+pub gathers_items : (keeps : ℕ → Bool) (first : List KeyEntry) (n : ℕ) (now : List KeyEntry) (kept : ℕ) (t u : Table) → Gathers keeps first n now kept t u → length first ≤ n → take kept now ≡ retained_of keeps first
 gathers_items keeps first n now kept t u was le = was.left ∙ ap (retained_of keeps) (take_all n first le)
 
-pub gathers_counts : (keeps : ℕ → Bool) (first : List Entry) (n : ℕ) (now : List Entry) (kept : ℕ) (t u : Table) → Gathers keeps first n now kept t u → length first ≤ n
-    → (new : List Entry) → new ≡ take kept now → Recounts (λ b. weigh (counted_at b) first) (λ b. weigh (counted_at b) new) t u
+pub gathers_counts : (keeps : ℕ → Bool) (first : List KeyEntry) (n : ℕ) (now : List KeyEntry) (kept : ℕ) (t u : Table) → Gathers keeps first n now kept t u → length first ≤ n
+    → (new : List KeyEntry) → new ≡ take kept now → Recounts (λ b. weigh (counted_at b) first) (λ b. weigh (counted_at b) new) t u
 gathers_counts keeps first n now kept t u was le new is = subst (λ xs. Recounts (λ b. weigh (counted_at b) first) (λ b. weigh (counted_at b) xs) t u) (sym is) (subst (λ xs. Recounts (λ b. weigh (counted_at b) xs) (λ b. weigh (counted_at b) (take kept now)) t u) (take_all n first le) was.counts)
 
 -- no more are left than there were
-pub retained_fewer : (keeps : ℕ → Bool) (es : List Entry) → length (retained_of keeps es) ≤ length es
+pub retained_fewer : (keeps : ℕ → Bool) (es : List KeyEntry) → length (retained_of keeps es) ≤ length es
 retained_fewer keeps [] = omega arith
 retained_fewer keeps (e ∷ es) = go (retained (keeps (chunk e)) e) (retained_fewer keeps es) where
-  go : (v : Option Entry) → length (retained_of keeps es) ≤ length es → length (cons_option v (retained_of keeps es)) ≤ length (e ∷ es)
+  go : (v : Option KeyEntry) → length (retained_of keeps es) ≤ length es → length (cons_option v (retained_of keeps es)) ≤ length (e ∷ es)
   go None rest = omega (arith, rest)
   go (Some x) rest = omega (arith, rest)

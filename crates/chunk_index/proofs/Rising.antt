@@ -17,7 +17,7 @@ use Rattle.block_state.specs.Table.{Table}
 use Rattle.block_state.specs.Kept.{kept_count}
 use Rattle.chunk_index.specs.declared.form.KeptPage.{KeptPage}
 use Rattle.chunk_index.specs.declared.form.KeptKey.{KeptKey}
-use Rattle.chunk_index.specs.declared.entry.Entry.{Entry}
+use Rattle.chunk_index.specs.declared.entry.KeyEntry.{KeyEntry}
 use Rattle.chunk_index.specs.declared.object.ObjectEntries.{ObjectEntries}
 use Rattle.chunk_index.specs.declared.index.Index.{Index}
 use Rattle.chunk_index.specs.Lists.{find_by, Rises}
@@ -95,10 +95,10 @@ one_length m n k one two =
 
 -- ---- the list of an index
 
-abbrev kept_key : ℕ → Entry → Option KeptKey
+abbrev kept_key : ℕ → KeyEntry → Option KeptKey
 kept_key o e = option_map (λ (p : KeptPage). record { key = record { object = o; chunk = e.chunk }; at = p }) e.kept
 
-abbrev object_keys : ℕ → List Entry → List KeptKey
+abbrev object_keys : ℕ → List KeyEntry → List KeptKey
 object_keys o [] = []
 object_keys o (e ∷ es) = cons_option (kept_key o e) (object_keys o es)
 
@@ -107,12 +107,12 @@ all_keys [] = []
 all_keys (x ∷ xs) = object_keys x.0 x.1.entries.items ++ all_keys xs
 
 -- a kept key of an entry
-record IsOfEntry (o : ℕ) (e : Entry) (k : KeptKey) : Type 0 where
+record IsOfEntry (o : ℕ) (e : KeyEntry) (k : KeptKey) : Type 0 where
   object : k.key.object ≡ o
   chunk_is : k.key.chunk ≡ e.chunk
   page : e.kept ≡ Some k.at
 
-of_entry : (o : ℕ) (e : Entry) (k : KeptKey) → kept_key o e ≡ Some k → IsOfEntry o e k
+of_entry : (o : ℕ) (e : KeyEntry) (k : KeptKey) → kept_key o e ≡ Some k → IsOfEntry o e k
 of_entry o e k is = go e.kept refl where
   go : (p : Option KeptPage) → e.kept ≡ p → IsOfEntry o e k
   go None none = let both : None ≡ Some k = sym (ap (option_map (λ (p : KeptPage). record { key = record { object = o; chunk = e.chunk }; at = p })) none) ∙ is in absurd cc
@@ -123,7 +123,7 @@ of_entry o e k is = go e.kept refl where
       subst (IsOfEntry o e) same (record { object = refl; chunk_is = refl; page = some })
 
 -- what holds of the key of each entry holds of each key of an object
-each_object : (P : KeptKey → Type 0) (o : ℕ) (es : List Entry) → ((j : ℕ) (d : Entry) (k : KeptKey) → j < length es → IsOfEntry o (get_or es j d) k → P k)
+each_object : (P : KeptKey → Type 0) (o : ℕ) (es : List KeyEntry) → ((j : ℕ) (d : KeyEntry) (k : KeptKey) → j < length es → IsOfEntry o (get_or es j d) k → P k)
     → (i : ℕ) (k : KeptKey) → slice_get (object_keys o es) i ≡ Some k → P k
 each_object P o [] each i k is = let both : None ≡ Some k = is in absurd cc
 each_object P o (e ∷ es) each i k is = go (λ j at. each_object P o es (λ n d l lt. each (suc n) d l (omega (arith, lt))) j k at) (kept_key o e) refl i is where
@@ -132,7 +132,7 @@ each_object P o (e ∷ es) each i k is = go (λ j at. each_object P o es (λ n d
   go rest (Some x) some zero at = let same : x ≡ k = cc in each 0 e k (omega arith) (of_entry o e k (some ∙ ap Some same))
   go rest (Some x) some (suc i) at = rest i at
 
-rising_object : (o : ℕ) (es : List Entry) → Rises chunk es → KeyRises (object_keys o es)
+rising_object : (o : ℕ) (es : List KeyEntry) → Rises chunk es → KeyRises (object_keys o es)
 rising_object o [] rises = λ i j a b lt at_i. λ at_j. let both : None ≡ Some a = at_i in absurd cc
 rising_object o (e ∷ es) rises = go (rising_object o es (λ i j d lt within. rises (suc i) (suc j) d (omega (arith, lt)) (omega (arith, within)))) (kept_key o e) refl where
   go : KeyRises (object_keys o es) → (v : Option KeptKey) → kept_key o e ≡ v → KeyRises (cons_option v (object_keys o es))
@@ -163,7 +163,7 @@ rising_all (x ∷ xs) rise =
 
 -- ---- each is kept, and each that is kept stands there
 
-stands_object : (o c : ℕ) (p : KeptPage) (es : List Entry) → kept_of (find_by chunk es c) ≡ Some p → Stands (record { key = record { object = o; chunk = c }; at = p }) (object_keys o es)
+stands_object : (o c : ℕ) (p : KeptPage) (es : List KeyEntry) → kept_of (find_by chunk es c) ≡ Some p → Stands (record { key = record { object = o; chunk = c }; at = p }) (object_keys o es)
 stands_object o c p [] is = absurd cc
 stands_object o c p (e ∷ es) is = elim (cases_eq (chunk e) c) [
   | inl same ↦
@@ -203,7 +203,7 @@ module _ (x : Index) where
 
 -- ---- its length
 
-length_object : (o : ℕ) (es : List Entry) → length (object_keys o es) ≡ weigh kept_one es
+length_object : (o : ℕ) (es : List KeyEntry) → length (object_keys o es) ≡ weigh kept_one es
 length_object o [] = refl
 length_object o (e ∷ es) =
     let rest = length_object o es in

@@ -7,7 +7,7 @@ use Rattle.flash_tree.specs.declared.place.Key.{Key}
 use Rattle.chunk_index.specs.declared.form.WrittenGroup.{WrittenGroup}
 use Rattle.chunk_index.specs.declared.form.KeptPage.{KeptPage}
 use Rattle.chunk_index.specs.declared.form.Present.TheVariants as presents
-use Rattle.chunk_index.specs.declared.entry.Entry.{Entry}
+use Rattle.chunk_index.specs.declared.entry.KeyEntry.{KeyEntry}
 use Rattle.chunk_index.specs.declared.entry.State.{State}
 use Rattle.chunk_index.specs.declared.entry.State.TheVariants as states
 use Rattle.block_state.specs.Table.{Table}
@@ -17,7 +17,7 @@ use Rattle.chunk_index.specs.Counts.{Recounts, HasRoom, Tallies}
 use Rattle.chunk_index.proofs.Counting.{room_for, room_block}
 
 -- settling twice is settling once
-settled_twice : (g : WrittenGroup) (v : Option Entry) → settled g (settled g v) ≡ settled g v
+settled_twice : (g : WrittenGroup) (v : Option KeyEntry) → settled g (settled g v) ≡ settled g v
 settled_twice g None = refl
 settled_twice g (Some e) = go e.state refl where
   go : (s : State) → e.state ≡ s → settled g (settled g (Some e)) ≡ settled g (Some e)
@@ -27,7 +27,7 @@ settled_twice g (Some e) = go e.state refl where
   go states.Vacant is = let one : settled g (Some e) ≡ settled_by g e states.Vacant = ap (settled_by g e) is in ap (settled g) one ∙ sym one
 
 -- an entry whose present page is the kept one stays
-settled_same : (g : WrittenGroup) (v : Option Entry) → same_of v ≡ true → settled g v ≡ v
+settled_same : (g : WrittenGroup) (v : Option KeyEntry) → same_of v ≡ true → settled g v ≡ v
 settled_same g None is = refl
 settled_same g (Some e) same = go e.state refl where
   go : (s : State) → e.state ≡ s → settled g (Some e) ≡ Some e
@@ -103,7 +103,7 @@ settling_fits g keys n old new was fits o c i is = elim (was.each o c) [
   on_flash None i is = cc
   on_flash (Some p) i is = cc
 
-  no_buffer : (g : WrittenGroup) (v : Option Entry) (i : ℕ) → present_of (settled g v) ≡ presents.InBuffer i → ⊥
+  no_buffer : (g : WrittenGroup) (v : Option KeyEntry) (i : ℕ) → present_of (settled g v) ≡ presents.InBuffer i → ⊥
   no_buffer g None i is = cc
   no_buffer g (Some e) i shown = go e.state refl where
     go : (s : State) → e.state ≡ s → ⊥
@@ -115,7 +115,7 @@ settling_fits g keys n old new was fits o c i is = elim (was.each o c) [
     go states.Vacant is = let one : settled g (Some e) ≡ settled_by g e states.Vacant = ap (settled_by g e) is in let two : presents.Absent ≡ presents.InBuffer i = sym (ap present_of one) ∙ shown in absurd cc
 
 -- the page that an entry shows has its number
-pub has_page : (g : WrittenGroup) (e : Entry) → ((i : ℕ) → present_by e.kept e.state ≡ presents.InBuffer i → g.first + i < 4294967296) → HasPage g e.state
+pub has_page : (g : WrittenGroup) (e : KeyEntry) → ((i : ℕ) → present_by e.kept e.state ≡ presents.InBuffer i → g.first + i < 4294967296) → HasPage g e.state
 has_page g e fits = go e.state refl where
   go : (s : State) → e.state ≡ s → HasPage g s
   go states.Same is = tt
@@ -125,21 +125,21 @@ has_page g e fits = go e.state refl where
 
 -- ---- one key
 
-module _ (g : WrittenGroup) (m : ObjectMap) (o c : ℕ) (e : Entry) (is : look m o c ≡ Some e) where
-  settles_to : (to : Option Entry) → to ≡ settled_by g e e.state → to ≡ settled g (look m o c)
+module _ (g : WrittenGroup) (m : ObjectMap) (o c : ℕ) (e : KeyEntry) (is : look m o c ≡ Some e) where
+  settles_to : (to : Option KeyEntry) → to ≡ settled_by g e e.state → to ≡ settled g (look m o c)
   settles_to to by = by ∙ sym (ap (settled g) is)
 
-  pub settled_set : (n : ObjectMap) (new : Entry) → Some new ≡ settled_by g e e.state → new.chunk ≡ c → AltersKey o new.chunk (Some new) m n → AltersKey o c (settled g (look m o c)) m n
+  pub settled_set : (n : ObjectMap) (new : KeyEntry) → Some new ≡ settled_by g e e.state → new.chunk ≡ c → AltersKey o new.chunk (Some new) m n → AltersKey o c (settled g (look m o c)) m n
   settled_set n new by same alters = subst (λ v. AltersKey o c v m n) (settles_to (Some new) by) (subst (λ l. AltersKey o l (Some new) m n) same alters)
 
   pub settled_remove : (n : ObjectMap) → None ≡ settled_by g e e.state → AltersKey o c None m n → AltersKey o c (settled g (look m o c)) m n
   settled_remove n by alters = subst (λ v. AltersKey o c v m n) (settles_to None by) alters
 
-  pub settled_counts : (t u : Table) (to : Option Entry) → to ≡ settled_by g e e.state → Recounts (one_at e.kept) (one_at (kept_of to)) t u → Recounts (one_at (kept_of (look m o c))) (one_at (kept_of (settled g (look m o c)))) t u
+  pub settled_counts : (t u : Table) (to : Option KeyEntry) → to ≡ settled_by g e e.state → Recounts (one_at e.kept) (one_at (kept_of to)) t u → Recounts (one_at (kept_of (look m o c))) (one_at (kept_of (settled g (look m o c)))) t u
   settled_counts t u to by recounts =
       subst (λ v. Recounts (one_at (kept_of (look m o c))) (one_at (kept_of v)) t u) (settles_to to by) (subst (λ v. Recounts (one_at (kept_of v)) (one_at (kept_of to)) t u) (sym is) recounts)
 
-  pub settled_room : (t : Table) → Tallies t m → (size : ℕ) → total (λ (x : Entry). 1) m ≡ size → size < 4294967296 → HasRoom t (one_at e.kept) 1
+  pub settled_room : (t : Table) → Tallies t m → (size : ℕ) → total (λ (x : KeyEntry). 1) m ≡ size → size < 4294967296 → HasRoom t (one_at e.kept) 1
   settled_room t tallies size counted few = subst (λ v. HasRoom t (one_at (kept_of v)) 1) is (room_for t m o c tallies (rw is refl) size counted few)
 
   pub settled_page : (fits : (i : ℕ) → present_of (look m o c) ≡ presents.InBuffer i → g.first + i < 4294967296) → HasPage g e.state
@@ -159,22 +159,22 @@ settled_none g m o c none =
     }
 
 -- the place of a settled page lies on the device
-pub settled_within : (g : WrittenGroup) (e new : Entry) (t : Table) → g.block < t.geometry.blocks → HasRoom t (one_at e.kept) 1 → Some new ≡ settled_by g e e.state → IfSome new.kept (λ (p : KeptPage). p.block < t.geometry.blocks)
+pub settled_within : (g : WrittenGroup) (e new : KeyEntry) (t : Table) → g.block < t.geometry.blocks → HasRoom t (one_at e.kept) 1 → Some new ≡ settled_by g e e.state → IfSome new.kept (λ (p : KeptPage). p.block < t.geometry.blocks)
 settled_within g e new t lt room by = go e.state refl where
   own : (p : Option KeptPage) → HasRoom t (one_at p) 1 → IfSome p (λ (q : KeptPage). q.block < t.geometry.blocks)
   own None r = tt
   own (Some p) r = room_block t p 1 r
 
   go : (s : State) → e.state ≡ s → IfSome new.kept (λ (p : KeptPage). p.block < t.geometry.blocks)
-  go states.Same is = let both : Some new ≡ Some e = by ∙ ap (settled_by g e) is in let same : new ≡ e = cc in subst (λ (x : Entry). IfSome x.kept (λ (p : KeptPage). p.block < t.geometry.blocks)) (sym same) (own e.kept room)
+  go states.Same is = let both : Some new ≡ Some e = by ∙ ap (settled_by g e) is in let same : new ≡ e = cc in subst (λ (x : KeyEntry). IfSome x.kept (λ (p : KeptPage). p.block < t.geometry.blocks)) (sym same) (own e.kept room)
   go (states.Buffered i) is =
-      let to : Entry = record e { kept = Some (record { block = g.block; page = g.first + i; version = g.number }); state = states.Same } in
+      let to : KeyEntry = record e { kept = Some (record { block = g.block; page = g.first + i; version = g.number }); state = states.Same } in
       let both : Some new ≡ Some to = by ∙ ap (settled_by g e) is in
       let same : new ≡ to = cc in
-      subst (λ (x : Entry). IfSome x.kept (λ (p : KeptPage). p.block < t.geometry.blocks)) (sym same) lt
+      subst (λ (x : KeyEntry). IfSome x.kept (λ (p : KeptPage). p.block < t.geometry.blocks)) (sym same) lt
   go states.Dropped is = let both : Some new ≡ None = by ∙ ap (settled_by g e) is in absurd cc
   go states.Vacant is =
-      let to : Entry = record e { kept = None; state = states.Same } in
+      let to : KeyEntry = record e { kept = None; state = states.Same } in
       let both : Some new ≡ Some to = by ∙ ap (settled_by g e) is in
       let same : new ≡ to = cc in
-      subst (λ (x : Entry). IfSome x.kept (λ (p : KeptPage). p.block < t.geometry.blocks)) (sym same) tt
+      subst (λ (x : KeyEntry). IfSome x.kept (λ (p : KeptPage). p.block < t.geometry.blocks)) (sym same) tt

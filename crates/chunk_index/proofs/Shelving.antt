@@ -10,7 +10,7 @@ use Rattle.std.specs.BTreeMap.{is_at, get, values, insert_entry, WritesThrough, 
 use Rattle.std.proofs.lemmas.Bool.{cases_eq}
 use Rattle.std.proofs.lemmas.Bool.Decides.{nat_tests}
 use Rattle.std.proofs.lemmas.Map.Entries.{sum_by-set_value, sum_by-remove_entry, sum_by-insert_entry}
-use Rattle.chunk_index.specs.declared.entry.Entry.{Entry}
+use Rattle.chunk_index.specs.declared.entry.KeyEntry.{KeyEntry}
 use Rattle.chunk_index.specs.declared.object.ObjectEntries.{ObjectEntries}
 use Rattle.chunk_index.specs.Lists.{find_by}
 use Rattle.chunk_index.specs.Entries.{chunk, weight, weigh, Alters}
@@ -33,8 +33,8 @@ pub look_other : (m n : ObjectMap) (k l : ℕ) → get nat_cmp n k ≡ get nat_c
 look_other m n k l same = ap (option_and_then (entry_of l)) same
 
 -- where the entries of one object change at one chunk, and no other object does
-pub alters_in : (m n : ObjectMap) (o c : ℕ) (to : Option Entry) (x y : ObjectEntries) → get nat_cmp m o ≡ Some x → get nat_cmp n o ≡ Some y
-    → ((k : ℕ) → k ≢ o → get nat_cmp n k ≡ get nat_cmp m k) → ((f : Entry → ℕ) → total f n + weigh f x.entries.items ≡ total f m + weigh f y.entries.items)
+pub alters_in : (m n : ObjectMap) (o c : ℕ) (to : Option KeyEntry) (x y : ObjectEntries) → get nat_cmp m o ≡ Some x → get nat_cmp n o ≡ Some y
+    → ((k : ℕ) → k ≢ o → get nat_cmp n k ≡ get nat_cmp m k) → ((f : KeyEntry → ℕ) → total f n + weigh f x.entries.items ≡ total f m + weigh f y.entries.items)
     → Alters c to x.entries.items y.entries.items → AltersKey o c to m n
 alters_in m n o c to x y was is others sums alters = record {
   here = look_in n o c y is ∙ alters.here;
@@ -56,7 +56,7 @@ module _ (o : ℕ) (m n : ObjectMap) (x y : ObjectEntries) (found : get nat_cmp 
   pub there : IsSome (get nat_cmp m o)
   there = rw found refl
 
-  pub sums : (f : Entry → ℕ) → total f n + weigh f x.entries.items ≡ total f m + weigh f y.entries.items
+  pub sums : (f : KeyEntry → ℕ) → total f n + weigh f x.entries.items ≡ total f m + weigh f y.entries.items
   sums f =
       let g = λ (z : ObjectEntries). weigh f z.entries.items in
       let set : sum_by g (values n) ≡ sum_by g (values_of (set_value (is_at (nat_cmp o)) m.entries y)) = ap (λ es. sum_by g (values_of es)) through.0 in
@@ -64,25 +64,25 @@ module _ (o : ℕ) (m n : ObjectMap) (x y : ObjectEntries) (found : get nat_cmp 
       omega (arith, set, one)
 
   -- what was written through a loan of an object
-  pub written : (c : ℕ) (to : Option Entry) → Alters c to x.entries.items y.entries.items → AltersKey o c to m n
+  pub written : (c : ℕ) (to : Option KeyEntry) → Alters c to x.entries.items y.entries.items → AltersKey o c to m n
   written c to = alters_in m n o c to x y found (through.3 there).1 (λ k ne. (through.3 there).2 k (not_at o k ne)) sums
 
-one_there : (v : Option Entry) → IsSome v → weight (λ (x : Entry). 1) v ≡ 1
+one_there : (v : Option KeyEntry) → IsSome v → weight (λ (x : KeyEntry). 1) v ≡ 1
 one_there None is = absurd (false≢true is)
 one_there (Some x) is = refl
 
 -- as many entries, where one takes the place of another
-pub same_size : (m n : ObjectMap) (o c : ℕ) (e : Entry) → AltersKey o c (Some e) m n → IsSome (look m o c) → (size : ℕ) → total (λ (x : Entry). 1) m ≡ size → total (λ (x : Entry). 1) n ≡ size
+pub same_size : (m n : ObjectMap) (o c : ℕ) (e : KeyEntry) → AltersKey o c (Some e) m n → IsSome (look m o c) → (size : ℕ) → total (λ (x : KeyEntry). 1) m ≡ size → total (λ (x : KeyEntry). 1) n ≡ size
 same_size m n o c e alters some size was =
-    let one = alters.weighs (λ (x : Entry). 1) in
-    let there : weight (λ (x : Entry). 1) (look m o c) ≡ 1 = one_there (look m o c) some in
+    let one = alters.weighs (λ (x : KeyEntry). 1) in
+    let there : weight (λ (x : KeyEntry). 1) (look m o c) ≡ 1 = one_there (look m o c) some in
     omega (arith, one, there, was)
 
 -- the same entries, where a key without one was looked for in vain
 pub same_entries : (m : ObjectMap) → SameEntries m m
 same_entries m = record { looks = λ o c. refl; weighs = λ f. refl }
 
-pub same_then : {m n p : ObjectMap} {o c : ℕ} {to : Option Entry} → SameEntries m n → AltersKey o c to n p → AltersKey o c to m p
+pub same_then : {m n p : ObjectMap} {o c : ℕ} {to : Option KeyEntry} → SameEntries m n → AltersKey o c to n p → AltersKey o c to m p
 same_then {m} {n} {p} {o} {c} {to} same alters = record {
   here = alters.here;
   others = λ k l differs. alters.others k l differs ∙ same.looks k l;
@@ -93,7 +93,7 @@ same_then {m} {n} {p} {o} {c} {to} same alters = record {
       omega (arith, one, two, told);
 }
 
-pub then_same : {m n p : ObjectMap} {o c : ℕ} {to : Option Entry} → AltersKey o c to m n → SameEntries n p → AltersKey o c to m p
+pub then_same : {m n p : ObjectMap} {o c : ℕ} {to : Option KeyEntry} → AltersKey o c to m n → SameEntries n p → AltersKey o c to m p
 then_same {m} {n} {p} {o} {c} {to} alters same = record {
   here = same.looks o c ∙ alters.here;
   others = λ k l differs. same.looks k l ∙ alters.others k l differs;
@@ -162,16 +162,16 @@ written_same o m n x y found through same = record {
 }
 
 -- one entry more, and one less
-pub size_more : (m n : ObjectMap) (o c : ℕ) (e : Entry) → AltersKey o c (Some e) m n → look m o c ≡ None → (size : ℕ) → total (λ (x : Entry). 1) m ≡ size → total (λ (x : Entry). 1) n ≡ size + 1
+pub size_more : (m n : ObjectMap) (o c : ℕ) (e : KeyEntry) → AltersKey o c (Some e) m n → look m o c ≡ None → (size : ℕ) → total (λ (x : KeyEntry). 1) m ≡ size → total (λ (x : KeyEntry). 1) n ≡ size + 1
 size_more m n o c e alters none size was =
-    let one = alters.weighs (λ (x : Entry). 1) in
-    let zero : weight (λ (x : Entry). 1) (look m o c) ≡ 0 = ap (weight (λ (x : Entry). 1)) none in
+    let one = alters.weighs (λ (x : KeyEntry). 1) in
+    let zero : weight (λ (x : KeyEntry). 1) (look m o c) ≡ 0 = ap (weight (λ (x : KeyEntry). 1)) none in
     omega (arith, one, zero, was)
 
-pub size_less : (m n : ObjectMap) (o c : ℕ) → AltersKey o c None m n → IsSome (look m o c) → total (λ (x : Entry). 1) n + 1 ≡ total (λ (x : Entry). 1) m
+pub size_less : (m n : ObjectMap) (o c : ℕ) → AltersKey o c None m n → IsSome (look m o c) → total (λ (x : KeyEntry). 1) n + 1 ≡ total (λ (x : KeyEntry). 1) m
 size_less m n o c alters some =
-    let one = alters.weighs (λ (x : Entry). 1) in
-    let there : weight (λ (x : Entry). 1) (look m o c) ≡ 1 = one_there (look m o c) some in
+    let one = alters.weighs (λ (x : KeyEntry). 1) in
+    let there : weight (λ (x : KeyEntry). 1) (look m o c) ≡ 1 = one_there (look m o c) some in
     omega (arith, one, there)
 
 -- an object that has no entries is taken out
@@ -211,7 +211,7 @@ object_put o m n x empty absent (Ok v) ordered inserts updates err = object_more
 object_put o m n x empty absent (Err e) ordered inserts updates err = same_map_entries m n err
 
 -- an entry that is found among those of an object is of the chunk
-pub found_chunk : (es : List Entry) (c : ℕ) (e : Entry) → find_by chunk es c ≡ Some e → chunk e ≡ c
+pub found_chunk : (es : List KeyEntry) (c : ℕ) (e : KeyEntry) → find_by chunk es c ≡ Some e → chunk e ≡ c
 found_chunk [] c e is = absurd cc
 found_chunk (x ∷ es) c e is = elim (cases_eq (chunk x) c) [
   | inl at ↦
@@ -223,18 +223,18 @@ found_chunk (x ∷ es) c e is = elim (cases_eq (chunk x) c) [
 ]
 
 -- and so is one that is found among all
-pub look_chunk : (m : ObjectMap) (o c : ℕ) (e : Entry) → look m o c ≡ Some e → e.chunk ≡ c
+pub look_chunk : (m : ObjectMap) (o c : ℕ) (e : KeyEntry) → look m o c ≡ Some e → e.chunk ≡ c
 look_chunk m o c e is = go (get nat_cmp m o) refl where
   go : (v : Option ObjectEntries) → get nat_cmp m o ≡ v → chunk e ≡ c
   go None none = let both : None ≡ Some e = sym (ap (option_and_then (entry_of c)) none) ∙ is in absurd cc
   go (Some x) some = found_chunk x.entries.items c e (sym (ap (option_and_then (entry_of c)) some) ∙ is)
 
-pub found_if : (es : List Entry) (c : ℕ) (r : Option Entry) → r ≡ find_by chunk es c → IfSome r (λ (e : Entry). e.chunk ≡ c)
+pub found_if : (es : List KeyEntry) (c : ℕ) (r : Option KeyEntry) → r ≡ find_by chunk es c → IfSome r (λ (e : KeyEntry). e.chunk ≡ c)
 found_if es c None is = tt
 found_if es c (Some e) is = found_chunk es c e (sym is)
 
 -- it stands at a place
-pub found_place : (es : List Entry) (c : ℕ) (e : Entry) → find_by chunk es c ≡ Some e → (j : ℕ) × (j < length es) × (get_or es j e ≡ e)
+pub found_place : (es : List KeyEntry) (c : ℕ) (e : KeyEntry) → find_by chunk es c ≡ Some e → (j : ℕ) × (j < length es) × (get_or es j e ≡ e)
 found_place [] c e is = absurd cc
 found_place (x ∷ es) c e is = elim (cases_eq (chunk x) c) [
   | inl at ↦

@@ -7,7 +7,7 @@ use Rattle.std.specs.BTreeMap.{is_at, get, WritesThrough}
 use Rattle.std.proofs.lemmas.Bool.{cases_eq, cases_lt}
 use Rattle.std.proofs.lemmas.Map.Entries.{sum_by-remove_entry}
 use Rattle.block_state.specs.Table.{Table}
-use Rattle.chunk_index.specs.declared.entry.Entry.{Entry}
+use Rattle.chunk_index.specs.declared.entry.KeyEntry.{KeyEntry}
 use Rattle.chunk_index.specs.declared.object.ObjectEntries.{ObjectEntries}
 use Rattle.chunk_index.specs.declared.index.Index.{Index}
 use Rattle.chunk_index.specs.Entries.{chunk, changed, weigh, counted_at, kept_of, present_of, stays_of}
@@ -22,7 +22,7 @@ use Rattle.chunk_index.proofs.Retaining.{find_retained, changed_retained, retain
 -- ---- one object
 
 -- what its entries add is part of what all add
-pub object_part : (f : Entry → ℕ) (m : ObjectMap) (o : ℕ) (x : ObjectEntries) → get nat_cmp m o ≡ Some x → weigh f x.entries.items ≤ total f m
+pub object_part : (f : KeyEntry → ℕ) (m : ObjectMap) (o : ℕ) (x : ObjectEntries) → get nat_cmp m o ≡ Some x → weigh f x.entries.items ≤ total f m
 object_part f m o x is =
     let g = λ (z : ObjectEntries). weigh f z.entries.items in
     let all = sum_by-remove_entry g (is_at (nat_cmp o)) m.entries in
@@ -41,19 +41,19 @@ object_counted t m o x is tallies = record {
 }
 
 -- it has no more entries than there are
-pub object_size : (m : ObjectMap) (o : ℕ) (x : ObjectEntries) → get nat_cmp m o ≡ Some x → (size : ℕ) → total (λ (e : Entry). 1) m ≡ size → length x.entries.items ≤ size
+pub object_size : (m : ObjectMap) (o : ℕ) (x : ObjectEntries) → get nat_cmp m o ≡ Some x → (size : ℕ) → total (λ (e : KeyEntry). 1) m ≡ size → length x.entries.items ≤ size
 object_size m o x is size counted =
-    let part = object_part (λ (e : Entry). 1) m o x is in
-    let ones : weigh (λ (e : Entry). 1) x.entries.items ≡ length x.entries.items = sum_ones x.entries.items in
+    let part = object_part (λ (e : KeyEntry). 1) m o x is in
+    let ones : weigh (λ (e : KeyEntry). 1) x.entries.items ≡ length x.entries.items = sum_ones x.entries.items in
     omega (arith, part, ones, counted)
 
 module _ (o : ℕ) (m n : ObjectMap) (x y : ObjectEntries) (found : get nat_cmp m o ≡ Some x) (through : WritesThrough nat_cmp (nat_cmp o) m y n) where
   -- where so many entries went
-  pub gone_size : (gone size : ℕ) → length y.entries.items + gone ≡ length x.entries.items → total (λ (e : Entry). 1) m ≡ size → total (λ (e : Entry). 1) n ≡ size - gone
+  pub gone_size : (gone size : ℕ) → length y.entries.items + gone ≡ length x.entries.items → total (λ (e : KeyEntry). 1) m ≡ size → total (λ (e : KeyEntry). 1) n ≡ size - gone
   gone_size gone size less counted =
-      let sum = sums o m n x y found through (λ (e : Entry). 1) in
-      let one : weigh (λ (e : Entry). 1) x.entries.items ≡ length x.entries.items = sum_ones x.entries.items in
-      let two : weigh (λ (e : Entry). 1) y.entries.items ≡ length y.entries.items = sum_ones y.entries.items in
+      let sum = sums o m n x y found through (λ (e : KeyEntry). 1) in
+      let one : weigh (λ (e : KeyEntry). 1) x.entries.items ≡ length x.entries.items = sum_ones x.entries.items in
+      let two : weigh (λ (e : KeyEntry). 1) y.entries.items ≡ length y.entries.items = sum_ones y.entries.items in
       omega (arith, sum, one, two, less, counted)
 
   pub gone_retains : (keeps : ℕ → Bool) → y.entries.items ≡ retained_of keeps x.entries.items → RetainsObject o keeps m n

@@ -3,14 +3,14 @@ use Rattle.std.proofs.Common.{◌≡◌, true, false, Option, Some, None, IsTrue
 use mathlib.Core.Bool.{false≢true}
 use Rattle.chunk_index.specs.declared.form.WrittenGroup.{WrittenGroup}
 use Rattle.chunk_index.specs.declared.form.KeptPage.{KeptPage}
-use Rattle.chunk_index.specs.declared.entry.Entry.{Entry}
+use Rattle.chunk_index.specs.declared.entry.KeyEntry.{KeyEntry}
 use Rattle.chunk_index.specs.declared.entry.State.{State}
 use Rattle.chunk_index.specs.declared.entry.State.TheVariants as states
 use Rattle.chunk_index.specs.Entries.{settled, settled_by, same_of, is_same_state, present_of, present_by, kept_of, as_kept, stays_of, stays_state}
 use Rattle.chunk_index.specs.Maps.{written}
 
 -- what is present of a settled key is what is kept
-pub settled_same_of : (g : WrittenGroup) (v : Option Entry) → same_of (settled g v) ≡ false → ⊥
+pub settled_same_of : (g : WrittenGroup) (v : Option KeyEntry) → same_of (settled g v) ≡ false → ⊥
 settled_same_of g None not = false≢true (sym not)
 settled_same_of g (Some e) not = go e.state refl where
   go : (s : State) → e.state ≡ s → ⊥
@@ -24,7 +24,7 @@ written_kept : (g : WrittenGroup) (p : Option KeptPage) → p ≡ written g (as_
 written_kept g None = refl
 written_kept g (Some p) = refl
 
-pub settles_kept : (g : WrittenGroup) (v : Option Entry) → kept_of (settled g v) ≡ written g (present_of v)
+pub settles_kept : (g : WrittenGroup) (v : Option KeyEntry) → kept_of (settled g v) ≡ written g (present_of v)
 settles_kept g None = refl
 settles_kept g (Some e) = go e.state refl where
   go : (s : State) → e.state ≡ s → kept_of (settled g (Some e)) ≡ written g (present_of (Some e))
@@ -34,7 +34,7 @@ settles_kept g (Some e) = go e.state refl where
   go states.Vacant is = ap (λ s. kept_of (settled_by g e s)) is ∙ sym (ap (λ s. written g (present_by e.kept s)) is)
 
 -- and is present there
-pub settles_present : (g : WrittenGroup) (v : Option Entry) → present_of (settled g v) ≡ as_kept (kept_of (settled g v))
+pub settles_present : (g : WrittenGroup) (v : Option KeyEntry) → present_of (settled g v) ≡ as_kept (kept_of (settled g v))
 settles_present g None = refl
 settles_present g (Some e) = go e.state refl where
   go : (s : State) → e.state ≡ s → present_of (settled g (Some e)) ≡ as_kept (kept_of (settled g (Some e)))
@@ -46,7 +46,7 @@ settles_present g (Some e) = go e.state refl where
   go states.Vacant is = let one = ap (settled_by g e) is in ap present_of one ∙ sym (ap (λ w. as_kept (kept_of w)) one)
 
 -- an entry that stays still stays
-pub settles_ready : (g : WrittenGroup) (v : Option Entry) → IsTrue (stays_of v) → IsTrue (stays_of (settled g v))
+pub settles_ready : (g : WrittenGroup) (v : Option KeyEntry) → IsTrue (stays_of v) → IsTrue (stays_of (settled g v))
 settles_ready g None stays = stays
 settles_ready g (Some e) stays = go e.state refl where
   go : (s : State) → e.state ≡ s → IsTrue (stays_of (settled g (Some e)))

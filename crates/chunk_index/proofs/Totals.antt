@@ -11,7 +11,7 @@ use Rattle.block_state.specs.Counting.{sum_below}
 use Rattle.block_state.specs.Kept.{kept_count}
 use Rattle.block_state.specs.laws.Counting.{sum_below-suc, sum_below-same}
 use Rattle.chunk_index.specs.declared.form.KeptPage.{KeptPage}
-use Rattle.chunk_index.specs.declared.entry.Entry.{Entry}
+use Rattle.chunk_index.specs.declared.entry.KeyEntry.{KeyEntry}
 use Rattle.chunk_index.specs.declared.object.ObjectEntries.{ObjectEntries}
 use Rattle.chunk_index.specs.declared.index.Index.{Index}
 use Rattle.chunk_index.specs.Entries.{weigh, one_at, counted_at}
@@ -20,14 +20,14 @@ use Rattle.chunk_index.specs.Maps.{CountsAgree}
 use Rattle.chunk_index.proofs.Counting.{two_sums}
 
 -- 1 for an entry whose key is kept
-abbrev pub kept_one : Entry → ℕ
+abbrev pub kept_one : KeyEntry → ℕ
 kept_one e = option_map_or (λ (p : KeptPage). 1) e.kept 0
 
 -- 1 for a page in one of the first n blocks
 abbrev one_below : ℕ → Option KeptPage → ℕ
 one_below n p = option_map_or (λ (q : KeptPage). if ltb q.block n then 1 else 0) p 0
 
-abbrev below : ℕ → Entry → ℕ
+abbrev below : ℕ → KeyEntry → ℕ
 below n e = one_below n e.kept
 
 below_none : (p : Option KeptPage) → one_below 0 p ≡ 0
@@ -45,7 +45,7 @@ below_more n (Some p) = elim (cases_lt p.block n) [
 ]
 
 -- two totals add up to a third, where they do at each entry
-two_totals : (f g h : Entry → ℕ) (m : ObjectMap) → ((e : Entry) → f e + g e ≡ h e) → total f m + total g m ≡ total h m
+two_totals : (f g h : KeyEntry → ℕ) (m : ObjectMap) → ((e : KeyEntry) → f e + g e ≡ h e) → total f m + total g m ≡ total h m
 two_totals f g h m each = two_sums (λ (x : ObjectEntries). weigh f x.entries.items) (λ (x : ObjectEntries). weigh g x.entries.items) (λ (x : ObjectEntries). weigh h x.entries.items) (λ x. two_sums f g h each x.entries.items) (values m)
 
 none_below : (m : ObjectMap) → total (below 0) m ≡ 0
@@ -65,10 +65,10 @@ blocks_below m (suc n) =
 
 -- ---- none lies past the last block
 
-abbrev above : ℕ → Entry → ℕ
+abbrev above : ℕ → KeyEntry → ℕ
 above n e = kept_one e - below n e
 
-above_one : (n : ℕ) (e : Entry) → ((b : ℕ) → n ≤ b → counted_at b e ≡ 0) → above n e ≡ 0
+above_one : (n : ℕ) (e : KeyEntry) → ((b : ℕ) → n ≤ b → counted_at b e ≡ 0) → above n e ≡ 0
 above_one n e none = go e.kept (λ b le. none b le) where
   go : (p : Option KeptPage) → ((b : ℕ) → n ≤ b → one_at p b ≡ 0) → option_map_or (λ (q : KeptPage). 1) p 0 - one_below n p ≡ 0
   go None nil = refl
@@ -80,7 +80,7 @@ above_one n e none = go e.kept (λ b le. none b le) where
         absurd (omega (arith, here, zero_there))
   ]
 
-above_object : (n : ℕ) (es : List Entry) → ((b : ℕ) → n ≤ b → weigh (counted_at b) es ≡ 0) → weigh (above n) es ≡ 0
+above_object : (n : ℕ) (es : List KeyEntry) → ((b : ℕ) → n ≤ b → weigh (counted_at b) es ≡ 0) → weigh (above n) es ≡ 0
 above_object n [] none = refl
 above_object n (e ∷ es) none =
     let parts : (b : ℕ) → n ≤ b → (counted_at b e ≡ 0) × (weigh (counted_at b) es ≡ 0) = λ b le.

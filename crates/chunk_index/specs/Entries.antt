@@ -9,12 +9,12 @@ use Rattle.chunk_index.specs.declared.form.Form.TheVariants as forms
 use Rattle.chunk_index.specs.declared.form.Present.{Present}
 use Rattle.chunk_index.specs.declared.form.Present.TheVariants as presents
 use Rattle.chunk_index.specs.declared.form.WrittenGroup.{WrittenGroup}
-use Rattle.chunk_index.specs.declared.entry.Entry.{Entry}
+use Rattle.chunk_index.specs.declared.entry.KeyEntry.{KeyEntry}
 use Rattle.chunk_index.specs.declared.entry.State.{State}
 use Rattle.chunk_index.specs.declared.entry.State.TheVariants as states
 
 -- the chunk of an entry
-abbrev pub chunk : Entry → ℕ
+abbrev pub chunk : KeyEntry → ℕ
 chunk e = e.chunk
 
 -- the page is where it is kept, if it is kept
@@ -46,7 +46,7 @@ is_same_state (states.Buffered i) = false
 is_same_state states.Dropped = false
 is_same_state states.Vacant = false
 
-abbrev pub is_same : Entry → Bool
+abbrev pub is_same : KeyEntry → Bool
 is_same e = is_same_state e.state
 
 -- the entry stays when the changes are settled
@@ -57,32 +57,32 @@ stays_state states.Dropped = false
 stays_state states.Vacant = true
 
 -- the kept page that an entry tells; no entry tells of none
-abbrev pub kept_of : Option Entry → Option KeptPage
-kept_of m = option_and_then (λ (e : Entry). e.kept) m
+abbrev pub kept_of : Option KeyEntry → Option KeptPage
+kept_of m = option_and_then (λ (e : KeyEntry). e.kept) m
 
 -- the present page that an entry tells; no entry tells of none
-abbrev pub present_of : Option Entry → Present
+abbrev pub present_of : Option KeyEntry → Present
 present_of None = presents.Absent
 present_of (Some e) = present_by e.kept e.state
 
 -- there is an entry, and it stays when the changes are settled
-abbrev pub stays_of : Option Entry → Bool
-stays_of m = option_map_or (λ (e : Entry). stays_state e.state) m false
+abbrev pub stays_of : Option KeyEntry → Bool
+stays_of m = option_map_or (λ (e : KeyEntry). stays_state e.state) m false
 
 -- what is present is what is kept; so it is without an entry
-abbrev pub same_of : Option Entry → Bool
+abbrev pub same_of : Option KeyEntry → Bool
 same_of m = option_map_or is_same m true
 
 -- the entry of a chunk whose present page is the kept one
-abbrev pub kept_at : ℕ → Option KeptPage → Entry
+abbrev pub kept_at : ℕ → Option KeptPage → KeyEntry
 kept_at c p = record { chunk = c; kept = p; state = states.Same }
 
 -- an entry in another state
-abbrev pub with_state : State → Entry → Entry
+abbrev pub with_state : State → KeyEntry → KeyEntry
 with_state s e = record e { state = s }
 
 -- an entry with another kept page
-abbrev pub with_kept : Option KeptPage → Entry → Entry
+abbrev pub with_kept : Option KeptPage → KeyEntry → KeyEntry
 with_kept p e = record e { kept = p }
 
 -- the page of number i of a group that was written
@@ -90,13 +90,13 @@ abbrev pub written_page : WrittenGroup → ℕ → KeptPage
 written_page g i = record { block = g.block; page = g.first + i; version = g.number }
 
 -- what an entry becomes once the pages of the buffer were written as this group; a dropped one goes
-abbrev pub settled_by : WrittenGroup → Entry → State → Option Entry
+abbrev pub settled_by : WrittenGroup → KeyEntry → State → Option KeyEntry
 settled_by g e states.Same = Some e
 settled_by g e (states.Buffered i) = Some (record e { kept = Some (written_page g i); state = states.Same })
 settled_by g e states.Dropped = None
 settled_by g e states.Vacant = Some (record e { kept = None; state = states.Same })
 
-abbrev pub settled : WrittenGroup → Option Entry → Option Entry
+abbrev pub settled : WrittenGroup → Option KeyEntry → Option KeyEntry
 settled g m = option_and_then (λ e. settled_by g e e.state) m
 
 -- 1 for the block that a page is kept in, and 0 for each other
@@ -104,29 +104,29 @@ abbrev pub one_at : Option KeptPage → ℕ → ℕ
 one_at p b = option_map_or (λ q. if q.block == b then 1 else 0) p 0
 
 -- 1 for the block that an entry's page is kept in, and 0 for each other
-abbrev pub counted_at : ℕ → Entry → ℕ
+abbrev pub counted_at : ℕ → KeyEntry → ℕ
 counted_at b e = one_at e.kept b
 
 -- 1 for an entry whose present page is not the kept one, and else 0
-abbrev pub changed : Entry → ℕ
+abbrev pub changed : KeyEntry → ℕ
 changed e = if is_same e then 0 else 1
 
 -- what an entry adds; no entry adds nothing
-abbrev pub weight : (Entry → ℕ) → Option Entry → ℕ
+abbrev pub weight : (KeyEntry → ℕ) → Option KeyEntry → ℕ
 weight f m = option_map_or f m 0
 
 -- what all entries of an object add
-abbrev pub weigh : (Entry → ℕ) → List Entry → ℕ
+abbrev pub weigh : (KeyEntry → ℕ) → List KeyEntry → ℕ
 weigh f es = sum_by f es
 
 -- A chunk has this entry, or none, and no other chunk's entry changes; sums over the entries follow.
-pub record Alters (c : ℕ) (to : Option Entry) (old new : List Entry) : Type 0 where
+pub record Alters (c : ℕ) (to : Option KeyEntry) (old new : List KeyEntry) : Type 0 where
   pub here : find_by chunk new c ≡ to
   pub others : (l : ℕ) → l ≢ c → find_by chunk new l ≡ find_by chunk old l
-  pub weighs : (f : Entry → ℕ) → weigh f new + weight f (find_by chunk old c) ≡ weigh f old + weight f to
+  pub weighs : (f : KeyEntry → ℕ) → weigh f new + weight f (find_by chunk old c) ≡ weigh f old + weight f to
 
 -- the last entry before a bound, or none where none lies before it
-abbrev pub IsLastBelow : List Entry → Option ℕ → Option Entry → Type 0
+abbrev pub IsLastBelow : List KeyEntry → Option ℕ → Option KeyEntry → Type 0
 IsLastBelow es bound None = (l : ℕ) → IsBelow l bound → find_by chunk es l ≡ None
 IsLastBelow es bound (Some e) = (find_by chunk es (chunk e) ≡ Some e) × IsBelow (chunk e) bound × ((l : ℕ) → chunk e < l → IsBelow l bound → find_by chunk es l ≡ None)
 

@@ -2,7 +2,7 @@
 use Rattle.std.specs.Prelude.{◌≡◌, ◌<◌, ◌≤◌, ℕ, List, length, get_or, Option, Some, None}
 use Rattle.chunk_index.specs.declared.form.KeptPage.{KeptPage}
 use Rattle.chunk_index.specs.declared.form.KeptKey.{KeptKey}
-use Rattle.chunk_index.specs.declared.entry.Entry.{Entry}
+use Rattle.chunk_index.specs.declared.entry.KeyEntry.{KeyEntry}
 use Rattle.chunk_index.specs.Lists.{find_by}
 use Rattle.chunk_index.specs.Entries.{chunk, kept_of}
 use Rattle.chunk_index.specs.Shelves.{IsAfterNumber}
@@ -21,7 +21,7 @@ IsNextChunk m after None = (c : ℕ) → IsAfterNumber c after → m c ≡ None
 IsNextChunk m after (Some x) = (m x.0 ≡ Some x.1) × IsAfterNumber x.0 after × ((c : ℕ) → IsAfterNumber c after → c < x.0 → m c ≡ None)
 
 -- the kept page of a chunk of an object
-abbrev pub kept_chunk : List Entry → ℕ → Option KeptPage
+abbrev pub kept_chunk : List KeyEntry → ℕ → Option KeptPage
 kept_chunk es c = kept_of (find_by chunk es c)
 
 -- the first kept key of the objects after another; with none, no key of these is kept

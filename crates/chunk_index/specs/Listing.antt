@@ -2,16 +2,16 @@
 use Rattle.std.specs.Prelude.{ℕ, List, [], ◌∷◌, ◌++◌, if◌then◌else◌, ◌==◌}
 use Rattle.std.specs.Option.{option_map_or}
 use Rattle.chunk_index.specs.declared.form.KeptKey.{KeptKey}
-use Rattle.chunk_index.specs.declared.entry.Entry.{Entry}
+use Rattle.chunk_index.specs.declared.entry.KeyEntry.{KeyEntry}
 use Rattle.chunk_index.specs.declared.object.ObjectEntries.{ObjectEntries}
 use Rattle.chunk_index.specs.declared.index.Index.{Index}
 
 -- the key of an entry of object o with its page, if it is kept in the block
-abbrev pub key_in : ℕ → ℕ → Entry → List KeptKey
+abbrev pub key_in : ℕ → ℕ → KeyEntry → List KeptKey
 key_in b o e = option_map_or (λ p. if p.block == b then record { key = record { object = o; chunk = e.chunk }; at = p } ∷ [] else []) e.kept []
 
 -- those of an object
-abbrev pub keys_of : ℕ → ℕ → List Entry → List KeptKey
+abbrev pub keys_of : ℕ → ℕ → List KeyEntry → List KeptKey
 keys_of b o [] = []
 keys_of b o (e ∷ es) = key_in b o e ++ keys_of b o es
 

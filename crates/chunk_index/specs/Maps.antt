@@ -1,7 +1,7 @@
 -- The two maps that an index is, and how they change.
 use Rattle.std.specs.Prelude.{◌≡◌, ◌≢◌, ◌⊎◌, ◌<◌, ◌≤◌, ◌+◌, ℕ, Bool, true, false, Option, Some, None, IsSome, IsTrue}
 use Rattle.block_state.specs.Table.{Table}
-use Rattle.chunk_index.specs.declared.form.Place.{Place}
+use Rattle.chunk_index.specs.declared.form.PagePlace.{PagePlace}
 use Rattle.chunk_index.specs.declared.form.KeptPage.{KeptPage}
 use Rattle.chunk_index.specs.declared.form.Form.{Form}
 use Rattle.chunk_index.specs.declared.form.Present.{Present}
@@ -28,8 +28,8 @@ abbrev pub IsPrepared : Index → ℕ → ℕ → Type 0
 IsPrepared x o c = IsSome (look x.shelf.objects o c)
 
 -- and there still is once the changes are settled
-abbrev pub IsReady : Index → ℕ → ℕ → Type 0
-IsReady x o c = IsTrue (stays_of (look x.shelf.objects o c))
+abbrev pub IsReadyKey : Index → ℕ → ℕ → Type 0
+IsReadyKey x o c = IsTrue (stays_of (look x.shelf.objects o c))
 
 -- prepared keys are still prepared
 abbrev pub StaysPrepared : Index → Index → Type 0
@@ -70,7 +70,7 @@ pub record Cuts (o from : ℕ) (old new : Index) : Type 0 where
   pub others : (k l : ℕ) → (k ≢ o) ⊎ (l < from) → present new k l ≡ present old k l
 
 -- the page at another place, in the version that it has
-abbrev pub moved_page : Place → KeptPage → KeptPage
+abbrev pub moved_page : PagePlace → KeptPage → KeptPage
 moved_page place p = record { block = place.block; page = place.page; version = p.version }
 
 -- what is present of a key once its kept page is another
@@ -81,7 +81,7 @@ moved_to p (presents.InBuffer i) = presents.InBuffer i
 
 -- The kept page of one key lies at another place, in its version; a key that is buffered or dropped stays so, and no
 -- other key changes. Its old block counts one key less, and its new one one more.
-pub record Copies (o c : ℕ) (place : Place) (was : KeptPage) (old new : Index) : Type 0 where
+pub record Copies (o c : ℕ) (place : PagePlace) (was : KeptPage) (old new : Index) : Type 0 where
   pub kept_here : kept_pages new o c ≡ Some (moved_page place was)
   pub present_here : present new o c ≡ moved_to (moved_page place was) (present old o c)
   pub kept_elsewhere : (k l : ℕ) → Differs o c k l → kept_pages new k l ≡ kept_pages old k l
@@ -98,7 +98,7 @@ written g (presents.InBuffer i) = Some (written_page g i)
 pub record Settles (g : WrittenGroup) (old new : Index) : Type 0 where
   pub kept : (o c : ℕ) → kept_pages new o c ≡ written g (present old o c)
   pub presents : (o c : ℕ) → present new o c ≡ as_kept (kept_pages new o c)
-  pub ready : (o c : ℕ) → IsReady old o c → IsReady new o c
+  pub ready : (o c : ℕ) → IsReadyKey old o c → IsReadyKey new o c
 
 -- each page of the buffer has a number for its page on the flash
 abbrev pub Fits : WrittenGroup → Index → Type 0
@@ -111,4 +111,4 @@ pub record Retains (keeps : ℕ → ℕ → Bool) (old new : Index) : Type 0 whe
   pub kept : (o c : ℕ) → keeps o c ≡ true → kept_pages new o c ≡ kept_pages old o c
   pub present : (o c : ℕ) → keeps o c ≡ true → present new o c ≡ present old o c
   pub prepared : (o c : ℕ) → keeps o c ≡ true → IsPrepared old o c → IsPrepared new o c
-  pub ready : (o c : ℕ) → keeps o c ≡ true → IsReady old o c → IsReady new o c
+  pub ready : (o c : ℕ) → keeps o c ≡ true → IsReadyKey old o c → IsReadyKey new o c

@@ -12,8 +12,8 @@ abbrev pub page_of : Found → KeptPage
 page_of f = record { block = f.block; page = f.page; version = f.tag.version }
 
 -- the page is of chunk c of object o
-abbrev pub IsOf : ℕ → ℕ → Found → Type 0
-IsOf o c f = (f.tag.object ≡ o) × (f.tag.chunk ≡ c)
+abbrev pub IsFoundOf : ℕ → ℕ → Found → Type 0
+IsFoundOf o c f = (f.tag.object ≡ o) × (f.tag.chunk ≡ c)
 
 -- the keys rise, so that no key comes twice
 abbrev pub KeysRise : List Found → Type 0
@@ -27,5 +27,5 @@ LieWithin blocks fs = (i : ℕ) (d : Found) → i < length fs → (get_or fs i d
 pub record Indexes (fs : List Found) (n : ℕ) (x : Index) : Type 0 where
   pub kept_here : (i : ℕ) (d : Found) → i < n → kept_pages x (get_or fs i d).tag.object (get_or fs i d).tag.chunk ≡ Some (page_of (get_or fs i d))
   pub present_here : (i : ℕ) (d : Found) → i < n → present x (get_or fs i d).tag.object (get_or fs i d).tag.chunk ≡ presents.OnFlash (page_of (get_or fs i d))
-  pub kept_elsewhere : (o c : ℕ) → ((i : ℕ) (d : Found) → i < n → IsOf o c (get_or fs i d) → ⊥) → kept_pages x o c ≡ None
-  pub present_elsewhere : (o c : ℕ) → ((i : ℕ) (d : Found) → i < n → IsOf o c (get_or fs i d) → ⊥) → present x o c ≡ presents.Absent
+  pub kept_elsewhere : (o c : ℕ) → ((i : ℕ) (d : Found) → i < n → IsFoundOf o c (get_or fs i d) → ⊥) → kept_pages x o c ≡ None
+  pub present_elsewhere : (o c : ℕ) → ((i : ℕ) (d : Found) → i < n → IsFoundOf o c (get_or fs i d) → ⊥) → present x o c ≡ presents.Absent

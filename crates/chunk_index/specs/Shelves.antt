@@ -7,7 +7,7 @@ use Rattle.std.specs.Ordering.{nat_cmp}
 use Rattle.std.specs.BTreeMap.{BTreeMap, get, values}
 use Rattle.chunk_index.specs.Lists.{find_by, IsBelow}
 use Rattle.chunk_index.specs.Entries.{chunk, weight, weigh}
-use Rattle.chunk_index.specs.declared.entry.Entry.{Entry}
+use Rattle.chunk_index.specs.declared.entry.KeyEntry.{KeyEntry}
 use Rattle.chunk_index.specs.declared.object.ObjectEntries.{ObjectEntries}
 
 -- the objects by their numbers
@@ -15,15 +15,15 @@ abbrev pub ObjectMap : Type 0
 ObjectMap = BTreeMap ℕ ObjectEntries
 
 -- the entry of a chunk among the entries of an object
-abbrev pub entry_of : ℕ → ObjectEntries → Option Entry
+abbrev pub entry_of : ℕ → ObjectEntries → Option KeyEntry
 entry_of c x = find_by chunk x.entries.items c
 
 -- the entry of chunk c of object o
-abbrev pub look : ObjectMap → ℕ → ℕ → Option Entry
+abbrev pub look : ObjectMap → ℕ → ℕ → Option KeyEntry
 look m o c = option_and_then (entry_of c) (get nat_cmp m o)
 
 -- what all entries of all objects add
-abbrev pub total : (Entry → ℕ) → ObjectMap → ℕ
+abbrev pub total : (KeyEntry → ℕ) → ObjectMap → ℕ
 total f m = sum_by (λ (x : ObjectEntries). weigh f x.entries.items) (values m)
 
 -- the key of chunk c of object o is another than that of chunk l of object k
@@ -31,27 +31,27 @@ abbrev pub Differs : ℕ → ℕ → ℕ → ℕ → Type 0
 Differs o c k l = (k ≢ o) ⊎ (l ≢ c)
 
 -- A key has this entry, or none, and no other key's entry changes; sums over the entries follow.
-pub record AltersKey (o c : ℕ) (to : Option Entry) (old new : ObjectMap) : Type 0 where
+pub record AltersKey (o c : ℕ) (to : Option KeyEntry) (old new : ObjectMap) : Type 0 where
   pub here : look new o c ≡ to
   pub others : (k l : ℕ) → Differs o c k l → look new k l ≡ look old k l
-  pub weighs : (f : Entry → ℕ) → total f new + weight f (look old o c) ≡ total f old + weight f to
+  pub weighs : (f : KeyEntry → ℕ) → total f new + weight f (look old o c) ≡ total f old + weight f to
 
 -- each key has the entry that it had
 pub record SameEntries (old new : ObjectMap) : Type 0 where
   pub looks : (o c : ℕ) → look new o c ≡ look old o c
-  pub weighs : (f : Entry → ℕ) → total f new ≡ total f old
+  pub weighs : (f : KeyEntry → ℕ) → total f new ≡ total f old
 
 -- the key stands in the list
 abbrev pub IsListed : List Key → ℕ → ℕ → Type 0
 IsListed keys o c = (i : ℕ) × (i < length keys) × ((d : Key) → ((get_or keys i d).object ≡ o) × ((get_or keys i d).chunk ≡ c))
 
 -- the last entry of an object before a bound, or none where none lies before it
-abbrev pub IsLastOf : ObjectMap → ℕ → Option ℕ → Option Entry → Type 0
+abbrev pub IsLastOf : ObjectMap → ℕ → Option ℕ → Option KeyEntry → Type 0
 IsLastOf m o bound None = (l : ℕ) → IsBelow l bound → look m o l ≡ None
 IsLastOf m o bound (Some e) = (look m o (chunk e) ≡ Some e) × IsBelow (chunk e) bound × ((l : ℕ) → chunk e < l → IsBelow l bound → look m o l ≡ None)
 
 -- the same among the chunks from one on
-abbrev pub IsLastFrom : ObjectMap → ℕ → ℕ → Option ℕ → Option Entry → Type 0
+abbrev pub IsLastFrom : ObjectMap → ℕ → ℕ → Option ℕ → Option KeyEntry → Type 0
 IsLastFrom m o from bound None = (l : ℕ) → from ≤ l → IsBelow l bound → look m o l ≡ None
 IsLastFrom m o from bound (Some e) = (look m o (chunk e) ≡ Some e) × (from ≤ chunk e) × IsBelow (chunk e) bound × ((l : ℕ) → chunk e < l → IsBelow l bound → look m o l ≡ None)
 

@@ -1,10 +1,10 @@
 // Keys that are no longer present, whole objects and ends of objects.
 ghost use Rattle.std.specs.Prelude.{◌≡◌, ◌⊎◌, ◌≢◌, ◌<◌, ℕ, Some};
 ghost use Rattle.chunk_index.specs.Shelves.{look, Differs, IsLastFrom};
-ghost use Rattle.chunk_index.specs.Maps.{IsReady, StaysPrepared, SameKept, Places, Cuts};
+ghost use Rattle.chunk_index.specs.Maps.{IsReadyKey, StaysPrepared, SameKept, Places, Cuts};
 ghost use Rattle.chunk_index.specs.declared.form.Form.TheVariants as forms;
 
-use crate::entry::Entry;
+use crate::entry::KeyEntry;
 use crate::form::{Form, Present};
 use crate::index::Index;
 use flash_tree::Key;
@@ -15,7 +15,7 @@ impl Index {
         ensures cuts { Cuts object 0 self.old self.new }
         ensures kept { SameKept self.old self.new }
         ensures prepared { StaysPrepared self.old self.new }
-        ensures ready { (k l : ℕ) → k ≢ object → IsReady self.old k l → IsReady self.new k l }
+        ensures ready { (k l : ℕ) → k ≢ object → IsReadyKey self.old k l → IsReadyKey self.new k l }
     {
         self.cut(object, 0);
     }
@@ -25,7 +25,7 @@ impl Index {
         ensures cuts { Cuts object from self.old self.new }
         ensures kept { SameKept self.old self.new }
         ensures prepared { StaysPrepared self.old self.new }
-        ensures ready { (k l : ℕ) → (k ≢ object) ⊎ (l < from) → IsReady self.old k l → IsReady self.new k l }
+        ensures ready { (k l : ℕ) → (k ≢ object) ⊎ (l < from) → IsReadyKey self.old k l → IsReadyKey self.new k l }
     {
         let mut bound = None;
         while let Some(entry) = self.last_from(object, from, bound) {
@@ -36,7 +36,7 @@ impl Index {
     }
 
     /// The last entry of an object from a chunk on, before a bound.
-    fn last_from(&self, object: u64, from: u64, bound: Option<u64>) -> Option<Entry>
+    fn last_from(&self, object: u64, from: u64, bound: Option<u64>) -> Option<KeyEntry>
         ensures { IsLastFrom self.now.shelf.objects object from bound result }
     {
         let entry = self.shelf.last_below(object, bound)?;
@@ -47,12 +47,12 @@ impl Index {
     }
 
     /// A key is no longer present.
-    fn drop_entry(&mut self, key: Key, entry: Entry)
+    fn drop_entry(&mut self, key: Key, entry: KeyEntry)
         requires { look self.old.shelf.objects key.object key.chunk ≡ Some entry }
         ensures places { Places key.object key.chunk forms.Dropped self.old self.new }
         ensures kept { SameKept self.old self.new }
         ensures prepared { StaysPrepared self.old self.new }
-        ensures ready { (k l : ℕ) → Differs key.object key.chunk k l → IsReady self.old k l → IsReady self.new k l }
+        ensures ready { (k l : ℕ) → Differs key.object key.chunk k l → IsReadyKey self.old k l → IsReadyKey self.new k l }
     {
         match entry.present() {
             Present::Absent => {}

@@ -17,13 +17,13 @@ pub enum State {
 }
 
 #[derive(Clone, Copy, Debug, PartialEq, Eq)]
-pub struct Entry {
+pub struct KeyEntry {
     pub chunk: u64,
     pub kept: Option<KeptPage>,
     pub state: State,
 }
 
-impl Entry {
+impl KeyEntry {
     ghost use Rattle.chunk_index.specs.Entries.{present_by, is_same};
 
     /// The present page.

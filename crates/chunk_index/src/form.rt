@@ -3,7 +3,7 @@ use flash_tree::Key;
 
 /// A place of a page on the flash.
 #[derive(Clone, Copy, Debug, PartialEq, Eq)]
-pub struct Place {
+pub struct PagePlace {
     pub block: u32,
     pub page: u32,
 }

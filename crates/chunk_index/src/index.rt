@@ -8,8 +8,8 @@ ghost use Rattle.chunk_index.specs.Counts.{Recounts};
 ghost use Rattle.chunk_index.specs.declared.form.KeptPage.{KeptPage};
 
 use crate::change;
-use crate::entry::{Entry, State};
-use crate::form::{Form, KeptPage, Place, Present, WrittenGroup};
+use crate::entry::{KeyEntry, State};
+use crate::form::{Form, KeptPage, PagePlace, Present, WrittenGroup};
 use crate::shelf::Shelf;
 use block_state::Blocks;
 use flash_tree::Key;
@@ -27,7 +27,7 @@ pub struct Index {
 }
 
 impl Index {
-    ghost use Rattle.chunk_index.specs.Maps.{kept_pages, present, kept_in, IsPrepared, IsReady, StaysPrepared, IsEmpty, CountsAgree, SameKept, SamePresent, Places, Copies, Settles, Fits};
+    ghost use Rattle.chunk_index.specs.Maps.{kept_pages, present, kept_in, IsPrepared, IsReadyKey, StaysPrepared, IsEmpty, CountsAgree, SameKept, SamePresent, Places, Copies, Settles, Fits};
 
     /// No key is kept or present.
     pub fn new(alloc: Global) -> Index
@@ -75,8 +75,8 @@ impl Index {
     pub fn prepare(&mut self, key: Key) -> Result<(), AllocError>
         ensures kept { SameKept self.old self.new }
         ensures present { SamePresent self.old self.new }
-        ensures ready { OnOk result (IsReady self.new key.object key.chunk) }
-        ensures stays { (o c : ℕ) → IsReady self.old o c → IsReady self.new o c }
+        ensures ready { OnOk result (IsReadyKey self.new key.object key.chunk) }
+        ensures stays { (o c : ℕ) → IsReadyKey self.old o c → IsReadyKey self.new o c }
         ensures prepared { StaysPrepared self.old self.new }
         ensures succeeds { IsPrepared self.old key.object key.chunk → IsOk result }
     {
@@ -90,18 +90,18 @@ impl Index {
     }
 
     /// Sees that the entry of a key stays once the changes are settled.
-    fn keep_entry(&mut self, key: Key, entry: Entry)
+    fn keep_entry(&mut self, key: Key, entry: KeyEntry)
         requires { look self.old.shelf.objects key.object key.chunk ≡ Some entry }
         ensures kept { SameKept self.old self.new }
         ensures present { SamePresent self.old self.new }
-        ensures ready { IsReady self.new key.object key.chunk }
-        ensures stays { (o c : ℕ) → IsReady self.old o c → IsReady self.new o c }
+        ensures ready { IsReadyKey self.new key.object key.chunk }
+        ensures stays { (o c : ℕ) → IsReadyKey self.old o c → IsReadyKey self.new o c }
         ensures prepared { StaysPrepared self.old self.new }
     {
         match entry.state {
             State::Dropped => {
                 let state = State::Vacant;
-                self.shelf.set(key.object, Entry { state, ..entry });
+                self.shelf.set(key.object, KeyEntry { state, ..entry });
             }
             State::Same => {}
             State::Buffered(_) => {}
@@ -114,8 +114,8 @@ impl Index {
         requires { look self.old.shelf.objects key.object key.chunk ≡ None }
         ensures kept { SameKept self.old self.new }
         ensures present { SamePresent self.old self.new }
-        ensures ready { OnOk result (IsReady self.new key.object key.chunk) }
-        ensures stays { (o c : ℕ) → IsReady self.old o c → IsReady self.new o c }
+        ensures ready { OnOk result (IsReadyKey self.new key.object key.chunk) }
+        ensures stays { (o c : ℕ) → IsReadyKey self.old o c → IsReadyKey self.new o c }
         ensures prepared { StaysPrepared self.old self.new }
     {
         self.add(key, None)
@@ -129,7 +129,7 @@ impl Index {
     {
         let room = self.shelf.size() - self.changed_keys.len() + 1;
         self.changed_keys.reserve(room)?;
-        let entry = Entry {
+        let entry = KeyEntry {
             chunk: key.chunk,
             kept,
             state: State::Same,
@@ -143,7 +143,7 @@ impl Index {
         ensures places { Places key.object key.chunk form self.old self.new }
         ensures kept { SameKept self.old self.new }
         ensures prepared { StaysPrepared self.old self.new }
-        ensures ready { (o c : ℕ) → Differs key.object key.chunk o c → IsReady self.old o c → IsReady self.new o c }
+        ensures ready { (o c : ℕ) → Differs key.object key.chunk o c → IsReadyKey self.old o c → IsReadyKey self.new o c }
     {
         match self.shelf.entry(key) {
             Some(entry) => {
@@ -158,34 +158,34 @@ impl Index {
     }
 
     /// Gives a key whose present page is the kept one another present page.
-    fn place_first(&mut self, key: Key, entry: Entry, form: Form)
+    fn place_first(&mut self, key: Key, entry: KeyEntry, form: Form)
         requires entry { look self.old.shelf.objects key.object key.chunk ≡ Some entry }
         requires same { is_same entry ≡ true }
         ensures { AltersKey key.object key.chunk (Some (with_state (state_of form) entry)) self.old.shelf.objects self.new.shelf.objects }
     {
         let _ = self.changed_keys.push(key);
         let state = form.state();
-        self.shelf.set(key.object, Entry { state, ..entry });
+        self.shelf.set(key.object, KeyEntry { state, ..entry });
     }
 
     /// Gives a key whose present page is not the kept one another present page.
-    fn place_again(&mut self, key: Key, entry: Entry, form: Form)
+    fn place_again(&mut self, key: Key, entry: KeyEntry, form: Form)
         requires entry { look self.old.shelf.objects key.object key.chunk ≡ Some entry }
         requires changed { is_same entry ≡ false }
         ensures { AltersKey key.object key.chunk (Some (with_state (state_of form) entry)) self.old.shelf.objects self.new.shelf.objects }
     {
         let state = form.state();
-        self.shelf.set(key.object, Entry { state, ..entry });
+        self.shelf.set(key.object, KeyEntry { state, ..entry });
     }
 
     /// Notes that the kept page of a key was copied to another place, in the same version.
-    pub fn copied(&mut self, key: Key, place: Place, blocks: &mut Blocks)
+    pub fn copied(&mut self, key: Key, place: PagePlace, blocks: &mut Blocks)
         requires kept { IsSome (kept_pages self.old key.object key.chunk) }
         requires block { place.block < (table blocks.old).geometry.blocks }
         requires agree { CountsAgree (table blocks.old) self.old }
         ensures copies { (was : KeptPage) → kept_pages self.old key.object key.chunk ≡ Some was → Copies key.object key.chunk place was self.old self.new }
         ensures prepared { StaysPrepared self.old self.new }
-        ensures ready { (o c : ℕ) → IsReady self.old o c → IsReady self.new o c }
+        ensures ready { (o c : ℕ) → IsReadyKey self.old o c → IsReadyKey self.new o c }
         ensures agree { CountsAgree (table blocks.new) self.new }
         ensures counts { Recounts (kept_in self.old) (kept_in self.new) (table blocks.old) (table blocks.new) }
     {
@@ -202,7 +202,7 @@ impl Index {
     }
 
     /// Gives the entry of a key another kept page.
-    fn move_to(&mut self, key: Key, entry: Entry, page: KeptPage, blocks: &mut Blocks)
+    fn move_to(&mut self, key: Key, entry: KeyEntry, page: KeptPage, blocks: &mut Blocks)
         requires entry { look self.old.shelf.objects key.object key.chunk ≡ Some entry }
         requires block { page.block < (table blocks.old).geometry.blocks }
         requires agree { CountsAgree (table blocks.old) self.old }
@@ -212,7 +212,7 @@ impl Index {
     {
         change::recount(entry.kept, Some(page), blocks);
         let kept = Some(page);
-        self.shelf.set(key.object, Entry { kept, ..entry });
+        self.shelf.set(key.object, KeyEntry { kept, ..entry });
     }
 
     /// Settles all keys: the pages of the buffer were written as this group. Only keys that changed are touched.

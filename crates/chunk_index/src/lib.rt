@@ -17,7 +17,7 @@ mod settle;
 mod shelf;
 
 pub use filter::KeyFilter;
-pub use form::{Form, KeptKey, KeptPage, Place, Present, WrittenGroup};
+pub use form::{Form, KeptKey, KeptPage, PagePlace, Present, WrittenGroup};
 pub use index::Index;
 pub use law::{
     blocks_without_kept_pages_are_free, the_counts_add_up_to_the_kept_keys,

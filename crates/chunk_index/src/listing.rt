@@ -3,7 +3,7 @@ ghost use Rattle.std.specs.Prelude.{◌≡◌, ◌≤◌, ◌+◌, ◌++◌, len
 ghost use Rattle.chunk_index.specs.Maps.{kept_in};
 ghost use Rattle.chunk_index.specs.Listing.{key_in, keys_of, keys_in, block_keys};
 
-use crate::entry::Entry;
+use crate::entry::KeyEntry;
 use crate::form::KeptKey;
 use crate::index::Index;
 use crate::object::ObjectEntries;
@@ -48,7 +48,7 @@ impl ObjectEntries {
     }
 }
 
-impl Entry {
+impl KeyEntry {
     /// Adds the key of this entry, if it is kept in a block, to a list that has room for it.
     fn list_block(&self, object: u64, block: u32, keys: &mut Vec<KeptKey>)
         requires { length keys.old.items + length (key_in block object self.now) ≤ vec_capacity keys.old }

@@ -3,13 +3,13 @@ ghost use Rattle.std.specs.Prelude.{◌≡◌, [], None, Some, IfOk, IfErr, OnOk
 ghost use Rattle.chunk_index.specs.Lists.{Rises, IsAt, IsGapFor, IsEndFor, find_by, is_nil};
 ghost use Rattle.chunk_index.specs.Entries.{chunk, Alters, IsLastBelow};
 
-use crate::entry::Entry;
+use crate::entry::KeyEntry;
 use std::alloc::{AllocError, Global};
 
 /// The entries of one object, in the order of their chunks.
 #[derive(Drop)]
 pub struct ObjectEntries {
-    pub(crate) entries: Vec<Entry>,
+    pub(crate) entries: Vec<KeyEntry>,
     ghost rises: { Rises chunk entries.items },
 }
 
@@ -33,7 +33,7 @@ impl ObjectEntries {
     }
 
     /// The entry of a chunk.
-    pub fn get(&self, number: u64) -> Option<Entry>
+    pub fn get(&self, number: u64) -> Option<KeyEntry>
         ensures { result ≡ find_by chunk self.now.entries.items number }
     {
         match self.search(number) {
@@ -43,7 +43,7 @@ impl ObjectEntries {
     }
 
     /// Puts an entry of a chunk that has none.
-    pub fn insert(&mut self, entry: Entry) -> Result<(), AllocError>
+    pub fn insert(&mut self, entry: KeyEntry) -> Result<(), AllocError>
         requires { find_by chunk self.old.entries.items entry.chunk ≡ None }
         ensures ok { OnOk result (Alters entry.chunk (Some entry) self.old.entries.items self.new.entries.items) }
         ensures err { OnErr result (self.new.entries.items ≡ self.old.entries.items) }
@@ -58,7 +58,7 @@ impl ObjectEntries {
     }
 
     /// Puts an entry in place of that of its chunk.
-    pub fn set(&mut self, entry: Entry)
+    pub fn set(&mut self, entry: KeyEntry)
         requires { IsSome (find_by chunk self.old.entries.items entry.chunk) }
         ensures { Alters entry.chunk (Some entry) self.old.entries.items self.new.entries.items }
     {
@@ -102,7 +102,7 @@ impl ObjectEntries {
     }
 
     /// The last entry whose chunk lies before a bound.
-    pub fn last_below(&self, bound: Option<u64>) -> Option<Entry>
+    pub fn last_below(&self, bound: Option<u64>) -> Option<KeyEntry>
         ensures { IsLastBelow self.now.entries.items bound result }
     {
         let end = self.count_below(bound);

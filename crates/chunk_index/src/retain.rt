@@ -8,7 +8,7 @@ ghost use Rattle.chunk_index.specs.Retained.{retained, retained_told, retained_o
 ghost use Rattle.chunk_index.specs.Maps.{kept_in, CountsAgree, Retains};
 
 use crate::change;
-use crate::entry::{Entry, State};
+use crate::entry::{KeyEntry, State};
 use crate::filter::KeyFilter;
 use crate::index::Index;
 use crate::object::ObjectEntries;
@@ -92,7 +92,7 @@ impl ObjectEntries {
 }
 
 /// Keeps the entries of an object that a filter keeps, in their order, and counts the pages of all others no longer.
-fn gather<F: KeyFilter>(entries: &mut Vec<Entry>, object: u64, filter: &F, blocks: &mut Blocks)
+fn gather<F: KeyFilter>(entries: &mut Vec<KeyEntry>, object: u64, filter: &F, blocks: &mut Blocks)
     requires counted { HasCounted (table blocks.old) (λ b. weigh (counted_at b) entries.old.items) }
     ensures items { entries.new.items ≡ retained_of (F.keeps filter.now object) entries.old.items }
     ensures counts { Recounts (λ b. weigh (counted_at b) entries.old.items) (λ b. weigh (counted_at b) entries.new.items) (table blocks.old) (table blocks.new) }
@@ -110,10 +110,10 @@ fn gather<F: KeyFilter>(entries: &mut Vec<Entry>, object: u64, filter: &F, block
     entries.truncate(kept);
 }
 
-impl Entry {
+impl KeyEntry {
     /// What is left of the entry, whose key stays or is forgotten. One on the list of changed keys stays until the changes
     /// are settled, and tells of nothing.
-    fn retained(self, stays: bool, blocks: &mut Blocks) -> Option<Entry>
+    fn retained(self, stays: bool, blocks: &mut Blocks) -> Option<KeyEntry>
         requires counted { HasCounted (table blocks.old) (one_at self.kept) }
         ensures result { result ≡ retained stays self }
         ensures counts { Recounts (one_at self.kept) (one_at (kept_of result)) (table blocks.old) (table blocks.new) }
@@ -125,7 +125,7 @@ impl Entry {
         if self.is_same() {
             return None;
         }
-        Some(Entry {
+        Some(KeyEntry {
             chunk: self.chunk,
             kept: None,
             state: State::Dropped,

@@ -7,22 +7,22 @@ ghost use Rattle.chunk_index.specs.Counts.{Recounts, Tallies};
 ghost use Rattle.chunk_index.specs.declared.form.Present.TheVariants as presents;
 
 use crate::change;
-use crate::entry::{Entry, State};
+use crate::entry::{KeyEntry, State};
 use crate::form::{KeptPage, WrittenGroup};
 use crate::shelf::Shelf;
 use block_state::Blocks;
 use flash_tree::Key;
 
-impl Entry {
+impl KeyEntry {
     /// What the entry becomes, if it stays.
-    fn settled(self, group: WrittenGroup) -> Option<Entry>
+    fn settled(self, group: WrittenGroup) -> Option<KeyEntry>
         requires { HasPage group self.state }
         ensures result { result ≡ settled_by group self self.state }
         ensures chunk { IfSome result (λ e. e.chunk ≡ self.chunk) }
     {
         match self.state {
             State::Same => Some(self),
-            State::Buffered(i) => Some(Entry {
+            State::Buffered(i) => Some(KeyEntry {
                 chunk: self.chunk,
                 kept: Some(KeptPage {
                     block: group.block,
@@ -32,7 +32,7 @@ impl Entry {
                 state: State::Same,
             }),
             State::Dropped => None,
-            State::Vacant => Some(Entry {
+            State::Vacant => Some(KeyEntry {
                 chunk: self.chunk,
                 kept: None,
                 state: State::Same,

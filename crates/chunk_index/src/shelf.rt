@@ -5,7 +5,7 @@ ghost use Rattle.std.proofs.Props.{props};
 ghost use Rattle.std.specs.BTreeMap.{get, IsEmpty, IsOrdered};
 ghost use Rattle.chunk_index.specs.Shelves.{look, total, AltersKey, SameEntries, IsLastOf, IsNextObject};
 
-use crate::entry::Entry;
+use crate::entry::KeyEntry;
 use crate::object::ObjectEntries;
 use flash_tree::Key;
 use std::alloc::{AllocError, Global};
@@ -48,7 +48,7 @@ impl Shelf {
     }
 
     /// The entry of a key.
-    pub fn entry(&self, key: Key) -> Option<Entry>
+    pub fn entry(&self, key: Key) -> Option<KeyEntry>
         ensures entry { result ≡ look self.now.objects key.object key.chunk }
         ensures chunk { IfSome result (λ e. e.chunk ≡ key.chunk) }
     {
@@ -66,7 +66,7 @@ impl Shelf {
     }
 
     /// Puts an entry in place of that of its key.
-    pub fn set(&mut self, object: u64, entry: Entry)
+    pub fn set(&mut self, object: u64, entry: KeyEntry)
         requires { IsSome (look self.old.objects object entry.chunk) }
         ensures alters { AltersKey object entry.chunk (Some entry) self.old.objects self.new.objects }
         ensures size { self.new.size ≡ self.old.size }
@@ -78,7 +78,7 @@ impl Shelf {
     }
 
     /// Puts an entry of a key that has none.
-    pub fn insert(&mut self, object: u64, entry: Entry) -> Result<(), AllocError>
+    pub fn insert(&mut self, object: u64, entry: KeyEntry) -> Result<(), AllocError>
         requires { look self.old.objects object entry.chunk ≡ None }
         ensures ok { OnOk result (AltersKey object entry.chunk (Some entry) self.old.objects self.new.objects) }
         ensures grown { OnOk result (self.new.size ≡ self.old.size + 1) }
@@ -107,7 +107,7 @@ impl Shelf {
     }
 
     /// Puts an entry of a key that has none, of an object that is here.
-    fn put(&mut self, object: u64, entry: Entry) -> Result<(), AllocError>
+    fn put(&mut self, object: u64, entry: KeyEntry) -> Result<(), AllocError>
         requires absent { look self.old.objects object entry.chunk ≡ None }
         requires here { IsSome (get nat_cmp self.old.objects object) }
         requires room { self.old.size < 2 ^ 32 - 1 }
@@ -191,7 +191,7 @@ impl Shelf {
     }
 
     /// The last entry of an object whose chunk lies before a bound.
-    pub fn last_below(&self, object: u64, bound: Option<u64>) -> Option<Entry>
+    pub fn last_below(&self, object: u64, bound: Option<u64>) -> Option<KeyEntry>
         ensures { IsLastOf self.now.objects object bound result }
     {
         match self.objects.get(&object) {

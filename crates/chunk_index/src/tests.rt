@@ -52,7 +52,7 @@ impl Store {
         self.index.settle_group(group, &mut self.blocks);
     }
 
-    fn copy(&mut self, key: Key, place: Place)
+    fn copy(&mut self, key: Key, place: PagePlace)
         requires { place.block < 8 }
     {
         match self.index.kept(key) {
@@ -128,7 +128,7 @@ fn a_group_is_settled_copied_and_forgotten(rt: HostRuntime) -> Result<(), Fail> 
     );
     assert_eq!(&rt; store.index.present(key(5, 1)), Present::Absent);
     assert_eq!(&rt; store.count(3), 3);
-    store.copy(key(1, 0), Place { block: 4, page: 1 });
+    store.copy(key(1, 0), PagePlace { block: 4, page: 1 });
     assert_eq!(&rt; store.index.kept(key(1, 0)), Some(at(4, 1, 7)));
     assert_eq!(&rt; (store.count(3), store.count(4)), (2, 1));
     store.buffer(key(5, 1), 0)?;

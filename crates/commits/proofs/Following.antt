@@ -9,7 +9,7 @@ use Rattle.flash_tree.specs.declared.place.FreshPage.{FreshPage}
 use Rattle.chunk_index.specs.declared.form.KeptPage.{KeptPage}
 use Rattle.chunk_index.specs.declared.form.Present.{Present}
 use Rattle.chunk_index.specs.declared.form.Present.TheVariants as presents
-use Rattle.chunk_index.specs.declared.entry.Entry.{Entry}
+use Rattle.chunk_index.specs.declared.entry.KeyEntry.{KeyEntry}
 use Rattle.chunk_index.specs.declared.entry.State.{State}
 use Rattle.chunk_index.specs.declared.entry.State.TheVariants as states
 use Rattle.chunk_index.specs.declared.index.Index.{Index}
@@ -37,7 +37,7 @@ on_flash_kept x o c k = go (look x.shelf.objects o c) where
   at m states.Dropped is = absurd cc
   at m states.Vacant is = absurd cc
 
-  go : (m : Option Entry) → present_of m ≡ presents.OnFlash k → kept_of m ≡ Some k
+  go : (m : Option KeyEntry) → present_of m ≡ presents.OnFlash k → kept_of m ≡ Some k
   go None is = absurd cc
   go (Some e) is = at e.kept e.state is
 

@@ -7,7 +7,7 @@ use Rattle.flash_tree.specs.declared.place.FreshPage.{FreshPage}
 use Rattle.chunk_index.specs.declared.form.KeptPage.{KeptPage}
 use Rattle.chunk_index.specs.declared.index.Index.{Index}
 use Rattle.chunk_index.specs.Entries.{as_kept}
-use Rattle.chunk_index.specs.Maps.{kept_pages, present, StaysPrepared, IsReady as IsReadyKey}
+use Rattle.chunk_index.specs.Maps.{kept_pages, present, StaysPrepared, IsReadyKey}
 use Rattle.page_buffer.specs.Buffering.{Buffers}
 use Rattle.page_buffer.specs.Shown.{kept_data, present_data}
 use Rattle.transactions.specs.Handing.{HandsOut}

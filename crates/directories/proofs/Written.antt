@@ -10,7 +10,7 @@ use Rattle.std.proofs.lemmas.Slice.{between_is}
 use Rattle.page_tags.specs.Headers.{IsHeader, header_bytes}
 use Rattle.page_tags.specs.Slots.{Entry, IsSlot, slot_bytes}
 use Rattle.volume_terms.specs.Sizes.{Sizes, page_slots}
-use Rattle.pages.specs.Maps.{PageMap, has, IsOf, IsCut, changed, takes, with_pages, without_cuts}
+use Rattle.pages.specs.Maps.{PageMap, has, IsPageOf, IsCut, changed, takes, with_pages, without_cuts}
 use Rattle.pages.specs.laws.Maps.{here, elsewhere, cut_cases, cut_here}
 use Rattle.pages.specs.laws.Changes.{pages_same}
 use Rattle.pages.specs.Changes.{AreApart, AreSized, IsChange, IsOnlyOf}
@@ -33,7 +33,7 @@ abbrev pub both : FreshPage → FreshPage → List FreshPage
 both slot_page head_page = slot_page ∷ head_page ∷ []
 
 -- a page of the two is the first or the second
-one_of : (slot_page head_page : FreshPage) (o c i : ℕ) → IsOf (both slot_page head_page) o c i → ((i ≡ 0) × (slot_page.key.object ≡ o) × (slot_page.key.chunk ≡ c)) ⊎ ((i ≡ 1) × (head_page.key.object ≡ o) × (head_page.key.chunk ≡ c))
+one_of : (slot_page head_page : FreshPage) (o c i : ℕ) → IsPageOf (both slot_page head_page) o c i → ((i ≡ 0) × (slot_page.key.object ≡ o) × (slot_page.key.chunk ≡ c)) ⊎ ((i ≡ 1) × (head_page.key.object ≡ o) × (head_page.key.chunk ≡ c))
 one_of slot_page head_page o c zero of =
     let at : Some slot_page ≡ Some of.page = of.there in
     let same : slot_page ≡ of.page = cc in
@@ -80,7 +80,7 @@ module _ (d bytes : ℕ) (slot_page head_page : FreshPage) (head : DirectoryHead
 
   pub two_only : IsOnlyOf change d
   two_only = record {
-    pages = λ o c i of. elim (one_of slot_page head_page o c i (subst (λ (ps : List FreshPage). IsOf ps o c i) pages of)) [
+    pages = λ o c i of. elim (one_of slot_page head_page o c i (subst (λ (ps : List FreshPage). IsPageOf ps o c i) pages of)) [
       | inl x ↦ sym x.1 ∙ slot_is.object_is
       | inr x ↦ sym x.1 ∙ head_is.object_is
     ];
@@ -88,7 +88,7 @@ module _ (d bytes : ℕ) (slot_page head_page : FreshPage) (head : DirectoryHead
   }
 
   pub two_head : HasKey change d 0
-  two_head = (1, subst (λ (ps : List FreshPage). IsOf ps d 0 1) (sym pages) (record { page = head_page; there = refl; object = head_is.object_is; chunk = head_is.chunk_is }))
+  two_head = (1, subst (λ (ps : List FreshPage). IsPageOf ps d 0 1) (sym pages) (record { page = head_page; there = refl; object = head_is.object_is; chunk = head_is.chunk_is }))
 
   module _ (old : PageMap) where
     placed : (i : ℕ) (p : FreshPage) → slice_get (both slot_page head_page) i ≡ Some p → changed change old p.key.object p.key.chunk ≡ Some p.bytes.items
@@ -122,7 +122,7 @@ module _ (d bytes : ℕ) (slot_page head_page : FreshPage) (head : DirectoryHead
         | inr apart ↦ (
           is.0,
           elsewhere change old d (1 + k / page_slots z)
-              (λ i of. elim (one_of slot_page head_page d (1 + k / page_slots z) i (subst (λ (ps : List FreshPage). IsOf ps d (1 + k / page_slots z) i) pages of)) [
+              (λ i of. elim (one_of slot_page head_page d (1 + k / page_slots z) i (subst (λ (ps : List FreshPage). IsPageOf ps d (1 + k / page_slots z) i) pages of)) [
                 | inl x ↦ apart (omega (arith, x.2, slot.chunk_is))
                 | inr x ↦ omega (arith, x.2, head_is.chunk_is)
               ]) (no_cut change.cuts.items cuts d (1 + k / page_slots z)) ∙ is.1,
@@ -134,16 +134,16 @@ module _ (d bytes : ℕ) (slot_page head_page : FreshPage) (head : DirectoryHead
     -- the pages of the other slots
     pub two_pages : (z : Sizes) (number : ℕ) → slot_page.key.chunk ≡ 1 + number / page_slots z → KeepsPages z old (changed change old) d number
     two_pages z number chunk c some other = elsewhere change old d c
-        (λ i of. elim (one_of slot_page head_page d c i (subst (λ (ps : List FreshPage). IsOf ps d c i) pages of)) [
+        (λ i of. elim (one_of slot_page head_page d c i (subst (λ (ps : List FreshPage). IsPageOf ps d c i) pages of)) [
           | inl x ↦ other (omega (arith, x.2, chunk))
           | inr x ↦ omega (arith, x.2, head_is.chunk_is, some)
         ]) (no_cut change.cuts.items cuts d c)
 
 module _ (d bytes : ℕ) (head_page : FreshPage) (head : DirectoryHead) (head_is : IsHeadPage head_page bytes d head)
     (change : Change) (pages : change.pages.items ≡ head_page ∷ []) (cuts : change.cuts.items ≡ []) where
-  only_head : (o c i : ℕ) → IsOf change.pages.items o c i → (i ≡ 0) × (head_page.key.object ≡ o) × (head_page.key.chunk ≡ c)
-  only_head o c i of = go i (subst (λ (ps : List FreshPage). IsOf ps o c i) pages of) where
-    go : (k : ℕ) → IsOf (head_page ∷ []) o c k → (k ≡ 0) × (head_page.key.object ≡ o) × (head_page.key.chunk ≡ c)
+  only_head : (o c i : ℕ) → IsPageOf change.pages.items o c i → (i ≡ 0) × (head_page.key.object ≡ o) × (head_page.key.chunk ≡ c)
+  only_head o c i of = go i (subst (λ (ps : List FreshPage). IsPageOf ps o c i) pages of) where
+    go : (k : ℕ) → IsPageOf (head_page ∷ []) o c k → (k ≡ 0) × (head_page.key.object ≡ o) × (head_page.key.chunk ≡ c)
     go zero of =
         let at : Some head_page ≡ Some of.page = of.there in
         let same : head_page ≡ of.page = cc in
@@ -167,8 +167,8 @@ module _ (d bytes : ℕ) (head_page : FreshPage) (head : DirectoryHead) (head_is
     cuts = λ o c i is. absurd (no_cut change.cuts.items cuts o c i is);
   }
 
-  at_head : IsOf change.pages.items d 0 0
-  at_head = subst (λ (ps : List FreshPage). IsOf ps d 0 0) (sym pages) (record { page = head_page; there = refl; object = head_is.object_is; chunk = head_is.chunk_is })
+  at_head : IsPageOf change.pages.items d 0 0
+  at_head = subst (λ (ps : List FreshPage). IsPageOf ps d 0 0) (sym pages) (record { page = head_page; there = refl; object = head_is.object_is; chunk = head_is.chunk_is })
 
   pub one_head : HasKey change d 0
   one_head = (0, at_head)
@@ -394,7 +394,7 @@ module _ (z : Sizes) (old : PageMap) (d len : ℕ) (change cut_change : Change) 
 
 pub only_cut : (d n len : ℕ) (change cut_change : Change) → cut_change.pages.items ≡ change.pages.items → CutsBehind d n len cut_change → IsOnlyOf change d → IsOnlyOf cut_change d
 only_cut d n len change cut_change pages cuts is = record {
-  pages = λ o c i of. is.pages o c i (subst (λ (ps : List FreshPage). IsOf ps o c i) pages of);
+  pages = λ o c i of. is.pages o c i (subst (λ (ps : List FreshPage). IsPageOf ps o c i) pages of);
   cuts = λ o c i at. elim cuts [
     | inl none ↦ absurd (no_cut cut_change.cuts.items none.1 o c i at)
     | inr cut ↦ go cut.1.0 cut.1.2 i o c (subst (λ (xs : List Cut). IsCut xs o c i) cut.1.1 at)
@@ -405,4 +405,4 @@ only_cut d n len change cut_change pages cuts is = record {
   go cut of_d (suc i) o c at = let no' : None ≡ Some at.cut = at.there in absurd cc
 
 pub key_stays : (change cut_change : Change) (o c : ℕ) → cut_change.pages.items ≡ change.pages.items → HasKey change o c → HasKey cut_change o c
-key_stays change cut_change o c pages has = (has.0, subst (λ (ps : List FreshPage). IsOf ps o c has.0) (sym pages) has.1)
+key_stays change cut_change o c pages has = (has.0, subst (λ (ps : List FreshPage). IsPageOf ps o c has.0) (sym pages) has.1)

@@ -4,7 +4,7 @@ use Rattle.std.specs.Int.{div_ceil}
 use Rattle.page_tags.specs.Headers.{IsHeader, header_bytes}
 use Rattle.page_tags.specs.Slots.{Entry}
 use Rattle.volume_terms.specs.Sizes.{Sizes, page_slots}
-use Rattle.pages.specs.Maps.{PageMap, IsOf}
+use Rattle.pages.specs.Maps.{PageMap, IsPageOf}
 use Rattle.flash_tree.specs.declared.place.FreshPage.{FreshPage}
 use Rattle.pages.specs.declared.change.Change.{Change}
 use Rattle.pages.specs.declared.change.Cut.{Cut}
@@ -50,7 +50,7 @@ KeepsBehind z old new d count = (c : ℕ) → div_ceil count (page_slots z) < c 
 
 -- a page of the key is written
 abbrev pub HasKey : Change → ℕ → ℕ → Type 0
-HasKey change o c = (i : ℕ) × IsOf change.pages.items o c i
+HasKey change o c = (i : ℕ) × IsPageOf change.pages.items o c i
 
 -- the bytes of slot i of the directory's page, whatever they say
 abbrev pub IsSlotBytes : Sizes → PageMap → ℕ → ℕ → List ℕ → Type 0

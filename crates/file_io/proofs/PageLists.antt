@@ -2,7 +2,7 @@
 use Rattle.std.specs.Prelude.{◌≡◌, ◌≢◌, ◌⊎◌, ℕ, zero, suc, ◌+◌, List, [], ◌∷◌, ◌++◌, length, slice_get, Some, None}
 use Rattle.std.proofs.Common.{refl, sym, ◌∙◌, ap, subst, inl, inr, arith}
 use Rattle.volume_terms.specs.laws.List.{get_push}
-use Rattle.pages.specs.Maps.{PageMap, with_pages, IsOf}
+use Rattle.pages.specs.Maps.{PageMap, with_pages, IsPageOf}
 use Rattle.pages.specs.laws.Maps.{page_here, page_elsewhere}
 use Rattle.flash_tree.specs.declared.place.FreshPage.{FreshPage}
 use Rattle.file_io.specs.Chunks.{AreOf, HoldsChunk, HoldChunks}
@@ -36,13 +36,13 @@ each_push Holds pages q each one i p is = elim (slice_get_push pages q i p is) [
 module _ (o : ℕ) (IsOne IsMore : ℕ → Type 0) (pages : List FreshPage) (q : FreshPage) (of : AreOf o IsOne pages) (object : q.key.object ≡ o) (fresh : IsOne q.key.chunk → ⊥)
     (grow : (c : ℕ) → IsOne c → IsMore c) (this : IsMore q.key.chunk) (only : (c : ℕ) → IsMore c → IsOne c ⊎ (c ≡ q.key.chunk)) where
   -- of a key that an earlier page has, the last is not
-  not_last : (p c i : ℕ) → IsOf (pages ++ q ∷ []) p c i → ((i ≡ length pages) × (q.key.object ≡ p) × (q.key.chunk ≡ c)) ⊎ IsOf pages p c i
+  not_last : (p c i : ℕ) → IsPageOf (pages ++ q ∷ []) p c i → ((i ≡ length pages) × (q.key.object ≡ p) × (q.key.chunk ≡ c)) ⊎ IsPageOf pages p c i
   not_last p c i is = elim (slice_get_push pages q i is.page is.there) [
     | inl there ↦ inr (record { page = is.page; there = there; object = is.object; chunk = is.chunk })
     | inr last ↦ inl (last.0, ap (λ (x : FreshPage). x.key.object) last.1 ∙ is.object, ap (λ (x : FreshPage). x.key.chunk) last.1 ∙ is.chunk)
   ]
 
-  no_other : (p c i : ℕ) → q.key.chunk ≡ c → IsOf pages p c i → ⊥
+  no_other : (p c i : ℕ) → q.key.chunk ≡ c → IsPageOf pages p c i → ⊥
   no_other p c i same is = fresh (subst IsOne (is.chunk ∙ sym same) (of.each i is.page is.there).1)
 
   -- one page more

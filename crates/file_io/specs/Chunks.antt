@@ -1,7 +1,7 @@
 -- The chunks of a file, counted from 0: chunk k of its bytes is chunk 1 + k of the object.
 use Rattle.std.specs.Prelude.{◌≡◌, ◌<◌, ◌≤◌, ◌⊎◌, ℕ, zero, suc, ◌+◌, ◌-◌, ◌*◌, ◌/◌, ◌%◌, true, List, ◌++◌, length, take, drop, slice_get, slice_index, Option, Some, None}
 use Rattle.page_tags.specs.Headers.{is_present}
-use Rattle.pages.specs.Maps.{IsOf, PageMap}
+use Rattle.pages.specs.Maps.{IsPageOf, PageMap}
 use Rattle.pages.specs.Changes.{AreApart}
 use Rattle.flash_tree.specs.declared.place.FreshPage.{FreshPage}
 
@@ -32,7 +32,7 @@ HoldChunks d bytes pages = (i k : ℕ) (p : FreshPage) → slice_get pages i ≡
 -- the pages are of these chunks of the object, one of each
 pub record AreOf (o : ℕ) (IsOne : ℕ → Type 0) (pages : List FreshPage) : Type 0 where
   pub each : (i : ℕ) (p : FreshPage) → slice_get pages i ≡ Some p → (p.key.object ≡ o) × IsOne p.key.chunk
-  pub all : (c : ℕ) → IsOne c → (i : ℕ) × IsOf pages o c i
+  pub all : (c : ℕ) → IsOne c → (i : ℕ) × IsPageOf pages o c i
   pub apart : AreApart pages
 
 -- The last chunk of a file of this length, where it is present, partly used, and before chunk k.

@@ -4,7 +4,7 @@ ghost use Rattle.page_tags.specs.Headers.{greatest_length, is_present};
 ghost use Rattle.page_tags.specs.declared.header.ObjectKind.TheVariants as kinds;
 ghost use Rattle.posix_profile.specs.Changes.{written};
 ghost use Rattle.volume_terms.specs.Sizes.{Sizes};
-ghost use Rattle.pages.specs.Maps.{changed, IsOf};
+ghost use Rattle.pages.specs.Maps.{changed, IsPageOf};
 ghost use Rattle.pages.specs.Changes.{AreSized, IsChange, IsNothing, IsOnlyOf};
 ghost use Rattle.pages.specs.State.{OnlyFinds};
 ghost use Rattle.file_io.specs.Files.{Becomes, FileIn, HasFileHeader, HasPages};
@@ -143,7 +143,7 @@ pub fn write_at<P: Pages>(
         → IfOk result (λ change. IsChange change (P.state pages.old).page_bytes (chunks + 3)) }
     ensures quiet { (z : Sizes) (before : ℕ) (all : List ℕ) (f : FileIn (P.state pages.old) z object before all) → moment ≡ before → offset + length bytes.now ≤ length all
         → ((c : ℕ) → IsAmong (offset / z.page_bytes) ((offset + length bytes.now - 1) / z.page_bytes + 1) c → is_present f.reads.fields.bits c ≡ true)
-        → IfOk result (λ change. (i : ℕ) → IsOf change.pages.items object 0 i → ⊥) }
+        → IfOk result (λ change. (i : ℕ) → IsPageOf change.pages.items object 0 i → ⊥) }
     ensures asked { (z : Sizes) (before : ℕ) (all : List ℕ) (f : FileIn (P.state pages.old) z object before all)
         → (P.state pages.new).asked ≤ (P.state pages.old).asked + 1 + min 1 (offset - length all)
         + min 1 (offset % z.page_bytes) + min 1 ((offset + length bytes.now) % z.page_bytes) }

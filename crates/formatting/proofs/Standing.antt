@@ -7,11 +7,11 @@ use Rattle.nand_model.specs.Calls.{Device}
 use Rattle.nand_model.specs.declared.geometry.Geometry.{Geometry}
 use Rattle.page_tags.specs.declared.tag.Tag.{Tag}
 use Rattle.flash_tree.specs.declared.place.FreshPage.{FreshPage}
-use Rattle.formatting.specs.Formatting.{Keeps, AreReady, OthersStay, single_tag, HasFirstPage, Takes, StandsAlone, StandsFirst}
+use Rattle.formatting.specs.Formatting.{Keeps, AreClear, OthersStay, single_tag, HasFirstPage, Takes, StandsAlone, StandsFirst}
 
 -- Where the blocks before one are bad and those after it are ready, its first page is the only one.
 pub stands_alone : (d : Device) (b : ℕ) (bytes : List ℕ) (tag : Tag) → d.honest ≡ true → IsClean d.flash → IsWithin d.geometry.pages d.geometry.blocks d.flash
-    → HasFirstPage d b bytes tag → ((k : ℕ) → k < b → d.flash.bad k ≡ true) → AreReady d (b + 1) → StandsAlone d.flash bytes tag
+    → HasFirstPage d b bytes tag → ((k : ℕ) → k < b → d.flash.bad k ≡ true) → AreClear d (b + 1) → StandsAlone d.flash bytes tag
 stands_alone d b bytes tag honest clean within has before after = record { block = b; good = has.good; page = has.page honest; others = others } where
   others : (k l : ℕ) → d.flash.bad k ≡ false → (k ≢ b) ⊎ (l ≢ 0) → d.flash.page k l ≡ Erased
   others k l good apart = elim (cases_order k b) [
@@ -30,7 +30,7 @@ stands_alone d b bytes tag honest clean within has before after = record { block
 
 -- The page that a block took, after others failed, is the only one.
 pub stands_first : (old mid new : Device) (b failed : ℕ) (page : FreshPage) → Keeps old mid → Keeps mid new → mid.failures ≡ old.failures + failed → failed ≤ b → b < old.geometry.blocks
-    → ((k : ℕ) → k < b → mid.flash.bad k ≡ true) → AreReady mid b → OthersStay b mid.flash new.flash → Takes mid new b page.bytes.items (single_tag page.key (failed + 1)) true
+    → ((k : ℕ) → k < b → mid.flash.bad k ≡ true) → AreClear mid b → OthersStay b mid.flash new.flash → Takes mid new b page.bytes.items (single_tag page.key (failed + 1)) true
     → (new.honest ≡ true → IsClean new.flash) → IsWithin new.geometry.pages new.geometry.blocks new.flash → StandsFirst old new page
 stands_first old mid new b failed page first then count few inside bad ready others takes clean within = record {
   alone = λ honest.
@@ -43,7 +43,7 @@ stands_first old mid new b failed page first then count few inside bad ready oth
   before : (k : ℕ) → k < b → new.flash.bad k ≡ true
   before k lt = (others k (λ same. omega arith)).0 ∙ bad k lt
 
-  after : AreReady new (b + 1)
+  after : AreClear new (b + 1)
   after k past lt good =
       let stays = others k (λ same. omega arith) in
       let there : k < mid.geometry.blocks = subst (λ (g : Geometry). k < g.blocks) then.lasts.geometry lt in

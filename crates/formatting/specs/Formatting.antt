@@ -17,12 +17,12 @@ pub record Keeps (old new : Device) : Type 0 where
   pub new_bad : bad_blocks old.geometry new.flash ≤ bad_blocks old.geometry old.flash + (new.failures - old.failures)
 
 -- the block is bad, or its first page can be programmed, and so all its pages are erased
-abbrev pub IsReady : Flash → ℕ → Type 0
-IsReady flash b = flash.bad b ≡ false → flash.next b ≡ Some 0
+abbrev pub IsClear : Flash → ℕ → Type 0
+IsClear flash b = flash.bad b ≡ false → flash.next b ≡ Some 0
 
 -- every block from this one on is ready
-abbrev pub AreReady : Device → ℕ → Type 0
-AreReady device first = (b : ℕ) → first ≤ b → b < device.geometry.blocks → IsReady device.flash b
+abbrev pub AreClear : Device → ℕ → Type 0
+AreClear device first = (b : ℕ) → first ≤ b → b < device.geometry.blocks → IsClear device.flash b
 
 -- mark and next page of every block but this one are as they were
 abbrev pub OthersStay : ℕ → Flash → Flash → Type 0

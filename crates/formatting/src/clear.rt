@@ -1,6 +1,6 @@
 // The erasing of a device.
 ghost use Rattle.std.specs.Prelude.{◌≡◌, ◌<◌, true, OnOk, OnErr};
-ghost use Rattle.formatting.specs.Formatting.{Keeps, IsReady, AreReady, OthersStay};
+ghost use Rattle.formatting.specs.Formatting.{Keeps, IsClear, AreClear, OthersStay};
 
 use nand_model::{EraseFault, Gone, Nand};
 
@@ -10,7 +10,7 @@ fn clear<N: Nand>(device: &mut N, block: u32) -> Result<(), Gone>
     requires { block < (N.state device.old).geometry.blocks }
     ensures keeps { Keeps (N.state device.old) (N.state device.new) }
     ensures others { OthersStay block (N.state device.old).flash (N.state device.new).flash }
-    ensures ready { OnOk result (IsReady (N.state device.new).flash block) }
+    ensures ready { OnOk result (IsClear (N.state device.new).flash block) }
     ensures gone { OnErr result ((N.state device.new).gone ≡ true) }
 {
     if device.is_bad(block) {
@@ -26,7 +26,7 @@ fn clear<N: Nand>(device: &mut N, block: u32) -> Result<(), Gone>
 /// Erases every good block, and marks those where that fails.
 pub(crate) fn clear_all<N: Nand>(device: &mut N) -> Result<(), Gone>
     ensures keeps { Keeps (N.state device.old) (N.state device.new) }
-    ensures ready { OnOk result (AreReady (N.state device.new) 0) }
+    ensures ready { OnOk result (AreClear (N.state device.new) 0) }
     ensures gone { OnErr result ((N.state device.new).gone ≡ true) }
 {
     for block in 0..device.geometry().blocks() {

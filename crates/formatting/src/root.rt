@@ -1,6 +1,6 @@
 // The writing of the root.
 ghost use Rattle.std.specs.Prelude.{◌≡◌, ◌<◌, ◌+◌, ℕ, true, false, length, Some, IfOk, OnErr};
-ghost use Rattle.formatting.specs.Formatting.{Keeps, AreReady, OthersStay, single_tag, HasFirstPage, Takes, StandsFirst};
+ghost use Rattle.formatting.specs.Formatting.{Keeps, AreClear, OthersStay, single_tag, HasFirstPage, Takes, StandsFirst};
 
 use flash_tree::FreshPage;
 use nand_model::{Gone, Nand, ProgramFault};
@@ -47,7 +47,7 @@ fn write_at<N: Nand>(
 /// with the next. Whether a block took it.
 pub(crate) fn write_first<N: Nand>(device: &mut N, page: &FreshPage) -> Result<bool, Gone>
     requires size { length page.now.bytes.items ≡ (N.state device.old).geometry.bytes }
-    requires ready { AreReady (N.state device.old) 0 }
+    requires ready { AreClear (N.state device.old) 0 }
     ensures keeps { Keeps (N.state device.old) (N.state device.new) }
     ensures stands { IfOk result (λ took. took ≡ true → StandsFirst (N.state device.old) (N.state device.new) page.now) }
     ensures worn { IfOk result (λ took. took ≡ false → (b : ℕ) → b < (N.state device.old).geometry.blocks → (N.state device.new).flash.bad b ≡ true) }

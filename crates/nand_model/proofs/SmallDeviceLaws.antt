@@ -3,7 +3,7 @@ use Rattle.std.specs.Prelude.{◌≡◌, ℕ, Bool, false, List, Result}
 use Rattle.std.proofs.Common.{ap, sym, subst, ◌∙◌}
 use Rattle.nand_model.specs.Calls.{Device, Reads, Programs, Erases}
 use Rattle.nand_model.specs.Changes.{PowersUp}
-use Rattle.nand_model.specs.SmallDevices.{IsSmall, IsOpen}
+use Rattle.nand_model.specs.SmallDevices.{IsSmall, TakesPage}
 use Rattle.nand_model.specs.declared.geometry.Geometry.{Geometry}
 use Rattle.nand_model.specs.declared.nand.PageKind.{PageKind}
 use Rattle.nand_model.specs.declared.nand.Gone.{Gone}
@@ -22,8 +22,8 @@ small_kept old new small geometry bad = record {
 pub small_same : (old new : Device) → IsSmall old → new ≡ old → IsSmall new
 small_same old new small same = subst IsSmall (sym same) small
 
-pub open_same : (old new : Device) → new ≡ old → (p : ℕ) → IsOpen p old → IsOpen p new
-open_same old new same p was = subst (IsOpen p) (sym same) was
+pub open_same : (old new : Device) → new ≡ old → (p : ℕ) → TakesPage p old → TakesPage p new
+open_same old new same p was = subst (TakesPage p) (sym same) was
 
 pub small_read : (old new : Device) (result : Result PageKind Gone) → IsSmall old → Reads old new result → IsSmall new
 small_read old new result small does = small_kept old new small does.lasts.geometry does.bad
@@ -40,7 +40,7 @@ small_erase b old new result small does = small_kept old new small does.lasts.ge
 pub ruleset small_laws = (small_same, open_same, small_read, small_up, small_program, small_erase)
 
 -- a fuse leaves it
-pub open_unsteady : (page : ℕ) (d : Device) → IsOpen page d → IsOpen page (record d { steady = false })
+pub open_unsteady : (page : ℕ) (d : Device) → TakesPage page d → TakesPage page (record d { steady = false })
 open_unsteady page d is = record {
   small = record { bytes = is.small.bytes; pages = is.small.pages; blocks = is.small.blocks; good = is.small.good };
   next = is.next;

@@ -10,6 +10,6 @@ pub record IsSmall (device : Device) : Type 0 where
   pub good : device.flash.bad 1 ≡ false
 
 -- and this page of block 1 is the next
-pub record IsOpen (page : ℕ) (device : Device) : Type 0 where
+pub record TakesPage (page : ℕ) (device : Device) : Type 0 where
   pub small : IsSmall device
   pub next : device.flash.next 1 ≡ Some page

@@ -3,7 +3,7 @@
 
 ghost use Rattle.std.specs.Prelude.{◌+◌, ◌<◌, IfOk, OnOk};
 ghost use Rattle.nand_model.specs.MemoryState.{device};
-ghost use Rattle.nand_model.specs.SmallDevices.{IsSmall, IsOpen};
+ghost use Rattle.nand_model.specs.SmallDevices.{IsSmall, TakesPage};
 
 use super::*;
 use std::alloc::Global;
@@ -24,7 +24,7 @@ fn small(alloc: Global) -> Result<MemNand, Fail>
 
 /// Block 1 is erased, by call 1.
 fn erased(alloc: Global) -> Result<MemNand, Fail>
-    ensures { IfOk result (λ d. IsOpen 0 (device d)) }
+    ensures { IfOk result (λ d. TakesPage 0 (device d)) }
 {
     let mut nand = small(alloc)?;
     nand.erase(1)?;
@@ -34,8 +34,8 @@ fn erased(alloc: Global) -> Result<MemNand, Fail>
 /// Writes the next page of block 1.
 fn write(nand: &mut MemNand, page: u32) -> Result<(), Fail>
     requires page { page < 32 }
-    requires open { IsOpen page (device nand.old) }
-    ensures { OnOk result (IsOpen (page + 1) (device nand.new)) }
+    requires open { TakesPage page (device nand.old) }
+    ensures { OnOk result (TakesPage (page + 1) (device nand.new)) }
 {
     nand.program(1, page, &DATA, &TAG)?;
     Ok(())
@@ -43,7 +43,7 @@ fn write(nand: &mut MemNand, page: u32) -> Result<(), Fail>
 
 /// Block 1 has five written pages, by calls 1 to 6.
 fn written(alloc: Global) -> Result<MemNand, Fail>
-    ensures { IfOk result (λ d. IsOpen 5 (device d)) }
+    ensures { IfOk result (λ d. TakesPage 5 (device d)) }
 {
     let mut nand = erased(alloc)?;
     write(&mut nand, 0)?;
@@ -55,28 +55,28 @@ fn written(alloc: Global) -> Result<MemNand, Fail>
 }
 
 fn erased_cut(alloc: Global, call: u64, fates: Vec<Fate>) -> Result<MemNand, Fail>
-    ensures { IfOk result (λ d. IsOpen 0 (device d)) }
+    ensures { IfOk result (λ d. TakesPage 0 (device d)) }
 {
     let nand = erased(alloc)?;
     Ok(nand.with_fuse(call, fates))
 }
 
 fn erased_failing(alloc: Global, failures: Vec<(u64, Vec<Fate>)>) -> Result<MemNand, Fail>
-    ensures { IfOk result (λ d. IsOpen 0 (device d)) }
+    ensures { IfOk result (λ d. TakesPage 0 (device d)) }
 {
     let nand = erased(alloc)?;
     Ok(nand.with_failures(failures))
 }
 
 fn written_cut(alloc: Global, call: u64, fates: Vec<Fate>) -> Result<MemNand, Fail>
-    ensures { IfOk result (λ d. IsOpen 5 (device d)) }
+    ensures { IfOk result (λ d. TakesPage 5 (device d)) }
 {
     let nand = written(alloc)?;
     Ok(nand.with_fuse(call, fates))
 }
 
 fn written_failing(alloc: Global, failures: Vec<(u64, Vec<Fate>)>) -> Result<MemNand, Fail>
-    ensures { IfOk result (λ d. IsOpen 5 (device d)) }
+    ensures { IfOk result (λ d. TakesPage 5 (device d)) }
 {
     let nand = written(alloc)?;
     Ok(nand.with_failures(failures))

@@ -21,7 +21,7 @@ use Rattle.chunk_index.specs.declared.index.Index.{Index}
 use Rattle.chunk_index.specs.Counts.{Recounts}
 use Rattle.chunk_index.specs.Entries.{as_kept}
 use Rattle.chunk_index.specs.Maps.{kept_pages, present, kept_in, CountsAgree}
-use Rattle.chunk_index.specs.Newest.{Indexes, IsOf, page_of}
+use Rattle.chunk_index.specs.Newest.{Indexes, IsFoundOf, page_of}
 use Rattle.page_buffer.specs.Buffering.{IsUnbuffered}
 use Rattle.transactions.specs.Ready.{IsReady}
 use Rattle.mount_scan.specs.Scanned.{AreNewest, TellsNewest}
@@ -72,18 +72,18 @@ notes_same a b t t' v same notes = subst (λ (fs : List Found). NotesSeq fs (len
 -- ---- what was found is kept
 
 abbrev FindsOne : List Found → ℕ → ℕ → Type 0
-FindsOne list o c = (i : ℕ) × (f : Found) × (slice_get list i ≡ Some f) × IsOf o c f
+FindsOne list o c = (i : ℕ) × (f : Found) × (slice_get list i ≡ Some f) × IsFoundOf o c f
 
 abbrev FindsNone : List Found → ℕ → ℕ → Type 0
-FindsNone list o c = (i : ℕ) (f : Found) → slice_get list i ≡ Some f → IsOf o c f → ⊥
+FindsNone list o c = (i : ℕ) (f : Found) → slice_get list i ≡ Some f → IsFoundOf o c f → ⊥
 
-none_first : (f : Found) (list : List Found) (o c : ℕ) → (IsOf o c f → ⊥) → FindsNone list o c → FindsNone (f ∷ list) o c
+none_first : (f : Found) (list : List Found) (o c : ℕ) → (IsFoundOf o c f → ⊥) → FindsNone list o c → FindsNone (f ∷ list) o c
 none_first f list o c not rest zero g at of =
     let same : f ≡ g = cc in
-    not (subst (IsOf o c) (sym same) of)
+    not (subst (IsFoundOf o c) (sym same) of)
 none_first f list o c not rest (suc i) g at of = rest i g at of
 
-later : (f : Found) (list : List Found) (o c : ℕ) → (IsOf o c f → ⊥) → FindsOne list o c ⊎ FindsNone list o c → FindsOne (f ∷ list) o c ⊎ FindsNone (f ∷ list) o c
+later : (f : Found) (list : List Found) (o c : ℕ) → (IsFoundOf o c f → ⊥) → FindsOne list o c ⊎ FindsNone list o c → FindsOne (f ∷ list) o c ⊎ FindsNone (f ∷ list) o c
 later f list o c not (inl one) = inl (suc one.0, one.1, one.2, one.3)
 later f list o c not (inr none) = inr (none_first f list o c not none)
 
@@ -103,7 +103,7 @@ finds (f ∷ list) o c = elim (cases_eq f.tag.object o) [
 ]
 
 module _ (list : List Found) (x : Index) (indexes : Indexes list (length list) x) where
-  elsewhere : (o c : ℕ) → FindsNone list o c → (i : ℕ) (d : Found) → i < length list → IsOf o c (get_or list i d) → ⊥
+  elsewhere : (o c : ℕ) → FindsNone list o c → (i : ℕ) (d : Found) → i < length list → IsFoundOf o c (get_or list i d) → ⊥
   elsewhere o c none i d lt of = none i (get_or list i d) (slice_get-get_or list i d lt) of
 
   kept_found : (i : ℕ) (f : Found) → slice_get list i ≡ Some f → kept_pages x f.tag.object f.tag.chunk ≡ Some (page_of f)
@@ -113,7 +113,7 @@ module _ (list : List Found) (x : Index) (indexes : Indexes list (length list) x
   present_found i f at = subst (λ (g : Found). present x g.tag.object g.tag.chunk ≡ presents.OnFlash (page_of g)) (get_or_from_slice_get list i f f at) (indexes.present_here i f (slice_get_within list i f at))
 
   -- a page that is kept was found
-  pub was_found : (o c : ℕ) (p : KeptPage) → kept_pages x o c ≡ Some p → (i : ℕ) × (f : Found) × (slice_get list i ≡ Some f) × IsOf o c f × (page_of f ≡ p)
+  pub was_found : (o c : ℕ) (p : KeptPage) → kept_pages x o c ≡ Some p → (i : ℕ) × (f : Found) × (slice_get list i ≡ Some f) × IsFoundOf o c f × (page_of f ≡ p)
   was_found o c p kept = elim (finds list o c) [
     | inl one ↦
         let f : Found = one.1 in
@@ -168,7 +168,7 @@ module _ (list : List Found) (x : Index) (indexes : Indexes list (length list) x
   may_lie d t n tells geometry names le o c p kept =
       let was = was_found o c p kept in
       let f : Found = was.1 in
-      let of : IsOf o c f = was.3 in
+      let of : IsFoundOf o c f = was.3 in
       let within = lies_within d tells o c p kept in
       let name = names was.0 f was.2 in
       let version : f.tag.version ≡ p.version = ap (λ (q : KeptPage). q.version) was.4 in
@@ -187,7 +187,7 @@ module _ (list : List Found) (x : Index) (indexes : Indexes list (length list) x
   are_kept d tells honest o c p kept =
       let was = was_found o c p kept in
       let f : Found = was.1 in
-      let of : IsOf o c f = was.3 in
+      let of : IsFoundOf o c f = was.3 in
       let newest = is_newest d.flash list was.0 f (tells.exact honest) was.2 in
       let there : IsNewest d.flash o c (spot_of f) = subst (λ k. IsNewest d.flash o k (spot_of f)) of.1 (subst (λ k. IsNewest d.flash k f.tag.chunk (spot_of f)) of.0 newest) in
       subst (λ (q : KeptPage). IsKeptAt d.flash o c q) was.4 (record { tag = f.tag; newest = there; version = refl })

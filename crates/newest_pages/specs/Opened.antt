@@ -12,7 +12,7 @@ use Rattle.chunk_index.specs.Entries.{as_kept}
 use Rattle.chunk_index.specs.Maps.{kept_pages, present, CountsAgree}
 use Rattle.page_buffer.specs.Buffering.{IsUnbuffered}
 use Rattle.transactions.specs.Ready.{IsReady}
-use Rattle.transactions.specs.Sources.{IsName, name_of}
+use Rattle.transactions.specs.Sources.{IsPageName, name_of}
 use Rattle.bad_blocks.specs.Standing.{AreKept, MayLie}
 use Rattle.mount_scan.specs.declared.fault.ScanFault.{ScanFault}
 use Rattle.mount_scan.specs.declared.fault.ScanFault.TheVariants as scans
@@ -21,7 +21,7 @@ use Rattle.newest_pages.specs.declared.opening.OpenFault.TheVariants as faults
 
 -- each page may be named in a tag of the group of this number
 abbrev pub HaveNames : ℕ → List Found → Type 0
-HaveNames number list = (i : ℕ) (f : Found) → slice_get list i ≡ Some f → IsName number (name_of f.tag)
+HaveNames number list = (i : ℕ) (f : Found) → slice_get list i ≡ Some f → IsPageName number (name_of f.tag)
 
 -- there are numbers left above these
 abbrev pub AreLeft : Numbers → Type 0

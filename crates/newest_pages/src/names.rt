@@ -1,13 +1,13 @@
 // Whether what a scan found may be copied.
 ghost use Rattle.std.specs.Prelude.{◌↔◌, IsTrue};
-ghost use Rattle.transactions.specs.Sources.{IsName, name_of};
+ghost use Rattle.transactions.specs.Sources.{IsPageName, name_of};
 ghost use Rattle.newest_pages.specs.Opened.{HaveNames};
 
 use flash_tree::Found;
 
 /// Whether the page's name may stand in a tag of the group of this number.
 fn has_name(found: Found, number: u64) -> bool
-    ensures { IsTrue result ↔ IsName number (name_of found.tag) }
+    ensures { IsTrue result ↔ IsPageName number (name_of found.tag) }
 {
     found.tag.object >= 1 && found.tag.version >= 1 && found.tag.version <= number
 }

@@ -17,7 +17,7 @@ use Rattle.object_store.specs.Stores.{Meaning, IsLawful, Has}
 use Rattle.object_store.specs.laws.Store.{has_on}
 use Rattle.object_store.specs.declared.refusal.Refusal.{Refusal}
 use Rattle.command_plans.specs.Classes.{Class, Telling, Changing, Syncing, class_of, is_error}
-use Rattle.object_commands.specs.Endings.{IsAt, Leaves, IsDone, IsStopped, Ends}
+use Rattle.object_commands.specs.Endings.{IsAt, Leaves, IsDone, IsStopped, CommandEnds}
 use Rattle.command_plans.specs.Plans.{IsPlan, Plans, Suits, Did, worked, planned, handled}
 use Rattle.command_plans.specs.Tables.{handles_in}
 use Rattle.command_plans.specs.declared.plan.Plan.{Plan}
@@ -112,7 +112,7 @@ error_ends m law z class s meant e a b at is reads same goes = subst (λ o. IsDo
 
 -- a plan that is carried out after calls that read; it takes memory only where the command may
 pub ends_on : {S : Type 0} (m : Meaning S) (law : IsLawful m) (z : Sizes) (class : Class) (frees takes_none : Bool) (s : State) (meant : Outcome) (a b c : Volume S) (told : Reply)
-    → m.reads a.store b.store → (takes_none ≡ true → frees ≡ true) → Ends m z class frees s meant b c told → Ends m z class takes_none s meant a c told
+    → m.reads a.store b.store → (takes_none ≡ true → frees ≡ true) → CommandEnds m z class frees s meant b c told → CommandEnds m z class takes_none s meant a c told
 ends_on m law z class frees takes_none s meant a b c told reads none (inl done) = inl (record {
   reply = done.reply;
   state = done.state;

@@ -17,7 +17,7 @@ use Rattle.posix_profile.specs.declared.reply.Reply.{Reply}
 use Rattle.posix_profile.specs.declared.reply.Reply.TheVariants as replies
 use Rattle.object_store.specs.Stores.{Meaning, IsLawful}
 use Rattle.command_plans.specs.Classes.{class_of}
-use Rattle.object_commands.specs.Endings.{IsAt, Ends}
+use Rattle.object_commands.specs.Endings.{IsAt, CommandEnds}
 use Rattle.object_commands.specs.Running.{StaysStopped, Failure, Ran, Runs}
 use Rattle.object_commands.specs.laws.Steps.{One, one_ends, error_unsynced}
 use Rattle.object_commands.specs.declared.volume.Volume.{Volume}
@@ -127,7 +127,7 @@ ran_stopped m z s cs rs c r a b d at ran stopped told same =
 pub runs_more : {S : Type 0} (m : Meaning S) (law : IsLawful m) (cs : List Stamped) (n : ℕ) (before now next : List Reply) (c : Stamped) (r : Reply) (a b d : Volume S)
     → Runs m cs n before now a b → slice_get cs n ≡ Some c → next ≡ now ++ r ∷ [] → b.read_only ≡ a.read_only → m.lasts a.store b.store
     → (b.stopped ≡ true → (r ≡ replies.Error errors.EIO) × (d ≡ b)) → (b.stopped ≡ false → d.stopped ≡ is_stop r)
-    → (b.stopped ≡ false → (z : Sizes) (s : State) → IsAt m z s b → Ends m z (class_of c.command) (takes_no_memory c.command) s (step z b.read_only s c) b d r)
+    → (b.stopped ≡ false → (z : Sizes) (s : State) → IsAt m z s b → CommandEnds m z (class_of c.command) (takes_no_memory c.command) s (step z b.read_only s c) b d r)
     → Runs m cs (n + 1) before next a d
 runs_more m law cs n before now next c r a b d runs is pushed same lasts stays stops goes =
     let at : slice_get cs (length runs.answered) ≡ Some c = ap (slice_get cs) runs.count ∙ is in
@@ -149,7 +149,7 @@ runs_more m law cs n before now next c r a b d runs is pushed same lasts stays s
                 let x = after z a.read_only s cs runs.answered in
                 let ended = goes still z x (ran.state still) in
                 ran_more m z s cs runs.answered c r a b d at ran still lasts
-                (one_ends m law z a.read_only x c r b d (subst (λ ro. Ends m z (class_of c.command) (takes_no_memory c.command) x (step z ro x c) b d r) same ended))
+                (one_ends m law z a.read_only x c r b d (subst (λ ro. CommandEnds m z (class_of c.command) (takes_no_memory c.command) x (step z ro x c) b d r) same ended))
           ];
     }
 

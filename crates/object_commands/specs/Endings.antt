@@ -46,8 +46,8 @@ pub record IsStopped {S : Type 0} (m : Meaning S) (s : State) (meant : Outcome) 
   pub stops : b.stopped ≡ true
 
 -- how a command that means this ends; one that takes no memory is not passed over for it
-abbrev pub Ends : {S : Type 0} (m : Meaning S) → Sizes → Class → Bool → State → Outcome → Volume S → Volume S → Reply → Type 0
-Ends m z class takes_none s meant a b told =
+abbrev pub CommandEnds : {S : Type 0} (m : Meaning S) → Sizes → Class → Bool → State → Outcome → Volume S → Volume S → Reply → Type 0
+CommandEnds m z class takes_none s meant a b told =
     IsDone m z class s meant a b told
     ⊎ ((takes_none ≡ false) × IsPassedOver m z s a b told)
     ⊎ IsStopped m s meant a b told

@@ -136,7 +136,7 @@ pub struct Volume<S> {
 
 impl<S: ObjectStore> Volume<S> {
     ghost use Rattle.object_commands.specs.Volumes.{store_of, handles_of, is_read_only, is_stopped};
-    ghost use Rattle.object_commands.specs.Endings.{IsAt, Ends};
+    ghost use Rattle.object_commands.specs.Endings.{IsAt, CommandEnds};
     ghost use Rattle.object_commands.specs.Running.{Runs};
 
     /// A volume over the store: no descriptor is open.
@@ -215,7 +215,7 @@ impl<S: ObjectStore> Volume<S> {
         ensures leaves { leaves_device plan.entry.work ≡ true → S.meaning.leaves (store_of self.old) (store_of self.new) }
         ensures ends { (z : Sizes) (s : State) → IsAt S.meaning z s self.old
             → (class : Class) (meant : Outcome) → IsPlan z class s meant plan.entry → IsSound z meant.state → is_stop meant.reply ≡ false
-            → Ends S.meaning z class (frees plan.entry.work) s meant self.old (record self.new { stopped = is_stop result }) result }
+            → CommandEnds S.meaning z class (frees plan.entry.work) s meant self.old (record self.new { stopped = is_stop result }) result }
     {
         match work(&mut self.store, &plan.work) {
             Ok(()) => {
@@ -234,7 +234,7 @@ impl<S: ObjectStore> Volume<S> {
         ensures lasts { S.meaning.lasts (store_of self.old) (store_of self.new) }
         ensures leaves { makes_no_call stamped.now.command ≡ true → S.meaning.leaves (store_of self.old) (store_of self.new) }
         ensures ends { (z : Sizes) (s : State) → IsAt S.meaning z s self.old
-            → Ends S.meaning z (class_of stamped.now.command) (takes_no_memory stamped.now.command) s (step z (is_read_only self.old) s stamped.now)
+            → CommandEnds S.meaning z (class_of stamped.now.command) (takes_no_memory stamped.now.command) s (step z (is_read_only self.old) s stamped.now)
             self.old (record self.new { stopped = is_stop result }) result }
     {
         is_stamped(stamped);
@@ -261,7 +261,7 @@ impl<S: ObjectStore> Volume<S> {
         ensures stopped { is_stopped self.old ≡ true → (result ≡ replies.Error errors.EIO) × (self.new ≡ self.old) }
         ensures stops { is_stopped self.old ≡ false → is_stopped self.new ≡ is_stop result }
         ensures ends { is_stopped self.old ≡ false → (z : Sizes) (s : State) → IsAt S.meaning z s self.old
-            → Ends S.meaning z (class_of stamped.now.command) (takes_no_memory stamped.now.command) s (step z (is_read_only self.old) s stamped.now) self.old self.new result }
+            → CommandEnds S.meaning z (class_of stamped.now.command) (takes_no_memory stamped.now.command) s (step z (is_read_only self.old) s stamped.now) self.old self.new result }
     {
         if self.stopped {
             return Reply::Error(Errno::EIO);

@@ -15,7 +15,7 @@ use Rattle.object_store.specs.declared.change.ObjectChange.{ObjectChange}
 use Rattle.object_store.specs.declared.change.ObjectChange.TheVariants as changes
 use Rattle.flash_tree.specs.declared.place.FreshPage.{FreshPage}
 use Rattle.pages.specs.Changes.{AreApart}
-use Rattle.pages.specs.Maps.{PageMap, changed, IsOf}
+use Rattle.pages.specs.Maps.{PageMap, changed, IsPageOf}
 use Rattle.pages.specs.laws.Maps.{here}
 use Rattle.pages.specs.declared.change.Change.{Change}
 use Rattle.object_pages.specs.Holding.{HoldsObject, HoldsObjects, CanHave}
@@ -85,7 +85,7 @@ made_numbered z objects can change sensible = go change sensible
 
 -- a page of a change is of an object that is there afterwards
 page_there : (z : Sizes) (m : PageMap) (change : Change) (objects : Objects) → AreApart change.pages.items → HoldsObjects z (changed change m) objects
-    → (o c i : ℕ) → IsOf change.pages.items o c i → (x : Object) × (map.get objects o ≡ Some x)
+    → (o c i : ℕ) → IsPageOf change.pages.items o c i → (x : Object) × (map.get objects o ≡ Some x)
 page_there z m change objects apart holds o c i is = go (map.get objects o) (holds.each o)
   where
     written : changed change m o c ≡ Some is.page.bytes.items

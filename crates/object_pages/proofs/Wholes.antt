@@ -6,7 +6,7 @@ use Rattle.std.specs.FinMap as map
 use Rattle.posix_profile.specs.State.{Objects}
 use Rattle.volume_terms.specs.Sizes.{Sizes}
 use Rattle.pages.specs.Changes.{AreApart, AreSized, IsOnlyOf}
-use Rattle.pages.specs.Maps.{PageMap, is_of, with_pages, without_cuts, changed, IsOf, IsCut}
+use Rattle.pages.specs.Maps.{PageMap, is_of, with_pages, without_cuts, changed, IsPageOf, IsCut}
 use Rattle.pages.specs.laws.Changes.{others_keep}
 use Rattle.pages.specs.laws.Maps.{key_cases, gone}
 use Rattle.flash_tree.specs.declared.place.FreshPage.{FreshPage}
@@ -51,7 +51,7 @@ pub none_sized : (pages : List FreshPage) (bytes : ℕ) → pages ≡ [] → Are
 none_sized pages bytes none i p is = let no' : None ≡ Some p = sym (ap (λ (ps : List FreshPage). slice_get ps i) none) ∙ is in absurd cc
 
 -- what is of no pages, and what one cut is of
-pub nothing_of : (pages : List FreshPage) (o c i : ℕ) → pages ≡ [] → IsOf pages o c i → ⊥
+pub nothing_of : (pages : List FreshPage) (o c i : ℕ) → pages ≡ [] → IsPageOf pages o c i → ⊥
 nothing_of pages o c i none is = let no' : None ≡ Some is.page = sym (ap (λ (ps : List FreshPage). slice_get ps i) none) ∙ is.there in cc
 
 first_cut : (cut : Cut) (i : ℕ) (it : Cut) → slice_get (cut ∷ []) i ≡ Some it → it ≡ cut

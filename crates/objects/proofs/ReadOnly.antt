@@ -14,7 +14,7 @@ use Rattle.nand_model.specs.Changes.{OnlyReads}
 use Rattle.nand_model.specs.declared.geometry.Geometry.{Geometry}
 use Rattle.flash_tree.specs.declared.place.FreshPage.{FreshPage}
 use Rattle.flash_tree.specs.declared.place.Key.{Key}
-use Rattle.chunk_index.specs.declared.entry.Entry.{Entry}
+use Rattle.chunk_index.specs.declared.entry.KeyEntry.{KeyEntry}
 use Rattle.chunk_index.specs.declared.entry.State.{State}
 use Rattle.chunk_index.specs.declared.entry.State.TheVariants as states
 use Rattle.chunk_index.specs.declared.form.KeptPage.{KeptPage}
@@ -61,7 +61,7 @@ by_state p (states.Buffered i) k is = absurd cc
 by_state p states.Dropped k is = absurd cc
 by_state p states.Vacant k is = absurd cc
 
-of_entry : (m : Option Entry) (k : KeptPage) → present_of m ≡ presents.OnFlash k → kept_of m ≡ Some k
+of_entry : (m : Option KeyEntry) (k : KeptPage) → present_of m ≡ presents.OnFlash k → kept_of m ≡ Some k
 of_entry None k is = absurd cc
 of_entry (Some e) k is = by_state e.kept e.state k is
 

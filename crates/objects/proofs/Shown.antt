@@ -3,9 +3,9 @@ use Rattle.std.specs.Prelude.{◌≡◌, ◌⊎◌, ◌<◌, ◌≤◌, ◌+◌,
 use Rattle.std.proofs.Common.{refl, sym, ◌∙◌, ap, subst, inl, inr, is_some, arith}
 use Rattle.std.proofs.lemmas.Bool.{cases_eq}
 use Rattle.flash_tree.specs.declared.place.FreshPage.{FreshPage}
-use Rattle.pages.specs.Maps.{PageMap, IsOf, IsCut}
+use Rattle.pages.specs.Maps.{PageMap, IsPageOf, IsCut}
 use Rattle.pages.specs.declared.change.Cut.{Cut}
-use Rattle.page_cache.specs.Slots.{Held, Place, Page, page_in}
+use Rattle.page_cache.specs.Slots.{Held, Reserved, Page, page_in}
 use Rattle.page_cache.specs.Cached.{held, cached}
 use Rattle.page_cache.specs.Changes.{KeepsSizes, HasTheSame, IsOther, Changes, Puts, DropsFrom}
 use Rattle.page_cache.specs.declared.cache.PageCache.{PageCache}
@@ -32,9 +32,9 @@ nothing_is : {A : Type 0} (m : Option (List ℕ)) (xs : List ℕ) → m ≡ None
 nothing_is m xs none is = absurd (let two : None ≡ Some xs = sym none ∙ is in cc)
 
 -- a place that was made
-pub fewer_placed : (o c : ℕ) (old new : PageCache) → Puts o c Place old new → HasNoMore old new
+pub fewer_placed : (o c : ℕ) (old new : PageCache) → Puts o c Reserved old new → HasNoMore old new
 fewer_placed o c old new puts p q xs is = elim (key_cases o c p q) [
-  | inl at ↦ nothing_is (cached new p q) xs (cached_there new o c p q (Some Place) at puts.here) is
+  | inl at ↦ nothing_is (cached new p q) xs (cached_there new o c p q (Some Reserved) at puts.here) is
   | inr other ↦ elim (puts.others p q other) [
     | inl same ↦ sym (ap (option_and_then page_in) same) ∙ is
     | inr none ↦ nothing_is (cached new p q) xs (ap (option_and_then page_in) none) is
@@ -45,7 +45,7 @@ pub fewer_same : (old new : PageCache) → HasTheSame old new → HasNoMore old 
 fewer_same old new same p q xs is = sym (ap (option_and_then page_in) (same.each p q)) ∙ is
 
 -- a place that a page left
-module _ (o c : ℕ) (old new : PageCache) (vacated : IsSome (held old o c) → Changes o c (Some Place) old new) (nothing : held old o c ≡ None → HasTheSame old new) where
+module _ (o c : ℕ) (old new : PageCache) (vacated : IsSome (held old o c) → Changes o c (Some Reserved) old new) (nothing : held old o c ≡ None → HasTheSame old new) where
   pub sizes_vacated : KeepsSizes old new
   sizes_vacated = go (held old o c) refl
     where
@@ -59,9 +59,9 @@ module _ (o c : ℕ) (old new : PageCache) (vacated : IsSome (held old o c) → 
       go : (h : Option Held) → held old o c ≡ h → cached old p q ≡ Some xs
       go None none = fewer_same old new (nothing none) p q xs is
       go (Some h) some =
-          let changes : Changes o c (Some Place) old new = vacated (ap (λ (x : Option Held). is_some x) some) in
+          let changes : Changes o c (Some Reserved) old new = vacated (ap (λ (x : Option Held). is_some x) some) in
           elim (key_cases o c p q) [
-            | inl at ↦ nothing_is (cached new p q) xs (cached_there new o c p q (Some Place) at changes.here) is
+            | inl at ↦ nothing_is (cached new p q) xs (cached_there new o c p q (Some Reserved) at changes.here) is
             | inr other ↦ sym (ap (option_and_then page_in) (changes.others p q other)) ∙ is
           ]
 
@@ -166,7 +166,7 @@ sizes_exchanged o c bytes old new taken given = go (held old o c) refl
     go (Some h) some = (taken (ap (λ (x : Option Held). is_some x) some)).sizes
 
 -- a key that the page at place i is of
-pub lacks_page : (cache : PageCache) (pages : List FreshPage) (o c i : ℕ) (p : FreshPage) → IsOf pages o c i → slice_get pages i ≡ Some p → cached cache p.key.object p.key.chunk ≡ None → cached cache o c ≡ None
+pub lacks_page : (cache : PageCache) (pages : List FreshPage) (o c i : ℕ) (p : FreshPage) → IsPageOf pages o c i → slice_get pages i ≡ Some p → cached cache p.key.object p.key.chunk ≡ None → cached cache o c ≡ None
 lacks_page cache pages o c i p of there none =
     let two : Some p ≡ Some of.page = sym there ∙ of.there in
     let one : p ≡ of.page = cc in

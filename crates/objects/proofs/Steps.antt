@@ -8,13 +8,13 @@ use Rattle.nand_model.specs.Calls.{Device}
 use Rattle.flash_tree.specs.declared.place.FreshPage.{FreshPage}
 use Rattle.flash_tree.specs.declared.place.Key.{Key}
 use Rattle.block_state.specs.Table.{Table, room}
-use Rattle.chunk_index.specs.declared.entry.Entry.{Entry}
+use Rattle.chunk_index.specs.declared.entry.KeyEntry.{KeyEntry}
 use Rattle.chunk_index.specs.declared.form.Present.{Present}
 use Rattle.chunk_index.specs.declared.form.Present.TheVariants as presents
 use Rattle.chunk_index.specs.declared.index.Index.{Index}
 use Rattle.chunk_index.specs.Entries.{stays_of}
 use Rattle.chunk_index.specs.Shelves.{look}
-use Rattle.chunk_index.specs.Maps.{present, IsPrepared, IsReady, SameKept, SamePresent}
+use Rattle.chunk_index.specs.Maps.{present, IsPrepared, IsReadyKey, SameKept, SamePresent}
 use Rattle.chunk_index.specs.laws.Maps.{agree_same}
 use Rattle.transactions.specs.Handing.{HandsOut}
 use Rattle.transactions.specs.laws.Handing.{hands_nothing}
@@ -156,10 +156,10 @@ room_after (Err fault) x buffer pages most empty few = tt
 room_after (Ok done) x buffer pages most empty few = let none : length buffer ≡ 0 = ap length empty in omega (arith, none, few_new x pages, few)
 
 -- a key that is ready is prepared
-pub ready_prepared : (x : Index) (o c : ℕ) → IsReady x o c → IsPrepared x o c
+pub ready_prepared : (x : Index) (o c : ℕ) → IsReadyKey x o c → IsPrepared x o c
 ready_prepared x o c = go (look x.shelf.objects o c)
   where
-    go : (m : Option Entry) → IsTrue (stays_of m) → IsSome m
+    go : (m : Option KeyEntry) → IsTrue (stays_of m) → IsSome m
     go None is = absurd (false≢true is)
     go (Some e) is = refl
 

@@ -1,7 +1,7 @@
 -- What the cache has of present pages.
 use Rattle.std.specs.Prelude.{◌≡◌, ℕ, List, Some, None, IsSome, slice_get}
 use Rattle.flash_tree.specs.declared.place.FreshPage.{FreshPage}
-use Rattle.pages.specs.Maps.{PageMap, IsOf, IsCut}
+use Rattle.pages.specs.Maps.{PageMap, IsPageOf, IsCut}
 use Rattle.pages.specs.declared.change.Cut.{Cut}
 use Rattle.page_cache.specs.Cached.{held, cached}
 use Rattle.page_cache.specs.declared.cache.PageCache.{PageCache}
@@ -20,7 +20,7 @@ LacksCuts cuts cache = (o c i : ℕ) → IsCut cuts o c i → cached cache o c �
 
 -- and none of a key that one of the pages is of
 abbrev pub LacksPages : List FreshPage → PageCache → Type 0
-LacksPages pages cache = (o c i : ℕ) → IsOf pages o c i → cached cache o c ≡ None
+LacksPages pages cache = (o c i : ℕ) → IsPageOf pages o c i → cached cache o c ≡ None
 
 -- each of the pages is its key's in the map
 abbrev pub AreIn : List FreshPage → PageMap → Type 0

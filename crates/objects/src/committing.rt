@@ -2,7 +2,7 @@
 ghost use Rattle.std.specs.Prelude.{◌≡◌, ◌⊎◌, ℕ, [], length, true, false, OnOk, OnErr, IfErr};
 ghost use Rattle.nand_model.specs.Calls.{Lasts};
 ghost use Rattle.block_state.specs.TableOf.{table};
-ghost use Rattle.chunk_index.specs.Maps.{IsReady as IsReadyKey};
+ghost use Rattle.chunk_index.specs.Maps.{IsReadyKey};
 ghost use Rattle.transactions.specs.Handing.{HandsOut};
 ghost use Rattle.bad_blocks.specs.Moving.{MarksFailures};
 ghost use Rattle.page_buffer.specs.BufferOf.{buffered};

@@ -5,7 +5,7 @@ use Rattle.std.proofs.lemmas.Bool.{cases_eq, cases_lt, cond-true, cond-false}
 use Rattle.std.proofs.lemmas.Option.{slice_get_within, slice_get-get_or}
 use Rattle.nand_model.specs.Flash.{Flash}
 use Rattle.flash_tree.specs.declared.place.FreshPage.{FreshPage}
-use Rattle.pages.specs.Maps.{PageMap, IsOf, takes, without_cuts}
+use Rattle.pages.specs.Maps.{PageMap, IsPageOf, takes, without_cuts}
 use Rattle.pages.specs.Changes.{AreApart}
 use Rattle.pages.specs.declared.change.Cut.{Cut}
 use Rattle.pages.specs.laws.Maps.{cut_cases}
@@ -24,7 +24,7 @@ pub record Dropping (cut : Cut) (i : ℕ) (x y : Index) (old new : List FreshPag
   pub buffers : Buffers y new
   pub kept : SameKept x y
   pub prepared : StaysPrepared x y
-  pub below : (o c k : ℕ) → k < i → IsOf new o c k → IsTaken cut o c → ⊥
+  pub below : (o c k : ℕ) → k < i → IsPageOf new o c k → IsTaken cut o c → ⊥
   pub others : (flash : Flash) (o c : ℕ) → (IsTaken cut o c → ⊥) → present_data y new flash o c ≡ present_data x old flash o c
   pub room : (ps : List FreshPage) → AreApart ps → with_new y new ps ≤ with_new x old ps
   pub within : i ≤ length new
@@ -75,13 +75,13 @@ dropping_goes cut i x y z old mid new p at taken d b kept prepared drops = recor
       omega (arith, less, drops.fewer, d.room ps apart);
   within = let lt : i < length mid = slice_get_within mid i p at in omega (arith, lt, drops.fewer);
 } where
-  is_taken : (o c : ℕ) → IsOf mid o c i → IsTaken cut o c
+  is_taken : (o c : ℕ) → IsPageOf mid o c i → IsTaken cut o c
   is_taken o c of = elim (cut_cases cut p.key.object p.key.chunk) [
     | inr no' ↦ let two : true ≡ false = sym taken ∙ no'.0 in absurd cc
     | inl is ↦ (is.1 ∙ sym (object_is mid o c i p at of), subst (λ n. cut.from ≤ n) (sym (chunk_is mid o c i p at of)) is.2)
   ]
 
-  not_both : (k l : ℕ) → Differs p.key.object p.key.chunk k l → IsOf mid k l i → ⊥
+  not_both : (k l : ℕ) → Differs p.key.object p.key.chunk k l → IsPageOf mid k l i → ⊥
   not_both k l (inl ne) of = ne (object_is mid k l i p at of)
   not_both k l (inr ne) of = ne (chunk_is mid k l i p at of)
 
@@ -99,7 +99,7 @@ taken_cases cut o c = elim (cut_cases cut o c) [
 ]
 
 -- once no page of the buffer is one that is taken, the index is told of the cut
-module _ (cut : Cut) (x y : Index) (pages : List FreshPage) (b : Holding x pages) (gone : (o c i : ℕ) → IsTaken cut o c → IsOf pages o c i → ⊥) (cuts : Cuts cut.object cut.from x y) where
+module _ (cut : Cut) (x y : Index) (pages : List FreshPage) (b : Holding x pages) (gone : (o c i : ℕ) → IsTaken cut o c → IsPageOf pages o c i → ⊥) (cuts : Cuts cut.object cut.from x y) where
   same : (o c : ℕ) → (IsTaken cut o c → ⊥) → present y o c ≡ present x o c
   same o c none = cuts.others o c (elim (cases_eq o cut.object) [
     | inr ne ↦ inl ne

@@ -5,9 +5,9 @@ use Rattle.std.proofs.Common.{refl, sym, ◌∙◌, ap, subst, inl, inr, arith}
 use Rattle.std.proofs.lemmas.Bool.{cases_eq}
 use Rattle.nand_model.specs.Flash.{Flash}
 use Rattle.flash_tree.specs.declared.place.FreshPage.{FreshPage}
-use Rattle.pages.specs.Maps.{IsOf}
+use Rattle.pages.specs.Maps.{IsPageOf}
 use Rattle.pages.specs.Changes.{AreApart}
-use Rattle.chunk_index.specs.declared.entry.Entry.{Entry}
+use Rattle.chunk_index.specs.declared.entry.KeyEntry.{KeyEntry}
 use Rattle.chunk_index.specs.declared.entry.State.{State}
 use Rattle.chunk_index.specs.declared.entry.State.TheVariants as states
 use Rattle.chunk_index.specs.declared.form.KeptPage.{KeptPage}
@@ -16,26 +16,26 @@ use Rattle.chunk_index.specs.declared.form.Present.TheVariants as presents
 use Rattle.chunk_index.specs.declared.index.Index.{Index}
 use Rattle.chunk_index.specs.Entries.{as_kept, present_by, present_of, stays_state, stays_of}
 use Rattle.chunk_index.specs.Shelves.{look, Differs}
-use Rattle.chunk_index.specs.Maps.{present, IsReady, IsPrepared}
+use Rattle.chunk_index.specs.Maps.{present, IsReadyKey, IsPrepared}
 use Rattle.page_buffer.specs.Shown.{data_in, data_by, present_data}
 use Rattle.flash_tree.specs.declared.place.Key.{Key}
 use Rattle.page_buffer.specs.Buffering.{Buffers, key_at, lacks, new_keys, IsKeyOf}
 
 -- what holds of an index and its buffer, page by page
 pub record Holding (x : Index) (pages : List FreshPage) : Type 0 where
-  pub there : (o c i : ℕ) → present x o c ≡ presents.InBuffer i → IsOf pages o c i
-  pub told : (o c i : ℕ) → IsOf pages o c i → present x o c ≡ presents.InBuffer i
+  pub there : (o c i : ℕ) → present x o c ≡ presents.InBuffer i → IsPageOf pages o c i
+  pub told : (o c i : ℕ) → IsPageOf pages o c i → present x o c ≡ presents.InBuffer i
 
-page_of : (pages : List FreshPage) (o c i : ℕ) → key_at pages i ≡ Some (record { object = o; chunk = c }) → IsOf pages o c i
+page_of : (pages : List FreshPage) (o c i : ℕ) → key_at pages i ≡ Some (record { object = o; chunk = c }) → IsPageOf pages o c i
 page_of pages o c i is = go (slice_get pages i) refl where
-  go : (m : Option FreshPage) → slice_get pages i ≡ m → IsOf pages o c i
+  go : (m : Option FreshPage) → slice_get pages i ≡ m → IsPageOf pages o c i
   go None none = let two : None ≡ Some (record { object = o; chunk = c }) = sym (ap (option_map (λ (p : FreshPage). p.key)) none) ∙ is in absurd cc
   go (Some p) some =
       let both : Some p.key ≡ Some (record { object = o; chunk = c }) = sym (ap (option_map (λ (q : FreshPage). q.key)) some) ∙ is in
       let one : p.key ≡ record { object = o; chunk = c } = cc in
       record { page = p; there = some; object = ap (λ (k : Key). k.object) one; chunk = ap (λ (k : Key). k.chunk) one }
 
-key_of : (pages : List FreshPage) (o c i : ℕ) → IsOf pages o c i → key_at pages i ≡ Some (record { object = o; chunk = c })
+key_of : (pages : List FreshPage) (o c i : ℕ) → IsPageOf pages o c i → key_at pages i ≡ Some (record { object = o; chunk = c })
 key_of pages o c i of = ap (option_map (λ (p : FreshPage). p.key)) of.there
     ∙ ap (λ n. Some (record { object = n; chunk = of.page.key.chunk })) of.object ∙ ap (λ n. Some (record { object = o; chunk = n })) of.chunk
 
@@ -67,19 +67,19 @@ stays_buffered p (states.Buffered j) i is = refl
 stays_buffered p states.Dropped i is = absurd cc
 stays_buffered p states.Vacant i is = absurd cc
 
-ready_of : (m : Option Entry) (i : ℕ) → present_of m ≡ presents.InBuffer i → IsTrue (stays_of m)
+ready_of : (m : Option KeyEntry) (i : ℕ) → present_of m ≡ presents.InBuffer i → IsTrue (stays_of m)
 ready_of None i is = absurd cc
 ready_of (Some e) i is = stays_buffered e.kept e.state i is
 
 -- there is room for a key that is present in the buffer, also once it is written
-pub buffered_ready : (x : Index) (o c i : ℕ) → present x o c ≡ presents.InBuffer i → IsReady x o c
+pub buffered_ready : (x : Index) (o c i : ℕ) → present x o c ≡ presents.InBuffer i → IsReadyKey x o c
 buffered_ready x o c i is = ready_of (look x.shelf.objects o c) i is
 
-prepared_of : (m : Option Entry) → IsTrue (stays_of m) → IsSome m
+prepared_of : (m : Option KeyEntry) → IsTrue (stays_of m) → IsSome m
 prepared_of None is = absurd cc
 prepared_of (Some e) is = refl
 
-pub ready_prepared : (x : Index) (o c : ℕ) → IsReady x o c → IsPrepared x o c
+pub ready_prepared : (x : Index) (o c : ℕ) → IsReadyKey x o c → IsPrepared x o c
 ready_prepared x o c is = prepared_of (look x.shelf.objects o c) is
 
 -- no two pages of a buffer are of one key
@@ -89,17 +89,17 @@ buffer_apart x pages b o c i j a d =
     cc
 
 -- the page at a place, of its key
-pub here : (pages : List FreshPage) (i : ℕ) (p : FreshPage) → slice_get pages i ≡ Some p → IsOf pages p.key.object p.key.chunk i
+pub here : (pages : List FreshPage) (i : ℕ) (p : FreshPage) → slice_get pages i ≡ Some p → IsPageOf pages p.key.object p.key.chunk i
 here pages i p is = record { page = p; there = is; object = refl; chunk = refl }
 
 -- the page there is the one that is of the key
-pub page_is : (pages : List FreshPage) (o c i : ℕ) (p : FreshPage) → slice_get pages i ≡ Some p → (of : IsOf pages o c i) → of.page ≡ p
+pub page_is : (pages : List FreshPage) (o c i : ℕ) (p : FreshPage) → slice_get pages i ≡ Some p → (of : IsPageOf pages o c i) → of.page ≡ p
 page_is pages o c i p is of = let both : Some of.page ≡ Some p = sym of.there ∙ is in cc
 
-pub object_is : (pages : List FreshPage) (o c i : ℕ) (p : FreshPage) → slice_get pages i ≡ Some p → IsOf pages o c i → o ≡ p.key.object
+pub object_is : (pages : List FreshPage) (o c i : ℕ) (p : FreshPage) → slice_get pages i ≡ Some p → IsPageOf pages o c i → o ≡ p.key.object
 object_is pages o c i p is of = sym of.object ∙ ap (λ (q : FreshPage). q.key.object) (page_is pages o c i p is of)
 
-pub chunk_is : (pages : List FreshPage) (o c i : ℕ) (p : FreshPage) → slice_get pages i ≡ Some p → IsOf pages o c i → c ≡ p.key.chunk
+pub chunk_is : (pages : List FreshPage) (o c i : ℕ) (p : FreshPage) → slice_get pages i ≡ Some p → IsPageOf pages o c i → c ≡ p.key.chunk
 chunk_is pages o c i p is of = sym of.chunk ∙ ap (λ (q : FreshPage). q.key.chunk) (page_is pages o c i p is of)
 
 -- the data of a key, by what is present of it
@@ -123,7 +123,7 @@ lacks_few (presents.OnFlash k) = omega arith
 lacks_few (presents.InBuffer i) = omega arith
 
 -- the new keys of pages, where what is present of each changes so
-pub new_same : (x y : Index) (ps : List FreshPage) → ((o c i : ℕ) → IsOf ps o c i → lacks (present y o c) ≡ lacks (present x o c)) → new_keys y ps ≡ new_keys x ps
+pub new_same : (x y : Index) (ps : List FreshPage) → ((o c i : ℕ) → IsPageOf ps o c i → lacks (present y o c) ≡ lacks (present x o c)) → new_keys y ps ≡ new_keys x ps
 new_same x y [] same = refl
 new_same x y (p ∷ ps) same =
     let first : lacks (present y p.key.object p.key.chunk) ≡ lacks (present x p.key.object p.key.chunk) = same p.key.object p.key.chunk 0 (here (p ∷ ps) 0 p refl) in
@@ -148,7 +148,7 @@ new_less x y o c (p ∷ ps) apart same = elim (key_cases o c p.key.object p.key.
       let rest : new_keys y ps ≡ new_keys x ps = new_same x y ps (λ k l i of. same k l (other is k l i of)) in
       omega (arith, first, rest)
 ] where
-  other : (p.key.object ≡ o) × (p.key.chunk ≡ c) → (k l i : ℕ) → IsOf ps k l i → Differs o c k l
+  other : (p.key.object ≡ o) × (p.key.chunk ≡ c) → (k l i : ℕ) → IsPageOf ps k l i → Differs o c k l
   other is k l i of = elim (key_cases o c k l) [
     | inr differs ↦ differs
     | inl same' ↦ absurd (

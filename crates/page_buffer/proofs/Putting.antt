@@ -8,7 +8,7 @@ use Rattle.std.proofs.lemmas.Option.{slice_get_within}
 use Rattle.volume_terms.specs.laws.List.{get_push, push_before, push_last}
 use Rattle.nand_model.specs.Flash.{Flash}
 use Rattle.flash_tree.specs.declared.place.FreshPage.{FreshPage}
-use Rattle.pages.specs.Maps.{PageMap, is_of, with_pages, IsOf}
+use Rattle.pages.specs.Maps.{PageMap, is_of, with_pages, IsPageOf}
 use Rattle.pages.specs.Changes.{AreApart, AreSized}
 use Rattle.pages.specs.laws.Maps.{page_elsewhere, key_cases as of_cases}
 use Rattle.pages.specs.laws.Changes.{pages_same}
@@ -25,13 +25,13 @@ use Rattle.page_buffer.proofs.Slots.{get_set, set_other, set_here}
 
 -- a page takes the place of the one of its key
 module _ (x : Index) (pages : List FreshPage) (p : FreshPage) (slot : ℕ) (b : Holding x pages) (is : present x p.key.object p.key.chunk ≡ presents.InBuffer slot) where
-  of_slot : IsOf pages p.key.object p.key.chunk slot
+  of_slot : IsPageOf pages p.key.object p.key.chunk slot
   of_slot = b.there _ _ slot is
 
   within : slot < length pages
   within = slice_get_within pages slot of_slot.page of_slot.there
 
-  slot_key : (o c : ℕ) → IsOf pages o c slot → (o ≡ p.key.object) × (c ≡ p.key.chunk)
+  slot_key : (o c : ℕ) → IsPageOf pages o c slot → (o ≡ p.key.object) × (c ≡ p.key.chunk)
   slot_key o c of = (object_is pages o c slot of_slot.page of_slot.there of ∙ of_slot.object, chunk_is pages o c slot of_slot.page of_slot.there of ∙ of_slot.chunk)
 
   pub filled_buffers : Holding x (set pages slot p)
@@ -39,7 +39,7 @@ module _ (x : Index) (pages : List FreshPage) (p : FreshPage) (slot : ℕ) (b : 
     there = λ o c i at. elim (cases_eq i slot) [
       | inr ne ↦ let of = b.there o c i at in record { page = of.page; there = set_other pages slot i p of.page ne of.there; object = of.object; chunk = of.chunk }
       | inl e ↦
-          let key = slot_key o c (subst (IsOf pages o c) e (b.there o c i at)) in
+          let key = slot_key o c (subst (IsPageOf pages o c) e (b.there o c i at)) in
           record { page = p; there = ap (slice_get (set pages slot p)) e ∙ set_here pages slot p within; object = sym key.0; chunk = sym key.1 }
     ];
     told = λ o c i of. elim (get_set pages slot i p of.page of.there) [
@@ -55,7 +55,7 @@ module _ (x : Index) (pages : List FreshPage) (p : FreshPage) (slot : ℕ) (b : 
   filled_puts = record {
     here = λ flash. ap (data_by flash (set pages slot p)) is ∙ ap (λ (m : Option FreshPage). option_map (λ (q : FreshPage). q.bytes.items) m) (set_here pages slot p within);
     others = λ flash o c none. data_same flash pages (set pages slot p) (present x o c) (λ i at. elim (cases_eq i slot) [
-      | inl e ↦ let key = slot_key o c (subst (IsOf pages o c) e (b.there o c i at)) in absurd (none (sym key.0, sym key.1))
+      | inl e ↦ let key = slot_key o c (subst (IsPageOf pages o c) e (b.there o c i at)) in absurd (none (sym key.0, sym key.1))
       | inr ne ↦ let of = b.there o c i at in set_other pages slot i p of.page ne of.there ∙ sym of.there
     ]);
     lacking = λ o c none. refl;
@@ -65,7 +65,7 @@ module _ (x : Index) (pages : List FreshPage) (p : FreshPage) (slot : ℕ) (b : 
 -- a page of a key that has none in the buffer is put behind the others
 module _ (x y : Index) (pages : List FreshPage) (p : FreshPage) (b : Holding x pages) (lacking : lacks (present x p.key.object p.key.chunk) ≡ 1)
     (place : Places p.key.object p.key.chunk (forms.Buffered (length pages)) x y) where
-  none_is : (o c i : ℕ) → IsOf pages o c i → Differs p.key.object p.key.chunk o c
+  none_is : (o c i : ℕ) → IsPageOf pages o c i → Differs p.key.object p.key.chunk o c
   none_is o c i of = elim (key_cases p.key.object p.key.chunk o c) [
     | inr differs ↦ differs
     | inl same ↦ absurd (lacks_none (present x p.key.object p.key.chunk) i lacking
@@ -88,7 +88,7 @@ module _ (x y : Index) (pages : List FreshPage) (p : FreshPage) (b : Holding x p
     ];
     told = λ o c i of. elim (get_push pages p i of.page of.there) [
       | inl before ↦
-          let was : IsOf pages o c i = record { page = of.page; there = before.1; object = of.object; chunk = of.chunk } in
+          let was : IsPageOf pages o c i = record { page = of.page; there = before.1; object = of.object; chunk = of.chunk } in
           place.others o c (none_is o c i was) ∙ b.told o c i was
       | inr last ↦ put_here o c (sym of.object ∙ ap (λ (q : FreshPage). q.key.object) last.1) (sym of.chunk ∙ ap (λ (q : FreshPage). q.key.chunk) last.1) ∙ ap presents.InBuffer (sym last.0)
     ];
@@ -134,7 +134,7 @@ putting_starts most bytes all x pages b prepared sized apart room = record {
 }
 
 -- the key of the first page is none of the others'
-head_differs : (p : FreshPage) (rest : List FreshPage) → AreApart (p ∷ rest) → (i : ℕ) → IsOf rest p.key.object p.key.chunk i → ⊥
+head_differs : (p : FreshPage) (rest : List FreshPage) → AreApart (p ∷ rest) → (i : ℕ) → IsPageOf rest p.key.object p.key.chunk i → ⊥
 head_differs p rest apart i of =
     let two : 0 ≡ suc i = apart p.key.object p.key.chunk 0 (suc i) (here (p ∷ rest) 0 p refl) (record { page = of.page; there = of.there; object = of.object; chunk = of.chunk }) in
     omega (arith, two)

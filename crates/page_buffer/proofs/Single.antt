@@ -1,7 +1,7 @@
 -- One page alone.
 use Rattle.std.proofs.Common.{◌≡◌, ℕ, zero, suc, List, [], ◌∷◌, length, Some, None, slice_get, refl, sym, ◌∙◌, ap}
 use Rattle.flash_tree.specs.declared.place.FreshPage.{FreshPage}
-use Rattle.pages.specs.Maps.{IsOf}
+use Rattle.pages.specs.Maps.{IsPageOf}
 use Rattle.pages.specs.Changes.{AreApart, AreSized}
 
 first_only : (p q : FreshPage) (i : ℕ) → slice_get (p ∷ []) i ≡ Some q → (i ≡ 0) × (q ≡ p)

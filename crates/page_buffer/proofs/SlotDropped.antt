@@ -8,7 +8,7 @@ use Rattle.std.proofs.lemmas.Option.{slice_get_within}
 use Rattle.volume_terms.specs.laws.List.{get_push, push_before, push_last}
 use Rattle.nand_model.specs.Flash.{Flash}
 use Rattle.flash_tree.specs.declared.place.FreshPage.{FreshPage}
-use Rattle.pages.specs.Maps.{IsOf}
+use Rattle.pages.specs.Maps.{IsPageOf}
 use Rattle.pages.specs.Changes.{AreSized}
 use Rattle.chunk_index.specs.declared.form.Present.{Present}
 use Rattle.chunk_index.specs.declared.form.Present.TheVariants as presents
@@ -30,17 +30,17 @@ differ x pages i j p q b at there ne = elim (key_cases p.key.object p.key.chunk 
 
 -- the last page goes
 module _ (x y : Index) (init : List FreshPage) (p : FreshPage) (b : Holding x (init ++ p ∷ [])) (drop : Places p.key.object p.key.chunk forms.Dropped x y) where
-  last_of : (o c i : ℕ) → IsOf (init ++ p ∷ []) o c i → (i < length init × IsOf init o c i) ⊎ ((i ≡ length init) × (o ≡ p.key.object) × (c ≡ p.key.chunk))
+  last_of : (o c i : ℕ) → IsPageOf (init ++ p ∷ []) o c i → (i < length init × IsPageOf init o c i) ⊎ ((i ≡ length init) × (o ≡ p.key.object) × (c ≡ p.key.chunk))
   last_of o c i of = elim (get_push init p i of.page of.there) [
     | inl before ↦ inl (before.0, record { page = of.page; there = before.1; object = of.object; chunk = of.chunk })
     | inr last ↦ inr (last.0, (sym of.object ∙ ap (λ (q : FreshPage). q.key.object) last.1), (sym of.chunk ∙ ap (λ (q : FreshPage). q.key.chunk) last.1))
   ]
 
-  longer : (o c i : ℕ) → IsOf init o c i → IsOf (init ++ p ∷ []) o c i
+  longer : (o c i : ℕ) → IsPageOf init o c i → IsPageOf (init ++ p ∷ []) o c i
   longer o c i of = record { page = of.page; there = push_before init p i of.page of.there; object = of.object; chunk = of.chunk }
 
   -- it is of another key than each before it
-  before_differs : (o c i : ℕ) → IsOf init o c i → Differs p.key.object p.key.chunk o c
+  before_differs : (o c i : ℕ) → IsPageOf init o c i → Differs p.key.object p.key.chunk o c
   before_differs o c i of = elim (key_cases p.key.object p.key.chunk o c) [
     | inr differs ↦ differs
     | inl same ↦ absurd (
@@ -107,14 +107,14 @@ module _ (x y z : Index) (init : List FreshPage) (p last : FreshPage) (slot : �
   two_keys = differ x old (length init) slot last p b last_old at_old (λ same. omega (arith, within, same))
 
   -- a page of the new list is the last one, or one of the old list that is neither
-  new_of : (o c i : ℕ) → IsOf new o c i → ((i ≡ slot) × (o ≡ last.key.object) × (c ≡ last.key.chunk)) ⊎ ((i ≢ slot) × (i < length init) × IsOf old o c i)
+  new_of : (o c i : ℕ) → IsPageOf new o c i → ((i ≡ slot) × (o ≡ last.key.object) × (c ≡ last.key.chunk)) ⊎ ((i ≢ slot) × (i < length init) × IsPageOf old o c i)
   new_of o c i of = elim (get_set init slot i last of.page of.there) [
     | inr filled ↦ inl (filled.0, (sym of.object ∙ ap (λ (q : FreshPage). q.key.object) filled.1), (sym of.chunk ∙ ap (λ (q : FreshPage). q.key.chunk) filled.1))
     | inl other ↦ inr (other.0, slice_get_within init i of.page other.1, record { page = of.page; there = push_before init last i of.page other.1; object = of.object; chunk = of.chunk })
   ]
 
   -- a page of the old list is the last one, the one that goes, or one of the new list
-  old_of : (o c i : ℕ) → IsOf old o c i → ((i ≡ length init) × (o ≡ last.key.object) × (c ≡ last.key.chunk)) ⊎ ((i ≡ slot) ⊎ ((i ≢ slot) × (i < length init) × IsOf new o c i))
+  old_of : (o c i : ℕ) → IsPageOf old o c i → ((i ≡ length init) × (o ≡ last.key.object) × (c ≡ last.key.chunk)) ⊎ ((i ≡ slot) ⊎ ((i ≢ slot) × (i < length init) × IsPageOf new o c i))
   old_of o c i of = elim (get_push init last i of.page of.there) [
     | inr end ↦ inl (end.0, (sym of.object ∙ ap (λ (q : FreshPage). q.key.object) end.1), (sym of.chunk ∙ ap (λ (q : FreshPage). q.key.chunk) end.1))
     | inl before ↦ inr (elim (cases_eq i slot) [
@@ -136,7 +136,7 @@ module _ (x y z : Index) (init : List FreshPage) (p last : FreshPage) (slot : �
   elsewhere o c a d = place.others o c a ∙ drop.others o c d
 
   -- a page that stays is of neither key
-  stays_other : (o c i : ℕ) → i ≢ slot → i < length init → IsOf old o c i → Differs last.key.object last.key.chunk o c × Differs p.key.object p.key.chunk o c
+  stays_other : (o c i : ℕ) → i ≢ slot → i < length init → IsPageOf old o c i → Differs last.key.object last.key.chunk o c × Differs p.key.object p.key.chunk o c
   stays_other o c i ne lt of =
       let one : o ≡ of.page.key.object = sym of.object in
       let two : c ≡ of.page.key.chunk = sym of.chunk in
@@ -214,7 +214,7 @@ module _ (x y z : Index) (init : List FreshPage) (p last : FreshPage) (slot : �
       | inr stays ↦ stays.2
     ];
   } where
-    same_place : (o c i : ℕ) (of : IsOf old o c i) → i ≢ slot → i < length init → slice_get new i ≡ slice_get old i
+    same_place : (o c i : ℕ) (of : IsPageOf old o c i) → i ≢ slot → i < length init → slice_get new i ≡ slice_get old i
     same_place o c i of ne lt = elim (get_push init last i of.page of.there) [
       | inl before ↦ set_other init slot i last of.page ne before.1 ∙ sym of.there
       | inr end ↦ absurd (omega (arith, lt, end.0))

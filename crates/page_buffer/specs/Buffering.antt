@@ -4,13 +4,13 @@ use Rattle.std.specs.Option.{option_map}
 use Rattle.flash_tree.specs.declared.place.Key.{Key}
 use Rattle.nand_model.specs.Flash.{Flash}
 use Rattle.flash_tree.specs.declared.place.FreshPage.{FreshPage}
-use Rattle.pages.specs.Maps.{PageMap, IsOf, changed}
+use Rattle.pages.specs.Maps.{PageMap, IsPageOf, changed}
 use Rattle.pages.specs.declared.change.Cut.{Cut}
 use Rattle.pages.specs.declared.change.Change.{Change}
 use Rattle.chunk_index.specs.declared.form.Present.{Present}
 use Rattle.chunk_index.specs.declared.form.Present.TheVariants as presents
 use Rattle.chunk_index.specs.declared.index.Index.{Index}
-use Rattle.chunk_index.specs.Maps.{present, IsReady, IsPrepared}
+use Rattle.chunk_index.specs.Maps.{present, IsReadyKey, IsPrepared}
 use Rattle.chunk_index.specs.Entries.{written_page}
 use Rattle.chunk_index.specs.declared.form.WrittenGroup.{WrittenGroup}
 use Rattle.page_buffer.specs.Shown.{data_at, data_in, present_data}
@@ -45,11 +45,11 @@ with_new x buffer pages = length buffer + new_keys x pages
 
 -- there is room in the index for each of the pages
 abbrev pub ArePrepared : Index → List FreshPage → Type 0
-ArePrepared x pages = (o c i : ℕ) → IsOf pages o c i → IsPrepared x o c
+ArePrepared x pages = (o c i : ℕ) → IsPageOf pages o c i → IsPrepared x o c
 
 -- and also once the changes are settled
 abbrev pub AreReady : Index → List FreshPage → Type 0
-AreReady x pages = (o c i : ℕ) → IsOf pages o c i → IsReady x o c
+AreReady x pages = (o c i : ℕ) → IsPageOf pages o c i → IsReadyKey x o c
 
 -- the key of each page
 abbrev pub IsKeyOf : FreshPage → ℕ → ℕ → Type 0
@@ -66,11 +66,11 @@ pub record PutsPage (page : FreshPage) (x y : Index) (old new : List FreshPage) 
 -- The page at place i goes, and its key has none then; every other key has the page that it had, in the buffer or not as
 -- before.
 pub record DropsSlot (i : ℕ) (x y : Index) (old new : List FreshPage) : Type 0 where
-  pub gone : (o c : ℕ) → IsOf old o c i → present y o c ≡ presents.Absent
-  pub others : (flash : Flash) (o c : ℕ) → (IsOf old o c i → ⊥) → present_data y new flash o c ≡ present_data x old flash o c
-  pub lacking : (o c : ℕ) → (IsOf old o c i → ⊥) → lacks (present y o c) ≡ lacks (present x o c)
+  pub gone : (o c : ℕ) → IsPageOf old o c i → present y o c ≡ presents.Absent
+  pub others : (flash : Flash) (o c : ℕ) → (IsPageOf old o c i → ⊥) → present_data y new flash o c ≡ present_data x old flash o c
+  pub lacking : (o c : ℕ) → (IsPageOf old o c i → ⊥) → lacks (present y o c) ≡ lacks (present x o c)
   pub fewer : length new + 1 ≡ length old
-  pub below : (o c k : ℕ) → k < i → IsOf new o c k → IsOf old o c k
+  pub below : (o c k : ℕ) → k < i → IsPageOf new o c k → IsPageOf old o c k
 
 -- the cut takes the key's page
 abbrev pub IsTaken : Cut → ℕ → ℕ → Type 0
@@ -78,7 +78,7 @@ IsTaken cut o c = (cut.object ≡ o) × (cut.from ≤ c)
 
 -- No page in the buffer is one that the cut takes, and every other key has the page that it had.
 pub record DropsCut (cut : Cut) (x y : Index) (old new : List FreshPage) : Type 0 where
-  pub gone : (o c i : ℕ) → IsTaken cut o c → IsOf new o c i → ⊥
+  pub gone : (o c i : ℕ) → IsTaken cut o c → IsPageOf new o c i → ⊥
   pub others : (flash : Flash) (o c : ℕ) → (IsTaken cut o c → ⊥) → present_data y new flash o c ≡ present_data x old flash o c
 
 -- What is cut has no page, and all else is as it was.

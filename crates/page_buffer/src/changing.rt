@@ -1,8 +1,8 @@
 // The change of present pages.
 ghost use Rattle.std.specs.Prelude.{◌≡◌, ◌≤◌, ◌<◌, ◌+◌, ◌↔◌, ℕ, List, length, IsTrue, OnOk};
-ghost use Rattle.chunk_index.specs.Maps.{present, IsReady, IsPrepared, SameKept, SamePresent, StaysPrepared};
+ghost use Rattle.chunk_index.specs.Maps.{present, IsReadyKey, IsPrepared, SameKept, SamePresent, StaysPrepared};
 ghost use Rattle.pages.specs.Changes.{AreApart, AreSized};
-ghost use Rattle.pages.specs.Maps.{with_pages, IsOf};
+ghost use Rattle.pages.specs.Maps.{with_pages, IsPageOf};
 ghost use Rattle.nand_model.specs.Flash.{Flash};
 ghost use Rattle.page_buffer.specs.Shown.{present_data};
 ghost use Rattle.page_buffer.specs.Buffering.{Buffers, with_new, new_keys, lacks, ArePrepared, AreReady, PutsPage, ChangesPages, IsUnbuffered};
@@ -19,7 +19,7 @@ pub fn prepare(index: &mut Index, pages: &[FreshPage]) -> Result<(), AllocError>
     ensures kept { SameKept index.old index.new }
     ensures present { SamePresent index.old index.new }
     ensures ready { OnOk result (AreReady index.new pages.now) }
-    ensures stays { (o c : ℕ) → IsReady index.old o c → IsReady index.new o c }
+    ensures stays { (o c : ℕ) → IsReadyKey index.old o c → IsReadyKey index.new o c }
     ensures prepared { StaysPrepared index.old index.new }
 {
     for page in pages {

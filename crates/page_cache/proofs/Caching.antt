@@ -12,7 +12,7 @@ use Rattle.lru.specs.LruCache.{LruCache, lru_cache, promoted, put_entries, displ
 use Rattle.lru.proofs.Splits.{Contains-cons, Contains-head, Contains-tail}
 use Rattle.lru.proofs.CallerLemmas.{Contains-put_entries, Contains-promoted, Contains-remove_entry, Contains-lookup, lookup-put_entries}
 use Rattle.std.specs.Option.{option_copied, option_map_or}
-use Rattle.page_cache.specs.Slots.{Place, held_in, page_in, is_key, frame_of, AreSized}
+use Rattle.page_cache.specs.Slots.{Reserved, held_in, page_in, is_key, frame_of, AreSized}
 use Rattle.page_cache.specs.Cached.{held, held_count, capacity_of}
 use Rattle.page_cache.specs.Changes.{HasTheSame, IsOther, Changes, Puts}
 use Rattle.page_cache.specs.declared.slot.Slot.{Slot}
@@ -112,7 +112,7 @@ module _ (old new : PageCache) (o c : ℕ) (size : new.page_bytes ≡ old.page_b
       one : (x y : ℕ × ℕ) → is_key o c x ≡ true → is_key o c y ≡ key_eq x y
       one x y e = key_laws.congr (o, c) x y e
 
-  pub vacates : (slot : Slot) → held_in slot ≡ Place → IsSome (held old o c) → new.slots ≡ lru_cache (set_value (is_key o c) old.slots.entries slot) old.slots.cap → Changes o c (Some Place) old new
+  pub vacates : (slot : Slot) → held_in slot ≡ Reserved → IsSome (held old o c) → new.slots ≡ lru_cache (set_value (is_key o c) old.slots.entries slot) old.slots.cap → Changes o c (Some Reserved) old new
   vacates slot place there is = record {
     sizes = record { page_bytes = size; capacity = ap (λ (s : LruCache (ℕ × ℕ) Slot). s.cap) is };
     here =
@@ -199,7 +199,7 @@ module _ (bytes : ℕ) (old : LruCache (ℕ × ℕ) Slot) (new : LruCache (ℕ �
   pub page_sized : (k : ℕ × ℕ) (it : Slot) (page : Option (Bor (List ℕ))) → lookup (key_eq k) old.entries ≡ Some it → option_copied page ≡ page_in (held_in it)
       → IfSome page (λ p. length p.now ≡ bytes)
   page_sized k it None is e = tt
-  page_sized k (slots.Place frame) (Some p) is e = absurd cc
+  page_sized k (slots.Reserved frame) (Some p) is e = absurd cc
   page_sized k (slots.Page frame) (Some p) is e =
       let same : p.now ≡ frame.items = cc in ap length same ∙ found_sized k (Some (slots.Page frame)) (slots.Page frame) is refl
 

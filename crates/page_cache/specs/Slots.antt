@@ -7,22 +7,22 @@ use Rattle.page_cache.specs.declared.slot.Slot.TheVariants as slots
 
 -- what a cache has of a key: a place without a page, or the bytes of its page
 pub data Held : Type 0 where
-  Place : Held
+  Reserved : Held
   Page : (bytes : List ℕ) → Held
 
 -- the frame of a slot
 abbrev pub frame_of : Slot → Vec ℕ Global
 frame_of (slots.Page frame) = frame
-frame_of (slots.Place frame) = frame
+frame_of (slots.Reserved frame) = frame
 
 -- what a slot says of its key
 abbrev pub held_in : Slot → Held
 held_in (slots.Page frame) = Page frame.items
-held_in (slots.Place frame) = Place
+held_in (slots.Reserved frame) = Reserved
 
 -- the bytes of the page, if there is one
 abbrev pub page_in : Held → Option (List ℕ)
-page_in Place = None
+page_in Reserved = None
 page_in (Page bytes) = Some bytes
 
 -- whether a key is of object o and chunk c

@@ -2,7 +2,7 @@
 ghost use Rattle.std.specs.Prelude.{◌≡◌, ◌≤◌, ◌+◌, ◌↔◌, ℕ, length, None, Some, IsNone, IsSome, IfSome, IfOk, OnOk, OnErr, IsTrue};
 ghost use Rattle.std.specs.Option.{option_copied, ForSome};
 ghost use Rattle.std.specs.NonZero.{non_zero_usize_get};
-ghost use Rattle.page_cache.specs.Slots.{AreSized, Page, Place, held_in, frame_of};
+ghost use Rattle.page_cache.specs.Slots.{AreSized, Page, Reserved, held_in, frame_of};
 
 use crate::slot::Slot;
 use flash_tree::Key;
@@ -93,11 +93,11 @@ impl PageCache {
 
     /// Makes a place for the page that the key is to get. The page that it has goes.
     pub fn reserve(&mut self, key: Key) -> Result<(), AllocError>
-        ensures ok { OnOk result (Puts key.object key.chunk Place self.old self.new) }
+        ensures ok { OnOk result (Puts key.object key.chunk Reserved self.old self.new) }
         ensures err { OnErr result (HasTheSame self.old self.new) }
     {
         let frame = self.take_frame()?;
-        self.insert(key, Slot::Place(frame))
+        self.insert(key, Slot::Reserved(frame))
     }
 
     /// Makes the frame's bytes the page of a key that has a page or a place, and gives that frame back. Where the key has
@@ -121,7 +121,7 @@ impl PageCache {
 
     /// The page of the key goes, and its frame is a place for the one that the key is to get. It takes no memory.
     pub fn vacate(&mut self, key: Key)
-        ensures vacated { IsSome (held self.old key.object key.chunk) → Changes key.object key.chunk (Some Place) self.old self.new }
+        ensures vacated { IsSome (held self.old key.object key.chunk) → Changes key.object key.chunk (Some Reserved) self.old self.new }
         ensures nothing { held self.old key.object key.chunk ≡ None → HasTheSame self.old self.new }
     {
         if let Some(slot) = self.slots.peek_mut(&(key.object, key.chunk)) {

@@ -11,11 +11,11 @@ pub enum Slot {
     /// The key's page.
     Page(Vec<u8>),
     /// A place for the page that the key is to get. Its bytes are of no page.
-    Place(Vec<u8>),
+    Reserved(Vec<u8>),
 }
 
 impl Slot {
-    ghost use Rattle.page_cache.specs.Slots.{Place, frame_of, held_in, page_in};
+    ghost use Rattle.page_cache.specs.Slots.{Reserved, frame_of, held_in, page_in};
 
     /// The frame, whatever its bytes are of.
     pub(crate) fn into_frame(self) -> Vec<u8>
@@ -23,7 +23,7 @@ impl Slot {
     {
         match self {
             Slot::Page(frame) => frame,
-            Slot::Place(frame) => frame,
+            Slot::Reserved(frame) => frame,
         }
     }
 
@@ -33,16 +33,16 @@ impl Slot {
     {
         match self {
             Slot::Page(frame) => Some(frame),
-            Slot::Place(_) => None,
+            Slot::Reserved(_) => None,
         }
     }
 
     /// The frame is a place, whatever its bytes were of.
     pub(crate) fn vacate(&mut self, alloc: Global)
-        ensures place { held_in self.new ≡ Place }
+        ensures place { held_in self.new ≡ Reserved }
         ensures frame { frame_of self.new ≡ frame_of self.old }
     {
-        let slot = mem::replace(self, Slot::Place(Vec::new(alloc)));
-        *self = Slot::Place(slot.into_frame());
+        let slot = mem::replace(self, Slot::Reserved(Vec::new(alloc)));
+        *self = Slot::Reserved(slot.into_frame());
     }
 }

@@ -13,7 +13,7 @@ use Rattle.volume_terms.specs.declared.fault.StoreFault.{StoreFault}
 use Rattle.volume_terms.specs.declared.fault.StoreFault.TheVariants as faults
 use Rattle.object_commands.specs.Volumes.{store_of}
 use Rattle.command_plans.specs.Classes.{class_of}
-use Rattle.object_commands.specs.Endings.{IsAt, Ends}
+use Rattle.object_commands.specs.Endings.{IsAt, CommandEnds}
 use Rattle.object_commands.specs.Running.{Ran, Runs}
 use Rattle.object_commands.specs.laws.Steps.{One, one_ends}
 use Rattle.object_table.specs.Told.{sizes_of}
@@ -71,7 +71,7 @@ module _ {P : Type 0} (state : P → PagesState) where
   m = meaning_of state
 
   -- one command
-  pub one_call : (z : Sizes) (s : State) (stamped : Stamped) (r : Reply) (a b : PageVolume P) → Ends m z (class_of stamped.command) (takes_no_memory stamped.command) s (step z (is_read_only a) s stamped) a.volume b.volume r
+  pub one_call : (z : Sizes) (s : State) (stamped : Stamped) (r : Reply) (a b : PageVolume P) → CommandEnds m z (class_of stamped.command) (takes_no_memory stamped.command) s (step z (is_read_only a) s stamped) a.volume b.volume r
       → One m z (is_read_only a) s stamped r a.volume b.volume
   one_call z s stamped r a b ends = one_ends m (paged_lawful state (λ s. s.pages) (λ s. s.table)) z (is_read_only a) s stamped r a.volume b.volume ends
 

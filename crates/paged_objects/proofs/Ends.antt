@@ -18,7 +18,7 @@ use Rattle.object_pages.specs.Holding.{HoldsObjects}
 use Rattle.object_pages.specs.laws.Holding.{cut_object}
 use Rattle.paged_objects.specs.Faults.{fault_of, ReadFailsBy}
 use Rattle.paged_objects.specs.Standing.{Stands}
-use Rattle.paged_objects.specs.Ending.{StaysAs, Turns, Fails, Commits, HasPages, EndsPages, Ends}
+use Rattle.paged_objects.specs.Ending.{StaysAs, Turns, Fails, Commits, HasPages, EndsPages, ChangeEnds}
 use Rattle.paged_objects.specs.laws.Going.{finds_stay, refused_stays, stays_on, volume_on}
 use Rattle.paged_objects.proofs.Causes.{used_up}
 use Rattle.paged_objects.specs.laws.Showing.{stays_stands, changed_stands, still_shown, either_turns, kept_shown, turns_after, fails_after, read_fails}
@@ -60,7 +60,7 @@ read_ends z p q old new faults.Device finds why = read_fails z p q old (finds_st
 read_ends z p q old new faults.Worn finds why = absurd why
 
 -- a change of the pages that is not made leaves the table
-pub not_made : (p q : PagesState) (table after : ObjectTable) (old new : Objects) (fault : StoreFault) → TellsTheSame table after → EndsPages (sizes_of table) p q old new (Err fault) → Ends p q table after old new (Err fault)
+pub not_made : (p q : PagesState) (table after : ObjectTable) (old new : Objects) (fault : StoreFault) → TellsTheSame table after → EndsPages (sizes_of table) p q old new (Err fault) → ChangeEnds p q table after old new (Err fault)
 not_made p q table after old new faults.NoMemory same ends = (ends, same)
 not_made p q table after old new faults.Device same ends = ends
 not_made p q table after old new faults.Worn same ends = ends
@@ -72,7 +72,7 @@ cut_turns z p q objects has goes kept tree shown = inl (still_shown z p q tree g
 -- an object whose pages are cut is gone
 pub cut_done : (p q : PagesState) (table after : ObjectTable) (objects : Objects) (number : ℕ) → HasPages (sizes_of table) p objects → GoesOn p q → q.sound ≡ true
     → SamePages q.present (without_cuts (record { object = number; from = 0 } ∷ []) p.present) → KeptAs q p.kept → Tells after (map.remove objects number)
-    → Ends p q table after objects (map.remove objects number) (Ok tt)
+    → ChangeEnds p q table after objects (map.remove objects number) (Ok tt)
 cut_done p q table after objects number has goes sound same kept tells = (
   changed_stands (sizes_of table) p q objects (map.remove objects number) (without_cuts (record { object = number; from = 0 } ∷ []) p.present) goes has.stands sound
       (cut_object (sizes_of table) p.present objects has.stands.holds number) same (cut_turns (sizes_of table) p q objects has goes kept),
@@ -88,7 +88,7 @@ ended_so z p q objects faults.Worn has goes turns why = record { goes_on = goes;
 
 -- an object whose pages are not cut
 pub cut_failed : (p q : PagesState) (table : ObjectTable) (objects new : Objects) (fault : StoreFault) → HasPages (sizes_of table) p objects → GoesOn p q → KeptAs q p.kept → CommitFailsBy p q fault
-    → Ends p q table table objects new (Err fault)
+    → ChangeEnds p q table table objects new (Err fault)
 cut_failed p q table objects new faults.NoMemory has goes kept why = absurd why
 cut_failed p q table objects new faults.Device has goes kept why = ended_so (sizes_of table) p q objects faults.Device has goes (cut_turns (sizes_of table) p q objects has goes kept) why
 cut_failed p q table objects new faults.Worn has goes kept why = ended_so (sizes_of table) p q objects faults.Worn has goes (cut_turns (sizes_of table) p q objects has goes kept) why

@@ -20,7 +20,7 @@ use Rattle.pages.specs.State.{PagesState, OnlyFinds}
 use Rattle.pages.specs.Stores.{GoesOn, SamePages, KeptAs, KeepsEither, CommitFailsBy}
 use Rattle.paged_objects.specs.Faults.{ReadFailsBy}
 use Rattle.paged_objects.specs.Standing.{Stands}
-use Rattle.paged_objects.specs.Ending.{HasObjects, Ends}
+use Rattle.paged_objects.specs.Ending.{HasObjects, ChangeEnds}
 use Rattle.paged_objects.specs.Meaning.{paged_meaning}
 use Rattle.paged_objects.specs.laws.Going.{finds_stay}
 use Rattle.paged_objects.specs.laws.Lawful.{same_here}
@@ -78,7 +78,7 @@ module _ {S P : Type 0} (state : P → PagesState) (pages : S → P) (table : S 
 
   -- the end of a change
   pub applied : (a b : S) (old new : Objects) (result : Result (Unit {0}) StoreFault) → GoesOn (state (pages a)) (state (pages b)) → sizes_of (table b) ≡ sizes_of (table a)
-      → Ends (state (pages a)) (state (pages b)) (table a) (table b) old new result → Applies (paged_meaning state pages table) old new a b result
+      → ChangeEnds (state (pages a)) (state (pages b)) (table a) (table b) old new result → Applies (paged_meaning state pages table) old new a b result
   applied a b old new (Ok done) goes same ends = (
     (subst (λ (k : Sizes). Stands k (state (pages b)) new) (sym same) ends.0, ends.1),
     (record { goes_on = goes; turns = ends.2 }, same),

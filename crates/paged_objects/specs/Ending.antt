@@ -72,8 +72,8 @@ EndsPages z p q old new (Err faults.Device) = Fails z old p q
 EndsPages z p q old new (Err faults.Worn) = Fails z old p q
 
 -- how a change ends with the table that tells of them
-abbrev pub Ends : PagesState → PagesState → ObjectTable → ObjectTable → Objects → Objects → Result (Unit {0}) StoreFault → Type 0
-Ends p q table after old new (Ok done) = Stands (sizes_of table) q new × Tells after new × Turns (sizes_of table) old p q
-Ends p q table after old new (Err faults.NoMemory) = StaysAs p q × TellsTheSame table after
-Ends p q table after old new (Err faults.Device) = Fails (sizes_of table) old p q
-Ends p q table after old new (Err faults.Worn) = Fails (sizes_of table) old p q
+abbrev pub ChangeEnds : PagesState → PagesState → ObjectTable → ObjectTable → Objects → Objects → Result (Unit {0}) StoreFault → Type 0
+ChangeEnds p q table after old new (Ok done) = Stands (sizes_of table) q new × Tells after new × Turns (sizes_of table) old p q
+ChangeEnds p q table after old new (Err faults.NoMemory) = StaysAs p q × TellsTheSame table after
+ChangeEnds p q table after old new (Err faults.Device) = Fails (sizes_of table) old p q
+ChangeEnds p q table after old new (Err faults.Worn) = Fails (sizes_of table) old p q

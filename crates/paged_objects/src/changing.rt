@@ -13,7 +13,7 @@ ghost use Rattle.pages.specs.Maps.{changed};
 ghost use Rattle.pages.specs.State.{OnlyFinds};
 ghost use Rattle.pages.specs.Stores.{GoesOn};
 ghost use Rattle.object_pages.specs.Holding.{HoldsObjects};
-ghost use Rattle.paged_objects.specs.Ending.{HasPages, HasObjects, EndsPages, Ends};
+ghost use Rattle.paged_objects.specs.Ending.{HasPages, HasObjects, EndsPages, ChangeEnds};
 ghost use Rattle.paged_objects.specs.Faults.{ReadFailsBy};
 
 use crate::fault::fault_of;
@@ -122,7 +122,7 @@ pub(crate) fn make<P: PageStore>(
     ensures goes_on { GoesOn (P.state pages.old) (P.state pages.new) }
     ensures sizes { sizes_of table.new ≡ sizes_of table.old }
     ensures makes { (objects : Objects) → HasObjects (P.state pages.old) table.old objects → CanMake (sizes_of table.old) objects change.now
-        → Ends (P.state pages.old) (P.state pages.new) table.old table.new objects (made objects change.now) result }
+        → ChangeEnds (P.state pages.old) (P.state pages.new) table.old table.new objects (made objects change.now) result }
 {
     prepare(table, change)?;
     let replaced = find_replaced(pages, change)?;
@@ -142,7 +142,7 @@ pub(crate) fn forget<P: PageStore>(
     ensures device { (P.state pages.new).device ≡ (P.state pages.old).device }
     ensures sizes { sizes_of table.new ≡ sizes_of table.old }
     ensures makes { (objects : Objects) → HasObjects (P.state pages.old) table.old objects → CanMake (sizes_of table.old) objects (changes.Forget number)
-        → Ends (P.state pages.old) (P.state pages.new) table.old table.new objects (map.remove objects number) result }
+        → ChangeEnds (P.state pages.old) (P.state pages.new) table.old table.new objects (map.remove objects number) result }
     ensures memory { result ≡ Err faults.NoMemory → ⊥ }
 {
     let whole = Cut {

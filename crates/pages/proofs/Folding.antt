@@ -3,7 +3,7 @@ use Rattle.std.specs.Prelude.{◌≡◌, ◌⊎◌, ◌<◌, ◌≤◌, ℕ, zer
 use Rattle.std.proofs.Common.{refl, sym, ◌∙◌, ap, subst, inl, inr, arith}
 use Rattle.std.proofs.lemmas.Bool.{cond-true, cond-false}
 use Rattle.std.proofs.lemmas.List.{length-append}
-use Rattle.pages.specs.Maps.{PageMap, is_of, with_pages, without_cuts, IsOf, IsCut}
+use Rattle.pages.specs.Maps.{PageMap, is_of, with_pages, without_cuts, IsPageOf, IsCut}
 use Rattle.pages.specs.laws.Maps.{key_cases, cut_here, cut_elsewhere}
 use Rattle.pages.specs.laws.Changes.{pages_append, pages_same, cuts_same, cuts_append}
 use Rattle.pages.specs.Changes.{AreApart, AreSized, IsPutBehind}
@@ -11,7 +11,7 @@ use Rattle.flash_tree.specs.declared.place.FreshPage.{FreshPage}
 use Rattle.pages.specs.declared.change.Cut.{Cut}
 
 -- a page of a list is one of the longer list, at a later place
-here_cons : (p : FreshPage) (ps : List FreshPage) (o c i : ℕ) → IsOf ps o c i → IsOf (p ∷ ps) o c (suc i)
+here_cons : (p : FreshPage) (ps : List FreshPage) (o c i : ℕ) → IsPageOf ps o c i → IsPageOf (p ∷ ps) o c (suc i)
 here_cons p ps o c i of = record { page = of.page; there = of.there; object = of.object; chunk = of.chunk }
 
 -- the element at a place of a longer list
@@ -30,7 +30,7 @@ get_kept (y ∷ ys) x zero e is = is
 get_kept (y ∷ ys) x (suc i) e is = get_kept ys x i e is
 
 -- where one of the pages is of a key, what is behind does not matter
-pages_hide : (ps : List FreshPage) (m n : PageMap) (o c i : ℕ) → IsOf ps o c i → with_pages ps m o c ≡ with_pages ps n o c
+pages_hide : (ps : List FreshPage) (m n : PageMap) (o c i : ℕ) → IsPageOf ps o c i → with_pages ps m o c ≡ with_pages ps n o c
 pages_hide [] m n o c i of = let no' : None ≡ Some of.page = of.there in absurd cc
 pages_hide (p ∷ ps) m n o c zero of =
     let same : Some p ≡ Some of.page = of.there in
@@ -114,14 +114,14 @@ put_len ps ps' cuts p put = elim put [
 ]
 
 -- a page that was among them still is
-put_keeps : (ps ps' : List FreshPage) (cuts : List Cut) (p : FreshPage) (o c i : ℕ) → IsPutBehind ps cuts p ps' → IsOf ps o c i → IsOf ps' o c i
+put_keeps : (ps ps' : List FreshPage) (cuts : List Cut) (p : FreshPage) (o c i : ℕ) → IsPutBehind ps cuts p ps' → IsPageOf ps o c i → IsPageOf ps' o c i
 put_keeps ps ps' cuts p o c i put of = elim put [
-  | inr none ↦ subst (λ (qs : List FreshPage). IsOf qs o c i) (sym none.1) of
-  | inl new ↦ subst (λ (qs : List FreshPage). IsOf qs o c i) (sym new.2) (record { page = of.page; there = get_kept ps p i of.page of.there; object = of.object; chunk = of.chunk })
+  | inr none ↦ subst (λ (qs : List FreshPage). IsPageOf qs o c i) (sym none.1) of
+  | inl new ↦ subst (λ (qs : List FreshPage). IsPageOf qs o c i) (sym new.2) (record { page = of.page; there = get_kept ps p i of.page of.there; object = of.object; chunk = of.chunk })
 ]
 
 -- one whose key is there is left out
-put_none : (ps ps' : List FreshPage) (cuts : List Cut) (p : FreshPage) (i : ℕ) → IsPutBehind ps cuts p ps' → IsOf ps p.key.object p.key.chunk i → ps' ≡ ps
+put_none : (ps ps' : List FreshPage) (cuts : List Cut) (p : FreshPage) (i : ℕ) → IsPutBehind ps cuts p ps' → IsPageOf ps p.key.object p.key.chunk i → ps' ≡ ps
 put_none ps ps' cuts p i put of = elim put [
   | inr none ↦ none.1
   | inl new ↦ absurd (new.0 i of)
@@ -133,7 +133,7 @@ pub record Folding (cuts : List Cut) (first all now rest : List FreshPage) : Typ
   pub apart : AreApart first → AreApart now
   pub size : (bytes : ℕ) → AreSized all bytes → AreSized first bytes → AreSized rest bytes × AreSized now bytes
   pub few : length now + length rest ≤ length all + length first
-  pub shared : (o c i j : ℕ) → IsOf all o c i → IsOf first o c j → (((k : ℕ) × IsOf rest o c k) × IsOf now o c j) ⊎ (length now + length rest + 1 ≤ length all + length first)
+  pub shared : (o c i j : ℕ) → IsPageOf all o c i → IsPageOf first o c j → (((k : ℕ) × IsPageOf rest o c k) × IsPageOf now o c j) ⊎ (length now + length rest + 1 ≤ length all + length first)
 
 pub folding_starts : (cuts : List Cut) (first all : List FreshPage) → Folding cuts first all first all
 folding_starts cuts first all = record {
@@ -156,7 +156,7 @@ folding_goes cuts first all now now' p rest f put = record {
     | inl both ↦ go o c both.0.0 j both.0.1 both.1
   ];
 } where
-  go : (o c k j : ℕ) → IsOf (p ∷ rest) o c k → IsOf now o c j → (((k : ℕ) × IsOf rest o c k) × IsOf now' o c j) ⊎ (length now' + length rest + 1 ≤ length all + length first)
+  go : (o c k j : ℕ) → IsPageOf (p ∷ rest) o c k → IsPageOf now o c j → (((k : ℕ) × IsPageOf rest o c k) × IsPageOf now' o c j) ⊎ (length now' + length rest + 1 ≤ length all + length first)
   go o c zero j a b =
       let same : Some p ≡ Some a.page = a.there in
       let one : p ≡ a.page = cc in
@@ -179,7 +179,7 @@ folding_shows cuts first all now rest f none earlier both are m o c =
     ∙ ap (λ (ps : List FreshPage). with_pages now (without_cuts cuts (with_pages ps (without_cuts earlier m))) o c) (sym none)
     ∙ f.shows (without_cuts earlier m) o c
 
-pub folding_shares : (cuts : List Cut) (first all now rest : List FreshPage) → Folding cuts first all now rest → rest ≡ [] → (o c i j : ℕ) → IsOf all o c i → IsOf first o c j
+pub folding_shares : (cuts : List Cut) (first all now rest : List FreshPage) → Folding cuts first all now rest → rest ≡ [] → (o c i j : ℕ) → IsPageOf all o c i → IsPageOf first o c j
     → length now + 1 ≤ length all + length first
 folding_shares cuts first all now rest f none o c i j a b = elim (f.shared o c i j a b) [
   | inr less ↦ omega (arith, less)

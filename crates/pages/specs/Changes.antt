@@ -1,13 +1,13 @@
 -- Changes that a store takes.
 use Rattle.std.specs.Prelude.{◌≡◌, ◌⊎◌, ◌≤◌, ℕ, List, [], ◌∷◌, ◌++◌, length, Some, slice_get}
-use Rattle.pages.specs.Maps.{IsOf, IsCut}
+use Rattle.pages.specs.Maps.{IsPageOf, IsCut}
 use Rattle.flash_tree.specs.declared.place.FreshPage.{FreshPage}
 use Rattle.pages.specs.declared.change.Cut.{Cut}
 use Rattle.pages.specs.declared.change.Change.{Change}
 
 -- no key stands twice among the pages
 abbrev pub AreApart : List FreshPage → Type 0
-AreApart pages = (o c i j : ℕ) → IsOf pages o c i → IsOf pages o c j → i ≡ j
+AreApart pages = (o c i j : ℕ) → IsPageOf pages o c i → IsPageOf pages o c j → i ≡ j
 
 -- each page has so many bytes
 abbrev pub AreSized : List FreshPage → ℕ → Type 0
@@ -30,11 +30,11 @@ pub record IsNothing (change : Change) : Type 0 where
 
 -- no page or cut is of another object
 pub record IsOnlyOf (change : Change) (object : ℕ) : Type 0 where
-  pub pages : (o c i : ℕ) → IsOf change.pages.items o c i → o ≡ object
+  pub pages : (o c i : ℕ) → IsPageOf change.pages.items o c i → o ≡ object
   pub cuts : (o c i : ℕ) → IsCut change.cuts.items o c i → o ≡ object
 
 -- the page is behind the others, or one of them is of its key, or a cut takes it away
 abbrev pub IsPutBehind : List FreshPage → List Cut → FreshPage → List FreshPage → Type 0
 IsPutBehind pages cuts page new =
-    (((i : ℕ) → IsOf pages page.key.object page.key.chunk i → ⊥) × ((i : ℕ) → IsCut cuts page.key.object page.key.chunk i → ⊥) × (new ≡ pages ++ page ∷ []))
-    ⊎ ((((i : ℕ) × IsOf pages page.key.object page.key.chunk i) ⊎ ((i : ℕ) × IsCut cuts page.key.object page.key.chunk i)) × (new ≡ pages))
+    (((i : ℕ) → IsPageOf pages page.key.object page.key.chunk i → ⊥) × ((i : ℕ) → IsCut cuts page.key.object page.key.chunk i → ⊥) × (new ≡ pages ++ page ∷ []))
+    ⊎ ((((i : ℕ) × IsPageOf pages page.key.object page.key.chunk i) ⊎ ((i : ℕ) × IsCut cuts page.key.object page.key.chunk i)) × (new ≡ pages))

@@ -36,7 +36,7 @@ abbrev pub changed : Change → PageMap → PageMap
 changed change m = with_pages change.pages.items (without_cuts change.cuts.items m)
 
 -- the page at place i is of this key
-pub record IsOf (pages : List FreshPage) (o c i : ℕ) : Type 0 where
+pub record IsPageOf (pages : List FreshPage) (o c i : ℕ) : Type 0 where
   pub page : FreshPage
   pub there : slice_get pages i ≡ Some page
   pub object : page.key.object ≡ o
@@ -44,7 +44,7 @@ pub record IsOf (pages : List FreshPage) (o c i : ℕ) : Type 0 where
 
 -- and no page before it is
 abbrev pub IsFirstOf : List FreshPage → ℕ → ℕ → ℕ → Type 0
-IsFirstOf pages o c i = IsOf pages o c i × ((k : ℕ) → k < i → IsOf pages o c k → ⊥)
+IsFirstOf pages o c i = IsPageOf pages o c i × ((k : ℕ) → k < i → IsPageOf pages o c k → ⊥)
 
 -- the cut at place i takes the key's page away
 pub record IsCut (cuts : List Cut) (o c i : ℕ) : Type 0 where

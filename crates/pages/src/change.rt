@@ -1,6 +1,6 @@
 // What is changed together.
 ghost use Rattle.std.specs.Prelude.{◌≡◌, ◌≤◌, ◌+◌, ℕ, true, false, IfOk, OnOk, IfSome, IfNone, length};
-ghost use Rattle.pages.specs.Maps.{PageMap, changed, IsOf, IsFirstOf, takes, IsCut};
+ghost use Rattle.pages.specs.Maps.{PageMap, changed, IsPageOf, IsFirstOf, takes, IsCut};
 ghost use Rattle.pages.specs.Changes.{AreApart, AreSized, IsNothing, IsPutBehind};
 
 use flash_tree::{FreshPage, Key};
@@ -32,7 +32,7 @@ pub struct Change {
 /// The place of the first page of a key.
 pub(crate) fn place_of(pages: &[FreshPage], key: Key) -> Option<usize>
     ensures some { IfSome result (IsFirstOf pages.now key.object key.chunk) }
-    ensures none { IfNone result ((i : ℕ) → IsOf pages.now key.object key.chunk i → ⊥) }
+    ensures none { IfNone result ((i : ℕ) → IsPageOf pages.now key.object key.chunk i → ⊥) }
 {
     for (place, page) in pages.iter().enumerate() {
         if page.key == key {
@@ -82,7 +82,7 @@ impl Change {
         ensures apart { AreApart self.pages.items → AreApart next.pages.items → IfOk result (λ both. AreApart both.pages.items) }
         ensures size { (bytes : ℕ) → AreSized self.pages.items bytes → AreSized next.pages.items bytes → IfOk result (λ both. AreSized both.pages.items bytes) }
         ensures few { IfOk result (λ both. length both.pages.items ≤ length self.pages.items + length next.pages.items) }
-        ensures shared { (o c i j : ℕ) → IsOf self.pages.items o c i → IsOf next.pages.items o c j
+        ensures shared { (o c i j : ℕ) → IsPageOf self.pages.items o c i → IsPageOf next.pages.items o c j
             → IfOk result (λ both. length both.pages.items + 1 ≤ length self.pages.items + length next.pages.items) }
     {
         let Change {

@@ -11,7 +11,7 @@ use Rattle.posix_profile.specs.laws.Sound.{IsSound}
 use Rattle.posix_profile.specs.declared.command.Stamped.{Stamped}
 use Rattle.posix_profile.specs.declared.reply.Reply.{Reply}
 use Rattle.command_plans.specs.Classes.{class_of}
-use Rattle.object_commands.specs.Endings.{IsAt, Ends}
+use Rattle.object_commands.specs.Endings.{IsAt, CommandEnds}
 use Rattle.object_commands.specs.Running.{Ran, Runs}
 use Rattle.object_commands.specs.Volumes.{store_of, handles_of, is_read_only, is_stopped}
 use Rattle.object_commands.specs.declared.volume.Volume.{Volume}
@@ -58,7 +58,7 @@ pub record Called (z : Sizes) (read_only : Bool) (s : State) (c : Stamped) (r : 
   pub plain : IsPlain b
 
 pub called : (z : Sizes) (read_only : Bool) (s : State) (c : Stamped) (r : Reply) (a b : Volume PlainObjects)
-    → Ends plain_meaning z (class_of c.command) (takes_no_memory c.command) s (step z read_only s c) a b r → Called z read_only s c r b
+    → CommandEnds plain_meaning z (class_of c.command) (takes_no_memory c.command) s (step z read_only s c) a b r → Called z read_only s c r b
 called z read_only s c r a b (inl done) =
     let own = command_own s z read_only c.moment c.command in
     let memory : is_no_memory r ≡ false = ap is_no_memory done.reply ∙ own.memory in
@@ -82,7 +82,7 @@ called z read_only s c r a b (inr (inr stopped)) = absurd stopped.left
 
 -- the same, for what the volume is seen as
 pub call_ends : (view : PlainView) (c : Stamped) (r : Reply) (a b : Volume PlainObjects) → IsPlain a → view_of a ≡ view
-    → (is_stopped a ≡ false → (z : Sizes) (s : State) → IsAt plain_meaning z s a → Ends plain_meaning z (class_of c.command) (takes_no_memory c.command) s (step z (is_read_only a) s c) a b r)
+    → (is_stopped a ≡ false → (z : Sizes) (s : State) → IsAt plain_meaning z s a → CommandEnds plain_meaning z (class_of c.command) (takes_no_memory c.command) s (step z (is_read_only a) s c) a b r)
     → Called view.sizes view.read_only view.state c r b
 call_ends view c r a b is same ends = subst (λ (v : PlainView). Called v.sizes v.read_only v.state c r b) same
     (called (numbers_of (store_of a)) (is_read_only a) (state_of a) c r a b (ends is.goes_on (numbers_of (store_of a)) (state_of a) (plain_at a is)))

@@ -17,7 +17,7 @@ use Rattle.chunk_index.specs.declared.form.KeptPage.{KeptPage}
 use Rattle.chunk_index.specs.declared.index.Index.{Index}
 use Rattle.chunk_index.specs.Counts.{Recounts}
 use Rattle.chunk_index.specs.Maps.{kept_pages, CountsAgree}
-use Rattle.chunk_index.specs.Newest.{IsOf, Indexes, page_of}
+use Rattle.chunk_index.specs.Newest.{IsFoundOf, Indexes, page_of}
 use Rattle.flash_tree.specs.Numbering.{AreBelow}
 use Rattle.transactions.specs.Ready.{IsOpenOn, IsReady}
 use Rattle.mount_scan.specs.Scanned.{TellsNewest, ArePlaced, AreNewest}
@@ -26,7 +26,7 @@ use Rattle.bad_blocks.specs.Standing.{IsKeptAt, MayLie, IsWithinLimits, Stands}
 use Rattle.bad_blocks.specs.Taking.{HasUnkept}
 
 -- one of the first n pages is of the key, or none is
-one_of : (fs : List Found) (d : Found) (o c n : ℕ) → ((i : ℕ) × (i < n) × IsOf o c (get_or fs i d)) ⊎ ((i : ℕ) → i < n → IsOf o c (get_or fs i d) → ⊥)
+one_of : (fs : List Found) (d : Found) (o c n : ℕ) → ((i : ℕ) × (i < n) × IsFoundOf o c (get_or fs i d)) ⊎ ((i : ℕ) → i < n → IsFoundOf o c (get_or fs i d) → ⊥)
 one_of fs d o c zero = inr (λ i lt of. absurd (omega (arith, lt)))
 one_of fs d o c (suc n) = elim (one_of fs d o c n) [
   | inl (i, lt, of) ↦ inl (i, omega (arith, lt), of)
@@ -67,7 +67,7 @@ kept_listed fs x o c p indexes at = elim (one_of fs none_found o c (length fs)) 
       record { page = f; has = Contains-get_or fs i none_found lt; object = of.0; chunk = of.1; is = cc }
   | inr none ↦
       let absent : kept_pages x o c ≡ None = indexes.kept_elsewhere o c (λ i d lt of. none i lt
-      (subst (IsOf o c) (get_or_from_slice_get fs i (get_or fs i none_found) d (slice_get-get_or fs i none_found lt)) of)) in
+      (subst (IsFoundOf o c) (get_or_from_slice_get fs i (get_or fs i none_found) d (slice_get-get_or fs i none_found lt)) of)) in
       let both : None ≡ Some p = sym absent ∙ at in
       absurd cc
 ]

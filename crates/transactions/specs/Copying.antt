@@ -8,7 +8,7 @@ use Rattle.page_tags.specs.Tags.{IsTag, tag_bytes}
 use Rattle.page_tags.specs.declared.tag.Tag.{Tag}
 use Rattle.transactions.specs.declared.source.PageName.{PageName}
 use Rattle.transactions.specs.declared.copies.CopyOf.{CopyOf}
-use Rattle.transactions.specs.Sources.{IsName, name_of}
+use Rattle.transactions.specs.Sources.{IsPageName, name_of}
 
 -- what lies behind the last copy is called
 abbrev pub no_name : PageName
@@ -49,4 +49,4 @@ pub record CanCopy (places : List CopyOf) (geometry : Geometry) (number : ℕ) :
   pub some : 1 ≤ length places
   pub few : length places < 2 ^ 32
   pub within : (i : ℕ) (c : CopyOf) → slice_get places i ≡ Some c → (c.block < geometry.blocks) × (c.page < geometry.pages)
-  pub named : (i : ℕ) → i < length places → IsName number (name_at places i)
+  pub named : (i : ℕ) → i < length places → IsPageName number (name_at places i)

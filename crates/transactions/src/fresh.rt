@@ -1,7 +1,7 @@
 // Pages in memory, to be committed.
 ghost use Rattle.std.specs.Prelude.{◌≡◌, ◌<◌, ◌≤◌, ℕ, List, length, true, IfOk};
 ghost use Rattle.nand_model.specs.Changes.{OnlyReads};
-ghost use Rattle.transactions.specs.Sources.{IsName};
+ghost use Rattle.transactions.specs.Sources.{IsPageName};
 
 use crate::source::{PageName, PageSource, SourceFault};
 use flash_tree::{FreshPage, Key};
@@ -18,7 +18,7 @@ fn name_in(key: Key, group: u64) -> PageName
     requires object { 1 ≤ key.object }
     requires group { 1 ≤ group }
     ensures is { result ≡ record { key = key; version = group } }
-    ensures name { IsName group result }
+    ensures name { IsPageName group result }
 {
     PageName {
         key,

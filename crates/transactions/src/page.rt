@@ -3,7 +3,7 @@ ghost use Rattle.std.specs.Prelude.{◌≡◌, ◌<◌, ◌≤◌, ◌+◌, ◌-
 ghost use Rattle.nand_model.specs.Flash.{Written};
 ghost use Rattle.nand_model.specs.Changes.{OnlyReads};
 ghost use Rattle.page_tags.specs.Tags.{IsTag};
-ghost use Rattle.transactions.specs.Sources.{IsName};
+ghost use Rattle.transactions.specs.Sources.{IsPageName};
 ghost use Rattle.transactions.specs.Written.{group_at, tag_in, WritesOne, WritesLast, FirstEnds, WritesAll, MayWrite, IsWrittenPage};
 
 use crate::group::GroupFault;

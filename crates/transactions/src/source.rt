@@ -40,7 +40,7 @@ pub enum SourceFault {
 /// The pages of a group that is to be written.
 pub trait PageSource {
     ghost use Rattle.transactions.specs.declared.source.PageName.{PageName};
-    ghost use Rattle.transactions.specs.Sources.{IsName};
+    ghost use Rattle.transactions.specs.Sources.{IsPageName};
     ghost use Rattle.transactions.specs.SourceEnds.{SourceEnds};
 
     /// How many pages there are.
@@ -77,7 +77,7 @@ pub trait PageSource {
         requires size { length page.old ≡ (N.state device.old).geometry.bytes }
         ensures reads { OnlyReads (N.state device.old) (N.state device.new) }
         ensures ends { SourceEnds (N.state device.old) (N.state device.new) (has self.now (N.state device.old).flash i) result }
-        ensures name { IfOk result (λ n. (n ≡ name self.now group i) × IsName group n) }
+        ensures name { IfOk result (λ n. (n ≡ name self.now group i) × IsPageName group n) }
         ensures size { length page.new ≡ length page.old }
         ensures has { (N.state device.old).honest ≡ true → IfOk result (λ _. has self.now (N.state device.old).flash i) }
         ensures bytes { (N.state device.old).honest ≡ true → IfOk result (λ _. page.new ≡ bytes self.now (N.state device.old).flash i) };

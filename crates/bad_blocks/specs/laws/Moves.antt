@@ -8,7 +8,7 @@ use Rattle.block_state.specs.Kept.{kept_count}
 use Rattle.block_state.specs.Table.{Table}
 use Rattle.block_state.specs.laws.Counting.{sum_below-same}
 use Rattle.chunk_index.specs.declared.form.KeptPage.{KeptPage}
-use Rattle.chunk_index.specs.declared.entry.Entry.{Entry}
+use Rattle.chunk_index.specs.declared.entry.KeyEntry.{KeyEntry}
 use Rattle.chunk_index.specs.declared.entry.State.{State}
 use Rattle.chunk_index.specs.declared.entry.State.TheVariants as states
 use Rattle.chunk_index.specs.declared.index.Index.{Index}
@@ -24,7 +24,7 @@ use Rattle.bad_blocks.specs.laws.Keeping.{had_power}
 -- ---- the index
 
 -- what is present is what is kept, where it is on the flash
-follows_here : (m : Option Entry) (p : KeptPage) → kept_of m ≡ Some p → present_of m ≡ moved_to p (present_of m)
+follows_here : (m : Option KeyEntry) (p : KeptPage) → kept_of m ≡ Some p → present_of m ≡ moved_to p (present_of m)
 follows_here None p is = absurd cc
 follows_here (Some e) p is = go e.state where
   go : (s : State) → present_by e.kept s ≡ moved_to p (present_by e.kept s)

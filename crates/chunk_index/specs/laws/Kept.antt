@@ -10,13 +10,13 @@ use Rattle.std.proofs.lemmas.List.{length-append}
 use Rattle.std.proofs.lemmas.List.Sums.{sum_by-cons}
 use Rattle.chunk_index.specs.declared.form.KeptPage.{KeptPage}
 use Rattle.chunk_index.specs.declared.form.KeptKey.{KeptKey}
-use Rattle.chunk_index.specs.declared.entry.Entry.{Entry}
+use Rattle.chunk_index.specs.declared.entry.KeyEntry.{KeyEntry}
 use Rattle.chunk_index.specs.declared.object.ObjectEntries.{ObjectEntries}
 use Rattle.chunk_index.specs.Entries.{weigh, counted_at, one_at}
 use Rattle.chunk_index.specs.Listing.{key_in, keys_of, keys_in}
 
 -- a list for each key that is counted
-length-key_in : (b o : ℕ) (e : Entry) → length (key_in b o e) ≡ counted_at b e
+length-key_in : (b o : ℕ) (e : KeyEntry) → length (key_in b o e) ≡ counted_at b e
 length-key_in b o e = go e.kept refl where
   go : (p : Option KeptPage) → e.kept ≡ p → length (key_in b o e) ≡ one_at e.kept b
   go None is = ap (λ q. length {A = KeptKey} (option_map_or (λ p. if p.block == b then record { key = record { object = o; chunk = e.chunk }; at = p } ∷ [] else []) q [])) is ∙ sym (ap (λ q. one_at q b) is)
@@ -28,7 +28,7 @@ length-key_in b o e = go e.kept refl where
       ] in
       ap here is ∙ both ∙ sym (ap (λ q. one_at q b) is)
 
-length-keys_of : (b o : ℕ) (es : List Entry) → length (keys_of b o es) ≡ weigh (counted_at b) es
+length-keys_of : (b o : ℕ) (es : List KeyEntry) → length (keys_of b o es) ≡ weigh (counted_at b) es
 length-keys_of b o [] = refl
 length-keys_of b o (e ∷ es) =
     let one = length-append (key_in b o e) (keys_of b o es) in

@@ -3,7 +3,7 @@ use Rattle.std.specs.Prelude.{◌≡◌, ◌<◌, ℕ, Bool}
 use Rattle.std.proofs.Common.{sym, ap, ◌∙◌, inl, inr, arith}
 use Rattle.std.proofs.lemmas.Bool.{cases_eq, cases_lt, cases_Bool}
 use Rattle.block_state.specs.Table.{Table}
-use Rattle.chunk_index.specs.declared.form.Place.{Place}
+use Rattle.chunk_index.specs.declared.form.PagePlace.{PagePlace}
 use Rattle.chunk_index.specs.declared.form.KeptPage.{KeptPage}
 use Rattle.chunk_index.specs.declared.form.Form.TheVariants as forms
 use Rattle.chunk_index.specs.declared.form.Present.{Present}
@@ -54,7 +54,7 @@ moved_buffer p (presents.OnFlash k) i is = absurd cc
 moved_buffer p (presents.InBuffer j) i is = is
 
 -- after a copy
-pub below_copied : (n o c : ℕ) (place : Place) (was : KeptPage) (old new : Index) → Copies o c place was old new → BufferBelow n old → BufferBelow n new
+pub below_copied : (n o c : ℕ) (place : PagePlace) (was : KeptPage) (old new : Index) → Copies o c place was old new → BufferBelow n old → BufferBelow n new
 below_copied n o c place was old new copies below k l i is = elim (cases_eq k o) [
   | inr ne ↦ below k l i (sym (copies.present_elsewhere k l (inl ne)) ∙ is)
   | inl e ↦ elim (cases_eq l c) [

@@ -17,7 +17,7 @@ use Rattle.posix_profile.specs.declared.reply.Reply.{Reply}
 use Rattle.posix_profile.specs.declared.reply.Reply.TheVariants as replies
 use Rattle.object_store.specs.Stores.{Meaning, IsLawful, KeepsOrSettles, settled}
 use Rattle.command_plans.specs.Classes.{Class, Telling, Changing, Syncing, class_of, is_error}
-use Rattle.object_commands.specs.Endings.{IsAt, Leaves, Ends}
+use Rattle.object_commands.specs.Endings.{IsAt, Leaves, CommandEnds}
 use Rattle.object_commands.specs.declared.volume.Volume.{Volume}
 
 -- what a done command leaves keeps the tree that a mount shows or settles it
@@ -72,7 +72,7 @@ pub record One {S : Type 0} (m : Meaning S) (z : Sizes) (read_only : Bool) (s : 
   pub reads : is_stop r ≡ false → (class_of c.command ≡ Telling) ⊎ (is_error r ≡ true) → m.reads a.store b.store
 
 pub one_ends : {S : Type 0} (m : Meaning S) (law : IsLawful m) (z : Sizes) (read_only : Bool) (s : State) (c : Stamped) (r : Reply) (a b : Volume S)
-    → Ends m z (class_of c.command) (takes_no_memory c.command) s (step z read_only s c) a b r → One m z read_only s c r a b
+    → CommandEnds m z (class_of c.command) (takes_no_memory c.command) s (step z read_only s c) a b r → One m z read_only s c r a b
 one_ends m law z read_only s c r a b (inl done) =
     let own = command_own s z read_only c.moment c.command in
     let memory : is_no_memory r ≡ false = ap is_no_memory done.reply ∙ own.memory in

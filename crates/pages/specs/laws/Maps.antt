@@ -2,7 +2,7 @@
 use Rattle.std.specs.Prelude.{◌≡◌, ◌≢◌, ◌⊎◌, ◌<◌, ◌≤◌, ℕ, zero, suc, true, false, List, [], ◌∷◌, Some, None, slice_get}
 use Rattle.std.proofs.Common.{refl, sym, ◌∙◌, ap, subst, inl, inr, arith}
 use Rattle.std.proofs.lemmas.Bool.{cases_eq, cases_lt, eq-eqb, ne_eqb, le-leb, lt-leb, and_from, and_left, and_right, cond-true, cond-false}
-use Rattle.pages.specs.Maps.{PageMap, is_of, with_pages, takes, without_cuts, changed, IsOf, IsCut}
+use Rattle.pages.specs.Maps.{PageMap, is_of, with_pages, takes, without_cuts, changed, IsPageOf, IsCut}
 use Rattle.pages.specs.Changes.{AreApart}
 use Rattle.flash_tree.specs.declared.place.FreshPage.{FreshPage}
 use Rattle.pages.specs.declared.change.Cut.{Cut}
@@ -45,7 +45,7 @@ page_here (q ∷ ps) m apart (suc i) p is = elim (key_cases q p.key.object p.key
 ]
 
 -- a key that no page is of has what was there
-pub page_elsewhere : (pages : List FreshPage) (m : PageMap) (o c : ℕ) → ((i : ℕ) → IsOf pages o c i → ⊥) → with_pages pages m o c ≡ m o c
+pub page_elsewhere : (pages : List FreshPage) (m : PageMap) (o c : ℕ) → ((i : ℕ) → IsPageOf pages o c i → ⊥) → with_pages pages m o c ≡ m o c
 page_elsewhere [] m o c none = refl
 page_elsewhere (q ∷ ps) m o c none = elim (key_cases q o c) [
   | inl of ↦ absurd (none 0 (record { page = q; there = refl; object = of.1; chunk = of.2 }))
@@ -54,7 +54,7 @@ page_elsewhere (q ∷ ps) m o c none = elim (key_cases q o c) [
 ]
 
 -- the first page of a key is the key's
-pub first_here : (pages : List FreshPage) (m : PageMap) (o c i : ℕ) (p : FreshPage) → slice_get pages i ≡ Some p → p.key.object ≡ o → p.key.chunk ≡ c → ((k : ℕ) → k < i → IsOf pages o c k → ⊥)
+pub first_here : (pages : List FreshPage) (m : PageMap) (o c i : ℕ) (p : FreshPage) → slice_get pages i ≡ Some p → p.key.object ≡ o → p.key.chunk ≡ c → ((k : ℕ) → k < i → IsPageOf pages o c k → ⊥)
     → with_pages pages m o c ≡ Some p.bytes.items
 first_here [] m o c i p is object chunk none = absurd cc
 first_here (q ∷ ps) m o c zero p is object chunk none =
@@ -94,9 +94,9 @@ module _ (change : Change) (m : PageMap) where
   here = page_here change.pages.items (without_cuts change.cuts.items m)
 
   -- what is cut and not written is gone
-  pub gone : (o c i : ℕ) → ((k : ℕ) → IsOf change.pages.items o c k → ⊥) → IsCut change.cuts.items o c i → changed change m o c ≡ None
+  pub gone : (o c i : ℕ) → ((k : ℕ) → IsPageOf change.pages.items o c k → ⊥) → IsCut change.cuts.items o c i → changed change m o c ≡ None
   gone o c i none is = page_elsewhere change.pages.items (without_cuts change.cuts.items m) o c none ∙ cut_here change.cuts.items m o c i is
 
   -- a key that is neither written nor cut keeps its page, or has none as before
-  pub elsewhere : (o c : ℕ) → ((k : ℕ) → IsOf change.pages.items o c k → ⊥) → ((k : ℕ) → IsCut change.cuts.items o c k → ⊥) → changed change m o c ≡ m o c
+  pub elsewhere : (o c : ℕ) → ((k : ℕ) → IsPageOf change.pages.items o c k → ⊥) → ((k : ℕ) → IsCut change.cuts.items o c k → ⊥) → changed change m o c ≡ m o c
   elsewhere o c none uncut = page_elsewhere change.pages.items (without_cuts change.cuts.items m) o c none ∙ cut_elsewhere change.cuts.items m o c uncut

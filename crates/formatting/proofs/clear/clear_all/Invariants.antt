@@ -1,9 +1,9 @@
 use Rattle.std.proofs.Common.{◌<◌, ℕ}
-use Rattle.formatting.specs.Formatting.{Keeps, IsReady}
+use Rattle.formatting.specs.Formatting.{Keeps, IsClear}
 use Rattle.formatting.proofs.clear.clear_all.Given as goal
 
 abbrev pub invariant-loop-block : goal.invariant-loop-block
 invariant-loop-block g l = record {
   keeps : Keeps (g.N.Nand.state l.fn.device) (g.N.Nand.state l.device);
-  ready : (b : ℕ) → b < l.block → IsReady (g.N.Nand.state l.device).flash b;
+  ready : (b : ℕ) → b < l.block → IsClear (g.N.Nand.state l.device).flash b;
 }

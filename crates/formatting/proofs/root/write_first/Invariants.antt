@@ -1,5 +1,5 @@
 use Rattle.std.proofs.Common.{◌≡◌, ◌<◌, ◌≤◌, ◌+◌, ℕ, true}
-use Rattle.formatting.specs.Formatting.{Keeps, AreReady}
+use Rattle.formatting.specs.Formatting.{Keeps, AreClear}
 use Rattle.formatting.proofs.root.write_first.Given as goal
 
 abbrev pub invariant-loop-block : goal.invariant-loop-block
@@ -8,5 +8,5 @@ invariant-loop-block g l = record {
   failed : (g.N.Nand.state l.device).failures ≡ (g.N.Nand.state l.fn.device).failures + l.failed;
   few : l.failed ≤ l.block;
   bad : (b : ℕ) → b < l.block → (g.N.Nand.state l.device).flash.bad b ≡ true;
-  ready : AreReady (g.N.Nand.state l.device) l.block;
+  ready : AreClear (g.N.Nand.state l.device) l.block;
 }

@@ -1,5 +1,5 @@
 use Rattle.std.proofs.Common.{◌≡◌, ◌<◌, ℕ, None}
-use Rattle.pages.specs.Maps.{IsOf}
+use Rattle.pages.specs.Maps.{IsPageOf}
 use Rattle.page_cache.specs.Cached.{cached}
 use Rattle.page_cache.specs.Changes.{KeepsSizes}
 use Rattle.objects.specs.Caching.{HasNoMore}
@@ -9,5 +9,5 @@ abbrev pub invariant-loop-page : goal.invariant-loop-page
 invariant-loop-page l = record {
   sizes : KeepsSizes l.fn.cache l.cache;
   fewer : HasNoMore l.fn.cache l.cache;
-  lacks : (o c i : ℕ) → i < l.page-index → IsOf l.pages o c i → cached l.cache o c ≡ None;
+  lacks : (o c i : ℕ) → i < l.page-index → IsPageOf l.pages o c i → cached l.cache o c ≡ None;
 }

@@ -2,8 +2,8 @@ use Rattle.std.proofs.Common.{◌≡◌, ◌<◌, ◌∙◌, ℕ, Some, slice_ge
 use Rattle.std.proofs.lemmas.Bool.{cases_eq}
 use Rattle.std.proofs.lemmas.Option.{slice_get_within, slice_get_read}
 use Rattle.flash_tree.specs.declared.place.FreshPage.{FreshPage}
-use Rattle.pages.specs.Maps.{IsOf}
-use Rattle.chunk_index.specs.Maps.{IsReady}
+use Rattle.pages.specs.Maps.{IsPageOf}
+use Rattle.chunk_index.specs.Maps.{IsReadyKey}
 use Rattle.page_buffer.proofs.Keys.{object_is, chunk_is}
 use Rattle.page_buffer.proofs.Preparing.{kept_on}
 use Rattle.page_buffer.proofs.changing.prepare.Goals as goal
@@ -22,8 +22,8 @@ loop-page-preserved c =
         | inr ne ↦ c.prepare.ensures.stays o k (c.loop-page.invariant.ready o k i (omega (arith, lt, ne)) of)
         | inl e ↦
             let there : slice_get c.args.pages.now i ≡ Some p = ap (slice_get c.args.pages.now) e ∙ at in
-            subst (λ n. IsReady c.prepare.new.self n k) (sym (object_is c.args.pages.now o k i p there of))
-            (subst (λ n. IsReady c.prepare.new.self p.key.object n) (sym (chunk_is c.args.pages.now o k i p there of)) c.in_ok-prepare.ensures.ready)
+            subst (λ n. IsReadyKey c.prepare.new.self n k) (sym (object_is c.args.pages.now o k i p there of))
+            (subst (λ n. IsReadyKey c.prepare.new.self p.key.object n) (sym (chunk_is c.args.pages.now o k i p there of)) c.in_ok-prepare.ensures.ready)
       ];
       stays = λ o k is. c.prepare.ensures.stays o k (c.loop-page.invariant.stays o k is);
       prepared = λ o k is. c.prepare.ensures.prepared o k (c.loop-page.invariant.prepared o k is);

@@ -1,6 +1,6 @@
 use Rattle.std.proofs.Common.{◌≡◌, ◌<◌, ◌≤◌, ◌+◌, ℕ, List, ◌∙◌, sym, subst, arith}
 use Rattle.flash_tree.specs.declared.place.FreshPage.{FreshPage}
-use Rattle.pages.specs.Maps.{IsOf}
+use Rattle.pages.specs.Maps.{IsPageOf}
 use Rattle.chunk_index.specs.laws.Maps.{agree_same}
 use Rattle.page_buffer.specs.laws.Buffering.{buffers_same}
 use Rattle.page_buffer.specs.BufferOf.{buffered}
@@ -23,7 +23,7 @@ apply-requires-clause-buffers c =
     buffers_same self.index c.prepare.new.index (buffered self.buffer) c.prepare.ensures.present self.buffers
 
 pub apply-requires-clause-prepared : goal.apply-requires-clause-prepared
-apply-requires-clause-prepared c = λ o k i of. ready_prepared c.prepare.new.index o k (c.in_ok-prepare.ensures.ready o k i (subst (λ (xs : List FreshPage). IsOf xs o k i) (sym c.deref.ensures.value) of))
+apply-requires-clause-prepared c = λ o k i of. ready_prepared c.prepare.new.index o k (c.in_ok-prepare.ensures.ready o k i (subst (λ (xs : List FreshPage). IsPageOf xs o k i) (sym c.deref.ensures.value) of))
 
 pub invariant_of-self-2 : goal.invariant_of-self-2
 invariant_of-self-2 c =

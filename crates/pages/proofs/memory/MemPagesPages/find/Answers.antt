@@ -1,5 +1,5 @@
 use Rattle.std.proofs.Common.{◌≡◌, ◌∙◌, ℕ, List, [], Some, None, slice_get, sym, ap, subst}
-use Rattle.pages.specs.Maps.{IsOf, IsFirstOf, with_pages}
+use Rattle.pages.specs.Maps.{IsPageOf, IsFirstOf, with_pages}
 use Rattle.pages.specs.laws.Maps.{first_here, page_elsewhere}
 use Rattle.pages.specs.Memory.{nothing}
 use Rattle.pages.specs.Afterwards.{bytes_or}
@@ -44,5 +44,5 @@ returns-in_err-look_up-in-Some-clause-absent c = λ sound none.
 
 pub returns-in-None-clause-page : goal.returns-in-None-clause-page
 returns-in-None-clause-page c = λ sound.
-    let none = subst (λ (ps : List FreshPage). (k : ℕ) → IsOf ps c.args.key.object c.args.key.chunk k → ⊥) c.deref.ensures.value (rw c.in-None.is at c.place_of.ensures.none) in
+    let none = subst (λ (ps : List FreshPage). (k : ℕ) → IsPageOf ps c.args.key.object c.args.key.chunk k → ⊥) c.deref.ensures.value (rw c.in-None.is at c.place_of.ensures.none) in
     page_elsewhere c.args.self.now.pages.items nothing c.args.key.object c.args.key.chunk none

@@ -9,10 +9,11 @@ ghost use Rattle.bad_blocks.specs.Moving.{MarksFailures, Costs};
 ghost use Rattle.bad_blocks.specs.Copying.{MayBeCopied, KeepsCounts, KeepsDataAt, NewestAfterCopies, StayOrLieApart, CopiesEnd, CopiesCost, FewBad, IsFresh, left_open, most_changes, as_copied};
 
 use crate::fault::MoveFault;
-use crate::take::{LIMIT, take_block};
+use crate::take::take_block;
 use block_state::Blocks;
 use nand_model::Nand;
 use transactions::{Copies, CopyOf, GroupFault, mark_block, write_group};
+use volume_terms::NUMBER_END;
 
 /// Where copies were made.
 #[derive(Clone, Copy, Debug, PartialEq, Eq)]
@@ -91,7 +92,7 @@ fn copy_once<N: Nand>(
     ensures few { FewBad spare (table blocks.new) result }
     ensures ends { CopiesEnd (length copies.now) spare (N.state device.new) (table blocks.old) (table blocks.new) result }
 {
-    if blocks.next_group() >= LIMIT {
+    if blocks.next_group() >= NUMBER_END {
         return Err(MoveFault::Worn);
     }
     let block = take_block(device, blocks, spare)?;

@@ -11,9 +11,7 @@ ghost use Rattle.bad_blocks.specs.Taking.{HasUnkept, IsItsTurn, TakesTurn, Tries
 use block_state::Blocks;
 use nand_model::{EraseFault, Gone, Nand};
 use transactions::{erase_and_open, mark_block};
-
-/// Numbers from here on are not handed out.
-pub(crate) const LIMIT: u64 = 1 << 62;
+use volume_terms::NUMBER_END;
 
 /// Why no block was taken.
 #[derive(Clone, Copy, Debug, PartialEq, Eq)]
@@ -78,7 +76,7 @@ pub fn take_block<N: Nand>(
     ensures ends { TakeEnds spare (N.state device.new) (table blocks.old) (table blocks.new) result }
 {
     blocks.close();
-    if blocks.next_seq() >= LIMIT {
+    if blocks.next_seq() >= NUMBER_END {
         return Err(TakeFault::Worn);
     }
     loop {

@@ -8,9 +8,7 @@ ghost use Rattle.posix_profile.specs.WellFormed.{IsOpen};
 
 use posix_profile::OpenFlags;
 use std::alloc::{AllocError, Global};
-
-/// How many descriptors there are.
-const DESCRIPTORS: u32 = 64;
+use volume_terms::DESCRIPTORS;
 
 /// What an open descriptor stands for. The offset is in bytes.
 #[derive(Clone, Copy, Debug, PartialEq, Eq)]

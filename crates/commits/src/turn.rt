@@ -20,9 +20,7 @@ use chunk_index::Index;
 use collector::{RoomFault, make_room};
 use nand_model::Nand;
 use page_buffer::Buffer;
-
-/// Numbers from here on are not handed out.
-const LIMIT: u64 = 1 << 62;
+use volume_terms::NUMBER_END;
 
 /// What became of a turn.
 #[derive(Clone, Copy, Debug, PartialEq, Eq)]
@@ -60,7 +58,7 @@ fn take_turn<N: Nand>(
 {
     let count = buffer.pages().len() as u32;
     make_room(device, blocks, index, room, count, spare)?;
-    if blocks.next_group() >= LIMIT {
+    if blocks.next_group() >= NUMBER_END {
         return Err(RoomFault::Worn);
     }
     match write_buffered(device, blocks, index, buffer, &mut room.scratch)? {

@@ -16,10 +16,11 @@ use crate::head::read_head;
 use crate::page::slot_of;
 use flash_tree::Key;
 use name_map::NameMap;
-use page_tags::{SLOT_BYTES, decode_slot};
+use page_tags::decode_slot;
 use pages::{PageFault, Pages, load};
 use posix_profile::NameList;
 use std::alloc::Global;
+use volume_terms::SLOT_BYTES;
 
 /// The names of a directory, in the order of their bytes.
 pub fn names<P: Pages>(alloc: Global, pages: &mut P, directory: u64) -> Result<NameList, PageFault>

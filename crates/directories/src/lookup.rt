@@ -15,8 +15,9 @@ ghost use Rattle.directories.specs.Slots.{NamedBy, SlotAt, AreSlots, Finds};
 use crate::head::head_after;
 use crate::page::slot_of;
 use flash_tree::Key;
-use page_tags::{SLOT_BYTES, decode_slot};
+use page_tags::decode_slot;
 use pages::{Change, PageFault, Pages, load_after, page_after};
+use volume_terms::SLOT_BYTES;
 
 /// A slot that has the name that was looked for: its number, and the object that it leads to.
 #[derive(Clone, Copy, Debug, PartialEq, Eq)]

@@ -3,7 +3,8 @@ ghost use Rattle.std.specs.Prelude.{◌≡◌, ◌≢◌, ◌≤◌, ◌+◌, �
 ghost use Rattle.page_tags.specs.SlotEntry.{entry_of};
 ghost use Rattle.page_tags.specs.Slots.{IsSlot, slot_bytes};
 
-use page_tags::{SLOT_BYTES, Slot, encode_slot};
+use page_tags::{Slot, encode_slot};
+use volume_terms::SLOT_BYTES;
 
 /// The bytes of a slot of a page.
 pub(crate) fn slot_of(page: &[u8], place: u32) -> &[u8]

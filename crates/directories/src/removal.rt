@@ -19,9 +19,10 @@ use crate::lookup::search;
 use crate::page::slot_of;
 use crate::writing::{Writing, write};
 use flash_tree::Key;
-use page_tags::{SLOT_BYTES, decode_slot};
+use page_tags::decode_slot;
 use pages::{Change, Cut, PageFault, Pages, load_after, page_after};
 use std::alloc::{AllocError, Global};
+use volume_terms::SLOT_BYTES;
 
 /// The change that takes a name from a directory: the last slot stands in its place then, and a page without slots
 /// goes. There is none where the directory has no such name.

@@ -15,9 +15,10 @@ ghost use Rattle.directories.specs.Writes.{IsSlotsPage, IsSlotPage, HasHead, Has
 use crate::head::{DirectoryHead, head_page};
 use crate::page::{copy_slots, write_slot};
 use flash_tree::{FreshPage, Key};
-use page_tags::{SLOT_BYTES, Slot};
+use page_tags::Slot;
 use pages::{Change, PageFault, Pages, load_after, page_after};
 use std::alloc::Global;
+use volume_terms::SLOT_BYTES;
 
 /// A slot that is written: its number, and how many slots the directory has before and afterwards.
 #[derive(Clone, Copy, Debug, PartialEq, Eq)]

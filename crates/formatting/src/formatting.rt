@@ -14,9 +14,7 @@ use directories::{DirectoryHead, head_page};
 use flash_tree::FreshPage;
 use nand_model::Nand;
 use std::alloc::Global;
-
-/// The number of the root.
-const ROOT: u64 = 1;
+use volume_terms::ROOT;
 
 /// Erases the device and writes the page of the root.
 fn lay_out<N: Nand>(device: &mut N, page: &FreshPage, spare: u32) -> Result<(), FormatFault>

@@ -17,17 +17,15 @@ use objects::Store;
 use pages::Pages;
 use std::alloc::{AllocError, Global};
 use std::num::NonZeroUsize;
-
-/// No number from here on is handed out.
-const LIMIT: u64 = 1 << 62;
+use volume_terms::NUMBER_END;
 
 /// Whether nothing can be written any more: a number stands at the limit, or more blocks are bad than there are to spare.
 pub(crate) fn is_worn<N: Nand>(on: &TreeOn<N>) -> bool
     ensures worn { result ≡ true → IsWorn (N.state on.now.device) (numbers_of on.now.numbers) on.now.spare }
     ensures left { result ≡ false → CanBeWritten (N.state on.now.device) (numbers_of on.now.numbers) on.now.spare }
 {
-    on.numbers.group >= LIMIT
-        || on.numbers.seq >= LIMIT
+    on.numbers.group >= NUMBER_END
+        || on.numbers.seq >= NUMBER_END
         || count_bad(&on.device) > u32::from(on.spare)
 }
 

@@ -15,9 +15,7 @@ use mount_scan::{NewestScan, ScanFault, scan_newest};
 use nand_model::Nand;
 use std::alloc::{AllocError, Global};
 use transactions::table_of;
-
-/// Numbers from here on are not handed out.
-const LIMIT: u64 = 1 << 62;
+use volume_terms::NUMBER_END;
 
 /// Why a device was not opened.
 #[derive(Clone, Copy, Debug, PartialEq, Eq)]
@@ -63,7 +61,7 @@ pub struct Opened {
 pub(crate) fn are_left(numbers: TagNumbers) -> bool
     ensures { IsTrue result ↔ AreLeft (numbers_of numbers) }
 {
-    numbers.group < LIMIT && numbers.seq < LIMIT
+    numbers.group < NUMBER_END && numbers.seq < NUMBER_END
 }
 
 /// The table of the device, whose tags are not above these numbers. With no numbers left nothing can be written, and the

@@ -20,9 +20,10 @@ use command_plans::plan::{HandleChange, Plan, StoreWork, hand_on};
 use command_plans::room::has_object_room;
 use command_plans::table::{DescriptorTable, OpenDescription};
 use object_store::{ObjectChange, ObjectStore, Refusal};
-use path_walk::{PathPlace, ROOT};
+use path_walk::PathPlace;
 use posix_profile::{Errno, Kind, OpenFlags, Reply};
 use std::alloc::Global;
+use volume_terms::ROOT;
 
 /// What goes with a descriptor that stands for this object: the object, if nothing else keeps it.
 fn forgotten<'a, S: ObjectStore>(

@@ -15,6 +15,7 @@ ghost use Rattle.object_pages.specs.Holding.{HoldsIn, HoldsObjects};
 use file_io::{read_info, set_length, write_at};
 use pages::{Change, PageFault, Pages};
 use std::alloc::Global;
+use volume_terms::most_file_bytes;
 
 /// The change that writes bytes into a file from the offset on. A gap reads as zeros, and a write of no bytes beyond the
 /// end makes one.
@@ -101,6 +102,5 @@ pub fn resize<P: Pages>(
 fn most_bytes<P: Pages>(pages: &P) -> u64
     ensures { result ≡ most_file_bytes (P.state pages.now).page_bytes }
 {
-    let page_bytes = u64::from(pages.page_bytes());
-    8 * (page_bytes - 32) * page_bytes
+    most_file_bytes(u64::from(pages.page_bytes()))
 }

@@ -11,6 +11,7 @@ ghost use Rattle.page_tags.specs.declared.header.ObjectKind.{ObjectKind};
 use crate::numbers::{u16_at, u64_at};
 use crate::zeros::are_zero;
 use byteorder::{ByteOrder, LittleEndian};
+use volume_terms::most_file_bytes;
 
 const MAGIC: [u8; 4] = *b"NLFS";
 
@@ -112,7 +113,7 @@ impl ObjectKind {
         ensures { result ≡ greatest_length page_bytes self }
     {
         match self {
-            ObjectKind::File => 8 * (page_bytes as u64 - 32) * page_bytes as u64,
+            ObjectKind::File => most_file_bytes(page_bytes as u64),
             ObjectKind::Directory => u64::from(u32::MAX),
         }
     }

@@ -15,7 +15,7 @@ pub use law::{
     headers_differ, slots_differ, tags_differ,
 };
 pub use presence::{is_present, set_present};
-pub use slot::{SLOT_BYTES, Slot, decode_slot, encode_slot};
+pub use slot::{Slot, decode_slot, encode_slot};
 pub use tag::Tag;
 
 #[cfg(test)]

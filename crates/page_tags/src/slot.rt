@@ -10,9 +10,6 @@ use crate::zeros::are_zero;
 use byteorder::{ByteOrder, LittleEndian};
 use volume_terms::is_name;
 
-/// The bytes of a slot.
-pub const SLOT_BYTES: usize = 272;
-
 /// An entry of a directory.
 #[derive(Clone, Copy, Debug, PartialEq, Eq)]
 pub struct Slot<'a> {

@@ -3,11 +3,12 @@
 ghost use Rattle.std.specs.Prelude.{◌≡◌, ◌≤◌, length};
 
 use crate::{
-    Format, Header, HeaderFault, ObjectKind, SLOT_BYTES, Slot, Tag, decode_header, decode_slot,
+    Format, Header, HeaderFault, ObjectKind, Slot, Tag, decode_header, decode_slot,
     encode_header, encode_slot, is_present, set_present,
 };
 use std::process::Abort;
 use std::test::Fail;
+use volume_terms::SLOT_BYTES;
 
 // Index 0, count 4, object 2, chunk 1, version 7, group 7, seq 3.
 const TAG: [u8; 48] = [

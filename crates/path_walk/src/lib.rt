@@ -5,4 +5,4 @@ mod parts;
 mod walk;
 
 pub use parts::{PathPart, PathPlace};
-pub use walk::{ROOT, resolve};
+pub use walk::resolve;

@@ -8,12 +8,9 @@ ghost use Rattle.path_walk.specs.Places.{component_of};
 
 use posix_profile::Errno;
 use std::alloc::{AllocError, Global};
+use volume_terms::{NAME_LIMIT, PATH_LIMIT};
 
 const SLASH: u8 = b'/';
-
-const NAME_LIMIT: usize = 255;
-
-const PATH_LIMIT: usize = 4095;
 
 /// A component of a path.
 #[derive(Clone, Copy)]

@@ -11,10 +11,7 @@ use crate::parts::{PathPart, PathPlace, ends_in_slash, part_of, parts_of, test_p
 use object_store::{ObjectStore, Refusal, is_file};
 use posix_profile::Errno;
 use std::alloc::Global;
-use volume_terms::StoreFault;
-
-/// The number of the root directory.
-pub const ROOT: u64 = 1;
+use volume_terms::{ROOT, StoreFault};
 
 /// The directory above a directory; above the root it is the root.
 fn parent<S: ObjectStore>(store: &S, directory: u64) -> u64

@@ -14,13 +14,13 @@ use crate::names::names_at;
 use object_store::{ObjectChange, ObjectStore};
 use plain_state::change::new_number;
 use plain_state::charge::{charge, fits};
-use plain_state::links::{ROOT, entry_at, entry_count_at, info, is_named, parent};
+use plain_state::links::{entry_at, entry_count_at, info, is_named, parent};
 use plain_state::object::{EntryMap, ObjectMap, PlainObject};
 use plain_state::prune::settled;
 use plain_state::table::{copy_objects, object_at, put_object};
 use posix_profile::{Bytes, Info, NameList};
 use std::alloc::{AllocError, Global};
-use volume_terms::{StoreFault, VolumeSizes};
+use volume_terms::{ROOT, StoreFault, VolumeSizes};
 
 /// Objects in maps, for which there is room.
 #[derive(Drop)]

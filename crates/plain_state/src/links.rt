@@ -12,10 +12,7 @@ ghost use Rattle.volume_terms.specs.VolumeSizes.{sizes_of};
 use crate::object::{EntryMap, ObjectMap, PlainObject};
 use crate::table::object_at;
 use posix_profile::{Info, Kind};
-use volume_terms::VolumeSizes;
-
-/// The number of the root directory.
-pub const ROOT: u64 = 1;
+use volume_terms::{ROOT, VolumeSizes};
 
 /// Whether a directory is at this number.
 fn is_directory_at(objects: &ObjectMap, number: u64) -> bool

@@ -5,10 +5,11 @@ ghost use Rattle.volume_terms.specs.Sizes.{root_number};
 ghost use Rattle.posix_profile.specs.Names.{is_named, settle};
 ghost use Rattle.plain_state.specs.PlainState.{objects_in};
 
-use crate::links::{ROOT, is_named};
+use crate::links::is_named;
 use crate::object::ObjectMap;
 use crate::table::copy_objects;
 use std::alloc::AllocError;
+use volume_terms::ROOT;
 
 /// Whether the object is the root, or some directory names it.
 fn is_kept(objects: &ObjectMap, number: u64) -> bool

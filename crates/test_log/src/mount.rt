@@ -19,9 +19,7 @@ use mount_scan::scan_newest;
 use nand_model::{MemNand, Nand};
 use std::alloc::Global;
 use transactions::table_of;
-
-/// Numbers from here on are not handed out.
-const LIMIT: u64 = 1 << 62;
+use volume_terms::NUMBER_END;
 
 /// The log on a device.
 #[derive(Drop)]
@@ -65,7 +63,7 @@ pub fn mount_log(alloc: Global, nand: &mut MemNand, spare: u32) -> Result<Mounte
     ensures room { IfOk result (λ log. IsRoomFor (device nand.new).geometry log.room) }
 {
     let found = scan_newest(alloc, nand)?;
-    if found.numbers.group >= LIMIT || found.numbers.seq >= LIMIT {
+    if found.numbers.group >= NUMBER_END || found.numbers.seq >= NUMBER_END {
         return Err(LogFault::Worn);
     }
     let mut blocks = table_of(alloc, nand, found.numbers)?;

@@ -19,9 +19,7 @@ use newest_pages::{Opened, open};
 use objects::Store;
 use std::alloc::Global;
 use std::num::NonZeroUsize;
-
-/// Numbers from here on are not handed out.
-const LIMIT: u64 = 1 << 62;
+use volume_terms::NUMBER_END;
 
 /// Keeps every key.
 #[derive(Clone, Copy, Debug)]
@@ -75,10 +73,10 @@ fn may_stand(opened: &Opened, spare: u32) -> bool
     ensures few { IsTrue result → bad_count (table opened.now.blocks) ≤ spare }
     ensures free { IsTrue result → HasFree (table opened.now.blocks) spare }
 {
-    if opened.numbers.group >= LIMIT || opened.numbers.seq >= LIMIT {
+    if opened.numbers.group >= NUMBER_END || opened.numbers.seq >= NUMBER_END {
         return false;
     }
-    if opened.blocks.next_group() > LIMIT || opened.blocks.next_seq() > LIMIT {
+    if opened.blocks.next_group() > NUMBER_END || opened.blocks.next_seq() > NUMBER_END {
         return false;
     }
     if !fit(&opened.blocks) || !has_free(&opened.blocks, spare) {

@@ -12,9 +12,10 @@ ghost use Rattle.tree_walk.specs.SlotLists.{TakesEntry, TakesNone, HasSlots, Lac
 use crate::fault::WalkFault;
 use flash_tree::Key;
 use name_map::NameMap;
-use page_tags::{SLOT_BYTES, decode_slot};
+use page_tags::decode_slot;
 use pages::{Pages, Presence};
 use std::alloc::Global;
+use volume_terms::SLOT_BYTES;
 
 /// The names of the slots that were gone through, and the objects that these name, slot by slot.
 #[derive(Drop)]

@@ -12,9 +12,10 @@ ghost use Rattle.tree_walk.specs.Heads.{IsHeadOf, IsNoHeader, SaysHead, head_loo
 
 use crate::fault::WalkFault;
 use flash_tree::Key;
-use page_tags::{ObjectKind, SLOT_BYTES, decode_header, is_present};
+use page_tags::{ObjectKind, decode_header, is_present};
 use pages::{Pages, Presence};
 use std::alloc::Global;
+use volume_terms::SLOT_BYTES;
 
 /// What the header of an object says. `length` counts the bytes of a file or the entries of a directory.
 #[derive(Drop)]

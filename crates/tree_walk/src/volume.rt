@@ -11,10 +11,7 @@ use flash_tree::Key;
 use nand_model::Geometry;
 use page_tags::{HeaderFault, ObjectKind, decode_header};
 use pages::{Pages, Presence};
-use volume_terms::StoreFault;
-
-/// The object that is the root.
-pub(crate) const ROOT: u64 = 1;
+use volume_terms::{ROOT, StoreFault};
 
 /// Reads how many blocks the volume keeps spare, on a device of these sizes. One page is asked for.
 pub fn root<P: Pages>(pages: &mut P, geometry: Geometry) -> Result<u16, RootFault>

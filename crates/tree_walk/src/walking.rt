@@ -15,11 +15,11 @@ use crate::fault::WalkFault;
 use crate::head::Head;
 use crate::object::{Visited, visit};
 use crate::tree::{NamedObject, Tree};
-use crate::volume::ROOT;
 use page_tags::ObjectKind;
 use pages::KnownPages;
 use std::alloc::{AllocError, Global};
 use std::collections::{BTreeMap, BTreeSet};
+use volume_terms::ROOT;
 
 /// Goes through all objects of a tree from the root on, each once, in the order in which they are named.
 pub fn walk<P: KnownPages>(alloc: Global, pages: &mut P) -> Result<Tree, WalkFault>

@@ -3,11 +3,13 @@
 
 mod fault;
 mod name;
+mod numbers;
 mod sizes;
 
 pub use fault::StoreFault;
 pub use name::is_name;
-pub use sizes::VolumeSizes;
+pub use numbers::{DESCRIPTORS, NAME_LIMIT, NUMBER_END, PATH_LIMIT, ROOT, SLOT_BYTES};
+pub use sizes::{VolumeSizes, most_file_bytes};
 
 #[cfg(test)]
 mod tests;

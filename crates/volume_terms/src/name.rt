@@ -3,11 +3,13 @@
 ghost use Rattle.std.specs.Prelude.{◌≡◌, ◌⊎◌, ◌∷◌, [], ◌↔◌, IsTrue};
 ghost use Rattle.volume_terms.specs.Names.{IsName};
 
+use crate::numbers::NAME_LIMIT;
+
 /// Whether the bytes can be the name of an entry.
 pub fn is_name(name: &[u8]) -> bool
     ensures { IsTrue result ↔ IsName name.now }
 {
-    if name.is_empty() || name.len() > 255 {
+    if name.is_empty() || name.len() > NAME_LIMIT {
         return false;
     }
     if name.contains(&0) || name.contains(&b'/') {

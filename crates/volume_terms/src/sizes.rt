@@ -1,6 +1,8 @@
 // The sizes of a volume.
 ghost use Rattle.std.specs.Prelude.{◌≡◌, ◌≤◌, ◌+◌};
-ghost use Rattle.volume_terms.specs.Sizes.{IsSizes, capacity, most_written, greatest_length, page_slots};
+ghost use Rattle.volume_terms.specs.Sizes.{IsSizes, capacity, most_file_bytes, most_written, greatest_length, page_slots};
+
+use crate::numbers::SLOT_BYTES;
 
 /// The data bytes of a page, the pages of a block, the blocks, and of these the spare ones.
 #[derive(Clone, Copy, Debug)]
@@ -43,7 +45,7 @@ impl VolumeSizes {
     pub fn page_slots(&self) -> u64
         ensures { result ≡ page_slots (sizes_of self.now) }
     {
-        self.page_bytes / 272
+        self.page_bytes / SLOT_BYTES as u64
     }
 
     /// Units that a state may cost.
@@ -66,6 +68,16 @@ impl VolumeSizes {
         ensures value { result ≡ greatest_length (sizes_of self.now) }
         ensures small { result ≤ 134217728 }
     {
-        8 * (self.page_bytes - 32) * self.page_bytes
+        most_file_bytes(self.page_bytes)
     }
+}
+
+/// Most bytes of a file over pages of so many bytes.
+pub fn most_file_bytes(page_bytes: u64) -> u64
+    requires least { 32 ≤ page_bytes }
+    requires most { page_bytes ≤ 4096 }
+    ensures value { result ≡ most_file_bytes page_bytes }
+    ensures small { result ≤ 134217728 }
+{
+    8 * (page_bytes - 32) * page_bytes
 }

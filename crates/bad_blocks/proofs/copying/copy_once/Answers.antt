@@ -75,5 +75,5 @@ returns-clause-apart g c = λ honest.
     (kept_where _ _ (table c.args.blocks.now) (took.passes.newest honest))
     (c.write_copies.ensures.apart (took.lasts.honest ∙ honest))
 
-pub returns-then-next_group-ge-LIMIT-clause-keeps : goal.returns-then-next_group-ge-LIMIT-clause-keeps
-returns-then-next_group-ge-LIMIT-clause-keeps g c = keeps_nothing _ (table c.args.blocks.now) c.requires.ready
+pub returns-then-next_group-ge-NUMBER_END-clause-keeps : goal.returns-then-next_group-ge-NUMBER_END-clause-keeps
+returns-then-next_group-ge-NUMBER_END-clause-keeps g c = keeps_nothing _ (table c.args.blocks.now) c.requires.ready

@@ -10,11 +10,11 @@ use Rattle.bad_blocks.specs.laws.Passing.{passes_on, passes_closed, takes_from}
 use Rattle.bad_blocks.proofs.Turning.{turn_from}
 use Rattle.bad_blocks.proofs.take.take_block.Goals as goal
 
-pub returns-then-next_seq-ge-LIMIT-clause-ready : goal.returns-then-next_seq-ge-LIMIT-clause-ready
-returns-then-next_seq-ge-LIMIT-clause-ready g c = subst (IsReady (g.N.Nand.state c.args.device.now)) (sym c.close.ensures) (ready_closed _ (table c.args.blocks.now) c.requires.ready)
+pub returns-then-next_seq-ge-NUMBER_END-clause-ready : goal.returns-then-next_seq-ge-NUMBER_END-clause-ready
+returns-then-next_seq-ge-NUMBER_END-clause-ready g c = subst (IsReady (g.N.Nand.state c.args.device.now)) (sym c.close.ensures) (ready_closed _ (table c.args.blocks.now) c.requires.ready)
 
-pub returns-then-next_seq-ge-LIMIT-clause-passes : goal.returns-then-next_seq-ge-LIMIT-clause-passes
-returns-then-next_seq-ge-LIMIT-clause-passes g c = passes_closed (g.N.Nand.state c.args.device.now) (table c.args.blocks.now) _ c.close.ensures
+pub returns-then-next_seq-ge-NUMBER_END-clause-passes : goal.returns-then-next_seq-ge-NUMBER_END-clause-passes
+returns-then-next_seq-ge-NUMBER_END-clause-passes g c = passes_closed (g.N.Nand.state c.args.device.now) (table c.args.blocks.now) _ c.close.ensures
 
 pub loop-block-init : goal.loop-block-init
 loop-block-init g c = record {
@@ -76,8 +76,8 @@ returns-in-Ok-Taken-clause-few g c =
     let took = rw c.in-Ok-Taken.field-0-is at c.in-Ok-Taken.ensures in
     omega (arith, c.loop-block.invariant.few, took.few)
 
-pub returns-then-next_seq-ge-LIMIT-clause-numbers : goal.returns-then-next_seq-ge-LIMIT-clause-numbers
-returns-then-next_seq-ge-LIMIT-clause-numbers g c = hands_closed _ (table c.args.blocks.now) _ c.close.ensures
+pub returns-then-next_seq-ge-NUMBER_END-clause-numbers : goal.returns-then-next_seq-ge-NUMBER_END-clause-numbers
+returns-then-next_seq-ge-NUMBER_END-clause-numbers g c = hands_closed _ (table c.args.blocks.now) _ c.close.ensures
 
 pub returns-in-Ok-Taken-clause-numbers : goal.returns-in-Ok-Taken-clause-numbers
 returns-in-Ok-Taken-clause-numbers g c =

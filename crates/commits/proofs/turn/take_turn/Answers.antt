@@ -32,8 +32,8 @@ returns-in_err-make_room-clause-leaves g c =
     let first : Keeps c.args.spare d0 d1 t0 t1 x0 x1 = keeps_moved c.args.spare room.moves.0 d0 d1 t0 t1 x0 x1 room.moves.1 room.stands room.free in
     leaves_moved c.args.spare d0 d1 t0 t1 x0 x1 pages first c.requires.buffers
 
-pub returns-then-next_group-ge-LIMIT-clause-leaves : goal.returns-then-next_group-ge-LIMIT-clause-leaves
-returns-then-next_group-ge-LIMIT-clause-leaves g c =
+pub returns-then-next_group-ge-NUMBER_END-clause-leaves : goal.returns-then-next_group-ge-NUMBER_END-clause-leaves
+returns-then-next_group-ge-NUMBER_END-clause-leaves g c =
     let d0 : Device = g.N.Nand.state c.args.device.now in
     let d1 : Device = g.N.Nand.state c.make_room.new.device in
     let t0 : Table = table c.args.blocks.now in
@@ -493,8 +493,8 @@ returns-in_err-make_room-clause-costs g c =
     let p = err_from_is_err_and c.from_residual.result c.from_residual.ensures.1 in
     rw p.1 (costs_more (size + 1) (count + size + 1) each d0 d1 (omega arith) made)
 
-pub returns-then-next_group-ge-LIMIT-clause-costs : goal.returns-then-next_group-ge-LIMIT-clause-costs
-returns-then-next_group-ge-LIMIT-clause-costs g c =
+pub returns-then-next_group-ge-NUMBER_END-clause-costs : goal.returns-then-next_group-ge-NUMBER_END-clause-costs
+returns-then-next_group-ge-NUMBER_END-clause-costs g c =
     let d0 : Device = g.N.Nand.state c.args.device.now in
     let d1 : Device = g.N.Nand.state c.make_room.new.device in
     let pages : List FreshPage = buffered c.args.buffer.now in
@@ -652,8 +652,8 @@ returns-in_err-make_room-clause-takes_none g c =
     let same : FitsOpen count t0 → d1 ≡ d0 = λ fits. (c.make_room.ensures.enough (omega (arith, fits, many))).device in
     takes_none_written count t0 d0 d1 d1 same (omega arith)
 
-pub returns-then-next_group-ge-LIMIT-clause-takes_none : goal.returns-then-next_group-ge-LIMIT-clause-takes_none
-returns-then-next_group-ge-LIMIT-clause-takes_none g c =
+pub returns-then-next_group-ge-NUMBER_END-clause-takes_none : goal.returns-then-next_group-ge-NUMBER_END-clause-takes_none
+returns-then-next_group-ge-NUMBER_END-clause-takes_none g c =
     let d0 : Device = g.N.Nand.state c.args.device.now in
     let d1 : Device = g.N.Nand.state c.make_room.new.device in
     let t0 : Table = table c.args.blocks.now in

@@ -23,8 +23,8 @@ returns-clause-stands c =
       fits = search rules;
       unkept = search rules;
       limits = (
-        omega (arith, c.in_ok-index.ensures.counts.next_group, c.in_ok-blocks.ensures.group, c.if-found-ge-LIMIT.false),
-        omega (arith, c.in_ok-index.ensures.counts.next_seq, c.in_ok-blocks.ensures.seq, c.if-found-ge-LIMIT-2.false),
+        omega (arith, c.in_ok-index.ensures.counts.next_group, c.in_ok-blocks.ensures.group, c.if-found-ge-NUMBER_END.false),
+        omega (arith, c.in_ok-index.ensures.counts.next_seq, c.in_ok-blocks.ensures.seq, c.if-found-ge-NUMBER_END-2.false),
       );
     })
 

@@ -93,3 +93,9 @@ pub record Sets (b : ℕ) (entry : BlockEntry) (old new : Table) : Type 0 where
   pub others : (k : ℕ) → k ≢ b → new.entry k ≡ old.entry k
   pub geometry : new.geometry ≡ old.geometry
   pub next_group : new.next_group ≡ old.next_group
+
+-- the entry of one block is this, and all else of the table stays
+pub record SetsEntry (b : ℕ) (entry : BlockEntry) (old new : Table) : Type 0 where
+  pub sets : Sets b entry old new
+  pub open_block : new.open_block ≡ old.open_block
+  pub next_seq : new.next_seq ≡ old.next_seq

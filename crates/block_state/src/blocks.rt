@@ -1,6 +1,6 @@
 // The table, and what changes it.
 ghost use Rattle.std.specs.Prelude.{◌≡◌, ◌≢◌, ◌<◌, ◌≤◌, ◌+◌, ◌-◌, ◌^◌, max, ℕ, true, false, None, Some, IfOk, IfSome};
-ghost use Rattle.block_state.specs.Table.{blank, room, Sets, IsWhole};
+ghost use Rattle.block_state.specs.Table.{blank, room, Sets, SetsEntry, IsWhole};
 
 use nand_model::Geometry;
 use std::alloc::{AllocError, Global};
@@ -16,6 +16,15 @@ pub struct BlockEntry {
     pub seq: u64,
     /// The page that is written next, while the block is open.
     pub next: u32,
+}
+
+/// The numbers that are handed out next.
+#[derive(Clone, Copy, Debug, PartialEq, Eq)]
+pub struct NextNumbers {
+    /// The number of the next block that is taken.
+    pub seq: u64,
+    /// The number of the next group.
+    pub group: u64,
 }
 
 /// The table of a device's blocks. All but `new` takes no memory.
@@ -100,11 +109,11 @@ impl Blocks {
     }
 
     /// Goes on from greater numbers, such as stand on a flash.
-    pub fn raise(&mut self, next_seq: u64, next_group: u64)
-        ensures seq { (table self.new) ≡ record (table self.old) { next_seq = max (table self.old).next_seq next_seq; next_group = max (table self.old).next_group next_group } }
+    pub fn raise(&mut self, next: NextNumbers)
+        ensures { (table self.new) ≡ record (table self.old) { next_seq = max (table self.old).next_seq next.seq; next_group = max (table self.old).next_group next.group } }
     {
-        self.next_seq = self.next_seq.max(next_seq);
-        self.next_group = self.next_group.max(next_group);
+        self.next_seq = self.next_seq.max(next.seq);
+        self.next_group = self.next_group.max(next.group);
     }
 
     /// Hands out a group number.
@@ -123,9 +132,7 @@ impl Blocks {
     pub fn mark_bad(&mut self, block: u32)
         requires block { block < (table self.old).geometry.blocks }
         requires closed { (table self.old).open_block ≢ Some block }
-        ensures sets { Sets block (record ((table self.old).entry block) { bad = true }) (table self.old) (table self.new) }
-        ensures open { (table self.new).open_block ≡ (table self.old).open_block }
-        ensures seq { (table self.new).next_seq ≡ (table self.old).next_seq }
+        ensures { SetsEntry block (record ((table self.old).entry block) { bad = true }) (table self.old) (table self.new) }
     {
         let entry = self.entry(block);
         self.entries[block as usize] = BlockEntry { bad: true, ..entry };
@@ -136,9 +143,7 @@ impl Blocks {
     pub fn note_seq(&mut self, block: u32, seq: u64)
         requires block { block < (table self.old).geometry.blocks }
         requires below { seq < (table self.old).next_seq }
-        ensures sets { Sets block (record ((table self.old).entry block) { seq = seq }) (table self.old) (table self.new) }
-        ensures open { (table self.new).open_block ≡ (table self.old).open_block }
-        ensures seq { (table self.new).next_seq ≡ (table self.old).next_seq }
+        ensures { SetsEntry block (record ((table self.old).entry block) { seq = seq }) (table self.old) (table self.new) }
     {
         let entry = self.entry(block);
         self.entries[block as usize] = BlockEntry { seq, ..entry };
@@ -149,9 +154,7 @@ impl Blocks {
     pub fn keep(&mut self, block: u32)
         requires block { block < (table self.old).geometry.blocks }
         requires room { ((table self.old).entry block).kept < 2 ^ 32 - 1 }
-        ensures sets { Sets block (record ((table self.old).entry block) { kept = ((table self.old).entry block).kept + 1 }) (table self.old) (table self.new) }
-        ensures open { (table self.new).open_block ≡ (table self.old).open_block }
-        ensures seq { (table self.new).next_seq ≡ (table self.old).next_seq }
+        ensures { SetsEntry block (record ((table self.old).entry block) { kept = ((table self.old).entry block).kept + 1 }) (table self.old) (table self.new) }
     {
         let entry = self.entry(block);
         self.entries[block as usize] = BlockEntry {
@@ -165,9 +168,7 @@ impl Blocks {
     pub fn release(&mut self, block: u32)
         requires block { block < (table self.old).geometry.blocks }
         requires some { 1 ≤ ((table self.old).entry block).kept }
-        ensures sets { Sets block (record ((table self.old).entry block) { kept = ((table self.old).entry block).kept - 1 }) (table self.old) (table self.new) }
-        ensures open { (table self.new).open_block ≡ (table self.old).open_block }
-        ensures seq { (table self.new).next_seq ≡ (table self.old).next_seq }
+        ensures { SetsEntry block (record ((table self.old).entry block) { kept = ((table self.old).entry block).kept - 1 }) (table self.old) (table self.new) }
     {
         let entry = self.entry(block);
         self.entries[block as usize] = BlockEntry {
@@ -198,9 +199,7 @@ impl Blocks {
     pub fn fill(&mut self, block: u32, count: u32)
         requires open { (table self.old).open_block ≡ Some block }
         requires room { count ≤ room (table self.old) }
-        ensures sets { Sets block (record ((table self.old).entry block) { next = ((table self.old).entry block).next + count }) (table self.old) (table self.new) }
-        ensures open { (table self.new).open_block ≡ (table self.old).open_block }
-        ensures seq { (table self.new).next_seq ≡ (table self.old).next_seq }
+        ensures { SetsEntry block (record ((table self.old).entry block) { next = ((table self.old).entry block).next + count }) (table self.old) (table self.new) }
     {
         self.entries[block as usize].next += count;
     }

@@ -6,7 +6,7 @@ mod blocks;
 mod counts;
 mod law;
 
-pub use blocks::{BlockEntry, Blocks};
+pub use blocks::{BlockEntry, Blocks, NextNumbers};
 pub use law::{
     a_block_can_be_collected, a_mark_moves_a_block, free_blocks_are_unkept,
     the_same_counts_count_the_same,

@@ -118,9 +118,8 @@ fn take_entry(alloc: Global, bytes: &[u8], entries: &mut NameMap) -> Result<(), 
     let Some(slot) = decode_slot(bytes) else {
         return Err(PageFault::Damaged);
     };
-    if entries.insert(slot.name.to_vec(alloc)?, slot.object)? {
-        Ok(())
-    } else {
-        Err(PageFault::Damaged)
+    match entries.insert(slot.name.to_vec(alloc)?, slot.object)? {
+        Some(_) => Err(PageFault::Damaged),
+        None => Ok(()),
     }
 }

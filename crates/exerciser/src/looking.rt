@@ -2,6 +2,7 @@
 ghost use Rattle.std.specs.Prelude.{◌≡◌, length, IfOk, IfErr};
 ghost use Rattle.nand_model.specs.MemoryState.{device};
 ghost use Rattle.page_volume.specs.Volumes.{pages_of};
+ghost use Rattle.posix_calls.specs.Volumes.{over_pages};
 ghost use Rattle.exerciser.specs.Faults.{IsOfReading};
 ghost use Rattle.exerciser.specs.Causes.{IsAnswered, CountsCalls, IsOfSession, WhyNotBegun};
 ghost use Rattle.exerciser.specs.Lines.{IsWithin, IsKept};
@@ -63,7 +64,7 @@ fn mount(alloc: Global, mut nand: MemNand) -> Result<ReadVolume<MemNand>, (MemNa
 
 /// Gives the device of a volume back as it is.
 fn abandon(read: ReadVolume<MemNand>) -> MemNand
-    ensures { device result ≡ (⟦<FlashPages<MemNand> as Pages>⟧.state (pages_of read.volume.volume)).device }
+    ensures { device result ≡ (⟦<FlashPages<MemNand> as Pages>⟧.state (pages_of (over_pages read.volume))).device }
 {
     read.volume.abandon()
 }

@@ -1,7 +1,6 @@
 // Pages of a worn device, which are read and not changed.
 ghost use Rattle.std.specs.Prelude.{◌≡◌, ◌≤◌, true, false, OnOk, IfErr};
 ghost use Rattle.flash_tree.specs.Places.{numbers_of};
-ghost use Rattle.newest_pages.specs.Newest.{seen};
 ghost use Rattle.volume_terms.specs.declared.fault.StoreFault.TheVariants as faults;
 ghost use Rattle.flash_pages.specs.ReadOnly.{IsWorn, HasGreatest, IsCarrying, only_read};
 ghost use Rattle.flash_pages.specs.laws.OneProof.{carrying_prop};
@@ -25,9 +24,9 @@ pub struct ReadOnlyPages<N: Nand> {
     most: u32,
     // Whether a change was refused, so that the pages are not what its caller meant any more.
     refused_change: bool,
-    ghost worn: { IsWorn (N.state pages.device) (numbers_of greatest) spare },
-    ghost numbers: { HasGreatest (N.state pages.device) (numbers_of greatest) },
-    ghost carrying: { IsCarrying (seen (N.state pages.device) pages.index pages.page.items) } by { carrying_prop (seen (N.state pages.device) pages.index pages.page.items) },
+    ghost worn: { IsWorn (⟦<NewestPages<N> as Pages>⟧.state pages).device (numbers_of greatest) spare },
+    ghost numbers: { HasGreatest (⟦<NewestPages<N> as Pages>⟧.state pages).device (numbers_of greatest) },
+    ghost carrying: { IsCarrying (⟦<NewestPages<N> as Pages>⟧.state pages) } by { carrying_prop (⟦<NewestPages<N> as Pages>⟧.state pages) },
 }
 
 impl<N: Nand> ReadOnlyPages<N> {
@@ -74,9 +73,9 @@ impl<N: Nand> ReadOnlyPages<N> {
 }
 
 impl<N: Nand> Pages for ReadOnlyPages<N> {
-    ghost state = { λ s. only_read (seen (N.state s.pages.device) s.pages.index s.pages.page.items) (numbers_of s.greatest) s.spare s.most s.refused_change };
+    ghost state = { λ s. only_read (⟦<NewestPages<N> as Pages>⟧.state s.pages) (numbers_of s.greatest) s.spare s.most s.refused_change };
 
-    ghost sized = { λ s. ((N.state s.pages.device).geometry.least_bytes, (N.state s.pages.device).geometry.most_bytes) };
+    ghost sized = { λ s. ⟦<NewestPages<N> as Pages>⟧.sized s.pages };
 
     fn page_bytes(&self) -> u32 {
         self.pages.page_bytes()
@@ -94,7 +93,7 @@ impl<N: Nand> Pages for ReadOnlyPages<N> {
 impl<N: Nand> PageStore for ReadOnlyPages<N> {
     ghost use Rattle.flash_pages.specs.laws.Sound.{lost_reading};
 
-    ghost lost = { λ s sound failed. lost_reading (N.state s.pages.device).gone (N.state s.pages.device).honest s.refused_change sound failed };
+    ghost lost = { λ s sound failed. lost_reading (⟦<NewestPages<N> as Pages>⟧.state s.pages).device.gone (⟦<NewestPages<N> as Pages>⟧.state s.pages).device.honest s.refused_change sound failed };
 
     fn most_pages(&self) -> u32 {
         self.most

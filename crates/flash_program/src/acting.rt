@@ -1,5 +1,6 @@
 // What the program does.
 ghost use Rattle.std.specs.Prelude.{◌≡◌, Result};
+ghost use Rattle.posix_calls.specs.Volumes.{over_pages};
 ghost use Rattle.flash_program.specs.Acting.{ActsAs, Means};
 ghost use Rattle.flash_program.specs.Statuses.{status_of, IsReported};
 ghost use Rattle.flash_program.specs.declared.fault.ProgramFault.{ProgramFault as Fault};
@@ -29,8 +30,8 @@ fn perform<F: Read + Write + Seek + Drop, R: BufRead, W: Write>(
     input: &mut R,
     out: &mut W,
 ) -> Result<(), ProgramFault>
-    ensures { ActsAs F.remaining (record { state = ⟦<FlashPages<MemNand> as Pages>⟧.state; inside = λ v. v.volume.volume; serves = ⟦<ServedVolume<MemNand> as Serve>⟧.serves })
-        (record { state = ⟦<FlashPages<ImageNand<F>> as Pages>⟧.state; inside = λ v. v.volume.volume; serves = ⟦<ServedVolume<ImageNand<F>> as Serve>⟧.serves })
+    ensures { ActsAs F.remaining (record { state = ⟦<FlashPages<MemNand> as Pages>⟧.state; inside = λ v. over_pages v.volume; serves = ⟦<ServedVolume<MemNand> as Serve>⟧.serves })
+        (record { state = ⟦<FlashPages<ImageNand<F>> as Pages>⟧.state; inside = λ v. over_pages v.volume; serves = ⟦<ServedVolume<ImageNand<F>> as Serve>⟧.serves })
         chosen.now image (R.remaining input.old) (R.remaining input.new) (W.contents out.old) (W.contents out.new) result }
 {
     match chosen {
@@ -59,8 +60,8 @@ pub fn act<F: Read + Write + Seek + Drop, R: BufRead, W: Write, E: Write>(
     err: &mut E,
 ) -> u8
     ensures { (ended : Result (Unit {0}) Fault) × (result ≡ status_of ended) × IsReported (E.contents err.old) (E.contents err.new) ended
-        × ActsAs F.remaining (record { state = ⟦<FlashPages<MemNand> as Pages>⟧.state; inside = λ v. v.volume.volume; serves = ⟦<ServedVolume<MemNand> as Serve>⟧.serves })
-        (record { state = ⟦<FlashPages<ImageNand<F>> as Pages>⟧.state; inside = λ v. v.volume.volume; serves = ⟦<ServedVolume<ImageNand<F>> as Serve>⟧.serves })
+        × ActsAs F.remaining (record { state = ⟦<FlashPages<MemNand> as Pages>⟧.state; inside = λ v. over_pages v.volume; serves = ⟦<ServedVolume<MemNand> as Serve>⟧.serves })
+        (record { state = ⟦<FlashPages<ImageNand<F>> as Pages>⟧.state; inside = λ v. over_pages v.volume; serves = ⟦<ServedVolume<ImageNand<F>> as Serve>⟧.serves })
         chosen.now image (R.remaining input.old) (R.remaining input.new) (W.contents out.old) (W.contents out.new) ended }
 {
     let ended = perform(alloc, chosen, image, input, out);

@@ -1,4 +1,5 @@
 // The check of an image.
+ghost use Rattle.posix_calls.specs.Volumes.{over_pages};
 ghost use Rattle.flash_program.specs.Images.{ImageCheckEnds};
 
 use crate::fault::ProgramFault;
@@ -17,7 +18,7 @@ pub(crate) fn check_image<F: Read + Write + Seek + Drop, W: Write>(
     image: Option<F>,
     writer: &mut W,
 ) -> Result<(), ProgramFault>
-    ensures { ImageCheckEnds F.remaining ⟦<FlashPages<ImageNand<F>> as Pages>⟧.state (λ v. v.volume.volume) ⟦<ServedVolume<ImageNand<F>> as Serve>⟧.serves
+    ensures { ImageCheckEnds F.remaining ⟦<FlashPages<ImageNand<F>> as Pages>⟧.state (λ v. over_pages v.volume) ⟦<ServedVolume<ImageNand<F>> as Serve>⟧.serves
         image (W.contents writer.old) (W.contents writer.new) result }
 {
     let Some(file) = image else {

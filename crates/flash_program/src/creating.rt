@@ -1,4 +1,5 @@
 // A new volume in an image.
+ghost use Rattle.posix_calls.specs.Volumes.{over_pages};
 ghost use Rattle.flash_program.specs.Images.{MakeEnds};
 ghost use Rattle.flash_program.specs.Spaces.{FormatEnds};
 
@@ -21,7 +22,7 @@ fn format_device<N: Nand, W: Write>(
     spare: u32,
     writer: &mut W,
 ) -> (N, Result<(), ProgramFault>)
-    ensures { FormatEnds ⟦<FlashPages<N> as Pages>⟧.state (λ v. v.volume.volume) ⟦<ServedVolume<N> as Serve>⟧.serves
+    ensures { FormatEnds ⟦<FlashPages<N> as Pages>⟧.state (λ v. over_pages v.volume) ⟦<ServedVolume<N> as Serve>⟧.serves
         spare (N.state device) (W.contents writer.old) (W.contents writer.new) (N.state result.0) result.1 }
 {
     match format(alloc, device, spare) {
@@ -40,7 +41,7 @@ pub(crate) fn make_image<F: Read + Write + Seek + Drop, W: Write>(
     spare: u32,
     writer: &mut W,
 ) -> Result<(), ProgramFault>
-    ensures { MakeEnds ⟦<FlashPages<ImageNand<F>> as Pages>⟧.state (λ v. v.volume.volume) ⟦<ServedVolume<ImageNand<F>> as Serve>⟧.serves
+    ensures { MakeEnds ⟦<FlashPages<ImageNand<F>> as Pages>⟧.state (λ v. over_pages v.volume) ⟦<ServedVolume<ImageNand<F>> as Serve>⟧.serves
         image size pages blocks spare (W.contents writer.old) (W.contents writer.new) result }
 {
     let Some(file) = image else {

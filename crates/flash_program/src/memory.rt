@@ -3,6 +3,7 @@ ghost use Rattle.std.specs.Prelude.{◌≡◌, ◌⊎◌, true, false, IfOk, IfE
 ghost use Rattle.flash_tree.specs.Sound.{IsSound};
 ghost use Rattle.nand_model.specs.Calls.{Device};
 ghost use Rattle.nand_model.specs.MemoryState.{device};
+ghost use Rattle.posix_calls.specs.Volumes.{over_pages};
 ghost use Rattle.posix_profile.specs.laws.Fresh.{fresh};
 ghost use Rattle.flash_program.specs.Sessions.{told, LinesEnd, IsEarly, IsFresh, ProgramEnds};
 ghost use Rattle.flash_program.specs.declared.fault.ProgramFault.TheVariants as faults;
@@ -55,7 +56,7 @@ pub(crate) fn answer_lines<N: Nand, R: BufRead, W: Write>(
     reader: &mut R,
     writer: &mut W,
 ) -> (N, Result<(), ProgramFault>)
-    ensures { LinesEnd ⟦<FlashPages<N> as Pages>⟧.state (λ v. v.volume.volume) ⟦<ServedVolume<N> as Serve>⟧.serves (N.state device)
+    ensures { LinesEnd ⟦<FlashPages<N> as Pages>⟧.state (λ v. over_pages v.volume) ⟦<ServedVolume<N> as Serve>⟧.serves (N.state device)
         (R.remaining reader.old) (R.remaining reader.new) (W.contents writer.old) (W.contents writer.new) (N.state result.0) result.1 }
 {
     let volume = match Volume::mount(alloc, device) {
@@ -74,7 +75,7 @@ pub(crate) fn run_in_memory<R: BufRead, W: Write>(
     reader: &mut R,
     writer: &mut W,
 ) -> Result<(), ProgramFault>
-    ensures { ProgramEnds ⟦<FlashPages<MemNand> as Pages>⟧.state (λ v. v.volume.volume) ⟦<ServedVolume<MemNand> as Serve>⟧.serves
+    ensures { ProgramEnds ⟦<FlashPages<MemNand> as Pages>⟧.state (λ v. over_pages v.volume) ⟦<ServedVolume<MemNand> as Serve>⟧.serves
         (R.remaining reader.old) (R.remaining reader.new) (W.contents writer.old) (W.contents writer.new) result }
 {
     let device = new_flash(alloc)?;

@@ -1,4 +1,5 @@
 // The lines of a shell over an image.
+ghost use Rattle.posix_calls.specs.Volumes.{over_pages};
 ghost use Rattle.flash_program.specs.Images.{RunEnds};
 
 use crate::fault::ProgramFault;
@@ -18,7 +19,7 @@ pub(crate) fn run_image<F: Read + Write + Seek + Drop, R: BufRead, W: Write>(
     reader: &mut R,
     writer: &mut W,
 ) -> Result<(), ProgramFault>
-    ensures { RunEnds F.remaining ⟦<FlashPages<ImageNand<F>> as Pages>⟧.state (λ v. v.volume.volume) ⟦<ServedVolume<ImageNand<F>> as Serve>⟧.serves
+    ensures { RunEnds F.remaining ⟦<FlashPages<ImageNand<F>> as Pages>⟧.state (λ v. over_pages v.volume) ⟦<ServedVolume<ImageNand<F>> as Serve>⟧.serves
         image (R.remaining reader.old) (R.remaining reader.new) (W.contents writer.old) (W.contents writer.new) result }
 {
     let Some(file) = image else {

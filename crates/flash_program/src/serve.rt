@@ -1,4 +1,5 @@
 // A volume that serves the commands of a shell.
+ghost use Rattle.posix_calls.specs.Volumes.{over_pages};
 ghost use Rattle.flash_program.specs.Serving.{Serves};
 
 use flash_pages::FlashPages;
@@ -15,7 +16,7 @@ pub(crate) struct ServedVolume<N: Nand> {
 }
 
 impl<N: Nand> Serve for ServedVolume<N> {
-    ghost serves = { λ old command reply new. Serves ⟦<FlashPages<N> as Pages>⟧.state old.volume.volume command reply new.volume.volume };
+    ghost serves = { λ old command reply new. Serves ⟦<FlashPages<N> as Pages>⟧.state (over_pages old.volume) command reply (over_pages new.volume) };
 
     fn call(&mut self, command: &Stamped) -> Reply {
         self.volume.call(command)

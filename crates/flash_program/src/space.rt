@@ -1,5 +1,6 @@
 // The space of a volume.
 ghost use Rattle.std.specs.Prelude.{◌≡◌};
+ghost use Rattle.posix_calls.specs.Volumes.{over_pages};
 ghost use Rattle.flash_program.specs.Spaces.{space_asked, space_text, IsTold, CheckEnds, shown, ShowEnds};
 ghost use Rattle.line_shell.specs.Written.{Writes};
 
@@ -51,7 +52,7 @@ pub(crate) fn check_device<N: Nand, W: Write>(
     device: N,
     writer: &mut W,
 ) -> (N, Result<(), ProgramFault>)
-    ensures { CheckEnds ⟦<FlashPages<N> as Pages>⟧.state (λ v. v.volume.volume) ⟦<ServedVolume<N> as Serve>⟧.serves
+    ensures { CheckEnds ⟦<FlashPages<N> as Pages>⟧.state (λ v. over_pages v.volume) ⟦<ServedVolume<N> as Serve>⟧.serves
         (N.state device) (W.contents writer.old) (W.contents writer.new) (N.state result.0) result.1 }
 {
     let volume = match Volume::mount(alloc, device) {
@@ -81,7 +82,7 @@ pub(crate) fn show_device<N: Nand, W: Write>(
     device: N,
     writer: &mut W,
 ) -> (N, Result<(), ProgramFault>)
-    ensures { ShowEnds ⟦<FlashPages<N> as Pages>⟧.state (λ v. v.volume.volume) ⟦<ServedVolume<N> as Serve>⟧.serves
+    ensures { ShowEnds ⟦<FlashPages<N> as Pages>⟧.state (λ v. over_pages v.volume) ⟦<ServedVolume<N> as Serve>⟧.serves
         (N.state device) (W.contents writer.old) (W.contents writer.new) (N.state result.0) result.1 }
 {
     let volume = match Volume::mount(alloc, device) {

@@ -1,5 +1,5 @@
 // Names and the numbers that they lead to.
-ghost use Rattle.std.specs.Prelude.{◌≡◌, ◌↔◌, None, IsTrue, IfOk, OnOk, OnErr};
+ghost use Rattle.std.specs.Prelude.{◌≡◌, IfOk, OnOk, OnErr};
 ghost use Rattle.std.specs.FinMap as map;
 ghost use Rattle.std.specs.FinMap.{code as map_code};
 ghost use Rattle.std.specs.Coded.{coded_ℕ, coded_list};
@@ -48,14 +48,14 @@ impl NameMap {
         self.map.get(name).copied()
     }
 
-    /// Leads the name to the number, in place of what it led to, and says whether the name is new.
-    pub fn insert(&mut self, name: Vec<u8>, number: u64) -> Result<bool, AllocError>
+    /// Leads the name to the number, and answers the one that it led to.
+    pub fn insert(&mut self, name: Vec<u8>, number: u64) -> Result<Option<u64>, AllocError>
         ensures inserted { OnOk result (self.new ≡ map.insert self.old name.items number) }
-        ensures new { IfOk result (λ new. IsTrue new ↔ (map.get self.old name.items ≡ None)) }
+        ensures led { IfOk result (λ led. led ≡ map.get self.old name.items) }
         ensures err { OnErr result (self.new ≡ self.old) }
     {
         let led = self.map.insert(name, number)?;
-        Ok(led.is_none())
+        Ok(led)
     }
 
     /// The names in the order of their bytes, none of them copied.

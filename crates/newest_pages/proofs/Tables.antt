@@ -44,6 +44,12 @@ blank_tables d n g (Ok blocks) none same made = subst (λ (t : Table). IsTableOf
   seq = λ left. absurd (none left);
 })
 
+-- and no block of it was ever taken
+pub blank_seqs : (g : Geometry) (r : Result Blocks AllocError) → IfOk r (λ blocks. table blocks ≡ record { geometry = g; entry = λ b. blank; open_block = None; next_seq = 1; next_group = 1 })
+    → IfOk r (λ blocks. (b : ℕ) → ((table blocks).entry b).seq ≡ 0)
+blank_seqs g (Err e) made = tt
+blank_seqs g (Ok blocks) made = λ b. ap (λ (t : Table). (t.entry b).seq) made
+
 -- ---- what was found is named
 
 contains_at : (list : List Found) (i : ℕ) (f : Found) → slice_get list i ≡ Some f → Contains list f
@@ -238,10 +244,10 @@ noted_table d n t t' only is = record {
 
 -- and on an honest device blocks have the numbers of their newest pages
 pub has_its_seq : (d : Device) (list : List Found) (n : Numbers) (t t' : Table) (b : ℕ) → TellsNewest d list → d.honest ≡ true → AreGreatest d.flash n → t.next_seq ≡ n.seq + 1
-    → NotesSeq list (length list) t t' b → HasItsSeq d.flash t' b
-has_its_seq d list n t t' b tells honest greatest next (inl has) =
+    → (t.entry b).seq ≡ 0 → NotesSeq list (length list) t t' b → HasItsSeq d.flash t' b
+has_its_seq d list n t t' b tells honest greatest next none (inl has) =
     inr (has.found.tag.object, has.found.tag.chunk, spot_of has.found, is_newest d.flash list has.index has.found (tells.exact honest) has.there, has.block, has.seq_is)
-has_its_seq d list n t t' b tells honest greatest next (inr is) = inl (λ o c s newest here.
+has_its_seq d list n t t' b tells honest greatest next none (inr is) = inl ((λ o c s newest here.
     let told = ((tells.exact honest).each o c s).0 newest in
     let has = (listed_spot list s).0 told.0 in
     let at : slice_get list has.0 ≡ Some (found_of s) = subst (λ y. slice_get list has.0 ≡ Some y) has.2 (slice_get-get_or list has.0 (found_of s) has.1) in
@@ -249,15 +255,15 @@ has_its_seq d list n t t' b tells honest greatest next (inr is) = inl (λ o c s 
     let held = newest.holds in
     let good : d.flash.bad s.block ≡ false = ap d.flash.bad held.block ∙ held.whole.good in
     let most = greatest.above s.block s.page s.tag good held.has in
-    omega (arith, above, next, most))
+    omega (arith, above, next, most)), is.0 ∙ none)
 
 pub seqs_are : (d : Device) (list : List Found) (n : Numbers) (t t' : Table) → TellsNewest d list → (d.honest ≡ true → AreGreatest d.flash n) → IsTableOf d n t
-    → ((b : ℕ) → NotesSeq list (length list) t t' b) → d.honest ≡ true → AreLeft n → (b : ℕ) → HasItsSeq d.flash t' b
-seqs_are d list n t t' tells greatest is notes honest left b = has_its_seq d list n t t' b tells honest (greatest honest) (is.seq left) (notes b)
+    → ((b : ℕ) → (t.entry b).seq ≡ 0) → ((b : ℕ) → NotesSeq list (length list) t t' b) → d.honest ≡ true → AreLeft n → (b : ℕ) → HasItsSeq d.flash t' b
+seqs_are d list n t t' tells greatest is none notes honest left b = has_its_seq d list n t t' b tells honest (greatest honest) (is.seq left) (none b) (notes b)
 
 -- counting leaves the numbers of blocks
 counted_seq : (d : Device) (t t' : Table) (before after : ℕ → ℕ) (b : ℕ) → Recounts before after t t' → HasItsSeq d.flash t b → HasItsSeq d.flash t' b
-counted_seq d t t' before after b recounts (inl none) = inl none
+counted_seq d t t' before after b recounts (inl none) = inl (none.0, recounts.seq b ∙ none.1)
 counted_seq d t t' before after b recounts (inr is) = inr (is.0, is.1, is.2, is.3, is.4, recounts.seq b ∙ is.5)
 
 -- what a scan told of a device before it was read is so of it afterwards

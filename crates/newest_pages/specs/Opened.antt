@@ -75,9 +75,10 @@ AreNotBelow list n b next = (i : ℕ) (f : Found) → i < n → slice_get list i
 abbrev pub NotesSeq : List Found → (n : ℕ) → Table → Table → ℕ → Type 0
 NotesSeq list n old new b = HasSeqOf list n b (new.entry b).seq ⊎ (((new.entry b).seq ≡ (old.entry b).seq) × AreNotBelow list n b old.next_seq)
 
--- no newest page lies in block b; or its number is the seq of one that does
+-- no newest page lies in block b, and its number is that of a block that was not taken; or its number is the seq of one
+-- that does
 abbrev pub HasItsSeq : Flash → Table → ℕ → Type 0
-HasItsSeq flash t b = ((o c : ℕ) (s : Spot) → IsNewest flash o c s → s.block ≢ b)
+HasItsSeq flash t b = (((o c : ℕ) (s : Spot) → IsNewest flash o c s → s.block ≢ b) × ((t.entry b).seq ≡ 0))
     ⊎ ((o : ℕ) × (c : ℕ) × (s : Spot) × IsNewest flash o c s × (s.block ≡ b) × ((t.entry b).seq ≡ s.tag.seq))
 
 -- The newest page of each key is kept, with its place and version, and nothing else; what is kept is present; no block is

@@ -72,7 +72,8 @@ fn table_above<N: Nand>(
     numbers: TagNumbers,
 ) -> Result<Blocks, AllocError>
     requires above { (N.state device.now).honest ≡ true → AreAbove (N.state device.now).flash (numbers_of numbers) }
-    ensures { IfOk result (λ blocks. IsTableOf (N.state device.now) (numbers_of numbers) (table blocks)) }
+    ensures table { IfOk result (λ blocks. IsTableOf (N.state device.now) (numbers_of numbers) (table blocks)) }
+    ensures seqs { IfOk result (λ blocks. (b : ℕ) → ((table blocks).entry b).seq ≡ 0) }
 {
     if !are_left(numbers) {
         return Blocks::new(alloc, device.geometry());

@@ -7,16 +7,17 @@ use Rattle.object_commands.specs.Volumes as volumes
 use Rattle.object_table.specs.Told.{sizes_of, Tells}
 use Rattle.object_table.specs.declared.table.ObjectTable.{ObjectTable}
 use Rattle.pages.specs.State.{PagesState}
+use Rattle.paged_objects.specs.Parts as parts
 use Rattle.paged_objects.specs.Standing.{Stands}
 use Rattle.page_volume.specs.declared.volume.PageVolume.{PageVolume}
 
 -- its pages
 abbrev pub pages_of : {P : Type 0} → PageVolume P → P
-pages_of v = (volumes.store_of v.volume).pages
+pages_of v = parts.pages_of (volumes.store_of v.volume)
 
 -- the table of its objects
 abbrev pub table_of : {P : Type 0} → PageVolume P → ObjectTable
-table_of v = (volumes.store_of v.volume).table
+table_of v = parts.table_of (volumes.store_of v.volume)
 
 -- commands that would change it are refused
 abbrev pub is_read_only : {P : Type 0} → PageVolume P → Bool

@@ -35,10 +35,12 @@ pub struct PagedObjects<P: PageStore> {
 }
 
 impl<P: PageStore> PagedObjects<P> {
+    ghost use Rattle.paged_objects.specs.Parts.{pages_of, table_of};
+
     /// The objects that the pages hold and the table tells.
     pub fn new(alloc: Global, pages: P, table: ObjectTable) -> PagedObjects<P>
-        ensures pages { P.state result.pages ≡ P.state pages }
-        ensures table { result.table ≡ table }
+        ensures pages { P.state (pages_of result) ≡ P.state pages }
+        ensures table { table_of result ≡ table }
     {
         PagedObjects {
             alloc,
@@ -49,14 +51,14 @@ impl<P: PageStore> PagedObjects<P> {
 
     /// The pages, as they are.
     pub fn pages(&self) -> &P
-        ensures { P.state result.now ≡ P.state self.now.pages }
+        ensures { P.state result.now ≡ P.state (pages_of self.now) }
     {
         &self.pages
     }
 
     /// The pages alone. What was not committed is not on their device.
     pub fn into_pages(self) -> P
-        ensures { P.state result ≡ P.state self.pages }
+        ensures { P.state result ≡ P.state (pages_of self) }
     {
         self.pages
     }
@@ -64,9 +66,10 @@ impl<P: PageStore> PagedObjects<P> {
 
 impl<P: PageStore> ObjectStore for PagedObjects<P> {
     ghost use Rattle.paged_objects.specs.Meaning.{paged_meaning};
+    ghost use Rattle.paged_objects.specs.Parts.{pages_of, table_of};
     ghost use Rattle.paged_objects.specs.laws.Lawful.{paged_lawful};
 
-    ghost meaning = { paged_meaning P.state (λ s. s.pages) (λ s. s.table) };
+    ghost meaning = { paged_meaning P.state pages_of table_of };
 
     fn sizes(&self) -> VolumeSizes {
         self.table.sizes()
@@ -131,5 +134,5 @@ impl<P: PageStore> ObjectStore for PagedObjects<P> {
         self.pages.commit()
     }
 
-    ghost lawful = { paged_lawful P.state (λ s. s.pages) (λ s. s.table) };
+    ghost lawful = { paged_lawful P.state pages_of table_of };
 }

@@ -1,2 +1,3 @@
 pub mod Mounts
+pub mod Volumes
 pub mod Endings

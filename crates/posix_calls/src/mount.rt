@@ -17,16 +17,17 @@ use std::num::NonZeroUsize;
 impl<N: Nand> Volume<N> {
     ghost use Rattle.page_volume.specs.Volumes.{pages_of, is_read_only, is_stopped};
     ghost use Rattle.posix_calls.specs.Mounts.{StandsForTree};
+    ghost use Rattle.posix_calls.specs.Volumes.{over_pages};
 
     /// Mounts the volume on a device, with a cache of 16 pages. It only reads; after a fault the device is given back.
     pub fn mount(alloc: Global, device: N) -> Result<Volume<N>, (N, MountFault)>
-        ensures reads { IfOk result (λ v. OnlyReads (N.state device) (⟦<FlashPages<N> as Pages>⟧.state (pages_of v.volume)).device) }
-        ensures goes_on { IfOk result (λ v. is_stopped v.volume ≡ false) }
-        ensures read_only { IfOk result (λ v. (is_read_only v.volume ≡ true) ↔ CanOnlyBeRead (⟦<FlashPages<N> as Pages>⟧.state (pages_of v.volume))) }
+        ensures reads { IfOk result (λ v. OnlyReads (N.state device) (⟦<FlashPages<N> as Pages>⟧.state (pages_of (over_pages v))).device) }
+        ensures goes_on { IfOk result (λ v. is_stopped (over_pages v) ≡ false) }
+        ensures read_only { IfOk result (λ v. (is_read_only (over_pages v) ≡ true) ↔ CanOnlyBeRead (⟦<FlashPages<N> as Pages>⟧.state (pages_of (over_pages v)))) }
         ensures next { (N.state device).honest ≡ true
-            → IfOk result (λ v. AreNext (⟦<FlashPages<N> as Pages>⟧.state (pages_of v.volume)).device.flash (⟦<FlashPages<N> as Pages>⟧.state (pages_of v.volume)).next) }
+            → IfOk result (λ v. AreNext (⟦<FlashPages<N> as Pages>⟧.state (pages_of (over_pages v))).device.flash (⟦<FlashPages<N> as Pages>⟧.state (pages_of (over_pages v))).next) }
         ensures tree { (N.state device).honest ≡ true
-            → IfOk result (λ v. (objects : Objects) × StandsForTree ⟦<FlashPages<N> as Pages>⟧.state v.volume objects) }
+            → IfOk result (λ v. (objects : Objects) × StandsForTree ⟦<FlashPages<N> as Pages>⟧.state (over_pages v) objects) }
         ensures back { IfErr result (λ failed. OnlyReads (N.state device) (N.state failed.0)) }
         ensures fault { IfErr result (λ failed. WhyNotMounted (N.state failed.0) failed.1) }
     {
@@ -40,13 +41,13 @@ impl<N: Nand> Volume<N> {
         device: N,
         capacity: usize,
     ) -> Result<Volume<N>, (N, MountFault)>
-        ensures reads { IfOk result (λ v. OnlyReads (N.state device) (⟦<FlashPages<N> as Pages>⟧.state (pages_of v.volume)).device) }
-        ensures goes_on { IfOk result (λ v. is_stopped v.volume ≡ false) }
-        ensures read_only { IfOk result (λ v. (is_read_only v.volume ≡ true) ↔ CanOnlyBeRead (⟦<FlashPages<N> as Pages>⟧.state (pages_of v.volume))) }
+        ensures reads { IfOk result (λ v. OnlyReads (N.state device) (⟦<FlashPages<N> as Pages>⟧.state (pages_of (over_pages v))).device) }
+        ensures goes_on { IfOk result (λ v. is_stopped (over_pages v) ≡ false) }
+        ensures read_only { IfOk result (λ v. (is_read_only (over_pages v) ≡ true) ↔ CanOnlyBeRead (⟦<FlashPages<N> as Pages>⟧.state (pages_of (over_pages v)))) }
         ensures next { (N.state device).honest ≡ true
-            → IfOk result (λ v. AreNext (⟦<FlashPages<N> as Pages>⟧.state (pages_of v.volume)).device.flash (⟦<FlashPages<N> as Pages>⟧.state (pages_of v.volume)).next) }
+            → IfOk result (λ v. AreNext (⟦<FlashPages<N> as Pages>⟧.state (pages_of (over_pages v))).device.flash (⟦<FlashPages<N> as Pages>⟧.state (pages_of (over_pages v))).next) }
         ensures tree { (N.state device).honest ≡ true
-            → IfOk result (λ v. (objects : Objects) × StandsForTree ⟦<FlashPages<N> as Pages>⟧.state v.volume objects) }
+            → IfOk result (λ v. (objects : Objects) × StandsForTree ⟦<FlashPages<N> as Pages>⟧.state (over_pages v) objects) }
         ensures back { IfErr result (λ failed. OnlyReads (N.state device) (N.state failed.0)) }
         ensures fault { IfErr result (λ failed. WhyNotMounted (N.state failed.0) failed.1) }
     {

@@ -32,31 +32,32 @@ impl<N: Nand> Volume<N> {
     ghost use Rattle.page_volume.specs.Running.{RunsPages, OnlyTells};
     ghost use Rattle.page_volume.specs.Volumes.{pages_of, is_read_only, is_stopped, IsVolumeOf};
     ghost use Rattle.posix_calls.specs.Endings.{IsUnmounted};
+    ghost use Rattle.posix_calls.specs.Volumes.{over_pages};
 
     /// Does a command and replies to it.
     pub fn call(&mut self, stamped: &Stamped) -> Reply
-        ensures goes_on { GoesOn (⟦<FlashPages<N> as Pages>⟧.state (pages_of self.old.volume)) (⟦<FlashPages<N> as Pages>⟧.state (pages_of self.new.volume)) }
-        ensures read_only { is_read_only self.new.volume ≡ is_read_only self.old.volume }
+        ensures goes_on { GoesOn (⟦<FlashPages<N> as Pages>⟧.state (pages_of (over_pages self.old))) (⟦<FlashPages<N> as Pages>⟧.state (pages_of (over_pages self.new))) }
+        ensures read_only { is_read_only (over_pages self.new) ≡ is_read_only (over_pages self.old) }
         ensures leaves { makes_no_call stamped.now.command ≡ true
-            → (⟦<FlashPages<N> as Pages>⟧.state (pages_of self.new.volume)).device ≡ (⟦<FlashPages<N> as Pages>⟧.state (pages_of self.old.volume)).device }
-        ensures stopped { is_stopped self.old.volume ≡ true → (result ≡ replies.Error errors.EIO) × (self.new ≡ self.old) }
-        ensures stops { is_stopped self.old.volume ≡ false → is_stopped self.new.volume ≡ is_stop result }
+            → (⟦<FlashPages<N> as Pages>⟧.state (pages_of (over_pages self.new))).device ≡ (⟦<FlashPages<N> as Pages>⟧.state (pages_of (over_pages self.old))).device }
+        ensures stopped { is_stopped (over_pages self.old) ≡ true → (result ≡ replies.Error errors.EIO) × (self.new ≡ self.old) }
+        ensures stops { is_stopped (over_pages self.old) ≡ false → is_stopped (over_pages self.new) ≡ is_stop result }
         // The reply is the step's; or want of memory, of a command that takes some; or the stop.
-        ensures replies { is_stopped self.old.volume ≡ false → (z : Sizes) (s : State) → IsVolumeOf ⟦<FlashPages<N> as Pages>⟧.state z s self.old.volume
-            → Replies z (is_read_only self.old.volume) s stamped.now result }
-        ensures state { is_stopped self.old.volume ≡ false → (z : Sizes) (s : State) → IsVolumeOf ⟦<FlashPages<N> as Pages>⟧.state z s self.old.volume → is_stop result ≡ false
-            → IsVolumeOf ⟦<FlashPages<N> as Pages>⟧.state z (after_one z (is_read_only self.old.volume) s stamped.now result) self.new.volume }
+        ensures replies { is_stopped (over_pages self.old) ≡ false → (z : Sizes) (s : State) → IsVolumeOf ⟦<FlashPages<N> as Pages>⟧.state z s (over_pages self.old)
+            → Replies z (is_read_only (over_pages self.old)) s stamped.now result }
+        ensures state { is_stopped (over_pages self.old) ≡ false → (z : Sizes) (s : State) → IsVolumeOf ⟦<FlashPages<N> as Pages>⟧.state z s (over_pages self.old) → is_stop result ≡ false
+            → IsVolumeOf ⟦<FlashPages<N> as Pages>⟧.state z (after_one z (is_read_only (over_pages self.old)) s stamped.now result) (over_pages self.new) }
         // A mount shows the tree that it did, or what names keep of the objects before the command.
-        ensures tree { is_stopped self.old.volume ≡ false → (z : Sizes) (s : State) → IsVolumeOf ⟦<FlashPages<N> as Pages>⟧.state z s self.old.volume
-            → (tree : Objects) → Shown z (⟦<FlashPages<N> as Pages>⟧.state (pages_of self.old.volume)) tree
-            → Shown z (⟦<FlashPages<N> as Pages>⟧.state (pages_of self.new.volume)) tree ⊎ Shown z (⟦<FlashPages<N> as Pages>⟧.state (pages_of self.new.volume)) (settled s.objects) }
-        ensures synced { is_stopped self.old.volume ≡ false → (z : Sizes) (s : State) → IsVolumeOf ⟦<FlashPages<N> as Pages>⟧.state z s self.old.volume → is_synced stamped.now.command result ≡ true
-            → Shown z (⟦<FlashPages<N> as Pages>⟧.state (pages_of self.new.volume)) (settled s.objects) }
-        ensures cause { is_stopped self.old.volume ≡ false → (z : Sizes) (s : State) → IsVolumeOf ⟦<FlashPages<N> as Pages>⟧.state z s self.old.volume → is_stop result ≡ true
-            → HasEnded (⟦<FlashPages<N> as Pages>⟧.state (pages_of self.new.volume)) }
+        ensures tree { is_stopped (over_pages self.old) ≡ false → (z : Sizes) (s : State) → IsVolumeOf ⟦<FlashPages<N> as Pages>⟧.state z s (over_pages self.old)
+            → (tree : Objects) → Shown z (⟦<FlashPages<N> as Pages>⟧.state (pages_of (over_pages self.old))) tree
+            → Shown z (⟦<FlashPages<N> as Pages>⟧.state (pages_of (over_pages self.new))) tree ⊎ Shown z (⟦<FlashPages<N> as Pages>⟧.state (pages_of (over_pages self.new))) (settled s.objects) }
+        ensures synced { is_stopped (over_pages self.old) ≡ false → (z : Sizes) (s : State) → IsVolumeOf ⟦<FlashPages<N> as Pages>⟧.state z s (over_pages self.old) → is_synced stamped.now.command result ≡ true
+            → Shown z (⟦<FlashPages<N> as Pages>⟧.state (pages_of (over_pages self.new))) (settled s.objects) }
+        ensures cause { is_stopped (over_pages self.old) ≡ false → (z : Sizes) (s : State) → IsVolumeOf ⟦<FlashPages<N> as Pages>⟧.state z s (over_pages self.old) → is_stop result ≡ true
+            → HasEnded (⟦<FlashPages<N> as Pages>⟧.state (pages_of (over_pages self.new))) }
         // What only tells, and what is answered by another error, only reads.
-        ensures reads { is_stopped self.old.volume ≡ false → (z : Sizes) (s : State) → IsVolumeOf ⟦<FlashPages<N> as Pages>⟧.state z s self.old.volume → OnlyTells stamped.now result
-            → StaysAs (⟦<FlashPages<N> as Pages>⟧.state (pages_of self.old.volume)) (⟦<FlashPages<N> as Pages>⟧.state (pages_of self.new.volume)) }
+        ensures reads { is_stopped (over_pages self.old) ≡ false → (z : Sizes) (s : State) → IsVolumeOf ⟦<FlashPages<N> as Pages>⟧.state z s (over_pages self.old) → OnlyTells stamped.now result
+            → StaysAs (⟦<FlashPages<N> as Pages>⟧.state (pages_of (over_pages self.old))) (⟦<FlashPages<N> as Pages>⟧.state (pages_of (over_pages self.new))) }
     {
         self.volume.call(stamped)
     }
@@ -64,17 +65,17 @@ impl<N: Nand> Volume<N> {
     /// Does the commands in turn and adds their replies at the end of the vector. Where a reply finds no room its command
     /// is not begun, nor is any after it.
     pub fn run(&mut self, commands: &[Stamped], replies: &mut Vec<Reply>) -> Result<(), AllocError>
-        ensures goes_on { GoesOn (⟦<FlashPages<N> as Pages>⟧.state (pages_of self.old.volume)) (⟦<FlashPages<N> as Pages>⟧.state (pages_of self.new.volume)) }
-        ensures read_only { is_read_only self.new.volume ≡ is_read_only self.old.volume }
+        ensures goes_on { GoesOn (⟦<FlashPages<N> as Pages>⟧.state (pages_of (over_pages self.old))) (⟦<FlashPages<N> as Pages>⟧.state (pages_of (over_pages self.new))) }
+        ensures read_only { is_read_only (over_pages self.new) ≡ is_read_only (over_pages self.old) }
         ensures runs { (n : ℕ) × (n ≤ length commands.now) × OnOk result (n ≡ length commands.now)
-            × RunsPages ⟦<FlashPages<N> as Pages>⟧.state commands.now n replies.old.items replies.new.items self.old.volume self.new.volume }
+            × RunsPages ⟦<FlashPages<N> as Pages>⟧.state commands.now n replies.old.items replies.new.items (over_pages self.old) (over_pages self.new) }
     {
         self.volume.run(commands, replies)
     }
 
     /// Commits what was accepted and gives the device back, with the reply Done, or Error of EIO where it could not be.
     pub fn unmount(self) -> (N, Reply)
-        ensures { IsUnmounted ⟦<FlashPages<N> as Pages>⟧.state self.volume (N.state result.0) result.1 }
+        ensures { IsUnmounted ⟦<FlashPages<N> as Pages>⟧.state (over_pages self) (N.state result.0) result.1 }
     {
         let (pages, reply) = self.volume.finish();
         (pages.into_device(), reply)
@@ -82,21 +83,21 @@ impl<N: Nand> Volume<N> {
 
     /// Gives the device back as it is, as if power were lost between two calls.
     pub fn abandon(self) -> N
-        ensures { N.state result ≡ (⟦<FlashPages<N> as Pages>⟧.state (pages_of self.volume)).device }
+        ensures { N.state result ≡ (⟦<FlashPages<N> as Pages>⟧.state (pages_of (over_pages self))).device }
     {
         self.volume.into_pages().into_device()
     }
 
     /// Whether commands that would change it are refused.
     pub fn read_only(&self) -> bool
-        ensures { result ≡ is_read_only self.now.volume }
+        ensures { result ≡ is_read_only (over_pages self.now) }
     {
         self.volume.read_only()
     }
 
     /// Whether it answers EIO to each command.
     pub fn stopped(&self) -> bool
-        ensures { result ≡ is_stopped self.now.volume }
+        ensures { result ≡ is_stopped (over_pages self.now) }
     {
         self.volume.stopped()
     }

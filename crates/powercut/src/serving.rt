@@ -2,6 +2,7 @@
 ghost use Rattle.std.specs.Prelude.{◌≡◌, ◌↔◌, true, false, [], ◌∷◌, length, Ok, is_some, IfOk};
 ghost use Rattle.nand_model.specs.Calls.{Lasts};
 ghost use Rattle.page_volume.specs.Volumes.{pages_of, is_read_only, is_stopped, IsVolumeOf};
+ghost use Rattle.posix_calls.specs.Volumes.{over_pages};
 ghost use Rattle.powercut.specs.Commands.{IsUsed};
 ghost use Rattle.powercut.specs.Living.{HasLived};
 ghost use Rattle.powercut.specs.Serving.{served_record};
@@ -16,10 +17,10 @@ use std::alloc::{AllocError, Global};
 
 impl<N: Nand> Commanded for Volume<N> {
     ghost meaning = { record {
-      pages = λ v. ⟦<FlashPages<N> as Pages>⟧.state (pages_of v.volume);
-      stands = λ z s v. IsVolumeOf ⟦<FlashPages<N> as Pages>⟧.state z s v.volume;
-      stopped = λ v. is_stopped v.volume;
-      read_only = λ v. is_read_only v.volume;
+      pages = λ v. ⟦<FlashPages<N> as Pages>⟧.state (pages_of (over_pages v));
+      stands = λ z s v. IsVolumeOf ⟦<FlashPages<N> as Pages>⟧.state z s (over_pages v);
+      stopped = λ v. is_stopped (over_pages v);
+      read_only = λ v. is_read_only (over_pages v);
     } };
 
     fn answer(&mut self, stamped: &Stamped) -> Reply {

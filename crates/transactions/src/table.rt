@@ -6,7 +6,7 @@ ghost use Rattle.block_state.specs.TableOf.{table};
 ghost use Rattle.transactions.specs.Marking.{MarksNoted};
 ghost use Rattle.transactions.specs.Ready.{IsReady};
 
-use block_state::Blocks;
+use block_state::{Blocks, NextNumbers};
 use flash_tree::TagNumbers;
 use nand_model::Nand;
 use std::alloc::{AllocError, Global};
@@ -38,11 +38,15 @@ pub fn table_of<N: Nand>(
     ensures ready { IfOk result (λ blocks. IsReady (N.state device.now) (table blocks)) }
     ensures open { IfOk result (λ blocks. (table blocks).open_block ≡ None) }
     ensures kept { IfOk result (λ blocks. (b : ℕ) → ((table blocks).entry b).kept ≡ 0) }
+    ensures seqs { IfOk result (λ blocks. (b : ℕ) → ((table blocks).entry b).seq ≡ 0) }
     ensures group { IfOk result (λ blocks. (table blocks).next_group ≡ greatest.group + 1) }
     ensures seq { IfOk result (λ blocks. (table blocks).next_seq ≡ greatest.seq + 1) }
 {
     let mut blocks = Blocks::new(alloc, device.geometry())?;
     note_marks(device, &mut blocks);
-    blocks.raise(greatest.seq + 1, greatest.group + 1);
+    blocks.raise(NextNumbers {
+        seq: greatest.seq + 1,
+        group: greatest.group + 1,
+    });
     Ok(blocks)
 }

@@ -134,7 +134,8 @@ fn take_entry(alloc: Global, bytes: &[u8], seen: &mut Slots) -> Result<(), WalkF
     let Some(slot) = decode_slot(bytes) else {
         return Err(WalkFault::Damaged);
     };
-    if !seen.names.insert(slot.name.to_vec(alloc)?, slot.object)? {
+    let led = seen.names.insert(slot.name.to_vec(alloc)?, slot.object)?;
+    if led.is_some() {
         return Err(WalkFault::Damaged);
     }
     seen.objects.push(slot.object)?;

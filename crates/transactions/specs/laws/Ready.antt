@@ -147,6 +147,7 @@ pub record IsMade (d : Device) (group seq : ℕ) (t : Table) : Type 0 where
   pub ready : IsReady d t
   pub open_block : t.open_block ≡ None
   pub kept : (b : ℕ) → (t.entry b).kept ≡ 0
+  pub seqs : (b : ℕ) → (t.entry b).seq ≡ 0
 
 pub made_ready : (d : Device) (group seq : ℕ) (t0 t1 t2 : Table) → IsWithin d.geometry.pages d.geometry.blocks d.flash → 1 ≤ group → 1 ≤ seq → (d.honest ≡ true → AreBelow d.flash group seq)
     → t0 ≡ record { geometry = d.geometry; entry = λ b. blank; open_block = None; next_seq = 1; next_group = 1 }
@@ -169,6 +170,7 @@ made_ready d group seq t0 t1 t2 within some_group some_seq below fresh noted rai
       };
       open_block = noted.open_block;
       kept = λ b. noted.kept b ∙ ap (λ (t : Table). (t.entry b).kept) fresh;
+      seqs = λ b. noted.seqs b ∙ ap (λ (t : Table). (t.entry b).seq) fresh;
     } in
     subst (IsMade d group seq) (sym raised) made
 

@@ -35,7 +35,7 @@ returns-clause-opened g c =
     (tells_read old new _ reads c.in_ok-newest.ensures.newest)
     (greatest_read old new _ reads c.in_ok-newest.ensures.numbers)
     (names_same _ _ _ c.deref.ensures.value (c.have_names.ensures.0 c.if-not-have_names.false))
-    (noted_table new _ _ _ c.note_seqs.ensures.only c.in_ok-blocks.ensures)
-    (seqs_are new _ _ (table c.in_ok-blocks.blocks) (table c.note_seqs.new.blocks) (tells_read old new _ reads c.in_ok-newest.ensures.newest) (greatest_read old new _ reads c.in_ok-newest.ensures.numbers) c.in_ok-blocks.ensures
+    (noted_table new _ _ _ c.note_seqs.ensures.only c.in_ok-blocks.ensures.table)
+    (seqs_are new _ _ (table c.in_ok-blocks.blocks) (table c.note_seqs.new.blocks) (tells_read old new _ reads c.in_ok-newest.ensures.newest) (greatest_read old new _ reads c.in_ok-newest.ensures.numbers) c.in_ok-blocks.ensures.table c.in_ok-blocks.ensures.seqs
     (λ b. notes_same _ _ (table c.in_ok-blocks.blocks) (table c.note_seqs.new.blocks) b c.deref-2.ensures.value (c.note_seqs.ensures.notes b)))
     (subst (λ (fs : List Found). Indexes fs (length fs) c.in_ok-index.index) c.deref-3.ensures.value c.in_ok-index.ensures.indexes) c.in_ok-index.ensures.agree c.in_ok-index.ensures.counts

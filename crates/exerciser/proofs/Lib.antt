@@ -1,4 +1,3 @@
-pub mod Writing
 pub mod Drawing
 pub mod Sessions
 pub mod Covering

@@ -1,4 +1,3 @@
-pub mod Writing
 pub mod Reporting
 pub mod Opening
 pub mod Telling

@@ -6,7 +6,7 @@ use Rattle.line_shell.specs.Written.{Writes}
 use Rattle.posix_profile.specs.declared.reply.Reply.{Reply}
 use Rattle.flash_program.specs.Spaces.{space_text, IsTold}
 use Rattle.flash_program.specs.declared.fault.ProgramFault.{ProgramFault}
-use Rattle.flash_program.proofs.Writing.{goes_on}
+use Rattle.line_shell.specs.laws.Writing.{goes_on}
 
 pub with_read_only : {E : Type 0} (old mid new : Option (List ℕ)) (reply : Reply) (read_only : Bool) (r : Result (Unit {0}) E) → read_only ≡ true → Appends old mid (reply_text reply)
     → Writes mid new (codes "read-only" ++ (newline ∷ [])) r → Writes old new (space_text reply read_only) r

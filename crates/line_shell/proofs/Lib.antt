@@ -1,6 +1,5 @@
 pub mod Words
 pub mod Numbers
-pub mod Writing
 pub mod Lines
 pub mod Reading
 pub mod Running

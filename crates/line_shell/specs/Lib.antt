@@ -8,3 +8,4 @@ pub mod Lines
 pub mod Reading
 pub mod Runs
 pub mod Scripts
+pub mod laws

@@ -2,7 +2,7 @@
 use Rattle.std.specs.Prelude.{◌≡◌, ◌<◌, ◌≤◌, ℕ, false, None}
 use Rattle.nand_model.specs.Calls.{Device}
 use Rattle.nand_model.specs.Flash.{Flash}
-use Rattle.block_state.specs.Table.{Table, SetsEntry}
+use Rattle.block_state.specs.Table.{Table, Sets}
 
 -- The marks of the first n blocks are noted in a table that had none. The rest of it stays, and no block is open.
 pub record MarksNoted (device : Device) (n : ℕ) (old new : Table) : Type 0 where
@@ -16,5 +16,7 @@ pub record MarksNoted (device : Device) (n : ℕ) (old new : Table) : Type 0 whe
   pub next_group : new.next_group ≡ old.next_group
 
 -- the block has the mark that it has on the flash, and nothing else of the table is other
-abbrev pub NotesMark : (block : ℕ) → Flash → (old new : Table) → Type 0
-NotesMark block flash old new = SetsEntry block (record (old.entry block) { bad = flash.bad block }) old new
+pub record NotesMark (block : ℕ) (flash : Flash) (old new : Table) : Type 0 where
+  pub sets : Sets block (record (old.entry block) { bad = flash.bad block }) old new
+  pub open_block : new.open_block ≡ old.open_block
+  pub next_seq : new.next_seq ≡ old.next_seq

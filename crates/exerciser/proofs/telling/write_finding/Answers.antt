@@ -2,7 +2,7 @@ use Rattle.std.proofs.Common.{[], ◌∷◌, ◌++◌, sym, subst, codes}
 use Rattle.line_shell.specs.Replies.{numbers_text}
 use Rattle.line_shell.specs.Written.{Writes}
 use Rattle.exerciser.specs.Lines.{mount_name, finding_text}
-use Rattle.exerciser.proofs.Writing.{stops_first, goes_on, text_is}
+use Rattle.line_shell.specs.laws.Writing.{stops_first, goes_on, text_is}
 use Rattle.exerciser.proofs.telling.write_finding.Goals as goal
 
 pub returns-in_err-write_tagged_numbers-in-Kept : goal.returns-in_err-write_tagged_numbers-in-Kept

@@ -2,7 +2,7 @@ use Rattle.std.proofs.Common.{ℕ, List, [], ◌∷◌, ◌++◌, codes}
 use Rattle.line_shell.specs.Replies.{newline, numbers_text}
 use Rattle.exerciser.specs.Lines.{finding_text}
 use Rattle.exerciser.specs.declared.finding.Finding.{Finding}
-use Rattle.exerciser.proofs.Writing.{stops_first, goes_on}
+use Rattle.line_shell.specs.laws.Writing.{stops_first, goes_on}
 use Rattle.exerciser.proofs.telling.write_line.Goals as goal
 
 -- the first words, with the number of the session

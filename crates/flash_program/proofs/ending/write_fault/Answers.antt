@@ -1,6 +1,6 @@
 use Rattle.std.proofs.Common.{[], ◌∷◌, ◌++◌, codes}
 use Rattle.line_shell.specs.Replies.{newline}
-use Rattle.flash_program.proofs.Writing.{stops_first, goes_on}
+use Rattle.line_shell.specs.laws.Writing.{stops_first, goes_on}
 use Rattle.flash_program.proofs.ending.write_fault.Goals as goal
 
 pub returns-in_err-write_bytes : goal.returns-in_err-write_bytes

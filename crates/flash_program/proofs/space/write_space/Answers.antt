@@ -1,7 +1,7 @@
 use Rattle.std.proofs.Common.{[], ◌∷◌, ◌++◌, codes, if◌then◌else◌}
 use Rattle.line_shell.specs.Replies.{newline, reply_text}
 use Rattle.flash_program.proofs.Telling.{with_read_only}
-use Rattle.flash_program.proofs.Writing.{stops_first}
+use Rattle.line_shell.specs.laws.Writing.{stops_first}
 use Rattle.flash_program.proofs.space.write_space.Goals as goal
 
 pub returns-in_err-write_reply : goal.returns-in_err-write_reply

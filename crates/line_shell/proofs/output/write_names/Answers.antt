@@ -1,7 +1,7 @@
 use Rattle.std.proofs.Common.{◌∙◌, ◌∷◌, subst}
 use Rattle.line_shell.specs.Words.{space, spelled}
 use Rattle.line_shell.specs.Written.{AppendsPart}
-use Rattle.line_shell.proofs.Writing.{stops_at}
+use Rattle.line_shell.specs.laws.Writing.{stops_at}
 use Rattle.line_shell.proofs.output.write_names.Goals as goal
 
 pub returns-in_err-write_spaced_word : goal.returns-in_err-write_spaced_word

@@ -1,7 +1,7 @@
 use Rattle.std.proofs.Common.{◌∷◌}
 use Rattle.std.specs.Fmt.{decimal}
 use Rattle.line_shell.specs.Words.{space}
-use Rattle.line_shell.proofs.Writing.{stops_at}
+use Rattle.line_shell.specs.laws.Writing.{stops_at}
 use Rattle.line_shell.proofs.output.write_numbers.Goals as goal
 
 pub returns-in_err-write_spaced_number : goal.returns-in_err-write_spaced_number

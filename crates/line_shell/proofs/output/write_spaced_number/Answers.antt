@@ -1,7 +1,7 @@
 use Rattle.std.proofs.Common.{◌∙◌, [], ◌∷◌}
 use Rattle.std.specs.Fmt.{decimal}
 use Rattle.line_shell.specs.Words.{space}
-use Rattle.line_shell.proofs.Writing.{stops_first, goes_on, text_is}
+use Rattle.line_shell.specs.laws.Writing.{stops_first, goes_on, text_is}
 use Rattle.line_shell.proofs.output.write_spaced_number.Goals as goal
 
 pub returns-in_err-write_bytes : goal.returns-in_err-write_bytes

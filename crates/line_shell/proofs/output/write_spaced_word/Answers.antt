@@ -1,6 +1,6 @@
 use Rattle.std.proofs.Common.{[], ◌∷◌}
 use Rattle.line_shell.specs.Words.{space, spelled}
-use Rattle.line_shell.proofs.Writing.{stops_first, goes_on}
+use Rattle.line_shell.specs.laws.Writing.{stops_first, goes_on}
 use Rattle.line_shell.proofs.output.write_spaced_word.Goals as goal
 
 pub returns-in_err-write_bytes : goal.returns-in_err-write_bytes

@@ -1,5 +1,5 @@
 use Rattle.line_shell.specs.Replies.{numbers_text}
-use Rattle.line_shell.proofs.Writing.{stops_first, goes_on}
+use Rattle.line_shell.specs.laws.Writing.{stops_first, goes_on}
 use Rattle.line_shell.proofs.output.write_tagged_numbers.Goals as goal
 
 pub returns-in_err-write_bytes : goal.returns-in_err-write_bytes

@@ -1,7 +1,7 @@
 use Rattle.std.proofs.Common.{flat_map, sym, rules}
 use Rattle.line_shell.specs.Words.{spelled, spelled_byte}
 use Rattle.line_shell.proofs.Words.{spelled_some}
-use Rattle.line_shell.proofs.Writing.{stops_at, text_is}
+use Rattle.line_shell.specs.laws.Writing.{stops_at, text_is}
 use Rattle.line_shell.proofs.output.write_word.Goals as goal
 
 pub returns-in_err-write_spelled_byte : goal.returns-in_err-write_spelled_byte

@@ -1,7 +1,7 @@
 use Rattle.std.proofs.Common.{[], ◌∷◌, ◌++◌, length, codes}
 use Rattle.line_shell.specs.Replies.{numbers_text}
 use Rattle.line_shell.specs.Words.{space, spelled}
-use Rattle.line_shell.proofs.Writing.{stops_first, goes_on}
+use Rattle.line_shell.specs.laws.Writing.{stops_first, goes_on}
 use Rattle.line_shell.proofs.reply.write_data.Goals as goal
 
 pub returns-in_err-write_tagged_numbers : goal.returns-in_err-write_tagged_numbers

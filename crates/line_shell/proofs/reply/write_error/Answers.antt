@@ -1,6 +1,6 @@
 use Rattle.std.proofs.Common.{codes}
 use Rattle.line_shell.specs.Replies.{error_name}
-use Rattle.line_shell.proofs.Writing.{stops_first, goes_on, text_is}
+use Rattle.line_shell.specs.laws.Writing.{stops_first, goes_on, text_is}
 use Rattle.line_shell.proofs.reply.write_error.Goals as goal
 
 pub returns-in_err-write_bytes : goal.returns-in_err-write_bytes

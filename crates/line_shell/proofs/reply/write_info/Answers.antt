@@ -1,7 +1,7 @@
 use Rattle.std.proofs.Common.{ℕ, List, [], ◌∷◌, ◌++◌, ◌∙◌, ap, codes}
 use Rattle.posix_profile.specs.declared.reply.Info.{Info}
 use Rattle.line_shell.specs.Replies.{numbers_text, kind_name, size_of_kind}
-use Rattle.line_shell.proofs.Writing.{stops_first, goes_on, text_is}
+use Rattle.line_shell.specs.laws.Writing.{stops_first, goes_on, text_is}
 use Rattle.line_shell.proofs.reply.write_info.Goals as goal
 
 -- what stands behind the first word

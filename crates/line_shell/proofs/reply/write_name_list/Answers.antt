@@ -1,6 +1,6 @@
 use Rattle.std.proofs.Common.{[], ◌∷◌, ◌++◌, length, codes}
 use Rattle.line_shell.specs.Replies.{numbers_text, names_text}
-use Rattle.line_shell.proofs.Writing.{stops_first, goes_on}
+use Rattle.line_shell.specs.laws.Writing.{stops_first, goes_on}
 use Rattle.line_shell.proofs.reply.write_name_list.Goals as goal
 
 pub returns-in_err-write_tagged_numbers : goal.returns-in_err-write_tagged_numbers

@@ -1,6 +1,6 @@
 use Rattle.std.proofs.Common.{[], ◌∷◌}
 use Rattle.line_shell.specs.Replies.{newline, reply_words, reply_text}
-use Rattle.line_shell.proofs.Writing.{stops_first, goes_on}
+use Rattle.line_shell.specs.laws.Writing.{stops_first, goes_on}
 use Rattle.line_shell.proofs.reply.write_reply.Goals as goal
 
 pub returns-in_err-write_words : goal.returns-in_err-write_words

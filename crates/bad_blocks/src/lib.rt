@@ -16,6 +16,3 @@ pub use moving::{Moved, move_kept};
 pub use retirement::retire;
 pub use room::MoveRoom;
 pub use take::{TakeFault, take_block};
-
-#[cfg(test)]
-mod tests;

@@ -1,10 +1,12 @@
-// What counts and what is newest after groups that were cut or failed at each page, by a search of the flash.
+// What counts and what is newest after groups that were cut or failed at each page, by a search of the flash; and groups
+// that fill a block.
 
 ghost use Rattle.std.specs.Prelude.{IfOk, IfSome};
 ghost use Rattle.nand_model.specs.MemoryState.{device};
 ghost use Rattle.block_state.specs.TableOf.{table};
 ghost use Rattle.transactions.specs.CopyingOne.{MayCopy};
 
+use crate::kept::{Stored, newest_stored};
 use crate::volumes::{Volume, pages_from};
 use flash_tree::{Found, FreshPage, Key};
 use nand_model::{Fate, MemNand, Nand};
@@ -230,5 +232,36 @@ fn a_copy_is_the_newest_page(rt: HostRuntime) -> Result<(), Fail> {
     };
     let mut nand = volume.into_nand();
     assert_eq!(rt; newest(&mut nand, key)?, Some(copy));
+    let stored = Stored {
+        version: 1,
+        fill: 1,
+    };
+    assert_eq!(rt; newest_stored(&rt, &mut nand, 2)?, Some(stored));
+    Ok(())
+}
+
+/// A group that does not fit leaves the numbers and the device as they are, and goes into another block.
+#[test]
+fn groups_fill_a_block_until_there_is_no_room(rt: HostRuntime) -> Result<(), Fail> {
+    let alloc = rt.alloc();
+    let mut volume = begun(&rt, alloc)?;
+    let pages = pages_of(alloc, 8, 2)?;
+    for group in 2..5u64 {
+        let placed = Placed {
+            block: 2,
+            first: (group as u32 - 2) * 8 + 2,
+            count: 8,
+            group,
+            suspect: false,
+        };
+        assert_eq!(rt; volume.commit(&rt, &pages), Ok(placed), "group {group}");
+    }
+    assert_eq!(rt; volume.blocks.open_room(), 6);
+    assert_eq!(rt; volume.commit(&rt, &pages), Err(GroupFault::NoRoom));
+    assert_eq!(rt; volume.blocks.next_group(), 5);
+    assert_eq!(rt; volume.nand.changes(), 27);
+    volume.take(&rt, 7)?;
+    assert_eq!(rt; volume.blocks.next_seq(), 3);
+    assert!(rt; volume.commit(&rt, &pages).is_ok());
     Ok(())
 }

@@ -1,5 +1,6 @@
-//! Tests that need several crates of the log: the scan beside a plain search, the index of a scan, groups that are cut,
-//! and moves, retirements and collections of which calls are cut or fail.
+//! Tests of the crates of the log, most of which need several: the scan beside a plain search, an index by hand and that of a
+//! scan, blocks that are taken and marked, groups that are cut, and moves, retirements and collections of which calls are cut
+//! or fail.
 #![tactic(auto)]
 
 #[cfg(test)]
@@ -15,6 +16,10 @@ mod kept;
 #[cfg(test)]
 mod moves;
 #[cfg(test)]
+mod openings;
+#[cfg(test)]
+mod refused;
+#[cfg(test)]
 mod retirements;
 #[cfg(test)]
 mod rounds;
@@ -24,5 +29,7 @@ mod scans;
 mod volumes;
 #[cfg(test)]
 mod worked;
+#[cfg(test)]
+mod worked_index;
 #[cfg(test)]
 mod worn;

@@ -16,6 +16,3 @@ pub use law::{
     a_found_page_has_the_newest_data, a_page_is_found_for_each_key, each_key_stands_once,
 };
 pub use whole::{scan, scan_newest};
-
-#[cfg(test)]
-mod tests;

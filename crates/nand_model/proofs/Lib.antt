@@ -2,4 +2,3 @@ pub mod Sizes
 pub mod Slots
 pub mod Walks
 pub mod Whole
-pub mod SmallDeviceLaws

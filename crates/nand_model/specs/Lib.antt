@@ -8,6 +8,5 @@ pub mod Scripts
 pub mod Powers
 pub mod Memory
 pub mod MemoryState
-pub mod SmallDevices
 pub mod Putting
 pub mod laws

@@ -10,8 +10,6 @@ mod memory;
 mod nand;
 mod plan;
 mod power;
-#[cfg(test)]
-mod tests;
 
 pub use fate::Fate;
 pub use geometry::{BadGeometry, Geometry};

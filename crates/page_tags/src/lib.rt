@@ -17,6 +17,3 @@ pub use law::{
 pub use presence::{is_present, set_present};
 pub use slot::{Slot, decode_slot, encode_slot};
 pub use tag::Tag;
-
-#[cfg(test)]
-mod tests;

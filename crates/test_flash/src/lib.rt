@@ -4,6 +4,3 @@
 mod flash;
 
 pub use flash::{TestFault, TestFlash};
-
-#[cfg(test)]
-mod tests;

@@ -6,4 +6,4 @@ mod fault;
 mod mount;
 
 pub use fault::LogFault;
-pub use mount::{MountedLog, mount_log};
+pub use mount::{MountedLog, has_unkept, mount_log};

@@ -43,7 +43,7 @@ fn fit(blocks: &Blocks) -> bool
 }
 
 /// Whether no block is open, no more are bad than these, and blocks enough are free.
-fn has_unkept(blocks: &Blocks, spare: u32) -> bool
+pub fn has_unkept(blocks: &Blocks, spare: u32) -> bool
     ensures { IsTrue result → HasUnkept (table blocks.now) spare }
 {
     if blocks.open_block().is_some() {

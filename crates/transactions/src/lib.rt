@@ -23,6 +23,3 @@ pub use mark::mark_block;
 pub use open::erase_and_open;
 pub use source::{PageName, PageSource, SourceFault};
 pub use table::table_of;
-
-#[cfg(test)]
-mod tests;

@@ -1,8 +1,0 @@
-use Rattle.std.proofs.Common.{ap, ◌∙◌}
-use Rattle.chunk_index.specs.laws.Maps.{below_retained}
-use Rattle.chunk_index.proofs.tests.Store.retain.Goals as goal
-
-pub invariant_of-self : goal.invariant_of-self
-invariant_of-self c =
-    let self = c.args.self.now in
-    record { agree = c.retain.ensures.agree; few = below_retained 100 _ self.index c.retain.new.self c.retain.ensures.retains self.few; eight = ap (λ (g : _). g.blocks) c.retain.ensures.counts.geometry ∙ self.eight }

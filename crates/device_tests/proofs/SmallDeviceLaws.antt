@@ -1,0 +1,47 @@
+-- What the calls of the tests keep of their devices.
+use Rattle.std.specs.Prelude.{◌≡◌, ℕ, Bool, false, List, Result}
+use Rattle.std.proofs.Common.{ap, sym, subst, ◌∙◌}
+use Rattle.nand_model.specs.Calls.{Device, Reads, Programs, Erases}
+use Rattle.nand_model.specs.Changes.{PowersUp}
+use Rattle.device_tests.specs.SmallDevices.{IsSmall, TakesPage}
+use Rattle.nand_model.specs.declared.geometry.Geometry.{Geometry}
+use Rattle.nand_model.specs.declared.nand.PageKind.{PageKind}
+use Rattle.nand_model.specs.declared.nand.Gone.{Gone}
+use Rattle.nand_model.specs.declared.nand.ProgramFault.{ProgramFault}
+use Rattle.nand_model.specs.declared.nand.EraseFault.{EraseFault}
+
+-- a device with the same sizes and marks is as small
+pub small_kept : (old new : Device) → IsSmall old → new.geometry ≡ old.geometry → new.flash.bad ≡ old.flash.bad → IsSmall new
+small_kept old new small geometry bad = record {
+  bytes = ap (λ (g : Geometry). g.bytes) geometry ∙ small.bytes;
+  pages = ap (λ (g : Geometry). g.pages) geometry ∙ small.pages;
+  blocks = ap (λ (g : Geometry). g.blocks) geometry ∙ small.blocks;
+  good = ap (λ (f : ℕ → Bool). f 1) bad ∙ small.good;
+}
+
+pub small_same : (old new : Device) → IsSmall old → new ≡ old → IsSmall new
+small_same old new small same = subst IsSmall (sym same) small
+
+pub open_same : (old new : Device) → new ≡ old → (p : ℕ) → TakesPage p old → TakesPage p new
+open_same old new same p was = subst (TakesPage p) (sym same) was
+
+pub small_read : (old new : Device) (result : Result PageKind Gone) → IsSmall old → Reads old new result → IsSmall new
+small_read old new result small does = small_kept old new small does.lasts.geometry does.bad
+
+pub small_up : (old new : Device) → IsSmall old → PowersUp old new → IsSmall new
+small_up old new small up = small_kept old new small up.geometry up.bad
+
+pub small_program : (b p : ℕ) (bytes tag : List ℕ) (old new : Device) (result : Result (Unit {0}) ProgramFault) → IsSmall old → Programs b p bytes tag old new result → IsSmall new
+small_program b p bytes tag old new result small does = small_kept old new small does.lasts.geometry does.bad
+
+pub small_erase : (b : ℕ) (old new : Device) (result : Result (Unit {0}) EraseFault) → IsSmall old → Erases b old new result → IsSmall new
+small_erase b old new result small does = small_kept old new small does.lasts.geometry does.bad
+
+pub ruleset small_laws = (small_same, open_same, small_read, small_up, small_program, small_erase)
+
+-- a fuse leaves it
+pub open_unsteady : (page : ℕ) (d : Device) → TakesPage page d → TakesPage page (record d { steady = false })
+open_unsteady page d is = record {
+  small = record { bytes = is.small.bytes; pages = is.small.pages; blocks = is.small.blocks; good = is.small.good };
+  next = is.next;
+}

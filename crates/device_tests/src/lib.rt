@@ -1,0 +1,16 @@
+//! Tests of the device in memory and of the bytes of pages: what calls that are cut or fail leave, and tags, headers and slots
+//! by hand.
+#![tactic(auto)]
+
+#[cfg(test)]
+mod fates;
+#[cfg(test)]
+mod headers;
+#[cfg(test)]
+mod presence;
+#[cfg(test)]
+mod sizes;
+#[cfg(test)]
+mod slots;
+#[cfg(test)]
+mod tags;

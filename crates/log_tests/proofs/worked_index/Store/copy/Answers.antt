@@ -1,0 +1,12 @@
+use Rattle.std.proofs.Common.{sym}
+use Rattle.chunk_index.specs.laws.Maps.{below_copied}
+use Rattle.log_tests.proofs.worked_index.Store.copy.Goals as goal
+
+pub invariant_of-self : goal.invariant_of-self
+invariant_of-self c =
+    let self = c.args.self.now in
+    record {
+      agree = c.copied.ensures.agree;
+      few = below_copied 100 c.args.key.object c.args.key.chunk c.args.place _ self.index c.copied.new.self (c.copied.ensures.copies _ (sym c.in-Some.ensures)) self.few;
+      eight = rw c.copied.ensures.counts.geometry self.eight;
+    }

@@ -1,0 +1,214 @@
+// An index through all that it is asked for, each reply worked by hand.
+ghost use Rattle.std.specs.Prelude.{◌≡◌, ◌<◌, ℕ};
+ghost use Rattle.block_state.specs.TableOf.{table};
+ghost use Rattle.chunk_index.specs.Maps.{present, CountsAgree};
+ghost use Rattle.chunk_index.specs.declared.form.Present.TheVariants as presents;
+
+use block_state::Blocks;
+use chunk_index::{Form, Index, KeptKey, KeptPage, KeyFilter, PagePlace, Present, WrittenGroup};
+use flash_tree::Key;
+use nand_model::Geometry;
+use std::alloc::{AllocError, Global};
+use std::process::Abort;
+use std::test::Fail;
+
+/// An index with the blocks that it counts in: eight, and less than a hundred pages in the buffer.
+#[derive(Drop)]
+struct Store {
+    index: Index,
+    blocks: Blocks,
+    ghost agree: { CountsAgree (table blocks) index },
+    ghost few: { (o c i : ℕ) → present index o c ≡ presents.InBuffer i → i < 100 },
+    ghost eight: { (table blocks).geometry.blocks ≡ 8 },
+}
+
+impl Store {
+    /// No key is kept or present.
+    fn new(alloc: Global) -> Result<Store, Fail> {
+        let blocks = Blocks::new(alloc, Geometry::new(512, 32, 8)?)?;
+        Ok(Store {
+            index: Index::new(alloc),
+            blocks,
+        })
+    }
+
+    /// A page of the buffer is the present one of a key.
+    fn buffer(&mut self, key: Key, page: u32) -> Result<(), AllocError>
+        requires { page < 100 }
+    {
+        self.index.prepare(key)?;
+        self.index.place(key, Form::Buffered(page));
+        Ok(())
+    }
+
+    /// The buffer was written from a page of a block on, under this number.
+    fn settle(&mut self, block: u32, first: u32, number: u64)
+        requires block { block < 8 }
+        requires first { first < 100 }
+    {
+        let group = WrittenGroup {
+            block,
+            first,
+            number,
+        };
+        self.index.settle_group(group, &mut self.blocks);
+    }
+
+    /// The kept page of a key, if there is one, was copied to another place.
+    fn copy(&mut self, key: Key, place: PagePlace)
+        requires { place.block < 8 }
+    {
+        match self.index.kept(key) {
+            Some(_) => self.index.copied(key, place, &mut self.blocks),
+            None => {}
+        }
+    }
+
+    /// There is room for the present page of a key.
+    fn prepare(&mut self, key: Key) -> Result<(), AllocError> {
+        self.index.prepare(key)
+    }
+
+    /// Only these keys stay.
+    fn retain(&mut self, filter: &UpTo) {
+        self.index.retain(filter, &mut self.blocks);
+    }
+
+    /// Nothing of an object is present from a chunk on.
+    fn cut(&mut self, object: u64, from: u64) {
+        self.index.cut(object, from);
+    }
+
+    /// Nothing of an object is present.
+    fn forget(&mut self, object: u64) {
+        self.index.forget(object);
+    }
+
+    /// How many keys are kept in a block.
+    fn count(&self, block: u32) -> u32
+        requires { block < 8 }
+    {
+        self.blocks.entry(block).kept
+    }
+}
+
+/// Keeps the chunks of one object up to one.
+struct UpTo {
+    object: u64,
+    last: u64,
+}
+
+impl KeyFilter for UpTo {
+    ghost use Rattle.std.specs.Prelude.{◌&&◌, not, nat_eq, nat_lt};
+
+    ghost keeps = { λ filter o c. nat_eq o filter.object && not (nat_lt filter.last c) };
+
+    fn keeps(&self, key: Key) -> bool {
+        key.object == self.object && key.chunk <= self.last
+    }
+}
+
+/// The key of a chunk of an object.
+fn key(object: u64, chunk: u64) -> Key {
+    Key { object, chunk }
+}
+
+/// A kept page at a place, in a version.
+fn at(block: u32, page: u32, version: u64) -> KeptPage {
+    KeptPage {
+        block,
+        page,
+        version,
+    }
+}
+
+/// Keys of two objects, from the buffer to the flash and away.
+#[test]
+fn a_group_is_settled_copied_and_forgotten(rt: HostRuntime) -> Result<(), Fail> {
+    let mut store = Store::new(rt.alloc())?;
+    store.buffer(key(5, 0), 0)?;
+    store.buffer(key(5, 2), 1)?;
+    store.buffer(key(1, 0), 2)?;
+    assert_eq!(&rt; store.index.present(key(5, 2)), Present::InBuffer(1));
+    assert_eq!(&rt; store.index.kept(key(5, 2)), None);
+    store.settle(3, 10, 7);
+    assert_eq!(&rt; store.index.kept(key(5, 0)), Some(at(3, 10, 7)));
+    assert_eq!(&rt;
+        store.index.present(key(1, 0)),
+        Present::OnFlash(at(3, 12, 7))
+    );
+    assert_eq!(&rt; store.index.present(key(5, 1)), Present::Absent);
+    assert_eq!(&rt; store.count(3), 3);
+    store.copy(key(1, 0), PagePlace { block: 4, page: 1 });
+    assert_eq!(&rt; store.index.kept(key(1, 0)), Some(at(4, 1, 7)));
+    assert_eq!(&rt; (store.count(3), store.count(4)), (2, 1));
+    store.buffer(key(5, 1), 0)?;
+    store.cut(5, 2);
+    assert_eq!(&rt; store.index.present(key(5, 1)), Present::InBuffer(0));
+    assert_eq!(&rt; store.index.present(key(5, 2)), Present::Absent);
+    assert_eq!(&rt; store.index.kept(key(5, 2)), Some(at(3, 11, 7)));
+    store.forget(1);
+    store.settle(6, 7, 8);
+    assert_eq!(&rt; store.index.kept(key(5, 1)), Some(at(6, 7, 8)));
+    assert_eq!(&rt;
+        (store.index.kept(key(5, 2)), store.index.kept(key(1, 0))),
+        (None, None)
+    );
+    assert_eq!(&rt; (store.count(3), store.count(4), store.count(6)), (1, 0, 1));
+    Ok(())
+}
+
+/// A key with its kept page.
+fn kept(key: Key, at: KeptPage) -> Option<KeptKey> {
+    Some(KeptKey { key, at })
+}
+
+/// The kept keys in their order, before and after all but one object's first chunks go.
+#[test]
+fn keys_come_in_order_and_some_stay(rt: HostRuntime) -> Result<(), Fail> {
+    let mut store = Store::new(rt.alloc())?;
+    store.buffer(key(5, 2), 0)?;
+    store.buffer(key(1, 9), 1)?;
+    store.buffer(key(5, 0), 2)?;
+    store.settle(3, 10, 7);
+    store.buffer(key(2, 0), 0)?;
+    let first = kept(key(1, 9), at(3, 11, 7));
+    let second = kept(key(5, 0), at(3, 12, 7));
+    let third = kept(key(5, 2), at(3, 10, 7));
+    assert_eq!(&rt; store.index.next_kept(None), first);
+    assert_eq!(&rt; store.index.next_kept(Some(key(1, 9))), second);
+    assert_eq!(&rt; store.index.next_kept(Some(key(3, 7))), second);
+    assert_eq!(&rt; store.index.next_kept(Some(key(5, 0))), third);
+    assert_eq!(&rt; store.index.next_kept(Some(key(5, 2))), None);
+    store.retain(&UpTo { object: 5, last: 1 });
+    assert_eq!(&rt; store.index.next_kept(None), second);
+    assert_eq!(&rt; store.index.next_kept(Some(key(5, 0))), None);
+    assert_eq!(&rt; store.index.present(key(2, 0)), Present::Absent);
+    assert_eq!(&rt; store.count(3), 1);
+    store.settle(4, 0, 8);
+    assert_eq!(&rt; store.index.kept(key(5, 0)), Some(at(3, 12, 7)));
+    assert_eq!(&rt; store.index.kept(key(2, 0)), None);
+    Ok(())
+}
+
+/// Run it with each allocation of the preparation refused in turn.
+#[test]
+fn a_refused_preparation_changes_nothing(rt: HostRuntime) -> Result<(), Fail> {
+    let mut store = Store::new(rt.alloc())?;
+    store.buffer(key(5, 0), 0)?;
+    store.settle(3, 10, 7);
+    if store.prepare(key(6, 0)).is_err() {
+        assert_eq!(&rt; store.index.kept(key(5, 0)), Some(at(3, 10, 7)));
+        assert_eq!(&rt; store.index.kept(key(6, 0)), None);
+        assert_eq!(&rt; store.index.present(key(6, 0)), Present::Absent);
+        store.prepare(key(6, 0))?;
+    }
+    assert_eq!(&rt; store.index.present(key(6, 0)), Present::Absent);
+    store.buffer(key(6, 0), 1)?;
+    assert_eq!(&rt; store.index.present(key(6, 0)), Present::InBuffer(1));
+    assert_eq!(&rt;
+        store.index.present(key(5, 0)),
+        Present::OnFlash(at(3, 10, 7))
+    );
+    Ok(())
+}

@@ -1,5 +1,0 @@
-use Rattle.nand_model.proofs.SmallDeviceLaws.{open_same}
-use Rattle.nand_model.proofs.tests.erased_failing.Goals as goal
-
-pub returns : goal.returns
-returns c = open_same _ _ c.with_failures.ensures.device 0 c.in_ok-nand.ensures

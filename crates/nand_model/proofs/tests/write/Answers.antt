@@ -1,7 +1,0 @@
-use Rattle.nand_model.proofs.SmallDeviceLaws.{small_program}
-use Rattle.nand_model.proofs.tests.write.Goals as goal
-
-pub returns : goal.returns
-returns c =
-    let does = c.in_ok-program.ensures.programs in
-    record { small = small_program _ _ _ _ _ _ _ c.requires.open.small does; next = does.next }

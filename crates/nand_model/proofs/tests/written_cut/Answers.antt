@@ -1,5 +1,0 @@
-use Rattle.nand_model.proofs.SmallDeviceLaws.{open_same, open_unsteady}
-use Rattle.nand_model.proofs.tests.written_cut.Goals as goal
-
-pub returns : goal.returns
-returns c = open_same _ _ c.with_fuse.ensures.device 5 (open_unsteady 5 _ c.in_ok-nand.ensures)

@@ -3,13 +3,13 @@ use Rattle.std.proofs.Common.{◌≡◌, ◌⊎◌, ◌<◌, ℕ, zero, suc, ◌
 use Rattle.std.specs.Option.{option_map_or}
 use Rattle.std.proofs.lemmas.Bool.{cases_eq}
 use Rattle.std.proofs.lemmas.Option.{slice_get_within}
+use Rattle.volume_terms.specs.laws.List.{slice_get_there}
 use Rattle.nand_model.specs.Flash.{Flash, Erased, Written}
 use Rattle.nand_model.specs.Calls.{bytes_of}
 use Rattle.page_tags.specs.Tags.{tag_bytes}
 use Rattle.flash_tree.specs.Groups.{Group}
 use Rattle.flash_tree.specs.Keeping.{StaysNewest}
 use Rattle.flash_tree.specs.Newest.{Spot, IsNewest}
-use Rattle.flash_tree.specs.laws.Finding.{slice_get_there}
 use Rattle.flash_tree.specs.laws.Newest.{one_spot}
 use Rattle.block_state.specs.Table.{Table}
 use Rattle.chunk_index.specs.declared.form.KeptPage.{KeptPage}

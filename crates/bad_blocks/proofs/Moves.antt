@@ -3,9 +3,9 @@ use Rattle.std.proofs.Common.{◌≡◌, ◌≢◌, ◌<◌, ◌≤◌, ℕ, ◌
 use Rattle.std.proofs.lemmas.Bool.{cases_Bool, cases_eq}
 use Rattle.std.proofs.lemmas.Bool.Decides.{nat_tests}
 use Rattle.std.proofs.lemmas.Option.{slice_get_within}
+use Rattle.volume_terms.specs.laws.List.{slice_get_there}
 use Rattle.nand_model.specs.Calls.{Device}
 use Rattle.nand_model.specs.declared.geometry.Geometry.{Geometry}
-use Rattle.flash_tree.specs.laws.Finding.{slice_get_there}
 use Rattle.block_state.specs.Counting.{how_many, sum_below}
 use Rattle.block_state.specs.Kept.{bad_count, unkept_count, kept_count, is_unkept}
 use Rattle.block_state.specs.Table.{Table, is_bad}

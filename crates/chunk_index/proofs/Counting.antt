@@ -1,5 +1,5 @@
 -- How counts follow from one change to the next, and what room a key has.
-use Rattle.std.proofs.Common.{◌≡◌, ℕ, ◌+◌, ◌-◌, ◌<◌, ◌≤◌, List, [], ◌∷◌, length, Option, Some, None, IsSome, refl, sym, ap, subst, ◌∙◌, arith, inl, inr}
+use Rattle.std.proofs.Common.{◌≡◌, ℕ, ◌+◌, ◌-◌, ◌<◌, ◌≤◌, List, [], ◌∷◌, Option, Some, None, IsSome, refl, sym, ap, subst, ◌∙◌, arith, inl, inr}
 use mathlib.Core.Bool.{false≢true}
 use Rattle.std.specs.List.{sum_by}
 use Rattle.std.specs.Option.{option_and_then}
@@ -215,11 +215,3 @@ entry_room t m o c e is tallies size counted few = subst (λ v. HasRoom t (one_a
 -- the count of an entry that is there
 pub entry_counts : (t u : Table) (m : ObjectMap) (o c : ℕ) (e : KeyEntry) (to : Option KeyEntry) → look m o c ≡ Some e → Recounts (one_at e.kept) (one_at (kept_of to)) t u → Recounts (one_at (kept_of (look m o c))) (one_at (kept_of to)) t u
 entry_counts t u m o c e to is recounts = subst (λ v. Recounts (one_at (kept_of v)) (one_at (kept_of to)) t u) (sym is) recounts
-
--- the length counts 1 for each
-pub sum_ones : {X : Type 0} (xs : List X) → sum_by (λ (x : X). 1) xs ≡ length xs
-sum_ones [] = refl
-sum_ones {X} (x ∷ xs) =
-    let one : sum_by (λ (x : X). 1) (x ∷ xs) ≡ 1 + sum_by (λ (x : X). 1) xs = sum_by-cons (λ (x : X). 1) x xs in
-    let rest : sum_by (λ (x : X). 1) xs ≡ length xs = sum_ones xs in
-    omega (arith, one, rest)

@@ -15,8 +15,9 @@ use Rattle.chunk_index.specs.Entries.{kept_at, one_at, counted_at, weight, kept_
 use Rattle.chunk_index.specs.Shelves.{ObjectMap, look, total, Differs, AltersKey}
 use Rattle.chunk_index.specs.Counts.{Recounts}
 use Rattle.chunk_index.specs.Maps.{kept_in, CountsAgree}
-use Rattle.chunk_index.proofs.Counting.{one_most, recounts_more, sum_ones}
+use Rattle.chunk_index.proofs.Counting.{one_most, recounts_more}
 use Rattle.std.proofs.lemmas.Bool.Decides.{nat_tests}
+use Rattle.volume_terms.specs.laws.List.{sum_ones}
 use Rattle.chunk_index.specs.Newest.{page_of, IsFoundOf, KeysRise, Indexes}
 use Rattle.chunk_index.specs.Found.{found_in, HasPages}
 

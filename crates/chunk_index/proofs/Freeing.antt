@@ -1,7 +1,7 @@
 -- The blocks without a kept page are free.
-use Rattle.std.proofs.Common.{◌≡◌, ℕ, ◌<◌, ◌≤◌, Bool, true, false, not, ◌&&◌, nat_eq, refl, sym, ◌∙◌, inl, inr}
+use Rattle.std.proofs.Common.{◌≡◌, ℕ, ◌<◌, ◌≤◌, Bool, true, false, not, nat_eq, refl, sym, ◌∙◌, inl, inr}
 use mathlib.Core.Bool.{false≢true}
-use Rattle.std.proofs.lemmas.Bool.{cases_eq, ne_eqb}
+use Rattle.std.proofs.lemmas.Bool.{cases_eq, ne_eqb, and_parts}
 use Rattle.nand_model.specs.Flash.{Flash}
 use Rattle.volume_terms.specs.Sizes.{Sizes}
 use Rattle.posix_profile.specs.State.{Objects}
@@ -15,10 +15,6 @@ use Rattle.chunk_index.specs.Free.{KeepsTree, HasMarks}
 use Rattle.chunk_index.specs.Maps.{kept_pages, kept_in, CountsAgree}
 use Rattle.chunk_index.proofs.Keys.{none_where_zero}
 
-both : (x y : Bool) → (x && y) ≡ true → (x ≡ true) × (y ≡ true)
-both true y is = (refl, is)
-both false y is = absurd (false≢true is)
-
 is_good : (x : Bool) → not x ≡ true → x ≡ false
 is_good true is = absurd (false≢true is)
 is_good false is = refl
@@ -30,7 +26,7 @@ is_zero n is = elim (cases_eq n 0) [ inl e ↦ e | inr ne ↦ absurd (false≢tr
 unkept_free : (x : Index) (t : Table) (flash : Flash) (z : Sizes) (objects : Objects) → CountsAgree t x → HasMarks flash t → KeepsTree flash z objects (kept_pages x)
     → (b : ℕ) → b < t.geometry.blocks → is_unkept t b ≡ true → IsFree t.geometry flash z objects b
 unkept_free x t flash z objects agree marks keeps b lt is =
-    let parts = both (not (t.entry b).bad) (nat_eq (t.entry b).kept 0) is in
+    let parts = and_parts (not (t.entry b).bad) (nat_eq (t.entry b).kept 0) is in
     let none : kept_in x b ≡ 0 = sym (agree.counts b) ∙ is_zero (t.entry b).kept parts.1 in
     record {
       within = lt;

@@ -10,15 +10,12 @@ use Rattle.std.specs.BTreeMap.{is_at, get, values, insert_entry, WritesThrough, 
 use Rattle.std.proofs.lemmas.Bool.{cases_eq}
 use Rattle.std.proofs.lemmas.Bool.Decides.{nat_tests}
 use Rattle.std.proofs.lemmas.Map.Entries.{sum_by-set_value, sum_by-remove_entry, sum_by-insert_entry}
+use Rattle.volume_terms.specs.laws.Number.{not_at}
 use Rattle.chunk_index.specs.declared.entry.KeyEntry.{KeyEntry}
 use Rattle.chunk_index.specs.declared.object.ObjectEntries.{ObjectEntries}
 use Rattle.chunk_index.specs.Lists.{find_by}
 use Rattle.chunk_index.specs.Entries.{chunk, weight, weigh, Alters}
 use Rattle.chunk_index.specs.Shelves.{ObjectMap, entry_of, look, total, AltersKey, SameEntries}
-
--- a number is at its own place alone
-pub not_at : (o k : ℕ) → k ≢ o → is_at (nat_cmp o) k ≡ false
-not_at o k ne = grind (arith, nat_tests, ne)
 
 -- what an object's entries tell
 pub look_in : (m : ObjectMap) (o c : ℕ) (x : ObjectEntries) → get nat_cmp m o ≡ Some x → look m o c ≡ find_by chunk x.entries.items c

@@ -6,6 +6,8 @@ use Rattle.std.specs.Option.{option_and_then}
 use Rattle.std.specs.BTreeMap.{is_at, get, WritesThrough}
 use Rattle.std.proofs.lemmas.Bool.{cases_eq, cases_lt}
 use Rattle.std.proofs.lemmas.Map.Entries.{sum_by-remove_entry}
+use Rattle.volume_terms.specs.laws.List.{sum_ones}
+use Rattle.volume_terms.specs.laws.Number.{not_at}
 use Rattle.block_state.specs.Table.{Table}
 use Rattle.chunk_index.specs.declared.entry.KeyEntry.{KeyEntry}
 use Rattle.chunk_index.specs.declared.object.ObjectEntries.{ObjectEntries}
@@ -15,7 +17,7 @@ use Rattle.chunk_index.specs.Shelves.{ObjectMap, entry_of, look, total, SameEntr
 use Rattle.chunk_index.specs.Counts.{Recounts, HasCounted, Tallies}
 use Rattle.chunk_index.specs.Retained.{retained_told, retained_of, RetainsObject}
 use Rattle.chunk_index.specs.Maps.{Retains}
-use Rattle.chunk_index.proofs.Counting.{recounts_more, sum_ones}
+use Rattle.chunk_index.proofs.Counting.{recounts_more}
 use Rattle.chunk_index.proofs.Shelving.{look_in, look_other, there, sums}
 use Rattle.chunk_index.proofs.Retaining.{find_retained, changed_retained, retained_stays, retained_kept, retained_present}
 
@@ -61,7 +63,7 @@ module _ (o : ℕ) (m n : ObjectMap) (x y : ObjectEntries) (found : get nat_cmp 
     here = λ c.
         look_in n o c y (through.3 (there o m n x y found through)).1 ∙ ap (λ es. Rattle.chunk_index.specs.Lists.find_by chunk es c) is ∙ find_retained keeps x.entries.items x.rises c
         ∙ sym (ap (retained_told (keeps c)) (look_in m o c x found));
-    others = λ k l ne. look_other m n k l ((through.3 (there o m n x y found through)).2 k (Rattle.chunk_index.proofs.Shelving.not_at o k ne));
+    others = λ k l ne. look_other m n k l ((through.3 (there o m n x y found through)).2 k (not_at o k ne));
     changed =
         let sum = sums o m n x y found through changed in
         let same : weigh changed y.entries.items ≡ weigh changed x.entries.items = ap (weigh changed) is ∙ changed_retained keeps x.entries.items in

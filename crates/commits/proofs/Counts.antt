@@ -1,9 +1,10 @@
 -- How many keys are kept in a block once the buffer was written.
 use Rattle.std.proofs.Common.{◌≡◌, ◌≢◌, ◌⊎◌, ◌<◌, ◌≤◌, ℕ, ◌+◌, List, length, Some, None, slice_get, refl, sym, ap, subst, ◌∙◌, arith, inl, inr}
 use Rattle.std.proofs.lemmas.Option.{slice_get_within}
+use Rattle.volume_terms.specs.laws.List.{slice_get_there}
+use Rattle.volume_terms.specs.laws.Number.{no_more_than_places}
 use Rattle.flash_tree.specs.declared.place.FreshPage.{FreshPage}
 use Rattle.flash_tree.specs.declared.place.Key.{Key}
-use Rattle.flash_tree.specs.laws.Finding.{slice_get_there}
 use Rattle.block_state.specs.Table.{Table}
 use Rattle.chunk_index.specs.declared.form.KeptKey.{KeptKey}
 use Rattle.chunk_index.specs.declared.form.KeptPage.{KeptPage}
@@ -18,7 +19,6 @@ use Rattle.page_buffer.specs.Buffering.{Buffers, key_at}
 use Rattle.page_buffer.specs.laws.Buffering.{place_within}
 use Rattle.bad_blocks.specs.Standing.{AreHeld}
 use Rattle.commits.proofs.Following.{on_flash_kept}
-use Rattle.commits.proofs.Pigeons.{no_more_than_places}
 
 -- the lists of the keys that are kept in a block are whole
 pub record ListsAreWhole : Type 0 where

@@ -2,6 +2,7 @@
 use Rattle.std.proofs.Common.{◌≡◌, ◌≢◌, ◌<◌, ◌^◌, ℕ, ◌+◌, true, false, List, [], length, Result, Err, Some, None, refl, sym, ap, subst, ◌∙◌, arith, inl, inr}
 use Rattle.std.specs.Option.{option_map, option_map_or}
 use Rattle.std.proofs.lemmas.Bool.{cases_Bool, eq-eqb}
+use Rattle.volume_terms.specs.laws.List.{slice_get_there}
 use Rattle.nand_model.specs.Flash.{Flash}
 use Rattle.nand_model.specs.Calls.{Device, Lasts}
 use Rattle.nand_model.specs.Changes.{Grows}
@@ -12,7 +13,6 @@ use Rattle.flash_tree.specs.Mount.{bad_blocks}
 use Rattle.flash_tree.specs.Newest.{Spot, IsNewest, HasNewest}
 use Rattle.flash_tree.specs.declared.place.FreshPage.{FreshPage}
 use Rattle.flash_tree.specs.declared.place.Key.{Key}
-use Rattle.flash_tree.specs.laws.Finding.{slice_get_there}
 use Rattle.block_state.specs.Counting.{how_many}
 use Rattle.block_state.specs.Kept.{bad_count, free_count, kept_count}
 use Rattle.block_state.specs.Table.{Table, is_bad, is_free, is_open}

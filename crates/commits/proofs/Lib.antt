@@ -1,4 +1,3 @@
-pub mod Pigeons
 pub mod Following
 pub mod Counts
 pub mod Freeing

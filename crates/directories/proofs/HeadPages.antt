@@ -1,19 +1,14 @@
 -- The header of a directory is valid.
-use Rattle.std.specs.Prelude.{◌≡◌, ◌<◌, ◌≤◌, ℕ, zero, suc, ◌-◌, ◌/◌, ◌%◌, ◌^◌, true, false, List, replicate, slice_index}
-use Rattle.std.proofs.Common.{refl, sym, ◌∙◌, ap, arith}
+use Rattle.std.specs.Prelude.{◌≡◌, ◌<◌, ◌≤◌, ℕ, ◌-◌, ◌/◌, ◌%◌, ◌^◌, true, false, List, replicate}
+use Rattle.std.proofs.Common.{sym, ◌∙◌, ap, arith}
 use Rattle.std.proofs.lemmas.List.{length-replicate}
+use Rattle.volume_terms.specs.laws.List.{zero_at}
 use Rattle.page_tags.specs.Headers.{IsHeader, is_present}
 use Rattle.page_tags.specs.laws.Bit.{absent_past}
 use Rattle.page_tags.specs.declared.header.Format.TheVariants as formats
 use Rattle.page_tags.specs.declared.header.ObjectKind.TheVariants as kinds
 use Rattle.directories.specs.Heads.{fields_in}
 use Rattle.directories.specs.declared.head.DirectoryHead.{DirectoryHead}
-
--- zeros are zeros
-zero_at : (n i : ℕ) → slice_index (replicate n 0) i ≡ 0
-zero_at zero i = refl
-zero_at (suc n) zero = refl
-zero_at (suc n) (suc i) = zero_at n i
 
 -- no bit of zeros is set
 none_present : (n c : ℕ) → 1 ≤ c → is_present (replicate n 0) c ≡ false

@@ -3,16 +3,16 @@ use Rattle.std.specs.Prelude.{◌≡◌, ◌<◌, ℕ, ◌+◌, List, [], ◌∷
 use Rattle.std.specs.FinMap as map
 use Rattle.std.proofs.Common.{refl, sym, ◌∙◌, ap, subst, inl, inr, arith}
 use Rattle.std.proofs.lemmas.List.{length-append}
+use Rattle.std.proofs.lemmas.Option.{slice_get_within}
 use Rattle.page_tags.specs.Headers.{Fields, IsHeader}
 use Rattle.page_tags.specs.Slots.{Entry}
 use Rattle.flash_tree.specs.Tree.{slot_pairs}
 use Rattle.flash_tree.specs.Tree.{IsPageSize}
-use Rattle.flash_tree.specs.laws.Finding.{slice_get_there, same_header}
+use Rattle.flash_tree.specs.laws.Finding.{same_header}
 use Rattle.flash_tree.specs.laws.OneTree.{same_lists}
 use Rattle.flash_tree.specs.Tree.{ReadsDir}
-use Rattle.flash_tree.specs.laws.Tree.{slice_get_within}
 use Rattle.volume_terms.specs.Sizes.{Sizes}
-use Rattle.volume_terms.specs.laws.List.{get_push}
+use Rattle.volume_terms.specs.laws.List.{get_push, slice_get_there}
 use Rattle.posix_profile.specs.State.{Entries}
 use Rattle.pages.specs.Maps.{PageMap, has}
 use Rattle.pages.specs.State.{PagesState}

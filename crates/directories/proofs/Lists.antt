@@ -5,18 +5,16 @@ use Rattle.std.specs.Cmp.Lexicographic.{slice_cmp, nat_list_cmp_total}
 use Rattle.std.specs.FinMap as map
 use Rattle.std.proofs.Common.{refl, sym, ◌∙◌, ap, inl, inr, arith}
 use Rattle.std.proofs.lemmas.Bool.{cases_eq, cond-false}
+use Rattle.std.proofs.lemmas.Option.{slice_get_within}
 use Rattle.page_tags.specs.Slots.{Entry}
 use Rattle.flash_tree.specs.Tree.{slot_pairs}
 use Rattle.flash_tree.specs.laws.Slot.{slot_of_pair}
 use Rattle.flash_tree.specs.laws.Pairs.{at_find}
 use Rattle.flash_tree.specs.laws.Shown.{found}
-use Rattle.flash_tree.specs.laws.Tree.{slice_get_within}
 use Rattle.volume_terms.specs.laws.List.{get_push, push_before, push_last}
+use Rattle.posix_profile.specs.laws.Name.{name_same}
 use Rattle.posix_profile.specs.laws.Map.{cases_key, get_here, get_there, get_removed, removed_none}
 use Rattle.posix_profile.specs.State.{Name, Entries}
-
-antisymmetric : map.IsAntisymmetric (slice_cmp nat_cmp)
-antisymmetric = map.slice_cmp-IsAntisymmetric map.nat_cmp-IsAntisymmetric
 
 -- no name stands twice
 abbrev pub AreOnce : List Entry → Type 0
@@ -40,7 +38,7 @@ module _ (slots : List Entry) (once : AreOnce slots) where
     -- an entry stands in a slot
     pub slot_of : (name : Name) (object : ℕ) → map.get entries name ≡ Some object → (k : ℕ) × (e : Entry) × (slice_get slots k ≡ Some e) × (e.name ≡ name) × (e.object ≡ object)
     slot_of name object is =
-        let at = at_find nat_list_cmp_total antisymmetric (slot_pairs slots) name object (sym (got name) ∙ is) in
+        let at = at_find nat_list_cmp_total name_same (slot_pairs slots) name object (sym (got name) ∙ is) in
         let slot = slot_of_pair slots at.0 name object at.1 in
         (at.0, slot.0, slot.1, slot.2, slot.3)
 
@@ -55,7 +53,7 @@ module _ (slots : List Entry) (once : AreOnce slots) where
   pub are_entries : (entries : Entries) → ((k : ℕ) (e : Entry) → slice_get slots k ≡ Some e → map.get entries e.name ≡ Some e.object)
       → ((name : Name) → ((k : ℕ) (e : Entry) → slice_get slots k ≡ Some e → e.name ≢ name) → map.get entries name ≡ None)
       → entries ≡ map.from_entries (slot_pairs slots)
-  are_entries entries lead absent = map.same_map nat_list_cmp_total antisymmetric entries (map.from_entries (slot_pairs slots)) (λ name. go name (map.find (slice_cmp nat_cmp) name (slot_pairs slots)) refl) where
+  are_entries entries lead absent = map.same_map nat_list_cmp_total name_same entries (map.from_entries (slot_pairs slots)) (λ name. go name (map.find (slice_cmp nat_cmp) name (slot_pairs slots)) refl) where
     there : (name : Name) → map.get (map.from_entries {R = slice_cmp nat_cmp} (slot_pairs slots)) name ≡ map.find (slice_cmp nat_cmp) name (slot_pairs slots)
     there name = map.get-from_entries nat_list_cmp_total (slot_pairs slots) name
 
@@ -64,7 +62,7 @@ module _ (slots : List Entry) (once : AreOnce slots) where
         let two : Some e.object ≡ None = sym (found_slot k e at) ∙ ap (λ q. map.find (slice_cmp nat_cmp) q (slot_pairs slots)) same ∙ is in
         absurd cc) ∙ sym (there name ∙ is)
     go name (Some object) is =
-        let at = at_find nat_list_cmp_total antisymmetric (slot_pairs slots) name object is in
+        let at = at_find nat_list_cmp_total name_same (slot_pairs slots) name object is in
         let slot = slot_of_pair slots at.0 name object at.1 in
         ap (map.get entries) (sym slot.2) ∙ lead at.0 slot.0 slot.1 ∙ ap Some slot.3 ∙ sym (there name ∙ is)
 
@@ -90,12 +88,12 @@ module _ (slots : List Entry) (once : AreOnce slots) (entries : Entries) (are : 
   pub entries_push : map.insert entries entry.name entry.object ≡ map.from_entries (slot_pairs (slots ++ entry ∷ []))
   entries_push = are_entries (slots ++ entry ∷ []) once_push (map.insert entries entry.name entry.object)
       (λ k e at. elim (get_push slots entry k e at) [
-        | inl x ↦ get_there nat_list_cmp_total antisymmetric entries entry.name entry.object e.name (no_slot k e x.1) ∙ leads slots once entries are k e x.1
-        | inr x ↦ ap (map.get (map.insert entries entry.name entry.object)) (ap (λ (y : Entry). y.name) x.1) ∙ get_here nat_list_cmp_total antisymmetric entries entry.name entry.object
+        | inl x ↦ get_there nat_list_cmp_total name_same entries entry.name entry.object e.name (no_slot k e x.1) ∙ leads slots once entries are k e x.1
+        | inr x ↦ ap (map.get (map.insert entries entry.name entry.object)) (ap (λ (y : Entry). y.name) x.1) ∙ get_here nat_list_cmp_total name_same entries entry.name entry.object
             ∙ ap (λ (y : Entry). Some y.object) (sym x.1)
       ])
       (λ name none_has.
-      get_there nat_list_cmp_total antisymmetric entries entry.name entry.object name (λ is. none_has (length slots) entry (push_last slots entry) (sym is))
+      get_there nat_list_cmp_total name_same entries entry.name entry.object name (λ is. none_has (length slots) entry (push_last slots entry) (sym is))
       ∙ none slots once entries are name (λ k e at. none_has k e (push_before slots entry k e at)))
 
 -- ---- a slot in place of another
@@ -149,14 +147,14 @@ module _ (slots : List Entry) (once : AreOnce slots) (entries : Entries) (are : 
   pub entries_put : map.insert entries new.name new.object ≡ map.from_entries (slot_pairs (put_at slots i new))
   entries_put = are_entries (put_at slots i new) once_put (map.insert entries new.name new.object)
       (λ k y at. elim (get_put slots i new k y at) [
-        | inl here ↦ ap (map.get (map.insert entries new.name new.object)) (ap (λ (x : Entry). x.name) here.1) ∙ get_here nat_list_cmp_total antisymmetric entries new.name new.object
+        | inl here ↦ ap (map.get (map.insert entries new.name new.object)) (ap (λ (x : Entry). x.name) here.1) ∙ get_here nat_list_cmp_total name_same entries new.name new.object
             ∙ ap (λ (x : Entry). Some x.object) (sym here.1)
-        | inr there ↦ get_there nat_list_cmp_total antisymmetric entries new.name new.object y.name (λ same. there.0 (once k i y e there.1 at_i (same ∙ name_is)))
+        | inr there ↦ get_there nat_list_cmp_total name_same entries new.name new.object y.name (λ same. there.0 (once k i y e there.1 at_i (same ∙ name_is)))
             ∙ leads slots once entries are k y there.1
       ])
       (λ name none_has.
       let other : name ≢ new.name = λ is. none_has i new (put_here slots i new (slice_get_within slots i e at_i)) (sym is) in
-      get_there nat_list_cmp_total antisymmetric entries new.name new.object name other
+      get_there nat_list_cmp_total name_same entries new.name new.object name other
       ∙ none slots once entries are name (λ k y at. elim (cases_eq k i) [
         | inl here ↦ let both : Some y ≡ Some e = sym at ∙ ap (slice_get slots) here ∙ at_i in let one : y ≡ e = cc in
             λ same. other (sym same ∙ ap (λ (x : Entry). x.name) one ∙ sym name_is)
@@ -225,10 +223,10 @@ module _ (slots : List Entry) (once : AreOnce slots) (entries : Entries) (are : 
   entries_fewer = are_entries fewer once_fewer (map.remove entries e.name)
       (λ k y at.
       let x = origin k y at in
-      get_removed nat_list_cmp_total antisymmetric entries e.name y.name (λ same. x.2 (once x.0 i y e x.1 at_i same)) ∙ leads slots once entries are x.0 y x.1)
-      (λ name none_has. elim (cases_key nat_list_cmp_total antisymmetric name e.name) [
-        | inl same ↦ ap (map.get (map.remove entries e.name)) same ∙ removed_none nat_list_cmp_total antisymmetric entries e.name
-        | inr other ↦ get_removed nat_list_cmp_total antisymmetric entries e.name name other
+      get_removed nat_list_cmp_total name_same entries e.name y.name (λ same. x.2 (once x.0 i y e x.1 at_i same)) ∙ leads slots once entries are x.0 y x.1)
+      (λ name none_has. elim (cases_key nat_list_cmp_total name_same name e.name) [
+        | inl same ↦ ap (map.get (map.remove entries e.name)) same ∙ removed_none nat_list_cmp_total name_same entries e.name
+        | inr other ↦ get_removed nat_list_cmp_total name_same entries e.name name other
             ∙ none slots once entries are name (λ k y at same. elim (cases_eq k i) [
               | inl here ↦ let both : Some y ≡ Some e = sym at ∙ ap (slice_get slots) here ∙ at_i in let one : y ≡ e = cc in
                   other (sym same ∙ ap (λ (x : Entry). x.name) one)

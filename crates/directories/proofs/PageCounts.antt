@@ -2,36 +2,29 @@
 use Rattle.std.specs.Prelude.{◌≡◌, ◌≢◌, ◌<◌, ◌≤◌, ℕ, ◌+◌, ◌*◌, ◌/◌, ◌%◌}
 use Rattle.std.specs.Int.{div_ceil}
 use Rattle.std.proofs.Common.{◌∙◌, ap, inl, inr, arith}
-use Rattle.std.proofs.Math.Nat.{div-add-mod', div-mul-le_self}
+use Rattle.std.proofs.Math.Nat.{div-add-mod'}
 use Rattle.std.proofs.lemmas.Bool.{cases_lt}
 use Rattle.volume_terms.specs.Sizes.{Sizes, page_slots}
+use Rattle.volume_terms.specs.laws.Rounding.{part_begins, parts_reach, part_within}
 use Rattle.pages.specs.Maps.{PageMap}
 use Rattle.directories.specs.Directories.{HasOnly}
 use Rattle.directories.specs.Writes.{KeepsPages, KeepsBehind}
-use Rattle.directories.proofs.Searching.{begins, ends}
 
 -- more slots take no fewer pages
 pub ceil_up : (a b n : ℕ) → 1 ≤ n → a ≤ b → div_ceil a n ≤ div_ceil b n
 ceil_up a b n some le = elim (cases_lt (div_ceil b n) (div_ceil a n)) [
   | inl more ↦
-      let low = begins a n (div_ceil b n) some more in
-      let high = ends b n (div_ceil b n) some (omega arith) in
+      let low = part_begins a n (div_ceil b n) some more in
+      let high = parts_reach b n (div_ceil b n) some (omega arith) in
       absurd (omega (arith, low, high, le))
   | inr up ↦ up
-]
-
--- the page of a slot is one of them
-pub page_within : (number count n : ℕ) → 1 ≤ n → number < count → number / n < div_ceil count n
-page_within number count n some less = elim (cases_lt (number / n) (div_ceil count n)) [
-  | inl under ↦ under
-  | inr over ↦ let high = ends count n (number / n) some over in absurd (omega (arith, high, less, div-mul-le_self number n))
 ]
 
 -- where the last page has room one slot more takes no page more
 pub one_more_page : (len n c : ℕ) → 1 ≤ n → len % n ≢ 0 → div_ceil len n < c → div_ceil (len + 1) n < c
 one_more_page len n c some partly behind = elim (cases_lt (div_ceil len n) (div_ceil (len + 1) n)) [
   | inl more ↦
-      let low = begins (len + 1) n (div_ceil len n) some more in
+      let low = part_begins (len + 1) n (div_ceil len n) some more in
       let one : div_ceil len n ≡ len / n + 1 = grind (arith, partly) in
       let times : div_ceil len n * n ≡ len / n * n + n = ap (λ k. k * n) one ∙ omega arith in
       absurd (omega (arith, low, times, div-add-mod' len n, some))
@@ -42,7 +35,7 @@ module _ (z : Sizes) (old new : PageMap) (d but count : ℕ) (some : 1 ≤ page_
   -- the slot that is written is one of these
   pub kept_behind : KeepsBehind z old new d count
   kept_behind c behind =
-      let up : but / page_slots z < div_ceil count (page_slots z) = page_within but count (page_slots z) some less in
+      let up : but / page_slots z < div_ceil count (page_slots z) = part_within but count (page_slots z) some less in
       keeps c (omega (arith, behind)) (λ same. omega (arith, same, behind, up))
 
   pub only_written : (before : ℕ) → before ≤ count → HasOnly z old d before → HasOnly z new d count

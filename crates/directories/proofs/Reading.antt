@@ -2,13 +2,14 @@
 use Rattle.std.specs.Prelude.{◌≡◌, ◌<◌, ◌≤◌, ℕ, List, length, Option, Some, None, option_map, slice_get}
 use Rattle.std.specs.FinMap as map
 use Rattle.std.proofs.Common.{sym, ◌∙◌, ap, subst, arith}
+use Rattle.std.proofs.lemmas.Option.{slice_get_within}
 use Rattle.page_tags.specs.Headers.{Fields, IsHeader, header_bytes}
 use Rattle.page_tags.specs.Slots.{Entry}
 use Rattle.flash_tree.specs.Tree.{IsPageSize, ReadsDir}
-use Rattle.flash_tree.specs.laws.Finding.{slice_get_there, same_header}
+use Rattle.flash_tree.specs.laws.Finding.{same_header}
 use Rattle.flash_tree.specs.laws.OneTree.{one_slot}
-use Rattle.flash_tree.specs.laws.Tree.{slice_get_within}
 use Rattle.volume_terms.specs.Sizes.{Sizes}
+use Rattle.volume_terms.specs.laws.List.{slice_get_there}
 use Rattle.posix_profile.specs.State.{Name, Entries}
 use Rattle.pages.specs.Maps.{PageMap, has}
 use Rattle.pages.specs.State.{PagesState, OnlyFinds}

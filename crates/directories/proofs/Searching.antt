@@ -1,10 +1,7 @@
 -- The slots of a chunk, in its page and in the directory.
-use Rattle.std.specs.Prelude.{◌≡◌, ◌<◌, ◌≤◌, ℕ, ◌+◌, ◌-◌, ◌*◌, ◌/◌, ◌%◌, min, Bool, true, false, is_some, List, take, drop, Option, Some, None}
-use Rattle.std.specs.Int.{div_ceil}
+use Rattle.std.specs.Prelude.{◌≡◌, ◌<◌, ◌≤◌, ℕ, ◌+◌, ◌-◌, ◌*◌, ◌/◌, ◌%◌, Bool, true, false, is_some, List, take, drop, Option, Some, None}
 use Rattle.std.proofs.Common.{sym, ◌∙◌, ap, subst, inl, inr, arith}
-use Rattle.std.proofs.Math.Nat.{mul-le-mul_right}
 use Rattle.std.proofs.lemmas.Bool.{cases_lt}
-use Rattle.std.proofs.lemmas.Grind.{div_ceil_times}
 use Rattle.std.proofs.lemmas.Nat.{div-mul-add, mod-mul-add}
 use Rattle.page_tags.specs.Slots.{Entry}
 use Rattle.volume_terms.specs.Sizes.{Sizes, page_slots}
@@ -93,28 +90,6 @@ located_among at from to least most name found low high l = record {
 -- fewer slots are slots
 pub slots_among : (at : ℕ → Entry → Type 0) (from to most : ℕ) → to ≤ most → AreSlots at 0 most → AreSlots at from to
 slots_among at from to most high are i low less = are i (omega arith) (omega (arith, less, high))
-
--- of so many slots, n on a page, the pages before the last begin within
-pub begins : (len n c : ℕ) → 1 ≤ n → c < div_ceil len n → c * n < len
-begins len n c some less =
-    let le : (c + 1) * n ≤ (len / n + min 1 (len % n)) * n = mul-le-mul_right n (omega (arith, less)) in
-    let times = div_ceil_times len n some in
-    omega (arith, le, times.1, some)
-
--- and together the pages have them all
-pub ends : (len n c : ℕ) → 1 ≤ n → div_ceil len n ≤ c → len ≤ c * n
-ends len n c some more =
-    let le : (len / n + min 1 (len % n)) * n ≤ c * n = mul-le-mul_right n more in
-    let times = div_ceil_times len n some in
-    omega (arith, le, times.0)
-
--- one more chunk was searched: its slots, or all that there are
-pub chunk_end : (n len c count : ℕ) → count ≡ min n (len - c * n) → min len (c * n) + count ≡ min len ((c + 1) * n)
-chunk_end n len c count is = grind arith
-
--- so many slots fit a page
-pub slots_fit : (n size count : ℕ) → n ≡ size → 272 * count ≤ size → count ≤ n / 272
-slots_fit n size count same room = omega (arith, same, room)
 
 -- what was found is found among more; where nothing was, none has the name
 pub found_among : (at : ℕ → Entry → Type 0) (from to most : ℕ) (name : Name) (found : Option Located) (b : Bool) → to ≤ most → b ≡ is_some found → b ≡ true → Finds at from to name found → Finds at 0 most name found

@@ -1,15 +1,15 @@
 -- What the pages of a change say of a directory's slots.
-use Rattle.std.specs.Prelude.{◌≡◌, ◌≢◌, ◌⊎◌, ◌<◌, ◌≤◌, ℕ, zero, suc, ◌+◌, ◌-◌, ◌*◌, ◌/◌, ◌%◌, min, List, [], ◌∷◌, ◌++◌, length, take, drop, replicate, Some, None, slice_get, slice_index}
+use Rattle.std.specs.Prelude.{◌≡◌, ◌≢◌, ◌⊎◌, ◌<◌, ◌≤◌, ℕ, zero, suc, ◌+◌, ◌-◌, ◌*◌, ◌/◌, ◌%◌, min, List, [], ◌∷◌, ◌++◌, length, take, drop, replicate, Some, None, slice_get}
 use Rattle.std.specs.Int.{div_ceil}
 use Rattle.std.proofs.Common.{refl, sym, ◌∙◌, ap, subst, inl, inr, get_or, arith}
 use Rattle.std.proofs.Math.Nat.{div-add-mod', mul-le-mul_right}
 use Rattle.std.proofs.lemmas.Bool.{cases_eq, cases_lt, cond-false}
 use Rattle.std.proofs.lemmas.Nat.{div-mul-add}
-use Rattle.std.proofs.lemmas.List.{length-take, get_or-drop, get_or-append_right, take-append-le}
-use Rattle.std.proofs.lemmas.Slice.{between_is}
+use Rattle.std.proofs.lemmas.List.{length-take, get_or-drop, get_or-append_right, take-append-le, drop-take, take-take}
 use Rattle.page_tags.specs.Headers.{IsHeader, header_bytes}
 use Rattle.page_tags.specs.Slots.{Entry, IsSlot, slot_bytes}
 use Rattle.volume_terms.specs.Sizes.{Sizes, page_slots}
+use Rattle.volume_terms.specs.laws.List.{zero_at}
 use Rattle.pages.specs.Maps.{PageMap, has, IsPageOf, IsCut, changed, takes, with_pages, without_cuts}
 use Rattle.pages.specs.laws.Maps.{here, elsewhere, cut_cases, cut_here}
 use Rattle.pages.specs.laws.Changes.{pages_same}
@@ -264,28 +264,14 @@ blank n d count none is =
     let same : n ≡ d - 272 * 0 = omega (arith, is) in
     subst (λ k. zeros n ≡ take (272 * k) [] ++ zeros (d - 272 * k)) (sym none) (ap zeros same)
 
-zero_at : (n i : ℕ) → slice_index (replicate n 0) i ≡ 0
-zero_at zero i = refl
-zero_at (suc n) zero = refl
-zero_at (suc n) (suc i) = zero_at n i
-
-span : (k : ℕ) (xs : List ℕ) → take 272 (drop (272 * k) xs) ≡ drop (272 * k) (take (272 * k + 272) xs)
-span k xs = let one : 272 ≡ 272 * k + 272 - 272 * k = omega arith in ap (λ n. take n (drop (272 * k) xs)) one ∙ between_is xs (272 * k) (272 * k + 272)
-
-take_less : (m n : ℕ) (xs : List ℕ) → m ≤ n → take m (take n xs) ≡ take m xs
-take_less zero n xs le = refl
-take_less (suc m) zero xs le = absurd (omega (arith, le))
-take_less (suc m) (suc n) [] le = refl
-take_less (suc m) (suc n) (x ∷ xs) le = ap (λ (ys : List ℕ). x ∷ ys) (take_less m n xs (omega (arith, le)))
-
 -- the first slots of a page, with something behind them
 slot_before : (j n : ℕ) (xs ys : List ℕ) → j < n → 272 * n ≤ length xs → take 272 (drop (272 * j) (take (272 * n) xs ++ ys)) ≡ take 272 (drop (272 * j) xs)
 slot_before j n xs ys less room =
     let le : 272 * j + 272 ≤ 272 * n = omega (arith, less) in
     let len : length (take (272 * n) xs) ≡ 272 * n = grind (arith, length-take (272 * n) xs, room) in
-    span j (take (272 * n) xs ++ ys)
-    ∙ ap (drop (272 * j)) (take-append-le (272 * j + 272) (take (272 * n) xs) ys (omega (arith, le, len)) ∙ take_less (272 * j + 272) (272 * n) xs le)
-    ∙ sym (span j xs)
+    sym (drop-take (272 * j) 272 (take (272 * n) xs ++ ys))
+    ∙ ap (drop (272 * j)) (take-append-le (272 * j + 272) (take (272 * n) xs) ys (omega (arith, le, len)) ∙ take-take (272 * j + 272) (272 * n) xs le)
+    ∙ drop-take (272 * j) 272 xs
 
 -- a page with its first slots, where a slot is written
 pub page_made : (z : Sizes) (old : PageMap) (d : ℕ) (writing : Writing) (entry : Entry) (page : FreshPage) (n count : ℕ) (was xs : List ℕ) → n ≡ page_slots z → 1 ≤ n → 272 * n ≤ length was → writing.number < writing.afterwards → IsSlot entry

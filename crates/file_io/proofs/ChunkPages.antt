@@ -8,11 +8,11 @@ use Rattle.page_tags.specs.Headers.{Fields, IsHeader, MayBeSet, is_present}
 use Rattle.page_tags.specs.declared.header.ObjectKind.TheVariants as kinds
 use Rattle.posix_profile.specs.Changes.{written}
 use Rattle.volume_terms.specs.Sizes.{Sizes}
+use Rattle.volume_terms.specs.laws.List.{zero_at}
 use Rattle.pages.specs.State.{PagesState}
 use Rattle.file_io.specs.Files.{FileIn}
 use Rattle.file_io.specs.Chunks.{HoldsChunk, overwritten}
 use Rattle.file_io.proofs.FilePages.{byte_in, one_page, page_there}
-use Rattle.file_io.proofs.HeadBits.{zero_at}
 use Rattle.file_io.proofs.Written.{length-overwritten, over_before, over_here, over_after, written_before, written_here, written_after}
 
 -- a chunk whose bit is set begins before the end of the file

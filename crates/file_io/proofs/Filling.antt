@@ -4,6 +4,7 @@ use Rattle.std.proofs.Common.{sym, ◌∙◌, ap, inl, inr, arith}
 use Rattle.std.proofs.Math.Nat.{div-add-mod', lt-div-mul-add, div-mul-le_self, mul-le-mul_right}
 use Rattle.std.proofs.lemmas.Bool.{cases_lt}
 use Rattle.std.proofs.lemmas.Nat.{div-mul-add, mod-mul-add}
+use Rattle.volume_terms.specs.laws.Rounding.{div_le}
 use Rattle.posix_profile.specs.Changes.{written}
 use Rattle.flash_tree.specs.declared.place.FreshPage.{FreshPage}
 use Rattle.file_io.specs.Chunks.{AreOf, HoldChunks, IsTail, IsWritten}
@@ -13,10 +14,6 @@ use Rattle.file_io.proofs.Written.{written_before}
 -- chunks before one begin before it
 pub chunk_below : (d k n : ℕ) → k < n → k * d + d ≤ n * d
 chunk_below d k n less = let le : (k + 1) * d ≤ n * d = mul-le-mul_right d (omega (arith, less)) in omega (arith, le)
-
--- the chunk of an earlier byte is no later
-pub chunk_order : (d a b : ℕ) → a ≤ b → a / d ≤ b / d
-chunk_order d a b le = grind arith
 
 -- what the tail held, it holds of the file with the bytes written behind it
 pub tail_before : (o d len : ℕ) (bits : List ℕ) (off : ℕ) (bytes all : List ℕ) (pages : List FreshPage) → AreOf o (IsTail d len bits (off / d)) pages → HoldChunks d all pages → HoldChunks d (written all off bytes) pages
@@ -64,7 +61,7 @@ among_chunks d len bits first n c is (inr among) = omega (arith, is, among.from)
 pub asked_tail : (d off len old got : ℕ) → got ≤ old + 1 → (off / d ≤ len / d → got ≡ old) → got ≤ old + min 1 (off - len)
 asked_tail d off len old got most none = elim (cases_lt len off) [
   | inl past ↦ omega (arith, most, past)
-  | inr within ↦ let same : got ≡ old = none (chunk_order d off len within) in omega (arith, same)
+  | inr within ↦ let same : got ≡ old = none (div_le off len d within) in omega (arith, same)
 ]
 
 -- a chunk of which a part stays is the first or the last

@@ -1,21 +1,14 @@
 -- Presence bits and the headers that have them.
-use Rattle.std.specs.Prelude.{◌≡◌, ◌<◌, ◌≤◌, ℕ, ◌+◌, ◌-◌, ◌*◌, ◌/◌, ◌%◌, ◌^◌, true, false, List, length, replicate, get_or, slice_index}
+use Rattle.std.specs.Prelude.{◌≡◌, ◌<◌, ◌≤◌, ℕ, ◌+◌, ◌-◌, ◌*◌, ◌/◌, ◌%◌, ◌^◌, true, false, List, length, replicate, get_or}
 use Rattle.std.specs.Int.{bit_at}
-use Rattle.std.proofs.Common.{sym, ◌∙◌, ap, subst, eqb, inl, inr, arith}
+use Rattle.std.proofs.Common.{sym, ◌∙◌, ap, subst, eqb, arith}
 use Rattle.std.proofs.Math.Nat.{mul-le-mul}
-use Rattle.std.proofs.lemmas.Bool.{cases_lt}
-use Rattle.std.proofs.lemmas.List.{get_or-replicate, get_or_past, length-replicate}
+use Rattle.std.proofs.lemmas.List.{length-replicate}
 use Rattle.std.proofs.lemmas.Nat.Bits.{bit_at-zero}
+use Rattle.volume_terms.specs.laws.List.{zero_at}
 use Rattle.page_tags.specs.Headers.{Fields, IsHeader, IsBytes, MayBeSet, greatest_length, is_present}
 use Rattle.page_tags.specs.declared.header.ObjectKind.TheVariants as kinds
 use Rattle.file_io.specs.Files.{fields_in}
-
--- zeros are zero also past their end
-pub zero_at : (n i : ℕ) → slice_index (replicate n 0) i ≡ 0
-zero_at n i = elim (cases_lt i n) [
-  | inl less ↦ get_or-replicate n i 0 0 less
-  | inr more ↦ get_or_past (replicate n 0) i 0 (omega (arith, more, length-replicate {A = ℕ} n 0))
-]
 
 -- of bits that are all zero none is set
 pub none_present : (n c : ℕ) → is_present (replicate n 0) c ≡ false

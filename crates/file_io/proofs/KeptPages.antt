@@ -4,6 +4,7 @@ use Rattle.std.proofs.Common.{sym, subst, inl, inr, arith}
 use Rattle.std.proofs.Math.Nat.{div-mul-le_self, lt-div-mul-add}
 use Rattle.std.proofs.lemmas.Bool.{cases_lt}
 use Rattle.std.proofs.lemmas.Nat.{le-div}
+use Rattle.volume_terms.specs.laws.Rounding.{div_le}
 use Rattle.page_tags.specs.Headers.{is_present}
 use Rattle.pages.specs.Maps.{PageMap}
 use Rattle.file_io.specs.Chunks.{IsSplit, IsPartLast, IsPartKept}
@@ -11,7 +12,6 @@ use Rattle.pages.specs.State.{PagesState, OnlyFinds}
 use Rattle.file_io.specs.Files.{HasFileHeader, HasPages}
 use Rattle.file_io.specs.Heads.{SaysHead}
 use Rattle.file_io.specs.declared.head.FileHead.{FileHead}
-use Rattle.file_io.proofs.Filling.{chunk_order}
 
 -- the chunk, counted from 0, has a page where its bit is set
 abbrev pub IsThere : PageMap → ℕ → List ℕ → ℕ → Type 0
@@ -43,8 +43,8 @@ module _ (m : PageMap) (o : ℕ) (bits : List ℕ) (d : ℕ) where
       let low : k * d ≤ s.place = subst (λ i. i * d ≤ s.place) same (div-mul-le_self s.place d) in
       let in_it : s.place < s.place / d * d + d = lt-div-mul-add (omega (arith, some)) in
       let high : s.place < k * d + d = subst (λ i. s.place < i * d + d) same in_it in
-      let first : off / d ≤ k = chunk_order d off s.inside.place s.inside.least in
-      let up : k ≤ (off + n - 1) / d = chunk_order d s.inside.place (off + n - 1) (omega (arith, s.inside.most)) in (
+      let first : off / d ≤ k = div_le off s.inside.place d s.inside.least in
+      let up : k ≤ (off + n - 1) / d = div_le s.inside.place (off + n - 1) d (omega (arith, s.inside.most)) in (
         first,
         omega (arith, up),
         elim s.outside [
@@ -62,8 +62,8 @@ module _ (m : PageMap) (o : ℕ) (bits : List ℕ) (d : ℕ) where
   kept_pages len off n some there tail c (inr (any, past, last)) set = elim (cases_lt (len / d) (off / d)) [
     | inl before ↦ tail before c last set
     | inr after ↦
-        let le : len / d ≤ off / d = chunk_order d len off (omega (arith, past)) in
-        let up : off / d ≤ (off + n - 1) / d = chunk_order d off (off + n - 1) (omega (arith, any)) in
+        let le : len / d ≤ off / d = div_le len off d (omega (arith, past)) in
+        let up : off / d ≤ (off + n - 1) / d = div_le off (off + n - 1) d (omega (arith, any)) in
         at_chunk m o bits (len / d) c last.chunk (there (len / d) after (omega (arith, le, up)) (inl (omega (arith, div-mul-le_self len d, past)))) set
   ]
 

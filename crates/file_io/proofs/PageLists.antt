@@ -1,45 +1,27 @@
 -- The pages of a change, as a list.
-use Rattle.std.specs.Prelude.{◌≡◌, ◌≢◌, ◌⊎◌, ℕ, zero, suc, ◌+◌, List, [], ◌∷◌, ◌++◌, length, slice_get, Some, None}
-use Rattle.std.proofs.Common.{refl, sym, ◌∙◌, ap, subst, inl, inr, arith}
-use Rattle.volume_terms.specs.laws.List.{get_push}
+use Rattle.std.specs.Prelude.{◌≡◌, ◌≢◌, ◌⊎◌, ℕ, ◌+◌, List, [], ◌∷◌, ◌++◌, length, slice_get, Some, None}
+use Rattle.std.proofs.Common.{sym, ◌∙◌, ap, subst, inl, inr, arith}
+use Rattle.volume_terms.specs.laws.List.{get_push, push_before, push_last}
 use Rattle.pages.specs.Maps.{PageMap, with_pages, IsPageOf}
 use Rattle.pages.specs.laws.Maps.{page_here, page_elsewhere}
 use Rattle.flash_tree.specs.declared.place.FreshPage.{FreshPage}
 use Rattle.file_io.specs.Chunks.{AreOf, HoldsChunk, HoldChunks}
 
--- the element at a place of a longer list: one of before, or the new one
-slice_get_push : {A : Type 0} (xs : List A) (y : A) (i : ℕ) (x : A) → slice_get (xs ++ y ∷ []) i ≡ Some x → (slice_get xs i ≡ Some x) ⊎ ((i ≡ length xs) × (y ≡ x))
-slice_get_push xs y i x is = elim (get_push xs y i x is) [
-  | inl before ↦ inl before.1
-  | inr last ↦ inr (last.0, sym last.1)
-]
-
--- what was there is there with one more at the end
-keeps_place : {A : Type 0} (xs : List A) (y : A) (i : ℕ) (x : A) → slice_get xs i ≡ Some x → slice_get (xs ++ y ∷ []) i ≡ Some x
-keeps_place [] y i x is = let two : None ≡ Some x = is in absurd cc
-keeps_place (z ∷ xs) y zero x is = is
-keeps_place (z ∷ xs) y (suc i) x is = keeps_place xs y i x is
-
--- the last one is there
-pub last_place : {A : Type 0} (xs : List A) (y : A) → slice_get (xs ++ y ∷ []) (length xs) ≡ Some y
-last_place [] y = refl
-last_place (z ∷ xs) y = last_place xs y
-
 -- what holds of each page and of one more
 pub each_push : (Holds : ℕ → FreshPage → Type 0) (pages : List FreshPage) (q : FreshPage) → ((i : ℕ) (p : FreshPage) → slice_get pages i ≡ Some p → Holds i p)
     → ((i : ℕ) → Holds i q) → (i : ℕ) (p : FreshPage) → slice_get (pages ++ q ∷ []) i ≡ Some p → Holds i p
-each_push Holds pages q each one i p is = elim (slice_get_push pages q i p is) [
-  | inl there ↦ each i p there
-  | inr last ↦ subst (λ (x : FreshPage). Holds i x) last.1 (one i)
+each_push Holds pages q each one i p is = elim (get_push pages q i p is) [
+  | inl there ↦ each i p there.1
+  | inr last ↦ subst (λ (x : FreshPage). Holds i x) (sym last.1) (one i)
 ]
 
 module _ (o : ℕ) (IsOne IsMore : ℕ → Type 0) (pages : List FreshPage) (q : FreshPage) (of : AreOf o IsOne pages) (object : q.key.object ≡ o) (fresh : IsOne q.key.chunk → ⊥)
     (grow : (c : ℕ) → IsOne c → IsMore c) (this : IsMore q.key.chunk) (only : (c : ℕ) → IsMore c → IsOne c ⊎ (c ≡ q.key.chunk)) where
   -- of a key that an earlier page has, the last is not
   not_last : (p c i : ℕ) → IsPageOf (pages ++ q ∷ []) p c i → ((i ≡ length pages) × (q.key.object ≡ p) × (q.key.chunk ≡ c)) ⊎ IsPageOf pages p c i
-  not_last p c i is = elim (slice_get_push pages q i is.page is.there) [
-    | inl there ↦ inr (record { page = is.page; there = there; object = is.object; chunk = is.chunk })
-    | inr last ↦ inl (last.0, ap (λ (x : FreshPage). x.key.object) last.1 ∙ is.object, ap (λ (x : FreshPage). x.key.chunk) last.1 ∙ is.chunk)
+  not_last p c i is = elim (get_push pages q i is.page is.there) [
+    | inl there ↦ inr (record { page = is.page; there = there.1; object = is.object; chunk = is.chunk })
+    | inr last ↦ inl (last.0, ap (λ (x : FreshPage). x.key.object) (sym last.1) ∙ is.object, ap (λ (x : FreshPage). x.key.chunk) (sym last.1) ∙ is.chunk)
   ]
 
   no_other : (p c i : ℕ) → q.key.chunk ≡ c → IsPageOf pages p c i → ⊥
@@ -52,8 +34,8 @@ module _ (o : ℕ) (IsOne IsMore : ℕ → Type 0) (pages : List FreshPage) (q :
     all = λ c is. elim (only c is) [
       | inl old ↦
           let at = of.all c old in
-          (at.0, record { page = at.1.page; there = keeps_place pages q at.0 at.1.page at.1.there; object = at.1.object; chunk = at.1.chunk })
-      | inr last ↦ (length pages, record { page = q; there = last_place pages q; object = object; chunk = sym last })
+          (at.0, record { page = at.1.page; there = push_before pages q at.0 at.1.page at.1.there; object = at.1.object; chunk = at.1.chunk })
+      | inr last ↦ (length pages, record { page = q; there = push_last pages q; object = object; chunk = sym last })
     ];
     apart = λ p c i j a b. elim (not_last p c i a) [
       | inl x ↦ elim (not_last p c j b) [
@@ -94,9 +76,9 @@ hold_none d bytes i k p is chunk = let two : None ≡ Some p = is in absurd cc
 
 -- one page more, of a chunk or of none
 pub hold_push : (d : ℕ) (bytes : List ℕ) (pages : List FreshPage) (q : FreshPage) → HoldChunks d bytes pages → ((k : ℕ) → q.key.chunk ≡ 1 + k → HoldsChunk d bytes k q.bytes.items) → HoldChunks d bytes (pages ++ q ∷ [])
-hold_push d bytes pages q hold this i k p is chunk = elim (slice_get_push pages q i p is) [
-  | inl there ↦ hold i k p there chunk
-  | inr last ↦ subst (λ (x : FreshPage). HoldsChunk d bytes k x.bytes.items) last.1 (this k (ap (λ (x : FreshPage). x.key.chunk) last.1 ∙ chunk))
+hold_push d bytes pages q hold this i k p is chunk = elim (get_push pages q i p is) [
+  | inl there ↦ hold i k p there.1 chunk
+  | inr last ↦ subst (λ (x : FreshPage). HoldsChunk d bytes k x.bytes.items) (sym last.1) (this k (ap (λ (x : FreshPage). x.key.chunk) (sym last.1) ∙ chunk))
 ]
 
 -- the page of a chunk

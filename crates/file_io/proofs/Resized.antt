@@ -7,6 +7,7 @@ use Rattle.page_tags.specs.Headers.{Fields, IsHeader, IsBytes, MayBeSet, header_
 use Rattle.page_tags.specs.declared.header.ObjectKind.TheVariants as kinds
 use Rattle.posix_profile.specs.Changes.{resized}
 use Rattle.volume_terms.specs.Sizes.{Sizes}
+use Rattle.volume_terms.specs.laws.List.{push_last}
 use Rattle.pages.specs.Maps.{PageMap, with_pages, without_cuts, changed}
 use Rattle.pages.specs.laws.Maps.{page_here, cut_here, cut_elsewhere}
 use Rattle.pages.specs.State.{PagesState}
@@ -17,7 +18,7 @@ use Rattle.file_io.specs.Files.{FileIn, Becomes, fields_in}
 use Rattle.file_io.specs.Chunks.{AreOf, HoldChunks, IsTail, IsAmong}
 use Rattle.file_io.specs.Cuts.{CutsFrom}
 use Rattle.file_io.proofs.Becoming.{becomes}
-use Rattle.file_io.proofs.PageLists.{last_place, hold_push}
+use Rattle.file_io.proofs.PageLists.{hold_push}
 use Rattle.file_io.proofs.WholeWrites.{OrHeader, but_header, header_push, header_valid}
 use Rattle.file_io.proofs.WriteChunks.{resize_chunks}
 use Rattle.file_io.proofs.Written.{length-resized, grown_at}
@@ -165,7 +166,7 @@ module _ (p : PagesState) (z : Sizes) (o before : ℕ) (all : List ℕ) (f : Fil
         let of' = subst (λ (xs : List FreshPage). AreOf o (OrHeader (IsTail d len was limit)) xs) (sym items) pushed in
         let held = tail_grows o d len limit n was all pages grown of hold in
         let hold' = subst (λ (xs : List FreshPage). HoldChunks d (resized all n) xs) (sym items) (hold_push d (resized all n) pages q held (λ k is. absurd (omega (arith, is, chunk)))) in
-        let there : slice_get change.pages.items (length pages) ≡ Some q = ap (λ (xs : List FreshPage). slice_get xs (length pages)) items ∙ last_place pages q in
+        let there : slice_get change.pages.items (length pages) ≡ Some q = ap (λ (xs : List FreshPage). slice_get xs (length pages)) items ∙ push_last pages q in
         let at : changed change p.present o 0 ≡ Some (header_bytes (fields_in n moment bits)) =
         ap (λ k. changed change p.present k 0) (sym object) ∙ ap (λ k. changed change p.present q.key.object k) (sym chunk)
         ∙ page_here change.pages.items (without_cuts change.cuts.items p.present) of'.apart (length pages) q there ∙ ap Some header in

@@ -7,6 +7,8 @@ use Rattle.std.proofs.lemmas.Nat.{le-div}
 use Rattle.page_tags.specs.Headers.{IsHeader, IsBytes, header_bytes, is_present}
 use Rattle.posix_profile.specs.Changes.{written}
 use Rattle.volume_terms.specs.Sizes.{Sizes}
+use Rattle.volume_terms.specs.laws.List.{push_last}
+use Rattle.volume_terms.specs.laws.Rounding.{ceiling_le}
 use Rattle.pages.specs.Maps.{PageMap, without_cuts, changed, IsCut}
 use Rattle.pages.specs.laws.Maps.{page_here}
 use Rattle.pages.specs.Changes.{IsOnlyOf}
@@ -17,8 +19,8 @@ use Rattle.flash_tree.specs.declared.place.FreshPage.{FreshPage}
 use Rattle.file_io.specs.Files.{FileIn, Becomes, fields_in}
 use Rattle.file_io.specs.Chunks.{AreOf, HoldChunks, IsAmong, IsWritten}
 use Rattle.file_io.proofs.Becoming.{becomes}
-use Rattle.file_io.proofs.Filling.{among_chunks, chunk_order}
-use Rattle.file_io.proofs.PageLists.{last_place, none_of, of_push, hold_push}
+use Rattle.file_io.proofs.Filling.{among_chunks}
+use Rattle.file_io.proofs.PageLists.{none_of, of_push, hold_push}
 use Rattle.file_io.proofs.WriteChunks.{write_chunks}
 use Rattle.file_io.proofs.Written.{length-written}
 
@@ -37,10 +39,6 @@ header_valid d len was old is new_len moment bits when fits room bytes within = 
       subst (λ k. k ≤ (new_len + d - 1) / d) place (within (c - 1) (ap (is_present bits) place ∙ set));
 }
 
--- the last chunk of a file, and of a longer one
-pub last_grows : (d a b : ℕ) → a ≤ b → (a + d - 1) / d ≤ (b + d - 1) / d
-last_grows d a b le = chunk_order d (a + d - 1) (b + d - 1) (omega (arith, le))
-
 -- the bits after a write
 pub write_valid : (d len was : ℕ) (old : List ℕ) → IsHeader d (fields_in len was old) → 1 ≤ d → (off n moment long : ℕ) (bits : List ℕ) → 1 ≤ n → off + n ≤ 8 * (d - 32) * d → moment < 2 ^ 64 → long ≡ max len (off + n)
     → length bits ≡ length old → IsBytes bits → ((k : ℕ) → (k < off / d) ⊎ ((off + n - 1) / d + 1 ≤ k) → is_present bits (1 + k) ≡ is_present old (1 + k)) → IsHeader d (fields_in long moment bits)
@@ -48,7 +46,7 @@ write_valid d len was old is least off n moment long bits some fits when long_is
     header_valid d len was old is long moment bits when (omega (arith, long_is, fits, is.length_fits)) room bytes within
   where
     before : (k : ℕ) → is_present old (1 + k) ≡ true → 1 + k ≤ (long + d - 1) / d
-    before k set = omega (arith, is.within (1 + k) (omega arith) set, last_grows d len long (omega (arith, long_is)))
+    before k set = omega (arith, is.within (1 + k) (omega arith) set, ceiling_le len long d (omega (arith, long_is)))
 
     last : (off + n - 1) / d + 1 ≤ (long + d - 1) / d
     last = le-div ((off + n - 1) / d + 1) (long + d - 1) d least (omega (arith, div-mul-le_self (off + n - 1) d, long_is, some, least))
@@ -137,7 +135,7 @@ module _ (p : PagesState) (z : Sizes) (o before : ℕ) (all : List ℕ) (f : Fil
       let pushed = header_push o IsOne pages q of (among_chunks d len was (off / d) ((off + length bytes - 1) / d + 1) 0 refl) object chunk in
       let of' = subst (λ (xs : List FreshPage). AreOf o (OrHeader IsOne) xs) (sym items) pushed in
       let hold' = subst (λ (xs : List FreshPage). HoldChunks d (written all off bytes) xs) (sym items) (hold_push d (written all off bytes) pages q hold (λ k is. absurd (omega (arith, is, chunk)))) in
-      let there : slice_get change.pages.items (length pages) ≡ Some q = ap (λ (xs : List FreshPage). slice_get xs (length pages)) items ∙ last_place pages q in
+      let there : slice_get change.pages.items (length pages) ≡ Some q = ap (λ (xs : List FreshPage). slice_get xs (length pages)) items ∙ push_last pages q in
       let at : changed change p.present o 0 ≡ Some (header_bytes (fields_in long moment bits)) =
       ap (λ k. changed change p.present k 0) (sym object) ∙ ap (λ k. changed change p.present q.key.object k) (sym chunk) ∙ page_here change.pages.items m of'.apart (length pages) q there ∙ ap Some header in
       becomes p z o before moment all (written all off bytes) f d size some (changed change p.present) (fields_in long moment bits) at valid refl refl

@@ -3,9 +3,9 @@ use Rattle.std.specs.Prelude.{◌≡◌, ◌<◌, ◌≤◌, ℕ, ◌+◌, ◌-�
 use Rattle.std.proofs.Common.{refl, sym, ◌∙◌, ap, inl, inr, arith}
 use Rattle.std.proofs.lemmas.Bool.{cases_lt}
 use Rattle.std.proofs.lemmas.List.{get_or_append_left, get_or-append_right, get_or-take, get_or-drop, get_or_past, length-append, length-take-le, length-drop, length-replicate}
+use Rattle.volume_terms.specs.laws.List.{with_zeros}
 use Rattle.posix_profile.specs.Changes.{written, resized}
 use Rattle.file_io.specs.Chunks.{overwritten}
-use Rattle.file_io.proofs.HeadBits.{zero_at}
 
 module _ (xs : List ℕ) (off : ℕ) (bytes : List ℕ) (within : off ≤ length xs) where
   over_front : length (take off xs) ≡ off
@@ -29,13 +29,6 @@ module _ (xs : List ℕ) (off : ℕ) (bytes : List ℕ) (within : off ≤ length
       let place : off + length bytes + (i - off - length bytes) ≡ i = omega (arith, more) in
       over_rest i (omega (arith, more)) ∙ get_or-append_right bytes (drop (off + length bytes) xs) (length bytes) (i - off) 0 refl (omega (arith, more))
       ∙ get_or-drop (off + length bytes) xs (i - off - length bytes) 0 ∙ ap (λ n. get_or xs n 0) place
-
--- bytes with zeros behind them have the same byte at each place
-pub with_zeros : (xs : List ℕ) (n i : ℕ) → get_or (xs ++ replicate n 0) i 0 ≡ get_or xs i 0
-with_zeros xs n i = elim (cases_lt i (length xs)) [
-  | inl less ↦ get_or_append_left xs (replicate n 0) 0 i less
-  | inr more ↦ get_or-append_right xs (replicate n 0) (length xs) i 0 refl more ∙ zero_at n (i - length xs) ∙ sym (get_or_past xs i 0 more)
-]
 
 module _ (all : List ℕ) (off : ℕ) (bytes : List ℕ) where
   long : length (all ++ replicate (off - length all) 0) ≡ max (length all) off

@@ -1,9 +1,8 @@
 -- A flash of a device has an answer.
-use Rattle.std.specs.Prelude.{◌≡◌, ◌≢◌, ◌⊎◌, ◌<◌, ◌≤◌, ℕ, ◌+◌, ◌*◌, List, [], ◌∷◌, length}
+use Rattle.std.specs.Prelude.{◌≡◌, ◌≢◌, ◌⊎◌, ◌<◌, ℕ, ◌+◌, ◌*◌, List, [], ◌∷◌, length}
 use Rattle.std.proofs.Common.{refl, sym, ◌∙◌, ap, subst, inl, inr, arith}
-use Rattle.std.proofs.Math.Nat.{mul-le-mul_right}
-use Rattle.std.proofs.lemmas.Bool.{cases_lt, cases_order}
-use Rattle.std.proofs.lemmas.Nat.{mul-add-lt}
+use Rattle.std.proofs.lemmas.Bool.{cases_lt}
+use Rattle.std.proofs.lemmas.Nat.{mul-add-lt, same_from_place}
 use Rattle.nand_model.specs.Flash.{Flash, IsWithin, IsSized}
 use Rattle.nand_model.specs.declared.geometry.Geometry.{Geometry}
 use Rattle.page_tags.specs.Headers.{Fields, IsBytes}
@@ -28,14 +27,6 @@ use Rattle.flash_tree.proofs.ContentExists.{content_there}
 use Rattle.flash_tree.proofs.TwiceExists.{twice_told}
 use Rattle.flash_tree.proofs.TreeExists.{tree_objects, some_tree}
 use Rattle.flash_tree.proofs.RoomExists.{room_told}
-
--- a place has one block and page
-same_place : (w b p c q : ℕ) → p < w → q < w → b * w + p ≡ c * w + q → (b ≡ c) × (p ≡ q)
-same_place w b p c q lt lt' same = elim (cases_order b c) [
-  | inl is ↦ let mul : b * w ≡ c * w = ap (λ n. n * w) is in (is, omega arith)
-  | inr (inl less) ↦ let under : b + 1 ≤ c = omega arith in let le : (b + 1) * w ≤ c * w = mul-le-mul_right w under in absurd (omega arith)
-  | inr (inr more) ↦ let under : c + 1 ≤ b = omega arith in let le : (c + 1) * w ≤ b * w = mul-le-mul_right w under in absurd (omega arith)
-]
 
 module _ (g : Geometry) (flash : Flash) (within : IsWithin g.pages g.blocks flash) (sized : IsSized g.bytes flash) where
   abbrev m : NewestMap
@@ -83,7 +74,7 @@ module _ (g : Geometry) (flash : Flash) (within : IsWithin g.pages g.blocks flas
       let y = placed spare q h has' in
       let x_in = place_within flash o 0 g.pages g.blocks within x.0 x.1.holds in
       let y_in = place_within flash q 0 g.pages g.blocks within y.0 y.1.holds in
-      let at = same_place g.pages x.0.block x.0.page y.0.block y.0.page x_in.1 y_in.1 (sym x.2 ∙ same ∙ y.2) in
+      let at = same_from_place x.0.block x.0.page y.0.block y.0.page g.pages x_in.1 y_in.1 (sym x.2 ∙ same ∙ y.2) in
       let there : HasTag flash y.0.block y.0.page x.0.tag = subst (λ b. HasTag flash b y.0.page x.0.tag) at.0 (subst (λ p. HasTag flash x.0.block p x.0.tag) at.1 x.1.holds.has) in
       let tag : x.0.tag ≡ y.0.tag = one_tag flash y.0.block y.0.page x.0.tag y.0.tag there y.1.holds.has in
       ne (sym x.1.holds.object ∙ ap (λ (t : Tag). t.object) tag ∙ y.1.holds.object)

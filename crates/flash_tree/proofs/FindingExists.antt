@@ -3,7 +3,8 @@ use Rattle.std.specs.Prelude.{◌≡◌, ◌≢◌, ◌⊎◌, ◌<◌, ℕ, zer
 use Rattle.std.specs.Option.{option_map_or}
 use Rattle.std.proofs.Common.{refl, sym, ◌∙◌, ap, subst, inl, inr, arith, length-append}
 use Rattle.std.proofs.lemmas.Bool.{cases_Bool, cases_order}
-use Rattle.volume_terms.specs.laws.List.{same_or_not}
+use Rattle.std.proofs.lemmas.Option.{slice_get_within}
+use Rattle.volume_terms.specs.laws.List.{same_or_not, get_push, slice_get_there}
 use Rattle.page_tags.specs.Headers.{Fields, IsHeader, IsBytes, MayBeSet, is_present}
 use Rattle.page_tags.specs.laws.Header.{header_or_first_fault}
 use Rattle.page_tags.specs.Slots.{Entry}
@@ -14,18 +15,9 @@ use Rattle.page_tags.specs.declared.header.ObjectKind.TheVariants as kinds
 use Rattle.volume_terms.specs.Sizes.{Sizes, page_slots}
 use Rattle.posix_profile.specs.State.{Name}
 use Rattle.flash_tree.specs.Tree.{NewestMap, IsSingle, HasHeader, SlotIs}
-use Rattle.flash_tree.specs.laws.Tree.{slice_get_within}
 use Rattle.flash_tree.specs.Mount.{IsDamaged, wrong_by, HasNone, HasHeaderFault, HasChunks, LacksChunk, AreSlots, LacksSlots, Finding, Stops, Leads, Finds}
-use Rattle.flash_tree.specs.laws.Finding.{slice_get_there}
 use Rattle.flash_tree.specs.Tree.{IsPageSize}
 use Rattle.flash_tree.proofs.NewestExists.{IsTold, all_or_one}
-
--- what is at a place of a list with one more at its end
-pub slice_get_push : {A : Type 0} (xs : List A) (y : A) (i : ℕ) (x : A) → slice_get (xs ++ y ∷ []) i ≡ Some x → (slice_get xs i ≡ Some x) ⊎ ((i ≡ length xs) × (y ≡ x))
-slice_get_push [] y zero x is = inr (refl, cc)
-slice_get_push [] y (suc i) x is = let two : None ≡ Some x = is in absurd cc
-slice_get_push (z ∷ xs) y zero x is = inl is
-slice_get_push (z ∷ xs) y (suc i) x is = elim (slice_get_push xs y i x is) [ inl there ↦ inl there | inr (at, same) ↦ inr (ap suc at, same) ]
 
 -- a list of what there is at each place below n
 pub listed : {A : Type 0} (P : ℕ → A → Type 0) (n : ℕ) → ((i : ℕ) → i < n → (x : A) × P i x)
@@ -36,9 +28,9 @@ listed {A} P (suc n) each =
     let last = each n (omega arith) in (
       rest.0 ++ last.0 ∷ [],
       omega (arith, length-append rest.0 (last.0 ∷ []), rest.1),
-      λ i x is. elim (slice_get_push rest.0 last.0 i x is) [
-        | inl there ↦ rest.2 i x there
-        | inr (at, same) ↦ let here : n ≡ i = omega (arith, at, rest.1) in subst (λ j. P j x) here (subst (P n) same last.1)
+      λ i x is. elim (get_push rest.0 last.0 i x is) [
+        | inl there ↦ rest.2 i x there.1
+        | inr (at, same) ↦ let here : n ≡ i = omega (arith, at, rest.1) in subst (λ j. P j x) here (subst (P n) (sym same) last.1)
       ],
     )
 

@@ -3,6 +3,7 @@ use Rattle.std.specs.Prelude.{◌≡◌, ◌⊎◌, ◌<◌, ◌≤◌, ℕ, zer
 use Rattle.std.specs.FinMap as map
 use Rattle.std.proofs.Common.{refl, sym, ◌∙◌, ap, subst, inl, inr, arith, length-take}
 use Rattle.std.proofs.lemmas.Bool.{cases_Bool, cases_eq, cases_lt}
+use Rattle.std.proofs.lemmas.Option.{slice_get_within}
 use Rattle.nand_model.specs.Flash.{Flash, IsWithin}
 use Rattle.nand_model.specs.declared.geometry.Geometry.{Geometry}
 use Rattle.page_tags.specs.declared.tag.Tag.{Tag}
@@ -11,18 +12,17 @@ use Rattle.page_tags.specs.declared.header.HeaderFault.{HeaderFault}
 use Rattle.page_tags.specs.declared.header.ObjectKind.{ObjectKind}
 use Rattle.page_tags.specs.declared.header.ObjectKind.TheVariants as kinds
 use Rattle.volume_terms.specs.Sizes.{Sizes, page_slots, capacity}
-use Rattle.volume_terms.specs.laws.List.{push_before, push_last}
+use Rattle.volume_terms.specs.laws.List.{push_before, push_last, get_push, slice_get_there}
 use Rattle.posix_profile.specs.State.{Object, Objects}
 use Rattle.posix_profile.specs.Charge.{charge}
 use Rattle.flash_tree.specs.Groups.{HasTag}
 use Rattle.flash_tree.specs.Newest.{Spot, IsNewest, HasNewest}
 use Rattle.flash_tree.specs.laws.Newest.{one_spot, one_newest}
 use Rattle.flash_tree.specs.Tree.{HasHeader, LooksUp, InFootprint}
-use Rattle.flash_tree.specs.laws.Tree.{slice_get_within}
 use Rattle.flash_tree.specs.Mount.{HasNone, HasHeaderFault, sizes_of, bad_blocks, IsFree, HasFree, HasRoom}
-use Rattle.flash_tree.specs.laws.Finding.{same_header, header_no_fault, slice_get_there}
+use Rattle.flash_tree.specs.laws.Finding.{same_header, header_no_fault}
 use Rattle.flash_tree.specs.Tree.{IsPageSize}
-use Rattle.flash_tree.proofs.FindingExists.{listed, slice_get_push}
+use Rattle.flash_tree.proofs.FindingExists.{listed}
 use Rattle.flash_tree.proofs.AnswerLaws.{is_page_size}
 use Rattle.flash_tree.proofs.NewestExists.{IsTold, all_or_one, tag_at}
 use Rattle.flash_tree.specs.laws.Newest.{one_tag}
@@ -163,21 +163,21 @@ module _ (g : Geometry) (flash : Flash) (within : IsWithin g.pages g.blocks flas
     more (bs, are) (inl free) = (
       bs ++ n ∷ [],
       record {
-        each = λ i b is. elim (slice_get_push bs n i b is) [
-          | inl there ↦ let e = are.each i b there in (omega (arith, e.0), e.1)
-          | inr (at, same) ↦ (omega arith, subst (IsFree g flash z objects) same free)
+        each = λ i b is. elim (get_push bs n i b is) [
+          | inl there ↦ let e = are.each i b there.1 in (omega (arith, e.0), e.1)
+          | inr (at, same) ↦ (omega arith, subst (IsFree g flash z objects) (sym same) free)
         ];
         all = λ b lt is_free. elim (cases_eq b n) [
           | inl same ↦ (length bs, push_last bs n ∙ ap Some (sym same))
           | inr ne ↦ let at = are.all b (omega arith) is_free in (at.0, push_before bs n at.0 b at.1)
         ];
-        once = λ i j b is is'. elim (slice_get_push bs n i b is) [
-          | inl there ↦ elim (slice_get_push bs n j b is') [
-            | inl there' ↦ are.once i j b there there'
-            | inr (at', same') ↦ let e = are.each i b there in absurd (omega (arith, e.0))
+        once = λ i j b is is'. elim (get_push bs n i b is) [
+          | inl there ↦ elim (get_push bs n j b is') [
+            | inl there' ↦ are.once i j b there.1 there'.1
+            | inr (at', same') ↦ let e = are.each i b there.1 in absurd (omega (arith, e.0))
           ]
-          | inr (at, same) ↦ elim (slice_get_push bs n j b is') [
-            | inl there' ↦ let e = are.each j b there' in absurd (omega (arith, e.0))
+          | inr (at, same) ↦ elim (get_push bs n j b is') [
+            | inl there' ↦ let e = are.each j b there'.1 in absurd (omega (arith, e.0))
             | inr (at', same') ↦ at ∙ sym at'
           ]
         ];

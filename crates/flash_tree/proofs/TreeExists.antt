@@ -1,22 +1,23 @@
 -- A list that was gone through wholly, with no directory named twice, is the list of a tree that is shown.
-use Rattle.std.specs.Prelude.{◌≡◌, ◌<◌, ◌≤◌, ◌^◌, ℕ, zero, suc, List, [], ◌∷◌, length, slice_get, map as list_map, Some, None}
+use Rattle.std.specs.Prelude.{◌≡◌, ◌<◌, ◌≤◌, ◌^◌, ℕ, List, length, slice_get, map as list_map, Some, None}
 use Rattle.std.specs.Cmp.{nat_cmp_total}
 use Rattle.std.specs.Cmp.Lexicographic.{nat_list_cmp_total}
 use Rattle.std.specs.FinMap as map
 use Rattle.std.proofs.Common.{refl, sym, ◌∙◌, ap, subst, inl, inr, arith}
 use Rattle.std.proofs.lemmas.Bool.{cases_eq}
+use Rattle.std.proofs.lemmas.Option.{slice_get_within}
 use Rattle.page_tags.specs.Headers.{Fields}
 use Rattle.page_tags.specs.Slots.{Entry}
 use Rattle.page_tags.specs.declared.header.ObjectKind.TheVariants as kinds
 use Rattle.volume_terms.specs.Sizes.{Sizes, root_number}
+use Rattle.volume_terms.specs.laws.List.{mapped_at, at_mapped, slice_get_there}
 use Rattle.posix_profile.specs.State.{Name, Entries, Object, File, Dir, Objects, IsDirectory}
 use Rattle.posix_profile.specs.Names.{Names, Reached, root, below}
 use Rattle.posix_profile.specs.WellFormed.{IsObject}
 use Rattle.flash_tree.specs.Tree.{NewestMap, IsSingle, HasHeader, SlotIs, ReadsAs, ReadsDir, Shows}
-use Rattle.flash_tree.specs.laws.Tree.{slice_get_within}
 use Rattle.flash_tree.specs.laws.OneTree.{one_slot}
 use Rattle.flash_tree.specs.Mount.{AreSlots, Leads, Finds, IsSlotIn, NamesTwice}
-use Rattle.flash_tree.specs.laws.Finding.{kinds_apart, one_finding, same_header, same_slots, slice_get_there}
+use Rattle.flash_tree.specs.laws.Finding.{kinds_apart, one_finding, same_header, same_slots}
 use Rattle.flash_tree.specs.Tree.{IsPageSize}
 use Rattle.flash_tree.specs.laws.Shown.{pairs, found}
 use Rattle.flash_tree.proofs.FindingExists.{listed}
@@ -24,17 +25,6 @@ use Rattle.flash_tree.specs.laws.Pairs.{find_at, at_find}
 use Rattle.flash_tree.proofs.WholeList.{IsOn, IsLedTo, is_first, is_named, IsWholeList}
 use Rattle.flash_tree.proofs.ContentExists.{IsContent}
 use Rattle.flash_tree.specs.laws.Slot.{entry_slot}
-
--- the objects of slots, by place
-mapped_at : (slots : List Entry) (k : ℕ) (e : Entry) → slice_get slots k ≡ Some e → slice_get (list_map (λ entry. entry.object) slots) k ≡ Some e.object
-mapped_at [] k e is = absurd cc
-mapped_at (s ∷ slots) zero e is = let same : s ≡ e = cc in ap (λ (x : Entry). Some x.object) same
-mapped_at (s ∷ slots) (suc k) e is = mapped_at slots k e is
-
-at_mapped : (slots : List Entry) (k c : ℕ) → slice_get (list_map (λ entry. entry.object) slots) k ≡ Some c → (e : Entry) × (slice_get slots k ≡ Some e) × (e.object ≡ c)
-at_mapped [] k c is = absurd cc
-at_mapped (s ∷ slots) zero c is = let same : s.object ≡ c = cc in (s, refl, same)
-at_mapped (s ∷ slots) (suc k) c is = at_mapped slots k c is
 
 module _ (z : Sizes) (size : IsPageSize z.page_bytes) (m : NewestMap) (single : IsSingle m)
     (content : (o : ℕ) (named : List ℕ) → Finds z m o (Leads named) → (x : Object) × IsContent z m o x)
@@ -89,7 +79,7 @@ module _ (z : Sizes) (size : IsPageSize z.page_bytes) (m : NewestMap) (single : 
       let leads : Finds z m d (Leads (list_map (λ entry. entry.object) r.slots)) = inr (r.fields, r.has, r.kind, r.slots, record { size = r.size; each = r.each; once = r.once }, refl) in
       let two : Leads t.0 ≡ Leads (list_map (λ entry. entry.object) r.slots) = one_finding z size m single d _ _ t.1 leads in
       let same : t.0 ≡ list_map (λ entry. entry.object) r.slots = cc in
-      t.2 k e.object (ap (λ l. slice_get l k) same ∙ mapped_at r.slots k e at)
+      t.2 k e.object (ap (λ l. slice_get l k) same ∙ mapped_at (λ (entry : Entry). entry.object) r.slots k e at)
 
   -- a name leads through a slot
   slot_of : (d o : ℕ) (name : Name) (n : Names tree_objects d name o) → (i : ℕ) × (e : Entry) × (slice_get (directory_of d n.moment n.entries n.directory_is).slots i ≡ Some e) × (e.name ≡ name) × (e.object ≡ o)
@@ -128,7 +118,7 @@ module _ (z : Sizes) (size : IsPageSize z.page_bytes) (m : NewestMap) (single : 
   slot_names : (d : ℕ) (named : List ℕ) (k c : ℕ) → IsOn list d → Finds z m d (Leads named) → slice_get named k ≡ Some c → (name : Name) × Names tree_objects d name c
   slot_names d named k c on (inl (f, has, kind, chunks, none)) at = let two : None ≡ Some c = ap (λ l. slice_get l k) (sym none) ∙ at in absurd cc
   slot_names d named k c on (inr (f, has, kind, slots, are, is)) at =
-      let e = at_mapped slots k c (ap (λ l. slice_get l k) (sym is) ∙ at) in
+      let e = at_mapped (λ (entry : Entry). entry.object) slots k c (ap (λ l. slice_get l k) (sym is) ∙ at) in
       let x = get_on d on in
       go e.0 e.1 e.2 x.0 x.1 x.2.reads
     where

@@ -2,17 +2,18 @@
 use Rattle.std.specs.Prelude.{◌≡◌, ◌≢◌, ◌⊎◌, ℕ, zero, suc, List, [], ◌∷◌, length, slice_get, Some, None}
 use Rattle.std.proofs.Common.{refl, sym, ◌∙◌, ap, subst, inl, inr, arith}
 use Rattle.std.proofs.lemmas.Bool.{cases_eq}
+use Rattle.std.proofs.lemmas.Option.{slice_get_within}
 use Rattle.page_tags.specs.Headers.{Fields}
 use Rattle.page_tags.specs.Slots.{Entry}
 use Rattle.page_tags.specs.declared.header.HeaderFault.{HeaderFault}
 use Rattle.page_tags.specs.declared.header.ObjectKind.{ObjectKind}
 use Rattle.page_tags.specs.declared.header.ObjectKind.TheVariants as kinds
 use Rattle.volume_terms.specs.Sizes.{Sizes}
+use Rattle.volume_terms.specs.laws.List.{slice_get_there}
 use Rattle.flash_tree.specs.Tree.{NewestMap, IsSingle, HasHeader, SlotIs}
-use Rattle.flash_tree.specs.laws.Tree.{slice_get_within}
 use Rattle.flash_tree.specs.laws.OneTree.{one_slot}
 use Rattle.flash_tree.specs.Mount.{HasNone, HasHeaderFault, AreSlots, IsSlotIn, NamesTwice}
-use Rattle.flash_tree.specs.laws.Finding.{slice_get_there, same_header, kinds_apart, header_no_fault}
+use Rattle.flash_tree.specs.laws.Finding.{same_header, kinds_apart, header_no_fault}
 use Rattle.flash_tree.specs.Tree.{IsPageSize}
 use Rattle.flash_tree.proofs.FindingExists.{listed}
 use Rattle.flash_tree.proofs.NewestExists.{IsTold}

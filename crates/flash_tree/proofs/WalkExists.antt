@@ -3,14 +3,14 @@ use Rattle.std.specs.Prelude.{◌≡◌, ◌≢◌, ◌||◌, ◌<◌, ◌≤◌
 use Rattle.std.specs.List.{list_any}
 use Rattle.std.proofs.Common.{refl, sym, ◌∙◌, ap, subst, inl, inr, arith, eq-eqb}
 use Rattle.std.proofs.lemmas.Bool.{cases_Bool, cases_eq, cases_lt, cond-true, cond-false, ne_eqb}
+use Rattle.std.proofs.lemmas.Option.{slice_get_within}
 use Rattle.page_tags.specs.Headers.{Fields}
 use Rattle.volume_terms.specs.Sizes.{Sizes}
+use Rattle.volume_terms.specs.laws.List.{get_push, push_before, slice_get_there}
 use Rattle.flash_tree.specs.Tree.{NewestMap, IsSingle, HasHeader}
-use Rattle.flash_tree.specs.laws.Tree.{slice_get_within}
 use Rattle.flash_tree.specs.Mount.{Finding, Stops, Leads, Finds, with_new, ListEnd, Wrongly, Wholly, GoesThrough, ends, stops, goes}
-use Rattle.flash_tree.specs.laws.Finding.{slice_get_there, header_there}
+use Rattle.flash_tree.specs.laws.Finding.{header_there}
 use Rattle.flash_tree.specs.Tree.{IsPageSize}
-use Rattle.flash_tree.proofs.FindingExists.{slice_get_push}
 
 -- what goes to the place n goes where the last one went
 abbrev shifted : (ℕ → ℕ) → ℕ → ℕ → ℕ
@@ -55,18 +55,7 @@ pigeonhole (suc n) f below apart = pigeonhole n (shifted f n) (shifted_below n f
 abbrev pub IsOnce : List ℕ → Type 0
 IsOnce list = (i j o : ℕ) → slice_get list i ≡ Some o → slice_get list j ≡ Some o → i ≡ j
 
--- a number that is on a list has a place there
-pub place_of : (list : List ℕ) (o : ℕ) → list_any (nat_eq o) list ≡ true → (i : ℕ) × (slice_get list i ≡ Some o)
-place_of [] o is = absurd cc
-place_of (x ∷ list) o is = elim (cases_eq o x) [
-  | inl same ↦ (zero, ap Some (sym same))
-  | inr ne ↦ let rest = place_of list o (or_false (nat_eq o x) (list_any (nat_eq o) list) (ne_eqb o x ne) is) in (suc rest.0, rest.1)
-] where
-  or_false : (a b : Bool) → a ≡ false → (a || b) ≡ true → b ≡ true
-  or_false true b no' yes' = absurd cc
-  or_false false b no' yes' = yes'
-
--- and one that is not has none
+-- a number that is not on a list has no place there
 pub not_on : (list : List ℕ) (o i : ℕ) → list_any (nat_eq o) list ≡ false → slice_get list i ≡ Some o → ⊥
 not_on [] o i is at = absurd cc
 not_on (x ∷ list) o zero is at = let same : x ≡ o = cc in elim (cases_eq o x) [
@@ -82,13 +71,13 @@ not_on (x ∷ list) o (suc i) is at = not_on list o i (right_false (nat_eq o x) 
   right_false false b e = e
 
 once_more : (list : List ℕ) (o : ℕ) → IsOnce list → list_any (nat_eq o) list ≡ false → IsOnce (list ++ o ∷ [])
-once_more list o once not i j x at at' = elim (slice_get_push list o i x at) [
-  | inl here ↦ elim (slice_get_push list o j x at') [
-    | inl there ↦ once i j x here there
-    | inr (end, same) ↦ absurd (not_on list o i not (subst (λ y. slice_get list i ≡ Some y) (sym same) here))
+once_more list o once not i j x at at' = elim (get_push list o i x at) [
+  | inl here ↦ elim (get_push list o j x at') [
+    | inl there ↦ once i j x here.1 there.1
+    | inr (end, same) ↦ absurd (not_on list o i not (subst (λ y. slice_get list i ≡ Some y) same here.1))
   ]
-  | inr (end, same) ↦ elim (slice_get_push list o j x at') [
-    | inl there ↦ absurd (not_on list o j not (subst (λ y. slice_get list j ≡ Some y) (sym same) there))
+  | inr (end, same) ↦ elim (get_push list o j x at') [
+    | inl there ↦ absurd (not_on list o j not (subst (λ y. slice_get list j ≡ Some y) same there.1))
     | inr (end', same') ↦ end ∙ sym end'
   ]
 ]
@@ -101,18 +90,13 @@ once_with_new list (o ∷ named) once = elim (cases_Bool (list_any (nat_eq o) li
   | inr is ↦ subst IsOnce (sym (cond-false (list_any (nat_eq o) list) (with_new list named) (with_new (list ++ o ∷ []) named) is)) (once_with_new (list ++ o ∷ []) named (once_more list o once is))
 ]
 
-pub pushed_there : (list : List ℕ) (y i o : ℕ) → slice_get list i ≡ Some o → slice_get (list ++ y ∷ []) i ≡ Some o
-pushed_there [] y i o is = absurd cc
-pushed_there (x ∷ list) y zero o is = is
-pushed_there (x ∷ list) y (suc i) o is = pushed_there list y i o is
-
 -- what stands on a list stays where it is
 pub stays_with_new : (list named : List ℕ) (i o : ℕ) → slice_get list i ≡ Some o → slice_get (with_new list named) i ≡ Some o
 stays_with_new list [] i o is = is
 stays_with_new list (x ∷ named) i o is = elim (cases_Bool (list_any (nat_eq x) list)) [
   | inl on ↦ subst (λ l. slice_get l i ≡ Some o) (sym (cond-true (list_any (nat_eq x) list) (with_new list named) (with_new (list ++ x ∷ []) named) on)) (stays_with_new list named i o is)
   | inr off ↦ subst (λ l. slice_get l i ≡ Some o) (sym (cond-false (list_any (nat_eq x) list) (with_new list named) (with_new (list ++ x ∷ []) named) off))
-      (stays_with_new (list ++ x ∷ []) named i o (pushed_there list x i o is))
+      (stays_with_new (list ++ x ∷ []) named i o (push_before list x i o is))
 ]
 
 module _ (z : Sizes) (size : IsPageSize z.page_bytes) (m : NewestMap) (single : IsSingle m)

@@ -3,21 +3,17 @@ use Rattle.std.specs.Prelude.{◌≡◌, ◌<◌, ℕ, zero, suc, ◌+◌, List,
 use Rattle.std.specs.List.{list_any}
 use Rattle.std.proofs.Common.{refl, sym, ◌∙◌, ap, subst, inl, inr, arith}
 use Rattle.std.proofs.lemmas.Bool.{cases_Bool, cases_lt, cond-true, cond-false}
+use Rattle.std.proofs.lemmas.Option.{slice_get_within}
 use Rattle.volume_terms.specs.Sizes.{Sizes}
+use Rattle.volume_terms.specs.laws.List.{place_of, push_last, slice_get_there}
 use Rattle.flash_tree.specs.Tree.{NewestMap}
-use Rattle.flash_tree.specs.laws.Tree.{slice_get_within}
 use Rattle.flash_tree.specs.Mount.{Leads, Finds, with_new, ListEnd, Wrongly, Wholly, GoesThrough, ends, stops, goes}
-use Rattle.flash_tree.specs.laws.Finding.{slice_get_there}
 use Rattle.flash_tree.specs.laws.Shown.{Each, each_with_new}
-use Rattle.flash_tree.proofs.WalkExists.{IsOnce, place_of, once_with_new, stays_with_new}
+use Rattle.flash_tree.proofs.WalkExists.{IsOnce, once_with_new, stays_with_new}
 
 -- the number stands on the list
 abbrev pub IsOn : List ℕ → ℕ → Type 0
 IsOn list o = (i : ℕ) × (slice_get list i ≡ Some o)
-
-pushed_last : (list : List ℕ) (o : ℕ) → slice_get (list ++ o ∷ []) (length list) ≡ Some o
-pushed_last [] o = refl
-pushed_last (x ∷ list) o = pushed_last list o
 
 -- what is added to a list stands on it
 pub named_on : (list named : List ℕ) → Each (IsOn (with_new list named)) named
@@ -26,7 +22,7 @@ named_on list (o ∷ named) k c is = elim (cases_Bool (list_any (nat_eq o) list)
   | inl on ↦ subst (λ l. IsOn l c) (sym (cond-true (list_any (nat_eq o) list) (with_new list named) (with_new (list ++ o ∷ []) named) on))
       (go list k is (place_of list o on) (λ j at. named_on list named j c at))
   | inr off ↦ subst (λ l. IsOn l c) (sym (cond-false (list_any (nat_eq o) list) (with_new list named) (with_new (list ++ o ∷ []) named) off))
-      (go (list ++ o ∷ []) k is (length list, pushed_last list o) (λ j at. named_on (list ++ o ∷ []) named j c at))
+      (go (list ++ o ∷ []) k is (length list, push_last list o) (λ j at. named_on (list ++ o ∷ []) named j c at))
 ] where
   go : (l : List ℕ) (k : ℕ) → slice_get (o ∷ named) k ≡ Some c → IsOn l o → ((j : ℕ) → slice_get named j ≡ Some c → IsOn (with_new l named) c) → IsOn (with_new l named) c
   go l zero is at rest = let same : o ≡ c = cc in (at.0, stays_with_new l named at.0 c (at.1 ∙ ap Some same))

@@ -95,9 +95,3 @@ enough_picked p b n =
     other is true e = absurd cc
     other true false e = refl
     other false false e = refl
-
--- both tests pass
-pub both_pass : (a b : Bool) → (a && b) ≡ true → (a ≡ true) × (b ≡ true)
-both_pass true true is = (refl, refl)
-both_pass true false is = absurd cc
-both_pass false b is = absurd cc

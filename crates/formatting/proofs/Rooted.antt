@@ -4,7 +4,7 @@ use Rattle.std.specs.FinMap as map
 use Rattle.std.specs.Ordering.{nat_cmp}
 use Rattle.std.specs.Cmp.{nat_cmp_total}
 use Rattle.std.proofs.Common.{refl, sym, ◌∙◌, ap, subst, inl, inr, arith}
-use Rattle.std.proofs.lemmas.Bool.{cases_eq, not-true, leb-true, eq-eqb}
+use Rattle.std.proofs.lemmas.Bool.{cases_eq, not-true, leb-true, eq-eqb, and_parts}
 use Rattle.nand_model.specs.Flash.{Flash, Erased, Written}
 use Rattle.nand_model.specs.Calls.{Device}
 use Rattle.nand_model.specs.declared.geometry.Geometry.{Geometry}
@@ -29,7 +29,7 @@ use Rattle.flash_tree.specs.declared.place.FreshPage.{FreshPage}
 use Rattle.directories.specs.HeadPages.{IsHeadPage}
 use Rattle.directories.specs.Heads.{fields_in}
 use Rattle.directories.specs.declared.head.DirectoryHead.{DirectoryHead}
-use Rattle.formatting.proofs.Counting.{enough_picked, both_pass}
+use Rattle.formatting.proofs.Counting.{enough_picked}
 use Rattle.formatting.specs.SizesOf.{sizes_are}
 use Rattle.formatting.specs.Formatting.{Keeps, single_tag, StandsAlone, HoldsOnly}
 
@@ -169,10 +169,10 @@ module _ (g : Geometry) (flash : Flash) (spare : ℕ) (room : spare + 4 ≤ g.bl
   free : (b : ℕ) → b < g.blocks → picks b ≡ true → IsFree g flash z fresh.objects b
   free b within picked = record {
     within = within;
-    good = not-true (flash.bad b) (both_pass (not (flash.bad b)) (not (nat_eq b alone.block)) picked).0;
+    good = not-true (flash.bad b) (and_parts (not (flash.bad b)) (not (nat_eq b alone.block)) picked).0;
     apart = λ o c s looked newest same.
         let there : s.block ≡ alone.block = ap (λ (t : Spot). t.block) (only_spot flash page.bytes.items (single_tag page.key n) valid alone o c s newest.holds) in
-        let other : nat_eq b alone.block ≡ false = not-true (nat_eq b alone.block) (both_pass (not (flash.bad b)) (not (nat_eq b alone.block)) picked).1 in
+        let other : nat_eq b alone.block ≡ false = not-true (nat_eq b alone.block) (and_parts (not (flash.bad b)) (not (nat_eq b alone.block)) picked).1 in
         let same_number : nat_eq b alone.block ≡ true = eq-eqb b alone.block (sym same ∙ there) in
         let two : true ≡ false = sym same_number ∙ other in
         cc;

@@ -1,5 +1,5 @@
 -- A row worked out: `mkdir /z` and `sync`, power lost in the sync; a mount in which power is lost; then `list /`.
-use Rattle.std.specs.Prelude.{◌≡◌, ◌⊎◌, ◌≤◌, ◌+◌, ℕ, zero, suc, Bool, true, false, List, [], ◌∷◌, length, cond, Some, None}
+use Rattle.std.specs.Prelude.{◌≡◌, ◌⊎◌, ◌≤◌, ◌+◌, ℕ, zero, suc, Bool, true, false, List, [], ◌∷◌, cond, Some, None}
 use Rattle.std.proofs.Common.{refl, sym, ◌∙◌, ap, subst, inl, inr, arith}
 use Rattle.std.proofs.lemmas.Option.{slice_get_within}
 use Rattle.std.specs.Ordering.{nat_cmp, eq_by_cmp}
@@ -7,6 +7,7 @@ use Rattle.std.specs.Cmp.{nat_cmp_total}
 use Rattle.std.specs.Cmp.Lexicographic.{slice_cmp, nat_list_cmp_total}
 use Rattle.std.specs.FinMap as map
 use Rattle.std.specs.FinMap.Entries.{put, where_key}
+use Rattle.std.proofs.lemmas.List.{nil_from_length}
 use Rattle.volume_terms.specs.Sizes.{Sizes}
 use Rattle.posix_profile.specs.State.{Name, Entries, Object, Objects, Handle, State}
 use Rattle.posix_profile.specs.Names.{settle}
@@ -30,10 +31,6 @@ abbrev small_sizes : Sizes
 small_sizes = record { page_bytes = 512; block_pages = 32; blocks = 8; spare_blocks = 1 }
 
 -- how the maps of a small state compute
-nil_of : {A : Type 0} (xs : List A) → length xs ≡ 0 → xs ≡ []
-nil_of [] e = refl
-nil_of (x ∷ xs) e = absurd (omega arith)
-
 put_objects : (m : Objects) (k : ℕ) (v : Object) → map.entries (map.insert m k v) ≡ put nat_cmp k v (map.entries m)
 put_objects = map.entries-insert nat_cmp_total
 
@@ -71,13 +68,13 @@ no_entries : map.len (map.empty {X = ℕ} {R = slice_cmp nat_cmp}) ≡ 0
 no_entries = map.len-empty (slice_cmp nat_cmp) ℕ
 
 no_objects : map.entries (map.empty {X = Object} {R = nat_cmp}) ≡ []
-no_objects = nil_of _ (sym (map.len-entries (map.empty {X = Object} {R = nat_cmp})) ∙ no_len)
+no_objects = nil_from_length _ (sym (map.len-entries (map.empty {X = Object} {R = nat_cmp})) ∙ no_len)
 
 no_values : map.entries (map.empty {X = ℕ} {R = slice_cmp nat_cmp}) ≡ []
-no_values = nil_of _ (sym (map.len-entries (map.empty {X = ℕ} {R = slice_cmp nat_cmp})) ∙ no_entries)
+no_values = nil_from_length _ (sym (map.len-entries (map.empty {X = ℕ} {R = slice_cmp nat_cmp})) ∙ no_entries)
 
 no_handles : map.entries (map.empty {X = Handle} {R = nat_cmp}) ≡ []
-no_handles = nil_of _ (sym (map.len-entries (map.empty {X = Handle} {R = nat_cmp})) ∙ map.len-empty nat_cmp Handle)
+no_handles = nil_from_length _ (sym (map.len-entries (map.empty {X = Handle} {R = nat_cmp})) ∙ map.len-empty nat_cmp Handle)
 
 ruleset computes = (put_objects, put_names, get_objects, get_names, len_objects, len_entries, keep_objects, kept_object, no_objects, no_values, no_entries, no_object, no_name, no_len, no_handles)
 

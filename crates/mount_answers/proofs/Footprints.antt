@@ -7,6 +7,7 @@ use Rattle.nand_model.specs.declared.geometry.Geometry.{Geometry}
 use Rattle.page_tags.specs.Headers.{Fields, is_present}
 use Rattle.page_tags.specs.declared.header.ObjectKind.TheVariants as kinds
 use Rattle.volume_terms.specs.Sizes.{Sizes, page_slots, root_number}
+use Rattle.volume_terms.specs.laws.Rounding.{part_within}
 use Rattle.posix_profile.specs.State.{Entries, Object, File, Dir, Objects}
 use Rattle.posix_profile.specs.laws.Prune.{prune_same, tree_well_formed}
 use Rattle.flash_tree.specs.Tree.{IsPageSize, IsSingle, HasHeader, ReadsAs, ReadsFile, ReadsDir, Shows, LooksUp, InFootprint}
@@ -20,7 +21,7 @@ use Rattle.file_io.specs.Files as files
 use Rattle.object_pages.specs.Holding.{HoldsObject, HoldsObjects}
 use Rattle.mount_answers.specs.Footprints.{IsFootprint}
 use Rattle.mount_answers.proofs.WholeTrees.{is_page_size}
-use Rattle.mount_answers.proofs.SlotCounts.{entries_len, page_within}
+use Rattle.mount_answers.proofs.SlotCounts.{entries_len}
 
 -- a map has one page of a key
 pub one_page : (m : PageMap) → IsSingle (has m)
@@ -59,7 +60,7 @@ module _ (z : Sizes) (size : IsPageSize z.page_bytes) (some : 1 ≤ page_slots z
   directory_looks f c count directory len behind (inl first) = omega (arith, behind, first)
   directory_looks f c count directory len behind (inr (inl (file, from, present))) = let two : kinds.File ≡ kinds.Directory = sym file ∙ directory in cc
   directory_looks f c count directory len behind (inr (inr (kind, (i, lt, is)))) =
-      let within = page_within i count (page_slots z) some (omega (arith, lt, len)) in
+      let within = part_within i count (page_slots z) some (omega (arith, lt, len)) in
       omega (arith, within, behind, is)
 
   directory_only : (o moment : ℕ) (entries : Entries) → map.get objects o ≡ Some (Dir moment entries) → (r : ReadsDir z (has n) o moment entries) → directories.HasOnly z n o (map.len entries)

@@ -4,34 +4,25 @@ use Rattle.std.specs.List.{list_any}
 use Rattle.std.specs.FinMap as map
 use Rattle.std.proofs.Common.{refl, sym, ◌∙◌, ap, subst, inl, inr, arith}
 use Rattle.std.proofs.lemmas.Bool.{cases_Bool, cases_lt, cond-true, cond-false}
+use Rattle.std.proofs.lemmas.Option.{slice_get_within}
 use Rattle.page_tags.specs.Slots.{Entry}
 use Rattle.volume_terms.specs.Sizes.{Sizes, root_number}
+use Rattle.volume_terms.specs.laws.List.{push_before, push_last, place_of, mapped_at, slice_get_there}
 use Rattle.posix_profile.specs.State.{Object, Dir, Objects}
 use Rattle.posix_profile.specs.Names.{Names, Reached, root, below}
 use Rattle.flash_tree.specs.Tree.{NewestMap, IsPageSize, ReadsDir, Shows, InFootprint}
 use Rattle.flash_tree.specs.Mount.{Leads, Finds, with_new, ListEnd, Wrongly, Wholly, GoesThrough, ends, stops, goes}
-use Rattle.flash_tree.specs.laws.Finding.{slice_get_there, one_finding}
+use Rattle.flash_tree.specs.laws.Finding.{one_finding}
 use Rattle.flash_tree.specs.laws.Shown.{Each, IsThere, ends_well}
 use Rattle.flash_tree.specs.laws.Slot.{entry_slot}
-use Rattle.flash_tree.specs.laws.Tree.{slice_get_within}
 use Rattle.pages.specs.Maps.{PageMap, has}
 use Rattle.tree_walk.specs.Trees.{IsLookedUp}
 use Rattle.mount_answers.specs.Footprints.{KeepsFootprint}
 use Rattle.mount_answers.proofs.Footprints.{one_page}
-use Rattle.mount_answers.proofs.Picked.{place_of}
 
 -- the number stands on the list
 abbrev pub IsOn : List ℕ → ℕ → Type 0
 IsOn list o = (i : ℕ) × (slice_get list i ≡ Some o)
-
-pushed_there : (list : List ℕ) (y i o : ℕ) → slice_get list i ≡ Some o → slice_get (list ++ y ∷ []) i ≡ Some o
-pushed_there [] y i o is = absurd cc
-pushed_there (x ∷ list) y zero o is = is
-pushed_there (x ∷ list) y (suc i) o is = pushed_there list y i o is
-
-pushed_last : (list : List ℕ) (o : ℕ) → slice_get (list ++ o ∷ []) (length list) ≡ Some o
-pushed_last [] o = refl
-pushed_last (x ∷ list) o = pushed_last list o
 
 -- what stands on a list stays where it is
 stays_with_new : (list named : List ℕ) (i o : ℕ) → slice_get list i ≡ Some o → slice_get (with_new list named) i ≡ Some o
@@ -39,7 +30,7 @@ stays_with_new list [] i o is = is
 stays_with_new list (x ∷ named) i o is = elim (cases_Bool (list_any (nat_eq x) list)) [
   | inl on ↦ subst (λ l. slice_get l i ≡ Some o) (sym (cond-true (list_any (nat_eq x) list) (with_new list named) (with_new (list ++ x ∷ []) named) on)) (stays_with_new list named i o is)
   | inr off ↦ subst (λ l. slice_get l i ≡ Some o) (sym (cond-false (list_any (nat_eq x) list) (with_new list named) (with_new (list ++ x ∷ []) named) off))
-      (stays_with_new (list ++ x ∷ []) named i o (pushed_there list x i o is))
+      (stays_with_new (list ++ x ∷ []) named i o (push_before list x i o is))
 ]
 
 -- what is added to a list stands on it
@@ -49,7 +40,7 @@ named_on list (o ∷ named) k c is = elim (cases_Bool (list_any (nat_eq o) list)
   | inl on ↦ subst (λ l. IsOn l c) (sym (cond-true (list_any (nat_eq o) list) (with_new list named) (with_new (list ++ o ∷ []) named) on))
       (go list k is (place_of list o on) (λ j at. named_on list named j c at))
   | inr off ↦ subst (λ l. IsOn l c) (sym (cond-false (list_any (nat_eq o) list) (with_new list named) (with_new (list ++ o ∷ []) named) off))
-      (go (list ++ o ∷ []) k is (length list, pushed_last list o) (λ j at. named_on (list ++ o ∷ []) named j c at))
+      (go (list ++ o ∷ []) k is (length list, push_last list o) (λ j at. named_on (list ++ o ∷ []) named j c at))
 ] where
   go : (l : List ℕ) (k : ℕ) → slice_get (o ∷ named) k ≡ Some c → IsOn l o → ((j : ℕ) → slice_get named j ≡ Some c → IsOn (with_new l named) c) → IsOn (with_new l named) c
   go l zero is at rest = let same : o ≡ c = cc in (at.0, stays_with_new l named at.0 c (at.1 ∙ ap Some same))
@@ -93,11 +84,6 @@ module _ (z : Sizes) (m : NewestMap) where
   pub whole_there : (first : ℕ) (list : List ℕ) → GoesThrough z m (first ∷ []) 0 (Wholly list) → Each (IsThereOn list) list × (slice_get list 0 ≡ Some first)
   whole_there first list on = ends_there first (first ∷ []) 0 (Wholly list) (λ i o lt is. absurd (omega arith)) refl on
 
-mapped_at : (slots : List Entry) (k : ℕ) (e : Entry) → slice_get slots k ≡ Some e → slice_get (list_map (λ entry. entry.object) slots) k ≡ Some e.object
-mapped_at [] k e is = absurd cc
-mapped_at (s ∷ slots) zero e is = let same : s ≡ e = cc in ap (λ (x : Entry). Some x.object) same
-mapped_at (s ∷ slots) (suc k) e is = mapped_at slots k e is
-
 module _ (z : Sizes) (size : IsPageSize z.page_bytes) (m : PageMap) (objects : Objects) (shown : Shows z (has m) objects) (list : List ℕ) (on : GoesThrough z (has m) (root_number ∷ []) 0 (Wholly list)) where
   root_there : Each (IsThere z size (has m) (one_page m) objects shown) (root_number ∷ [])
   root_there zero c is =
@@ -120,7 +106,7 @@ module _ (z : Sizes) (size : IsPageSize z.page_bytes) (m : PageMap) (objects : O
       let two : Leads t.0 ≡ Leads (list_map (λ entry. entry.object) r.slots) = one_finding z size (has m) (one_page m) d _ _ t.1 leads in
       let same : t.0 ≡ list_map (λ entry. entry.object) r.slots = cc in
       let s = entry_slot z (has m) d names.moment names.entries r name o names.object_is in
-      t.2 s.0 o (ap (λ l. slice_get l s.0) same ∙ mapped_at r.slots s.0 s.1 s.2 ∙ ap Some s.4)
+      t.2 s.0 o (ap (λ l. slice_get l s.0) same ∙ mapped_at (λ (entry : Entry). entry.object) r.slots s.0 s.1 s.2 ∙ ap Some s.4)
 
   reached_on : (o : ℕ) → Reached objects o → IsOn list o
   reached_on o root = (0, (whole_there z (has m) root_number list on).1)

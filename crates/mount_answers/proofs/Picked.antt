@@ -1,21 +1,14 @@
 -- Numbers that a test picks are no more than it picks.
-use Rattle.std.specs.Prelude.{◌≡◌, ◌<◌, ◌≤◌, ℕ, zero, suc, ◌+◌, Bool, true, false, ◌&&◌, List, [], ◌∷◌, length, filter, slice_get, get_or, Some, count_by, nat_eq}
+use Rattle.std.specs.Prelude.{◌≡◌, ◌<◌, ◌≤◌, ℕ, zero, suc, ◌+◌, Bool, true, List, length, filter, slice_get, get_or, Some, count_by, nat_eq}
 use Rattle.std.specs.List.{list_any, range_with_len, IsDistinct}
 use Rattle.std.proofs.Common.{sym, ◌∙◌, ap, subst, inl, inr, arith}
-use Rattle.std.proofs.lemmas.Bool.{cases_eq, or_left, or_right, or_cases, eq-eqb, eqb-true, ne_eqb}
+use Rattle.std.proofs.lemmas.Bool.{cases_eq, or_left, or_right, eq-eqb, eqb-true, ne_eqb, and_from}
 use Rattle.std.proofs.lemmas.List.Sums.{length-filter}
 use Rattle.std.proofs.lemmas.Map.Made.{length-le_from_is_member, is_member-filter}
 use Rattle.std.proofs.lemmas.Map.Keys.{IsDistinct-from_apart}
 use Rattle.std.specs.Cmp.{nat_eq_equiv}
-use Rattle.flash_tree.specs.laws.Finding.{slice_get_there}
-
--- a number that is on a list has a place there
-pub place_of : (xs : List ℕ) (q : ℕ) → list_any (nat_eq q) xs ≡ true → (i : ℕ) × (slice_get xs i ≡ Some q)
-place_of [] q is = absurd cc
-place_of (x ∷ xs) q is = elim (or_cases (nat_eq q x) (list_any (nat_eq q) xs) is) [
-  | inl here ↦ (zero, ap Some (sym (eqb-true q x here)))
-  | inr later ↦ let rest = place_of xs q later in (suc rest.0, rest.1)
-]
+use Rattle.std.proofs.lemmas.Option.{get_or_from_slice_get}
+use Rattle.volume_terms.specs.laws.List.{place_of, slice_get_there}
 
 on_range : (n a q : ℕ) → a ≤ q → q < a + n → list_any (nat_eq q) (range_with_len a n) ≡ true
 on_range zero a q low high = absurd (omega arith)
@@ -24,18 +17,13 @@ on_range (suc n) a q low high = elim (cases_eq q a) [
   | inr other ↦ or_right (nat_eq q a) (list_any (nat_eq q) (range_with_len (a + 1) n)) (on_range n (a + 1) q (omega arith) (omega arith))
 ]
 
-get_or_is : (xs : List ℕ) (i d x : ℕ) → slice_get xs i ≡ Some x → get_or xs i d ≡ x
-get_or_is [] i d x is = absurd cc
-get_or_is (y ∷ xs) zero d x is = let same : y ≡ x = cc in same
-get_or_is (y ∷ xs) (suc i) d x is = get_or_is xs i d x is
-
 -- a list in which nothing stands twice
 distinct : (xs : List ℕ) → ((i j b : ℕ) → slice_get xs i ≡ Some b → slice_get xs j ≡ Some b → i ≡ j) → IsDistinct nat_eq xs
 distinct xs once = IsDistinct-from_apart nat_eq xs (λ i j d before within.
     let x = slice_get_there xs i (omega (arith, before, within)) in
     let y = slice_get_there xs j within in
-    let first : get_or xs i d ≡ x.0 = get_or_is xs i d x.0 x.1 in
-    let second : get_or xs j d ≡ y.0 = get_or_is xs j d y.0 y.1 in
+    let first : get_or xs i d ≡ x.0 = get_or_from_slice_get xs i x.0 d x.1 in
+    let second : get_or xs j d ≡ y.0 = get_or_from_slice_get xs j y.0 d y.1 in
     ne_eqb (get_or xs i d) (get_or xs j d) (λ same.
     let at : slice_get xs i ≡ Some y.0 = x.1 ∙ ap Some (sym first ∙ same ∙ second) in
     let one : i ≡ j = once i j y.0 at y.1 in
@@ -46,13 +34,9 @@ pub few_picked : (f : ℕ → Bool) (n : ℕ) (xs : List ℕ) → ((i j b : ℕ)
     → ((i b : ℕ) → slice_get xs i ≡ Some b → (b < n) × (f b ≡ true)) → length xs ≤ count_by f (range_with_len 0 n)
 few_picked f n xs once each = subst (λ k. length xs ≤ k) (length-filter f (range_with_len 0 n))
     (length-le_from_is_member nat_eq_equiv xs (filter f (range_with_len 0 n)) (distinct xs once) member) where
-      both : (a b : Bool) → a ≡ true → b ≡ true → (a && b) ≡ true
-      both true b x y = y
-      both false b x y = x
-
       member : (q : ℕ) → list_any (nat_eq q) xs ≡ true → list_any (nat_eq q) (filter f (range_with_len 0 n)) ≡ true
       member q is =
           let at = place_of xs q is in
           let of = each at.0 q at.1 in
           is_member-filter nat_eq_equiv f q (λ x same. ap f (eqb-true q x same)) (range_with_len 0 n)
-          ∙ both (list_any (nat_eq q) (range_with_len 0 n)) (f q) (on_range n 0 q (omega arith) (omega (arith, of.0))) of.1
+          ∙ and_from (list_any (nat_eq q) (range_with_len 0 n)) (f q) (on_range n 0 q (omega arith) (omega (arith, of.0))) of.1

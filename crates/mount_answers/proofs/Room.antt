@@ -1,7 +1,7 @@
 -- Whether a volume can go on with a tree, by what it costs and by the blocks without a kept page.
-use Rattle.std.specs.Prelude.{◌≡◌, ◌<◌, ◌≤◌, ℕ, ◌+◌, ◌-◌, Bool, true, false, not, ◌&&◌, nat_eq, List}
+use Rattle.std.specs.Prelude.{◌≡◌, ◌<◌, ◌≤◌, ℕ, ◌+◌, ◌-◌, true, false, not, nat_eq, List}
 use Rattle.std.proofs.Common.{refl, sym, ◌∙◌, ap, subst, inr, arith}
-use Rattle.std.proofs.lemmas.Bool.{eq-eqb}
+use Rattle.std.proofs.lemmas.Bool.{eq-eqb, and_from}
 use Rattle.nand_model.specs.Flash.{Flash}
 use Rattle.nand_model.specs.declared.geometry.Geometry.{Geometry}
 use Rattle.volume_terms.specs.Sizes.{Sizes, capacity}
@@ -71,10 +71,7 @@ module _ (flash : Flash) (m : PageMap) (is : IsNewestMap flash m) (spare : ℕ) 
         let q = keeps.newest o c p kept in
         free.apart o c q.0 (looked_on_flash flash m is z objects o c (keeps.only o c p kept)) q.1 (q.2 ∙ here)) in
         let good : (t.entry b).bad ≡ false = marks b free.within ∙ free.good in
-        both (not (t.entry b).bad) (nat_eq (t.entry b).kept 0) (ap not good) (eq-eqb (t.entry b).kept 0 (agree.counts b ∙ none)) where
-          both : (a b : Bool) → a ≡ true → b ≡ true → (a && b) ≡ true
-          both true b x y = y
-          both false b x y = x
+        and_from (not (t.entry b).bad) (nat_eq (t.entry b).kept 0) (ap not good) (eq-eqb (t.entry b).kept 0 (agree.counts b ∙ none))
 
     -- so no more blocks are free than are unkept
     pub few_free : ((b : ℕ) → HoldsNone (kept_pages x) b → kept_in x b ≡ 0) → (count : ℕ) → HasFree t.geometry flash z objects count → count ≤ unkept_count t

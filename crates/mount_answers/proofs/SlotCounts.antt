@@ -1,15 +1,11 @@
 -- How many entries slots make, and how many pages they take.
-use Rattle.std.specs.Prelude.{◌≡◌, ◌<◌, ◌≤◌, ℕ, zero, suc, ◌+◌, ◌-◌, ◌*◌, ◌/◌, ◌%◌, List, [], ◌∷◌, length, slice_get, false, is_some, Option, Some, None}
-use Rattle.std.specs.Int.{div_ceil}
+use Rattle.std.specs.Prelude.{◌≡◌, ℕ, zero, suc, ◌+◌, List, [], ◌∷◌, length, slice_get, false, is_some, Option, Some, None}
 use Rattle.std.specs.Ordering.{nat_cmp}
 use Rattle.std.specs.Cmp.Lexicographic.{slice_cmp, nat_list_cmp_total}
 use Rattle.std.specs.FinMap as map
-use Rattle.std.proofs.Common.{refl, sym, ◌∙◌, ap, inl, inr, arith}
-use Rattle.std.proofs.Math.Nat.{mul-le-mul_right, div-add-mod'}
-use Rattle.std.proofs.lemmas.Bool.{cases_lt, cond-false}
+use Rattle.std.proofs.Common.{refl, sym, ◌∙◌, ap, arith}
+use Rattle.std.proofs.lemmas.Bool.{cond-false}
 use Rattle.page_tags.specs.Slots.{Entry}
-use Rattle.volume_terms.specs.Rounding.{ceiling}
-use Rattle.volume_terms.specs.laws.Rounding.{ceiling_is}
 use Rattle.flash_tree.specs.Tree.{slot_pairs}
 use Rattle.flash_tree.specs.laws.Slot.{slot_of_pair}
 use Rattle.flash_tree.specs.laws.Pairs.{at_find}
@@ -36,16 +32,3 @@ entries_len [] once = map.len-empty (slice_cmp nat_cmp) ℕ
 entries_len (s ∷ slots) once =
     let rest = entries_len slots (λ i j a b at bt same. let one : suc i ≡ suc j = once (suc i) (suc j) a b at bt same in omega (arith, one)) in
     map.len-insert nat_list_cmp_total (map.from_entries (slot_pairs slots)) s.name s.object ∙ cond-false _ _ _ (first_absent s slots once) ∙ ap (λ n. n + 1) rest ∙ omega arith
-
--- the page of a slot is one of those that so many slots take
-pub page_within : (i count n : ℕ) → 1 ≤ n → i < count → i / n < div_ceil count n
-page_within i count n some less = elim (cases_lt (i / n) (div_ceil count n)) [
-  | inl under ↦ under
-  | inr over ↦
-      let pages : ℕ = ceiling count n in
-      let is : div_ceil count n ≡ pages = ceiling_is count n some in
-      let low : pages * n ≤ i / n * n = mul-le-mul_right n (omega (arith, over, is)) in
-      let up : (count + n - 1) / n * n + (count + n - 1) % n ≡ count + n - 1 = div-add-mod' (count + n - 1) n in
-      let place : i / n * n + i % n ≡ i = div-add-mod' i n in
-      absurd (omega (arith, low, up, place, less, some))
-]

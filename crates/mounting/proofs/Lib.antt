@@ -1,5 +1,4 @@
 pub mod Finding
-pub mod Pigeons
 pub mod Pruning
 pub mod Answering
 pub mod Shown

@@ -2,6 +2,8 @@
 use Rattle.std.specs.Prelude.{◌≡◌, ◌<◌, ◌≤◌, ℕ, ◌+◌, Bool, true, false, List, length, Some, None, slice_get}
 use Rattle.std.proofs.Common.{refl, sym, ◌∙◌, ap, subst, inl, inr, arith}
 use Rattle.std.proofs.lemmas.Bool.{cases_Bool}
+use Rattle.volume_terms.specs.laws.List.{slice_get_there}
+use Rattle.volume_terms.specs.laws.Number.{no_more_than_places}
 use Rattle.nand_model.specs.Flash.{Flash}
 use Rattle.nand_model.specs.Calls.{Device}
 use Rattle.nand_model.specs.Changes.{OnlyReads}
@@ -9,7 +11,6 @@ use Rattle.nand_model.specs.declared.geometry.Geometry.{Geometry}
 use Rattle.page_tags.specs.declared.tag.Tag.{Tag}
 use Rattle.flash_tree.specs.Groups.{HasTag}
 use Rattle.flash_tree.specs.Newest.{Spot, IsNewest, Numbers, AreGreatest}
-use Rattle.flash_tree.specs.laws.Finding.{slice_get_there}
 use Rattle.flash_tree.specs.laws.Newest.{one_tag}
 use Rattle.flash_tree.specs.laws.Place.{same_flash}
 use Rattle.flash_tree.specs.declared.place.Key.{Key}
@@ -27,7 +28,6 @@ use Rattle.bad_blocks.specs.Standing.{IsKeptAt, AreKept, MayLie}
 use Rattle.newest_pages.specs.Opened.{IsOpened, AreLeft, kept_at}
 use Rattle.mounting.specs.Marked.{AreFitting}
 use Rattle.mounting.specs.Tables.{IsPruned}
-use Rattle.mounting.proofs.Pigeons.{no_more_than_places}
 
 module _ (keeps : ℕ → ℕ → Bool) (a b : Device) (t u : Table) (x y : Index) (n : Numbers) (reads : OnlyReads a b) (opened : IsOpened a t x n) (retains : Retains keeps x y)
     (counts : CountsAgree u y) (recounts : Recounts (kept_in x) (kept_in y) t u) where

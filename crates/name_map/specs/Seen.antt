@@ -1,6 +1,6 @@
 -- A tree map seen as a finite map, key by key and value by value.
-use Rattle.std.specs.Prelude.{◌≡◌, true, false, Bool, List, [], ◌∷◌, map as list_map, filter, length, Option, Some, None, Result, Ok, Err, MatchResult, IfOk, cond, not}
-use Rattle.std.proofs.Common.{refl, sym, ◌∙◌, ap, arith}
+use Rattle.std.specs.Prelude.{◌≡◌, true, false, Bool, List, [], ◌∷◌, map as list_map, filter, Option, Some, None, Result, Ok, Err, MatchResult, IfOk, cond, not}
+use Rattle.std.proofs.Common.{refl, sym, ◌∙◌, ap}
 use Rattle.std.specs.declared.cmp.Ordering.{Ordering}
 use Rattle.std.specs.declared.cmp.Ordering.TheVariants.{Less, Equal, Greater}
 use Rattle.std.specs.Ordering.{is_eq, eq_by_cmp, match_ordering}
@@ -13,10 +13,7 @@ use Rattle.std.specs.Option.{option_map}
 use Rattle.std.proofs.lemmas.Map.Keys.{sorted_head, sorted_tail}
 use Rattle.std.specs.FinMap as map
 use Rattle.std.specs.FinMap.Entries.{find, put, by_order, find-where_key}
-
-no_length : {A : Type 0} (xs : List A) → length xs ≡ 0 → xs ≡ []
-no_length [] e = refl
-no_length (x ∷ xs) e = absurd (omega arith)
+use Rattle.std.proofs.lemmas.List.{nil_from_length}
 
 turned : {A : Type 0} (b : Bool) (x y : A) → cond (not b) x y ≡ cond b y x
 turned true x y = refl
@@ -58,7 +55,7 @@ module _ {K X L Y : Type 0} (R : L → L → Ordering) (key : K → L) (value : 
 
     -- the entries in order
     pub entries_seen : (es : List (K × X)) → IsStrictlySortedBy order (keys_of es) → map.entries (map.from_entries {R = R} (seen es)) ≡ seen es
-    entries_seen [] sorted = no_length (map.entries (map.empty {X = Y} {R = R})) (sym (map.len-entries (map.empty {X = Y} {R = R})) ∙ map.len-empty R Y)
+    entries_seen [] sorted = nil_from_length (map.entries (map.empty {X = Y} {R = R})) (sym (map.len-entries (map.empty {X = Y} {R = R})) ∙ map.len-empty R Y)
     entries_seen (e ∷ es) sorted =
         map.entries-insert o (map.from_entries {R = R} (seen es)) (key e.0) (value e.1)
         ∙ ap (λ (xs : List (L × Y)). put R (key e.0) (value e.1) xs) (entries_seen es (sorted_tail order e.0 (keys_of es) sorted))

@@ -2,7 +2,7 @@
 use Rattle.std.proofs.Common.{◌≡◌, ◌<◌, ℕ, ◌+◌, ◌*◌, ◌/◌, ◌%◌, List, length, drop, slice_index, Option, Some, ap, sym, subst, ◌∙◌, arith, length-drop, get_or-take}
 use Rattle.std.proofs.lemmas.List.{drop-drop}
 use Rattle.std.proofs.Math.Nat.{mul_comm}
-use Rattle.std.proofs.lemmas.Nat.{mul-add-lt, div-mul-add, div-add-mod'}
+use Rattle.std.proofs.lemmas.Nat.{mul-add-lt, div-mul-add, mod-mul-add}
 use Rattle.nand_model.specs.Flash.{Page}
 use Rattle.nand_model.specs.Calls.{Device}
 use Rattle.nand_model.specs.Changes.{IsBlank}
@@ -12,13 +12,6 @@ use Rattle.nand_image.specs.Images.{page_in}
 use Rattle.nand_image.specs.Readings.{IsWhole, FillsWhole, IsShort, PutsMarks, PutsPages, TakesPages, IsEnded, IsLong, body_size, IsBody, IsOfOtherSize}
 use Rattle.nand_image.specs.declared.fault.ImageFault.{ImageFault}
 use Rattle.nand_image.specs.declared.fault.ImageFault.TheVariants as faults
-
--- the row and the column of a place
-column_of : (b p per : ℕ) → p < per → (b * per + p) % per ≡ p
-column_of b p per less =
-    let all = div-add-mod' (b * per + p) per in
-    let row : (b * per + p) / per * per ≡ b * per = ap (λ k. k * per) (div-mul-add b per p less) in
-    omega (arith, all, row)
 
 -- a place among the marks holds the mark
 mark_of : (marks left : List ℕ) (now : Option (List ℕ)) (b : ℕ) → IsWhole marks left now → b < length marks → slice_index marks b ≡ slice_index left b
@@ -41,7 +34,7 @@ module _ (g : Geometry) (old mid new : Option (List ℕ)) (marks : List ℕ) (wi
         pages = λ k l less few.
             let place : ℕ = k * g.pages + l in
             let row : place / g.pages ≡ k = div-mul-add k g.pages l few in
-            let column : place % g.pages ≡ l = column_of k l g.pages few in
+            let column : place % g.pages ≡ l = mod-mul-add k g.pages l few in
             let inside : place < g.blocks * g.pages = omega (arith, mul-add-lt k g.pages l g.blocks less few, mul_comm g.pages g.blocks) in
             let told : page (place / g.pages) (place % g.pages) ≡ page_in g.bytes (drop (place * w) behind) = p.each place inside in
             ap (λ f. f k l) same ∙ sym (ap (λ n. page n l) row) ∙ sym (ap (page (place / g.pages)) column) ∙ told

@@ -9,9 +9,9 @@ use Rattle.posix_profile.specs.Names.{Names, Reached, root, below}
 use Rattle.posix_profile.specs.NameSteps.{rename_tests_onto}
 use Rattle.posix_profile.specs.laws.Map.{keys_fit}
 use Rattle.posix_profile.specs.laws.Name.{name_same, entry_named, named_entry, namer_directory, not_both}
-use Rattle.std.proofs.lemmas.Bool.{cases_eq, or_right, true≢false, false≢true, lt-ltb}
+use Rattle.std.proofs.lemmas.Bool.{cases_eq, or_right, false≢true, lt-ltb, or_parts}
 use Rattle.posix_profile.specs.Charge.{fits}
-use Rattle.posix_profile.specs.laws.Charge.{fits_less, insert_less, ceiling_le}
+use Rattle.posix_profile.specs.laws.Charge.{fits_less, insert_less}
 use Rattle.posix_profile.specs.Changes.{with_bytes}
 use Rattle.posix_profile.specs.HandleSteps.{open_on}
 use Rattle.posix_profile.specs.declared.command.OpenFlags.{OpenFlags}
@@ -23,6 +23,7 @@ use Rattle.posix_profile.specs.laws.Path.{IsPlace, Ends}
 use Rattle.posix_profile.specs.laws.Place.{absent_name, found_name}
 use Rattle.posix_profile.specs.WellFormed.{IsForest, IsNamed}
 use Rattle.volume_terms.specs.Names.{IsName}
+use Rattle.volume_terms.specs.laws.Rounding.{ceiling_le}
 use Rattle.posix_profile.specs.declared.reply.Reply.{Reply}
 use Rattle.object_store.specs.Changes.{made, CanMake, IsAbsent, LeadsTo, NamesNothing}
 use Rattle.object_store.specs.declared.change.DirectoryEntry.{DirectoryEntry}
@@ -161,18 +162,14 @@ cut_file objects o (File moment bytes) create writes trunc is no' yes' = (moment
 cut_file objects o (Dir moment entries) create writes trunc is no' yes' =
     let two : true ≡ false = sym (or_right (create || writes) trunc yes') ∙ ap (λ b. b && (create || writes || trunc)) (sym (ap is_directory is)) ∙ no' in absurd cc
 
-or_none : (a b : Bool) → (a || b) ≡ false → (a ≡ false) × (b ≡ false)
-or_none true b is = absurd (true≢false is)
-or_none false b is = (refl, is)
-
 -- paths that end in names
 pub both_end : (objects : Objects) (from to : Place) → IsPlace objects from → IsPlace objects to → (is_dot from.last || is_dot_dot from.last || is_dot to.last || is_dot_dot to.last) ≡ false → (is_none from.last || is_none to.last) ≡ false
     → EndsInName objects from × EndsInName objects to
 both_end objects from to old new dots names =
-    let a = or_none _ (is_dot_dot to.last) dots in
-    let b = or_none _ (is_dot to.last) a.0 in
-    let c = or_none (is_dot from.last) (is_dot_dot from.last) b.0 in
-    let n = or_none (is_none from.last) (is_none to.last) names in (
+    let a = or_parts _ (is_dot_dot to.last) dots in
+    let b = or_parts _ (is_dot to.last) a.0 in
+    let c = or_parts (is_dot from.last) (is_dot_dot from.last) b.0 in
+    let n = or_parts (is_none from.last) (is_none to.last) names in (
       record { place = old; no_dot = c.0; no_dot_dot = c.1; some = n.0 },
       record { place = new; no_dot = b.1; no_dot_dot = a.1; some = n.1 },
     )

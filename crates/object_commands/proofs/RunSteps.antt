@@ -2,7 +2,7 @@
 use Rattle.std.specs.Prelude.{◌≡◌, ◌||◌, ◌++◌, ◌+◌, ◌<◌, ◌≤◌, ℕ, Bool, true, false, List, [], ◌∷◌, length, take, Some, slice_get, get_or}
 use Rattle.std.specs.List.{list_any}
 use Rattle.std.proofs.Common.{refl, sym, ◌∙◌, ap, subst, inl, inr, arith}
-use Rattle.std.proofs.lemmas.Bool.{cases_Bool, true≢false}
+use Rattle.std.proofs.lemmas.Bool.{cases_Bool, true≢false, or_right}
 use Rattle.std.proofs.lemmas.List.{append_assoc, append-nil, length_push, take-append-le, take_all}
 use Rattle.posix_profile.specs.laws.Loss.{loss_more}
 use Rattle.posix_profile.specs.Losses.{is_synced}
@@ -38,10 +38,6 @@ all_push : (rs : List Reply) (r : Reply) → AllStopped rs → is_stop r ≡ tru
 all_push [] r all stop = (stop, tt)
 all_push (x ∷ rs) r all stop = (all.0, all_push rs r all.1 stop)
 
-or_some : (a c : Bool) → c ≡ true → (a || c) ≡ true
-or_some true c some = refl
-or_some false c some = some
-
 any_or : (a b c d e : Bool) → b ≡ (a || c) → d ≡ (b || e) → d ≡ (a || (c || e))
 any_or true b c d e was now = now ∙ ap (λ x. x || e) was
 any_or false b c d e was now = now ∙ ap (λ x. x || e) was
@@ -50,7 +46,7 @@ stays_push : (rs : List Reply) (r : Reply) → StaysStopped rs → (list_any is_
 stays_push [] r stays after_stop = (λ stop. tt, tt)
 stays_push (x ∷ rs) r stays after_stop = (
   λ stop. all_push rs r (stays.0 stop) (after_stop (ap (λ b. b || list_any is_stop rs) stop)),
-  stays_push rs r stays.1 (λ some. after_stop (or_some (is_stop x) (list_any is_stop rs) some)),
+  stays_push rs r stays.1 (λ some. after_stop (or_right (is_stop x) (list_any is_stop rs) some)),
 )
 
 -- a command stops a volume exactly where its reply is EIO, and one that is stopped stays so
@@ -135,7 +131,7 @@ runs_more m law cs n before now next c r a b d runs is pushed same lasts stays s
       answered = runs.answered ++ r ∷ [];
       count = length_push runs.answered r ∙ (let one : length runs.answered + 1 ≡ n + 1 = ap (λ k. k + 1) runs.count in one);
       behind = pushed ∙ ap (λ (rs : List Reply). rs ++ r ∷ []) runs.behind ∙ append_assoc before runs.answered (r ∷ []);
-      stays = stays_push runs.answered r runs.stays (λ some. ap is_stop (stays (runs.stops ∙ or_some a.stopped (list_any is_stop runs.answered) some)).0);
+      stays = stays_push runs.answered r runs.stays (λ some. ap is_stop (stays (runs.stops ∙ or_right a.stopped (list_any is_stop runs.answered) some)).0);
       stops = any_or a.stopped b.stopped (list_any is_stop runs.answered) d.stopped (is_stop r) runs.stops (stops_on r b d stays stops) ∙ ap (λ x. a.stopped || x) (sym (any_push is_stop runs.answered r));
       stopped = λ stop.
           let was = runs.stopped stop in

@@ -1,5 +1,5 @@
 -- What counted facts stand for after a change.
-use Rattle.std.specs.Prelude.{◌≡◌, ◌≢◌, ◌⊎◌, ◌<◌, ◌≤◌, ◌+◌, ◌-◌, ◌^◌, min, ℕ, true, false, List, [], ◌∷◌, length, map as list_map, Option, Some, None, is_some, cond}
+use Rattle.std.specs.Prelude.{◌≡◌, ◌≢◌, ◌⊎◌, ◌<◌, ◌≤◌, ◌+◌, ◌-◌, ◌^◌, min, ℕ, true, false, List, [], length, map as list_map, Option, Some, None, is_some, cond}
 use Rattle.std.proofs.Common.{refl, sym, ◌∙◌, ap, subst, inl, inr, arith}
 use Rattle.std.proofs.lemmas.Bool.{cases_eq, cond-true, cond-false}
 use Rattle.std.specs.List.{sum_by}
@@ -7,6 +7,7 @@ use Rattle.std.specs.Ordering.{nat_cmp}
 use Rattle.std.specs.Cmp.{nat_cmp_total}
 use Rattle.std.specs.Cmp.Lexicographic.{slice_cmp, nat_list_cmp_total}
 use Rattle.std.specs.FinMap as map
+use Rattle.std.proofs.lemmas.List.{nil_from_length}
 use Rattle.volume_terms.specs.Sizes.{Sizes, page_slots}
 use Rattle.volume_terms.specs.Rounding.{ceiling}
 use Rattle.posix_profile.specs.State.{Name, Entries, Object, File, Dir, Objects, IsFile, IsDirectory, entries_of}
@@ -444,16 +445,12 @@ module _ (objects : Objects) (o : ℕ) (blank : NamesNothing objects o) (unnamed
       }
 
 -- no objects
-nil_of : {X : Type 0} (xs : List X) → length xs ≡ 0 → xs ≡ []
-nil_of [] is = refl
-nil_of (x ∷ xs) is = absurd (omega arith)
-
 pub empty_counts : (counted : CountedFacts) → ((o : ℕ) → told_at counted o ≡ None) → charge_in counted ≡ 0 → Counts counted map.empty
 empty_counts counted none free = record {
   each = λ o.
       subst (λ (v : Option Object). IsTold map.empty o v (told_at counted o)) (sym (map.get-empty nat_cmp o)) (subst (λ (g : Option ObjectFacts). IsTold map.empty o None g) (sym (none o)) tt);
   charge = free ∙ sym (ap (λ es. sum_by (cost (sizes_in counted)) (list_map (λ (e : ℕ × Object). e.1) es))
-      (nil_of (map.entries (map.empty {X = Object} {R = nat_cmp})) (sym (map.len-entries (map.empty {X = Object} {R = nat_cmp})) ∙ map.len-empty nat_cmp Object)));
+      (nil_from_length (map.entries (map.empty {X = Object} {R = nat_cmp})) (sym (map.len-entries (map.empty {X = Object} {R = nat_cmp})) ∙ map.len-empty nat_cmp Object)));
 }
 
 -- a new object without content or names

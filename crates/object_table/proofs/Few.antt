@@ -7,6 +7,7 @@ use Rattle.std.specs.List.{flat_map, sum_by}
 use Rattle.std.specs.Cmp.{nat_cmp_total}
 use Rattle.std.specs.Cmp.Lexicographic.{nat_list_cmp_total}
 use Rattle.std.specs.FinMap as map
+use Rattle.std.proofs.lemmas.Nat.{mul-le}
 use Rattle.volume_terms.specs.Sizes.{Sizes, IsSizes, page_slots}
 use Rattle.volume_terms.specs.Rounding.{ceiling}
 use Rattle.posix_profile.specs.State.{Name, Entries, Object, File, Dir, Objects, IsDirectory}
@@ -16,7 +17,6 @@ use Rattle.posix_profile.specs.laws.Fresh.{slots_some}
 use Rattle.posix_profile.specs.laws.Link.{Lists, IsSubdirectory, link_pairs_list}
 use Rattle.posix_profile.specs.laws.Map.{Member, get_member, map_member, member_map}
 use Rattle.posix_profile.specs.laws.Name.{name_same}
-use Rattle.posix_profile.specs.laws.Number.{product_le}
 use Rattle.posix_profile.specs.laws.Total.{total_without}
 use Rattle.posix_profile.specs.laws.Write.{ceiling_at_most}
 use Rattle.object_table.specs.Counted.{IsCountable}
@@ -65,14 +65,14 @@ slots_few z sizes = omega (arith, page_few z sizes)
 
 module _ (z : Sizes) (objects : Objects) (countable : IsCountable z objects) where
   slots_charge : page_slots z * charge z objects ≤ 4096 * 2 ^ 48
-  slots_charge = product_le (page_slots z) (charge z objects) 4096 (2 ^ 48) (slots_few z countable.sizes) (omega (arith, countable.few))
+  slots_charge = mul-le (page_slots z) (charge z objects) 4096 (2 ^ 48) (slots_few z countable.sizes) (omega (arith, countable.few))
 
   -- a directory has at most so many entries
   pub entries_few : (d moment : ℕ) (entries : Entries) → map.get objects d ≡ Some (Dir moment entries) → map.len entries ≤ 4096 * 2 ^ 48
   entries_few d moment entries is =
       let cost_charge = total_without nat_cmp_total map.nat_cmp-IsAntisymmetric (cost z) objects d (Dir moment entries) is in
       let le = (ceiling_at_most (map.len entries) (page_slots z) (ceiling (map.len entries) (page_slots z)) (slots_some z countable.sizes)).0 (omega arith) in
-      let part = product_le (page_slots z) (ceiling (map.len entries) (page_slots z)) (page_slots z) (charge z objects) (omega arith) (omega (arith, cost_charge)) in
+      let part = mul-le (page_slots z) (ceiling (map.len entries) (page_slots z)) (page_slots z) (charge z objects) (omega arith) (omega (arith, cost_charge)) in
       let turn : ceiling (map.len entries) (page_slots z) * page_slots z ≡ page_slots z * ceiling (map.len entries) (page_slots z) = grind arith in
       omega (arith, le, part, turn, slots_charge)
 

@@ -15,6 +15,7 @@ use Rattle.std.specs.Map.{lookup}
 use Rattle.std.specs.BTreeMap.{BTreeMap, get, is_at, btree_map_len}
 use Rattle.std.specs.BinaryHeap.{IsUpperBound, heap_items}
 use Rattle.std.specs.declared.cmp.Reverse.{Reverse}
+use Rattle.std.proofs.lemmas.List.FromFn.{length-range_with_len}
 use Rattle.posix_profile.specs.State.{Objects, Object}
 use Rattle.posix_profile.specs.Changes.{new_number}
 use Rattle.posix_profile.specs.laws.Link.{AreDistinct}
@@ -142,10 +143,6 @@ pub first_item : (xs : List (Reverse ℕ)) (r : Reverse ℕ) → nat_lt 0 (lengt
 first_item [] r some is = absurd (false≢true some)
 first_item (x ∷ xs) r some is = (xs, ap (λ y. y ∷ xs) (sym is))
 
-pub no_items : (xs : List (Reverse ℕ)) → length xs ≡ 0 → xs ≡ []
-no_items [] is = refl
-no_items (x ∷ xs) is = absurd (omega arith)
-
 -- the first of those that were given back is taken
 pub took_knows : (old new : FreeNumbers) (before after : ℕ → Bool) (x : Reverse ℕ) → KnowsFree old before → x ≡ slice_index_or (heap_items old.freed) 0 x → IsPermutation (heap_items old.freed) (x ∷ heap_items new.freed)
     → new.low ≡ old.low → Takes before after (next_number old) → KnowsFree new after
@@ -223,17 +220,13 @@ range_distinct : (a n : ℕ) → AreDistinct (range_with_len a n)
 range_distinct a zero = tt
 range_distinct a (suc n) = ((λ is. let m = far_member (a + 1) n a is in absurd (omega (arith, m.0))), range_distinct (a + 1) n)
 
-range_length : (a n : ℕ) → length (range_with_len a n) ≡ n
-range_length a zero = refl
-range_length a (suc n) = omega (arith, range_length (a + 1) n)
-
 pub taken_few : (facts : BTreeMap ℕ (Option ObjectFacts)) (n : ℕ) → AllTaken (taken_in facts) (2 + n) → n ≤ btree_map_len facts
 taken_few facts n all =
     omega (
       arith,
       short (range_with_len 2 n) (list_map (λ (e : ℕ × Option ObjectFacts). e.0) facts.entries) (range_distinct 2 n)
           (λ x is. let m = far_member 2 n x is in entry_of facts.entries x (all x m.0 (omega (arith, m.1)))),
-      range_length 2 n,
+      length-range_with_len 2 n,
       length-map facts.entries (λ (e : ℕ × Option ObjectFacts). e.0),
     )
 

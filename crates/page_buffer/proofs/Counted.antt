@@ -2,6 +2,7 @@
 use Rattle.std.specs.Prelude.{◌≡◌, ◌<◌, ℕ, suc, ◌+◌, List, [], ◌∷◌, ◌++◌, length, take}
 use Rattle.std.proofs.Common.{refl, sym, ◌∙◌, ap, arith, get_or}
 use Rattle.std.proofs.Math.Seq.{take-suc}
+use Rattle.std.proofs.Math.Numerals.{add-one}
 use Rattle.flash_tree.specs.declared.place.FreshPage.{FreshPage}
 use Rattle.chunk_index.specs.declared.index.Index.{Index}
 use Rattle.chunk_index.specs.Maps.{present}
@@ -11,8 +12,5 @@ new_push : (x : Index) (ps : List FreshPage) (p : FreshPage) → new_keys x (ps 
 new_push x [] p = omega arith
 new_push x (q ∷ ps) p = omega (arith, new_push x ps p)
 
-add_one : (n : ℕ) → n + 1 ≡ suc n
-add_one n = omega arith
-
 pub new_more : (x : Index) (pages : List FreshPage) (n : ℕ) (p : FreshPage) → n < length pages → p ≡ get_or pages n p → new_keys x (take (n + 1) pages) ≡ new_keys x (take n pages) + lacks (present x p.key.object p.key.chunk)
-new_more x pages n p lt is = ap (λ k. new_keys x (take k pages)) (add_one n) ∙ ap (new_keys x) (take-suc pages n p lt) ∙ ap (λ (q : FreshPage). new_keys x (take n pages ++ q ∷ [])) (sym is) ∙ new_push x (take n pages) p
+new_more x pages n p lt is = ap (λ k. new_keys x (take k pages)) (add-one n) ∙ ap (new_keys x) (take-suc pages n p lt) ∙ ap (λ (q : FreshPage). new_keys x (take n pages ++ q ∷ [])) (sym is) ∙ new_push x (take n pages) p

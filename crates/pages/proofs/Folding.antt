@@ -1,8 +1,9 @@
 -- The pages of a change that are put behind those of a later one.
-use Rattle.std.specs.Prelude.{◌≡◌, ◌⊎◌, ◌<◌, ◌≤◌, ℕ, zero, suc, ◌+◌, Bool, true, false, not, List, [], ◌∷◌, ◌++◌, length, Option, Some, None, IfNone, is_some, slice_get}
+use Rattle.std.specs.Prelude.{◌≡◌, ◌⊎◌, ◌≤◌, ℕ, zero, suc, ◌+◌, Bool, true, false, not, List, [], ◌∷◌, ◌++◌, length, Option, Some, None, IfNone, is_some, slice_get}
 use Rattle.std.proofs.Common.{refl, sym, ◌∙◌, ap, subst, inl, inr, arith}
 use Rattle.std.proofs.lemmas.Bool.{cond-true, cond-false}
 use Rattle.std.proofs.lemmas.List.{length-append}
+use Rattle.volume_terms.specs.laws.List.{get_push, push_before}
 use Rattle.pages.specs.Maps.{PageMap, is_of, with_pages, without_cuts, IsPageOf, IsCut}
 use Rattle.pages.specs.laws.Maps.{key_cases, cut_here, cut_elsewhere}
 use Rattle.pages.specs.laws.Changes.{pages_append, pages_same, cuts_same, cuts_append}
@@ -13,21 +14,6 @@ use Rattle.pages.specs.declared.change.Cut.{Cut}
 -- a page of a list is one of the longer list, at a later place
 here_cons : (p : FreshPage) (ps : List FreshPage) (o c i : ℕ) → IsPageOf ps o c i → IsPageOf (p ∷ ps) o c (suc i)
 here_cons p ps o c i of = record { page = of.page; there = of.there; object = of.object; chunk = of.chunk }
-
--- the element at a place of a longer list
-get_push : (xs : List FreshPage) (x : FreshPage) (i : ℕ) (e : FreshPage) → slice_get (xs ++ x ∷ []) i ≡ Some e → ((i < length xs) × (slice_get xs i ≡ Some e)) ⊎ ((i ≡ length xs) × (e ≡ x))
-get_push [] x zero e is = inr (refl, cc)
-get_push [] x (suc i) e is = absurd cc
-get_push (y ∷ ys) x zero e is = inl (omega arith, is)
-get_push (y ∷ ys) x (suc i) e is = elim (get_push ys x i e is) [
-  | inl before ↦ inl (omega (arith, before.0), before.1)
-  | inr last ↦ inr (omega (arith, last.0), last.1)
-]
-
-get_kept : (xs : List FreshPage) (x : FreshPage) (i : ℕ) (e : FreshPage) → slice_get xs i ≡ Some e → slice_get (xs ++ x ∷ []) i ≡ Some e
-get_kept [] x i e is = absurd cc
-get_kept (y ∷ ys) x zero e is = is
-get_kept (y ∷ ys) x (suc i) e is = get_kept ys x i e is
 
 -- where one of the pages is of a key, what is behind does not matter
 pages_hide : (ps : List FreshPage) (m n : PageMap) (o c i : ℕ) → IsPageOf ps o c i → with_pages ps m o c ≡ with_pages ps n o c
@@ -117,7 +103,7 @@ put_len ps ps' cuts p put = elim put [
 put_keeps : (ps ps' : List FreshPage) (cuts : List Cut) (p : FreshPage) (o c i : ℕ) → IsPutBehind ps cuts p ps' → IsPageOf ps o c i → IsPageOf ps' o c i
 put_keeps ps ps' cuts p o c i put of = elim put [
   | inr none ↦ subst (λ (qs : List FreshPage). IsPageOf qs o c i) (sym none.1) of
-  | inl new ↦ subst (λ (qs : List FreshPage). IsPageOf qs o c i) (sym new.2) (record { page = of.page; there = get_kept ps p i of.page of.there; object = of.object; chunk = of.chunk })
+  | inl new ↦ subst (λ (qs : List FreshPage). IsPageOf qs o c i) (sym new.2) (record { page = of.page; there = push_before ps p i of.page of.there; object = of.object; chunk = of.chunk })
 ]
 
 -- one whose key is there is left out
@@ -165,10 +151,6 @@ folding_goes cuts first all now now' p rest f put = record {
       let none = put_none now now' cuts p j put (record { page = b.page; there = b.there; object = b.object ∙ sym object; chunk = b.chunk ∙ sym chunk }) in
       inr (omega (arith, ap length none, f.few))
   go o c (suc k) j a b = inl ((k, record { page = a.page; there = a.there; object = a.object; chunk = a.chunk }), put_keeps now now' cuts p o c j put b)
-
-pub no_items : (xs : List FreshPage) → length xs ≡ 0 → xs ≡ []
-no_items [] is = refl
-no_items (x ∷ xs) is = absurd cc
 
 -- where none is left, the pages are those of the later change after the earlier
 pub folding_shows : (cuts : List Cut) (first all now rest : List FreshPage) → Folding cuts first all now rest → rest ≡ [] → (earlier both : List Cut) → both ≡ cuts ++ earlier → (m : PageMap) (o c : ℕ)

@@ -1,7 +1,7 @@
 -- What the loops over the maps count and find.
-use Rattle.std.specs.Prelude.{◌≡◌, ℕ, suc, ◌+◌, Bool, true, false, ◌||◌, List, [], ◌∷◌, map as list_map, filter, length, count_by, Some, nat_eq, cond}
-use Rattle.std.proofs.Common.{refl, sym, ◌∙◌, ap, arith}
-use Rattle.std.specs.List.{list_any, find, range_with_len}
+use Rattle.std.specs.Prelude.{◌≡◌, ℕ, ◌+◌, Bool, true, false, ◌||◌, List, [], ◌∷◌, map as list_map, filter, length, count_by, Some, nat_eq, cond}
+use Rattle.std.proofs.Common.{refl, ◌∙◌, ap, arith}
+use Rattle.std.specs.List.{list_any, find}
 use Rattle.std.specs.Option.{option_map_or}
 use Rattle.std.specs.Global.{Vec}
 use Rattle.std.specs.Ordering.{nat_cmp}
@@ -43,13 +43,6 @@ parent_entries m o sorted = ap (λ es. option_map_or (λ (e : ℕ × Object). e.
 abbrev pub count_left : (p : ℕ → Bool) → List ℕ → ℕ
 count_left p [] = 0
 count_left p (x ∷ xs) = cond (p x) (1 + count_left p xs) (count_left p xs)
-
--- the search among numbers that follow one another
-pub find_hit : (p : ℕ → Bool) (a m k : ℕ) → m ≡ k + 1 → p a ≡ true → find p (range_with_len a m) ≡ Some a
-find_hit p a m k is yes' = let more : m ≡ suc k = omega arith in ap (λ m. find p (range_with_len a m)) more ∙ ap (λ b. cond b (Some a) (find p (range_with_len (a + 1) k))) yes'
-
-pub find_step : (p : ℕ → Bool) (a m k : ℕ) → m ≡ k + 1 → p a ≡ false → find p (range_with_len (a + 1) k) ≡ find p (range_with_len a m)
-find_step p a m k is no' = let more : m ≡ suc k = omega arith in sym (ap (λ m. find p (range_with_len a m)) more ∙ ap (λ b. cond b (Some a) (find p (range_with_len (a + 1) k))) no')
 
 pub count_left_is : (p : ℕ → Bool) (xs : List ℕ) → count_left p xs ≡ count_by p xs
 count_left_is p xs = is_count_by (count_left p) p refl (λ x xs. refl) xs

@@ -1,21 +1,18 @@
 -- What names keep.
-use Rattle.std.specs.Prelude.{◌≡◌, ℕ, Bool, true, false, ◌||◌, List, [], ◌∷◌, length, map as list_map, nat_eq}
-use Rattle.std.proofs.Common.{refl, sym, ◌∙◌, ap, arith}
+use Rattle.std.specs.Prelude.{◌≡◌, ℕ, Bool, true, false, ◌||◌, List, map as list_map, nat_eq}
+use Rattle.std.proofs.Common.{refl, sym, ◌∙◌, ap}
 use Rattle.std.specs.List.{list_any}
 use Rattle.std.specs.Ordering.{nat_cmp}
 use Rattle.std.specs.FinMap as map
+use Rattle.std.proofs.lemmas.List.{nil_from_length}
 use Rattle.volume_terms.specs.Sizes.{root_number}
 use Rattle.posix_profile.specs.State.{Objects, Handle}
 use Rattle.posix_profile.specs.Names.{is_named, settle}
 
-none_of : {A : Type 0} (xs : List A) → length xs ≡ 0 → xs ≡ []
-none_of [] e = refl
-none_of (x ∷ xs) e = absurd (omega arith)
-
 -- no descriptor stands for an object where there is none
 none_open : (o : ℕ) → list_any (λ (h : Handle). nat_eq o h.object) (map.values (map.empty {X = Handle} {R = nat_cmp})) ≡ false
 none_open o = ap (λ (es : List (ℕ × Handle)). list_any (λ (h : Handle). nat_eq o h.object) (list_map (λ (e : ℕ × Handle). e.1) es))
-    (none_of (map.entries (map.empty {X = Handle} {R = nat_cmp})) (sym (map.len-entries (map.empty {X = Handle} {R = nat_cmp})) ∙ map.len-empty nat_cmp Handle))
+    (nil_from_length (map.entries (map.empty {X = Handle} {R = nat_cmp})) (sym (map.len-entries (map.empty {X = Handle} {R = nat_cmp})) ∙ map.len-empty nat_cmp Handle))
 
 or_none : (a b : Bool) → b ≡ false → a ≡ (a || b)
 or_none true b is = refl

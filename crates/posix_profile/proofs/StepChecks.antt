@@ -1,11 +1,12 @@
 -- Small cases of whole commands, worked out on a volume that was just formatted.
-use Rattle.std.specs.Prelude.{◌≡◌, ℕ, Bool, true, false, List, [], ◌∷◌, length, cond, ◌+◌, ◌-◌, ◌^◌, Some, None, pos, negsuc, not}
-use Rattle.std.proofs.Common.{refl, sym, ◌∙◌, ap, arith}
+use Rattle.std.specs.Prelude.{◌≡◌, ℕ, Bool, true, false, [], ◌∷◌, cond, ◌+◌, ◌-◌, ◌^◌, Some, None, pos, negsuc, not}
+use Rattle.std.proofs.Common.{refl, sym, ◌∙◌, ap}
 use Rattle.std.specs.Ordering.{nat_cmp, eq_by_cmp}
 use Rattle.std.specs.Cmp.{nat_cmp_total}
 use Rattle.std.specs.Cmp.Lexicographic.{slice_cmp, nat_list_cmp_total}
 use Rattle.std.specs.FinMap as map
 use Rattle.std.specs.FinMap.Entries.{put, where_key}
+use Rattle.std.proofs.lemmas.List.{nil_from_length}
 use Rattle.posix_profile.specs.State.{Name, Entries, Object, File, Dir, Objects, Handle, Handles, State}
 use Rattle.posix_profile.specs.Paths.{resolve}
 use Rattle.posix_profile.specs.Outcomes.{unless, change_to, at_place}
@@ -24,18 +25,14 @@ use Rattle.posix_profile.specs.declared.reply.Kind.TheVariants as kinds
 use Rattle.posix_profile.specs.declared.reply.Reply.TheVariants as replies
 use Rattle.posix_profile.specs.declared.reply.Errno.TheVariants as errors
 
-nil_of : {A : Type 0} (xs : List A) → length xs ≡ 0 → xs ≡ []
-nil_of [] e = refl
-nil_of (x ∷ xs) e = absurd (omega arith)
-
 no_objects : map.entries (map.empty {X = Object} {R = nat_cmp}) ≡ []
-no_objects = nil_of _ (sym (map.len-entries (map.empty {X = Object} {R = nat_cmp})) ∙ map.len-empty nat_cmp Object)
+no_objects = nil_from_length _ (sym (map.len-entries (map.empty {X = Object} {R = nat_cmp})) ∙ map.len-empty nat_cmp Object)
 
 no_entries : map.len (map.empty {X = ℕ} {R = slice_cmp nat_cmp}) ≡ 0
 no_entries = map.len-empty (slice_cmp nat_cmp) ℕ
 
 no_values : map.entries (map.empty {X = ℕ} {R = slice_cmp nat_cmp}) ≡ []
-no_values = nil_of _ (sym (map.len-entries (map.empty {X = ℕ} {R = slice_cmp nat_cmp})) ∙ no_entries)
+no_values = nil_from_length _ (sym (map.len-entries (map.empty {X = ℕ} {R = slice_cmp nat_cmp})) ∙ no_entries)
 
 root_alone : map.entries fresh.objects ≡ (1, Dir 0 map.empty) ∷ []
 root_alone = map.entries-insert nat_cmp_total (map.empty {X = Object} {R = nat_cmp}) 1 (Dir 0 map.empty) ∙ ap (λ es. put nat_cmp 1 (Dir 0 map.empty) es) no_objects
@@ -97,7 +94,7 @@ left_len : (m : Entries) (k : Name) → map.len (map.remove m k) ≡ cond (map.c
 left_len = map.len-remove nat_list_cmp_total
 
 no_handles : map.entries (map.empty {X = Handle} {R = nat_cmp}) ≡ []
-no_handles = nil_of _ (sym (map.len-entries (map.empty {X = Handle} {R = nat_cmp})) ∙ map.len-empty nat_cmp Handle)
+no_handles = nil_from_length _ (sym (map.len-entries (map.empty {X = Handle} {R = nat_cmp})) ∙ map.len-empty nat_cmp Handle)
 
 ruleset computes = (put_handles, no_handles, keep_objects, kept_object, left_names, left_name, left_len, put_objects, put_names, get_objects, get_names, get_handles, len_objects, len_entries, no_objects, no_values, no_entries, no_object, no_name, no_len, no_handle)
 

@@ -1,6 +1,6 @@
 -- What a state costs, in units of a page's bytes.
 -- From: this project.
-use Rattle.std.specs.Prelude.{ℕ, ◌+◌, ◌-◌, ◌/◌, Bool, length, sum_by, nat_le}
+use Rattle.std.specs.Prelude.{ℕ, ◌+◌, Bool, length, sum_by, nat_le}
 use Rattle.std.specs.FinMap as map
 use Rattle.volume_terms.specs.Sizes.{Sizes, page_slots, capacity}
 use Rattle.volume_terms.specs.Rounding.{ceiling}

@@ -1,8 +1,8 @@
 -- Which states a volume can have.
 -- From: POSIX: the file hierarchy; the ranges are this project's.
-use Rattle.std.specs.Prelude.{◌≡◌, ◌≢◌, ◌⊎◌, ◌<◌, ◌≤◌, ◌^◌, ℕ, true, List, [], ◌∷◌, length, Some, All, Contains}
+use Rattle.std.specs.Prelude.{◌≡◌, ◌⊎◌, ◌<◌, ◌≤◌, ◌^◌, ℕ, true, length, Some}
 use Rattle.std.specs.FinMap as map
-use Rattle.volume_terms.specs.Sizes.{Sizes, greatest_length, name_limit, descriptors, offset_limit, root_number}
+use Rattle.volume_terms.specs.Sizes.{Sizes, greatest_length, descriptors, offset_limit, root_number}
 use Rattle.volume_terms.specs.Names.{AreBytes, IsName}
 use Rattle.posix_profile.specs.State.{Name, Object, File, Dir, Objects, Handle, Handles, State, IsFile, IsDirectory, moment_of}
 use Rattle.posix_profile.specs.Names.{Names, Reached}

@@ -6,12 +6,12 @@ use Rattle.std.specs.Ordering.{nat_cmp}
 use Rattle.std.specs.Cmp.{nat_cmp_total}
 use Rattle.std.specs.Cmp.Lexicographic.{slice_cmp}
 use Rattle.std.specs.FinMap as map
+use Rattle.std.proofs.lemmas.Option.{slice_get_within}
 use Rattle.volume_terms.specs.Sizes.{Sizes, IsSizes}
 use Rattle.posix_profile.specs.State.{Name, Entries, Object, File, Dir, Objects}
 use Rattle.posix_profile.specs.Names.{Names}
 use Rattle.posix_profile.specs.Charge.{fits}
 use Rattle.posix_profile.specs.laws.Map.{get_here, get_there, insert_cases}
-use Rattle.flash_tree.specs.laws.Tree.{slice_get_within}
 use Rattle.object_table.specs.Built.{IsBare, CanCome}
 use Rattle.tree_walk.specs.Walks.{IsOn, IsOnce}
 use Rattle.tree_walk.specs.declared.head.Head.{Head}

@@ -1,17 +1,11 @@
 -- Elements of lists by their places, and what an option holds.
-use Rattle.std.specs.Prelude.{◌≡◌, ◌⊎◌, ◌+◌, ℕ, zero, suc, List, [], ◌∷◌, ◌++◌, length, slice_get, map as list_map, Option, Some, None}
-use Rattle.std.proofs.Common.{refl, sym, ap, subst, inl, inr, arith}
+use Rattle.std.specs.Prelude.{◌≡◌, ◌⊎◌, ◌+◌, ℕ, zero, suc, List, [], ◌∷◌, ◌++◌, length, slice_get, Option, Some, None}
+use Rattle.std.proofs.Common.{refl, subst, inl, inr, arith}
 
 -- what cannot hold a value is nothing
 pub none_of : {A : Type 0} (x : Option A) → ((v : A) → x ≡ Some v → ⊥) → x ≡ None
 none_of None no' = refl
 none_of (Some v) no' = absurd (no' v refl)
-
--- options with the same values are one
-pub same_options : {A : Type 0} (x y : Option A) → ((v : A) → x ≡ Some v → y ≡ Some v) → ((v : A) → y ≡ Some v → x ≡ Some v) → x ≡ y
-same_options None None f g = refl
-same_options (Some v) y f g = sym (f v refl)
-same_options None (Some v) f g = g v refl
 
 -- an element of a list is one of its first part or of its rest
 pub at_append : {A : Type 0} (xs ys : List A) (i : ℕ) (x : A) → slice_get (xs ++ ys) i ≡ Some x
@@ -31,14 +25,3 @@ append_first (y ∷ xs) ys (suc i) x is = append_first xs ys i x is
 pub append_rest : {A : Type 0} (xs ys : List A) (k : ℕ) (x : A) → slice_get ys k ≡ Some x → slice_get (xs ++ ys) (length xs + k) ≡ Some x
 append_rest [] ys k x is = subst (λ n. slice_get ys n ≡ Some x) (let same : k ≡ 0 + k = omega arith in same) is
 append_rest (y ∷ xs) ys k x is = subst (λ n. slice_get (y ∷ (xs ++ ys)) n ≡ Some x) (let same : suc (length xs + k) ≡ suc (length xs) + k = omega arith in same) (append_rest xs ys k x is)
-
--- an element of a mapped list comes from one of the list
-pub at_mapped : {A B : Type 0} (f : A → B) (xs : List A) (k : ℕ) (y : B) → slice_get (list_map f xs) k ≡ Some y → (x : A) × (slice_get xs k ≡ Some x) × (f x ≡ y)
-at_mapped f [] k y is = absurd cc
-at_mapped f (x ∷ xs) zero y is = let same : f x ≡ y = cc in (x, refl, same)
-at_mapped f (x ∷ xs) (suc k) y is = at_mapped f xs k y is
-
-pub mapped_at : {A B : Type 0} (f : A → B) (xs : List A) (k : ℕ) (x : A) → slice_get xs k ≡ Some x → slice_get (list_map f xs) k ≡ Some (f x)
-mapped_at f [] k x is = absurd cc
-mapped_at f (y ∷ xs) zero x is = let same : y ≡ x = cc in ap (λ v. Some (f v)) same
-mapped_at f (y ∷ xs) (suc k) x is = mapped_at f xs k x is

@@ -6,6 +6,7 @@ use Rattle.std.specs.Cmp.{nat_cmp_total}
 use Rattle.std.specs.Cmp.Lexicographic.{nat_list_cmp_total}
 use Rattle.std.specs.FinMap as map
 use Rattle.volume_terms.specs.Sizes.{Sizes, IsSizes}
+use Rattle.flash_tree.specs.laws.OneTree.{same_options}
 use Rattle.posix_profile.specs.State.{Name, Entries, Object, File, Dir, Objects, IsDirectory, entries_of}
 use Rattle.posix_profile.specs.Names.{Names}
 use Rattle.posix_profile.specs.Changes.{with_name}
@@ -16,7 +17,7 @@ use Rattle.posix_profile.specs.laws.Map.{insert_cases}
 use Rattle.posix_profile.specs.laws.Name.{name_same, entry_named}
 use Rattle.object_table.specs.Counted.{GetsName}
 use Rattle.tree_table.specs.Building.{IsPartOf, ArePartOf, IsNameless}
-use Rattle.tree_table.proofs.Elements.{none_of, same_options}
+use Rattle.tree_table.proofs.Elements.{none_of}
 use Rattle.tree_table.proofs.Parts.{part_countable}
 use Rattle.tree_table.proofs.Slots.{NamedSlot}
 

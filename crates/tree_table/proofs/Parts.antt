@@ -1,15 +1,16 @@
 -- What came of the objects so far costs no more than all of them.
-use Rattle.std.specs.Prelude.{◌≡◌, ◌≤◌, ℕ, List, [], ◌∷◌, length, map as list_map, sum_by, Some, true}
-use Rattle.std.proofs.Common.{refl, sym, ◌∙◌, ap, arith}
+use Rattle.std.specs.Prelude.{◌≡◌, ◌≤◌, ℕ, Some, true}
+use Rattle.std.proofs.Common.{sym, ◌∙◌, ap, arith}
 use Rattle.std.proofs.lemmas.Bool.{leb-true}
-use Rattle.std.proofs.lemmas.List.Sums.{sum_by-cons}
 use Rattle.std.specs.Cmp.{nat_cmp_total}
 use Rattle.std.specs.Cmp.Lexicographic.{nat_list_cmp_total}
 use Rattle.std.specs.FinMap as map
+use Rattle.std.proofs.lemmas.List.{length-map}
 use Rattle.volume_terms.specs.Sizes.{Sizes, IsSizes, capacity, page_slots}
+use Rattle.volume_terms.specs.laws.List.{sum_ones}
+use Rattle.volume_terms.specs.laws.Rounding.{ceiling_le}
 use Rattle.posix_profile.specs.State.{Name, Entries, Object, File, Dir, Objects}
 use Rattle.posix_profile.specs.Charge.{cost, charge, fits}
-use Rattle.posix_profile.specs.laws.Charge.{ceiling_le}
 use Rattle.posix_profile.specs.laws.Name.{name_same}
 use Rattle.posix_profile.specs.laws.Number.{capacity_few}
 use Rattle.posix_profile.specs.laws.Total.{total, total_le}
@@ -18,16 +19,8 @@ use Rattle.tree_table.specs.Building.{IsPartOf, ArePartOf}
 
 -- ---- entries
 
-ones : {A : Type 0} (xs : List A) → sum_by (λ _. 1) xs ≡ length xs
-ones [] = refl
-ones (x ∷ xs) = omega (arith, sum_by-cons (λ _. 1) x xs, ones xs)
-
-pub len_mapped : {A B : Type 0} (f : A → B) (xs : List A) → length (list_map f xs) ≡ length xs
-len_mapped f [] = refl
-len_mapped f (x ∷ xs) = omega (arith, len_mapped f xs)
-
 len_is : (entries : Entries) → total (λ _. 1) entries ≡ map.len entries
-len_is entries = ones (map.values entries) ∙ len_mapped (λ e. e.1) (map.entries entries) ∙ sym (map.len-entries entries)
+len_is entries = sum_ones (map.values entries) ∙ length-map (map.entries entries) (λ (e : Name × ℕ). e.1) ∙ sym (map.len-entries entries)
 
 -- entries that are among others are no more
 fewer : (some all : Entries) → ((name : Name) (o : ℕ) → map.get some name ≡ Some o → map.get all name ≡ Some o) → map.len some ≤ map.len all

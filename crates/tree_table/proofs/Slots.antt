@@ -7,6 +7,7 @@ use Rattle.std.specs.Cmp.Lexicographic.{nat_list_cmp_total}
 use Rattle.std.specs.FinMap as map
 use Rattle.page_tags.specs.Slots.{Entry}
 use Rattle.volume_terms.specs.Sizes.{Sizes}
+use Rattle.volume_terms.specs.laws.List.{mapped_at, at_mapped}
 use Rattle.posix_profile.specs.State.{Name, Entries, Object, File, Dir, Objects}
 use Rattle.posix_profile.specs.Names.{Names}
 use Rattle.flash_tree.specs.Tree.{NewestMap, IsSingle, IsPageSize, ReadsAs, Shows}
@@ -17,7 +18,7 @@ use Rattle.flash_tree.specs.laws.Slot.{entry_slot}
 use Rattle.tree_walk.specs.Trees.{AreNamesOf, name_in, named_in}
 use Rattle.tree_walk.specs.Walks.{IsOnce}
 use Rattle.tree_walk.specs.declared.tree.NamedObject.{NamedObject}
-use Rattle.tree_table.proofs.Elements.{at_append, append_first, append_rest, at_mapped, mapped_at}
+use Rattle.tree_table.proofs.Elements.{at_append, append_first, append_rest}
 
 -- a slot of a directory
 pub record NamedSlot : Type 0 where

@@ -5,15 +5,12 @@ use Rattle.std.proofs.lemmas.List.Sums.{sum_by-cons}
 use Rattle.std.specs.Ordering.{nat_cmp}
 use Rattle.std.specs.Cmp.{nat_cmp_total}
 use Rattle.std.specs.FinMap as map
+use Rattle.std.proofs.lemmas.List.{nil_from_length}
 use Rattle.posix_profile.specs.State.{Object, Objects}
 use Rattle.posix_profile.specs.laws.Map.{get_removed, remove_cases}
 use Rattle.posix_profile.specs.laws.Total.{total, total_without}
 use Rattle.tree_walk.specs.Walks.{IsOn, IsOnce}
 use Rattle.tree_table.proofs.Elements.{none_of}
-
-no_more : {A : Type 0} (xs : List A) → length xs ≡ 0 → xs ≡ []
-no_more [] is = refl
-no_more (x ∷ xs) is = absurd (omega (arith, is))
 
 pub summed : (f : Object → ℕ) (g : ℕ → ℕ) (xs : List ℕ) (m : Objects) → IsOnce xs → ((i o : ℕ) → slice_get xs i ≡ Some o → (x : Object) × (map.get m o ≡ Some x) × (g o ≡ f x))
     → ((o : ℕ) (x : Object) → map.get m o ≡ Some x → IsOn xs o) → sum_by g xs ≡ total f m
@@ -21,7 +18,7 @@ summed f g [] m once there listed =
     let none : m ≡ map.empty = map.same_map nat_cmp_total map.nat_cmp-IsAntisymmetric m map.empty (λ q.
     none_of (map.get m q) (λ x is. nothing q (listed q x is)) ∙ sym (map.get-empty nat_cmp q)) in
     let len : length (map.entries m) ≡ 0 = sym (map.len-entries m) ∙ ap map.len none ∙ map.len-empty nat_cmp Object in
-    sym (ap (λ (es : List (ℕ × Object)). sum_by f (list_map (λ (e : ℕ × Object). e.1) es)) (no_more (map.entries m) len))
+    sym (ap (λ (es : List (ℕ × Object)). sum_by f (list_map (λ (e : ℕ × Object). e.1) es)) (nil_from_length (map.entries m) len))
   where
     nothing : (q : ℕ) → IsOn [] q → ⊥
     nothing q (i, is) = cc

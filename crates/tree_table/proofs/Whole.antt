@@ -3,19 +3,19 @@ use Rattle.std.specs.Prelude.{◌≡◌, ◌<◌, ◌+◌, ℕ, zero, suc, List,
 use Rattle.std.proofs.Common.{refl, sym, ◌∙◌, ap, subst, inl, inr, arith}
 use Rattle.std.proofs.lemmas.Bool.{cases_lt}
 use Rattle.std.specs.FinMap as map
+use Rattle.std.proofs.lemmas.Option.{slice_get_within}
 use Rattle.page_tags.specs.Slots.{Entry}
 use Rattle.volume_terms.specs.Sizes.{Sizes, root_number}
+use Rattle.volume_terms.specs.laws.List.{mapped_at, slice_get_there}
 use Rattle.posix_profile.specs.State.{Object, Dir, Objects}
 use Rattle.posix_profile.specs.Names.{Reached, root, below}
 use Rattle.flash_tree.specs.Tree.{NewestMap, IsSingle, IsPageSize, Shows}
 use Rattle.flash_tree.specs.Mount.{Leads, Finds, with_new, ListEnd, Wrongly, Wholly, GoesThrough, ends, stops, goes}
-use Rattle.flash_tree.specs.laws.Finding.{slice_get_there, one_finding}
+use Rattle.flash_tree.specs.laws.Finding.{one_finding}
 use Rattle.flash_tree.specs.laws.Shown.{IsThere, Each, ends_well}
 use Rattle.flash_tree.specs.laws.Slot.{entry_slot}
-use Rattle.flash_tree.specs.laws.Tree.{slice_get_within}
 use Rattle.tree_walk.specs.Walks.{IsOn, IsOnce}
 use Rattle.tree_walk.specs.laws.Lists.{added}
-use Rattle.tree_table.proofs.Elements.{mapped_at}
 
 module _ (z : Sizes) (size : IsPageSize z.page_bytes) (m : NewestMap) (single : IsSingle m) where
   -- what the first n of the list name stands on it

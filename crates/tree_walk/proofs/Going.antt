@@ -1,15 +1,16 @@
 -- A walk goes on by one object.
-use Rattle.std.specs.Prelude.{◌≡◌, ◌≢◌, ◌⊎◌, ◌<◌, ◌≤◌, ◌+◌, ℕ, zero, suc, List, [], ◌∷◌, slice_get, map as list_map, Some}
+use Rattle.std.specs.Prelude.{◌≡◌, ◌≢◌, ◌⊎◌, ◌<◌, ◌≤◌, ◌+◌, ℕ, zero, suc, List, [], ◌∷◌, slice_get, Some}
 use Rattle.std.proofs.Common.{refl, sym, ◌∙◌, ap, subst, inl, inr, arith}
 use Rattle.std.proofs.lemmas.Bool.{cases_eq, cases_lt, ne_eqb}
 use Rattle.std.specs.BTreeMap as table
 use Rattle.std.specs.Ordering.{nat_cmp}
+use Rattle.std.proofs.lemmas.Option.{slice_get_within}
 use Rattle.page_tags.specs.Slots.{Entry}
 use Rattle.flash_tree.specs.Tree.{NewestMap, IsSingle, IsPageSize}
-use Rattle.flash_tree.specs.laws.Finding.{slice_get_there, one_finding}
-use Rattle.flash_tree.specs.laws.Tree.{slice_get_within}
+use Rattle.flash_tree.specs.laws.Finding.{one_finding}
 use Rattle.flash_tree.specs.Mount.{Leads, Finds, GoesThrough, goes}
 use Rattle.volume_terms.specs.Sizes.{Sizes, root_number}
+use Rattle.volume_terms.specs.laws.List.{at_mapped, slice_get_there}
 use Rattle.tree_walk.specs.Heads.{SaysHead}
 use Rattle.tree_walk.specs.Trees.{AreNamesOf}
 use Rattle.tree_walk.specs.Visits.{IsVisited}
@@ -20,19 +21,13 @@ use Rattle.tree_walk.specs.declared.tree.NamedObject.{NamedObject}
 use Rattle.tree_walk.specs.declared.walking.WalkState.{WalkState}
 use Rattle.tree_walk.specs.laws.Lists.{IsAdded, added}
 
--- an object of slots stands in one
-pub at_mapped : (slots : List Entry) (k x : ℕ) → slice_get (list_map (λ entry. entry.object) slots) k ≡ Some x → (e : Entry) × (slice_get slots k ≡ Some e) × (e.object ≡ x)
-at_mapped [] k x is = absurd cc
-at_mapped (s ∷ slots) zero x is = let same : s.object ≡ x = cc in (s, refl, same)
-at_mapped (s ∷ slots) (suc k) x is = at_mapped slots k x is
-
 -- the root is not named
 at_least_2 : (z : Sizes) (m : NewestMap) (o : ℕ) (named : List ℕ) → Finds z m o (Leads named) → (i x : ℕ) → slice_get named i ≡ Some x → 2 ≤ x
 at_least_2 z m o named (inl (f, has, kind, chunks, none)) i x is = absurd (nothing (ap (λ xs. slice_get xs i) (sym none) ∙ is)) where
   nothing : slice_get [] i ≡ Some x → ⊥
   nothing at = cc
 at_least_2 z m o named (inr (f, has, kind, slots, are, all)) i x is =
-    let e = at_mapped slots i x (ap (λ xs. slice_get xs i) (sym all) ∙ is) in
+    let e = at_mapped (λ (entry : Entry). entry.object) slots i x (ap (λ xs. slice_get xs i) (sym all) ∙ is) in
     let slot = are.each i e.0 e.1 in
     omega (arith, slot.2.object.0, e.2)
 

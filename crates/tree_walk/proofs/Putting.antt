@@ -10,9 +10,10 @@ use Rattle.std.specs.Ordering.{nat_cmp, is_eq}
 use Rattle.std.specs.declared.cmp.Ordering.TheVariants as orderings
 use Rattle.std.specs.Global.{Vec}
 use Rattle.std.proofs.Common.{refl, sym, ◌∙◌, ap, subst, inl, inr, eq-eqb}
-use Rattle.std.proofs.lemmas.Bool.{cases_eq, cases_order, cond-true, cond-false, ne_eqb, true≢false}
+use Rattle.std.proofs.lemmas.Bool.{cases_eq, cond-true, cond-false, ne_eqb, true≢false}
 use Rattle.std.proofs.lemmas.List.Folds.{list_any-append}
 use Rattle.volume_terms.specs.laws.List.{push_last}
+use Rattle.volume_terms.specs.laws.Number.{not_at}
 use Rattle.flash_tree.specs.Mount.{with_new}
 use Rattle.tree_walk.specs.Trees.{named_in}
 use Rattle.tree_walk.specs.Walks.{IsAgain, Knows, HasAgain, Puts, Visits}
@@ -27,19 +28,12 @@ use Rattle.tree_walk.specs.laws.Lists.{of_on, on_of, not_on, with_new_first, aga
 at_same : (k q : ℕ) → q ≡ k → is_at (nat_cmp k) q ≡ true
 at_same k q same = ap is_eq (sym (nat_cmp_is k q orderings.Equal (sym same)))
 
-at_other : (k q : ℕ) → q ≢ k → is_at (nat_cmp k) q ≡ false
-at_other k q ne = elim (cases_order k q) [
-  | inl same ↦ absurd (ne (sym same))
-  | inr (inl lt) ↦ ap is_eq (sym (nat_cmp_is k q orderings.Less lt))
-  | inr (inr gt) ↦ ap is_eq (sym (nat_cmp_is k q orderings.Greater gt))
-]
-
 module _ (old new : BTreeSet ℕ) (k : ℕ) (u : set.Updates nat_cmp old new k true) where
   has_here : (q : ℕ) → q ≡ k → set.contains nat_cmp new q ≡ true
   has_here q same = u.0 q ∙ cond-true _ _ _ (at_same k q same)
 
   has_there : (q : ℕ) → q ≢ k → set.contains nat_cmp new q ≡ set.contains nat_cmp old q
-  has_there q ne = u.0 q ∙ cond-false _ _ _ (at_other k q ne)
+  has_there q ne = u.0 q ∙ cond-false _ _ _ (not_at k q ne)
 
 -- ---- one object
 
@@ -147,6 +141,6 @@ visits o visited old mid new p objects known again updates names = record {
   knows = λ q. ap (λ (s : BTreeSet ℕ). set.contains nat_cmp s q) known ∙ p.knows q ∙ ap (λ (v : Vec ℕ). list_any (nat_eq q) v.items) (sym objects);
   again = λ q. (λ has. (p.again q).0 (ap (λ (s : BTreeSet ℕ). set.contains nat_cmp s q) (sym again) ∙ has), λ is. ap (λ (s : BTreeSet ℕ). set.contains nat_cmp s q) again ∙ (p.again q).1 is);
   here = updates.0 o ∙ cond-true _ _ _ (at_same o o refl);
-  others = λ q ne. updates.0 q ∙ cond-false _ _ _ (at_other o q (λ same. true≢false (sym (eq-eqb q o same) ∙ ne))) ∙ ap (λ (hs : BTreeMap ℕ Head). table.get nat_cmp hs q) p.heads;
+  others = λ q ne. updates.0 q ∙ cond-false _ _ _ (not_at o q (λ same. true≢false (sym (eq-eqb q o same) ∙ ne))) ∙ ap (λ (hs : BTreeMap ℕ Head). table.get nat_cmp hs q) p.heads;
   names = names ∙ ap (λ (v : Vec NamedObject). v.items ++ named_in o visited.named.items) p.names;
 }

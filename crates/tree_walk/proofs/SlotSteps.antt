@@ -14,11 +14,9 @@ use Rattle.posix_profile.specs.State.{Name, Entries}
 use Rattle.posix_profile.specs.laws.Map.{get_here, get_there}
 use Rattle.volume_terms.specs.Sizes.{Sizes, page_slots}
 use Rattle.volume_terms.specs.laws.List.{get_push, push_before, push_last, same_or_not}
+use Rattle.posix_profile.specs.laws.Name.{name_same}
 use Rattle.tree_walk.specs.SlotLists.{TakesEntry, TakesNone, AreNamesOf, HasSlots, LacksOf}
 use Rattle.tree_walk.specs.declared.directory.Slots.{Slots}
-
-antisymmetric : map.IsAntisymmetric (slice_cmp nat_cmp)
-antisymmetric = map.slice_cmp-IsAntisymmetric map.nat_cmp-IsAntisymmetric
 
 -- a key has one page
 pub one_page : (m : PageMap) (o c : ℕ) (xs ys : List ℕ) → m o c ≡ Some xs → m o c ≡ Some ys → xs ≡ ys
@@ -27,10 +25,10 @@ one_page m o c xs ys x y = let two : Some xs ≡ Some ys = sym x ∙ y in cc
 -- ---- the names that were seen
 
 put_here : (names : Entries) (name : Name) (o : ℕ) → map.get (map.insert names name o) name ≡ Some o
-put_here names name o = get_here nat_list_cmp_total antisymmetric names name o
+put_here names name o = get_here nat_list_cmp_total name_same names name o
 
 put_there : (names : Entries) (name : Name) (o : ℕ) (other : Name) → other ≢ name → map.get (map.insert names name o) other ≡ map.get names other
-put_there names name o other ne = get_there nat_list_cmp_total antisymmetric names name o other ne
+put_there names name o other ne = get_there nat_list_cmp_total name_same names name o other ne
 
 put_some : (names : Entries) (name : Name) (o : ℕ) (other : Name) → map.get names other ≢ None → map.get (map.insert names name o) other ≢ None
 put_some names name o other some none = elim (same_or_not other name) [
@@ -137,10 +135,6 @@ module _ (z : Sizes) (m : PageMap) (d c : ℕ) where
       let n : ℕ = page_slots z in
       let here : (c * n + 0) / n ≡ c = div-mul-add c n 0 (omega (arith, some)) in
       inl (c * n + 0, omega (arith, within), λ e s. let two : None ≡ Some s.0 = sym is ∙ subst (λ j. m d (1 + j) ≡ Some s.0) here s.1 in absurd cc)
-
--- so many slots fit a page
-pub slots_fit : (n size count : ℕ) → n ≡ size → 272 * count ≤ size → count ≤ n / 272
-slots_fit n size count same room = omega (arith, same, room)
 
 -- what is no slot, or has a name that was seen, makes the directory damaged
 pub taken_none : (z : Sizes) (m : PageMap) (d c k : ℕ) (page : List ℕ) (total : ℕ) (old : Slots) → k < page_slots z → c * page_slots z + k < total → m d (1 + c) ≡ Some page

@@ -1,23 +1,18 @@
 -- Of a tree that was gone through wholly: a directory that was named again is named by two slots, and the other way round.
-use Rattle.std.specs.Prelude.{◌≡◌, ◌<◌, ℕ, zero, suc, List, [], ◌∷◌, length, slice_get, map as list_map, Some}
+use Rattle.std.specs.Prelude.{◌≡◌, ◌<◌, ℕ, List, [], ◌∷◌, length, slice_get, Some}
 use Rattle.std.proofs.Common.{sym, ◌∙◌, ap, subst, inl, inr, arith}
 use Rattle.std.proofs.lemmas.Bool.{cases_order}
+use Rattle.std.proofs.lemmas.Option.{slice_get_within}
 use Rattle.page_tags.specs.Headers.{Fields}
 use Rattle.page_tags.specs.Slots.{Entry}
 use Rattle.flash_tree.specs.Tree.{NewestMap, IsSingle, IsPageSize}
-use Rattle.flash_tree.specs.laws.Finding.{slice_get_there, same_header, kinds_apart}
+use Rattle.flash_tree.specs.laws.Finding.{same_header, kinds_apart}
 use Rattle.flash_tree.specs.laws.OneTree.{one_slot}
-use Rattle.flash_tree.specs.laws.Tree.{slice_get_within}
 use Rattle.flash_tree.specs.Mount.{Leads, Finds, Wholly, GoesThrough, ends, IsSlotIn, NamesTwice}
 use Rattle.volume_terms.specs.Sizes.{Sizes, root_number}
+use Rattle.volume_terms.specs.laws.List.{at_mapped, mapped_at, slice_get_there}
 use Rattle.tree_walk.specs.Walks.{IsNamedAt, IsNamedTwice, IsGoing, IsDirectoryAgain}
 use Rattle.tree_walk.specs.declared.walking.WalkState.{WalkState}
-use Rattle.tree_walk.proofs.Going.{at_mapped}
-
-mapped_at : (slots : List Entry) (k : ℕ) (e : Entry) → slice_get slots k ≡ Some e → slice_get (list_map (λ entry. entry.object) slots) k ≡ Some e.object
-mapped_at [] k e is = absurd cc
-mapped_at (s ∷ slots) zero e is = let same : s ≡ e = cc in ap (λ (x : Entry). Some x.object) same
-mapped_at (s ∷ slots) (suc k) e is = mapped_at slots k e is
 
 module _ (z : Sizes) (size : IsPageSize z.page_bytes) (m : NewestMap) (single : IsSingle m) (n : ℕ) (walk : WalkState) (going : IsGoing z m n walk) (all : length walk.objects.items ≡ n) where
   abbrev list : List ℕ
@@ -34,7 +29,7 @@ module _ (z : Sizes) (size : IsPageSize z.page_bytes) (m : NewestMap) (single : 
       nothing : slice_get [] i ≡ Some x → ⊥
       nothing at = cc
     go named (inr (f, has, kind, slots, are, objects)) is =
-        let e = at_mapped slots i x (ap (λ xs. slice_get xs i) (sym objects) ∙ is) in
+        let e = at_mapped (λ (entry : Entry). entry.object) slots i x (ap (λ xs. slice_get xs i) (sym objects) ∙ is) in
         (e.0, record { place = p; listed = a.listed; fields = f; has = has; kind = kind; within = omega (arith, are.size, slice_get_within slots i e.0 e.1); slot = are.each i e.0 e.1 }, e.2)
 
   -- and a slot is a name
@@ -50,7 +45,7 @@ module _ (z : Sizes) (size : IsPageSize z.page_bytes) (m : NewestMap) (single : 
           let len : f.length ≡ s.fields.length = ap (λ (x : Fields). x.length) fields in
           let x = slice_get_there slots i (omega (arith, are.size, len, s.within)) in
           let one : x.0 ≡ e = one_slot z size.most m single d i x.0 e (are.each i x.0 x.1) s.slot in
-          ap (λ xs. slice_get xs i) objects ∙ mapped_at slots i e (x.1 ∙ ap Some one)
+          ap (λ xs. slice_get xs i) objects ∙ mapped_at (λ (entry : Entry). entry.object) slots i e (x.1 ∙ ap Some one)
 
   pub twice_names : (o : ℕ) → IsDirectoryAgain walk o → NamesTwice z m list
   twice_names o d =

@@ -1,3 +1,4 @@
 pub mod List
 pub mod Name
+pub mod Number
 pub mod Rounding

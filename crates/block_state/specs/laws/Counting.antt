@@ -2,7 +2,7 @@
 use Rattle.std.specs.Prelude.{◌≡◌, ◌≢◌, ◌<◌, ◌≤◌, ℕ, zero, suc, ◌+◌, Bool, true, false, cond, ◌&&◌, []}
 use Rattle.std.specs.List.{range_with_len, sum_by}
 use Rattle.std.proofs.Common.{refl, sym, ap, arith, ◌∙◌, inl, inr}
-use Rattle.std.proofs.lemmas.Bool.{cases_eq}
+use Rattle.std.proofs.lemmas.Bool.{cases_eq, and_left, and_right}
 use Rattle.std.proofs.lemmas.List.Sums.{sum_by-cons}
 use Rattle.std.proofs.Math.Numerals.{add-one}
 use Rattle.block_state.specs.Counting.{how_many, sum_below}
@@ -94,13 +94,6 @@ counts_less f g b n lt was is same =
     let none : one_if g b ≡ 0 = ap (λ x. cond x 1 0) is in
     omega (arith, changed, one, none)
 
-and_false : (x y : Bool) → y ≡ false → (x && y) ≡ false
-and_false true y is = is
-and_false false y is = refl
-
-and_false_left : (x y : Bool) → x ≡ false → (x && y) ≡ false
-and_false_left x y is = ap (λ z. z && y) is
-
 and_same : (x y : Bool) → y ≡ x → (x && y) ≡ x
 and_same true y is = is
 and_same false y is = refl
@@ -114,12 +107,12 @@ pub counts_swap : (f g : ℕ → Bool) (v w n : ℕ) → v < n → w < n → f w
     → ((k : ℕ) → k ≢ v → k ≢ w → g k ≡ f k) → how_many f n ≡ how_many g n
 counts_swap f g v w n v_lt w_lt f_w g_w f_v g_v same =
     let h : ℕ → Bool = λ k. f k && g k in
-    let one : how_many f n ≡ how_many h n + 1 = counts_less f h w n w_lt f_w (and_false (f w) (g w) g_w) (λ k ne. elim (cases_eq k v) [
-      | inl e ↦ and_false_left (f k) (g k) (ap f e ∙ f_v) ∙ sym (ap f e ∙ f_v)
+    let one : how_many f n ≡ how_many h n + 1 = counts_less f h w n w_lt f_w (and_right (f w) (g w) g_w) (λ k ne. elim (cases_eq k v) [
+      | inl e ↦ and_left (f k) (g k) (ap f e ∙ f_v) ∙ sym (ap f e ∙ f_v)
       | inr apart ↦ and_same (f k) (g k) (same k apart ne)
     ]) in
-    let two : how_many g n ≡ how_many h n + 1 = counts_less g h v n v_lt g_v (and_false_left (f v) (g v) f_v) (λ k ne. elim (cases_eq k w) [
-      | inl e ↦ and_false (f k) (g k) (ap g e ∙ g_w) ∙ sym (ap g e ∙ g_w)
+    let two : how_many g n ≡ how_many h n + 1 = counts_less g h v n v_lt g_v (and_left (f v) (g v) f_v) (λ k ne. elim (cases_eq k w) [
+      | inl e ↦ and_right (f k) (g k) (ap g e ∙ g_w) ∙ sym (ap g e ∙ g_w)
       | inr apart ↦ and_same_right (f k) (g k) (same k ne apart)
     ]) in
     omega (arith, one, two)

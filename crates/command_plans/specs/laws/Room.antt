@@ -14,10 +14,11 @@ use Rattle.volume_terms.specs.Rounding.{ceiling}
 use Rattle.posix_profile.specs.laws.Charge.{fits_less, without_less}
 use Rattle.posix_profile.specs.Changes.{new_number, with_object, with_name, without_name, with_bytes}
 use Rattle.posix_profile.specs.laws.Map.{get_there, remove_cases}
-use Rattle.posix_profile.specs.laws.Number.{new_number_is, product_le, capacity_few}
+use Rattle.posix_profile.specs.laws.Number.{new_number_is, capacity_few}
 use Rattle.posix_profile.specs.laws.Total.{total_insert, total_without, total_replace, total_le}
 use Rattle.posix_profile.specs.laws.Write.{charge_with_bytes, ceiling_at_most}
 use Rattle.std.specs.Ordering.{nat_cmp}
+use Rattle.std.proofs.lemmas.Nat.{mul-le}
 use Rattle.posix_profile.specs.declared.reply.Kind.{Kind}
 use Rattle.posix_profile.specs.declared.reply.Kind.TheVariants as kinds
 use Rattle.object_store.specs.Changes.{empty_object, without}
@@ -144,7 +145,7 @@ pub units_few : (z : Sizes) (objects : Objects) (o : ℕ) (bytes : List ℕ) →
 units_few z objects o bytes sizes long =
     let some = page_some z sizes in
     let few : ceiling (length bytes) z.page_bytes ≤ length bytes =
-    (ceiling_at_most (length bytes) z.page_bytes (length bytes) some).1 (omega (arith, product_le (length bytes) 1 (length bytes) z.page_bytes (omega arith) some)) in
+    (ceiling_at_most (length bytes) z.page_bytes (length bytes) some).1 (omega (arith, mul-le (length bytes) 1 (length bytes) z.page_bytes (omega arith) some)) in
     omega (arith, few, capacity_few z sizes, length_few z sizes, long)
 
 pub page_few : (z : Sizes) → IsSizes z → z.page_bytes ≤ 4096

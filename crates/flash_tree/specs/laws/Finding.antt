@@ -1,22 +1,17 @@
 -- Going through a list of objects finds one thing of each, and so ends in one way.
-use Rattle.std.specs.Prelude.{◌≡◌, ◌⊎◌, ◌<◌, ℕ, zero, suc, ◌+◌, List, [], ◌∷◌, length, slice_get, map as list_map, Some}
+use Rattle.std.specs.Prelude.{◌≡◌, ◌⊎◌, ℕ, ◌+◌, List, length, slice_get, map as list_map, Some}
 use Rattle.std.proofs.Common.{refl, sym, ◌∙◌, ap, subst, inl, inr, arith}
+use Rattle.std.proofs.lemmas.Option.{slice_get_within}
 use Rattle.page_tags.specs.Headers.{Fields, IsHeader, IsHeaderOf, IsFirstFault, header_bytes}
 use Rattle.page_tags.specs.laws.Header.{header_or_fault, one_first_fault}
 use Rattle.page_tags.specs.Slots.{Entry}
 use Rattle.page_tags.specs.declared.header.HeaderFault.{HeaderFault}
 use Rattle.page_tags.specs.declared.header.ObjectKind.TheVariants as kinds
 use Rattle.volume_terms.specs.Sizes.{Sizes}
+use Rattle.volume_terms.specs.laws.List.{slice_get_there}
 use Rattle.flash_tree.specs.Tree.{IsPageSize, NewestMap, IsSingle, HasHeader}
-use Rattle.flash_tree.specs.laws.Tree.{slice_get_within}
 use Rattle.flash_tree.specs.laws.OneTree.{one_header, one_slot, same_lists}
 use Rattle.flash_tree.specs.Mount.{Wrong, wrong_by, HasHeaderFault, HasChunks, LacksChunk, AreSlots, LacksSlots, Finding, Stops, Leads, IsFileThere, IsDirectoryThere, LacksContent, Finds, with_new, ListEnd, Wrongly, GoesThrough, ends, stops, goes}
-
--- the elements of a list are all there
-pub slice_get_there : {A : Type 0} (xs : List A) (i : ℕ) → i < length xs → (x : A) × (slice_get xs i ≡ Some x)
-slice_get_there [] i lt = absurd (omega arith)
-slice_get_there (x ∷ xs) zero lt = (x, refl)
-slice_get_there (x ∷ xs) (suc i) lt = slice_get_there xs i (omega arith)
 
 -- a header takes 32 bytes and its presence bits
 pub length-header_bytes : (f : Fields) → length (header_bytes f) ≡ 32 + length f.bits

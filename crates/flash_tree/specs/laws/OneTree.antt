@@ -15,7 +15,7 @@ use Rattle.posix_profile.specs.Names.{Names, Reached, root, below}
 use Rattle.flash_tree.specs.Tree.{NewestMap, IsSingle, HasHeader, ByteIs, SlotIs, ReadsAs, ReadsFile, ReadsDir, Shows}
 
 -- options with the same values are one
-same_options : {A : Type 0} (x y : Option A) → ((v : A) → x ≡ Some v → y ≡ Some v) → ((v : A) → y ≡ Some v → x ≡ Some v) → x ≡ y
+pub same_options : {A : Type 0} (x y : Option A) → ((v : A) → x ≡ Some v → y ≡ Some v) → ((v : A) → y ≡ Some v → x ≡ Some v) → x ≡ y
 same_options None None f g = refl
 same_options (Some v) y f g = sym (f v refl)
 same_options None (Some v) f g = g v refl

@@ -12,13 +12,14 @@ use Rattle.page_tags.specs.Slots.{Entry}
 use Rattle.page_tags.specs.declared.header.ObjectKind.{ObjectKind}
 use Rattle.page_tags.specs.declared.header.ObjectKind.TheVariants as kinds
 use Rattle.volume_terms.specs.Sizes.{Sizes}
+use Rattle.volume_terms.specs.laws.List.{slice_get_there}
 use Rattle.posix_profile.specs.State.{Name, Entries, Object, File, Dir, Objects}
 use Rattle.posix_profile.specs.Names.{Names}
 use Rattle.posix_profile.specs.laws.Map.{same_key, eq_same}
 use Rattle.flash_tree.specs.Tree.{NewestMap, IsSingle, HasHeader, SlotIs, ReadsAs, ReadsFile, ReadsDir, Shows}
 use Rattle.flash_tree.specs.laws.OneTree.{one_slot}
 use Rattle.flash_tree.specs.Mount.{Wrong, HasChunks, AreSlots, Stops, Leads, Finds, with_new, ListEnd, Wrongly, Wholly, GoesThrough, ends, stops, goes, NamesTwice}
-use Rattle.flash_tree.specs.laws.Finding.{slice_get_there, same_header, kinds_apart, one_finding}
+use Rattle.flash_tree.specs.laws.Finding.{same_header, kinds_apart, one_finding}
 use Rattle.flash_tree.specs.Tree.{IsPageSize}
 
 -- ---- what a list has

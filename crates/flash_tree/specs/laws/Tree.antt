@@ -1,17 +1,12 @@
 -- Maps that agree on the footprint of one show the same tree.
-use Rattle.std.specs.Prelude.{◌≡◌, ◌<◌, ℕ, zero, suc, ◌+◌, ◌/◌, List, [], ◌∷◌, length, slice_get, Some}
+use Rattle.std.specs.Prelude.{◌≡◌, ◌<◌, ℕ, ◌+◌, ◌/◌, List, length, Some}
 use Rattle.std.proofs.Common.{refl, inl, inr, arith}
 use Rattle.std.specs.FinMap as map
+use Rattle.std.proofs.lemmas.Option.{slice_get_within}
 use Rattle.page_tags.specs.Headers.{Fields}
 use Rattle.volume_terms.specs.Sizes.{Sizes, page_slots}
 use Rattle.posix_profile.specs.State.{Entries, Object, File, Dir, Objects}
 use Rattle.flash_tree.specs.Tree.{NewestMap, HasHeader, ReadsAs, ReadsFile, ReadsDir, Shows, LooksUp, KeepsFootprint}
-
--- an element is at a place of the list
-pub slice_get_within : {A : Type 0} (xs : List A) (i : ℕ) (x : A) → slice_get xs i ≡ Some x → i < length xs
-slice_get_within [] i x is = absurd cc
-slice_get_within (y ∷ xs) zero x is = omega arith
-slice_get_within (y ∷ xs) (suc i) x is = let lt = slice_get_within xs i x is in omega arith
 
 module _ (z : Sizes) (m n : NewestMap) (objects : Objects) (keeps : KeepsFootprint z m n objects) (o : ℕ) where
   also : (x : Object) → map.get objects o ≡ Some x → (f : Fields) → HasHeader z m o f → (c : ℕ) (bytes : List ℕ) → LooksUp z f c → m o c bytes → n o c bytes

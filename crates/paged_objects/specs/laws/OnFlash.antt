@@ -1,6 +1,6 @@
 -- The tree that is shown is on the flash of an honest device.
-use Rattle.std.specs.Prelude.{◌≡◌, ◌<◌, ◌≤◌, ◌+◌, ◌-◌, ◌*◌, ◌/◌, ℕ, zero, suc, true, List, [], ◌∷◌, length, slice_get, Some}
-use Rattle.std.proofs.Common.{refl, sym, ◌∙◌, ap, subst, inl, inr, arith}
+use Rattle.std.specs.Prelude.{◌≡◌, ◌<◌, ◌≤◌, ◌+◌, ◌-◌, ◌*◌, ◌/◌, ℕ, true, List, length, Some}
+use Rattle.std.proofs.Common.{sym, ◌∙◌, ap, subst, inl, inr, arith}
 use Rattle.std.proofs.Math.Nat.{mul-div_cancel}
 use Rattle.std.proofs.lemmas.Bool.{cases_lt, true≢false, leb-true}
 use Rattle.std.specs.Cmp.{nat_cmp_total}
@@ -13,6 +13,7 @@ use Rattle.page_tags.specs.declared.header.ObjectKind.{ObjectKind}
 use Rattle.page_tags.specs.declared.header.ObjectKind.TheVariants as kinds
 use Rattle.volume_terms.specs.Sizes.{Sizes, IsSizes, page_slots}
 use Rattle.volume_terms.specs.Rounding.{ceiling}
+use Rattle.volume_terms.specs.laws.List.{slice_get_there}
 use Rattle.posix_profile.specs.State.{Entries, Object, File, Dir, Objects}
 use Rattle.posix_profile.specs.laws.Charge.{settle_fits}
 use Rattle.posix_profile.specs.laws.Map.{retain_cases}
@@ -33,11 +34,6 @@ use Rattle.object_pages.specs.Holding.{HoldsObject, HoldsObjects, CanHave}
 use Rattle.object_pages.specs.laws.Holding.{held}
 use Rattle.object_pages.specs.laws.Settled.{shows_settled, holds_volume}
 use Rattle.paged_objects.specs.Standing.{volume_of, Shown}
-
-slot_there : {A : Type 0} (xs : List A) (i : ℕ) → i < length xs → (x : A) × (slice_get xs i ≡ Some x)
-slot_there [] i lt = absurd (omega (arith, lt))
-slot_there (x ∷ xs) zero lt = (x, refl)
-slot_there (x ∷ xs) (suc i) lt = slot_there xs i (omega (arith, lt))
 
 page_bounds : (z : Sizes) → IsSizes z → (0 < z.page_bytes) × (z.page_bytes ≤ 4096)
 page_bounds z numbers = elim numbers.page_bytes [
@@ -76,7 +72,7 @@ module _ (z : Sizes) (m : PageMap) (numbers : IsSizes z) where
   slot_page : (o moment : ℕ) (entries : Entries) (reads : ReadsDir z (has m) o moment entries) (i : ℕ) → i < reads.fields.length → HasPage m o (1 + i / page_slots z)
   slot_page o moment entries reads i lt =
       let size : reads.fields.length ≡ length reads.slots = reads.size in
-      let entry = slot_there reads.slots i (omega (arith, lt, size)) in
+      let entry = slice_get_there reads.slots i (omega (arith, lt, size)) in
       let slot = reads.each i entry.0 entry.1 in
       (slot.0, slot.1)
 

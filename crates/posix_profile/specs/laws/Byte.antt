@@ -1,23 +1,10 @@
 -- The bytes of a file after a write or a change of its length, place by place; past the end a place reads as 0.
 use Rattle.std.specs.Prelude.{◌≡◌, ◌<◌, ◌≤◌, ℕ, ◌+◌, ◌-◌, List, ◌++◌, length, take, drop, replicate, get_or}
-use Rattle.std.proofs.Common.{sym, ◌∙◌, ap, inl, inr, arith}
-use Rattle.std.proofs.lemmas.Bool.{cases_lt}
-use Rattle.std.proofs.lemmas.List.{length-take, length-replicate, length-append, get_or_append_left, get_or-take, get_or-drop, get_or-replicate, get_or_past}
+use Rattle.std.proofs.Common.{◌∙◌, ap, arith}
+use Rattle.std.proofs.lemmas.List.{length-take, length-replicate, length-append, get_or_append_left, get_or-take, get_or-drop}
 use Rattle.std.proofs.Math.Seq.{get_or-append_right}
+use Rattle.volume_terms.specs.laws.List.{with_zeros}
 use Rattle.posix_profile.specs.Changes.{written, resized}
-
--- the bytes with zeros after them read as the bytes
-padded : (bytes : List ℕ) (n i : ℕ) → get_or (bytes ++ replicate n 0) i 0 ≡ get_or bytes i 0
-padded bytes n i = elim (cases_lt i (length bytes)) [
-  | inl lt ↦ get_or_append_left bytes (replicate n 0) 0 i lt
-  | inr past ↦ get_or-append_right bytes (replicate n 0) i 0 past ∙ zeros n (i - length bytes) ∙ sym (get_or_past bytes i 0 past)
-]
-  where
-    zeros : (n i : ℕ) → get_or {A = ℕ} (replicate n 0) i 0 ≡ 0
-    zeros n i = elim (cases_lt i n) [
-      | inl lt ↦ get_or-replicate n i 0 0 lt
-      | inr past ↦ get_or_past (replicate n 0) i 0 (omega (arith, length-replicate {A = ℕ} n 0))
-    ]
 
 module _ (bytes : List ℕ) (offset : ℕ) (new : List ℕ) where
   abbrev front : List ℕ
@@ -39,7 +26,7 @@ module _ (bytes : List ℕ) (offset : ℕ) (new : List ℕ) where
   written_before i lt =
       get_or_append_left front (new ++ back) 0 i (omega (arith, front_length))
       ∙ get_or-take offset (bytes ++ replicate (offset - length bytes) 0) i 0 lt
-      ∙ padded bytes (offset - length bytes) i
+      ∙ with_zeros bytes (offset - length bytes) i
 
   after_front : (i : ℕ) → offset ≤ i → get_or (written bytes offset new) i 0 ≡ get_or (new ++ back) (i - offset) 0
   after_front i low = get_or-append_right front (new ++ back) i 0 (omega (arith, front_length)) ∙ ap (λ n. get_or (new ++ back) (i - n) 0) front_length
@@ -59,4 +46,4 @@ module _ (bytes : List ℕ) (offset : ℕ) (new : List ℕ) where
 
 -- what is kept of a file reads as it did
 pub resized_within : (bytes : List ℕ) (n i : ℕ) → i < n → get_or (resized bytes n) i 0 ≡ get_or bytes i 0
-resized_within bytes n i lt = get_or-take n (bytes ++ replicate (n - length bytes) 0) i 0 lt ∙ padded bytes (n - length bytes) i
+resized_within bytes n i lt = get_or-take n (bytes ++ replicate (n - length bytes) 0) i 0 lt ∙ with_zeros bytes (n - length bytes) i

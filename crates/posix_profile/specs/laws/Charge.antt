@@ -1,9 +1,7 @@
 -- What a change does to the charge of a state.
-use Rattle.std.specs.Prelude.{◌≡◌, ◌≤◌, ℕ, zero, suc, ◌-◌, ◌/◌, Bool, true, false, Some, cond}
+use Rattle.std.specs.Prelude.{◌≡◌, ◌≤◌, ℕ, ◌-◌, Bool, true, false, Some, cond}
 use Rattle.std.proofs.Common.{sym, ◌∙◌, ap, subst, inl, inr, arith}
 use Rattle.std.proofs.lemmas.Bool.{leb-true, le-leb}
-use Rattle.std.proofs.Math.Nat.{div-mul-le_self}
-use Rattle.std.proofs.lemmas.Nat.{le-div}
 use Rattle.std.specs.Cmp.{nat_cmp_total}
 use Rattle.std.specs.Cmp.Lexicographic.{nat_list_cmp_total}
 use Rattle.std.specs.FinMap as map
@@ -11,7 +9,7 @@ use Rattle.volume_terms.specs.Sizes.{Sizes, capacity, page_slots}
 use Rattle.posix_profile.specs.State.{Name, Entries, Object, File, Dir, Objects, State, IsDirectory, entries_of}
 use Rattle.posix_profile.specs.Names.{prune, settle}
 use Rattle.posix_profile.specs.Charge.{cost, charge, fits}
-use Rattle.volume_terms.specs.Rounding.{ceiling}
+use Rattle.volume_terms.specs.laws.Rounding.{ceiling_le}
 use Rattle.posix_profile.specs.Changes.{without_name}
 use Rattle.posix_profile.specs.laws.Map.{insert_cases, retain_cases}
 use Rattle.posix_profile.specs.laws.Total.{total_le, len_le}
@@ -37,13 +35,6 @@ cost_some z (Dir moment entries) = omega arith
 -- so there are no more objects than a state costs
 pub objects_le : (z : Sizes) (objects : Objects) → map.len objects ≤ charge z objects
 objects_le z objects = len_le (cost z) objects (cost_some z)
-
-div_le : (m n d : ℕ) → m ≤ n → m / d ≤ n / d
-div_le m n zero le = omega arith
-div_le m n (suc d) le = le-div (m / suc d) n (suc d) (omega arith) (omega (arith, div-mul-le_self m (suc d)))
-
-pub ceiling_le : (m n d : ℕ) → m ≤ n → ceiling m d ≤ ceiling n d
-ceiling_le m n d le = div_le _ _ d (omega arith)
 
 -- a map with a key less is no longer
 less_entries : (entries : Entries) (name : Name) → map.len (map.remove entries name) ≤ map.len entries

@@ -1,11 +1,13 @@
 -- A volume that was just formatted.
-use Rattle.std.specs.Prelude.{◌≡◌, ◌<◌, ◌≤◌, ℕ, ◌+◌, ◌-◌, ◌/◌, true, List, [], ◌∷◌, length, map as list_map, sum_by, Some, None}
-use Rattle.std.proofs.Common.{refl, sym, ◌∙◌, ap, subst, inl, inr, arith}
+use Rattle.std.specs.Prelude.{◌≡◌, ◌<◌, ◌≤◌, ℕ, ◌+◌, ◌-◌, ◌/◌, true, map as list_map, sum_by, Some, None}
+use Rattle.std.proofs.Common.{sym, ◌∙◌, ap, subst, inl, inr, arith}
 use Rattle.std.proofs.lemmas.Bool.{le-leb}
 use Rattle.std.specs.Ordering.{nat_cmp}
 use Rattle.std.specs.Cmp.{nat_cmp_total}
 use Rattle.std.specs.Cmp.Lexicographic.{slice_cmp}
 use Rattle.std.specs.FinMap as map
+use Rattle.std.proofs.lemmas.List.{nil_from_length}
+use Rattle.std.proofs.lemmas.Nat.{mul-le}
 use Rattle.volume_terms.specs.Sizes.{Sizes, IsSizes, buffer_pages, page_slots, capacity, root_number}
 use Rattle.posix_profile.specs.State.{Name, Entries, Object, Dir, State}
 use Rattle.posix_profile.specs.Names.{Names}
@@ -13,7 +15,6 @@ use Rattle.posix_profile.specs.Charge.{cost, charge, fits}
 use Rattle.volume_terms.specs.Rounding.{ceiling}
 use Rattle.posix_profile.specs.WellFormed.{IsObject, IsForest, IsWellFormed, IsTree}
 use Rattle.posix_profile.specs.laws.Map.{get_here, insert_cases}
-use Rattle.posix_profile.specs.laws.Number.{product_le}
 use Rattle.posix_profile.specs.laws.Prune.{no_handles, well_formed_tree}
 use Rattle.posix_profile.specs.laws.Sound.{IsSound}
 use Rattle.posix_profile.specs.laws.Total.{total_insert}
@@ -59,13 +60,9 @@ fresh_forest z = record {
 pub fresh_well_formed : (z : Sizes) → IsWellFormed z fresh
 fresh_well_formed z = record { forest = fresh_forest z; handles = no_handles fresh.objects; kept = λ o object is. inl (only_root o object is).0 }
 
-nil_of : {A : Type 0} (xs : List A) → length xs ≡ 0 → xs ≡ []
-nil_of [] e = refl
-nil_of (x ∷ xs) e = absurd (omega arith)
-
 nothing : (z : Sizes) → charge z map.empty ≡ 0
 nothing z = ap (λ es. sum_by (cost z) (list_map (λ (e : ℕ × Object). e.1) es))
-    (nil_of (map.entries (map.empty {X = Object} {R = nat_cmp})) (sym (map.len-entries (map.empty {X = Object} {R = nat_cmp})) ∙ map.len-empty nat_cmp Object))
+    (nil_from_length (map.entries (map.empty {X = Object} {R = nat_cmp})) (sym (map.len-entries (map.empty {X = Object} {R = nat_cmp})) ∙ map.len-empty nat_cmp Object))
 
 pub slots_some : (z : Sizes) → IsSizes z → 0 < page_slots z
 slots_some z sizes = elim sizes.page_bytes [
@@ -86,7 +83,7 @@ capacity_some z sizes =
       | inr b ↦ elim b [ inl a ↦ omega arith | inr c ↦ elim c [ inl a ↦ omega arith | inr a ↦ omega arith ] ]
     ] in
     let blocks : 1 ≤ z.blocks - z.spare_blocks - 1 = omega (arith, sizes.spare_blocks) in
-    product_le 1 1 (z.blocks - z.spare_blocks - 1) (z.block_pages - buffer_pages z) blocks pages
+    mul-le 1 1 (z.blocks - z.spare_blocks - 1) (z.block_pages - buffer_pages z) blocks pages
 
 -- it costs one unit
 pub fresh_charge : (z : Sizes) → IsSizes z → charge z fresh.objects ≡ 1

@@ -2,10 +2,10 @@
 use Rattle.std.specs.Prelude.{◌≡◌, ◌⊎◌, ◌<◌, ◌≤◌, ◌^◌, ℕ, zero, suc, ◌+◌, ◌-◌, ◌*◌, Bool, true, false, not, Option, Some, None, unwrap_or, cond, is_some}
 use Rattle.std.proofs.Common.{refl, sym, ◌∙◌, ap, subst, inl, inr, arith}
 use Rattle.std.proofs.lemmas.Bool.{cases_lt, true≢false, false≢true, leb-true}
-use Rattle.std.proofs.Math.Nat.{mul-le-mul_left, mul_comm}
 use Rattle.std.specs.List.{find as first_of, range_with_len}
 use Rattle.std.specs.Cmp.{nat_cmp_total}
 use Rattle.std.specs.FinMap as map
+use Rattle.std.proofs.lemmas.Nat.{mul-le}
 use Rattle.volume_terms.specs.Sizes.{Sizes, IsSizes, capacity, greatest_length, descriptors, offset_limit, root_number}
 use Rattle.posix_profile.specs.State.{Object, Objects, Handles}
 use Rattle.posix_profile.specs.Charge.{charge, fits}
@@ -113,15 +113,12 @@ greatest_cases p (suc n) = go (p (suc n)) refl (greatest_cases p n)
       ],
     )
 
-pub product_le : (a b m n : ℕ) → a ≤ m → b ≤ n → a * b ≤ m * n
-product_le a b m n h k = grind (arith, mul-le-mul_left a k, mul-le-mul_left n h, mul_comm)
-
 module _ (z : Sizes) (sizes : IsSizes z) where
   pub pages_few : z.block_pages ≤ 256
   pages_few = elim sizes.block_pages [ inl a ↦ omega arith | inr b ↦ elim b [ inl c ↦ omega arith | inr d ↦ elim d [ inl e ↦ omega arith | inr f ↦ omega arith ] ] ]
 
   pub capacity_few : capacity z ≤ 4096 * 256
-  capacity_few = product_le _ _ 4096 256 (omega (arith, sizes.few_blocks)) (omega (arith, pages_few))
+  capacity_few = mul-le _ _ 4096 256 (omega (arith, sizes.few_blocks)) (omega (arith, pages_few))
 
   -- a new number is a number of 64 bits
   pub new_number_few : (objects : Objects) → fits z objects ≡ true → new_number objects < 2 ^ 64

@@ -9,6 +9,7 @@ use Rattle.std.specs.List.{flat_map, sum_by}
 use Rattle.std.specs.Cmp.{nat_cmp_total}
 use Rattle.std.specs.Cmp.Lexicographic.{nat_list_cmp_total}
 use Rattle.std.specs.FinMap as map
+use Rattle.std.proofs.lemmas.Nat.{mul-le}
 use Rattle.volume_terms.specs.Sizes.{Sizes, IsSizes, buffer_pages, most_written, page_slots, capacity, greatest_length, offset_limit}
 use Rattle.posix_profile.specs.State.{Name, Entries, Object, File, Dir, Handle, State, is_directory}
 use Rattle.posix_profile.specs.Names.{names_to, links}
@@ -26,7 +27,7 @@ use Rattle.posix_profile.specs.laws.Path.{all_from_members}
 use Rattle.posix_profile.specs.laws.Total.{total_without}
 use Rattle.posix_profile.specs.laws.Write.{ceiling_at_most}
 use Rattle.posix_profile.specs.laws.Fresh.{slots_some}
-use Rattle.posix_profile.specs.laws.Number.{free_descriptor_is, greatest_cases, product_le, pages_few, capacity_few, greatest_length_few}
+use Rattle.posix_profile.specs.laws.Number.{free_descriptor_is, greatest_cases, pages_few, capacity_few, greatest_length_few}
 use Rattle.posix_profile.specs.laws.Outcome.{by_unless, by_place, by_handle, by_file, by_descriptor, by_object, by_change}
 use Rattle.posix_profile.specs.laws.Sound.{IsSound}
 use Rattle.posix_profile.specs.declared.command.Command.{Command}
@@ -112,7 +113,7 @@ module _ (z : Sizes) (sizes : IsSizes z) (s : State) (sound : IsSound z s) where
 
   -- what all objects together may have of entries
   slots_charge : page_slots z * charge z s.objects ≤ 4096 * (4096 * 256)
-  slots_charge = product_le (page_slots z) (charge z s.objects) 4096 (4096 * 256) slots_few
+  slots_charge = mul-le (page_slots z) (charge z s.objects) 4096 (4096 * 256) slots_few
       (omega (arith, leb-true (charge z s.objects) (capacity z) sound.fit, capacity_few z sizes))
 
   cost_charge : (o : ℕ) (x : Object) → map.get s.objects o ≡ Some x → cost z x ≤ charge z s.objects
@@ -122,7 +123,7 @@ module _ (z : Sizes) (sizes : IsSizes z) (s : State) (sound : IsSound z s) where
   pub entries_few : (o m : ℕ) (entries : Entries) → map.get s.objects o ≡ Some (Dir m entries) → map.len entries ≤ 4096 * (4096 * 256)
   entries_few o m entries is =
       let le = (ceiling_at_most (map.len entries) (page_slots z) (ceiling (map.len entries) (page_slots z)) (slots_some z sizes)).0 (omega arith) in
-      let part = product_le (page_slots z) (ceiling (map.len entries) (page_slots z)) (page_slots z) (charge z s.objects) (omega arith) (omega (arith, cost_charge o (Dir m entries) is)) in
+      let part = mul-le (page_slots z) (ceiling (map.len entries) (page_slots z)) (page_slots z) (charge z s.objects) (omega arith) (omega (arith, cost_charge o (Dir m entries) is)) in
       let turn : ceiling (map.len entries) (page_slots z) * page_slots z ≡ page_slots z * ceiling (map.len entries) (page_slots z) = grind arith in
       omega (arith, le, part, turn, slots_charge)
 
@@ -139,7 +140,7 @@ module _ (z : Sizes) (sizes : IsSizes z) (s : State) (sound : IsSound z s) where
       )
 
   written_few : (n a : ℕ) → min n (min (most_written z) a) ≤ 64 * 4096
-  written_few n a = omega (arith, product_le (buffer_pages z - 3) z.page_bytes 64 4096 (omega (arith, pages_few z sizes)) bytes_few)
+  written_few n a = omega (arith, mul-le (buffer_pages z - 3) z.page_bytes 64 4096 (omega (arith, pages_few z sizes)) bytes_few)
 
   abbrev P : Outcome → Type 0
   P = TellsRight

@@ -2,27 +2,15 @@
 use Rattle.std.specs.Prelude.{◌≡◌, ◌⊎◌, ◌↔◌, ◌<◌, ◌||◌, ℕ, zero, suc, Bool, true, false, List, [], ◌∷◌, ◌++◌, length, slice_get, nat_eq, Some, if◌then◌else◌}
 use Rattle.std.specs.List.{list_any}
 use Rattle.std.proofs.Common.{refl, sym, ◌∙◌, ap, subst, inl, inr, arith, eq-eqb}
-use Rattle.std.proofs.lemmas.Bool.{cases_Bool, cases_eq, cond-true, cond-false, ne_eqb, true≢false}
-use Rattle.volume_terms.specs.laws.List.{get_push, push_before, push_last}
+use Rattle.std.proofs.lemmas.Bool.{cases_Bool, cond-true, cond-false, true≢false, or_right}
+use Rattle.volume_terms.specs.laws.List.{get_push, push_before, push_last, place_of}
 use Rattle.flash_tree.specs.Mount.{with_new}
 use Rattle.tree_walk.specs.Walks.{IsOn, IsOnce, IsAgain}
 
 -- ---- whether a number stands on a list
 
-or_right : (a b : Bool) → b ≡ true → (a || b) ≡ true
-or_right true b e = refl
-or_right false b e = e
-
-or_false : (a b : Bool) → a ≡ false → (a || b) ≡ true → b ≡ true
-or_false true b no' yes' = absurd cc
-or_false false b no' yes' = yes'
-
 pub on_of : (list : List ℕ) (o : ℕ) → list_any (nat_eq o) list ≡ true → IsOn list o
-on_of [] o is = absurd cc
-on_of (x ∷ list) o is = elim (cases_eq o x) [
-  | inl same ↦ (zero, ap Some (sym same))
-  | inr ne ↦ let rest = on_of list o (or_false (nat_eq o x) (list_any (nat_eq o) list) (ne_eqb o x ne) is) in (suc rest.0, rest.1)
-]
+on_of list o is = place_of list o is
 
 pub of_on : (list : List ℕ) (o i : ℕ) → slice_get list i ≡ Some o → list_any (nat_eq o) list ≡ true
 of_on [] o i is = absurd cc

@@ -4,13 +4,13 @@ use Rattle.std.specs.FinMap as map
 use Rattle.std.specs.Int.{div_ceil}
 use Rattle.flash_tree.specs.Tree.{IsPageSize}
 use Rattle.volume_terms.specs.Sizes.{page_slots}
+use Rattle.volume_terms.specs.laws.Rounding.{part_begins, parts_reach, part_end}
 use Rattle.pages.specs.Maps.{PageMap}
 use Rattle.pages.specs.State.{PagesState}
 use Rattle.pages.specs.laws.State.{finds_none, finds_on}
 use Rattle.directories.specs.Listings.{ReadsFirst}
 use Rattle.directories.proofs.Listed.{none_read, all_read, same_entries}
 use Rattle.directories.proofs.Reading.{later}
-use Rattle.directories.proofs.Searching.{begins, ends, chunk_end}
 use Rattle.directories.proofs.Told.{count_is, length_is}
 use Rattle.directories.proofs.listing.entries.Goals as goal
 
@@ -51,7 +51,7 @@ returns-in_err-take_chunk-clause-fault g c = λ z moment entries d.
     let slots : n ≡ page_slots z = ap (λ k. k / 272) (c.page_bytes.ensures.bytes ∙ c.read_head.ensures.finds.page_bytes ∙ sym size) in
     let some : 1 ≤ n = omega (arith, c.page_bytes.ensures.least) in
     let less : c.loop-chunk.chunk < div_ceil len n = subst (λ k. c.loop-chunk.chunk < k) c.div_ceil-chunk-end.ensures c.loop-chunk-test.true in
-    let within : c.loop-chunk.chunk * n < len = begins len n c.loop-chunk.chunk some less in
+    let within : c.loop-chunk.chunk * n < len = part_begins len n c.loop-chunk.chunk some less in
     let few : c.min-count.result ≡ min n (len - c.loop-chunk.chunk * n) = search rules in
     let start : min len (c.loop-chunk.chunk * page_slots z) ≡ c.loop-chunk.chunk * page_slots z = subst (λ k. min len (c.loop-chunk.chunk * k) ≡ c.loop-chunk.chunk * k) slots (grind arith) in
     let first = subst (λ (m : PageMap). ReadsFirst z m c.args.directory (c.loop-chunk.chunk * page_slots z) c.loop-chunk.entries) (sym finds.present)
@@ -78,14 +78,14 @@ loop-chunk-preserved g c = record {
       let slots : n ≡ page_slots z = ap (λ k. k / 272) (c.page_bytes.ensures.bytes ∙ c.read_head.ensures.finds.page_bytes ∙ sym size) in
       let some : 1 ≤ n = omega (arith, c.page_bytes.ensures.least) in
       let less : c.loop-chunk.chunk < div_ceil len n = subst (λ k. c.loop-chunk.chunk < k) c.div_ceil-chunk-end.ensures c.loop-chunk-test.true in
-      let within : c.loop-chunk.chunk * n < len = begins len n c.loop-chunk.chunk some less in
+      let within : c.loop-chunk.chunk * n < len = part_begins len n c.loop-chunk.chunk some less in
       let few : c.min-count.result ≡ min n (len - c.loop-chunk.chunk * n) = search rules in
       let start : min len (c.loop-chunk.chunk * page_slots z) ≡ c.loop-chunk.chunk * page_slots z = subst (λ k. min len (c.loop-chunk.chunk * k) ≡ c.loop-chunk.chunk * k) slots (grind arith) in
       let first = subst (λ (m : PageMap). ReadsFirst z m c.args.directory (c.loop-chunk.chunk * page_slots z) c.loop-chunk.entries) (sym finds.present)
       (subst (λ k. ReadsFirst z old.present c.args.directory k c.loop-chunk.entries) start (c.loop-chunk.invariant.first sound z size)) in
       let told = c.in_ok-take_chunk.ensures.told (finds.sound ∙ sound) z (size ∙ sym finds.page_bytes) first in
       let end : c.loop-chunk.chunk * page_slots z + c.min-count.result ≡ min len ((c.loop-chunk.chunk + 1) * page_slots z) =
-      ap (λ k. k + c.min-count.result) (sym start) ∙ chunk_end (page_slots z) len c.loop-chunk.chunk c.min-count.result (few ∙ ap (λ k. min k (len - c.loop-chunk.chunk * k)) slots) in
+      ap (λ k. k + c.min-count.result) (sym start) ∙ part_end (page_slots z) len c.loop-chunk.chunk c.min-count.result (few ∙ ap (λ k. min k (len - c.loop-chunk.chunk * k)) slots) in
       subst (λ k. ReadsFirst z old.present c.args.directory k c.take_chunk.new.entries) end
       (subst (λ (m : PageMap). ReadsFirst z m c.args.directory (c.loop-chunk.chunk * page_slots z + c.min-count.result) c.take_chunk.new.entries) finds.present told);
 }
@@ -109,7 +109,7 @@ returns-clause-told g c = λ sound z size.
     let slots : n ≡ page_slots z = ap (λ k. k / 272) (c.page_bytes.ensures.bytes ∙ c.read_head.ensures.finds.page_bytes ∙ sym size) in
     let some : 1 ≤ n = omega (arith, c.page_bytes.ensures.least) in
     let more : div_ceil len n ≤ c.loop-chunk.chunk = subst (λ k. k ≤ c.loop-chunk.chunk) c.div_ceil-chunk-end.ensures c.loop-chunk-test.false in
-    let all : len ≤ c.loop-chunk.chunk * n = ends len n c.loop-chunk.chunk some more in
+    let all : len ≤ c.loop-chunk.chunk * n = parts_reach len n c.loop-chunk.chunk some more in
     let whole : min len (c.loop-chunk.chunk * page_slots z) ≡ len = subst (λ k. min len (c.loop-chunk.chunk * k) ≡ len) slots (grind arith) in
     all_read old z c.args.directory c.in_ok-head.head c.loop-chunk.entries size (c.in_ok-head.ensures.told sound)
     (subst (λ k. ReadsFirst z old.present c.args.directory k c.loop-chunk.entries) whole (c.loop-chunk.invariant.first sound z size))
@@ -124,7 +124,7 @@ returns-clause-found g c = λ z moment entries d.
     let slots : n ≡ page_slots z = ap (λ k. k / 272) (c.page_bytes.ensures.bytes ∙ c.read_head.ensures.finds.page_bytes ∙ sym size) in
     let some : 1 ≤ n = omega (arith, c.page_bytes.ensures.least) in
     let more : div_ceil len n ≤ c.loop-chunk.chunk = subst (λ k. k ≤ c.loop-chunk.chunk) c.div_ceil-chunk-end.ensures c.loop-chunk-test.false in
-    let all : len ≤ c.loop-chunk.chunk * n = ends len n c.loop-chunk.chunk some more in
+    let all : len ≤ c.loop-chunk.chunk * n = parts_reach len n c.loop-chunk.chunk some more in
     let whole : min len (c.loop-chunk.chunk * page_slots z) ≡ len = subst (λ k. min len (c.loop-chunk.chunk * k) ≡ len) slots (grind arith) in
     let read = all_read old z c.args.directory c.in_ok-head.head c.loop-chunk.entries size (c.in_ok-head.ensures.told sound)
     (subst (λ k. ReadsFirst z old.present c.args.directory k c.loop-chunk.entries) whole (c.loop-chunk.invariant.first sound z size)) in

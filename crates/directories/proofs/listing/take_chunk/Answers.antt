@@ -1,11 +1,12 @@
 use Rattle.std.proofs.Common.{◌≡◌, ◌≤◌, ◌+◌, ◌*◌, ◌∙◌, Some, length, sym, ap, subst, arith}
 use Rattle.std.proofs.lemmas.Result.{err_from_is_err_and}
 use Rattle.volume_terms.specs.Sizes.{page_slots}
+use Rattle.volume_terms.specs.laws.Rounding.{slots_fit}
 use Rattle.pages.specs.laws.Faults.{lacks_memory}
 use Rattle.pages.specs.State.{PagesState}
 use Rattle.directories.specs.Directories.{SlotOf}
 use Rattle.directories.proofs.Reading.{slots_are}
-use Rattle.directories.proofs.Searching.{page_of_slots, slots_among, slots_fit}
+use Rattle.directories.proofs.Searching.{page_of_slots, slots_among}
 use Rattle.directories.proofs.listing.take_chunk.Goals as goal
 
 pub returns-in_err-load-clause-fault : goal.returns-in_err-load-clause-fault

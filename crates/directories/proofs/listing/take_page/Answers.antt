@@ -1,11 +1,12 @@
 use Rattle.std.proofs.Common.{◌≡◌, ◌≤◌, ◌<◌, ◌+◌, ◌*◌, ◌∙◌, ℕ, length, sym, subst, arith}
 use Rattle.std.proofs.lemmas.Result.{err_from_is_err_and}
 use Rattle.flash_tree.specs.Tree.{IsPageSize}
-use Rattle.flash_tree.specs.laws.Finding.{slice_get_there}
 use Rattle.volume_terms.specs.Sizes.{page_slots}
+use Rattle.volume_terms.specs.laws.List.{slice_get_there}
+use Rattle.volume_terms.specs.laws.Rounding.{slots_fit}
 use Rattle.directories.specs.Listings.{ReadsFirst}
 use Rattle.directories.proofs.Listed.{one_more_read, next_is_new}
-use Rattle.directories.proofs.Searching.{slot_of_page, slot_in_page, slots_fit}
+use Rattle.directories.proofs.Searching.{slot_of_page, slot_in_page}
 use Rattle.directories.proofs.listing.take_page.Goals as goal
 
 pub returns-in_err-take_entry-clause-why : goal.returns-in_err-take_entry-clause-why

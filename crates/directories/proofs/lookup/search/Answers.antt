@@ -3,13 +3,14 @@ use Rattle.std.proofs.lemmas.Result.{err_from_is_err_and}
 use Rattle.std.specs.Int.{div_ceil}
 use Rattle.page_tags.specs.Slots.{Entry}
 use Rattle.volume_terms.specs.Sizes.{page_slots}
+use Rattle.volume_terms.specs.laws.Rounding.{part_begins, parts_reach, part_end}
 use Rattle.pages.specs.Afterwards.{changed_by}
 use Rattle.pages.specs.Maps.{PageMap}
 use Rattle.pages.specs.State.{PagesState}
 use Rattle.pages.specs.laws.State.{finds_on}
 use Rattle.directories.specs.Directories.{SlotOf}
 use Rattle.directories.specs.Slots.{AreSlots, Finds}
-use Rattle.directories.proofs.Searching.{begins, ends, none_on, slots_among, found_among, none_found, chunk_end}
+use Rattle.directories.proofs.Searching.{none_on, slots_among, found_among, none_found}
 use Rattle.directories.proofs.lookup.search.Goals as goal
 
 pub returns-in_err-found-clause-fault : goal.returns-in_err-found-clause-fault
@@ -22,7 +23,7 @@ returns-in_err-found-clause-fault g c = λ sound z size are.
     let slots : n ≡ page_slots z = ap (λ k. k / 272) (c.page_bytes.ensures.bytes ∙ sym size) in
     let some : 1 ≤ n = omega (arith, c.page_bytes.ensures.least) in
     let less : c.loop-chunk.chunk < div_ceil len n = subst (λ k. c.loop-chunk.chunk < k) c.div_ceil-chunk-end.ensures c.loop-chunk-test.true in
-    let within : c.loop-chunk.chunk * n < len = begins len n c.loop-chunk.chunk some less in
+    let within : c.loop-chunk.chunk * n < len = part_begins len n c.loop-chunk.chunk some less in
     let few : c.min-count.result ≡ min n (len - c.loop-chunk.chunk * n) = search rules in
     let high : c.loop-chunk.chunk * page_slots z + c.min-count.result ≤ len = subst (λ k. c.loop-chunk.chunk * k + c.min-count.result ≤ len) slots (grind arith) in
     let size_now : z.page_bytes ≡ now.page_bytes = size ∙ sym finds.page_bytes in
@@ -44,7 +45,7 @@ returns-then-is_some-clause-told g c = λ sound z size.
     let slots : n ≡ page_slots z = ap (λ k. k / 272) (c.page_bytes.ensures.bytes ∙ sym size) in
     let some : 1 ≤ n = omega (arith, c.page_bytes.ensures.least) in
     let less : c.loop-chunk.chunk < div_ceil len n = subst (λ k. c.loop-chunk.chunk < k) c.div_ceil-chunk-end.ensures c.loop-chunk-test.true in
-    let within : c.loop-chunk.chunk * n < len = begins len n c.loop-chunk.chunk some less in
+    let within : c.loop-chunk.chunk * n < len = part_begins len n c.loop-chunk.chunk some less in
     let few : c.min-count.result ≡ min n (len - c.loop-chunk.chunk * n) = search rules in
     let high : c.loop-chunk.chunk * page_slots z + c.min-count.result ≤ len = subst (λ k. c.loop-chunk.chunk * k + c.min-count.result ≤ len) slots (grind arith) in
     let size_now : z.page_bytes ≡ now.page_bytes = size ∙ sym finds.page_bytes in
@@ -67,7 +68,7 @@ loop-chunk-preserved g c = record {
       let slots : n ≡ page_slots z = ap (λ k. k / 272) (c.page_bytes.ensures.bytes ∙ sym size) in
       let some : 1 ≤ n = omega (arith, c.page_bytes.ensures.least) in
       let less : c.loop-chunk.chunk < div_ceil len n = subst (λ k. c.loop-chunk.chunk < k) c.div_ceil-chunk-end.ensures c.loop-chunk-test.true in
-      let within : c.loop-chunk.chunk * n < len = begins len n c.loop-chunk.chunk some less in
+      let within : c.loop-chunk.chunk * n < len = part_begins len n c.loop-chunk.chunk some less in
       let few : c.min-count.result ≡ min n (len - c.loop-chunk.chunk * n) = search rules in
       let high : c.loop-chunk.chunk * page_slots z + c.min-count.result ≤ len = subst (λ k. c.loop-chunk.chunk * k + c.min-count.result ≤ len) slots (grind arith) in
       let size_now : z.page_bytes ≡ now.page_bytes = size ∙ sym finds.page_bytes in
@@ -75,7 +76,7 @@ loop-chunk-preserved g c = record {
       let at : PageMap → ℕ → Entry → Type 0 = λ p. SlotOf z (changed_by (option_copied c.args.earlier) p) c.args.directory in
       let start : min len (c.loop-chunk.chunk * page_slots z) ≡ c.loop-chunk.chunk * page_slots z = subst (λ k. min len (c.loop-chunk.chunk * k) ≡ c.loop-chunk.chunk * k) slots (grind arith) in
       let end : c.loop-chunk.chunk * page_slots z + c.min-count.result ≡ min len ((c.loop-chunk.chunk + 1) * page_slots z) =
-      ap (λ k. k + c.min-count.result) (sym start) ∙ chunk_end (page_slots z) len c.loop-chunk.chunk c.min-count.result (few ∙ ap (λ k. min k (len - c.loop-chunk.chunk * k)) slots) in
+      ap (λ k. k + c.min-count.result) (sym start) ∙ part_end (page_slots z) len c.loop-chunk.chunk c.min-count.result (few ∙ ap (λ k. min k (len - c.loop-chunk.chunk * k)) slots) in
       let here = none_found (at old.present) (c.loop-chunk.chunk * page_slots z) (c.loop-chunk.chunk * page_slots z + c.min-count.result) c.args.name.now c.in_ok-found.found c.is_some.result c.is_some.ensures c.if-is_some.false
       (subst (λ p. Finds (at p) (c.loop-chunk.chunk * page_slots z) (c.loop-chunk.chunk * page_slots z + c.min-count.result) c.args.name.now c.in_ok-found.found) finds.present
       (c.in_ok-found.ensures.told sound_now z size_now)) in
@@ -92,6 +93,6 @@ returns-clause-told g c = λ sound z size.
     let slots : n ≡ page_slots z = ap (λ k. k / 272) (c.page_bytes.ensures.bytes ∙ sym size) in
     let some : 1 ≤ n = omega (arith, c.page_bytes.ensures.least) in
     let more : div_ceil len n ≤ c.loop-chunk.chunk = subst (λ k. k ≤ c.loop-chunk.chunk) c.div_ceil-chunk-end.ensures c.loop-chunk-test.false in
-    let all : len ≤ c.loop-chunk.chunk * n = ends len n c.loop-chunk.chunk some more in
+    let all : len ≤ c.loop-chunk.chunk * n = parts_reach len n c.loop-chunk.chunk some more in
     let whole : min len (c.loop-chunk.chunk * page_slots z) ≡ len = subst (λ k. min len (c.loop-chunk.chunk * k) ≡ len) slots (grind arith) in
     subst (λ k. Finds (SlotOf z (changed_by (option_copied c.args.earlier) old.present) c.args.directory) 0 k c.args.name.now None) whole (c.loop-chunk.invariant.none sound z size)

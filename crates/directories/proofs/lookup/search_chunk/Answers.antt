@@ -1,10 +1,11 @@
 use Rattle.std.proofs.Common.{◌≡◌, ◌≤◌, ◌+◌, ◌*◌, ◌/◌, ◌∙◌, Some, true, false, option_copied, sym, ap, subst, arith}
 use Rattle.std.proofs.lemmas.Result.{err_from_is_err_and}
 use Rattle.volume_terms.specs.Sizes.{page_slots}
+use Rattle.volume_terms.specs.laws.Rounding.{slots_fit}
 use Rattle.pages.specs.Maps.{PageMap}
 use Rattle.pages.specs.State.{PagesState}
 use Rattle.pages.specs.Afterwards.{changed_by}
-use Rattle.directories.proofs.Searching.{page_of_slots, slots_of_page, located_in_chunk, none_in_chunk, slots_fit}
+use Rattle.directories.proofs.Searching.{page_of_slots, slots_of_page, located_in_chunk, none_in_chunk}
 use Rattle.directories.proofs.lookup.search_chunk.Goals as goal
 
 pub returns-in_err-source-clause-fault : goal.returns-in_err-source-clause-fault

@@ -1,8 +1,8 @@
 use Rattle.std.proofs.Common.{◌≡◌, ◌≤◌, ◌∙◌, Some, ◌-◌, ◌*◌, ◌^◌, ℕ, min, sym, ap, ap₂, arith}
 use Rattle.std.specs.FinMap as map
+use Rattle.std.proofs.lemmas.Nat.{mul-le}
 use Rattle.volume_terms.specs.Sizes.{most_written, greatest_length}
 use Rattle.posix_profile.specs.State.{File}
-use Rattle.posix_profile.specs.laws.Number.{product_le}
 use Rattle.posix_profile.specs.laws.Write.{units_for, write_count_is}
 use Rattle.object_store.specs.Facts.{bytes_of}
 use Rattle.command_plans.specs.Tables.{handle_of}
@@ -24,7 +24,7 @@ returns-clause-count g c z s holds file moment new few =
     let units = c.units_for.ensures z s.objects holds.has file in
     let paged = c.page_bytes.ensures ∙ ap (λ z. z.page_bytes) is in
     let wide : c.page_bytes.result ≤ 4096 = omega (arith, paged, page_few z holds.has.numbers) in
-    let product : c.units_for.result * c.page_bytes.result ≤ 2 ^ 28 * 4096 = product_le _ _ (2 ^ 28) 4096 units.1 wide in
+    let product : c.units_for.result * c.page_bytes.result ≤ 2 ^ 28 * 4096 = mul-le _ _ (2 ^ 28) 4096 units.1 wide in
     let exact : c.saturating_mul-room.result ≡ c.units_for.result * c.page_bytes.result = omega (arith, c.saturating_mul-room.ensures) in
     let room : c.saturating_mul-room.result ≡ units_for z s.objects bytes * z.page_bytes = exact ∙ ap₂ (λ a b. a * b) units.0 paged in
     let last = c.saturating_sub-2.ensures ∙ ap₂ (λ a b. a - b) room offset in

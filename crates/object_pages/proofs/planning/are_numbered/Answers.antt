@@ -1,7 +1,6 @@
 use Rattle.std.proofs.Common.{◌≡◌, ◌<◌, ◌∙◌, Some, slice_get, length, arith, refl, sym, ap, inl, inr}
 use Rattle.std.proofs.lemmas.Bool.{cases_eq}
-use Rattle.std.proofs.lemmas.Option.{slice_get_read}
-use Rattle.flash_tree.specs.laws.Tree.{slice_get_within}
+use Rattle.std.proofs.lemmas.Option.{slice_get_read, slice_get_within}
 use Rattle.flash_tree.specs.declared.place.FreshPage.{FreshPage}
 use Rattle.object_pages.proofs.planning.are_numbered.Goals as goal
 

@@ -1,7 +1,6 @@
 use Rattle.std.proofs.Common.{◌≡◌, ◌<◌, ◌∙◌, Some, slice_get, length, get_or, arith, true, false, sym, ap, subst, inl, inr, ◌≤◌}
 use Rattle.std.proofs.lemmas.Bool.{cases_eq}
-use Rattle.std.proofs.lemmas.Option.{slice_get-get_or}
-use Rattle.flash_tree.specs.laws.Tree.{slice_get_within}
+use Rattle.std.proofs.lemmas.Option.{slice_get-get_or, slice_get_within}
 use Rattle.pages.specs.laws.Maps.{cut_cases}
 use Rattle.pages.specs.declared.change.Cut.{Cut}
 use Rattle.pages.proofs.change.is_cut.Goals as goal

@@ -1,16 +1,13 @@
-use Rattle.std.proofs.Common.{◌≡◌, ◌∙◌, ℕ, List, [], ◌∷◌, length, refl, sym, ap, arith, map as list_map}
+use Rattle.std.proofs.Common.{◌≡◌, ◌∙◌, ℕ, [], sym, ap, map as list_map}
 use Rattle.std.specs.FinMap as map
 use Rattle.std.specs.Ordering.{nat_cmp}
 use Rattle.std.specs.Cmp.Lexicographic.{slice_cmp}
+use Rattle.std.proofs.lemmas.List.{nil_from_length}
 use Rattle.posix_profile.specs.State.{Name, entries_of}
 use Rattle.plain_objects.proofs.names.names_at.Goals as goal
 
-no_length : {X : Type 0} (xs : List X) → length xs ≡ 0 → xs ≡ []
-no_length [] e = refl
-no_length (x ∷ xs) e = absurd (omega arith)
-
 no_names : map.keys (map.empty {X = ℕ} {R = slice_cmp nat_cmp}) ≡ []
-no_names = ap (list_map (λ (e : Name × ℕ). e.0)) (no_length (map.entries (map.empty {X = ℕ} {R = slice_cmp nat_cmp})) (sym (map.len-entries (map.empty {X = ℕ} {R = slice_cmp nat_cmp})) ∙ map.len-empty (slice_cmp nat_cmp) ℕ))
+no_names = ap (list_map (λ (e : Name × ℕ). e.0)) (nil_from_length (map.entries (map.empty {X = ℕ} {R = slice_cmp nat_cmp})) (sym (map.len-entries (map.empty {X = ℕ} {R = slice_cmp nat_cmp})) ∙ map.len-empty (slice_cmp nat_cmp) ℕ))
 
 pub returns-in-Some-File : goal.returns-in-Some-File
 returns-in-Some-File c =

@@ -1,19 +1,18 @@
 use Rattle.std.proofs.Common.{◌≡◌, ◌≤◌, ◌∙◌, ℕ, List, Some, length, get_or, slice_get, map as list_map, refl, sym, ap, subst, arith}
-use Rattle.std.proofs.lemmas.Option.{slice_get-get_or}
+use Rattle.std.proofs.lemmas.Option.{slice_get-get_or, slice_get_within}
 use Rattle.std.specs.FinMap as map
+use Rattle.std.proofs.lemmas.List.{length-map}
 use Rattle.volume_terms.specs.Sizes.{Sizes}
+use Rattle.volume_terms.specs.laws.List.{at_mapped}
 use Rattle.posix_profile.specs.State.{Dir}
 use Rattle.posix_profile.specs.Changes.{with_name}
 use Rattle.flash_tree.specs.Tree.{IsPageSize}
-use Rattle.flash_tree.specs.laws.Tree.{slice_get_within}
 use Rattle.object_table.specs.Built.{sizes_built, Builds}
 use Rattle.object_table.specs.Counted.{GetsName}
 use Rattle.tree_walk.specs.Trees.{head_at, numbers_of}
 use Rattle.tree_walk.specs.declared.tree.NamedObject.{NamedObject}
 use Rattle.tree_walk.specs.declared.tree.Tree.{Tree}
-use Rattle.tree_table.proofs.Elements.{at_mapped}
 use Rattle.tree_table.proofs.Naming.{AreNamedOnce, begins_named, gets, named_more, all_came}
-use Rattle.tree_table.proofs.Parts.{len_mapped}
 use Rattle.tree_table.proofs.Slots.{NamedSlot, name_of}
 use Rattle.tree_table.proofs.Told.{listed, head_of, slots_of, page_size}
 use Rattle.tree_table.proofs.names.insert_names.Goals as goal
@@ -68,7 +67,7 @@ returns-clause-builds c = λ m objects part shown nameless start.
     let slots = slots_of z size m tree objects shown.tree_of shown.shows in
     let so_far = c.loop-place.invariant.builds m objects part shown nameless start in
     let enough : length slots.0 ≤ c.loop-place.place =
-    omega (arith, c.loop-place-test.false, ap length c.names-names.ensures, ap length slots.1.pairs_are, len_mapped name_of slots.0) in
+    omega (arith, c.loop-place-test.false, ap length c.names-names.ensures, ap length slots.1.pairs_are, length-map slots.0 name_of) in
     let same = all_came objects slots.0 c.loop-place.place so_far.0 so_far.1 (λ d o name names.
     let on = listed z size m tree objects shown.tree_of shown.shows d (Dir names.moment names.entries) names.directory_is in
     let s = slots.1.every on.0 d o name (slice_get_within (numbers_of tree) on.0 d on.1) on.1 names in

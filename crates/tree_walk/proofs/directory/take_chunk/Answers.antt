@@ -1,7 +1,8 @@
 use Rattle.std.proofs.Common.{◌≡◌, ◌≤◌, ◌+◌, ◌∙◌, None, Some, refl, sym, ap, arith}
 use Rattle.volume_terms.specs.Sizes.{page_slots}
+use Rattle.volume_terms.specs.laws.Rounding.{slots_fit}
 use Rattle.pages.specs.State.{PagesState}
-use Rattle.tree_walk.proofs.SlotSteps.{no_page, slots_fit}
+use Rattle.tree_walk.proofs.SlotSteps.{no_page}
 use Rattle.tree_walk.proofs.directory.take_chunk.Goals as goal
 
 pub returns-in-Present-clause-fault : goal.returns-in-Present-clause-fault

@@ -1,8 +1,9 @@
 use Rattle.std.proofs.Common.{◌≡◌, ◌≤◌, ◌<◌, ◌+◌, ◌*◌, ◌∙◌, ℕ, length, sym, subst, arith}
 use Rattle.std.proofs.lemmas.Result.{err_from_is_err_and}
 use Rattle.volume_terms.specs.Sizes.{page_slots}
+use Rattle.volume_terms.specs.laws.Rounding.{slots_fit}
 use Rattle.tree_walk.specs.SlotLists.{HasSlots, TakesNone, LacksOf}
-use Rattle.tree_walk.proofs.SlotSteps.{one_more, slot_of_page, slots_fit, taken_none}
+use Rattle.tree_walk.proofs.SlotSteps.{one_more, slot_of_page, taken_none}
 use Rattle.tree_walk.proofs.Telling.{tells_as, tells_why}
 use Rattle.tree_walk.proofs.directory.take_page.Goals as goal
 

@@ -1,8 +1,8 @@
 use Rattle.std.proofs.Common.{◌≡◌, ◌∙◌, ◌-◌, ◌+◌, sym, ap, arith, not}
 use Rattle.std.specs.List.{find, range_with_len}
 use Rattle.std.specs.FinMap as map
+use Rattle.volume_terms.specs.laws.List.{find_hit, find_step}
 use Rattle.command_plans.specs.Tables.{handles_in}
-use Rattle.command_plans.proofs.Counts.{find_hit, find_step}
 use Rattle.command_plans.proofs.table.DescriptorTable.free.Goals as goal
 
 pub returns-then-is_closed : goal.returns-then-is_closed

@@ -1,7 +1,8 @@
 use Rattle.std.proofs.Common.{◌≡◌, ◌∙◌, length, refl, arith}
 use Rattle.std.specs.BinaryHeap.{heap_items}
+use Rattle.std.proofs.lemmas.List.{nil_from_length}
 use Rattle.object_table.specs.Taken.{taken_in}
-use Rattle.object_table.proofs.Free.{took_knows, no_items, mark_below, mark_knows}
+use Rattle.object_table.proofs.Free.{took_knows, mark_below, mark_knows}
 use Rattle.object_table.proofs.free_numbers.FreeNumbers.take.Goals as goal
 
 pub returns-in-Some-clause-knows : goal.returns-in-Some-clause-knows
@@ -11,6 +12,6 @@ returns-in-Some-clause-knows c = λ before knows takes.
 pub returns-in-None-clause-knows : goal.returns-in-None-clause-knows
 returns-in-None-clause-knows c = λ before knows takes.
     let zero' : length (heap_items c.args.self.now.freed) ≡ 0 = omega (arith, c.args.self.now.freed.data.ok.0, c.in-None.ensures.none) in
-    let none = no_items (heap_items c.args.self.now.freed) zero' in
+    let none = nil_from_length (heap_items c.args.self.now.freed) zero' in
     let below = mark_below c.args.self.now before (taken_in c.args.facts.now) knows none takes in
     mark_knows _ (taken_in c.args.facts.now) (c.in-None.ensures.unchanged.0 ∙ none) (omega (arith, c.first_free-low.ensures.low below, knows.low)) (c.first_free-low.ensures.free below) (c.first_free-low.ensures.below below)

@@ -1,6 +1,7 @@
-use Rattle.std.proofs.Common.{◌≡◌, ◌<◌, ◌∙◌, ℕ, List, length, Some, slice_get, refl, sym, ap, arith, take, suc, ◌+◌}
+use Rattle.std.proofs.Common.{◌<◌, ◌∙◌, ℕ, List, length, Some, slice_get, refl, sym, ap, arith, take, suc}
 use Rattle.std.proofs.Math.Seq.{take-suc}
 use Rattle.std.proofs.lemmas.List.{take_all}
+use Rattle.std.proofs.Math.Numerals.{add-one}
 use Rattle.pages.specs.Maps.{without_cuts}
 use Rattle.pages.specs.declared.change.Cut.{Cut}
 use Rattle.page_buffer.specs.Shown.{present_data}
@@ -8,13 +9,10 @@ use Rattle.page_buffer.specs.BufferOf.{buffered}
 use Rattle.page_buffer.proofs.Cutting.{cutting_starts, cutting_more}
 use Rattle.page_buffer.proofs.buffer.Buffer.cut_all.Goals as goal
 
-add_one : (n : ℕ) → n + 1 ≡ suc n
-add_one n = omega arith
-
 pub loop-cut-preserved : goal.loop-cut-preserved
 loop-cut-preserved c = record {
   cutting = cutting_more c.args.cuts.now c.loop-cut.cut-index _ c.args.index.now c.loop-cut.index c.cut.new.index (buffered c.args.self.now) (buffered c.loop-cut.self) (buffered c.cut.new.self)
-      (ap (λ n. take n c.args.cuts.now) (add_one c.loop-cut.cut-index) ∙ take-suc c.args.cuts.now c.loop-cut.cut-index _ c.loop-cut-test.true) c.loop-cut.invariant.cutting c.cut.ensures.buffers c.cut.ensures.kept c.cut.ensures.prepared c.cut.ensures.cuts c.cut.ensures.room;
+      (ap (λ n. take n c.args.cuts.now) (add-one c.loop-cut.cut-index) ∙ take-suc c.args.cuts.now c.loop-cut.cut-index _ c.loop-cut-test.true) c.loop-cut.invariant.cutting c.cut.ensures.buffers c.cut.ensures.kept c.cut.ensures.prepared c.cut.ensures.cuts c.cut.ensures.room;
   sizes = (c.cut.ensures.sizes.0 ∙ c.loop-cut.invariant.sizes.0, c.cut.ensures.sizes.1 ∙ c.loop-cut.invariant.sizes.1);
 }
 

@@ -1,9 +1,10 @@
 use Rattle.std.proofs.Common.{◌≡◌, ◌∙◌, List, [], length, sym, ap, subst, arith, rules}
 use Rattle.std.specs.Vec.Iter.{into_iter_items}
+use Rattle.std.proofs.lemmas.List.{nil_from_length}
 use Rattle.pages.specs.Changes.{IsPutBehind}
 use Rattle.flash_tree.specs.declared.place.FreshPage.{FreshPage}
 use Rattle.pages.specs.declared.change.Cut.{Cut}
-use Rattle.pages.proofs.Folding.{Folding, folding_starts, folding_goes, folding_shows, folding_shares, no_items}
+use Rattle.pages.proofs.Folding.{Folding, folding_starts, folding_goes, folding_shows, folding_shares}
 use Rattle.pages.proofs.change.Change.then.Goals as goal
 
 pub loop-page-init : goal.loop-page-init
@@ -25,12 +26,12 @@ loop-page-preserved c =
 pub returns-clause-pages : goal.returns-clause-pages
 returns-clause-pages c = λ m o k.
     let gone = rw c.in-None.is at c.next.ensures.steps in
-    let none : into_iter_items c.loop-page.page-iterator ≡ [] = no_items _ (sym c.loop-page.invariant.len ∙ gone.0) in
+    let none : into_iter_items c.loop-page.page-iterator ≡ [] = nil_from_length _ (sym c.loop-page.invariant.len ∙ gone.0) in
     folding_shows c.args.next.cuts.items c.args.next.pages.items c.args.self.pages.items c.loop-page.pages.items (into_iter_items c.loop-page.page-iterator) c.loop-page.invariant.folds none
     c.args.self.cuts.items c.append.new.self.items c.in_ok-append.ensures.items m o k
 
 pub returns-clause-shared : goal.returns-clause-shared
 returns-clause-shared c = λ o k i j a b.
     let gone = rw c.in-None.is at c.next.ensures.steps in
-    let none : into_iter_items c.loop-page.page-iterator ≡ [] = no_items _ (sym c.loop-page.invariant.len ∙ gone.0) in
+    let none : into_iter_items c.loop-page.page-iterator ≡ [] = nil_from_length _ (sym c.loop-page.invariant.len ∙ gone.0) in
     folding_shares c.args.next.cuts.items c.args.next.pages.items c.args.self.pages.items c.loop-page.pages.items (into_iter_items c.loop-page.page-iterator) c.loop-page.invariant.folds none o k i j a b

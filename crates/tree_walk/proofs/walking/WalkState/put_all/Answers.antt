@@ -1,11 +1,8 @@
-use Rattle.std.proofs.Common.{◌≡◌, ◌+◌, ◌∙◌, ◌∷◌, [], List, ℕ, suc, drop, length, length-drop, refl, slice_index, ap, subst, arith}
+use Rattle.std.proofs.Common.{◌≡◌, ◌+◌, ◌∙◌, ◌∷◌, List, ℕ, suc, drop, length-drop, slice_index, ap, subst, arith}
 use Rattle.std.proofs.Math.Seq.{drop-cons}
+use Rattle.std.proofs.lemmas.List.{nil_from_length}
 use Rattle.tree_walk.proofs.Putting.{IsPutting, put_none, put_next, put_all}
 use Rattle.tree_walk.proofs.walking.WalkState.put_all.Goals as goal
-
-no_more : (xs : List ℕ) → length xs ≡ 0 → xs ≡ []
-no_more [] is = refl
-no_more (x ∷ xs) is = absurd (omega (arith, is))
 
 pub put-requires : goal.put-requires
 put-requires c = c.loop-place.invariant.knows
@@ -25,4 +22,4 @@ pub returns-clause-puts : goal.returns-clause-puts
 returns-clause-puts c =
     let named : List ℕ = c.args.named.now in
     put_all c.args.self.now named c.loop-place.self (drop c.loop-place.place named)
-    (no_more (drop c.loop-place.place named) (length-drop c.loop-place.place named ∙ omega (arith, c.loop-place-test.false))) c.loop-place.invariant
+    (nil_from_length (drop c.loop-place.place named) (length-drop c.loop-place.place named ∙ omega (arith, c.loop-place-test.false))) c.loop-place.invariant

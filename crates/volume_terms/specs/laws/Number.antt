@@ -1,7 +1,34 @@
--- There are no more things than places, where no two things have one place.
-use Rattle.std.proofs.Common.{◌≡◌, ◌≢◌, ◌⊎◌, ◌<◌, ◌≤◌, ℕ, zero, suc, if◌then◌else◌, ◌==◌, sym, ◌∙◌, arith, inl, inr}
+-- Numbers: one of four, numbers that are apart, and that no more things stand than there are places.
+use Rattle.std.proofs.Common.{◌≡◌, ◌≢◌, ◌⊎◌, ◌<◌, ◌≤◌, ℕ, zero, suc, false, if◌then◌else◌, ◌==◌, sym, ◌∙◌, arith, inl, inr}
 use Rattle.std.proofs.lemmas.Bool.{cases_eq}
 use Rattle.std.proofs.lemmas.Bool.Decides.{nat_tests}
+use Rattle.std.specs.BTreeMap.{is_at}
+use Rattle.std.specs.Ordering.{nat_cmp}
+
+-- one of four numbers is found by trying them
+pub one_of_four : (n a b c d : ℕ) → (((n ≡ a) ⊎ (n ≡ b) ⊎ (n ≡ c) ⊎ (n ≡ d) → ⊥) → ⊥) → (n ≡ a) ⊎ (n ≡ b) ⊎ (n ≡ c) ⊎ (n ≡ d)
+one_of_four n a b c d sure = elim (cases_eq n a) [
+  | inl is ↦ inl is
+  | inr not_a ↦ elim (cases_eq n b) [
+    | inl is ↦ inr (inl is)
+    | inr not_b ↦ elim (cases_eq n c) [
+      | inl is ↦ inr (inr (inl is))
+      | inr not_c ↦ elim (cases_eq n d) [
+        | inl is ↦ inr (inr (inr is))
+        | inr not_d ↦ absurd (sure (λ any. elim any [
+          | inl is ↦ not_a is
+          | inr (inl is) ↦ not_b is
+          | inr (inr (inl is)) ↦ not_c is
+          | inr (inr (inr is)) ↦ not_d is
+        ]))
+      ]
+    ]
+  ]
+]
+
+-- a number is at its own place alone
+pub not_at : (o k : ℕ) → k ≢ o → is_at (nat_cmp o) k ≡ false
+not_at o k ne = grind (arith, nat_tests, ne)
 
 -- place m called v
 abbrev renamed : ℕ → ℕ → ℕ → ℕ
@@ -18,6 +45,7 @@ renamed_is m v k = elim (cases_eq k m) [
   no_is : k ≢ m → (if k == m then v else k) ≡ k
   no_is ne = grind (arith, nat_tests, ne)
 
+-- there are no more things than places, where no two things have one place
 pub no_more_than_places : (n m : ℕ) (place : (i : ℕ) → i < n → ℕ) → ((i : ℕ) (l : i < n) → place i l < m)
     → ((i j : ℕ) (k : i < n) (l : j < n) → place i k ≡ place j l → i ≡ j) → n ≤ m
 no_more_than_places zero m place below once = omega arith

@@ -1,6 +1,6 @@
 use Rattle.std.proofs.Common.{◌≡◌, ◌↔◌, IsTrue, Option, Some, None, is_some, not, Bool, false, rules, ℕ, true, refl, sym, ◌∙◌, ap}
 use Rattle.std.specs.FinMap as map
-use Rattle.name_map.specs.NameEntries.{get_entry, insert_name, option_map_same}
+use Rattle.name_map.specs.laws.NameEntries.{get_entry, insert_name, option_map_same}
 use Rattle.name_map.proofs.map.NameMap.insert.Goals as goal
 
 none_if : (b : Bool) (o : Option ℕ) → is_some o ≡ not b → IsTrue b ↔ (o ≡ None)

@@ -21,7 +21,8 @@ impl KeptObjects {
 }
 
 impl ObjectStore for KeptObjects {
-    ghost use Rattle.command_tests.specs.Kept.{kept_meaning, kept_lawful};
+    ghost use Rattle.command_tests.specs.Kept.{kept_meaning};
+    ghost use Rattle.command_tests.specs.laws.Kept.{kept_lawful};
 
     ghost meaning = { kept_meaning };
 

@@ -30,7 +30,7 @@ use Rattle.directories.specs.HeadPages.{IsHeadPage}
 use Rattle.directories.specs.Heads.{fields_in}
 use Rattle.directories.specs.declared.head.DirectoryHead.{DirectoryHead}
 use Rattle.formatting.proofs.Counting.{enough_picked}
-use Rattle.formatting.specs.SizesOf.{sizes_are}
+use Rattle.formatting.specs.laws.SizesOf.{sizes_are}
 use Rattle.formatting.specs.Formatting.{Keeps, single_tag, StandsAlone, HoldsOnly}
 
 -- ---- the page is the newest of its key, and no other page has a tag

@@ -1,2 +1,2 @@
-pub mod SizesOf
 pub mod Formatting
+pub mod laws

@@ -1,6 +1,7 @@
 // A store with a fuse.
 ghost use Rattle.std.specs.Prelude.{◌≡◌, ◌+◌};
-ghost use Rattle.fused_store.specs.Fuses.{fused_meaning, fused_lawful};
+ghost use Rattle.fused_store.specs.Fuses.{fused_meaning};
+ghost use Rattle.fused_store.specs.laws.Fuses.{fused_lawful};
 ghost use Rattle.fused_store.specs.declared.fuse.CallEnd.TheVariants as ends;
 ghost use Rattle.fused_store.specs.declared.fuse.LastCall.TheVariants as fates;
 

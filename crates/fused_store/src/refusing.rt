@@ -1,6 +1,7 @@
 // A store that refuses memory.
 ghost use Rattle.std.specs.Prelude.{◌≡◌, ℕ, suc, true, false, Some, None};
-ghost use Rattle.fused_store.specs.Refusals.{refusing_meaning, refusing_lawful};
+ghost use Rattle.fused_store.specs.Refusals.{refusing_meaning};
+ghost use Rattle.fused_store.specs.laws.Refusals.{refusing_lawful};
 
 use object_store::{ObjectChange, ObjectStore};
 use posix_profile::{Bytes, Info, NameList};

@@ -1,1 +1,2 @@
 pub mod PlainMeaning
+pub mod laws

@@ -1,10 +1,9 @@
 -- What maps stand for.
 use Rattle.std.specs.Prelude.{◌≡◌}
-use Rattle.std.proofs.Common.{refl, ◌∙◌, inl}
 use Rattle.volume_terms.specs.Sizes.{Sizes}
 use Rattle.volume_terms.specs.VolumeSizes.{sizes_of}
 use Rattle.posix_profile.specs.State.{Objects}
-use Rattle.object_store.specs.Stores.{Meaning, IsLawful}
+use Rattle.object_store.specs.Stores.{Meaning}
 use Rattle.plain_state.specs.PlainState.{objects_in}
 use Rattle.plain_objects.specs.declared.store.PlainObjects.{PlainObjects}
 
@@ -29,23 +28,4 @@ plain_meaning = record {
   changes = λ old new a b. Unit {0};
   fails = λ old new a b. ⊥;
   commits = λ objects a b. Unit {0};
-}
-
-pub plain_lawful : IsLawful plain_meaning
-plain_lawful = record {
-  leaves_nothing = λ a. tt;
-  reads_nothing = λ a. (refl, refl);
-  reads_on = λ a b c first then'. (then'.0 ∙ first.0, then'.1 ∙ first.1);
-  reads_lasts = λ a b reads. reads.1;
-  lasts_on = λ a b c first then'. then' ∙ first;
-  lasts_sizes = λ a b lasts. lasts;
-  reads_stands = λ a b objects reads is. reads.0 ∙ is;
-  reads_shows = λ a b tree reads shown. tt;
-  changes_on = λ a b c old new reads changes. tt;
-  changes_shows = λ a b old new changes tree shown. inl tt;
-  fails_on = λ a b c old new reads fails. fails;
-  fails_wide = λ a b old new fails. fails;
-  fails_shows = λ a b old new fails tree shown. absurd fails;
-  commits_on = λ a b c objects reads commits. tt;
-  commits_shows = λ a b objects commits. tt;
 }

@@ -116,7 +116,8 @@ fn read_at(
 }
 
 impl ObjectStore for PlainObjects {
-    ghost use Rattle.plain_objects.specs.PlainMeaning.{plain_meaning, plain_lawful};
+    ghost use Rattle.plain_objects.specs.PlainMeaning.{plain_meaning};
+    ghost use Rattle.plain_objects.specs.laws.PlainMeaning.{plain_lawful};
 
     ghost meaning = { plain_meaning };
 

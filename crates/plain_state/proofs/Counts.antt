@@ -13,9 +13,10 @@ use Rattle.std.proofs.lemmas.List.Recursion.{is_count_by}
 use Rattle.posix_profile.specs.State.{Object, Dir}
 use Rattle.posix_profile.specs.Names.{has_entry_to, names_to, parent, is_named}
 use Rattle.plain_state.specs.declared.object.PlainObject.{PlainObject}
-use Rattle.name_map.specs.NameEntries.{entries_in, name_cmp, entries_entries, values_entries}
+use Rattle.name_map.specs.NameEntries.{entries_in, name_cmp}
+use Rattle.name_map.specs.laws.NameEntries.{entries_entries, values_entries}
 use Rattle.plain_state.specs.PlainState.{object_of, objects_in}
-use Rattle.plain_state.specs.Views.{entries_objects, values_objects}
+use Rattle.plain_state.specs.laws.Views.{entries_objects, values_objects}
 
 any_map : {X Y : Type 0} (p : Y → Bool) (f : X → Y) (xs : List X) → list_any p (list_map f xs) ≡ list_any (λ x. p (f x)) xs
 any_map p f [] = refl

@@ -18,7 +18,7 @@ use Rattle.volume_terms.specs.Rounding.{ceiling}
 use Rattle.posix_profile.specs.laws.Write.{ceiling_at_most}
 use Rattle.plain_state.specs.declared.object.PlainObject.{PlainObject}
 use Rattle.plain_state.specs.PlainState.{object_of, objects_in}
-use Rattle.plain_state.specs.Views.{entries_objects, charge_values}
+use Rattle.plain_state.specs.laws.Views.{entries_objects, charge_values}
 
 -- how many names of the object lead to the number
 abbrev pub names_in : ℕ → PlainObject → ℕ

@@ -1,2 +1,2 @@
 pub mod PlainState
-pub mod Views
+pub mod laws

@@ -1,5 +1,5 @@
 use Rattle.std.proofs.Common.{sym, subst, arith}
-use Rattle.formatting.specs.SizesOf.{sizes_are}
+use Rattle.formatting.specs.laws.SizesOf.{sizes_are}
 use Rattle.volume_terms.specs.Sizes.{IsSizes}
 use Rattle.exerciser.proofs.sizes.sizes_with.Goals as goal
 

@@ -3,7 +3,7 @@ use Rattle.std.specs.Cmp.{nat_cmp_total}
 use Rattle.std.specs.FinMap as map
 use Rattle.std.proofs.Common.{ℕ}
 use Rattle.plain_state.specs.PlainState.{object_of}
-use Rattle.name_map.specs.Seen.{remove_seen}
+use Rattle.name_map.specs.laws.Seen.{remove_seen}
 use Rattle.plain_objects.proofs.changes.forget.Goals as goal
 
 pub returns : goal.returns

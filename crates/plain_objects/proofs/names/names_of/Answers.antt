@@ -1,6 +1,6 @@
 use Rattle.std.proofs.Common.{◌∙◌, ◌++◌, List, ℕ, sym, ap, map as list_map}
 use Rattle.std.specs.Global.{Vec}
-use Rattle.name_map.specs.NameEntries.{keys_entries}
+use Rattle.name_map.specs.laws.NameEntries.{keys_entries}
 use Rattle.plain_objects.proofs.names.names_of.Goals as goal
 
 pub loop-name-init : goal.loop-name-init

@@ -1,6 +1,6 @@
 use Rattle.std.proofs.Common.{◌∙◌, ap}
 use Rattle.posix_profile.specs.State.{entries_of}
-use Rattle.name_map.specs.NameEntries.{empty_entries}
+use Rattle.name_map.specs.laws.NameEntries.{empty_entries}
 use Rattle.plain_state.proofs.change.entries_at.Goals as goal
 
 pub returns-in-None : goal.returns-in-None

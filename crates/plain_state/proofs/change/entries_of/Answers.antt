@@ -1,7 +1,8 @@
 use Rattle.std.proofs.Common.{◌≡◌, ◌∙◌, sym, ap, Some}
 use Rattle.std.proofs.lemmas.Result.{IfOk-weaker}
 use Rattle.posix_profile.specs.State.{entries_of}
-use Rattle.name_map.specs.NameEntries.{entries_in, empty_entries}
+use Rattle.name_map.specs.NameEntries.{entries_in}
+use Rattle.name_map.specs.laws.NameEntries.{empty_entries}
 use Rattle.plain_state.specs.PlainState.{object_of}
 use Rattle.plain_state.proofs.change.entries_of.Goals as goal
 

@@ -3,7 +3,7 @@ use Rattle.std.specs.List.{find, range_with_len}
 use Rattle.std.specs.FinMap as map
 use Rattle.volume_terms.specs.laws.List.{find_step}
 use Rattle.plain_state.specs.PlainState.{objects_in}
-use Rattle.plain_state.specs.Views.{len_objects}
+use Rattle.plain_state.specs.laws.Views.{len_objects}
 use Rattle.plain_state.proofs.change.new_number.Goals as goal
 
 pub loop-number-init : goal.loop-number-init

@@ -2,7 +2,8 @@ use Rattle.std.proofs.Common.{◌∙◌, ap}
 use Rattle.std.proofs.lemmas.Result.{on_ok_weaker}
 use Rattle.std.specs.FinMap as map
 use Rattle.posix_profile.specs.State.{Dir}
-use Rattle.name_map.specs.NameEntries.{entries_in, insert_name}
+use Rattle.name_map.specs.NameEntries.{entries_in}
+use Rattle.name_map.specs.laws.NameEntries.{insert_name}
 use Rattle.plain_state.specs.PlainState.{objects_in}
 use Rattle.plain_state.proofs.change.put_name.Goals as goal
 

@@ -3,7 +3,7 @@ use Rattle.std.proofs.lemmas.Result.{on_ok_weaker}
 use Rattle.std.specs.FinMap as map
 use Rattle.posix_profile.specs.State.{Dir}
 use Rattle.plain_state.specs.PlainState.{objects_in}
-use Rattle.name_map.specs.NameEntries.{remove_name}
+use Rattle.name_map.specs.laws.NameEntries.{remove_name}
 use Rattle.plain_state.proofs.change.remove_name.Goals as goal
 
 pub returns : goal.returns

@@ -3,7 +3,7 @@ use Rattle.posix_profile.specs.Charge.{cost}
 use Rattle.std.specs.Map.Iter.{deref}
 use Rattle.plain_state.specs.PlainState.{object_of}
 use Rattle.volume_terms.specs.VolumeSizes.{sizes_of}
-use Rattle.plain_state.specs.Views.{charge_values, all_gone}
+use Rattle.plain_state.specs.laws.Views.{charge_values, all_gone}
 use Rattle.plain_state.proofs.charge.charge.Goals as goal
 
 pub loop-object-init : goal.loop-object-init

@@ -1,11 +1,12 @@
 use Rattle.std.proofs.Common.{◌∙◌, ◌+◌, ◌<◌, sym, ap, arith}
 use Rattle.volume_terms.specs.Sizes.{page_slots}
 use Rattle.posix_profile.specs.Charge.{cost}
-use Rattle.name_map.specs.NameEntries.{entries_in, len_entries}
+use Rattle.name_map.specs.NameEntries.{entries_in}
+use Rattle.name_map.specs.laws.NameEntries.{len_entries}
 use Rattle.plain_state.specs.PlainState.{object_of}
 use Rattle.volume_terms.specs.VolumeSizes.{sizes_of}
 use Rattle.std.specs.FinMap as map
-use Rattle.plain_state.specs.Views.{ceiling_at}
+use Rattle.plain_state.specs.laws.Views.{ceiling_at}
 use Rattle.plain_state.proofs.charge.cost.Goals as goal
 
 pub returns-in-Directory : goal.returns-in-Directory

@@ -4,7 +4,7 @@ use Rattle.std.specs.Ordering.{nat_cmp}
 use Rattle.std.specs.Cmp.Lexicographic.{slice_cmp}
 use Rattle.posix_profile.specs.State.{entries_of}
 use Rattle.plain_state.specs.PlainState.{object_of}
-use Rattle.name_map.specs.NameEntries.{len_entries}
+use Rattle.name_map.specs.laws.NameEntries.{len_entries}
 use Rattle.plain_state.proofs.links.entry_count.Goals as goal
 
 pub returns-in-File : goal.returns-in-File

@@ -5,7 +5,7 @@ use Rattle.std.specs.Ordering.{nat_cmp}
 use Rattle.std.specs.Cmp.Lexicographic.{slice_cmp}
 use Rattle.posix_profile.specs.State.{entries_of}
 use Rattle.plain_state.specs.PlainState.{object_of}
-use Rattle.name_map.specs.NameEntries.{get_entry, option_map_same}
+use Rattle.name_map.specs.laws.NameEntries.{get_entry, option_map_same}
 use Rattle.plain_state.proofs.links.entry_of.Goals as goal
 
 pub returns-in-File : goal.returns-in-File

@@ -2,7 +2,7 @@ use Rattle.std.proofs.Common.{◌∙◌, ℕ, Bool, length, sym, ap, arith}
 use Rattle.std.specs.FinMap as map
 use Rattle.posix_profile.specs.State.{is_directory}
 use Rattle.plain_state.specs.PlainState.{objects_in}
-use Rattle.name_map.specs.NameEntries.{values_entries}
+use Rattle.name_map.specs.laws.NameEntries.{values_entries}
 use Rattle.plain_state.proofs.Counts.{count_left, count_left_is}
 use Rattle.plain_state.proofs.links.subdirectories.Goals as goal
 

@@ -6,7 +6,7 @@ use Rattle.std.proofs.lemmas.Map.Entries.{filter_from_retain_pairs}
 use Rattle.volume_terms.specs.Sizes.{root_number}
 use Rattle.posix_profile.specs.Names.{is_named}
 use Rattle.plain_state.specs.PlainState.{objects_in, object_of}
-use Rattle.name_map.specs.Seen.{retain_seen}
+use Rattle.name_map.specs.laws.Seen.{retain_seen}
 use Rattle.plain_state.proofs.Kept.{kept_settles}
 use Rattle.plain_state.proofs.prune.settled.Goals as goal
 

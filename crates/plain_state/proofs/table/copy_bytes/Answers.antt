@@ -1,5 +1,5 @@
 use Rattle.std.proofs.Common.{◌≡◌}
-use Rattle.name_map.specs.Seen.{ok_of, same_zip}
+use Rattle.name_map.specs.laws.Seen.{ok_of, same_zip}
 use Rattle.plain_state.proofs.table.copy_bytes.Goals as goal
 
 pub returns : goal.returns

@@ -4,7 +4,7 @@ use Rattle.std.specs.FinMap as map
 use Rattle.std.specs.Ordering.{nat_cmp}
 use Rattle.std.specs.Cmp.Lexicographic.{slice_cmp}
 use Rattle.name_map.specs.NameEntries.{entries_in}
-use Rattle.name_map.specs.Seen.{ok_of, same_zip, clone_seen}
+use Rattle.name_map.specs.laws.Seen.{ok_of, same_zip, clone_seen}
 use Rattle.plain_state.proofs.table.copy_entries.Goals as goal
 
 pub returns : goal.returns

@@ -2,7 +2,7 @@ use Rattle.std.proofs.Common.{◌≡◌, ℕ, ap}
 use Rattle.std.specs.FinMap as map
 use Rattle.std.specs.Ordering.{nat_cmp}
 use Rattle.plain_state.specs.PlainState.{object_of, objects_in}
-use Rattle.name_map.specs.Seen.{ok_of, clone_seen}
+use Rattle.name_map.specs.laws.Seen.{ok_of, clone_seen}
 use Rattle.plain_state.proofs.table.copy_objects.Goals as goal
 
 pub returns : goal.returns

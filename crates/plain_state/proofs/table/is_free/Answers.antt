@@ -1,5 +1,5 @@
 use Rattle.std.proofs.Common.{◌∙◌, sym, ap, not}
-use Rattle.plain_state.specs.Views.{has_object_is}
+use Rattle.plain_state.specs.laws.Views.{has_object_is}
 use Rattle.plain_state.proofs.table.is_free.Goals as goal
 
 pub returns : goal.returns

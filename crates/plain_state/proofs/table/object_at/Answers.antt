@@ -1,5 +1,5 @@
 use Rattle.std.proofs.Common.{sym, ◌∙◌}
-use Rattle.plain_state.specs.Views.{get_object, mapped_copied}
+use Rattle.plain_state.specs.laws.Views.{get_object, mapped_copied}
 use Rattle.plain_state.specs.PlainState.{object_of}
 use Rattle.plain_state.proofs.table.object_at.Goals as goal
 

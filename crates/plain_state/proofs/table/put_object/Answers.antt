@@ -1,4 +1,4 @@
-use Rattle.plain_state.specs.Views.{insert_object}
+use Rattle.plain_state.specs.laws.Views.{insert_object}
 use Rattle.plain_state.proofs.table.put_object.Goals as goal
 
 pub returns : goal.returns

@@ -2,7 +2,7 @@ use Rattle.std.proofs.Common.{inl, sym, ◌∙◌, subst}
 use Rattle.object_store.specs.Changes.{made}
 use Rattle.object_store.specs.Stores.{Has}
 use Rattle.fused_store.specs.declared.fuse.FusedStore.{FusedStore}
-use Rattle.fused_store.specs.Fuses.{lost_before, lost_after, inner_has}
+use Rattle.fused_store.proofs.Fuses.{lost_before, lost_after, inner_has}
 use Rattle.fused_store.proofs.fuse.FusedStoreObjectStore.apply.Goals as goal
 
 pub returns-in_ok-apply-in-DoneAndLost-clause-applies : goal.returns-in_ok-apply-in-DoneAndLost-clause-applies

@@ -1,7 +1,7 @@
 use Rattle.std.proofs.Common.{inl, inr, sym, ◌∙◌, subst}
 use Rattle.object_store.specs.Stores.{Has}
 use Rattle.fused_store.specs.declared.fuse.FusedStore.{FusedStore}
-use Rattle.fused_store.specs.Fuses.{lost_before, lost_after, inner_has}
+use Rattle.fused_store.proofs.Fuses.{lost_before, lost_after, inner_has}
 use Rattle.fused_store.proofs.fuse.FusedStoreObjectStore.commit.Goals as goal
 
 pub returns-in_ok-commit-in-DoneAndLost-clause-commits : goal.returns-in_ok-commit-in-DoneAndLost-clause-commits

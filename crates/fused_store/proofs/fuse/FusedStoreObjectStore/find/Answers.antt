@@ -1,5 +1,5 @@
 use Rattle.std.proofs.Common.{inl}
-use Rattle.fused_store.specs.Fuses.{lost_before}
+use Rattle.fused_store.proofs.Fuses.{lost_before}
 use Rattle.fused_store.proofs.fuse.FusedStoreObjectStore.find.Goals as goal
 
 pub returns-in-DoneAndLost-clause-finds : goal.returns-in-DoneAndLost-clause-finds

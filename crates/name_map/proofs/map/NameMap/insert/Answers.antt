@@ -1,6 +1,6 @@
 use Rattle.std.proofs.Common.{sym, ◌∙◌, ap}
 use Rattle.std.specs.FinMap as map
-use Rattle.name_map.specs.NameEntries.{get_entry, insert_name, option_map_same}
+use Rattle.name_map.specs.laws.NameEntries.{get_entry, insert_name, option_map_same}
 use Rattle.name_map.proofs.map.NameMap.insert.Goals as goal
 
 pub returns-clause-inserted : goal.returns-clause-inserted

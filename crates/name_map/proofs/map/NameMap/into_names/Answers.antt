@@ -1,7 +1,7 @@
 use Rattle.std.proofs.Common.{◌∙◌, ◌++◌, List, ℕ, sym, ap, map as list_map}
 use Rattle.std.specs.Global.{Vec}
 use Rattle.std.specs.FinMap as map
-use Rattle.name_map.specs.NameEntries.{keys_entries}
+use Rattle.name_map.specs.laws.NameEntries.{keys_entries}
 use Rattle.name_map.proofs.map.NameMap.into_names.Goals as goal
 
 pub loop-name-init : goal.loop-name-init

@@ -1,6 +1,6 @@
 use Rattle.std.proofs.Common.{◌∙◌, sym, ap}
 use Rattle.std.specs.FinMap as map
-use Rattle.name_map.specs.NameEntries.{len_entries}
+use Rattle.name_map.specs.laws.NameEntries.{len_entries}
 use Rattle.name_map.proofs.map.NameMap.len.Goals as goal
 
 pub returns : goal.returns

@@ -2,7 +2,7 @@ use Rattle.std.proofs.Common.{◌≡◌, IfOk, rules, ◌∙◌, sym, ap}
 use Rattle.std.specs.FinMap as map
 use Rattle.std.specs.BTreeMap as tree
 use Rattle.std.proofs.lemmas.Result.{IfOk-weaker}
-use Rattle.name_map.specs.NameEntries.{values_entries}
+use Rattle.name_map.specs.laws.NameEntries.{values_entries}
 use Rattle.name_map.proofs.map.NameMap.numbers.Goals as goal
 
 pub returns : goal.returns

@@ -6,9 +6,10 @@ use Rattle.volume_terms.specs.VolumeSizes.{sizes_of}
 use Rattle.posix_profile.specs.Charge.{fits}
 use Rattle.posix_profile.specs.State.{Dir, Objects, Entries}
 use Rattle.posix_profile.specs.laws.Fresh.{fresh, fresh_fits}
-use Rattle.name_map.specs.NameEntries.{entries_in, empty_entries}
+use Rattle.name_map.specs.NameEntries.{entries_in}
+use Rattle.name_map.specs.laws.NameEntries.{empty_entries}
 use Rattle.plain_state.specs.PlainState.{objects_in}
-use Rattle.plain_state.specs.Views.{empty_objects}
+use Rattle.plain_state.specs.laws.Views.{empty_objects}
 use Rattle.plain_objects.proofs.store.PlainObjects.new.Goals as goal
 
 pub invariant_of-result : goal.invariant_of-result

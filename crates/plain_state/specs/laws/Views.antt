@@ -1,7 +1,7 @@
 -- Maps seen as those of a state.
-use Rattle.std.specs.Prelude.{◌≡◌, ◌<◌, ℕ, ◌+◌, ◌/◌, ◌%◌, min, List, [], ◌∷◌, map as list_map, length, sum_by, Option, Some, None, is_some}
-use Rattle.std.proofs.Common.{refl, ◌∙◌, ap, arith}
-use Rattle.std.specs.Ordering.{nat_cmp, is_eq}
+use Rattle.std.specs.Prelude.{◌≡◌, ◌<◌, ℕ, ◌+◌, List, [], ◌∷◌, map as list_map, length, sum_by, Option, Some, None, is_some}
+use Rattle.std.proofs.Common.{refl, ◌∙◌, ap}
+use Rattle.std.specs.Ordering.{nat_cmp}
 use Rattle.std.specs.Cmp.{nat_cmp_total}
 use Rattle.std.specs.Option.{option_map, option_copied}
 use Rattle.std.specs.BTreeMap as tree
@@ -10,7 +10,6 @@ use Rattle.std.specs.FinMap as map
 use Rattle.std.proofs.lemmas.List.{length-map}
 use Rattle.std.specs.Int.{div_ceil}
 use Rattle.std.specs.List.{fold}
-use Rattle.std.proofs.lemmas.Grind.{common_steps}
 use Rattle.std.specs.Map.Iter.{TakesFirst}
 use Rattle.std.proofs.lemmas.Map.Iter.{rest_all}
 use Rattle.volume_terms.specs.Sizes.{Sizes}
@@ -20,7 +19,7 @@ use Rattle.volume_terms.specs.laws.Rounding.{ceiling_is}
 use Rattle.posix_profile.specs.State.{Object}
 use Rattle.plain_state.specs.declared.object.PlainObject.{PlainObject}
 use Rattle.plain_state.specs.PlainState.{object_of, objects_in}
-use Rattle.name_map.specs.Seen.{get_seen, entries_seen, insert_seen}
+use Rattle.name_map.specs.laws.Seen.{get_seen, entries_seen, insert_seen}
 use denote.Bor.{Bor}
 
 -- a view of what a reference points to

@@ -1,0 +1,21 @@
+-- What the maps that keep a copy share with the maps.
+use Rattle.std.specs.Prelude.{Result, Ok, Err}
+use Rattle.volume_terms.specs.Sizes.{Sizes}
+use Rattle.posix_profile.specs.State.{Objects}
+use Rattle.object_store.specs.Stores.{Has, Finds}
+use Rattle.plain_objects.specs.PlainMeaning.{plain_meaning}
+use Rattle.volume_terms.specs.declared.fault.StoreFault.{StoreFault}
+use Rattle.volume_terms.specs.declared.fault.StoreFault.TheVariants as faults
+use Rattle.command_tests.specs.declared.kept.KeptObjects.{KeptObjects}
+use Rattle.command_tests.specs.Kept.{kept_meaning}
+
+-- the maps have what the store has
+pub maps_have : (z : Sizes) (objects : Objects) (a : KeptObjects) → Has kept_meaning z objects a → Has plain_meaning z objects a.objects
+maps_have z objects a has = record { numbers = has.numbers; sizes = has.sizes; stands = has.stands; forest = has.forest; fit = has.fit }
+
+-- what the maps find, the store finds
+pub store_finds : {A : Type 0} (objects : Objects) (meant : A) (a b : KeptObjects) (r : Result A StoreFault) → Finds plain_meaning objects meant a.objects b.objects r → Finds kept_meaning objects meant a b r
+store_finds objects meant a b (Ok found) is = is
+store_finds objects meant a b (Err faults.NoMemory) is = is
+store_finds objects meant a b (Err faults.Device) is = tt
+store_finds objects meant a b (Err faults.Worn) is = tt

@@ -1,0 +1,61 @@
+-- A store with a fuse is lawful where the one inside is.
+use Rattle.std.specs.Prelude.{◌≡◌, ◌⊎◌, ℕ}
+use Rattle.std.proofs.Common.{refl, ◌∙◌, inl, inr, arith}
+use Rattle.posix_profile.specs.State.{Objects}
+use Rattle.object_store.specs.Stores.{Meaning, IsLawful, KeepsOrSettles}
+use Rattle.fused_store.specs.declared.fuse.LastCall.{LastCall}
+use Rattle.fused_store.specs.declared.fuse.LastCall.TheVariants as fates
+use Rattle.fused_store.specs.Fuses.{LeftBy, IsLost, Spends, fused_meaning}
+
+spends_on : {T : Type 0} (calls : T → ℕ) (last : T → LastCall) (a b c : T) → Spends calls last a b → Spends calls last b c → Spends calls last a c
+spends_on calls last a b c x y = record { calls_fall = omega (arith, x.calls_fall, y.calls_fall); fate = y.fate ∙ x.fate }
+
+left_on : {S : Type 0} (m : Meaning S) (law : IsLawful m) (a b c : S) (fate : LastCall) (old now : Objects) → m.reads a b → LeftBy m fate old now b c → LeftBy m fate old now a c
+left_on m law a b c fates.NotDone old now reads more = law.reads_on a b c reads more
+left_on m law a b c fates.Done old now reads (inl more) = inl (law.reads_on a b c reads more)
+left_on m law a b c fates.Done old now reads (inr (inl made)) = inr (inl (law.changes_on a b c old now reads made))
+left_on m law a b c fates.Done old now reads (inr (inr done)) = inr (inr (law.commits_on a b c old reads done))
+
+lost_on : {S : Type 0} (m : Meaning S) (law : IsLawful m) (calls : ℕ) (fate : LastCall) (a b c : S) (old new : Objects) → m.reads a b → IsLost m calls fate old new b c → IsLost m calls fate old new a c
+lost_on m law calls fate a b c old new reads lost = record { spent = lost.spent; now = lost.now; either = lost.either; left = left_on m law a b c fate old lost.now reads lost.left }
+
+lost_wide : {S : Type 0} (m : Meaning S) (calls : ℕ) (fate : LastCall) (a b : S) (old new : Objects) → IsLost m calls fate old old a b → IsLost m calls fate old new a b
+lost_wide m calls fate a b old new lost = record { spent = lost.spent; now = lost.now; either = go lost.either; left = lost.left }
+  where
+    go : (lost.now ≡ old) ⊎ (lost.now ≡ old) → (lost.now ≡ old) ⊎ (lost.now ≡ new)
+    go (inl is) = inl is
+    go (inr is) = inl is
+
+left_shows : {S : Type 0} (m : Meaning S) (law : IsLawful m) (a b : S) (fate : LastCall) (old now : Objects) → LeftBy m fate old now a b → KeepsOrSettles m old a b
+left_shows m law a b fates.NotDone old now reads = λ tree shown. inl (law.reads_shows a b tree reads shown)
+left_shows m law a b fates.Done old now (inl reads) = λ tree shown. inl (law.reads_shows a b tree reads shown)
+left_shows m law a b fates.Done old now (inr (inl made)) = law.changes_shows a b old now made
+left_shows m law a b fates.Done old now (inr (inr done)) = λ tree shown. inr (law.commits_shows a b old done)
+
+pub fused_lawful : {S T : Type 0} (m : Meaning S) (law : IsLawful m) (inner : T → S) (calls : T → ℕ) (last : T → LastCall) → IsLawful (fused_meaning m inner calls last)
+fused_lawful m law inner calls last = record {
+  leaves_nothing = λ a. law.leaves_nothing (inner a);
+  reads_nothing = λ a. (law.reads_nothing (inner a), record { calls_fall = omega arith; fate = refl });
+  reads_on = λ a b c x y. (law.reads_on (inner a) (inner b) (inner c) x.0 y.0, spends_on calls last a b c x.1 y.1);
+  reads_lasts = λ a b x. (law.reads_lasts (inner a) (inner b) x.0, x.1);
+  lasts_on = λ a b c x y. (law.lasts_on (inner a) (inner b) (inner c) x.0 y.0, spends_on calls last a b c x.1 y.1);
+  lasts_sizes = λ a b x. law.lasts_sizes (inner a) (inner b) x.0;
+  reads_stands = λ a b objects x. law.reads_stands (inner a) (inner b) objects x.0;
+  reads_shows = λ a b tree x. law.reads_shows (inner a) (inner b) tree x.0;
+  changes_on = λ a b c old new x y. (law.changes_on (inner a) (inner b) (inner c) old new x.0 y.0, omega (arith, x.1.calls_fall, y.1));
+  changes_shows = λ a b old new x. law.changes_shows (inner a) (inner b) old new x.0;
+  fails_on = λ a b c old new x fails. elim fails [
+    | inl lost ↦ inl (lost_on m law (calls c) (last c) (inner a) (inner b) (inner c) old new x.0 lost)
+    | inr more ↦ inr (law.fails_on (inner a) (inner b) (inner c) old new x.0 more)
+  ];
+  fails_wide = λ a b old new fails. elim fails [
+    | inl lost ↦ inl (lost_wide m (calls b) (last b) (inner a) (inner b) old new lost)
+    | inr more ↦ inr (law.fails_wide (inner a) (inner b) old new more)
+  ];
+  fails_shows = λ a b old new fails. elim fails [
+    | inl lost ↦ left_shows m law (inner a) (inner b) (last b) old lost.now lost.left
+    | inr more ↦ law.fails_shows (inner a) (inner b) old new more
+  ];
+  commits_on = λ a b c objects x y. (law.commits_on (inner a) (inner b) (inner c) objects x.0 y.0, omega (arith, x.1.calls_fall, y.1));
+  commits_shows = λ a b objects x. law.commits_shows (inner a) (inner b) objects x.0;
+}

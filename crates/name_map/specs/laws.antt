@@ -1,0 +1,2 @@
+pub mod NameEntries
+pub mod Seen

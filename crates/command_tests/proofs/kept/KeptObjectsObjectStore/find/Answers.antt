@@ -1,4 +1,4 @@
-use Rattle.command_tests.proofs.Kept.{maps_have, store_finds}
+use Rattle.command_tests.proofs.Copies.{maps_have, store_finds}
 use Rattle.command_tests.proofs.kept.KeptObjectsObjectStore.find.Goals as goal
 
 pub returns-clause-finds : goal.returns-clause-finds

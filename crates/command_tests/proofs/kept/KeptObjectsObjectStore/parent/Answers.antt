@@ -1,4 +1,4 @@
-use Rattle.command_tests.proofs.Kept.{maps_have}
+use Rattle.command_tests.proofs.Copies.{maps_have}
 use Rattle.command_tests.proofs.kept.KeptObjectsObjectStore.parent.Goals as goal
 
 pub returns : goal.returns

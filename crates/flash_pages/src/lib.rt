@@ -6,6 +6,3 @@ mod read_only;
 
 pub use mounted::FlashPages;
 pub use read_only::ReadOnlyPages;
-
-#[cfg(test)]
-mod tests;

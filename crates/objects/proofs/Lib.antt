@@ -4,4 +4,3 @@ pub mod Kept
 pub mod Carried
 pub mod Steps
 pub mod Told
-pub mod Single

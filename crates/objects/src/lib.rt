@@ -10,6 +10,3 @@ mod reading;
 mod store;
 
 pub use store::Store;
-
-#[cfg(test)]
-mod tests;

@@ -1,5 +1,4 @@
 pub mod Counted
-pub mod Single
 pub mod Slots
 pub mod Preparing
 pub mod Keys

@@ -9,6 +9,3 @@ mod law;
 pub use buffer::Buffer;
 pub use changing::prepare;
 pub use law::a_written_buffer_is_kept;
-
-#[cfg(test)]
-mod tests;

@@ -5,6 +5,3 @@ mod cache;
 mod slot;
 
 pub use cache::PageCache;
-
-#[cfg(test)]
-mod tests;

@@ -1,10 +1,11 @@
 // Commits.
 
 use crate::edits::{Edit, KEYS, apply, change_of};
-use crate::opening::{erased, open_store, scanned};
-use crate::plain::{Plain, Stamps, Step, read_all, take_step};
+use crate::opening::{calls_when_opened, erased, open_store, scanned};
+use crate::plain::{Plain, Stamps, Step, read, read_all, take_step};
 use nand_model::MemNand;
 use objects::Store;
+use pages::PageStore;
 use std::alloc::Global;
 use std::process::Abort;
 use std::test::Fail;
@@ -78,5 +79,47 @@ fn what_was_not_committed_was_not_written(rt: HostRuntime) -> Result<(), Fail> {
         wanted[number] = stamp;
     }
     assert_eq!(rt; left_after(&rt, alloc, 4)?, (8, wanted));
+    Ok(())
+}
+
+// An erase and three programs. The pages that were written are in the cache.
+#[test]
+fn a_commit_writes_its_pages_and_reads_none_of_them_again(rt: HostRuntime) -> Result<(), Fail> {
+    let alloc = rt.alloc();
+    let nand = erased(alloc, 8)?;
+    let opened = calls_when_opened(alloc, &nand)?;
+    let mut store = open_store(alloc, nand, 1, 4)?;
+    let change = change_of(alloc, &[0, 4, 1], 10)?;
+    assert_eq!(rt; apply(&rt, &mut store, change), Ok(()));
+    assert_eq!(rt; store.commit(), Ok(()));
+    for number in [0, 4, 1] {
+        assert_eq!(rt; read(&mut store, number), Ok(10), "{number}");
+    }
+    let nand = store.into_device();
+    assert_eq!(rt; nand.changes(), 4);
+    assert_eq!(rt; nand.calls().saturating_sub(opened), 4);
+    Ok(())
+}
+
+/// What the device counted as changes after changes of one page each, of the keys of these numbers.
+fn changes_after(rt: &impl Abort, alloc: Global, numbers: &[usize]) -> Result<u64, Fail> {
+    let mut store = open_store(alloc, erased(alloc, 8)?, 1, 4)?;
+    for number in numbers {
+        let change = change_of(alloc, &[*number], 10)?;
+        assert_eq!(rt; apply(rt, &mut store, change), Ok(()), "{number}");
+    }
+    Ok(store.into_device().changes())
+}
+
+// Eight pages are buffered at most, and a key that is buffered takes no more room.
+#[test]
+fn a_full_buffer_is_written_first(rt: HostRuntime) -> Result<(), Fail> {
+    let alloc = rt.alloc();
+    let full = [0, 1, 2, 3, 4, 5, 6, 7];
+    let again = [0, 1, 2, 3, 4, 5, 6, 7, 7];
+    let more = [0, 1, 2, 3, 4, 5, 6, 7, 7, 8];
+    assert_eq!(rt; changes_after(&rt, alloc, &full)?, 0);
+    assert_eq!(rt; changes_after(&rt, alloc, &again)?, 0);
+    assert_eq!(rt; changes_after(&rt, alloc, &more)?, 9, "an erase and eight");
     Ok(())
 }

@@ -1,9 +1,13 @@
 //! Tests of a store on a device in memory: changes and commits beside two plain maps, calls that are cut or fail, memory that
-//! is refused, and what is read.
+//! is refused, and what is read; its buffer and its cache alone, by hand; and the pages of a worn device.
 #![tactic(auto)]
 
 #[cfg(test)]
 mod appending;
+#[cfg(test)]
+mod buffering;
+#[cfg(test)]
+mod caching;
 #[cfg(test)]
 mod committing;
 #[cfg(test)]
@@ -22,3 +26,5 @@ mod random;
 mod reading;
 #[cfg(test)]
 mod refusals;
+#[cfg(test)]
+mod worn;

@@ -45,7 +45,7 @@ impl Apart {
 }
 
 /// Whether all pages have so many bytes.
-fn are_sized(pages: &[FreshPage], size: u32) -> bool
+pub fn are_sized(pages: &[FreshPage], size: u32) -> bool
     ensures { IsTrue result → AreSized pages.now size }
 {
     for page in pages {

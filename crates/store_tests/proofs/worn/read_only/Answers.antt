@@ -1,8 +1,8 @@
 use Rattle.nand_model.specs.MemoryState.{device}
 use Rattle.block_state.specs.TableOf.{table}
 use Rattle.flash_tree.specs.Places.{numbers_of}
-use Rattle.flash_pages.proofs.Carrying.{carries_newest}
-use Rattle.flash_pages.proofs.tests.read_only.Goals as goal
+use Rattle.store_tests.proofs.Carrying.{carries_newest}
+use Rattle.store_tests.proofs.worn.read_only.Goals as goal
 
 pub new-requires-clause-written : goal.new-requires-clause-written
 new-requires-clause-written c = λ honest. c.the_opened_pages_are_the_newest.ensures.written (device c.open.new.device).flash c.in_ok-opened.opened.index (c.in_ok-opened.ensures.opened.newest honest)

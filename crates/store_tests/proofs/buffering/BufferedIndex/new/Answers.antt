@@ -3,7 +3,7 @@ use Rattle.block_state.specs.Table.{Table}
 use Rattle.block_state.specs.TableOf.{table}
 use Rattle.chunk_index.specs.declared.form.Present.TheVariants as presents
 use Rattle.page_buffer.specs.laws.Buffering.{buffers_empty}
-use Rattle.page_buffer.proofs.tests.Store.new.Goals as goal
+use Rattle.store_tests.proofs.buffering.BufferedIndex.new.Goals as goal
 
 pub invariant_of-result-clause-buffers : goal.invariant_of-result-clause-buffers
 invariant_of-result-clause-buffers c = buffers_empty _ _ (λ o k i is. let two : presents.Absent ≡ presents.InBuffer i = sym (c.new-4.ensures.empty.present o k) ∙ is in absurd cc) c.in_ok-buffer.ensures.empty

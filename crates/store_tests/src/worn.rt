@@ -1,6 +1,6 @@
 // The pages of a worn device in memory.
 
-use super::*;
+use flash_pages::{FlashPages, ReadOnlyPages};
 use flash_tree::Key;
 use nand_model::{Geometry, MemNand};
 use newest_pages::{NewestPages, open, the_opened_pages_are_the_newest};
@@ -25,11 +25,13 @@ const LAST: Tag = Tag {
     seq: 5,
 };
 
+/// The key of the page that is written.
 const KEY: Key = Key {
     object: 7,
     chunk: 3,
 };
 
+/// A key that has no page.
 const OTHER: Key = Key {
     object: 7,
     chunk: 4,
@@ -76,6 +78,7 @@ fn commit<P: PageStore>(pages: &mut P) -> Result<(), StoreFault> {
     pages.commit()
 }
 
+// The page that was written is found, another is not, and the device is left as it is.
 #[test]
 fn pages_of_a_worn_device_are_read(rt: HostRuntime) -> Result<(), Fail> {
     let alloc = rt.alloc();
@@ -88,6 +91,7 @@ fn pages_of_a_worn_device_are_read(rt: HostRuntime) -> Result<(), Fail> {
     Ok(())
 }
 
+// A commit has nothing to do until a change or a cut was refused; what is kept is still read.
 #[test]
 fn a_change_of_a_worn_device_is_refused(rt: HostRuntime) -> Result<(), Fail> {
     let alloc = rt.alloc();

@@ -4,8 +4,8 @@ use Rattle.pages.specs.Maps.{IsPageOf}
 use Rattle.chunk_index.specs.laws.Maps.{agree_same}
 use Rattle.page_buffer.specs.laws.Buffering.{buffers_same}
 use Rattle.page_buffer.specs.BufferOf.{buffered}
-use Rattle.page_buffer.proofs.Keys.{ready_prepared}
-use Rattle.page_buffer.proofs.tests.Store.make.Goals as goal
+use Rattle.store_tests.proofs.Prepared.{ready_prepared}
+use Rattle.store_tests.proofs.buffering.BufferedIndex.make.Goals as goal
 
 pub invariant_of-self : goal.invariant_of-self
 invariant_of-self c =

@@ -1,13 +1,14 @@
-// Which page goes first, and the frames that change hands.
+// Which page goes first from a cache, and the frames that change hands.
 ghost use Rattle.std.specs.Prelude.{◌≡◌};
 ghost use Rattle.page_cache.specs.Cached.{page_bytes_of};
 
-use crate::PageCache;
 use flash_tree::Key;
+use page_cache::PageCache;
 use std::alloc::AllocError;
 use std::num::NonZeroUsize;
 use std::test::Fail;
 
+/// The key of a chunk of an object.
 fn key(object: u64, chunk: u64) -> Key {
     Key { object, chunk }
 }
@@ -20,6 +21,7 @@ fn put(cache: &mut PageCache, key: Key, byte: u8) -> Result<(), AllocError>
     cache.put(key, &[byte, byte])
 }
 
+// A page that was found stays longer than one that was not.
 #[test]
 fn the_least_recently_used_goes_first(rt: HostRuntime) -> Result<(), Fail> {
     let two = NonZeroUsize::new(2).ok_or("two")?;
@@ -35,6 +37,7 @@ fn the_least_recently_used_goes_first(rt: HostRuntime) -> Result<(), Fail> {
     Ok(())
 }
 
+// The frame of a place changes hands for the page; a key without a place gives it back.
 #[test]
 fn a_written_page_gets_the_place_of_its_key(rt: HostRuntime) -> Result<(), Fail> {
     let two = NonZeroUsize::new(2).ok_or("two")?;
@@ -51,6 +54,7 @@ fn a_written_page_gets_the_place_of_its_key(rt: HostRuntime) -> Result<(), Fail>
     Ok(())
 }
 
+// Pages of one object go from a chunk on, then one alone, and those of another stay.
 #[test]
 fn chunks_of_one_object_go(rt: HostRuntime) -> Result<(), Fail> {
     let four = NonZeroUsize::new(4).ok_or("four")?;

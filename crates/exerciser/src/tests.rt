@@ -231,12 +231,7 @@ fn a_refused_allocation_tears_no_tree(rt: HostRuntime) -> Result<(), Fail> {
     assert!(rt;
         matches!(
             ended,
-            None | Some(
-                Ok(())
-                    | Err(
-                        CutFault::NoMemory | CutFault::Mount(MountFault::NoMemory) | CutFault::Write
-                    )
-            )
+            None | Some(Ok(()) | Err(CutFault::NoMemory | CutFault::Write))
         ),
         "{ended:?}"
     );

@@ -10,6 +10,3 @@ mod wear;
 pub use fault::FormatFault;
 pub use formatting::format;
 pub use wear::bad_count;
-
-#[cfg(test)]
-mod tests;

@@ -26,6 +26,8 @@ mod rounds;
 #[cfg(test)]
 mod scans;
 #[cfg(test)]
+mod searches;
+#[cfg(test)]
 mod volumes;
 #[cfg(test)]
 mod worked;

@@ -2,7 +2,5 @@
 #![tactic(auto)]
 
 mod map;
-#[cfg(test)]
-mod tests;
 
 pub use map::NameMap;

@@ -20,6 +20,3 @@ pub use naming::{create, name};
 pub use planning::plan;
 pub use reading::{find, names, read};
 pub use removal::{forget, remove};
-
-#[cfg(test)]
-mod tests;

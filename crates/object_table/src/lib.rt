@@ -11,6 +11,3 @@ mod table;
 pub use builder::TableBuilder;
 pub use facts::ObjectFacts;
 pub use table::ObjectTable;
-
-#[cfg(test)]
-mod tests;

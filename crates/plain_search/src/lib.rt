@@ -6,6 +6,3 @@ mod group;
 mod search;
 
 pub use search::{greatest, newest};
-
-#[cfg(test)]
-mod tests;

@@ -10,6 +10,3 @@ pub use fault::StoreFault;
 pub use name::is_name;
 pub use numbers::{DESCRIPTORS, NAME_LIMIT, NUMBER_END, PATH_LIMIT, ROOT, SLOT_BYTES};
 pub use sizes::{VolumeSizes, most_file_bytes};
-
-#[cfg(test)]
-mod tests;

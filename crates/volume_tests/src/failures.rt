@@ -1,10 +1,9 @@
 // Programs and erases that fail.
 
-use crate::devices::{Hit, Left, erased, failing, format_of, formatted, formatted_with, marked};
+use crate::devices::{Hit, Left, erased, failing, formatted, formatted_with, marked};
 use crate::stories::Part::{Lost, Rows, Turns};
 use crate::stories::{Part, tell};
 use nand_model::{Fate, MemNand};
-use posix_calls::FormatFault;
 use std::alloc::Global;
 use std::process::Abort;
 use std::test::Fail;
@@ -72,22 +71,6 @@ fn first_calls(alloc: Global, count: u64, left: Left) -> Result<Vec<Hit>, Fail> 
         hits.push(Hit { call, left })?;
     }
     Ok(hits)
-}
-
-#[test]
-fn a_format_goes_round_a_bad_block(rt: HostRuntime) -> Result<(), Fail> {
-    let alloc = rt.alloc();
-    for (count, fault, bad) in [(1, None, Some(1)), (1000, Some(FormatFault::Worn), None)] {
-        let hits = first_calls(alloc, count, &[])?;
-        let (nand, told) = format_of(alloc, failing(alloc, &erased(alloc)?, &hits)?, 1);
-        assert_eq!(rt; told, fault);
-        if let Some(bad) = bad {
-            assert_eq!(rt; marked(&nand), bad);
-            let story = [Rows("space -> space 512 144 143")];
-            let _ = next_call(&rt, alloc, &nand, &[], &story)?;
-        }
-    }
-    Ok(())
 }
 
 const OPEN: Part = Rows("open /a rwc -> fd 0");

@@ -1,5 +1,5 @@
-//! Tests of a volume on a device in memory, by lines of a shell: what sessions are told, what is left where power goes, where
-//! calls fail and where memory is refused, flashes that no volume wrote, and a plain tree beside it.
+//! Tests of a volume on a device in memory, by lines of a shell: how the device is formatted, what sessions are told, what is
+//! left where power goes, where calls fail and where memory is refused, flashes that no volume wrote, and a plain tree beside it.
 #![tactic(auto)]
 
 #[cfg(test)]
@@ -16,6 +16,8 @@ mod devices;
 mod drawn;
 #[cfg(test)]
 mod failures;
+#[cfg(test)]
+mod formats;
 #[cfg(test)]
 mod images;
 #[cfg(test)]

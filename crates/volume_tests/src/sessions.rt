@@ -1,9 +1,8 @@
 // What sessions are told on a device that was just formatted.
 
-use crate::devices::{erased, format_of, formatted, formatted_with};
+use crate::devices::formatted;
 use crate::stories::Part::{Lost, LostAfter, Rows, Turns, Unmounted};
-use crate::stories::{Part, served_after, tell};
-use posix_calls::FormatFault;
+use crate::stories::{Part, served_after};
 use std::process::Abort;
 use std::test::Fail;
 
@@ -274,15 +273,5 @@ fn sessions_are_told_their_replies(rt: HostRuntime) -> Result<(), Fail> {
             let _ = served_after(&rt, alloc, formatted(alloc)?, capacity, story)?;
         }
     }
-    Ok(())
-}
-
-#[test]
-fn four_blocks_stand_beside_the_spare_ones(rt: HostRuntime) -> Result<(), Fail> {
-    let alloc = rt.alloc();
-    let (nand, fault) = format_of(alloc, erased(alloc)?, 5);
-    assert_eq!(rt; fault, Some(FormatFault::Spare));
-    let nand = formatted_with(alloc, nand, 4)?;
-    let _ = tell(&rt, alloc, nand, &[Rows("space -> space 512 72 71")])?;
     Ok(())
 }

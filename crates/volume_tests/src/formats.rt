@@ -1,31 +1,21 @@
-// Devices in memory that are formatted.
+// Devices that are formatted: which blocks have to be there, where the root stands, and calls that fail or are cut.
 
-use super::*;
-use nand_model::{Fate, Geometry, MemNand, Nand, PageKind};
+use crate::devices::{Hit, erased, failing, format_of, formatted_with, marked};
+use crate::stories::Part::Rows;
+use crate::stories::tell;
+use nand_model::{Fate, MemNand, Nand, PageKind};
+use posix_calls::FormatFault;
 use std::alloc::Global;
 use std::process::Abort;
 use std::test::Fail;
 
-/// Eight blocks of 32 pages of 512 bytes.
-fn blank(alloc: Global) -> Result<MemNand, Fail> {
-    Ok(MemNand::new(alloc, Geometry::new(512, 32, 8)?)?)
-}
-
-/// The device whose calls of these numbers fail, counted from 1.
-fn failing(alloc: Global, first: u64, last: u64) -> Result<MemNand, Fail> {
-    let mut failures = Vec::new(alloc);
+/// An erased device whose calls from one number to another fail. What they touch stays as it was.
+fn failing_from(alloc: Global, first: u64, last: u64) -> Result<MemNand, Fail> {
+    let mut hits = Vec::new(alloc);
     for call in first..=last {
-        failures.push((call, Vec::new(alloc)))?;
+        hits.push(Hit { call, left: &[] })?;
     }
-    Ok(blank(alloc)?.with_failures(failures))
-}
-
-/// How the formatting ends, with the device.
-fn formatted(alloc: Global, nand: MemNand, spare: u32) -> (MemNand, Option<FormatFault>) {
-    match format(alloc, nand, spare) {
-        Ok(nand) => (nand, None),
-        Err((nand, fault)) => (nand, Some(fault)),
-    }
+    failing(alloc, &erased(alloc)?, &hits)
 }
 
 /// A page of a block: what it is, its data and its tag.
@@ -35,11 +25,11 @@ fn read(
     page: u32,
 ) -> Result<(PageKind, [u8; 512], [u8; 48]), Fail> {
     let geometry = nand.geometry();
+    if block >= geometry.blocks() || page >= geometry.pages() || geometry.bytes() != 512 {
+        return Err("no such page".into());
+    }
     let mut bytes = [0; 512];
     let mut tag = [0; 48];
-    if block >= geometry.blocks() || page >= geometry.pages() || geometry.bytes() != 512 {
-        return Ok((PageKind::Uncorrectable, bytes, tag));
-    }
     let kind = nand.read_page(block, page, &mut bytes, &mut tag)?;
     Ok((kind, bytes, tag))
 }
@@ -65,86 +55,78 @@ fn expect_root(rt: &impl Abort, nand: &mut MemNand, block: u32, number: u8) -> R
     Ok(())
 }
 
-#[test]
-fn bad_blocks_are_counted(rt: HostRuntime) -> Result<(), Fail> {
-    let mut nand = blank(rt.alloc())?;
-    assert_eq!(rt; bad_count(&nand), 0);
-    for block in [0u32, 7, 3] {
-        assert!(rt; block < nand.geometry().blocks());
-        nand.mark_bad(block)?;
-    }
-    assert_eq!(rt; bad_count(&nand), 3);
-    Ok(())
-}
-
+/// On a fresh device, and on one that was used and whose first block is bad: what stands in good blocks is erased.
 #[test]
 fn the_root_stands_in_the_first_good_block(rt: HostRuntime) -> Result<(), Fail> {
     let alloc = rt.alloc();
-    let (mut nand, fault) = formatted(alloc, blank(alloc)?, 1);
-    assert_eq!(rt; fault, None);
-    assert_eq!(rt; nand.changes(), 9);
+    let (mut nand, fault) = format_of(alloc, erased(alloc)?, 1);
+    assert_eq!(rt; (fault, marked(&nand), nand.changes()), (None, 0, 9));
     expect_root(&rt, &mut nand, 0, 1)?;
     assert_eq!(rt; read(&mut nand, 0, 1)?.0, PageKind::Erased);
     assert_eq!(rt; read(&mut nand, 1, 0)?.0, PageKind::Erased);
-    // What stands there is erased, and the bad block is left.
     nand.power_up();
     assert!(rt; nand.geometry().blocks() > 0);
     nand.mark_bad(0)?;
-    let (mut nand, fault) = formatted(alloc, nand, 1);
-    assert_eq!(rt; fault, None);
+    let (mut nand, fault) = format_of(alloc, nand, 1);
+    assert_eq!(rt; (fault, marked(&nand)), (None, 1));
     expect_root(&rt, &mut nand, 0, 1)?;
     expect_root(&rt, &mut nand, 1, 1)?;
     Ok(())
 }
 
+/// A device that has too few blocks is left as it is.
 #[test]
-fn four_blocks_stand_besides_the_spare_ones(rt: HostRuntime) -> Result<(), Fail> {
+fn four_blocks_stand_beside_the_spare_ones(rt: HostRuntime) -> Result<(), Fail> {
     let alloc = rt.alloc();
     for spare in [5u32, 8, u32::MAX] {
-        let (nand, fault) = formatted(alloc, blank(alloc)?, spare);
+        let (nand, fault) = format_of(alloc, erased(alloc)?, spare);
         assert_eq!(rt; fault, Some(FormatFault::Spare), "{spare}");
         assert_eq!(rt; nand.changes(), 0, "{spare}");
     }
-    assert_eq!(rt; formatted(alloc, blank(alloc)?, 4).1, None);
+    let nand = formatted_with(alloc, erased(alloc)?, 4)?;
+    let _ = tell(&rt, alloc, nand, &[Rows("space -> space 512 72 71")])?;
     Ok(())
 }
 
+/// A block that fails is marked, and the root stands in another; more marks than spare blocks are told.
 #[test]
 fn what_fails_is_marked_bad(rt: HostRuntime) -> Result<(), Fail> {
     let alloc = rt.alloc();
     // The first erase, then the mark, seven erases and a program.
-    let (mut nand, fault) = formatted(alloc, failing(alloc, 1, 1)?, 1);
-    assert_eq!(rt; (fault, bad_count(&nand), nand.changes()), (None, 1, 10));
+    let (mut nand, fault) = format_of(alloc, failing_from(alloc, 1, 1)?, 1);
+    assert_eq!(rt; (fault, marked(&nand), nand.changes()), (None, 1, 10));
     expect_root(&rt, &mut nand, 1, 1)?;
+    nand.power_up();
+    let _ = tell(&rt, alloc, nand, &[Rows("space -> space 512 144 143")])?;
     // Eight erases, then the first program, the mark and a program.
-    let (mut nand, fault) = formatted(alloc, failing(alloc, 9, 9)?, 1);
-    assert_eq!(rt; (fault, bad_count(&nand), nand.changes()), (None, 1, 11));
+    let (mut nand, fault) = format_of(alloc, failing_from(alloc, 9, 9)?, 1);
+    assert_eq!(rt; (fault, marked(&nand), nand.changes()), (None, 1, 11));
     expect_root(&rt, &mut nand, 1, 2)?;
     // One bad block and no spare one.
-    let (nand, fault) = formatted(alloc, failing(alloc, 1, 1)?, 0);
-    assert_eq!(rt; (fault, bad_count(&nand)), (Some(FormatFault::Worn), 1));
+    let (nand, fault) = format_of(alloc, failing_from(alloc, 1, 1)?, 0);
+    assert_eq!(rt; (fault, marked(&nand)), (Some(FormatFault::Worn), 1));
     // Every erase, and every program.
-    let (nand, fault) = formatted(alloc, failing(alloc, 1, 1000)?, 1);
+    let (nand, fault) = format_of(alloc, failing_from(alloc, 1, 1000)?, 1);
     assert_eq!(rt;
-        (fault, bad_count(&nand), nand.changes()),
+        (fault, marked(&nand), nand.changes()),
         (Some(FormatFault::Worn), 8, 16)
     );
-    let (nand, fault) = formatted(alloc, failing(alloc, 9, 1000)?, 4);
+    let (nand, fault) = format_of(alloc, failing_from(alloc, 9, 1000)?, 4);
     assert_eq!(rt;
-        (fault, bad_count(&nand), nand.changes()),
+        (fault, marked(&nand), nand.changes()),
         (Some(FormatFault::Worn), 8, 24)
     );
     Ok(())
 }
 
+/// A cut is told at each call of a format whose third erase fails: eight erases, with a mark after the third, and a program.
 #[test]
-fn each_cut_is_told(rt: HostRuntime) -> Result<(), Fail> {
+fn each_cut_of_a_format_is_told(rt: HostRuntime) -> Result<(), Fail> {
     let alloc = rt.alloc();
-    // The third erase fails: eight erases with a mark after the third, and a program.
     for call in 1..=10u64 {
         for fate in [Fate::Old, Fate::New, Fate::Uncorrectable] {
-            let nand = failing(alloc, 3, 3)?.with_fuse(call, vec![in alloc; fate; 32]?);
-            let (nand, fault) = formatted(alloc, nand, 1);
+            let nand = failing_from(alloc, 3, 3)?.with_fuse(call, vec![in alloc; fate; 32]?);
+            let (nand, fault) = format_of(alloc, nand, 1);
             assert_eq!(rt; fault, Some(FormatFault::Gone), "{call} {fate:?}");
             assert_eq!(rt;
                 (nand.gone(), nand.changes()),
@@ -156,10 +138,11 @@ fn each_cut_is_told(rt: HostRuntime) -> Result<(), Fail> {
     Ok(())
 }
 
+// Run it with each allocation of the format refused in turn.
 #[test]
-fn a_refused_page_changes_nothing(rt: HostRuntime) -> Result<(), Fail> {
+fn a_format_that_is_refused_memory_changes_nothing(rt: HostRuntime) -> Result<(), Fail> {
     let alloc = rt.alloc();
-    let (nand, fault) = formatted(alloc, blank(alloc)?, 1);
+    let (nand, fault) = format_of(alloc, erased(alloc)?, 1);
     if fault == Some(FormatFault::NoMemory) {
         assert_eq!(rt; nand.changes(), 0);
     } else {

@@ -1,9 +1,10 @@
 // What may be a name; the sizes of a volume.
-use crate::{VolumeSizes, is_name};
 use std::test::Fail;
+use volume_terms::{VolumeSizes, is_name};
 
+/// Names at their limits, and bytes that are none.
 #[test]
-fn names(rt: HostRuntime) -> Result<(), Fail> {
+fn a_name_has_its_limits(rt: HostRuntime) -> Result<(), Fail> {
     for name in [b"a".as_slice(), b"...", b".a", b"\xff\x01", &[b'n'; 255]] {
         assert!(rt; is_name(name));
     }
@@ -13,9 +14,9 @@ fn names(rt: HostRuntime) -> Result<(), Fail> {
     Ok(())
 }
 
-// Pages of 512 bytes, 32 in a block, 8 blocks and one of them spare.
+/// Pages of 512 bytes, 32 in a block, 8 blocks and one of them spare.
 #[test]
-fn sizes(rt: HostRuntime) -> Result<(), Fail> {
+fn a_volume_has_its_sizes(rt: HostRuntime) -> Result<(), Fail> {
     let sizes = VolumeSizes::new(512, 32, 8, 1);
     assert!(rt; sizes.page_bytes() == 512);
     assert!(rt; sizes.page_slots() == 1);

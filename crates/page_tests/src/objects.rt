@@ -1,10 +1,8 @@
-// A small tree over pages in memory: each kind of change, and what is read after it.
-ghost use Rattle.std.specs.Prelude.{◌≡◌, ℕ, true};
-ghost use Rattle.pages.specs.Changes.{AreSized};
-
-use crate::{find, names, plan, read};
+// A small tree over pages in memory: each kind of change of its objects, and what is read after it.
+use crate::store::taken;
 use directories::{DirectoryHead, head_page, read_head};
-use flash_tree::{FreshPage, Key};
+use flash_tree::Key;
+use object_pages::{find, names, plan, read};
 use object_store::{DirectoryEntry, ObjectChange};
 use pages::{Change, Lack, MemPages, PageFault, Pages, Presence, Refusal};
 use posix_profile::Kind;
@@ -20,26 +18,6 @@ const FILE: u64 = 3;
 /// A name in a directory.
 fn entry(directory: u64, name: &[u8]) -> DirectoryEntry<'_> {
     DirectoryEntry { directory, name }
-}
-
-/// Whether all pages have so many bytes.
-fn are_sized(pages: &[FreshPage], size: u32) -> bool
-    ensures { result ≡ true → AreSized pages.now size }
-{
-    for page in pages {
-        if page.bytes.len() != size as usize {
-            return false;
-        }
-    }
-    true
-}
-
-/// The store after a change of its pages.
-fn taken(alloc: Global, pages: MemPages, change: Change) -> Result<MemPages, Fail> {
-    if !are_sized(&change.pages, pages.page_bytes()) {
-        return Err("a page of another size".into());
-    }
-    Ok(pages.apply(alloc, change)?)
 }
 
 /// A store with a root without names, whose header says three spare blocks.
@@ -92,6 +70,7 @@ fn small_volume(alloc: Global) -> Result<MemPages, Fail> {
     changed(alloc, pages, write, 4)
 }
 
+/// Names lead to their objects; a gap is read as zeros, and no byte past the end.
 #[test]
 fn a_file_is_found_and_read(rt: HostRuntime) -> Result<(), Fail> {
     let alloc = rt.alloc();
@@ -105,6 +84,7 @@ fn a_file_is_found_and_read(rt: HostRuntime) -> Result<(), Fail> {
     Ok(())
 }
 
+/// A write of no bytes past the end leaves zeros up to its offset.
 #[test]
 fn a_write_of_no_bytes_grows_a_file(rt: HostRuntime) -> Result<(), Fail> {
     let alloc = rt.alloc();
@@ -120,6 +100,7 @@ fn a_write_of_no_bytes_grows_a_file(rt: HostRuntime) -> Result<(), Fail> {
     Ok(())
 }
 
+/// A file gets another directory and another name, its first directory goes, and then the file with all its pages.
 #[test]
 fn an_object_that_is_forgotten_has_no_pages(rt: HostRuntime) -> Result<(), Fail> {
     let alloc = rt.alloc();
@@ -163,6 +144,7 @@ fn an_object_that_is_forgotten_has_no_pages(rt: HostRuntime) -> Result<(), Fail>
     Ok(())
 }
 
+/// A file takes the name of another, which goes with its page.
 #[test]
 fn a_target_gives_way(rt: HostRuntime) -> Result<(), Fail> {
     let alloc = rt.alloc();
@@ -190,6 +172,7 @@ fn a_target_gives_way(rt: HostRuntime) -> Result<(), Fail> {
     Ok(())
 }
 
+/// A change that is refused memory for a page makes nothing, and is made when it is asked for again.
 #[test]
 fn a_refused_page_is_told(rt: HostRuntime) -> Result<(), Fail> {
     let alloc = rt.alloc();

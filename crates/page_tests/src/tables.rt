@@ -1,6 +1,6 @@
-// Tables through changes, each answer worked by hand. A page has 512 bytes, or one entry.
-use super::*;
+// Tables of objects through changes, each answer worked by hand. A page has 512 bytes, or one entry.
 use object_store::{DirectoryEntry, ObjectChange};
+use object_table::{ObjectTable, TableBuilder};
 use posix_profile::Kind;
 use std::alloc::{AllocError, Global};
 use std::process::Abort;
@@ -56,6 +56,7 @@ fn facts(table: &ObjectTable, number: u64) -> Option<(u64, u64, u64)> {
     Some((info.links, info.size, info.moment))
 }
 
+/// Each of the seven changes, and what is told of the objects after it.
 #[test]
 fn each_change_is_told(rt: HostRuntime) -> Result<(), Fail> {
     let alloc = rt.alloc();
@@ -115,6 +116,7 @@ fn each_change_is_told(rt: HostRuntime) -> Result<(), Fail> {
     Ok(())
 }
 
+/// Numbers that were given back are given again, the least first.
 #[test]
 fn the_least_free_number_comes_first(rt: HostRuntime) -> Result<(), Fail> {
     let alloc = rt.alloc();
@@ -132,6 +134,7 @@ fn the_least_free_number_comes_first(rt: HostRuntime) -> Result<(), Fail> {
     Ok(())
 }
 
+/// A table is built object by object and name by name.
 #[test]
 fn a_mount_builds_its_table(rt: HostRuntime) -> Result<(), Fail> {
     let alloc = rt.alloc();

@@ -1,5 +1,5 @@
-// Names in the order of their bytes, worked by hand.
-use super::*;
+// A map of names in the order of their bytes, worked by hand.
+use name_map::NameMap;
 use posix_profile::NameList;
 use std::alloc::{AllocError, Global};
 use std::process::Abort;
@@ -27,6 +27,7 @@ fn expect_name(rt: &impl Abort, names: &NameList, place: usize, name: &[u8]) -> 
     Ok(())
 }
 
+/// A name leads to the number that it was given last.
 #[test]
 fn names_lead_to_numbers(rt: HostRuntime) -> Result<(), Fail> {
     let alloc = rt.alloc();
@@ -38,6 +39,7 @@ fn names_lead_to_numbers(rt: HostRuntime) -> Result<(), Fail> {
     Ok(())
 }
 
+/// A name comes before each that it begins.
 #[test]
 fn names_come_in_the_order_of_their_bytes(rt: HostRuntime) -> Result<(), Fail> {
     let alloc = rt.alloc();

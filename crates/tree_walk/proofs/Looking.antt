@@ -13,12 +13,12 @@ use Rattle.flash_tree.specs.Tree.{LooksUp, IsPageSize}
 use Rattle.flash_tree.specs.laws.Finding.{same_header}
 use Rattle.pages.specs.Maps.{PageMap, has}
 use Rattle.volume_terms.specs.Sizes.{Sizes, page_slots}
+use Rattle.volume_terms.specs.laws.Rounding.{part_begins, parts_reach}
 use Rattle.tree_walk.specs.Heads.{IsHeadOf, head_looks_up, kind_looks_up}
 use Rattle.tree_walk.specs.Trees.{Tells, IsLookedUp, head_at, keeps_key, numbers_of, page_size}
 use Rattle.tree_walk.specs.declared.head.Head.{Head}
 use Rattle.tree_walk.specs.declared.tree.Tree.{Tree}
 use Rattle.tree_walk.proofs.Seeing.{single}
-use Rattle.tree_walk.proofs.SlotPages.{begins, ends}
 
 module _ (z : Sizes) (f : Fields) (head : Head) (is : IsHeadOf head f) (chunk : ℕ) (from : 1 ≤ chunk) where
   kinds_apart : head.kind ≡ kinds.File → head.kind ≡ kinds.Directory → ⊥
@@ -39,7 +39,7 @@ module _ (z : Sizes) (f : Fields) (head : Head) (is : IsHeadOf head f) (chunk : 
     there : IsTrue b → LooksUp z f chunk
     there t =
         let le = to_le (t) in
-        let within : (chunk - 1) * n < head.length = begins head.length n (chunk - 1) some (omega (arith, le, from)) in
+        let within : (chunk - 1) * n < head.length = part_begins head.length n (chunk - 1) some (omega (arith, le, from)) in
         let here : ((chunk - 1) * n + 0) / n ≡ chunk - 1 = div-mul-add (chunk - 1) n 0 (omega (arith, some)) in
         inr (inr (sym is.kind ∙ directory, ((chunk - 1) * n + 0, omega (arith, within, is.length_is), omega (arith, here, from))))
 
@@ -49,7 +49,7 @@ module _ (z : Sizes) (f : Fields) (head : Head) (is : IsHeadOf head f) (chunk : 
     back (inr (inr (kind, (i, lt, at)))) = elim (cases_lt (div_ceil head.length n) chunk) [
       | inr le ↦ of_le le
       | inl past ↦
-          let all : head.length ≤ (i / n) * n = ends head.length n (i / n) some (omega (arith, past, at)) in
+          let all : head.length ≤ (i / n) * n = parts_reach head.length n (i / n) some (omega (arith, past, at)) in
           absurd (omega (arith, all, div-mul-le_self i n, lt, is.length_is))
     ]
 

@@ -247,15 +247,18 @@ pub has_its_seq : (d : Device) (list : List Found) (n : Numbers) (t t' : Table) 
     → (t.entry b).seq ≡ 0 → NotesSeq list (length list) t t' b → HasItsSeq d.flash t' b
 has_its_seq d list n t t' b tells honest greatest next none (inl has) =
     inr (has.found.tag.object, has.found.tag.chunk, spot_of has.found, is_newest d.flash list has.index has.found (tells.exact honest) has.there, has.block, has.seq_is)
-has_its_seq d list n t t' b tells honest greatest next none (inr is) = inl ((λ o c s newest here.
-    let told = ((tells.exact honest).each o c s).0 newest in
-    let has = (listed_spot list s).0 told.0 in
-    let at : slice_get list has.0 ≡ Some (found_of s) = subst (λ y. slice_get list has.0 ≡ Some y) has.2 (slice_get-get_or list has.0 (found_of s) has.1) in
-    let above : t.next_seq ≤ s.tag.seq = is.1 has.0 (found_of s) has.1 at here in
-    let held = newest.holds in
-    let good : d.flash.bad s.block ≡ false = ap d.flash.bad held.block ∙ held.whole.good in
-    let most = greatest.above s.block s.page s.tag good held.has in
-    omega (arith, above, next, most)), is.0 ∙ none)
+has_its_seq d list n t t' b tells honest greatest next none (inr is) = inl (
+  (λ o c s newest here.
+      let told = ((tells.exact honest).each o c s).0 newest in
+      let has = (listed_spot list s).0 told.0 in
+      let at : slice_get list has.0 ≡ Some (found_of s) = subst (λ y. slice_get list has.0 ≡ Some y) has.2 (slice_get-get_or list has.0 (found_of s) has.1) in
+      let above : t.next_seq ≤ s.tag.seq = is.1 has.0 (found_of s) has.1 at here in
+      let held = newest.holds in
+      let good : d.flash.bad s.block ≡ false = ap d.flash.bad held.block ∙ held.whole.good in
+      let most = greatest.above s.block s.page s.tag good held.has in
+      omega (arith, above, next, most)),
+  is.0 ∙ none,
+)
 
 pub seqs_are : (d : Device) (list : List Found) (n : Numbers) (t t' : Table) → TellsNewest d list → (d.honest ≡ true → AreGreatest d.flash n) → IsTableOf d n t
     → ((b : ℕ) → (t.entry b).seq ≡ 0) → ((b : ℕ) → NotesSeq list (length list) t t' b) → d.honest ≡ true → AreLeft n → (b : ℕ) → HasItsSeq d.flash t' b

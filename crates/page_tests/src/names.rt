@@ -5,18 +5,23 @@ use std::alloc::{AllocError, Global};
 use std::process::Abort;
 use std::test::Fail;
 
-/// The map with one more name, which leads to the number, and whether it is new.
-fn lead(alloc: Global, map: &mut NameMap, name: &[u8], number: u64) -> Result<bool, AllocError> {
+/// Leads a name to the number, and tells what it led to.
+fn lead(
+    alloc: Global,
+    map: &mut NameMap,
+    name: &[u8],
+    number: u64,
+) -> Result<Option<u64>, AllocError> {
     map.insert(name.to_vec(alloc)?, number)
 }
 
 /// Three names, the first of them told twice.
 fn three(rt: &impl Abort, alloc: Global) -> Result<NameMap, Fail> {
     let mut map = NameMap::new(alloc);
-    assert!(rt; lead(alloc, &mut map, b"b", 2)?);
-    assert!(rt; lead(alloc, &mut map, b"a", 3)?);
-    assert!(rt; lead(alloc, &mut map, b"a\xff", 4)?);
-    assert!(rt; !lead(alloc, &mut map, b"b", 5)?);
+    assert_eq!(rt; lead(alloc, &mut map, b"b", 2)?, None);
+    assert_eq!(rt; lead(alloc, &mut map, b"a", 3)?, None);
+    assert_eq!(rt; lead(alloc, &mut map, b"a\xff", 4)?, None);
+    assert_eq!(rt; lead(alloc, &mut map, b"b", 5)?, Some(2));
     Ok(map)
 }
 

@@ -7,7 +7,6 @@
 //! took go to standard error.
 #![tactic(auto)]
 
-mod counted;
 mod flash;
 mod measure;
 

@@ -1,8 +1,8 @@
 // What is measured.
 
-use crate::counted::{CountedNand, Counts};
 use crate::flash::{BYTES, GROUP, PAGES, SPARE, key_of, keys_of, written};
 use anyhow::{Context, Result, anyhow};
+use counted_nand::{CountedNand, Counts};
 use flash_tree::FreshPage;
 use nand_model::MemNand;
 use objects::Store;

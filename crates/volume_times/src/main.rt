@@ -7,12 +7,11 @@
 //! With a fifth argument the processor time of each part and of the whole, and the greatest memory, go to standard error.
 #![tactic(auto)]
 
-mod counted;
 mod script;
 mod usage;
 
 use anyhow::{Context, Result, anyhow};
-use counted::{CountedNand, Counts};
+use counted_nand::{CountedNand, Counts};
 use line_shell::{Serve, shell};
 use nand_model::{Geometry, MemNand};
 use posix_calls::{Reply, Stamped, Volume, format};
@@ -68,8 +67,16 @@ impl Report {
     }
 
     fn text(self, alloc: Global) -> Result<String, AllocError> {
-        let counts = self.counts.text(alloc)?;
-        format!(in alloc; "{counts}, {} errors", self.errors)
+        let Counts {
+            reads,
+            programs,
+            erases,
+            marks,
+        } = self.counts;
+        format!(in alloc;
+            "{reads} reads, {programs} programs, {erases} erases, {marks} marks, {} errors",
+            self.errors
+        )
     }
 }
 

@@ -2,46 +2,24 @@
 ghost use Rattle.std.specs.Prelude.{◌≡◌, ◌<◌, true, false, length, Some};
 ghost use Rattle.nand_model.specs.Calls.{Device, Reads, ReadTells, Fills, bytes_of, tag_of, Programs, Erases, Marks};
 
+use crate::counts::Counts;
 use nand_model::{EraseFault, Geometry, Gone, Nand, PageKind, ProgramFault};
-use std::alloc::{AllocError, Global};
-
-/// How many calls of each kind there were.
-#[derive(Clone, Copy, Debug)]
-pub(crate) struct Counts {
-    reads: u64,
-    programs: u64,
-    erases: u64,
-    marks: u64,
-}
-
-impl Counts {
-    /// Those after others.
-    pub(crate) fn since(self, before: Counts) -> Counts {
-        Counts {
-            reads: self.reads.saturating_sub(before.reads),
-            programs: self.programs.saturating_sub(before.programs),
-            erases: self.erases.saturating_sub(before.erases),
-            marks: self.marks.saturating_sub(before.marks),
-        }
-    }
-
-    pub(crate) fn text(self, alloc: Global) -> Result<String, AllocError> {
-        format!(in alloc;
-            "{} reads, {} programs, {} erases, {} marks",
-            self.reads, self.programs, self.erases, self.marks
-        )
-    }
-}
 
 /// A device, and how many of its calls were made.
 #[derive(Drop)]
-pub(crate) struct CountedNand<N: Nand> {
+pub struct CountedNand<N: Nand> {
     inner: N,
     counts: Counts,
 }
 
 impl<N: Nand> CountedNand<N> {
-    pub(crate) fn new(inner: N) -> CountedNand<N> {
+    ghost use Rattle.counted_nand.specs.Counted.{counts_of, none};
+
+    /// Nothing is counted yet.
+    pub fn new(inner: N) -> CountedNand<N>
+        ensures state { ⟦<CountedNand<N> as Nand>⟧.state result ≡ N.state inner }
+        ensures counts { counts_of result ≡ none }
+    {
         CountedNand {
             inner,
             counts: Counts {
@@ -53,7 +31,10 @@ impl<N: Nand> CountedNand<N> {
         }
     }
 
-    pub(crate) fn counts(&self) -> Counts {
+    /// The calls since it was made.
+    pub fn counts(&self) -> Counts
+        ensures { result ≡ counts_of self.now }
+    {
         self.counts
     }
 }

@@ -1,0 +1,25 @@
+// How many calls there were.
+ghost use Rattle.std.specs.Prelude.{◌≡◌, ◌-◌};
+
+/// How many calls of each kind there were.
+#[derive(Clone, Copy, Debug, PartialEq, Eq)]
+pub struct Counts {
+    pub reads: u64,
+    pub programs: u64,
+    pub erases: u64,
+    pub marks: u64,
+}
+
+impl Counts {
+    /// Those after others.
+    pub fn since(self, before: Counts) -> Counts
+        ensures { result ≡ record { reads = self.reads - before.reads; programs = self.programs - before.programs; erases = self.erases - before.erases; marks = self.marks - before.marks } }
+    {
+        Counts {
+            reads: self.reads.saturating_sub(before.reads),
+            programs: self.programs.saturating_sub(before.programs),
+            erases: self.erases.saturating_sub(before.erases),
+            marks: self.marks.saturating_sub(before.marks),
+        }
+    }
+}

@@ -1,6 +1,8 @@
 // Pages of a worn device, which are read and not changed.
 ghost use Rattle.std.specs.Prelude.{◌≡◌, ◌≤◌, true, false, OnOk, IfErr};
 ghost use Rattle.flash_tree.specs.Places.{numbers_of};
+ghost use Rattle.newest_pages.specs.Newest.{seen};
+ghost use Rattle.newest_pages.specs.Parts.{device_of, index_of, page_of};
 ghost use Rattle.volume_terms.specs.declared.fault.StoreFault.TheVariants as faults;
 ghost use Rattle.flash_pages.specs.ReadOnly.{IsWorn, HasGreatest, IsCarrying, only_read};
 ghost use Rattle.flash_pages.specs.laws.OneProof.{carrying_prop};
@@ -24,9 +26,9 @@ pub struct ReadOnlyPages<N: Nand> {
     most: u32,
     // Whether a change was refused, so that the pages are not what its caller meant any more.
     refused_change: bool,
-    ghost worn: { IsWorn (⟦<NewestPages<N> as Pages>⟧.state pages).device (numbers_of greatest) spare },
-    ghost numbers: { HasGreatest (⟦<NewestPages<N> as Pages>⟧.state pages).device (numbers_of greatest) },
-    ghost carrying: { IsCarrying (⟦<NewestPages<N> as Pages>⟧.state pages) } by { carrying_prop (⟦<NewestPages<N> as Pages>⟧.state pages) },
+    ghost worn: { IsWorn (N.state (device_of pages)) (numbers_of greatest) spare },
+    ghost numbers: { HasGreatest (N.state (device_of pages)) (numbers_of greatest) },
+    ghost carrying: { IsCarrying (seen (N.state (device_of pages)) (index_of pages) (page_of pages)) } by { carrying_prop (seen (N.state (device_of pages)) (index_of pages) (page_of pages)) },
 }
 
 impl<N: Nand> ReadOnlyPages<N> {

@@ -31,7 +31,10 @@ impl<N: Nand> FlashPages<N> {
 impl<N: Nand> Pages for FlashPages<N> {
     ghost state = { elim [ kinds.Store store ↦ ⟦<Store<N> as Pages>⟧.state store | kinds.ReadOnly pages ↦ ⟦<ReadOnlyPages<N> as Pages>⟧.state pages ] };
 
-    ghost sized = { elim [ kinds.Store s ↦ ⟦<Store<N> as Pages>⟧.sized s | kinds.ReadOnly s ↦ ⟦<ReadOnlyPages<N> as Pages>⟧.sized s ] };
+    ghost sized = { elim [
+      | kinds.Store s ↦ ((⟦<Store<N> as Pages>⟧.state s).device.geometry.least_bytes, (⟦<Store<N> as Pages>⟧.state s).device.geometry.most_bytes)
+      | kinds.ReadOnly s ↦ ((⟦<ReadOnlyPages<N> as Pages>⟧.state s).device.geometry.least_bytes, (⟦<ReadOnlyPages<N> as Pages>⟧.state s).device.geometry.most_bytes)
+    ] };
 
     fn page_bytes(&self) -> u32 {
         match self {
@@ -56,9 +59,12 @@ impl<N: Nand> Pages for FlashPages<N> {
 }
 
 impl<N: Nand> PageStore for FlashPages<N> {
+    ghost use Rattle.objects.specs.laws.Sound.{lost_alone};
+    ghost use Rattle.flash_pages.specs.laws.Sound.{lost_reading};
+
     ghost lost = { elim [
-      | kinds.Store s ↦ ⟦<Store<N> as PageStore>⟧.lost s
-      | kinds.ReadOnly s ↦ ⟦<ReadOnlyPages<N> as PageStore>⟧.lost s
+      | kinds.Store s ↦ λ sound failed. lost_alone (⟦<Store<N> as Pages>⟧.state s).device.gone (⟦<Store<N> as Pages>⟧.state s).device.honest s.broken sound failed
+      | kinds.ReadOnly s ↦ λ sound failed. lost_reading (⟦<ReadOnlyPages<N> as Pages>⟧.state s).device.gone (⟦<ReadOnlyPages<N> as Pages>⟧.state s).device.honest s.refused_change sound failed
     ] };
 
     fn most_pages(&self) -> u32 {

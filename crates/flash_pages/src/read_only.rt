@@ -77,7 +77,7 @@ impl<N: Nand> ReadOnlyPages<N> {
 impl<N: Nand> Pages for ReadOnlyPages<N> {
     ghost state = { λ s. only_read (⟦<NewestPages<N> as Pages>⟧.state s.pages) (numbers_of s.greatest) s.spare s.most s.refused_change };
 
-    ghost sized = { λ s. ⟦<NewestPages<N> as Pages>⟧.sized s.pages };
+    ghost sized = { λ s. ((⟦<NewestPages<N> as Pages>⟧.state s.pages).device.geometry.least_bytes, (⟦<NewestPages<N> as Pages>⟧.state s.pages).device.geometry.most_bytes) };
 
     fn page_bytes(&self) -> u32 {
         self.pages.page_bytes()

@@ -8,7 +8,7 @@ use nand_model::Geometry;
 use volume_terms::VolumeSizes;
 
 /// The sizes of a volume with so many spare blocks on a device of these sizes.
-#[tactic(auto, using(formatting::specs::SizesOf::sizes_are))]
+#[tactic(auto, using(formatting::specs::laws::SizesOf::sizes_are))]
 fn sizes_of(geometry: Geometry, spare: u32) -> VolumeSizes
     requires { spare + 4 ≤ geometry.blocks }
     ensures { volume.sizes_of result ≡ sizes_of geometry spare }
@@ -22,7 +22,7 @@ fn sizes_of(geometry: Geometry, spare: u32) -> VolumeSizes
 }
 
 /// The sizes of a volume that may cost so many units, on a device of these sizes: they tell how many blocks are spare.
-#[tactic(auto, using(formatting::specs::SizesOf::sizes_are))]
+#[tactic(auto, using(formatting::specs::laws::SizesOf::sizes_are))]
 pub(crate) fn sizes_with(geometry: Geometry, total: u64) -> Option<VolumeSizes>
     ensures sizes { IfSome result (λ sizes. (spare : ℕ) × (volume.sizes_of sizes ≡ sizes_of geometry spare) × IsSizes (volume.sizes_of sizes)) }
     ensures total { IfSome result (λ sizes. capacity (volume.sizes_of sizes) ≡ total) }

@@ -28,6 +28,13 @@ impl Count {
         }
     }
 
+    /// Counts one more session that was cut, of which so many commands were kept.
+    pub(crate) fn add_cut(&mut self, kept: u64) {
+        self.sessions = self.sessions.saturating_add(1);
+        self.cut = self.cut.saturating_add(1);
+        self.kept = self.kept.saturating_add(kept);
+    }
+
     /// How many sessions there were, none of which was none of a life.
     pub(crate) fn text(self, alloc: Global) -> Result<String, AllocError> {
         format!(in alloc; "{} sessions, each one of a life", self.sessions)

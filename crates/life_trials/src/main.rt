@@ -8,7 +8,9 @@
 //!   and with a cut in the next mount. The call may fail besides, and leaves its page so: `old`, `new`, `erased`, `uncorrectable`.
 //! - `fails`: a session of the lines of standard input, with each of its calls failing with each fate of the pages.
 //! - `stories`: four sessions whose lines are known here, each as by `cuts` and as by `fails`: a collection beside a file that is
-//!   kept; a file that takes the place of another; a full volume that is written again; directories that are moved.
+//!   kept; a file that takes the place of another; a full volume that is written again; directories that are moved. Then three
+//!   sessions, each a thousand times as the exerciser cuts it: a file that is not synced; the first of the four; a full volume
+//!   that is written five hundred times.
 //! - `all LIVES SEED`: as `drawn`, and then `stories`.
 #![tactic(auto)]
 
@@ -17,6 +19,7 @@ mod counting;
 mod cuts;
 mod drawing;
 mod drawn;
+mod exercised;
 mod fails;
 mod judging;
 mod living;

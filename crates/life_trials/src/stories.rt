@@ -1,6 +1,7 @@
-// Four sessions whose lines stand here.
+// Sessions whose lines stand here.
 use crate::counting::Count;
 use crate::cuts::cut_lines;
+use crate::exercised::exercise_lines;
 use crate::fails::fail_lines;
 use anyhow::Result;
 use std::alloc::{AllocError, Global};
@@ -37,6 +38,14 @@ fsync 0
 open /b rwc
 ";
 
+/// A file that is written, read and not synced.
+const UNSYNCED: &str = "open /a rwc
+write 0 hello
+seek 0 0 set
+read 0 10
+space
+";
+
 /// Thirty writes of 2,560 bytes to a descriptor, the last of which find no room.
 fn push_filling(alloc: Global, lines: &mut String, descriptor: u32) -> Result<(), AllocError> {
     let bytes = "x".repeat(alloc, 2560)?;
@@ -68,13 +77,18 @@ fn filled(alloc: Global, opened: &str, descriptor: u32, rounds: u32) -> Result<S
     Ok(lines)
 }
 
-/// Lives through each session with each call cut, and then with each call failing.
+/// Lives through each of four sessions with each call cut, and then with each call failing; and through three with cuts that
+/// are drawn.
 pub(crate) fn live_stories(alloc: Global, counts: &mut Vec<Count>) -> Result<()> {
     let two_files = filled(alloc, TWO_FILES, 1, 12)?;
     let one_file = filled(alloc, "open /a rwc\n", 0, 40)?;
     for lines in [two_files.as_str(), REPLACED, one_file.as_str(), MOVED] {
         counts.push(cut_lines(alloc, lines, None)?)?;
         counts.push(fail_lines(alloc, lines)?)?;
+    }
+    let full = filled(alloc, "open /a rwc\n", 0, 500)?;
+    for lines in [UNSYNCED, two_files.as_str(), full.as_str()] {
+        counts.push(exercise_lines(alloc, lines)?)?;
     }
     Ok(())
 }

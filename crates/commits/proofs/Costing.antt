@@ -5,8 +5,9 @@ use Rattle.std.proofs.Math.Nat.{mul-le-mul_right, mul-le-mul_left}
 use Rattle.nand_model.specs.Calls.{Device, Lasts}
 use Rattle.block_state.specs.Table.{Table, room}
 use Rattle.bad_blocks.specs.Moving.{Costs}
-use Rattle.collector.specs.Making.{FitsOpen}
-use Rattle.commits.specs.Committing.{TakesNoBlock}
+use Rattle.bad_blocks.specs.Taking.{CostsATake}
+use Rattle.collector.specs.Making.{FitsOpen, HasMore}
+use Rattle.commits.specs.Committing.{TakesNoBlock, TakesOneBlock}
 
 -- what each failure costs more
 each_more : (k m a b : ℕ) → k ≤ m → a ≤ b → k * b + m * a ≤ m * b + k * a
@@ -82,4 +83,26 @@ takes_none_turn count now t u a b c same first then here turn = λ fits none.
     let still : b.changes ≡ a.changes = ap (λ (d : Device). d.changes) at.0 in
     let fit : now ≤ room t = omega (arith, same, fits) in
     let few = turn (subst (λ (s : Table). now ≤ room s) (sym at.1) fit) (omega (arith, rise, rises, none)) in
+    omega (arith, few, still, same)
+
+-- ---- at most one block is taken
+
+-- where blocks can be taken, the making of room takes one at most; then come the programs of the pages
+pub takes_one_written : (count spare : ℕ) (t : Table) (a b c : Device) → (HasMore t spare → CostsATake a b) → a.failures ≤ b.failures → b.failures ≤ c.failures → c.changes ≤ b.changes + count → TakesOneBlock count spare t a c
+takes_one_written count spare t a b c takes rise more few = λ has none.
+    let take : CostsATake a b = takes has in
+    omega (arith, take, rise, more, few, none)
+
+-- a failure was counted
+pub takes_one_failed : (count spare : ℕ) (t : Table) (a b c d : Device) → a.failures ≤ b.failures → b.failures + 1 ≤ c.failures → c.failures ≤ d.failures → TakesOneBlock count spare t a d
+takes_one_failed count spare t a b c d first failed then = λ _ none. absurd (omega (arith, first, failed, then, none))
+
+-- a turn after others takes one at most, where it is the first one, or each before it counted a failure
+pub takes_one_turn : (count now spare : ℕ) (t u : Table) (a b c : Device) → now ≡ count → Lasts a b → Lasts b c → (b.failures ≡ a.failures → (b ≡ a) × (u ≡ t)) → TakesOneBlock now spare u b c → TakesOneBlock count spare t a c
+takes_one_turn count now spare t u a b c same first then here turn = λ has none.
+    let rise = first.failures in
+    let rises = then.failures in
+    let at : (b ≡ a) × (u ≡ t) = here (omega (arith, rise, rises, none)) in
+    let still : b.changes ≡ a.changes = ap (λ (d : Device). d.changes) at.0 in
+    let few = turn (subst (λ (s : Table). HasMore s spare) (sym at.1) has) (omega (arith, rise, rises, none)) in
     omega (arith, few, still, same)

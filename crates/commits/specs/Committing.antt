@@ -9,7 +9,7 @@ use Rattle.page_buffer.specs.BufferOf.{buffered, written, most_pages, bytes_of_p
 use Rattle.page_buffer.specs.Buffering.{IsUnbuffered}
 use Rattle.page_buffer.specs.Shown.{kept_data, present_data}
 use Rattle.bad_blocks.specs.Standing.{HasFree}
-use Rattle.collector.specs.Making.{FitsOpen, WhyNoRoom}
+use Rattle.collector.specs.Making.{FitsOpen, HasMore, WhyNoRoom}
 use Rattle.collector.specs.declared.fault.RoomFault.{RoomFault}
 use Rattle.pages.specs.Stores.{IsCarried}
 use Rattle.commits.specs.Keeping.{IsAnswered}
@@ -44,3 +44,8 @@ CommitEnds spare old new t t' x x' b b' (Err fault) = WhyNoRoom (length (buffere
 -- each of them: no block is taken.
 abbrev pub TakesNoBlock : (count : ℕ) → Table → Device → Device → Type 0
 TakesNoBlock count t old new = FitsOpen count t → new.failures ≡ old.failures → new.changes ≤ old.changes + count
+
+-- While blocks are left that can be taken, and no failure is counted, the device counts at most one more: at most one block is
+-- taken.
+abbrev pub TakesOneBlock : (count spare : ℕ) → Table → Device → Device → Type 0
+TakesOneBlock count spare t old new = HasMore t spare → new.failures ≡ old.failures → new.changes ≤ old.changes + count + 1

@@ -15,7 +15,7 @@ ghost use Rattle.bad_blocks.specs.Moving.{Costs, MarksFailures};
 ghost use Rattle.bad_blocks.specs.Room.{IsRoomFor};
 ghost use Rattle.bad_blocks.specs.Standing.{HasFree, Stands};
 ghost use Rattle.commits.specs.Carrying.{AreWritable, CarriesEither, KeepsOrShows};
-ghost use Rattle.commits.specs.Committing.{CommitEnds, SameSizes, TakesNoBlock};
+ghost use Rattle.commits.specs.Committing.{CommitEnds, SameSizes, TakesNoBlock, TakesOneBlock};
 ghost use Rattle.commits.specs.Keeping.{StaysReady, WaitsOrSettles};
 
 use crate::turn::write_whole;
@@ -76,6 +76,8 @@ pub fn commit<N: Nand>(
     ensures costs { Costs (length (buffered buffer.old) + (N.state device.old).geometry.pages + 1) (3 * (N.state device.old).geometry.pages + 3) 0 (N.state device.old) (N.state device.new) }
     // A block is taken only where the open one lacks the pages, or a program failed.
     ensures takes_none { TakesNoBlock (length (buffered buffer.old)) (table blocks.old) (N.state device.old) (N.state device.new) }
+    // And no more than one, while blocks are left that can be taken.
+    ensures takes_one { TakesOneBlock (length (buffered buffer.old)) spare (table blocks.old) (N.state device.old) (N.state device.new) }
     ensures room { IsRoomFor (N.state device.new).geometry room.new }
     ensures buffers { Buffers index.new (buffered buffer.new) }
     ensures waits { WaitsOrSettles index.old index.new (buffered buffer.old) (buffered buffer.new) }

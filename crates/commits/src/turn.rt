@@ -9,7 +9,7 @@ ghost use Rattle.bad_blocks.specs.Moving.{Costs, MarksFailures};
 ghost use Rattle.bad_blocks.specs.Room.{IsRoomFor};
 ghost use Rattle.bad_blocks.specs.Standing.{HasFree, Stands};
 ghost use Rattle.commits.specs.Carrying.{AreWritable};
-ghost use Rattle.commits.specs.Committing.{SameSizes, TakesNoBlock};
+ghost use Rattle.commits.specs.Committing.{SameSizes, TakesNoBlock, TakesOneBlock};
 ghost use Rattle.commits.specs.Keeping.{Leaves};
 ghost use Rattle.commits.specs.Writing.{TurnCosts, TurnEnds, WholeEnds};
 
@@ -52,6 +52,7 @@ fn take_turn<N: Nand>(
     ensures marks { MarksFailures 0 0 (N.state device.old) (N.state device.new) (table blocks.old) (table blocks.new) }
     ensures costs { TurnCosts (length (buffered buffer.old)) (N.state device.old) (N.state device.new) result }
     ensures takes_none { TakesNoBlock (length (buffered buffer.old)) (table blocks.old) (N.state device.old) (N.state device.new) }
+    ensures takes_one { TakesOneBlock (length (buffered buffer.old)) spare (table blocks.old) (N.state device.old) (N.state device.new) }
     ensures room { IsRoomFor (N.state device.new).geometry room.new }
     ensures sizes { SameSizes buffer.old buffer.new }
     ensures ends { TurnEnds (length (buffered buffer.old)) spare (N.state device.old) (N.state device.new) (table blocks.old) (table blocks.new) index.old index.new buffer.old buffer.new result }
@@ -96,6 +97,7 @@ pub(crate) fn write_whole<N: Nand>(
     ensures marks { MarksFailures 0 0 (N.state device.old) (N.state device.new) (table blocks.old) (table blocks.new) }
     ensures costs { Costs (length (buffered buffer.old) + (N.state device.old).geometry.pages + 1) (3 * (N.state device.old).geometry.pages + 3) 0 (N.state device.old) (N.state device.new) }
     ensures takes_none { TakesNoBlock (length (buffered buffer.old)) (table blocks.old) (N.state device.old) (N.state device.new) }
+    ensures takes_one { TakesOneBlock (length (buffered buffer.old)) spare (table blocks.old) (N.state device.old) (N.state device.new) }
     ensures room { IsRoomFor (N.state device.new).geometry room.new }
     ensures sizes { SameSizes buffer.old buffer.new }
     ensures ends { WholeEnds (length (buffered buffer.old)) spare (N.state device.old) (N.state device.new) (table blocks.old) (table blocks.new) index.old index.new buffer.old buffer.new result }

@@ -37,7 +37,7 @@ use Rattle.objects.specs.declared.store.Found.{Found}
 use Rattle.objects.specs.Found.{bytes_or}
 use Rattle.objects.specs.Caching.{Shows}
 use Rattle.objects.specs.Reading.{Caches, IsLoadFault, IsFindFault}
-use Rattle.objects.specs.StoreOf.{known, seen, next_numbers}
+use Rattle.objects.specs.StoreOf.{known, store_seen, next_numbers}
 
 -- the pages that are known stay
 pub known_same : (a b : Device) (m : Flash → PageMap) → OnlyReads a b → known b.honest (m b.flash) ≡ known a.honest (m a.flash)
@@ -98,7 +98,13 @@ newest_read a b x reads kept honest =
     let before : a.honest ≡ true = sym reads.lasts.honest ∙ honest in
     subst (λ (f : Flash). AreKept f (kept_pages x)) (sym (same_flash a b reads before)) (kept before)
 
--- and what is cached is still what is present
+-- what is cached is still what is present
+pub still_shown : (a b : Device) (x : Index) (pages : List FreshPage) (cache : PageCache) → OnlyReads a b → (a.honest ≡ true → Shows cache (present_data x pages a.flash)) → b.honest ≡ true → Shows cache (present_data x pages b.flash)
+still_shown a b x pages cache reads same honest =
+    let before : a.honest ≡ true = sym reads.lasts.honest ∙ honest in
+    subst (λ (f : Flash). Shows cache (present_data x pages f)) (sym (same_flash a b reads before)) (same before)
+
+-- and with a page that was read and put there
 pub shown_read : (a b : Device) (x : Index) (pages : List FreshPage) (key : Key) (at : KeptPage) (old new : PageCache) → OnlyReads a b → present x key.object key.chunk ≡ presents.OnFlash at
     → Caches a key at old new → (a.honest ≡ true → Shows old (present_data x pages a.flash)) → b.honest ≡ true → Shows new (present_data x pages b.flash)
 shown_read a b x pages key at old new reads there caches same honest o c xs is =
@@ -134,7 +140,7 @@ load_fails spare a b t x o c at broken refused faults.Device reads stands there 
 -- a call that only reads the device, and changes no index and no buffer, only finds
 pub finds_seen : (a b : Device) (t u : Blocks) (x y : Index) (buffer buffer' : Buffer) (cache cache' : PageCache) (scratch scratch' : List ℕ) (found found' : Found) (spare spare' : ℕ) (broken broken' refused refused' : Bool)
     → OnlyReads a b → u ≡ t → y ≡ x → buffer' ≡ buffer → spare' ≡ spare → broken' ≡ broken → (refused ≡ true → refused' ≡ true)
-    → OnlyFinds (seen a (table t) x buffer cache scratch found spare broken refused) (seen b (table u) y buffer' cache' scratch' found' spare' broken' refused')
+    → OnlyFinds (store_seen a (table t) x buffer cache scratch found spare broken refused) (store_seen b (table u) y buffer' cache' scratch' found' spare' broken' refused')
 finds_seen a b t u x y buffer buffer' cache cache' scratch scratch' found found' spare spare' broken broken' refused refused' reads blocks index buffers spares breaks refuses = record {
   page_bytes = ap (λ (g : Geometry). g.bytes) reads.lasts.geometry;
   most = ap most_pages buffers;
@@ -209,7 +215,7 @@ not_absent a x pages o c at broken is kept sound none =
 
 -- each fault has its cause
 pub fault_seen : (b : Device) (t : Table) (x : Index) (buffer : Buffer) (cache : PageCache) (scratch : List ℕ) (found : Found) (spare : ℕ) (broken refused : Bool) (result : Result Presence StoreFault)
-    → IfErr result (IsFindFault b broken refused) → IfErr result (FailsBy (seen b t x buffer cache scratch found spare broken refused))
+    → IfErr result (IsFindFault b broken refused) → IfErr result (FailsBy (store_seen b t x buffer cache scratch found spare broken refused))
 fault_seen b t x buffer cache scratch found spare broken refused (Ok told) why = tt
 fault_seen b t x buffer cache scratch found spare broken refused (Err faults.NoMemory) why = why
 fault_seen b t x buffer cache scratch found spare broken refused (Err faults.Worn) why = why

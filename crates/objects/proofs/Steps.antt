@@ -32,7 +32,8 @@ use Rattle.page_cache.specs.declared.cache.PageCache.{PageCache}
 use Rattle.volume_terms.specs.declared.fault.StoreFault.{StoreFault}
 use Rattle.objects.specs.Caching.{Shows, HasNoMore, LacksCuts, LacksPages, AreIn}
 use Rattle.commits.specs.Carrying.{AreWritable}
-use Rattle.commits.specs.Committing.{TakesNoBlock}
+use Rattle.collector.specs.Making.{HasMore}
+use Rattle.commits.specs.Committing.{TakesNoBlock, TakesOneBlock}
 use Rattle.objects.specs.Changing.{IsCommitFault, fault_of}
 use Rattle.pages.specs.Changes.{AreOfObjects}
 use Rattle.pages.specs.Stores.{SamePages}
@@ -229,4 +230,19 @@ takes_between count now t u d e f k before tables long after takes = λ fits non
     let new : k.changes ≡ f.changes = ap (λ (x : Device). x.changes) after in
     let fit : now ≤ room t = omega (arith, fits, long) in
     let few : f.changes ≤ e.changes + now = takes (subst (λ (x : Table). now ≤ room x) (sym tables) fit) (omega (arith, none, was, is)) in
+    omega (arith, few, old, new, long)
+
+-- ---- at most one block is taken
+
+pub takes_one_still : (count spare : ℕ) (t : Table) (d e : Device) → e ≡ d → TakesOneBlock count spare t d e
+takes_one_still count spare t d e still = λ _ _. let same : e.changes ≡ d.changes = ap (λ (k : Device). k.changes) still in omega (arith, same)
+
+pub takes_one_between : (count now spare s : ℕ) (t u : Table) (d e f k : Device) → e ≡ d → u ≡ t → now ≡ count → s ≡ spare → k ≡ f → TakesOneBlock now s u e f → TakesOneBlock count spare t d k
+takes_one_between count now spare s t u d e f k before tables long spares after takes = λ has none.
+    let was : e.failures ≡ d.failures = ap (λ (x : Device). x.failures) before in
+    let is : k.failures ≡ f.failures = ap (λ (x : Device). x.failures) after in
+    let old : e.changes ≡ d.changes = ap (λ (x : Device). x.changes) before in
+    let new : k.changes ≡ f.changes = ap (λ (x : Device). x.changes) after in
+    let more : HasMore u s = subst (λ (x : Table). HasMore x s) (sym tables) (subst (HasMore t) (sym spares) has) in
+    let few : f.changes ≤ e.changes + now + 1 = takes more (omega (arith, none, was, is)) in
     omega (arith, few, old, new, long)

@@ -24,7 +24,7 @@ use Rattle.pages.specs.State.{PagesState}
 use Rattle.pages.specs.Stores.{HandsOutNumbers, HasNumbersLeft, HasPage, IsCarried, IsCrowded, IsWornOut, KeptAs, SamePages, ChangeFailsBy, CommitFailsBy, bad_on}
 use Rattle.volume_terms.specs.declared.fault.StoreFault.{StoreFault}
 use Rattle.volume_terms.specs.declared.fault.StoreFault.TheVariants as faults
-use Rattle.objects.specs.Changing.{IsWornOut as HasNothingLeft, IsCommitFault, IsChangeFault}
+use Rattle.objects.specs.Changing.{HasNothingLeft, IsCommitFault, IsChangeFault}
 use Rattle.objects.specs.StoreOf.{next_numbers}
 use Rattle.objects.proofs.Carried.{carried_same}
 use Rattle.objects.proofs.Steps.{same_back, hands_still}

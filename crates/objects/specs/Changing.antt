@@ -19,18 +19,18 @@ fault_of causes.Gone = faults.Device
 
 -- There is nothing left to write with: no number is left, more blocks are bad than there are to spare, or more is kept than
 -- leaves room for so many pages.
-abbrev pub IsWornOut : (spare count : ℕ) → Device → Table → Table → Type 0
-IsWornOut spare count device old new = WhyNotMoved spare device new moves.Worn ⊎ (LeavesRoom old spare count → ⊥)
+abbrev pub HasNothingLeft : (spare count : ℕ) → Device → Table → Table → Type 0
+HasNothingLeft spare count device old new = WhyNotMoved spare device new moves.Worn ⊎ (LeavesRoom old spare count → ⊥)
 
 -- Why a store did not commit: its device is gone or not honest, or a commit failed before; or there is nothing left to write
 -- with. It takes no memory.
 abbrev pub IsCommitFault : (spare count : ℕ) → Device → Table → Table → (was_broken : Bool) → StoreFault → Type 0
 IsCommitFault spare count device old new was_broken faults.NoMemory = ⊥
 IsCommitFault spare count device old new was_broken faults.Device = (device.gone ≡ true) ⊎ (device.honest ≡ false) ⊎ (was_broken ≡ true)
-IsCommitFault spare count device old new was_broken faults.Worn = IsWornOut spare count device old new
+IsCommitFault spare count device old new was_broken faults.Worn = HasNothingLeft spare count device old new
 
 -- the same of a change, for which memory may have been refused
 abbrev pub IsChangeFault : (spare count : ℕ) → Device → Table → Table → (was_broken refused : Bool) → StoreFault → Type 0
 IsChangeFault spare count device old new was_broken refused faults.NoMemory = refused ≡ true
 IsChangeFault spare count device old new was_broken refused faults.Device = (device.gone ≡ true) ⊎ (device.honest ≡ false) ⊎ (was_broken ≡ true)
-IsChangeFault spare count device old new was_broken refused faults.Worn = IsWornOut spare count device old new
+IsChangeFault spare count device old new was_broken refused faults.Worn = HasNothingLeft spare count device old new

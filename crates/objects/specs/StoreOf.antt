@@ -31,8 +31,8 @@ next_numbers t = record { group = t.next_group; seq = t.next_seq }
 
 -- A store as a store of pages: it is sound where its device is honest and no change or commit failed, and it has failed
 -- where its device is gone or is not honest, or a change or commit failed.
-abbrev pub seen : Device → Table → Index → Buffer → PageCache → List ℕ → Found → (spare : ℕ) → (broken refused : Bool) → PagesState
-seen device t x buffer cache scratch found spare broken refused = record {
+abbrev pub store_seen : Device → Table → Index → Buffer → PageCache → List ℕ → Found → (spare : ℕ) → (broken refused : Bool) → PagesState
+store_seen device t x buffer cache scratch found spare broken refused = record {
   page_bytes = device.geometry.bytes;
   most = most_pages buffer;
   present = present_map device x buffer;

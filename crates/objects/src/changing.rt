@@ -5,7 +5,7 @@ ghost use Rattle.block_state.specs.TableOf.{table};
 ghost use Rattle.chunk_index.specs.Maps.{IsReadyKey, SameKept, SamePresent, StaysPrepared};
 ghost use Rattle.transactions.specs.Handing.{HandsOut};
 ghost use Rattle.bad_blocks.specs.Moving.{MarksFailures};
-ghost use Rattle.commits.specs.Committing.{TakesNoBlock};
+ghost use Rattle.commits.specs.Committing.{TakesNoBlock, TakesOneBlock};
 ghost use Rattle.pages.specs.Changes.{AreApart, AreSized, AreOfObjects};
 ghost use Rattle.pages.specs.Maps.{changed};
 ghost use Rattle.page_buffer.specs.BufferOf.{buffered, most_pages, bytes_of_page};
@@ -63,6 +63,7 @@ impl<N: Nand> Store<N> {
             → (N.state self.new.device ≡ N.state self.old.device) × SamePages (kept_map (N.state self.new.device) self.new.index) (kept_map (N.state self.old.device) self.old.index) }
         // Else no block is taken where the open one has as many pages left as are buffered.
         ensures takes_none { TakesNoBlock (length (buffered self.old.buffer)) (table self.old.blocks) (N.state self.old.device) (N.state self.new.device) }
+        ensures takes_one { TakesOneBlock (length (buffered self.old.buffer)) self.old.spare (table self.old.blocks) (N.state self.old.device) (N.state self.new.device) }
         ensures stops { IfErr result (λ fault. (fault ≡ faults.NoMemory) ⊎ (self.new.broken ≡ true)) }
         ensures fault { IfErr result (IsChangeFault self.old.spare (length (buffered self.old.buffer)) (N.state self.new.device) (table self.old.blocks) (table self.new.blocks) self.old.broken self.new.refused) }
     {
@@ -114,6 +115,7 @@ impl<N: Nand> Store<N> {
         ensures enough { with_new self.old.index (buffered self.old.buffer) pages.now ≤ most_pages self.old.buffer
             → (self.new.device ≡ self.old.device) × (self.new.index ≡ self.old.index) }
         ensures takes_none { TakesNoBlock (length (buffered self.old.buffer)) (table self.old.blocks) (N.state self.old.device) (N.state self.new.device) }
+        ensures takes_one { TakesOneBlock (length (buffered self.old.buffer)) self.old.spare (table self.old.blocks) (N.state self.old.device) (N.state self.new.device) }
         ensures stops { OnErr result (self.new.broken ≡ true) }
         ensures fault { IfErr result (IsCommitFault self.old.spare (length (buffered self.old.buffer)) (N.state self.new.device) (table self.old.blocks) (table self.new.blocks) false) }
     {

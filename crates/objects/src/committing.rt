@@ -6,8 +6,9 @@ ghost use Rattle.chunk_index.specs.Maps.{IsReadyKey};
 ghost use Rattle.transactions.specs.Handing.{HandsOut};
 ghost use Rattle.bad_blocks.specs.Moving.{MarksFailures};
 ghost use Rattle.page_buffer.specs.BufferOf.{buffered};
-ghost use Rattle.commits.specs.Committing.{TakesNoBlock};
+ghost use Rattle.commits.specs.Committing.{TakesNoBlock, TakesOneBlock};
 ghost use Rattle.pages.specs.Stores.{SamePages, IsCarried};
+ghost use Rattle.objects.specs.Caching.{TakesPages};
 ghost use Rattle.objects.specs.Changing.{IsCommitFault, fault_of};
 
 use crate::caching::keep_written;
@@ -48,11 +49,15 @@ impl<N: Nand> Store<N> {
         ensures kept { OnOk result (SamePages (kept_map (N.state self.new.device) self.new.index) (present_map (N.state self.old.device) self.old.index self.old.buffer)) }
         ensures present { OnOk result (SamePages (present_map (N.state self.new.device) self.new.index self.new.buffer) (present_map (N.state self.old.device) self.old.index self.old.buffer)) }
         ensures empty { OnOk result (buffered self.new.buffer ≡ []) }
+        // The pages that were written come into the cache, where it has a page or a place of their keys.
+        ensures cached { OnOk result (TakesPages (buffered self.old.buffer) self.old.cache self.new.cache) }
         ensures carried { self.old.broken ≡ false → (N.state self.old.device).honest ≡ true
             → IsCarried (N.state self.new.device) self.old.spare (kept_map (N.state self.old.device) self.old.index)
             ⊎ IsCarried (N.state self.new.device) self.old.spare (present_map (N.state self.old.device) self.old.index self.old.buffer) }
         // A block is taken only where the open one lacks the pages, or a program failed.
         ensures takes_none { TakesNoBlock (length (buffered self.old.buffer)) (table self.old.blocks) (N.state self.old.device) (N.state self.new.device) }
+        // And no more than one, while blocks are left that can be taken.
+        ensures takes_one { TakesOneBlock (length (buffered self.old.buffer)) self.old.spare (table self.old.blocks) (N.state self.old.device) (N.state self.new.device) }
         ensures nothing { buffered self.old.buffer ≡ [] → N.state self.new.device ≡ N.state self.old.device }
         ensures stops { OnErr result (self.new.broken ≡ true) }
         ensures fault { IfErr result (IsCommitFault self.old.spare (length (buffered self.old.buffer)) (N.state self.new.device) (table self.old.blocks) (table self.new.blocks) self.old.broken) }

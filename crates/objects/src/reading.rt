@@ -50,6 +50,8 @@ pub(crate) fn load_kept<N: Nand>(
     ensures sizes { KeepsSizes cache.old cache.new }
     ensures caches { Caches (N.state device.old) key at cache.old cache.new }
     ensures here { OnOk result (IsSome (cached cache.new key.object key.chunk)) }
+    // A page that is in the cache is not read.
+    ensures cached { IsSome (cached cache.old key.object key.chunk) → N.state device.new ≡ N.state device.old }
     ensures fault { IfErr result (IsLoadFault (N.state device.old) (N.state device.new) at) }
 {
     if cache.find(key) {

@@ -1,5 +1,6 @@
 // The store.
-ghost use Rattle.std.specs.Prelude.{◌≡◌, ◌<◌, ◌≤◌, ℕ, List, length, true, false, Some, None, IfOk, IfErr, OnOk, ◌+◌, ◌/◌, []};
+ghost use Rattle.std.specs.Prelude.{◌≡◌, ◌<◌, ◌≤◌, ℕ, List, length, true, false, Some, None, IsSome, IfOk, IfErr, OnOk, ◌+◌, ◌/◌, []};
+ghost use Rattle.std.specs.NonZero.{non_zero_usize_get};
 ghost use Rattle.block_state.specs.Kept.{bad_count};
 ghost use Rattle.block_state.specs.TableOf.{table};
 ghost use Rattle.transactions.specs.Ready.{IsReady};
@@ -10,7 +11,7 @@ ghost use Rattle.chunk_index.specs.declared.form.Present.TheVariants as presents
 ghost use Rattle.page_buffer.specs.Buffering.{Buffers, IsUnbuffered};
 ghost use Rattle.page_buffer.specs.BufferOf.{buffered, most_pages, bytes_of_page};
 ghost use Rattle.page_buffer.specs.Shown.{data_at, kept_data, present_data};
-ghost use Rattle.page_cache.specs.Cached.{held, cached, page_bytes_of};
+ghost use Rattle.page_cache.specs.Cached.{held, cached, capacity_of, page_bytes_of};
 ghost use Rattle.nand_model.specs.Changes.{OnlyReads};
 ghost use Rattle.objects.specs.Found.{IsFound, found_bytes};
 ghost use Rattle.objects.specs.Reading.{IsFindFault};
@@ -26,7 +27,7 @@ use flash_tree::Key;
 use nand_model::{Geometry, Nand};
 use page_buffer::Buffer;
 use page_cache::PageCache;
-use pages::{Pages, Presence};
+use pages::{Pages, Presence, has_power};
 use std::alloc::{AllocError, Global};
 use std::num::NonZeroUsize;
 use volume_terms::StoreFault;
@@ -93,6 +94,7 @@ fn make_rooms(
 ) -> Result<Rooms, AllocError>
     ensures buffer { IfOk result (λ made. (buffered made.buffer ≡ []) × (most_pages made.buffer ≡ geometry.pages / 4) × (bytes_of_page made.buffer ≡ geometry.bytes)) }
     ensures cache { IfOk result (λ made. (page_bytes_of made.cache ≡ geometry.bytes) × ((o c : ℕ) → held made.cache o c ≡ None)) }
+    ensures capacity { IfOk result (λ made. capacity_of made.cache ≡ non_zero_usize_get capacity) }
     ensures room { IfOk result (λ made. IsRoomFor geometry made.room) }
     ensures page { IfOk result (λ made. length made.scratch.items ≡ geometry.bytes) }
 {
@@ -127,6 +129,7 @@ impl<N: Nand> Store<N> {
         ensures blocks { IfOk result (λ store. (table store.blocks ≡ table blocks) × (store.spare ≡ spare)) }
         ensures whole { IfOk result (λ store. store.broken ≡ false) }
         ensures most { IfOk result (λ store. most_pages store.buffer ≡ (N.state device).geometry.pages / 4) }
+        ensures capacity { IfOk result (λ store. capacity_of store.cache ≡ non_zero_usize_get capacity) }
         ensures kept { (o c : ℕ) → IfOk result (λ store. kept_map (N.state store.device) store.index o c ≡ kept_map (N.state device) index o c) }
         ensures pages { (o c : ℕ) → IfOk result (λ store. present_data store.index (buffered store.buffer) (N.state device).flash o c ≡ present_data index [] (N.state device).flash o c) }
         ensures given_back { IfErr result (λ back. N.state back.0 ≡ N.state device) }
@@ -169,6 +172,7 @@ impl<N: Nand> Store<N> {
         ensures reads { OnlyReads (N.state self.old.device) (N.state self.new.device) }
         ensures same { (self.new.index ≡ self.old.index) × (self.new.buffer ≡ self.old.buffer) × (self.new.broken ≡ self.old.broken) × (self.new.blocks ≡ self.old.blocks) × (self.new.spare ≡ self.old.spare) }
         ensures asked { (N.state self.new.device).reads ≤ (N.state self.old.device).reads + 1 }
+        ensures cached { IsSome (cached self.old.cache key.object key.chunk) → N.state self.new.device ≡ N.state self.old.device }
         ensures refused { self.old.refused ≡ true → self.new.refused ≡ true }
         ensures there { IfOk result (λ presence. presence ≡ Presence.Present) }
         ensures page { self.old.broken ≡ false → (N.state self.old.device).honest ≡ true
@@ -195,9 +199,9 @@ impl<N: Nand> Store<N> {
 }
 
 impl<N: Nand> Pages for Store<N> {
-    ghost use Rattle.objects.specs.StoreOf.{seen};
+    ghost use Rattle.objects.specs.StoreOf.{store_seen};
 
-    ghost state = { λ s. seen (N.state s.device) (table s.blocks) s.index s.buffer s.cache s.scratch.items s.found s.spare s.broken s.refused };
+    ghost state = { λ s. store_seen (N.state s.device) (table s.blocks) s.index s.buffer s.cache s.scratch.items s.found s.spare s.broken s.refused };
 
     ghost sized = { λ s. ((N.state s.device).geometry.least_bytes, (N.state s.device).geometry.most_bytes) };
 
@@ -214,6 +218,10 @@ impl<N: Nand> Pages for Store<N> {
             }
             Present::OnFlash(at) => self.find_kept(key, at),
         }
+    }
+
+    fn has_power(&mut self) -> bool {
+        has_power(&mut self.device)
     }
 
     fn page(&self) -> &[u8] {

@@ -7,7 +7,7 @@ use Rattle.nand_model.specs.declared.geometry.Geometry.{Geometry}
 use Rattle.block_state.specs.Table.{Table, room as room_of}
 use Rattle.bad_blocks.specs.Moving.{Costs}
 use Rattle.collector.specs.Making.{FitsOpen}
-use Rattle.commits.proofs.Costing.{costs_changes, costs_each, costs_failed, costs_more, costs_on, room_most, takes_none_written, takes_none_failed}
+use Rattle.commits.proofs.Costing.{costs_changes, costs_each, costs_failed, costs_more, costs_on, room_most, takes_none_written, takes_none_failed, takes_one_written, takes_one_failed}
 use Rattle.block_state.specs.TableOf.{table}
 use Rattle.chunk_index.specs.declared.index.Index.{Index}
 use Rattle.page_buffer.specs.declared.buffer.Buffer.{Buffer}
@@ -721,3 +721,67 @@ returns-in_ok-retire-in-Failed-clause-takes_none g c =
     let bad = c.write_buffered.ensures.bad in
     let failed : d1.failures + 1 ≤ d2.failures = omega (arith, bad, (rw c.in-Failed.is at c.in_ok-write_buffered.ensures).marks) in
     takes_none_failed (length (buffered c.args.buffer.now)) (table c.args.blocks.now) d0 d1 d2 d3 c.make_room.ensures.moves.1.lasts.failures failed c.retire-in-Failed.ensures.moves.lasts.failures
+
+pub returns-in_err-make_room-clause-takes_one : goal.returns-in_err-make_room-clause-takes_one
+returns-in_err-make_room-clause-takes_one g c =
+    let d0 : Device = g.N.Nand.state c.args.device.now in
+    let d1 : Device = g.N.Nand.state c.make_room.new.device in
+    takes_one_written (length (buffered c.args.buffer.now)) c.args.spare (table c.args.blocks.now) d0 d1 d1 c.make_room.ensures.takes c.make_room.ensures.moves.1.lasts.failures (omega arith) (omega arith)
+
+pub returns-then-next_group-ge-NUMBER_END-clause-takes_one : goal.returns-then-next_group-ge-NUMBER_END-clause-takes_one
+returns-then-next_group-ge-NUMBER_END-clause-takes_one g c =
+    let d0 : Device = g.N.Nand.state c.args.device.now in
+    let d1 : Device = g.N.Nand.state c.make_room.new.device in
+    takes_one_written (length (buffered c.args.buffer.now)) c.args.spare (table c.args.blocks.now) d0 d1 d1 c.make_room.ensures.takes c.make_room.ensures.moves.1.lasts.failures (omega arith) (omega arith)
+
+pub returns-in_err-write_buffered-clause-takes_one : goal.returns-in_err-write_buffered-clause-takes_one
+returns-in_err-write_buffered-clause-takes_one g c =
+    let d0 : Device = g.N.Nand.state c.args.device.now in
+    let d1 : Device = g.N.Nand.state c.make_room.new.device in
+    takes_one_written (length (buffered c.args.buffer.now)) c.args.spare (table c.args.blocks.now) d0 d1 (g.N.Nand.state c.write_buffered.new.device) c.make_room.ensures.takes c.make_room.ensures.moves.1.lasts.failures c.write_buffered.ensures.lasts.failures c.write_buffered.ensures.costs
+
+pub returns-in-Trusted-clause-takes_one : goal.returns-in-Trusted-clause-takes_one
+returns-in-Trusted-clause-takes_one g c =
+    let d0 : Device = g.N.Nand.state c.args.device.now in
+    let d1 : Device = g.N.Nand.state c.make_room.new.device in
+    takes_one_written (length (buffered c.args.buffer.now)) c.args.spare (table c.args.blocks.now) d0 d1 (g.N.Nand.state c.write_buffered.new.device) c.make_room.ensures.takes c.make_room.ensures.moves.1.lasts.failures c.write_buffered.ensures.lasts.failures c.write_buffered.ensures.costs
+
+pub returns-in_err-retire-in-Suspect-clause-takes_one : goal.returns-in_err-retire-in-Suspect-clause-takes_one
+returns-in_err-retire-in-Suspect-clause-takes_one g c =
+    let d0 : Device = g.N.Nand.state c.args.device.now in
+    let d1 : Device = g.N.Nand.state c.make_room.new.device in
+    let d2 : Device = g.N.Nand.state c.write_buffered.new.device in
+    let d3 : Device = g.N.Nand.state c.retire.new.device in
+    let bad = c.write_buffered.ensures.bad in
+    let failed : d1.failures + 1 ≤ d2.failures = omega (arith, bad, (rw c.in-Suspect.is at c.in_ok-write_buffered.ensures).marks) in
+    takes_one_failed (length (buffered c.args.buffer.now)) c.args.spare (table c.args.blocks.now) d0 d1 d2 d3 c.make_room.ensures.moves.1.lasts.failures failed c.retire.ensures.moves.lasts.failures
+
+pub returns-in_err-retire-in-Failed-clause-takes_one : goal.returns-in_err-retire-in-Failed-clause-takes_one
+returns-in_err-retire-in-Failed-clause-takes_one g c =
+    let d0 : Device = g.N.Nand.state c.args.device.now in
+    let d1 : Device = g.N.Nand.state c.make_room.new.device in
+    let d2 : Device = g.N.Nand.state c.write_buffered.new.device in
+    let d3 : Device = g.N.Nand.state c.retire-in-Failed.new.device in
+    let bad = c.write_buffered.ensures.bad in
+    let failed : d1.failures + 1 ≤ d2.failures = omega (arith, bad, (rw c.in-Failed.is at c.in_ok-write_buffered.ensures).marks) in
+    takes_one_failed (length (buffered c.args.buffer.now)) c.args.spare (table c.args.blocks.now) d0 d1 d2 d3 c.make_room.ensures.moves.1.lasts.failures failed c.retire-in-Failed.ensures.moves.lasts.failures
+
+pub returns-in_ok-retire-in-Suspect-clause-takes_one : goal.returns-in_ok-retire-in-Suspect-clause-takes_one
+returns-in_ok-retire-in-Suspect-clause-takes_one g c =
+    let d0 : Device = g.N.Nand.state c.args.device.now in
+    let d1 : Device = g.N.Nand.state c.make_room.new.device in
+    let d2 : Device = g.N.Nand.state c.write_buffered.new.device in
+    let d3 : Device = g.N.Nand.state c.retire.new.device in
+    let bad = c.write_buffered.ensures.bad in
+    let failed : d1.failures + 1 ≤ d2.failures = omega (arith, bad, (rw c.in-Suspect.is at c.in_ok-write_buffered.ensures).marks) in
+    takes_one_failed (length (buffered c.args.buffer.now)) c.args.spare (table c.args.blocks.now) d0 d1 d2 d3 c.make_room.ensures.moves.1.lasts.failures failed c.retire.ensures.moves.lasts.failures
+
+pub returns-in_ok-retire-in-Failed-clause-takes_one : goal.returns-in_ok-retire-in-Failed-clause-takes_one
+returns-in_ok-retire-in-Failed-clause-takes_one g c =
+    let d0 : Device = g.N.Nand.state c.args.device.now in
+    let d1 : Device = g.N.Nand.state c.make_room.new.device in
+    let d2 : Device = g.N.Nand.state c.write_buffered.new.device in
+    let d3 : Device = g.N.Nand.state c.retire-in-Failed.new.device in
+    let bad = c.write_buffered.ensures.bad in
+    let failed : d1.failures + 1 ≤ d2.failures = omega (arith, bad, (rw c.in-Failed.is at c.in_ok-write_buffered.ensures).marks) in
+    takes_one_failed (length (buffered c.args.buffer.now)) c.args.spare (table c.args.blocks.now) d0 d1 d2 d3 c.make_room.ensures.moves.1.lasts.failures failed c.retire-in-Failed.ensures.moves.lasts.failures

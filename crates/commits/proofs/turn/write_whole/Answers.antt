@@ -5,7 +5,7 @@ use Rattle.flash_tree.specs.declared.place.FreshPage.{FreshPage}
 use Rattle.nand_model.specs.declared.geometry.Geometry.{Geometry}
 use Rattle.block_state.specs.Table.{Table}
 use Rattle.bad_blocks.specs.Moving.{Costs}
-use Rattle.commits.proofs.Costing.{costs_more, costs_none, costs_on, takes_none_turn}
+use Rattle.commits.proofs.Costing.{costs_more, costs_none, costs_on, takes_none_turn, takes_one_turn}
 use Rattle.block_state.specs.TableOf.{table}
 use Rattle.chunk_index.specs.declared.index.Index.{Index}
 use Rattle.page_buffer.specs.BufferOf.{buffered}
@@ -161,3 +161,15 @@ returns-in-Written-clause-takes_none g c =
     let so_far = c.loop.invariant in
     takes_none_turn (length (buffered c.args.buffer.now)) (length (buffered c.loop.buffer)) (table c.args.blocks.now) (table c.loop.blocks) (g.N.Nand.state c.args.device.now) (g.N.Nand.state c.loop.device) (g.N.Nand.state c.take_turn.new.device)
     (ap length so_far.same) so_far.keeps.lasts c.take_turn.ensures.leaves.lasts so_far.first c.take_turn.ensures.takes_none
+
+pub returns-in_err-take_turn-clause-takes_one : goal.returns-in_err-take_turn-clause-takes_one
+returns-in_err-take_turn-clause-takes_one g c =
+    let so_far = c.loop.invariant in
+    takes_one_turn (length (buffered c.args.buffer.now)) (length (buffered c.loop.buffer)) c.args.spare (table c.args.blocks.now) (table c.loop.blocks) (g.N.Nand.state c.args.device.now) (g.N.Nand.state c.loop.device) (g.N.Nand.state c.take_turn.new.device)
+    (ap length so_far.same) so_far.keeps.lasts c.take_turn.ensures.leaves.lasts so_far.first c.take_turn.ensures.takes_one
+
+pub returns-in-Written-clause-takes_one : goal.returns-in-Written-clause-takes_one
+returns-in-Written-clause-takes_one g c =
+    let so_far = c.loop.invariant in
+    takes_one_turn (length (buffered c.args.buffer.now)) (length (buffered c.loop.buffer)) c.args.spare (table c.args.blocks.now) (table c.loop.blocks) (g.N.Nand.state c.args.device.now) (g.N.Nand.state c.loop.device) (g.N.Nand.state c.take_turn.new.device)
+    (ap length so_far.same) so_far.keeps.lasts c.take_turn.ensures.leaves.lasts so_far.first c.take_turn.ensures.takes_one

@@ -6,7 +6,7 @@ use Rattle.block_state.specs.TableOf.{table}
 use Rattle.page_buffer.specs.BufferOf.{buffered, most_pages}
 use Rattle.pages.specs.Stores.{IsCarried}
 use Rattle.pages.specs.State.{PagesState}
-use Rattle.objects.specs.StoreOf.{kept_map, present_map, next_numbers, seen}
+use Rattle.objects.specs.StoreOf.{kept_map, present_map, next_numbers, store_seen}
 use Rattle.objects.proofs.Carried.{has_page, store_carries}
 use Rattle.objects.proofs.ReadOnly.{sound_honest, sound_whole}
 use Rattle.objects.proofs.Told.{breaks_on, change_told, failed_stays, hands_told, is_sound, keeps_either, limits_told, marks_told, sound_on, sound_stays, stops_told, ways}
@@ -49,7 +49,7 @@ returns-clause-kept g c = λ sound.
     let now = g.N.Nand.state new.device in
     let honest = sound_honest old.honest self.broken sound in
     let whole = sound_whole old.honest self.broken sound in
-    let q : PagesState = seen now (table new.blocks) new.index new.buffer new.cache new.scratch.items new.found new.spare new.broken new.refused in
+    let q : PagesState = store_seen now (table new.blocks) new.index new.buffer new.cache new.scratch.items new.found new.spare new.broken new.refused in
     let m = kept_map old self.index in
     let n = present_map old self.index self.buffer in
     keeps_either q m n
@@ -83,8 +83,8 @@ returns-clause-fault g c = λ sound.
     let now = g.N.Nand.state new.device in
     let honest = sound_honest old.honest self.broken sound in
     let whole = sound_whole old.honest self.broken sound in
-    let p : PagesState = seen old (table self.blocks) self.index self.buffer self.cache self.scratch.items self.found self.spare self.broken self.refused in
-    let q : PagesState = seen now (table new.blocks) new.index new.buffer new.cache new.scratch.items new.found new.spare new.broken new.refused in
+    let p : PagesState = store_seen old (table self.blocks) self.index self.buffer self.cache self.scratch.items self.found self.spare self.broken self.refused in
+    let q : PagesState = store_seen now (table new.blocks) new.index new.buffer new.cache new.scratch.items new.found new.spare new.broken new.refused in
     let few : length (buffered self.buffer) ≤ most_pages self.buffer = self.buffer.few in
     let most : most_pages self.buffer ≡ old.geometry.pages / 4 = self.most in
     change_told p q (table self.blocks) (table new.blocks) self.index (length (buffered self.buffer)) self.ready.geometry e.lasts.geometry e.same.0 refl new.ready (omega (arith, most)) few (self.few whole)

@@ -5,7 +5,7 @@ use Rattle.block_state.specs.TableOf.{table}
 use Rattle.page_buffer.specs.BufferOf.{buffered, most_pages}
 use Rattle.pages.specs.Stores.{IsCarried}
 use Rattle.pages.specs.State.{PagesState}
-use Rattle.objects.specs.StoreOf.{kept_map, present_map, seen}
+use Rattle.objects.specs.StoreOf.{kept_map, present_map, store_seen}
 use Rattle.objects.proofs.Carried.{has_page, store_carries}
 use Rattle.objects.proofs.ReadOnly.{sound_honest, sound_whole}
 use Rattle.objects.proofs.Told.{breaks_on, commit_told, committed, failed_stays, hands_told, keeps_either, limits_told, marks_told, right_way, sound_on, sound_stays, stopped, stops_either, stops_told, takes_none, ways}
@@ -46,7 +46,7 @@ returns-clause-kept g c = λ sound.
     let now = g.N.Nand.state new.device in
     let honest = sound_honest old.honest self.broken sound in
     let whole = sound_whole old.honest self.broken sound in
-    let q : PagesState = seen now (table new.blocks) new.index new.buffer new.cache new.scratch.items new.found new.spare new.broken new.refused in
+    let q : PagesState = store_seen now (table new.blocks) new.index new.buffer new.cache new.scratch.items new.found new.spare new.broken new.refused in
     let m = kept_map old self.index in
     let n = present_map old self.index self.buffer in
     keeps_either q m n
@@ -63,7 +63,7 @@ returns-clause-committed g c = λ sound.
     let old = g.N.Nand.state self.device in
     let now = g.N.Nand.state new.device in
     let honest = sound_honest old.honest self.broken sound in
-    let q : PagesState = seen now (table new.blocks) new.index new.buffer new.cache new.scratch.items new.found new.spare new.broken new.refused in
+    let q : PagesState = store_seen now (table new.blocks) new.index new.buffer new.cache new.scratch.items new.found new.spare new.broken new.refused in
     committed c.write_out.result q (present_map old self.index self.buffer) (sound_on c.write_out.result old now self.broken new.broken e.lasts e.whole honest) e.kept
     (λ is. store_carries new.spare now (table new.blocks) new.index c.the_counts_are_of_the_keys.ensures.none new.ready new.stands.tables (new.newest (sound_whole now.honest new.broken is) (sound_honest now.honest new.broken is)))
 
@@ -79,8 +79,8 @@ returns-clause-fault g c = λ sound.
     let now = g.N.Nand.state new.device in
     let honest = sound_honest old.honest self.broken sound in
     let whole = sound_whole old.honest self.broken sound in
-    let p : PagesState = seen old (table self.blocks) self.index self.buffer self.cache self.scratch.items self.found self.spare self.broken self.refused in
-    let q : PagesState = seen now (table new.blocks) new.index new.buffer new.cache new.scratch.items new.found new.spare new.broken new.refused in
+    let p : PagesState = store_seen old (table self.blocks) self.index self.buffer self.cache self.scratch.items self.found self.spare self.broken self.refused in
+    let q : PagesState = store_seen now (table new.blocks) new.index new.buffer new.cache new.scratch.items new.found new.spare new.broken new.refused in
     let few : length (buffered self.buffer) ≤ most_pages self.buffer = self.buffer.few in
     let most : most_pages self.buffer ≡ old.geometry.pages / 4 = self.most in
     commit_told p q (table self.blocks) (table new.blocks) self.index (length (buffered self.buffer)) self.ready.geometry e.lasts.geometry e.same.0 refl new.ready (omega (arith, most)) few (self.few whole)

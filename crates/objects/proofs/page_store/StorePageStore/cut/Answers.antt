@@ -6,7 +6,7 @@ use Rattle.nand_model.specs.laws.Calls.{lasts_here}
 use Rattle.block_state.specs.TableOf.{table}
 use Rattle.pages.specs.State.{PagesState}
 use Rattle.pages.specs.Stores.{HasNumbersLeft}
-use Rattle.objects.specs.StoreOf.{kept_map, next_numbers, seen}
+use Rattle.objects.specs.StoreOf.{kept_map, next_numbers, store_seen}
 use Rattle.objects.proofs.Carried.{store_carries}
 use Rattle.objects.proofs.ReadOnly.{sound_honest, sound_whole}
 use Rattle.objects.proofs.Told.{cut_stopped, cut_takes_none, cut_told, failed_stays, hands_none, kept_as, marks_none}
@@ -46,7 +46,7 @@ returns-clause-kept g c = λ sound.
     let now = g.N.Nand.state new.device in
     let honest : now.honest ≡ true = ap (λ x. (g.N.Nand.state x).honest) e.same.0 ∙ sound_honest old.honest self.broken sound in
     let whole : new.broken ≡ false = e.same.3 ∙ sound_whole old.honest self.broken sound in
-    let q : PagesState = seen now (table new.blocks) new.index new.buffer new.cache new.scratch.items new.found new.spare new.broken new.refused in
+    let q : PagesState = store_seen now (table new.blocks) new.index new.buffer new.cache new.scratch.items new.found new.spare new.broken new.refused in
     kept_as q (kept_map old self.index) e.kept (store_carries new.spare now (table new.blocks) new.index c.the_counts_are_of_the_keys.ensures.none new.ready new.stands.tables (new.newest whole honest))
 
 pub returns-clause-stops : goal.returns-clause-stops
@@ -59,8 +59,8 @@ pub returns-clause-fault : goal.returns-clause-fault
 returns-clause-fault g c = λ sound.
     let self = c.args.self.now in
     let new = c.cut_away.new.self in
-    cut_told c.cut_away.result (seen (g.N.Nand.state self.device) (table self.blocks) self.index self.buffer self.cache self.scratch.items self.found self.spare self.broken self.refused)
-    (seen (g.N.Nand.state new.device) (table new.blocks) new.index new.buffer new.cache new.scratch.items new.found new.spare new.broken new.refused) self.broken
+    cut_told c.cut_away.result (store_seen (g.N.Nand.state self.device) (table self.blocks) self.index self.buffer self.cache self.scratch.items self.found self.spare self.broken self.refused)
+    (store_seen (g.N.Nand.state new.device) (table new.blocks) new.index new.buffer new.cache new.scratch.items new.found new.spare new.broken new.refused) self.broken
     (sound_whole (g.N.Nand.state self.device).honest self.broken sound) c.cut_away.ensures.fault
 
 pub returns-clause-device : goal.returns-clause-device

@@ -13,7 +13,7 @@ use Rattle.page_buffer.specs.Buffering.{AreReady}
 use Rattle.pages.specs.Stores.{IsCarried}
 use Rattle.objects.specs.StoreOf.{kept_map, present_map}
 use Rattle.objects.proofs.Carried.{carried_same, either_same, store_carries}
-use Rattle.objects.proofs.Steps.{same_back, same_on, fits_on, hands_still, hands_between, takes_still, takes_between, kept_map_same, present_map_same, ready_prepared}
+use Rattle.objects.proofs.Steps.{same_back, same_on, fits_on, hands_still, hands_between, takes_still, takes_between, takes_one_still, takes_one_between, kept_map_same, present_map_same, ready_prepared}
 use Rattle.objects.proofs.store.Store.change.Goals as goal
 
 pub returns-in_err-prepare-clause-carried : goal.returns-in_err-prepare-clause-carried
@@ -173,3 +173,28 @@ returns-clause-takes_none g c =
     takes_between (length (buffered self.buffer)) (length (buffered p.buffer)) (table self.blocks) (table p.blocks) (g.N.Nand.state self.device) (g.N.Nand.state p.device) now (g.N.Nand.state c.make.new.self.device)
     (ap g.N.Nand.state same.0) (ap table same.1)
     (ap (λ (b : Buffer). length (buffered b)) same.2) (ap g.N.Nand.state c.make.ensures.same.0) c.make_room.ensures.takes_none
+
+pub returns-in_err-prepare-clause-takes_one : goal.returns-in_err-prepare-clause-takes_one
+returns-in_err-prepare-clause-takes_one g c =
+    let self = c.args.self.now in
+    takes_one_still (length (buffered self.buffer)) self.spare (table self.blocks) (g.N.Nand.state self.device) (g.N.Nand.state c.prepare.new.self.device) (ap g.N.Nand.state c.prepare.ensures.same.0)
+
+pub returns-in_err-make_room-clause-takes_one : goal.returns-in_err-make_room-clause-takes_one
+returns-in_err-make_room-clause-takes_one g c =
+    let self = c.args.self.now in
+    let p = c.prepare.new.self in
+    let same = c.prepare.ensures.same in
+    let now : Device = g.N.Nand.state c.make_room.new.self.device in
+    takes_one_between (length (buffered self.buffer)) (length (buffered p.buffer)) self.spare p.spare (table self.blocks) (table p.blocks) (g.N.Nand.state self.device) (g.N.Nand.state p.device) now now
+    (ap g.N.Nand.state same.0) (ap table same.1)
+    (ap (λ (b : Buffer). length (buffered b)) same.2) same.3 refl c.make_room.ensures.takes_one
+
+pub returns-clause-takes_one : goal.returns-clause-takes_one
+returns-clause-takes_one g c =
+    let self = c.args.self.now in
+    let p = c.prepare.new.self in
+    let same = c.prepare.ensures.same in
+    let now : Device = g.N.Nand.state c.make_room.new.self.device in
+    takes_one_between (length (buffered self.buffer)) (length (buffered p.buffer)) self.spare p.spare (table self.blocks) (table p.blocks) (g.N.Nand.state self.device) (g.N.Nand.state p.device) now (g.N.Nand.state c.make.new.self.device)
+    (ap g.N.Nand.state same.0) (ap table same.1)
+    (ap (λ (b : Buffer). length (buffered b)) same.2) same.3 (ap g.N.Nand.state c.make.ensures.same.0) c.make_room.ensures.takes_one

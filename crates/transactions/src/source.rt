@@ -64,7 +64,7 @@ pub trait PageSource {
         ensures value { result ≡ count self.now }
         ensures some { 1 ≤ result };
 
-    /// TakesPages a buffer with page `i`, and names it. Of the device it is read at most.
+    /// Fills a buffer with page `i`, and names it. Of the device it is read at most.
     fn page<N: Nand>(
         &self,
         device: &mut N,

@@ -50,6 +50,13 @@ impl<N: Nand> Pages for FlashPages<N> {
         }
     }
 
+    fn has_power(&mut self) -> bool {
+        match self {
+            FlashPages::Store(store) => store.has_power(),
+            FlashPages::ReadOnly(pages) => pages.has_power(),
+        }
+    }
+
     fn page(&self) -> &[u8] {
         match self {
             FlashPages::Store(store) => store.page(),

@@ -87,6 +87,10 @@ impl<N: Nand> Pages for ReadOnlyPages<N> {
         self.pages.find(key)
     }
 
+    fn has_power(&mut self) -> bool {
+        self.pages.has_power()
+    }
+
     fn page(&self) -> &[u8] {
         self.pages.page()
     }

@@ -7,6 +7,7 @@ refusing_meaning m inner = record {
   sizes = λ a. m.sizes (inner a);
   stands = λ a objects. m.stands (inner a) objects;
   shows = λ a tree. m.shows (inner a) tree;
+  has_power = λ a. m.has_power (inner a);
   lasts = λ a b. m.lasts (inner a) (inner b);
   leaves = λ a b. m.leaves (inner a) (inner b);
   reads = λ a b. m.reads (inner a) (inner b);

@@ -79,6 +79,10 @@ impl<S: ObjectStore> ObjectStore for FusedStore<S> {
         self.inner.new_number()
     }
 
+    fn has_power(&mut self) -> bool {
+        self.inner.has_power()
+    }
+
     fn find(&mut self, directory: u64, name: &[u8]) -> Result<Option<u64>, StoreFault> {
         match self.next_call() {
             CallEnd::Goes => self.inner.find(directory, name),

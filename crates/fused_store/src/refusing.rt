@@ -65,6 +65,10 @@ impl<S: ObjectStore> ObjectStore for RefusingStore<S> {
         self.inner.new_number()
     }
 
+    fn has_power(&mut self) -> bool {
+        self.inner.has_power()
+    }
+
     fn find(&mut self, directory: u64, name: &[u8]) -> Result<Option<u64>, StoreFault> {
         if self.refuses() {
             return Err(StoreFault::NoMemory);

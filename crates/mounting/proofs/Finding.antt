@@ -6,7 +6,7 @@ use Rattle.flash_tree.specs.Mount.{Wrong, sizes_of, IsVolume}
 use Rattle.pages.specs.Maps.{PageMap, has}
 use Rattle.pages.specs.State.{PagesState, OnlyFinds}
 use Rattle.tree_walk.specs.Faults.{TellsWrong}
-use Rattle.tree_walk.specs.Trees.{IsTreeOf, IsWrongTree, page_size}
+use Rattle.tree_walk.specs.Trees.{IsTreeThrough, IsWrongTree, page_size}
 use Rattle.tree_walk.specs.Visits.{IsSeen}
 use Rattle.tree_walk.specs.declared.fault.WalkFault.{WalkFault}
 use Rattle.tree_walk.specs.declared.fault.WalkFault.TheVariants as walks
@@ -18,11 +18,11 @@ pub seen_after : (g : Geometry) (spare : ℕ) (p q : PagesState) → OnlyFinds p
 seen_after g spare p q finds sound size = record { sound = finds.sound ∙ sound; size = size ∙ sym finds.page_bytes }
 
 pub gone_through : (g : Geometry) (spare : ℕ) (tree : Tree) (p q : PagesState) → OnlyFinds p q → g.bytes ≡ p.page_bytes → IsVolume g (has p.present) spare → page_size tree ≡ q.page_bytes
-    → IsTreeOf (sizes_of g spare) (has q.present) tree → IsGoneThrough g (has p.present) spare tree
+    → IsTreeThrough (sizes_of g spare) (has q.present) tree → IsGoneThrough g (has p.present) spare tree
 gone_through g spare tree p q finds size volume told is = record {
   volume = volume;
   size = told ∙ finds.page_bytes ∙ sym size;
-  tree_is = subst (λ (m : PageMap). IsTreeOf (sizes_of g spare) (has m) tree) finds.present is;
+  tree_is = subst (λ (m : PageMap). IsTreeThrough (sizes_of g spare) (has m) tree) finds.present is;
 }
 
 wrong_tree : (g : Geometry) (spare : ℕ) (wrong : Wrong) (p q : PagesState) → OnlyFinds p q → IsVolume g (has p.present) spare

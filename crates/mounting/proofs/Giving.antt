@@ -9,21 +9,22 @@ use Rattle.posix_profile.specs.Charge.{charge, fits}
 use Rattle.posix_profile.specs.WellFormed.{IsForest}
 use Rattle.flash_tree.specs.Newest.{Numbers, AreGreatest}
 use Rattle.flash_tree.specs.Tree.{Shows}
-use Rattle.flash_tree.specs.Mount.{Answers, IsTreeOf as answer_tree, IsVolume, sizes_of}
+use Rattle.flash_tree.specs.Mount.{Answers, IsTreeOf, IsVolume, sizes_of}
 use Rattle.chunk_index.specs.declared.index.Index.{Index}
-use Rattle.object_pages.specs.Holding.{HoldsObjects, CanHave}
+use Rattle.object_pages.specs.Holding.{HoldsObjects}
+use Rattle.object_store.specs.Stores.{CanHave}
 use Rattle.object_pages.specs.laws.Holding.{same_objects}
 use Rattle.object_store.specs.Stores.{settled}
-use Rattle.object_table.specs.Told.{sizes_of as table_sizes, Tells}
+use Rattle.object_table.specs.Told.{table_sizes, Tells}
 use Rattle.object_table.specs.declared.table.ObjectTable.{ObjectTable}
 use Rattle.page_buffer.specs.Shown.{kept_data}
 use Rattle.pages.specs.Maps.{PageMap, has}
 use Rattle.pages.specs.State.{PagesState}
 use Rattle.pages.specs.Stores.{bad_on}
-use Rattle.paged_objects.specs.Standing.{volume_of, Stands, Shown}
+use Rattle.paged_objects.specs.Standing.{volume_of, StandsFor, Shown}
 use Rattle.paged_objects.specs.laws.Showing.{kept_shown}
 use Rattle.flash_pages.specs.ReadOnly.{IsWorn, next_after}
-use Rattle.tree_walk.specs.Trees.{IsTreeOf}
+use Rattle.tree_walk.specs.Trees.{IsTreeThrough}
 use Rattle.tree_walk.specs.declared.tree.Tree.{Tree}
 use Rattle.mounting.specs.Made.{ArePagesOn, CanBeWritten, CanOnlyBeRead, AreNext, HasSizes, IsMountedWith}
 use Rattle.mounting.specs.Mounted.{IsTreeShown}
@@ -36,7 +37,7 @@ pub record ShownLaws : Type 0 where
 
 -- what the making of a table tells
 abbrev pub TableLaw : Sizes → Tree → ObjectTable → Type 0
-TableLaw z tree table = (m : PageMap) (objects : Objects) → IsSizes z → IsTreeOf z (has m) tree → Shows z (has m) objects → fits z objects ≡ true → Tells table objects
+TableLaw z tree table = (m : PageMap) (objects : Objects) → IsSizes z → IsTreeThrough z (has m) tree → Shows z (has m) objects → fits z objects ≡ true → Tells table objects
 
 module _ (d : Device) (x : Index) (n : Numbers) (spare : ℕ) (p : PagesState) (pages : ArePagesOn d x n spare p) where
   abbrev z : Sizes
@@ -96,7 +97,7 @@ module _ (d : Device) (x : Index) (n : Numbers) (spare : ℕ) (p : PagesState) (
   pub are_next : AreGreatest d.flash n → AreNext p.device.flash p.next
   are_next greatest = (n, subst (λ (k : Device). AreGreatest k.flash n) (sym pages.device_is) greatest, pages.next)
 
-  module _ (laws : ShownLaws) (tree : Tree) (objects : Objects) (honest : d.honest ≡ true) (answers : Answers d.geometry d.flash (answer_tree spare objects)) (shown : IsTreeShown d x spare tree objects)
+  module _ (laws : ShownLaws) (tree : Tree) (objects : Objects) (honest : d.honest ≡ true) (answers : Answers d.geometry d.flash (IsTreeOf spare objects)) (shown : IsTreeShown d x spare tree objects)
       (table : ObjectTable) (told : Sizes) (same : told ≡ z) (law : TableLaw told tree table) (fit : charge told objects ≤ capacity told) where
     sizes : IsSizes z
     sizes = laws.sizes d shown.on.pages spare shown.on.through.volume
@@ -122,8 +123,8 @@ module _ (d : Device) (x : Index) (n : Numbers) (spare : ℕ) (p : PagesState) (
 
     pub mounted_with : IsMountedWith p table objects
     mounted_with = record {
-      answers = subst (λ (k : Device). Answers k.geometry k.flash (answer_tree p.spare objects)) (sym pages.device_is)
-          (subst (λ s. Answers d.geometry d.flash (answer_tree s objects)) (sym pages.spare_is) answers);
+      answers = subst (λ (k : Device). Answers k.geometry k.flash (IsTreeOf p.spare objects)) (sym pages.device_is)
+          (subst (λ s. Answers d.geometry d.flash (IsTreeOf s objects)) (sym pages.spare_is) answers);
       stands = record {
         sound = pages.sound honest;
         sizes = refl;
@@ -136,6 +137,6 @@ module _ (d : Device) (x : Index) (n : Numbers) (spare : ℕ) (p : PagesState) (
       can = can;
       settles = settles;
       tells = law shown.on.pages objects (subst (λ (k : Sizes). IsSizes k) (sym same) sizes)
-          (subst (λ (k : Sizes). IsTreeOf k (has shown.on.pages) tree) (sym same) shown.on.through.tree_is)
+          (subst (λ (k : Sizes). IsTreeThrough k (has shown.on.pages) tree) (sym same) shown.on.through.tree_is)
           (subst (λ (k : Sizes). Shows k (has shown.on.pages) objects) (sym same) shown.shows) fits_told;
     }

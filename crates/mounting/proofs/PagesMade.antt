@@ -27,7 +27,7 @@ use Rattle.page_cache.specs.declared.cache.PageCache.{PageCache}
 use Rattle.pages.specs.Maps.{PageMap}
 use Rattle.pages.specs.State.{PagesState, NextNumbers}
 use Rattle.pages.specs.Stores.{bad_on, Carries, HasPage, HasNumbersLeft, IsCarried, SamePages, KeptAs}
-use Rattle.objects.specs.StoreOf.{known, kept_map, next_numbers, seen as store_seen}
+use Rattle.objects.specs.StoreOf.{known, kept_map, next_numbers, store_seen}
 use Rattle.objects.specs.declared.store.Found.{Found}
 use Rattle.newest_pages.specs.Newest.{known_pages, seen}
 use Rattle.newest_pages.specs.Opened.{AreLeft}

@@ -12,7 +12,7 @@ use Rattle.posix_profile.specs.State.{Objects}
 use Rattle.posix_profile.specs.Charge.{charge}
 use Rattle.flash_tree.specs.Newest.{Spot, IsNewest, HasNewest, Numbers}
 use Rattle.flash_tree.specs.Tree.{Shows}
-use Rattle.flash_tree.specs.Mount.{Wholly, GoesThrough, NamesTwice, Answers, IsWrong, IsDamaged, IsTreeOf as answer_tree, sizes_of, IsVolume, bad_blocks}
+use Rattle.flash_tree.specs.Mount.{Wholly, GoesThrough, NamesTwice, Answers, IsWrong, IsDamaged, IsTreeOf, sizes_of, IsVolume, bad_blocks}
 use Rattle.block_state.specs.Kept.{bad_count, unkept_count}
 use Rattle.block_state.specs.Table.{Table}
 use Rattle.chunk_index.specs.Free.{HasMarks}
@@ -25,7 +25,7 @@ use Rattle.page_buffer.specs.Shown.{data_of, data_at, kept_data}
 use Rattle.pages.specs.Maps.{PageMap, has}
 use Rattle.pages.specs.Stores.{bad_on, Carries}
 use Rattle.newest_pages.specs.Opened.{kept_at}
-use Rattle.tree_walk.specs.Trees.{IsLookedUp, Tells, keeps_key, numbers_of, page_size}
+use Rattle.tree_walk.specs.Trees.{IsLookedUp, TellsHeads, keeps_key, objects_listed, page_size}
 use Rattle.tree_walk.specs.declared.tree.Tree.{Tree}
 use Rattle.mount_answers.specs.Footprints.{KeepsFootprint, IsFootprint}
 use Rattle.mount_answers.specs.KeptTrees.{LieNewest, KeepsOnlyTree}
@@ -50,7 +50,7 @@ pub record TreeLaws : Type 0 where
   pub room : (g : Geometry) (flash : Flash) (m : PageMap) (spare : ℕ) (objects : Objects) (x : Index) (t : Table) → IsNewestMap flash m → IsVolume g (has m) spare
       → Shows (sizes_of g spare) (has m) objects → t.geometry ≡ g → CountsAgree t x → HasMarks flash t → KeepsOnlyTree flash (sizes_of g spare) m objects (kept_pages x)
       → charge (sizes_of g spare) objects ≤ capacity (sizes_of g spare) → (bad_count t ≤ spare → 1 + spare ≤ unkept_count t + bad_count t)
-      → Answers g flash (answer_tree spare objects)
+      → Answers g flash (IsTreeOf spare objects)
   pub test : (z : Sizes) (m : PageMap) (objects : Objects) (list : List ℕ) (keeps : ℕ → ℕ → Bool) → 32 ≤ z.page_bytes → z.page_bytes ≤ 4096 → Shows z (has m) objects
       → GoesThrough z (has m) (root_number ∷ []) 0 (Wholly list) → ((o c : ℕ) → (keeps o c ≡ true) ↔ IsLookedUp z (has m) list o c) → KeepsFootprint z m objects keeps
   pub part : (z : Sizes) (m part : PageMap) (objects : Objects) (keeps : ℕ → ℕ → Bool) → KeepsFootprint z m objects keeps
@@ -58,8 +58,8 @@ pub record TreeLaws : Type 0 where
   pub kept : (flash : Flash) (z : Sizes) (m : PageMap) (objects : Objects) (keeps : ℕ → ℕ → Bool) (kept : KeptMap) → KeepsFootprint z m objects keeps → LieNewest flash kept
       → ((o c : ℕ) (s : Spot) → keeps o c ≡ true → IsNewest flash o c s → (p : KeptPage) × (kept o c ≡ Some p)) → ((o c : ℕ) → keeps o c ≡ false → kept o c ≡ None)
       → KeepsOnlyTree flash z m objects kept
-  pub keys : (z : Sizes) (m : PageMap) (tree : Tree) → z.page_bytes ≡ page_size tree → Tells z (has m) tree
-      → (o c : ℕ) → (keeps_key tree o c ≡ true) ↔ IsLookedUp z (has m) (numbers_of tree) o c
+  pub keys : (z : Sizes) (m : PageMap) (tree : Tree) → z.page_bytes ≡ page_size tree → TellsHeads z (has m) tree
+      → (o c : ℕ) → (keeps_key tree o c ≡ true) ↔ IsLookedUp z (has m) (objects_listed tree) o c
   pub bad : (t : Table) (flash : Flash) → HasMarks flash t → bad_count t ≡ bad_blocks t.geometry flash
 
 -- the data of a page that is the newest of its key
@@ -115,13 +115,13 @@ module _ (laws : TreeLaws) (d : Device) (t : Table) (x : Index) (n : Numbers) (s
   lies o c p is = let at = pruned.newest honest o c p is in (record { block = p.block; page = p.page; tag = at.tag }, at.newest, refl)
 
   pub shows : (objects : Objects) × Shows z (has m) objects × Shows z (HasNewest d.flash) objects
-  shows = laws.shown d.geometry d.flash m spare (numbers_of tree) within sized on.newest on.through.volume on.through.tree_is.through on.through.tree_is.once
+  shows = laws.shown d.geometry d.flash m spare (objects_listed tree) within sized on.newest on.through.volume on.through.tree_is.through on.through.tree_is.once
 
   module _ (objects : Objects) (shown : Shows z (has m) objects) where
     footprint : KeepsFootprint z m objects (keeps_key tree)
     footprint =
         let size = d.geometry.least_bytes in
-        laws.test z m objects (numbers_of tree) (keeps_key tree) (omega (arith, size)) d.geometry.most_bytes shown on.through.tree_is.through (laws.keys z m tree (sym on.through.size) on.through.tree_is.heads)
+        laws.test z m objects (objects_listed tree) (keeps_key tree) (omega (arith, size)) d.geometry.most_bytes shown on.through.tree_is.through (laws.keys z m tree (sym on.through.size) on.through.tree_is.heads)
 
     pub holds : HoldsObjects z (kept_data x d.flash) objects
     holds = laws.holds d.geometry spare m (kept_data x d.flash) objects on.through.volume shown (laws.part z m (kept_data x d.flash) objects (keeps_key tree) footprint stays goes)
@@ -138,7 +138,7 @@ module _ (laws : TreeLaws) (d : Device) (t : Table) (x : Index) (n : Numbers) (s
     bad_is : bad_count (marked d.flash t) ≡ bad_on d
     bad_is = laws.bad (marked d.flash t) d.flash marks ∙ ap (λ (g : Geometry). bad_blocks g d.flash) pruned.geometry
 
-    pub answers_room : charge z objects ≤ capacity z → HasRoomOn d t spare → Answers d.geometry d.flash (answer_tree spare objects)
+    pub answers_room : charge z objects ≤ capacity z → HasRoomOn d t spare → Answers d.geometry d.flash (IsTreeOf spare objects)
     answers_room fits room = laws.room d.geometry d.flash m spare objects x (marked d.flash t) on.newest on.through.volume shown pruned.geometry counts marks only fits
         (λ few. let enough = room (omega (arith, few, bad_is)) in omega (arith, enough, bad_is))
 

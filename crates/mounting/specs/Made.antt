@@ -4,17 +4,17 @@ use Rattle.std.specs.Prelude.{◌≡◌, ◌⊎◌, ◌<◌, ◌≤◌, ◌^◌,
 use Rattle.nand_model.specs.Flash.{Flash}
 use Rattle.nand_model.specs.Calls.{Device}
 use Rattle.flash_tree.specs.Newest.{Numbers, AreGreatest}
-use Rattle.flash_tree.specs.Mount.{Answers, IsTreeOf as answer_tree, sizes_of}
+use Rattle.flash_tree.specs.Mount.{Answers, IsTreeOf, sizes_of}
 use Rattle.chunk_index.specs.declared.index.Index.{Index}
 use Rattle.flash_pages.specs.ReadOnly.{next_after}
-use Rattle.object_pages.specs.Holding.{CanHave}
+use Rattle.object_store.specs.Stores.{CanHave}
 use Rattle.object_store.specs.Stores.{settled}
-use Rattle.object_table.specs.Told.{sizes_of as table_sizes, Tells}
+use Rattle.object_table.specs.Told.{table_sizes, Tells}
 use Rattle.object_table.specs.declared.table.ObjectTable.{ObjectTable}
 use Rattle.page_buffer.specs.Shown.{kept_data}
 use Rattle.pages.specs.State.{PagesState, NextNumbers}
 use Rattle.pages.specs.Stores.{bad_on, SamePages, KeptAs}
-use Rattle.paged_objects.specs.Standing.{volume_of, Stands, Shown}
+use Rattle.paged_objects.specs.Standing.{volume_of, StandsFor, Shown}
 use Rattle.posix_profile.specs.State.{Objects}
 use Rattle.newest_pages.specs.Opened.{AreLeft}
 
@@ -50,8 +50,8 @@ pub record HasSizes (p : PagesState) (table : ObjectTable) : Type 0 where
 -- These objects are the tree that the device shows: the pages hold them, a mount would show them again, and the table
 -- tells of them.
 pub record IsMountedWith (p : PagesState) (table : ObjectTable) (objects : Objects) : Type 0 where
-  pub answers : Answers p.device.geometry p.device.flash (answer_tree p.spare objects)
-  pub stands : Stands (volume_of p) p objects
+  pub answers : Answers p.device.geometry p.device.flash (IsTreeOf p.spare objects)
+  pub stands : StandsFor (volume_of p) p objects
   pub shown : Shown (volume_of p) p objects
   pub can : CanHave (volume_of p) objects
   pub settles : settled objects ≡ objects

@@ -4,7 +4,7 @@ use Rattle.flash_tree.specs.Tree.{NewestMap}
 use Rattle.flash_tree.specs.Mount.{Wrong, IsNewer, IsDamaged, sizes_of, IsVolume, IsNoVolume, HasWrongRoot}
 use Rattle.nand_model.specs.declared.geometry.Geometry.{Geometry}
 use Rattle.pages.specs.State.{PagesState}
-use Rattle.tree_walk.specs.Trees.{IsTreeOf, IsWrongTree, page_size}
+use Rattle.tree_walk.specs.Trees.{IsTreeThrough, IsWrongTree, page_size}
 use Rattle.tree_walk.specs.declared.fault.RootFault.{RootFault}
 use Rattle.tree_walk.specs.declared.fault.RootFault.TheVariants as roots
 use Rattle.tree_walk.specs.declared.fault.WalkFault.{WalkFault}
@@ -15,7 +15,7 @@ use Rattle.tree_walk.specs.declared.tree.Tree.{Tree}
 pub record IsGoneThrough (g : Geometry) (m : NewestMap) (spare : ℕ) (tree : Tree) : Type 0 where
   pub volume : IsVolume g m spare
   pub size : page_size tree ≡ g.bytes
-  pub tree_is : IsTreeOf (sizes_of g spare) m tree
+  pub tree_is : IsTreeThrough (sizes_of g spare) m tree
 
 -- the root's header, an object or the names of directories are wrong
 abbrev pub HasWrongTree : Geometry → NewestMap → Wrong → Type 0

@@ -1,13 +1,13 @@
 // Whether a volume can go on with the tree of a device.
 ghost use Rattle.std.specs.Prelude.{◌≡◌, ◌↔◌, ◌≤◌, ◌+◌, true, IsTrue, IfSome, IfNone};
-ghost use Rattle.flash_tree.specs.Mount.{Answers, IsTreeOf as answer_tree, IsWrong, IsDamaged, sizes_of};
+ghost use Rattle.flash_tree.specs.Mount.{Answers, IsTreeOf, IsWrong, IsDamaged, sizes_of};
 ghost use Rattle.flash_tree.specs.Places.{numbers_of};
 ghost use Rattle.flash_tree.specs.Tree.{Shows};
 ghost use Rattle.block_state.specs.TableOf.{table};
 ghost use Rattle.pages.specs.Maps.{PageMap, has};
 ghost use Rattle.posix_profile.specs.State.{Objects};
 ghost use Rattle.posix_profile.specs.Charge as costs;
-ghost use Rattle.tree_walk.specs.Trees.{IsTreeOf};
+ghost use Rattle.tree_walk.specs.Trees.{IsTreeThrough};
 ghost use Rattle.volume_terms.specs.Sizes.{capacity};
 ghost use Rattle.volume_terms.specs.VolumeSizes as volume;
 ghost use Rattle.mounting.specs.Marked.{AreFitting};
@@ -43,7 +43,7 @@ fn volume_sizes(geometry: Geometry, spare: u16) -> Option<VolumeSizes>
 
 /// Whether the tree fits into the volume.
 fn fits<N: Nand>(on: &TreeOn<N>, sizes: VolumeSizes) -> bool
-    ensures { (m : PageMap) (objects : Objects) → IsTreeOf (volume.sizes_of sizes) (has m) on.now.tree → Shows (volume.sizes_of sizes) (has m) objects
+    ensures { (m : PageMap) (objects : Objects) → IsTreeThrough (volume.sizes_of sizes) (has m) on.now.tree → Shows (volume.sizes_of sizes) (has m) objects
         → IsTrue result ↔ (costs.charge (volume.sizes_of sizes) objects ≤ capacity (volume.sizes_of sizes)) }
 {
     charge(&on.tree, sizes) <= sizes.capacity()
@@ -56,7 +56,7 @@ pub(crate) fn go_on<N: Nand>(on: &TreeOn<N>) -> Option<VolumeSizes>
     ensures fitting { IfSome result (λ sizes. AreFitting (table on.now.blocks)) }
     ensures room { IfSome result (λ sizes. HasRoomOn (N.state on.now.device) (table on.now.blocks) on.now.spare) }
     ensures tree { (N.state on.now.device).honest ≡ true → IfSome result (λ sizes. (objects : Objects)
-        × Answers (N.state on.now.device).geometry (N.state on.now.device).flash (answer_tree on.now.spare objects)
+        × Answers (N.state on.now.device).geometry (N.state on.now.device).flash (IsTreeOf on.now.spare objects)
         × IsTreeShown (N.state on.now.device) on.now.index on.now.spare on.now.tree objects
         × (costs.charge (volume.sizes_of sizes) objects ≤ capacity (volume.sizes_of sizes))) }
     ensures none { (N.state on.now.device).honest ≡ true

@@ -8,6 +8,7 @@ ghost use Rattle.mounting.specs.Made.{CanOnlyBeRead, AreNext, HasSizes, IsMounte
 use crate::fault::MountFault;
 use crate::going_on::go_on;
 use crate::making::{is_worn, make_pages};
+use crate::naming::refused;
 use crate::tree_on::open_tree;
 use flash_pages::FlashPages;
 use mount_answers::{a_volume_has_sizes, the_footprint_holds_the_tree};
@@ -51,7 +52,7 @@ pub fn mount<N: Nand>(
     };
     let table = match table(alloc, &on.tree, sizes) {
         Ok(table) => table,
-        Err(_) => return Err((on.device, MountFault::NoMemory)),
+        Err(_) => return Err(refused(on.device)),
     };
     let read_only = is_worn(&on);
     match make_pages(alloc, on, capacity, read_only) {
@@ -60,6 +61,6 @@ pub fn mount<N: Nand>(
             table,
             read_only,
         }),
-        Err((device, _)) => Err((device, MountFault::NoMemory)),
+        Err((device, _)) => Err(refused(device)),
     }
 }

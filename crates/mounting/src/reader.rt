@@ -9,7 +9,7 @@ ghost use Rattle.newest_pages.specs.Newest.{seen};
 use chunk_index::{Index, KeptPage};
 use flash_tree::Key;
 use nand_model::{Nand, PageKind};
-use pages::{KnownPages, Pages, Presence};
+use pages::{KnownPages, Pages, Presence, has_power};
 use std::alloc::{AllocError, Global};
 use volume_terms::StoreFault;
 
@@ -92,6 +92,10 @@ impl<N: Nand> Pages for LentPages<'_, N> {
             Some(at) => self.read(at),
             None => Ok(Presence::Absent),
         }
+    }
+
+    fn has_power(&mut self) -> bool {
+        has_power(&mut self.device)
     }
 
     fn page(&self) -> &[u8] {

@@ -10,7 +10,7 @@ ghost use Rattle.mounting.specs.Faults.{WhyNotMounted};
 ghost use Rattle.mounting.specs.Trees.{IsGoneThrough};
 
 use crate::fault::MountFault;
-use crate::naming::mount_fault;
+use crate::naming::{mount_fault, refused};
 use crate::reader::LentPages;
 use crate::tree::{FoundTree, find_tree};
 use chunk_index::Index;
@@ -38,7 +38,7 @@ pub(crate) fn read_tree<N: Nand>(
     let geometry = device.geometry();
     let mut pages = match LentPages::new(alloc, device, index) {
         Ok(pages) => pages,
-        Err((device, _)) => return Err((device, MountFault::NoMemory)),
+        Err((device, _)) => return Err(refused(device)),
     };
     let found = find_tree(alloc, &mut pages, geometry);
     let mut device = pages.into_device();

@@ -7,6 +7,7 @@ ghost use Rattle.newest_pages.specs.Opened.{IsOpened};
 ghost use Rattle.mounting.specs.Faults.{WhyNotMounted};
 
 use crate::fault::MountFault;
+use crate::naming::refused;
 use nand_model::Nand;
 use newest_pages::{OpenFault, Opened, open};
 use std::alloc::Global;
@@ -21,7 +22,7 @@ pub(crate) fn scan<N: Nand>(alloc: Global, device: N) -> Result<(N, Opened), (N,
     let mut device = device;
     match open(alloc, &mut device) {
         Ok(opened) => Ok((device, opened)),
-        Err(OpenFault::NoMemory) => Err((device, MountFault::NoMemory)),
+        Err(OpenFault::NoMemory) => Err(refused(device)),
         Err(OpenFault::Lost) => Err((device, MountFault::Damaged)),
         Err(OpenFault::Gone) => Err((device, MountFault::Gone)),
     }

@@ -10,7 +10,7 @@ ghost use Rattle.newest_pages.specs.Newest.{seen};
 use chunk_index::{Index, KeptPage};
 use flash_tree::Key;
 use nand_model::{Nand, PageKind};
-use pages::{KnownPages, Pages, Presence};
+use pages::{KnownPages, Pages, Presence, has_power};
 use std::alloc::{AllocError, Global};
 use volume_terms::StoreFault;
 
@@ -27,12 +27,14 @@ pub struct NewestPages<N: Nand> {
 }
 
 impl<N: Nand> NewestPages<N> {
+    ghost use Rattle.newest_pages.specs.Parts.{device_of, index_of};
+
     /// The pages that an index keeps on a device. Where memory is refused the device is given back.
     pub fn new(alloc: Global, device: N, index: Index) -> Result<NewestPages<N>, (N, AllocError)>
         requires lie { (o c : ℕ) (k : KeptPage) → kept_pages index o c ≡ Some k → (k.block < (N.state device).geometry.blocks) × (k.page < (N.state device).geometry.pages) }
         requires written { (N.state device).honest ≡ true → (o c : ℕ) (k : KeptPage) → kept_pages index o c ≡ Some k → IsSome (data_at (N.state device).flash k) }
-        ensures device { IfOk result (λ pages. N.state pages.device ≡ N.state device) }
-        ensures index { IfOk result (λ pages. pages.index ≡ index) }
+        ensures device { IfOk result (λ pages. N.state (device_of pages) ≡ N.state device) }
+        ensures index { IfOk result (λ pages. index_of pages ≡ index) }
         ensures given_back { IfErr result (λ back. N.state back.0 ≡ N.state device) }
     {
         match vec![in alloc; 0u8; device.geometry().bytes() as usize] {
@@ -47,8 +49,8 @@ impl<N: Nand> NewestPages<N> {
 
     /// The device and the index, as they are.
     pub fn into_parts(self) -> (N, Index)
-        ensures device { N.state result.0 ≡ N.state self.device }
-        ensures index { result.1 ≡ self.index }
+        ensures device { N.state result.0 ≡ N.state (device_of self) }
+        ensures index { result.1 ≡ index_of self }
     {
         let NewestPages { device, index, .. } = self;
         (device, index)
@@ -91,6 +93,10 @@ impl<N: Nand> Pages for NewestPages<N> {
             Some(at) => self.read(at),
             None => Ok(Presence::Absent),
         }
+    }
+
+    fn has_power(&mut self) -> bool {
+        has_power(&mut self.device)
     }
 
     fn page(&self) -> &[u8] {

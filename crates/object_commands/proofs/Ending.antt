@@ -5,6 +5,7 @@ use Rattle.std.proofs.lemmas.Bool.{false_from_ne_true, true≢false}
 use Rattle.posix_profile.specs.Outcomes.{Outcome, refuse}
 use Rattle.volume_terms.specs.Sizes.{Sizes}
 use Rattle.posix_profile.specs.laws.Sound.{IsSound}
+use Rattle.posix_profile.specs.Runs.{is_stop}
 use Rattle.posix_profile.specs.State.{Objects, State}
 use Rattle.posix_profile.specs.Steps.{step_at, step}
 use Rattle.posix_profile.specs.declared.command.Command.{Command}
@@ -17,8 +18,8 @@ use Rattle.object_store.specs.Stores.{Meaning, IsLawful, Has}
 use Rattle.object_store.specs.laws.Store.{has_on}
 use Rattle.object_store.specs.declared.refusal.Refusal.{Refusal}
 use Rattle.command_plans.specs.Classes.{Class, Telling, Changing, Syncing, class_of, is_error}
-use Rattle.object_commands.specs.Endings.{IsAt, Leaves, IsDone, IsStopped, CommandEnds}
-use Rattle.command_plans.specs.Plans.{IsPlan, Plans, Suits, Did, worked, planned, handled}
+use Rattle.object_commands.specs.Endings.{IsAt, Leaves, IsDone, IsStopped, CommandEnds, TellsRefusal}
+use Rattle.command_plans.specs.Plans.{IsPlan, Plans, Suits, Did, worked, planned, handled, frees, leaves_device}
 use Rattle.command_plans.specs.Tables.{handles_in}
 use Rattle.command_plans.specs.declared.plan.Plan.{Plan}
 use Rattle.command_plans.specs.declared.plan.StoreWork.{StoreWork}
@@ -110,6 +111,25 @@ error_ends m law z class s meant e a b at is reads same goes = subst (λ o. IsDo
   goes_on = goes;
 })
 
+-- a command for which memory was refused, from a volume whose store only read
+pub refused_ends : {S : Type 0} (m : Meaning S) (law : IsLawful m) (z : Sizes) (class : Class) (takes_none : Bool) (s : State) (meant : Outcome) (a b : Volume S) (told : Reply) → IsAt m z s a → takes_none ≡ false
+    → m.reads a.store b.store → b.table ≡ a.table → TellsRefusal m b.store told → b.stopped ≡ is_stop told → CommandEnds m z class takes_none s meant a b told
+refused_ends m law z class takes_none s meant a b told at takes reads same (inl refused) stops = inr (inl (
+  takes,
+  record { reply = refused.0; state = at_on m law z s a b reads same at; left = reads; power = refused.1; goes_on = stops ∙ ap is_stop refused.0 },
+))
+refused_ends m law z class takes_none s meant a b told at takes reads same (inr lost) stops = inr (inr (record {
+  reply = lost.0;
+  left = law.powerless_fails a.store b.store s.objects meant.state.objects reads lost.1;
+  stops = stops ∙ ap is_stop lost.0;
+}))
+
+-- what leaves the device takes no memory
+pub leaves_frees : (w : StoreWork) → leaves_device w ≡ true → frees w ≡ true
+leaves_frees work.Nothing leaves = refl
+leaves_frees (work.Change change) leaves = leaves
+leaves_frees work.Commit leaves = let two : false ≡ true = leaves in absurd cc
+
 -- a plan that is carried out after calls that read; it takes memory only where the command may
 pub ends_on : {S : Type 0} (m : Meaning S) (law : IsLawful m) (z : Sizes) (class : Class) (frees takes_none : Bool) (s : State) (meant : Outcome) (a b c : Volume S) (told : Reply)
     → m.reads a.store b.store → (takes_none ≡ true → frees ≡ true) → CommandEnds m z class frees s meant b c told → CommandEnds m z class takes_none s meant a c told
@@ -121,7 +141,7 @@ ends_on m law z class frees takes_none s meant a b c told reads none (inl done) 
 })
 ends_on m law z class frees takes_none s meant a b c told reads none (inr (inl passed)) = inr (inl (
   false_from_ne_true takes_none (λ yes'. true≢false (sym (none yes') ∙ passed.0)),
-  record { reply = passed.1.reply; state = passed.1.state; left = law.reads_on a.store b.store c.store reads passed.1.left; goes_on = passed.1.goes_on },
+  record { reply = passed.1.reply; state = passed.1.state; left = law.reads_on a.store b.store c.store reads passed.1.left; power = passed.1.power; goes_on = passed.1.goes_on },
 ))
 ends_on m law z class frees takes_none s meant a b c told reads none (inr (inr stopped)) = inr (inr (record {
   reply = stopped.reply;

@@ -7,7 +7,7 @@ use Rattle.std.proofs.lemmas.List.{append_assoc, append-nil, length_push, take-a
 use Rattle.posix_profile.specs.laws.Loss.{loss_more}
 use Rattle.posix_profile.specs.Losses.{is_synced}
 use Rattle.posix_profile.specs.laws.Run.{after_more, holds_more}
-use Rattle.posix_profile.specs.Runs.{is_stop, takes_no_memory, after, AllStopped}
+use Rattle.posix_profile.specs.Runs.{is_stop, is_no_memory, takes_no_memory, after, AllStopped}
 use Rattle.volume_terms.specs.Sizes.{Sizes}
 use Rattle.posix_profile.specs.State.{State}
 use Rattle.posix_profile.specs.Steps.{step}
@@ -18,7 +18,7 @@ use Rattle.posix_profile.specs.declared.reply.Reply.TheVariants as replies
 use Rattle.object_store.specs.Stores.{Meaning, IsLawful}
 use Rattle.command_plans.specs.Classes.{class_of}
 use Rattle.object_commands.specs.Endings.{IsAt, CommandEnds}
-use Rattle.object_commands.specs.Running.{StaysStopped, Failure, Ran, Runs}
+use Rattle.object_commands.specs.Running.{StaysStopped, ends_refused, Failure, Ran, Runs}
 use Rattle.object_commands.specs.laws.Steps.{One, one_ends, error_unsynced}
 use Rattle.object_commands.specs.declared.volume.Volume.{Volume}
 
@@ -48,6 +48,11 @@ stays_push (x ∷ rs) r stays after_stop = (
   λ stop. all_push rs r (stays.0 stop) (after_stop (ap (λ b. b || list_any is_stop rs) stop)),
   stays_push rs r stays.1 (λ some. after_stop (or_right (is_stop x) (list_any is_stop rs) some)),
 )
+
+refused_push : (rs : List Reply) (r : Reply) → ends_refused (rs ++ r ∷ []) ≡ is_no_memory r
+refused_push [] r = refl
+refused_push (x ∷ []) r = refl
+refused_push (x ∷ y ∷ rs) r = refused_push (y ∷ rs) r
 
 -- a command stops a volume exactly where its reply is EIO, and one that is stopped stays so
 stops_on : {S : Type 0} (r : Reply) (b d : Volume S) → (b.stopped ≡ true → (r ≡ replies.Error errors.EIO) × (d ≡ b)) → (b.stopped ≡ false → d.stopped ≡ is_stop r) → d.stopped ≡ (b.stopped || is_stop r)
@@ -103,6 +108,7 @@ ran_more m z s cs rs c r a b d at ran goes lasts one =
       stops = one.stops ∙ sym (any_push is_stop rs r ∙ ap (λ b. b || is_stop r) none);
       failure = λ stop. fails_last m z a.read_only s cs rs c r a.store b.store d.store at lasts (one.fails (sym one.stops ∙ stop));
       state = λ still. subst (λ x. IsAt m z x d) (sym more) (one.state (sym one.stops ∙ still));
+      power = λ refused. one.power (sym (refused_push rs r) ∙ refused);
     }
 
 -- once it is stopped
@@ -117,6 +123,7 @@ ran_stopped m z s cs rs c r a b d at ran stopped told same =
       stops = stopped ∙ sym (any_push is_stop rs r ∙ ap (λ b. b || is_stop r) some);
       failure = λ stop. fails_before m z a.read_only s cs rs r a.store b.store (ran.failure stop);
       state = λ goes. absurd (true≢false (sym stopped ∙ goes));
+      power = λ refused. absurd (true≢false (sym refused ∙ refused_push rs r ∙ ap is_no_memory told));
     })
 
 -- the run, with one reply more
@@ -160,7 +167,7 @@ runs_none m cs before a = record {
   stays = tt;
   stops = sym (or_false a.stopped);
   stopped = λ stop. (tt, refl);
-  ran = λ going z s has. record { holds = tt; losses = λ t shown. inr (λ i done. absurd (none_at i done.1 done.3), shown); stops = going; failure = λ stop. absurd (true≢false (sym stop ∙ going)); state = λ _. has };
+  ran = λ going z s has. record { holds = tt; losses = λ t shown. inr (λ i done. absurd (none_at i done.1 done.3), shown); stops = going; failure = λ stop. absurd (true≢false (sym stop ∙ going)); state = λ _. has; power = λ refused. let two : false ≡ true = refused in absurd cc };
 }
 
 pub at_index : (cs : List Stamped) (i : ℕ) (c : Stamped) → i < length cs → c ≡ get_or cs i c → slice_get cs i ≡ Some c

@@ -32,12 +32,17 @@ pub record IsDone {S : Type 0} (m : Meaning S) (z : Sizes) (class : Class) (s : 
   pub left : Leaves m class meant.reply s.objects meant.state.objects a.store b.store
   pub goes_on : b.stopped ≡ false
 
--- Memory was refused, and nothing is done.
+-- Memory was refused, and nothing is done. The device has power.
 pub record IsPassedOver {S : Type 0} (m : Meaning S) (z : Sizes) (s : State) (a b : Volume S) (told : Reply) : Type 0 where
   pub reply : told ≡ replies.Error errors.ENOMEM
   pub state : IsAt m z s b
   pub left : m.reads a.store b.store
+  pub power : m.has_power b.store ≡ true
   pub goes_on : b.stopped ≡ false
+
+-- What is answered where memory was refused: that, of a store whose device has power, else the stop.
+abbrev pub TellsRefusal : {S : Type 0} (m : Meaning S) → S → Reply → Type 0
+TellsRefusal m b told = ((told ≡ replies.Error errors.ENOMEM) × (m.has_power b ≡ true)) ⊎ ((told ≡ replies.Error errors.EIO) × (m.has_power b ≡ false))
 
 -- The store has failed, and the volume is stopped.
 pub record IsStopped {S : Type 0} (m : Meaning S) (s : State) (meant : Outcome) (a b : Volume S) (told : Reply) : Type 0 where

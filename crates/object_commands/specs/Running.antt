@@ -2,7 +2,7 @@
 use Rattle.std.specs.Prelude.{◌≡◌, ◌<◌, ◌||◌, ◌++◌, ℕ, Bool, true, false, List, [], ◌∷◌, length, take, Some, slice_get}
 use Rattle.std.specs.List.{list_any}
 use Rattle.posix_profile.specs.Losses.{LossLeaves}
-use Rattle.posix_profile.specs.Runs.{is_stop, after, AllStopped, StopsFor, RunHolds}
+use Rattle.posix_profile.specs.Runs.{is_stop, is_no_memory, after, AllStopped, StopsFor, RunHolds}
 use Rattle.volume_terms.specs.Sizes.{Sizes}
 use Rattle.posix_profile.specs.State.{Objects, State}
 use Rattle.posix_profile.specs.Steps.{step}
@@ -18,6 +18,12 @@ abbrev pub StaysStopped : List Reply → Type 0
 StaysStopped [] = Unit {0}
 StaysStopped (reply ∷ replies) = StopsFor reply replies × StaysStopped replies
 
+-- whether memory was refused in the last command that was answered
+abbrev pub ends_refused : List Reply → Bool
+ends_refused [] = false
+ends_refused (reply ∷ []) = is_no_memory reply
+ends_refused (reply ∷ other ∷ replies) = ends_refused (other ∷ replies)
+
 -- The store failed in the command at this place, from where the commands before it had left it, and was not called since.
 pub record Failure {S : Type 0} (m : Meaning S) (z : Sizes) (read_only : Bool) (s : State) (commands : List Stamped) (answered : List Reply) (a b : S) : Type 0 where
   pub place : ℕ
@@ -30,13 +36,14 @@ pub record Failure {S : Type 0} (m : Meaning S) (z : Sizes) (read_only : Bool) (
 
 -- From a state: the replies are right, a mount shows the tree after some of the commands, at least those that a sync covers,
 -- the volume is stopped exactly where a reply is EIO, and then for a failure of the store, and else it stands for the state
--- after the commands that were answered.
+-- after the commands that were answered. Where the last of them was refused memory the device has power.
 pub record Ran {S : Type 0} (m : Meaning S) (z : Sizes) (s : State) (commands : List Stamped) (answered : List Reply) (a b : Volume S) : Type 0 where
   pub holds : RunHolds z (is_read_only a) s commands answered
   pub losses : (tree : Objects) → m.shows (store_of a) tree → LossLeaves (m.shows (store_of b)) tree z (is_read_only a) s commands answered
   pub stops : is_stopped b ≡ list_any is_stop answered
   pub failure : is_stopped b ≡ true → Failure m z (is_read_only a) s commands answered (store_of a) (store_of b)
   pub state : is_stopped b ≡ false → IsAt m z (after z (is_read_only a) s commands answered) b
+  pub power : ends_refused answered ≡ true → m.has_power (store_of b) ≡ true
 
 -- So many of the commands are answered, behind the old replies, and after EIO each by EIO: the volume is stopped afterwards
 -- exactly where it was before or a reply is EIO. On a stopped volume all are EIO, and it stays as it was.

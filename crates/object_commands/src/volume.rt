@@ -136,7 +136,7 @@ pub struct Volume<S> {
 
 impl<S: ObjectStore> Volume<S> {
     ghost use Rattle.object_commands.specs.Volumes.{store_of, handles_of, is_read_only, is_stopped};
-    ghost use Rattle.object_commands.specs.Endings.{IsAt, CommandEnds};
+    ghost use Rattle.object_commands.specs.Endings.{IsAt, CommandEnds, TellsRefusal};
     ghost use Rattle.object_commands.specs.Running.{Runs};
 
     /// A volume over the store: no descriptor is open.
@@ -208,6 +208,20 @@ impl<S: ObjectStore> Volume<S> {
         self.stopped
     }
 
+    /// The reply where memory was refused: where the device's power went meanwhile it is the stop. Its caller stops the volume
+    /// by the reply.
+    fn pass_over(&mut self) -> Reply
+        ensures same { self.new ≡ record self.old { store = store_of self.new } }
+        ensures reads { S.meaning.reads (store_of self.old) (store_of self.new) }
+        ensures tells { TellsRefusal S.meaning (store_of self.new) result }
+    {
+        if self.store.has_power() {
+            Reply::Error(Errno::ENOMEM)
+        } else {
+            Reply::Error(Errno::EIO)
+        }
+    }
+
     /// Carries out a plan and replies. Its caller stops the volume by the reply.
     fn carry_out(&mut self, plan: Plan<'_>) -> Reply
         ensures keeps { is_read_only self.new ≡ is_read_only self.old }
@@ -222,7 +236,7 @@ impl<S: ObjectStore> Volume<S> {
                 handle(&mut self.table, plan.handles);
                 plan.reply
             }
-            Err(StoreFault::NoMemory) => Reply::Error(Errno::ENOMEM),
+            Err(StoreFault::NoMemory) => self.pass_over(),
             Err(StoreFault::Device) => Reply::Error(Errno::EIO),
             Err(StoreFault::Worn) => Reply::Error(Errno::EIO),
         }
@@ -247,7 +261,7 @@ impl<S: ObjectStore> Volume<S> {
         ) {
             Ok(plan) => self.carry_out(plan),
             Err(Refusal::Error(error)) => Reply::Error(error),
-            Err(Refusal::Fault(StoreFault::NoMemory)) => Reply::Error(Errno::ENOMEM),
+            Err(Refusal::Fault(StoreFault::NoMemory)) => self.pass_over(),
             Err(Refusal::Fault(StoreFault::Device)) => Reply::Error(Errno::EIO),
             Err(Refusal::Fault(StoreFault::Worn)) => Reply::Error(Errno::EIO),
         }

@@ -14,7 +14,7 @@ use Rattle.posix_profile.specs.laws.Fresh.{slots_some}
 use Rattle.posix_profile.specs.laws.Number.{capacity_few}
 use Rattle.posix_profile.specs.laws.Total.{total_without}
 use Rattle.posix_profile.specs.laws.Write.{ceiling_at_most}
-use Rattle.object_pages.specs.Holding.{CanHave}
+use Rattle.object_store.specs.Stores.{CanHave}
 
 few_slots : (z : Sizes) → IsSizes z → page_slots z ≤ 15
 few_slots z sizes = elim sizes.page_bytes [

@@ -18,7 +18,8 @@ use Rattle.pages.specs.Changes.{AreApart}
 use Rattle.pages.specs.Maps.{PageMap, changed, IsPageOf}
 use Rattle.pages.specs.laws.Maps.{here}
 use Rattle.pages.specs.declared.change.Change.{Change}
-use Rattle.object_pages.specs.Holding.{HoldsObject, HoldsObjects, CanHave}
+use Rattle.object_pages.specs.Holding.{HoldsObject, HoldsObjects}
+use Rattle.object_store.specs.Stores.{CanHave}
 
 -- a file has a number from 2 up
 pub file_from_two : (z : Sizes) (objects : Objects) → CanHave z objects → (o : ℕ) → IsFile objects o → 2 ≤ o

@@ -2,10 +2,8 @@
 use Rattle.std.specs.Prelude.{◌≡◌, ℕ, true, List, Option, Some, None}
 use Rattle.std.specs.FinMap as map
 use Rattle.flash_tree.specs.Tree.{ReadsFile, ReadsDir}
-use Rattle.volume_terms.specs.Sizes.{Sizes, IsSizes, root_number}
+use Rattle.volume_terms.specs.Sizes.{Sizes, root_number}
 use Rattle.posix_profile.specs.State.{Entries, Object, File, Dir, Objects}
-use Rattle.posix_profile.specs.Charge.{fits}
-use Rattle.posix_profile.specs.WellFormed.{IsForest}
 use Rattle.pages.specs.Maps.{PageMap, has}
 use Rattle.pages.specs.State.{PagesState}
 use Rattle.directories.specs.Directories as directories
@@ -37,9 +35,3 @@ pub record HoldsIn (p : PagesState) (z : Sizes) (objects : Objects) : Type 0 whe
   pub sound : p.sound ≡ true
   pub size : z.page_bytes ≡ p.page_bytes
   pub holds : HoldsObjects z p.present objects
-
--- objects that a volume of these sizes can have
-pub record CanHave (z : Sizes) (objects : Objects) : Type 0 where
-  pub numbers : IsSizes z
-  pub forest : IsForest z objects
-  pub fit : fits z objects ≡ true

@@ -14,7 +14,3 @@ most_pages d (changes.Move from to number dropped moment) = 4
 most_pages d (changes.Write number offset bytes moment) = ceiling (length bytes.now) d + 3
 most_pages d (changes.Resize number length moment) = 2
 most_pages d (changes.Forget number) = 0
-
--- each page is of a number that an object can have
-abbrev pub AreNumbered : List FreshPage → Type 0
-AreNumbered pages = (i : ℕ) (p : FreshPage) → slice_get pages i ≡ Some p → 1 ≤ p.key.object

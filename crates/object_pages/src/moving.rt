@@ -14,7 +14,8 @@ ghost use Rattle.pages.specs.Maps.{changed};
 ghost use Rattle.pages.specs.State.{OnlyFinds};
 ghost use Rattle.directories.specs.Directories.{IsNamed};
 ghost use Rattle.object_pages.specs.Faults.{SaysWhyChanging};
-ghost use Rattle.object_pages.specs.Holding.{CanHave, HoldsIn, HoldsObjects};
+ghost use Rattle.object_pages.specs.Holding.{HoldsIn, HoldsObjects};
+ghost use Rattle.object_store.specs.Stores.{CanHave};
 
 use crate::naming::slot_for;
 use crate::removal::and_forget;

@@ -14,7 +14,8 @@ ghost use Rattle.pages.specs.Maps.{changed};
 ghost use Rattle.pages.specs.State.{OnlyFinds};
 ghost use Rattle.pages.specs.declared.fault.PageFault.TheVariants as faults;
 ghost use Rattle.object_pages.specs.Faults.{SaysWhyChanging};
-ghost use Rattle.object_pages.specs.Holding.{CanHave, HoldsIn, HoldsObjects};
+ghost use Rattle.object_pages.specs.Holding.{HoldsIn, HoldsObjects};
+ghost use Rattle.object_store.specs.Stores.{CanHave};
 
 use crate::creation::new_object;
 use directories::add;

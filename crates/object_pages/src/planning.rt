@@ -5,13 +5,14 @@ ghost use Rattle.posix_profile.specs.State.{Objects};
 ghost use Rattle.posix_profile.specs.Changes.{new_number};
 ghost use Rattle.flash_tree.specs.declared.place.FreshPage.{FreshPage};
 ghost use Rattle.object_store.specs.Changes.{made, CanMake};
-ghost use Rattle.pages.specs.Changes.{IsChange};
+ghost use Rattle.pages.specs.Changes.{IsChange, AreOfObjects};
 ghost use Rattle.pages.specs.Faults.{MayLackMemory};
 ghost use Rattle.pages.specs.Maps.{changed};
 ghost use Rattle.pages.specs.State.{OnlyFinds};
 ghost use Rattle.object_pages.specs.Faults.{SaysWhyChanging};
-ghost use Rattle.object_pages.specs.Holding.{CanHave, HoldsIn, HoldsObjects};
-ghost use Rattle.object_pages.specs.Plans.{most_pages, AreNumbered};
+ghost use Rattle.object_pages.specs.Holding.{HoldsIn, HoldsObjects};
+ghost use Rattle.object_store.specs.Stores.{CanHave};
+ghost use Rattle.object_pages.specs.Plans.{most_pages};
 
 use crate::content::{resize, write};
 use crate::moving::move_name;
@@ -24,7 +25,7 @@ use std::alloc::Global;
 
 /// Whether each page is of a number that an object can have.
 fn are_numbered(pages: &[FreshPage]) -> bool
-    ensures numbered { result ≡ true → AreNumbered pages.now }
+    ensures numbered { result ≡ true → AreOfObjects pages.now }
     ensures not { result ≡ false → (i : ℕ) × (p : FreshPage) × (slice_get pages.now i ≡ Some p) × (p.key.object ≡ 0) }
 {
     for page in pages {
@@ -46,7 +47,7 @@ pub fn plan<P: Pages>(
 ) -> Result<Change, PageFault>
     ensures finds { OnlyFinds (P.state pages.old) (P.state pages.new) }
     ensures change { IfOk result (λ it. IsChange it (P.state pages.old).page_bytes (most_pages (P.state pages.old).page_bytes change.now)) }
-    ensures numbered { IfOk result (λ it. AreNumbered it.pages.items) }
+    ensures numbered { IfOk result (λ it. AreOfObjects it.pages.items) }
     ensures makes { (z : Sizes) (objects : Objects) → HoldsIn (P.state pages.old) z objects → CanMake z objects change.now → new ≡ new_number objects
         → IfOk result (λ it. HoldsObjects z (changed it (P.state pages.old).present) (made objects change.now)) }
     ensures why { IfErr result (SaysWhyChanging (P.state pages.new)) }

@@ -1,5 +1,5 @@
 -- What a store of objects stands for, and what its calls leave.
-use Rattle.std.specs.Prelude.{◌≡◌, ◌⊎◌, true, Result, Ok, Err}
+use Rattle.std.specs.Prelude.{◌≡◌, ◌⊎◌, Bool, true, false, Result, Ok, Err}
 use Rattle.std.specs.FinMap as map
 use Rattle.volume_terms.specs.Sizes.{Sizes, IsSizes}
 use Rattle.posix_profile.specs.State.{Objects}
@@ -16,13 +16,14 @@ use Rattle.object_store.specs.declared.refusal.Refusal.TheVariants as refusals
 abbrev pub settled : Objects → Objects
 settled objects = (settle (record { objects = objects; handles = map.empty })).objects
 
--- What a store stands for: the numbers of its volume, its objects, and the tree that a mount would show. And what is left by
--- every call, by a call that leaves the device as it is, by calls that only read, by a done change from these objects to those,
+-- What a store stands for: the numbers of its volume, its objects, the tree that a mount would show, and whether its device has
+-- power. And what is left by every call, by a call that leaves the device as it is, by calls that only read, by a done change from these objects to those,
 -- by a call that the device ended, which was to make those of these, and by a done commit of these objects.
 pub record Meaning (S : Type 0) : Type 1 where
   pub sizes : S → Sizes
   pub stands : S → Objects → Type 0
   pub shows : S → Objects → Type 0
+  pub has_power : S → Bool
   pub lasts : S → S → Type 0
   pub leaves : S → S → Type 0
   pub reads : S → S → Type 0
@@ -35,7 +36,8 @@ abbrev pub KeepsOrSettles : {S : Type 0} (m : Meaning S) → Objects → S → S
 KeepsOrSettles m objects a b = (tree : Objects) → m.shows a tree → m.shows b tree ⊎ m.shows b (settled objects)
 
 -- Without a call the device is left. Reads leave what was, and reads before a call do not matter. A change, and a call that
--- fails, leave the tree that a mount shows or settle the objects that were; a done commit settles them.
+-- fails, leave the tree that a mount shows or settle the objects that were; a done commit settles them. A call that only read
+-- has failed where the power went.
 pub record IsLawful {S : Type 0} (m : Meaning S) : Type 0 where
   pub leaves_nothing : (a : S) → m.leaves a a
   pub reads_nothing : (a : S) → m.reads a a
@@ -49,9 +51,16 @@ pub record IsLawful {S : Type 0} (m : Meaning S) : Type 0 where
   pub changes_shows : (a b : S) (old new : Objects) → m.changes old new a b → KeepsOrSettles m old a b
   pub fails_on : (a b c : S) (old new : Objects) → m.reads a b → m.fails old new b c → m.fails old new a c
   pub fails_wide : (a b : S) (old new : Objects) → m.fails old old a b → m.fails old new a b
+  pub powerless_fails : (a b : S) (old new : Objects) → m.reads a b → m.has_power b ≡ false → m.fails old new a b
   pub fails_shows : (a b : S) (old new : Objects) → m.fails old new a b → KeepsOrSettles m old a b
   pub commits_on : (a b c : S) (objects : Objects) → m.reads a b → m.commits objects b c → m.commits objects a c
   pub commits_shows : (a b : S) (objects : Objects) → m.commits objects a b → m.shows b (settled objects)
+
+-- objects that a volume of these sizes can have: they hang together, and fit
+pub record CanHave (z : Sizes) (objects : Objects) : Type 0 where
+  pub numbers : IsSizes z
+  pub forest : IsForest z objects
+  pub fit : fits z objects ≡ true
 
 -- The store stands for objects that its volume can have.
 pub record Has {S : Type 0} (m : Meaning S) (z : Sizes) (objects : Objects) (a : S) : Type 0 where

@@ -48,6 +48,11 @@ pub trait ObjectStore {
     fn new_number(&self) -> u64
         ensures { (z : Sizes) (objects : Objects) → Has meaning z objects self.now → result ≡ new_number objects };
 
+    /// Whether the device has power still. It may ask the device.
+    fn has_power(&mut self) -> bool
+        ensures reads { meaning.reads self.old self.new }
+        ensures power { result ≡ meaning.has_power self.new };
+
     /// The object that a name of a directory leads to.
     fn find(&mut self, directory: u64, name: &[u8]) -> Result<Option<u64>, StoreFault>
         ensures reads { meaning.reads self.old self.new }

@@ -26,7 +26,8 @@ use Rattle.posix_profile.specs.laws.Write.{ceiling_at_most}
 use Rattle.object_store.specs.Changes.{NamesNothing, empty_object}
 use Rattle.object_table.specs.Facts.{fresh_facts}
 use Rattle.object_table.specs.Counted.{IsCountable, FreshObject, CanGo, GetsName, LosesName}
-use Rattle.object_table.specs.Told.{CanHave, GetsObject}
+use Rattle.object_table.specs.Told.{GetsObject}
+use Rattle.object_store.specs.Stores.{CanHave}
 use Rattle.object_table.proofs.Edits.{fresh_facts_are, larger_from}
 
 -- what a volume has room for can be counted
@@ -34,7 +35,7 @@ pub fits_countable : (z : Sizes) (objects : Objects) → IsSizes z → fits z ob
 fits_countable z objects sizes fit = record { sizes = sizes; few = (let le = leb-true (charge z objects) (capacity z) fit in omega (arith, le, capacity_few z sizes)) }
 
 pub can_count : (z : Sizes) (objects : Objects) → CanHave z objects → IsCountable z objects
-can_count z objects can = fits_countable z objects can.sizes can.fit
+can_count z objects can = fits_countable z objects can.numbers can.fit
 
 -- and what costs no more
 less_countable : (z : Sizes) (old new : Objects) → IsCountable z old → charge z new ≤ charge z old → IsCountable z new
@@ -73,12 +74,12 @@ module _ (z : Sizes) (objects : Objects) (can : CanHave z objects) (n moment d :
         blank = both.0;
         facts = both.1;
         countable = record {
-          sizes = can.sizes;
+          sizes = can.numbers;
           few =
               (let more = total_insert nat_cmp_total map.nat_cmp-IsAntisymmetric (cost z) objects n (empty_object kind moment) free in
               let few = (can_count z objects can).few in
               let le = leb-true (charge z objects) (capacity z) can.fit in
-              omega (arith, more, le, capacity_few z can.sizes, empty_few z kind moment can.sizes));
+              omega (arith, more, le, capacity_few z can.numbers, empty_few z kind moment can.numbers));
         };
       }
 
@@ -93,7 +94,7 @@ module _ (z : Sizes) (objects : Objects) (can : CanHave z objects) (n moment d :
         there = (empty_object kind moment, get_here nat_cmp_total map.nat_cmp-IsAntisymmetric objects n (empty_object kind moment));
         unnamed = λ _ named. no_name_of (named.0, named.1, larger_from objects n (empty_object kind moment) free no_name_of create_fresh.blank named.0 n named.1 named.2);
         before = create_fresh.countable;
-        after = fits_countable z (with_name base moment d name n) can.sizes
+        after = fits_countable z (with_name base moment d name n) can.numbers
             (subst (λ k. fits z (with_name (map.insert objects k (empty_object kind moment)) moment d name k) ≡ true) (sym new) gets.fits);
       }
 
@@ -163,7 +164,7 @@ module _ (z : Sizes) (objects : Objects) (can : CanHave z objects) (moment d q x
     there = x_there;
     unnamed = left_unnamed z objects can moment d x a from;
     before = left_countable z objects can moment d x a from;
-    after = fits_countable z (with_name between moment q b x) can.sizes fit;
+    after = fits_countable z (with_name between moment q b x) can.numbers fit;
   }
     where
       es : Entries

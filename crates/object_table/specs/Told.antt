@@ -1,11 +1,10 @@
 -- What a table of objects stands for.
 use Rattle.std.specs.Prelude.{◌≡◌, ◌<◌, ℕ, true, Option, None}
 use Rattle.std.specs.FinMap as map
-use Rattle.volume_terms.specs.Sizes.{Sizes, IsSizes}
+use Rattle.volume_terms.specs.Sizes.{Sizes}
 use Rattle.posix_profile.specs.State.{Name, Object, Objects, IsDirectory, entries_of}
 use Rattle.posix_profile.specs.Charge.{fits}
 use Rattle.posix_profile.specs.Changes.{with_object}
-use Rattle.posix_profile.specs.WellFormed.{IsForest}
 use Rattle.object_store.specs.declared.change.ObjectChange.{ObjectChange}
 use Rattle.object_store.specs.declared.change.ObjectChange.TheVariants as changes
 use Rattle.object_table.specs.Numbers.{next_number}
@@ -18,8 +17,8 @@ abbrev pub told : ObjectTable → ℕ → Option ObjectFacts
 told table o = told_at table.counted o
 
 -- the numbers of the volume
-abbrev pub sizes_of : ObjectTable → Sizes
-sizes_of table = sizes_in table.counted
+abbrev pub table_sizes : ObjectTable → Sizes
+table_sizes table = sizes_in table.counted
 
 -- the units that are told
 abbrev pub charge_of : ObjectTable → ℕ
@@ -39,7 +38,7 @@ Tells table objects = Counts table.counted objects
 
 -- the table tells of the same volume what it told
 pub record TellsTheSame (old new : ObjectTable) : Type 0 where
-  pub sizes : sizes_of new ≡ sizes_of old
+  pub sizes : table_sizes new ≡ table_sizes old
   pub each : (o : ℕ) → told new o ≡ told old o
   pub charge : charge_of new ≡ charge_of old
   pub next : next_of new ≡ next_of old
@@ -54,12 +53,6 @@ abbrev pub LedBefore : Objects → ObjectChange → Option ℕ → Type 0
 LedBefore objects (changes.Remove entry dropped moment) replaced = replaced ≡ map.get (entries_of (map.get objects entry.directory)) entry.name.now
 LedBefore objects (changes.Move from to number dropped moment) replaced = replaced ≡ map.get (entries_of (map.get objects to.directory)) to.name.now
 LedBefore objects change replaced = Unit {0}
-
--- objects that a volume of these numbers can have
-pub record CanHave (z : Sizes) (objects : Objects) : Type 0 where
-  pub sizes : IsSizes z
-  pub forest : IsForest z objects
-  pub fit : fits z objects ≡ true
 
 -- A directory may get a new object, by a name that it has not, and there is room.
 pub record GetsObject (z : Sizes) (objects : Objects) (moment directory : ℕ) (name : Name) (x : Object) : Type 0 where

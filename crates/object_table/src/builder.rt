@@ -5,7 +5,7 @@ ghost use Rattle.volume_terms.specs.VolumeSizes as volume;
 ghost use Rattle.posix_profile.specs.State.{Object, Objects};
 ghost use Rattle.posix_profile.specs.Changes.{with_name};
 ghost use Rattle.object_table.specs.Counted.{GetsName};
-ghost use Rattle.object_table.specs.Told.{sizes_of, Tells};
+ghost use Rattle.object_table.specs.Told.{table_sizes, Tells};
 
 use crate::counted_facts::CountedFacts;
 use crate::facts::ObjectFacts;
@@ -63,7 +63,7 @@ impl TableBuilder {
 
     /// The table of the objects that came.
     pub fn finish(self, alloc: Global) -> Result<ObjectTable, AllocError>
-        ensures size { IfOk result (λ table. sizes_of table ≡ sizes_built self) }
+        ensures size { IfOk result (λ table. table_sizes table ≡ sizes_built self) }
         ensures tells { (objects : Objects) → Builds self objects → IfOk result (λ table. Tells table objects) }
     {
         ObjectTable::of(alloc, self.counted)

@@ -35,11 +35,12 @@ pub struct ObjectTable {
 }
 
 impl ObjectTable {
-    ghost use Rattle.object_table.specs.Told.{sizes_of, next_of, HasRoomAt, IsReadyFor, LedBefore, CanHave, GetsObject, Tells, TellsTheSame};
+    ghost use Rattle.object_table.specs.Told.{table_sizes, next_of, HasRoomAt, IsReadyFor, LedBefore, GetsObject, Tells, TellsTheSame};
+    ghost use Rattle.object_store.specs.Stores.{CanHave};
 
     /// A table that tells no objects.
     pub fn new(alloc: Global, sizes: VolumeSizes) -> ObjectTable
-        ensures size { sizes_of result ≡ volume.sizes_of sizes }
+        ensures size { table_sizes result ≡ volume.sizes_of sizes }
         ensures tells { Tells result map.empty }
     {
         let counted = CountedFacts::new(alloc, sizes);
@@ -49,7 +50,7 @@ impl ObjectTable {
 
     /// A table of these facts.
     pub(crate) fn of(alloc: Global, counted: CountedFacts) -> Result<ObjectTable, AllocError>
-        ensures size { IfOk result (λ table. sizes_of table ≡ sizes_in counted) }
+        ensures size { IfOk result (λ table. table_sizes table ≡ sizes_in counted) }
         ensures tells { (objects : Objects) → Counts counted objects → IfOk result (λ table. Tells table objects) }
     {
         let mut numbers = FreeNumbers::new(alloc, &counted.facts);
@@ -59,14 +60,14 @@ impl ObjectTable {
 
     /// The numbers of the volume.
     pub fn sizes(&self) -> VolumeSizes
-        ensures { volume.sizes_of result ≡ sizes_of self.now }
+        ensures { volume.sizes_of result ≡ table_sizes self.now }
     {
         self.counted.sizes
     }
 
     /// What is told of the object at this number, if there is one.
     pub fn info(&self, number: u64) -> Option<Info>
-        ensures { (objects : Objects) → Tells self.now objects → IsForest (sizes_of self.now) objects → result ≡ info_of objects number (map.get objects number) }
+        ensures { (objects : Objects) → Tells self.now objects → IsForest (table_sizes self.now) objects → result ≡ info_of objects number (map.get objects number) }
     {
         match self.counted.at(number) {
             Some(facts) => Some(facts.info(number)),
@@ -96,7 +97,7 @@ impl ObjectTable {
 
     /// The units that the objects cost.
     pub fn charge(&self) -> u64
-        ensures { (objects : Objects) → Tells self.now objects → result ≡ charge (sizes_of self.now) objects }
+        ensures { (objects : Objects) → Tells self.now objects → result ≡ charge (table_sizes self.now) objects }
     {
         self.counted.charge
     }
@@ -120,8 +121,8 @@ impl ObjectTable {
     /// a move gives, if it led anywhere.
     pub fn apply(&mut self, change: &ObjectChange<'_>, replaced: Option<u64>)
         requires { IsReadyFor self.old change.now }
-        ensures size { sizes_of self.new ≡ sizes_of self.old }
-        ensures tells { (objects : Objects) → Tells self.old objects → CanHave (sizes_of self.old) objects → CanMake (sizes_of self.old) objects change.now
+        ensures size { table_sizes self.new ≡ table_sizes self.old }
+        ensures tells { (objects : Objects) → Tells self.old objects → CanHave (table_sizes self.old) objects → CanMake (table_sizes self.old) objects change.now
             → LedBefore objects change.now replaced → Tells self.new (made objects change.now) }
     {
         match *change {
@@ -173,9 +174,9 @@ impl ObjectTable {
     /// A new object, without content, gets a name in a directory.
     fn create(&mut self, directory: u64, kind: Kind, moment: u64)
         requires { HasRoomAt self.old (next_of self.old) }
-        ensures size { sizes_of self.new ≡ sizes_of self.old }
-        ensures tells { (objects : Objects) (name : List ℕ) → Tells self.old objects → CanHave (sizes_of self.old) objects
-            → GetsObject (sizes_of self.old) objects moment directory name (empty_object kind moment)
+        ensures size { table_sizes self.new ≡ table_sizes self.old }
+        ensures tells { (objects : Objects) (name : List ℕ) → Tells self.old objects → CanHave (table_sizes self.old) objects
+            → GetsObject (table_sizes self.old) objects moment directory name (empty_object kind moment)
             → Tells self.new (with_object objects moment directory name (empty_object kind moment)) }
     {
         let facts = ObjectFacts::fresh(kind, moment);
@@ -185,8 +186,8 @@ impl ObjectTable {
 
     /// A name of a directory leads to an object.
     fn add_name(&mut self, directory: u64, number: u64, moment: u64)
-        ensures size { sizes_of self.new ≡ sizes_of self.old }
-        ensures tells { (objects : Objects) (name : List ℕ) → Tells self.old objects → GetsName (sizes_of self.old) objects moment directory name number
+        ensures size { table_sizes self.new ≡ table_sizes self.old }
+        ensures tells { (objects : Objects) (name : List ℕ) → Tells self.old objects → GetsName (table_sizes self.old) objects moment directory name number
             → Tells self.new (with_name objects moment directory name number) }
     {
         self.counted.add_name(directory, number, moment);
@@ -194,8 +195,8 @@ impl ObjectTable {
 
     /// A name of a directory goes, if it led anywhere.
     fn remove_name(&mut self, directory: u64, number: Option<u64>, moment: u64)
-        ensures size { sizes_of self.new ≡ sizes_of self.old }
-        ensures some { (objects : Objects) (name : List ℕ) (o : ℕ) → number ≡ Some o → Tells self.old objects → LosesName (sizes_of self.old) objects directory name o
+        ensures size { table_sizes self.new ≡ table_sizes self.old }
+        ensures some { (objects : Objects) (name : List ℕ) (o : ℕ) → number ≡ Some o → Tells self.old objects → LosesName (table_sizes self.old) objects directory name o
             → Tells self.new (without_name objects moment directory name) }
         ensures none { (objects : Objects) → number ≡ None → Tells self.old objects → Tells self.new objects }
     {
@@ -207,8 +208,8 @@ impl ObjectTable {
 
     /// An object goes, if there is one to go.
     fn forget(&mut self, dropped: Option<u64>)
-        ensures size { sizes_of self.new ≡ sizes_of self.old }
-        ensures tells { (objects : Objects) → Tells self.old objects → ((o : ℕ) → dropped ≡ Some o → CanGo (sizes_of self.old) objects o) → Tells self.new (without dropped objects) }
+        ensures size { table_sizes self.new ≡ table_sizes self.old }
+        ensures tells { (objects : Objects) → Tells self.old objects → ((o : ℕ) → dropped ≡ Some o → CanGo (table_sizes self.old) objects o) → Tells self.new (without dropped objects) }
     {
         match dropped {
             Some(number) => drop_object(&mut self.counted, &mut self.numbers, number),
@@ -218,10 +219,10 @@ impl ObjectTable {
 
     /// So many bytes of a file are written at an offset.
     fn write(&mut self, number: u64, offset: u64, count: u64, moment: u64)
-        ensures size { sizes_of self.new ≡ sizes_of self.old }
+        ensures size { table_sizes self.new ≡ table_sizes self.old }
         ensures tells { (objects : Objects) (bytes : List ℕ) → Tells self.old objects → IsFile objects number → length bytes ≡ count → offset + count < 2 ^ 64
-            → IsCountable (sizes_of self.old) objects
-            → IsCountable (sizes_of self.old) (with_bytes objects moment number (written (bytes_of (map.get objects number)) offset bytes))
+            → IsCountable (table_sizes self.old) objects
+            → IsCountable (table_sizes self.old) (with_bytes objects moment number (written (bytes_of (map.get objects number)) offset bytes))
             → Tells self.new (with_bytes objects moment number (written (bytes_of (map.get objects number)) offset bytes)) }
     {
         match self.counted.at(number) {
@@ -235,9 +236,9 @@ impl ObjectTable {
 
     /// A file has so many bytes now.
     fn set_length(&mut self, number: u64, size: u64, moment: u64)
-        ensures size { sizes_of self.new ≡ sizes_of self.old }
+        ensures size { table_sizes self.new ≡ table_sizes self.old }
         ensures tells { (objects : Objects) (bytes : List ℕ) → Tells self.old objects → IsFile objects number → length bytes ≡ size
-            → IsCountable (sizes_of self.old) objects → IsCountable (sizes_of self.old) (with_bytes objects moment number bytes)
+            → IsCountable (table_sizes self.old) objects → IsCountable (table_sizes self.old) (with_bytes objects moment number bytes)
             → Tells self.new (with_bytes objects moment number bytes) }
     {
         self.counted.set_length(number, size, moment);

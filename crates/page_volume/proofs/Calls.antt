@@ -1,5 +1,5 @@
 -- What the commands promise of a store of objects, in the words of its pages.
-use Rattle.std.specs.Prelude.{◌≡◌, ◌⊎◌, ℕ, Bool, true, List, Result, Ok, Err}
+use Rattle.std.specs.Prelude.{◌≡◌, ◌⊎◌, ℕ, Bool, true, false, not, List, Result, Ok, Err}
 use Rattle.std.proofs.Common.{refl, sym, ◌∙◌, ap, subst, inl, inr}
 use Rattle.volume_terms.specs.Sizes.{Sizes}
 use Rattle.posix_profile.specs.Losses.{is_synced, LossLeaves}
@@ -16,9 +16,9 @@ use Rattle.command_plans.specs.Classes.{class_of}
 use Rattle.object_commands.specs.Endings.{IsAt, CommandEnds}
 use Rattle.object_commands.specs.Running.{Ran, Runs}
 use Rattle.object_commands.specs.laws.Steps.{One, one_ends}
-use Rattle.object_table.specs.Told.{sizes_of}
+use Rattle.object_table.specs.Told.{table_sizes}
 use Rattle.paged_objects.specs.Meaning.{paged_meaning}
-use Rattle.paged_objects.specs.Standing.{Stands, Shown}
+use Rattle.paged_objects.specs.Standing.{StandsFor, Shown}
 use Rattle.paged_objects.specs.Ending.{HasEnded}
 use Rattle.paged_objects.specs.laws.Lawful.{paged_lawful}
 use Rattle.paged_objects.specs.declared.store.PagedObjects.{PagedObjects}
@@ -26,6 +26,11 @@ use Rattle.pages.specs.State.{PagesState}
 use Rattle.page_volume.specs.Volumes.{pages_of, table_of, is_read_only, IsVolumeOf}
 use Rattle.page_volume.specs.Running.{RanPages, RunsPages}
 use Rattle.page_volume.specs.declared.volume.PageVolume.{PageVolume}
+
+-- what has power is not gone
+pub powered : (gone : Bool) → not gone ≡ true → gone ≡ false
+powered true has = let two : false ≡ true = has in absurd cc
+powered false has = refl
 
 -- what objects over such pages stand for
 abbrev pub meaning_of : {P : Type 0} → (P → PagesState) → Meaning (PagedObjects P)
@@ -36,7 +41,7 @@ is_at state z s v is = record {
   has = record {
     numbers = is.numbers;
     sizes = is.sizes;
-    stands = (subst (λ y. Stands y (state (pages_of v)) s.objects) (sym is.sizes) is.stands, is.tells);
+    stands = (subst (λ y. StandsFor y (state (pages_of v)) s.objects) (sym is.sizes) is.stands, is.tells);
     forest = is.sound.well_formed.forest;
     fit = is.sound.fit;
   };
@@ -48,21 +53,21 @@ pub is_volume : {P : Type 0} (state : P → PagesState) (z : Sizes) (s : State) 
 is_volume state z s v at = record {
   numbers = at.has.numbers;
   sizes = at.has.sizes;
-  stands = subst (λ y. Stands y (state (pages_of v)) s.objects) at.has.sizes at.has.stands.0;
+  stands = subst (λ y. StandsFor y (state (pages_of v)) s.objects) at.has.sizes at.has.stands.0;
   tells = at.has.stands.1;
   handles = at.handles;
   sound = at.sound;
 }
 
 -- the tree that a mount would show, by the sizes that the table tells
-pub shown_to : {P : Type 0} (state : P → PagesState) (z : Sizes) (v : PageVolume P) (tree : Objects) → sizes_of (table_of v) ≡ z → Shown z (state (pages_of v)) tree → Shown (sizes_of (table_of v)) (state (pages_of v)) tree
+pub shown_to : {P : Type 0} (state : P → PagesState) (z : Sizes) (v : PageVolume P) (tree : Objects) → table_sizes (table_of v) ≡ z → Shown z (state (pages_of v)) tree → Shown (table_sizes (table_of v)) (state (pages_of v)) tree
 shown_to state z v tree is shown = subst (λ y. Shown y (state (pages_of v)) tree) (sym is) shown
 
-pub shown_from : {P : Type 0} (state : P → PagesState) (z : Sizes) (v : PageVolume P) (tree : Objects) → sizes_of (table_of v) ≡ z → Shown (sizes_of (table_of v)) (state (pages_of v)) tree → Shown z (state (pages_of v)) tree
+pub shown_from : {P : Type 0} (state : P → PagesState) (z : Sizes) (v : PageVolume P) (tree : Objects) → table_sizes (table_of v) ≡ z → Shown (table_sizes (table_of v)) (state (pages_of v)) tree → Shown z (state (pages_of v)) tree
 shown_from state z v tree is shown = subst (λ y. Shown y (state (pages_of v)) tree) is shown
 
-pub either_from : {P : Type 0} (state : P → PagesState) (z : Sizes) (v : PageVolume P) (tree other : Objects) → sizes_of (table_of v) ≡ z
-    → Shown (sizes_of (table_of v)) (state (pages_of v)) tree ⊎ Shown (sizes_of (table_of v)) (state (pages_of v)) other → Shown z (state (pages_of v)) tree ⊎ Shown z (state (pages_of v)) other
+pub either_from : {P : Type 0} (state : P → PagesState) (z : Sizes) (v : PageVolume P) (tree other : Objects) → table_sizes (table_of v) ≡ z
+    → Shown (table_sizes (table_of v)) (state (pages_of v)) tree ⊎ Shown (table_sizes (table_of v)) (state (pages_of v)) other → Shown z (state (pages_of v)) tree ⊎ Shown z (state (pages_of v)) other
 either_from state z v tree other is (inl shown) = inl (shown_from state z v tree is shown)
 either_from state z v tree other is (inr shown) = inr (shown_from state z v other is shown)
 
@@ -76,30 +81,31 @@ module _ {P : Type 0} (state : P → PagesState) where
   one_call z s stamped r a b ends = one_ends m (paged_lawful state (λ s. s.pages) (λ s. s.table)) z (is_read_only a) s stamped r a.volume b.volume ends
 
   -- what a mount would show after it
-  pub tree_after : (z : Sizes) (s : State) (read_only : Bool) (stamped : Stamped) (r : Reply) (a b : PageVolume P) → sizes_of (table_of a) ≡ z → sizes_of (table_of b) ≡ sizes_of (table_of a) → One m z read_only s stamped r a.volume b.volume
+  pub tree_after : (z : Sizes) (s : State) (read_only : Bool) (stamped : Stamped) (r : Reply) (a b : PageVolume P) → table_sizes (table_of a) ≡ z → table_sizes (table_of b) ≡ table_sizes (table_of a) → One m z read_only s stamped r a.volume b.volume
       → (tree : Objects) → Shown z (state (pages_of a)) tree → Shown z (state (pages_of b)) tree ⊎ Shown z (state (pages_of b)) (settled s.objects)
   tree_after z s read_only stamped r a b is same one tree shown = either_from state z b tree (settled s.objects) (same ∙ is) (one.loss tree (shown_to state z a tree is shown))
 
-  pub synced_after : (z : Sizes) (s : State) (read_only : Bool) (stamped : Stamped) (r : Reply) (a b : PageVolume P) → sizes_of (table_of a) ≡ z → sizes_of (table_of b) ≡ sizes_of (table_of a) → One m z read_only s stamped r a.volume b.volume
+  pub synced_after : (z : Sizes) (s : State) (read_only : Bool) (stamped : Stamped) (r : Reply) (a b : PageVolume P) → table_sizes (table_of a) ≡ z → table_sizes (table_of b) ≡ table_sizes (table_of a) → One m z read_only s stamped r a.volume b.volume
       → is_synced stamped.command r ≡ true → Shown z (state (pages_of b)) (settled s.objects)
   synced_after z s read_only stamped r a b is same one synced = shown_from state z b (settled s.objects) (same ∙ is) (one.sync synced)
 
   -- a run
-  ran_pages : (z : Sizes) (s : State) (commands : List Stamped) (answered : List Reply) (a b : PageVolume P) → sizes_of (table_of a) ≡ z → sizes_of (table_of b) ≡ sizes_of (table_of a)
+  ran_pages : (z : Sizes) (s : State) (commands : List Stamped) (answered : List Reply) (a b : PageVolume P) → table_sizes (table_of a) ≡ z → table_sizes (table_of b) ≡ table_sizes (table_of a)
       → Ran m z s commands answered a.volume b.volume → RanPages state z s commands answered a b
   ran_pages z s commands answered a b is same ran = record {
     holds = ran.holds;
     losses = λ tree shown. losses_from (ran.losses tree (shown_to state z a tree is shown));
     cause = λ stop. (ran.failure stop).fails.0.cause;
     state_is = λ goes. is_volume state z _ b (ran.state goes);
+    power = λ refused. powered _ (ran.power refused);
   } where
-    losses_from : {tree : Objects} → LossLeaves (Shown (sizes_of (table_of b)) (state (pages_of b))) tree z (is_read_only a) s commands answered → LossLeaves (Shown z (state (pages_of b))) tree z (is_read_only a) s commands answered
+    losses_from : {tree : Objects} → LossLeaves (Shown (table_sizes (table_of b)) (state (pages_of b))) tree z (is_read_only a) s commands answered → LossLeaves (Shown z (state (pages_of b))) tree z (is_read_only a) s commands answered
     losses_from {tree} left = subst (λ y. LossLeaves (Shown y (state (pages_of b))) tree z (is_read_only a) s commands answered) (same ∙ is) left
 
   same_volume : (a b : PageVolume P) → b.volume ≡ a.volume → b ≡ a
   same_volume a b is = ap (λ v. record { volume = v }) is
 
-  pub runs_pages : (commands : List Stamped) (n : ℕ) (before now : List Reply) (a b : PageVolume P) → sizes_of (table_of b) ≡ sizes_of (table_of a)
+  pub runs_pages : (commands : List Stamped) (n : ℕ) (before now : List Reply) (a b : PageVolume P) → table_sizes (table_of b) ≡ table_sizes (table_of a)
       → Runs m commands n before now a.volume b.volume → RunsPages state commands n before now a b
   runs_pages commands n before now a b same runs = record {
     answered = runs.answered;
@@ -112,17 +118,17 @@ module _ {P : Type 0} (state : P → PagesState) where
   }
 
 module _ {P : Type 0} (state : P → PagesState) (z : Sizes) (objects : Objects) (a b : PagedObjects P) (has : Has (meaning_of state) z objects a) where
-  by_sizes : {tree : Objects} {p : PagesState} → Shown (sizes_of a.table) p tree → Shown z p tree
+  by_sizes : {tree : Objects} {p : PagesState} → Shown (table_sizes a.table) p tree → Shown z p tree
   by_sizes {tree} {p} shown = subst (λ y. Shown y p tree) has.sizes shown
 
-  to_sizes : {tree : Objects} {p : PagesState} → Shown z p tree → Shown (sizes_of a.table) p tree
+  to_sizes : {tree : Objects} {p : PagesState} → Shown z p tree → Shown (table_sizes a.table) p tree
   to_sizes {tree} {p} shown = subst (λ y. Shown y p tree) (sym has.sizes) shown
 
   -- a done commit settles the objects
   pub commit_done : (r : Result (Unit {0}) StoreFault) (done : Unit {0}) → r ≡ Ok done → Commits (meaning_of state) objects a b r → Shown z (state b.pages) (settled objects)
   commit_done r done is commits = let ends : Commits (meaning_of state) objects a b (Ok done) = subst (Commits (meaning_of state) objects a b) is commits in by_sizes ends.1.0.shown
 
-  either : {tree : Objects} → Shown (sizes_of a.table) (state b.pages) tree ⊎ Shown (sizes_of a.table) (state b.pages) (settled objects) → Shown z (state b.pages) tree ⊎ Shown z (state b.pages) (settled objects)
+  either : {tree : Objects} → Shown (table_sizes a.table) (state b.pages) tree ⊎ Shown (table_sizes a.table) (state b.pages) (settled objects) → Shown z (state b.pages) tree ⊎ Shown z (state b.pages) (settled objects)
   either (inl shown) = inl (by_sizes shown)
   either (inr shown) = inr (by_sizes shown)
 

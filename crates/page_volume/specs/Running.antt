@@ -8,7 +8,7 @@ use Rattle.posix_profile.specs.State.{Objects, State}
 use Rattle.posix_profile.specs.declared.command.Stamped.{Stamped}
 use Rattle.posix_profile.specs.declared.reply.Reply.{Reply}
 use Rattle.command_plans.specs.Classes.{Telling, class_of, is_error}
-use Rattle.object_commands.specs.Running.{StaysStopped}
+use Rattle.object_commands.specs.Running.{StaysStopped, ends_refused}
 use Rattle.pages.specs.State.{PagesState}
 use Rattle.paged_objects.specs.Ending.{HasEnded}
 use Rattle.paged_objects.specs.Standing.{Shown}
@@ -20,12 +20,14 @@ abbrev pub OnlyTells : Stamped → Reply → Type 0
 OnlyTells stamped reply = (is_stop reply ≡ false) × ((class_of stamped.command ≡ Telling) ⊎ (is_error reply ≡ true))
 
 -- From a state: the replies are right, a mount shows the tree after some of the commands, at least those that a sync covers,
--- and the volume is stopped for its reason, or it stands for the state after the commands that were answered.
+-- and the volume is stopped for its reason, or it stands for the state after the commands that were answered. Where the last
+-- of them was refused memory the device has power.
 pub record RanPages {P : Type 0} (state : P → PagesState) (z : Sizes) (s : State) (commands : List Stamped) (answered : List Reply) (a b : PageVolume P) : Type 0 where
   pub holds : RunHolds z (is_read_only a) s commands answered
   pub losses : (tree : Objects) → Shown z (state (pages_of a)) tree → LossLeaves (Shown z (state (pages_of b))) tree z (is_read_only a) s commands answered
   pub cause : is_stopped b ≡ true → HasEnded (state (pages_of b))
   pub state_is : is_stopped b ≡ false → IsVolumeOf state z (after z (is_read_only a) s commands answered) b
+  pub power : ends_refused answered ≡ true → (state (pages_of b)).device.gone ≡ false
 
 -- So many of the commands are answered, behind the old replies, and after EIO each by EIO: the volume is stopped afterwards
 -- exactly where it was before or a reply is EIO. On a stopped volume all are EIO, and it stays as it was.

@@ -4,11 +4,11 @@ use Rattle.volume_terms.specs.Sizes.{Sizes, IsSizes}
 use Rattle.posix_profile.specs.State.{State}
 use Rattle.posix_profile.specs.laws.Sound.{IsSound}
 use Rattle.object_commands.specs.Volumes as volumes
-use Rattle.object_table.specs.Told.{sizes_of, Tells}
+use Rattle.object_table.specs.Told.{table_sizes, Tells}
 use Rattle.object_table.specs.declared.table.ObjectTable.{ObjectTable}
 use Rattle.pages.specs.State.{PagesState}
 use Rattle.paged_objects.specs.Parts as parts
-use Rattle.paged_objects.specs.Standing.{Stands}
+use Rattle.paged_objects.specs.Standing.{StandsFor}
 use Rattle.page_volume.specs.declared.volume.PageVolume.{PageVolume}
 
 -- its pages
@@ -31,8 +31,8 @@ is_stopped v = volumes.is_stopped v.volume
 -- the state, which is one that a volume of these sizes can have.
 pub record IsVolumeOf {P : Type 0} (state : P → PagesState) (z : Sizes) (s : State) (v : PageVolume P) : Type 0 where
   pub numbers : IsSizes z
-  pub sizes : sizes_of (table_of v) ≡ z
-  pub stands : Stands z (state (pages_of v)) s.objects
+  pub sizes : table_sizes (table_of v) ≡ z
+  pub stands : StandsFor z (state (pages_of v)) s.objects
   pub tells : Tells (table_of v) s.objects
   pub handles : volumes.handles_of v.volume ≡ s.handles
   pub sound : IsSound z s

@@ -9,11 +9,11 @@ ghost use Rattle.posix_profile.specs.laws.Sound.{IsSound};
 ghost use Rattle.posix_profile.specs.declared.reply.Errno.TheVariants as errors;
 ghost use Rattle.posix_profile.specs.declared.reply.Reply.TheVariants as replies;
 ghost use Rattle.object_store.specs.Stores.{settled};
-ghost use Rattle.object_table.specs.Told.{sizes_of, Tells};
+ghost use Rattle.object_table.specs.Told.{table_sizes, Tells};
 ghost use Rattle.command_plans.specs.Classes.{makes_no_call};
 ghost use Rattle.pages.specs.Stores.{GoesOn};
 ghost use Rattle.paged_objects.specs.Ending.{StaysAs, HasEnded};
-ghost use Rattle.paged_objects.specs.Standing.{Stands, Shown};
+ghost use Rattle.paged_objects.specs.Standing.{StandsFor, Shown};
 
 use object_commands::Volume;
 use object_store::ObjectStore;
@@ -44,8 +44,8 @@ impl<P: PageStore> PageVolume<P> {
         ensures table { IfOk result (λ v. table_of v ≡ table) }
         ensures read_only { IfOk result (λ v. is_read_only v ≡ read_only) }
         ensures goes_on { IfOk result (λ v. is_stopped v ≡ false) }
-        ensures at { (objects : Objects) → IsSizes (sizes_of table) → Stands (sizes_of table) (P.state pages) objects → Tells table objects → IsSound (sizes_of table) (record { objects = objects; handles = map.empty })
-            → IfOk result (IsVolumeOf P.state (sizes_of table) (record { objects = objects; handles = map.empty })) }
+        ensures at { (objects : Objects) → IsSizes (table_sizes table) → StandsFor (table_sizes table) (P.state pages) objects → Tells table objects → IsSound (table_sizes table) (record { objects = objects; handles = map.empty })
+            → IfOk result (IsVolumeOf P.state (table_sizes table) (record { objects = objects; handles = map.empty })) }
         ensures given_back { IfErr result (λ back. P.state back.0 ≡ P.state pages) }
     {
         match Volume::new(alloc, PagedObjects::new(alloc, pages, table), read_only) {
@@ -57,7 +57,7 @@ impl<P: PageStore> PageVolume<P> {
     /// Does a command and replies to it.
     pub fn call(&mut self, stamped: &Stamped) -> Reply
         ensures goes_on { GoesOn (P.state (pages_of self.old)) (P.state (pages_of self.new)) }
-        ensures keeps { (is_read_only self.new ≡ is_read_only self.old) × (sizes_of (table_of self.new) ≡ sizes_of (table_of self.old)) }
+        ensures keeps { (is_read_only self.new ≡ is_read_only self.old) × (table_sizes (table_of self.new) ≡ table_sizes (table_of self.old)) }
         ensures leaves { makes_no_call stamped.now.command ≡ true → (P.state (pages_of self.new)).device ≡ (P.state (pages_of self.old)).device }
         ensures stopped { is_stopped self.old ≡ true → (result ≡ replies.Error errors.EIO) × (self.new ≡ self.old) }
         ensures stops { is_stopped self.old ≡ false → is_stopped self.new ≡ is_stop result }
@@ -73,6 +73,9 @@ impl<P: PageStore> PageVolume<P> {
             → Shown z (P.state (pages_of self.new)) (settled s.objects) }
         ensures cause { is_stopped self.old ≡ false → (z : Sizes) (s : State) → IsVolumeOf P.state z s self.old → is_stop result ≡ true
             → HasEnded (P.state (pages_of self.new)) }
+        // Where memory was refused the device has power.
+        ensures power { is_stopped self.old ≡ false → (z : Sizes) (s : State) → IsVolumeOf P.state z s self.old → result ≡ replies.Error errors.ENOMEM
+            → (P.state (pages_of self.new)).device.gone ≡ false }
         // What only tells, and what is answered by another error, leaves the pages.
         ensures reads { is_stopped self.old ≡ false → (z : Sizes) (s : State) → IsVolumeOf P.state z s self.old → OnlyTells stamped.now result
             → StaysAs (P.state (pages_of self.old)) (P.state (pages_of self.new)) }
@@ -84,7 +87,7 @@ impl<P: PageStore> PageVolume<P> {
     /// is not begun, nor is any after it.
     pub fn run(&mut self, commands: &[Stamped], replies: &mut Vec<Reply>) -> Result<(), AllocError>
         ensures goes_on { GoesOn (P.state (pages_of self.old)) (P.state (pages_of self.new)) }
-        ensures keeps { (is_read_only self.new ≡ is_read_only self.old) × (sizes_of (table_of self.new) ≡ sizes_of (table_of self.old)) }
+        ensures keeps { (is_read_only self.new ≡ is_read_only self.old) × (table_sizes (table_of self.new) ≡ table_sizes (table_of self.old)) }
         ensures runs { (n : ℕ) × (n ≤ length commands.now) × OnOk result (n ≡ length commands.now)
             × RunsPages P.state commands.now n replies.old.items replies.new.items self.old self.new }
     {

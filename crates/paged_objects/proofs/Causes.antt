@@ -9,12 +9,12 @@ use Rattle.pages.specs.State.{PagesState}
 use Rattle.pages.specs.Stores.{GoesOn, IsCrowded, IsWornOut}
 use Rattle.object_pages.specs.Counting.{HavePages}
 use Rattle.object_pages.specs.laws.Counting.{pages_charged}
-use Rattle.paged_objects.specs.Standing.{volume_of, Stands, Shown}
+use Rattle.paged_objects.specs.Standing.{volume_of, StandsFor, Shown}
 use Rattle.paged_objects.specs.Ending.{HasPages, IsUsedUp}
 use Rattle.paged_objects.specs.laws.Going.{volume_on}
 
 -- no more pages are kept than the volume has units
-pub not_crowded : (z : Sizes) (p : PagesState) (objects : Objects) → Stands z p objects → IsCrowded p → ⊥
+pub not_crowded : (z : Sizes) (p : PagesState) (objects : Objects) → StandsFor z p objects → IsCrowded p → ⊥
 not_crowded z p objects stands crowded =
     let shown : Shown z p stands.shown.0 = stands.shown.1 in
     let there : HavePages shown.pages crowded.keys = λ i k is. let page = crowded.each i k is in (page.0, sym (shown.kept stands.sound k.object k.chunk) ∙ page.1) in

@@ -6,7 +6,7 @@ use Rattle.volume_terms.specs.Sizes.{Sizes}
 use Rattle.volume_terms.specs.declared.fault.StoreFault.{StoreFault}
 use Rattle.volume_terms.specs.declared.fault.StoreFault.TheVariants as faults
 use Rattle.posix_profile.specs.State.{Objects}
-use Rattle.object_table.specs.Told.{sizes_of, Tells, TellsTheSame}
+use Rattle.object_table.specs.Told.{table_sizes, Tells, TellsTheSame}
 use Rattle.object_table.specs.declared.table.ObjectTable.{ObjectTable}
 use Rattle.pages.specs.Faults.{MayLackMemory}
 use Rattle.pages.specs.Maps.{PageMap, without_cuts}
@@ -17,7 +17,7 @@ use Rattle.pages.specs.declared.fault.PageFault.TheVariants as page_faults
 use Rattle.object_pages.specs.Holding.{HoldsObjects}
 use Rattle.object_pages.specs.laws.Holding.{cut_object}
 use Rattle.paged_objects.specs.Faults.{fault_of, ReadFailsBy}
-use Rattle.paged_objects.specs.Standing.{Stands}
+use Rattle.paged_objects.specs.Standing.{StandsFor}
 use Rattle.paged_objects.specs.Ending.{StaysAs, Turns, Fails, Commits, HasPages, EndsPages, ChangeEnds}
 use Rattle.paged_objects.specs.laws.Going.{finds_stay, refused_stays, stays_on, volume_on}
 use Rattle.paged_objects.proofs.Causes.{used_up}
@@ -60,7 +60,7 @@ read_ends z p q old new faults.Device finds why = read_fails z p q old (finds_st
 read_ends z p q old new faults.Worn finds why = absurd why
 
 -- a change of the pages that is not made leaves the table
-pub not_made : (p q : PagesState) (table after : ObjectTable) (old new : Objects) (fault : StoreFault) → TellsTheSame table after → EndsPages (sizes_of table) p q old new (Err fault) → ChangeEnds p q table after old new (Err fault)
+pub not_made : (p q : PagesState) (table after : ObjectTable) (old new : Objects) (fault : StoreFault) → TellsTheSame table after → EndsPages (table_sizes table) p q old new (Err fault) → ChangeEnds p q table after old new (Err fault)
 not_made p q table after old new faults.NoMemory same ends = (ends, same)
 not_made p q table after old new faults.Device same ends = ends
 not_made p q table after old new faults.Worn same ends = ends
@@ -70,14 +70,14 @@ cut_turns : (z : Sizes) (p q : PagesState) (objects : Objects) → HasPages z p 
 cut_turns z p q objects has goes kept tree shown = inl (still_shown z p q tree goes has.stands.sound kept shown)
 
 -- an object whose pages are cut is gone
-pub cut_done : (p q : PagesState) (table after : ObjectTable) (objects : Objects) (number : ℕ) → HasPages (sizes_of table) p objects → GoesOn p q → q.sound ≡ true
+pub cut_done : (p q : PagesState) (table after : ObjectTable) (objects : Objects) (number : ℕ) → HasPages (table_sizes table) p objects → GoesOn p q → q.sound ≡ true
     → SamePages q.present (without_cuts (record { object = number; from = 0 } ∷ []) p.present) → KeptAs q p.kept → Tells after (map.remove objects number)
     → ChangeEnds p q table after objects (map.remove objects number) (Ok tt)
 cut_done p q table after objects number has goes sound same kept tells = (
-  changed_stands (sizes_of table) p q objects (map.remove objects number) (without_cuts (record { object = number; from = 0 } ∷ []) p.present) goes has.stands sound
-      (cut_object (sizes_of table) p.present objects has.stands.holds number) same (cut_turns (sizes_of table) p q objects has goes kept),
+  changed_stands (table_sizes table) p q objects (map.remove objects number) (without_cuts (record { object = number; from = 0 } ∷ []) p.present) goes has.stands sound
+      (cut_object (table_sizes table) p.present objects has.stands.holds number) same (cut_turns (table_sizes table) p q objects has goes kept),
   tells,
-  cut_turns (sizes_of table) p q objects has goes kept,
+  cut_turns (table_sizes table) p q objects has goes kept,
 )
 
 -- a call that takes no memory ended the use of the store
@@ -87,15 +87,15 @@ ended_so z p q objects faults.Device has goes turns why = record { goes_on = goe
 ended_so z p q objects faults.Worn has goes turns why = record { goes_on = goes; turns = turns; cause = inr (used_up z p q objects has goes why) }
 
 -- an object whose pages are not cut
-pub cut_failed : (p q : PagesState) (table : ObjectTable) (objects new : Objects) (fault : StoreFault) → HasPages (sizes_of table) p objects → GoesOn p q → KeptAs q p.kept → CommitFailsBy p q fault
+pub cut_failed : (p q : PagesState) (table : ObjectTable) (objects new : Objects) (fault : StoreFault) → HasPages (table_sizes table) p objects → GoesOn p q → KeptAs q p.kept → CommitFailsBy p q fault
     → ChangeEnds p q table table objects new (Err fault)
 cut_failed p q table objects new faults.NoMemory has goes kept why = absurd why
-cut_failed p q table objects new faults.Device has goes kept why = ended_so (sizes_of table) p q objects faults.Device has goes (cut_turns (sizes_of table) p q objects has goes kept) why
-cut_failed p q table objects new faults.Worn has goes kept why = ended_so (sizes_of table) p q objects faults.Worn has goes (cut_turns (sizes_of table) p q objects has goes kept) why
+cut_failed p q table objects new faults.Device has goes kept why = ended_so (table_sizes table) p q objects faults.Device has goes (cut_turns (table_sizes table) p q objects has goes kept) why
+cut_failed p q table objects new faults.Worn has goes kept why = ended_so (table_sizes table) p q objects faults.Worn has goes (cut_turns (table_sizes table) p q objects has goes kept) why
 
 -- a commit that is done
 pub committed : (z : Sizes) (p q : PagesState) (objects : Objects) → HasPages z p objects → GoesOn p q → q.sound ≡ true → SamePages q.present p.present → KeepsEither p q → KeptAs q p.present
-    → Stands z q objects × Commits z objects p q
+    → StandsFor z q objects × Commits z objects p q
 committed z p q objects has goes sound same keeps kept = (
   changed_stands z p q objects objects p.present goes has.stands sound has.stands.holds same (either_turns z p q objects goes has.stands has.can keeps),
   record { goes_on = goes; shown = kept_shown z q p.present objects (volume_on p q goes ∙ has.stands.sizes) kept has.stands.holds has.can },

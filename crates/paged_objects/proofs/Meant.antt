@@ -12,14 +12,13 @@ use Rattle.object_store.specs.declared.change.ObjectChange.{ObjectChange}
 use Rattle.object_store.specs.declared.change.ObjectChange.TheVariants as changes
 use Rattle.object_store.specs.Stores.{Faults, Applies}
 use Rattle.object_store.specs.Stores as meant
-use Rattle.object_table.specs.Told.{sizes_of, Tells, TellsTheSame}
-use Rattle.object_table.specs.Told as told
-use Rattle.object_pages.specs.Holding.{CanHave}
+use Rattle.object_table.specs.Told.{table_sizes, Tells, TellsTheSame}
+use Rattle.object_store.specs.Stores.{CanHave}
 use Rattle.object_table.specs.declared.table.ObjectTable.{ObjectTable}
 use Rattle.pages.specs.State.{PagesState, OnlyFinds}
 use Rattle.pages.specs.Stores.{GoesOn, SamePages, KeptAs, KeepsEither, CommitFailsBy}
 use Rattle.paged_objects.specs.Faults.{ReadFailsBy}
-use Rattle.paged_objects.specs.Standing.{Stands}
+use Rattle.paged_objects.specs.Standing.{StandsFor}
 use Rattle.paged_objects.specs.Ending.{HasObjects, ChangeEnds}
 use Rattle.paged_objects.specs.Meaning.{paged_meaning}
 use Rattle.paged_objects.specs.laws.Going.{finds_stay}
@@ -28,7 +27,7 @@ use Rattle.paged_objects.specs.laws.Showing.{read_fails}
 use Rattle.paged_objects.proofs.Ends.{committed, commit_failed}
 
 -- what the trait says of a store that has objects
-pub has_objects : (p : PagesState) (t : ObjectTable) (z : Sizes) (objects : Objects) → IsSizes z → sizes_of t ≡ z → Stands (sizes_of t) p objects → Tells t objects → IsForest z objects → fits z objects ≡ true
+pub has_objects : (p : PagesState) (t : ObjectTable) (z : Sizes) (objects : Objects) → IsSizes z → table_sizes t ≡ z → StandsFor (table_sizes t) p objects → Tells t objects → IsForest z objects → fits z objects ≡ true
     → HasObjects p t objects
 has_objects p t z objects numbers is stands tells forest fit = record {
   pages = record {
@@ -43,12 +42,8 @@ has_objects p t z objects numbers is stands tells forest fit = record {
 }
 
 -- what a volume can have, as the table says it
-pub can_have : (z y : Sizes) (objects : Objects) → y ≡ z → CanHave z objects → told.CanHave y objects
-can_have z y objects is can = record {
-  sizes = subst IsSizes (sym is) can.numbers;
-  forest = subst (λ (k : Sizes). IsForest k objects) (sym is) can.forest;
-  fit = subst (λ (k : Sizes). fits k objects ≡ true) (sym is) can.fit;
-}
+pub can_have : (z y : Sizes) (objects : Objects) → y ≡ z → CanHave z objects → CanHave y objects
+can_have z y objects is can = subst (λ (k : Sizes). CanHave k objects) (sym is) can
 
 -- a change that can be made, with the table's own sizes
 pub can_make : (z y : Sizes) (objects : Objects) (change : ObjectChange) → y ≡ z → CanMake z objects change → CanMake y objects change
@@ -59,7 +54,7 @@ module _ {S P : Type 0} (state : P → PagesState) (pages : S → P) (table : S 
   pub read_faults : (a b : S) (objects : Objects) (fault : StoreFault) → OnlyFinds (state (pages a)) (state (pages b)) → table b ≡ table a → ReadFailsBy (state (pages b)) fault
       → Faults (paged_meaning state pages table) objects objects a b fault
   read_faults a b objects faults.NoMemory finds same why = (finds_stay _ _ finds, subst (TellsTheSame (table a)) (sym same) (same_here (table a)))
-  read_faults a b objects faults.Device finds same why = (read_fails _ _ _ objects (finds_stay _ _ finds) why, subst (λ (t : ObjectTable). sizes_of t ≡ sizes_of (table a)) (sym same) refl)
+  read_faults a b objects faults.Device finds same why = (read_fails _ _ _ objects (finds_stay _ _ finds) why, subst (λ (t : ObjectTable). table_sizes t ≡ table_sizes (table a)) (sym same) refl)
   read_faults a b objects faults.Worn finds same why = absurd why
 
   -- the end of a commit, which leaves the table
@@ -68,19 +63,19 @@ module _ {S P : Type 0} (state : P → PagesState) (pages : S → P) (table : S 
       → KeepsEither (state (pages a)) (state (pages b)) → OnOk result (KeptAs (state (pages b)) (state (pages a)).present)
       → IfErr result (CommitFailsBy (state (pages a)) (state (pages b))) → meant.Commits (paged_meaning state pages table) objects a b result
   commits a b objects (Ok done) has same goes sound present keeps kept why =
-      let done = committed (sizes_of (table a)) (state (pages a)) (state (pages b)) objects has.pages goes (sound has.pages.stands.sound) present keeps kept in (
-        (subst (λ (t : ObjectTable). Stands (sizes_of t) (state (pages b)) objects) (sym same) done.0, subst (λ (t : ObjectTable). Tells t objects) (sym same) has.tells),
-        (done.1, ap sizes_of same),
+      let done = committed (table_sizes (table a)) (state (pages a)) (state (pages b)) objects has.pages goes (sound has.pages.stands.sound) present keeps kept in (
+        (subst (λ (t : ObjectTable). StandsFor (table_sizes t) (state (pages b)) objects) (sym same) done.0, subst (λ (t : ObjectTable). Tells t objects) (sym same) has.tells),
+        (done.1, ap table_sizes same),
       )
   commits a b objects (Err faults.NoMemory) has same goes sound present keeps kept why = absurd why
-  commits a b objects (Err faults.Device) has same goes sound present keeps kept why = (commit_failed (sizes_of (table a)) (state (pages a)) (state (pages b)) objects faults.Device has.pages goes keeps why, ap sizes_of same)
-  commits a b objects (Err faults.Worn) has same goes sound present keeps kept why = (commit_failed (sizes_of (table a)) (state (pages a)) (state (pages b)) objects faults.Worn has.pages goes keeps why, ap sizes_of same)
+  commits a b objects (Err faults.Device) has same goes sound present keeps kept why = (commit_failed (table_sizes (table a)) (state (pages a)) (state (pages b)) objects faults.Device has.pages goes keeps why, ap table_sizes same)
+  commits a b objects (Err faults.Worn) has same goes sound present keeps kept why = (commit_failed (table_sizes (table a)) (state (pages a)) (state (pages b)) objects faults.Worn has.pages goes keeps why, ap table_sizes same)
 
   -- the end of a change
-  pub applied : (a b : S) (old new : Objects) (result : Result (Unit {0}) StoreFault) → GoesOn (state (pages a)) (state (pages b)) → sizes_of (table b) ≡ sizes_of (table a)
+  pub applied : (a b : S) (old new : Objects) (result : Result (Unit {0}) StoreFault) → GoesOn (state (pages a)) (state (pages b)) → table_sizes (table b) ≡ table_sizes (table a)
       → ChangeEnds (state (pages a)) (state (pages b)) (table a) (table b) old new result → Applies (paged_meaning state pages table) old new a b result
   applied a b old new (Ok done) goes same ends = (
-    (subst (λ (k : Sizes). Stands k (state (pages b)) new) (sym same) ends.0, ends.1),
+    (subst (λ (k : Sizes). StandsFor k (state (pages b)) new) (sym same) ends.0, ends.1),
     (record { goes_on = goes; turns = ends.2 }, same),
   )
   applied a b old new (Err faults.NoMemory) goes same ends = ends

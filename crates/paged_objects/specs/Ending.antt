@@ -6,12 +6,12 @@ use Rattle.volume_terms.specs.declared.fault.StoreFault.{StoreFault}
 use Rattle.volume_terms.specs.declared.fault.StoreFault.TheVariants as faults
 use Rattle.posix_profile.specs.State.{Objects}
 use Rattle.object_store.specs.Stores.{settled}
-use Rattle.object_table.specs.Told.{sizes_of, Tells, TellsTheSame}
+use Rattle.object_table.specs.Told.{table_sizes, Tells, TellsTheSame}
 use Rattle.object_table.specs.declared.table.ObjectTable.{ObjectTable}
 use Rattle.pages.specs.State.{PagesState}
 use Rattle.pages.specs.Stores.{SamePages, GoesOn, HasFailed, bad_on}
-use Rattle.object_pages.specs.Holding.{CanHave}
-use Rattle.paged_objects.specs.Standing.{Stands, Shown}
+use Rattle.object_store.specs.Stores.{CanHave}
+use Rattle.paged_objects.specs.Standing.{StandsFor, Shown}
 
 -- The pages are the same, and the device was only read: so look-ups leave them, and a change that was refused memory.
 pub record StaysAs (old new : PagesState) : Type 0 where
@@ -56,24 +56,24 @@ pub record Commits (z : Sizes) (objects : Objects) (p q : PagesState) : Type 0 w
 
 -- a store of pages holds objects that its volume can have
 pub record HasPages (z : Sizes) (p : PagesState) (objects : Objects) : Type 0 where
-  pub stands : Stands z p objects
+  pub stands : StandsFor z p objects
   pub can : CanHave z objects
 
 -- and its table tells them
 pub record HasObjects (p : PagesState) (table : ObjectTable) (objects : Objects) : Type 0 where
-  pub pages : HasPages (sizes_of table) p objects
+  pub pages : HasPages (table_sizes table) p objects
   pub tells : Tells table objects
 
 -- how a change of the pages ends, which was to make the second objects of the first
 abbrev pub EndsPages : Sizes → PagesState → PagesState → Objects → Objects → Result (Unit {0}) StoreFault → Type 0
-EndsPages z p q old new (Ok done) = Stands z q new × Turns z old p q
+EndsPages z p q old new (Ok done) = StandsFor z q new × Turns z old p q
 EndsPages z p q old new (Err faults.NoMemory) = StaysAs p q
 EndsPages z p q old new (Err faults.Device) = Fails z old p q
 EndsPages z p q old new (Err faults.Worn) = Fails z old p q
 
 -- how a change ends with the table that tells of them
 abbrev pub ChangeEnds : PagesState → PagesState → ObjectTable → ObjectTable → Objects → Objects → Result (Unit {0}) StoreFault → Type 0
-ChangeEnds p q table after old new (Ok done) = Stands (sizes_of table) q new × Tells after new × Turns (sizes_of table) old p q
+ChangeEnds p q table after old new (Ok done) = StandsFor (table_sizes table) q new × Tells after new × Turns (table_sizes table) old p q
 ChangeEnds p q table after old new (Err faults.NoMemory) = StaysAs p q × TellsTheSame table after
-ChangeEnds p q table after old new (Err faults.Device) = Fails (sizes_of table) old p q
-ChangeEnds p q table after old new (Err faults.Worn) = Fails (sizes_of table) old p q
+ChangeEnds p q table after old new (Err faults.Device) = Fails (table_sizes table) old p q
+ChangeEnds p q table after old new (Err faults.Worn) = Fails (table_sizes table) old p q

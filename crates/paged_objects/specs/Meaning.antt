@@ -1,11 +1,11 @@
 -- What objects over pages stand for.
-use Rattle.std.specs.Prelude.{◌≡◌}
+use Rattle.std.specs.Prelude.{◌≡◌, not}
 use Rattle.object_store.specs.Stores.{Meaning}
-use Rattle.object_table.specs.Told.{sizes_of, Tells, TellsTheSame}
+use Rattle.object_table.specs.Told.{table_sizes, Tells, TellsTheSame}
 use Rattle.object_table.specs.declared.table.ObjectTable.{ObjectTable}
 use Rattle.pages.specs.State.{PagesState}
 use Rattle.pages.specs.Stores.{GoesOn}
-use Rattle.paged_objects.specs.Standing.{Stands, Shown}
+use Rattle.paged_objects.specs.Standing.{StandsFor, Shown}
 use Rattle.paged_objects.specs.Ending.{StaysAs, Changes, Fails, Commits}
 
 -- The objects that the pages hold and the table tells. A mount shows those that names keep of what the device kept last.
@@ -13,13 +13,14 @@ use Rattle.paged_objects.specs.Ending.{StaysAs, Changes, Fails, Commits}
 -- is not called.
 abbrev pub paged_meaning : {S P : Type 0} (state : P → PagesState) (pages : S → P) (table : S → ObjectTable) → Meaning S
 paged_meaning state pages table = record {
-  sizes = λ s. sizes_of (table s);
-  stands = λ s objects. Stands (sizes_of (table s)) (state (pages s)) objects × Tells (table s) objects;
-  shows = λ s tree. Shown (sizes_of (table s)) (state (pages s)) tree;
-  lasts = λ a b. GoesOn (state (pages a)) (state (pages b)) × (sizes_of (table b) ≡ sizes_of (table a));
+  sizes = λ s. table_sizes (table s);
+  stands = λ s objects. StandsFor (table_sizes (table s)) (state (pages s)) objects × Tells (table s) objects;
+  shows = λ s tree. Shown (table_sizes (table s)) (state (pages s)) tree;
+  has_power = λ s. not (state (pages s)).device.gone;
+  lasts = λ a b. GoesOn (state (pages a)) (state (pages b)) × (table_sizes (table b) ≡ table_sizes (table a));
   leaves = λ a b. (state (pages b)).device ≡ (state (pages a)).device;
   reads = λ a b. StaysAs (state (pages a)) (state (pages b)) × TellsTheSame (table a) (table b);
-  changes = λ old new a b. Changes (sizes_of (table a)) old (state (pages a)) (state (pages b)) × (sizes_of (table b) ≡ sizes_of (table a));
-  fails = λ old new a b. Fails (sizes_of (table a)) old (state (pages a)) (state (pages b)) × (sizes_of (table b) ≡ sizes_of (table a));
-  commits = λ objects a b. Commits (sizes_of (table a)) objects (state (pages a)) (state (pages b)) × (sizes_of (table b) ≡ sizes_of (table a));
+  changes = λ old new a b. Changes (table_sizes (table a)) old (state (pages a)) (state (pages b)) × (table_sizes (table b) ≡ table_sizes (table a));
+  fails = λ old new a b. Fails (table_sizes (table a)) old (state (pages a)) (state (pages b)) × (table_sizes (table b) ≡ table_sizes (table a));
+  commits = λ objects a b. Commits (table_sizes (table a)) objects (state (pages a)) (state (pages b)) × (table_sizes (table b) ≡ table_sizes (table a));
 }

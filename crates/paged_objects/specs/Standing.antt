@@ -7,7 +7,8 @@ use Rattle.object_store.specs.Stores.{settled}
 use Rattle.pages.specs.Maps.{PageMap}
 use Rattle.pages.specs.State.{PagesState}
 use Rattle.pages.specs.Stores.{SamePages, IsCarried}
-use Rattle.object_pages.specs.Holding.{HoldsObjects, CanHave}
+use Rattle.object_pages.specs.Holding.{HoldsObjects}
+use Rattle.object_store.specs.Stores.{CanHave}
 
 -- the numbers of the volume on a store's device
 abbrev pub volume_of : PagesState → Sizes
@@ -27,7 +28,7 @@ pub record Shown (z : Sizes) (p : PagesState) (tree : Objects) : Type 0 where
 
 -- A sound store holds these objects. It has the sizes of the volume, and takes as many pages at once as its buffer has. A mount
 -- would show some tree of it.
-pub record Stands (z : Sizes) (p : PagesState) (objects : Objects) : Type 0 where
+pub record StandsFor (z : Sizes) (p : PagesState) (objects : Objects) : Type 0 where
   pub sound : p.sound ≡ true
   pub sizes : volume_of p ≡ z
   pub page_bytes : p.page_bytes ≡ z.page_bytes

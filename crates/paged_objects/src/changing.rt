@@ -7,7 +7,7 @@ ghost use Rattle.posix_profile.specs.State.{Objects, IsDirectory, entries_of};
 ghost use Rattle.posix_profile.specs.Changes.{new_number};
 ghost use Rattle.object_store.specs.Changes.{made, CanMake};
 ghost use Rattle.object_store.specs.declared.change.ObjectChange.TheVariants as changes;
-ghost use Rattle.object_table.specs.Told.{sizes_of, IsReadyFor, LedBefore, TellsTheSame};
+ghost use Rattle.object_table.specs.Told.{table_sizes, IsReadyFor, LedBefore, TellsTheSame};
 ghost use Rattle.pages.specs.Changes.{AreApart, AreSized, AreOfObjects};
 ghost use Rattle.pages.specs.Maps.{changed};
 ghost use Rattle.pages.specs.State.{OnlyFinds};
@@ -120,8 +120,8 @@ pub(crate) fn make<P: PageStore>(
     change: &ObjectChange<'_>,
 ) -> Result<(), StoreFault>
     ensures goes_on { GoesOn (P.state pages.old) (P.state pages.new) }
-    ensures sizes { sizes_of table.new ≡ sizes_of table.old }
-    ensures makes { (objects : Objects) → HasObjects (P.state pages.old) table.old objects → CanMake (sizes_of table.old) objects change.now
+    ensures sizes { table_sizes table.new ≡ table_sizes table.old }
+    ensures makes { (objects : Objects) → HasObjects (P.state pages.old) table.old objects → CanMake (table_sizes table.old) objects change.now
         → ChangeEnds (P.state pages.old) (P.state pages.new) table.old table.new objects (made objects change.now) result }
 {
     prepare(table, change)?;
@@ -140,8 +140,8 @@ pub(crate) fn forget<P: PageStore>(
 ) -> Result<(), StoreFault>
     ensures goes_on { GoesOn (P.state pages.old) (P.state pages.new) }
     ensures device { (P.state pages.new).device ≡ (P.state pages.old).device }
-    ensures sizes { sizes_of table.new ≡ sizes_of table.old }
-    ensures makes { (objects : Objects) → HasObjects (P.state pages.old) table.old objects → CanMake (sizes_of table.old) objects (changes.Forget number)
+    ensures sizes { table_sizes table.new ≡ table_sizes table.old }
+    ensures makes { (objects : Objects) → HasObjects (P.state pages.old) table.old objects → CanMake (table_sizes table.old) objects (changes.Forget number)
         → ChangeEnds (P.state pages.old) (P.state pages.new) table.old table.new objects (map.remove objects number) result }
     ensures memory { result ≡ Err faults.NoMemory → ⊥ }
 {

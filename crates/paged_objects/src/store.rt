@@ -5,7 +5,7 @@ ghost use Rattle.volume_terms.specs.declared.fault.StoreFault.TheVariants as fau
 ghost use Rattle.posix_profile.specs.State.{Objects};
 ghost use Rattle.posix_profile.specs.WellFormed.{IsForest};
 ghost use Rattle.object_store.specs.Facts.{bytes_of};
-ghost use Rattle.object_table.specs.Told.{sizes_of, Tells};
+ghost use Rattle.object_table.specs.Told.{table_sizes, Tells};
 
 use crate::changing::{forget, make};
 use crate::fault::fault_of;
@@ -18,7 +18,7 @@ use volume_terms::{StoreFault, VolumeSizes};
 
 /// The length of a file in bytes, as the table tells it; 0 of what is no file.
 fn length_of(table: &ObjectTable, file: u64) -> u64
-    ensures { (objects : Objects) → Tells table.now objects → IsForest (sizes_of table.now) objects → result ≡ length (bytes_of (map.get objects file)) }
+    ensures { (objects : Objects) → Tells table.now objects → IsForest (table_sizes table.now) objects → result ≡ length (bytes_of (map.get objects file)) }
 {
     match table.info(file) {
         Some(info) => info.size,
@@ -93,6 +93,10 @@ impl<P: PageStore> ObjectStore for PagedObjects<P> {
 
     fn new_number(&self) -> u64 {
         self.table.new_number()
+    }
+
+    fn has_power(&mut self) -> bool {
+        self.pages.has_power()
     }
 
     fn find(&mut self, directory: u64, name: &[u8]) -> Result<Option<u64>, StoreFault> {

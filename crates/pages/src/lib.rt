@@ -9,6 +9,7 @@ mod law;
 mod loading;
 mod memory;
 mod page_store;
+mod power;
 mod store;
 
 pub use after::{Source, load_after, page_after};
@@ -21,4 +22,5 @@ pub use law::{
 pub use loading::load;
 pub use memory::{Lack, MemPages, Refusal};
 pub use page_store::PageStore;
+pub use power::has_power;
 pub use store::{Pages, Presence};

@@ -172,6 +172,10 @@ impl Pages for MemPages {
         }
     }
 
+    fn has_power(&mut self) -> bool {
+        true
+    }
+
     fn page(&self) -> &[u8] {
         match self.pages.get(self.found) {
             Some(page) => &page.bytes,

@@ -1,5 +1,5 @@
 // The trait of pages.
-ghost use Rattle.std.specs.Prelude.{◌≡◌, ◌≤◌, ◌+◌, true, None, length, IfOk, IfErr};
+ghost use Rattle.std.specs.Prelude.{◌≡◌, ◌≤◌, ◌+◌, true, not, None, length, IfOk, IfErr};
 ghost use Rattle.pages.specs.State.{PagesState, OnlyFinds, FindsPage, FailsBy};
 
 use flash_tree::Key;
@@ -30,6 +30,12 @@ pub trait Pages {
         ensures absent { (state self.old).sound ≡ true → (state self.old).present key.object key.chunk ≡ None → (state self.new).asked ≡ (state self.old).asked }
         ensures page { (state self.old).sound ≡ true → IfOk result (FindsPage (state self.old).present key.object key.chunk (state self.new).lent) }
         ensures fault { IfErr result (FailsBy (state self.new)) };
+
+    /// Whether the device has power still. It may ask the device, as for a page.
+    fn has_power(&mut self) -> bool
+        ensures finds { OnlyFinds (state self.old) (state self.new) }
+        ensures asked { (state self.new).asked ≤ (state self.old).asked + 1 }
+        ensures power { result ≡ not (state self.new).device.gone };
 
     /// The page that was found last.
     fn page(&self) -> &[u8]

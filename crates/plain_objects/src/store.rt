@@ -152,6 +152,10 @@ impl ObjectStore for PlainObjects {
         new_number(&self.objects)
     }
 
+    fn has_power(&mut self) -> bool {
+        true
+    }
+
     fn find(&mut self, directory: u64, name: &[u8]) -> Result<Option<u64>, StoreFault> {
         Ok(entry_at(&self.objects, directory, name))
     }

@@ -8,7 +8,7 @@ use Rattle.posix_profile.specs.laws.Sound.{IsSound}
 use Rattle.posix_profile.specs.laws.Prune.{tree_well_formed}
 use Rattle.lives.specs.Lives.{at_mount}
 use Rattle.flash_tree.specs.Mount.{Answers, IsTreeOf}
-use Rattle.object_table.specs.Told.{sizes_of}
+use Rattle.object_table.specs.Told.{table_sizes}
 use Rattle.object_table.specs.declared.table.ObjectTable.{ObjectTable}
 use Rattle.pages.specs.State.{PagesState}
 use Rattle.paged_objects.specs.Standing.{volume_of, Shown}
@@ -18,7 +18,7 @@ use Rattle.page_volume.specs.declared.volume.PageVolume.{PageVolume}
 use Rattle.posix_calls.specs.Mounts.{StandsForTree}
 
 -- a tree that fits is a state that a volume can have
-pub sound_at : (p : PagesState) (table : ObjectTable) (objects : Objects) → sizes_of table ≡ volume_of p → IsMountedWith p table objects → IsSound (sizes_of table) (at_mount objects)
+pub sound_at : (p : PagesState) (table : ObjectTable) (objects : Objects) → table_sizes table ≡ volume_of p → IsMountedWith p table objects → IsSound (table_sizes table) (at_mount objects)
 sound_at p table objects same mounted = subst (λ (z : Sizes). IsSound z (at_mount objects)) (sym same) (record {
   well_formed = tree_well_formed (volume_of p) objects mounted.answers.1.tree;
   fit = mounted.can.fit;
@@ -26,7 +26,7 @@ sound_at p table objects same mounted = subst (λ (z : Sizes). IsSound z (at_mou
 
 -- what a volume over these pages stands for
 pub stands_for : {P E : Type 0} (state : P → PagesState) (p : PagesState) (table : ObjectTable) (objects : Objects) (r : Result (PageVolume P) E)
-    → sizes_of table ≡ volume_of p → IsMountedWith p table objects → IfOk r (λ v. state (pages_of v) ≡ p) → IfOk r (IsVolumeOf state (sizes_of table) (at_mount objects))
+    → table_sizes table ≡ volume_of p → IsMountedWith p table objects → IfOk r (λ v. state (pages_of v) ≡ p) → IfOk r (IsVolumeOf state (table_sizes table) (at_mount objects))
     → IfOk r (λ v. StandsForTree state v objects)
 stands_for state p table objects (Ok v) same mounted pages volume = record {
   answers = subst (λ (q : PagesState). Answers q.device.geometry q.device.flash (IsTreeOf q.spare objects)) (sym pages) mounted.answers;

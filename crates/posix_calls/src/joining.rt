@@ -1,7 +1,7 @@
 // A volume over the pages that a mount gives.
 ghost use Rattle.std.specs.Prelude.{◌≡◌, false, IfOk, IfErr};
 ghost use Rattle.flash_tree.specs.Mount.{Answers, IsTreeOf};
-ghost use Rattle.object_table.specs.Told.{sizes_of};
+ghost use Rattle.object_table.specs.Told.{table_sizes};
 ghost use Rattle.paged_objects.specs.Standing.{volume_of};
 ghost use Rattle.posix_profile.specs.State.{Objects};
 ghost use Rattle.mounting.specs.Made.{IsMountedWith};
@@ -23,7 +23,7 @@ pub(crate) fn join<P: PageStore>(
     ensures pages { IfOk result (λ v. P.state (pages_of v) ≡ P.state pages) }
     ensures read_only { IfOk result (λ v. is_read_only v ≡ read_only) }
     ensures goes_on { IfOk result (λ v. is_stopped v ≡ false) }
-    ensures tree { (objects : Objects) → sizes_of table ≡ volume_of (P.state pages) → IsMountedWith (P.state pages) table objects → IfOk result (λ v. StandsForTree P.state v objects) }
+    ensures tree { (objects : Objects) → table_sizes table ≡ volume_of (P.state pages) → IsMountedWith (P.state pages) table objects → IfOk result (λ v. StandsForTree P.state v objects) }
     ensures given_back { IfErr result (λ back. P.state back.0 ≡ P.state pages) }
 {
     PageVolume::new(alloc, pages, table, read_only)

@@ -62,7 +62,7 @@ impl<N: Nand> Volume<N> {
         };
         match join(alloc, pages, table, read_only) {
             Ok(volume) => Ok(Volume { volume }),
-            Err((pages, _)) => Err((pages.into_device(), MountFault::NoMemory)),
+            Err((pages, _)) => Err(mounting::refused(pages.into_device())),
         }
     }
 }

@@ -55,6 +55,9 @@ impl<N: Nand> Volume<N> {
             → Shown z (⟦<FlashPages<N> as Pages>⟧.state (pages_of (over_pages self.new))) (settled s.objects) }
         ensures cause { is_stopped (over_pages self.old) ≡ false → (z : Sizes) (s : State) → IsVolumeOf ⟦<FlashPages<N> as Pages>⟧.state z s (over_pages self.old) → is_stop result ≡ true
             → HasEnded (⟦<FlashPages<N> as Pages>⟧.state (pages_of (over_pages self.new))) }
+        // Where memory was refused the device has power.
+        ensures power { is_stopped (over_pages self.old) ≡ false → (z : Sizes) (s : State) → IsVolumeOf ⟦<FlashPages<N> as Pages>⟧.state z s (over_pages self.old) → result ≡ replies.Error errors.ENOMEM
+            → (⟦<FlashPages<N> as Pages>⟧.state (pages_of (over_pages self.new))).device.gone ≡ false }
         // What only tells, and what is answered by another error, only reads.
         ensures reads { is_stopped (over_pages self.old) ≡ false → (z : Sizes) (s : State) → IsVolumeOf ⟦<FlashPages<N> as Pages>⟧.state z s (over_pages self.old) → OnlyTells stamped.now result
             → StaysAs (⟦<FlashPages<N> as Pages>⟧.state (pages_of (over_pages self.old))) (⟦<FlashPages<N> as Pages>⟧.state (pages_of (over_pages self.new))) }

@@ -8,7 +8,7 @@ use Rattle.posix_profile.specs.State.{Object, Objects}
 use Rattle.posix_profile.specs.Charge.{cost, charge}
 use Rattle.flash_tree.specs.Tree.{IsSingle, IsPageSize, Shows}
 use Rattle.pages.specs.Maps.{PageMap, has}
-use Rattle.tree_walk.specs.Trees.{IsTreeOf, head_at, names_of, numbers_of}
+use Rattle.tree_walk.specs.Trees.{IsTreeThrough, head_at, names_of, objects_listed}
 use Rattle.tree_walk.specs.Walks.{IsOn, IsOnce}
 use Rattle.tree_walk.specs.declared.head.Head.{Head}
 use Rattle.tree_walk.specs.declared.tree.Tree.{Tree}
@@ -21,15 +21,15 @@ use Rattle.tree_table.proofs.Whole as list
 pub single : (m : PageMap) → IsSingle (has m)
 single m o n xs ys x y = let two : Some xs ≡ Some ys = sym x ∙ y in cc
 
-module _ (z : Sizes) (size : IsPageSize z.page_bytes) (m : PageMap) (tree : Tree) (objects : Objects) (of : IsTreeOf z (has m) tree) (shown : Shows z (has m) objects) where
-  pub once : IsOnce (numbers_of tree)
-  once = list.once z size (has m) (single m) objects shown (numbers_of tree) of.through
+module _ (z : Sizes) (size : IsPageSize z.page_bytes) (m : PageMap) (tree : Tree) (objects : Objects) (of : IsTreeThrough z (has m) tree) (shown : Shows z (has m) objects) where
+  pub once : IsOnce (objects_listed tree)
+  once = list.once z size (has m) (single m) objects shown (objects_listed tree) of.through
 
-  pub there : (i o : ℕ) → slice_get (numbers_of tree) i ≡ Some o → (x : Object) × (map.get objects o ≡ Some x)
-  there = list.there z size (has m) (single m) objects shown (numbers_of tree) of.through
+  pub there : (i o : ℕ) → slice_get (objects_listed tree) i ≡ Some o → (x : Object) × (map.get objects o ≡ Some x)
+  there = list.there z size (has m) (single m) objects shown (objects_listed tree) of.through
 
-  pub listed : (o : ℕ) (x : Object) → map.get objects o ≡ Some x → IsOn (numbers_of tree) o
-  listed = list.listed z size (has m) (single m) objects shown (numbers_of tree) of.through
+  pub listed : (o : ℕ) (x : Object) → map.get objects o ≡ Some x → IsOn (objects_listed tree) o
+  listed = list.listed z size (has m) (single m) objects shown (objects_listed tree) of.through
 
   -- the header of an object
   pub head_of : (o : ℕ) (x : Object) → map.get objects o ≡ Some x → (head : Head) × (head_at tree o ≡ Some head) × IsHeaderOfObject head x
@@ -38,17 +38,17 @@ module _ (z : Sizes) (size : IsPageSize z.page_bytes) (m : PageMap) (tree : Tree
       let h = of.heads.each on.0 o on.1 in
       (h.0, h.1, said z size (has m) (single m) o h.0 x (of.heads.says o h.0 h.1) (shown.each o x is))
 
-  pub charged : sum_by (told_cost z tree) (numbers_of tree) ≡ charge z objects
-  charged = summed (cost z) (told_cost z tree) (numbers_of tree) objects once (λ i o at.
+  pub charged : sum_by (told_cost z tree) (objects_listed tree) ≡ charge z objects
+  charged = summed (cost z) (told_cost z tree) (objects_listed tree) objects once (λ i o at.
       let x = there i o at in
       let h = head_of o x.0 x.1 in
       (x.0, x.1, ap (λ (head : Option Head). option_map_or (head_cost z) head 0) h.1 ∙ costs_as z h.0 x.0 h.2)) listed
 
 -- the slots of a tree's names
-pub slots_of : (z : Sizes) (size : IsPageSize z.page_bytes) (m : PageMap) (tree : Tree) (objects : Objects) → IsTreeOf z (has m) tree → Shows z (has m) objects
-    → (all : List NamedSlot) × AreSlotsOf objects (numbers_of tree) (length (numbers_of tree)) all (names_of tree)
-slots_of z size m tree objects of shown = all_slots z size (has m) (single m) objects shown (numbers_of tree) (once z size m tree objects of shown) (there z size m tree objects of shown)
-    (length (numbers_of tree)) (names_of tree) of.names
+pub slots_of : (z : Sizes) (size : IsPageSize z.page_bytes) (m : PageMap) (tree : Tree) (objects : Objects) → IsTreeThrough z (has m) tree → Shows z (has m) objects
+    → (all : List NamedSlot) × AreSlotsOf objects (objects_listed tree) (length (objects_listed tree)) all (names_of tree)
+slots_of z size m tree objects of shown = all_slots z size (has m) (single m) objects shown (objects_listed tree) (once z size m tree objects of shown) (there z size m tree objects of shown)
+    (length (objects_listed tree)) (names_of tree) of.names
 
 -- pages of a volume's sizes
 pub page_size : (z : Sizes) → IsSizes z → IsPageSize z.page_bytes

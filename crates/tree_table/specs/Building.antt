@@ -11,7 +11,7 @@ use Rattle.posix_profile.specs.declared.reply.Kind.{Kind}
 use Rattle.posix_profile.specs.declared.reply.Kind.TheVariants as kinds
 use Rattle.flash_tree.specs.Tree.{Shows}
 use Rattle.pages.specs.Maps.{PageMap, has}
-use Rattle.tree_walk.specs.Trees.{IsTreeOf}
+use Rattle.tree_walk.specs.Trees.{IsTreeThrough}
 use Rattle.tree_walk.specs.declared.tree.Tree.{Tree}
 
 -- the kind that a header says
@@ -22,7 +22,7 @@ kind_as headers.Directory = kinds.Directory
 -- the pages show these objects, which a volume can have, and the tree of the pages was gone through
 pub record IsShown (z : Sizes) (m : PageMap) (tree : Tree) (objects : Objects) : Type 0 where
   pub sizes : IsSizes z
-  pub tree_of : IsTreeOf z (has m) tree
+  pub tree_of : IsTreeThrough z (has m) tree
   pub shows : Shows z (has m) objects
   pub fit : fits z objects ≡ true
 

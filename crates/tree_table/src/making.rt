@@ -6,8 +6,8 @@ ghost use Rattle.posix_profile.specs.State.{Objects};
 ghost use Rattle.posix_profile.specs.Charge.{fits};
 ghost use Rattle.flash_tree.specs.Tree.{Shows};
 ghost use Rattle.pages.specs.Maps.{PageMap, has};
-ghost use Rattle.object_table.specs.Told.{sizes_of, Tells};
-ghost use Rattle.tree_walk.specs.Trees.{IsTreeOf};
+ghost use Rattle.object_table.specs.Told.{table_sizes, Tells};
+ghost use Rattle.tree_walk.specs.Trees.{IsTreeThrough};
 
 use crate::names::insert_names;
 use crate::objects::insert_objects;
@@ -18,8 +18,8 @@ use volume_terms::VolumeSizes;
 
 /// The table of the objects of a tree.
 pub fn table(alloc: Global, tree: &Tree, sizes: VolumeSizes) -> Result<ObjectTable, AllocError>
-    ensures size { IfOk result (λ table. sizes_of table ≡ volume.sizes_of sizes) }
-    ensures tells { (m : PageMap) (objects : Objects) → IsSizes (volume.sizes_of sizes) → IsTreeOf (volume.sizes_of sizes) (has m) tree.now
+    ensures size { IfOk result (λ table. table_sizes table ≡ volume.sizes_of sizes) }
+    ensures tells { (m : PageMap) (objects : Objects) → IsSizes (volume.sizes_of sizes) → IsTreeThrough (volume.sizes_of sizes) (has m) tree.now
         → Shows (volume.sizes_of sizes) (has m) objects → fits (volume.sizes_of sizes) objects ≡ true → IfOk result (λ table. Tells table objects) }
 {
     let mut builder = TableBuilder::new(alloc, sizes);

@@ -15,7 +15,7 @@ use Rattle.pages.specs.Maps.{PageMap, has}
 use Rattle.volume_terms.specs.Sizes.{Sizes, page_slots}
 use Rattle.volume_terms.specs.laws.Rounding.{part_begins, parts_reach}
 use Rattle.tree_walk.specs.Heads.{IsHeadOf, head_looks_up, kind_looks_up}
-use Rattle.tree_walk.specs.Trees.{Tells, IsLookedUp, head_at, keeps_key, numbers_of, page_size}
+use Rattle.tree_walk.specs.Trees.{TellsHeads, IsLookedUp, head_at, keeps_key, objects_listed, page_size}
 use Rattle.tree_walk.specs.declared.head.Head.{Head}
 use Rattle.tree_walk.specs.declared.tree.Tree.{Tree}
 use Rattle.tree_walk.proofs.Seeing.{single}
@@ -53,8 +53,8 @@ module _ (z : Sizes) (f : Fields) (head : Head) (is : IsHeadOf head f) (chunk : 
           absurd (omega (arith, all, div-mul-le_self i n, lt, is.length_is))
     ]
 
-module _ (z : Sizes) (size : IsPageSize z.page_bytes) (m : PageMap) (tree : Tree) (tells : Tells z (has m) tree) (o chunk : ℕ) where
-  pub head_looks : (head : Head) → head_at tree o ≡ Some head → (b : Bool) → ((f : Fields) → IsHeadOf head f → IsTrue b ↔ LooksUp z f chunk) → IsTrue b ↔ IsLookedUp z (has m) (numbers_of tree) o chunk
+module _ (z : Sizes) (size : IsPageSize z.page_bytes) (m : PageMap) (tree : Tree) (tells : TellsHeads z (has m) tree) (o chunk : ℕ) where
+  pub head_looks : (head : Head) → head_at tree o ≡ Some head → (b : Bool) → ((f : Fields) → IsHeadOf head f → IsTrue b ↔ LooksUp z f chunk) → IsTrue b ↔ IsLookedUp z (has m) (objects_listed tree) o chunk
   head_looks head there b looks =
       let says = tells.says o head there in
       let on = tells.only o head there in (
@@ -64,7 +64,7 @@ module _ (z : Sizes) (size : IsPageSize z.page_bytes) (m : PageMap) (tree : Tree
             (looks says.0 says.2).1 (subst (λ (f : Fields). LooksUp z f chunk) same l.looks),
       )
 
-  pub none_looks : head_at tree o ≡ None → (b : Bool) → b ≡ false → IsTrue b ↔ IsLookedUp z (has m) (numbers_of tree) o chunk
+  pub none_looks : head_at tree o ≡ None → (b : Bool) → b ≡ false → IsTrue b ↔ IsLookedUp z (has m) (objects_listed tree) o chunk
   none_looks none b off = (λ t. absurd (let two : false ≡ true = sym off ∙ t in cc), λ l. absurd (let h = tells.each l.place o l.listed in let two : None ≡ Some h.0 = sym none ∙ h.1 in cc))
 
 -- what the header says of a chunk, by its kind
@@ -81,8 +81,8 @@ chunk_looks z f head is some c = elim (cases_eq c 0) [
       subst (λ (b : Bool). IsTrue b ↔ LooksUp z f c) (sym (ap (λ b. b || kind_looks_up z.page_bytes head head.kind c) off)) (kind_looks z f head is some c (omega (arith, ne)) head.kind refl)
 ]
 
-pub keys_are_told : (z : Sizes) (m : PageMap) (tree : Tree) → z.page_bytes ≡ page_size tree → Tells z (has m) tree
-    → (o c : ℕ) → (keeps_key tree o c ≡ true) ↔ IsLookedUp z (has m) (numbers_of tree) o c
+pub keys_are_told : (z : Sizes) (m : PageMap) (tree : Tree) → z.page_bytes ≡ page_size tree → TellsHeads z (has m) tree
+    → (o c : ℕ) → (keeps_key tree o c ≡ true) ↔ IsLookedUp z (has m) (objects_listed tree) o c
 keys_are_told z m tree size tells o c = go (head_at tree o) refl where
   page : IsPageSize z.page_bytes
   page = record { least = omega (arith, size, tree.least); most = omega (arith, size, tree.most) }
@@ -90,7 +90,7 @@ keys_are_told z m tree size tells o c = go (head_at tree o) refl where
   some : 1 ≤ page_slots z
   some = omega (arith, size, tree.least)
 
-  go : (h : Option Head) → head_at tree o ≡ h → (keeps_key tree o c ≡ true) ↔ IsLookedUp z (has m) (numbers_of tree) o c
+  go : (h : Option Head) → head_at tree o ≡ h → (keeps_key tree o c ≡ true) ↔ IsLookedUp z (has m) (objects_listed tree) o c
   go None at = none_looks z page m tree tells o c at (keeps_key tree o c) (ap (λ (h : Option Head). option_map_or (λ head. head_looks_up (page_size tree) head c) h false) at)
   go (Some head) at =
       let is : keeps_key tree o c ≡ head_looks_up z.page_bytes head c = ap (λ (h : Option Head). option_map_or (λ head. head_looks_up (page_size tree) head c) h false) at ∙ ap (λ d. head_looks_up d head c) (sym size) in

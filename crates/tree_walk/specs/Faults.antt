@@ -28,19 +28,19 @@ of_header headers.Length = faults.Damaged
 of_header headers.Pad = faults.Damaged
 
 -- each fault only where its cause is given: want of memory, what is wrong with the pages; the device has failed
-abbrev pub Tells : Type 0 → (Wrong → Type 0) → PagesState → WalkFault → Type 0
-Tells memory amiss new faults.NoMemory = memory
-Tells memory amiss new faults.Device = new.failed ≡ true
-Tells memory amiss new (faults.Newer format) = amiss (IsNewer format)
-Tells memory amiss new faults.Damaged = amiss IsDamaged
+abbrev pub WalkFailsBy : Type 0 → (Wrong → Type 0) → PagesState → WalkFault → Type 0
+WalkFailsBy memory amiss new faults.NoMemory = memory
+WalkFailsBy memory amiss new faults.Device = new.failed ≡ true
+WalkFailsBy memory amiss new (faults.Newer format) = amiss (IsNewer format)
+WalkFailsBy memory amiss new faults.Damaged = amiss IsDamaged
 
 -- a call that takes memory, where this is wrong with the pages
 abbrev pub TellsWrong : (Wrong → Type 0) → PagesState → WalkFault → Type 0
-TellsWrong amiss new = Tells (Unit {0}) amiss new
+TellsWrong amiss new = WalkFailsBy (Unit {0}) amiss new
 
 -- and where nothing is known of them
 abbrev pub TellsWhy : PagesState → WalkFault → Type 0
-TellsWhy new = Tells (Unit {0}) (λ wrong. Unit {0}) new
+TellsWhy new = WalkFailsBy (Unit {0}) (λ wrong. Unit {0}) new
 
 -- what a fault says of the root's header: that there is none, or what is wrong with it
 abbrev pub TellsRoot : Geometry → NewestMap → RootFault → Type 0

@@ -13,8 +13,8 @@ use Rattle.tree_walk.specs.declared.tree.NamedObject.{NamedObject}
 use Rattle.tree_walk.specs.declared.tree.Tree.{Tree}
 
 -- the objects, in the order in which they were gone through
-abbrev pub numbers_of : Tree → List ℕ
-numbers_of tree = tree.objects.items
+abbrev pub objects_listed : Tree → List ℕ
+objects_listed tree = tree.objects.items
 
 -- what is told of an object's header
 abbrev pub head_at : Tree → ℕ → Option Head
@@ -49,12 +49,12 @@ AreNamesOf z m list (suc n) names =
 
 -- the names of a tree are those of all its objects
 abbrev pub HasNames : Sizes → NewestMap → Tree → Type 0
-HasNames z m tree = AreNamesOf z m (numbers_of tree) (length (numbers_of tree)) (names_of tree)
+HasNames z m tree = AreNamesOf z m (objects_listed tree) (length (objects_listed tree)) (names_of tree)
 
 -- of each object of the list, and of no other, it is told what its header says
-pub record Tells (z : Sizes) (m : NewestMap) (tree : Tree) : Type 0 where
-  pub each : (i o : ℕ) → slice_get (numbers_of tree) i ≡ Some o → (head : Head) × (head_at tree o ≡ Some head)
-  pub only : (o : ℕ) (head : Head) → head_at tree o ≡ Some head → (i : ℕ) × (slice_get (numbers_of tree) i ≡ Some o)
+pub record TellsHeads (z : Sizes) (m : NewestMap) (tree : Tree) : Type 0 where
+  pub each : (i o : ℕ) → slice_get (objects_listed tree) i ≡ Some o → (head : Head) × (head_at tree o ≡ Some head)
+  pub only : (o : ℕ) (head : Head) → head_at tree o ≡ Some head → (i : ℕ) × (slice_get (objects_listed tree) i ≡ Some o)
   pub says : (o : ℕ) (head : Head) → head_at tree o ≡ Some head → SaysHead z m o head
 
 -- the page of the key is looked up to see the objects of the list
@@ -72,8 +72,8 @@ IsWrongTree z m wrong =
     ⊎ ((wrong ≡ IsDamaged) × ((list : List ℕ) × GoesThrough z m (root_number ∷ []) 0 (Wholly list) × NamesTwice z m list))
 
 -- The tree of these pages was gone through wholly: no directory is named twice, and all is told that the tree keeps of them.
-pub record IsTreeOf (z : Sizes) (m : NewestMap) (tree : Tree) : Type 0 where
-  pub through : GoesThrough z m (root_number ∷ []) 0 (Wholly (numbers_of tree))
-  pub once : NamesTwice z m (numbers_of tree) → ⊥
-  pub heads : Tells z m tree
+pub record IsTreeThrough (z : Sizes) (m : NewestMap) (tree : Tree) : Type 0 where
+  pub through : GoesThrough z m (root_number ∷ []) 0 (Wholly (objects_listed tree))
+  pub once : NamesTwice z m (objects_listed tree) → ⊥
+  pub heads : TellsHeads z m tree
   pub names : HasNames z m tree

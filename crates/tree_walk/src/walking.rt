@@ -7,7 +7,7 @@ ghost use Rattle.pages.specs.State.{OnlyFinds};
 ghost use Rattle.volume_terms.specs.Sizes.{Sizes, root_number};
 ghost use Rattle.tree_walk.specs.Faults.{TellsWhy, TellsWrong};
 ghost use Rattle.tree_walk.specs.Visits.{IsSeen};
-ghost use Rattle.tree_walk.specs.Trees.{Tells, HasNames, IsWrongTree, named_in, numbers_of, page_size};
+ghost use Rattle.tree_walk.specs.Trees.{TellsHeads, HasNames, IsWrongTree, named_in, objects_listed, page_size};
 ghost use Rattle.tree_walk.specs.Walks.{Begins, HasAgain, HasHead, IsGoing, IsDirectoryAgain, Knows, Puts, Visits};
 ghost use Rattle.tree_walk.specs.declared.fault.WalkFault.TheVariants as faults;
 
@@ -25,11 +25,11 @@ use volume_terms::ROOT;
 pub fn walk<P: KnownPages>(alloc: Global, pages: &mut P) -> Result<Tree, WalkFault>
     ensures finds { OnlyFinds (P.state pages.old) (P.state pages.new) }
     ensures through { (z : Sizes) → IsSeen z (P.state pages.old)
-        → IfOk result (λ tree. GoesThrough z (has (P.state pages.old).present) (root_number ∷ []) 0 (Wholly (numbers_of tree))) }
+        → IfOk result (λ tree. GoesThrough z (has (P.state pages.old).present) (root_number ∷ []) 0 (Wholly (objects_listed tree))) }
     ensures once { (z : Sizes) → IsSeen z (P.state pages.old)
-        → IfOk result (λ tree. NamesTwice z (has (P.state pages.old).present) (numbers_of tree) → ⊥) }
+        → IfOk result (λ tree. NamesTwice z (has (P.state pages.old).present) (objects_listed tree) → ⊥) }
     ensures size { IfOk result (λ tree. page_size tree ≡ (P.state pages.old).page_bytes) }
-    ensures heads { (z : Sizes) → IsSeen z (P.state pages.old) → IfOk result (Tells z (has (P.state pages.old).present)) }
+    ensures heads { (z : Sizes) → IsSeen z (P.state pages.old) → IfOk result (TellsHeads z (has (P.state pages.old).present)) }
     ensures names { (z : Sizes) → IsSeen z (P.state pages.old) → IfOk result (HasNames z (has (P.state pages.old).present)) }
     ensures fault { (z : Sizes) → IsSeen z (P.state pages.old)
         → IfErr result (TellsWrong (IsWrongTree z (has (P.state pages.old).present)) (P.state pages.new)) }

@@ -52,6 +52,7 @@ fused_lawful m law inner calls last = record {
     | inl lost ↦ inl (lost_wide m (calls b) (last b) (inner a) (inner b) old new lost)
     | inr more ↦ inr (law.fails_wide (inner a) (inner b) old new more)
   ];
+  powerless_fails = λ a b old new x lost. inr (law.powerless_fails (inner a) (inner b) old new x.0 lost);
   fails_shows = λ a b old new fails. elim fails [
     | inl lost ↦ left_shows m law (inner a) (inner b) (last b) old lost.now lost.left
     | inr more ↦ law.fails_shows (inner a) (inner b) old new more

@@ -16,6 +16,7 @@ refusing_lawful m law inner = record {
   changes_shows = λ a b old new. law.changes_shows (inner a) (inner b) old new;
   fails_on = λ a b c old new. law.fails_on (inner a) (inner b) (inner c) old new;
   fails_wide = λ a b old new. law.fails_wide (inner a) (inner b) old new;
+  powerless_fails = λ a b old new. law.powerless_fails (inner a) (inner b) old new;
   fails_shows = λ a b old new. law.fails_shows (inner a) (inner b) old new;
   commits_on = λ a b c objects. law.commits_on (inner a) (inner b) (inner c) objects;
   commits_shows = λ a b objects. law.commits_shows (inner a) (inner b) objects;

@@ -61,7 +61,8 @@ pub error_unsynced : (command : Command) (e : Errno) → is_synced command (repl
 error_unsynced command e is = let done = (synced_is command (replies.Error e) is).1 in absurd cc
 
 -- One command, from the state that the volume stands for: its reply, what it leaves of the tree that a mount shows, and the
--- state. One that tells, or that is answered by an error, only reads.
+-- state. One that tells, or that is answered by an error, only reads; one that is answered by want of memory leaves a device
+-- with power.
 pub record One {S : Type 0} (m : Meaning S) (z : Sizes) (read_only : Bool) (s : State) (c : Stamped) (r : Reply) (a b : Volume S) : Type 0 where
   pub replies : Replies z read_only s c r
   pub loss : KeepsOrSettles m s.objects a.store b.store
@@ -70,6 +71,7 @@ pub record One {S : Type 0} (m : Meaning S) (z : Sizes) (read_only : Bool) (s : 
   pub fails : is_stop r ≡ true → m.fails s.objects (step z read_only s c).state.objects a.store b.store
   pub state : is_stop r ≡ false → IsAt m z (after_one z read_only s c r) b
   pub reads : is_stop r ≡ false → (class_of c.command ≡ Telling) ⊎ (is_error r ≡ true) → m.reads a.store b.store
+  pub power : is_no_memory r ≡ true → m.has_power b.store ≡ true
 
 pub one_ends : {S : Type 0} (m : Meaning S) (law : IsLawful m) (z : Sizes) (read_only : Bool) (s : State) (c : Stamped) (r : Reply) (a b : Volume S)
     → CommandEnds m z (class_of c.command) (takes_no_memory c.command) s (step z read_only s c) a b r → One m z read_only s c r a b
@@ -90,6 +92,7 @@ one_ends m law z read_only s c r a b (inl done) =
       fails = λ stop. absurd (true≢false (sym stop ∙ goes));
       state = λ _. subst (λ x. IsAt m z x b) (sym is) done.state;
       reads = λ _ why. leaves_reads m (class_of c.command) o.reply s.objects o.state.objects a.store b.store done.left (why_meant why);
+      power = λ refused. absurd (true≢false (sym refused ∙ memory));
     }
 one_ends m law z read_only s c r a b (inr (inl passed)) =
     let memory : is_no_memory r ≡ true = ap is_no_memory passed.1.reply in
@@ -101,6 +104,7 @@ one_ends m law z read_only s c r a b (inr (inl passed)) =
       fails = λ stop. absurd (true≢false (sym stop ∙ ap is_stop passed.1.reply));
       state = λ _. subst (λ x. IsAt m z x b) (sym (cond-true _ _ _ memory)) passed.1.state;
       reads = λ _ _. passed.1.left;
+      power = λ _. passed.1.power;
     }
 one_ends m law z read_only s c r a b (inr (inr stopped)) = record {
   replies = inr (inr (ap is_stop stopped.reply));
@@ -110,4 +114,5 @@ one_ends m law z read_only s c r a b (inr (inr stopped)) = record {
   fails = λ stop. stopped.left;
   state = λ goes. absurd (true≢false (sym (ap is_stop stopped.reply) ∙ goes));
   reads = λ goes _. absurd (true≢false (sym (ap is_stop stopped.reply) ∙ goes));
+  power = λ refused. absurd (true≢false (sym refused ∙ ap is_no_memory stopped.reply));
 }

@@ -1,5 +1,5 @@
 -- The words of a store of objects over pages fit together.
-use Rattle.std.specs.Prelude.{◌≡◌, ◌⊎◌}
+use Rattle.std.specs.Prelude.{◌≡◌, ◌⊎◌, Bool, true, false, not}
 use Rattle.std.proofs.Common.{refl, sym, ◌∙◌, ap, subst, inl, inr}
 use Rattle.std.specs.FinMap as map
 use Rattle.volume_terms.specs.Sizes.{Sizes}
@@ -7,14 +7,14 @@ use Rattle.posix_profile.specs.State.{Objects}
 use Rattle.posix_profile.specs.Charge.{charge}
 use Rattle.object_store.specs.Stores.{IsLawful, settled}
 use Rattle.object_table.specs.Facts.{IsTold}
-use Rattle.object_table.specs.Told.{sizes_of, Tells, TellsTheSame}
+use Rattle.object_table.specs.Told.{table_sizes, Tells, TellsTheSame}
 use Rattle.object_table.specs.declared.table.ObjectTable.{ObjectTable}
 use Rattle.pages.specs.State.{PagesState}
-use Rattle.paged_objects.specs.Standing.{Stands, Shown}
+use Rattle.paged_objects.specs.Standing.{StandsFor, Shown}
 use Rattle.paged_objects.specs.Ending.{Changes, Fails, Commits}
 use Rattle.paged_objects.specs.Meaning.{paged_meaning}
 use Rattle.paged_objects.specs.laws.Going.{stays_here, stays_on, stays_goes, goes_on}
-use Rattle.paged_objects.specs.laws.Showing.{stays_shown, stays_stands, changes_after, fails_after, commits_after}
+use Rattle.paged_objects.specs.laws.Showing.{stays_shown, stays_stands, changes_after, fails_after, commits_after, read_fails}
 
 -- a table that tells the same
 pub same_here : (t : ObjectTable) → TellsTheSame t t
@@ -28,6 +28,11 @@ tells_on a b objects same tells = record {
   each = λ o. subst (IsTold objects o (map.get objects o)) (sym (same.each o)) (tells.each o);
   charge = same.charge ∙ tells.charge ∙ ap (λ z. charge z objects) (sym same.sizes);
 }
+
+-- what has no power is gone
+powerless : (gone : Bool) → not gone ≡ false → gone ≡ true
+powerless true lost = refl
+powerless false lost = let two : true ≡ false = lost in absurd cc
 
 -- what is shown, for sizes that are the same
 shown_at : (z y : Sizes) (p : PagesState) (tree : Objects) → y ≡ z → Shown z p tree → Shown y p tree
@@ -46,7 +51,7 @@ paged_lawful {S} {P} state pages table = record {
   lasts_on = λ a b c x y. (goes_on (at a) (at b) (at c) x.0 y.0, y.1 ∙ x.1);
   lasts_sizes = λ a b x. x.1;
   reads_stands = λ a b objects x stands. (
-    subst (λ (z : Sizes). Stands z (at b) objects) (sym x.1.sizes) (stays_stands (z a) (at a) (at b) objects x.0 stands.0),
+    subst (λ (z : Sizes). StandsFor z (at b) objects) (sym x.1.sizes) (stays_stands (z a) (at a) (at b) objects x.0 stands.0),
     tells_on (table a) (table b) objects x.1 stands.1,
   );
   reads_shows = λ a b tree x shown. shown_at (z a) (z b) (at b) tree x.1.sizes (stays_shown (z a) (at a) (at b) tree x.0 shown);
@@ -60,6 +65,7 @@ paged_lawful {S} {P} state pages table = record {
     y.1 ∙ x.1.sizes,
   );
   fails_wide = λ a b old new x. x;
+  powerless_fails = λ a b old new x lost. (read_fails (z a) (at a) (at b) old x.0 (inl (powerless (at b).device.gone lost)), x.1.sizes);
   fails_shows = λ a b old new x tree shown. either_at (z a) (z b) (at b) tree (settled old) x.1 (x.0.turns tree shown);
   commits_on = λ a b c objects x y. (
     commits_after (z a) (at a) (at b) (at c) objects x.0 (subst (λ (k : Sizes). Commits k objects (at b) (at c)) x.1.sizes y.0),
@@ -72,4 +78,4 @@ paged_lawful {S} {P} state pages table = record {
     at s = state (pages s)
 
     z : S → Sizes
-    z s = sizes_of (table s)
+    z s = table_sizes (table s)

@@ -13,9 +13,10 @@ use Rattle.object_store.specs.Stores.{settled}
 use Rattle.pages.specs.Maps.{PageMap}
 use Rattle.pages.specs.State.{PagesState}
 use Rattle.pages.specs.Stores.{Carries, HasPage, HasNumbersLeft, HasFailed, IsCarried, SamePages, GoesOn, KeptAs, KeepsEither}
-use Rattle.object_pages.specs.Holding.{HoldsObjects, HoldsIn, CanHave}
+use Rattle.object_pages.specs.Holding.{HoldsObjects, HoldsIn}
+use Rattle.object_store.specs.Stores.{CanHave}
 use Rattle.object_pages.specs.laws.Holding.{same_objects}
-use Rattle.paged_objects.specs.Standing.{volume_of, Stands, Shown}
+use Rattle.paged_objects.specs.Standing.{volume_of, StandsFor, Shown}
 use Rattle.paged_objects.specs.Ending.{StaysAs, Turns, Changes, Fails, Commits}
 use Rattle.paged_objects.specs.laws.Going.{stays_goes, goes_on, volume_on}
 
@@ -45,7 +46,7 @@ stays_shown z p q tree stays shown = record {
 }
 
 -- and hold the same objects
-pub stays_stands : (z : Sizes) (p q : PagesState) (objects : Objects) → StaysAs p q → Stands z p objects → Stands z q objects
+pub stays_stands : (z : Sizes) (p q : PagesState) (objects : Objects) → StaysAs p q → StandsFor z p objects → StandsFor z q objects
 stays_stands z p q objects stays stands = record {
   sound = stays.sound ∙ stands.sound;
   sizes = volume_on p q (stays_goes p q stays) ∙ stands.sizes;
@@ -56,7 +57,7 @@ stays_stands z p q objects stays stands = record {
 }
 
 -- what objects stand in is what their changes are planned from
-pub holds_in : (z : Sizes) (p : PagesState) (objects : Objects) → Stands z p objects → HoldsIn p z objects
+pub holds_in : (z : Sizes) (p : PagesState) (objects : Objects) → StandsFor z p objects → HoldsIn p z objects
 holds_in z p objects stands = record { sound = stands.sound; size = sym stands.page_bytes; holds = stands.holds }
 
 -- the tree that a mount shows after a call
@@ -65,8 +66,8 @@ tree_after z q tree other (inl first) = (tree, first)
 tree_after z q tree other (inr second) = (other, second)
 
 -- after a change that was made the store has the new objects
-pub changed_stands : (z : Sizes) (p q : PagesState) (old new : Objects) (m : PageMap) → GoesOn p q → Stands z p old → q.sound ≡ true → HoldsObjects z m new → SamePages q.present m
-    → Turns z old p q → Stands z q new
+pub changed_stands : (z : Sizes) (p q : PagesState) (old new : Objects) (m : PageMap) → GoesOn p q → StandsFor z p old → q.sound ≡ true → HoldsObjects z m new → SamePages q.present m
+    → Turns z old p q → StandsFor z q new
 changed_stands z p q old new m goes stands sound holds same turns = record {
   sound = sound;
   sizes = volume_on p q goes ∙ stands.sizes;
@@ -103,7 +104,7 @@ still_shown z p q tree goes sound kept shown = record {
 }
 
 -- kept as they were, or as they are present: the tree that was shown, or the settled objects
-pub either_turns : (z : Sizes) (p q : PagesState) (objects : Objects) → GoesOn p q → Stands z p objects → CanHave z objects → KeepsEither p q → Turns z objects p q
+pub either_turns : (z : Sizes) (p q : PagesState) (objects : Objects) → GoesOn p q → StandsFor z p objects → CanHave z objects → KeepsEither p q → Turns z objects p q
 either_turns z p q objects goes stands can (inl kept) tree shown = inl (still_shown z p q tree goes stands.sound kept shown)
 either_turns z p q objects goes stands can (inr present) tree shown = inr (kept_shown z q p.present objects (volume_on p q goes ∙ stands.sizes) present stands.holds can)
 

@@ -1,5 +1,6 @@
 -- The store of maps is lawful.
 use Rattle.std.proofs.Common.{refl, ◌∙◌, inl}
+use Rattle.std.specs.Prelude.{◌≡◌, true, false}
 use Rattle.object_store.specs.Stores.{IsLawful}
 use Rattle.plain_objects.specs.PlainMeaning.{plain_meaning}
 
@@ -17,6 +18,7 @@ plain_lawful = record {
   changes_shows = λ a b old new changes tree shown. inl tt;
   fails_on = λ a b c old new reads fails. fails;
   fails_wide = λ a b old new fails. fails;
+  powerless_fails = λ a b old new reads lost. let two : true ≡ false = lost in absurd cc;
   fails_shows = λ a b old new fails tree shown. absurd fails;
   commits_on = λ a b c objects reads commits. tt;
   commits_shows = λ a b objects commits. tt;

@@ -4,7 +4,7 @@ use Rattle.flash_tree.specs.Places.{numbers_of}
 use Rattle.flash_tree.specs.Tree.{Shows}
 use Rattle.block_state.specs.TableOf.{table}
 use Rattle.pages.specs.Maps.{has}
-use Rattle.tree_walk.specs.Trees.{IsTreeOf, keeps_key}
+use Rattle.tree_walk.specs.Trees.{IsTreeThrough, keeps_key}
 use Rattle.volume_terms.specs.Sizes.{Sizes, capacity}
 use Rattle.volume_terms.specs.VolumeSizes as volume
 use Rattle.posix_profile.specs.Charge as costs
@@ -42,7 +42,7 @@ returns-then-not-fits-clause-none g c = λ honest.
     let sized = g.met.N.Nand.sized on.device honest in
     let shown = shows laws d (table on.blocks) on.index (numbers_of on.numbers) on.spare on.tree within sized c.requires.read.tables honest tree_on in
     let z : volume.sizes_of c.in-Some.sizes ≡ sizes_of d.geometry on.spare = subst (λ k. volume.sizes_of c.in-Some.sizes ≡ sizes_of k on.spare) c.geometry.ensures c.in-Some.ensures.sizes in
-    let told = c.fits.ensures tree_on.pages shown.0 (subst (λ (k : Sizes). IsTreeOf k (has tree_on.pages) on.tree) (sym z) tree_on.through.tree_is) (subst (λ (k : Sizes). Shows k (has tree_on.pages) shown.0) (sym z) shown.1) in
+    let told = c.fits.ensures tree_on.pages shown.0 (subst (λ (k : Sizes). IsTreeThrough k (has tree_on.pages) on.tree) (sym z) tree_on.through.tree_is) (subst (λ (k : Sizes). Shows k (has tree_on.pages) shown.0) (sym z) shown.1) in
     answers_full laws d (table on.blocks) on.index (numbers_of on.numbers) on.spare on.tree within sized c.requires.read.tables honest tree_on shown.0 shown.1
     (λ le.
     let two : IsTrue false = subst (λ b. IsTrue b) c.if-not-fits.true (told.1 (subst (λ (k : Sizes). costs.charge k shown.0 ≤ capacity k) (sym z) le)) in
@@ -94,7 +94,7 @@ returns-clause-tree g c = λ honest.
     let sized = g.met.N.Nand.sized on.device honest in
     let shown = shows laws d (table on.blocks) on.index (numbers_of on.numbers) on.spare on.tree within sized c.requires.read.tables honest tree_on in
     let z : volume.sizes_of c.in-Some.sizes ≡ sizes_of d.geometry on.spare = subst (λ k. volume.sizes_of c.in-Some.sizes ≡ sizes_of k on.spare) c.geometry.ensures c.in-Some.ensures.sizes in
-    let told = c.fits.ensures tree_on.pages shown.0 (subst (λ (k : Sizes). IsTreeOf k (has tree_on.pages) on.tree) (sym z) tree_on.through.tree_is) (subst (λ (k : Sizes). Shows k (has tree_on.pages) shown.0) (sym z) shown.1) in
+    let told = c.fits.ensures tree_on.pages shown.0 (subst (λ (k : Sizes). IsTreeThrough k (has tree_on.pages) on.tree) (sym z) tree_on.through.tree_is) (subst (λ (k : Sizes). Shows k (has tree_on.pages) shown.0) (sym z) shown.1) in
     let le = told.0 c.if-not-fits.false in (
       shown.0,
       answers_room laws d (table on.blocks) on.index (numbers_of on.numbers) on.spare on.tree within sized c.requires.read.tables honest tree_on shown.0 shown.1

@@ -1,4 +1,7 @@
 use Rattle.std.proofs.Common.{◌≡◌, ◌≤◌, ℕ, true, sym, ◌∙◌, subst, ap}
+use Rattle.nand_model.specs.Calls.{Device}
+use Rattle.nand_model.specs.Changes.{OnlyReads}
+use Rattle.nand_model.specs.laws.Changes.{only_reads_on}
 use Rattle.flash_tree.specs.Places.{numbers_of}
 use Rattle.volume_terms.specs.VolumeSizes as volume
 use Rattle.mounting.proofs.Giving.{ShownLaws, only_read_where, are_next, mounted_with}
@@ -30,3 +33,8 @@ returns-in-Ok-make_pages-clause-tree g c = λ honest.
       mounted_with d on.index (numbers_of on.numbers) on.spare _ c.in-Ok-make_pages.ensures.made laws on.tree told.0 is told.1 told.2 c.in-Ok-table.table (volume.sizes_of c.in-Some.sizes)
           c.in-Some.ensures.sizes c.in-Ok-table.ensures.tells told.3,
     )
+
+pub returns-in-Err-make_pages-clause-back : goal.returns-in-Err-make_pages-clause-back
+returns-in-Err-make_pages-clause-back g c =
+    let told = c.refused-in-Err-make_pages in
+    only_reads_on _ _ _ c.in-Ok.ensures.reads (subst (λ (k : Device). OnlyReads k (g.N.Nand.state told.result.0)) c.in-Err-make_pages.ensures.given_back told.ensures.reads)

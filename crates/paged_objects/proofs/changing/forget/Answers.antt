@@ -9,7 +9,7 @@ returns-clause-makes g c = λ objects has make.
     let p : PagesState = g.P.Pages.state c.args.pages.now in
     let sound = has.pages.stands.sound in
     cut_done p (g.P.Pages.state c.cut.new.self) c.args.table.now c.apply.new.self objects c.args.number has.pages c.cut.ensures.goes_on (c.in_ok-cut.ensures.sound sound) (c.in_ok-cut.ensures.present sound) (c.cut.ensures.kept sound)
-    (c.apply.ensures.tells objects has.tells (record { sizes = has.pages.can.numbers; forest = has.pages.can.forest; fit = has.pages.can.fit }) make tt)
+    (c.apply.ensures.tells objects has.tells has.pages.can make tt)
 
 pub returns-in_err-cut-clause-makes : goal.returns-in_err-cut-clause-makes
 returns-in_err-cut-clause-makes g c = λ objects has make.

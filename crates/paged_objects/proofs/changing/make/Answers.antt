@@ -4,7 +4,7 @@ use Rattle.volume_terms.specs.Sizes.{Sizes}
 use Rattle.volume_terms.specs.declared.fault.StoreFault.TheVariants as faults
 use Rattle.object_store.specs.Changes.{made}
 use Rattle.posix_profile.specs.Changes.{new_number}
-use Rattle.object_table.specs.Told.{sizes_of, LedBefore}
+use Rattle.object_table.specs.Told.{table_sizes, LedBefore}
 use Rattle.pages.specs.State.{PagesState}
 use Rattle.paged_objects.specs.Ending.{EndsPages}
 use Rattle.paged_objects.specs.laws.Going.{finds_stay, stays_here, stays_goes, goes_here, goes_on}
@@ -31,7 +31,7 @@ pub returns-in_err-replaced-clause-makes : goal.returns-in_err-replaced-clause-m
 returns-in_err-replaced-clause-makes g c = λ objects has make.
     let p : PagesState = g.P.Pages.state c.args.pages.now in
     let q : PagesState = g.P.Pages.state c.find_replaced.new.pages in
-    let z : Sizes = sizes_of c.args.table.now in
+    let z : Sizes = table_sizes c.args.table.now in
     let new = made objects c.args.change.now in
     let e = err_from_is_err_and c.from_residual-in_err-replaced.result c.from_residual-in_err-replaced.ensures.1 in
     rw (e.1, e.2) (not_made p q c.args.table.now c.prepare.new.table objects new c.in_err-replaced.field-0.0 c.prepare.ensures.same
@@ -48,7 +48,7 @@ returns-in_err-change_pages-clause-makes g c = λ objects has make.
     let p : PagesState = g.P.Pages.state c.args.pages.now in
     let q : PagesState = g.P.Pages.state c.find_replaced.new.pages in
     let r : PagesState = g.P.Pages.state c.change_pages.new.pages in
-    let z : Sizes = sizes_of c.args.table.now in
+    let z : Sizes = table_sizes c.args.table.now in
     let new = made objects c.args.change.now in
     let stays = finds_stay p q c.find_replaced.ensures.finds in
     let next : c.new_number-new.result ≡ new_number objects = c.new_number-new.ensures objects (tells_on c.args.table.now c.prepare.new.table objects c.prepare.ensures.same has.tells) in
@@ -68,7 +68,7 @@ returns-clause-makes g c = λ objects has make.
     let p : PagesState = g.P.Pages.state c.args.pages.now in
     let q : PagesState = g.P.Pages.state c.find_replaced.new.pages in
     let r : PagesState = g.P.Pages.state c.change_pages.new.pages in
-    let z : Sizes = sizes_of c.args.table.now in
+    let z : Sizes = table_sizes c.args.table.now in
     let new = made objects c.args.change.now in
     let same = c.prepare.ensures.same in
     let stays = finds_stay p q c.find_replaced.ensures.finds in
@@ -77,6 +77,6 @@ returns-clause-makes g c = λ objects has make.
     let ends : EndsPages z q r objects new (Ok tt) = c.in_ok-change_pages.ensures.makes z objects (has_after z p q objects c.find_replaced.ensures.finds has.pages) make next in
     let led : LedBefore objects c.args.change.now c.in_ok-replaced.replaced = c.in_ok-replaced.ensures.found z objects has.pages make in (
       ends.0,
-      c.apply.ensures.tells objects tells (can_have z (sizes_of c.prepare.new.table) objects same.sizes has.pages.can) (can_make z (sizes_of c.prepare.new.table) objects c.args.change.now same.sizes make) led,
+      c.apply.ensures.tells objects tells (can_have z (table_sizes c.prepare.new.table) objects same.sizes has.pages.can) (can_make z (table_sizes c.prepare.new.table) objects c.args.change.now same.sizes make) led,
       turns_after z p q r objects stays ends.1,
     )

@@ -9,7 +9,7 @@ use Rattle.posix_profile.specs.Changes.{with_name}
 use Rattle.flash_tree.specs.Tree.{IsPageSize}
 use Rattle.object_table.specs.Built.{sizes_built, Builds}
 use Rattle.object_table.specs.Counted.{GetsName}
-use Rattle.tree_walk.specs.Trees.{head_at, numbers_of}
+use Rattle.tree_walk.specs.Trees.{head_at, objects_listed}
 use Rattle.tree_walk.specs.declared.tree.NamedObject.{NamedObject}
 use Rattle.tree_walk.specs.declared.tree.Tree.{Tree}
 use Rattle.tree_table.proofs.Naming.{AreNamedOnce, begins_named, gets, named_more, all_came}
@@ -70,6 +70,6 @@ returns-clause-builds c = λ m objects part shown nameless start.
     omega (arith, c.loop-place-test.false, ap length c.names-names.ensures, ap length slots.1.pairs_are, length-map slots.0 name_of) in
     let same = all_came objects slots.0 c.loop-place.place so_far.0 so_far.1 (λ d o name names.
     let on = listed z size m tree objects shown.tree_of shown.shows d (Dir names.moment names.entries) names.directory_is in
-    let s = slots.1.every on.0 d o name (slice_get_within (numbers_of tree) on.0 d on.1) on.1 names in
+    let s = slots.1.every on.0 d o name (slice_get_within (objects_listed tree) on.0 d on.1) on.1 names in
     (s.0, s.1, omega (arith, slice_get_within slots.0 s.0 s.1 s.2, enough), s.2, s.3, s.4, s.5)) in
     subst (λ x. Builds c.loop-place.builder x) same so_far.2

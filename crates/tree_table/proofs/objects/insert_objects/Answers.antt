@@ -4,7 +4,7 @@ use Rattle.std.specs.FinMap as map
 use Rattle.volume_terms.specs.Sizes.{Sizes}
 use Rattle.flash_tree.specs.Tree.{IsPageSize}
 use Rattle.object_table.specs.Built.{sizes_built, CanCome}
-use Rattle.tree_walk.specs.Trees.{numbers_of}
+use Rattle.tree_walk.specs.Trees.{objects_listed}
 use Rattle.tree_walk.specs.declared.tree.Tree.{Tree}
 use Rattle.tree_table.proofs.Bare.{bare, bare_said, begins_bare, can_come, bare_more, nameless}
 use Rattle.tree_table.proofs.Told.{once, there, listed, head_of, page_size}
@@ -13,7 +13,7 @@ use Rattle.tree_table.proofs.objects.insert_objects.Goals as goal
 pub loop-place-init : goal.loop-place-init
 loop-place-init c = record {
   size = refl;
-  builds = λ m objects shown start. (map.empty, begins_bare objects (numbers_of c.args.tree.now), start);
+  builds = λ m objects shown start. (map.empty, begins_bare objects (objects_listed c.args.tree.now), start);
 }
 
 pub loop-place-preserved : goal.loop-place-preserved
@@ -23,7 +23,7 @@ loop-place-preserved c = record {
       let z : Sizes = sizes_built c.args.builder.now in
       let size : IsPageSize z.page_bytes = page_size z shown.sizes in
       let tree : Tree = c.args.tree.now in
-      let list : List ℕ = numbers_of tree in
+      let list : List ℕ = objects_listed tree in
       let n : ℕ = c.loop-place.place in
       let same : c.objects-objects.result.now ≡ list = c.objects-objects.ensures in
       let lt : n < length list = omega (arith, c.loop-place-test.true, ap length same) in
@@ -45,7 +45,7 @@ pub returns-clause-builds : goal.returns-clause-builds
 returns-clause-builds c = λ m objects shown start.
     let z : Sizes = sizes_built c.args.builder.now in
     let size : IsPageSize z.page_bytes = page_size z shown.sizes in
-    let list : List ℕ = numbers_of c.args.tree.now in
+    let list : List ℕ = objects_listed c.args.tree.now in
     let same : length c.objects-objects.result.now ≡ length list = ap length c.objects-objects.ensures in
     let so_far = c.loop-place.invariant.builds m objects shown start in
     (so_far.0, nameless objects list c.loop-place.place so_far.0 (listed z size m c.args.tree.now objects shown.tree_of shown.shows) so_far.1 (omega (arith, c.loop-place-test.false, same)), so_far.2)

@@ -3,7 +3,7 @@ use Rattle.std.specs.FinMap as map
 use Rattle.pages.specs.Maps.{PageMap}
 use Rattle.posix_profile.specs.State.{Objects}
 use Rattle.object_table.specs.Built.{sizes_built, Builds}
-use Rattle.tree_walk.specs.Trees.{numbers_of}
+use Rattle.tree_walk.specs.Trees.{objects_listed}
 use Rattle.tree_table.specs.Building.{IsShown}
 use Rattle.tree_table.proofs.Bare.{HasBare}
 use Rattle.tree_table.proofs.objects.insert_objects.Given as goal
@@ -12,5 +12,5 @@ abbrev pub invariant-loop-place : goal.invariant-loop-place
 invariant-loop-place l = record {
   size : sizes_built l.builder ≡ sizes_built l.fn.builder;
   builds : (m : PageMap) (objects : Objects) → IsShown (sizes_built l.fn.builder) m l.tree objects → Builds l.fn.builder map.empty
-      → (part : Objects) × HasBare objects (numbers_of l.tree) l.place part × Builds l.builder part;
+      → (part : Objects) × HasBare objects (objects_listed l.tree) l.place part × Builds l.builder part;
 }

@@ -6,7 +6,7 @@ use Rattle.std.proofs.lemmas.List.Sums.{sum_by-append, sum_by-cons}
 use Rattle.volume_terms.specs.Sizes.{Sizes}
 use Rattle.volume_terms.specs.VolumeSizes.{sizes_of}
 use Rattle.flash_tree.specs.Tree.{IsPageSize}
-use Rattle.tree_walk.specs.Trees.{numbers_of}
+use Rattle.tree_walk.specs.Trees.{objects_listed}
 use Rattle.tree_table.specs.Units.{told_cost}
 use Rattle.tree_table.proofs.Told.{charged}
 use Rattle.tree_table.proofs.units.charge.Goals as goal
@@ -21,7 +21,7 @@ grown f list n lt =
 
 pub loop-place-preserved : goal.loop-place-preserved
 loop-place-preserved c =
-    let list : List ℕ = numbers_of c.args.tree.now in
+    let list : List ℕ = objects_listed c.args.tree.now in
     let n : ℕ = c.loop-place.place in
     let f : ℕ → ℕ = told_cost (sizes_of c.args.sizes) c.args.tree.now in
     let same : c.objects-objects.result.now ≡ list = c.objects-objects.ensures in
@@ -32,7 +32,7 @@ loop-place-preserved c =
 pub returns : goal.returns
 returns c = λ m objects tree shows.
     let z : Sizes = sizes_of c.args.sizes in
-    let list : List ℕ = numbers_of c.args.tree.now in
+    let list : List ℕ = objects_listed c.args.tree.now in
     let f : ℕ → ℕ = told_cost z c.args.tree.now in
     let same : length c.objects-objects.result.now ≡ length list = ap length c.objects-objects.ensures in
     let whole : take c.loop-place.place list ≡ list = take_all c.loop-place.place list (omega (arith, c.loop-place-test.false, same)) in

@@ -2,7 +2,8 @@ use Rattle.std.proofs.Common.{false, refl, ◌∙◌, ap, inl, inr}
 use Rattle.std.proofs.lemmas.Bool.{false_from_ne_true}
 use Rattle.posix_profile.specs.Outcomes.{Outcome}
 use Rattle.posix_profile.specs.Runs.{is_stop}
-use Rattle.object_commands.proofs.Ending.{at_on, is_done}
+use Rattle.command_plans.specs.Plans.{frees}
+use Rattle.object_commands.proofs.Ending.{is_done, refused_ends, leaves_frees}
 use Rattle.object_commands.proofs.volume.Volume.carry_out.Goals as goal
 
 pub returns-in-Ok-clause-ends : goal.returns-in-Ok-clause-ends
@@ -14,9 +15,11 @@ returns-in-Ok-clause-ends g c z s at class meant is sound own =
 pub returns-in-Err-NoMemory-clause-ends : goal.returns-in-Err-NoMemory-clause-ends
 returns-in-Err-NoMemory-clause-ends g c z s at class meant is sound own =
     let m = g.S.ObjectStore.meaning in
+    let law = g.met.S.ObjectStore.lawful in
+    let a = c.args.self.now in
     let none = rw c.in-Err-NoMemory.field-0-is at c.in-Err-NoMemory.ensures.memory in
-    let left : m.reads c.args.self.now.store c.work.new.store = rw c.in-Err-NoMemory.field-0-is at (c.in-Err-NoMemory.ensures.works z s.objects at.has is.can) in
-    inr (inl (
-      false_from_ne_true _ (λ yes'. none yes' refl),
-      record { reply = refl; state = at_on m g.met.S.ObjectStore.lawful z s c.args.self.now (record c.args.self.now { store = c.work.new.store; stopped = false }) left refl at; left = left; goes_on = refl },
-    ))
+    let left : m.reads a.store c.work.new.store = rw c.in-Err-NoMemory.field-0-is at (c.in-Err-NoMemory.ensures.works z s.objects at.has is.can) in
+    let told = c.pass_over.ensures in
+    let b = record c.pass_over.new.self { stopped = is_stop c.pass_over.result } in
+    refused_ends m law z class (frees c.args.plan.work) s meant a b c.pass_over.result at (false_from_ne_true _ (λ yes'. none yes' refl))
+    (law.reads_on a.store c.work.new.store b.store left told.reads) (ap (λ v. v.table) told.same) told.tells refl

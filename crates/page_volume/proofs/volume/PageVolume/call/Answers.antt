@@ -1,5 +1,7 @@
+use Rattle.std.proofs.Common.{ap}
+use Rattle.posix_profile.specs.Runs.{is_no_memory}
 use Rattle.page_volume.specs.Volumes.{is_read_only}
-use Rattle.page_volume.proofs.Calls.{is_at, is_volume, one_call, tree_after, synced_after}
+use Rattle.page_volume.proofs.Calls.{is_at, is_volume, one_call, powered, tree_after, synced_after}
 use Rattle.page_volume.proofs.volume.PageVolume.call.Goals as goal
 
 pub returns-clause-goes_on : goal.returns-clause-goes_on
@@ -46,3 +48,10 @@ returns-clause-reads g c goes z s is only =
     let b = c.call.new.self in
     let one = one_call g.P.Pages.state z s c.args.stamped.now c.call.result a (record { volume = b }) (c.call.ensures.ends goes z s (is_at g.P.Pages.state z s a is)) in
     (one.reads only.0 only.1).0
+
+pub returns-clause-power : goal.returns-clause-power
+returns-clause-power g c goes z s is refused =
+    let a = c.args.self.now in
+    let b = c.call.new.self in
+    let one = one_call g.P.Pages.state z s c.args.stamped.now c.call.result a (record { volume = b }) (c.call.ensures.ends goes z s (is_at g.P.Pages.state z s a is)) in
+    powered _ (one.power (ap is_no_memory refused))

@@ -1,8 +1,8 @@
 use Rattle.std.specs.Prelude.{◌≡◌}
 use Rattle.std.proofs.Common.{sym, ◌∙◌, ap, subst}
-use Rattle.object_table.specs.Told.{sizes_of, Tells}
+use Rattle.object_table.specs.Told.{table_sizes, Tells}
 use Rattle.object_table.specs.declared.table.ObjectTable.{ObjectTable}
-use Rattle.paged_objects.specs.Standing.{Stands}
+use Rattle.paged_objects.specs.Standing.{StandsFor}
 use Rattle.pages.specs.State.{PagesState}
 use Rattle.page_volume.proofs.volume.PageVolume.new.Goals as goal
 
@@ -14,8 +14,8 @@ returns-in-Ok-clause-at g c objects numbers stands tells sound =
     let table : c.in-Ok.volume.store.table ≡ c.args.table = ap (λ o. o.table) made.0 ∙ c.new.ensures.table in
     record {
       numbers = numbers;
-      sizes = ap sizes_of table;
-      stands = subst (λ (p : PagesState). Stands (sizes_of c.args.table) p objects) (sym pages) stands;
+      sizes = ap table_sizes table;
+      stands = subst (λ (p : PagesState). StandsFor (table_sizes c.args.table) p objects) (sym pages) stands;
       tells = subst (λ (t : ObjectTable). Tells t objects) (sym table) tells;
       handles = made.1;
       sound = sound;

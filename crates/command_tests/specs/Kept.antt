@@ -1,5 +1,5 @@
 -- Maps that keep a copy of what was committed.
-use Rattle.std.specs.Prelude.{◌≡◌}
+use Rattle.std.specs.Prelude.{◌≡◌, true}
 use Rattle.object_store.specs.Stores.{Meaning}
 use Rattle.plain_objects.specs.PlainMeaning.{objects_of, numbers_of}
 use Rattle.command_tests.specs.declared.kept.KeptObjects.{KeptObjects}
@@ -10,6 +10,7 @@ kept_meaning = record {
   sizes = λ a. numbers_of a.objects;
   stands = λ a objects. objects_of a.objects ≡ objects;
   shows = λ a tree. Unit {0};
+  has_power = λ a. true;
   lasts = λ a b. numbers_of b.objects ≡ numbers_of a.objects;
   leaves = λ a b. b.shown ≡ a.shown;
   reads = λ a b. (objects_of b.objects ≡ objects_of a.objects) × (numbers_of b.objects ≡ numbers_of a.objects);

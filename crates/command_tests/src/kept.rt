@@ -50,6 +50,10 @@ impl ObjectStore for KeptObjects {
         self.objects.new_number()
     }
 
+    fn has_power(&mut self) -> bool {
+        self.objects.has_power()
+    }
+
     fn find(&mut self, directory: u64, name: &[u8]) -> Result<Option<u64>, StoreFault> {
         self.objects.find(directory, name)
     }

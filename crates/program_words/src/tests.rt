@@ -109,3 +109,8 @@ fn help_has_an_example_of_each_subcommand(rt: HostRuntime) -> Result<(), Fail> {
     }
     Ok(())
 }
+
+#[test]
+fn the_version_is_told(rt: HostRuntime) -> Result<(), Fail> {
+    helps(&rt, rt.alloc(), "--version", "flashsh 0.1.0")
+}

@@ -1,5 +1,6 @@
 //! Tests of a store on a device in memory: changes and commits beside two plain maps, calls that are cut or fail, memory that
-//! is refused, and what is read; its buffer and its cache alone, by hand; and the pages of a worn device.
+//! is refused (in turn by hand: the gate refuses none), and what is read; its buffer and its cache alone, by hand; and the
+//! pages of a worn device.
 #![tactic(auto)]
 
 #[cfg(test)]

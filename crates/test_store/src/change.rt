@@ -1,7 +1,6 @@
 // Changes that a store can take.
 ghost use Rattle.std.specs.Prelude.{◌≡◌, ◌≤◌, IsTrue, IfOk, length};
 ghost use Rattle.pages.specs.Changes.{AreApart, AreSized, AreOfObjects};
-ghost use Rattle.page_buffer.specs.BufferOf.{most_pages};
 
 use flash_tree::FreshPage;
 use nand_model::Nand;
@@ -70,8 +69,8 @@ fn are_of_objects(pages: &[FreshPage]) -> bool
 
 /// Whether a store can take a change: its pages are of the store's size and of objects, and there are not too many.
 pub fn fits<N: Nand>(store: &Store<N>, change: &Change) -> bool
-    ensures size { IsTrue result → AreSized change.now.pages.items (N.state store.now.device).geometry.bytes }
-    ensures few { IsTrue result → length change.now.pages.items ≤ most_pages store.now.buffer }
+    ensures size { IsTrue result → AreSized change.now.pages.items (⟦<Store<N> as Pages>⟧.state store.now).page_bytes }
+    ensures few { IsTrue result → length change.now.pages.items ≤ (⟦<Store<N> as Pages>⟧.state store.now).most }
     ensures objects { IsTrue result → AreOfObjects change.now.pages.items }
 {
     change.pages.len() <= store.most_pages() as usize

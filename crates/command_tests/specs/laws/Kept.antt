@@ -17,6 +17,7 @@ kept_lawful = record {
   changes_shows = λ a b old new changes tree shown. inl tt;
   fails_on = λ a b c old new reads fails. tt;
   fails_wide = λ a b old new fails. tt;
+  powerless_fails = λ a b old new reads lost. tt;
   fails_shows = λ a b old new fails tree shown. inl tt;
   commits_on = λ a b c objects reads commits. tt;
   commits_shows = λ a b objects commits. tt;

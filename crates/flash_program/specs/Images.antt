@@ -1,5 +1,5 @@
 -- What the subcommands do over an image.
-use Rattle.std.specs.Prelude.{◌≡◌, ◌⊎◌, ℕ, List, length, Option, Some, None, Result, Ok, Err, IfErr}
+use Rattle.std.specs.Prelude.{◌≡◌, ◌⊎◌, ℕ, true, false, List, length, Option, Some, None, Result, Ok, Err, IfErr}
 use Rattle.std.specs.Global.{Vec}
 use Rattle.exerciser.specs.Causes.{HasCause}
 use Rattle.exerciser.specs.Cutting.{Cuts}
@@ -16,7 +16,7 @@ use Rattle.nand_image.specs.declared.device.ImageNand.{ImageNand}
 use Rattle.nand_image.specs.declared.fault.ImageFault.{ImageFault}
 use Rattle.nand_image.specs.declared.fault.ImageFault.TheVariants as images
 use Rattle.nand_model.specs.Calls.{Device}
-use Rattle.nand_model.specs.Changes.{PowersUp}
+use Rattle.nand_model.specs.Changes.{CountsNothing, IsBlank, PowersUp}
 use Rattle.nand_model.specs.Size.{IsSize}
 use Rattle.page_volume.specs.declared.volume.PageVolume.{PageVolume}
 use Rattle.pages.specs.State.{PagesState}
@@ -114,9 +114,16 @@ pub record HasSizes (size pages blocks : ℕ) (made : Device) : Type 0 where
   pub pages_are : made.geometry.pages ≡ pages
   pub blocks_are : made.geometry.blocks ≡ blocks
 
+-- a new image: honest, with power, all pages erased, nothing counted
+pub record IsNew (made : Device) : Type 0 where
+  pub honest : made.honest ≡ true
+  pub has_power : made.gone ≡ false
+  pub blank : IsBlank made.flash
+  pub counts : CountsNothing made
+
 -- a new volume in an image
 abbrev pub MakeEnds : {F P V : Type 0} → (P → PagesState) → (V → PageVolume P) → (V → Stamped → Reply → V → Type 0)
     → Option F → (size pages blocks spare : ℕ) → Option (List ℕ) → Option (List ℕ) → Result (Unit {0}) ProgramFault → Type 0
 MakeEnds state inside serves image size pages blocks spare written now result =
     (NotMade image size pages blocks result × (now ≡ written))
-    ⊎ ((made : Device) × (after : Device) × HasSizes size pages blocks made × FormatEnds state inside serves spare made written now after result)
+    ⊎ ((made : Device) × (after : Device) × HasSizes size pages blocks made × IsNew made × FormatEnds state inside serves spare made written now after result)

@@ -68,8 +68,12 @@ IsEarly (faults.Format formats.NoMemory) = Unit {0}
 IsEarly (faults.Format formats.Worn) = Unit {0}
 IsEarly fault = ⊥
 
--- the device is honest and has a new volume, whose root is empty, with one spare block
+-- The device has eight blocks of 32 pages of 512 bytes, is honest, and has a new volume, whose root is empty, with one spare
+-- block.
 pub record IsFresh (device : Device) : Type 0 where
+  pub bytes_are : device.geometry.bytes ≡ 512
+  pub pages_are : device.geometry.pages ≡ 32
+  pub blocks_are : device.geometry.blocks ≡ 8
   pub honest : device.honest ≡ true
   pub has_power : device.gone ≡ false
   pub sound : IsSound device.geometry device.flash 1 fresh.objects

@@ -1,5 +1,5 @@
 // Images, lines and outputs that fail.
-use super::small_image;
+use super::{SMALL, small_image};
 use crate::acting::act;
 use program_words::choose;
 use std::alloc::Global;
@@ -9,12 +9,13 @@ use std::io::{
 use std::process::Abort;
 use std::test::Fail;
 
-/// Bytes in memory, of which so many reads and writes are done; each later one fails.
+/// Bytes in memory, of which so many reads, writes and seeks are done; each later one fails.
 #[derive(Drop)]
 struct FailingFile {
     cursor: Cursor<Vec<u8>>,
     reads: u64,
     writes: u64,
+    seeks: u64,
 }
 
 impl FailingFile {
@@ -24,6 +25,7 @@ impl FailingFile {
             cursor: Cursor::new(bytes),
             reads: u64::MAX,
             writes: u64::MAX,
+            seeks: u64::MAX,
         }
     }
 }
@@ -54,6 +56,10 @@ impl Write for FailingFile {
 
 impl Seek for FailingFile {
     fn seek(&mut self, to: SeekFrom) -> IoResult<u64> {
+        match self.seeks.checked_sub(1) {
+            Some(left) => self.seeks = left,
+            None => return Err(Error::from(ErrorKind::Other)),
+        }
         self.cursor.seek(to)
     }
 }
@@ -169,5 +175,77 @@ fn an_output_that_fails_is_told(rt: HostRuntime) -> Result<(), Fail> {
     let mut around = Around::new(alloc, b"", "")?;
     around.err.writes = 0;
     around.ends(&rt, alloc, &["check", "I"], 2, ("", ""))?;
+    Ok(())
+}
+
+/// What is told of the small volume when it is new.
+const SPACE: &str = "space 512 144 143\n";
+
+/// An image takes 258 writes, the erasing of its 256 pages one for each, and the page of the root three.
+#[test]
+fn a_new_image_fails_at_each_write(rt: HostRuntime) -> Result<(), Fail> {
+    let alloc = rt.alloc();
+    for writes in 0..=516 {
+        let mut around = Around::new(alloc, b"", "")?;
+        around.image.writes = writes;
+        let fault = if writes < 258 {
+            "fault Write\n"
+        } else {
+            "fault Gone\n"
+        };
+        around.ends(&rt, alloc, &SMALL, 2, ("", fault))?;
+    }
+    let mut around = Around::new(alloc, b"", "")?;
+    around.image.writes = 517;
+    around.ends(&rt, alloc, &SMALL, 0, (SPACE, ""))
+}
+
+/// The file is first moved for the erasing: once for each of 256 pages, and then three times for the page of the root.
+#[test]
+fn a_new_image_fails_at_each_seek(rt: HostRuntime) -> Result<(), Fail> {
+    let alloc = rt.alloc();
+    for seeks in 0..=258 {
+        let mut around = Around::new(alloc, b"", "")?;
+        around.image.seeks = seeks;
+        around.ends(&rt, alloc, &SMALL, 2, ("", "fault Gone\n"))?;
+    }
+    let mut around = Around::new(alloc, b"", "")?;
+    around.image.seeks = 259;
+    around.ends(&rt, alloc, &SMALL, 0, (SPACE, ""))
+}
+
+#[test]
+fn an_output_fails_at_each_write(rt: HostRuntime) -> Result<(), Fail> {
+    let alloc = rt.alloc();
+    let image = small_image(&rt, alloc)?;
+    for words in [["check", "I"].as_slice(), SMALL.as_slice()] {
+        let parts = ["space", " ", "512", " ", "144", " ", "143", "\n"];
+        let mut out = String::new(alloc);
+        for (writes, part) in parts.iter().enumerate() {
+            let mut around = Around::new(alloc, &image, "")?;
+            around.out.writes = writes as u64;
+            around.ends(&rt, alloc, words, 4, (out.as_str(), "fault Write\n"))?;
+            out.push_str(part)?;
+        }
+        let mut around = Around::new(alloc, &image, "")?;
+        around.out.writes = 8;
+        around.ends(&rt, alloc, words, 0, (SPACE, ""))?;
+    }
+    Ok(())
+}
+
+#[test]
+fn a_standard_error_that_fails_leaves_the_status(rt: HostRuntime) -> Result<(), Fail> {
+    let alloc = rt.alloc();
+    for (writes, err) in [
+        (0, ""),
+        (1, "fault "),
+        (2, "fault Magic"),
+        (3, "fault Magic\n"),
+    ] {
+        let mut around = Around::new(alloc, b"", "")?;
+        around.err.writes = writes;
+        around.ends(&rt, alloc, &["check", "I"], 2, ("", err))?;
+    }
     Ok(())
 }

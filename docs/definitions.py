@@ -15,7 +15,7 @@ INTRODUCTION = """# Definitions
 
 What the theorems are stated in: the definitions of each crate's `specs/`, lowest crate first, and in each the modules in
 reading order. `docs/definitions.py` makes this page from the comments that stand above them. Laws stand apart, in
-`specs/laws` or in modules whose names end in `Laws`: they are proved, and need not be read to know what is claimed.
+`specs/laws`: they are proved, and need not be read to know what is claimed.
 """
 DEFINITION = re.compile(r"^(?:(?:abbrev|unfoldable) pub|pub (?:abbrev|unfoldable|record|data)) (\S+)")
 
@@ -41,7 +41,7 @@ def modules(crate):
     if not listed.exists():
         return []
     names = re.findall(r"^pub mod (\S+)", listed.read_text(), re.M)
-    return [name for name in names if name != "laws" and not name.endswith("Laws")]
+    return [name for name in names if name != "laws"]
 
 
 def definitions(lines):
@@ -82,6 +82,8 @@ def main():
     if sys.argv[1:] == ["--check"]:
         if PAGE.read_text() != wanted:
             sys.exit("docs/DEFINITIONS.md differs from the comments of the specs: run docs/definitions.py")
+    elif sys.argv[1:]:
+        sys.exit(__doc__)
     else:
         PAGE.write_text(wanted)
 

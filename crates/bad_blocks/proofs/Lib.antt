@@ -9,3 +9,5 @@ pub mod Listing
 pub mod Marked
 pub mod Retired
 pub mod RetireTurns
+pub mod Passing
+pub mod Costs

@@ -13,7 +13,7 @@ use Rattle.bad_blocks.specs.Moving.{Moves, MarksFailures, Costs, LiesIn, IsAway}
 use Rattle.bad_blocks.specs.Retiring.{IsOut, IsRetired, RetireEnds, open_failures}
 use Rattle.bad_blocks.specs.Standing.{Stands}
 use Rattle.bad_blocks.specs.declared.fault.MoveFault.{MoveFault}
-use Rattle.bad_blocks.specs.laws.Costs.{costs_join}
+use Rattle.bad_blocks.proofs.Costs.{costs_join}
 use Rattle.bad_blocks.specs.laws.Turns.{moves_out_on, moves_join}
 
 -- a suspect copy is a failure without its mark

@@ -26,8 +26,8 @@ use Rattle.bad_blocks.specs.Taking.{Takes, CostsATake}
 use Rattle.bad_blocks.specs.declared.copying.Copied.{Copied}
 use Rattle.bad_blocks.specs.declared.copying.Copied.TheVariants as ends
 use Rattle.bad_blocks.specs.declared.fault.MoveFault.{MoveFault}
-use Rattle.bad_blocks.specs.laws.Costs.{each_more}
-use Rattle.bad_blocks.specs.laws.Passing.{passes_marked}
+use Rattle.bad_blocks.proofs.Costs.{each_more}
+use Rattle.bad_blocks.proofs.Passing.{passes_marked}
 use Rattle.bad_blocks.specs.laws.KeptPages.{kept_where, data_where}
 use Rattle.bad_blocks.proofs.KeptPages.{is_of_copies, are_copied, data_copied}
 

@@ -5,7 +5,7 @@ use Rattle.nand_model.specs.Calls.{Device}
 use Rattle.block_state.specs.Kept.{bad_count}
 use Rattle.block_state.specs.Table.{Table}
 use Rattle.bad_blocks.specs.Moving.{LiesOpen, IsAway, IsLeft, WhyNotMoved}
-use Rattle.bad_blocks.specs.Standing.{HasFree}
+use Rattle.bad_blocks.specs.Standing.{HasFreeBlocks}
 use Rattle.bad_blocks.specs.declared.fault.MoveFault.{MoveFault}
 
 -- The good block holds no kept page: it held none, and no block is open; or its pages lie elsewhere.
@@ -32,7 +32,7 @@ pub record IsRetired (v spare : ℕ) (old new : Table) : Type 0 where
   pub moved : 1 ≤ (old.entry v).kept → (w : ℕ) × LiesOpen v w old new
   pub few : bad_count new ≤ spare
   pub more : bad_count old < bad_count new
-  pub free : HasFree new spare
+  pub free : HasFreeBlocks new spare
 
 -- how a retirement ends
 abbrev pub RetireEnds : (v spare : ℕ) → Device → Table → Table → Result (Unit {0}) MoveFault → Type 0

@@ -67,8 +67,8 @@ abbrev pub AreHeld : Table → Index → Type 0
 AreHeld t x = (o c : ℕ) (p : KeptPage) → kept_pages x o c ≡ Some p → 1 ≤ (t.entry p.block).kept
 
 -- so many blocks as may still be needed for retirements, and one for a collection, are bad already or free
-abbrev pub HasFree : Table → (spare : ℕ) → Type 0
-HasFree t spare = 1 + spare ≤ free_count t + bad_count t
+abbrev pub HasFreeBlocks : Table → (spare : ℕ) → Type 0
+HasFreeBlocks t spare = 1 + spare ≤ free_count t + bad_count t
 
 -- the key is kept
 abbrev pub IsKept : KeptMap → ℕ → ℕ → Type 0

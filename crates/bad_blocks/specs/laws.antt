@@ -1,5 +1,3 @@
-pub mod Passing
-pub mod Costs
 pub mod Keeping
 pub mod KeptPages
 pub mod Moves

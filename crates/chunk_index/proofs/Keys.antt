@@ -19,7 +19,7 @@ use Rattle.chunk_index.specs.Entries.{chunk, kept_of}
 use Rattle.chunk_index.specs.Shelves.{entry_of}
 use Rattle.chunk_index.specs.Listing.{key_in, keys_of, keys_in, block_keys}
 use Rattle.chunk_index.specs.Kept.{HoldsNone}
-use Rattle.chunk_index.specs.laws.Kept.{length-keys_in}
+use Rattle.chunk_index.proofs.Kept.{length-keys_in}
 use Rattle.chunk_index.specs.Maps.{kept_pages, kept_in}
 use Rattle.chunk_index.proofs.Finding.{find_at}
 

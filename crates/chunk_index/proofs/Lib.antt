@@ -16,3 +16,4 @@ pub mod Rising
 pub mod Following
 pub mod Freeing
 pub mod Once
+pub mod Kept

@@ -7,7 +7,7 @@ use Rattle.chunk_index.specs.declared.entry.KeyEntry.{KeyEntry}
 use Rattle.chunk_index.specs.declared.entry.State.{State}
 use Rattle.chunk_index.specs.declared.entry.State.TheVariants as states
 use Rattle.chunk_index.specs.Entries.{settled, settled_by, same_of, is_same_state, present_of, present_by, kept_of, as_kept, stays_of, stays_state}
-use Rattle.chunk_index.specs.Maps.{written}
+use Rattle.chunk_index.specs.Maps.{once_written}
 
 -- what is present of a settled key is what is kept
 pub settled_same_of : (g : WrittenGroup) (v : Option KeyEntry) → same_of (settled g v) ≡ false → ⊥
@@ -20,18 +20,18 @@ settled_same_of g (Some e) not = go e.state refl where
   go states.Vacant is = let one : same_of (settled g (Some e)) ≡ true = ap (λ s. same_of (settled_by g e s)) is in false≢true (sym not ∙ one)
 
 -- it is kept where what was present lies
-written_kept : (g : WrittenGroup) (p : Option KeptPage) → p ≡ written g (as_kept p)
+written_kept : (g : WrittenGroup) (p : Option KeptPage) → p ≡ once_written g (as_kept p)
 written_kept g None = refl
 written_kept g (Some p) = refl
 
-pub settles_kept : (g : WrittenGroup) (v : Option KeyEntry) → kept_of (settled g v) ≡ written g (present_of v)
+pub settles_kept : (g : WrittenGroup) (v : Option KeyEntry) → kept_of (settled g v) ≡ once_written g (present_of v)
 settles_kept g None = refl
 settles_kept g (Some e) = go e.state refl where
-  go : (s : State) → e.state ≡ s → kept_of (settled g (Some e)) ≡ written g (present_of (Some e))
-  go states.Same is = ap (λ s. kept_of (settled_by g e s)) is ∙ written_kept g e.kept ∙ sym (ap (λ s. written g (present_by e.kept s)) is)
-  go (states.Buffered i) is = ap (λ s. kept_of (settled_by g e s)) is ∙ sym (ap (λ s. written g (present_by e.kept s)) is)
-  go states.Dropped is = ap (λ s. kept_of (settled_by g e s)) is ∙ sym (ap (λ s. written g (present_by e.kept s)) is)
-  go states.Vacant is = ap (λ s. kept_of (settled_by g e s)) is ∙ sym (ap (λ s. written g (present_by e.kept s)) is)
+  go : (s : State) → e.state ≡ s → kept_of (settled g (Some e)) ≡ once_written g (present_of (Some e))
+  go states.Same is = ap (λ s. kept_of (settled_by g e s)) is ∙ written_kept g e.kept ∙ sym (ap (λ s. once_written g (present_by e.kept s)) is)
+  go (states.Buffered i) is = ap (λ s. kept_of (settled_by g e s)) is ∙ sym (ap (λ s. once_written g (present_by e.kept s)) is)
+  go states.Dropped is = ap (λ s. kept_of (settled_by g e s)) is ∙ sym (ap (λ s. once_written g (present_by e.kept s)) is)
+  go states.Vacant is = ap (λ s. kept_of (settled_by g e s)) is ∙ sym (ap (λ s. once_written g (present_by e.kept s)) is)
 
 -- and is present there
 pub settles_present : (g : WrittenGroup) (v : Option KeyEntry) → present_of (settled g v) ≡ as_kept (kept_of (settled g v))

@@ -89,14 +89,14 @@ pub record Copies (o c : ℕ) (place : PagePlace) (was : KeptPage) (old new : In
   pub counts : (b : ℕ) → kept_in new b + one_at (Some was) b ≡ kept_in old b + one_at (Some (moved_page place was)) b
 
 -- the kept page of what is present, once the pages of the buffer were written as this group
-abbrev pub written : WrittenGroup → Present → Option KeptPage
-written g presents.Absent = None
-written g (presents.OnFlash p) = Some p
-written g (presents.InBuffer i) = Some (written_page g i)
+abbrev pub once_written : WrittenGroup → Present → Option KeptPage
+once_written g presents.Absent = None
+once_written g (presents.OnFlash p) = Some p
+once_written g (presents.InBuffer i) = Some (written_page g i)
 
 -- Each kept page is where the present page lies, and what is present is what is kept.
 pub record Settles (g : WrittenGroup) (old new : Index) : Type 0 where
-  pub kept : (o c : ℕ) → kept_pages new o c ≡ written g (present old o c)
+  pub kept : (o c : ℕ) → kept_pages new o c ≡ once_written g (present old o c)
   pub presents : (o c : ℕ) → present new o c ≡ as_kept (kept_pages new o c)
   pub ready : (o c : ℕ) → IsReadyKey old o c → IsReadyKey new o c
 

@@ -15,7 +15,7 @@ use Rattle.transactions.specs.Ready.{IsReady}
 use Rattle.bad_blocks.specs.Copying.{KeepsCounts}
 use Rattle.bad_blocks.specs.Moving.{Moves}
 use Rattle.bad_blocks.specs.Passing.{Passes}
-use Rattle.bad_blocks.specs.Standing.{AreHeld, HasFree, KeepsFree, Stands}
+use Rattle.bad_blocks.specs.Standing.{AreHeld, HasFreeBlocks, KeepsFree, Stands}
 use Rattle.bad_blocks.specs.Taking.{Takes, TakesNone}
 use Rattle.bad_blocks.specs.laws.FreeBlocks.{free_still}
 use Rattle.bad_blocks.specs.laws.KeptPages.{kept_where, data_where}
@@ -54,7 +54,7 @@ module _ (spare : ℕ) (d0 d1 : Device) (t u : Table) (x : Index) (law : (b : �
     free_where_taken = free_still spare d0 d1 t u x held keeps stands stands_taken.tables (λ honest. kept_where d0.flash d1.flash t (passes.newest honest))
 
     -- so one is free less than are without a kept page
-    pub free_taken : HasMore t spare → HasFree u spare
+    pub free_taken : HasMore t spare → HasFreeBlocks u spare
     free_taken more =
         let good = ready.marks b ∙ (ready.open_block b takes.open_block).good in
         let one : unkept_count u ≡ free_count u + 1 = free_where_unkept u b takes.open_block within good none_kept in

@@ -6,7 +6,7 @@ use Rattle.block_state.specs.Kept.{bad_count, unkept_count, HasSpare, IsScarce}
 use Rattle.block_state.specs.Table.{Table, IsFewest, room}
 use Rattle.chunk_index.specs.declared.index.Index.{Index}
 use Rattle.bad_blocks.specs.Moving.{MovesOut, WhyNotMoved}
-use Rattle.bad_blocks.specs.Standing.{HasFree}
+use Rattle.bad_blocks.specs.Standing.{HasFreeBlocks}
 use Rattle.bad_blocks.specs.declared.fault.MoveFault.{MoveFault}
 use Rattle.bad_blocks.specs.declared.fault.MoveFault.TheVariants as moves
 use Rattle.collector.specs.declared.fault.RoomFault.{RoomFault}
@@ -35,7 +35,7 @@ MovesFewest spare t x x' = (x' ≡ x) ⊎ (IsScarce t spare × ((v : ℕ) × IsF
 pub record IsCollected (v spare : ℕ) (old new : Table) : Type 0 where
   pub opened : (w : ℕ) × (new.open_block ≡ Some w) × ((new.entry w).next ≡ (old.entry v).kept)
   pub few : bad_count new ≤ spare
-  pub free : HasFree new spare
+  pub free : HasFreeBlocks new spare
 
 -- how the collection of block v ends
 abbrev pub CollectEnds : (v spare : ℕ) → Device → Table → Table → Result (Unit {0}) MoveFault → Type 0
@@ -51,7 +51,7 @@ FitsOpen count t = count ≤ room t
 pub record HasRoom (count spare : ℕ) (old new : Device) (t t' : Table) : Type 0 where
   pub fits : FitsOpen count t'
   pub few : bad_count t' ≤ spare
-  pub free : HasFree t spare → HasFree t' spare
+  pub free : HasFreeBlocks t spare → HasFreeBlocks t' spare
   pub power : old.gone ≡ false → new.gone ≡ false
 
 -- Why no room was made: too much is kept; or as with a move.

@@ -14,7 +14,7 @@ use Rattle.chunk_index.specs.declared.form.WrittenGroup.{WrittenGroup}
 use Rattle.chunk_index.specs.declared.index.Index.{Index}
 use Rattle.chunk_index.specs.Entries.{written_page}
 use Rattle.chunk_index.specs.Listing.{block_keys}
-use Rattle.chunk_index.specs.Maps.{kept_pages, kept_in, present, written, CountsAgree, Settles}
+use Rattle.chunk_index.specs.Maps.{kept_pages, kept_in, present, once_written, CountsAgree, Settles}
 use Rattle.page_buffer.specs.Buffering.{Buffers, key_at}
 use Rattle.page_buffer.specs.laws.Buffering.{place_within}
 use Rattle.bad_blocks.specs.Standing.{AreHeld}
@@ -70,14 +70,14 @@ module _ (lists : ListsAreWhole) (g : WrittenGroup) (x y : Index) (pages : List 
   place_of : (o c : ℕ) (p : KeptPage) → kept_pages y o c ≡ Some p → p.block ≡ b → (n : ℕ) × IsPlaceOf (record { object = o; chunk = c }) n
   place_of o c p is here = go (present x o c) refl where
     go : (r : Present) → present x o c ≡ r → (n : ℕ) × IsPlaceOf (record { object = o; chunk = c }) n
-    go presents.Absent at = let two : None ≡ Some p = sym (settles.kept o c ∙ ap (written g) at) ∙ is in absurd cc
+    go presents.Absent at = let two : None ≡ Some p = sym (settles.kept o c ∙ ap (once_written g) at) ∙ is in absurd cc
     go (presents.OnFlash k) at =
-        let both : Some k ≡ Some p = sym (settles.kept o c ∙ ap (written g) at) ∙ is in
+        let both : Some k ≡ Some p = sym (settles.kept o c ∙ ap (once_written g) at) ∙ is in
         let e : k ≡ p = cc in
         let found = lists.all x b o c k (on_flash_kept x o c k at) (ap (λ (z : KeptPage). z.block) e ∙ here) in
         (found.0, inl (record { key = record { object = o; chunk = c }; at = k }, found.1, refl))
     go (presents.InBuffer s) at =
-        let both : Some (written_page g s) ≡ Some p = sym (settles.kept o c ∙ ap (written g) at) ∙ is in
+        let both : Some (written_page g s) ≡ Some p = sym (settles.kept o c ∙ ap (once_written g) at) ∙ is in
         let e : written_page g s ≡ p = cc in
         (kept_in x b + s, inr (s, refl, buffers.there o c s at, ap (λ (z : KeptPage). z.block) e ∙ here))
 

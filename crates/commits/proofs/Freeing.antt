@@ -7,7 +7,7 @@ use Rattle.block_state.specs.laws.Counting.{one_if, sum_below-suc, counts_same}
 use Rattle.block_state.specs.Kept.{bad_count, free_count, unkept_count, is_unkept}
 use Rattle.block_state.specs.laws.Kept.{unkept_if}
 use Rattle.block_state.specs.Table.{Table, is_bad, is_free, is_open}
-use Rattle.bad_blocks.specs.Standing.{HasFree}
+use Rattle.bad_blocks.specs.Standing.{HasFreeBlocks}
 
 -- as many have a property where each keeps it
 counts_more : (f g : ℕ → Bool) (n : ℕ) → ((k : ℕ) → f k ≡ true → g k ≡ true) → how_many f n ≤ how_many g n
@@ -54,12 +54,12 @@ module _ (t u : Table) (geometry : u.geometry ≡ t.geometry) (bad : (b : ℕ) �
   pub bad_still : bad_count u ≡ bad_count t
   bad_still = ap (λ (g : Geometry). how_many (is_bad u) g.blocks) geometry ∙ counts_same (is_bad u) (is_bad t) t.geometry.blocks (λ b lt. bad b)
 
-  pub has_free : (spare : ℕ) → HasFree t spare → HasFree u spare
+  pub has_free : (spare : ℕ) → HasFreeBlocks t spare → HasFreeBlocks u spare
   has_free spare free =
       let more : free_count t ≤ how_many (is_free u) t.geometry.blocks = counts_more (is_free t) (is_free u) t.geometry.blocks free_still in
       let size : free_count u ≡ how_many (is_free u) t.geometry.blocks = ap (λ (g : Geometry). how_many (is_free u) g.blocks) geometry in
       let same = bad_still in
       omega (arith, more, size, same, free)
 
-  pub has_unkept : (spare : ℕ) → HasFree t spare → 1 + spare ≤ unkept_count u + bad_count u
+  pub has_unkept : (spare : ℕ) → HasFreeBlocks t spare → 1 + spare ≤ unkept_count u + bad_count u
   has_unkept spare free = let still = has_free spare free in let few = free_unkept u in omega (arith, still, few)

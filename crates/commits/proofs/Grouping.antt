@@ -36,7 +36,7 @@ use Rattle.transactions.specs.declared.group.GroupFault.{GroupFault}
 use Rattle.transactions.specs.declared.group.Placed.{Placed}
 use Rattle.transactions.specs.laws.Newest.{commit_comes_last, newest_after}
 use Rattle.transactions.specs.declared.group.GroupFault.TheVariants as group_faults
-use Rattle.bad_blocks.specs.Standing.{AreHeld, AreKept, HasFree, IsKept, IsKeptAt, KeepsFree, SameData, Stands, TablesAgree}
+use Rattle.bad_blocks.specs.Standing.{AreHeld, AreKept, HasFreeBlocks, IsKept, IsKeptAt, KeepsFree, SameData, Stands, TablesAgree}
 use Rattle.bad_blocks.specs.laws.FreeBlocks.{leaves_unkept, newest_where_kept}
 use Rattle.bad_blocks.specs.laws.Keeping.{had_power, limits_ends}
 use Rattle.bad_blocks.specs.laws.Moves.{may_lie_later}
@@ -198,7 +198,7 @@ module _ (t : Table) (x : Index) (pages : List FreshPage) (o : ℕ) (buffers : B
           carried (record { block = o; page = (t.entry o).next + i; version = t.next_group }) (kept_buffered q c i at) (reads_buffered i lt ∙ sym (ap (data_by f pages) at) ∙ is)
 
     -- and none of them lies in a free block of the table that was
-    pub free_present : (spare : ℕ) (z : Geometry) → z ≡ t.geometry → ((b : ℕ) → g.bad b ≡ (t.entry b).bad) → t.open_block ≡ Some o → AreHeld t x → HasFree t spare → LeavesFree z g spare (HasPage (present_data x pages f))
+    pub free_present : (spare : ℕ) (z : Geometry) → z ≡ t.geometry → ((b : ℕ) → g.bad b ≡ (t.entry b).bad) → t.open_block ≡ Some o → AreHeld t x → HasFreeBlocks t spare → LeavesFree z g spare (HasPage (present_data x pages f))
     free_present spare z size bad opened held free = record {
       free = is_free t;
       enough =

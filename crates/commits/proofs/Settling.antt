@@ -18,7 +18,7 @@ use Rattle.chunk_index.specs.declared.form.WrittenGroup.{WrittenGroup}
 use Rattle.chunk_index.specs.declared.index.Index.{Index}
 use Rattle.chunk_index.specs.Counts.{Recounts}
 use Rattle.chunk_index.specs.Entries.{written_page}
-use Rattle.chunk_index.specs.Maps.{kept_pages, kept_in, present, written, CountsAgree, Settles}
+use Rattle.chunk_index.specs.Maps.{kept_pages, kept_in, present, once_written, CountsAgree, Settles}
 use Rattle.page_buffer.specs.Buffering.{Buffers}
 use Rattle.page_buffer.specs.laws.Buffering.{place_within, written_kept}
 use Rattle.page_buffer.specs.Shown.{data_at, data_by, kept_data, present_data}
@@ -29,7 +29,7 @@ use Rattle.transactions.specs.laws.Handing.{hands_same}
 use Rattle.transactions.specs.Newest.{ShowsGroup}
 use Rattle.flash_tree.specs.Numbering.{AreBelow}
 use Rattle.transactions.specs.Ready.{IsReady}
-use Rattle.bad_blocks.specs.Standing.{AreKept, HasFree, IsKeptAt, IsWithinLimits, MayLie, Stands, TablesAgree}
+use Rattle.bad_blocks.specs.Standing.{AreKept, HasFreeBlocks, IsKeptAt, IsWithinLimits, MayLie, Stands, TablesAgree}
 use Rattle.bad_blocks.specs.laws.FreeBlocks.{leaves_fewer}
 use Rattle.bad_blocks.specs.laws.Keeping.{had_power}
 use Rattle.bad_blocks.specs.laws.Moves.{may_lie_later}
@@ -73,7 +73,7 @@ hands_counted d e t u v before after counts hands = hands_same d e t u v counts.
 -- Tables where the index was settled: pages of the buffer may lie where the group says, its block has room for them, and
 -- it was not free.
 module _ (spare : ℕ) (lists : ListsAreWhole) (w : WrittenGroup) (t u v : Table) (x y : Index) (pages : List FreshPage) (settles : Settles w x y) (buffers : Buffers x pages)
-    (agree : CountsAgree v y) (counts : Recounts (kept_in x) (kept_in y) u v) (same : SameCounts t u) (tables : TablesAgree spare t x) (free : HasFree t spare) (rises : t.next_group ≤ u.next_group)
+    (agree : CountsAgree v y) (counts : Recounts (kept_in x) (kept_in y) u v) (same : SameCounts t u) (tables : TablesAgree spare t x) (free : HasFreeBlocks t spare) (rises : t.next_group ≤ u.next_group)
     (lies : (q c i : ℕ) → present x q c ≡ presents.InBuffer i → MayLie v q c (written_page w i))
     (fills : (t.entry w.block).kept + length pages ≤ t.geometry.pages)
     (opened : (b : ℕ) → u.open_block ≡ Some b → (t.entry b).kept + length pages ≤ (u.entry b).next)
@@ -111,7 +111,7 @@ module _ (spare : ℕ) (lists : ListsAreWhole) (w : WrittenGroup) (t u v : Table
   closes : (v.open_block ≡ t.open_block) ⊎ (v.open_block ≡ None)
   closes = elim shut [ inl still ↦ inl (counts.open_block ∙ still) | inr none ↦ inr (counts.open_block ∙ none) ]
 
-  pub free_settled : HasFree v spare
+  pub free_settled : HasFreeBlocks v spare
   free_settled = has_free t v geometry marks less closes spare free
 
   pub bad_settled : bad_count v ≡ bad_count t
@@ -136,14 +136,14 @@ module _ (spare : ℕ) (lists : ListsAreWhole) (w : WrittenGroup) (t u v : Table
     ]
 
     within : (q c : ℕ) (p : KeptPage) → kept_pages y q c ≡ Some p → (r : Present) → present x q c ≡ r → MayLie v q c p
-    within q c p is presents.Absent at = let two : None ≡ Some p = sym (settles.kept q c ∙ ap (written w) at) ∙ is in absurd cc
+    within q c p is presents.Absent at = let two : None ≡ Some p = sym (settles.kept q c ∙ ap (once_written w) at) ∙ is in absurd cc
     within q c p is (presents.OnFlash k) at =
-        let both : Some k ≡ Some p = sym (settles.kept q c ∙ ap (written w) at) ∙ is in
+        let both : Some k ≡ Some p = sym (settles.kept q c ∙ ap (once_written w) at) ∙ is in
         let e : k ≡ p = cc in
         let group = counts.next_group in
         subst (MayLie v q c) e (may_lie_later t v q c k geometry (omega (arith, group, rises)) (tables.within q c k (on_flash_kept x q c k at)))
     within q c p is (presents.InBuffer i) at =
-        let both : Some (written_page w i) ≡ Some p = sym (settles.kept q c ∙ ap (written w) at) ∙ is in
+        let both : Some (written_page w i) ≡ Some p = sym (settles.kept q c ∙ ap (once_written w) at) ∙ is in
         let e : written_page w i ≡ p = cc in
         subst (MayLie v q c) e (lies q c i at)
 
@@ -152,13 +152,13 @@ pub newest_settled : (w : WrittenGroup) (f : Flash) (x y : Index) → Settles w 
     → ((q c : ℕ) (k : KeptPage) → present x q c ≡ presents.OnFlash k → IsKeptAt f q c k) → AreKept f (kept_pages y)
 newest_settled w f x y settles buffered on_flash q c p is = go (present x q c) refl where
   go : (r : Present) → present x q c ≡ r → IsKeptAt f q c p
-  go presents.Absent at = let two : None ≡ Some p = sym (settles.kept q c ∙ ap (written w) at) ∙ is in absurd cc
+  go presents.Absent at = let two : None ≡ Some p = sym (settles.kept q c ∙ ap (once_written w) at) ∙ is in absurd cc
   go (presents.OnFlash k) at =
-      let both : Some k ≡ Some p = sym (settles.kept q c ∙ ap (written w) at) ∙ is in
+      let both : Some k ≡ Some p = sym (settles.kept q c ∙ ap (once_written w) at) ∙ is in
       let e : k ≡ p = cc in
       subst (IsKeptAt f q c) e (on_flash q c k at)
   go (presents.InBuffer i) at =
-      let both : Some (written_page w i) ≡ Some p = sym (settles.kept q c ∙ ap (written w) at) ∙ is in
+      let both : Some (written_page w i) ≡ Some p = sym (settles.kept q c ∙ ap (once_written w) at) ∙ is in
       let e : written_page w i ≡ p = cc in
       subst (IsKeptAt f q c) e (buffered q c i at)
 
@@ -175,7 +175,7 @@ open_after false count o t u is takes = inl (takes.open_block, ap (λ (e : Block
 -- ---- the group of the buffered pages counts, and the index is settled
 
 module _ (spare : ℕ) (lists : ListsAreWhole) (d e : Device) (t u v : Table) (x y : Index) (pages : List FreshPage) (o : ℕ)
-    (buffers : Buffers x pages) (is : t.open_block ≡ Some o) (ready : IsReady d t) (stands : Stands spare d t x) (free : HasFree t spare)
+    (buffers : Buffers x pages) (is : t.open_block ≡ Some o) (ready : IsReady d t) (stands : Stands spare d t x) (free : HasFreeBlocks t spare)
     (writable : AreWritable d.geometry pages) (ranges : HaveRanges pages) (fit : length pages ≤ room t)
     (lasts : Lasts d e) (then : IsReady e u) (numbers : HandsOut d e t u) (same : SameCounts t u) (after : StaysOrCloses (length pages) o t u) (limits : IsWithinLimits t → IsWithinLimits u) (power : e.gone ≡ false)
     (shows : d.honest ≡ true → ShowsGroup (next_group t (length pages) o) (name_at pages t.next_group) (bytes_at pages) d.flash e.flash)
@@ -238,7 +238,7 @@ module _ (spare : ℕ) (lists : ListsAreWhole) (d e : Device) (t u v : Table) (x
   shut : (u.open_block ≡ t.open_block) ⊎ (u.open_block ≡ None)
   shut = elim after [ inl (still, next) ↦ inl still | inr none ↦ inr none ]
 
-  pub free_whole : HasFree v spare
+  pub free_whole : HasFreeBlocks v spare
   free_whole = free_settled spare lists group t u v x y pages settles buffers agree counts same stands.tables free numbers.groups_rise lies fills opened not_free shut
 
   pub bad_whole : bad_count v ≡ bad_count t
@@ -271,7 +271,7 @@ module _ (spare : ℕ) (lists : ListsAreWhole) (d e : Device) (t u v : Table) (x
 -- ---- nothing is buffered
 
 module _ (spare : ℕ) (lists : ListsAreWhole) (w : WrittenGroup) (d : Device) (t v : Table) (x y : Index) (pages : List FreshPage) (none : pages ≡ [])
-    (buffers : Buffers x pages) (ready : IsReady d t) (stands : Stands spare d t x) (free : HasFree t spare)
+    (buffers : Buffers x pages) (ready : IsReady d t) (stands : Stands spare d t x) (free : HasFreeBlocks t spare)
     (settles : Settles w x y) (agree : CountsAgree v y) (counts : Recounts (kept_in x) (kept_in y) t v) where
   no_page : length pages ≡ 0
   no_page = ap length none
@@ -291,7 +291,7 @@ module _ (spare : ℕ) (lists : ListsAreWhole) (w : WrittenGroup) (d : Device) (
   written_is : (b : ℕ) → t.open_block ≡ Some b → (t.entry b).kept + length pages ≤ (t.entry b).next
   written_is b at = let fit = stands.tables.written b at in let zero_long = no_page in omega (arith, fit, zero_long)
 
-  pub free_empty : HasFree v spare
+  pub free_empty : HasFreeBlocks v spare
   free_empty = free_settled spare lists w t t v x y pages settles buffers agree counts here stands.tables free (omega arith) (λ q c i at. absurd (not_there q c i at)) full written_is (λ _. no_page) (inl refl)
 
   pub bad_empty : bad_count v ≡ bad_count t
@@ -326,8 +326,8 @@ pub kept_before : (w : WrittenGroup) (x y : Index) (pages : List FreshPage) → 
 kept_before w x y pages none buffers settles q c p is = go (present x q c) refl
   where
     go : (r : Present) → present x q c ≡ r → kept_pages x q c ≡ Some p
-    go presents.Absent at = let two : None ≡ Some p = sym (settles.kept q c ∙ ap (written w) at) ∙ is in absurd cc
-    go (presents.OnFlash k) at = on_flash_kept x q c k at ∙ sym (settles.kept q c ∙ ap (written w) at) ∙ is
+    go presents.Absent at = let two : None ≡ Some p = sym (settles.kept q c ∙ ap (once_written w) at) ∙ is in absurd cc
+    go (presents.OnFlash k) at = on_flash_kept x q c k at ∙ sym (settles.kept q c ∙ ap (once_written w) at) ∙ is
     go (presents.InBuffer i) at =
         let lt : i < length pages = place_within pages i _ (buffers.there q c i at) in
         let zero_long : length pages ≡ 0 = ap length none in

@@ -23,7 +23,7 @@ use Rattle.page_buffer.specs.laws.Buffering.{buffers_empty}
 use Rattle.transactions.specs.Ready.{IsReady}
 use Rattle.transactions.specs.laws.Handing.{hands_on, hands_nothing}
 use Rattle.bad_blocks.specs.Moving.{Moves}
-use Rattle.bad_blocks.specs.Standing.{AreKept, HasFree, IsKept, IsWithinLimits, KeepsFree, SameData, Stands}
+use Rattle.bad_blocks.specs.Standing.{AreKept, HasFreeBlocks, IsKept, IsWithinLimits, KeepsFree, SameData, Stands}
 use Rattle.bad_blocks.specs.laws.FreeBlocks.{free_here, free_on, leaves_fewer}
 use Rattle.bad_blocks.specs.laws.Keeping.{had_power}
 use Rattle.collector.specs.Making.{LeavesRoom, WhyNoRoom}
@@ -241,7 +241,7 @@ whole_after spare a b c t u v x y z b0 b1 b2 stands first same then = record {
   power = then.power;
 }
 
-pub whole_then : (spare : ℕ) (a b c : Device) (t u v : Table) (x y z : Index) (b0 b1 : Buffer) → IsWhole spare a b t u x y b0 b1 → Keeps spare b c u v y z → HasFree v spare → c.gone ≡ false
+pub whole_then : (spare : ℕ) (a b c : Device) (t u v : Table) (x y z : Index) (b0 b1 : Buffer) → IsWhole spare a b t u x y b0 b1 → Keeps spare b c u v y z → HasFreeBlocks v spare → c.gone ≡ false
     → IsWhole spare a c t v x z b0 b1
 whole_then spare a b c t u v x y z b0 b1 first then free power = record {
   commits = commits_then spare a b c t u v x y z (buffered b0) first.commits then;

@@ -24,7 +24,7 @@ use Rattle.transactions.specs.Newest.{NewestAfter, ShowsGroup}
 use Rattle.transactions.specs.Ready.{IsReady}
 use Rattle.transactions.specs.declared.group.GroupFault.TheVariants as group_faults
 use Rattle.transactions.specs.declared.group.Placed.{Placed}
-use Rattle.bad_blocks.specs.Standing.{AreHeld, HasFree, HasVersion, IsKept, Stands, TablesAgree}
+use Rattle.bad_blocks.specs.Standing.{AreHeld, HasFreeBlocks, HasVersion, IsKept, Stands, TablesAgree}
 use Rattle.bad_blocks.specs.laws.Keeping.{same_ends, same_closed, limits_ends}
 use Rattle.commits.specs.Carrying.{AreWritable, HaveRanges, StaysOrShows}
 use Rattle.commits.specs.Keeping.{Commits, Keeps, Leaves}
@@ -62,7 +62,7 @@ pub keeps_written : (spare : ℕ) (d e : Device) (t u : Table) (x : Index) (xs :
 keeps_written spare d e t u x xs o lists stands less is lasts then numbers newest = keeps_group spare d e t u x stands (held_lists lists t x stands.tables.counts) less is lasts then numbers newest
 
 -- the device went, and the group counts or not
-pub leaves_gone : (spare : ℕ) (d e : Device) (t u : Table) (x : Index) (pages : List FreshPage) (o : ℕ) → ListsAreWhole → Stands spare d t x → HasFree t spare → t.next_group < 2 ^ 62 → t.open_block ≡ Some o → Buffers x pages → IsReady d t
+pub leaves_gone : (spare : ℕ) (d e : Device) (t u : Table) (x : Index) (pages : List FreshPage) (o : ℕ) → ListsAreWhole → Stands spare d t x → HasFreeBlocks t spare → t.next_group < 2 ^ 62 → t.open_block ≡ Some o → Buffers x pages → IsReady d t
     → u ≡ closed t → Lasts d e → IsReady e u → HandsOut d e t u → e.gone ≡ true → (d.honest ≡ true → Grows d.flash e.flash)
     → (d.honest ≡ true → GroupsAfter (next_group t (length pages) o) (name_at pages t.next_group) (bytes_at pages) d.flash e.flash (Err group_faults.Gone)) → Leaves spare d e t u x x pages pages
 leaves_gone spare d e t u x pages o lists stands free less opened buffers ready is lasts then numbers gone grows groups = record {
@@ -101,7 +101,7 @@ leaves_gone spare d e t u x pages o lists stands free less opened buffers ready 
 
 -- the group counts
 module _ (spare : ℕ) (lists : ListsAreWhole) (d e : Device) (t u v : Table) (x y : Index) (pages : List FreshPage) (o : ℕ) (placed : Placed)
-    (buffers : Buffers x pages) (is : t.open_block ≡ Some o) (ready : IsReady d t) (stands : Stands spare d t x) (free : HasFree t spare)
+    (buffers : Buffers x pages) (is : t.open_block ≡ Some o) (ready : IsReady d t) (stands : Stands spare d t x) (free : HasFreeBlocks t spare)
     (writable : AreWritable d.geometry pages) (ranges : HaveRanges pages) (fit : length pages ≤ room t) (less : t.next_group < 2 ^ 62)
     (lasts : Lasts d e) (then : IsReady e u) (numbers : HandsOut d e t u) (grows : d.honest ≡ true → Grows d.flash e.flash) (table : OkTable placed.suspect (length pages) t u) (power : e.gone ≡ false)
     (tells : TellsGroup (next_group t (length pages) o) placed)
@@ -120,6 +120,6 @@ module _ (spare : ℕ) (lists : ListsAreWhole) (d e : Device) (t u v : Table) (x
   commits_written = commits_whole spare lists d e t u v x y pages o buffers is ready stands free writable ranges fit lasts then numbers (same_ends (length pages) t u (Ok placed) table)
       (open_after placed.suspect (length pages) o t u is table) (limits_ends (length pages) t u (Ok placed) table less) power shows settles_there agree counts
 
-  pub free_written : HasFree v spare
+  pub free_written : HasFreeBlocks v spare
   free_written = free_whole spare lists d e t u v x y pages o buffers is ready stands free writable ranges fit lasts then numbers (same_ends (length pages) t u (Ok placed) table)
       (open_after placed.suspect (length pages) o t u is table) (limits_ends (length pages) t u (Ok placed) table less) power shows settles_there agree counts

@@ -5,10 +5,10 @@ use Rattle.block_state.specs.Kept.{bad_count}
 use Rattle.block_state.specs.Table.{Table}
 use Rattle.chunk_index.specs.declared.index.Index.{Index}
 use Rattle.page_buffer.specs.declared.buffer.Buffer.{Buffer}
-use Rattle.page_buffer.specs.BufferOf.{buffered, written, most_pages, bytes_of_page}
+use Rattle.page_buffer.specs.BufferOf.{buffered, last_written, most_pages, bytes_of_page}
 use Rattle.page_buffer.specs.Buffering.{IsUnbuffered}
 use Rattle.page_buffer.specs.Shown.{kept_data, present_data}
-use Rattle.bad_blocks.specs.Standing.{HasFree}
+use Rattle.bad_blocks.specs.Standing.{HasFreeBlocks}
 use Rattle.collector.specs.Making.{FitsOpen, HasMore, WhyNoRoom}
 use Rattle.collector.specs.declared.fault.RoomFault.{RoomFault}
 use Rattle.pages.specs.Stores.{IsCarried}
@@ -26,12 +26,12 @@ pub record SameSizes (old new : Buffer) : Type 0 where
 pub record IsCommitted (spare : ℕ) (old new : Device) (t t' : Table) (x x' : Index) (b b' : Buffer) : Type 0 where
   pub unbuffered : IsUnbuffered x'
   pub empty : buffered b' ≡ []
-  pub last : written b' ≡ buffered b
+  pub last : last_written b' ≡ buffered b
   pub kept : old.honest ≡ true → (o c : ℕ) → kept_data x' new.flash o c ≡ present_data x (buffered b) old.flash o c
   pub present : old.honest ≡ true → (o c : ℕ) → present_data x' (buffered b') new.flash o c ≡ present_data x (buffered b) old.flash o c
   pub newest : old.honest ≡ true → IsCarried old spare (kept_data x old.flash) → IsCarried new spare (present_data x (buffered b) old.flash)
   pub few : bad_count t' ≤ spare
-  pub free : HasFree t' spare
+  pub free : HasFreeBlocks t' spare
   pub power : 1 ≤ length (buffered b) → new.gone ≡ false
   pub answered : 1 ≤ length (buffered b) → IsAnswered spare old new t t' x
 

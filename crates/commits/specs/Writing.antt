@@ -5,9 +5,9 @@ use Rattle.block_state.specs.Kept.{bad_count}
 use Rattle.block_state.specs.Table.{Table}
 use Rattle.chunk_index.specs.declared.index.Index.{Index}
 use Rattle.page_buffer.specs.declared.buffer.Buffer.{Buffer}
-use Rattle.page_buffer.specs.BufferOf.{buffered, written}
+use Rattle.page_buffer.specs.BufferOf.{buffered, last_written}
 use Rattle.bad_blocks.specs.Moving.{Costs}
-use Rattle.bad_blocks.specs.Standing.{HasFree}
+use Rattle.bad_blocks.specs.Standing.{HasFreeBlocks}
 use Rattle.collector.specs.declared.fault.RoomFault.{RoomFault}
 use Rattle.collector.specs.declared.fault.RoomFault.TheVariants as faults
 use Rattle.commits.specs.declared.writing.Attempt.{Attempt}
@@ -20,13 +20,13 @@ use Rattle.collector.specs.Making.{WhyNoRoom}
 -- the buffer is empty, and its pages are those that were written last
 pub record IsWrittenOut (old new : Buffer) : Type 0 where
   pub empty : buffered new ≡ []
-  pub last : written new ≡ buffered old
+  pub last : last_written new ≡ buffered old
 
 -- the buffered pages count, blocks enough are free, and the device has power
 pub record IsWhole (spare : ℕ) (old new : Device) (t t' : Table) (x x' : Index) (b b' : Buffer) : Type 0 where
   pub commits : Commits spare old new t t' x x' (buffered b)
   pub out : IsWrittenOut b b'
-  pub free : HasFree t' spare
+  pub free : HasFreeBlocks t' spare
   pub power : new.gone ≡ false
 
 -- no buffered page counts, all are buffered still, and the device has power
@@ -61,7 +61,7 @@ unanswered (Err fault) = 0
 -- which a program failed among them
 abbrev pub TurnEnds : (count spare : ℕ) → Device → Device → Table → Table → Index → Index → Buffer → Buffer → Result Turn RoomFault → Type 0
 TurnEnds count spare old new t t' x x' b b' (Ok turns.Written) = IsWhole spare old new t t' x x' b b' × (bad_count t' ≤ spare) × IsAnswered spare old new t t' x
-TurnEnds count spare old new t t' x x' b b' (Ok turns.Again) = IsWaiting spare old new t t' x x' b b' × HasFree t' spare × (bad_count t < bad_count t') × (bad_count t' ≤ spare) × IsAnswered spare old new t t' x
+TurnEnds count spare old new t t' x x' b b' (Ok turns.Again) = IsWaiting spare old new t t' x x' b b' × HasFreeBlocks t' spare × (bad_count t < bad_count t') × (bad_count t' ≤ spare) × IsAnswered spare old new t t' x
 TurnEnds count spare old new t t' x x' b b' (Err fault) = WhyNoRoom count spare new t t' fault
 
 -- What a turn costs: so much for each failure that the device counts; and besides, but where the pages are to be written again,

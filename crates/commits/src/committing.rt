@@ -7,13 +7,13 @@ ghost use Rattle.chunk_index.specs.declared.form.WrittenGroup.{WrittenGroup};
 ghost use Rattle.chunk_index.specs.Counts.{Recounts};
 ghost use Rattle.chunk_index.specs.Maps.{CountsAgree, Settles, kept_in, kept_pages};
 ghost use Rattle.chunk_index.specs.declared.form.KeptPage.{KeptPage};
-ghost use Rattle.page_buffer.specs.BufferOf.{buffered, written};
+ghost use Rattle.page_buffer.specs.BufferOf.{buffered, last_written};
 ghost use Rattle.page_buffer.specs.Buffering.{Buffers, IsUnbuffered};
 ghost use Rattle.transactions.specs.Handing.{HandsOut};
 ghost use Rattle.transactions.specs.Ready.{IsReady};
 ghost use Rattle.bad_blocks.specs.Moving.{Costs, MarksFailures};
 ghost use Rattle.bad_blocks.specs.Room.{IsRoomFor};
-ghost use Rattle.bad_blocks.specs.Standing.{HasFree, Stands};
+ghost use Rattle.bad_blocks.specs.Standing.{HasFreeBlocks, Stands};
 ghost use Rattle.commits.specs.Carrying.{AreWritable, CarriesEither, KeepsOrShows};
 ghost use Rattle.commits.specs.Committing.{CommitEnds, SameSizes, TakesNoBlock, TakesOneBlock};
 ghost use Rattle.commits.specs.Keeping.{StaysReady, WaitsOrSettles};
@@ -36,7 +36,7 @@ fn settle_empty(index: &mut Index, buffer: &mut Buffer, blocks: &mut Blocks)
     ensures counts { Recounts (kept_in index.old) (kept_in index.new) (table blocks.old) (table blocks.new) }
     ensures unbuffered { IsUnbuffered index.new }
     ensures empty { buffered buffer.new ≡ [] }
-    ensures last { written buffer.new ≡ buffered buffer.old }
+    ensures last { last_written buffer.new ≡ buffered buffer.old }
     ensures sizes { SameSizes buffer.old buffer.new }
 {
     let group = WrittenGroup {
@@ -62,7 +62,7 @@ pub fn commit<N: Nand>(
     requires ready { IsReady (N.state device.old) (table blocks.old) }
     requires stands { Stands spare (N.state device.old) (table blocks.old) index.old }
     requires few { bad_count (table blocks.old) ≤ spare }
-    requires free { HasFree (table blocks.old) spare }
+    requires free { HasFreeBlocks (table blocks.old) spare }
     requires room { IsRoomFor (N.state device.old).geometry room.old }
     requires buffers { Buffers index.old (buffered buffer.old) }
     requires pages { AreWritable (N.state device.old).geometry (buffered buffer.old) }

@@ -7,7 +7,7 @@ ghost use Rattle.page_buffer.specs.Buffering.{Buffers};
 ghost use Rattle.transactions.specs.Ready.{IsReady};
 ghost use Rattle.bad_blocks.specs.Moving.{Costs, MarksFailures};
 ghost use Rattle.bad_blocks.specs.Room.{IsRoomFor};
-ghost use Rattle.bad_blocks.specs.Standing.{HasFree, Stands};
+ghost use Rattle.bad_blocks.specs.Standing.{HasFreeBlocks, Stands};
 ghost use Rattle.commits.specs.Carrying.{AreWritable};
 ghost use Rattle.commits.specs.Committing.{SameSizes, TakesNoBlock, TakesOneBlock};
 ghost use Rattle.commits.specs.Keeping.{Leaves};
@@ -43,7 +43,7 @@ fn take_turn<N: Nand>(
     requires ready { IsReady (N.state device.old) (table blocks.old) }
     requires stands { Stands spare (N.state device.old) (table blocks.old) index.old }
     requires few { bad_count (table blocks.old) ≤ spare }
-    requires free { HasFree (table blocks.old) spare }
+    requires free { HasFreeBlocks (table blocks.old) spare }
     requires room { IsRoomFor (N.state device.old).geometry room.old }
     requires buffers { Buffers index.old (buffered buffer.old) }
     requires some { 1 ≤ length (buffered buffer.old) }
@@ -88,7 +88,7 @@ pub(crate) fn write_whole<N: Nand>(
     requires ready { IsReady (N.state device.old) (table blocks.old) }
     requires stands { Stands spare (N.state device.old) (table blocks.old) index.old }
     requires few { bad_count (table blocks.old) ≤ spare }
-    requires free { HasFree (table blocks.old) spare }
+    requires free { HasFreeBlocks (table blocks.old) spare }
     requires room { IsRoomFor (N.state device.old).geometry room.old }
     requires buffers { Buffers index.old (buffered buffer.old) }
     requires some { 1 ≤ length (buffered buffer.old) }

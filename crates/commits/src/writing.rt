@@ -8,7 +8,7 @@ ghost use Rattle.page_buffer.specs.BufferOf.{buffered};
 ghost use Rattle.page_buffer.specs.Buffering.{Buffers};
 ghost use Rattle.transactions.specs.Ready.{IsReady};
 ghost use Rattle.bad_blocks.specs.Moving.{MarksFailures};
-ghost use Rattle.bad_blocks.specs.Standing.{HasFree, Stands};
+ghost use Rattle.bad_blocks.specs.Standing.{HasFreeBlocks, Stands};
 ghost use Rattle.commits.specs.Carrying.{AreWritable};
 ghost use Rattle.commits.specs.Committing.{SameSizes};
 ghost use Rattle.commits.specs.Keeping.{Leaves};
@@ -53,11 +53,11 @@ pub(crate) fn write_buffered<N: Nand>(
     ensures lasts { Lasts (N.state device.old) (N.state device.new) }
     ensures ready { IsReady (N.state device.new) (table blocks.new) }
     ensures bad { bad_count (table blocks.new) ≡ bad_count (table blocks.old) }
-    ensures leaves { (spare : ℕ) → Stands spare (N.state device.old) (table blocks.old) index.old → HasFree (table blocks.old) spare
+    ensures leaves { (spare : ℕ) → Stands spare (N.state device.old) (table blocks.old) index.old → HasFreeBlocks (table blocks.old) spare
         → Leaves spare (N.state device.old) (N.state device.new) (table blocks.old) (table blocks.new) index.old index.new (buffered buffer.old) (buffered buffer.new) }
     ensures marks { MarksFailures 0 (unanswered result) (N.state device.old) (N.state device.new) (table blocks.old) (table blocks.new) }
     ensures costs { (N.state device.new).changes ≤ (N.state device.old).changes + length (buffered buffer.old) }
-    ensures ends { (spare : ℕ) → Stands spare (N.state device.old) (table blocks.old) index.old → HasFree (table blocks.old) spare
+    ensures ends { (spare : ℕ) → Stands spare (N.state device.old) (table blocks.old) index.old → HasFreeBlocks (table blocks.old) spare
         → AttemptEnds spare (N.state device.old) (N.state device.new) (table blocks.old) (table blocks.new) index.old index.new buffer.old buffer.new result }
     ensures sizes { SameSizes buffer.old buffer.new }
 {

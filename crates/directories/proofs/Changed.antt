@@ -11,7 +11,7 @@ use Rattle.volume_terms.specs.Sizes.{Sizes}
 use Rattle.volume_terms.specs.laws.List.{get_push, slice_get_there}
 use Rattle.posix_profile.specs.State.{Entries}
 use Rattle.pages.specs.Maps.{PageMap, has}
-use Rattle.directories.specs.Directories.{SlotOf, ReadsAs}
+use Rattle.directories.specs.Directories.{SlotOf, ReadsDirectory}
 use Rattle.directories.specs.Heads.{fields_in}
 use Rattle.directories.specs.Writes.{HasHead, KeepsSlots}
 use Rattle.directories.specs.declared.head.DirectoryHead.{DirectoryHead}
@@ -21,7 +21,7 @@ use Rattle.directories.proofs.Reading.{one_entry}
 module _ (z : Sizes) (old new : PageMap) (o before moment : ℕ) (entries : Entries) (r : ReadsDir z (has old) o before entries) (head : DirectoryHead) (h : HasHead z new o head)
     (spare : head.spare ≡ r.fields.spare) (when : head.moment ≡ moment) where
   reads_slots : (slots : List Entry) (now : Entries) → head.length ≡ length slots → ((k : ℕ) (e : Entry) → slice_get slots k ≡ Some e → SlotOf z new o k e) → AreOnce slots
-      → now ≡ map.from_entries (slot_pairs slots) → ReadsAs z new o moment now r.fields.spare
+      → now ≡ map.from_entries (slot_pairs slots) → ReadsDirectory z new o moment now r.fields.spare
   reads_slots slots now len each once are = (
     record {
       fields = fields_in z.page_bytes head;
@@ -39,7 +39,7 @@ module _ (z : Sizes) (old new : PageMap) (o before moment : ℕ) (entries : Entr
 
   -- one slot more
   pub reads_added : head.length ≡ length r.slots + 1 → (entry : Entry) → map.get entries entry.name ≡ None → SlotOf z new o (length r.slots) entry → KeepsSlots z old new o (length r.slots) (length r.slots)
-      → ReadsAs z new o moment (map.insert entries entry.name entry.object) r.fields.spare
+      → ReadsDirectory z new o moment (map.insert entries entry.name entry.object) r.fields.spare
   reads_added len entry absent slot kept = reads_slots (r.slots ++ entry ∷ []) (map.insert entries entry.name entry.object) (len ∙ sym (length-append r.slots (entry ∷ [])))
       (λ k e at. elim (get_push r.slots entry k e at) [
         | inl x ↦ kept k e (λ same. omega (arith, same, x.0)) x.0 (r.each k e x.1)
@@ -49,7 +49,7 @@ module _ (z : Sizes) (old new : PageMap) (o before moment : ℕ) (entries : Entr
 
   -- a slot in place of another
   pub reads_put : head.length ≡ length r.slots → (i : ℕ) (e : Entry) → slice_get r.slots i ≡ Some e → (entry : Entry) → entry.name ≡ e.name → SlotOf z new o i entry → KeepsSlots z old new o (length r.slots) i
-      → ReadsAs z new o moment (map.insert entries entry.name entry.object) r.fields.spare
+      → ReadsDirectory z new o moment (map.insert entries entry.name entry.object) r.fields.spare
   reads_put len i e at_i entry name_is slot kept = reads_slots (put_at r.slots i entry) (map.insert entries entry.name entry.object) (len ∙ sym (put_len r.slots i entry))
       (λ k y at. elim (get_put r.slots i entry k y at) [
         | inl x ↦ subst (λ e. SlotOf z new o k e) (sym x.1) (subst (λ n. SlotOf z new o n entry) (sym x.0) slot)
@@ -59,7 +59,7 @@ module _ (z : Sizes) (old new : PageMap) (o before moment : ℕ) (entries : Entr
 
   -- one slot less
   pub reads_fewer : z.page_bytes ≤ 4096 → length r.slots ≡ head.length + 1 → (i : ℕ) (e : Entry) → slice_get r.slots i ≡ Some e
-      → (i < head.length → (x : Entry) × SlotOf z old o head.length x × SlotOf z new o i x) → KeepsSlots z old new o head.length i → ReadsAs z new o moment (map.remove entries e.name) r.fields.spare
+      → (i < head.length → (x : Entry) × SlotOf z old o head.length x × SlotOf z new o i x) → KeepsSlots z old new o head.length i → ReadsDirectory z new o moment (map.remove entries e.name) r.fields.spare
   reads_fewer few len i e at_i filled kept =
       let last : ℕ = head.length in
       let l = slice_get_there r.slots last (omega (arith, len)) in
@@ -78,7 +78,7 @@ module _ (z : Sizes) (old new : PageMap) (o before moment : ℕ) (entries : Entr
       (once_fewer r.slots r.once entries r.entries_are i e at_i last len l.0 l.1) (entries_fewer r.slots r.once entries r.entries_are i e at_i last len l.0 l.1)
 
 -- a directory whose pages stay
-pub reads_kept : (z : Sizes) (m n : PageMap) (o moment : ℕ) (entries : Entries) (r : ReadsDir z (has m) o moment entries) → ((c : ℕ) → n o c ≡ m o c) → ReadsAs z n o moment entries r.fields.spare
+pub reads_kept : (z : Sizes) (m n : PageMap) (o moment : ℕ) (entries : Entries) (r : ReadsDir z (has m) o moment entries) → ((c : ℕ) → n o c ≡ m o c) → ReadsDirectory z n o moment entries r.fields.spare
 reads_kept z m n o moment entries r same = (
   record {
     fields = r.fields;

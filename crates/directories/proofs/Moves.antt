@@ -12,22 +12,22 @@ use Rattle.pages.specs.Maps.{PageMap, has, changed}
 use Rattle.pages.specs.State.{PagesState, OnlyFinds}
 use Rattle.pages.specs.laws.Changes.{others_keep}
 use Rattle.pages.specs.declared.change.Change.{Change}
-use Rattle.directories.specs.Directories.{DirIn, ReadsAs, SlotOf, LeadsFrom, TellsOf}
+use Rattle.directories.specs.Directories.{DirIn, ReadsDirectory, SlotOf, LeadsFrom, TellsOf}
 use Rattle.directories.specs.Heads.{IsHeaded}
 use Rattle.directories.proofs.Changed.{reads_kept}
 
 -- a directory after the first change is one after it once more pages were looked for
 pub read_then : (old mid : PagesState) → OnlyFinds old mid → (first : Change) (z : Sizes) (o moment : ℕ) (entries : Entries) (spare : ℕ) → old.sound ≡ true → z.page_bytes ≡ old.page_bytes
-    → ReadsAs z (changed first old.present) o moment entries spare → DirIn (after (Some first) mid) z o moment entries
+    → ReadsDirectory z (changed first old.present) o moment entries spare → DirIn (after (Some first) mid) z o moment entries
 read_then old mid finds first z o moment entries spare sound size reads = record {
   sound = finds.sound ∙ sound;
   size = size ∙ sym finds.page_bytes;
-  reads = (subst (λ (k : PageMap). ReadsAs z (changed first k) o moment entries spare) (sym finds.present) reads).0;
+  reads = (subst (λ (k : PageMap). ReadsDirectory z (changed first k) o moment entries spare) (sym finds.present) reads).0;
 }
 
 -- a directory that the first change is not of
 pub read_besides : (first : Change) (source : ℕ) → IsOnlyOf first source → (m : PageMap) (z : Sizes) (o moment : ℕ) (entries : Entries) → source ≢ o → (r : ReadsDir z (has m) o moment entries)
-    → ReadsAs z (changed first m) o moment entries r.fields.spare
+    → ReadsDirectory z (changed first m) o moment entries r.fields.spare
 read_besides first source only m z o moment entries apart r =
     reads_kept z m (changed first m) o moment entries r (λ k. others_keep first source only m o k (λ same. apart (sym same)))
 

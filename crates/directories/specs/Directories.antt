@@ -30,8 +30,8 @@ abbrev pub HasBeside : Sizes → PageMap → ℕ → ℕ → ℕ → Type 0
 HasBeside z m d count i = (k : ℕ) → k < count → k / page_slots z ≡ i / page_slots z → (page : List ℕ) × (m d (1 + k / page_slots z) ≡ Some page)
 
 -- after a change of the pages the object is this directory, with the spare blocks that were there
-abbrev pub ReadsAs : Sizes → PageMap → ℕ → ℕ → Entries → ℕ → Type 0
-ReadsAs z m o moment entries spare = (r : ReadsDir z (has m) o moment entries) × (r.fields.spare ≡ spare)
+abbrev pub ReadsDirectory : Sizes → PageMap → ℕ → ℕ → Entries → ℕ → Type 0
+ReadsDirectory z m o moment entries spare = (r : ReadsDir z (has m) o moment entries) × (r.fields.spare ≡ spare)
 
 -- the name leads to the object from one of so many slots, or each of them has another name
 abbrev pub LeadsFrom : (ℕ → Entry → Type 0) → ℕ → List ℕ → Option ℕ → Type 0

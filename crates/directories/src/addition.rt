@@ -8,7 +8,7 @@ ghost use Rattle.posix_profile.specs.State.{Entries};
 ghost use Rattle.pages.specs.Changes.{IsChange, IsOnlyOf};
 ghost use Rattle.pages.specs.Maps.{changed};
 ghost use Rattle.pages.specs.State.{OnlyFinds};
-ghost use Rattle.directories.specs.Directories.{DirIn, HasOnly, ReadsAs, TellsEnd};
+ghost use Rattle.directories.specs.Directories.{DirIn, HasOnly, ReadsDirectory, TellsEnd};
 ghost use Rattle.directories.specs.Faults.{MayLackRoom, SaysWhyAdding};
 
 use crate::head::{DirectoryHead, head_after};
@@ -33,7 +33,7 @@ pub fn add<P: Pages>(
     ensures change { IfOk result (λ change. IsChange change (P.state pages.old).page_bytes 2) }
     ensures only { IfOk result (λ change. IsOnlyOf change directory) }
     ensures adds { (z : Sizes) (before : ℕ) (entries : Entries) (d : DirIn (P.state pages.old) z directory before entries) → map.get entries slot.now.name.now ≡ None
-        → IfOk result (λ change. ReadsAs z (changed change (P.state pages.old).present) directory moment (map.insert entries slot.now.name.now slot.now.object) d.reads.fields.spare) }
+        → IfOk result (λ change. ReadsDirectory z (changed change (P.state pages.old).present) directory moment (map.insert entries slot.now.name.now slot.now.object) d.reads.fields.spare) }
     ensures besides { (z : Sizes) (before : ℕ) (entries : Entries) (d : DirIn (P.state pages.old) z directory before entries) → map.get entries slot.now.name.now ≡ None
         → HasOnly z (P.state pages.old).present directory (map.len entries)
         → IfOk result (λ change. HasOnly z (changed change (P.state pages.old).present) directory (map.len (map.insert entries slot.now.name.now slot.now.object))) }

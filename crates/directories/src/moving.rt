@@ -10,7 +10,7 @@ ghost use Rattle.pages.specs.Afterwards.{after, IsSizedBy};
 ghost use Rattle.pages.specs.Changes.{IsChange, IsOnlyOf};
 ghost use Rattle.pages.specs.Maps.{PageMap, changed};
 ghost use Rattle.pages.specs.State.{OnlyFinds};
-ghost use Rattle.directories.specs.Directories.{DirIn, HasOnly, ReadsAs, SlotOf, IsNamed, TellsChange, TellsOf};
+ghost use Rattle.directories.specs.Directories.{DirIn, HasOnly, ReadsDirectory, SlotOf, IsNamed, TellsChange, TellsOf};
 ghost use Rattle.directories.specs.Faults.{MayLackRoom, SaysWhyAdding};
 ghost use Rattle.directories.specs.Slots.{AreSlots};
 ghost use Rattle.directories.specs.Writes.{HasHead, HasKey, KeepsPages, KeepsSlots};
@@ -42,7 +42,7 @@ pub fn rename_within<P: Pages>(
     ensures named { (z : Sizes) (before : ℕ) (entries : Entries) (d : DirIn (P.state pages.old) z directory before entries)
         → IfOk result (λ made. IsNamed entries from.now made) }
     ensures moves { (z : Sizes) (before : ℕ) (entries : Entries) (d : DirIn (P.state pages.old) z directory before entries)
-        → IfOk result (λ made. IfSome made (λ change. ReadsAs z (changed change (P.state pages.old).present) directory moment
+        → IfOk result (λ made. IfSome made (λ change. ReadsDirectory z (changed change (P.state pages.old).present) directory moment
         (map.insert (map.remove entries from.now) to.now.name.now to.now.object) d.reads.fields.spare)) }
     ensures besides { (z : Sizes) (before : ℕ) (entries : Entries) (d : DirIn (P.state pages.old) z directory before entries) → HasOnly z (P.state pages.old).present directory (map.len entries)
         → IfOk result (λ made. IfSome made (λ change. HasOnly z (changed change (P.state pages.old).present) directory
@@ -89,9 +89,9 @@ pub fn rename_between<P: Pages>(
     ensures named { (z : Sizes) (before : ℕ) (entries : Entries) (d : DirIn (P.state pages.old) z route.source before entries)
         → IfOk result (λ made. IsNamed entries from.now made) }
     ensures takes { (z : Sizes) (before : ℕ) (entries : Entries) (d : DirIn (P.state pages.old) z route.source before entries)
-        → IfOk result (λ made. IfSome made (λ change. ReadsAs z (changed change (P.state pages.old).present) route.source moment (map.remove entries from.now) d.reads.fields.spare)) }
+        → IfOk result (λ made. IfSome made (λ change. ReadsDirectory z (changed change (P.state pages.old).present) route.source moment (map.remove entries from.now) d.reads.fields.spare)) }
     ensures gives { (z : Sizes) (before : ℕ) (entries : Entries) (d : DirIn (P.state pages.old) z route.target before entries)
-        → IfOk result (λ made. IfSome made (λ change. ReadsAs z (changed change (P.state pages.old).present) route.target moment
+        → IfOk result (λ made. IfSome made (λ change. ReadsDirectory z (changed change (P.state pages.old).present) route.target moment
         (map.insert entries to.now.name.now to.now.object) d.reads.fields.spare)) }
     ensures source_besides { (z : Sizes) (before : ℕ) (entries : Entries) (d : DirIn (P.state pages.old) z route.source before entries) → HasOnly z (P.state pages.old).present route.source (map.len entries)
         → IfOk result (λ made. IfSome made (λ change. HasOnly z (changed change (P.state pages.old).present) route.source (map.len (map.remove entries from.now)))) }
@@ -131,7 +131,7 @@ fn put_after<P: Pages>(
     ensures only { IfOk result (λ change. IsOnlyOf change directory) }
     ensures head { IfOk result (λ change. HasKey change directory 0) }
     ensures puts { (z : Sizes) (before : ℕ) (entries : Entries) (d : DirIn (after (option_copied earlier.entry) (P.state pages.old)) z directory before entries)
-        → IfOk result (λ change. ReadsAs z (changed change (after (option_copied earlier.entry) (P.state pages.old)).present) directory moment
+        → IfOk result (λ change. ReadsDirectory z (changed change (after (option_copied earlier.entry) (P.state pages.old)).present) directory moment
         (map.insert entries slot.now.name.now slot.now.object) d.reads.fields.spare) }
     ensures besides { (z : Sizes) (before : ℕ) (entries : Entries) (d : DirIn (after (option_copied earlier.entry) (P.state pages.old)) z directory before entries)
         → HasOnly z (after (option_copied earlier.entry) (P.state pages.old)).present directory (map.len entries)

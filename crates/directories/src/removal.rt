@@ -10,7 +10,7 @@ ghost use Rattle.pages.specs.Changes.{IsChange, IsOnlyOf};
 ghost use Rattle.pages.specs.Faults.{MayLack, SaysWhy, MayLackMemory, SaysWhyMaking};
 ghost use Rattle.pages.specs.Maps.{PageMap, changed};
 ghost use Rattle.pages.specs.State.{OnlyFinds};
-ghost use Rattle.directories.specs.Directories.{DirIn, HasOnly, ReadsAs, SlotOf, IsNamed, TellsChange};
+ghost use Rattle.directories.specs.Directories.{DirIn, HasOnly, ReadsDirectory, SlotOf, IsNamed, TellsChange};
 ghost use Rattle.directories.specs.Slots.{AreSlots};
 ghost use Rattle.directories.specs.Writes.{HasHead, HasKey, IsSlotBytes, KeepsBehind, KeepsSlots, LosesSlot, CutsBehind};
 
@@ -41,7 +41,7 @@ pub fn remove<P: Pages>(
     ensures named { (z : Sizes) (before : ℕ) (entries : Entries) (d : DirIn (P.state pages.old) z directory before entries)
         → IfOk result (λ made. IsNamed entries name.now made) }
     ensures removes { (z : Sizes) (before : ℕ) (entries : Entries) (d : DirIn (P.state pages.old) z directory before entries)
-        → IfOk result (λ made. IfSome made (λ change. ReadsAs z (changed change (P.state pages.old).present) directory moment (map.remove entries name.now) d.reads.fields.spare)) }
+        → IfOk result (λ made. IfSome made (λ change. ReadsDirectory z (changed change (P.state pages.old).present) directory moment (map.remove entries name.now) d.reads.fields.spare)) }
     ensures besides { (z : Sizes) (before : ℕ) (entries : Entries) (d : DirIn (P.state pages.old) z directory before entries) → HasOnly z (P.state pages.old).present directory (map.len entries)
         → IfOk result (λ made. IfSome made (λ change. HasOnly z (changed change (P.state pages.old).present) directory (map.len (map.remove entries name.now)))) }
     ensures told { (P.state pages.old).sound ≡ true → (z : Sizes) → z.page_bytes ≡ (P.state pages.old).page_bytes
@@ -72,7 +72,7 @@ pub(crate) fn remove_after<P: Pages>(
     ensures named { (z : Sizes) (before : ℕ) (entries : Entries) (d : DirIn (after (option_copied earlier.entry) (P.state pages.old)) z directory before entries)
         → IfOk result (λ made. IsNamed entries name.now made) }
     ensures removes { (z : Sizes) (before : ℕ) (entries : Entries) (d : DirIn (after (option_copied earlier.entry) (P.state pages.old)) z directory before entries)
-        → IfOk result (λ made. IfSome made (λ change. ReadsAs z (changed change (after (option_copied earlier.entry) (P.state pages.old)).present) directory moment
+        → IfOk result (λ made. IfSome made (λ change. ReadsDirectory z (changed change (after (option_copied earlier.entry) (P.state pages.old)).present) directory moment
         (map.remove entries name.now) d.reads.fields.spare)) }
     ensures besides { (z : Sizes) (before : ℕ) (entries : Entries) (d : DirIn (after (option_copied earlier.entry) (P.state pages.old)) z directory before entries)
         → HasOnly z (after (option_copied earlier.entry) (P.state pages.old)).present directory (map.len entries)

@@ -6,7 +6,7 @@ use Rattle.std.proofs.Math.Nat.{mul-le-mul}
 use Rattle.std.proofs.lemmas.List.{length-replicate}
 use Rattle.std.proofs.lemmas.Nat.Bits.{bit_at-zero}
 use Rattle.volume_terms.specs.laws.List.{zero_at}
-use Rattle.page_tags.specs.Headers.{Fields, IsHeader, IsBytes, MayBeSet, greatest_length, is_present}
+use Rattle.page_tags.specs.Headers.{Fields, IsHeader, IsBytes, MayBeSet, greatest_told, is_present}
 use Rattle.page_tags.specs.declared.header.ObjectKind.TheVariants as kinds
 use Rattle.file_io.specs.Files.{fields_in}
 
@@ -31,7 +31,7 @@ empty_header d moment bits is when = record {
 pub as_two : (d : ℕ) (f : Fields) → IsHeader d f → f.kind ≡ kinds.File → (len moment : ℕ) (bits : List ℕ) → len ≡ f.length → moment ≡ f.moment → bits ≡ f.bits → IsHeader d (fields_in len moment bits)
 as_two d f is kind len moment bits a b c = record {
   spare = omega arith;
-  length_fits = subst (λ k. len ≤ greatest_length d k) kind (subst (λ n. n ≤ greatest_length d f.kind) (sym a) is.length_fits);
+  length_fits = subst (λ k. len ≤ greatest_told d k) kind (subst (λ n. n ≤ greatest_told d f.kind) (sym a) is.length_fits);
   moment = omega (arith, b, is.moment);
   no_moment = λ no'. absurd cc;
   room = ap length c ∙ is.room;

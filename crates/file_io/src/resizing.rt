@@ -1,6 +1,6 @@
 // The length of a file.
 ghost use Rattle.std.specs.Prelude.{◌≡◌, ◌<◌, ◌≤◌, ◌⊎◌, ◌+◌, ◌-◌, ◌*◌, ◌/◌, ◌^◌, ℕ, List, true, false, IfOk, IfErr, OnOk, length, min};
-ghost use Rattle.page_tags.specs.Headers.{greatest_length, is_present};
+ghost use Rattle.page_tags.specs.Headers.{greatest_told, is_present};
 ghost use Rattle.page_tags.specs.declared.header.ObjectKind.TheVariants as kinds;
 ghost use Rattle.posix_profile.specs.Changes.{resized};
 ghost use Rattle.volume_terms.specs.Sizes.{Sizes};
@@ -65,7 +65,7 @@ pub fn set_length<P: Pages>(
     len: u64,
     moment: u64,
 ) -> Result<Change, PageFault>
-    requires { len ≤ greatest_length (P.state pages.old).page_bytes kinds.File }
+    requires { len ≤ greatest_told (P.state pages.old).page_bytes kinds.File }
     ensures finds { OnlyFinds (P.state pages.old) (P.state pages.new) }
     ensures sets { (z : Sizes) (before : ℕ) (all : List ℕ) (f : FileIn (P.state pages.old) z object before all)
         → IfOk result (λ change. Becomes z (P.state pages.old).present (changed change (P.state pages.old).present) object f.reads.fields

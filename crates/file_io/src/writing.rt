@@ -1,6 +1,6 @@
 // The writing of a file.
 ghost use Rattle.std.specs.Prelude.{◌≡◌, ◌≢◌, ◌<◌, ◌≤◌, ◌+◌, ◌-◌, ◌*◌, ◌/◌, ◌%◌, ◌^◌, ◌⊎◌, ℕ, List, [], true, Some, IfOk, IfErr, OnOk, length, min};
-ghost use Rattle.page_tags.specs.Headers.{greatest_length, is_present};
+ghost use Rattle.page_tags.specs.Headers.{greatest_told, is_present};
 ghost use Rattle.page_tags.specs.declared.header.ObjectKind.TheVariants as kinds;
 ghost use Rattle.posix_profile.specs.Changes.{written};
 ghost use Rattle.volume_terms.specs.Sizes.{Sizes};
@@ -131,7 +131,7 @@ pub fn write_at<P: Pages>(
     bytes: &[u8],
     moment: u64,
 ) -> Result<Change, PageFault>
-    requires { offset + length bytes.now ≤ greatest_length (P.state pages.old).page_bytes kinds.File }
+    requires { offset + length bytes.now ≤ greatest_told (P.state pages.old).page_bytes kinds.File }
     ensures finds { OnlyFinds (P.state pages.old) (P.state pages.new) }
     ensures writes { (z : Sizes) (before : ℕ) (all : List ℕ) (f : FileIn (P.state pages.old) z object before all) → 1 ≤ length bytes.now
         → IfOk result (λ change. Becomes z (P.state pages.old).present (changed change (P.state pages.old).present) object f.reads.fields

@@ -9,7 +9,7 @@ use Rattle.line_shell.specs.Scripts.{ReadsScript}
 use Rattle.exerciser.specs.Draws.{session_word}
 use Rattle.nand_model.specs.Calls.{Device}
 use Rattle.posix_profile.specs.declared.command.Stamped.{Stamped}
-use Rattle.flash_program.specs.Images.{NotOpened, Opens, IsCopy, ReadsAs, CutEnds, of_script, of_cut, cut_ended}
+use Rattle.flash_program.specs.Images.{NotOpened, Opens, IsCopy, ReadsInput, CutEnds, of_script, of_cut, cut_ended}
 use Rattle.flash_program.specs.declared.fault.ProgramFault.{ProgramFault}
 use Rattle.flash_program.specs.declared.fault.ProgramFault.TheVariants as faults
 
@@ -30,7 +30,7 @@ module _ {F : Type 0} (known : F → Option (List ℕ)) (image : Option F) (seed
 
   module _ (copy : Device) (input left written : Option (List ℕ)) (copied : IsCopy known image copy) where
     -- the lines are no script
-    pub no_script : (fault : ProgramFault) → ReadsAs input left (Err fault) → CutEnds known image seed sessions input left written written (Err fault)
+    pub no_script : (fault : ProgramFault) → ReadsInput input left (Err fault) → CutEnds known image seed sessions input left written written (Err fault)
     no_script fault (why, reads, is) = inr (copied.0, copied.1, inr (inl (why, reads, ends_alike fault (of_script why) is, refl)))
 
     -- the commands were done

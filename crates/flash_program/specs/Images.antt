@@ -77,9 +77,9 @@ cut_ended (Ok done) = Ok done
 cut_ended (Err fault) = Err (of_cut fault)
 
 -- the lines were read as a script, or the fault of that is told
-abbrev pub ReadsAs : Option (List ℕ) → Option (List ℕ) → Result (Vec Stamped) ProgramFault → Type 0
-ReadsAs input left (Ok script) = ReadsScript input left (Ok script)
-ReadsAs input left (Err told) = (fault : ScriptFault) × ReadsScript input left (Err fault) × (told ≡ of_script fault)
+abbrev pub ReadsInput : Option (List ℕ) → Option (List ℕ) → Result (Vec Stamped) ProgramFault → Type 0
+ReadsInput input left (Ok script) = ReadsScript input left (Ok script)
+ReadsInput input left (Err told) = (fault : ScriptFault) × ReadsScript input left (Err fault) × (told ≡ of_script fault)
 
 -- the lines were no script, and nothing is written
 abbrev pub NoScript : Option (List ℕ) → Option (List ℕ) → Option (List ℕ) → Option (List ℕ) → Result (Unit {0}) ProgramFault → Type 0

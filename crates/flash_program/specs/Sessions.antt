@@ -1,6 +1,6 @@
 -- What the program does.
 use Rattle.std.specs.Prelude.{◌≡◌, ◌↔◌, ◌⊎◌, ℕ, true, false, List, Option, Result, Ok, Err}
-use Rattle.flash_tree.specs.Sound.{IsSound}
+use Rattle.flash_tree.specs.Sound.{IsSoundFlash}
 use Rattle.formatting.specs.declared.fault.FormatFault.TheVariants as formats
 use Rattle.line_shell.specs.Runs.{Shell}
 use Rattle.line_shell.specs.declared.fault.ShellFault.{ShellFault}
@@ -76,7 +76,7 @@ pub record IsFresh (device : Device) : Type 0 where
   pub blocks_are : device.geometry.blocks ≡ 8
   pub honest : device.honest ≡ true
   pub has_power : device.gone ≡ false
-  pub sound : IsSound device.geometry device.flash 1 fresh.objects
+  pub sound : IsSoundFlash device.geometry device.flash 1 fresh.objects
 
 -- how the program ends: where no device was made no line is read and nothing is written, else as the lines over a fresh
 -- device do

@@ -2,7 +2,7 @@
 use Rattle.std.specs.Prelude.{◌≡◌, ◌⊎◌, ◌↔◌, ◌<◌, ℕ, ◌+◌, Bool, true, false, List, [], ◌∷◌, ◌++◌, Option, Result, Ok, Err, codes, if◌then◌else◌}
 use Rattle.std.specs.Io.KnownBytes.{Appends}
 use Rattle.flash_tree.specs.Mount.{bad_blocks}
-use Rattle.flash_tree.specs.Sound.{IsSound}
+use Rattle.flash_tree.specs.Sound.{IsSoundFlash}
 use Rattle.formatting.specs.declared.fault.FormatFault.{FormatFault}
 use Rattle.formatting.specs.declared.fault.FormatFault.TheVariants as formats
 use Rattle.line_shell.specs.Replies.{newline, reply_text}
@@ -83,7 +83,7 @@ ShowEnds state inside serves before written now after result =
 pub record IsFormatted (spare : ℕ) (before after : Device) : Type 0 where
   pub honest : after.honest ≡ before.honest
   pub has_power : after.gone ≡ false
-  pub sound : before.honest ≡ true → IsSound after.geometry after.flash spare fresh.objects
+  pub sound : before.honest ≡ true → IsSoundFlash after.geometry after.flash spare fresh.objects
 
 -- A device was not formatted, and nothing is written: for its spare blocks exactly where there are too few others; as worn only
 -- where more of its blocks are bad by then than are spare; as gone only where it is.

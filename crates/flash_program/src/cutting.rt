@@ -4,7 +4,7 @@ ghost use Rattle.exerciser.specs.declared.fault.CutFault.TheVariants as cut_faul
 ghost use Rattle.line_shell.specs.Scripts.{ReadsScript};
 ghost use Rattle.nand_model.specs.Calls.{Device};
 ghost use Rattle.nand_model.specs.MemoryState as memory;
-ghost use Rattle.flash_program.specs.Images.{NotOpened, Opens, IsCopy, of_cut, ReadsAs, CutEnds};
+ghost use Rattle.flash_program.specs.Images.{NotOpened, Opens, IsCopy, of_cut, ReadsInput, CutEnds};
 ghost use Rattle.flash_program.specs.declared.fault.ProgramFault.TheVariants as faults;
 
 use crate::fault::ProgramFault;
@@ -39,7 +39,7 @@ fn copy_of<F: Read + Write + Seek + Drop>(
 
 /// The commands of all lines.
 fn script_of<R: BufRead>(alloc: Global, reader: &mut R) -> Result<Vec<Stamped>, ProgramFault>
-    ensures { ReadsAs (R.remaining reader.old) (R.remaining reader.new) result }
+    ensures { ReadsInput (R.remaining reader.old) (R.remaining reader.new) result }
 {
     match read_script(alloc, reader) {
         Ok(script) => Ok(script),

@@ -1,6 +1,6 @@
 // The program: a flash in memory is formatted, mounted, asked by the lines of a shell and unmounted.
 ghost use Rattle.std.specs.Prelude.{◌≡◌, ◌⊎◌, true, false, IfOk, IfErr};
-ghost use Rattle.flash_tree.specs.Sound.{IsSound};
+ghost use Rattle.flash_tree.specs.Sound.{IsSoundFlash};
 ghost use Rattle.nand_model.specs.Calls.{Device};
 ghost use Rattle.nand_model.specs.MemoryState.{device};
 ghost use Rattle.posix_calls.specs.Volumes.{over_pages};

@@ -10,7 +10,7 @@ use Rattle.flash_tree.specs.Tree.{Shows}
 use Rattle.flash_tree.specs.Mount.{sizes_of, IsVolume, HasRoom, bad_blocks}
 
 -- the flash shows this tree of a volume of so many spare blocks; no more blocks than these are bad, there is room to go on, and no number is used up
-pub record IsSound (g : Geometry) (flash : Flash) (spare : ℕ) (objects : Objects) : Type 0 where
+pub record IsSoundFlash (g : Geometry) (flash : Flash) (spare : ℕ) (objects : Objects) : Type 0 where
   pub volume : IsVolume g (HasNewest flash) spare
   pub shows : Shows (sizes_of g spare) (HasNewest flash) objects
   pub room : HasRoom g flash spare objects

@@ -14,7 +14,7 @@ ghost use Rattle.flash_tree.specs.Keeping.{StaysNewest, KeepsNewest, KeepsElsewh
 ghost use Rattle.flash_tree.specs.Places.{CountsByTag};
 ghost use Rattle.flash_tree.specs.Tree.{Shows, KeepsFootprint};
 ghost use Rattle.flash_tree.specs.Mount.{ListEnd, GoesThrough, sizes_of, IsVolume, IsFree, HasFree, HasRoom, Answer, Answers, IsTreeOf};
-ghost use Rattle.flash_tree.specs.Sound.{IsSound};
+ghost use Rattle.flash_tree.specs.Sound.{IsSoundFlash};
 ghost use Rattle.nand_model.specs.declared.geometry.Geometry.{Geometry};
 
 /// A key has one newest page at most, and so one newest data.
@@ -116,7 +116,7 @@ pub fn a_flash_has_one_answer_at_most()
 
 /// The answer of a sound flash is its tree.
 pub fn a_sound_flash_answers_its_tree()
-    ensures { (g : Geometry) (flash : Flash) (spare : ℕ) (objects : Objects) → IsSound g flash spare objects → Answers g flash (IsTreeOf spare objects) }
+    ensures { (g : Geometry) (flash : Flash) (spare : ℕ) (objects : Objects) → IsSoundFlash g flash spare objects → Answers g flash (IsTreeOf spare objects) }
 {}
 
 /// Going through the objects of a list ends in one way.

@@ -22,7 +22,7 @@ use Rattle.flash_tree.specs.laws.Newest.{one_tag}
 use Rattle.flash_tree.specs.laws.Order.{not_after_itself}
 use Rattle.flash_tree.specs.Tree.{ReadsDir, ReadsAs}
 use Rattle.flash_tree.specs.Mount.{sizes_of, bad_blocks, IsFree, HasRoom}
-use Rattle.flash_tree.specs.Sound.{IsSound}
+use Rattle.flash_tree.specs.Sound.{IsSoundFlash}
 use Rattle.flash_tree.specs.laws.Free.{free_of_picked}
 use Rattle.volume_terms.specs.Sizes.{number_limit}
 use Rattle.flash_tree.specs.declared.place.FreshPage.{FreshPage}
@@ -184,7 +184,7 @@ module _ (g : Geometry) (flash : Flash) (spare : ℕ) (room : spare + 4 ≤ g.bl
     free = λ few. free_of_picked g flash z fresh.objects picks (1 + spare - bad_blocks g flash) free (omega (arith, enough_picked flash.bad alone.block g.blocks, room));
   }
 
-  pub sound : IsSound g flash spare fresh.objects
+  pub sound : IsSoundFlash g flash spare fresh.objects
   sound = record {
     volume = record { fields = root_reads.fields; has = root_reads.has; kind = refl; spare_is = refl; room = room };
     shows = record { tree = fresh_tree z; each = each };
@@ -195,7 +195,7 @@ module _ (g : Geometry) (flash : Flash) (spare : ℕ) (room : spare + 4 ≤ g.bl
 
 -- what a formatting leaves
 pub volume_of : (old new : Device) (spare : ℕ) (page : FreshPage) → old.honest ≡ true → spare + 4 ≤ old.geometry.blocks → Keeps old new → bad_blocks new.geometry new.flash ≤ spare
-    → IsHeadPage page old.geometry.bytes root_number (record { spare = spare; length = 0; moment = 0 }) → HoldsOnly new page → IsSound new.geometry new.flash spare fresh.objects
+    → IsHeadPage page old.geometry.bytes root_number (record { spare = spare; length = 0; moment = 0 }) → HoldsOnly new page → IsSoundFlash new.geometry new.flash spare fresh.objects
 volume_of old new spare page honest room keeps few_bad is only =
     let same : old.geometry ≡ new.geometry = sym keeps.lasts.geometry in
     let some_room : spare + 4 ≤ new.geometry.blocks = subst (λ (g : Geometry). spare + 4 ≤ g.blocks) same room in

@@ -2,7 +2,7 @@
 ghost use Rattle.std.specs.Prelude.{◌≡◌, ◌↔◌, ◌⊎◌, ◌<◌, ◌≤◌, ◌+◌, ◌-◌, ℕ, true, false, length, IfOk, IfErr, IsErrAnd, OnOk};
 ghost use Rattle.nand_model.specs.Calls.{Lasts};
 ghost use Rattle.flash_tree.specs.Mount.{bad_blocks};
-ghost use Rattle.flash_tree.specs.Sound.{IsSound};
+ghost use Rattle.flash_tree.specs.Sound.{IsSoundFlash};
 ghost use Rattle.posix_profile.specs.laws.Fresh.{fresh};
 ghost use Rattle.formatting.specs.Formatting.{Keeps, HoldsOnly, Explains, given_back};
 
@@ -39,7 +39,7 @@ fn lay_out<N: Nand>(device: &mut N, page: &FreshPage, spare: u32) -> Result<(), 
 /// in good blocks is erased; a block that fails is marked bad. What `Spare` and `NoMemory` refuse is left as it is.
 pub fn format<N: Nand>(alloc: Global, device: N, spare: u32) -> Result<N, (N, FormatFault)>
     ensures lasts { Lasts (N.state device) (N.state (given_back result)) }
-    ensures formatted { (N.state device).honest ≡ true → IfOk result (λ d. IsSound (N.state d).geometry (N.state d).flash spare fresh.objects) }
+    ensures formatted { (N.state device).honest ≡ true → IfOk result (λ d. IsSoundFlash (N.state d).geometry (N.state d).flash spare fresh.objects) }
     ensures few_bad { IfOk result (λ d. bad_blocks (N.state d).geometry (N.state d).flash ≤ spare) }
     ensures has_power { IfOk result (λ d. (N.state d).gone ≡ false) }
     ensures spare { IsErrAnd result (λ back. back.1 ≡ FormatFault.Spare) ↔ ((N.state device).geometry.blocks < spare + 4) }

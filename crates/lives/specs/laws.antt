@@ -1,3 +1,2 @@
 pub mod Sessions
 pub mod LifeLaws
-pub mod PlainLaws

@@ -17,7 +17,7 @@ use Rattle.chunk_index.specs.Maps.{kept_pages, kept_in, present}
 use Rattle.chunk_index.specs.declared.form.KeptPage.{KeptPage}
 use Rattle.chunk_index.specs.declared.index.Index.{Index}
 use Rattle.transactions.specs.Ready.{IsReady}
-use Rattle.bad_blocks.specs.Standing.{AreHeld, IsKept, Stands, HasFree}
+use Rattle.bad_blocks.specs.Standing.{AreHeld, IsKept, Stands, HasFreeBlocks}
 use Rattle.bad_blocks.specs.laws.FreeBlocks.{leaves_fewer, leaves_unkept, same_bad_blocks}
 use Rattle.bad_blocks.specs.laws.Moves.{are_held}
 use Rattle.page_buffer.specs.BufferOf.{buffered, most_pages}
@@ -69,7 +69,7 @@ module _ (keeps : ℕ → ℕ → Bool) (d : Device) (t : Table) (x : Index) (n 
     counts : SameCounts t (marked d.flash t)
     counts = record { bad = λ b. sym (ready.marks b); kept = λ b. refl; geometry = refl }
 
-    pub free : HasFree t spare
+    pub free : HasFreeBlocks t spare
     free =
         let same : bad_on d ≡ bad_count t = same_bad_blocks d t ready in
         let enough : 1 + spare ≤ unkept_count (marked d.flash t) + bad_on d = room can.1 in

@@ -7,13 +7,13 @@ use Rattle.block_state.specs.Kept.{free_count, unkept_count}
 use Rattle.block_state.specs.Table.{Table}
 use Rattle.block_state.specs.laws.Kept.{free_where_closed}
 use Rattle.chunk_index.specs.declared.index.Index.{Index}
-use Rattle.bad_blocks.specs.Standing.{Stands, HasFree}
+use Rattle.bad_blocks.specs.Standing.{Stands, HasFreeBlocks}
 use Rattle.newest_pages.specs.Opened.{AreLeft}
 use Rattle.mounting.specs.Marked.{AreFitting}
 use Rattle.mounting.specs.Tables.{IsPruned}
 
 -- Where numbers are left and blocks enough are free, a store can stand on the tables.
-pub stands_pruned : (keeps : ℕ → ℕ → Bool) (spare : ℕ) (d : Device) (t : Table) (x : Index) (n : Numbers) → IsPruned keeps d t x n → AreLeft n → AreFitting t → HasFree t spare → Stands spare d t x
+pub stands_pruned : (keeps : ℕ → ℕ → Bool) (spare : ℕ) (d : Device) (t : Table) (x : Index) (n : Numbers) → IsPruned keeps d t x n → AreLeft n → AreFitting t → HasFreeBlocks t spare → Stands spare d t x
 stands_pruned keeps spare d t x n pruned left fits free = record {
   tables = record {
     counts = pruned.counts;

@@ -6,7 +6,7 @@ use Rattle.std.specs.FinMap as map
 use Rattle.std.proofs.lemmas.List.{append-nil, take-append-drop}
 use Rattle.std.proofs.Math.Seq.{take-append_seam}
 use Rattle.std.proofs.Math.ListN.{drop_of_length-le}
-use Rattle.page_tags.specs.Headers.{greatest_length}
+use Rattle.page_tags.specs.Headers.{greatest_told}
 use Rattle.page_tags.specs.declared.header.ObjectKind.{ObjectKind}
 use Rattle.page_tags.specs.declared.header.ObjectKind.TheVariants as kinds
 use Rattle.volume_terms.specs.Sizes.{Sizes, most_file_bytes}
@@ -46,7 +46,7 @@ module _ (p : PagesState) (z : Sizes) (objects : Objects) (h : HoldsIn p z objec
   pub file_fits : length file.1 ≤ most_file_bytes z.page_bytes
   file_fits =
       let r = (held_file p z objects h o file).reads in
-      let fits : r.fields.length ≤ greatest_length z.page_bytes kinds.File = subst (λ (k : ObjectKind). r.fields.length ≤ greatest_length z.page_bytes k) r.kind r.has.1.length_fits in
+      let fits : r.fields.length ≤ greatest_told z.page_bytes kinds.File = subst (λ (k : ObjectKind). r.fields.length ≤ greatest_told z.page_bytes k) r.kind r.has.1.length_fits in
       omega (arith, fits, r.size)
 
   -- the file becomes another, and no other object changes

@@ -14,7 +14,7 @@ use Rattle.pages.specs.Maps.{PageMap, changed}
 use Rattle.pages.specs.State.{PagesState}
 use Rattle.pages.specs.laws.Changes.{others_keep, changed_same}
 use Rattle.pages.specs.declared.change.Change.{Change}
-use Rattle.directories.specs.Directories.{HasOnly, ReadsAs}
+use Rattle.directories.specs.Directories.{HasOnly, ReadsDirectory}
 use Rattle.object_pages.specs.Holding.{HoldsDirectory, HoldsObject, HoldsObjects, HoldsIn}
 use Rattle.object_pages.specs.laws.Holding.{held_directory, directory_in, same_object, put_object}
 
@@ -58,13 +58,13 @@ put_two z m n objects holds a b x y apart keeps first second = record {
 
 module _ (p : PagesState) (z : Sizes) (objects : Objects) (h : HoldsIn p z objects) (d : ℕ) (dir : IsDirectory objects d) where
   -- a directory that reads so, with the spare blocks that its header said and nothing behind its slots
-  pub now_directory : (n : PageMap) (moment : ℕ) (entries : Entries) → ReadsAs z n d moment entries (directory_in p z objects h d dir).reads.fields.spare → HasOnly z n d (map.len entries)
+  pub now_directory : (n : PageMap) (moment : ℕ) (entries : Entries) → ReadsDirectory z n d moment entries (directory_in p z objects h d dir).reads.fields.spare → HasOnly z n d (map.len entries)
       → HoldsDirectory z n d moment entries
   now_directory n moment entries reads only = record { reads = reads.0; only = only; spare = λ root. reads.1 ∙ (held_directory p z objects h d dir).spare root }
 
   -- the directory becomes another, and no other object changes
   pub holds_directory : (change : Change) (moment : ℕ) (entries : Entries) → IsOnlyOf change d
-      → ReadsAs z (changed change p.present) d moment entries (directory_in p z objects h d dir).reads.fields.spare → HasOnly z (changed change p.present) d (map.len entries)
+      → ReadsDirectory z (changed change p.present) d moment entries (directory_in p z objects h d dir).reads.fields.spare → HasOnly z (changed change p.present) d (map.len entries)
       → HoldsObjects z (changed change p.present) (map.insert objects d (Dir moment entries))
   holds_directory change moment entries only reads besides =
       put_object z p.present (changed change p.present) objects h.holds d (Dir moment entries) (λ q c other. others_keep change d only p.present q c other)
@@ -89,7 +89,7 @@ module _ (p : PagesState) (z : Sizes) (objects : Objects) (h : HoldsIn p z objec
   -- an object is new, and the directory names it
   pub holds_new : (x : Object) (o : ℕ) → o ≡ new_number objects → (first second : Change) (moment : ℕ) (put name : Name) (got : ℕ) → put ≡ name → got ≡ o
       → IsOnlyOf first o → IsOnlyOf second d → HoldsObject z (changed first p.present) o (Some x)
-      → ReadsAs z (changed second p.present) d moment (map.insert dir.1 put got) (directory_in p z objects h d dir).reads.fields.spare
+      → ReadsDirectory z (changed second p.present) d moment (map.insert dir.1 put got) (directory_in p z objects h d dir).reads.fields.spare
       → HasOnly z (changed second p.present) d (map.len (map.insert dir.1 put got))
       → HoldsObjects z (changed second (changed first p.present)) (with_object objects moment d name x)
   holds_new x o is first second moment put name got same_name same_number only_first only_second made reads besides =
@@ -112,7 +112,7 @@ module _ (p : PagesState) (z : Sizes) (objects : Objects) (h : HoldsIn p z objec
 
   -- a name goes from the directory and another is put there
   pub holds_renamed : (change : Change) (moment : ℕ) (from to : Name) (o : ℕ) → ((q c : ℕ) → q ≢ d → changed change p.present q c ≡ p.present q c)
-      → ReadsAs z (changed change p.present) d moment (map.insert (map.remove dir.1 from) to o) (directory_in p z objects h d dir).reads.fields.spare
+      → ReadsDirectory z (changed change p.present) d moment (map.insert (map.remove dir.1 from) to o) (directory_in p z objects h d dir).reads.fields.spare
       → HasOnly z (changed change p.present) d (map.len (map.insert (map.remove dir.1 from) to o))
       → HoldsObjects z (changed change p.present) (with_name (without_name objects moment d from) moment d to o)
   holds_renamed change moment from to o others reads besides =

@@ -1,7 +1,7 @@
 // What a change and a commit do to the cache.
 ghost use Rattle.std.specs.Prelude.{◌≡◌, None};
 ghost use Rattle.pages.specs.Maps.{PageMap};
-ghost use Rattle.page_buffer.specs.BufferOf.{buffered, written, most_pages, bytes_of_page};
+ghost use Rattle.page_buffer.specs.BufferOf.{buffered, last_written, most_pages, bytes_of_page};
 ghost use Rattle.page_cache.specs.Cached.{cached, page_bytes_of};
 ghost use Rattle.page_cache.specs.Changes.{KeepsSizes};
 ghost use Rattle.objects.specs.Caching.{Shows, HasNoMore, LacksCuts, LacksPages, AreIn, TakesPages};
@@ -52,8 +52,8 @@ pub(crate) fn keep_written(buffer: &mut Buffer, cache: &mut PageCache)
     ensures pages { buffered buffer.new ≡ buffered buffer.old }
     ensures buffer_sizes { (most_pages buffer.new ≡ most_pages buffer.old) × (bytes_of_page buffer.new ≡ bytes_of_page buffer.old) }
     ensures sizes { KeepsSizes cache.old cache.new }
-    ensures shows { (m : PageMap) → Shows cache.old m → AreIn (written buffer.old) m → Shows cache.new m }
-    ensures takes { TakesPages (written buffer.old) cache.old cache.new }
+    ensures shows { (m : PageMap) → Shows cache.old m → AreIn (last_written buffer.old) m → Shows cache.new m }
+    ensures takes { TakesPages (last_written buffer.old) cache.old cache.new }
 {
     while let Some(page) = buffer.take_written() {
         let _frame = cache.exchange(page.key, page.bytes);

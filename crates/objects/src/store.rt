@@ -5,7 +5,7 @@ ghost use Rattle.block_state.specs.Kept.{bad_count};
 ghost use Rattle.block_state.specs.TableOf.{table};
 ghost use Rattle.transactions.specs.Ready.{IsReady};
 ghost use Rattle.bad_blocks.specs.Room.{IsRoomFor};
-ghost use Rattle.bad_blocks.specs.Standing.{AreKept, Stands, HasFree};
+ghost use Rattle.bad_blocks.specs.Standing.{AreKept, Stands, HasFreeBlocks};
 ghost use Rattle.chunk_index.specs.Maps.{kept_pages, present};
 ghost use Rattle.chunk_index.specs.declared.form.Present.TheVariants as presents;
 ghost use Rattle.page_buffer.specs.Buffering.{Buffers, IsUnbuffered};
@@ -72,7 +72,7 @@ pub struct Store<N: Nand> {
     ghost cache_size: { page_bytes_of cache ≡ (N.state device).geometry.bytes },
     ghost place: { IsFound (buffered buffer) found },
     ghost few: { broken ≡ false → bad_count (table blocks) ≤ spare },
-    ghost free: { broken ≡ false → HasFree (table blocks) spare },
+    ghost free: { broken ≡ false → HasFreeBlocks (table blocks) spare },
     // Each kept page is the newest of its key, also where the device has gone in a read.
     ghost newest: { broken ≡ false → (N.state device).honest ≡ true → AreKept (N.state device).flash (kept_pages index) } by { newest_kept_prop broken (N.state device).honest (N.state device).flash (kept_pages index) },
     ghost shown: { broken ≡ false → (N.state device).honest ≡ true → Shows cache (present_data index (buffered buffer) (N.state device).flash) },
@@ -123,7 +123,7 @@ impl<N: Nand> Store<N> {
         requires stands { Stands spare (N.state device) (table blocks) index }
         requires kept { (N.state device).honest ≡ true → AreKept (N.state device).flash (kept_pages index) }
         requires few { bad_count (table blocks) ≤ spare }
-        requires free { HasFree (table blocks) spare }
+        requires free { HasFreeBlocks (table blocks) spare }
         requires none { IsUnbuffered index }
         ensures device { IfOk result (λ store. N.state store.device ≡ N.state device) }
         ensures blocks { IfOk result (λ store. (table store.blocks ≡ table blocks) × (store.spare ≡ spare)) }

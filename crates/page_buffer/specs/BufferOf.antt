@@ -8,8 +8,8 @@ abbrev pub buffered : Buffer → List FreshPage
 buffered it = it.pages.items
 
 -- the pages that were written last and not taken since
-abbrev pub written : Buffer → List FreshPage
-written it = it.written.items
+abbrev pub last_written : Buffer → List FreshPage
+last_written it = it.written.items
 
 -- how many pages it holds at most
 abbrev pub most_pages : Buffer → ℕ

@@ -30,7 +30,7 @@ pub struct Buffer {
 }
 
 impl Buffer {
-    ghost use Rattle.page_buffer.specs.BufferOf.{buffered, written, most_pages, bytes_of_page};
+    ghost use Rattle.page_buffer.specs.BufferOf.{buffered, last_written, most_pages, bytes_of_page};
 
     /// An empty buffer, with room for so many pages of so many bytes.
     pub fn new(alloc: Global, most: u32, page_bytes: u32) -> Result<Buffer, AllocError>
@@ -71,7 +71,7 @@ impl Buffer {
         ensures counts { Recounts (kept_in index.old) (kept_in index.new) (table blocks.old) (table blocks.new) }
         ensures none { IsUnbuffered index.new }
         ensures empty { buffered self.new ≡ [] }
-        ensures written { written self.new ≡ buffered self.old }
+        ensures written { last_written self.new ≡ buffered self.old }
         ensures sizes { (most_pages self.new ≡ most_pages self.old) × (bytes_of_page self.new ≡ bytes_of_page self.old) }
     {
         index.settle_group(group, blocks);
@@ -81,8 +81,8 @@ impl Buffer {
 
     /// One of the pages that were written last, which leaves them.
     pub fn take_written(&mut self) -> Option<FreshPage>
-        ensures written { written self.old ≡ written self.new ++ option_to_list result }
-        ensures all { is_some result ≡ false → written self.new ≡ [] }
+        ensures written { last_written self.old ≡ last_written self.new ++ option_to_list result }
+        ensures all { is_some result ≡ false → last_written self.new ≡ [] }
         ensures pages { buffered self.new ≡ buffered self.old }
         ensures sizes { (most_pages self.new ≡ most_pages self.old) × (bytes_of_page self.new ≡ bytes_of_page self.old) }
     {

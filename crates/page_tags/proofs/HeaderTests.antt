@@ -12,7 +12,7 @@ use Rattle.page_tags.specs.declared.header.HeaderFault.{HeaderFault}
 use Rattle.page_tags.specs.declared.header.HeaderFault.TheVariants as faults
 use Rattle.page_tags.specs.Headers.{Fields, IsBytes, IsFirstFault, IsHeaderOf, format_number, kind_number, HasFault, is_present, magic, length_in, moment_in}
 use Rattle.page_tags.specs.laws.Byte.{zeros_from_each, each_from_zeros}
-use Rattle.page_tags.specs.HeaderParts.{HasPast, IsSound, fields_in, last_chunk}
+use Rattle.page_tags.specs.HeaderParts.{HasPast, IsSoundHeader, fields_in, last_chunk}
 use Rattle.page_tags.specs.laws.Header.{header_from_sound, header_or_fault, may_be_set, pad_from_past, same_format, same_kind}
 
 -- a format that does not allow the moment is the first one
@@ -61,7 +61,7 @@ no_header page fault few first f h = header_or_fault page f fault few h first.he
 
 -- what was read, part by part
 pub header_from_reads :
-    (page : List ℕ) (format : Format) (kind : ObjectKind) → 32 ≤ length page → IsBytes page → IsSound page format kind
+    (page : List ℕ) (format : Format) (kind : ObjectKind) → 32 ≤ length page → IsBytes page → IsSoundHeader page format kind
     → (f : Fields) → f.format ≡ format → f.kind ≡ kind → f.spare ≡ little_number 2 (drop 6 page) → f.length ≡ length_in page → f.moment ≡ moment_in page
     → f.bits ≡ drop 32 page → IsHeaderOf page f
 header_from_reads page format kind least bytes sound f format_is kind_is spare len moment bits =

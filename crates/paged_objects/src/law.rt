@@ -1,6 +1,6 @@
 // What a mount finds of the objects. A function here does nothing: its clause is the law.
 ghost use Rattle.std.specs.Prelude.{◌≡◌, ◌≤◌, true};
-ghost use Rattle.flash_tree.specs.Sound.{IsSound};
+ghost use Rattle.flash_tree.specs.Sound.{IsSoundFlash};
 ghost use Rattle.pages.specs.State.{PagesState};
 ghost use Rattle.pages.specs.Stores.{HasNumbersLeft, bad_on};
 ghost use Rattle.posix_profile.specs.State.{Objects};
@@ -11,5 +11,5 @@ ghost use Rattle.paged_objects.specs.Standing.{Shown};
 /// blocks are bad than are to spare.
 pub fn a_shown_tree_is_on_the_flash()
     ensures { (z : Sizes) (p : PagesState) (tree : Objects) → Shown z p tree → p.device.honest ≡ true → HasNumbersLeft p.device.flash → bad_on p.device ≤ p.spare
-        → IsSound p.device.geometry p.device.flash p.spare tree }
+        → IsSoundFlash p.device.geometry p.device.flash p.spare tree }
 {}

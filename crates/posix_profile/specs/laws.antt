@@ -1,5 +1,4 @@
 pub mod Below
-pub mod Byte
 pub mod Charge
 pub mod Directory
 pub mod Entry

@@ -12,15 +12,15 @@ use Rattle.posix_profile.specs.declared.reply.Errno.TheVariants as errors
 use Rattle.posix_profile.specs.declared.reply.Reply.{Reply}
 use Rattle.posix_profile.specs.declared.reply.Reply.TheVariants as replies
 use Rattle.flash_tree.specs.Mount.{Answer, Answers, NotAVolume, IsWrong, IsTreeOf, IsNewer, IsDamaged, sizes_of}
-use Rattle.flash_tree.specs.Sound.{IsSound}
+use Rattle.flash_tree.specs.Sound.{IsSoundFlash}
 use Rattle.lives.specs.Lives.{MountAnswer, NoMemory, Gone, SessionRecord, IsSessionFrom}
 use Rattle.mounting.specs.Faults.{WhyNotMounted}
 use Rattle.mounting.specs.declared.fault.MountFault.{MountFault}
 use Rattle.mounting.specs.declared.fault.MountFault.TheVariants as faults
 use Rattle.powercut.specs.Sessions.{answer_of}
 use Rattle.powercut.specs.Living.{HasSame, HasLived}
-use Rattle.powercut.specs.laws.SameFlash.{sound_same}
-use Rattle.powercut.specs.laws.Living.{lived_still}
+use Rattle.powercut.proofs.SameFlash.{sound_same}
+use Rattle.powercut.proofs.Living.{lived_still}
 
 -- what is recorded of a session whose mount failed
 abbrev pub failed_record : List Stamped → MountAnswer → Bool → SessionRecord
@@ -55,7 +55,7 @@ module _ (z : Sizes) (tree : Objects) (commands : List Stamped) (cut : Bool) whe
   }
 
 module _ (one : (g : Geometry) (flash : Flash) (a b : Answer) → Answers g flash a → Answers g flash b → a ≡ b) (d e : Device) (commands : List Stamped) (honest : d.honest ≡ true) (reads : OnlyReads d e) where
-  module _ (spare : ℕ) (tree : Objects) (sound : IsSound e.geometry e.flash spare tree) where
+  module _ (spare : ℕ) (tree : Objects) (sound : IsSoundFlash e.geometry e.flash spare tree) where
     -- a sound flash has no other answer than its tree
     no_other : (a : Answer) → Answers e.geometry e.flash a → a ≡ IsTreeOf spare tree
     no_other a answers = one e.geometry e.flash a (IsTreeOf spare tree) answers (sound.volume, sound.shows, sound.room)
@@ -79,7 +79,7 @@ module _ (one : (g : Geometry) (flash : Flash) (a b : Answer) → Answers g flas
         numbers = still.numbers;
         known = still.known;
         life = λ spare tree sound within.
-            let there = subst (λ (g : Geometry). IsSound g e.flash spare tree) (sym reads.lasts.geometry) (sound_same d.geometry d.flash e.flash same spare tree sound) in
+            let there = subst (λ (g : Geometry). IsSoundFlash g e.flash spare tree) (sym reads.lasts.geometry) (sound_same d.geometry d.flash e.flash same spare tree sound) in
             (tree, (tree, session_failed spare tree there fault why (sizes_of d.geometry spare), refl), there);
       }
 

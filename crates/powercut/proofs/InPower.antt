@@ -11,7 +11,7 @@ use Rattle.nand_model.specs.laws.Calls.{lasts_on}
 use Rattle.nand_model.specs.declared.geometry.Geometry.{Geometry}
 use Rattle.posix_profile.specs.Losses.{Covers, settled_after}
 use Rattle.posix_profile.specs.State.{Objects}
-use Rattle.posix_profile.specs.laws.Sound.{IsSound as IsSoundState}
+use Rattle.posix_profile.specs.laws.Sound.{IsSoundFlash as IsSoundState}
 use Rattle.posix_profile.specs.declared.command.Stamped.{Stamped}
 use Rattle.posix_profile.specs.declared.reply.Errno.TheVariants as errors
 use Rattle.posix_profile.specs.declared.reply.Reply.{Reply}
@@ -19,7 +19,7 @@ use Rattle.posix_profile.specs.declared.reply.Reply.TheVariants as replies
 use Rattle.flash_tree.specs.Newest.{Numbers, AreGreatest}
 use Rattle.flash_tree.specs.Numbering.{AreBelow}
 use Rattle.flash_tree.specs.Mount.{Answer, Answers, IsTreeOf, sizes_of}
-use Rattle.flash_tree.specs.Sound.{IsSound}
+use Rattle.flash_tree.specs.Sound.{IsSoundFlash}
 use Rattle.lives.specs.Lives.{Mounted, Gone, SessionRecord, at_mount, IsSessionFrom, IsLife}
 use Rattle.lives.specs.laws.Sessions.{loss_keeps}
 use Rattle.pages.specs.State.{PagesState, NextNumbers}
@@ -32,8 +32,8 @@ use Rattle.paged_objects.specs.laws.OnFlash.{shown_sound}
 use Rattle.powercut.specs.Commands.{Meaning, LeavesFrom, IsUsed}
 use Rattle.powercut.specs.Limits.{StaysWithin}
 use Rattle.powercut.specs.Living.{HasSame, AreWithin, HasLived}
-use Rattle.powercut.specs.laws.SameFlash.{same_back, greatest_same, sound_same}
-use Rattle.powercut.specs.laws.Living.{greatest_within}
+use Rattle.powercut.proofs.SameFlash.{same_back, greatest_same, sound_same}
+use Rattle.powercut.proofs.Living.{greatest_within}
 
 -- what is recorded of a session whose mount was done
 abbrev pub mounted_record : List Stamped → List Reply → Option Reply → Bool → SessionRecord
@@ -154,9 +154,9 @@ module _ {V : Type 0} (m : Meaning V) (v : V) (d e : Device) (commands : List St
       let all = numbers_written p q used.goes_on p_honest n next.1 next.2 more (risen ∙ ap (λ m. m + more) (sym reads.changes)) k t tag good has in
       (omega (arith, all.0, at.1), omega (arith, all.1, at.2))
 
-  module _ (spare : ℕ) (tree : Objects) (sound : IsSound d.geometry d.flash spare tree) (within : StaysWithin spare d q.device) where
-    sound_there : IsSound p.device.geometry p.device.flash spare tree
-    sound_there = subst (λ (g : Geometry). IsSound g p.device.flash spare tree) (sym reads.lasts.geometry) (sound_same d.geometry d.flash p.device.flash same spare tree sound)
+  module _ (spare : ℕ) (tree : Objects) (sound : IsSoundFlash d.geometry d.flash spare tree) (within : StaysWithin spare d q.device) where
+    sound_there : IsSoundFlash p.device.geometry p.device.flash spare tree
+    sound_there = subst (λ (g : Geometry). IsSoundFlash g p.device.flash spare tree) (sym reads.lasts.geometry) (sound_same d.geometry d.flash p.device.flash same spare tree sound)
 
     found : IsTreeOf p.spare objects ≡ IsTreeOf spare tree
     found = one p.device.geometry p.device.flash (IsTreeOf p.spare objects) (IsTreeOf spare tree) stands.answers (sound_there.volume, sound_there.shows, sound_there.room)
@@ -206,17 +206,17 @@ module _ {V : Type 0} (m : Meaning V) (v : V) (d e : Device) (commands : List St
     ends_by_cut (inr (inr (inl seq))) = absurd (omega (arith, seq, seqs_left))
     ends_by_cut (inr (inr (inr many))) = let few = within.few_bad in let kept = used.goes_on.spare in let is = spare_is in absurd (omega (arith, many, few, kept, is))
 
-    left_sound : (after : Objects) → Shown (volume_of p) q after → IsSound q.device.geometry q.device.flash spare after
+    left_sound : (after : Objects) → Shown (volume_of p) q after → IsSoundFlash q.device.geometry q.device.flash spare after
     left_sound after shown =
         let few = within.few_bad in
         let is : q.spare ≡ spare = used.goes_on.spare ∙ spare_is in
-        subst (λ k. IsSound q.device.geometry q.device.flash k after) is
+        subst (λ k. IsSoundFlash q.device.geometry q.device.flash k after) is
         (shown_sound (volume_of p) q after shown (lasts.honest ∙ honest) (used.goes_on.limits p_honest sound_there.numbers) (omega (arith, few, is)))
 
     sizes_are : volume_of p ≡ sizes_of d.geometry spare
     sizes_are = ap (λ (g : Geometry). sizes_of g p.spare) reads.lasts.geometry ∙ ap (λ k. sizes_of d.geometry k) spare_is
 
-    life : (after : Objects) × IsLife (sizes_of d.geometry spare) tree (mounted_record commands told unmounted q.device.gone ∷ []) after × IsSound q.device.geometry q.device.flash spare after
+    life : (after : Objects) × IsLife (sizes_of d.geometry spare) tree (mounted_record commands told unmounted q.device.gone ∷ []) after × IsSoundFlash q.device.geometry q.device.flash spare after
     life =
         let leaves = used.leaves goes is_written (volume_of p) (at_mount objects) objects stands.volume stands.shown in
         let session = session_served (volume_of p) objects commands told unmounted q stands.sound leaves q.device.gone ends_by_cut in

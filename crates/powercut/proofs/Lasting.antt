@@ -11,7 +11,7 @@ use Rattle.powercut.specs.Sessions.{answer_of, record_of}
 use Rattle.powercut.specs.declared.serving.Served.{Served}
 use Rattle.powercut.specs.declared.session.Session.{Session}
 use Rattle.powercut.specs.Starting.{Starts}
-use Rattle.powercut.specs.laws.Living.{lived_still, lived_on}
+use Rattle.powercut.proofs.Living.{lived_still, lived_on}
 
 module _ (fused : Bool) (a b c : Device) (starts : Starts fused a b) where
   -- the power-up changes nothing that counts

@@ -3,3 +3,6 @@ mod Doing
 mod InPower
 mod FailedMount
 mod Standing
+mod SameFlash
+mod Living
+mod Lists

@@ -4,4 +4,3 @@ pub mod Living
 pub mod Commands
 pub mod Starting
 pub mod Serving
-pub mod laws

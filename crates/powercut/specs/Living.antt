@@ -7,7 +7,7 @@ use Rattle.page_tags.specs.declared.tag.Tag.{Tag}
 use Rattle.flash_tree.specs.Groups.{HasTag}
 use Rattle.flash_tree.specs.Newest.{Numbers, AreGreatest}
 use Rattle.flash_tree.specs.Mount.{sizes_of}
-use Rattle.flash_tree.specs.Sound.{IsSound}
+use Rattle.flash_tree.specs.Sound.{IsSoundFlash}
 use Rattle.posix_profile.specs.State.{Objects}
 use Rattle.lives.specs.Lives.{SessionRecord, IsLife}
 use Rattle.powercut.specs.Limits.{StaysWithin}
@@ -31,5 +31,5 @@ pub record HasLived (first last : Device) (sessions : List SessionRecord) : Type
   pub marks : (b : ℕ) → first.flash.bad b ≡ true → last.flash.bad b ≡ true
   pub numbers : (group seq more : ℕ) → AreWithin first.flash group seq → last.changes ≡ first.changes + more → AreWithin last.flash (group + more) (seq + more)
   pub known : HasSame first.flash last.flash ⊎ ((n : Numbers) × AreGreatest first.flash n)
-  pub life : (spare : ℕ) (tree : Objects) → IsSound first.geometry first.flash spare tree → StaysWithin spare first last
-      → (left : Objects) × IsLife (sizes_of first.geometry spare) tree sessions left × IsSound last.geometry last.flash spare left
+  pub life : (spare : ℕ) (tree : Objects) → IsSoundFlash first.geometry first.flash spare tree → StaysWithin spare first last
+      → (left : Objects) × IsLife (sizes_of first.geometry spare) tree sessions left × IsSoundFlash last.geometry last.flash spare left

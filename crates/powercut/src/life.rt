@@ -2,7 +2,7 @@
 ghost use Rattle.std.specs.Prelude.{◌≡◌, ◌+◌, ◌∷◌, [], ℕ, true, false, length, is_some, IfOk, if◌then◌else◌};
 ghost use Rattle.nand_model.specs.MemoryState.{device};
 ghost use Rattle.flash_tree.specs.Mount.{sizes_of};
-ghost use Rattle.flash_tree.specs.Sound.{IsSound};
+ghost use Rattle.flash_tree.specs.Sound.{IsSoundFlash};
 ghost use Rattle.lives.specs.Lives.{IsLife};
 ghost use Rattle.posix_profile.specs.State.{Objects};
 ghost use Rattle.powercut.specs.Sessions.{record_of, records_of, UnmountAsAsked, UnmountsAsAsked, CutsByFuses, cuts_in};
@@ -68,8 +68,8 @@ pub fn live(
 ) -> Result<(MemNand, Vec<SessionEnd>), LiveFault>
     ensures ends { IfOk result (λ lived. length lived.1.items ≡ length sessions.now) }
     ensures geometry { IfOk result (λ lived. (device lived.0).geometry ≡ (device nand).geometry) }
-    ensures life { IfOk result (λ lived. (spare : ℕ) (tree : Objects) → IsSound (device nand).geometry (device nand).flash spare tree → StaysWithin spare (device nand) (device lived.0)
-        → (last : Objects) × IsLife (sizes_of (device nand).geometry spare) tree (records_of sessions.now lived.1.items) last × IsSound (device lived.0).geometry (device lived.0).flash spare last) }
+    ensures life { IfOk result (λ lived. (spare : ℕ) (tree : Objects) → IsSoundFlash (device nand).geometry (device nand).flash spare tree → StaysWithin spare (device nand) (device lived.0)
+        → (last : Objects) × IsLife (sizes_of (device nand).geometry spare) tree (records_of sessions.now lived.1.items) last × IsSoundFlash (device lived.0).geometry (device lived.0).flash spare last) }
     ensures unmounts { IfOk result (λ lived. UnmountsAsAsked sessions.now lived.1.items) }
     ensures cuts { IfOk result (λ lived. (device lived.0).cuts ≡ (device nand).cuts + cuts_in lived.1.items) }
     ensures fuses { IfOk result (λ lived. CutsByFuses sessions.now lived.1.items) }

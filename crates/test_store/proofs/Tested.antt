@@ -7,7 +7,7 @@ use Rattle.flash_tree.specs.Newest.{Numbers}
 use Rattle.block_state.specs.Table.{Table}
 use Rattle.block_state.specs.laws.Kept.{free_where_closed}
 use Rattle.chunk_index.specs.declared.index.Index.{Index}
-use Rattle.bad_blocks.specs.Standing.{Stands, HasFree}
+use Rattle.bad_blocks.specs.Standing.{Stands, HasFreeBlocks}
 use Rattle.newest_pages.specs.Opened.{AreLeft}
 use Rattle.test_store.specs.Keeping.{KeepsNewest}
 
@@ -15,7 +15,7 @@ use Rattle.test_store.specs.Keeping.{KeepsNewest}
 pub record IsTested (spare : ℕ) (t : Table) (n : Numbers) : Type 0 where
   pub left : AreLeft n
   pub fits : (b : ℕ) → b < t.geometry.blocks → (t.entry b).kept ≤ t.geometry.pages
-  pub free : HasFree t spare
+  pub free : HasFreeBlocks t spare
   pub limits : (t.next_group ≤ 2 ^ 62) × (t.next_seq ≤ 2 ^ 62)
 
 -- a block has no more kept pages than it has pages, also where there is no such block

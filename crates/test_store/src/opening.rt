@@ -6,7 +6,7 @@ ghost use Rattle.block_state.specs.Kept.{bad_count};
 ghost use Rattle.block_state.specs.TableOf.{table};
 ghost use Rattle.chunk_index.specs.Maps.{CountsAgree};
 ghost use Rattle.transactions.specs.Ready.{IsReady};
-ghost use Rattle.bad_blocks.specs.Standing.{Stands, HasFree};
+ghost use Rattle.bad_blocks.specs.Standing.{Stands, HasFreeBlocks};
 ghost use Rattle.newest_pages.specs.Opened.{IsOpened};
 ghost use Rattle.test_store.specs.Keeping.{KeepsNewest};
 
@@ -57,7 +57,7 @@ fn fit(blocks: &Blocks) -> bool
 /// Whether no more blocks are bad than these, and blocks enough are free.
 fn has_free(blocks: &Blocks, spare: u32) -> bool
     ensures few { IsTrue result → bad_count (table blocks.now) ≤ spare }
-    ensures free { IsTrue result → HasFree (table blocks.now) spare }
+    ensures free { IsTrue result → HasFreeBlocks (table blocks.now) spare }
 {
     let (free, bad) = (blocks.free_count(), blocks.bad_count());
     bad <= spare && u64::from(free) + u64::from(bad) > u64::from(spare)
@@ -71,7 +71,7 @@ fn may_stand(opened: &Opened, spare: u32) -> bool
     ensures stands { IsTrue result → (d : Device) → KeepsNewest d (table opened.now.blocks) opened.now.index (numbers_of opened.now.numbers)
         → Stands spare d (table opened.now.blocks) opened.now.index }
     ensures few { IsTrue result → bad_count (table opened.now.blocks) ≤ spare }
-    ensures free { IsTrue result → HasFree (table opened.now.blocks) spare }
+    ensures free { IsTrue result → HasFreeBlocks (table opened.now.blocks) spare }
 {
     if opened.numbers.group >= NUMBER_END || opened.numbers.seq >= NUMBER_END {
         return false;

@@ -13,12 +13,12 @@ use Rattle.chunk_index.specs.declared.form.Present.{Present}
 use Rattle.chunk_index.specs.declared.form.Present.TheVariants as presents
 use Rattle.chunk_index.specs.declared.form.WrittenGroup.{WrittenGroup}
 use Rattle.chunk_index.specs.declared.index.Index.{Index}
-use Rattle.chunk_index.specs.Maps.{kept_pages, present, written, Settles, SamePresent}
+use Rattle.chunk_index.specs.Maps.{kept_pages, present, once_written, Settles, SamePresent}
 use Rattle.page_buffer.specs.Shown.{data_at, data_by, kept_data, present_data}
 use Rattle.page_buffer.specs.Buffering.{Buffers, HasWritten, IsUnbuffered, key_at}
 
 data_written : (g : WrittenGroup) (old new : Flash) (pages : List FreshPage) (p : Present) → HasWritten g pages new → ((i : ℕ) → p ≡ presents.InBuffer i → i < length pages) → ((k : KeptPage) → p ≡ presents.OnFlash k → data_at new k ≡ data_at old k)
-    → option_and_then (data_at new) (written g p) ≡ data_by old pages p
+    → option_and_then (data_at new) (once_written g p) ≡ data_by old pages p
 data_written g old new pages presents.Absent has within same = refl
 data_written g old new pages (presents.OnFlash k) has within same = same k refl
 data_written g old new pages (presents.InBuffer i) has within same = has i (within i refl)

@@ -10,10 +10,10 @@ use Rattle.page_tags.specs.declared.header.ObjectKind.{ObjectKind}
 use Rattle.page_tags.specs.declared.header.ObjectKind.TheVariants as kinds
 use Rattle.page_tags.specs.declared.header.HeaderFault.{HeaderFault}
 use Rattle.page_tags.specs.declared.header.HeaderFault.TheVariants as faults
-use Rattle.page_tags.specs.Headers.{Fields, magic, format_number, kind_number, header_bytes, is_present, IsBytes, greatest_length, MayBeSet, IsHeader, IsHeaderOf, length_in, moment_in, HasFault, rank, IsFirstFault}
+use Rattle.page_tags.specs.Headers.{Fields, magic, format_number, kind_number, header_bytes, is_present, IsBytes, greatest_told, MayBeSet, IsHeader, IsHeaderOf, length_in, moment_in, HasFault, rank, IsFirstFault}
 use Rattle.page_tags.specs.laws.Byte.{joined, little_bytes_at, IsBytes-drop}
 use Rattle.volume_terms.specs.laws.List.{same_or_not}
-use Rattle.page_tags.specs.HeaderParts.{HasFormat, HasNonePast, HasPast, IsSound, fields_in, last_chunk}
+use Rattle.page_tags.specs.HeaderParts.{HasFormat, HasNonePast, HasPast, IsSoundHeader, fields_in, last_chunk}
 use Rattle.page_tags.specs.laws.Bit.{past_or_none}
 
 -- ---- what stands in the bytes of a header
@@ -51,7 +51,7 @@ unfolding header_bytes
 moment_at f fits = little_number-reads_back 8 f.moment (replicate 8 0 ++ f.bits) (omega arith)
 
 -- no length over pages of at most 4096 bytes needs more than 64 bits
-pub length_small : (d : ℕ) (kind : ObjectKind) (n : ℕ) → d ≤ 4096 → n ≤ greatest_length d kind → n < 2 ^ 64
+pub length_small : (d : ℕ) (kind : ObjectKind) (n : ℕ) → d ≤ 4096 → n ≤ greatest_told d kind → n < 2 ^ 64
 length_small d kinds.File n few fits = omega (arith, mul-le (8 * (d - 32)) d (8 * 4096) 4096 (omega arith) few)
 length_small d kinds.Directory n few fits = omega arith
 
@@ -87,7 +87,7 @@ one_header page f g few h k = same_fields (length page) f g few h.valid k.valid 
 -- ---- a page without fault is a header
 
 -- such a page is put together from its parts
-from_parts : (page : List ℕ) (format : Format) (kind : ObjectKind) → 32 ≤ length page → IsBytes page → IsSound page format kind → header_bytes (fields_in page format kind) ≡ page
+from_parts : (page : List ℕ) (format : Format) (kind : ObjectKind) → 32 ≤ length page → IsBytes page → IsSoundHeader page format kind → header_bytes (fields_in page format kind) ≡ page
 unfolding header_bytes
 from_parts page format kind least bytes sound =
     let two : format_number format ∷ kind_number kind ∷ [] ≡ take 2 (drop 4 page) =
@@ -101,7 +101,7 @@ from_parts page format kind least bytes sound =
     ap (λ front. front ++ drop 32 page) to_32 ∙ take-append-drop 32 page
 
 -- a page with nothing wrong is the encoding of what it says
-pub header_from_sound : (page : List ℕ) (format : Format) (kind : ObjectKind) → 32 ≤ length page → IsBytes page → IsSound page format kind → IsHeaderOf page (fields_in page format kind)
+pub header_from_sound : (page : List ℕ) (format : Format) (kind : ObjectKind) → 32 ≤ length page → IsBytes page → IsSoundHeader page format kind → IsHeaderOf page (fields_in page format kind)
 header_from_sound page format kind least bytes sound = record {
   valid = record {
     spare = little_from-lt 0 2 (drop 6 page) (IsBytes-drop 6 page bytes);
@@ -135,25 +135,25 @@ no_newer_fault page format n begins newer = omega (arith, format_range format, b
 no_kind_fault : (page : List ℕ) (kind : ObjectKind) → get_or page 5 0 ≡ kind_number kind → HasFault page faults.Kind → ⊥
 no_kind_fault page kind is unknown = kind_known kind (λ e. unknown.0 (is ∙ e), λ e. unknown.1 (is ∙ e))
 
-no_length_fault : (page : List ℕ) (kind : ObjectKind) → get_or page 5 0 ≡ kind_number kind → length_in page ≤ greatest_length (length page) kind → HasFault page faults.Length → ⊥
+no_length_fault : (page : List ℕ) (kind : ObjectKind) → get_or page 5 0 ≡ kind_number kind → length_in page ≤ greatest_told (length page) kind → HasFault page faults.Length → ⊥
 no_length_fault page kind is fits long =
-    let greatest = ap (greatest_length (length page)) (same_kind long.0 kind (sym long.1 ∙ is)) in
+    let greatest = ap (greatest_told (length page)) (same_kind long.0 kind (sym long.1 ∙ is)) in
     omega (arith, long.2)
 
-no_pad_fault : (page : List ℕ) (format : Format) (kind : ObjectKind) → IsSound page format kind → HasFault page faults.Pad → ⊥
+no_pad_fault : (page : List ℕ) (format : Format) (kind : ObjectKind) → IsSoundHeader page format kind → HasFault page faults.Pad → ⊥
 no_pad_fault page format kind sound (inl dated) = dated.1 (sound.no_moment (same_format format formats.One (sym sound.begins.format_next ∙ dated.0)))
 no_pad_fault page format kind sound (inr (inl other)) = other sound.zeros
 no_pad_fault page format kind sound (inr (inr past)) =
     past.5 (subst (λ k. MayBeSet (length page) k (length_in page) past.1) (same_kind kind past.0 (sym sound.kind_next ∙ past.2)) (sound.within past.1 past.3 past.4))
 
-pub sound_or_fault : (page : List ℕ) (format : Format) (kind : ObjectKind) (fault : HeaderFault) → IsSound page format kind → HasFault page fault → ⊥
+pub sound_or_fault : (page : List ℕ) (format : Format) (kind : ObjectKind) (fault : HeaderFault) → IsSoundHeader page format kind → HasFault page fault → ⊥
 sound_or_fault page format kind faults.Magic sound = no_magic_fault page format sound.begins
 sound_or_fault page format kind (faults.Newer n) sound = no_newer_fault page format n sound.begins
 sound_or_fault page format kind faults.Kind sound = no_kind_fault page kind sound.kind_next
 sound_or_fault page format kind faults.Length sound = no_length_fault page kind sound.kind_next sound.length_fits
 sound_or_fault page format kind faults.Pad sound = no_pad_fault page format kind sound
 
-sound_from_header : (page : List ℕ) (f : Fields) → length page ≤ 4096 → IsHeaderOf page f → IsSound page f.format f.kind
+sound_from_header : (page : List ℕ) (f : Fields) → length page ≤ 4096 → IsHeaderOf page f → IsSoundHeader page f.format f.kind
 sound_from_header page f few h =
     let len : length_in page ≡ f.length = ap length_in h.encodes ∙ length_at f (length_small (length page) f.kind f.length few h.valid.length_fits) in
     let bits : drop 32 page ≡ f.bits = ap (drop 32) h.encodes ∙ bits_at f in
@@ -206,14 +206,14 @@ before_length page format kind faults.Pad begins is before = λ fault. omega ari
 pub length_first : (page : List ℕ) (format : Format) (kind : ObjectKind) → HasFormat page format → get_or page 5 0 ≡ kind_number kind → HasFault page faults.Length → IsFirstFault page faults.Length
 length_first page format kind begins is fault = record { here = fault; first = λ other. before_length page format kind other begins is }
 
-before_pad : (page : List ℕ) (format : Format) (kind : ObjectKind) (other : HeaderFault) → HasFormat page format → get_or page 5 0 ≡ kind_number kind → length_in page ≤ greatest_length (length page) kind → rank other < 4 → HasFault page other → ⊥
+before_pad : (page : List ℕ) (format : Format) (kind : ObjectKind) (other : HeaderFault) → HasFormat page format → get_or page 5 0 ≡ kind_number kind → length_in page ≤ greatest_told (length page) kind → rank other < 4 → HasFault page other → ⊥
 before_pad page format kind faults.Magic begins is fits before = no_magic_fault page format begins
 before_pad page format kind (faults.Newer n) begins is fits before = no_newer_fault page format n begins
 before_pad page format kind faults.Kind begins is fits before = no_kind_fault page kind is
 before_pad page format kind faults.Length begins is fits before = no_length_fault page kind is fits
 before_pad page format kind faults.Pad begins is fits before = λ fault. omega arith
 
-pub pad_first : (page : List ℕ) (format : Format) (kind : ObjectKind) → HasFormat page format → get_or page 5 0 ≡ kind_number kind → length_in page ≤ greatest_length (length page) kind → HasFault page faults.Pad → IsFirstFault page faults.Pad
+pub pad_first : (page : List ℕ) (format : Format) (kind : ObjectKind) → HasFormat page format → get_or page 5 0 ≡ kind_number kind → length_in page ≤ greatest_told (length page) kind → HasFault page faults.Pad → IsFirstFault page faults.Pad
 pad_first page format kind begins is fits fault = record { here = fault; first = λ other. before_pad page format kind other begins is fits }
 
 -- ---- there is one first fault
@@ -265,8 +265,8 @@ moment_or_fault page formats.Two is = inr (λ e. absurd (two_not_one e))
     two_not_one e = cc
 
 -- from the length of the page on
-sound_or_first : (page : List ℕ) (format : Format) (kind : ObjectKind) → HasFormat page format → get_or page 5 0 ≡ kind_number kind → IsSound page format kind ⊎ ((fault : HeaderFault) × IsFirstFault page fault)
-sound_or_first page format kind begins is = elim (cases_lt (greatest_length (length page) kind) (length_in page)) [
+sound_or_first : (page : List ℕ) (format : Format) (kind : ObjectKind) → HasFormat page format → get_or page 5 0 ≡ kind_number kind → IsSoundHeader page format kind ⊎ ((fault : HeaderFault) × IsFirstFault page fault)
+sound_or_first page format kind begins is = elim (cases_lt (greatest_told (length page) kind) (length_in page)) [
   | inl long ↦ inr (faults.Length, length_first page format kind begins is (kind, is, long))
   | inr fits ↦
       let pad : HasFault page faults.Pad → (fault : HeaderFault) × IsFirstFault page fault = λ fault. (faults.Pad, pad_first page format kind begins is fits fault) in
@@ -292,7 +292,7 @@ sound_or_first page format kind begins is = elim (cases_lt (greatest_length (len
 -- a page whose padding is right is sound
 pub sound_from_no_pad_fault :
     (page : List ℕ) (format : Format) (kind : ObjectKind) → HasFormat page format → get_or page 5 0 ≡ kind_number kind
-    → length_in page ≤ greatest_length (length page) kind → (HasFault page faults.Pad → ⊥) → IsSound page format kind
+    → length_in page ≤ greatest_told (length page) kind → (HasFault page faults.Pad → ⊥) → IsSoundHeader page format kind
 sound_from_no_pad_fault page format kind begins is fits right = record {
   begins = begins;
   kind_next = is;
@@ -312,7 +312,7 @@ sound_from_no_pad_fault page format kind begins is fits right = record {
 }
 
 -- from the kind on
-kind_or_first : (page : List ℕ) (format : Format) → HasFormat page format → ((kind : ObjectKind) × IsSound page format kind) ⊎ ((fault : HeaderFault) × IsFirstFault page fault)
+kind_or_first : (page : List ℕ) (format : Format) → HasFormat page format → ((kind : ObjectKind) × IsSoundHeader page format kind) ⊎ ((fault : HeaderFault) × IsFirstFault page fault)
 kind_or_first page format begins = elim (cases_eq (get_or page 5 0) 1) [
   | inl file ↦ ⊎_elim (λ sound. inl (kinds.File, sound)) inr (sound_or_first page format kinds.File begins file)
   | inr not_file ↦ elim (cases_eq (get_or page 5 0) 2) [

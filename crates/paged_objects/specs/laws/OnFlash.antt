@@ -23,7 +23,7 @@ use Rattle.flash_tree.specs.FreeBlocks.{LeavesFree}
 use Rattle.flash_tree.specs.Newest.{HasNewest}
 use Rattle.flash_tree.specs.Tree.{ReadsFile, ReadsDir, LooksUp, InFootprint, Shows}
 use Rattle.flash_tree.specs.Mount.{sizes_of, bad_blocks, IsVolume, HasFree, HasRoom}
-use Rattle.flash_tree.specs.Sound.{IsSound}
+use Rattle.flash_tree.specs.Sound.{IsSoundFlash}
 use Rattle.flash_tree.specs.laws.Free.{free_of_picked}
 use Rattle.flash_tree.specs.laws.Newest.{one_newest}
 use Rattle.flash_tree.specs.laws.Tree.{footprint_law}
@@ -143,14 +143,14 @@ module _ (g : Geometry) (flash : Flash) (spare : ℕ) (m : PageMap) (objects : O
 
 -- A mount finds the tree that is shown sound on an honest device, as long as numbers are left and no more blocks are bad than are to spare.
 pub shown_sound : (z : Sizes) (p : PagesState) (tree : Objects) → Shown z p tree → p.device.honest ≡ true → HasNumbersLeft p.device.flash → bad_on p.device ≤ p.spare
-    → IsSound p.device.geometry p.device.flash p.spare tree
+    → IsSoundFlash p.device.geometry p.device.flash p.spare tree
 shown_sound z p tree shown honest left few =
     let y : Sizes = volume_of p in
     let holds = subst (λ (k : Sizes). HoldsObjects k shown.pages shown.objects) (sym shown.sizes) shown.holds in
     let can = subst (λ (k : Sizes). CanHave k shown.objects) (sym shown.sizes) shown.can in
     let carried = shown.carried honest in
     let leaves = carried.free left in
-    subst (λ (t : Objects). IsSound p.device.geometry p.device.flash p.spare t) (sym shown.settles) (record {
+    subst (λ (t : Objects). IsSoundFlash p.device.geometry p.device.flash p.spare t) (sym shown.settles) (record {
       volume = volume_there p.device.geometry p.device.flash p.spare shown.pages shown.objects holds can carried.newest leaves;
       shows = tree_there p.device.geometry p.device.flash p.spare shown.pages shown.objects holds can carried.newest leaves;
       room = room_there p.device.geometry p.device.flash p.spare shown.pages shown.objects holds can carried.newest leaves;

@@ -6,7 +6,7 @@ use Rattle.block_state.specs.TableOf.{table}
 use Rattle.transactions.specs.Ready.{IsReady}
 use Rattle.transactions.specs.laws.Handing.{hands_on, hands_closed}
 use Rattle.transactions.specs.laws.Ready.{ready_closed}
-use Rattle.bad_blocks.specs.laws.Passing.{passes_on, passes_closed, takes_from}
+use Rattle.bad_blocks.proofs.Passing.{passes_on, passes_closed, takes_from}
 use Rattle.bad_blocks.proofs.Turning.{turn_from}
 use Rattle.bad_blocks.proofs.take.take_block.Goals as goal
 

@@ -5,7 +5,7 @@ use Rattle.block_state.specs.Table.{Table}
 use Rattle.block_state.specs.TableOf.{table}
 use Rattle.transactions.specs.Marking.{NotesMark}
 use Rattle.transactions.specs.laws.Handing.{hands_on}
-use Rattle.bad_blocks.specs.laws.Passing.{passes_on, passes_erased, passes_opened, passes_marked, same_opened}
+use Rattle.bad_blocks.proofs.Passing.{passes_on, passes_erased, passes_opened, passes_marked, same_opened}
 use Rattle.bad_blocks.proofs.Free.{was_unkept, one_more, erase_costs, mark_costs}
 use Rattle.bad_blocks.proofs.Turning.{opened_in_turn, seqs_marked}
 use Rattle.bad_blocks.proofs.take.try_block.Goals as goal

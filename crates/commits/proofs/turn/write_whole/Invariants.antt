@@ -5,7 +5,7 @@ use Rattle.page_buffer.specs.BufferOf.{buffered}
 use Rattle.page_buffer.specs.Buffering.{Buffers}
 use Rattle.bad_blocks.specs.Moving.{Costs, MarksFailures}
 use Rattle.bad_blocks.specs.Room.{IsRoomFor}
-use Rattle.bad_blocks.specs.Standing.{HasFree}
+use Rattle.bad_blocks.specs.Standing.{HasFreeBlocks}
 use Rattle.commits.specs.Committing.{SameSizes}
 use Rattle.commits.specs.Keeping.{Keeps}
 use Rattle.commits.proofs.turn.write_whole.Given as goal
@@ -19,7 +19,7 @@ invariant-loop g l = record {
   costs : Costs 0 (3 * (g.N.Nand.state l.fn.device).geometry.pages + 3) 0 (g.N.Nand.state l.fn.device) (g.N.Nand.state l.device);
   first : (g.N.Nand.state l.device).failures ≡ (g.N.Nand.state l.fn.device).failures → (g.N.Nand.state l.device ≡ g.N.Nand.state l.fn.device) × (table l.blocks ≡ table l.fn.blocks);
   few : bad_count (table l.blocks) ≤ l.spare;
-  free : HasFree (table l.blocks) l.spare;
+  free : HasFreeBlocks (table l.blocks) l.spare;
   room : IsRoomFor (g.N.Nand.state l.device).geometry l.room;
   sizes : SameSizes l.fn.buffer l.buffer;
 }

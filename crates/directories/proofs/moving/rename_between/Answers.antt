@@ -8,7 +8,7 @@ use Rattle.pages.specs.Maps.{PageMap, changed}
 use Rattle.pages.specs.State.{PagesState}
 use Rattle.pages.specs.declared.change.Change.{Change}
 use Rattle.posix_profile.specs.State.{Entries}
-use Rattle.directories.specs.Directories.{DirIn, HasOnly, ReadsAs}
+use Rattle.directories.specs.Directories.{DirIn, HasOnly, ReadsDirectory}
 use Rattle.directories.proofs.Changed.{reads_kept}
 use Rattle.directories.proofs.Moves.{read_then, read_besides, told_there}
 use Rattle.directories.proofs.Results.{memory_room}
@@ -38,11 +38,11 @@ returns-in_err-second-clause-fault g c = λ z s moment left entries source d.
     let finds = c.remove_after.ensures.finds in
     let first : Change = c.in-Some.first in
     let only : IsOnlyOf first c.args.route.source = rw c.in-Some.is at c.in_ok-first.ensures.only in
-    let kept : ReadsAs z (changed first old.present) c.args.route.target moment entries d.reads.fields.spare =
+    let kept : ReadsDirectory z (changed first old.present) c.args.route.target moment entries d.reads.fields.spare =
     reads_kept z old.present (changed first old.present) c.args.route.target moment entries d.reads
     (λ k. others_keep first c.args.route.source only old.present c.args.route.target k (λ same. c.requires.apart (sym same))) in
-    let reads : ReadsAs z (changed first mid.present) c.args.route.target moment entries d.reads.fields.spare =
-    subst (λ (k : PageMap). ReadsAs z (changed first k) c.args.route.target moment entries d.reads.fields.spare) (sym finds.present) kept in
+    let reads : ReadsDirectory z (changed first mid.present) c.args.route.target moment entries d.reads.fields.spare =
+    subst (λ (k : PageMap). ReadsDirectory z (changed first k) c.args.route.target moment entries d.reads.fields.spare) (sym finds.present) kept in
     let then_dir : DirIn (after (Some first) mid) z c.args.route.target moment entries = record { sound = finds.sound ∙ d.sound; size = d.size ∙ sym finds.page_bytes; reads = reads.0 } in
     let r = err_from_is_err_and c.from_residual-in_err-second.result c.from_residual-in_err-second.ensures.1 in
     rw (r.1, r.2) (c.in_err-second.ensures.fault z moment entries then_dir)
@@ -91,7 +91,7 @@ returns-clause-takes g c = λ z moment entries d.
     let both : changed second (changed first old.present) ≡ changed c.in_ok-change.change old.present = λ i o k. sym (c.in_ok-change.ensures.pages old.present o k) i in
     let kept = reads_kept z (changed first old.present) (changed second (changed first old.present)) c.args.route.source c.args.moment (map.remove entries c.args.from.now) less.0
     (λ k. others_keep second c.args.route.target c.in_ok-second.ensures.only (changed first old.present) c.args.route.source k c.requires.apart) in
-    subst (λ (m : PageMap). ReadsAs z m c.args.route.source c.args.moment (map.remove entries c.args.from.now) d.reads.fields.spare) both (kept.0, kept.1 ∙ less.1)
+    subst (λ (m : PageMap). ReadsDirectory z m c.args.route.source c.args.moment (map.remove entries c.args.from.now) d.reads.fields.spare) both (kept.0, kept.1 ∙ less.1)
 
 pub returns-clause-gives : goal.returns-clause-gives
 returns-clause-gives g c = λ z moment entries d.
@@ -100,20 +100,20 @@ returns-clause-gives g c = λ z moment entries d.
     let finds = c.remove_after.ensures.finds in
     let first : Change = c.in-Some.first in
     let only : IsOnlyOf first c.args.route.source = rw c.in-Some.is at c.in_ok-first.ensures.only in
-    let kept : ReadsAs z (changed first old.present) c.args.route.target moment entries d.reads.fields.spare =
+    let kept : ReadsDirectory z (changed first old.present) c.args.route.target moment entries d.reads.fields.spare =
     reads_kept z old.present (changed first old.present) c.args.route.target moment entries d.reads
     (λ k. others_keep first c.args.route.source only old.present c.args.route.target k (λ same. c.requires.apart (sym same))) in
-    let reads : ReadsAs z (changed first mid.present) c.args.route.target moment entries d.reads.fields.spare =
-    subst (λ (k : PageMap). ReadsAs z (changed first k) c.args.route.target moment entries d.reads.fields.spare) (sym finds.present) kept in
+    let reads : ReadsDirectory z (changed first mid.present) c.args.route.target moment entries d.reads.fields.spare =
+    subst (λ (k : PageMap). ReadsDirectory z (changed first k) c.args.route.target moment entries d.reads.fields.spare) (sym finds.present) kept in
     let then_dir : DirIn (after (Some first) mid) z c.args.route.target moment entries = record { sound = finds.sound ∙ d.sound; size = d.size ∙ sym finds.page_bytes; reads = reads.0 } in
     let second : Change = c.in_ok-second.second in
     let puts = c.in_ok-second.ensures.puts z moment entries then_dir in
     let now : Entries = map.insert entries c.args.to.now.name.now c.args.to.now.object in
     let spare : reads.0.fields.spare ≡ d.reads.fields.spare = reads.1 in
     let both : changed second (changed first old.present) ≡ changed c.in_ok-change.change old.present = λ i o k. sym (c.in_ok-change.ensures.pages old.present o k) i in
-    subst (λ (m : PageMap). ReadsAs z m c.args.route.target c.args.moment now d.reads.fields.spare) both
-    (subst (λ (k : PageMap). ReadsAs z (changed second (changed first k)) c.args.route.target c.args.moment now d.reads.fields.spare) finds.present
-    (subst (λ n. ReadsAs z (changed second (changed first mid.present)) c.args.route.target c.args.moment now n) spare puts))
+    subst (λ (m : PageMap). ReadsDirectory z m c.args.route.target c.args.moment now d.reads.fields.spare) both
+    (subst (λ (k : PageMap). ReadsDirectory z (changed second (changed first k)) c.args.route.target c.args.moment now d.reads.fields.spare) finds.present
+    (subst (λ n. ReadsDirectory z (changed second (changed first mid.present)) c.args.route.target c.args.moment now n) spare puts))
 
 pub returns-in_err-first-clause-asked : goal.returns-in_err-first-clause-asked
 returns-in_err-first-clause-asked g c = λ z s t left entries source target.

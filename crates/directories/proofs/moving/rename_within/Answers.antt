@@ -8,7 +8,7 @@ use Rattle.pages.specs.Maps.{PageMap, changed}
 use Rattle.pages.specs.State.{PagesState}
 use Rattle.pages.specs.declared.change.Change.{Change}
 use Rattle.posix_profile.specs.State.{Entries}
-use Rattle.directories.specs.Directories.{DirIn, HasOnly, ReadsAs}
+use Rattle.directories.specs.Directories.{DirIn, HasOnly, ReadsDirectory}
 use Rattle.directories.proofs.Moves.{read_then}
 use Rattle.directories.proofs.Results.{memory_room}
 use Rattle.directories.proofs.moving.rename_within.Goals as goal
@@ -38,8 +38,8 @@ returns-in_err-second-clause-fault g c = λ z moment entries d.
     let here : DirIn (after None old) z c.args.directory moment entries = record { sound = d.sound; size = d.size; reads = d.reads } in
     let first : Change = c.in-Some.first in
     let less = rw c.in-Some.is at (c.in_ok-first.ensures.removes z moment entries here) in
-    let reads : ReadsAs z (changed first mid.present) c.args.directory c.args.moment (map.remove entries c.args.from.now) d.reads.fields.spare =
-    subst (λ (k : PageMap). ReadsAs z (changed first k) c.args.directory c.args.moment (map.remove entries c.args.from.now) d.reads.fields.spare) (sym finds.present) less in
+    let reads : ReadsDirectory z (changed first mid.present) c.args.directory c.args.moment (map.remove entries c.args.from.now) d.reads.fields.spare =
+    subst (λ (k : PageMap). ReadsDirectory z (changed first k) c.args.directory c.args.moment (map.remove entries c.args.from.now) d.reads.fields.spare) (sym finds.present) less in
     let then_dir : DirIn (after (Some first) mid) z c.args.directory c.args.moment (map.remove entries c.args.from.now) = record { sound = finds.sound ∙ d.sound; size = d.size ∙ sym finds.page_bytes; reads = reads.0 } in
     let r = err_from_is_err_and c.from_residual-in_err-second.result c.from_residual-in_err-second.ensures.1 in
     rw (r.1, r.2) (c.in_err-second.ensures.fault z c.args.moment (map.remove entries c.args.from.now) then_dir)
@@ -86,17 +86,17 @@ returns-clause-moves g c = λ z moment entries d.
     let here : DirIn (after None old) z c.args.directory moment entries = record { sound = d.sound; size = d.size; reads = d.reads } in
     let first : Change = c.in-Some.first in
     let less = rw c.in-Some.is at (c.in_ok-first.ensures.removes z moment entries here) in
-    let reads : ReadsAs z (changed first mid.present) c.args.directory c.args.moment (map.remove entries c.args.from.now) d.reads.fields.spare =
-    subst (λ (k : PageMap). ReadsAs z (changed first k) c.args.directory c.args.moment (map.remove entries c.args.from.now) d.reads.fields.spare) (sym finds.present) less in
+    let reads : ReadsDirectory z (changed first mid.present) c.args.directory c.args.moment (map.remove entries c.args.from.now) d.reads.fields.spare =
+    subst (λ (k : PageMap). ReadsDirectory z (changed first k) c.args.directory c.args.moment (map.remove entries c.args.from.now) d.reads.fields.spare) (sym finds.present) less in
     let then_dir : DirIn (after (Some first) mid) z c.args.directory c.args.moment (map.remove entries c.args.from.now) = record { sound = finds.sound ∙ d.sound; size = d.size ∙ sym finds.page_bytes; reads = reads.0 } in
     let second : Change = c.in_ok-second.second in
     let puts = c.in_ok-second.ensures.puts z c.args.moment (map.remove entries c.args.from.now) then_dir in
     let now : Entries = map.insert (map.remove entries c.args.from.now) c.args.to.now.name.now c.args.to.now.object in
     let spare : reads.0.fields.spare ≡ d.reads.fields.spare = reads.1 in
     let both : changed second (changed first old.present) ≡ changed c.in_ok-change.change old.present = λ i o k. sym (c.in_ok-change.ensures.pages old.present o k) i in
-    subst (λ (m : PageMap). ReadsAs z m c.args.directory c.args.moment now d.reads.fields.spare) both
-    (subst (λ (k : PageMap). ReadsAs z (changed second (changed first k)) c.args.directory c.args.moment now d.reads.fields.spare) finds.present
-    (subst (λ n. ReadsAs z (changed second (changed first mid.present)) c.args.directory c.args.moment now n) spare puts))
+    subst (λ (m : PageMap). ReadsDirectory z m c.args.directory c.args.moment now d.reads.fields.spare) both
+    (subst (λ (k : PageMap). ReadsDirectory z (changed second (changed first k)) c.args.directory c.args.moment now d.reads.fields.spare) finds.present
+    (subst (λ n. ReadsDirectory z (changed second (changed first mid.present)) c.args.directory c.args.moment now n) spare puts))
 
 pub returns-in_err-first-clause-asked : goal.returns-in_err-first-clause-asked
 returns-in_err-first-clause-asked g c = λ z moment entries d.

@@ -8,7 +8,7 @@ use Rattle.pages.specs.State.{PagesState}
 use Rattle.pages.specs.declared.change.Change.{Change}
 use Rattle.directories.specs.Directories.{DirIn}
 use Rattle.pages.specs.Maps.{PageMap, changed}
-use Rattle.directories.specs.Directories.{HasOnly, ReadsAs, SlotOf}
+use Rattle.directories.specs.Directories.{HasOnly, ReadsDirectory, SlotOf}
 use Rattle.directories.specs.Slots.{AreSlots}
 use Rattle.directories.specs.Writes.{LosesSlot}
 use Rattle.directories.specs.declared.head.DirectoryHead.{DirectoryHead}
@@ -159,7 +159,7 @@ returns-clause-removes g c = λ z moment entries d.
     let all : (g.P.Pages.state c.search.new.pages).present ≡ old.present = next.present ∙ c.head_after.ensures.finds.present in
     let loses = subst (λ (k : PageMap). LosesSlot z (changed_by e k) (changed c.in_ok-change.change (changed_by e k)) c.args.directory head c.in-Some.found.place) all
     (c.in_ok-change.ensures.removes (next.sound ∙ sound_on p q finds z c.args.directory moment entries here sized c.in_ok-head.head s) z (size_on p q finds z c.args.directory moment entries here sized c.in_ok-head.head s ∙ sym next.page_bytes)) in
-    subst (λ k. ReadsAs z (changed c.in_ok-change.change m) c.args.directory c.args.moment (map.remove entries k) d.reads.fields.spare) at.2
+    subst (λ k. ReadsDirectory z (changed c.in_ok-change.change m) c.args.directory c.args.moment (map.remove entries k) d.reads.fields.spare) at.2
     (reads_fewer z m (changed c.in_ok-change.change m) c.args.directory moment c.args.moment entries d.reads head loses.header says.spare refl (few p q finds z c.args.directory moment entries here sized c.in_ok-head.head s)
     (omega (arith, length_is p q finds z c.args.directory moment entries here sized c.in_ok-head.head s, within)) c.in-Some.found.place at.0 at.1 loses.filled loses.others)
 

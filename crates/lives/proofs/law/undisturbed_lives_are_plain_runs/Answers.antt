@@ -1,4 +1,4 @@
-use Rattle.lives.specs.laws.PlainLaws.{whole_life, plain_life}
+use Rattle.lives.proofs.PlainLaws.{whole_life, plain_life}
 use Rattle.lives.proofs.law.undisturbed_lives_are_plain_runs.Goals as goal
 
 pub returns-clause-plain : goal.returns-clause-plain

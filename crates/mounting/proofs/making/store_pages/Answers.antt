@@ -2,7 +2,7 @@ use Rattle.std.proofs.Common.{◌≡◌, ◌≤◌, ℕ, sym, subst, rules}
 use Rattle.flash_tree.specs.Places.{numbers_of}
 use Rattle.block_state.specs.Kept.{bad_count}
 use Rattle.block_state.specs.TableOf.{table}
-use Rattle.bad_blocks.specs.Standing.{Stands, HasFree}
+use Rattle.bad_blocks.specs.Standing.{Stands, HasFreeBlocks}
 use Rattle.tree_walk.specs.Trees.{keeps_key}
 use Rattle.mounting.proofs.PagesMade.{ready, stands, few, free, store_pages}
 use Rattle.mounting.proofs.making.store_pages.Goals as goal
@@ -32,7 +32,7 @@ new-requires-clause-free g c =
     let on = c.args.on in
     let d = g.N.Nand.state on.device in
     let same : on.spare ≡ c.from.result = search rules in
-    subst (λ s. HasFree (table on.blocks) s) same (free (keeps_key on.tree) d (table on.blocks) on.index (numbers_of on.numbers) on.spare c.requires.read.tables c.requires.fitting c.requires.room c.requires.can)
+    subst (λ s. HasFreeBlocks (table on.blocks) s) same (free (keeps_key on.tree) d (table on.blocks) on.index (numbers_of on.numbers) on.spare c.requires.read.tables c.requires.fitting c.requires.room c.requires.can)
 
 pub returns-in-Ok-clause-made : goal.returns-in-Ok-clause-made
 returns-in-Ok-clause-made g c =

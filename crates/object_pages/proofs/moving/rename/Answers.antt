@@ -5,7 +5,7 @@ use Rattle.posix_profile.specs.Changes.{with_name, without_name}
 use Rattle.pages.specs.Maps.{changed}
 use Rattle.pages.specs.State.{PagesState}
 use Rattle.pages.specs.declared.change.Change.{Change}
-use Rattle.directories.specs.Directories.{HasOnly, ReadsAs, IsNamed}
+use Rattle.directories.specs.Directories.{HasOnly, ReadsDirectory, IsNamed}
 use Rattle.object_pages.specs.Holding.{HoldsObjects}
 use Rattle.object_pages.specs.laws.Holding.{held_directory, directory_in}
 use Rattle.object_pages.proofs.Entries.{few_entries, few_left}
@@ -34,7 +34,7 @@ returns-then-from-directory-clause-moves g c = λ z objects h source dir.
     let entries : Entries = map.insert (map.remove dir.1 from) to o in
     subst (λ k. IfOk c.rename_within.result (λ made. IfSome made (λ change. HoldsObjects z (changed change p.present) (with_name (without_name objects c.args.moment k from) c.args.moment d to o)))) (sym c.if-from-directory.true)
     (on_made_three (λ (change : Change). (q k : ℕ) → q ≢ d → changed change p.present q k ≡ p.present q k)
-    (λ change. ReadsAs z (changed change p.present) d c.args.moment entries here.reads.fields.spare)
+    (λ change. ReadsDirectory z (changed change p.present) d c.args.moment entries here.reads.fields.spare)
     (λ change. HasOnly z (changed change p.present) d (map.len entries))
     (λ change. HoldsObjects z (changed change p.present) (with_name (without_name objects c.args.moment d from) c.args.moment d to o)) c.rename_within.result
     (λ change others reads besides. holds_renamed p z objects h d dir change c.args.moment from to o others reads besides)
@@ -71,8 +71,8 @@ returns-clause-moves g c = λ z objects h source target.
     let left : Entries = map.remove source.1 from in
     let got : Entries = map.insert target.1 to o in
     on_made_five (λ (change : Change). (q k : ℕ) → q ≢ d → q ≢ t → changed change p.present q k ≡ p.present q k)
-    (λ change. ReadsAs z (changed change p.present) d c.args.moment left one.reads.fields.spare)
-    (λ change. ReadsAs z (changed change p.present) t c.args.moment got two.reads.fields.spare)
+    (λ change. ReadsDirectory z (changed change p.present) d c.args.moment left one.reads.fields.spare)
+    (λ change. ReadsDirectory z (changed change p.present) t c.args.moment got two.reads.fields.spare)
     (λ change. HasOnly z (changed change p.present) d (map.len left))
     (λ change. HasOnly z (changed change p.present) t (map.len got))
     (λ change. HoldsObjects z (changed change p.present) (with_name (without_name objects c.args.moment d from) c.args.moment t to o)) c.rename_between.result

@@ -5,7 +5,7 @@ use Rattle.posix_profile.specs.Changes.{with_name}
 use Rattle.pages.specs.Changes.{IsOnlyOf}
 use Rattle.pages.specs.Maps.{changed}
 use Rattle.pages.specs.State.{PagesState}
-use Rattle.directories.specs.Directories.{HasOnly, ReadsAs}
+use Rattle.directories.specs.Directories.{HasOnly, ReadsDirectory}
 use Rattle.object_pages.specs.Holding.{HoldsObjects}
 use Rattle.object_pages.specs.laws.Holding.{held_directory, directory_in}
 use Rattle.object_pages.proofs.Entries.{few_entries}
@@ -27,7 +27,7 @@ returns-clause-names g c = λ z objects h absent.
     let name : Name = c.args.at.name.now in
     let none : map.get dir.1 put ≡ None = ap (map.get dir.1) c.in_ok-slot.ensures.name ∙ ap (λ (es : Entries). map.get es name) (entries_are p z objects h d dir) ∙ absent.absent in
     let entries : Entries = map.insert dir.1 put got in
-    on_three (λ change. IsOnlyOf change d) (λ change. ReadsAs z (changed change p.present) d c.args.moment entries here.reads.fields.spare)
+    on_three (λ change. IsOnlyOf change d) (λ change. ReadsDirectory z (changed change p.present) d c.args.moment entries here.reads.fields.spare)
     (λ change. HasOnly z (changed change p.present) d (map.len entries)) (λ change. HoldsObjects z (changed change p.present) (with_name objects c.args.moment d name c.args.number)) c.add.result
     (λ change only reads besides. holds_name p z objects h d dir (changed change p.present) c.args.moment put name got c.args.number c.in_ok-slot.ensures.name c.in_ok-slot.ensures.object
     (holds_directory p z objects h d dir change c.args.moment entries only reads besides))

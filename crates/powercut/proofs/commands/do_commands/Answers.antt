@@ -4,7 +4,7 @@ use Rattle.std.proofs.lemmas.List.{length_push}
 use Rattle.posix_profile.specs.declared.reply.Reply.{Reply}
 use Rattle.paged_objects.specs.laws.Going.{goes_here, goes_on}
 use Rattle.powercut.specs.Commands.{Does}
-use Rattle.powercut.specs.laws.Lists.{at_index}
+use Rattle.powercut.proofs.Lists.{at_index}
 use Rattle.powercut.proofs.Doing.{GoesSoFar, well_none, well_more, does_stopped, does_all}
 use Rattle.powercut.proofs.commands.do_commands.Goals as goal
 

@@ -6,8 +6,8 @@ use Rattle.lives.specs.Lives.{SessionRecord}
 use Rattle.powercut.specs.Living.{HasLived}
 use Rattle.powercut.specs.Sessions.{record_of, records_of, UnmountsAsAsked, CutsByFuses, cuts_in}
 use Rattle.powercut.specs.declared.session.SessionEnd.{SessionEnd}
-use Rattle.powercut.specs.laws.Lists.{no_records, no_unmounts, no_fuses, records_more, unmounts_more, fuses_more, cuts_more, at_index}
-use Rattle.powercut.specs.laws.Living.{lived_here, lived_on}
+use Rattle.powercut.proofs.Lists.{no_records, no_unmounts, no_fuses, records_more, unmounts_more, fuses_more, cuts_more, at_index}
+use Rattle.powercut.proofs.Living.{lived_here, lived_on}
 use Rattle.powercut.proofs.life.live.Goals as goal
 
 pub loop-session-init : goal.loop-session-init

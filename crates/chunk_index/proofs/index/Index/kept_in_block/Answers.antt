@@ -1,5 +1,5 @@
 use Rattle.std.proofs.Common.{arith}
-use Rattle.chunk_index.specs.laws.Kept.{length-keys_in}
+use Rattle.chunk_index.proofs.Kept.{length-keys_in}
 use Rattle.chunk_index.proofs.index.Index.kept_in_block.Goals as goal
 
 pub list_block-requires : goal.list_block-requires

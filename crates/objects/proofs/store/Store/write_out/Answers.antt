@@ -4,7 +4,7 @@ use Rattle.nand_model.specs.declared.geometry.Geometry.{Geometry}
 use Rattle.page_buffer.specs.BufferOf.{buffered}
 use Rattle.page_buffer.specs.Shown.{kept_data, present_data}
 use Rattle.flash_tree.specs.declared.place.FreshPage.{FreshPage}
-use Rattle.page_buffer.specs.BufferOf.{written}
+use Rattle.page_buffer.specs.BufferOf.{last_written}
 use Rattle.page_buffer.specs.Buffering.{Buffers}
 use Rattle.objects.specs.Caching.{Shows, AreIn}
 use Rattle.block_state.specs.TableOf.{table}
@@ -46,7 +46,7 @@ invariant_of-self g c =
           let before = sym w.lasts.honest ∙ honest in
           let m = present_data y (buffered c.commit.new.buffer) new.flash in
           let shows : Shows self.cache m = λ o l xs is. done.present before o l ∙ self.shown whole before o l xs is in
-          let are : AreIn (written c.commit.new.buffer) m = λ i p is. done.present before p.key.object p.key.chunk
+          let are : AreIn (last_written c.commit.new.buffer) m = λ i p is. done.present before p.key.object p.key.chunk
           ∙ buffered_shown self.index (buffered self.buffer) old.flash self.buffers i p (subst (λ (l : List FreshPage). slice_get l i ≡ Some p) done.last is) in
           subst (λ (l : List FreshPage). Shows c.keep_written.new.cache (present_data y l new.flash)) (sym k.pages) (k.shows m shows are);
     }

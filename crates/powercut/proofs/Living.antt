@@ -6,12 +6,12 @@ use Rattle.nand_model.specs.Calls.{Device}
 use Rattle.nand_model.specs.declared.geometry.Geometry.{Geometry}
 use Rattle.flash_tree.specs.Newest.{Numbers, AreGreatest}
 use Rattle.flash_tree.specs.Mount.{sizes_of, bad_blocks}
-use Rattle.flash_tree.specs.Sound.{IsSound}
+use Rattle.flash_tree.specs.Sound.{IsSoundFlash}
 use Rattle.lives.specs.Lives.{SessionRecord, IsLife}
 use Rattle.lives.specs.laws.LifeLaws.{life_append}
 use Rattle.powercut.specs.Limits.{StaysWithin}
 use Rattle.powercut.specs.Living.{HasSame, AreWithin, HasLived}
-use Rattle.powercut.specs.laws.SameFlash.{same_on, sound_same, within_same, greatest_same, bad_more}
+use Rattle.powercut.proofs.SameFlash.{same_on, sound_same, within_same, greatest_same, bad_more}
 
 -- the greatest numbers are within what all are within, the versions within the groups
 pub greatest_within : (f : Flash) (n : Numbers) (group seq : ℕ) → AreGreatest f n → AreWithin f group seq → (n.version ≤ group) × (n.group ≤ group) × (n.seq ≤ seq)
@@ -36,7 +36,7 @@ lived_still a b geometry honest changes same = record {
       let none : more ≡ 0 = omega (arith, changes, e) in
       subst (λ n. AreWithin b.flash (group + n) (seq + n)) (sym none) (λ k p t good has. let at = within_same a.flash b.flash same group seq within k p t good has in (omega (arith, at.0), omega (arith, at.1)));
   known = inl same;
-  life = λ spare tree sound within. (tree, refl, subst (λ (g : Geometry). IsSound g b.flash spare tree) (sym geometry) (sound_same a.geometry a.flash b.flash same spare tree sound));
+  life = λ spare tree sound within. (tree, refl, subst (λ (g : Geometry). IsSoundFlash g b.flash spare tree) (sym geometry) (sound_same a.geometry a.flash b.flash same spare tree sound));
 }
 
 module _ (a b c : Device) (xs ys : List SessionRecord) (first : HasLived a b xs) (then : HasLived b c ys) where

@@ -12,7 +12,7 @@ use Rattle.flash_tree.specs.Groups.{HasTag, Group, IsGroup, SameGroups}
 use Rattle.flash_tree.specs.Newest.{Spot, IsNewest, HasNewest, AreAbove, AreGreatest, Numbers}
 use Rattle.flash_tree.specs.Tree.{InFootprint}
 use Rattle.flash_tree.specs.Mount.{sizes_of, IsVolume, bad_blocks, IsFree, HasRoom}
-use Rattle.flash_tree.specs.Sound.{IsSound}
+use Rattle.flash_tree.specs.Sound.{IsSoundFlash}
 use Rattle.flash_tree.specs.laws.Newest.{same_groups_keep, has_newest_stays, tag_stays}
 use Rattle.flash_tree.specs.laws.Tree.{footprint_law}
 use Rattle.volume_terms.specs.Sizes.{Sizes}
@@ -111,7 +111,7 @@ greatest_same f g same n greatest = record {
 }
 
 -- whether a flash is sound depends on pages and marks alone
-pub sound_same : (g : Geometry) (a b : Flash) → HasSame a b → (spare : ℕ) (objects : Objects) → IsSound g a spare objects → IsSound g b spare objects
+pub sound_same : (g : Geometry) (a b : Flash) → HasSame a b → (spare : ℕ) (objects : Objects) → IsSoundFlash g a spare objects → IsSoundFlash g b spare objects
 sound_same g a b same spare objects sound = record {
   volume = volume_same g a b same spare sound.volume;
   shows = footprint_law (sizes_of g spare) (HasNewest a) (HasNewest b) objects (λ o c bytes foot has. newest_same a b same o c bytes has) sound.shows;

@@ -1,3 +1,0 @@
-pub mod SameFlash
-pub mod Living
-pub mod Lists

@@ -1,7 +1,11 @@
 -- What kinds of commands there are.
-use Rattle.std.specs.Prelude.{Bool, true, false}
+use Rattle.std.specs.Prelude.{ℕ, Bool, true, false, not, ◌&&◌, length, nat_eq, Option, Some, None, is_some, Result, Ok, Err, if◌then◌else◌}
+use Rattle.posix_profile.specs.NameSteps.{is_object}
+use Rattle.posix_profile.specs.Paths.{Place, resolve}
+use Rattle.posix_profile.specs.State.{State}
 use Rattle.posix_profile.specs.declared.command.Command.{Command}
 use Rattle.posix_profile.specs.declared.command.Command.TheVariants as commands
+use Rattle.posix_profile.specs.declared.reply.Errno.{Errno}
 use Rattle.posix_profile.specs.declared.reply.Reply.{Reply}
 use Rattle.posix_profile.specs.declared.reply.Reply.TheVariants as replies
 
@@ -11,24 +15,45 @@ pub data Class : Type 0 where
   Changing : Class
   Syncing : Class
 
--- the kind of a command
-abbrev pub class_of : Command → Class
-class_of (commands.Open path flags) = Changing
-class_of (commands.Close fd) = Changing
-class_of (commands.Read fd count) = Telling
-class_of (commands.Write fd bytes) = Changing
-class_of (commands.Seek fd offset whence) = Telling
-class_of (commands.Truncate fd length) = Changing
-class_of (commands.Fsync fd) = Syncing
-class_of commands.Sync = Syncing
-class_of (commands.Stat path) = Telling
-class_of (commands.Mkdir path) = Changing
-class_of (commands.Rmdir path) = Changing
-class_of (commands.Link old new) = Changing
-class_of (commands.Unlink path) = Changing
-class_of (commands.Rename old new) = Changing
-class_of (commands.List path) = Telling
-class_of commands.Space = Telling
+-- a command that tells where this is so, and else is of this kind
+abbrev pub tells_if : Bool → Class → Class
+tells_if tells class = if tells then Telling else class
+
+-- whether a path leads to an object
+abbrev pub is_there : Result Place Errno → Bool
+is_there (Err error) = false
+is_there (Ok place) = is_some place.object
+
+-- whether there is an object, and the other is the same
+abbrev pub is_one : Option ℕ → Option ℕ → Bool
+is_one None other = false
+is_one (Some o) other = is_object o other
+
+-- whether both paths lead to one object
+abbrev pub lead_to_one : Result Place Errno → Result Place Errno → Bool
+lead_to_one (Err error) to = false
+lead_to_one (Ok from) (Err error) = false
+lead_to_one (Ok from) (Ok to) = is_one from.object to.object
+
+-- The kind of a command at a state of a volume that may be read-only. Nothing changes where an object that is there is opened
+-- and not cut, where no bytes are written, and where an object gets a name that it has. A read-only volume has nothing to sync.
+abbrev pub class_of : Bool → State → Command → Class
+class_of read_only s (commands.Open path flags) = tells_if (is_there (resolve s.objects path) && not flags.trunc) Changing
+class_of read_only s (commands.Close fd) = Changing
+class_of read_only s (commands.Read fd count) = Telling
+class_of read_only s (commands.Write fd bytes) = tells_if (nat_eq (length bytes) 0) Changing
+class_of read_only s (commands.Seek fd offset whence) = Telling
+class_of read_only s (commands.Truncate fd length) = Changing
+class_of read_only s (commands.Fsync fd) = tells_if read_only Syncing
+class_of read_only s commands.Sync = tells_if read_only Syncing
+class_of read_only s (commands.Stat path) = Telling
+class_of read_only s (commands.Mkdir path) = Changing
+class_of read_only s (commands.Rmdir path) = Changing
+class_of read_only s (commands.Link old new) = Changing
+class_of read_only s (commands.Unlink path) = Changing
+class_of read_only s (commands.Rename old new) = tells_if (lead_to_one (resolve s.objects old) (resolve s.objects new)) Changing
+class_of read_only s (commands.List path) = Telling
+class_of read_only s commands.Space = Telling
 
 -- whether a command leaves the device as it is: what it asks for is told without it
 abbrev pub makes_no_call : Command → Bool

@@ -1,5 +1,5 @@
 -- What a path leads to, for a command.
-use Rattle.std.specs.Prelude.{◌≡◌, ℕ, Some, Result}
+use Rattle.std.specs.Prelude.{◌≡◌, ℕ, Some, Result, Ok}
 use Rattle.std.specs.FinMap as map
 use Rattle.posix_profile.specs.State.{Object, State}
 use Rattle.posix_profile.specs.NameSteps.{at_object}
@@ -13,9 +13,10 @@ use Rattle.path_walk.specs.Places.{place_of}
 use Rattle.path_walk.specs.declared.parts.PathPlace.{PathPlace}
 use Rattle.command_plans.specs.declared.place.FoundObject.{FoundObject}
 
--- whatever is to be done at the place, it is to be done at this one
+-- the path leads to this place, and whatever is to be done at the place is to be done at it
 pub record AtPlace (s : State) (r : Result Place Errno) (p : Place) : Type 0 where
   pub place : IsPlace s.objects p
+  pub leads : r ≡ Ok p
   pub act : (act : Place → Outcome) → act p ≡ at_place s r act
 
 -- whatever is to be done at the place, this is the error

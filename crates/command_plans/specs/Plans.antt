@@ -57,6 +57,12 @@ frees work.Nothing = true
 frees (work.Change change) = takes_none change
 frees work.Commit = true
 
+-- whether it is nothing
+abbrev pub does_nothing : StoreWork → Bool
+does_nothing work.Nothing = true
+does_nothing (work.Change change) = false
+does_nothing work.Commit = false
+
 -- whether it leaves the device as it is: it is nothing, or only forgets an object
 abbrev pub leaves_device : StoreWork → Bool
 leaves_device work.Nothing = true

@@ -14,12 +14,13 @@ use Rattle.posix_profile.specs.declared.reply.Errno.{Errno}
 use Rattle.posix_profile.specs.declared.reply.Errno.TheVariants as errors
 use Rattle.posix_profile.specs.declared.reply.Reply.{Reply}
 use Rattle.posix_profile.specs.declared.reply.Reply.TheVariants as replies
-use Rattle.object_store.specs.Stores.{Meaning, IsLawful, Has}
+use Rattle.object_store.specs.Stores.{Meaning, IsLawful, Has, KeepsOrSettles, settled}
 use Rattle.object_store.specs.laws.Store.{has_on}
 use Rattle.object_store.specs.declared.refusal.Refusal.{Refusal}
 use Rattle.command_plans.specs.Classes.{Class, Telling, Changing, Syncing, class_of, is_error}
-use Rattle.object_commands.specs.Endings.{IsAt, Leaves, IsDone, IsStopped, CommandEnds, TellsRefusal}
-use Rattle.command_plans.specs.Plans.{IsPlan, Plans, Suits, Did, worked, planned, handled, frees, leaves_device}
+use Rattle.object_commands.specs.Endings.{IsAt, IsOnlyRead, StaysReading, Leaves, IsDone, IsStopped, CommandEnds, TellsRefusal}
+use Rattle.object_commands.specs.laws.Steps.{leaves_shows}
+use Rattle.command_plans.specs.Plans.{IsPlan, Plans, Suits, Did, worked, planned, handled, does_nothing, frees, leaves_device}
 use Rattle.command_plans.specs.Tables.{handles_in}
 use Rattle.command_plans.specs.declared.plan.Plan.{Plan}
 use Rattle.command_plans.specs.declared.plan.StoreWork.{StoreWork}
@@ -29,9 +30,9 @@ use Rattle.command_plans.specs.laws.Plan.{plans_is}
 
 -- a plan for a command is one for the stamped command that it is
 pub plans_step : {S : Type 0} (m : Meaning S) (z : Sizes) (read_only : Bool) (s : State) (stamped : Stamped) (command : Command) (meant : Outcome) (a b : S) → stamped.command ≡ command
-    → meant ≡ step_at z read_only s stamped.moment command → (r : Result Plan Refusal) → Plans m z (class_of command) s meant a b r → Plans m z (class_of stamped.command) s (step z read_only s stamped) a b r
+    → meant ≡ step_at z read_only s stamped.moment command → (r : Result Plan Refusal) → Plans m z (class_of read_only s command) s meant a b r → Plans m z (class_of read_only s stamped.command) s (step z read_only s stamped) a b r
 plans_step m z read_only s stamped command meant a b is means r told =
-    subst (λ c. Plans m z (class_of c) s (step_at z read_only s stamped.moment c) a b r) (sym is) (plans_is m z (class_of command) s meant (step_at z read_only s stamped.moment command) a b means r told)
+    subst (λ c. Plans m z (class_of read_only s c) s (step_at z read_only s stamped.moment c) a b r) (sym is) (plans_is m z (class_of read_only s command) s meant (step_at z read_only s stamped.moment command) a b means r told)
 
 work_leaves : {S : Type 0} (m : Meaning S) (class : Class) (reply : Reply) (objects : Objects) (w : StoreWork) (a b : S) → Suits class reply w → Did m objects w a b → Leaves m class reply objects (worked objects w) a b
 work_leaves m Telling reply objects work.Nothing a b suits did = (refl, did)
@@ -70,17 +71,34 @@ has_after m law z old s a b has lasts stands sound = record {
 }
 
 -- the volume goes on to stand for a state
-pub at_on : {S : Type 0} (m : Meaning S) (law : IsLawful m) (z : Sizes) (s : State) (a b : Volume S) → m.reads a.store b.store → b.table ≡ a.table → IsAt m z s a → IsAt m z s b
-at_on m law z s a b reads same at = record {
+pub at_on : {S : Type 0} (m : Meaning S) (law : IsLawful m) (z : Sizes) (s : State) (a b : Volume S) → m.reads a.store b.store → b.table ≡ a.table → b.read_only ≡ a.read_only → IsAt m z s a → IsAt m z s b
+at_on m law z s a b reads same kept at = record {
   has = has_on m law z s.objects a.store b.store reads at.has;
   handles = ap handles_in same ∙ at.handles;
   sound = at.sound;
+  only_read = λ is.
+      let only = at.only_read (sym kept ∙ is) in
+      record { handles = only.handles; named = only.named; shown = law.reads_shows a.store b.store s.objects reads only.shown };
 }
 
-pub is_done : {S : Type 0} (m : Meaning S) (law : IsLawful m) (z : Sizes) (class : Class) (s : State) (meant : Outcome) (plan : Plan) (a b : Volume S) → IsAt m z s a → IsPlan z class s meant plan → IsSound z meant.state
+-- a mount shows the objects of a read-only volume after a command too
+shown_on : {S : Type 0} (m : Meaning S) (objects : Objects) (a b : S) → settled objects ≡ objects → m.shows a objects → KeepsOrSettles m objects a b → m.shows b objects
+shown_on m objects a b named shown turns = elim (turns objects shown) [ inl same ↦ same | inr settles ↦ subst (m.shows b) named settles ]
+
+-- nothing of a read-only volume can be changed or lost after a command
+still_only_read : {S : Type 0} (m : Meaning S) (old new : State) (a b : S) → IsOnlyRead m old a → StaysReading old new → KeepsOrSettles m old.objects a b → IsOnlyRead m new b
+still_only_read m old new a b only stays turns = record {
+  handles = stays.handles;
+  named = subst (λ objects. settled objects ≡ objects) (sym stays.objects) only.named;
+  shown = subst (m.shows b) (sym stays.objects) (shown_on m old.objects a b only.named only.shown turns);
+}
+
+pub is_done : {S : Type 0} (m : Meaning S) (law : IsLawful m) (z : Sizes) (class : Class) (s : State) (meant : Outcome) (plan : Plan) (a b : Volume S) → IsAt m z s a → IsPlan z class s meant plan → IsSound z meant.state → b.read_only ≡ a.read_only → (a.read_only ≡ true → StaysReading s meant.state)
     → m.lasts a.store b.store → m.stands b.store (worked s.objects plan.work) → Did m s.objects plan.work a.store b.store → handles_in b.table ≡ handled (handles_in a.table) plan.handles → b.stopped ≡ false
     → IsDone m z class s meant a b plan.reply
-is_done m law z class s meant plan a b at is sound lasts stands did same goes =
+is_done m law z class s meant plan a b at is sound kept stays lasts stands did same goes =
+    let left = work_leaves m class plan.reply s.objects plan.work a.store b.store is.suits did in
+    let stays' : a.read_only ≡ true → StaysReading s (planned s plan).state = subst (λ (o : Outcome). a.read_only ≡ true → StaysReading s o.state) (sym is.means) stays in
     let sound' : IsSound z (planned s plan).state = subst (λ (o : Outcome). IsSound z o.state) (sym is.means) sound in
     subst (λ o. IsDone m z class s o a b plan.reply) is.means (record {
       reply = refl;
@@ -88,39 +106,59 @@ is_done m law z class s meant plan a b at is sound lasts stands did same goes =
         has = has_after m law z s.objects (planned s plan).state a.store b.store at.has lasts stands sound';
         handles = same ∙ ap (λ h. handled h plan.handles) at.handles;
         sound = sound';
+        only_read = λ only.
+            let was = sym kept ∙ only in
+            still_only_read m s (planned s plan).state a.store b.store (at.only_read was) (stays' was) (leaves_shows m law class plan.reply s.objects (worked s.objects plan.work) a.store b.store left);
       };
-      left = work_leaves m class plan.reply s.objects plan.work a.store b.store is.suits did;
+      left = left;
       goes_on = goes;
     })
 
+-- a plan of a command that tells, or that is meant to be answered by an error, is to do nothing
+suits_nothing : (class : Class) (reply : Reply) (w : StoreWork) → Suits class reply w → (class ≡ Telling) ⊎ (is_error reply ≡ true) → does_nothing w ≡ true
+suits_nothing class reply work.Nothing suits why = refl
+suits_nothing Telling reply (work.Change change) suits why = absurd suits
+suits_nothing Changing reply (work.Change change) suits (inl tells) = absurd cc
+suits_nothing Changing reply (work.Change change) suits (inr error) = absurd (true≢false (sym error ∙ suits))
+suits_nothing Syncing reply (work.Change change) suits why = absurd suits
+suits_nothing Telling reply work.Commit suits why = absurd suits
+suits_nothing Changing reply work.Commit suits why = absurd suits
+suits_nothing Syncing reply work.Commit suits (inl tells) = absurd cc
+suits_nothing Syncing reply work.Commit suits (inr error) = let two : true ≡ false = sym error ∙ ap is_error suits in absurd cc
+
+pub plan_nothing : (z : Sizes) (class : Class) (s : State) (meant : Outcome) (plan : Plan) → IsPlan z class s meant plan → (class ≡ Telling) ⊎ (is_error meant.reply ≡ true) → does_nothing plan.work ≡ true
+plan_nothing z class s meant plan is why = suits_nothing class plan.reply plan.work is.suits (elim why [ inl tells ↦ inl tells | inr error ↦ inr (ap (λ (o : Outcome). is_error o.reply) is.means ∙ error) ])
+
 pub is_stopped : {S : Type 0} (m : Meaning S) (z : Sizes) (class : Class) (s : State) (meant : Outcome) (plan : Plan) (a b : Volume S) (told : Reply) → IsPlan z class s meant plan
-    → m.fails s.objects (worked s.objects plan.work) a.store b.store → told ≡ replies.Error errors.EIO → b.stopped ≡ true → IsStopped m s meant a b told
-is_stopped m z class s meant plan a b told is fails reply stops = record {
+    → (does_nothing plan.work ≡ true → m.reads a.store b.store) → m.fails s.objects (worked s.objects plan.work) a.store b.store → told ≡ replies.Error errors.EIO → b.stopped ≡ true → IsStopped m class s meant a b told
+is_stopped m z class s meant plan a b told is reads fails reply stops = record {
   reply = reply;
   left = subst (λ (o : Outcome). m.fails s.objects o.state.objects a.store b.store) is.means fails;
+  reads = λ why. reads (plan_nothing z class s meant plan is why);
   stops = stops;
 }
 
 -- a command that is answered by an error
 pub error_ends : {S : Type 0} (m : Meaning S) (law : IsLawful m) (z : Sizes) (class : Class) (s : State) (meant : Outcome) (e : Errno) (a b : Volume S) → IsAt m z s a → refuse s e ≡ meant
-    → m.reads a.store b.store → b.table ≡ a.table → b.stopped ≡ false → IsDone m z class s meant a b (replies.Error e)
-error_ends m law z class s meant e a b at is reads same goes = subst (λ o. IsDone m z class s o a b (replies.Error e)) is (record {
+    → m.reads a.store b.store → b.table ≡ a.table → b.read_only ≡ a.read_only → b.stopped ≡ false → IsDone m z class s meant a b (replies.Error e)
+error_ends m law z class s meant e a b at is reads same kept goes = subst (λ o. IsDone m z class s o a b (replies.Error e)) is (record {
   reply = refl;
-  state = at_on m law z s a b reads same at;
+  state = at_on m law z s a b reads same kept at;
   left = error_leaves m class e s.objects a.store b.store reads;
   goes_on = goes;
 })
 
 -- a command for which memory was refused, from a volume whose store only read
 pub refused_ends : {S : Type 0} (m : Meaning S) (law : IsLawful m) (z : Sizes) (class : Class) (takes_none : Bool) (s : State) (meant : Outcome) (a b : Volume S) (told : Reply) → IsAt m z s a → takes_none ≡ false
-    → m.reads a.store b.store → b.table ≡ a.table → TellsRefusal m b.store told → b.stopped ≡ is_stop told → CommandEnds m z class takes_none s meant a b told
-refused_ends m law z class takes_none s meant a b told at takes reads same (inl refused) stops = inr (inl (
+    → m.reads a.store b.store → b.table ≡ a.table → b.read_only ≡ a.read_only → TellsRefusal m b.store told → b.stopped ≡ is_stop told → CommandEnds m z class takes_none s meant a b told
+refused_ends m law z class takes_none s meant a b told at takes reads same kept (inl refused) stops = inr (inl (
   takes,
-  record { reply = refused.0; state = at_on m law z s a b reads same at; left = reads; power = refused.1; goes_on = stops ∙ ap is_stop refused.0 },
+  record { reply = refused.0; state = at_on m law z s a b reads same kept at; left = reads; power = refused.1; goes_on = stops ∙ ap is_stop refused.0 },
 ))
-refused_ends m law z class takes_none s meant a b told at takes reads same (inr lost) stops = inr (inr (record {
+refused_ends m law z class takes_none s meant a b told at takes reads same kept (inr lost) stops = inr (inr (record {
   reply = lost.0;
   left = law.powerless_fails a.store b.store s.objects meant.state.objects reads lost.1;
+  reads = λ _. reads;
   stops = stops ∙ ap is_stop lost.0;
 }))
 
@@ -146,5 +184,6 @@ ends_on m law z class frees takes_none s meant a b c told reads none (inr (inl p
 ends_on m law z class frees takes_none s meant a b c told reads none (inr (inr stopped)) = inr (inr (record {
   reply = stopped.reply;
   left = law.fails_on a.store b.store c.store s.objects meant.state.objects reads stopped.left;
+  reads = λ why. law.reads_on a.store b.store c.store reads (stopped.reads why);
   stops = stopped.stops;
 }))

@@ -5,3 +5,4 @@ pub mod Ending
 pub mod RunSteps
 pub mod Moves
 pub mod Above
+pub mod ReadOnly

@@ -1,5 +1,5 @@
 -- Plans that make a change, and the names that they change.
-use Rattle.std.specs.Prelude.{◌≡◌, ◌≢◌, ◌⊎◌, ◌<◌, ℕ, Bool, true, false, ◌&&◌, ◌||◌, if◌then◌else◌, [], ◌∷◌, length, Option, Some, None, is_none, nat_lt}
+use Rattle.std.specs.Prelude.{◌≡◌, ◌≢◌, ◌⊎◌, ◌<◌, ℕ, Bool, true, false, ◌&&◌, ◌||◌, if◌then◌else◌, [], ◌∷◌, length, Option, Some, None, is_none, nat_lt, not}
 use Rattle.std.proofs.Common.{refl, sym, ◌∙◌, ap, subst, inl, inr, arith}
 use Rattle.std.specs.Cmp.Lexicographic.{nat_list_cmp_total}
 use Rattle.std.specs.FinMap as map
@@ -28,7 +28,7 @@ use Rattle.posix_profile.specs.declared.reply.Reply.{Reply}
 use Rattle.object_store.specs.Changes.{made, CanMake, IsAbsent, LeadsTo, NamesNothing}
 use Rattle.object_store.specs.declared.change.DirectoryEntry.{DirectoryEntry}
 use Rattle.object_store.specs.declared.change.ObjectChange.{ObjectChange}
-use Rattle.command_plans.specs.Classes.{Changing, is_error}
+use Rattle.command_plans.specs.Classes.{Class, Changing, tells_if, is_error}
 use Rattle.object_commands.specs.Names.{LeadsHere, EndsInName}
 use Rattle.object_commands.specs.Opens.{cut_by, opened}
 use Rattle.command_plans.specs.Plans.{IsPlan, CanDo, Suits, worked}
@@ -131,16 +131,16 @@ name_leads objects place o ends object = go place.last refl
         subst (λ n. Names objects place.directory n o) (sym (ap last_name is)) names
 
 -- an open descriptor
-pub opened_plan : (z : Sizes) (s : State) (fd object : ℕ) (flags : OpenFlags) (w : StoreWork) (meant : Outcome) (plan : Plan) → plan ≡ opened fd object flags w → fd < 64
-    → CanDo z s.objects w → Suits Changing (replies.Fd fd) w → answer (open_on (worked s.objects w) s fd object flags) (replies.Fd fd) ≡ meant → IsPlan z Changing s meant plan
-opened_plan z s fd object flags w meant plan is small can suits means = subst (IsPlan z Changing s meant) (sym is) (record { means = means; can = can; range = small; suits = suits })
+pub opened_plan : (z : Sizes) (class : Class) (s : State) (fd object : ℕ) (flags : OpenFlags) (w : StoreWork) (meant : Outcome) (plan : Plan) → plan ≡ opened fd object flags w → fd < 64
+    → CanDo z s.objects w → Suits class (replies.Fd fd) w → answer (open_on (worked s.objects w) s fd object flags) (replies.Fd fd) ≡ meant → IsPlan z class s meant plan
+opened_plan z class s fd object flags w meant plan is small can suits means = subst (IsPlan z class s meant) (sym is) (record { means = means; can = can; range = small; suits = suits })
 
 -- a file cut to no bytes
 pub cut_made : (objects : Objects) (o moment : ℕ) (b : Bool) → worked objects (cut_by b o moment) ≡ (if b then with_bytes objects moment o [] else objects)
 cut_made objects o moment true = refl
 cut_made objects o moment false = refl
 
-pub cut_suits : (fd o moment : ℕ) (b : Bool) → Suits Changing (replies.Fd fd) (cut_by b o moment)
+pub cut_suits : (fd o moment : ℕ) (b : Bool) → Suits (tells_if (not b) Changing) (replies.Fd fd) (cut_by b o moment)
 cut_suits fd o moment true = refl
 cut_suits fd o moment false = tt
 

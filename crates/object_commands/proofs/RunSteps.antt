@@ -1,5 +1,5 @@
 -- A run goes on by one command.
-use Rattle.std.specs.Prelude.{◌≡◌, ◌||◌, ◌++◌, ◌+◌, ◌<◌, ◌≤◌, ℕ, Bool, true, false, List, [], ◌∷◌, length, take, Some, slice_get, get_or}
+use Rattle.std.specs.Prelude.{◌≡◌, ◌⊎◌, ◌||◌, ◌++◌, ◌+◌, ◌<◌, ◌≤◌, ℕ, zero, suc, Bool, true, false, List, [], ◌∷◌, length, take, Some, slice_get, get_or}
 use Rattle.std.specs.List.{list_any}
 use Rattle.std.proofs.Common.{refl, sym, ◌∙◌, ap, subst, inl, inr, arith}
 use Rattle.std.proofs.lemmas.Bool.{cases_Bool, true≢false, or_right}
@@ -18,8 +18,8 @@ use Rattle.posix_profile.specs.declared.reply.Reply.TheVariants as replies
 use Rattle.object_store.specs.Stores.{Meaning, IsLawful}
 use Rattle.command_plans.specs.Classes.{class_of}
 use Rattle.object_commands.specs.Endings.{IsAt, CommandEnds}
-use Rattle.object_commands.specs.Running.{StaysStopped, ends_refused, Failure, Ran, Runs}
-use Rattle.object_commands.specs.laws.Steps.{One, one_ends, error_unsynced}
+use Rattle.object_commands.specs.Running.{StaysStopped, ends_refused, ReadsInTurn, Failure, Ran, Runs}
+use Rattle.object_commands.specs.laws.Steps.{One, one_ends, error_unsynced, at_shown}
 use Rattle.object_commands.specs.declared.volume.Volume.{Volume}
 
 or_false : (b : Bool) → (b || false) ≡ b
@@ -97,8 +97,9 @@ fails_before m z read_only s cs rs r a d was = record {
 
 -- from a state
 ran_more : {S : Type 0} (m : Meaning S) (z : Sizes) (s : State) (cs : List Stamped) (rs : List Reply) (c : Stamped) (r : Reply) (a b d : Volume S) → slice_get cs (length rs) ≡ Some c
-    → Ran m z s cs rs a b → b.stopped ≡ false → m.lasts a.store b.store → One m z a.read_only (after z a.read_only s cs rs) c r b d → Ran m z s cs (rs ++ r ∷ []) a d
-ran_more m z s cs rs c r a b d at ran goes lasts one =
+    → Ran m z s cs rs a b → b.stopped ≡ false → m.lasts a.store b.store → One m z a.read_only (after z a.read_only s cs rs) c r b d
+    → (a.read_only ≡ true → m.reads b.store d.store ⊎ m.leaves b.store d.store) → Ran m z s cs (rs ++ r ∷ []) a d
+ran_more m z s cs rs c r a b d at ran goes lasts one only =
     let now = after z a.read_only s cs rs in
     let none : list_any is_stop rs ≡ false = sym ran.stops ∙ goes in
     let more = after_more z a.read_only s cs rs c r at in
@@ -109,6 +110,7 @@ ran_more m z s cs rs c r a b d at ran goes lasts one =
       failure = λ stop. fails_last m z a.read_only s cs rs c r a.store b.store d.store at lasts (one.fails (sym one.stops ∙ stop));
       state = λ still. subst (λ x. IsAt m z x d) (sym more) (one.state (sym one.stops ∙ still));
       power = λ refused. one.power (sym (refused_push rs r) ∙ refused);
+      only = λ is. let reads = ran.only is in (suc reads.0, (b.store, reads.1, only is));
     }
 
 -- once it is stopped
@@ -124,15 +126,17 @@ ran_stopped m z s cs rs c r a b d at ran stopped told same =
       failure = λ stop. fails_before m z a.read_only s cs rs r a.store b.store (ran.failure stop);
       state = λ goes. absurd (true≢false (sym stopped ∙ goes));
       power = λ refused. absurd (true≢false (sym refused ∙ refused_push rs r ∙ ap is_no_memory told));
+      only = ran.only;
     })
 
 -- the run, with one reply more
 pub runs_more : {S : Type 0} (m : Meaning S) (law : IsLawful m) (cs : List Stamped) (n : ℕ) (before now next : List Reply) (c : Stamped) (r : Reply) (a b d : Volume S)
     → Runs m cs n before now a b → slice_get cs n ≡ Some c → next ≡ now ++ r ∷ [] → b.read_only ≡ a.read_only → m.lasts a.store b.store
     → (b.stopped ≡ true → (r ≡ replies.Error errors.EIO) × (d ≡ b)) → (b.stopped ≡ false → d.stopped ≡ is_stop r)
-    → (b.stopped ≡ false → (z : Sizes) (s : State) → IsAt m z s b → CommandEnds m z (class_of c.command) (takes_no_memory c.command) s (step z b.read_only s c) b d r)
+    → (b.stopped ≡ false → (z : Sizes) (s : State) → IsAt m z s b → CommandEnds m z (class_of b.read_only s c.command) (takes_no_memory c.command) s (step z b.read_only s c) b d r)
+    → (b.read_only ≡ true → (z : Sizes) (s : State) → IsAt m z s b → m.reads b.store d.store ⊎ m.leaves b.store d.store)
     → Runs m cs (n + 1) before next a d
-runs_more m law cs n before now next c r a b d runs is pushed same lasts stays stops goes =
+runs_more m law cs n before now next c r a b d runs is pushed same lasts stays stops goes only =
     let at : slice_get cs (length runs.answered) ≡ Some c = ap (slice_get cs) runs.count ∙ is in
     record {
       answered = runs.answered ++ r ∷ [];
@@ -152,7 +156,9 @@ runs_more m law cs n before now next c r a b d runs is pushed same lasts stays s
                 let x = after z a.read_only s cs runs.answered in
                 let ended = goes still z x (ran.state still) in
                 ran_more m z s cs runs.answered c r a b d at ran still lasts
-                (one_ends m law z a.read_only x c r b d (subst (λ ro. CommandEnds m z (class_of c.command) (takes_no_memory c.command) x (step z ro x c) b d r) same ended))
+                (one_ends m law z a.read_only x c r b d (λ is. at_shown m z x b (ran.state still) (same ∙ is))
+                (subst (λ ro. CommandEnds m z (class_of ro x c.command) (takes_no_memory c.command) x (step z ro x c) b d r) same ended))
+                (λ is. only (same ∙ is) z x (ran.state still))
           ];
     }
 
@@ -167,7 +173,7 @@ runs_none m cs before a = record {
   stays = tt;
   stops = sym (or_false a.stopped);
   stopped = λ stop. (tt, refl);
-  ran = λ going z s has. record { holds = tt; losses = λ t shown. inr (λ i done. absurd (none_at i done.1 done.3), shown); stops = going; failure = λ stop. absurd (true≢false (sym stop ∙ going)); state = λ _. has; power = λ refused. let two : false ≡ true = refused in absurd cc };
+  ran = λ going z s has. record { holds = tt; losses = λ t shown. inr (λ i done. absurd (none_at i done.1 done.3), shown); stops = going; failure = λ stop. absurd (true≢false (sym stop ∙ going)); state = λ _. has; power = λ refused. let two : false ≡ true = refused in absurd cc; only = λ is. (zero, refl) };
 }
 
 pub at_index : (cs : List Stamped) (i : ℕ) (c : Stamped) → i < length cs → c ≡ get_or cs i c → slice_get cs i ≡ Some c

@@ -1,22 +1,40 @@
 -- How a command of a volume ends.
-use Rattle.std.specs.Prelude.{◌≡◌, ◌⊎◌, Bool, true, false}
+use Rattle.std.specs.Prelude.{◌≡◌, ◌⊎◌, ℕ, Bool, true, false, Some}
+use Rattle.std.specs.FinMap as map
 use Rattle.volume_terms.specs.Sizes.{Sizes}
-use Rattle.posix_profile.specs.State.{Objects, State}
+use Rattle.posix_profile.specs.HandleSteps.{may_write}
+use Rattle.posix_profile.specs.State.{Objects, Handle, Handles, State}
 use Rattle.posix_profile.specs.Outcomes.{Outcome}
 use Rattle.posix_profile.specs.laws.Sound.{IsSound}
 use Rattle.posix_profile.specs.declared.reply.Errno.TheVariants as errors
 use Rattle.posix_profile.specs.declared.reply.Reply.{Reply}
 use Rattle.posix_profile.specs.declared.reply.Reply.TheVariants as replies
-use Rattle.object_store.specs.Stores.{Meaning, Has}
+use Rattle.object_store.specs.Stores.{Meaning, Has, settled}
 use Rattle.command_plans.specs.Classes.{Class, Telling, Changing, Syncing, is_error}
 use Rattle.command_plans.specs.Tables.{handles_in}
 use Rattle.object_commands.specs.declared.volume.Volume.{Volume}
 
--- The volume stands for a state that it can have.
+-- no descriptor may write
+abbrev pub AreReading : Handles → Type 0
+AreReading handles = (fd : ℕ) (handle : Handle) → map.get handles fd ≡ Some handle → may_write handle.flags.access ≡ false
+
+-- Nothing of a state can be changed or lost: no descriptor may write, each object has a name, and a mount shows the objects.
+pub record IsOnlyRead {S : Type 0} (m : Meaning S) (s : State) (a : S) : Type 0 where
+  pub handles : AreReading s.handles
+  pub named : settled s.objects ≡ s.objects
+  pub shown : m.shows a s.objects
+
+-- The objects are the same, and no descriptor may write.
+pub record StaysReading (old new : State) : Type 0 where
+  pub objects : new.objects ≡ old.objects
+  pub handles : AreReading new.handles
+
+-- The volume stands for a state that it can have; of a read-only one nothing can be changed or lost.
 pub record IsAt {S : Type 0} (m : Meaning S) (z : Sizes) (s : State) (v : Volume S) : Type 0 where
   pub has : Has m z s.objects v.store
   pub handles : handles_in v.table ≡ s.handles
   pub sound : IsSound z s
+  pub only_read : v.read_only ≡ true → IsOnlyRead m s v.store
 
 -- what a done command leaves of a store: one that tells, and one that is answered by an error, only reads; one that may
 -- change makes a change or only reads; a done sync commits
@@ -44,10 +62,12 @@ pub record IsPassedOver {S : Type 0} (m : Meaning S) (z : Sizes) (s : State) (a 
 abbrev pub TellsRefusal : {S : Type 0} (m : Meaning S) → S → Reply → Type 0
 TellsRefusal m b told = ((told ≡ replies.Error errors.ENOMEM) × (m.has_power b ≡ true)) ⊎ ((told ≡ replies.Error errors.EIO) × (m.has_power b ≡ false))
 
--- The store has failed, and the volume is stopped.
-pub record IsStopped {S : Type 0} (m : Meaning S) (s : State) (meant : Outcome) (a b : Volume S) (told : Reply) : Type 0 where
+-- The store has failed, and the volume is stopped. A command that tells, and one that is meant to be answered by an error, only
+-- read.
+pub record IsStopped {S : Type 0} (m : Meaning S) (class : Class) (s : State) (meant : Outcome) (a b : Volume S) (told : Reply) : Type 0 where
   pub reply : told ≡ replies.Error errors.EIO
   pub left : m.fails s.objects meant.state.objects a.store b.store
+  pub reads : (class ≡ Telling) ⊎ (is_error meant.reply ≡ true) → m.reads a.store b.store
   pub stops : b.stopped ≡ true
 
 -- how a command that means this ends; one that takes no memory is not passed over for it
@@ -55,4 +75,4 @@ abbrev pub CommandEnds : {S : Type 0} (m : Meaning S) → Sizes → Class → Bo
 CommandEnds m z class takes_none s meant a b told =
     IsDone m z class s meant a b told
     ⊎ ((takes_none ≡ false) × IsPassedOver m z s a b told)
-    ⊎ IsStopped m s meant a b told
+    ⊎ IsStopped m class s meant a b told

@@ -1,5 +1,5 @@
 -- What a run of commands answers and leaves.
-use Rattle.std.specs.Prelude.{◌≡◌, ◌<◌, ◌||◌, ◌++◌, ℕ, Bool, true, false, List, [], ◌∷◌, length, take, Some, slice_get}
+use Rattle.std.specs.Prelude.{◌≡◌, ◌⊎◌, ◌<◌, ◌||◌, ◌++◌, ℕ, zero, suc, Bool, true, false, List, [], ◌∷◌, length, take, Some, slice_get}
 use Rattle.std.specs.List.{list_any}
 use Rattle.posix_profile.specs.Losses.{LossLeaves}
 use Rattle.posix_profile.specs.Runs.{is_stop, is_no_memory, after, AllStopped, StopsFor, RunHolds}
@@ -24,6 +24,11 @@ ends_refused [] = false
 ends_refused (reply ∷ []) = is_no_memory reply
 ends_refused (reply ∷ other ∷ replies) = ends_refused (other ∷ replies)
 
+-- so many calls in turn, each of which only reads or leaves the device as it is
+abbrev pub ReadsInTurn : {S : Type 0} (m : Meaning S) → ℕ → S → S → Type 0
+ReadsInTurn m zero a b = b ≡ a
+ReadsInTurn {S} m (suc n) a b = (x : S) × ReadsInTurn m n a x × (m.reads x b ⊎ m.leaves x b)
+
 -- The store failed in the command at this place, from where the commands before it had left it, and was not called since.
 pub record Failure {S : Type 0} (m : Meaning S) (z : Sizes) (read_only : Bool) (s : State) (commands : List Stamped) (answered : List Reply) (a b : S) : Type 0 where
   pub place : ℕ
@@ -36,7 +41,8 @@ pub record Failure {S : Type 0} (m : Meaning S) (z : Sizes) (read_only : Bool) (
 
 -- From a state: the replies are right, a mount shows the tree after some of the commands, at least those that a sync covers,
 -- the volume is stopped exactly where a reply is EIO, and then for a failure of the store, and else it stands for the state
--- after the commands that were answered. Where the last of them was refused memory the device has power.
+-- after the commands that were answered. Where the last of them was refused memory the device has power. A read-only volume only
+-- reads.
 pub record Ran {S : Type 0} (m : Meaning S) (z : Sizes) (s : State) (commands : List Stamped) (answered : List Reply) (a b : Volume S) : Type 0 where
   pub holds : RunHolds z (is_read_only a) s commands answered
   pub losses : (tree : Objects) → m.shows (store_of a) tree → LossLeaves (m.shows (store_of b)) tree z (is_read_only a) s commands answered
@@ -44,6 +50,7 @@ pub record Ran {S : Type 0} (m : Meaning S) (z : Sizes) (s : State) (commands : 
   pub failure : is_stopped b ≡ true → Failure m z (is_read_only a) s commands answered (store_of a) (store_of b)
   pub state : is_stopped b ≡ false → IsAt m z (after z (is_read_only a) s commands answered) b
   pub power : ends_refused answered ≡ true → m.has_power (store_of b) ≡ true
+  pub only : is_read_only a ≡ true → (n : ℕ) × ReadsInTurn m n (store_of a) (store_of b)
 
 -- So many of the commands are answered, behind the old replies, and after EIO each by EIO: the volume is stopped afterwards
 -- exactly where it was before or a reply is EIO. On a stopped volume all are EIO, and it stays as it was.

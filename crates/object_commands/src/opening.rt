@@ -1,5 +1,5 @@
 // The commands on descriptors that change objects: Open and Close.
-ghost use Rattle.std.specs.Prelude.{◌≡◌, ◌<◌, true, not, ◌&&◌, ◌||◌, Some, None};
+ghost use Rattle.std.specs.Prelude.{◌≡◌, ◌<◌, true, not, ◌&&◌, ◌||◌, Some, None, is_some};
 ghost use Rattle.std.specs.FinMap as map;
 ghost use Rattle.volume_terms.specs.Sizes.{Sizes};
 ghost use Rattle.posix_profile.specs.State.{Handle, Object, State, IsFile, is_directory};
@@ -8,7 +8,8 @@ ghost use Rattle.posix_profile.specs.laws.Path.{IsPlace};
 ghost use Rattle.posix_profile.specs.laws.Sound.{IsSound};
 ghost use Rattle.posix_profile.specs.HandleSteps.{may_write, open_found, open_absent, open_at, open_step, close_step};
 ghost use Rattle.path_walk.specs.Places.{place_of};
-ghost use Rattle.command_plans.specs.Classes.{Changing};
+ghost use Rattle.posix_profile.specs.Paths.{resolve};
+ghost use Rattle.command_plans.specs.Classes.{Changing, is_there, tells_if};
 ghost use Rattle.command_plans.specs.Plans.{Holds, Plans, Tries, Frees, LeavesDevice, CanDo, Suits, worked, frees, leaves_device};
 ghost use Rattle.object_commands.specs.Opens.{open_found_on, open_absent_on, cut_by, opened};
 ghost use Rattle.command_plans.specs.Tables.{handles_in};
@@ -149,7 +150,7 @@ fn open_found_on<'a>(
     fd: u32,
 ) -> Result<Plan<'a>, Errno>
     ensures { (z : Sizes) (s : State) → IsSound z s → fd < 64 → (flags.trunc ≡ true → IsFile s.objects number)
-        → Tries z Changing s (open_found_on z read_only moment s flags number fd) result }
+        → Tries z (tells_if (not flags.trunc) Changing) s (open_found_on z read_only moment s flags number fd) result }
 {
     if is_write_refused(read_only, flags) {
         return Err(Errno::EROFS);
@@ -168,7 +169,7 @@ fn open_found<'a, S: ObjectStore>(
 ) -> Result<Plan<'a>, Errno>
     ensures { (z : Sizes) (s : State) → Holds S.meaning z s store.now → handles_in table.now ≡ s.handles
         → (x : Object) → map.get s.objects number ≡ Some x
-        → Tries z Changing s (open_found z read_only moment s flags number) result }
+        → Tries z (tells_if (not flags.trunc) Changing) s (open_found z read_only moment s flags number) result }
 {
     if is_exclusive(flags) {
         return Err(Errno::EEXIST);
@@ -244,7 +245,7 @@ fn open_at<'a, S: ObjectStore>(
     place: PathPlace<'a>,
 ) -> Result<Plan<'a>, Errno>
     ensures { (z : Sizes) (s : State) → Holds S.meaning z s store.now → handles_in table.now ≡ s.handles → IsPlace s.objects (place_of place.entry)
-        → Tries z Changing s (open_at z read_only moment s flags (place_of place.entry) (place_of place.entry).object) result }
+        → Tries z (tells_if (is_some (place_of place.entry).object && not flags.trunc) Changing) s (open_at z read_only moment s flags (place_of place.entry) (place_of place.entry).object) result }
 {
     match place.object {
         Some(number) => open_found(store, table, read_only, moment, flags, number),
@@ -264,7 +265,7 @@ pub(crate) fn open<'a, S: ObjectStore>(
 ) -> Result<Plan<'a>, Refusal>
     ensures reads { S.meaning.reads store.old store.new }
     ensures plans { (z : Sizes) (s : State) → Holds S.meaning z s store.old → handles_in table.now ≡ s.handles
-        → Plans S.meaning z Changing s (open_step z read_only moment s path.now flags) store.old store.new result }
+        → Plans S.meaning z (tells_if (is_there (resolve s.objects path.now) && not flags.trunc) Changing) s (open_step z read_only moment s path.now flags) store.old store.new result }
 {
     if cuts_what_is_only_read(flags) {
         return Err(Refusal::Error(Errno::EINVAL));

@@ -8,13 +8,13 @@ ghost use Rattle.posix_profile.specs.Names.{Names, Reached};
 ghost use Rattle.posix_profile.specs.NameSteps.{at_object, is_below, is_object, name_moved, rename_step, rename_to, rename_tests_onto};
 ghost use Rattle.posix_profile.specs.Outcomes.{change_to, unless};
 ghost use Rattle.posix_profile.specs.laws.Path.{IsPlace};
-ghost use Rattle.posix_profile.specs.Paths.{first_error, is_dot, is_dot_dot};
+ghost use Rattle.posix_profile.specs.Paths.{first_error, is_dot, is_dot_dot, resolve};
 ghost use Rattle.volume_terms.specs.Sizes.{Sizes};
 ghost use Rattle.posix_profile.specs.State.{Object, Objects, State, IsDirectory, is_directory, entries_of};
 ghost use Rattle.path_walk.specs.Places.{place_of};
 ghost use Rattle.object_store.specs.Changes.{NamesNothing};
 ghost use Rattle.object_store.specs.Stores.{Has};
-ghost use Rattle.command_plans.specs.Classes.{Changing};
+ghost use Rattle.command_plans.specs.Classes.{Changing, is_one, lead_to_one, tells_if};
 ghost use Rattle.object_commands.specs.Names.{EndsInName, rename_onto, rename_places};
 ghost use Rattle.command_plans.specs.Plans.{Holds, IsPlan, Plans, Tries};
 ghost use Rattle.command_plans.specs.Tables.{handles_in};
@@ -240,7 +240,7 @@ fn rename_to<'a, S: ObjectStore>(
     ensures { (z : Sizes) (s : State) → Holds S.meaning z s store.now → handles_in table.now ≡ s.handles
         → EndsInName s.objects (place_of from.entry) → (place_of from.entry).object ≡ Some number
         → EndsInName s.objects (place_of to.entry)
-        → Tries z Changing s (rename_to z read_only moment s (place_of from.entry) (place_of to.entry) number) result }
+        → Tries z (tells_if (is_object number (place_of to.entry).object) Changing) s (rename_to z read_only moment s (place_of from.entry) (place_of to.entry) number) result }
 {
     if is_same(to, number) {
         return Ok(tell(Reply::Done));
@@ -276,7 +276,7 @@ fn rename_places<'a, S: ObjectStore>(
 ) -> Result<Plan<'a>, Errno>
     ensures { (z : Sizes) (s : State) → Holds S.meaning z s store.now → handles_in table.now ≡ s.handles
         → IsPlace s.objects (place_of from.entry) → IsPlace s.objects (place_of to.entry)
-        → Tries z Changing s (rename_places z read_only moment s (place_of from.entry) (place_of to.entry)) result }
+        → Tries z (tells_if (is_one (place_of from.entry).object (place_of to.entry).object) Changing) s (rename_places z read_only moment s (place_of from.entry) (place_of to.entry)) result }
 {
     if have_dots(from, to) {
         return Err(Errno::EINVAL);
@@ -302,7 +302,7 @@ pub(crate) fn rename<'a, S: ObjectStore>(
 ) -> Result<Plan<'a>, Refusal>
     ensures reads { S.meaning.reads store.old store.new }
     ensures plans { (z : Sizes) (s : State) → Holds S.meaning z s store.old → handles_in table.now ≡ s.handles
-        → Plans S.meaning z Changing s (rename_step z read_only moment s old.now new.now) store.old store.new result }
+        → Plans S.meaning z (tells_if (lead_to_one (resolve s.objects old.now) (resolve s.objects new.now)) Changing) s (rename_step z read_only moment s old.now new.now) store.old store.new result }
 {
     let from = find_place(alloc, store, old)?;
     let to = find_place(alloc, store, new)?;

@@ -16,7 +16,7 @@ ghost use Rattle.posix_profile.specs.declared.reply.Reply.{Reply};
 ghost use Rattle.object_store.specs.Stores.{Has};
 ghost use Rattle.volume_terms.specs.declared.fault.StoreFault.TheVariants as faults;
 ghost use Rattle.command_plans.specs.Classes.{Class, class_of, makes_no_call};
-ghost use Rattle.command_plans.specs.Plans.{Holds, Plans, Works, IsPlan, TakesNone, LeavesDevice, CanDo, InRange, frees, leaves_device, handled};
+ghost use Rattle.command_plans.specs.Plans.{Holds, Plans, Works, IsPlan, TakesNone, LeavesDevice, CanDo, InRange, does_nothing, frees, leaves_device, handled};
 ghost use Rattle.command_plans.specs.Tables.{handles_in};
 
 use crate::naming::{link, mkdir, rmdir, unlink};
@@ -51,7 +51,7 @@ fn plan<'a, S: ObjectStore>(
 ) -> Result<Plan<'a>, Refusal>
     ensures reads { S.meaning.reads store.old store.new }
     ensures plans { (z : Sizes) (s : State) → Holds S.meaning z s store.old → handles_in table.now ≡ s.handles
-        → Plans S.meaning z (class_of stamped.now.command) s (step z read_only s stamped.now) store.old store.new result }
+        → Plans S.meaning z (class_of read_only s stamped.now.command) s (step z read_only s stamped.now) store.old store.new result }
     ensures memory { takes_no_memory stamped.now.command ≡ true → TakesNone result }
     ensures leaves { makes_no_call stamped.now.command ≡ true → (store.new ≡ store.old) × LeavesDevice result }
 {
@@ -72,8 +72,8 @@ fn plan<'a, S: ObjectStore>(
         Command::Truncate { fd, length } => {
             hand_on(truncate(store, table, moment, *fd, signed(length)))
         }
-        Command::Fsync { fd } => hand_on(fsync(table, *fd)),
-        Command::Sync => Ok(sync()),
+        Command::Fsync { fd } => hand_on(fsync(table, read_only, *fd)),
+        Command::Sync => Ok(sync(read_only)),
         Command::Stat { path } => stat(alloc, store, path.as_slice()),
         Command::Mkdir { path } => mkdir(alloc, store, read_only, moment, path.as_slice()),
         Command::Rmdir { path } => rmdir(alloc, store, table, read_only, moment, path.as_slice()),
@@ -94,6 +94,7 @@ fn plan<'a, S: ObjectStore>(
 /// Does what a plan asks of the store.
 fn work<S: ObjectStore>(store: &mut S, asked: &StoreWork<'_>) -> Result<(), StoreFault>
     ensures lasts { S.meaning.lasts store.old store.new }
+    ensures reads { does_nothing asked.now ≡ true → S.meaning.reads store.old store.new }
     ensures leaves { leaves_device asked.now ≡ true → S.meaning.leaves store.old store.new }
     ensures works { (z : Sizes) (objects : Objects) → Has S.meaning z objects store.old → CanDo z objects asked.now
         → Works S.meaning objects asked.now store.old store.new result }
@@ -136,7 +137,7 @@ pub struct Volume<S> {
 
 impl<S: ObjectStore> Volume<S> {
     ghost use Rattle.object_commands.specs.Volumes.{store_of, handles_of, is_read_only, is_stopped};
-    ghost use Rattle.object_commands.specs.Endings.{IsAt, CommandEnds, TellsRefusal};
+    ghost use Rattle.object_commands.specs.Endings.{IsAt, CommandEnds, StaysReading, TellsRefusal};
     ghost use Rattle.object_commands.specs.Running.{Runs};
 
     /// A volume over the store: no descriptor is open.
@@ -226,9 +227,11 @@ impl<S: ObjectStore> Volume<S> {
     fn carry_out(&mut self, plan: Plan<'_>) -> Reply
         ensures keeps { is_read_only self.new ≡ is_read_only self.old }
         ensures lasts { S.meaning.lasts (store_of self.old) (store_of self.new) }
+        ensures reads { does_nothing plan.entry.work ≡ true → S.meaning.reads (store_of self.old) (store_of self.new) }
         ensures leaves { leaves_device plan.entry.work ≡ true → S.meaning.leaves (store_of self.old) (store_of self.new) }
         ensures ends { (z : Sizes) (s : State) → IsAt S.meaning z s self.old
             → (class : Class) (meant : Outcome) → IsPlan z class s meant plan.entry → IsSound z meant.state → is_stop meant.reply ≡ false
+            → (is_read_only self.old ≡ true → StaysReading s meant.state)
             → CommandEnds S.meaning z class (frees plan.entry.work) s meant self.old (record self.new { stopped = is_stop result }) result }
     {
         match work(&mut self.store, &plan.work) {
@@ -247,8 +250,10 @@ impl<S: ObjectStore> Volume<S> {
         ensures keeps { is_read_only self.new ≡ is_read_only self.old }
         ensures lasts { S.meaning.lasts (store_of self.old) (store_of self.new) }
         ensures leaves { makes_no_call stamped.now.command ≡ true → S.meaning.leaves (store_of self.old) (store_of self.new) }
+        ensures only { is_read_only self.old ≡ true → (z : Sizes) (s : State) → IsAt S.meaning z s self.old
+            → S.meaning.reads (store_of self.old) (store_of self.new) ⊎ S.meaning.leaves (store_of self.old) (store_of self.new) }
         ensures ends { (z : Sizes) (s : State) → IsAt S.meaning z s self.old
-            → CommandEnds S.meaning z (class_of stamped.now.command) (takes_no_memory stamped.now.command) s (step z (is_read_only self.old) s stamped.now)
+            → CommandEnds S.meaning z (class_of (is_read_only self.old) s stamped.now.command) (takes_no_memory stamped.now.command) s (step z (is_read_only self.old) s stamped.now)
             self.old (record self.new { stopped = is_stop result }) result }
     {
         is_stamped(stamped);
@@ -272,10 +277,12 @@ impl<S: ObjectStore> Volume<S> {
         ensures keeps { is_read_only self.new ≡ is_read_only self.old }
         ensures lasts { S.meaning.lasts (store_of self.old) (store_of self.new) }
         ensures leaves { makes_no_call stamped.now.command ≡ true → S.meaning.leaves (store_of self.old) (store_of self.new) }
+        ensures only { is_read_only self.old ≡ true → (z : Sizes) (s : State) → IsAt S.meaning z s self.old
+            → S.meaning.reads (store_of self.old) (store_of self.new) ⊎ S.meaning.leaves (store_of self.old) (store_of self.new) }
         ensures stopped { is_stopped self.old ≡ true → (result ≡ replies.Error errors.EIO) × (self.new ≡ self.old) }
         ensures stops { is_stopped self.old ≡ false → is_stopped self.new ≡ is_stop result }
         ensures ends { is_stopped self.old ≡ false → (z : Sizes) (s : State) → IsAt S.meaning z s self.old
-            → CommandEnds S.meaning z (class_of stamped.now.command) (takes_no_memory stamped.now.command) s (step z (is_read_only self.old) s stamped.now) self.old self.new result }
+            → CommandEnds S.meaning z (class_of (is_read_only self.old) s stamped.now.command) (takes_no_memory stamped.now.command) s (step z (is_read_only self.old) s stamped.now) self.old self.new result }
     {
         if self.stopped {
             return Reply::Error(Errno::EIO);

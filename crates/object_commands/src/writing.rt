@@ -1,11 +1,11 @@
 // The commands that change the bytes of a file: Write and Truncate.
-ghost use Rattle.std.specs.Prelude.{◌≡◌, ◌<◌, ◌≤◌, ℕ, List, length, pos};
+ghost use Rattle.std.specs.Prelude.{◌≡◌, ◌<◌, ◌≤◌, ℕ, List, length, nat_eq, pos};
 ghost use Rattle.std.specs.FinMap as map;
 ghost use Rattle.posix_profile.specs.HandleSteps.{may_write, write_offset, write_count, write_file, write_bytes, write_step, truncate_to, truncate_step};
 ghost use Rattle.volume_terms.specs.Sizes.{Sizes};
 ghost use Rattle.posix_profile.specs.State.{Handle, State, IsFile};
 ghost use Rattle.object_store.specs.Facts.{bytes_of};
-ghost use Rattle.command_plans.specs.Classes.{Changing};
+ghost use Rattle.command_plans.specs.Classes.{Changing, tells_if};
 ghost use Rattle.command_plans.specs.Plans.{Holds, Tries};
 ghost use Rattle.command_plans.specs.Tables.{handle_of, handles_in};
 
@@ -102,7 +102,7 @@ fn write_some<'a, S: ObjectStore>(
     new: &'a [u8],
 ) -> Result<Plan<'a>, Errno>
     ensures { (z : Sizes) (s : State) → Holds S.meaning z s store.now → IsFile s.objects description.object → fd < 64
-        → Tries z Changing s (write_bytes z moment s fd (handle_of description) new.now) result }
+        → Tries z (tells_if (nat_eq (length new.now) 0) Changing) s (write_bytes z moment s fd (handle_of description) new.now) result }
 {
     if new.is_empty() {
         return Ok(tell(Reply::Wrote(0)));
@@ -119,7 +119,7 @@ pub(crate) fn write<'a, S: ObjectStore>(
     new: &'a [u8],
 ) -> Result<Plan<'a>, Errno>
     ensures { (z : Sizes) (s : State) → Holds S.meaning z s store.now → handles_in table.now ≡ s.handles
-        → Tries z Changing s (write_step z moment s fd new.now) result }
+        → Tries z (tells_if (nat_eq (length new.now) 0) Changing) s (write_step z moment s fd new.now) result }
 {
     match table.get(fd) {
         Some(description) => {

@@ -1,7 +1,10 @@
 -- What the commands promise of a store of objects, in the words of its pages.
-use Rattle.std.specs.Prelude.{◌≡◌, ◌⊎◌, ℕ, Bool, true, false, not, List, Result, Ok, Err}
+use Rattle.std.specs.Prelude.{◌≡◌, ◌⊎◌, ℕ, zero, suc, Bool, true, false, not, List, Result, Ok, Err}
 use Rattle.std.proofs.Common.{refl, sym, ◌∙◌, ap, subst, inl, inr}
 use Rattle.volume_terms.specs.Sizes.{Sizes}
+use Rattle.nand_model.specs.Calls.{Device}
+use Rattle.nand_model.specs.Changes.{OnlyReads}
+use Rattle.nand_model.specs.laws.Changes.{only_reads_here, only_reads_on}
 use Rattle.posix_profile.specs.Losses.{is_synced, LossLeaves}
 use Rattle.posix_profile.specs.Runs.{takes_no_memory}
 use Rattle.posix_profile.specs.Steps.{step}
@@ -14,8 +17,8 @@ use Rattle.volume_terms.specs.declared.fault.StoreFault.TheVariants as faults
 use Rattle.object_commands.specs.Volumes.{store_of}
 use Rattle.command_plans.specs.Classes.{class_of}
 use Rattle.object_commands.specs.Endings.{IsAt, CommandEnds}
-use Rattle.object_commands.specs.Running.{Ran, Runs}
-use Rattle.object_commands.specs.laws.Steps.{One, one_ends}
+use Rattle.object_commands.specs.Running.{ReadsInTurn, Ran, Runs}
+use Rattle.object_commands.specs.laws.Steps.{One, one_ends, at_shown}
 use Rattle.object_table.specs.Told.{table_sizes}
 use Rattle.paged_objects.specs.Meaning.{paged_meaning}
 use Rattle.paged_objects.specs.Standing.{StandsFor, Shown}
@@ -47,6 +50,11 @@ is_at state z s v is = record {
   };
   handles = is.handles;
   sound = is.sound;
+  only_read = λ only. record {
+    handles = is.reading only;
+    named = is.named only;
+    shown = subst (λ y. Shown y (state (pages_of v)) s.objects) (sym is.sizes) (is.shown only);
+  };
 }
 
 pub is_volume : {P : Type 0} (state : P → PagesState) (z : Sizes) (s : State) (v : PageVolume P) → IsAt (meaning_of state) z s v.volume → IsVolumeOf state z s v
@@ -57,6 +65,9 @@ is_volume state z s v at = record {
   tells = at.has.stands.1;
   handles = at.handles;
   sound = at.sound;
+  reading = λ only. (at.only_read only).handles;
+  named = λ only. (at.only_read only).named;
+  shown = λ only. subst (λ y. Shown y (state (pages_of v)) s.objects) at.has.sizes (at.only_read only).shown;
 }
 
 -- the tree that a mount would show, by the sizes that the table tells
@@ -76,9 +87,19 @@ module _ {P : Type 0} (state : P → PagesState) where
   m = meaning_of state
 
   -- one command
-  pub one_call : (z : Sizes) (s : State) (stamped : Stamped) (r : Reply) (a b : PageVolume P) → CommandEnds m z (class_of stamped.command) (takes_no_memory stamped.command) s (step z (is_read_only a) s stamped) a.volume b.volume r
+  pub one_call : (z : Sizes) (s : State) (stamped : Stamped) (r : Reply) (a b : PageVolume P) → IsVolumeOf state z s a → CommandEnds m z (class_of (is_read_only a) s stamped.command) (takes_no_memory stamped.command) s (step z (is_read_only a) s stamped) a.volume b.volume r
       → One m z (is_read_only a) s stamped r a.volume b.volume
-  one_call z s stamped r a b ends = one_ends m (paged_lawful state (λ s. s.pages) (λ s. s.table)) z (is_read_only a) s stamped r a.volume b.volume ends
+  one_call z s stamped r a b is ends = one_ends m (paged_lawful state (λ s. s.pages) (λ s. s.table)) z (is_read_only a) s stamped r a.volume b.volume (at_shown m z s a.volume (is_at state z s a is)) ends
+
+  -- a call that only reads, or leaves the device as it is
+  pub reads_device : (a b : PagedObjects P) → m.reads a b ⊎ m.leaves a b → OnlyReads (state a.pages).device (state b.pages).device
+  reads_device a b (inl reads) = reads.0.device
+  reads_device a b (inr leaves) = subst (λ (d : Device). OnlyReads (state a.pages).device d) (sym leaves) (only_reads_here (state a.pages).device)
+
+  -- and such calls in turn
+  reads_all : (n : ℕ) (a b : PagedObjects P) → ReadsInTurn m n a b → OnlyReads (state a.pages).device (state b.pages).device
+  reads_all zero a b same = subst (λ (x : PagedObjects P). OnlyReads (state a.pages).device (state x.pages).device) (sym same) (only_reads_here (state a.pages).device)
+  reads_all (suc n) a b more = only_reads_on _ _ _ (reads_all n a more.0 more.1) (reads_device more.0 b more.2)
 
   -- what a mount would show after it
   pub tree_after : (z : Sizes) (s : State) (read_only : Bool) (stamped : Stamped) (r : Reply) (a b : PageVolume P) → table_sizes (table_of a) ≡ z → table_sizes (table_of b) ≡ table_sizes (table_of a) → One m z read_only s stamped r a.volume b.volume
@@ -98,6 +119,7 @@ module _ {P : Type 0} (state : P → PagesState) where
     cause = λ stop. (ran.failure stop).fails.0.cause;
     state_is = λ goes. is_volume state z _ b (ran.state goes);
     power = λ refused. powered _ (ran.power refused);
+    only_reads = λ only. let reads = ran.only only in reads_all reads.0 a.volume.store b.volume.store reads.1;
   } where
     losses_from : {tree : Objects} → LossLeaves (Shown (table_sizes (table_of b)) (state (pages_of b))) tree z (is_read_only a) s commands answered → LossLeaves (Shown z (state (pages_of b))) tree z (is_read_only a) s commands answered
     losses_from {tree} left = subst (λ y. LossLeaves (Shown y (state (pages_of b))) tree z (is_read_only a) s commands answered) (same ∙ is) left

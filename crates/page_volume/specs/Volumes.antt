@@ -1,14 +1,16 @@
 -- What a volume over pages is, and which state it stands for.
-use Rattle.std.specs.Prelude.{◌≡◌, Bool}
+use Rattle.std.specs.Prelude.{◌≡◌, Bool, true}
 use Rattle.volume_terms.specs.Sizes.{Sizes, IsSizes}
 use Rattle.posix_profile.specs.State.{State}
 use Rattle.posix_profile.specs.laws.Sound.{IsSound}
+use Rattle.object_commands.specs.Endings.{AreReading}
 use Rattle.object_commands.specs.Volumes as volumes
+use Rattle.object_store.specs.Stores.{settled}
 use Rattle.object_table.specs.Told.{table_sizes, Tells}
 use Rattle.object_table.specs.declared.table.ObjectTable.{ObjectTable}
 use Rattle.pages.specs.State.{PagesState}
 use Rattle.paged_objects.specs.Parts as parts
-use Rattle.paged_objects.specs.Standing.{StandsFor}
+use Rattle.paged_objects.specs.Standing.{StandsFor, Shown}
 use Rattle.page_volume.specs.declared.volume.PageVolume.{PageVolume}
 
 -- its pages
@@ -28,7 +30,8 @@ abbrev pub is_stopped : {P : Type 0} → PageVolume P → Bool
 is_stopped v = volumes.is_stopped v.volume
 
 -- The volume stands for a state: its sound pages hold the objects, its table tells them, and its descriptors are those of
--- the state, which is one that a volume of these sizes can have.
+-- the state, which is one that a volume of these sizes can have. Of a read-only volume no descriptor may write, each object has
+-- a name, and a mount shows the objects.
 pub record IsVolumeOf {P : Type 0} (state : P → PagesState) (z : Sizes) (s : State) (v : PageVolume P) : Type 0 where
   pub numbers : IsSizes z
   pub sizes : table_sizes (table_of v) ≡ z
@@ -36,3 +39,6 @@ pub record IsVolumeOf {P : Type 0} (state : P → PagesState) (z : Sizes) (s : S
   pub tells : Tells (table_of v) s.objects
   pub handles : volumes.handles_of v.volume ≡ s.handles
   pub sound : IsSound z s
+  pub reading : is_read_only v ≡ true → AreReading s.handles
+  pub named : is_read_only v ≡ true → settled s.objects ≡ s.objects
+  pub shown : is_read_only v ≡ true → Shown z (state (pages_of v)) s.objects

@@ -3,6 +3,7 @@ ghost use Rattle.std.specs.Prelude.{◌≡◌, ◌⊎◌, ◌≤◌, ℕ, true, 
 ghost use Rattle.std.specs.FinMap as map;
 ghost use Rattle.volume_terms.specs.Sizes.{Sizes, IsSizes};
 ghost use Rattle.posix_profile.specs.Losses.{is_synced};
+ghost use Rattle.nand_model.specs.Changes.{OnlyReads};
 ghost use Rattle.posix_profile.specs.Runs.{Replies, after_one, is_stop};
 ghost use Rattle.posix_profile.specs.State.{Objects, State};
 ghost use Rattle.posix_profile.specs.laws.Sound.{IsSound};
@@ -45,6 +46,7 @@ impl<P: PageStore> PageVolume<P> {
         ensures read_only { IfOk result (λ v. is_read_only v ≡ read_only) }
         ensures goes_on { IfOk result (λ v. is_stopped v ≡ false) }
         ensures at { (objects : Objects) → IsSizes (table_sizes table) → StandsFor (table_sizes table) (P.state pages) objects → Tells table objects → IsSound (table_sizes table) (record { objects = objects; handles = map.empty })
+            → (read_only ≡ true → (settled objects ≡ objects) × Shown (table_sizes table) (P.state pages) objects)
             → IfOk result (IsVolumeOf P.state (table_sizes table) (record { objects = objects; handles = map.empty })) }
         ensures given_back { IfErr result (λ back. P.state back.0 ≡ P.state pages) }
     {
@@ -76,9 +78,12 @@ impl<P: PageStore> PageVolume<P> {
         // Where memory was refused the device has power.
         ensures power { is_stopped self.old ≡ false → (z : Sizes) (s : State) → IsVolumeOf P.state z s self.old → result ≡ replies.Error errors.ENOMEM
             → (P.state (pages_of self.new)).device.gone ≡ false }
-        // What only tells, and what is answered by another error, leaves the pages.
-        ensures reads { is_stopped self.old ≡ false → (z : Sizes) (s : State) → IsVolumeOf P.state z s self.old → OnlyTells stamped.now result
+        // What only tells, what is meant to be answered by an error, and what was refused memory leave the pages.
+        ensures reads { is_stopped self.old ≡ false → (z : Sizes) (s : State) → IsVolumeOf P.state z s self.old → OnlyTells z (is_read_only self.old) s stamped.now result
             → StaysAs (P.state (pages_of self.old)) (P.state (pages_of self.new)) }
+        // The device of a read-only volume is only read.
+        ensures only_reads { is_read_only self.old ≡ true → (z : Sizes) (s : State) → IsVolumeOf P.state z s self.old
+            → OnlyReads (P.state (pages_of self.old)).device (P.state (pages_of self.new)).device }
     {
         self.volume.call(stamped)
     }
@@ -94,10 +99,11 @@ impl<P: PageStore> PageVolume<P> {
         self.volume.run(commands, replies)
     }
 
-    /// Commits what was accepted and gives the pages back, with the reply Done or EIO.
+    /// Commits what was accepted and gives the pages back, with the reply Done or EIO. A read-only volume makes no call.
     pub fn finish(self) -> (P, Reply)
         ensures goes_on { GoesOn (P.state (pages_of self)) (P.state result.0) }
         ensures stopped { is_stopped self ≡ true → (result.1 ≡ replies.Error errors.EIO) × (P.state result.0 ≡ P.state (pages_of self)) }
+        ensures read_only { is_read_only self ≡ true → P.state result.0 ≡ P.state (pages_of self) }
         ensures replies { is_stopped self ≡ false → (result.1 ≡ replies.Done) ⊎ (result.1 ≡ replies.Error errors.EIO) }
         ensures done { is_stopped self ≡ false → (z : Sizes) (s : State) → IsVolumeOf P.state z s self → result.1 ≡ replies.Done
             → Shown z (P.state result.0) (settled s.objects) }
@@ -107,9 +113,13 @@ impl<P: PageStore> PageVolume<P> {
             → HasEnded (P.state result.0) }
     {
         let stopped = self.volume.stopped();
+        let read_only = self.volume.read_only();
         let mut objects = self.volume.into_store();
         if stopped {
             return (objects.into_pages(), Reply::Error(Errno::EIO));
+        }
+        if read_only {
+            return (objects.into_pages(), Reply::Done);
         }
         let reply = match objects.commit() {
             Ok(()) => Reply::Done,

@@ -1,20 +1,23 @@
 -- What commands over maps answer and leave.
-use Rattle.std.specs.Prelude.{◌≡◌, ◌++◌, ℕ, Bool, true, false, List, length}
+use Rattle.std.specs.Prelude.{◌≡◌, ◌++◌, ℕ, Bool, true, false, List, length, Some, None}
+use Rattle.std.specs.FinMap as map
+use Rattle.std.specs.Ordering.{nat_cmp}
 use Rattle.std.proofs.Common.{refl, sym, ◌∙◌, ap, subst, inl, inr}
 use Rattle.std.proofs.lemmas.Bool.{false_from_ne_true, true≢false}
 use Rattle.volume_terms.specs.Sizes.{Sizes, IsSizes}
 use Rattle.posix_profile.specs.Runs.{is_no_memory, is_stop, takes_no_memory, after}
-use Rattle.posix_profile.specs.State.{State}
+use Rattle.posix_profile.specs.State.{Handles, Objects, State}
 use Rattle.posix_profile.specs.Steps.{step}
 use Rattle.posix_profile.specs.laws.Own.{command_own}
 use Rattle.posix_profile.specs.laws.Sound.{IsSound}
 use Rattle.posix_profile.specs.declared.command.Stamped.{Stamped}
 use Rattle.posix_profile.specs.declared.reply.Reply.{Reply}
 use Rattle.command_plans.specs.Classes.{class_of}
-use Rattle.object_commands.specs.Endings.{IsAt, CommandEnds}
+use Rattle.object_commands.specs.Endings.{AreReading, IsAt, CommandEnds}
 use Rattle.object_commands.specs.Running.{Ran, Runs}
 use Rattle.object_commands.specs.Volumes.{store_of, handles_of, is_read_only, is_stopped}
 use Rattle.object_commands.specs.declared.volume.Volume.{Volume}
+use Rattle.object_store.specs.Stores.{settled}
 use Rattle.plain_objects.specs.PlainMeaning.{objects_of, numbers_of, plain_meaning}
 use Rattle.plain_objects.specs.declared.store.PlainObjects.{PlainObjects}
 use Rattle.plain_volume.specs.Views.{PlainView}
@@ -27,6 +30,7 @@ plain_at v is = record {
   has = record { numbers = is.numbers; sizes = refl; stands = refl; forest = is.sound.well_formed.forest; fit = is.sound.fit };
   handles = refl;
   sound = is.sound;
+  only_read = λ only. record { handles = is.reading only; named = is.named only; shown = tt };
 }
 
 -- and for no other
@@ -39,15 +43,23 @@ at_plain z s v at goes = record {
   numbers = subst IsSizes (sym at.has.sizes) at.has.numbers;
   sound = subst (λ (n : Sizes). IsSound n (state_of v)) (sym at.has.sizes) (subst (IsSound z) (sym (at_state z s v at)) at.sound);
   goes_on = goes;
+  reading = λ only. subst AreReading (sym at.handles) (at.only_read only).handles;
+  named = λ only. subst (λ (o : Objects). settled o ≡ o) (sym at.has.stands) (at.only_read only).named;
 }
 
 -- a volume over such maps with such descriptors is a plain one
-pub plain_from : (z : Sizes) (s : State) (v : Volume PlainObjects) → IsSizes z → IsSound z s → numbers_of (store_of v) ≡ z → state_of v ≡ s → is_stopped v ≡ false → IsPlain v
-plain_from z s v numbers sound sizes state goes = record {
+pub plain_from : (z : Sizes) (s : State) (v : Volume PlainObjects) → IsSizes z → IsSound z s → numbers_of (store_of v) ≡ z → state_of v ≡ s → is_stopped v ≡ false → AreReading s.handles → settled s.objects ≡ s.objects → IsPlain v
+plain_from z s v numbers sound sizes state goes reading named = record {
   numbers = subst IsSizes (sym sizes) numbers;
   sound = subst (λ (n : Sizes). IsSound n (state_of v)) (sym sizes) (subst (IsSound z) (sym state) sound);
   goes_on = goes;
+  reading = λ _. subst AreReading (sym (ap (λ (x : State). x.handles) state)) reading;
+  named = λ _. subst (λ (o : Objects). settled o ≡ o) (sym (ap (λ (x : State). x.objects) state)) named;
 }
+
+-- no descriptor is open
+pub none_open : AreReading map.empty
+none_open fd handle is = let two : None ≡ Some handle = sym (map.get-empty nat_cmp fd) ∙ is in absurd cc
 
 -- How a command over maps ends: as its step does, or passed over for want of memory.
 pub record Called (z : Sizes) (read_only : Bool) (s : State) (c : Stamped) (r : Reply) (b : Volume PlainObjects) : Type 0 where
@@ -58,7 +70,7 @@ pub record Called (z : Sizes) (read_only : Bool) (s : State) (c : Stamped) (r : 
   pub plain : IsPlain b
 
 pub called : (z : Sizes) (read_only : Bool) (s : State) (c : Stamped) (r : Reply) (a b : Volume PlainObjects)
-    → CommandEnds plain_meaning z (class_of c.command) (takes_no_memory c.command) s (step z read_only s c) a b r → Called z read_only s c r b
+    → CommandEnds plain_meaning z (class_of read_only s c.command) (takes_no_memory c.command) s (step z read_only s c) a b r → Called z read_only s c r b
 called z read_only s c r a b (inl done) =
     let own = command_own s z read_only c.moment c.command in
     let memory : is_no_memory r ≡ false = ap is_no_memory done.reply ∙ own.memory in
@@ -82,7 +94,7 @@ called z read_only s c r a b (inr (inr stopped)) = absurd stopped.left
 
 -- the same, for what the volume is seen as
 pub call_ends : (view : PlainView) (c : Stamped) (r : Reply) (a b : Volume PlainObjects) → IsPlain a → view_of a ≡ view
-    → (is_stopped a ≡ false → (z : Sizes) (s : State) → IsAt plain_meaning z s a → CommandEnds plain_meaning z (class_of c.command) (takes_no_memory c.command) s (step z (is_read_only a) s c) a b r)
+    → (is_stopped a ≡ false → (z : Sizes) (s : State) → IsAt plain_meaning z s a → CommandEnds plain_meaning z (class_of (is_read_only a) s c.command) (takes_no_memory c.command) s (step z (is_read_only a) s c) a b r)
     → Called view.sizes view.read_only view.state c r b
 call_ends view c r a b is same ends = subst (λ (v : PlainView). Called v.sizes v.read_only v.state c r b) same
     (called (numbers_of (store_of a)) (is_read_only a) (state_of a) c r a b (ends is.goes_on (numbers_of (store_of a)) (state_of a) (plain_at a is)))

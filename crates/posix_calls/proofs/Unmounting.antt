@@ -3,7 +3,7 @@ use Rattle.std.specs.Prelude.{◌≡◌, ◌⊎◌, true, false}
 use Rattle.std.proofs.Common.{sym}
 use Rattle.nand_model.specs.Calls.{Device}
 use Rattle.object_store.specs.Stores.{settled}
-use Rattle.page_volume.specs.Volumes.{pages_of, is_stopped, IsVolumeOf}
+use Rattle.page_volume.specs.Volumes.{pages_of, is_read_only, is_stopped, IsVolumeOf}
 use Rattle.page_volume.specs.declared.volume.PageVolume.{PageVolume}
 use Rattle.pages.specs.State.{PagesState}
 use Rattle.pages.specs.Stores.{GoesOn}
@@ -19,17 +19,19 @@ use Rattle.volume_terms.specs.Sizes.{Sizes}
 module _ {P : Type 0} (state : P → PagesState) (v : PageVolume P) (pages : P) (reply : Reply) where
   pub unmounted : (device : Device) → device ≡ (state pages).device → GoesOn (state (pages_of v)) (state pages)
       → (is_stopped v ≡ true → (reply ≡ replies.Error errors.EIO) × (state pages ≡ state (pages_of v)))
+      → (is_read_only v ≡ true → state pages ≡ state (pages_of v))
       → (is_stopped v ≡ false → (reply ≡ replies.Done) ⊎ (reply ≡ replies.Error errors.EIO))
       → (is_stopped v ≡ false → (z : Sizes) (s : State) → IsVolumeOf state z s v → reply ≡ replies.Done → Shown z (state pages) (settled s.objects))
       → (is_stopped v ≡ false → (z : Sizes) (s : State) → IsVolumeOf state z s v → (tree : Objects) → Shown z (state (pages_of v)) tree
       → Shown z (state pages) tree ⊎ Shown z (state pages) (settled s.objects))
       → (is_stopped v ≡ false → (z : Sizes) (s : State) → IsVolumeOf state z s v → reply ≡ replies.Error errors.EIO → HasEnded (state pages))
       → IsUnmounted state v device reply
-  unmounted device is goes stopped answers done tree cause = record {
+  unmounted device is goes stopped read_only answers done tree cause = record {
     pages = state pages;
     device_is = sym is;
     goes_on = goes;
     stopped = stopped;
+    read_only = read_only;
     replies_are = answers;
     done = done;
     tree = tree;

@@ -1,6 +1,7 @@
 // A volume on a device.
 ghost use Rattle.std.specs.Prelude.{◌≡◌, ◌⊎◌, ◌≤◌, ℕ, true, false, length, OnOk};
 ghost use Rattle.volume_terms.specs.Sizes.{Sizes};
+ghost use Rattle.nand_model.specs.Changes.{OnlyReads};
 ghost use Rattle.command_plans.specs.Classes.{makes_no_call};
 ghost use Rattle.object_store.specs.Stores.{settled};
 ghost use Rattle.paged_objects.specs.Ending.{HasEnded, StaysAs};
@@ -58,9 +59,12 @@ impl<N: Nand> Volume<N> {
         // Where memory was refused the device has power.
         ensures power { is_stopped (over_pages self.old) ≡ false → (z : Sizes) (s : State) → IsVolumeOf ⟦<FlashPages<N> as Pages>⟧.state z s (over_pages self.old) → result ≡ replies.Error errors.ENOMEM
             → (⟦<FlashPages<N> as Pages>⟧.state (pages_of (over_pages self.new))).device.gone ≡ false }
-        // What only tells, and what is answered by another error, only reads.
-        ensures reads { is_stopped (over_pages self.old) ≡ false → (z : Sizes) (s : State) → IsVolumeOf ⟦<FlashPages<N> as Pages>⟧.state z s (over_pages self.old) → OnlyTells stamped.now result
+        // What only tells, what is meant to be answered by an error, and what was refused memory only read.
+        ensures reads { is_stopped (over_pages self.old) ≡ false → (z : Sizes) (s : State) → IsVolumeOf ⟦<FlashPages<N> as Pages>⟧.state z s (over_pages self.old) → OnlyTells z (is_read_only (over_pages self.old)) s stamped.now result
             → StaysAs (⟦<FlashPages<N> as Pages>⟧.state (pages_of (over_pages self.old))) (⟦<FlashPages<N> as Pages>⟧.state (pages_of (over_pages self.new))) }
+        // The device of a read-only volume is only read.
+        ensures only_reads { is_read_only (over_pages self.old) ≡ true → (z : Sizes) (s : State) → IsVolumeOf ⟦<FlashPages<N> as Pages>⟧.state z s (over_pages self.old)
+            → OnlyReads (⟦<FlashPages<N> as Pages>⟧.state (pages_of (over_pages self.old))).device (⟦<FlashPages<N> as Pages>⟧.state (pages_of (over_pages self.new))).device }
     {
         self.volume.call(stamped)
     }
@@ -76,7 +80,8 @@ impl<N: Nand> Volume<N> {
         self.volume.run(commands, replies)
     }
 
-    /// Commits what was accepted and gives the device back, with the reply Done, or Error of EIO where it could not be.
+    /// Commits what was accepted and gives the device back, with the reply Done, or Error of EIO where it could not be. A
+    /// read-only volume has nothing to commit and makes no call.
     pub fn unmount(self) -> (N, Reply)
         ensures { IsUnmounted ⟦<FlashPages<N> as Pages>⟧.state (over_pages self) (N.state result.0) result.1 }
     {

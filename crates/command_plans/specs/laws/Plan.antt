@@ -26,7 +26,7 @@ use Rattle.object_store.specs.declared.refusal.Refusal.{Refusal}
 use Rattle.object_store.specs.declared.refusal.Refusal.TheVariants as refusals
 use Rattle.path_walk.specs.Places.{place_of, Leads}
 use Rattle.path_walk.specs.declared.parts.PathPlace.{PathPlace}
-use Rattle.command_plans.specs.Classes.{Class}
+use Rattle.command_plans.specs.Classes.{Class, Changing, tells_if}
 use Rattle.command_plans.specs.Places.{AtPlace, FindsPlace, AtObject, NoObject, FindsObject}
 use Rattle.command_plans.specs.Plans.{Holds, IsPlan, Plans, Tries, handed, Suits}
 use Rattle.command_plans.specs.declared.plan.Plan.{Plan}
@@ -183,6 +183,7 @@ pub finds_place : {S : Type 0} (m : Meaning S) (z : Sizes) (s : State) (path : L
     → (r : Result PathPlace Refusal) → Leads m s.objects (resolve s.objects path) a b r → FindsPlace m s (resolve s.objects path) a b r
 finds_place m z s path a b forest are (Ok p) told = record {
   place = resolve_place z s.objects forest path (place_of p) are (sym told);
+  leads = sym told;
   act = λ act. this_place s (resolve s.objects path) act (place_of p) told;
 }
 finds_place m z s path a b forest are (Err (refusals.Fault fault)) told = told
@@ -211,6 +212,15 @@ plans_of m z class s meant all a b is t r from tried = subst (λ o. Plans m z cl
 
 pub tries_same : (z : Sizes) (class : Class) (s : State) (meant all : Outcome) → meant ≡ all → (t : Result Plan Errno) → Tries z class s meant t → Tries z class s all t
 tries_same z class s meant all is t told = subst (λ o. Tries z class s o t) is told
+
+-- a plan for a command of a kind that is the same
+pub tries_kind : (z : Sizes) (class same : Class) (s : State) (meant : Outcome) → class ≡ same → (t : Result Plan Errno) → Tries z class s meant t → Tries z same s meant t
+tries_kind z class same s meant is t told = subst (λ k. Tries z k s meant t) is told
+
+-- what changes nothing suits a command that tells and one that may change
+pub nothing_suits : (tells : Bool) (reply : Reply) → Suits (tells_if tells Changing) reply work.Nothing
+nothing_suits true reply = tt
+nothing_suits false reply = tt
 
 -- what is told of an object that is there
 pub stat_told : (s : State) (o : ℕ) (info : Info) (x : Option Object) → Some info ≡ info_of s.objects o x → answer s (replies.Info info) ≡ stat_of s o x

@@ -10,6 +10,7 @@ use Rattle.posix_profile.specs.laws.Place.{absent_name}
 use Rattle.posix_profile.specs.declared.reply.Kind.TheVariants as kinds
 use Rattle.posix_profile.specs.declared.reply.Reply.TheVariants as replies
 use Rattle.path_walk.specs.Places.{last_of, place_of}
+use Rattle.command_plans.specs.Classes.{Changing}
 use Rattle.object_commands.proofs.Making.{opened_plan, entry_is, absent_at, none_dropped}
 use Rattle.command_plans.specs.laws.Plan.{change_fits, change_full, refused, passed, passed_all}
 use Rattle.object_commands.proofs.opening.open_absent_on.Goals as goal
@@ -31,7 +32,7 @@ returns g c z s holds small is none =
     sym (c.has_object_room.ensures z s.objects holds.has is.directory (last_name (last_of c.args.place.last)) name.1 kinds.File c.args.moment) ∙ c.if-not-has_object_room.false in
     let entry = c.entry_at.result in
     let number = c.new_number.ensures z s.objects holds.has in
-    opened_plan z s c.args.fd c.new_number.result c.args.flags _ _ _ c.open_on.ensures small
+    opened_plan z Changing s c.args.fd c.new_number.result c.args.flags _ _ _ c.open_on.ensures small
     (record {
       sensible = absent_at s.objects (place_of c.args.place) entry is none c.entry_at.ensures.directory c.entry_at.ensures.name;
       empty = none_dropped s.objects;

@@ -1,10 +1,12 @@
-use Rattle.std.proofs.Common.{refl, ap, ap₂, w64}
+use Rattle.std.proofs.Common.{List, ℕ, refl, ap, ap₂, subst, w64}
 use Rattle.std.specs.Prelude.{Ok}
 use Rattle.std.proofs.lemmas.Int.{to_z-of_z}
 use Rattle.posix_profile.specs.HandleSteps.{open_step, write_step, seek_step, truncate_step}
 use Rattle.posix_profile.specs.NameSteps.{stat_step, mkdir_step, rmdir_step, link_step, unlink_step, rename_step, list_step}
 use Rattle.posix_profile.specs.Steps.{step_at}
-use Rattle.command_plans.specs.Classes.{Telling, Changing, Syncing}
+use Rattle.posix_profile.specs.declared.command.Command.TheVariants as commands
+use Rattle.command_plans.specs.Classes.{class_of}
+use Rattle.command_plans.specs.Plans.{Plans, Tries}
 use Rattle.object_commands.proofs.Ending.{plans_step}
 use Rattle.command_plans.specs.laws.Plan.{plans_of}
 use Rattle.object_commands.proofs.volume.plan.Goals as goal
@@ -14,8 +16,9 @@ unfolding step_at
 returns-in-Open-clause-plans g c z s holds same =
     let m = g.S.ObjectStore.meaning in
     let stamped = c.args.stamped.now in
-    plans_step m z c.args.read_only s stamped _ _ c.args.store.now c.open.new.store c.in-Open.is (ap (λ x. open_step z c.args.read_only stamped.moment s x c.in-Open.flags) c.as_slice-path.ensures)
-    c.open.result (c.open.ensures.plans z s holds same)
+    plans_step m z c.args.read_only s stamped _ _ c.args.store.now c.open.new.store c.in-Open.is refl c.open.result
+    (subst (λ (x : List ℕ). Plans m z (class_of c.args.read_only s (commands.Open x c.in-Open.flags)) s (open_step z c.args.read_only stamped.moment s x c.in-Open.flags) c.args.store.now c.open.new.store c.open.result)
+    c.as_slice-path.ensures (c.open.ensures.plans z s holds same))
 
 pub returns-in-Close-clause-plans : goal.returns-in-Close-clause-plans
 unfolding step_at
@@ -23,7 +26,7 @@ returns-in-Close-clause-plans g c z s holds same =
     let m = g.S.ObjectStore.meaning in
     let stamped = c.args.stamped.now in
     plans_step m z c.args.read_only s stamped _ _ c.args.store.now c.args.store.now c.in-Close.is refl
-    c.hand_on.result (plans_of m z Changing s _ _ c.args.store.now c.args.store.now (refl) c.close.result c.hand_on.result c.hand_on.ensures (c.close.ensures.plans z s holds same))
+    c.hand_on.result (plans_of m z _ s _ _ c.args.store.now c.args.store.now (refl) c.close.result c.hand_on.result c.hand_on.ensures (c.close.ensures.plans z s holds same))
 
 pub returns-in-Read-clause-plans : goal.returns-in-Read-clause-plans
 unfolding step_at
@@ -39,7 +42,8 @@ returns-in-Write-clause-plans g c z s holds same =
     let m = g.S.ObjectStore.meaning in
     let stamped = c.args.stamped.now in
     plans_step m z c.args.read_only s stamped _ _ c.args.store.now c.args.store.now c.in-Write.is refl
-    c.hand_on-in-Write.result (plans_of m z Changing s _ _ c.args.store.now c.args.store.now (ap (write_step z stamped.moment s c.in-Write.fd) c.as_slice.ensures) c.write.result c.hand_on-in-Write.result c.hand_on-in-Write.ensures (c.write.ensures z s holds same))
+    c.hand_on-in-Write.result (plans_of m z _ s _ _ c.args.store.now c.args.store.now refl c.write.result c.hand_on-in-Write.result c.hand_on-in-Write.ensures
+    (subst (λ (x : List ℕ). Tries z (class_of c.args.read_only s (commands.Write c.in-Write.fd x)) s (write_step z stamped.moment s c.in-Write.fd x) c.write.result) c.as_slice.ensures (c.write.ensures z s holds same)))
 
 pub returns-in-Seek-clause-plans : goal.returns-in-Seek-clause-plans
 unfolding step_at
@@ -47,7 +51,7 @@ returns-in-Seek-clause-plans g c z s holds same =
     let m = g.S.ObjectStore.meaning in
     let stamped = c.args.stamped.now in
     plans_step m z c.args.read_only s stamped _ _ c.args.store.now c.args.store.now c.in-Seek.is refl
-    c.hand_on-in-Seek.result (plans_of m z Telling s _ _ c.args.store.now c.args.store.now (ap (λ n. seek_step s c.in-Seek.fd n c.in-Seek.whence) c.signed.ensures.value) c.seek.result c.hand_on-in-Seek.result c.hand_on-in-Seek.ensures (rw (to_z-of_z w64 c.signed.result c.signed.ensures.range) at (c.seek.ensures.plans z s holds same)))
+    c.hand_on-in-Seek.result (plans_of m z _ s _ _ c.args.store.now c.args.store.now (ap (λ n. seek_step s c.in-Seek.fd n c.in-Seek.whence) c.signed.ensures.value) c.seek.result c.hand_on-in-Seek.result c.hand_on-in-Seek.ensures (rw (to_z-of_z w64 c.signed.result c.signed.ensures.range) at (c.seek.ensures.plans z s holds same)))
 
 pub returns-in-Truncate-clause-plans : goal.returns-in-Truncate-clause-plans
 unfolding step_at
@@ -55,7 +59,7 @@ returns-in-Truncate-clause-plans g c z s holds same =
     let m = g.S.ObjectStore.meaning in
     let stamped = c.args.stamped.now in
     plans_step m z c.args.read_only s stamped _ _ c.args.store.now c.args.store.now c.in-Truncate.is refl
-    c.hand_on-in-Truncate.result (plans_of m z Changing s _ _ c.args.store.now c.args.store.now (ap (truncate_step z stamped.moment s c.in-Truncate.fd) c.signed-in-Truncate.ensures.value) c.truncate.result c.hand_on-in-Truncate.result c.hand_on-in-Truncate.ensures (rw (to_z-of_z w64 c.signed-in-Truncate.result c.signed-in-Truncate.ensures.range) at (c.truncate.ensures z s holds same)))
+    c.hand_on-in-Truncate.result (plans_of m z _ s _ _ c.args.store.now c.args.store.now (ap (truncate_step z stamped.moment s c.in-Truncate.fd) c.signed-in-Truncate.ensures.value) c.truncate.result c.hand_on-in-Truncate.result c.hand_on-in-Truncate.ensures (rw (to_z-of_z w64 c.signed-in-Truncate.result c.signed-in-Truncate.ensures.range) at (c.truncate.ensures z s holds same)))
 
 pub returns-in-Fsync-clause-plans : goal.returns-in-Fsync-clause-plans
 unfolding step_at
@@ -63,7 +67,7 @@ returns-in-Fsync-clause-plans g c z s holds same =
     let m = g.S.ObjectStore.meaning in
     let stamped = c.args.stamped.now in
     plans_step m z c.args.read_only s stamped _ _ c.args.store.now c.args.store.now c.in-Fsync.is refl
-    c.hand_on-in-Fsync.result (plans_of m z Syncing s _ _ c.args.store.now c.args.store.now (refl) c.fsync.result c.hand_on-in-Fsync.result c.hand_on-in-Fsync.ensures (c.fsync.ensures.plans z s same))
+    c.hand_on-in-Fsync.result (plans_of m z _ s _ _ c.args.store.now c.args.store.now (refl) c.fsync.result c.hand_on-in-Fsync.result c.hand_on-in-Fsync.ensures (c.fsync.ensures.plans z s same))
 
 pub returns-in-Sync-clause-plans : goal.returns-in-Sync-clause-plans
 unfolding step_at
@@ -132,5 +136,7 @@ unfolding step_at
 returns-in-Rename-clause-plans g c z s holds same =
     let m = g.S.ObjectStore.meaning in
     let stamped = c.args.stamped.now in
-    plans_step m z c.args.read_only s stamped _ _ c.args.store.now c.rename.new.store c.in-Rename.is (ap₂ (rename_step z c.args.read_only stamped.moment s) c.as_slice-old-in-Rename.ensures c.as_slice-new-in-Rename.ensures)
-    c.rename.result (c.rename.ensures.plans z s holds same)
+    plans_step m z c.args.read_only s stamped _ _ c.args.store.now c.rename.new.store c.in-Rename.is refl c.rename.result
+    (subst (λ (y : List ℕ). Plans m z (class_of c.args.read_only s (commands.Rename c.in-Rename.old y)) s (rename_step z c.args.read_only stamped.moment s c.in-Rename.old y) c.args.store.now c.rename.new.store c.rename.result) c.as_slice-new-in-Rename.ensures
+    (subst (λ (x : List ℕ). Plans m z (class_of c.args.read_only s (commands.Rename x c.as_slice-new-in-Rename.result.now)) s (rename_step z c.args.read_only stamped.moment s x c.as_slice-new-in-Rename.result.now) c.args.store.now c.rename.new.store c.rename.result) c.as_slice-old-in-Rename.ensures
+    (c.rename.ensures.plans z s holds same)))

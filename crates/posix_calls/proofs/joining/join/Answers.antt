@@ -1,7 +1,7 @@
 use Rattle.std.specs.Prelude.{◌≡◌}
 use Rattle.std.proofs.Common.{sym, subst}
 use Rattle.volume_terms.specs.Sizes.{Sizes, IsSizes}
-use Rattle.paged_objects.specs.Standing.{StandsFor}
+use Rattle.paged_objects.specs.Standing.{StandsFor, Shown}
 use Rattle.posix_calls.proofs.Mounting.{sound_at, stands_for}
 use Rattle.posix_calls.proofs.joining.join.Goals as goal
 
@@ -11,4 +11,5 @@ returns-clause-tree g c objects same mounted =
     let p = state c.args.pages in
     let z = sym same in
     stands_for state p c.args.table objects c.new.result same mounted c.new.ensures.pages
-    (c.new.ensures.at objects (subst IsSizes z mounted.can.numbers) (subst (λ (k : Sizes). StandsFor k p objects) z mounted.stands) mounted.tells (sound_at p c.args.table objects same mounted))
+    (c.new.ensures.at objects (subst IsSizes z mounted.can.numbers) (subst (λ (k : Sizes). StandsFor k p objects) z mounted.stands) mounted.tells (sound_at p c.args.table objects same mounted)
+    (λ _. (mounted.settles, subst (λ (k : Sizes). Shown k p objects) z mounted.shown)))

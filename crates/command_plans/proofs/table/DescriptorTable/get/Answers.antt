@@ -3,7 +3,7 @@ use Rattle.std.specs.Option.{option_map}
 use Rattle.std.proofs.lemmas.List.{get_or_default}
 use Rattle.std.proofs.Math.ListN.{get_or-eq_default}
 use Rattle.command_plans.specs.Tables.{handle_of}
-use Rattle.command_plans.specs.laws.Table.{table_get}
+use Rattle.command_plans.proofs.Descriptors.{table_get}
 use Rattle.command_plans.proofs.table.DescriptorTable.get.Goals as goal
 
 pub returns-then-fd-lt-DESCRIPTORS : goal.returns-then-fd-lt-DESCRIPTORS

@@ -1,6 +1,6 @@
 use Rattle.std.proofs.Common.{◌≡◌, subst, arith}
 use Rattle.command_plans.specs.Tables.{handles_in}
-use Rattle.command_plans.specs.laws.Table.{NoneBelow, none_open}
+use Rattle.command_plans.proofs.Descriptors.{NoneBelow, none_open}
 use Rattle.command_plans.proofs.table.DescriptorTable.is_open.Goals as goal
 
 pub returns-then-stands_for : goal.returns-then-stands_for

@@ -1,5 +1,5 @@
 use Rattle.command_plans.specs.Tables.{handles_in}
-use Rattle.command_plans.specs.laws.Table.{NoneBelow}
+use Rattle.command_plans.proofs.Descriptors.{NoneBelow}
 use Rattle.command_plans.proofs.table.DescriptorTable.is_open.Given as goal
 
 -- none so far

@@ -1,5 +1,5 @@
 use Rattle.command_plans.specs.Tables.{handles_in}
-use Rattle.command_plans.specs.laws.Table.{NoneBesides}
+use Rattle.command_plans.proofs.Descriptors.{NoneBesides}
 use Rattle.command_plans.proofs.table.DescriptorTable.is_open_besides.Given as goal
 
 -- none so far

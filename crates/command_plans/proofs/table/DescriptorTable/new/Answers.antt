@@ -1,7 +1,7 @@
 use Rattle.std.proofs.Common.{◌≤◌, length, refl, inl, inr, arith, None}
 use Rattle.std.proofs.lemmas.Bool.{cases_lt}
 use Rattle.std.proofs.Math.ListN.{get_or-eq_default}
-use Rattle.command_plans.specs.laws.Table.{table_empty}
+use Rattle.command_plans.proofs.Descriptors.{table_empty}
 use Rattle.command_plans.proofs.table.DescriptorTable.new.Goals as goal
 
 pub returns : goal.returns

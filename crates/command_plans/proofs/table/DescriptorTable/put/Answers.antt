@@ -1,5 +1,5 @@
 use Rattle.std.proofs.Common.{arith, refl}
-use Rattle.command_plans.specs.laws.Table.{table_put}
+use Rattle.command_plans.proofs.Descriptors.{table_put}
 use Rattle.command_plans.proofs.table.DescriptorTable.put.Goals as goal
 
 pub returns-then-fd-lt-DESCRIPTORS-clause-puts : goal.returns-then-fd-lt-DESCRIPTORS-clause-puts

@@ -1,6 +1,6 @@
 use Rattle.std.proofs.Common.{◌≤◌, length, arith, refl, None}
 use Rattle.std.proofs.Math.ListN.{get_or-eq_default}
-use Rattle.command_plans.specs.laws.Table.{table_remove, table_past}
+use Rattle.command_plans.proofs.Descriptors.{table_remove, table_past}
 use Rattle.command_plans.proofs.table.DescriptorTable.remove.Goals as goal
 
 pub returns-then-fd-lt-DESCRIPTORS : goal.returns-then-fd-lt-DESCRIPTORS

@@ -7,13 +7,13 @@ use Rattle.object_commands.proofs.Ending.{is_done, refused_ends, leaves_frees}
 use Rattle.object_commands.proofs.volume.Volume.carry_out.Goals as goal
 
 pub returns-in-Ok-clause-ends : goal.returns-in-Ok-clause-ends
-returns-in-Ok-clause-ends g c z s at class meant is sound own =
+returns-in-Ok-clause-ends g c z s at class meant is sound own stays =
     let done = c.in-Ok.ensures.works z s.objects at.has is.can in
-    inl (is_done g.S.ObjectStore.meaning g.met.S.ObjectStore.lawful z class s meant c.args.plan c.args.self.now _ at is sound c.work.ensures.lasts done.0 done.1 (c.handle.ensures is.range)
+    inl (is_done g.S.ObjectStore.meaning g.met.S.ObjectStore.lawful z class s meant c.args.plan c.args.self.now _ at is sound refl stays c.work.ensures.lasts done.0 done.1 (c.handle.ensures is.range)
     (ap (λ (o : Outcome). is_stop o.reply) is.means ∙ own))
 
 pub returns-in-Err-NoMemory-clause-ends : goal.returns-in-Err-NoMemory-clause-ends
-returns-in-Err-NoMemory-clause-ends g c z s at class meant is sound own =
+returns-in-Err-NoMemory-clause-ends g c z s at class meant is sound own stays =
     let m = g.S.ObjectStore.meaning in
     let law = g.met.S.ObjectStore.lawful in
     let a = c.args.self.now in
@@ -22,4 +22,4 @@ returns-in-Err-NoMemory-clause-ends g c z s at class meant is sound own =
     let told = c.pass_over.ensures in
     let b = record c.pass_over.new.self { stopped = is_stop c.pass_over.result } in
     refused_ends m law z class (frees c.args.plan.work) s meant a b c.pass_over.result at (false_from_ne_true _ (λ yes'. none yes' refl))
-    (law.reads_on a.store c.work.new.store b.store left told.reads) (ap (λ v. v.table) told.same) told.tells refl
+    (law.reads_on a.store c.work.new.store b.store left told.reads) (ap (λ v. v.table) told.same) (ap (λ v. v.read_only) told.same) told.tells refl

@@ -1,7 +1,7 @@
 use Rattle.std.proofs.Common.{ap}
 use Rattle.posix_profile.specs.Runs.{is_no_memory}
 use Rattle.page_volume.specs.Volumes.{is_read_only}
-use Rattle.page_volume.proofs.Calls.{is_at, is_volume, one_call, powered, tree_after, synced_after}
+use Rattle.page_volume.proofs.Calls.{is_at, is_volume, one_call, powered, reads_device, tree_after, synced_after}
 use Rattle.page_volume.proofs.volume.PageVolume.call.Goals as goal
 
 pub returns-clause-goes_on : goal.returns-clause-goes_on
@@ -11,47 +11,52 @@ pub returns-clause-replies : goal.returns-clause-replies
 returns-clause-replies g c goes z s is =
     let a = c.args.self.now in
     let b = c.call.new.self in
-    let one = one_call g.P.Pages.state z s c.args.stamped.now c.call.result a (record { volume = b }) (c.call.ensures.ends goes z s (is_at g.P.Pages.state z s a is)) in
+    let one = one_call g.P.Pages.state z s c.args.stamped.now c.call.result a (record { volume = b }) is (c.call.ensures.ends goes z s (is_at g.P.Pages.state z s a is)) in
     one.replies
 
 pub returns-clause-state : goal.returns-clause-state
 returns-clause-state g c goes z s is still =
     let a = c.args.self.now in
     let b = c.call.new.self in
-    let one = one_call g.P.Pages.state z s c.args.stamped.now c.call.result a (record { volume = b }) (c.call.ensures.ends goes z s (is_at g.P.Pages.state z s a is)) in
+    let one = one_call g.P.Pages.state z s c.args.stamped.now c.call.result a (record { volume = b }) is (c.call.ensures.ends goes z s (is_at g.P.Pages.state z s a is)) in
     is_volume g.P.Pages.state z _ (record { volume = b }) (one.state still)
 
 pub returns-clause-tree : goal.returns-clause-tree
 returns-clause-tree g c goes z s is tree shown =
     let a = c.args.self.now in
     let b = c.call.new.self in
-    let one = one_call g.P.Pages.state z s c.args.stamped.now c.call.result a (record { volume = b }) (c.call.ensures.ends goes z s (is_at g.P.Pages.state z s a is)) in
+    let one = one_call g.P.Pages.state z s c.args.stamped.now c.call.result a (record { volume = b }) is (c.call.ensures.ends goes z s (is_at g.P.Pages.state z s a is)) in
     tree_after g.P.Pages.state z s (is_read_only a) c.args.stamped.now c.call.result a (record { volume = b }) is.sizes c.call.ensures.lasts.1 one tree shown
 
 pub returns-clause-synced : goal.returns-clause-synced
 returns-clause-synced g c goes z s is synced =
     let a = c.args.self.now in
     let b = c.call.new.self in
-    let one = one_call g.P.Pages.state z s c.args.stamped.now c.call.result a (record { volume = b }) (c.call.ensures.ends goes z s (is_at g.P.Pages.state z s a is)) in
+    let one = one_call g.P.Pages.state z s c.args.stamped.now c.call.result a (record { volume = b }) is (c.call.ensures.ends goes z s (is_at g.P.Pages.state z s a is)) in
     synced_after g.P.Pages.state z s (is_read_only a) c.args.stamped.now c.call.result a (record { volume = b }) is.sizes c.call.ensures.lasts.1 one synced
 
 pub returns-clause-cause : goal.returns-clause-cause
 returns-clause-cause g c goes z s is stop =
     let a = c.args.self.now in
     let b = c.call.new.self in
-    let one = one_call g.P.Pages.state z s c.args.stamped.now c.call.result a (record { volume = b }) (c.call.ensures.ends goes z s (is_at g.P.Pages.state z s a is)) in
+    let one = one_call g.P.Pages.state z s c.args.stamped.now c.call.result a (record { volume = b }) is (c.call.ensures.ends goes z s (is_at g.P.Pages.state z s a is)) in
     (one.fails stop).0.cause
 
 pub returns-clause-reads : goal.returns-clause-reads
 returns-clause-reads g c goes z s is only =
     let a = c.args.self.now in
     let b = c.call.new.self in
-    let one = one_call g.P.Pages.state z s c.args.stamped.now c.call.result a (record { volume = b }) (c.call.ensures.ends goes z s (is_at g.P.Pages.state z s a is)) in
-    (one.reads only.0 only.1).0
+    let one = one_call g.P.Pages.state z s c.args.stamped.now c.call.result a (record { volume = b }) is (c.call.ensures.ends goes z s (is_at g.P.Pages.state z s a is)) in
+    (one.reads only).0
 
 pub returns-clause-power : goal.returns-clause-power
 returns-clause-power g c goes z s is refused =
     let a = c.args.self.now in
     let b = c.call.new.self in
-    let one = one_call g.P.Pages.state z s c.args.stamped.now c.call.result a (record { volume = b }) (c.call.ensures.ends goes z s (is_at g.P.Pages.state z s a is)) in
+    let one = one_call g.P.Pages.state z s c.args.stamped.now c.call.result a (record { volume = b }) is (c.call.ensures.ends goes z s (is_at g.P.Pages.state z s a is)) in
     powered _ (one.power (ap is_no_memory refused))
+
+pub returns-clause-only_reads : goal.returns-clause-only_reads
+returns-clause-only_reads g c only z s is =
+    let a = c.args.self.now in
+    reads_device g.P.Pages.state a.volume.store c.call.new.self.store (c.call.ensures.only only z s (is_at g.P.Pages.state z s a is))

@@ -19,6 +19,12 @@ returns-then-stopped-clause-goes_on g c =
     let same : state c.into_pages.result ≡ state (pages_of c.args.self) = c.into_pages.ensures ∙ ap (λ o. state o.pages) c.into_store-objects.ensures in
     subst (GoesOn (state (pages_of c.args.self))) (sym same) (goes_here (state (pages_of c.args.self)))
 
+pub returns-then-read_only-clause-goes_on : goal.returns-then-read_only-clause-goes_on
+returns-then-read_only-clause-goes_on g c =
+    let state = g.P.Pages.state in
+    let same : state c.into_pages-then-read_only.result ≡ state (pages_of c.args.self) = c.into_pages-then-read_only.ensures ∙ ap (λ o. state o.pages) c.into_store-objects.ensures in
+    subst (GoesOn (state (pages_of c.args.self))) (sym same) (goes_here (state (pages_of c.args.self)))
+
 pub returns-clause-done : goal.returns-clause-done
 returns-clause-done g c goes z s is told =
     let state = g.P.Pages.state in

@@ -1,13 +1,16 @@
-use Rattle.std.specs.Prelude.{◌≡◌}
+use Rattle.std.specs.Prelude.{◌≡◌, Some, None}
 use Rattle.std.proofs.Common.{sym, ◌∙◌, ap, subst}
+use Rattle.std.specs.FinMap as map
+use Rattle.std.specs.Ordering.{nat_cmp}
+use Rattle.posix_profile.specs.State.{Handle}
 use Rattle.object_table.specs.Told.{table_sizes, Tells}
 use Rattle.object_table.specs.declared.table.ObjectTable.{ObjectTable}
-use Rattle.paged_objects.specs.Standing.{StandsFor}
+use Rattle.paged_objects.specs.Standing.{StandsFor, Shown}
 use Rattle.pages.specs.State.{PagesState}
 use Rattle.page_volume.proofs.volume.PageVolume.new.Goals as goal
 
 pub returns-in-Ok-clause-at : goal.returns-in-Ok-clause-at
-returns-in-Ok-clause-at g c objects numbers stands tells sound =
+returns-in-Ok-clause-at g c objects numbers stands tells sound shown =
     let state = g.P.Pages.state in
     let made = c.in-Ok.ensures.volume in
     let pages : state c.in-Ok.volume.store.pages ≡ state c.args.pages = ap (λ o. state o.pages) made.0 ∙ c.new.ensures.pages in
@@ -19,6 +22,9 @@ returns-in-Ok-clause-at g c objects numbers stands tells sound =
       tells = subst (λ (t : ObjectTable). Tells t objects) (sym table) tells;
       handles = made.1;
       sound = sound;
+      reading = λ only fd handle is. let two : None ≡ Some handle = sym (map.get-empty nat_cmp fd) ∙ is in absurd cc;
+      named = λ only. (shown (sym made.2 ∙ only)).0;
+      shown = λ only. subst (λ (p : PagesState). Shown (table_sizes c.args.table) p objects) (sym pages) (shown (sym made.2 ∙ only)).1;
     }
 
 pub returns-in-Err-clause-given_back : goal.returns-in-Err-clause-given_back

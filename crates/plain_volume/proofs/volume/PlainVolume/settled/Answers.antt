@@ -1,11 +1,13 @@
 use Rattle.std.proofs.Common.{◌∙◌, ap}
 use Rattle.posix_profile.specs.Names.{settle}
+use Rattle.posix_profile.specs.State.{State}
+use Rattle.posix_profile.specs.laws.Prune.{settle_again}
 use Rattle.posix_profile.specs.laws.Step.{settle_sound}
 use Rattle.object_store.specs.Stores.{settled}
 use Rattle.object_commands.specs.Volumes.{store_of}
 use Rattle.plain_objects.specs.PlainMeaning.{objects_of, numbers_of}
 use Rattle.plain_volume.specs.Standing.{state_of}
-use Rattle.plain_volume.proofs.Plain.{plain_from}
+use Rattle.plain_volume.proofs.Plain.{none_open, plain_from}
 use Rattle.plain_volume.proofs.volume.PlainVolume.settled.Goals as goal
 
 pub invariant_of-result : goal.invariant_of-result
@@ -16,3 +18,4 @@ invariant_of-result c =
     let objects = ap objects_of made.store ∙ c.in_ok-objects.ensures.objects ∙ ap (λ a. settled (objects_of a)) c.store.ensures in
     plain_from z (settle (state_of v)) c.in_ok-volume.volume c.self.invariant.numbers (settle_sound z (state_of v) c.self.invariant.sound)
     (ap numbers_of made.store ∙ c.in_ok-objects.ensures.sizes ∙ ap numbers_of c.store.ensures) (λ i. record { objects = objects i; handles = made.handles i }) made.goes_on
+    none_open (ap (λ (s : State). s.objects) (settle_again z (state_of v) c.self.invariant.sound.well_formed))

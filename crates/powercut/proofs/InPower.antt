@@ -11,7 +11,7 @@ use Rattle.nand_model.specs.laws.Calls.{lasts_on}
 use Rattle.nand_model.specs.declared.geometry.Geometry.{Geometry}
 use Rattle.posix_profile.specs.Losses.{Covers, settled_after}
 use Rattle.posix_profile.specs.State.{Objects}
-use Rattle.posix_profile.specs.laws.Sound.{IsSoundFlash as IsSoundState}
+use Rattle.posix_profile.specs.laws.Sound.{IsSound}
 use Rattle.posix_profile.specs.declared.command.Stamped.{Stamped}
 use Rattle.posix_profile.specs.declared.reply.Errno.TheVariants as errors
 use Rattle.posix_profile.specs.declared.reply.Reply.{Reply}
@@ -47,7 +47,7 @@ mounted_record commands told unmounted cut = record {
 }
 
 module _ (z : Sizes) (before : Objects) (commands : List Stamped) (told : List Reply) (unmounted : Option Reply) (left : PagesState)
-    (sound : IsSoundState z (at_mount before)) (leaves : LeavesFrom z (at_mount before) before commands told unmounted left) where
+    (sound : IsSound z (at_mount before)) (leaves : LeavesFrom z (at_mount before) before commands told unmounted left) where
   -- so many of the commands are in the tree that a mount shows
   abbrev KeepsSome : Option Reply → Type 0
   KeepsSome u = (k : ℕ) × Covers commands told k × (k ≤ length told) × Shown z left (settled_after z false (at_mount before) commands told k) × (u ≡ Some replies.Done → k ≡ length told)
@@ -113,7 +113,7 @@ numbers_written p q goes honest n greatest next more risen b k t good has =
 pub record Stands {V : Type 0} (m : Meaning V) (v : V) (objects : Objects) : Type 0 where
   pub answers : Answers (m.pages v).device.geometry (m.pages v).device.flash (IsTreeOf (m.pages v).spare objects)
   pub volume : m.stands (volume_of (m.pages v)) (at_mount objects) v
-  pub sound : IsSoundState (volume_of (m.pages v)) (at_mount objects)
+  pub sound : IsSound (volume_of (m.pages v)) (at_mount objects)
   pub shown : Shown (volume_of (m.pages v)) (m.pages v) objects
 
 module _ {V : Type 0} (m : Meaning V) (v : V) (d e : Device) (commands : List Stamped) (told : List Reply) (unmounted : Option Reply) (honest : d.honest ≡ true)

@@ -1,10 +1,10 @@
 // What a change and a commit do to the cache.
-ghost use Rattle.std.specs.Prelude.{◌≡◌, None};
+ghost use Rattle.std.specs.Prelude.{◌≡◌, ◌≤◌, ◌+◌, None, length, OnOk};
 ghost use Rattle.pages.specs.Maps.{PageMap};
 ghost use Rattle.page_buffer.specs.BufferOf.{buffered, last_written, most_pages, bytes_of_page};
-ghost use Rattle.page_cache.specs.Cached.{cached, page_bytes_of};
+ghost use Rattle.page_cache.specs.Cached.{cached, held_count, capacity_of, page_bytes_of};
 ghost use Rattle.page_cache.specs.Changes.{KeepsSizes};
-ghost use Rattle.objects.specs.Caching.{Shows, HasNoMore, LacksCuts, LacksPages, AreIn, TakesPages};
+ghost use Rattle.objects.specs.Caching.{Shows, HasNoMore, LacksCuts, LacksPages, AreIn, TakesPages, KeepsUncut, KeepsUnwritten, KeepsKeys, HavePlaces};
 
 use flash_tree::FreshPage;
 use page_buffer::Buffer;
@@ -17,6 +17,9 @@ use std::alloc::AllocError;
 pub(crate) fn make_places(cache: &mut PageCache, pages: &[FreshPage]) -> Result<(), AllocError>
     ensures sizes { KeepsSizes cache.old cache.new }
     ensures fewer { HasNoMore cache.old cache.new }
+    ensures no_fewer { held_count cache.old ≤ held_count cache.new }
+    // Where there is room for all, each gets its place, and nothing of another key goes.
+    ensures places { held_count cache.old + length pages.now ≤ capacity_of cache.old → OnOk result (HavePlaces pages.now cache.new × KeepsUnwritten pages.now cache.old cache.new) }
 {
     for page in pages {
         cache.reserve(page.key)?;
@@ -29,6 +32,7 @@ pub(crate) fn drop_cuts(cache: &mut PageCache, cuts: &[Cut])
     ensures sizes { KeepsSizes cache.old cache.new }
     ensures fewer { HasNoMore cache.old cache.new }
     ensures lacks { LacksCuts cuts.now cache.new }
+    ensures others { KeepsUncut cuts.now cache.old cache.new }
 {
     for cut in cuts {
         cache.remove_from(cut.object, cut.from);
@@ -40,6 +44,8 @@ pub(crate) fn drop_pages(cache: &mut PageCache, pages: &[FreshPage])
     ensures sizes { KeepsSizes cache.old cache.new }
     ensures fewer { HasNoMore cache.old cache.new }
     ensures lacks { LacksPages pages.now cache.new }
+    ensures others { KeepsUnwritten pages.now cache.old cache.new }
+    ensures places { KeepsKeys cache.old cache.new }
 {
     for page in pages {
         cache.vacate(page.key);
@@ -54,6 +60,7 @@ pub(crate) fn keep_written(buffer: &mut Buffer, cache: &mut PageCache)
     ensures sizes { KeepsSizes cache.old cache.new }
     ensures shows { (m : PageMap) → Shows cache.old m → AreIn (last_written buffer.old) m → Shows cache.new m }
     ensures takes { TakesPages (last_written buffer.old) cache.old cache.new }
+    ensures places { KeepsKeys cache.old cache.new }
 {
     while let Some(page) = buffer.take_written() {
         let _frame = cache.exchange(page.key, page.bytes);

@@ -8,7 +8,7 @@ ghost use Rattle.bad_blocks.specs.Moving.{MarksFailures};
 ghost use Rattle.page_buffer.specs.BufferOf.{buffered};
 ghost use Rattle.commits.specs.Committing.{TakesNoBlock, TakesOneBlock};
 ghost use Rattle.pages.specs.Stores.{SamePages, IsCarried};
-ghost use Rattle.objects.specs.Caching.{TakesPages};
+ghost use Rattle.objects.specs.Caching.{TakesPages, KeepsKeys};
 ghost use Rattle.objects.specs.Changing.{IsCommitFault, fault_of};
 
 use crate::caching::keep_written;
@@ -51,6 +51,8 @@ impl<N: Nand> Store<N> {
         ensures empty { OnOk result (buffered self.new.buffer ≡ []) }
         // The pages that were written come into the cache, where it has a page or a place of their keys.
         ensures cached { OnOk result (TakesPages (buffered self.old.buffer) self.old.cache self.new.cache) }
+        // And nothing goes out of it.
+        ensures places { KeepsKeys self.old.cache self.new.cache }
         ensures carried { self.old.broken ≡ false → (N.state self.old.device).honest ≡ true
             → IsCarried (N.state self.new.device) self.old.spare (kept_map (N.state self.old.device) self.old.index)
             ⊎ IsCarried (N.state self.new.device) self.old.spare (present_map (N.state self.old.device) self.old.index self.old.buffer) }

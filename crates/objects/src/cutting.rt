@@ -4,6 +4,7 @@ ghost use Rattle.block_state.specs.TableOf.{table};
 ghost use Rattle.pages.specs.Maps.{without_cuts};
 ghost use Rattle.pages.specs.Stores.{SamePages};
 ghost use Rattle.page_buffer.specs.BufferOf.{buffered};
+ghost use Rattle.objects.specs.Caching.{KeepsUncut};
 ghost use Rattle.volume_terms.specs.declared.fault.StoreFault.TheVariants as faults;
 
 use crate::caching::drop_cuts;
@@ -23,6 +24,8 @@ impl<N: Nand> Store<N> {
         ensures kept { SamePages (kept_map (N.state self.new.device) self.new.index) (kept_map (N.state self.old.device) self.old.index) }
         ensures present { (N.state self.old.device).honest ≡ true → OnOk result (SamePages (present_map (N.state self.new.device) self.new.index self.new.buffer)
             (without_cuts (cut ∷ []) (present_map (N.state self.old.device) self.old.index self.old.buffer))) }
+        // What is not cut stays in the cache.
+        ensures cached { KeepsUncut (cut ∷ []) self.old.cache self.new.cache }
         ensures whole { OnOk result (self.old.broken ≡ false) }
         ensures fault { IfErr result (λ fault. (fault ≡ faults.Device) × (self.old.broken ≡ true)) }
     {

@@ -4,6 +4,7 @@ ghost use Rattle.nand_model.specs.Changes.{OnlyReads};
 ghost use Rattle.page_buffer.specs.Shown.{data_at};
 ghost use Rattle.page_cache.specs.Cached.{cached, page_bytes_of};
 ghost use Rattle.page_cache.specs.Changes.{KeepsSizes};
+ghost use Rattle.objects.specs.Caching.{KeepsRest};
 ghost use Rattle.objects.specs.Reading.{IsReadFault, IsLoadFault, Caches};
 
 use chunk_index::KeptPage;
@@ -49,6 +50,7 @@ pub(crate) fn load_kept<N: Nand>(
     ensures size { length scratch.new ≡ length scratch.old }
     ensures sizes { KeepsSizes cache.old cache.new }
     ensures caches { Caches (N.state device.old) key at cache.old cache.new }
+    ensures rest { KeepsRest key.object key.chunk cache.old cache.new }
     ensures here { OnOk result (IsSome (cached cache.new key.object key.chunk)) }
     // A page that is in the cache is not read.
     ensures cached { IsSome (cached cache.old key.object key.chunk) → N.state device.new ≡ N.state device.old }

@@ -15,7 +15,7 @@ ghost use Rattle.page_cache.specs.Cached.{held, cached, capacity_of, page_bytes_
 ghost use Rattle.nand_model.specs.Changes.{OnlyReads};
 ghost use Rattle.objects.specs.Found.{IsFound, found_bytes};
 ghost use Rattle.objects.specs.Reading.{IsFindFault};
-ghost use Rattle.objects.specs.Caching.{Shows};
+ghost use Rattle.objects.specs.Caching.{Shows, KeepsRest};
 ghost use Rattle.pages.specs.Changes.{AreOfObjects};
 ghost use Rattle.objects.specs.laws.OneProof.{stands_prop, newest_kept_prop};
 
@@ -173,6 +173,7 @@ impl<N: Nand> Store<N> {
         ensures same { (self.new.index ≡ self.old.index) × (self.new.buffer ≡ self.old.buffer) × (self.new.broken ≡ self.old.broken) × (self.new.blocks ≡ self.old.blocks) × (self.new.spare ≡ self.old.spare) }
         ensures asked { (N.state self.new.device).reads ≤ (N.state self.old.device).reads + 1 }
         ensures cached { IsSome (cached self.old.cache key.object key.chunk) → N.state self.new.device ≡ N.state self.old.device }
+        ensures rest { KeepsRest key.object key.chunk self.old.cache self.new.cache }
         ensures refused { self.old.refused ≡ true → self.new.refused ≡ true }
         ensures there { IfOk result (λ presence. presence ≡ Presence.Present) }
         ensures page { self.old.broken ≡ false → (N.state self.old.device).honest ≡ true

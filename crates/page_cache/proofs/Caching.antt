@@ -14,11 +14,11 @@ use Rattle.lru.proofs.CallerLemmas.{Contains-put_entries, Contains-promoted, Con
 use Rattle.std.specs.Option.{option_copied, option_map_or}
 use Rattle.page_cache.specs.Slots.{Reserved, held_in, page_in, is_key, frame_of, AreSized}
 use Rattle.page_cache.specs.Cached.{held, held_count, capacity_of}
-use Rattle.page_cache.specs.Changes.{HasTheSame, IsOther, Changes, Puts}
+use Rattle.page_cache.specs.Changes.{KeepsSizes, HasTheSame, IsOther, Changes, Puts}
 use Rattle.page_cache.specs.declared.slot.Slot.{Slot}
 use Rattle.page_cache.specs.declared.slot.Slot.TheVariants as slots
 use Rattle.page_cache.specs.declared.cache.PageCache.{PageCache}
-use Rattle.page_cache.proofs.Lookups.{length-removed, length-promoted, lookup-removed, lookup-promoted, lookup-promoted_same, put_others, put_room}
+use Rattle.page_cache.proofs.Lookups.{length-removed, length-promoted, lookup-removed, lookup-promoted, lookup-promoted_same, put_others, put_room, put_no_fewer, put_one_more}
 
 -- whether two keys are one
 abbrev pub key_eq : ℕ × ℕ → ℕ × ℕ → Bool
@@ -78,25 +78,37 @@ held_some None is = is
 held_some (Some slot) is = refl
 
 module _ (old new : PageCache) (o c : ℕ) (size : new.page_bytes ≡ old.page_bytes) where
-  pub puts : (slot : Slot) → new.slots ≡ lru_cache (put_entries key_eq old.slots (o, c) slot) old.slots.cap → Puts o c (held_in slot) old new
-  puts slot is = record {
-    sizes = record { page_bytes = size; capacity = ap (λ (s : LruCache (ℕ × ℕ) Slot). s.cap) is };
-    here = ap (λ (s : LruCache (ℕ × ℕ) Slot). option_map held_in (lookup (is_key o c) s.entries)) is ∙ ap (option_map held_in) (lookup-put_entries key_eq old.slots (o, c) slot key_laws);
-    others = λ p q other. elim (put_others key_eq key_laws old.slots (o, c) slot (is_key p q) (keys_apart o c p q other)) [
-      | inl same ↦ inl (ap (λ (s : LruCache (ℕ × ℕ) Slot). option_map held_in (lookup (is_key p q) s.entries)) is ∙ ap (option_map held_in) same)
-      | inr none ↦ inr (ap (λ (s : LruCache (ℕ × ℕ) Slot). option_map held_in (lookup (is_key p q) s.entries)) is ∙ ap (option_map held_in) none)
-    ];
-    room = λ room p q other.
-        ap (λ (s : LruCache (ℕ × ℕ) Slot). option_map held_in (lookup (is_key p q) s.entries)) is
-        ∙ ap (option_map held_in) (put_room key_eq key_laws old.slots (o, c) slot (is_key p q) (keys_apart o c p q other) (entry_room room));
-  }
+  put_sizes : (slot : Slot) → new.slots ≡ lru_cache (put_entries key_eq old.slots (o, c) slot) old.slots.cap → KeepsSizes old new
+  put_sizes slot is = record { page_bytes = size; capacity = ap (λ (s : LruCache (ℕ × ℕ) Slot). s.cap) is }
+
+  put_here : (slot : Slot) → new.slots ≡ lru_cache (put_entries key_eq old.slots (o, c) slot) old.slots.cap → held new o c ≡ Some (held_in slot)
+  put_here slot is = ap (λ (s : LruCache (ℕ × ℕ) Slot). option_map held_in (lookup (is_key o c) s.entries)) is ∙ ap (option_map held_in) (lookup-put_entries key_eq old.slots (o, c) slot key_laws)
+
+  put_in_room : (slot : Slot) → new.slots ≡ lru_cache (put_entries key_eq old.slots (o, c) slot) old.slots.cap
+      → IsSome (held old o c) ⊎ (held_count old < capacity_of old) → (p q : ℕ) → IsOther o c p q → held new p q ≡ held old p q
+  put_in_room slot is room p q other =
+      ap (λ (s : LruCache (ℕ × ℕ) Slot). option_map held_in (lookup (is_key p q) s.entries)) is
+      ∙ ap (option_map held_in) (put_room key_eq key_laws old.slots (o, c) slot (is_key p q) (keys_apart o c p q other) (entry_room room))
     where
       entry_room : IsSome (held old o c) ⊎ (held_count old < capacity_of old) → IsSome (lookup (key_eq (o, c)) old.slots.entries) ⊎ (length old.slots.entries < old.slots.cap)
       entry_room (inl there) = inl (some_held (lookup (is_key o c) old.slots.entries) there)
       entry_room (inr few) = inr few
 
+  pub puts : (slot : Slot) → held_count old ≤ capacity_of old → new.slots ≡ lru_cache (put_entries key_eq old.slots (o, c) slot) old.slots.cap → Puts o c (held_in slot) old new
+  puts slot fits is = record {
+    sizes = put_sizes slot is;
+    here = put_here slot is;
+    others = λ p q other. elim (put_others key_eq key_laws old.slots (o, c) slot (is_key p q) (keys_apart o c p q other)) [
+      | inl same ↦ inl (ap (λ (s : LruCache (ℕ × ℕ) Slot). option_map held_in (lookup (is_key p q) s.entries)) is ∙ ap (option_map held_in) same)
+      | inr none ↦ inr (ap (λ (s : LruCache (ℕ × ℕ) Slot). option_map held_in (lookup (is_key p q) s.entries)) is ∙ ap (option_map held_in) none)
+    ];
+    room = put_in_room slot is;
+    no_fewer = subst (λ (s : LruCache (ℕ × ℕ) Slot). held_count old ≤ length s.entries) (sym is) (put_no_fewer key_eq old.slots (o, c) slot fits);
+    one_more = subst (λ (s : LruCache (ℕ × ℕ) Slot). length s.entries ≤ held_count old + 1) (sym is) (put_one_more key_eq old.slots (o, c) slot);
+  }
+
   pub changes : (slot : Slot) → IsSome (held old o c) → new.slots ≡ lru_cache (put_entries key_eq old.slots (o, c) slot) old.slots.cap → Changes o c (Some (held_in slot)) old new
-  changes slot there is = let p = puts slot is in record { sizes = p.sizes; here = p.here; others = p.room (inl there) }
+  changes slot there is = record { sizes = put_sizes slot is; here = put_here slot is; others = put_in_room slot is (inl there) }
 
   pub removes : IsDistinct key_eq (keys_of old.slots.entries) → new.slots ≡ lru_cache (remove_entry (is_key o c) old.slots.entries) old.slots.cap → Changes o c None old new
   removes distinct is = record {

@@ -1,5 +1,5 @@
 -- Lists of entries that are looked up by tests of their keys.
-use Rattle.std.proofs.Common.{◌≡◌, ◌≤◌, ◌<◌, ℕ, zero, suc, ◌+◌, ◌-◌, Bool, true, false, ◌⊎◌, List, [], ◌∷◌, length, take, Contains, Option, Some, None, IsSome, refl, sym, ◌∙◌, ap, inl, inr, arith, cond, is_some, option_map}
+use Rattle.std.proofs.Common.{◌≡◌, ◌≤◌, ◌<◌, ℕ, zero, suc, ◌+◌, ◌-◌, Bool, true, false, ◌⊎◌, List, [], ◌∷◌, length, take, Contains, Option, Some, None, IsSome, refl, sym, ◌∙◌, ap, inl, inr, arith, cond, is_some, option_map, subst}
 use Rattle.std.proofs.lemmas.Bool.{cases_Bool, true≢false, false≢true, cond-true, cond-false}
 use Rattle.std.specs.Cmp.{IsEquivalence}
 use Rattle.std.specs.Option.{option_map_or}
@@ -14,6 +14,17 @@ take_all zero [] few = refl
 take_all zero (x ∷ xs) few = absurd (omega (arith, few))
 take_all (suc n) [] few = refl
 take_all (suc n) (x ∷ xs) few = ap (λ l. x ∷ l) (take_all n xs (omega (arith, few)))
+
+-- a first part is no longer than the list, and no more than one shorter where all but one are taken
+take_no_longer : {X : Type 0} (n : ℕ) (xs : List X) → length (take n xs) ≤ length xs
+take_no_longer zero xs = omega arith
+take_no_longer (suc n) [] = omega arith
+take_no_longer (suc n) (x ∷ xs) = omega (arith, take_no_longer n xs)
+
+take_all_but_one : {X : Type 0} (n : ℕ) (xs : List X) → length xs ≤ n + 1 → length xs ≤ length (take n xs) + 1
+take_all_but_one zero xs few = omega (arith, few)
+take_all_but_one (suc n) [] few = omega arith
+take_all_but_one (suc n) (x ∷ xs) few = let rest = take_all_but_one n xs (omega (arith, few)) in omega (arith, rest)
 
 module _ {K V : Type 0} (test : K → Bool) where
   -- what a first part of a list has of a key
@@ -121,11 +132,20 @@ module _ {K V : Type 0} (eq : K → K → Bool) (laws : IsEquivalence eq) (c : L
       go None is (inr room) = new ∙ ap (lookup other) (take_all (c.cap - 1) c.entries (omega (arith, room)))
       go (Some e) is room = found e is
 
-  pub put_count : IsSome (lookup (eq k) c.entries) → length (put_entries eq c k v) ≡ length c.entries
-  put_count = go (lookup_entry (eq k) c.entries) refl
+-- How many keys there are after a value was put under one.
+module _ {K V : Type 0} (eq : K → K → Bool) (c : LruCache K V) (k : K) (v : V) where
+  counted : (P : ℕ → Type 0) → P (length (take (c.cap - 1) c.entries) + 1) → P (length c.entries) → P (length (put_entries eq c k v))
+  counted P put set = go (lookup_entry (eq k) c.entries) refl
     where
-      go : (f : Option (K × V)) → lookup_entry (eq k) c.entries ≡ f → IsSome (lookup (eq k) c.entries) → length (after f) ≡ length c.entries
-      go None is there =
-          let none : lookup (eq k) c.entries ≡ None = sym (entry_value (eq k) c.entries) ∙ ap (option_map (λ (e : K × V). e.1)) is in
-          absurd (false≢true (sym (ap is_some none) ∙ there))
-      go (Some e) is there = omega (arith, length-removed (eq k) c.entries there)
+      go : (f : Option (K × V)) → lookup_entry (eq k) c.entries ≡ f → P (length (option_map_or (λ e. (e.0, v) ∷ remove_entry (eq k) c.entries) f ((k, v) ∷ take (c.cap - 1) c.entries)))
+      go None is = subst P (omega arith) put
+      go (Some e) is =
+          let there : IsSome (lookup (eq k) c.entries) = ap is_some (sym (entry_value (eq k) c.entries) ∙ ap (option_map (λ (e : K × V). e.1)) is) in
+          let gone = length-removed (eq k) c.entries there in
+          subst P (omega (arith, gone)) set
+
+  pub put_no_fewer : length c.entries ≤ c.cap → length c.entries ≤ length (put_entries eq c k v)
+  put_no_fewer fits = counted (λ n. length c.entries ≤ n) (take_all_but_one (c.cap - 1) c.entries (omega (arith, fits))) (omega arith)
+
+  pub put_one_more : length (put_entries eq c k v) ≤ length c.entries + 1
+  put_one_more = counted (λ n. n ≤ length c.entries + 1) (let short = take_no_longer (c.cap - 1) c.entries in omega (arith, short)) (omega arith)

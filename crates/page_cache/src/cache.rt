@@ -181,6 +181,7 @@ impl PageCache {
         ensures ok { OnOk result (Puts key.object key.chunk (held_in slot) self.old self.new) }
         ensures err { OnErr result (HasTheSame self.old self.new) }
     {
+        let _places = self.slots.len();
         match self.slots.push((key.object, key.chunk), slot) {
             Ok(None) => Ok(()),
             Ok(Some((_, old))) => {

@@ -25,7 +25,7 @@ invariant_of-self-in-Err c = record {
 }
 
 pub returns-in-Ok-None-clause-ok : goal.returns-in-Ok-None-clause-ok
-returns-in-Ok-None-clause-ok c = puts c.args.self.now _ c.args.key.object c.args.key.chunk refl c.args.slot c.in-Ok-None.ensures.entries
+returns-in-Ok-None-clause-ok c = puts c.args.self.now _ c.args.key.object c.args.key.chunk refl c.args.slot c.len-places.ensures.valid.1 c.in-Ok-None.ensures.entries
 
 pub returns-in-Ok-Some-clause-ok : goal.returns-in-Ok-Some-clause-ok
-returns-in-Ok-Some-clause-ok c = puts c.args.self.now _ c.args.key.object c.args.key.chunk refl c.args.slot c.in-Ok-Some.ensures.entries
+returns-in-Ok-Some-clause-ok c = puts c.args.self.now _ c.args.key.object c.args.key.chunk refl c.args.slot c.len-places.ensures.valid.1 c.in-Ok-Some.ensures.entries

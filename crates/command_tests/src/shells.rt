@@ -602,11 +602,11 @@ fn script_of(alloc: Global, input: &[u8]) -> Result<String, Fail> {
     Ok(format!(in alloc; "{script:?}")?)
 }
 
-#[test]
-fn a_script_is_read_with_its_moments(rt: HostRuntime) -> Result<(), Fail> {
-    let alloc = rt.alloc();
-    let mut input = b"mkdir /a\n\nnow 5\r\n  \nsync\nnow 3\nclose 1".as_slice();
-    let wanted = vec![in alloc;
+const SCRIPT: &[u8] = b"mkdir /a\n\nnow 5\r\n  \nsync\nnow 3\nclose 1";
+
+/// The commands of the script, each with its moment, as a text.
+fn wanted_script(alloc: Global) -> Result<String, Fail> {
+    let commands = vec![in alloc;
         Stamped {
             moment: 0,
             command: Command::Mkdir {
@@ -622,15 +622,45 @@ fn a_script_is_read_with_its_moments(rt: HostRuntime) -> Result<(), Fail> {
             command: Command::Close { fd: 1 }
         },
     ]?;
-    let wanted: Result<Vec<Stamped>, ScriptFault> = Ok(wanted);
-    let wanted = format!(in alloc; "{wanted:?}")?;
-    let found = format!(in alloc; "{:?}", read_script(alloc, &mut input))?;
-    assert_eq!(rt; found.as_str(), wanted.as_str());
+    let wanted: Result<Vec<Stamped>, ScriptFault> = Ok(commands);
+    Ok(format!(in alloc; "{wanted:?}")?)
+}
+
+#[test]
+fn a_script_is_read_with_its_moments(rt: HostRuntime) -> Result<(), Fail> {
+    let alloc = rt.alloc();
+    let wanted = wanted_script(alloc)?;
+    assert_eq!(rt; script_of(alloc, SCRIPT)?.as_str(), wanted.as_str());
     assert_eq!(rt;
         script_of(alloc, b"sync\nnope\nsync")?.as_str(),
         "Err(Line)"
     );
     let long = vec![in alloc; b'a'; 65_537]?;
     assert_eq!(rt; script_of(alloc, &long)?.as_str(), "Err(TooLong)");
+    Ok(())
+}
+
+/// The 38 bytes take 13 calls and their end two, and between these 15 are 14 that are interrupted.
+#[test]
+fn a_reader_of_a_script_fails_at_each_call(rt: HostRuntime) -> Result<(), Fail> {
+    let alloc = rt.alloc();
+    let wanted = wanted_script(alloc)?;
+    for fails_at in 1..1000 {
+        let reader = FailingReader {
+            rest: SCRIPT,
+            calls: 0,
+            fails_at,
+        };
+        let mut reader = BufReader::with_capacity(alloc, 7, reader)?;
+        let script = read_script(alloc, &mut reader);
+        if script.is_ok() {
+            let found = format!(in alloc; "{script:?}")?;
+            assert_eq!(rt; found.as_str(), wanted.as_str());
+            assert_eq!(rt; fails_at, 30);
+            return Ok(());
+        }
+        assert!(rt; matches!(script, Err(ScriptFault::Read)), "{fails_at}");
+    }
+    assert!(rt; false, "it still fails");
     Ok(())
 }

@@ -1,5 +1,5 @@
 -- The space of a volume, as it is told.
-use Rattle.std.specs.Prelude.{◌≡◌, ◌⊎◌, ◌↔◌, ◌<◌, ℕ, ◌+◌, Bool, true, false, List, [], ◌∷◌, ◌++◌, Option, Result, Ok, Err, codes, if◌then◌else◌}
+use Rattle.std.specs.Prelude.{◌≡◌, ◌⊎◌, ◌↔◌, ◌<◌, ◌≤◌, ℕ, ◌+◌, ◌-◌, Bool, true, false, List, [], ◌∷◌, ◌++◌, Option, Result, Ok, Err, codes, if◌then◌else◌}
 use Rattle.std.specs.Io.KnownBytes.{Appends}
 use Rattle.flash_tree.specs.Mount.{bad_blocks}
 use Rattle.flash_tree.specs.Sound.{IsSoundFlash}
@@ -7,7 +7,7 @@ use Rattle.formatting.specs.declared.fault.FormatFault.{FormatFault}
 use Rattle.formatting.specs.declared.fault.FormatFault.TheVariants as formats
 use Rattle.line_shell.specs.Replies.{newline, reply_text}
 use Rattle.line_shell.specs.Written.{AppendsPart}
-use Rattle.nand_model.specs.Calls.{Device}
+use Rattle.nand_model.specs.Calls.{Device, Lasts}
 use Rattle.nand_model.specs.Changes.{OnlyReads}
 use Rattle.page_volume.specs.Volumes.{is_read_only}
 use Rattle.page_volume.specs.declared.volume.PageVolume.{PageVolume}
@@ -79,8 +79,14 @@ abbrev pub ShowEnds : {P V : Type 0} → (P → PagesState) → (V → PageVolum
 ShowEnds state inside serves before written now after result =
     NotMounted before written now after result ⊎ Shown state inside serves before written now after result
 
+-- the device is as calls of it left it, and no more blocks of it became bad than calls failed
+pub record KeepsMarks (before after : Device) : Type 0 where
+  pub lasts : Lasts before after
+  pub marks : bad_blocks before.geometry after.flash ≤ bad_blocks before.geometry before.flash + (after.failures - before.failures)
+
 -- the device of an honest one has a new volume, whose root is empty, with so many spare blocks
 pub record IsFormatted (spare : ℕ) (before after : Device) : Type 0 where
+  pub keeps : KeepsMarks before after
   pub honest : after.honest ≡ before.honest
   pub has_power : after.gone ≡ false
   pub sound : before.honest ≡ true → IsSoundFlash after.geometry after.flash spare fresh.objects
@@ -90,6 +96,7 @@ pub record IsFormatted (spare : ℕ) (before after : Device) : Type 0 where
 pub record NotFormatted (spare : ℕ) (before : Device) (written now : Option (List ℕ)) (after : Device) (result : Result (Unit {0}) ProgramFault) : Type 0 where
   pub fault : FormatFault
   pub result_is : result ≡ Err (faults.Format fault)
+  pub keeps : KeepsMarks before after
   pub few : (fault ≡ formats.Spare) ↔ (before.geometry.blocks < spare + 4)
   pub worn : fault ≡ formats.Worn → spare < bad_blocks after.geometry after.flash
   pub gone : fault ≡ formats.Gone → after.gone ≡ true

@@ -9,7 +9,7 @@ ghost use Rattle.flash_program.specs.declared.fault.ProgramFault.TheVariants as 
 
 use crate::fault::ProgramFault;
 use exerciser::{CutFault, cut};
-use line_shell::{ScriptFault, ShellFault, read_script};
+use line_shell::read_script;
 use nand_image::open_image;
 use nand_model::MemNand;
 use posix_profile::Stamped;
@@ -41,13 +41,7 @@ fn copy_of<F: Read + Write + Seek + Drop>(
 fn script_of<R: BufRead>(alloc: Global, reader: &mut R) -> Result<Vec<Stamped>, ProgramFault>
     ensures { ReadsInput (R.remaining reader.old) (R.remaining reader.new) result }
 {
-    match read_script(alloc, reader) {
-        Ok(script) => Ok(script),
-        Err(ScriptFault::Read) => Err(ProgramFault::Shell(ShellFault::Read)),
-        Err(ScriptFault::TooLong) => Err(ProgramFault::Shell(ShellFault::TooLong)),
-        Err(ScriptFault::NoMemory) => Err(ProgramFault::NoMemory),
-        Err(ScriptFault::Line) => Err(ProgramFault::Line),
-    }
+    Ok(read_script(alloc, reader)?)
 }
 
 fn fault_of(fault: CutFault) -> ProgramFault

@@ -1,10 +1,11 @@
 // Why the program ended otherwise than well.
 ghost use Rattle.std.specs.Prelude.{◌≡◌};
+ghost use Rattle.flash_program.specs.Images.{of_script};
 ghost use Rattle.flash_program.specs.Statuses.{fault_name, fault_status, format_name, image_name, shell_name};
 ghost use Rattle.exerciser.specs.Lines.{mount_name};
 
 use exerciser::mount_fault_name;
-use line_shell::ShellFault;
+use line_shell::{ScriptFault, ShellFault};
 use nand_image::ImageFault;
 use posix_calls::{FormatFault, MountFault};
 
@@ -35,6 +36,19 @@ pub enum ProgramFault {
     Torn,
     /// Standard output failed outside the shell.
     Write,
+}
+
+impl From<ScriptFault> for ProgramFault {
+    ghost from_gives = { λ fault e. e ≡ of_script fault };
+
+    fn from(fault: ScriptFault) -> ProgramFault {
+        match fault {
+            ScriptFault::Read => ProgramFault::Shell(ShellFault::Read),
+            ScriptFault::TooLong => ProgramFault::Shell(ShellFault::TooLong),
+            ScriptFault::NoMemory => ProgramFault::NoMemory,
+            ScriptFault::Line => ProgramFault::Line,
+        }
+    }
 }
 
 fn image_name(fault: ImageFault) -> &'static [u8]

@@ -4,25 +4,25 @@
 //! the lines or standard output failed. With 2 and 4 one line, `fault` and a name, goes to standard error.
 #![tactic(auto)]
 
-ghost use Rattle.std.specs.Prelude.{◌≡◌, ◌≤◌, None, Result};
-ghost use Rattle.flash_program.specs.Statuses.{status_of};
+ghost use Rattle.std.specs.Prelude.{◌≡◌, ◌≤◌, IfOk, None, Result, drop};
+ghost use Rattle.std.specs.Vec.Iter.{into_iter_items};
+ghost use Rattle.flash_program.specs.Statuses.{status_of, IsReported};
 ghost use Rattle.flash_program.specs.declared.fault.ProgramFault.{ProgramFault as Fault};
 ghost use Rattle.program_words.specs.declared.chosen.Chosen.TheVariants as choices;
 
 use flash_program::{ProgramFault, act, report};
 use program_words::{Chosen, choose, parse};
-use std::env;
+use std::alloc::{AllocError, Global};
+use std::env::{self, Args};
 use std::fs::{File, OpenOptions};
-use std::io::{self, LineWriter};
+use std::io::{BufRead, LineWriter, Write};
 use std::process::ExitCode;
 
-/// The words after the program's name.
-fn words(rt: &HostRuntime) -> io::Result<Vec<String>> {
-    let mut words = Vec::new(rt.alloc());
-    for word in env::args(rt)?.skip(1) {
-        words.push(word)?;
-    }
-    Ok(words)
+/// The words after the program's name, which is the first of the arguments.
+fn words_after_name(alloc: Global, arguments: Args) -> Result<Vec<String>, AllocError>
+    ensures { IfOk result (λ words. words.items ≡ drop 1 (into_iter_items arguments)) }
+{
+    arguments.skip(1).collect(alloc)
 }
 
 /// The image that was chosen, opened: emptied for a new volume, and read alone where it is not changed.
@@ -46,21 +46,27 @@ fn open(rt: &HostRuntime, chosen: &Chosen) -> Option<File>
     options.open(rt, image.as_str()).ok()
 }
 
+/// Does what was chosen, between these, gives the status of its end, and tells a fault in `err`.
+fn perform<R: BufRead, W: Write, E: Write>(
+    rt: &HostRuntime,
+    chosen: &Chosen,
+    input: &mut R,
+    out: &mut W,
+    err: &mut E,
+) -> u8
+    ensures { (ended : Result (Unit {0}) Fault) × (result ≡ status_of ended) × IsReported (E.contents err.old) (E.contents err.new) ended }
+{
+    act(rt.alloc(), chosen, open(rt, chosen), input, out, err)
+}
+
 /// Does what was chosen, between standard input, output and error, and gives the status of its end.
-fn perform(rt: &HostRuntime, chosen: &Chosen) -> u8
+fn perform_between_streams(rt: &HostRuntime, chosen: &Chosen) -> u8
     ensures { (ended : Result (Unit {0}) Fault) × (result ≡ status_of ended) }
 {
     let mut input = rt.stdin().lock();
     let mut err = rt.stderr();
     match LineWriter::new(rt.alloc(), rt.stdout()) {
-        Ok(mut out) => act(
-            rt.alloc(),
-            chosen,
-            open(rt, chosen),
-            &mut input,
-            &mut out,
-            &mut err,
-        ),
+        Ok(mut out) => perform(rt, chosen, &mut input, &mut out, &mut err),
         Err(_) => report(&mut err, Err(ProgramFault::NoMemory)),
     }
 }
@@ -79,11 +85,14 @@ fn explain(rt: &HostRuntime, words: &[String]) -> u8
 }
 
 fn main(rt: HostRuntime) -> ExitCode {
-    let Ok(words) = words(&rt) else {
+    let Ok(arguments) = env::args(&rt) else {
+        return ExitCode::from(1);
+    };
+    let Ok(words) = words_after_name(rt.alloc(), arguments) else {
         return ExitCode::from(1);
     };
     ExitCode::from(match choose(rt.alloc(), &words) {
-        Ok(chosen) => perform(&rt, &chosen),
+        Ok(chosen) => perform_between_streams(&rt, &chosen),
         Err(_) => explain(&rt, &words),
     })
 }

@@ -7,7 +7,3 @@ use Rattle.pages.specs.declared.fault.PageFault.{PageFault}
 -- for want of memory, by the device, or because the directory has as many entries as its header can say
 abbrev pub MayLackRoom : ℕ → PagesState → PageFault → Type 0
 MayLackRoom entries new = Says (Unit {0}) ⊥ (entries ≡ 4294967295) new
-
--- the same of what is no directory
-abbrev pub SaysWhyAdding : PagesState → PageFault → Type 0
-SaysWhyAdding new = Says (Unit {0}) (Unit {0}) (Unit {0}) new

@@ -9,7 +9,8 @@ ghost use Rattle.pages.specs.Changes.{IsChange, IsOnlyOf};
 ghost use Rattle.pages.specs.Maps.{changed};
 ghost use Rattle.pages.specs.State.{OnlyFinds};
 ghost use Rattle.directories.specs.Directories.{DirIn, HasOnly, ReadsDirectory, TellsEnd};
-ghost use Rattle.directories.specs.Faults.{MayLackRoom, SaysWhyAdding};
+ghost use Rattle.pages.specs.Faults.{SaysWhyChanging};
+ghost use Rattle.directories.specs.Faults.{MayLackRoom};
 
 use crate::head::{DirectoryHead, head_after};
 use crate::writing::{Writing, write};
@@ -39,7 +40,7 @@ pub fn add<P: Pages>(
         → IfOk result (λ change. HasOnly z (changed change (P.state pages.old).present) directory (map.len (map.insert entries slot.now.name.now slot.now.object))) }
     ensures told { (P.state pages.old).sound ≡ true → (z : Sizes) → z.page_bytes ≡ (P.state pages.old).page_bytes
         → OnOk result (TellsEnd z (P.state pages.old) directory) }
-    ensures why { IfErr result (SaysWhyAdding (P.state pages.new)) }
+    ensures why { IfErr result (SaysWhyChanging (P.state pages.new)) }
     ensures fault { (z : Sizes) (before : ℕ) (entries : Entries) (d : DirIn (P.state pages.old) z directory before entries)
         → IfErr result (MayLackRoom (map.len entries) (P.state pages.new)) }
 {

@@ -11,7 +11,8 @@ ghost use Rattle.pages.specs.Changes.{IsChange, IsOnlyOf};
 ghost use Rattle.pages.specs.Maps.{PageMap, changed};
 ghost use Rattle.pages.specs.State.{OnlyFinds};
 ghost use Rattle.directories.specs.Directories.{DirIn, HasOnly, ReadsDirectory, SlotOf, IsNamed, TellsChange, TellsOf};
-ghost use Rattle.directories.specs.Faults.{MayLackRoom, SaysWhyAdding};
+ghost use Rattle.pages.specs.Faults.{SaysWhyChanging};
+ghost use Rattle.directories.specs.Faults.{MayLackRoom};
 ghost use Rattle.directories.specs.Slots.{AreSlots};
 ghost use Rattle.directories.specs.Writes.{HasHead, HasKey, KeepsPages, KeepsSlots};
 
@@ -49,7 +50,7 @@ pub fn rename_within<P: Pages>(
         (map.len (map.insert (map.remove entries from.now) to.now.name.now to.now.object)))) }
     ensures told { (P.state pages.old).sound ≡ true → (z : Sizes) → z.page_bytes ≡ (P.state pages.old).page_bytes
         → IfOk result (TellsChange z (P.state pages.old) directory from.now) }
-    ensures why { IfErr result (SaysWhyAdding (P.state pages.new)) }
+    ensures why { IfErr result (SaysWhyChanging (P.state pages.new)) }
     ensures fault { (z : Sizes) (before : ℕ) (entries : Entries) (d : DirIn (P.state pages.old) z directory before entries)
         → IfErr result (MayLackRoom (map.len (map.remove entries from.now)) (P.state pages.new)) }
 {
@@ -101,7 +102,7 @@ pub fn rename_between<P: Pages>(
         → IfOk result (TellsChange z (P.state pages.old) route.source from.now) }
     ensures target { (P.state pages.old).sound ≡ true → (z : Sizes) → z.page_bytes ≡ (P.state pages.old).page_bytes
         → IfOk result (λ made. IfSome made (λ change. TellsOf z (P.state pages.old) route.target to.now.name.now)) }
-    ensures why { IfErr result (SaysWhyAdding (P.state pages.new)) }
+    ensures why { IfErr result (SaysWhyChanging (P.state pages.new)) }
     ensures fault { (z : Sizes) (s t : ℕ) (left entries : Entries) (source : DirIn (P.state pages.old) z route.source s left) (target : DirIn (P.state pages.old) z route.target t entries)
         → IfErr result (MayLackRoom (map.len entries) (P.state pages.new)) }
 {
@@ -139,7 +140,7 @@ fn put_after<P: Pages>(
         (map.len (map.insert entries slot.now.name.now slot.now.object))) }
     ensures told { (P.state pages.old).sound ≡ true → (z : Sizes) → z.page_bytes ≡ (P.state pages.old).page_bytes
         → OnOk result (TellsOf z (after (option_copied earlier.entry) (P.state pages.old)) directory slot.now.name.now) }
-    ensures why { IfErr result (SaysWhyAdding (P.state pages.new)) }
+    ensures why { IfErr result (SaysWhyChanging (P.state pages.new)) }
     ensures fault { (z : Sizes) (before : ℕ) (entries : Entries) (d : DirIn (after (option_copied earlier.entry) (P.state pages.old)) z directory before entries)
         → IfErr result (MayLackRoom (map.len entries) (P.state pages.new)) }
 {
@@ -183,7 +184,7 @@ fn push_slot<P: Pages>(
         × KeepsSlots z old (changed change old) directory head.length head.length) }
     ensures pages { (P.state pages.old).sound ≡ true → (z : Sizes) (m : PageMap) → z.page_bytes ≡ (P.state pages.old).page_bytes
         → IfOk result (λ change. KeepsPages z m (changed change m) directory head.length) }
-    ensures why { IfErr result (SaysWhyAdding (P.state pages.new)) }
+    ensures why { IfErr result (SaysWhyChanging (P.state pages.new)) }
     ensures fault { (P.state pages.old).sound ≡ true → (z : Sizes) → z.page_bytes ≡ (P.state pages.old).page_bytes
         → AreSlots (SlotOf z (after (option_copied earlier.entry) (P.state pages.old)).present directory) 0 head.length
         → IfErr result (MayLackRoom head.length (P.state pages.new)) }

@@ -10,13 +10,6 @@ use Rattle.posix_profile.specs.declared.reply.Reply.{Reply}
 abbrev pub CoversFirst : List Stamped → List Reply → (first k : ℕ) → Type 0
 CoversFirst commands replies first k = (i : ℕ) → i < first → IsSyncDone commands replies i → i < k
 
-pub covers_none : (commands : List Stamped) (replies : List Reply) → CoversFirst commands replies 0 0
-covers_none commands replies i few sync = omega arith
-
--- one command more, which is a done sync
-pub covers_sync : (commands : List Stamped) (replies : List Reply) (first k : ℕ) → CoversFirst commands replies first k → k ≤ first → CoversFirst commands replies (first + 1) (first + 1)
-covers_sync commands replies first k so_far within i few sync = few
-
 -- one command more, which is none
 pub covers_other : (commands : List Stamped) (replies : List Reply) (first k : ℕ) (command : Stamped) (reply : Reply) → CoversFirst commands replies first k
     → slice_get commands first ≡ Some command → slice_get replies first ≡ Some reply → is_synced command.command reply ≡ false → CoversFirst commands replies (first + 1) k

@@ -1,4 +1,5 @@
 pub mod Added
+pub mod Counting
 pub mod Finding
 pub mod Free
 pub mod Newest

@@ -2,6 +2,7 @@
 #![tactic(auto)]
 
 mod law;
+mod marks;
 mod place;
 mod tag;
 
@@ -14,5 +15,6 @@ pub use law::{
     the_footprint_shows_the_tree, the_greatest_numbers_are_one, the_same_groups_show_the_same,
     what_stays_newest_has_its_data,
 };
+pub use marks::count_bad;
 pub use place::{Found, FreshPage, Key, TagNumbers};
 pub use tag::tag_at;

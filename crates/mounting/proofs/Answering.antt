@@ -9,9 +9,9 @@ use Rattle.flash_tree.specs.Mount.{Wrong, Answers, NotAVolume, IsWrong, IsNewer,
 use Rattle.flash_tree.specs.laws.Place.{same_flash}
 use Rattle.chunk_index.specs.declared.index.Index.{Index}
 use Rattle.page_buffer.specs.Shown.{kept_data}
-use Rattle.pages.specs.Maps.{PageMap, has}
+use Rattle.pages.specs.Maps.{PageMap, known_pages, has}
 use Rattle.pages.specs.State.{OnlyFinds}
-use Rattle.newest_pages.specs.Newest.{known_pages, seen}
+use Rattle.newest_pages.specs.Newest.{seen}
 use Rattle.tree_walk.specs.Trees.{IsWrongTree}
 use Rattle.tree_walk.specs.declared.fault.RootFault.{RootFault}
 use Rattle.tree_walk.specs.declared.fault.RootFault.TheVariants as roots

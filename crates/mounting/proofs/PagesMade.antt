@@ -24,12 +24,12 @@ use Rattle.page_buffer.specs.BufferOf.{buffered, most_pages}
 use Rattle.page_buffer.specs.Shown.{data_at, data_by, kept_data, present_data}
 use Rattle.page_buffer.specs.declared.buffer.Buffer.{Buffer}
 use Rattle.page_cache.specs.declared.cache.PageCache.{PageCache}
-use Rattle.pages.specs.Maps.{PageMap}
+use Rattle.pages.specs.Maps.{PageMap, known_pages}
 use Rattle.pages.specs.State.{PagesState, NextNumbers}
 use Rattle.pages.specs.Stores.{bad_on, Carries, HasPage, HasNumbersLeft, IsCarried, SamePages, KeptAs}
-use Rattle.objects.specs.StoreOf.{known, kept_map, next_numbers, store_seen}
+use Rattle.objects.specs.StoreOf.{kept_map, next_numbers, store_seen}
 use Rattle.objects.specs.declared.store.Found.{Found}
-use Rattle.newest_pages.specs.Newest.{known_pages, seen}
+use Rattle.newest_pages.specs.Newest.{seen}
 use Rattle.newest_pages.specs.Opened.{AreLeft}
 use Rattle.flash_pages.specs.ReadOnly.{IsWorn, only_read, next_after}
 use Rattle.mounting.specs.Made.{ArePagesOn, CanBeWritten}
@@ -108,11 +108,11 @@ module _ (keeps : ℕ → ℕ → Bool) (d : Device) (t : Table) (x : Index) (n 
         next = ap next_numbers same.0 ∙ next_is;
         sound = λ honest. ap (λ (k : Device). k.honest && not broken) device ∙ ap (λ h. h && not broken) honest ∙ ap (λ b. true && not b) whole;
         present = λ honest o c.
-            subst (λ (k : Device). known k.honest (present_data y (buffered buffer) k.flash) o c ≡ kept_data x d.flash o c) (sym device)
-            (ap (λ h. known h (present_data y (buffered buffer) d.flash) o c) honest ∙ pages o c ∙ present_kept o c);
+            subst (λ (k : Device). known_pages k.honest (present_data y (buffered buffer) k.flash) o c ≡ kept_data x d.flash o c) (sym device)
+            (ap (λ h. known_pages h (present_data y (buffered buffer) d.flash) o c) honest ∙ pages o c ∙ present_kept o c);
         kept = λ honest. record {
           carried = λ is. carried_as (store_seen e u y buffer cache scratch found spare' broken refused) d spare (kept_data x d.flash) device same.1 (carried honest);
-          kept = λ sound o c. kept o c ∙ ap (λ h. known h (kept_data x d.flash) o c) honest;
+          kept = λ sound o c. kept o c ∙ ap (λ h. known_pages h (kept_data x d.flash) o c) honest;
         };
       }
 

@@ -7,9 +7,9 @@ ghost use Rattle.mounting.specs.Made.{ArePagesOn, CanBeWritten};
 ghost use Rattle.mounting.specs.Marked.{AreFitting};
 ghost use Rattle.mounting.specs.Mounted.{IsTreeRead, HasRoomOn};
 
-use crate::marks::count_bad;
 use crate::tree_on::TreeOn;
 use chunk_index::the_counts_are_of_the_keys;
+use flash_tree::count_bad;
 use flash_pages::{FlashPages, ReadOnlyPages};
 use nand_model::Nand;
 use newest_pages::{NewestPages, the_opened_pages_are_the_newest};
@@ -17,7 +17,7 @@ use objects::Store;
 use pages::Pages;
 use std::alloc::{AllocError, Global};
 use std::num::NonZeroUsize;
-use volume_terms::NUMBER_END;
+use volume_terms::{BUFFERS_IN_BLOCK, NUMBER_END};
 
 /// Whether nothing can be written any more: a number stands at the limit, or more blocks are bad than there are to spare.
 pub(crate) fn is_worn<N: Nand>(on: &TreeOn<N>) -> bool
@@ -71,7 +71,7 @@ fn read_pages<N: Nand>(alloc: Global, on: TreeOn<N>) -> Result<ReadOnlyPages<N>,
         spare,
         ..
     } = on;
-    let most = device.geometry().pages() / 4;
+    let most = device.geometry().pages() / BUFFERS_IN_BLOCK;
     match NewestPages::new(alloc, device, index) {
         Ok(pages) => Ok(ReadOnlyPages::new(pages, numbers, u32::from(spare), most)),
         Err(refused) => Err(refused),

@@ -2,26 +2,11 @@
 ghost use Rattle.std.specs.Prelude.{◌≡◌, ◌↔◌, IsTrue};
 ghost use Rattle.block_state.specs.Kept.{unkept_count};
 ghost use Rattle.block_state.specs.TableOf.{table};
-ghost use Rattle.pages.specs.Stores.{bad_on};
 ghost use Rattle.mounting.specs.Marked.{marked, AreFitting};
 ghost use Rattle.block_state.specs.laws.Counting.{counts_one, counts_none, counts_most};
 
 use block_state::Blocks;
 use nand_model::Nand;
-
-/// How many blocks of a device are marked bad.
-#[tactic(auto, using(block_state::specs::laws::Counting::counts_one, block_state::specs::laws::Counting::counts_none, block_state::specs::laws::Counting::counts_most))]
-pub(crate) fn count_bad<N: Nand>(device: &N) -> u32
-    ensures { result ≡ bad_on (N.state device.now) }
-{
-    let mut count = 0;
-    for block in 0..device.geometry().blocks() {
-        if device.is_bad(block) {
-            count += 1;
-        }
-    }
-    count
-}
 
 /// How many good blocks of a device are without a kept page.
 #[tactic(auto, using(block_state::specs::laws::Counting::counts_one, block_state::specs::laws::Counting::counts_none, block_state::specs::laws::Counting::counts_most))]

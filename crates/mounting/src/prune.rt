@@ -13,9 +13,10 @@ ghost use Rattle.mounting.specs.Marked.{marked};
 ghost use Rattle.mounting.specs.Tables.{IsPruned};
 
 use crate::keys::TreeKeys;
-use crate::marks::{count_bad, count_unkept};
+use crate::marks::count_unkept;
 use block_state::Blocks;
 use chunk_index::Index;
+use flash_tree::count_bad;
 use nand_model::Nand;
 use tree_walk::Tree;
 

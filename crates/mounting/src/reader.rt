@@ -8,7 +8,8 @@ ghost use Rattle.newest_pages.specs.Newest.{seen};
 
 use chunk_index::{Index, KeptPage};
 use flash_tree::Key;
-use nand_model::{Nand, PageKind};
+use nand_model::Nand;
+use page_buffer::read_kept;
 use pages::{KnownPages, Pages, Presence, has_power};
 use std::alloc::{AllocError, Global};
 use volume_terms::StoreFault;
@@ -65,16 +66,8 @@ impl<'a, N: Nand> LentPages<'a, N> {
         ensures page { (N.state self.old.device).honest ≡ true → OnOk result (data_at (N.state self.old.device).flash at ≡ Some self.new.page.items) }
         ensures fault { IfErr result (λ fault. (fault ≡ StoreFault.Device) × (((N.state self.new.device).gone ≡ true) ⊎ ((N.state self.old.device).honest ≡ true → data_at (N.state self.old.device).flash at ≡ None))) }
     {
-        let mut tag = [0; 48];
-        match self
-            .device
-            .read_page(at.block, at.page, &mut self.page, &mut tag)
-        {
-            Ok(PageKind::Written) => Ok(Presence::Present),
-            Ok(PageKind::Erased) => Err(StoreFault::Device),
-            Ok(PageKind::Uncorrectable) => Err(StoreFault::Device),
-            Err(_) => Err(StoreFault::Device),
-        }
+        read_kept(&mut self.device, at, &mut self.page)?;
+        Ok(Presence::Present)
     }
 }
 

@@ -12,12 +12,6 @@ pub record Notes (list : List Found) (n : ℕ) (old new : Table) : Type 0 where
   pub only : OnlySeqs old new
   pub each : (b : ℕ) → NotesSeq list n old new b
 
-pub notes_none : (list : List Found) (t : Table) → Notes list 0 t t
-notes_none list t = record {
-  only = record { bad = λ b. refl; kept = λ b. refl; geometry = refl; open_block = refl; next_group = refl; next_seq = refl };
-  each = λ b. inr (refl, λ i f lt at block. absurd (omega (arith, lt)));
-}
-
 one_at : (list : List Found) (n : ℕ) (f g : Found) → slice_get list n ≡ Some f → slice_get list n ≡ Some g → f ≡ g
 one_at list n f g x y = let two : Some f ≡ Some g = sym x ∙ y in cc
 

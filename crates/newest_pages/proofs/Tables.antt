@@ -28,7 +28,7 @@ use Rattle.mount_scan.specs.Scanned.{AreNewest, TellsNewest}
 use Rattle.mount_scan.specs.laws.Scan.{found_of, listed_spot}
 use Rattle.bad_blocks.specs.Standing.{IsKeptAt, AreKept, MayLie}
 use Rattle.newest_pages.specs.Opened.{OnlySeqs, NotesSeq, HasItsSeq, HaveNames, AreLeft, IsTableOf, IsOpened, kept_at}
-use Rattle.newest_pages.specs.laws.Reading.{flash_is}
+use Rattle.flash_tree.specs.laws.Place.{same_flash}
 
 -- a table without marks, where there are no numbers left
 pub blank_tables : (d : Device) (n : Numbers) (g : Geometry) (r : Result Blocks AllocError) → (AreLeft n → ⊥) → g ≡ d.geometry
@@ -276,13 +276,13 @@ tells_read a b list reads tells = record {
   order = tells.order;
   exact = λ honest.
       let before : a.honest ≡ true = sym reads.lasts.honest ∙ honest in
-      subst (λ (f : Flash). AreNewest f list) (sym (flash_is a b reads before)) (tells.exact before);
+      subst (λ (f : Flash). AreNewest f list) (sym (same_flash a b reads before)) (tells.exact before);
 }
 
 pub greatest_read : (a b : Device) (n : Numbers) → OnlyReads a b → (a.honest ≡ true → AreGreatest a.flash n) → b.honest ≡ true → AreGreatest b.flash n
 greatest_read a b n reads greatest honest =
     let before : a.honest ≡ true = sym reads.lasts.honest ∙ honest in
-    subst (λ (f : Flash). AreGreatest f n) (sym (flash_is a b reads before)) (greatest before)
+    subst (λ (f : Flash). AreGreatest f n) (sym (same_flash a b reads before)) (greatest before)
 
 -- all of it together
 pub opened : (d : Device) (list : List Found) (x : Index) (t t' : Table) (n : Numbers) → TellsNewest d list → (d.honest ≡ true → AreGreatest d.flash n) → HaveNames n.group list

@@ -6,10 +6,9 @@ ghost use Rattle.posix_profile.specs.State.{Objects, IsFile};
 ghost use Rattle.posix_profile.specs.Changes.{with_bytes, written, resized};
 ghost use Rattle.object_store.specs.Facts.{bytes_of};
 ghost use Rattle.pages.specs.Changes.{IsChange, IsOnlyOf};
-ghost use Rattle.pages.specs.Faults.{MayLackMemory};
+ghost use Rattle.pages.specs.Faults.{MayLackMemory, SaysWhyChanging};
 ghost use Rattle.pages.specs.Maps.{changed};
 ghost use Rattle.pages.specs.State.{OnlyFinds};
-ghost use Rattle.object_pages.specs.Faults.{SaysWhyChanging};
 ghost use Rattle.object_pages.specs.Holding.{HoldsIn, HoldsObjects};
 
 use file_io::{read_info, set_length, write_at};

@@ -9,11 +9,10 @@ ghost use Rattle.posix_profile.specs.State.{Objects, IsDirectory, entries_of};
 ghost use Rattle.posix_profile.specs.Changes.{new_number, with_object, with_name};
 ghost use Rattle.object_store.specs.Changes.{IsAbsent, empty_object};
 ghost use Rattle.pages.specs.Changes.{IsChange, IsOnlyOf};
-ghost use Rattle.pages.specs.Faults.{MayLackMemory};
+ghost use Rattle.pages.specs.Faults.{MayLackMemory, SaysWhyChanging};
 ghost use Rattle.pages.specs.Maps.{changed};
 ghost use Rattle.pages.specs.State.{OnlyFinds};
 ghost use Rattle.pages.specs.declared.fault.PageFault.TheVariants as faults;
-ghost use Rattle.object_pages.specs.Faults.{SaysWhyChanging};
 ghost use Rattle.object_pages.specs.Holding.{HoldsIn, HoldsObjects};
 ghost use Rattle.object_store.specs.Stores.{CanHave};
 

@@ -6,10 +6,9 @@ ghost use Rattle.posix_profile.specs.State.{Objects};
 ghost use Rattle.posix_profile.specs.Changes.{without_name};
 ghost use Rattle.object_store.specs.Changes.{LeadsTo, without};
 ghost use Rattle.pages.specs.Changes.{IsChange, IsOnlyOf};
-ghost use Rattle.pages.specs.Faults.{MayLackMemory};
+ghost use Rattle.pages.specs.Faults.{MayLackMemory, SaysWhyChanging};
 ghost use Rattle.pages.specs.Maps.{PageMap, changed};
 ghost use Rattle.pages.specs.State.{OnlyFinds};
-ghost use Rattle.object_pages.specs.Faults.{SaysWhyChanging};
 ghost use Rattle.object_pages.specs.Holding.{HoldsIn, HoldsObjects};
 
 use object_store::DirectoryEntry;

@@ -22,8 +22,9 @@ use Rattle.posix_profile.specs.laws.Link.{Lists, IsSubdirectory, file_links, dir
 use Rattle.posix_profile.specs.laws.Name.{not_both, namer_directory}
 use Rattle.posix_profile.specs.laws.Number.{IsNewNumber, new_number_is, capacity_few}
 use Rattle.posix_profile.specs.laws.Total.{total_without, total_replace}
+use Rattle.posix_profile.specs.NameSteps.{told_size}
 use Rattle.object_store.specs.Facts.{info_of, NamedBy}
-use Rattle.object_table.specs.Facts.{facts_cost, told_info, told_size, unit_of, IsFileFacts, IsDirectoryFacts, AreFactsOf, IsTold}
+use Rattle.object_table.specs.Facts.{facts_cost, told_info, unit_of, IsFileFacts, IsDirectoryFacts, AreFactsOf, IsTold}
 use Rattle.object_table.specs.declared.facts.ObjectFacts.{ObjectFacts}
 use Rattle.object_table.proofs.Counting.{same_length, list_other}
 

@@ -5,6 +5,7 @@ use Rattle.volume_terms.specs.Sizes.{Sizes, page_slots}
 use Rattle.volume_terms.specs.Rounding.{ceiling}
 use Rattle.posix_profile.specs.State.{Name, Object, File, Dir, Objects}
 use Rattle.posix_profile.specs.Names.{Names}
+use Rattle.posix_profile.specs.NameSteps.{told_size}
 use Rattle.posix_profile.specs.declared.reply.Kind.{Kind}
 use Rattle.posix_profile.specs.declared.reply.Kind.TheVariants as kinds
 use Rattle.posix_profile.specs.declared.reply.Info.{Info}
@@ -34,11 +35,6 @@ unit_of z kinds.Directory = page_slots z
 -- the units that an object with these facts costs
 abbrev pub facts_cost : Sizes → ObjectFacts → ℕ
 facts_cost z f = 1 + ceiling f.size (unit_of z f.kind)
-
--- the size that is told: a directory has none
-abbrev pub told_size : Kind → ℕ → ℕ
-told_size kinds.File size = size
-told_size kinds.Directory size = 0
 
 -- what is told of an object with these facts
 abbrev pub told_info : ℕ → ObjectFacts → Info

@@ -5,7 +5,9 @@ mod buffer;
 mod changing;
 mod dropping;
 mod law;
+mod reading;
 
 pub use buffer::Buffer;
 pub use changing::prepare;
 pub use law::a_written_buffer_is_kept;
+pub use reading::read_kept;

@@ -8,7 +8,7 @@ ghost use Rattle.page_tags.specs.Slots.{Entry, IsSlot, slot_bytes};
 use crate::numbers::{u16_at, u64_at};
 use crate::zeros::are_zero;
 use byteorder::{ByteOrder, LittleEndian};
-use volume_terms::is_name;
+use volume_terms::{NAME_LIMIT, is_name};
 
 /// An entry of a directory.
 #[derive(Clone, Copy, Debug, PartialEq, Eq)]
@@ -47,7 +47,7 @@ pub fn decode_slot(bytes: &[u8]) -> Option<Slot<'_>>
 {
     let object = u64_at(bytes, 0);
     let length = usize::from(u16_at(bytes, 8));
-    if object < 2 || length > 255 {
+    if object < 2 || length > NAME_LIMIT {
         return None;
     }
     let (name, rest) = bytes[10..].split_at(length);

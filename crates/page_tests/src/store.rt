@@ -1,13 +1,11 @@
 // A store in memory that takes changes, and slots that a directory takes.
-ghost use Rattle.std.specs.Prelude.{◌≡◌, ℕ, true, IfOk};
+ghost use Rattle.std.specs.Prelude.{IfOk};
 ghost use Rattle.page_tags.specs.SlotEntry.{entry_of};
 ghost use Rattle.page_tags.specs.Slots.{IsSlot};
-ghost use Rattle.pages.specs.Changes.{AreSized};
 
 use directories::{DirectoryHead, head_page};
-use flash_tree::FreshPage;
 use page_tags::Slot;
-use pages::{Change, MemPages, Pages};
+use pages::{Change, MemPages, Pages, are_sized};
 use std::alloc::Global;
 use std::test::Fail;
 use volume_terms::is_name;
@@ -16,18 +14,6 @@ use volume_terms::is_name;
 pub(crate) const HOME: u64 = 1;
 
 pub(crate) const AWAY: u64 = 2;
-
-/// Whether all pages have so many bytes.
-fn are_sized(pages: &[FreshPage], size: u32) -> bool
-    ensures { result ≡ true → AreSized pages.now size }
-{
-    for page in pages {
-        if page.bytes.len() != size as usize {
-            return false;
-        }
-    }
-    true
-}
 
 /// The store after a change.
 pub(crate) fn taken(alloc: Global, pages: MemPages, change: Change) -> Result<MemPages, Fail> {

@@ -35,3 +35,7 @@ MayLackMemory new = Says (Unit {0}) ⊥ ⊥ new
 -- and where nothing is known of what it reads
 abbrev pub SaysWhyMaking : PagesState → PageFault → Type 0
 SaysWhyMaking new = Says (Unit {0}) (Unit {0}) ⊥ new
+
+-- and where the object may be as large as it can be
+abbrev pub SaysWhyChanging : PagesState → PageFault → Type 0
+SaysWhyChanging new = Says (Unit {0}) (Unit {0}) (Unit {0}) new

@@ -1,5 +1,5 @@
 -- Which page each key has, and what a change makes of that.
-use Rattle.std.specs.Prelude.{◌≡◌, ◌<◌, ◌≤◌, ℕ, Bool, ◌&&◌, nat_eq, nat_le, List, [], ◌∷◌, Option, Some, None, slice_get, cond}
+use Rattle.std.specs.Prelude.{◌≡◌, ◌<◌, ◌≤◌, ℕ, Bool, true, false, ◌&&◌, nat_eq, nat_le, List, [], ◌∷◌, Option, Some, None, slice_get, cond}
 use Rattle.flash_tree.specs.Tree.{NewestMap}
 use Rattle.flash_tree.specs.declared.place.FreshPage.{FreshPage}
 use Rattle.pages.specs.declared.change.Cut.{Cut}
@@ -8,6 +8,15 @@ use Rattle.pages.specs.declared.change.Change.{Change}
 -- the page of each key, by object and chunk
 abbrev pub PageMap : Type 0
 PageMap = ℕ → ℕ → Option (List ℕ)
+
+-- no key has a page
+abbrev pub no_pages : PageMap
+no_pages o c = None
+
+-- the pages of an honest device; of another nothing is known
+abbrev pub known_pages : Bool → PageMap → PageMap
+known_pages true m = m
+known_pages false m = no_pages
 
 -- the key has this page
 abbrev pub has : PageMap → NewestMap

@@ -5,12 +5,6 @@ use Rattle.nand_model.specs.Size.{IsSize}
 use Rattle.nand_model.specs.Flash.{Flash, Erased}
 use Rattle.nand_model.specs.Calls.{Device}
 use Rattle.nand_model.specs.declared.geometry.Geometry.{Geometry}
-use Rattle.pages.specs.Maps.{PageMap}
-use Rattle.pages.specs.State.{NextNumbers}
-
--- no key has a page
-abbrev pub nothing : PageMap
-nothing o c = None
 
 least_size : IsSize 512 32 5
 least_size = record { bytes_of_page = inl refl; pages_of_block = inl refl; few_blocks = (omega arith, omega arith) }
@@ -37,7 +31,3 @@ blank_flash = record { bad = λ b. false; next = λ b. None; page = λ b p. Eras
 -- no device: one that promises nothing
 abbrev pub no_device : Device
 no_device = record { geometry = least_geometry; flash = blank_flash; gone = false; honest = false; steady = false; cuts = 0; failures = 0; changes = 0; reads = 0 }
-
--- no number was handed out
-abbrev pub first_numbers : NextNumbers
-first_numbers = record { group = 0; seq = 0 }

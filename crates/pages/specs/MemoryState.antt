@@ -1,9 +1,9 @@
 -- What a store in memory keeps.
 use Rattle.std.specs.Prelude.{true, Option, slice_get}
-use Rattle.pages.specs.Maps.{with_pages}
-use Rattle.pages.specs.State.{PagesState}
+use Rattle.pages.specs.Maps.{no_pages, with_pages}
+use Rattle.pages.specs.State.{PagesState, no_numbers}
 use Rattle.pages.specs.Afterwards.{bytes_or}
-use Rattle.pages.specs.Memory.{nothing, no_device, first_numbers}
+use Rattle.pages.specs.Memory.{no_device}
 use Rattle.pages.specs.declared.memory.MemPages.{MemPages}
 use Rattle.pages.specs.declared.memory.Refusal.{Refusal}
 
@@ -11,15 +11,15 @@ abbrev pub kept : MemPages → PagesState
 kept it = record {
   page_bytes = it.page_bytes;
   most = 0;
-  present = with_pages it.pages.items nothing;
-  kept = nothing;
+  present = with_pages it.pages.items no_pages;
+  kept = no_pages;
   lent = bytes_or (slice_get it.pages.items it.found) it.blank.items;
   sound = true;
   failed = it.failed;
   refused = it.refused;
   asked = it.finds;
   device = no_device;
-  next = first_numbers;
+  next = no_numbers;
   spare = 0;
 }
 

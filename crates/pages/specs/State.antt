@@ -13,6 +13,10 @@ pub record NextNumbers : Type 0 where
   pub group : ℕ
   pub seq : ℕ
 
+-- no number is handed out
+abbrev pub no_numbers : NextNumbers
+no_numbers = record { group = 0; seq = 0 }
+
 -- The bytes of a page, how many pages a change has at most, the page of each key now and at the last commit, the page that
 -- was found last, whether the store keeps what it is told, whether its device has failed, whether it was refused memory, how
 -- many pages it has asked for so far; and its device, the numbers that come next, and how many blocks may be bad.

@@ -1,5 +1,6 @@
 pub mod Afterwards
 pub mod Changes
 pub mod Faults
+pub mod Known
 pub mod Maps
 pub mod State

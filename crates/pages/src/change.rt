@@ -1,5 +1,5 @@
 // What is changed together.
-ghost use Rattle.std.specs.Prelude.{◌≡◌, ◌≤◌, ◌+◌, ℕ, true, false, IfOk, OnOk, IfSome, IfNone, length};
+ghost use Rattle.std.specs.Prelude.{◌≡◌, ◌≤◌, ◌+◌, ◌↔◌, ℕ, true, false, IsTrue, IfOk, OnOk, IfSome, IfNone, length};
 ghost use Rattle.pages.specs.Maps.{PageMap, changed, IsPageOf, IsFirstOf, takes, IsCut};
 ghost use Rattle.pages.specs.Changes.{AreApart, AreSized, IsNothing, IsPutBehind};
 
@@ -63,6 +63,18 @@ fn put_behind(pages: &mut Vec<FreshPage>, cuts: &[Cut], page: FreshPage) -> Resu
         pages.push(page)?;
     }
     Ok(())
+}
+
+/// Tells whether all pages have so many bytes, as a store that takes them asks.
+pub fn are_sized(pages: &[FreshPage], page_bytes: u32) -> bool
+    ensures { IsTrue result ↔ AreSized pages.now page_bytes }
+{
+    for page in pages {
+        if page.bytes.len() != page_bytes as usize {
+            return false;
+        }
+    }
+    true
 }
 
 impl Change {

@@ -13,7 +13,7 @@ mod power;
 mod store;
 
 pub use after::{Source, load_after, page_after};
-pub use change::{Change, Cut};
+pub use change::{Change, Cut, are_sized};
 pub use fault::PageFault;
 pub use known::KnownPages;
 pub use law::{

@@ -12,9 +12,15 @@ use Rattle.posix_profile.specs.Outcomes.{Outcome, answer, refuse, unless, change
 use Rattle.posix_profile.specs.Changes.{with_name, without_name, with_object}
 use Rattle.posix_profile.specs.declared.reply.Errno.{Errno}
 use Rattle.posix_profile.specs.declared.reply.Errno.TheVariants as errors
+use Rattle.posix_profile.specs.declared.reply.Kind.{Kind}
 use Rattle.posix_profile.specs.declared.reply.Kind.TheVariants as kinds
 use Rattle.posix_profile.specs.declared.reply.Info.{Info}
 use Rattle.posix_profile.specs.declared.reply.Reply.TheVariants as replies
+
+-- the size that is told of an object with so many bytes or entries: a directory has none
+abbrev pub told_size : Kind → ℕ → ℕ
+told_size kinds.File size = size
+told_size kinds.Directory size = 0
 
 -- what is told of an object: a directory has size 0
 abbrev pub info : Objects → ℕ → Object → Info

@@ -11,11 +11,11 @@ use chunk_index::{Index, KeptPage, Present, WrittenGroup};
 use flash_tree::{FreshPage, Key};
 use nand_model::Geometry;
 use page_buffer::{Buffer, prepare};
-use pages::{Change, Cut};
+use pages::{Change, Cut, are_sized};
 use std::alloc::{AllocError, Global};
 use std::process::Abort;
 use std::test::Fail;
-use test_store::{Apart, are_sized};
+use test_store::Apart;
 
 /// A change whose pages are of different keys and have 512 bytes.
 #[derive(Drop)]

@@ -5,7 +5,7 @@ ghost use Rattle.pages.specs.Changes.{AreApart, AreSized, AreOfObjects};
 use flash_tree::FreshPage;
 use nand_model::Nand;
 use objects::Store;
-use pages::{Change, Cut, PageStore, Pages};
+use pages::{Change, Cut, PageStore, Pages, are_sized};
 use std::alloc::{AllocError, Global};
 
 /// A change whose pages are of different keys.
@@ -41,18 +41,6 @@ impl Apart {
         let change = self.change.then(next)?;
         Ok(Apart { change })
     }
-}
-
-/// Whether all pages have so many bytes.
-pub fn are_sized(pages: &[FreshPage], size: u32) -> bool
-    ensures { IsTrue result → AreSized pages.now size }
-{
-    for page in pages {
-        if page.bytes.len() != size as usize {
-            return false;
-        }
-    }
-    true
 }
 
 /// Whether all pages are of objects.

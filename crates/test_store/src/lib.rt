@@ -5,6 +5,6 @@ mod change;
 mod fault;
 mod opening;
 
-pub use change::{Apart, are_sized, fits};
+pub use change::{Apart, fits};
 pub use fault::StandFault;
 pub use opening::{EachKey, open_each, open_kept};

@@ -8,5 +8,7 @@ mod sizes;
 
 pub use fault::StoreFault;
 pub use name::is_name;
-pub use numbers::{DESCRIPTORS, NAME_LIMIT, NUMBER_END, PATH_LIMIT, ROOT, SLOT_BYTES};
+pub use numbers::{
+    BUFFERS_IN_BLOCK, DESCRIPTORS, NAME_LIMIT, NUMBER_END, PATH_LIMIT, ROOT, SLOT_BYTES,
+};
 pub use sizes::{VolumeSizes, most_file_bytes};

@@ -1,8 +1,8 @@
 // The sizes of a volume.
 ghost use Rattle.std.specs.Prelude.{◌≡◌, ◌≤◌, ◌+◌};
-ghost use Rattle.volume_terms.specs.Sizes.{IsSizes, capacity, most_file_bytes, most_written, greatest_length, page_slots};
+ghost use Rattle.volume_terms.specs.Sizes.{IsSizes, buffer_pages, capacity, most_file_bytes, most_written, greatest_length, page_slots};
 
-use crate::numbers::SLOT_BYTES;
+use crate::numbers::{BUFFERS_IN_BLOCK, SLOT_BYTES};
 
 /// The data bytes of a page, the pages of a block, the blocks, and of these the spare ones.
 #[derive(Clone, Copy, Debug)]
@@ -48,11 +48,18 @@ impl VolumeSizes {
         self.page_bytes / SLOT_BYTES as u64
     }
 
+    /// Most pages of the buffer and of a committed group.
+    fn buffer_pages(&self) -> u64
+        ensures { result ≡ buffer_pages (sizes_of self.now) }
+    {
+        self.block_pages / u64::from(BUFFERS_IN_BLOCK)
+    }
+
     /// Units that a state may cost.
     pub fn capacity(&self) -> u64
         ensures { result ≡ capacity (sizes_of self.now) }
     {
-        (self.blocks - self.spare_blocks - 1) * (self.block_pages - self.block_pages / 4)
+        (self.blocks - self.spare_blocks - 1) * (self.block_pages - self.buffer_pages())
     }
 
     /// Most bytes that one write writes.
@@ -60,7 +67,7 @@ impl VolumeSizes {
         ensures value { result ≡ most_written (sizes_of self.now) }
         ensures small { result ≤ 1048576 }
     {
-        (self.block_pages / 4 - 3) * self.page_bytes
+        (self.buffer_pages() - 3) * self.page_bytes
     }
 
     /// Most bytes of a file.

@@ -1,9 +1,9 @@
 -- What counts, by the tag of one page.
-use Rattle.std.specs.Prelude.{◌≡◌, ◌<◌, ◌≤◌, ◌↔◌, ℕ, ◌-◌, true}
+use Rattle.std.specs.Prelude.{◌≡◌, ◌<◌, ◌≤◌, ◌↔◌, ℕ, ◌-◌, true, false}
 use Rattle.std.proofs.Common.{refl, sym, ◌∙◌, ap, subst, inl, inr, arith}
-use Rattle.std.proofs.lemmas.Bool.{cases_lt}
+use Rattle.std.proofs.lemmas.Bool.{cases_Bool, cases_lt}
 use Rattle.nand_model.specs.Flash.{Flash, Erased, Written, IsWithin}
-use Rattle.nand_model.specs.Calls.{Device}
+use Rattle.nand_model.specs.Calls.{Device, Lasts}
 use Rattle.nand_model.specs.Changes.{OnlyReads}
 use Rattle.page_tags.specs.declared.tag.Tag.{Tag}
 use Rattle.page_tags.specs.Tags.{tag_bytes}
@@ -15,6 +15,13 @@ use Rattle.flash_tree.specs.Places.{group_of, CountsByTag}
 -- reads leave an honest device the flash that it has
 pub same_flash : (old new : Device) → OnlyReads old new → old.honest ≡ true → new.flash ≡ old.flash
 same_flash old new reads honest = let page = reads.page honest in λ i. record { bad = reads.bad i; next = reads.next i; page = page i }
+
+-- a device that has power had it before
+pub had_power : (a b : Device) → Lasts a b → b.gone ≡ false → a.gone ≡ false
+had_power a b lasts is = elim (cases_Bool a.gone) [
+  | inr power ↦ power
+  | inl gone ↦ let two : true ≡ false = sym gone ∙ sym (ap (λ (d : Device). d.gone) (lasts.gone gone)) ∙ is in absurd cc
+]
 
 -- an erased page has none
 pub no_tag : (f : Flash) (b p : ℕ) (t : Tag) → f.page b p ≡ Erased → HasTag f b p t → ⊥

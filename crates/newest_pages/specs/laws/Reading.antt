@@ -7,46 +7,26 @@ use Rattle.nand_model.specs.Flash.{Flash}
 use Rattle.nand_model.specs.Calls.{Device}
 use Rattle.nand_model.specs.Changes.{OnlyReads}
 use Rattle.nand_model.specs.declared.geometry.Geometry.{Geometry}
+use Rattle.flash_tree.specs.laws.Place.{same_flash}
 use Rattle.chunk_index.specs.declared.form.KeptPage.{KeptPage}
 use Rattle.chunk_index.specs.declared.index.Index.{Index}
 use Rattle.chunk_index.specs.Maps.{KeptMap, kept_pages}
 use Rattle.page_buffer.specs.Shown.{data_at, kept_data}
-use Rattle.pages.specs.Maps.{PageMap}
+use Rattle.pages.specs.Maps.{PageMap, known_pages}
+use Rattle.pages.specs.laws.Known.{known_same}
 use Rattle.pages.specs.State.{OnlyFinds, FindsPage, FailsBy}
 use Rattle.pages.specs.declared.store.Presence.{Presence}
 use Rattle.pages.specs.declared.store.Presence.TheVariants as presences
 use Rattle.volume_terms.specs.declared.fault.StoreFault.{StoreFault}
 use Rattle.volume_terms.specs.declared.fault.StoreFault.TheVariants as faults
-use Rattle.newest_pages.specs.Newest.{known_pages, seen}
-
--- the flash of an honest device stays
-pub flash_is : (a b : Device) → OnlyReads a b → a.honest ≡ true → b.flash ≡ a.flash
-flash_is a b reads honest =
-    let page = reads.page honest in
-    λ i. record { bad = reads.bad i; next = reads.next i; page = page i }
-
--- the pages that are known stay
-pub known_same : (a b : Device) (m : Flash → PageMap) → OnlyReads a b → known_pages b.honest (m b.flash) ≡ known_pages a.honest (m a.flash)
-known_same a b m reads = elim (cases_Bool a.honest) [
-  | inr lies ↦
-      let then : b.honest ≡ false = reads.lasts.honest ∙ lies in
-      ap (λ h. known_pages h (m b.flash)) then ∙ sym (ap (λ h. known_pages h (m a.flash)) lies)
-  | inl honest ↦
-      let then : b.honest ≡ true = reads.lasts.honest ∙ honest in
-      ap (λ h. known_pages h (m b.flash)) then ∙ ap m (flash_is a b reads honest) ∙ sym (ap (λ h. known_pages h (m a.flash)) honest)
-]
+use Rattle.newest_pages.specs.Newest.{seen}
 
 -- kept pages still have data
 pub written_same : (a b : Device) (m : KeptMap) → OnlyReads a b → (a.honest ≡ true → (o c : ℕ) (k : KeptPage) → m o c ≡ Some k → IsSome (data_at a.flash k))
     → b.honest ≡ true → (o c : ℕ) (k : KeptPage) → m o c ≡ Some k → IsSome (data_at b.flash k)
 written_same a b m reads written honest o c k is =
     let before : a.honest ≡ true = sym reads.lasts.honest ∙ honest in
-    subst (λ (f : Flash). IsSome (data_at f k)) (sym (flash_is a b reads before)) (written before o c k is)
-
--- kept pages still lie on the device
-pub lie_same : (a b : Device) (m : KeptMap) → OnlyReads a b → ((o c : ℕ) (k : KeptPage) → m o c ≡ Some k → (k.block < a.geometry.blocks) × (k.page < a.geometry.pages))
-    → (o c : ℕ) (k : KeptPage) → m o c ≡ Some k → (k.block < b.geometry.blocks) × (k.page < b.geometry.pages)
-lie_same a b m reads lie o c k is = subst (λ (g : Geometry). (k.block < g.blocks) × (k.page < g.pages)) (sym reads.lasts.geometry) (lie o c k is)
+    subst (λ (f : Flash). IsSome (data_at f k)) (sym (same_flash a b reads before)) (written before o c k is)
 
 -- a call that only reads the device only finds
 pub finds_seen : (a b : Device) (x y : Index) (page page' : List ℕ) → OnlyReads a b → y ≡ x → OnlyFinds (seen a x page) (seen b y page')

@@ -21,24 +21,12 @@ use Rattle.volume_terms.specs.laws.Rounding.{ceiling_is}
 use Rattle.posix_profile.specs.Charge.{cost, charge}
 use Rattle.posix_profile.specs.State.{Entries, Object, File, Dir, Objects}
 use Rattle.posix_profile.specs.laws.Map.{same_key, any_member, map_member, Member}
+use Rattle.posix_profile.specs.laws.Fresh.{slots_some}
 use Rattle.flash_tree.specs.declared.place.Key.{Key}
 use Rattle.pages.specs.Maps.{PageMap}
 use Rattle.pages.specs.Stores.{HasPage}
 use Rattle.object_pages.specs.Counting.{IsOnce, HavePages}
 use Rattle.object_pages.specs.Holding.{HoldsFile, HoldsDirectory, HoldsObject, HoldsObjects}
-
--- a page has slots
-some_slots : (z : Sizes) → IsSizes z → 0 < page_slots z
-some_slots z numbers = elim numbers.page_bytes [
-  | inl a ↦ omega (arith, a)
-  | inr rest ↦ elim rest [
-    | inl b ↦ omega (arith, b)
-    | inr more ↦ elim more [
-      | inl c ↦ omega (arith, c)
-      | inr d ↦ omega (arith, d)
-    ]
-  ]
-]
 
 -- the object is there, and the chunk is one of those that it is charged for
 record IsCharged (z : Sizes) (x : Option Object) (c : ℕ) : Type 0 where
@@ -61,7 +49,7 @@ module _ (z : Sizes) (m : PageMap) (numbers : IsSizes z) where
   directory_charged : (o moment : ℕ) (entries : Entries) → HoldsDirectory z m o moment entries → (c : ℕ) → HasPage m o c → c ≤ ceiling (map.len entries) (page_slots z)
   directory_charged o moment entries h c page = elim (cases_lt (div_ceil (map.len entries) (page_slots z)) c) [
     | inl behind ↦ let two : None ≡ Some page.0 = sym (h.only c behind) ∙ page.1 in absurd cc
-    | inr within ↦ subst (λ n. c ≤ n) (ceiling_is (map.len entries) (page_slots z) (some_slots z numbers)) within
+    | inr within ↦ subst (λ n. c ≤ n) (ceiling_is (map.len entries) (page_slots z) (slots_some z numbers)) within
   ]
 
   -- a page is one of those that its object is charged for

@@ -5,7 +5,7 @@ use Rattle.page_tags.specs.SlotEntry.{entry_of}
 use Rattle.page_tags.specs.laws.Slot.{name_length_in, no_slot_by_object, no_slot_by_length, no_slot_by_name, no_slot_by_rest, slot_from_parts}
 use Rattle.page_tags.proofs.Ranges.{IsBytes-from_fits}
 use Rattle.page_tags.proofs.slot.decode_slot.Goals as goal
-use Rattle.page_tags.proofs.slot.decode_slot.Goals.{then-object-lt2-via-then-object-lt2, then-object-lt2-via-else-object-lt2+then-length-gt255, else-is_name-via-then-is_name+else-are_zero, else-is_name-via-else-is_name}
+use Rattle.page_tags.proofs.slot.decode_slot.Goals.{then-object-lt2-via-then-object-lt2, then-object-lt2-via-else-object-lt2+then-length-gt-NAME_LIMIT, else-is_name-via-then-is_name+else-are_zero, else-is_name-via-else-is_name}
 
 -- the two parts behind the numbers, by the length that was read
 name_part : (bytes name : List ℕ) (n m : ℕ) → n ≡ m → name ≡ take n (take (length bytes - 10) (drop 10 bytes)) → name ≡ take m (drop 10 bytes)
@@ -18,7 +18,7 @@ pub returns-then-object-lt2-clause-none : goal.returns-then-object-lt2-clause-no
 returns-then-object-lt2-clause-none c =
     elim c.then-object-lt2.branch [
       | then-object-lt2-via-then-object-lt2 w ↦ no_slot_by_object c.args.bytes.now (omega (arith, c.u64_at-object.ensures))
-      | then-object-lt2-via-else-object-lt2+then-length-gt255 w ↦ no_slot_by_length c.args.bytes.now (omega (arith, c.from-length.ensures, c.u16_at.ensures))
+      | then-object-lt2-via-else-object-lt2+then-length-gt-NAME_LIMIT w ↦ no_slot_by_length c.args.bytes.now (omega (arith, c.from-length.ensures, c.u16_at.ensures))
     ]
 
 pub returns-then-are_zero-clause-found : goal.returns-then-are_zero-clause-found

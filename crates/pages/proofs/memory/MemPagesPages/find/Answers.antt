@@ -1,19 +1,18 @@
 use Rattle.std.proofs.Common.{◌≡◌, ◌∙◌, ℕ, List, [], Some, None, slice_get, sym, ap, subst}
-use Rattle.pages.specs.Maps.{IsPageOf, IsFirstOf, with_pages}
+use Rattle.pages.specs.Maps.{IsPageOf, IsFirstOf, with_pages, no_pages}
 use Rattle.pages.specs.laws.Maps.{first_here, page_elsewhere}
-use Rattle.pages.specs.Memory.{nothing}
 use Rattle.pages.specs.Afterwards.{bytes_or}
 use Rattle.flash_tree.specs.declared.place.FreshPage.{FreshPage}
 use Rattle.pages.proofs.memory.MemPagesPages.find.Goals as goal
 
 -- the first page of a key is the one that it has
-there : (items : List FreshPage) (o c place : ℕ) (blank : List ℕ) → IsFirstOf items o c place → with_pages items nothing o c ≡ Some (bytes_or (slice_get items place) blank)
+there : (items : List FreshPage) (o c place : ℕ) (blank : List ℕ) → IsFirstOf items o c place → with_pages items no_pages o c ≡ Some (bytes_or (slice_get items place) blank)
 there items o c place blank first =
-    first_here items nothing o c place first.0.page first.0.there first.0.object first.0.chunk first.1
+    first_here items no_pages o c place first.0.page first.0.there first.0.object first.0.chunk first.1
     ∙ ap (λ x. Some (bytes_or x blank)) (sym first.0.there)
 
 -- and so it has one
-not_absent : (items : List FreshPage) (o c place : ℕ) → IsFirstOf items o c place → with_pages items nothing o c ≡ None → ⊥
+not_absent : (items : List FreshPage) (o c place : ℕ) → IsFirstOf items o c place → with_pages items no_pages o c ≡ None → ⊥
 not_absent items o c place first none =
     let both : None ≡ Some (bytes_or (slice_get items place) []) = sym none ∙ there items o c place [] first in
     absurd cc
@@ -45,4 +44,4 @@ returns-in_err-look_up-in-Some-clause-absent c = λ sound none.
 pub returns-in-None-clause-page : goal.returns-in-None-clause-page
 returns-in-None-clause-page c = λ sound.
     let none = subst (λ (ps : List FreshPage). (k : ℕ) → IsPageOf ps c.args.key.object c.args.key.chunk k → ⊥) c.deref.ensures.value (rw c.in-None.is at c.place_of.ensures.none) in
-    page_elsewhere c.args.self.now.pages.items nothing c.args.key.object c.args.key.chunk none
+    page_elsewhere c.args.self.now.pages.items no_pages c.args.key.object c.args.key.chunk none

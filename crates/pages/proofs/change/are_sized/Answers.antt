@@ -2,14 +2,14 @@ use Rattle.std.proofs.Common.{◌≡◌, ◌<◌, ◌∙◌, Some, slice_get, le
 use Rattle.std.proofs.lemmas.Bool.{cases_eq}
 use Rattle.std.proofs.lemmas.Option.{slice_get_read, slice_get_within}
 use Rattle.flash_tree.specs.declared.place.FreshPage.{FreshPage}
-use Rattle.test_store.proofs.change.are_sized.Goals as goal
+use Rattle.pages.proofs.change.are_sized.Goals as goal
 
 pub loop-page-preserved : goal.loop-page-preserved
 loop-page-preserved c = λ i p less at.
     let within : c.loop-page.page-index < length c.args.pages.now = omega arith in
     let here : slice_get c.args.pages.now c.loop-page.page-index ≡ Some c.page-item.result =
     slice_get_read c.args.pages.now (length c.args.pages.now) c.loop-page.page-index c.page-item.result refl within c.page-item.is in
-    let size : length c.page-item.result.bytes.items ≡ c.args.size = search rules in
+    let size : length c.page-item.result.bytes.items ≡ c.args.page_bytes = search rules in
     elim (cases_eq i c.loop-page.page-index) [
       | inr other ↦ c.loop-page.invariant i p (omega (arith, less, other)) at
       | inl same ↦
@@ -19,6 +19,8 @@ loop-page-preserved c = λ i p less at.
     ]
 
 pub returns : goal.returns
-returns c = λ _ i p at.
-    let within : i < length c.args.pages.now = slice_get_within c.args.pages.now i p at in
-    c.loop-page.invariant i p (omega (arith, within, c.loop-page-test.false)) at
+returns c =
+    (λ _ i p at.
+      let within : i < length c.args.pages.now = slice_get_within c.args.pages.now i p at in
+      c.loop-page.invariant i p (omega (arith, within, c.loop-page-test.false)) at,
+    λ _. refl)

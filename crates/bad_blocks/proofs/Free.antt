@@ -1,5 +1,5 @@
 -- What a free block is, and what it costs to take one.
-use Rattle.std.proofs.Common.{◌≡◌, ◌<◌, ◌≤◌, ◌+◌, ◌∙◌, ap, ℕ, Bool, true, false, not, ◌&&◌, nat_eq, refl, Result, inl, inr, arith}
+use Rattle.std.proofs.Common.{◌≡◌, ◌<◌, ◌≤◌, ◌+◌, ◌∙◌, ap, ℕ, Bool, true, false, not, ◌&&◌, nat_eq, refl, Result, Ok, Err, inl, inr, arith}
 use Rattle.std.proofs.lemmas.Bool.{eqb-true, cases_Bool}
 use Rattle.nand_model.specs.Flash.{Flash}
 use Rattle.nand_model.specs.Calls.{Device, Erases, Marks}
@@ -43,3 +43,8 @@ mark_costs b old new result does = elim (cases_Bool old.gone) [
   | inl gone ↦ let same : new.changes ≡ old.changes = ap (λ (d : Device). d.changes) (does.lasts.gone gone) in omega (arith, same)
   | inr power ↦ let one = does.changes power in omega (arith, one)
 ]
+
+-- and no failure
+pub mark_fails_not : (b : ℕ) (old new : Device) (result : Result (Unit {0}) Gone) → Marks b old new result → new.failures ≡ old.failures
+mark_fails_not b old new (Ok done) does = does.ends.failures
+mark_fails_not b old new (Err gone) does = does.ends.failures

@@ -11,7 +11,7 @@ use Rattle.bad_blocks.specs.Standing.{HasVersion}
 use Rattle.bad_blocks.specs.declared.copying.Copied.{Copied}
 use Rattle.bad_blocks.specs.declared.copying.Copied.TheVariants as ends
 use Rattle.bad_blocks.specs.declared.fault.MoveFault.{MoveFault}
-use Rattle.bad_blocks.specs.laws.Keeping.{had_power}
+use Rattle.flash_tree.specs.laws.Place.{had_power}
 
 module _ (t u : Table) (kept : (b : ℕ) → (u.entry b).kept ≡ (t.entry b).kept) where
   still : (b : ℕ) → 1 ≤ (t.entry b).kept → 1 ≤ (u.entry b).kept

@@ -10,4 +10,3 @@ pub mod Marked
 pub mod Retired
 pub mod RetireTurns
 pub mod Passing
-pub mod Costs

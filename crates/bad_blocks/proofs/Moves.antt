@@ -26,7 +26,7 @@ use Rattle.bad_blocks.specs.Telling.{Tells}
 use Rattle.bad_blocks.specs.declared.copying.Target.{Target}
 use Rattle.bad_blocks.proofs.KeptPages.{listed_or_not, name_is}
 use Rattle.bad_blocks.specs.laws.FreeBlocks.{free_where_stands}
-use Rattle.bad_blocks.specs.laws.Keeping.{had_power}
+use Rattle.flash_tree.specs.laws.Place.{had_power}
 use Rattle.bad_blocks.specs.laws.Moves.{same_kept_sum, may_lie_later, same_data}
 
 -- ---- counts

@@ -9,11 +9,11 @@ use Rattle.block_state.specs.laws.Kept.{free_where_closed, free_where_held}
 use Rattle.chunk_index.specs.declared.index.Index.{Index}
 use Rattle.chunk_index.specs.Kept.{HoldsNone}
 use Rattle.chunk_index.specs.Maps.{kept_pages}
-use Rattle.bad_blocks.specs.Moving.{Moves, MarksFailures, Costs, LiesIn, IsAway}
+use Rattle.bad_blocks.specs.Moving.{Moves, AnswersFailures, MarksFailures, Costs, LiesIn, IsAway}
 use Rattle.bad_blocks.specs.Retiring.{IsOut, IsRetired, RetireEnds, open_failures}
 use Rattle.bad_blocks.specs.Standing.{Stands}
 use Rattle.bad_blocks.specs.declared.fault.MoveFault.{MoveFault}
-use Rattle.bad_blocks.proofs.Costs.{costs_join}
+use Rattle.bad_blocks.specs.laws.Costs.{costs_join}
 use Rattle.bad_blocks.specs.laws.Turns.{moves_out_on, moves_join}
 
 -- a suspect copy is a failure without its mark
@@ -30,6 +30,7 @@ pub record Retiring (spare v : ℕ) (d0 d : Device) (t0 t : Table) (x0 x : Index
   pub moves : Moves v d0 d t0 t x0 x
   pub stands : Stands spare d t x
   pub marks : MarksFailures 1 (open_of suspect) d0 d t0 t
+  pub answers : AnswersFailures 1 (open_of suspect) d0 d t0 t
   pub costs : Costs (d0.geometry.pages + 2) (d0.geometry.pages + 2) (open_of suspect) d0 d
   pub out : IsOut v spare t0 t suspect
   pub power : d.gone ≡ false
@@ -68,6 +69,11 @@ module _ (spare v w : ℕ) (d0 d : Device) (t0 t : Table) (x0 x : Index) (r : Re
       let second : bad_count t' + d.failures + o ≤ bad_count t + d'.failures + 1 = marks in
       omega (arith, first, second)
 
+  pub answers_next : (o : ℕ) (d' : Device) (t' : Table) → AnswersFailures 1 o d d' t t' → AnswersFailures 1 o d0 d' t0 t'
+  answers_next o d' t' answers = let first : bad_count t0 + d.failures + 1 ≤ bad_count t + d0.failures + 1 = r.answers in
+      let second : bad_count t + d'.failures + 1 ≤ bad_count t' + d.failures + o = answers in
+      omega (arith, first, second)
+
   pub costs_next : (o : ℕ) (d' : Device) → Costs (d.geometry.pages + 2) (d.geometry.pages + 2) o d d' → Costs (d0.geometry.pages + 2) (d0.geometry.pages + 2) o d0 d'
   costs_next o d' costs = costs_join (d0.geometry.pages + 2) o d0 d d' r.costs (subst (λ (g : Geometry). Costs (g.pages + 2) (g.pages + 2) o d d') r.moves.lasts.geometry costs)
 
@@ -103,12 +109,13 @@ module _ (spare v w : ℕ) (d0 d : Device) (t0 t : Table) (x0 x : Index) (r : Re
     unkept_on None (k, l) = l.lies.elsewhere v not_first (λ e. let two : true ≡ false = sym later ∙ ap (λ b. (t'.entry b).bad) e ∙ l.lies.good in cc) ∙ r.out.unkept
     unkept_on (Some k) (l, closed) = l.elsewhere v not_first (λ e. let two : true ≡ false = sym later ∙ ap (λ b. (t'.entry b).bad) e ∙ l.good in cc) ∙ r.out.unkept
 
-    pub retiring_next : Stands spare d' t' x' → MarksFailures 1 (open_of suspect) d d' t t' → Costs (d.geometry.pages + 2) (d.geometry.pages + 2) (open_of suspect) d d' → d'.gone ≡ false
+    pub retiring_next : Stands spare d' t' x' → MarksFailures 1 (open_of suspect) d d' t t' → AnswersFailures 1 (open_of suspect) d d' t t' → Costs (d.geometry.pages + 2) (d.geometry.pages + 2) (open_of suspect) d d' → d'.gone ≡ false
         → Retiring spare v d0 d' t0 t' x0 x' suspect
-    retiring_next stands marks costs power = record {
+    retiring_next stands marks answers costs power = record {
       moves = moves_next d' t' x' none moves;
       stands = stands;
       marks = marks_next (open_of suspect) d' t' marks;
+      answers = answers_next (open_of suspect) d' t' answers;
       costs = costs_next (open_of suspect) d' costs;
       out = record {
         bad = later;

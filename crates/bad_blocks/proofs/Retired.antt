@@ -82,15 +82,19 @@ module _ (spare v : ℕ) (d1 d2 d3 : Device) (t1 t2 t3 : Table) (x y : Index) (g
   pub bad_marked : bad_count t3 ≤ bad_count t2 + 1
   bad_marked = one_more_bad v d2 d3 t2 t3 gone inside empty marks notes moves.ready
 
-  pub more_bad : (t2.entry v).bad ≡ false → (t3.entry v).bad ≡ true → bad_count t1 < bad_count t3
-  more_bad good is =
+  pub one_bad : (t2.entry v).bad ≡ false → (t3.entry v).bad ≡ true → bad_count t3 ≡ bad_count t2 + 1
+  one_bad good is =
       let sets : Sets v (record (t2.entry v) { bad = true }) t2 t3 = record {
         here = notes.sets.here ∙ ap (λ b. record (t2.entry v) { bad = b }) (sym (ap (λ (e : BlockEntry). e.bad) notes.sets.here) ∙ is);
         others = notes.sets.others;
         geometry = notes.sets.geometry;
         next_group = notes.sets.next_group;
       } in
-      let more : bad_count t3 ≡ bad_count t2 + 1 = mark_bad t2 t3 v sets inside good in
+      mark_bad t2 t3 v sets inside good
+
+  pub more_bad : (t2.entry v).bad ≡ false → (t3.entry v).bad ≡ true → bad_count t1 < bad_count t3
+  more_bad good is =
+      let more = one_bad good is in
       let rises : bad_count t1 ≤ bad_count t2 = bad_rises t1 t2 moves.geometry moves.marks in
       omega (arith, more, rises)
 

@@ -26,7 +26,7 @@ use Rattle.bad_blocks.specs.Taking.{Takes, CostsATake}
 use Rattle.bad_blocks.specs.declared.copying.Copied.{Copied}
 use Rattle.bad_blocks.specs.declared.copying.Copied.TheVariants as ends
 use Rattle.bad_blocks.specs.declared.fault.MoveFault.{MoveFault}
-use Rattle.bad_blocks.proofs.Costs.{each_more}
+use Rattle.bad_blocks.specs.laws.Costs.{each_more}
 use Rattle.bad_blocks.proofs.Passing.{passes_marked}
 use Rattle.bad_blocks.specs.laws.KeptPages.{kept_where, data_where}
 use Rattle.bad_blocks.proofs.KeptPages.{is_of_copies, are_copied, data_copied}
@@ -117,7 +117,7 @@ fresh_taken w d0 d1 t u passes ready takes power = record {
 -- ---- costs
 
 pub costs_once : (pages count : ℕ) (d0 d1 d2 : Device) (r : Result Copied MoveFault) → count ≤ pages → Lasts d0 d1 → CostsATake d0 d1 → Lasts d1 d2 → CopiesCost count d1 d2 r
-    → Costs (most_changes pages r) (pages + 2) (left_open r) d0 d2
+    → Costs (most_changes count r) (pages + 2) (left_open r) d0 d2
 costs_once pages count d0 d1 d2 (Ok (ends.Into target)) few first take second (changes, failures) =
     let more = each_more (pages + 2) d0.failures d1.failures (omega arith) first.failures in
     let s : ℕ = if target.suspect then 1 else 0 in

@@ -120,9 +120,9 @@ left_open (Err fault) = 0
 
 -- Copies that were made are an erase and their programs; and each failure an erase, programs and a mark.
 abbrev pub most_changes : ℕ → Result Copied MoveFault → ℕ
-most_changes pages (Ok (ends.Into target)) = pages + 1
-most_changes pages (Ok ends.Marked) = 0
-most_changes pages (Err fault) = pages + 1
+most_changes count (Ok (ends.Into target)) = count + 1
+most_changes count (Ok ends.Marked) = 0
+most_changes count (Err fault) = count + 1
 
 -- What the writing costs: each page a program, and a failure a mark besides.
 abbrev pub CopiesCost : ℕ → Device → Device → Result Copied MoveFault → Type 0

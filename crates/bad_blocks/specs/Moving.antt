@@ -52,6 +52,10 @@ pub record Moves (v : ℕ) (old new : Device) (t t' : Table) (x x' : Index) : Ty
 abbrev pub MarksFailures : (more unanswered : ℕ) → Device → Device → Table → Table → Type 0
 MarksFailures more unanswered old new t t' = bad_count t' + old.failures + unanswered ≤ bad_count t + new.failures + more
 
+-- Each failure that the device counted, but those that are unanswered, has its mark, and `more` marks answer none.
+abbrev pub AnswersFailures : (more unanswered : ℕ) → Device → Device → Table → Table → Type 0
+AnswersFailures more unanswered old new t t' = bad_count t + new.failures + more ≤ bad_count t' + old.failures + unanswered
+
 -- the device counts at most so many changes, and so many besides for each failure but those that are unanswered
 abbrev pub Costs : (changes each unanswered : ℕ) → Device → Device → Type 0
 Costs changes each unanswered old new = new.changes + each * (old.failures + unanswered) ≤ old.changes + each * new.failures + changes

@@ -3,3 +3,4 @@ pub mod KeptPages
 pub mod Moves
 pub mod Turns
 pub mod FreeBlocks
+pub mod Costs

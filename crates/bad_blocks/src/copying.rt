@@ -5,7 +5,7 @@ ghost use Rattle.block_state.specs.Kept.{bad_count};
 ghost use Rattle.block_state.specs.TableOf.{table};
 ghost use Rattle.transactions.specs.Ready.{IsReady};
 ghost use Rattle.bad_blocks.specs.Taking.{HasUnkept};
-ghost use Rattle.bad_blocks.specs.Moving.{MarksFailures, Costs};
+ghost use Rattle.bad_blocks.specs.Moving.{AnswersFailures, MarksFailures, Costs};
 ghost use Rattle.bad_blocks.specs.Copying.{MayBeCopied, KeepsCounts, KeepsDataAt, NewestAfterCopies, StayOrLieApart, CopiesEnd, CopiesCost, FewBad, IsFresh, left_open, most_changes, as_copied};
 
 use crate::fault::MoveFault;
@@ -46,6 +46,7 @@ fn write_copies<N: Nand>(
     requires copies { MayBeCopied (N.state device.old) (table blocks.old) copies.now }
     ensures keeps { KeepsCounts (N.state device.old) (N.state device.new) (table blocks.old) (table blocks.new) }
     ensures marks { MarksFailures 0 (left_open result) (N.state device.old) (N.state device.new) (table blocks.old) (table blocks.new) }
+    ensures answers { OnOk result (AnswersFailures 0 (left_open result) (N.state device.old) (N.state device.new) (table blocks.old) (table blocks.new)) }
     ensures costs { CopiesCost (length copies.now) (N.state device.old) (N.state device.new) result }
     ensures data { (N.state device.old).honest ≡ true → KeepsDataAt (table blocks.old) (N.state device.old).flash (N.state device.new).flash }
     ensures newest { (N.state device.old).honest ≡ true → (N.state device.new).gone ≡ false
@@ -84,7 +85,8 @@ fn copy_once<N: Nand>(
     requires copies { MayBeCopied (N.state device.old) (table blocks.old) copies.now }
     ensures keeps { KeepsCounts (N.state device.old) (N.state device.new) (table blocks.old) (table blocks.new) }
     ensures marks { MarksFailures 0 (left_open result) (N.state device.old) (N.state device.new) (table blocks.old) (table blocks.new) }
-    ensures costs { Costs (most_changes (N.state device.old).geometry.pages result) ((N.state device.old).geometry.pages + 2) (left_open result) (N.state device.old) (N.state device.new) }
+    ensures answers { OnOk result (AnswersFailures 0 (left_open result) (N.state device.old) (N.state device.new) (table blocks.old) (table blocks.new)) }
+    ensures costs { Costs (most_changes (length copies.now) result) ((N.state device.old).geometry.pages + 2) (left_open result) (N.state device.old) (N.state device.new) }
     ensures data { (N.state device.old).honest ≡ true → KeepsDataAt (table blocks.old) (N.state device.old).flash (N.state device.new).flash }
     ensures newest { (N.state device.old).honest ≡ true → (N.state device.new).gone ≡ false
         → NewestAfterCopies copies.now (table blocks.old) (N.state device.old).flash (N.state device.new).flash result }
@@ -114,7 +116,8 @@ pub(crate) fn copy_listed<N: Nand>(
     requires copies { MayBeCopied (N.state device.old) (table blocks.old) copies.now }
     ensures keeps { KeepsCounts (N.state device.old) (N.state device.new) (table blocks.old) (table blocks.new) }
     ensures marks { MarksFailures 0 (left_open (as_copied result)) (N.state device.old) (N.state device.new) (table blocks.old) (table blocks.new) }
-    ensures costs { Costs ((N.state device.old).geometry.pages + 1) ((N.state device.old).geometry.pages + 2) (left_open (as_copied result)) (N.state device.old) (N.state device.new) }
+    ensures answers { OnOk result (AnswersFailures 0 (left_open (as_copied result)) (N.state device.old) (N.state device.new) (table blocks.old) (table blocks.new)) }
+    ensures costs { Costs (length copies.now + 1) ((N.state device.old).geometry.pages + 2) (left_open (as_copied result)) (N.state device.old) (N.state device.new) }
     ensures data { (N.state device.old).honest ≡ true → KeepsDataAt (table blocks.old) (N.state device.old).flash (N.state device.new).flash }
     ensures newest { (N.state device.old).honest ≡ true → (N.state device.new).gone ≡ false
         → NewestAfterCopies copies.now (table blocks.old) (N.state device.old).flash (N.state device.new).flash (as_copied result) }

@@ -4,7 +4,7 @@ ghost use Rattle.block_state.specs.Kept.{bad_count};
 ghost use Rattle.block_state.specs.TableOf.{table};
 ghost use Rattle.transactions.specs.Ready.{IsReady};
 ghost use Rattle.bad_blocks.specs.Lists.{IsListed};
-ghost use Rattle.bad_blocks.specs.Moving.{Moves, MarksFailures, Costs, MoveEnds, unanswered};
+ghost use Rattle.bad_blocks.specs.Moving.{Moves, AnswersFailures, MarksFailures, Costs, MoveEnds, unanswered};
 ghost use Rattle.bad_blocks.specs.Room.{IsRoomFor};
 ghost use Rattle.bad_blocks.specs.Standing.{Stands, KeepsFree};
 
@@ -45,7 +45,8 @@ fn move_listed<N: Nand>(
     ensures stands { Stands spare (N.state device.new) (table blocks.new) index.new }
     ensures free { KeepsFree spare (N.state device.old) (N.state device.new) index.old index.new }
     ensures marks { MarksFailures 0 (unanswered result) (N.state device.old) (N.state device.new) (table blocks.old) (table blocks.new) }
-    ensures costs { Costs ((N.state device.old).geometry.pages + 1) ((N.state device.old).geometry.pages + 2) (unanswered result) (N.state device.old) (N.state device.new) }
+    ensures answers { OnOk result (AnswersFailures 0 (unanswered result) (N.state device.old) (N.state device.new) (table blocks.old) (table blocks.new)) }
+    ensures costs { Costs (length copies.now + 1) ((N.state device.old).geometry.pages + 2) (unanswered result) (N.state device.old) (N.state device.new) }
     ensures few { OnOk result (bad_count (table blocks.new) ≤ spare) }
     ensures ends { (v : ℕ) → IsListed v (table blocks.old) index.old copies.now
         → MoveEnds v spare (N.state device.new) (table blocks.old) (table blocks.new) result }
@@ -81,7 +82,8 @@ pub fn move_kept<N: Nand>(
     ensures stands { Stands spare (N.state device.new) (table blocks.new) index.new }
     ensures free { KeepsFree spare (N.state device.old) (N.state device.new) index.old index.new }
     ensures marks { MarksFailures 0 (unanswered result) (N.state device.old) (N.state device.new) (table blocks.old) (table blocks.new) }
-    ensures costs { Costs ((N.state device.old).geometry.pages + 1) ((N.state device.old).geometry.pages + 2) (unanswered result) (N.state device.old) (N.state device.new) }
+    ensures answers { OnOk result (AnswersFailures 0 (unanswered result) (N.state device.old) (N.state device.new) (table blocks.old) (table blocks.new)) }
+    ensures costs { Costs (((table blocks.old).entry block).kept + 1) ((N.state device.old).geometry.pages + 2) (unanswered result) (N.state device.old) (N.state device.new) }
     ensures few { OnOk result (bad_count (table blocks.new) ≤ spare) }
     ensures ends { MoveEnds block spare (N.state device.new) (table blocks.old) (table blocks.new) result }
     ensures room { IsRoomFor (N.state device.new).geometry room.new }

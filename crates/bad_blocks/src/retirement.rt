@@ -1,5 +1,5 @@
 // The retirement of a block.
-ghost use Rattle.std.specs.Prelude.{◌≡◌, ◌≢◌, ◌<◌, ◌≤◌, ◌+◌, ℕ, true, false, Some, None, Result};
+ghost use Rattle.std.specs.Prelude.{◌≡◌, ◌≢◌, ◌<◌, ◌≤◌, ◌+◌, ℕ, true, false, Some, None, Result, OnOk};
 ghost use Rattle.nand_model.specs.Calls.{Marks};
 ghost use Rattle.nand_model.specs.declared.nand.Gone.{Gone};
 ghost use Rattle.flash_tree.specs.Keeping.{KeepsElsewhere};
@@ -8,7 +8,7 @@ ghost use Rattle.transactions.specs.Marking.{NotesMark};
 ghost use Rattle.block_state.specs.Kept.{bad_count};
 ghost use Rattle.block_state.specs.TableOf.{table};
 ghost use Rattle.transactions.specs.Ready.{IsReady};
-ghost use Rattle.bad_blocks.specs.Moving.{Moves, MarksFailures, Costs};
+ghost use Rattle.bad_blocks.specs.Moving.{Moves, AnswersFailures, MarksFailures, Costs};
 ghost use Rattle.bad_blocks.specs.Retiring.{EmptyEnds, MarkedEnds, OneEnds, RetireEnds, open_failures};
 ghost use Rattle.bad_blocks.specs.Room.{IsRoomFor};
 ghost use Rattle.bad_blocks.specs.Standing.{Stands, KeepsFree};
@@ -41,6 +41,7 @@ fn empty_block<N: Nand>(
     ensures stands { Stands spare (N.state device.new) (table blocks.new) index.new }
     ensures free { KeepsFree spare (N.state device.old) (N.state device.new) index.old index.new }
     ensures marks { MarksFailures 0 (open_failures result) (N.state device.old) (N.state device.new) (table blocks.old) (table blocks.new) }
+    ensures answers { OnOk result (AnswersFailures 0 (open_failures result) (N.state device.old) (N.state device.new) (table blocks.old) (table blocks.new)) }
     ensures costs { Costs ((N.state device.old).geometry.pages + 1) ((N.state device.old).geometry.pages + 2) (open_failures result) (N.state device.old) (N.state device.new) }
     ensures ends { EmptyEnds block spare (N.state device.new) (table blocks.old) (table blocks.new) result }
     ensures room { IsRoomFor (N.state device.new).geometry room.new }
@@ -102,6 +103,7 @@ fn retire_one<N: Nand>(
     ensures stands { Stands spare (N.state device.new) (table blocks.new) index.new }
     ensures free { KeepsFree spare (N.state device.old) (N.state device.new) index.old index.new }
     ensures marks { MarksFailures 1 (open_failures result) (N.state device.old) (N.state device.new) (table blocks.old) (table blocks.new) }
+    ensures answers { OnOk result (AnswersFailures 1 (open_failures result) (N.state device.old) (N.state device.new) (table blocks.old) (table blocks.new)) }
     ensures costs { Costs ((N.state device.old).geometry.pages + 2) ((N.state device.old).geometry.pages + 2) (open_failures result) (N.state device.old) (N.state device.new) }
     ensures ends { OneEnds block spare (N.state device.new) (table blocks.old) (table blocks.new) result }
     ensures room { IsRoomFor (N.state device.new).geometry room.new }
@@ -132,6 +134,7 @@ fn retire_all<N: Nand>(
     ensures stands { Stands spare (N.state device.new) (table blocks.new) index.new }
     ensures free { KeepsFree spare (N.state device.old) (N.state device.new) index.old index.new }
     ensures marks { MarksFailures 1 0 (N.state device.old) (N.state device.new) (table blocks.old) (table blocks.new) }
+    ensures answers { OnOk result (AnswersFailures 1 0 (N.state device.old) (N.state device.new) (table blocks.old) (table blocks.new)) }
     ensures costs { Costs ((N.state device.old).geometry.pages + 2) ((N.state device.old).geometry.pages + 2) 0 (N.state device.old) (N.state device.new) }
     ensures ends { RetireEnds block spare (N.state device.new) (table blocks.old) (table blocks.new) result }
     ensures room { IsRoomFor (N.state device.new).geometry room.new }
@@ -163,8 +166,9 @@ pub fn retire<N: Nand>(
     ensures moves { Moves block (N.state device.old) (N.state device.new) (table blocks.old) (table blocks.new) index.old index.new }
     ensures stands { Stands spare (N.state device.new) (table blocks.new) index.new }
     ensures free { KeepsFree spare (N.state device.old) (N.state device.new) index.old index.new }
-    // Each mark but that of the block answers a failure.
+    // Each mark but that of the block answers a failure, and after Ok each failure has its mark.
     ensures marks { MarksFailures 1 0 (N.state device.old) (N.state device.new) (table blocks.old) (table blocks.new) }
+    ensures answers { OnOk result (AnswersFailures 1 0 (N.state device.old) (N.state device.new) (table blocks.old) (table blocks.new)) }
     ensures costs { Costs ((N.state device.old).geometry.pages + 2) ((N.state device.old).geometry.pages + 2) 0 (N.state device.old) (N.state device.new) }
     ensures ends { RetireEnds block spare (N.state device.new) (table blocks.old) (table blocks.new) result }
     ensures room { IsRoomFor (N.state device.new).geometry room.new }

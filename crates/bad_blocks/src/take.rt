@@ -5,6 +5,7 @@ ghost use Rattle.block_state.specs.Kept.{bad_count};
 ghost use Rattle.block_state.specs.TableOf.{table};
 ghost use Rattle.transactions.specs.Handing.{HandsOut};
 ghost use Rattle.transactions.specs.Ready.{IsReady};
+ghost use Rattle.bad_blocks.specs.Moving.{AnswersFailures};
 ghost use Rattle.bad_blocks.specs.Passing.{Passes};
 ghost use Rattle.bad_blocks.specs.Taking.{HasUnkept, IsItsTurn, TakesTurn, TriesOne, AsManyBad, TakeEnds, CostsATry, CostsATake};
 
@@ -39,6 +40,7 @@ fn try_block<N: Nand>(device: &mut N, blocks: &mut Blocks) -> Result<Tried, Gone
     ensures ready { IsReady (N.state device.new) (table blocks.new) }
     ensures numbers { HandsOut (N.state device.old) (N.state device.new) (table blocks.old) (table blocks.new) }
     ensures passes { Passes (N.state device.old) (N.state device.new) (table blocks.old) (table blocks.new) }
+    ensures answers { OnOk result (AnswersFailures 0 0 (N.state device.old) (N.state device.new) (table blocks.old) (table blocks.new)) }
     ensures costs { CostsATry (N.state device.old) (N.state device.new) result }
     ensures few { AsManyBad (table blocks.old) (table blocks.new) result }
     ensures turn { TakesTurn (table blocks.old) (table blocks.new) result }
@@ -70,6 +72,8 @@ pub fn take_block<N: Nand>(
     ensures ready { IsReady (N.state device.new) (table blocks.new) }
     ensures numbers { HandsOut (N.state device.old) (N.state device.new) (table blocks.old) (table blocks.new) }
     ensures passes { Passes (N.state device.old) (N.state device.new) (table blocks.old) (table blocks.new) }
+    // Where a block is taken, each failure before has its mark.
+    ensures answers { OnOk result (AnswersFailures 0 0 (N.state device.old) (N.state device.new) (table blocks.old) (table blocks.new)) }
     ensures costs { CostsATake (N.state device.old) (N.state device.new) }
     ensures few { OnOk result (bad_count (table blocks.new) ≤ spare) }
     ensures turn { IfOk result (λ block. IsItsTurn block (table blocks.old) (table blocks.new)) }

@@ -1,9 +1,9 @@
 // The collection of a block.
-ghost use Rattle.std.specs.Prelude.{◌≡◌, ◌<◌, ◌≤◌, ◌+◌, ℕ, false};
+ghost use Rattle.std.specs.Prelude.{◌≡◌, ◌<◌, ◌≤◌, ◌+◌, ℕ, false, OnOk};
 ghost use Rattle.block_state.specs.Kept.{bad_count};
 ghost use Rattle.block_state.specs.TableOf.{table};
 ghost use Rattle.transactions.specs.Ready.{IsReady};
-ghost use Rattle.bad_blocks.specs.Moving.{Moves, MarksFailures, Costs};
+ghost use Rattle.bad_blocks.specs.Moving.{Moves, AnswersFailures, MarksFailures, Costs};
 ghost use Rattle.bad_blocks.specs.Room.{IsRoomFor};
 ghost use Rattle.bad_blocks.specs.Standing.{Stands, KeepsFree};
 ghost use Rattle.collector.specs.Making.{CollectEnds};
@@ -34,7 +34,8 @@ pub(crate) fn collect<N: Nand>(
     ensures stands { Stands spare (N.state device.new) (table blocks.new) index.new }
     ensures free { KeepsFree spare (N.state device.old) (N.state device.new) index.old index.new }
     ensures marks { MarksFailures 0 0 (N.state device.old) (N.state device.new) (table blocks.old) (table blocks.new) }
-    ensures costs { Costs ((N.state device.old).geometry.pages + 1) ((N.state device.old).geometry.pages + 2) 0 (N.state device.old) (N.state device.new) }
+    ensures answers { OnOk result (AnswersFailures 0 0 (N.state device.old) (N.state device.new) (table blocks.old) (table blocks.new)) }
+    ensures costs { Costs (((table blocks.old).entry block).kept + 1) ((N.state device.old).geometry.pages + 2) 0 (N.state device.old) (N.state device.new) }
     ensures ends { CollectEnds block spare (N.state device.new) (table blocks.old) (table blocks.new) result }
     ensures room { IsRoomFor (N.state device.new).geometry room.new }
 {

@@ -1,9 +1,10 @@
 // The making of room.
-ghost use Rattle.std.specs.Prelude.{◌≡◌, ◌≤◌, ◌+◌, ℕ, IsOk};
+ghost use Rattle.std.specs.Prelude.{◌≡◌, ◌≤◌, ◌+◌, ℕ, IsOk, OnOk};
 ghost use Rattle.block_state.specs.Kept.{bad_count};
+ghost use Rattle.block_state.specs.Table.{IsFewest};
 ghost use Rattle.block_state.specs.TableOf.{table};
 ghost use Rattle.transactions.specs.Ready.{IsReady};
-ghost use Rattle.bad_blocks.specs.Moving.{Moves, MarksFailures, Costs};
+ghost use Rattle.bad_blocks.specs.Moving.{Moves, AnswersFailures, MarksFailures, Costs};
 ghost use Rattle.bad_blocks.specs.Room.{IsRoomFor};
 ghost use Rattle.bad_blocks.specs.Standing.{Stands, KeepsFree};
 ghost use Rattle.bad_blocks.specs.Taking.{CostsATake};
@@ -38,7 +39,11 @@ pub fn make_room<N: Nand>(
     ensures stands { Stands spare (N.state device.new) (table blocks.new) index.new }
     ensures free { KeepsFree spare (N.state device.old) (N.state device.new) index.old index.new }
     ensures marks { MarksFailures 0 0 (N.state device.old) (N.state device.new) (table blocks.old) (table blocks.new) }
+    ensures answers { OnOk result (AnswersFailures 0 0 (N.state device.old) (N.state device.new) (table blocks.old) (table blocks.new)) }
     ensures costs { Costs ((N.state device.old).geometry.pages + 1) ((N.state device.old).geometry.pages + 2) 0 (N.state device.old) (N.state device.new) }
+    // But for failures, an erase and a program for each page that is kept in the block with the fewest are enough.
+    ensures costs_fewest { (v : ℕ) → IsFewest (table blocks.old) (table blocks.old).geometry.blocks v
+        → Costs (((table blocks.old).entry v).kept + 1) ((N.state device.old).geometry.pages + 2) 0 (N.state device.old) (N.state device.new) }
     // While blocks are left that can be taken, no more is done than the taking of one.
     ensures takes { HasMore (table blocks.old) spare → CostsATake (N.state device.old) (N.state device.new) }
     ensures ends { RoomEnds count spare (N.state device.old) (N.state device.new) (table blocks.old) (table blocks.new) result }

@@ -171,10 +171,3 @@ keeps_closed d t u is ready = keeps_same d d t u
       let same = ap (λ (x : Table). x.next_group) is in omega (arith, same, groups),
       let same = ap (λ (x : Table). x.next_seq) is in omega (arith, same, seqs),
     ))
-
--- a device that has power had it before
-pub had_power : (a b : Device) → Lasts a b → b.gone ≡ false → a.gone ≡ false
-had_power a b lasts is = elim (cases_Bool a.gone) [
-  | inr power ↦ power
-  | inl gone ↦ let two : true ≡ false = sym gone ∙ sym (ap (λ (d : Device). d.gone) (lasts.gone gone)) ∙ is in absurd cc
-]

@@ -19,7 +19,7 @@ use Rattle.chunk_index.specs.Shelves.{look}
 use Rattle.bad_blocks.specs.Copying.{KeepsCounts, KeepsKeptAt, KeepsDataAt}
 use Rattle.bad_blocks.specs.Moving.{Moves, MovesOut}
 use Rattle.bad_blocks.specs.Standing.{SameData, HasVersion, MayLie, AreHeld, Stands}
-use Rattle.bad_blocks.specs.laws.Keeping.{had_power}
+use Rattle.flash_tree.specs.laws.Place.{had_power}
 
 -- ---- the index
 

@@ -22,6 +22,7 @@ loop-target-init g c =
     record {
       keeps = keeps;
       marks = omega (arith, bad);
+      answers = omega (arith, bad);
       costs = omega arith;
       stored = λ honest. data_here t d.flash;
       newest = λ honest. kept_here t d.flash;
@@ -83,6 +84,7 @@ loop-target-preserved g c =
     record {
       keeps = keeps_on d0 d1 d2 t u v so_far.keeps tried.keeps;
       marks = omega (arith, so_far.marks, tried.marks);
+      answers = omega (arith, so_far.answers, tried.answers);
       costs = search rules;
       stored = λ honest. data_on t u so_far.keeps.kept d0 d1 d2 tried.keeps.lasts (λ _. so_far.newest honest) (so_far.stored honest) (tried.data (so_far.keeps.lasts.honest ∙ honest));
       newest = λ honest. kept_on t u so_far.keeps.kept d0.flash d1.flash d2.flash

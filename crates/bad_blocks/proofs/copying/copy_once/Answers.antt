@@ -1,7 +1,8 @@
 use Rattle.std.proofs.Common.{◌∙◌, length, arith, inl}
-use Rattle.std.proofs.lemmas.Result.{err_from_is_err_and}
+use Rattle.std.proofs.lemmas.Result.{err_from_is_err_and, on_ok_weaker}
 use Rattle.block_state.specs.TableOf.{table}
 use Rattle.bad_blocks.specs.laws.Keeping.{same_here, keeps_passes, keeps_nothing, keeps_on}
+use Rattle.bad_blocks.specs.laws.Costs.{costs_taken}
 use Rattle.bad_blocks.proofs.Keeping.{may_later, data_on, newest_on, apart_on}
 use Rattle.bad_blocks.specs.laws.KeptPages.{kept_where, data_where}
 use Rattle.bad_blocks.proofs.Writing.{fresh_taken, costs_once, ends_on}
@@ -77,3 +78,14 @@ returns-clause-apart g c = λ honest.
 
 pub returns-then-next_group-ge-NUMBER_END-clause-keeps : goal.returns-then-next_group-ge-NUMBER_END-clause-keeps
 returns-then-next_group-ge-NUMBER_END-clause-keeps g c = keeps_nothing _ (table c.args.blocks.now) c.requires.ready
+
+pub returns-clause-answers : goal.returns-clause-answers
+returns-clause-answers g c =
+    let first = c.in_ok-block.ensures.answers in
+    on_ok_weaker c.write_copies.result (λ then. omega (arith, first, then)) c.write_copies.ensures.answers
+
+pub returns-in_err-block-clause-costs : goal.returns-in_err-block-clause-costs
+returns-in_err-block-clause-costs g c =
+    let took = c.take_block.ensures in
+    let p = err_from_is_err_and c.from_residual.result c.from_residual.ensures.1 in
+    rw p.1 (costs_taken (g.N.Nand.state c.args.device.now).geometry.pages (length c.args.copies.now) (g.N.Nand.state c.args.device.now) (g.N.Nand.state c.take_block.new.device) took.lasts took.costs)

@@ -201,3 +201,18 @@ returns-in-Ok-mark_block-clause-apart g c =
     let passes = passes_failed c.args.copies.now c.args.block d0 d1 d2 t (table c.write_group.new.blocks) (table c.mark_block.new.blocks) _ c.requires.fresh c.requires.copies
     wrote.lasts wrote.ends.0 wrote.grows (λ honest. wrote.groups honest c.args.block c.requires.fresh.open_block) wrote.table marked.marks marked.newest marked.notes in
     λ honest. inl (kept_where d0.flash d2.flash (closed t) (passes.newest honest))
+
+pub returns-in-Ok-clause-answers : goal.returns-in-Ok-clause-answers
+returns-in-Ok-clause-answers g c =
+    let wrote = c.in-Ok.ensures in
+    let same : bad_count (table c.write_group.new.blocks) ≡ bad_count (table c.args.blocks.now) = same_bad_count _ _ (same_ends (length c.args.copies.now) _ _ (Ok c.in-Ok.placed) wrote.table) in
+    omega (arith, same, wrote.ends.0)
+
+pub returns-in-Ok-mark_block-clause-answers : goal.returns-in-Ok-mark_block-clause-answers
+returns-in-Ok-mark_block-clause-answers g c =
+    let t : Table = table c.args.blocks.now in
+    let wrote = rw c.in-Err-Failed.field-0-is at c.in-Err-Failed.ensures in
+    let notes = subst (λ (x : Table). NotesMark c.args.block (g.N.Nand.state c.mark_block.new.device).flash x (table c.mark_block.new.blocks)) wrote.table c.mark_block.ensures.notes in
+    let marks = c.in-Ok-mark_block.ensures.marks in
+    let more : bad_count (table c.mark_block.new.blocks) ≡ bad_count t + 1 = one_more c.args.block _ (closed t) _ c.requires.fresh.within c.requires.fresh.good marks.bad notes in
+    omega (arith, more, wrote.ends.0, marks.ends.failures)

@@ -1,5 +1,6 @@
-use Rattle.std.proofs.Common.{ap, arith}
+use Rattle.std.proofs.Common.{◌≡◌, length, sym, ap, ◌∙◌, arith}
 use Rattle.nand_model.specs.declared.geometry.Geometry.{Geometry}
+use Rattle.block_state.specs.TableOf.{table}
 use Rattle.bad_blocks.proofs.moving.move_kept.Goals as goal
 
 pub list-requires-clause-keys : goal.list-requires-clause-keys
@@ -17,3 +18,8 @@ list-requires-clause-copies g c =
     let count = tables.counts.counts c.args.block in
     let pages = ap (λ (x : Geometry). x.pages) c.requires.ready.geometry in
     omega (arith, fits, count, pages, c.requires.room.copies)
+
+pub returns-clause-costs : goal.returns-clause-costs
+returns-clause-costs g c =
+    let count : length c.list.new.self.copies.items ≡ ((table c.args.blocks.now).entry c.args.block).kept = c.list.ensures.count ∙ sym (c.requires.stands.tables.counts.counts c.args.block) in
+    omega (arith, count, c.move_listed.ensures.costs)

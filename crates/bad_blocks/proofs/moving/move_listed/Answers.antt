@@ -1,9 +1,10 @@
-use Rattle.std.proofs.Common.{◌≡◌, ◌≢◌, ◌<◌, ◌≤◌, ℕ, sym, ap, subst, ◌∙◌, arith}
+use Rattle.std.proofs.Common.{◌≡◌, ◌≢◌, ◌<◌, ◌≤◌, ℕ, Bool, if◌then◌else◌, sym, ap, subst, ◌∙◌, arith}
 use Rattle.std.proofs.lemmas.Result.{err_from_is_err_and}
 use Rattle.nand_model.specs.Calls.{Device}
 use Rattle.nand_model.specs.declared.geometry.Geometry.{Geometry}
 use Rattle.block_state.specs.Table.{Table}
 use Rattle.block_state.specs.TableOf.{table}
+use Rattle.bad_blocks.specs.Moving.{AnswersFailures}
 use Rattle.bad_blocks.specs.laws.FreeBlocks.{free_copied}
 use Rattle.bad_blocks.specs.laws.Moves.{are_held, stands_kept, moves_kept}
 use Rattle.bad_blocks.proofs.Moves.{may_be_copied, same_bads, stands_moved, moves_moved, free_moved, is_left, lies_in, lies_open, is_closed}
@@ -274,3 +275,22 @@ returns-clause-free g c =
     free_moved c.args.spare v target d0 d1 t0 t1 t2 x y c.args.copies.now listed held copied.keeps c.requires.stands copied.ends.0
     (c.tell_copies.ensures.tells v listed.lists (unlike v target.block t0 listed.some copied.ends.0.unkept)) c.tell_copies.ensures.agree copied.newest
     (are_held t2 y (c.the_counts_are_of_the_keys.ensures.none y) c.tell_copies.ensures.agree) copied.ends.1
+
+pub returns-clause-answers : goal.returns-clause-answers
+returns-clause-answers g c =
+    let d0 : Device = g.N.Nand.state c.args.device.now in
+    let d1 : Device = g.N.Nand.state c.copy_listed.new.device in
+    let t0 : Table = table c.args.blocks.now in
+    let t1 : Table = table c.copy_listed.new.blocks in
+    let x = c.args.index.now in
+    let held = are_held t0 x (c.the_counts_are_of_the_keys.ensures.none x) c.requires.stands.tables.counts in
+    let t2 : Table = table c.tell_copies.new.blocks in
+    let y = c.tell_copies.new.index in
+    let copied = c.in_ok-target.ensures in
+    let target = c.in_ok-target.target in
+    let v : ℕ = c.requires.listed.0 in
+    let listed = c.requires.listed.1 in
+    let same = same_bads c.args.spare v target d0 d1 t0 t1 t2 x y c.args.copies.now listed held copied.keeps c.requires.stands copied.ends.0
+    (c.tell_copies.ensures.tells v listed.lists (unlike v target.block t0 listed.some copied.ends.0.unkept)) c.tell_copies.ensures.agree copied.newest in
+    let answered : AnswersFailures 0 0 d0 d1 t0 t1 = subst (λ (s : Bool). AnswersFailures 0 (if s then 1 else 0) d0 d1 t0 t1) c.if-suspect.false copied.answers in
+    omega (arith, same, answered)

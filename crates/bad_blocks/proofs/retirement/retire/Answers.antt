@@ -1,4 +1,5 @@
 use Rattle.std.proofs.Common.{◌≡◌, ◌≤◌, sym, ap, subst, ◌∙◌, arith}
+use Rattle.std.proofs.lemmas.Result.{on_ok_weaker}
 use Rattle.nand_model.specs.Calls.{Device}
 use Rattle.block_state.specs.Kept.{bad_count}
 use Rattle.block_state.specs.Table.{Table}
@@ -61,3 +62,10 @@ returns-clause-ends g c =
     let u : Table = table c.close.new.self in
     ends_closed c.args.block c.args.spare (g.N.Nand.state c.retire_all.new.device) t (table c.retire_all.new.blocks) c.retire_all.result
     (subst (λ (s : Table). RetireEnds c.args.block c.args.spare (g.N.Nand.state c.retire_all.new.device) s (table c.retire_all.new.blocks) c.retire_all.result) c.close.ensures c.retire_all.ensures.ends)
+
+pub returns-clause-answers : goal.returns-clause-answers
+returns-clause-answers g c =
+    let t : Table = table c.args.blocks.now in
+    let u : Table = table c.close.new.self in
+    let same : bad_count u ≡ bad_count t = ap bad_count c.close.ensures in
+    on_ok_weaker c.retire_all.result (λ then. omega (arith, same, then)) c.retire_all.ensures.answers

@@ -4,7 +4,7 @@ use Rattle.block_state.specs.Table.{Table}
 use Rattle.block_state.specs.TableOf.{table}
 use Rattle.chunk_index.specs.Kept.{HoldsNone}
 use Rattle.chunk_index.specs.Maps.{kept_pages}
-use Rattle.bad_blocks.specs.Moving.{MarksFailures, Costs}
+use Rattle.bad_blocks.specs.Moving.{AnswersFailures, MarksFailures, Costs}
 use Rattle.bad_blocks.specs.laws.FreeBlocks.{free_on}
 use Rattle.bad_blocks.proofs.RetireTurns.{Retiring, open_is, next_unkept, moves_next, marks_next, costs_next, retiring_next, retired_all}
 use Rattle.bad_blocks.proofs.retirement.retire_all.Goals as goal
@@ -19,6 +19,7 @@ loop-suspect-init g c =
         moves = e.moves;
         stands = e.stands;
         marks = subst (λ n. MarksFailures 1 n d0 d (table c.args.blocks.now) (table c.retire_one.new.blocks)) (open_is c.in_ok-suspect.suspect) e.marks;
+        answers = subst (λ n. AnswersFailures 1 n d0 d (table c.args.blocks.now) (table c.retire_one.new.blocks)) (open_is c.in_ok-suspect.suspect) e.answers;
         costs = subst (λ n. Costs (d0.geometry.pages + 2) (d0.geometry.pages + 2) n d0 d) (open_is c.in_ok-suspect.suspect) e.costs;
         out = e.ends.0;
         power = e.ends.1;
@@ -94,6 +95,7 @@ loop-suspect-preserved g c =
     record {
       retiring = retiring_next c.args.spare c.args.block w d0 d t0 t x0 x r d' t' y s none e.moves e.ends.0 e.stands
           (subst (λ n. MarksFailures 1 n d d' t t') (open_is s) e.marks)
+          (subst (λ n. AnswersFailures 1 n d d' t t') (open_is s) e.answers)
           (subst (λ n. Costs (d.geometry.pages + 2) (d.geometry.pages + 2) n d d') (open_is s) e.costs) e.ends.1;
       free = free_on c.args.spare d0 d d' x0 x y r.moves.lasts.honest c.loop-suspect.invariant.free e.free;
       room = e.room;

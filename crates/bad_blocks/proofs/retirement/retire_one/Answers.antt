@@ -4,7 +4,8 @@ use Rattle.nand_model.specs.Calls.{Device}
 use Rattle.nand_model.specs.declared.geometry.Geometry.{Geometry}
 use Rattle.block_state.specs.Table.{Table}
 use Rattle.block_state.specs.TableOf.{table}
-use Rattle.bad_blocks.proofs.Retired.{moves_marked, stands_marked, free_marked, bad_marked, out}
+use Rattle.bad_blocks.proofs.Free.{mark_fails_not}
+use Rattle.bad_blocks.proofs.Retired.{moves_marked, stands_marked, free_marked, bad_marked, one_bad, out}
 use Rattle.bad_blocks.proofs.retirement.retire_one.Goals as goal
 
 pub returns-in_err-mark_emptied-clause-moves : goal.returns-in_err-mark_emptied-clause-moves
@@ -136,3 +137,20 @@ returns-clause-free g c =
     let m = c.mark_emptied.ensures in
     let within : c.args.block < t1.geometry.blocks = subst (λ (z : Geometry). c.args.block < z.blocks) (sym c.requires.ready.geometry) c.requires.block in
     free_marked c.args.spare c.args.block d1 d2 d3 t1 t2 t3 c.args.index.now y m.marks.0 e.moves e.stands (c.the_counts_are_of_the_keys.ensures.none y) within e.ends.left.unkept m.marks.1 m.ready m.notes m.newest m.numbers e.free
+
+pub returns-clause-answers : goal.returns-clause-answers
+returns-clause-answers g c =
+    let d1 : Device = g.N.Nand.state c.args.device.now in
+    let d2 : Device = g.N.Nand.state c.empty_block.new.device in
+    let d3 : Device = g.N.Nand.state c.mark_emptied.new.device in
+    let t1 : Table = table c.args.blocks.now in
+    let t2 : Table = table c.empty_block.new.blocks in
+    let t3 : Table = table c.mark_emptied.new.blocks in
+    let y = c.empty_block.new.index in
+    let e = c.in_ok-suspect.ensures in
+    let m = c.mark_emptied.ensures in
+    let within : c.args.block < t1.geometry.blocks = subst (λ (z : Geometry). c.args.block < z.blocks) (sym c.requires.ready.geometry) c.requires.block in
+    let ends = c.in_ok-mark_emptied.ensures.ends in
+    let one = one_bad c.args.spare c.args.block d1 d2 d3 t1 t2 t3 c.args.index.now y m.marks.0 e.moves e.stands (c.the_counts_are_of_the_keys.ensures.none y) within e.ends.left.unkept m.marks.1 m.ready m.notes m.newest m.numbers e.ends.left.good ends.0 in
+    let none = mark_fails_not c.args.block d2 d3 m.marks.0 m.marks.1 in
+    omega (arith, one, e.answers, none)

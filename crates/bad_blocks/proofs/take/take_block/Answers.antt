@@ -1,4 +1,4 @@
-use Rattle.std.proofs.Common.{◌≤◌, ◌∙◌, sym, ap, subst, arith, rules}
+use Rattle.std.proofs.Common.{◌≡◌, ◌≤◌, ◌∙◌, sym, ap, subst, arith, rules}
 use Rattle.nand_model.specs.laws.Calls.{lasts_on}
 use Rattle.block_state.specs.Kept.{bad_count}
 use Rattle.block_state.specs.Table.{Table}
@@ -23,6 +23,7 @@ loop-block-init g c = record {
   numbers = hands_closed _ (table c.args.blocks.now) _ c.close.ensures;
   passes = passes_closed (g.N.Nand.state c.args.device.now) (table c.args.blocks.now) _ c.close.ensures;
   none = search rules;
+  answers = let same : bad_count (table c.close.new.self) ≡ bad_count (table c.args.blocks.now) = ap bad_count c.close.ensures in omega (arith, same);
   costs = omega arith;
   few = subst (λ (x : Table). bad_count x ≤ c.args.spare) (sym c.close.ensures) c.requires.some.bad;
   seqs = λ b. ap (λ (x : Table). (x.entry b).seq) c.close.ensures;
@@ -38,6 +39,7 @@ loop-block-preserved g c =
       numbers = hands_on _ _ _ (table c.args.blocks.now) _ _ so_far.lasts tried.lasts so_far.numbers tried.numbers;
       passes = passes_on _ _ _ (table c.args.blocks.now) _ _ so_far.lasts so_far.passes tried.passes;
       none = record { open_block = tried.ends.0.open_block; next_seq = tried.ends.0.next_seq ∙ so_far.none.next_seq };
+      answers = omega (arith, so_far.answers, tried.answers);
       costs = omega (arith, so_far.costs, tried.costs);
       few = search rules;
       seqs = λ b. tried.turn b ∙ so_far.seqs b;
@@ -99,3 +101,8 @@ returns-in-Ok-Taken-clause-turn g c =
     let so_far = c.loop-block.invariant in
     let took = rw c.in-Ok-Taken.field-0-is at c.in-Ok-Taken.ensures in
     turn_from _ _ _ _ _ _ so_far.passes so_far.seqs took.turn
+
+pub returns-in-Ok-Taken-clause-answers : goal.returns-in-Ok-Taken-clause-answers
+returns-in-Ok-Taken-clause-answers g c =
+    let took = rw c.in-Ok-Taken.field-0-is at c.in-Ok-Taken.ensures in
+    omega (arith, c.loop-block.invariant.answers, took.answers)

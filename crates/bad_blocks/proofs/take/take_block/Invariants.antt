@@ -4,6 +4,7 @@ use Rattle.block_state.specs.Kept.{bad_count}
 use Rattle.block_state.specs.TableOf.{table}
 use Rattle.transactions.specs.Handing.{HandsOut}
 use Rattle.transactions.specs.Ready.{IsReady}
+use Rattle.bad_blocks.specs.Moving.{AnswersFailures}
 use Rattle.bad_blocks.specs.Passing.{Passes}
 use Rattle.bad_blocks.specs.Taking.{SameSeqs, TakesNone}
 use Rattle.bad_blocks.proofs.take.take_block.Given as goal
@@ -15,6 +16,7 @@ invariant-loop-block g l = record {
   numbers : HandsOut (g.N.Nand.state l.fn.device) (g.N.Nand.state l.device) (table l.fn.blocks) (table l.blocks);
   passes : Passes (g.N.Nand.state l.fn.device) (g.N.Nand.state l.device) (table l.fn.blocks) (table l.blocks);
   none : TakesNone (table l.fn.blocks) (table l.blocks);
+  answers : AnswersFailures 0 0 (g.N.Nand.state l.fn.device) (g.N.Nand.state l.device) (table l.fn.blocks) (table l.blocks);
   costs : (g.N.Nand.state l.device).changes + 2 * (g.N.Nand.state l.fn.device).failures ≤ (g.N.Nand.state l.fn.device).changes + 2 * (g.N.Nand.state l.device).failures;
   few : bad_count (table l.blocks) ≤ l.spare;
   seqs : SameSeqs (table l.fn.blocks) (table l.blocks);

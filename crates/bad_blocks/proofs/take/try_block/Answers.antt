@@ -126,3 +126,19 @@ returns-in_ok-mark_block-in-Err-Failed-clause-turn g c =
     let erased = rw c.in-Err-Failed.field-0-is at c.in-Err-Failed.ensures in
     let notes = subst (λ (x : Table). NotesMark block (g.N.Nand.state c.mark_block.new.device).flash x (table c.mark_block.new.blocks)) erased.unchanged c.mark_block.ensures.notes in
     seqs_marked block _ t _ notes
+
+pub returns-in-Ok-clause-answers : goal.returns-in-Ok-clause-answers
+returns-in-Ok-clause-answers g c =
+    let same = same_bad_count (table c.args.blocks.now) _ (same_opened c.in-Some.block _ _ c.in-Ok.ensures.opens) in
+    omega (arith, same, c.in-Ok.ensures.erases.ends.failures)
+
+pub returns-in_ok-mark_block-in-Err-Failed-clause-answers : goal.returns-in_ok-mark_block-in-Err-Failed-clause-answers
+returns-in_ok-mark_block-in-Err-Failed-clause-answers g c =
+    let t : Table = table c.args.blocks.now in
+    let block : ℕ = c.in-Some.block in
+    let free = was_unkept t block c.in-Some.ensures.found.free in
+    let erased = rw c.in-Err-Failed.field-0-is at c.in-Err-Failed.ensures in
+    let notes = subst (λ (x : Table). NotesMark block (g.N.Nand.state c.mark_block.new.device).flash x (table c.mark_block.new.blocks)) erased.unchanged c.mark_block.ensures.notes in
+    let done = c.in_ok-mark_block-in-Err-Failed.ensures in
+    let more = one_more block _ t _ c.in-Some.ensures.found.within free.0 done.marks.bad notes in
+    omega (arith, more, erased.erases.ends.failures, done.marks.ends.failures)

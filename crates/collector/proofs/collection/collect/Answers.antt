@@ -1,3 +1,5 @@
+use Rattle.std.proofs.Common.{arith}
+use Rattle.std.proofs.lemmas.Result.{on_ok_weaker}
 use Rattle.block_state.specs.TableOf.{table}
 use Rattle.bad_blocks.specs.laws.FreeBlocks.{free_on}
 use Rattle.collector.proofs.Collected.{collected_open, moves_retired}
@@ -23,3 +25,8 @@ returns-in-Suspect-clause-free g c =
     let moved = rw c.in-Suspect.is at c.in_ok-move_kept.ensures in
     free_on c.args.spare (g.N.Nand.state c.args.device.now) (g.N.Nand.state c.move_kept.new.device) (g.N.Nand.state c.retire.new.device) c.args.index.now c.move_kept.new.index c.retire.new.index
     moved.moves.lasts.honest moved.free c.retire.ensures.free
+
+pub returns-in-Suspect-clause-answers : goal.returns-in-Suspect-clause-answers
+returns-in-Suspect-clause-answers g c =
+    let first = (rw c.in-Suspect.is at c.in_ok-move_kept.ensures).answers in
+    on_ok_weaker c.retire.result (λ then. omega (arith, first, then)) c.retire.ensures.answers

@@ -1,6 +1,8 @@
-use Rattle.std.proofs.Common.{◌≡◌, true, false, refl, ap, sym, ◌∙◌, arith}
+use Rattle.std.proofs.Common.{◌≡◌, ◌≤◌, true, false, refl, ap, sym, ◌∙◌, arith}
 use Rattle.nand_model.specs.declared.geometry.Geometry.{Geometry}
 use Rattle.block_state.specs.TableOf.{table}
+use Rattle.block_state.specs.Table.{Table}
+use Rattle.bad_blocks.specs.laws.Costs.{costs_kept, costs_taken}
 use Rattle.bad_blocks.specs.laws.Turns.{moves_none}
 use Rattle.collector.proofs.Taken.{moves_taken, stands_taken, stands_none, free_where_taken, free_where_none, free_taken, fits_open, scarce_unless}
 use Rattle.collector.proofs.room.make_room.Goals as goal
@@ -76,3 +78,33 @@ returns-then-count-pages-clause-moves g c = (0, moves_none 0 (g.N.Nand.state c.a
 
 pub returns-in_default-clause-moves : goal.returns-in_default-clause-moves
 returns-in_default-clause-moves g c = (0, moves_none 0 (g.N.Nand.state c.args.device.now) (table c.args.blocks.now) c.args.index.now c.requires.ready)
+
+pub returns-in_err-take_block-clause-costs : goal.returns-in_err-take_block-clause-costs
+returns-in_err-take_block-clause-costs g c = let took = c.take_block.ensures in costs_taken (g.N.Nand.state c.args.device.now).geometry.pages (g.N.Nand.state c.args.device.now).geometry.pages (g.N.Nand.state c.args.device.now) (g.N.Nand.state c.take_block.new.device) took.lasts took.costs
+
+pub returns-then-has_unkept-clause-costs : goal.returns-then-has_unkept-clause-costs
+returns-then-has_unkept-clause-costs g c = let took = c.take_block.ensures in costs_taken (g.N.Nand.state c.args.device.now).geometry.pages (g.N.Nand.state c.args.device.now).geometry.pages (g.N.Nand.state c.args.device.now) (g.N.Nand.state c.take_block.new.device) took.lasts took.costs
+
+pub returns-in_err-take_block-clause-costs_fewest : goal.returns-in_err-take_block-clause-costs_fewest
+returns-in_err-take_block-clause-costs_fewest g c = λ v is. let took = c.take_block.ensures in costs_taken (g.N.Nand.state c.args.device.now).geometry.pages ((table c.args.blocks.now).entry v).kept (g.N.Nand.state c.args.device.now) (g.N.Nand.state c.take_block.new.device) took.lasts took.costs
+
+pub returns-then-has_unkept-clause-costs_fewest : goal.returns-then-has_unkept-clause-costs_fewest
+returns-then-has_unkept-clause-costs_fewest g c = λ v is. let took = c.take_block.ensures in costs_taken (g.N.Nand.state c.args.device.now).geometry.pages ((table c.args.blocks.now).entry v).kept (g.N.Nand.state c.args.device.now) (g.N.Nand.state c.take_block.new.device) took.lasts took.costs
+
+pub returns-in_err-collect-clause-costs : goal.returns-in_err-collect-clause-costs
+returns-in_err-collect-clause-costs g c = costs_kept c.in-Some.block 0 (g.N.Nand.state c.args.device.now) (g.N.Nand.state c.collect.new.device) (table c.args.blocks.now) c.requires.ready.geometry (c.requires.stands.tables.fits c.in-Some.block) c.collect.ensures.costs
+
+pub returns-clause-costs : goal.returns-clause-costs
+returns-clause-costs g c = costs_kept c.in-Some.block 0 (g.N.Nand.state c.args.device.now) (g.N.Nand.state c.collect.new.device) (table c.args.blocks.now) c.requires.ready.geometry (c.requires.stands.tables.fits c.in-Some.block) c.collect.ensures.costs
+
+pub returns-in_err-collect-clause-costs_fewest : goal.returns-in_err-collect-clause-costs_fewest
+returns-in_err-collect-clause-costs_fewest g c = λ v is.
+    let t : Table = table c.args.blocks.now in
+    let few : (t.entry c.in-Some.block).kept ≤ (t.entry v).kept = c.in-Some.ensures.found.fewest.least v is.within is.good is.some in
+    omega (arith, few, c.collect.ensures.costs)
+
+pub returns-clause-costs_fewest : goal.returns-clause-costs_fewest
+returns-clause-costs_fewest g c = λ v is.
+    let t : Table = table c.args.blocks.now in
+    let few : (t.entry c.in-Some.block).kept ≤ (t.entry v).kept = c.in-Some.ensures.found.fewest.least v is.within is.good is.some in
+    omega (arith, few, c.collect.ensures.costs)

@@ -1,7 +1,9 @@
 -- What calls in turn cost.
-use Rattle.std.proofs.Common.{◌≡◌, ◌≤◌, ℕ, ◌+◌, ◌-◌, ◌*◌, ap, ◌∙◌, arith}
+use Rattle.std.proofs.Common.{◌≡◌, ◌≤◌, ℕ, ◌+◌, ◌-◌, ◌*◌, ap, subst, ◌∙◌, arith}
 use Rattle.std.proofs.Math.Nat.{mul-le-mul_right}
 use Rattle.nand_model.specs.Calls.{Device, Lasts}
+use Rattle.nand_model.specs.declared.geometry.Geometry.{Geometry}
+use Rattle.block_state.specs.Table.{Table}
 use Rattle.bad_blocks.specs.Moving.{Costs}
 use Rattle.bad_blocks.specs.Taking.{CostsATake}
 
@@ -15,8 +17,8 @@ each_more k a b two le =
     omega (arith, times, left, right)
 
 -- the taking of a block costs no more than a move
-pub costs_taken : (pages : ℕ) (d0 d1 : Device) → Lasts d0 d1 → CostsATake d0 d1 → Costs (pages + 1) (pages + 2) 0 d0 d1
-costs_taken pages d0 d1 lasts take =
+pub costs_taken : (pages count : ℕ) (d0 d1 : Device) → Lasts d0 d1 → CostsATake d0 d1 → Costs (count + 1) (pages + 2) 0 d0 d1
+costs_taken pages count d0 d1 lasts take =
     let more = each_more (pages + 2) d0.failures d1.failures (omega arith) lasts.failures in
     omega (arith, take, more)
 
@@ -27,3 +29,9 @@ costs_join e o a b c first second =
     let two : e * (b.failures + o) ≡ e * b.failures + e * o = omega arith in
     let all : e * (a.failures + o) ≡ e * a.failures + e * o = omega arith in
     omega (arith, first, second, one, two, all)
+
+-- a block's kept pages are no more than a block has
+pub costs_kept : (b o : ℕ) (d e : Device) (t : Table) → t.geometry ≡ d.geometry → (t.entry b).kept ≤ t.geometry.pages → Costs ((t.entry b).kept + 1) (d.geometry.pages + 2) o d e → Costs (d.geometry.pages + 1) (d.geometry.pages + 2) o d e
+costs_kept b o d e t same fits costs =
+    let few : (t.entry b).kept ≤ d.geometry.pages = subst (λ (g : Geometry). (t.entry b).kept ≤ g.pages) same fits in
+    omega (arith, few, costs)

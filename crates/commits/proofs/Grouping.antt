@@ -38,7 +38,8 @@ use Rattle.transactions.specs.laws.Newest.{commit_comes_last, newest_after}
 use Rattle.transactions.specs.declared.group.GroupFault.TheVariants as group_faults
 use Rattle.bad_blocks.specs.Standing.{AreHeld, AreKept, HasFreeBlocks, IsKept, IsKeptAt, KeepsFree, SameData, Stands, TablesAgree}
 use Rattle.bad_blocks.specs.laws.FreeBlocks.{leaves_unkept, newest_where_kept}
-use Rattle.bad_blocks.specs.laws.Keeping.{had_power, limits_ends}
+use Rattle.flash_tree.specs.laws.Place.{had_power}
+use Rattle.bad_blocks.specs.laws.Keeping.{limits_ends}
 use Rattle.bad_blocks.specs.laws.Moves.{may_lie_later}
 use Rattle.pages.specs.Stores.{Carries, HasPage}
 use Rattle.commits.specs.Keeping.{Keeps}

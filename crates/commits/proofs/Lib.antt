@@ -6,3 +6,4 @@ pub mod Settling
 pub mod Turning
 pub mod Written
 pub mod Costing
+pub mod Staying

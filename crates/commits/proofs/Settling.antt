@@ -31,7 +31,7 @@ use Rattle.flash_tree.specs.Numbering.{AreBelow}
 use Rattle.transactions.specs.Ready.{IsReady}
 use Rattle.bad_blocks.specs.Standing.{AreKept, HasFreeBlocks, IsKeptAt, IsWithinLimits, MayLie, Stands, TablesAgree}
 use Rattle.bad_blocks.specs.laws.FreeBlocks.{leaves_fewer}
-use Rattle.bad_blocks.specs.laws.Keeping.{had_power}
+use Rattle.flash_tree.specs.laws.Place.{had_power}
 use Rattle.bad_blocks.specs.laws.Moves.{may_lie_later}
 use Rattle.commits.specs.Carrying.{AreWritable, HaveRanges}
 use Rattle.pages.specs.Stores.{HasPage, IsCarried}

@@ -25,7 +25,7 @@ use Rattle.transactions.specs.laws.Handing.{hands_on, hands_nothing}
 use Rattle.bad_blocks.specs.Moving.{Moves}
 use Rattle.bad_blocks.specs.Standing.{AreKept, HasFreeBlocks, IsKept, IsWithinLimits, KeepsFree, SameData, Stands}
 use Rattle.bad_blocks.specs.laws.FreeBlocks.{free_here, free_on, leaves_fewer}
-use Rattle.bad_blocks.specs.laws.Keeping.{had_power}
+use Rattle.flash_tree.specs.laws.Place.{had_power}
 use Rattle.collector.specs.Making.{LeavesRoom, WhyNoRoom}
 use Rattle.collector.specs.declared.fault.RoomFault.{RoomFault}
 use Rattle.collector.specs.declared.fault.RoomFault.TheVariants as faults

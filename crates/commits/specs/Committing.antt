@@ -1,8 +1,8 @@
 -- How a commit ends.
-use Rattle.std.specs.Prelude.{◌≡◌, ◌≤◌, ◌+◌, ℕ, true, false, [], length, Result, Ok, Err}
+use Rattle.std.specs.Prelude.{◌≡◌, ◌<◌, ◌≤◌, ◌+◌, ◌^◌, ℕ, true, false, [], length, Result, Ok, Err}
 use Rattle.nand_model.specs.Calls.{Device}
 use Rattle.block_state.specs.Kept.{bad_count}
-use Rattle.block_state.specs.Table.{Table}
+use Rattle.block_state.specs.Table.{Table, room}
 use Rattle.chunk_index.specs.declared.index.Index.{Index}
 use Rattle.page_buffer.specs.declared.buffer.Buffer.{Buffer}
 use Rattle.page_buffer.specs.BufferOf.{buffered, last_written, most_pages, bytes_of_page}
@@ -44,6 +44,24 @@ CommitEnds spare old new t t' x x' b b' (Err fault) = WhyNoRoom (length (buffere
 -- each of them: no block is taken.
 abbrev pub TakesNoBlock : (count : ℕ) → Table → Device → Device → Type 0
 TakesNoBlock count t old new = FitsOpen count t → new.failures ≡ old.failures → new.changes ≤ old.changes + count
+
+-- the open block is the same, with so many pages less
+pub record StaysOpen (count : ℕ) (t t' : Table) : Type 0 where
+  pub open_block : t'.open_block ≡ t.open_block
+  pub pages : room t' + count ≡ room t
+
+-- where the open block has room for so many pages, and no failure is counted, it stays open
+abbrev pub KeepsOpen : (count : ℕ) → Table → Table → Device → Device → Type 0
+KeepsOpen count t t' old new = FitsOpen count t → new.failures ≡ old.failures → StaysOpen count t t'
+
+-- Nothing hinders the writing of so many pages: the open block has room for them, a number is left for their group, and the
+-- device is honest, counts no failure and has power to the end.
+pub record IsUnhindered (count : ℕ) (t : Table) (old new : Device) : Type 0 where
+  pub fits : FitsOpen count t
+  pub number : t.next_group < 2 ^ 62
+  pub honest : old.honest ≡ true
+  pub failures : new.failures ≡ old.failures
+  pub power : new.gone ≡ false
 
 -- While blocks are left that can be taken, and no failure is counted, the device counts at most one more: at most one block is
 -- taken.

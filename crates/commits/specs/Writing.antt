@@ -14,6 +14,7 @@ use Rattle.commits.specs.declared.writing.Attempt.{Attempt}
 use Rattle.commits.specs.declared.writing.Attempt.TheVariants as attempts
 use Rattle.commits.specs.declared.turn.Turn.{Turn}
 use Rattle.commits.specs.declared.turn.Turn.TheVariants as turns
+use Rattle.commits.specs.Committing.{StaysOpen}
 use Rattle.commits.specs.Keeping.{Keeps, Commits, IsAnswered}
 use Rattle.collector.specs.Making.{WhyNoRoom}
 
@@ -56,6 +57,13 @@ unanswered (Ok attempts.Trusted) = 0
 unanswered (Ok (attempts.Suspect w)) = 1
 unanswered (Ok (attempts.Failed w)) = 1
 unanswered (Err fault) = 0
+
+-- a trusted group leaves its block open
+abbrev pub TrustsOpen : (count : ℕ) → Table → Table → Result Attempt RoomFault → Type 0
+TrustsOpen count t t' (Ok attempts.Trusted) = StaysOpen count t t'
+TrustsOpen count t t' (Ok (attempts.Suspect w)) = Unit {0}
+TrustsOpen count t t' (Ok (attempts.Failed w)) = Unit {0}
+TrustsOpen count t t' (Err fault) = Unit {0}
 
 -- how a turn ends: the pages count; or not, and a block more is bad; with no more bad than there are to spare, and the block in
 -- which a program failed among them

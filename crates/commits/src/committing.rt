@@ -1,5 +1,5 @@
 // The commit.
-ghost use Rattle.std.specs.Prelude.{◌≡◌, ◌≤◌, ◌+◌, ◌*◌, ℕ, [], length, true, Some};
+ghost use Rattle.std.specs.Prelude.{◌≡◌, ◌≤◌, ◌+◌, ◌*◌, ℕ, [], length, true, Some, IsOk, OnOk};
 ghost use Rattle.nand_model.specs.Calls.{Lasts};
 ghost use Rattle.block_state.specs.Kept.{bad_count};
 ghost use Rattle.block_state.specs.TableOf.{table};
@@ -11,11 +11,11 @@ ghost use Rattle.page_buffer.specs.BufferOf.{buffered, last_written};
 ghost use Rattle.page_buffer.specs.Buffering.{Buffers, IsUnbuffered};
 ghost use Rattle.transactions.specs.Handing.{HandsOut};
 ghost use Rattle.transactions.specs.Ready.{IsReady};
-ghost use Rattle.bad_blocks.specs.Moving.{Costs, MarksFailures};
+ghost use Rattle.bad_blocks.specs.Moving.{AnswersFailures, Costs, MarksFailures};
 ghost use Rattle.bad_blocks.specs.Room.{IsRoomFor};
 ghost use Rattle.bad_blocks.specs.Standing.{HasFreeBlocks, Stands};
 ghost use Rattle.commits.specs.Carrying.{AreWritable, CarriesEither, KeepsOrShows};
-ghost use Rattle.commits.specs.Committing.{CommitEnds, SameSizes, TakesNoBlock, TakesOneBlock};
+ghost use Rattle.commits.specs.Committing.{CommitEnds, IsUnhindered, KeepsOpen, SameSizes, TakesNoBlock, TakesOneBlock};
 ghost use Rattle.commits.specs.Keeping.{StaysReady, WaitsOrSettles};
 
 use crate::turn::write_whole;
@@ -70,14 +70,20 @@ pub fn commit<N: Nand>(
     ensures ready { IsReady (N.state device.new) (table blocks.new) }
     ensures stands { Stands spare (N.state device.new) (table blocks.new) index.new }
     ensures numbers { HandsOut (N.state device.old) (N.state device.new) (table blocks.old) (table blocks.new) }
-    // Each mark answers a failure.
+    // Each mark answers a failure, and after Ok each failure has its mark.
     ensures marks { MarksFailures 0 0 (N.state device.old) (N.state device.new) (table blocks.old) (table blocks.new) }
+    ensures answers { OnOk result (AnswersFailures 0 0 (N.state device.old) (N.state device.new) (table blocks.old) (table blocks.new)) }
     // The programs of the pages, a making of room, and a retirement and two of these again for each failure.
     ensures costs { Costs (length (buffered buffer.old) + (N.state device.old).geometry.pages + 1) (3 * (N.state device.old).geometry.pages + 3) 0 (N.state device.old) (N.state device.new) }
     // A block is taken only where the open one lacks the pages, or a program failed.
     ensures takes_none { TakesNoBlock (length (buffered buffer.old)) (table blocks.old) (N.state device.old) (N.state device.new) }
     // And no more than one, while blocks are left that can be taken.
     ensures takes_one { TakesOneBlock (length (buffered buffer.old)) spare (table blocks.old) (N.state device.old) (N.state device.new) }
+    // The open block is closed only where it lacks the pages, or a program failed.
+    ensures keeps_open { OnOk result (KeepsOpen (length (buffered buffer.old)) (table blocks.old) (table blocks.new) (N.state device.old) (N.state device.new)) }
+    // A commit of nothing is done, and so is one that nothing hinders.
+    ensures nothing { buffered buffer.old ≡ [] → IsOk result }
+    ensures unhindered { IsUnhindered (length (buffered buffer.old)) (table blocks.old) (N.state device.old) (N.state device.new) → IsOk result }
     ensures room { IsRoomFor (N.state device.new).geometry room.new }
     ensures buffers { Buffers index.new (buffered buffer.new) }
     ensures waits { WaitsOrSettles index.old index.new (buffered buffer.old) (buffered buffer.new) }

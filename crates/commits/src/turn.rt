@@ -1,15 +1,15 @@
 // The writing of the buffered pages, in as many turns as it takes.
-ghost use Rattle.std.specs.Prelude.{◌≡◌, ◌<◌, ◌≤◌, ◌+◌, ◌*◌, ◌^◌, ℕ, length};
+ghost use Rattle.std.specs.Prelude.{◌≡◌, ◌<◌, ◌≤◌, ◌+◌, ◌*◌, ◌^◌, ℕ, length, IsOk, OnOk};
 ghost use Rattle.block_state.specs.Kept.{bad_count};
 ghost use Rattle.block_state.specs.TableOf.{table};
 ghost use Rattle.page_buffer.specs.BufferOf.{buffered};
 ghost use Rattle.page_buffer.specs.Buffering.{Buffers};
 ghost use Rattle.transactions.specs.Ready.{IsReady};
-ghost use Rattle.bad_blocks.specs.Moving.{Costs, MarksFailures};
+ghost use Rattle.bad_blocks.specs.Moving.{AnswersFailures, Costs, MarksFailures};
 ghost use Rattle.bad_blocks.specs.Room.{IsRoomFor};
 ghost use Rattle.bad_blocks.specs.Standing.{HasFreeBlocks, Stands};
 ghost use Rattle.commits.specs.Carrying.{AreWritable};
-ghost use Rattle.commits.specs.Committing.{SameSizes, TakesNoBlock, TakesOneBlock};
+ghost use Rattle.commits.specs.Committing.{IsUnhindered, KeepsOpen, SameSizes, TakesNoBlock, TakesOneBlock};
 ghost use Rattle.commits.specs.Keeping.{Leaves};
 ghost use Rattle.commits.specs.Writing.{TurnCosts, TurnEnds, WholeEnds};
 
@@ -50,9 +50,12 @@ fn take_turn<N: Nand>(
     requires pages { AreWritable (N.state device.old).geometry (buffered buffer.old) }
     ensures leaves { Leaves spare (N.state device.old) (N.state device.new) (table blocks.old) (table blocks.new) index.old index.new (buffered buffer.old) (buffered buffer.new) }
     ensures marks { MarksFailures 0 0 (N.state device.old) (N.state device.new) (table blocks.old) (table blocks.new) }
+    ensures answers { OnOk result (AnswersFailures 0 0 (N.state device.old) (N.state device.new) (table blocks.old) (table blocks.new)) }
     ensures costs { TurnCosts (length (buffered buffer.old)) (N.state device.old) (N.state device.new) result }
     ensures takes_none { TakesNoBlock (length (buffered buffer.old)) (table blocks.old) (N.state device.old) (N.state device.new) }
     ensures takes_one { TakesOneBlock (length (buffered buffer.old)) spare (table blocks.old) (N.state device.old) (N.state device.new) }
+    ensures keeps_open { OnOk result (KeepsOpen (length (buffered buffer.old)) (table blocks.old) (table blocks.new) (N.state device.old) (N.state device.new)) }
+    ensures unhindered { IsUnhindered (length (buffered buffer.old)) (table blocks.old) (N.state device.old) (N.state device.new) → IsOk result }
     ensures room { IsRoomFor (N.state device.new).geometry room.new }
     ensures sizes { SameSizes buffer.old buffer.new }
     ensures ends { TurnEnds (length (buffered buffer.old)) spare (N.state device.old) (N.state device.new) (table blocks.old) (table blocks.new) index.old index.new buffer.old buffer.new result }
@@ -95,9 +98,12 @@ pub(crate) fn write_whole<N: Nand>(
     requires pages { AreWritable (N.state device.old).geometry (buffered buffer.old) }
     ensures leaves { Leaves spare (N.state device.old) (N.state device.new) (table blocks.old) (table blocks.new) index.old index.new (buffered buffer.old) (buffered buffer.new) }
     ensures marks { MarksFailures 0 0 (N.state device.old) (N.state device.new) (table blocks.old) (table blocks.new) }
+    ensures answers { OnOk result (AnswersFailures 0 0 (N.state device.old) (N.state device.new) (table blocks.old) (table blocks.new)) }
     ensures costs { Costs (length (buffered buffer.old) + (N.state device.old).geometry.pages + 1) (3 * (N.state device.old).geometry.pages + 3) 0 (N.state device.old) (N.state device.new) }
     ensures takes_none { TakesNoBlock (length (buffered buffer.old)) (table blocks.old) (N.state device.old) (N.state device.new) }
     ensures takes_one { TakesOneBlock (length (buffered buffer.old)) spare (table blocks.old) (N.state device.old) (N.state device.new) }
+    ensures keeps_open { OnOk result (KeepsOpen (length (buffered buffer.old)) (table blocks.old) (table blocks.new) (N.state device.old) (N.state device.new)) }
+    ensures unhindered { IsUnhindered (length (buffered buffer.old)) (table blocks.old) (N.state device.old) (N.state device.new) → IsOk result }
     ensures room { IsRoomFor (N.state device.new).geometry room.new }
     ensures sizes { SameSizes buffer.old buffer.new }
     ensures ends { WholeEnds (length (buffered buffer.old)) spare (N.state device.old) (N.state device.new) (table blocks.old) (table blocks.new) index.old index.new buffer.old buffer.new result }

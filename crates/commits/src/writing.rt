@@ -1,5 +1,5 @@
 // The writing of the buffered pages as one group.
-ghost use Rattle.std.specs.Prelude.{◌≡◌, ◌<◌, ◌≤◌, ◌+◌, ◌^◌, ℕ, length};
+ghost use Rattle.std.specs.Prelude.{◌≡◌, ◌<◌, ◌≤◌, ◌+◌, ◌^◌, ℕ, length, OnOk};
 ghost use Rattle.nand_model.specs.Calls.{Lasts};
 ghost use Rattle.block_state.specs.Kept.{bad_count};
 ghost use Rattle.block_state.specs.Table.{room};
@@ -7,12 +7,12 @@ ghost use Rattle.block_state.specs.TableOf.{table};
 ghost use Rattle.page_buffer.specs.BufferOf.{buffered};
 ghost use Rattle.page_buffer.specs.Buffering.{Buffers};
 ghost use Rattle.transactions.specs.Ready.{IsReady};
-ghost use Rattle.bad_blocks.specs.Moving.{MarksFailures};
+ghost use Rattle.bad_blocks.specs.Moving.{AnswersFailures, MarksFailures};
 ghost use Rattle.bad_blocks.specs.Standing.{HasFreeBlocks, Stands};
 ghost use Rattle.commits.specs.Carrying.{AreWritable};
 ghost use Rattle.commits.specs.Committing.{SameSizes};
 ghost use Rattle.commits.specs.Keeping.{Leaves};
-ghost use Rattle.commits.specs.Writing.{AttemptEnds, unanswered};
+ghost use Rattle.commits.specs.Writing.{AttemptEnds, TrustsOpen, unanswered};
 
 use crate::keys::have_ranges;
 use block_state::Blocks;
@@ -56,6 +56,8 @@ pub(crate) fn write_buffered<N: Nand>(
     ensures leaves { (spare : ℕ) → Stands spare (N.state device.old) (table blocks.old) index.old → HasFreeBlocks (table blocks.old) spare
         → Leaves spare (N.state device.old) (N.state device.new) (table blocks.old) (table blocks.new) index.old index.new (buffered buffer.old) (buffered buffer.new) }
     ensures marks { MarksFailures 0 (unanswered result) (N.state device.old) (N.state device.new) (table blocks.old) (table blocks.new) }
+    ensures answers { OnOk result (AnswersFailures 0 (unanswered result) (N.state device.old) (N.state device.new) (table blocks.old) (table blocks.new)) }
+    ensures keeps_open { TrustsOpen (length (buffered buffer.old)) (table blocks.old) (table blocks.new) result }
     ensures costs { (N.state device.new).changes ≤ (N.state device.old).changes + length (buffered buffer.old) }
     ensures ends { (spare : ℕ) → Stands spare (N.state device.old) (table blocks.old) index.old → HasFreeBlocks (table blocks.old) spare
         → AttemptEnds spare (N.state device.old) (N.state device.new) (table blocks.old) (table blocks.new) index.old index.new buffer.old buffer.new result }

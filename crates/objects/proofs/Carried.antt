@@ -15,9 +15,9 @@ use Rattle.bad_blocks.specs.Standing.{IsKept, IsKeptAt, AreKept, TablesAgree}
 use Rattle.bad_blocks.specs.laws.FreeBlocks.{leaves_fewer, leaves_unkept}
 use Rattle.bad_blocks.specs.laws.Moves.{are_held}
 use Rattle.page_buffer.specs.Shown.{data_of, data_at, kept_data}
-use Rattle.pages.specs.Maps.{PageMap}
+use Rattle.pages.specs.Maps.{PageMap, known_pages}
 use Rattle.pages.specs.Stores.{HasPage, IsCarried, SamePages}
-use Rattle.objects.specs.StoreOf.{known, kept_map}
+use Rattle.objects.specs.StoreOf.{kept_map}
 use Rattle.objects.proofs.Kept.{kept_carried}
 
 -- fewer pages are carried too
@@ -31,14 +31,14 @@ pub carried_same : (d : Device) (spare : ℕ) (m n : PageMap) → SamePages n m 
 carried_same d spare m n same = carried_fewer d spare m n (λ o c xs is. sym (same o c) ∙ is)
 
 -- what is known is there
-known_there : (h : Bool) (m : PageMap) (o c : ℕ) (xs : List ℕ) → known h m o c ≡ Some xs → m o c ≡ Some xs
+known_there : (h : Bool) (m : PageMap) (o c : ℕ) (xs : List ℕ) → known_pages h m o c ≡ Some xs → m o c ≡ Some xs
 known_there true m o c xs is = is
 known_there false m o c xs is = absurd (let two : None ≡ Some xs = is in cc)
 
-pub carried_known : (h : Bool) (d : Device) (spare : ℕ) (m : PageMap) → IsCarried d spare m → IsCarried d spare (known h m)
-carried_known h d spare m = carried_fewer d spare m (known h m) (known_there h m)
+pub carried_known : (h : Bool) (d : Device) (spare : ℕ) (m : PageMap) → IsCarried d spare m → IsCarried d spare (known_pages h m)
+carried_known h d spare m = carried_fewer d spare m (known_pages h m) (known_there h m)
 
-pub either_known : (h : Bool) (d : Device) (spare : ℕ) (m n : PageMap) → IsCarried d spare m ⊎ IsCarried d spare n → IsCarried d spare (known h m) ⊎ IsCarried d spare (known h n)
+pub either_known : (h : Bool) (d : Device) (spare : ℕ) (m n : PageMap) → IsCarried d spare m ⊎ IsCarried d spare n → IsCarried d spare (known_pages h m) ⊎ IsCarried d spare (known_pages h n)
 either_known h d spare m n is = elim is [
   | inl kept ↦ inl (carried_known h d spare m kept)
   | inr present ↦ inr (carried_known h d spare n present)
@@ -81,4 +81,4 @@ newest_committed (q ∷ qs) d e x y still same kept power stands = stands (power
 pub has_page : (d : Device) (x : Index) (o c : ℕ) (k : KeptPage) → d.honest ≡ true → AreKept d.flash (kept_pages x) → kept_pages x o c ≡ Some k → HasPage (kept_map d x) o c
 has_page d x o c k honest kept is =
     let has = (kept o c k is).newest.holds.has in
-    (has.bytes, ap (λ h. known h (kept_data x d.flash) o c) honest ∙ ap (option_and_then (data_at d.flash)) is ∙ ap data_of has.page)
+    (has.bytes, ap (λ h. known_pages h (kept_data x d.flash) o c) honest ∙ ap (option_and_then (data_at d.flash)) is ∙ ap data_of has.page)

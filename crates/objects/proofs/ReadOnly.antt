@@ -4,7 +4,7 @@ use Rattle.std.proofs.Common.{refl, sym, ◌∙◌, ap, subst, inl, inr, arith}
 use Rattle.std.proofs.lemmas.Bool.{cases_Bool, or_left, or_right}
 use Rattle.nand_model.specs.Flash.{Flash}
 use Rattle.nand_model.specs.Calls.{Device, Lasts}
-use Rattle.flash_tree.specs.laws.Place.{same_flash}
+use Rattle.flash_tree.specs.laws.Place.{same_flash, had_power}
 use Rattle.block_state.specs.Table.{Table}
 use Rattle.block_state.specs.TableOf.{table}
 use Rattle.block_state.specs.declared.blocks.Blocks.{Blocks}
@@ -25,7 +25,8 @@ use Rattle.chunk_index.specs.Shelves.{look}
 use Rattle.chunk_index.specs.Maps.{kept_pages, present}
 use Rattle.page_buffer.specs.Shown.{data_of, data_at, data_by, data_in, kept_data, present_data}
 use Rattle.page_cache.specs.declared.cache.PageCache.{PageCache}
-use Rattle.pages.specs.Maps.{PageMap}
+use Rattle.pages.specs.Maps.{PageMap, known_pages}
+use Rattle.pages.specs.laws.Known.{known_same}
 use Rattle.pages.specs.State.{OnlyFinds, FindsPage, FailsBy}
 use Rattle.pages.specs.declared.store.Presence.{Presence}
 use Rattle.pages.specs.declared.store.Presence.TheVariants as presences
@@ -37,18 +38,7 @@ use Rattle.objects.specs.declared.store.Found.{Found}
 use Rattle.objects.specs.Found.{bytes_or}
 use Rattle.objects.specs.Caching.{Shows}
 use Rattle.objects.specs.Reading.{Caches, IsLoadFault, IsFindFault}
-use Rattle.objects.specs.StoreOf.{known, store_seen, next_numbers}
-
--- the pages that are known stay
-pub known_same : (a b : Device) (m : Flash → PageMap) → OnlyReads a b → known b.honest (m b.flash) ≡ known a.honest (m a.flash)
-known_same a b m reads = elim (cases_Bool a.honest) [
-  | inr lies ↦
-      let then : b.honest ≡ false = reads.lasts.honest ∙ lies in
-      ap (λ h. known h (m b.flash)) then ∙ sym (ap (λ h. known h (m a.flash)) lies)
-  | inl honest ↦
-      let then : b.honest ≡ true = reads.lasts.honest ∙ honest in
-      ap (λ h. known h (m b.flash)) then ∙ ap m (same_flash a b reads honest) ∙ sym (ap (λ h. known h (m a.flash)) honest)
-]
+use Rattle.objects.specs.StoreOf.{store_seen, next_numbers}
 
 -- a page that is present on the flash is the kept one
 on_flash : (p : Option KeptPage) (k : KeptPage) → as_kept p ≡ presents.OnFlash k → p ≡ Some k
@@ -74,13 +64,6 @@ pub lies : (spare : ℕ) (d : Device) (t : Table) (x : Index) (o c : ℕ) (k : K
 lies spare d t x o c k ready stands is =
     let at : MayLie t o c k = stands.tables.within o c k (kept_there x o c k is) in
     (subst (λ (g : Geometry). k.block < g.blocks) ready.geometry at.block, subst (λ (g : Geometry). k.page < g.pages) ready.geometry at.page)
-
--- a device that has power had it before
-pub had_power : (a b : Device) → Lasts a b → b.gone ≡ false → a.gone ≡ false
-had_power a b lasts power = elim (cases_Bool a.gone) [
-  | inr is ↦ is
-  | inl gone ↦ let two : true ≡ false = sym gone ∙ sym (ap (λ (d : Device). d.gone) (lasts.gone gone)) ∙ power in absurd cc
-]
 
 -- what stands still does
 pub stands_read : (spare : ℕ) (a b : Device) (t : Table) (x : Index) → OnlyReads a b → Stands spare a t x → Stands spare b t x
@@ -144,10 +127,10 @@ pub finds_seen : (a b : Device) (t u : Blocks) (x y : Index) (buffer buffer' : B
 finds_seen a b t u x y buffer buffer' cache cache' scratch scratch' found found' spare spare' broken broken' refused refused' reads blocks index buffers spares breaks refuses = record {
   page_bytes = ap (λ (g : Geometry). g.bytes) reads.lasts.geometry;
   most = ap most_pages buffers;
-  present = ap (λ i. known b.honest (present_data i (buffered buffer') b.flash)) index
-      ∙ ap (λ i. known b.honest (present_data x (buffered i) b.flash)) buffers
+  present = ap (λ i. known_pages b.honest (present_data i (buffered buffer') b.flash)) index
+      ∙ ap (λ i. known_pages b.honest (present_data x (buffered i) b.flash)) buffers
       ∙ known_same a b (present_data x (buffered buffer)) reads;
-  kept = ap (λ i. known b.honest (kept_data i b.flash)) index ∙ known_same a b (kept_data x) reads;
+  kept = ap (λ i. known_pages b.honest (kept_data i b.flash)) index ∙ known_same a b (kept_data x) reads;
   sound = ap (λ h. h && not broken') reads.lasts.honest ∙ ap (λ w. a.honest && not w) breaks;
   failed = failed;
   refused = refuses;
@@ -188,29 +171,29 @@ data_there (p ∷ ps) (suc i) lt = data_there ps i (omega (arith, lt))
 
 -- a key that is present in the buffer has the page that is lent
 pub buffered_lent : (a : Device) (x : Index) (pages : List FreshPage) (scratch : List ℕ) (o c i : ℕ) (broken : Bool) → present x o c ≡ presents.InBuffer i → i < length pages
-    → (a.honest && not broken) ≡ true → known a.honest (present_data x pages a.flash) o c ≡ Some (bytes_or (data_in pages i) scratch)
+    → (a.honest && not broken) ≡ true → known_pages a.honest (present_data x pages a.flash) o c ≡ Some (bytes_or (data_in pages i) scratch)
 buffered_lent a x pages scratch o c i broken is within sound =
     let there = data_there pages i within in
-    ap (λ h. known h (present_data x pages a.flash) o c) (sound_honest a.honest broken sound)
+    ap (λ h. known_pages h (present_data x pages a.flash) o c) (sound_honest a.honest broken sound)
     ∙ ap (data_by a.flash pages) is ∙ some_bytes (data_in pages i) there.0 scratch there.1
 
 -- a key that is present on the flash has the page that is lent
 pub kept_lent : (a : Device) (x : Index) (pages : List FreshPage) (lent : List ℕ) (o c : ℕ) (at : KeptPage) (broken : Bool) (result : Result Presence StoreFault) → present x o c ≡ presents.OnFlash at
     → (a.honest && not broken) ≡ true → IfOk result (λ presence. presence ≡ presences.Present) → (broken ≡ false → a.honest ≡ true → OnOk result (data_at a.flash at ≡ Some lent))
-    → IfOk result (FindsPage (known a.honest (present_data x pages a.flash)) o c lent)
+    → IfOk result (FindsPage (known_pages a.honest (present_data x pages a.flash)) o c lent)
 kept_lent a x pages lent o c at broken (Err fault) is sound there page = tt
 kept_lent a x pages lent o c at broken (Ok told) is sound there page =
     let honest = sound_honest a.honest broken sound in
-    subst (FindsPage (known a.honest (present_data x pages a.flash)) o c lent) (sym there)
-    (ap (λ h. known h (present_data x pages a.flash) o c) honest ∙ ap (data_by a.flash pages) is ∙ page (sound_whole a.honest broken sound) honest)
+    subst (FindsPage (known_pages a.honest (present_data x pages a.flash)) o c lent) (sym there)
+    (ap (λ h. known_pages h (present_data x pages a.flash) o c) honest ∙ ap (data_by a.flash pages) is ∙ page (sound_whole a.honest broken sound) honest)
 
 -- and so it has one
 pub not_absent : (a : Device) (x : Index) (pages : List FreshPage) (o c : ℕ) (at : KeptPage) (broken : Bool) → present x o c ≡ presents.OnFlash at
-    → (broken ≡ false → a.honest ≡ true → AreKept a.flash (kept_pages x)) → (a.honest && not broken) ≡ true → known a.honest (present_data x pages a.flash) o c ≡ None → ⊥
+    → (broken ≡ false → a.honest ≡ true → AreKept a.flash (kept_pages x)) → (a.honest && not broken) ≡ true → known_pages a.honest (present_data x pages a.flash) o c ≡ None → ⊥
 not_absent a x pages o c at broken is kept sound none =
     let honest : a.honest ≡ true = sound_honest a.honest broken sound in
-    let here : known a.honest (present_data x pages a.flash) o c ≡ data_at a.flash at =
-    ap (λ h. known h (present_data x pages a.flash) o c) honest ∙ ap (data_by a.flash pages) is in
+    let here : known_pages a.honest (present_data x pages a.flash) o c ≡ data_at a.flash at =
+    ap (λ h. known_pages h (present_data x pages a.flash) o c) honest ∙ ap (data_by a.flash pages) is in
     kept_written a.flash x o c at (kept (sound_whole a.honest broken sound) honest) (kept_there x o c at is) (sym here ∙ none)
 
 -- each fault has its cause

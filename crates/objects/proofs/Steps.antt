@@ -1,5 +1,5 @@
 -- What a change and a commit leave of a store.
-use Rattle.std.specs.Prelude.{◌≡◌, ◌<◌, ◌≤◌, ◌+◌, ◌^◌, ℕ, Bool, true, false, List, [], ◌∷◌, length, Option, Some, None, IsSome, IsTrue, Result, Ok, Err, OnOk, slice_get}
+use Rattle.std.specs.Prelude.{◌≡◌, ◌⊎◌, ◌<◌, ◌≤◌, ◌+◌, ◌*◌, ◌^◌, ℕ, Bool, true, false, List, [], ◌∷◌, length, Option, Some, None, IsSome, IsTrue, Result, Ok, Err, OnOk, slice_get}
 use Rattle.std.specs.Option.{option_map, option_and_then}
 use Rattle.std.proofs.Common.{refl, sym, ◌∙◌, ap, subst, inl, inr, arith}
 use Rattle.std.proofs.lemmas.Bool.{cases_eq, false≢true}
@@ -19,7 +19,7 @@ use Rattle.chunk_index.specs.laws.Maps.{agree_same}
 use Rattle.transactions.specs.Handing.{HandsOut}
 use Rattle.transactions.specs.laws.Handing.{hands_nothing}
 use Rattle.bad_blocks.specs.Standing.{MayLie, Stands}
-use Rattle.pages.specs.Maps.{PageMap, without_cuts, changed}
+use Rattle.pages.specs.Maps.{PageMap, known_pages, without_cuts, changed}
 use Rattle.pages.specs.laws.Maps.{page_elsewhere, cut_elsewhere, elsewhere}
 use Rattle.pages.specs.laws.Changes.{cuts_nothing}
 use Rattle.pages.specs.declared.change.Change.{Change}
@@ -33,7 +33,8 @@ use Rattle.volume_terms.specs.declared.fault.StoreFault.{StoreFault}
 use Rattle.objects.specs.Caching.{Shows, HasNoMore, LacksCuts, LacksPages, AreIn}
 use Rattle.commits.specs.Carrying.{AreWritable}
 use Rattle.collector.specs.Making.{HasMore}
-use Rattle.commits.specs.Committing.{TakesNoBlock, TakesOneBlock}
+use Rattle.bad_blocks.specs.Moving.{Costs}
+use Rattle.commits.specs.Committing.{KeepsOpen, TakesNoBlock, TakesOneBlock}
 use Rattle.objects.specs.Changing.{IsCommitFault, fault_of}
 use Rattle.pages.specs.Changes.{AreOfObjects}
 use Rattle.pages.specs.Stores.{SamePages}
@@ -41,15 +42,15 @@ use Rattle.nand_model.specs.declared.geometry.Geometry.{Geometry}
 use Rattle.collector.specs.Making.{WhyNoRoom}
 use Rattle.collector.specs.declared.fault.RoomFault.{RoomFault}
 use Rattle.collector.specs.declared.fault.RoomFault.TheVariants as causes
-use Rattle.objects.specs.StoreOf.{known, kept_map, present_map}
+use Rattle.objects.specs.StoreOf.{kept_map, present_map}
 use Rattle.objects.proofs.ReadOnly.{kept_there}
 
 -- maps that have the same pages, where they are known
-pub known_pages : (h : Bool) (m n : PageMap) → (h ≡ true → SamePages n m) → SamePages (known h n) (known h m)
-known_pages true m n same = same refl
-known_pages false m n same = λ o c. refl
+pub known_alike : (h : Bool) (m n : PageMap) → (h ≡ true → SamePages n m) → SamePages (known_pages h n) (known_pages h m)
+known_alike true m n same = same refl
+known_alike false m n same = λ o c. refl
 
-pub known_changed : (h : Bool) (change : Change) (m n : PageMap) → h ≡ true → SamePages n (changed change m) → SamePages (known h n) (changed change (known h m))
+pub known_changed : (h : Bool) (change : Change) (m n : PageMap) → h ≡ true → SamePages n (changed change m) → SamePages (known_pages h n) (changed change (known_pages h m))
 known_changed true change m n is same = same
 known_changed false change m n is same = absurd (false≢true is)
 
@@ -138,7 +139,7 @@ pub shown_cut : (cuts : List Cut) (m : PageMap) (a b : PageCache) → Shows a m 
 shown_cut cuts m a b shows fewer lacks' o k xs is =
     cut_elsewhere cuts m o k (λ i cut. absurd (let two : None ≡ Some xs = sym (lacks' o k i cut) ∙ is in cc)) ∙ shows o k xs (fewer o k xs is)
 
-pub known_cut : (h : Bool) (cuts : List Cut) (m n : PageMap) → h ≡ true → SamePages n (without_cuts cuts m) → SamePages (known h n) (without_cuts cuts (known h m))
+pub known_cut : (h : Bool) (cuts : List Cut) (m n : PageMap) → h ≡ true → SamePages n (without_cuts cuts m) → SamePages (known_pages h n) (without_cuts cuts (known_pages h m))
 known_cut true cuts m n is same = same
 known_cut false cuts m n is same = absurd (false≢true is)
 
@@ -172,13 +173,13 @@ pub same_on : (m n k : PageMap) → SamePages m n → SamePages n k → SamePage
 same_on m n k first then o c = first o c ∙ then o c
 
 pub kept_map_same : (d e : Device) (x y : Index) → e ≡ d → SameKept x y → SamePages (kept_map e y) (kept_map d x)
-kept_map_same d e x y is same = subst (λ (k : Device). SamePages (kept_map k y) (kept_map d x)) (sym is) (known_pages d.honest (kept_data x d.flash) (kept_data y d.flash) (λ _. kept_same x y same d.flash))
+kept_map_same d e x y is same = subst (λ (k : Device). SamePages (kept_map k y) (kept_map d x)) (sym is) (known_alike d.honest (kept_data x d.flash) (kept_data y d.flash) (λ _. kept_same x y same d.flash))
 
 pub present_map_same : (d e : Device) (x y : Index) (b b' : Buffer) → e ≡ d → SamePresent x y → b' ≡ b → SamePages (present_map e y b') (present_map d x b)
 present_map_same d e x y b b' is same buffers =
     subst (λ (k : Device). SamePages (present_map k y b') (present_map d x b)) (sym is)
     (subst (λ (k : Buffer). SamePages (present_map d y k) (present_map d x b)) (sym buffers)
-    (known_pages d.honest (present_data x (buffered b) d.flash) (present_data y (buffered b) d.flash) (λ _. present_same x y (buffered b) d.flash same)))
+    (known_alike d.honest (present_data x (buffered b) d.flash) (present_data y (buffered b) d.flash) (λ _. present_same x y (buffered b) d.flash same)))
 
 -- each fault of a commit has its cause
 pub commit_fails : (spare count : ℕ) (d : Device) (t u : Table) (broken : Bool) (fault : RoomFault) → WhyNoRoom count spare d t u fault → IsCommitFault spare count d t u broken (fault_of fault)
@@ -246,3 +247,22 @@ takes_one_between count now spare s t u d e f k before tables long spares after 
     let more : HasMore u s = subst (λ (x : Table). HasMore x s) (sym tables) (subst (HasMore t) (sym spares) has) in
     let few : f.changes ≤ e.changes + now + 1 = takes more (omega (arith, none, was, is)) in
     omega (arith, few, old, new, long)
+
+-- ---- what it costs
+
+pub costs_still : (n k : ℕ) (d e : Device) → e ≡ d → Costs n k 0 d e
+costs_still n k d e still = subst (λ (x : Device). Costs n k 0 d x) (sym still) (let one : k * (d.failures + 0) ≡ k * d.failures = omega arith in omega (arith, one))
+
+pub costs_between : (count now : ℕ) (d e f k : Device) → e ≡ d → now ≡ count → k ≡ f → Costs (now + e.geometry.pages + 1) (3 * e.geometry.pages + 3) 0 e f → Costs (count + d.geometry.pages + 1) (3 * d.geometry.pages + 3) 0 d k
+costs_between count now d e f k before long after costs =
+    subst (λ (x : Device). Costs (count + d.geometry.pages + 1) (3 * d.geometry.pages + 3) 0 d x) (sym after)
+    (subst (λ n. Costs (n + d.geometry.pages + 1) (3 * d.geometry.pages + 3) 0 d f) long
+    (subst (λ (x : Device). Costs (now + x.geometry.pages + 1) (3 * x.geometry.pages + 3) 0 x f) before costs))
+
+-- ---- the open block stays open
+
+pub open_between : (count now : ℕ) (t u v w : Table) (d e f k : Device) → e ≡ d → u ≡ t → now ≡ count → k ≡ f → w ≡ v → (v ≡ u) ⊎ KeepsOpen now u v e f → (w ≡ t) ⊎ KeepsOpen count t w d k
+open_between count now t u v w d e f k before tables long after then (inl same) = inl (then ∙ same ∙ tables)
+open_between count now t u v w d e f k before tables long after then (inr keeps) = inr (
+    subst (λ (x : Device). KeepsOpen count t w d x) (sym after) (subst (λ (y : Table). KeepsOpen count t y d f) (sym then)
+    (subst (λ n. KeepsOpen n t v d f) long (subst (λ (x : Device). KeepsOpen now t v x f) before (subst (λ (y : Table). KeepsOpen now y v e f) tables keeps)))))

@@ -9,13 +9,7 @@ use Rattle.page_cache.specs.declared.cache.PageCache.{PageCache}
 use Rattle.volume_terms.specs.declared.fault.StoreFault.{StoreFault}
 use Rattle.volume_terms.specs.declared.fault.StoreFault.TheVariants as faults
 
--- The device is gone; or, where it is honest, the page is not written.
-abbrev pub IsReadFault : Device → Device → KeptPage → StoreFault → Type 0
-IsReadFault old new at faults.NoMemory = ⊥
-IsReadFault old new at faults.Device = (new.gone ≡ true) ⊎ (old.honest ≡ true → data_at old.flash at ≡ None)
-IsReadFault old new at faults.Worn = ⊥
-
--- The same, or memory was refused.
+-- Memory was refused, the device is gone, or, where it is honest, the page is not written.
 abbrev pub IsLoadFault : Device → Device → KeptPage → StoreFault → Type 0
 IsLoadFault old new at faults.NoMemory = Unit {0}
 IsLoadFault old new at faults.Device = (new.gone ≡ true) ⊎ (old.honest ≡ true → data_at old.flash at ≡ None)

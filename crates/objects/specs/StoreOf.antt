@@ -2,7 +2,7 @@
 use Rattle.std.specs.Prelude.{ℕ, Bool, true, false, not, ◌&&◌, ◌||◌, List, None}
 use Rattle.nand_model.specs.Calls.{Device}
 use Rattle.chunk_index.specs.declared.index.Index.{Index}
-use Rattle.pages.specs.Maps.{PageMap}
+use Rattle.pages.specs.Maps.{PageMap, known_pages}
 use Rattle.block_state.specs.Table.{Table}
 use Rattle.pages.specs.State.{PagesState, NextNumbers}
 use Rattle.page_buffer.specs.BufferOf.{buffered, most_pages}
@@ -12,18 +12,13 @@ use Rattle.page_cache.specs.declared.cache.PageCache.{PageCache}
 use Rattle.objects.specs.Found.{found_bytes}
 use Rattle.objects.specs.declared.store.Found.{Found}
 
--- the pages, where they are known
-abbrev pub known : Bool → PageMap → PageMap
-known true m = m
-known false m = λ o c. None
-
 -- the pages of the last commit, where they are known
 abbrev pub kept_map : Device → Index → PageMap
-kept_map device x = known device.honest (kept_data x device.flash)
+kept_map device x = known_pages device.honest (kept_data x device.flash)
 
 -- the pages that are present, where they are known
 abbrev pub present_map : Device → Index → Buffer → PageMap
-present_map device x buffer = known device.honest (present_data x (buffered buffer) device.flash)
+present_map device x buffer = known_pages device.honest (present_data x (buffered buffer) device.flash)
 
 -- the numbers that the next group and the next block get
 abbrev pub next_numbers : Table → NextNumbers

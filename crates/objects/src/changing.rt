@@ -1,11 +1,11 @@
 // The change of a store's pages.
-ghost use Rattle.std.specs.Prelude.{◌≡◌, ◌≤◌, ◌/◌, ◌⊎◌, ℕ, length, true, false, OnOk, IfErr, OnErr, IsErrOf};
+ghost use Rattle.std.specs.Prelude.{◌≡◌, ◌≤◌, ◌+◌, ◌*◌, ◌/◌, ◌⊎◌, ℕ, length, true, false, OnOk, IfErr, OnErr, IsErrOf};
 ghost use Rattle.nand_model.specs.Calls.{Lasts};
 ghost use Rattle.block_state.specs.TableOf.{table};
 ghost use Rattle.chunk_index.specs.Maps.{IsReadyKey, SameKept, SamePresent, StaysPrepared};
 ghost use Rattle.transactions.specs.Handing.{HandsOut};
-ghost use Rattle.bad_blocks.specs.Moving.{MarksFailures};
-ghost use Rattle.commits.specs.Committing.{TakesNoBlock, TakesOneBlock};
+ghost use Rattle.bad_blocks.specs.Moving.{AnswersFailures, Costs, MarksFailures};
+ghost use Rattle.commits.specs.Committing.{KeepsOpen, TakesNoBlock, TakesOneBlock};
 ghost use Rattle.pages.specs.Changes.{AreApart, AreSized, AreOfObjects};
 ghost use Rattle.pages.specs.Maps.{changed};
 ghost use Rattle.page_buffer.specs.BufferOf.{buffered, most_pages, bytes_of_page};
@@ -44,6 +44,8 @@ impl<N: Nand> Store<N> {
         ensures lasts { Lasts (N.state self.old.device) (N.state self.new.device) }
         ensures numbers { HandsOut (N.state self.old.device) (N.state self.new.device) (table self.old.blocks) (table self.new.blocks) }
         ensures marks { MarksFailures 0 0 (N.state self.old.device) (N.state self.new.device) (table self.old.blocks) (table self.new.blocks) }
+        ensures answers { OnOk result (AnswersFailures 0 0 (N.state self.old.device) (N.state self.new.device) (table self.old.blocks) (table self.new.blocks)) }
+        ensures costs { Costs (length (buffered self.old.buffer) + (N.state self.old.device).geometry.pages + 1) (3 * (N.state self.old.device).geometry.pages + 3) 0 (N.state self.old.device) (N.state self.new.device) }
         ensures same { (self.new.spare ≡ self.old.spare) × (self.old.refused ≡ true → self.new.refused ≡ true) }
         ensures whole { OnOk result ((self.old.broken ≡ false) × (self.new.broken ≡ false)) }
         ensures present { (N.state self.old.device).honest ≡ true → OnOk result (SamePages (present_map (N.state self.new.device) self.new.index self.new.buffer)
@@ -58,12 +60,15 @@ impl<N: Nand> Store<N> {
             × (self.new.broken ≡ self.old.broken)
             × SamePages (kept_map (N.state self.new.device) self.new.index) (kept_map (N.state self.old.device) self.old.index)
             × SamePages (present_map (N.state self.new.device) self.new.index self.new.buffer) (present_map (N.state self.old.device) self.old.index self.old.buffer) }
-        // Where the buffer has room there is no call of the device.
+        // Where the buffer has room there is no call of the device, and the table stays.
         ensures room { with_new self.old.index (buffered self.old.buffer) change.pages.items ≤ most_pages self.old.buffer
-            → (N.state self.new.device ≡ N.state self.old.device) × SamePages (kept_map (N.state self.new.device) self.new.index) (kept_map (N.state self.old.device) self.old.index) }
+            → (N.state self.new.device ≡ N.state self.old.device) × SamePages (kept_map (N.state self.new.device) self.new.index) (kept_map (N.state self.old.device) self.old.index)
+            × (table self.new.blocks ≡ table self.old.blocks) }
         // Else no block is taken where the open one has as many pages left as are buffered.
         ensures takes_none { TakesNoBlock (length (buffered self.old.buffer)) (table self.old.blocks) (N.state self.old.device) (N.state self.new.device) }
         ensures takes_one { TakesOneBlock (length (buffered self.old.buffer)) self.old.spare (table self.old.blocks) (N.state self.old.device) (N.state self.new.device) }
+        // And it stays open then, where it has so many and no program fails.
+        ensures keeps_open { OnOk result ((table self.new.blocks ≡ table self.old.blocks) ⊎ KeepsOpen (length (buffered self.old.buffer)) (table self.old.blocks) (table self.new.blocks) (N.state self.old.device) (N.state self.new.device)) }
         ensures stops { IfErr result (λ fault. (fault ≡ faults.NoMemory) ⊎ (self.new.broken ≡ true)) }
         ensures fault { IfErr result (IsChangeFault self.old.spare (length (buffered self.old.buffer)) (N.state self.new.device) (table self.old.blocks) (table self.new.blocks) self.old.broken self.new.refused) }
     {
@@ -102,6 +107,8 @@ impl<N: Nand> Store<N> {
         ensures lasts { Lasts (N.state self.old.device) (N.state self.new.device) }
         ensures numbers { HandsOut (N.state self.old.device) (N.state self.new.device) (table self.old.blocks) (table self.new.blocks) }
         ensures marks { MarksFailures 0 0 (N.state self.old.device) (N.state self.new.device) (table self.old.blocks) (table self.new.blocks) }
+        ensures answers { OnOk result (AnswersFailures 0 0 (N.state self.old.device) (N.state self.new.device) (table self.old.blocks) (table self.new.blocks)) }
+        ensures costs { Costs (length (buffered self.old.buffer) + (N.state self.old.device).geometry.pages + 1) (3 * (N.state self.old.device).geometry.pages + 3) 0 (N.state self.old.device) (N.state self.new.device) }
         ensures same { (self.new.spare ≡ self.old.spare) × (self.new.refused ≡ self.old.refused) }
         ensures keys { (o c : ℕ) → IsReadyKey self.old.index o c → IsReadyKey self.new.index o c }
         ensures whole { OnOk result (self.new.broken ≡ false) }
@@ -113,9 +120,10 @@ impl<N: Nand> Store<N> {
             → IsCarried (N.state self.new.device) self.old.spare (kept_map (N.state self.old.device) self.old.index)
             ⊎ IsCarried (N.state self.new.device) self.old.spare (present_map (N.state self.old.device) self.old.index self.old.buffer) }
         ensures enough { with_new self.old.index (buffered self.old.buffer) pages.now ≤ most_pages self.old.buffer
-            → (self.new.device ≡ self.old.device) × (self.new.index ≡ self.old.index) }
+            → (self.new.device ≡ self.old.device) × (self.new.index ≡ self.old.index) × (self.new.blocks ≡ self.old.blocks) }
         ensures takes_none { TakesNoBlock (length (buffered self.old.buffer)) (table self.old.blocks) (N.state self.old.device) (N.state self.new.device) }
         ensures takes_one { TakesOneBlock (length (buffered self.old.buffer)) self.old.spare (table self.old.blocks) (N.state self.old.device) (N.state self.new.device) }
+        ensures keeps_open { OnOk result ((table self.new.blocks ≡ table self.old.blocks) ⊎ KeepsOpen (length (buffered self.old.buffer)) (table self.old.blocks) (table self.new.blocks) (N.state self.old.device) (N.state self.new.device)) }
         ensures stops { OnErr result (self.new.broken ≡ true) }
         ensures fault { IfErr result (IsCommitFault self.old.spare (length (buffered self.old.buffer)) (N.state self.new.device) (table self.old.blocks) (table self.new.blocks) false) }
     {

@@ -1,12 +1,12 @@
 // The commit of a store's pages.
-ghost use Rattle.std.specs.Prelude.{◌≡◌, ◌⊎◌, ℕ, [], length, true, false, OnOk, OnErr, IfErr};
+ghost use Rattle.std.specs.Prelude.{◌≡◌, ◌⊎◌, ◌+◌, ◌*◌, ℕ, [], length, true, false, IsOk, OnOk, OnErr, IfErr};
 ghost use Rattle.nand_model.specs.Calls.{Lasts};
 ghost use Rattle.block_state.specs.TableOf.{table};
 ghost use Rattle.chunk_index.specs.Maps.{IsReadyKey};
 ghost use Rattle.transactions.specs.Handing.{HandsOut};
-ghost use Rattle.bad_blocks.specs.Moving.{MarksFailures};
+ghost use Rattle.bad_blocks.specs.Moving.{AnswersFailures, Costs, MarksFailures};
 ghost use Rattle.page_buffer.specs.BufferOf.{buffered};
-ghost use Rattle.commits.specs.Committing.{TakesNoBlock, TakesOneBlock};
+ghost use Rattle.commits.specs.Committing.{IsUnhindered, KeepsOpen, TakesNoBlock, TakesOneBlock};
 ghost use Rattle.pages.specs.Stores.{SamePages, IsCarried};
 ghost use Rattle.objects.specs.Caching.{TakesPages, KeepsKeys};
 ghost use Rattle.objects.specs.Changing.{IsCommitFault, fault_of};
@@ -43,6 +43,8 @@ impl<N: Nand> Store<N> {
         ensures lasts { Lasts (N.state self.old.device) (N.state self.new.device) }
         ensures numbers { HandsOut (N.state self.old.device) (N.state self.new.device) (table self.old.blocks) (table self.new.blocks) }
         ensures marks { MarksFailures 0 0 (N.state self.old.device) (N.state self.new.device) (table self.old.blocks) (table self.new.blocks) }
+        ensures answers { OnOk result (AnswersFailures 0 0 (N.state self.old.device) (N.state self.new.device) (table self.old.blocks) (table self.new.blocks)) }
+        ensures costs { Costs (length (buffered self.old.buffer) + (N.state self.old.device).geometry.pages + 1) (3 * (N.state self.old.device).geometry.pages + 3) 0 (N.state self.old.device) (N.state self.new.device) }
         ensures same { (self.new.spare ≡ self.old.spare) × (self.new.refused ≡ self.old.refused) }
         ensures keys { (o c : ℕ) → IsReadyKey self.old.index o c → IsReadyKey self.new.index o c }
         ensures whole { OnOk result ((self.old.broken ≡ false) × (self.new.broken ≡ false)) }
@@ -60,6 +62,10 @@ impl<N: Nand> Store<N> {
         ensures takes_none { TakesNoBlock (length (buffered self.old.buffer)) (table self.old.blocks) (N.state self.old.device) (N.state self.new.device) }
         // And no more than one, while blocks are left that can be taken.
         ensures takes_one { TakesOneBlock (length (buffered self.old.buffer)) self.old.spare (table self.old.blocks) (N.state self.old.device) (N.state self.new.device) }
+        // The open block is closed only where it lacks the pages, or a program failed.
+        ensures keeps_open { OnOk result (KeepsOpen (length (buffered self.old.buffer)) (table self.old.blocks) (table self.new.blocks) (N.state self.old.device) (N.state self.new.device)) }
+        // A commit of nothing is done, and so is one that nothing hinders.
+        ensures unhindered { self.old.broken ≡ false → (buffered self.old.buffer ≡ []) ⊎ IsUnhindered (length (buffered self.old.buffer)) (table self.old.blocks) (N.state self.old.device) (N.state self.new.device) → IsOk result }
         ensures nothing { buffered self.old.buffer ≡ [] → N.state self.new.device ≡ N.state self.old.device }
         ensures stops { OnErr result (self.new.broken ≡ true) }
         ensures fault { IfErr result (IsCommitFault self.old.spare (length (buffered self.old.buffer)) (N.state self.new.device) (table self.old.blocks) (table self.new.blocks) self.old.broken) }

@@ -5,33 +5,14 @@ ghost use Rattle.page_buffer.specs.Shown.{data_at};
 ghost use Rattle.page_cache.specs.Cached.{cached, page_bytes_of};
 ghost use Rattle.page_cache.specs.Changes.{KeepsSizes};
 ghost use Rattle.objects.specs.Caching.{KeepsRest};
-ghost use Rattle.objects.specs.Reading.{IsReadFault, IsLoadFault, Caches};
+ghost use Rattle.objects.specs.Reading.{IsLoadFault, Caches};
 
 use chunk_index::KeptPage;
 use flash_tree::Key;
-use nand_model::{Nand, PageKind};
+use nand_model::Nand;
+use page_buffer::read_kept;
 use page_cache::PageCache;
 use volume_terms::StoreFault;
-
-/// Reads the page that is kept there. One that is not written was not kept by its device.
-fn read_kept<N: Nand>(device: &mut N, at: KeptPage, page: &mut [u8]) -> Result<(), StoreFault>
-    requires block { at.block < (N.state device.old).geometry.blocks }
-    requires page { at.page < (N.state device.old).geometry.pages }
-    requires size { length page.old ≡ (N.state device.old).geometry.bytes }
-    ensures reads { OnlyReads (N.state device.old) (N.state device.new) }
-    ensures asked { (N.state device.new).reads ≤ (N.state device.old).reads + 1 }
-    ensures size { length page.new ≡ length page.old }
-    ensures bytes { (N.state device.old).honest ≡ true → OnOk result (data_at (N.state device.old).flash at ≡ Some page.new) }
-    ensures fault { IfErr result (IsReadFault (N.state device.old) (N.state device.new) at) }
-{
-    let mut tag = [0; 48];
-    match device.read_page(at.block, at.page, page, &mut tag) {
-        Ok(PageKind::Written) => Ok(()),
-        Ok(PageKind::Erased) => Err(StoreFault::Device),
-        Ok(PageKind::Uncorrectable) => Err(StoreFault::Device),
-        Err(_) => Err(StoreFault::Device),
-    }
-}
 
 /// Sees that the page of a key, which is kept there, is in the cache.
 pub(crate) fn load_kept<N: Nand>(

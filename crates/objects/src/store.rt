@@ -30,7 +30,7 @@ use page_cache::PageCache;
 use pages::{Pages, Presence, has_power};
 use std::alloc::{AllocError, Global};
 use std::num::NonZeroUsize;
-use volume_terms::StoreFault;
+use volume_terms::{BUFFERS_IN_BLOCK, StoreFault};
 
 /// Where the page is that was found last.
 #[derive(Clone, Copy, Debug, PartialEq, Eq)]
@@ -99,7 +99,7 @@ fn make_rooms(
     ensures page { IfOk result (λ made. length made.scratch.items ≡ geometry.bytes) }
 {
     Ok(Rooms {
-        buffer: Buffer::new(alloc, geometry.pages() / 4, geometry.bytes())?,
+        buffer: Buffer::new(alloc, geometry.pages() / BUFFERS_IN_BLOCK, geometry.bytes())?,
         cache: PageCache::new(alloc, capacity, geometry.bytes() as usize)?,
         room: MoveRoom::new(alloc, geometry)?,
         scratch: vec![in alloc; 0u8; geometry.bytes() as usize]?,

@@ -1,4 +1,4 @@
-use Rattle.std.proofs.Common.{◌≡◌, ◌+◌, ◌*◌, ℕ, List, [], length, sym, ap, ◌∙◌, arith, inr}
+use Rattle.std.proofs.Common.{◌≡◌, ◌+◌, ◌*◌, ℕ, List, [], length, sym, ap, subst, ◌∙◌, arith, inr}
 use Rattle.std.proofs.lemmas.Bool.{eqb-true}
 use Rattle.std.proofs.lemmas.List.{nil_from_length}
 use Rattle.nand_model.specs.Calls.{Device}
@@ -10,6 +10,8 @@ use Rattle.chunk_index.specs.declared.index.Index.{Index}
 use Rattle.page_buffer.specs.BufferOf.{buffered}
 use Rattle.transactions.specs.laws.Handing.{hands_nothing}
 use Rattle.commits.proofs.Costing.{costs_more, costs_none}
+use Rattle.commits.specs.Committing.{StaysOpen}
+use Rattle.commits.proofs.Staying.{stays_recounted}
 use Rattle.commits.proofs.Counts.{ListsAreWhole}
 use Rattle.commits.proofs.Settling.{bad_empty, carries_empty, free_empty, hands_counted, kept_before, kept_empty, ready_counted, stands_empty}
 use Rattle.commits.proofs.Turning.{carries_either, keeps_or_shows, shown_kept, whole_committed}
@@ -99,3 +101,28 @@ returns-then-is_empty-clause-numbers g c =
     let d : Device = g.N.Nand.state c.args.device.now in
     let t : Table = table c.args.blocks.now in
     hands_counted d d t t (table c.settle_empty.new.blocks) _ _ c.settle_empty.ensures.counts (hands_nothing d t)
+
+pub returns-then-is_empty-clause-keeps_open : goal.returns-then-is_empty-clause-keeps_open
+returns-then-is_empty-clause-keeps_open g c = λ _ _.
+    let t : Table = table c.args.blocks.now in
+    let v : Table = table c.settle_empty.new.blocks in
+    let pages : List FreshPage = buffered c.args.buffer.now in
+    let long : length c.pages.result.now ≡ 0 = eqb-true (length c.pages.result.now) 0 (sym c.if-is_empty.ensures) in
+    let none : length pages ≡ 0 = sym (ap length c.pages.ensures) ∙ long in
+    subst (λ n. StaysOpen n t v) (sym none) (stays_recounted t v _ _ c.settle_empty.ensures.counts)
+
+pub returns-then-is_empty-clause-answers : goal.returns-then-is_empty-clause-answers
+returns-then-is_empty-clause-answers g c =
+    let d : Device = g.N.Nand.state c.args.device.now in
+    let t : Table = table c.args.blocks.now in
+    let v : Table = table c.settle_empty.new.blocks in
+    let x : Index = c.args.index.now in
+    let y : Index = c.settle_empty.new.index in
+    let pages : List FreshPage = buffered c.args.buffer.now in
+    let long : length c.pages.result.now ≡ 0 = eqb-true (length c.pages.result.now) 0 (sym c.if-is_empty.ensures) in
+    let none : pages ≡ [] = nil_from_length pages (sym (ap length c.pages.ensures) ∙ long) in
+    let lists : ListsAreWhole = let l = c.the_list_of_a_block_is_whole.ensures in record { kept = l.kept; here = l.here; count = l.count; all = l.all; once = l.once } in
+    let settled = c.settle_empty.ensures in
+    let r = c.requires in
+    let same : bad_count v ≡ bad_count t = bad_empty c.args.spare lists settled.settles.0 d t v x y pages none r.buffers r.ready r.stands r.free settled.settles.1 settled.agree settled.counts in
+    omega (arith, same)

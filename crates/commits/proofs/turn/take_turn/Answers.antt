@@ -1,4 +1,4 @@
-use Rattle.std.proofs.Common.{◌≡◌, ◌≤◌, ◌+◌, ◌*◌, ℕ, List, length, refl, ap, subst, arith, inl, inr, ◌∙◌}
+use Rattle.std.proofs.Common.{◌≡◌, ◌≤◌, ◌+◌, ◌*◌, ℕ, true, false, List, length, refl, ap, subst, arith, inl, inr, ◌∙◌}
 use Rattle.std.proofs.lemmas.Result.{err_from_is_err_and}
 use Rattle.nand_model.specs.Calls.{Device}
 use Rattle.flash_tree.specs.declared.place.FreshPage.{FreshPage}
@@ -17,6 +17,7 @@ use Rattle.bad_blocks.specs.Standing.{HasFreeBlocks}
 use Rattle.commits.specs.Keeping.{Keeps}
 use Rattle.commits.proofs.Following.{buffers_moved}
 use Rattle.commits.proofs.Turning.{keeps_moved, keeps_on, leaves_moved, leaves_kept, leaves_committed, leaves_on, commits_then, whole_after, whole_then, waiting_after, waiting_then, attempt_err}
+use Rattle.commits.proofs.Staying.{attempt_hindered, failed_hindered, keeps_open_written, keeps_open_failed}
 use Rattle.commits.proofs.turn.take_turn.Goals as goal
 
 pub returns-in_err-make_room-clause-leaves : goal.returns-in_err-make_room-clause-leaves
@@ -785,3 +786,90 @@ returns-in_ok-retire-in-Failed-clause-takes_one g c =
     let bad = c.write_buffered.ensures.bad in
     let failed : d1.failures + 1 ≤ d2.failures = omega (arith, bad, (rw c.in-Failed.is at c.in_ok-write_buffered.ensures).marks) in
     takes_one_failed (length (buffered c.args.buffer.now)) c.args.spare (table c.args.blocks.now) d0 d1 d2 d3 c.make_room.ensures.moves.1.lasts.failures failed c.retire-in-Failed.ensures.moves.lasts.failures
+
+pub returns-in-Trusted-clause-answers : goal.returns-in-Trusted-clause-answers
+returns-in-Trusted-clause-answers g c = omega (arith, c.in_ok-make_room.ensures.answers, (rw c.in-Trusted.is at c.in_ok-write_buffered.ensures).answers)
+
+pub returns-in_ok-retire-in-Suspect-clause-answers : goal.returns-in_ok-retire-in-Suspect-clause-answers
+returns-in_ok-retire-in-Suspect-clause-answers g c = omega (arith, c.in_ok-make_room.ensures.answers, (rw c.in-Suspect.is at c.in_ok-write_buffered.ensures).answers, c.in_ok-retire-in-Suspect.ensures.answers)
+
+pub returns-in_ok-retire-in-Failed-clause-answers : goal.returns-in_ok-retire-in-Failed-clause-answers
+returns-in_ok-retire-in-Failed-clause-answers g c = omega (arith, c.in_ok-make_room.ensures.answers, (rw c.in-Failed.is at c.in_ok-write_buffered.ensures).answers, c.in_ok-retire-in-Failed.ensures.answers)
+
+pub returns-in-Trusted-clause-keeps_open : goal.returns-in-Trusted-clause-keeps_open
+returns-in-Trusted-clause-keeps_open g c =
+    let t0 : Table = table c.args.blocks.now in
+    let t1 : Table = table c.make_room.new.blocks in
+    let count : ℕ = length (buffered c.args.buffer.now) in
+    let many = ap length c.pages.ensures in
+    let same : FitsOpen count t0 → t1 ≡ t0 = λ fits. (c.make_room.ensures.enough (omega (arith, fits, many))).table in
+    keeps_open_written count t0 t1 (table c.write_buffered.new.blocks) (g.N.Nand.state c.args.device.now) (g.N.Nand.state c.write_buffered.new.device) same (rw c.in-Trusted.is at c.in_ok-write_buffered.ensures).keeps_open
+
+pub returns-in_ok-retire-in-Suspect-clause-keeps_open : goal.returns-in_ok-retire-in-Suspect-clause-keeps_open
+returns-in_ok-retire-in-Suspect-clause-keeps_open g c =
+    let d0 : Device = g.N.Nand.state c.args.device.now in
+    let d1 : Device = g.N.Nand.state c.make_room.new.device in
+    let d2 : Device = g.N.Nand.state c.write_buffered.new.device in
+    let d3 : Device = g.N.Nand.state c.retire.new.device in
+    let bad = c.write_buffered.ensures.bad in
+    let failed : d1.failures + 1 ≤ d2.failures = omega (arith, bad, (rw c.in-Suspect.is at c.in_ok-write_buffered.ensures).marks) in
+    keeps_open_failed (length (buffered c.args.buffer.now)) (table c.args.blocks.now) (table c.retire.new.blocks) d0 d1 d2 d3 c.make_room.ensures.moves.1.lasts.failures failed c.retire.ensures.moves.lasts.failures
+
+pub returns-in_ok-retire-in-Failed-clause-keeps_open : goal.returns-in_ok-retire-in-Failed-clause-keeps_open
+returns-in_ok-retire-in-Failed-clause-keeps_open g c =
+    let d0 : Device = g.N.Nand.state c.args.device.now in
+    let d1 : Device = g.N.Nand.state c.make_room.new.device in
+    let d2 : Device = g.N.Nand.state c.write_buffered.new.device in
+    let d3 : Device = g.N.Nand.state c.retire-in-Failed.new.device in
+    let bad = c.write_buffered.ensures.bad in
+    let failed : d1.failures + 1 ≤ d2.failures = omega (arith, bad, (rw c.in-Failed.is at c.in_ok-write_buffered.ensures).marks) in
+    keeps_open_failed (length (buffered c.args.buffer.now)) (table c.args.blocks.now) (table c.retire-in-Failed.new.blocks) d0 d1 d2 d3 c.make_room.ensures.moves.1.lasts.failures failed c.retire-in-Failed.ensures.moves.lasts.failures
+
+pub returns-in_err-make_room-clause-unhindered : goal.returns-in_err-make_room-clause-unhindered
+returns-in_err-make_room-clause-unhindered g c = λ h.
+    let many = ap length c.pages.ensures in
+    let fits = h.fits in
+    let two : false ≡ true = c.in_err-make_room.ensures.succeeds (omega (arith, fits, many)) in
+    absurd cc
+
+pub returns-then-next_group-ge-NUMBER_END-clause-unhindered : goal.returns-then-next_group-ge-NUMBER_END-clause-unhindered
+returns-then-next_group-ge-NUMBER_END-clause-unhindered g c = λ h.
+    let many = ap length c.pages.ensures in
+    let fits = h.fits in
+    let same = ap (λ (t : Table). t.next_group) (c.make_room.ensures.enough (omega (arith, fits, many))).table in
+    absurd (omega (arith, same, h.number, c.next_group.ensures, c.if-next_group-ge-NUMBER_END.true))
+
+pub returns-in_err-write_buffered-clause-unhindered : goal.returns-in_err-write_buffered-clause-unhindered
+returns-in_err-write_buffered-clause-unhindered g c = λ h.
+    let d0 : Device = g.N.Nand.state c.args.device.now in
+    let d1 : Device = g.N.Nand.state c.make_room.new.device in
+    let d2 : Device = g.N.Nand.state c.write_buffered.new.device in
+    let t0 : Table = table c.args.blocks.now in
+    let t1 : Table = table c.make_room.new.blocks in
+    let t2 : Table = table c.write_buffered.new.blocks in
+    let x1 : Index = c.make_room.new.index in
+    let x2 : Index = c.write_buffered.new.index in
+    let room = c.make_room.ensures in
+    let free : HasFreeBlocks t1 c.args.spare = c.in_ok-make_room.ensures.ends.free c.requires.free in
+    absurd (attempt_hindered (length (buffered c.args.buffer.now)) c.args.spare d0 d1 d2 t0 t1 t2 x1 x2 c.args.buffer.now c.write_buffered.new.buffer c.in_err-write_buffered.field-0.0
+    (c.in_err-write_buffered.ensures.ends c.args.spare room.stands free) (c.write_buffered.ensures.lasts.honest ∙ room.moves.1.lasts.honest) h)
+
+pub returns-in_err-retire-in-Suspect-clause-unhindered : goal.returns-in_err-retire-in-Suspect-clause-unhindered
+returns-in_err-retire-in-Suspect-clause-unhindered g c = λ h.
+    let d0 : Device = g.N.Nand.state c.args.device.now in
+    let d1 : Device = g.N.Nand.state c.make_room.new.device in
+    let d2 : Device = g.N.Nand.state c.write_buffered.new.device in
+    let d3 : Device = g.N.Nand.state c.retire.new.device in
+    let bad = c.write_buffered.ensures.bad in
+    let failed : d1.failures + 1 ≤ d2.failures = omega (arith, bad, (rw c.in-Suspect.is at c.in_ok-write_buffered.ensures).marks) in
+    absurd (failed_hindered (length (buffered c.args.buffer.now)) (table c.args.blocks.now) d0 d1 d2 d3 c.make_room.ensures.moves.1.lasts.failures failed c.retire.ensures.moves.lasts.failures h)
+
+pub returns-in_err-retire-in-Failed-clause-unhindered : goal.returns-in_err-retire-in-Failed-clause-unhindered
+returns-in_err-retire-in-Failed-clause-unhindered g c = λ h.
+    let d0 : Device = g.N.Nand.state c.args.device.now in
+    let d1 : Device = g.N.Nand.state c.make_room.new.device in
+    let d2 : Device = g.N.Nand.state c.write_buffered.new.device in
+    let d3 : Device = g.N.Nand.state c.retire-in-Failed.new.device in
+    let bad = c.write_buffered.ensures.bad in
+    let failed : d1.failures + 1 ≤ d2.failures = omega (arith, bad, (rw c.in-Failed.is at c.in_ok-write_buffered.ensures).marks) in
+    absurd (failed_hindered (length (buffered c.args.buffer.now)) (table c.args.blocks.now) d0 d1 d2 d3 c.make_room.ensures.moves.1.lasts.failures failed c.retire-in-Failed.ensures.moves.lasts.failures h)

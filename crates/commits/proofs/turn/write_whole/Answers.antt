@@ -1,4 +1,4 @@
-use Rattle.std.proofs.Common.{◌≡◌, ◌+◌, ◌*◌, List, length, refl, ap, subst, ◌∙◌, arith}
+use Rattle.std.proofs.Common.{◌≡◌, ◌+◌, ◌*◌, true, false, List, length, refl, ap, subst, ◌∙◌, arith}
 use Rattle.std.proofs.lemmas.Result.{err_from_is_err_and}
 use Rattle.nand_model.specs.Calls.{Device}
 use Rattle.flash_tree.specs.declared.place.FreshPage.{FreshPage}
@@ -12,6 +12,7 @@ use Rattle.page_buffer.specs.BufferOf.{buffered}
 use Rattle.collector.specs.Making.{WhyNoRoom}
 use Rattle.commits.specs.Keeping.{Leaves}
 use Rattle.commits.proofs.Turning.{answered_after, keeps_here, keeps_on, leaves_on, whole_after, why_before}
+use Rattle.commits.proofs.Staying.{keeps_open_turn, unhindered_turn}
 use Rattle.commits.proofs.turn.write_whole.Goals as goal
 
 pub loop-init : goal.loop-init
@@ -20,6 +21,7 @@ loop-init g c = record {
   buffers = c.requires.buffers;
   same = refl;
   marks = omega arith;
+  answers = omega arith;
   costs = costs_none (3 * (g.N.Nand.state c.args.device.now).geometry.pages + 3) (g.N.Nand.state c.args.device.now);
   first = λ _. (refl, refl);
   few = c.requires.few;
@@ -116,6 +118,7 @@ loop-preserved g c =
       buffers = again.leaves.buffers;
       same = again.ends.0.buffered_still ∙ so_far.same;
       marks = omega (arith, so_far.marks, again.marks);
+      answers = omega (arith, so_far.answers, again.answers);
       costs = costs_on 0 0 (3 * d0.geometry.pages + 3) d0 d e so_far.costs (subst (λ (z : Geometry). Costs 0 (3 * z.pages + 3) 0 d e) so_far.keeps.lasts.geometry again.costs);
       first = λ still. let rise = so_far.keeps.lasts.failures in let more = again.ends.2 in let marks = again.marks in absurd (omega (arith, still, rise, more, marks));
       few = again.ends.3;
@@ -173,3 +176,19 @@ returns-in-Written-clause-takes_one g c =
     let so_far = c.loop.invariant in
     takes_one_turn (length (buffered c.args.buffer.now)) (length (buffered c.loop.buffer)) c.args.spare (table c.args.blocks.now) (table c.loop.blocks) (g.N.Nand.state c.args.device.now) (g.N.Nand.state c.loop.device) (g.N.Nand.state c.take_turn.new.device)
     (ap length so_far.same) so_far.keeps.lasts c.take_turn.ensures.leaves.lasts so_far.first c.take_turn.ensures.takes_one
+
+pub returns-in-Written-clause-answers : goal.returns-in-Written-clause-answers
+returns-in-Written-clause-answers g c = omega (arith, c.loop.invariant.answers, (rw c.in-Written.is at c.in_ok-take_turn.ensures).answers)
+
+pub returns-in-Written-clause-keeps_open : goal.returns-in-Written-clause-keeps_open
+returns-in-Written-clause-keeps_open g c =
+    let so_far = c.loop.invariant in
+    keeps_open_turn (length (buffered c.args.buffer.now)) (length (buffered c.loop.buffer)) (table c.args.blocks.now) (table c.loop.blocks) (table c.take_turn.new.blocks) (g.N.Nand.state c.args.device.now) (g.N.Nand.state c.loop.device) (g.N.Nand.state c.take_turn.new.device)
+    (ap length so_far.same) so_far.keeps.lasts c.take_turn.ensures.leaves.lasts so_far.first (rw c.in-Written.is at c.in_ok-take_turn.ensures).keeps_open
+
+pub returns-in_err-take_turn-clause-unhindered : goal.returns-in_err-take_turn-clause-unhindered
+returns-in_err-take_turn-clause-unhindered g c = λ h.
+    let so_far = c.loop.invariant in
+    let two : false ≡ true = c.in_err-take_turn.ensures.unhindered (unhindered_turn (length (buffered c.args.buffer.now)) (length (buffered c.loop.buffer)) (table c.args.blocks.now) (table c.loop.blocks) (g.N.Nand.state c.args.device.now) (g.N.Nand.state c.loop.device) (g.N.Nand.state c.take_turn.new.device)
+    (ap length so_far.same) so_far.keeps.lasts c.take_turn.ensures.leaves.lasts so_far.first h) in
+    absurd cc

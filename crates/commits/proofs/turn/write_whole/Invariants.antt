@@ -3,7 +3,7 @@ use Rattle.block_state.specs.Kept.{bad_count}
 use Rattle.block_state.specs.TableOf.{table}
 use Rattle.page_buffer.specs.BufferOf.{buffered}
 use Rattle.page_buffer.specs.Buffering.{Buffers}
-use Rattle.bad_blocks.specs.Moving.{Costs, MarksFailures}
+use Rattle.bad_blocks.specs.Moving.{AnswersFailures, Costs, MarksFailures}
 use Rattle.bad_blocks.specs.Room.{IsRoomFor}
 use Rattle.bad_blocks.specs.Standing.{HasFreeBlocks}
 use Rattle.commits.specs.Committing.{SameSizes}
@@ -16,6 +16,7 @@ invariant-loop g l = record {
   buffers : Buffers l.index (buffered l.buffer);
   same : buffered l.buffer ≡ buffered l.fn.buffer;
   marks : MarksFailures 0 0 (g.N.Nand.state l.fn.device) (g.N.Nand.state l.device) (table l.fn.blocks) (table l.blocks);
+  answers : AnswersFailures 0 0 (g.N.Nand.state l.fn.device) (g.N.Nand.state l.device) (table l.fn.blocks) (table l.blocks);
   costs : Costs 0 (3 * (g.N.Nand.state l.fn.device).geometry.pages + 3) 0 (g.N.Nand.state l.fn.device) (g.N.Nand.state l.device);
   first : (g.N.Nand.state l.device).failures ≡ (g.N.Nand.state l.fn.device).failures → (g.N.Nand.state l.device ≡ g.N.Nand.state l.fn.device) × (table l.blocks ≡ table l.fn.blocks);
   few : bad_count (table l.blocks) ≤ l.spare;

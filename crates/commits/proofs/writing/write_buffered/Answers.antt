@@ -1,4 +1,4 @@
-use Rattle.std.proofs.Common.{◌≡◌, ◌+◌, ℕ, true, List, length, Some, Ok, Err, refl, sym, ap, subst, ◌∙◌, arith, if◌then◌else◌}
+use Rattle.std.proofs.Common.{◌≡◌, ◌+◌, ℕ, true, false, List, length, Some, Ok, Err, refl, sym, ap, subst, ◌∙◌, arith, if◌then◌else◌}
 use Rattle.nand_model.specs.Calls.{Device}
 use Rattle.flash_tree.specs.Keeping.{KeepsNewest}
 use Rattle.flash_tree.specs.declared.place.FreshPage.{FreshPage}
@@ -11,6 +11,7 @@ use Rattle.transactions.specs.Groups.{AddsPages, GroupsAfter, OkTable, TellsGrou
 use Rattle.transactions.specs.declared.group.GroupFault.TheVariants as groups
 use Rattle.bad_blocks.specs.laws.Keeping.{same_ends, same_closed}
 use Rattle.commits.specs.Carrying.{HaveRanges}
+use Rattle.commits.proofs.Staying.{stays_open}
 use Rattle.commits.proofs.Counts.{ListsAreWhole}
 use Rattle.commits.proofs.Grouping.{newest_written}
 use Rattle.commits.proofs.Settling.{ready_counted}
@@ -275,3 +276,39 @@ returns-in-Err-Gone-clause-costs g c =
     let w = rw c.in-Err-Gone.field-0-is at c.in-Err-Gone.ensures in
     let many = ap length c.pages-pages.ensures in
     omega (arith, w.ends.1, many)
+
+pub returns-then-placed-clause-answers : goal.returns-then-placed-clause-answers
+returns-then-placed-clause-answers g c =
+    let d : Device = g.N.Nand.state c.args.device.now in
+    let e : Device = g.N.Nand.state c.write_group.new.device in
+    let t : Table = table c.args.blocks.now in
+    let u : Table = table c.write_group.new.blocks in
+    let same = bad_recounted t u (table c.settle.new.blocks) _ _ (same_ends (length c.pages-pages.result.now) t u (Ok c.in-Ok.placed) c.in-Ok.ensures.table) c.settle.ensures.counts in
+    let rise : e.failures ≡ d.failures + 1 = c.in-Ok.ensures.ends.0 ∙ ap (λ s. d.failures + (if s then 1 else 0)) c.if-placed.true in
+    omega (arith, same, rise)
+
+pub returns-in-Err-Failed-clause-answers : goal.returns-in-Err-Failed-clause-answers
+returns-in-Err-Failed-clause-answers g c =
+    let w = rw c.in-Err-Failed.field-0-is at c.in-Err-Failed.ensures in
+    let same = bad_closed (table c.args.blocks.now) (table c.write_group.new.blocks) w.table in
+    let rise = w.ends.0 in
+    omega (arith, same, rise)
+
+pub returns-else-placed-clause-answers : goal.returns-else-placed-clause-answers
+returns-else-placed-clause-answers g c =
+    let d : Device = g.N.Nand.state c.args.device.now in
+    let e : Device = g.N.Nand.state c.write_group.new.device in
+    let t : Table = table c.args.blocks.now in
+    let u : Table = table c.write_group.new.blocks in
+    let same = bad_recounted t u (table c.settle.new.blocks) _ _ (same_ends (length c.pages-pages.result.now) t u (Ok c.in-Ok.placed) c.in-Ok.ensures.table) c.settle.ensures.counts in
+    let none : e.failures ≡ d.failures + 0 = c.in-Ok.ensures.ends.0 ∙ ap (λ s. d.failures + (if s then 1 else 0)) c.if-placed.false in
+    omega (arith, same, none)
+
+pub returns-else-placed-clause-keeps_open : goal.returns-else-placed-clause-keeps_open
+returns-else-placed-clause-keeps_open g c =
+    let t : Table = table c.args.blocks.now in
+    let u : Table = table c.write_group.new.blocks in
+    let same : c.pages-pages.result.now ≡ buffered c.args.buffer.now = c.pages-pages.ensures in
+    let trusted : OkTable false (length c.pages-pages.result.now) t u = subst (λ s. OkTable s (length c.pages-pages.result.now) t u) c.if-placed.false c.in-Ok.ensures.table in
+    let takes : OkTable false (length (buffered c.args.buffer.now)) t u = subst (λ (xs : List FreshPage). OkTable false (length xs) t u) same trusted in
+    stays_open (length (buffered c.args.buffer.now)) c.in-Some.block t u (table c.settle.new.blocks) _ _ (sym c.in-Some.ensures) c.requires.open_room takes c.settle.ensures.counts

@@ -13,7 +13,7 @@ use Rattle.page_buffer.specs.Buffering.{AreReady}
 use Rattle.pages.specs.Stores.{IsCarried}
 use Rattle.objects.specs.StoreOf.{kept_map, present_map}
 use Rattle.objects.proofs.Carried.{carried_same, either_same, store_carries}
-use Rattle.objects.proofs.Steps.{same_back, same_on, fits_on, hands_still, hands_between, takes_still, takes_between, takes_one_still, takes_one_between, kept_map_same, present_map_same, ready_prepared}
+use Rattle.objects.proofs.Steps.{same_back, same_on, fits_on, hands_still, hands_between, takes_still, takes_between, takes_one_still, takes_one_between, costs_still, costs_between, open_between, kept_map_same, present_map_same, ready_prepared}
 use Rattle.objects.proofs.store.Store.change.Goals as goal
 
 pub returns-in_err-prepare-clause-carried : goal.returns-in_err-prepare-clause-carried
@@ -99,7 +99,7 @@ returns-in_err-make_room-clause-room g c = λ fits.
     let same = c.prepare.ensures.same in
     let enough = c.make_room.ensures.enough (fits_on self.index p.index self.buffer p.buffer c.args.change.pages.items c.deref-2.result.now c.prepare.ensures.present same.2 c.deref-2.ensures.value fits) in
     let still : g.N.Nand.state m.device ≡ g.N.Nand.state self.device = ap g.N.Nand.state (enough.0 ∙ same.0) in
-    (still, kept_map_same (g.N.Nand.state self.device) (g.N.Nand.state m.device) self.index m.index still (subst (SameKept self.index) (sym enough.1) c.prepare.ensures.kept))
+    (still, kept_map_same (g.N.Nand.state self.device) (g.N.Nand.state m.device) self.index m.index still (subst (SameKept self.index) (sym enough.1) c.prepare.ensures.kept), ap table (enough.2 ∙ same.1))
 
 pub returns-clause-room : goal.returns-clause-room
 returns-clause-room g c = λ fits.
@@ -111,6 +111,7 @@ returns-clause-room g c = λ fits.
     let still : g.N.Nand.state m.device ≡ g.N.Nand.state self.device = ap g.N.Nand.state (enough.0 ∙ same.0) in (
       ap g.N.Nand.state c.make.ensures.same.0 ∙ still,
       same_on _ _ _ c.make.ensures.kept (kept_map_same (g.N.Nand.state self.device) (g.N.Nand.state m.device) self.index m.index still (subst (SameKept self.index) (sym enough.1) c.prepare.ensures.kept)),
+      ap table (c.make.ensures.same.1 ∙ enough.2 ∙ same.1),
     )
 
 pub returns-clause-kept : goal.returns-clause-kept
@@ -198,3 +199,49 @@ returns-clause-takes_one g c =
     takes_one_between (length (buffered self.buffer)) (length (buffered p.buffer)) self.spare p.spare (table self.blocks) (table p.blocks) (g.N.Nand.state self.device) (g.N.Nand.state p.device) now (g.N.Nand.state c.make.new.self.device)
     (ap g.N.Nand.state same.0) (ap table same.1)
     (ap (λ (b : Buffer). length (buffered b)) same.2) same.3 (ap g.N.Nand.state c.make.ensures.same.0) c.make_room.ensures.takes_one
+
+pub returns-clause-answers : goal.returns-clause-answers
+returns-clause-answers g c =
+    let first = c.prepare.ensures.same in
+    let last = c.make.ensures.same in
+    let a = ap (λ x. (g.N.Nand.state x).failures) first.0 in
+    let b = ap (λ (x : Blocks). bad_count (table x)) first.1 in
+    let d = ap (λ x. (g.N.Nand.state x).failures) last.0 in
+    let e = ap (λ (x : Blocks). bad_count (table x)) last.1 in
+    omega (arith, c.in_ok-make_room.ensures.answers, a, b, d, e)
+
+pub returns-then-self-clause-costs : goal.returns-then-self-clause-costs
+returns-then-self-clause-costs g c = let self = c.args.self.now in costs_still _ _ (g.N.Nand.state self.device) (g.N.Nand.state self.device) refl
+
+pub returns-in_err-prepare-clause-costs : goal.returns-in_err-prepare-clause-costs
+returns-in_err-prepare-clause-costs g c = let self = c.args.self.now in costs_still _ _ (g.N.Nand.state self.device) (g.N.Nand.state c.prepare.new.self.device) (ap g.N.Nand.state c.prepare.ensures.same.0)
+
+pub returns-in_err-make_room-clause-costs : goal.returns-in_err-make_room-clause-costs
+returns-in_err-make_room-clause-costs g c =
+    let self = c.args.self.now in
+    let p = c.prepare.new.self in
+    let same = c.prepare.ensures.same in
+    let now : Device = g.N.Nand.state c.make_room.new.self.device in
+    costs_between (length (buffered self.buffer)) (length (buffered p.buffer)) (g.N.Nand.state self.device) (g.N.Nand.state p.device) now now (ap g.N.Nand.state same.0)
+    (ap (λ (b : Buffer). length (buffered b)) same.2) refl c.make_room.ensures.costs
+
+pub returns-clause-costs : goal.returns-clause-costs
+returns-clause-costs g c =
+    let self = c.args.self.now in
+    let p = c.prepare.new.self in
+    let same = c.prepare.ensures.same in
+    let now : Device = g.N.Nand.state c.make_room.new.self.device in
+    costs_between (length (buffered self.buffer)) (length (buffered p.buffer)) (g.N.Nand.state self.device) (g.N.Nand.state p.device) now (g.N.Nand.state c.make.new.self.device) (ap g.N.Nand.state same.0)
+    (ap (λ (b : Buffer). length (buffered b)) same.2) (ap g.N.Nand.state c.make.ensures.same.0) c.make_room.ensures.costs
+
+pub returns-clause-keeps_open : goal.returns-clause-keeps_open
+returns-clause-keeps_open g c =
+    let self = c.args.self.now in
+    let p = c.prepare.new.self in
+    let m = c.make_room.new.self in
+    let n = c.make.new.self in
+    let same = c.prepare.ensures.same in
+    let made = c.make.ensures.same in
+    open_between (length (buffered self.buffer)) (length (buffered p.buffer)) (table self.blocks) (table p.blocks) (table m.blocks) (table n.blocks)
+    (g.N.Nand.state self.device) (g.N.Nand.state p.device) (g.N.Nand.state m.device) (g.N.Nand.state n.device) (ap g.N.Nand.state same.0) (ap table same.1)
+    (ap (λ (b : Buffer). length (buffered b)) same.2) (ap g.N.Nand.state made.0) (ap table made.1) c.in_ok-make_room.ensures.keeps_open

@@ -1,11 +1,12 @@
 use Rattle.std.specs.Prelude.{◌≤◌, ◌/◌, length}
-use Rattle.std.proofs.Common.{◌∙◌, sym, ap, subst, inl}
+use Rattle.std.proofs.Common.{◌∙◌, refl, sym, ap, subst, inl, inr}
+use Rattle.std.proofs.lemmas.Result.{on_ok_weaker}
 use Rattle.nand_model.specs.declared.geometry.Geometry.{Geometry}
 use Rattle.page_buffer.specs.BufferOf.{buffered}
 use Rattle.block_state.specs.TableOf.{table}
 use Rattle.transactions.specs.laws.Handing.{hands_nothing}
 use Rattle.objects.proofs.Carried.{store_carries}
-use Rattle.objects.proofs.Steps.{room_after}
+use Rattle.objects.proofs.Steps.{costs_still, room_after}
 use Rattle.objects.proofs.store.Store.make_room.Goals as goal
 
 pub returns-clause-room : goal.returns-clause-room
@@ -21,3 +22,12 @@ returns-then-has_room-clause-carried g c = λ honest.
 
 pub returns-then-has_room-clause-numbers : goal.returns-then-has_room-clause-numbers
 returns-then-has_room-clause-numbers g c = hands_nothing (g.N.Nand.state c.args.self.now.device) (table c.args.self.now.blocks)
+
+pub returns-then-has_room-clause-costs : goal.returns-then-has_room-clause-costs
+returns-then-has_room-clause-costs g c = let self = c.args.self.now in costs_still _ _ (g.N.Nand.state self.device) (g.N.Nand.state self.device) refl
+
+pub returns-then-has_room-clause-keeps_open : goal.returns-then-has_room-clause-keeps_open
+returns-then-has_room-clause-keeps_open g c = inl refl
+
+pub returns-clause-keeps_open : goal.returns-clause-keeps_open
+returns-clause-keeps_open g c = on_ok_weaker c.write_out.result (λ keeps. inr keeps) c.write_out.ensures.keeps_open

@@ -1,5 +1,5 @@
-use Rattle.std.specs.Prelude.{◌≡◌, ◌/◌, List, [], Some, None, length, slice_get}
-use Rattle.std.proofs.Common.{◌∙◌, sym, ap, subst}
+use Rattle.std.specs.Prelude.{◌≡◌, ◌/◌, true, false, List, [], Some, None, length, slice_get}
+use Rattle.std.proofs.Common.{◌∙◌, refl, sym, ap, subst, inl, inr}
 use Rattle.nand_model.specs.declared.geometry.Geometry.{Geometry}
 use Rattle.page_buffer.specs.BufferOf.{buffered}
 use Rattle.page_buffer.specs.Shown.{kept_data, present_data}
@@ -12,7 +12,7 @@ use Rattle.transactions.specs.laws.Handing.{hands_nothing}
 use Rattle.objects.specs.Changing.{IsCommitFault}
 use Rattle.objects.specs.declared.store.Found.TheVariants as places
 use Rattle.objects.proofs.Carried.{either_known, kept_is_carried, newest_committed}
-use Rattle.objects.proofs.Steps.{buffered_shown, commit_fails, writable}
+use Rattle.objects.proofs.Steps.{buffered_shown, commit_fails, costs_still, writable}
 use Rattle.objects.proofs.store.Store.write_out.Goals as goal
 
 pub invariant_of-self : goal.invariant_of-self
@@ -76,3 +76,12 @@ returns-in-Ok-clause-carried g c = λ whole honest.
 
 pub returns-then-self-clause-numbers : goal.returns-then-self-clause-numbers
 returns-then-self-clause-numbers g c = hands_nothing (g.N.Nand.state c.args.self.now.device) (table c.args.self.now.blocks)
+
+pub returns-then-self-clause-costs : goal.returns-then-self-clause-costs
+returns-then-self-clause-costs g c = let self = c.args.self.now in costs_still _ _ (g.N.Nand.state self.device) (g.N.Nand.state self.device) refl
+
+pub returns-in-Err-clause-unhindered : goal.returns-in-Err-clause-unhindered
+returns-in-Err-clause-unhindered g c = λ whole why. elim why [
+  | inl none ↦ let two : false ≡ true = c.in-Err.ensures.nothing none in absurd cc
+  | inr is ↦ let two : false ≡ true = c.in-Err.ensures.unhindered is in absurd cc
+]

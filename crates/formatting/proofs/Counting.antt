@@ -1,36 +1,11 @@
 -- Counting over the numbers from a on, one by one.
-use Rattle.std.specs.Prelude.{◌≡◌, ◌≢◌, ◌≤◌, ◌<◌, ℕ, zero, suc, ◌+◌, Bool, true, false, not, ◌&&◌, nat_eq, cond, [], count_by}
+use Rattle.std.specs.Prelude.{◌≡◌, ◌≢◌, ◌≤◌, ◌<◌, ℕ, zero, suc, ◌+◌, Bool, true, false, not, ◌&&◌, nat_eq, cond, count_by}
 use Rattle.std.specs.List.{range_with_len}
 use Rattle.std.proofs.Common.{refl, ◌∙◌, ap, inl, inr, arith}
-use Rattle.std.proofs.lemmas.Bool.{cases_eq, ne_eqb}
+use Rattle.std.proofs.lemmas.Bool.{cases_eq, cases_order, ne_eqb}
 use Rattle.std.proofs.Math.Numerals.{add-one}
 use Rattle.std.proofs.lemmas.List.Sums.{sum_by-cons}
-
--- one more number is counted where it passes
-count_longer : (p : ℕ → Bool) (a n : ℕ) → count_by p (range_with_len a (suc n)) ≡ count_by p (range_with_len a n) + cond (p (a + n)) 1 0
-count_longer p a zero =
-    let w : ℕ → ℕ = λ x. cond (p x) 1 0 in
-    let here : count_by p (range_with_len a 1) ≡ w a + count_by p (range_with_len a 0) = sum_by-cons w a [] in
-    let at : w (a + 0) ≡ w a = ap w (omega arith) in
-    omega (arith, here, at)
-count_longer p a (suc n) =
-    let w : ℕ → ℕ = λ x. cond (p x) 1 0 in
-    let here : count_by p (range_with_len a (suc (suc n))) ≡ w a + count_by p (range_with_len (a + 1) (suc n)) = sum_by-cons w a (range_with_len (a + 1) (suc n)) in
-    let less : count_by p (range_with_len a (suc n)) ≡ w a + count_by p (range_with_len (a + 1) n) = sum_by-cons w a (range_with_len (a + 1) n) in
-    let rest = count_longer p (a + 1) n in
-    let at : w (a + 1 + n) ≡ w (a + suc n) = ap w (omega arith) in
-    omega (arith, here, less, rest, at)
-
--- the next number passes, or it doesn't
-pub counted : (p : ℕ → Bool) (n : ℕ) → p n ≡ true → count_by p (range_with_len 0 (n + 1)) ≡ count_by p (range_with_len 0 n) + 1
-counted p n is =
-    let at : p (0 + n) ≡ true = ap p (omega arith) ∙ is in
-    rw (add-one n) (count_longer p 0 n ∙ ap (λ b. count_by p (range_with_len 0 n) + cond b 1 0) at)
-
-pub passed_over : (p : ℕ → Bool) (n : ℕ) → p n ≡ false → count_by p (range_with_len 0 (n + 1)) ≡ count_by p (range_with_len 0 n)
-passed_over p n not =
-    let at : p (0 + n) ≡ false = ap p (omega arith) ∙ not in
-    rw (add-one n) (count_longer p 0 n ∙ ap (λ b. count_by p (range_with_len 0 n) + cond b 1 0) at ∙ omega arith)
+use Rattle.flash_tree.specs.laws.Counting.{counted}
 
 -- where no number from a on passes otherwise, as many pass
 count_same : (p q : ℕ → Bool) (a n : ℕ) → ((k : ℕ) → a ≤ k → q k ≡ p k) → count_by q (range_with_len a n) ≡ count_by p (range_with_len a n)
@@ -60,6 +35,26 @@ count_one_more p q b a (suc n) same =
       | inl e ↦
           let rest = count_same p q (a + 1) n (λ k le. same k (λ is. omega (arith, le, is, e))) in
           omega (arith, one, two, rest, count_at_most_one (q a))
+    ]
+
+-- where one number alone passes that did not, one more passes
+pub count_new : (p q : ℕ → Bool) (b a n : ℕ) → ((k : ℕ) → k ≢ b → q k ≡ p k) → p b ≡ false → q b ≡ true → a ≤ b → b < a + n
+    → count_by q (range_with_len a n) ≡ count_by p (range_with_len a n) + 1
+count_new p q b a zero same was is least most = absurd (omega arith)
+count_new p q b a (suc n) same was is least most =
+    let one : count_by q (range_with_len a (suc n)) ≡ cond (q a) 1 0 + count_by q (range_with_len (a + 1) n) = sum_by-cons (λ x. cond (q x) 1 0) a (range_with_len (a + 1) n) in
+    let two : count_by p (range_with_len a (suc n)) ≡ cond (p a) 1 0 + count_by p (range_with_len (a + 1) n) = sum_by-cons (λ x. cond (p x) 1 0) a (range_with_len (a + 1) n) in
+    elim (cases_order a b) [
+      | inl e ↦
+          let here : cond {A = ℕ} (q a) 1 0 ≡ 1 = ap (λ x. cond (q x) 1 0) e ∙ ap (λ x. cond x 1 0) is in
+          let before : cond {A = ℕ} (p a) 1 0 ≡ 0 = ap (λ x. cond (p x) 1 0) e ∙ ap (λ x. cond x 1 0) was in
+          let rest = count_same p q (a + 1) n (λ k le. same k (λ at. omega (arith, le, at, e))) in
+          omega (arith, one, two, here, before, rest)
+      | inr (inl lt) ↦
+          let here : cond {A = ℕ} (q a) 1 0 ≡ cond (p a) 1 0 = ap (λ x. cond x 1 0) (same a (λ at. omega (arith, lt, at))) in
+          let rest = count_new p q b (a + 1) n same was is (omega (arith, lt)) (omega (arith, most)) in
+          omega (arith, one, two, here, rest)
+      | inr (inr gt) ↦ absurd (omega (arith, gt, least))
     ]
 
 -- where all pass, all are counted

@@ -1,4 +1,5 @@
 pub mod Counting
 pub mod Keeping
+pub mod Marking
 pub mod Standing
 pub mod Rooted

@@ -10,6 +10,7 @@ use Rattle.nand_model.specs.Calls.{Device}
 use Rattle.nand_model.specs.declared.geometry.Geometry.{Geometry}
 use Rattle.page_tags.specs.declared.tag.Tag.{Tag}
 use Rattle.page_tags.specs.Tags.{tag_bytes, IsTag}
+use Rattle.page_tags.specs.Headers.{header_bytes}
 use Rattle.page_tags.specs.Slots.{Entry}
 use Rattle.volume_terms.specs.Sizes.{Sizes, root_number, capacity}
 use Rattle.posix_profile.specs.State.{Object, Dir}
@@ -31,7 +32,7 @@ use Rattle.directories.specs.Heads.{fields_in}
 use Rattle.directories.specs.declared.head.DirectoryHead.{DirectoryHead}
 use Rattle.formatting.proofs.Counting.{enough_picked}
 use Rattle.formatting.specs.laws.SizesOf.{sizes_are}
-use Rattle.formatting.specs.Formatting.{Keeps, single_tag, StandsAlone, HoldsOnly}
+use Rattle.formatting.specs.Formatting.{Keeps, single_tag, StandsAlone, HoldsOnly, empty_root, root_key, HoldsOnlyRoot}
 
 -- ---- the page is the newest of its key, and no other page has a tag
 
@@ -119,13 +120,13 @@ none_listed : (i : ℕ) (e : Entry) → slice_get [] i ≡ Some e → ⊥
 none_listed i e is = cc
 
 module _ (g : Geometry) (flash : Flash) (spare : ℕ) (room : spare + 4 ≤ g.blocks) (few_bad : bad_blocks g flash ≤ spare) (page : FreshPage)
-    (is : IsHeadPage page g.bytes root_number (record { spare = spare; length = 0; moment = 0 })) (n : ℕ) (some : 1 ≤ n) (few : n ≤ 4096)
+    (is : IsHeadPage page g.bytes root_number (empty_root spare)) (n : ℕ) (some : 1 ≤ n) (few : n ≤ 4096)
     (alone : StandsAlone flash page.bytes.items (single_tag page.key n)) where
   abbrev z : Sizes
   z = sizes_of g spare
 
   abbrev head : DirectoryHead
-  head = record { spare = spare; length = 0; moment = 0 }
+  head = empty_root spare
 
   valid : IsTag (single_tag page.key n)
   valid = root_tag page g.bytes head n is some few
@@ -195,9 +196,23 @@ module _ (g : Geometry) (flash : Flash) (spare : ℕ) (room : spare + 4 ≤ g.bl
 
 -- what a formatting leaves
 pub volume_of : (old new : Device) (spare : ℕ) (page : FreshPage) → old.honest ≡ true → spare + 4 ≤ old.geometry.blocks → Keeps old new → bad_blocks new.geometry new.flash ≤ spare
-    → IsHeadPage page old.geometry.bytes root_number (record { spare = spare; length = 0; moment = 0 }) → HoldsOnly new page → IsSoundFlash new.geometry new.flash spare fresh.objects
+    → IsHeadPage page old.geometry.bytes root_number (empty_root spare) → HoldsOnly new page → IsSoundFlash new.geometry new.flash spare fresh.objects
 volume_of old new spare page honest room keeps few_bad is only =
     let same : old.geometry ≡ new.geometry = sym keeps.lasts.geometry in
     let some_room : spare + 4 ≤ new.geometry.blocks = subst (λ (g : Geometry). spare + 4 ≤ g.blocks) same room in
-    let head = subst (λ (g : Geometry). IsHeadPage page g.bytes root_number (record { spare = spare; length = 0; moment = 0 })) same is in
+    let head = subst (λ (g : Geometry). IsHeadPage page g.bytes root_number (empty_root spare)) same is in
     sound new.geometry new.flash spare some_room few_bad page head only.number only.some (omega (arith, only.few, new.geometry.most_blocks)) (only.alone (keeps.lasts.honest ∙ honest))
+
+-- and the only page that it leaves
+pub root_alone : (old new : Device) (spare : ℕ) (page : FreshPage) → old.honest ≡ true → Keeps old new → IsHeadPage page old.geometry.bytes root_number (empty_root spare) → HoldsOnly new page → HoldsOnlyRoot spare new
+root_alone old new spare page honest keeps is only = record { number = only.number; some = only.some; few = only.few; alone = alone } where
+  keyed : StandsAlone new.flash page.bytes.items (single_tag root_key only.number)
+  keyed =
+      subst (λ (c : ℕ). StandsAlone new.flash page.bytes.items (single_tag (record { object = root_number; chunk = c }) only.number)) is.chunk_is
+      (subst (λ (o : ℕ). StandsAlone new.flash page.bytes.items (single_tag (record { object = o; chunk = page.key.chunk }) only.number)) is.object_is
+      (only.alone (keeps.lasts.honest ∙ honest)))
+
+  alone : StandsAlone new.flash (header_bytes (fields_in new.geometry.bytes (empty_root spare))) (single_tag root_key only.number)
+  alone =
+      subst (λ (g : Geometry). StandsAlone new.flash (header_bytes (fields_in g.bytes (empty_root spare))) (single_tag root_key only.number)) (sym keeps.lasts.geometry)
+      (subst (λ (xs : List ℕ). StandsAlone new.flash xs (single_tag root_key only.number)) is.head_is.encodes keyed)

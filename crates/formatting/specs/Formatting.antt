@@ -4,9 +4,13 @@ use Rattle.nand_model.specs.Flash.{Flash, Erased, Written}
 use Rattle.nand_model.specs.Calls.{Device, Lasts}
 use Rattle.page_tags.specs.declared.tag.Tag.{Tag}
 use Rattle.page_tags.specs.Tags.{tag_bytes}
+use Rattle.page_tags.specs.Headers.{header_bytes}
+use Rattle.volume_terms.specs.Sizes.{root_number}
 use Rattle.flash_tree.specs.Mount.{bad_blocks}
 use Rattle.flash_tree.specs.declared.place.Key.{Key}
 use Rattle.flash_tree.specs.declared.place.FreshPage.{FreshPage}
+use Rattle.directories.specs.Heads.{fields_in}
+use Rattle.directories.specs.declared.head.DirectoryHead.{DirectoryHead}
 use Rattle.formatting.specs.declared.fault.FormatFault.{FormatFault}
 use Rattle.formatting.specs.declared.fault.FormatFault.TheVariants as faults
 
@@ -15,6 +19,10 @@ pub record Keeps (old new : Device) : Type 0 where
   pub lasts : Lasts old new
   pub bad_pages : old.honest ≡ true → (b p : ℕ) → old.flash.bad b ≡ true → new.flash.page b p ≡ old.flash.page b p
   pub new_bad : bad_blocks old.geometry new.flash ≤ bad_blocks old.geometry old.flash + (new.failures - old.failures)
+
+-- each failure that was counted between marked one block: as many more blocks are bad as failures were counted
+abbrev pub EachFailureMarks : Device → Device → Type 0
+EachFailureMarks old new = bad_blocks old.geometry new.flash + old.failures ≡ bad_blocks old.geometry old.flash + new.failures
 
 -- the block is bad, or its first page can be programmed, and so all its pages are erased
 abbrev pub IsClear : Flash → ℕ → Type 0
@@ -63,6 +71,22 @@ pub record HoldsOnly (device : Device) (page : FreshPage) : Type 0 where
   pub few : number ≤ device.geometry.blocks
   pub alone : device.honest ≡ true → StandsAlone device.flash page.bytes.items (single_tag page.key number)
   pub has_power : device.gone ≡ false
+
+-- what the root's header says in an empty volume with so many spare blocks: a directory without entries, of moment 0
+abbrev pub empty_root : ℕ → DirectoryHead
+empty_root spare = record { spare = spare; length = 0; moment = 0 }
+
+-- the key of the root's header
+abbrev pub root_key : Key
+root_key = record { object = root_number; chunk = 0 }
+
+-- The flash holds nothing but an empty volume with so many spare blocks: the root's header stands at the start of a good block,
+-- as a group of its own with a number from 1 to the count of blocks, and every other page of good blocks is erased.
+pub record HoldsOnlyRoot (spare : ℕ) (device : Device) : Type 0 where
+  pub number : ℕ
+  pub some : 1 ≤ number
+  pub few : number ≤ device.geometry.blocks
+  pub alone : StandsAlone device.flash (header_bytes (fields_in device.geometry.bytes (empty_root spare))) (single_tag root_key number)
 
 -- what a fault says of the device, where it is neither of the spare blocks nor of memory
 abbrev pub Explains : ℕ → Device → FormatFault → Type 0

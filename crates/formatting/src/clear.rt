@@ -1,14 +1,15 @@
 // The erasing of a device.
 ghost use Rattle.std.specs.Prelude.{◌≡◌, ◌<◌, true, OnOk, OnErr};
-ghost use Rattle.formatting.specs.Formatting.{Keeps, IsClear, AreClear, OthersStay};
+ghost use Rattle.formatting.specs.Formatting.{Keeps, EachFailureMarks, IsClear, AreClear, OthersStay};
 
 use nand_model::{EraseFault, Gone, Nand};
 
 /// Erases a good block, and marks it where that fails. A bad block is left as it is.
-#[tactic(auto, using(crate::proofs::Keeping::keeps_here, crate::proofs::Keeping::keeps_erase, crate::proofs::Keeping::keeps_mark))]
+#[tactic(auto, using(crate::proofs::Keeping::keeps_here, crate::proofs::Keeping::keeps_erase, crate::proofs::Keeping::keeps_mark, crate::proofs::Marking::marks_none, crate::proofs::Marking::marks_one))]
 fn clear<N: Nand>(device: &mut N, block: u32) -> Result<(), Gone>
     requires { block < (N.state device.old).geometry.blocks }
     ensures keeps { Keeps (N.state device.old) (N.state device.new) }
+    ensures each_failure_marks { OnOk result (EachFailureMarks (N.state device.old) (N.state device.new)) }
     ensures others { OthersStay block (N.state device.old).flash (N.state device.new).flash }
     ensures ready { OnOk result (IsClear (N.state device.new).flash block) }
     ensures gone { OnErr result ((N.state device.new).gone ≡ true) }
@@ -26,6 +27,7 @@ fn clear<N: Nand>(device: &mut N, block: u32) -> Result<(), Gone>
 /// Erases every good block, and marks those where that fails.
 pub(crate) fn clear_all<N: Nand>(device: &mut N) -> Result<(), Gone>
     ensures keeps { Keeps (N.state device.old) (N.state device.new) }
+    ensures each_failure_marks { OnOk result (EachFailureMarks (N.state device.old) (N.state device.new)) }
     ensures ready { OnOk result (AreClear (N.state device.new) 0) }
     ensures gone { OnErr result ((N.state device.new).gone ≡ true) }
 {

@@ -4,14 +4,13 @@ ghost use Rattle.nand_model.specs.Calls.{Lasts};
 ghost use Rattle.flash_tree.specs.Mount.{bad_blocks};
 ghost use Rattle.flash_tree.specs.Sound.{IsSoundFlash};
 ghost use Rattle.posix_profile.specs.laws.Fresh.{fresh};
-ghost use Rattle.formatting.specs.Formatting.{Keeps, HoldsOnly, Explains, given_back};
+ghost use Rattle.formatting.specs.Formatting.{Keeps, EachFailureMarks, HoldsOnly, HoldsOnlyRoot, Explains, given_back};
 
 use crate::clear::clear_all;
 use crate::fault::FormatFault;
 use crate::root::write_first;
-use crate::wear::bad_count;
 use directories::{DirectoryHead, head_page};
-use flash_tree::FreshPage;
+use flash_tree::{FreshPage, count_bad};
 use nand_model::Nand;
 use std::alloc::Global;
 use volume_terms::ROOT;
@@ -21,6 +20,7 @@ fn lay_out<N: Nand>(device: &mut N, page: &FreshPage, spare: u32) -> Result<(), 
     requires size { length page.now.bytes.items ≡ (N.state device.old).geometry.bytes }
     requires room { spare + 4 ≤ (N.state device.old).geometry.blocks }
     ensures keeps { Keeps (N.state device.old) (N.state device.new) }
+    ensures each_failure_marks { (IsErrAnd result (λ fault. fault ≡ FormatFault.Gone) → ⊥) → EachFailureMarks (N.state device.old) (N.state device.new) }
     ensures few_bad { OnOk result (bad_blocks (N.state device.new).geometry (N.state device.new).flash ≤ spare) }
     ensures stands { OnOk result (HoldsOnly (N.state device.new) page.now) }
     ensures fault { IfErr result (Explains spare (N.state device.new)) }
@@ -29,7 +29,7 @@ fn lay_out<N: Nand>(device: &mut N, page: &FreshPage, spare: u32) -> Result<(), 
     if !write_first(device, page)? {
         return Err(FormatFault::Worn);
     }
-    if bad_count(device) > spare {
+    if count_bad(device) > spare {
         return Err(FormatFault::Worn);
     }
     Ok(())
@@ -40,6 +40,7 @@ fn lay_out<N: Nand>(device: &mut N, page: &FreshPage, spare: u32) -> Result<(), 
 pub fn format<N: Nand>(alloc: Global, device: N, spare: u32) -> Result<N, (N, FormatFault)>
     ensures lasts { Lasts (N.state device) (N.state (given_back result)) }
     ensures formatted { (N.state device).honest ≡ true → IfOk result (λ d. IsSoundFlash (N.state d).geometry (N.state d).flash spare fresh.objects) }
+    ensures holds { (N.state device).honest ≡ true → IfOk result (λ d. HoldsOnlyRoot spare (N.state d)) }
     ensures few_bad { IfOk result (λ d. bad_blocks (N.state d).geometry (N.state d).flash ≤ spare) }
     ensures has_power { IfOk result (λ d. (N.state d).gone ≡ false) }
     ensures spare { IsErrAnd result (λ back. back.1 ≡ FormatFault.Spare) ↔ ((N.state device).geometry.blocks < spare + 4) }
@@ -48,6 +49,7 @@ pub fn format<N: Nand>(alloc: Global, device: N, spare: u32) -> Result<N, (N, Fo
     ensures worn { IfErr result (λ back. back.1 ≡ FormatFault.Worn → spare < bad_blocks (N.state back.0).geometry (N.state back.0).flash) }
     ensures marks { bad_blocks (N.state device).geometry (N.state (given_back result)).flash
         ≤ bad_blocks (N.state device).geometry (N.state device).flash + ((N.state (given_back result)).failures - (N.state device).failures) }
+    ensures each_failure_marks { (IsErrAnd result (λ back. back.1 ≡ FormatFault.Gone) → ⊥) → EachFailureMarks (N.state device) (N.state (given_back result)) }
     ensures bad_pages { (N.state device).honest ≡ true → (b p : ℕ) → (N.state device).flash.bad b ≡ true
         → (N.state (given_back result)).flash.page b p ≡ (N.state device).flash.page b p }
 {

@@ -1,6 +1,6 @@
 // The writing of the root.
-ghost use Rattle.std.specs.Prelude.{◌≡◌, ◌<◌, ◌+◌, ℕ, true, false, length, Some, IfOk, OnErr};
-ghost use Rattle.formatting.specs.Formatting.{Keeps, AreClear, OthersStay, single_tag, HasFirstPage, Takes, StandsFirst};
+ghost use Rattle.std.specs.Prelude.{◌≡◌, ◌<◌, ◌+◌, ℕ, true, false, length, Some, IfOk, OnOk, OnErr};
+ghost use Rattle.formatting.specs.Formatting.{Keeps, EachFailureMarks, AreClear, OthersStay, single_tag, HasFirstPage, Takes, StandsFirst};
 
 use flash_tree::FreshPage;
 use nand_model::{Gone, Nand, ProgramFault};
@@ -8,7 +8,7 @@ use page_tags::Tag;
 
 /// Writes the page to the start of a block, as a group of its own with this number, and marks the block where that
 /// fails. Whether the block took it.
-#[tactic(auto, using(crate::proofs::Keeping::keeps_program, crate::proofs::Keeping::keeps_mark))]
+#[tactic(auto, using(crate::proofs::Keeping::keeps_program, crate::proofs::Keeping::keeps_mark, crate::proofs::Marking::marks_none))]
 fn write_at<N: Nand>(
     device: &mut N,
     block: u32,
@@ -20,6 +20,7 @@ fn write_at<N: Nand>(
     requires next { (N.state device.old).flash.next block ≡ Some 0 }
     requires size { length page.now.bytes.items ≡ (N.state device.old).geometry.bytes }
     ensures keeps { Keeps (N.state device.old) (N.state device.new) }
+    ensures each_failure_marks { OnOk result (EachFailureMarks (N.state device.old) (N.state device.new)) }
     ensures others { OthersStay block (N.state device.old).flash (N.state device.new).flash }
     ensures takes { IfOk result (Takes (N.state device.old) (N.state device.new) block page.now.bytes.items (single_tag page.now.key number)) }
     ensures gone { OnErr result ((N.state device.new).gone ≡ true) }
@@ -49,6 +50,7 @@ pub(crate) fn write_first<N: Nand>(device: &mut N, page: &FreshPage) -> Result<b
     requires size { length page.now.bytes.items ≡ (N.state device.old).geometry.bytes }
     requires ready { AreClear (N.state device.old) 0 }
     ensures keeps { Keeps (N.state device.old) (N.state device.new) }
+    ensures each_failure_marks { OnOk result (EachFailureMarks (N.state device.old) (N.state device.new)) }
     ensures stands { IfOk result (λ took. took ≡ true → StandsFirst (N.state device.old) (N.state device.new) page.now) }
     ensures worn { IfOk result (λ took. took ≡ false → (b : ℕ) → b < (N.state device.old).geometry.blocks → (N.state device.new).flash.bad b ≡ true) }
     ensures gone { OnErr result ((N.state device.new).gone ≡ true) }

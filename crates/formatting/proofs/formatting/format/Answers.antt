@@ -3,7 +3,8 @@ use Rattle.nand_model.specs.Calls.{Device}
 use Rattle.nand_model.specs.declared.geometry.Geometry.{Geometry}
 use Rattle.volume_terms.specs.Sizes.{root_number}
 use Rattle.directories.specs.HeadPages.{IsHeadPage}
-use Rattle.formatting.proofs.Rooted.{volume_of}
+use Rattle.formatting.specs.Formatting.{empty_root}
+use Rattle.formatting.proofs.Rooted.{volume_of, root_alone}
 use Rattle.formatting.proofs.formatting.format.Goals as goal
 
 pub returns-in-Ok-lay_out-clause-formatted : goal.returns-in-Ok-lay_out-clause-formatted
@@ -12,5 +13,13 @@ returns-in-Ok-lay_out-clause-formatted g c = λ honest.
     let same : c.geometry-geometry.result ≡ old.geometry = c.geometry-geometry.ensures in
     let room : c.args.spare + 4 ≤ old.geometry.blocks = omega (arith, ap (λ (x : Geometry). x.blocks) same, c.blocks-2.ensures, c.geometry-geometry.result.least_blocks) in
     let size : c.bytes.result ≡ old.geometry.bytes = c.bytes.ensures ∙ ap (λ (x : Geometry). x.bytes) same in
-    let head = subst (λ d. IsHeadPage c.in-Ok.page d root_number (record { spare = c.args.spare; length = 0; moment = 0 })) size c.in-Ok.ensures in
+    let head = subst (λ d. IsHeadPage c.in-Ok.page d root_number (empty_root c.args.spare)) size c.in-Ok.ensures in
     volume_of old (g.N.Nand.state c.lay_out.new.device) c.args.spare c.in-Ok.page honest room c.lay_out.ensures.keeps c.in-Ok-lay_out.ensures.few_bad head c.in-Ok-lay_out.ensures.stands
+
+pub returns-in-Ok-lay_out-clause-holds : goal.returns-in-Ok-lay_out-clause-holds
+returns-in-Ok-lay_out-clause-holds g c = λ honest.
+    let old : Device = g.N.Nand.state c.args.device in
+    let same : c.geometry-geometry.result ≡ old.geometry = c.geometry-geometry.ensures in
+    let size : c.bytes.result ≡ old.geometry.bytes = c.bytes.ensures ∙ ap (λ (x : Geometry). x.bytes) same in
+    let head = subst (λ d. IsHeadPage c.in-Ok.page d root_number (empty_root c.args.spare)) size c.in-Ok.ensures in
+    root_alone old (g.N.Nand.state c.lay_out.new.device) c.args.spare c.in-Ok.page honest c.lay_out.ensures.keeps head c.in-Ok-lay_out.ensures.stands

@@ -1,9 +1,0 @@
-use Rattle.std.proofs.Common.{◌≡◌, ◌≤◌, count_by}
-use Rattle.std.specs.List.{range_with_len}
-use Rattle.formatting.proofs.wear.bad_count.Given as goal
-
-abbrev pub invariant-loop-block : goal.invariant-loop-block
-invariant-loop-block g l = record {
-  counted : l.bad ≡ count_by (g.N.Nand.state l.fn.device).flash.bad (range_with_len 0 l.block);
-  few : l.bad ≤ l.block;
-}

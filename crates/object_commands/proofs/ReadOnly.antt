@@ -9,8 +9,8 @@ use Rattle.volume_terms.specs.Sizes.{Sizes, root_number}
 use Rattle.posix_profile.specs.State.{Object, File, Dir, Objects, Handle, Handles, State}
 use Rattle.posix_profile.specs.Changes.{with_handle}
 use Rattle.posix_profile.specs.Charge.{fits}
-use Rattle.posix_profile.specs.HandleSteps.{at_handle, at_file, at_descriptor, may_write, open_at, open_on, seek_to}
-use Rattle.posix_profile.specs.NameSteps.{at_object, is_object, link_at, list_of, mkdir_at, rename_to, rename_tests_onto, stat_of}
+use Rattle.posix_profile.specs.HandleSteps.{at_handle, at_file, at_descriptor, may_write, open_at, seek_to}
+use Rattle.posix_profile.specs.NameSteps.{at_object, is_object, link_at, list_of, mkdir_at, stat_of}
 use Rattle.posix_profile.specs.Names.{is_named, is_open, prune}
 use Rattle.posix_profile.specs.Outcomes.{Outcome, answer, refuse, refuse_or, unless, change_to, at_place}
 use Rattle.posix_profile.specs.Paths.{Place, first_error, resolve}
@@ -24,7 +24,6 @@ use Rattle.posix_profile.specs.declared.command.Stamped.{Stamped}
 use Rattle.posix_profile.specs.declared.reply.Errno.{Errno}
 use Rattle.posix_profile.specs.declared.reply.Errno.TheVariants as errors
 use Rattle.posix_profile.specs.declared.reply.Reply.{Reply}
-use Rattle.posix_profile.specs.declared.reply.Reply.TheVariants as replies
 use Rattle.object_store.specs.Stores.{settled}
 use Rattle.command_plans.specs.Classes.{Telling, Changing, class_of, is_error, is_one, is_there, lead_to_one, makes_no_call, tells_if}
 use Rattle.object_commands.specs.Endings.{AreReading, StaysReading}

@@ -1,13 +1,14 @@
 -- A run goes on by one command.
-use Rattle.std.specs.Prelude.{◌≡◌, ◌⊎◌, ◌||◌, ◌++◌, ◌+◌, ◌<◌, ◌≤◌, ℕ, zero, suc, Bool, true, false, List, [], ◌∷◌, length, take, Some, slice_get, get_or}
+use Rattle.std.specs.Prelude.{◌≡◌, ◌⊎◌, ◌||◌, ◌++◌, ◌+◌, ◌<◌, ◌≤◌, ℕ, zero, suc, Bool, true, false, List, [], ◌∷◌, length, take, All, Some, slice_get, get_or}
 use Rattle.std.specs.List.{list_any}
 use Rattle.std.proofs.Common.{refl, sym, ◌∙◌, ap, subst, inl, inr, arith}
 use Rattle.std.proofs.lemmas.Bool.{cases_Bool, true≢false, or_right}
 use Rattle.std.proofs.lemmas.List.{append_assoc, append-nil, length_push, take-append-le, take_all}
+use Rattle.std.proofs.lemmas.List.Elements.{All-nil, All-cons, All-head, All-tail}
 use Rattle.posix_profile.specs.laws.Loss.{loss_more}
 use Rattle.posix_profile.specs.Losses.{is_synced}
 use Rattle.posix_profile.specs.laws.Run.{after_more, holds_more}
-use Rattle.posix_profile.specs.Runs.{is_stop, is_no_memory, takes_no_memory, after, AllStopped}
+use Rattle.posix_profile.specs.Runs.{is_stop, is_no_memory, takes_no_memory, after_one, after, AllStopped}
 use Rattle.volume_terms.specs.Sizes.{Sizes}
 use Rattle.posix_profile.specs.State.{State}
 use Rattle.posix_profile.specs.Steps.{step}
@@ -16,9 +17,9 @@ use Rattle.posix_profile.specs.declared.reply.Errno.TheVariants as errors
 use Rattle.posix_profile.specs.declared.reply.Reply.{Reply}
 use Rattle.posix_profile.specs.declared.reply.Reply.TheVariants as replies
 use Rattle.object_store.specs.Stores.{Meaning, IsLawful}
-use Rattle.command_plans.specs.Classes.{class_of}
+use Rattle.command_plans.specs.Classes.{class_of, makes_no_call}
 use Rattle.object_commands.specs.Endings.{IsAt, CommandEnds}
-use Rattle.object_commands.specs.Running.{StaysStopped, ends_refused, ReadsInTurn, Failure, Ran, Runs}
+use Rattle.object_commands.specs.Running.{StaysStopped, ends_refused, OnlyTells, WritesNothing, EachAnswered, InTurn, Failure, Ran, Runs}
 use Rattle.object_commands.specs.laws.Steps.{One, one_ends, error_unsynced, at_shown}
 use Rattle.object_commands.specs.declared.volume.Volume.{Volume}
 
@@ -95,11 +96,39 @@ fails_before m z read_only s cs rs r a d was = record {
       (sym (front rs r was.place (omega (arith, was.within)))) was.fails;
 }
 
+-- each command that was answered is such, also the last
+each_last : (such : Sizes → Bool → State → Stamped → Reply → Type 0) (z : Sizes) (read_only : Bool) (s : State) (cs : List Stamped) (rs : List Reply) (c : Stamped) (r : Reply) → slice_get cs (length rs) ≡ Some c
+    → EachAnswered such z read_only s cs (rs ++ r ∷ []) → EachAnswered such z read_only s cs rs × such z read_only (after z read_only s cs rs) c r
+each_last such z read_only s [] [] c r at each = absurd cc
+each_last such z read_only s [] (x ∷ rs) c r at each = absurd cc
+each_last such z read_only s (k ∷ cs) [] c r at each = let same : k ≡ c = cc in (tt, subst (λ v. such z read_only s v r) same each.0)
+each_last such z read_only s (k ∷ cs) (x ∷ rs) c r at each =
+    let more = each_last such z read_only (after_one z read_only s k x) cs rs c r at each.1 in
+    ((each.0, more.0), more.1)
+
+one_more : (n : ℕ) → suc n ≡ n + 1
+one_more n = omega arith
+
+-- one call more, where it leaves this
+turn_more : {S : Type 0} (left : S → S → Type 0) (n : ℕ) (a b d : S) → InTurn left n a b → left b d → InTurn left (n + 1) a d
+turn_more left n a b d turn last = subst (λ k. InTurn left k a d) (one_more n) (b, turn, last)
+
+-- so many of a list, and the next
+all_next : {A : Type 0} (P : A → Type 0) (xs : List A) (n : ℕ) (x : A) → slice_get xs n ≡ Some x → All P (take (suc n) xs) → All P (take n xs) × P x
+all_next P [] n x at all = absurd cc
+all_next P (y ∷ xs) ℕ.zero x at all = let same : y ≡ x = cc in (All-nil P, subst P same (All-head P y [] all))
+all_next P (y ∷ xs) (ℕ.suc n) x at all =
+    let more = all_next P xs n x at (All-tail P y (take (suc n) xs) all) in
+    (All-cons P y (take n xs) (All-head P y (take (suc n) xs) all) more.0, more.1)
+
+all_last : {A : Type 0} (P : A → Type 0) (xs : List A) (n : ℕ) (x : A) → slice_get xs n ≡ Some x → All P (take (n + 1) xs) → All P (take n xs) × P x
+all_last P xs n x at all = all_next P xs n x at (subst (λ k. All P (take k xs)) (sym (one_more n)) all)
+
 -- from a state
 ran_more : {S : Type 0} (m : Meaning S) (z : Sizes) (s : State) (cs : List Stamped) (rs : List Reply) (c : Stamped) (r : Reply) (a b d : Volume S) → slice_get cs (length rs) ≡ Some c
     → Ran m z s cs rs a b → b.stopped ≡ false → m.lasts a.store b.store → One m z a.read_only (after z a.read_only s cs rs) c r b d
-    → (a.read_only ≡ true → m.reads b.store d.store ⊎ m.leaves b.store d.store) → Ran m z s cs (rs ++ r ∷ []) a d
-ran_more m z s cs rs c r a b d at ran goes lasts one only =
+    → (a.read_only ≡ true → m.reads b.store d.store ⊎ m.leaves b.store d.store) → (makes_no_call c.command ≡ true → m.leaves b.store d.store) → IsLawful m → Ran m z s cs (rs ++ r ∷ []) a d
+ran_more m z s cs rs c r a b d at ran goes lasts one only leaves law =
     let now = after z a.read_only s cs rs in
     let none : list_any is_stop rs ≡ false = sym ran.stops ∙ goes in
     let more = after_more z a.read_only s cs rs c r at in
@@ -110,7 +139,14 @@ ran_more m z s cs rs c r a b d at ran goes lasts one only =
       failure = λ stop. fails_last m z a.read_only s cs rs c r a.store b.store d.store at lasts (one.fails (sym one.stops ∙ stop));
       state = λ still. subst (λ x. IsAt m z x d) (sym more) (one.state (sym one.stops ∙ still));
       power = λ refused. one.power (sym (refused_push rs r) ∙ refused);
-      only = λ is. let reads = ran.only is in (suc reads.0, (b.store, reads.1, only is));
+      tells = λ each. let parts = each_last OnlyTells z a.read_only s cs rs c r at each in law.reads_on a.store b.store d.store (ran.tells parts.0) (one.reads parts.1);
+      only = λ why. elim why [
+        | inl is ↦ let reads = ran.only (inl is) in (suc reads.0, (b.store, reads.1, only is))
+        | inr each ↦
+            let parts = each_last WritesNothing z a.read_only s cs rs c r at each in
+            let reads = ran.only (inr parts.0) in
+            (suc reads.0, (b.store, reads.1, elim parts.1 [ inl tells ↦ inl (one.reads tells) | inr none ↦ inr (leaves none) ]))
+      ];
     }
 
 -- once it is stopped
@@ -126,7 +162,8 @@ ran_stopped m z s cs rs c r a b d at ran stopped told same =
       failure = λ stop. fails_before m z a.read_only s cs rs r a.store b.store (ran.failure stop);
       state = λ goes. absurd (true≢false (sym stopped ∙ goes));
       power = λ refused. absurd (true≢false (sym refused ∙ refused_push rs r ∙ ap is_no_memory told));
-      only = ran.only;
+      tells = λ each. ran.tells (each_last OnlyTells z a.read_only s cs rs c r at each).0;
+      only = λ why. ran.only (elim why [ inl is ↦ inl is | inr each ↦ inr (each_last WritesNothing z a.read_only s cs rs c r at each).0 ]);
     })
 
 -- the run, with one reply more
@@ -134,9 +171,9 @@ pub runs_more : {S : Type 0} (m : Meaning S) (law : IsLawful m) (cs : List Stamp
     → Runs m cs n before now a b → slice_get cs n ≡ Some c → next ≡ now ++ r ∷ [] → b.read_only ≡ a.read_only → m.lasts a.store b.store
     → (b.stopped ≡ true → (r ≡ replies.Error errors.EIO) × (d ≡ b)) → (b.stopped ≡ false → d.stopped ≡ is_stop r)
     → (b.stopped ≡ false → (z : Sizes) (s : State) → IsAt m z s b → CommandEnds m z (class_of b.read_only s c.command) (takes_no_memory c.command) s (step z b.read_only s c) b d r)
-    → (b.read_only ≡ true → (z : Sizes) (s : State) → IsAt m z s b → m.reads b.store d.store ⊎ m.leaves b.store d.store)
+    → (b.read_only ≡ true → (z : Sizes) (s : State) → IsAt m z s b → m.reads b.store d.store ⊎ m.leaves b.store d.store) → (makes_no_call c.command ≡ true → m.leaves b.store d.store)
     → Runs m cs (n + 1) before next a d
-runs_more m law cs n before now next c r a b d runs is pushed same lasts stays stops goes only =
+runs_more m law cs n before now next c r a b d runs is pushed same lasts stays stops goes only leaves =
     let at : slice_get cs (length runs.answered) ≡ Some c = ap (slice_get cs) runs.count ∙ is in
     record {
       answered = runs.answered ++ r ∷ [];
@@ -148,6 +185,9 @@ runs_more m law cs n before now next c r a b d runs is pushed same lasts stays s
           let was = runs.stopped stop in
           let told = stays (ap (λ (v : Volume _). v.stopped) was.1 ∙ stop) in
           (all_push runs.answered r was.0 (ap is_stop told.0), told.1 ∙ was.1);
+      leaves = λ all.
+          let parts = all_last (λ (k : Stamped). makes_no_call k.command ≡ true) cs n c is all in
+          turn_more m.leaves n a.store b.store d.store (runs.leaves parts.0) (leaves parts.1);
       ran = λ going z s has.
           let ran = runs.ran going z s has in
           elim (cases_Bool b.stopped) [
@@ -158,22 +198,32 @@ runs_more m law cs n before now next c r a b d runs is pushed same lasts stays s
                 ran_more m z s cs runs.answered c r a b d at ran still lasts
                 (one_ends m law z a.read_only x c r b d (λ is. at_shown m z x b (ran.state still) (same ∙ is))
                 (subst (λ ro. CommandEnds m z (class_of ro x c.command) (takes_no_memory c.command) x (step z ro x c) b d r) same ended))
-                (λ is. only (same ∙ is) z x (ran.state still))
+                (λ is. only (same ∙ is) z x (ran.state still)) leaves law
           ];
     }
 
 none_at : (i : ℕ) (r : Reply) → slice_get [] i ≡ Some r → ⊥
 none_at i r is = cc
 
-pub runs_none : {S : Type 0} (m : Meaning S) (cs : List Stamped) (before : List Reply) (a : Volume S) → Runs m cs 0 before before a a
-runs_none m cs before a = record {
+pub runs_none : {S : Type 0} (m : Meaning S) (law : IsLawful m) (cs : List Stamped) (before : List Reply) (a : Volume S) → Runs m cs 0 before before a a
+runs_none m law cs before a = record {
   answered = [];
   count = refl;
   behind = sym (append-nil before);
   stays = tt;
   stops = sym (or_false a.stopped);
   stopped = λ stop. (tt, refl);
-  ran = λ going z s has. record { holds = tt; losses = λ t shown. inr (λ i done. absurd (none_at i done.1 done.3), shown); stops = going; failure = λ stop. absurd (true≢false (sym stop ∙ going)); state = λ _. has; power = λ refused. let two : false ≡ true = refused in absurd cc; only = λ is. (zero, refl) };
+  leaves = λ all. refl;
+  ran = λ going z s has. record {
+    holds = tt;
+    losses = λ t shown. inr (λ i done. absurd (none_at i done.1 done.3), shown);
+    stops = going;
+    failure = λ stop. absurd (true≢false (sym stop ∙ going));
+    state = λ _. has;
+    power = λ refused. let two : false ≡ true = refused in absurd cc;
+    tells = λ each. law.reads_nothing a.store;
+    only = λ why. (zero, refl);
+  };
 }
 
 pub at_index : (cs : List Stamped) (i : ℕ) (c : Stamped) → i < length cs → c ≡ get_or cs i c → slice_get cs i ≡ Some c

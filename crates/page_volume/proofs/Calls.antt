@@ -17,7 +17,7 @@ use Rattle.volume_terms.specs.declared.fault.StoreFault.TheVariants as faults
 use Rattle.object_commands.specs.Volumes.{store_of}
 use Rattle.command_plans.specs.Classes.{class_of}
 use Rattle.object_commands.specs.Endings.{IsAt, CommandEnds}
-use Rattle.object_commands.specs.Running.{ReadsInTurn, Ran, Runs}
+use Rattle.object_commands.specs.Running.{InTurn, ReadsInTurn, Ran, Runs}
 use Rattle.object_commands.specs.laws.Steps.{One, one_ends, at_shown}
 use Rattle.object_table.specs.Told.{table_sizes}
 use Rattle.paged_objects.specs.Meaning.{paged_meaning}
@@ -101,6 +101,11 @@ module _ {P : Type 0} (state : P → PagesState) where
   reads_all zero a b same = subst (λ (x : PagedObjects P). OnlyReads (state a.pages).device (state x.pages).device) (sym same) (only_reads_here (state a.pages).device)
   reads_all (suc n) a b more = only_reads_on _ _ _ (reads_all n a more.0 more.1) (reads_device more.0 b more.2)
 
+  -- calls in turn that leave the device as it is
+  leaves_all : (n : ℕ) (a b : PagedObjects P) → InTurn m.leaves n a b → (state b.pages).device ≡ (state a.pages).device
+  leaves_all zero a b same = ap (λ (x : PagedObjects P). (state x.pages).device) same
+  leaves_all (suc n) a b more = more.2 ∙ leaves_all n a more.0 more.1
+
   -- what a mount would show after it
   pub tree_after : (z : Sizes) (s : State) (read_only : Bool) (stamped : Stamped) (r : Reply) (a b : PageVolume P) → table_sizes (table_of a) ≡ z → table_sizes (table_of b) ≡ table_sizes (table_of a) → One m z read_only s stamped r a.volume b.volume
       → (tree : Objects) → Shown z (state (pages_of a)) tree → Shown z (state (pages_of b)) tree ⊎ Shown z (state (pages_of b)) (settled s.objects)
@@ -119,7 +124,8 @@ module _ {P : Type 0} (state : P → PagesState) where
     cause = λ stop. (ran.failure stop).fails.0.cause;
     state_is = λ goes. is_volume state z _ b (ran.state goes);
     power = λ refused. powered _ (ran.power refused);
-    only_reads = λ only. let reads = ran.only only in reads_all reads.0 a.volume.store b.volume.store reads.1;
+    tells = λ each. (ran.tells each).0;
+    only_reads = λ why. let reads = ran.only why in reads_all reads.0 a.volume.store b.volume.store reads.1;
   } where
     losses_from : {tree : Objects} → LossLeaves (Shown (table_sizes (table_of b)) (state (pages_of b))) tree z (is_read_only a) s commands answered → LossLeaves (Shown z (state (pages_of b))) tree z (is_read_only a) s commands answered
     losses_from {tree} left = subst (λ y. LossLeaves (Shown y (state (pages_of b))) tree z (is_read_only a) s commands answered) (same ∙ is) left
@@ -136,6 +142,7 @@ module _ {P : Type 0} (state : P → PagesState) where
     stays = runs.stays;
     stops = runs.stops;
     stopped = λ stop. let was = runs.stopped stop in (was.0, same_volume a b was.1);
+    leaves = λ all. leaves_all n a.volume.store b.volume.store (runs.leaves all);
     ran = λ goes z s is. ran_pages z s commands runs.answered a b is.sizes same (runs.ran goes z s (is_at state z s a is));
   }
 

@@ -32,7 +32,8 @@ pub struct PageVolume<P: PageStore> {
 
 impl<P: PageStore> PageVolume<P> {
     ghost use Rattle.page_volume.specs.Volumes.{pages_of, table_of, is_read_only, is_stopped, IsVolumeOf};
-    ghost use Rattle.page_volume.specs.Running.{RunsPages, OnlyTells};
+    ghost use Rattle.object_commands.specs.Running.{OnlyTells};
+    ghost use Rattle.page_volume.specs.Running.{RunsPages};
 
     /// A volume of the objects that the pages hold and the table tells, with no descriptor open.
     pub fn new(
@@ -105,6 +106,8 @@ impl<P: PageStore> PageVolume<P> {
         ensures stopped { is_stopped self ≡ true → (result.1 ≡ replies.Error errors.EIO) × (P.state result.0 ≡ P.state (pages_of self)) }
         ensures read_only { is_read_only self ≡ true → P.state result.0 ≡ P.state (pages_of self) }
         ensures replies { is_stopped self ≡ false → (result.1 ≡ replies.Done) ⊎ (result.1 ≡ replies.Error errors.EIO) }
+        // There is nothing to fail at the end of a read-only volume.
+        ensures read_only_done { is_stopped self ≡ false → is_read_only self ≡ true → result.1 ≡ replies.Done }
         ensures done { is_stopped self ≡ false → (z : Sizes) (s : State) → IsVolumeOf P.state z s self → result.1 ≡ replies.Done
             → Shown z (P.state result.0) (settled s.objects) }
         ensures tree { is_stopped self ≡ false → (z : Sizes) (s : State) → IsVolumeOf P.state z s self → (tree : Objects) → Shown z (P.state (pages_of self)) tree

@@ -21,18 +21,20 @@ module _ {P : Type 0} (state : P → PagesState) (v : PageVolume P) (pages : P) 
       → (is_stopped v ≡ true → (reply ≡ replies.Error errors.EIO) × (state pages ≡ state (pages_of v)))
       → (is_read_only v ≡ true → state pages ≡ state (pages_of v))
       → (is_stopped v ≡ false → (reply ≡ replies.Done) ⊎ (reply ≡ replies.Error errors.EIO))
+      → (is_stopped v ≡ false → is_read_only v ≡ true → reply ≡ replies.Done)
       → (is_stopped v ≡ false → (z : Sizes) (s : State) → IsVolumeOf state z s v → reply ≡ replies.Done → Shown z (state pages) (settled s.objects))
       → (is_stopped v ≡ false → (z : Sizes) (s : State) → IsVolumeOf state z s v → (tree : Objects) → Shown z (state (pages_of v)) tree
       → Shown z (state pages) tree ⊎ Shown z (state pages) (settled s.objects))
       → (is_stopped v ≡ false → (z : Sizes) (s : State) → IsVolumeOf state z s v → reply ≡ replies.Error errors.EIO → HasEnded (state pages))
       → IsUnmounted state v device reply
-  unmounted device is goes stopped read_only answers done tree cause = record {
+  unmounted device is goes stopped read_only answers read_only_done done tree cause = record {
     pages = state pages;
     device_is = sym is;
     goes_on = goes;
     stopped = stopped;
     read_only = read_only;
     replies_are = answers;
+    read_only_done = read_only_done;
     done = done;
     tree = tree;
     cause = cause;

@@ -30,7 +30,8 @@ pub struct Volume<N: Nand> {
 }
 
 impl<N: Nand> Volume<N> {
-    ghost use Rattle.page_volume.specs.Running.{RunsPages, OnlyTells};
+    ghost use Rattle.object_commands.specs.Running.{OnlyTells};
+    ghost use Rattle.page_volume.specs.Running.{RunsPages};
     ghost use Rattle.page_volume.specs.Volumes.{pages_of, is_read_only, is_stopped, IsVolumeOf};
     ghost use Rattle.posix_calls.specs.Endings.{IsUnmounted};
     ghost use Rattle.posix_calls.specs.Volumes.{over_pages};

@@ -18,6 +18,7 @@ use Rattle.posix_profile.specs.declared.reply.Reply.TheVariants as replies
 use Rattle.object_store.specs.Stores.{Meaning, IsLawful, KeepsOrSettles, settled}
 use Rattle.command_plans.specs.Classes.{Class, Telling, Changing, Syncing, tells_if, class_of, is_error}
 use Rattle.object_commands.specs.Endings.{IsAt, Leaves, CommandEnds}
+use Rattle.object_commands.specs.Running.{OnlyTells}
 use Rattle.object_commands.specs.declared.volume.Volume.{Volume}
 
 -- what a done command leaves keeps the tree that a mount shows or settles it
@@ -82,7 +83,7 @@ pub record One {S : Type 0} (m : Meaning S) (z : Sizes) (read_only : Bool) (s : 
   pub stops : b.stopped ≡ is_stop r
   pub fails : is_stop r ≡ true → m.fails s.objects (step z read_only s c).state.objects a.store b.store
   pub state : is_stop r ≡ false → IsAt m z (after_one z read_only s c r) b
-  pub reads : (class_of read_only s c.command ≡ Telling) ⊎ (is_error (step z read_only s c).reply ≡ true) ⊎ (is_no_memory r ≡ true) → m.reads a.store b.store
+  pub reads : OnlyTells z read_only s c r → m.reads a.store b.store
   pub power : is_no_memory r ≡ true → m.has_power b.store ≡ true
 
 pub one_ends : {S : Type 0} (m : Meaning S) (law : IsLawful m) (z : Sizes) (read_only : Bool) (s : State) (c : Stamped) (r : Reply) (a b : Volume S) → (read_only ≡ true → m.shows a.store (settled s.objects))

@@ -1,9 +1,9 @@
-use Rattle.std.proofs.Common.{false, refl, ◌∙◌, ap, inl, inr}
+use Rattle.std.proofs.Common.{refl, ◌∙◌, ap, inl}
 use Rattle.std.proofs.lemmas.Bool.{false_from_ne_true}
 use Rattle.posix_profile.specs.Outcomes.{Outcome}
 use Rattle.posix_profile.specs.Runs.{is_stop}
 use Rattle.command_plans.specs.Plans.{frees}
-use Rattle.object_commands.proofs.Ending.{is_done, refused_ends, leaves_frees}
+use Rattle.object_commands.proofs.Ending.{is_done, refused_ends}
 use Rattle.object_commands.proofs.volume.Volume.carry_out.Goals as goal
 
 pub returns-in-Ok-clause-ends : goal.returns-in-Ok-clause-ends

@@ -2,7 +2,6 @@ use Rattle.std.specs.Prelude.{◌≡◌, Some, None}
 use Rattle.std.proofs.Common.{sym, ◌∙◌, ap, subst}
 use Rattle.std.specs.FinMap as map
 use Rattle.std.specs.Ordering.{nat_cmp}
-use Rattle.posix_profile.specs.State.{Handle}
 use Rattle.object_table.specs.Told.{table_sizes, Tells}
 use Rattle.object_table.specs.declared.table.ObjectTable.{ObjectTable}
 use Rattle.paged_objects.specs.Standing.{StandsFor, Shown}

@@ -70,12 +70,13 @@ module _ (one : (g : Geometry) (flash : Flash) (a b : Answer) → Answers g flas
   pub failed_lived : (fault : MountFault) → WhyNotMounted e fault → HasLived d e (failed_record commands (answer_of (Err fault)) e.gone ∷ [])
   failed_lived fault why =
       let same : HasSame d.flash e.flash = record { page = reads.page honest; bad = reads.bad } in
-      let still = lived_still d e reads.lasts.geometry reads.lasts.honest reads.changes same in
+      let still = lived_still d e reads.lasts.geometry reads.lasts.honest reads.changes reads.failures same in
       record {
         geometry = still.geometry;
         honest = still.honest;
         changes = still.changes;
         marks = still.marks;
+        answered = still.answered;
         numbers = still.numbers;
         known = still.known;
         life = λ spare tree sound within.

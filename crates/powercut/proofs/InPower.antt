@@ -33,7 +33,7 @@ use Rattle.powercut.specs.Commands.{Meaning, LeavesFrom, IsUsed}
 use Rattle.powercut.specs.Limits.{StaysWithin}
 use Rattle.powercut.specs.Living.{HasSame, AreWithin, HasLived}
 use Rattle.powercut.proofs.SameFlash.{same_back, greatest_same, sound_same}
-use Rattle.powercut.proofs.Living.{greatest_within}
+use Rattle.powercut.proofs.Living.{greatest_within, none_marked, marked_on}
 
 -- what is recorded of a session whose mount was done
 abbrev pub mounted_record : List Stamped → List Reply → Option Reply → Bool → SessionRecord
@@ -231,6 +231,7 @@ module _ {V : Type 0} (m : Meaning V) (v : V) (d e : Device) (commands : List St
     honest = lasts.honest;
     changes = lasts.changes;
     marks = lasts.marks;
+    answered = marked_on d p.device q.device (none_marked d p.device reads.lasts.geometry reads.failures reads.bad) used.goes_on.marks;
     numbers = numbers;
     known = inr (n, at_first);
     life = life;

@@ -18,7 +18,7 @@ module _ (fused : Bool) (a b c : Device) (starts : Starts fused a b) where
   pub lived_one : (session : SessionRecord) → a.honest ≡ true → (b.gone ≡ false → b.honest ≡ true → HasLived b c (session ∷ [])) → HasLived a c (session ∷ [])
   lived_one session honest lived =
       lived_on a b c [] (session ∷ [])
-      (lived_still a b starts.geometry starts.honest starts.changes (record { page = starts.page; bad = starts.bad }))
+      (lived_still a b starts.geometry starts.honest starts.changes starts.failures (record { page = starts.page; bad = starts.bad }))
       (lived starts.gone (starts.honest ∙ honest))
 
   -- one cut is counted where the device is gone at the end

@@ -1,5 +1,6 @@
 -- Sessions in turn.
-use Rattle.std.specs.Prelude.{◌≡◌, ◌⊎◌, ◌≤◌, ◌+◌, ◌-◌, ◌++◌, ℕ, List, []}
+use Rattle.std.specs.Prelude.{◌≡◌, ◌⊎◌, ◌≤◌, ◌+◌, ◌-◌, ◌++◌, ℕ, Bool, List, [], count_by}
+use Rattle.std.specs.List.{range_with_len}
 use Rattle.std.proofs.Common.{refl, sym, ◌∙◌, ap, subst, inl, inr, arith}
 use Rattle.nand_model.specs.Flash.{Flash}
 use Rattle.nand_model.specs.Calls.{Device}
@@ -9,6 +10,7 @@ use Rattle.flash_tree.specs.Mount.{sizes_of, bad_blocks}
 use Rattle.flash_tree.specs.Sound.{IsSoundFlash}
 use Rattle.lives.specs.Lives.{SessionRecord, IsLife}
 use Rattle.lives.specs.laws.LifeLaws.{life_append}
+use Rattle.pages.specs.Stores.{bad_on}
 use Rattle.powercut.specs.Limits.{StaysWithin}
 use Rattle.powercut.specs.Living.{HasSame, AreWithin, HasLived}
 use Rattle.powercut.proofs.SameFlash.{same_on, sound_same, within_same, greatest_same, bad_more}
@@ -25,13 +27,24 @@ greatest_within f n group seq greatest within =
 pub within_greatest : (f : Flash) (n : Numbers) → AreGreatest f n → AreWithin f n.group n.seq
 within_greatest f n greatest b p t good has = let at = greatest.above b p t good has in (at.1, at.2)
 
+-- where marks and failures are the same no block became bad
+pub none_marked : (a b : Device) → b.geometry ≡ a.geometry → b.failures ≡ a.failures → b.flash.bad ≡ a.flash.bad → bad_on b + a.failures ≤ bad_on a + b.failures
+none_marked a b geometry failures bad =
+    let same : bad_on b ≡ bad_on a = ap (λ (g : Geometry). bad_blocks g b.flash) geometry ∙ ap (λ (p : ℕ → Bool). count_by p (range_with_len 0 a.geometry.blocks)) bad in
+    omega (arith, same, failures)
+
+-- two parts in turn
+pub marked_on : (a b c : Device) → bad_on b + a.failures ≤ bad_on a + b.failures → bad_on c + b.failures ≤ bad_on b + c.failures → bad_on c + a.failures ≤ bad_on a + c.failures
+marked_on a b c first then = omega (arith, first, then)
+
 -- a device that is not changed has lived through nothing
-pub lived_still : (a b : Device) → b.geometry ≡ a.geometry → b.honest ≡ a.honest → b.changes ≡ a.changes → HasSame a.flash b.flash → HasLived a b []
-lived_still a b geometry honest changes same = record {
+pub lived_still : (a b : Device) → b.geometry ≡ a.geometry → b.honest ≡ a.honest → b.changes ≡ a.changes → b.failures ≡ a.failures → HasSame a.flash b.flash → HasLived a b []
+lived_still a b geometry honest changes failures same = record {
   geometry = geometry;
   honest = honest;
   changes = omega (arith, changes);
   marks = λ k is. ap (λ bad. bad k) same.bad ∙ is;
+  answered = none_marked a b geometry failures same.bad;
   numbers = λ group seq more within e.
       let none : more ≡ 0 = omega (arith, changes, e) in
       subst (λ n. AreWithin b.flash (group + n) (seq + n)) (sym none) (λ k p t good has. let at = within_same a.flash b.flash same group seq within k p t good has in (omega (arith, at.0), omega (arith, at.1)));
@@ -91,6 +104,7 @@ module _ (a b c : Device) (xs ys : List SessionRecord) (first : HasLived a b xs)
     honest = then.honest ∙ first.honest;
     changes = let one = first.changes in let two = then.changes in omega (arith, one, two);
     marks = λ k is. then.marks k (first.marks k is);
+    answered = marked_on a b c first.answered then.answered;
     numbers = λ group seq more within e.
         let one = first.changes in
         let two = then.changes in
@@ -108,4 +122,4 @@ module _ (a b c : Device) (xs ys : List SessionRecord) (first : HasLived a b xs)
   }
 
 pub lived_here : (a : Device) → HasLived a a []
-lived_here a = lived_still a a refl refl refl (record { page = refl; bad = refl })
+lived_here a = lived_still a a refl refl refl refl (record { page = refl; bad = refl })

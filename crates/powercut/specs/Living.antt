@@ -10,6 +10,7 @@ use Rattle.flash_tree.specs.Mount.{sizes_of}
 use Rattle.flash_tree.specs.Sound.{IsSoundFlash}
 use Rattle.posix_profile.specs.State.{Objects}
 use Rattle.lives.specs.Lives.{SessionRecord, IsLife}
+use Rattle.pages.specs.Stores.{bad_on}
 use Rattle.powercut.specs.Limits.{StaysWithin}
 
 -- the pages and the marks are the same
@@ -21,14 +22,15 @@ pub record HasSame (old new : Flash) : Type 0 where
 abbrev pub AreWithin : Flash → (group seq : ℕ) → Type 0
 AreWithin flash group seq = (b p : ℕ) (t : Tag) → flash.bad b ≡ false → HasTag flash b p t → (t.group ≤ group) × (t.seq ≤ seq)
 
--- The one device became the other in these sessions. Marks stay; the numbers on the flash rise by no more than the changes
--- that were counted; its greatest numbers at first are known, unless nothing was changed; and from each tree of a sound flash,
+-- The one device became the other in these sessions. Marks stay, and no more blocks become bad than failures were counted; the
+-- numbers on the flash rise by no more than the changes that were counted; its greatest numbers at first are known, unless nothing was changed; and from each tree of a sound flash,
 -- as long as the limits are kept, the sessions are a life to the tree that is there now.
 pub record HasLived (first last : Device) (sessions : List SessionRecord) : Type 0 where
   pub geometry : last.geometry ≡ first.geometry
   pub honest : last.honest ≡ first.honest
   pub changes : first.changes ≤ last.changes
   pub marks : (b : ℕ) → first.flash.bad b ≡ true → last.flash.bad b ≡ true
+  pub answered : bad_on last + first.failures ≤ bad_on first + last.failures
   pub numbers : (group seq more : ℕ) → AreWithin first.flash group seq → last.changes ≡ first.changes + more → AreWithin last.flash (group + more) (seq + more)
   pub known : HasSame first.flash last.flash ⊎ ((n : Numbers) × AreGreatest first.flash n)
   pub life : (spare : ℕ) (tree : Objects) → IsSoundFlash first.geometry first.flash spare tree → StaysWithin spare first last

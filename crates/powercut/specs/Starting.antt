@@ -15,6 +15,7 @@ pub record Starts (fused : Bool) (old new : Device) : Type 0 where
   pub page : new.flash.page ≡ old.flash.page
   pub bad : new.flash.bad ≡ old.flash.bad
   pub cuts : new.cuts ≡ old.cuts
+  pub failures : new.failures ≡ old.failures
   pub changes : new.changes ≡ old.changes
   pub steady : fused ≡ false → new.steady ≡ true
 

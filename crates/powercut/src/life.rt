@@ -1,9 +1,10 @@
 // A life of a volume.
-ghost use Rattle.std.specs.Prelude.{◌≡◌, ◌+◌, ◌∷◌, [], ℕ, true, false, length, is_some, IfOk, if◌then◌else◌};
+ghost use Rattle.std.specs.Prelude.{◌≡◌, ◌≤◌, ◌+◌, ◌∷◌, [], ℕ, true, false, length, is_some, IfOk, if◌then◌else◌};
 ghost use Rattle.nand_model.specs.MemoryState.{device};
 ghost use Rattle.flash_tree.specs.Mount.{sizes_of};
 ghost use Rattle.flash_tree.specs.Sound.{IsSoundFlash};
 ghost use Rattle.lives.specs.Lives.{IsLife};
+ghost use Rattle.pages.specs.Stores.{bad_on};
 ghost use Rattle.posix_profile.specs.State.{Objects};
 ghost use Rattle.powercut.specs.Sessions.{record_of, records_of, UnmountAsAsked, UnmountsAsAsked, CutsByFuses, cuts_in};
 ghost use Rattle.powercut.specs.Limits.{StaysWithin};
@@ -72,6 +73,7 @@ pub fn live(
         → (last : Objects) × IsLife (sizes_of (device nand).geometry spare) tree (records_of sessions.now lived.1.items) last × IsSoundFlash (device lived.0).geometry (device lived.0).flash spare last) }
     ensures unmounts { IfOk result (λ lived. UnmountsAsAsked sessions.now lived.1.items) }
     ensures cuts { IfOk result (λ lived. (device lived.0).cuts ≡ (device nand).cuts + cuts_in lived.1.items) }
+    ensures marks { IfOk result (λ lived. bad_on (device lived.0) + (device nand).failures ≤ bad_on (device nand) + (device lived.0).failures) }
     ensures fuses { IfOk result (λ lived. CutsByFuses sessions.now lived.1.items) }
 {
     let mut last = nand;

@@ -11,7 +11,7 @@ use Rattle.line_shell.specs.Lines.{whole_lines, without_end, line_size, longest_
 use Rattle.line_shell.specs.Reading.{IsEnded, NextLine, ReadsNext, LineIsTooLong, ReadsLine, TellsMore}
 use Rattle.line_shell.specs.Replies.{newline}
 use Rattle.std.specs.List.{onto_first}
-use Rattle.line_shell.specs.Runs.{Session, Answers, Run, IsOut, IsTold, Obeys, AnswersLine, AreAnswered, Shell}
+use Rattle.line_shell.specs.Runs.{Session, Answers, Run, IsTold, Obeys, AnswersLine, AnswersAll, AreTold, AreAnswered, Shell}
 use Rattle.line_shell.specs.declared.line.Line.{Line}
 use Rattle.line_shell.specs.declared.fault.ShellFault.{ShellFault}
 use Rattle.line_shell.specs.declared.fault.ShellFault.TheVariants as faults
@@ -121,16 +121,17 @@ module _ {V : Type 0} (serves : V → Stamped → Reply → V → Type 0) where
       lines = lines_more input left next so_far.answered read.whole so_far.lines read.next;
     }
 
+    -- the answers so far are out
+    all_told : AnswersAll serves so_far.answered before after old now.volume
+    all_told = record { text = so_far.text; moment = now.moment; run = so_far.run; told = so_far.told }
+
     -- the end of the input
     pub comes_to_end : (next : Option (List ℕ)) → count ≤ most_lines → IsEnded left next → Shell serves input next before after old now.volume (Ok tt)
     comes_to_end next few end = record {
       answered = so_far.answered;
-      text = so_far.text;
-      moment = now.moment;
-      run = so_far.run;
+      told = all_told;
       short = so_far.short;
       few = omega (arith, so_far.counted);
-      told = so_far.told;
       lines = lines_all input left so_far.answered so_far.lines end.0;
       read = ended_left input left next so_far.answered so_far.lines end;
     }
@@ -140,20 +141,17 @@ module _ {V : Type 0} (serves : V → Stamped → Reply → V → Type 0) where
         → Shell serves input next before after old now.volume (Err fault)
     stops next fault few other lines = record {
       answered = so_far.answered;
-      text = so_far.text;
-      moment = now.moment;
-      run = so_far.run;
+      told = at fault other;
       short = so_far.short;
       few = omega (arith, so_far.counted);
-      told = at fault other;
       lines = lines;
       read = tt;
     }
       where
-        at : (fault : ShellFault) → (fault ≡ faults.Write → ⊥) → IsOut before after so_far.text (Err fault)
-        at faults.Read other = so_far.told
-        at faults.NoMemory other = so_far.told
-        at faults.TooLong other = so_far.told
+        at : (fault : ShellFault) → (fault ≡ faults.Write → ⊥) → AreTold serves so_far.answered before after old now.volume (Err fault)
+        at faults.Read other = all_told
+        at faults.NoMemory other = all_told
+        at faults.TooLong other = all_told
         at faults.Write other = absurd (other refl)
 
     -- a line that was not read
@@ -196,29 +194,37 @@ module _ {V : Type 0} (serves : V → Stamped → Reply → V → Type 0) where
     stops_answering next later line new faults.TooLong few read did = absurd did
     stops_answering next later line new faults.NoMemory few read did = record {
       answered = so_far.answered;
-      text = so_far.text;
-      moment = now.moment;
-      run = subst (λ v. Run serves (map without_end so_far.answered) (record { moment = 0; volume = old }) so_far.text (record { moment = now.moment; volume = v })) (sym did.0) so_far.run;
+      told = record {
+        text = so_far.text;
+        moment = now.moment;
+        run = subst (λ v. Run serves (map without_end so_far.answered) (record { moment = 0; volume = old }) so_far.text (record { moment = now.moment; volume = v })) (sym did.0) so_far.run;
+        told = Appends-kept before after later so_far.text so_far.told did.1;
+      };
       short = so_far.short;
       few = omega (arith, so_far.counted);
-      told = Appends-kept before after later so_far.text so_far.told did.1;
       lines = lines_some input left so_far.answered so_far.lines;
       read = tt;
     }
     stops_answering next later line new faults.Write few read did =
         record {
           answered = so_far.answered ++ read.whole ∷ [];
-          text = so_far.text ++ did.0;
-          moment = did.1;
-          run = run_on next line (record { moment = did.1; volume = new }) did.0 read did.2;
+          told = record {
+            front = so_far.answered;
+            last = read.whole;
+            text = so_far.text;
+            part = did.3.part;
+            rest = did.3.rest;
+            middle = now;
+            moment = did.1;
+            lines_are = refl;
+            run = so_far.run;
+            answer =
+                subst (λ l. Answers serves (line_of l) now (did.3.part ++ did.3.rest) (record { moment = did.1; volume = new })) read.text
+                (subst (λ t. Answers serves (line_of line) now t (record { moment = did.1; volume = new })) did.3.whole did.2);
+            told = Appends-trans before after later so_far.text did.3.part so_far.told did.3.appended;
+          };
           short = All-append (λ line. line_size line ≤ longest_line) so_far.answered (read.whole ∷ []) so_far.short (all_one (λ line. line_size line ≤ longest_line) read.whole read.short);
           few = omega (arith, length-append so_far.answered (read.whole ∷ []), so_far.counted);
-          told = record {
-            part = so_far.text ++ did.3.part;
-            rest = did.3.rest;
-            whole = ap (λ l. so_far.text ++ l) did.3.whole ∙ sym (append_assoc so_far.text did.3.part did.3.rest);
-            appended = Appends-trans before after later so_far.text did.3.part so_far.told did.3.appended;
-          };
           lines = lines_some input next (so_far.answered ++ read.whole ∷ []) (lines_more input left next so_far.answered read.whole so_far.lines read.next);
           read = tt;
         }

@@ -5,7 +5,7 @@ use Rattle.std.proofs.lemmas.List.Elements.{All-append}
 use Rattle.std.specs.Io.KnownBytes.{IsAtEnd}
 use Rattle.posix_profile.specs.declared.command.Stamped.{Stamped}
 use Rattle.line_shell.specs.Commands.{line_of}
-use Rattle.line_shell.specs.Lines.{whole_lines, without_end, line_size, longest_line, most_lines, lines_of}
+use Rattle.line_shell.specs.Lines.{whole_lines, without_end, line_size, longest_line, most_lines}
 use Rattle.line_shell.specs.Reading.{IsEnded, ReadsNext, LineIsTooLong, ReadsLine, TellsMore}
 use Rattle.line_shell.specs.Scripts.{moment_after, with_line, commands_of, script_fault, Collects, IsScript, HasBadLine, HasLongLine, IsReadAs, ReadsScript}
 use Rattle.line_shell.specs.declared.line.Line.{Line}
@@ -14,7 +14,7 @@ use Rattle.line_shell.specs.declared.fault.ShellFault.{ShellFault}
 use Rattle.line_shell.specs.declared.fault.ShellFault.TheVariants as shell_faults
 use Rattle.line_shell.specs.declared.script.ScriptFault.{ScriptFault}
 use Rattle.line_shell.specs.declared.script.ScriptFault.TheVariants as faults
-use Rattle.line_shell.proofs.Running.{LinesLeft, lines_none, lines_more, lines_some, lines_there, lines_all, ended_left, all_one}
+use Rattle.line_shell.proofs.Running.{LinesLeft, lines_none, lines_more, lines_there, lines_all, ended_left, all_one}
 
 -- the commands so far, before those of any lines after them
 abbrev pub AreAsked : List (List ℕ) → ℕ → List Stamped → Type 0
@@ -66,12 +66,16 @@ unfolding commands_of
 asked_all taken moment script asked = ap (commands_of 0) (sym (append-nil taken)) ∙ asked [] ∙ ap Some (append-nil script)
 
 module _ (input left : Option (List ℕ)) (moment : ℕ) (script : List Stamped) (count : ℕ) (so_far : SoFar input left moment script count) where
+  -- the lines so far are short, and one more is
+  short_more : (whole : List ℕ) → line_size whole ≤ longest_line → All (λ line. line_size line ≤ longest_line) (so_far.taken ++ whole ∷ [])
+  short_more whole short = All-append (λ line. line_size line ≤ longest_line) so_far.taken (whole ∷ []) so_far.short (all_one (λ line. line_size line ≤ longest_line) whole short)
+
   -- one line more
   pub goes_further : (next : Option (List ℕ)) (line : List ℕ) (later : ℕ) (longer : List Stamped) → ReadsNext left next line → Collects (line_of line) moment script longer (Ok later)
       → SoFar input next later longer (count + 1)
   goes_further next line later longer read did = record {
     taken = so_far.taken ++ read.whole ∷ [];
-    short = All-append (λ line. line_size line ≤ longest_line) so_far.taken (read.whole ∷ []) so_far.short (all_one (λ line. line_size line ≤ longest_line) read.whole read.short);
+    short = short_more read.whole read.short;
     counted = omega (arith, length-append so_far.taken (read.whole ∷ []), so_far.counted);
     lines_are = lines_more input left next so_far.taken read.whole so_far.lines_are read.next;
     asked = subst (λ l. AreAsked l later longer) (sym (map-append without_end so_far.taken (read.whole ∷ [])))
@@ -161,19 +165,21 @@ module _ (input left : Option (List ℕ)) (moment : ℕ) (script : List Stamped)
           }
 
   -- a line that was read, but not taken
-  pub stops_collecting : (next : Option (List ℕ)) (line : List ℕ) (longer : List Stamped) (fault : ScriptFault) → ReadsNext left next line → Collects (line_of line) moment script longer (Err fault)
+  pub stops_collecting : (next : Option (List ℕ)) (line : List ℕ) (longer : List Stamped) (fault : ScriptFault) → count < most_lines → ReadsNext left next line → Collects (line_of line) moment script longer (Err fault)
       → ReadsScript input next (Err fault)
-  stops_collecting next line longer fault read did = record { told = at fault did; read = tt }
+  stops_collecting next line longer fault few read did = record { told = at fault did; read = tt }
     where
       bad : (input left next : Option (List ℕ)) → LinesLeft input next (so_far.taken ++ read.whole ∷ []) → line_of line ≡ lines.Bad → IfSome input HasBadLine
       bad None left next so is = tt
       bad (Some xs) left None so is = absurd so
       bad (Some xs) left (Some ys) so is = record {
-        before = map without_end so_far.taken;
-        line = without_end read.whole;
-        rest = lines_of ys;
+        before = so_far.taken;
+        line = read.whole;
+        rest = whole_lines ys;
         commands = script;
-        lines_are = ap (map without_end) (so ∙ append_assoc so_far.taken (read.whole ∷ []) (whole_lines ys)) ∙ map-append without_end so_far.taken (read.whole ∷ whole_lines ys);
+        lines_are = so ∙ append_assoc so_far.taken (read.whole ∷ []) (whole_lines ys);
+        short = short_more read.whole read.short;
+        few = omega (arith, so_far.counted);
         good = good;
         bad = ap line_of (sym read.text) ∙ is;
       }

@@ -6,6 +6,7 @@ use Rattle.posix_profile.specs.declared.reply.Kind.{Kind}
 use Rattle.posix_profile.specs.declared.reply.Kind.TheVariants as kinds
 use Rattle.posix_profile.specs.declared.reply.Reply.{Reply}
 use Rattle.posix_profile.specs.declared.reply.Reply.TheVariants as replies
+use Rattle.posix_profile.specs.NameSteps.{told_size}
 use Rattle.line_shell.specs.Words.{space, spelled}
 
 -- the byte at the end of a line
@@ -37,11 +38,6 @@ abbrev pub kind_name : Kind → List ℕ
 kind_name kinds.File = codes "file"
 kind_name kinds.Directory = codes "dir"
 
--- the size that is told of an object: 0 of a directory
-abbrev pub size_of_kind : Kind → ℕ → ℕ
-size_of_kind kinds.File size = size
-size_of_kind kinds.Directory size = 0
-
 -- each number after a space
 abbrev pub numbers_text : List ℕ → List ℕ
 numbers_text numbers = flat_map (λ n. space ∷ decimal n) numbers
@@ -57,7 +53,7 @@ reply_words (replies.Fd fd) = codes "fd" ++ numbers_text (fd ∷ [])
 reply_words (replies.Data bytes) = codes "data" ++ numbers_text (length bytes ∷ []) ++ (space ∷ spelled bytes)
 reply_words (replies.Wrote count) = codes "wrote" ++ numbers_text (count ∷ [])
 reply_words (replies.At offset) = codes "at" ++ numbers_text (offset ∷ [])
-reply_words (replies.Info info) = codes "info " ++ kind_name info.kind ++ numbers_text (info.object ∷ info.links ∷ size_of_kind info.kind info.size ∷ info.moment ∷ [])
+reply_words (replies.Info info) = codes "info " ++ kind_name info.kind ++ numbers_text (info.object ∷ info.links ∷ told_size info.kind info.size ∷ info.moment ∷ [])
 reply_words (replies.Names names) = codes "names" ++ numbers_text (length names ∷ []) ++ names_text names
 reply_words (replies.SpaceInfo space') = codes "space" ++ numbers_text (space'.unit ∷ space'.total ∷ space'.free ∷ [])
 reply_words (replies.Error error) = codes "error " ++ error_name error

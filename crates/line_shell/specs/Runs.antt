@@ -33,11 +33,6 @@ Run {V} serves (line ∷ lines) old text new =
     (first : List ℕ) × (rest : List ℕ) × (middle : Session V) × (text ≡ first ++ rest)
     × Answers serves (line_of line) old first middle × Run serves lines middle rest new
 
--- the text is out, or where the writer failed a first part of it
-abbrev pub IsOut : Option (List ℕ) → Option (List ℕ) → List ℕ → Result (Unit {0}) ShellFault → Type 0
-IsOut old new text (Err faults.Write) = AppendsPart old new text
-IsOut old new text result = Appends old new text
-
 -- the text is out, unless the writer failed
 abbrev pub IsTold : Option (List ℕ) → Option (List ℕ) → List ℕ → Result (Unit {0}) ShellFault → Type 0
 IsTold old new text (Ok done) = Appends old new text
@@ -63,6 +58,32 @@ abbrev pub AnswersLine : {V : Type 0} → (V → Stamped → Reply → V → Typ
 AnswersLine serves line old before after new (Err faults.NoMemory) = (new ≡ old.volume) × Keeps before after
 AnswersLine serves line old before after new result = Obeys serves (line_of line) old before after new result
 
+-- Lines were answered in turn, from the moment 0 on, and the answers are out.
+pub record AnswersAll {V : Type 0} (serves : V → Stamped → Reply → V → Type 0) (lines : List (List ℕ)) (before after : Option (List ℕ)) (old new : V) : Type 0 where
+  pub text : List ℕ
+  pub moment : ℕ
+  pub run : Run serves (map without_end lines) (record { moment = 0; volume = old }) text (record { moment = moment; volume = new })
+  pub told : Appends before after text
+
+-- Lines were answered in turn, from the moment 0 on, until the writer failed: what the last line asks for was done, the answers to the lines before it are out, and of its own a first part.
+pub record StopsAt {V : Type 0} (serves : V → Stamped → Reply → V → Type 0) (lines : List (List ℕ)) (before after : Option (List ℕ)) (old new : V) : Type 0 where
+  pub front : List (List ℕ)
+  pub last : List ℕ
+  pub text : List ℕ
+  pub part : List ℕ
+  pub rest : List ℕ
+  pub middle : Session V
+  pub moment : ℕ
+  pub lines_are : lines ≡ front ++ (last ∷ [])
+  pub run : Run serves (map without_end front) (record { moment = 0; volume = old }) text middle
+  pub answer : Answers serves (line_of (without_end last)) middle (part ++ rest) (record { moment = moment; volume = new })
+  pub told : Appends before after (text ++ part)
+
+-- the lines were answered and the answers are out, but for the answer in which the writer failed
+abbrev pub AreTold : {V : Type 0} → (V → Stamped → Reply → V → Type 0) → List (List ℕ) → Option (List ℕ) → Option (List ℕ) → V → V → Result (Unit {0}) ShellFault → Type 0
+AreTold serves lines before after old new (Err faults.Write) = StopsAt serves lines before after old new
+AreTold serves lines before after old new result = AnswersAll serves lines before after old new
+
 -- which lines of the input were answered: all of them, those before one that is too long or one too many, or some first ones
 abbrev pub AreAnswered : List ℕ → List (List ℕ) → Result (Unit {0}) ShellFault → Type 0
 AreAnswered input answered (Ok done) = whole_lines input ≡ answered
@@ -75,14 +96,11 @@ abbrev pub IsRead : Option (List ℕ) → Option (List ℕ) → Result (Unit {0}
 IsRead input left (Ok done) = OnSome input (IsAtEnd left)
 IsRead input left (Err fault) = Unit {0}
 
--- What a shell did from a moment and something that serves: it answered lines, neither too long nor too many, and told the answers.
+-- What a shell did with something that serves: it answered lines, neither too long nor too many, and told the answers.
 pub record Shell {V : Type 0} (serves : V → Stamped → Reply → V → Type 0) (input left before after : Option (List ℕ)) (old new : V) (result : Result (Unit {0}) ShellFault) : Type 0 where
   pub answered : List (List ℕ)
-  pub text : List ℕ
-  pub moment : ℕ
-  pub run : Run serves (map without_end answered) (record { moment = 0; volume = old }) text (record { moment = moment; volume = new })
+  pub told : AreTold serves answered before after old new result
   pub short : All (λ line. line_size line ≤ longest_line) answered
   pub few : length answered ≤ most_lines
-  pub told : IsOut before after text result
   pub lines : IfSome input (λ bytes. AreAnswered bytes answered result)
   pub read : IsRead input left result

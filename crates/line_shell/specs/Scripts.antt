@@ -54,15 +54,17 @@ pub record IsScript (input : List ℕ) (commands : List Stamped) : Type 0 where
   pub few : length (whole_lines input) ≤ most_lines
   pub asked : commands_of 0 (lines_of input) ≡ Some commands
 
--- a line of the input is bad, and none before it
+-- a line of the input is bad, and none before it; up to it no line is too long or one too many
 pub record HasBadLine (input : List ℕ) : Type 0 where
   pub before : List (List ℕ)
   pub line : List ℕ
   pub rest : List (List ℕ)
   pub commands : List Stamped
-  pub lines_are : lines_of input ≡ before ++ (line ∷ rest)
-  pub good : commands_of 0 before ≡ Some commands
-  pub bad : line_of line ≡ lines.Bad
+  pub lines_are : whole_lines input ≡ before ++ (line ∷ rest)
+  pub short : All (λ line. line_size line ≤ longest_line) (before ++ (line ∷ []))
+  pub few : length before < most_lines
+  pub good : commands_of 0 (map without_end before) ≡ Some commands
+  pub bad : line_of (without_end line) ≡ lines.Bad
 
 -- a line of the input is too long, or one too many, and none before it is bad
 pub record HasLongLine (input : List ℕ) : Type 0 where

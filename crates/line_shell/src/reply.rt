@@ -1,6 +1,7 @@
 // The texts of replies.
 ghost use Rattle.std.specs.Prelude.{◌≡◌, ◌∷◌, ◌++◌, [], length, codes};
-ghost use Rattle.line_shell.specs.Replies.{error_name, kind_name, size_of_kind, numbers_text, names_text, reply_words, reply_text, bad_line_text};
+ghost use Rattle.posix_profile.specs.NameSteps.{told_size};
+ghost use Rattle.line_shell.specs.Replies.{error_name, kind_name, numbers_text, names_text, reply_words, reply_text, bad_line_text};
 ghost use Rattle.line_shell.specs.Words.{space, spelled};
 ghost use Rattle.line_shell.specs.Written.{Writes};
 
@@ -43,8 +44,8 @@ fn kind_name(kind: Kind) -> &'static [u8]
 }
 
 /// The size that is told of an object: 0 of a directory.
-fn size_of_kind(kind: Kind, size: u64) -> u64
-    ensures { result ≡ size_of_kind kind size }
+fn told_size(kind: Kind, size: u64) -> u64
+    ensures { result ≡ told_size kind size }
 {
     match kind {
         Kind::File => size,
@@ -60,13 +61,13 @@ fn write_data<W: Write>(writer: &mut W, bytes: &[u8]) -> Result<()>
 }
 
 fn write_info<W: Write>(writer: &mut W, info: Info) -> Result<()>
-    ensures { Writes (W.contents writer.old) (W.contents writer.new) (codes "info " ++ kind_name info.kind ++ numbers_text (info.object ∷ info.links ∷ size_of_kind info.kind info.size ∷ info.moment ∷ [])) result }
+    ensures { Writes (W.contents writer.old) (W.contents writer.new) (codes "info " ++ kind_name info.kind ++ numbers_text (info.object ∷ info.links ∷ told_size info.kind info.size ∷ info.moment ∷ [])) result }
 {
     write_bytes(writer, b"info ")?;
     let numbers = [
         info.object,
         info.links,
-        size_of_kind(info.kind, info.size),
+        told_size(info.kind, info.size),
         info.moment,
     ];
     write_tagged_numbers(writer, kind_name(info.kind), &numbers)

@@ -26,7 +26,7 @@ returns-in_err-moment g c =
     let p = err_from_is_err_and c.from_residual-in_err-moment.result c.from_residual-in_err-moment.ensures.1 in
     let read = subst (λ b. ReadsLine (g.R.Read.remaining c.loop-count.reader) (g.R.Read.remaining c.read_line.new.reader) c.read_line.new.line.items (Ok b)) c.if-not-branch.false c.in_ok-read_line.ensures in
     let did = subst (λ line. Collects (line_of line) c.loop-count.moment c.loop-count.script.items c.collect.new.script.items (Err c.in_err-moment.field-0.0)) c.deref.ensures.value c.in_err-moment.ensures in
-    rw (p.1, p.2) (stops_collecting _ _ _ _ _ c.loop-count.invariant (g.R.Read.remaining c.read_line.new.reader) c.read_line.new.line.items c.collect.new.script.items c.in_err-moment.field-0.0 read did)
+    rw (p.1, p.2) (stops_collecting _ _ _ _ _ c.loop-count.invariant (g.R.Read.remaining c.read_line.new.reader) c.read_line.new.line.items c.collect.new.script.items c.in_err-moment.field-0.0 (omega arith) read did)
 
 pub loop-count-preserved : goal.loop-count-preserved
 loop-count-preserved g c =

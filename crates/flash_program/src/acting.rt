@@ -1,7 +1,6 @@
 // What the program does.
 ghost use Rattle.std.specs.Prelude.{◌≡◌, Result};
-ghost use Rattle.posix_calls.specs.Volumes.{over_pages};
-ghost use Rattle.flash_program.specs.Acting.{ActsAs, Means};
+ghost use Rattle.flash_program.specs.Acting.{ActsAs, over_device};
 ghost use Rattle.flash_program.specs.Statuses.{status_of, IsReported};
 ghost use Rattle.flash_program.specs.declared.fault.ProgramFault.{ProgramFault as Fault};
 
@@ -12,9 +11,7 @@ use crate::ending::report;
 use crate::fault::ProgramFault;
 use crate::memory::run_in_memory;
 use crate::running::run_image;
-use crate::serve::ServedVolume;
 use flash_pages::FlashPages;
-use line_shell::Serve;
 use nand_image::ImageNand;
 use nand_model::MemNand;
 use pages::Pages;
@@ -30,8 +27,7 @@ fn perform<F: Read + Write + Seek + Drop, R: BufRead, W: Write>(
     input: &mut R,
     out: &mut W,
 ) -> Result<(), ProgramFault>
-    ensures { ActsAs F.remaining (record { state = ⟦<FlashPages<MemNand> as Pages>⟧.state; inside = λ v. over_pages v.volume; serves = ⟦<ServedVolume<MemNand> as Serve>⟧.serves })
-        (record { state = ⟦<FlashPages<ImageNand<F>> as Pages>⟧.state; inside = λ v. over_pages v.volume; serves = ⟦<ServedVolume<ImageNand<F>> as Serve>⟧.serves })
+    ensures { ActsAs F.remaining (over_device ⟦<FlashPages<MemNand> as Pages>⟧.state) (over_device ⟦<FlashPages<ImageNand<F>> as Pages>⟧.state)
         chosen.now image (R.remaining input.old) (R.remaining input.new) (W.contents out.old) (W.contents out.new) result }
 {
     match chosen {
@@ -60,8 +56,7 @@ pub fn act<F: Read + Write + Seek + Drop, R: BufRead, W: Write, E: Write>(
     err: &mut E,
 ) -> u8
     ensures { (ended : Result (Unit {0}) Fault) × (result ≡ status_of ended) × IsReported (E.contents err.old) (E.contents err.new) ended
-        × ActsAs F.remaining (record { state = ⟦<FlashPages<MemNand> as Pages>⟧.state; inside = λ v. over_pages v.volume; serves = ⟦<ServedVolume<MemNand> as Serve>⟧.serves })
-        (record { state = ⟦<FlashPages<ImageNand<F>> as Pages>⟧.state; inside = λ v. over_pages v.volume; serves = ⟦<ServedVolume<ImageNand<F>> as Serve>⟧.serves })
+        × ActsAs F.remaining (over_device ⟦<FlashPages<MemNand> as Pages>⟧.state) (over_device ⟦<FlashPages<ImageNand<F>> as Pages>⟧.state)
         chosen.now image (R.remaining input.old) (R.remaining input.new) (W.contents out.old) (W.contents out.new) ended }
 {
     let ended = perform(alloc, chosen, image, input, out);

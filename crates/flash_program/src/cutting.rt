@@ -14,13 +14,10 @@ use nand_image::open_image;
 use nand_model::MemNand;
 use posix_profile::Stamped;
 use std::alloc::Global;
-use std::io::{BufRead, Read, Seek, Write};
+use std::io::{BufRead, Read, Write};
 
 /// The flash in an image, in memory.
-fn copy_of<F: Read + Write + Seek + Drop>(
-    alloc: Global,
-    image: Option<F>,
-) -> Result<MemNand, ProgramFault>
+fn copy_of<F: Read + Drop>(alloc: Global, image: Option<F>) -> Result<MemNand, ProgramFault>
     ensures opens { IfOk result (λ copy. IsCopy F.remaining image (memory.device copy)) }
     ensures fault { IfErr result (λ e. NotOpened F.remaining image (Err e) ⊎ ((opened : Device) × Opens F.remaining image opened × (e ≡ faults.NoMemory))) }
 {
@@ -58,8 +55,8 @@ fn fault_of(fault: CutFault) -> ProgramFault
 }
 
 /// Does the commands of the reader on a copy of the volume in an image, in sessions that are cut, and tells of each what a
-/// mount finds. The image is not changed.
-pub(crate) fn cut_image<F: Read + Write + Seek + Drop, R: BufRead, W: Write>(
+/// mount finds. The image is not changed: its type has no means to be written.
+pub(crate) fn cut_image<F: Read + Drop, R: BufRead, W: Write>(
     alloc: Global,
     image: Option<F>,
     seed: u64,

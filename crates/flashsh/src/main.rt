@@ -4,18 +4,27 @@
 //! the lines or standard output failed. With 2 and 4 one line, `fault` and a name, goes to standard error.
 #![tactic(auto)]
 
-ghost use Rattle.std.specs.Prelude.{◌≡◌, ◌≤◌, IfOk, None, Result, drop};
+ghost use Rattle.std.specs.Prelude.{◌≡◌, ◌≤◌, IfOk, None, Result, drop, map, option_map};
+ghost use Rattle.std.specs.String.{string_bytes};
 ghost use Rattle.std.specs.Vec.Iter.{into_iter_items};
+ghost use Rattle.flash_program.specs.Acting.{over_device};
 ghost use Rattle.flash_program.specs.Statuses.{status_of, IsReported};
 ghost use Rattle.flash_program.specs.declared.fault.ProgramFault.{ProgramFault as Fault};
+ghost use Rattle.flashsh.specs.Ending.{IsDone, IsDoneWith, EndsWith};
+ghost use Rattle.flashsh.specs.Opening.{options_of, path_of};
+ghost use Rattle.program_words.specs.Choices.{AskForHelp};
 ghost use Rattle.program_words.specs.declared.chosen.Chosen.TheVariants as choices;
 
+use flash_pages::FlashPages;
 use flash_program::{ProgramFault, act, report};
+use nand_image::ImageNand;
+use nand_model::MemNand;
+use pages::Pages;
 use program_words::{Chosen, choose, parse};
 use std::alloc::{AllocError, Global};
 use std::env::{self, Args};
 use std::fs::{File, OpenOptions};
-use std::io::{BufRead, LineWriter, Write};
+use std::io::{BufRead, LineWriter, Read, Write};
 use std::process::ExitCode;
 
 /// The words after the program's name, which is the first of the arguments.
@@ -25,25 +34,42 @@ fn words_after_name(alloc: Global, arguments: Args) -> Result<Vec<String>, Alloc
     arguments.skip(1).collect(alloc)
 }
 
-/// The image that was chosen, opened: emptied for a new volume, and read alone where it is not changed.
-fn open(rt: &HostRuntime, chosen: &Chosen) -> Option<File>
-    ensures { chosen.now ≡ choices.Memory → result ≡ None }
+/// How the image of what was chosen is opened: made or emptied for a new volume, and read alone where it is not changed.
+fn options_of(chosen: &Chosen) -> OpenOptions
+    ensures { result ≡ options_of chosen.now }
 {
     let mut options = OpenOptions::new();
     options.read(true);
-    let image = match chosen {
-        Chosen::Memory => return None,
-        Chosen::Format { image, .. } => {
+    match chosen {
+        Chosen::Format { .. } => {
             options.write(true).create(true).truncate(true);
-            image
         }
-        Chosen::Run { image } => {
+        Chosen::Run { .. } => {
             options.write(true);
-            image
         }
-        Chosen::Check { image } | Chosen::Cut { image, .. } => image,
-    };
-    options.open(rt, image.as_str()).ok()
+        Chosen::Memory | Chosen::Check { .. } | Chosen::Cut { .. } => {}
+    }
+    options
+}
+
+/// The path of the image that was chosen.
+fn path_of(chosen: &Chosen) -> Option<&str>
+    ensures { option_map (λ path. path.now) result ≡ path_of chosen.now }
+{
+    match chosen {
+        Chosen::Memory => None,
+        Chosen::Format { image, .. }
+        | Chosen::Run { image }
+        | Chosen::Check { image }
+        | Chosen::Cut { image, .. } => Some(image.as_str()),
+    }
+}
+
+/// The image that was chosen, opened.
+fn open(rt: &HostRuntime, chosen: &Chosen) -> Option<File>
+    ensures { chosen.now ≡ choices.Memory → result ≡ None }
+{
+    options_of(chosen).open(rt, path_of(chosen)?).ok()
 }
 
 /// Does what was chosen, between these, gives the status of its end, and tells a fault in `err`.
@@ -54,14 +80,17 @@ fn perform<R: BufRead, W: Write, E: Write>(
     out: &mut W,
     err: &mut E,
 ) -> u8
-    ensures { (ended : Result (Unit {0}) Fault) × (result ≡ status_of ended) × IsReported (E.contents err.old) (E.contents err.new) ended }
+    ensures { (ended : Result (Unit {0}) Fault) × (result ≡ status_of ended) × IsReported (E.contents err.old) (E.contents err.new) ended
+        × IsDone ⟦<File as Read>⟧.remaining (over_device ⟦<FlashPages<MemNand> as Pages>⟧.state) (over_device ⟦<FlashPages<ImageNand<File>> as Pages>⟧.state)
+        chosen.now (R.remaining input.old) (R.remaining input.new) (W.contents out.old) (W.contents out.new) ended }
 {
     act(rt.alloc(), chosen, open(rt, chosen), input, out, err)
 }
 
 /// Does what was chosen, between standard input, output and error, and gives the status of its end.
 fn perform_between_streams(rt: &HostRuntime, chosen: &Chosen) -> u8
-    ensures { (ended : Result (Unit {0}) Fault) × (result ≡ status_of ended) }
+    ensures { IsDoneWith ⟦<File as Read>⟧.remaining (over_device ⟦<FlashPages<MemNand> as Pages>⟧.state) (over_device ⟦<FlashPages<ImageNand<File>> as Pages>⟧.state)
+        chosen.now result }
 {
     let mut input = rt.stdin().lock();
     let mut err = rt.stderr();
@@ -73,7 +102,8 @@ fn perform_between_streams(rt: &HostRuntime, chosen: &Chosen) -> u8
 
 /// Tells why the words are not taken, or the help or version that they ask for.
 fn explain(rt: &HostRuntime, words: &[String]) -> u8
-    ensures { result ≤ 1 }
+    ensures status { result ≤ 1 }
+    ensures help { result ≡ 0 → AskForHelp (map string_bytes words.now) }
 {
     match parse(rt.alloc(), words) {
         Ok(_) => 1,
@@ -84,6 +114,17 @@ fn explain(rt: &HostRuntime, words: &[String]) -> u8
     }
 }
 
+/// Does what the words choose, or tells why they are not taken, and gives the status.
+fn answer(rt: &HostRuntime, words: &[String]) -> u8
+    ensures { EndsWith ⟦<File as Read>⟧.remaining (over_device ⟦<FlashPages<MemNand> as Pages>⟧.state) (over_device ⟦<FlashPages<ImageNand<File>> as Pages>⟧.state)
+        (map string_bytes words.now) result }
+{
+    match choose(rt.alloc(), words) {
+        Ok(chosen) => perform_between_streams(rt, &chosen),
+        Err(_) => explain(rt, words),
+    }
+}
+
 fn main(rt: HostRuntime) -> ExitCode {
     let Ok(arguments) = env::args(&rt) else {
         return ExitCode::from(1);
@@ -91,8 +132,5 @@ fn main(rt: HostRuntime) -> ExitCode {
     let Ok(words) = words_after_name(rt.alloc(), arguments) else {
         return ExitCode::from(1);
     };
-    ExitCode::from(match choose(rt.alloc(), &words) {
-        Ok(chosen) => perform_between_streams(&rt, &chosen),
-        Err(_) => explain(&rt, &words),
-    })
+    ExitCode::from(answer(&rt, &words))
 }

@@ -17,7 +17,7 @@ use crate::layout::MAGIC;
 use byteorder::{ByteOrder, LittleEndian};
 use nand_model::{Geometry, MemNand, Nand, PageKind};
 use std::alloc::Global;
-use std::io::{ErrorKind, Read, Seek, Write};
+use std::io::{ErrorKind, Read};
 
 /// Reads until the buffer is full or the file is at its end, and tells how many bytes it read. An interrupted read is
 /// tried again.
@@ -214,11 +214,9 @@ fn read_flash<F: Read>(
     Ok(memory)
 }
 
-/// The device in a file that holds an image and stands at its start. The file is not moved before.
-pub fn open_image<F: Read + Write + Seek + Drop>(
-    alloc: Global,
-    file: F,
-) -> Result<ImageNand<F>, ImageFault>
+/// The device in a file that holds an image and stands at its start. The file is not moved before, and not written: its
+/// type has no means to.
+pub fn open_image<F: Read + Drop>(alloc: Global, file: F) -> Result<ImageNand<F>, ImageFault>
     ensures gone { IfOk result (λ d. (image.device d).gone ≡ false) }
     ensures counts { IfOk result (λ d. CountsNothing (image.device d)) }
     ensures nexts { IfOk result (λ d. (b : ℕ) → (image.device d).flash.next b ≡ None) }

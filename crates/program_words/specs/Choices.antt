@@ -1,8 +1,10 @@
 -- What words choose.
-use Rattle.std.specs.Prelude.{◌≡◌, ℕ, List, Option, Some, None, codes}
+use Rattle.std.specs.Prelude.{◌≡◌, ◌⊎◌, ℕ, List, [], Option, Some, None, codes}
 use Rattle.std.specs.Str.Parse.{digits_value, without_leading_plus}
 use Rattle.std.specs.String.{string_bytes}
-use Rattle.clap.specs.Words.{Row, Text, first_of, one_of}
+use Rattle.clap.specs.Words.{IsAmong, Row, Text, fault_of, first_of, one_of}
+use Rattle.clap.specs.declared.error.kind.ErrorKind.TheVariants as kinds
+use Rattle.program_words.specs.Program.{program}
 use Rattle.program_words.specs.declared.chosen.Chosen.{Chosen}
 use Rattle.program_words.specs.declared.chosen.Chosen.TheVariants as choices
 
@@ -26,3 +28,11 @@ ChoosesIn name rows (choices.Cut image seed sessions) =
 abbrev pub Chooses : Option (Text × List Row) → Chosen → Type 0
 Chooses None chosen = chosen ≡ choices.Memory
 Chooses (Some entered) chosen = ChoosesIn entered.0 entered.1 chosen
+
+-- the words after the program's name are taken: they have no fault
+abbrev pub AreTaken : List Text → Type 0
+AreTaken words = fault_of program words ≡ []
+
+-- their fault is that they ask for help or the version, or may be that where they begin with `help`
+abbrev pub AskForHelp : List Text → Type 0
+AskForHelp words = IsAmong kinds.DisplayHelp (fault_of program words) ⊎ IsAmong kinds.DisplayVersion (fault_of program words)

@@ -1,8 +1,8 @@
 // What words choose.
-ghost use Rattle.std.specs.Prelude.{◌≡◌, IfOk, IfErr, IfSome, Some, codes, map};
+ghost use Rattle.std.specs.Prelude.{◌≡◌, IfOk, IfErr, IfSome, OnOk, Some, codes, map};
 ghost use Rattle.std.specs.String.{string_bytes};
-ghost use Rattle.clap.specs.Words.{first_of, found_of, rows_of, subcommand_of, subcommand_rows_of};
-ghost use Rattle.program_words.specs.Choices.{IsNumber, Chooses, ChoosesIn};
+ghost use Rattle.clap.specs.Words.{FailsBy, fault_of, first_of, found_of, rows_of, subcommand_of, subcommand_rows_of};
+ghost use Rattle.program_words.specs.Choices.{IsNumber, Chooses, ChoosesIn, AreTaken};
 ghost use Rattle.program_words.specs.Program.{program};
 
 use crate::chosen::Chosen;
@@ -67,7 +67,8 @@ fn chosen_in(alloc: Global, name: &str, matches: &ArgMatches<'_>) -> Option<Chos
 /// What the words after the program's name say, or the text that is told of them: what is wrong, or the help or version
 /// that they ask for.
 pub fn parse<'a, S: AsStr>(alloc: Global, words: &'a [S]) -> Result<ArgMatches<'a>, Error>
-    ensures { IfOk result (λ matches. subcommand_rows_of matches ≡ subcommand_of program (map S.text words.entry.now)) }
+    ensures entered { IfOk result (λ matches. subcommand_rows_of matches ≡ subcommand_of program (map S.text words.entry.now)) }
+    ensures kinds { FailsBy (fault_of program (map S.text words.entry.now)) result }
 {
     program(alloc)?.try_get_matches_from(words)
 }
@@ -75,6 +76,7 @@ pub fn parse<'a, S: AsStr>(alloc: Global, words: &'a [S]) -> Result<ArgMatches<'
 /// What the words after the program's name choose, or the status 1: they are not taken, ask for help or the version, or
 /// memory is refused.
 pub fn choose<'a, S: AsStr>(alloc: Global, words: &'a [S]) -> Result<Chosen, u8>
+    ensures taken { OnOk result (AreTaken (map S.text words.entry.now)) }
     ensures chosen { IfOk result (Chooses (subcommand_of program (map S.text words.entry.now))) }
     ensures refused { IfErr result (λ status. status ≡ 1) }
 {

@@ -1,6 +1,6 @@
 // Runs that are cut off at each of their calls: what was committed is a tree that a loss may leave.
-use crate::asks::{Ask, command_of, reply_text};
 use crate::kept::KeptObjects;
+use crate::lines::{commands_of, reply_text};
 use fused_store::{FusedStore, LastCall};
 use object_commands::Volume;
 use plain_objects::PlainObjects;
@@ -10,39 +10,36 @@ use std::process::Abort;
 use std::test::Fail;
 use volume_terms::VolumeSizes;
 
-const SESSION: [Ask<'static>; 18] = [
-    Ask::Mkdir("/a"),
-    Ask::Open("/a/f", "rwc"),
-    Ask::Write(0, "hello"),
-    Ask::Sync,
-    Ask::Write(0, " world"),
-    Ask::Link("/a/f", "/g"),
-    Ask::Fsync(0),
-    Ask::Unlink("/g"),
-    Ask::Rename("/a", "/b"),
-    Ask::Mkdir("/c"),
-    Ask::Sync,
-    Ask::Truncate(0, 3),
-    Ask::Unlink("/b/f"),
-    Ask::Read(0, 9),
-    Ask::Close(0),
-    Ask::Rmdir("/c"),
-    Ask::List("/"),
-    Ask::Sync,
-];
-
 /// The commands, with rising moments.
-fn stamped(alloc: Global, asks: &[Ask<'_>]) -> Result<Vec<Stamped>, AllocError> {
-    let mut commands = Vec::new(alloc);
-    for (i, ask) in asks.iter().enumerate() {
-        let command = command_of(alloc, *ask)?;
-        commands.push(Stamped {
-            moment: i as u64,
-            command,
-        })?;
-    }
-    Ok(commands)
-}
+const SESSION: &str = "now 1
+mkdir /a
+now 2
+open /a/f rwc
+now 3
+write 0 hello
+sync
+now 5
+write 0 \\x20world
+now 6
+link /a/f /g
+fsync 0
+now 8
+unlink /g
+now 9
+rename /a /b
+now 10
+mkdir /c
+sync
+now 12
+truncate 0 3
+now 13
+unlink /b/f
+read 0 9
+close 0
+now 16
+rmdir /c
+list /
+sync";
 
 pub(crate) fn no_objects(alloc: Global) -> Result<PlainObjects, AllocError> {
     PlainObjects::new(alloc, VolumeSizes::new(512, 32, 8, 1))
@@ -61,7 +58,7 @@ fn bytes_text(
     alloc: Global,
     volume: &mut Volume<PlainObjects>,
     path: &[u8],
-) -> Result<String, AllocError> {
+) -> Result<String, Fail> {
     let path = path_of(alloc, path)?;
     let flags = OpenFlags {
         access: Access::Read,
@@ -83,7 +80,7 @@ fn add_object(
     path: &[u8],
     paths: &mut Vec<Vec<u8>>,
     text: &mut String,
-) -> Result<(), AllocError> {
+) -> Result<(), Fail> {
     let info = told(
         volume,
         Command::Stat {
@@ -110,14 +107,15 @@ fn add_object(
         }
         _ => text.push_str(&bytes_text(alloc, volume, path)?)?,
     }
-    text.push_str("\n")
+    text.push_str("\n")?;
+    Ok(())
 }
 
 /// What a tree of at most 50 objects holds: what is told of each.
-fn tree_text(alloc: Global, objects: PlainObjects) -> Result<String, AllocError> {
+fn tree_text(alloc: Global, objects: PlainObjects) -> Result<String, Fail> {
     let mut volume = match Volume::new(alloc, objects, true) {
         Ok(volume) => volume,
-        Err((_objects, error)) => return Err(error),
+        Err((_objects, error)) => return Err(error.into()),
     };
     let mut text = String::new(alloc);
     let mut paths = Vec::new(alloc);
@@ -132,10 +130,10 @@ fn tree_text(alloc: Global, objects: PlainObjects) -> Result<String, AllocError>
 }
 
 /// The trees before the first command and after each one, as a mount would show them.
-fn trees_of(alloc: Global, commands: &[Stamped]) -> Result<Vec<String>, AllocError> {
+fn trees_of(alloc: Global, commands: &[Stamped]) -> Result<Vec<String>, Fail> {
     let mut volume = match Volume::new(alloc, no_objects(alloc)?, false) {
         Ok(volume) => volume,
-        Err((_objects, error)) => return Err(error),
+        Err((_objects, error)) => return Err(error.into()),
     };
     let mut trees = Vec::new(alloc);
     trees.push(tree_text(alloc, volume.store().settled()?)?)?;
@@ -152,12 +150,12 @@ fn cut_run(
     commands: &[Stamped],
     calls: u64,
     last: LastCall,
-) -> Result<(Vec<Reply>, String), AllocError> {
+) -> Result<(Vec<Reply>, String), Fail> {
     let inner = KeptObjects::new(no_objects(alloc)?)?;
     let store = FusedStore { inner, calls, last };
     let mut volume = match Volume::new(alloc, store, false) {
         Ok(volume) => volume,
-        Err((_store, error)) => return Err(error),
+        Err((_store, error)) => return Err(error.into()),
     };
     let mut replies = Vec::new(alloc);
     volume.run(commands, &mut replies)?;
@@ -202,7 +200,7 @@ fn cut_at(
     trees: &[String],
     calls: u64,
     last: LastCall,
-) -> Result<bool, AllocError> {
+) -> Result<bool, Fail> {
     let (replies, left) = cut_run(alloc, commands, calls, last)?;
     let from = covered(commands, &replies);
     let to = answered(&replies);
@@ -220,7 +218,7 @@ fn cut_at(
 #[test]
 fn what_a_cut_leaves_is_the_tree_after_some_commands(rt: HostRuntime) -> Result<(), Fail> {
     let alloc = rt.alloc();
-    let commands = stamped(alloc, &SESSION)?;
+    let commands = commands_of(alloc, SESSION)?;
     let trees = trees_of(alloc, &commands)?;
     let mut cuts = 0u64;
     for calls in 0..100 {

@@ -3,18 +3,14 @@
 #![tactic(auto)]
 
 #[cfg(test)]
-mod asks;
-#[cfg(test)]
 mod cuts;
 mod kept;
 #[cfg(test)]
+mod lines;
+#[cfg(test)]
 mod refused;
 #[cfg(test)]
-mod session;
-#[cfg(test)]
 mod shells;
-#[cfg(test)]
-mod tests;
 #[cfg(test)]
 mod trees;
 

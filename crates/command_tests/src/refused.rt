@@ -1,18 +1,18 @@
 // Commands whose calls of the store are refused memory in turn.
-use crate::asks::{Ask, command_of, reply_text};
 use crate::cuts::no_objects;
+use crate::lines::{command_of, reply_text};
 use fused_store::RefusingStore;
 use object_commands::Volume;
 use object_store::ObjectStore;
 use plain_objects::PlainObjects;
-use posix_profile::{Command, Errno, Kind, Reply, Stamped, Whence};
+use posix_profile::{Command, Errno, Kind, Reply, Stamped};
 use std::alloc::{AllocError, Global};
 use std::process::Abort;
 use std::test::Fail;
 use volume_terms::StoreFault;
 
 /// A volume over maps that may refuse memory.
-pub(crate) type RefusingVolume = Volume<RefusingStore<PlainObjects>>;
+type RefusingVolume = Volume<RefusingStore<PlainObjects>>;
 
 /// More calls than a command makes that is told here.
 const MOST_CALLS: u64 = 20;
@@ -21,7 +21,7 @@ const MOST_CALLS: u64 = 20;
 const NUMBERS: u64 = 80;
 
 /// A volume over these maps, which refuse nothing, with no descriptor open.
-pub(crate) fn volume_over(
+fn volume_over(
     alloc: Global,
     inner: PlainObjects,
     read_only: bool,
@@ -33,10 +33,7 @@ pub(crate) fn volume_over(
 }
 
 /// The same volume over a copy of its maps, which refuses memory after so many calls.
-pub(crate) fn refusing(
-    volume: &RefusingVolume,
-    calls: Option<u64>,
-) -> Result<RefusingVolume, AllocError> {
+fn refusing(volume: &RefusingVolume, calls: Option<u64>) -> Result<RefusingVolume, AllocError> {
     let inner = volume.store().inner.copy()?;
     match volume.copy_over(RefusingStore { inner, calls }) {
         Ok(copy) => Ok(copy),
@@ -127,7 +124,7 @@ fn told_again(
     alloc: Global,
     volume: &mut RefusingVolume,
     stamped: &Stamped,
-) -> Result<String, AllocError> {
+) -> Result<String, Fail> {
     let mut reply = volume.call(stamped);
     if is_no_memory(&reply) {
         reply = volume.call(stamped);
@@ -145,7 +142,7 @@ fn refused_at(
     stamped: &Stamped,
     told: &str,
     calls: u64,
-) -> Result<Option<RefusingVolume>, AllocError> {
+) -> Result<Option<RefusingVolume>, Fail> {
     let mut volume = refusing(before, Some(calls))?;
     let reply = volume.call(stamped);
     if volume.store().calls.is_some() {
@@ -161,13 +158,13 @@ fn refused_at(
 
 /// Does a command with each of its calls refused in turn, and asks for it again after each. The volume becomes the one that
 /// was refused last. The result is how many calls were refused.
-pub(crate) fn refuse_each(
+fn refuse_each(
     rt: &impl Abort,
     alloc: Global,
     volume: &mut RefusingVolume,
     stamped: &Stamped,
     told: &str,
-) -> Result<u64, AllocError> {
+) -> Result<u64, Fail> {
     let mut after = refusing(volume, None)?;
     assert_eq!(rt; told_again(alloc, &mut after, stamped)?.as_str(), told);
     for calls in 0..MOST_CALLS {
@@ -184,36 +181,79 @@ pub(crate) fn refuse_each(
 }
 
 /// What is asked, what is told, and how many calls of the store may be refused.
-const COUNTED: [(Ask<'static>, &str, u64); 18] = [
-    (Ask::Mkdir("/d"), "ok", 2),
-    (Ask::Open("/d/f", "rwc"), "fd 0", 3),
-    (Ask::Write(0, "hello"), "wrote 5", 1),
-    (Ask::Seek(0, 0, Whence::Set), "at 0", 0),
-    (Ask::Read(0, 10), "data 5 hello", 1),
-    (Ask::Stat("/d/f"), "info file 3 1 5 0", 2),
-    (Ask::List("/d"), "names 1 f", 2),
-    (Ask::Link("/d/f", "/g"), "ok", 4),
-    (Ask::Rename("/g", "/h"), "ok", 3),
-    (Ask::Truncate(0, 3), "ok", 1),
-    (Ask::Fsync(0), "ok", 0),
-    (Ask::Unlink("/h"), "ok", 2),
-    (Ask::Unlink("/d/f"), "ok", 3),
-    (Ask::Sync, "ok", 0),
-    (Ask::Space, "space 512 144 139", 0),
-    (Ask::Close(0), "ok", 0),
-    (Ask::Rmdir("/d"), "ok", 2),
-    (Ask::Stat("/d"), "error ENOENT", 1),
+const COUNTED: [(&str, &str, u64); 18] = [
+    ("mkdir /d", "ok", 2),
+    ("open /d/f rwc", "fd 0", 3),
+    ("write 0 hello", "wrote 5", 1),
+    ("seek 0 0 set", "at 0", 0),
+    ("read 0 10", "data 5 hello", 1),
+    ("stat /d/f", "info file 3 1 5 0", 2),
+    ("list /d", "names 1 f", 2),
+    ("link /d/f /g", "ok", 4),
+    ("rename /g /h", "ok", 3),
+    ("truncate 0 3", "ok", 1),
+    ("fsync 0", "ok", 0),
+    ("unlink /h", "ok", 2),
+    ("unlink /d/f", "ok", 3),
+    ("sync", "ok", 0),
+    ("space", "space 512 144 139", 0),
+    ("close 0", "ok", 0),
+    ("rmdir /d", "ok", 2),
+    ("stat /d", "error ENOENT", 1),
 ];
 
 #[test]
 fn each_call_may_be_refused(rt: HostRuntime) -> Result<(), Fail> {
     let alloc = rt.alloc();
     let mut volume = volume_over(alloc, no_objects(alloc)?, false)?;
-    for (ask, told, calls) in COUNTED {
-        let command = command_of(alloc, ask)?;
-        let stamped = Stamped { moment: 0, command };
+    for (line, told, calls) in COUNTED {
+        let stamped = command_of(alloc, line)?;
         let refused = refuse_each(&rt, alloc, &mut volume, &stamped, told)?;
-        assert_eq!(&rt; refused, calls, "{told}");
+        assert_eq!(&rt; refused, calls, "{line}");
+    }
+    Ok(())
+}
+
+/// What a volume that can only be read answers, over a file of five bytes and an empty directory.
+const READ_ONLY: [(&str, &str); 24] = [
+    ("open /a rw", "error EROFS"),
+    ("open /a wt", "error EROFS"),
+    ("open /b rc", "error EROFS"),
+    ("open /b r", "error ENOENT"),
+    ("open /a r", "fd 0"),
+    ("read 0 10", "data 5 hello"),
+    ("write 0 x", "error EBADF"),
+    ("truncate 0 1", "error EINVAL"),
+    ("fsync 0", "ok"),
+    ("sync", "ok"),
+    ("mkdir /e", "error EROFS"),
+    ("mkdir /d", "error EEXIST"),
+    ("rmdir /d", "error EROFS"),
+    ("rmdir /a", "error ENOTDIR"),
+    ("unlink /a", "error EROFS"),
+    ("unlink /d", "error EPERM"),
+    ("link /a /b", "error EROFS"),
+    ("link /a /b/", "error ENOENT"),
+    ("rename /a /b", "error EROFS"),
+    ("rename /a /a", "ok"),
+    ("rename /a /b/", "error ENOTDIR"),
+    ("list /", "names 2 a d"),
+    ("stat /a", "info file 2 1 5 0"),
+    ("close 0", "ok"),
+];
+
+#[test]
+fn what_may_only_be_read_stays(rt: HostRuntime) -> Result<(), Fail> {
+    let alloc = rt.alloc();
+    let mut volume = volume_over(alloc, no_objects(alloc)?, false)?;
+    for line in ["open /a rwc", "write 0 hello", "close 0", "mkdir /d"] {
+        let _reply = volume.call(&command_of(alloc, line)?);
+    }
+    let objects = volume.store().inner.settled()?;
+    let mut volume = volume_over(alloc, objects, true)?;
+    for (line, told) in READ_ONLY {
+        let stamped = command_of(alloc, line)?;
+        let _calls = refuse_each(&rt, alloc, &mut volume, &stamped, told)?;
     }
     Ok(())
 }

@@ -335,6 +335,8 @@ struct Counter {
     alloc: Global,
     made: u8,
     moment: u64,
+    /// How many commands were done.
+    calls: u64,
 }
 
 impl Counter {
@@ -343,6 +345,7 @@ impl Counter {
             alloc,
             made: 0,
             moment: 0,
+            calls: 0,
         }
     }
 
@@ -357,6 +360,7 @@ impl Serve for Counter {
     ghost serves = { λ old command reply new. Unit {0} };
 
     fn call(&mut self, command: &Stamped) -> Reply {
+        self.calls = self.calls.saturating_add(1);
         match &command.command {
             Command::Mkdir { path: _ } => {
                 self.made = self.made.wrapping_add(1);
@@ -514,8 +518,12 @@ fn a_writer_fails_at_each_call(rt: HostRuntime) -> Result<(), Fail> {
             calls: 0,
             fails_at,
         };
-        let ends = shell(alloc, &mut reader, &mut writer, &mut Counter::new(alloc));
+        let mut counter = Counter::new(alloc);
+        let ends = shell(alloc, &mut reader, &mut writer, &mut counter);
         assert!(rt; TOLD.starts_with(&writer.told));
+        // no command is done after the one whose answer could not be told
+        let whole = writer.told.iter().filter(|byte| **byte == b'\n').count();
+        assert!(rt; counter.calls <= (whole as u64).saturating_add(1));
         assert!(rt; writer.told.len() >= most);
         most = writer.told.len();
         if ends == Ok(()) {

@@ -2,7 +2,7 @@
 
 use block_state::Blocks;
 use flash_tree::{Found, Key};
-use nand_model::{Fate, MemNand, Nand, PageKind};
+use nand_model::{MemNand, Nand, PageKind};
 use plain_search::newest;
 use std::alloc::Global;
 use std::process::Abort;
@@ -103,9 +103,4 @@ pub(crate) fn marked(
         }
     }
     Ok(marked)
-}
-
-/// The fate of each page of a block.
-pub(crate) fn fates(alloc: Global, fate: Fate) -> Result<Vec<Fate>, Fail> {
-    Ok(vec![in alloc; fate; 32]?)
 }

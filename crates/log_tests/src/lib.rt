@@ -4,8 +4,6 @@
 #![tactic(auto)]
 
 #[cfg(test)]
-mod cases;
-#[cfg(test)]
 mod collections;
 #[cfg(test)]
 mod groups;
@@ -22,8 +20,6 @@ mod refused;
 #[cfg(test)]
 mod retirements;
 #[cfg(test)]
-mod rounds;
-#[cfg(test)]
 mod scans;
 #[cfg(test)]
 mod searches;
@@ -33,5 +29,3 @@ mod volumes;
 mod worked;
 #[cfg(test)]
 mod worked_index;
-#[cfg(test)]
-mod worn;

@@ -11,6 +11,13 @@ use std::process::Abort;
 use std::test::Fail;
 use test_log::mount_log;
 
+/// The reads of a mount of eight blocks of 32 pages.
+pub(crate) const MOUNT: u64 = 256;
+
+/// The calls of a move of three pages: an erase, and a read and a program for each page. A retirement marks the block
+/// besides.
+pub(crate) const MOVE: u64 = 7;
+
 /// A group of pages of objects in a row, all with the same data, and the block in which it lies.
 #[derive(Clone, Copy)]
 struct Laid {

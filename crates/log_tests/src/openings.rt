@@ -91,21 +91,3 @@ fn blocks_whose_erases_fail_are_marked_and_passed_over(rt: HostRuntime) -> Resul
     }
     Ok(())
 }
-
-/// The erase is cut, or the mark of a block whose erase failed.
-#[test]
-fn no_block_is_taken_where_the_power_goes(rt: HostRuntime) -> Result<(), Fail> {
-    let alloc = rt.alloc();
-    let mut erased = Volume::new(alloc)?.cut_at(1, Vec::new(alloc));
-    assert_eq!(rt; erased.take_free(&rt, 1), Err(TakeFault::Gone));
-    assert_eq!(rt; erased.blocks.bad_count(), 0);
-    for (fate, bad) in [(Fate::Old, 0), (Fate::New, 1)] {
-        let failures = vec![in alloc; (1, Vec::new(alloc))]?;
-        let mut marked = Volume::new(alloc)?
-            .failing(failures)
-            .cut_at(2, vec![in alloc; fate]?);
-        assert_eq!(rt; marked.take_free(&rt, 1), Err(TakeFault::Gone), "{fate:?}");
-        assert_eq!(rt; marked.blocks.bad_count(), bad, "{fate:?}");
-    }
-    Ok(())
-}

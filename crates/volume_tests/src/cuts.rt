@@ -2,6 +2,7 @@
 // the last page is there.
 
 use crate::devices::{ALL_LEFT, Hit, cut, formatted};
+use crate::served::told;
 use crate::sessions::HELLO;
 use crate::stories::Part::{Rows, Turns};
 use crate::stories::{Part, served_after, tell};
@@ -59,7 +60,7 @@ fn run(
     last: &str,
 ) -> Result<MemNand, Fail> {
     let mut served = served_after(rt, alloc, nand, 16, before)?;
-    let _told = served.told(alloc, last.as_bytes())?;
+    let _told = told(alloc, &mut served, last.as_bytes())?;
     Ok(served.abandon())
 }
 

@@ -1,6 +1,6 @@
 // Devices in memory that are formatted, cut and failing.
 
-use formatting::bad_count;
+use flash_tree::count_bad;
 use nand_model::{Fate, Geometry, MemNand};
 use posix_calls::{FormatFault, format};
 use std::alloc::Global;
@@ -88,5 +88,5 @@ pub(crate) fn failing(alloc: Global, nand: &MemNand, hits: &[Hit]) -> Result<Mem
 
 /// How many blocks are marked.
 pub(crate) fn marked(nand: &MemNand) -> u32 {
-    bad_count(nand)
+    count_bad(nand)
 }

@@ -1,6 +1,7 @@
 // Rows of a session: a line, an arrow, and what is to be told. `[x*3]` stands for `xxx`.
 
-use crate::served::Served;
+use crate::served::told;
+use line_shell::Serve;
 use std::alloc::{AllocError, Global};
 use std::process::Abort;
 use std::test::Fail;
@@ -51,14 +52,14 @@ fn script_of(alloc: Global, rows: &str) -> Result<Script, AllocError> {
 }
 
 /// Asks the lines of the rows, which are to be told their replies.
-pub(crate) fn expect(
+pub(crate) fn expect<S: Serve>(
     rt: &impl Abort,
     alloc: Global,
-    served: &mut Served,
+    served: &mut S,
     rows: &str,
 ) -> Result<(), Fail> {
     let Script { lines, replies } = script_of(alloc, &written_out(alloc, rows)?)?;
-    let told = served.told(alloc, lines.as_bytes())?;
+    let told = told(alloc, served, lines.as_bytes())?;
     assert_eq!(rt; str::from_utf8(&told)?, replies.as_str());
     Ok(())
 }

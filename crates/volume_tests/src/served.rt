@@ -47,15 +47,15 @@ pub(crate) fn mount(alloc: Global, nand: MemNand, capacity: usize) -> Result<Ser
     }
 }
 
-impl Served {
-    /// What the shell tells of these lines.
-    pub(crate) fn told(&mut self, alloc: Global, lines: &[u8]) -> Result<Vec<u8>, Fail> {
-        let mut reader = lines;
-        let mut told = Vec::new(alloc);
-        shell(alloc, &mut reader, &mut told, self)?;
-        Ok(told)
-    }
+/// What the shell tells of these lines.
+pub(crate) fn told<S: Serve>(alloc: Global, served: &mut S, lines: &[u8]) -> Result<Vec<u8>, Fail> {
+    let mut reader = lines;
+    let mut told = Vec::new(alloc);
+    shell(alloc, &mut reader, &mut told, served)?;
+    Ok(told)
+}
 
+impl Served {
     /// Does commands in a run.
     pub(crate) fn run(
         &mut self,

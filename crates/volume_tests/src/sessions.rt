@@ -1,8 +1,12 @@
 // What sessions are told on a device that was just formatted.
 
+use crate::book::new_tree;
 use crate::devices::formatted;
 use crate::stories::Part::{Lost, LostAfter, Rows, Turns, Unmounted};
-use crate::stories::{Part, served_after};
+use crate::stories::{Part, ask_part, served_after};
+use line_shell::Serve;
+use plain_tree::PlainTree;
+use posix_calls::{Errno, Reply, Stamped};
 use std::process::Abort;
 use std::test::Fail;
 
@@ -271,6 +275,40 @@ fn sessions_are_told_their_replies(rt: HostRuntime) -> Result<(), Fail> {
     for story in STORIES {
         for capacity in [1usize, 2, 16] {
             let _ = served_after(&rt, alloc, formatted(alloc)?, capacity, story)?;
+        }
+    }
+    Ok(())
+}
+
+/// A plain tree that a shell serves.
+#[derive(Drop)]
+struct Plain {
+    tree: PlainTree,
+}
+
+impl Serve for Plain {
+    ghost serves = { λ old command reply new. Unit {0} };
+
+    fn call(&mut self, command: &Stamped) -> Reply {
+        match self.tree.step(command) {
+            Ok(reply) => reply,
+            Err(_) => Reply::Error(Errno::ENOMEM),
+        }
+    }
+}
+
+/// A plain tree is told the same, up to the first loss or unmount of a story.
+#[test]
+fn a_plain_tree_is_told_the_same(rt: HostRuntime) -> Result<(), Fail> {
+    let alloc = rt.alloc();
+    for story in STORIES {
+        let mut plain = Plain {
+            tree: new_tree(alloc)?,
+        };
+        for part in story {
+            if !ask_part(&rt, alloc, &mut plain, *part)? {
+                break;
+            }
         }
     }
     Ok(())

@@ -2,6 +2,7 @@
 
 use crate::rows::expect;
 use crate::served::{Served, mount};
+use line_shell::Serve;
 use nand_model::MemNand;
 use std::alloc::Global;
 use std::process::Abort;
@@ -22,10 +23,10 @@ pub(crate) enum Part {
 }
 
 /// Asks rows so many times.
-fn expect_turns(
+fn expect_turns<S: Serve>(
     rt: &impl Abort,
     alloc: Global,
-    served: &mut Served,
+    served: &mut S,
     count: u32,
     rows: &str,
 ) -> Result<(), Fail> {
@@ -38,7 +39,12 @@ fn expect_turns(
 }
 
 /// Asks the rows of a part, and tells whether the volume goes on.
-fn ask_part(rt: &impl Abort, alloc: Global, served: &mut Served, part: Part) -> Result<bool, Fail> {
+pub(crate) fn ask_part<S: Serve>(
+    rt: &impl Abort,
+    alloc: Global,
+    served: &mut S,
+    part: Part,
+) -> Result<bool, Fail> {
     match part {
         Part::Rows(rows) => expect(rt, alloc, served, rows)?,
         Part::Turns(count, rows) => expect_turns(rt, alloc, served, count, rows)?,

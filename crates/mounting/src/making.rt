@@ -9,8 +9,8 @@ ghost use Rattle.mounting.specs.Mounted.{IsTreeRead, HasRoomOn};
 
 use crate::tree_on::TreeOn;
 use chunk_index::the_counts_are_of_the_keys;
-use flash_tree::count_bad;
 use flash_pages::{FlashPages, ReadOnlyPages};
+use flash_tree::count_bad;
 use nand_model::Nand;
 use newest_pages::{NewestPages, the_opened_pages_are_the_newest};
 use objects::Store;

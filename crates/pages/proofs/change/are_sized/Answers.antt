@@ -19,8 +19,9 @@ loop-page-preserved c = λ i p less at.
     ]
 
 pub returns : goal.returns
-returns c =
-    (λ _ i p at.
+returns c = (
+  λ _ i p at.
       let within : i < length c.args.pages.now = slice_get_within c.args.pages.now i p at in
       c.loop-page.invariant i p (omega (arith, within, c.loop-page-test.false)) at,
-    λ _. refl)
+  λ _. refl,
+)

@@ -100,6 +100,7 @@ module _ (words : ℕ → ℕ) (commands before sessions : ℕ) (old now later :
       part = so_far.text ++ told.part;
       rest = told.rest;
       whole = ap (λ l. so_far.text ++ l) told.whole ∙ sym (append_assoc so_far.text told.part told.rest);
+      short = told.short;
       appended = Appends-trans old now later so_far.text told.part so_far.told told.appended;
     },
   )

@@ -22,16 +22,13 @@ ends_alike one other same = subst (λ f. SameEnd (Err one) (Err f)) same refl
 
 module _ {F : Type 0} (known : F → Option (List ℕ)) (image : Option F) (seed sessions : ℕ) where
   -- there is no copy
-  pub not_copied : (input written : Option (List ℕ)) (fault : ProgramFault)
-      → NotOpened known image (Err fault) ⊎ ((opened : Device) × Opens known image opened × (fault ≡ faults.NoMemory))
-      → CutEnds known image seed sessions input input written written (Err fault)
-  not_copied input written fault (inl closed) = inl (closed, refl, refl)
-  not_copied input written fault (inr (opened, opens, is)) = inr (opened, opens, inl (ends_alike fault faults.NoMemory is, refl, refl))
+  pub not_copied : (input written : Option (List ℕ)) (fault : ProgramFault) → NotOpened known image (Err fault) → CutEnds known image seed sessions input input written written (Err fault)
+  not_copied input written fault closed = inl (closed, refl, refl)
 
   module _ (copy : Device) (input left written : Option (List ℕ)) (copied : IsCopy known image copy) where
     -- the lines are no script
     pub no_script : (fault : ProgramFault) → ReadsInput input left (Err fault) → CutEnds known image seed sessions input left written written (Err fault)
-    no_script fault (why, reads, is) = inr (copied.0, copied.1, inr (inl (why, reads, ends_alike fault (of_script why) is, refl)))
+    no_script fault (why, reads, is) = inr (copied.0, copied.1, inl (why, reads, ends_alike fault (of_script why) is, refl))
 
     -- the commands were done
     pub script_done : (now : Option (List ℕ)) (script : Vec Stamped) (ended : Result (Unit {0}) CutFault) → ReadsScript input left (Ok script)
@@ -39,7 +36,7 @@ module _ {F : Type 0} (known : F → Option (List ℕ)) (image : Option F) (seed
         → CutEnds known image seed sessions input left written now (cut_ended ended)
     script_done now script ended reads cuts cause =
         let told = subst (λ g. Cuts (session_word seed g.pages) (length script.items) sessions written now ended) copied.2.geometry cuts in
-        inr (copied.0, copied.1, inr (inr (copy, script, ended, copied.2, reads, told, cause, refl)))
+        inr (copied.0, copied.1, inr (copy, script, ended, copied.2, reads, told, cause, refl))
 
     pub script_stopped : (now : Option (List ℕ)) (script : Vec Stamped) (why : CutFault) (fault : ProgramFault) → fault ≡ of_cut why → ReadsScript input left (Ok script)
         → Cuts (session_word seed copy.geometry.pages) (length script.items) sessions written now (Err why) → HasCause copy why

@@ -1,5 +1,5 @@
 pub mod Reporting
-pub mod Opening
+pub mod OpenedImages
 pub mod Telling
 pub mod CutEndings
 pub mod Early

@@ -1,15 +1,16 @@
 -- What is told of an end.
-use Rattle.std.proofs.Common.{◌≡◌, ℕ, List, [], ◌∷◌, ◌++◌, Option, Result, Ok, Err, refl, sym, append-nil, codes}
+use Rattle.std.proofs.Common.{◌≡◌, ◌⊎◌, ℕ, List, [], ◌∷◌, ◌++◌, Option, Result, Ok, Err, inl, inr, refl, codes}
+use Rattle.std.specs.Io.KnownBytes.{Appends}
 use Rattle.line_shell.specs.Replies.{newline}
 use Rattle.line_shell.specs.Written.{AppendsPart, Writes}
 use Rattle.flash_program.specs.Statuses.{fault_name, error_line}
 use Rattle.flash_program.specs.declared.fault.ProgramFault.{ProgramFault}
 use Rattle.flash_program.specs.declared.fault.ProgramFault.TheVariants as faults
 
--- a text that was written is a first part of itself
-pub written_part : {E : Type 0} (old new : Option (List ℕ)) (text : List ℕ) (r : Result (Unit {0}) E) → Writes old new text r → AppendsPart old new text
-written_part old new text (Ok done) wrote = record { part = text; rest = []; whole = sym (append-nil text); appended = wrote }
-written_part old new text (Err fault) wrote = wrote
+-- a text is written, or a first part of it
+pub written_part : {E : Type 0} (old new : Option (List ℕ)) (text : List ℕ) (r : Result (Unit {0}) E) → Writes old new text r → Appends old new text ⊎ AppendsPart old new text
+written_part old new text (Ok done) wrote = inl wrote
+written_part old new text (Err fault) wrote = inr wrote
 
 -- the line of a fault that no other line told
 pub line_is : (fault : ProgramFault) → (fault ≡ faults.Torn → ⊥) → error_line (Err fault) ≡ codes "fault " ++ (fault_name fault ++ (newline ∷ []))

@@ -29,7 +29,8 @@ over_device state = record {
   serves = λ old command reply new. Serves state (over_pages old.volume) command reply (over_pages new.volume);
 }
 
--- The program acts as was chosen: over a flash in memory, whatever the file is; or over the image in the file.
+-- The program acts as was chosen: over a flash in memory, whatever the file is, or that is a copy of the image in the file; or
+-- over the image.
 abbrev pub ActsAs : {F P V Q W : Type 0} → (F → Option (List ℕ)) → Means P V → Means Q W → Chosen → Option F
     → Option (List ℕ) → Option (List ℕ) → Option (List ℕ) → Option (List ℕ) → Result (Unit {0}) ProgramFault → Type 0
 ActsAs known memory on choices.Memory image input left written now result =
@@ -39,6 +40,6 @@ ActsAs known memory on (choices.Format name size pages blocks spare) image input
 ActsAs known memory on (choices.Run name) image input left written now result =
     RunEnds known on.state on.inside on.serves image input left written now result
 ActsAs known memory on (choices.Check name) image input left written now result =
-    ImageCheckEnds known on.state on.inside on.serves image written now result × (left ≡ input)
+    ImageCheckEnds known memory.state memory.inside memory.serves image written now result × (left ≡ input)
 ActsAs known memory on (choices.Cut name seed sessions) image input left written now result =
     CutEnds known image seed sessions input left written now result

@@ -48,12 +48,12 @@ RunEnds known state inside serves image input left written now result =
     (NotOpened known image result × (left ≡ input) × (now ≡ written))
     ⊎ ((before : Device) × (after : Device) × Opens known image before × LinesEnd state inside serves before input left written now after result)
 
--- the check of an image
+-- the check of an image, on a copy of it
 abbrev pub ImageCheckEnds : {F P V : Type 0} → (F → Option (List ℕ)) → (P → PagesState) → (V → PageVolume P) → (V → Stamped → Reply → V → Type 0)
     → Option F → Option (List ℕ) → Option (List ℕ) → Result (Unit {0}) ProgramFault → Type 0
 ImageCheckEnds known state inside serves image written now result =
     (NotOpened known image result × (now ≡ written))
-    ⊎ ((before : Device) × (after : Device) × Opens known image before × CheckEnds state inside serves before written now after result)
+    ⊎ ((copy : Device) × (after : Device) × IsCopy known image copy × CheckEnds state inside serves copy written now after result)
 
 -- a fault of a script
 abbrev pub of_script : ScriptFault → ProgramFault
@@ -93,13 +93,13 @@ ScriptCut opened words sessions input left written now result =
     (copy : Device) × (script : Vec Stamped) × (ended : Result (Unit {0}) CutFault) × PowersUp opened copy × ReadsScript input left (Ok script)
     × Cuts words (length script.items) sessions written now ended × IfErr ended (HasCause copy) × (result ≡ cut_ended ended)
 
--- sessions that are cut, on a copy of an image: it does not open; or the copy finds no memory; or the lines are no script; or
--- they are done, and the words of the seed draw the calls
+-- sessions that are cut, on a copy of an image: it does not open; or the lines are no script; or they are done, and the words
+-- of the seed draw the calls
 abbrev pub CutEnds : {F : Type 0} → (F → Option (List ℕ)) → Option F → (seed sessions : ℕ) → Option (List ℕ) → Option (List ℕ) → Option (List ℕ) → Option (List ℕ) → Result (Unit {0}) ProgramFault → Type 0
 CutEnds known image seed sessions input left written now result =
     (NotOpened known image result × (left ≡ input) × (now ≡ written))
     ⊎ ((opened : Device) × Opens known image opened
-    × (((result ≡ Err faults.NoMemory) × (left ≡ input) × (now ≡ written)) ⊎ NoScript input left written now result ⊎ ScriptCut opened (session_word seed opened.geometry.pages) sessions input left written now result))
+    × (NoScript input left written now result ⊎ ScriptCut opened (session_word seed opened.geometry.pages) sessions input left written now result))
 
 -- no image was made: there is no file, or the sizes are none of a device, or memory was refused or the file not written
 abbrev pub NotMade : {F : Type 0} → Option F → (size pages blocks : ℕ) → Result (Unit {0}) ProgramFault → Type 0

@@ -1,5 +1,6 @@
 -- What the program's end tells: its exit status, and the line on standard error.
-use Rattle.std.specs.Prelude.{ℕ, List, [], ◌∷◌, ◌++◌, Option, Result, Ok, Err, codes}
+use Rattle.std.specs.Prelude.{◌⊎◌, ℕ, List, [], ◌∷◌, ◌++◌, Option, Result, Ok, Err, codes}
+use Rattle.std.specs.Io.KnownBytes.{Appends}
 use Rattle.exerciser.specs.Lines.{mount_name}
 use Rattle.formatting.specs.declared.fault.FormatFault.{FormatFault}
 use Rattle.formatting.specs.declared.fault.FormatFault.TheVariants as formats
@@ -78,4 +79,4 @@ error_line (Err fault) = codes "fault " ++ (fault_name fault ++ (newline ∷ [])
 
 -- the line is out, or a first part of it where the writing failed
 abbrev pub IsReported : Option (List ℕ) → Option (List ℕ) → Result (Unit {0}) ProgramFault → Type 0
-IsReported old new ended = AppendsPart old new (error_line ended)
+IsReported old new ended = Appends old new (error_line ended) ⊎ AppendsPart old new (error_line ended)

@@ -1,38 +1,14 @@
 // Sessions that are cut, on a copy of an image.
-ghost use Rattle.std.specs.Prelude.{◌≡◌, ◌⊎◌, IfOk, IfErr, Ok, Err};
-ghost use Rattle.exerciser.specs.declared.fault.CutFault.TheVariants as cut_faults;
-ghost use Rattle.line_shell.specs.Scripts.{ReadsScript};
-ghost use Rattle.nand_model.specs.Calls.{Device};
-ghost use Rattle.nand_model.specs.MemoryState as memory;
-ghost use Rattle.flash_program.specs.Images.{NotOpened, Opens, IsCopy, of_cut, ReadsInput, CutEnds};
-ghost use Rattle.flash_program.specs.declared.fault.ProgramFault.TheVariants as faults;
+ghost use Rattle.std.specs.Prelude.{◌≡◌};
+ghost use Rattle.flash_program.specs.Images.{of_cut, ReadsInput, CutEnds};
 
 use crate::fault::ProgramFault;
+use crate::opening::copy_of;
 use exerciser::{CutFault, cut};
 use line_shell::read_script;
-use nand_image::open_image;
-use nand_model::MemNand;
 use posix_profile::Stamped;
 use std::alloc::Global;
 use std::io::{BufRead, Read, Write};
-
-/// The flash in an image, in memory.
-fn copy_of<F: Read + Drop>(alloc: Global, image: Option<F>) -> Result<MemNand, ProgramFault>
-    ensures opens { IfOk result (λ copy. IsCopy F.remaining image (memory.device copy)) }
-    ensures fault { IfErr result (λ e. NotOpened F.remaining image (Err e) ⊎ ((opened : Device) × Opens F.remaining image opened × (e ≡ faults.NoMemory))) }
-{
-    let Some(file) = image else {
-        return Err(ProgramFault::File);
-    };
-    let device = match open_image(alloc, file) {
-        Ok(device) => device,
-        Err(fault) => return Err(ProgramFault::Image(fault)),
-    };
-    match device.to_memory() {
-        Ok(copy) => Ok(copy),
-        Err(_) => Err(ProgramFault::NoMemory),
-    }
-}
 
 /// The commands of all lines.
 fn script_of<R: BufRead>(alloc: Global, reader: &mut R) -> Result<Vec<Stamped>, ProgramFault>

@@ -24,9 +24,10 @@ pub fn report<E: Write>(err: &mut E, ended: Result<(), ProgramFault>) -> u8
 {
     match ended {
         Ok(()) => 0,
-        Err(ProgramFault::Torn) => ProgramFault::Torn.status(),
         Err(fault) => {
-            let _ = write_fault(err, fault.name());
+            if fault != ProgramFault::Torn {
+                let _ = write_fault(err, fault.name());
+            }
             fault.status()
         }
     }

@@ -13,6 +13,7 @@ mod cutting;
 mod ending;
 mod fault;
 mod memory;
+mod opening;
 mod running;
 mod serve;
 mod space;

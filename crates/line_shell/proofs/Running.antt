@@ -221,6 +221,7 @@ module _ {V : Type 0} (serves : V → Stamped → Reply → V → Type 0) where
             answer =
                 subst (λ l. Answers serves (line_of l) now (did.3.part ++ did.3.rest) (record { moment = did.1; volume = new })) read.text
                 (subst (λ t. Answers serves (line_of line) now t (record { moment = did.1; volume = new })) did.3.whole did.2);
+            short = did.3.short;
             told = Appends-trans before after later so_far.text did.3.part so_far.told did.3.appended;
           };
           short = All-append (λ line. line_size line ≤ longest_line) so_far.answered (read.whole ∷ []) so_far.short (all_one (λ line. line_size line ≤ longest_line) read.whole read.short);

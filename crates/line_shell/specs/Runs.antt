@@ -65,7 +65,7 @@ pub record AnswersAll {V : Type 0} (serves : V → Stamped → Reply → V → T
   pub run : Run serves (map without_end lines) (record { moment = 0; volume = old }) text (record { moment = moment; volume = new })
   pub told : Appends before after text
 
--- Lines were answered in turn, from the moment 0 on, until the writer failed: what the last line asks for was done, the answers to the lines before it are out, and of its own a first part.
+-- Lines were answered in turn, from the moment 0 on, until the writer failed: what the last line asks for was done, the answers to the lines before it are out, and of its own a first part, not the whole.
 pub record StopsAt {V : Type 0} (serves : V → Stamped → Reply → V → Type 0) (lines : List (List ℕ)) (before after : Option (List ℕ)) (old new : V) : Type 0 where
   pub front : List (List ℕ)
   pub last : List ℕ
@@ -77,6 +77,7 @@ pub record StopsAt {V : Type 0} (serves : V → Stamped → Reply → V → Type
   pub lines_are : lines ≡ front ++ (last ∷ [])
   pub run : Run serves (map without_end front) (record { moment = 0; volume = old }) text middle
   pub answer : Answers serves (line_of (without_end last)) middle (part ++ rest) (record { moment = moment; volume = new })
+  pub short : 1 ≤ length rest
   pub told : Appends before after (text ++ part)
 
 -- the lines were answered and the answers are out, but for the answer in which the writer failed

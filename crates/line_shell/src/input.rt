@@ -1,6 +1,7 @@
 // The lines of an input, read one by one.
 ghost use Rattle.std.specs.Prelude.{◌≡◌, ◌≤◌, ◌<◌, length, take, slice_index, vec_len};
 ghost use Rattle.std.specs.Io.BufRead.{strip_last};
+ghost use Rattle.std.specs.Io.KnownBytes.{Keeps};
 ghost use Rattle.line_shell.specs.Lines.{carriage_return, longest_line};
 ghost use Rattle.line_shell.specs.Reading.{IsWithoutNewline, TakesSome, TakesLine, ReadsLine, TellsMore};
 ghost use Rattle.line_shell.specs.Replies.{newline};
@@ -110,9 +111,10 @@ pub fn read_line<R: BufRead>(reader: &mut R, line: &mut Vec<u8>) -> Result<bool,
     Ok(true)
 }
 
-/// Whether the input has more bytes.
+/// Whether the input has more bytes. None is taken.
 pub fn has_more<R: BufRead>(reader: &mut R) -> Result<bool, ShellFault>
-    ensures { TellsMore (R.remaining reader.old) (R.remaining reader.new) result }
+    ensures tells { TellsMore (R.remaining reader.old) (R.remaining reader.new) result }
+    ensures keeps { Keeps (R.remaining reader.old) (R.remaining reader.new) }
 {
     for _turn in 0..u64::MAX {
         match reader.fill_buf() {

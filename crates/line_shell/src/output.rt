@@ -16,7 +16,7 @@ pub fn write_bytes<W: Write>(writer: &mut W, bytes: &[u8]) -> Result<()>
     let mut rest = bytes;
     for _turn in 0..u64::MAX {
         if rest.is_empty() {
-            return Ok(());
+            break;
         }
         match writer.write(rest) {
             Ok(0) => return Err(Error::from(ErrorKind::WriteZero)),
@@ -28,7 +28,11 @@ pub fn write_bytes<W: Write>(writer: &mut W, bytes: &[u8]) -> Result<()>
             }
         }
     }
-    Err(Error::from(ErrorKind::TimedOut))
+    if rest.is_empty() {
+        Ok(())
+    } else {
+        Err(Error::from(ErrorKind::TimedOut))
+    }
 }
 
 fn write_spaced_number<W: Write>(writer: &mut W, number: u64) -> Result<()>

@@ -42,6 +42,20 @@ impl<F> ImageNand<F> {
     }
 }
 
+impl<F: Drop> ImageNand<F> {
+    ghost use Rattle.nand_image.specs.ImageState.{device};
+
+    /// The flash as a device in memory that is powered up. The file is given up, so what is done to the device does not reach it.
+    pub fn into_memory(self) -> MemNand
+        ensures flash { PowersUp (device self) (in_memory.device result) }
+        ensures plan { in_memory.plan result ≡ record { calls = 0; changes = 0; fuse = None; failures = [] } }
+    {
+        let mut memory = self.memory;
+        memory.power_up();
+        memory
+    }
+}
+
 impl<F: WriteAt> Nand for ImageNand<F> {
     ghost use Rattle.nand_model.specs.laws.Memory.{within_of};
     ghost use Rattle.nand_image.specs.ImageState.{device};

@@ -1,5 +1,5 @@
 -- Texts that are written one after another.
-use Rattle.std.proofs.Common.{◌≡◌, ◌<◌, ◌+◌, ℕ, List, ◌∷◌, ◌++◌, get_or, length, take, drop, Option, Result, Ok, Err, sym, ap, ◌∙◌, subst, append_assoc, flat_map, take-append-drop, drop-cons, add-one}
+use Rattle.std.proofs.Common.{◌≡◌, ◌<◌, ◌+◌, ℕ, List, ◌∷◌, ◌++◌, get_or, length, take, drop, Option, Result, Ok, Err, sym, ap, ◌∙◌, subst, append_assoc, flat_map, length-append, arith, take-append-drop, drop-cons, add-one}
 use Rattle.std.proofs.lemmas.List.Concat.{flat_map-append}
 use Rattle.std.proofs.KnownBytes.{Appends-trans}
 use Rattle.std.specs.Io.KnownBytes.{Appends}
@@ -14,6 +14,7 @@ module _ {E : Type 0} where
     part = part.part;
     rest = part.rest ++ second;
     whole = ap (λ l. l ++ second) part.whole ∙ append_assoc part.part part.rest second;
+    short = omega (arith, part.short, length-append part.rest second);
     appended = part.appended;
   }
 
@@ -24,6 +25,7 @@ module _ {E : Type 0} where
     part = first ++ part.part;
     rest = part.rest;
     whole = ap (λ l. first ++ l) part.whole ∙ sym (append_assoc first part.part part.rest);
+    short = part.short;
     appended = Appends-trans old mid new first part.part before part.appended;
   }
 

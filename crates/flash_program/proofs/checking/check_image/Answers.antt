@@ -1,12 +1,11 @@
-use Rattle.std.proofs.Common.{inr}
-use Rattle.nand_image.specs.ImageState.{device}
-use Rattle.flash_program.proofs.Opening.{opens_file}
+use Rattle.std.proofs.Common.{inl, inr, refl}
+use Rattle.std.proofs.lemmas.Result.{err_from_is_err_and}
 use Rattle.flash_program.proofs.checking.check_image.Goals as goal
 
-pub returns-in-Ok : goal.returns-in-Ok
-returns-in-Ok g c = inr (
-  device c.in-Ok.device,
-  _,
-  opens_file g.F.Read.remaining c.args.image c.in-Some.file c.in-Ok.device c.in-Some.is c.in-Ok.ensures.opens,
-  c.check_device-device.ensures,
-)
+pub returns-in_err-device : goal.returns-in_err-device
+returns-in_err-device g c =
+    let p = err_from_is_err_and c.from_residual.result c.from_residual.ensures.1 in
+    rw (p.1, p.2) (inl (c.in_err-device.ensures.fault, refl))
+
+pub returns : goal.returns
+returns g c = inr (_, _, c.in_ok-device.ensures.opens, c.check_device-device.ensures)

@@ -1,6 +1,6 @@
 use Rattle.std.proofs.Common.{inr}
 use Rattle.nand_image.specs.ImageState.{device}
-use Rattle.flash_program.proofs.Opening.{opens_file}
+use Rattle.flash_program.proofs.OpenedImages.{opens_file}
 use Rattle.flash_program.proofs.running.run_image.Goals as goal
 
 pub returns-in-Ok : goal.returns-in-Ok

@@ -9,8 +9,8 @@ moves_front : (all out rest : List ℕ) (n : ℕ) → all ≡ out ++ rest → al
 moves_front all out rest n split =
     split ∙ ap (λ l. out ++ l) (sym (take-append-drop n rest)) ∙ sym (append_assoc out (take n rest) (drop n rest)) ∙ ap (λ l. (out ++ take n rest) ++ l) (sym (take_rest rest n))
 
-pub returns-then-is_empty : goal.returns-then-is_empty
-returns-then-is_empty g c =
+pub returns-then-is_empty-2 : goal.returns-then-is_empty-2
+returns-then-is_empty-2 g c =
     let so_far = c.loop-turn.invariant in
     let empty : c.loop-turn.rest.now ≡ [] = drop_of_length-le c.loop-turn.rest.now {i = 0} (search rules) in
     subst (Appends _ _) (sym (so_far.split ∙ ap (λ l. so_far.out ++ l) empty ∙ append-nil so_far.out)) so_far.appended

@@ -1,10 +1,10 @@
 // The header of a directory.
-ghost use Rattle.std.specs.Prelude.{◌≡◌, ◌≤◌, ◌+◌, ℕ, true, IfOk, IfErr, IfSome, IsSomeAnd, length, option_copied};
+ghost use Rattle.std.specs.Prelude.{◌≡◌, ◌≤◌, ◌+◌, ℕ, true, OnOk, IfOk, IfErr, IfSome, IsSomeAnd, length, option_copied};
 ghost use Rattle.page_tags.specs.Headers.{Fields, IsHeaderOf};
 ghost use Rattle.page_tags.specs.declared.header.ObjectKind.TheVariants as kinds;
 ghost use Rattle.pages.specs.Afterwards.{after, IsSizedBy};
 ghost use Rattle.pages.specs.Faults.{MayLack, SaysWhy};
-ghost use Rattle.pages.specs.State.{OnlyFinds};
+ghost use Rattle.pages.specs.State.{OnlyFinds, KeepsPower};
 ghost use Rattle.directories.specs.HeadPages.{IsHeadIn, IsHeadPage};
 ghost use Rattle.directories.specs.Heads.{IsHeadOf, IsHeaded, SaysHead};
 
@@ -26,6 +26,7 @@ pub struct DirectoryHead {
 pub fn read_head<P: Pages>(pages: &mut P, directory: u64) -> Result<DirectoryHead, PageFault>
     ensures finds { OnlyFinds (P.state pages.old) (P.state pages.new) }
     ensures asked { (P.state pages.new).asked ≤ (P.state pages.old).asked + 1 }
+    ensures power { OnOk result (KeepsPower (P.state pages.old) (P.state pages.new)) }
     ensures told { (P.state pages.old).sound ≡ true → IfOk result (SaysHead (P.state pages.old) directory) }
     ensures why { IfErr result (SaysWhy (P.state pages.new)) }
     ensures fault { (P.state pages.old).sound ≡ true → IsHeaded (P.state pages.old) directory → IfErr result (MayLack (P.state pages.new)) }
@@ -42,6 +43,7 @@ pub(crate) fn head_after<P: Pages>(
     requires { IsSizedBy (option_copied earlier) (P.state pages.old).page_bytes }
     ensures finds { OnlyFinds (P.state pages.old) (P.state pages.new) }
     ensures asked { (P.state pages.new).asked ≤ (P.state pages.old).asked + 1 }
+    ensures power { OnOk result (KeepsPower (P.state pages.old) (P.state pages.new)) }
     ensures told { (P.state pages.old).sound ≡ true → IfOk result (SaysHead (after (option_copied earlier.entry) (P.state pages.old)) directory) }
     ensures why { IfErr result (SaysWhy (P.state pages.new)) }
     ensures fault { (P.state pages.old).sound ≡ true → IsHeaded (after (option_copied earlier.entry) (P.state pages.old)) directory

@@ -1,5 +1,5 @@
 // The entries of a directory.
-ghost use Rattle.std.specs.Prelude.{◌≡◌, ◌<◌, ◌≤◌, ◌^◌, ◌*◌, ◌+◌, ◌/◌, ℕ, true, Some, None, IfOk, IfErr, length};
+ghost use Rattle.std.specs.Prelude.{◌≡◌, ◌<◌, ◌≤◌, ◌^◌, ◌*◌, ◌+◌, ◌/◌, ℕ, true, Some, None, OnOk, IfOk, IfErr, length};
 ghost use Rattle.std.specs.FinMap as map;
 ghost use Rattle.std.specs.Int.{div_ceil};
 ghost use Rattle.page_tags.specs.Slots.{Entry, IsSlot, slot_bytes};
@@ -8,7 +8,7 @@ ghost use Rattle.volume_terms.specs.Sizes.{Sizes, page_slots};
 ghost use Rattle.posix_profile.specs.State.{Entries};
 ghost use Rattle.pages.specs.Faults.{MayLackMemory, SaysWhyMaking};
 ghost use Rattle.pages.specs.Maps.{PageMap, has};
-ghost use Rattle.pages.specs.State.{PagesState, OnlyFinds};
+ghost use Rattle.pages.specs.State.{PagesState, OnlyFinds, KeepsPower};
 ghost use Rattle.directories.specs.Directories.{DirIn};
 ghost use Rattle.directories.specs.Listings.{TakesEntry, TellsNames, ReadsFirst};
 
@@ -27,6 +27,7 @@ pub fn names<P: Pages>(alloc: Global, pages: &mut P, directory: u64) -> Result<N
     ensures finds { OnlyFinds (P.state pages.old) (P.state pages.new) }
     ensures asked { (z : Sizes) (moment : ℕ) (entries : Entries) (d : DirIn (P.state pages.old) z directory moment entries)
         → (P.state pages.new).asked ≤ (P.state pages.old).asked + 1 + div_ceil (map.len entries) (page_slots z) }
+    ensures power { OnOk result (KeepsPower (P.state pages.old) (P.state pages.new)) }
     ensures told { (P.state pages.old).sound ≡ true → (z : Sizes) → z.page_bytes ≡ (P.state pages.old).page_bytes
         → IfOk result (TellsNames z (P.state pages.old).present directory) }
     ensures found { (z : Sizes) (moment : ℕ) (entries : Entries) (d : DirIn (P.state pages.old) z directory moment entries) → IfOk result (λ names. names ≡ map.keys entries) }
@@ -43,6 +44,7 @@ pub fn entries<P: Pages>(alloc: Global, pages: &mut P, directory: u64) -> Result
     ensures finds { OnlyFinds (P.state pages.old) (P.state pages.new) }
     ensures asked { (z : Sizes) (moment : ℕ) (entries : Entries) (d : DirIn (P.state pages.old) z directory moment entries)
         → (P.state pages.new).asked ≤ (P.state pages.old).asked + 1 + div_ceil (map.len entries) (page_slots z) }
+    ensures power { OnOk result (KeepsPower (P.state pages.old) (P.state pages.new)) }
     ensures told { (P.state pages.old).sound ≡ true → (z : Sizes) → z.page_bytes ≡ (P.state pages.old).page_bytes
         → IfOk result (λ entries. (moment : ℕ) × ReadsDir z (has (P.state pages.old).present) directory moment entries) }
     ensures found { (z : Sizes) (moment : ℕ) (entries : Entries) (d : DirIn (P.state pages.old) z directory moment entries) → IfOk result (λ found. found ≡ entries) }
@@ -71,6 +73,7 @@ fn take_chunk<P: Pages>(
     requires { 272 * count ≤ (P.state pages.old).page_bytes }
     ensures finds { OnlyFinds (P.state pages.old) (P.state pages.new) }
     ensures asked { (P.state pages.new).asked ≤ (P.state pages.old).asked + 1 }
+    ensures power { OnOk result (KeepsPower (P.state pages.old) (P.state pages.new)) }
     ensures told { (P.state pages.old).sound ≡ true → (z : Sizes) → z.page_bytes ≡ (P.state pages.old).page_bytes
         → ReadsFirst z (P.state pages.old).present directory (chunk * page_slots z) entries.old
         → IfOk result (λ _. ReadsFirst z (P.state pages.old).present directory (chunk * page_slots z + count) entries.new) }

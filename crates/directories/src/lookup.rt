@@ -1,5 +1,5 @@
 // The look-up of a name.
-ghost use Rattle.std.specs.Prelude.{◌≡◌, ◌<◌, ◌≤◌, ◌+◌, ◌*◌, ◌/◌, ◌^◌, ℕ, true, IfOk, IfErr, IfSome, IsOk, length, take, drop, option_copied};
+ghost use Rattle.std.specs.Prelude.{◌≡◌, ◌<◌, ◌≤◌, ◌+◌, ◌*◌, ◌/◌, ◌^◌, ℕ, true, OnOk, IfOk, IfErr, IfSome, IsOk, length, take, drop, option_copied};
 ghost use Rattle.std.specs.FinMap as map;
 ghost use Rattle.std.specs.Int.{div_ceil};
 ghost use Rattle.page_tags.specs.Slots.{Entry, IsSlot, slot_bytes};
@@ -7,7 +7,7 @@ ghost use Rattle.volume_terms.specs.Sizes.{Sizes, page_slots};
 ghost use Rattle.posix_profile.specs.State.{Entries};
 ghost use Rattle.pages.specs.Afterwards.{after, IsSizedBy};
 ghost use Rattle.pages.specs.Faults.{MayLack, SaysWhy};
-ghost use Rattle.pages.specs.State.{OnlyFinds};
+ghost use Rattle.pages.specs.State.{OnlyFinds, KeepsPower};
 ghost use Rattle.pages.specs.declared.fault.PageFault.TheVariants as faults;
 ghost use Rattle.directories.specs.Directories.{DirIn, SlotOf, TellsName};
 ghost use Rattle.directories.specs.Slots.{NamedBy, SlotAt, AreSlots, Finds};
@@ -31,6 +31,7 @@ pub fn find<P: Pages>(pages: &mut P, directory: u64, name: &[u8]) -> Result<Opti
     ensures finds { OnlyFinds (P.state pages.old) (P.state pages.new) }
     ensures asked { (z : Sizes) (moment : ℕ) (entries : Entries) (d : DirIn (P.state pages.old) z directory moment entries)
         → (P.state pages.new).asked ≤ (P.state pages.old).asked + 1 + div_ceil (map.len entries) (page_slots z) }
+    ensures power { OnOk result (KeepsPower (P.state pages.old) (P.state pages.new)) }
     ensures found { (z : Sizes) (moment : ℕ) (entries : Entries) (d : DirIn (P.state pages.old) z directory moment entries)
         → IfOk result (λ found. found ≡ map.get entries name.now) }
     ensures told { (P.state pages.old).sound ≡ true → (z : Sizes) → z.page_bytes ≡ (P.state pages.old).page_bytes
@@ -57,6 +58,7 @@ pub(crate) fn search<P: Pages>(
     requires { IsSizedBy (option_copied earlier) (P.state pages.old).page_bytes }
     ensures finds { OnlyFinds (P.state pages.old) (P.state pages.new) }
     ensures asked { (P.state pages.new).asked ≤ (P.state pages.old).asked + div_ceil length ((P.state pages.old).page_bytes / 272) }
+    ensures power { OnOk result (KeepsPower (P.state pages.old) (P.state pages.new)) }
     ensures within { IfOk result (λ found. IfSome found (λ it. it.place < length)) }
     ensures told { (P.state pages.old).sound ≡ true → (z : Sizes) → z.page_bytes ≡ (P.state pages.old).page_bytes
         → IfOk result (Finds (SlotOf z (after (option_copied earlier.entry) (P.state pages.old)).present directory) 0 length name.now) }
@@ -89,6 +91,7 @@ fn search_chunk<P: Pages>(
     requires fits { chunk * ((P.state pages.old).page_bytes / 272) + count < 2 ^ 32 }
     ensures finds { OnlyFinds (P.state pages.old) (P.state pages.new) }
     ensures asked { (P.state pages.new).asked ≤ (P.state pages.old).asked + 1 }
+    ensures power { OnOk result (KeepsPower (P.state pages.old) (P.state pages.new)) }
     ensures within { IfOk result (λ found. IfSome found (λ it. it.place < chunk * ((P.state pages.old).page_bytes / 272) + count)) }
     ensures told { (P.state pages.old).sound ≡ true → (z : Sizes) → z.page_bytes ≡ (P.state pages.old).page_bytes
         → IfOk result (Finds (SlotOf z (after (option_copied earlier.entry) (P.state pages.old)).present directory) (chunk * page_slots z) (chunk * page_slots z + count) name.now) }

@@ -9,7 +9,7 @@ ghost use Rattle.posix_profile.specs.State.{Entries};
 ghost use Rattle.pages.specs.Afterwards.{after, IsSizedBy};
 ghost use Rattle.pages.specs.Changes.{IsChange, IsOnlyOf};
 ghost use Rattle.pages.specs.Maps.{PageMap, changed};
-ghost use Rattle.pages.specs.State.{OnlyFinds};
+ghost use Rattle.pages.specs.State.{OnlyFinds, KeepsPower};
 ghost use Rattle.directories.specs.Directories.{DirIn, HasOnly, ReadsDirectory, SlotOf, IsNamed, TellsChange, TellsOf};
 ghost use Rattle.pages.specs.Faults.{SaysWhyChanging};
 ghost use Rattle.directories.specs.Faults.{MayLackRoom};
@@ -38,6 +38,7 @@ pub fn rename_within<P: Pages>(
     ensures finds { OnlyFinds (P.state pages.old) (P.state pages.new) }
     ensures asked { (z : Sizes) (before : ℕ) (entries : Entries) (d : DirIn (P.state pages.old) z directory before entries)
         → (P.state pages.new).asked ≤ (P.state pages.old).asked + 5 + div_ceil (map.len entries) (page_slots z) + div_ceil (map.len (map.remove entries from.now)) (page_slots z) }
+    ensures power { OnOk result (KeepsPower (P.state pages.old) (P.state pages.new)) }
     ensures change { IfOk result (λ made. IfSome made (λ change. IsChange change (P.state pages.old).page_bytes 3)) }
     ensures others { (o c : ℕ) → o ≢ directory → IfOk result (λ made. IfSome made (λ change. changed change (P.state pages.old).present o c ≡ (P.state pages.old).present o c)) }
     ensures named { (z : Sizes) (before : ℕ) (entries : Entries) (d : DirIn (P.state pages.old) z directory before entries)
@@ -84,6 +85,7 @@ pub fn rename_between<P: Pages>(
     ensures finds { OnlyFinds (P.state pages.old) (P.state pages.new) }
     ensures asked { (z : Sizes) (s t : ℕ) (left entries : Entries) (source : DirIn (P.state pages.old) z route.source s left) (target : DirIn (P.state pages.old) z route.target t entries)
         → (P.state pages.new).asked ≤ (P.state pages.old).asked + 5 + div_ceil (map.len left) (page_slots z) + div_ceil (map.len entries) (page_slots z) }
+    ensures power { OnOk result (KeepsPower (P.state pages.old) (P.state pages.new)) }
     ensures change { IfOk result (λ made. IfSome made (λ change. IsChange change (P.state pages.old).page_bytes 4)) }
     ensures others { (o c : ℕ) → o ≢ route.source → o ≢ route.target
         → IfOk result (λ made. IfSome made (λ change. changed change (P.state pages.old).present o c ≡ (P.state pages.old).present o c)) }
@@ -128,6 +130,7 @@ fn put_after<P: Pages>(
     ensures finds { OnlyFinds (P.state pages.old) (P.state pages.new) }
     ensures asked { (z : Sizes) (before : ℕ) (entries : Entries) (d : DirIn (after (option_copied earlier.entry) (P.state pages.old)) z directory before entries)
         → (P.state pages.new).asked ≤ (P.state pages.old).asked + 2 + div_ceil (map.len entries) (page_slots z) }
+    ensures power { OnOk result (KeepsPower (P.state pages.old) (P.state pages.new)) }
     ensures change { IfOk result (λ change. IsChange change (P.state pages.old).page_bytes 2) }
     ensures only { IfOk result (λ change. IsOnlyOf change directory) }
     ensures head { IfOk result (λ change. HasKey change directory 0) }
@@ -174,6 +177,7 @@ fn push_slot<P: Pages>(
     requires valid { IsSlot (entry_of slot.now) }
     ensures finds { OnlyFinds (P.state pages.old) (P.state pages.new) }
     ensures asked { (P.state pages.new).asked ≤ (P.state pages.old).asked + 1 }
+    ensures power { OnOk result (KeepsPower (P.state pages.old) (P.state pages.new)) }
     ensures change { IfOk result (λ change. IsChange change (P.state pages.old).page_bytes 2) }
     ensures only { IfOk result (λ change. IsOnlyOf change directory) }
     ensures head { IfOk result (λ change. HasKey change directory 0) }

@@ -1,5 +1,5 @@
 // The removal of a name.
-ghost use Rattle.std.specs.Prelude.{◌≡◌, ◌<◌, ◌≤◌, ◌+◌, ◌^◌, ℕ, [], true, IfOk, IfErr, IfSome, option_copied};
+ghost use Rattle.std.specs.Prelude.{◌≡◌, ◌<◌, ◌≤◌, ◌+◌, ◌^◌, ℕ, [], true, OnOk, IfOk, IfErr, IfSome, option_copied};
 ghost use Rattle.std.specs.FinMap as map;
 ghost use Rattle.std.specs.Int.{div_ceil};
 ghost use Rattle.page_tags.specs.Slots.{Entry};
@@ -9,7 +9,7 @@ ghost use Rattle.pages.specs.Afterwards.{after, IsSizedBy};
 ghost use Rattle.pages.specs.Changes.{IsChange, IsOnlyOf};
 ghost use Rattle.pages.specs.Faults.{MayLack, SaysWhy, MayLackMemory, SaysWhyMaking};
 ghost use Rattle.pages.specs.Maps.{PageMap, changed};
-ghost use Rattle.pages.specs.State.{OnlyFinds};
+ghost use Rattle.pages.specs.State.{OnlyFinds, KeepsPower};
 ghost use Rattle.directories.specs.Directories.{DirIn, HasOnly, ReadsDirectory, SlotOf, IsNamed, TellsChange};
 ghost use Rattle.directories.specs.Slots.{AreSlots};
 ghost use Rattle.directories.specs.Writes.{HasHead, HasKey, IsSlotBytes, KeepsBehind, KeepsSlots, LosesSlot, CutsBehind};
@@ -36,6 +36,7 @@ pub fn remove<P: Pages>(
     ensures finds { OnlyFinds (P.state pages.old) (P.state pages.new) }
     ensures asked { (z : Sizes) (before : ℕ) (entries : Entries) (d : DirIn (P.state pages.old) z directory before entries)
         → (P.state pages.new).asked ≤ (P.state pages.old).asked + 3 + div_ceil (map.len entries) (page_slots z) }
+    ensures power { OnOk result (KeepsPower (P.state pages.old) (P.state pages.new)) }
     ensures change { IfOk result (λ made. IfSome made (λ change. IsChange change (P.state pages.old).page_bytes 2)) }
     ensures only { IfOk result (λ made. IfSome made (λ change. IsOnlyOf change directory)) }
     ensures named { (z : Sizes) (before : ℕ) (entries : Entries) (d : DirIn (P.state pages.old) z directory before entries)
@@ -66,6 +67,7 @@ pub(crate) fn remove_after<P: Pages>(
     ensures finds { OnlyFinds (P.state pages.old) (P.state pages.new) }
     ensures asked { (z : Sizes) (before : ℕ) (entries : Entries) (d : DirIn (after (option_copied earlier.entry) (P.state pages.old)) z directory before entries)
         → (P.state pages.new).asked ≤ (P.state pages.old).asked + 3 + div_ceil (map.len entries) (page_slots z) }
+    ensures power { OnOk result (KeepsPower (P.state pages.old) (P.state pages.new)) }
     ensures change { IfOk result (λ made. IfSome made (λ change. IsChange change (P.state pages.old).page_bytes 2)) }
     ensures only { IfOk result (λ made. IfSome made (λ change. IsOnlyOf change directory)) }
     ensures head { IfOk result (λ made. IfSome made (λ change. HasKey change directory 0)) }
@@ -111,6 +113,7 @@ fn remove_slot<P: Pages>(
     requires fits { shorter.length + 1 < 2 ^ 32 }
     ensures finds { OnlyFinds (P.state pages.old) (P.state pages.new) }
     ensures asked { (P.state pages.new).asked ≤ (P.state pages.old).asked + 2 }
+    ensures power { OnOk result (KeepsPower (P.state pages.old) (P.state pages.new)) }
     ensures change { IfOk result (λ change. IsChange change (P.state pages.old).page_bytes 2) }
     ensures only { IfOk result (λ change. IsOnlyOf change directory) }
     ensures head { IfOk result (λ change. HasKey change directory 0) }
@@ -145,6 +148,7 @@ fn shorten<P: Pages>(
     requires fits { shorter.length + 1 < 2 ^ 32 }
     ensures finds { OnlyFinds (P.state pages.old) (P.state pages.new) }
     ensures asked { (P.state pages.new).asked ≤ (P.state pages.old).asked + 2 }
+    ensures power { OnOk result (KeepsPower (P.state pages.old) (P.state pages.new)) }
     ensures change { IfOk result (λ change. IsChange change (P.state pages.old).page_bytes 2) }
     ensures cuts { IfOk result (λ change. change.cuts.items ≡ []) }
     ensures only { IfOk result (λ change. IsOnlyOf change directory) }
@@ -204,6 +208,7 @@ fn fill<P: Pages>(
     requires fits { shorter.length + 1 < 2 ^ 32 }
     ensures finds { OnlyFinds (P.state pages.old) (P.state pages.new) }
     ensures asked { (P.state pages.new).asked ≤ (P.state pages.old).asked + 2 }
+    ensures power { OnOk result (KeepsPower (P.state pages.old) (P.state pages.new)) }
     ensures change { IfOk result (λ change. IsChange change (P.state pages.old).page_bytes 2) }
     ensures cuts { IfOk result (λ change. change.cuts.items ≡ []) }
     ensures only { IfOk result (λ change. IsOnlyOf change directory) }
@@ -240,6 +245,7 @@ fn slot_bytes<P: Pages>(
     requires { IsSizedBy (option_copied earlier) (P.state pages.old).page_bytes }
     ensures finds { OnlyFinds (P.state pages.old) (P.state pages.new) }
     ensures asked { (P.state pages.new).asked ≤ (P.state pages.old).asked + 1 }
+    ensures power { OnOk result (KeepsPower (P.state pages.old) (P.state pages.new)) }
     ensures told { (P.state pages.old).sound ≡ true → (z : Sizes) → z.page_bytes ≡ (P.state pages.old).page_bytes
         → IfOk result (λ bytes. IsSlotBytes z (after (option_copied earlier.entry) (P.state pages.old)).present directory number bytes) }
     ensures why { IfErr result (SaysWhy (P.state pages.new)) }

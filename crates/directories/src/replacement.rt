@@ -1,5 +1,5 @@
 // A name that leads to another object.
-ghost use Rattle.std.specs.Prelude.{◌≡◌, ◌≤◌, ◌+◌, ℕ, true, IfOk, IfErr, IfSome};
+ghost use Rattle.std.specs.Prelude.{◌≡◌, ◌≤◌, ◌+◌, ℕ, true, OnOk, IfOk, IfErr, IfSome};
 ghost use Rattle.std.specs.FinMap as map;
 ghost use Rattle.std.specs.Int.{div_ceil};
 ghost use Rattle.page_tags.specs.SlotEntry.{entry_of};
@@ -9,7 +9,7 @@ ghost use Rattle.posix_profile.specs.State.{Entries};
 ghost use Rattle.pages.specs.Changes.{IsChange, IsOnlyOf};
 ghost use Rattle.pages.specs.Faults.{MayLackMemory, SaysWhyMaking};
 ghost use Rattle.pages.specs.Maps.{changed};
-ghost use Rattle.pages.specs.State.{OnlyFinds};
+ghost use Rattle.pages.specs.State.{OnlyFinds, KeepsPower};
 ghost use Rattle.directories.specs.Directories.{DirIn, HasOnly, ReadsDirectory, IsNamed, TellsChange};
 
 use crate::head::{DirectoryHead, head_after};
@@ -32,6 +32,7 @@ pub fn replace<P: Pages>(
     ensures finds { OnlyFinds (P.state pages.old) (P.state pages.new) }
     ensures asked { (z : Sizes) (before : ℕ) (entries : Entries) (d : DirIn (P.state pages.old) z directory before entries)
         → (P.state pages.new).asked ≤ (P.state pages.old).asked + 2 + div_ceil (map.len entries) (page_slots z) }
+    ensures power { OnOk result (KeepsPower (P.state pages.old) (P.state pages.new)) }
     ensures change { IfOk result (λ made. IfSome made (λ change. IsChange change (P.state pages.old).page_bytes 2)) }
     ensures only { IfOk result (λ made. IfSome made (λ change. IsOnlyOf change directory)) }
     ensures named { (z : Sizes) (before : ℕ) (entries : Entries) (d : DirIn (P.state pages.old) z directory before entries)

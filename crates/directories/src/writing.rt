@@ -7,7 +7,7 @@ ghost use Rattle.pages.specs.Afterwards.{after, IsSizedBy};
 ghost use Rattle.pages.specs.Changes.{IsChange, IsOnlyOf};
 ghost use Rattle.pages.specs.Faults.{MayLackMemory, SaysWhyMaking};
 ghost use Rattle.pages.specs.Maps.{PageMap, changed};
-ghost use Rattle.pages.specs.State.{OnlyFinds};
+ghost use Rattle.pages.specs.State.{OnlyFinds, KeepsPower};
 ghost use Rattle.directories.specs.Directories.{SlotOf, HasBeside};
 ghost use Rattle.directories.specs.Slots.{AreSlots};
 ghost use Rattle.directories.specs.Writes.{IsSlotsPage, IsSlotPage, HasHead, HasKey, KeepsPages, KeepsSlots};
@@ -40,6 +40,7 @@ fn page_with<P: Pages>(
     requires room { 272 * count ≤ (P.state pages.old).page_bytes }
     ensures finds { OnlyFinds (P.state pages.old) (P.state pages.new) }
     ensures asked { (P.state pages.new).asked ≤ (P.state pages.old).asked + 1 }
+    ensures power { OnOk result (KeepsPower (P.state pages.old) (P.state pages.new)) }
     ensures size { IfOk result (λ page. length page.items ≡ (P.state pages.old).page_bytes) }
     ensures page { (P.state pages.old).sound ≡ true → IfOk result (λ page. (xs : List ℕ)
         × (count ≢ 0 → (after (option_copied earlier.entry) (P.state pages.old)).present key.object key.chunk ≡ Some xs)
@@ -73,6 +74,7 @@ pub(crate) fn slot_page<P: Pages>(
     requires within { writing.number < writing.afterwards }
     ensures finds { OnlyFinds (P.state pages.old) (P.state pages.new) }
     ensures asked { (P.state pages.new).asked ≤ (P.state pages.old).asked + 1 }
+    ensures power { OnOk result (KeepsPower (P.state pages.old) (P.state pages.new)) }
     ensures sized { IfOk result (IsSlotsPage directory (P.state pages.old).page_bytes) }
     ensures page { (P.state pages.old).sound ≡ true → (z : Sizes) → z.page_bytes ≡ (P.state pages.old).page_bytes
         → IfOk result (IsSlotPage z (after (option_copied earlier.entry) (P.state pages.old)).present directory writing (entry_of slot.now)) }
@@ -111,6 +113,7 @@ pub(crate) fn write<P: Pages>(
     requires within { writing.number < writing.afterwards }
     ensures finds { OnlyFinds (P.state pages.old) (P.state pages.new) }
     ensures asked { (P.state pages.new).asked ≤ (P.state pages.old).asked + 1 }
+    ensures power { OnOk result (KeepsPower (P.state pages.old) (P.state pages.new)) }
     ensures change { IfOk result (λ change. IsChange change (P.state pages.old).page_bytes 2) }
     ensures cuts { IfOk result (λ change. change.cuts.items ≡ []) }
     ensures only { IfOk result (λ change. IsOnlyOf change directory) }

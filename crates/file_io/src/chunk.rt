@@ -3,7 +3,7 @@ ghost use Rattle.std.specs.Prelude.{◌≡◌, ◌<◌, ◌≤◌, ◌+◌, ◌-
 ghost use Rattle.page_tags.specs.Headers.{is_present};
 ghost use Rattle.volume_terms.specs.Sizes.{Sizes};
 ghost use Rattle.pages.specs.Changes.{AreSized};
-ghost use Rattle.pages.specs.State.{OnlyFinds};
+ghost use Rattle.pages.specs.State.{OnlyFinds, KeepsPower};
 ghost use Rattle.file_io.specs.Files.{FileIn, HasPages};
 ghost use Rattle.file_io.specs.Heads.{IsHeadOf};
 ghost use Rattle.file_io.specs.Chunks.{AreOf, HoldChunks, HoldsChunk, IsPartLast, IsTail};
@@ -36,6 +36,7 @@ pub(crate) fn chunk_bytes<P: Pages>(
     requires { index < 2 ^ 32 }
     ensures finds { OnlyFinds (P.state pages.old) (P.state pages.new) }
     ensures asked { (P.state pages.new).asked ≤ (P.state pages.old).asked + 1 }
+    ensures power { OnOk result (KeepsPower (P.state pages.old) (P.state pages.new)) }
     ensures told { (P.state pages.old).sound ≡ true → is_present head.now.bits.items (1 + index) ≡ true
         → OnOk result ((page : List ℕ) × ((P.state pages.old).present object (1 + index) ≡ Some page)) }
     ensures size { IfOk result (λ bytes. length bytes.items ≡ (P.state pages.old).page_bytes) }
@@ -74,6 +75,7 @@ pub(crate) fn tail_pages<P: Pages>(
     requires { head.now.length < 2 ^ 32 }
     ensures finds { OnlyFinds (P.state pages.old) (P.state pages.new) }
     ensures asked { (P.state pages.new).asked ≤ (P.state pages.old).asked + 1 }
+    ensures power { OnOk result (KeepsPower (P.state pages.old) (P.state pages.new)) }
     ensures unasked { before ≤ head.now.length / (P.state pages.old).page_bytes → (P.state pages.new).asked ≡ (P.state pages.old).asked }
     ensures told { (P.state pages.old).sound ≡ true → head.now.length / (P.state pages.old).page_bytes < before
         → OnOk result (HasPages (P.state pages.old).present object head.now.bits.items (IsPartLast (P.state pages.old).page_bytes head.now.length)) }

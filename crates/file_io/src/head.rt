@@ -6,7 +6,7 @@ ghost use Rattle.page_tags.specs.declared.header.ObjectKind.TheVariants as kinds
 ghost use Rattle.flash_tree.specs.Tree.{ReadsFile};
 ghost use Rattle.volume_terms.specs.Sizes.{Sizes};
 ghost use Rattle.pages.specs.Maps.{PageMap, has};
-ghost use Rattle.pages.specs.State.{OnlyFinds};
+ghost use Rattle.pages.specs.State.{OnlyFinds, KeepsPower};
 ghost use Rattle.file_io.specs.Files.{FileIn, HasFileHeader, fields_in};
 ghost use Rattle.file_io.specs.Heads.{IsHeadOf, SaysHead};
 ghost use Rattle.pages.specs.Faults.{MayLack, MayLackMemory, SaysWhy, SaysWhyMaking};
@@ -54,6 +54,7 @@ fn decode_file(page: &[u8]) -> Result<Header<'_>, PageFault>
 pub fn read_info<P: Pages>(pages: &mut P, object: u64) -> Result<FileInfo, PageFault>
     ensures finds { OnlyFinds (P.state pages.old) (P.state pages.new) }
     ensures asked { (P.state pages.new).asked ≤ (P.state pages.old).asked + 1 }
+    ensures power { OnOk result (KeepsPower (P.state pages.old) (P.state pages.new)) }
     ensures length { (z : Sizes) (moment : ℕ) (all : List ℕ) (f : FileIn (P.state pages.old) z object moment all)
         → IfOk result (λ info. info.length ≡ length all) }
     ensures moment { (z : Sizes) (moment : ℕ) (all : List ℕ) (f : FileIn (P.state pages.old) z object moment all)
@@ -79,6 +80,7 @@ pub(crate) fn read_head<P: Pages>(
 ) -> Result<FileHead, PageFault>
     ensures finds { OnlyFinds (P.state pages.old) (P.state pages.new) }
     ensures asked { (P.state pages.new).asked ≤ (P.state pages.old).asked + 1 }
+    ensures power { OnOk result (KeepsPower (P.state pages.old) (P.state pages.new)) }
     ensures head { (z : Sizes) (moment : ℕ) (all : List ℕ) (f : FileIn (P.state pages.old) z object moment all)
         → IfOk result (λ head. IsHeadOf head f.reads.fields) }
     ensures valid { IfOk result (λ head. IsHeader (P.state pages.old).page_bytes (fields_in head.length head.moment head.bits.items)) }

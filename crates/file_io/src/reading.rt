@@ -1,7 +1,7 @@
 // The reading of a file.
 ghost use Rattle.std.specs.Prelude.{◌≡◌, ◌<◌, ◌≤◌, ◌+◌, ◌-◌, ◌*◌, ◌/◌, ◌++◌, ℕ, true, List, IfOk, IfErr, OnOk, length, min, take, drop, replicate};
 ghost use Rattle.volume_terms.specs.Sizes.{Sizes};
-ghost use Rattle.pages.specs.State.{OnlyFinds};
+ghost use Rattle.pages.specs.State.{OnlyFinds, KeepsPower};
 ghost use Rattle.file_io.specs.Files.{FileIn, HasOnly};
 ghost use Rattle.file_io.specs.Chunks.{chunks_over, one_page, count_pages};
 ghost use Rattle.file_io.specs.Parts.{AppendsPart};
@@ -42,6 +42,7 @@ fn read_part<P: Pages>(
     requires ends { offset < index * (P.state pages.old).page_bytes + (P.state pages.old).page_bytes }
     ensures finds { OnlyFinds (P.state pages.old) (P.state pages.new) }
     ensures asked { (P.state pages.new).asked ≤ (P.state pages.old).asked + 1 }
+    ensures power { OnOk result (KeepsPower (P.state pages.old) (P.state pages.new)) }
     ensures holes { (P.state pages.old).sound ≡ true → (P.state pages.new).asked ≤ (P.state pages.old).asked + one_page ((P.state pages.old).present object (1 + index)) }
     ensures part { (z : Sizes) (moment : ℕ) (all : List ℕ) (f : FileIn (P.state pages.old) z object moment all)
         → HasOnly (P.state pages.old).present object f.reads.fields → end ≤ length all
@@ -78,6 +79,7 @@ pub fn read_at<P: Pages>(
     count: u64,
 ) -> Result<Vec<u8>, PageFault>
     ensures finds { OnlyFinds (P.state pages.old) (P.state pages.new) }
+    ensures power { OnOk result (KeepsPower (P.state pages.old) (P.state pages.new)) }
     ensures read { (z : Sizes) (moment : ℕ) (all : List ℕ) (f : FileIn (P.state pages.old) z object moment all)
         → HasOnly (P.state pages.old).present object f.reads.fields → len ≡ length all
         → IfOk result (λ bytes. bytes.items ≡ take count (drop offset all)) }

@@ -6,7 +6,7 @@ ghost use Rattle.posix_profile.specs.Changes.{resized};
 ghost use Rattle.volume_terms.specs.Sizes.{Sizes};
 ghost use Rattle.pages.specs.Maps.{changed};
 ghost use Rattle.pages.specs.Changes.{IsChange, IsNothing, IsOnlyOf};
-ghost use Rattle.pages.specs.State.{OnlyFinds};
+ghost use Rattle.pages.specs.State.{OnlyFinds, KeepsPower};
 ghost use Rattle.pages.specs.Faults.{MayLackMemory, SaysWhyMaking};
 ghost use Rattle.file_io.specs.Files.{Becomes, FileIn, HasFileHeader, HasPages};
 ghost use Rattle.file_io.specs.Chunks.{IsPartLast};
@@ -67,6 +67,7 @@ pub fn set_length<P: Pages>(
 ) -> Result<Change, PageFault>
     requires { len ≤ greatest_told (P.state pages.old).page_bytes kinds.File }
     ensures finds { OnlyFinds (P.state pages.old) (P.state pages.new) }
+    ensures power { OnOk result (KeepsPower (P.state pages.old) (P.state pages.new)) }
     ensures sets { (z : Sizes) (before : ℕ) (all : List ℕ) (f : FileIn (P.state pages.old) z object before all)
         → IfOk result (λ change. Becomes z (P.state pages.old).present (changed change (P.state pages.old).present) object f.reads.fields
         0 0 moment (resized all len)) }

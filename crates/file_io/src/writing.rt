@@ -6,7 +6,7 @@ ghost use Rattle.posix_profile.specs.Changes.{written};
 ghost use Rattle.volume_terms.specs.Sizes.{Sizes};
 ghost use Rattle.pages.specs.Maps.{changed, IsPageOf};
 ghost use Rattle.pages.specs.Changes.{AreSized, IsChange, IsNothing, IsOnlyOf};
-ghost use Rattle.pages.specs.State.{OnlyFinds};
+ghost use Rattle.pages.specs.State.{OnlyFinds, KeepsPower};
 ghost use Rattle.file_io.specs.Files.{Becomes, FileIn, HasFileHeader, HasPages};
 ghost use Rattle.file_io.specs.Heads.{IsHeadOf};
 ghost use Rattle.file_io.specs.Chunks.{AreOf, HoldChunks, HoldsChunk, IsAmong, IsPartKept, IsWritten, overwritten};
@@ -44,6 +44,7 @@ fn written_bytes<P: Pages>(
     requires ends { offset < index * (P.state pages.old).page_bytes + (P.state pages.old).page_bytes }
     ensures finds { OnlyFinds (P.state pages.old) (P.state pages.new) }
     ensures asked { (P.state pages.new).asked ≤ (P.state pages.old).asked + 1 }
+    ensures power { OnOk result (KeepsPower (P.state pages.old) (P.state pages.new)) }
     ensures unasked { offset ≤ index * (P.state pages.old).page_bytes
         → index * (P.state pages.old).page_bytes + (P.state pages.old).page_bytes ≤ offset + length bytes.now
         → (P.state pages.new).asked ≡ (P.state pages.old).asked }
@@ -88,6 +89,7 @@ fn written_pages<P: Pages>(
     ensures finds { OnlyFinds (P.state pages.old) (P.state pages.new) }
     ensures asked { (P.state pages.new).asked ≤ (P.state pages.old).asked + min 1 (offset - head.now.length)
         + min 1 (offset % (P.state pages.old).page_bytes) + min 1 ((offset + length bytes.now) % (P.state pages.old).page_bytes) }
+    ensures power { OnOk result (KeepsPower (P.state pages.old) (P.state pages.new)) }
     ensures told { (P.state pages.old).sound ≡ true
         → OnOk result (HasPages (P.state pages.old).present object head.now.bits.items (IsPartKept (P.state pages.old).page_bytes head.now.length offset (length bytes.now))) }
     ensures of { IfOk result (λ fresh. AreOf object (IsWritten (P.state pages.old).page_bytes head.now.length head.now.bits.items
@@ -133,6 +135,7 @@ pub fn write_at<P: Pages>(
 ) -> Result<Change, PageFault>
     requires { offset + length bytes.now ≤ greatest_told (P.state pages.old).page_bytes kinds.File }
     ensures finds { OnlyFinds (P.state pages.old) (P.state pages.new) }
+    ensures power { OnOk result (KeepsPower (P.state pages.old) (P.state pages.new)) }
     ensures writes { (z : Sizes) (before : ℕ) (all : List ℕ) (f : FileIn (P.state pages.old) z object before all) → 1 ≤ length bytes.now
         → IfOk result (λ change. Becomes z (P.state pages.old).present (changed change (P.state pages.old).present) object f.reads.fields
         (offset / z.page_bytes) ((offset + length bytes.now - 1) / z.page_bytes + 1) moment (written all offset bytes.now)) }

@@ -1,5 +1,5 @@
 // The tables of a device, by a scan.
-ghost use Rattle.std.specs.Prelude.{◌≡◌, ◌↔◌, ℕ, true, IsTrue, IfOk, IfErr};
+ghost use Rattle.std.specs.Prelude.{◌≡◌, ◌↔◌, ℕ, true, false, IsTrue, OnOk, IfOk, IfErr};
 ghost use Rattle.nand_model.specs.Changes.{OnlyReads};
 ghost use Rattle.flash_tree.specs.Newest.{AreAbove};
 ghost use Rattle.flash_tree.specs.Places.{numbers_of};
@@ -84,6 +84,7 @@ fn table_above<N: Nand>(
 /// Scans a device, which is only read: the newest page of each key is kept.
 pub fn open<N: Nand>(alloc: Global, device: &mut N) -> Result<Opened, OpenFault>
     ensures reads { OnlyReads (N.state device.old) (N.state device.new) }
+    ensures power { (N.state device.old).gone ≡ false → OnOk result ((N.state device.new).gone ≡ false) }
     ensures opened { IfOk result (λ opened. IsOpened (N.state device.new) (table opened.blocks) opened.index (numbers_of opened.numbers)) }
     ensures fault { IfErr result (WhyNotOpened (N.state device.new)) }
 {

@@ -1,5 +1,5 @@
 // Changes of the bytes of a file.
-ghost use Rattle.std.specs.Prelude.{◌≡◌, ◌≤◌, ◌+◌, ◌*◌, ℕ, [], IfOk, IfErr, length};
+ghost use Rattle.std.specs.Prelude.{◌≡◌, ◌≤◌, ◌+◌, ◌*◌, ℕ, [], OnOk, IfOk, IfErr, length};
 ghost use Rattle.std.specs.FinMap as map;
 ghost use Rattle.volume_terms.specs.Sizes.{Sizes, most_file_bytes, greatest_length};
 ghost use Rattle.posix_profile.specs.State.{Objects, IsFile};
@@ -8,7 +8,7 @@ ghost use Rattle.object_store.specs.Facts.{bytes_of};
 ghost use Rattle.pages.specs.Changes.{IsChange, IsOnlyOf};
 ghost use Rattle.pages.specs.Faults.{MayLackMemory, SaysWhyChanging};
 ghost use Rattle.pages.specs.Maps.{changed};
-ghost use Rattle.pages.specs.State.{OnlyFinds};
+ghost use Rattle.pages.specs.State.{OnlyFinds, KeepsPower};
 ghost use Rattle.object_pages.specs.Holding.{HoldsIn, HoldsObjects};
 
 use file_io::{read_info, set_length, write_at};
@@ -29,6 +29,7 @@ pub fn write<P: Pages>(
     moment: u64,
 ) -> Result<Change, PageFault>
     ensures finds { OnlyFinds (P.state pages.old) (P.state pages.new) }
+    ensures power { OnOk result (KeepsPower (P.state pages.old) (P.state pages.new)) }
     ensures change { (chunks : ℕ) → length bytes.now ≤ chunks * (P.state pages.old).page_bytes
         → IfOk result (λ change. IsChange change (P.state pages.old).page_bytes (chunks + 3)) }
     ensures only { IfOk result (λ change. IsOnlyOf change number) }
@@ -58,6 +59,7 @@ fn touch<P: Pages>(
     moment: u64,
 ) -> Result<Change, PageFault>
     ensures finds { OnlyFinds (P.state pages.old) (P.state pages.new) }
+    ensures power { OnOk result (KeepsPower (P.state pages.old) (P.state pages.new)) }
     ensures change { IfOk result (λ change. IsChange change (P.state pages.old).page_bytes 2) }
     ensures only { IfOk result (λ change. IsOnlyOf change number) }
     ensures touches { (z : Sizes) (objects : Objects) → HoldsIn (P.state pages.old) z objects → IsFile objects number
@@ -82,6 +84,7 @@ pub fn resize<P: Pages>(
     moment: u64,
 ) -> Result<Change, PageFault>
     ensures finds { OnlyFinds (P.state pages.old) (P.state pages.new) }
+    ensures power { OnOk result (KeepsPower (P.state pages.old) (P.state pages.new)) }
     ensures change { IfOk result (λ change. IsChange change (P.state pages.old).page_bytes 2) }
     ensures only { IfOk result (λ change. IsOnlyOf change number) }
     ensures resizes { (z : Sizes) (objects : Objects) → HoldsIn (P.state pages.old) z objects → IsFile objects number

@@ -1,5 +1,5 @@
 // The move of a name.
-ghost use Rattle.std.specs.Prelude.{◌≡◌, ◌≤◌, ℕ, IfOk, IfErr, IfSome};
+ghost use Rattle.std.specs.Prelude.{◌≡◌, ◌≤◌, ℕ, OnOk, IfOk, IfErr, IfSome};
 ghost use Rattle.std.specs.FinMap as map;
 ghost use Rattle.page_tags.specs.SlotEntry.{entry_of};
 ghost use Rattle.page_tags.specs.Slots.{IsSlot};
@@ -11,7 +11,7 @@ ghost use Rattle.object_store.specs.Changes.{LeadsTo, without};
 ghost use Rattle.pages.specs.Changes.{IsChange};
 ghost use Rattle.pages.specs.Faults.{MayLackMemory, SaysWhyChanging};
 ghost use Rattle.pages.specs.Maps.{changed};
-ghost use Rattle.pages.specs.State.{OnlyFinds};
+ghost use Rattle.pages.specs.State.{OnlyFinds, KeepsPower};
 ghost use Rattle.directories.specs.Directories.{IsNamed};
 ghost use Rattle.object_pages.specs.Holding.{HoldsIn, HoldsObjects};
 ghost use Rattle.object_store.specs.Stores.{CanHave};
@@ -36,6 +36,7 @@ pub fn move_name<P: Pages>(
     moment: u64,
 ) -> Result<Change, PageFault>
     ensures finds { OnlyFinds (P.state pages.old) (P.state pages.new) }
+    ensures power { OnOk result (KeepsPower (P.state pages.old) (P.state pages.new)) }
     ensures change { IfOk result (λ change. IsChange change (P.state pages.old).page_bytes 4) }
     ensures moves { (z : Sizes) (objects : Objects) → HoldsIn (P.state pages.old) z objects → LeadsTo objects from.entry number → IsDirectory objects to.entry.directory
         → IfOk result (λ change. HoldsObjects z (changed change (P.state pages.old).present)
@@ -63,6 +64,7 @@ fn rename<P: Pages>(
 ) -> Result<Option<Change>, PageFault>
     requires { IsSlot (entry_of slot.now) }
     ensures finds { OnlyFinds (P.state pages.old) (P.state pages.new) }
+    ensures power { OnOk result (KeepsPower (P.state pages.old) (P.state pages.new)) }
     ensures change { IfOk result (λ made. IfSome made (λ change. IsChange change (P.state pages.old).page_bytes 4)) }
     ensures named { (z : Sizes) (objects : Objects) → HoldsIn (P.state pages.old) z objects → IsDirectory objects from.entry.directory
         → IfOk result (λ made. IsNamed (entries_of (map.get objects from.entry.directory)) from.entry.name.now made) }

@@ -1,5 +1,5 @@
 // Names that lead to objects.
-ghost use Rattle.std.specs.Prelude.{◌≡◌, ◌≤◌, IfOk, IfErr};
+ghost use Rattle.std.specs.Prelude.{◌≡◌, ◌≤◌, OnOk, IfOk, IfErr};
 ghost use Rattle.std.specs.FinMap as map;
 ghost use Rattle.page_tags.specs.SlotEntry.{entry_of};
 ghost use Rattle.page_tags.specs.Slots.{IsSlot};
@@ -11,7 +11,7 @@ ghost use Rattle.object_store.specs.Changes.{IsAbsent, empty_object};
 ghost use Rattle.pages.specs.Changes.{IsChange, IsOnlyOf};
 ghost use Rattle.pages.specs.Faults.{MayLackMemory, SaysWhyChanging};
 ghost use Rattle.pages.specs.Maps.{changed};
-ghost use Rattle.pages.specs.State.{OnlyFinds};
+ghost use Rattle.pages.specs.State.{OnlyFinds, KeepsPower};
 ghost use Rattle.pages.specs.declared.fault.PageFault.TheVariants as faults;
 ghost use Rattle.object_pages.specs.Holding.{HoldsIn, HoldsObjects};
 ghost use Rattle.object_store.specs.Stores.{CanHave};
@@ -49,6 +49,7 @@ pub fn create<P: Pages>(
     moment: u64,
 ) -> Result<Change, PageFault>
     ensures finds { OnlyFinds (P.state pages.old) (P.state pages.new) }
+    ensures power { OnOk result (KeepsPower (P.state pages.old) (P.state pages.new)) }
     ensures change { IfOk result (λ change. IsChange change (P.state pages.old).page_bytes 3) }
     ensures creates { (z : Sizes) (objects : Objects) → HoldsIn (P.state pages.old) z objects → number ≡ new_number objects → IsAbsent objects at.entry
         → IfOk result (λ change. HoldsObjects z (changed change (P.state pages.old).present)
@@ -73,6 +74,7 @@ pub fn name<P: Pages>(
     moment: u64,
 ) -> Result<Change, PageFault>
     ensures finds { OnlyFinds (P.state pages.old) (P.state pages.new) }
+    ensures power { OnOk result (KeepsPower (P.state pages.old) (P.state pages.new)) }
     ensures change { IfOk result (λ change. IsChange change (P.state pages.old).page_bytes 2) }
     ensures only { IfOk result (λ change. IsOnlyOf change at.entry.directory) }
     ensures names { (z : Sizes) (objects : Objects) → HoldsIn (P.state pages.old) z objects → IsAbsent objects at.entry

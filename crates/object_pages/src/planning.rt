@@ -1,5 +1,5 @@
 // A change of objects as one of pages.
-ghost use Rattle.std.specs.Prelude.{◌≡◌, ◌≤◌, ℕ, true, false, IfOk, IfErr, Some, slice_get};
+ghost use Rattle.std.specs.Prelude.{◌≡◌, ◌≤◌, ℕ, true, false, OnOk, IfOk, IfErr, Some, slice_get};
 ghost use Rattle.volume_terms.specs.Sizes.{Sizes};
 ghost use Rattle.posix_profile.specs.State.{Objects};
 ghost use Rattle.posix_profile.specs.Changes.{new_number};
@@ -8,7 +8,7 @@ ghost use Rattle.object_store.specs.Changes.{made, CanMake};
 ghost use Rattle.pages.specs.Changes.{IsChange, AreOfObjects};
 ghost use Rattle.pages.specs.Faults.{MayLackMemory, SaysWhyChanging};
 ghost use Rattle.pages.specs.Maps.{changed};
-ghost use Rattle.pages.specs.State.{OnlyFinds};
+ghost use Rattle.pages.specs.State.{OnlyFinds, KeepsPower};
 ghost use Rattle.object_pages.specs.Holding.{HoldsIn, HoldsObjects};
 ghost use Rattle.object_store.specs.Stores.{CanHave};
 ghost use Rattle.object_pages.specs.Plans.{most_pages};
@@ -45,6 +45,7 @@ pub fn plan<P: Pages>(
     new: u64,
 ) -> Result<Change, PageFault>
     ensures finds { OnlyFinds (P.state pages.old) (P.state pages.new) }
+    ensures power { OnOk result (KeepsPower (P.state pages.old) (P.state pages.new)) }
     ensures change { IfOk result (λ it. IsChange it (P.state pages.old).page_bytes (most_pages (P.state pages.old).page_bytes change.now)) }
     ensures numbered { IfOk result (λ it. AreOfObjects it.pages.items) }
     ensures makes { (z : Sizes) (objects : Objects) → HoldsIn (P.state pages.old) z objects → CanMake z objects change.now → new ≡ new_number objects
@@ -69,6 +70,7 @@ fn plan_each<P: Pages>(
     new: u64,
 ) -> Result<Change, PageFault>
     ensures finds { OnlyFinds (P.state pages.old) (P.state pages.new) }
+    ensures power { OnOk result (KeepsPower (P.state pages.old) (P.state pages.new)) }
     ensures change { IfOk result (λ it. IsChange it (P.state pages.old).page_bytes (most_pages (P.state pages.old).page_bytes change.now)) }
     ensures makes { (z : Sizes) (objects : Objects) → HoldsIn (P.state pages.old) z objects → CanMake z objects change.now → new ≡ new_number objects
         → IfOk result (λ it. HoldsObjects z (changed it (P.state pages.old).present) (made objects change.now)) }

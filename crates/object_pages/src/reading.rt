@@ -1,11 +1,11 @@
 // What is read of the objects that the pages hold.
-ghost use Rattle.std.specs.Prelude.{◌≡◌, IfOk, IfErr, length, take, drop};
+ghost use Rattle.std.specs.Prelude.{◌≡◌, OnOk, IfOk, IfErr, length, take, drop};
 ghost use Rattle.std.specs.FinMap as map;
 ghost use Rattle.volume_terms.specs.Sizes.{Sizes};
 ghost use Rattle.posix_profile.specs.State.{Objects, IsFile, IsDirectory, entries_of};
 ghost use Rattle.object_store.specs.Facts.{bytes_of};
 ghost use Rattle.pages.specs.Faults.{MayLack, MayLackMemory, SaysWhy, SaysWhyMaking};
-ghost use Rattle.pages.specs.State.{OnlyFinds};
+ghost use Rattle.pages.specs.State.{OnlyFinds, KeepsPower};
 ghost use Rattle.object_pages.specs.Holding.{HoldsIn};
 
 use pages::{PageFault, Pages};
@@ -15,6 +15,7 @@ use std::alloc::Global;
 /// The object that a name of a directory leads to.
 pub fn find<P: Pages>(pages: &mut P, directory: u64, name: &[u8]) -> Result<Option<u64>, PageFault>
     ensures finds { OnlyFinds (P.state pages.old) (P.state pages.new) }
+    ensures power { OnOk result (KeepsPower (P.state pages.old) (P.state pages.new)) }
     ensures found { (z : Sizes) (objects : Objects) → HoldsIn (P.state pages.old) z objects → IsDirectory objects directory
         → IfOk result (λ found. found ≡ map.get (entries_of (map.get objects directory)) name.now) }
     ensures why { IfErr result (SaysWhy (P.state pages.new)) }
@@ -27,6 +28,7 @@ pub fn find<P: Pages>(pages: &mut P, directory: u64, name: &[u8]) -> Result<Opti
 /// The names of a directory, in the order of their bytes.
 pub fn names<P: Pages>(pages: &mut P, alloc: Global, directory: u64) -> Result<NameList, PageFault>
     ensures finds { OnlyFinds (P.state pages.old) (P.state pages.new) }
+    ensures power { OnOk result (KeepsPower (P.state pages.old) (P.state pages.new)) }
     ensures found { (z : Sizes) (objects : Objects) → HoldsIn (P.state pages.old) z objects → IsDirectory objects directory
         → IfOk result (λ names. names ≡ map.keys (entries_of (map.get objects directory))) }
     ensures why { IfErr result (SaysWhyMaking (P.state pages.new)) }
@@ -46,6 +48,7 @@ pub fn read<P: Pages>(
     count: u32,
 ) -> Result<Bytes, PageFault>
     ensures finds { OnlyFinds (P.state pages.old) (P.state pages.new) }
+    ensures power { OnOk result (KeepsPower (P.state pages.old) (P.state pages.new)) }
     ensures found { (z : Sizes) (objects : Objects) → HoldsIn (P.state pages.old) z objects → IsFile objects file → len ≡ length (bytes_of (map.get objects file))
         → IfOk result (λ bytes. bytes ≡ take count (drop offset (bytes_of (map.get objects file)))) }
     ensures fault { IfErr result (MayLackMemory (P.state pages.new)) }

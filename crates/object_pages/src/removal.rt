@@ -1,5 +1,5 @@
 // Names and objects that go.
-ghost use Rattle.std.specs.Prelude.{◌≡◌, ◌≤◌, ℕ, [], IfOk, IfErr};
+ghost use Rattle.std.specs.Prelude.{◌≡◌, ◌≤◌, ℕ, [], OnOk, IfOk, IfErr};
 ghost use Rattle.std.specs.FinMap as map;
 ghost use Rattle.volume_terms.specs.Sizes.{Sizes};
 ghost use Rattle.posix_profile.specs.State.{Objects};
@@ -8,7 +8,7 @@ ghost use Rattle.object_store.specs.Changes.{LeadsTo, without};
 ghost use Rattle.pages.specs.Changes.{IsChange, IsOnlyOf};
 ghost use Rattle.pages.specs.Faults.{MayLackMemory, SaysWhyChanging};
 ghost use Rattle.pages.specs.Maps.{PageMap, changed};
-ghost use Rattle.pages.specs.State.{OnlyFinds};
+ghost use Rattle.pages.specs.State.{OnlyFinds, KeepsPower};
 ghost use Rattle.object_pages.specs.Holding.{HoldsIn, HoldsObjects};
 
 use object_store::DirectoryEntry;
@@ -59,6 +59,7 @@ pub fn remove<P: Pages>(
     moment: u64,
 ) -> Result<Change, PageFault>
     ensures finds { OnlyFinds (P.state pages.old) (P.state pages.new) }
+    ensures power { OnOk result (KeepsPower (P.state pages.old) (P.state pages.new)) }
     ensures change { IfOk result (λ change. IsChange change (P.state pages.old).page_bytes 2) }
     ensures removes { (z : Sizes) (objects : Objects) (o : ℕ) → HoldsIn (P.state pages.old) z objects → LeadsTo objects at.entry o
         → IfOk result (λ change. HoldsObjects z (changed change (P.state pages.old).present)

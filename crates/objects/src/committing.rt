@@ -42,6 +42,7 @@ impl<N: Nand> Store<N> {
     pub fn write_out(&mut self) -> Result<(), StoreFault>
         ensures lasts { Lasts (N.state self.old.device) (N.state self.new.device) }
         ensures numbers { HandsOut (N.state self.old.device) (N.state self.new.device) (table self.old.blocks) (table self.new.blocks) }
+        ensures power { OnOk result ((N.state self.new.device).gone ≡ (N.state self.old.device).gone) }
         ensures marks { MarksFailures 0 0 (N.state self.old.device) (N.state self.new.device) (table self.old.blocks) (table self.new.blocks) }
         ensures answers { OnOk result (AnswersFailures 0 0 (N.state self.old.device) (N.state self.new.device) (table self.old.blocks) (table self.new.blocks)) }
         ensures costs { Costs (length (buffered self.old.buffer) + (N.state self.old.device).geometry.pages + 1) (3 * (N.state self.old.device).geometry.pages + 3) 0 (N.state self.old.device) (N.state self.new.device) }

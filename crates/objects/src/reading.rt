@@ -28,6 +28,7 @@ pub(crate) fn load_kept<N: Nand>(
     requires cache { page_bytes_of cache.old ≡ (N.state device.old).geometry.bytes }
     ensures reads { OnlyReads (N.state device.old) (N.state device.new) }
     ensures asked { (N.state device.new).reads ≤ (N.state device.old).reads + 1 }
+    ensures power { OnOk result ((N.state device.new).gone ≡ (N.state device.old).gone) }
     ensures size { length scratch.new ≡ length scratch.old }
     ensures sizes { KeepsSizes cache.old cache.new }
     ensures caches { Caches (N.state device.old) key at cache.old cache.new }

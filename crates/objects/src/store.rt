@@ -172,6 +172,7 @@ impl<N: Nand> Store<N> {
         ensures reads { OnlyReads (N.state self.old.device) (N.state self.new.device) }
         ensures same { (self.new.index ≡ self.old.index) × (self.new.buffer ≡ self.old.buffer) × (self.new.broken ≡ self.old.broken) × (self.new.blocks ≡ self.old.blocks) × (self.new.spare ≡ self.old.spare) }
         ensures asked { (N.state self.new.device).reads ≤ (N.state self.old.device).reads + 1 }
+        ensures power { OnOk result ((N.state self.new.device).gone ≡ (N.state self.old.device).gone) }
         ensures cached { IsSome (cached self.old.cache key.object key.chunk) → N.state self.new.device ≡ N.state self.old.device }
         ensures rest { KeepsRest key.object key.chunk self.old.cache self.new.cache }
         ensures refused { self.old.refused ≡ true → self.new.refused ≡ true }

@@ -15,6 +15,7 @@ pub fn read_kept<N: Nand>(device: &mut N, at: KeptPage, page: &mut [u8]) -> Resu
     requires size { length page.old ≡ (N.state device.old).geometry.bytes }
     ensures reads { OnlyReads (N.state device.old) (N.state device.new) }
     ensures asked { (N.state device.new).reads ≤ (N.state device.old).reads + 1 }
+    ensures power { OnOk result ((N.state device.new).gone ≡ (N.state device.old).gone) }
     ensures size { length page.new ≡ length page.old }
     ensures bytes { (N.state device.old).honest ≡ true → OnOk result (data_at (N.state device.old).flash at ≡ Some page.new) }
     ensures fault { IfErr result (IsReadFault (N.state device.old) (N.state device.new) at) }

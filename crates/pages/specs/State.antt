@@ -48,6 +48,10 @@ pub record OnlyFinds (old new : PagesState) : Type 0 where
   pub next : new.next ≡ old.next
   pub spare : new.spare ≡ old.spare
 
+-- the device has power where it had it
+abbrev pub KeepsPower : PagesState → PagesState → Type 0
+KeepsPower old new = new.device.gone ≡ old.device.gone
+
 -- the key has the page that is lent, or none
 abbrev pub FindsPage : PageMap → ℕ → ℕ → List ℕ → Presence → Type 0
 FindsPage m o c lent presences.Present = m o c ≡ Some lent

@@ -1,7 +1,7 @@
 // A store's pages as they are after a change that it has not taken yet.
-ghost use Rattle.std.specs.Prelude.{◌≡◌, ◌≤◌, ◌+◌, List, ℕ, true, Some, IfOk, IfErr, length, option_copied};
+ghost use Rattle.std.specs.Prelude.{◌≡◌, ◌≤◌, ◌+◌, List, ℕ, true, Some, OnOk, IfOk, IfErr, length, option_copied};
 ghost use Rattle.pages.specs.Maps.{changed};
-ghost use Rattle.pages.specs.State.{OnlyFinds};
+ghost use Rattle.pages.specs.State.{OnlyFinds, KeepsPower};
 ghost use Rattle.pages.specs.Faults.{MayLack, SaysWhy};
 ghost use Rattle.pages.specs.Afterwards.{after, lent_by, IsSource, IsSizedBy};
 
@@ -27,6 +27,7 @@ fn load_changed<P: Pages>(pages: &mut P, change: &Change, key: Key) -> Result<So
     ensures source { IfOk result (IsSource (Some change.now)) }
     ensures page { (P.state pages.old).sound ≡ true
         → IfOk result (λ source. changed change.now (P.state pages.old).present key.object key.chunk ≡ Some (lent_by (Some change.now) (P.state pages.new) source)) }
+    ensures power { OnOk result (KeepsPower (P.state pages.old) (P.state pages.new)) }
     ensures told { IfErr result (SaysWhy (P.state pages.new)) }
     ensures fault { (P.state pages.old).sound ≡ true → (xs : List ℕ) → changed change.now (P.state pages.old).present key.object key.chunk ≡ Some xs
         → IfErr result (MayLack (P.state pages.new)) }
@@ -53,6 +54,7 @@ pub fn load_after<P: Pages>(
     ensures source { IfOk result (IsSource (option_copied earlier.entry)) }
     ensures page { let seen = after (option_copied earlier.entry) (P.state pages.old) in
         seen.sound ≡ true → IfOk result (λ source. seen.present key.object key.chunk ≡ Some (lent_by (option_copied earlier.entry) (P.state pages.new) source)) }
+    ensures power { OnOk result (KeepsPower (P.state pages.old) (P.state pages.new)) }
     ensures told { IfErr result (SaysWhy (P.state pages.new)) }
     ensures fault { let seen = after (option_copied earlier.entry) (P.state pages.old) in
         seen.sound ≡ true → (xs : List ℕ) → seen.present key.object key.chunk ≡ Some xs → IfErr result (MayLack (P.state pages.new)) }

@@ -1,6 +1,6 @@
 // The page of a key that must be there.
 ghost use Rattle.std.specs.Prelude.{◌≡◌, ◌≤◌, ◌+◌, List, ℕ, true, Some, OnOk, IfErr};
-ghost use Rattle.pages.specs.State.{OnlyFinds};
+ghost use Rattle.pages.specs.State.{OnlyFinds, KeepsPower};
 ghost use Rattle.pages.specs.Faults.{MayLack, SaysWhy};
 
 use crate::fault::PageFault;
@@ -12,6 +12,7 @@ pub fn load<P: Pages>(pages: &mut P, key: Key) -> Result<(), PageFault>
     ensures finds { OnlyFinds (P.state pages.old) (P.state pages.new) }
     ensures asked { (P.state pages.new).asked ≤ (P.state pages.old).asked + 1 }
     ensures page { (P.state pages.old).sound ≡ true → OnOk result ((P.state pages.old).present key.object key.chunk ≡ Some (P.state pages.new).lent) }
+    ensures power { OnOk result (KeepsPower (P.state pages.old) (P.state pages.new)) }
     ensures told { IfErr result (SaysWhy (P.state pages.new)) }
     ensures fault { (P.state pages.old).sound ≡ true → (xs : List ℕ) → (P.state pages.old).present key.object key.chunk ≡ Some xs
         → IfErr result (MayLack (P.state pages.new)) }

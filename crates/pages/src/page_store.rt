@@ -2,6 +2,7 @@
 ghost use Rattle.std.specs.Prelude.{◌≡◌, ◌⊎◌, ◌≤◌, true, false, length, OnOk, IfErr, IsErrOf, ◌∷◌, []};
 ghost use Rattle.pages.specs.Changes.{AreApart, AreSized, AreOfObjects};
 ghost use Rattle.pages.specs.Maps.{changed, without_cuts};
+ghost use Rattle.pages.specs.State.{KeepsPower};
 ghost use Rattle.pages.specs.Stores.{SamePages, GoesOn, KeptAs, KeepsEither, StaysSame, ChangeFailsBy, CommitFailsBy};
 ghost use Rattle.volume_terms.specs.declared.fault.StoreFault.TheVariants as faults;
 
@@ -28,6 +29,7 @@ pub trait PageStore: Pages {
         ensures sound { OnOk result ((Self.state self.old).sound ≡ true → (Self.state self.new).sound ≡ true) }
         ensures present { (Self.state self.old).sound ≡ true → OnOk result (SamePages (Self.state self.new).present (changed change (Self.state self.old).present)) }
         ensures kept { (Self.state self.old).sound ≡ true → KeepsEither (Self.state self.old) (Self.state self.new) }
+        ensures power { OnOk result (KeepsPower (Self.state self.old) (Self.state self.new)) }
         ensures refused { IsErrOf result faults.NoMemory → StaysSame (Self.state self.old) (Self.state self.new) }
         ensures stops { IfErr result (λ fault. (fault ≡ faults.NoMemory) ⊎ ((Self.state self.new).sound ≡ false)) }
         ensures fault { (Self.state self.old).sound ≡ true → IfErr result (ChangeFailsBy (Self.state self.old) (Self.state self.new)) };
@@ -51,6 +53,7 @@ pub trait PageStore: Pages {
         ensures present { (Self.state self.old).sound ≡ true → OnOk result (SamePages (Self.state self.new).present (Self.state self.old).present) }
         ensures kept { (Self.state self.old).sound ≡ true → KeepsEither (Self.state self.old) (Self.state self.new) }
         ensures committed { (Self.state self.old).sound ≡ true → OnOk result (KeptAs (Self.state self.new) (Self.state self.old).present) }
+        ensures power { OnOk result (KeepsPower (Self.state self.old) (Self.state self.new)) }
         ensures memory { IsErrOf result faults.NoMemory → ⊥ }
         ensures stops { IfErr result (λ fault. (Self.state self.new).sound ≡ false) }
         ensures fault { (Self.state self.old).sound ≡ true → IfErr result (CommitFailsBy (Self.state self.old) (Self.state self.new)) };

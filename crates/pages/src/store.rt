@@ -1,6 +1,6 @@
 // The trait of pages.
-ghost use Rattle.std.specs.Prelude.{◌≡◌, ◌≤◌, ◌+◌, true, not, None, length, IfOk, IfErr};
-ghost use Rattle.pages.specs.State.{PagesState, OnlyFinds, FindsPage, FailsBy};
+ghost use Rattle.std.specs.Prelude.{◌≡◌, ◌≤◌, ◌+◌, true, not, None, length, OnOk, IfOk, IfErr};
+ghost use Rattle.pages.specs.State.{PagesState, OnlyFinds, KeepsPower, FindsPage, FailsBy};
 
 use flash_tree::Key;
 use volume_terms::StoreFault;
@@ -29,6 +29,8 @@ pub trait Pages {
         ensures asked { (state self.new).asked ≤ (state self.old).asked + 1 }
         ensures absent { (state self.old).sound ≡ true → (state self.old).present key.object key.chunk ≡ None → (state self.new).asked ≡ (state self.old).asked }
         ensures page { (state self.old).sound ≡ true → IfOk result (FindsPage (state self.old).present key.object key.chunk (state self.new).lent) }
+        // An answer is given by a device that has not lost its power in the call.
+        ensures power { OnOk result (KeepsPower (state self.old) (state self.new)) }
         ensures fault { IfErr result (FailsBy (state self.new)) };
 
     /// Whether the device has power still. It may ask the device, as for a page.

@@ -4,7 +4,7 @@ ghost use Rattle.std.specs.FinMap as map;
 ghost use Rattle.std.specs.Int.{div_ceil};
 ghost use Rattle.page_tags.specs.Slots.{Entry, IsSlot, slot_bytes};
 ghost use Rattle.pages.specs.Maps.{PageMap};
-ghost use Rattle.pages.specs.State.{PagesState, OnlyFinds};
+ghost use Rattle.pages.specs.State.{PagesState, OnlyFinds, KeepsPower};
 ghost use Rattle.volume_terms.specs.Sizes.{Sizes, page_slots};
 ghost use Rattle.tree_walk.specs.Faults.{TellsWhy, TellsWrong};
 ghost use Rattle.tree_walk.specs.SlotLists.{TakesEntry, TakesNone, HasSlots, LacksOf, NamesFrom};
@@ -46,6 +46,7 @@ pub(crate) fn read_slots<P: Pages>(
     ensures finds { OnlyFinds (P.state pages.old) (P.state pages.new) }
     ensures asked { (z : Sizes) → z.page_bytes ≡ (P.state pages.old).page_bytes
         → (P.state pages.new).asked ≤ (P.state pages.old).asked + div_ceil length (page_slots z) }
+    ensures power { OnOk result (KeepsPower (P.state pages.old) (P.state pages.new)) }
     ensures told { (P.state pages.old).sound ≡ true → (z : Sizes) → z.page_bytes ≡ (P.state pages.old).page_bytes
         → IfOk result (λ objects. NamesFrom z (P.state pages.old).present directory length objects.items) }
     ensures fault { (P.state pages.old).sound ≡ true → (z : Sizes) → z.page_bytes ≡ (P.state pages.old).page_bytes
@@ -74,6 +75,7 @@ fn take_chunk<P: Pages>(
     requires few { chunk < 2 ^ 32 }
     ensures finds { OnlyFinds (P.state pages.old) (P.state pages.new) }
     ensures asked { (P.state pages.new).asked ≤ (P.state pages.old).asked + 1 }
+    ensures power { OnOk result (KeepsPower (P.state pages.old) (P.state pages.new)) }
     ensures told { (P.state pages.old).sound ≡ true → (z : Sizes) → z.page_bytes ≡ (P.state pages.old).page_bytes
         → HasSlots z (P.state pages.old).present directory (chunk * page_slots z) seen.old
         → OnOk result (HasSlots z (P.state pages.old).present directory (chunk * page_slots z + count) seen.new) }

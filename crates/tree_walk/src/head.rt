@@ -1,11 +1,11 @@
 // The header of an object of a tree.
-ghost use Rattle.std.specs.Prelude.{◌≡◌, ◌↔◌, ◌<◌, ◌≤◌, ◌+◌, ◌^◌, true, IsTrue, IfOk, IfErr, length};
+ghost use Rattle.std.specs.Prelude.{◌≡◌, ◌↔◌, ◌<◌, ◌≤◌, ◌+◌, ◌^◌, true, IsTrue, OnOk, IfOk, IfErr, length};
 ghost use Rattle.page_tags.specs.Headers.{Fields, IsHeaderOf};
 ghost use Rattle.page_tags.specs.declared.header.ObjectKind.TheVariants as kinds;
 ghost use Rattle.flash_tree.specs.Mount.{Stops, Finds};
 ghost use Rattle.flash_tree.specs.Tree.{LooksUp};
 ghost use Rattle.pages.specs.Maps.{has};
-ghost use Rattle.pages.specs.State.{PagesState, OnlyFinds};
+ghost use Rattle.pages.specs.State.{PagesState, OnlyFinds, KeepsPower};
 ghost use Rattle.volume_terms.specs.Sizes.{Sizes};
 ghost use Rattle.tree_walk.specs.Faults.{TellsWhy, TellsWrong};
 ghost use Rattle.tree_walk.specs.Heads.{IsHeadOf, IsNoHeader, SaysHead, head_looks_up};
@@ -58,6 +58,7 @@ pub(crate) fn read_head<P: Pages>(
 ) -> Result<Head, WalkFault>
     ensures finds { OnlyFinds (P.state pages.old) (P.state pages.new) }
     ensures asked { (P.state pages.new).asked ≤ (P.state pages.old).asked + 1 }
+    ensures power { OnOk result (KeepsPower (P.state pages.old) (P.state pages.new)) }
     ensures few { IfOk result (λ head. length head.bits.items ≤ 4064) }
     ensures entries { IfOk result (λ head. head.kind ≡ kinds.Directory → head.length < 2 ^ 32) }
     ensures told { (P.state pages.old).sound ≡ true → (z : Sizes) → z.page_bytes ≡ (P.state pages.old).page_bytes

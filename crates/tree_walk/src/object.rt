@@ -1,8 +1,8 @@
 // One object of the tree.
-ghost use Rattle.std.specs.Prelude.{◌≡◌, ◌≤◌, ◌+◌, IfOk, IfErr};
+ghost use Rattle.std.specs.Prelude.{◌≡◌, ◌≤◌, ◌+◌, OnOk, IfOk, IfErr};
 ghost use Rattle.flash_tree.specs.Mount.{Stops, Finds};
 ghost use Rattle.pages.specs.Maps.{has};
-ghost use Rattle.pages.specs.State.{OnlyFinds};
+ghost use Rattle.pages.specs.State.{OnlyFinds, KeepsPower};
 ghost use Rattle.volume_terms.specs.Sizes.{Sizes};
 ghost use Rattle.tree_walk.specs.Faults.{TellsWhy, TellsWrong};
 ghost use Rattle.tree_walk.specs.Visits.{IsSeen, IsVisited, slot_pages};
@@ -27,6 +27,7 @@ pub fn visit<P: KnownPages>(alloc: Global, pages: &mut P, object: u64) -> Result
     ensures finds { OnlyFinds (P.state pages.old) (P.state pages.new) }
     ensures asked { (z : Sizes) → z.page_bytes ≡ (P.state pages.old).page_bytes
         → IfOk result (λ visited. (P.state pages.new).asked ≤ (P.state pages.old).asked + 1 + slot_pages z visited.head.kind visited.head.length) }
+    ensures power { OnOk result (KeepsPower (P.state pages.old) (P.state pages.new)) }
     ensures leads { (z : Sizes) → IsSeen z (P.state pages.old) → IfOk result (IsVisited z (has (P.state pages.old).present) object) }
     ensures stops { (z : Sizes) → IsSeen z (P.state pages.old)
         → IfErr result (TellsWrong (λ wrong. Finds z (has (P.state pages.old).present) object (Stops wrong)) (P.state pages.new)) }

@@ -1,8 +1,8 @@
 // The root's header, which makes pages a volume.
-ghost use Rattle.std.specs.Prelude.{◌≡◌, ◌≤◌, ◌+◌, true, IfOk, IfErr, length};
+ghost use Rattle.std.specs.Prelude.{◌≡◌, ◌≤◌, ◌+◌, true, OnOk, IfOk, IfErr, length};
 ghost use Rattle.flash_tree.specs.Mount.{IsVolume};
 ghost use Rattle.pages.specs.Maps.{has};
-ghost use Rattle.pages.specs.State.{OnlyFinds};
+ghost use Rattle.pages.specs.State.{OnlyFinds, KeepsPower};
 ghost use Rattle.tree_walk.specs.Faults.{RootFailsBy, TellsRoot};
 ghost use Rattle.tree_walk.specs.Roots.{SpareTold, NoSpareTold};
 
@@ -17,6 +17,7 @@ use volume_terms::{ROOT, StoreFault};
 pub fn root<P: Pages>(pages: &mut P, geometry: Geometry) -> Result<u16, RootFault>
     ensures finds { OnlyFinds (P.state pages.old) (P.state pages.new) }
     ensures asked { (P.state pages.new).asked ≤ (P.state pages.old).asked + 1 }
+    ensures power { OnOk result (KeepsPower (P.state pages.old) (P.state pages.new)) }
     ensures volume { (P.state pages.old).sound ≡ true → geometry.bytes ≡ (P.state pages.old).page_bytes
         → IfOk result (IsVolume geometry (has (P.state pages.old).present)) }
     ensures fault { (P.state pages.old).sound ≡ true → geometry.bytes ≡ (P.state pages.old).page_bytes

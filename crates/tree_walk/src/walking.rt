@@ -3,7 +3,7 @@ ghost use Rattle.std.specs.Prelude.{◌≡◌, ◌<◌, ◌+◌, ℕ, [], ◌∷
 ghost use Rattle.page_tags.specs.declared.header.ObjectKind.TheVariants as kinds;
 ghost use Rattle.flash_tree.specs.Mount.{Wholly, GoesThrough, NamesTwice, Stops, Finds};
 ghost use Rattle.pages.specs.Maps.{has};
-ghost use Rattle.pages.specs.State.{OnlyFinds};
+ghost use Rattle.pages.specs.State.{OnlyFinds, KeepsPower};
 ghost use Rattle.volume_terms.specs.Sizes.{Sizes, root_number};
 ghost use Rattle.tree_walk.specs.Faults.{TellsWhy, TellsWrong};
 ghost use Rattle.tree_walk.specs.Visits.{IsSeen};
@@ -24,6 +24,7 @@ use volume_terms::ROOT;
 /// Goes through all objects of a tree from the root on, each once, in the order in which they are named.
 pub fn walk<P: KnownPages>(alloc: Global, pages: &mut P) -> Result<Tree, WalkFault>
     ensures finds { OnlyFinds (P.state pages.old) (P.state pages.new) }
+    ensures power { OnOk result (KeepsPower (P.state pages.old) (P.state pages.new)) }
     ensures through { (z : Sizes) → IsSeen z (P.state pages.old)
         → IfOk result (λ tree. GoesThrough z (has (P.state pages.old).present) (root_number ∷ []) 0 (Wholly (objects_listed tree))) }
     ensures once { (z : Sizes) → IsSeen z (P.state pages.old)
@@ -101,6 +102,7 @@ impl WalkState {
         requires within { place < length self.old.objects.items }
         requires knows { Knows self.old }
         ensures finds { OnlyFinds (P.state pages.old) (P.state pages.new) }
+        ensures power { OnOk result (KeepsPower (P.state pages.old) (P.state pages.new)) }
         ensures knows { OnOk result (Knows self.new) }
         ensures goes { (z : Sizes) → IsSeen z (P.state pages.old) → IsGoing z (has (P.state pages.old).present) place self.old
             → OnOk result (IsGoing z (has (P.state pages.old).present) (place + 1) self.new) }

@@ -23,6 +23,7 @@ all_asked old now chunk said most a less is = omega (arith, a, less, is)
 pub loop-chunk-init : goal.loop-chunk-init
 loop-chunk-init g c = record {
   finds = c.read_head.ensures.finds;
+  power = c.in_ok-head.ensures.power;
   asked = omega (arith, c.read_head.ensures.asked);
   first = λ sound z size. subst (λ k. ReadsFirst z (g.P.Pages.state c.args.pages.now).present c.args.directory k c.new-entries.result) (let zero_is : 0 ≡ min c.in_ok-head.head.length (0 * page_slots z) = grind arith in zero_is)
       (none_read z (g.P.Pages.state c.args.pages.now).present c.args.directory c.new-entries.result c.new-entries.ensures);
@@ -68,6 +69,7 @@ returns-in_err-take_chunk-clause-fault g c = λ z moment entries d.
 pub loop-chunk-preserved : goal.loop-chunk-preserved
 loop-chunk-preserved g c = record {
   finds = finds_on _ _ _ c.loop-chunk.invariant.finds c.take_chunk.ensures.finds;
+  power = c.in_ok-take_chunk.ensures.power ∙ c.loop-chunk.invariant.power;
   asked = omega (arith, c.loop-chunk.invariant.asked, c.take_chunk.ensures.asked);
   first = λ sound z size.
       let old : PagesState = g.P.Pages.state c.args.pages.now in

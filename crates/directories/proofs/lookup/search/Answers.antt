@@ -58,6 +58,7 @@ returns-then-is_some-clause-told g c = λ sound z size.
 pub loop-chunk-preserved : goal.loop-chunk-preserved
 loop-chunk-preserved g c = record {
   finds = finds_on _ _ _ c.loop-chunk.invariant.finds c.search_chunk.ensures.finds;
+  power = c.in_ok-found.ensures.power ∙ c.loop-chunk.invariant.power;
   asked = omega (arith, c.loop-chunk.invariant.asked, c.search_chunk.ensures.asked);
   none = λ sound z size.
       let old : PagesState = g.P.Pages.state c.args.pages.now in

@@ -25,6 +25,7 @@ loop-index-preserved g c =
     let low : c.args.offset / d ≤ c.loop-index.index = c.loop-index.auto.index in
     record {
       finds = finds_on _ _ _ c.loop-index.invariant.finds c.read_part.ensures.finds;
+      power = c.in_ok-read_part.ensures.power ∙ c.loop-index.invariant.power;
       asked = omega (arith, low, c.loop-index.invariant.asked, c.read_part.ensures.asked);
       holes = λ sound.
           let kept : now.present ≡ old.present = c.loop-index.invariant.finds.present in

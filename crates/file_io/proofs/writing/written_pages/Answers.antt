@@ -44,6 +44,7 @@ loop-index-init g c =
     (λ le. c.tail_pages.ensures.unasked (subst (λ n. first ≤ len / n) size_old le)) in
     record {
       finds = c.tail_pages.ensures.finds;
+      power = c.in_ok-fresh.ensures.power;
       asked = omega (arith, tail);
       told = λ sound k low less. absurd (omega (arith, low, less));
       of = of_same c.args.object (IsTail d len bits first) (IsWritten d len bits first first) fresh (λ k is. inl is) (λ k. among_none d len bits first k) of;
@@ -114,6 +115,7 @@ loop-index-preserved g c =
     let count : length c.push.new.self.items ≡ length fresh + 1 = ap length items ∙ length-append fresh (q ∷ []) in
     record {
       finds = finds_on _ _ _ c.loop-index.invariant.finds c.written_bytes.ensures.finds;
+      power = c.in_ok-page.ensures.power ∙ c.loop-index.invariant.power;
       asked = asked_more d c.args.offset (length c.args.bytes.now) k (old.asked + min 1 (c.args.offset - len)) now.asked (g.P.Pages.state c.written_bytes.new.pages).asked
           (omega (arith, c.from-page_bytes.ensures, c.page_bytes.ensures.least)) c.requires.some low c.loop-index-test.true c.written_bytes.ensures.asked
           (λ a b. c.written_bytes.ensures.unasked (subst (λ x. c.args.offset ≤ k * x) size_now a) (subst (λ x. k * x + x ≤ c.args.offset + length c.args.bytes.now) size_now b)) c.loop-index.invariant.asked;

@@ -2,7 +2,7 @@ use Rattle.std.proofs.Common.{◌≡◌, ◌⊎◌, ◌<◌, ◌≤◌, ◌+◌,
 use Rattle.volume_terms.specs.Sizes.{Sizes}
 use Rattle.posix_profile.specs.Changes.{written}
 use Rattle.pages.specs.Changes.{AreSized}
-use Rattle.pages.specs.State.{OnlyFinds}
+use Rattle.pages.specs.State.{OnlyFinds, KeepsPower}
 use Rattle.file_io.specs.Files.{FileIn}
 use Rattle.file_io.specs.Heads.{IsHeadOf}
 use Rattle.file_io.specs.Chunks.{AreOf, IsWritten, HoldChunks}
@@ -12,6 +12,7 @@ use Rattle.file_io.proofs.writing.written_pages.Given as goal
 abbrev pub invariant-loop-index : goal.invariant-loop-index
 invariant-loop-index g l = record {
   finds : OnlyFinds (g.P.Pages.state l.fn.pages) (g.P.Pages.state l.pages);
+  power : KeepsPower (g.P.Pages.state l.fn.pages) (g.P.Pages.state l.pages);
   asked : (g.P.Pages.state l.pages).asked ≤ (g.P.Pages.state l.fn.pages).asked + min 1 (l.offset - l.head.length)
       + min (min 1 (l.offset % l.page_bytes)) (l.index - l.first) + min (min 1 ((l.offset + length l.bytes) % l.page_bytes)) (l.index - (l.end - 1));
   told : (g.P.Pages.state l.fn.pages).sound ≡ true → (k : ℕ) → l.first ≤ k → k < l.index → (k * l.page_bytes < l.offset) ⊎ (l.offset + length l.bytes < k * l.page_bytes + l.page_bytes)

@@ -1,4 +1,4 @@
-use Rattle.std.proofs.Common.{◌≡◌, ◌≤◌, ◌<◌, ◌+◌, ◌-◌, ◌*◌, ◌/◌, ◌∙◌, ℕ, min, sym, ap, subst, arith, rules}
+use Rattle.std.proofs.Common.{◌≡◌, ◌≤◌, ◌<◌, ◌+◌, ◌-◌, ◌*◌, ◌/◌, ◌∙◌, ℕ, min, refl, sym, ap, subst, arith, rules}
 use Rattle.std.proofs.lemmas.Result.{err_from_is_err_and}
 use Rattle.std.specs.Int.{div_ceil}
 use Rattle.volume_terms.specs.Sizes.{page_slots}
@@ -14,6 +14,7 @@ use Rattle.tree_walk.proofs.directory.read_slots.Goals as goal
 pub loop-chunk-init : goal.loop-chunk-init
 loop-chunk-init g c = record {
   finds = finds_none (g.P.Pages.state c.args.pages.now);
+  power = refl;
   asked = omega arith;
   slots = λ sound z size.
       let old : PagesState = g.P.Pages.state c.args.pages.now in
@@ -24,6 +25,7 @@ loop-chunk-init g c = record {
 pub loop-chunk-preserved : goal.loop-chunk-preserved
 loop-chunk-preserved g c = record {
   finds = finds_on _ _ _ c.loop-chunk.invariant.finds c.take_chunk.ensures.finds;
+  power = c.in_ok-take_chunk.ensures.power ∙ c.loop-chunk.invariant.power;
   asked = omega (arith, c.loop-chunk.invariant.asked, c.take_chunk.ensures.asked);
   slots = λ sound z size.
       let old : PagesState = g.P.Pages.state c.args.pages.now in

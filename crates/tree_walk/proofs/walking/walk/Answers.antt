@@ -1,4 +1,4 @@
-use Rattle.std.proofs.Common.{◌≡◌, ◌+◌, ℕ, false, true, Some, slice_get, length, refl, sym, subst, inl, inr, arith, rules}
+use Rattle.std.proofs.Common.{◌≡◌, ◌+◌, ◌∙◌, ℕ, false, true, Some, slice_get, length, refl, sym, subst, inl, inr, arith, rules}
 use Rattle.std.proofs.lemmas.Result.{err_from_is_err_and}
 use Rattle.std.proofs.lemmas.Option.{slice_get_within}
 use Rattle.flash_tree.specs.Mount.{Wrong, Wrongly, stops, Stops, Finds}
@@ -19,6 +19,7 @@ step-requires-clause-knows g c = c.loop-place.invariant.knows
 pub loop-place-init : goal.loop-place-init
 loop-place-init g c = record {
   finds = finds_none (g.P.Pages.state c.args.pages.now);
+  power = refl;
   knows = c.in_ok-walk.ensures.begins.knows;
   going = λ z seen. begins_going z (has (g.P.Pages.state c.args.pages.now).present) c.in_ok-walk.walk c.in_ok-walk.ensures.begins;
 }
@@ -26,6 +27,7 @@ loop-place-init g c = record {
 pub loop-place-preserved : goal.loop-place-preserved
 loop-place-preserved g c = record {
   finds = finds_on _ _ _ c.loop-place.invariant.finds c.step.ensures.finds;
+  power = c.in_ok-step.ensures.power ∙ c.loop-place.invariant.power;
   knows = c.in_ok-step.ensures.knows;
   going = λ z seen.
       let old : PagesState = g.P.Pages.state c.args.pages.now in

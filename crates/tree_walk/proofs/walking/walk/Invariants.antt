@@ -1,6 +1,6 @@
 use Rattle.std.proofs.Common.{◌-◌}
 use Rattle.pages.specs.Maps.{has}
-use Rattle.pages.specs.State.{OnlyFinds}
+use Rattle.pages.specs.State.{OnlyFinds, KeepsPower}
 use Rattle.volume_terms.specs.Sizes.{Sizes}
 use Rattle.tree_walk.specs.Visits.{IsSeen}
 use Rattle.tree_walk.specs.Walks.{Knows, IsGoing}
@@ -9,6 +9,7 @@ use Rattle.tree_walk.proofs.walking.walk.Given as goal
 abbrev pub invariant-loop-place : goal.invariant-loop-place
 invariant-loop-place g l = record {
   finds : OnlyFinds (g.P.Pages.state l.fn.pages) (g.P.Pages.state l.pages);
+  power : KeepsPower (g.P.Pages.state l.fn.pages) (g.P.Pages.state l.pages);
   knows : Knows l.walk;
   going : (z : Sizes) → IsSeen z (g.P.Pages.state l.fn.pages) → IsGoing z (has (g.P.Pages.state l.fn.pages).present) l.place l.walk;
 }

@@ -12,7 +12,7 @@ use Rattle.transactions.specs.laws.Handing.{hands_nothing}
 use Rattle.objects.specs.Changing.{IsCommitFault}
 use Rattle.objects.specs.declared.store.Found.TheVariants as places
 use Rattle.objects.proofs.Carried.{either_known, kept_is_carried, newest_committed}
-use Rattle.objects.proofs.Steps.{buffered_shown, commit_fails, costs_still, writable}
+use Rattle.objects.proofs.Steps.{buffered_shown, commit_fails, committed_power, costs_still, writable}
 use Rattle.objects.proofs.store.Store.write_out.Goals as goal
 
 pub invariant_of-self : goal.invariant_of-self
@@ -85,3 +85,8 @@ returns-in-Err-clause-unhindered g c = λ whole why. elim why [
   | inl none ↦ let two : false ≡ true = c.in-Err.ensures.nothing none in absurd cc
   | inr is ↦ let two : false ≡ true = c.in-Err.ensures.unhindered is in absurd cc
 ]
+
+pub returns-in-Ok-clause-power : goal.returns-in-Ok-clause-power
+returns-in-Ok-clause-power g c =
+    let self = c.args.self.now in
+    committed_power (g.N.Nand.state self.device) (g.N.Nand.state c.commit.new.device) (buffered self.buffer) c.commit.ensures.lasts c.commit.ensures.no_call c.in-Ok.ensures.ends.power

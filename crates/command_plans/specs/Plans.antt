@@ -94,7 +94,7 @@ pub record IsPlan (z : Sizes) (class : Class) (s : State) (meant : Outcome) (pla
 
 -- The plan is one for what is meant, or the error is what is meant, unless the store has a fault.
 abbrev pub Plans : {S : Type 0} (m : Meaning S) → Sizes → Class → State → Outcome → S → S → Result Plan Refusal → Type 0
-Plans m z class s meant a b r = Tells m s.objects a b (IsPlan z class s meant) (λ e. refuse s e ≡ meant) r
+Plans m z class s meant a b r = Tells m a b (IsPlan z class s meant) (λ e. refuse s e ≡ meant) r
 
 -- The plan is one for what is meant, or the error is what is meant.
 abbrev pub Tries : Sizes → Class → State → Outcome → Result Plan Errno → Type 0

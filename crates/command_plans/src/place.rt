@@ -3,6 +3,7 @@ ghost use Rattle.std.specs.Prelude.{◌≡◌, is_none};
 ghost use Rattle.volume_terms.specs.Sizes.{Sizes};
 ghost use Rattle.posix_profile.specs.State.{State};
 ghost use Rattle.posix_profile.specs.Paths.{last_name, is_dot, is_dot_dot, resolve};
+ghost use Rattle.object_store.specs.Stores.{KeepsPower};
 ghost use Rattle.path_walk.specs.Places.{place_of};
 ghost use Rattle.command_plans.specs.Places.{FindsPlace, FindsObject};
 ghost use Rattle.command_plans.specs.Plans.{Holds};
@@ -26,6 +27,7 @@ pub fn find_place<'a, S: ObjectStore>(
     path: &'a [u8],
 ) -> Result<PathPlace<'a>, Refusal>
     ensures reads { S.meaning.reads store.old store.new }
+    ensures power { KeepsPower S.meaning store.old store.new result }
     ensures finds { (z : Sizes) (s : State) → Holds S.meaning z s store.old
         → FindsPlace S.meaning s (resolve s.objects path.now) store.old store.new result }
 {
@@ -39,6 +41,7 @@ pub fn find_object<'a, S: ObjectStore>(
     path: &'a [u8],
 ) -> Result<FoundObject<'a>, Refusal>
     ensures reads { S.meaning.reads store.old store.new }
+    ensures power { KeepsPower S.meaning store.old store.new result }
     ensures finds { (z : Sizes) (s : State) → Holds S.meaning z s store.old
         → FindsObject S.meaning s (resolve s.objects path.now) store.old store.new result }
 {

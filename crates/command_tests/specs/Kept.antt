@@ -14,6 +14,7 @@ kept_meaning = record {
   lasts = λ a b. numbers_of b.objects ≡ numbers_of a.objects;
   leaves = λ a b. b.shown ≡ a.shown;
   reads = λ a b. (objects_of b.objects ≡ objects_of a.objects) × (numbers_of b.objects ≡ numbers_of a.objects);
+  unread = λ a b. ⊥;
   changes = λ old new a b. Unit {0};
   fails = λ old new a b. Unit {0};
   commits = λ objects a b. Unit {0};

@@ -23,6 +23,11 @@ pub record Spends {T : Type 0} (calls : T → ℕ) (last : T → LastCall) (a b 
   pub calls_fall : calls b ≤ calls a
   pub fate : last b ≡ last a
 
+-- Calls that only read, of which the last was cut off or failed.
+pub record IsUnread {S : Type 0} (m : Meaning S) (calls : ℕ) (a b : S) : Type 0 where
+  pub reads : m.reads a b
+  pub failed : (calls ≡ 0) ⊎ m.unread a b
+
 -- A store as the one inside, of which calls are counted: one that changes or commits takes one of those that are left, and
 -- the last one may be cut off.
 abbrev pub fused_meaning : {S T : Type 0} (m : Meaning S) (inner : T → S) (calls : T → ℕ) (last : T → LastCall) → Meaning T
@@ -34,6 +39,7 @@ fused_meaning m inner calls last = record {
   lasts = λ a b. m.lasts (inner a) (inner b) × Spends calls last a b;
   leaves = λ a b. m.leaves (inner a) (inner b);
   reads = λ a b. m.reads (inner a) (inner b) × Spends calls last a b;
+  unread = λ a b. IsUnread m (calls b) (inner a) (inner b) × Spends calls last a b;
   changes = λ old new a b. m.changes old new (inner a) (inner b) × (calls b < calls a);
   fails = λ old new a b. IsLost m (calls b) (last b) old new (inner a) (inner b) ⊎ m.fails old new (inner a) (inner b);
   commits = λ objects a b. m.commits objects (inner a) (inner b) × (calls b < calls a);

@@ -11,6 +11,7 @@ refusing_meaning m inner = record {
   lasts = λ a b. m.lasts (inner a) (inner b);
   leaves = λ a b. m.leaves (inner a) (inner b);
   reads = λ a b. m.reads (inner a) (inner b);
+  unread = λ a b. m.unread (inner a) (inner b);
   changes = λ old new a b. m.changes old new (inner a) (inner b);
   fails = λ old new a b. m.fails old new (inner a) (inner b);
   commits = λ objects a b. m.commits objects (inner a) (inner b);

@@ -11,14 +11,13 @@ use Rattle.posix_profile.specs.Steps.{step_at, step}
 use Rattle.posix_profile.specs.declared.command.Command.{Command}
 use Rattle.posix_profile.specs.declared.command.Stamped.{Stamped}
 use Rattle.posix_profile.specs.declared.reply.Errno.{Errno}
-use Rattle.posix_profile.specs.declared.reply.Errno.TheVariants as errors
 use Rattle.posix_profile.specs.declared.reply.Reply.{Reply}
 use Rattle.posix_profile.specs.declared.reply.Reply.TheVariants as replies
 use Rattle.object_store.specs.Stores.{Meaning, IsLawful, Has, KeepsOrSettles, settled}
 use Rattle.object_store.specs.laws.Store.{has_on}
 use Rattle.object_store.specs.declared.refusal.Refusal.{Refusal}
 use Rattle.command_plans.specs.Classes.{Class, Telling, Changing, Syncing, class_of, is_error}
-use Rattle.object_commands.specs.Endings.{IsAt, IsOnlyRead, StaysReading, Leaves, IsDone, IsStopped, CommandEnds, TellsRefusal}
+use Rattle.object_commands.specs.Endings.{IsAt, IsOnlyRead, StaysReading, Leaves, IsDone, CommandEnds, TellsRefusal}
 use Rattle.object_commands.specs.laws.Steps.{leaves_shows}
 use Rattle.command_plans.specs.Plans.{IsPlan, Plans, Suits, Did, worked, planned, handled, does_nothing, frees, leaves_device}
 use Rattle.command_plans.specs.Tables.{handles_in}
@@ -129,15 +128,6 @@ suits_nothing Syncing reply work.Commit suits (inr error) = let two : true ≡ f
 pub plan_nothing : (z : Sizes) (class : Class) (s : State) (meant : Outcome) (plan : Plan) → IsPlan z class s meant plan → (class ≡ Telling) ⊎ (is_error meant.reply ≡ true) → does_nothing plan.work ≡ true
 plan_nothing z class s meant plan is why = suits_nothing class plan.reply plan.work is.suits (elim why [ inl tells ↦ inl tells | inr error ↦ inr (ap (λ (o : Outcome). is_error o.reply) is.means ∙ error) ])
 
-pub is_stopped : {S : Type 0} (m : Meaning S) (z : Sizes) (class : Class) (s : State) (meant : Outcome) (plan : Plan) (a b : Volume S) (told : Reply) → IsPlan z class s meant plan
-    → (does_nothing plan.work ≡ true → m.reads a.store b.store) → m.fails s.objects (worked s.objects plan.work) a.store b.store → told ≡ replies.Error errors.EIO → b.stopped ≡ true → IsStopped m class s meant a b told
-is_stopped m z class s meant plan a b told is reads fails reply stops = record {
-  reply = reply;
-  left = subst (λ (o : Outcome). m.fails s.objects o.state.objects a.store b.store) is.means fails;
-  reads = λ why. reads (plan_nothing z class s meant plan is why);
-  stops = stops;
-}
-
 -- a command that is answered by an error
 pub error_ends : {S : Type 0} (m : Meaning S) (law : IsLawful m) (z : Sizes) (class : Class) (s : State) (meant : Outcome) (e : Errno) (a b : Volume S) → IsAt m z s a → refuse s e ≡ meant
     → m.reads a.store b.store → b.table ≡ a.table → b.read_only ≡ a.read_only → b.stopped ≡ false → IsDone m z class s meant a b (replies.Error e)
@@ -157,10 +147,15 @@ refused_ends m law z class takes_none s meant a b told at takes reads same kept 
 ))
 refused_ends m law z class takes_none s meant a b told at takes reads same kept (inr lost) stops = inr (inr (record {
   reply = lost.0;
-  left = law.powerless_fails a.store b.store s.objects meant.state.objects reads lost.1;
-  reads = λ _. reads;
+  left = law.unread_fails a.store b.store s.objects meant.state.objects (law.powerless_unread a.store b.store reads lost.1);
+  unread = λ _. law.powerless_unread a.store b.store reads lost.1;
   stops = stops ∙ ap is_stop lost.0;
 }))
+
+-- such a store, where that stops the volume
+pub refused_unread : {S : Type 0} (m : Meaning S) (law : IsLawful m) (a b : S) (told : Reply) → m.reads a b → TellsRefusal m b told → is_stop told ≡ true → m.unread a b
+refused_unread m law a b told reads (inl refused) stop = absurd (true≢false (sym stop ∙ ap is_stop refused.0))
+refused_unread m law a b told reads (inr lost) stop = law.powerless_unread a b reads lost.1
 
 -- what leaves the device takes no memory
 pub leaves_frees : (w : StoreWork) → leaves_device w ≡ true → frees w ≡ true
@@ -184,6 +179,22 @@ ends_on m law z class frees takes_none s meant a b c told reads none (inr (inl p
 ends_on m law z class frees takes_none s meant a b c told reads none (inr (inr stopped)) = inr (inr (record {
   reply = stopped.reply;
   left = law.fails_on a.store b.store c.store s.objects meant.state.objects reads stopped.left;
-  reads = λ why. law.reads_on a.store b.store c.store reads (stopped.reads why);
+  unread = λ why. law.unread_on a.store b.store c.store reads (stopped.unread why);
   stops = stopped.stops;
 }))
+
+-- a command that tells, and that stops the volume, was ended by a read that failed
+pub stop_unread : {S : Type 0} (m : Meaning S) (z : Sizes) (takes_none : Bool) (s : State) (meant : Outcome) (a b : Volume S) (told : Reply) → is_stop meant.reply ≡ false → is_stop told ≡ true
+    → CommandEnds m z Telling takes_none s meant a b told → m.unread a.store b.store
+stop_unread m z takes_none s meant a b told goes stop (inl done) = absurd (true≢false (sym stop ∙ ap is_stop done.reply ∙ goes))
+stop_unread m z takes_none s meant a b told goes stop (inr (inl passed)) = absurd (true≢false (sym stop ∙ ap is_stop passed.1.reply))
+stop_unread m z takes_none s meant a b told goes stop (inr (inr stopped)) = stopped.unread (inl refl)
+
+-- a plan that is to do nothing is one of a command that tells
+pub nothing_tells : (z : Sizes) (class : Class) (s : State) (meant : Outcome) (plan : Plan) → IsPlan z class s meant plan → does_nothing plan.work ≡ true → IsPlan z Telling s meant plan
+nothing_tells z class s meant plan is none = record { means = is.means; can = is.can; range = is.range; suits = go plan.work none }
+  where
+    go : (w : StoreWork) → does_nothing w ≡ true → Suits Telling plan.reply w
+    go work.Nothing none = tt
+    go (work.Change change) none = let two : false ≡ true = none in absurd cc
+    go work.Commit none = let two : false ≡ true = none in absurd cc

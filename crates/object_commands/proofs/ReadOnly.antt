@@ -1,7 +1,7 @@
 -- What a command leaves of a read-only volume, whose descriptors may not write.
-use Rattle.std.specs.Prelude.{◌≡◌, ◌⊎◌, ℕ, Bool, true, false, not, ◌&&◌, ◌||◌, List, [], ◌∷◌, ◌++◌, Option, Some, None, Result, Ok, Err, cond, nat_eq, is_some, ℤ, pos, negsuc}
+use Rattle.std.specs.Prelude.{◌≡◌, ◌≢◌, ◌⊎◌, ℕ, Bool, true, false, not, ◌&&◌, ◌||◌, List, [], ◌∷◌, ◌++◌, Option, Some, None, Result, Ok, Err, cond, nat_eq, is_some, ℤ, pos, negsuc}
 use Rattle.std.proofs.Common.{refl, sym, ◌∙◌, ap, subst, inl, inr}
-use Rattle.std.proofs.lemmas.Bool.{or_cases, or_left, cond-true, cond-false, true≢false}
+use Rattle.std.proofs.lemmas.Bool.{eqb-true, or_cases, or_left, cond-true, cond-false, true≢false}
 use Rattle.std.specs.Cmp.{nat_cmp_total}
 use Rattle.std.specs.Ordering.{nat_cmp}
 use Rattle.std.specs.FinMap as map
@@ -16,7 +16,7 @@ use Rattle.posix_profile.specs.Outcomes.{Outcome, answer, refuse, refuse_or, unl
 use Rattle.posix_profile.specs.Paths.{Place, first_error, resolve}
 use Rattle.posix_profile.specs.Steps.{step_at, step}
 use Rattle.posix_profile.specs.laws.Map.{get_retained, insert_cases, remove_cases, retain_cases}
-use Rattle.posix_profile.specs.laws.Name.{open_from_test}
+use Rattle.posix_profile.specs.laws.Name.{named_from_test, open_from_test}
 use Rattle.posix_profile.specs.declared.command.Command.{Command}
 use Rattle.posix_profile.specs.declared.command.Command.TheVariants as commands
 use Rattle.posix_profile.specs.declared.command.OpenFlags.{OpenFlags}
@@ -24,8 +24,13 @@ use Rattle.posix_profile.specs.declared.command.Stamped.{Stamped}
 use Rattle.posix_profile.specs.declared.reply.Errno.{Errno}
 use Rattle.posix_profile.specs.declared.reply.Errno.TheVariants as errors
 use Rattle.posix_profile.specs.declared.reply.Reply.{Reply}
+use Rattle.posix_profile.specs.WellFormed.{IsNamed}
 use Rattle.object_store.specs.Stores.{settled}
+use Rattle.object_store.specs.declared.change.ObjectChange.TheVariants as changes
 use Rattle.command_plans.specs.Classes.{Telling, Changing, class_of, is_error, is_one, is_there, lead_to_one, makes_no_call, tells_if}
+use Rattle.command_plans.specs.Plans.{CanDo, does_nothing, leaves_device}
+use Rattle.command_plans.specs.declared.plan.StoreWork.{StoreWork}
+use Rattle.command_plans.specs.declared.plan.StoreWork.TheVariants as work
 use Rattle.object_commands.specs.Endings.{AreReading, StaysReading}
 
 -- a further descriptor that may not write
@@ -68,6 +73,22 @@ named_stay objects handles named = map.same_map nat_cmp_total map.nat_cmp-IsAnti
         let there : map.get (settled objects) o ≡ Some object = ap (λ (x : Objects). map.get x o) named ∙ is in
         get_retained nat_cmp_total map.nat_cmp-IsAntisymmetric objects (keep_test s) o
         ∙ cond-true _ _ _ (kept o (retain_cases nat_cmp_total map.nat_cmp-IsAntisymmetric objects (keep_test bare) o object there).0)
+
+-- nor can one be forgotten
+unforgotten : (objects : Objects) → settled objects ≡ objects → (o : ℕ) → (o ≢ root_number) × (IsNamed objects o → ⊥) × ((object : Object) × (map.get objects o ≡ Some object)) → ⊥
+unforgotten objects named o can = elim (or_cases (nat_eq o root_number || is_named objects o) (is_open bare o) kept) [
+  | inl has ↦ elim (or_cases (nat_eq o root_number) (is_named objects o) has) [
+    | inl top ↦ can.0 (eqb-true o root_number top)
+    | inr names ↦ can.1 (named_from_test objects o names)
+  ]
+  | inr open' ↦ let at = open_from_test bare o open' in let two : None ≡ Some at.1 = sym (map.get-empty nat_cmp at.0) ∙ at.2 in absurd cc
+]
+  where
+    bare : State
+    bare = record { objects = objects; handles = map.empty }
+
+    kept : keep_test bare o ≡ true
+    kept = (retain_cases nat_cmp_total map.nat_cmp-IsAntisymmetric objects (keep_test bare) o can.2.0 (ap (λ (x : Objects). map.get x o) named ∙ can.2.1)).0
 
 -- An outcome of a command, of which something is told or which is an error: the objects stay, and no descriptor may write.
 pub record Leaves (s : State) (told : Type 0) (o : Outcome) : Type 0 where
@@ -262,3 +283,10 @@ read_only_answers z s c read_only only reading named =
       | inl (inr none) ↦ inl none
       | inr error ↦ inr (inr error)
     ])
+
+-- Where each object has a name none can be forgotten: what can be done, and leaves the device, is nothing.
+pub forgets_none : (z : Sizes) (objects : Objects) → settled objects ≡ objects → (w : StoreWork) → CanDo z objects w → leaves_device w ≡ true → does_nothing w ≡ true
+forgets_none z objects named work.Nothing can leaves = refl
+forgets_none z objects named (work.Change (changes.Forget number)) can leaves = absurd (unforgotten objects named number can.sensible)
+forgets_none z objects named (work.Change change) can leaves = let two : false ≡ true = leaves in absurd cc
+forgets_none z objects named work.Commit can leaves = let two : false ≡ true = leaves in absurd cc

@@ -2,7 +2,7 @@
 use Rattle.std.specs.Prelude.{◌≡◌, ◌⊎◌, ◌||◌, ◌++◌, ◌+◌, ◌<◌, ◌≤◌, ℕ, zero, suc, Bool, true, false, List, [], ◌∷◌, length, take, All, Some, slice_get, get_or}
 use Rattle.std.specs.List.{list_any}
 use Rattle.std.proofs.Common.{refl, sym, ◌∙◌, ap, subst, inl, inr, arith}
-use Rattle.std.proofs.lemmas.Bool.{cases_Bool, true≢false, or_right}
+use Rattle.std.proofs.lemmas.Bool.{cases_Bool, true≢false, or_right, or_parts}
 use Rattle.std.proofs.lemmas.List.{append_assoc, append-nil, length_push, take-append-le, take_all}
 use Rattle.std.proofs.lemmas.List.Elements.{All-nil, All-cons, All-head, All-tail}
 use Rattle.posix_profile.specs.laws.Loss.{loss_more}
@@ -127,8 +127,9 @@ all_last P xs n x at all = all_next P xs n x at (subst (λ k. All P (take k xs))
 -- from a state
 ran_more : {S : Type 0} (m : Meaning S) (z : Sizes) (s : State) (cs : List Stamped) (rs : List Reply) (c : Stamped) (r : Reply) (a b d : Volume S) → slice_get cs (length rs) ≡ Some c
     → Ran m z s cs rs a b → b.stopped ≡ false → m.lasts a.store b.store → One m z a.read_only (after z a.read_only s cs rs) c r b d
-    → (a.read_only ≡ true → m.reads b.store d.store ⊎ m.leaves b.store d.store) → (makes_no_call c.command ≡ true → m.leaves b.store d.store) → IsLawful m → Ran m z s cs (rs ++ r ∷ []) a d
-ran_more m z s cs rs c r a b d at ran goes lasts one only leaves law =
+    → (a.read_only ≡ true → m.reads b.store d.store ⊎ m.leaves b.store d.store) → (a.read_only ≡ true → is_stop r ≡ true → m.unread b.store d.store) → (makes_no_call c.command ≡ true → m.leaves b.store d.store)
+    → IsLawful m → Ran m z s cs (rs ++ r ∷ []) a d
+ran_more m z s cs rs c r a b d at ran goes lasts one only unread leaves law =
     let now = after z a.read_only s cs rs in
     let none : list_any is_stop rs ≡ false = sym ran.stops ∙ goes in
     let more = after_more z a.read_only s cs rs c r at in
@@ -147,6 +148,7 @@ ran_more m z s cs rs c r a b d at ran goes lasts one only leaves law =
             let reads = ran.only (inr parts.0) in
             (suc reads.0, (b.store, reads.1, elim parts.1 [ inl tells ↦ inl (one.reads tells) | inr none ↦ inr (leaves none) ]))
       ];
+      unread = λ is stop. (b.store, unread is (sym one.stops ∙ stop));
     }
 
 -- once it is stopped
@@ -164,6 +166,7 @@ ran_stopped m z s cs rs c r a b d at ran stopped told same =
       power = λ refused. absurd (true≢false (sym refused ∙ refused_push rs r ∙ ap is_no_memory told));
       tells = λ each. ran.tells (each_last OnlyTells z a.read_only s cs rs c r at each).0;
       only = λ why. ran.only (elim why [ inl is ↦ inl is | inr each ↦ inr (each_last WritesNothing z a.read_only s cs rs c r at each).0 ]);
+      unread = ran.unread;
     })
 
 -- the run, with one reply more
@@ -171,9 +174,10 @@ pub runs_more : {S : Type 0} (m : Meaning S) (law : IsLawful m) (cs : List Stamp
     → Runs m cs n before now a b → slice_get cs n ≡ Some c → next ≡ now ++ r ∷ [] → b.read_only ≡ a.read_only → m.lasts a.store b.store
     → (b.stopped ≡ true → (r ≡ replies.Error errors.EIO) × (d ≡ b)) → (b.stopped ≡ false → d.stopped ≡ is_stop r)
     → (b.stopped ≡ false → (z : Sizes) (s : State) → IsAt m z s b → CommandEnds m z (class_of b.read_only s c.command) (takes_no_memory c.command) s (step z b.read_only s c) b d r)
-    → (b.read_only ≡ true → (z : Sizes) (s : State) → IsAt m z s b → m.reads b.store d.store ⊎ m.leaves b.store d.store) → (makes_no_call c.command ≡ true → m.leaves b.store d.store)
-    → Runs m cs (n + 1) before next a d
-runs_more m law cs n before now next c r a b d runs is pushed same lasts stays stops goes only leaves =
+    → (b.read_only ≡ true → (z : Sizes) (s : State) → IsAt m z s b → m.reads b.store d.store ⊎ m.leaves b.store d.store)
+    → (b.read_only ≡ true → b.stopped ≡ false → (z : Sizes) (s : State) → IsAt m z s b → is_stop r ≡ true → m.unread b.store d.store) → (makes_no_call c.command ≡ true → m.leaves b.store d.store)
+    → (is_stop r ≡ false → m.has_power b.store ≡ true → m.has_power d.store ≡ true) → Runs m cs (n + 1) before next a d
+runs_more m law cs n before now next c r a b d runs is pushed same lasts stays stops goes only unread leaves power =
     let at : slice_get cs (length runs.answered) ≡ Some c = ap (slice_get cs) runs.count ∙ is in
     record {
       answered = runs.answered ++ r ∷ [];
@@ -188,6 +192,9 @@ runs_more m law cs n before now next c r a b d runs is pushed same lasts stays s
       leaves = λ all.
           let parts = all_last (λ (k : Stamped). makes_no_call k.command ≡ true) cs n c is all in
           turn_more m.leaves n a.store b.store d.store (runs.leaves parts.0) (leaves parts.1);
+      power = λ none had.
+          let parts = or_parts (list_any is_stop runs.answered) (is_stop r) (sym (any_push is_stop runs.answered r) ∙ none) in
+          power parts.1 (runs.power parts.0 had);
       ran = λ going z s has.
           let ran = runs.ran going z s has in
           elim (cases_Bool b.stopped) [
@@ -198,7 +205,7 @@ runs_more m law cs n before now next c r a b d runs is pushed same lasts stays s
                 ran_more m z s cs runs.answered c r a b d at ran still lasts
                 (one_ends m law z a.read_only x c r b d (λ is. at_shown m z x b (ran.state still) (same ∙ is))
                 (subst (λ ro. CommandEnds m z (class_of ro x c.command) (takes_no_memory c.command) x (step z ro x c) b d r) same ended))
-                (λ is. only (same ∙ is) z x (ran.state still)) leaves law
+                (λ is. only (same ∙ is) z x (ran.state still)) (λ is. unread (same ∙ is) still z x (ran.state still)) leaves law
           ];
     }
 
@@ -214,6 +221,7 @@ runs_none m law cs before a = record {
   stops = sym (or_false a.stopped);
   stopped = λ stop. (tt, refl);
   leaves = λ all. refl;
+  power = λ none had. had;
   ran = λ going z s has. record {
     holds = tt;
     losses = λ t shown. inr (λ i done. absurd (none_at i done.1 done.3), shown);
@@ -223,6 +231,7 @@ runs_none m law cs before a = record {
     power = λ refused. let two : false ≡ true = refused in absurd cc;
     tells = λ each. law.reads_nothing a.store;
     only = λ why. (zero, refl);
+    unread = λ is stop. absurd (true≢false (sym stop ∙ going));
   };
 }
 

@@ -63,11 +63,11 @@ abbrev pub TellsRefusal : {S : Type 0} (m : Meaning S) → S → Reply → Type 
 TellsRefusal m b told = ((told ≡ replies.Error errors.ENOMEM) × (m.has_power b ≡ true)) ⊎ ((told ≡ replies.Error errors.EIO) × (m.has_power b ≡ false))
 
 -- The store has failed, and the volume is stopped. A command that tells, and one that is meant to be answered by an error, only
--- read.
+-- read, and a read failed.
 pub record IsStopped {S : Type 0} (m : Meaning S) (class : Class) (s : State) (meant : Outcome) (a b : Volume S) (told : Reply) : Type 0 where
   pub reply : told ≡ replies.Error errors.EIO
   pub left : m.fails s.objects meant.state.objects a.store b.store
-  pub reads : (class ≡ Telling) ⊎ (is_error meant.reply ≡ true) → m.reads a.store b.store
+  pub unread : (class ≡ Telling) ⊎ (is_error meant.reply ≡ true) → m.unread a.store b.store
   pub stops : b.stopped ≡ true
 
 -- how a command that means this ends; one that takes no memory is not passed over for it

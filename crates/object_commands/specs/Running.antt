@@ -63,7 +63,7 @@ pub record Failure {S : Type 0} (m : Meaning S) (z : Sizes) (read_only : Bool) (
 -- the volume is stopped exactly where a reply is EIO, and then for a failure of the store, and else it stands for the state
 -- after the commands that were answered. Where the last of them was refused memory the device has power. The store was only read
 -- where each of them only tells at its state; and it was only read, or its device left, of a read-only volume, and where each of
--- them only tells or makes no call.
+-- them only tells or makes no call. A read-only volume is stopped only where a read failed.
 pub record Ran {S : Type 0} (m : Meaning S) (z : Sizes) (s : State) (commands : List Stamped) (answered : List Reply) (a b : Volume S) : Type 0 where
   pub holds : RunHolds z (is_read_only a) s commands answered
   pub losses : (tree : Objects) → m.shows (store_of a) tree → LossLeaves (m.shows (store_of b)) tree z (is_read_only a) s commands answered
@@ -73,10 +73,11 @@ pub record Ran {S : Type 0} (m : Meaning S) (z : Sizes) (s : State) (commands : 
   pub power : ends_refused answered ≡ true → m.has_power (store_of b) ≡ true
   pub tells : EachAnswered OnlyTells z (is_read_only a) s commands answered → m.reads (store_of a) (store_of b)
   pub only : (is_read_only a ≡ true) ⊎ EachAnswered WritesNothing z (is_read_only a) s commands answered → (n : ℕ) × ReadsInTurn m n (store_of a) (store_of b)
+  pub unread : is_read_only a ≡ true → is_stopped b ≡ true → (x : S) × m.unread x (store_of b)
 
 -- So many of the commands are answered, behind the old replies, and after EIO each by EIO: the volume is stopped afterwards
 -- exactly where it was before or a reply is EIO. On a stopped volume all are EIO, and it stays as it was. Commands that make no
--- call leave the device as it is, whatever the state.
+-- call leave the device as it is, whatever the state. Where no reply is EIO the device has power if it had it before.
 pub record Runs {S : Type 0} (m : Meaning S) (commands : List Stamped) (n : ℕ) (before now : List Reply) (a b : Volume S) : Type 0 where
   pub answered : List Reply
   pub count : length answered ≡ n
@@ -85,4 +86,5 @@ pub record Runs {S : Type 0} (m : Meaning S) (commands : List Stamped) (n : ℕ)
   pub stops : is_stopped b ≡ (is_stopped a || list_any is_stop answered)
   pub stopped : is_stopped a ≡ true → AllStopped answered × (b ≡ a)
   pub leaves : All (λ (stamped : Stamped). makes_no_call stamped.command ≡ true) (take n commands) → InTurn m.leaves n (store_of a) (store_of b)
+  pub power : list_any is_stop answered ≡ false → m.has_power (store_of a) ≡ true → m.has_power (store_of b) ≡ true
   pub ran : is_stopped a ≡ false → (z : Sizes) (s : State) → IsAt m z s a → Ran m z s commands answered a b

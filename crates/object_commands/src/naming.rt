@@ -10,6 +10,7 @@ ghost use Rattle.posix_profile.specs.laws.Path.{IsPlace};
 ghost use Rattle.posix_profile.specs.Paths.{resolve};
 ghost use Rattle.path_walk.specs.Places.{place_of};
 ghost use Rattle.object_store.specs.Changes.{without, NamesNothing};
+ghost use Rattle.object_store.specs.Stores.{KeepsPower};
 ghost use Rattle.command_plans.specs.Classes.{Changing};
 ghost use Rattle.object_commands.specs.Names.{Unnames, LeadsHere, EndsInName, rmdir_named, rmdir_at};
 ghost use Rattle.command_plans.specs.Plans.{Holds, Plans, Tries, IsPlan};
@@ -78,6 +79,7 @@ pub(crate) fn mkdir<'a, S: ObjectStore>(
     path: &'a [u8],
 ) -> Result<Plan<'a>, Refusal>
     ensures reads { S.meaning.reads store.old store.new }
+    ensures power { KeepsPower S.meaning store.old store.new result }
     ensures plans { (z : Sizes) (s : State) → Holds S.meaning z s store.old
         → Plans S.meaning z Changing s (mkdir_step z read_only moment s path.now) store.old store.new result }
 {
@@ -157,6 +159,7 @@ pub(crate) fn unlink<'a, S: ObjectStore>(
     path: &'a [u8],
 ) -> Result<Plan<'a>, Refusal>
     ensures reads { S.meaning.reads store.old store.new }
+    ensures power { KeepsPower S.meaning store.old store.new result }
     ensures plans { (z : Sizes) (s : State) → Holds S.meaning z s store.old → handles_in table.now ≡ s.handles
         → Plans S.meaning z Changing s (unlink_step read_only moment s path.now) store.old store.new result }
 {
@@ -244,6 +247,7 @@ pub(crate) fn rmdir<'a, S: ObjectStore>(
     path: &'a [u8],
 ) -> Result<Plan<'a>, Refusal>
     ensures reads { S.meaning.reads store.old store.new }
+    ensures power { KeepsPower S.meaning store.old store.new result }
     ensures plans { (z : Sizes) (s : State) → Holds S.meaning z s store.old → handles_in table.now ≡ s.handles
         → Plans S.meaning z Changing s (rmdir_step read_only moment s path.now) store.old store.new result }
 {
@@ -308,6 +312,7 @@ fn link_to<'a, S: ObjectStore>(
     new: &'a [u8],
 ) -> Result<Plan<'a>, Refusal>
     ensures reads { S.meaning.reads store.old store.new }
+    ensures power { KeepsPower S.meaning store.old store.new result }
     ensures plans { (z : Sizes) (s : State) → Holds S.meaning z s store.old → IsFile s.objects number
         → Plans S.meaning z Changing s (at_place s (resolve s.objects new.now) (λ to. link_at z read_only moment s number to to.object)) store.old store.new result }
 {
@@ -325,6 +330,7 @@ pub(crate) fn link<'a, S: ObjectStore>(
     new: &'a [u8],
 ) -> Result<Plan<'a>, Refusal>
     ensures reads { S.meaning.reads store.old store.new }
+    ensures power { KeepsPower S.meaning store.old store.new result }
     ensures plans { (z : Sizes) (s : State) → Holds S.meaning z s store.old
         → Plans S.meaning z Changing s (link_step z read_only moment s old.now new.now) store.old store.new result }
 {

@@ -9,6 +9,7 @@ ghost use Rattle.posix_profile.specs.laws.Sound.{IsSound};
 ghost use Rattle.posix_profile.specs.HandleSteps.{may_write, open_found, open_absent, open_at, open_step, close_step};
 ghost use Rattle.path_walk.specs.Places.{place_of};
 ghost use Rattle.posix_profile.specs.Paths.{resolve};
+ghost use Rattle.object_store.specs.Stores.{KeepsPower};
 ghost use Rattle.command_plans.specs.Classes.{Changing, is_there, tells_if};
 ghost use Rattle.command_plans.specs.Plans.{Holds, Plans, Tries, Frees, LeavesDevice, CanDo, Suits, worked, frees, leaves_device};
 ghost use Rattle.object_commands.specs.Opens.{open_found_on, open_absent_on, cut_by, opened};
@@ -264,6 +265,7 @@ pub(crate) fn open<'a, S: ObjectStore>(
     flags: OpenFlags,
 ) -> Result<Plan<'a>, Refusal>
     ensures reads { S.meaning.reads store.old store.new }
+    ensures power { KeepsPower S.meaning store.old store.new result }
     ensures plans { (z : Sizes) (s : State) → Holds S.meaning z s store.old → handles_in table.now ≡ s.handles
         → Plans S.meaning z (tells_if (is_there (resolve s.objects path.now) && not flags.trunc) Changing) s (open_step z read_only moment s path.now flags) store.old store.new result }
 {

@@ -13,7 +13,7 @@ ghost use Rattle.volume_terms.specs.Sizes.{Sizes};
 ghost use Rattle.posix_profile.specs.State.{Object, Objects, State, IsDirectory, is_directory, entries_of};
 ghost use Rattle.path_walk.specs.Places.{place_of};
 ghost use Rattle.object_store.specs.Changes.{NamesNothing};
-ghost use Rattle.object_store.specs.Stores.{Has};
+ghost use Rattle.object_store.specs.Stores.{Has, KeepsPower};
 ghost use Rattle.command_plans.specs.Classes.{Changing, is_one, lead_to_one, tells_if};
 ghost use Rattle.object_commands.specs.Names.{EndsInName, rename_onto, rename_places};
 ghost use Rattle.command_plans.specs.Plans.{Holds, IsPlan, Plans, Tries};
@@ -301,6 +301,7 @@ pub(crate) fn rename<'a, S: ObjectStore>(
     new: &'a [u8],
 ) -> Result<Plan<'a>, Refusal>
     ensures reads { S.meaning.reads store.old store.new }
+    ensures power { KeepsPower S.meaning store.old store.new result }
     ensures plans { (z : Sizes) (s : State) → Holds S.meaning z s store.old → handles_in table.now ≡ s.handles
         → Plans S.meaning z (tells_if (lead_to_one (resolve s.objects old.now) (resolve s.objects new.now)) Changing) s (rename_step z read_only moment s old.now new.now) store.old store.new result }
 {

@@ -6,6 +6,7 @@ ghost use Rattle.posix_profile.specs.State.{IsFile, State};
 ghost use Rattle.posix_profile.specs.HandleSteps.{at_file, may_read, read_step, seek_origin, seek_to, seek_step};
 ghost use Rattle.posix_profile.specs.NameSteps.{stat_step, list_step, space_step};
 ghost use Rattle.object_store.specs.Facts.{bytes_of};
+ghost use Rattle.object_store.specs.Stores.{KeepsPower};
 ghost use Rattle.command_plans.specs.Classes.{Telling};
 ghost use Rattle.command_plans.specs.Plans.{Holds, Plans, Tries, Frees, LeavesDevice, IsPlan, frees, leaves_device};
 ghost use Rattle.object_commands.specs.Reads.{read_of};
@@ -29,6 +30,7 @@ pub(crate) fn stat<'a, S: ObjectStore>(
     path: &[u8],
 ) -> Result<Plan<'a>, Refusal>
     ensures reads { S.meaning.reads store.old store.new }
+    ensures power { KeepsPower S.meaning store.old store.new result }
     ensures plans { (z : Sizes) (s : State) → Holds S.meaning z s store.old
         → Plans S.meaning z Telling s (stat_step s path.now) store.old store.new result }
 {
@@ -46,6 +48,7 @@ pub(crate) fn list<'a, S: ObjectStore>(
     path: &[u8],
 ) -> Result<Plan<'a>, Refusal>
     ensures reads { S.meaning.reads store.old store.new }
+    ensures power { KeepsPower S.meaning store.old store.new result }
     ensures plans { (z : Sizes) (s : State) → Holds S.meaning z s store.old
         → Plans S.meaning z Telling s (list_step s path.now) store.old store.new result }
 {
@@ -77,6 +80,7 @@ fn read_file<'a, S: ObjectStore>(
     count: u32,
 ) -> Result<Plan<'a>, Refusal>
     ensures reads { S.meaning.reads store.old store.new }
+    ensures power { KeepsPower S.meaning store.old store.new result }
     ensures plans { (z : Sizes) (s : State) → Holds S.meaning z s store.old → IsFile s.objects description.object → map.get s.handles fd ≡ Some (handle_of description)
         → Plans S.meaning z Telling s (read_of s fd (handle_of description) count (bytes_of (map.get s.objects description.object))) store.old store.new result }
 {
@@ -106,6 +110,7 @@ fn read_open<'a, S: ObjectStore>(
     count: u32,
 ) -> Result<Plan<'a>, Refusal>
     ensures reads { S.meaning.reads store.old store.new }
+    ensures power { KeepsPower S.meaning store.old store.new result }
     ensures plans { (z : Sizes) (s : State) → Holds S.meaning z s store.old → map.get s.handles fd ≡ Some (handle_of description)
         → Plans S.meaning z Telling s (at_file s (map.get s.objects description.object) Errno.EISDIR (read_of s fd (handle_of description) count)) store.old store.new result }
 {
@@ -124,6 +129,7 @@ pub(crate) fn read<'a, S: ObjectStore>(
     count: u32,
 ) -> Result<Plan<'a>, Refusal>
     ensures reads { S.meaning.reads store.old store.new }
+    ensures power { KeepsPower S.meaning store.old store.new result }
     ensures plans { (z : Sizes) (s : State) → Holds S.meaning z s store.old → handles_in table.now ≡ s.handles
         → Plans S.meaning z Telling s (read_step s fd count) store.old store.new result }
 {

@@ -13,7 +13,7 @@ ghost use Rattle.posix_profile.specs.Steps.{step};
 ghost use Rattle.posix_profile.specs.declared.reply.Errno.TheVariants as errors;
 ghost use Rattle.posix_profile.specs.declared.reply.Reply.TheVariants as replies;
 ghost use Rattle.posix_profile.specs.declared.reply.Reply.{Reply};
-ghost use Rattle.object_store.specs.Stores.{Has};
+ghost use Rattle.object_store.specs.Stores.{Has, KeepsPower};
 ghost use Rattle.volume_terms.specs.declared.fault.StoreFault.TheVariants as faults;
 ghost use Rattle.command_plans.specs.Classes.{Class, class_of, makes_no_call};
 ghost use Rattle.command_plans.specs.Plans.{Holds, Plans, Works, IsPlan, TakesNone, LeavesDevice, CanDo, InRange, does_nothing, frees, leaves_device, handled};
@@ -50,6 +50,7 @@ fn plan<'a, S: ObjectStore>(
     stamped: &'a Stamped,
 ) -> Result<Plan<'a>, Refusal>
     ensures reads { S.meaning.reads store.old store.new }
+    ensures power { KeepsPower S.meaning store.old store.new result }
     ensures plans { (z : Sizes) (s : State) → Holds S.meaning z s store.old → handles_in table.now ≡ s.handles
         → Plans S.meaning z (class_of read_only s stamped.now.command) s (step z read_only s stamped.now) store.old store.new result }
     ensures memory { takes_no_memory stamped.now.command ≡ true → TakesNone result }
@@ -95,9 +96,11 @@ fn plan<'a, S: ObjectStore>(
 fn work<S: ObjectStore>(store: &mut S, asked: &StoreWork<'_>) -> Result<(), StoreFault>
     ensures lasts { S.meaning.lasts store.old store.new }
     ensures reads { does_nothing asked.now ≡ true → S.meaning.reads store.old store.new }
+    ensures power { OnOk result (S.meaning.has_power store.new ≡ S.meaning.has_power store.old) }
     ensures leaves { leaves_device asked.now ≡ true → S.meaning.leaves store.old store.new }
     ensures works { (z : Sizes) (objects : Objects) → Has S.meaning z objects store.old → CanDo z objects asked.now
         → Works S.meaning objects asked.now store.old store.new result }
+    ensures fails { IfErr result (λ fault. does_nothing asked.now ≡ false) }
     ensures memory { frees asked.now ≡ true → result ≡ Err faults.NoMemory → ⊥ }
 {
     match asked {
@@ -227,6 +230,8 @@ impl<S: ObjectStore> Volume<S> {
     fn carry_out(&mut self, plan: Plan<'_>) -> Reply
         ensures keeps { is_read_only self.new ≡ is_read_only self.old }
         ensures lasts { S.meaning.lasts (store_of self.old) (store_of self.new) }
+        // A reply other than EIO is given by a device that has not lost its power in the command.
+        ensures power { is_stop result ≡ false → S.meaning.has_power (store_of self.old) ≡ true → S.meaning.has_power (store_of self.new) ≡ true }
         ensures reads { does_nothing plan.entry.work ≡ true → S.meaning.reads (store_of self.old) (store_of self.new) }
         ensures leaves { leaves_device plan.entry.work ≡ true → S.meaning.leaves (store_of self.old) (store_of self.new) }
         ensures ends { (z : Sizes) (s : State) → IsAt S.meaning z s self.old
@@ -249,9 +254,14 @@ impl<S: ObjectStore> Volume<S> {
     fn answer(&mut self, stamped: &Stamped) -> Reply
         ensures keeps { is_read_only self.new ≡ is_read_only self.old }
         ensures lasts { S.meaning.lasts (store_of self.old) (store_of self.new) }
+        // A reply other than EIO is given by a device that has not lost its power in the command.
+        ensures power { is_stop result ≡ false → S.meaning.has_power (store_of self.old) ≡ true → S.meaning.has_power (store_of self.new) ≡ true }
         ensures leaves { makes_no_call stamped.now.command ≡ true → S.meaning.leaves (store_of self.old) (store_of self.new) }
         ensures only { is_read_only self.old ≡ true → (z : Sizes) (s : State) → IsAt S.meaning z s self.old
             → S.meaning.reads (store_of self.old) (store_of self.new) ⊎ S.meaning.leaves (store_of self.old) (store_of self.new) }
+        // A read-only volume stops only where a read failed.
+        ensures unread { is_read_only self.old ≡ true → (z : Sizes) (s : State) → IsAt S.meaning z s self.old → is_stop result ≡ true
+            → S.meaning.unread (store_of self.old) (store_of self.new) }
         ensures ends { (z : Sizes) (s : State) → IsAt S.meaning z s self.old
             → CommandEnds S.meaning z (class_of (is_read_only self.old) s stamped.now.command) (takes_no_memory stamped.now.command) s (step z (is_read_only self.old) s stamped.now)
             self.old (record self.new { stopped = is_stop result }) result }
@@ -276,9 +286,14 @@ impl<S: ObjectStore> Volume<S> {
     pub fn call(&mut self, stamped: &Stamped) -> Reply
         ensures keeps { is_read_only self.new ≡ is_read_only self.old }
         ensures lasts { S.meaning.lasts (store_of self.old) (store_of self.new) }
+        // A reply other than EIO is given by a device that has not lost its power in the command.
+        ensures power { is_stop result ≡ false → S.meaning.has_power (store_of self.old) ≡ true → S.meaning.has_power (store_of self.new) ≡ true }
         ensures leaves { makes_no_call stamped.now.command ≡ true → S.meaning.leaves (store_of self.old) (store_of self.new) }
         ensures only { is_read_only self.old ≡ true → (z : Sizes) (s : State) → IsAt S.meaning z s self.old
             → S.meaning.reads (store_of self.old) (store_of self.new) ⊎ S.meaning.leaves (store_of self.old) (store_of self.new) }
+        // A read-only volume stops only where a read failed.
+        ensures unread { is_read_only self.old ≡ true → is_stopped self.old ≡ false → (z : Sizes) (s : State) → IsAt S.meaning z s self.old → is_stop result ≡ true
+            → S.meaning.unread (store_of self.old) (store_of self.new) }
         ensures stopped { is_stopped self.old ≡ true → (result ≡ replies.Error errors.EIO) × (self.new ≡ self.old) }
         ensures stops { is_stopped self.old ≡ false → is_stopped self.new ≡ is_stop result }
         ensures ends { is_stopped self.old ≡ false → (z : Sizes) (s : State) → IsAt S.meaning z s self.old

@@ -60,7 +60,7 @@ IsSensible z objects (changes.Remove entry dropped moment) = (o : ℕ) × LeadsT
 IsSensible z objects (changes.Move from to number dropped moment) = LeadsTo objects from number × IsTarget objects to number dropped
 IsSensible z objects (changes.Write number offset bytes moment) = IsFile objects number × (offset + length bytes.now ≤ greatest_length z) × (length bytes.now ≤ most_written z)
 IsSensible z objects (changes.Resize number length moment) = IsFile objects number × (length ≤ greatest_length z)
-IsSensible z objects (changes.Forget number) = (number ≢ root_number) × (IsNamed objects number → ⊥)
+IsSensible z objects (changes.Forget number) = (number ≢ root_number) × (IsNamed objects number → ⊥) × ((object : Object) × (map.get objects number ≡ Some object))
 
 -- the object that goes with a change, if one does
 abbrev pub dropped_by : ObjectChange → Option ℕ

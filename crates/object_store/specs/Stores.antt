@@ -17,8 +17,9 @@ abbrev pub settled : Objects → Objects
 settled objects = (settle (record { objects = objects; handles = map.empty })).objects
 
 -- What a store stands for: the numbers of its volume, its objects, the tree that a mount would show, and whether its device has
--- power. And what is left by every call, by a call that leaves the device as it is, by calls that only read, by a done change from these objects to those,
--- by a call that the device ended, which was to make those of these, and by a done commit of these objects.
+-- power. And what is left by every call, by a call that leaves the device as it is, by calls that only read, by calls that only read
+-- and of which the last failed, by a done change from these objects to those, by a call that the device ended, which was to make
+-- those of these, and by a done commit of these objects.
 pub record Meaning (S : Type 0) : Type 1 where
   pub sizes : S → Sizes
   pub stands : S → Objects → Type 0
@@ -27,6 +28,7 @@ pub record Meaning (S : Type 0) : Type 1 where
   pub lasts : S → S → Type 0
   pub leaves : S → S → Type 0
   pub reads : S → S → Type 0
+  pub unread : S → S → Type 0
   pub changes : Objects → Objects → S → S → Type 0
   pub fails : Objects → Objects → S → S → Type 0
   pub commits : Objects → S → S → Type 0
@@ -36,8 +38,8 @@ abbrev pub KeepsOrSettles : {S : Type 0} (m : Meaning S) → Objects → S → S
 KeepsOrSettles m objects a b = (tree : Objects) → m.shows a tree → m.shows b tree ⊎ m.shows b (settled objects)
 
 -- Without a call the device is left. Reads leave what was, and reads before a call do not matter. A change, and a call that
--- fails, leave the tree that a mount shows or settle the objects that were; a done commit settles them. A call that only read
--- has failed where the power went.
+-- fails, leave the tree that a mount shows or settle the objects that were; a done commit settles them. Where a read failed the
+-- call has, and where the power went in a read it failed.
 pub record IsLawful {S : Type 0} (m : Meaning S) : Type 0 where
   pub leaves_nothing : (a : S) → m.leaves a a
   pub reads_nothing : (a : S) → m.reads a a
@@ -50,8 +52,10 @@ pub record IsLawful {S : Type 0} (m : Meaning S) : Type 0 where
   pub changes_on : (a b c : S) (old new : Objects) → m.reads a b → m.changes old new b c → m.changes old new a c
   pub changes_shows : (a b : S) (old new : Objects) → m.changes old new a b → KeepsOrSettles m old a b
   pub fails_on : (a b c : S) (old new : Objects) → m.reads a b → m.fails old new b c → m.fails old new a c
-  pub fails_wide : (a b : S) (old new : Objects) → m.fails old old a b → m.fails old new a b
-  pub powerless_fails : (a b : S) (old new : Objects) → m.reads a b → m.has_power b ≡ false → m.fails old new a b
+  pub unread_on : (a b c : S) → m.reads a b → m.unread b c → m.unread a c
+  pub unread_reads : (a b : S) → m.unread a b → m.reads a b
+  pub unread_fails : (a b : S) (old new : Objects) → m.unread a b → m.fails old new a b
+  pub powerless_unread : (a b : S) → m.reads a b → m.has_power b ≡ false → m.unread a b
   pub fails_shows : (a b : S) (old new : Objects) → m.fails old new a b → KeepsOrSettles m old a b
   pub commits_on : (a b c : S) (objects : Objects) → m.reads a b → m.commits objects b c → m.commits objects a c
   pub commits_shows : (a b : S) (objects : Objects) → m.commits objects a b → m.shows b (settled objects)
@@ -76,10 +80,17 @@ Faults m old new a b faults.NoMemory = m.reads a b
 Faults m old new a b faults.Device = m.fails old new a b
 Faults m old new a b faults.Worn = m.fails old new a b
 
+-- What a fault of a call that reads leaves: reads alone where memory was refused, else what a read left that failed. Nothing is
+-- worn by it.
+abbrev pub ReadFaults : {S : Type 0} (m : Meaning S) → S → S → StoreFault → Type 0
+ReadFaults m a b faults.NoMemory = m.reads a b
+ReadFaults m a b faults.Device = m.unread a b
+ReadFaults m a b faults.Worn = ⊥
+
 -- the answer of a call that reads
-abbrev pub Finds : {S A : Type 0} (m : Meaning S) → Objects → A → S → S → Result A StoreFault → Type 0
-Finds m objects meant a b (Ok found) = found ≡ meant
-Finds m objects meant a b (Err fault) = Faults m objects objects a b fault
+abbrev pub Finds : {S A : Type 0} (m : Meaning S) → A → S → S → Result A StoreFault → Type 0
+Finds m meant a b (Ok found) = found ≡ meant
+Finds m meant a b (Err fault) = ReadFaults m a b fault
 
 -- the end of a change
 abbrev pub Applies : {S : Type 0} (m : Meaning S) → Objects → Objects → S → S → Result (Unit {0}) StoreFault → Type 0
@@ -91,8 +102,14 @@ abbrev pub Commits : {S : Type 0} (m : Meaning S) → Objects → S → S → Re
 Commits m objects a b (Ok done) = m.stands b objects × m.commits objects a b
 Commits m objects a b (Err fault) = Faults m objects objects a b fault
 
--- what is told of a value, or of an error, unless the store has a fault
-abbrev pub Tells : {S A : Type 0} (m : Meaning S) → Objects → S → S → (A → Type 0) → (Errno → Type 0) → Result A Refusal → Type 0
-Tells m objects a b P Q (Ok x) = P x
-Tells m objects a b P Q (Err (refusals.Fault fault)) = Faults m objects objects a b fault
-Tells m objects a b P Q (Err (refusals.Error error)) = Q error
+-- what is told of a value, or of an error, unless a read failed or was refused memory
+abbrev pub Tells : {S A : Type 0} (m : Meaning S) → S → S → (A → Type 0) → (Errno → Type 0) → Result A Refusal → Type 0
+Tells m a b P Q (Ok x) = P x
+Tells m a b P Q (Err (refusals.Fault fault)) = ReadFaults m a b fault
+Tells m a b P Q (Err (refusals.Error error)) = Q error
+
+-- the device has power where it had it, unless the store has a fault
+abbrev pub KeepsPower : {S A : Type 0} (m : Meaning S) → S → S → Result A Refusal → Type 0
+KeepsPower m a b (Ok x) = m.has_power b ≡ m.has_power a
+KeepsPower m a b (Err (refusals.Fault fault)) = Unit {0}
+KeepsPower m a b (Err (refusals.Error error)) = m.has_power b ≡ m.has_power a

@@ -1,5 +1,5 @@
 // A store of objects.
-ghost use Rattle.std.specs.Prelude.{◌≡◌, true, Err, take, drop};
+ghost use Rattle.std.specs.Prelude.{◌≡◌, true, Err, OnOk, take, drop};
 ghost use Rattle.std.specs.FinMap as map;
 ghost use Rattle.volume_terms.specs.Sizes.{Sizes};
 ghost use Rattle.posix_profile.specs.State.{Objects, IsFile, IsDirectory, entries_of};
@@ -56,14 +56,16 @@ pub trait ObjectStore {
     /// The object that a name of a directory leads to.
     fn find(&mut self, directory: u64, name: &[u8]) -> Result<Option<u64>, StoreFault>
         ensures reads { meaning.reads self.old self.new }
+        ensures power { OnOk result (meaning.has_power self.new ≡ meaning.has_power self.old) }
         ensures finds { (z : Sizes) (objects : Objects) → Has meaning z objects self.old → IsDirectory objects directory
-            → Finds meaning objects (map.get (entries_of (map.get objects directory)) name.now) self.old self.new result };
+            → Finds meaning (map.get (entries_of (map.get objects directory)) name.now) self.old self.new result };
 
     /// The names of a directory, in the order of their bytes.
     fn names(&mut self, alloc: Global, directory: u64) -> Result<NameList, StoreFault>
         ensures reads { meaning.reads self.old self.new }
+        ensures power { OnOk result (meaning.has_power self.new ≡ meaning.has_power self.old) }
         ensures finds { (z : Sizes) (objects : Objects) → Has meaning z objects self.old → IsDirectory objects directory
-            → Finds meaning objects (map.keys (entries_of (map.get objects directory))) self.old self.new result };
+            → Finds meaning (map.keys (entries_of (map.get objects directory))) self.old self.new result };
 
     /// The bytes of a file from the offset, at most so many.
     fn read(
@@ -74,12 +76,14 @@ pub trait ObjectStore {
         count: u32,
     ) -> Result<Bytes, StoreFault>
         ensures reads { meaning.reads self.old self.new }
+        ensures power { OnOk result (meaning.has_power self.new ≡ meaning.has_power self.old) }
         ensures finds { (z : Sizes) (objects : Objects) → Has meaning z objects self.old → IsFile objects file
-            → Finds meaning objects (take count (drop offset (bytes_of (map.get objects file)))) self.old self.new result };
+            → Finds meaning (take count (drop offset (bytes_of (map.get objects file)))) self.old self.new result };
 
     /// Makes a change. One that only forgets an object takes no memory and leaves the device as it is.
     fn apply(&mut self, change: &ObjectChange<'_>) -> Result<(), StoreFault>
         ensures lasts { meaning.lasts self.old self.new }
+        ensures power { OnOk result (meaning.has_power self.new ≡ meaning.has_power self.old) }
         ensures leaves { takes_none change.now ≡ true → meaning.leaves self.old self.new }
         ensures applies { (z : Sizes) (objects : Objects) → Has meaning z objects self.old → CanMake z objects change.now
             → Applies meaning objects (made objects change.now) self.old self.new result }
@@ -88,6 +92,7 @@ pub trait ObjectStore {
     /// Makes the objects, without those that only descriptors keep, the tree that a mount shows.
     fn commit(&mut self) -> Result<(), StoreFault>
         ensures lasts { meaning.lasts self.old self.new }
+        ensures power { OnOk result (meaning.has_power self.new ≡ meaning.has_power self.old) }
         ensures commits { (z : Sizes) (objects : Objects) → Has meaning z objects self.old
             → Commits meaning objects self.old self.new result }
         ensures memory { result ≡ Err faults.NoMemory → ⊥ };

@@ -123,6 +123,7 @@ module _ {P : Type 0} (state : P → PagesState) where
     losses = λ tree shown. losses_from (ran.losses tree (shown_to state z a tree is shown));
     cause = λ stop. (ran.failure stop).fails.0.cause;
     state_is = λ goes. is_volume state z _ b (ran.state goes);
+    only_failed = λ only stop. (ran.unread only stop).1.1;
     power = λ refused. powered _ (ran.power refused);
     tells = λ each. (ran.tells each).0;
     only_reads = λ why. let reads = ran.only why in reads_all reads.0 a.volume.store b.volume.store reads.1;
@@ -143,6 +144,7 @@ module _ {P : Type 0} (state : P → PagesState) where
     stops = runs.stops;
     stopped = λ stop. let was = runs.stopped stop in (was.0, same_volume a b was.1);
     leaves = λ all. leaves_all n a.volume.store b.volume.store (runs.leaves all);
+    power = λ none was. powered _ (runs.power none (ap not was));
     ran = λ goes z s is. ran_pages z s commands runs.answered a b is.sizes same (runs.ran goes z s (is_at state z s a is));
   }
 

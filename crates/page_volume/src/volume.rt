@@ -12,7 +12,7 @@ ghost use Rattle.posix_profile.specs.declared.reply.Reply.TheVariants as replies
 ghost use Rattle.object_store.specs.Stores.{settled};
 ghost use Rattle.object_table.specs.Told.{table_sizes, Tells};
 ghost use Rattle.command_plans.specs.Classes.{makes_no_call};
-ghost use Rattle.pages.specs.Stores.{GoesOn};
+ghost use Rattle.pages.specs.Stores.{GoesOn, HasFailed};
 ghost use Rattle.paged_objects.specs.Ending.{StaysAs, HasEnded};
 ghost use Rattle.paged_objects.specs.Standing.{StandsFor, Shown};
 
@@ -79,12 +79,17 @@ impl<P: PageStore> PageVolume<P> {
         // Where memory was refused the device has power.
         ensures power { is_stopped self.old ≡ false → (z : Sizes) (s : State) → IsVolumeOf P.state z s self.old → result ≡ replies.Error errors.ENOMEM
             → (P.state (pages_of self.new)).device.gone ≡ false }
+        // A reply other than EIO is given by a device that has not lost its power in the command.
+        ensures keeps_power { is_stop result ≡ false → (P.state (pages_of self.old)).device.gone ≡ false → (P.state (pages_of self.new)).device.gone ≡ false }
         // What only tells, what is meant to be answered by an error, and what was refused memory leave the pages.
         ensures reads { is_stopped self.old ≡ false → (z : Sizes) (s : State) → IsVolumeOf P.state z s self.old → OnlyTells z (is_read_only self.old) s stamped.now result
             → StaysAs (P.state (pages_of self.old)) (P.state (pages_of self.new)) }
         // The device of a read-only volume is only read.
         ensures only_reads { is_read_only self.old ≡ true → (z : Sizes) (s : State) → IsVolumeOf P.state z s self.old
             → OnlyReads (P.state (pages_of self.old)).device (P.state (pages_of self.new)).device }
+        // And nothing stops it but a device that is gone or not honest.
+        ensures only_failed { is_read_only self.old ≡ true → is_stopped self.old ≡ false → (z : Sizes) (s : State) → IsVolumeOf P.state z s self.old → is_stop result ≡ true
+            → HasFailed (P.state (pages_of self.new)).device }
     {
         self.volume.call(stamped)
     }
@@ -106,6 +111,8 @@ impl<P: PageStore> PageVolume<P> {
         ensures stopped { is_stopped self ≡ true → (result.1 ≡ replies.Error errors.EIO) × (P.state result.0 ≡ P.state (pages_of self)) }
         ensures read_only { is_read_only self ≡ true → P.state result.0 ≡ P.state (pages_of self) }
         ensures replies { is_stopped self ≡ false → (result.1 ≡ replies.Done) ⊎ (result.1 ≡ replies.Error errors.EIO) }
+        // Done is answered by a device that has not lost its power at the end.
+        ensures power { result.1 ≡ replies.Done → (P.state (pages_of self)).device.gone ≡ false → (P.state result.0).device.gone ≡ false }
         // There is nothing to fail at the end of a read-only volume.
         ensures read_only_done { is_stopped self ≡ false → is_read_only self ≡ true → result.1 ≡ replies.Done }
         ensures done { is_stopped self ≡ false → (z : Sizes) (s : State) → IsVolumeOf P.state z s self → result.1 ≡ replies.Done

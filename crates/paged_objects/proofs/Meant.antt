@@ -10,7 +10,7 @@ use Rattle.posix_profile.specs.WellFormed.{IsForest}
 use Rattle.object_store.specs.Changes.{CanMake, takes_none}
 use Rattle.object_store.specs.declared.change.ObjectChange.{ObjectChange}
 use Rattle.object_store.specs.declared.change.ObjectChange.TheVariants as changes
-use Rattle.object_store.specs.Stores.{Faults, Applies}
+use Rattle.object_store.specs.Stores.{ReadFaults, Applies}
 use Rattle.object_store.specs.Stores as meant
 use Rattle.object_table.specs.Told.{table_sizes, Tells, TellsTheSame}
 use Rattle.object_store.specs.Stores.{CanHave}
@@ -23,7 +23,6 @@ use Rattle.paged_objects.specs.Ending.{HasObjects, ChangeEnds}
 use Rattle.paged_objects.specs.Meaning.{paged_meaning}
 use Rattle.paged_objects.specs.laws.Going.{finds_stay}
 use Rattle.paged_objects.specs.laws.Lawful.{same_here}
-use Rattle.paged_objects.specs.laws.Showing.{read_fails}
 use Rattle.paged_objects.proofs.Ends.{committed, commit_failed}
 
 -- what the trait says of a store that has objects
@@ -51,11 +50,11 @@ can_make z y objects change is make = subst (λ (k : Sizes). CanMake k objects c
 
 module _ {S P : Type 0} (state : P → PagesState) (pages : S → P) (table : S → ObjectTable) where
   -- a fault of a read
-  pub read_faults : (a b : S) (objects : Objects) (fault : StoreFault) → OnlyFinds (state (pages a)) (state (pages b)) → table b ≡ table a → ReadFailsBy (state (pages b)) fault
-      → Faults (paged_meaning state pages table) objects objects a b fault
-  read_faults a b objects faults.NoMemory finds same why = (finds_stay _ _ finds, subst (TellsTheSame (table a)) (sym same) (same_here (table a)))
-  read_faults a b objects faults.Device finds same why = (read_fails _ _ _ objects (finds_stay _ _ finds) why, subst (λ (t : ObjectTable). table_sizes t ≡ table_sizes (table a)) (sym same) refl)
-  read_faults a b objects faults.Worn finds same why = absurd why
+  pub read_faults : (a b : S) (fault : StoreFault) → OnlyFinds (state (pages a)) (state (pages b)) → table b ≡ table a → ReadFailsBy (state (pages b)) fault
+      → ReadFaults (paged_meaning state pages table) a b fault
+  read_faults a b faults.NoMemory finds same why = (finds_stay _ _ finds, subst (TellsTheSame (table a)) (sym same) (same_here (table a)))
+  read_faults a b faults.Device finds same why = ((finds_stay _ _ finds, subst (TellsTheSame (table a)) (sym same) (same_here (table a))), why)
+  read_faults a b faults.Worn finds same why = absurd why
 
   -- the end of a commit, which leaves the table
   pub commits : (a b : S) (objects : Objects) (result : Result (Unit {0}) StoreFault) → HasObjects (state (pages a)) (table a) objects → table b ≡ table a → GoesOn (state (pages a)) (state (pages b))

@@ -10,7 +10,7 @@ ghost use Rattle.object_store.specs.declared.change.ObjectChange.TheVariants as 
 ghost use Rattle.object_table.specs.Told.{table_sizes, IsReadyFor, LedBefore, TellsTheSame};
 ghost use Rattle.pages.specs.Changes.{AreApart, AreSized, AreOfObjects};
 ghost use Rattle.pages.specs.Maps.{changed};
-ghost use Rattle.pages.specs.State.{OnlyFinds};
+ghost use Rattle.pages.specs.State.{OnlyFinds, KeepsPower};
 ghost use Rattle.pages.specs.Stores.{GoesOn};
 ghost use Rattle.object_pages.specs.Holding.{HoldsObjects};
 ghost use Rattle.paged_objects.specs.Ending.{HasPages, HasObjects, EndsPages, ChangeEnds};
@@ -47,6 +47,7 @@ fn find_object<P: PageStore>(
     name: &[u8],
 ) -> Result<Option<u64>, StoreFault>
     ensures finds { OnlyFinds (P.state pages.old) (P.state pages.new) }
+    ensures power { OnOk result (KeepsPower (P.state pages.old) (P.state pages.new)) }
     ensures found { (z : Sizes) (objects : Objects) → HasPages z (P.state pages.old) objects → IsDirectory objects directory
         → IfOk result (λ found. found ≡ map.get (entries_of (map.get objects directory)) name.now) }
     ensures fault { (z : Sizes) (objects : Objects) → HasPages z (P.state pages.old) objects → IsDirectory objects directory
@@ -64,6 +65,7 @@ fn find_replaced<P: PageStore>(
     change: &ObjectChange<'_>,
 ) -> Result<Option<u64>, StoreFault>
     ensures finds { OnlyFinds (P.state pages.old) (P.state pages.new) }
+    ensures power { OnOk result (KeepsPower (P.state pages.old) (P.state pages.new)) }
     ensures found { (z : Sizes) (objects : Objects) → HasPages z (P.state pages.old) objects → CanMake z objects change.now
         → IfOk result (LedBefore objects change.now) }
     ensures fault { (z : Sizes) (objects : Objects) → HasPages z (P.state pages.old) objects → CanMake z objects change.now
@@ -86,6 +88,7 @@ fn take<P: PageStore>(pages: &mut P, planned: Change) -> Result<(), StoreFault>
     requires size { AreSized planned.pages.items (P.state pages.old).page_bytes }
     requires objects { AreOfObjects planned.pages.items }
     ensures goes_on { GoesOn (P.state pages.old) (P.state pages.new) }
+    ensures power { OnOk result (KeepsPower (P.state pages.old) (P.state pages.new)) }
     ensures makes { (z : Sizes) (old new : Objects) → HasPages z (P.state pages.old) old → length planned.pages.items ≤ (P.state pages.old).most
         → HoldsObjects z (changed planned (P.state pages.old).present) new → EndsPages z (P.state pages.old) (P.state pages.new) old new result }
 {
@@ -103,6 +106,7 @@ fn change_pages<P: PageStore>(
     new: u64,
 ) -> Result<(), StoreFault>
     ensures goes_on { GoesOn (P.state pages.old) (P.state pages.new) }
+    ensures power { OnOk result (KeepsPower (P.state pages.old) (P.state pages.new)) }
     ensures makes { (z : Sizes) (objects : Objects) → HasPages z (P.state pages.old) objects → CanMake z objects change.now → new ≡ new_number objects
         → EndsPages z (P.state pages.old) (P.state pages.new) objects (made objects change.now) result }
 {
@@ -120,6 +124,7 @@ pub(crate) fn make<P: PageStore>(
     change: &ObjectChange<'_>,
 ) -> Result<(), StoreFault>
     ensures goes_on { GoesOn (P.state pages.old) (P.state pages.new) }
+    ensures power { OnOk result (KeepsPower (P.state pages.old) (P.state pages.new)) }
     ensures sizes { table_sizes table.new ≡ table_sizes table.old }
     ensures makes { (objects : Objects) → HasObjects (P.state pages.old) table.old objects → CanMake (table_sizes table.old) objects change.now
         → ChangeEnds (P.state pages.old) (P.state pages.new) table.old table.new objects (made objects change.now) result }

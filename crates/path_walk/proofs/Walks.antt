@@ -13,7 +13,7 @@ use Rattle.posix_profile.specs.declared.reply.Errno.{Errno}
 use Rattle.posix_profile.specs.declared.reply.Errno.TheVariants as errors
 use Rattle.object_store.specs.Facts.{NamedBy}
 use Rattle.object_store.specs.Stores.{Meaning, IsLawful}
-use Rattle.object_store.specs.laws.Store.{faults_on, tells_on}
+use Rattle.object_store.specs.laws.Store.{unread_after, tells_on}
 use Rattle.object_store.specs.declared.refusal.Refusal.{Refusal}
 use Rattle.object_store.specs.declared.refusal.Refusal.TheVariants as refusals
 use Rattle.path_walk.specs.declared.parts.PathPlace.{PathPlace}
@@ -85,26 +85,26 @@ walk_done objects slash_follows directory last rest here all done is told =
     ap (finish objects slash_follows directory) (sym is) ∙ ap (going objects slash_follows directory last) (sym done) ∙ told
 
 -- an error that is handed on
-pub leads_back : {S : Type 0} (m : Meaning S) (objects : Objects) (a b : S) (all : Result Place Errno) (r : Result PathPlace Refusal) (x y : Refusal)
-    → r ≡ Err x → x ≡ y → Leads m objects all a b (Err y) → Leads m objects all a b r
-leads_back m objects a b all r x y is same told = subst (λ r. Leads m objects all a b r) (sym is) (subst (λ x. Leads m objects all a b (Err x)) (sym same) told)
+pub leads_back : {S : Type 0} (m : Meaning S) (a b : S) (all : Result Place Errno) (r : Result PathPlace Refusal) (x y : Refusal)
+    → r ≡ Err x → x ≡ y → Leads m all a b (Err y) → Leads m all a b r
+leads_back m a b all r x y is same told = subst (λ r. Leads m all a b r) (sym is) (subst (λ x. Leads m all a b (Err x)) (sym same) told)
 
 -- a walk that a step ends
 pub walk_err : {S : Type 0} (m : Meaning S) (law : IsLawful m) (objects : Objects) (a b c : S) (slash_follows : Bool) (directory : ℕ) (last : Option Component) (rest more : List Component) (next : Component) (all : Result Place Errno)
     → m.reads a b → rest ≡ next ∷ more → going objects slash_follows directory last rest ≡ all
-    → (r : Result PathPlace Refusal) (x y : Refusal) → r ≡ Err x → x ≡ y → Passes m objects (goes_on objects directory last) b c (Err y) → Leads m objects all a c r
+    → (r : Result PathPlace Refusal) (x y : Refusal) → r ≡ Err x → x ≡ y → Passes m objects (goes_on objects directory last) b c (Err y) → Leads m all a c r
 walk_err m law objects a b c slash_follows directory last rest more next all reads is told r x y same from passes =
-    leads_back m objects a c all r x y same from (go y passes)
+    leads_back m a c all r x y same from (go y passes)
   where
-    go : (y : Refusal) → Passes m objects (goes_on objects directory last) b c (Err y) → Leads m objects all a c (Err y)
-    go (refusals.Fault fault) p = faults_on m law objects objects a b c reads fault p
+    go : (y : Refusal) → Passes m objects (goes_on objects directory last) b c (Err y) → Leads m all a c (Err y)
+    go (refusals.Fault fault) p = unread_after m law a b c reads fault p
     go (refusals.Error e) p = walk_stops objects slash_follows directory last rest more next all e is told p
 
 -- a walk that ends after calls that read
-pub leads_same : {S : Type 0} (m : Meaning S) (law : IsLawful m) (objects : Objects) (a b c : S) (here all : Result Place Errno)
-    → m.reads a b → here ≡ all → (r : Result PathPlace Refusal) → Leads m objects here b c r → Leads m objects all a c r
-leads_same m law objects a b c here all reads is r told =
-    subst (λ all. Leads m objects all a c r) is (tells_on m law objects a b c (λ place. Ok (place_of place) ≡ here) (λ e. Err e ≡ here) reads r told)
+pub leads_same : {S : Type 0} (m : Meaning S) (law : IsLawful m) (a b c : S) (here all : Result Place Errno)
+    → m.reads a b → here ≡ all → (r : Result PathPlace Refusal) → Leads m here b c r → Leads m all a c r
+leads_same m law a b c here all reads is r told =
+    subst (λ all. Leads m all a c r) is (tells_on m law a b c (λ place. Ok (place_of place) ≡ here) (λ e. Err e ≡ here) reads r told)
 
 map_map : {A B C : Type 0} (f : A → B) (g : B → C) (xs : List A) → list_map (λ x. g (f x)) xs ≡ list_map g (list_map f xs)
 map_map f g [] = refl

@@ -32,8 +32,8 @@ goes_on objects directory (Some last) on = pass objects (leads_to objects direct
 -- the walk goes on from this directory, or ends
 abbrev pub Passes : {S : Type 0} (m : Meaning S) → Objects → ((ℕ → Result Place Errno) → Result Place Errno) → S → S → Result ℕ Refusal → Type 0
 Passes m objects meant a b r =
-    Tells m objects a b (λ o. IsDirectory objects o × ((on : ℕ → Result Place Errno) → meant on ≡ on o)) (λ e. (on : ℕ → Result Place Errno) → meant on ≡ Err e) r
+    Tells m a b (λ o. IsDirectory objects o × ((on : ℕ → Result Place Errno) → meant on ≡ on o)) (λ e. (on : ℕ → Result Place Errno) → meant on ≡ Err e) r
 
 -- the place, or why there is none
-abbrev pub Leads : {S : Type 0} (m : Meaning S) → Objects → Result Place Errno → S → S → Result PathPlace Refusal → Type 0
-Leads m objects meant a b r = Tells m objects a b (λ place. Ok (place_of place) ≡ meant) (λ e. Err e ≡ meant) r
+abbrev pub Leads : {S : Type 0} (m : Meaning S) → Result Place Errno → S → S → Result PathPlace Refusal → Type 0
+Leads m meant a b r = Tells m a b (λ place. Ok (place_of place) ≡ meant) (λ e. Err e ≡ meant) r

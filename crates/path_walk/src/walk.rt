@@ -1,10 +1,10 @@
 // Where a path leads.
-ghost use Rattle.std.specs.Prelude.{◌≡◌, map as list_map};
+ghost use Rattle.std.specs.Prelude.{◌≡◌, OnOk, map as list_map};
 ghost use Rattle.posix_profile.specs.Paths.{component, leads_to, arrive, pass, walk_from_root, resolve};
 ghost use Rattle.volume_terms.specs.Sizes.{Sizes};
 ghost use Rattle.posix_profile.specs.State.{Objects, IsDirectory};
 ghost use Rattle.posix_profile.specs.Names.{parent};
-ghost use Rattle.object_store.specs.Stores.{Has, Finds};
+ghost use Rattle.object_store.specs.Stores.{Has, Finds, KeepsPower};
 ghost use Rattle.path_walk.specs.Places.{component_of, last_of, goes_on, Passes, Leads};
 
 use crate::parts::{PathPart, PathPlace, ends_in_slash, part_of, parts_of, test_path};
@@ -30,8 +30,9 @@ fn leads_to<S: ObjectStore>(
     part: PathPart<'_>,
 ) -> Result<Option<u64>, StoreFault>
     ensures reads { S.meaning.reads store.old store.new }
+    ensures power { OnOk result (S.meaning.has_power store.new ≡ S.meaning.has_power store.old) }
     ensures finds { (z : Sizes) (objects : Objects) → Has S.meaning z objects store.old → IsDirectory objects directory
-        → Finds S.meaning objects (leads_to objects directory (component_of part.entry)) store.old store.new result }
+        → Finds S.meaning (leads_to objects directory (component_of part.entry)) store.old store.new result }
 {
     match part {
         PathPart::Dot => Ok(Some(directory)),
@@ -43,6 +44,7 @@ fn leads_to<S: ObjectStore>(
 /// The directory to which a component leads that is not the last one.
 fn pass<S: ObjectStore>(store: &mut S, directory: u64, part: PathPart<'_>) -> Result<u64, Refusal>
     ensures reads { S.meaning.reads store.old store.new }
+    ensures power { KeepsPower S.meaning store.old store.new result }
     ensures passes { (z : Sizes) (objects : Objects) → Has S.meaning z objects store.old → IsDirectory objects directory
         → Passes S.meaning objects (pass objects (leads_to objects directory (component_of part.entry))) store.old store.new result }
 {
@@ -67,8 +69,9 @@ fn arrive<'a, S: ObjectStore>(
     last: PathPart<'a>,
 ) -> Result<PathPlace<'a>, Refusal>
     ensures reads { S.meaning.reads store.old store.new }
+    ensures power { KeepsPower S.meaning store.old store.new result }
     ensures leads { (z : Sizes) (objects : Objects) → Has S.meaning z objects store.old → IsDirectory objects directory
-        → Leads S.meaning objects (arrive objects slash_follows directory (component_of last.entry) (leads_to objects directory (component_of last.entry))) store.old store.new result }
+        → Leads S.meaning (arrive objects slash_follows directory (component_of last.entry) (leads_to objects directory (component_of last.entry))) store.old store.new result }
 {
     match leads_to(store, directory, last) {
         Ok(Some(number)) => {
@@ -100,6 +103,7 @@ fn step_on<S: ObjectStore>(
     last: Option<PathPart<'_>>,
 ) -> Result<u64, Refusal>
     ensures reads { S.meaning.reads store.old store.new }
+    ensures power { KeepsPower S.meaning store.old store.new result }
     ensures passes { (z : Sizes) (objects : Objects) → Has S.meaning z objects store.old → IsDirectory objects directory
         → Passes S.meaning objects (goes_on objects directory (last_of last.entry)) store.old store.new result }
 {
@@ -116,8 +120,9 @@ fn walk<'a, S: ObjectStore>(
     parts: &[&'a [u8]],
 ) -> Result<PathPlace<'a>, Refusal>
     ensures reads { S.meaning.reads store.old store.new }
+    ensures power { KeepsPower S.meaning store.old store.new result }
     ensures leads { (z : Sizes) (objects : Objects) → Has S.meaning z objects store.old
-        → Leads S.meaning objects (walk_from_root objects slash_follows (list_map (λ part. component part.now) parts.now)) store.old store.new result }
+        → Leads S.meaning (walk_from_root objects slash_follows (list_map (λ part. component part.now) parts.now)) store.old store.new result }
 {
     let mut directory = ROOT;
     let mut last = None;
@@ -143,8 +148,9 @@ pub fn resolve<'a, S: ObjectStore>(
     path: &'a [u8],
 ) -> Result<PathPlace<'a>, Refusal>
     ensures reads { S.meaning.reads store.old store.new }
+    ensures power { KeepsPower S.meaning store.old store.new result }
     ensures leads { (z : Sizes) (objects : Objects) → Has S.meaning z objects store.old
-        → Leads S.meaning objects (resolve objects path.now) store.old store.new result }
+        → Leads S.meaning (resolve objects path.now) store.old store.new result }
 {
     let parts = parts_of(alloc, path)?;
     test_path(path, &parts)?;

@@ -26,6 +26,7 @@ plain_meaning = record {
   lasts = λ a b. numbers_of b ≡ numbers_of a;
   leaves = λ a b. Unit {0};
   reads = λ a b. (objects_of b ≡ objects_of a) × (numbers_of b ≡ numbers_of a);
+  unread = λ a b. ⊥;
   changes = λ old new a b. Unit {0};
   fails = λ old new a b. ⊥;
   commits = λ objects a b. Unit {0};

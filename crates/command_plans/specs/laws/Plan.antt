@@ -19,7 +19,7 @@ use Rattle.posix_profile.specs.declared.reply.Info.{Info}
 use Rattle.posix_profile.specs.declared.reply.Reply.{Reply}
 use Rattle.posix_profile.specs.declared.reply.Reply.TheVariants as replies
 use Rattle.object_store.specs.Facts.{bytes_of, info_of}
-use Rattle.object_store.specs.Stores.{Meaning, IsLawful, Faults}
+use Rattle.object_store.specs.Stores.{Meaning, IsLawful, ReadFaults, KeepsPower}
 use Rattle.object_store.specs.laws.Store.{has_on, tells_on}
 use Rattle.volume_terms.specs.declared.fault.StoreFault.{StoreFault}
 use Rattle.object_store.specs.declared.refusal.Refusal.{Refusal}
@@ -42,7 +42,7 @@ holds_on m law z s a b reads h = record { has = has_on m law z s.objects a b rea
 pub plans_same : {S : Type 0} (m : Meaning S) (law : IsLawful m) (z : Sizes) (class : Class) (s : State) (meant all : Outcome) (a b c : S) → m.reads a b → meant ≡ all
     → (r : Result Plan Refusal) → Plans m z class s meant b c r → Plans m z class s all a c r
 plans_same m law z class s meant all a b c reads is r told =
-    subst (λ o. Plans m z class s o a c r) is (tells_on m law s.objects a b c (IsPlan z class s meant) (λ e. refuse s e ≡ meant) reads r told)
+    subst (λ o. Plans m z class s o a c r) is (tells_on m law a b c (IsPlan z class s meant) (λ e. refuse s e ≡ meant) reads r told)
 
 -- the same where nothing was read
 pub plans_is : {S : Type 0} (m : Meaning S) (z : Sizes) (class : Class) (s : State) (meant all : Outcome) (a b : S) → meant ≡ all → (r : Result Plan Refusal) → Plans m z class s meant a b r → Plans m z class s all a b r
@@ -54,9 +54,9 @@ plans_err m z class s meant a b r x y is same told = subst (λ r. Plans m z clas
 
 -- a fault of a call that read
 pub plans_fault : {S : Type 0} (m : Meaning S) (law : IsLawful m) (z : Sizes) (class : Class) (s : State) (meant : Outcome) (a b c : S) (r : Result Plan Refusal) (x : Refusal) (fault : StoreFault) → r ≡ Err x → x ≡ refusals.Fault fault
-    → m.reads a b → Faults m s.objects s.objects b c fault → Plans m z class s meant a c r
+    → m.reads a b → ReadFaults m b c fault → Plans m z class s meant a c r
 plans_fault m law z class s meant a b c r x fault is same reads left =
-    plans_err m z class s meant a c r x (refusals.Fault fault) is same (tells_on {A = Plan} m law s.objects a b c (IsPlan z class s meant) (λ e. refuse s e ≡ meant) reads (Err (refusals.Fault fault)) left)
+    plans_err m z class s meant a c r x (refusals.Fault fault) is same (tells_on {A = Plan} m law a b c (IsPlan z class s meant) (λ e. refuse s e ≡ meant) reads (Err (refusals.Fault fault)) left)
 
 -- a path that leads nowhere
 pub plans_nowhere : {S : Type 0} (m : Meaning S) (z : Sizes) (class : Class) (s : State) (p : Result Place Errno) (act : Place → Outcome) (a b : S) (r : Result Plan Refusal) (x y : Refusal)
@@ -180,7 +180,7 @@ directory_unless r x is = ap is_directory is ∙ go x ∙ ap (λ r. not (is_file
 
 -- a path, and the place to which it leads
 pub finds_place : {S : Type 0} (m : Meaning S) (z : Sizes) (s : State) (path : List ℕ) (a b : S) → IsForest z s.objects → AreBytes path
-    → (r : Result PathPlace Refusal) → Leads m s.objects (resolve s.objects path) a b r → FindsPlace m s (resolve s.objects path) a b r
+    → (r : Result PathPlace Refusal) → Leads m (resolve s.objects path) a b r → FindsPlace m s (resolve s.objects path) a b r
 finds_place m z s path a b forest are (Ok p) told = record {
   place = resolve_place z s.objects forest path (place_of p) are (sym told);
   leads = sym told;
@@ -209,6 +209,14 @@ plans_of m z class s meant all a b is t r from tried = subst (λ o. Plans m z cl
     go : (t : Result Plan Errno) → Tries z class s meant t → Plans m z class s meant a b (handed t)
     go (Ok plan) told = told
     go (Err error) told = told
+
+-- the power is kept too
+pub power_of : {S : Type 0} (m : Meaning S) (a b : S) → m.has_power b ≡ m.has_power a → (t : Result Plan Errno) (r : Result Plan Refusal) → r ≡ handed t → KeepsPower m a b r
+power_of m a b same t r from = subst (KeepsPower m a b) (sym from) (go t)
+  where
+    go : (t : Result Plan Errno) → KeepsPower m a b (handed t)
+    go (Ok plan) = same
+    go (Err error) = same
 
 pub tries_same : (z : Sizes) (class : Class) (s : State) (meant all : Outcome) → meant ≡ all → (t : Result Plan Errno) → Tries z class s meant t → Tries z class s all t
 tries_same z class s meant all is t told = subst (λ o. Tries z class s o t) is told

@@ -1,5 +1,6 @@
 -- The maps that keep a copy are a lawful store.
 use Rattle.std.proofs.Common.{refl, ◌∙◌, inl}
+use Rattle.std.specs.Prelude.{◌≡◌, true, false}
 use Rattle.object_store.specs.Stores.{IsLawful}
 use Rattle.command_tests.specs.Kept.{kept_meaning}
 
@@ -16,8 +17,10 @@ kept_lawful = record {
   changes_on = λ a b c old new reads changes. tt;
   changes_shows = λ a b old new changes tree shown. inl tt;
   fails_on = λ a b c old new reads fails. tt;
-  fails_wide = λ a b old new fails. tt;
-  powerless_fails = λ a b old new reads lost. tt;
+  unread_on = λ a b c reads failed. failed;
+  unread_reads = λ a b failed. absurd failed;
+  unread_fails = λ a b old new failed. tt;
+  powerless_unread = λ a b reads lost. let two : true ≡ false = lost in absurd cc;
   fails_shows = λ a b old new fails tree shown. inl tt;
   commits_on = λ a b c objects reads commits. tt;
   commits_shows = λ a b objects commits. tt;

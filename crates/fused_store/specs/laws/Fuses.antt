@@ -5,7 +5,7 @@ use Rattle.posix_profile.specs.State.{Objects}
 use Rattle.object_store.specs.Stores.{Meaning, IsLawful, KeepsOrSettles}
 use Rattle.fused_store.specs.declared.fuse.LastCall.{LastCall}
 use Rattle.fused_store.specs.declared.fuse.LastCall.TheVariants as fates
-use Rattle.fused_store.specs.Fuses.{LeftBy, IsLost, Spends, fused_meaning}
+use Rattle.fused_store.specs.Fuses.{LeftBy, IsLost, IsUnread, Spends, fused_meaning}
 
 spends_on : {T : Type 0} (calls : T → ℕ) (last : T → LastCall) (a b c : T) → Spends calls last a b → Spends calls last b c → Spends calls last a c
 spends_on calls last a b c x y = record { calls_fall = omega (arith, x.calls_fall, y.calls_fall); fate = y.fate ∙ x.fate }
@@ -19,12 +19,26 @@ left_on m law a b c fates.Done old now reads (inr (inr done)) = inr (inr (law.co
 lost_on : {S : Type 0} (m : Meaning S) (law : IsLawful m) (calls : ℕ) (fate : LastCall) (a b c : S) (old new : Objects) → m.reads a b → IsLost m calls fate old new b c → IsLost m calls fate old new a c
 lost_on m law calls fate a b c old new reads lost = record { spent = lost.spent; now = lost.now; either = lost.either; left = left_on m law a b c fate old lost.now reads lost.left }
 
-lost_wide : {S : Type 0} (m : Meaning S) (calls : ℕ) (fate : LastCall) (a b : S) (old new : Objects) → IsLost m calls fate old old a b → IsLost m calls fate old new a b
-lost_wide m calls fate a b old new lost = record { spent = lost.spent; now = lost.now; either = go lost.either; left = lost.left }
-  where
-    go : (lost.now ≡ old) ⊎ (lost.now ≡ old) → (lost.now ≡ old) ⊎ (lost.now ≡ new)
-    go (inl is) = inl is
-    go (inr is) = inl is
+unread_on : {S : Type 0} (m : Meaning S) (law : IsLawful m) (calls : ℕ) (a b c : S) → m.reads a b → IsUnread m calls b c → IsUnread m calls a c
+unread_on m law calls a b c reads cut = record {
+  reads = law.reads_on a b c reads cut.reads;
+  failed = elim cut.failed [
+    | inl spent ↦ inl spent
+    | inr failed ↦ inr (law.unread_on a b c reads failed)
+  ];
+}
+
+-- a read leaves what was, whatever the fate of the last call
+read_left : {S : Type 0} (m : Meaning S) (fate : LastCall) (a b : S) (old : Objects) → m.reads a b → LeftBy m fate old old a b
+read_left m fates.NotDone a b old reads = reads
+read_left m fates.Done a b old reads = inl reads
+
+-- a read that failed has lost the last call, or failed inside
+unread_lost : {S : Type 0} (m : Meaning S) (law : IsLawful m) (calls : ℕ) (fate : LastCall) (a b : S) (old new : Objects) → IsUnread m calls a b → IsLost m calls fate old new a b ⊎ m.fails old new a b
+unread_lost m law calls fate a b old new cut = elim cut.failed [
+  | inl spent ↦ inl (record { spent = spent; now = old; either = inl refl; left = read_left m fate a b old cut.reads })
+  | inr failed ↦ inr (law.unread_fails a b old new failed)
+]
 
 left_shows : {S : Type 0} (m : Meaning S) (law : IsLawful m) (a b : S) (fate : LastCall) (old now : Objects) → LeftBy m fate old now a b → KeepsOrSettles m old a b
 left_shows m law a b fates.NotDone old now reads = λ tree shown. inl (law.reads_shows a b tree reads shown)
@@ -48,11 +62,10 @@ fused_lawful m law inner calls last = record {
     | inl lost ↦ inl (lost_on m law (calls c) (last c) (inner a) (inner b) (inner c) old new x.0 lost)
     | inr more ↦ inr (law.fails_on (inner a) (inner b) (inner c) old new x.0 more)
   ];
-  fails_wide = λ a b old new fails. elim fails [
-    | inl lost ↦ inl (lost_wide m (calls b) (last b) (inner a) (inner b) old new lost)
-    | inr more ↦ inr (law.fails_wide (inner a) (inner b) old new more)
-  ];
-  powerless_fails = λ a b old new x lost. inr (law.powerless_fails (inner a) (inner b) old new x.0 lost);
+  unread_on = λ a b c x y. (unread_on m law (calls c) (inner a) (inner b) (inner c) x.0 y.0, spends_on calls last a b c x.1 y.1);
+  unread_reads = λ a b x. (x.0.reads, x.1);
+  unread_fails = λ a b old new x. unread_lost m law (calls b) (last b) (inner a) (inner b) old new x.0;
+  powerless_unread = λ a b x lost. (record { reads = x.0; failed = inr (law.powerless_unread (inner a) (inner b) x.0 lost) }, x.1);
   fails_shows = λ a b old new fails. elim fails [
     | inl lost ↦ left_shows m law (inner a) (inner b) (last b) old lost.now lost.left
     | inr more ↦ law.fails_shows (inner a) (inner b) old new more

@@ -132,8 +132,8 @@ one_ends m law z read_only s c r a b shown (inr (inr stopped)) = record {
   fails = λ stop. stopped.left;
   state = λ goes. absurd (true≢false (sym (ap is_stop stopped.reply) ∙ goes));
   reads = λ why. elim why [
-    | inl tells ↦ stopped.reads (inl tells)
-    | inr (inl error) ↦ stopped.reads (inr error)
+    | inl tells ↦ law.unread_reads a.store b.store (stopped.unread (inl tells))
+    | inr (inl error) ↦ law.unread_reads a.store b.store (stopped.unread (inr error))
     | inr (inr want) ↦ absurd (true≢false (sym want ∙ ap is_no_memory stopped.reply))
   ];
   power = λ refused. absurd (true≢false (sym refused ∙ ap is_no_memory stopped.reply));

@@ -64,8 +64,10 @@ paged_lawful {S} {P} state pages table = record {
     fails_after (z a) (at a) (at b) (at c) old x.0 (subst (λ (k : Sizes). Fails k old (at b) (at c)) x.1.sizes y.0),
     y.1 ∙ x.1.sizes,
   );
-  fails_wide = λ a b old new x. x;
-  powerless_fails = λ a b old new x lost. (read_fails (z a) (at a) (at b) old x.0 (inl (powerless (at b).device.gone lost)), x.1.sizes);
+  unread_on = λ a b c x y. ((stays_on (at a) (at b) (at c) x.0 y.0.0, same_on (table a) (table b) (table c) x.1 y.0.1), y.1);
+  unread_reads = λ a b x. x.0;
+  unread_fails = λ a b old new x. (read_fails (z a) (at a) (at b) old x.0.0 x.1, x.0.1.sizes);
+  powerless_unread = λ a b x lost. (x, inl (powerless (at b).device.gone lost));
   fails_shows = λ a b old new x tree shown. either_at (z a) (z b) (at b) tree (settled old) x.1 (x.0.turns tree shown);
   commits_on = λ a b c objects x y. (
     commits_after (z a) (at a) (at b) (at c) objects x.0 (subst (λ (k : Sizes). Commits k objects (at b) (at c)) x.1.sizes y.0),

@@ -17,8 +17,10 @@ plain_lawful = record {
   changes_on = λ a b c old new reads changes. tt;
   changes_shows = λ a b old new changes tree shown. inl tt;
   fails_on = λ a b c old new reads fails. fails;
-  fails_wide = λ a b old new fails. fails;
-  powerless_fails = λ a b old new reads lost. let two : true ≡ false = lost in absurd cc;
+  unread_on = λ a b c reads failed. failed;
+  unread_reads = λ a b failed. absurd failed;
+  unread_fails = λ a b old new failed. failed;
+  powerless_unread = λ a b reads lost. let two : true ≡ false = lost in absurd cc;
   fails_shows = λ a b old new fails tree shown. absurd fails;
   commits_on = λ a b c objects reads commits. tt;
   commits_shows = λ a b objects commits. tt;

@@ -1,7 +1,10 @@
 use Rattle.posix_profile.specs.NameSteps.{link_at}
 use Rattle.command_plans.specs.Classes.{Changing}
-use Rattle.command_plans.specs.laws.Plan.{holds_on, plans_of}
+use Rattle.command_plans.specs.laws.Plan.{holds_on, plans_of, power_of}
 use Rattle.object_commands.proofs.naming.link_to.Goals as goal
+
+pub returns-clause-power : goal.returns-clause-power
+returns-clause-power g c = power_of g.S.ObjectStore.meaning c.args.store.now c.find_place.new.store c.in_ok-to.ensures.power c.link_at.result c.hand_on.result c.hand_on.ensures
 
 pub returns-clause-plans : goal.returns-clause-plans
 returns-clause-plans g c z s holds file =

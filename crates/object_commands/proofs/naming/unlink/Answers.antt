@@ -7,8 +7,11 @@ use Rattle.posix_profile.specs.State.{is_directory}
 use Rattle.posix_profile.specs.declared.reply.Errno.TheVariants as errors
 use Rattle.posix_profile.specs.declared.reply.Reply.TheVariants as replies
 use Rattle.command_plans.specs.Classes.{Changing}
-use Rattle.command_plans.specs.laws.Plan.{holds_on, plans_nothing, plans_of}
+use Rattle.command_plans.specs.laws.Plan.{holds_on, plans_nothing, plans_of, power_of}
 use Rattle.object_commands.proofs.naming.unlink.Goals as goal
+
+pub returns-clause-power : goal.returns-clause-power
+returns-clause-power g c = power_of g.S.ObjectStore.meaning c.args.store.now c.find_object.new.store c.in_ok-found.ensures.power c.unlink_object.result c.hand_on.result c.hand_on.ensures
 
 pub returns-in_err-found-clause-plans : goal.returns-in_err-found-clause-plans
 returns-in_err-found-clause-plans g c z s holds same =

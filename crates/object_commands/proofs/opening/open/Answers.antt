@@ -5,8 +5,11 @@ use Rattle.posix_profile.specs.HandleSteps.{open_at}
 use Rattle.posix_profile.specs.Paths.{Place}
 use Rattle.posix_profile.specs.declared.reply.Errno.{Errno}
 use Rattle.command_plans.specs.Classes.{Changing, is_there, tells_if}
-use Rattle.command_plans.specs.laws.Plan.{holds_on, plans_of, plans_is, plans_nowhere, refused, passed, passed_all, tries_kind}
+use Rattle.command_plans.specs.laws.Plan.{holds_on, plans_of, power_of, plans_is, plans_nowhere, refused, passed, passed_all, tries_kind}
 use Rattle.object_commands.proofs.opening.open.Goals as goal
+
+pub returns-clause-power : goal.returns-clause-power
+returns-clause-power g c = power_of g.S.ObjectStore.meaning c.args.store.now c.find_place.new.store c.in_ok-place.ensures.power c.open_at.result c.hand_on.result c.hand_on.ensures
 
 pub returns-then-cuts_what_is_only_read-clause-plans : goal.returns-then-cuts_what_is_only_read-clause-plans
 returns-then-cuts_what_is_only_read-clause-plans g c z s holds same = refused s _ _ _ _ (sym c.cuts_what_is_only_read.ensures ∙ c.if-cuts_what_is_only_read.true)

@@ -7,8 +7,11 @@ use Rattle.posix_profile.specs.declared.reply.Errno.{Errno}
 use Rattle.path_walk.specs.Places.{place_of}
 use Rattle.command_plans.specs.Classes.{Changing, lead_to_one, tells_if}
 use Rattle.object_commands.specs.Names.{rename_places}
-use Rattle.command_plans.specs.laws.Plan.{holds_on, plans_same, plans_of, plans_nowhere, tries_kind}
+use Rattle.command_plans.specs.laws.Plan.{holds_on, plans_same, plans_of, power_of, plans_nowhere, tries_kind}
 use Rattle.object_commands.proofs.rename.rename.Goals as goal
+
+pub returns-clause-power : goal.returns-clause-power
+returns-clause-power g c = power_of g.S.ObjectStore.meaning c.args.store.now c.find_place-2.new.store (c.in_ok-to.ensures.power ∙ c.in_ok-from.ensures.power) c.rename_places.result c.hand_on.result c.hand_on.ensures
 
 pub returns-in_err-to-clause-plans : goal.returns-in_err-to-clause-plans
 returns-in_err-to-clause-plans g c z s holds same =

@@ -8,7 +8,7 @@ use Rattle.posix_profile.specs.declared.command.Command.TheVariants as commands
 use Rattle.command_plans.specs.Classes.{class_of}
 use Rattle.command_plans.specs.Plans.{Plans, Tries}
 use Rattle.object_commands.proofs.Ending.{plans_step}
-use Rattle.command_plans.specs.laws.Plan.{plans_of}
+use Rattle.command_plans.specs.laws.Plan.{plans_of, power_of}
 use Rattle.object_commands.proofs.volume.plan.Goals as goal
 
 pub returns-in-Open-clause-plans : goal.returns-in-Open-clause-plans
@@ -140,3 +140,18 @@ returns-in-Rename-clause-plans g c z s holds same =
     (subst (λ (y : List ℕ). Plans m z (class_of c.args.read_only s (commands.Rename c.in-Rename.old y)) s (rename_step z c.args.read_only stamped.moment s c.in-Rename.old y) c.args.store.now c.rename.new.store c.rename.result) c.as_slice-new-in-Rename.ensures
     (subst (λ (x : List ℕ). Plans m z (class_of c.args.read_only s (commands.Rename x c.as_slice-new-in-Rename.result.now)) s (rename_step z c.args.read_only stamped.moment s x c.as_slice-new-in-Rename.result.now) c.args.store.now c.rename.new.store c.rename.result) c.as_slice-old-in-Rename.ensures
     (c.rename.ensures.plans z s holds same)))
+
+pub returns-in-Close-clause-power : goal.returns-in-Close-clause-power
+returns-in-Close-clause-power g c = power_of g.S.ObjectStore.meaning c.args.store.now c.args.store.now refl c.close.result c.hand_on.result c.hand_on.ensures
+
+pub returns-in-Write-clause-power : goal.returns-in-Write-clause-power
+returns-in-Write-clause-power g c = power_of g.S.ObjectStore.meaning c.args.store.now c.args.store.now refl c.write.result c.hand_on-in-Write.result c.hand_on-in-Write.ensures
+
+pub returns-in-Seek-clause-power : goal.returns-in-Seek-clause-power
+returns-in-Seek-clause-power g c = power_of g.S.ObjectStore.meaning c.args.store.now c.args.store.now refl c.seek.result c.hand_on-in-Seek.result c.hand_on-in-Seek.ensures
+
+pub returns-in-Truncate-clause-power : goal.returns-in-Truncate-clause-power
+returns-in-Truncate-clause-power g c = power_of g.S.ObjectStore.meaning c.args.store.now c.args.store.now refl c.truncate.result c.hand_on-in-Truncate.result c.hand_on-in-Truncate.ensures
+
+pub returns-in-Fsync-clause-power : goal.returns-in-Fsync-clause-power
+returns-in-Fsync-clause-power g c = power_of g.S.ObjectStore.meaning c.args.store.now c.args.store.now refl c.fsync.result c.hand_on-in-Fsync.result c.hand_on-in-Fsync.ensures

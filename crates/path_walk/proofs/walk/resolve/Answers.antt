@@ -6,12 +6,12 @@ use Rattle.path_walk.proofs.walk.resolve.Goals as goal
 pub returns-in_err-test_path-clause-leads : goal.returns-in_err-test_path-clause-leads
 returns-in_err-test_path-clause-leads g c z objects has =
     let p = err_from_is_err_and c.from_residual-in_err-test_path.result c.from_residual-in_err-test_path.ensures.1 in
-    leads_back g.S.ObjectStore.meaning objects c.args.store.now c.args.store.now _ c.from_residual-in_err-test_path.result p.0 _ p.1 p.2
+    leads_back g.S.ObjectStore.meaning c.args.store.now c.args.store.now _ c.from_residual-in_err-test_path.result p.0 _ p.1 p.2
     (resolve_stops objects c.args.path.now c.in_err-test_path.field-0.0 c.in_err-test_path.ensures)
 
 pub returns-clause-leads : goal.returns-clause-leads
 returns-clause-leads g c z objects has =
     let law = g.met.S.ObjectStore.lawful in
-    leads_same g.S.ObjectStore.meaning law objects c.args.store.now c.args.store.now c.walk.new.store _ _ (law.reads_nothing c.args.store.now)
+    leads_same g.S.ObjectStore.meaning law c.args.store.now c.args.store.now c.walk.new.store _ _ (law.reads_nothing c.args.store.now)
     (resolve_is objects c.args.path.now c.deref-2.result.now c.ends_in_slash.result _ (ap (list_map (λ part. part.now)) c.deref-2.ensures.value ∙ c.in_ok-parts.ensures) c.ends_in_slash.ensures c.in_ok-test_path.ensures refl)
     c.walk.result (c.walk.ensures.leads z objects has)

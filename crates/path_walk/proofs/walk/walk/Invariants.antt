@@ -11,6 +11,7 @@ use Rattle.path_walk.proofs.walk.walk.Given as goal
 abbrev pub invariant-loop-part : goal.invariant-loop-part
 invariant-loop-part g l = record {
   reads : g.S.ObjectStore.meaning.reads l.fn.store l.store;
+  power : g.S.ObjectStore.meaning.has_power l.store ≡ g.S.ObjectStore.meaning.has_power l.fn.store;
   there : (z : Sizes) (objects : Objects) → Has g.S.ObjectStore.meaning z objects l.fn.store → IsDirectory objects l.directory;
   goes : (z : Sizes) (objects : Objects) → Has g.S.ObjectStore.meaning z objects l.fn.store → going objects l.slash_follows l.directory (last_of l.last) (list_map (λ part. component part.now) (drop l.part-index l.parts))
       ≡ walk_from_root objects l.fn.slash_follows (list_map (λ part. component part.now) l.fn.parts);

@@ -1,14 +1,15 @@
-use Rattle.std.proofs.Common.{◌≡◌, refl, inl, inr, ◌∙◌, ap, subst}
-use Rattle.std.proofs.lemmas.Bool.{false_from_ne_true}
+use Rattle.std.proofs.Common.{◌≡◌, true, refl, sym, inl, inr, ◌∙◌, ap, subst}
+use Rattle.std.proofs.lemmas.Bool.{false_from_ne_true, true≢false}
 use Rattle.posix_profile.specs.Outcomes.{Outcome, refuse}
 use Rattle.posix_profile.specs.Runs.{is_stop}
 use Rattle.posix_profile.specs.laws.Own.{command_own}
 use Rattle.posix_profile.specs.laws.Step.{step_sound}
 use Rattle.posix_profile.specs.Steps.{step}
 use Rattle.object_store.specs.declared.refusal.Refusal.TheVariants as refusals
-use Rattle.command_plans.specs.Classes.{class_of}
-use Rattle.object_commands.proofs.Ending.{at_on, error_ends, ends_on, plan_nothing, refused_ends}
-use Rattle.object_commands.proofs.ReadOnly.{read_only_answers, read_only_stays}
+use Rattle.command_plans.specs.Classes.{Telling, class_of}
+use Rattle.command_plans.specs.Plans.{does_nothing}
+use Rattle.object_commands.proofs.Ending.{at_on, error_ends, ends_on, nothing_tells, plan_nothing, refused_ends, refused_unread, stop_unread}
+use Rattle.object_commands.proofs.ReadOnly.{forgets_none, read_only_answers, read_only_stays}
 use Rattle.object_commands.proofs.volume.Volume.answer.Goals as goal
 
 pub returns-in-Ok-clause-ends : goal.returns-in-Ok-clause-ends
@@ -63,3 +64,36 @@ returns-in-Ok-clause-only g c only z s at =
           inr (subst (λ x. m.leaves x c.carry_out.new.self.store) left.0 (c.carry_out.ensures.leaves left.1))
       | inr why ↦ inl (law.reads_on a.store c.plan.new.store c.carry_out.new.self.store c.plan.ensures.reads (c.carry_out.ensures.reads (plan_nothing z class s meant c.in-Ok.plan is why)))
     ]
+
+pub returns-in-Ok-clause-unread : goal.returns-in-Ok-clause-unread
+returns-in-Ok-clause-unread g c only z s at stop =
+    let m = g.S.ObjectStore.meaning in
+    let law = g.met.S.ObjectStore.lawful in
+    let a = c.args.self.now in
+    let class = class_of a.read_only s c.args.stamped.now.command in
+    let meant = step z a.read_only s c.args.stamped.now in
+    let is = c.in-Ok.ensures.plans z s (record { has = at.has; sound = at.sound }) at.handles in
+    let was = at.only_read only in
+    let none : does_nothing c.in-Ok.plan.work ≡ true = elim (read_only_answers z s c.args.stamped.now a.read_only only was.handles was.named) [
+      | inl none ↦ forgets_none z s.objects was.named c.in-Ok.plan.work is.can (c.in-Ok.ensures.leaves none).1
+      | inr why ↦ plan_nothing z class s meant c.in-Ok.plan is why
+    ] in
+    let sound = step_sound z a.read_only s c.args.stamped.now at.has.numbers c.is_stamped.ensures at.sound in
+    let own = (command_own s z a.read_only c.args.stamped.now.moment c.args.stamped.now.command).goes in
+    let mid = at_on m law z s a _ c.plan.ensures.reads refl refl at in
+    law.unread_on a.store c.plan.new.store c.carry_out.new.self.store c.plan.ensures.reads
+    (stop_unread m z _ s meant _ _ c.carry_out.result own stop
+    (c.carry_out.ensures.ends z s mid Telling meant (nothing_tells z class s meant c.in-Ok.plan is none) sound own (λ only. read_only_stays z s c.args.stamped.now a.read_only only was.handles was.named)))
+
+pub returns-in-Err-Error-clause-unread : goal.returns-in-Err-Error-clause-unread
+returns-in-Err-Error-clause-unread g c only z s at stop =
+    let a = c.args.self.now in
+    let is : refuse s c.in-Err-Error.error ≡ step z a.read_only s c.args.stamped.now = rw c.in-Err-Error.field-0-is at (c.in-Err-Error.ensures.plans z s (record { has = at.has; sound = at.sound }) at.handles) in
+    let own = (command_own s z a.read_only c.args.stamped.now.moment c.args.stamped.now.command).goes in
+    absurd (true≢false (sym stop ∙ ap (λ (o : Outcome). is_stop o.reply) is ∙ own))
+
+pub returns-in-Err-Fault-NoMemory-clause-unread : goal.returns-in-Err-Fault-NoMemory-clause-unread
+returns-in-Err-Fault-NoMemory-clause-unread g c only z s at stop =
+    let law = g.met.S.ObjectStore.lawful in
+    let told = c.pass_over.ensures in
+    refused_unread g.S.ObjectStore.meaning law _ c.pass_over.new.self.store c.pass_over.result (law.reads_on _ c.plan.new.store _ c.plan.ensures.reads told.reads) told.tells stop

@@ -21,5 +21,5 @@ loop-i-preserved g c =
       runs = runs_more m law c.args.commands.now c.loop-i.i c.args.replies.now.items c.loop-i.replies.items c.push.new.self.items c.index-commands-i.result c.call-reply.result c.args.self.now c.loop-i.self c.call-reply.new.self
           c.loop-i.invariant.runs (at_index c.args.commands.now c.loop-i.i c.index-commands-i.result lt c.index-commands-i.is)
           (c.in_ok-push.ensures.items ∙ ap (λ (rs : List Reply). rs ++ c.call-reply.result ∷ []) c.reserve.ensures.items)
-          c.loop-i.invariant.keeps c.loop-i.invariant.lasts c.call-reply.ensures.stopped c.call-reply.ensures.stops c.call-reply.ensures.ends c.call-reply.ensures.only c.call-reply.ensures.leaves;
+          c.loop-i.invariant.keeps c.loop-i.invariant.lasts c.call-reply.ensures.stopped c.call-reply.ensures.stops c.call-reply.ensures.ends c.call-reply.ensures.only c.call-reply.ensures.unread c.call-reply.ensures.leaves c.call-reply.ensures.power;
     }

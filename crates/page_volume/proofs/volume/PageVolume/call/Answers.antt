@@ -1,3 +1,4 @@
+use Rattle.std.specs.Prelude.{not}
 use Rattle.std.proofs.Common.{ap}
 use Rattle.posix_profile.specs.Runs.{is_no_memory}
 use Rattle.page_volume.specs.Volumes.{is_read_only}
@@ -60,3 +61,9 @@ pub returns-clause-only_reads : goal.returns-clause-only_reads
 returns-clause-only_reads g c only z s is =
     let a = c.args.self.now in
     reads_device g.P.Pages.state a.volume.store c.call.new.self.store (c.call.ensures.only only z s (is_at g.P.Pages.state z s a is))
+
+pub returns-clause-keeps_power : goal.returns-clause-keeps_power
+returns-clause-keeps_power g c goes was = powered _ (c.call.ensures.power goes (ap not was))
+
+pub returns-clause-only_failed : goal.returns-clause-only_failed
+returns-clause-only_failed g c only goes z s is stop = (c.call.ensures.unread only goes z s (is_at g.P.Pages.state z s c.args.self.now is) stop).1

@@ -1,4 +1,4 @@
-use Rattle.std.specs.Prelude.{◌≡◌, ◌⊎◌}
+use Rattle.std.specs.Prelude.{◌≡◌, ◌⊎◌, true, false, not}
 use Rattle.std.proofs.Common.{sym, ◌∙◌, ap, subst}
 use Rattle.object_store.specs.Stores.{settled}
 use Rattle.paged_objects.specs.Ending.{HasEnded}
@@ -9,7 +9,7 @@ use Rattle.pages.specs.Stores.{GoesOn}
 use Rattle.posix_profile.specs.declared.reply.Errno.TheVariants as errors
 use Rattle.posix_profile.specs.declared.reply.Reply.TheVariants as replies
 use Rattle.page_volume.specs.Volumes.{pages_of}
-use Rattle.page_volume.proofs.Calls.{has_of, commit_done, commit_tree, commit_cause}
+use Rattle.page_volume.proofs.Calls.{has_of, powered, commit_done, commit_tree, commit_cause}
 use Rattle.page_volume.proofs.volume.PageVolume.finish.Goals.{in-Ok, in-Err}
 use Rattle.page_volume.proofs.volume.PageVolume.finish.Goals as goal
 
@@ -57,4 +57,13 @@ returns-clause-cause g c goes z s is told =
       | in-Ok w ↦ let two : replies.Done ≡ replies.Error errors.EIO = sym w.reply-is ∙ told in absurd cc
       | in-Err w ↦ subst HasEnded (sym c.into_pages-2.ensures)
           (commit_cause state z s.objects a b has c.commit.result _ w.in-Err.is c.commit.ensures.memory (c.commit.ensures.commits z s.objects has))
+    ]
+
+pub returns-clause-power : goal.returns-clause-power
+returns-clause-power g c told was =
+    let state = g.P.Pages.state in
+    let before : (state c.into_store-objects.result.pages).device.gone ≡ false = ap (λ o. (state o.pages).device.gone) c.into_store-objects.ensures ∙ was in
+    elim c.match-commit.branch [
+      | in-Ok w ↦ subst (λ (q : PagesState). q.device.gone ≡ false) (sym c.into_pages-2.ensures) (powered _ (w.in-Ok.ensures.power ∙ ap not before))
+      | in-Err w ↦ let two : replies.Error errors.EIO ≡ replies.Done = sym w.reply-is ∙ told in absurd cc
     ]

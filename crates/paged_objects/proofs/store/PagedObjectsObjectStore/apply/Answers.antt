@@ -1,4 +1,7 @@
+use Rattle.std.specs.Prelude.{not}
 use Rattle.std.specs.FinMap as map
+use Rattle.std.proofs.Common.{ap}
+use Rattle.std.proofs.lemmas.Result.{on_ok_weaker}
 use Rattle.object_store.specs.Changes.{made}
 use Rattle.object_store.specs.declared.change.ObjectChange.TheVariants as changes
 use Rattle.object_table.specs.Told.{table_sizes}
@@ -18,6 +21,7 @@ returns-in-Forget-clause-applies g c = λ z objects has make.
 pub returns-in_default : goal.returns-in_default
 returns-in_default g c = record {
   lasts = (c.make.ensures.goes_on, c.make.ensures.sizes);
+  power = on_ok_weaker c.make.result (ap not) c.make.ensures.power;
   leaves = λ none. let it = forgets c.args.change.now none in absurd (c.in_default.not-Forget it.0 it.1);
   applies = λ z objects has make.
       let p : PagesState = g.P.Pages.state c.args.self.now.pages in

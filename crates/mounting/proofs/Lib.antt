@@ -5,3 +5,4 @@ pub mod Shown
 pub mod Standing
 pub mod PagesMade
 pub mod Giving
+pub mod Reasons

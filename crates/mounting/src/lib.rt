@@ -17,4 +17,4 @@ mod tree_on;
 
 pub use fault::MountFault;
 pub use mounted::{Mounted, mount};
-pub use naming::refused;
+pub use naming::unmounted;

@@ -1,5 +1,5 @@
 // The mount.
-ghost use Rattle.std.specs.Prelude.{◌≡◌, ◌↔◌, true, IfOk, IfErr};
+ghost use Rattle.std.specs.Prelude.{◌≡◌, ◌↔◌, true, false, IfOk, IfErr};
 ghost use Rattle.nand_model.specs.Changes.{OnlyReads};
 ghost use Rattle.posix_profile.specs.State.{Objects};
 ghost use Rattle.mounting.specs.Faults.{WhyNotMounted};
@@ -8,7 +8,7 @@ ghost use Rattle.mounting.specs.Made.{CanOnlyBeRead, AreNext, HasSizes, IsMounte
 use crate::fault::MountFault;
 use crate::going_on::go_on;
 use crate::making::{is_worn, make_pages};
-use crate::naming::refused;
+use crate::naming::unmounted;
 use crate::tree_on::open_tree;
 use flash_pages::FlashPages;
 use mount_answers::{a_volume_has_sizes, the_footprint_holds_the_tree};
@@ -26,13 +26,15 @@ pub struct Mounted<N: Nand> {
     pub read_only: bool,
 }
 
-/// Mounts a device, which is only read, with a cache of at most so many pages. After a fault it is given back.
+/// Mounts a device, which is only read, with a cache of at most so many pages. After a fault it is given back: where that is
+/// another than Gone, it has power.
 pub fn mount<N: Nand>(
     alloc: Global,
     device: N,
     capacity: NonZeroUsize,
 ) -> Result<Mounted<N>, (N, MountFault)>
     ensures reads { IfOk result (λ mounted. OnlyReads (N.state device) (⟦<FlashPages<N> as Pages>⟧.state mounted.pages).device) }
+    ensures power { (N.state device).gone ≡ false → IfOk result (λ mounted. (⟦<FlashPages<N> as Pages>⟧.state mounted.pages).device.gone ≡ false) }
     ensures sizes { IfOk result (λ mounted. HasSizes (⟦<FlashPages<N> as Pages>⟧.state mounted.pages) mounted.table) }
     ensures read_only { IfOk result (λ mounted. (mounted.read_only ≡ true) ↔ CanOnlyBeRead (⟦<FlashPages<N> as Pages>⟧.state mounted.pages)) }
     ensures next { (N.state device).honest ≡ true → IfOk result (λ mounted. AreNext (⟦<FlashPages<N> as Pages>⟧.state mounted.pages).device.flash (⟦<FlashPages<N> as Pages>⟧.state mounted.pages).next) }
@@ -48,11 +50,11 @@ pub fn mount<N: Nand>(
     };
     let sizes = match go_on(&on) {
         Some(sizes) => sizes,
-        None => return Err((on.device, MountFault::Damaged)),
+        None => return Err(unmounted(on.device, MountFault::Damaged)),
     };
     let table = match table(alloc, &on.tree, sizes) {
         Ok(table) => table,
-        Err(_) => return Err(refused(on.device)),
+        Err(_) => return Err(unmounted(on.device, MountFault::NoMemory)),
     };
     let read_only = is_worn(&on);
     match make_pages(alloc, on, capacity, read_only) {
@@ -61,6 +63,6 @@ pub fn mount<N: Nand>(
             table,
             read_only,
         }),
-        Err((device, _)) => Err(refused(device)),
+        Err((device, _)) => Err(unmounted(device, MountFault::NoMemory)),
     }
 }

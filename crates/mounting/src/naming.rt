@@ -1,60 +1,58 @@
-// Why a tree was not read, or memory refused, as a reason why a device is not mounted.
-ghost use Rattle.std.specs.Prelude.{◌≡◌, true};
+// Why a device was not scanned, or its tree not read, as a reason why it is not mounted.
+ghost use Rattle.std.specs.Prelude.{◌≡◌, false};
 ghost use Rattle.nand_model.specs.Changes.{OnlyReads};
-ghost use Rattle.mounting.specs.Faults.{AnswersFault, WhyNotMounted};
+ghost use Rattle.mounting.specs.Faults.{IsReason, WhyNotMounted, of_open, of_root};
 
 use crate::fault::MountFault;
 use nand_model::Nand;
+use newest_pages::OpenFault;
 use pages::has_power;
 use tree_walk::RootFault;
 
-/// Whether the power of a device is gone. One tag is read.
-fn is_gone<N: Nand>(device: &mut N) -> bool
-    ensures reads { OnlyReads (N.state device.old) (N.state device.new) }
-    ensures gone { result ≡ true → (N.state device.new).gone ≡ true }
-    ensures stays { (N.state device.old).gone ≡ true → result ≡ true }
-{
-    !has_power(device)
-}
-
-/// Why a device is not mounted for which memory was refused: for that, if it has power.
-fn memory_fault<N: Nand>(device: &mut N) -> MountFault
-    ensures reads { OnlyReads (N.state device.old) (N.state device.new) }
-    ensures why { WhyNotMounted (N.state device.new) result }
-{
-    if has_power(device) {
-        return MountFault::NoMemory;
-    }
-    MountFault::Gone
-}
-
-/// A device for which memory was refused, and why it is not mounted: for that, if it has power.
-pub fn refused<N: Nand>(device: N) -> (N, MountFault)
-    ensures reads { OnlyReads (N.state device) (N.state result.0) }
-    ensures why { WhyNotMounted (N.state result.0) result.1 }
-{
-    let mut device = device;
-    let why = memory_fault(&mut device);
-    (device, why)
-}
-
-/// The reason in the words of a mount. A device that failed is gone, or it is damaged since it did not give back what it was
-/// told.
-pub(crate) fn mount_fault<N: Nand>(device: &mut N, fault: RootFault) -> MountFault
-    requires { (N.state device.old).honest ≡ true → AnswersFault (N.state device.old) fault }
-    ensures reads { OnlyReads (N.state device.old) (N.state device.new) }
-    ensures why { WhyNotMounted (N.state device.new) result }
+/// A fault of a scan in the words of a mount. A page that was not given back is damage.
+pub(crate) fn scan_fault(fault: OpenFault) -> MountFault
+    ensures { result ≡ of_open fault }
 {
     match fault {
-        RootFault::NoMemory => memory_fault(device),
-        RootFault::Device => {
-            if is_gone(device) {
-                return MountFault::Gone;
-            }
-            MountFault::Damaged
-        }
+        OpenFault::NoMemory => MountFault::NoMemory,
+        OpenFault::Lost => MountFault::Damaged,
+        OpenFault::Gone => MountFault::Gone,
+    }
+}
+
+/// A fault of a tree that was not read, in the words of a mount. A page that was not given back is damage.
+pub(crate) fn tree_fault(fault: RootFault) -> MountFault
+    ensures { result ≡ of_root fault }
+{
+    match fault {
+        RootFault::NoMemory => MountFault::NoMemory,
+        RootFault::Device => MountFault::Damaged,
         RootFault::NotAVolume => MountFault::NotAVolume,
         RootFault::Newer(format) => MountFault::Newer(format),
         RootFault::Damaged => MountFault::Damaged,
     }
+}
+
+/// The reason why a device is not mounted: this fault, if it has power. One tag is read.
+fn reason<N: Nand>(device: &mut N, fault: MountFault) -> MountFault
+    requires { (N.state device.old).gone ≡ false → IsReason (N.state device.old) fault }
+    ensures reads { OnlyReads (N.state device.old) (N.state device.new) }
+    ensures why { WhyNotMounted (N.state device.new) result }
+{
+    if has_power(device) {
+        fault
+    } else {
+        MountFault::Gone
+    }
+}
+
+/// A device that is not mounted, and why: for this fault, if it has power. One tag is read.
+pub fn unmounted<N: Nand>(device: N, fault: MountFault) -> (N, MountFault)
+    requires { (N.state device).gone ≡ false → IsReason (N.state device) fault }
+    ensures reads { OnlyReads (N.state device) (N.state result.0) }
+    ensures why { WhyNotMounted (N.state result.0) result.1 }
+{
+    let mut device = device;
+    let why = reason(&mut device, fault);
+    (device, why)
 }

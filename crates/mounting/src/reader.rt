@@ -62,6 +62,7 @@ impl<'a, N: Nand> LentPages<'a, N> {
         ensures reads { OnlyReads (N.state self.old.device) (N.state self.new.device) }
         ensures index { self.new.index.now ≡ self.old.index.now }
         ensures asked { (N.state self.new.device).reads ≤ (N.state self.old.device).reads + 1 }
+        ensures power { OnOk result ((N.state self.new.device).gone ≡ (N.state self.old.device).gone) }
         ensures there { IfOk result (λ presence. presence ≡ Presence.Present) }
         ensures page { (N.state self.old.device).honest ≡ true → OnOk result (data_at (N.state self.old.device).flash at ≡ Some self.new.page.items) }
         ensures fault { IfErr result (λ fault. (fault ≡ StoreFault.Device) × (((N.state self.new.device).gone ≡ true) ⊎ ((N.state self.old.device).honest ≡ true → data_at (N.state self.old.device).flash at ≡ None))) }

@@ -1,5 +1,5 @@
 // The tree of a device that was scanned.
-ghost use Rattle.std.specs.Prelude.{◌≡◌, true, IfOk, IfErr};
+ghost use Rattle.std.specs.Prelude.{◌≡◌, true, false, IfOk, IfErr};
 ghost use Rattle.nand_model.specs.Changes.{OnlyReads};
 ghost use Rattle.flash_tree.specs.Newest.{Numbers};
 ghost use Rattle.block_state.specs.Table.{Table};
@@ -10,7 +10,7 @@ ghost use Rattle.mounting.specs.Faults.{WhyNotMounted};
 ghost use Rattle.mounting.specs.Trees.{IsGoneThrough};
 
 use crate::fault::MountFault;
-use crate::naming::{mount_fault, refused};
+use crate::naming::{tree_fault, unmounted};
 use crate::reader::LentPages;
 use crate::tree::{FoundTree, find_tree};
 use chunk_index::Index;
@@ -28,6 +28,7 @@ pub(crate) fn read_tree<N: Nand>(
 ) -> Result<(N, FoundTree), (N, MountFault)>
     requires { (t : Table) × (n : Numbers) × IsOpened (N.state device) t index.now n }
     ensures reads { IfOk result (λ read. OnlyReads (N.state device) (N.state read.0)) }
+    ensures power { (N.state device).gone ≡ false → IfOk result (λ read. (N.state read.0).gone ≡ false) }
     ensures tree { (N.state device).honest ≡ true
         → IfOk result (λ read. IsGoneThrough (N.state device).geometry (has (kept_data index.now (N.state device).flash)) read.1.spare read.1.tree) }
     ensures back { IfErr result (λ failed. OnlyReads (N.state device) (N.state failed.0)) }
@@ -38,15 +39,12 @@ pub(crate) fn read_tree<N: Nand>(
     let geometry = device.geometry();
     let mut pages = match LentPages::new(alloc, device, index) {
         Ok(pages) => pages,
-        Err((device, _)) => return Err(refused(device)),
+        Err((device, _)) => return Err(unmounted(device, MountFault::NoMemory)),
     };
     let found = find_tree(alloc, &mut pages, geometry);
-    let mut device = pages.into_device();
+    let device = pages.into_device();
     match found {
         Ok(tree) => Ok((device, tree)),
-        Err(fault) => {
-            let why = mount_fault(&mut device, fault);
-            Err((device, why))
-        }
+        Err(fault) => Err(unmounted(device, tree_fault(fault))),
     }
 }

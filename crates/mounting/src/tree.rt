@@ -1,7 +1,7 @@
 // The tree of a volume, read from pages.
-ghost use Rattle.std.specs.Prelude.{◌≡◌, true, IfOk, IfErr};
+ghost use Rattle.std.specs.Prelude.{◌≡◌, true, OnOk, IfOk, IfErr};
 ghost use Rattle.pages.specs.Maps.{has};
-ghost use Rattle.pages.specs.State.{OnlyFinds};
+ghost use Rattle.pages.specs.State.{OnlyFinds, KeepsPower};
 ghost use Rattle.mounting.specs.Trees.{IsGoneThrough, TellsTree, FailsTree, of_walk};
 
 use nand_model::Geometry;
@@ -35,6 +35,7 @@ pub(crate) fn find_tree<P: KnownPages>(
     geometry: Geometry,
 ) -> Result<FoundTree, RootFault>
     ensures finds { OnlyFinds (P.state pages.old) (P.state pages.new) }
+    ensures power { OnOk result (KeepsPower (P.state pages.old) (P.state pages.new)) }
     ensures tree { (P.state pages.old).sound ≡ true → geometry.bytes ≡ (P.state pages.old).page_bytes
         → IfOk result (λ found. IsGoneThrough geometry (has (P.state pages.old).present) found.spare found.tree) }
     ensures fault { (P.state pages.old).sound ≡ true → geometry.bytes ≡ (P.state pages.old).page_bytes

@@ -1,5 +1,5 @@
 // A device whose tree is read, and whether a volume can go on with it.
-ghost use Rattle.std.specs.Prelude.{◌≡◌, true, IfOk, IfErr};
+ghost use Rattle.std.specs.Prelude.{◌≡◌, true, false, IfOk, IfErr};
 ghost use Rattle.nand_model.specs.Changes.{OnlyReads};
 ghost use Rattle.flash_tree.specs.Places.{numbers_of};
 ghost use Rattle.block_state.specs.TableOf.{table};
@@ -33,6 +33,7 @@ pub(crate) struct TreeOn<N: Nand> {
 /// Scans a device and goes through its tree, whose pages alone are kept then.
 pub(crate) fn open_tree<N: Nand>(alloc: Global, device: N) -> Result<TreeOn<N>, (N, MountFault)>
     ensures reads { IfOk result (λ on. OnlyReads (N.state device) (N.state on.device)) }
+    ensures power { (N.state device).gone ≡ false → IfOk result (λ on. (N.state on.device).gone ≡ false) }
     ensures read { IfOk result (λ on. IsTreeRead (N.state on.device) (table on.blocks) on.index (numbers_of on.numbers) on.spare on.tree) }
     ensures back { IfErr result (λ failed. OnlyReads (N.state device) (N.state failed.0)) }
     ensures fault { IfErr result (λ failed. WhyNotMounted (N.state failed.0) failed.1) }

@@ -8,7 +8,7 @@ ghost use Rattle.mounting.specs.Made.{CanOnlyBeRead, AreNext};
 use crate::joining::join;
 use crate::volume::Volume;
 use flash_pages::FlashPages;
-use mounting::{MountFault, Mounted};
+use mounting::{MountFault, Mounted, unmounted};
 use nand_model::Nand;
 use pages::Pages;
 use std::alloc::Global;
@@ -23,6 +23,7 @@ impl<N: Nand> Volume<N> {
     pub fn mount(alloc: Global, device: N) -> Result<Volume<N>, (N, MountFault)>
         ensures reads { IfOk result (λ v. OnlyReads (N.state device) (⟦<FlashPages<N> as Pages>⟧.state (pages_of (over_pages v))).device) }
         ensures goes_on { IfOk result (λ v. is_stopped (over_pages v) ≡ false) }
+        ensures power { (N.state device).gone ≡ false → IfOk result (λ v. (⟦<FlashPages<N> as Pages>⟧.state (pages_of (over_pages v))).device.gone ≡ false) }
         ensures read_only { IfOk result (λ v. (is_read_only (over_pages v) ≡ true) ↔ CanOnlyBeRead (⟦<FlashPages<N> as Pages>⟧.state (pages_of (over_pages v)))) }
         ensures next { (N.state device).honest ≡ true
             → IfOk result (λ v. AreNext (⟦<FlashPages<N> as Pages>⟧.state (pages_of (over_pages v))).device.flash (⟦<FlashPages<N> as Pages>⟧.state (pages_of (over_pages v))).next) }
@@ -43,6 +44,7 @@ impl<N: Nand> Volume<N> {
     ) -> Result<Volume<N>, (N, MountFault)>
         ensures reads { IfOk result (λ v. OnlyReads (N.state device) (⟦<FlashPages<N> as Pages>⟧.state (pages_of (over_pages v))).device) }
         ensures goes_on { IfOk result (λ v. is_stopped (over_pages v) ≡ false) }
+        ensures power { (N.state device).gone ≡ false → IfOk result (λ v. (⟦<FlashPages<N> as Pages>⟧.state (pages_of (over_pages v))).device.gone ≡ false) }
         ensures read_only { IfOk result (λ v. (is_read_only (over_pages v) ≡ true) ↔ CanOnlyBeRead (⟦<FlashPages<N> as Pages>⟧.state (pages_of (over_pages v)))) }
         ensures next { (N.state device).honest ≡ true
             → IfOk result (λ v. AreNext (⟦<FlashPages<N> as Pages>⟧.state (pages_of (over_pages v))).device.flash (⟦<FlashPages<N> as Pages>⟧.state (pages_of (over_pages v))).next) }
@@ -62,7 +64,7 @@ impl<N: Nand> Volume<N> {
         };
         match join(alloc, pages, table, read_only) {
             Ok(volume) => Ok(Volume { volume }),
-            Err((pages, _)) => Err(mounting::refused(pages.into_device())),
+            Err((pages, _)) => Err(unmounted(pages.into_device(), MountFault::NoMemory)),
         }
     }
 }

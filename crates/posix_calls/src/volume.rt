@@ -6,7 +6,7 @@ ghost use Rattle.command_plans.specs.Classes.{makes_no_call};
 ghost use Rattle.object_store.specs.Stores.{settled};
 ghost use Rattle.paged_objects.specs.Ending.{HasEnded, StaysAs};
 ghost use Rattle.paged_objects.specs.Standing.{Shown};
-ghost use Rattle.pages.specs.Stores.{GoesOn};
+ghost use Rattle.pages.specs.Stores.{GoesOn, HasFailed};
 ghost use Rattle.posix_profile.specs.Losses.{is_synced};
 ghost use Rattle.posix_profile.specs.Runs.{Replies, after_one, is_stop};
 ghost use Rattle.posix_profile.specs.State.{Objects, State};
@@ -60,12 +60,17 @@ impl<N: Nand> Volume<N> {
         // Where memory was refused the device has power.
         ensures power { is_stopped (over_pages self.old) ≡ false → (z : Sizes) (s : State) → IsVolumeOf ⟦<FlashPages<N> as Pages>⟧.state z s (over_pages self.old) → result ≡ replies.Error errors.ENOMEM
             → (⟦<FlashPages<N> as Pages>⟧.state (pages_of (over_pages self.new))).device.gone ≡ false }
+        // A reply other than EIO is given by a device that has not lost its power in the command.
+        ensures keeps_power { is_stop result ≡ false → (⟦<FlashPages<N> as Pages>⟧.state (pages_of (over_pages self.old))).device.gone ≡ false → (⟦<FlashPages<N> as Pages>⟧.state (pages_of (over_pages self.new))).device.gone ≡ false }
         // What only tells, what is meant to be answered by an error, and what was refused memory only read.
         ensures reads { is_stopped (over_pages self.old) ≡ false → (z : Sizes) (s : State) → IsVolumeOf ⟦<FlashPages<N> as Pages>⟧.state z s (over_pages self.old) → OnlyTells z (is_read_only (over_pages self.old)) s stamped.now result
             → StaysAs (⟦<FlashPages<N> as Pages>⟧.state (pages_of (over_pages self.old))) (⟦<FlashPages<N> as Pages>⟧.state (pages_of (over_pages self.new))) }
         // The device of a read-only volume is only read.
         ensures only_reads { is_read_only (over_pages self.old) ≡ true → (z : Sizes) (s : State) → IsVolumeOf ⟦<FlashPages<N> as Pages>⟧.state z s (over_pages self.old)
             → OnlyReads (⟦<FlashPages<N> as Pages>⟧.state (pages_of (over_pages self.old))).device (⟦<FlashPages<N> as Pages>⟧.state (pages_of (over_pages self.new))).device }
+        // And nothing stops it but a device that is gone or not honest.
+        ensures only_failed { is_read_only (over_pages self.old) ≡ true → is_stopped (over_pages self.old) ≡ false → (z : Sizes) (s : State) → IsVolumeOf ⟦<FlashPages<N> as Pages>⟧.state z s (over_pages self.old) → is_stop result ≡ true
+            → HasFailed (⟦<FlashPages<N> as Pages>⟧.state (pages_of (over_pages self.new))).device }
     {
         self.volume.call(stamped)
     }

@@ -63,9 +63,9 @@ module _ (one : (g : Geometry) (flash : Flash) (a b : Answer) → Answers g flas
     session_failed : (fault : MountFault) → WhyNotMounted e fault → (z : Sizes) → IsSessionFrom z tree (failed_record commands (answer_of (Err fault)) e.gone) tree
     session_failed faults.Gone why z = gone_in_it z tree commands e.gone why
     session_failed faults.NoMemory why z = no_memory z tree commands e.gone
-    session_failed faults.NotAVolume why z = let two : NotAVolume ≡ IsTreeOf spare tree = no_other NotAVolume (why (reads.lasts.honest ∙ honest)) in absurd cc
-    session_failed (faults.Newer format) why z = let two : IsWrong (IsNewer format) ≡ IsTreeOf spare tree = no_other (IsWrong (IsNewer format)) (why (reads.lasts.honest ∙ honest)) in absurd cc
-    session_failed faults.Damaged why z = let two : IsWrong IsDamaged ≡ IsTreeOf spare tree = no_other (IsWrong IsDamaged) (why (reads.lasts.honest ∙ honest)) in absurd cc
+    session_failed faults.NotAVolume why z = let two : NotAVolume ≡ IsTreeOf spare tree = no_other NotAVolume (why.1 (reads.lasts.honest ∙ honest)) in absurd cc
+    session_failed (faults.Newer format) why z = let two : IsWrong (IsNewer format) ≡ IsTreeOf spare tree = no_other (IsWrong (IsNewer format)) (why.1 (reads.lasts.honest ∙ honest)) in absurd cc
+    session_failed faults.Damaged why z = let two : IsWrong IsDamaged ≡ IsTreeOf spare tree = no_other (IsWrong IsDamaged) (why.1 (reads.lasts.honest ∙ honest)) in absurd cc
 
   pub failed_lived : (fault : MountFault) → WhyNotMounted e fault → HasLived d e (failed_record commands (answer_of (Err fault)) e.gone ∷ [])
   failed_lived fault why =

@@ -36,5 +36,8 @@ returns-in-Ok-make_pages-clause-tree g c = λ honest.
 
 pub returns-in-Err-make_pages-clause-back : goal.returns-in-Err-make_pages-clause-back
 returns-in-Err-make_pages-clause-back g c =
-    let told = c.refused-in-Err-make_pages in
+    let told = c.unmounted-in-Err-make_pages in
     only_reads_on _ _ _ c.in-Ok.ensures.reads (subst (λ (k : Device). OnlyReads k (g.N.Nand.state told.result.0)) c.in-Err-make_pages.ensures.given_back told.ensures.reads)
+
+pub returns-in-Err-table-clause-back : goal.returns-in-Err-table-clause-back
+returns-in-Err-table-clause-back g c = only_reads_on _ _ _ c.in-Ok.ensures.reads c.unmounted-in-Err-table.ensures.reads

@@ -13,4 +13,4 @@ returns-in-Ok-join-clause-tree g c = λ honest.
 pub returns-in-Err-join-clause-back : goal.returns-in-Err-join-clause-back
 returns-in-Err-join-clause-back g c =
     let same = c.into_device.ensures ∙ ap (λ (p : PagesState). p.device) c.in-Err-join.ensures.given_back in
-    only_reads_on _ _ _ c.in-Ok.ensures.reads (subst (λ (k : Device). OnlyReads k (g.N.Nand.state c.refused.result.0)) same c.refused.ensures.reads)
+    only_reads_on _ _ _ c.in-Ok.ensures.reads (subst (λ (k : Device). OnlyReads k (g.N.Nand.state c.unmounted.result.0)) same c.unmounted.ensures.reads)

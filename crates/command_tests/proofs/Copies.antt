@@ -14,8 +14,8 @@ pub maps_have : (z : Sizes) (objects : Objects) (a : KeptObjects) → Has kept_m
 maps_have z objects a has = record { numbers = has.numbers; sizes = has.sizes; stands = has.stands; forest = has.forest; fit = has.fit }
 
 -- what the maps find, the store finds
-pub store_finds : {A : Type 0} (objects : Objects) (meant : A) (a b : KeptObjects) (r : Result A StoreFault) → Finds plain_meaning objects meant a.objects b.objects r → Finds kept_meaning objects meant a b r
-store_finds objects meant a b (Ok found) is = is
-store_finds objects meant a b (Err faults.NoMemory) is = is
-store_finds objects meant a b (Err faults.Device) is = tt
-store_finds objects meant a b (Err faults.Worn) is = tt
+pub store_finds : {A : Type 0} (meant : A) (a b : KeptObjects) (r : Result A StoreFault) → Finds plain_meaning meant a.objects b.objects r → Finds kept_meaning meant a b r
+store_finds meant a b (Ok found) is = is
+store_finds meant a b (Err faults.NoMemory) is = is
+store_finds meant a b (Err faults.Device) is = is
+store_finds meant a b (Err faults.Worn) is = is

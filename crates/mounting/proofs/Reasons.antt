@@ -1,12 +1,12 @@
 -- Reasons in the words of a mount.
 use Rattle.std.specs.Prelude.{◌≡◌, Bool, true, false, not}
-use Rattle.std.proofs.Common.{refl, sym, ◌∙◌, ap, subst}
+use Rattle.std.proofs.Common.{refl, sym, ◌∙◌, subst}
 use Rattle.nand_model.specs.Calls.{Device}
 use Rattle.nand_model.specs.Changes.{OnlyReads}
 use Rattle.nand_model.specs.Flash.{Flash}
 use Rattle.nand_model.specs.declared.geometry.Geometry.{Geometry}
 use Rattle.flash_tree.specs.Mount.{Answer, Answers, NotAVolume, IsWrong, IsNewer, IsDamaged}
-use Rattle.flash_tree.specs.laws.Place.{same_flash}
+use Rattle.flash_tree.specs.laws.Place.{same_flash, had_power}
 use Rattle.newest_pages.specs.Opened.{WhyNotOpened}
 use Rattle.newest_pages.specs.declared.opening.OpenFault.{OpenFault}
 use Rattle.newest_pages.specs.declared.opening.OpenFault.TheVariants as opens
@@ -27,14 +27,6 @@ powered : (gone : Bool) → not gone ≡ true → gone ≡ false
 powered true has = let two : false ≡ true = has in absurd cc
 powered false has = refl
 
--- a device that has power after reads had it before
-had_power : (a b : Device) → OnlyReads a b → b.gone ≡ false → a.gone ≡ false
-had_power a b reads power = go a.gone refl
-  where
-    go : (was : Bool) → a.gone ≡ was → a.gone ≡ false
-    go true gone = let two : true ≡ false = sym (ap (λ (d : Device). d.gone) (reads.lasts.gone gone) ∙ gone) ∙ power in absurd cc
-    go false there = there
-
 -- a reason of a device that has power still, after reads
 reason_still : (a b : Device) (fault : MountFault) → OnlyReads a b → b.gone ≡ false → IsReason a fault → WhyNotMounted b fault
 reason_still a b faults.Gone reads power why = absurd why
@@ -47,7 +39,7 @@ reason_still a b faults.Damaged reads power why = (power, answers_still a b (IsW
 pub reason_told : (a b : Device) (fault : MountFault) (power : Bool) → OnlyReads a b → power ≡ not b.gone → power ≡ true → (a.gone ≡ false → IsReason a fault) → WhyNotMounted b fault
 reason_told a b fault power reads told has why =
     let there : b.gone ≡ false = powered b.gone (sym told ∙ has) in
-    reason_still a b fault reads there (why (had_power a b reads there))
+    reason_still a b fault reads there (why (had_power a b reads.lasts there))
 
 -- a fault of a scan has its reason
 pub scan_reason : (d : Device) (fault : OpenFault) (told : MountFault) → told ≡ of_open fault → WhyNotOpened d fault → d.gone ≡ false → IsReason d told

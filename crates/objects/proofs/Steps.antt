@@ -5,6 +5,7 @@ use Rattle.std.proofs.Common.{refl, sym, ◌∙◌, ap, subst, inl, inr, arith}
 use Rattle.std.proofs.lemmas.Bool.{cases_eq, false≢true}
 use Rattle.nand_model.specs.Flash.{Flash}
 use Rattle.nand_model.specs.Calls.{Device, Lasts}
+use Rattle.flash_tree.specs.laws.Place.{had_power}
 use Rattle.flash_tree.specs.declared.place.FreshPage.{FreshPage}
 use Rattle.flash_tree.specs.declared.place.Key.{Key}
 use Rattle.block_state.specs.Table.{Table, room}
@@ -267,15 +268,7 @@ open_between count now t u v w d e f k before tables long after then (inr keeps)
     subst (λ (x : Device). KeepsOpen count t w d x) (sym after) (subst (λ (y : Table). KeepsOpen count t y d f) (sym then)
     (subst (λ n. KeepsOpen n t v d f) long (subst (λ (x : Device). KeepsOpen now t v x f) before (subst (λ (y : Table). KeepsOpen now y v e f) tables keeps)))))
 
--- a device that has power now had it before
-pub had_power_too : (old new : Device) → Lasts old new → new.gone ≡ false → new.gone ≡ old.gone
-had_power_too old new lasts is = go old.gone refl
-  where
-    go : (was : Bool) → old.gone ≡ was → new.gone ≡ old.gone
-    go true gone = ap (λ (d : Device). d.gone) (lasts.gone gone)
-    go false there = is ∙ sym there
-
 -- a commit that is done has not lost the power
 pub committed_power : (old new : Device) (pages : List FreshPage) → Lasts old new → (pages ≡ [] → new ≡ old) → (1 ≤ length pages → new.gone ≡ false) → new.gone ≡ old.gone
 committed_power old new [] lasts none some = ap (λ (d : Device). d.gone) (none refl)
-committed_power old new (page ∷ pages) lasts none some = had_power_too old new lasts (some (omega arith))
+committed_power old new (page ∷ pages) lasts none some = let is = some (omega arith) in is ∙ sym (had_power old new lasts is)

@@ -9,7 +9,8 @@ use Rattle.block_state.specs.laws.Kept.{free_where_closed, free_where_held}
 use Rattle.chunk_index.specs.declared.index.Index.{Index}
 use Rattle.chunk_index.specs.Kept.{HoldsNone}
 use Rattle.chunk_index.specs.Maps.{kept_pages}
-use Rattle.bad_blocks.specs.Moving.{Moves, AnswersFailures, MarksFailures, Costs, LiesIn, IsAway}
+use Rattle.nand_model.specs.Counts.{Costs, ReadsFew}
+use Rattle.bad_blocks.specs.Moving.{Moves, AnswersFailures, MarksFailures, LiesIn, IsAway}
 use Rattle.bad_blocks.specs.Retiring.{IsOut, IsRetired, RetireEnds, open_failures}
 use Rattle.bad_blocks.specs.Standing.{Stands}
 use Rattle.bad_blocks.specs.declared.fault.MoveFault.{MoveFault}
@@ -32,6 +33,7 @@ pub record Retiring (spare v : ℕ) (d0 d : Device) (t0 t : Table) (x0 x : Index
   pub marks : MarksFailures 1 (open_of suspect) d0 d t0 t
   pub answers : AnswersFailures 1 (open_of suspect) d0 d t0 t
   pub costs : Costs (d0.geometry.pages + 2) (d0.geometry.pages + 2) (open_of suspect) d0 d
+  pub reads : ReadsFew 0 d0 d
   pub out : IsOut v spare t0 t suspect
   pub power : d.gone ≡ false
 
@@ -46,17 +48,8 @@ module _ (spare v w : ℕ) (d0 d : Device) (t0 t : Table) (x0 x : Index) (r : Re
   lies : LiesIn v w t0 t
   lies = (r.out.moved some).0
 
-  pub next_closed : t.open_block ≡ None
-  next_closed = (r.out.moved some).1
-
-  pub next_good : (t.entry w).bad ≡ false
-  next_good = lies.good
-
   pub next_unkept : (t0.entry w).kept ≡ 0
   next_unkept = lies.was
-
-  pub next_within : w < d.geometry.blocks
-  next_within = subst (λ (g : Geometry). w < g.blocks) (sym r.moves.geometry ∙ r.moves.ready.geometry) lies.within
 
   not_first : v ≢ w
   not_first e = let two : true ≡ false = sym r.out.bad ∙ ap (λ b. (t.entry b).bad) e ∙ lies.good in cc
@@ -109,14 +102,15 @@ module _ (spare v w : ℕ) (d0 d : Device) (t0 t : Table) (x0 x : Index) (r : Re
     unkept_on None (k, l) = l.lies.elsewhere v not_first (λ e. let two : true ≡ false = sym later ∙ ap (λ b. (t'.entry b).bad) e ∙ l.lies.good in cc) ∙ r.out.unkept
     unkept_on (Some k) (l, closed) = l.elsewhere v not_first (λ e. let two : true ≡ false = sym later ∙ ap (λ b. (t'.entry b).bad) e ∙ l.good in cc) ∙ r.out.unkept
 
-    pub retiring_next : Stands spare d' t' x' → MarksFailures 1 (open_of suspect) d d' t t' → AnswersFailures 1 (open_of suspect) d d' t t' → Costs (d.geometry.pages + 2) (d.geometry.pages + 2) (open_of suspect) d d' → d'.gone ≡ false
+    pub retiring_next : Stands spare d' t' x' → MarksFailures 1 (open_of suspect) d d' t t' → AnswersFailures 1 (open_of suspect) d d' t t' → Costs (d.geometry.pages + 2) (d.geometry.pages + 2) (open_of suspect) d d' → ReadsFew 0 d d' → d'.gone ≡ false
         → Retiring spare v d0 d' t0 t' x0 x' suspect
-    retiring_next stands marks answers costs power = record {
+    retiring_next stands marks answers costs reads power = record {
       moves = moves_next d' t' x' none moves;
       stands = stands;
       marks = marks_next (open_of suspect) d' t' marks;
       answers = answers_next (open_of suspect) d' t' answers;
       costs = costs_next (open_of suspect) d' costs;
+      reads = omega (arith, r.reads, reads);
       out = record {
         bad = later;
         unkept = unkept_on suspect (out.moved there_some);
@@ -161,3 +155,7 @@ ends_closed v spare d t t' (Ok done) (is, power) = (
   },
   power,
 )
+
+-- none is not some
+pub some_none : (n : ℕ) → Some n ≡ None → ⊥
+some_none n is = absurd cc

@@ -20,7 +20,7 @@ use Rattle.transactions.specs.declared.group.Placed.{Placed}
 use Rattle.transactions.specs.declared.group.GroupFault.{GroupFault}
 use Rattle.transactions.specs.declared.group.GroupFault.TheVariants as groups
 use Rattle.bad_blocks.specs.Copying.{IsFresh, MayBeCopied, KeepsDataAt, AreCopied, StayOrLieApart, CopiesEnd, CopiesCost, left_open, most_changes}
-use Rattle.bad_blocks.specs.Moving.{Costs}
+use Rattle.nand_model.specs.Counts.{Costs}
 use Rattle.bad_blocks.specs.Passing.{Passes}
 use Rattle.bad_blocks.specs.Taking.{Takes, CostsATake}
 use Rattle.bad_blocks.specs.declared.copying.Copied.{Copied}

@@ -1,6 +1,7 @@
 -- The move of the kept pages of a block.
 -- From: this project.
-use Rattle.std.specs.Prelude.{◌≡◌, ◌≢◌, ◌⊎◌, ◌<◌, ◌≤◌, ◌^◌, ℕ, ◌+◌, ◌*◌, true, false, Option, Some, None, Result, Ok, Err}
+use Rattle.std.specs.Prelude.{◌≡◌, ◌≢◌, ◌⊎◌, ◌<◌, ◌≤◌, ℕ, ◌+◌, ◌*◌, true, false, Option, Some, None, Result, Ok, Err}
+use Rattle.volume_terms.specs.Sizes.{number_end}
 use Rattle.nand_model.specs.Calls.{Device, Lasts}
 use Rattle.block_state.specs.Kept.{bad_count, kept_count}
 use Rattle.block_state.specs.Table.{Table}
@@ -56,10 +57,6 @@ MarksFailures more unanswered old new t t' = bad_count t' + old.failures + unans
 abbrev pub AnswersFailures : (more unanswered : ℕ) → Device → Device → Table → Table → Type 0
 AnswersFailures more unanswered old new t t' = bad_count t + new.failures + more ≤ bad_count t' + old.failures + unanswered
 
--- the device counts at most so many changes, and so many besides for each failure but those that are unanswered
-abbrev pub Costs : (changes each unanswered : ℕ) → Device → Device → Type 0
-Costs changes each unanswered old new = new.changes + each * (old.failures + unanswered) ≤ old.changes + each * new.failures + changes
-
 -- a suspect copy is a failure that no mark has answered yet
 abbrev pub unanswered : Result Moved MoveFault → ℕ
 unanswered (Ok places.Trusted) = 0
@@ -98,7 +95,7 @@ pub record IsLeft (v : ℕ) (t : Table) : Type 0 where
 -- Why nothing was moved, or not all that had to be: a number of 2^62 or more would be needed, or more blocks are bad than
 -- there are to spare; the device is not honest; it is gone.
 abbrev pub WhyNotMoved : (spare : ℕ) → Device → Table → MoveFault → Type 0
-WhyNotMoved spare device t faults.Worn = (2 ^ 62 ≤ t.next_seq) ⊎ (2 ^ 62 ≤ t.next_group) ⊎ ((spare < bad_count t) × (device.gone ≡ false))
+WhyNotMoved spare device t faults.Worn = (number_end ≤ t.next_seq) ⊎ (number_end ≤ t.next_group) ⊎ ((spare < bad_count t) × (device.gone ≡ false))
 WhyNotMoved spare device t faults.Lost = device.honest ≡ false
 WhyNotMoved spare device t faults.Gone = device.gone ≡ true
 

@@ -1,6 +1,7 @@
 -- What the passing over of blocks keeps.
 -- From: this project.
-use Rattle.std.specs.Prelude.{◌≡◌, ◌⊎◌, ◌≤◌, ◌^◌, ℕ, ◌+◌, true}
+use Rattle.std.specs.Prelude.{◌≡◌, ◌⊎◌, ◌≤◌, ℕ, ◌+◌, true}
+use Rattle.volume_terms.specs.Sizes.{number_end}
 use Rattle.nand_model.specs.Flash.{Flash}
 use Rattle.nand_model.specs.Calls.{Device}
 use Rattle.flash_tree.specs.Keeping.{StaysNewest}
@@ -17,7 +18,7 @@ KeepsKept t old new = (o c : ℕ) (s : Spot) → IsNewest old o c s → 1 ≤ (t
 pub record Passes (old new : Device) (t t' : Table) : Type 0 where
   pub geometry : t'.geometry ≡ t.geometry
   pub next_group : t'.next_group ≡ t.next_group
-  pub limit : t.next_seq ≤ 2 ^ 62 → t'.next_seq ≤ 2 ^ 62
+  pub limit : t.next_seq ≤ number_end → t'.next_seq ≤ number_end
   pub kept : (b : ℕ) → (t'.entry b).kept ≡ (t.entry b).kept
   pub marks_stay : (b : ℕ) → (t.entry b).bad ≡ true → (t'.entry b).bad ≡ true
   pub marked : (b : ℕ) → (t'.entry b).bad ≡ true → ((t.entry b).bad ≡ true) ⊎ ((t.entry b).kept ≡ 0)

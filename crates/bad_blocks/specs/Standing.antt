@@ -1,6 +1,7 @@
 -- What stands between two calls of a store, over the map of the kept pages and the table of blocks.
 -- From: this project.
-use Rattle.std.specs.Prelude.{◌≡◌, ◌<◌, ◌≤◌, ◌^◌, ℕ, ◌+◌, true, false, List, Some}
+use Rattle.std.specs.Prelude.{◌≡◌, ◌<◌, ◌≤◌, ℕ, ◌+◌, true, false, List, Some}
+use Rattle.volume_terms.specs.Sizes.{number_end}
 use Rattle.nand_model.specs.Flash.{Flash, Written}
 use Rattle.nand_model.specs.Calls.{Device}
 use Rattle.page_tags.specs.Tags.{tag_bytes}
@@ -53,7 +54,7 @@ pub record TablesAgree (spare : ℕ) (t : Table) (x : Index) : Type 0 where
 
 -- no number past 2^62 is the next
 abbrev pub IsWithinLimits : Table → Type 0
-IsWithinLimits t = (t.next_group ≤ 2 ^ 62) × (t.next_seq ≤ 2 ^ 62)
+IsWithinLimits t = (t.next_group ≤ number_end) × (t.next_seq ≤ number_end)
 
 -- What stands: the tables agree; each kept page of an honest device that has power is the newest of its key; and no number
 -- of 2^62 was handed out.

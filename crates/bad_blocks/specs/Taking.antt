@@ -1,6 +1,7 @@
 -- The taking of a block.
 -- From: this project.
-use Rattle.std.specs.Prelude.{◌≡◌, ◌⊎◌, ◌<◌, ◌≤◌, ◌^◌, ℕ, ◌+◌, ◌*◌, true, false, Some, None, Result, Ok, Err}
+use Rattle.std.specs.Prelude.{◌≡◌, ◌⊎◌, ◌<◌, ◌≤◌, ℕ, ◌+◌, ◌*◌, true, false, Some, None, Result, Ok, Err}
+use Rattle.volume_terms.specs.Sizes.{number_end}
 use Rattle.nand_model.specs.Calls.{Device}
 use Rattle.nand_model.specs.declared.nand.Gone.{Gone}
 use Rattle.block_state.specs.Kept.{bad_count, unkept_count}
@@ -71,7 +72,7 @@ AsManyBad old new (Err gone) = Unit {0}
 -- Why no block was taken: more are bad than there are to spare, after a mark of this call, or no number is left; or the
 -- device is gone.
 abbrev pub WhyNone : (spare : ℕ) → Device → Table → Table → TakeFault → Type 0
-WhyNone spare device old new faults.Worn = (2 ^ 62 ≤ old.next_seq) ⊎ ((spare < bad_count new) × (device.gone ≡ false))
+WhyNone spare device old new faults.Worn = (number_end ≤ old.next_seq) ⊎ ((spare < bad_count new) × (device.gone ≡ false))
 WhyNone spare device old new faults.Gone = device.gone ≡ true
 
 -- how the taking of a block ends

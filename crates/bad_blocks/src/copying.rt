@@ -1,11 +1,13 @@
 // The copying of listed pages into a block that is taken.
 ghost use Rattle.std.specs.Prelude.{◌≡◌, ◌<◌, ◌≤◌, ◌^◌, ◌+◌, ℕ, length, true, false, None, OnOk};
+ghost use Rattle.volume_terms.specs.Sizes.{number_end};
 ghost use Rattle.nand_model.specs.Calls.{Device};
 ghost use Rattle.block_state.specs.Kept.{bad_count};
 ghost use Rattle.block_state.specs.TableOf.{table};
 ghost use Rattle.transactions.specs.Ready.{IsReady};
 ghost use Rattle.bad_blocks.specs.Taking.{HasUnkept};
-ghost use Rattle.bad_blocks.specs.Moving.{AnswersFailures, MarksFailures, Costs};
+ghost use Rattle.nand_model.specs.Counts.{Costs, ReadsFew, unfinished};
+ghost use Rattle.bad_blocks.specs.Moving.{AnswersFailures, MarksFailures};
 ghost use Rattle.bad_blocks.specs.Copying.{MayBeCopied, KeepsCounts, KeepsDataAt, NewestAfterCopies, StayOrLieApart, CopiesEnd, CopiesCost, FewBad, IsFresh, left_open, most_changes, as_copied};
 
 use crate::fault::MoveFault;
@@ -41,13 +43,14 @@ fn write_copies<N: Nand>(
 ) -> Result<Copied, MoveFault>
     requires ready { IsReady (N.state device.old) (table blocks.old) }
     requires fresh { IsFresh block (N.state device.old) (table blocks.old) }
-    requires group { (table blocks.old).next_group < 2 ^ 62 }
+    requires group { (table blocks.old).next_group < number_end }
     requires size { length scratch.old ≡ (N.state device.old).geometry.bytes }
     requires copies { MayBeCopied (N.state device.old) (table blocks.old) copies.now }
     ensures keeps { KeepsCounts (N.state device.old) (N.state device.new) (table blocks.old) (table blocks.new) }
     ensures marks { MarksFailures 0 (left_open result) (N.state device.old) (N.state device.new) (table blocks.old) (table blocks.new) }
     ensures answers { OnOk result (AnswersFailures 0 (left_open result) (N.state device.old) (N.state device.new) (table blocks.old) (table blocks.new)) }
     ensures costs { CopiesCost (length copies.now) (N.state device.old) (N.state device.new) result }
+    ensures reads { ReadsFew (unfinished result) (N.state device.old) (N.state device.new) }
     ensures data { (N.state device.old).honest ≡ true → KeepsDataAt (table blocks.old) (N.state device.old).flash (N.state device.new).flash }
     ensures newest { (N.state device.old).honest ≡ true → (N.state device.new).gone ≡ false
         → NewestAfterCopies copies.now (table blocks.old) (N.state device.old).flash (N.state device.new).flash result }
@@ -87,6 +90,7 @@ fn copy_once<N: Nand>(
     ensures marks { MarksFailures 0 (left_open result) (N.state device.old) (N.state device.new) (table blocks.old) (table blocks.new) }
     ensures answers { OnOk result (AnswersFailures 0 (left_open result) (N.state device.old) (N.state device.new) (table blocks.old) (table blocks.new)) }
     ensures costs { Costs (most_changes (length copies.now) result) ((N.state device.old).geometry.pages + 2) (left_open result) (N.state device.old) (N.state device.new) }
+    ensures reads { ReadsFew (unfinished result) (N.state device.old) (N.state device.new) }
     ensures data { (N.state device.old).honest ≡ true → KeepsDataAt (table blocks.old) (N.state device.old).flash (N.state device.new).flash }
     ensures newest { (N.state device.old).honest ≡ true → (N.state device.new).gone ≡ false
         → NewestAfterCopies copies.now (table blocks.old) (N.state device.old).flash (N.state device.new).flash result }
@@ -118,6 +122,7 @@ pub(crate) fn copy_listed<N: Nand>(
     ensures marks { MarksFailures 0 (left_open (as_copied result)) (N.state device.old) (N.state device.new) (table blocks.old) (table blocks.new) }
     ensures answers { OnOk result (AnswersFailures 0 (left_open (as_copied result)) (N.state device.old) (N.state device.new) (table blocks.old) (table blocks.new)) }
     ensures costs { Costs (length copies.now + 1) ((N.state device.old).geometry.pages + 2) (left_open (as_copied result)) (N.state device.old) (N.state device.new) }
+    ensures reads { ReadsFew (unfinished result) (N.state device.old) (N.state device.new) }
     ensures data { (N.state device.old).honest ≡ true → KeepsDataAt (table blocks.old) (N.state device.old).flash (N.state device.new).flash }
     ensures newest { (N.state device.old).honest ≡ true → (N.state device.new).gone ≡ false
         → NewestAfterCopies copies.now (table blocks.old) (N.state device.old).flash (N.state device.new).flash (as_copied result) }

@@ -4,7 +4,8 @@ ghost use Rattle.block_state.specs.Kept.{bad_count};
 ghost use Rattle.block_state.specs.TableOf.{table};
 ghost use Rattle.transactions.specs.Ready.{IsReady};
 ghost use Rattle.bad_blocks.specs.Lists.{IsListed};
-ghost use Rattle.bad_blocks.specs.Moving.{Moves, AnswersFailures, MarksFailures, Costs, MoveEnds, unanswered};
+ghost use Rattle.nand_model.specs.Counts.{Costs, ReadsFew, unfinished};
+ghost use Rattle.bad_blocks.specs.Moving.{Moves, AnswersFailures, MarksFailures, MoveEnds, unanswered};
 ghost use Rattle.bad_blocks.specs.Room.{IsRoomFor};
 ghost use Rattle.bad_blocks.specs.Standing.{Stands, KeepsFree};
 
@@ -47,6 +48,7 @@ fn move_listed<N: Nand>(
     ensures marks { MarksFailures 0 (unanswered result) (N.state device.old) (N.state device.new) (table blocks.old) (table blocks.new) }
     ensures answers { OnOk result (AnswersFailures 0 (unanswered result) (N.state device.old) (N.state device.new) (table blocks.old) (table blocks.new)) }
     ensures costs { Costs (length copies.now + 1) ((N.state device.old).geometry.pages + 2) (unanswered result) (N.state device.old) (N.state device.new) }
+    ensures reads { ReadsFew (unfinished result) (N.state device.old) (N.state device.new) }
     ensures few { OnOk result (bad_count (table blocks.new) ≤ spare) }
     ensures ends { (v : ℕ) → IsListed v (table blocks.old) index.old copies.now
         → MoveEnds v spare (N.state device.new) (table blocks.old) (table blocks.new) result }
@@ -84,6 +86,7 @@ pub fn move_kept<N: Nand>(
     ensures marks { MarksFailures 0 (unanswered result) (N.state device.old) (N.state device.new) (table blocks.old) (table blocks.new) }
     ensures answers { OnOk result (AnswersFailures 0 (unanswered result) (N.state device.old) (N.state device.new) (table blocks.old) (table blocks.new)) }
     ensures costs { Costs (((table blocks.old).entry block).kept + 1) ((N.state device.old).geometry.pages + 2) (unanswered result) (N.state device.old) (N.state device.new) }
+    ensures reads { ReadsFew (unfinished result) (N.state device.old) (N.state device.new) }
     ensures few { OnOk result (bad_count (table blocks.new) ≤ spare) }
     ensures ends { MoveEnds block spare (N.state device.new) (table blocks.old) (table blocks.new) result }
     ensures room { IsRoomFor (N.state device.new).geometry room.new }

@@ -1,5 +1,6 @@
 // The taking of a block.
 ghost use Rattle.std.specs.Prelude.{◌≡◌, ◌<◌, ◌≤◌, ◌^◌, ℕ, None, IfOk, OnOk};
+ghost use Rattle.volume_terms.specs.Sizes.{number_end};
 ghost use Rattle.nand_model.specs.Calls.{Lasts};
 ghost use Rattle.block_state.specs.Kept.{bad_count};
 ghost use Rattle.block_state.specs.TableOf.{table};
@@ -35,13 +36,14 @@ fn try_block<N: Nand>(device: &mut N, blocks: &mut Blocks) -> Result<Tried, Gone
     requires ready { IsReady (N.state device.old) (table blocks.old) }
     requires closed { (table blocks.old).open_block ≡ None }
     requires some { (spare : ℕ) × HasUnkept (table blocks.old) spare }
-    requires seq { (table blocks.old).next_seq < 2 ^ 62 }
+    requires seq { (table blocks.old).next_seq < number_end }
     ensures lasts { Lasts (N.state device.old) (N.state device.new) }
     ensures ready { IsReady (N.state device.new) (table blocks.new) }
     ensures numbers { HandsOut (N.state device.old) (N.state device.new) (table blocks.old) (table blocks.new) }
     ensures passes { Passes (N.state device.old) (N.state device.new) (table blocks.old) (table blocks.new) }
     ensures answers { OnOk result (AnswersFailures 0 0 (N.state device.old) (N.state device.new) (table blocks.old) (table blocks.new)) }
     ensures costs { CostsATry (N.state device.old) (N.state device.new) result }
+    ensures reads { (N.state device.new).reads ≡ (N.state device.old).reads }
     ensures few { AsManyBad (table blocks.old) (table blocks.new) result }
     ensures turn { TakesTurn (table blocks.old) (table blocks.new) result }
     ensures ends { TriesOne (N.state device.new) (table blocks.old) (table blocks.new) result }
@@ -75,6 +77,7 @@ pub fn take_block<N: Nand>(
     // Where a block is taken, each failure before has its mark.
     ensures answers { OnOk result (AnswersFailures 0 0 (N.state device.old) (N.state device.new) (table blocks.old) (table blocks.new)) }
     ensures costs { CostsATake (N.state device.old) (N.state device.new) }
+    ensures reads { (N.state device.new).reads ≡ (N.state device.old).reads }
     ensures few { OnOk result (bad_count (table blocks.new) ≤ spare) }
     ensures turn { IfOk result (λ block. IsItsTurn block (table blocks.old) (table blocks.new)) }
     ensures ends { TakeEnds spare (N.state device.new) (table blocks.old) (table blocks.new) result }

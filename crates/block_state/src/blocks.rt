@@ -1,5 +1,6 @@
 // The table, and what changes it.
 ghost use Rattle.std.specs.Prelude.{◌≡◌, ◌≢◌, ◌<◌, ◌≤◌, ◌+◌, ◌-◌, ◌^◌, max, ℕ, true, false, None, Some, IfOk, IfSome};
+ghost use Rattle.volume_terms.specs.Sizes.{number_end};
 ghost use Rattle.block_state.specs.Table.{blank, room, Sets, SetsEntry, IsWhole};
 
 use nand_model::Geometry;
@@ -118,7 +119,7 @@ impl Blocks {
 
     /// Hands out a group number.
     pub fn take_group(&mut self) -> u64
-        requires { (table self.old).next_group < 2 ^ 62 }
+        requires { (table self.old).next_group < number_end }
         ensures result { result ≡ (table self.old).next_group }
         ensures next { table self.new ≡ record (table self.old) { next_group = (table self.old).next_group + 1 } }
     {
@@ -182,7 +183,7 @@ impl Blocks {
     pub fn open(&mut self, block: u32)
         requires block { block < (table self.old).geometry.blocks }
         requires good { ((table self.old).entry block).bad ≡ false }
-        requires seq { (table self.old).next_seq < 2 ^ 62 }
+        requires seq { (table self.old).next_seq < number_end }
         ensures sets { Sets block (record ((table self.old).entry block) { seq = (table self.old).next_seq; next = 0 }) (table self.old) (table self.new) }
         ensures open { (table self.new).open_block ≡ Some block }
         ensures seq { (table self.new).next_seq ≡ (table self.old).next_seq + 1 }

@@ -4,7 +4,8 @@ ghost use Rattle.block_state.specs.Kept.{bad_count};
 ghost use Rattle.block_state.specs.Table.{IsFewest};
 ghost use Rattle.block_state.specs.TableOf.{table};
 ghost use Rattle.transactions.specs.Ready.{IsReady};
-ghost use Rattle.bad_blocks.specs.Moving.{Moves, AnswersFailures, MarksFailures, Costs};
+ghost use Rattle.nand_model.specs.Counts.{Costs, ReadsFew, unfinished};
+ghost use Rattle.bad_blocks.specs.Moving.{Moves, AnswersFailures, MarksFailures};
 ghost use Rattle.bad_blocks.specs.Room.{IsRoomFor};
 ghost use Rattle.bad_blocks.specs.Standing.{Stands, KeepsFree};
 ghost use Rattle.bad_blocks.specs.Taking.{CostsATake};
@@ -46,6 +47,7 @@ pub fn make_room<N: Nand>(
         → Costs (((table blocks.old).entry v).kept + 1) ((N.state device.old).geometry.pages + 2) 0 (N.state device.old) (N.state device.new) }
     // While blocks are left that can be taken, no more is done than the taking of one.
     ensures takes { HasMore (table blocks.old) spare → CostsATake (N.state device.old) (N.state device.new) }
+    ensures reads { ReadsFew (unfinished result) (N.state device.old) (N.state device.new) }
     ensures ends { RoomEnds count spare (N.state device.old) (N.state device.new) (table blocks.old) (table blocks.new) result }
     ensures room { IsRoomFor (N.state device.new).geometry room.new }
     ensures succeeds { FitsOpen count (table blocks.old) → IsOk result }

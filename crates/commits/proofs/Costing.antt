@@ -4,7 +4,7 @@ use Rattle.std.specs.Option.{option_map_or}
 use Rattle.std.proofs.Math.Nat.{mul-le-mul_right, mul-le-mul_left}
 use Rattle.nand_model.specs.Calls.{Device, Lasts}
 use Rattle.block_state.specs.Table.{Table, room}
-use Rattle.bad_blocks.specs.Moving.{Costs}
+use Rattle.nand_model.specs.Counts.{Costs}
 use Rattle.bad_blocks.specs.Taking.{CostsATake}
 use Rattle.collector.specs.Making.{FitsOpen, HasMore}
 use Rattle.commits.specs.Committing.{TakesNoBlock, TakesOneBlock}

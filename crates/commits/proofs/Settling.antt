@@ -241,9 +241,6 @@ module _ (spare : ℕ) (lists : ListsAreWhole) (d e : Device) (t u v : Table) (x
   pub free_whole : HasFreeBlocks v spare
   free_whole = free_settled spare lists group t u v x y pages settles buffers agree counts same stands.tables free numbers.groups_rise lies fills opened not_free shut
 
-  pub bad_whole : bad_count v ≡ bad_count t
-  bad_whole = bad_settled spare lists group t u v x y pages settles buffers agree counts same stands.tables free numbers.groups_rise lies fills opened not_free shut
-
   pub commits_whole : Commits spare d e t v x y pages
   commits_whole = record {
     lasts = lasts;

@@ -1,5 +1,6 @@
 -- How a commit ends.
-use Rattle.std.specs.Prelude.{◌≡◌, ◌<◌, ◌≤◌, ◌+◌, ◌^◌, ℕ, true, false, [], length, Result, Ok, Err}
+use Rattle.std.specs.Prelude.{◌≡◌, ◌<◌, ◌≤◌, ◌+◌, ℕ, true, false, [], length, Result, Ok, Err}
+use Rattle.volume_terms.specs.Sizes.{number_end}
 use Rattle.nand_model.specs.Calls.{Device}
 use Rattle.block_state.specs.Kept.{bad_count}
 use Rattle.block_state.specs.Table.{Table, room}
@@ -58,7 +59,7 @@ KeepsOpen count t t' old new = FitsOpen count t → new.failures ≡ old.failure
 -- device is honest, counts no failure and has power to the end.
 pub record IsUnhindered (count : ℕ) (t : Table) (old new : Device) : Type 0 where
   pub fits : FitsOpen count t
-  pub number : t.next_group < 2 ^ 62
+  pub number : t.next_group < number_end
   pub honest : old.honest ≡ true
   pub failures : new.failures ≡ old.failures
   pub power : new.gone ≡ false

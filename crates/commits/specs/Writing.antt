@@ -6,7 +6,7 @@ use Rattle.block_state.specs.Table.{Table}
 use Rattle.chunk_index.specs.declared.index.Index.{Index}
 use Rattle.page_buffer.specs.declared.buffer.Buffer.{Buffer}
 use Rattle.page_buffer.specs.BufferOf.{buffered, last_written}
-use Rattle.bad_blocks.specs.Moving.{Costs}
+use Rattle.nand_model.specs.Counts.{Costs}
 use Rattle.bad_blocks.specs.Standing.{HasFreeBlocks}
 use Rattle.collector.specs.declared.fault.RoomFault.{RoomFault}
 use Rattle.collector.specs.declared.fault.RoomFault.TheVariants as faults

@@ -1,6 +1,8 @@
 // The writing of the buffered pages as one group.
 ghost use Rattle.std.specs.Prelude.{◌≡◌, ◌<◌, ◌≤◌, ◌+◌, ◌^◌, ℕ, length, OnOk};
+ghost use Rattle.volume_terms.specs.Sizes.{number_end};
 ghost use Rattle.nand_model.specs.Calls.{Lasts};
+ghost use Rattle.nand_model.specs.Counts.{ReadsFew, unfinished};
 ghost use Rattle.block_state.specs.Kept.{bad_count};
 ghost use Rattle.block_state.specs.Table.{room};
 ghost use Rattle.block_state.specs.TableOf.{table};
@@ -43,7 +45,7 @@ pub(crate) fn write_buffered<N: Nand>(
     scratch: &mut [u8],
 ) -> Result<Attempt, RoomFault>
     requires ready { IsReady (N.state device.old) (table blocks.old) }
-    requires number { (table blocks.old).next_group < 2 ^ 62 }
+    requires number { (table blocks.old).next_group < number_end }
     requires stands { (spare : ℕ) × Stands spare (N.state device.old) (table blocks.old) index.old }
     requires buffers { Buffers index.old (buffered buffer.old) }
     requires some { 1 ≤ length (buffered buffer.old) }
@@ -59,6 +61,7 @@ pub(crate) fn write_buffered<N: Nand>(
     ensures answers { OnOk result (AnswersFailures 0 (unanswered result) (N.state device.old) (N.state device.new) (table blocks.old) (table blocks.new)) }
     ensures keeps_open { TrustsOpen (length (buffered buffer.old)) (table blocks.old) (table blocks.new) result }
     ensures costs { (N.state device.new).changes ≤ (N.state device.old).changes + length (buffered buffer.old) }
+    ensures reads { ReadsFew (unfinished result) (N.state device.old) (N.state device.new) }
     ensures ends { (spare : ℕ) → Stands spare (N.state device.old) (table blocks.old) index.old → HasFreeBlocks (table blocks.old) spare
         → AttemptEnds spare (N.state device.old) (N.state device.new) (table blocks.old) (table blocks.new) index.old index.new buffer.old buffer.new result }
     ensures sizes { SameSizes buffer.old buffer.new }

@@ -1,29 +1,8 @@
 -- What is read of a list by `slice_get` after a write.
-use Rattle.std.proofs.Common.{◌≡◌, ◌≢◌, ◌<◌, ◌≤◌, ℕ, zero, suc, List, [], ◌∷◌, length, set, cond, eqb, refl, arith, ap, sym, subst, ◌∙◌, ◌++◌, inl, inr}
+use Rattle.std.proofs.Common.{◌≡◌, ◌<◌, ◌≤◌, ℕ, zero, suc, List, [], ◌∷◌, length, refl, arith, sym, subst, ◌++◌, inl, inr}
 use Rattle.std.specs.Prelude.{slice_get}
 use Rattle.std.specs.Option.{option_map_or}
-use Rattle.std.proofs.lemmas.Bool.{cases_eq, cases_lt, cases_order, eq-eqb, ne_eqb, cond-true, cond-false}
-
-pub map_or-set_same : {X Y : Type 0} (f : X → Y) (d : Y) (xs : List X) (b : ℕ) (x : X) → b < length xs
-    → option_map_or f (slice_get (set xs b x) b) d ≡ f x
-map_or-set_same f d [] b x h = absurd (omega arith)
-map_or-set_same f d (y ∷ ys) zero x h = refl
-map_or-set_same f d (y ∷ ys) (suc b) x h = map_or-set_same f d ys b x (omega arith)
-
-pub map_or-set_other : {X Y : Type 0} (f : X → Y) (d : Y) (xs : List X) (b k : ℕ) (x : X) → k ≢ b
-    → option_map_or f (slice_get (set xs b x) k) d ≡ option_map_or f (slice_get xs k) d
-map_or-set_other f d [] b k x h = refl
-map_or-set_other f d (y ∷ ys) zero zero x h = absurd (h refl)
-map_or-set_other f d (y ∷ ys) zero (suc k) x h = refl
-map_or-set_other f d (y ∷ ys) (suc b) zero x h = refl
-map_or-set_other f d (y ∷ ys) (suc b) (suc k) x h = map_or-set_other f d ys b k x (λ e. h (ap suc e))
-
-pub map_or-set : {X Y : Type 0} (f : X → Y) (d : Y) (xs : List X) (b k : ℕ) (x : X) → b < length xs
-    → option_map_or f (slice_get (set xs b x) k) d ≡ cond (eqb k b) (f x) (option_map_or f (slice_get xs k) d)
-map_or-set f d xs b k x h = elim (cases_eq k b) [
-  | inl e ↦ ap (λ n. option_map_or f (slice_get (set xs b x) n) d) e ∙ map_or-set_same f d xs b x h ∙ sym (cond-true _ _ _ (eq-eqb k b e))
-  | inr ne ↦ map_or-set_other f d xs b k x ne ∙ sym (cond-false _ _ _ (ne_eqb k b ne))
-]
+use Rattle.std.proofs.lemmas.Bool.{cases_lt, cases_order}
 
 pub map_or_push_old : {X Y : Type 0} (f : X → Y) (d : Y) (xs : List X) (y : X) (k : ℕ) → k < length xs
     → option_map_or f (slice_get (xs ++ y ∷ []) k) d ≡ option_map_or f (slice_get xs k) d

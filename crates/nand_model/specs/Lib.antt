@@ -2,6 +2,7 @@ pub mod Size
 pub mod Flash
 pub mod Calls
 pub mod Changes
+pub mod Counts
 pub mod Plans
 pub mod Planned
 pub mod Scripts

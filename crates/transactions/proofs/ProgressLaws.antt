@@ -1,31 +1,17 @@
 -- The writing of a group, page by page.
-use Rattle.std.proofs.Common.{◌≡◌, ◌≢◌, ◌⊎◌, ◌+◌, ◌-◌, ◌<◌, ◌≤◌, ℕ, Bool, true, false, List, Some, Ok, Err, Result, refl, sym, ◌∙◌, ap, subst, arith, inl, inr}
+use Rattle.std.proofs.Common.{◌≡◌, ◌≢◌, ◌⊎◌, ◌+◌, ◌-◌, ◌<◌, ◌≤◌, ℕ, Bool, true, false, List, Some, Ok, Err, Result, sym, ◌∙◌, ap, subst, arith, inl, inr}
 use Rattle.std.proofs.lemmas.Bool.{cases_eq, cases_lt}
 use Rattle.nand_model.specs.Flash.{Page, Erased, Written, Uncorrectable}
 use Rattle.nand_model.specs.Calls.{Device, Lasts}
-use Rattle.nand_model.specs.laws.Calls.{lasts_on, lasts_here}
+use Rattle.nand_model.specs.laws.Calls.{lasts_on}
 use Rattle.nand_model.specs.Changes.{Grows}
+use Rattle.nand_model.specs.Counts.{ReadsFew}
 use Rattle.page_tags.specs.Tags.{tag_bytes}
 use Rattle.flash_tree.specs.Groups.{Group, AllThere}
 use Rattle.transactions.specs.declared.source.PageName.{PageName}
 use Rattle.transactions.specs.declared.group.GroupFault.{GroupFault}
 use Rattle.transactions.specs.declared.group.GroupFault.TheVariants as faults
-use Rattle.transactions.specs.Written.{Progress, StopsBy, WritesOne, WritesLast, LastEnds, LastNext, LastLeaves, WritesAll, AllEnds, AllLeaves, IsAsked, IsNothing, OneLacks, tag_in, page_in}
-
--- before the first page
-pub progress_none : (d : Device) (g : Group) (name : ℕ → PageName) (bytes : ℕ → List ℕ) → d.flash.next g.block ≡ Some (g.start + 0) → Progress d d g name bytes 0
-progress_none d g name bytes is = record {
-  lasts = lasts_here d;
-  failures = refl;
-  changes = omega arith;
-  bad = refl;
-  next = is;
-  other_nexts = λ _ _. refl;
-  named = λ _ k lt. absurd (omega arith);
-  before = λ _ _ _. refl;
-  rest = λ _ _ _. refl;
-  other_blocks = λ _ _ _ _. refl;
-}
+use Rattle.transactions.specs.Written.{Progress, StopsBy, WritesOne, WritesLast, LastEnds, LastNext, LastLeaves, WritesAll, AllEnds, AllLeaves, IsAsked, IsNothing, OneLacks, tag_in, page_in, unwritten}
 
 -- a page that is not written is not the page that was asked for
 nothing_asked : (g : Group) (name : ℕ → PageName) (bytes : ℕ → List ℕ) (k : ℕ) (page : Page) → IsNothing page → page ≢ page_in g name bytes k
@@ -41,6 +27,13 @@ stops_on old mid new g name bytes i faults.NoRoom so_far lasts ends = ends
 stops_on old mid new g name bytes i faults.Failed so_far lasts ends = (ends.0 ∙ ap (λ n. n + 1) so_far.failures, ends.1, omega (arith, so_far.changes, ends.2))
 stops_on old mid new g name bytes i faults.Lost so_far lasts ends = sym so_far.lasts.honest ∙ ends
 stops_on old mid new g name bytes i faults.Gone so_far lasts ends = ends
+
+-- and the page on which it stopped is read once at most
+reads_on : (old mid new : Device) (fault : GroupFault) → ReadsFew 0 old mid → Lasts mid new → new.reads ≤ mid.reads + 1 → StopsBy mid new fault → ReadsFew (unwritten {T = Unit {0}} (Err fault)) old new
+reads_on old mid new faults.NoRoom so_far lasts once ends = omega (arith, so_far, lasts.changes, lasts.failures, once)
+reads_on old mid new faults.Failed so_far lasts once ends = omega (arith, so_far, lasts.changes, ends.0, once)
+reads_on old mid new faults.Lost so_far lasts once ends = omega (arith, so_far, lasts.changes, lasts.failures, once)
+reads_on old mid new faults.Gone so_far lasts once ends = omega (arith, so_far, lasts.changes, lasts.failures, once)
 
 module _ (old mid : Device) (g : Group) (name : ℕ → PageName) (bytes : ℕ → List ℕ) (i : ℕ) (so_far : Progress old mid g name bytes i) where
   -- only erased pages were written
@@ -88,6 +81,7 @@ module _ (old mid new : Device) (g : Group) (name : ℕ → PageName) (bytes byt
         lasts = lasts_on old mid new so_far.lasts one.lasts;
         failures = one.ends.0 ∙ so_far.failures;
         changes = omega (arith, one.ends.2, so_far.changes);
+        reads = omega (arith, one.ends.0, one.ends.2, one.reads, so_far.reads);
         bad = one.bad ∙ so_far.bad;
         next = one.next ∙ ap Some at;
         other_nexts = λ k ne. one.other_nexts k ne ∙ so_far.other_nexts k ne;
@@ -149,6 +143,7 @@ module _ (old mid new : Device) (g : Group) (name : ℕ → PageName) (bytes byt
         lasts = lasts_on old mid new so_far.lasts one.lasts;
         ends = stops_on old mid new g name bytes i fault so_far one.lasts one.ends;
         changes = omega (arith, one.changes, so_far.changes, lt);
+        reads = reads_on old mid new fault so_far.reads one.lasts one.reads one.ends;
         bad = one.bad ∙ so_far.bad;
         next = tt;
         other_nexts = λ k ne. one.other_nexts k ne ∙ so_far.other_nexts k ne;
@@ -178,6 +173,7 @@ module _ (old mid new : Device) (g : Group) (name : ℕ → PageName) (bytes byt
         lasts = lasts_on old mid new so_far.lasts one.lasts;
         ends = ends_all result one.ends;
         changes = omega (arith, one.changes, so_far.changes, end);
+        reads = omega (arith, one.reads, so_far.reads);
         bad = one.bad ∙ so_far.bad;
         next = subst (λ n. LastNext n result (new.flash.next g.block)) at one.next;
         other_nexts = λ k ne. one.other_nexts k ne ∙ so_far.other_nexts k ne;

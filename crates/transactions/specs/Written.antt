@@ -2,6 +2,7 @@
 use Rattle.std.specs.Prelude.{◌≡◌, ◌≢◌, ◌⊎◌, ◌<◌, ◌≤◌, ℕ, ◌+◌, ◌-◌, Bool, true, false, List, Option, Some, None, Result, Ok, Err}
 use Rattle.nand_model.specs.Flash.{Flash, Page, Erased, Written, Uncorrectable}
 use Rattle.nand_model.specs.Calls.{Device, Lasts}
+use Rattle.nand_model.specs.Counts.{ReadsFew}
 use Rattle.page_tags.specs.declared.tag.Tag.{Tag}
 use Rattle.page_tags.specs.Tags.{tag_bytes, IsTag}
 use Rattle.flash_tree.specs.Groups.{Group, AllThere}
@@ -46,6 +47,14 @@ StopsBy old new faults.Failed = (new.failures ≡ old.failures + 1) × (new.gone
 StopsBy old new faults.Lost = old.honest ≡ false
 StopsBy old new faults.Gone = new.gone ≡ true
 
+-- one page more, which was read and whose program never came, where it stopped but not by a failure
+abbrev pub unwritten : {T : Type 0} → Result T GroupFault → ℕ
+unwritten (Ok done) = 0
+unwritten (Err faults.NoRoom) = 1
+unwritten (Err faults.Failed) = 0
+unwritten (Err faults.Lost) = 1
+unwritten (Err faults.Gone) = 1
+
 abbrev pub OneEnds : Device → Device → Result (Unit {0}) GroupFault → Type 0
 OneEnds old new (Ok done) = (new.failures ≡ old.failures) × (new.gone ≡ false) × (new.changes ≡ old.changes + 1)
 OneEnds old new (Err fault) = StopsBy old new fault
@@ -65,6 +74,7 @@ pub record WritesOne (old new : Device) (g : Group) (name : ℕ → PageName) (b
   pub lasts : Lasts old new
   pub ends : OneEnds old new result
   pub changes : new.changes ≤ old.changes + 1
+  pub reads : new.reads ≤ old.reads + 1
   pub bad : new.flash.bad ≡ old.flash.bad
   pub next : NextEnds (g.start + i) result (new.flash.next g.block)
   pub other_nexts : (k : ℕ) → k ≢ g.block → new.flash.next k ≡ old.flash.next k
@@ -98,6 +108,7 @@ pub record WritesLast (old new : Device) (g : Group) (name : ℕ → PageName) (
   pub lasts : Lasts old new
   pub ends : LastEnds old new result
   pub changes : new.changes ≤ old.changes + 1
+  pub reads : ReadsFew (unwritten result) old new
   pub bad : new.flash.bad ≡ old.flash.bad
   pub next : LastNext (g.start + i) result (new.flash.next g.block)
   pub other_nexts : (k : ℕ) → k ≢ g.block → new.flash.next k ≡ old.flash.next k
@@ -111,6 +122,7 @@ pub record Progress (old new : Device) (g : Group) (name : ℕ → PageName) (by
   pub lasts : Lasts old new
   pub failures : new.failures ≡ old.failures
   pub changes : new.changes ≡ old.changes + i
+  pub reads : ReadsFew 0 old new
   pub bad : new.flash.bad ≡ old.flash.bad
   pub next : new.flash.next g.block ≡ Some (g.start + i)
   pub other_nexts : (k : ℕ) → k ≢ g.block → new.flash.next k ≡ old.flash.next k
@@ -149,6 +161,7 @@ pub record WritesAll (old new : Device) (g : Group) (name : ℕ → PageName) (b
   pub lasts : Lasts old new
   pub ends : AllEnds old new g.size result
   pub changes : new.changes ≤ old.changes + g.size
+  pub reads : ReadsFew (unwritten result) old new
   pub bad : new.flash.bad ≡ old.flash.bad
   pub next : LastNext (g.start + g.size - 1) result (new.flash.next g.block)
   pub other_nexts : (k : ℕ) → k ≢ g.block → new.flash.next k ≡ old.flash.next k

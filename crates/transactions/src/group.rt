@@ -1,12 +1,15 @@
 // The writing of a group: whole, or not at all.
 ghost use Rattle.std.specs.Prelude.{◌≡◌, ◌↔◌, ◌<◌, ◌≤◌, ◌^◌, ℕ, length, true, IfOk, Some, IsErrOf};
+ghost use Rattle.volume_terms.specs.Sizes.{number_end};
 ghost use Rattle.nand_model.specs.Calls.{Lasts};
 ghost use Rattle.nand_model.specs.Changes.{Grows};
+ghost use Rattle.nand_model.specs.Counts.{ReadsFew};
 ghost use Rattle.block_state.specs.Table.{room};
 ghost use Rattle.block_state.specs.TableOf.{table};
 ghost use Rattle.transactions.specs.Ready.{IsReady};
 ghost use Rattle.transactions.specs.Handing.{HandsOut};
 ghost use Rattle.transactions.specs.Groups.{next_group, TellsGroup, GroupsAfter, GroupEnds, TableEnds, Stays};
+ghost use Rattle.transactions.specs.Written.{unwritten};
 
 use crate::page::write_pages;
 use crate::place::{note_end, take_place};
@@ -47,7 +50,7 @@ pub fn write_group<N: Nand, S: PageSource>(
     scratch: &mut [u8],
 ) -> Result<Placed, GroupFault>
     requires ready { IsReady (N.state device.old) (table blocks.old) }
-    requires number { (table blocks.old).next_group < 2 ^ 62 }
+    requires number { (table blocks.old).next_group < number_end }
     requires size { length scratch.old ≡ (N.state device.old).geometry.bytes }
     requires source { S.ready source.now (N.state device.old).geometry (table blocks.old).next_group }
     requires has { (N.state device.old).honest ≡ true → (i : ℕ) → i < S.count source.now → S.has source.now (N.state device.old).flash i }
@@ -64,6 +67,7 @@ pub fn write_group<N: Nand, S: PageSource>(
         (S.bytes source.now (N.state device.old).flash) (N.state device.old).flash (N.state device.new).flash result }
     ensures grows { (N.state device.old).honest ≡ true → Grows (N.state device.old).flash (N.state device.new).flash }
     ensures stays { Stays (table blocks.old) (N.state device.old) (N.state device.new) }
+    ensures reads { ReadsFew (unwritten result) (N.state device.old) (N.state device.new) }
     ensures numbers { HandsOut (N.state device.old) (N.state device.new) (table blocks.old) (table blocks.new) }
 {
     let count = source.count();

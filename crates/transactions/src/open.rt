@@ -1,5 +1,6 @@
 // The taking of a block.
 ghost use Rattle.std.specs.Prelude.{◌≡◌, ◌≢◌, ◌<◌, ◌^◌, true, false, Some, OnOk, OnErr};
+ghost use Rattle.volume_terms.specs.Sizes.{number_end};
 ghost use Rattle.nand_model.specs.Calls.{Erases};
 ghost use Rattle.flash_tree.specs.Keeping.{KeepsElsewhere};
 ghost use Rattle.block_state.specs.TableOf.{table};
@@ -21,7 +22,7 @@ pub fn erase_and_open<N: Nand>(
     requires block { block < (N.state device.old).geometry.blocks }
     requires good { ((table blocks.old).entry block).bad ≡ false }
     requires closed { (table blocks.old).open_block ≢ Some block }
-    requires seq { (table blocks.old).next_seq < 2 ^ 62 }
+    requires seq { (table blocks.old).next_seq < number_end }
     ensures erases { Erases block (N.state device.old) (N.state device.new) result }
     ensures ready { IsReady (N.state device.new) (table blocks.new) }
     ensures opens { OnOk result (Opens block (table blocks.old) (table blocks.new)) }

@@ -93,6 +93,7 @@ fn reads_whole<N: Nand>(
     requires page { page < (N.state device.old).geometry.pages }
     requires size { length scratch.old ≡ (N.state device.old).geometry.bytes }
     ensures reads { OnlyReads (N.state device.old) (N.state device.new) }
+    ensures asked { (N.state device.new).reads ≤ (N.state device.old).reads + 1 }
     ensures gone { OnErr result ((N.state device.new).gone ≡ true) }
     ensures there { (N.state device.old).gone ≡ false → IfOk result (λ _. (N.state device.new).gone ≡ false) }
     ensures whole { (N.state device.old).honest ≡ true → IfOk result (λ whole. IsTrue whole ↔ IsWrittenPage ((N.state device.old).flash.page block page)) }

@@ -1,5 +1,6 @@
 // Where a group is written, and with which numbers.
 ghost use Rattle.std.specs.Prelude.{◌≡◌, ◌↔◌, ◌<◌, ◌≤◌, ◌+◌, ◌^◌, ℕ, IfSome, IfNone, IsSome};
+ghost use Rattle.volume_terms.specs.Sizes.{number_end};
 ghost use Rattle.block_state.specs.Table.{room};
 ghost use Rattle.block_state.specs.TableOf.{table};
 ghost use Rattle.transactions.specs.Ready.{IsPlaceIn};
@@ -21,7 +22,7 @@ pub(crate) struct GroupPlace {
 /// Takes the next group number for so many pages of the open block, where it has room for them.
 pub(crate) fn take_place(blocks: &mut Blocks, count: u32) -> Option<GroupPlace>
     requires some { 1 ≤ count }
-    requires number { (table blocks.old).next_group < 2 ^ 62 }
+    requires number { (table blocks.old).next_group < number_end }
     ensures found { IfSome result (λ place. IsPlaceIn (table blocks.old) count place) }
     ensures taken { IfSome result (λ place. table blocks.new ≡ record (table blocks.old) { next_group = (table blocks.old).next_group + 1 }) }
     ensures none { IfNone result ((room (table blocks.old) < count) × (table blocks.new ≡ table blocks.old)) }

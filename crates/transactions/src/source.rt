@@ -1,5 +1,5 @@
 // What is written in a group.
-ghost use Rattle.std.specs.Prelude.{◌≡◌, ◌↔◌, ◌<◌, ◌≤◌, ℕ, List, length, true, IfOk, IsTrue};
+ghost use Rattle.std.specs.Prelude.{◌≡◌, ◌↔◌, ◌<◌, ◌≤◌, ◌+◌, ℕ, List, length, true, IfOk, IsTrue};
 ghost use Rattle.nand_model.specs.Flash.{Flash};
 ghost use Rattle.nand_model.specs.Changes.{Grows, OnlyReads};
 ghost use Rattle.nand_model.specs.declared.geometry.Geometry.{Geometry};
@@ -76,6 +76,7 @@ pub trait PageSource {
         requires ready { ready self.now (N.state device.old).geometry group }
         requires size { length page.old ≡ (N.state device.old).geometry.bytes }
         ensures reads { OnlyReads (N.state device.old) (N.state device.new) }
+        ensures asked { (N.state device.new).reads ≤ (N.state device.old).reads + 1 }
         ensures ends { SourceEnds (N.state device.old) (N.state device.new) (has self.now (N.state device.old).flash i) result }
         ensures name { IfOk result (λ n. (n ≡ name self.now group i) × IsPageName group n) }
         ensures size { length page.new ≡ length page.old }

@@ -17,9 +17,13 @@ buffer_pages z = z.block_pages / 4
 abbrev pub most_written : Sizes → ℕ
 most_written z = (buffer_pages z - 3) * z.page_bytes
 
+-- the bytes of an entry of a directory in its page
+abbrev pub slot_length : ℕ
+slot_length = 272
+
 -- entries of a directory in one page
 abbrev pub page_slots : Sizes → ℕ
-page_slots z = z.page_bytes / 272
+page_slots z = z.page_bytes / slot_length
 
 -- the units of a page's bytes that a state may cost
 abbrev pub capacity : Sizes → ℕ
@@ -61,6 +65,10 @@ pub record IsSizes (z : Sizes) : Type 0 where
   pub few_blocks : z.blocks ≤ 4096
   pub spare_blocks : z.spare_blocks + 4 ≤ z.blocks
 
--- the greatest number that a tag may have, with room for more
+-- numbers of groups and of a block's openings are handed out below this one
+abbrev pub number_end : ℕ
+number_end = 2 ^ 62
+
+-- the greatest number that is handed out
 abbrev pub number_limit : ℕ
-number_limit = 2 ^ 62 - 1
+number_limit = number_end - 1

@@ -4,7 +4,7 @@ use Rattle.std.proofs.Math.Nat.{mul-le-mul_right}
 use Rattle.nand_model.specs.Calls.{Device, Lasts}
 use Rattle.nand_model.specs.declared.geometry.Geometry.{Geometry}
 use Rattle.block_state.specs.Table.{Table}
-use Rattle.bad_blocks.specs.Moving.{Costs}
+use Rattle.nand_model.specs.Counts.{Costs}
 use Rattle.bad_blocks.specs.Taking.{CostsATake}
 
 -- what each failure costs more

@@ -18,7 +18,7 @@ use Rattle.chunk_index.specs.declared.index.Index.{Index}
 use Rattle.chunk_index.specs.Maps.{kept_pages}
 use Rattle.transactions.specs.Ready.{IsReady}
 use Rattle.transactions.specs.declared.copies.CopyOf.{CopyOf}
-use Rattle.bad_blocks.specs.Copying.{KeepsCounts, KeepsKeptAt, IsCopyOf, AreCopied, LieApart, StayOrLieApart, copy_in}
+use Rattle.bad_blocks.specs.Copying.{KeepsCounts, KeepsKeptAt, IsCopyOf, LieApart, StayOrLieApart, copy_in}
 use Rattle.bad_blocks.specs.Lists.{ListsKept, IsListed, kept_by}
 use Rattle.bad_blocks.specs.Standing.{IsKept, IsKeptAt, AreKept, AreHeld, TablesAgree, Stands, KeepsFree}
 use Rattle.bad_blocks.specs.laws.KeptPages.{spot_of}

@@ -1,6 +1,7 @@
 -- What holds of steps that leave the index.
-use Rattle.std.proofs.Common.{◌≡◌, ◌<◌, ◌≤◌, ◌^◌, ℕ, zero, suc, ◌+◌, Bool, true, false, cond, Option, Some, None, Result, Ok, Err, refl, sym, ap, subst, ◌∙◌, arith, inl, inr}
-use Rattle.std.proofs.lemmas.Bool.{cases_Bool, cases_eq}
+use Rattle.std.proofs.Common.{◌≡◌, ◌<◌, ◌≤◌, ℕ, zero, suc, ◌+◌, Bool, true, false, cond, Option, Some, None, Result, Ok, Err, refl, sym, ap, subst, ◌∙◌, arith, inl, inr}
+use Rattle.std.proofs.lemmas.Bool.{cases_eq}
+use Rattle.volume_terms.specs.Sizes.{number_end}
 use Rattle.nand_model.specs.Calls.{Device, Lasts}
 use Rattle.nand_model.specs.declared.geometry.Geometry.{Geometry}
 use Rattle.nand_model.specs.laws.Calls.{lasts_on, lasts_here}
@@ -70,16 +71,16 @@ same_ends count t u (Err groups.Gone) is = same_closed t u is
 -- ---- numbers
 
 -- a group's number is used
-limits_used : (t u : Table) → u.next_group ≤ t.next_group + 1 → u.next_seq ≡ t.next_seq → t.next_group < 2 ^ 62 → IsWithinLimits t → IsWithinLimits u
+limits_used : (t u : Table) → u.next_group ≤ t.next_group + 1 → u.next_seq ≡ t.next_seq → t.next_group < number_end → IsWithinLimits t → IsWithinLimits u
 limits_used t u group seq less (groups, seqs) = (omega (arith, group, less), omega (arith, seq, seqs))
 
-limits_closed : (t u : Table) → u ≡ closed t → t.next_group < 2 ^ 62 → IsWithinLimits t → IsWithinLimits u
+limits_closed : (t u : Table) → u ≡ closed t → t.next_group < number_end → IsWithinLimits t → IsWithinLimits u
 limits_closed t u is less =
     let group : u.next_group ≡ t.next_group + 1 = ap (λ (x : Table). x.next_group) is in
     limits_used t u (omega (arith, group)) (ap (λ (x : Table). x.next_seq) is) less
 
 -- however the writing of a group ends, no number of 2^62 is handed out
-pub limits_ends : (count : ℕ) (t u : Table) (result : Result Placed GroupFault) → TableEnds count t u result → t.next_group < 2 ^ 62 → IsWithinLimits t → IsWithinLimits u
+pub limits_ends : (count : ℕ) (t u : Table) (result : Result Placed GroupFault) → TableEnds count t u result → t.next_group < number_end → IsWithinLimits t → IsWithinLimits u
 limits_ends count t u (Ok placed) ends less limits = go placed.suspect ends limits where
   go : (suspect : Bool) → OkTable suspect count t u → IsWithinLimits t → IsWithinLimits u
   go true is = limits_closed t u is less

@@ -1,5 +1,5 @@
 -- What holds of moves in turn.
-use Rattle.std.proofs.Common.{◌≡◌, ℕ, Some, None, refl, sym, ap, subst, ◌∙◌, arith, inl, inr}
+use Rattle.std.proofs.Common.{◌≡◌, ℕ, Some, None, refl, sym, ap, subst, ◌∙◌, inl, inr}
 use Rattle.std.proofs.lemmas.Bool.{cases_eq}
 use Rattle.nand_model.specs.Calls.{Device}
 use Rattle.nand_model.specs.laws.Calls.{lasts_on, lasts_here}

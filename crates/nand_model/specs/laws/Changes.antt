@@ -2,7 +2,7 @@
 use Rattle.std.specs.Prelude.{◌≡◌, ◌⊎◌, ℕ, true, List, Result, Ok, Err, Some}
 use Rattle.std.proofs.Common.{refl, sym, ◌∙◌, ap, arith, inl, inr}
 use Rattle.std.proofs.lemmas.Bool.{cases_eq}
-use Rattle.nand_model.specs.Flash.{Flash, Page, Erased, Uncorrectable, IsClean}
+use Rattle.nand_model.specs.Flash.{Page, Erased, Uncorrectable, IsClean}
 use Rattle.nand_model.specs.Calls.{Device, Reads, ReadEnds, Programs, Erases, EraseLeaves}
 use Rattle.nand_model.specs.laws.Calls.{lasts_on, lasts_here}
 use Rattle.nand_model.specs.Changes.{Grows, Shrinks, OnlyReads}
@@ -10,12 +10,6 @@ use Rattle.nand_model.specs.declared.nand.PageKind.{PageKind}
 use Rattle.nand_model.specs.declared.nand.Gone.{Gone}
 use Rattle.nand_model.specs.declared.nand.ProgramFault.{ProgramFault}
 use Rattle.nand_model.specs.declared.nand.EraseFault.{EraseFault}
-
-pub grows_on : (a b c : Flash) → Grows a b → Grows b c → Grows a c
-grows_on a b c first then k l not = then k l (λ is. not (sym (first k l not) ∙ is)) ∙ first k l not
-
-pub grows_here : (a : Flash) → Grows a a
-grows_here a k l not = refl
 
 -- what is programmed was erased, so no other page than an erased one changes
 pub grows-program : (b p : ℕ) (bytes tag : List ℕ) (old new : Device) (result : Result (Unit {0}) ProgramFault) → old.honest ≡ true

@@ -24,6 +24,7 @@ loop-target-init g c =
       marks = omega (arith, bad);
       answers = omega (arith, bad);
       costs = omega arith;
+      reads = omega arith;
       stored = λ honest. data_here t d.flash;
       newest = λ honest. kept_here t d.flash;
       closed = ap (λ (x : Table). x.open_block) c.close.ensures;
@@ -86,6 +87,7 @@ loop-target-preserved g c =
       marks = omega (arith, so_far.marks, tried.marks);
       answers = omega (arith, so_far.answers, tried.answers);
       costs = search rules;
+      reads = omega (arith, so_far.reads, tried.reads);
       stored = λ honest. data_on t u so_far.keeps.kept d0 d1 d2 tried.keeps.lasts (λ _. so_far.newest honest) (so_far.stored honest) (tried.data (so_far.keeps.lasts.honest ∙ honest));
       newest = λ honest. kept_on t u so_far.keeps.kept d0.flash d1.flash d2.flash
           (so_far.newest honest) (tried.newest (so_far.keeps.lasts.honest ∙ honest) tried.ends.2);

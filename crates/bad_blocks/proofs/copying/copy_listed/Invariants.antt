@@ -2,7 +2,8 @@ use Rattle.std.proofs.Common.{◌≡◌, ◌≤◌, ◌+◌, ◌-◌, true, None
 use Rattle.block_state.specs.Kept.{bad_count}
 use Rattle.block_state.specs.TableOf.{table}
 use Rattle.bad_blocks.specs.Copying.{MayBeCopied, KeepsCounts, KeepsDataAt, KeepsKeptAt}
-use Rattle.bad_blocks.specs.Moving.{AnswersFailures, MarksFailures, Costs}
+use Rattle.nand_model.specs.Counts.{Costs, ReadsFew}
+use Rattle.bad_blocks.specs.Moving.{AnswersFailures, MarksFailures}
 use Rattle.bad_blocks.proofs.copying.copy_listed.Given as goal
 
 abbrev pub invariant-loop-target : goal.invariant-loop-target
@@ -11,6 +12,7 @@ invariant-loop-target g l = record {
   marks : MarksFailures 0 0 (g.N.Nand.state l.fn.device) (g.N.Nand.state l.device) (table l.fn.blocks) (table l.blocks);
   answers : AnswersFailures 0 0 (g.N.Nand.state l.fn.device) (g.N.Nand.state l.device) (table l.fn.blocks) (table l.blocks);
   costs : Costs 0 ((g.N.Nand.state l.fn.device).geometry.pages + 2) 0 (g.N.Nand.state l.fn.device) (g.N.Nand.state l.device);
+  reads : ReadsFew 0 (g.N.Nand.state l.fn.device) (g.N.Nand.state l.device);
   stored : (g.N.Nand.state l.fn.device).honest ≡ true → KeepsDataAt (table l.fn.blocks) (g.N.Nand.state l.fn.device).flash (g.N.Nand.state l.device).flash;
   newest : (g.N.Nand.state l.fn.device).honest ≡ true → KeepsKeptAt (table l.fn.blocks) (g.N.Nand.state l.fn.device).flash (g.N.Nand.state l.device).flash;
   closed : (table l.blocks).open_block ≡ None;

@@ -69,3 +69,6 @@ returns-clause-answers g c =
     let u : Table = table c.close.new.self in
     let same : bad_count u ≡ bad_count t = ap bad_count c.close.ensures in
     on_ok_weaker c.retire_all.result (λ then. omega (arith, same, then)) c.retire_all.ensures.answers
+
+pub returns-clause-empty : goal.returns-clause-empty
+returns-clause-empty g c = λ none. c.retire_all.ensures.empty (ap (λ (s : Table). (s.entry c.args.block).kept) c.close.ensures ∙ none)

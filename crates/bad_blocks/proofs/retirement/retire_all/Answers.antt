@@ -4,9 +4,10 @@ use Rattle.block_state.specs.Table.{Table}
 use Rattle.block_state.specs.TableOf.{table}
 use Rattle.chunk_index.specs.Kept.{HoldsNone}
 use Rattle.chunk_index.specs.Maps.{kept_pages}
-use Rattle.bad_blocks.specs.Moving.{AnswersFailures, MarksFailures, Costs}
+use Rattle.nand_model.specs.Counts.{Costs}
+use Rattle.bad_blocks.specs.Moving.{AnswersFailures, MarksFailures}
 use Rattle.bad_blocks.specs.laws.FreeBlocks.{free_on}
-use Rattle.bad_blocks.proofs.RetireTurns.{Retiring, open_is, next_unkept, moves_next, marks_next, costs_next, retiring_next, retired_all}
+use Rattle.bad_blocks.proofs.RetireTurns.{Retiring, open_is, next_unkept, moves_next, marks_next, costs_next, retiring_next, retired_all, some_none}
 use Rattle.bad_blocks.proofs.retirement.retire_all.Goals as goal
 
 pub loop-suspect-init : goal.loop-suspect-init
@@ -21,10 +22,12 @@ loop-suspect-init g c =
         marks = subst (λ n. MarksFailures 1 n d0 d (table c.args.blocks.now) (table c.retire_one.new.blocks)) (open_is c.in_ok-suspect.suspect) e.marks;
         answers = subst (λ n. AnswersFailures 1 n d0 d (table c.args.blocks.now) (table c.retire_one.new.blocks)) (open_is c.in_ok-suspect.suspect) e.answers;
         costs = subst (λ n. Costs (d0.geometry.pages + 2) (d0.geometry.pages + 2) n d0 d) (open_is c.in_ok-suspect.suspect) e.costs;
+        reads = e.reads;
         out = e.ends.0;
         power = e.ends.1;
       };
       free = e.free;
+      empty = e.empty;
       room = e.room;
     }
 
@@ -96,8 +99,9 @@ loop-suspect-preserved g c =
       retiring = retiring_next c.args.spare c.args.block w d0 d t0 t x0 x r d' t' y s none e.moves e.ends.0 e.stands
           (subst (λ n. MarksFailures 1 n d d' t t') (open_is s) e.marks)
           (subst (λ n. AnswersFailures 1 n d d' t t') (open_is s) e.answers)
-          (subst (λ n. Costs (d.geometry.pages + 2) (d.geometry.pages + 2) n d d') (open_is s) e.costs) e.ends.1;
+          (subst (λ n. Costs (d.geometry.pages + 2) (d.geometry.pages + 2) n d d') (open_is s) e.costs) e.reads e.ends.1;
       free = free_on c.args.spare d0 d d' x0 x y r.moves.lasts.honest c.loop-suspect.invariant.free e.free;
+      empty = λ kept. absurd (some_none w (sym c.in-Some.is ∙ (c.loop-suspect.invariant.empty kept).1));
       room = e.room;
     }
 
@@ -117,3 +121,6 @@ returns-in_err-suspect-2-clause-free g c =
     let so_far = c.loop-suspect.invariant in
     free_on c.args.spare (g.N.Nand.state c.args.device.now) (g.N.Nand.state c.loop-suspect.device) (g.N.Nand.state c.retire_one-in-Some.new.device)
     c.args.index.now c.loop-suspect.index c.retire_one-in-Some.new.index so_far.retiring.moves.lasts.honest so_far.free c.in_err-suspect-2.ensures.free
+
+pub returns-in_err-suspect-2-clause-empty : goal.returns-in_err-suspect-2-clause-empty
+returns-in_err-suspect-2-clause-empty g c = λ kept. absurd (some_none c.in-Some.next (sym c.in-Some.is ∙ (c.loop-suspect.invariant.empty kept).1))

@@ -1,4 +1,4 @@
-use Rattle.std.proofs.Common.{◌-◌}
+use Rattle.std.proofs.Common.{◌≡◌, ◌≤◌, ◌+◌, ◌-◌, None}
 use Rattle.block_state.specs.Kept.{bad_count}
 use Rattle.block_state.specs.TableOf.{table}
 use Rattle.bad_blocks.specs.Room.{IsRoomFor}
@@ -10,6 +10,7 @@ abbrev pub invariant-loop-suspect : goal.invariant-loop-suspect
 invariant-loop-suspect g l = record {
   retiring : Retiring l.spare l.block (g.N.Nand.state l.fn.device) (g.N.Nand.state l.device) (table l.fn.blocks) (table l.blocks) l.fn.index l.index l.suspect;
   free : KeepsFree l.spare (g.N.Nand.state l.fn.device) (g.N.Nand.state l.device) l.fn.index l.index;
+  empty : ((table l.fn.blocks).entry l.block).kept ≡ 0 → ((g.N.Nand.state l.device).changes ≤ (g.N.Nand.state l.fn.device).changes + 1) × (l.suspect ≡ None);
   room : IsRoomFor (g.N.Nand.state l.device).geometry l.room;
 }
 

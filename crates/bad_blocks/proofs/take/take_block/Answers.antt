@@ -1,4 +1,4 @@
-use Rattle.std.proofs.Common.{◌≡◌, ◌≤◌, ◌∙◌, sym, ap, subst, arith, rules}
+use Rattle.std.proofs.Common.{◌≡◌, ◌≤◌, ◌∙◌, refl, sym, ap, subst, arith, rules}
 use Rattle.nand_model.specs.laws.Calls.{lasts_on}
 use Rattle.block_state.specs.Kept.{bad_count}
 use Rattle.block_state.specs.Table.{Table}
@@ -25,6 +25,7 @@ loop-block-init g c = record {
   none = search rules;
   answers = let same : bad_count (table c.close.new.self) ≡ bad_count (table c.args.blocks.now) = ap bad_count c.close.ensures in omega (arith, same);
   costs = omega arith;
+  reads = refl;
   few = subst (λ (x : Table). bad_count x ≤ c.args.spare) (sym c.close.ensures) c.requires.some.bad;
   seqs = λ b. ap (λ (x : Table). (x.entry b).seq) c.close.ensures;
 }
@@ -41,6 +42,7 @@ loop-block-preserved g c =
       none = record { open_block = tried.ends.0.open_block; next_seq = tried.ends.0.next_seq ∙ so_far.none.next_seq };
       answers = omega (arith, so_far.answers, tried.answers);
       costs = omega (arith, so_far.costs, tried.costs);
+      reads = tried.reads ∙ so_far.reads;
       few = search rules;
       seqs = λ b. tried.turn b ∙ so_far.seqs b;
     }

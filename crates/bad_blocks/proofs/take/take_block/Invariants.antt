@@ -1,4 +1,4 @@
-use Rattle.std.proofs.Common.{◌≤◌, ◌+◌, ◌-◌, ◌*◌}
+use Rattle.std.proofs.Common.{◌≡◌, ◌≤◌, ◌+◌, ◌-◌, ◌*◌}
 use Rattle.nand_model.specs.Calls.{Lasts}
 use Rattle.block_state.specs.Kept.{bad_count}
 use Rattle.block_state.specs.TableOf.{table}
@@ -18,6 +18,7 @@ invariant-loop-block g l = record {
   none : TakesNone (table l.fn.blocks) (table l.blocks);
   answers : AnswersFailures 0 0 (g.N.Nand.state l.fn.device) (g.N.Nand.state l.device) (table l.fn.blocks) (table l.blocks);
   costs : (g.N.Nand.state l.device).changes + 2 * (g.N.Nand.state l.fn.device).failures ≤ (g.N.Nand.state l.fn.device).changes + 2 * (g.N.Nand.state l.device).failures;
+  reads : (g.N.Nand.state l.device).reads ≡ (g.N.Nand.state l.fn.device).reads;
   few : bad_count (table l.blocks) ≤ l.spare;
   seqs : SameSeqs (table l.fn.blocks) (table l.blocks);
 }

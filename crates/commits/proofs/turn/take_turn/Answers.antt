@@ -5,7 +5,7 @@ use Rattle.flash_tree.specs.declared.place.FreshPage.{FreshPage}
 use Rattle.block_state.specs.Kept.{bad_count}
 use Rattle.nand_model.specs.declared.geometry.Geometry.{Geometry}
 use Rattle.block_state.specs.Table.{Table, room as room_of}
-use Rattle.bad_blocks.specs.Moving.{Costs}
+use Rattle.nand_model.specs.Counts.{Costs}
 use Rattle.collector.specs.Making.{FitsOpen}
 use Rattle.commits.proofs.Costing.{costs_changes, costs_each, costs_failed, costs_more, costs_on, room_most, takes_none_written, takes_none_failed, takes_one_written, takes_one_failed}
 use Rattle.block_state.specs.TableOf.{table}

@@ -4,7 +4,7 @@ use Rattle.nand_model.specs.Calls.{Device}
 use Rattle.flash_tree.specs.declared.place.FreshPage.{FreshPage}
 use Rattle.nand_model.specs.declared.geometry.Geometry.{Geometry}
 use Rattle.block_state.specs.Table.{Table}
-use Rattle.bad_blocks.specs.Moving.{Costs}
+use Rattle.nand_model.specs.Counts.{Costs}
 use Rattle.commits.proofs.Costing.{costs_more, costs_none, costs_on, takes_none_turn, takes_one_turn}
 use Rattle.block_state.specs.TableOf.{table}
 use Rattle.chunk_index.specs.declared.index.Index.{Index}
@@ -23,6 +23,7 @@ loop-init g c = record {
   marks = omega arith;
   answers = omega arith;
   costs = costs_none (3 * (g.N.Nand.state c.args.device.now).geometry.pages + 3) (g.N.Nand.state c.args.device.now);
+  reads = omega arith;
   first = λ _. (refl, refl);
   few = c.requires.few;
   free = c.requires.free;
@@ -120,6 +121,7 @@ loop-preserved g c =
       marks = omega (arith, so_far.marks, again.marks);
       answers = omega (arith, so_far.answers, again.answers);
       costs = costs_on 0 0 (3 * d0.geometry.pages + 3) d0 d e so_far.costs (subst (λ (z : Geometry). Costs 0 (3 * z.pages + 3) 0 d e) so_far.keeps.lasts.geometry again.costs);
+      reads = omega (arith, so_far.reads, again.reads);
       first = λ still. let rise = so_far.keeps.lasts.failures in let more = again.ends.2 in let marks = again.marks in absurd (omega (arith, still, rise, more, marks));
       few = again.ends.3;
       free = again.ends.1;

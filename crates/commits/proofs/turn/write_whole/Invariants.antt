@@ -3,7 +3,8 @@ use Rattle.block_state.specs.Kept.{bad_count}
 use Rattle.block_state.specs.TableOf.{table}
 use Rattle.page_buffer.specs.BufferOf.{buffered}
 use Rattle.page_buffer.specs.Buffering.{Buffers}
-use Rattle.bad_blocks.specs.Moving.{AnswersFailures, Costs, MarksFailures}
+use Rattle.nand_model.specs.Counts.{Costs, ReadsFew}
+use Rattle.bad_blocks.specs.Moving.{AnswersFailures, MarksFailures}
 use Rattle.bad_blocks.specs.Room.{IsRoomFor}
 use Rattle.bad_blocks.specs.Standing.{HasFreeBlocks}
 use Rattle.commits.specs.Committing.{SameSizes}
@@ -18,6 +19,7 @@ invariant-loop g l = record {
   marks : MarksFailures 0 0 (g.N.Nand.state l.fn.device) (g.N.Nand.state l.device) (table l.fn.blocks) (table l.blocks);
   answers : AnswersFailures 0 0 (g.N.Nand.state l.fn.device) (g.N.Nand.state l.device) (table l.fn.blocks) (table l.blocks);
   costs : Costs 0 (3 * (g.N.Nand.state l.fn.device).geometry.pages + 3) 0 (g.N.Nand.state l.fn.device) (g.N.Nand.state l.device);
+  reads : ReadsFew 0 (g.N.Nand.state l.fn.device) (g.N.Nand.state l.device);
   first : (g.N.Nand.state l.device).failures ≡ (g.N.Nand.state l.fn.device).failures → (g.N.Nand.state l.device ≡ g.N.Nand.state l.fn.device) × (table l.blocks ≡ table l.fn.blocks);
   few : bad_count (table l.blocks) ≤ l.spare;
   free : HasFreeBlocks (table l.blocks) l.spare;

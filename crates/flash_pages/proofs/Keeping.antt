@@ -1,5 +1,5 @@
 -- A device that is only read keeps what it has.
-use Rattle.std.specs.Prelude.{◌≡◌, ◌<◌, ◌≤◌, ◌+◌, ℕ, Bool, true, false, count_by}
+use Rattle.std.specs.Prelude.{◌≡◌, ◌<◌, ◌+◌, ℕ, Bool, true, false, count_by}
 use Rattle.std.specs.List.{range_with_len}
 use Rattle.std.proofs.Common.{refl, arith}
 use Rattle.nand_model.specs.Flash.{Flash}
@@ -46,6 +46,7 @@ goes_on p n spare most was is = record {
   page_bytes = refl;
   most = refl;
   spare = refl;
+  worn = refl;
   refused = λ yes. yes;
   failed = λ yes. yes;
   device = lasts_here p.device;

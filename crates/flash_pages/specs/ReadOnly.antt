@@ -1,5 +1,6 @@
 -- The pages of a device that is worn out, which are only read.
-use Rattle.std.specs.Prelude.{◌≡◌, ◌<◌, ◌^◌, ℕ, ◌+◌, Bool, true, not, ◌&&◌}
+use Rattle.std.specs.Prelude.{◌≡◌, ◌<◌, ℕ, ◌+◌, Bool, true, not, ◌&&◌}
+use Rattle.volume_terms.specs.Sizes.{number_end}
 use Rattle.nand_model.specs.Calls.{Device}
 use Rattle.flash_tree.specs.Newest.{Numbers, AreGreatest}
 use Rattle.pages.specs.State.{PagesState, NextNumbers}
@@ -11,7 +12,7 @@ next_after n = record { group = n.group + 1; seq = n.seq + 1 }
 
 -- Nothing can be written: a number of 2^62 stands on the device, or more blocks are bad than there are to spare.
 abbrev pub IsWorn : Device → Numbers → (spare : ℕ) → Type 0
-IsWorn device n spare = n.group < 2 ^ 62 → n.seq < 2 ^ 62 → spare < bad_on device
+IsWorn device n spare = n.group < number_end → n.seq < number_end → spare < bad_on device
 
 -- of an honest device these are the greatest numbers
 abbrev pub HasGreatest : Device → Numbers → Type 0
@@ -29,6 +30,8 @@ only_read p n spare most refused_change = record {
   present = p.present;
   kept = p.present;
   lent = p.lent;
+  near = p.near;
+  buffered = 0;
   sound = p.sound && not refused_change;
   failed = p.failed;
   refused = p.refused;
@@ -36,4 +39,5 @@ only_read p n spare most refused_change = record {
   device = p.device;
   next = next_after n;
   spare = spare;
+  worn = true;
 }

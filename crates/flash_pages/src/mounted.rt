@@ -66,12 +66,18 @@ impl<N: Nand> Pages for FlashPages<N> {
 }
 
 impl<N: Nand> PageStore for FlashPages<N> {
-    ghost use Rattle.objects.specs.laws.Sound.{lost_alone};
-    ghost use Rattle.flash_pages.specs.laws.Sound.{lost_reading};
+    ghost use Rattle.block_state.specs.TableOf.{table};
+    ghost use Rattle.objects.specs.laws.Sound.{lost_alone, few_bad};
+    ghost use Rattle.flash_pages.specs.laws.Sound.{lost_reading, only_worn};
 
     ghost lost = { elim [
       | kinds.Store s ↦ λ sound failed. lost_alone (⟦<Store<N> as Pages>⟧.state s).device.gone (⟦<Store<N> as Pages>⟧.state s).device.honest s.broken sound failed
       | kinds.ReadOnly s ↦ λ sound failed. lost_reading (⟦<ReadOnlyPages<N> as Pages>⟧.state s).device.gone (⟦<ReadOnlyPages<N> as Pages>⟧.state s).device.honest s.refused_change sound failed
+    ] };
+
+    ghost few = { elim [
+      | kinds.Store s ↦ λ sound fresh. few_bad (⟦<Store<N> as Pages>⟧.state s).device (table s.blocks) s.spare s.broken s.ready s.few sound
+      | kinds.ReadOnly s ↦ λ sound fresh. only_worn _ _ fresh
     ] };
 
     fn most_pages(&self) -> u32 {

@@ -97,9 +97,11 @@ impl<N: Nand> Pages for ReadOnlyPages<N> {
 }
 
 impl<N: Nand> PageStore for ReadOnlyPages<N> {
-    ghost use Rattle.flash_pages.specs.laws.Sound.{lost_reading};
+    ghost use Rattle.flash_pages.specs.laws.Sound.{lost_reading, only_worn};
 
     ghost lost = { λ s sound failed. lost_reading (⟦<NewestPages<N> as Pages>⟧.state s.pages).device.gone (⟦<NewestPages<N> as Pages>⟧.state s.pages).device.honest s.refused_change sound failed };
+
+    ghost few = { λ s sound fresh. only_worn _ _ fresh };
 
     fn most_pages(&self) -> u32 {
         self.most

@@ -1,6 +1,6 @@
 -- The numbers of blocks that pages tell.
 use Rattle.std.specs.Prelude.{◌≡◌, ◌≤◌, ℕ, ◌+◌, List, Some, slice_get}
-use Rattle.std.proofs.Common.{refl, sym, ◌∙◌, ap, subst, inl, inr, arith}
+use Rattle.std.proofs.Common.{sym, ◌∙◌, ap, subst, inl, inr, arith}
 use Rattle.std.proofs.lemmas.Bool.{cases_eq, cases_order}
 use Rattle.flash_tree.specs.declared.place.Found.{Found}
 use Rattle.block_state.specs.declared.blocks.BlockEntry.{BlockEntry}

@@ -1,6 +1,6 @@
 -- The newest pages as a store of pages.
 -- From: this project.
-use Rattle.std.specs.Prelude.{false, not, ◌||◌, List, ℕ}
+use Rattle.std.specs.Prelude.{true, false, not, ◌||◌, List, ℕ}
 use Rattle.nand_model.specs.Calls.{Device}
 use Rattle.chunk_index.specs.declared.index.Index.{Index}
 use Rattle.pages.specs.Maps.{known_pages}
@@ -16,6 +16,8 @@ seen device x page = record {
   present = known_pages device.honest (kept_data x device.flash);
   kept = known_pages device.honest (kept_data x device.flash);
   lent = page;
+  near = λ o c. false;
+  buffered = 0;
   sound = device.honest;
   failed = device.gone || not device.honest;
   refused = false;
@@ -23,4 +25,5 @@ seen device x page = record {
   device = device;
   next = no_numbers;
   spare = 0;
+  worn = true;
 }

@@ -1,6 +1,7 @@
 -- The tables of a device that was scanned.
 -- From: this project.
-use Rattle.std.specs.Prelude.{◌≡◌, ◌≢◌, ◌⊎◌, ◌<◌, ◌≤◌, ◌^◌, ℕ, ◌+◌, true, false, List, Some, None, slice_get}
+use Rattle.std.specs.Prelude.{◌≡◌, ◌≢◌, ◌⊎◌, ◌<◌, ◌≤◌, ℕ, ◌+◌, true, false, List, Some, None, slice_get}
+use Rattle.volume_terms.specs.Sizes.{number_end}
 use Rattle.nand_model.specs.Flash.{Flash}
 use Rattle.nand_model.specs.Calls.{Device}
 use Rattle.flash_tree.specs.Newest.{Spot, IsNewest, Numbers, AreGreatest}
@@ -25,7 +26,7 @@ HaveNames number list = (i : ℕ) (f : Found) → slice_get list i ≡ Some f �
 
 -- there are numbers left above these
 abbrev pub AreLeft : Numbers → Type 0
-AreLeft n = (n.group < 2 ^ 62) × (n.seq < 2 ^ 62)
+AreLeft n = (n.group < number_end) × (n.seq < number_end)
 
 -- where the page lies, and its version
 abbrev pub kept_at : Spot → KeptPage

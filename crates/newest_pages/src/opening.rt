@@ -1,9 +1,10 @@
 // The tables of a device, by a scan.
-ghost use Rattle.std.specs.Prelude.{◌≡◌, ◌↔◌, ℕ, true, false, IsTrue, OnOk, IfOk, IfErr};
+ghost use Rattle.std.specs.Prelude.{◌≡◌, ◌↔◌, ◌≤◌, ◌+◌, ℕ, true, false, IsTrue, OnOk, IfOk, IfErr};
 ghost use Rattle.nand_model.specs.Changes.{OnlyReads};
 ghost use Rattle.flash_tree.specs.Newest.{AreAbove};
 ghost use Rattle.flash_tree.specs.Places.{numbers_of};
 ghost use Rattle.block_state.specs.TableOf.{table};
+ghost use Rattle.mount_scan.specs.Scanned.{good_pages};
 ghost use Rattle.newest_pages.specs.Opened.{IsOpened, AreLeft, IsTableOf, WhyNotOpened};
 
 use crate::names::have_names;
@@ -81,9 +82,10 @@ fn table_above<N: Nand>(
     table_of(alloc, device, numbers)
 }
 
-/// Scans a device, which is only read: the newest page of each key is kept.
+/// Scans a device, which is only read: the newest page of each key is kept. Each tag of a good block is read once at most.
 pub fn open<N: Nand>(alloc: Global, device: &mut N) -> Result<Opened, OpenFault>
     ensures reads { OnlyReads (N.state device.old) (N.state device.new) }
+    ensures asked { (N.state device.new).reads ≤ (N.state device.old).reads + good_pages (N.state device.old).flash (N.state device.old).geometry.pages (N.state device.old).geometry.blocks }
     ensures power { (N.state device.old).gone ≡ false → OnOk result ((N.state device.new).gone ≡ false) }
     ensures opened { IfOk result (λ opened. IsOpened (N.state device.new) (table opened.blocks) opened.index (numbers_of opened.numbers)) }
     ensures fault { IfErr result (WhyNotOpened (N.state device.new)) }

@@ -1,9 +1,11 @@
 -- What reads of the device leave of a store.
-use Rattle.std.specs.Prelude.{◌≡◌, ◌<◌, ℕ, Bool, true, false, not, ◌&&◌, ◌||◌, zero, suc, List, [], ◌∷◌, length, Option, Some, None, Result, Ok, Err, IfOk, IfErr, OnOk}
+use Rattle.std.specs.Prelude.{◌≡◌, ◌<◌, ℕ, Bool, true, false, not, ◌&&◌, ◌||◌, zero, suc, List, [], ◌∷◌, length, Option, Some, None, IsSome, Result, Ok, Err, IfOk, IfErr, OnOk}
 use Rattle.std.proofs.Common.{refl, sym, ◌∙◌, ap, subst, inl, inr, arith}
 use Rattle.std.proofs.lemmas.Bool.{cases_Bool, or_left, or_right}
+use Rattle.page_buffer.specs.Buffering.{lacks}
+use Rattle.chunk_index.specs.declared.form.Present.{Present}
 use Rattle.nand_model.specs.Flash.{Flash}
-use Rattle.nand_model.specs.Calls.{Device, Lasts}
+use Rattle.nand_model.specs.Calls.{Device}
 use Rattle.flash_tree.specs.laws.Place.{same_flash, had_power}
 use Rattle.block_state.specs.Table.{Table}
 use Rattle.block_state.specs.TableOf.{table}
@@ -25,7 +27,7 @@ use Rattle.chunk_index.specs.Shelves.{look}
 use Rattle.chunk_index.specs.Maps.{kept_pages, present}
 use Rattle.page_buffer.specs.Shown.{data_of, data_at, data_by, data_in, kept_data, present_data}
 use Rattle.page_cache.specs.declared.cache.PageCache.{PageCache}
-use Rattle.pages.specs.Maps.{PageMap, known_pages}
+use Rattle.pages.specs.Maps.{known_pages}
 use Rattle.pages.specs.laws.Known.{known_same}
 use Rattle.pages.specs.State.{OnlyFinds, FindsPage, FailsBy}
 use Rattle.pages.specs.declared.store.Presence.{Presence}
@@ -38,7 +40,7 @@ use Rattle.objects.specs.declared.store.Found.{Found}
 use Rattle.objects.specs.Found.{bytes_or}
 use Rattle.objects.specs.Caching.{Shows}
 use Rattle.objects.specs.Reading.{Caches, IsLoadFault, IsFindFault}
-use Rattle.objects.specs.StoreOf.{store_seen, next_numbers}
+use Rattle.objects.specs.StoreOf.{store_seen, next_numbers, is_near}
 
 -- a page that is present on the flash is the kept one
 on_flash : (p : Option KeptPage) (k : KeptPage) → as_kept p ≡ presents.OnFlash k → p ≡ Some k
@@ -131,6 +133,7 @@ finds_seen a b t u x y buffer buffer' cache cache' scratch scratch' found found'
       ∙ ap (λ i. known_pages b.honest (present_data x (buffered i) b.flash)) buffers
       ∙ known_same a b (present_data x (buffered buffer)) reads;
   kept = ap (λ i. known_pages b.honest (kept_data i b.flash)) index ∙ known_same a b (kept_data x) reads;
+  buffered = ap (λ (i : Buffer). length (buffered i)) buffers;
   sound = ap (λ h. h && not broken') reads.lasts.honest ∙ ap (λ w. a.honest && not w) breaks;
   failed = failed;
   refused = refuses;
@@ -138,6 +141,7 @@ finds_seen a b t u x y buffer buffer' cache cache' scratch scratch' found found'
   device = reads;
   next = ap (λ (w : Blocks). next_numbers (table w)) blocks;
   spare = spares;
+  worn = refl;
 } where
   failed : (a.gone || (not a.honest || broken)) ≡ true → (b.gone || (not b.honest || broken')) ≡ true
   failed is = elim (cases_Bool a.gone) [
@@ -209,3 +213,13 @@ fault_seen b t x buffer cache scratch found spare broken refused (Err faults.Dev
     | inr breaks ↦ or_right (not b.honest) broken breaks
   ])
 ]
+
+-- a page on the flash that is near is in the cache
+pub near_cached : (p : Present) (at : KeptPage) (held : Option (List ℕ)) → p ≡ presents.OnFlash at → is_near p held ≡ true → IsSome held
+near_cached p at held is near = sym (ap (λ (q : Present). is_near q held) is) ∙ near
+
+-- a page of the buffer is near
+pub near_buffered : (p : Present) (held : Option (List ℕ)) → lacks p ≡ 0 → is_near p held ≡ true
+near_buffered presents.Absent held is = absurd (let two : 1 ≡ 0 = is in omega (arith, two))
+near_buffered (presents.OnFlash at) held is = absurd (let two : 1 ≡ 0 = is in omega (arith, two))
+near_buffered (presents.InBuffer i) held is = refl

@@ -9,7 +9,7 @@ use Rattle.page_cache.specs.Slots.{Held, Reserved, Page, page_in}
 use Rattle.page_cache.specs.Cached.{held, cached, held_count, capacity_of}
 use Rattle.page_cache.specs.Changes.{KeepsSizes, HasTheSame, IsOther, Changes, Puts, DropsFrom}
 use Rattle.page_cache.specs.declared.cache.PageCache.{PageCache}
-use Rattle.objects.specs.Caching.{Shows, HasNoMore, KeepsKeys, KeepsRest}
+use Rattle.objects.specs.Caching.{Shows, HasNoMore, KeepsKeys}
 
 pub sizes_on : (a b c : PageCache) → KeepsSizes a b → KeepsSizes b c → KeepsSizes a c
 sizes_on a b c x y = record { page_bytes = y.page_bytes ∙ x.page_bytes; capacity = y.capacity ∙ x.capacity }
@@ -97,23 +97,6 @@ held_put o c old new puts room p q was = elim (key_cases o c p q) [
   | inl at ↦ ap (λ (x : Option Held). is_some x) (ap (λ n. held new n q) at.0 ∙ ap (λ n. held new o n) at.1 ∙ puts.here)
   | inr other ↦ ap (λ (x : Option Held). is_some x) (puts.room room p q other) ∙ was
 ]
-
--- what the cache has of other keys after a page was found, and after one was put that was not
-pub rest_same : (o c : ℕ) (old new : PageCache) → HasTheSame old new → KeepsRest o c old new
-rest_same o c old new same = record { room = λ _ p q _. same.each p q; no_fewer = omega (arith, same.count) }
-
-pub rest_put : (o c : ℕ) {h : Held} (old mid new : PageCache) → HasTheSame old mid → Puts o c h mid new → KeepsRest o c old new
-rest_put o c old mid new same puts = record {
-  room = λ room p q other. puts.room (after room) p q other ∙ same.each p q;
-  no_fewer = omega (arith, same.count, puts.no_fewer);
-}
-  where
-    after : IsSome (held old o c) ⊎ (held_count old < capacity_of old) → IsSome (held mid o c) ⊎ (held_count mid < capacity_of mid)
-    after (inl there) = inl (ap (λ (x : Option Held). is_some x) (same.each o c) ∙ there)
-    after (inr few) = inr (omega (arith, few, same.count, same.sizes.capacity))
-
-pub rest_refused : (o c : ℕ) (old mid new : PageCache) → HasTheSame old mid → HasTheSame mid new → KeepsRest o c old new
-rest_refused o c old mid new same then = record { room = λ _ p q _. then.each p q ∙ same.each p q; no_fewer = omega (arith, same.count, then.count) }
 
 pub fewer_dropped : (o c : ℕ) (old new : PageCache) → DropsFrom o c old new → HasNoMore old new
 fewer_dropped o c old new drops p q xs is = go (held new p q) refl

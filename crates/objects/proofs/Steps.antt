@@ -34,7 +34,7 @@ use Rattle.volume_terms.specs.declared.fault.StoreFault.{StoreFault}
 use Rattle.objects.specs.Caching.{Shows, HasNoMore, LacksCuts, LacksPages, AreIn}
 use Rattle.commits.specs.Carrying.{AreWritable}
 use Rattle.collector.specs.Making.{HasMore}
-use Rattle.bad_blocks.specs.Moving.{Costs}
+use Rattle.nand_model.specs.Counts.{Costs, ReadsFew}
 use Rattle.commits.specs.Committing.{KeepsOpen, TakesNoBlock, TakesOneBlock}
 use Rattle.objects.specs.Changing.{IsCommitFault, fault_of}
 use Rattle.pages.specs.Changes.{AreOfObjects}
@@ -145,7 +145,7 @@ known_cut true cuts m n is same = same
 known_cut false cuts m n is same = absurd (false≢true is)
 
 -- an empty buffer has room for as many pages as it holds
-few_new : (x : Index) (pages : List FreshPage) → new_keys x pages ≤ length pages
+pub few_new : (x : Index) (pages : List FreshPage) → new_keys x pages ≤ length pages
 few_new x [] = omega arith
 few_new x (p ∷ ps) = omega (arith, one (present x p.key.object p.key.chunk), few_new x ps)
   where
@@ -259,6 +259,12 @@ costs_between count now d e f k before long after costs =
     subst (λ (x : Device). Costs (count + d.geometry.pages + 1) (3 * d.geometry.pages + 3) 0 d x) (sym after)
     (subst (λ n. Costs (n + d.geometry.pages + 1) (3 * d.geometry.pages + 3) 0 d f) long
     (subst (λ (x : Device). Costs (now + x.geometry.pages + 1) (3 * x.geometry.pages + 3) 0 x f) before costs))
+
+pub reads_still : (n : ℕ) (d e : Device) → e ≡ d → ReadsFew n d e
+reads_still n d e still = subst (λ (x : Device). ReadsFew n d x) (sym still) (omega arith)
+
+pub reads_between : (n : ℕ) (d e f k : Device) → e ≡ d → k ≡ f → ReadsFew n e f → ReadsFew n d k
+reads_between n d e f k before after few = subst (λ (x : Device). ReadsFew n d x) (sym after) (subst (λ (x : Device). ReadsFew n x f) before few)
 
 -- ---- the open block stays open
 

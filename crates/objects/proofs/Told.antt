@@ -4,6 +4,7 @@ use Rattle.std.specs.Option.{option_map}
 use Rattle.std.proofs.Common.{refl, sym, ◌∙◌, ap, subst, inl, inr, arith}
 use Rattle.std.proofs.lemmas.Bool.{cases_Bool, cases_lt, cases_order, or_left, or_right}
 use Rattle.std.proofs.lemmas.Option.{slice_get-map}
+use Rattle.flash_tree.specs.declared.place.FreshPage.{FreshPage}
 use Rattle.nand_model.specs.Calls.{Device, Lasts}
 use Rattle.nand_model.specs.declared.geometry.Geometry.{Geometry}
 use Rattle.flash_tree.specs.declared.place.Key.{Key}
@@ -275,3 +276,8 @@ module _ (d e : Device) (t u : Table) (still : e ≡ d) (tables : u ≡ t) where
       let bad : bad_on e ≡ bad_on d = ap bad_on still in
       let failures : e.failures ≡ d.failures = ap (λ (x : Device). x.failures) still in
       omega (arith, bad, failures)
+
+-- where no page is buffered there is none
+pub none_buffered : (pages : List FreshPage) → length pages ≡ 0 → pages ≡ []
+none_buffered [] is = refl
+none_buffered (p ∷ ps) is = absurd (omega (arith, is))

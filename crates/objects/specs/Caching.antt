@@ -47,6 +47,15 @@ KeepsKeys old new = (o c : ℕ) → IsSome (held old o c) → IsSome (held new o
 abbrev pub HavePlaces : List FreshPage → PageCache → Type 0
 HavePlaces pages cache = (i : ℕ) (p : FreshPage) → slice_get pages i ≡ Some p → IsSome (held cache p.key.object p.key.chunk)
 
+-- of each key that no cut takes the cache has something still
+abbrev pub KeepsUncutKeys : List Cut → PageCache → PageCache → Type 0
+KeepsUncutKeys cuts old new = (o c : ℕ) → ((i : ℕ) → IsCut cuts o c i → ⊥) → IsSome (held old o c) → IsSome (held new o c)
+
+-- the key of each of the pages that no cut takes has a page in the cache, or a place for one
+abbrev pub HaveUncutPlaces : List FreshPage → List Cut → PageCache → Type 0
+HaveUncutPlaces pages cuts cache = (i : ℕ) (p : FreshPage) → slice_get pages i ≡ Some p → ((j : ℕ) → IsCut cuts p.key.object p.key.chunk j → ⊥)
+    → IsSome (held cache p.key.object p.key.chunk)
+
 -- Where the cache has something of the key already, or of fewer keys than it may, it has of each other key what it had; and it
 -- has something of no fewer keys than before.
 pub record KeepsRest (o c : ℕ) (old new : PageCache) : Type 0 where

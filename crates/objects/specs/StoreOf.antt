@@ -1,13 +1,17 @@
 -- What a store is, as the layers above see it.
-use Rattle.std.specs.Prelude.{ℕ, Bool, true, false, not, ◌&&◌, ◌||◌, List, None}
+use Rattle.std.specs.Prelude.{ℕ, Bool, true, false, not, ◌&&◌, ◌||◌, List, length, Option, is_some}
 use Rattle.nand_model.specs.Calls.{Device}
+use Rattle.chunk_index.specs.declared.form.Present.{Present}
+use Rattle.chunk_index.specs.declared.form.Present.TheVariants as presents
 use Rattle.chunk_index.specs.declared.index.Index.{Index}
+use Rattle.chunk_index.specs.Maps.{present}
 use Rattle.pages.specs.Maps.{PageMap, known_pages}
 use Rattle.block_state.specs.Table.{Table}
 use Rattle.pages.specs.State.{PagesState, NextNumbers}
 use Rattle.page_buffer.specs.BufferOf.{buffered, most_pages}
 use Rattle.page_buffer.specs.Shown.{kept_data, present_data}
 use Rattle.page_buffer.specs.declared.buffer.Buffer.{Buffer}
+use Rattle.page_cache.specs.Cached.{cached}
 use Rattle.page_cache.specs.declared.cache.PageCache.{PageCache}
 use Rattle.objects.specs.Found.{found_bytes}
 use Rattle.objects.specs.declared.store.Found.{Found}
@@ -24,6 +28,12 @@ present_map device x buffer = known_pages device.honest (present_data x (buffere
 abbrev pub next_numbers : Table → NextNumbers
 next_numbers t = record { group = t.next_group; seq = t.next_seq }
 
+-- a page of the buffer, or one that the cache has
+abbrev pub is_near : Present → Option (List ℕ) → Bool
+is_near presents.Absent held = is_some held
+is_near (presents.OnFlash at) held = is_some held
+is_near (presents.InBuffer i) held = true
+
 -- A store as a store of pages: it is sound where its device is honest and no change or commit failed, and it has failed
 -- where its device is gone or is not honest, or a change or commit failed.
 abbrev pub store_seen : Device → Table → Index → Buffer → PageCache → List ℕ → Found → (spare : ℕ) → (broken refused : Bool) → PagesState
@@ -33,6 +43,8 @@ store_seen device t x buffer cache scratch found spare broken refused = record {
   present = present_map device x buffer;
   kept = kept_map device x;
   lent = found_bytes (buffered buffer) cache scratch found;
+  near = λ o c. is_near (present x o c) (cached cache o c);
+  buffered = length (buffered buffer);
   sound = device.honest && not broken;
   failed = device.gone || (not device.honest || broken);
   refused = refused;
@@ -40,4 +52,5 @@ store_seen device t x buffer cache scratch found spare broken refused = record {
   device = device;
   next = next_numbers t;
   spare = spare;
+  worn = false;
 }

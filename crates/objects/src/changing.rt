@@ -1,18 +1,20 @@
 // The change of a store's pages.
 ghost use Rattle.std.specs.Prelude.{◌≡◌, ◌≤◌, ◌+◌, ◌*◌, ◌/◌, ◌⊎◌, ℕ, length, true, false, OnOk, IfErr, OnErr, IsErrOf};
+ghost use Rattle.page_cache.specs.Cached.{held_count, capacity_of};
 ghost use Rattle.nand_model.specs.Calls.{Lasts};
 ghost use Rattle.block_state.specs.TableOf.{table};
 ghost use Rattle.chunk_index.specs.Maps.{IsReadyKey, SameKept, SamePresent, StaysPrepared};
 ghost use Rattle.transactions.specs.Handing.{HandsOut};
-ghost use Rattle.bad_blocks.specs.Moving.{AnswersFailures, Costs, MarksFailures};
+ghost use Rattle.nand_model.specs.Counts.{Costs, ReadsFew, unfinished};
+ghost use Rattle.bad_blocks.specs.Moving.{AnswersFailures, MarksFailures};
 ghost use Rattle.commits.specs.Committing.{KeepsOpen, TakesNoBlock, TakesOneBlock};
 ghost use Rattle.pages.specs.Changes.{AreApart, AreSized, AreOfObjects};
 ghost use Rattle.pages.specs.Maps.{changed};
 ghost use Rattle.page_buffer.specs.BufferOf.{buffered, most_pages, bytes_of_page};
-ghost use Rattle.page_buffer.specs.Buffering.{ArePrepared, AreReady, with_new};
+ghost use Rattle.page_buffer.specs.Buffering.{ArePrepared, AreReady, with_new, AreBuffered};
 ghost use Rattle.page_cache.specs.Changes.{KeepsSizes};
 ghost use Rattle.volume_terms.specs.declared.fault.StoreFault.TheVariants as faults;
-ghost use Rattle.objects.specs.Caching.{HasNoMore, LacksCuts, LacksPages};
+ghost use Rattle.objects.specs.Caching.{HasNoMore, LacksCuts, LacksPages, HavePlaces, HaveUncutPlaces, KeepsKeys, KeepsUncutKeys};
 ghost use Rattle.pages.specs.Stores.{SamePages, IsCarried};
 ghost use Rattle.objects.specs.Changing.{IsCommitFault, IsChangeFault};
 
@@ -47,6 +49,7 @@ impl<N: Nand> Store<N> {
         ensures marks { MarksFailures 0 0 (N.state self.old.device) (N.state self.new.device) (table self.old.blocks) (table self.new.blocks) }
         ensures answers { OnOk result (AnswersFailures 0 0 (N.state self.old.device) (N.state self.new.device) (table self.old.blocks) (table self.new.blocks)) }
         ensures costs { Costs (length (buffered self.old.buffer) + (N.state self.old.device).geometry.pages + 1) (3 * (N.state self.old.device).geometry.pages + 3) 0 (N.state self.old.device) (N.state self.new.device) }
+        ensures reads { ReadsFew (unfinished result) (N.state self.old.device) (N.state self.new.device) }
         ensures same { (self.new.spare ≡ self.old.spare) × (self.old.refused ≡ true → self.new.refused ≡ true) }
         ensures whole { OnOk result ((self.old.broken ≡ false) × (self.new.broken ≡ false)) }
         ensures present { (N.state self.old.device).honest ≡ true → OnOk result (SamePages (present_map (N.state self.new.device) self.new.index self.new.buffer)
@@ -65,6 +68,11 @@ impl<N: Nand> Store<N> {
         ensures room { with_new self.old.index (buffered self.old.buffer) change.pages.items ≤ most_pages self.old.buffer
             → (N.state self.new.device ≡ N.state self.old.device) × SamePages (kept_map (N.state self.new.device) self.new.index) (kept_map (N.state self.old.device) self.old.index)
             × (table self.new.blocks ≡ table self.old.blocks) }
+        // The pages are in the buffer then, and the cache has a place for each that it could take: once they are written they
+        // stay there.
+        ensures buffered { OnOk result (AreBuffered change.pages.items self.new.index) }
+        ensures few { OnOk result (length (buffered self.new.buffer) ≤ length (buffered self.old.buffer) + length change.pages.items) }
+        ensures places { held_count self.old.cache + length change.pages.items ≤ capacity_of self.old.cache → OnOk result (HaveUncutPlaces change.pages.items change.cuts.items self.new.cache) }
         // Else no block is taken where the open one has as many pages left as are buffered.
         ensures takes_none { TakesNoBlock (length (buffered self.old.buffer)) (table self.old.blocks) (N.state self.old.device) (N.state self.new.device) }
         ensures takes_one { TakesOneBlock (length (buffered self.old.buffer)) self.old.spare (table self.old.blocks) (N.state self.old.device) (N.state self.new.device) }
@@ -90,6 +98,7 @@ impl<N: Nand> Store<N> {
         ensures kept { SameKept self.old.index self.new.index }
         ensures present { SamePresent self.old.index self.new.index }
         ensures ready { OnOk result (AreReady self.new.index pages.now) }
+        ensures places { held_count self.old.cache + length pages.now ≤ capacity_of self.old.cache → OnOk result (HavePlaces pages.now self.new.cache) }
         ensures fault { IfErr result (λ fault. (fault ≡ faults.NoMemory) × (self.new.refused ≡ true)) }
     {
         match prepare_all(&mut self.index, &mut self.cache, pages) {
@@ -111,6 +120,7 @@ impl<N: Nand> Store<N> {
         ensures marks { MarksFailures 0 0 (N.state self.old.device) (N.state self.new.device) (table self.old.blocks) (table self.new.blocks) }
         ensures answers { OnOk result (AnswersFailures 0 0 (N.state self.old.device) (N.state self.new.device) (table self.old.blocks) (table self.new.blocks)) }
         ensures costs { Costs (length (buffered self.old.buffer) + (N.state self.old.device).geometry.pages + 1) (3 * (N.state self.old.device).geometry.pages + 3) 0 (N.state self.old.device) (N.state self.new.device) }
+        ensures reads { ReadsFew (unfinished result) (N.state self.old.device) (N.state self.new.device) }
         ensures same { (self.new.spare ≡ self.old.spare) × (self.new.refused ≡ self.old.refused) }
         ensures keys { (o c : ℕ) → IsReadyKey self.old.index o c → IsReadyKey self.new.index o c }
         ensures whole { OnOk result (self.new.broken ≡ false) }
@@ -118,6 +128,8 @@ impl<N: Nand> Store<N> {
             ⊎ SamePages (kept_map (N.state self.new.device) self.new.index) (present_map (N.state self.old.device) self.old.index self.old.buffer)) }
         ensures present { OnOk result (SamePages (present_map (N.state self.new.device) self.new.index self.new.buffer) (present_map (N.state self.old.device) self.old.index self.old.buffer)) }
         ensures room { OnOk result (with_new self.new.index (buffered self.new.buffer) pages.now ≤ most_pages self.new.buffer) }
+        ensures fewer { OnOk result (length (buffered self.new.buffer) ≤ length (buffered self.old.buffer)) }
+        ensures places { KeepsKeys self.old.cache self.new.cache }
         ensures carried { (N.state self.old.device).honest ≡ true
             → IsCarried (N.state self.new.device) self.old.spare (kept_map (N.state self.old.device) self.old.index)
             ⊎ IsCarried (N.state self.new.device) self.old.spare (present_map (N.state self.old.device) self.old.index self.old.buffer) }
@@ -148,6 +160,9 @@ impl<N: Nand> Store<N> {
         ensures kept { SamePages (kept_map (N.state self.new.device) self.new.index) (kept_map (N.state self.old.device) self.old.index) }
         ensures present { (N.state self.old.device).honest ≡ true → SamePages (present_map (N.state self.new.device) self.new.index self.new.buffer)
             (changed change (present_map (N.state self.old.device) self.old.index self.old.buffer)) }
+        ensures buffered { AreBuffered change.pages.items self.new.index }
+        ensures few { length (buffered self.new.buffer) ≤ with_new self.old.index (buffered self.old.buffer) change.pages.items }
+        ensures places { KeepsUncutKeys change.cuts.items self.old.cache self.new.cache }
     {
         self.found = Found::Nowhere;
         drop_cuts(&mut self.cache, &change.cuts);
@@ -165,6 +180,7 @@ fn prepare_all(
     ensures kept { SameKept index.old index.new }
     ensures present { SamePresent index.old index.new }
     ensures ready { OnOk result (AreReady index.new pages.now) }
+    ensures places { held_count cache.old + length pages.now ≤ capacity_of cache.old → OnOk result (HavePlaces pages.now cache.new) }
     ensures sizes { KeepsSizes cache.old cache.new }
     ensures fewer { HasNoMore cache.old cache.new }
 {

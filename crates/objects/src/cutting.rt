@@ -1,5 +1,5 @@
 // The cut of a store's pages.
-ghost use Rattle.std.specs.Prelude.{◌≡◌, true, false, OnOk, IfErr, ◌∷◌, []};
+ghost use Rattle.std.specs.Prelude.{◌≡◌, ◌≤◌, true, false, length, OnOk, IfErr, ◌∷◌, []};
 ghost use Rattle.block_state.specs.TableOf.{table};
 ghost use Rattle.pages.specs.Maps.{without_cuts};
 ghost use Rattle.pages.specs.Stores.{SamePages};
@@ -24,6 +24,7 @@ impl<N: Nand> Store<N> {
         ensures kept { SamePages (kept_map (N.state self.new.device) self.new.index) (kept_map (N.state self.old.device) self.old.index) }
         ensures present { (N.state self.old.device).honest ≡ true → OnOk result (SamePages (present_map (N.state self.new.device) self.new.index self.new.buffer)
             (without_cuts (cut ∷ []) (present_map (N.state self.old.device) self.old.index self.old.buffer))) }
+        ensures fewer { length (buffered self.new.buffer) ≤ length (buffered self.old.buffer) }
         // What is not cut stays in the cache.
         ensures cached { KeepsUncut (cut ∷ []) self.old.cache self.new.cache }
         ensures whole { OnOk result (self.old.broken ≡ false) }

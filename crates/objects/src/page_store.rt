@@ -6,9 +6,12 @@ use pages::{Change, Cut, PageStore};
 use volume_terms::StoreFault;
 
 impl<N: Nand> PageStore for Store<N> {
-    ghost use Rattle.objects.specs.laws.Sound.{lost_alone};
+    ghost use Rattle.block_state.specs.TableOf.{table};
+    ghost use Rattle.objects.specs.laws.Sound.{lost_alone, few_bad};
 
     ghost lost = { λ s sound failed. lost_alone (N.state s.device).gone (N.state s.device).honest s.broken sound failed };
+
+    ghost few = { λ s sound fresh. few_bad (N.state s.device) (table s.blocks) s.spare s.broken s.ready s.few sound };
 
     fn most_pages(&self) -> u32 {
         self.buffer.most()

@@ -1,6 +1,6 @@
 -- New keys of pages that are counted one after the other.
 use Rattle.std.specs.Prelude.{◌≡◌, ◌<◌, ℕ, suc, ◌+◌, List, [], ◌∷◌, ◌++◌, length, take}
-use Rattle.std.proofs.Common.{refl, sym, ◌∙◌, ap, arith, get_or}
+use Rattle.std.proofs.Common.{sym, ◌∙◌, ap, arith, get_or}
 use Rattle.std.proofs.Math.Seq.{take-suc}
 use Rattle.std.proofs.Math.Numerals.{add-one}
 use Rattle.flash_tree.specs.declared.place.FreshPage.{FreshPage}

@@ -1,23 +1,22 @@
 -- What a cut takes goes, place by place.
-use Rattle.std.specs.Prelude.{◌≡◌, ◌≢◌, ◌⊎◌, ◌<◌, ◌≤◌, ℕ, zero, suc, ◌+◌, List, [], ◌∷◌, ◌++◌, length, Option, Some, None, slice_get, true, false, take}
+use Rattle.std.specs.Prelude.{◌≡◌, ◌⊎◌, ◌<◌, ◌≤◌, ℕ, ◌+◌, List, [], ◌∷◌, ◌++◌, length, Some, None, slice_get, true, false, take}
 use Rattle.std.proofs.Common.{refl, sym, ◌∙◌, ap, subst, inl, inr, arith}
 use Rattle.std.proofs.lemmas.Bool.{cases_eq, cases_lt, cond-true, cond-false}
-use Rattle.std.proofs.lemmas.Option.{slice_get_within, slice_get-get_or}
+use Rattle.std.proofs.lemmas.Option.{slice_get_within}
 use Rattle.nand_model.specs.Flash.{Flash}
 use Rattle.flash_tree.specs.declared.place.FreshPage.{FreshPage}
-use Rattle.pages.specs.Maps.{PageMap, IsPageOf, takes, without_cuts}
+use Rattle.pages.specs.Maps.{IsPageOf, takes, without_cuts}
 use Rattle.pages.specs.Changes.{AreApart}
 use Rattle.pages.specs.declared.change.Cut.{Cut}
 use Rattle.pages.specs.laws.Maps.{cut_cases}
 use Rattle.pages.specs.laws.Changes.{cuts_append, cuts_same, cuts_nothing}
-use Rattle.chunk_index.specs.declared.form.Present.{Present}
 use Rattle.chunk_index.specs.declared.form.Present.TheVariants as presents
 use Rattle.chunk_index.specs.declared.index.Index.{Index}
 use Rattle.chunk_index.specs.Shelves.{Differs}
 use Rattle.chunk_index.specs.Maps.{present, Cuts, SameKept, StaysPrepared}
 use Rattle.page_buffer.specs.Shown.{data_by, present_data}
 use Rattle.page_buffer.specs.Buffering.{Buffers, lacks, new_keys, with_new, DropsSlot, DropsCut, CutsPages, IsTaken}
-use Rattle.page_buffer.proofs.Keys.{Holding, key_cases, here, page_is, object_is, chunk_is, data_same, buffer_apart, new_less, new_same, lacks_one}
+use Rattle.page_buffer.proofs.Keys.{Holding, object_is, chunk_is, new_less, new_same, lacks_one}
 
 -- What stands while the pages are gone through that a cut may take: below a place none is taken.
 pub record Dropping (cut : Cut) (i : ℕ) (x y : Index) (old new : List FreshPage) : Type 0 where

@@ -1,7 +1,7 @@
 -- Keys that are present in the buffer.
-use Rattle.std.specs.Prelude.{◌≡◌, ◌≢◌, ◌⊎◌, ◌<◌, ◌≤◌, ℕ, zero, suc, ◌+◌, List, [], ◌∷◌, length, Option, Some, None, slice_get, IsTrue, IsSome}
+use Rattle.std.specs.Prelude.{◌≡◌, ◌⊎◌, ◌≤◌, ℕ, zero, suc, ◌+◌, List, [], ◌∷◌, Option, Some, None, slice_get, IsTrue, IsSome}
 use Rattle.std.specs.Option.{option_map}
-use Rattle.std.proofs.Common.{refl, sym, ◌∙◌, ap, subst, inl, inr, arith}
+use Rattle.std.proofs.Common.{refl, sym, ◌∙◌, ap, inl, inr, arith}
 use Rattle.std.proofs.lemmas.Bool.{cases_eq}
 use Rattle.nand_model.specs.Flash.{Flash}
 use Rattle.flash_tree.specs.declared.place.FreshPage.{FreshPage}
@@ -17,9 +17,9 @@ use Rattle.chunk_index.specs.declared.index.Index.{Index}
 use Rattle.chunk_index.specs.Entries.{as_kept, present_by, present_of, stays_state, stays_of}
 use Rattle.chunk_index.specs.Shelves.{look, Differs}
 use Rattle.chunk_index.specs.Maps.{present, IsReadyKey, IsPrepared}
-use Rattle.page_buffer.specs.Shown.{data_in, data_by, present_data}
+use Rattle.page_buffer.specs.Shown.{data_by}
 use Rattle.flash_tree.specs.declared.place.Key.{Key}
-use Rattle.page_buffer.specs.Buffering.{Buffers, key_at, lacks, new_keys, IsKeyOf}
+use Rattle.page_buffer.specs.Buffering.{Buffers, key_at, lacks, new_keys}
 
 -- what holds of an index and its buffer, page by page
 pub record Holding (x : Index) (pages : List FreshPage) : Type 0 where

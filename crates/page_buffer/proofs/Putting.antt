@@ -1,26 +1,27 @@
 -- A page that becomes the present one of its key, and pages one after the other.
-use Rattle.std.specs.Prelude.{◌≡◌, ◌≢◌, ◌⊎◌, ◌<◌, ◌≤◌, ℕ, zero, suc, ◌+◌, List, [], ◌∷◌, ◌++◌, length, Option, Some, None, slice_get}
+use Rattle.std.specs.Prelude.{◌≡◌, ◌<◌, ◌≤◌, ℕ, zero, suc, ◌+◌, List, [], ◌∷◌, ◌++◌, length, Option, Some, None, slice_get}
 use Rattle.std.specs.Option.{option_map}
 use Rattle.std.proofs.Common.{refl, sym, ◌∙◌, ap, subst, inl, inr, arith, set}
 use Rattle.std.proofs.lemmas.Bool.{cases_eq, cond-true, cond-false}
 use Rattle.std.proofs.lemmas.List.{length-append, length-set}
 use Rattle.std.proofs.lemmas.Option.{slice_get_within}
+use Rattle.chunk_index.specs.declared.form.Present.{Present}
+use Rattle.pages.specs.Memory.{blank_flash}
 use Rattle.volume_terms.specs.laws.List.{get_push, push_before, push_last}
 use Rattle.nand_model.specs.Flash.{Flash}
 use Rattle.flash_tree.specs.declared.place.FreshPage.{FreshPage}
-use Rattle.pages.specs.Maps.{PageMap, is_of, with_pages, IsPageOf}
+use Rattle.pages.specs.Maps.{is_of, with_pages, IsPageOf}
 use Rattle.pages.specs.Changes.{AreApart, AreSized}
 use Rattle.pages.specs.laws.Maps.{page_elsewhere, key_cases as of_cases}
 use Rattle.pages.specs.laws.Changes.{pages_same}
-use Rattle.chunk_index.specs.declared.form.Present.{Present}
 use Rattle.chunk_index.specs.declared.form.Present.TheVariants as presents
 use Rattle.chunk_index.specs.declared.form.Form.TheVariants as forms
 use Rattle.chunk_index.specs.declared.index.Index.{Index}
 use Rattle.chunk_index.specs.Shelves.{Differs}
 use Rattle.chunk_index.specs.Maps.{present, Places, IsPrepared, SameKept, StaysPrepared}
 use Rattle.page_buffer.specs.Shown.{data_by, present_data}
-use Rattle.page_buffer.specs.Buffering.{Buffers, lacks, new_keys, with_new, PutsPage, IsKeyOf, ArePrepared}
-use Rattle.page_buffer.proofs.Keys.{Holding, key_cases, differs_not, here, page_is, object_is, chunk_is, data_same, buffer_apart, lacks_none, new_same, apart_tail}
+use Rattle.page_buffer.specs.Buffering.{Buffers, lacks, new_keys, with_new, PutsPage, ArePrepared}
+use Rattle.page_buffer.proofs.Keys.{Holding, key_cases, here, object_is, chunk_is, data_same, lacks_none, new_same, apart_tail}
 use Rattle.page_buffer.proofs.Slots.{get_set, set_other, set_here}
 
 -- a page takes the place of the one of its key
@@ -188,3 +189,9 @@ filled_sized pages p slot bytes sized size i q at = elim (get_set pages slot i p
   | inl other ↦ sized i q other.1
   | inr here' ↦ ap (λ (r : FreshPage). length r.bytes.items) here'.1 ∙ size
 ]
+
+-- a page that is present whatever the flash has is in the buffer
+pub data_blank : (pages : List FreshPage) (p : Present) (xs : List ℕ) → data_by blank_flash pages p ≡ Some xs → lacks p ≡ 0
+data_blank pages presents.Absent xs is = let two : None ≡ Some xs = is in absurd cc
+data_blank pages (presents.OnFlash k) xs is = let two : None ≡ Some xs = is in absurd cc
+data_blank pages (presents.InBuffer i) xs is = refl

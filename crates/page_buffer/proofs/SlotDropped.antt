@@ -1,24 +1,22 @@
 -- A page of the buffer that goes.
-use Rattle.std.specs.Prelude.{◌≡◌, ◌≢◌, ◌⊎◌, ◌<◌, ◌≤◌, ℕ, zero, suc, ◌+◌, List, [], ◌∷◌, ◌++◌, length, Option, Some, None, slice_get}
+use Rattle.std.specs.Prelude.{◌≡◌, ◌≢◌, ◌⊎◌, ◌<◌, ℕ, ◌+◌, List, [], ◌∷◌, ◌++◌, length, Option, Some, slice_get}
 use Rattle.std.specs.Option.{option_map}
-use Rattle.std.proofs.Common.{refl, sym, ◌∙◌, ap, subst, inl, inr, arith, set}
+use Rattle.std.proofs.Common.{sym, ◌∙◌, ap, subst, inl, inr, arith, set}
 use Rattle.std.proofs.lemmas.Bool.{cases_eq}
 use Rattle.std.proofs.lemmas.List.{length-append, length-set}
 use Rattle.std.proofs.lemmas.Option.{slice_get_within}
 use Rattle.volume_terms.specs.laws.List.{get_push, push_before, push_last}
-use Rattle.nand_model.specs.Flash.{Flash}
 use Rattle.flash_tree.specs.declared.place.FreshPage.{FreshPage}
 use Rattle.pages.specs.Maps.{IsPageOf}
 use Rattle.pages.specs.Changes.{AreSized}
-use Rattle.chunk_index.specs.declared.form.Present.{Present}
 use Rattle.chunk_index.specs.declared.form.Present.TheVariants as presents
 use Rattle.chunk_index.specs.declared.form.Form.TheVariants as forms
 use Rattle.chunk_index.specs.declared.index.Index.{Index}
 use Rattle.chunk_index.specs.Shelves.{Differs}
 use Rattle.chunk_index.specs.Maps.{present, Places}
-use Rattle.page_buffer.specs.Shown.{data_in, data_by, present_data}
+use Rattle.page_buffer.specs.Shown.{data_by}
 use Rattle.page_buffer.specs.Buffering.{lacks, DropsSlot}
-use Rattle.page_buffer.proofs.Keys.{Holding, key_cases, differs_not, here, page_is, object_is, chunk_is, data_same, buffer_apart, lacks_one}
+use Rattle.page_buffer.proofs.Keys.{Holding, key_cases, differs_not, here, object_is, chunk_is, data_same, buffer_apart}
 use Rattle.page_buffer.proofs.Slots.{get_set, set_other, set_here}
 
 -- the key of one page is not that of another

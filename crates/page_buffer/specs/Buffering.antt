@@ -1,10 +1,10 @@
 -- An index and the buffer that it tells of, and how they change together.
-use Rattle.std.specs.Prelude.{◌≡◌, ◌<◌, ◌≤◌, ℕ, zero, suc, ◌+◌, List, [], ◌∷◌, length, Option, Some, None, slice_get}
+use Rattle.std.specs.Prelude.{◌≡◌, ◌<◌, ◌≤◌, ℕ, ◌+◌, List, [], ◌∷◌, length, Option, Some, None, slice_get}
 use Rattle.std.specs.Option.{option_map}
 use Rattle.flash_tree.specs.declared.place.Key.{Key}
 use Rattle.nand_model.specs.Flash.{Flash}
 use Rattle.flash_tree.specs.declared.place.FreshPage.{FreshPage}
-use Rattle.pages.specs.Maps.{PageMap, IsPageOf, changed}
+use Rattle.pages.specs.Maps.{IsPageOf, changed}
 use Rattle.pages.specs.declared.change.Cut.{Cut}
 use Rattle.pages.specs.declared.change.Change.{Change}
 use Rattle.chunk_index.specs.declared.form.Present.{Present}
@@ -42,6 +42,10 @@ new_keys x (p ∷ ps) = lacks (present x p.key.object p.key.chunk) + new_keys x 
 -- how many pages there are with these, each key counted once
 abbrev pub with_new : Index → List FreshPage → List FreshPage → ℕ
 with_new x buffer pages = length buffer + new_keys x pages
+
+-- each of the pages is of a key that is present in the buffer
+abbrev pub AreBuffered : List FreshPage → Index → Type 0
+AreBuffered pages x = (i : ℕ) (p : FreshPage) → slice_get pages i ≡ Some p → lacks (present x p.key.object p.key.chunk) ≡ 0
 
 -- there is room in the index for each of the pages
 abbrev pub ArePrepared : Index → List FreshPage → Type 0

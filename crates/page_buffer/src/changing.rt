@@ -5,7 +5,7 @@ ghost use Rattle.pages.specs.Changes.{AreApart, AreSized};
 ghost use Rattle.pages.specs.Maps.{with_pages, IsPageOf};
 ghost use Rattle.nand_model.specs.Flash.{Flash};
 ghost use Rattle.page_buffer.specs.Shown.{present_data};
-ghost use Rattle.page_buffer.specs.Buffering.{Buffers, with_new, new_keys, lacks, ArePrepared, AreReady, PutsPage, ChangesPages, IsUnbuffered};
+ghost use Rattle.page_buffer.specs.Buffering.{Buffers, with_new, new_keys, lacks, ArePrepared, AreReady, PutsPage, ChangesPages, IsUnbuffered, AreBuffered};
 
 use crate::buffer::Buffer;
 use chunk_index::{Form, Index, Present};
@@ -111,6 +111,7 @@ impl Buffer {
         ensures kept { SameKept index.old index.new }
         ensures prepared { StaysPrepared index.old index.new }
         ensures puts { (flash : Flash) (o c : ℕ) → present_data index.new (buffered self.new) flash o c ≡ with_pages pages.items (present_data index.old (buffered self.old) flash) o c }
+        ensures few { length (buffered self.new) ≤ with_new index.old (buffered self.old) pages.items }
         ensures sizes { (most_pages self.new ≡ most_pages self.old) × (bytes_of_page self.new ≡ bytes_of_page self.old) }
     {
         for page in pages {
@@ -129,6 +130,8 @@ impl Buffer {
         ensures kept { SameKept index.old index.new }
         ensures prepared { StaysPrepared index.old index.new }
         ensures changes { ChangesPages change index.old index.new (buffered self.old) (buffered self.new) }
+        ensures buffered { AreBuffered change.pages.items index.new }
+        ensures few { length (buffered self.new) ≤ with_new index.old (buffered self.old) change.pages.items }
         ensures sizes { (most_pages self.new ≡ most_pages self.old) × (bytes_of_page self.new ≡ bytes_of_page self.old) }
     {
         let Change { pages, cuts } = change;

@@ -77,6 +77,7 @@ impl Buffer {
         ensures kept { SameKept index.old index.new }
         ensures prepared { StaysPrepared index.old index.new }
         ensures cuts { (flash : Flash) (o c : ℕ) → present_data index.new (buffered self.new) flash o c ≡ without_cuts cuts.now (present_data index.old (buffered self.old) flash) o c }
+        ensures fewer { length (buffered self.new) ≤ length (buffered self.old) }
         ensures room { (ps : List FreshPage) → AreApart ps → with_new index.new (buffered self.new) ps ≤ with_new index.old (buffered self.old) ps }
         ensures sizes { (most_pages self.new ≡ most_pages self.old) × (bytes_of_page self.new ≡ bytes_of_page self.old) }
     {

@@ -11,10 +11,6 @@ use Rattle.pages.specs.Changes.{AreApart, AreSized, IsPutBehind}
 use Rattle.flash_tree.specs.declared.place.FreshPage.{FreshPage}
 use Rattle.pages.specs.declared.change.Cut.{Cut}
 
--- a page of a list is one of the longer list, at a later place
-here_cons : (p : FreshPage) (ps : List FreshPage) (o c i : ℕ) → IsPageOf ps o c i → IsPageOf (p ∷ ps) o c (suc i)
-here_cons p ps o c i of = record { page = of.page; there = of.there; object = of.object; chunk = of.chunk }
-
 -- where one of the pages is of a key, what is behind does not matter
 pages_hide : (ps : List FreshPage) (m n : PageMap) (o c i : ℕ) → IsPageOf ps o c i → with_pages ps m o c ≡ with_pages ps n o c
 pages_hide [] m n o c i of = let no' : None ≡ Some of.page = of.there in absurd cc

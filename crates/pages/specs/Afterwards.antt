@@ -21,6 +21,8 @@ after earlier p = record {
   present = changed_by earlier p.present;
   kept = p.kept;
   lent = p.lent;
+  near = p.near;
+  buffered = p.buffered;
   sound = p.sound;
   failed = p.failed;
   refused = p.refused;
@@ -28,6 +30,7 @@ after earlier p = record {
   device = p.device;
   next = p.next;
   spare = p.spare;
+  worn = p.worn;
 }
 
 -- the bytes of a page, or what was lent where there is none

@@ -1,5 +1,5 @@
 -- What a store in memory keeps.
-use Rattle.std.specs.Prelude.{true, Option, slice_get}
+use Rattle.std.specs.Prelude.{true, false, Option, slice_get}
 use Rattle.pages.specs.Maps.{no_pages, with_pages}
 use Rattle.pages.specs.State.{PagesState, no_numbers}
 use Rattle.pages.specs.Afterwards.{bytes_or}
@@ -14,6 +14,8 @@ kept it = record {
   present = with_pages it.pages.items no_pages;
   kept = no_pages;
   lent = bytes_or (slice_get it.pages.items it.found) it.blank.items;
+  near = λ o c. true;
+  buffered = 0;
   sound = true;
   failed = it.failed;
   refused = it.refused;
@@ -21,6 +23,7 @@ kept it = record {
   device = no_device;
   next = no_numbers;
   spare = 0;
+  worn = false;
 }
 
 -- the look-up that it is told to refuse

@@ -18,14 +18,17 @@ abbrev pub no_numbers : NextNumbers
 no_numbers = record { group = 0; seq = 0 }
 
 -- The bytes of a page, how many pages a change has at most, the page of each key now and at the last commit, the page that
--- was found last, whether the store keeps what it is told, whether its device has failed, whether it was refused memory, how
--- many pages it has asked for so far; and its device, the numbers that come next, and how many blocks may be bad.
+-- was found last, of which keys a look-up makes no call of the device, and how many pages the next commit is to write; whether
+-- the store keeps what it is told, whether its device has failed, whether it was refused memory, how many pages it has asked
+-- for so far; and its device, the numbers that come next, how many blocks may be bad, and whether it can only be read.
 pub record PagesState : Type 0 where
   pub page_bytes : ℕ
   pub most : ℕ
   pub present : PageMap
   pub kept : PageMap
   pub lent : List ℕ
+  pub near : ℕ → ℕ → Bool
+  pub buffered : ℕ
   pub sound : Bool
   pub failed : Bool
   pub refused : Bool
@@ -33,13 +36,15 @@ pub record PagesState : Type 0 where
   pub device : Device
   pub next : NextNumbers
   pub spare : ℕ
+  pub worn : Bool
 
--- a call that only looks for pages keeps all but the page that was found last
+-- a call that only looks for pages keeps all but the page that was found last, and which pages are near
 pub record OnlyFinds (old new : PagesState) : Type 0 where
   pub page_bytes : new.page_bytes ≡ old.page_bytes
   pub most : new.most ≡ old.most
   pub present : new.present ≡ old.present
   pub kept : new.kept ≡ old.kept
+  pub buffered : new.buffered ≡ old.buffered
   pub sound : new.sound ≡ old.sound
   pub failed : old.failed ≡ true → new.failed ≡ true
   pub refused : old.refused ≡ true → new.refused ≡ true
@@ -47,6 +52,7 @@ pub record OnlyFinds (old new : PagesState) : Type 0 where
   pub device : OnlyReads old.device new.device
   pub next : new.next ≡ old.next
   pub spare : new.spare ≡ old.spare
+  pub worn : new.worn ≡ old.worn
 
 -- the device has power where it had it
 abbrev pub KeepsPower : PagesState → PagesState → Type 0

@@ -1,13 +1,15 @@
 -- What a store of pages that is changed leaves.
-use Rattle.std.specs.Prelude.{◌≡◌, ◌⊎◌, ◌<◌, ◌≤◌, ◌^◌, ℕ, ◌+◌, ◌-◌, ◌*◌, true, false, List, length, slice_get, Some}
+use Rattle.std.specs.Prelude.{◌≡◌, ◌⊎◌, ◌<◌, ◌≤◌, ℕ, ◌+◌, ◌-◌, ◌*◌, true, false, List, length, slice_get, Some}
 use Rattle.nand_model.specs.Flash.{Flash}
 use Rattle.nand_model.specs.Calls.{Device, Lasts}
+use Rattle.nand_model.specs.Counts.{Costs}
 use Rattle.flash_tree.specs.Newest.{HasNewest, AreAbove}
 use Rattle.flash_tree.specs.Numbering.{AreBelow}
 use Rattle.flash_tree.specs.Mount.{bad_blocks}
 use Rattle.flash_tree.specs.FreeBlocks.{LeavesFree}
+use Rattle.flash_tree.specs.declared.place.FreshPage.{FreshPage}
 use Rattle.flash_tree.specs.declared.place.Key.{Key}
-use Rattle.volume_terms.specs.Sizes.{number_limit}
+use Rattle.volume_terms.specs.Sizes.{number_limit, number_end}
 use Rattle.volume_terms.specs.declared.fault.StoreFault.{StoreFault}
 use Rattle.volume_terms.specs.declared.fault.StoreFault.TheVariants as faults
 use Rattle.pages.specs.Maps.{PageMap}
@@ -50,12 +52,13 @@ pub record HandsOutNumbers (old new : Device) (n n' : NextNumbers) : Type 0 wher
 abbrev pub bad_on : Device → ℕ
 bad_on device = bad_blocks device.geometry device.flash
 
--- What every call of a store keeps, whatever its device does: the sizes, and what calls of the device keep. Each block that
--- goes bad answers a failure that the device counted. No number of 2^62 is written.
+-- What every call of a store keeps, whatever its device does: the sizes, whether it can only be read, and what calls of the
+-- device keep. Each block that goes bad answers a failure that the device counted. No number of 2^62 is written.
 pub record GoesOn (old new : PagesState) : Type 0 where
   pub page_bytes : new.page_bytes ≡ old.page_bytes
   pub most : new.most ≡ old.most
   pub spare : new.spare ≡ old.spare
+  pub worn : new.worn ≡ old.worn
   pub refused : old.refused ≡ true → new.refused ≡ true
   pub failed : old.failed ≡ true → new.failed ≡ true
   pub device : Lasts old.device new.device
@@ -71,6 +74,15 @@ pub record KeptAs (new : PagesState) (m : PageMap) : Type 0 where
 -- The pages that were kept are so still, or those are that were present: all of the ones, or all of the others.
 abbrev pub KeepsEither : PagesState → PagesState → Type 0
 KeepsEither old new = KeptAs new old.kept ⊎ KeptAs new old.present
+
+-- What one commit costs: the device counts at most as many changes as pages were buffered, a block's pages and one more, and
+-- three times a block's pages and three more for each failure.
+abbrev pub CostsACommit : PagesState → PagesState → Type 0
+CostsACommit old new = Costs (old.buffered + old.device.geometry.pages + 1) (3 * old.device.geometry.pages + 3) 0 old.device new.device
+
+-- a look-up of each of the pages makes no call of the device
+abbrev pub AreNear : List FreshPage → PagesState → Type 0
+AreNear pages p = (i : ℕ) (page : FreshPage) → slice_get pages i ≡ Some page → p.near page.key.object page.key.chunk ≡ true
 
 -- nothing changed, but for what is lent
 pub record StaysSame (old new : PagesState) : Type 0 where
@@ -91,7 +103,7 @@ pub record IsCrowded (p : PagesState) : Type 0 where
 -- Nothing is left to write with: a number of 2^62 would be needed, more blocks are bad than there are to spare, there are too
 -- few blocks, or more is kept than leaves room.
 abbrev pub IsWornOut : PagesState → PagesState → Type 0
-IsWornOut old new = (2 ^ 62 ≤ new.next.group) ⊎ (2 ^ 62 ≤ new.next.seq) ⊎ (new.spare < bad_on new.device)
+IsWornOut old new = (number_end ≤ new.next.group) ⊎ (number_end ≤ new.next.seq) ⊎ (new.spare < bad_on new.device)
     ⊎ (new.device.geometry.blocks < new.spare + 2) ⊎ IsCrowded old
 
 -- the device is gone, or it is not honest

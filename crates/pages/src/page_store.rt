@@ -1,9 +1,10 @@
 // Pages that are changed and kept.
-ghost use Rattle.std.specs.Prelude.{◌≡◌, ◌⊎◌, ◌≤◌, true, false, length, OnOk, IfErr, IsErrOf, ◌∷◌, []};
+ghost use Rattle.std.specs.Prelude.{◌≡◌, ◌⊎◌, ◌≤◌, ◌+◌, true, false, length, OnOk, IfErr, IsErrOf, ◌∷◌, []};
+ghost use Rattle.nand_model.specs.Counts.{ReadsFew, unfinished};
 ghost use Rattle.pages.specs.Changes.{AreApart, AreSized, AreOfObjects};
 ghost use Rattle.pages.specs.Maps.{changed, without_cuts};
 ghost use Rattle.pages.specs.State.{KeepsPower};
-ghost use Rattle.pages.specs.Stores.{SamePages, GoesOn, KeptAs, KeepsEither, StaysSame, ChangeFailsBy, CommitFailsBy};
+ghost use Rattle.pages.specs.Stores.{SamePages, GoesOn, KeptAs, KeepsEither, StaysSame, CostsACommit, AreNear, ChangeFailsBy, CommitFailsBy, bad_on};
 ghost use Rattle.volume_terms.specs.declared.fault.StoreFault.TheVariants as faults;
 
 use crate::change::{Change, Cut};
@@ -30,6 +31,12 @@ pub trait PageStore: Pages {
         ensures present { (Self.state self.old).sound ≡ true → OnOk result (SamePages (Self.state self.new).present (changed change (Self.state self.old).present)) }
         ensures kept { (Self.state self.old).sound ≡ true → KeepsEither (Self.state self.old) (Self.state self.new) }
         ensures power { OnOk result (KeepsPower (Self.state self.old) (Self.state self.new)) }
+        // Where there is room beside what is buffered there is no call of the device, and else one commit's.
+        ensures room { (Self.state self.old).buffered + length change.pages.items ≤ (Self.state self.old).most → (Self.state self.new).device ≡ (Self.state self.old).device }
+        ensures costs { CostsACommit (Self.state self.old) (Self.state self.new) }
+        ensures reads { ReadsFew (unfinished result) (Self.state self.old).device (Self.state self.new).device }
+        ensures buffered { OnOk result ((Self.state self.new).buffered ≤ (Self.state self.old).buffered + length change.pages.items) }
+        ensures near { OnOk result (AreNear change.pages.items (Self.state self.new)) }
         ensures refused { IsErrOf result faults.NoMemory → StaysSame (Self.state self.old) (Self.state self.new) }
         ensures stops { IfErr result (λ fault. (fault ≡ faults.NoMemory) ⊎ ((Self.state self.new).sound ≡ false)) }
         ensures fault { (Self.state self.old).sound ≡ true → IfErr result (ChangeFailsBy (Self.state self.old) (Self.state self.new)) };
@@ -42,6 +49,7 @@ pub trait PageStore: Pages {
         ensures kept { (Self.state self.old).sound ≡ true → KeptAs (Self.state self.new) (Self.state self.old).kept }
         ensures device { (Self.state self.new).device ≡ (Self.state self.old).device }
         ensures next { (Self.state self.new).next ≡ (Self.state self.old).next }
+        ensures buffered { (Self.state self.new).buffered ≤ (Self.state self.old).buffered }
         ensures memory { IsErrOf result faults.NoMemory → ⊥ }
         ensures stops { IfErr result (λ fault. (Self.state self.new).sound ≡ false) }
         ensures fault { (Self.state self.old).sound ≡ true → IfErr result (CommitFailsBy (Self.state self.old) (Self.state self.new)) };
@@ -54,10 +62,18 @@ pub trait PageStore: Pages {
         ensures kept { (Self.state self.old).sound ≡ true → KeepsEither (Self.state self.old) (Self.state self.new) }
         ensures committed { (Self.state self.old).sound ≡ true → OnOk result (KeptAs (Self.state self.new) (Self.state self.old).present) }
         ensures power { OnOk result (KeepsPower (Self.state self.old) (Self.state self.new)) }
+        // Where nothing is buffered there is no call of the device.
+        ensures nothing { (Self.state self.old).buffered ≡ 0 → (Self.state self.new).device ≡ (Self.state self.old).device }
+        ensures costs { CostsACommit (Self.state self.old) (Self.state self.new) }
+        ensures reads { ReadsFew (unfinished result) (Self.state self.old).device (Self.state self.new).device }
+        ensures buffered { OnOk result ((Self.state self.new).buffered ≡ 0) }
         ensures memory { IsErrOf result faults.NoMemory → ⊥ }
         ensures stops { IfErr result (λ fault. (Self.state self.new).sound ≡ false) }
         ensures fault { (Self.state self.old).sound ≡ true → IfErr result (CommitFailsBy (Self.state self.old) (Self.state self.new)) };
 
     /// A sound store has failed only where its device is gone.
     ghost lost: { (pages : Self) → (Self.state pages).sound ≡ true → (Self.state pages).failed ≡ true → (Self.state pages).device.gone ≡ true };
+
+    /// A sound store that can be written has no more bad blocks than there are to spare.
+    ghost few: { (pages : Self) → (Self.state pages).sound ≡ true → (Self.state pages).worn ≡ false → bad_on (Self.state pages).device ≤ (Self.state pages).spare };
 }

@@ -28,6 +28,8 @@ pub trait Pages {
         ensures finds { OnlyFinds (state self.old) (state self.new) }
         ensures asked { (state self.new).asked ≤ (state self.old).asked + 1 }
         ensures absent { (state self.old).sound ≡ true → (state self.old).present key.object key.chunk ≡ None → (state self.new).asked ≡ (state self.old).asked }
+        // Nor does one that is near make a call of the device.
+        ensures near { (state self.old).near key.object key.chunk ≡ true → (state self.new).device ≡ (state self.old).device }
         ensures page { (state self.old).sound ≡ true → IfOk result (FindsPage (state self.old).present key.object key.chunk (state self.new).lent) }
         // An answer is given by a device that has not lost its power in the call.
         ensures power { OnOk result (KeepsPower (state self.old) (state self.new)) }

@@ -1,5 +1,5 @@
 -- What reads of the device leave of the newest pages.
-use Rattle.std.specs.Prelude.{◌≡◌, ◌⊎◌, ◌<◌, ℕ, true, false, not, ◌||◌, List, Option, Some, None, IsSome, Result, Ok, Err, IfOk, IfErr, OnOk}
+use Rattle.std.specs.Prelude.{◌≡◌, ◌⊎◌, ℕ, true, not, ◌||◌, List, Option, Some, None, IsSome, Result, Ok, Err, IfOk, IfErr, OnOk}
 use Rattle.std.specs.Option.{option_and_then}
 use Rattle.std.proofs.Common.{refl, sym, ◌∙◌, ap, subst, inl, inr}
 use Rattle.std.proofs.lemmas.Bool.{cases_Bool, or_left, or_right}
@@ -12,7 +12,7 @@ use Rattle.chunk_index.specs.declared.form.KeptPage.{KeptPage}
 use Rattle.chunk_index.specs.declared.index.Index.{Index}
 use Rattle.chunk_index.specs.Maps.{KeptMap, kept_pages}
 use Rattle.page_buffer.specs.Shown.{data_at, kept_data}
-use Rattle.pages.specs.Maps.{PageMap, known_pages}
+use Rattle.pages.specs.Maps.{known_pages}
 use Rattle.pages.specs.laws.Known.{known_same}
 use Rattle.pages.specs.State.{OnlyFinds, FindsPage, FailsBy}
 use Rattle.pages.specs.declared.store.Presence.{Presence}
@@ -35,6 +35,7 @@ finds_seen a b x y page page' reads index = record {
   most = refl;
   present = ap (λ i. known_pages b.honest (kept_data i b.flash)) index ∙ known_same a b (kept_data x) reads;
   kept = ap (λ i. known_pages b.honest (kept_data i b.flash)) index ∙ known_same a b (kept_data x) reads;
+  buffered = refl;
   sound = reads.lasts.honest;
   failed = failed;
   refused = λ is. is;
@@ -42,6 +43,7 @@ finds_seen a b x y page page' reads index = record {
   device = reads;
   next = refl;
   spare = refl;
+  worn = refl;
 } where
   failed : (a.gone || not a.honest) ≡ true → (b.gone || not b.honest) ≡ true
   failed is = elim (cases_Bool a.gone) [

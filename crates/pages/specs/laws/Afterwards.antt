@@ -12,6 +12,7 @@ finds_after earlier a b x = record {
   most = x.most;
   present = ap (changed_by earlier) x.present;
   kept = x.kept;
+  buffered = x.buffered;
   sound = x.sound;
   failed = x.failed;
   refused = x.refused;
@@ -19,6 +20,7 @@ finds_after earlier a b x = record {
   device = x.device;
   next = x.next;
   spare = x.spare;
+  worn = x.worn;
 }
 
 -- pages of so many bytes

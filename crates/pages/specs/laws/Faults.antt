@@ -1,6 +1,6 @@
 -- Where fewer causes are given, more are.
 use Rattle.pages.specs.State.{PagesState}
-use Rattle.pages.specs.Faults.{Says, MayLack, MayLackMemory, SaysWhy, SaysWhyMaking}
+use Rattle.pages.specs.Faults.{Says, MayLack, MayLackMemory}
 use Rattle.pages.specs.declared.fault.PageFault.{PageFault}
 use Rattle.pages.specs.declared.fault.PageFault.TheVariants as faults
 
@@ -18,10 +18,3 @@ lacks_memory new faults.Device is = is
 lacks_memory new faults.Worn is = is
 lacks_memory new faults.Damaged is = is
 lacks_memory new faults.Full is = is
-
-pub says_making : (new : PagesState) (fault : PageFault) → SaysWhy new fault → SaysWhyMaking new fault
-says_making new faults.NoMemory is = tt
-says_making new faults.Device is = is
-says_making new faults.Worn is = is
-says_making new faults.Damaged is = is
-says_making new faults.Full is = is

@@ -9,6 +9,7 @@ finds_none a = record {
   most = refl;
   present = refl;
   kept = refl;
+  buffered = refl;
   sound = refl;
   failed = λ is. is;
   refused = λ is. is;
@@ -16,6 +17,7 @@ finds_none a = record {
   device = only_reads_here a.device;
   next = refl;
   spare = refl;
+  worn = refl;
 }
 
 pub finds_on : (a b c : PagesState) → OnlyFinds a b → OnlyFinds b c → OnlyFinds a c
@@ -24,6 +26,7 @@ finds_on a b c x y = record {
   most = y.most ∙ x.most;
   present = y.present ∙ x.present;
   kept = y.kept ∙ x.kept;
+  buffered = y.buffered ∙ x.buffered;
   sound = y.sound ∙ x.sound;
   failed = λ is. y.failed (x.failed is);
   refused = λ is. y.refused (x.refused is);
@@ -31,4 +34,5 @@ finds_on a b c x y = record {
   device = only_reads_on a.device b.device c.device x.device y.device;
   next = y.next ∙ x.next;
   spare = y.spare ∙ x.spare;
+  worn = y.worn ∙ x.worn;
 }

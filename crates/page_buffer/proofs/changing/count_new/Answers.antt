@@ -1,4 +1,4 @@
-use Rattle.std.proofs.Common.{rules, ◌≡◌, ◌≤◌, ◌<◌, ◌+◌, arith}
+use Rattle.std.proofs.Common.{arith}
 use Rattle.page_buffer.proofs.Counted.{new_more}
 use Rattle.page_buffer.proofs.changing.count_new.Goals as goal
 

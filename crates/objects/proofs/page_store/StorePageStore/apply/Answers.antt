@@ -1,5 +1,6 @@
-use Rattle.std.specs.Prelude.{◌≡◌, ◌⊎◌, ◌≤◌, ◌/◌, length, not, ◌&&◌}
+use Rattle.std.specs.Prelude.{◌≡◌, ◌⊎◌, ◌≤◌, ◌+◌, ◌*◌, ◌/◌, length, not, ◌&&◌}
 use Rattle.std.proofs.Common.{refl, ◌∙◌, sym, ap, subst, arith}
+use Rattle.std.proofs.lemmas.Result.{on_ok_weaker}
 use Rattle.nand_model.specs.Calls.{Device}
 use Rattle.nand_model.specs.declared.geometry.Geometry.{Geometry}
 use Rattle.block_state.specs.TableOf.{table}
@@ -8,7 +9,8 @@ use Rattle.pages.specs.Stores.{IsCarried}
 use Rattle.pages.specs.State.{PagesState}
 use Rattle.objects.specs.StoreOf.{kept_map, present_map, next_numbers, store_seen}
 use Rattle.objects.proofs.Carried.{has_page, store_carries}
-use Rattle.objects.proofs.ReadOnly.{sound_honest, sound_whole}
+use Rattle.objects.proofs.Steps.{few_new}
+use Rattle.objects.proofs.ReadOnly.{near_buffered, sound_honest, sound_whole}
 use Rattle.objects.proofs.Told.{breaks_on, change_told, failed_stays, hands_told, is_sound, keeps_either, limits_told, marks_told, sound_on, sound_stays, stops_told, ways}
 use Rattle.objects.proofs.page_store.StorePageStore.apply.Goals as goal
 
@@ -23,6 +25,7 @@ returns-clause-goes_on g c =
       page_bytes = ap (λ (k : Geometry). k.bytes) e.lasts.geometry;
       most = new.most ∙ ap (λ (k : Geometry). k.pages / 4) e.lasts.geometry ∙ sym self.most;
       spare = e.same.0;
+      worn = refl;
       refused = e.same.1;
       failed = failed_stays old now self.broken new.broken e.lasts (breaks_on c.change.result self.broken new.broken e.whole e.stops (λ none. (e.refused none).2));
       device = e.lasts;
@@ -90,3 +93,9 @@ returns-clause-fault g c = λ sound.
     change_told p q (table self.blocks) (table new.blocks) self.index (length (buffered self.buffer)) self.ready.geometry e.lasts.geometry e.same.0 refl new.ready (omega (arith, most)) few (self.few whole)
     (c.the_counts_add_up_to_the_kept_keys.ensures.all (table self.blocks) self.index self.stands.tables.counts) (λ o k at is. has_page old self.index o k at honest (self.newest whole honest) is)
     c.change.result self.broken whole e.fault
+
+pub returns-clause-room : goal.returns-clause-room
+returns-clause-room g c = λ fits. (c.change.ensures.room (omega (arith, fits, few_new c.args.self.now.index c.args.change.pages.items))).0
+
+pub returns-clause-near : goal.returns-clause-near
+returns-clause-near g c = on_ok_weaker c.change.result (λ there i p is. near_buffered _ _ (there i p is)) c.change.ensures.buffered

@@ -1,5 +1,7 @@
-use Rattle.std.specs.Prelude.{◌≡◌, ◌⊎◌, ◌≤◌, ◌/◌, length}
+use Rattle.std.specs.Prelude.{◌≡◌, ◌⊎◌, ◌≤◌, ◌+◌, ◌*◌, ◌/◌, List, length}
 use Rattle.std.proofs.Common.{refl, ◌∙◌, sym, ap, subst, arith}
+use Rattle.std.proofs.lemmas.Result.{on_ok_weaker}
+use Rattle.flash_tree.specs.declared.place.FreshPage.{FreshPage}
 use Rattle.nand_model.specs.declared.geometry.Geometry.{Geometry}
 use Rattle.block_state.specs.TableOf.{table}
 use Rattle.page_buffer.specs.BufferOf.{buffered, most_pages}
@@ -8,7 +10,7 @@ use Rattle.pages.specs.State.{PagesState}
 use Rattle.objects.specs.StoreOf.{kept_map, present_map, store_seen}
 use Rattle.objects.proofs.Carried.{has_page, store_carries}
 use Rattle.objects.proofs.ReadOnly.{sound_honest, sound_whole}
-use Rattle.objects.proofs.Told.{breaks_on, commit_told, committed, failed_stays, hands_told, keeps_either, limits_told, marks_told, right_way, sound_on, sound_stays, stopped, stops_either, stops_told, takes_none, ways}
+use Rattle.objects.proofs.Told.{breaks_on, commit_told, none_buffered, committed, failed_stays, hands_told, keeps_either, limits_told, marks_told, right_way, sound_on, sound_stays, stopped, stops_either, stops_told, takes_none, ways}
 use Rattle.objects.proofs.page_store.StorePageStore.commit.Goals as goal
 
 pub returns-clause-goes_on : goal.returns-clause-goes_on
@@ -22,6 +24,7 @@ returns-clause-goes_on g c =
       page_bytes = ap (λ (k : Geometry). k.bytes) e.lasts.geometry;
       most = new.most ∙ ap (λ (k : Geometry). k.pages / 4) e.lasts.geometry ∙ sym self.most;
       spare = e.same.0;
+      worn = refl;
       refused = λ is. e.same.1 ∙ is;
       failed = failed_stays old now self.broken new.broken e.lasts
           (breaks_on c.write_out.result self.broken new.broken e.whole (stops_either c.write_out.result new.broken e.stops) (λ none. absurd (takes_none c.write_out.result self.spare (length (buffered self.buffer)) now (table self.blocks) (table new.blocks) self.broken e.fault none)));
@@ -92,3 +95,9 @@ returns-clause-memory g c = λ none.
     let self = c.args.self.now in
     let new = c.write_out.new.self in
     takes_none c.write_out.result self.spare (length (buffered self.buffer)) (g.N.Nand.state new.device) (table self.blocks) (table new.blocks) self.broken c.write_out.ensures.fault none
+
+pub returns-clause-nothing : goal.returns-clause-nothing
+returns-clause-nothing g c = λ none. c.write_out.ensures.nothing (none_buffered (buffered c.args.self.now.buffer) none)
+
+pub returns-clause-buffered : goal.returns-clause-buffered
+returns-clause-buffered g c = on_ok_weaker c.write_out.result (λ empty. ap (λ (xs : List FreshPage). length xs) empty) c.write_out.ensures.empty

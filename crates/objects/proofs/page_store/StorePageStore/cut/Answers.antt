@@ -1,5 +1,5 @@
 use Rattle.std.specs.Prelude.{◌≡◌, ◌/◌, true, false}
-use Rattle.std.proofs.Common.{◌∙◌, sym, ap, subst}
+use Rattle.std.proofs.Common.{refl, ◌∙◌, sym, ap, subst}
 use Rattle.nand_model.specs.Calls.{Device, Lasts}
 use Rattle.nand_model.specs.declared.geometry.Geometry.{Geometry}
 use Rattle.nand_model.specs.laws.Calls.{lasts_here}
@@ -26,6 +26,7 @@ returns-clause-goes_on g c =
       page_bytes = ap (λ (k : Geometry). k.bytes) lasts.geometry;
       most = new.most ∙ ap (λ (k : Geometry). k.pages / 4) lasts.geometry ∙ sym self.most;
       spare = same.2;
+      worn = refl;
       refused = λ is. same.4 ∙ is;
       failed = failed_stays old now self.broken new.broken lasts (λ is. same.3 ∙ is);
       device = lasts;

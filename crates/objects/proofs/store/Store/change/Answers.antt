@@ -1,4 +1,4 @@
-use Rattle.std.specs.Prelude.{◌≡◌, ◌⊎◌, true, length}
+use Rattle.std.specs.Prelude.{◌≡◌, ◌⊎◌, ◌≤◌, ◌+◌, true, List, length, Some, slice_get}
 use Rattle.std.proofs.Common.{refl, ◌∙◌, sym, ap, subst, inl, inr, arith}
 use Rattle.nand_model.specs.Calls.{Device}
 use Rattle.block_state.specs.Kept.{bad_count}
@@ -9,11 +9,13 @@ use Rattle.page_buffer.specs.declared.buffer.Buffer.{Buffer}
 use Rattle.chunk_index.specs.Maps.{SameKept}
 use Rattle.transactions.specs.laws.Handing.{hands_nothing}
 use Rattle.pages.specs.laws.Changes.{changed_same}
+use Rattle.flash_tree.specs.declared.place.FreshPage.{FreshPage}
+use Rattle.page_cache.specs.Cached.{held_count, capacity_of}
 use Rattle.page_buffer.specs.Buffering.{AreReady}
 use Rattle.pages.specs.Stores.{IsCarried}
 use Rattle.objects.specs.StoreOf.{kept_map, present_map}
 use Rattle.objects.proofs.Carried.{carried_same, either_same, store_carries}
-use Rattle.objects.proofs.Steps.{same_back, same_on, fits_on, hands_still, hands_between, takes_still, takes_between, takes_one_still, takes_one_between, costs_still, costs_between, open_between, kept_map_same, present_map_same, ready_prepared}
+use Rattle.objects.proofs.Steps.{same_back, same_on, fits_on, hands_still, hands_between, takes_still, takes_between, takes_one_still, takes_one_between, costs_still, costs_between, open_between, kept_map_same, present_map_same, ready_prepared, few_new}
 use Rattle.objects.proofs.store.Store.change.Goals as goal
 
 pub returns-in_err-prepare-clause-carried : goal.returns-in_err-prepare-clause-carried
@@ -245,3 +247,15 @@ returns-clause-keeps_open g c =
     open_between (length (buffered self.buffer)) (length (buffered p.buffer)) (table self.blocks) (table p.blocks) (table m.blocks) (table n.blocks)
     (g.N.Nand.state self.device) (g.N.Nand.state p.device) (g.N.Nand.state m.device) (g.N.Nand.state n.device) (ap g.N.Nand.state same.0) (ap table same.1)
     (ap (λ (b : Buffer). length (buffered b)) same.2) (ap g.N.Nand.state made.0) (ap table made.1) c.in_ok-make_room.ensures.keeps_open
+
+pub returns-clause-few : goal.returns-clause-few
+returns-clause-few g c =
+    let m = c.make_room.new.self in
+    let same = ap (λ (b : Buffer). length (buffered b)) c.prepare.ensures.same.2 in
+    omega (arith, c.make.ensures.few, c.in_ok-make_room.ensures.fewer, same, few_new m.index c.args.change.pages.items)
+
+pub returns-clause-places : goal.returns-clause-places
+returns-clause-places g c = λ fits i q is uncut.
+    let pages = c.deref.ensures.value in
+    let had = c.in_ok-prepare.ensures.places (subst (λ (ps : List FreshPage). held_count c.args.self.now.cache + length ps ≤ capacity_of c.args.self.now.cache) (sym pages) fits) i q (subst (λ (ps : List FreshPage). slice_get ps i ≡ Some q) (sym pages) is) in
+    c.make.ensures.places q.key.object q.key.chunk uncut (c.make_room.ensures.places q.key.object q.key.chunk had)

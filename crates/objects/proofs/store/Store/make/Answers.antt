@@ -1,10 +1,11 @@
-use Rattle.std.specs.Prelude.{◌≡◌, List}
-use Rattle.std.proofs.Common.{◌∙◌, subst}
+use Rattle.std.specs.Prelude.{◌≡◌, List, Option, IsSome}
+use Rattle.std.proofs.Common.{◌∙◌, sym, subst}
 use Rattle.page_buffer.specs.BufferOf.{buffered}
 use Rattle.page_buffer.specs.Shown.{present_data}
 use Rattle.flash_tree.specs.declared.place.FreshPage.{FreshPage}
 use Rattle.pages.specs.declared.change.Cut.{Cut}
-use Rattle.objects.specs.Caching.{LacksCuts, LacksPages}
+use Rattle.page_cache.specs.Slots.{Held}
+use Rattle.objects.specs.Caching.{LacksCuts, LacksPages, KeepsUncut}
 use Rattle.objects.specs.declared.store.Found.TheVariants as places
 use Rattle.objects.proofs.Carried.{newest_kept}
 use Rattle.objects.proofs.Steps.{stands_kept, known_changed, objects_changed, shown_changed}
@@ -40,3 +41,9 @@ returns-clause-present g c = λ honest.
     let self = c.args.self.now in
     let d = g.N.Nand.state self.device in
     known_changed d.honest c.args.change (present_data self.index (buffered self.buffer) d.flash) (present_data c.apply.new.index (buffered c.apply.new.self) d.flash) honest (c.apply.ensures.changes d.flash)
+
+pub returns-clause-places : goal.returns-clause-places
+returns-clause-places g c = λ o k uncut had.
+    let self = c.args.self.now in
+    let others = subst (λ (l : List Cut). KeepsUncut l self.cache c.drop_cuts.new.cache) c.deref.ensures.value c.drop_cuts.ensures.others in
+    c.drop_pages.ensures.places o k (subst (λ (h : Option Held). IsSome h) (sym (others o k uncut)) had)

@@ -5,7 +5,7 @@ use Rattle.page_buffer.specs.laws.Buffering.{place_within}
 use Rattle.page_buffer.specs.BufferOf.{buffered}
 use Rattle.block_state.specs.TableOf.{table}
 use Rattle.objects.specs.Found.{found_bytes}
-use Rattle.objects.proofs.ReadOnly.{finds_seen, buffered_lent, kept_lent, not_absent, fault_seen}
+use Rattle.objects.proofs.ReadOnly.{near_cached, finds_seen, buffered_lent, kept_lent, not_absent, fault_seen}
 use Rattle.objects.proofs.store.StorePages.find.Goals as goal
 
 pub invariant_of-self : goal.invariant_of-self
@@ -63,3 +63,8 @@ pub returns-in-OnFlash-clause-fault : goal.returns-in-OnFlash-clause-fault
 returns-in-OnFlash-clause-fault g c =
     let new = c.find_kept.new.self in
     fault_seen (g.N.Nand.state new.device) (table new.blocks) new.index new.buffer new.cache new.scratch.items new.found new.spare new.broken new.refused c.find_kept.result c.find_kept.ensures.fault
+
+pub returns-in-OnFlash-clause-near : goal.returns-in-OnFlash-clause-near
+returns-in-OnFlash-clause-near g c = λ near.
+    let self = c.args.self.now in
+    c.find_kept.ensures.cached (near_cached (present self.index c.args.key.object c.args.key.chunk) c.in-OnFlash.at _ (sym c.present.ensures ∙ c.in-OnFlash.is) near)

@@ -1,5 +1,4 @@
-use Rattle.std.proofs.Common.{◌≡◌, ◌<◌, ◌≤◌, ◌∙◌, ℕ, List, length, refl, sym, arith}
-use Rattle.flash_tree.specs.declared.place.FreshPage.{FreshPage}
+use Rattle.std.proofs.Common.{◌≡◌, ◌∙◌, arith}
 use Rattle.page_buffer.specs.BufferOf.{buffered}
 use Rattle.page_buffer.specs.Buffering.{with_new}
 use Rattle.page_buffer.proofs.Keys.{holding, buffers}

@@ -1,4 +1,4 @@
-use Rattle.std.proofs.Common.{◌<◌, ◌∙◌, ℕ, List, length, Some, slice_get, refl, sym, ap, arith, take, suc}
+use Rattle.std.proofs.Common.{◌≡◌, ◌∙◌, List, [], Some, None, ap, arith, take, suc}
 use Rattle.std.proofs.Math.Seq.{take-suc}
 use Rattle.std.proofs.lemmas.List.{take_all}
 use Rattle.std.proofs.Math.Numerals.{add-one}
@@ -6,7 +6,7 @@ use Rattle.pages.specs.Maps.{without_cuts}
 use Rattle.pages.specs.declared.change.Cut.{Cut}
 use Rattle.page_buffer.specs.Shown.{present_data}
 use Rattle.page_buffer.specs.BufferOf.{buffered}
-use Rattle.page_buffer.proofs.Cutting.{cutting_starts, cutting_more}
+use Rattle.page_buffer.proofs.Cutting.{cutting_more}
 use Rattle.page_buffer.proofs.buffer.Buffer.cut_all.Goals as goal
 
 pub loop-cut-preserved : goal.loop-cut-preserved
@@ -20,3 +20,8 @@ pub returns-clause-cuts : goal.returns-clause-cuts
 returns-clause-cuts c = λ flash o k.
     c.loop-cut.invariant.cutting.shown flash o k
     ∙ ap (λ (xs : List Cut). without_cuts xs (present_data c.args.index.now (buffered c.args.self.now) flash) o k) (take_all c.loop-cut.cut-index c.args.cuts.now (omega (arith, c.loop-cut-test.false)))
+
+pub returns-clause-fewer : goal.returns-clause-fewer
+returns-clause-fewer c =
+    let none = c.loop-cut.invariant.cutting.room [] (λ o k i j of more. absurd (let two : None ≡ Some of.page = of.there in cc)) in
+    omega (arith, none)

@@ -1,9 +1,8 @@
-use Rattle.std.proofs.Common.{rules, ◌≡◌, ◌≤◌, ◌<◌, ◌+◌, ◌++◌, ℕ, List, [], ◌∷◌, length, Some, slice_get, refl, sym, ◌∙◌, ap, subst, arith}
+use Rattle.std.proofs.Common.{rules, ◌≡◌, ◌<◌, ◌+◌, ◌++◌, List, [], ◌∷◌, length, Some, slice_get, refl, ◌∙◌, ap, arith}
 use Rattle.std.proofs.lemmas.List.{length-append, length-set}
 use Rattle.std.proofs.lemmas.Option.{slice_get_read}
 use Rattle.volume_terms.specs.laws.List.{push_last}
 use Rattle.flash_tree.specs.declared.place.FreshPage.{FreshPage}
-use Rattle.chunk_index.specs.Maps.{IsPrepared}
 use Rattle.page_buffer.specs.BufferOf.{buffered}
 use Rattle.page_buffer.proofs.Keys.{holding, buffers, here, buffered_ready, ready_prepared}
 use Rattle.page_buffer.proofs.Preparing.{kept_on}

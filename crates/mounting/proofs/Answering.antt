@@ -1,11 +1,11 @@
 -- What a fault says of the flash.
-use Rattle.std.specs.Prelude.{◌≡◌, ◌⊎◌, ℕ, Bool, true, false, not, ◌||◌, List}
+use Rattle.std.specs.Prelude.{◌≡◌, ℕ, Bool, true, false, not, ◌||◌, List}
 use Rattle.std.proofs.Common.{refl, sym, ◌∙◌, ap, subst, inl, inr}
 use Rattle.nand_model.specs.Calls.{Device}
 use Rattle.nand_model.specs.Changes.{OnlyReads}
 use Rattle.nand_model.specs.Flash.{Flash}
 use Rattle.nand_model.specs.declared.geometry.Geometry.{Geometry}
-use Rattle.flash_tree.specs.Mount.{Wrong, Answers, NotAVolume, IsWrong, IsNewer, IsDamaged, IsVolume, IsNoVolume, HasWrongRoot, sizes_of}
+use Rattle.flash_tree.specs.Mount.{Wrong, Answers, NotAVolume, IsWrong, IsVolume, IsNoVolume, HasWrongRoot, sizes_of}
 use Rattle.flash_tree.specs.laws.Place.{same_flash}
 use Rattle.chunk_index.specs.declared.index.Index.{Index}
 use Rattle.page_buffer.specs.Shown.{kept_data}

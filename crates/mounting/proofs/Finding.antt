@@ -1,6 +1,6 @@
 -- What is said of pages that were looked up before.
-use Rattle.std.specs.Prelude.{◌≡◌, ◌⊎◌, ℕ, true, Result, Ok, Err, IfErr}
-use Rattle.std.proofs.Common.{refl, sym, ◌∙◌, ap, subst, inl, inr}
+use Rattle.std.specs.Prelude.{◌≡◌, ℕ, true}
+use Rattle.std.proofs.Common.{sym, ◌∙◌, subst, inr}
 use Rattle.nand_model.specs.declared.geometry.Geometry.{Geometry}
 use Rattle.flash_tree.specs.Mount.{Wrong, sizes_of, IsVolume}
 use Rattle.pages.specs.Maps.{PageMap, has}

@@ -1,5 +1,5 @@
 -- What a mount gives.
-use Rattle.std.specs.Prelude.{◌≡◌, ◌↔◌, ◌⊎◌, ◌<◌, ◌≤◌, ◌^◌, ◌/◌, ℕ, ◌+◌, Bool, true, false}
+use Rattle.std.specs.Prelude.{◌≡◌, ◌↔◌, ◌<◌, ◌≤◌, ◌^◌, ◌/◌, ℕ, ◌+◌, Bool, true, false}
 use Rattle.std.proofs.Common.{refl, sym, ◌∙◌, ap, subst, inl, inr, arith}
 use Rattle.std.proofs.lemmas.Bool.{cases_lt, cases_Bool, le-leb}
 use Rattle.nand_model.specs.Calls.{Device}
@@ -15,18 +15,18 @@ use Rattle.object_pages.specs.Holding.{HoldsObjects}
 use Rattle.object_store.specs.Stores.{CanHave}
 use Rattle.object_pages.specs.laws.Holding.{same_objects}
 use Rattle.object_store.specs.Stores.{settled}
-use Rattle.object_table.specs.Told.{table_sizes, Tells}
+use Rattle.object_table.specs.Told.{Tells}
 use Rattle.object_table.specs.declared.table.ObjectTable.{ObjectTable}
 use Rattle.page_buffer.specs.Shown.{kept_data}
 use Rattle.pages.specs.Maps.{PageMap, has}
 use Rattle.pages.specs.State.{PagesState}
 use Rattle.pages.specs.Stores.{bad_on}
-use Rattle.paged_objects.specs.Standing.{volume_of, StandsFor, Shown}
+use Rattle.paged_objects.specs.Standing.{volume_of, Shown}
 use Rattle.paged_objects.specs.laws.Showing.{kept_shown}
-use Rattle.flash_pages.specs.ReadOnly.{IsWorn, next_after}
+use Rattle.flash_pages.specs.ReadOnly.{IsWorn}
 use Rattle.tree_walk.specs.Trees.{IsTreeThrough}
 use Rattle.tree_walk.specs.declared.tree.Tree.{Tree}
-use Rattle.mounting.specs.Made.{ArePagesOn, CanBeWritten, CanOnlyBeRead, AreNext, HasSizes, IsMountedWith}
+use Rattle.mounting.specs.Made.{ArePagesOn, CanBeWritten, CanOnlyBeRead, AreNext, IsMountedWith}
 use Rattle.mounting.specs.Mounted.{IsTreeShown}
 
 -- the laws that are used of a tree that is shown
@@ -51,9 +51,6 @@ module _ (d : Device) (x : Index) (n : Numbers) (spare : ℕ) (p : PagesState) (
 
   most_is : p.most ≡ p.device.geometry.pages / 4
   most_is = pages.most ∙ sym (ap (λ (k : Device). k.geometry.pages / 4) pages.device_is)
-
-  pub has_sizes : (table : ObjectTable) (told : Sizes) → table_sizes table ≡ told → told ≡ z → HasSizes p table
-  has_sizes table told same is = record { page_bytes = page_bytes_is; most = most_is; volume = same ∙ is ∙ sym volume_is }
 
   worn_reads : IsWorn d n spare → CanOnlyBeRead p
   worn_reads worn =

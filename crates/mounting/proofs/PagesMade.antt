@@ -1,12 +1,12 @@
 -- The pages of a device that is mounted.
-use Rattle.std.specs.Prelude.{◌≡◌, ◌⊎◌, ◌<◌, ◌≤◌, ◌^◌, ◌/◌, ℕ, ◌+◌, Bool, true, false, not, ◌&&◌, List, [], Option, Some, None, count_by}
+use Rattle.std.specs.Prelude.{◌≡◌, ◌<◌, ◌≤◌, ◌/◌, ℕ, ◌+◌, Bool, true, false, not, ◌&&◌, List, [], Option, Some, None, count_by}
 use Rattle.std.specs.List.{range_with_len}
 use Rattle.std.specs.Option.{option_and_then}
-use Rattle.std.proofs.Common.{refl, sym, ◌∙◌, ap, subst, inl, inr, arith}
+use Rattle.std.proofs.Common.{refl, sym, ◌∙◌, ap, subst, arith}
 use Rattle.nand_model.specs.Flash.{Flash}
 use Rattle.nand_model.specs.Calls.{Device}
 use Rattle.volume_terms.specs.Sizes.{number_limit}
-use Rattle.flash_tree.specs.Newest.{Numbers, AreGreatest}
+use Rattle.flash_tree.specs.Newest.{Numbers}
 use Rattle.flash_tree.specs.FreeBlocks.{LeavesFree}
 use Rattle.block_state.specs.Kept.{bad_count, free_count, unkept_count, SameCounts}
 use Rattle.block_state.specs.Table.{Table}
@@ -25,12 +25,11 @@ use Rattle.page_buffer.specs.Shown.{data_at, data_by, kept_data, present_data}
 use Rattle.page_buffer.specs.declared.buffer.Buffer.{Buffer}
 use Rattle.page_cache.specs.declared.cache.PageCache.{PageCache}
 use Rattle.pages.specs.Maps.{PageMap, known_pages}
-use Rattle.pages.specs.State.{PagesState, NextNumbers}
-use Rattle.pages.specs.Stores.{bad_on, Carries, HasPage, HasNumbersLeft, IsCarried, SamePages, KeptAs}
+use Rattle.pages.specs.State.{PagesState}
+use Rattle.pages.specs.Stores.{bad_on, Carries, HasPage, HasNumbersLeft, IsCarried}
 use Rattle.objects.specs.StoreOf.{kept_map, next_numbers, store_seen}
 use Rattle.objects.specs.declared.store.Found.{Found}
 use Rattle.newest_pages.specs.Newest.{seen}
-use Rattle.newest_pages.specs.Opened.{AreLeft}
 use Rattle.flash_pages.specs.ReadOnly.{IsWorn, only_read, next_after}
 use Rattle.mounting.specs.Made.{ArePagesOn, CanBeWritten}
 use Rattle.mounting.specs.Marked.{marked, AreFitting}

@@ -1,18 +1,17 @@
 -- Reasons in the words of a mount.
 use Rattle.std.specs.Prelude.{◌≡◌, Bool, true, false, not}
-use Rattle.std.proofs.Common.{refl, sym, ◌∙◌, subst}
+use Rattle.std.proofs.Common.{sym, ◌∙◌, subst}
+use Rattle.std.proofs.lemmas.Bool.{not-true}
 use Rattle.nand_model.specs.Calls.{Device}
 use Rattle.nand_model.specs.Changes.{OnlyReads}
 use Rattle.nand_model.specs.Flash.{Flash}
 use Rattle.nand_model.specs.declared.geometry.Geometry.{Geometry}
 use Rattle.flash_tree.specs.Mount.{Answer, Answers, NotAVolume, IsWrong, IsNewer, IsDamaged}
 use Rattle.flash_tree.specs.laws.Place.{same_flash, had_power}
-use Rattle.newest_pages.specs.Opened.{WhyNotOpened}
-use Rattle.newest_pages.specs.declared.opening.OpenFault.{OpenFault}
 use Rattle.newest_pages.specs.declared.opening.OpenFault.TheVariants as opens
 use Rattle.tree_walk.specs.declared.fault.RootFault.{RootFault}
 use Rattle.tree_walk.specs.declared.fault.RootFault.TheVariants as roots
-use Rattle.mounting.specs.Faults.{IsReason, WhyNotMounted, AnswersFault, of_open, of_root}
+use Rattle.mounting.specs.Faults.{IsReason, WhyNotMounted, AnswersFault, of_root}
 use Rattle.mounting.specs.declared.fault.MountFault.{MountFault}
 use Rattle.mounting.specs.declared.fault.MountFault.TheVariants as faults
 
@@ -21,11 +20,6 @@ answers_still : (a b : Device) (answer : Answer) → OnlyReads a b → (a.honest
 answers_still a b answer reads told honest =
     let was : a.honest ≡ true = sym reads.lasts.honest ∙ honest in
     subst (λ (g : Geometry). Answers g b.flash answer) (sym reads.lasts.geometry) (subst (λ (f : Flash). Answers a.geometry f answer) (sym (same_flash a b reads was)) (told was))
-
--- what has power is not gone
-powered : (gone : Bool) → not gone ≡ true → gone ≡ false
-powered true has = let two : false ≡ true = has in absurd cc
-powered false has = refl
 
 -- a reason of a device that has power still, after reads
 reason_still : (a b : Device) (fault : MountFault) → OnlyReads a b → b.gone ≡ false → IsReason a fault → WhyNotMounted b fault
@@ -38,17 +32,8 @@ reason_still a b faults.Damaged reads power why = (power, answers_still a b (IsW
 -- the reason of a device that was asked for its power
 pub reason_told : (a b : Device) (fault : MountFault) (power : Bool) → OnlyReads a b → power ≡ not b.gone → power ≡ true → (a.gone ≡ false → IsReason a fault) → WhyNotMounted b fault
 reason_told a b fault power reads told has why =
-    let there : b.gone ≡ false = powered b.gone (sym told ∙ has) in
+    let there : b.gone ≡ false = not-true b.gone (sym told ∙ has) in
     reason_still a b fault reads there (why (had_power a b reads.lasts there))
-
--- a fault of a scan has its reason
-pub scan_reason : (d : Device) (fault : OpenFault) (told : MountFault) → told ≡ of_open fault → WhyNotOpened d fault → d.gone ≡ false → IsReason d told
-scan_reason d fault told is why power = subst (IsReason d) (sym is) (go fault why)
-  where
-    go : (fault : OpenFault) → WhyNotOpened d fault → IsReason d (of_open fault)
-    go opens.NoMemory why = tt
-    go opens.Lost why = λ honest. let two : false ≡ true = sym why ∙ honest in absurd cc
-    go opens.Gone why = let two : false ≡ true = sym power ∙ why in absurd cc
 
 -- a fault of a tree has its reason
 pub tree_reason : (d : Device) (fault : RootFault) (told : MountFault) → told ≡ of_root fault → (d.honest ≡ true → AnswersFault d fault) → d.gone ≡ false → IsReason d told

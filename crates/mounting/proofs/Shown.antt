@@ -1,7 +1,7 @@
 -- The tree that a device shows, and what a mount answers of it.
 use Rattle.std.specs.Prelude.{◌≡◌, ◌↔◌, ◌<◌, ◌≤◌, ℕ, ◌+◌, Bool, true, false, List, [], ◌∷◌, Option, Some, None}
 use Rattle.std.specs.Option.{option_and_then}
-use Rattle.std.proofs.Common.{refl, sym, ◌∙◌, ap, subst, inl, inr, arith}
+use Rattle.std.proofs.Common.{refl, sym, ◌∙◌, ap, inl, inr, arith}
 use Rattle.std.proofs.lemmas.Bool.{cases_lt}
 use Rattle.nand_model.specs.Flash.{Flash, Written, IsWithin, IsSized}
 use Rattle.nand_model.specs.Calls.{Device}
@@ -31,7 +31,7 @@ use Rattle.mount_answers.specs.Footprints.{KeepsFootprint, IsFootprint}
 use Rattle.mount_answers.specs.KeptTrees.{LieNewest, KeepsOnlyTree}
 use Rattle.mount_answers.specs.Newest.{IsNewestMap}
 use Rattle.mounting.specs.Marked.{marked}
-use Rattle.mounting.specs.Mounted.{IsTreeOn, IsTreeRead, IsTreeShown, HasRoomOn}
+use Rattle.mounting.specs.Mounted.{IsTreeOn, IsTreeShown, HasRoomOn}
 use Rattle.mounting.specs.Tables.{IsPruned}
 
 -- the laws that are used

@@ -1,9 +1,8 @@
 -- What a store needs of the tables of a tree.
-use Rattle.std.specs.Prelude.{◌≡◌, ◌<◌, ◌≤◌, ◌^◌, ℕ, ◌+◌, Bool, Some, None}
+use Rattle.std.specs.Prelude.{◌≡◌, ℕ, Bool, Some, None}
 use Rattle.std.proofs.Common.{sym, ◌∙◌, arith}
 use Rattle.nand_model.specs.Calls.{Device}
 use Rattle.flash_tree.specs.Newest.{Numbers}
-use Rattle.block_state.specs.Kept.{free_count, unkept_count}
 use Rattle.block_state.specs.Table.{Table}
 use Rattle.block_state.specs.laws.Kept.{free_where_closed}
 use Rattle.chunk_index.specs.declared.index.Index.{Index}

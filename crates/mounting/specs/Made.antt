@@ -1,10 +1,11 @@
 -- The pages of a device that is mounted.
 -- From: this project.
-use Rattle.std.specs.Prelude.{◌≡◌, ◌⊎◌, ◌<◌, ◌≤◌, ◌^◌, ◌/◌, ℕ, ◌+◌, Bool, true, false}
+use Rattle.std.specs.Prelude.{◌≡◌, ◌⊎◌, ◌<◌, ◌≤◌, ◌/◌, ℕ, true}
+use Rattle.volume_terms.specs.Sizes.{number_end}
 use Rattle.nand_model.specs.Flash.{Flash}
 use Rattle.nand_model.specs.Calls.{Device}
 use Rattle.flash_tree.specs.Newest.{Numbers, AreGreatest}
-use Rattle.flash_tree.specs.Mount.{Answers, IsTreeOf, sizes_of}
+use Rattle.flash_tree.specs.Mount.{Answers, IsTreeOf}
 use Rattle.chunk_index.specs.declared.index.Index.{Index}
 use Rattle.flash_pages.specs.ReadOnly.{next_after}
 use Rattle.object_store.specs.Stores.{CanHave}
@@ -35,7 +36,7 @@ pub record ArePagesOn (device : Device) (x : Index) (n : Numbers) (spare : ℕ) 
 
 -- nothing can be written: more blocks are bad than there are to spare, or a number of 2^62 or more stands on the device
 abbrev pub CanOnlyBeRead : PagesState → Type 0
-CanOnlyBeRead p = (p.spare < bad_on p.device) ⊎ (2 ^ 62 < p.next.group) ⊎ (2 ^ 62 < p.next.seq)
+CanOnlyBeRead p = (p.spare < bad_on p.device) ⊎ (number_end < p.next.group) ⊎ (number_end < p.next.seq)
 
 -- the next numbers are one above the greatest that stand on the flash
 abbrev pub AreNext : Flash → NextNumbers → Type 0

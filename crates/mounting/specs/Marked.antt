@@ -1,7 +1,6 @@
 -- Blocks as their device marks them.
 use Rattle.std.specs.Prelude.{ℕ, ◌≤◌}
 use Rattle.nand_model.specs.Flash.{Flash}
-use Rattle.block_state.specs.Kept.{unkept_count}
 use Rattle.block_state.specs.Table.{Table}
 
 -- the table with the marks of the flash

@@ -3,7 +3,7 @@
 use Rattle.std.specs.Prelude.{◌≡◌, ◌≤◌, ℕ, ◌+◌, true}
 use Rattle.nand_model.specs.Calls.{Device}
 use Rattle.flash_tree.specs.Newest.{Numbers}
-use Rattle.flash_tree.specs.Mount.{Answers, IsTreeOf, sizes_of}
+use Rattle.flash_tree.specs.Mount.{sizes_of}
 use Rattle.block_state.specs.Kept.{unkept_count}
 use Rattle.block_state.specs.Table.{Table}
 use Rattle.chunk_index.specs.declared.index.Index.{Index}

@@ -40,6 +40,7 @@ fn store_pages<N: Nand>(
     requires room { HasRoomOn (N.state on.device) (table on.blocks) on.spare }
     requires can { CanBeWritten (N.state on.device) (numbers_of on.numbers) on.spare }
     ensures made { IfOk result (λ store. ArePagesOn (N.state on.device) on.index (numbers_of on.numbers) on.spare (⟦<Store<N> as Pages>⟧.state store)) }
+    ensures worn { IfOk result (λ store. (⟦<Store<N> as Pages>⟧.state store).worn ≡ false) }
     ensures given_back { IfErr result (λ back. N.state back.0 ≡ N.state on.device) }
 {
     the_counts_are_of_the_keys();
@@ -61,6 +62,7 @@ fn read_pages<N: Nand>(alloc: Global, on: TreeOn<N>) -> Result<ReadOnlyPages<N>,
     requires read { IsTreeRead (N.state on.device) (table on.blocks) on.index (numbers_of on.numbers) on.spare on.tree }
     requires worn { IsWorn (N.state on.device) (numbers_of on.numbers) on.spare }
     ensures made { IfOk result (λ pages. ArePagesOn (N.state on.device) on.index (numbers_of on.numbers) on.spare (⟦<ReadOnlyPages<N> as Pages>⟧.state pages)) }
+    ensures worn { IfOk result (λ pages. (⟦<ReadOnlyPages<N> as Pages>⟧.state pages).worn ≡ true) }
     ensures given_back { IfErr result (λ back. N.state back.0 ≡ N.state on.device) }
 {
     the_opened_pages_are_the_newest();
@@ -72,10 +74,8 @@ fn read_pages<N: Nand>(alloc: Global, on: TreeOn<N>) -> Result<ReadOnlyPages<N>,
         ..
     } = on;
     let most = device.geometry().pages() / BUFFERS_IN_BLOCK;
-    match NewestPages::new(alloc, device, index) {
-        Ok(pages) => Ok(ReadOnlyPages::new(pages, numbers, u32::from(spare), most)),
-        Err(refused) => Err(refused),
-    }
+    let pages = NewestPages::new(alloc, device, index)?;
+    Ok(ReadOnlyPages::new(pages, numbers, u32::from(spare), most))
 }
 
 /// The pages of a device, which are only read where it is worn. Where memory is refused the device is given back.
@@ -91,16 +91,13 @@ pub(crate) fn make_pages<N: Nand>(
     requires worn { worn ≡ true → IsWorn (N.state on.device) (numbers_of on.numbers) on.spare }
     requires can { worn ≡ false → CanBeWritten (N.state on.device) (numbers_of on.numbers) on.spare }
     ensures made { IfOk result (λ pages. ArePagesOn (N.state on.device) on.index (numbers_of on.numbers) on.spare (⟦<FlashPages<N> as Pages>⟧.state pages)) }
+    ensures worn { IfOk result (λ pages. (⟦<FlashPages<N> as Pages>⟧.state pages).worn ≡ worn) }
     ensures given_back { IfErr result (λ back. N.state back.0 ≡ N.state on.device) }
 {
     if worn {
-        return match read_pages(alloc, on) {
-            Ok(pages) => Ok(FlashPages::ReadOnly(pages)),
-            Err(refused) => Err(refused),
-        };
+        let pages = read_pages(alloc, on)?;
+        return Ok(FlashPages::ReadOnly(pages));
     }
-    match store_pages(alloc, on, capacity) {
-        Ok(store) => Ok(FlashPages::Store(store)),
-        Err(refused) => Err(refused),
-    }
+    let store = store_pages(alloc, on, capacity)?;
+    Ok(FlashPages::Store(store))
 }

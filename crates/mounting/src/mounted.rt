@@ -36,6 +36,7 @@ pub fn mount<N: Nand>(
     ensures reads { IfOk result (λ mounted. OnlyReads (N.state device) (⟦<FlashPages<N> as Pages>⟧.state mounted.pages).device) }
     ensures power { (N.state device).gone ≡ false → IfOk result (λ mounted. (⟦<FlashPages<N> as Pages>⟧.state mounted.pages).device.gone ≡ false) }
     ensures sizes { IfOk result (λ mounted. HasSizes (⟦<FlashPages<N> as Pages>⟧.state mounted.pages) mounted.table) }
+    ensures worn { IfOk result (λ mounted. (⟦<FlashPages<N> as Pages>⟧.state mounted.pages).worn ≡ mounted.read_only) }
     ensures read_only { IfOk result (λ mounted. (mounted.read_only ≡ true) ↔ CanOnlyBeRead (⟦<FlashPages<N> as Pages>⟧.state mounted.pages)) }
     ensures next { (N.state device).honest ≡ true → IfOk result (λ mounted. AreNext (⟦<FlashPages<N> as Pages>⟧.state mounted.pages).device.flash (⟦<FlashPages<N> as Pages>⟧.state mounted.pages).next) }
     ensures tree { (N.state device).honest ≡ true → IfOk result (λ mounted. (objects : Objects) × IsMountedWith (⟦<FlashPages<N> as Pages>⟧.state mounted.pages) mounted.table objects) }
@@ -44,10 +45,7 @@ pub fn mount<N: Nand>(
 {
     a_volume_has_sizes();
     the_footprint_holds_the_tree();
-    let on = match open_tree(alloc, device) {
-        Ok(on) => on,
-        Err(failed) => return Err(failed),
-    };
+    let on = open_tree(alloc, device)?;
     let sizes = match go_on(&on) {
         Some(sizes) => sizes,
         None => return Err(unmounted(on.device, MountFault::Damaged)),

@@ -42,11 +42,9 @@ pub(crate) fn find_tree<P: KnownPages>(
         → IfErr result (TellsTree geometry (has (P.state pages.old).present)) }
     ensures why { IfErr result (FailsTree (P.state pages.new)) }
 {
-    match root(pages, geometry) {
-        Ok(spare) => match walk(alloc, pages) {
-            Ok(tree) => Ok(FoundTree { spare, tree }),
-            Err(fault) => Err(root_fault(fault)),
-        },
-        Err(fault) => Err(fault),
+    let spare = root(pages, geometry)?;
+    match walk(alloc, pages) {
+        Ok(tree) => Ok(FoundTree { spare, tree }),
+        Err(fault) => Err(root_fault(fault)),
     }
 }

@@ -39,19 +39,13 @@ pub(crate) fn open_tree<N: Nand>(alloc: Global, device: N) -> Result<TreeOn<N>, 
     ensures fault { IfErr result (λ failed. WhyNotMounted (N.state failed.0) failed.1) }
 {
     the_opened_pages_are_the_newest();
-    let (device, opened) = match scan(alloc, device) {
-        Ok(scanned) => scanned,
-        Err(failed) => return Err(failed),
-    };
+    let (device, opened) = scan(alloc, device)?;
     let Opened {
         blocks,
         index,
         numbers,
     } = opened;
-    let (device, found) = match read_tree(alloc, device, &index) {
-        Ok(read) => read,
-        Err(failed) => return Err(failed),
-    };
+    let (device, found) = read_tree(alloc, device, &index)?;
     let mut blocks = blocks;
     let mut index = index;
     prune(&found.tree, &mut index, &mut blocks);

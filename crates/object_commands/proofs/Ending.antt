@@ -19,7 +19,7 @@ use Rattle.object_store.specs.declared.refusal.Refusal.{Refusal}
 use Rattle.command_plans.specs.Classes.{Class, Telling, Changing, Syncing, class_of, is_error}
 use Rattle.object_commands.specs.Endings.{IsAt, IsOnlyRead, StaysReading, Leaves, IsDone, CommandEnds, TellsRefusal}
 use Rattle.object_commands.specs.laws.Steps.{leaves_shows}
-use Rattle.command_plans.specs.Plans.{IsPlan, Plans, Suits, Did, worked, planned, handled, does_nothing, frees, leaves_device}
+use Rattle.command_plans.specs.Plans.{IsPlan, Plans, Suits, Did, worked, planned, handled, does_nothing, frees}
 use Rattle.command_plans.specs.Tables.{handles_in}
 use Rattle.command_plans.specs.declared.plan.Plan.{Plan}
 use Rattle.command_plans.specs.declared.plan.StoreWork.{StoreWork}
@@ -156,12 +156,6 @@ refused_ends m law z class takes_none s meant a b told at takes reads same kept 
 pub refused_unread : {S : Type 0} (m : Meaning S) (law : IsLawful m) (a b : S) (told : Reply) → m.reads a b → TellsRefusal m b told → is_stop told ≡ true → m.unread a b
 refused_unread m law a b told reads (inl refused) stop = absurd (true≢false (sym stop ∙ ap is_stop refused.0))
 refused_unread m law a b told reads (inr lost) stop = law.powerless_unread a b reads lost.1
-
--- what leaves the device takes no memory
-pub leaves_frees : (w : StoreWork) → leaves_device w ≡ true → frees w ≡ true
-leaves_frees work.Nothing leaves = refl
-leaves_frees (work.Change change) leaves = leaves
-leaves_frees work.Commit leaves = let two : false ≡ true = leaves in absurd cc
 
 -- a plan that is carried out after calls that read; it takes memory only where the command may
 pub ends_on : {S : Type 0} (m : Meaning S) (law : IsLawful m) (z : Sizes) (class : Class) (frees takes_none : Bool) (s : State) (meant : Outcome) (a b c : Volume S) (told : Reply)

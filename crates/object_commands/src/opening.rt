@@ -1,7 +1,7 @@
 // The commands on descriptors that change objects: Open and Close.
 ghost use Rattle.std.specs.Prelude.{◌≡◌, ◌<◌, true, not, ◌&&◌, ◌||◌, Some, None, is_some};
 ghost use Rattle.std.specs.FinMap as map;
-ghost use Rattle.volume_terms.specs.Sizes.{Sizes};
+ghost use Rattle.volume_terms.specs.Sizes.{Sizes, descriptors};
 ghost use Rattle.posix_profile.specs.State.{Handle, Object, State, IsFile, is_directory};
 ghost use Rattle.posix_profile.specs.Names.{prune};
 ghost use Rattle.posix_profile.specs.laws.Path.{IsPlace};
@@ -150,7 +150,7 @@ fn open_found_on<'a>(
     number: u64,
     fd: u32,
 ) -> Result<Plan<'a>, Errno>
-    ensures { (z : Sizes) (s : State) → IsSound z s → fd < 64 → (flags.trunc ≡ true → IsFile s.objects number)
+    ensures { (z : Sizes) (s : State) → IsSound z s → fd < descriptors → (flags.trunc ≡ true → IsFile s.objects number)
         → Tries z (tells_if (not flags.trunc) Changing) s (open_found_on z read_only moment s flags number fd) result }
 {
     if is_write_refused(read_only, flags) {
@@ -193,7 +193,7 @@ fn open_absent_on<'a, S: ObjectStore>(
     place: PathPlace<'a>,
     fd: u32,
 ) -> Result<Plan<'a>, Errno>
-    ensures { (z : Sizes) (s : State) → Holds S.meaning z s store.now → fd < 64
+    ensures { (z : Sizes) (s : State) → Holds S.meaning z s store.now → fd < descriptors
         → IsPlace s.objects (place_of place.entry) → (place_of place.entry).object ≡ None
         → Tries z Changing s (open_absent_on z read_only moment s flags (place_of place.entry) fd) result }
 {

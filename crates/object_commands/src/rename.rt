@@ -216,15 +216,11 @@ fn rename_onto<'a, S: ObjectStore>(
         → EndsInName s.objects (place_of to.entry) → is_object number (place_of to.entry).object ≡ false
         → Tries z Changing s (rename_onto z read_only moment s (place_of from.entry) (place_of to.entry) number) result }
 {
-    match test_onto(store, number, to) {
-        Ok(()) => {
-            if read_only {
-                return Err(Errno::EROFS);
-            }
-            move_name(store, table, moment, from, to, number)
-        }
-        Err(error) => Err(error),
+    test_onto(store, number, to)?;
+    if read_only {
+        return Err(Errno::EROFS);
     }
+    move_name(store, table, moment, from, to, number)
 }
 
 /// Rename of an object to a place.

@@ -1,7 +1,7 @@
 // The commands that only tell: Stat, List, Read, Seek, Space.
 ghost use Rattle.std.specs.Prelude.{◌≡◌, ◌<◌, true, Some, length, pos, ◌+ℤ◌};
 ghost use Rattle.std.specs.FinMap as map;
-ghost use Rattle.volume_terms.specs.Sizes.{Sizes};
+ghost use Rattle.volume_terms.specs.Sizes.{Sizes, descriptors};
 ghost use Rattle.posix_profile.specs.State.{IsFile, State};
 ghost use Rattle.posix_profile.specs.HandleSteps.{at_file, may_read, read_step, seek_origin, seek_to, seek_step};
 ghost use Rattle.posix_profile.specs.NameSteps.{stat_step, list_step, space_step};
@@ -164,7 +164,7 @@ fn seek_target(origin: u64, offset: i64) -> i128
 
 /// The descriptor gets this offset.
 fn seek_to<'a>(fd: u32, description: OpenDescription, target: u128) -> Result<Plan<'a>, Errno>
-    ensures plans { (z : Sizes) (s : State) → fd < 64
+    ensures plans { (z : Sizes) (s : State) → fd < descriptors
         → Tries z Telling s (seek_to s fd (handle_of description) (pos target)) result }
     ensures memory { Frees result }
     ensures device { LeavesDevice result }
@@ -188,7 +188,7 @@ fn seek_to<'a>(fd: u32, description: OpenDescription, target: u128) -> Result<Pl
 
 /// The descriptor gets this offset, which may be below 0.
 fn seek_signed<'a>(fd: u32, description: OpenDescription, target: i128) -> Result<Plan<'a>, Errno>
-    ensures plans { (z : Sizes) (s : State) → fd < 64
+    ensures plans { (z : Sizes) (s : State) → fd < descriptors
         → Tries z Telling s (seek_to s fd (handle_of description) target) result }
     ensures memory { Frees result }
     ensures device { LeavesDevice result }

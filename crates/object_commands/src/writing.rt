@@ -2,7 +2,7 @@
 ghost use Rattle.std.specs.Prelude.{◌≡◌, ◌<◌, ◌≤◌, ℕ, List, length, nat_eq, pos};
 ghost use Rattle.std.specs.FinMap as map;
 ghost use Rattle.posix_profile.specs.HandleSteps.{may_write, write_offset, write_count, write_file, write_bytes, write_step, truncate_to, truncate_step};
-ghost use Rattle.volume_terms.specs.Sizes.{Sizes};
+ghost use Rattle.volume_terms.specs.Sizes.{Sizes, descriptors};
 ghost use Rattle.posix_profile.specs.State.{Handle, State, IsFile};
 ghost use Rattle.object_store.specs.Facts.{bytes_of};
 ghost use Rattle.command_plans.specs.Classes.{Changing, tells_if};
@@ -63,7 +63,7 @@ fn write_file<'a, S: ObjectStore>(
     description: OpenDescription,
     new: &'a [u8],
 ) -> Result<Plan<'a>, Errno>
-    ensures { (z : Sizes) (s : State) → Holds S.meaning z s store.now → IsFile s.objects description.object → fd < 64
+    ensures { (z : Sizes) (s : State) → Holds S.meaning z s store.now → IsFile s.objects description.object → fd < descriptors
         → Tries z Changing s (write_file z moment s fd (handle_of description) new.now (bytes_of (map.get s.objects description.object))) result }
 {
     let offset = write_offset(description, length(store, description.object));
@@ -101,7 +101,7 @@ fn write_some<'a, S: ObjectStore>(
     description: OpenDescription,
     new: &'a [u8],
 ) -> Result<Plan<'a>, Errno>
-    ensures { (z : Sizes) (s : State) → Holds S.meaning z s store.now → IsFile s.objects description.object → fd < 64
+    ensures { (z : Sizes) (s : State) → Holds S.meaning z s store.now → IsFile s.objects description.object → fd < descriptors
         → Tries z (tells_if (nat_eq (length new.now) 0) Changing) s (write_bytes z moment s fd (handle_of description) new.now) result }
 {
     if new.is_empty() {

@@ -1,6 +1,7 @@
 -- What the commands promise of a store of objects, in the words of its pages.
-use Rattle.std.specs.Prelude.{◌≡◌, ◌⊎◌, ℕ, zero, suc, Bool, true, false, not, List, Result, Ok, Err}
+use Rattle.std.specs.Prelude.{◌≡◌, ◌⊎◌, ◌≤◌, ℕ, zero, suc, Bool, true, false, not, List, Result, Ok, Err}
 use Rattle.std.proofs.Common.{refl, sym, ◌∙◌, ap, subst, inl, inr}
+use Rattle.std.proofs.lemmas.Bool.{not-true}
 use Rattle.volume_terms.specs.Sizes.{Sizes}
 use Rattle.nand_model.specs.Calls.{Device}
 use Rattle.nand_model.specs.Changes.{OnlyReads}
@@ -26,14 +27,10 @@ use Rattle.paged_objects.specs.Ending.{HasEnded}
 use Rattle.paged_objects.specs.laws.Lawful.{paged_lawful}
 use Rattle.paged_objects.specs.declared.store.PagedObjects.{PagedObjects}
 use Rattle.pages.specs.State.{PagesState}
+use Rattle.pages.specs.Stores.{bad_on}
 use Rattle.page_volume.specs.Volumes.{pages_of, table_of, is_read_only, IsVolumeOf}
 use Rattle.page_volume.specs.Running.{RanPages, RunsPages}
 use Rattle.page_volume.specs.declared.volume.PageVolume.{PageVolume}
-
--- what has power is not gone
-pub powered : (gone : Bool) → not gone ≡ true → gone ≡ false
-powered true has = let two : false ≡ true = has in absurd cc
-powered false has = refl
 
 -- what objects over such pages stand for
 abbrev pub meaning_of : {P : Type 0} → (P → PagesState) → Meaning (PagedObjects P)
@@ -57,14 +54,21 @@ is_at state z s v is = record {
   };
 }
 
-pub is_volume : {P : Type 0} (state : P → PagesState) (z : Sizes) (s : State) (v : PageVolume P) → IsAt (meaning_of state) z s v.volume → IsVolumeOf state z s v
-is_volume state z s v at = record {
+-- sound pages that can be written have few bad blocks
+abbrev pub FewLaw : {P : Type 0} → (P → PagesState) → Type 0
+FewLaw {P} state = (pages : P) → (state pages).sound ≡ true → (state pages).worn ≡ false → bad_on (state pages).device ≤ (state pages).spare
+
+pub is_volume : {P : Type 0} (state : P → PagesState) (z : Sizes) (s : State) (v : PageVolume P) → FewLaw state → (state (pages_of v)).worn ≡ is_read_only v → IsAt (meaning_of state) z s v.volume
+    → IsVolumeOf state z s v
+is_volume state z s v law worn at = record {
   numbers = at.has.numbers;
   sizes = at.has.sizes;
   stands = subst (λ y. StandsFor y (state (pages_of v)) s.objects) at.has.sizes at.has.stands.0;
   tells = at.has.stands.1;
   handles = at.handles;
   sound = at.sound;
+  worn = worn;
+  few = λ writes. law (pages_of v) at.has.stands.0.sound (worn ∙ writes);
   reading = λ only. (at.only_read only).handles;
   named = λ only. (at.only_read only).named;
   shown = λ only. subst (λ y. Shown y (state (pages_of v)) s.objects) at.has.sizes (at.only_read only).shown;
@@ -117,14 +121,14 @@ module _ {P : Type 0} (state : P → PagesState) where
 
   -- a run
   ran_pages : (z : Sizes) (s : State) (commands : List Stamped) (answered : List Reply) (a b : PageVolume P) → table_sizes (table_of a) ≡ z → table_sizes (table_of b) ≡ table_sizes (table_of a)
-      → Ran m z s commands answered a.volume b.volume → RanPages state z s commands answered a b
-  ran_pages z s commands answered a b is same ran = record {
+      → FewLaw state → (state (pages_of b)).worn ≡ is_read_only b → Ran m z s commands answered a.volume b.volume → RanPages state z s commands answered a b
+  ran_pages z s commands answered a b is same law worn ran = record {
     holds = ran.holds;
     losses = λ tree shown. losses_from (ran.losses tree (shown_to state z a tree is shown));
     cause = λ stop. (ran.failure stop).fails.0.cause;
-    state_is = λ goes. is_volume state z _ b (ran.state goes);
+    state_is = λ goes. is_volume state z _ b law worn (ran.state goes);
     only_failed = λ only stop. (ran.unread only stop).1.1;
-    power = λ refused. powered _ (ran.power refused);
+    power = λ refused. not-true _ (ran.power refused);
     tells = λ each. (ran.tells each).0;
     only_reads = λ why. let reads = ran.only why in reads_all reads.0 a.volume.store b.volume.store reads.1;
   } where
@@ -135,8 +139,8 @@ module _ {P : Type 0} (state : P → PagesState) where
   same_volume a b is = ap (λ v. record { volume = v }) is
 
   pub runs_pages : (commands : List Stamped) (n : ℕ) (before now : List Reply) (a b : PageVolume P) → table_sizes (table_of b) ≡ table_sizes (table_of a)
-      → Runs m commands n before now a.volume b.volume → RunsPages state commands n before now a b
-  runs_pages commands n before now a b same runs = record {
+      → FewLaw state → (state (pages_of b)).worn ≡ (state (pages_of a)).worn → is_read_only b ≡ is_read_only a → Runs m commands n before now a.volume b.volume → RunsPages state commands n before now a b
+  runs_pages commands n before now a b same law worn only runs = record {
     answered = runs.answered;
     count = runs.count;
     behind = runs.behind;
@@ -144,8 +148,8 @@ module _ {P : Type 0} (state : P → PagesState) where
     stops = runs.stops;
     stopped = λ stop. let was = runs.stopped stop in (was.0, same_volume a b was.1);
     leaves = λ all. leaves_all n a.volume.store b.volume.store (runs.leaves all);
-    power = λ none was. powered _ (runs.power none (ap not was));
-    ran = λ goes z s is. ran_pages z s commands runs.answered a b is.sizes same (runs.ran goes z s (is_at state z s a is));
+    power = λ none was. not-true _ (runs.power none (ap not was));
+    ran = λ goes z s is. ran_pages z s commands runs.answered a b is.sizes same law (worn ∙ is.worn ∙ sym only) (runs.ran goes z s (is_at state z s a is));
   }
 
 module _ {P : Type 0} (state : P → PagesState) (z : Sizes) (objects : Objects) (a b : PagedObjects P) (has : Has (meaning_of state) z objects a) where

@@ -1,5 +1,5 @@
 -- What a volume over pages is, and which state it stands for.
-use Rattle.std.specs.Prelude.{◌≡◌, Bool, true}
+use Rattle.std.specs.Prelude.{◌≡◌, ◌≤◌, Bool, true, false}
 use Rattle.volume_terms.specs.Sizes.{Sizes, IsSizes}
 use Rattle.posix_profile.specs.State.{State}
 use Rattle.posix_profile.specs.laws.Sound.{IsSound}
@@ -9,6 +9,7 @@ use Rattle.object_store.specs.Stores.{settled}
 use Rattle.object_table.specs.Told.{table_sizes, Tells}
 use Rattle.object_table.specs.declared.table.ObjectTable.{ObjectTable}
 use Rattle.pages.specs.State.{PagesState}
+use Rattle.pages.specs.Stores.{bad_on}
 use Rattle.paged_objects.specs.Parts as parts
 use Rattle.paged_objects.specs.Standing.{StandsFor, Shown}
 use Rattle.page_volume.specs.declared.volume.PageVolume.{PageVolume}
@@ -31,7 +32,7 @@ is_stopped v = volumes.is_stopped v.volume
 
 -- The volume stands for a state: its sound pages hold the objects, its table tells them, and its descriptors are those of
 -- the state, which is one that a volume of these sizes can have. Of a read-only volume no descriptor may write, each object has
--- a name, and a mount shows the objects.
+-- a name, and a mount shows the objects; of another no more blocks are bad than there are to spare.
 pub record IsVolumeOf {P : Type 0} (state : P → PagesState) (z : Sizes) (s : State) (v : PageVolume P) : Type 0 where
   pub numbers : IsSizes z
   pub sizes : table_sizes (table_of v) ≡ z
@@ -39,6 +40,8 @@ pub record IsVolumeOf {P : Type 0} (state : P → PagesState) (z : Sizes) (s : S
   pub tells : Tells (table_of v) s.objects
   pub handles : volumes.handles_of v.volume ≡ s.handles
   pub sound : IsSound z s
+  pub worn : (state (pages_of v)).worn ≡ is_read_only v
+  pub few : is_read_only v ≡ false → bad_on (state (pages_of v)).device ≤ (state (pages_of v)).spare
   pub reading : is_read_only v ≡ true → AreReading s.handles
   pub named : is_read_only v ≡ true → settled s.objects ≡ s.objects
   pub shown : is_read_only v ≡ true → Shown z (state (pages_of v)) s.objects

@@ -47,6 +47,7 @@ impl<P: PageStore> PageVolume<P> {
         ensures read_only { IfOk result (λ v. is_read_only v ≡ read_only) }
         ensures goes_on { IfOk result (λ v. is_stopped v ≡ false) }
         ensures at { (objects : Objects) → IsSizes (table_sizes table) → StandsFor (table_sizes table) (P.state pages) objects → Tells table objects → IsSound (table_sizes table) (record { objects = objects; handles = map.empty })
+            → (P.state pages).worn ≡ read_only
             → (read_only ≡ true → (settled objects ≡ objects) × Shown (table_sizes table) (P.state pages) objects)
             → IfOk result (IsVolumeOf P.state (table_sizes table) (record { objects = objects; handles = map.empty })) }
         ensures given_back { IfErr result (λ back. P.state back.0 ≡ P.state pages) }

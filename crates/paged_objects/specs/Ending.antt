@@ -1,7 +1,7 @@
 -- What calls of a store of objects leave of its pages and of its table.
-use Rattle.std.specs.Prelude.{◌≡◌, ◌⊎◌, ◌<◌, ◌≤◌, ◌^◌, true, Result, Ok, Err}
+use Rattle.std.specs.Prelude.{◌≡◌, ◌⊎◌, ◌<◌, ◌≤◌, true, Result, Ok, Err}
 use Rattle.nand_model.specs.Changes.{OnlyReads}
-use Rattle.volume_terms.specs.Sizes.{Sizes}
+use Rattle.volume_terms.specs.Sizes.{Sizes, number_end}
 use Rattle.volume_terms.specs.declared.fault.StoreFault.{StoreFault}
 use Rattle.volume_terms.specs.declared.fault.StoreFault.TheVariants as faults
 use Rattle.posix_profile.specs.State.{Objects}
@@ -20,6 +20,7 @@ pub record StaysAs (old new : PagesState) : Type 0 where
   pub spare : new.spare ≡ old.spare
   pub present : SamePages new.present old.present
   pub kept : SamePages new.kept old.kept
+  pub worn : new.worn ≡ old.worn
   pub sound : new.sound ≡ old.sound
   pub failed : old.failed ≡ true → new.failed ≡ true
   pub refused : old.refused ≡ true → new.refused ≡ true
@@ -32,7 +33,7 @@ Turns z objects p q = (tree : Objects) → Shown z p tree → Shown z q tree ⊎
 
 -- nothing is left to write with: a number of 2^62 would be needed, or more blocks are bad than there are to spare
 abbrev pub IsUsedUp : PagesState → Type 0
-IsUsedUp p = (2 ^ 62 ≤ p.next.group) ⊎ (2 ^ 62 ≤ p.next.seq) ⊎ (p.spare < bad_on p.device)
+IsUsedUp p = (number_end ≤ p.next.group) ⊎ (number_end ≤ p.next.seq) ⊎ (p.spare < bad_on p.device)
 
 -- what ended the use of a store: its device is gone or not honest, or nothing is left to write with
 abbrev pub HasEnded : PagesState → Type 0

@@ -1,6 +1,6 @@
 -- A volume of mounted pages stands for their tree.
 use Rattle.std.specs.Prelude.{◌≡◌, Result, Ok, Err, IfOk}
-use Rattle.std.proofs.Common.{sym, ◌∙◌, ap, subst}
+use Rattle.std.proofs.Common.{sym, subst}
 use Rattle.std.specs.FinMap as map
 use Rattle.volume_terms.specs.Sizes.{Sizes}
 use Rattle.posix_profile.specs.State.{Objects}

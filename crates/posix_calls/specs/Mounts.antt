@@ -1,6 +1,5 @@
 -- What a volume stands for once it is mounted.
 -- From: this project.
-use Rattle.std.specs.Prelude.{◌≡◌}
 use Rattle.flash_tree.specs.Mount.{Answers, IsTreeOf}
 use Rattle.lives.specs.Lives.{at_mount}
 use Rattle.page_volume.specs.Volumes.{pages_of, IsVolumeOf}

@@ -23,7 +23,8 @@ pub(crate) fn join<P: PageStore>(
     ensures pages { IfOk result (λ v. P.state (pages_of v) ≡ P.state pages) }
     ensures read_only { IfOk result (λ v. is_read_only v ≡ read_only) }
     ensures goes_on { IfOk result (λ v. is_stopped v ≡ false) }
-    ensures tree { (objects : Objects) → table_sizes table ≡ volume_of (P.state pages) → IsMountedWith (P.state pages) table objects → IfOk result (λ v. StandsForTree P.state v objects) }
+    ensures tree { (objects : Objects) → table_sizes table ≡ volume_of (P.state pages) → IsMountedWith (P.state pages) table objects
+        → (P.state pages).worn ≡ read_only → IfOk result (λ v. StandsForTree P.state v objects) }
     ensures given_back { IfErr result (λ back. P.state back.0 ≡ P.state pages) }
 {
     PageVolume::new(alloc, pages, table, read_only)

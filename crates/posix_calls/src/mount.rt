@@ -58,10 +58,7 @@ impl<N: Nand> Volume<N> {
             pages,
             table,
             read_only,
-        } = match mounting::mount(alloc, device, capacity) {
-            Ok(mounted) => mounted,
-            Err(failed) => return Err(failed),
-        };
+        } = mounting::mount(alloc, device, capacity)?;
         match join(alloc, pages, table, read_only) {
             Ok(volume) => Ok(Volume { volume }),
             Err((pages, _)) => Err(unmounted(pages.into_device(), MountFault::NoMemory)),

@@ -1,5 +1,5 @@
 -- Calls of a store of pages, one after the other.
-use Rattle.std.specs.Prelude.{◌≡◌, ◌≤◌, ◌+◌, ◌-◌, ℕ, true, false}
+use Rattle.std.specs.Prelude.{◌≡◌, ◌≤◌, ◌+◌, ◌-◌, ℕ, true}
 use Rattle.std.proofs.Common.{refl, sym, ◌∙◌, ap, subst, inl, inr, arith}
 use Rattle.std.proofs.lemmas.Bool.{cases_Bool}
 use Rattle.nand_model.specs.Flash.{Flash}
@@ -8,7 +8,7 @@ use Rattle.nand_model.specs.Changes.{OnlyReads}
 use Rattle.nand_model.specs.laws.Calls.{lasts_on}
 use Rattle.nand_model.specs.laws.Changes.{only_reads_on, only_reads_here}
 use Rattle.nand_model.specs.declared.geometry.Geometry.{Geometry}
-use Rattle.flash_tree.specs.laws.Place.{same_flash}
+use Rattle.flash_tree.specs.laws.Place.{same_flash, had_power}
 use Rattle.flash_tree.specs.Mount.{bad_blocks, sizes_of}
 use Rattle.flash_tree.specs.Numbering.{AreBelow}
 use Rattle.pages.specs.State.{PagesState, NextNumbers, OnlyFinds}
@@ -22,6 +22,7 @@ finds_stay p q x = record {
   page_bytes = x.page_bytes;
   most = x.most;
   spare = x.spare;
+  worn = x.worn;
   present = λ o c. ap (λ m. m o c) x.present;
   kept = λ o c. ap (λ m. m o c) x.kept;
   sound = x.sound;
@@ -37,6 +38,7 @@ refused_stays p q goes x = record {
   page_bytes = goes.page_bytes;
   most = goes.most;
   spare = goes.spare;
+  worn = goes.worn;
   present = x.present;
   kept = x.kept;
   sound = x.sound;
@@ -51,6 +53,7 @@ stays_here p = record {
   page_bytes = refl;
   most = refl;
   spare = refl;
+  worn = refl;
   present = λ o c. refl;
   kept = λ o c. refl;
   sound = refl;
@@ -65,6 +68,7 @@ stays_on a b c x y = record {
   page_bytes = y.page_bytes ∙ x.page_bytes;
   most = y.most ∙ x.most;
   spare = y.spare ∙ x.spare;
+  worn = y.worn ∙ x.worn;
   present = λ o k. y.present o k ∙ x.present o k;
   kept = λ o k. y.kept o k ∙ x.kept o k;
   sound = y.sound ∙ x.sound;
@@ -96,6 +100,7 @@ stays_goes p q x =
       page_bytes = x.page_bytes;
       most = x.most;
       spare = x.spare;
+      worn = x.worn;
       refused = x.refused;
       failed = x.failed;
       device = x.device.lasts;
@@ -116,13 +121,6 @@ stays_goes p q x =
 -- so they do where nothing is done
 pub goes_here : (p : PagesState) → GoesOn p p
 goes_here p = stays_goes p p (stays_here p)
-
--- a device that has power had it before
-had_power : (a b : Device) → Lasts a b → b.gone ≡ false → a.gone ≡ false
-had_power a b lasts power = elim (cases_Bool a.gone) [
-  | inr is ↦ is
-  | inl gone ↦ let two : true ≡ false = sym gone ∙ sym (ap (λ (d : Device). d.gone) (lasts.gone gone)) ∙ power in absurd cc
-]
 
 -- what stands on the device after both calls is below the first numbers and one more for each change: a device that is gone
 -- changes no more
@@ -159,6 +157,7 @@ goes_on a b c x y = record {
   page_bytes = y.page_bytes ∙ x.page_bytes;
   most = y.most ∙ x.most;
   spare = y.spare ∙ x.spare;
+  worn = y.worn ∙ x.worn;
   refused = λ is. y.refused (x.refused is);
   failed = λ is. y.failed (x.failed is);
   device = lasts_on a.device b.device c.device x.device y.device;

@@ -1,4 +1,4 @@
-use Rattle.std.proofs.Common.{◌≡◌, ◌≤◌, ℕ, IsTrue, false, sym, subst}
+use Rattle.std.proofs.Common.{◌≡◌, ◌≤◌, IsTrue, false, sym, subst}
 use Rattle.flash_tree.specs.Mount.{sizes_of}
 use Rattle.flash_tree.specs.Places.{numbers_of}
 use Rattle.flash_tree.specs.Tree.{Shows}

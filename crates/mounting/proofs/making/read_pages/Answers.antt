@@ -1,4 +1,4 @@
-use Rattle.std.proofs.Common.{◌≡◌, ◌/◌, ℕ, false, sym, subst, rules}
+use Rattle.std.proofs.Common.{◌≡◌, ◌/◌, false, sym, subst, rules}
 use Rattle.flash_tree.specs.Places.{numbers_of}
 use Rattle.block_state.specs.TableOf.{table}
 use Rattle.flash_pages.specs.ReadOnly.{only_read}
@@ -9,22 +9,22 @@ use Rattle.mounting.specs.Made.{ArePagesOn}
 use Rattle.mounting.proofs.PagesMade.{worn_pages, worn_carries}
 use Rattle.mounting.proofs.making.read_pages.Goals as goal
 
-pub new-requires-in-Ok-clause-carrying : goal.new-requires-in-Ok-clause-carrying
-new-requires-in-Ok-clause-carrying g c =
+pub new-requires-2-clause-carrying : goal.new-requires-2-clause-carrying
+new-requires-2-clause-carrying g c =
     let on = c.args.on in
     worn_carries (keeps_key on.tree) (g.N.Nand.state on.device) (table on.blocks) on.index (numbers_of on.numbers) on.spare c.requires.read.tables c.requires.worn
-    (g.N.Nand.state c.in-Ok.pages.device) c.in-Ok.pages.index c.in-Ok.ensures.device c.in-Ok.ensures.index
+    (g.N.Nand.state c.in_ok-pages.pages.device) c.in_ok-pages.pages.index c.in_ok-pages.ensures.device c.in_ok-pages.ensures.index
 
-pub returns-in-Ok-clause-made : goal.returns-in-Ok-clause-made
-returns-in-Ok-clause-made g c =
+pub returns-clause-made : goal.returns-clause-made
+returns-clause-made g c =
     let on = c.args.on in
     let d = g.N.Nand.state on.device in
     let n = numbers_of on.numbers in
-    let p = c.in-Ok.pages in
+    let p = c.in_ok-pages.pages in
     let spare : on.spare ≡ c.from.result = search rules in
     let most : d.geometry.pages / 4 ≡ c.pages-most.result / 4 = search rules in
     let page = seen (g.N.Nand.state p.device) p.index p.page.items in
-    subst (λ (k : PagesState). ArePagesOn d on.index n on.spare k) (sym c.new-in-Ok.ensures)
+    subst (λ (k : PagesState). ArePagesOn d on.index n on.spare k) (sym c.new-2.ensures)
     (subst (λ s. ArePagesOn d on.index n on.spare (only_read page n s (c.pages-most.result / 4) false)) spare
     (subst (λ m. ArePagesOn d on.index n on.spare (only_read page n on.spare m false)) most
-    (worn_pages (keeps_key on.tree) d (table on.blocks) on.index n on.spare c.requires.read.tables c.requires.worn (g.N.Nand.state p.device) p.index p.page.items c.in-Ok.ensures.device c.in-Ok.ensures.index)))
+    (worn_pages (keeps_key on.tree) d (table on.blocks) on.index n on.spare c.requires.read.tables c.requires.worn (g.N.Nand.state p.device) p.index p.page.items c.in_ok-pages.ensures.device c.in_ok-pages.ensures.index)))

@@ -1,4 +1,4 @@
-use Rattle.std.proofs.Common.{◌≡◌, ◌≤◌, ℕ, sym, subst, rules}
+use Rattle.std.proofs.Common.{◌≡◌, ◌≤◌, subst, rules}
 use Rattle.flash_tree.specs.Places.{numbers_of}
 use Rattle.block_state.specs.Kept.{bad_count}
 use Rattle.block_state.specs.TableOf.{table}

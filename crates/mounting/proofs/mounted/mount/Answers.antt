@@ -1,4 +1,4 @@
-use Rattle.std.proofs.Common.{◌≡◌, ◌≤◌, ℕ, true, sym, ◌∙◌, subst, ap}
+use Rattle.std.proofs.Common.{◌≡◌, true, ◌∙◌, subst}
 use Rattle.nand_model.specs.Calls.{Device}
 use Rattle.nand_model.specs.Changes.{OnlyReads}
 use Rattle.nand_model.specs.laws.Changes.{only_reads_on}
@@ -9,20 +9,20 @@ use Rattle.mounting.proofs.mounted.mount.Goals as goal
 
 pub returns-in-Ok-make_pages-clause-read_only : goal.returns-in-Ok-make_pages-clause-read_only
 returns-in-Ok-make_pages-clause-read_only g c =
-    let on = c.in-Ok.on in
+    let on = c.in_ok-on.on in
     only_read_where (g.N.Nand.state on.device) on.index (numbers_of on.numbers) on.spare _ c.in-Ok-make_pages.ensures.made _ c.is_worn-read_only.ensures.worn c.is_worn-read_only.ensures.left
 
 pub returns-in-Ok-make_pages-clause-next : goal.returns-in-Ok-make_pages-clause-next
 returns-in-Ok-make_pages-clause-next g c = λ honest.
-    let on = c.in-Ok.on in
+    let on = c.in_ok-on.on in
     are_next (g.N.Nand.state on.device) on.index (numbers_of on.numbers) on.spare _ c.in-Ok-make_pages.ensures.made
-    (c.in-Ok.ensures.read.tables.numbers (c.in-Ok.ensures.reads.lasts.honest ∙ honest))
+    (c.in_ok-on.ensures.read.tables.numbers (c.in_ok-on.ensures.reads.lasts.honest ∙ honest))
 
 pub returns-in-Ok-make_pages-clause-tree : goal.returns-in-Ok-make_pages-clause-tree
 returns-in-Ok-make_pages-clause-tree g c = λ honest.
-    let on = c.in-Ok.on in
+    let on = c.in_ok-on.on in
     let d = g.N.Nand.state on.device in
-    let is : d.honest ≡ true = c.in-Ok.ensures.reads.lasts.honest ∙ honest in
+    let is : d.honest ≡ true = c.in_ok-on.ensures.reads.lasts.honest ∙ honest in
     let told = c.in-Some.ensures.tree is in
     let laws : ShownLaws = record {
       sizes = λ k m spare volume. c.a_volume_has_sizes.ensures k.geometry m spare volume;
@@ -30,14 +30,14 @@ returns-in-Ok-make_pages-clause-tree g c = λ honest.
       settled = c.the_footprint_holds_the_tree.ensures.settled;
     } in (
       told.0,
-      mounted_with d on.index (numbers_of on.numbers) on.spare _ c.in-Ok-make_pages.ensures.made laws on.tree told.0 is told.1 told.2 c.in-Ok-table.table (volume.sizes_of c.in-Some.sizes)
-          c.in-Some.ensures.sizes c.in-Ok-table.ensures.tells told.3,
+      mounted_with d on.index (numbers_of on.numbers) on.spare _ c.in-Ok-make_pages.ensures.made laws on.tree told.0 is told.1 told.2 c.in-Ok.table (volume.sizes_of c.in-Some.sizes)
+          c.in-Some.ensures.sizes c.in-Ok.ensures.tells told.3,
     )
 
 pub returns-in-Err-make_pages-clause-back : goal.returns-in-Err-make_pages-clause-back
 returns-in-Err-make_pages-clause-back g c =
     let told = c.unmounted-in-Err-make_pages in
-    only_reads_on _ _ _ c.in-Ok.ensures.reads (subst (λ (k : Device). OnlyReads k (g.N.Nand.state told.result.0)) c.in-Err-make_pages.ensures.given_back told.ensures.reads)
+    only_reads_on _ _ _ c.in_ok-on.ensures.reads (subst (λ (k : Device). OnlyReads k (g.N.Nand.state told.result.0)) c.in-Err-make_pages.ensures.given_back told.ensures.reads)
 
-pub returns-in-Err-table-clause-back : goal.returns-in-Err-table-clause-back
-returns-in-Err-table-clause-back g c = only_reads_on _ _ _ c.in-Ok.ensures.reads c.unmounted-in-Err-table.ensures.reads
+pub returns-in-Err-clause-back : goal.returns-in-Err-clause-back
+returns-in-Err-clause-back g c = only_reads_on _ _ _ c.in_ok-on.ensures.reads c.unmounted-in-Err.ensures.reads

@@ -6,23 +6,23 @@ use Rattle.mounting.specs.Trees.{TellsTree}
 use Rattle.mounting.proofs.Finding.{seen_after, gone_through, walk_tells}
 use Rattle.mounting.proofs.tree.find_tree.Goals as goal
 
-pub returns-in-Ok-walk-clause-tree : goal.returns-in-Ok-walk-clause-tree
-returns-in-Ok-walk-clause-tree g c = λ sound size.
+pub returns-in-Ok-clause-tree : goal.returns-in-Ok-clause-tree
+returns-in-Ok-clause-tree g c = λ sound size.
     let p = g.P.Pages.state c.args.pages.now in
     let q = g.P.Pages.state c.root.new.pages in
     let geometry = c.args.geometry in
-    let z = sizes_of geometry c.in-Ok.spare in
-    let seen = seen_after geometry c.in-Ok.spare p q c.root.ensures.finds sound size in
-    let e = c.in-Ok-walk.ensures in
-    gone_through geometry c.in-Ok.spare c.in-Ok-walk.tree p q c.root.ensures.finds size (c.in-Ok.ensures.volume sound size) e.size
+    let z = sizes_of geometry c.in_ok-spare.spare in
+    let seen = seen_after geometry c.in_ok-spare.spare p q c.root.ensures.finds sound size in
+    let e = c.in-Ok.ensures in
+    gone_through geometry c.in_ok-spare.spare c.in-Ok.tree p q c.root.ensures.finds size (c.in_ok-spare.ensures.volume sound size) e.size
     (record { through = e.through z seen; once = e.once z seen; heads = e.heads z seen; names = e.names z seen })
 
-pub returns-in-Err-walk-clause-fault : goal.returns-in-Err-walk-clause-fault
-returns-in-Err-walk-clause-fault g c = λ sound size.
+pub returns-in-Err-clause-fault : goal.returns-in-Err-clause-fault
+returns-in-Err-clause-fault g c = λ sound size.
     let p = g.P.Pages.state c.args.pages.now in
     let q = g.P.Pages.state c.root.new.pages in
     let geometry = c.args.geometry in
-    let z = sizes_of geometry c.in-Ok.spare in
-    let seen = seen_after geometry c.in-Ok.spare p q c.root.ensures.finds sound size in
+    let z = sizes_of geometry c.in_ok-spare.spare in
+    let seen = seen_after geometry c.in_ok-spare.spare p q c.root.ensures.finds sound size in
     subst (λ (f : RootFault). TellsTree geometry (has p.present) f) (sym c.root_fault.ensures)
-    (walk_tells geometry c.in-Ok.spare _ p q (g.P.Pages.state c.walk.new.pages) c.root.ensures.finds (c.in-Ok.ensures.volume sound size) (c.in-Err-walk.ensures.fault z seen))
+    (walk_tells geometry c.in_ok-spare.spare _ p q (g.P.Pages.state c.walk.new.pages) c.root.ensures.finds (c.in_ok-spare.ensures.volume sound size) (c.in-Err.ensures.fault z seen))

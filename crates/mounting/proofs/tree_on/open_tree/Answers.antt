@@ -6,17 +6,17 @@ use Rattle.mounting.proofs.tree_on.open_tree.Goals as goal
 
 pub returns-clause-read : goal.returns-clause-read
 returns-clause-read g c =
-    let a = g.N.Nand.state c.in-Ok.scanned.0 in
-    let b = g.N.Nand.state c.in-Ok-read_tree.read.0 in
-    let was = c.in-Ok.scanned.1 in
-    let found = c.in-Ok-read_tree.read.1 in
-    let reads = c.in-Ok-read_tree.ensures.reads in
-    let opened = c.in-Ok.ensures.opened in
+    let a = g.N.Nand.state c.in_ok-device.device in
+    let b = g.N.Nand.state c.in_ok-device-2.device in
+    let was = c.in_ok-device.opened in
+    let found = c.in_ok-device-2.found in
+    let reads = c.in_ok-device-2.ensures.reads in
+    let opened = c.in_ok-device.ensures.opened in
     record {
       tables = c.prune.ensures a b (numbers_of was.numbers) reads opened;
       tree_on = λ honest.
           let before = sym reads.lasts.honest ∙ honest in
           tree_after a b was.index found.spare found.tree reads
           (c.the_opened_pages_are_the_newest.ensures.pages a (table was.blocks) was.index (numbers_of was.numbers) opened before) before
-          (c.in-Ok-read_tree.ensures.tree before);
+          (c.in_ok-device-2.ensures.tree before);
     }

@@ -1,4 +1,3 @@
-use Rattle.std.specs.Prelude.{◌≡◌}
 use Rattle.std.proofs.Common.{sym, subst}
 use Rattle.volume_terms.specs.Sizes.{Sizes, IsSizes}
 use Rattle.paged_objects.specs.Standing.{StandsFor, Shown}
@@ -6,10 +5,10 @@ use Rattle.posix_calls.proofs.Mounting.{sound_at, stands_for}
 use Rattle.posix_calls.proofs.joining.join.Goals as goal
 
 pub returns-clause-tree : goal.returns-clause-tree
-returns-clause-tree g c objects same mounted =
+returns-clause-tree g c objects same mounted worn =
     let state = g.P.Pages.state in
     let p = state c.args.pages in
     let z = sym same in
     stands_for state p c.args.table objects c.new.result same mounted c.new.ensures.pages
-    (c.new.ensures.at objects (subst IsSizes z mounted.can.numbers) (subst (λ (k : Sizes). StandsFor k p objects) z mounted.stands) mounted.tells (sound_at p c.args.table objects same mounted)
+    (c.new.ensures.at objects (subst IsSizes z mounted.can.numbers) (subst (λ (k : Sizes). StandsFor k p objects) z mounted.stands) mounted.tells (sound_at p c.args.table objects same mounted) worn
     (λ _. (mounted.settles, subst (λ (k : Sizes). Shown k p objects) z mounted.shown)))

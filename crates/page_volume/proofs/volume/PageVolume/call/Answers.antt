@@ -1,8 +1,9 @@
 use Rattle.std.specs.Prelude.{not}
-use Rattle.std.proofs.Common.{ap}
+use Rattle.std.proofs.Common.{◌∙◌, sym, ap}
+use Rattle.std.proofs.lemmas.Bool.{not-true}
 use Rattle.posix_profile.specs.Runs.{is_no_memory}
 use Rattle.page_volume.specs.Volumes.{is_read_only}
-use Rattle.page_volume.proofs.Calls.{is_at, is_volume, one_call, powered, reads_device, tree_after, synced_after}
+use Rattle.page_volume.proofs.Calls.{is_at, is_volume, one_call, reads_device, tree_after, synced_after}
 use Rattle.page_volume.proofs.volume.PageVolume.call.Goals as goal
 
 pub returns-clause-goes_on : goal.returns-clause-goes_on
@@ -20,7 +21,7 @@ returns-clause-state g c goes z s is still =
     let a = c.args.self.now in
     let b = c.call.new.self in
     let one = one_call g.P.Pages.state z s c.args.stamped.now c.call.result a (record { volume = b }) is (c.call.ensures.ends goes z s (is_at g.P.Pages.state z s a is)) in
-    is_volume g.P.Pages.state z _ (record { volume = b }) (one.state still)
+    is_volume g.P.Pages.state z _ (record { volume = b }) g.met.P.PageStore.few (c.call.ensures.lasts.0.worn ∙ is.worn ∙ sym c.call.ensures.keeps) (one.state still)
 
 pub returns-clause-tree : goal.returns-clause-tree
 returns-clause-tree g c goes z s is tree shown =
@@ -55,7 +56,7 @@ returns-clause-power g c goes z s is refused =
     let a = c.args.self.now in
     let b = c.call.new.self in
     let one = one_call g.P.Pages.state z s c.args.stamped.now c.call.result a (record { volume = b }) is (c.call.ensures.ends goes z s (is_at g.P.Pages.state z s a is)) in
-    powered _ (one.power (ap is_no_memory refused))
+    not-true _ (one.power (ap is_no_memory refused))
 
 pub returns-clause-only_reads : goal.returns-clause-only_reads
 returns-clause-only_reads g c only z s is =
@@ -63,7 +64,7 @@ returns-clause-only_reads g c only z s is =
     reads_device g.P.Pages.state a.volume.store c.call.new.self.store (c.call.ensures.only only z s (is_at g.P.Pages.state z s a is))
 
 pub returns-clause-keeps_power : goal.returns-clause-keeps_power
-returns-clause-keeps_power g c goes was = powered _ (c.call.ensures.power goes (ap not was))
+returns-clause-keeps_power g c goes was = not-true _ (c.call.ensures.power goes (ap not was))
 
 pub returns-clause-only_failed : goal.returns-clause-only_failed
 returns-clause-only_failed g c only goes z s is stop = (c.call.ensures.unread only goes z s (is_at g.P.Pages.state z s c.args.self.now is) stop).1

@@ -1,5 +1,6 @@
-use Rattle.std.specs.Prelude.{◌≡◌, ◌⊎◌, true, false, not}
+use Rattle.std.specs.Prelude.{◌≡◌, ◌⊎◌, false, not}
 use Rattle.std.proofs.Common.{sym, ◌∙◌, ap, subst}
+use Rattle.std.proofs.lemmas.Bool.{not-true}
 use Rattle.object_store.specs.Stores.{settled}
 use Rattle.paged_objects.specs.Ending.{HasEnded}
 use Rattle.paged_objects.specs.Standing.{Shown}
@@ -9,7 +10,7 @@ use Rattle.pages.specs.Stores.{GoesOn}
 use Rattle.posix_profile.specs.declared.reply.Errno.TheVariants as errors
 use Rattle.posix_profile.specs.declared.reply.Reply.TheVariants as replies
 use Rattle.page_volume.specs.Volumes.{pages_of}
-use Rattle.page_volume.proofs.Calls.{has_of, powered, commit_done, commit_tree, commit_cause}
+use Rattle.page_volume.proofs.Calls.{has_of, commit_done, commit_tree, commit_cause}
 use Rattle.page_volume.proofs.volume.PageVolume.finish.Goals.{in-Ok, in-Err}
 use Rattle.page_volume.proofs.volume.PageVolume.finish.Goals as goal
 
@@ -64,6 +65,6 @@ returns-clause-power g c told was =
     let state = g.P.Pages.state in
     let before : (state c.into_store-objects.result.pages).device.gone ≡ false = ap (λ o. (state o.pages).device.gone) c.into_store-objects.ensures ∙ was in
     elim c.match-commit.branch [
-      | in-Ok w ↦ subst (λ (q : PagesState). q.device.gone ≡ false) (sym c.into_pages-2.ensures) (powered _ (w.in-Ok.ensures.power ∙ ap not before))
+      | in-Ok w ↦ subst (λ (q : PagesState). q.device.gone ≡ false) (sym c.into_pages-2.ensures) (not-true _ (w.in-Ok.ensures.power ∙ ap not before))
       | in-Err w ↦ let two : replies.Error errors.EIO ≡ replies.Done = sym w.reply-is ∙ told in absurd cc
     ]

@@ -9,7 +9,7 @@ use Rattle.pages.specs.State.{PagesState}
 use Rattle.page_volume.proofs.volume.PageVolume.new.Goals as goal
 
 pub returns-in-Ok-clause-at : goal.returns-in-Ok-clause-at
-returns-in-Ok-clause-at g c objects numbers stands tells sound shown =
+returns-in-Ok-clause-at g c objects numbers stands tells sound worn shown =
     let state = g.P.Pages.state in
     let made = c.in-Ok.ensures.volume in
     let pages : state c.in-Ok.volume.store.pages ≡ state c.args.pages = ap (λ o. state o.pages) made.0 ∙ c.new.ensures.pages in
@@ -21,6 +21,8 @@ returns-in-Ok-clause-at g c objects numbers stands tells sound shown =
       tells = subst (λ (t : ObjectTable). Tells t objects) (sym table) tells;
       handles = made.1;
       sound = sound;
+      worn = ap (λ (p : PagesState). p.worn) pages ∙ worn ∙ sym made.2;
+      few = λ writes. g.met.P.PageStore.few c.in-Ok.volume.store.pages (ap (λ (p : PagesState). p.sound) pages ∙ stands.sound) (ap (λ (p : PagesState). p.worn) pages ∙ worn ∙ sym made.2 ∙ writes);
       reading = λ only fd handle is. let two : None ≡ Some handle = sym (map.get-empty nat_cmp fd) ∙ is in absurd cc;
       named = λ only. (shown (sym made.2 ∙ only)).0;
       shown = λ only. subst (λ (p : PagesState). Shown (table_sizes c.args.table) p objects) (sym pages) (shown (sym made.2 ∙ only)).1;

@@ -1,10 +1,10 @@
 -- The cut of one entry after another, from the last one on.
-use Rattle.std.proofs.Common.{◌≡◌, ◌≢◌, ◌⊎◌, ℕ, ◌<◌, ◌≤◌, Option, Some, None, refl, ap, ◌∙◌, arith, inl, inr}
+use Rattle.std.proofs.Common.{◌≡◌, ◌≢◌, ◌⊎◌, ℕ, ◌<◌, ◌≤◌, Option, Some, None, ap, ◌∙◌, arith, inl, inr}
 use Rattle.std.proofs.lemmas.Bool.{cases_eq, cases_lt}
 use Rattle.chunk_index.specs.Lists.{IsBelow}
 use Rattle.chunk_index.specs.Entries.{chunk, present_of}
 use Rattle.chunk_index.specs.Shelves.{look, Differs, IsLastFrom}
-use Rattle.chunk_index.specs.Maps.{present, IsReadyKey, StaysPrepared, SameKept, Places, Cuts}
+use Rattle.chunk_index.specs.Maps.{present, IsReadyKey, StaysPrepared, SameKept, Places}
 use Rattle.chunk_index.specs.declared.entry.KeyEntry.{KeyEntry}
 use Rattle.chunk_index.specs.declared.form.Form.TheVariants as forms
 use Rattle.chunk_index.specs.declared.form.Present.TheVariants as presents
@@ -21,15 +21,6 @@ pub record Cutting (o from : ℕ) (bound : Option ℕ) (old new : Index) : Type 
   pub kept : SameKept old new
   pub prepared : StaysPrepared old new
   pub ready : (k l : ℕ) → (k ≢ o) ⊎ (l < from) → IsReadyKey old k l → IsReadyKey new k l
-
-pub cutting_none : (o from : ℕ) (x : Index) → Cutting o from None x x
-cutting_none o from x = record {
-  gone = λ l le not. absurd (not tt);
-  others = λ k l other. refl;
-  kept = record { kept = λ k l. refl; counts = λ b. refl };
-  prepared = λ k l is. is;
-  ready = λ k l other is. is;
-}
 
 below_or_not : (l : ℕ) (bound : Option ℕ) → IsBelow l bound ⊎ (IsBelow l bound → ⊥)
 below_or_not l None = inl tt
@@ -60,13 +51,4 @@ cutting_more o from bound old mid new e was last places kept prepared ready = re
   kept = record { kept = λ k l. kept.kept k l ∙ was.kept.kept k l; counts = λ b. kept.counts b ∙ was.kept.counts b };
   prepared = λ k l is. prepared k l (was.prepared k l is);
   ready = λ k l other is. ready k l (differs o from k l (chunk e) last.1 other) (was.ready k l other is);
-}
-
-pub cutting_all : (o from : ℕ) (bound : Option ℕ) (old new : Index) → Cutting o from bound old new → IsLastFrom new.shelf.objects o from bound None → Cuts o from old new
-cutting_all o from bound old new was last = record {
-  gone = λ l le. elim (below_or_not l bound) [
-    | inl below ↦ absent new o l (last l le below)
-    | inr past ↦ was.gone l le past
-  ];
-  others = was.others;
 }

@@ -1,7 +1,6 @@
 -- What a search finds in a list whose numbers rise, and what an edit at that place does.
-use Rattle.std.proofs.Common.{◌≡◌, Bool, ℕ, zero, suc, ◌+◌, ◌-◌, ◌<◌, ◌≤◌, eqb, ◌≢◌, List, [], ◌∷◌, length, get_or, set, if◌then◌else◌, Some, None, Result, Ok, Err, IfOk, IfErr, refl, sym, ap, ◌∙◌, subst, inl, inr, arith}
-use Rattle.std.specs.List.{insert, remove, filter}
-use Rattle.std.proofs.lemmas.List.Kept.{AllPairs-filter}
+use Rattle.std.proofs.Common.{◌≡◌, ℕ, zero, suc, ◌+◌, ◌-◌, ◌<◌, ◌≤◌, eqb, ◌≢◌, List, [], ◌∷◌, length, get_or, set, if◌then◌else◌, Some, None, Result, Ok, Err, IfOk, IfErr, refl, sym, ap, ◌∙◌, subst, inl, inr, arith}
+use Rattle.std.specs.List.{insert, remove}
 use Rattle.std.specs.List.Sorted.{IsSearchInRange, IsBinarySearchResult, IsNonDecreasingBy}
 use Rattle.std.specs.Ordering.{nat_cmp, ordering_index}
 use Rattle.std.proofs.lemmas.Cmp.{ranked}
@@ -157,14 +156,6 @@ module _ {X : Type 0} (f : X → ℕ) where
       | inr above ↦ let r : n < f (get_or xs j d) = gap.greater j d above lt in omega (arith, r, same)
     ])
 
-    -- the elements before it are those with lesser numbers
-    pub ends_in_gap : IsEndFor f xs (Some n) i
-    ends_in_gap = record {
-      within = gap.within;
-      lesser = gap.lesser;
-      greater = λ j d le lt below. let r : n < f (get_or xs j d) = gap.greater j d le lt in omega (arith, r, below);
-    }
-
     -- a new element in the gap is found at its number alone
     pub find_gap_insert : (y : X) → f y ≡ n → FindsAfterSet f xs (insert xs i y) n y
     find_gap_insert y is = find_insert xs n i y is (λ j d lt same. let r : f (get_or xs j d) < n = gap.lesser j d lt in omega (arith, r, same))
@@ -182,17 +173,6 @@ module _ {X : Type 0} (f : X → ℕ) where
         let up : (k l : ℕ) → k < l → l < length xs → f (get_or xs k d) < f (get_or xs l d) = λ k l. rises k l d in
         grind (arith, longer, below a, here a, above a, below b, here b, above b, up a b, up a (b - 1), up (a - 1) (b - 1), lesser a, greater (b - 1))
 
-    -- it stands there
-    pub at_insert : (y : X) → f y ≡ n → IsAt f (insert xs i y) n i
-    at_insert y is = record {
-      within = let longer : length (insert xs i y) ≡ length xs + 1 = length-insert xs i y gap.within in let le : i ≤ length xs = gap.within in omega (arith, longer, le);
-      number = λ d. ap f (get_or-insert_at xs i y d gap.within) ∙ is;
-    }
-
   -- with no bound all elements lie before it
   pub ends_all : (xs : List X) → IsEndFor f xs None (length xs)
   ends_all xs = record { within = omega arith; lesser = λ j d lt. tt; greater = λ j d le lt below. omega (arith, le, lt) }
-
-  -- the numbers of those that stay still rise
-  pub rises_filter : (p : X → Bool) (xs : List X) → Rises f xs → Rises f (filter p xs)
-  rises_filter p xs rises = AllPairs-filter (λ x y. f x < f y) p xs rises

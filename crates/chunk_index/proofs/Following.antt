@@ -9,12 +9,11 @@ use Rattle.chunk_index.specs.declared.form.KeptPage.{KeptPage}
 use Rattle.chunk_index.specs.declared.form.KeptKey.{KeptKey}
 use Rattle.chunk_index.specs.declared.entry.KeyEntry.{KeyEntry}
 use Rattle.chunk_index.specs.declared.index.Index.{Index}
-use Rattle.chunk_index.specs.Lists.{find_by, Rises, IsAt, IsGapFor}
+use Rattle.chunk_index.specs.Lists.{find_by, Rises, IsAt}
 use Rattle.chunk_index.specs.Entries.{chunk, kept_of}
 use Rattle.chunk_index.specs.Shelves.{entry_of, look, IsAfterNumber, IsNextObject}
-use Rattle.chunk_index.specs.Kept.{IsNextKept}
 use Rattle.chunk_index.specs.Following.{IsStartFor, IsNextChunk, IsNextBeyond, kept_chunk}
-use Rattle.chunk_index.specs.Maps.{KeptMap, kept_pages}
+use Rattle.chunk_index.specs.Maps.{kept_pages}
 use Rattle.chunk_index.proofs.Finding.{find_at}
 
 -- ---- one object
@@ -35,17 +34,6 @@ start_at es rises n i at = record {
       let here : chunk (get_or es i d) ≡ n = at.number d in
       omega (arith, r, here);
 }
-
--- those after its gap
-pub start_in_gap : (es : List KeyEntry) (n i : ℕ) → IsGapFor chunk es n i → IsStartFor chunk es (Some n) i
-start_in_gap es n i gap = record {
-  within = gap.within;
-  lesser = λ j d lt after. let less : chunk (get_or es j d) < n = gap.lesser j d lt in omega (arith, less, after);
-  greater = λ j d le lt. gap.greater j d le lt;
-}
-
-pub start_of_all : (es : List KeyEntry) → IsStartFor chunk es None 0
-start_of_all es = record { within = omega arith; lesser = λ j d lt after. omega (arith, lt); greater = λ j d le lt. tt }
 
 -- none of the entries from place i on and before n is kept
 abbrev pub NoneKept : List KeyEntry → ℕ → ℕ → Type 0
@@ -155,37 +143,3 @@ module _ (x : Index) where
     after_or_not k (Some o) = elim (cases_lt o k) [ inl lt ↦ inl lt | inr ge ↦ inr (λ lt. omega (arith, ge, lt)) ]
 
 -- ---- all keys
-
--- with no key to begin after
-pub kept_of_all : (m : KeptMap) (r : Option KeptKey) → IsNextBeyond m None r → IsNextKept m None r
-kept_of_all m None none = λ o c is. none o c tt
-kept_of_all m (Some k) found = (found.0, tt, λ o c is before. found.2 o c tt before)
-
--- the next chunk of the same object
-pub kept_in_object : (m : KeptMap) (o c d : ℕ) (p : KeptPage) → IsNextChunk (m o) (Some c) (Some (d, p)) → IsNextKept m (Some (record { object = o; chunk = c })) (Some (record { key = record { object = o; chunk = d }; at = p }))
-kept_in_object m o c d p next = (
-  next.0,
-  inr (refl, next.1),
-  λ k l is before. elim is [
-    | inl lt ↦ elim before [ inl less ↦ absurd (omega (arith, lt, less)) | inr same ↦ absurd (omega (arith, lt, same.0)) ]
-    | inr at ↦ elim before [
-      | inl less ↦ absurd (omega (arith, at.0, less))
-      | inr same ↦ ap (λ j. m j l) same.0 ∙ next.2 l at.1 same.1
-    ]
-  ],
-)
-
--- the next object, where no chunk is left
-pub kept_beyond : (m : KeptMap) (o c : ℕ) (r : Option KeptKey) → IsNextChunk (m o) (Some c) None → IsNextBeyond m (Some o) r → IsNextKept m (Some (record { object = o; chunk = c })) r
-kept_beyond m o c None empty none = λ k l is. elim is [
-  | inl lt ↦ none k l lt
-  | inr at ↦ ap (λ j. m j l) (sym at.0) ∙ empty l at.1
-]
-kept_beyond m o c (Some f) empty found = (
-  found.0,
-  inl found.1,
-  λ k l is before. elim is [
-    | inl lt ↦ found.2 k l lt before
-    | inr at ↦ ap (λ j. m j l) (sym at.0) ∙ empty l at.1
-  ],
-)

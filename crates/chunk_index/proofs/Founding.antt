@@ -1,24 +1,22 @@
 -- The adding of one page after another, and their counts.
-use Rattle.std.proofs.Common.{◌≡◌, ◌≢◌, ℕ, ◌+◌, ◌<◌, ◌≤◌, List, length, get_or, Some, None, refl, sym, ap, subst, ◌∙◌, arith, inl, inr}
+use Rattle.std.proofs.Common.{◌≡◌, ℕ, ◌+◌, ◌<◌, ◌≤◌, List, length, get_or, Some, None, sym, ap, subst, ◌∙◌, arith, inl, inr}
 use Rattle.std.specs.List.{sum_by}
 use Rattle.std.proofs.lemmas.Bool.{cases_eq}
 use Rattle.std.proofs.lemmas.List.{get_or_default}
 use Rattle.std.proofs.lemmas.List.Sums.{sum_by_more, sum_by_more_le_part}
 use Rattle.flash_tree.specs.Places.{IsKeyBefore}
 use Rattle.flash_tree.specs.declared.place.Found.{Found}
-use Rattle.block_state.specs.declared.blocks.BlockEntry.{BlockEntry}
-use Rattle.block_state.specs.Table.{Table, Sets}
+use Rattle.block_state.specs.Table.{Table}
 use Rattle.chunk_index.specs.declared.form.KeptPage.{KeptPage}
 use Rattle.chunk_index.specs.declared.entry.KeyEntry.{KeyEntry}
 use Rattle.chunk_index.specs.declared.index.Index.{Index}
-use Rattle.chunk_index.specs.Entries.{kept_at, one_at, counted_at, weight, kept_of, present_of}
+use Rattle.chunk_index.specs.Entries.{kept_at, one_at, counted_at, weight}
 use Rattle.chunk_index.specs.Shelves.{ObjectMap, look, total, Differs, AltersKey}
 use Rattle.chunk_index.specs.Counts.{Recounts}
 use Rattle.chunk_index.specs.Maps.{kept_in, CountsAgree}
 use Rattle.chunk_index.proofs.Counting.{one_most, recounts_more}
-use Rattle.std.proofs.lemmas.Bool.Decides.{nat_tests}
 use Rattle.volume_terms.specs.laws.List.{sum_ones}
-use Rattle.chunk_index.specs.Newest.{page_of, IsFoundOf, KeysRise, Indexes}
+use Rattle.chunk_index.specs.Newest.{page_of, IsFoundOf, KeysRise}
 use Rattle.chunk_index.specs.Found.{found_in, HasPages}
 
 -- keys that rise differ
@@ -94,15 +92,6 @@ pages_none fs m empty none size counted zero_size = record {
   size = counted ∙ zero_size;
 }
 
--- the index of the pages
-pub indexes_of : (fs : List Found) (n : ℕ) (x : Index) → HasPages fs n x.shelf.objects → Indexes fs n x
-indexes_of fs n x has = record {
-  kept_here = λ i d lt. ap kept_of (has.done i d lt);
-  present_here = λ i d lt. ap present_of (has.done i d lt);
-  kept_elsewhere = λ o c none. ap kept_of (has.rest o c none);
-  present_elsewhere = λ o c none. ap present_of (has.rest o c none);
-}
-
 -- ---- counts
 
 -- there is room for one page more
@@ -114,44 +103,6 @@ keep_room fs n d b t u lt few none recounts =
     let part : found_in fs n b + 1 ≤ sum_by (λ (x : Found). 1) fs = sum_by_more_le_part (λ g. one_at (Some (page_of g)) b) (λ (x : Found). 1) fs n d lt (λ g. one_most (Some (page_of g)) b) in
     let ones : sum_by (λ (x : Found). 1) fs ≡ length fs = sum_ones fs in
     omega (arith, all, was, part, ones, few)
-
--- all but the count of kept pages stays
-kept_alone : {X : Type 0} (b : ℕ) (u v : Table) → Sets b (record (u.entry b) { kept = (u.entry b).kept + 1 }) u v → (f : BlockEntry → X) → f (record (u.entry b) { kept = (u.entry b).kept + 1 }) ≡ f (u.entry b)
-    → (k : ℕ) → f (v.entry k) ≡ f (u.entry k)
-kept_alone b u v sets f e k = elim (cases_eq k b) [
-  | inl at ↦ ap (λ j. f (v.entry j)) at ∙ ap f sets.here ∙ e ∙ sym (ap (λ j. f (u.entry j)) at)
-  | inr ne ↦ ap f (sets.others k ne)
-]
-
--- one page more is counted
-pub keep_more : (fs : List Found) (n : ℕ) (d : Found) (b : ℕ) (t u v : Table) → n < length fs → b ≡ (get_or fs n d).block → b < t.geometry.blocks → Recounts (λ k. 0) (found_in fs n) t u
-    → Sets b (record (u.entry b) { kept = (u.entry b).kept + 1 }) u v → v.open_block ≡ u.open_block → v.next_seq ≡ u.next_seq → Recounts (λ k. 0) (found_in fs (n + 1)) t v
-keep_more fs n d b t u v lt is within recounts sets opened seq =
-    record {
-      kept = λ k.
-          let all : (u.entry k).kept + 0 ≡ (t.entry k).kept + found_in fs n k = recounts.kept k in
-          let more : found_in fs (n + 1) k ≡ found_in fs n k + one_at (Some (page_of (get_or fs n d))) k = sum_by_more (λ g. one_at (Some (page_of g)) k) fs n d lt in
-          elim (cases_eq k b) [
-            | inl at ↦
-                let here : (v.entry k).kept ≡ (u.entry k).kept + 1 = ap (λ j. (v.entry j).kept) at ∙ ap (λ (x : BlockEntry). x.kept) sets.here ∙ ap (λ j. (u.entry j).kept + 1) (sym at) in
-                let block : (get_or fs n d).block ≡ k = sym is ∙ sym at in
-                let one : one_at (Some (page_of (get_or fs n d))) k ≡ 1 = grind (arith, nat_tests, block) in
-                omega (arith, all, more, here, one)
-            | inr ne ↦
-                let there : (v.entry k).kept ≡ (u.entry k).kept = ap (λ (x : BlockEntry). x.kept) (sets.others k ne) in
-                let block : (get_or fs n d).block ≢ k = λ e. ne (sym e ∙ sym is) in
-                let none : one_at (Some (page_of (get_or fs n d))) k ≡ 0 = grind (arith, nat_tests, block) in
-                omega (arith, all, more, there, none)
-          ];
-      outside = λ k le. ap (λ (x : BlockEntry). x.kept) (sets.others k (λ e. omega (arith, le, e, within))) ∙ recounts.outside k le;
-      bad = λ k. kept_alone b u v sets (λ (x : BlockEntry). x.bad) refl k ∙ recounts.bad k;
-      seq = λ k. kept_alone b u v sets (λ (x : BlockEntry). x.seq) refl k ∙ recounts.seq k;
-      next = λ k. kept_alone b u v sets (λ (x : BlockEntry). x.next) refl k ∙ recounts.next k;
-      geometry = sets.geometry ∙ recounts.geometry;
-      open_block = opened ∙ recounts.open_block;
-      next_seq = seq ∙ recounts.next_seq;
-      next_group = sets.next_group ∙ recounts.next_group;
-    }
 
 -- so each block counts the keys that are kept in it
 pub found_counts : (fs : List Found) (n : ℕ) (t u : Table) (x : Index) → ((b : ℕ) → (t.entry b).kept ≡ 0) → HasPages fs n x.shelf.objects → Recounts (λ b. 0) (found_in fs n) t u

@@ -33,16 +33,6 @@ module _ {m n : ObjectMap} {o c : ℕ} {to : Option KeyEntry} (alters : AltersKe
     ]
   ]
 
-  -- what holds of the entry still holds of each of which it held
-  pub told_still : (f : Option KeyEntry → Bool) → f to ≡ true → (k l : ℕ) → f (look m k l) ≡ true → f (look n k l) ≡ true
-  told_still f holds k l was = elim (cases_eq k o) [
-    | inr ne ↦ ap f (alters.others k l (inl ne)) ∙ was
-    | inl e ↦ elim (cases_eq l c) [
-      | inr ne ↦ ap f (alters.others k l (inr ne)) ∙ was
-      | inl d ↦ ap (λ p. f (look n p l)) e ∙ ap (λ q. f (look n o q)) d ∙ ap f alters.here ∙ holds
-    ]
-  ]
-
   -- where it adds as much, all add as much
   pub total_same : (f : KeyEntry → ℕ) → weight f to ≡ weight f (look m o c) → total f n ≡ total f m
   total_same f same = let sum = alters.weighs f in omega (arith, sum, same)

@@ -1,6 +1,6 @@
 -- The listing of one part after another.
-use Rattle.std.proofs.Common.{◌≡◌, ℕ, ◌+◌, ◌<◌, ◌≤◌, List, ◌++◌, length, drop, get_or, sym, ap, ◌∙◌, arith}
-use Rattle.std.proofs.lemmas.List.{length-append, append_assoc, append-nil, drop_more, drop_all}
+use Rattle.std.proofs.Common.{◌≡◌, ℕ, ◌+◌, ◌<◌, ◌≤◌, List, ◌++◌, length, drop, get_or, ap, arith}
+use Rattle.std.proofs.lemmas.List.{length-append, drop_more}
 use Rattle.chunk_index.specs.declared.form.KeptKey.{KeptKey}
 use Rattle.chunk_index.specs.declared.entry.KeyEntry.{KeyEntry}
 use Rattle.chunk_index.specs.Listing.{key_in, keys_of}
@@ -14,13 +14,6 @@ list_room now old part rest all same before after fits grows =
     let four : length (now ++ (part ++ rest)) ≡ length (old ++ all) = ap length same in
     omega (arith, one, two, three, four, fits, grows)
 
--- the next part was added
-pub list_more : (now new old part rest all : List KeptKey) → now ++ (part ++ rest) ≡ old ++ all → new ≡ now ++ part → new ++ rest ≡ old ++ all
-list_more now new old part rest all same added = ap (λ xs. xs ++ rest) added ∙ append_assoc now part rest ∙ same
-
 -- the rest of an object's entries, and the next of them
 pub rest_more : (b o : ℕ) (es : List KeyEntry) (i : ℕ) (d : KeyEntry) → i < length es → keys_of b o (drop i es) ≡ key_in b o (get_or es i d) ++ keys_of b o (drop (i + 1) es)
 rest_more b o es i d lt = ap (keys_of b o) (drop_more es i d lt)
-
-pub rest_none : (b o : ℕ) (es : List KeyEntry) (i : ℕ) (now xs : List KeptKey) → length es ≤ i → now ++ keys_of b o (drop i es) ≡ xs → now ≡ xs
-rest_none b o es i now xs le same = sym (append-nil now) ∙ ap (λ r. now ++ keys_of b o r) (sym (drop_all i es le)) ∙ same

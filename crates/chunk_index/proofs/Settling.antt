@@ -11,7 +11,7 @@ use Rattle.chunk_index.specs.declared.entry.KeyEntry.{KeyEntry}
 use Rattle.chunk_index.specs.declared.entry.State.{State}
 use Rattle.chunk_index.specs.declared.entry.State.TheVariants as states
 use Rattle.block_state.specs.Table.{Table}
-use Rattle.chunk_index.specs.Entries.{settled, settled_by, same_of, present_of, present_by, kept_of, one_at, weight, HasPage}
+use Rattle.chunk_index.specs.Entries.{settled, settled_by, same_of, present_of, present_by, kept_of, one_at, HasPage}
 use Rattle.chunk_index.specs.Shelves.{ObjectMap, look, total, Differs, AltersKey, IsListed}
 use Rattle.chunk_index.specs.Counts.{Recounts, HasRoom, Tallies}
 use Rattle.chunk_index.proofs.Counting.{room_for, room_block}
@@ -40,9 +40,6 @@ settled_same g (Some e) same = go e.state refl where
 pub record Settling (g : WrittenGroup) (keys : List Key) (n : ℕ) (old new : ObjectMap) : Type 0 where
   pub each : (o c : ℕ) → (look new o c ≡ settled g (look old o c))
       ⊎ ((look new o c ≡ look old o c) × ((j : ℕ) (d : Key) → j < n → ((get_or keys j d).object ≡ o) × ((get_or keys j d).chunk ≡ c) → ⊥))
-
-pub settling_none : (g : WrittenGroup) (keys : List Key) (m : ObjectMap) → Settling g keys 0 m m
-settling_none g keys m = record { each = λ o c. inr (refl, λ j d lt is. omega (arith, lt)) }
 
 pub settling_more : (g : WrittenGroup) (keys : List Key) (n : ℕ) (old mid new : ObjectMap) (k : Key) → Settling g keys n old mid → n < length keys → ((d : Key) → get_or keys n d ≡ k)
     → AltersKey k.object k.chunk (settled g (look mid k.object k.chunk)) mid new → Settling g keys (n + 1) old new
@@ -92,28 +89,6 @@ settling_all g keys n old new was all listed o c = elim (was.each o c) [
   ]
 ]
 
--- the pages of the buffer still have their numbers
-pub settling_fits : (g : WrittenGroup) (keys : List Key) (n : ℕ) (old new : ObjectMap) → Settling g keys n old new → ((o c i : ℕ) → present_of (look old o c) ≡ presents.InBuffer i → g.first + i < 4294967296)
-    → (o c i : ℕ) → present_of (look new o c) ≡ presents.InBuffer i → g.first + i < 4294967296
-settling_fits g keys n old new was fits o c i is = elim (was.each o c) [
-  | inl done ↦ absurd (no_buffer g (look old o c) i (sym (ap present_of done) ∙ is))
-  | inr (same, none) ↦ fits o c i (sym (ap present_of same) ∙ is)
-] where
-  on_flash : (p : Option KeptPage) (i : ℕ) → present_by p states.Same ≡ presents.InBuffer i → ⊥
-  on_flash None i is = cc
-  on_flash (Some p) i is = cc
-
-  no_buffer : (g : WrittenGroup) (v : Option KeyEntry) (i : ℕ) → present_of (settled g v) ≡ presents.InBuffer i → ⊥
-  no_buffer g None i is = cc
-  no_buffer g (Some e) i shown = go e.state refl where
-    go : (s : State) → e.state ≡ s → ⊥
-    go states.Same is =
-        let one : settled g (Some e) ≡ Some e = ap (settled_by g e) is in
-        on_flash e.kept i (ap (present_by e.kept) (sym is) ∙ sym (ap present_of one) ∙ shown)
-    go (states.Buffered j) is = let one : settled g (Some e) ≡ settled_by g e (states.Buffered j) = ap (settled_by g e) is in let two : presents.OnFlash (record { block = g.block; page = g.first + j; version = g.number }) ≡ presents.InBuffer i = sym (ap present_of one) ∙ shown in absurd cc
-    go states.Dropped is = let one : settled g (Some e) ≡ None = ap (settled_by g e) is in let two : presents.Absent ≡ presents.InBuffer i = sym (ap present_of one) ∙ shown in absurd cc
-    go states.Vacant is = let one : settled g (Some e) ≡ settled_by g e states.Vacant = ap (settled_by g e) is in let two : presents.Absent ≡ presents.InBuffer i = sym (ap present_of one) ∙ shown in absurd cc
-
 -- the page that an entry shows has its number
 pub has_page : (g : WrittenGroup) (e : KeyEntry) → ((i : ℕ) → present_by e.kept e.state ≡ presents.InBuffer i → g.first + i < 4294967296) → HasPage g e.state
 has_page g e fits = go e.state refl where
@@ -132,9 +107,6 @@ module _ (g : WrittenGroup) (m : ObjectMap) (o c : ℕ) (e : KeyEntry) (is : loo
   pub settled_set : (n : ObjectMap) (new : KeyEntry) → Some new ≡ settled_by g e e.state → new.chunk ≡ c → AltersKey o new.chunk (Some new) m n → AltersKey o c (settled g (look m o c)) m n
   settled_set n new by same alters = subst (λ v. AltersKey o c v m n) (settles_to (Some new) by) (subst (λ l. AltersKey o l (Some new) m n) same alters)
 
-  pub settled_remove : (n : ObjectMap) → None ≡ settled_by g e e.state → AltersKey o c None m n → AltersKey o c (settled g (look m o c)) m n
-  settled_remove n by alters = subst (λ v. AltersKey o c v m n) (settles_to None by) alters
-
   pub settled_counts : (t u : Table) (to : Option KeyEntry) → to ≡ settled_by g e e.state → Recounts (one_at e.kept) (one_at (kept_of to)) t u → Recounts (one_at (kept_of (look m o c))) (one_at (kept_of (settled g (look m o c)))) t u
   settled_counts t u to by recounts =
       subst (λ v. Recounts (one_at (kept_of (look m o c))) (one_at (kept_of v)) t u) (settles_to to by) (subst (λ v. Recounts (one_at (kept_of v)) (one_at (kept_of to)) t u) (sym is) recounts)
@@ -144,19 +116,6 @@ module _ (g : WrittenGroup) (m : ObjectMap) (o c : ℕ) (e : KeyEntry) (is : loo
 
   pub settled_page : (fits : (i : ℕ) → present_of (look m o c) ≡ presents.InBuffer i → g.first + i < 4294967296) → HasPage g e.state
   settled_page fits = has_page g e (λ i shown. fits i (ap present_of is ∙ shown))
-
--- a key without an entry
-pub settled_none : (g : WrittenGroup) (m : ObjectMap) (o c : ℕ) → look m o c ≡ None → AltersKey o c (settled g (look m o c)) m m
-settled_none g m o c none =
-    let to : settled g (look m o c) ≡ None = ap (settled g) none in
-    record {
-      here = none ∙ sym to;
-      others = λ k l differs. refl;
-      weighs = λ f.
-          let one : weight f (look m o c) ≡ 0 = ap (weight f) none in
-          let two : weight f (settled g (look m o c)) ≡ 0 = ap (weight f) to in
-          omega (arith, one, two);
-    }
 
 -- the place of a settled page lies on the device
 pub settled_within : (g : WrittenGroup) (e new : KeyEntry) (t : Table) → g.block < t.geometry.blocks → HasRoom t (one_at e.kept) 1 → Some new ≡ settled_by g e e.state → IfSome new.kept (λ (p : KeptPage). p.block < t.geometry.blocks)

@@ -21,10 +21,6 @@ use Rattle.chunk_index.specs.Shelves.{ObjectMap, entry_of, look, total, AltersKe
 pub look_in : (m : ObjectMap) (o c : ℕ) (x : ObjectEntries) → get nat_cmp m o ≡ Some x → look m o c ≡ find_by chunk x.entries.items c
 look_in m o c x found = ap (option_and_then (entry_of c)) found
 
--- an entry that is there stands among the entries of its object
-pub look_there : (m : ObjectMap) (o c : ℕ) → get nat_cmp m o ≡ None → IsSome (look m o c) → ⊥
-look_there m o c none some = false≢true (rw (ap (option_and_then (entry_of c)) none) at some)
-
 -- what is told of the keys of another object stays
 pub look_other : (m n : ObjectMap) (k l : ℕ) → get nat_cmp n k ≡ get nat_cmp m k → look n k l ≡ look m k l
 look_other m n k l same = ap (option_and_then (entry_of l)) same
@@ -78,27 +74,6 @@ same_size m n o c e alters some size was =
 -- the same entries, where a key without one was looked for in vain
 pub same_entries : (m : ObjectMap) → SameEntries m m
 same_entries m = record { looks = λ o c. refl; weighs = λ f. refl }
-
-pub same_then : {m n p : ObjectMap} {o c : ℕ} {to : Option KeyEntry} → SameEntries m n → AltersKey o c to n p → AltersKey o c to m p
-same_then {m} {n} {p} {o} {c} {to} same alters = record {
-  here = alters.here;
-  others = λ k l differs. alters.others k l differs ∙ same.looks k l;
-  weighs = λ f.
-      let one = alters.weighs f in
-      let two : total f n ≡ total f m = same.weighs f in
-      let told : weight f (look n o c) ≡ weight f (look m o c) = ap (weight f) (same.looks o c) in
-      omega (arith, one, two, told);
-}
-
-pub then_same : {m n p : ObjectMap} {o c : ℕ} {to : Option KeyEntry} → AltersKey o c to m n → SameEntries n p → AltersKey o c to m p
-then_same {m} {n} {p} {o} {c} {to} alters same = record {
-  here = same.looks o c ∙ alters.here;
-  others = λ k l differs. same.looks k l ∙ alters.others k l differs;
-  weighs = λ f.
-      let one = alters.weighs f in
-      let two : total f p ≡ total f n = same.weighs f in
-      omega (arith, one, two);
-}
 
 pub same_on : {m n p : ObjectMap} → SameEntries m n → SameEntries n p → SameEntries m p
 same_on a b = record { looks = λ o c. b.looks o c ∙ a.looks o c; weighs = λ f. b.weighs f ∙ a.weighs f }

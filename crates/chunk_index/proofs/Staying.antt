@@ -92,14 +92,6 @@ module _ (o : ℕ) (m n : ObjectMap) (x y : ObjectEntries) (found : get nat_cmp 
             omega (arith, stays, was, none, is);
       }
 
--- an object that is not here has none that stay
-pub absent_retains : (keeps : ℕ → Bool) (m : ObjectMap) (o : ℕ) → get nat_cmp m o ≡ None → RetainsObject o keeps m m
-absent_retains keeps m o none = record {
-  here = λ c. let no : look m o c ≡ None = ap (option_and_then (entry_of c)) none in no ∙ sym (ap (retained_told (keeps c)) no);
-  others = λ k l ne. refl;
-  changed = refl;
-}
-
 -- the same entries after
 pub retains_then_same : (keeps : ℕ → Bool) (o : ℕ) (m n p : ObjectMap) → RetainsObject o keeps m n → SameEntries n p → RetainsObject o keeps m p
 retains_then_same keeps o m n p retains same = record {

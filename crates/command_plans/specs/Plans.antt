@@ -1,7 +1,7 @@
 -- What a command is to do, and what the definition says of it.
 use Rattle.std.specs.Prelude.{◌≡◌, ◌≢◌, ◌<◌, Bool, true, false, Result, Ok, Err}
 use Rattle.std.specs.FinMap as map
-use Rattle.volume_terms.specs.Sizes.{Sizes}
+use Rattle.volume_terms.specs.Sizes.{Sizes, descriptors}
 use Rattle.posix_profile.specs.State.{Objects, Handles, State}
 use Rattle.posix_profile.specs.Outcomes.{Outcome, refuse}
 use Rattle.posix_profile.specs.laws.Sound.{IsSound}
@@ -37,7 +37,7 @@ handled handles (handle_changes.Put fd description) = map.insert handles fd (han
 abbrev pub InRange : HandleChange → Type 0
 InRange handle_changes.Nothing = Unit {0}
 InRange (handle_changes.Remove fd) = Unit {0}
-InRange (handle_changes.Put fd description) = fd < 64
+InRange (handle_changes.Put fd description) = fd < descriptors
 
 -- the objects after what a store is to do
 abbrev pub worked : Objects → StoreWork → Objects

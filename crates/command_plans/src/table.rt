@@ -2,6 +2,7 @@
 ghost use Rattle.std.specs.Prelude.{◌≡◌, ◌≢◌, ◌<◌, ◌≤◌, Some, None, length, IfOk, MatchBool, not};
 ghost use Rattle.std.specs.Option.{option_map};
 ghost use Rattle.std.specs.FinMap as map;
+ghost use Rattle.volume_terms.specs.Sizes.{descriptors};
 ghost use Rattle.posix_profile.specs.Changes.{free_descriptor};
 ghost use Rattle.posix_profile.specs.State.{Handle};
 ghost use Rattle.posix_profile.specs.WellFormed.{IsOpen};
@@ -58,7 +59,7 @@ impl DescriptorTable {
 
     /// The descriptor stands for this. One that there is not stays as it is.
     pub fn put(&mut self, fd: u32, description: OpenDescription)
-        ensures puts { fd < 64 → handles_in self.new ≡ map.insert (handles_in self.old) fd (handle_of description) }
+        ensures puts { fd < descriptors → handles_in self.new ≡ map.insert (handles_in self.old) fd (handle_of description) }
         ensures stays { 64 ≤ fd → handles_in self.new ≡ handles_in self.old }
     {
         if fd < DESCRIPTORS {

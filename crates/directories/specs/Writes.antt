@@ -3,7 +3,7 @@ use Rattle.std.specs.Prelude.{◌≡◌, ◌≢◌, ◌⊎◌, ◌<◌, ◌≤�
 use Rattle.std.specs.Int.{div_ceil}
 use Rattle.page_tags.specs.Headers.{IsHeader, header_bytes}
 use Rattle.page_tags.specs.Slots.{Entry}
-use Rattle.volume_terms.specs.Sizes.{Sizes, page_slots}
+use Rattle.volume_terms.specs.Sizes.{Sizes, page_slots, slot_length}
 use Rattle.pages.specs.Maps.{PageMap, IsPageOf}
 use Rattle.flash_tree.specs.declared.place.FreshPage.{FreshPage}
 use Rattle.pages.specs.declared.change.Change.{Change}
@@ -29,7 +29,7 @@ pub record IsSlotPage (z : Sizes) (old : PageMap) (d : ℕ) (writing : Writing) 
   pub here : SlotAt page.bytes.items (writing.number % page_slots z) entry
   pub kept : (k : ℕ) (e : Entry) → k ≢ writing.number → k < writing.before → k < writing.afterwards → k / page_slots z ≡ writing.number / page_slots z → SlotOf z old d k e
       → SlotAt page.bytes.items (k % page_slots z) e
-  pub past : (j : ℕ) → 272 * (writing.afterwards - writing.number / page_slots z * page_slots z) ≤ j → slice_index page.bytes.items j ≡ 0
+  pub past : (j : ℕ) → slot_length * (writing.afterwards - writing.number / page_slots z * page_slots z) ≤ j → slice_index page.bytes.items j ≡ 0
 
 -- the directory has this header
 pub record HasHead (z : Sizes) (m : PageMap) (d : ℕ) (head : DirectoryHead) : Type 0 where
@@ -54,7 +54,7 @@ HasKey change o c = (i : ℕ) × IsPageOf change.pages.items o c i
 
 -- the bytes of slot i of the directory's page, whatever they say
 abbrev pub IsSlotBytes : Sizes → PageMap → ℕ → ℕ → List ℕ → Type 0
-IsSlotBytes z m d i bytes = (page : List ℕ) × (m d (1 + i / page_slots z) ≡ Some page) × (bytes ≡ take 272 (drop (272 * (i % page_slots z)) page))
+IsSlotBytes z m d i bytes = (page : List ℕ) × (m d (1 + i / page_slots z) ≡ Some page) × (bytes ≡ take slot_length (drop (slot_length * (i % page_slots z)) page))
 
 -- the directory has this header, and the last slot stands in place of the one that went; the others stay
 pub record LosesSlot (z : Sizes) (old new : PageMap) (d : ℕ) (head : DirectoryHead) (i : ℕ) : Type 0 where

@@ -4,7 +4,7 @@ ghost use Rattle.std.specs.FinMap as map;
 ghost use Rattle.std.specs.Int.{div_ceil};
 ghost use Rattle.page_tags.specs.Slots.{Entry, IsSlot, slot_bytes};
 ghost use Rattle.flash_tree.specs.Tree.{ReadsDir};
-ghost use Rattle.volume_terms.specs.Sizes.{Sizes, page_slots};
+ghost use Rattle.volume_terms.specs.Sizes.{Sizes, page_slots, slot_length};
 ghost use Rattle.posix_profile.specs.State.{Entries};
 ghost use Rattle.pages.specs.Faults.{MayLackMemory, SaysWhyMaking};
 ghost use Rattle.pages.specs.Maps.{PageMap, has};
@@ -70,7 +70,7 @@ fn take_chunk<P: Pages>(
     count: u32,
     entries: &mut NameMap,
 ) -> Result<(), PageFault>
-    requires { 272 * count ≤ (P.state pages.old).page_bytes }
+    requires { slot_length * count ≤ (P.state pages.old).page_bytes }
     ensures finds { OnlyFinds (P.state pages.old) (P.state pages.new) }
     ensures asked { (P.state pages.new).asked ≤ (P.state pages.old).asked + 1 }
     ensures power { OnOk result (KeepsPower (P.state pages.old) (P.state pages.new)) }
@@ -97,7 +97,7 @@ fn take_page(
     count: u32,
     entries: &mut NameMap,
 ) -> Result<(), PageFault>
-    requires room { 272 * count ≤ length page.now }
+    requires room { slot_length * count ≤ length page.now }
     requires few { length page.now ≤ 4096 }
     ensures told { (z : Sizes) (m : PageMap) (d : ℕ) → m d (1 + chunk) ≡ Some page.now → z.page_bytes ≡ length page.now → ReadsFirst z m d (chunk * page_slots z) entries.old
         → IfOk result (λ _. ReadsFirst z m d (chunk * page_slots z + count) entries.new) }
@@ -113,7 +113,7 @@ fn take_page(
 
 /// Puts the entry that the bytes of a slot say into a map. A name that is there already is `Damaged`.
 fn take_entry(alloc: Global, bytes: &[u8], entries: &mut NameMap) -> Result<(), PageFault>
-    requires { length bytes.now ≡ 272 }
+    requires { length bytes.now ≡ slot_length }
     ensures told { IfOk result (λ _. (entry : Entry) × IsSlot entry × (bytes.now ≡ slot_bytes entry) × TakesEntry entry entries.old entries.new) }
     ensures why { (new : PagesState) → IfErr result (SaysWhyMaking new) }
     ensures fault { (new : PagesState) (entry : Entry) → IsSlot entry → bytes.now ≡ slot_bytes entry → map.get entries.old entry.name ≡ None → IfErr result (MayLackMemory new) }

@@ -3,7 +3,7 @@ ghost use Rattle.std.specs.Prelude.{◌≡◌, ◌<◌, ◌≤◌, ◌+◌, ◌*
 ghost use Rattle.std.specs.FinMap as map;
 ghost use Rattle.std.specs.Int.{div_ceil};
 ghost use Rattle.page_tags.specs.Slots.{Entry, IsSlot, slot_bytes};
-ghost use Rattle.volume_terms.specs.Sizes.{Sizes, page_slots};
+ghost use Rattle.volume_terms.specs.Sizes.{Sizes, page_slots, slot_length};
 ghost use Rattle.posix_profile.specs.State.{Entries};
 ghost use Rattle.pages.specs.Afterwards.{after, IsSizedBy};
 ghost use Rattle.pages.specs.Faults.{MayLack, SaysWhy};
@@ -57,7 +57,7 @@ pub(crate) fn search<P: Pages>(
 ) -> Result<Option<Located>, PageFault>
     requires { IsSizedBy (option_copied earlier) (P.state pages.old).page_bytes }
     ensures finds { OnlyFinds (P.state pages.old) (P.state pages.new) }
-    ensures asked { (P.state pages.new).asked ≤ (P.state pages.old).asked + div_ceil length ((P.state pages.old).page_bytes / 272) }
+    ensures asked { (P.state pages.new).asked ≤ (P.state pages.old).asked + div_ceil length ((P.state pages.old).page_bytes / slot_length) }
     ensures power { OnOk result (KeepsPower (P.state pages.old) (P.state pages.new)) }
     ensures within { IfOk result (λ found. IfSome found (λ it. it.place < length)) }
     ensures told { (P.state pages.old).sound ≡ true → (z : Sizes) → z.page_bytes ≡ (P.state pages.old).page_bytes
@@ -87,12 +87,12 @@ fn search_chunk<P: Pages>(
     name: &[u8],
 ) -> Result<Option<Located>, PageFault>
     requires sized { IsSizedBy (option_copied earlier) (P.state pages.old).page_bytes }
-    requires room { 272 * count ≤ (P.state pages.old).page_bytes }
-    requires fits { chunk * ((P.state pages.old).page_bytes / 272) + count < 2 ^ 32 }
+    requires room { slot_length * count ≤ (P.state pages.old).page_bytes }
+    requires fits { chunk * ((P.state pages.old).page_bytes / slot_length) + count < 2 ^ 32 }
     ensures finds { OnlyFinds (P.state pages.old) (P.state pages.new) }
     ensures asked { (P.state pages.new).asked ≤ (P.state pages.old).asked + 1 }
     ensures power { OnOk result (KeepsPower (P.state pages.old) (P.state pages.new)) }
-    ensures within { IfOk result (λ found. IfSome found (λ it. it.place < chunk * ((P.state pages.old).page_bytes / 272) + count)) }
+    ensures within { IfOk result (λ found. IfSome found (λ it. it.place < chunk * ((P.state pages.old).page_bytes / slot_length) + count)) }
     ensures told { (P.state pages.old).sound ≡ true → (z : Sizes) → z.page_bytes ≡ (P.state pages.old).page_bytes
         → IfOk result (Finds (SlotOf z (after (option_copied earlier.entry) (P.state pages.old)).present directory) (chunk * page_slots z) (chunk * page_slots z + count) name.now) }
     ensures why { IfErr result (SaysWhy (P.state pages.new)) }
@@ -119,7 +119,7 @@ fn search_chunk<P: Pages>(
 
 /// Looks for a name in the first slots of a page.
 fn search_page(page: &[u8], count: u32, name: &[u8]) -> Result<Option<Located>, PageFault>
-    requires { 272 * count ≤ length page.now }
+    requires { slot_length * count ≤ length page.now }
     ensures told { IfOk result (Finds (SlotAt page.now) 0 count name.now) }
     ensures within { IfOk result (λ found. IfSome found (λ it. it.place < count)) }
     ensures damaged { IfErr result (λ fault. fault ≡ faults.Damaged) }
@@ -135,7 +135,7 @@ fn search_page(page: &[u8], count: u32, name: &[u8]) -> Result<Option<Located>, 
 
 /// The object that the bytes of a slot lead to, if they have this name.
 fn named_in(bytes: &[u8], name: &[u8]) -> Result<Option<u64>, PageFault>
-    requires { length bytes.now ≡ 272 }
+    requires { length bytes.now ≡ slot_length }
     ensures told { IfOk result (λ found. (entry : Entry) × IsSlot entry × (bytes.now ≡ slot_bytes entry) × NamedBy entry name.now found) }
     ensures damaged { IfErr result (λ fault. fault ≡ faults.Damaged) }
     ensures ok { (entry : Entry) → IsSlot entry → bytes.now ≡ slot_bytes entry → IsOk result }

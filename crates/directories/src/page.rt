@@ -1,5 +1,6 @@
 // The slots of a page.
 ghost use Rattle.std.specs.Prelude.{◌≡◌, ◌≢◌, ◌≤◌, ◌+◌, ◌*◌, ◌++◌, ℕ, length, take, drop};
+ghost use Rattle.volume_terms.specs.Sizes.{slot_length};
 ghost use Rattle.page_tags.specs.SlotEntry.{entry_of};
 ghost use Rattle.page_tags.specs.Slots.{IsSlot, slot_bytes};
 
@@ -8,9 +9,9 @@ use volume_terms::SLOT_BYTES;
 
 /// The bytes of a slot of a page.
 pub(crate) fn slot_of(page: &[u8], place: u32) -> &[u8]
-    requires { 272 * place + 272 ≤ length page.now }
-    ensures bytes { result.now ≡ take 272 (drop (272 * place) page.now) }
-    ensures len { length result.now ≡ 272 }
+    requires { slot_length * place + slot_length ≤ length page.now }
+    ensures bytes { result.now ≡ take slot_length (drop (slot_length * place) page.now) }
+    ensures len { length result.now ≡ slot_length }
 {
     let at = SLOT_BYTES * place as usize;
     &page[at..at + SLOT_BYTES]
@@ -18,13 +19,13 @@ pub(crate) fn slot_of(page: &[u8], place: u32) -> &[u8]
 
 /// Writes a slot at its place of a page.
 pub(crate) fn write_slot(slot: &Slot, place: u32, page: &mut [u8])
-    requires room { 272 * place + 272 ≤ length page.old }
+    requires room { slot_length * place + slot_length ≤ length page.old }
     requires valid { IsSlot (entry_of slot.now) }
     ensures size { length page.new ≡ length page.old }
-    ensures here { take 272 (drop (272 * place) page.new) ≡ slot_bytes (entry_of slot.now) }
-    ensures others { (k : ℕ) → k ≢ place → 272 * k + 272 ≤ length page.old
-        → take 272 (drop (272 * k) page.new) ≡ take 272 (drop (272 * k) page.old) }
-    ensures past { drop (272 * place + 272) page.new ≡ drop (272 * place + 272) page.old }
+    ensures here { take slot_length (drop (slot_length * place) page.new) ≡ slot_bytes (entry_of slot.now) }
+    ensures others { (k : ℕ) → k ≢ place → slot_length * k + slot_length ≤ length page.old
+        → take slot_length (drop (slot_length * k) page.new) ≡ take slot_length (drop (slot_length * k) page.old) }
+    ensures past { drop (slot_length * place + slot_length) page.new ≡ drop (slot_length * place + slot_length) page.old }
 {
     let at = SLOT_BYTES * place as usize;
     encode_slot(slot, &mut page[at..at + SLOT_BYTES]);
@@ -32,9 +33,9 @@ pub(crate) fn write_slot(slot: &Slot, place: u32, page: &mut [u8])
 
 /// Copies the first slots of one page to another.
 pub(crate) fn copy_slots(from: &[u8], count: u32, page: &mut [u8])
-    requires there { 272 * count ≤ length from.now }
-    requires room { 272 * count ≤ length page.old }
-    ensures { page.new ≡ take (272 * count) from.now ++ drop (272 * count) page.old }
+    requires there { slot_length * count ≤ length from.now }
+    requires room { slot_length * count ≤ length page.old }
+    ensures { page.new ≡ take (slot_length * count) from.now ++ drop (slot_length * count) page.old }
 {
     let end = SLOT_BYTES * count as usize;
     page[..end].copy_from_slice(&from[..end]);

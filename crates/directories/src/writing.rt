@@ -2,7 +2,7 @@
 ghost use Rattle.std.specs.Prelude.{◌≡◌, ◌≢◌, ◌<◌, ◌≤◌, ◌+◌, ◌-◌, ◌*◌, ◌/◌, ◌++◌, min, ℕ, List, [], true, Some, IfOk, OnOk, IfErr, take, length, replicate, option_copied};
 ghost use Rattle.page_tags.specs.SlotEntry.{entry_of};
 ghost use Rattle.page_tags.specs.Slots.{IsSlot};
-ghost use Rattle.volume_terms.specs.Sizes.{Sizes, page_slots};
+ghost use Rattle.volume_terms.specs.Sizes.{Sizes, page_slots, slot_length};
 ghost use Rattle.pages.specs.Afterwards.{after, IsSizedBy};
 ghost use Rattle.pages.specs.Changes.{IsChange, IsOnlyOf};
 ghost use Rattle.pages.specs.Faults.{MayLackMemory, SaysWhyMaking};
@@ -37,15 +37,15 @@ fn page_with<P: Pages>(
     count: u32,
 ) -> Result<Vec<u8>, PageFault>
     requires sized { IsSizedBy (option_copied earlier) (P.state pages.old).page_bytes }
-    requires room { 272 * count ≤ (P.state pages.old).page_bytes }
+    requires room { slot_length * count ≤ (P.state pages.old).page_bytes }
     ensures finds { OnlyFinds (P.state pages.old) (P.state pages.new) }
     ensures asked { (P.state pages.new).asked ≤ (P.state pages.old).asked + 1 }
     ensures power { OnOk result (KeepsPower (P.state pages.old) (P.state pages.new)) }
     ensures size { IfOk result (λ page. length page.items ≡ (P.state pages.old).page_bytes) }
     ensures page { (P.state pages.old).sound ≡ true → IfOk result (λ page. (xs : List ℕ)
         × (count ≢ 0 → (after (option_copied earlier.entry) (P.state pages.old)).present key.object key.chunk ≡ Some xs)
-        × (272 * count ≤ length xs)
-        × (page.items ≡ take (272 * count) xs ++ replicate ((P.state pages.old).page_bytes - 272 * count) 0)) }
+        × (slot_length * count ≤ length xs)
+        × (page.items ≡ take (slot_length * count) xs ++ replicate ((P.state pages.old).page_bytes - slot_length * count) 0)) }
     ensures why { IfErr result (SaysWhyMaking (P.state pages.new)) }
     ensures fault { (P.state pages.old).sound ≡ true
         → (count ≢ 0 → (xs : List ℕ) × ((after (option_copied earlier.entry) (P.state pages.old)).present key.object key.chunk ≡ Some xs))

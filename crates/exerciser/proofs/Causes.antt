@@ -4,7 +4,7 @@ use Rattle.nand_model.specs.Calls.{Device}
 use Rattle.mounting.specs.declared.fault.MountFault.{MountFault}
 use Rattle.mounting.specs.declared.fault.MountFault.TheVariants as mounts
 use Rattle.powercut.specs.declared.session.SessionEnd.{SessionEnd}
-use Rattle.exerciser.specs.Faults.{IsOfReading, of_mount}
+use Rattle.exerciser.specs.Faults.{of_mount}
 use Rattle.exerciser.specs.Causes.{IsAnswered, CountsCalls, IsOfSession, WhyNotBegun, HasCause}
 use Rattle.exerciser.specs.Cutting.{Goes}
 use Rattle.exerciser.specs.Lines.{IsTold}
@@ -21,22 +21,6 @@ not_counted calls end faults.Unmount counts = tt
 not_counted calls end faults.Unread counts = absurd counts
 not_counted calls end faults.Torn counts = absurd counts
 not_counted calls end faults.Write counts = absurd counts
-
-pub not_read : (fault : CutFault) → IsOfReading fault → IsOfSession fault
-not_read faults.NoMemory of = tt
-not_read (faults.Mount fault) of = absurd of
-not_read faults.Unmount of = absurd of
-not_read faults.Unread of = tt
-not_read faults.Torn of = absurd of
-not_read faults.Write of = absurd of
-
-pub reading_begins : (device : Device) (fault : CutFault) → IsOfReading fault → WhyNotBegun device fault
-reading_begins device faults.NoMemory of = tt
-reading_begins device (faults.Mount fault) of = absurd of
-reading_begins device faults.Unmount of = absurd of
-reading_begins device faults.Unread of = tt
-reading_begins device faults.Torn of = absurd of
-reading_begins device faults.Write of = absurd of
 
 -- two faults of a mount
 abbrev Same : MountFault → MountFault → Type 0

@@ -1,5 +1,5 @@
 -- The pages of a change, as a list.
-use Rattle.std.specs.Prelude.{◌≡◌, ◌≢◌, ◌⊎◌, ℕ, ◌+◌, List, [], ◌∷◌, ◌++◌, length, slice_get, Some, None}
+use Rattle.std.specs.Prelude.{◌≡◌, ◌⊎◌, ℕ, ◌+◌, List, [], ◌∷◌, ◌++◌, length, slice_get, Some, None}
 use Rattle.std.proofs.Common.{sym, ◌∙◌, ap, subst, inl, inr, arith}
 use Rattle.volume_terms.specs.laws.List.{get_push, push_before, push_last}
 use Rattle.pages.specs.Maps.{PageMap, with_pages, IsPageOf}
@@ -98,7 +98,3 @@ module _ (o : ℕ) (IsOne : ℕ → Type 0) (pages : List FreshPage) (of : AreOf
   -- one that they do not have
   pub none_of : (c : ℕ) → (IsOne c → ⊥) → with_pages pages m o c ≡ m o c
   none_of c none = page_elsewhere pages m o c (λ i is. none (subst IsOne is.chunk (of.each i is.page is.there).1))
-
-  -- another object's
-  pub other_of : (p c : ℕ) → p ≢ o → with_pages pages m p c ≡ m p c
-  other_of p c other = page_elsewhere pages m p c (λ i is. other (sym is.object ∙ (of.each i is.page is.there).0))

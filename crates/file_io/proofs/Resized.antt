@@ -38,14 +38,6 @@ one_cut o kept chunks more x object from = record {
         (sym is ∙ ap (λ (w : Cut). w.object) (sym one) ∙ object, omega (arith, from, at), more)
     only p c (suc i) y there is past = let two : None ≡ Some y = there in absurd cc
 
--- nothing is cut where no more is there
-pub none_cut : (o kept chunks : ℕ) (cuts : List Cut) → cuts ≡ [] → chunks ≤ kept → CutsFrom o kept chunks cuts
-none_cut o kept chunks cuts none few = record {
-  only = λ p c i is. let two : None ≡ Some is.cut = ap (λ (xs : List Cut). slice_get xs i) (sym none) ∙ is.there in absurd cc;
-  all = λ c less past. absurd (omega (arith, less, few));
-  few = omega (arith, ap length none);
-}
-
 -- rounded up
 pub ceil_high : (n d : ℕ) → 1 ≤ d → n ≤ (n + d - 1) / d * d
 ceil_high n d some = let up : n + d - 1 < (n + d - 1) / d * d + d = lt-div-mul-add (omega (arith, some)) in omega (arith, up, some)

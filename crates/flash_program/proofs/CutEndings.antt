@@ -1,5 +1,5 @@
 -- How sessions that are cut end.
-use Rattle.std.proofs.Common.{◌≡◌, ◌⊎◌, inl, inr, ℕ, List, length, Option, Result, Ok, Err, refl, sym, subst}
+use Rattle.std.proofs.Common.{◌≡◌, inl, inr, ℕ, List, length, Option, Result, Ok, Err, refl, sym, subst}
 use Rattle.std.specs.Global.{Vec}
 use Rattle.std.specs.Prelude.{IfErr}
 use Rattle.exerciser.specs.Causes.{HasCause}
@@ -9,7 +9,7 @@ use Rattle.line_shell.specs.Scripts.{ReadsScript}
 use Rattle.exerciser.specs.Draws.{session_word}
 use Rattle.nand_model.specs.Calls.{Device}
 use Rattle.posix_profile.specs.declared.command.Stamped.{Stamped}
-use Rattle.flash_program.specs.Images.{NotOpened, Opens, IsCopy, ReadsInput, CutEnds, of_script, of_cut, cut_ended}
+use Rattle.flash_program.specs.Images.{NotOpened, IsCopy, ReadsInput, CutEnds, of_script, of_cut, cut_ended}
 use Rattle.flash_program.specs.declared.fault.ProgramFault.{ProgramFault}
 use Rattle.flash_program.specs.declared.fault.ProgramFault.TheVariants as faults
 

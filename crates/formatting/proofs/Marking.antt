@@ -1,11 +1,11 @@
 -- Each failure of a formatting marks a block.
 use Rattle.std.specs.Prelude.{◌≡◌, ◌<◌, ℕ, ◌+◌, Bool, false, count_by, OnOk, Result, Ok, Err}
 use Rattle.std.specs.List.{range_with_len}
-use Rattle.std.proofs.Common.{◌∙◌, ap, subst, arith}
+use Rattle.std.proofs.Common.{◌∙◌, ap, arith}
 use Rattle.nand_model.specs.Calls.{Device, Marks}
 use Rattle.nand_model.specs.declared.nand.Gone.{Gone}
 use Rattle.flash_tree.specs.Mount.{bad_blocks}
-use Rattle.formatting.specs.Formatting.{Keeps, EachFailureMarks}
+use Rattle.formatting.specs.Formatting.{EachFailureMarks}
 use Rattle.formatting.proofs.Counting.{count_new}
 
 -- no mark and no failure
@@ -22,10 +22,3 @@ marks_one b old mid new (Ok done) inside good same failed does =
     count_new old.flash.bad new.flash.bad b 0 old.geometry.blocks (λ k ne. does.other_bads k ne ∙ ap (λ (f : ℕ → Bool). f k) same) good does.bad (omega arith) (omega (arith, inside)) in
     omega (arith, more, failed, does.ends.failures)
 marks_one b old mid new (Err gone) inside good same failed does = tt
-
--- one step and then another
-pub marks_on : (a b c : Device) → Keeps a b → EachFailureMarks a b → EachFailureMarks b c → EachFailureMarks a c
-marks_on a b c keeps first then =
-    let on : bad_blocks a.geometry c.flash + b.failures ≡ bad_blocks a.geometry b.flash + c.failures =
-    subst (λ g. bad_blocks g c.flash + b.failures ≡ bad_blocks g b.flash + c.failures) keeps.lasts.geometry then in
-    omega (arith, on, first)

@@ -1,10 +1,10 @@
 -- The first piece of a word, by its first bytes.
-use Rattle.std.proofs.Common.{◌≡◌, ◌≢◌, ◌<◌, ◌≤◌, ◌+◌, ℕ, cond, List, [], ◌∷◌, ◌++◌, get_or, length, drop, filter, nat_lt, Option, Some, None, option_and_then, option_map, option_to_list, refl, sym, ap, ◌∙◌, arith, ne_eqb, eqb, append_assoc, append-nil, drop_of_length-le, drop-drop, drop-cons, add-one, lt-ltb, flat_map, Bor}
+use Rattle.std.proofs.Common.{◌≡◌, ◌≢◌, ◌<◌, ◌≤◌, ◌+◌, ℕ, cond, List, [], ◌∷◌, ◌++◌, get_or, length, drop, filter, nat_lt, Option, Some, None, option_and_then, option_map, refl, sym, ap, ◌∙◌, arith, ne_eqb, eqb, append_assoc, append-nil, drop_of_length-le, drop-cons, add-one, lt-ltb, flat_map, Bor}
 use Rattle.std.proofs.Common.{map as list_map}
 use Rattle.std.proofs.lemmas.Bool.{le-ltb}
 use Rattle.std.specs.List.{slice_split}
 use Rattle.line_shell.specs.Words.{backslash, letter_e, letter_x, onto, short_escape, digit_escape, byte_of_digits, unescaped, both, all_unescaped, spelled, spelled_byte, space, words}
-use Rattle.line_shell.specs.Pieces.{before, IsPiece}
+use Rattle.line_shell.specs.Pieces.{IsPiece}
 
 -- a byte that is no backslash stands for itself
 pub reads_plain : (b : ℕ) (bs : List ℕ) → b ≢ backslash → unescaped (b ∷ bs) ≡ onto b (unescaped bs)
@@ -100,25 +100,6 @@ none_other word some first one two three =
 -- some bytes, and then those of the rest
 abbrev pub ahead : List ℕ → Option (List ℕ) → Option (List ℕ)
 ahead text rest = option_map (λ more. text ++ more) rest
-
-ahead-none : (text : List ℕ) (rest : Option (List ℕ)) → ahead text rest ≡ ahead (text ++ []) rest
-ahead-none text None = refl
-ahead-none text (Some more) = ap (λ l. Some (l ++ more)) (sym (append-nil text))
-
-ahead-onto : (text : List ℕ) (b : ℕ) (rest : Option (List ℕ)) → ahead text (onto b rest) ≡ ahead (text ++ b ∷ []) rest
-ahead-onto text b None = refl
-ahead-onto text b (Some more) = ap Some (sym (append_assoc text (b ∷ []) more))
-
-ahead-before : (text : List ℕ) (byte : Option ℕ) (rest : Option (List ℕ)) → ahead text (before byte rest) ≡ ahead (text ++ option_to_list byte) rest
-ahead-before text None rest = ahead-none text rest
-ahead-before text (Some b) rest = ahead-onto text b rest
-
--- one piece more
-pub reads_more : (word text : List ℕ) (at size : ℕ) (byte : Option ℕ) → unescaped word ≡ ahead text (unescaped (drop at word)) → IsPiece (drop at word) byte size
-    → unescaped word ≡ ahead (text ++ option_to_list byte) (unescaped (drop (at + size) word))
-reads_more word text at size byte so_far piece =
-    so_far ∙ ap (ahead text) piece.reads ∙ ahead-before text byte (unescaped (drop size (drop at word)))
-    ∙ ap (λ l. ahead (text ++ option_to_list byte) (unescaped l)) (drop-drop size at word)
 
 -- nothing is left
 pub reads_all : (word text : List ℕ) (at : ℕ) → length word ≤ at → unescaped word ≡ ahead text (unescaped (drop at word)) → Some text ≡ unescaped word

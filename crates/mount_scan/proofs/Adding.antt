@@ -71,10 +71,6 @@ adds_page b p t tags old at = adds_push (IsPageAt b tags p) old (record { block 
 pub adds_no_page : (b p : ℕ) (tags : List (Option Tag)) (old : List Found) → slice_get tags p ≡ Some None → AddsPage b tags p old old
 adds_no_page b p tags old at = adds_none (IsPageAt b tags p) old (λ f is. let two : Some (Some f.tag) ≡ Some None = sym is.tag ∙ at in absurd cc)
 
--- at first nothing is added
-pub adds_at_start : (b : ℕ) (tags : List (Option Tag)) (old : List Found) → AddsCounted b tags 0 old old
-adds_at_start b tags old = adds_none (IsCountedIn b tags 0) old (λ f is. absurd (omega (arith, is.before)))
-
 -- a page that counts is added to those before it
 pub adds_counted : (b p end : ℕ) (tags : List (Option Tag)) (first old new : List Found) → Reaches tags (p + 1) p end → p < end → AddsPage b tags p old new
     → AddsCounted b tags p first old → AddsCounted b tags (p + 1) first new
@@ -135,11 +131,4 @@ pub reaches_on : (tags : List (Option Tag)) (n p end : ℕ) → Reaches tags n p
 reaches_on tags n p end reach = record {
   covers = λ start page lt from within. reach.covers start page lt (omega (arith, from)) within;
   covered = λ page from lt. reach.covered page (omega (arith, from)) lt;
-}
-
--- before the first page none begins
-pub reaches_at_start : (tags : List (Option Tag)) → Reaches tags 0 0 0
-reaches_at_start tags = record {
-  covers = λ start page lt from within. absurd (omega (arith, lt));
-  covered = λ page from lt. absurd (omega (arith, lt));
 }

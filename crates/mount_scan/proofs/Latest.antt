@@ -92,13 +92,6 @@ last_passed list i kept goes_on are = record {
   order = are.order;
 }
 
--- at first none is
-pub last_at_start : (list : List Found) → AreLastOfKeys list 0 []
-last_at_start list = record {
-  each = λ f. (λ has. absurd (omega (arith, has.1)), λ is. absurd (omega (arith, is.before)));
-  order = λ i j d lt within. absurd (omega (arith, within));
-}
-
 -- a list that has a page where another has it
 same_there : (xs ys : List Found) (k : ℕ) (x : Found) → length ys ≡ length xs → ((d : Found) → get_or ys k d ≡ get_or xs k d) → slice_get xs k ≡ Some x → slice_get ys k ≡ Some x
 same_there xs ys k x len same at =
@@ -130,10 +123,6 @@ gather_passed first list i kept goes_on are = record {
       (same_there list first (i + 1) g (sym are.len) (λ d. sym (are.rest (i + 1) d (omega arith))) at_g))) are.last;
   rest = λ k d le. are.rest k d (omega (arith, le));
 }
-
--- at first none is gathered
-pub gather_none : (first : List Found) → Gathers first 0 first 0
-gather_none first = record { len = refl; front = omega arith; last = last_at_start first; rest = λ k d le. refl }
 
 -- a page is the last of its key, or the last is found from the next one on
 last_or_next : (list : List Found) (k : ℕ) (x next : Found) → slice_get list k ≡ Some x → slice_get list (k + 1) ≡ Some next

@@ -13,14 +13,6 @@ use Rattle.mount_scan.proofs.Tagged.{tag_told}
 at_most_on : (a b c : Numbers) → AreAtMost a b → AreAtMost b c → AreAtMost a c
 at_most_on a b c first then = record { version = omega (arith, first.version, then.version); group = omega (arith, first.group, then.group); seq = omega (arith, first.seq, then.seq) }
 
--- no tag raises nothing
-pub raised_none : (tags : List (Option Tag)) (n : Numbers) → AreRaisedBy tags 0 n n
-raised_none tags n = record {
-  keeps = record { version = omega arith; group = omega arith; seq = omega arith };
-  above = λ l t lt at. absurd (omega (arith, lt));
-  least = λ m keeps above. keeps;
-}
-
 -- a page with no tag raises nothing
 pub raised_skip : (tags : List (Option Tag)) (i : ℕ) (n m : Numbers) → slice_get tags i ≡ Some None → AreRaisedBy tags i n m → AreRaisedBy tags (i + 1) n m
 raised_skip tags i n m none is = record {
@@ -78,13 +70,6 @@ module _ (f : Flash) where
       | inl here ↦ absurd (false≢true (sym good ∙ ap f.bad here ∙ bad))
     ];
     least = λ k above. is.least k (λ j l t lt. above j l t (omega (arith, lt)));
-  }
-
-  -- before the first block all are 0
-  pub greatest_none : AreGreatestBelow f 0 (record { version = 0; group = 0; seq = 0 })
-  greatest_none = record {
-    above = λ k l t lt good has. absurd (omega (arith, lt));
-    least = λ k above. record { version = omega arith; group = omega arith; seq = omega arith };
   }
 
   -- below the end of the device they are the greatest of all

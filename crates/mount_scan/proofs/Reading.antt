@@ -1,7 +1,7 @@
 -- How many pages a scan has read.
-use Rattle.std.specs.Prelude.{◌≡◌, ℕ, zero, suc, ◌+◌, ◌-◌, ◌<◌, ◌≤◌, Bool, true, false, Ok, Err, if◌then◌else◌}
+use Rattle.std.specs.Prelude.{◌≡◌, ℕ, zero, suc, ◌+◌, ◌-◌, ◌<◌, ◌≤◌, Bool, false, Ok, Err, if◌then◌else◌}
 use Rattle.std.proofs.Common.{sym, ◌∙◌, ap, subst, arith, inl, inr}
-use Rattle.std.proofs.lemmas.Bool.{cases_Bool, false≢true}
+use Rattle.std.proofs.lemmas.Bool.{cases_Bool}
 use Rattle.std.proofs.lemmas.List.FromFn.{sum_by-map-range_with_len_more}
 use Rattle.nand_model.specs.Flash.{Flash}
 use Rattle.nand_model.specs.Calls.{Device}
@@ -30,40 +30,15 @@ read_on p q a b c first next = record {
   power = λ is. next.power (first.power is);
 }
 
--- one read of a device that has power then
-pub read_one : (a b : Device) → OnlyReads a b → (a.gone ≡ false → b.reads ≡ a.reads + 1) → b.gone ≡ false → HasRead 1 a b
-read_one a b only asked has = record {
-  only = only;
-  each = elim (cases_Bool a.gone) [
-    | inr was ↦ asked was
-    | inl gone ↦ absurd (false≢true (sym has ∙ ap (λ (d : Device). d.gone) (only.lasts.gone gone) ∙ gone))
-  ];
-  power = λ was. has;
-}
-
 at_most_one : (a b : Device) → OnlyReads a b → (a.gone ≡ false → b.reads ≡ a.reads + 1) → b.reads ≤ a.reads + 1
 at_most_one a b only asked = elim (cases_Bool a.gone) [
   | inr was ↦ let one : b.reads ≡ a.reads + 1 = asked was in omega (arith, one)
   | inl gone ↦ let same : b.reads ≡ a.reads = ap (λ (d : Device). d.reads) (only.lasts.gone gone) in omega (arith, same)
 ]
 
--- all were read
-pub ends_done : {T : Type 0} (n : ℕ) (a b : Device) (done : T) → HasRead n a b → ReadsEach n a b (Ok done)
-ends_done n a b done read = record { only = read.only; most = omega (arith, read.each); each = read.each; gone = read.power }
-
 -- some were, and memory was refused
 pub ends_refused : {T : Type 0} (p n : ℕ) (a b : Device) → HasRead p a b → p ≤ n → ReadsEach {T = T} n a b (Err faults.NoMemory)
 ends_refused p n a b read le = record { only = read.only; most = omega (arith, read.each, le); each = tt; gone = read.power }
-
--- some were, and in the next read the power went or was gone
-pub ends_gone : {T : Type 0} (p n : ℕ) (a b c : Device) → HasRead p a b → p + 1 ≤ n → OnlyReads b c → (b.gone ≡ false → c.reads ≡ b.reads + 1) → c.gone ≡ true
-    → ReadsEach {T = T} n a c (Err faults.Gone)
-ends_gone p n a b c read le only asked gone = record {
-  only = only_reads_on a b c read.only only;
-  most = omega (arith, read.each, le, at_most_one b c only asked);
-  each = tt;
-  gone = gone;
-}
 
 gone_on : (T U : Type 0) (a b c : Device) (e : ScanFault) → (a.gone ≡ false → b.gone ≡ false) → TellsGone {T = T} b c (Err e) → TellsGone {T = U} a c (Err e)
 gone_on T U a b c faults.NoMemory power tells = λ was. tells (power was)

@@ -1,5 +1,5 @@
 -- What follows the head of an image: marks, pages, and then nothing.
-use Rattle.std.proofs.Common.{◌≡◌, ◌<◌, ℕ, ◌+◌, ◌*◌, ◌/◌, ◌%◌, List, length, drop, slice_index, Option, Some, ap, sym, subst, ◌∙◌, arith, length-drop, get_or-take}
+use Rattle.std.proofs.Common.{◌≡◌, ◌<◌, ℕ, ◌+◌, ◌*◌, ◌/◌, ◌%◌, List, length, drop, slice_index, Option, Some, ap, sym, ◌∙◌, arith, length-drop, get_or-take}
 use Rattle.std.proofs.lemmas.List.{drop-drop}
 use Rattle.std.proofs.Math.Nat.{mul_comm}
 use Rattle.std.proofs.lemmas.Nat.{mul-add-lt, div-mul-add, mod-mul-add}
@@ -66,15 +66,3 @@ module _ (g : Geometry) (old mid new : Option (List ℕ)) (marks : List ℕ) (wi
       let p = pages behind m.rest in
       let some = long (drop (g.blocks * g.pages * slot_size g) behind) p.rest in
       absurd (omega (arith, some, size, wide, p.within, m.within, length-drop (g.blocks * g.pages * slot_size g) behind, length-drop (length marks) left))
-
--- too few bytes for the marks
-pub marks_fault : (fault : ImageFault) (g : Geometry) (old : Option (List ℕ)) (n : ℕ) → n ≡ g.blocks → IsShort old n fault → IsOfOtherSize old (body_size g) fault
-marks_fault faults.Read g old n wide short = tt
-marks_fault faults.Write g old n wide short = short
-marks_fault faults.Magic g old n wide short = short
-marks_fault faults.BadGeometry g old n wide short = short
-marks_fault faults.NoMemory g old n wide short = tt
-marks_fault faults.Size g old n wide short = λ left is size. absurd (omega (arith, short left is, size, wide))
-
-pub memory_fault : (fault : ImageFault) (old : Option (List ℕ)) (n : ℕ) → fault ≡ faults.NoMemory → IsOfOtherSize old n fault
-memory_fault fault old n is = subst (IsOfOtherSize old n) (sym is) tt

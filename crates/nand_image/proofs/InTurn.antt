@@ -28,10 +28,6 @@ stops_after a b c xs ys rest first stops =
       adds = subst (λ l. Adds a c l) (sym front) (adds_on a b c xs (take stops.count ys) first stops.adds);
     }
 
--- it stopped before anything was done
-pub stops_here : (old : Option (List Write)) (planned : List Write) → 0 < length planned → StopsIn planned old old
-stops_here old planned some = record { count = 0; some_missing = some; adds = adds_none old }
-
 -- some writes, and then all others or some of them
 pub writes_on : {X E : Type 0} (a b c : Option (List Write)) (xs ys : List Write) (result : Result X E) → Adds a b xs → WritesAll ys b c result → WritesAll (xs ++ ys) a c result
 writes_on a b c xs ys (Ok done) first then = adds_on a b c xs ys first then

@@ -9,7 +9,7 @@ use Rattle.nand_model.specs.declared.geometry.Geometry.{Geometry}
 use Rattle.nand_image.specs.Layout.{slot_size, image_size}
 use Rattle.nand_image.specs.Images.{told_bytes, told_pages, told_blocks, told_size, TellsSize, HasHead, HasSizes, IsImage, page_in}
 use Rattle.nand_image.specs.Opening.{Explains}
-use Rattle.nand_image.specs.Readings.{IsHead, TakesHead, IsNoHead, body_size, IsBody, IsOfOtherSize}
+use Rattle.nand_image.specs.Readings.{IsHead, TakesHead, body_size, IsBody, IsOfOtherSize}
 use Rattle.nand_image.specs.declared.fault.ImageFault.{ImageFault}
 use Rattle.nand_image.specs.declared.fault.ImageFault.TheVariants as faults
 
@@ -71,15 +71,6 @@ module _ (image head : List ℕ) (now : Option (List ℕ)) (is_head : IsHead hea
           let place : ℕ = (b * g.pages + p) * slot_size g in
           let joined : 32 + (g.blocks + place) ≡ 32 + g.blocks + place = omega arith in
           body.pages b p less few ∙ ap (page_in g.bytes) (drop-drop (g.blocks + place) 32 image ∙ ap (λ n. drop n image) joined)
-
--- a head that isn't there
-pub explains_no_head : (fault : ImageFault) (old : Option (List ℕ)) → IsNoHead old fault → Explains old fault
-explains_no_head faults.Read old none = tt
-explains_no_head faults.Write old none = none
-explains_no_head faults.Size old none = absurd none
-explains_no_head faults.Magic old none = on_some old (λ image. ¬ HasHead image) none
-explains_no_head faults.BadGeometry old none = absurd none
-explains_no_head faults.NoMemory old none = absurd none
 
 -- sizes that no device has
 pub explains_bad : (fault : ImageFault) (old now : Option (List ℕ)) (head : List ℕ) → TakesHead old now head → (fault ≡ faults.BadGeometry) × (¬ TellsSize head) → Explains old fault

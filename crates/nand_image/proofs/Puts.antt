@@ -1,9 +1,9 @@
 -- Marks and pages that are put one after the other.
-use Rattle.std.proofs.Common.{◌≡◌, ◌≢◌, ℕ, ◌+◌, true, List, slice_index, refl, ap, sym, ◌∙◌, inl, inr, arith, below_more}
+use Rattle.std.proofs.Common.{ℕ, List, refl, ap, ◌∙◌, inl, inr, arith}
 use Rattle.std.proofs.lemmas.Bool.{cases_eq}
 use Rattle.nand_model.specs.Flash.{Page}
 use Rattle.nand_model.specs.Calls.{Device}
-use Rattle.nand_model.specs.Putting.{Rests, PutsMark, PutsPage}
+use Rattle.nand_model.specs.Putting.{Rests, PutsPage}
 use Rattle.nand_image.specs.Readings.{PutsMarks, PutsPages}
 
 pub rests_here : (a : Device) → Rests a a
@@ -28,27 +28,6 @@ marks_none marks a = record {
   other_marks = λ b less not. absurd (omega arith);
   next = refl;
   page = refl;
-}
-
--- the mark of a block is zero
-pub marks_pass : (marks : List ℕ) (n : ℕ) (old new : Device) → PutsMarks marks n old new → slice_index marks n ≡ 0 → PutsMarks marks (n + 1) old new
-marks_pass marks n old new puts is = record {
-  rests = puts.rests;
-  zero_marks = puts.zero_marks;
-  other_marks = below_more (λ b. slice_index marks b ≢ 0 → new.flash.bad b ≡ true) n puts.other_marks (λ not. absurd (not is));
-  next = puts.next;
-  page = puts.page;
-}
-
--- it is another
-pub marks_more : (marks : List ℕ) (n : ℕ) (old mid new : Device) → PutsMarks marks n old mid → slice_index marks n ≢ 0 → PutsMark n mid new → PutsMarks marks (n + 1) old new
-marks_more marks n old mid new puts not mark = record {
-  rests = rests_on old mid new puts.rests mark.rests;
-  zero_marks = λ b is. mark.other_bads b (λ e. not (ap (slice_index marks) (sym e) ∙ is)) ∙ puts.zero_marks b is;
-  other_marks = below_more (λ b. slice_index marks b ≢ 0 → new.flash.bad b ≡ true) n
-      (λ b less is. mark.other_bads b (λ e. absurd (omega (arith, e, less))) ∙ puts.other_marks b less is) (λ _. mark.bad);
-  next = mark.next ∙ puts.next;
-  page = mark.page ∙ puts.page;
 }
 
 pub pages_none : (a : Device) → PutsPages a a

@@ -1,7 +1,6 @@
 -- The pages that a change of objects may write.
-use Rattle.std.specs.Prelude.{◌≡◌, ◌≤◌, ℕ, ◌+◌, List, length, Some, slice_get}
+use Rattle.std.specs.Prelude.{ℕ, ◌+◌, length}
 use Rattle.volume_terms.specs.Rounding.{ceiling}
-use Rattle.flash_tree.specs.declared.place.FreshPage.{FreshPage}
 use Rattle.object_store.specs.declared.change.ObjectChange.{ObjectChange}
 use Rattle.object_store.specs.declared.change.ObjectChange.TheVariants as changes
 

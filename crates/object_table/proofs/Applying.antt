@@ -1,17 +1,17 @@
 -- What a change of objects lets a table do, step by step.
-use Rattle.std.specs.Prelude.{◌≡◌, ◌≢◌, ◌⊎◌, ◌<◌, ◌≤◌, ◌^◌, ℕ, true, List, [], length, Option, Some, None, is_some, cond}
+use Rattle.std.specs.Prelude.{◌≡◌, ◌≢◌, ◌⊎◌, ◌<◌, ◌≤◌, ℕ, true, Option, Some, None, is_some, cond}
 use Rattle.std.proofs.Common.{refl, sym, ◌∙◌, ap, subst, inl, inr, arith}
 use Rattle.std.proofs.lemmas.Bool.{cases_eq, cond-true, leb-true}
 use Rattle.std.specs.Cmp.{nat_cmp_total}
 use Rattle.std.specs.Cmp.Lexicographic.{slice_cmp, nat_list_cmp_total}
 use Rattle.std.specs.Ordering.{nat_cmp}
 use Rattle.std.specs.FinMap as map
-use Rattle.volume_terms.specs.Sizes.{Sizes, IsSizes, capacity, page_slots, root_number}
+use Rattle.volume_terms.specs.Sizes.{Sizes, IsSizes, capacity, page_slots}
 use Rattle.volume_terms.specs.Rounding.{ceiling}
 use Rattle.posix_profile.specs.State.{Name, Entries, Object, File, Dir, Objects, IsDirectory, entries_of}
 use Rattle.posix_profile.specs.Names.{Names, Reached, root, below}
 use Rattle.posix_profile.specs.Charge.{cost, charge, fits}
-use Rattle.posix_profile.specs.Changes.{new_number, with_name, with_object, without_name}
+use Rattle.posix_profile.specs.Changes.{new_number, with_name, without_name}
 use Rattle.posix_profile.specs.WellFormed.{IsForest, IsNamed}
 use Rattle.posix_profile.specs.declared.reply.Kind.{Kind}
 use Rattle.posix_profile.specs.declared.reply.Kind.TheVariants as kinds
@@ -19,7 +19,7 @@ use Rattle.posix_profile.specs.laws.Charge.{insert_less, without_less}
 use Rattle.posix_profile.specs.laws.Directory.{with_from, without_from, without_kept, there_after, directory_after, directory_before}
 use Rattle.posix_profile.specs.laws.Fresh.{slots_some}
 use Rattle.posix_profile.specs.laws.Map.{cases_key, get_here, get_there, get_removed, removed_none}
-use Rattle.posix_profile.specs.laws.Name.{name_same, one_object, not_both, namer_directory, named_entry}
+use Rattle.posix_profile.specs.laws.Name.{name_same, one_object, namer_directory, named_entry}
 use Rattle.posix_profile.specs.laws.Number.{new_number_is, capacity_few}
 use Rattle.posix_profile.specs.laws.Total.{total_insert}
 use Rattle.posix_profile.specs.laws.Write.{ceiling_at_most}

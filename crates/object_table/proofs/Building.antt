@@ -1,5 +1,5 @@
 -- What a table that is being made has after an object came.
-use Rattle.std.specs.Prelude.{◌≡◌, ℕ, List, [], length, Option, Some, None, Result, Ok, Err, OnErr}
+use Rattle.std.specs.Prelude.{◌≡◌, ℕ, [], Option, Some, None, Result, Ok, Err, OnErr}
 use Rattle.std.proofs.Common.{refl, sym, ◌∙◌, ap, subst}
 use Rattle.std.specs.Ordering.{nat_cmp}
 use Rattle.std.specs.Cmp.{nat_cmp_total}
@@ -15,7 +15,7 @@ use Rattle.posix_profile.specs.laws.Map.{get_here}
 use Rattle.posix_profile.specs.laws.Name.{not_both, namer_directory, named_entry}
 use Rattle.object_store.specs.Changes.{NamesNothing}
 use Rattle.object_table.specs.Built.{IsBare}
-use Rattle.object_table.specs.Counted.{told_at, Counts, CountsTheSame}
+use Rattle.object_table.specs.Counted.{Counts, CountsTheSame}
 use Rattle.object_table.specs.Facts.{bare_facts, AreFactsOf, IsTold}
 use Rattle.object_table.specs.declared.facts.ObjectFacts.{ObjectFacts}
 use Rattle.object_table.specs.declared.counted_facts.CountedFacts.{CountedFacts}

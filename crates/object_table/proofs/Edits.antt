@@ -1,5 +1,5 @@
 -- What counted facts stand for after a change.
-use Rattle.std.specs.Prelude.{◌≡◌, ◌≢◌, ◌⊎◌, ◌<◌, ◌≤◌, ◌+◌, ◌-◌, ◌^◌, min, ℕ, true, false, List, [], length, map as list_map, Option, Some, None, is_some, cond}
+use Rattle.std.specs.Prelude.{◌≡◌, ◌≢◌, ◌⊎◌, ◌<◌, ◌+◌, ◌-◌, ◌^◌, min, ℕ, true, false, List, [], length, map as list_map, Option, Some, None, is_some, cond}
 use Rattle.std.proofs.Common.{refl, sym, ◌∙◌, ap, subst, inl, inr, arith}
 use Rattle.std.proofs.lemmas.Bool.{cases_eq, cond-true, cond-false}
 use Rattle.std.specs.List.{sum_by}
@@ -8,7 +8,7 @@ use Rattle.std.specs.Cmp.{nat_cmp_total}
 use Rattle.std.specs.Cmp.Lexicographic.{slice_cmp, nat_list_cmp_total}
 use Rattle.std.specs.FinMap as map
 use Rattle.std.proofs.lemmas.List.{nil_from_length}
-use Rattle.volume_terms.specs.Sizes.{Sizes, page_slots}
+use Rattle.volume_terms.specs.Sizes.{Sizes}
 use Rattle.volume_terms.specs.Rounding.{ceiling}
 use Rattle.posix_profile.specs.State.{Name, Entries, Object, File, Dir, Objects, IsFile, IsDirectory, entries_of}
 use Rattle.posix_profile.specs.Names.{Names}
@@ -20,20 +20,19 @@ use Rattle.posix_profile.specs.declared.reply.Kind.TheVariants as kinds
 use Rattle.posix_profile.specs.laws.Charge.{without_less}
 use Rattle.posix_profile.specs.laws.Directory.{with_from, with_kept, with_here, without_from, without_kept, directory_after, directory_before}
 use Rattle.posix_profile.specs.laws.Entry.{no_name}
-use Rattle.posix_profile.specs.laws.Link.{Lists, IsSubdirectory}
 use Rattle.posix_profile.specs.laws.Map.{cases_key, keys_fit, get_here, get_there, get_removed, removed_none, remove_cases}
 use Rattle.posix_profile.specs.laws.Name.{name_same, one_object, not_both, namer_directory, named_entry}
 use Rattle.posix_profile.specs.laws.Total.{total_insert, total_without, total_replace}
 use Rattle.object_store.specs.Changes.{NamesNothing, empty_object}
 use Rattle.object_store.specs.Facts.{NamedBy}
 use Rattle.object_table.specs.Facts.{facts_cost, unit_of, IsFileFacts, IsDirectoryFacts, AreFactsOf, IsTold, one_more, entry_added, entry_removed, name_added, name_removed, resized_facts, fresh_facts}
-use Rattle.object_table.specs.Counted.{told_at, sizes_in, charge_in, units_of, Counts, Puts, Drops, Edits, IsCountable, FreshObject, CanGo, GetsName, LosesName}
+use Rattle.object_table.specs.Counted.{told_at, sizes_in, charge_in, units_of, Counts, Puts, Drops, Edits, IsCountable, GetsName, LosesName}
 use Rattle.object_table.specs.declared.facts.ObjectFacts.{ObjectFacts}
 use Rattle.object_table.specs.declared.counted_facts.CountedFacts.{CountedFacts}
 use Rattle.object_table.proofs.Counting.{list_other}
 use Rattle.object_table.proofs.Few.{entries_few, names_listed_few, children_few}
 use Rattle.object_table.proofs.OneName.{HasOneMore, IsOfKind, same_up, same_down, name_more, name_less, entry_more, entry_less, parent_more}
-use Rattle.object_table.proofs.Telling.{SameAt, keeps_same, told_same, facts_cost_is, bytes_names, directory_facts, file_facts}
+use Rattle.object_table.proofs.Telling.{SameAt, keeps_same, told_same, facts_cost_is, bytes_names, directory_facts}
 
 -- facts of what is there are told
 told_is : (objects : Objects) (k : ℕ) (told : Option ObjectFacts) (x : Object) (f : ObjectFacts) → map.get objects k ≡ Some x → told ≡ Some f → AreFactsOf objects k x f → IsTold objects k (map.get objects k) told

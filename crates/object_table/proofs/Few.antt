@@ -1,6 +1,6 @@
 -- The entries and links of a volume are numbers of 64 bits.
 use Rattle.std.specs.Prelude.{◌≡◌, ◌<◌, ◌≤◌, ◌^◌, ◌*◌, ◌+◌, ℕ, List, [], ◌∷◌, length, map as list_map, filter, nat_eq, Bool, Some}
-use Rattle.std.proofs.Common.{refl, sym, ◌∙◌, ap, subst, inl, inr, arith}
+use Rattle.std.proofs.Common.{sym, ◌∙◌, ap, inl, inr, arith}
 use Rattle.std.proofs.lemmas.List.{length-append, length-map}
 use Rattle.std.proofs.lemmas.List.Sums.{length-filter, count_by-le-length, sum_by-cons}
 use Rattle.std.specs.List.{flat_map, sum_by}
@@ -10,12 +10,12 @@ use Rattle.std.specs.FinMap as map
 use Rattle.std.proofs.lemmas.Nat.{mul-le}
 use Rattle.volume_terms.specs.Sizes.{Sizes, IsSizes, page_slots}
 use Rattle.volume_terms.specs.Rounding.{ceiling}
-use Rattle.posix_profile.specs.State.{Name, Entries, Object, File, Dir, Objects, IsDirectory}
+use Rattle.posix_profile.specs.State.{Name, Entries, Object, File, Dir, Objects}
 use Rattle.posix_profile.specs.Names.{Names, names_to, link_pairs}
 use Rattle.posix_profile.specs.Charge.{cost, charge}
 use Rattle.posix_profile.specs.laws.Fresh.{slots_some}
 use Rattle.posix_profile.specs.laws.Link.{Lists, IsSubdirectory, link_pairs_list}
-use Rattle.posix_profile.specs.laws.Map.{Member, get_member, map_member, member_map}
+use Rattle.posix_profile.specs.laws.Map.{Member, get_member, member_map}
 use Rattle.posix_profile.specs.laws.Name.{name_same}
 use Rattle.posix_profile.specs.laws.Total.{total_without}
 use Rattle.posix_profile.specs.laws.Write.{ceiling_at_most}

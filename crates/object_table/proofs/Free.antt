@@ -1,14 +1,14 @@
 -- The least number that is free.
-use Rattle.std.specs.Prelude.{◌≡◌, ◌≢◌, ◌⊎◌, ◌<◌, ◌≤◌, ◌+◌, ◌-◌, ◌&&◌, ℕ, zero, suc, Bool, true, false, not, List, [], ◌∷◌, length, slice_index_or, map as list_map, Option, Some, None, cond, is_some, nat_eq, nat_le, nat_lt, option_and_then}
+use Rattle.std.specs.Prelude.{◌≡◌, ◌≢◌, ◌<◌, ◌≤◌, ◌+◌, ◌-◌, ◌&&◌, ℕ, zero, suc, Bool, true, false, not, List, [], ◌∷◌, length, slice_index_or, map as list_map, Option, Some, None, cond, is_some, nat_eq, nat_le, nat_lt, option_and_then}
 use Rattle.std.proofs.Common.{refl, sym, ◌∙◌, ap, subst, inl, inr, arith}
-use Rattle.std.proofs.lemmas.Bool.{cases_eq, cases_lt, cases_Bool, cond-true, cond-false, true≢false, false≢true, eqb-true, eq-eqb, ne_eqb, lt-ltb, le-leb, ltb-false}
+use Rattle.std.proofs.lemmas.Bool.{cases_eq, cases_lt, cases_Bool, cond-true, cond-false, true≢false, false≢true, eqb-true, eq-eqb, ne_eqb, lt-ltb, le-leb}
 use Rattle.std.proofs.lemmas.Bool.Decides.{nat_tests}
 use Rattle.std.proofs.lemmas.List.{length-map}
 use Rattle.std.proofs.lemmas.List.Sums.{sum_by-cons}
-use Rattle.std.proofs.lemmas.List.Sorted.{length_permutation, sum_by_popped, sum_by_pushed}
+use Rattle.std.proofs.lemmas.List.Sorted.{length_permutation, sum_by_popped}
 use Rattle.std.specs.List.Sorted.{IsPermutation}
 use Rattle.std.specs.List.{sum_by, range_with_len, AllByRecursion}
-use Rattle.std.specs.Ordering.{nat_cmp, is_eq, is_lt}
+use Rattle.std.specs.Ordering.{nat_cmp, is_lt}
 use Rattle.std.specs.Cmp.{nat_cmp_total}
 use Rattle.std.specs.FinMap as map
 use Rattle.std.specs.Map.{lookup}
@@ -19,11 +19,11 @@ use Rattle.std.proofs.lemmas.List.FromFn.{length-range_with_len}
 use Rattle.posix_profile.specs.State.{Objects, Object}
 use Rattle.posix_profile.specs.Changes.{new_number}
 use Rattle.posix_profile.specs.laws.Link.{AreDistinct}
-use Rattle.posix_profile.specs.laws.Map.{Member, member_map, same_key}
+use Rattle.posix_profile.specs.laws.Map.{Member, same_key}
 use Rattle.object_table.specs.Facts.{IsTold}
 use Rattle.object_table.specs.declared.facts.ObjectFacts.{ObjectFacts}
 use Rattle.object_table.specs.declared.free_numbers.FreeNumbers.{FreeNumbers}
-use Rattle.object_table.specs.Taken.{AllTaken, IsLeastFree, Takes, GivesBack, by_number, facts_in, taken_in}
+use Rattle.object_table.specs.Taken.{AllTaken, IsLeastFree, Takes, GivesBack, by_number, taken_in}
 use Rattle.object_table.specs.Numbers.{times, was_given_back, KnowsFree, first_or, next_number}
 use Rattle.object_table.proofs.Counting.{short}
 use Rattle.object_table.proofs.Telling.{new_unique}
@@ -94,9 +94,6 @@ all_taken numbers taken knows items k two lt = go (taken k) refl
         let one' : times k (heap_items numbers.freed) ≡ 1 = knows.freed k ∙ cond-true _ _ _ (is_given taken numbers.low k two lt is) in
         let none : times k (heap_items numbers.freed) ≡ 0 = ap (times k) items in
         absurd (omega (arith, one', none))
-
-pub least_mark : (numbers : FreeNumbers) (taken : ℕ → Bool) → KnowsFree numbers taken → heap_items numbers.freed ≡ [] → IsLeastFree taken numbers.low
-least_mark numbers taken knows items = record { low = knows.low; free = knows.mark; below = all_taken numbers taken knows items }
 
 -- how often a number is counted, by what is taken
 counted_once : (before after : ℕ → Bool) (low n : ℕ) → after n ≡ before n → once (was_given_back after low n) ≡ once (was_given_back before low n)
@@ -184,24 +181,6 @@ gave_back before after low m old new knows gives two lt more n = elim (cases_eq 
       let same = counted_once before after low n (gives.others n ne) in
       omega (arith, more n, knows n, other, same)
 ]
-
--- a number that is none of those below the mark is given back
-pub gave_far : (before after : ℕ → Bool) (low m : ℕ) (items : List (Reverse ℕ)) → ((n : ℕ) → times n items ≡ once (was_given_back before low n)) → GivesBack before after m → (m < 2) ⊎ (low ≤ m)
-    → (n : ℕ) → times n items ≡ once (was_given_back after low n)
-gave_far before after low m items knows gives far n = elim (cases_eq n m) [
-  | inl is ↦
-      let out : (2 ≤ n → n < low → ⊥) = λ two lt. elim far [ inl a ↦ absurd (omega (arith, is, a, two)) | inr b ↦ absurd (omega (arith, is, b, lt)) ] in
-      knows n ∙ none before out ∙ sym (none after out)
-  | inr ne ↦ knows n ∙ sym (counted_once before after low n (gives.others n ne))
-]
-  where
-    none : (taken : ℕ → Bool) → (2 ≤ n → n < low → ⊥) → once (was_given_back taken low n) ≡ 0
-    none taken out = go (nat_le 2 n) (nat_lt n low) refl refl
-      where
-        go : (a b : Bool) → nat_le 2 n ≡ a → nat_lt n low ≡ b → once (a && b && not (taken n)) ≡ 0
-        go true true ea eb = absurd (out (grind (arith, nat_tests)) (grind (arith, nat_tests)))
-        go true false ea eb = refl
-        go false b ea eb = refl
 
 -- no more numbers are taken than there are entries
 entry_of : (facts : List (ℕ × Option ObjectFacts)) (n : ℕ) → is_some (option_and_then (λ f. f) (lookup (is_at (nat_cmp n)) facts)) ≡ true → Member (list_map (λ (e : ℕ × Option ObjectFacts). e.0) facts) n

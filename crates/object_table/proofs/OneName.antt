@@ -1,18 +1,18 @@
 -- What the facts of objects are where a directory has a name more, or less.
-use Rattle.std.specs.Prelude.{◌≡◌, ◌≢◌, ◌⊎◌, ◌<◌, ◌≤◌, ◌+◌, ◌-◌, ◌^◌, min, ℕ, suc, List, [], ◌∷◌, length, Option, Some, None}
-use Rattle.std.proofs.Common.{refl, sym, ◌∙◌, ap, subst, inl, inr, arith}
+use Rattle.std.specs.Prelude.{◌≡◌, ◌≢◌, ◌⊎◌, ◌<◌, ◌+◌, ◌-◌, ◌^◌, ℕ, suc, List, ◌∷◌, length, Option, Some, None}
+use Rattle.std.proofs.Common.{refl, sym, subst, inl, inr, arith}
 use Rattle.std.specs.FinMap as map
-use Rattle.posix_profile.specs.State.{Name, Object, File, Dir, Objects, IsFile, IsDirectory}
+use Rattle.posix_profile.specs.State.{Name, Object, File, Dir, Objects, IsDirectory}
 use Rattle.posix_profile.specs.Names.{Names, link_pairs}
 use Rattle.posix_profile.specs.WellFormed.{IsNamed}
 use Rattle.posix_profile.specs.declared.reply.Kind.{Kind}
 use Rattle.posix_profile.specs.declared.reply.Kind.TheVariants as kinds
 use Rattle.posix_profile.specs.laws.Link.{Lists, IsSubdirectory, link_pairs_list}
 use Rattle.object_store.specs.Facts.{NamedBy}
-use Rattle.object_table.specs.Facts.{IsFileFacts, IsDirectoryFacts, AreFactsOf, one_more, links_with, links_without, entry_added, entry_removed, name_added, name_removed}
+use Rattle.object_table.specs.Facts.{IsFileFacts, IsDirectoryFacts, AreFactsOf, one_more, links_with, entry_removed, name_added, name_removed}
 use Rattle.object_table.specs.declared.facts.ObjectFacts.{ObjectFacts}
 use Rattle.object_table.proofs.Counting.{same_length, without, length_without, list_with, list_without, list_other}
-use Rattle.object_table.proofs.Telling.{SameAt, named_same}
+use Rattle.object_table.proofs.Telling.{SameAt}
 
 -- The directory d names o in the one, and not in the other; all else is named alike, and the same are directories.
 pub record HasOneMore (less more : Objects) (d o : ℕ) (name : Name) : Type 0 where

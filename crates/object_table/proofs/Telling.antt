@@ -1,36 +1,28 @@
 -- What a table that tells objects says of one.
-use Rattle.std.specs.Prelude.{◌≡◌, ◌≢◌, ◌<◌, ◌≤◌, ◌^◌, ℕ, ◌+◌, ◌-◌, min, true, false, List, length, Option, Some, None, IsSome, is_some, option_map, option_and_then}
+use Rattle.std.specs.Prelude.{◌≡◌, ◌≢◌, ◌<◌, ◌≤◌, ℕ, ◌+◌, ◌-◌, List, length, Option, Some, None, IsSome, option_map, option_and_then}
 use Rattle.std.proofs.Common.{refl, sym, ◌∙◌, ap, subst, inl, inr, arith}
-use Rattle.std.proofs.lemmas.Bool.{true≢false, cases_Bool, cases_eq, cases_lt, leb-true}
+use Rattle.std.proofs.lemmas.Bool.{cases_eq, cases_lt}
 use Rattle.std.specs.Cmp.{nat_cmp_total}
-use Rattle.std.specs.Int.{div_ceil}
-use Rattle.std.specs.Ordering.{nat_cmp, is_eq}
+use Rattle.std.specs.Ordering.{nat_cmp}
 use Rattle.std.specs.FinMap as map
-use Rattle.volume_terms.specs.Sizes.{Sizes, IsSizes, capacity, page_slots}
+use Rattle.volume_terms.specs.Sizes.{Sizes}
 use Rattle.volume_terms.specs.Rounding.{ceiling}
-use Rattle.volume_terms.specs.laws.Rounding.{ceiling_is}
-use Rattle.posix_profile.specs.State.{Name, Entries, Object, File, Dir, Objects, IsFile, IsDirectory, entries_of}
+use Rattle.posix_profile.specs.State.{Name, Object, File, Dir, Objects, IsFile, IsDirectory}
 use Rattle.posix_profile.specs.Names.{Names, links}
 use Rattle.posix_profile.specs.NameSteps.{info}
-use Rattle.posix_profile.specs.Charge.{cost, charge, fits}
+use Rattle.posix_profile.specs.Charge.{cost}
 use Rattle.posix_profile.specs.Changes.{new_number, with_bytes}
 use Rattle.posix_profile.specs.WellFormed.{IsForest}
 use Rattle.posix_profile.specs.declared.reply.Kind.TheVariants as kinds
-use Rattle.posix_profile.specs.declared.reply.Info.{Info}
-use Rattle.posix_profile.specs.laws.Map.{get_here, get_there, same_key}
-use Rattle.posix_profile.specs.laws.Link.{Lists, IsSubdirectory, file_links, directory_links}
+use Rattle.posix_profile.specs.laws.Map.{get_here, get_there}
+use Rattle.posix_profile.specs.laws.Link.{IsSubdirectory, file_links, directory_links}
 use Rattle.posix_profile.specs.laws.Name.{not_both, namer_directory}
-use Rattle.posix_profile.specs.laws.Number.{IsNewNumber, new_number_is, capacity_few}
-use Rattle.posix_profile.specs.laws.Total.{total_without, total_replace}
+use Rattle.posix_profile.specs.laws.Number.{new_number_is}
 use Rattle.posix_profile.specs.NameSteps.{told_size}
 use Rattle.object_store.specs.Facts.{info_of, NamedBy}
 use Rattle.object_table.specs.Facts.{facts_cost, told_info, unit_of, IsFileFacts, IsDirectoryFacts, AreFactsOf, IsTold}
 use Rattle.object_table.specs.declared.facts.ObjectFacts.{ObjectFacts}
 use Rattle.object_table.proofs.Counting.{same_length, list_other}
-
--- the units, counted by a division
-pub units_are : (size unit : ℕ) → 0 < unit → min (div_ceil size unit + 1) (2 ^ 64 - 1) ≡ min (1 + ceiling size unit) (2 ^ 64 - 1)
-units_are size unit some = let e = ceiling_is size unit some in omega (arith, e)
 
 -- what is told of an object is what is to be told
 facts_info : (z : Sizes) (objects : Objects) (o : ℕ) (x : Object) (f : ObjectFacts) → IsForest z objects → map.get objects o ≡ Some x → AreFactsOf objects o x f → told_info o f ≡ info objects o x
@@ -172,13 +164,6 @@ module _ (objects : Objects) (o moment : ℕ) (bytes : List ℕ) (file : IsFile 
     was = λ d dir. (dir.0, dir.1, sym (there d (λ is. not_both after o is_file_after (subst (IsDirectory after) is dir))) ∙ dir.2);
   }
 
--- another key in the map
-pub other_key : (n k : ℕ) → k ≢ n → is_eq (nat_cmp n k) ≡ false
-other_key n k ne = elim (cases_Bool (is_eq (nat_cmp n k))) [
-  | inl e ↦ absurd (ne (sym (same_key nat_cmp_total map.nat_cmp-IsAntisymmetric n k e)))
-  | inr no' ↦ no'
-]
-
 -- facts that are told of a directory that is there are its facts
 pub directory_told : (objects : Objects) (o : ℕ) (f : Option ObjectFacts) (facts : ObjectFacts) (dir : IsDirectory objects o) → IsTold objects o (map.get objects o) f → f ≡ Some facts
     → IsDirectoryFacts objects o dir.0 (map.len dir.1) facts
@@ -190,24 +175,7 @@ directory_told objects o f facts dir told was =
 pub directory_is_told : (objects : Objects) (o : ℕ) (f : Option ObjectFacts) (dir : IsDirectory objects o) → IsTold objects o (map.get objects o) f → f ≡ None → ⊥
 directory_is_told objects o f dir told none = let there = directory_facts objects o f dir told in let two : None ≡ Some there.0 = sym none ∙ there.1 in cc
 
-pub file_is_told : (objects : Objects) (o : ℕ) (f : Option ObjectFacts) (file : IsFile objects o) → IsTold objects o (map.get objects o) f → f ≡ None → ⊥
-file_is_told objects o f file told none = let there = file_facts objects o f file told in let two : None ≡ Some there.0 = sym none ∙ there.1 in cc
-
 -- where facts are told there is room for them
 pub room_told : (x : Option (Option ObjectFacts)) (facts : ObjectFacts) → option_and_then (λ f. f) x ≡ Some facts → IsSome x
 room_told None facts is = absurd cc
 room_told (Some f) facts is = refl
-
--- room for an object that is to come tells nothing
-pub room_added : (old new : ℕ → Option (Option ObjectFacts)) (n : ℕ) → is_some (old n) ≡ false → new n ≡ Some None → ((q : ℕ) → is_eq (nat_cmp n q) ≡ false → new q ≡ old q)
-    → (o : ℕ) → option_and_then (λ f. f) (new o) ≡ option_and_then (λ f. f) (old o)
-room_added old new n none is others o = elim (cases_eq o n) [
-  | inl same ↦
-      ap (λ k. option_and_then (λ f. f) (new k)) same ∙ ap (option_and_then (λ f. f)) is
-      ∙ sym (ap (λ k. option_and_then (λ f. f) (old k)) same ∙ ap (option_and_then (λ f. f)) (is_none (old n) none))
-  | inr ne ↦ ap (option_and_then (λ f. f)) (others o (other_key n o ne))
-]
-  where
-    is_none : (x : Option (Option ObjectFacts)) → is_some x ≡ false → x ≡ None
-    is_none None e = refl
-    is_none (Some f) e = absurd (true≢false e)

@@ -1,9 +1,9 @@
 -- What counted facts stand for.
-use Rattle.std.specs.Prelude.{◌≡◌, ◌≢◌, ◌<◌, ◌≤◌, ◌-◌, ◌+◌, ◌^◌, min, ℕ, Bool, Option, Some, None, IsSome, is_some, if◌then◌else◌}
+use Rattle.std.specs.Prelude.{◌≡◌, ◌≢◌, ◌<◌, ◌-◌, ◌+◌, ◌^◌, min, ℕ, Option, Some, None, IsSome, is_some, if◌then◌else◌}
 use Rattle.std.specs.FinMap as map
 use Rattle.std.specs.Ordering.{nat_cmp}
 use Rattle.std.specs.BTreeMap.{get, btree_map_len}
-use Rattle.volume_terms.specs.Sizes.{Sizes, IsSizes, page_slots}
+use Rattle.volume_terms.specs.Sizes.{Sizes, IsSizes}
 use Rattle.volume_terms.specs.VolumeSizes as volume
 use Rattle.posix_profile.specs.State.{Name, Object, Objects, IsDirectory, entries_of}
 use Rattle.posix_profile.specs.Names.{Names}

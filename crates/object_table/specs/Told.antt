@@ -1,5 +1,5 @@
 -- What a table of objects stands for.
-use Rattle.std.specs.Prelude.{◌≡◌, ◌<◌, ℕ, true, Option, None}
+use Rattle.std.specs.Prelude.{◌≡◌, ℕ, true, Option, None}
 use Rattle.std.specs.FinMap as map
 use Rattle.volume_terms.specs.Sizes.{Sizes}
 use Rattle.posix_profile.specs.State.{Name, Object, Objects, IsDirectory, entries_of}

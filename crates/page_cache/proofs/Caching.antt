@@ -73,10 +73,6 @@ some_held : (f : Option Slot) → IsSome (option_map held_in f) → IsSome f
 some_held None is = is
 some_held (Some slot) is = refl
 
-pub held_some : (f : Option Slot) → IsSome f → IsSome (option_map held_in f)
-held_some None is = is
-held_some (Some slot) is = refl
-
 module _ (old new : PageCache) (o c : ℕ) (size : new.page_bytes ≡ old.page_bytes) where
   put_sizes : (slot : Slot) → new.slots ≡ lru_cache (put_entries key_eq old.slots (o, c) slot) old.slots.cap → KeepsSizes old new
   put_sizes slot is = record { page_bytes = size; capacity = ap (λ (s : LruCache (ℕ × ℕ) Slot). s.cap) is }

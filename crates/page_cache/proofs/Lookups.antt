@@ -1,11 +1,10 @@
 -- Lists of entries that are looked up by tests of their keys.
 use Rattle.std.proofs.Common.{◌≡◌, ◌≤◌, ◌<◌, ℕ, zero, suc, ◌+◌, ◌-◌, Bool, true, false, ◌⊎◌, List, [], ◌∷◌, length, take, Contains, Option, Some, None, IsSome, refl, sym, ◌∙◌, ap, inl, inr, arith, cond, is_some, option_map, subst}
-use Rattle.std.proofs.lemmas.Bool.{cases_Bool, true≢false, false≢true, cond-true, cond-false}
+use Rattle.std.proofs.lemmas.Bool.{cases_Bool, false≢true, cond-true, cond-false}
 use Rattle.std.specs.Cmp.{IsEquivalence}
 use Rattle.std.specs.Option.{option_map_or}
 use Rattle.std.specs.Map.{lookup, lookup_entry, remove_entry}
 use Rattle.lru.specs.LruCache.{LruCache, promoted, put_entries}
-use Rattle.lru.proofs.Splits.{Contains-cons, Contains-nil}
 use Rattle.lru.proofs.CallerLemmas.{Contains-lookup_entry}
 
 -- a list that is taken whole
@@ -36,17 +35,6 @@ module _ {K V : Type 0} (test : K → Bool) where
     | inr f ↦ elim (lookup-take n es) [
       | inl same ↦ inl (ap (cond (test e.0) (Some e.1)) same)
       | inr none ↦ inr (cond-false _ (Some e.1) (lookup test (take n es)) f ∙ none)
-    ]
-  ]
-
-  -- an entry that is there is found
-  pub lookup_some : (es : List (K × V)) (e : K × V) → Contains es e → test e.0 ≡ true → IsSome (lookup test es)
-  lookup_some [] e in' passes = absurd (Contains-nil e in')
-  lookup_some (f ∷ es) e in' passes = elim (cases_Bool (test f.0)) [
-    | inl y ↦ ap is_some (cond-true _ (Some f.1) (lookup test es) y)
-    | inr n ↦ elim (Contains-cons f es e in') [
-      | inl same ↦ absurd (true≢false (sym passes ∙ sym (ap (λ (x : K × V). test x.0) same) ∙ n))
-      | inr later ↦ ap is_some (cond-false _ (Some f.1) (lookup test es) n) ∙ lookup_some es e later passes
     ]
   ]
 

@@ -1,6 +1,7 @@
 // A slot of a directory: a name and the object that it leads to.
 
 ghost use Rattle.std.specs.Prelude.{◌≡◌, ◌≢◌, ◌++◌, IfSome, IfNone, length};
+ghost use Rattle.volume_terms.specs.Sizes.{slot_length};
 ghost use Rattle.byteorder.specs.Endian.{little_bytes};
 ghost use Rattle.page_tags.specs.SlotEntry.{entry_of};
 ghost use Rattle.page_tags.specs.Slots.{Entry, IsSlot, slot_bytes};
@@ -29,7 +30,7 @@ fn head_of(object: u64, length: u16) -> [u8; 10]
 
 /// Writes the slot over the `SLOT_BYTES` bytes.
 pub fn encode_slot(slot: &Slot, bytes: &mut [u8])
-    requires room { length bytes.old ≡ 272 }
+    requires room { length bytes.old ≡ slot_length }
     requires valid { IsSlot (entry_of slot.now) }
     ensures { bytes.new ≡ slot_bytes (entry_of slot.now) }
 {
@@ -41,7 +42,7 @@ pub fn encode_slot(slot: &Slot, bytes: &mut [u8])
 
 /// The slot that these `SLOT_BYTES` bytes are, if they are one.
 pub fn decode_slot(bytes: &[u8]) -> Option<Slot<'_>>
-    requires { length bytes.now ≡ 272 }
+    requires { length bytes.now ≡ slot_length }
     ensures found { IfSome result (λ s. IsSlot (entry_of s) × (bytes.now ≡ slot_bytes (entry_of s))) }
     ensures none { IfNone result ((s : Entry) → IsSlot s → bytes.now ≢ slot_bytes s) }
 {

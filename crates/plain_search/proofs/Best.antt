@@ -1,6 +1,6 @@
 -- The best of the pages that were passed.
 use Rattle.std.specs.Prelude.{◌≡◌, ℕ, ◌+◌, true, Option, Some, None, IfSome, IfNone}
-use Rattle.std.proofs.Common.{sym, ◌∙◌, ap, subst, inl, inr, arith}
+use Rattle.std.proofs.Common.{sym, ◌∙◌, ap, subst, inl, inr}
 use Rattle.std.proofs.lemmas.Bool.{false≢true}
 use Rattle.nand_model.specs.Flash.{Flash, IsWithin}
 use Rattle.flash_tree.specs.Newest.{Spot, Holds, IsAfter, IsNewest}
@@ -72,10 +72,6 @@ module _ (f : Flash) (o c : ℕ) where
               not (subst (λ s. IsAfter s (spot_of y)) same after)
         ],
   )
-
-  -- before the first page there is none
-  pub best_at_start : IsBest f o c 0 0 None
-  best_at_start t before holds = elim before [ inl lt ↦ absurd (omega (arith, lt)) | inr here ↦ absurd (omega (arith, here.1)) ]
 
   -- with all blocks passed the best is the newest
   pub newest_at_end : (pages blocks : ℕ) (best : Option Found) → IsWithin pages blocks f → IsBest f o c blocks 0 best → IfSome best (λ x. IsNewest f o c (spot_of x))

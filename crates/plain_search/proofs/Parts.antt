@@ -1,14 +1,13 @@
 -- The pages of the group that a page names.
-use Rattle.std.specs.Prelude.{◌≡◌, ◌≤◌, ◌↔◌, ℕ, ◌+◌, ◌-◌, IsTrue, Bool}
+use Rattle.std.specs.Prelude.{◌≡◌, ◌↔◌, ℕ, ◌+◌, ◌-◌, IsTrue, Bool}
 use Rattle.std.proofs.Common.{sym, ◌∙◌, ap}
-use Rattle.nand_model.specs.Flash.{Flash, IsWithin}
+use Rattle.nand_model.specs.Flash.{Flash}
 use Rattle.page_tags.specs.declared.tag.Tag.{Tag}
 use Rattle.flash_tree.specs.Groups.{HasTag, IsPart}
 use Rattle.flash_tree.specs.Newest.{Spot}
 use Rattle.flash_tree.specs.Places.{group_of}
 use Rattle.plain_search.specs.Searching.{IsPartTag}
 use Rattle.flash_tree.specs.laws.Newest.{one_tag}
-use Rattle.flash_tree.specs.laws.Place.{no_tag}
 
 -- where a page has a tag, that decides whether it is part i
 pub part_by_tag : (f : Flash) (s : Spot) (i : ℕ) (t : Tag) → HasTag f s.block (s.page - s.tag.index + i) t → IsPartTag t s.tag i ↔ IsPart f (group_of s) i
@@ -23,10 +22,6 @@ part_by_tag f s i t has = (
         seq = ap (λ (u : Tag). u.seq) (sym same) ∙ part.seq;
       },
 )
-
--- past the end of the block there is none
-pub no_part_past : (pages blocks : ℕ) (f : Flash) (s : Spot) (i : ℕ) → IsWithin pages blocks f → pages ≤ s.page - s.tag.index + i → IsPart f (group_of s) i → ⊥
-no_part_past pages blocks f s i within past part = no_tag f s.block (s.page - s.tag.index + i) part.tag (within.page s.block (s.page - s.tag.index + i) past) part.has
 
 -- where a page has no tag, it is no part
 pub no_part : (f : Flash) (s : Spot) (i : ℕ) → ((t : Tag) → HasTag f s.block (s.page - s.tag.index + i) t → ⊥) → IsPart f (group_of s) i → ⊥

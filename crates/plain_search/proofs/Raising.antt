@@ -67,13 +67,6 @@ module _ (f : Flash) where
         (omega (arith, others.0, this.0, raised.version), omega (arith, others.1, this.1, raised.group), omega (arith, others.2, this.2, raised.seq));
   }
 
-  -- before the first page all are 0
-  pub greatest_at_start : AreGreatestBefore f 0 0 (record { version = 0; group = 0; seq = 0 })
-  greatest_at_start = record {
-    above = λ k l t before good has. elim before [ inl lt ↦ absurd (omega (arith, lt)) | inr here ↦ absurd (omega (arith, here.1)) ];
-    least = λ m above. (omega arith, omega arith, omega arith);
-  }
-
   -- with all blocks passed they are the greatest of the flash
   pub greatest_at_end : (pages blocks : ℕ) (n : Numbers) → IsWithin pages blocks f → AreGreatestBefore f blocks 0 n → AreGreatest f n
   greatest_at_end pages blocks n within is = record {

@@ -1,12 +1,12 @@
 -- What commands over maps answer and leave.
-use Rattle.std.specs.Prelude.{◌≡◌, ◌++◌, ℕ, Bool, true, false, List, length, Some, None}
+use Rattle.std.specs.Prelude.{◌≡◌, ℕ, Bool, true, false, List, Some, None}
 use Rattle.std.specs.FinMap as map
 use Rattle.std.specs.Ordering.{nat_cmp}
 use Rattle.std.proofs.Common.{refl, sym, ◌∙◌, ap, subst, inl, inr}
 use Rattle.std.proofs.lemmas.Bool.{false_from_ne_true, true≢false}
 use Rattle.volume_terms.specs.Sizes.{Sizes, IsSizes}
 use Rattle.posix_profile.specs.Runs.{is_no_memory, is_stop, takes_no_memory, after}
-use Rattle.posix_profile.specs.State.{Handles, Objects, State}
+use Rattle.posix_profile.specs.State.{Objects, State}
 use Rattle.posix_profile.specs.Steps.{step}
 use Rattle.posix_profile.specs.laws.Own.{command_own}
 use Rattle.posix_profile.specs.laws.Sound.{IsSound}
@@ -14,11 +14,11 @@ use Rattle.posix_profile.specs.declared.command.Stamped.{Stamped}
 use Rattle.posix_profile.specs.declared.reply.Reply.{Reply}
 use Rattle.command_plans.specs.Classes.{class_of}
 use Rattle.object_commands.specs.Endings.{AreReading, IsAt, CommandEnds}
-use Rattle.object_commands.specs.Running.{Ran, Runs}
-use Rattle.object_commands.specs.Volumes.{store_of, handles_of, is_read_only, is_stopped}
+use Rattle.object_commands.specs.Running.{Runs}
+use Rattle.object_commands.specs.Volumes.{store_of, is_read_only, is_stopped}
 use Rattle.object_commands.specs.declared.volume.Volume.{Volume}
 use Rattle.object_store.specs.Stores.{settled}
-use Rattle.plain_objects.specs.PlainMeaning.{objects_of, numbers_of, plain_meaning}
+use Rattle.plain_objects.specs.PlainMeaning.{numbers_of, plain_meaning}
 use Rattle.plain_objects.specs.declared.store.PlainObjects.{PlainObjects}
 use Rattle.plain_volume.specs.Views.{PlainView}
 use Rattle.plain_volume.specs.Standing.{state_of, view_of, IsPlain}

@@ -15,7 +15,7 @@ use Rattle.posix_profile.specs.laws.Map.{get_here, get_there}
 use Rattle.volume_terms.specs.Sizes.{Sizes, page_slots}
 use Rattle.volume_terms.specs.laws.List.{get_push, push_before, push_last, same_or_not}
 use Rattle.posix_profile.specs.laws.Name.{name_same}
-use Rattle.tree_walk.specs.SlotLists.{TakesEntry, TakesNone, AreNamesOf, HasSlots, LacksOf}
+use Rattle.tree_walk.specs.SlotLists.{TakesEntry, TakesNone, AreSlotNames, HasSlots, LacksOf}
 use Rattle.tree_walk.specs.declared.directory.Slots.{Slots}
 
 -- a key has one page
@@ -36,7 +36,7 @@ put_some names name o other some none = elim (same_or_not other name) [
   | inr ne ↦ some (sym (put_there names name o other ne) ∙ none)
 ]
 
-names_push : (slots : List Entry) (names : Entries) (e : Entry) → AreNamesOf slots names → AreNamesOf (slots ++ e ∷ []) (map.insert names e.name e.object)
+names_push : (slots : List Entry) (names : Entries) (e : Entry) → AreSlotNames slots names → AreSlotNames (slots ++ e ∷ []) (map.insert names e.name e.object)
 names_push slots names e a = record {
   each = λ i x is. elim (get_push slots e i x is) [
     | inl before ↦ put_some names e.name e.object x.name (a.each i x before.1)
@@ -89,7 +89,7 @@ module _ (z : Sizes) (m : PageMap) (d n : ℕ) (old : Slots) (h : HasSlots z m d
         ]
       ];
     };
-    names = subst (AreNamesOf (h.slots ++ e ∷ [])) (sym t.names) (names_push h.slots old.names e h.names);
+    names = subst (AreSlotNames (h.slots ++ e ∷ [])) (sym t.names) (names_push h.slots old.names e h.names);
     objects = t.objects ∙ ap (λ os. os ++ e.object ∷ []) h.objects ∙ sym (map-append (λ (s : Entry). s.object) h.slots (e ∷ []));
   }
 

@@ -21,7 +21,7 @@ TakesNone bytes old wrong = (wrong ≡ IsDamaged)
     ⊎ ((entry : Entry) × IsSlot entry × (bytes ≡ slot_bytes entry) × ((o : ℕ) × (map.get old.names entry.name ≡ Some o))))
 
 -- the names of the slots, and no others
-pub record AreNamesOf (slots : List Entry) (names : Entries) : Type 0 where
+pub record AreSlotNames (slots : List Entry) (names : Entries) : Type 0 where
   pub each : (i : ℕ) (entry : Entry) → slice_get slots i ≡ Some entry → map.get names entry.name ≢ None
   pub only : (name : Name) (o : ℕ) → map.get names name ≡ Some o → (i : ℕ) × (entry : Entry) × (slice_get slots i ≡ Some entry) × (entry.name ≡ name)
 
@@ -29,7 +29,7 @@ pub record AreNamesOf (slots : List Entry) (names : Entries) : Type 0 where
 pub record HasSlots (z : Sizes) (m : PageMap) (d n : ℕ) (seen : Slots) : Type 0 where
   pub slots : List Entry
   pub are : AreSlots z (has m) d n slots
-  pub names : AreNamesOf slots seen.names
+  pub names : AreSlotNames slots seen.names
   pub objects : seen.objects.items ≡ list_map (λ entry. entry.object) slots
 
 -- these are the objects that a directory of so many slots names

@@ -177,10 +177,6 @@ loses_mark b old new result honest marks = record {
   was_good (Err gone) (inl same) is = sym same ∙ is
   was_good (Err gone) (inr marked) is = let two : true ≡ false = sym marked ∙ is in absurd cc
 
--- what has a tag after an erase had it before
-pub tag_was : (b : ℕ) (old new : Flash) → Shrinks b old new → (k l : ℕ) (t : Tag) → HasTag new k l t → HasTag old k l t
-tag_was b old new shrinks = has_before b old new (loses_erase b old new shrinks)
-
 -- what lies in other blocks stays over an erase
 pub erase_keeps_elsewhere : (b : ℕ) (old new : Flash) → Shrinks b old new → KeepsElsewhere b old new
 erase_keeps_elsewhere b old new shrinks = keeps_elsewhere b old new (loses_erase b old new shrinks)

@@ -1,5 +1,5 @@
 -- A store with a fuse is lawful where the one inside is.
-use Rattle.std.specs.Prelude.{◌≡◌, ◌⊎◌, ℕ}
+use Rattle.std.specs.Prelude.{◌⊎◌, ℕ}
 use Rattle.std.proofs.Common.{refl, ◌∙◌, inl, inr, arith}
 use Rattle.posix_profile.specs.State.{Objects}
 use Rattle.object_store.specs.Stores.{Meaning, IsLawful, KeepsOrSettles}

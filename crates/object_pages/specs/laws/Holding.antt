@@ -7,7 +7,7 @@ use Rattle.std.specs.FinMap as map
 use Rattle.volume_terms.specs.Sizes.{Sizes, page_slots}
 use Rattle.posix_profile.specs.State.{Entries, Object, File, Dir, Objects, IsFile, IsDirectory}
 use Rattle.posix_profile.specs.laws.Map.{get_here, get_there, get_removed, removed_none}
-use Rattle.pages.specs.Maps.{PageMap, without_cuts, IsCut}
+use Rattle.pages.specs.Maps.{PageMap, without_cuts}
 use Rattle.pages.specs.laws.Maps.{cut_here, cut_elsewhere}
 use Rattle.pages.specs.declared.change.Cut.{Cut}
 use Rattle.pages.specs.State.{PagesState, OnlyFinds}

@@ -8,7 +8,7 @@ use Rattle.volume_terms.specs.declared.fault.StoreFault.{StoreFault}
 use Rattle.volume_terms.specs.declared.fault.StoreFault.TheVariants as faults
 use Rattle.object_store.specs.declared.refusal.Refusal.{Refusal}
 use Rattle.object_store.specs.declared.refusal.Refusal.TheVariants as refusals
-use Rattle.object_store.specs.Stores.{Meaning, IsLawful, Has, Faults, ReadFaults, Tells}
+use Rattle.object_store.specs.Stores.{Meaning, IsLawful, Has, ReadFaults, Tells}
 
 -- the store goes on to have its objects
 pub has_on : {S : Type 0} (m : Meaning S) (law : IsLawful m) (z : Sizes) (objects : Objects) (a b : S) → m.reads a b → Has m z objects a → Has m z objects b
@@ -20,23 +20,11 @@ has_on m law z objects a b reads has = record {
   fit = has.fit;
 }
 
--- a fault after calls that read
-pub faults_on : {S : Type 0} (m : Meaning S) (law : IsLawful m) (old new : Objects) (a b c : S) → m.reads a b → (fault : StoreFault) → Faults m old new b c fault → Faults m old new a c fault
-faults_on m law old new a b c reads faults.NoMemory left = law.reads_on a b c reads left
-faults_on m law old new a b c reads faults.Device left = law.fails_on a b c old new reads left
-faults_on m law old new a b c reads faults.Worn left = law.fails_on a b c old new reads left
-
 -- the fault of a call that reads, after others
 pub unread_after : {S : Type 0} (m : Meaning S) (law : IsLawful m) (a b c : S) → m.reads a b → (fault : StoreFault) → ReadFaults m b c fault → ReadFaults m a c fault
 unread_after m law a b c reads faults.NoMemory left = law.reads_on a b c reads left
 unread_after m law a b c reads faults.Device left = law.unread_on a b c reads left
 unread_after m law a b c reads faults.Worn left = absurd left
-
--- it is one of a call that would change
-pub unread_faults : {S : Type 0} (m : Meaning S) (law : IsLawful m) (old new : Objects) (a b : S) (fault : StoreFault) → ReadFaults m a b fault → Faults m old new a b fault
-unread_faults m law old new a b faults.NoMemory left = left
-unread_faults m law old new a b faults.Device left = law.unread_fails a b old new left
-unread_faults m law old new a b faults.Worn left = absurd left
 
 -- what is told after calls that read
 pub tells_on : {S A : Type 0} (m : Meaning S) (law : IsLawful m) (a b c : S) (P : A → Type 0) (Q : Errno → Type 0)

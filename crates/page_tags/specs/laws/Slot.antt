@@ -2,12 +2,13 @@
 use Rattle.std.proofs.Common.{◌≡◌, ◌≢◌, ◌<◌, ◌≤◌, ℕ, ◌+◌, ◌-◌, ◌^◌, List, ◌++◌, length, take, drop, replicate, refl, sym, ap, ap₂, ◌∙◌, inl, inr, ◌⊎◌, subst, take_at, drop_at, take-append-drop, length-take, length-drop, EachIndex, get_or, arith}
 use Rattle.std.proofs.Math.Seq.{drop-drop}
 use Rattle.std.proofs.lemmas.Bool.{cases_lt}
+use Rattle.volume_terms.specs.Sizes.{slot_length}
 use Rattle.byteorder.specs.Endian.{little_bytes, little_number}
 use Rattle.byteorder.specs.Numbers.{little_number-reads_back, little_from-lt}
 use Rattle.page_tags.specs.Headers.{IsBytes}
 use Rattle.volume_terms.specs.Names.{IsName}
 use Rattle.page_tags.specs.Slots.{Entry, IsSlot, slot_bytes}
-use Rattle.page_tags.specs.laws.Byte.{joined, little_bytes_at, little_bytes-little_number, IsBytes-drop, IsBytes-take, bytes_or_not, zeros_from_each, each_from_zeros}
+use Rattle.page_tags.specs.laws.Byte.{joined, little_bytes_at, little_bytes-little_number, bytes_or_not, zeros_from_each, each_from_zeros}
 use Rattle.volume_terms.specs.laws.List.{same_or_not}
 use Rattle.volume_terms.specs.laws.Name.{are_bytes, each_byte, name_or_not}
 
@@ -54,7 +55,7 @@ zeros_behind bytes name n len zeros = ap (λ k. replicate (262 - k) 0) len ∙ s
 
 -- bytes of the right length with zeros after the name are those of what they say
 pub slot_bytes-slot_in :
-    (bytes : List ℕ) → length bytes ≡ 272 → IsBytes bytes → name_length_in bytes ≤ 255
+    (bytes : List ℕ) → length bytes ≡ slot_length → IsBytes bytes → name_length_in bytes ≤ 255
     → drop (name_length_in bytes) (drop 10 bytes) ≡ replicate (262 - name_length_in bytes) 0 → slot_bytes (slot_in bytes) ≡ bytes
 unfolding slot_bytes
 slot_bytes-slot_in bytes size each few zeros =
@@ -119,7 +120,7 @@ module _ (bytes : List ℕ) where
       some (each_from_zeros rest (262 - length s.name) zeros)
 
   pub slot_from_parts :
-      length bytes ≡ 272 → IsBytes bytes → 2 ≤ little_number 8 bytes → name_length_in bytes ≤ 255
+      length bytes ≡ slot_length → IsBytes bytes → 2 ≤ little_number 8 bytes → name_length_in bytes ≤ 255
       → (name rest : List ℕ) → name ≡ take (name_length_in bytes) (drop 10 bytes) → rest ≡ drop (name_length_in bytes) (drop 10 bytes)
       → IsName name → EachIndex rest (λ i. get_or rest i 0 ≡ 0)
       → (s : Entry) → s.object ≡ little_number 8 bytes → s.name ≡ name → IsSlot s × (bytes ≡ slot_bytes s)

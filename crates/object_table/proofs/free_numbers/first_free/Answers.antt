@@ -1,7 +1,7 @@
-use Rattle.std.proofs.Common.{◌≡◌, ◌∙◌, ◌+◌, ◌-◌, true, sym, ap, inl, inr, arith}
+use Rattle.std.proofs.Common.{◌∙◌, ◌+◌, ◌-◌, true, sym, ap, inl, inr, arith}
 use Rattle.std.proofs.lemmas.Bool.{cases_eq, cases_Bool}
 use Rattle.std.specs.BTreeMap.{btree_map_len}
-use Rattle.object_table.specs.Taken.{AllTaken, taken_in}
+use Rattle.object_table.specs.Taken.{taken_in}
 use Rattle.object_table.proofs.Free.{taken_few}
 use Rattle.object_table.proofs.free_numbers.first_free.Goals as goal
 

@@ -1,4 +1,4 @@
-use Rattle.std.proofs.Common.{ap, is_some, arith, ◌∙◌}
+use Rattle.std.proofs.Common.{ap, is_some, arith}
 use Rattle.object_table.specs.Taken.{taken_in}
 use Rattle.object_table.proofs.Free.{knows_same}
 use Rattle.object_table.proofs.parts.make_room.Goals as goal

@@ -1,8 +1,7 @@
-use Rattle.std.proofs.Common.{◌≡◌, ◌∙◌, ◌+◌, ◌-◌, ◌<◌, ◌^◌, ℕ, true, Some, None, length, take, replicate, ◌++◌, refl, sym, ap, subst, inl, inr, arith}
+use Rattle.std.proofs.Common.{◌≡◌, ◌∙◌, ◌+◌, ◌-◌, ℕ, true, Some, None, length, take, replicate, ◌++◌, refl, sym, subst, inl, inr, arith}
 use Rattle.std.proofs.lemmas.List.{length-take, length-append, length-replicate}
 use Rattle.std.specs.FinMap as map
 use Rattle.volume_terms.specs.Sizes.{Sizes}
-use Rattle.posix_profile.specs.State.{Objects, entries_of}
 use Rattle.posix_profile.specs.Changes.{with_name, without_name, with_bytes, written, resized}
 use Rattle.posix_profile.specs.Charge.{fits}
 use Rattle.posix_profile.specs.WellFormed.{IsNamed}

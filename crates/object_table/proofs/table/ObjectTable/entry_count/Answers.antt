@@ -1,6 +1,6 @@
 use Rattle.std.proofs.Common.{sym, ap, ◌∙◌}
 use Rattle.std.specs.FinMap as map
-use Rattle.posix_profile.specs.State.{Entries, entries_of}
+use Rattle.posix_profile.specs.State.{entries_of}
 use Rattle.object_table.specs.Told.{told}
 use Rattle.object_table.proofs.Telling.{directory_told, directory_is_told}
 use Rattle.object_table.proofs.table.ObjectTable.entry_count.Goals as goal

@@ -1,4 +1,3 @@
-use Rattle.std.proofs.Common.{is_some}
 use Rattle.object_table.specs.Taken.{taken_in}
 use Rattle.object_table.specs.Told.{told}
 use Rattle.object_table.proofs.Free.{next_is_new}

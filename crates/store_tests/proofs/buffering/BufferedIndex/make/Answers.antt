@@ -1,4 +1,4 @@
-use Rattle.std.proofs.Common.{◌≡◌, ◌<◌, ◌≤◌, ◌+◌, ℕ, List, ◌∙◌, sym, subst, arith}
+use Rattle.std.proofs.Common.{List, ◌∙◌, sym, subst}
 use Rattle.flash_tree.specs.declared.place.FreshPage.{FreshPage}
 use Rattle.pages.specs.Maps.{IsPageOf}
 use Rattle.chunk_index.specs.laws.Maps.{agree_same}

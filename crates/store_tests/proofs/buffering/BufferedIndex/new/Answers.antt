@@ -1,4 +1,4 @@
-use Rattle.std.proofs.Common.{ap, refl, sym, ◌≡◌, ◌∙◌}
+use Rattle.std.proofs.Common.{ap, sym, ◌≡◌, ◌∙◌}
 use Rattle.block_state.specs.Table.{Table}
 use Rattle.block_state.specs.TableOf.{table}
 use Rattle.chunk_index.specs.declared.form.Present.TheVariants as presents

@@ -13,7 +13,7 @@ use Rattle.flash_tree.specs.Newest.{Spot, IsNewest}
 use Rattle.flash_tree.specs.laws.Newest.{one_spot}
 use Rattle.block_state.specs.Table.{Table}
 use Rattle.chunk_index.specs.declared.form.KeptPage.{KeptPage}
-use Rattle.transactions.specs.Copying.{name_at, no_name, page_at, bytes_at, HasCopy}
+use Rattle.transactions.specs.Copying.{copy_name, no_name, page_at, copy_bytes, HasCopy}
 use Rattle.transactions.specs.Naming.{IsNamed, NamesOnce}
 use Rattle.transactions.specs.Newest.{spot_at, IsOfCopies, ShowsGroup}
 use Rattle.flash_tree.specs.Numbering.{AreBelow}
@@ -49,10 +49,10 @@ listed_or_not (y ∷ ys) o c = go (cases_eq y.name.key.object o) (cases_eq y.nam
   go (inr ne) chunk rest = below (λ is. ne is.0) rest
 
 module _ (copies : List CopyOf) where
-  pub name_is : (i : ℕ) (x : CopyOf) → slice_get copies i ≡ Some x → name_at copies i ≡ x.name
+  pub name_is : (i : ℕ) (x : CopyOf) → slice_get copies i ≡ Some x → copy_name copies i ≡ x.name
   name_is i x at = ap (λ (c : Option CopyOf). option_map_or (λ c. c.name) c no_name) at
 
-  pub bytes_is : (flash : Flash) (i : ℕ) (x : CopyOf) (xs tag : List ℕ) → slice_get copies i ≡ Some x → flash.page x.block x.page ≡ Written xs tag → bytes_at copies flash i ≡ xs
+  pub bytes_is : (flash : Flash) (i : ℕ) (x : CopyOf) (xs tag : List ℕ) → slice_get copies i ≡ Some x → flash.page x.block x.page ≡ Written xs tag → copy_bytes copies flash i ≡ xs
   bytes_is flash i x xs tag at stored =
       let page : page_at copies flash i ≡ flash.page x.block x.page = ap (λ (c : Option CopyOf). option_map_or (λ c. flash.page c.block c.page) c Erased) at in
       ap (λ p. bytes_of p []) (page ∙ stored)
@@ -75,14 +75,14 @@ module _ (copies : List CopyOf) where
   module _ (once : (i j : ℕ) (x y : CopyOf) → slice_get copies i ≡ Some x → slice_get copies j ≡ Some y → x.name.key ≡ y.name.key → i ≡ j)
       (g : Group) (size : g.size ≡ length copies) where
     -- a page of the group has the key of its copy
-    key_is : (o c i : ℕ) → i < g.size → IsNamed (name_at copies) o c i → (x : CopyOf) × (slice_get copies i ≡ Some x) × IsCopyOf x o c
+    key_is : (o c i : ℕ) → i < g.size → IsNamed (copy_name copies) o c i → (x : CopyOf) × (slice_get copies i ≡ Some x) × IsCopyOf x o c
     key_is o c i lt named =
         let there = slice_get_there copies i (omega (arith, size, lt)) in
         let name = name_is i there.0 there.1 in
         (there.0, there.1, (sym (ap (λ (n : PageName). n.key.object) name) ∙ named.object, sym (ap (λ (n : PageName). n.key.chunk) name) ∙ named.chunk))
 
     -- the key of a copy is that of no other
-    names_once : (o c i : ℕ) (x : CopyOf) → slice_get copies i ≡ Some x → IsCopyOf x o c → NamesOnce g (name_at copies) o c i
+    names_once : (o c i : ℕ) (x : CopyOf) → slice_get copies i ≡ Some x → IsCopyOf x o c → NamesOnce g (copy_name copies) o c i
     names_once o c i x at is =
         let lt : i < length copies = slice_get_within copies i x at in
         record {
@@ -101,7 +101,7 @@ module _ (copies : List CopyOf) where
       kept_of : (o c i : ℕ) (x : CopyOf) → slice_get copies i ≡ Some x → IsCopyOf x o c → IsKeptAt old o c (kept_by x)
       kept_of o c i x at is = subst (λ q. IsKeptAt old q c (kept_by x)) is.0 (subst (λ l. IsKeptAt old x.name.key.object l (kept_by x)) is.1 (kept i x at))
 
-      pub is_of_copies : (number : ℕ) → AreBelow old number g.seq → IsOfCopies g (name_at copies) old
+      pub is_of_copies : (number : ℕ) → AreBelow old number g.seq → IsOfCopies g (copy_name copies) old
       is_of_copies number below = record {
         versions = λ o c i names.
             let its = key_is o c i names.within names.named in
@@ -111,7 +111,7 @@ module _ (copies : List CopyOf) where
         below = below;
       }
 
-      module _ (new : Flash) (t : Table) (w : ℕ) (block : g.block ≡ w) (start : g.start ≡ 0) (shows : ShowsGroup g (name_at copies) (bytes_at copies old) old new) where
+      module _ (new : Flash) (t : Table) (w : ℕ) (block : g.block ≡ w) (start : g.start ≡ 0) (shows : ShowsGroup g (copy_name copies) (copy_bytes copies old) old new) where
         -- a key that is not copied keeps its newest page
         stays_apart : (o c : ℕ) (p : KeptPage) → ((i : ℕ) (x : CopyOf) → slice_get copies i ≡ Some x → IsCopyOf x o c → ⊥) → (at : IsKeptAt old o c p)
             → StaysNewest old new o c (spot_of p at.tag)
@@ -125,9 +125,9 @@ module _ (copies : List CopyOf) where
               let named = shows.named o c i (names_once o c i x at (refl, refl)) in
               let page : g.start + i ≡ i = omega (arith, start) in
               record {
-                tag = tag_in g (name_at copies) i;
-                newest = subst (λ b. IsNewest new o c (record { block = b; page = i; tag = tag_in g (name_at copies) i })) block
-                    (subst (λ n. IsNewest new o c (record { block = g.block; page = n; tag = tag_in g (name_at copies) i })) page named.newest);
+                tag = tag_in g (copy_name copies) i;
+                newest = subst (λ b. IsNewest new o c (record { block = b; page = i; tag = tag_in g (copy_name copies) i })) block
+                    (subst (λ n. IsNewest new o c (record { block = g.block; page = n; tag = tag_in g (copy_name copies) i })) page named.newest);
                 version = ap (λ (n : PageName). n.version) (name_is i x at);
               };
           others = λ o c p some apart at. kept_stays old new o c p at (stays_apart o c p apart at);
@@ -140,12 +140,12 @@ module _ (copies : List CopyOf) where
               let was = kept_of o c i x here is in
               let same : spot_of (kept_by x) was.tag ≡ has.spot = one_spot old o c (spot_of (kept_by x) was.tag) has.spot was.newest has.newest in
               let stored : old.page x.block x.page ≡ Written bytes (tag_bytes has.spot.tag) = ap (λ (s : Spot). old.page s.block s.page) same ∙ has.stored in
-              let its_data : bytes_at copies old i ≡ bytes = bytes_is old i x bytes (tag_bytes has.spot.tag) here stored in
+              let its_data : copy_bytes copies old i ≡ bytes = bytes_is old i x bytes (tag_bytes has.spot.tag) here stored in
               let named = shows.named o c i (names_once o c i x here is) in
               record {
-                spot = spot_at g (name_at copies) i;
+                spot = spot_at g (copy_name copies) i;
                 newest = named.newest;
                 version_is = ap (λ (n : PageName). n.version) (name_is i x here) ∙ sym was.version ∙ ap (λ (s : Spot). s.tag.version) same ∙ has.version_is;
-                stored = named.stored ∙ ap (λ (ys : List ℕ). Written ys (tag_bytes (tag_in g (name_at copies) i))) its_data;
+                stored = named.stored ∙ ap (λ (ys : List ℕ). Written ys (tag_bytes (tag_in g (copy_name copies) i))) its_data;
               }
         ]

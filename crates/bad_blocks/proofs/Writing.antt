@@ -8,7 +8,7 @@ use Rattle.nand_model.specs.declared.nand.Gone.{Gone}
 use Rattle.flash_tree.specs.Keeping.{KeepsElsewhere, KeepsNewest}
 use Rattle.block_state.specs.Kept.{bad_count}
 use Rattle.block_state.specs.Table.{Table}
-use Rattle.transactions.specs.Copying.{name_at, bytes_at}
+use Rattle.transactions.specs.Copying.{copy_name, copy_bytes}
 use Rattle.transactions.specs.Groups.{GroupsAfter, next_group, closed}
 use Rattle.transactions.specs.Marking.{NotesMark}
 use Rattle.transactions.specs.Newest.{NewestAfter, ShowsGroup}
@@ -32,19 +32,19 @@ use Rattle.bad_blocks.specs.laws.KeptPages.{kept_where, data_where}
 use Rattle.bad_blocks.proofs.KeptPages.{is_of_copies, are_copied, data_copied}
 
 module _ (copies : List CopyOf) (w : ℕ) (d0 d1 : Device) (t : Table) (fresh : IsFresh w d0 t) (may : MayBeCopied d0 t copies) (honest : d0.honest ≡ true) (grows : Grows d0.flash d1.flash) where
-  after : (r : Result Placed GroupFault) → GroupsAfter (next_group t (length copies) w) (name_at copies) (bytes_at copies d0.flash) d0.flash d1.flash r
-      → NewestAfter (next_group t (length copies) w) (name_at copies) (bytes_at copies d0.flash) d0.flash d1.flash r
-  after r groups = newest_after (next_group t (length copies) w) (name_at copies) (bytes_at copies d0.flash) d0.flash d1.flash grows
-      (copies_come_last (next_group t (length copies) w) (name_at copies) d0.flash
+  after : (r : Result Placed GroupFault) → GroupsAfter (next_group t (length copies) w) (copy_name copies) (copy_bytes copies d0.flash) d0.flash d1.flash r
+      → NewestAfter (next_group t (length copies) w) (copy_name copies) (copy_bytes copies d0.flash) d0.flash d1.flash r
+  after r groups = newest_after (next_group t (length copies) w) (copy_name copies) (copy_bytes copies d0.flash) d0.flash d1.flash grows
+      (copies_come_last (next_group t (length copies) w) (copy_name copies) d0.flash
       (is_of_copies copies may.once (next_group t (length copies) w) refl d0.flash (may.newest honest fresh.power) fresh.number (fresh.below honest))) r groups
 
-  shown : ShowsGroup (next_group t (length copies) w) (name_at copies) (bytes_at copies d0.flash) d0.flash d1.flash → KeepsDataAt t d0.flash d1.flash
+  shown : ShowsGroup (next_group t (length copies) w) (copy_name copies) (copy_bytes copies d0.flash) d0.flash d1.flash → KeepsDataAt t d0.flash d1.flash
   shown shows = data_copied copies may.once (next_group t (length copies) w) refl d0.flash (may.newest honest fresh.power) d1.flash t w refl fresh.next shows
 
   same : KeepsNewest d0.flash d1.flash → KeepsDataAt t d0.flash d1.flash
   same keeps = data_where d0.flash d1.flash t (λ o c s newest some. keeps o c s newest)
 
-  data_by : (r : Result Placed GroupFault) → NewestAfter (next_group t (length copies) w) (name_at copies) (bytes_at copies d0.flash) d0.flash d1.flash r → KeepsDataAt t d0.flash d1.flash
+  data_by : (r : Result Placed GroupFault) → NewestAfter (next_group t (length copies) w) (copy_name copies) (copy_bytes copies d0.flash) d0.flash d1.flash r → KeepsDataAt t d0.flash d1.flash
   data_by (Ok placed) shows = shown shows
   data_by (Err groups.NoRoom) keeps = same keeps
   data_by (Err groups.Failed) keeps = same keeps
@@ -53,20 +53,20 @@ module _ (copies : List CopyOf) (w : ℕ) (d0 d1 : Device) (t : Table) (fresh : 
   data_by (Err groups.Gone) (inr shows) = shown shows
 
   -- however the writing of copies ends, what is kept keeps its data
-  pub data_written : (r : Result Placed GroupFault) → GroupsAfter (next_group t (length copies) w) (name_at copies) (bytes_at copies d0.flash) d0.flash d1.flash r → KeepsDataAt t d0.flash d1.flash
+  pub data_written : (r : Result Placed GroupFault) → GroupsAfter (next_group t (length copies) w) (copy_name copies) (copy_bytes copies d0.flash) d0.flash d1.flash r → KeepsDataAt t d0.flash d1.flash
   data_written r groups = data_by r (after r groups)
 
   -- and where it is done they are copied
-  pub copies_written : (placed : Placed) → GroupsAfter (next_group t (length copies) w) (name_at copies) (bytes_at copies d0.flash) d0.flash d1.flash (Ok placed) → AreCopied w copies t d0.flash d1.flash
+  pub copies_written : (placed : Placed) → GroupsAfter (next_group t (length copies) w) (copy_name copies) (copy_bytes copies d0.flash) d0.flash d1.flash (Ok placed) → AreCopied w copies t d0.flash d1.flash
   copies_written placed groups = are_copied copies may.once (next_group t (length copies) w) refl d0.flash (may.newest honest fresh.power) d1.flash t w refl fresh.next (after (Ok placed) groups)
 
   apart_by : IsReady d0 t → d1.flash.bad ≡ d0.flash.bad → (r : Result Placed GroupFault)
-      → NewestAfter (next_group t (length copies) w) (name_at copies) (bytes_at copies d0.flash) d0.flash d1.flash r → StayOrLieApart copies t d0.flash d1
+      → NewestAfter (next_group t (length copies) w) (copy_name copies) (copy_bytes copies d0.flash) d0.flash d1.flash r → StayOrLieApart copies t d0.flash d1
   apart_by ready bad = by where
     stay : KeepsNewest d0.flash d1.flash → StayOrLieApart copies t d0.flash d1
     stay keeps = inl (kept_where d0.flash d1.flash t (λ o c s newest some. keeps o c s newest))
 
-    lie : ShowsGroup (next_group t (length copies) w) (name_at copies) (bytes_at copies d0.flash) d0.flash d1.flash → StayOrLieApart copies t d0.flash d1
+    lie : ShowsGroup (next_group t (length copies) w) (copy_name copies) (copy_bytes copies d0.flash) d0.flash d1.flash → StayOrLieApart copies t d0.flash d1
     lie shows = inr (record {
       block = w;
       within = fresh.within;
@@ -75,7 +75,7 @@ module _ (copies : List CopyOf) (w : ℕ) (d0 d1 : Device) (t : Table) (fresh : 
       copied = are_copied copies may.once (next_group t (length copies) w) refl d0.flash (may.newest honest fresh.power) d1.flash t w refl fresh.next shows;
     })
 
-    by : (r : Result Placed GroupFault) → NewestAfter (next_group t (length copies) w) (name_at copies) (bytes_at copies d0.flash) d0.flash d1.flash r → StayOrLieApart copies t d0.flash d1
+    by : (r : Result Placed GroupFault) → NewestAfter (next_group t (length copies) w) (copy_name copies) (copy_bytes copies d0.flash) d0.flash d1.flash r → StayOrLieApart copies t d0.flash d1
     by (Ok placed) shows = lie shows
     by (Err groups.NoRoom) keeps = stay keeps
     by (Err groups.Failed) keeps = stay keeps
@@ -85,16 +85,16 @@ module _ (copies : List CopyOf) (w : ℕ) (d0 d1 : Device) (t : Table) (fresh : 
 
   -- however it ends, what is kept stays where it is, or the copies lie in the block that was fresh
   pub apart_written : IsReady d0 t → d1.flash.bad ≡ d0.flash.bad → (r : Result Placed GroupFault)
-      → GroupsAfter (next_group t (length copies) w) (name_at copies) (bytes_at copies d0.flash) d0.flash d1.flash r → StayOrLieApart copies t d0.flash d1
+      → GroupsAfter (next_group t (length copies) w) (copy_name copies) (copy_bytes copies d0.flash) d0.flash d1.flash r → StayOrLieApart copies t d0.flash d1
   apart_written ready bad r groups = apart_by ready bad r (after r groups)
 
-  pub keeps_failed : GroupsAfter (next_group t (length copies) w) (name_at copies) (bytes_at copies d0.flash) d0.flash d1.flash (Err groups.Failed) → KeepsNewest d0.flash d1.flash
+  pub keeps_failed : GroupsAfter (next_group t (length copies) w) (copy_name copies) (copy_bytes copies d0.flash) d0.flash d1.flash (Err groups.Failed) → KeepsNewest d0.flash d1.flash
   keeps_failed counted = after (Err groups.Failed) counted
 
 -- the block of copies that failed is passed over
 pub passes_failed : (copies : List CopyOf) (w : ℕ) (d0 d1 d2 : Device) (t t1 t2 : Table) (result : Result (Unit {0}) Gone) → IsFresh w d0 t → MayBeCopied d0 t copies
     → Lasts d0 d1 → d1.failures ≡ d0.failures + 1 → (d0.honest ≡ true → Grows d0.flash d1.flash)
-    → (d0.honest ≡ true → GroupsAfter (next_group t (length copies) w) (name_at copies) (bytes_at copies d0.flash) d0.flash d1.flash (Err groups.Failed))
+    → (d0.honest ≡ true → GroupsAfter (next_group t (length copies) w) (copy_name copies) (copy_bytes copies d0.flash) d0.flash d1.flash (Err groups.Failed))
     → t1 ≡ closed t → Marks w d1 d2 result → (d1.honest ≡ true → KeepsElsewhere w d1.flash d2.flash) → NotesMark w d2.flash t1 t2 → Passes d0 d2 (closed t) t2
 passes_failed copies w d0 d1 d2 t t1 t2 result fresh may lasts failed grows groups is marks marked notes =
     passes_marked w d0 d1 d2 (closed t) t2 result fresh.within fresh.good fresh.unkept lasts (omega (arith, failed))

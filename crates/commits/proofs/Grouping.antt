@@ -25,7 +25,7 @@ use Rattle.chunk_index.specs.Maps.{kept_pages, present}
 use Rattle.page_buffer.specs.Buffering.{Buffers, key_at}
 use Rattle.page_buffer.specs.laws.Buffering.{place_within}
 use Rattle.page_buffer.specs.Shown.{data_of, data_at, data_by, data_in, present_data}
-use Rattle.transactions.specs.Committing.{name_at, bytes_at, no_key}
+use Rattle.transactions.specs.Committing.{fresh_name, fresh_bytes, no_key}
 use Rattle.transactions.specs.Groups.{GroupsAfter, closed, next_group}
 use Rattle.transactions.specs.Handing.{HandsOut}
 use Rattle.transactions.specs.Naming.{IsNamed, NamesOnce}
@@ -101,47 +101,47 @@ keeps_group spare d e t u x stands held less is lasts ready numbers newest = rec
 
 module _ (pages : List FreshPage) (number : ℕ) where
   -- page i of the group is of the key that page i of the buffer is of
-  named_key : (o c i : ℕ) → i < length pages → IsNamed (name_at pages number) o c i → key_at pages i ≡ Some (record { object = o; chunk = c })
+  named_key : (o c i : ℕ) → i < length pages → IsNamed (fresh_name pages number) o c i → key_at pages i ≡ Some (record { object = o; chunk = c })
   named_key o c i lt named =
       let there = slice_get_there pages i lt in
-      let key : (name_at pages number i).key ≡ there.0.key = ap (λ m. option_map_or (λ (p : FreshPage). p.key) m no_key) there.1 in
+      let key : (fresh_name pages number i).key ≡ there.0.key = ap (λ m. option_map_or (λ (p : FreshPage). p.key) m no_key) there.1 in
       let object : there.0.key.object ≡ o = sym (ap (λ (k : Key). k.object) key) ∙ named.object in
       let chunk : there.0.key.chunk ≡ c = sym (ap (λ (k : Key). k.chunk) key) ∙ named.chunk in
       let same : there.0.key ≡ record { object = o; chunk = c } = λ j. record { object = object j; chunk = chunk j } in
       ap (option_map (λ (p : FreshPage). p.key)) there.1 ∙ ap Some same
 
-  key_named : (o c i : ℕ) → i < length pages → key_at pages i ≡ Some (record { object = o; chunk = c }) → IsNamed (name_at pages number) o c i
+  key_named : (o c i : ℕ) → i < length pages → key_at pages i ≡ Some (record { object = o; chunk = c }) → IsNamed (fresh_name pages number) o c i
   key_named o c i lt is =
       let there = slice_get_there pages i lt in
-      let key : (name_at pages number i).key ≡ there.0.key = ap (λ m. option_map_or (λ (p : FreshPage). p.key) m no_key) there.1 in
+      let key : (fresh_name pages number i).key ≡ there.0.key = ap (λ m. option_map_or (λ (p : FreshPage). p.key) m no_key) there.1 in
       let k : Key = record { object = o; chunk = c } in
       let both : Some there.0.key ≡ Some k = sym (ap (option_map (λ (p : FreshPage). p.key)) there.1) ∙ is in
       let same : there.0.key ≡ k = cc in
       record { object = ap (λ (z : Key). z.object) key ∙ ap (λ (z : Key). z.object) same; chunk = ap (λ (z : Key). z.chunk) key ∙ ap (λ (z : Key). z.chunk) same }
 
 -- its data
-bytes_is : (pages : List FreshPage) (i : ℕ) → i < length pages → data_in pages i ≡ Some (bytes_at pages i)
+bytes_is : (pages : List FreshPage) (i : ℕ) → i < length pages → data_in pages i ≡ Some (fresh_bytes pages i)
 bytes_is pages i lt =
     let there = slice_get_there pages i lt in
     ap (option_map (λ (p : FreshPage). p.bytes.items)) there.1 ∙ sym (ap (λ m. Some (option_map_or (λ (p : FreshPage). p.bytes.items) m [])) there.1)
 
 -- the newest pages, however the writing of the group ends
 pub newest_written : (d e : Device) (t : Table) (pages : List FreshPage) (o : ℕ) → IsReady d t → d.honest ≡ true → Grows d.flash e.flash → (result : Result Placed GroupFault)
-    → GroupsAfter (next_group t (length pages) o) (name_at pages t.next_group) (bytes_at pages) d.flash e.flash result
-    → NewestAfter (next_group t (length pages) o) (name_at pages t.next_group) (bytes_at pages) d.flash e.flash result
+    → GroupsAfter (next_group t (length pages) o) (fresh_name pages t.next_group) (fresh_bytes pages) d.flash e.flash result
+    → NewestAfter (next_group t (length pages) o) (fresh_name pages t.next_group) (fresh_bytes pages) d.flash e.flash result
 newest_written d e t pages o ready honest grows result groups =
-    newest_after (next_group t (length pages) o) (name_at pages t.next_group) (bytes_at pages) d.flash e.flash grows
-    (commit_comes_last (next_group t (length pages) o) (name_at pages t.next_group) d.flash (record { versions = λ i lt. refl; seq = t.next_seq; below = ready.below honest }))
+    newest_after (next_group t (length pages) o) (fresh_name pages t.next_group) (fresh_bytes pages) d.flash e.flash grows
+    (commit_comes_last (next_group t (length pages) o) (fresh_name pages t.next_group) d.flash (record { versions = λ i lt. refl; seq = t.next_seq; below = ready.below honest }))
     result groups
 
 -- ---- a group that counts
 
 module _ (t : Table) (x : Index) (pages : List FreshPage) (o : ℕ) (buffers : Buffers x pages) (f g : Flash)
-    (shows : ShowsGroup (next_group t (length pages) o) (name_at pages t.next_group) (bytes_at pages) f g) where
-  unnamed : (q c : ℕ) (k : KeptPage) → present x q c ≡ presents.OnFlash k → (i : ℕ) → i < length pages → IsNamed (name_at pages t.next_group) q c i → ⊥
+    (shows : ShowsGroup (next_group t (length pages) o) (fresh_name pages t.next_group) (fresh_bytes pages) f g) where
+  unnamed : (q c : ℕ) (k : KeptPage) → present x q c ≡ presents.OnFlash k → (i : ℕ) → i < length pages → IsNamed (fresh_name pages t.next_group) q c i → ⊥
   unnamed q c k is i lt named = let two : presents.OnFlash k ≡ presents.InBuffer i = sym is ∙ buffers.told q c i (named_key pages t.next_group q c i lt named) in cc
 
-  names_once : (q c i : ℕ) → present x q c ≡ presents.InBuffer i → NamesOnce (next_group t (length pages) o) (name_at pages t.next_group) q c i
+  names_once : (q c i : ℕ) → present x q c ≡ presents.InBuffer i → NamesOnce (next_group t (length pages) o) (fresh_name pages t.next_group) q c i
   names_once q c i is =
       let key = buffers.there q c i is in
       let lt : i < length pages = place_within pages i (record { object = q; chunk = c }) key in
@@ -155,7 +155,7 @@ module _ (t : Table) (x : Index) (pages : List FreshPage) (o : ℕ) (buffers : B
   pub kept_buffered : (q c i : ℕ) → present x q c ≡ presents.InBuffer i → IsKeptAt g q c (record { block = o; page = (t.entry o).next + i; version = t.next_group })
   kept_buffered q c i is =
       let there = shows.named q c i (names_once q c i is) in
-      record { tag = tag_in (next_group t (length pages) o) (name_at pages t.next_group) i; newest = there.newest; version = refl }
+      record { tag = tag_in (next_group t (length pages) o) (fresh_name pages t.next_group) i; newest = there.newest; version = refl }
 
   -- and reads
   pub reads_buffered : (i : ℕ) → i < length pages → data_at g (record { block = o; page = (t.entry o).next + i; version = t.next_group }) ≡ data_in pages i

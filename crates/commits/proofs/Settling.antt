@@ -22,7 +22,7 @@ use Rattle.chunk_index.specs.Maps.{kept_pages, kept_in, present, once_written, C
 use Rattle.page_buffer.specs.Buffering.{Buffers}
 use Rattle.page_buffer.specs.laws.Buffering.{place_within, written_kept}
 use Rattle.page_buffer.specs.Shown.{data_at, data_by, kept_data, present_data}
-use Rattle.transactions.specs.Committing.{name_at, bytes_at}
+use Rattle.transactions.specs.Committing.{fresh_name, fresh_bytes}
 use Rattle.transactions.specs.Groups.{OkTable, next_group}
 use Rattle.transactions.specs.Handing.{HandsOut}
 use Rattle.transactions.specs.laws.Handing.{hands_same}
@@ -178,7 +178,7 @@ module _ (spare : ℕ) (lists : ListsAreWhole) (d e : Device) (t u v : Table) (x
     (buffers : Buffers x pages) (is : t.open_block ≡ Some o) (ready : IsReady d t) (stands : Stands spare d t x) (free : HasFreeBlocks t spare)
     (writable : AreWritable d.geometry pages) (ranges : HaveRanges pages) (fit : length pages ≤ room t)
     (lasts : Lasts d e) (then : IsReady e u) (numbers : HandsOut d e t u) (same : SameCounts t u) (after : StaysOrCloses (length pages) o t u) (limits : IsWithinLimits t → IsWithinLimits u) (power : e.gone ≡ false)
-    (shows : d.honest ≡ true → ShowsGroup (next_group t (length pages) o) (name_at pages t.next_group) (bytes_at pages) d.flash e.flash)
+    (shows : d.honest ≡ true → ShowsGroup (next_group t (length pages) o) (fresh_name pages t.next_group) (fresh_bytes pages) d.flash e.flash)
     (settles : Settles (record { block = o; first = (t.entry o).next; number = t.next_group }) x y) (agree : CountsAgree v y) (counts : Recounts (kept_in x) (kept_in y) u v) where
   abbrev group : WrittenGroup
   group = record { block = o; first = (t.entry o).next; number = t.next_group }

@@ -17,7 +17,7 @@ use Rattle.chunk_index.specs.declared.index.Index.{Index}
 use Rattle.chunk_index.specs.Counts.{Recounts}
 use Rattle.chunk_index.specs.Maps.{kept_in, kept_pages, CountsAgree, Settles}
 use Rattle.page_buffer.specs.Buffering.{Buffers}
-use Rattle.transactions.specs.Committing.{name_at, bytes_at}
+use Rattle.transactions.specs.Committing.{fresh_name, fresh_bytes}
 use Rattle.transactions.specs.Groups.{AddsPages, GroupsAfter, OkTable, TellsGroup, closed, next_group}
 use Rattle.transactions.specs.Handing.{HandsOut}
 use Rattle.transactions.specs.Newest.{NewestAfter, ShowsGroup}
@@ -64,7 +64,7 @@ keeps_written spare d e t u x xs o lists stands less is lasts then numbers newes
 -- the device went, and the group counts or not
 pub leaves_gone : (spare : ℕ) (d e : Device) (t u : Table) (x : Index) (pages : List FreshPage) (o : ℕ) → ListsAreWhole → Stands spare d t x → HasFreeBlocks t spare → t.next_group < 2 ^ 62 → t.open_block ≡ Some o → Buffers x pages → IsReady d t
     → u ≡ closed t → Lasts d e → IsReady e u → HandsOut d e t u → e.gone ≡ true → (d.honest ≡ true → Grows d.flash e.flash)
-    → (d.honest ≡ true → GroupsAfter (next_group t (length pages) o) (name_at pages t.next_group) (bytes_at pages) d.flash e.flash (Err group_faults.Gone)) → Leaves spare d e t u x x pages pages
+    → (d.honest ≡ true → GroupsAfter (next_group t (length pages) o) (fresh_name pages t.next_group) (fresh_bytes pages) d.flash e.flash (Err group_faults.Gone)) → Leaves spare d e t u x x pages pages
 leaves_gone spare d e t u x pages o lists stands free less opened buffers ready is lasts then numbers gone grows groups = record {
   lasts = lasts;
   ready = then;
@@ -85,7 +85,7 @@ leaves_gone spare d e t u x pages o lists stands free less opened buffers ready 
   same : SameCounts t u
   same = same_closed t u is
 
-  after : (honest : d.honest ≡ true) → d.gone ≡ false → NewestAfter (next_group t (length pages) o) (name_at pages t.next_group) (bytes_at pages) d.flash e.flash (Err group_faults.Gone) → StaysOrShows spare x pages d e
+  after : (honest : d.honest ≡ true) → d.gone ≡ false → NewestAfter (next_group t (length pages) o) (fresh_name pages t.next_group) (fresh_bytes pages) d.flash e.flash (Err group_faults.Gone) → StaysOrShows spare x pages d e
   after honest power (inl keeps) = inl (record { same_data = same_kept_pages x d.flash e.flash keeps; free = free_group spare d e t u x stands held is lasts then (λ _. keeps) honest })
   after honest power (inr shows) = inr (record {
     newest = carries_present t x pages o buffers d.flash e.flash shows (stands.newest honest power);
@@ -105,7 +105,7 @@ module _ (spare : ℕ) (lists : ListsAreWhole) (d e : Device) (t u v : Table) (x
     (writable : AreWritable d.geometry pages) (ranges : HaveRanges pages) (fit : length pages ≤ room t) (less : t.next_group < 2 ^ 62)
     (lasts : Lasts d e) (then : IsReady e u) (numbers : HandsOut d e t u) (grows : d.honest ≡ true → Grows d.flash e.flash) (table : OkTable placed.suspect (length pages) t u) (power : e.gone ≡ false)
     (tells : TellsGroup (next_group t (length pages) o) placed)
-    (groups : d.honest ≡ true → AddsPages (next_group t (length pages) o) (name_at pages t.next_group) (bytes_at pages) d.flash e.flash)
+    (groups : d.honest ≡ true → AddsPages (next_group t (length pages) o) (fresh_name pages t.next_group) (fresh_bytes pages) d.flash e.flash)
     (settles : Settles (record { block = placed.block; first = placed.first; number = placed.group }) x y) (agree : CountsAgree v y) (counts : Recounts (kept_in x) (kept_in y) u v) where
   same_group : record { block = placed.block; first = placed.first; number = placed.group } ≡ (let w : WrittenGroup = record { block = o; first = (t.entry o).next; number = t.next_group } in w)
   same_group = λ i. record { block = tells.block i; first = tells.first i; number = tells.group i }
@@ -113,7 +113,7 @@ module _ (spare : ℕ) (lists : ListsAreWhole) (d e : Device) (t u v : Table) (x
   settles_there : Settles (record { block = o; first = (t.entry o).next; number = t.next_group }) x y
   settles_there = subst (λ (w : WrittenGroup). Settles w x y) same_group settles
 
-  shows : d.honest ≡ true → ShowsGroup (next_group t (length pages) o) (name_at pages t.next_group) (bytes_at pages) d.flash e.flash
+  shows : d.honest ≡ true → ShowsGroup (next_group t (length pages) o) (fresh_name pages t.next_group) (fresh_bytes pages) d.flash e.flash
   shows honest = newest_written d e t pages o ready honest (grows honest) (Ok placed) (groups honest)
 
   pub commits_written : Commits spare d e t v x y pages

@@ -6,7 +6,7 @@ use Rattle.block_state.specs.Table.{Table}
 use Rattle.chunk_index.specs.declared.index.Index.{Index}
 use Rattle.page_buffer.specs.declared.buffer.Buffer.{Buffer}
 use Rattle.page_buffer.specs.BufferOf.{buffered, last_written}
-use Rattle.nand_model.specs.Counts.{Costs}
+use Rattle.nand_model.specs.Counts.{Costs, ReadsBeside, ReadsFew}
 use Rattle.bad_blocks.specs.Standing.{HasFreeBlocks}
 use Rattle.collector.specs.declared.fault.RoomFault.{RoomFault}
 use Rattle.collector.specs.declared.fault.RoomFault.TheVariants as faults
@@ -78,6 +78,19 @@ abbrev pub TurnCosts : (count : ℕ) → Device → Device → Result Turn RoomF
 TurnCosts count old new (Ok turns.Written) = Costs (count + old.geometry.pages + 1) (3 * old.geometry.pages + 3) 0 old new
 TurnCosts count old new (Ok turns.Again) = Costs 0 (3 * old.geometry.pages + 3) 0 old new
 TurnCosts count old new (Err fault) = Costs (count + old.geometry.pages + 1) (3 * old.geometry.pages + 3) 0 old new
+
+-- an attempt reads no page but after a failure
+abbrev pub AttemptReads : (count : ℕ) → Device → Device → Result Attempt RoomFault → Type 0
+AttemptReads count old new (Ok attempts.Trusted) = ReadsBeside count old new
+AttemptReads count old new (Ok (attempts.Suspect w)) = ReadsBeside count old new
+AttemptReads count old new (Ok (attempts.Failed w)) = ReadsFew 0 old new
+AttemptReads count old new (Err fault) = ReadsFew 1 old new
+
+-- where the pages count in the end they were written without a read, in the last of the turns
+abbrev pub TurnReads : (count : ℕ) → Device → Device → Result Turn RoomFault → Type 0
+TurnReads count old new (Ok turns.Written) = ReadsBeside count old new
+TurnReads count old new (Ok turns.Again) = ReadsFew 0 old new
+TurnReads count old new (Err fault) = ReadsFew 1 old new
 
 -- how the writing ends, of as many turns as it takes
 abbrev pub WholeEnds : (count spare : ℕ) → Device → Device → Table → Table → Index → Index → Buffer → Buffer → Result (Unit {0}) RoomFault → Type 0

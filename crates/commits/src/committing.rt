@@ -11,7 +11,7 @@ ghost use Rattle.page_buffer.specs.BufferOf.{buffered, last_written};
 ghost use Rattle.page_buffer.specs.Buffering.{Buffers, IsUnbuffered};
 ghost use Rattle.transactions.specs.Handing.{HandsOut};
 ghost use Rattle.transactions.specs.Ready.{IsReady};
-ghost use Rattle.nand_model.specs.Counts.{Costs, ReadsFew, unfinished};
+ghost use Rattle.nand_model.specs.Counts.{Costs, ReadsFor};
 ghost use Rattle.bad_blocks.specs.Moving.{AnswersFailures, MarksFailures};
 ghost use Rattle.bad_blocks.specs.Room.{IsRoomFor};
 ghost use Rattle.bad_blocks.specs.Standing.{HasFreeBlocks, Stands};
@@ -76,8 +76,8 @@ pub fn commit<N: Nand>(
     ensures answers { OnOk result (AnswersFailures 0 0 (N.state device.old) (N.state device.new) (table blocks.old) (table blocks.new)) }
     // The programs of the pages, a making of room, and a retirement and two of these again for each failure.
     ensures costs { Costs (length (buffered buffer.old) + (N.state device.old).geometry.pages + 1) (3 * (N.state device.old).geometry.pages + 3) 0 (N.state device.old) (N.state device.new) }
-    // No more pages are read than changes and failures are counted, and one more where it does not end well.
-    ensures reads { ReadsFew (unfinished result) (N.state device.old) (N.state device.new) }
+    // What is buffered is written without a read: pages are read to be copied, and after a failure.
+    ensures reads { ReadsFor (length (buffered buffer.old)) (N.state device.old) (N.state device.new) result }
     // A block is taken only where the open one lacks the pages, or a program failed.
     ensures takes_none { TakesNoBlock (length (buffered buffer.old)) (table blocks.old) (N.state device.old) (N.state device.new) }
     // And no more than one, while blocks are left that can be taken.

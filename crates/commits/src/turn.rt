@@ -5,14 +5,14 @@ ghost use Rattle.block_state.specs.TableOf.{table};
 ghost use Rattle.page_buffer.specs.BufferOf.{buffered};
 ghost use Rattle.page_buffer.specs.Buffering.{Buffers};
 ghost use Rattle.transactions.specs.Ready.{IsReady};
-ghost use Rattle.nand_model.specs.Counts.{Costs, ReadsFew, unfinished};
+ghost use Rattle.nand_model.specs.Counts.{Costs, ReadsFor};
 ghost use Rattle.bad_blocks.specs.Moving.{AnswersFailures, MarksFailures};
 ghost use Rattle.bad_blocks.specs.Room.{IsRoomFor};
 ghost use Rattle.bad_blocks.specs.Standing.{HasFreeBlocks, Stands};
 ghost use Rattle.commits.specs.Carrying.{AreWritable};
 ghost use Rattle.commits.specs.Committing.{IsUnhindered, KeepsOpen, SameSizes, TakesNoBlock, TakesOneBlock};
 ghost use Rattle.commits.specs.Keeping.{Leaves};
-ghost use Rattle.commits.specs.Writing.{TurnCosts, TurnEnds, WholeEnds};
+ghost use Rattle.commits.specs.Writing.{TurnCosts, TurnEnds, TurnReads, WholeEnds};
 
 use crate::writing::{Attempt, write_buffered};
 use bad_blocks::{MoveRoom, retire};
@@ -53,7 +53,7 @@ fn take_turn<N: Nand>(
     ensures marks { MarksFailures 0 0 (N.state device.old) (N.state device.new) (table blocks.old) (table blocks.new) }
     ensures answers { OnOk result (AnswersFailures 0 0 (N.state device.old) (N.state device.new) (table blocks.old) (table blocks.new)) }
     ensures costs { TurnCosts (length (buffered buffer.old)) (N.state device.old) (N.state device.new) result }
-    ensures reads { ReadsFew (unfinished result) (N.state device.old) (N.state device.new) }
+    ensures reads { TurnReads (length (buffered buffer.old)) (N.state device.old) (N.state device.new) result }
     ensures takes_none { TakesNoBlock (length (buffered buffer.old)) (table blocks.old) (N.state device.old) (N.state device.new) }
     ensures takes_one { TakesOneBlock (length (buffered buffer.old)) spare (table blocks.old) (N.state device.old) (N.state device.new) }
     ensures keeps_open { OnOk result (KeepsOpen (length (buffered buffer.old)) (table blocks.old) (table blocks.new) (N.state device.old) (N.state device.new)) }
@@ -102,7 +102,7 @@ pub(crate) fn write_whole<N: Nand>(
     ensures marks { MarksFailures 0 0 (N.state device.old) (N.state device.new) (table blocks.old) (table blocks.new) }
     ensures answers { OnOk result (AnswersFailures 0 0 (N.state device.old) (N.state device.new) (table blocks.old) (table blocks.new)) }
     ensures costs { Costs (length (buffered buffer.old) + (N.state device.old).geometry.pages + 1) (3 * (N.state device.old).geometry.pages + 3) 0 (N.state device.old) (N.state device.new) }
-    ensures reads { ReadsFew (unfinished result) (N.state device.old) (N.state device.new) }
+    ensures reads { ReadsFor (length (buffered buffer.old)) (N.state device.old) (N.state device.new) result }
     ensures takes_none { TakesNoBlock (length (buffered buffer.old)) (table blocks.old) (N.state device.old) (N.state device.new) }
     ensures takes_one { TakesOneBlock (length (buffered buffer.old)) spare (table blocks.old) (N.state device.old) (N.state device.new) }
     ensures keeps_open { OnOk result (KeepsOpen (length (buffered buffer.old)) (table blocks.old) (table blocks.new) (N.state device.old) (N.state device.new)) }

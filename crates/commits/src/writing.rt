@@ -2,7 +2,6 @@
 ghost use Rattle.std.specs.Prelude.{◌≡◌, ◌<◌, ◌≤◌, ◌+◌, ◌^◌, ℕ, length, OnOk};
 ghost use Rattle.volume_terms.specs.Sizes.{number_end};
 ghost use Rattle.nand_model.specs.Calls.{Lasts};
-ghost use Rattle.nand_model.specs.Counts.{ReadsFew, unfinished};
 ghost use Rattle.block_state.specs.Kept.{bad_count};
 ghost use Rattle.block_state.specs.Table.{room};
 ghost use Rattle.block_state.specs.TableOf.{table};
@@ -14,7 +13,7 @@ ghost use Rattle.bad_blocks.specs.Standing.{HasFreeBlocks, Stands};
 ghost use Rattle.commits.specs.Carrying.{AreWritable};
 ghost use Rattle.commits.specs.Committing.{SameSizes};
 ghost use Rattle.commits.specs.Keeping.{Leaves};
-ghost use Rattle.commits.specs.Writing.{AttemptEnds, TrustsOpen, unanswered};
+ghost use Rattle.commits.specs.Writing.{AttemptEnds, AttemptReads, TrustsOpen, unanswered};
 
 use crate::keys::have_ranges;
 use block_state::Blocks;
@@ -61,7 +60,7 @@ pub(crate) fn write_buffered<N: Nand>(
     ensures answers { OnOk result (AnswersFailures 0 (unanswered result) (N.state device.old) (N.state device.new) (table blocks.old) (table blocks.new)) }
     ensures keeps_open { TrustsOpen (length (buffered buffer.old)) (table blocks.old) (table blocks.new) result }
     ensures costs { (N.state device.new).changes ≤ (N.state device.old).changes + length (buffered buffer.old) }
-    ensures reads { ReadsFew (unfinished result) (N.state device.old) (N.state device.new) }
+    ensures reads { AttemptReads (length (buffered buffer.old)) (N.state device.old) (N.state device.new) result }
     ensures ends { (spare : ℕ) → Stands spare (N.state device.old) (table blocks.old) index.old → HasFreeBlocks (table blocks.old) spare
         → AttemptEnds spare (N.state device.old) (N.state device.new) (table blocks.old) (table blocks.new) index.old index.new buffer.old buffer.new result }
     ensures sizes { SameSizes buffer.old buffer.new }

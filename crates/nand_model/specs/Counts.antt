@@ -14,3 +14,12 @@ ReadsFew more old new = new.reads + old.changes + old.failures ≤ old.reads + n
 abbrev pub unfinished : {T E : Type 0} → Result T E → ℕ
 unfinished (Ok done) = 0
 unfinished (Err fault) = 1
+
+-- so many of the changes come without a read: it reads at most as many pages as it counts others, and failures
+abbrev pub ReadsBeside : (quiet : ℕ) → Device → Device → Type 0
+ReadsBeside quiet old new = new.reads + old.changes + old.failures + quiet ≤ old.reads + new.changes + new.failures
+
+-- what a call reads that writes so many pages from memory: where it is done, none for these
+abbrev pub ReadsFor : {T E : Type 0} → (written : ℕ) → Device → Device → Result T E → Type 0
+ReadsFor written old new (Ok done) = ReadsBeside written old new
+ReadsFor written old new (Err fault) = ReadsFew 1 old new

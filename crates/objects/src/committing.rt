@@ -4,7 +4,7 @@ ghost use Rattle.nand_model.specs.Calls.{Lasts};
 ghost use Rattle.block_state.specs.TableOf.{table};
 ghost use Rattle.chunk_index.specs.Maps.{IsReadyKey};
 ghost use Rattle.transactions.specs.Handing.{HandsOut};
-ghost use Rattle.nand_model.specs.Counts.{Costs, ReadsFew, unfinished};
+ghost use Rattle.nand_model.specs.Counts.{Costs, ReadsFor};
 ghost use Rattle.bad_blocks.specs.Moving.{AnswersFailures, MarksFailures};
 ghost use Rattle.page_buffer.specs.BufferOf.{buffered};
 ghost use Rattle.commits.specs.Committing.{IsUnhindered, KeepsOpen, TakesNoBlock, TakesOneBlock};
@@ -47,7 +47,8 @@ impl<N: Nand> Store<N> {
         ensures marks { MarksFailures 0 0 (N.state self.old.device) (N.state self.new.device) (table self.old.blocks) (table self.new.blocks) }
         ensures answers { OnOk result (AnswersFailures 0 0 (N.state self.old.device) (N.state self.new.device) (table self.old.blocks) (table self.new.blocks)) }
         ensures costs { Costs (length (buffered self.old.buffer) + (N.state self.old.device).geometry.pages + 1) (3 * (N.state self.old.device).geometry.pages + 3) 0 (N.state self.old.device) (N.state self.new.device) }
-        ensures reads { ReadsFew (unfinished result) (N.state self.old.device) (N.state self.new.device) }
+        // What is buffered is written without a read.
+        ensures reads { ReadsFor (length (buffered self.old.buffer)) (N.state self.old.device) (N.state self.new.device) result }
         ensures same { (self.new.spare ≡ self.old.spare) × (self.new.refused ≡ self.old.refused) }
         ensures keys { (o c : ℕ) → IsReadyKey self.old.index o c → IsReadyKey self.new.index o c }
         ensures whole { OnOk result ((self.old.broken ≡ false) × (self.new.broken ≡ false)) }

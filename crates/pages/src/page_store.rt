@@ -1,6 +1,6 @@
 // Pages that are changed and kept.
 ghost use Rattle.std.specs.Prelude.{◌≡◌, ◌⊎◌, ◌≤◌, ◌+◌, true, false, length, OnOk, IfErr, IsErrOf, ◌∷◌, []};
-ghost use Rattle.nand_model.specs.Counts.{ReadsFew, unfinished};
+ghost use Rattle.nand_model.specs.Counts.{ReadsFew, ReadsFor, unfinished};
 ghost use Rattle.pages.specs.Changes.{AreApart, AreSized, AreOfObjects};
 ghost use Rattle.pages.specs.Maps.{changed, without_cuts};
 ghost use Rattle.pages.specs.State.{KeepsPower};
@@ -65,7 +65,8 @@ pub trait PageStore: Pages {
         // Where nothing is buffered there is no call of the device.
         ensures nothing { (Self.state self.old).buffered ≡ 0 → (Self.state self.new).device ≡ (Self.state self.old).device }
         ensures costs { CostsACommit (Self.state self.old) (Self.state self.new) }
-        ensures reads { ReadsFew (unfinished result) (Self.state self.old).device (Self.state self.new).device }
+        // What is buffered is written without a read.
+        ensures reads { ReadsFor (Self.state self.old).buffered (Self.state self.old).device (Self.state self.new).device result }
         ensures buffered { OnOk result ((Self.state self.new).buffered ≡ 0) }
         ensures memory { IsErrOf result faults.NoMemory → ⊥ }
         ensures stops { IfErr result (λ fault. (Self.state self.new).sound ≡ false) }

@@ -11,6 +11,8 @@ use Rattle.flash_tree.specs.Groups.{Group, AllThere}
 use Rattle.transactions.specs.declared.source.PageName.{PageName}
 use Rattle.transactions.specs.declared.group.GroupFault.{GroupFault}
 use Rattle.transactions.specs.declared.group.GroupFault.TheVariants as faults
+use Rattle.transactions.specs.declared.page.LastPage.{LastPage}
+use Rattle.transactions.specs.declared.page.LastPage.TheVariants as lasts
 use Rattle.transactions.specs.Written.{Progress, StopsBy, WritesOne, WritesLast, LastEnds, LastNext, LastLeaves, WritesAll, AllEnds, AllLeaves, IsAsked, IsNothing, OneLacks, tag_in, page_in, unwritten}
 
 -- a page that is not written is not the page that was asked for
@@ -164,7 +166,7 @@ module _ (old mid new : Device) (g : Group) (name : ℕ → PageName) (bytes byt
       lacks_leaves faults.Gone lacks = inr lacks
 
   -- the last page ends the group
-  pub progress_ends : (result : Result Bool GroupFault) → i + 1 ≡ g.size → (old.honest ≡ true → (l : ℕ) → g.start ≤ l → old.flash.page g.block l ≡ Erased)
+  pub progress_ends : (result : Result LastPage GroupFault) → i + 1 ≡ g.size → (old.honest ≡ true → (l : ℕ) → g.start ≤ l → old.flash.page g.block l ≡ Erased)
       → WritesLast mid new g name bytes' i result → WritesAll old new g name bytes result
   progress_ends result end erased one =
       let same_block = λ (h : old.honest ≡ true). one.same_block (mid_honest h) in
@@ -187,14 +189,14 @@ module _ (old mid new : Device) (g : Group) (name : ℕ → PageName) (bytes byt
         still = still_yet one.still one.lasts;
       }
     where
-      ends_all : (result : Result Bool GroupFault) → LastEnds mid new result → AllEnds old new g.size result
-      ends_all (Ok false) ends = (ends.0 ∙ so_far.failures, ends.1, omega (arith, ends.2, so_far.changes, end))
-      ends_all (Ok true) ends = (ends.0 ∙ ap (λ n. n + 1) so_far.failures, ends.1, omega (arith, ends.2, so_far.changes, end))
+      ends_all : (result : Result LastPage GroupFault) → LastEnds mid new result → AllEnds old new g.size result
+      ends_all (Ok lasts.Done) ends = (ends.0 ∙ so_far.failures, ends.1, omega (arith, ends.2, so_far.changes, end))
+      ends_all (Ok lasts.Suspect) ends = (ends.0 ∙ ap (λ n. n + 1) so_far.failures, ends.1, omega (arith, ends.2, so_far.changes, end))
       ends_all (Err fault) ends = stops_on old mid new g name bytes i fault so_far one.lasts ends
 
-      left : old.honest ≡ true → (result : Result Bool GroupFault) → LastLeaves g name bytes' i result (new.flash.page g.block (g.start + i))
+      left : old.honest ≡ true → (result : Result LastPage GroupFault) → LastLeaves g name bytes' i result (new.flash.page g.block (g.start + i))
           → IsAsked g name bytes i (new.flash.page g.block (g.start + i)) ⊎ IsNothing (new.flash.page g.block (g.start + i))
-      left h (Ok suspect) is = inl (asked_same h _ is)
+      left h (Ok last) is = inl (asked_same h _ is)
       left h (Err faults.NoRoom) is = elim is [ inl asked ↦ inl (asked_same h _ asked) | inr lost ↦ inr lost ]
       left h (Err faults.Failed) is = inr is
       left h (Err faults.Lost) is = elim is [ inl asked ↦ inl (asked_same h _ asked) | inr lost ↦ inr lost ]
@@ -203,9 +205,9 @@ module _ (old mid new : Device) (g : Group) (name : ℕ → PageName) (bytes byt
       lacking : IsNothing (new.flash.page g.block (g.start + i)) → OneLacks g name bytes new.flash
       lacking lost = (i, omega (arith, end), nothing_asked g name bytes i _ lost)
 
-      leaves : old.honest ≡ true → (result : Result Bool GroupFault) → LastLeaves g name bytes' i result (new.flash.page g.block (g.start + i))
+      leaves : old.honest ≡ true → (result : Result LastPage GroupFault) → LastLeaves g name bytes' i result (new.flash.page g.block (g.start + i))
           → (IsAsked g name bytes i (new.flash.page g.block (g.start + i)) → AllThere g (tag_in g name) bytes new.flash) → AllLeaves g name bytes new.flash result
-      leaves h (Ok suspect) is all = all (asked_same h _ is)
+      leaves h (Ok last) is all = all (asked_same h _ is)
       leaves h (Err faults.NoRoom) is all = elim is [ inl asked ↦ inl (all (asked_same h _ asked)) | inr lost ↦ inr (lacking lost) ]
       leaves h (Err faults.Failed) is all = lacking is
       leaves h (Err faults.Lost) is all = elim is [ inl asked ↦ inl (all (asked_same h _ asked)) | inr lost ↦ inr (lacking lost) ]

@@ -1,5 +1,5 @@
 -- What holds after a group.
-use Rattle.std.proofs.Common.{◌≡◌, ◌≢◌, ◌+◌, ◌-◌, ◌<◌, ◌≤◌, ℕ, Bool, true, false, List, Option, Some, None, Ok, Err, Result, sym, ◌∙◌, ap, subst, arith, inl, inr}
+use Rattle.std.proofs.Common.{◌≡◌, ◌≢◌, ◌+◌, ◌-◌, ◌<◌, ◌≤◌, if◌then◌else◌, ℕ, Bool, true, false, List, Option, Some, None, Ok, Err, Result, sym, ◌∙◌, ap, subst, arith, inl, inr}
 use Rattle.std.proofs.lemmas.Bool.{cases_eq}
 use Rattle.nand_model.specs.Flash.{Erased}
 use Rattle.nand_model.specs.Calls.{Device}
@@ -11,11 +11,13 @@ use Rattle.transactions.specs.declared.source.PageName.{PageName}
 use Rattle.transactions.specs.declared.place.GroupPlace.{GroupPlace}
 use Rattle.transactions.specs.declared.group.GroupFault.{GroupFault}
 use Rattle.transactions.specs.declared.group.GroupFault.TheVariants as faults
+use Rattle.transactions.specs.declared.page.LastPage.{LastPage}
+use Rattle.transactions.specs.declared.page.LastPage.TheVariants as lasts
 use Rattle.flash_tree.specs.Numbering.{AreBelow}
 use Rattle.transactions.specs.Ready.{IsOpenOn, IsReady, IsPlaceIn}
 use Rattle.transactions.specs.Handing.{HandsOut}
 use Rattle.transactions.specs.laws.Handing.{below_greater}
-use Rattle.transactions.specs.Written.{WritesAll, AllEnds, LastNext, TableAfter, MayWrite, group_at, stays_open}
+use Rattle.transactions.specs.Written.{WritesAll, AllEnds, LastNext, TableAfter, MayWrite, group_at, stays_open, is_suspect}
 use Rattle.transactions.specs.Groups.{next_group, AddsPages, GroupsAfter, OkTable, TakesPages, Stays}
 use Rattle.transactions.proofs.GroupLaws.{IsFresh, is_added, is_not_added, wrote_grows, below_after}
 
@@ -55,7 +57,7 @@ module _ (old : Device) (t : Table) (count : ℕ) (place : GroupPlace) (ready : 
       let number : place.group ≡ t.next_group = at.group in
       λ i. record { block = block i; start = first i; size = size i; number = number i; seq = seq i }
 
-  module _ (new : Device) (name : ℕ → PageName) (bytes : ℕ → List ℕ) (result : Result Bool GroupFault) (all : WritesAll old new (group_at place) name bytes result)
+  module _ (new : Device) (name : ℕ → PageName) (bytes : ℕ → List ℕ) (result : Result LastPage GroupFault) (all : WritesAll old new (group_at place) name bytes result)
       (some : 1 ≤ place.count) (erased : old.honest ≡ true → (l : ℕ) → place.first ≤ l → old.flash.page place.block l ≡ Erased) where
     fresh : old.honest ≡ true → IsFresh old.flash place.block place.group
     fresh h p u has is = let below = ready.below h place.block p u open_now.good has in absurd (omega (arith, below, is, at.group))
@@ -89,11 +91,11 @@ module _ (old : Device) (t : Table) (count : ℕ) (place : GroupPlace) (ready : 
         below = numbers_below;
       })
 
-      go : (result : Result Bool GroupFault) → LastNext (place.first + place.count - 1) result (new.flash.next place.block)
+      go : (result : Result LastPage GroupFault) → LastNext (place.first + place.count - 1) result (new.flash.next place.block)
           → TableAfter place.block place.count (stays_open result) (numbered t) t' → IsReady new t'
-      go (Ok true) next is = closed_ready is
+      go (Ok lasts.Suspect) next is = closed_ready is
       go (Err fault) next is = closed_ready is
-      go (Ok false) next after =
+      go (Ok lasts.Done) next after =
           let parts : TableAfter place.block place.count true (numbered t) t' = after in
           let sets = parts.0 in
           let still = parts.1 in
@@ -121,9 +123,9 @@ module _ (old : Device) (t : Table) (count : ℕ) (place : GroupPlace) (ready : 
           }
 
     -- with power an honest device counted a change
-    counts : (result : Result Bool GroupFault) → AllEnds old new place.count result → old.honest ≡ true → new.gone ≡ false → 1 + old.changes ≤ new.changes
-    counts (Ok false) ends honest power = omega (arith, ends.2, some)
-    counts (Ok true) ends honest power = omega (arith, ends.2, some)
+    counts : (result : Result LastPage GroupFault) → AllEnds old new place.count result → old.honest ≡ true → new.gone ≡ false → 1 + old.changes ≤ new.changes
+    counts (Ok lasts.Done) ends honest power = omega (arith, ends.2, some)
+    counts (Ok lasts.Suspect) ends honest power = omega (arith, ends.2, some)
     counts (Err faults.NoRoom) ends honest power = absurd ends
     counts (Err faults.Failed) ends honest power = omega (arith, ends.2)
     counts (Err faults.Lost) ends honest power = let lies : true ≡ false = sym honest ∙ ends in absurd cc
@@ -165,11 +167,11 @@ module _ (old : Device) (t : Table) (count : ℕ) (place : GroupPlace) (ready : 
     good = open_now.good
 
   -- the group counts after Ok
-  pub groups_ok : (new : Device) (name : ℕ → PageName) (bytes : ℕ → List ℕ) (suspect : Bool) → WritesAll old new (group_at place) name bytes (Ok suspect) → 1 ≤ place.count
+  pub groups_ok : (new : Device) (name : ℕ → PageName) (bytes : ℕ → List ℕ) (last : LastPage) → WritesAll old new (group_at place) name bytes (Ok last) → 1 ≤ place.count
       → (old.honest ≡ true → (l : ℕ) → place.first ≤ l → old.flash.page place.block l ≡ Erased) → old.honest ≡ true
       → AddsPages (group_at place) name bytes old.flash new.flash
-  groups_ok new name bytes suspect all some erased h = record {
-    group = is_added (group_at place) name bytes old.flash new.flash (all.wrote h) (inside_erased new name bytes (Ok suspect) all some erased h) (fresh new name bytes (Ok suspect) all some erased h) open_now.good some (all.all h);
+  groups_ok new name bytes last all some erased h = record {
+    group = is_added (group_at place) name bytes old.flash new.flash (all.wrote h) (inside_erased new name bytes (Ok last) all some erased h) (fresh new name bytes (Ok last) all some erased h) open_now.good some (all.all h);
     pages = all.all h;
   }
 
@@ -203,10 +205,16 @@ table_filled t t' count place at (sets, still, seq) = record {
 }
 
 -- what becomes of the table after Ok
-pub ok_table : (t t' : Table) (count : ℕ) (place : GroupPlace) (suspect : Bool) → IsPlaceIn t count place → TableAfter place.block place.count (stays_open (Ok suspect)) (numbered t) t' → OkTable suspect count t t'
-ok_table t t' count place true at after = after
-ok_table t t' count place false at after = table_filled t t' count place at after
+pub ok_table : (t t' : Table) (count : ℕ) (place : GroupPlace) (last : LastPage) → IsPlaceIn t count place → TableAfter place.block place.count (stays_open (Ok last)) (numbered t) t' → OkTable (is_suspect last) count t t'
+ok_table t t' count place lasts.Suspect at after = after
+ok_table t t' count place lasts.Done at after = table_filled t t' count place at after
 
 -- the room is that of before the number was handed out
 pub room_left : (t mid : Table) (count : ℕ) (place : GroupPlace) → IsPlaceIn t count place → mid ≡ numbered t → count ≤ room t → place.count ≤ room mid
 room_left t mid count place at is le = subst (λ (x : Table). place.count ≤ room x) (sym is) (omega (arith, at.count_is, le))
+
+-- how a group ends that was written
+pub ends_written : (old new : Device) (count : ℕ) (last : LastPage) → AllEnds old new count (Ok last)
+    → (new.failures ≡ old.failures + (if is_suspect last then 1 else 0)) × (new.gone ≡ false) × (new.changes ≡ old.changes + count)
+ends_written old new count lasts.Done ends = (omega (arith, ends.0), ends.1, ends.2)
+ends_written old new count lasts.Suspect ends = (omega (arith, ends.0), ends.1, ends.2)

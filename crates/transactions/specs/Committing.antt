@@ -11,12 +11,12 @@ abbrev pub no_key : Key
 no_key = record { object = 0; chunk = 0 }
 
 -- page i is of its key, and its version is the number of the group
-abbrev pub name_at : List FreshPage → ℕ → ℕ → PageName
-name_at pages number i = record { key = option_map_or (λ p. p.key) (slice_get pages i) no_key; version = number }
+abbrev pub fresh_name : List FreshPage → ℕ → ℕ → PageName
+fresh_name pages number i = record { key = option_map_or (λ p. p.key) (slice_get pages i) no_key; version = number }
 
 -- the data of page i
-abbrev pub bytes_at : List FreshPage → ℕ → List ℕ
-bytes_at pages i = option_map_or (λ p. p.bytes.items) (slice_get pages i) []
+abbrev pub fresh_bytes : List FreshPage → ℕ → List ℕ
+fresh_bytes pages i = option_map_or (λ p. p.bytes.items) (slice_get pages i) []
 
 -- There is at least one page, each has the size of the device's pages, and no page is of object 0.
 pub record CanCommit (pages : List FreshPage) (geometry : Geometry) (number : ℕ) : Type 0 where

@@ -15,16 +15,16 @@ abbrev pub no_name : PageName
 no_name = record { key = record { object = 0; chunk = 0 }; version = 0 }
 
 -- the name of copy i
-abbrev pub name_at : List CopyOf → ℕ → PageName
-name_at places i = option_map_or (λ c. c.name) (slice_get places i) no_name
+abbrev pub copy_name : List CopyOf → ℕ → PageName
+copy_name places i = option_map_or (λ c. c.name) (slice_get places i) no_name
 
 -- the page that copy i is of
 abbrev pub page_at : List CopyOf → Flash → ℕ → Page
 page_at places flash i = option_map_or (λ c. flash.page c.block c.page) (slice_get places i) Erased
 
 -- and its data
-abbrev pub bytes_at : List CopyOf → Flash → ℕ → List ℕ
-bytes_at places flash i = bytes_of (page_at places flash i) []
+abbrev pub copy_bytes : List CopyOf → Flash → ℕ → List ℕ
+copy_bytes places flash i = bytes_of (page_at places flash i) []
 
 -- these bytes are a tag of a page of this name
 pub record IsTagOf (name : PageName) (bytes : List ℕ) : Type 0 where
@@ -49,4 +49,4 @@ pub record CanCopy (places : List CopyOf) (geometry : Geometry) (number : ℕ) :
   pub some : 1 ≤ length places
   pub few : length places < 2 ^ 32
   pub within : (i : ℕ) (c : CopyOf) → slice_get places i ≡ Some c → (c.block < geometry.blocks) × (c.page < geometry.pages)
-  pub named : (i : ℕ) → i < length places → IsPageName number (name_at places i)
+  pub named : (i : ℕ) → i < length places → IsPageName number (copy_name places i)

@@ -11,6 +11,8 @@ use Rattle.transactions.specs.declared.source.PageName.{PageName}
 use Rattle.transactions.specs.declared.place.GroupPlace.{GroupPlace}
 use Rattle.transactions.specs.declared.group.GroupFault.{GroupFault}
 use Rattle.transactions.specs.declared.group.GroupFault.TheVariants as faults
+use Rattle.transactions.specs.declared.page.LastPage.{LastPage}
+use Rattle.transactions.specs.declared.page.LastPage.TheVariants as lasts
 
 -- the group of this place
 abbrev pub group_at : GroupPlace → Group
@@ -83,28 +85,33 @@ pub record WritesOne (old new : Device) (g : Group) (name : ℕ → PageName) (b
   pub other_blocks : old.honest ≡ true → (k l : ℕ) → k ≢ g.block → new.flash.page k l ≡ old.flash.page k l
   pub still : old.honest ≡ true → new.changes ≡ old.changes → (k l : ℕ) → new.flash.page k l ≡ old.flash.page k l
 
+-- the device said that it failed
+abbrev pub is_suspect : LastPage → Bool
+is_suspect lasts.Done = false
+is_suspect lasts.Suspect = true
+
 -- how the writing of the last page ends: done, done though the device said that it failed, or short
-abbrev pub LastEnds : Device → Device → Result Bool GroupFault → Type 0
-LastEnds old new (Ok false) = (new.failures ≡ old.failures) × (new.gone ≡ false) × (new.changes ≡ old.changes + 1)
-LastEnds old new (Ok true) = (new.failures ≡ old.failures + 1) × (new.gone ≡ false) × (new.changes ≡ old.changes + 1)
+abbrev pub LastEnds : Device → Device → Result LastPage GroupFault → Type 0
+LastEnds old new (Ok lasts.Done) = (new.failures ≡ old.failures) × (new.gone ≡ false) × (new.changes ≡ old.changes + 1)
+LastEnds old new (Ok lasts.Suspect) = (new.failures ≡ old.failures + 1) × (new.gone ≡ false) × (new.changes ≡ old.changes + 1)
 LastEnds old new (Err fault) = StopsBy old new fault
 
 -- the block's next page after its last page of the group, at p, was written
-abbrev pub LastNext : ℕ → Result Bool GroupFault → Option ℕ → Type 0
-LastNext p (Ok false) next = next ≡ Some (p + 1)
-LastNext p (Ok true) next = Unit {0}
+abbrev pub LastNext : ℕ → Result LastPage GroupFault → Option ℕ → Type 0
+LastNext p (Ok lasts.Done) next = next ≡ Some (p + 1)
+LastNext p (Ok lasts.Suspect) next = Unit {0}
 LastNext p (Err fault) next = Unit {0}
 
 -- the last page after its writing: where that failed it is not there
-abbrev pub LastLeaves : Group → (ℕ → PageName) → (ℕ → List ℕ) → ℕ → Result Bool GroupFault → Page → Type 0
-LastLeaves g name bytes i (Ok suspect) page = IsAsked g name bytes i page
+abbrev pub LastLeaves : Group → (ℕ → PageName) → (ℕ → List ℕ) → ℕ → Result LastPage GroupFault → Page → Type 0
+LastLeaves g name bytes i (Ok last) page = IsAsked g name bytes i page
 LastLeaves g name bytes i (Err faults.NoRoom) page = IsAsked g name bytes i page ⊎ IsNothing page
 LastLeaves g name bytes i (Err faults.Failed) page = IsNothing page
 LastLeaves g name bytes i (Err faults.Lost) page = IsAsked g name bytes i page ⊎ IsNothing page
 LastLeaves g name bytes i (Err faults.Gone) page = IsAsked g name bytes i page ⊎ IsNothing page
 
 -- what the writing of the last page, page i, does: where no change was counted no page is other
-pub record WritesLast (old new : Device) (g : Group) (name : ℕ → PageName) (bytes : ℕ → List ℕ) (i : ℕ) (result : Result Bool GroupFault) : Type 0 where
+pub record WritesLast (old new : Device) (g : Group) (name : ℕ → PageName) (bytes : ℕ → List ℕ) (i : ℕ) (result : Result LastPage GroupFault) : Type 0 where
   pub lasts : Lasts old new
   pub ends : LastEnds old new result
   pub changes : new.changes ≤ old.changes + 1
@@ -143,21 +150,21 @@ abbrev pub OneLacks : Group → (ℕ → PageName) → (ℕ → List ℕ) → Fl
 OneLacks g name bytes flash = (i : ℕ) × (i < g.size) × (flash.page g.block (g.start + i) ≢ page_in g name bytes i)
 
 -- how the writing of a group ends
-abbrev pub AllEnds : Device → Device → ℕ → Result Bool GroupFault → Type 0
-AllEnds old new count (Ok false) = (new.failures ≡ old.failures) × (new.gone ≡ false) × (new.changes ≡ old.changes + count)
-AllEnds old new count (Ok true) = (new.failures ≡ old.failures + 1) × (new.gone ≡ false) × (new.changes ≡ old.changes + count)
+abbrev pub AllEnds : Device → Device → ℕ → Result LastPage GroupFault → Type 0
+AllEnds old new count (Ok lasts.Done) = (new.failures ≡ old.failures) × (new.gone ≡ false) × (new.changes ≡ old.changes + count)
+AllEnds old new count (Ok lasts.Suspect) = (new.failures ≡ old.failures + 1) × (new.gone ≡ false) × (new.changes ≡ old.changes + count)
 AllEnds old new count (Err fault) = StopsBy old new fault
 
 -- which of the pages are there: all, or after a failure not all, or where it stopped for another reason either
-abbrev pub AllLeaves : Group → (ℕ → PageName) → (ℕ → List ℕ) → Flash → Result Bool GroupFault → Type 0
-AllLeaves g name bytes flash (Ok suspect) = AllThere g (tag_in g name) bytes flash
+abbrev pub AllLeaves : Group → (ℕ → PageName) → (ℕ → List ℕ) → Flash → Result LastPage GroupFault → Type 0
+AllLeaves g name bytes flash (Ok last) = AllThere g (tag_in g name) bytes flash
 AllLeaves g name bytes flash (Err faults.NoRoom) = AllThere g (tag_in g name) bytes flash ⊎ OneLacks g name bytes flash
 AllLeaves g name bytes flash (Err faults.Failed) = OneLacks g name bytes flash
 AllLeaves g name bytes flash (Err faults.Lost) = AllThere g (tag_in g name) bytes flash ⊎ OneLacks g name bytes flash
 AllLeaves g name bytes flash (Err faults.Gone) = AllThere g (tag_in g name) bytes flash ⊎ OneLacks g name bytes flash
 
 -- what the writing of all pages of a group does: where no change was counted no page is other
-pub record WritesAll (old new : Device) (g : Group) (name : ℕ → PageName) (bytes : ℕ → List ℕ) (result : Result Bool GroupFault) : Type 0 where
+pub record WritesAll (old new : Device) (g : Group) (name : ℕ → PageName) (bytes : ℕ → List ℕ) (result : Result LastPage GroupFault) : Type 0 where
   pub lasts : Lasts old new
   pub ends : AllEnds old new g.size result
   pub changes : new.changes ≤ old.changes + g.size
@@ -185,7 +192,7 @@ abbrev pub IsWrittenPage : Page → Type 0
 IsWrittenPage page = (bytes tag : List ℕ) × (page ≡ Written bytes tag)
 
 -- only a group that was written without a failure leaves its block open
-abbrev pub stays_open : Result Bool GroupFault → Bool
-stays_open (Ok false) = true
-stays_open (Ok true) = false
+abbrev pub stays_open : Result LastPage GroupFault → Bool
+stays_open (Ok lasts.Done) = true
+stays_open (Ok lasts.Suspect) = false
 stays_open (Err fault) = false

@@ -55,16 +55,18 @@ fn reads_back<N: Nand>(device: &mut N, of: CopyOf, page: &mut [u8]) -> Result<bo
 
 impl PageSource for Copies<'_> {
     ghost use Rattle.std.specs.Prelude.{length};
-    ghost use Rattle.transactions.specs.Copying.{name_at, bytes_at, HasCopy, CanCopy};
+    ghost use Rattle.transactions.specs.Copying.{copy_name, copy_bytes, HasCopy, CanCopy};
     ghost use Rattle.transactions.specs.laws.Copying.{copy_stays, copy_same};
 
     ghost count = { λ s. length s.places.now };
 
-    ghost name = { λ s number i. name_at s.places.now i };
+    ghost name = { λ s number i. copy_name s.places.now i };
 
-    ghost bytes = { λ s flash i. bytes_at s.places.now flash i };
+    ghost bytes = { λ s flash i. copy_bytes s.places.now flash i };
 
     ghost ready = { λ s geometry number. CanCopy s.places.now geometry number };
+
+    ghost quiet = { λ s. ⊥ };
 
     ghost has = { λ s flash i. HasCopy s.places.now flash i };
 

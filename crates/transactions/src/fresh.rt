@@ -28,15 +28,17 @@ fn name_in(key: Key, group: u64) -> PageName
 
 impl PageSource for Fresh<'_> {
     ghost use Rattle.std.specs.Prelude.{length, refl};
-    ghost use Rattle.transactions.specs.Committing.{name_at, bytes_at, CanCommit};
+    ghost use Rattle.transactions.specs.Committing.{fresh_name, fresh_bytes, CanCommit};
 
     ghost count = { λ s. length s.pages.now };
 
-    ghost name = { λ s number i. name_at s.pages.now number i };
+    ghost name = { λ s number i. fresh_name s.pages.now number i };
 
-    ghost bytes = { λ s flash i. bytes_at s.pages.now i };
+    ghost bytes = { λ s flash i. fresh_bytes s.pages.now i };
 
     ghost ready = { λ s geometry number. CanCommit s.pages.now geometry number };
+
+    ghost quiet = { λ s. Unit {0} };
 
     ghost has = { λ s flash i. Unit {0} };
 

@@ -1,5 +1,5 @@
 // The writing of a group: whole, or not at all.
-ghost use Rattle.std.specs.Prelude.{◌≡◌, ◌↔◌, ◌<◌, ◌≤◌, ◌^◌, ℕ, length, true, IfOk, Some, IsErrOf};
+ghost use Rattle.std.specs.Prelude.{◌≡◌, ◌↔◌, ◌<◌, ◌≤◌, ◌+◌, ◌^◌, ℕ, length, true, IfOk, Some, IsErrOf};
 ghost use Rattle.volume_terms.specs.Sizes.{number_end};
 ghost use Rattle.nand_model.specs.Calls.{Lasts};
 ghost use Rattle.nand_model.specs.Changes.{Grows};
@@ -67,6 +67,8 @@ pub fn write_group<N: Nand, S: PageSource>(
         (S.bytes source.now (N.state device.old).flash) (N.state device.old).flash (N.state device.new).flash result }
     ensures grows { (N.state device.old).honest ≡ true → Grows (N.state device.old).flash (N.state device.new).flash }
     ensures stays { Stays (table blocks.old) (N.state device.old) (N.state device.new) }
+    // For pages in memory none is read, but a last one that is said to fail.
+    ensures quiet { S.quiet source.now → (N.state device.new).reads + (N.state device.old).failures ≤ (N.state device.old).reads + (N.state device.new).failures }
     ensures reads { ReadsFew (unwritten result) (N.state device.old) (N.state device.new) }
     ensures numbers { HandsOut (N.state device.old) (N.state device.new) (table blocks.old) (table blocks.new) }
 {
@@ -76,12 +78,12 @@ pub fn write_group<N: Nand, S: PageSource>(
     };
     let written = write_pages(device, source, scratch, &place);
     note_end(blocks, &place, &written);
-    let suspect = written?;
+    let last = written?;
     Ok(Placed {
         block: place.block,
         first: place.first,
         count: place.count,
         group: place.group,
-        suspect,
+        suspect: last.is_suspect(),
     })
 }

@@ -12,6 +12,28 @@ use crate::source::{PageName, PageSource, SourceFault};
 use nand_model::{Gone, Nand, PageKind, ProgramFault};
 use page_tags::Tag;
 
+/// How the last page of a group was written.
+#[derive(Clone, Copy, Debug, PartialEq, Eq)]
+pub(crate) enum LastPage {
+    Done,
+    /// The device said that it failed, and it reads whole.
+    Suspect,
+}
+
+impl LastPage {
+    ghost use Rattle.transactions.specs.Written.{is_suspect};
+
+    /// Whether the device said that it failed.
+    pub(crate) fn is_suspect(self) -> bool
+        ensures { result ≡ is_suspect self }
+    {
+        match self {
+            LastPage::Done => false,
+            LastPage::Suspect => true,
+        }
+    }
+}
+
 /// The tag of page `i` of the group.
 fn tag_of(place: &GroupPlace, name: PageName, i: u32) -> Tag
     ensures { result ≡ tag_in (group_at place.now) (λ k. name) i }
@@ -43,6 +65,7 @@ fn write_page<N: Nand, S: PageSource>(
     requires has { (N.state device.old).honest ≡ true → S.has source.now (N.state device.old).flash i }
     requires size { length scratch.old ≡ (N.state device.old).geometry.bytes }
     ensures size { length scratch.new ≡ length scratch.old }
+    ensures quiet { S.quiet source.now → (N.state device.new).reads ≡ (N.state device.old).reads }
     ensures writes { WritesOne (N.state device.old) (N.state device.new) (group_at place.now)
         (S.name source.now place.now.group) (S.bytes source.now (N.state device.old).flash) i result }
 {
@@ -73,6 +96,7 @@ fn write_first<N: Nand, S: PageSource>(
     requires has { (N.state device.old).honest ≡ true → (i : ℕ) → i < S.count source.now → S.has source.now (N.state device.old).flash i }
     requires size { length scratch.old ≡ (N.state device.old).geometry.bytes }
     ensures size { length scratch.new ≡ length scratch.old }
+    ensures quiet { S.quiet source.now → (N.state device.new).reads ≡ (N.state device.old).reads }
     ensures writes { FirstEnds (N.state device.old) (N.state device.new) (group_at place.now)
         (S.name source.now place.now.group) (S.bytes source.now (N.state device.old).flash) result }
 {
@@ -103,33 +127,35 @@ fn reads_whole<N: Nand>(
     Ok(kind == PageKind::Written)
 }
 
-/// Writes the last page of the group. Where the device says that this failed, the page is read back; the answer is
-/// whether it stands all the same.
+/// Writes the last page of the group. Where the device says that this failed, the page is read back, and it is suspect
+/// where it stands all the same.
 fn write_last<N: Nand, S: PageSource>(
     device: &mut N,
     source: &S,
     scratch: &mut [u8],
     place: &GroupPlace,
-) -> Result<bool, GroupFault>
+) -> Result<LastPage, GroupFault>
     requires some { 1 ≤ place.now.count }
     requires may { MayWrite (N.state device.old) place.now (place.now.count - 1) }
     requires count { place.now.count ≡ S.count source.now }
     requires source { S.ready source.now (N.state device.old).geometry place.now.group }
     requires has { (N.state device.old).honest ≡ true → S.has source.now (N.state device.old).flash (place.now.count - 1) }
     requires size { length scratch.old ≡ (N.state device.old).geometry.bytes }
+    // A page that is said to fail is read back.
+    ensures quiet { S.quiet source.now → (N.state device.new).reads + (N.state device.old).failures ≤ (N.state device.old).reads + (N.state device.new).failures }
     ensures writes { WritesLast (N.state device.old) (N.state device.new) (group_at place.now)
         (S.name source.now place.now.group) (S.bytes source.now (N.state device.old).flash) (place.now.count - 1) result }
 {
     let last = place.count - 1;
     match write_page(device, source, scratch, place, last) {
-        Ok(()) => Ok(false),
+        Ok(()) => Ok(LastPage::Done),
         Err(GroupFault::Failed) => match reads_whole(
             device,
             place.block,
             place.first + last,
             scratch,
         ) {
-            Ok(true) => Ok(true),
+            Ok(true) => Ok(LastPage::Suspect),
             Ok(false) => Err(GroupFault::Failed),
             Err(_) => Err(GroupFault::Gone),
         },
@@ -137,19 +163,20 @@ fn write_last<N: Nand, S: PageSource>(
     }
 }
 
-/// Writes the pages of the group. The answer is whether the last one was said to fail and stands all the same.
+/// Writes the pages of the group, and tells of the last one.
 pub(crate) fn write_pages<N: Nand, S: PageSource>(
     device: &mut N,
     source: &S,
     scratch: &mut [u8],
     place: &GroupPlace,
-) -> Result<bool, GroupFault>
+) -> Result<LastPage, GroupFault>
     requires some { 1 ≤ place.now.count }
     requires may { MayWrite (N.state device.old) place.now 0 }
     requires count { place.now.count ≡ S.count source.now }
     requires source { S.ready source.now (N.state device.old).geometry place.now.group }
     requires has { (N.state device.old).honest ≡ true → (i : ℕ) → i < S.count source.now → S.has source.now (N.state device.old).flash i }
     requires size { length scratch.old ≡ (N.state device.old).geometry.bytes }
+    ensures quiet { S.quiet source.now → (N.state device.new).reads + (N.state device.old).failures ≤ (N.state device.old).reads + (N.state device.new).failures }
     ensures writes { WritesAll (N.state device.old) (N.state device.new) (group_at place.now)
         (S.name source.now place.now.group) (S.bytes source.now (N.state device.old).flash) result }
 {

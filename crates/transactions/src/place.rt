@@ -7,6 +7,7 @@ ghost use Rattle.transactions.specs.Ready.{IsPlaceIn};
 ghost use Rattle.transactions.specs.Written.{TableAfter, stays_open};
 
 use crate::group::GroupFault;
+use crate::page::LastPage;
 use block_state::Blocks;
 
 /// Where a group is written, and its numbers.
@@ -43,14 +44,18 @@ pub(crate) fn take_place(blocks: &mut Blocks, count: u32) -> Option<GroupPlace>
 }
 
 /// Notes how the writing of a group ended: its pages are taken, or the block takes no more.
-pub(crate) fn note_end(blocks: &mut Blocks, place: &GroupPlace, written: &Result<bool, GroupFault>)
+pub(crate) fn note_end(
+    blocks: &mut Blocks,
+    place: &GroupPlace,
+    written: &Result<LastPage, GroupFault>,
+)
     requires open { (table blocks.old).open_block ≡ Some place.now.block }
     requires room { place.now.count ≤ room (table blocks.old) }
     ensures { TableAfter place.now.block place.now.count (stays_open written.now) (table blocks.old) (table blocks.new) }
 {
     match written {
-        Ok(false) => blocks.fill(place.block, place.count),
-        Ok(true) => blocks.close(),
+        Ok(LastPage::Done) => blocks.fill(place.block, place.count),
+        Ok(LastPage::Suspect) => blocks.close(),
         Err(_) => blocks.close(),
     }
 }

@@ -55,6 +55,9 @@ pub trait PageSource {
     /// Whether it can be written in a group of this number, on a device of these sizes.
     ghost ready: { Self → Geometry → ℕ → Type 0 };
 
+    /// Whether it reads no page of the device.
+    ghost quiet: { Self → Type 0 };
+
     /// Whether the flash has what page `i` is copied from.
     ghost has: { Self → Flash → ℕ → Type 0 };
 
@@ -76,6 +79,7 @@ pub trait PageSource {
         requires ready { ready self.now (N.state device.old).geometry group }
         requires size { length page.old ≡ (N.state device.old).geometry.bytes }
         ensures reads { OnlyReads (N.state device.old) (N.state device.new) }
+        ensures quiet { quiet self.now → (N.state device.new).reads ≡ (N.state device.old).reads }
         ensures asked { (N.state device.new).reads ≤ (N.state device.old).reads + 1 }
         ensures ends { SourceEnds (N.state device.old) (N.state device.new) (has self.now (N.state device.old).flash i) result }
         ensures name { IfOk result (λ n. (n ≡ name self.now group i) × IsPageName group n) }

@@ -6,7 +6,7 @@ use Rattle.nand_model.specs.Flash.{Flash, Erased, Written}
 use Rattle.nand_model.specs.Calls.{bytes_of}
 use Rattle.nand_model.specs.Changes.{Grows}
 use Rattle.transactions.specs.declared.copies.CopyOf.{CopyOf}
-use Rattle.transactions.specs.Copying.{bytes_at, HasItsName, HasCopy}
+use Rattle.transactions.specs.Copying.{copy_bytes, HasItsName, HasCopy}
 
 page_stays : (old new : Flash) (c : CopyOf) → HasItsName old c → Grows old new → new.page c.block c.page ≡ old.page c.block c.page
 page_stays old new c there grows = grows c.block c.page (λ is. let two : Written there.bytes there.tag ≡ Erased = sym there.page ∙ is in cc)
@@ -18,7 +18,7 @@ copy_stays places old new i has grows c is =
     record { bytes = there.bytes; tag = there.tag; page = page_stays old new c there grows ∙ there.page; names = there.names }
 
 -- and so does its data
-pub copy_same : (places : List CopyOf) (old new : Flash) (i : ℕ) → HasCopy places old i → Grows old new → bytes_at places new i ≡ bytes_at places old i
+pub copy_same : (places : List CopyOf) (old new : Flash) (i : ℕ) → HasCopy places old i → Grows old new → copy_bytes places new i ≡ copy_bytes places old i
 copy_same places old new i has grows = go (slice_get places i) has where
   go : (x : Option CopyOf) → ((c : CopyOf) → x ≡ Some c → HasItsName old c)
       → bytes_of (option_map_or (λ c. new.page c.block c.page) x Erased) [] ≡ bytes_of (option_map_or (λ c. old.page c.block c.page) x Erased) []

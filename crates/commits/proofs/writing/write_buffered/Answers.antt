@@ -6,7 +6,7 @@ use Rattle.block_state.specs.Table.{Table}
 use Rattle.block_state.specs.TableOf.{table}
 use Rattle.chunk_index.specs.declared.index.Index.{Index}
 use Rattle.page_buffer.specs.BufferOf.{buffered}
-use Rattle.transactions.specs.Committing.{name_at, bytes_at}
+use Rattle.transactions.specs.Committing.{fresh_name, fresh_bytes}
 use Rattle.transactions.specs.Groups.{AddsPages, GroupsAfter, OkTable, TellsGroup, next_group}
 use Rattle.transactions.specs.declared.group.GroupFault.TheVariants as groups
 use Rattle.bad_blocks.specs.laws.Keeping.{same_ends, same_closed}
@@ -50,7 +50,7 @@ returns-then-placed-clause-leaves g c = λ spare stands free.
     let commits = commits_written spare lists d e t u v x y pages o c.in-Ok.placed c.requires.buffers opened c.requires.ready stands free c.requires.pages ranges c.requires.open_room c.requires.number w.lasts w.ready w.numbers w.grows
     (subst (λ (xs : List FreshPage). OkTable c.in-Ok.placed.suspect (length xs) t u) same w.table) w.ends.1
     (subst (λ (xs : List FreshPage). TellsGroup (next_group t (length xs) o) c.in-Ok.placed) same (w.placed o opened))
-    (subst (λ (xs : List FreshPage). d.honest ≡ true → AddsPages (next_group t (length xs) o) (name_at xs t.next_group) (bytes_at xs) d.flash e.flash) same (λ honest. w.groups honest o opened))
+    (subst (λ (xs : List FreshPage). d.honest ≡ true → AddsPages (next_group t (length xs) o) (fresh_name xs t.next_group) (fresh_bytes xs) d.flash e.flash) same (λ honest. w.groups honest o opened))
     c.settle.ensures.settles c.settle.ensures.agree c.settle.ensures.counts in
     leaves_committed spare d e t v x y pages (buffered c.settle.new.self) commits c.settle.ensures.empty
 
@@ -72,7 +72,7 @@ returns-then-placed-clause-ends g c = λ spare stands free.
     let w = c.in-Ok.ensures in
     let ok = subst (λ (xs : List FreshPage). OkTable c.in-Ok.placed.suspect (length xs) t u) same w.table in
     let tells = subst (λ (xs : List FreshPage). TellsGroup (next_group t (length xs) o) c.in-Ok.placed) same (w.placed o opened) in
-    let adds = subst (λ (xs : List FreshPage). d.honest ≡ true → AddsPages (next_group t (length xs) o) (name_at xs t.next_group) (bytes_at xs) d.flash e.flash) same (λ honest. w.groups honest o opened) in
+    let adds = subst (λ (xs : List FreshPage). d.honest ≡ true → AddsPages (next_group t (length xs) o) (fresh_name xs t.next_group) (fresh_bytes xs) d.flash e.flash) same (λ honest. w.groups honest o opened) in
     let commits = commits_written spare lists d e t u v x y pages o c.in-Ok.placed c.requires.buffers opened c.requires.ready stands free c.requires.pages ranges c.requires.open_room c.requires.number w.lasts w.ready w.numbers w.grows ok w.ends.1 tells adds
     c.settle.ensures.settles c.settle.ensures.agree c.settle.ensures.counts in
     let frees = free_written spare lists d e t u v x y pages o c.in-Ok.placed c.requires.buffers opened c.requires.ready stands free c.requires.pages ranges c.requires.open_room c.requires.number w.lasts w.ready w.numbers w.grows ok w.ends.1 tells adds
@@ -104,7 +104,7 @@ returns-else-placed-clause-leaves g c = λ spare stands free.
     let commits = commits_written spare lists d e t u v x y pages o c.in-Ok.placed c.requires.buffers opened c.requires.ready stands free c.requires.pages ranges c.requires.open_room c.requires.number w.lasts w.ready w.numbers w.grows
     (subst (λ (xs : List FreshPage). OkTable c.in-Ok.placed.suspect (length xs) t u) same w.table) w.ends.1
     (subst (λ (xs : List FreshPage). TellsGroup (next_group t (length xs) o) c.in-Ok.placed) same (w.placed o opened))
-    (subst (λ (xs : List FreshPage). d.honest ≡ true → AddsPages (next_group t (length xs) o) (name_at xs t.next_group) (bytes_at xs) d.flash e.flash) same (λ honest. w.groups honest o opened))
+    (subst (λ (xs : List FreshPage). d.honest ≡ true → AddsPages (next_group t (length xs) o) (fresh_name xs t.next_group) (fresh_bytes xs) d.flash e.flash) same (λ honest. w.groups honest o opened))
     c.settle.ensures.settles c.settle.ensures.agree c.settle.ensures.counts in
     leaves_committed spare d e t v x y pages (buffered c.settle.new.self) commits c.settle.ensures.empty
 
@@ -126,7 +126,7 @@ returns-else-placed-clause-ends g c = λ spare stands free.
     let w = c.in-Ok.ensures in
     let ok = subst (λ (xs : List FreshPage). OkTable c.in-Ok.placed.suspect (length xs) t u) same w.table in
     let tells = subst (λ (xs : List FreshPage). TellsGroup (next_group t (length xs) o) c.in-Ok.placed) same (w.placed o opened) in
-    let adds = subst (λ (xs : List FreshPage). d.honest ≡ true → AddsPages (next_group t (length xs) o) (name_at xs t.next_group) (bytes_at xs) d.flash e.flash) same (λ honest. w.groups honest o opened) in
+    let adds = subst (λ (xs : List FreshPage). d.honest ≡ true → AddsPages (next_group t (length xs) o) (fresh_name xs t.next_group) (fresh_bytes xs) d.flash e.flash) same (λ honest. w.groups honest o opened) in
     let commits = commits_written spare lists d e t u v x y pages o c.in-Ok.placed c.requires.buffers opened c.requires.ready stands free c.requires.pages ranges c.requires.open_room c.requires.number w.lasts w.ready w.numbers w.grows ok w.ends.1 tells adds
     c.settle.ensures.settles c.settle.ensures.agree c.settle.ensures.counts in
     let frees = free_written spare lists d e t u v x y pages o c.in-Ok.placed c.requires.buffers opened c.requires.ready stands free c.requires.pages ranges c.requires.open_room c.requires.number w.lasts w.ready w.numbers w.grows ok w.ends.1 tells adds
@@ -243,7 +243,7 @@ returns-in-Err-Gone-clause-leaves g c = λ spare stands free.
     let pages : List FreshPage = buffered c.args.buffer.now in
     let lists : ListsAreWhole = let l = c.the_list_of_a_block_is_whole.ensures in record { kept = l.kept; here = l.here; count = l.count; all = l.all; once = l.once } in
     leaves_gone spare d e t u x pages o lists stands free c.requires.number opened c.requires.buffers c.requires.ready w.table w.lasts w.ready w.numbers w.ends.0 w.grows
-    (subst (λ (xs : List FreshPage). d.honest ≡ true → GroupsAfter (next_group t (length xs) o) (name_at xs t.next_group) (bytes_at xs) d.flash e.flash (Err groups.Gone)) c.pages-pages.ensures (λ honest. w.groups honest o opened))
+    (subst (λ (xs : List FreshPage). d.honest ≡ true → GroupsAfter (next_group t (length xs) o) (fresh_name xs t.next_group) (fresh_bytes xs) d.flash e.flash (Err groups.Gone)) c.pages-pages.ensures (λ honest. w.groups honest o opened))
 
 pub returns-then-placed-clause-ready : goal.returns-then-placed-clause-ready
 returns-then-placed-clause-ready g c =

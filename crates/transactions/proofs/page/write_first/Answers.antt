@@ -31,4 +31,5 @@ loop-i-preserved g c =
     let same = λ (was : old.honest ≡ true). g.met.S.PageSource.same c.args.source.now old.flash mid.flash c.loop-i.i (c.requires.has was _ (omega (arith, c.requires.count, c.loop-i-test.true))) (progress_grows _ _ _ _ _ _ so_far was (erased was)) in (
       progress_more old mid (g.N.Nand.state c.write_page.new.device) (group_at c.args.place.now) _ _ _ c.loop-i.i so_far same (omega (arith, c.loop-i-test.true)) c.in_ok-write_page.ensures.writes,
       c.in_ok-write_page.ensures.size ∙ c.loop-i.invariant.1,
+      λ quiet. c.in_ok-write_page.ensures.quiet quiet ∙ c.loop-i.invariant.2 quiet,
     )

@@ -18,4 +18,7 @@ returns g c =
     let mid : Device = g.N.Nand.state c.write_first.new.device in
     let erased = λ (was : old.honest ≡ true) (l : ℕ) (le : c.args.place.now.first ≤ l). g.met.N.Nand.clean c.args.device.now was c.args.place.now.block (c.args.place.now.first + 0) l c.requires.may.next (omega (arith, le)) in
     let same = λ (was : old.honest ≡ true). g.met.S.PageSource.same c.args.source.now old.flash mid.flash (c.args.place.now.count - 1) (c.requires.has was _ (omega (arith, c.requires.count, c.requires.some))) (progress_grows _ _ _ _ _ _ so_far was (erased was)) in
-    record { writes = progress_ends old mid (g.N.Nand.state c.write_last.new.device) (group_at c.args.place.now) _ _ _ (c.args.place.now.count - 1) so_far same c.write_last.result (omega (arith, c.requires.some)) erased c.write_last.ensures.writes }
+    record {
+      quiet = λ quiet. omega (arith, c.in_ok-write_first.ensures.quiet quiet, so_far.failures, c.write_last.ensures.quiet quiet);
+      writes = progress_ends old mid (g.N.Nand.state c.write_last.new.device) (group_at c.args.place.now) _ _ _ (c.args.place.now.count - 1) so_far same c.write_last.result (omega (arith, c.requires.some)) erased c.write_last.ensures.writes;
+    }

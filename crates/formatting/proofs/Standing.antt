@@ -8,6 +8,7 @@ use Rattle.nand_model.specs.declared.geometry.Geometry.{Geometry}
 use Rattle.page_tags.specs.declared.tag.Tag.{Tag}
 use Rattle.flash_tree.specs.declared.place.FreshPage.{FreshPage}
 use Rattle.formatting.specs.Formatting.{Keeps, AreClear, OthersStay, single_tag, HasFirstPage, Takes, StandsAlone, StandsFirst}
+use Rattle.formatting.specs.declared.root.Attempt.TheVariants as attempts
 
 -- Where the blocks before one are bad and those after it are ready, its first page is the only one.
 pub stands_alone : (d : Device) (b : ℕ) (bytes : List ℕ) (tag : Tag) → d.honest ≡ true → IsClean d.flash → IsWithin d.geometry.pages d.geometry.blocks d.flash
@@ -30,7 +31,7 @@ stands_alone d b bytes tag honest clean within has before after = record { block
 
 -- The page that a block took, after others failed, is the only one.
 pub stands_first : (old mid new : Device) (b failed : ℕ) (page : FreshPage) → Keeps old mid → Keeps mid new → mid.failures ≡ old.failures + failed → failed ≤ b → b < old.geometry.blocks
-    → ((k : ℕ) → k < b → mid.flash.bad k ≡ true) → AreClear mid b → OthersStay b mid.flash new.flash → Takes mid new b page.bytes.items (single_tag page.key (failed + 1)) true
+    → ((k : ℕ) → k < b → mid.flash.bad k ≡ true) → AreClear mid b → OthersStay b mid.flash new.flash → Takes mid new b page.bytes.items (single_tag page.key (failed + 1)) attempts.Stands
     → (new.honest ≡ true → IsClean new.flash) → IsWithin new.geometry.pages new.geometry.blocks new.flash → StandsFirst old new page
 stands_first old mid new b failed page first then count few inside bad ready others takes clean within = record {
   alone = λ honest.

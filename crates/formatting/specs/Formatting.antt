@@ -1,5 +1,5 @@
 -- What the formatting of a device does on its way.
-use Rattle.std.specs.Prelude.{◌≡◌, ◌≢◌, ◌⊎◌, ◌≤◌, ◌<◌, ℕ, ◌+◌, ◌-◌, Bool, true, false, Some, Result, Ok, Err, List}
+use Rattle.std.specs.Prelude.{◌≡◌, ◌≢◌, ◌⊎◌, ◌≤◌, ◌<◌, ℕ, ◌+◌, ◌-◌, true, false, Some, Result, Ok, Err, List}
 use Rattle.nand_model.specs.Flash.{Flash, Erased, Written}
 use Rattle.nand_model.specs.Calls.{Device, Lasts}
 use Rattle.page_tags.specs.declared.tag.Tag.{Tag}
@@ -13,6 +13,8 @@ use Rattle.directories.specs.Heads.{fields_in}
 use Rattle.directories.specs.declared.head.DirectoryHead.{DirectoryHead}
 use Rattle.formatting.specs.declared.fault.FormatFault.{FormatFault}
 use Rattle.formatting.specs.declared.fault.FormatFault.TheVariants as faults
+use Rattle.formatting.specs.declared.root.Attempt.{Attempt}
+use Rattle.formatting.specs.declared.root.Attempt.TheVariants as attempts
 
 -- What each step keeps: what every call keeps, the pages of blocks that were bad, and that each block that becomes bad failed.
 pub record Keeps (old new : Device) : Type 0 where
@@ -53,10 +55,10 @@ pub record StandsAlone (flash : Flash) (bytes : List ℕ) (tag : Tag) : Type 0 w
   pub page : flash.page block 0 ≡ Written bytes (tag_bytes tag)
   pub others : (k l : ℕ) → flash.bad k ≡ false → (k ≢ block) ⊎ (l ≢ 0) → flash.page k l ≡ Erased
 
--- whether the block took the page: a block that did not has failed, and is marked bad
-abbrev pub Takes : Device → Device → ℕ → List ℕ → Tag → Bool → Type 0
-Takes old new b bytes tag true = HasFirstPage new b bytes tag × (new.failures ≡ old.failures) × (new.gone ≡ false)
-Takes old new b bytes tag false = (new.flash.bad b ≡ true) × (new.failures ≡ old.failures + 1)
+-- the block has the page, or it failed and is marked bad
+abbrev pub Takes : Device → Device → ℕ → List ℕ → Tag → Attempt → Type 0
+Takes old new b bytes tag attempts.Stands = HasFirstPage new b bytes tag × (new.failures ≡ old.failures) × (new.gone ≡ false)
+Takes old new b bytes tag attempts.Failed = (new.flash.bad b ≡ true) × (new.failures ≡ old.failures + 1)
 
 -- the page is the only one, and its number is one more than the count of the blocks that failed before one took it
 pub record StandsFirst (old new : Device) (page : FreshPage) : Type 0 where

@@ -8,7 +8,7 @@ ghost use Rattle.formatting.specs.Formatting.{Keeps, EachFailureMarks, HoldsOnly
 
 use crate::clear::clear_all;
 use crate::fault::FormatFault;
-use crate::root::write_first;
+use crate::root::{Attempt, write_first};
 use directories::{DirectoryHead, head_page};
 use flash_tree::{FreshPage, count_bad};
 use nand_model::Nand;
@@ -26,8 +26,9 @@ fn lay_out<N: Nand>(device: &mut N, page: &FreshPage, spare: u32) -> Result<(), 
     ensures fault { IfErr result (Explains spare (N.state device.new)) }
 {
     clear_all(device)?;
-    if !write_first(device, page)? {
-        return Err(FormatFault::Worn);
+    match write_first(device, page)? {
+        Attempt::Stands => {}
+        Attempt::Failed => return Err(FormatFault::Worn),
     }
     if count_bad(device) > spare {
         return Err(FormatFault::Worn);

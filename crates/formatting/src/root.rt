@@ -6,15 +6,23 @@ use flash_tree::FreshPage;
 use nand_model::{Gone, Nand, ProgramFault};
 use page_tags::Tag;
 
+/// How an attempt to write the first page ended.
+#[derive(Clone, Copy, Debug, PartialEq, Eq)]
+pub(crate) enum Attempt {
+    Stands,
+    /// The block that was tried failed, or each of them, and is marked bad.
+    Failed,
+}
+
 /// Writes the page to the start of a block, as a group of its own with this number, and marks the block where that
-/// fails. Whether the block took it.
+/// fails.
 #[tactic(auto, using(crate::proofs::Keeping::keeps_program, crate::proofs::Keeping::keeps_mark, crate::proofs::Marking::marks_none))]
 fn write_at<N: Nand>(
     device: &mut N,
     block: u32,
     page: &FreshPage,
     number: u64,
-) -> Result<bool, Gone>
+) -> Result<Attempt, Gone>
     requires block { block < (N.state device.old).geometry.blocks }
     requires good { (N.state device.old).flash.bad block ≡ false }
     requires next { (N.state device.old).flash.next block ≡ Some 0 }
@@ -35,24 +43,24 @@ fn write_at<N: Nand>(
         seq: number,
     };
     match device.program(block, 0, &page.bytes, &tag.encode()) {
-        Ok(()) => Ok(true),
+        Ok(()) => Ok(Attempt::Stands),
         Err(ProgramFault::Failed) => {
             device.mark_bad(block)?;
-            Ok(false)
+            Ok(Attempt::Failed)
         }
         Err(ProgramFault::Gone) => Err(Gone),
     }
 }
 
 /// Writes the page to the first good block that takes it. The first block is tried with number 1, and each further one
-/// with the next. Whether a block took it.
-pub(crate) fn write_first<N: Nand>(device: &mut N, page: &FreshPage) -> Result<bool, Gone>
+/// with the next.
+pub(crate) fn write_first<N: Nand>(device: &mut N, page: &FreshPage) -> Result<Attempt, Gone>
     requires size { length page.now.bytes.items ≡ (N.state device.old).geometry.bytes }
     requires ready { AreClear (N.state device.old) 0 }
     ensures keeps { Keeps (N.state device.old) (N.state device.new) }
     ensures each_failure_marks { OnOk result (EachFailureMarks (N.state device.old) (N.state device.new)) }
-    ensures stands { IfOk result (λ took. took ≡ true → StandsFirst (N.state device.old) (N.state device.new) page.now) }
-    ensures worn { IfOk result (λ took. took ≡ false → (b : ℕ) → b < (N.state device.old).geometry.blocks → (N.state device.new).flash.bad b ≡ true) }
+    ensures stands { IfOk result (λ attempt. attempt ≡ Attempt.Stands → StandsFirst (N.state device.old) (N.state device.new) page.now) }
+    ensures worn { IfOk result (λ attempt. attempt ≡ Attempt.Failed → (b : ℕ) → b < (N.state device.old).geometry.blocks → (N.state device.new).flash.bad b ≡ true) }
     ensures gone { OnErr result ((N.state device.new).gone ≡ true) }
 {
     let mut failed = 0;
@@ -60,10 +68,10 @@ pub(crate) fn write_first<N: Nand>(device: &mut N, page: &FreshPage) -> Result<b
         if device.is_bad(block) {
             continue;
         }
-        if write_at(device, block, page, failed + 1)? {
-            return Ok(true);
+        match write_at(device, block, page, failed + 1)? {
+            Attempt::Stands => return Ok(Attempt::Stands),
+            Attempt::Failed => failed += 1,
         }
-        failed += 1;
     }
-    Ok(false)
+    Ok(Attempt::Failed)
 }

@@ -79,14 +79,14 @@ TurnCosts count old new (Ok turns.Written) = Costs (count + old.geometry.pages +
 TurnCosts count old new (Ok turns.Again) = Costs 0 (3 * old.geometry.pages + 3) 0 old new
 TurnCosts count old new (Err fault) = Costs (count + old.geometry.pages + 1) (3 * old.geometry.pages + 3) 0 old new
 
--- an attempt reads no page but after a failure
+-- what an attempt reads: where the pages count, no more than it counts failures, and changes besides theirs
 abbrev pub AttemptReads : (count : ℕ) → Device → Device → Result Attempt RoomFault → Type 0
 AttemptReads count old new (Ok attempts.Trusted) = ReadsBeside count old new
 AttemptReads count old new (Ok (attempts.Suspect w)) = ReadsBeside count old new
 AttemptReads count old new (Ok (attempts.Failed w)) = ReadsFew 0 old new
 AttemptReads count old new (Err fault) = ReadsFew 1 old new
 
--- where the pages count in the end they were written without a read, in the last of the turns
+-- what a turn reads: where the pages count, no more than it counts failures, and changes besides theirs
 abbrev pub TurnReads : (count : ℕ) → Device → Device → Result Turn RoomFault → Type 0
 TurnReads count old new (Ok turns.Written) = ReadsBeside count old new
 TurnReads count old new (Ok turns.Again) = ReadsFew 0 old new

@@ -68,8 +68,8 @@ impl<N: Nand> Store<N> {
         ensures room { with_new self.old.index (buffered self.old.buffer) change.pages.items ≤ most_pages self.old.buffer
             → (N.state self.new.device ≡ N.state self.old.device) × SamePages (kept_map (N.state self.new.device) self.new.index) (kept_map (N.state self.old.device) self.old.index)
             × (table self.new.blocks ≡ table self.old.blocks) }
-        // The pages are in the buffer then, and the cache has a place for each that it could take: once they are written they
-        // stay there.
+        // The pages are in the buffer then; and where the cache has room for all of them, it has a place for each that is
+        // not cut, into which the page comes once it is written.
         ensures buffered { OnOk result (AreBuffered change.pages.items self.new.index) }
         ensures few { OnOk result (length (buffered self.new.buffer) ≤ length (buffered self.old.buffer) + length change.pages.items) }
         ensures places { held_count self.old.cache + length change.pages.items ≤ capacity_of self.old.cache → OnOk result (HaveUncutPlaces change.pages.items change.cuts.items self.new.cache) }

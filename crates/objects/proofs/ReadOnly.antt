@@ -41,6 +41,7 @@ use Rattle.objects.specs.Found.{bytes_or}
 use Rattle.objects.specs.Caching.{Shows}
 use Rattle.objects.specs.Reading.{Caches, IsLoadFault, IsFindFault}
 use Rattle.objects.specs.StoreOf.{store_seen, next_numbers, is_near}
+use Rattle.objects.specs.laws.Sound.{sound_whole}
 
 -- a page that is present on the flash is the kept one
 on_flash : (p : Option KeptPage) (k : KeptPage) → as_kept p ≡ presents.OnFlash k → p ≡ Some k
@@ -158,11 +159,6 @@ finds_seen a b t u x y buffer buffer' cache cache' scratch scratch' found found'
 pub sound_honest : (h w : Bool) → (h && not w) ≡ true → h ≡ true
 sound_honest true w is = refl
 sound_honest false w is = absurd cc
-
-pub sound_whole : (h w : Bool) → (h && not w) ≡ true → w ≡ false
-sound_whole true false is = refl
-sound_whole true true is = absurd cc
-sound_whole false w is = absurd cc
 
 -- a page that is there is what is lent
 some_bytes : (m : Option (List ℕ)) (xs scratch : List ℕ) → m ≡ Some xs → m ≡ Some (bytes_or m scratch)

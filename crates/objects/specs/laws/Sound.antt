@@ -15,11 +15,12 @@ lost_alone false true true sound failed = let two : false ≡ true = sound in ab
 lost_alone false true false sound failed = let two : false ≡ true = failed in absurd cc
 lost_alone false false broken sound failed = let two : false ≡ true = sound in absurd cc
 
+-- a sound store is not broken
+pub sound_whole : (h w : Bool) → (h && not w) ≡ true → w ≡ false
+sound_whole true false is = refl
+sound_whole true true is = let two : false ≡ true = is in absurd cc
+sound_whole false w is = let two : false ≡ true = is in absurd cc
+
 -- no more of its blocks are bad than there are to spare
 pub few_bad : (d : Device) (t : Table) (spare : ℕ) (broken : Bool) → IsReady d t → (broken ≡ false → bad_count t ≤ spare) → (d.honest && not broken) ≡ true → bad_on d ≤ spare
-few_bad d t spare broken ready few sound = let same = same_bad_blocks d t ready in omega (arith, same, few (whole d.honest broken sound))
-  where
-    whole : (honest broken : Bool) → (honest && not broken) ≡ true → broken ≡ false
-    whole true false is = refl
-    whole true true is = let two : false ≡ true = is in absurd cc
-    whole false broken is = let two : false ≡ true = is in absurd cc
+few_bad d t spare broken ready few sound = let same = same_bad_blocks d t ready in omega (arith, same, few (sound_whole d.honest broken sound))

@@ -10,7 +10,8 @@ use Rattle.pages.specs.State.{PagesState}
 use Rattle.objects.specs.StoreOf.{kept_map, present_map, next_numbers, store_seen}
 use Rattle.objects.proofs.Carried.{has_page, store_carries}
 use Rattle.objects.proofs.Steps.{few_new}
-use Rattle.objects.proofs.ReadOnly.{near_buffered, sound_honest, sound_whole}
+use Rattle.objects.specs.laws.Sound.{sound_whole}
+use Rattle.objects.proofs.ReadOnly.{near_buffered, sound_honest}
 use Rattle.objects.proofs.Told.{breaks_on, change_told, failed_stays, hands_told, is_sound, keeps_either, limits_told, marks_told, sound_on, sound_stays, stops_told, ways}
 use Rattle.objects.proofs.page_store.StorePageStore.apply.Goals as goal
 

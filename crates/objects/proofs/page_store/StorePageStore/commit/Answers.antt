@@ -9,7 +9,8 @@ use Rattle.pages.specs.Stores.{IsCarried}
 use Rattle.pages.specs.State.{PagesState}
 use Rattle.objects.specs.StoreOf.{kept_map, present_map, store_seen}
 use Rattle.objects.proofs.Carried.{has_page, store_carries}
-use Rattle.objects.proofs.ReadOnly.{sound_honest, sound_whole}
+use Rattle.objects.specs.laws.Sound.{sound_whole}
+use Rattle.objects.proofs.ReadOnly.{sound_honest}
 use Rattle.objects.proofs.Told.{breaks_on, commit_told, none_buffered, committed, failed_stays, hands_told, keeps_either, limits_told, marks_told, right_way, sound_on, sound_stays, stopped, stops_either, stops_told, takes_none, ways}
 use Rattle.objects.proofs.page_store.StorePageStore.commit.Goals as goal
 

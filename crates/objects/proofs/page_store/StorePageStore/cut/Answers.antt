@@ -8,7 +8,8 @@ use Rattle.pages.specs.State.{PagesState}
 use Rattle.pages.specs.Stores.{HasNumbersLeft}
 use Rattle.objects.specs.StoreOf.{kept_map, next_numbers, store_seen}
 use Rattle.objects.proofs.Carried.{store_carries}
-use Rattle.objects.proofs.ReadOnly.{sound_honest, sound_whole}
+use Rattle.objects.specs.laws.Sound.{sound_whole}
+use Rattle.objects.proofs.ReadOnly.{sound_honest}
 use Rattle.objects.proofs.Told.{cut_stopped, cut_takes_none, cut_told, failed_stays, hands_none, kept_as, marks_none}
 use Rattle.objects.proofs.page_store.StorePageStore.cut.Goals as goal
 

@@ -2,7 +2,5 @@
 #![tactic(auto)]
 
 mod drawing;
-#[cfg(test)]
-mod tests;
 
 pub use drawing::draw;

@@ -9,11 +9,10 @@ mod looking;
 mod reading;
 mod sizes;
 mod telling;
-#[cfg(test)]
-mod tests;
 
 pub use cutting::cut;
 pub use fault::CutFault;
 pub use finding::{Finding, mount_fault_name};
 pub use keeping::kept;
 pub use reading::ReadVolume;
+pub use telling::tell;

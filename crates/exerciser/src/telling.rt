@@ -42,7 +42,7 @@ fn write_line<W: Write>(
 }
 
 /// Tells the line of a session.
-pub(crate) fn tell<W: Write>(
+pub fn tell<W: Write>(
     writer: &mut W,
     number: u64,
     operation: u64,

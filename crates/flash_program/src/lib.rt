@@ -17,8 +17,6 @@ mod opening;
 mod running;
 mod serve;
 mod space;
-#[cfg(test)]
-mod tests;
 
 pub use acting::act;
 pub use ending::report;

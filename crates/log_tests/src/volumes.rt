@@ -9,7 +9,7 @@ ghost use Rattle.transactions.specs.Ready.{IsReady};
 
 use block_state::Blocks;
 use flash_tree::{FreshPage, Key, TagNumbers};
-use nand_model::{EraseFault, Fate, Geometry, MemNand, Nand};
+use nand_model::{EraseFault, Geometry, MemNand, Nand};
 use std::alloc::Global;
 use std::process::Abort;
 use std::test::Fail;
@@ -34,24 +34,6 @@ impl Volume {
         };
         let blocks = table_of(alloc, &nand, none)?;
         Ok(Volume { nand, blocks })
-    }
-
-    /// The call of this number is cut.
-    pub(crate) fn cut_at(self, call: u64, fates: Vec<Fate>) -> Volume {
-        let Volume { nand, blocks } = self;
-        Volume {
-            nand: nand.with_fuse(call, fates),
-            blocks,
-        }
-    }
-
-    /// The calls of these numbers fail.
-    pub(crate) fn failing(self, failures: Vec<(u64, Vec<Fate>)>) -> Volume {
-        let Volume { nand, blocks } = self;
-        Volume {
-            nand: nand.with_failures(failures),
-            blocks,
-        }
     }
 
     pub(crate) fn into_nand(self) -> MemNand {

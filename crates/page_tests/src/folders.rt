@@ -235,30 +235,3 @@ fn directories_are_as_maps(rt: HostRuntime) -> Result<(), Fail> {
     }
     Ok(())
 }
-
-#[test]
-fn the_last_slot_takes_the_place_of_a_removed_one(rt: HostRuntime) -> Result<(), Fail> {
-    let alloc = rt.alloc();
-    let mut pages = two_directories(alloc, 1024)?;
-    let mut wanted = BTreeMap::new(alloc);
-    for (name, object) in [(b"a", 2), (b"b", 3), (b"c", 4)] {
-        pages = put(alloc, pages, HOME, &mut wanted, name, object)?;
-    }
-    let change = remove(alloc, &mut pages, HOME, b"a", 0x0102)?.ok_or("no such name")?;
-    assert_eq!(rt; change.pages.len(), 2);
-    let [slots, header] = change.pages.as_slice() else {
-        return Err("not two pages".into());
-    };
-    assert_eq!(rt; slots.key.chunk, 1);
-    let first = slots.bytes.as_slice().get(..12).ok_or("no slot")?;
-    assert_eq!(rt; first, b"\x04\0\0\0\0\0\0\0\x01\0c\0".as_slice());
-    let second = slots.bytes.as_slice().get(272..284).ok_or("no slot")?;
-    assert_eq!(rt; second, b"\x03\0\0\0\0\0\0\0\x01\0b\0".as_slice());
-    let past = slots.bytes.as_slice().get(544..).ok_or("no page")?;
-    assert!(rt; past.iter().all(|byte| *byte == 0));
-    assert_eq!(rt; header.key.chunk, 0);
-    let said = header.bytes.as_slice().get(..24).ok_or("no header")?;
-    let want = b"NLFS\x02\x02\0\0\x02\0\0\0\0\0\0\0\x02\x01\0\0\0\0\0\0";
-    assert_eq!(rt; said, want.as_slice());
-    Ok(())
-}

@@ -1,10 +1,10 @@
-// A small tree over pages in memory: each kind of change of its objects, and what is read after it.
+// A small tree over pages in memory: changes of its objects, and what is read after them.
 use crate::store::taken;
 use directories::{DirectoryHead, head_page, read_head};
 use flash_tree::Key;
 use object_pages::{find, names, plan, read};
 use object_store::{DirectoryEntry, ObjectChange};
-use pages::{Change, Lack, MemPages, PageFault, Pages, Presence, Refusal};
+use pages::{Change, MemPages, Pages, Presence};
 use posix_profile::Kind;
 use std::alloc::Global;
 use std::test::Fail;
@@ -84,22 +84,6 @@ fn a_file_is_found_and_read(rt: HostRuntime) -> Result<(), Fail> {
     Ok(())
 }
 
-/// A write of no bytes past the end leaves zeros up to its offset.
-#[test]
-fn a_write_of_no_bytes_grows_a_file(rt: HostRuntime) -> Result<(), Fail> {
-    let alloc = rt.alloc();
-    let write = ObjectChange::Write {
-        number: FILE,
-        offset: 516,
-        bytes: b"",
-        moment: 4,
-    };
-    let mut pages = changed(alloc, small_volume(alloc)?, write, 4)?;
-    let bytes = read(&mut pages, alloc, FILE, 516, 510, 9)?;
-    assert_eq!(rt; bytes.as_slice(), b"abcd\0\0".as_slice());
-    Ok(())
-}
-
 /// A file gets another directory and another name, its first directory goes, and then the file with all its pages.
 #[test]
 fn an_object_that_is_forgotten_has_no_pages(rt: HostRuntime) -> Result<(), Fail> {
@@ -141,59 +125,5 @@ fn an_object_that_is_forgotten_has_no_pages(rt: HostRuntime) -> Result<(), Fail>
         assert_eq!(rt; pages.find(key)?, Presence::Absent);
     }
     assert_eq!(rt; read_head(&mut pages, ROOT)?.spare, 3);
-    Ok(())
-}
-
-/// A file takes the name of another, which goes with its page.
-#[test]
-fn a_target_gives_way(rt: HostRuntime) -> Result<(), Fail> {
-    let alloc = rt.alloc();
-    let created = ObjectChange::Create {
-        entry: entry(DOCS, b"b"),
-        kind: Kind::File,
-        moment: 4,
-    };
-    let pages = changed(alloc, small_volume(alloc)?, created, 4)?;
-    let moved = ObjectChange::Move {
-        from: entry(DOCS, b"a"),
-        to: entry(DOCS, b"b"),
-        number: FILE,
-        dropped: Some(4),
-        moment: 5,
-    };
-    let mut pages = changed(alloc, pages, moved, 4)?;
-    assert_eq!(rt; find(&mut pages, DOCS, b"b")?, Some(FILE));
-    assert_eq!(rt; names(&mut pages, alloc, DOCS)?.as_slice().len(), 1);
-    let gone = Key {
-        object: 4,
-        chunk: 0,
-    };
-    assert_eq!(rt; pages.find(gone)?, Presence::Absent);
-    Ok(())
-}
-
-/// A change that is refused memory for a page makes nothing, and is made when it is asked for again.
-#[test]
-fn a_refused_page_is_told(rt: HostRuntime) -> Result<(), Fail> {
-    let alloc = rt.alloc();
-    let mut pages = small_volume(alloc)?;
-    let resized = ObjectChange::Resize {
-        number: FILE,
-        length: 600,
-        moment: 4,
-    };
-    pages.refuse(Refusal {
-        number: pages.finds().saturating_add(1),
-        lack: Lack::Memory,
-    });
-    assert!(rt;
-        matches!(
-            plan(&mut pages, alloc, &resized, 4),
-            Err(PageFault::NoMemory)
-        )
-    );
-    let mut pages = changed(alloc, pages, resized, 4)?;
-    let bytes = read(&mut pages, alloc, FILE, 600, 512, 200)?;
-    assert_eq!(rt; bytes.as_slice().len(), 88);
     Ok(())
 }

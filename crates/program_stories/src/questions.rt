@@ -1,6 +1,7 @@
-// What is asked of images.
+// What is asked of images, and of the help.
 use crate::images::Images;
 use anyhow::{Result, anyhow};
+use program_words::parse;
 
 /// How many bytes an image has.
 fn length(rt: &HostRuntime, images: &mut Images, image: &str) -> Result<usize> {
@@ -20,19 +21,33 @@ fn are_same(rt: &HostRuntime, images: &mut Images, image: &str, other: &str) -> 
     Ok(same)
 }
 
-/// Tells what the words ask of images.
-pub(crate) fn answer(rt: &HostRuntime, images: &mut Images, words: &[&str]) -> Result<()> {
+/// Whether what is told in place of a run, as the help of a subcommand, has this text in it.
+fn is_told(rt: &HostRuntime, words: &[&str], text: &str) -> Result<bool> {
+    let Err(told) = parse(rt.alloc(), words) else {
+        return Ok(false);
+    };
+    let told = format!(in rt.alloc(); "{told}")?;
+    Ok(told.contains(text))
+}
+
+/// Tells an answer.
+fn tell(rt: &HostRuntime, holds: bool) -> Result<()> {
+    println!(rt; "{}", if holds { "yes" } else { "no" })?;
+    Ok(())
+}
+
+/// Tells what the words ask of images, or of what the program tells in place of a run.
+pub(crate) fn answer(
+    rt: &HostRuntime,
+    images: &mut Images,
+    words: &[&str],
+    text: &str,
+) -> Result<()> {
     match words {
         ["length", image] => println!(rt; "{}", length(rt, images, image)?)?,
-        ["same", image, other] => {
-            let told = if are_same(rt, images, image, other)? {
-                "yes"
-            } else {
-                "no"
-            };
-            println!(rt; "{told}")?;
-        }
-        _ => return Err(anyhow!("length or same is wanted")),
+        ["same", image, other] => tell(rt, are_same(rt, images, image, other)?)?,
+        ["told", words @ ..] => tell(rt, is_told(rt, words, text.trim_end())?)?,
+        _ => return Err(anyhow!("length, same or told is wanted")),
     }
     Ok(())
 }

@@ -5,8 +5,6 @@ mod choosing;
 mod chosen;
 mod commands;
 mod options;
-#[cfg(test)]
-mod tests;
 
 pub use choosing::{choose, parse};
 pub use chosen::Chosen;

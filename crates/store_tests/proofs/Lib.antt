@@ -1,2 +1,1 @@
-pub mod Prepared
 pub mod Carrying

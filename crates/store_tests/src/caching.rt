@@ -1,4 +1,4 @@
-// Which page goes first from a cache, and the frames that change hands.
+// Which page goes first from a cache.
 ghost use Rattle.std.specs.Prelude.{◌≡◌};
 ghost use Rattle.page_cache.specs.Cached.{page_bytes_of};
 
@@ -34,41 +34,5 @@ fn the_least_recently_used_goes_first(rt: HostRuntime) -> Result<(), Fail> {
     assert!(rt; cache.page(key(1, 0)) == Some([10, 10].as_slice()));
     assert!(rt; cache.page(key(2, 0)) == Some([20, 20].as_slice()));
     assert!(rt; cache.held_count() == 2);
-    Ok(())
-}
-
-// The frame of a place changes hands for the page; a key without a place gives it back.
-#[test]
-fn a_written_page_gets_the_place_of_its_key(rt: HostRuntime) -> Result<(), Fail> {
-    let two = NonZeroUsize::new(2).ok_or("two")?;
-    let mut cache = PageCache::new(rt.alloc(), two, 2)?;
-    put(&mut cache, key(1, 3), 9)?;
-    cache.reserve(key(1, 3))?;
-    assert!(rt; !cache.find(key(1, 3)));
-    let written = vec![in rt.alloc(); 7u8; 2]?;
-    let over = cache.exchange(key(1, 3), written);
-    assert!(rt; cache.page(key(1, 3)) == Some([7, 7].as_slice()));
-    let same = cache.exchange(key(5, 0), over);
-    assert!(rt; same.len() == 2);
-    assert!(rt; !cache.find(key(5, 0)));
-    Ok(())
-}
-
-// Pages of one object go from a chunk on, then one alone, and those of another stay.
-#[test]
-fn chunks_of_one_object_go(rt: HostRuntime) -> Result<(), Fail> {
-    let four = NonZeroUsize::new(4).ok_or("four")?;
-    let mut cache = PageCache::new(rt.alloc(), four, 2)?;
-    put(&mut cache, key(1, 1), 11)?;
-    put(&mut cache, key(1, 2), 12)?;
-    put(&mut cache, key(1, 3), 13)?;
-    put(&mut cache, key(2, 2), 22)?;
-    cache.remove_from(1, 2);
-    assert!(rt; cache.find(key(1, 1)));
-    assert!(rt; !cache.find(key(1, 2)));
-    assert!(rt; !cache.find(key(1, 3)));
-    cache.remove(key(1, 1));
-    assert!(rt; cache.held_count() == 1);
-    assert!(rt; cache.page(key(2, 2)) == Some([22, 22].as_slice()));
     Ok(())
 }

@@ -100,26 +100,3 @@ fn a_commit_writes_its_pages_and_reads_none_of_them_again(rt: HostRuntime) -> Re
     assert_eq!(rt; nand.calls().saturating_sub(opened), 4);
     Ok(())
 }
-
-/// What the device counted as changes after changes of one page each, of the keys of these numbers.
-fn changes_after(rt: &impl Abort, alloc: Global, numbers: &[usize]) -> Result<u64, Fail> {
-    let mut store = open_store(alloc, erased(alloc, 8)?, 1, 4)?;
-    for number in numbers {
-        let change = change_of(alloc, &[*number], 10)?;
-        assert_eq!(rt; apply(rt, &mut store, change), Ok(()), "{number}");
-    }
-    Ok(store.into_device().changes())
-}
-
-// Eight pages are buffered at most, and a key that is buffered takes no more room.
-#[test]
-fn a_full_buffer_is_written_first(rt: HostRuntime) -> Result<(), Fail> {
-    let alloc = rt.alloc();
-    let full = [0, 1, 2, 3, 4, 5, 6, 7];
-    let again = [0, 1, 2, 3, 4, 5, 6, 7, 7];
-    let more = [0, 1, 2, 3, 4, 5, 6, 7, 7, 8];
-    assert_eq!(rt; changes_after(&rt, alloc, &full)?, 0);
-    assert_eq!(rt; changes_after(&rt, alloc, &again)?, 0);
-    assert_eq!(rt; changes_after(&rt, alloc, &more)?, 9, "an erase and eight");
-    Ok(())
-}

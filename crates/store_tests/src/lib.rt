@@ -1,20 +1,16 @@
 //! Tests of a store on a device in memory: changes and commits beside two plain maps, calls that are cut or fail, memory that
-//! is refused (in turn by hand: the gate refuses none), and what is read; its buffer and its cache alone, by hand; and the
-//! pages of a worn device.
+//! is refused (in turn by hand: the gate refuses none), and what is read; which page its cache lets go; and the pages of a
+//! worn device.
 #![tactic(auto)]
 
 #[cfg(test)]
 mod appending;
-#[cfg(test)]
-mod buffering;
 #[cfg(test)]
 mod caching;
 #[cfg(test)]
 mod committing;
 #[cfg(test)]
 mod cuts;
-#[cfg(test)]
-mod cutting;
 #[cfg(test)]
 mod edits;
 #[cfg(test)]
@@ -23,8 +19,6 @@ mod opening;
 mod plain;
 #[cfg(test)]
 mod random;
-#[cfg(test)]
-mod reading;
 #[cfg(test)]
 mod refusals;
 #[cfg(test)]

@@ -7,8 +7,6 @@ mod altered;
 #[cfg(test)]
 mod book;
 #[cfg(test)]
-mod caches;
-#[cfg(test)]
 mod cuts;
 #[cfg(test)]
 mod devices;

@@ -1,0 +1,39 @@
+// Draws beside words that were computed elsewhere.
+use cut_draws::draw;
+use nand_model::Fate;
+use rand_core::SeedableRng;
+use rand_pcg::Lcg128Xsl64;
+use std::test::Fail;
+
+#[test]
+fn three_draws_follow_the_words_of_a_seed(rt: HostRuntime) -> Result<(), Fail> {
+    let mut generator = Lcg128Xsl64::seed_from_u64(1);
+    let many = [
+        Fate::Uncorrectable,
+        Fate::Old,
+        Fate::Uncorrectable,
+        Fate::Old,
+        Fate::Old,
+        Fate::New,
+        Fate::New,
+        Fate::Uncorrectable,
+    ];
+    let some = [
+        Fate::New,
+        Fate::Old,
+        Fate::Old,
+        Fate::Old,
+        Fate::Old,
+        Fate::Erased,
+    ];
+    for (operations, pages, operation, fates) in [
+        (1000, 8, 800, many.as_slice()),
+        (1, 6, 1, some.as_slice()),
+        (u64::MAX, 0, 11_629_852_450_240_508_455, &[]),
+    ] {
+        let drawn = draw(rt.alloc(), &mut generator, operations, pages)?;
+        assert_eq!(rt; drawn.0, operation);
+        assert_eq!(rt; drawn.1.as_slice(), fates);
+    }
+    Ok(())
+}

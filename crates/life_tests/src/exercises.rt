@@ -1,0 +1,232 @@
+// Sessions on eight blocks of 32 pages of 512 bytes, lines by hand, and what a session keeps of a tree.
+use crate::lines::formatted;
+use exerciser::{CutFault, Finding, cut, kept, mount_fault_name, tell};
+use line_shell::read_script;
+use nand_model::{Geometry, MemNand};
+use plain_tree::{Answers, PlainTree};
+use posix_calls::{Errno, MountFault, Reply, Stamped, format};
+use powercut::SessionEnd;
+use std::alloc::Global;
+use std::io::{self, Write};
+use std::process::Abort;
+use std::test::Fail;
+use volume_terms::VolumeSizes;
+
+const LINES: &str = "open /a rwc\nwrite 0 hello\nseek 0 0 set\nread 0 10\nspace\nfsync 0\n";
+
+fn script(alloc: Global, lines: &str) -> Result<Vec<Stamped>, Fail> {
+    let mut reader = lines.as_bytes();
+    Ok(read_script(alloc, &mut reader)?)
+}
+
+fn blank(alloc: Global) -> Result<MemNand, Fail> {
+    Ok(MemNand::new(alloc, Geometry::new(512, 32, 8)?)?)
+}
+
+/// What is told of the sessions, and how they end.
+fn told(
+    alloc: Global,
+    device: MemNand,
+    seed: u64,
+    sessions: u32,
+) -> Result<(String, Result<(), CutFault>), Fail> {
+    let commands = script(alloc, LINES)?;
+    let mut writer = Vec::new(alloc);
+    let ended = cut(alloc, device, commands, seed, sessions, &mut writer);
+    Ok((String::from_utf8(writer)?, ended))
+}
+
+#[test]
+fn each_session_keeps_a_tree(rt: HostRuntime) -> Result<(), Fail> {
+    let alloc = rt.alloc();
+    let (text, ended) = told(alloc, formatted(alloc)?, 1, 20)?;
+    assert_eq!(rt; ended, Ok(()));
+    let mut number = 0_u32;
+    for line in text.lines() {
+        number = number.wrapping_add(1);
+        let front = format!(in alloc; "session {number} op ")?;
+        assert!(rt; line.starts_with(front.as_str()), "{line}");
+        assert!(rt;
+            line.contains(" kept ") && line.ends_with(" of 6"),
+            "{line}"
+        );
+    }
+    assert_eq!(rt; number, 20);
+    let (again, _) = told(alloc, formatted(alloc)?, 1, 20)?;
+    assert_eq!(rt; again.as_str(), text.as_str());
+    let (other, _) = told(alloc, formatted(alloc)?, 2, 20)?;
+    assert!(rt; other.as_str() != text.as_str());
+    Ok(())
+}
+
+#[test]
+fn a_device_without_a_volume_is_not_cut(rt: HostRuntime) -> Result<(), Fail> {
+    let alloc = rt.alloc();
+    let (text, ended) = told(alloc, blank(alloc)?, 1, 1)?;
+    assert_eq!(rt; ended, Err(CutFault::Mount(MountFault::NotAVolume)));
+    assert_eq!(rt; text.as_str(), "");
+    Ok(())
+}
+
+/// The line of session 3, cut at call 17, of 6 commands.
+fn line(alloc: Global, finding: Finding) -> Result<String, Fail> {
+    let mut writer = Vec::new(alloc);
+    tell(&mut writer, 3, 17, finding, 6)?;
+    Ok(String::from_utf8(writer)?)
+}
+
+#[test]
+fn each_finding_has_its_line(rt: HostRuntime) -> Result<(), Fail> {
+    let alloc = rt.alloc();
+    for (finding, text) in [
+        (Finding::Kept(0), "session 3 op 17 kept 0 of 6\n"),
+        (Finding::Torn, "session 3 op 17 torn\n"),
+        (
+            Finding::Mount(MountFault::Newer(9)),
+            "session 3 op 17 mount Newer\n",
+        ),
+    ] {
+        assert_eq!(rt; line(alloc, finding)?.as_str(), text);
+    }
+    for (fault, name) in [
+        (MountFault::Gone, "Gone"),
+        (MountFault::NoMemory, "NoMemory"),
+        (MountFault::NotAVolume, "NotAVolume"),
+        (MountFault::Damaged, "Damaged"),
+    ] {
+        assert_eq!(rt; mount_fault_name(fault), name.as_bytes());
+    }
+    Ok(())
+}
+
+/// Takes twenty bytes.
+#[derive(Drop)]
+struct Short {
+    bytes: [u8; 20],
+    count: usize,
+}
+
+impl Write for Short {
+    fn write(&mut self, buf: &[u8]) -> io::Result<usize> {
+        for (taken, byte) in buf.iter().enumerate() {
+            if self.count >= 20 {
+                return Ok(taken);
+            }
+            self.bytes[self.count] = *byte;
+            self.count += 1;
+        }
+        Ok(buf.len())
+    }
+
+    fn flush(&mut self) -> io::Result<()> {
+        Ok(())
+    }
+}
+
+#[test]
+fn a_writer_that_fails_ends_the_sessions(rt: HostRuntime) -> Result<(), Fail> {
+    let alloc = rt.alloc();
+    let (text, _) = told(alloc, formatted(alloc)?, 1, 1)?;
+    let mut writer = Short {
+        bytes: [0; 20],
+        count: 0,
+    };
+    let ended = cut(
+        alloc,
+        formatted(alloc)?,
+        script(alloc, LINES)?,
+        1,
+        2,
+        &mut writer,
+    );
+    assert_eq!(rt; ended, Err(CutFault::Write));
+    assert!(rt; text.as_bytes().starts_with(&writer.bytes));
+    Ok(())
+}
+
+/// A tree as a volume.
+#[derive(Drop)]
+struct Shown {
+    tree: PlainTree,
+}
+
+impl Answers for Shown {
+    fn answer(&mut self, stamped: &Stamped) -> Reply {
+        match self.tree.step(stamped) {
+            Ok(reply) => reply,
+            Err(_) => Reply::Error(Errno::ENOMEM),
+        }
+    }
+}
+
+fn tree_after(alloc: Global, lines: &str) -> Result<PlainTree, Fail> {
+    let mut tree = PlainTree::new(alloc, VolumeSizes::new(512, 32, 8, 1))?;
+    for stamped in &script(alloc, lines)? {
+        let _reply = tree.step(stamped)?;
+    }
+    Ok(tree)
+}
+
+/// Of five commands the second is a sync that is done, the fourth changes nothing, and the last was cut.
+#[test]
+fn the_least_number_is_kept_from_the_last_sync_on(rt: HostRuntime) -> Result<(), Fail> {
+    let alloc = rt.alloc();
+    let commands = script(alloc, "mkdir /a\nsync\nmkdir /b\nrmdir /x\nmkdir /c\n")?;
+    let end = SessionEnd {
+        mounted: Ok(()),
+        replies: vec![in alloc;
+            Reply::Done,
+            Reply::Done,
+            Reply::Done,
+            Reply::Error(Errno::ENOENT),
+            Reply::Error(Errno::EIO),
+        ]?,
+        begun: 5,
+        unmounted: None,
+        cut: true,
+    };
+    let before = tree_after(alloc, "")?;
+    for (lines, count) in [
+        ("", None),
+        ("mkdir /a\n", Some(2)),
+        ("mkdir /a\nmkdir /b\n", Some(3)),
+        ("mkdir /a\nmkdir /b\nmkdir /c\n", None),
+        ("mkdir /b\n", None),
+    ] {
+        let mut volume = Shown {
+            tree: tree_after(alloc, lines)?,
+        };
+        assert_eq!(rt;
+            kept(&before, &commands, &end, &mut volume)?,
+            count,
+            "{lines}"
+        );
+    }
+    Ok(())
+}
+
+/// How two sessions end, where memory lasts until they begin.
+fn two_sessions(alloc: Global) -> Option<Result<(), CutFault>> {
+    let geometry = Geometry::new(512, 32, 8).ok()?;
+    let nand = MemNand::new(alloc, geometry).ok()?;
+    let device = format(alloc, nand, 1).ok()?;
+    let mut reader = LINES.as_bytes();
+    let commands = read_script(alloc, &mut reader).ok()?;
+    let mut writer = Vec::new(alloc);
+    Some(cut(alloc, device, commands, 1, 2, &mut writer))
+}
+
+/// With the tool that refuses one allocation after another, sessions go on, or end for want of memory: no tree is torn, and no
+/// volume is lost.
+#[test]
+fn a_refused_allocation_tears_no_tree(rt: HostRuntime) -> Result<(), Fail> {
+    let ended = two_sessions(rt.alloc());
+    assert!(rt;
+        matches!(
+            ended,
+            None | Some(Ok(()) | Err(CutFault::NoMemory | CutFault::Write))
+        ),
+        "{ended:?}"
+    );
+    Ok(())
+}

@@ -1,0 +1,63 @@
+// Images, lines and outputs that fail at once.
+use crate::around::{Around, small_image};
+use std::test::Fail;
+
+#[test]
+fn an_image_that_fails_is_told(rt: HostRuntime) -> Result<(), Fail> {
+    let alloc = rt.alloc();
+    let image = small_image(&rt, alloc)?;
+    for words in [["check", "I"], ["run", "I"], ["cut", "I"]] {
+        let mut around = Around::new(alloc, &image, "sync\n")?;
+        around.image.reads = 0;
+        around.ends(&rt, alloc, &words, 2, ("", "fault Read\n"))?;
+    }
+    let mut around = Around::new(alloc, b"", "")?;
+    around.image.writes = 0;
+    around.ends(&rt, alloc, &["format", "I"], 2, ("", "fault Write\n"))?;
+    Ok(())
+}
+
+#[test]
+fn an_image_that_cannot_be_written_stops_its_volume(rt: HostRuntime) -> Result<(), Fail> {
+    let alloc = rt.alloc();
+    let image = small_image(&rt, alloc)?;
+    let mut around = Around::new(alloc, &image, "mkdir /a\nsync\nlist /\n")?;
+    around.image.writes = 0;
+    let told = ("ok\nerror EIO\nerror EIO\n", "fault EIO\n");
+    around.ends(&rt, alloc, &["run", "I"], 2, told)?;
+    let mut around = Around::new(alloc, &image, "")?;
+    around.image.writes = 0;
+    around.ends(&rt, alloc, &["check", "I"], 0, ("space 512 144 143\n", ""))?;
+    Ok(())
+}
+
+#[test]
+fn lines_that_fail_are_told(rt: HostRuntime) -> Result<(), Fail> {
+    let alloc = rt.alloc();
+    let image = small_image(&rt, alloc)?;
+    for (words, out) in [
+        (["run", "I"].as_slice(), "ok\n"),
+        (["cut", "I"].as_slice(), ""),
+        ([].as_slice(), "ok\n"),
+    ] {
+        let mut around = Around::new(alloc, &image, "mkdir /a\n")?;
+        around.lines.reads = 1;
+        around.ends(&rt, alloc, words, 4, (out, "fault Read\n"))?;
+    }
+    Ok(())
+}
+
+#[test]
+fn an_output_that_fails_is_told(rt: HostRuntime) -> Result<(), Fail> {
+    let alloc = rt.alloc();
+    let image = small_image(&rt, alloc)?;
+    for words in [["check", "I"], ["run", "I"], ["cut", "I"], ["format", "I"]] {
+        let mut around = Around::new(alloc, &image, "mkdir /a\n")?;
+        around.out.writes = 0;
+        around.ends(&rt, alloc, &words, 4, ("", "fault Write\n"))?;
+    }
+    let mut around = Around::new(alloc, b"", "")?;
+    around.err.writes = 0;
+    around.ends(&rt, alloc, &["check", "I"], 2, ("", ""))?;
+    Ok(())
+}

@@ -2,6 +2,24 @@
 use crate::around::{Around, small_image};
 use std::test::Fail;
 
+/// An image is cut to each length.
+#[test]
+fn an_image_that_is_cut_short_is_not_opened(rt: HostRuntime) -> Result<(), Fail> {
+    let alloc = rt.alloc();
+    let image = small_image(&rt, alloc)?;
+    for length in 0..143_656 {
+        let front = image.get(..length).ok_or("no such length")?;
+        let fault = if length < 32 {
+            "fault Magic\n"
+        } else {
+            "fault Size\n"
+        };
+        let around = Around::new(alloc, front, "")?;
+        around.ends(&rt, alloc, &["check", "I"], 2, ("", fault))?;
+    }
+    Ok(())
+}
+
 #[test]
 fn an_image_that_fails_is_told(rt: HostRuntime) -> Result<(), Fail> {
     let alloc = rt.alloc();

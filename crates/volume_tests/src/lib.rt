@@ -7,6 +7,8 @@ mod altered;
 #[cfg(test)]
 mod book;
 #[cfg(test)]
+mod caches;
+#[cfg(test)]
 mod cuts;
 #[cfg(test)]
 mod devices;

@@ -1,0 +1,70 @@
+// How often what is read again calls the device.
+
+use crate::devices::formatted;
+use crate::sessions::HELLO;
+use crate::stories::Part::{Rows, Turns};
+use crate::stories::{Part, served_after, tell_part};
+use std::alloc::Global;
+use std::process::Abort;
+use std::test::Fail;
+
+const READ: Part = Rows("seek 0 0 set -> at 0\nread 0 10 -> data 5 hello");
+
+const FIRST_PAGE: Part = Rows("seek 0 0 set -> at 0\nread 0 512 -> data 512 [x*512]");
+
+const TWO_PAGES: &str = "open /a rwc -> fd 0
+write 0 [x*1024] -> wrote 1024
+fsync 0 -> ok
+seek 0 0 set -> at 0";
+
+/// A story, with rows at its end that read again.
+#[derive(Clone, Copy)]
+struct Reading {
+    story: &'static [Part],
+    last: Part,
+}
+
+/// A file of one page is read twice.
+const ONE: Reading = Reading {
+    story: &[Rows(HELLO), Rows("fsync 0 -> ok"), READ],
+    last: READ,
+};
+
+/// A file of two pages is read, and its first page once more.
+const OTHER: Reading = Reading {
+    story: &[Rows(TWO_PAGES), Turns(2, "read 0 512 -> data 512 [x*512]")],
+    last: FIRST_PAGE,
+};
+
+/// Whether the rows at the end call the device, where the cache has so many pages.
+const READINGS: [(Reading, usize, bool); 5] = [
+    (ONE, 1, false),
+    (ONE, 2, false),
+    (ONE, 16, false),
+    (OTHER, 1, true),
+    (OTHER, 2, false),
+];
+
+/// The calls of a device in a story, which ends with these rows.
+fn calls_of(
+    rt: &impl Abort,
+    alloc: Global,
+    reading: Reading,
+    capacity: usize,
+    last: Part,
+) -> Result<u64, Fail> {
+    let mut served = served_after(rt, alloc, formatted(alloc)?, capacity, reading.story)?;
+    served = tell_part(rt, alloc, served, capacity, last)?;
+    Ok(served.abandon().calls())
+}
+
+#[test]
+fn what_is_in_the_cache_is_read_without_a_call(rt: HostRuntime) -> Result<(), Fail> {
+    let alloc = rt.alloc();
+    for (reading, capacity, calls) in READINGS {
+        let before = calls_of(&rt, alloc, reading, capacity, Rows(""))?;
+        let after = calls_of(&rt, alloc, reading, capacity, reading.last)?;
+        assert_eq!(rt; after > before, calls, "{capacity}");
+    }
+    Ok(())
+}

@@ -11,8 +11,8 @@
 //! - `! byte IMAGE PLACE VALUE`: one byte of the image is set; the first has the place 0.
 //! - `? length IMAGE`: under it stands how many bytes the image has.
 //! - `? same IMAGE OTHER`: under it stands `yes` where both have the same bytes, else `no`.
-//! - `? told WORDS`: under it stands `yes` where what the program tells in place of a run with these words, as its help, has
-//!   the line after it in it, else `no`.
+//! - `? told WORDS`: under it stands `yes` where what the program tells on standard output in place of a run with these words,
+//!   as its help, has the line after it in it, else `no`.
 //!
 //! Images are kept in memory by their names. The first time that one is asked for it is read from the file of that name in the
 //! folder that the program runs in, and no file is ever written. A run of `format` begins with an empty image; where there is no

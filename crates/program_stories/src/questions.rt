@@ -21,13 +21,14 @@ fn are_same(rt: &HostRuntime, images: &mut Images, image: &str, other: &str) -> 
     Ok(same)
 }
 
-/// Whether what is told in place of a run, as the help of a subcommand, has this text in it.
+/// Whether what is told on standard output in place of a run, as the help of a subcommand, has this text in it.
 fn is_told(rt: &HostRuntime, words: &[&str], text: &str) -> Result<bool> {
     let Err(told) = parse(rt.alloc(), words) else {
         return Ok(false);
     };
+    let asked_for = !told.use_stderr();
     let told = format!(in rt.alloc(); "{told}")?;
-    Ok(told.contains(text))
+    Ok(asked_for && told.contains(text))
 }
 
 /// Tells an answer.

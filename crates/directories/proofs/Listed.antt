@@ -9,7 +9,7 @@ use Rattle.page_tags.specs.Slots.{Entry}
 use Rattle.flash_tree.specs.Tree.{slot_pairs}
 use Rattle.flash_tree.specs.Tree.{IsPageSize}
 use Rattle.flash_tree.specs.laws.Finding.{same_header}
-use Rattle.flash_tree.specs.laws.OneTree.{same_lists}
+use Rattle.volume_terms.specs.laws.Same.{same_lists}
 use Rattle.flash_tree.specs.Tree.{ReadsDir}
 use Rattle.volume_terms.specs.Sizes.{Sizes}
 use Rattle.volume_terms.specs.laws.List.{get_push, slice_get_there}

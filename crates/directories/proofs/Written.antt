@@ -7,7 +7,8 @@ use Rattle.std.proofs.lemmas.Bool.{cases_eq, cases_lt, cond-false}
 use Rattle.std.proofs.lemmas.Nat.{div-mul-add}
 use Rattle.std.proofs.lemmas.List.{length-take, get_or-drop, get_or-append_right, take-append-le, drop-take, take-take}
 use Rattle.page_tags.specs.Headers.{IsHeader, header_bytes}
-use Rattle.page_tags.specs.Slots.{Entry, IsSlot, slot_bytes}
+use Rattle.page_tags.specs.Slots.{Entry, slot_bytes}
+use Rattle.flash_tree.specs.Slots.{IsTreeSlot}
 use Rattle.volume_terms.specs.Sizes.{Sizes, page_slots}
 use Rattle.volume_terms.specs.laws.List.{zero_at}
 use Rattle.pages.specs.Maps.{PageMap, has, IsPageOf, IsCut, changed, takes, with_pages, without_cuts}
@@ -274,7 +275,7 @@ slot_before j n xs ys less room =
     ∙ drop-take (272 * j) 272 xs
 
 -- a page with its first slots, where a slot is written
-pub page_made : (z : Sizes) (old : PageMap) (d : ℕ) (writing : Writing) (entry : Entry) (page : FreshPage) (n count : ℕ) (was xs : List ℕ) → n ≡ page_slots z → 1 ≤ n → 272 * n ≤ length was → writing.number < writing.afterwards → IsSlot entry
+pub page_made : (z : Sizes) (old : PageMap) (d : ℕ) (writing : Writing) (entry : Entry) (page : FreshPage) (n count : ℕ) (was xs : List ℕ) → n ≡ page_slots z → 1 ≤ n → 272 * n ≤ length was → writing.number < writing.afterwards → IsTreeSlot entry
     → count ≡ min (min writing.before writing.afterwards - writing.number / n * n) n
     → page.key.object ≡ d → page.key.chunk ≡ 1 + writing.number / n → length page.bytes.items ≡ z.page_bytes
     → (count ≢ 0 → old d (1 + writing.number / n) ≡ Some xs) → 272 * count ≤ length xs → was ≡ take (272 * count) xs ++ replicate (length was - 272 * count) 0
@@ -325,7 +326,7 @@ pub bytes_slot : (z : Sizes) (m : PageMap) (d i : ℕ) (bytes : List ℕ) (e : E
 bytes_slot z m d i bytes e is s =
     is.2 ∙ ap (λ (p : List ℕ). take 272 (drop (272 * (i % page_slots z)) p)) (one_page m d (1 + i / page_slots z) is.0 s.0 is.1 s.1) ∙ s.3
 
-pub slot_of_bytes : (z : Sizes) (m : PageMap) (d i : ℕ) (bytes : List ℕ) (e : Entry) → IsSlotBytes z m d i bytes → IsSlot e → bytes ≡ slot_bytes e → SlotOf z m d i e
+pub slot_of_bytes : (z : Sizes) (m : PageMap) (d i : ℕ) (bytes : List ℕ) (e : Entry) → IsSlotBytes z m d i bytes → IsTreeSlot e → bytes ≡ slot_bytes e → SlotOf z m d i e
 slot_of_bytes z m d i bytes e is valid same = (is.0, is.1, valid, sym is.2 ∙ same)
 
 -- ---- a slot less

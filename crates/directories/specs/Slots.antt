@@ -1,12 +1,13 @@
 -- Slots of a page or of a directory, and what a search of them tells.
 use Rattle.std.specs.Prelude.{◌≡◌, ◌≢◌, ◌<◌, ◌≤◌, ◌*◌, ℕ, List, take, drop, Option, Some, None}
 use Rattle.volume_terms.specs.Sizes.{slot_length}
-use Rattle.page_tags.specs.Slots.{Entry, IsSlot, slot_bytes}
+use Rattle.page_tags.specs.Slots.{Entry, slot_bytes}
+use Rattle.flash_tree.specs.Slots.{IsTreeSlot}
 use Rattle.directories.specs.declared.lookup.Located.{Located}
 
 -- slot k of a page is this entry
 abbrev pub SlotAt : List ℕ → ℕ → Entry → Type 0
-SlotAt page k entry = IsSlot entry × (take slot_length (drop (slot_length * k) page) ≡ slot_bytes entry)
+SlotAt page k entry = IsTreeSlot entry × (take slot_length (drop (slot_length * k) page) ≡ slot_bytes entry)
 
 -- the slot has this name and leads to the object that is told, or it has another name and none is told
 abbrev pub NamedBy : Entry → List ℕ → Option ℕ → Type 0

@@ -2,7 +2,7 @@
 ghost use Rattle.std.specs.Prelude.{◌≡◌, ◌≤◌, ◌+◌, ℕ, true, None, OnOk, IfOk, IfErr};
 ghost use Rattle.std.specs.FinMap as map;
 ghost use Rattle.page_tags.specs.SlotEntry.{entry_of};
-ghost use Rattle.page_tags.specs.Slots.{IsSlot};
+ghost use Rattle.flash_tree.specs.Slots.{IsTreeSlot};
 ghost use Rattle.volume_terms.specs.Sizes.{Sizes};
 ghost use Rattle.posix_profile.specs.State.{Entries};
 ghost use Rattle.pages.specs.Changes.{IsChange, IsOnlyOf};
@@ -28,7 +28,7 @@ pub fn add<P: Pages>(
     slot: &Slot,
     moment: u64,
 ) -> Result<Change, PageFault>
-    requires { IsSlot (entry_of slot.now) }
+    requires { IsTreeSlot (entry_of slot.now) }
     ensures finds { OnlyFinds (P.state pages.old) (P.state pages.new) }
     ensures asked { (P.state pages.new).asked ≤ (P.state pages.old).asked + 2 }
     ensures power { OnOk result (KeepsPower (P.state pages.old) (P.state pages.new)) }

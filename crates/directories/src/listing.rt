@@ -2,7 +2,8 @@
 ghost use Rattle.std.specs.Prelude.{◌≡◌, ◌<◌, ◌≤◌, ◌^◌, ◌*◌, ◌+◌, ◌/◌, ℕ, true, Some, None, OnOk, IfOk, IfErr, length};
 ghost use Rattle.std.specs.FinMap as map;
 ghost use Rattle.std.specs.Int.{div_ceil};
-ghost use Rattle.page_tags.specs.Slots.{Entry, IsSlot, slot_bytes};
+ghost use Rattle.page_tags.specs.Slots.{Entry, slot_bytes};
+ghost use Rattle.flash_tree.specs.Slots.{IsTreeSlot};
 ghost use Rattle.flash_tree.specs.Tree.{ReadsDir};
 ghost use Rattle.volume_terms.specs.Sizes.{Sizes, page_slots, slot_length};
 ghost use Rattle.posix_profile.specs.State.{Entries};
@@ -14,9 +15,8 @@ ghost use Rattle.directories.specs.Listings.{TakesEntry, TellsNames, ReadsFirst}
 
 use crate::head::read_head;
 use crate::page::slot_of;
-use flash_tree::Key;
+use flash_tree::{Key, decode_tree_slot};
 use name_map::NameMap;
-use page_tags::decode_slot;
 use pages::{PageFault, Pages, load};
 use posix_profile::NameList;
 use std::alloc::Global;
@@ -114,11 +114,11 @@ fn take_page(
 /// Puts the entry that the bytes of a slot say into a map. A name that is there already is `Damaged`.
 fn take_entry(alloc: Global, bytes: &[u8], entries: &mut NameMap) -> Result<(), PageFault>
     requires { length bytes.now ≡ slot_length }
-    ensures told { IfOk result (λ _. (entry : Entry) × IsSlot entry × (bytes.now ≡ slot_bytes entry) × TakesEntry entry entries.old entries.new) }
+    ensures told { IfOk result (λ _. (entry : Entry) × IsTreeSlot entry × (bytes.now ≡ slot_bytes entry) × TakesEntry entry entries.old entries.new) }
     ensures why { (new : PagesState) → IfErr result (SaysWhyMaking new) }
-    ensures fault { (new : PagesState) (entry : Entry) → IsSlot entry → bytes.now ≡ slot_bytes entry → map.get entries.old entry.name ≡ None → IfErr result (MayLackMemory new) }
+    ensures fault { (new : PagesState) (entry : Entry) → IsTreeSlot entry → bytes.now ≡ slot_bytes entry → map.get entries.old entry.name ≡ None → IfErr result (MayLackMemory new) }
 {
-    let Some(slot) = decode_slot(bytes) else {
+    let Some(slot) = decode_tree_slot(bytes) else {
         return Err(PageFault::Damaged);
     };
     match entries.insert(slot.name.to_vec(alloc)?, slot.object)? {

@@ -2,7 +2,8 @@
 ghost use Rattle.std.specs.Prelude.{◌≡◌, ◌<◌, ◌≤◌, ◌+◌, ◌*◌, ◌/◌, ◌^◌, ℕ, true, OnOk, IfOk, IfErr, IfSome, IsOk, length, take, drop, option_copied};
 ghost use Rattle.std.specs.FinMap as map;
 ghost use Rattle.std.specs.Int.{div_ceil};
-ghost use Rattle.page_tags.specs.Slots.{Entry, IsSlot, slot_bytes};
+ghost use Rattle.page_tags.specs.Slots.{Entry, slot_bytes};
+ghost use Rattle.flash_tree.specs.Slots.{IsTreeSlot};
 ghost use Rattle.volume_terms.specs.Sizes.{Sizes, page_slots, slot_length};
 ghost use Rattle.posix_profile.specs.State.{Entries};
 ghost use Rattle.pages.specs.Afterwards.{after, IsSizedBy};
@@ -14,8 +15,7 @@ ghost use Rattle.directories.specs.Slots.{NamedBy, SlotAt, AreSlots, Finds};
 
 use crate::head::head_after;
 use crate::page::slot_of;
-use flash_tree::Key;
-use page_tags::decode_slot;
+use flash_tree::{Key, decode_tree_slot};
 use pages::{Change, PageFault, Pages, load_after, page_after};
 use volume_terms::SLOT_BYTES;
 
@@ -136,11 +136,11 @@ fn search_page(page: &[u8], count: u32, name: &[u8]) -> Result<Option<Located>, 
 /// The object that the bytes of a slot lead to, if they have this name.
 fn named_in(bytes: &[u8], name: &[u8]) -> Result<Option<u64>, PageFault>
     requires { length bytes.now ≡ slot_length }
-    ensures told { IfOk result (λ found. (entry : Entry) × IsSlot entry × (bytes.now ≡ slot_bytes entry) × NamedBy entry name.now found) }
+    ensures told { IfOk result (λ found. (entry : Entry) × IsTreeSlot entry × (bytes.now ≡ slot_bytes entry) × NamedBy entry name.now found) }
     ensures damaged { IfErr result (λ fault. fault ≡ faults.Damaged) }
-    ensures ok { (entry : Entry) → IsSlot entry → bytes.now ≡ slot_bytes entry → IsOk result }
+    ensures ok { (entry : Entry) → IsTreeSlot entry → bytes.now ≡ slot_bytes entry → IsOk result }
 {
-    let Some(slot) = decode_slot(bytes) else {
+    let Some(slot) = decode_tree_slot(bytes) else {
         return Err(PageFault::Damaged);
     };
     if slot.name == name {

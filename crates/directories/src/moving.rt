@@ -3,7 +3,7 @@ ghost use Rattle.std.specs.Prelude.{◌≡◌, ◌≢◌, ◌≤◌, ◌+◌, �
 ghost use Rattle.std.specs.FinMap as map;
 ghost use Rattle.std.specs.Int.{div_ceil};
 ghost use Rattle.page_tags.specs.SlotEntry.{entry_of};
-ghost use Rattle.page_tags.specs.Slots.{IsSlot};
+ghost use Rattle.flash_tree.specs.Slots.{IsTreeSlot};
 ghost use Rattle.volume_terms.specs.Sizes.{Sizes, page_slots};
 ghost use Rattle.posix_profile.specs.State.{Entries};
 ghost use Rattle.pages.specs.Afterwards.{after, IsSizedBy};
@@ -34,7 +34,7 @@ pub fn rename_within<P: Pages>(
     to: &Slot,
     moment: u64,
 ) -> Result<Option<Change>, PageFault>
-    requires { IsSlot (entry_of to.now) }
+    requires { IsTreeSlot (entry_of to.now) }
     ensures finds { OnlyFinds (P.state pages.old) (P.state pages.new) }
     ensures asked { (z : Sizes) (before : ℕ) (entries : Entries) (d : DirIn (P.state pages.old) z directory before entries)
         → (P.state pages.new).asked ≤ (P.state pages.old).asked + 5 + div_ceil (map.len entries) (page_slots z) + div_ceil (map.len (map.remove entries from.now)) (page_slots z) }
@@ -81,7 +81,7 @@ pub fn rename_between<P: Pages>(
     moment: u64,
 ) -> Result<Option<Change>, PageFault>
     requires apart { route.source ≢ route.target }
-    requires valid { IsSlot (entry_of to.now) }
+    requires valid { IsTreeSlot (entry_of to.now) }
     ensures finds { OnlyFinds (P.state pages.old) (P.state pages.new) }
     ensures asked { (z : Sizes) (s t : ℕ) (left entries : Entries) (source : DirIn (P.state pages.old) z route.source s left) (target : DirIn (P.state pages.old) z route.target t entries)
         → (P.state pages.new).asked ≤ (P.state pages.old).asked + 5 + div_ceil (map.len left) (page_slots z) + div_ceil (map.len entries) (page_slots z) }
@@ -126,7 +126,7 @@ fn put_after<P: Pages>(
     moment: u64,
 ) -> Result<Change, PageFault>
     requires sized { IsSizedBy (option_copied earlier) (P.state pages.old).page_bytes }
-    requires valid { IsSlot (entry_of slot.now) }
+    requires valid { IsTreeSlot (entry_of slot.now) }
     ensures finds { OnlyFinds (P.state pages.old) (P.state pages.new) }
     ensures asked { (z : Sizes) (before : ℕ) (entries : Entries) (d : DirIn (after (option_copied earlier.entry) (P.state pages.old)) z directory before entries)
         → (P.state pages.new).asked ≤ (P.state pages.old).asked + 2 + div_ceil (map.len entries) (page_slots z) }
@@ -174,7 +174,7 @@ fn push_slot<P: Pages>(
     moment: u64,
 ) -> Result<Change, PageFault>
     requires sized { IsSizedBy (option_copied earlier) (P.state pages.old).page_bytes }
-    requires valid { IsSlot (entry_of slot.now) }
+    requires valid { IsTreeSlot (entry_of slot.now) }
     ensures finds { OnlyFinds (P.state pages.old) (P.state pages.new) }
     ensures asked { (P.state pages.new).asked ≤ (P.state pages.old).asked + 1 }
     ensures power { OnOk result (KeepsPower (P.state pages.old) (P.state pages.new)) }

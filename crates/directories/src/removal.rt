@@ -18,8 +18,7 @@ use crate::head::{DirectoryHead, head_after, head_page};
 use crate::lookup::search;
 use crate::page::slot_of;
 use crate::writing::{Writing, write};
-use flash_tree::Key;
-use page_tags::decode_slot;
+use flash_tree::{Key, decode_tree_slot};
 use pages::{Change, Cut, PageFault, Pages, load_after, page_after};
 use std::alloc::{AllocError, Global};
 use volume_terms::SLOT_BYTES;
@@ -224,7 +223,7 @@ fn fill<P: Pages>(
         → IfErr result (MayLackMemory (P.state pages.new)) }
 {
     let bytes = slot_bytes(pages, earlier, directory, shorter.length)?;
-    let Some(last) = decode_slot(&bytes) else {
+    let Some(last) = decode_tree_slot(&bytes) else {
         return Err(PageFault::Damaged);
     };
     let writing = Writing {

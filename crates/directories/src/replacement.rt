@@ -3,7 +3,7 @@ ghost use Rattle.std.specs.Prelude.{◌≡◌, ◌≤◌, ◌+◌, ℕ, true, On
 ghost use Rattle.std.specs.FinMap as map;
 ghost use Rattle.std.specs.Int.{div_ceil};
 ghost use Rattle.page_tags.specs.SlotEntry.{entry_of};
-ghost use Rattle.page_tags.specs.Slots.{IsSlot};
+ghost use Rattle.flash_tree.specs.Slots.{IsTreeSlot};
 ghost use Rattle.volume_terms.specs.Sizes.{Sizes, page_slots};
 ghost use Rattle.posix_profile.specs.State.{Entries};
 ghost use Rattle.pages.specs.Changes.{IsChange, IsOnlyOf};
@@ -28,7 +28,7 @@ pub fn replace<P: Pages>(
     slot: &Slot,
     moment: u64,
 ) -> Result<Option<Change>, PageFault>
-    requires { IsSlot (entry_of slot.now) }
+    requires { IsTreeSlot (entry_of slot.now) }
     ensures finds { OnlyFinds (P.state pages.old) (P.state pages.new) }
     ensures asked { (z : Sizes) (before : ℕ) (entries : Entries) (d : DirIn (P.state pages.old) z directory before entries)
         → (P.state pages.new).asked ≤ (P.state pages.old).asked + 2 + div_ceil (map.len entries) (page_slots z) }

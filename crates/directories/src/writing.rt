@@ -1,7 +1,7 @@
 // A slot of a directory that is written, with the directory's header.
 ghost use Rattle.std.specs.Prelude.{◌≡◌, ◌≢◌, ◌<◌, ◌≤◌, ◌+◌, ◌-◌, ◌*◌, ◌/◌, ◌++◌, min, ℕ, List, [], true, Some, IfOk, OnOk, IfErr, take, length, replicate, option_copied};
 ghost use Rattle.page_tags.specs.SlotEntry.{entry_of};
-ghost use Rattle.page_tags.specs.Slots.{IsSlot};
+ghost use Rattle.flash_tree.specs.Slots.{IsTreeSlot};
 ghost use Rattle.volume_terms.specs.Sizes.{Sizes, page_slots, slot_length};
 ghost use Rattle.pages.specs.Afterwards.{after, IsSizedBy};
 ghost use Rattle.pages.specs.Changes.{IsChange, IsOnlyOf};
@@ -70,7 +70,7 @@ pub(crate) fn slot_page<P: Pages>(
     slot: &Slot,
 ) -> Result<FreshPage, PageFault>
     requires sized { IsSizedBy (option_copied earlier) (P.state pages.old).page_bytes }
-    requires valid { IsSlot (entry_of slot.now) }
+    requires valid { IsTreeSlot (entry_of slot.now) }
     requires within { writing.number < writing.afterwards }
     ensures finds { OnlyFinds (P.state pages.old) (P.state pages.new) }
     ensures asked { (P.state pages.new).asked ≤ (P.state pages.old).asked + 1 }
@@ -109,7 +109,7 @@ pub(crate) fn write<P: Pages>(
     head: DirectoryHead,
 ) -> Result<Change, PageFault>
     requires sized { IsSizedBy (option_copied earlier) (P.state pages.old).page_bytes }
-    requires valid { IsSlot (entry_of slot.now) }
+    requires valid { IsTreeSlot (entry_of slot.now) }
     requires within { writing.number < writing.afterwards }
     ensures finds { OnlyFinds (P.state pages.old) (P.state pages.new) }
     ensures asked { (P.state pages.new).asked ≤ (P.state pages.old).asked + 1 }

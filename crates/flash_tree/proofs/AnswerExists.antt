@@ -19,10 +19,10 @@ use Rattle.flash_tree.specs.Tree.{NewestMap, IsSingle, HasHeader}
 use Rattle.flash_tree.specs.Mount.{IsDamaged, IsNewer, HasNone, HasHeaderFault, Leads, Finds, ListEnd, Wrongly, Wholly, GoesThrough, sizes_of, IsVolume, Answer, NotAVolume, IsWrong, IsTreeOf, Answers}
 use Rattle.flash_tree.proofs.AnswerLaws.{is_page_size}
 use Rattle.flash_tree.specs.laws.Newest.{one_tag}
-use Rattle.flash_tree.proofs.NewestTold.{newest_or_none, data_or_none, place_within}
+use Rattle.flash_tree.specs.laws.NewestTold.{newest_or_none, data_or_none, place_within}
 use Rattle.flash_tree.proofs.FindingExists.{header_told, some_finding}
-use Rattle.flash_tree.proofs.WalkExists.{some_end}
-use Rattle.flash_tree.proofs.WholeList.{IsWholeList, whole_list}
+use Rattle.flash_tree.specs.laws.WalkExists.{some_end}
+use Rattle.flash_tree.specs.laws.WholeList.{IsWholeList, whole_list}
 use Rattle.flash_tree.proofs.ContentExists.{content_there}
 use Rattle.flash_tree.proofs.TwiceExists.{twice_told}
 use Rattle.flash_tree.proofs.TreeExists.{tree_objects, some_tree}

@@ -78,7 +78,7 @@ module _ (z : Sizes) (m : NewestMap) (sized : (o c : ℕ) (page : List ℕ) → 
           moment = has.1.moment;
           content = λ name object is.
               let slot = entry_slot z m o f.moment (map.from_entries (slot_pairs slots)) r name object is in
-              subst IsName slot.3 (r.each slot.0 slot.1 slot.2).2.name;
+              subst IsName slot.3 (r.each slot.0 slot.1 slot.2).2.slot.name;
         },
       )
 

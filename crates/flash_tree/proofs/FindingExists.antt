@@ -8,7 +8,7 @@ use Rattle.volume_terms.specs.laws.List.{same_or_not, get_push, slice_get_there}
 use Rattle.page_tags.specs.Headers.{Fields, IsHeader, IsBytes, MayBeSet, is_present}
 use Rattle.page_tags.specs.laws.Header.{header_or_first_fault}
 use Rattle.page_tags.specs.Slots.{Entry}
-use Rattle.page_tags.specs.laws.Slot.{slot_or_none}
+use Rattle.flash_tree.specs.laws.TreeSlot.{tree_slot_or_none}
 use Rattle.page_tags.specs.declared.header.HeaderFault.{HeaderFault}
 use Rattle.page_tags.specs.declared.header.ObjectKind.{ObjectKind}
 use Rattle.page_tags.specs.declared.header.ObjectKind.TheVariants as kinds
@@ -17,7 +17,7 @@ use Rattle.posix_profile.specs.State.{Name}
 use Rattle.flash_tree.specs.Tree.{NewestMap, IsSingle, HasHeader, SlotIs}
 use Rattle.flash_tree.specs.Mount.{IsDamaged, wrong_by, HasNone, HasHeaderFault, HasChunks, LacksChunk, AreSlots, LacksSlots, Finding, Stops, Leads, Finds}
 use Rattle.flash_tree.specs.Tree.{IsPageSize}
-use Rattle.flash_tree.proofs.NewestExists.{IsTold, all_or_one}
+use Rattle.flash_tree.specs.laws.NewestExists.{IsTold, all_or_one}
 
 -- a list of what there is at each place below n
 pub listed : {A : Type 0} (P : ℕ → A → Type 0) (n : ℕ) → ((i : ℕ) → i < n → (x : A) × P i x)
@@ -84,7 +84,7 @@ module _ (z : Sizes) (size : IsPageSize z.page_bytes) (m : NewestMap) (single : 
   slot_told : (i : ℕ) → IsTold (Slot i)
   slot_told i = elim (told o (1 + i / page_slots z)) [
     | inr none ↦ inr (λ slot. none slot.1.0 slot.1.1)
-    | inl (page, there) ↦ elim (slot_or_none (take 272 (drop (272 * (i % page_slots z)) page))) [
+    | inl (page, there) ↦ elim (tree_slot_or_none (take 272 (drop (272 * (i % page_slots z)) page))) [
       | inl (entry, valid, is) ↦ inl (entry, (page, there, valid, is))
       | inr not ↦ inr (λ slot.
           let same : slot.1.0 ≡ page = single o (1 + i / page_slots z) _ _ slot.1.1 there in

@@ -1,9 +1,5 @@
 pub mod AnswerLaws
-pub mod NewestExists
-pub mod NewestTold
 pub mod FindingExists
-pub mod WalkExists
-pub mod WholeList
 pub mod ContentExists
 pub mod TreeExists
 pub mod TwiceExists

@@ -24,12 +24,12 @@ use Rattle.flash_tree.specs.laws.Finding.{same_header, header_no_fault}
 use Rattle.flash_tree.specs.Tree.{IsPageSize}
 use Rattle.flash_tree.proofs.FindingExists.{listed}
 use Rattle.flash_tree.proofs.AnswerLaws.{is_page_size}
-use Rattle.flash_tree.proofs.NewestExists.{IsTold, all_or_one, tag_at}
+use Rattle.flash_tree.specs.laws.NewestExists.{IsTold, all_or_one, tag_at}
 use Rattle.flash_tree.specs.laws.Newest.{one_tag}
-use Rattle.flash_tree.proofs.NewestTold.{newest_or_none, place_within}
+use Rattle.flash_tree.specs.laws.NewestTold.{newest_or_none, place_within}
 use Rattle.flash_tree.proofs.TwiceExists.{both_told, same_told}
-use Rattle.flash_tree.proofs.WalkExists.{pigeonhole}
-use Rattle.flash_tree.proofs.WholeList.{IsOn}
+use Rattle.flash_tree.specs.laws.WalkExists.{pigeonhole}
+use Rattle.flash_tree.specs.laws.WholeList.{IsOn}
 
 -- that one number below n is so can be told
 pub below_told : (P : ℕ → Type 0) → ((i : ℕ) → IsTold (P i)) → (n : ℕ) → IsTold ((i : ℕ) × (i < n) × P i)

@@ -1,5 +1,5 @@
 -- A list that was gone through wholly, with no directory named twice, is the list of a tree that is shown.
-use Rattle.std.specs.Prelude.{◌≡◌, ◌<◌, ◌≤◌, ◌^◌, ℕ, List, length, slice_get, map as list_map, Some, None}
+use Rattle.std.specs.Prelude.{◌≡◌, ◌<◌, ◌≤◌, ◌-◌, ◌^◌, ℕ, List, length, slice_get, map as list_map, Some, None}
 use Rattle.std.specs.Cmp.{nat_cmp_total}
 use Rattle.std.specs.Cmp.Lexicographic.{nat_list_cmp_total}
 use Rattle.std.specs.FinMap as map
@@ -22,7 +22,7 @@ use Rattle.flash_tree.specs.Tree.{IsPageSize}
 use Rattle.flash_tree.specs.laws.Shown.{pairs, found}
 use Rattle.flash_tree.proofs.FindingExists.{listed}
 use Rattle.flash_tree.specs.laws.Pairs.{find_at, at_find}
-use Rattle.flash_tree.proofs.WholeList.{IsOn, IsLedTo, is_first, is_named, IsWholeList}
+use Rattle.flash_tree.specs.laws.WholeList.{IsOn, IsLedTo, is_first, is_named, IsWholeList}
 use Rattle.flash_tree.proofs.ContentExists.{IsContent}
 use Rattle.flash_tree.specs.laws.Slot.{entry_slot}
 
@@ -85,13 +85,13 @@ module _ (z : Sizes) (size : IsPageSize z.page_bytes) (m : NewestMap) (single : 
   slot_of : (d o : ℕ) (name : Name) (n : Names tree_objects d name o) → (i : ℕ) × (e : Entry) × (slice_get (directory_of d n.moment n.entries n.directory_is).slots i ≡ Some e) × (e.name ≡ name) × (e.object ≡ o)
   slot_of d o name n = entry_slot z m d n.moment n.entries (directory_of d n.moment n.entries n.directory_is) name o n.object_is
 
-  at_least_2 : (d o : ℕ) (name : Name) → Names tree_objects d name o → (2 ≤ o) × (o < 2 ^ 64)
+  at_least_2 : (d o : ℕ) (name : Name) → Names tree_objects d name o → (2 ≤ o) × (o < 2 ^ 64 - 1)
   at_least_2 d o name n =
       let s = slot_of d o name n in
       let r = directory_of d n.moment n.entries n.directory_is in
       let valid = (r.each s.0 s.1 s.2).2 in
       let object : s.1.object ≡ o = s.4 in
-      (omega (arith, valid.object.0), omega (arith, valid.object.1))
+      (omega (arith, valid.slot.object.0), omega (arith, valid.slot.object.1, valid.ordinary))
 
   leads_on : (d o : ℕ) (name : Name) → Names tree_objects d name o → IsOn list o
   leads_on d o name n =
@@ -147,7 +147,7 @@ module _ (z : Sizes) (size : IsPageSize z.page_bytes) (m : NewestMap) (single : 
     go (Dir moment entries) got r = (moment, entries, got)
 
   -- numbers from 1 up
-  in_range : (o : ℕ) → IsLedTo z m root_number o → (1 ≤ o) × (o < 2 ^ 64)
+  in_range : (o : ℕ) → IsLedTo z m root_number o → (1 ≤ o) × (o < 2 ^ 64 - 1)
   in_range o is_first = (omega arith, omega arith)
   in_range o (is_named {o = d} named k led finds at) =
       let n = slot_names d named k o (led_reached d led).0 finds at in

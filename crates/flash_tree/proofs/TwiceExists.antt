@@ -16,8 +16,8 @@ use Rattle.flash_tree.specs.Mount.{HasNone, HasHeaderFault, AreSlots, IsSlotIn, 
 use Rattle.flash_tree.specs.laws.Finding.{same_header, kinds_apart, header_no_fault}
 use Rattle.flash_tree.specs.Tree.{IsPageSize}
 use Rattle.flash_tree.proofs.FindingExists.{listed}
-use Rattle.flash_tree.proofs.NewestExists.{IsTold}
-use Rattle.flash_tree.proofs.WholeList.{IsWholeList, IsThereOn}
+use Rattle.flash_tree.specs.laws.NewestExists.{IsTold}
+use Rattle.flash_tree.specs.laws.WholeList.{IsWholeList, IsThereOn}
 
 -- one of the list is so
 abbrev pub IsFound : {A : Type 0} → List A → (ℕ → A → Type 0) → Type 0

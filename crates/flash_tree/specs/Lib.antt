@@ -3,8 +3,11 @@ pub mod Newest
 pub mod Numbering
 pub mod Keeping
 pub mod Places
+pub mod Slots
 pub mod Tree
 pub mod Mount
 pub mod FreeBlocks
 pub mod Sound
+pub mod Checkpoints
+pub mod Fading
 pub mod laws

@@ -4,10 +4,11 @@ use Rattle.std.specs.Prelude.{◌≡◌, ◌⊎◌, ◌<◌, ◌≤◌, ℕ, ◌
 use Rattle.std.specs.FinMap as map
 use Rattle.page_tags.specs.Headers.{Fields, IsHeader, header_bytes, is_present}
 use Rattle.page_tags.specs.declared.header.ObjectKind.TheVariants as kinds
-use Rattle.page_tags.specs.Slots.{Entry, IsSlot, slot_bytes}
+use Rattle.page_tags.specs.Slots.{Entry, slot_bytes}
 use Rattle.volume_terms.specs.Sizes.{Sizes, page_slots}
 use Rattle.posix_profile.specs.State.{Name, Entries, Object, File, Dir, Objects}
 use Rattle.posix_profile.specs.WellFormed.{IsTree}
+use Rattle.flash_tree.specs.Slots.{IsTreeSlot}
 
 -- the bytes of a page that a header can fill
 pub record IsPageSize (d : ℕ) : Type 0 where
@@ -44,7 +45,7 @@ pub record ReadsFile (z : Sizes) (m : NewestMap) (o : ℕ) (moment : ℕ) (bytes
 -- slot i of a directory is this entry
 abbrev pub SlotIs : Sizes → NewestMap → ℕ → ℕ → Entry → Type 0
 SlotIs z m o i entry =
-    (page : List ℕ) × m o (1 + i / page_slots z) page × IsSlot entry × (take 272 (drop (272 * (i % page_slots z)) page) ≡ slot_bytes entry)
+    (page : List ℕ) × m o (1 + i / page_slots z) page × IsTreeSlot entry × (take 272 (drop (272 * (i % page_slots z)) page) ≡ slot_bytes entry)
 
 -- names and objects of slots
 abbrev pub slot_pairs : List Entry → List (Name × ℕ)

@@ -4,7 +4,9 @@
 mod law;
 mod marks;
 mod place;
+mod slot;
 mod tag;
+mod truth;
 
 pub use law::{
     a_flash_has_an_answer, a_flash_has_one_answer_at_most, a_flash_shows_one_tree,
@@ -17,4 +19,10 @@ pub use law::{
 };
 pub use marks::count_bad;
 pub use place::{Found, FreshPage, Key, TagNumbers};
+pub use slot::{CHECK_OBJECT, decode_tree_slot};
 pub use tag::tag_at;
+pub use truth::{
+    a_block_that_fades_leaves_a_flash_true, a_true_flash_has_one_checkpoint,
+    an_erase_and_a_mark_fade_a_block, groups_of_objects_bring_no_checkpoint,
+    the_group_of_a_checkpoint_leaves_a_flash_true,
+};

@@ -3,3 +3,4 @@ pub mod Keeping
 pub mod Marking
 pub mod Standing
 pub mod Rooted
+pub mod Truth

@@ -51,7 +51,7 @@ module _ (flash : Flash) (bytes : List ℕ) (tag : Tag) (valid : IsTag tag) (alo
   ]
 
   -- and has its tag
-  only_tag : (b p : ℕ) (t : Tag) → flash.bad b ≡ false → HasTag flash b p t → t ≡ tag
+  pub only_tag : (b p : ℕ) (t : Tag) → flash.bad b ≡ false → HasTag flash b p t → t ≡ tag
   only_tag b p t good there =
       let at = only_there b p t good there in
       one_tag flash alone.block 0 t tag (subst (λ k. HasTag flash k 0 t) at.0 (subst (λ l. HasTag flash b l t) at.1 there)) has

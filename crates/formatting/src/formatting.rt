@@ -1,6 +1,6 @@
 // The formatting of a device as a volume.
 ghost use Rattle.std.specs.Prelude.{◌≡◌, ◌↔◌, ◌⊎◌, ◌<◌, ◌≤◌, ◌+◌, ◌-◌, ℕ, true, false, length, IfOk, IfErr, IsErrAnd, OnOk};
-ghost use Rattle.nand_model.specs.Calls.{Lasts};
+ghost use Rattle.flash_tree.specs.Checkpoints.{IsTrueFlash};
 ghost use Rattle.flash_tree.specs.Mount.{bad_blocks};
 ghost use Rattle.flash_tree.specs.Sound.{IsSoundFlash};
 ghost use Rattle.posix_profile.specs.laws.Fresh.{fresh};
@@ -39,20 +39,17 @@ fn lay_out<N: Nand>(device: &mut N, page: &FreshPage, spare: u32) -> Result<(), 
 /// Makes the device a volume with so many spare blocks, whose root is an empty directory of moment 0. All that stands
 /// in good blocks is erased; a block that fails is marked bad. What `Spare` and `NoMemory` refuse is left as it is.
 pub fn format<N: Nand>(alloc: Global, device: N, spare: u32) -> Result<N, (N, FormatFault)>
-    ensures lasts { Lasts (N.state device) (N.state (given_back result)) }
+    ensures keeps { Keeps (N.state device) (N.state (given_back result)) }
     ensures formatted { (N.state device).honest ≡ true → IfOk result (λ d. IsSoundFlash (N.state d).geometry (N.state d).flash spare fresh.objects) }
     ensures holds { (N.state device).honest ≡ true → IfOk result (λ d. HoldsOnlyRoot spare (N.state d)) }
+    ensures true_flash { (N.state device).honest ≡ true → IfOk result (λ d. IsTrueFlash (N.state d).geometry (N.state d).flash) }
     ensures few_bad { IfOk result (λ d. bad_blocks (N.state d).geometry (N.state d).flash ≤ spare) }
     ensures has_power { IfOk result (λ d. (N.state d).gone ≡ false) }
     ensures spare { IsErrAnd result (λ back. back.1 ≡ FormatFault.Spare) ↔ ((N.state device).geometry.blocks < spare + 4) }
     ensures unchanged { IfErr result (λ back. (back.1 ≡ FormatFault.Spare) ⊎ (back.1 ≡ FormatFault.NoMemory) → N.state back.0 ≡ N.state device) }
     ensures gone { IfErr result (λ back. back.1 ≡ FormatFault.Gone → (N.state back.0).gone ≡ true) }
     ensures worn { IfErr result (λ back. back.1 ≡ FormatFault.Worn → spare < bad_blocks (N.state back.0).geometry (N.state back.0).flash) }
-    ensures marks { bad_blocks (N.state device).geometry (N.state (given_back result)).flash
-        ≤ bad_blocks (N.state device).geometry (N.state device).flash + ((N.state (given_back result)).failures - (N.state device).failures) }
     ensures each_failure_marks { (IsErrAnd result (λ back. back.1 ≡ FormatFault.Gone) → ⊥) → EachFailureMarks (N.state device) (N.state (given_back result)) }
-    ensures bad_pages { (N.state device).honest ≡ true → (b p : ℕ) → (N.state device).flash.bad b ≡ true
-        → (N.state (given_back result)).flash.page b p ≡ (N.state device).flash.page b p }
 {
     let geometry = device.geometry();
     if spare > geometry.blocks() - 4 {

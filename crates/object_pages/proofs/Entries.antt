@@ -14,6 +14,7 @@ use Rattle.posix_profile.specs.laws.Fresh.{slots_some}
 use Rattle.posix_profile.specs.laws.Number.{capacity_few}
 use Rattle.posix_profile.specs.laws.Total.{total_without}
 use Rattle.posix_profile.specs.laws.Write.{ceiling_at_most}
+use Rattle.flash_tree.specs.Slots.{IsSlotNumber}
 use Rattle.object_store.specs.Stores.{CanHave}
 
 few_slots : (z : Sizes) → IsSizes z → page_slots z ≤ 15
@@ -49,10 +50,10 @@ few_left z objects can o dir name = go (map.contains_key dir.1 name) (map.len-re
     go true e = omega (arith, few, e)
     go false e = omega (arith, few, e)
 
--- what an entry leads to has a number from 2 up
-pub named_from_two : (z : Sizes) (objects : Objects) → CanHave z objects → (d o : ℕ) (name : Name) → Names objects d name o → 2 ≤ o
-named_from_two z objects can d o name names =
+-- a slot may lead to what an entry leads to
+pub named_number : (z : Sizes) (objects : Objects) → CanHave z objects → (d o : ℕ) (name : Name) → Names objects d name o → IsSlotNumber o
+named_number z objects can d o name names =
     let there = can.forest.leads d o name names in
     let some : 1 ≤ o = (can.forest.each o there.0 there.1).numbered in
     let other : o ≢ root_number = λ is. can.forest.root_unnamed d name (subst (Names objects d name) is names) in
-    grind (arith, some, other)
+    (grind (arith, some, other), (can.forest.each o there.0 there.1).number)

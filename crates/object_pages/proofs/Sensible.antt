@@ -13,6 +13,7 @@ use Rattle.object_store.specs.Changes.{made, without, IsTarget, IsSensible, CanM
 use Rattle.object_store.specs.declared.change.DirectoryEntry.{DirectoryEntry}
 use Rattle.object_store.specs.declared.change.ObjectChange.{ObjectChange}
 use Rattle.object_store.specs.declared.change.ObjectChange.TheVariants as changes
+use Rattle.flash_tree.specs.Slots.{IsSlotNumber}
 use Rattle.flash_tree.specs.declared.place.FreshPage.{FreshPage}
 use Rattle.pages.specs.Changes.{AreApart}
 use Rattle.pages.specs.Maps.{PageMap, changed, IsPageOf}
@@ -21,13 +22,13 @@ use Rattle.pages.specs.declared.change.Change.{Change}
 use Rattle.object_pages.specs.Holding.{HoldsObject, HoldsObjects}
 use Rattle.object_store.specs.Stores.{CanHave}
 
--- a file has a number from 2 up
-pub file_from_two : (z : Sizes) (objects : Objects) → CanHave z objects → (o : ℕ) → IsFile objects o → 2 ≤ o
-file_from_two z objects can o file =
+-- a slot may lead to a file
+pub file_number : (z : Sizes) (objects : Objects) → CanHave z objects → (o : ℕ) → IsFile objects o → IsSlotNumber o
+file_number z objects can o file =
     let some : 1 ≤ o = (can.forest.each o (File file.0 file.1) file.2).numbered in
     let other : o ≢ root_number = λ is. (
     let two : Some (File file.0 file.1) ≡ Some (Dir can.forest.root.0 can.forest.root.1) = sym file.2 ∙ ap (map.get objects) is ∙ can.forest.root.2 in absurd cc) in
-    grind (arith, some, other)
+    (grind (arith, some, other), (can.forest.each o (File file.0 file.1) file.2).number)
 
 -- the name that an object moves to is in a directory
 pub target_directory : (objects : Objects) (entry : DirectoryEntry) (o : ℕ) (dropped : Option ℕ) → IsTarget objects entry o dropped → IsDirectory objects entry.directory

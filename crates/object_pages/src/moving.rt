@@ -2,7 +2,7 @@
 ghost use Rattle.std.specs.Prelude.{◌≡◌, ◌≤◌, ℕ, OnOk, IfOk, IfErr, IfSome};
 ghost use Rattle.std.specs.FinMap as map;
 ghost use Rattle.page_tags.specs.SlotEntry.{entry_of};
-ghost use Rattle.page_tags.specs.Slots.{IsSlot};
+ghost use Rattle.flash_tree.specs.Slots.{IsTreeSlot};
 ghost use Rattle.volume_terms.specs.Names.{IsName};
 ghost use Rattle.volume_terms.specs.Sizes.{Sizes};
 ghost use Rattle.posix_profile.specs.State.{Objects, IsDirectory, entries_of};
@@ -62,7 +62,7 @@ fn rename<P: Pages>(
     slot: &Slot,
     moment: u64,
 ) -> Result<Option<Change>, PageFault>
-    requires { IsSlot (entry_of slot.now) }
+    requires { IsTreeSlot (entry_of slot.now) }
     ensures finds { OnlyFinds (P.state pages.old) (P.state pages.new) }
     ensures power { OnOk result (KeepsPower (P.state pages.old) (P.state pages.new)) }
     ensures change { IfOk result (λ made. IfSome made (λ change. IsChange change (P.state pages.old).page_bytes 4)) }

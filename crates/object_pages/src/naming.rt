@@ -1,8 +1,8 @@
 // Names that lead to objects.
-ghost use Rattle.std.specs.Prelude.{◌≡◌, ◌≤◌, OnOk, IfOk, IfErr};
+ghost use Rattle.std.specs.Prelude.{◌≡◌, OnOk, IfOk, IfErr};
 ghost use Rattle.std.specs.FinMap as map;
 ghost use Rattle.page_tags.specs.SlotEntry.{entry_of};
-ghost use Rattle.page_tags.specs.Slots.{IsSlot};
+ghost use Rattle.flash_tree.specs.Slots.{IsSlotNumber, IsTreeSlot};
 ghost use Rattle.volume_terms.specs.Names.{IsName};
 ghost use Rattle.volume_terms.specs.Sizes.{Sizes};
 ghost use Rattle.posix_profile.specs.State.{Objects, IsDirectory, entries_of};
@@ -18,6 +18,7 @@ ghost use Rattle.object_store.specs.Stores.{CanHave};
 
 use crate::creation::new_object;
 use directories::add;
+use flash_tree::CHECK_OBJECT;
 use object_store::DirectoryEntry;
 use page_tags::Slot;
 use pages::{Change, PageFault, Pages};
@@ -27,13 +28,13 @@ use volume_terms::is_name;
 
 /// The slot of a name that leads to an object.
 pub(crate) fn slot_for(name: &[u8], object: u64) -> Result<Slot<'_>, PageFault>
-    ensures valid { IfOk result (λ slot. IsSlot (entry_of slot)) }
+    ensures valid { IfOk result (λ slot. IsTreeSlot (entry_of slot)) }
     ensures object { IfOk result (λ slot. slot.object ≡ object) }
     ensures name { IfOk result (λ slot. slot.name.now ≡ name.now) }
     ensures why { IfErr result (λ e. e ≡ faults.Damaged) }
-    ensures fault { IfErr result (λ _. IsName name.now → 2 ≤ object → ⊥) }
+    ensures fault { IfErr result (λ _. IsName name.now → IsSlotNumber object → ⊥) }
 {
-    if object < 2 || !is_name(name) {
+    if object < 2 || object == CHECK_OBJECT || !is_name(name) {
         return Err(PageFault::Damaged);
     }
     Ok(Slot { object, name })
@@ -80,7 +81,7 @@ pub fn name<P: Pages>(
     ensures names { (z : Sizes) (objects : Objects) → HoldsIn (P.state pages.old) z objects → IsAbsent objects at.entry
         → IfOk result (λ change. HoldsObjects z (changed change (P.state pages.old).present) (with_name objects moment at.entry.directory at.entry.name.now number)) }
     ensures why { IfErr result (SaysWhyChanging (P.state pages.new)) }
-    ensures fault { (z : Sizes) (objects : Objects) → HoldsIn (P.state pages.old) z objects → CanHave z objects → IsAbsent objects at.entry → 2 ≤ number
+    ensures fault { (z : Sizes) (objects : Objects) → HoldsIn (P.state pages.old) z objects → CanHave z objects → IsAbsent objects at.entry → IsSlotNumber number
         → IfErr result (MayLackMemory (P.state pages.new)) }
 {
     let slot = slot_for(at.name, number)?;

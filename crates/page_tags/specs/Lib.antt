@@ -4,4 +4,5 @@ pub mod HeaderFields
 pub mod HeaderParts
 pub mod Slots
 pub mod SlotEntry
+pub mod Checks
 pub mod laws

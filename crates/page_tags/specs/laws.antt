@@ -1,5 +1,6 @@
 pub mod Bit
 pub mod Byte
+pub mod Check
 pub mod Header
 pub mod Slot
 pub mod Tag

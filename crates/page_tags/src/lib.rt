@@ -1,6 +1,8 @@
-//! The bytes of the formats: a page's tag, an object's header, a directory's slot. No call takes memory.
+//! The bytes of the formats: a page's tag, an object's header, a directory's slot, a checkpoint's head and entries. No
+//! call takes memory.
 #![tactic(auto)]
 
+mod check;
 mod header;
 mod law;
 mod numbers;
@@ -9,6 +11,9 @@ mod slot;
 mod tag;
 mod zeros;
 
+pub use check::{
+    CheckEntry, decode_check_entry, decode_check_head, encode_check_entry, encode_check_head,
+};
 pub use header::{Format, Header, HeaderFault, ObjectKind, decode_header, encode_header};
 pub use law::{
     each_page_is_a_header_or_has_a_fault, each_slot_is_one_or_none, each_tag_is_one_or_none,

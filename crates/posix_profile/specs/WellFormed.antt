@@ -1,6 +1,6 @@
 -- Which states a volume can have.
 -- From: POSIX: the file hierarchy; the ranges are this project's.
-use Rattle.std.specs.Prelude.{◌≡◌, ◌⊎◌, ◌<◌, ◌≤◌, ◌^◌, ℕ, true, length, Some}
+use Rattle.std.specs.Prelude.{◌≡◌, ◌⊎◌, ◌<◌, ◌≤◌, ◌-◌, ◌^◌, ℕ, true, length, Some}
 use Rattle.std.specs.FinMap as map
 use Rattle.volume_terms.specs.Sizes.{Sizes, greatest_length, descriptors, offset_limit, root_number}
 use Rattle.volume_terms.specs.Names.{AreBytes, IsName}
@@ -13,10 +13,10 @@ abbrev pub HasContent : Sizes → Object → Type 0
 HasContent z (File moment bytes) = AreBytes bytes × (length bytes ≤ greatest_length z)
 HasContent z (Dir moment entries) = (name : Name) (o : ℕ) → map.get entries name ≡ Some o → IsName name
 
--- an object has a number from 1 up, a moment and a content that fit
+-- an object has a number from 1 up that is below the last one, which no object may have, and a moment and a content that fit
 pub record IsObject (z : Sizes) (o : ℕ) (object : Object) : Type 0 where
   pub numbered : 1 ≤ o
-  pub number : o < 2 ^ 64
+  pub number : o < 2 ^ 64 - 1
   pub moment : moment_of object < 2 ^ 64
   pub content : HasContent z object
 

@@ -6,7 +6,8 @@ use Rattle.std.specs.FinMap as map
 use Rattle.std.proofs.Common.{refl, sym, ◌∙◌, ap, subst, inl, inr, arith}
 use Rattle.std.proofs.lemmas.List.{length-append, map-append}
 use Rattle.std.proofs.lemmas.Nat.{div-mul-add, mod-mul-add}
-use Rattle.page_tags.specs.Slots.{Entry, IsSlot, slot_bytes}
+use Rattle.page_tags.specs.Slots.{Entry, slot_bytes}
+use Rattle.flash_tree.specs.Slots.{IsTreeSlot}
 use Rattle.flash_tree.specs.Tree.{SlotIs}
 use Rattle.flash_tree.specs.Mount.{Wrong, LacksSlots}
 use Rattle.pages.specs.Maps.{PageMap, has}
@@ -107,7 +108,7 @@ module _ (z : Sizes) (m : PageMap) (d n : ℕ) (old : Slots) (h : HasSlots z m d
 
 module _ (z : Sizes) (m : PageMap) (d c : ℕ) where
   -- a slot of a chunk's page is one of the directory
-  pub slot_of_page : (k : ℕ) (e : Entry) (page : List ℕ) → k < page_slots z → m d (1 + c) ≡ Some page → IsSlot e → take 272 (drop (272 * k) page) ≡ slot_bytes e → SlotIs z (has m) d (c * page_slots z + k) e
+  pub slot_of_page : (k : ℕ) (e : Entry) (page : List ℕ) → k < page_slots z → m d (1 + c) ≡ Some page → IsTreeSlot e → take 272 (drop (272 * k) page) ≡ slot_bytes e → SlotIs z (has m) d (c * page_slots z + k) e
   slot_of_page k e page less is valid bytes =
       let n : ℕ = page_slots z in
       let chunk : (c * n + k) / n ≡ c = div-mul-add c n k less in
@@ -116,7 +117,7 @@ module _ (z : Sizes) (m : PageMap) (d c : ℕ) where
 
   -- bytes of a page that are no slot are none of the directory's
   pub no_slot_of_page : (k : ℕ) (page : List ℕ) (total : ℕ) → k < page_slots z → c * page_slots z + k < total → m d (1 + c) ≡ Some page
-      → ((e : Entry) → IsSlot e → take 272 (drop (272 * k) page) ≢ slot_bytes e) → LacksSlots z (has m) d total
+      → ((e : Entry) → IsTreeSlot e → take 272 (drop (272 * k) page) ≢ slot_bytes e) → LacksSlots z (has m) d total
   no_slot_of_page k page total less within is none =
       let n : ℕ = page_slots z in
       let chunk : (c * n + k) / n ≡ c = div-mul-add c n k less in

@@ -1,7 +1,8 @@
 -- The slots of a directory that were gone through.
 use Rattle.std.specs.Prelude.{◌≡◌, ◌≢◌, ◌⊎◌, ℕ, List, [], ◌∷◌, ◌++◌, map as list_map, slice_get, Some, None}
 use Rattle.std.specs.FinMap as map
-use Rattle.page_tags.specs.Slots.{Entry, IsSlot, slot_bytes}
+use Rattle.page_tags.specs.Slots.{Entry, slot_bytes}
+use Rattle.flash_tree.specs.Slots.{IsTreeSlot}
 use Rattle.flash_tree.specs.Mount.{Wrong, IsDamaged, AreSlots, LacksSlots}
 use Rattle.pages.specs.Maps.{PageMap, has}
 use Rattle.posix_profile.specs.State.{Name, Entries}
@@ -17,8 +18,8 @@ pub record TakesEntry (entry : Entry) (old new : Slots) : Type 0 where
 -- the bytes are no slot, or that of a name that was seen
 abbrev pub TakesNone : List ℕ → Slots → Wrong → Type 0
 TakesNone bytes old wrong = (wrong ≡ IsDamaged)
-    × (((entry : Entry) → IsSlot entry → bytes ≢ slot_bytes entry)
-    ⊎ ((entry : Entry) × IsSlot entry × (bytes ≡ slot_bytes entry) × ((o : ℕ) × (map.get old.names entry.name ≡ Some o))))
+    × (((entry : Entry) → IsTreeSlot entry → bytes ≢ slot_bytes entry)
+    ⊎ ((entry : Entry) × IsTreeSlot entry × (bytes ≡ slot_bytes entry) × ((o : ℕ) × (map.get old.names entry.name ≡ Some o))))
 
 -- the names of the slots, and no others
 pub record AreSlotNames (slots : List Entry) (names : Entries) : Type 0 where

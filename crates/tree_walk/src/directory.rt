@@ -2,7 +2,8 @@
 ghost use Rattle.std.specs.Prelude.{◌≡◌, ◌<◌, ◌≤◌, ◌+◌, ◌*◌, ◌^◌, ℕ, [], true, IfOk, IfErr, OnOk, Some, length, take, drop};
 ghost use Rattle.std.specs.FinMap as map;
 ghost use Rattle.std.specs.Int.{div_ceil};
-ghost use Rattle.page_tags.specs.Slots.{Entry, IsSlot, slot_bytes};
+ghost use Rattle.page_tags.specs.Slots.{Entry, slot_bytes};
+ghost use Rattle.flash_tree.specs.Slots.{IsTreeSlot};
 ghost use Rattle.pages.specs.Maps.{PageMap};
 ghost use Rattle.pages.specs.State.{PagesState, OnlyFinds, KeepsPower};
 ghost use Rattle.volume_terms.specs.Sizes.{Sizes, page_slots};
@@ -10,9 +11,8 @@ ghost use Rattle.tree_walk.specs.Faults.{TellsWhy, TellsWrong};
 ghost use Rattle.tree_walk.specs.SlotLists.{TakesEntry, TakesNone, HasSlots, LacksOf, NamesFrom};
 
 use crate::fault::WalkFault;
-use flash_tree::Key;
+use flash_tree::{Key, decode_tree_slot};
 use name_map::NameMap;
-use page_tags::decode_slot;
 use pages::{Pages, Presence};
 use std::alloc::Global;
 use volume_terms::SLOT_BYTES;
@@ -130,10 +130,10 @@ fn slot_of(page: &[u8], place: u64) -> &[u8]
 /// Goes through the slot that these bytes are. A name that was seen already is `Damaged`.
 fn take_entry(alloc: Global, bytes: &[u8], seen: &mut Slots) -> Result<(), WalkFault>
     requires { length bytes.now ≡ 272 }
-    ensures told { OnOk result ((entry : Entry) × IsSlot entry × (bytes.now ≡ slot_bytes entry) × TakesEntry entry seen.old seen.new) }
+    ensures told { OnOk result ((entry : Entry) × IsTreeSlot entry × (bytes.now ≡ slot_bytes entry) × TakesEntry entry seen.old seen.new) }
     ensures fault { (new : PagesState) → IfErr result (TellsWrong (TakesNone bytes.now seen.old) new) }
 {
-    let Some(slot) = decode_slot(bytes) else {
+    let Some(slot) = decode_tree_slot(bytes) else {
         return Err(WalkFault::Damaged);
     };
     let led = seen.names.insert(slot.name.to_vec(alloc)?, slot.object)?;

@@ -10,7 +10,8 @@ use Rattle.page_tags.specs.declared.header.ObjectKind.TheVariants as kinds
 use Rattle.volume_terms.specs.Sizes.{Sizes}
 use Rattle.volume_terms.specs.laws.List.{slice_get_there}
 use Rattle.flash_tree.specs.Tree.{IsPageSize, NewestMap, IsSingle, HasHeader}
-use Rattle.flash_tree.specs.laws.OneTree.{one_header, one_slot, same_lists}
+use Rattle.volume_terms.specs.laws.Same.{same_lists}
+use Rattle.flash_tree.specs.laws.OneTree.{one_header, one_slot}
 use Rattle.flash_tree.specs.Mount.{Wrong, wrong_by, HasHeaderFault, HasChunks, LacksChunk, AreSlots, LacksSlots, Finding, Stops, Leads, IsFileThere, IsDirectoryThere, LacksContent, Finds, with_new, ListEnd, Wrongly, GoesThrough, ends, stops, goes}
 
 -- a header takes 32 bytes and its presence bits

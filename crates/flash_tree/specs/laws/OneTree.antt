@@ -10,6 +10,7 @@ use Rattle.page_tags.specs.declared.header.ObjectKind.TheVariants as kinds
 use Rattle.page_tags.specs.Slots.{Entry, slot_bytes}
 use Rattle.page_tags.specs.laws.Slot.{same_slot}
 use Rattle.volume_terms.specs.Sizes.{Sizes, page_slots, root_number}
+use Rattle.volume_terms.specs.laws.Same.{same_lists}
 use Rattle.posix_profile.specs.State.{Entries, Object, File, Dir, Objects}
 use Rattle.posix_profile.specs.Names.{Names, Reached, root, below}
 use Rattle.flash_tree.specs.Tree.{NewestMap, IsSingle, HasHeader, ByteIs, SlotIs, ReadsAs, ReadsFile, ReadsDir, Shows}
@@ -19,13 +20,6 @@ pub same_options : {A : Type 0} (x y : Option A) → ((v : A) → x ≡ Some v �
 same_options None None f g = refl
 same_options (Some v) y f g = sym (f v refl)
 same_options None (Some v) f g = g v refl
-
--- lists of one length with the same elements are one
-pub same_lists : {A : Type 0} (xs ys : List A) → length xs ≡ length ys → ((i : ℕ) (x y : A) → slice_get xs i ≡ Some x → slice_get ys i ≡ Some y → x ≡ y) → xs ≡ ys
-same_lists [] [] len each = refl
-same_lists [] (y ∷ ys) len each = absurd (omega arith)
-same_lists (x ∷ xs) [] len each = absurd (omega arith)
-same_lists (x ∷ xs) (y ∷ ys) len each = ap (λ v. v ∷ xs) (each 0 x y refl refl) ∙ ap (λ vs. y ∷ vs) (same_lists xs ys (omega arith) (λ i a b. each (suc i) a b))
 
 module _ (z : Sizes) (few : z.page_bytes ≤ 4096) (m : NewestMap) (single : IsSingle m) (o : ℕ) where
   pub one_header : (f g : Fields) → HasHeader z m o f → HasHeader z m o g → f ≡ g
@@ -52,7 +46,7 @@ module _ (z : Sizes) (few : z.page_bytes ≤ 4096) (m : NewestMap) (single : IsS
   one_slot i s t a b =
       let pages : a.0 ≡ b.0 = single _ _ _ _ a.1 b.1 in
       let slots : slot_bytes s ≡ slot_bytes t = sym a.3 ∙ ap (λ (p : List ℕ). take 272 (drop (272 * (i % page_slots z)) p)) pages ∙ b.3 in
-      same_slot s t a.2 b.2 slots
+      same_slot s t a.2.slot b.2.slot slots
 
   one_dir : (s t : ℕ) (x y : Entries) → ReadsDir z m o s x → ReadsDir z m o t y → (s ≡ t) × (x ≡ y)
   one_dir s t x y a b =

@@ -120,8 +120,8 @@ module _ (z : Sizes) (sizes : IsSizes z) where
   pub capacity_few : capacity z ≤ 4096 * 256
   capacity_few = mul-le _ _ 4096 256 (omega (arith, sizes.few_blocks)) (omega (arith, pages_few))
 
-  -- a new number is a number of 64 bits
-  pub new_number_few : (objects : Objects) → fits z objects ≡ true → new_number objects < 2 ^ 64
+  -- a new number is a number that an object may have
+  pub new_number_few : (objects : Objects) → fits z objects ≡ true → new_number objects < 2 ^ 64 - 1
   new_number_few objects fit = omega (arith, (new_number_is objects).high, objects_le z objects, leb-true (charge z objects) (capacity z) fit, capacity_few)
 
   -- a file's length is an offset

@@ -186,10 +186,10 @@ module _ (z : Sizes) (sizes : IsSizes z) (s : State) (sound : IsSound z s) where
     info_told : (o : ℕ) (x : Object) → map.get s.objects o ≡ Some x → IsInfo (info s.objects o x)
     info_told o (File m bytes) is =
         let object = sound.well_formed.forest.each o (File m bytes) is in
-        record { object = object.number; links = omega (arith, links_few o (File m bytes) is); size = omega (arith, object.content.1, greatest_length_few z sizes); moment = object.moment }
+        record { object = omega (arith, object.number); links = omega (arith, links_few o (File m bytes) is); size = omega (arith, object.content.1, greatest_length_few z sizes); moment = object.moment }
     info_told o (Dir m entries) is =
         let object = sound.well_formed.forest.each o (Dir m entries) is in
-        record { object = object.number; links = omega (arith, links_few o (Dir m entries) is); size = omega arith; moment = object.moment }
+        record { object = omega (arith, object.number); links = omega (arith, links_few o (Dir m entries) is); size = omega arith; moment = object.moment }
 
     stat_told : (o : ℕ) (object : Option Object) → map.get s.objects o ≡ object → P (stat_of s o object)
     stat_told o None is = refused _

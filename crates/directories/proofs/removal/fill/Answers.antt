@@ -26,7 +26,7 @@ returns-in_default-clause-fault g c = λ sound z size are.
     let old : PagesState = g.P.Pages.state c.args.pages.now in
     let m : PageMap = changed_by (option_copied c.args.earlier) old.present in
     let s = are c.args.shorter.length (omega arith) (omega arith) in
-    let none = rw c.in_default.is at c.decode_slot.ensures.none in
+    let none = rw c.in_default.is at c.decode_tree_slot.ensures.none in
     none s.0 s.1.2 (bytes_slot z m c.args.directory c.args.shorter.length c.in_ok-bytes.bytes s.0 (c.in_ok-bytes.ensures.told sound z size) s.1)
 
 pub returns-clause-fills : goal.returns-clause-fills
@@ -37,7 +37,7 @@ returns-clause-fills g c = λ sound z size.
     let finds = c.slot_bytes.ensures.finds in
     let by : PageMap → PageMap = changed_by (option_copied c.args.earlier) in
     let len : ℕ = c.args.shorter.length in
-    let found = rw c.in-Some.is at c.decode_slot.ensures.found in
+    let found = rw c.in-Some.is at c.decode_tree_slot.ensures.found in
     let e : Entry = entry_of c.in-Some.last in
     let last : SlotOf z m c.args.directory len e = slot_of_bytes z m c.args.directory len c.in_ok-bytes.bytes e (c.in_ok-bytes.ensures.told sound z size) found.0 found.1 in
     let count : min (len + 1) len ≡ len = grind arith in

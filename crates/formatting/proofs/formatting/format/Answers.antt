@@ -5,6 +5,7 @@ use Rattle.volume_terms.specs.Sizes.{root_number}
 use Rattle.directories.specs.HeadPages.{IsHeadPage}
 use Rattle.formatting.specs.Formatting.{empty_root}
 use Rattle.formatting.proofs.Rooted.{volume_of, root_alone}
+use Rattle.formatting.proofs.Truth.{root_true}
 use Rattle.formatting.proofs.formatting.format.Goals as goal
 
 pub returns-in-Ok-lay_out-clause-formatted : goal.returns-in-Ok-lay_out-clause-formatted
@@ -23,3 +24,11 @@ returns-in-Ok-lay_out-clause-holds g c = λ honest.
     let size : c.bytes.result ≡ old.geometry.bytes = c.bytes.ensures ∙ ap (λ (x : Geometry). x.bytes) same in
     let head = subst (λ d. IsHeadPage c.in-Ok.page d root_number (empty_root c.args.spare)) size c.in-Ok.ensures in
     root_alone old (g.N.Nand.state c.lay_out.new.device) c.args.spare c.in-Ok.page honest c.lay_out.ensures.keeps head c.in-Ok-lay_out.ensures.stands
+
+pub returns-in-Ok-lay_out-clause-true_flash : goal.returns-in-Ok-lay_out-clause-true_flash
+returns-in-Ok-lay_out-clause-true_flash g c = λ honest.
+    let old : Device = g.N.Nand.state c.args.device in
+    let same : c.geometry-geometry.result ≡ old.geometry = c.geometry-geometry.ensures in
+    let size : c.bytes.result ≡ old.geometry.bytes = c.bytes.ensures ∙ ap (λ (x : Geometry). x.bytes) same in
+    let head = subst (λ d. IsHeadPage c.in-Ok.page d root_number (empty_root c.args.spare)) size c.in-Ok.ensures in
+    root_true c.args.spare (g.N.Nand.state c.lay_out.new.device) (root_alone old (g.N.Nand.state c.lay_out.new.device) c.args.spare c.in-Ok.page honest c.lay_out.ensures.keeps head c.in-Ok-lay_out.ensures.stands)

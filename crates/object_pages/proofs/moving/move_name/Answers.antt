@@ -7,12 +7,12 @@ use Rattle.pages.specs.Maps.{changed}
 use Rattle.pages.specs.State.{PagesState}
 use Rattle.pages.specs.declared.change.Change.{Change}
 use Rattle.object_pages.specs.Holding.{HoldsObjects}
-use Rattle.object_pages.proofs.Entries.{named_from_two}
+use Rattle.object_pages.proofs.Entries.{named_number}
 use Rattle.object_pages.proofs.moving.move_name.Goals as goal
 
 pub returns-in_err-slot-clause-fault : goal.returns-in_err-slot-clause-fault
 returns-in_err-slot-clause-fault g c = λ z objects h can leads target name.
-    absurd (c.in_err-slot.ensures.fault name (named_from_two z objects can c.args.from.directory c.args.number c.args.from.name.now leads))
+    absurd (c.in_err-slot.ensures.fault name (named_number z objects can c.args.from.directory c.args.number c.args.from.name.now leads))
 
 pub returns-in_err-change-clause-fault : goal.returns-in_err-change-clause-fault
 returns-in_err-change-clause-fault g c = λ z objects h can leads target name.

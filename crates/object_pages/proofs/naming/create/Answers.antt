@@ -4,7 +4,7 @@ use Rattle.std.specs.FinMap as map
 use Rattle.volume_terms.specs.Sizes.{root_number}
 use Rattle.posix_profile.specs.State.{Name, Entries, Object, IsDirectory}
 use Rattle.posix_profile.specs.Changes.{with_object}
-use Rattle.posix_profile.specs.laws.Number.{new_number_is}
+use Rattle.posix_profile.specs.laws.Number.{new_number_is, new_number_few}
 use Rattle.object_store.specs.Changes.{empty_object}
 use Rattle.pages.specs.Changes.{IsChange}
 use Rattle.pages.specs.Maps.{PageMap, changed}
@@ -20,7 +20,8 @@ use Rattle.object_pages.proofs.naming.create.Goals as goal
 pub returns-in_err-slot-clause-fault : goal.returns-in_err-slot-clause-fault
 returns-in_err-slot-clause-fault g c = λ z objects h can is absent.
     let low = (new_number_is objects).low in
-    absurd (c.in_err-slot.ensures.fault absent.name (omega (arith, is, low)))
+    let few = new_number_few z can.numbers objects can.fit in
+    absurd (c.in_err-slot.ensures.fault absent.name (omega (arith, is, low), omega (arith, is, few)))
 
 pub returns-in_err-named-clause-fault : goal.returns-in_err-named-clause-fault
 returns-in_err-named-clause-fault g c = λ z objects h can is absent.

@@ -1,13 +1,13 @@
 use Rattle.std.proofs.Common.{◌≡◌, ◌⊎◌, ℕ, Some, None}
 use Rattle.posix_profile.specs.State.{IsFile}
 use Rattle.object_store.specs.Changes.{IsAbsent, LeadsTo, IsTarget}
-use Rattle.object_pages.proofs.Sensible.{file_from_two, target_directory, target_name}
+use Rattle.object_pages.proofs.Sensible.{file_number, target_directory, target_name}
 use Rattle.object_pages.proofs.planning.plan_each.Goals as goal
 
 pub returns-in-Name-clause-fault : goal.returns-in-Name-clause-fault
 returns-in-Name-clause-fault g c = λ z objects h can make is.
     let s : IsAbsent objects c.in-Name.entry × IsFile objects c.in-Name.number = rw c.in-Name.is at make.sensible in
-    c.name.ensures.fault z objects h can s.0 (file_from_two z objects can c.in-Name.number s.1)
+    c.name.ensures.fault z objects h can s.0 (file_number z objects can c.in-Name.number s.1)
 
 pub returns-in-Remove-clause-makes : goal.returns-in-Remove-clause-makes
 returns-in-Remove-clause-makes g c = λ z objects h make is.

@@ -10,7 +10,7 @@ some_there (Some o) not = (o, refl)
 
 pub returns-then-is_some-clause-fault : goal.returns-then-is_some-clause-fault
 returns-then-is_some-clause-fault c = λ new.
-    let found = rw c.in-Some.is at c.decode_slot.ensures.found in
+    let found = rw c.in-Some.is at c.decode_tree_slot.ensures.found in
     let e : Entry = entry_of c.in-Some.slot in
     let name : c.in_ok-to_vec.field-0.items ≡ e.name = search rules in (
       refl,

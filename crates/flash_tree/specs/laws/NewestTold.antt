@@ -6,7 +6,7 @@ use Rattle.nand_model.specs.Flash.{Flash, Erased, Written, IsWithin}
 use Rattle.page_tags.specs.Tags.{tag_bytes}
 use Rattle.flash_tree.specs.Groups.{HasTag}
 use Rattle.flash_tree.specs.Newest.{Spot, Holds, IsAfter, IsNewest, HasNewest}
-use Rattle.flash_tree.proofs.NewestExists.{HoldsAt, holds_at, after_or_not}
+use Rattle.flash_tree.specs.laws.NewestExists.{HoldsAt, holds_at, after_or_not}
 use Rattle.flash_tree.specs.laws.Newest.{one_tag}
 use Rattle.flash_tree.specs.laws.Order.{after_on}
 

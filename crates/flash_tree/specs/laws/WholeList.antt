@@ -9,7 +9,7 @@ use Rattle.volume_terms.specs.laws.List.{place_of, push_last, slice_get_there}
 use Rattle.flash_tree.specs.Tree.{NewestMap}
 use Rattle.flash_tree.specs.Mount.{Leads, Finds, with_new, ListEnd, Wrongly, Wholly, GoesThrough, ends, stops, goes}
 use Rattle.flash_tree.specs.laws.Shown.{Each, each_with_new}
-use Rattle.flash_tree.proofs.WalkExists.{IsOnce, once_with_new, stays_with_new}
+use Rattle.flash_tree.specs.laws.WalkExists.{IsOnce, once_with_new, stays_with_new}
 
 -- the number stands on the list
 abbrev pub IsOn : List ℕ → ℕ → Type 0

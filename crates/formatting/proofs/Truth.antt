@@ -1,0 +1,35 @@
+-- A flash that holds nothing but an empty volume has no checkpoint.
+use Rattle.std.specs.Prelude.{◌≡◌, ℕ, None}
+use Rattle.std.proofs.Common.{ap, arith}
+use Rattle.nand_model.specs.Calls.{Device}
+use Rattle.page_tags.specs.declared.tag.Tag.{Tag}
+use Rattle.page_tags.specs.Tags.{IsTag}
+use Rattle.volume_terms.specs.Sizes.{root_number}
+use Rattle.flash_tree.specs.Slots.{check_object}
+use Rattle.flash_tree.specs.Checkpoints.{Checkpoint, check_tag, IsWhole, IsTrueFlash}
+use Rattle.flash_tree.specs.laws.Checking.{first_tag, none_checked}
+use Rattle.formatting.specs.Formatting.{single_tag, root_key, HoldsOnlyRoot}
+use Rattle.formatting.proofs.Rooted.{only_tag}
+
+-- its only tag is that of the root's header
+pub root_true : (spare : ℕ) (d : Device) → HoldsOnlyRoot spare d → IsTrueFlash d.geometry d.flash
+root_true spare d only = (none_checked d.geometry d.flash none None).right where
+  few : only.number ≤ 4096
+  few = omega (arith, only.few, d.geometry.most_blocks)
+
+  valid : IsTag (single_tag root_key only.number)
+  valid = record {
+    count = (omega arith, omega arith);
+    index = omega arith;
+    object = (omega arith, omega arith);
+    chunk = omega arith;
+    version = (only.some, omega arith);
+    group = omega (arith, few);
+    seq = (only.some, omega (arith, few));
+  }
+
+  none : (c : Checkpoint) → IsWhole d.geometry d.flash c → ⊥
+  none c whole =
+      let tag : check_tag c 0 ≡ single_tag root_key only.number = only_tag d.flash _ (single_tag root_key only.number) valid only.alone c.block 0 (check_tag c 0) whole.good (first_tag d.geometry d.flash c whole) in
+      let object : check_object ≡ root_number = ap (λ (t : Tag). t.object) tag in
+      omega (arith, object)

@@ -1,0 +1,25 @@
+// Whether something is trusted, for contracts alone.
+ghost use Rattle.std.specs.Prelude.{◌≡◌, Bool};
+ghost use base.Fml.{ftrue};
+
+use std::marker::Model;
+
+/// Whether something is trusted. It takes no memory.
+#[derive(Drop)]
+pub(crate) struct Trust {
+    pub ghost told: { Bool },
+}
+
+impl Model for Trust {
+    ghost also_owns = { λ _. ftrue };
+}
+
+impl Trust {
+    /// Trust, or none, as a proof chooses at the call.
+    pub(crate) fn as_told() -> Trust
+        ghost told: { Bool }
+        ensures { result.told ≡ told }
+    {
+        Trust {}
+    }
+}

@@ -1,7 +1,9 @@
-//! Tests of the device in memory and of the bytes of pages: what calls that are cut or fail leave, and tags, headers and slots
-//! by hand.
+//! Tests of the device in memory and of the bytes of pages: what calls that are cut or fail leave, and tags, headers, slots and
+//! checkpoints by hand.
 #![tactic(auto)]
 
+#[cfg(test)]
+mod checks;
 #[cfg(test)]
 mod fates;
 #[cfg(test)]
@@ -14,3 +16,5 @@ mod sizes;
 mod slots;
 #[cfg(test)]
 mod tags;
+#[cfg(test)]
+mod trusted;

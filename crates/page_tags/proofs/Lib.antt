@@ -4,3 +4,4 @@ pub mod Ranges
 pub mod SlotBytes
 pub mod HeaderBytes
 pub mod HeaderTests
+pub mod AllZero

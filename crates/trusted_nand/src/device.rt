@@ -27,7 +27,7 @@ impl<N: Nand> TrustedNand<N> {
 
     /// The device itself.
     pub fn into_inner(self) -> N
-        ensures { ⟦<TrustedNand<N> as Nand>⟧.state self ≡ trusted_as self.trust.told (N.state result) }
+        ensures { (told : Bool) × (⟦<TrustedNand<N> as Nand>⟧.state self ≡ trusted_as told (N.state result)) }
     {
         self.inner
     }

@@ -85,8 +85,11 @@ read 0 10 -> data 5 hello
 space -> space 512 144 140",
 );
 
+/// The greatest number, which is that of checkpoints.
+const LAST_NUMBER: &[u8] = b"\xff\xff\xff\xff\xff\xff\xff\xff";
+
 /// What is altered in the flash of one file.
-const FILE_CASES: [(&[Patch], Answer); 19] = [
+const FILE_CASES: [(&[Patch], Answer); 21] = [
     (&[], HAS_FILE),
     (&[Patch::Bytes(0, 4, b"\0")], NOT_A_VOLUME),
     (&[Patch::Tag(0, 0, b"\x01")], NOT_A_VOLUME),
@@ -108,6 +111,16 @@ const FILE_CASES: [(&[Patch], Answer); 19] = [
     (&[Patch::Bytes(1, 8, b"\x03\0b/c")], DAMAGED),
     (&[Patch::Bytes(1, 8, b"\x02\0..")], DAMAGED),
     (&[Patch::Bytes(1, 11, b"b")], DAMAGED),
+    // The slot names the object of checkpoints, which has no header, and which has one.
+    (&[Patch::Bytes(1, 0, LAST_NUMBER)], DAMAGED),
+    (
+        &[
+            Patch::Bytes(1, 0, LAST_NUMBER),
+            Patch::Tag(2, 8, LAST_NUMBER),
+            Patch::Tag(3, 8, LAST_NUMBER),
+        ],
+        DAMAGED,
+    ),
     // The file is longer than any, has a bit past its end, or lacks its page.
     (&[Patch::Bytes(2, 8, b"\x01\0\x1e")], DAMAGED),
     (&[Patch::Bytes(2, 32, b"\x03")], DAMAGED),

@@ -1,0 +1,48 @@
+//! The head and the entries of a checkpoint, in bytes that were worked out by hand.
+
+use page_tags::{
+    CheckEntry, decode_check_entry, decode_check_head, encode_check_entry, encode_check_head,
+};
+
+/// The head of a checkpoint of three entries: `NLFC`, version 1, the number, and zeros.
+const HEAD: [u8; 32] = [
+    0x4e, 0x4c, 0x46, 0x43, 1, 0, 0, 0, 3, 0, 0, 0, 0, 0, 0, 0, 0, 0, 0, 0, 0, 0, 0, 0, 0, 0, 0, 0,
+    0, 0, 0, 0,
+];
+
+/// Object 2, chunk 1, version 7, in page 5 of block 4.
+const ENTRY: [u8; 32] = [
+    2, 0, 0, 0, 0, 0, 0, 0, 1, 0, 0, 0, 0, 0, 0, 0, 7, 0, 0, 0, 0, 0, 0, 0, 4, 0, 0, 0, 5, 0, 0, 0,
+];
+
+/// The head is read from these bytes and written as them, and each byte of it alone makes of it none.
+#[test]
+fn head_has_32_bytes(rt: HostRuntime) {
+    let mut written = [0xff; 32];
+    encode_check_head(3, &mut written);
+    assert!(rt; written == HEAD);
+    assert_eq!(rt; decode_check_head(&HEAD), Some(3));
+    for place in [0, 3, 4, 5, 7, 16, 31] {
+        let mut bytes = HEAD;
+        if place < 32 {
+            bytes[place] ^= 3;
+        }
+        assert_eq!(rt; decode_check_head(&bytes), None, "at {place}");
+    }
+}
+
+/// The entry is read from these bytes and written as them.
+#[test]
+fn entry_has_32_bytes(rt: HostRuntime) {
+    let entry = CheckEntry {
+        object: 2,
+        chunk: 1,
+        version: 7,
+        block: 4,
+        page: 5,
+    };
+    let mut written = [0xff; 32];
+    encode_check_entry(&entry, &mut written);
+    assert!(rt; written == ENTRY);
+    assert_eq!(rt; decode_check_entry(&ENTRY), entry);
+}

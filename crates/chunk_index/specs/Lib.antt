@@ -1,5 +1,7 @@
 pub mod Lists
 pub mod Entries
+pub mod Halves
+pub mod Packed
 pub mod Shelves
 pub mod Counts
 pub mod Retained

@@ -2,7 +2,7 @@
 ghost use Rattle.std.specs.Prelude.{◌≡◌, ◌≢◌, ◌<◌, ◌≤◌, ◌+◌, ◌^◌, ℕ, true, false, length, vec_capacity, None, Some, OnOk, OnErr, IsOk, IsSome};
 ghost use Rattle.block_state.specs.Table.{Table};
 ghost use Rattle.block_state.specs.TableOf.{table};
-ghost use Rattle.chunk_index.specs.Entries.{same_of, is_same, changed, with_state, with_kept, kept_at, state_of};
+ghost use Rattle.chunk_index.specs.Entries.{same_of, is_same, changed, with_state, with_kept, kept_at, state_of, HasSmallBlock};
 ghost use Rattle.chunk_index.specs.Shelves.{look, total, Differs, AltersKey, SameEntries, IsListed};
 ghost use Rattle.chunk_index.specs.Counts.{Recounts};
 ghost use Rattle.chunk_index.specs.declared.form.KeptPage.{KeptPage};
@@ -91,7 +91,8 @@ impl Index {
 
     /// Sees that the entry of a key stays once the changes are settled.
     fn keep_entry(&mut self, key: Key, entry: KeyEntry)
-        requires { look self.old.shelf.objects key.object key.chunk ≡ Some entry }
+        requires entry { look self.old.shelf.objects key.object key.chunk ≡ Some entry }
+        requires block { HasSmallBlock entry.kept }
         ensures kept { SameKept self.old self.new }
         ensures present { SamePresent self.old self.new }
         ensures ready { IsReadyKey self.new key.object key.chunk }
@@ -123,7 +124,8 @@ impl Index {
 
     /// Gives a key an entry, whose present page is the kept one.
     pub(crate) fn add(&mut self, key: Key, kept: Option<KeptPage>) -> Result<(), AllocError>
-        requires { look self.old.shelf.objects key.object key.chunk ≡ None }
+        requires absent { look self.old.shelf.objects key.object key.chunk ≡ None }
+        requires block { HasSmallBlock kept }
         ensures ok { OnOk result (AltersKey key.object key.chunk (Some (kept_at key.chunk kept)) self.old.shelf.objects self.new.shelf.objects) }
         ensures err { OnErr result (SameEntries self.old.shelf.objects self.new.shelf.objects) }
     {
@@ -161,6 +163,7 @@ impl Index {
     fn place_first(&mut self, key: Key, entry: KeyEntry, form: Form)
         requires entry { look self.old.shelf.objects key.object key.chunk ≡ Some entry }
         requires same { is_same entry ≡ true }
+        requires block { HasSmallBlock entry.kept }
         ensures { AltersKey key.object key.chunk (Some (with_state (state_of form) entry)) self.old.shelf.objects self.new.shelf.objects }
     {
         let _ = self.changed_keys.push(key);
@@ -172,6 +175,7 @@ impl Index {
     fn place_again(&mut self, key: Key, entry: KeyEntry, form: Form)
         requires entry { look self.old.shelf.objects key.object key.chunk ≡ Some entry }
         requires changed { is_same entry ≡ false }
+        requires block { HasSmallBlock entry.kept }
         ensures { AltersKey key.object key.chunk (Some (with_state (state_of form) entry)) self.old.shelf.objects self.new.shelf.objects }
     {
         let state = form.state();

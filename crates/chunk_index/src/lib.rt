@@ -12,6 +12,7 @@ mod listing;
 mod newest;
 mod next;
 mod object;
+mod packed;
 mod retain;
 mod settle;
 mod shelf;

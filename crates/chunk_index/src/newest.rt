@@ -41,6 +41,7 @@ impl Index {
         requires empty { (o c : ℕ) → look self.old.shelf.objects o c ≡ None }
         requires none { (b : ℕ) → kept_in self.old b ≡ 0 }
         requires size { self.old.shelf.size ≡ 0 }
+        requires blocks { LieWithin 65536 newest.now }
         ensures has { OnOk result (HasPages newest.now (length newest.now) self.new.shelf.objects) }
         ensures few { OnOk result (length newest.now < 2 ^ 32) }
     {

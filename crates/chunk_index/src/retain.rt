@@ -1,7 +1,7 @@
 // The keys that stay, and the end of all others.
-ghost use Rattle.std.specs.Prelude.{◌≡◌, ◌<◌, ◌≤◌, ◌+◌, ℕ, length};
+ghost use Rattle.std.specs.Prelude.{◌≡◌, ◌<◌, ◌≤◌, ◌+◌, ℕ, length, IfSome};
 ghost use Rattle.block_state.specs.TableOf.{table};
-ghost use Rattle.chunk_index.specs.Entries.{kept_of, one_at, counted_at, changed, weigh};
+ghost use Rattle.chunk_index.specs.Entries.{kept_of, one_at, counted_at, changed, weigh, HasSmallBlock};
 ghost use Rattle.chunk_index.specs.Shelves.{look, total, IsNextObject};
 ghost use Rattle.chunk_index.specs.Counts.{Recounts, HasCounted, Tallies};
 ghost use Rattle.chunk_index.specs.Retained.{retained, retained_told, retained_of, RetainsObject};
@@ -12,6 +12,7 @@ use crate::entry::{KeyEntry, State};
 use crate::filter::KeyFilter;
 use crate::index::Index;
 use crate::object::ObjectEntries;
+use crate::packed::PackedEntry;
 use crate::shelf::Shelf;
 use block_state::Blocks;
 use flash_tree::Key;
@@ -92,18 +93,23 @@ impl ObjectEntries {
 }
 
 /// Keeps the entries of an object that a filter keeps, in their order, and counts the pages of all others no longer.
-fn gather<F: KeyFilter>(entries: &mut Vec<KeyEntry>, object: u64, filter: &F, blocks: &mut Blocks)
+fn gather<F: KeyFilter>(
+    entries: &mut Vec<PackedEntry>,
+    object: u64,
+    filter: &F,
+    blocks: &mut Blocks,
+)
     requires counted { HasCounted (table blocks.old) (λ b. weigh (counted_at b) entries.old.items) }
     ensures items { entries.new.items ≡ retained_of (F.keeps filter.now object) entries.old.items }
     ensures counts { Recounts (λ b. weigh (counted_at b) entries.old.items) (λ b. weigh (counted_at b) entries.new.items) (table blocks.old) (table blocks.new) }
 {
     let mut kept = 0;
     for at in 0..entries.len() {
-        let entry = entries[at];
+        let entry = entries[at].unpack();
         let chunk = entry.chunk;
         let stays = filter.keeps(Key { object, chunk });
         if let Some(left) = entry.retained(stays, blocks) {
-            entries[kept] = left;
+            entries[kept] = PackedEntry::pack(left);
             kept += 1;
         }
     }
@@ -115,7 +121,9 @@ impl KeyEntry {
     /// are settled, and tells of nothing.
     fn retained(self, stays: bool, blocks: &mut Blocks) -> Option<KeyEntry>
         requires counted { HasCounted (table blocks.old) (one_at self.kept) }
+        requires block { HasSmallBlock self.kept }
         ensures result { result ≡ retained stays self }
+        ensures block { IfSome result (λ e. HasSmallBlock e.kept) }
         ensures counts { Recounts (one_at self.kept) (one_at (kept_of result)) (table blocks.old) (table blocks.new) }
     {
         if stays {

@@ -1,7 +1,7 @@
 // What becomes of the entries once the buffer was written.
 ghost use Rattle.std.specs.Prelude.{◌≡◌, ◌<◌, ◌≤◌, ◌+◌, ℕ, false, length, Some, IfSome};
 ghost use Rattle.block_state.specs.TableOf.{table};
-ghost use Rattle.chunk_index.specs.Entries.{settled, settled_by, present_of, same_of, counted_at, HasPage};
+ghost use Rattle.chunk_index.specs.Entries.{settled, settled_by, present_of, same_of, counted_at, HasPage, HasSmallBlock};
 ghost use Rattle.chunk_index.specs.Shelves.{look, total, AltersKey, IsListed};
 ghost use Rattle.chunk_index.specs.Counts.{Recounts, Tallies};
 ghost use Rattle.chunk_index.specs.declared.form.Present.TheVariants as presents;
@@ -16,9 +16,12 @@ use flash_tree::Key;
 impl KeyEntry {
     /// What the entry becomes, if it stays.
     fn settled(self, group: WrittenGroup) -> Option<KeyEntry>
-        requires { HasPage group self.state }
+        requires page { HasPage group self.state }
+        requires group { group.block < 65536 }
+        requires block { HasSmallBlock self.kept }
         ensures result { result ≡ settled_by group self self.state }
         ensures chunk { IfSome result (λ e. e.chunk ≡ self.chunk) }
+        ensures block { IfSome result (λ e. HasSmallBlock e.kept) }
     {
         match self.state {
             State::Same => Some(self),

@@ -4,6 +4,7 @@ ghost use Rattle.std.specs.Ordering.{nat_cmp};
 ghost use Rattle.std.proofs.Props.{props};
 ghost use Rattle.std.specs.BTreeMap.{get, IsEmpty, IsOrdered};
 ghost use Rattle.chunk_index.specs.Shelves.{look, total, AltersKey, SameEntries, IsLastOf, IsNextObject};
+ghost use Rattle.chunk_index.specs.Entries.{HasSmallBlock};
 
 use crate::entry::KeyEntry;
 use crate::object::ObjectEntries;
@@ -51,6 +52,7 @@ impl Shelf {
     pub fn entry(&self, key: Key) -> Option<KeyEntry>
         ensures entry { result ≡ look self.now.objects key.object key.chunk }
         ensures chunk { IfSome result (λ e. e.chunk ≡ key.chunk) }
+        ensures block { IfSome result (λ e. HasSmallBlock e.kept) }
     {
         match self.objects.get(&key.object) {
             Some(entries) => entries.get(key.chunk),
@@ -67,7 +69,8 @@ impl Shelf {
 
     /// Puts an entry in place of that of its key.
     pub fn set(&mut self, object: u64, entry: KeyEntry)
-        requires { IsSome (look self.old.objects object entry.chunk) }
+        requires here { IsSome (look self.old.objects object entry.chunk) }
+        requires block { HasSmallBlock entry.kept }
         ensures alters { AltersKey object entry.chunk (Some entry) self.old.objects self.new.objects }
         ensures size { self.new.size ≡ self.old.size }
     {
@@ -79,7 +82,8 @@ impl Shelf {
 
     /// Puts an entry of a key that has none.
     pub fn insert(&mut self, object: u64, entry: KeyEntry) -> Result<(), AllocError>
-        requires { look self.old.objects object entry.chunk ≡ None }
+        requires absent { look self.old.objects object entry.chunk ≡ None }
+        requires block { HasSmallBlock entry.kept }
         ensures ok { OnOk result (AltersKey object entry.chunk (Some entry) self.old.objects self.new.objects) }
         ensures grown { OnOk result (self.new.size ≡ self.old.size + 1) }
         ensures err { OnErr result (SameEntries self.old.objects self.new.objects) }
@@ -111,6 +115,7 @@ impl Shelf {
         requires absent { look self.old.objects object entry.chunk ≡ None }
         requires here { IsSome (get nat_cmp self.old.objects object) }
         requires room { self.old.size < 2 ^ 32 - 1 }
+        requires block { HasSmallBlock entry.kept }
         ensures ok { OnOk result (AltersKey object entry.chunk (Some entry) self.old.objects self.new.objects) }
         ensures grown { OnOk result (self.new.size ≡ self.old.size + 1) }
         ensures err { OnErr result (SameEntries self.old.objects self.new.objects) }

@@ -20,8 +20,8 @@ invariant_of-self-2 c =
     let self = c.args.self.now in
     let items = c.reserve.ensures.items in
     let new = c.insert.new.self.objects in
-    let told = told_inserted c.insert.result self.shelf.objects new c.args.key.object c.args.key.chunk _ c.insert.ensures.ok c.insert.ensures.err c.requires same_of refl in
-    let sum = total_inserted c.insert.result self.shelf.objects new c.args.key.object c.args.key.chunk _ c.insert.ensures.ok c.insert.ensures.err c.requires changed refl in
+    let told = told_inserted c.insert.result self.shelf.objects new c.args.key.object c.args.key.chunk _ c.insert.ensures.ok c.insert.ensures.err c.requires.absent same_of refl in
+    let sum = total_inserted c.insert.result self.shelf.objects new c.args.key.object c.args.key.chunk _ c.insert.ensures.ok c.insert.ensures.err c.requires.absent changed refl in
     let most = changed_few self.shelf.objects in
     let le : c.len.result ≤ self.shelf.size = omega (arith, self.few, most, self.shelf.counted, c.len.ensures) in
     record {

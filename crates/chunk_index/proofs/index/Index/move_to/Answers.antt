@@ -1,4 +1,5 @@
 use Rattle.std.proofs.Common.{sym, ap, ◌∙◌, arith, refl, Some}
+use Rattle.block_state.specs.TableOf.{table}
 use Rattle.chunk_index.specs.Entries.{same_of, changed, weight, with_kept}
 use Rattle.chunk_index.proofs.Counting.{entry_room, entry_counts, tallies_altered, recounts_altered}
 use Rattle.chunk_index.proofs.Mapping.{at_chunk, there_at, total_same, told_same}
@@ -9,8 +10,11 @@ recount-requires-clause-room c =
     let shelf = c.args.self.now.shelf in
     entry_room _ shelf.objects c.args.key.object c.args.key.chunk c.args.entry c.requires.entry (record { counts = c.requires.agree.counts; within = c.requires.agree.within }) shelf.size shelf.counted shelf.bounded
 
-pub set-requires : goal.set-requires
-set-requires c = there_at c.args.self.now.shelf.objects c.args.key.object c.args.key.chunk c.args.entry c.args.entry.chunk c.requires.entry refl
+pub set-requires-clause-here : goal.set-requires-clause-here
+set-requires-clause-here c = there_at c.args.self.now.shelf.objects c.args.key.object c.args.key.chunk c.args.entry c.args.entry.chunk c.requires.entry refl
+
+pub set-requires-clause-block : goal.set-requires-clause-block
+set-requires-clause-block c = omega (arith, c.requires.block, (table c.args.blocks.now).geometry.most_blocks)
 
 pub invariant_of-self : goal.invariant_of-self
 invariant_of-self c =

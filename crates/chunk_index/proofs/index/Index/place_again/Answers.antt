@@ -3,8 +3,8 @@ use Rattle.chunk_index.specs.Entries.{same_of, changed, weight, is_same_state}
 use Rattle.chunk_index.proofs.Mapping.{at_chunk, there_at, total_same, listed_after, state_changes}
 use Rattle.chunk_index.proofs.index.Index.place_again.Goals as goal
 
-pub set-requires : goal.set-requires
-set-requires c = there_at c.args.self.now.shelf.objects c.args.key.object c.args.key.chunk c.args.entry c.args.entry.chunk c.requires.entry refl
+pub set-requires-clause-here : goal.set-requires-clause-here
+set-requires-clause-here c = there_at c.args.self.now.shelf.objects c.args.key.object c.args.key.chunk c.args.entry c.args.entry.chunk c.requires.entry refl
 
 pub invariant_of-self : goal.invariant_of-self
 invariant_of-self c =

@@ -5,8 +5,8 @@ use Rattle.std.proofs.lemmas.List.{length-append}
 use Rattle.chunk_index.proofs.Mapping.{at_chunk, there_at, listed_after, state_changes, listed_push, listed_last, changed_room, pushed}
 use Rattle.chunk_index.proofs.index.Index.place_first.Goals as goal
 
-pub set-requires : goal.set-requires
-set-requires c = there_at c.args.self.now.shelf.objects c.args.key.object c.args.key.chunk c.args.entry c.args.entry.chunk c.requires.entry refl
+pub set-requires-clause-here : goal.set-requires-clause-here
+set-requires-clause-here c = there_at c.args.self.now.shelf.objects c.args.key.object c.args.key.chunk c.args.entry c.args.entry.chunk c.requires.entry refl
 
 pub invariant_of-self : goal.invariant_of-self
 invariant_of-self c =

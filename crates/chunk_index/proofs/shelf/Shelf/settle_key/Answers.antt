@@ -1,12 +1,15 @@
-use Rattle.std.proofs.Common.{Some, sym, ◌∙◌, IsSome, subst, refl}
+use Rattle.std.proofs.Common.{Some, sym, ◌∙◌, IsSome, subst, refl, arith}
 use Rattle.block_state.specs.TableOf.{table}
 use Rattle.chunk_index.specs.Shelves.{look}
 use Rattle.chunk_index.proofs.Counting.{tallies_altered, recounts_altered}
 use Rattle.chunk_index.proofs.Settling.{settled_set, settled_counts, settled_room, settled_page, settled_within}
 use Rattle.chunk_index.proofs.shelf.Shelf.settle_key.Goals as goal
 
-pub settled-requires : goal.settled-requires
-settled-requires c = settled_page c.args.group c.args.self.now.objects c.args.key.object c.args.key.chunk c.in-Some.entry (sym c.in-Some.ensures.entry) c.requires.fits
+pub settled-requires-clause-page : goal.settled-requires-clause-page
+settled-requires-clause-page c = settled_page c.args.group c.args.self.now.objects c.args.key.object c.args.key.chunk c.in-Some.entry (sym c.in-Some.ensures.entry) c.requires.fits
+
+pub settled-requires-clause-group : goal.settled-requires-clause-group
+settled-requires-clause-group c = omega (arith, c.requires.block, (table c.args.blocks.now).geometry.most_blocks)
 
 pub recount-requires-clause-within : goal.recount-requires-clause-within
 recount-requires-clause-within c =
@@ -19,8 +22,8 @@ recount-requires-clause-room c = settled_room c.args.group c.args.self.now.objec
 pub recount-requires-in-None-clause-room : goal.recount-requires-in-None-clause-room
 recount-requires-in-None-clause-room c = settled_room c.args.group c.args.self.now.objects c.args.key.object c.args.key.chunk c.in-Some.entry (sym c.in-Some.ensures.entry) (table c.args.blocks.now) c.requires.tallies _ c.args.self.now.counted c.args.self.now.bounded
 
-pub set-requires : goal.set-requires
-set-requires c =
+pub set-requires-clause-here : goal.set-requires-clause-here
+set-requires-clause-here c =
     let chunk = c.in-Some-settled.ensures.chunk ∙ c.in-Some.ensures.chunk in
     subst (λ l. IsSome (look c.args.self.now.objects c.args.key.object l)) (sym chunk) (rw (sym c.in-Some.ensures.entry) refl)
 

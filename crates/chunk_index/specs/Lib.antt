@@ -3,7 +3,9 @@ pub mod Entries
 pub mod Halves
 pub mod Packed
 pub mod Shelves
+pub mod Noted
 pub mod Counts
+pub mod Settled
 pub mod Retained
 pub mod Maps
 pub mod Newest

@@ -2,6 +2,7 @@
 #![tactic(auto)]
 
 mod change;
+mod changes;
 mod cut;
 mod entry;
 mod filter;

@@ -54,6 +54,7 @@ impl ObjectEntries {
         match self.search(entry.chunk) {
             Ok(_) => Ok(()),
             Err(at) => {
+                reserve_one(&mut self.entries)?;
                 self.entries.insert(at, PackedEntry::pack(entry))?;
                 Ok(())
             }
@@ -107,7 +108,8 @@ impl ObjectEntries {
 
     /// The last entry whose chunk lies before a bound.
     pub fn last_below(&self, bound: Option<u64>) -> Option<KeyEntry>
-        ensures { IsLastBelow self.now.entries.items bound result }
+        ensures last { IsLastBelow self.now.entries.items bound result }
+        ensures block { IfSome result (λ e. HasSmallBlock e.kept) }
     {
         let end = self.count_below(bound);
         if end == 0 {
@@ -115,4 +117,19 @@ impl ObjectEntries {
         }
         Some(self.entries[end - 1].unpack())
     }
+}
+
+/// Sees that there is room for one entry more. The first is given room for itself, and then the room grows by an eighth,
+/// and by 4 entries at the least.
+fn reserve_one(entries: &mut Vec<PackedEntry>) -> Result<(), AllocError>
+    ensures { entries.new.items ≡ entries.old.items }
+{
+    let count = entries.len();
+    if count < entries.capacity() {
+        return Ok(());
+    }
+    if count == 0 {
+        return entries.reserve_exact(1);
+    }
+    entries.reserve_exact((count / 8).max(4))
 }

@@ -35,9 +35,7 @@ impl Shelf {
     /// still, which tells of nothing.
     fn retain<F: KeyFilter>(&mut self, filter: &F, blocks: &mut Blocks)
         requires tallies { Tallies (table blocks.old) self.old.objects }
-        ensures size { self.new.size ≤ self.old.size }
         ensures looks { (o c : ℕ) → look self.new.objects o c ≡ retained_told (F.keeps filter.now o c) (look self.old.objects o c) }
-        ensures changed { total changed self.new.objects ≡ total changed self.old.objects }
         ensures tallies { Tallies (table blocks.new) self.new.objects }
         ensures counts { Recounts (λ b. total (counted_at b) self.old.objects) (λ b. total (counted_at b) self.new.objects) (table blocks.old) (table blocks.new) }
     {
@@ -51,7 +49,6 @@ impl Shelf {
     /// Keeps of one object the entries that a filter keeps, and the object where one is left.
     fn retain_object<F: KeyFilter>(&mut self, object: u64, filter: &F, blocks: &mut Blocks)
         requires tallies { Tallies (table blocks.old) self.old.objects }
-        ensures size { self.new.size ≤ self.old.size }
         ensures retains { RetainsObject object (F.keeps filter.now object) self.old.objects self.new.objects }
         ensures tallies { Tallies (table blocks.new) self.new.objects }
         ensures counts { Recounts (λ b. total (counted_at b) self.old.objects) (λ b. total (counted_at b) self.new.objects) (table blocks.old) (table blocks.new) }
@@ -63,7 +60,6 @@ impl Shelf {
     /// Keeps of one object the entries that a filter keeps.
     fn retain_entries<F: KeyFilter>(&mut self, object: u64, filter: &F, blocks: &mut Blocks)
         requires tallies { Tallies (table blocks.old) self.old.objects }
-        ensures size { self.new.size ≤ self.old.size }
         ensures retains { RetainsObject object (F.keeps filter.now object) self.old.objects self.new.objects }
         ensures tallies { Tallies (table blocks.new) self.new.objects }
         ensures counts { Recounts (λ b. total (counted_at b) self.old.objects) (λ b. total (counted_at b) self.new.objects) (table blocks.old) (table blocks.new) }

@@ -197,7 +197,8 @@ impl Shelf {
 
     /// The last entry of an object whose chunk lies before a bound.
     pub fn last_below(&self, object: u64, bound: Option<u64>) -> Option<KeyEntry>
-        ensures { IsLastOf self.now.objects object bound result }
+        ensures last { IsLastOf self.now.objects object bound result }
+        ensures block { IfSome result (λ e. HasSmallBlock e.kept) }
     {
         match self.objects.get(&object) {
             Some(entries) => entries.last_below(bound),

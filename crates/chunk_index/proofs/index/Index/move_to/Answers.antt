@@ -1,8 +1,8 @@
 use Rattle.std.proofs.Common.{sym, ap, ◌∙◌, arith, refl, Some}
 use Rattle.block_state.specs.TableOf.{table}
-use Rattle.chunk_index.specs.Entries.{same_of, changed, weight, with_kept}
+use Rattle.chunk_index.specs.Entries.{same_of, with_kept}
 use Rattle.chunk_index.proofs.Counting.{entry_room, entry_counts, tallies_altered, recounts_altered}
-use Rattle.chunk_index.proofs.Mapping.{at_chunk, there_at, total_same, told_same}
+use Rattle.chunk_index.proofs.Mapping.{at_chunk, there_at, told_same}
 use Rattle.chunk_index.proofs.index.Index.move_to.Goals as goal
 
 pub recount-requires-clause-room : goal.recount-requires-clause-room
@@ -20,9 +20,8 @@ pub invariant_of-self : goal.invariant_of-self
 invariant_of-self c =
     let self = c.args.self.now in
     let alters = at_chunk self.shelf.objects c.set.new.self.objects c.args.key.object c.args.key.chunk c.args.entry _ c.requires.entry refl c.set.ensures.alters in
-    let same = total_same alters changed (sym (ap (weight changed) c.requires.entry)) in
     let told = told_same alters same_of (sym (ap same_of c.requires.entry)) in
-    record { listed = λ k l not. self.listed k l (sym (told k l) ∙ not); few = omega (arith, same, self.few); room = omega (arith, self.room, c.set.ensures.size) }
+    record { noted = λ k l not. self.noted k l (sym (told k l) ∙ not) }
 
 pub returns-clause-alters : goal.returns-clause-alters
 returns-clause-alters c = at_chunk c.args.self.now.shelf.objects c.set.new.self.objects c.args.key.object c.args.key.chunk c.args.entry _ c.requires.entry refl c.set.ensures.alters

@@ -6,7 +6,7 @@ use Rattle.chunk_index.specs.declared.entry.State.TheVariants as states
 use Rattle.chunk_index.specs.Entries.{is_same}
 use Rattle.chunk_index.specs.Shelves.{ObjectMap, look}
 
--- what is left of an entry whose key is forgotten: nothing, or, where it is on the list of changed keys, one that tells of nothing
+-- what is left of an entry whose key is forgotten: nothing, or, where its present page is not the kept one, one that tells of nothing
 abbrev pub forgotten : Bool → KeyEntry → Option KeyEntry
 forgotten true e = None
 forgotten false e = Some (record { chunk = e.chunk; kept = None; state = states.Dropped })

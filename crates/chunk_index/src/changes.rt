@@ -5,6 +5,10 @@ ghost use Rattle.chunk_index.specs.Noted.{IsNoted, KeepsNotes};
 use flash_tree::Key;
 use std::alloc::{AllocError, Global};
 
+/// The notes of a kind that there is room for after a call of `prepare`. A buffer has no more pages: a quarter of a
+/// block's, which are at most 256.
+const SPARE_NOTES: usize = 64;
+
 /// Notes of single keys, and of all chunks of an object from one on. A note takes no memory: where there is no room for
 /// it, all keys are noted.
 #[derive(Drop)]
@@ -24,12 +28,12 @@ impl ChangeList {
         }
     }
 
-    /// Sees that there is room for a note of each kind.
+    /// Sees that there is room for more notes of each kind.
     pub fn reserve(&mut self) -> Result<(), AllocError>
         ensures notes { KeepsNotes self.old self.new }
     {
-        self.keys.reserve(1)?;
-        self.cuts.reserve(1)
+        self.keys.reserve(SPARE_NOTES)?;
+        self.cuts.reserve(SPARE_NOTES)
     }
 
     /// Notes a key.

@@ -61,6 +61,13 @@ impl ObjectEntries {
         }
     }
 
+    /// Sees that there is room for so many entries more, and for no others.
+    pub fn reserve(&mut self, count: usize) -> Result<(), AllocError>
+        ensures { self.new.entries.items ≡ self.old.entries.items }
+    {
+        self.entries.reserve_exact(count)
+    }
+
     /// Puts an entry in place of that of its chunk.
     pub fn set(&mut self, entry: KeyEntry)
         requires here { IsSome (find_by chunk self.old.entries.items entry.chunk) }

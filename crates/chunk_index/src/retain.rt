@@ -31,8 +31,8 @@ impl Index {
 }
 
 impl Shelf {
-    /// Keeps of each object the entries that a filter keeps. A key that is on a list of changed keys may have an entry
-    /// still, which tells of nothing.
+    /// Keeps of each object the entries that a filter keeps. A key whose present page was not the kept one may have an
+    /// entry still, which tells of nothing.
     fn retain<F: KeyFilter>(&mut self, filter: &F, blocks: &mut Blocks)
         requires tallies { Tallies (table blocks.old) self.old.objects }
         ensures looks { (o c : ℕ) → look self.new.objects o c ≡ retained_told (F.keeps filter.now o c) (look self.old.objects o c) }
@@ -113,7 +113,7 @@ fn gather<F: KeyFilter>(
 }
 
 impl KeyEntry {
-    /// What is left of the entry, whose key stays or is forgotten. One on the list of changed keys stays until the changes
+    /// What is left of the entry, whose key stays or is forgotten. One whose present page is not the kept one stays until the changes
     /// are settled, and tells of nothing.
     fn retained(self, stays: bool, blocks: &mut Blocks) -> Option<KeyEntry>
         requires counted { HasCounted (table blocks.old) (one_at self.kept) }

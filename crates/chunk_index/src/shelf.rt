@@ -96,6 +96,24 @@ impl Shelf {
         self.put(object, entry)
     }
 
+    /// Sees that an object is here and has room for so many entries more. No key gets or loses an entry.
+    pub fn reserve(&mut self, object: u64, count: usize) -> Result<(), AllocError>
+        ensures { SameEntries self.old.objects self.new.objects }
+    {
+        self.prepare_object(object)?;
+        self.reserve_entries(object, count)
+    }
+
+    /// Sees that an object, if it is here, has room for so many entries more.
+    fn reserve_entries(&mut self, object: u64, count: usize) -> Result<(), AllocError>
+        ensures { SameEntries self.old.objects self.new.objects }
+    {
+        match self.objects.get_mut(&object) {
+            Some(entries) => entries.reserve(count),
+            None => Ok(()),
+        }
+    }
+
     /// Sees that an object is here. No key gets or loses an entry.
     fn prepare_object(&mut self, object: u64) -> Result<(), AllocError>
         ensures same { SameEntries self.old.objects self.new.objects }

@@ -22,7 +22,7 @@ pub record Cutting (o from : ℕ) (bound : Option ℕ) (old new : Index) : Type 
   pub prepared : StaysPrepared old new
   pub ready : (k l : ℕ) → (k ≢ o) ⊎ (l < from) → IsReadyKey old k l → IsReadyKey new k l
 
-below_or_not : (l : ℕ) (bound : Option ℕ) → IsBelow l bound ⊎ (IsBelow l bound → ⊥)
+pub below_or_not : (l : ℕ) (bound : Option ℕ) → IsBelow l bound ⊎ (IsBelow l bound → ⊥)
 below_or_not l None = inl tt
 below_or_not l (Some b) = elim (cases_lt l b) [ inl lt ↦ inl lt | inr ge ↦ inr (λ lt. omega (arith, ge, lt)) ]
 

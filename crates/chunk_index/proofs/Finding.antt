@@ -10,6 +10,10 @@ use Rattle.std.proofs.lemmas.List.{get_or-set_same, get_or-set_other, length-set
 use Rattle.std.proofs.lemmas.List.Edits.{length-insert, length-remove, get_or-insert_below, get_or-insert_at, get_or-insert_above, get_or-remove_below, get_or-remove_above}
 use Rattle.chunk_index.specs.Lists.{find_by, Rises, IsAt, IsGapFor, IsEndFor}
 
+-- what is read at a place is the element there
+pub same_element : {X : Type 0} (xs : List X) (i : ℕ) (x y : X) → y ≡ x → x ≡ get_or xs i x → y ≡ get_or xs i y
+same_element xs i x y same here = subst (λ z. z ≡ get_or xs i z) (sym same) here
+
 -- one equation for every number
 abbrev pub FindsAfterSet : {X : Type 0} → (X → ℕ) → List X → List X → ℕ → X → Type 0
 FindsAfterSet f old new n y = (q : ℕ) → find_by f new q ≡ (if eqb n q then Some y else find_by f old q)

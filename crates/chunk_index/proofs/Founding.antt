@@ -11,7 +11,7 @@ use Rattle.chunk_index.specs.declared.form.KeptPage.{KeptPage}
 use Rattle.chunk_index.specs.declared.entry.KeyEntry.{KeyEntry}
 use Rattle.chunk_index.specs.declared.index.Index.{Index}
 use Rattle.chunk_index.specs.Entries.{kept_at, one_at, counted_at, weight}
-use Rattle.chunk_index.specs.Shelves.{ObjectMap, look, total, Differs, AltersKey}
+use Rattle.chunk_index.specs.Shelves.{ObjectMap, look, total, Differs, AltersKey, SameEntries}
 use Rattle.chunk_index.specs.Counts.{Recounts}
 use Rattle.chunk_index.specs.Maps.{kept_in, CountsAgree}
 use Rattle.chunk_index.proofs.Counting.{one_most, recounts_more}
@@ -70,6 +70,15 @@ module _ (fs : List Found) (n : ℕ) (old : ObjectMap) (rise : KeysRise fs) (was
         let all : total (λ (e : KeyEntry). 1) old ≡ n = was.size in
         omega (arith, sum, nothing, all);
   }
+
+-- the same entries after
+pub pages_same : (fs : List Found) (n : ℕ) (old new : ObjectMap) → HasPages fs n old → SameEntries old new → HasPages fs n new
+pages_same fs n old new was same = record {
+  done = λ i d lt. same.looks _ _ ∙ was.done i d lt;
+  rest = λ o c none. same.looks o c ∙ was.rest o c none;
+  counts = λ b. same.weighs (counted_at b) ∙ was.counts b;
+  size = same.weighs (λ (e : KeyEntry). 1) ∙ was.size;
+}
 
 -- the same, for the key and the page that were read from it
 pub absent_at : (fs : List Found) (n : ℕ) (old : ObjectMap) → KeysRise fs → HasPages fs n old → n < length fs → (d : Found) (o c : ℕ) → o ≡ (get_or fs n d).tag.object → c ≡ (get_or fs n d).tag.chunk → look old o c ≡ None

@@ -6,6 +6,7 @@ pub mod Settling
 pub mod Mapping
 pub mod Telling
 pub mod Cutting
+pub mod Noting
 pub mod Founding
 pub mod Parts
 pub mod Keys

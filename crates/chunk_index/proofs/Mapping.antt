@@ -37,61 +37,18 @@ module _ {m n : ObjectMap} {o c : ℕ} {to : Option KeyEntry} (alters : AltersKe
   pub total_same : (f : KeyEntry → ℕ) → weight f to ≡ weight f (look m o c) → total f n ≡ total f m
   total_same f same = let sum = alters.weighs f in omega (arith, sum, same)
 
-  -- the changed keys are listed, where this one is and the others still are
-  pub listed_after : (old new : List Key) → ((k l : ℕ) → same_of (look m k l) ≡ false → ∥ IsListed old k l ∥₁) → ((k l : ℕ) → ∥ IsListed old k l ∥₁ → ∥ IsListed new k l ∥₁)
-      → (same_of to ≡ false → ∥ IsListed new o c ∥₁) → (k l : ℕ) → same_of (look n k l) ≡ false → ∥ IsListed new k l ∥₁
-  listed_after old new listed still here k l is = elim (cases_eq k o) [
-    | inr ne ↦ still k l (listed k l (sym (ap same_of (alters.others k l (inl ne))) ∙ is))
+  -- the changed keys are noted, where this one is and the others still are
+  pub noted_after : (Old New : ℕ → ℕ → Type 0) → ((k l : ℕ) → same_of (look m k l) ≡ false → Old k l) → ((k l : ℕ) → Old k l → New k l)
+      → (same_of to ≡ false → New o c) → (k l : ℕ) → same_of (look n k l) ≡ false → New k l
+  noted_after Old New noted still here k l is = elim (cases_eq k o) [
+    | inr ne ↦ still k l (noted k l (sym (ap same_of (alters.others k l (inl ne))) ∙ is))
     | inl e ↦ elim (cases_eq l c) [
-      | inr ne ↦ still k l (listed k l (sym (ap same_of (alters.others k l (inr ne))) ∙ is))
+      | inr ne ↦ still k l (noted k l (sym (ap same_of (alters.others k l (inr ne))) ∙ is))
       | inl d ↦
           let at : same_of to ≡ false = sym (ap (λ p. same_of (look n p l)) e ∙ ap (λ q. same_of (look n o q)) d ∙ ap same_of alters.here) ∙ is in
-          subst (λ p. ∥ IsListed new p l ∥₁) (sym e) (subst (λ q. ∥ IsListed new o q ∥₁) (sym d) (here at))
+          subst (λ p. New p l) (sym e) (subst (λ q. New o q) (sym d) (here at))
     ]
   ]
-
--- ---- the list of changed keys
-
-changed_most : (e : KeyEntry) → changed e ≤ 1
-changed_most e = go (is_same e) where
-  go : (b : Bool) → (if b then 0 else 1) ≤ 1
-  go true = omega arith
-  go false = omega arith
-
--- no more keys changed than there are
-pub changed_few : (m : ObjectMap) → total changed m ≤ total (λ (e : KeyEntry). 1) m
-changed_few m =
-    let split : total changed m + total (λ e. 1 - changed e) m ≡ total (λ (e : KeyEntry). 1) m =
-    two_sums (λ (x : ObjectEntries). weigh changed x.entries.items) (λ (x : ObjectEntries). weigh (λ e. 1 - changed e) x.entries.items) (λ (x : ObjectEntries). weigh (λ (e : KeyEntry). 1) x.entries.items)
-    (λ x. two_sums changed (λ e. 1 - changed e) (λ (e : KeyEntry). 1) (λ e. let le = changed_most e in omega (arith, le)) x.entries.items) (values m) in
-    omega (arith, split)
-
--- there is room for a key that did not change
-pub changed_room : (m : ObjectMap) (o c : ℕ) (e : KeyEntry) → look m o c ≡ Some e → is_same e ≡ true → (n size capacity : ℕ) → n ≤ total changed m → total (λ (x : KeyEntry). 1) m ≡ size → size ≤ capacity → n < capacity
-changed_room m o c e is same n size capacity few counted room =
-    let less = less_than_all changed changed_most m o c (rw is refl) in
-    let none : weight changed (look m o c) ≡ 0 = ap (weight changed) is ∙ ap (λ b. if b then 0 else 1) same in
-    omega (arith, less, none, few, counted, room)
-
--- a push that has room succeeds
-pub pushed : {E : Type 0} (r : Result (Unit {0}) E) (old new : List Key) (k : Key) → IsOk r → new ≡ (if is_ok r then old ++ k ∷ [] else old) → new ≡ old ++ k ∷ []
-pushed (Ok u) old new k ok is = is
-pushed (Err e) old new k ok is = absurd (false≢true ok)
-
--- what was listed still is, and so is the key that was pushed
-pub listed_push : (keys : List Key) (k : Key) (o c : ℕ) → ∥ IsListed keys o c ∥₁ → ∥ IsListed (keys ++ k ∷ []) o c ∥₁
-listed_push keys k o c listed = ∥∥₁_elim listed (λ x y. squash₁ x y) (λ (at : IsListed keys o c). ∣ (
-  at.0,
-  (let longer = length-append keys (k ∷ []) in let lt = at.1 in omega (arith, longer, lt)),
-  λ d. let same : get_or (keys ++ k ∷ []) at.0 d ≡ get_or keys at.0 d = get_or_append_left keys (k ∷ []) d at.0 at.1 in rw same (at.2 d),
-) ∣₁)
-
-pub listed_last : (keys : List Key) (k : Key) → ∥ IsListed (keys ++ k ∷ []) k.object k.chunk ∥₁
-listed_last keys k = ∣ (
-  length keys,
-  (let longer = length-append keys (k ∷ []) in omega (arith, longer)),
-  λ d. let same : get_or (keys ++ k ∷ []) (length keys) d ≡ k = get_or-append_right keys (k ∷ []) (length keys) (length keys) d refl (omega arith) ∙ ap (λ i. get_or (k ∷ []) i d) (let e : length keys - length keys ≡ 0 = omega arith in e) in rw same (refl, refl),
-) ∣₁
 
 -- ---- an entry that is put, or refused
 
@@ -102,16 +59,6 @@ module _ {E : Type 0} (r : Result (Unit {0}) E) (m n : ObjectMap) (o c : ℕ) (e
     go : (q : Result (Unit {0}) E) → OnOk q (AltersKey o c (Some e) m n) → OnErr q (SameEntries m n) → f (look n k l) ≡ f (look m k l)
     go (Ok u) alters x = told_same alters f (same ∙ sym (ap f none)) k l
     go (Err x) u entries = ap f (entries.looks k l)
-
-  pub total_inserted : (f : KeyEntry → ℕ) → f e ≡ 0 → total f n ≡ total f m
-  total_inserted f nothing = go r ok err where
-    go : (q : Result (Unit {0}) E) → OnOk q (AltersKey o c (Some e) m n) → OnErr q (SameEntries m n) → total f n ≡ total f m
-    go (Ok u) alters x = total_same alters f (nothing ∙ sym (ap (weight f) none))
-    go (Err x) u entries = entries.weighs f
-
-pub room_inserted : {E : Type 0} (r : Result (Unit {0}) E) (old new n capacity : ℕ) → OnOk r (new ≡ old + 1) → OnErr r (new ≡ old) → n ≤ old → n + (old - n + 1) ≤ capacity → new ≤ capacity
-room_inserted (Ok u) old new n capacity ok err le room = omega (arith, ok, le, room)
-room_inserted (Err e) old new n capacity ok err le room = omega (arith, err, le, room)
 
 -- a form changes what is present
 pub state_changes : (f : Form) → is_same_state (state_of f) ≡ false

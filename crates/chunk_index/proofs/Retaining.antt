@@ -26,14 +26,6 @@ retained_chunk false e x is = go (is_same e) is where
   go true none = absurd cc
   go false left = let same : record { chunk = e.chunk; kept = None; state = states.Dropped } ≡ x = cc in ap chunk (sym same)
 
--- as many entries are changed ones
-retained_changed : (stays : Bool) (e : KeyEntry) → weight changed (retained stays e) ≡ changed e
-retained_changed true e = refl
-retained_changed false e = go (is_same e) refl where
-  go : (b : Bool) → is_same e ≡ b → weight changed (forgotten b e) ≡ changed e
-  go true is = sym (ap (λ (b : Bool). if b then 0 else 1) is)
-  go false is = sym (ap (λ (b : Bool). if b then 0 else 1) is)
-
 -- a key whose entry is a changed one had one that was
 pub retained_same_of : (stays : Bool) (v : Option KeyEntry) → same_of (retained_told stays v) ≡ false → same_of v ≡ false
 retained_same_of stays None is = is
@@ -137,19 +129,6 @@ module _ (keeps : ℕ → Bool) where
           let there : find_by chunk (e ∷ es) c ≡ find_by chunk es c = grind (arith, nat_tests, ne) in
           other v refl ne ∙ rest ∙ sym (ap (retained_told (keeps c)) there)
     ]
-
-  -- as many are changed ones
-  pub changed_retained : (es : List KeyEntry) → weigh changed (retained_of keeps es) ≡ weigh changed es
-  changed_retained [] = refl
-  changed_retained (e ∷ es) =
-      let rest = changed_retained es in
-      let one = retained_changed (keeps (chunk e)) e in
-      let all : weigh changed (e ∷ es) ≡ changed e + weigh changed es = sum_by-cons changed e es in
-      let left = weigh_option changed (retained (keeps (chunk e)) e) (retained_of keeps es) in
-      omega (arith, rest, one, all, left) where
-        weigh_option : (f : KeyEntry → ℕ) (v : Option KeyEntry) (es : List KeyEntry) → weigh f (cons_option v es) ≡ weight f v + weigh f es
-        weigh_option f None es = omega arith
-        weigh_option f (Some x) es = sum_by-cons f x es
 
 -- ---- the entries that are gathered in front
 

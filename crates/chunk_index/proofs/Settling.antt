@@ -17,7 +17,7 @@ use Rattle.chunk_index.specs.Counts.{Recounts, HasRoom, Tallies}
 use Rattle.chunk_index.proofs.Counting.{room_for, room_block}
 
 -- settling twice is settling once
-settled_twice : (g : WrittenGroup) (v : Option KeyEntry) → settled g (settled g v) ≡ settled g v
+pub settled_twice : (g : WrittenGroup) (v : Option KeyEntry) → settled g (settled g v) ≡ settled g v
 settled_twice g None = refl
 settled_twice g (Some e) = go e.state refl where
   go : (s : State) → e.state ≡ s → settled g (settled g (Some e)) ≡ settled g (Some e)
@@ -27,7 +27,7 @@ settled_twice g (Some e) = go e.state refl where
   go states.Vacant is = let one : settled g (Some e) ≡ settled_by g e states.Vacant = ap (settled_by g e) is in ap (settled g) one ∙ sym one
 
 -- an entry whose present page is the kept one stays
-settled_same : (g : WrittenGroup) (v : Option KeyEntry) → same_of v ≡ true → settled g v ≡ v
+pub settled_same : (g : WrittenGroup) (v : Option KeyEntry) → same_of v ≡ true → settled g v ≡ v
 settled_same g None is = refl
 settled_same g (Some e) same = go e.state refl where
   go : (s : State) → e.state ≡ s → settled g (Some e) ≡ Some e
@@ -35,59 +35,6 @@ settled_same g (Some e) same = go e.state refl where
   go (states.Buffered i) is = absurd (false≢true (rw is at same))
   go states.Dropped is = absurd (false≢true (rw is at same))
   go states.Vacant is = absurd (false≢true (rw is at same))
-
--- a key was settled, or is as it was and not among the first n
-pub record Settling (g : WrittenGroup) (keys : List Key) (n : ℕ) (old new : ObjectMap) : Type 0 where
-  pub each : (o c : ℕ) → (look new o c ≡ settled g (look old o c))
-      ⊎ ((look new o c ≡ look old o c) × ((j : ℕ) (d : Key) → j < n → ((get_or keys j d).object ≡ o) × ((get_or keys j d).chunk ≡ c) → ⊥))
-
-pub settling_more : (g : WrittenGroup) (keys : List Key) (n : ℕ) (old mid new : ObjectMap) (k : Key) → Settling g keys n old mid → n < length keys → ((d : Key) → get_or keys n d ≡ k)
-    → AltersKey k.object k.chunk (settled g (look mid k.object k.chunk)) mid new → Settling g keys (n + 1) old new
-settling_more g keys n old mid new k was lt here alters = record {
-  each = λ o c. elim (cases_eq o k.object) [
-    | inl e ↦ elim (cases_eq c k.chunk) [
-      | inl f ↦ this o c e f
-      | inr ne ↦ other o c (inr ne) (λ same. ne (sym same.1))
-    ]
-    | inr ne ↦ other o c (inl ne) (λ same. ne (sym same.0))
-  ];
-} where
-  this : (o c : ℕ) → o ≡ k.object → c ≡ k.chunk → (look new o c ≡ settled g (look old o c))
-      ⊎ ((look new o c ≡ look old o c) × ((j : ℕ) (d : Key) → j < n + 1 → ((get_or keys j d).object ≡ o) × ((get_or keys j d).chunk ≡ c) → ⊥))
-  this o c e f =
-      let is : look new o c ≡ settled g (look mid o c) = ap (λ p. look new p c) e ∙ ap (look new k.object) f ∙ alters.here ∙ ap (λ p. settled g (look mid p k.chunk)) (sym e) ∙ ap (λ l. settled g (look mid o l)) (sym f) in
-      elim (was.each o c) [
-        | inl done ↦ inl (is ∙ ap (settled g) done ∙ settled_twice g (look old o c))
-        | inr (same, none) ↦ inl (is ∙ ap (settled g) same)
-      ]
-
-  other : (o c : ℕ) → Differs k.object k.chunk o c → ((k.object ≡ o) × (k.chunk ≡ c) → ⊥) → (look new o c ≡ settled g (look old o c))
-      ⊎ ((look new o c ≡ look old o c) × ((j : ℕ) (d : Key) → j < n + 1 → ((get_or keys j d).object ≡ o) × ((get_or keys j d).chunk ≡ c) → ⊥))
-  other o c differs not = elim (was.each o c) [
-    | inl done ↦ inl (alters.others o c differs ∙ done)
-    | inr (same, none) ↦ inr (
-      alters.others o c differs ∙ same,
-      λ j d less at. elim (cases_eq j n) [
-        | inl e ↦
-            let key : get_or keys j d ≡ k = ap (λ i. get_or keys i d) e ∙ here d in
-            not (sym (ap (λ (x : Key). x.object) key) ∙ at.0, sym (ap (λ (x : Key). x.chunk) key) ∙ at.1)
-        | inr ne ↦ none j d (omega (arith, less, ne)) at
-      ],
-    )
-  ]
-
--- at the end of the list all keys are settled
-pub settling_all : (g : WrittenGroup) (keys : List Key) (n : ℕ) (old new : ObjectMap) → Settling g keys n old new → length keys ≤ n
-    → ((o c : ℕ) → same_of (look old o c) ≡ false → ∥ IsListed keys o c ∥₁) → (o c : ℕ) → look new o c ≡ settled g (look old o c)
-settling_all g keys n old new was all listed o c = elim (was.each o c) [
-  | inl done ↦ done
-  | inr (same, none) ↦ elim (cases_Bool (same_of (look old o c))) [
-    | inl is ↦ same ∙ sym (settled_same g (look old o c) is)
-    | inr not ↦
-        let d : Key = record { object = 0; chunk = 0 } in
-        absurd (∥∥₁_elim (listed o c not) (λ x y. absurd x) (λ (at : IsListed keys o c). none at.0 d (omega (arith, at.1, all)) (at.2 d)))
-  ]
-]
 
 -- the page that an entry shows has its number
 pub has_page : (g : WrittenGroup) (e : KeyEntry) → ((i : ℕ) → present_by e.kept e.state ≡ presents.InBuffer i → g.first + i < 4294967296) → HasPage g e.state

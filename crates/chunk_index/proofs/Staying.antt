@@ -12,14 +12,14 @@ use Rattle.block_state.specs.Table.{Table}
 use Rattle.chunk_index.specs.declared.entry.KeyEntry.{KeyEntry}
 use Rattle.chunk_index.specs.declared.object.ObjectEntries.{ObjectEntries}
 use Rattle.chunk_index.specs.declared.index.Index.{Index}
-use Rattle.chunk_index.specs.Entries.{chunk, changed, weigh, counted_at, kept_of, present_of, stays_of}
+use Rattle.chunk_index.specs.Entries.{chunk, weigh, counted_at, kept_of, present_of, stays_of}
 use Rattle.chunk_index.specs.Shelves.{ObjectMap, entry_of, look, total, SameEntries, IsAfterNumber, IsNextObject}
 use Rattle.chunk_index.specs.Counts.{Recounts, HasCounted, Tallies}
 use Rattle.chunk_index.specs.Retained.{retained_told, retained_of, RetainsObject}
 use Rattle.chunk_index.specs.Maps.{Retains}
 use Rattle.chunk_index.proofs.Counting.{recounts_more}
 use Rattle.chunk_index.proofs.Shelving.{look_in, look_other, there, sums}
-use Rattle.chunk_index.proofs.Retaining.{find_retained, changed_retained, retained_stays, retained_kept, retained_present}
+use Rattle.chunk_index.proofs.Retaining.{find_retained, retained_stays, retained_kept, retained_present}
 
 -- ---- one object
 
@@ -64,10 +64,6 @@ module _ (o : ℕ) (m n : ObjectMap) (x y : ObjectEntries) (found : get nat_cmp 
         look_in n o c y (through.3 (there o m n x y found through)).1 ∙ ap (λ es. Rattle.chunk_index.specs.Lists.find_by chunk es c) is ∙ find_retained keeps x.entries.items x.rises c
         ∙ sym (ap (retained_told (keeps c)) (look_in m o c x found));
     others = λ k l ne. look_other m n k l ((through.3 (there o m n x y found through)).2 k (not_at o k ne));
-    changed =
-        let sum = sums o m n x y found through changed in
-        let same : weigh changed y.entries.items ≡ weigh changed x.entries.items = ap (weigh changed) is ∙ changed_retained keeps x.entries.items in
-        omega (arith, sum, same);
   }
 
   pub gone_counts : (t u : Table) → Recounts (λ b. weigh (counted_at b) x.entries.items) (λ b. weigh (counted_at b) y.entries.items) t u
@@ -97,7 +93,6 @@ pub retains_then_same : (keeps : ℕ → Bool) (o : ℕ) (m n p : ObjectMap) →
 retains_then_same keeps o m n p retains same = record {
   here = λ c. same.looks o c ∙ retains.here c;
   others = λ k l ne. same.looks k l ∙ retains.others k l ne;
-  changed = same.weighs changed ∙ retains.changed;
 }
 
 pub tallies_then_same : (t : Table) (m n : ObjectMap) → Tallies t m → SameEntries m n → Tallies t n
@@ -113,12 +108,11 @@ counts_then_same t u m n p counts same = recounts_more (λ b. let e = same.weigh
 pub record Retaining (keeps : ℕ → ℕ → Bool) (done : Option ℕ) (old new : ObjectMap) : Type 0 where
   pub each : (o c : ℕ) → (IsAfterNumber o done → ⊥) → look new o c ≡ retained_told (keeps o c) (look old o c)
   pub rest : (o c : ℕ) → IsAfterNumber o done → look new o c ≡ look old o c
-  pub changed : total changed new ≡ total changed old
 
 pub retaining_none : (keeps : ℕ → ℕ → Bool) (m : ObjectMap) → Retaining keeps None m m
-retaining_none keeps m = record { each = λ o c not. absurd (not tt); rest = λ o c after. refl; changed = refl }
+retaining_none keeps m = record { each = λ o c not. absurd (not tt); rest = λ o c after. refl }
 
-after_or_not : (k : ℕ) (done : Option ℕ) → IsAfterNumber k done ⊎ (IsAfterNumber k done → ⊥)
+pub after_or_not : (k : ℕ) (done : Option ℕ) → IsAfterNumber k done ⊎ (IsAfterNumber k done → ⊥)
 after_or_not k None = inl tt
 after_or_not k (Some o) = elim (cases_lt o k) [ inl lt ↦ inl lt | inr ge ↦ inr (λ lt. omega (arith, ge, lt)) ]
 
@@ -126,7 +120,7 @@ after_more : (k o : ℕ) (done : Option ℕ) → IsAfterNumber o done → o < k 
 after_more k o None after lt = tt
 after_more k o (Some n) after lt = omega (arith, after, lt)
 
-none_told : (m : ObjectMap) (o c : ℕ) → get nat_cmp m o ≡ None → look m o c ≡ None
+pub none_told : (m : ObjectMap) (o c : ℕ) → get nat_cmp m o ≡ None → look m o c ≡ None
 none_told m o c none = ap (option_and_then (entry_of c)) none
 
 -- a key that had no entry has none
@@ -145,7 +139,6 @@ retaining_more keeps done o old mid new was next retains = record {
     ]
   ];
   rest = λ k c lt. retains.others k c (λ e. omega (arith, lt, e)) ∙ was.rest k c (after_more k o done next.1 lt);
-  changed = retains.changed ∙ was.changed;
 }
 
 pub retaining_all : (keeps : ℕ → ℕ → Bool) (done : Option ℕ) (old new : ObjectMap) → Retaining keeps done old new → IsNextObject new done None → (o c : ℕ) → look new o c ≡ retained_told (keeps o c) (look old o c)

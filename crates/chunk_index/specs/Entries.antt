@@ -1,5 +1,5 @@
 -- What the entries of an index tell.
-use Rattle.std.specs.Prelude.{◌≡◌, ◌≢◌, ◌<◌, ℕ, ◌+◌, List, if◌then◌else◌, ◌==◌, Bool, true, false, Option, Some, None}
+use Rattle.std.specs.Prelude.{◌≡◌, ◌≢◌, ◌<◌, ℕ, ◌+◌, List, if◌then◌else◌, ◌==◌, Bool, true, false, Option, Some, None, IfSome}
 use Rattle.std.specs.Option.{option_map_or, option_and_then}
 use Rattle.std.specs.List.{sum_by}
 use Rattle.chunk_index.specs.Lists.{find_by, IsBelow}
@@ -136,3 +136,7 @@ HasPage g (states.Buffered i) = g.first + i < 4294967296
 HasPage g states.Same = Unit {0}
 HasPage g states.Dropped = Unit {0}
 HasPage g states.Vacant = Unit {0}
+
+-- the block of a kept page has 16 bits, as each block of a device does
+abbrev pub HasSmallBlock : Option KeptPage → Type 0
+HasSmallBlock p = IfSome p (λ (q : KeptPage). q.block < 65536)

@@ -1,7 +1,11 @@
 pub mod Lists
 pub mod Entries
+pub mod Halves
+pub mod Packed
 pub mod Shelves
+pub mod Noted
 pub mod Counts
+pub mod Settled
 pub mod Retained
 pub mod Maps
 pub mod Newest

@@ -3,10 +3,10 @@ use Rattle.std.specs.Prelude.{◌≡◌, ◌≢◌, ℕ, List, Bool, true, false
 use Rattle.std.specs.Option.{option_and_then}
 use Rattle.chunk_index.specs.declared.entry.KeyEntry.{KeyEntry}
 use Rattle.chunk_index.specs.declared.entry.State.TheVariants as states
-use Rattle.chunk_index.specs.Entries.{is_same, changed}
-use Rattle.chunk_index.specs.Shelves.{ObjectMap, look, total}
+use Rattle.chunk_index.specs.Entries.{is_same}
+use Rattle.chunk_index.specs.Shelves.{ObjectMap, look}
 
--- what is left of an entry whose key is forgotten: nothing, or, where it is on the list of changed keys, one that tells of nothing
+-- what is left of an entry whose key is forgotten: nothing, or, where its present page is not the kept one, one that tells of nothing
 abbrev pub forgotten : Bool → KeyEntry → Option KeyEntry
 forgotten true e = None
 forgotten false e = Some (record { chunk = e.chunk; kept = None; state = states.Dropped })
@@ -24,8 +24,7 @@ retained_told stays v = option_and_then (retained stays) v
 abbrev pub retained_of : (ℕ → Bool) → List KeyEntry → List KeyEntry
 retained_of keeps es = filter_map (λ (e : KeyEntry). retained (keeps e.chunk) e) es
 
--- Of one object the entries are left whose chunks stay, no other object's entries change, and no fewer entries are changed ones.
+-- Of one object the entries are left whose chunks stay, no other object's entries change.
 pub record RetainsObject (o : ℕ) (keeps : ℕ → Bool) (old new : ObjectMap) : Type 0 where
   pub here : (c : ℕ) → look new o c ≡ retained_told (keeps c) (look old o c)
   pub others : (k l : ℕ) → k ≢ o → look new k l ≡ look old k l
-  pub changed : total changed new ≡ total changed old

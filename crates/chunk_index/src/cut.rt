@@ -1,5 +1,7 @@
 // Keys that are no longer present, whole objects and ends of objects.
-ghost use Rattle.std.specs.Prelude.{◌≡◌, ◌⊎◌, ◌≢◌, ◌<◌, ℕ, Some};
+ghost use Rattle.std.specs.Prelude.{◌≡◌, ◌⊎◌, ◌≢◌, ◌<◌, ℕ, Some, IfSome};
+ghost use Rattle.chunk_index.specs.Entries.{HasSmallBlock};
+ghost use Rattle.chunk_index.specs.Noted.{IsNoted};
 ghost use Rattle.chunk_index.specs.Shelves.{look, Differs, IsLastFrom};
 ghost use Rattle.chunk_index.specs.Maps.{IsReadyKey, StaysPrepared, SameKept, Places, Cuts};
 ghost use Rattle.chunk_index.specs.declared.form.Form.TheVariants as forms;
@@ -7,6 +9,7 @@ ghost use Rattle.chunk_index.specs.declared.form.Form.TheVariants as forms;
 use crate::entry::KeyEntry;
 use crate::form::{Form, Present};
 use crate::index::Index;
+use crate::shelf::Shelf;
 use flash_tree::Key;
 
 impl Index {
@@ -27,37 +30,50 @@ impl Index {
         ensures prepared { StaysPrepared self.old self.new }
         ensures ready { (k l : ℕ) → (k ≢ object) ⊎ (l < from) → IsReadyKey self.old k l → IsReadyKey self.new k l }
     {
+        if self.shelf.last_from(object, from, None).is_none() {
+            return;
+        }
+        self.changes.note_from(Key {
+            object,
+            chunk: from,
+        });
         let mut bound = None;
-        while let Some(entry) = self.last_from(object, from, bound) {
+        while let Some(entry) = self.shelf.last_from(object, from, bound) {
             let chunk = entry.chunk;
             self.drop_entry(Key { object, chunk }, entry);
             bound = Some(chunk);
         }
     }
 
-    /// The last entry of an object from a chunk on, before a bound.
-    fn last_from(&self, object: u64, from: u64, bound: Option<u64>) -> Option<KeyEntry>
-        ensures { IsLastFrom self.now.shelf.objects object from bound result }
-    {
-        let entry = self.shelf.last_below(object, bound)?;
-        if entry.chunk < from {
-            return None;
-        }
-        Some(entry)
-    }
-
-    /// A key is no longer present.
+    /// A key that is noted is no longer present.
     fn drop_entry(&mut self, key: Key, entry: KeyEntry)
-        requires { look self.old.shelf.objects key.object key.chunk ≡ Some entry }
+        requires entry { look self.old.shelf.objects key.object key.chunk ≡ Some entry }
+        requires block { HasSmallBlock entry.kept }
+        requires noted { ∥ IsNoted self.old.changes key.object key.chunk ∥₁ }
         ensures places { Places key.object key.chunk forms.Dropped self.old self.new }
         ensures kept { SameKept self.old self.new }
         ensures prepared { StaysPrepared self.old self.new }
+        ensures changes { self.new.changes ≡ self.old.changes }
         ensures ready { (k l : ℕ) → Differs key.object key.chunk k l → IsReadyKey self.old k l → IsReadyKey self.new k l }
     {
         match entry.present() {
             Present::Absent => {}
-            Present::OnFlash(_) => self.place(key, Form::Dropped),
-            Present::InBuffer(_) => self.place(key, Form::Dropped),
+            Present::OnFlash(_) => self.place_noted(key, entry, Form::Dropped),
+            Present::InBuffer(_) => self.place_noted(key, entry, Form::Dropped),
         }
+    }
+}
+
+impl Shelf {
+    /// The last entry of an object from a chunk on, before a bound.
+    pub fn last_from(&self, object: u64, from: u64, bound: Option<u64>) -> Option<KeyEntry>
+        ensures last { IsLastFrom self.now.objects object from bound result }
+        ensures block { IfSome result (λ e. HasSmallBlock e.kept) }
+    {
+        let entry = self.last_below(object, bound)?;
+        if entry.chunk < from {
+            return None;
+        }
+        Some(entry)
     }
 }

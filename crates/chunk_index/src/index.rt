@@ -2,12 +2,14 @@
 ghost use Rattle.std.specs.Prelude.{◌≡◌, ◌≢◌, ◌<◌, ◌≤◌, ◌+◌, ◌^◌, ℕ, true, false, length, vec_capacity, None, Some, OnOk, OnErr, IsOk, IsSome};
 ghost use Rattle.block_state.specs.Table.{Table};
 ghost use Rattle.block_state.specs.TableOf.{table};
-ghost use Rattle.chunk_index.specs.Entries.{same_of, is_same, changed, with_state, with_kept, kept_at, state_of};
-ghost use Rattle.chunk_index.specs.Shelves.{look, total, Differs, AltersKey, SameEntries, IsListed};
+ghost use Rattle.chunk_index.specs.Entries.{same_of, is_same, changed, with_state, with_kept, kept_at, state_of, HasSmallBlock};
+ghost use Rattle.chunk_index.specs.Noted.{IsNoted};
+ghost use Rattle.chunk_index.specs.Shelves.{look, total, Differs, AltersKey, SameEntries};
 ghost use Rattle.chunk_index.specs.Counts.{Recounts};
 ghost use Rattle.chunk_index.specs.declared.form.KeptPage.{KeptPage};
 
 use crate::change;
+use crate::changes::ChangeList;
 use crate::entry::{KeyEntry, State};
 use crate::form::{Form, KeptPage, PagePlace, Present, WrittenGroup};
 use crate::shelf::Shelf;
@@ -15,15 +17,13 @@ use block_state::Blocks;
 use flash_tree::Key;
 use std::alloc::{AllocError, Global};
 
-/// For each key its kept page on the flash and its present page, and a list of the keys where these differ. There is room
-/// in the list for all entries, so that only `prepare` and the making of an index take memory.
+/// For each key its kept page on the flash and its present page, and notes of the keys where these may differ. Only
+/// `prepare` and the making of an index take memory.
 #[derive(Drop)]
 pub struct Index {
     pub(crate) shelf: Shelf,
-    changed_keys: Vec<Key>,
-    ghost listed: { (o c : ℕ) → same_of (look shelf.objects o c) ≡ false → ∥ IsListed changed_keys.items o c ∥₁ },
-    ghost few: { length changed_keys.items ≤ total changed shelf.objects },
-    ghost room: { shelf.size ≤ vec_capacity changed_keys },
+    pub(crate) changes: ChangeList,
+    ghost noted: { (o c : ℕ) → same_of (look shelf.objects o c) ≡ false → ∥ IsNoted changes o c ∥₁ },
 }
 
 impl Index {
@@ -45,7 +45,7 @@ impl Index {
     {
         Index {
             shelf: Shelf::new(alloc),
-            changed_keys: Vec::new(alloc),
+            changes: ChangeList::new(alloc),
         }
     }
 
@@ -82,6 +82,7 @@ impl Index {
     {
         match self.shelf.entry(key) {
             Some(entry) => {
+                let _ = self.changes.reserve();
                 self.keep_entry(key, entry);
                 Ok(())
             }
@@ -91,7 +92,8 @@ impl Index {
 
     /// Sees that the entry of a key stays once the changes are settled.
     fn keep_entry(&mut self, key: Key, entry: KeyEntry)
-        requires { look self.old.shelf.objects key.object key.chunk ≡ Some entry }
+        requires entry { look self.old.shelf.objects key.object key.chunk ≡ Some entry }
+        requires block { HasSmallBlock entry.kept }
         ensures kept { SameKept self.old self.new }
         ensures present { SamePresent self.old self.new }
         ensures ready { IsReadyKey self.new key.object key.chunk }
@@ -123,12 +125,12 @@ impl Index {
 
     /// Gives a key an entry, whose present page is the kept one.
     pub(crate) fn add(&mut self, key: Key, kept: Option<KeptPage>) -> Result<(), AllocError>
-        requires { look self.old.shelf.objects key.object key.chunk ≡ None }
+        requires absent { look self.old.shelf.objects key.object key.chunk ≡ None }
+        requires block { HasSmallBlock kept }
         ensures ok { OnOk result (AltersKey key.object key.chunk (Some (kept_at key.chunk kept)) self.old.shelf.objects self.new.shelf.objects) }
         ensures err { OnErr result (SameEntries self.old.shelf.objects self.new.shelf.objects) }
     {
-        let room = self.shelf.size() - self.changed_keys.len() + 1;
-        self.changed_keys.reserve(room)?;
+        self.changes.reserve()?;
         let entry = KeyEntry {
             chunk: key.chunk,
             kept,
@@ -150,7 +152,7 @@ impl Index {
                 if entry.is_same() {
                     self.place_first(key, entry, form);
                 } else {
-                    self.place_again(key, entry, form);
+                    self.place_noted(key, entry, form);
                 }
             }
             None => {}
@@ -160,19 +162,20 @@ impl Index {
     /// Gives a key whose present page is the kept one another present page.
     fn place_first(&mut self, key: Key, entry: KeyEntry, form: Form)
         requires entry { look self.old.shelf.objects key.object key.chunk ≡ Some entry }
-        requires same { is_same entry ≡ true }
+        requires block { HasSmallBlock entry.kept }
         ensures { AltersKey key.object key.chunk (Some (with_state (state_of form) entry)) self.old.shelf.objects self.new.shelf.objects }
     {
-        let _ = self.changed_keys.push(key);
-        let state = form.state();
-        self.shelf.set(key.object, KeyEntry { state, ..entry });
+        self.changes.note(key);
+        self.place_noted(key, entry, form);
     }
 
-    /// Gives a key whose present page is not the kept one another present page.
-    fn place_again(&mut self, key: Key, entry: KeyEntry, form: Form)
+    /// Gives a key that is noted another present page.
+    pub(crate) fn place_noted(&mut self, key: Key, entry: KeyEntry, form: Form)
         requires entry { look self.old.shelf.objects key.object key.chunk ≡ Some entry }
-        requires changed { is_same entry ≡ false }
-        ensures { AltersKey key.object key.chunk (Some (with_state (state_of form) entry)) self.old.shelf.objects self.new.shelf.objects }
+        requires block { HasSmallBlock entry.kept }
+        requires noted { ∥ IsNoted self.old.changes key.object key.chunk ∥₁ }
+        ensures alters { AltersKey key.object key.chunk (Some (with_state (state_of form) entry)) self.old.shelf.objects self.new.shelf.objects }
+        ensures changes { self.new.changes ≡ self.old.changes }
     {
         let state = form.state();
         self.shelf.set(key.object, KeyEntry { state, ..entry });
@@ -224,7 +227,7 @@ impl Index {
         ensures agree { CountsAgree (table blocks.new) self.new }
         ensures counts { Recounts (kept_in self.old) (kept_in self.new) (table blocks.old) (table blocks.new) }
     {
-        self.shelf.settle(&self.changed_keys, group, blocks);
-        self.changed_keys.clear();
+        self.shelf.settle(&self.changes, group, blocks);
+        self.changes.clear();
     }
 }

@@ -2,6 +2,7 @@
 #![tactic(auto)]
 
 mod change;
+mod changes;
 mod cut;
 mod entry;
 mod filter;
@@ -12,6 +13,7 @@ mod listing;
 mod newest;
 mod next;
 mod object;
+mod packed;
 mod retain;
 mod settle;
 mod shelf;

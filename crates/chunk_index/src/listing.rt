@@ -43,7 +43,7 @@ impl ObjectEntries {
         ensures capacity { vec_capacity keys.old ≤ vec_capacity keys.new }
     {
         for entry in &self.entries {
-            entry.list_block(object, block, keys);
+            entry.unpack().list_block(object, block, keys);
         }
     }
 }

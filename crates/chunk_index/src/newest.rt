@@ -1,8 +1,8 @@
 // The index of what a scan found.
-ghost use Rattle.std.specs.Prelude.{◌≡◌, ◌<◌, ◌^◌, ℕ, length, None, IfOk, OnOk, OnErr};
+ghost use Rattle.std.specs.Prelude.{◌≡◌, ◌<◌, ◌≤◌, ◌^◌, ℕ, length, None, IfOk, OnOk, OnErr};
 ghost use Rattle.block_state.specs.TableOf.{table};
 ghost use Rattle.chunk_index.specs.Counts.{Recounts};
-ghost use Rattle.chunk_index.specs.Shelves.{look};
+ghost use Rattle.chunk_index.specs.Shelves.{look, SameEntries};
 ghost use Rattle.chunk_index.specs.Maps.{kept_in, CountsAgree};
 ghost use Rattle.chunk_index.specs.Newest.{KeysRise, LieWithin, Indexes, page_of};
 ghost use Rattle.chunk_index.specs.Found.{HasPages, found_in};
@@ -41,13 +41,28 @@ impl Index {
         requires empty { (o c : ℕ) → look self.old.shelf.objects o c ≡ None }
         requires none { (b : ℕ) → kept_in self.old b ≡ 0 }
         requires size { self.old.shelf.size ≡ 0 }
+        requires blocks { LieWithin 65536 newest.now }
         ensures has { OnOk result (HasPages newest.now (length newest.now) self.new.shelf.objects) }
         ensures few { OnOk result (length newest.now < 2 ^ 32) }
     {
-        for found in newest {
+        for at in 0..newest.len() {
+            self.reserve_at(newest, at)?;
+            let found = &newest[at];
             self.add(key_of(found), Some(page_of(found)))?;
         }
         Ok(())
+    }
+
+    /// Sees that an object has room for its pages, if the page at a place is its first one.
+    fn reserve_at(&mut self, newest: &[Found], at: usize) -> Result<(), AllocError>
+        requires { at < length newest.now }
+        ensures { SameEntries self.old.shelf.objects self.new.shelf.objects }
+    {
+        let object = newest[at].tag.object;
+        if at > 0 && newest[at - 1].tag.object == object {
+            return Ok(());
+        }
+        self.shelf.reserve(object, object_end(newest, at) - at)
     }
 }
 
@@ -61,6 +76,19 @@ fn count_all(newest: &[Found], blocks: &mut Blocks)
     for found in newest {
         blocks.keep(found.block);
     }
+}
+
+/// Where the pages end that are of the same object as the one at a place.
+fn object_end(newest: &[Found], at: usize) -> usize
+    requires { at < length newest.now }
+    ensures { at ≤ result }
+{
+    for end in at..newest.len() {
+        if newest[end].tag.object != newest[at].tag.object {
+            return end;
+        }
+    }
+    newest.len()
 }
 
 /// The key that a page is of.

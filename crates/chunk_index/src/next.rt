@@ -64,7 +64,7 @@ impl ObjectEntries {
         ensures { IsNextChunk (kept_chunk self.now.entries.items) after result }
     {
         for at in self.start_after(after)..self.entries.len() {
-            let entry = self.entries[at];
+            let entry = self.entries[at].unpack();
             if let Some(page) = entry.kept {
                 return Some((entry.chunk, page));
             }

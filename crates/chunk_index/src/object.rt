@@ -1,15 +1,16 @@
 // The entries of one object.
-ghost use Rattle.std.specs.Prelude.{◌≡◌, [], None, Some, IfOk, IfErr, OnOk, OnErr, IsSome};
+ghost use Rattle.std.specs.Prelude.{◌≡◌, [], None, Some, IfOk, IfErr, IfSome, OnOk, OnErr, IsSome};
 ghost use Rattle.chunk_index.specs.Lists.{Rises, IsAt, IsGapFor, IsEndFor, find_by, is_nil};
-ghost use Rattle.chunk_index.specs.Entries.{chunk, Alters, IsLastBelow};
+ghost use Rattle.chunk_index.specs.Entries.{chunk, Alters, IsLastBelow, HasSmallBlock};
 
 use crate::entry::KeyEntry;
+use crate::packed::PackedEntry;
 use std::alloc::{AllocError, Global};
 
 /// The entries of one object, in the order of their chunks.
 #[derive(Drop)]
 pub struct ObjectEntries {
-    pub(crate) entries: Vec<KeyEntry>,
+    pub(crate) entries: Vec<PackedEntry>,
     ghost rises: { Rises chunk entries.items },
 }
 
@@ -29,41 +30,52 @@ impl ObjectEntries {
         ensures absent { IfErr result (IsGapFor chunk self.now.entries.items number) }
     {
         self.entries
-            .binary_search_by_key(&number, |entry| entry.chunk)
+            .binary_search_by_key(&number, |entry| entry.chunk())
     }
 
     /// The entry of a chunk.
     pub fn get(&self, number: u64) -> Option<KeyEntry>
-        ensures { result ≡ find_by chunk self.now.entries.items number }
+        ensures entry { result ≡ find_by chunk self.now.entries.items number }
+        ensures block { IfSome result (λ e. HasSmallBlock e.kept) }
     {
         match self.search(number) {
-            Ok(at) => Some(self.entries[at]),
+            Ok(at) => Some(self.entries[at].unpack()),
             Err(_) => None,
         }
     }
 
     /// Puts an entry of a chunk that has none.
     pub fn insert(&mut self, entry: KeyEntry) -> Result<(), AllocError>
-        requires { find_by chunk self.old.entries.items entry.chunk ≡ None }
+        requires absent { find_by chunk self.old.entries.items entry.chunk ≡ None }
+        requires block { HasSmallBlock entry.kept }
         ensures ok { OnOk result (Alters entry.chunk (Some entry) self.old.entries.items self.new.entries.items) }
         ensures err { OnErr result (self.new.entries.items ≡ self.old.entries.items) }
     {
         match self.search(entry.chunk) {
             Ok(_) => Ok(()),
             Err(at) => {
-                self.entries.insert(at, entry)?;
+                reserve_one(&mut self.entries)?;
+                self.entries.insert(at, PackedEntry::pack(entry))?;
                 Ok(())
             }
         }
     }
 
+    /// Sees that there is room for so many entries more, and for no others.
+    pub fn reserve(&mut self, count: usize) -> Result<(), AllocError>
+        ensures { self.new.entries.items ≡ self.old.entries.items }
+    {
+        self.entries.reserve_exact(count)
+    }
+
     /// Puts an entry in place of that of its chunk.
     pub fn set(&mut self, entry: KeyEntry)
-        requires { IsSome (find_by chunk self.old.entries.items entry.chunk) }
+        requires here { IsSome (find_by chunk self.old.entries.items entry.chunk) }
+        requires block { HasSmallBlock entry.kept }
         ensures { Alters entry.chunk (Some entry) self.old.entries.items self.new.entries.items }
     {
         match self.search(entry.chunk) {
-            Ok(at) => self.entries[at] = entry,
+            Ok(at) => self.entries[at] = PackedEntry::pack(entry),
             Err(_) => {}
         }
     }
@@ -103,12 +115,28 @@ impl ObjectEntries {
 
     /// The last entry whose chunk lies before a bound.
     pub fn last_below(&self, bound: Option<u64>) -> Option<KeyEntry>
-        ensures { IsLastBelow self.now.entries.items bound result }
+        ensures last { IsLastBelow self.now.entries.items bound result }
+        ensures block { IfSome result (λ e. HasSmallBlock e.kept) }
     {
         let end = self.count_below(bound);
         if end == 0 {
             return None;
         }
-        Some(self.entries[end - 1])
+        Some(self.entries[end - 1].unpack())
     }
+}
+
+/// Sees that there is room for one entry more. The first is given room for itself, and then the room grows by an eighth,
+/// and by 4 entries at the least.
+fn reserve_one(entries: &mut Vec<PackedEntry>) -> Result<(), AllocError>
+    ensures { entries.new.items ≡ entries.old.items }
+{
+    let count = entries.len();
+    if count < entries.capacity() {
+        return Ok(());
+    }
+    if count == 0 {
+        return entries.reserve_exact(1);
+    }
+    entries.reserve_exact((count / 8).max(4))
 }

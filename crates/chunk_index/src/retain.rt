@@ -1,7 +1,7 @@
 // The keys that stay, and the end of all others.
-ghost use Rattle.std.specs.Prelude.{◌≡◌, ◌<◌, ◌≤◌, ◌+◌, ℕ, length};
+ghost use Rattle.std.specs.Prelude.{◌≡◌, ◌<◌, ◌≤◌, ◌+◌, ℕ, length, IfSome};
 ghost use Rattle.block_state.specs.TableOf.{table};
-ghost use Rattle.chunk_index.specs.Entries.{kept_of, one_at, counted_at, changed, weigh};
+ghost use Rattle.chunk_index.specs.Entries.{kept_of, one_at, counted_at, changed, weigh, HasSmallBlock};
 ghost use Rattle.chunk_index.specs.Shelves.{look, total, IsNextObject};
 ghost use Rattle.chunk_index.specs.Counts.{Recounts, HasCounted, Tallies};
 ghost use Rattle.chunk_index.specs.Retained.{retained, retained_told, retained_of, RetainsObject};
@@ -12,6 +12,7 @@ use crate::entry::{KeyEntry, State};
 use crate::filter::KeyFilter;
 use crate::index::Index;
 use crate::object::ObjectEntries;
+use crate::packed::PackedEntry;
 use crate::shelf::Shelf;
 use block_state::Blocks;
 use flash_tree::Key;
@@ -30,13 +31,11 @@ impl Index {
 }
 
 impl Shelf {
-    /// Keeps of each object the entries that a filter keeps. A key that is on a list of changed keys may have an entry
-    /// still, which tells of nothing.
+    /// Keeps of each object the entries that a filter keeps. A key whose present page was not the kept one may have an
+    /// entry still, which tells of nothing.
     fn retain<F: KeyFilter>(&mut self, filter: &F, blocks: &mut Blocks)
         requires tallies { Tallies (table blocks.old) self.old.objects }
-        ensures size { self.new.size ≤ self.old.size }
         ensures looks { (o c : ℕ) → look self.new.objects o c ≡ retained_told (F.keeps filter.now o c) (look self.old.objects o c) }
-        ensures changed { total changed self.new.objects ≡ total changed self.old.objects }
         ensures tallies { Tallies (table blocks.new) self.new.objects }
         ensures counts { Recounts (λ b. total (counted_at b) self.old.objects) (λ b. total (counted_at b) self.new.objects) (table blocks.old) (table blocks.new) }
     {
@@ -50,7 +49,6 @@ impl Shelf {
     /// Keeps of one object the entries that a filter keeps, and the object where one is left.
     fn retain_object<F: KeyFilter>(&mut self, object: u64, filter: &F, blocks: &mut Blocks)
         requires tallies { Tallies (table blocks.old) self.old.objects }
-        ensures size { self.new.size ≤ self.old.size }
         ensures retains { RetainsObject object (F.keeps filter.now object) self.old.objects self.new.objects }
         ensures tallies { Tallies (table blocks.new) self.new.objects }
         ensures counts { Recounts (λ b. total (counted_at b) self.old.objects) (λ b. total (counted_at b) self.new.objects) (table blocks.old) (table blocks.new) }
@@ -62,7 +60,6 @@ impl Shelf {
     /// Keeps of one object the entries that a filter keeps.
     fn retain_entries<F: KeyFilter>(&mut self, object: u64, filter: &F, blocks: &mut Blocks)
         requires tallies { Tallies (table blocks.old) self.old.objects }
-        ensures size { self.new.size ≤ self.old.size }
         ensures retains { RetainsObject object (F.keeps filter.now object) self.old.objects self.new.objects }
         ensures tallies { Tallies (table blocks.new) self.new.objects }
         ensures counts { Recounts (λ b. total (counted_at b) self.old.objects) (λ b. total (counted_at b) self.new.objects) (table blocks.old) (table blocks.new) }
@@ -92,18 +89,23 @@ impl ObjectEntries {
 }
 
 /// Keeps the entries of an object that a filter keeps, in their order, and counts the pages of all others no longer.
-fn gather<F: KeyFilter>(entries: &mut Vec<KeyEntry>, object: u64, filter: &F, blocks: &mut Blocks)
+fn gather<F: KeyFilter>(
+    entries: &mut Vec<PackedEntry>,
+    object: u64,
+    filter: &F,
+    blocks: &mut Blocks,
+)
     requires counted { HasCounted (table blocks.old) (λ b. weigh (counted_at b) entries.old.items) }
     ensures items { entries.new.items ≡ retained_of (F.keeps filter.now object) entries.old.items }
     ensures counts { Recounts (λ b. weigh (counted_at b) entries.old.items) (λ b. weigh (counted_at b) entries.new.items) (table blocks.old) (table blocks.new) }
 {
     let mut kept = 0;
     for at in 0..entries.len() {
-        let entry = entries[at];
+        let entry = entries[at].unpack();
         let chunk = entry.chunk;
         let stays = filter.keeps(Key { object, chunk });
         if let Some(left) = entry.retained(stays, blocks) {
-            entries[kept] = left;
+            entries[kept] = PackedEntry::pack(left);
             kept += 1;
         }
     }
@@ -111,11 +113,13 @@ fn gather<F: KeyFilter>(entries: &mut Vec<KeyEntry>, object: u64, filter: &F, bl
 }
 
 impl KeyEntry {
-    /// What is left of the entry, whose key stays or is forgotten. One on the list of changed keys stays until the changes
+    /// What is left of the entry, whose key stays or is forgotten. One whose present page is not the kept one stays until the changes
     /// are settled, and tells of nothing.
     fn retained(self, stays: bool, blocks: &mut Blocks) -> Option<KeyEntry>
         requires counted { HasCounted (table blocks.old) (one_at self.kept) }
+        requires block { HasSmallBlock self.kept }
         ensures result { result ≡ retained stays self }
+        ensures block { IfSome result (λ e. HasSmallBlock e.kept) }
         ensures counts { Recounts (one_at self.kept) (one_at (kept_of result)) (table blocks.old) (table blocks.new) }
     {
         if stays {

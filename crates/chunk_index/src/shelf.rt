@@ -4,6 +4,7 @@ ghost use Rattle.std.specs.Ordering.{nat_cmp};
 ghost use Rattle.std.proofs.Props.{props};
 ghost use Rattle.std.specs.BTreeMap.{get, IsEmpty, IsOrdered};
 ghost use Rattle.chunk_index.specs.Shelves.{look, total, AltersKey, SameEntries, IsLastOf, IsNextObject};
+ghost use Rattle.chunk_index.specs.Entries.{HasSmallBlock};
 
 use crate::entry::KeyEntry;
 use crate::object::ObjectEntries;
@@ -51,6 +52,7 @@ impl Shelf {
     pub fn entry(&self, key: Key) -> Option<KeyEntry>
         ensures entry { result ≡ look self.now.objects key.object key.chunk }
         ensures chunk { IfSome result (λ e. e.chunk ≡ key.chunk) }
+        ensures block { IfSome result (λ e. HasSmallBlock e.kept) }
     {
         match self.objects.get(&key.object) {
             Some(entries) => entries.get(key.chunk),
@@ -67,7 +69,8 @@ impl Shelf {
 
     /// Puts an entry in place of that of its key.
     pub fn set(&mut self, object: u64, entry: KeyEntry)
-        requires { IsSome (look self.old.objects object entry.chunk) }
+        requires here { IsSome (look self.old.objects object entry.chunk) }
+        requires block { HasSmallBlock entry.kept }
         ensures alters { AltersKey object entry.chunk (Some entry) self.old.objects self.new.objects }
         ensures size { self.new.size ≡ self.old.size }
     {
@@ -79,7 +82,8 @@ impl Shelf {
 
     /// Puts an entry of a key that has none.
     pub fn insert(&mut self, object: u64, entry: KeyEntry) -> Result<(), AllocError>
-        requires { look self.old.objects object entry.chunk ≡ None }
+        requires absent { look self.old.objects object entry.chunk ≡ None }
+        requires block { HasSmallBlock entry.kept }
         ensures ok { OnOk result (AltersKey object entry.chunk (Some entry) self.old.objects self.new.objects) }
         ensures grown { OnOk result (self.new.size ≡ self.old.size + 1) }
         ensures err { OnErr result (SameEntries self.old.objects self.new.objects) }
@@ -90,6 +94,24 @@ impl Shelf {
         }
         self.prepare_object(object)?;
         self.put(object, entry)
+    }
+
+    /// Sees that an object is here and has room for so many entries more. No key gets or loses an entry.
+    pub fn reserve(&mut self, object: u64, count: usize) -> Result<(), AllocError>
+        ensures { SameEntries self.old.objects self.new.objects }
+    {
+        self.prepare_object(object)?;
+        self.reserve_entries(object, count)
+    }
+
+    /// Sees that an object, if it is here, has room for so many entries more.
+    fn reserve_entries(&mut self, object: u64, count: usize) -> Result<(), AllocError>
+        ensures { SameEntries self.old.objects self.new.objects }
+    {
+        match self.objects.get_mut(&object) {
+            Some(entries) => entries.reserve(count),
+            None => Ok(()),
+        }
     }
 
     /// Sees that an object is here. No key gets or loses an entry.
@@ -111,6 +133,7 @@ impl Shelf {
         requires absent { look self.old.objects object entry.chunk ≡ None }
         requires here { IsSome (get nat_cmp self.old.objects object) }
         requires room { self.old.size < 2 ^ 32 - 1 }
+        requires block { HasSmallBlock entry.kept }
         ensures ok { OnOk result (AltersKey object entry.chunk (Some entry) self.old.objects self.new.objects) }
         ensures grown { OnOk result (self.new.size ≡ self.old.size + 1) }
         ensures err { OnErr result (SameEntries self.old.objects self.new.objects) }
@@ -192,7 +215,8 @@ impl Shelf {
 
     /// The last entry of an object whose chunk lies before a bound.
     pub fn last_below(&self, object: u64, bound: Option<u64>) -> Option<KeyEntry>
-        ensures { IsLastOf self.now.objects object bound result }
+        ensures last { IsLastOf self.now.objects object bound result }
+        ensures block { IfSome result (λ e. HasSmallBlock e.kept) }
     {
         match self.objects.get(&object) {
             Some(entries) => entries.last_below(bound),

@@ -89,6 +89,16 @@ fn add_page(
     Ok(end)
 }
 
+/// Sees that a list has room for so many pages more. It grows by an eighth, and by these pages at the least.
+fn make_room(counted: &mut Vec<Found>, pages: usize) -> Result<(), AllocError>
+    ensures { counted.new.items ≡ counted.old.items }
+{
+    if pages <= counted.capacity() - counted.len() {
+        return Ok(());
+    }
+    counted.reserve_exact(pages.max(counted.len() / 8))
+}
+
 /// Adds the pages of a block that count, from its tags.
 pub(crate) fn add_counted(
     block: u32,
@@ -98,6 +108,7 @@ pub(crate) fn add_counted(
     requires { length tags.now ≤ 256 }
     ensures { OnOk result (AddsCounted block tags.now (length tags.now) counted.old.items counted.new.items) }
 {
+    make_room(counted, tags.len())?;
     let mut end = 0;
     for page in 0..tags.len() {
         end = add_page(block, tags, page, end, counted)?;

@@ -99,5 +99,6 @@ pub fn scan_newest<N: Nand>(alloc: Global, device: &mut N) -> Result<NewestScan,
         numbers,
     } = scan_blocks(alloc, device)?;
     keep_newest(&mut newest);
+    newest.shrink_to_fit();
     Ok(NewestScan { newest, numbers })
 }

@@ -3,6 +3,7 @@ use Rattle.block_state.specs.TableOf.{table}
 use Rattle.chunk_index.specs.Entries.{one_at, kept_of}
 use Rattle.chunk_index.specs.Counts.{Recounts}
 use Rattle.chunk_index.specs.Retained.{retained}
+use Rattle.chunk_index.proofs.Finding.{same_element}
 use Rattle.chunk_index.proofs.Retaining.{gathers_none, next_counted, gathers_left, gathers_gone, gathers_items, gathers_counts}
 use Rattle.chunk_index.proofs.retain.gather.Goals.{in-Some, in_default}
 use Rattle.chunk_index.proofs.retain.gather.Goals as goal
@@ -10,15 +11,16 @@ use Rattle.chunk_index.proofs.retain.gather.Goals as goal
 pub loop-at-init : goal.loop-at-init
 loop-at-init g c = gathers_none _ _ _
 
-pub retained-requires : goal.retained-requires
-retained-requires g c = record { counted = next_counted (g.F.KeyFilter.keeps c.args.filter.now c.args.object) _ _ _ _ _ _ c.loop-at.invariant (omega (arith, c.loop-at-test.true, c.len-at-end.ensures)) c.index-entry.result.now c.index-entry.ensures c.requires.counted }
+pub retained-requires-clause-counted : goal.retained-requires-clause-counted
+retained-requires-clause-counted g c = next_counted (g.F.KeyFilter.keeps c.args.filter.now c.args.object) _ _ _ _ _ _ c.loop-at.invariant (omega (arith, c.loop-at-test.true, c.len-at-end.ensures)) c.unpack-entry.result (same_element _ c.loop-at.at _ _ c.unpack-entry.ensures.entry c.index.ensures) c.requires.counted
 
 pub loop-at-preserved : goal.loop-at-preserved
 loop-at-preserved g c =
     let keeps = g.F.KeyFilter.keeps c.args.filter.now c.args.object in
     let first = c.args.entries.now.items in
     let now = c.loop-at.entries.items in
-    let e = c.index-entry.result.now in
+    let e = c.unpack-entry.result in
+    let here = same_element _ c.loop-at.at _ _ c.unpack-entry.ensures.entry c.index.ensures in
     let t = table c.args.blocks.now in
     let u = table c.loop-at.blocks in
     let after = table c.retained.new.blocks in
@@ -26,10 +28,10 @@ loop-at-preserved g c =
     elim c.match-retained.branch [
       | in-Some w ↦
           let counts = subst (λ v. Recounts (one_at e.kept) (one_at (kept_of v)) u after) w.in-Some.is c.retained.ensures.counts in
-          rw (w.entries-is, w.kept-is) (gathers_left keeps first c.loop-at.at now c.loop-at.kept t u c.loop-at.invariant (omega (arith, c.loop-at-test.true, c.len-at-end.ensures)) e c.index-entry.ensures w.in-Some.left after (sym w.in-Some.is ∙ result) counts)
+          rw (w.entries-is, w.kept-is, w.pack.ensures) (gathers_left keeps first c.loop-at.at now c.loop-at.kept t u c.loop-at.invariant (omega (arith, c.loop-at-test.true, c.len-at-end.ensures)) e here w.in-Some.left after (sym w.in-Some.is ∙ result) counts)
       | in_default w ↦
           let counts = subst (λ v. Recounts (one_at e.kept) (one_at (kept_of v)) u after) w.in_default.is c.retained.ensures.counts in
-          rw (w.entries-is, w.kept-is) (gathers_gone keeps first c.loop-at.at now c.loop-at.kept t u c.loop-at.invariant (omega (arith, c.loop-at-test.true, c.len-at-end.ensures)) e c.index-entry.ensures after (sym w.in_default.is ∙ result) counts)
+          rw (w.entries-is, w.kept-is) (gathers_gone keeps first c.loop-at.at now c.loop-at.kept t u c.loop-at.invariant (omega (arith, c.loop-at-test.true, c.len-at-end.ensures)) e here after (sym w.in_default.is ∙ result) counts)
     ]
 
 pub returns-clause-items : goal.returns-clause-items

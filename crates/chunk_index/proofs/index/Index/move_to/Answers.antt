@@ -1,7 +1,8 @@
 use Rattle.std.proofs.Common.{sym, ap, ◌∙◌, arith, refl, Some}
-use Rattle.chunk_index.specs.Entries.{same_of, changed, weight, with_kept}
+use Rattle.block_state.specs.TableOf.{table}
+use Rattle.chunk_index.specs.Entries.{same_of, with_kept}
 use Rattle.chunk_index.proofs.Counting.{entry_room, entry_counts, tallies_altered, recounts_altered}
-use Rattle.chunk_index.proofs.Mapping.{at_chunk, there_at, total_same, told_same}
+use Rattle.chunk_index.proofs.Mapping.{at_chunk, there_at, told_same}
 use Rattle.chunk_index.proofs.index.Index.move_to.Goals as goal
 
 pub recount-requires-clause-room : goal.recount-requires-clause-room
@@ -9,16 +10,18 @@ recount-requires-clause-room c =
     let shelf = c.args.self.now.shelf in
     entry_room _ shelf.objects c.args.key.object c.args.key.chunk c.args.entry c.requires.entry (record { counts = c.requires.agree.counts; within = c.requires.agree.within }) shelf.size shelf.counted shelf.bounded
 
-pub set-requires : goal.set-requires
-set-requires c = there_at c.args.self.now.shelf.objects c.args.key.object c.args.key.chunk c.args.entry c.args.entry.chunk c.requires.entry refl
+pub set-requires-clause-here : goal.set-requires-clause-here
+set-requires-clause-here c = there_at c.args.self.now.shelf.objects c.args.key.object c.args.key.chunk c.args.entry c.args.entry.chunk c.requires.entry refl
+
+pub set-requires-clause-block : goal.set-requires-clause-block
+set-requires-clause-block c = omega (arith, c.requires.block, (table c.args.blocks.now).geometry.most_blocks)
 
 pub invariant_of-self : goal.invariant_of-self
 invariant_of-self c =
     let self = c.args.self.now in
     let alters = at_chunk self.shelf.objects c.set.new.self.objects c.args.key.object c.args.key.chunk c.args.entry _ c.requires.entry refl c.set.ensures.alters in
-    let same = total_same alters changed (sym (ap (weight changed) c.requires.entry)) in
     let told = told_same alters same_of (sym (ap same_of c.requires.entry)) in
-    record { listed = λ k l not. self.listed k l (sym (told k l) ∙ not); few = omega (arith, same, self.few); room = omega (arith, self.room, c.set.ensures.size) }
+    record { noted = λ k l not. self.noted k l (sym (told k l) ∙ not) }
 
 pub returns-clause-alters : goal.returns-clause-alters
 returns-clause-alters c = at_chunk c.args.self.now.shelf.objects c.set.new.self.objects c.args.key.object c.args.key.chunk c.args.entry _ c.requires.entry refl c.set.ensures.alters

@@ -1,4 +1,4 @@
-use Rattle.std.proofs.Common.{arith, refl}
+use Rattle.std.proofs.Common.{refl}
 use Rattle.chunk_index.proofs.Counting.{recounts_on, recounts_here}
 use Rattle.chunk_index.proofs.Staying.{retaining_none, retaining_more, retaining_all}
 use Rattle.chunk_index.proofs.shelf.Shelf.retain.Goals as goal
@@ -6,7 +6,6 @@ use Rattle.chunk_index.proofs.shelf.Shelf.retain.Goals as goal
 pub loop-object-init : goal.loop-object-init
 loop-object-init g c = record {
   retaining = retaining_none (g.F.KeyFilter.keeps c.args.filter.now) c.args.self.now.objects;
-  size = omega arith;
   tallies = c.requires.tallies;
   counts = recounts_here (λ b. refl);
 }
@@ -14,7 +13,6 @@ loop-object-init g c = record {
 pub loop-object-preserved : goal.loop-object-preserved
 loop-object-preserved g c = record {
   retaining = retaining_more (g.F.KeyFilter.keeps c.args.filter.now) _ c.in-Some.object _ _ _ c.loop-object.invariant.retaining c.in-Some.ensures c.retain_object.ensures.retains;
-  size = omega (arith, c.loop-object.invariant.size, c.retain_object.ensures.size);
   tallies = c.retain_object.ensures.tallies;
   counts = recounts_on c.loop-object.invariant.counts c.retain_object.ensures.counts;
 }

@@ -1,4 +1,4 @@
-use Rattle.std.proofs.Common.{◌≤◌, ◌^◌}
+use Rattle.std.proofs.Common.{◌^◌}
 use Rattle.block_state.specs.TableOf.{table}
 use Rattle.chunk_index.specs.Entries.{counted_at}
 use Rattle.chunk_index.specs.Shelves.{total}
@@ -9,7 +9,6 @@ use Rattle.chunk_index.proofs.shelf.Shelf.retain.Given as goal
 abbrev pub invariant-loop-object : goal.invariant-loop-object
 invariant-loop-object g l = record {
   retaining : Retaining (g.F.KeyFilter.keeps l.filter) l.done l.fn.self.objects l.self.objects;
-  size : l.self.size ≤ l.fn.self.size;
   tallies : Tallies (table l.blocks) l.self.objects;
   counts : Recounts (λ b. total (counted_at b) l.fn.self.objects) (λ b. total (counted_at b) l.self.objects) (table l.fn.blocks) (table l.blocks);
 }

@@ -1,12 +1,16 @@
-use Rattle.std.proofs.Common.{Some, sym, ◌∙◌, IsSome, subst, refl}
+use Rattle.std.proofs.Common.{Some, sym, ◌∙◌, IsSome, subst, refl, arith}
 use Rattle.block_state.specs.TableOf.{table}
 use Rattle.chunk_index.specs.Shelves.{look}
 use Rattle.chunk_index.proofs.Counting.{tallies_altered, recounts_altered}
 use Rattle.chunk_index.proofs.Settling.{settled_set, settled_counts, settled_room, settled_page, settled_within}
+use Rattle.chunk_index.proofs.Noting.{where_key, where_absent}
 use Rattle.chunk_index.proofs.shelf.Shelf.settle_key.Goals as goal
 
-pub settled-requires : goal.settled-requires
-settled-requires c = settled_page c.args.group c.args.self.now.objects c.args.key.object c.args.key.chunk c.in-Some.entry (sym c.in-Some.ensures.entry) c.requires.fits
+pub settled-requires-clause-page : goal.settled-requires-clause-page
+settled-requires-clause-page c = settled_page c.args.group c.args.self.now.objects c.args.key.object c.args.key.chunk c.in-Some.entry (sym c.in-Some.ensures.entry) (c.requires.fits c.args.key.object c.args.key.chunk)
+
+pub settled-requires-clause-group : goal.settled-requires-clause-group
+settled-requires-clause-group c = omega (arith, c.requires.block, (table c.args.blocks.now).geometry.most_blocks)
 
 pub recount-requires-clause-within : goal.recount-requires-clause-within
 recount-requires-clause-within c =
@@ -19,26 +23,24 @@ recount-requires-clause-room c = settled_room c.args.group c.args.self.now.objec
 pub recount-requires-in-None-clause-room : goal.recount-requires-in-None-clause-room
 recount-requires-in-None-clause-room c = settled_room c.args.group c.args.self.now.objects c.args.key.object c.args.key.chunk c.in-Some.entry (sym c.in-Some.ensures.entry) (table c.args.blocks.now) c.requires.tallies _ c.args.self.now.counted c.args.self.now.bounded
 
-pub set-requires : goal.set-requires
-set-requires c =
+pub set-requires-clause-here : goal.set-requires-clause-here
+set-requires-clause-here c =
     let chunk = c.in-Some-settled.ensures.chunk ∙ c.in-Some.ensures.chunk in
     subst (λ l. IsSome (look c.args.self.now.objects c.args.key.object l)) (sym chunk) (rw (sym c.in-Some.ensures.entry) refl)
 
-pub returns-in-Some-settled-clause-alters : goal.returns-in-Some-settled-clause-alters
-returns-in-Some-settled-clause-alters c = settled_set c.args.group c.args.self.now.objects c.args.key.object c.args.key.chunk c.in-Some.entry (sym c.in-Some.ensures.entry) _ _ c.in-Some-settled.ensures.result (c.in-Some-settled.ensures.chunk ∙ c.in-Some.ensures.chunk) c.set.ensures.alters
-
-pub returns-in-Some-settled-clause-tallies : goal.returns-in-Some-settled-clause-tallies
-returns-in-Some-settled-clause-tallies c =
+pub returns-in-Some-settled : goal.returns-in-Some-settled
+returns-in-Some-settled c =
     let m = c.args.self.now.objects in
+    let n = c.set.new.self.objects in
+    let o = c.args.key.object in
+    let l = c.args.key.chunk in
     let is = sym c.in-Some.ensures.entry in
-    let alters = settled_set c.args.group m c.args.key.object c.args.key.chunk c.in-Some.entry is c.set.new.self.objects c.in-Some-settled.new c.in-Some-settled.ensures.result (c.in-Some-settled.ensures.chunk ∙ c.in-Some.ensures.chunk) c.set.ensures.alters in
-    let counts = settled_counts c.args.group m c.args.key.object c.args.key.chunk c.in-Some.entry is (table c.args.blocks.now) (table c.recount.new.blocks) (Some c.in-Some-settled.new) c.in-Some-settled.ensures.result c.recount.ensures in
-    tallies_altered _ _ m c.set.new.self.objects c.args.key.object c.args.key.chunk _ alters counts c.requires.tallies
+    let t = table c.args.blocks.now in
+    let u = table c.recount.new.blocks in
+    let new = c.in-Some-settled.new in
+    let alters = settled_set c.args.group m o l c.in-Some.entry is n new c.in-Some-settled.ensures.result (c.in-Some-settled.ensures.chunk ∙ c.in-Some.ensures.chunk) c.set.ensures.alters in
+    let counts = settled_counts c.args.group m o l c.in-Some.entry is t u (Some new) c.in-Some-settled.ensures.result c.recount.ensures in
+    where_key c.args.group c.args.key m n t u alters (tallies_altered t u m n o l _ alters counts c.requires.tallies) (recounts_altered t u m n o l _ alters counts)
 
-pub returns-in-Some-settled-clause-counts : goal.returns-in-Some-settled-clause-counts
-returns-in-Some-settled-clause-counts c =
-    let m = c.args.self.now.objects in
-    let is = sym c.in-Some.ensures.entry in
-    let alters = settled_set c.args.group m c.args.key.object c.args.key.chunk c.in-Some.entry is c.set.new.self.objects c.in-Some-settled.new c.in-Some-settled.ensures.result (c.in-Some-settled.ensures.chunk ∙ c.in-Some.ensures.chunk) c.set.ensures.alters in
-    let counts = settled_counts c.args.group m c.args.key.object c.args.key.chunk c.in-Some.entry is (table c.args.blocks.now) (table c.recount.new.blocks) (Some c.in-Some-settled.new) c.in-Some-settled.ensures.result c.recount.ensures in
-    recounts_altered _ _ m c.set.new.self.objects c.args.key.object c.args.key.chunk _ alters counts
+pub returns-in_default : goal.returns-in_default
+returns-in_default c = where_absent c.args.group c.args.key c.args.self.now.objects _ (sym c.in_default.ensures.entry) c.requires.tallies

@@ -1,0 +1,33 @@
+-- The settling of some keys.
+use Rattle.std.specs.Prelude.{◌≡◌, ◌⊎◌, ◌<◌, ◌≤◌, ◌+◌, ℕ, List, get_or}
+use Rattle.flash_tree.specs.declared.place.Key.{Key}
+use Rattle.block_state.specs.Table.{Table}
+use Rattle.chunk_index.specs.declared.form.WrittenGroup.{WrittenGroup}
+use Rattle.chunk_index.specs.declared.form.Present.TheVariants as presents
+use Rattle.chunk_index.specs.Entries.{settled, present_of, counted_at}
+use Rattle.chunk_index.specs.Shelves.{ObjectMap, look, total}
+use Rattle.chunk_index.specs.Counts.{Recounts, Tallies}
+
+-- The group lies on the device, each page of the buffer has a number in it, and the blocks count what is kept.
+pub record MaySettle (g : WrittenGroup) (m : ObjectMap) (t : Table) : Type 0 where
+  pub block : g.block < t.geometry.blocks
+  pub fits : (o c i : ℕ) → present_of (look m o c) ≡ presents.InBuffer i → g.first + i < 4294967296
+  pub tallies : Tallies t m
+
+-- Each key that is meant is settled, each other one is settled or stays as it was, and the blocks count what is kept then.
+pub record SettlesWhere (g : WrittenGroup) (Meant : ℕ → ℕ → Type 0) (old new : ObjectMap) (t u : Table) : Type 0 where
+  pub each : (o c : ℕ) → (look new o c ≡ settled g (look old o c)) ⊎ ((look new o c ≡ look old o c) × (Meant o c → ⊥))
+  pub tallies : Tallies u new
+  pub counts : Recounts (λ b. total (counted_at b) old) (λ b. total (counted_at b) new) t u
+
+-- the key is the one
+abbrev pub IsKey : Key → ℕ → ℕ → Type 0
+IsKey k o c = (k.object ≡ o) × (k.chunk ≡ c)
+
+-- the key is of the same object, and of the same chunk or one after it
+abbrev pub IsFrom : Key → ℕ → ℕ → Type 0
+IsFrom k o c = (k.object ≡ o) × (k.chunk ≤ c)
+
+-- every key is meant
+abbrev pub IsAny : ℕ → ℕ → Type 0
+IsAny o c = Unit {0}

@@ -66,7 +66,7 @@ well_none m commands a goes written z s is = record {
 
 module _ {V : Type 0} (m : Meaning V) (commands : List Stamped) (told : List Reply) (c : Stamped) (r : Reply) (a b d : V) (at : slice_get commands (length told) ≡ Some c)
     (same : m.read_only b ≡ m.read_only a) (so_far : GoesSoFar m commands told a b)
-    (one : m.stopped b ≡ false → (z : Sizes) (s : State) → m.stands z s b → DoesOne m z s c r b d) where
+    (one : m.stopped b ≡ false → (z : Sizes) (s : State) → m.stands z s b → DoesOne m z s c r b d) (stops : m.stopped b ≡ false → m.stopped d ≡ is_stop r) where
   module _ (going : m.stopped a ≡ false) (written : m.read_only a ≡ false) (z : Sizes) (s : State) (is : m.stands z s a) where
     was : GoesWell m z s commands told a b
     unfolding GoesSoFar
@@ -89,7 +89,7 @@ module _ {V : Type 0} (m : Meaning V) (commands : List Stamped) (told : List Rep
         does_one.tree does_one.synced (was.losses t shown)
 
     stopped_as : m.stopped d ≡ is_stop r
-    stopped_as = does_one.stops
+    stopped_as = stops was.goes
 
     well_now : m.stopped d ≡ false → GoesWell m z s commands (told ++ r ∷ []) a d
     well_now still =
@@ -121,8 +121,12 @@ module _ {V : Type 0} (m : Meaning V) (commands : List Stamped) (told : List Rep
   well_more still going written z s is = well_now going written z s is still
 
   -- the last, at the stop
-  pub does_stopped : m.stopped d ≡ true → GoesOn (m.pages a) (m.pages d) → Does m commands (told ++ r ∷ []) a d
-  does_stopped stopped goes = record { goes_on = goes; does = λ going written z s is. stopped_now going written z s is stopped }
+  pub does_stopped : m.stopped d ≡ true → GoesOn (m.pages a) (m.pages d) → (m.stopped a ≡ false → m.stopped b ≡ false) → Does m commands (told ++ r ∷ []) a d
+  does_stopped stopped goes still = record {
+    goes_on = goes;
+    begun = λ going. inr (told, ap (λ (x : Reply). told ++ x ∷ []) (stop_is r (sym (stops (still going)) ∙ stopped)));
+    does = λ going written z s is. stopped_now going written z s is stopped;
+  }
 
 -- all commands are done
 pub does_all : {V : Type 0} (m : Meaning V) (commands : List Stamped) (told : List Reply) (a b : V) → length told ≡ length commands
@@ -130,6 +134,7 @@ pub does_all : {V : Type 0} (m : Meaning V) (commands : List Stamped) (told : Li
 unfolding GoesSoFar
 does_all m commands told a b all so_far goes = record {
   goes_on = goes;
+  begun = λ going. inl all;
   does = λ going written z s is.
       let was = so_far going written z s is in
       record {
@@ -163,6 +168,8 @@ module _ {V : Type 0} (m : Meaning V) (commands : List Stamped) (told : List Rep
     left = m.pages b;
     device_is = sym is;
     goes_on = done.goes_on;
+    begun = done.begun;
+    abandoned = λ none. (b, done, is);
     leaves = λ going written z s tree stands shown.
         let does = done.does going written z s stands in
         record {
@@ -248,5 +255,7 @@ module _ {V : Type 0} (m : Meaning V) (commands : List Stamped) (told : List Rep
       left = q;
       device_is = device_is;
       goes_on = goes_on (m.pages a) (m.pages b) q done.goes_on on;
+      begun = done.begun;
+      abandoned = λ none. (let two : Some reply ≡ None = none in absurd cc);
       leaves = λ going written z s tree stands shown. left_from going written z s tree stands shown;
     }

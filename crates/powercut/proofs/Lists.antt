@@ -4,19 +4,15 @@ use Rattle.std.proofs.Common.{refl, sym, ◌∙◌, ap, subst, arith}
 use Rattle.lives.specs.Lives.{SessionRecord}
 use Rattle.powercut.specs.declared.session.Session.{Session}
 use Rattle.powercut.specs.declared.session.SessionEnd.{SessionEnd}
-use Rattle.powercut.specs.Sessions.{record_of, records_of, UnmountAsAsked, UnmountsAsAsked, CutsByFuses, cuts_in}
+use Rattle.powercut.specs.Sessions.{record_of, records_of, IsEnded, AreEnded, cuts_in}
 
 pub no_records : (sessions : List Session) → records_of sessions [] ≡ []
 no_records [] = refl
 no_records (session ∷ sessions) = refl
 
-pub no_unmounts : (sessions : List Session) → UnmountsAsAsked sessions []
-no_unmounts [] = tt
-no_unmounts (session ∷ sessions) = tt
-
-pub no_fuses : (sessions : List Session) → CutsByFuses sessions []
-no_fuses [] = tt
-no_fuses (session ∷ sessions) = tt
+pub none_ended : (sessions : List Session) → AreEnded sessions []
+none_ended [] = tt
+none_ended (session ∷ sessions) = tt
 
 pub records_more : (sessions : List Session) (ends : List SessionEnd) (session : Session) (end : SessionEnd) → slice_get sessions (length ends) ≡ Some session
     → records_of sessions (ends ++ end ∷ []) ≡ records_of sessions ends ++ record_of session end ∷ []
@@ -27,19 +23,12 @@ records_more (s ∷ sessions) [] session end at =
     ap (λ (xs : List SessionRecord). record_of s end ∷ xs) (no_records sessions) ∙ ap (λ (x : Session). record_of x end ∷ []) same
 records_more (s ∷ sessions) (e ∷ ends) session end at = ap (λ (xs : List SessionRecord). record_of s e ∷ xs) (records_more sessions ends session end at)
 
-pub unmounts_more : (sessions : List Session) (ends : List SessionEnd) (session : Session) (end : SessionEnd) → slice_get sessions (length ends) ≡ Some session
-    → UnmountsAsAsked sessions ends → UnmountAsAsked session end → UnmountsAsAsked sessions (ends ++ end ∷ [])
-unmounts_more [] [] session end at all one = tt
-unmounts_more [] (e ∷ ends) session end at all one = tt
-unmounts_more (s ∷ sessions) [] session end at all one = let same : s ≡ session = cc in (subst (λ (x : Session). UnmountAsAsked x end) (sym same) one, no_unmounts sessions)
-unmounts_more (s ∷ sessions) (e ∷ ends) session end at all one = (all.0, unmounts_more sessions ends session end at all.1 one)
-
-pub fuses_more : (sessions : List Session) (ends : List SessionEnd) (session : Session) (end : SessionEnd) → slice_get sessions (length ends) ≡ Some session
-    → CutsByFuses sessions ends → (is_some session.fuse ≡ false → end.cut ≡ false) → CutsByFuses sessions (ends ++ end ∷ [])
-fuses_more [] [] session end at all one = tt
-fuses_more [] (e ∷ ends) session end at all one = tt
-fuses_more (s ∷ sessions) [] session end at all one = let same : s ≡ session = cc in ((λ none. one (ap (λ (x : Session). is_some x.fuse) (sym same) ∙ none)), no_fuses sessions)
-fuses_more (s ∷ sessions) (e ∷ ends) session end at all one = (all.0, fuses_more sessions ends session end at all.1 one)
+pub ended_more : (sessions : List Session) (ends : List SessionEnd) (session : Session) (end : SessionEnd) → slice_get sessions (length ends) ≡ Some session
+    → AreEnded sessions ends → IsEnded session end → AreEnded sessions (ends ++ end ∷ [])
+ended_more [] [] session end at all one = tt
+ended_more [] (e ∷ ends) session end at all one = tt
+ended_more (s ∷ sessions) [] session end at all one = let same : s ≡ session = cc in (subst (λ (x : Session). IsEnded x end) (sym same) one, none_ended sessions)
+ended_more (s ∷ sessions) (e ∷ ends) session end at all one = (all.0, ended_more sessions ends session end at all.1 one)
 
 pub cuts_more : (ends : List SessionEnd) (end : SessionEnd) → cuts_in (ends ++ end ∷ []) ≡ cuts_in ends + (if end.cut then 1 else 0)
 cuts_more [] end = omega arith

@@ -1,6 +1,6 @@
 -- The commands of a session, done one by one up to the end or to the stop, and how the volume is left behind them.
 -- From: this project.
-use Rattle.std.specs.Prelude.{◌≡◌, ◌⊎◌, Bool, true, false, List, length, Option, Some}
+use Rattle.std.specs.Prelude.{◌≡◌, ◌⊎◌, Bool, true, false, List, length, Option, Some, None}
 use Rattle.std.specs.List.{list_any}
 use Rattle.volume_terms.specs.Sizes.{Sizes}
 use Rattle.nand_model.specs.Calls.{Device}
@@ -27,7 +27,6 @@ pub record Meaning (V : Type 0) : Type 1 where
 
 -- What one command answers and leaves, from a state of a volume that goes on.
 pub record DoesOne {V : Type 0} (m : Meaning V) (z : Sizes) (s : State) (stamped : Stamped) (reply : Reply) (a b : V) : Type 0 where
-  pub stops : m.stopped b ≡ is_stop reply
   pub right : Replies z (m.read_only a) s stamped reply
   pub stands : is_stop reply ≡ false → m.stands z (after_one z (m.read_only a) s stamped reply) b
   pub tree : (tree : Objects) → Shown z (m.pages a) tree → Shown z (m.pages b) tree ⊎ Shown z (m.pages b) (settled s.objects)
@@ -45,9 +44,14 @@ pub record DoesCommands {V : Type 0} (m : Meaning V) (z : Sizes) (s : State) (co
   pub cause : m.stopped b ≡ true → HasEnded (m.pages b)
   pub stands : m.stopped b ≡ false → m.stands z (after z false s commands answered) b
 
--- the same of a volume that goes on and is not read-only
+-- all commands are answered, or the last reply is EIO
+abbrev pub AreBegun : List Stamped → List Reply → Type 0
+AreBegun commands answered = (length answered ≡ length commands) ⊎ EndsStopped answered
+
+-- The commands are begun one by one, up to the stop; and of a volume that goes on and is not read-only it is known what they do.
 pub record Does {V : Type 0} (m : Meaning V) (commands : List Stamped) (answered : List Reply) (a b : V) : Type 0 where
   pub goes_on : GoesOn (m.pages a) (m.pages b)
+  pub begun : m.stopped a ≡ false → AreBegun commands answered
   pub does : m.stopped a ≡ false → m.read_only a ≡ false → (z : Sizes) (s : State) → m.stands z s a → DoesCommands m z s commands answered a b
 
 -- From a state and a tree that a mount would show: the replies are right, and all commands are answered unless the last reply is
@@ -61,10 +65,13 @@ pub record LeavesFrom (z : Sizes) (s : State) (tree : Objects) (commands : List 
   pub losses : LossLeaves (Shown z left) tree z false s commands answered
   pub done : unmounted ≡ Some replies.Done → Shown z left (settled_after z false s commands answered (length answered))
 
--- What is done with a volume from its mount on: the commands, and an unmount, or none. Its device is given back.
+-- What is done with a volume from its mount on: the commands, and an unmount, or none. Its device is given back: with no unmount it
+-- is as the commands left it.
 pub record IsUsed {V : Type 0} (m : Meaning V) (v : V) (commands : List Stamped) (answered : List Reply) (unmounted : Option Reply) (device : Device) : Type 0 where
   pub left : PagesState
   pub device_is : left.device ≡ device
   pub goes_on : GoesOn (m.pages v) left
+  pub begun : m.stopped v ≡ false → AreBegun commands answered
+  pub abandoned : unmounted ≡ None → (after : V) × Does m commands answered v after × (device ≡ (m.pages after).device)
   pub leaves : m.stopped v ≡ false → m.read_only v ≡ false → (z : Sizes) (s : State) (tree : Objects) → m.stands z s v → Shown z (m.pages v) tree
       → LeavesFrom z s tree commands answered unmounted left

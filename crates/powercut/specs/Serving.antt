@@ -1,7 +1,9 @@
 -- What is recorded of what was served.
 -- From: this project.
-use Rattle.std.specs.Prelude.{Bool, List, length}
-use Rattle.lives.specs.Lives.{SessionRecord}
+use Rattle.std.specs.Prelude.{◌≡◌, ◌⊎◌, ◌↔◌, Bool, true, List, length, Ok, Err, is_some}
+use Rattle.lives.specs.Lives.{SessionRecord, EndsStopped}
+use Rattle.mounting.specs.declared.fault.MountFault.{MountFault}
+use Rattle.mounting.specs.declared.fault.MountFault.TheVariants as faults
 use Rattle.posix_profile.specs.declared.command.Stamped.{Stamped}
 use Rattle.powercut.specs.Sessions.{answer_of}
 use Rattle.powercut.specs.declared.serving.Served.{Served}
@@ -16,3 +18,11 @@ served_record commands served cut = record {
   unmounted = served.unmounted;
   cut = cut;
 }
+
+-- What is served on any flash, by a device that is gone at the end or not: where the mount was done all commands are answered, unless
+-- the last reply is EIO, and the volume is unmounted exactly as asked; where it was not, nothing is answered.
+pub record IsServed (commands : List Stamped) (unmount gone : Bool) (served : Served) : Type 0 where
+  pub begun : served.mounted ≡ Ok tt → (length served.replies.items ≡ length commands) ⊎ EndsStopped served.replies.items
+  pub none : (fault : MountFault) → served.mounted ≡ Err fault → length served.replies.items ≡ 0
+  pub unmounts : (is_some served.unmounted ≡ true) ↔ ((unmount ≡ true) × (served.mounted ≡ Ok tt))
+  pub gone : served.mounted ≡ Err faults.Gone → gone ≡ true

@@ -1,7 +1,7 @@
 -- Sessions and their ends, as a life tells them.
 -- From: this project.
-use Rattle.std.specs.Prelude.{◌≡◌, ◌↔◌, ℕ, ◌+◌, true, false, List, [], ◌∷◌, Result, Ok, Err, is_some, if◌then◌else◌}
-use Rattle.lives.specs.Lives.{MountAnswer, Mounted, NoMemory, Gone, Faulty, SessionRecord}
+use Rattle.std.specs.Prelude.{◌≡◌, ◌⊎◌, ◌↔◌, ℕ, ◌+◌, true, false, length, List, [], ◌∷◌, Result, Ok, Err, is_some, if◌then◌else◌}
+use Rattle.lives.specs.Lives.{MountAnswer, Mounted, NoMemory, Gone, Faulty, SessionRecord, EndsStopped}
 use Rattle.mounting.specs.declared.fault.MountFault.{MountFault}
 use Rattle.mounting.specs.declared.fault.MountFault.TheVariants as faults
 use Rattle.powercut.specs.declared.session.Session.{Session}
@@ -33,23 +33,28 @@ records_of [] ends = []
 records_of (session ∷ sessions) [] = []
 records_of (session ∷ sessions) (end ∷ ends) = record_of session end ∷ records_of sessions ends
 
--- an unmount is answered exactly where the session asks for it and its mount was done
-abbrev pub UnmountAsAsked : Session → SessionEnd → Type 0
-UnmountAsAsked session end = (is_some end.unmounted ≡ true) ↔ ((session.unmount ≡ true) × (end.mounted ≡ Ok tt))
+-- How a session ends, on any flash.
+pub record IsEnded (session : Session) (end : SessionEnd) : Type 0 where
+  -- each command that was begun has its reply
+  pub replies : end.begun ≡ length end.replies.items
+  -- where the mount was done all commands are begun, unless the last reply is EIO
+  pub begun : end.mounted ≡ Ok tt → (end.begun ≡ length session.commands.items) ⊎ EndsStopped end.replies.items
+  -- where it was not, none is
+  pub none : (fault : MountFault) → end.mounted ≡ Err fault → end.begun ≡ 0
+  -- an unmount is answered exactly where the session asks for it and the mount was done
+  pub unmounts : (is_some end.unmounted ≡ true) ↔ ((session.unmount ≡ true) × (end.mounted ≡ Ok tt))
+  -- where there is no fuse no power is lost
+  pub fuse : is_some session.fuse ≡ false → end.cut ≡ false
+  -- a mount answers Gone only where power is lost
+  pub gone : end.mounted ≡ Err faults.Gone → end.cut ≡ true
 
--- in each session
-abbrev pub UnmountsAsAsked : List Session → List SessionEnd → Type 0
-UnmountsAsAsked [] ends = Unit {0}
-UnmountsAsAsked (session ∷ sessions) [] = Unit {0}
-UnmountsAsAsked (session ∷ sessions) (end ∷ ends) = UnmountAsAsked session end × UnmountsAsAsked sessions ends
+-- so does each session
+abbrev pub AreEnded : List Session → List SessionEnd → Type 0
+AreEnded [] ends = Unit {0}
+AreEnded (session ∷ sessions) [] = Unit {0}
+AreEnded (session ∷ sessions) (end ∷ ends) = IsEnded session end × AreEnded sessions ends
 
 -- in how many sessions power was lost
 abbrev pub cuts_in : List SessionEnd → ℕ
 cuts_in [] = 0
 cuts_in (end ∷ ends) = (if end.cut then 1 else 0) + cuts_in ends
-
--- where a session has no fuse no power is lost in it
-abbrev pub CutsByFuses : List Session → List SessionEnd → Type 0
-CutsByFuses [] ends = Unit {0}
-CutsByFuses (session ∷ sessions) [] = Unit {0}
-CutsByFuses (session ∷ sessions) (end ∷ ends) = (is_some session.fuse ≡ false → end.cut ≡ false) × CutsByFuses sessions ends

@@ -1,6 +1,7 @@
 // The commands of a session, one by one.
 ghost use Rattle.std.specs.Prelude.{◌≡◌, false, IfOk};
 ghost use Rattle.pages.specs.Stores.{GoesOn};
+ghost use Rattle.posix_profile.specs.Runs.{is_stop};
 ghost use Rattle.posix_profile.specs.State.{State};
 ghost use Rattle.powercut.specs.Commands.{Meaning, DoesOne, Does};
 ghost use Rattle.volume_terms.specs.Sizes.{Sizes};
@@ -17,6 +18,7 @@ pub(crate) trait Commanded {
     fn answer(&mut self, stamped: &Stamped) -> Reply
         ensures goes_on { GoesOn (meaning.pages self.old) (meaning.pages self.new) }
         ensures read_only { meaning.read_only self.new ≡ meaning.read_only self.old }
+        ensures stops { meaning.stopped self.old ≡ false → meaning.stopped self.new ≡ is_stop result }
         ensures one { meaning.stopped self.old ≡ false → (z : Sizes) (s : State) → meaning.stands z s self.old → DoesOne meaning z s stamped.now result self.old self.new };
 
     /// Whether it answers EIO to each command.

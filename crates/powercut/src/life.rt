@@ -6,7 +6,7 @@ ghost use Rattle.flash_tree.specs.Sound.{IsSoundFlash};
 ghost use Rattle.lives.specs.Lives.{IsLife};
 ghost use Rattle.pages.specs.Stores.{bad_on};
 ghost use Rattle.posix_profile.specs.State.{Objects};
-ghost use Rattle.powercut.specs.Sessions.{record_of, records_of, UnmountAsAsked, UnmountsAsAsked, CutsByFuses, cuts_in};
+ghost use Rattle.powercut.specs.Sessions.{record_of, records_of, IsEnded, AreEnded, cuts_in};
 ghost use Rattle.powercut.specs.Limits.{StaysWithin};
 ghost use Rattle.powercut.specs.Living.{HasLived};
 
@@ -36,9 +36,8 @@ fn live_one(
     session: &Session,
 ) -> Result<(MemNand, SessionEnd), AllocError>
     ensures lived { IfOk result (λ lived. HasLived (device nand) (device lived.0) (record_of session.now lived.1 ∷ [])) }
-    ensures unmounts { IfOk result (λ lived. UnmountAsAsked session.now lived.1) }
+    ensures ended { IfOk result (λ lived. IsEnded session.now lived.1) }
     ensures cuts { IfOk result (λ lived. (device lived.0).cuts ≡ (device nand).cuts + (if lived.1.cut then 1 else 0)) }
-    ensures fuse { IfOk result (λ lived. is_some session.now.fuse ≡ false → lived.1.cut ≡ false) }
 {
     let nand = power_on(alloc, nand, session)?;
     let (nand, served) = serve(alloc, nand, &session.commands, session.unmount)?;
@@ -71,10 +70,9 @@ pub fn live(
     ensures geometry { IfOk result (λ lived. (device lived.0).geometry ≡ (device nand).geometry) }
     ensures life { IfOk result (λ lived. (spare : ℕ) (tree : Objects) → IsSoundFlash (device nand).geometry (device nand).flash spare tree → StaysWithin spare (device nand) (device lived.0)
         → (last : Objects) × IsLife (sizes_of (device nand).geometry spare) tree (records_of sessions.now lived.1.items) last × IsSoundFlash (device lived.0).geometry (device lived.0).flash spare last) }
-    ensures unmounts { IfOk result (λ lived. UnmountsAsAsked sessions.now lived.1.items) }
+    ensures each { IfOk result (λ lived. AreEnded sessions.now lived.1.items) }
     ensures cuts { IfOk result (λ lived. (device lived.0).cuts ≡ (device nand).cuts + cuts_in lived.1.items) }
     ensures marks { IfOk result (λ lived. bad_on (device lived.0) + (device nand).failures ≤ bad_on (device nand) + (device lived.0).failures) }
-    ensures fuses { IfOk result (λ lived. CutsByFuses sessions.now lived.1.items) }
 {
     let mut last = nand;
     let mut ends = Vec::new(alloc);

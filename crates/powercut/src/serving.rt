@@ -1,11 +1,11 @@
 // What is done between a power-up and the end of a session, on any device.
-ghost use Rattle.std.specs.Prelude.{◌≡◌, ◌↔◌, true, false, [], ◌∷◌, length, Ok, is_some, IfOk};
+ghost use Rattle.std.specs.Prelude.{◌≡◌, true, false, [], ◌∷◌, length, is_some, IfOk};
 ghost use Rattle.nand_model.specs.Calls.{Lasts};
 ghost use Rattle.page_volume.specs.Volumes.{pages_of, is_read_only, is_stopped, IsVolumeOf};
 ghost use Rattle.posix_calls.specs.Volumes.{over_pages};
 ghost use Rattle.powercut.specs.Commands.{IsUsed};
 ghost use Rattle.powercut.specs.Living.{HasLived};
-ghost use Rattle.powercut.specs.Serving.{served_record};
+ghost use Rattle.powercut.specs.Serving.{served_record, IsServed};
 
 use crate::commands::{Commanded, do_commands};
 use flash_pages::FlashPages;
@@ -69,7 +69,7 @@ pub(crate) fn serve<N: Nand + Drop>(
     ensures lasts { IfOk result (λ r. Lasts (N.state device) (N.state r.0)) }
     ensures lived { (N.state device).gone ≡ false → (N.state device).honest ≡ true
         → IfOk result (λ r. HasLived (N.state device) (N.state r.0) (served_record commands.now r.1 (N.state r.0).gone ∷ [])) }
-    ensures unmounts { IfOk result (λ r. (is_some r.1.unmounted ≡ true) ↔ ((unmount ≡ true) × (r.1.mounted ≡ Ok tt))) }
+    ensures served { IfOk result (λ r. IsServed commands.now unmount (N.state r.0).gone r.1) }
 {
     a_flash_has_one_answer_at_most();
     match Volume::mount(alloc, device) {

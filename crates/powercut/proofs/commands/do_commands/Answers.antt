@@ -16,6 +16,7 @@ loop-stamped-init g c =
       count = ap (λ (rs : List Reply). length rs) none;
       goes_on = goes_here (m.pages c.args.volume.now);
       read_only = refl;
+      still = λ going. going;
       does = subst (λ (rs : List Reply). GoesSoFar m c.args.commands.now rs c.args.volume.now c.args.volume.now) (sym none) (well_none m c.args.commands.now c.args.volume.now);
     }
 
@@ -34,8 +35,9 @@ loop-stamped-preserved g c =
       count = let more : length c.push.new.self.items ≡ length told + 1 = ap (λ (rs : List Reply). length rs) pushed ∙ length_push told reply in more ∙ ap (λ n. n + 1) was.count;
       goes_on = goes_on (m.pages c.args.volume.now) (m.pages c.loop-stamped.volume) (m.pages c.answer-reply.new.self) was.goes_on c.answer-reply.ensures.goes_on;
       read_only = c.answer-reply.ensures.read_only ∙ was.read_only;
+      still = λ _. sym c.is_stopped.ensures ∙ c.if-is_stopped.false;
       does = subst (λ (rs : List Reply). GoesSoFar m commands rs c.args.volume.now c.answer-reply.new.self) (sym pushed)
-          (well_more m commands told stamped reply c.args.volume.now c.loop-stamped.volume c.answer-reply.new.self at was.read_only was.does c.answer-reply.ensures.one
+          (well_more m commands told stamped reply c.args.volume.now c.loop-stamped.volume c.answer-reply.new.self at was.read_only was.does c.answer-reply.ensures.one c.answer-reply.ensures.stops
           (sym c.is_stopped.ensures ∙ c.if-is_stopped.false));
     }
 
@@ -51,9 +53,9 @@ returns-then-is_stopped g c =
     let at : slice_get commands (length told) ≡ Some stamped = ap (slice_get commands) was.count ∙ at_index commands c.loop-stamped.stamped-index stamped lt c.stamped-item.is in
     let pushed : c.push.new.self.items ≡ told ++ reply ∷ [] = c.in_ok-push.ensures.items ∙ ap (λ (rs : List Reply). rs ++ reply ∷ []) c.reserve.ensures.items in
     subst (λ (rs : List Reply). Does m commands rs c.args.volume.now c.answer-reply.new.self) (sym pushed)
-    (does_stopped m commands told stamped reply c.args.volume.now c.loop-stamped.volume c.answer-reply.new.self at was.read_only was.does c.answer-reply.ensures.one
+    (does_stopped m commands told stamped reply c.args.volume.now c.loop-stamped.volume c.answer-reply.new.self at was.read_only was.does c.answer-reply.ensures.one c.answer-reply.ensures.stops
     (sym c.is_stopped.ensures ∙ c.if-is_stopped.true)
-    (goes_on (m.pages c.args.volume.now) (m.pages c.loop-stamped.volume) (m.pages c.answer-reply.new.self) was.goes_on c.answer-reply.ensures.goes_on))
+    (goes_on (m.pages c.args.volume.now) (m.pages c.loop-stamped.volume) (m.pages c.answer-reply.new.self) was.goes_on c.answer-reply.ensures.goes_on) was.still)
 
 pub returns : goal.returns
 returns g c =

@@ -4,9 +4,9 @@ use Rattle.std.proofs.lemmas.List.{length_push}
 use Rattle.nand_model.specs.MemoryState.{device}
 use Rattle.lives.specs.Lives.{SessionRecord}
 use Rattle.powercut.specs.Living.{HasLived}
-use Rattle.powercut.specs.Sessions.{record_of, records_of, UnmountsAsAsked, CutsByFuses, cuts_in}
+use Rattle.powercut.specs.Sessions.{record_of, records_of, AreEnded, cuts_in}
 use Rattle.powercut.specs.declared.session.SessionEnd.{SessionEnd}
-use Rattle.powercut.proofs.Lists.{no_records, no_unmounts, no_fuses, records_more, unmounts_more, fuses_more, cuts_more, at_index}
+use Rattle.powercut.proofs.Lists.{no_records, none_ended, records_more, ended_more, cuts_more, at_index}
 use Rattle.powercut.proofs.Living.{lived_here, lived_on}
 use Rattle.powercut.proofs.life.live.Goals as goal
 
@@ -18,9 +18,8 @@ loop-session-init c =
       count = ap (λ (ends : List SessionEnd). length ends) none;
       lived = subst (λ (ends : List SessionEnd). HasLived (device c.args.nand) (device c.args.nand) (records_of sessions ends)) (sym none)
           (subst (λ (rs : List SessionRecord). HasLived (device c.args.nand) (device c.args.nand) rs) (sym (no_records sessions)) (lived_here (device c.args.nand)));
-      unmounts = subst (λ (ends : List SessionEnd). UnmountsAsAsked sessions ends) (sym none) (no_unmounts sessions);
+      ended = subst (λ (ends : List SessionEnd). AreEnded sessions ends) (sym none) (none_ended sessions);
       cuts = let zero : cuts_in c.new-ends.result.items ≡ 0 = ap cuts_in none in omega (arith, zero);
-      fuses = subst (λ (ends : List SessionEnd). CutsByFuses sessions ends) (sym none) (no_fuses sessions);
     }
 
 pub loop-session-preserved : goal.loop-session-preserved
@@ -39,7 +38,6 @@ loop-session-preserved c =
       count = let more : length c.push.new.self.items ≡ length ends + 1 = ap (λ (xs : List SessionEnd). length xs) pushed ∙ length_push ends end in more ∙ ap (λ n. n + 1) was.count;
       lived = subst (λ (xs : List SessionEnd). HasLived (device c.args.nand) (device c.in_ok-after.after) (records_of sessions xs)) (sym pushed)
           (subst (λ (rs : List SessionRecord). HasLived (device c.args.nand) (device c.in_ok-after.after) rs) (sym (records_more sessions ends session end at)) both);
-      unmounts = subst (λ (xs : List SessionEnd). UnmountsAsAsked sessions xs) (sym pushed) (unmounts_more sessions ends session end at was.unmounts one.unmounts);
+      ended = subst (λ (xs : List SessionEnd). AreEnded sessions xs) (sym pushed) (ended_more sessions ends session end at was.ended one.ended);
       cuts = let all : cuts_in c.push.new.self.items ≡ cuts_in (ends ++ end ∷ []) = ap cuts_in pushed in omega (arith, all, cuts_more ends end, was.cuts, one.cuts);
-      fuses = subst (λ (xs : List SessionEnd). CutsByFuses sessions xs) (sym pushed) (fuses_more sessions ends session end at was.fuses one.fuse);
     }

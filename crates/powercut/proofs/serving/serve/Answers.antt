@@ -1,3 +1,8 @@
+use Rattle.std.specs.Prelude.{◌≡◌, List, length, Ok, Err}
+use Rattle.std.proofs.Common.{refl, ◌∙◌, sym, ap, subst}
+use Rattle.posix_profile.specs.declared.reply.Reply.{Reply}
+use Rattle.mounting.specs.Faults.{WhyNotMounted}
+use Rattle.mounting.specs.declared.fault.MountFault.TheVariants as faults
 use Rattle.powercut.proofs.FailedMount.{failed_lived, of_no_replies}
 use Rattle.powercut.proofs.InPower.{used_lasts, used_lived}
 use Rattle.powercut.proofs.Standing.{stands_there}
@@ -17,3 +22,25 @@ pub returns-in-Err-clause-lived : goal.returns-in-Err-clause-lived
 returns-in-Err-clause-lived g c = λ power honest.
     of_no_replies _ _ c.args.commands.now _ _ c.new.result.items c.new.ensures.items
     (failed_lived c.a_flash_has_one_answer_at_most.ensures _ _ c.args.commands.now honest c.in-Err.ensures.back c.in-Err.fault c.in-Err.ensures.fault)
+
+pub returns-in_ok-device-in-Ok-clause-served : goal.returns-in_ok-device-in-Ok-clause-served
+returns-in_ok-device-in-Ok-clause-served g c =
+    let used = c.in_ok-device-in-Ok.ensures.used in
+    let asked = c.in_ok-device-in-Ok.ensures.unmounts in
+    record {
+      begun = λ _. used.begun c.in-Ok.ensures.goes_on;
+      none = λ fault is. absurd cc;
+      unmounts = (λ some. (sym asked ∙ some, refl), λ both. asked ∙ both.0);
+      gone = λ is. absurd cc;
+    }
+
+pub returns-in-Err-clause-served : goal.returns-in-Err-clause-served
+returns-in-Err-clause-served g c =
+    record {
+      begun = λ is. absurd cc;
+      none = λ fault is. ap (λ (rs : List Reply). length rs) c.new.ensures.items;
+      unmounts = (λ some. absurd cc, λ both. let two : Err c.in-Err.fault ≡ Ok tt = both.1 in absurd cc);
+      gone = λ is.
+          let same : c.in-Err.fault ≡ faults.Gone = cc in
+          subst (WhyNotMounted (g.N.Nand.state c.in-Err.device)) same c.in-Err.ensures.fault;
+    }

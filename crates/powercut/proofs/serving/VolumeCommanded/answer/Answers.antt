@@ -2,7 +2,6 @@ use Rattle.powercut.proofs.serving.VolumeCommanded.answer.Goals as goal
 
 pub returns-clause-one : goal.returns-clause-one
 returns-clause-one g c = λ goes z s stands. record {
-  stops = c.call.ensures.stops goes;
   right = c.call.ensures.replies goes z s stands;
   stands = c.call.ensures.state goes z s stands;
   tree = c.call.ensures.tree goes z s stands;

@@ -10,7 +10,7 @@ use Rattle.chunk_index.specs.declared.entry.KeyEntry.{KeyEntry}
 use Rattle.chunk_index.specs.declared.object.ObjectEntries.{ObjectEntries}
 use Rattle.chunk_index.specs.declared.form.Form.{Form}
 use Rattle.chunk_index.specs.declared.form.Form.TheVariants as forms
-use Rattle.chunk_index.specs.Entries.{state_of, is_same_state, same_of, is_same, changed, weight, weigh}
+use Rattle.chunk_index.specs.Entries.{state_of, is_same_state, same_of, is_same, weight, weigh}
 use Rattle.chunk_index.specs.Shelves.{ObjectMap, look, total, AltersKey, SameEntries, IsListed}
 use Rattle.chunk_index.proofs.Shelving.{look_chunk}
 use Rattle.chunk_index.proofs.Counting.{less_than_all, two_sums}

@@ -12,7 +12,7 @@ use Rattle.chunk_index.specs.declared.entry.KeyEntry.{KeyEntry}
 use Rattle.chunk_index.specs.declared.entry.State.TheVariants as states
 use Rattle.chunk_index.specs.declared.form.Present.TheVariants as presents
 use Rattle.chunk_index.specs.Lists.{find_by, Rises}
-use Rattle.chunk_index.specs.Entries.{chunk, is_same, same_of, kept_of, present_of, changed, weight, weigh, one_at, counted_at}
+use Rattle.chunk_index.specs.Entries.{chunk, is_same, same_of, kept_of, present_of, weight, weigh, one_at, counted_at}
 use Rattle.chunk_index.specs.Counts.{Recounts, HasCounted}
 use Rattle.chunk_index.specs.Retained.{forgotten, retained, retained_told, retained_of}
 use Rattle.chunk_index.proofs.Finding.{find_absent}

@@ -2,8 +2,6 @@
 use Rattle.std.proofs.Common.{◌≡◌, ◌⊎◌, ℕ, ◌+◌, ◌-◌, ◌<◌, ◌≤◌, List, [], ◌∷◌, ◌++◌, length, get_or, Bool, Option, Some, None, Result, Ok, Err, IsOk, is_ok, if◌then◌else◌, true, false, refl, sym, ap, subst, ◌∙◌, arith, inl, inr}
 use mathlib.Core.Bool.{false≢true}
 use mathlib.Core.Logic.{∥∥₁_elim}
-use Rattle.std.specs.Ordering.{nat_cmp}
-use Rattle.std.specs.BTreeMap.{get}
 use Rattle.std.proofs.lemmas.Bool.{cases_eq, cases_lt, cases_Bool}
 use Rattle.std.proofs.lemmas.List.{length-append, get_or_append_left, get_or-append_right}
 use Rattle.flash_tree.specs.declared.place.Key.{Key}
@@ -13,10 +11,9 @@ use Rattle.chunk_index.specs.declared.form.Present.TheVariants as presents
 use Rattle.chunk_index.specs.declared.entry.KeyEntry.{KeyEntry}
 use Rattle.chunk_index.specs.declared.entry.State.{State}
 use Rattle.chunk_index.specs.declared.entry.State.TheVariants as states
-use Rattle.chunk_index.specs.declared.changes.ChangeList.{ChangeList}
 use Rattle.chunk_index.specs.Lists.{IsBelow}
 use Rattle.chunk_index.specs.Entries.{chunk, settled, settled_by, same_of, present_of, present_by, as_kept, counted_at, written_page}
-use Rattle.chunk_index.specs.Shelves.{ObjectMap, look, total, Differs, AltersKey, SameEntries, IsListed, IsLastFrom, IsAfterNumber, IsNextObject}
+use Rattle.chunk_index.specs.Shelves.{ObjectMap, look, total, AltersKey, SameEntries, IsListed, IsLastFrom, IsAfterNumber, IsNextObject}
 use Rattle.chunk_index.specs.Counts.{Recounts, Tallies}
 use Rattle.chunk_index.specs.Settled.{MaySettle, SettlesWhere, IsKey, IsFrom, IsAny}
 use Rattle.chunk_index.specs.Noted.{IsCut, IsNotedBy}

@@ -1,19 +1,12 @@
 -- What a change of one entry does to what an index tells.
-use Rattle.std.proofs.Common.{◌≡◌, ℕ, ◌+◌, ◌-◌, ◌<◌, ◌≤◌, List, [], ◌∷◌, ◌++◌, length, get_or, Bool, true, false, Option, Some, None, Result, Ok, Err, IsSome, IsOk, is_ok, OnOk, OnErr, if◌then◌else◌, refl, sym, ap, subst, ◌∙◌, arith, inl, inr}
-use mathlib.Core.Bool.{false≢true}
-use mathlib.Core.Logic.{∥∥₁_elim}
-use Rattle.std.specs.BTreeMap.{values}
+use Rattle.std.proofs.Common.{◌≡◌, ℕ, false, Option, Some, None, Result, Ok, Err, IsSome, OnOk, OnErr, refl, sym, ap, subst, ◌∙◌, arith, inl, inr}
 use Rattle.std.proofs.lemmas.Bool.{cases_eq}
-use Rattle.std.proofs.lemmas.List.{length-append, get_or_append_left, get_or-append_right}
-use Rattle.flash_tree.specs.declared.place.Key.{Key}
 use Rattle.chunk_index.specs.declared.entry.KeyEntry.{KeyEntry}
-use Rattle.chunk_index.specs.declared.object.ObjectEntries.{ObjectEntries}
 use Rattle.chunk_index.specs.declared.form.Form.{Form}
 use Rattle.chunk_index.specs.declared.form.Form.TheVariants as forms
-use Rattle.chunk_index.specs.Entries.{state_of, is_same_state, same_of, is_same, changed, weight, weigh}
-use Rattle.chunk_index.specs.Shelves.{ObjectMap, look, total, AltersKey, SameEntries, IsListed}
+use Rattle.chunk_index.specs.Entries.{state_of, is_same_state, same_of, weight}
+use Rattle.chunk_index.specs.Shelves.{ObjectMap, look, total, AltersKey, SameEntries}
 use Rattle.chunk_index.proofs.Shelving.{look_chunk}
-use Rattle.chunk_index.proofs.Counting.{less_than_all, two_sums}
 
 -- the entry that is put is of the key
 pub at_chunk : (m n : ObjectMap) (o c : ℕ) (e new : KeyEntry) → look m o c ≡ Some e → new.chunk ≡ e.chunk → AltersKey o new.chunk (Some new) m n → AltersKey o c (Some new) m n

@@ -2,8 +2,6 @@
 use Rattle.std.proofs.Common.{◌≡◌, ◌⊎◌, ℕ, ◌+◌, ◌-◌, ◌<◌, ◌≤◌, List, [], ◌∷◌, ◌++◌, length, get_or, Bool, Option, Some, None, Result, Ok, Err, IsOk, is_ok, if◌then◌else◌, true, false, refl, sym, ap, subst, ◌∙◌, arith, inl, inr}
 use mathlib.Core.Bool.{false≢true}
 use mathlib.Core.Logic.{∥∥₁_elim}
-use Rattle.std.specs.Ordering.{nat_cmp}
-use Rattle.std.specs.BTreeMap.{get}
 use Rattle.std.proofs.lemmas.Bool.{cases_eq, cases_lt, cases_Bool}
 use Rattle.std.proofs.lemmas.List.{length-append, get_or_append_left, get_or-append_right}
 use Rattle.flash_tree.specs.declared.place.Key.{Key}
@@ -13,16 +11,15 @@ use Rattle.chunk_index.specs.declared.form.Present.TheVariants as presents
 use Rattle.chunk_index.specs.declared.entry.KeyEntry.{KeyEntry}
 use Rattle.chunk_index.specs.declared.entry.State.{State}
 use Rattle.chunk_index.specs.declared.entry.State.TheVariants as states
-use Rattle.chunk_index.specs.declared.changes.ChangeList.{ChangeList}
 use Rattle.chunk_index.specs.Lists.{IsBelow}
 use Rattle.chunk_index.specs.Entries.{chunk, settled, settled_by, same_of, present_of, present_by, as_kept, counted_at, written_page}
-use Rattle.chunk_index.specs.Shelves.{ObjectMap, look, total, Differs, AltersKey, IsListed, IsLastFrom, IsAfterNumber, IsNextObject}
+use Rattle.chunk_index.specs.Shelves.{ObjectMap, look, total, AltersKey, SameEntries, IsListed, IsLastFrom, IsAfterNumber, IsNextObject}
 use Rattle.chunk_index.specs.Counts.{Recounts, Tallies}
 use Rattle.chunk_index.specs.Settled.{MaySettle, SettlesWhere, IsKey, IsFrom, IsAny}
 use Rattle.chunk_index.specs.Noted.{IsCut, IsNotedBy}
 use Rattle.chunk_index.proofs.Counting.{recounts_on, recounts_here}
 use Rattle.chunk_index.proofs.Settling.{settled_twice, settled_same}
-use Rattle.chunk_index.proofs.Staying.{after_or_not, none_told}
+use Rattle.chunk_index.proofs.Staying.{after_or_not, none_told, tallies_then_same, counts_then_same}
 use Rattle.chunk_index.proofs.Cutting.{below_or_not}
 
 -- no key
@@ -66,6 +63,14 @@ where_then g P Q R old mid new t u v one two meant = record {
 -- fewer keys that are meant
 pub where_fewer : (g : WrittenGroup) (P R : ℕ → ℕ → Type 0) (old new : ObjectMap) (t u : Table) → SettlesWhere g P old new t u → ((o c : ℕ) → R o c → P o c ⊎ (look new o c ≡ None)) → SettlesWhere g R old new t u
 where_fewer g P R old new t u was meant = where_then g P IsNone R old new new t u u was (where_none g IsNone new u (λ o c is. is) was.tallies) (λ o c is. elim (meant o c is) [ inl p ↦ inl p | inr n ↦ inr (inr n) ])
+
+-- the same entries after
+pub where_same : (g : WrittenGroup) (P : ℕ → ℕ → Type 0) (old mid new : ObjectMap) (t u : Table) → SettlesWhere g P old mid t u → SameEntries mid new → SettlesWhere g P old new t u
+where_same g P old mid new t u was same = record {
+  each = λ o c. elim (was.each o c) [ inl done ↦ inl (same.looks o c ∙ done) | inr (stays, none) ↦ inr (same.looks o c ∙ stays, none) ];
+  tallies = tallies_then_same u mid new was.tallies same;
+  counts = counts_then_same t u old mid new was.counts same;
+}
 
 -- one key
 pub where_key : (g : WrittenGroup) (k : Key) (m n : ObjectMap) (t u : Table) → AltersKey k.object k.chunk (settled g (look m k.object k.chunk)) m n → Tallies u n
@@ -257,6 +262,16 @@ module _ (keys cuts : List Key) (all : Bool) (k : Key) (new : List Key) where
 -- the same lists note the same keys
 pub notes_same : (keys cuts new gone : List Key) (all : Bool) → new ≡ keys → gone ≡ cuts → (o c : ℕ) → ∥ IsNotedBy keys cuts all o c ∥₁ → ∥ IsNotedBy new gone all o c ∥₁
 notes_same keys cuts new gone all one two o c noted = subst (λ ks. ∥ IsNotedBy ks gone all o c ∥₁) (sym one) (subst (λ ks. ∥ IsNotedBy keys ks all o c ∥₁) (sym two) noted)
+
+-- empty lists note none
+pub none_noted : (keys cuts : List Key) (all : Bool) → keys ≡ [] → cuts ≡ [] → all ≡ false → (o c : ℕ) → IsNotedBy keys cuts all o c → ⊥
+none_noted keys cuts all one two three o c noted = elim noted [
+  | inl at ↦ let lt : at.0 < length keys = at.1 in let none : length keys ≡ 0 = ap length one in omega (arith, lt, none)
+  | inr r ↦ elim r [
+    | inl at ↦ let lt : at.0 < length cuts = at.1 in let none : length cuts ≡ 0 = ap length two in omega (arith, lt, none)
+    | inr is ↦ false≢true (sym three ∙ is)
+  ]
+]
 
 -- once all keys are noted, each is
 pub all_noted : (keys cuts : List Key) (o c : ℕ) → ∥ IsNotedBy keys cuts true o c ∥₁

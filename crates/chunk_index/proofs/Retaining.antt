@@ -1,5 +1,5 @@
 -- What is told of the keys of an object, and what is counted, where only some of its entries stay.
-use Rattle.std.proofs.Common.{◌≡◌, ◌≢◌, ℕ, zero, suc, ◌+◌, ◌<◌, ◌≤◌, List, [], ◌∷◌, ◌++◌, length, get_or, take, set, Bool, true, false, Option, Some, None, if◌then◌else◌, refl, sym, ap, subst, ◌∙◌, arith, inl, inr}
+use Rattle.std.proofs.Common.{◌≡◌, ◌≢◌, ℕ, zero, suc, ◌+◌, ◌<◌, ◌≤◌, List, [], ◌∷◌, ◌++◌, length, get_or, take, set, Bool, true, false, Option, Some, None, refl, sym, ap, subst, ◌∙◌, arith, inl, inr}
 use mathlib.Core.Bool.{false≢true}
 use Rattle.std.specs.List.{cons_option}
 use Rattle.std.proofs.lemmas.Bool.{cases_eq}
@@ -12,7 +12,7 @@ use Rattle.chunk_index.specs.declared.entry.KeyEntry.{KeyEntry}
 use Rattle.chunk_index.specs.declared.entry.State.TheVariants as states
 use Rattle.chunk_index.specs.declared.form.Present.TheVariants as presents
 use Rattle.chunk_index.specs.Lists.{find_by, Rises}
-use Rattle.chunk_index.specs.Entries.{chunk, is_same, same_of, kept_of, present_of, changed, weight, weigh, one_at, counted_at}
+use Rattle.chunk_index.specs.Entries.{chunk, is_same, same_of, kept_of, present_of, weigh, one_at, counted_at}
 use Rattle.chunk_index.specs.Counts.{Recounts, HasCounted}
 use Rattle.chunk_index.specs.Retained.{forgotten, retained, retained_told, retained_of}
 use Rattle.chunk_index.proofs.Finding.{find_absent}

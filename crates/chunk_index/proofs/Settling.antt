@@ -1,9 +1,6 @@
 -- The settling of one key after another.
-use Rattle.std.proofs.Common.{◌≡◌, ◌⊎◌, ℕ, ◌+◌, ◌<◌, ◌≤◌, List, length, get_or, Option, Some, None, true, false, IfSome, refl, sym, ap, subst, ◌∙◌, arith, inl, inr}
+use Rattle.std.proofs.Common.{◌≡◌, ℕ, ◌+◌, ◌<◌, Option, Some, None, true, IfSome, refl, sym, ap, subst, ◌∙◌}
 use mathlib.Core.Bool.{false≢true}
-use mathlib.Core.Logic.{∥∥₁_elim}
-use Rattle.std.proofs.lemmas.Bool.{cases_eq, cases_Bool}
-use Rattle.flash_tree.specs.declared.place.Key.{Key}
 use Rattle.chunk_index.specs.declared.form.WrittenGroup.{WrittenGroup}
 use Rattle.chunk_index.specs.declared.form.KeptPage.{KeptPage}
 use Rattle.chunk_index.specs.declared.form.Present.TheVariants as presents
@@ -12,7 +9,7 @@ use Rattle.chunk_index.specs.declared.entry.State.{State}
 use Rattle.chunk_index.specs.declared.entry.State.TheVariants as states
 use Rattle.block_state.specs.Table.{Table}
 use Rattle.chunk_index.specs.Entries.{settled, settled_by, same_of, present_of, present_by, kept_of, one_at, HasPage}
-use Rattle.chunk_index.specs.Shelves.{ObjectMap, look, total, Differs, AltersKey, IsListed}
+use Rattle.chunk_index.specs.Shelves.{ObjectMap, look, total, AltersKey}
 use Rattle.chunk_index.specs.Counts.{Recounts, HasRoom, Tallies}
 use Rattle.chunk_index.proofs.Counting.{room_for, room_block}
 

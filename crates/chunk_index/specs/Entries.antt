@@ -107,10 +107,6 @@ one_at p b = option_map_or (λ q. if q.block == b then 1 else 0) p 0
 abbrev pub counted_at : ℕ → KeyEntry → ℕ
 counted_at b e = one_at e.kept b
 
--- 1 for an entry whose present page is not the kept one, and else 0
-abbrev pub changed : KeyEntry → ℕ
-changed e = if is_same e then 0 else 1
-
 -- what an entry adds; no entry adds nothing
 abbrev pub weight : (KeyEntry → ℕ) → Option KeyEntry → ℕ
 weight f m = option_map_or f m 0

@@ -16,6 +16,10 @@ IsNotedBy keys cuts all o c = IsListed keys o c ⊎ IsCut cuts o c ⊎ (all ≡ 
 abbrev pub IsNoted : ChangeList → ℕ → ℕ → Type 0
 IsNoted x = IsNotedBy x.keys.items x.cuts.items x.has_all
 
+-- no key is noted
+abbrev pub NotesNone : ChangeList → Type 0
+NotesNone x = (o c : ℕ) → IsNoted x o c → ⊥
+
 -- what was noted still is
 abbrev pub KeepsNotes : ChangeList → ChangeList → Type 0
 KeepsNotes old new = (o c : ℕ) → ∥ IsNoted old o c ∥₁ → ∥ IsNoted new o c ∥₁

@@ -1,6 +1,6 @@
 // The keys whose present page may not be the kept one.
 ghost use Rattle.std.specs.Prelude.{◌≡◌, ◌≤◌, ℕ, true};
-ghost use Rattle.chunk_index.specs.Noted.{IsNoted, KeepsNotes};
+ghost use Rattle.chunk_index.specs.Noted.{IsNoted, KeepsNotes, NotesNone};
 
 use flash_tree::Key;
 use std::alloc::{AllocError, Global};
@@ -20,7 +20,9 @@ pub struct ChangeList {
 
 impl ChangeList {
     /// No key is noted.
-    pub fn new(alloc: Global) -> ChangeList {
+    pub fn new(alloc: Global) -> ChangeList
+        ensures { NotesNone result }
+    {
         ChangeList {
             keys: Vec::new(alloc),
             cuts: Vec::new(alloc),
@@ -61,7 +63,9 @@ impl ChangeList {
     }
 
     /// Notes no key any more.
-    pub fn clear(&mut self) {
+    pub fn clear(&mut self)
+        ensures { NotesNone self.new }
+    {
         self.keys.clear();
         self.cuts.clear();
         self.has_all = false;

@@ -2,7 +2,7 @@
 ghost use Rattle.std.specs.Prelude.{◌≡◌, ◌≢◌, ◌<◌, ◌≤◌, ◌+◌, ◌^◌, ℕ, true, false, length, vec_capacity, None, Some, OnOk, OnErr, IsOk, IsSome};
 ghost use Rattle.block_state.specs.Table.{Table};
 ghost use Rattle.block_state.specs.TableOf.{table};
-ghost use Rattle.chunk_index.specs.Entries.{same_of, is_same, changed, with_state, with_kept, kept_at, state_of, HasSmallBlock};
+ghost use Rattle.chunk_index.specs.Entries.{same_of, is_same, with_state, with_kept, kept_at, state_of, HasSmallBlock};
 ghost use Rattle.chunk_index.specs.Noted.{IsNoted};
 ghost use Rattle.chunk_index.specs.Shelves.{look, total, Differs, AltersKey, SameEntries};
 ghost use Rattle.chunk_index.specs.Counts.{Recounts};

@@ -68,6 +68,15 @@ impl ObjectEntries {
         self.entries.reserve_exact(count)
     }
 
+    /// Gives room back, where less than a quarter of it is taken.
+    pub fn shrink(&mut self)
+        ensures { self.new.entries.items ≡ self.old.entries.items }
+    {
+        if self.entries.len() < self.entries.capacity() / 4 {
+            self.entries.shrink_to_fit();
+        }
+    }
+
     /// Puts an entry in place of that of its chunk.
     pub fn set(&mut self, entry: KeyEntry)
         requires here { IsSome (find_by chunk self.old.entries.items entry.chunk) }

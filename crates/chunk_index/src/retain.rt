@@ -1,7 +1,7 @@
 // The keys that stay, and the end of all others.
 ghost use Rattle.std.specs.Prelude.{◌≡◌, ◌<◌, ◌≤◌, ◌+◌, ℕ, length, IfSome};
 ghost use Rattle.block_state.specs.TableOf.{table};
-ghost use Rattle.chunk_index.specs.Entries.{kept_of, one_at, counted_at, changed, weigh, HasSmallBlock};
+ghost use Rattle.chunk_index.specs.Entries.{kept_of, one_at, counted_at, weigh, HasSmallBlock};
 ghost use Rattle.chunk_index.specs.Shelves.{look, total, IsNextObject};
 ghost use Rattle.chunk_index.specs.Counts.{Recounts, HasCounted, Tallies};
 ghost use Rattle.chunk_index.specs.Retained.{retained, retained_told, retained_of, RetainsObject};

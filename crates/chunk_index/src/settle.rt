@@ -96,7 +96,8 @@ impl Shelf {
         }
     }
 
-    /// Settles the keys of an object from a chunk on, the last one first, so that no entry that stays is moved.
+    /// Settles the keys of an object from a chunk on, the last one first, so that no entry that stays is moved, and gives
+    /// back the room of those that go.
     fn settle_from(&mut self, from: Key, group: WrittenGroup, blocks: &mut Blocks)
         requires { MaySettle group self.old.objects (table blocks.old) }
         ensures { SettlesWhere group (IsFrom from) self.old.objects self.new.objects (table blocks.old) (table blocks.new) }
@@ -111,6 +112,7 @@ impl Shelf {
             self.settle_key(key, group, blocks);
             bound = Some(chunk);
         }
+        self.shrink(from.object);
     }
 
     /// Settles one key.

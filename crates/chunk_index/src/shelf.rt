@@ -114,6 +114,16 @@ impl Shelf {
         }
     }
 
+    /// Gives back room that the entries of an object no longer take. No key gets or loses an entry.
+    pub fn shrink(&mut self, object: u64)
+        ensures { SameEntries self.old.objects self.new.objects }
+    {
+        match self.objects.get_mut(&object) {
+            Some(entries) => entries.shrink(),
+            None => {}
+        }
+    }
+
     /// Sees that an object is here. No key gets or loses an entry.
     fn prepare_object(&mut self, object: u64) -> Result<(), AllocError>
         ensures same { SameEntries self.old.objects self.new.objects }

@@ -1,4 +1,4 @@
-use Rattle.std.proofs.Common.{arith, ◌≡◌, ◌++◌, ◌∷◌, []}
+use Rattle.std.proofs.Common.{arith}
 use Rattle.chunk_index.proofs.Noting.{pushed, key_keeps, key_noted}
 use Rattle.chunk_index.proofs.changes.ChangeList.note.Goals as goal
 

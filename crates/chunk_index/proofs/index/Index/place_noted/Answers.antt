@@ -1,4 +1,4 @@
-use Rattle.std.proofs.Common.{sym, ap, ◌∙◌, refl}
+use Rattle.std.proofs.Common.{refl}
 use Rattle.chunk_index.proofs.Mapping.{at_chunk, there_at, noted_after}
 use Rattle.chunk_index.specs.Noted.{IsNoted}
 use Rattle.chunk_index.proofs.index.Index.place_noted.Goals as goal

@@ -1,4 +1,4 @@
-use Rattle.std.proofs.Common.{◌⊎◌, inl, inr, sym, subst}
+use Rattle.std.proofs.Common.{◌⊎◌, inl, inr, subst}
 use Rattle.block_state.specs.TableOf.{table}
 use Rattle.chunk_index.specs.Shelves.{IsListed}
 use Rattle.chunk_index.specs.Settled.{SettlesWhere}

@@ -1,7 +1,7 @@
 use Rattle.std.proofs.Common.{None, Some}
 use Rattle.flash_tree.specs.declared.place.Key.{Key}
 use Rattle.chunk_index.specs.Settled.{IsKey, IsFrom}
-use Rattle.chunk_index.proofs.Noting.{IsFromBound, from_none, from_more, from_all, where_none, where_then, where_fewer, may_after}
+use Rattle.chunk_index.proofs.Noting.{IsFromBound, from_none, from_more, from_all, where_none, where_then, where_fewer, where_same, may_after}
 use Rattle.chunk_index.proofs.shelf.Shelf.settle_from.Goals as goal
 
 pub loop-entry-init : goal.loop-entry-init
@@ -17,4 +17,6 @@ loop-entry-preserved c =
     where_then c.args.group (IsFromBound c.args.from c.loop-entry.bound) (IsKey k) (IsFromBound c.args.from (Some e.chunk)) _ _ _ _ _ _ c.loop-entry.invariant c.settle_key.ensures (from_more c.args.from c.loop-entry.bound c.loop-entry.self.objects e c.in-Some.ensures.last)
 
 pub returns : goal.returns
-returns c = where_fewer c.args.group (IsFromBound c.args.from c.loop-entry.bound) (IsFrom c.args.from) _ _ _ _ c.loop-entry.invariant (from_all c.args.from c.loop-entry.bound c.loop-entry.self.objects c.in_default.ensures.last)
+returns c =
+    let done = where_fewer c.args.group (IsFromBound c.args.from c.loop-entry.bound) (IsFrom c.args.from) _ _ _ _ c.loop-entry.invariant (from_all c.args.from c.loop-entry.bound c.loop-entry.self.objects c.in_default.ensures.last) in
+    where_same c.args.group (IsFrom c.args.from) _ _ _ _ _ done c.shrink.ensures

@@ -1,5 +1,5 @@
 // Mount, format and unmount, over any device: what they return.
-ghost use Rattle.std.specs.Prelude.{◌≡◌, ◌<ℤ◌, pos, IfOk, IfErr};
+ghost use Rattle.std.specs.Prelude.{◌≡◌, ◌<ℤ◌, ◌≤ℤ◌, pos, IfOk, IfErr};
 ghost use Rattle.flash_c.specs.Volumes.{IsMounted, NotMounted, IsFormatted, IsEnded};
 ghost use Rattle.posix_calls.specs.Volumes.{over_pages};
 
@@ -28,7 +28,8 @@ pub(crate) fn mount_device<N: Nand + Drop>(
 
 /// Makes a device a volume with so many spare blocks, whose root is empty: 0, or the fault.
 pub(crate) fn format_device<N: Nand + Drop>(alloc: Global, device: N, spare: u32) -> i32
-    ensures { IsFormatted (N.state device) spare result }
+    ensures formatted { IsFormatted (N.state device) spare result }
+    ensures at_most_0 { result ≤ℤ pos 0 }
 {
     match format(alloc, device, spare) {
         Ok(_device) => 0,

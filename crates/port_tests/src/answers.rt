@@ -64,7 +64,10 @@ fn the_sizes_and_marks_are_asked_first(rt: HostRuntime) -> Result<(), Fail> {
     assert_eq!(rt; requests.len(), 72);
     assert!(rt; requests.starts_with(&[b'G', 0, 0, 0, 0, 0, 0, 0, 0, 0, 0, 0]));
     assert!(rt; requests.ends_with(&[b'M', 0, 0, 0, 4, 0, 0, 0, 0, 0, 0, 0]));
-    assert_eq!(rt; open_fault(alloc, &OPENED[..11])?, Some(OpenFault::BadGeometry));
+    assert_eq!(rt;
+        open_fault(alloc, &OPENED[..11])?,
+        Some(OpenFault::BadGeometry)
+    );
     assert_eq!(rt; open_fault(alloc, &OPENED[..16])?, Some(OpenFault::Gone));
     assert_eq!(rt; open_fault(alloc, &[0; 17])?, Some(OpenFault::BadGeometry));
     Ok(())
@@ -92,13 +95,13 @@ fn change(
     answers: &[u8],
 ) -> Result<(Result<(), EraseFault>, Result<(), ProgramFault>), Fail> {
     let mut nand = opened(alloc, answers)?;
+    if let Err(fault) = nand.erase(2) {
+        return Ok((Err(fault), Err(ProgramFault::Gone)));
+    }
     if nand.geometry().bytes() != 512 || nand.is_bad(2) {
         return Err("another device".into());
     }
-    match nand.erase(2) {
-        Ok(()) => Ok((Ok(()), nand.program(2, 0, &[7; 512], &[9; 48]))),
-        Err(fault) => Ok((Err(fault), Err(ProgramFault::Gone))),
-    }
+    Ok((Ok(()), nand.program(2, 0, &[7; 512], &[9; 48])))
 }
 
 #[test]
@@ -109,7 +112,10 @@ fn each_answer_has_its_meaning(rt: HostRuntime) -> Result<(), Fail> {
     assert_eq!(rt; read_page(alloc, 2)?, (Ok(PageKind::Uncorrectable), false));
     assert_eq!(rt; read_page(alloc, 3)?, (Err(Gone), false));
     assert_eq!(rt; change(alloc, &[0, 0])?, (Ok(()), Ok(())));
-    assert_eq!(rt; change(alloc, &[0, 1])?, (Ok(()), Err(ProgramFault::Failed)));
+    assert_eq!(rt;
+        change(alloc, &[0, 1])?,
+        (Ok(()), Err(ProgramFault::Failed))
+    );
     assert_eq!(rt; change(alloc, &[0, 2])?, (Ok(()), Err(ProgramFault::Gone)));
     assert_eq!(rt; change(alloc, &[0])?, (Ok(()), Err(ProgramFault::Gone)));
     assert_eq!(rt; change(alloc, &[1])?.0, Err(EraseFault::Failed));

@@ -57,9 +57,19 @@ fn a_volume_is_kept_by_a_driver(rt: HostRuntime) -> Result<(), Fail> {
     let (mut chip, text) = session(
         alloc,
         chip,
-        &["list /", "mkdir /c", "sync", "list /", "unlink /a/b", "sync"],
+        &[
+            "list /",
+            "mkdir /c",
+            "sync",
+            "list /",
+            "unlink /a/b",
+            "sync",
+        ],
     )?;
-    assert!(rt; text.starts_with(b"names 1 a\nok\nerror EIO\nerror EIO\n"), "{text:?}");
+    assert!(rt;
+        text.starts_with(b"names 1 a\nok\nerror EIO\nerror EIO\n"),
+        "{text:?}"
+    );
     chip.left = u32::MAX;
     let (_, text) = session(alloc, chip, &["list /"])?;
     assert!(rt; text.starts_with(b"names 1 a\n"), "{text:?}");

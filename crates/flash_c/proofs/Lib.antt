@@ -1,0 +1,4 @@
+pub mod NameBytes
+pub mod Replies
+pub mod Steps
+pub mod Writes

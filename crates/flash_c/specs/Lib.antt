@@ -1,0 +1,8 @@
+pub mod Filling
+pub mod Flags
+pub mod Held
+pub mod Numbers
+pub mod Serving
+pub mod Sessions
+pub mod Slots
+pub mod Volumes

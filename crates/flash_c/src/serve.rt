@@ -1,0 +1,28 @@
+// What serves the commands of a session.
+ghost use Rattle.posix_profile.specs.declared.command.Stamped.{Stamped};
+ghost use Rattle.posix_profile.specs.declared.reply.Reply.{Reply};
+ghost use Rattle.posix_calls.specs.Volumes.{over_pages};
+ghost use Rattle.flash_c.specs.Serving.{Serves};
+
+use flash_pages::FlashPages;
+use nand_model::Nand;
+use pages::Pages;
+use posix_calls::{Reply, Stamped, Volume};
+
+/// What serves commands.
+pub(crate) trait Serve {
+    /// One call: what serves before it, the command, the reply, and what serves after it.
+    ghost serves: { Self → Stamped → Reply → Self → Type 0 };
+
+    fn serve(&mut self, command: &Stamped) -> Reply
+        ensures { serves self.old command.now result self.new };
+}
+
+/// A volume of any device serves as `posix_calls` says.
+impl<N: Nand> Serve for Volume<N> {
+    ghost serves = { λ old command reply new. Serves ⟦<FlashPages<N> as Pages>⟧.state (over_pages old) command reply (over_pages new) };
+
+    fn serve(&mut self, command: &Stamped) -> Reply {
+        self.call(command)
+    }
+}

@@ -1,0 +1,80 @@
+// A session of commands, over anything that serves them: what each kind of command returns.
+ghost use Rattle.std.specs.Prelude.{◌≡◌, length, min};
+ghost use Rattle.posix_profile.specs.declared.command.Command.TheVariants as commands;
+ghost use Rattle.posix_profile.specs.declared.reply.Reply.{Reply};
+ghost use Rattle.flash_c.specs.Filling.{data_number, data_filled, names_number, names_filled, info_number, info_filled, space_number, space_filled};
+ghost use Rattle.flash_c.specs.Numbers.{done_number, count_number};
+ghost use Rattle.flash_c.specs.Sessions.{at};
+
+use crate::filling::{FlashInfo, FlashSpace, put_data, put_info, put_space};
+use crate::names::put_names;
+use crate::numbers::{count_number, done_number};
+use crate::serve::Serve;
+use port_nand::PortNand;
+use posix_calls::{Command, FilePath, Reply, Stamped, Volume};
+use std::fs::File;
+
+/// A mounted volume, whose device is at the other end of a stream.
+#[derive(Drop)]
+pub struct Session {
+    pub(crate) volume: Volume<PortNand<File>>,
+}
+
+impl Serve for Session {
+    ghost serves = { λ old command reply new. ⟦<Volume<PortNand<File>> as Serve>⟧.serves old.volume command reply new.volume };
+
+    fn serve(&mut self, command: &Stamped) -> Reply {
+        self.volume.serve(command)
+    }
+}
+
+/// Does a command that only succeeds or fails.
+pub(crate) fn done<S: Serve>(session: &mut S, command: &Stamped) -> i32
+    ensures { (reply : Reply) × S.serves session.old command.now reply session.new × (result ≡ done_number reply) }
+{
+    done_number(&session.serve(command))
+}
+
+/// Does a command that counts.
+pub(crate) fn count<S: Serve>(session: &mut S, command: &Stamped) -> i64
+    ensures { (reply : Reply) × S.serves session.old command.now reply session.new × (result ≡ count_number reply) }
+{
+    count_number(&session.serve(command))
+}
+
+/// Reads at a descriptor's offset into the buffer.
+pub(crate) fn read<S: Serve>(session: &mut S, fd: u32, buffer: &mut [u8]) -> i64
+    ensures { (reply : Reply) × S.serves session.old (at 0 (commands.Read fd (min (length buffer.old) u32.MAX))) reply session.new
+        × (result ≡ data_number (length buffer.old) reply) × (buffer.new ≡ data_filled buffer.old reply) }
+{
+    let count = buffer.len().min(u32::MAX as usize) as u32;
+    let command = Command::Read { fd, count };
+    put_data(buffer, &session.serve(&Stamped { moment: 0, command }))
+}
+
+/// Tells what a path leads to in the struct.
+pub(crate) fn stat<S: Serve>(session: &mut S, path: FilePath, info: &mut FlashInfo) -> i32
+    ensures { (reply : Reply) × S.serves session.old (at 0 (commands.Stat path)) reply session.new
+        × (result ≡ info_number reply) × (info.new ≡ info_filled info.old reply) }
+{
+    let command = Command::Stat { path };
+    put_info(info, &session.serve(&Stamped { moment: 0, command }))
+}
+
+/// Puts the names of a directory in the buffer.
+pub(crate) fn list<S: Serve>(session: &mut S, path: FilePath, buffer: &mut [u8]) -> i64
+    ensures { (reply : Reply) × S.serves session.old (at 0 (commands.List path)) reply session.new
+        × (result ≡ names_number (length buffer.old) reply) × (buffer.new ≡ names_filled buffer.old reply) }
+{
+    let command = Command::List { path };
+    put_names(buffer, &session.serve(&Stamped { moment: 0, command }))
+}
+
+/// Tells the room of the volume in the struct.
+pub(crate) fn space<S: Serve>(session: &mut S, space: &mut FlashSpace) -> i32
+    ensures { (reply : Reply) × S.serves session.old (at 0 commands.Space) reply session.new
+        × (result ≡ space_number reply) × (space.new ≡ space_filled space.old reply) }
+{
+    let command = Command::Space;
+    put_space(space, &session.serve(&Stamped { moment: 0, command }))
+}

@@ -1,0 +1,136 @@
+// Format, mount and unmount of a volume whose device is at the other end of a port.
+ghost use Rattle.std.specs.Prelude.{◌≡◌, ◌≤ℤ◌, ◌<ℤ◌, false, true, pos, IfErr};
+ghost use Rattle.page_volume.specs.Volumes.{is_read_only, is_stopped};
+ghost use Rattle.posix_calls.specs.Volumes.{over_pages};
+ghost use Rattle.posix_profile.specs.declared.reply.Errno.TheVariants as errors;
+ghost use Rattle.flash_c.specs.Numbers.{error_number};
+ghost use Rattle.flash_c.specs.Slots.{MountsIn, EndsIn, IsAsked};
+
+use crate::devices::{end, format_device, mount_device};
+use crate::numbers::{error_number, open_number};
+use crate::port::Port;
+use crate::session::Session;
+use crate::slot::Slot;
+use flash_pages::FlashPages;
+use pages::Pages;
+use port_nand::PortNand;
+use posix_calls::Errno;
+use std::alloc::Global;
+use std::fs::File;
+
+/// The pages that the cache of `flash_mount` keeps.
+const CACHE_PAGES: u32 = 16;
+
+/// How many bytes a session takes in the memory of a slot, at a multiple of 16.
+#[unsafe(no_mangle)]
+pub extern "C" fn flash_slot_bytes() -> usize {
+    size_of::<Session>()
+}
+
+/// How many bytes the number of a stream takes.
+#[unsafe(no_mangle)]
+pub extern "C" fn flash_port_bytes() -> usize {
+    size_of::<File>()
+}
+
+/// Makes a device a volume with so many spare blocks, whose root is empty. All that it held is lost.
+#[unsafe(no_mangle)]
+pub extern "C" fn flash_format(alloc: Global, port: Port, spare: u32) -> i32
+    ensures { result ≤ℤ pos 0 }
+{
+    match PortNand::open(alloc, port.into_file()) {
+        Ok(device) => format_device(alloc, device, spare),
+        Err(fault) => open_number(fault),
+    }
+}
+
+/// Opens a device and mounts its volume in an empty slot.
+fn mount_in(alloc: Global, slot: &mut Slot, port: Port, cache_pages: u32) -> i32
+    ensures { MountsIn slot.old result slot.new }
+{
+    let file = port.into_file();
+    if slot.is_full() {
+        return error_number(Errno::EBUSY);
+    }
+    let device = match PortNand::open(alloc, file) {
+        Ok(device) => device,
+        Err(fault) => return open_number(fault),
+    };
+    match mount_device(alloc, device, cache_pages) {
+        Ok(volume) => {
+            slot.put(Session { volume });
+            0
+        }
+        Err(number) => number,
+    }
+}
+
+/// Mounts the volume of a device in an empty slot, with a cache of 16 pages.
+#[unsafe(no_mangle)]
+pub extern "C" fn flash_mount(alloc: Global, slot: &mut Slot, port: Port) -> i32
+    ensures { MountsIn slot.old result slot.new }
+{
+    mount_in(alloc, slot, port, CACHE_PAGES)
+}
+
+/// Mounts the volume of a device in an empty slot, with a cache of so many pages, of one at least.
+#[unsafe(no_mangle)]
+pub extern "C" fn flash_mount_with(
+    alloc: Global,
+    slot: &mut Slot,
+    port: Port,
+    cache_pages: u32,
+) -> i32
+    ensures { MountsIn slot.old result slot.new }
+{
+    mount_in(alloc, slot, port, cache_pages)
+}
+
+/// Commits what was accepted, and empties the slot.
+#[unsafe(no_mangle)]
+pub extern "C" fn flash_unmount(slot: &mut Slot) -> i32
+    ensures { EndsIn ⟦<FlashPages<PortNand<File>> as Pages>⟧.state (λ s. over_pages s.session.volume) slot.old result slot.new }
+{
+    if !slot.is_full() {
+        return error_number(Errno::EINVAL);
+    }
+    end(slot.take().volume)
+}
+
+/// Empties the slot and commits nothing, as if power were lost.
+#[unsafe(no_mangle)]
+pub extern "C" fn flash_abandon(slot: &mut Slot)
+    ensures { slot.new.full ≡ false }
+{
+    if slot.is_full() {
+        let _session = slot.take();
+    }
+}
+
+/// Whether commands that would change the volume are refused: 1 is yes, 0 no.
+#[unsafe(no_mangle)]
+pub extern "C" fn flash_read_only(slot: &mut Slot) -> i32
+    ensures { IsAsked slot.old (is_read_only (over_pages slot.old.session.volume)) result slot.new }
+{
+    if !slot.is_full() {
+        return error_number(Errno::EINVAL);
+    }
+    let session = slot.take();
+    let yes = session.volume.read_only();
+    slot.put(session);
+    i32::from(yes)
+}
+
+/// Whether the volume is stopped, and answers EIO to each command: 1 is yes, 0 no.
+#[unsafe(no_mangle)]
+pub extern "C" fn flash_stopped(slot: &mut Slot) -> i32
+    ensures { IsAsked slot.old (is_stopped (over_pages slot.old.session.volume)) result slot.new }
+{
+    if !slot.is_full() {
+        return error_number(Errno::EINVAL);
+    }
+    let session = slot.take();
+    let yes = session.volume.stopped();
+    slot.put(session);
+    i32::from(yes)
+}

@@ -1,0 +1,73 @@
+// A write that goes on until all is written.
+ghost use Rattle.std.specs.Prelude.{◌≡◌, ◌≤◌, ◌<◌, ◌⊎◌, ℕ, IfSome, IfNone, take, drop};
+ghost use Rattle.posix_profile.specs.declared.command.Command.TheVariants as commands;
+ghost use Rattle.posix_profile.specs.declared.reply.Errno.TheVariants as errors;
+ghost use Rattle.posix_profile.specs.declared.reply.Reply.TheVariants as replies;
+ghost use Rattle.flash_c.specs.Sessions.{at, most_handed_in, write_number, IsWritten};
+
+use crate::numbers::{count_number, signed};
+use crate::serve::Serve;
+use posix_calls::{Bytes, Command, Errno, Reply, Stamped};
+use std::alloc::Global;
+
+/// The most bytes that one command hands in. No volume takes more in one.
+const MOST_HANDED_IN: usize = 1 << 18;
+
+/// Writes the first of the bytes by one command. Where memory for them is refused it is not begun.
+fn write_some<S: Serve>(alloc: Global, session: &mut S, moment: u64, fd: u32, bytes: &[u8]) -> Reply
+    ensures { S.serves session.old (at moment (commands.Write fd (take most_handed_in bytes.now))) result session.new
+        ⊎ ((result ≡ replies.Error errors.ENOMEM) × (session.new ≡ session.old)) }
+{
+    let length = bytes.len().min(MOST_HANDED_IN);
+    let Ok(bytes) = Vec::from_slice(alloc, &bytes[..length]) else {
+        return Reply::Error(Errno::ENOMEM);
+    };
+    let bytes = Bytes::new(bytes);
+    session.serve(&Stamped {
+        moment,
+        command: Command::Write { fd, bytes },
+    })
+}
+
+/// How many bytes were written, or the error where none were.
+fn write_number(done: usize, reply: &Reply) -> i64
+    ensures { result ≡ write_number done reply.now }
+{
+    match reply {
+        Reply::Wrote(count) => signed((done as u64).saturating_add(u64::from(*count))),
+        reply if done == 0 => count_number(reply),
+        _ => signed(done as u64),
+    }
+}
+
+/// How many bytes were written, where these are some and more are left. `left` counts those that were to be written.
+fn goes_on(reply: &Reply, left: usize) -> Option<usize>
+    ensures some { IfSome result (λ count. (reply.now ≡ replies.Wrote count) × (0 < count) × (count < left)) }
+    ensures none { IfNone result ((count : ℕ) → reply.now ≡ replies.Wrote count → (count ≡ 0) ⊎ (left ≤ count)) }
+{
+    match reply {
+        Reply::Wrote(count) if *count > 0 && (*count as usize) < left => Some(*count as usize),
+        _ => None,
+    }
+}
+
+/// Writes bytes at the offset of a descriptor, by as many commands as it takes.
+pub(crate) fn write<S: Serve>(
+    alloc: Global,
+    session: &mut S,
+    moment: u64,
+    fd: u32,
+    bytes: &[u8],
+) -> i64
+    ensures { IsWritten S.serves (record { moment = moment; fd = fd; bytes = bytes.now }) session.old result session.new }
+{
+    let mut done = 0usize;
+    'writes: loop {
+        let rest = &bytes[done..];
+        let reply = write_some(alloc, session, moment, fd, rest);
+        match goes_on(&reply, rest.len()) {
+            Some(count) => done += count,
+            None => return write_number(done, &reply),
+        }
+    }
+}

@@ -1,0 +1,4 @@
+pub mod Blocks
+pub mod Requests
+pub mod State
+pub mod laws

@@ -1,0 +1,9 @@
+//! Tests of a device whose driver is at the other end of a stream: each form of answer, and a volume over a driver in memory.
+#![tactic(auto)]
+
+#[cfg(test)]
+mod answers;
+#[cfg(test)]
+mod chip;
+#[cfg(test)]
+mod volumes;

@@ -1,0 +1,77 @@
+// A volume over a driver in memory.
+use crate::chip::Chip;
+use line_shell::{Line, parse, write_reply};
+use port_nand::PortNand;
+use posix_calls::{Stamped, Volume, format};
+use std::alloc::Global;
+use std::test::Fail;
+
+fn formatted(alloc: Global) -> Result<Chip, Fail> {
+    let device = PortNand::open(alloc, Chip::new(alloc)?)?;
+    match format(alloc, device, 1) {
+        Ok(device) => Ok(device.into_stream()),
+        Err((_, fault)) => Err(fault.into()),
+    }
+}
+
+fn mounted(alloc: Global, chip: Chip) -> Result<Volume<PortNand<Chip>>, Fail> {
+    match Volume::mount(alloc, PortNand::open(alloc, chip)?) {
+        Ok(volume) => Ok(volume),
+        Err((_, fault)) => Err(fault.into()),
+    }
+}
+
+/// Mounts, does the commands of the lines, and unmounts; what is answered, a line each.
+fn session(alloc: Global, chip: Chip, lines: &[&str]) -> Result<(Chip, Vec<u8>), Fail> {
+    let mut volume = mounted(alloc, chip)?;
+    let mut text = Vec::new(alloc);
+    for line in lines {
+        if let Line::Do(command) = parse(alloc, line.as_bytes())? {
+            write_reply(&mut text, &volume.call(&Stamped { moment: 0, command }))?;
+        }
+    }
+    let (device, reply) = volume.unmount();
+    write_reply(&mut text, &reply)?;
+    Ok((device.into_stream(), text))
+}
+
+#[test]
+fn a_volume_is_kept_by_a_driver(rt: HostRuntime) -> Result<(), Fail> {
+    let alloc = rt.alloc();
+    let (chip, text) = session(
+        alloc,
+        formatted(alloc)?,
+        &["mkdir /a", "open /a/b rwc", "write 0 hello", "fsync 0"],
+    )?;
+    assert!(rt; text.as_slice() == b"ok\nfd 0\nwrote 5\nok\nok\n".as_slice());
+    let (mut chip, text) = session(
+        alloc,
+        chip,
+        &["list /a", "open /a/b r", "read 0 9", "open /c r"],
+    )?;
+    assert!(rt; text.as_slice() == b"names 1 b\nfd 0\ndata 5 hello\nerror ENOENT\nok\n".as_slice());
+    // The stream ends two requests after those of a mount and of the reads of a list.
+    chip.left = u32::MAX;
+    let (mut chip, _) = session(alloc, chip, &["list /"])?;
+    chip.left = (u32::MAX - chip.left).saturating_add(2);
+    let (mut chip, text) = session(
+        alloc,
+        chip,
+        &[
+            "list /",
+            "mkdir /c",
+            "sync",
+            "list /",
+            "unlink /a/b",
+            "sync",
+        ],
+    )?;
+    assert!(rt;
+        text.starts_with(b"names 1 a\nok\nerror EIO\nerror EIO\n"),
+        "{text:?}"
+    );
+    chip.left = u32::MAX;
+    let (_, text) = session(alloc, chip, &["list /"])?;
+    assert!(rt; text.starts_with(b"names 1 a\n"), "{text:?}");
+    Ok(())
+}

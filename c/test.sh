@@ -139,9 +139,10 @@ else
 fi
 run "the allocator over a region" "$OUT/test_heap"
 run "the drivers, and drivers that break a promise" "$OUT/test_drivers" "$work"
-if includes mtd/mtd-user.h && echo '#include <mtd/mtd-user.h>
-int command = MEMREAD;' | $CC -fsyntax-only -x c - 2> /dev/null; then
-    run "the driver of Linux's devices compiles" $CC $FLAGS -c -o "$OUT/mtd_nand.o" drivers/mtd_nand.c
+if includes mtd/mtd-user.h && echo '#include <sys/ioctl.h>
+#include <mtd/mtd-user.h>
+unsigned long command = MEMREAD;' | $CC -fsyntax-only -x c - 2> /dev/null; then
+    run "the driver of Linux's devices compiles" build try_mtd test/try_mtd.c drivers/mtd_nand.c drivers/driver_check.c $HARNESS "$LIBRARY"
 else
     skip "the driver of Linux's devices compiles" "no mtd/mtd-user.h with MEMREAD"
 fi

@@ -17,10 +17,11 @@ uint32_t drawn(struct draw *draw, uint32_t below)
     return (uint32_t)((z ^ (z >> 31)) >> 16) % below;
 }
 
-static void draw_path(struct draw *draw, char *path)
+/* Most paths lead through directories that are likely to be there, and end in a name that is likely of the kind that is asked for. */
+static void draw_path(struct draw *draw, char *path, bool of_directory)
 {
-    static const char *const names[] = {"a", "b", "c", "dir", "e.txt", "\xc3\xa9", "with space"};
-    uint32_t depth = 1 + drawn(draw, 3);
+    static const char *const names[] = {"a", "b", "c", "e.txt", "\xc3\xa9", "with space", "dir", "old"};
+    uint32_t kind = drawn(draw, 20), depth = kind < 11 ? 1 : kind < 18 ? 2 : 3;
     if (drawn(draw, 60) == 0) { /* a name of 254 to 257 bytes */
         size_t length = 254 + drawn(draw, 4);
         memset(path, 'n', length);
@@ -33,9 +34,10 @@ static void draw_path(struct draw *draw, char *path)
     if (drawn(draw, 20) != 0)
         strcat(path, "/");
     for (uint32_t i = 0; i < depth; i++) {
-        uint32_t which = drawn(draw, 40);
-        strcat(path, which == 0 ? "." : which == 1 ? ".." : names[which % 7]);
-        if (i + 1 < depth || drawn(draw, 25) == 0)
+        uint32_t which = drawn(draw, 60);
+        bool directory = (i + 1 < depth || of_directory) != (drawn(draw, 12) == 0);
+        strcat(path, which == 0 ? "." : which == 1 ? ".." : directory ? names[6 + which % 2] : names[which % 6]);
+        if (i + 1 < depth || drawn(draw, 30) == 0)
             strcat(path, drawn(draw, 25) == 0 ? "//" : "/");
     }
     if (drawn(draw, 150) == 0)
@@ -44,9 +46,9 @@ static void draw_path(struct draw *draw, char *path)
 
 static uint32_t draw_flags(struct draw *draw)
 {
-    uint32_t flags = 1 + drawn(draw, 3);
-    flags |= drawn(draw, 3) != 0 ? FLASH_CREAT : 0;
-    flags |= drawn(draw, 8) == 0 ? FLASH_EXCL : 0;
+    uint32_t flags = drawn(draw, 2) == 0 ? FLASH_RDWR : 1 + drawn(draw, 3);
+    flags |= drawn(draw, 4) != 0 ? FLASH_CREAT : 0;
+    flags |= drawn(draw, 12) == 0 ? FLASH_EXCL : 0;
     flags |= drawn(draw, 8) == 0 ? FLASH_TRUNC : 0;
     flags |= drawn(draw, 4) == 0 ? FLASH_APPEND : 0;
     if (drawn(draw, 100) == 0)
@@ -70,13 +72,15 @@ static size_t draw_size(struct draw *draw, size_t most)
 
 struct command draw_command(struct draw *draw, size_t most)
 {
-    static const enum what often[] = {OPEN,   OPEN,   OPEN,  CLOSE, READ, READ,   WRITE,  WRITE,    WRITE, WRITE, WRITE,
-                                      SEEK,   SEEK,   FSYNC, SYNC,  STAT, MKDIR,  MKDIR,  TRUNCATE, RMDIR, LINK,  UNLINK,
-                                      UNLINK, RENAME, RENAME, LIST, SPACE, CLOSE, UNLINK};
+    static const enum what often[] = {OPEN,     OPEN,  OPEN,  OPEN,  CLOSE, READ, READ,  WRITE,  WRITE,  WRITE,  WRITE, WRITE,
+                                      WRITE,    SEEK,  SEEK,  FSYNC, SYNC,  STAT, MKDIR, MKDIR,  UNLINK, UNLINK, LINK,  RENAME,
+                                      TRUNCATE, RMDIR, RENAME, LIST, SPACE, CLOSE};
     struct command command = {.what = often[drawn(draw, sizeof often / sizeof *often)]};
-    draw_path(draw, command.path);
-    draw_path(draw, command.other);
-    command.fd = drawn(draw, 50) == 0 ? (int)drawn(draw, 70) - 3 : (int)drawn(draw, 6);
+    bool of_directory = command.what == MKDIR || command.what == RMDIR || command.what == LIST ||
+                        (command.what == RENAME && drawn(draw, 4) == 0);
+    draw_path(draw, command.path, of_directory);
+    draw_path(draw, command.other, of_directory);
+    command.fd = drawn(draw, 50) == 0 ? (int)drawn(draw, 70) - 3 : (int)drawn(draw, 5);
     command.flags = draw_flags(draw);
     command.whence = drawn(draw, 40) == 0 ? (int)drawn(draw, 6) - 2 : (int)drawn(draw, 3);
     command.offset = (int64_t)drawn(draw, (uint32_t)most * 2) - (int64_t)drawn(draw, (uint32_t)most);

@@ -152,7 +152,8 @@ static void mix_model(const struct model *model, uint32_t o, uint64_t *number)
     const struct model_object *object = &model->objects[o];
     struct flash_info info = info_of(model, o);
     mix(number, &info, sizeof info);
-    mix(number, object->bytes, object->size);
+    if (object->kind == FLASH_FILE)
+        mix(number, object->bytes, object->size);
     for (uint32_t i = 0; i < object->count; i++) {
         mix(number, object->entries[i].name, strlen(object->entries[i].name) + 1);
         mix_model(model, object->entries[i].object, number);

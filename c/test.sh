@@ -4,6 +4,7 @@
 #
 #   bash c/test.sh [quick]     quick: without the sanitizer and without valgrind
 set -u
+[ -z "${FLASH_C_ARCHIVE:-}" ] || export FLASH_C_ARCHIVE=$(realpath "$FLASH_C_ARCHIVE")
 cd "$(dirname "$0")" || exit 2
 OUT=${OUT:-out}
 CC=${CC:-gcc}
@@ -100,7 +101,7 @@ installed() {
 }
 
 with_cmake() {
-    cmake -S test/cmake -B "$work/cmake" ${FLASH_C_ARCHIVE:+-DFLASH_C_ARCHIVE="$(realpath "$FLASH_C_ARCHIVE")"} &&
+    cmake -S test/cmake -B "$work/cmake" ${FLASH_C_ARCHIVE:+-DFLASH_C_ARCHIVE="$FLASH_C_ARCHIVE"} &&
         cmake --build "$work/cmake" && "$work/cmake/hello"
 }
 

@@ -278,12 +278,50 @@ static void live(const struct sizes *sizes, uint64_t lives, uint64_t seed)
     model_free(model);
 }
 
+/* Each call of a format is cut; a format after it makes an empty volume. */
+static void cut_format(const struct sizes *sizes, uint64_t seed)
+{
+    struct ram_nand nand, before;
+    struct draw draw = {seed};
+    uint64_t cuts = 0, volumes = 0;
+    int64_t code;
+    model_free(prepare(&before, sizes, &draw));
+    struct model *empty = model_make(sizes->page_bytes, sizes->block_pages, sizes->blocks, sizes->spare);
+    check(ram_nand_make(&nand, sizes->page_bytes, sizes->block_pages, sizes->blocks) == 0, "memory");
+    bool done = false;
+    for (uint64_t at = 1; !done; at++)
+        for (int fate = 0; fate < RAM_NAND_FATES && !done; fate++) {
+            ram_nand_copy(&nand, &before);
+            nand.cut_at = at;
+            nand.fate = (enum ram_nand_fate)fate;
+            code = flash_fs_format(&fs, &nand.driver, sizes->spare);
+            done = !nand.gone;
+            check(code == (done ? 0 : FLASH_EIO), "a format returned %lld", (long long)code);
+            ram_nand_power_up(&nand);
+            volumes += flash_fs_mount(&fs, &nand.driver) == 0;
+            flash_fs_abandon(&fs);
+            ram_nand_power_up(&nand);
+            check(flash_fs_format(&fs, &nand.driver, sizes->spare) == 0, "a format after one that was cut");
+            check(flash_fs_mount(&fs, &nand.driver) == 0, "a mount after it");
+            check(volume_tree(&fs, &code) == model_tree(empty) && code == 0, "the empty volume");
+            flash_fs_abandon(&fs);
+            check(nand.misuse == NULL, "the driver was misused: %s", nand.misuse);
+            cuts += !done;
+        }
+    printf("  a format of %u x %u x %u: %llu cuts, after %llu of which there was a volume\n", sizes->blocks, sizes->block_pages,
+           sizes->page_bytes, (unsigned long long)cuts, (unsigned long long)volumes);
+    ram_nand_free(&nand);
+    ram_nand_free(&before);
+    model_free(empty);
+}
+
 int main(int count, char **words)
 {
     static const struct sizes each[] = {
         {512, 32, 8, 1, 2000, 60, 50}, {512, 32, 8, 2, 5000, 300, 60}, {1024, 32, 6, 1, 5000, 200, 60}, {512, 64, 8, 1, 9000, 400, 60}};
     static const struct sizes in_a_row[] = {{512, 32, 16, 2, 3000, 50, 0}, {512, 32, 7, 1, 5000, 100, 0}, {2048, 64, 8, 1, 60000, 50, 0}};
     uint64_t lives = count > 1 ? strtoull(words[1], NULL, 10) : 1000, seed = count > 2 ? strtoull(words[2], NULL, 10) : 1;
+    cut_format(&each[0], seed);
     for (size_t i = 0; i < sizeof each / sizeof *each; i++)
         cut_each(&each[i], seed * 100 + i);
     for (size_t i = 0; i < sizeof in_a_row / sizeof *in_a_row; i++)

@@ -112,6 +112,9 @@ static uint64_t run_refused(const struct command *commands, int count, const str
             memory.refuse_at = 0;
         if (is_refused && there.code == FLASH_ENOMEM) {
             ++*refusals;
+            check(command.what != CLOSE && command.what != SEEK && command.what != FSYNC && command.what != SYNC &&
+                      command.what != SPACE,
+                  "%s returned ENOMEM", name_of(command.what));
             check(flash_fs_stopped(&fs) == 0, "a volume that was refused memory has stopped");
             struct outcome again = do_on_volume(&fs, &command), wanted = do_on_model(model, &command, NULL, NULL);
             if (again.code != wanted.code || again.filled != wanted.filled)

@@ -67,11 +67,14 @@ names() {
     fi
 }
 
-# The numbers of errors are those of the proved library.
+# The numbers of errors are those of the proved library, whose sources are in the folder: each name has its number, and no number
+# is in one of them alone.
 numbers() {
-    grep -ho -- '-[0-9][0-9]*' ../crates/flash_c/src/$1 | sort -u > "$work/library"
-    sed -n 's/^ *FLASH_E[A-Z]* = \(-[0-9]*\).*/\1/p' flash_fs.h | sort -u > "$work/header"
-    diff "$work/library" "$work/header"
+    sed -n 's/^ *FLASH_\(E[A-Z]*\) = \(-[0-9]*\).*/\1 \2/p' flash_fs.h | sort > "$work/header"
+    sed -n 's/.*Errno::\(E[A-Z]*\) => \(-[0-9]*\).*/\1 \2/p' "$1"/*.rt | sort > "$work/library"
+    [ -s "$work/library" ] && [ -z "$(comm -13 "$work/header" "$work/library")" ] || return 1
+    grep -ho -- '= *>* *-[0-9][0-9]*' "$1"/*.rt | grep -o -- '-[0-9]*' | sort -u > "$work/library"
+    diff "$work/library" <(awk '{ print $2 }' "$work/header" | sort -u)
 }
 
 # An image that C made is checked by the program of the repository, and one that the program made is shown by C.
@@ -133,8 +136,8 @@ run "the tests and examples compile" builds
 
 run "the header's numbers" "$OUT/test_header"
 run "the names of header and library" names
-if [ -f ../crates/flash_c/src/numbers.rt ]; then
-    run "the header's errors and the library's" numbers numbers.rt
+if [ -d ../crates/flash_c/src ]; then
+    run "the header's errors and the library's" numbers ../crates/flash_c/src
 else
     skip "the header's errors and the library's" "crates/flash_c is not here"
 fi

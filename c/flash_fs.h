@@ -135,7 +135,7 @@ struct flash_fs {
  */
 int flash_fs_format(struct flash_fs *fs, const struct flash_driver *driver, uint32_t spare);
 
-/* Mounts the volume of a device. It only reads: the tag of each page once, and the pages of directories and headers. It takes
+/* Mounts the volume of a device. It only reads: a tag once at most, and the pages of directories and headers. It takes
  * memory by the number of pages that are in use, which an unmount or an abandon gives back.
  * Errors: EBUSY the volume is mounted; EINVAL sizes out of range; ENOVOLUME, ENEWER, EDAMAGED what the device holds; EIO;
  * ENOMEM; EMFILE. After an error the volume is not mounted.

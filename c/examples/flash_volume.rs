@@ -1,0 +1,145 @@
+// A volume for Rust, over flash_fs.h. It is an example; the interface is C's.
+use std::ffi::{c_char, c_int, c_void, CString};
+use std::marker::PhantomPinned;
+use std::pin::Pin;
+
+const EINVAL: i64 = -22;
+const ENOVOLUME: c_int = -19;
+const WRITE: u32 = 2;
+const CREATE: u32 = 4;
+const APPEND: u32 = 32;
+
+/// A NAND flash, with what flash_fs.h promises and asks. `None` and `Err` are a loss of power.
+pub trait Nand {
+    fn sizes(&self) -> (u32, u32, u32);
+    fn is_bad(&mut self, block: u32) -> Option<bool>;
+    /// The kind of the page: 0 erased, 1 written (then data, where it is asked for, and tag are filled), 2 uncorrectable.
+    fn read(&mut self, block: u32, page: u32, data: Option<&mut [u8]>, tag: &mut [u8; 48]) -> Option<c_int>;
+    /// Whether it was done; false where the chip failed.
+    fn program(&mut self, block: u32, page: u32, data: &[u8], tag: &[u8; 48]) -> Option<bool>;
+    fn erase(&mut self, block: u32) -> Option<bool>;
+    fn mark_bad(&mut self, block: u32) -> Option<()>;
+}
+
+#[repr(C)]
+struct Driver {
+    context: *mut c_void,
+    sizes: [u32; 3],
+    is_bad: unsafe extern "C" fn(*mut c_void, u32) -> c_int,
+    read_tag: unsafe extern "C" fn(*mut c_void, u32, u32, *mut u8) -> c_int,
+    read_page: unsafe extern "C" fn(*mut c_void, u32, u32, *mut u8, *mut u8) -> c_int,
+    program: unsafe extern "C" fn(*mut c_void, u32, u32, *const u8, *const u8) -> c_int,
+    erase: unsafe extern "C" fn(*mut c_void, u32) -> c_int,
+    mark_bad: unsafe extern "C" fn(*mut c_void, u32) -> c_int,
+}
+
+#[repr(C, align(16))]
+struct Fs([u8; 1024]);
+
+#[link(name = "flashfs", kind = "static")]
+unsafe extern "C" {
+    fn flash_fs_format(fs: *mut Fs, driver: *const Driver, spare: u32) -> c_int;
+    fn flash_fs_mount(fs: *mut Fs, driver: *const Driver) -> c_int;
+    fn flash_fs_unmount(fs: *mut Fs) -> c_int;
+    fn flash_fs_abandon(fs: *mut Fs);
+    fn flash_fs_mkdir(fs: *mut Fs, path: *const c_char, moment: u64) -> c_int;
+    fn flash_fs_open(fs: *mut Fs, path: *const c_char, flags: u32, moment: u64) -> c_int;
+    fn flash_fs_close(fs: *mut Fs, fd: c_int) -> c_int;
+    fn flash_fs_write(fs: *mut Fs, fd: c_int, bytes: *const c_void, size: usize, moment: u64) -> i64;
+    fn flash_fs_list(fs: *mut Fs, path: *const c_char, buffer: *mut c_char, size: usize) -> i64;
+}
+
+// A callback does not unwind into C: a panic in it ends the program, as `extern "C"` does.
+unsafe extern "C" fn is_bad<N: Nand>(nand: *mut c_void, block: u32) -> c_int {
+    unsafe { &mut *(nand as *mut N) }.is_bad(block).map_or(-1, c_int::from)
+}
+unsafe extern "C" fn read_tag<N: Nand>(nand: *mut c_void, block: u32, page: u32, tag: *mut u8) -> c_int {
+    unsafe { (*(nand as *mut N)).read(block, page, None, &mut *(tag as *mut [u8; 48])) }.unwrap_or(-1)
+}
+unsafe extern "C" fn read_page<N: Nand>(nand: *mut c_void, block: u32, page: u32, data: *mut u8, tag: *mut u8) -> c_int {
+    let nand = unsafe { &mut *(nand as *mut N) };
+    let data = unsafe { std::slice::from_raw_parts_mut(data, nand.sizes().0 as usize) };
+    nand.read(block, page, Some(data), unsafe { &mut *(tag as *mut [u8; 48]) }).unwrap_or(-1)
+}
+unsafe extern "C" fn program<N: Nand>(nand: *mut c_void, block: u32, page: u32, data: *const u8, tag: *const u8) -> c_int {
+    let nand = unsafe { &mut *(nand as *mut N) };
+    let data = unsafe { std::slice::from_raw_parts(data, nand.sizes().0 as usize) };
+    nand.program(block, page, data, unsafe { &*(tag as *const [u8; 48]) }).map_or(-1, |done| c_int::from(!done))
+}
+unsafe extern "C" fn erase<N: Nand>(nand: *mut c_void, block: u32) -> c_int {
+    unsafe { &mut *(nand as *mut N) }.erase(block).map_or(-1, |done| c_int::from(!done))
+}
+unsafe extern "C" fn mark_bad<N: Nand>(nand: *mut c_void, block: u32) -> c_int {
+    unsafe { &mut *(nand as *mut N) }.mark_bad(block).map_or(-1, |()| 0)
+}
+
+/// A mounted volume, which keeps its device. Dropped without an unmount it loses what was not synced.
+pub struct Volume<N: Nand> {
+    fs: Fs,
+    driver: Driver,
+    nand: N,
+    _pinned: PhantomPinned,
+}
+
+fn checked(code: i64) -> Result<i64, i64> {
+    if code < 0 { Err(code) } else { Ok(code) }
+}
+
+impl<N: Nand> Volume<N> {
+    /// Mounts a device; one without a volume is formatted first.
+    pub fn mount(nand: N, spare: u32) -> Result<Pin<Box<Volume<N>>>, i64> {
+        let (bytes, pages, blocks) = nand.sizes();
+        let driver = Driver {
+            context: std::ptr::null_mut(),
+            sizes: [bytes, pages, blocks],
+            is_bad: is_bad::<N>,
+            read_tag: read_tag::<N>,
+            read_page: read_page::<N>,
+            program: program::<N>,
+            erase: erase::<N>,
+            mark_bad: mark_bad::<N>,
+        };
+        let mut volume = Box::pin(Volume { fs: Fs([0; 1024]), driver, nand, _pinned: PhantomPinned });
+        let this = unsafe { volume.as_mut().get_unchecked_mut() } as *mut Volume<N>;
+        unsafe {
+            (*this).driver.context = &raw mut (*this).nand as *mut c_void;
+            let (fs, driver) = (&raw mut (*this).fs, &raw const (*this).driver);
+            let mut code = flash_fs_mount(fs, driver);
+            if code == ENOVOLUME {
+                checked(flash_fs_format(fs, driver, spare).into())?;
+                code = flash_fs_mount(fs, driver);
+            }
+            checked(code.into())?;
+        }
+        Ok(volume)
+    }
+    fn fs(self: Pin<&mut Self>) -> *mut Fs {
+        unsafe { &raw mut self.get_unchecked_mut().fs }
+    }
+    pub fn unmount(self: Pin<&mut Self>) -> Result<i64, i64> {
+        checked(unsafe { flash_fs_unmount(self.fs()) }.into())
+    }
+    pub fn mkdir(self: Pin<&mut Self>, path: &str, moment: u64) -> Result<i64, i64> {
+        let path = CString::new(path).map_err(|_| EINVAL)?;
+        checked(unsafe { flash_fs_mkdir(self.fs(), path.as_ptr(), moment) }.into())
+    }
+    pub fn append(self: Pin<&mut Self>, path: &str, bytes: &[u8], moment: u64) -> Result<i64, i64> {
+        let (fs, path) = (self.fs(), CString::new(path).map_err(|_| EINVAL)?);
+        let fd = checked(unsafe { flash_fs_open(fs, path.as_ptr(), WRITE | CREATE | APPEND, moment) }.into())? as c_int;
+        let wrote = unsafe { flash_fs_write(fs, fd, bytes.as_ptr().cast(), bytes.len(), moment) };
+        unsafe { flash_fs_close(fs, fd) };
+        checked(wrote)
+    }
+    pub fn list(self: Pin<&mut Self>, path: &str) -> Result<Vec<String>, i64> {
+        let (fs, path, mut buffer) = (self.fs(), CString::new(path).map_err(|_| EINVAL)?, vec![0u8; 65536]);
+        let size = checked(unsafe { flash_fs_list(fs, path.as_ptr(), buffer.as_mut_ptr().cast(), buffer.len()) })?;
+        let names = buffer[..size as usize].split(|byte| *byte == 0).filter(|name| !name.is_empty());
+        Ok(names.map(|name| String::from_utf8_lossy(name).into_owned()).collect())
+    }
+}
+
+impl<N: Nand> Drop for Volume<N> {
+    fn drop(&mut self) {
+        unsafe { flash_fs_abandon(&raw mut self.fs) }
+    }
+}

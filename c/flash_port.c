@@ -1,0 +1,381 @@
+/* What lies between flash_fs.h and the proved library, libflash_c.a: its declarations, and the port by which it reaches a
+ * driver.
+ *
+ * The library asks for a device by read, write and close of a stream, and for nothing else of a system. The Makefile renames
+ * these three by objcopy to flash_port_read, flash_port_write and flash_port_close, so that they come here: a request is
+ * written, and the driver is called; then what it returned is read. A request is a head of 12 bytes: a letter, three zeros,
+ * the number of a block and that of a page, each in four bytes, the lowest first. After that of a program come the tag and
+ * the data.
+ *
+ *   letter  request           what is read after it
+ *   G       the sizes         bytes of a page, pages of a block, blocks, each in four bytes
+ *   M       is it marked      a byte: 0 or 1
+ *   T       the tag           a byte: FLASH_ERASED, FLASH_WRITTEN or FLASH_UNCORRECTABLE; then the tag
+ *   R       a page            its data; then as for the tag
+ *   P, E    program, erase    a byte: FLASH_DONE or FLASH_FAILED
+ *   B       mark              a byte: FLASH_DONE
+ *
+ * A stream that fails is a loss of power.
+ */
+#include "flash_fs.h"
+
+#include <assert.h>
+#include <string.h>
+#include <sys/types.h>
+
+/* ---- What libflash_c.a exports. A slice is a pointer and a length; no pointer is null. */
+
+struct flash_port {
+    int *at; /* the number of an open stream */
+};
+
+struct flash_slot {
+    void *at; /* flash_slot_bytes() bytes at a multiple of 16 */
+    bool full;
+};
+
+size_t flash_slot_bytes(void);
+size_t flash_port_bytes(void);
+int flash_format(struct flash_port port, uint32_t spare);
+int flash_mount(struct flash_slot *slot, struct flash_port port);
+int flash_mount_with(struct flash_slot *slot, struct flash_port port, uint32_t cache_pages);
+int flash_unmount(struct flash_slot *slot);
+void flash_abandon(struct flash_slot *slot);
+int flash_read_only(struct flash_slot *slot);
+int flash_stopped(struct flash_slot *slot);
+int64_t flash_open(struct flash_slot *slot, const uint8_t *path, size_t length, uint32_t flags, uint64_t moment);
+int flash_close(struct flash_slot *slot, uint32_t fd);
+int64_t flash_read(struct flash_slot *slot, uint32_t fd, uint8_t *buffer, size_t size);
+int64_t flash_write(struct flash_slot *slot, uint32_t fd, const uint8_t *bytes, size_t size, uint64_t moment);
+int64_t flash_seek(struct flash_slot *slot, uint32_t fd, int64_t offset, uint32_t whence);
+int flash_truncate(struct flash_slot *slot, uint32_t fd, int64_t length, uint64_t moment);
+int flash_fsync(struct flash_slot *slot, uint32_t fd);
+int flash_sync(struct flash_slot *slot);
+int flash_mkdir(struct flash_slot *slot, const uint8_t *path, size_t length, uint64_t moment);
+int flash_rmdir(struct flash_slot *slot, const uint8_t *path, size_t length, uint64_t moment);
+int flash_unlink(struct flash_slot *slot, const uint8_t *path, size_t length, uint64_t moment);
+int flash_link(struct flash_slot *slot, const uint8_t *old_path, size_t old_length, const uint8_t *new_path,
+               size_t new_length, uint64_t moment);
+int flash_rename(struct flash_slot *slot, const uint8_t *old_path, size_t old_length, const uint8_t *new_path,
+                 size_t new_length, uint64_t moment);
+int flash_stat(struct flash_slot *slot, const uint8_t *path, size_t length, struct flash_info *info);
+int64_t flash_list(struct flash_slot *slot, const uint8_t *path, size_t length, uint8_t *buffer, size_t size);
+int flash_space(struct flash_slot *slot, struct flash_space *space);
+
+/* ---- What the library is given by this file. */
+
+ssize_t flash_port_write(int stream, const void *bytes, size_t size);
+ssize_t flash_port_read(int stream, void *bytes, size_t size);
+int flash_port_close(int stream);
+int32_t rattle_errno(void);
+
+enum { HEAD_BYTES = 12, SIZES_BYTES = 12 };
+
+/* What the next write is: the head of a request, or after that of a program its tag, and then its data. */
+enum expected { EXPECTS_HEAD, EXPECTS_TAG, EXPECTS_DATA };
+
+/* What is inside of a struct flash_fs. */
+struct volume {
+    struct flash_slot slot;
+    const struct flash_driver *driver;
+    int stream;
+    enum expected expected;
+    int returned; /* what the driver returned; negative: power is lost */
+    uint8_t head[HEAD_BYTES];
+    uint8_t tag[FLASH_TAG_BYTES];
+    _Alignas(16) uint8_t session[FLASH_FS_BYTES - 128];
+};
+
+static_assert(sizeof(struct volume) <= sizeof(struct flash_fs), "a volume is larger than FLASH_FS_BYTES");
+static_assert(_Alignof(struct volume) <= _Alignof(struct flash_fs), "a volume asks for more alignment");
+static_assert(sizeof(void *) == 8, "the library is made for processors of 64 bits");
+
+static struct volume *volume_of(struct flash_fs *fs)
+{
+    return (struct volume *)(void *)fs->opaque;
+}
+
+static struct flash_slot *slot_of(struct flash_fs *fs)
+{
+    return &volume_of(fs)->slot;
+}
+
+/* ---- Streams. Their numbers begin at a number that no file of a system is likely to have. */
+
+enum { FIRST_STREAM = 1000 };
+
+static struct volume *streams[FLASH_VOLUMES];
+
+static struct volume *volume_at(int stream)
+{
+    return stream >= FIRST_STREAM && stream < FIRST_STREAM + FLASH_VOLUMES ? streams[stream - FIRST_STREAM] : NULL;
+}
+
+static int open_stream(struct volume *volume, const struct flash_driver *driver)
+{
+    if (flash_port_bytes() != sizeof volume->stream || flash_slot_bytes() > sizeof volume->session)
+        return FLASH_EINVAL; /* this file is not of this library */
+    for (int i = 0; i < FLASH_VOLUMES; i++)
+        if (streams[i] == NULL) {
+            streams[i] = volume;
+            volume->slot.at = volume->session;
+            volume->driver = driver;
+            volume->stream = FIRST_STREAM + i;
+            volume->expected = EXPECTS_HEAD;
+            volume->returned = -1;
+            memset(volume->head, 0, sizeof volume->head);
+            memset(volume->tag, 0, sizeof volume->tag);
+            return 0;
+        }
+    return FLASH_EMFILE;
+}
+
+int flash_port_close(int stream)
+{
+    if (volume_at(stream) != NULL)
+        streams[stream - FIRST_STREAM] = NULL;
+    return 0;
+}
+
+/* The error of a stream is always EIO, of which the library makes a loss of power. */
+int32_t rattle_errno(void)
+{
+    return -FLASH_EIO;
+}
+
+/* ---- Requests */
+
+static uint32_t number_at(const uint8_t *bytes)
+{
+    return (uint32_t)bytes[0] | (uint32_t)bytes[1] << 8 | (uint32_t)bytes[2] << 16 | (uint32_t)bytes[3] << 24;
+}
+
+static void put_number(uint8_t *bytes, uint32_t number)
+{
+    for (int i = 0; i < 4; i++)
+        bytes[i] = (uint8_t)(number >> (8 * i));
+}
+
+/* A number that no call may return is a loss of power, also where a byte of it looks like another one. */
+static int checked(int returned)
+{
+    return returned >= 0 && returned <= FLASH_UNCORRECTABLE ? returned : -1;
+}
+
+static void begin(struct volume *volume)
+{
+    const struct flash_driver *driver = volume->driver;
+    uint32_t block = number_at(volume->head + 4), page = number_at(volume->head + 8);
+    switch (volume->head[0]) {
+    case 'M':
+        volume->returned = checked(driver->is_bad(driver->context, block));
+        break;
+    case 'T':
+        volume->returned = checked(driver->read_tag(driver->context, block, page, volume->tag));
+        break;
+    case 'P':
+        volume->expected = EXPECTS_TAG;
+        break;
+    case 'E':
+        volume->returned = checked(driver->erase(driver->context, block));
+        break;
+    case 'B':
+        volume->returned = checked(driver->mark_bad(driver->context, block));
+        break;
+    default: /* 'G' and 'R' are served when they are read */
+        break;
+    }
+}
+
+ssize_t flash_port_write(int stream, const void *bytes, size_t size)
+{
+    struct volume *volume = volume_at(stream);
+    if (volume == NULL)
+        return -1;
+    const struct flash_driver *driver = volume->driver;
+    switch (volume->expected) {
+    case EXPECTS_HEAD:
+        if (size != HEAD_BYTES)
+            return -1;
+        volume->returned = -1;
+        memcpy(volume->head, bytes, HEAD_BYTES);
+        begin(volume);
+        return HEAD_BYTES;
+    case EXPECTS_TAG:
+        if (size != FLASH_TAG_BYTES)
+            return -1;
+        memcpy(volume->tag, bytes, FLASH_TAG_BYTES);
+        volume->expected = EXPECTS_DATA;
+        return FLASH_TAG_BYTES;
+    case EXPECTS_DATA:
+        if (size != driver->page_bytes)
+            return -1;
+        volume->expected = EXPECTS_HEAD;
+        volume->returned = checked(driver->program(driver->context, number_at(volume->head + 4),
+                                                   number_at(volume->head + 8), bytes, volume->tag));
+        return (ssize_t)size;
+    }
+    return -1;
+}
+
+/* A page is read by the driver to where the library wants it. */
+ssize_t flash_port_read(int stream, void *bytes, size_t size)
+{
+    struct volume *volume = volume_at(stream);
+    if (volume == NULL || size == 0)
+        return -1;
+    const struct flash_driver *driver = volume->driver;
+    uint8_t *answer = bytes;
+    if (volume->head[0] == 'G' && size == SIZES_BYTES) {
+        put_number(answer, driver->page_bytes);
+        put_number(answer + 4, driver->block_pages);
+        put_number(answer + 8, driver->blocks);
+        return SIZES_BYTES;
+    }
+    if (volume->head[0] == 'R' && size == driver->page_bytes) {
+        volume->returned = checked(driver->read_page(driver->context, number_at(volume->head + 4),
+                                                     number_at(volume->head + 8), answer, volume->tag));
+        return volume->returned < 0 ? -1 : (ssize_t)size;
+    }
+    if (volume->returned < 0 || (size != 1 && size != 1 + FLASH_TAG_BYTES))
+        return -1;
+    answer[0] = (uint8_t)volume->returned;
+    memcpy(answer + 1, volume->tag, size - 1);
+    return (ssize_t)size;
+}
+
+/* ---- Volumes */
+
+int flash_fs_format(struct flash_fs *fs, const struct flash_driver *driver, uint32_t spare)
+{
+    struct volume *volume = volume_of(fs);
+    if (volume->slot.full)
+        return FLASH_EBUSY;
+    int code = open_stream(volume, driver);
+    return code < 0 ? code : flash_format((struct flash_port){&volume->stream}, spare);
+}
+
+int flash_fs_mount_with(struct flash_fs *fs, const struct flash_driver *driver, uint32_t cache_pages)
+{
+    struct volume *volume = volume_of(fs);
+    if (volume->slot.full)
+        return FLASH_EBUSY;
+    int code = open_stream(volume, driver);
+    return code < 0 ? code : flash_mount_with(&volume->slot, (struct flash_port){&volume->stream}, cache_pages);
+}
+
+int flash_fs_mount(struct flash_fs *fs, const struct flash_driver *driver)
+{
+    return flash_fs_mount_with(fs, driver, 16);
+}
+
+int flash_fs_unmount(struct flash_fs *fs)
+{
+    return flash_unmount(slot_of(fs));
+}
+
+void flash_fs_abandon(struct flash_fs *fs)
+{
+    flash_abandon(slot_of(fs));
+}
+
+int flash_fs_read_only(struct flash_fs *fs)
+{
+    return flash_read_only(slot_of(fs));
+}
+
+int flash_fs_stopped(struct flash_fs *fs)
+{
+    return flash_stopped(slot_of(fs));
+}
+
+/* ---- Commands */
+
+#define PATH(path) (const uint8_t *)(path), strlen(path)
+
+int flash_fs_mkdir(struct flash_fs *fs, const char *path, uint64_t moment)
+{
+    return flash_mkdir(slot_of(fs), PATH(path), moment);
+}
+
+int flash_fs_rmdir(struct flash_fs *fs, const char *path, uint64_t moment)
+{
+    return flash_rmdir(slot_of(fs), PATH(path), moment);
+}
+
+int flash_fs_unlink(struct flash_fs *fs, const char *path, uint64_t moment)
+{
+    return flash_unlink(slot_of(fs), PATH(path), moment);
+}
+
+int flash_fs_link(struct flash_fs *fs, const char *old_path, const char *new_path, uint64_t moment)
+{
+    return flash_link(slot_of(fs), PATH(old_path), PATH(new_path), moment);
+}
+
+int flash_fs_rename(struct flash_fs *fs, const char *old_path, const char *new_path, uint64_t moment)
+{
+    return flash_rename(slot_of(fs), PATH(old_path), PATH(new_path), moment);
+}
+
+int flash_fs_stat(struct flash_fs *fs, const char *path, struct flash_info *info)
+{
+    return flash_stat(slot_of(fs), PATH(path), info);
+}
+
+int64_t flash_fs_list(struct flash_fs *fs, const char *path, char *buffer, size_t size)
+{
+    return flash_list(slot_of(fs), PATH(path), (uint8_t *)buffer, size);
+}
+
+int flash_fs_space(struct flash_fs *fs, struct flash_space *space)
+{
+    return flash_space(slot_of(fs), space);
+}
+
+int flash_fs_open(struct flash_fs *fs, const char *path, uint32_t flags, uint64_t moment)
+{
+    const uint32_t all = FLASH_RDWR | FLASH_CREAT | FLASH_EXCL | FLASH_TRUNC | FLASH_APPEND;
+    if ((flags & FLASH_RDWR) == 0 || (flags & ~all) != 0)
+        return FLASH_EINVAL;
+    return (int)flash_open(slot_of(fs), PATH(path), flags, moment);
+}
+
+int flash_fs_close(struct flash_fs *fs, int fd)
+{
+    return flash_close(slot_of(fs), (uint32_t)fd);
+}
+
+int64_t flash_fs_read(struct flash_fs *fs, int fd, void *buffer, size_t size)
+{
+    uint8_t none;
+    return flash_read(slot_of(fs), (uint32_t)fd, size == 0 ? &none : buffer, size);
+}
+
+int64_t flash_fs_write(struct flash_fs *fs, int fd, const void *bytes, size_t size, uint64_t moment)
+{
+    static const uint8_t none;
+    return flash_write(slot_of(fs), (uint32_t)fd, size == 0 ? &none : bytes, size, moment);
+}
+
+int64_t flash_fs_seek(struct flash_fs *fs, int fd, int64_t offset, int whence)
+{
+    if (whence < FLASH_SEEK_SET || whence > FLASH_SEEK_END)
+        return FLASH_EINVAL;
+    return flash_seek(slot_of(fs), (uint32_t)fd, offset, (uint32_t)whence);
+}
+
+int flash_fs_truncate(struct flash_fs *fs, int fd, int64_t length, uint64_t moment)
+{
+    return flash_truncate(slot_of(fs), (uint32_t)fd, length, moment);
+}
+
+int flash_fs_fsync(struct flash_fs *fs, int fd)
+{
+    return flash_fsync(slot_of(fs), (uint32_t)fd);
+}
+
+int flash_fs_sync(struct flash_fs *fs)
+{
+    return flash_sync(slot_of(fs));
+}

@@ -1,0 +1,210 @@
+#!/usr/bin/env bash
+# The tests of the C library: a line for each, and at the end how many there were. What asks for a tool that is not on the machine
+# is skipped, with a line. FLASH_C_ARCHIVE names a libflash_c.a that is there; else `rt lib` makes one. OUT: where all is built.
+#
+#   bash c/test.sh [quick]     quick: without the sanitizer and without valgrind
+set -u
+[ -z "${FLASH_C_ARCHIVE:-}" ] || export FLASH_C_ARCHIVE=$(realpath "$FLASH_C_ARCHIVE")
+cd "$(dirname "$0")" || exit 2
+OUT=${OUT:-out}
+CC=${CC:-gcc}
+FLAGS="-std=c11 -Wall -Wextra -Wpedantic -Werror -O2 -g -I. -Idrivers -Iexamples"
+passed=0 failed=0 skipped=0
+log=$(mktemp)
+work=$(mktemp -d)
+trap 'rm -rf "$log" "$work"' EXIT
+
+# Runs a command as a test: NAME COMMAND..
+run() {
+    local name=$1 begun=$SECONDS status
+    shift
+    "$@" > "$log" 2>&1
+    status=$?
+    if [ $status -eq 0 ]; then
+        passed=$((passed + 1))
+        printf 'ok    %s (%s s)\n' "$name" $((SECONDS - begun))
+        [ -z "${VERBOSE:-}" ] || cat "$log"
+    else
+        failed=$((failed + 1))
+        printf 'FAIL  %s (status %s)\n' "$name" $status
+        tail -n 30 "$log"
+    fi
+}
+
+skip() {
+    skipped=$((skipped + 1))
+    printf 'skip  %s: %s\n' "$1" "$2"
+}
+
+has() { command -v "$1" > /dev/null 2>&1; }
+
+# Compiles a program: OUTPUT WORDS..
+build() {
+    local output=$1
+    shift
+    $CC $FLAGS -o "$OUT/$output" "$@"
+}
+
+compiles() { echo 'int main(void) { return 0; }' | $CC "$@" -x c -o "$work/tried" - 2> /dev/null && "$work/tried"; }
+includes() { echo "#include <$1>" | $CC -E -x c - > /dev/null 2>&1; }
+
+# The names of the header are those of the library, and it asks a program for few others.
+names() {
+    sed -n 's/^[a-z].*[ *]\(flash_fs_[a-z_]*\)(.*/\1/p' flash_fs.h | sort > "$work/declared"
+    nm --defined-only "$OUT/libflashfs.a" 2> /dev/null | awk '$2 ~ /[TDBRV]/ { print $3 }' | grep -v '^rattle_' | sort > "$work/defined"
+    diff "$work/declared" "$work/defined" || return 1
+    nm --defined-only "$OUT/libflash_c.a" 2> /dev/null | awk '$2 == "T" && $3 ~ /^flash_/ { print $3 }' | sort > "$work/exported"
+    sed -n 's/^[a-z].*[ *]\(flash_[a-z_]*\)(.*;$/\1/p; s/^int flash_\(link\|rename\)(.*,$/flash_\1/p' flash_port.c |
+        grep -v -e '^flash_port_write' -e '^flash_port_read' -e '^flash_port_close' | sort > "$work/known"
+    diff "$work/exported" "$work/known" || return 1
+    nm -u "$OUT/flash_fs.o" | awk '{ print $2 }' | sort > "$work/asked"
+    printf '%s\n' bcmp memcmp memcpy memmove memset rattle_alloc rattle_dealloc rattle_realloc strlen _GLOBAL_OFFSET_TABLE_ |
+        sort > "$work/allowed"
+    if [ -n "$(comm -23 "$work/asked" "$work/allowed")" ]; then
+        echo "the library asks for more than it may:"
+        comm -23 "$work/asked" "$work/allowed"
+        return 1
+    fi
+}
+
+# The numbers of errors are those of the proved library, whose sources are in the folder: each name has its number, and no number
+# is in one of them alone.
+numbers() {
+    sed -n 's/^ *FLASH_\(E[A-Z]*\) = \(-[0-9]*\).*/\1 \2/p' flash_fs.h | sort > "$work/header"
+    sed -n 's/.*Errno::\(E[A-Z]*\) => \(-[0-9]*\).*/\1 \2/p' "$1"/*.rt | sort > "$work/library"
+    [ -s "$work/library" ] && [ -z "$(comm -13 "$work/header" "$work/library")" ] || return 1
+    grep -ho -- '= *>* *-[0-9][0-9]*' "$1"/*.rt | grep -o -- '-[0-9]*' | sort -u > "$work/library"
+    diff "$work/library" <(awk '{ print $2 }' "$work/header" | sort -u)
+}
+
+# An image that C made is checked by the program of the repository, and one that the program made is shown by C.
+images() {
+    local program=$1
+    "$OUT/make_image" "$work/c.img" > "$work/wanted" && "$program" check "$work/c.img" > "$work/there" || return 1
+    diff "$work/wanted" "$work/there" || return 1
+    "$program" format "$work/program.img" > /dev/null || return 1
+    printf 'mkdir /a\nopen /a/b wc\nwrite 0 hello\nclose 0\nlink /a/b /c\n' | "$program" run "$work/program.img" || return 1
+    "$OUT/list" "$work/program.img" | tee "$work/tree"
+    [ "$(awk '{ print $NF }' "$work/tree" | tr '\n' ' ')" = "/a/ /a/b /c " ] && [ "$("$OUT/list" "$work/program.img" /c)" = hello ]
+}
+
+# An image that C made is shown by C.
+image_of_c() {
+    "$OUT/make_image" "$work/own.img" && "$OUT/list" "$work/own.img" > "$work/tree" && [ "$(wc -l < "$work/tree")" -eq 32 ] &&
+        [ "$("$OUT/list" "$work/own.img" /logs/old/29 | wc -c)" -eq 87000 ]
+}
+
+installed() {
+    make -s OUT="$OUT" PREFIX="$work/prefix" install || return 1
+    local words="-I$work/prefix/include -L$work/prefix/lib -lflashfs"
+    if has pkg-config; then
+        words=$(PKG_CONFIG_PATH="$work/prefix/lib/pkgconfig" pkg-config --cflags --libs flashfs) || return 1
+    fi
+    $CC -std=c11 -Idrivers -o "$work/hello" examples/hello.c drivers/ram_nand.c $words && "$work/hello"
+}
+
+with_cmake() {
+    cmake -S test/cmake -B "$work/cmake" ${FLASH_C_ARCHIVE:+-DFLASH_C_ARCHIVE="$FLASH_C_ARCHIVE"} &&
+        cmake --build "$work/cmake" && "$work/cmake/hello"
+}
+
+cpp() { g++ -std=c++14 -Wall -Wextra -Wpedantic -Werror -I. -Idrivers -o "$OUT/volume" examples/volume.cpp "$OUT/ram_nand.o" "$OUT/libflashfs.a" && "$OUT/volume"; }
+rust() { rustc --edition 2024 -D warnings -L "native=$OUT" --out-dir "$work" examples/volume.rs && [ "$("$work/volume")" = today ]; }
+
+run "the library, by make" make -s OUT="$OUT"
+[ $failed -eq 0 ] || exit 1
+
+HARNESS="test/commands.c test/model.c drivers/ram_nand.c"
+LIBRARY="$OUT/libflashfs.a"
+$CC $FLAGS -c -o "$OUT/ram_nand.o" drivers/ram_nand.c
+builds() {
+    build test_header test/test_header.c "$OUT/flash_port.o" "$OUT/libflash_c.a" "$OUT/flash_malloc.o" &&
+        build test_heap test/test_heap.c test/commands.c test/model.c "$OUT/libflashfs_heap.a" "$LIBRARY" &&
+        build test_drivers test/test_drivers.c drivers/driver_check.c drivers/file_nand.c $HARNESS "$LIBRARY" &&
+        build test_model test/test_model.c $HARNESS "$LIBRARY" &&
+        build test_model_in_region -DREGION test/test_model.c $HARNESS "$OUT/libflashfs_heap.a" "$LIBRARY" &&
+        build test_cuts test/test_cuts.c $HARNESS "$LIBRARY" &&
+        build test_lies test/test_lies.c $HARNESS "$LIBRARY" &&
+        build test_memory test/test_memory.c $HARNESS "$LIBRARY" &&
+        build make_image test/make_image.c test/commands.c test/model.c drivers/file_nand.c "$LIBRARY" &&
+        build list examples/list.c drivers/file_nand.c "$LIBRARY" &&
+        build hello examples/hello.c drivers/ram_nand.c "$LIBRARY" &&
+        build power_loss examples/power_loss.c drivers/ram_nand.c "$LIBRARY"
+}
+run "the tests and examples compile" builds
+[ $failed -eq 0 ] || exit 1
+
+run "the header's numbers" "$OUT/test_header"
+run "the names of header and library" names
+if [ -d ../crates/flash_c/src ]; then
+    run "the header's errors and the library's" numbers ../crates/flash_c/src
+else
+    skip "the header's errors and the library's" "crates/flash_c is not here"
+fi
+run "the allocator over a region" "$OUT/test_heap"
+run "the drivers, and drivers that break a promise" "$OUT/test_drivers" "$work"
+if includes mtd/mtd-user.h && echo '#include <sys/ioctl.h>
+#include <mtd/mtd-user.h>
+unsigned long command = MEMREAD;' | $CC -fsyntax-only -x c - 2> /dev/null; then
+    run "the driver of Linux's devices compiles" build try_mtd test/try_mtd.c drivers/mtd_nand.c drivers/driver_check.c $HARNESS "$LIBRARY"
+else
+    skip "the driver of Linux's devices compiles" "no mtd/mtd-user.h with MEMREAD"
+fi
+run "the skeleton of an SPI driver compiles" $CC $FLAGS -c -o "$OUT/spi_nand.o" drivers/spi_nand.c
+run "drawn calls beside the model" "$OUT/test_model" 10000
+run "drawn calls beside the model, in a region of memory" "$OUT/test_model_in_region" 2000 7
+run "power that goes, and calls that fail" "$OUT/test_cuts" 1000
+run "drivers that lie" "$OUT/test_lies" 2000
+run "memory that is refused, many mounts, several volumes" "$OUT/test_memory" 100
+run "the example hello" "$OUT/hello"
+run "the example power_loss" "$OUT/power_loss"
+run "an image that C made, shown by C" image_of_c
+if [ -x ../crates/flashsh/out/flashsh ]; then
+    run "images, with the program of the repository" images ../crates/flashsh/out/flashsh
+else
+    skip "images, with the program of the repository" "crates/flashsh is not built"
+fi
+run "make install" installed
+if has cmake; then run "with CMake" with_cmake; else skip "with CMake" "no cmake"; fi
+if has g++; then run "the wrapper for C++" cpp; else skip "the wrapper for C++" "no g++"; fi
+if has rustc && [ "$(rustc --version | sed 's/rustc 1\.\([0-9]*\).*/\1/')" -ge 85 ]; then
+    run "the wrapper for Rust" rust
+else
+    skip "the wrapper for Rust" "no rustc from 1.85 on"
+fi
+if includes sqlite3.h && compiles -lsqlite3; then
+    run "SQLite compiles" build test_sqlite test/test_sqlite.c examples/sqlite_vfs.c $HARNESS "$LIBRARY" -lsqlite3
+    run "SQLite, with power that goes" "$OUT/test_sqlite" 60
+else
+    skip "SQLite, with power that goes" "no sqlite3.h or no libsqlite3"
+fi
+
+if [ "${1:-}" != quick ]; then
+    sanitizer="-fsanitize=address,undefined -fno-sanitize-recover=all"
+    if compiles $sanitizer; then
+        sanitized() {
+            build "$1_sanitized" $sanitizer "test/$1.c" drivers/driver_check.c drivers/file_nand.c $HARNESS flash_port.c "${@:2}" \
+                "$OUT/libflash_c.a"
+        }
+        run "compiled with the sanitizer" eval 'sanitized test_model flash_malloc.c && sanitized test_lies flash_malloc.c &&
+            sanitized test_cuts flash_malloc.c && sanitized test_memory && sanitized test_drivers flash_malloc.c'
+        run "sanitizer: drawn calls" "$OUT/test_model_sanitized" 1500 3
+        run "sanitizer: drivers that lie" "$OUT/test_lies_sanitized" 400 3
+        run "sanitizer: power that goes" "$OUT/test_cuts_sanitized" 100 3
+        run "sanitizer: memory that is refused" "$OUT/test_memory_sanitized" 20 3
+        run "sanitizer: the drivers" "$OUT/test_drivers_sanitized" "$work"
+    else
+        skip "sanitizer" "the compiler has none"
+    fi
+    if has valgrind; then
+        checked() { valgrind -q --error-exitcode=9 --leak-check=full --show-leak-kinds=definite "$@"; }
+        run "valgrind: drawn calls" checked "$OUT/test_model" 300 5
+        run "valgrind: drivers that lie" checked "$OUT/test_lies" 60 5
+        run "valgrind: memory that is refused" checked "$OUT/test_memory" 4 5
+    else
+        skip "valgrind" "it is not here"
+    fi
+fi
+
+printf '%s passed, %s failed, %s skipped\n' $passed $failed $skipped
+[ $failed -eq 0 ]

@@ -1,0 +1,206 @@
+/* Drivers that lie: they return kinds and numbers at random, fill tags and data with garbage, change what was written, or return
+ * what no call may return. Each function comes to its end after few calls of the driver, touches no memory that is not its own
+ * (under a sanitizer, or valgrind), and keeps what flash_fs.h says of the calls of a driver.
+ *
+ *   test_lies [VOLUMES] [SEED]
+ */
+#include "commands.h"
+
+#include <stdio.h>
+#include <stdlib.h>
+#include <string.h>
+
+enum { PAGE = 512, PAGES = 32, BLOCKS = 8, MOST_CALLS = 200000 };
+
+static struct flash_fs fs;
+
+/* A flash in memory, with how often it lies: one call in `lies` (0: none, 1: each). */
+static struct {
+    struct draw draw;
+    uint32_t lies, kind_of_lie;
+    uint8_t kinds[BLOCKS][PAGES], tags[BLOCKS][PAGES][FLASH_TAG_BYTES], data[BLOCKS][PAGES][PAGE], bad[BLOCKS];
+    uint32_t next[BLOCKS]; /* by what was returned */
+    uint8_t told_bad[BLOCKS];
+    uint64_t calls, all_calls, told_lies;
+    bool gone;
+} nand;
+
+static void begins(uint32_t block, uint32_t page)
+{
+    check(block < BLOCKS && page < PAGES, "a place that is not there");
+    check(!nand.gone, "a call after power was reported lost");
+    check(++nand.calls < MOST_CALLS, "a call does not come to its end");
+    nand.all_calls++;
+}
+
+static bool is_lie(void)
+{
+    bool lie = nand.lies != 0 && drawn(&nand.draw, nand.lies) == 0;
+    nand.told_lies += lie;
+    return lie;
+}
+
+static int returns(int number, int most)
+{
+    if (number < 0 || number > most)
+        nand.gone = true;
+    return number;
+}
+
+/* A number that a driver may return, or one that none may. */
+static int wild(void)
+{
+    static const int numbers[] = {0, 0, 1, 1, 1, 1, 2, 2, 3, 256, 257, -1, INT32_MAX, INT32_MIN};
+    return numbers[drawn(&nand.draw, drawn(&nand.draw, 4) == 0 ? 14 : 8)];
+}
+
+static void spoil(uint8_t *bytes, size_t size)
+{
+    switch (drawn(&nand.draw, 5)) {
+    case 0:
+        for (size_t i = 0; i < size; i++)
+            bytes[i] = (uint8_t)drawn(&nand.draw, 256);
+        break;
+    case 1: /* a field of a tag or a header: a great number, or another small one */
+        memset(bytes + 8 * drawn(&nand.draw, 6), drawn(&nand.draw, 2) == 0 ? 0xff : 0, 8);
+        bytes[8 * drawn(&nand.draw, 6)] = (uint8_t)drawn(&nand.draw, 5);
+        break;
+    case 2: /* of another page */
+        memcpy(bytes, size == FLASH_TAG_BYTES ? nand.tags[drawn(&nand.draw, BLOCKS)][drawn(&nand.draw, PAGES)]
+                                              : nand.data[drawn(&nand.draw, BLOCKS)][drawn(&nand.draw, PAGES)],
+               size);
+        break;
+    default:
+        bytes[drawn(&nand.draw, (uint32_t)size)] ^= (uint8_t)(1 << drawn(&nand.draw, 8));
+        break;
+    }
+}
+
+static int is_bad(void *context, uint32_t block)
+{
+    (void)context;
+    begins(block, 0);
+    int returned = returns(is_lie() ? wild() : nand.bad[block], 1);
+    nand.told_bad[block] = returned == 1;
+    return returned;
+}
+
+static int read_page(void *context, uint32_t block, uint32_t page, uint8_t *data, uint8_t *tag)
+{
+    (void)context;
+    begins(block, page);
+    bool lie = is_lie();
+    memcpy(tag, nand.tags[block][page], FLASH_TAG_BYTES);
+    if (data != NULL)
+        memcpy(data, nand.data[block][page], PAGE);
+    if (!lie || nand.kind_of_lie == 2)
+        return nand.kinds[block][page];
+    if (nand.kind_of_lie == 0 || drawn(&nand.draw, 2) == 0)
+        spoil(tag, FLASH_TAG_BYTES);
+    if (data != NULL)
+        spoil(data, PAGE);
+    return nand.kind_of_lie == 1 ? nand.kinds[block][page] : returns(wild(), FLASH_UNCORRECTABLE);
+}
+
+static int read_tag(void *context, uint32_t block, uint32_t page, uint8_t *tag)
+{
+    return read_page(context, block, page, NULL, tag);
+}
+
+static int program(void *context, uint32_t block, uint32_t page, const uint8_t *data, const uint8_t *tag)
+{
+    (void)context;
+    begins(block, page);
+    check(!nand.told_bad[block] && nand.next[block] == page, "a program out of order, or in a bad block");
+    memcpy(nand.data[block][page], data, PAGE);
+    memcpy(nand.tags[block][page], tag, FLASH_TAG_BYTES);
+    nand.kinds[block][page] = FLASH_WRITTEN;
+    int returned = FLASH_DONE;
+    if (is_lie()) {
+        if (nand.kind_of_lie != 1)
+            returned = returns(wild(), FLASH_FAILED);
+        if (drawn(&nand.draw, 2) == 0)
+            nand.kinds[block][page] = (uint8_t)drawn(&nand.draw, 3);
+        else
+            spoil(drawn(&nand.draw, 2) == 0 ? nand.tags[block][page] : nand.data[block][page], FLASH_TAG_BYTES);
+    }
+    nand.next[block] = returned == FLASH_DONE ? page + 1 : UINT32_MAX;
+    return returned;
+}
+
+static int erase(void *context, uint32_t block)
+{
+    (void)context;
+    begins(block, 0);
+    bool lie = is_lie();
+    for (uint32_t page = 0; page < PAGES; page++)
+        if (!lie || drawn(&nand.draw, 2) == 0)
+            nand.kinds[block][page] = FLASH_ERASED;
+    int returned = lie && nand.kind_of_lie != 1 ? returns(wild(), FLASH_FAILED) : FLASH_DONE;
+    nand.next[block] = returned == FLASH_DONE ? 0 : UINT32_MAX;
+    return returned;
+}
+
+static int mark_bad(void *context, uint32_t block)
+{
+    (void)context;
+    begins(block, 0);
+    int returned = is_lie() && nand.kind_of_lie != 1 ? returns(wild(), 0) : 0;
+    nand.bad[block] = drawn(&nand.draw, 2) == 0 || returned == 0;
+    if (returned == 0)
+        nand.told_bad[block] = 1;
+    return returned;
+}
+
+static const struct flash_driver driver = {NULL, PAGE, PAGES, BLOCKS, is_bad, read_tag, read_page, program, erase, mark_bad};
+
+static void power_up(void)
+{
+    nand.gone = false;
+    nand.calls = 0;
+    memset(nand.told_bad, 0, sizeof nand.told_bad);
+    for (uint32_t block = 0; block < BLOCKS; block++)
+        nand.next[block] = UINT32_MAX;
+}
+
+int main(int count, char **words)
+{
+    static const uint32_t often[] = {1, 2, 5, 20, 100, 400, 2000};
+    uint64_t volumes = count > 1 ? strtoull(words[1], NULL, 10) : 2000, seed = count > 2 ? strtoull(words[2], NULL, 10) : 1;
+    uint64_t mounts = 0, refused = 0, done = 0, calls = 0;
+    for (uint64_t i = 0; i < volumes; i++) {
+        memset(nand.kinds, FLASH_ERASED, sizeof nand.kinds);
+        memset(nand.bad, 0, sizeof nand.bad);
+        nand.draw.state = seed * 1000003 + i;
+        power_up();
+        nand.lies = i % 3 == 0 ? often[i / 3 % 7] : 0;
+        (void)flash_fs_format(&fs, &driver, (uint32_t)(i % 4));
+        for (int mount = 0; mount < 6; mount++) {
+            power_up();
+            nand.lies = mount == 0 && i % 3 != 0 ? 0 : often[drawn(&nand.draw, 7)];
+            nand.kind_of_lie = drawn(&nand.draw, 3);
+            if (flash_fs_mount_with(&fs, &driver, drawn(&nand.draw, 4)) < 0) {
+                refused++;
+                check(flash_fs_unmount(&fs) == FLASH_EINVAL, "an unmount after a mount that failed");
+                continue;
+            }
+            mounts++;
+            for (int call = 0; call < 50; call++) {
+                struct command command = draw_command(&nand.draw, 3000);
+                nand.calls = 0;
+                done += do_on_volume(&fs, &command).code >= 0;
+                calls++;
+            }
+            nand.calls = 0;
+            if (drawn(&nand.draw, 3) == 0)
+                flash_fs_abandon(&fs);
+            else
+                (void)flash_fs_unmount(&fs);
+            check(flash_fs_unmount(&fs) == FLASH_EINVAL, "a second unmount");
+        }
+    }
+    printf("  %llu volumes, %llu lies in %llu calls of the driver: %llu mounts and %llu refused, %llu of %llu calls done\n",
+           (unsigned long long)volumes, (unsigned long long)nand.told_lies, (unsigned long long)nand.all_calls,
+           (unsigned long long)mounts, (unsigned long long)refused, (unsigned long long)done, (unsigned long long)calls);
+    return 0;
+}

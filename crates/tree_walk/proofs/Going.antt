@@ -29,7 +29,7 @@ at_least_2 z m o named (inl (f, has, kind, chunks, none)) i x is = absurd (nothi
 at_least_2 z m o named (inr (f, has, kind, slots, are, all)) i x is =
     let e = at_mapped (λ (entry : Entry). entry.object) slots i x (ap (λ xs. slice_get xs i) (sym all) ∙ is) in
     let slot = are.each i e.0 e.1 in
-    omega (arith, slot.2.object.0, e.2)
+    omega (arith, slot.2.slot.object.0, e.2)
 
 once_one : (x : ℕ) → IsOnce (x ∷ [])
 once_one x zero zero o at at' = refl

@@ -1,5 +1,6 @@
 -- Which keys a list of changes notes.
-use Rattle.std.specs.Prelude.{◌≡◌, ◌⊎◌, ◌<◌, ◌≤◌, ℕ, List, length, get_or, Bool, true}
+use Rattle.std.specs.Prelude.{◌≡◌, ◌⊎◌, ◌<◌, ◌≤◌, ◌+◌, ℕ, List, length, get_or, Bool, true}
+use Rattle.std.specs.Vec.{vec_len, vec_capacity}
 use Rattle.flash_tree.specs.declared.place.Key.{Key}
 use Rattle.chunk_index.specs.Shelves.{IsListed}
 use Rattle.chunk_index.specs.declared.changes.ChangeList.{ChangeList}
@@ -19,6 +20,10 @@ IsNoted x = IsNotedBy x.keys.items x.cuts.items x.has_all
 -- no key is noted
 abbrev pub NotesNone : ChangeList → Type 0
 NotesNone x = (o c : ℕ) → IsNoted x o c → ⊥
+
+-- there is room for so many notes more of each kind
+abbrev pub HasRoomFor : ℕ → ChangeList → Type 0
+HasRoomFor n x = (vec_len x.keys + n ≤ vec_capacity x.keys) × (vec_len x.cuts + n ≤ vec_capacity x.cuts)
 
 -- what was noted still is
 abbrev pub KeepsNotes : ChangeList → ChangeList → Type 0

@@ -1,6 +1,6 @@
 // The keys whose present page may not be the kept one.
-ghost use Rattle.std.specs.Prelude.{◌≡◌, ◌≤◌, ℕ, true};
-ghost use Rattle.chunk_index.specs.Noted.{IsNoted, KeepsNotes, NotesNone};
+ghost use Rattle.std.specs.Prelude.{◌≡◌, ◌≤◌, ℕ, OnOk};
+ghost use Rattle.chunk_index.specs.Noted.{IsNoted, KeepsNotes, NotesNone, HasRoomFor};
 
 use flash_tree::Key;
 use std::alloc::{AllocError, Global};
@@ -33,6 +33,7 @@ impl ChangeList {
     /// Sees that there is room for more notes of each kind.
     pub fn reserve(&mut self) -> Result<(), AllocError>
         ensures notes { KeepsNotes self.old self.new }
+        ensures room { OnOk result (HasRoomFor 64 self.new) }
     {
         self.keys.reserve(SPARE_NOTES)?;
         self.cuts.reserve(SPARE_NOTES)
@@ -41,6 +42,7 @@ impl ChangeList {
     /// Notes a key.
     pub fn note(&mut self, key: Key)
         ensures notes { KeepsNotes self.old self.new }
+        ensures alone { HasRoomFor 1 self.old → self.new.has_all ≡ self.old.has_all }
         ensures noted { ∥ IsNoted self.new key.object key.chunk ∥₁ }
     {
         if self.keys.len() >= self.keys.capacity() {
@@ -53,6 +55,7 @@ impl ChangeList {
     /// Notes all chunks of an object from one on.
     pub fn note_from(&mut self, from: Key)
         ensures notes { KeepsNotes self.old self.new }
+        ensures alone { HasRoomFor 1 self.old → self.new.has_all ≡ self.old.has_all }
         ensures noted { (c : ℕ) → from.chunk ≤ c → ∥ IsNoted self.new from.object c ∥₁ }
     {
         if self.cuts.len() >= self.cuts.capacity() {

@@ -7,7 +7,7 @@ ghost use Rattle.flash_c.specs.Numbers.{error_number};
 use crate::numbers::{error_number, signed};
 use posix_calls::{Errno, Kind, Reply};
 
-/// What is told of an object: `kind` is 1 for a file and 2 for a directory, `size` counts the bytes of a file.
+/// What is reported of an object: `kind` is 1 for a file and 2 for a directory, `size` counts the bytes of a file.
 #[repr(C)]
 #[derive(Clone, Copy)]
 pub struct FlashInfo {
@@ -64,7 +64,7 @@ fn kind_number(kind: Kind) -> u64
     }
 }
 
-/// Puts what is told of an object in the struct.
+/// Puts what is reported of an object in the struct.
 pub(crate) fn put_info(info: &mut FlashInfo, reply: &Reply) -> i32
     ensures number { result ≡ info_number reply.now }
     ensures info { info.new ≡ info_filled info.old reply.now }

@@ -30,7 +30,7 @@ pub extern "C" fn flash_read(slot: &mut Slot, fd: u32, buffer: &mut [u8]) -> i64
     number
 }
 
-/// Tells what a path leads to.
+/// Reports what a path leads to.
 #[unsafe(no_mangle)]
 pub extern "C" fn flash_stat(
     alloc: Global,
@@ -72,7 +72,7 @@ pub extern "C" fn flash_list(alloc: Global, slot: &mut Slot, path: &[u8], buffer
     number
 }
 
-/// Tells the room of the volume.
+/// Reports the room of the volume.
 #[unsafe(no_mangle)]
 pub extern "C" fn flash_space(slot: &mut Slot, room: &mut FlashSpace) -> i32
     ensures { (reply : Reply) × Replied ⟦<Session as Serve>⟧.serves slot.old (at 0 commands.Space) reply slot.new

@@ -52,7 +52,7 @@ pub(crate) fn read<S: Serve>(session: &mut S, fd: u32, buffer: &mut [u8]) -> i64
     put_data(buffer, &session.serve(&Stamped { moment: 0, command }))
 }
 
-/// Tells what a path leads to in the struct.
+/// Reports what a path leads to in the struct.
 pub(crate) fn stat<S: Serve>(session: &mut S, path: FilePath, info: &mut FlashInfo) -> i32
     ensures { (reply : Reply) × S.serves session.old (at 0 (commands.Stat path)) reply session.new
         × (result ≡ info_number reply) × (info.new ≡ info_filled info.old reply) }
@@ -70,7 +70,7 @@ pub(crate) fn list<S: Serve>(session: &mut S, path: FilePath, buffer: &mut [u8])
     put_names(buffer, &session.serve(&Stamped { moment: 0, command }))
 }
 
-/// Tells the room of the volume in the struct.
+/// Reports the room of the volume in the struct.
 pub(crate) fn space<S: Serve>(session: &mut S, space: &mut FlashSpace) -> i32
     ensures { (reply : Reply) × S.serves session.old (at 0 commands.Space) reply session.new
         × (result ≡ space_number reply) × (space.new ≡ space_filled space.old reply) }

@@ -70,13 +70,13 @@ pub(crate) fn put_info(info: &mut FlashInfo, reply: &Reply) -> i32
     ensures info { info.new ≡ info_filled info.old reply.now }
 {
     match reply {
-        Reply::Info(told) => {
+        Reply::Info(reported) => {
             *info = FlashInfo {
-                kind: kind_number(told.kind),
-                object: told.object,
-                links: told.links,
-                size: told.size,
-                moment: told.moment,
+                kind: kind_number(reported.kind),
+                object: reported.object,
+                links: reported.links,
+                size: reported.size,
+                moment: reported.moment,
             };
             0
         }
@@ -91,11 +91,11 @@ pub(crate) fn put_space(space: &mut FlashSpace, reply: &Reply) -> i32
     ensures space { space.new ≡ space_filled space.old reply.now }
 {
     match reply {
-        Reply::SpaceInfo(told) => {
+        Reply::SpaceInfo(reported) => {
             *space = FlashSpace {
-                unit: told.unit,
-                total: told.total,
-                free: told.free,
+                unit: reported.unit,
+                total: reported.total,
+                free: reported.free,
             };
             0
         }

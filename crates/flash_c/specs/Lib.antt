@@ -2,6 +2,7 @@ pub mod Filling
 pub mod Flags
 pub mod Held
 pub mod Numbers
+pub mod Questions
 pub mod Serving
 pub mod Sessions
 pub mod Slots

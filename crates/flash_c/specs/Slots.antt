@@ -40,7 +40,7 @@ pub record WritesIn (serves : Session → Stamped → Reply → Session → Type
 -- A question on the session of a slot: 1 is yes, 0 no. It changes nothing. An empty slot returns EINVAL.
 pub record IsAsked (old : Slot) (yes : Bool) (result : ℤ) (new : Slot) : Type 0 where
   pub full : new.full ≡ old.full
-  pub told : old.full ≡ true → (result ≡ (if yes then pos 1 else pos 0)) × (new.session ≡ old.session)
+  pub answer : old.full ≡ true → (result ≡ (if yes then pos 1 else pos 0)) × (new.session ≡ old.session)
   pub empty : old.full ≡ false → (result ≡ error_number errors.EINVAL) × (new ≡ old)
 
 -- A mount in a slot. 0 fills it with a session that is not stopped; any other number is below 0, and leaves it. A full slot returns EBUSY.

@@ -7,7 +7,7 @@ ghost use Rattle.flash_c.specs.Numbers.{error_number};
 use crate::numbers::{error_number, signed};
 use posix_calls::{Errno, Kind, Reply};
 
-/// What is told of an object: `kind` is 1 for a file and 2 for a directory, `size` counts the bytes of a file.
+/// What is reported of an object: `kind` is 1 for a file and 2 for a directory, `size` counts the bytes of a file.
 #[repr(C)]
 #[derive(Clone, Copy)]
 pub struct FlashInfo {
@@ -64,19 +64,19 @@ fn kind_number(kind: Kind) -> u64
     }
 }
 
-/// Puts what is told of an object in the struct.
+/// Puts what is reported of an object in the struct.
 pub(crate) fn put_info(info: &mut FlashInfo, reply: &Reply) -> i32
     ensures number { result ≡ info_number reply.now }
     ensures info { info.new ≡ info_filled info.old reply.now }
 {
     match reply {
-        Reply::Info(told) => {
+        Reply::Info(reported) => {
             *info = FlashInfo {
-                kind: kind_number(told.kind),
-                object: told.object,
-                links: told.links,
-                size: told.size,
-                moment: told.moment,
+                kind: kind_number(reported.kind),
+                object: reported.object,
+                links: reported.links,
+                size: reported.size,
+                moment: reported.moment,
             };
             0
         }
@@ -91,11 +91,11 @@ pub(crate) fn put_space(space: &mut FlashSpace, reply: &Reply) -> i32
     ensures space { space.new ≡ space_filled space.old reply.now }
 {
     match reply {
-        Reply::SpaceInfo(told) => {
+        Reply::SpaceInfo(reported) => {
             *space = FlashSpace {
-                unit: told.unit,
-                total: told.total,
-                free: told.free,
+                unit: reported.unit,
+                total: reported.total,
+                free: reported.free,
             };
             0
         }

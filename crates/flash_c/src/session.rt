@@ -1,10 +1,8 @@
 // A session of commands, over anything that serves them: what each kind of command returns.
-ghost use Rattle.std.specs.Prelude.{◌≡◌, length, min};
-ghost use Rattle.posix_profile.specs.declared.command.Command.TheVariants as commands;
+ghost use Rattle.std.specs.Prelude.{◌≡◌};
 ghost use Rattle.posix_profile.specs.declared.reply.Reply.{Reply};
-ghost use Rattle.flash_c.specs.Filling.{data_number, data_filled, names_number, names_filled, info_number, info_filled, space_number, space_filled};
 ghost use Rattle.flash_c.specs.Numbers.{done_number, count_number};
-ghost use Rattle.flash_c.specs.Sessions.{at};
+ghost use Rattle.flash_c.specs.Questions.{IsRead, IsStat, IsListed, IsRoom};
 
 use crate::filling::{FlashInfo, FlashSpace, put_data, put_info, put_space};
 use crate::names::put_names;
@@ -44,18 +42,16 @@ pub(crate) fn count<S: Serve>(session: &mut S, command: &Stamped) -> i64
 
 /// Reads at a descriptor's offset into the buffer.
 pub(crate) fn read<S: Serve>(session: &mut S, fd: u32, buffer: &mut [u8]) -> i64
-    ensures { (reply : Reply) × S.serves session.old (at 0 (commands.Read fd (min (length buffer.old) u32.MAX))) reply session.new
-        × (result ≡ data_number (length buffer.old) reply) × (buffer.new ≡ data_filled buffer.old reply) }
+    ensures { IsRead S.serves session.old (record { fd = fd; before = buffer.old; number = result; after = buffer.new }) session.new }
 {
     let count = buffer.len().min(u32::MAX as usize) as u32;
     let command = Command::Read { fd, count };
     put_data(buffer, &session.serve(&Stamped { moment: 0, command }))
 }
 
-/// Tells what a path leads to in the struct.
+/// Reports what a path leads to in the struct.
 pub(crate) fn stat<S: Serve>(session: &mut S, path: FilePath, info: &mut FlashInfo) -> i32
-    ensures { (reply : Reply) × S.serves session.old (at 0 (commands.Stat path)) reply session.new
-        × (result ≡ info_number reply) × (info.new ≡ info_filled info.old reply) }
+    ensures { IsStat S.serves session.old (record { path = path; before = info.old; number = result; after = info.new }) session.new }
 {
     let command = Command::Stat { path };
     put_info(info, &session.serve(&Stamped { moment: 0, command }))
@@ -63,17 +59,15 @@ pub(crate) fn stat<S: Serve>(session: &mut S, path: FilePath, info: &mut FlashIn
 
 /// Puts the names of a directory in the buffer.
 pub(crate) fn list<S: Serve>(session: &mut S, path: FilePath, buffer: &mut [u8]) -> i64
-    ensures { (reply : Reply) × S.serves session.old (at 0 (commands.List path)) reply session.new
-        × (result ≡ names_number (length buffer.old) reply) × (buffer.new ≡ names_filled buffer.old reply) }
+    ensures { IsListed S.serves session.old (record { path = path; before = buffer.old; number = result; after = buffer.new }) session.new }
 {
     let command = Command::List { path };
     put_names(buffer, &session.serve(&Stamped { moment: 0, command }))
 }
 
-/// Tells the room of the volume in the struct.
+/// Reports the room of the volume in the struct.
 pub(crate) fn space<S: Serve>(session: &mut S, space: &mut FlashSpace) -> i32
-    ensures { (reply : Reply) × S.serves session.old (at 0 commands.Space) reply session.new
-        × (result ≡ space_number reply) × (space.new ≡ space_filled space.old reply) }
+    ensures { IsRoom S.serves session.old (record { before = space.old; number = result; after = space.new }) session.new }
 {
     let command = Command::Space;
     put_space(space, &session.serve(&Stamped { moment: 0, command }))

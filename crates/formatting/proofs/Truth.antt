@@ -1,5 +1,5 @@
 -- A flash that holds nothing but an empty volume has no checkpoint.
-use Rattle.std.specs.Prelude.{◌≡◌, ℕ, None}
+use Rattle.std.specs.Prelude.{◌≡◌, ◌≤◌, ℕ, None}
 use Rattle.std.proofs.Common.{ap, arith}
 use Rattle.nand_model.specs.Calls.{Device}
 use Rattle.page_tags.specs.declared.tag.Tag.{Tag}

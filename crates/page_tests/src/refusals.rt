@@ -1,7 +1,7 @@
 // Calls that are refused a page, or memory, and made again.
 ghost use Rattle.std.specs.Prelude.{◌≡◌};
 ghost use Rattle.page_tags.specs.SlotEntry.{entry_of};
-ghost use Rattle.page_tags.specs.Slots.{IsSlot};
+ghost use Rattle.flash_tree.specs.Slots.{IsTreeSlot};
 
 use crate::store::{AWAY, HOME, slot_of, taken, two_directories};
 use directories::{
@@ -66,7 +66,7 @@ fn ask_directory(
     call: Call,
     slot: &Slot,
 ) -> Result<usize, PageFault>
-    requires { IsSlot (entry_of slot.now) }
+    requires { IsTreeSlot (entry_of slot.now) }
 {
     let route = Route {
         source: HOME,
@@ -91,7 +91,7 @@ fn ask_directory(
 
 /// What a call tells, as a number.
 fn ask(alloc: Global, pages: &mut MemPages, call: Call, slot: &Slot) -> Result<usize, PageFault>
-    requires { IsSlot (entry_of slot.now) }
+    requires { IsTreeSlot (entry_of slot.now) }
 {
     Ok(match call {
         Call::Info => read_info(pages, FILE)?.length as usize,
@@ -167,7 +167,7 @@ fn ask_again(
     call: Call,
     slot: &Slot,
 ) -> Result<usize, PageFault>
-    requires { IsSlot (entry_of slot.now) }
+    requires { IsTreeSlot (entry_of slot.now) }
 {
     match ask(alloc, pages, call, slot) {
         Err(PageFault::NoMemory) => ask(alloc, pages, call, slot),

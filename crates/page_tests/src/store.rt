@@ -1,9 +1,10 @@
 // A store in memory that takes changes, and slots that a directory takes.
 ghost use Rattle.std.specs.Prelude.{IfOk};
 ghost use Rattle.page_tags.specs.SlotEntry.{entry_of};
-ghost use Rattle.page_tags.specs.Slots.{IsSlot};
+ghost use Rattle.flash_tree.specs.Slots.{IsTreeSlot};
 
 use directories::{DirectoryHead, head_page};
+use flash_tree::CHECK_OBJECT;
 use page_tags::Slot;
 use pages::{Change, MemPages, Pages, are_sized};
 use std::alloc::Global;
@@ -44,9 +45,9 @@ pub(crate) fn two_directories(alloc: Global, page_bytes: u32) -> Result<MemPages
 
 /// A slot with this name, which leads to the object.
 pub(crate) fn slot_of(name: &[u8], object: u64) -> Result<Slot<'_>, Fail>
-    ensures { IfOk result (λ slot. IsSlot (entry_of slot)) }
+    ensures { IfOk result (λ slot. IsTreeSlot (entry_of slot)) }
 {
-    if object < 2 || !is_name(name) {
+    if object < 2 || object == CHECK_OBJECT || !is_name(name) {
         return Err("no such slot".into());
     }
     Ok(Slot { object, name })

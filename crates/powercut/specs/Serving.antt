@@ -25,4 +25,4 @@ pub record IsServed (commands : List Stamped) (unmount gone : Bool) (served : Se
   pub begun : served.mounted ≡ Ok tt → (length served.replies.items ≡ length commands) ⊎ EndsStopped served.replies.items
   pub none : (fault : MountFault) → served.mounted ≡ Err fault → length served.replies.items ≡ 0
   pub unmounts : (is_some served.unmounted ≡ true) ↔ ((unmount ≡ true) × (served.mounted ≡ Ok tt))
-  pub gone : served.mounted ≡ Err faults.Gone → gone ≡ true
+  pub lost : served.mounted ≡ Err faults.Gone → gone ≡ true

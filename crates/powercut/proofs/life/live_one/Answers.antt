@@ -36,5 +36,5 @@ returns-clause-ended c =
       unmounts = served.unmounts;
       fuse = no_cut (is_some c.args.session.now.fuse) (device c.args.nand) (device c.in_ok-nand.nand) (device c.in_ok-nand-2.nand) c.in_ok-nand.ensures.starts
           c.in_ok-nand-2.ensures.lasts c.gone-cut.result c.gone-cut.ensures;
-      gone = λ is. c.gone-cut.ensures ∙ served.gone is;
+      gone = λ is. c.gone-cut.ensures ∙ served.lost is;
     }

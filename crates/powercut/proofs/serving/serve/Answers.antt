@@ -31,7 +31,7 @@ returns-in_ok-device-in-Ok-clause-served g c =
       begun = λ _. used.begun c.in-Ok.ensures.goes_on;
       none = λ fault is. absurd cc;
       unmounts = (λ some. (sym asked ∙ some, refl), λ both. asked ∙ both.0);
-      gone = λ is. absurd cc;
+      lost = λ is. absurd cc;
     }
 
 pub returns-in-Err-clause-served : goal.returns-in-Err-clause-served
@@ -40,7 +40,7 @@ returns-in-Err-clause-served g c =
       begun = λ is. absurd cc;
       none = λ fault is. ap (λ (rs : List Reply). length rs) c.new.ensures.items;
       unmounts = (λ some. absurd cc, λ both. let two : Err c.in-Err.fault ≡ Ok tt = both.1 in absurd cc);
-      gone = λ is.
+      lost = λ is.
           let same : c.in-Err.fault ≡ faults.Gone = cc in
           subst (WhyNotMounted (g.N.Nand.state c.in-Err.device)) same c.in-Err.ensures.fault;
     }

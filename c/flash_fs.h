@@ -142,7 +142,7 @@ int flash_fs_format(struct flash_fs *fs, const struct flash_driver *driver, uint
  */
 int flash_fs_mount(struct flash_fs *fs, const struct flash_driver *driver);
 
-/* The same, with a cache of at most so many pages that were read; flash_fs_mount takes 16. A cached page takes page_bytes and
+/* The same, with a cache of at most so many pages that were read, one at least; flash_fs_mount takes 16. A cached page takes page_bytes and
  * some forty bytes.
  */
 int flash_fs_mount_with(struct flash_fs *fs, const struct flash_driver *driver, uint32_t cache_pages);

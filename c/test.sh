@@ -3,6 +3,8 @@
 # is skipped, with a line. FLASH_C_ARCHIVE names a libflash_c.a that is there; else `rt lib` makes one. OUT: where all is built.
 #
 #   bash c/test.sh [quick]     quick: without the sanitizer and without valgrind
+#
+# Each test program takes how much it does, and a seed: out/test_cuts 20000 7 does more than is done here.
 set -u
 [ -z "${FLASH_C_ARCHIVE:-}" ] || export FLASH_C_ARCHIVE=$(realpath "$FLASH_C_ARCHIVE")
 cd "$(dirname "$0")" || exit 2
@@ -151,11 +153,11 @@ else
     skip "the driver of Linux's devices compiles" "no mtd/mtd-user.h with MEMREAD"
 fi
 run "the skeleton of an SPI driver compiles" $CC $FLAGS -c -o "$OUT/spi_nand.o" drivers/spi_nand.c
-run "drawn calls beside the model" "$OUT/test_model" 10000
-run "drawn calls beside the model, in a region of memory" "$OUT/test_model_in_region" 2000 7
-run "power that goes, and calls that fail" "$OUT/test_cuts" 1000
-run "drivers that lie" "$OUT/test_lies" 2000
-run "memory that is refused, many mounts, several volumes" "$OUT/test_memory" 100
+run "drawn calls beside the model" "$OUT/test_model" 2500
+run "drawn calls beside the model, in a region of memory" "$OUT/test_model_in_region" 500 7
+run "power that goes, and calls that fail" "$OUT/test_cuts" 300
+run "drivers that lie" "$OUT/test_lies" 500
+run "memory that is refused, many mounts, several volumes" "$OUT/test_memory" 60
 run "the example hello" "$OUT/hello"
 run "the example power_loss" "$OUT/power_loss"
 run "an image that C made, shown by C" image_of_c
@@ -174,7 +176,7 @@ else
 fi
 if includes sqlite3.h && compiles -lsqlite3; then
     run "SQLite compiles" build test_sqlite test/test_sqlite.c examples/sqlite_vfs.c $HARNESS "$LIBRARY" -lsqlite3
-    run "SQLite, with power that goes" "$OUT/test_sqlite" 60
+    run "SQLite, with power that goes" "$OUT/test_sqlite" 25
 else
     skip "SQLite, with power that goes" "no sqlite3.h or no libsqlite3"
 fi
@@ -188,9 +190,9 @@ if [ "${1:-}" != quick ]; then
         }
         run "compiled with the sanitizer" eval 'sanitized test_model flash_malloc.c && sanitized test_lies flash_malloc.c &&
             sanitized test_cuts flash_malloc.c && sanitized test_memory && sanitized test_drivers flash_malloc.c'
-        run "sanitizer: drawn calls" "$OUT/test_model_sanitized" 1500 3
-        run "sanitizer: drivers that lie" "$OUT/test_lies_sanitized" 400 3
-        run "sanitizer: power that goes" "$OUT/test_cuts_sanitized" 100 3
+        run "sanitizer: drawn calls" "$OUT/test_model_sanitized" 1000 3
+        run "sanitizer: drivers that lie" "$OUT/test_lies_sanitized" 100 3
+        run "sanitizer: power that goes" "$OUT/test_cuts_sanitized" 50 3
         run "sanitizer: memory that is refused" "$OUT/test_memory_sanitized" 20 3
         run "sanitizer: the drivers" "$OUT/test_drivers_sanitized" "$work"
     else

@@ -90,6 +90,12 @@ images() {
     [ "$(awk '{ print $NF }' "$work/tree" | tr '\n' ' ')" = "/a/ /a/b /c " ] && [ "$("$OUT/list" "$work/program.img" /c)" = hello ]
 }
 
+# An image that the program of the repository made, which is kept with its tests, is shown by C.
+image_of_program() {
+    cp "$1" "$work/made.img" && "$OUT/list" "$work/made.img" > "$work/tree" && cat "$work/tree" && cmp "$1" "$work/made.img" &&
+        [ "$(awk '{ print $NF }' "$work/tree")" = /a/ ]
+}
+
 # An image that C made is shown by C.
 image_of_c() {
     "$OUT/make_image" "$work/own.img" && "$OUT/list" "$work/own.img" > "$work/tree" && [ "$(wc -l < "$work/tree")" -eq 32 ] &&
@@ -161,6 +167,7 @@ run "memory that is refused, many mounts, several volumes" "$OUT/test_memory" 60
 run "the example hello" "$OUT/hello"
 run "the example power_loss" "$OUT/power_loss"
 run "an image that C made, shown by C" image_of_c
+run "an image that the program made, shown by C" image_of_program ../crates/program_stories/data/made.img
 if [ -x ../crates/flashsh/out/flashsh ]; then
     run "images, with the program of the repository" images ../crates/flashsh/out/flashsh
 else

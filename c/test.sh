@@ -60,7 +60,7 @@ names() {
         grep -v -e '^flash_port_write' -e '^flash_port_read' -e '^flash_port_close' | sort > "$work/known"
     diff "$work/exported" "$work/known" || return 1
     nm -u "$OUT/flash_fs.o" | awk '{ print $2 }' | sort > "$work/asked"
-    printf '%s\n' bcmp memcmp memcpy memmove memset rattle_alloc rattle_dealloc rattle_realloc strlen _GLOBAL_OFFSET_TABLE_ |
+    printf '%s\n' __stack_chk_fail __memcpy_chk bcmp memcmp memcpy memmove memset rattle_alloc rattle_dealloc rattle_realloc strlen _GLOBAL_OFFSET_TABLE_ |
         sort > "$work/allowed"
     if [ -n "$(comm -23 "$work/asked" "$work/allowed")" ]; then
         echo "the library asks for more than it may:"

@@ -203,7 +203,7 @@ int flash_fs_rename(struct flash_fs *fs, const char *old_path, const char *new_p
 int flash_fs_stat(struct flash_fs *fs, const char *path, struct flash_info *info);
 
 /* Fills the buffer with the names in a directory, in the order of their bytes, each with a zero after it; returns how many
- * bytes they take. Errors: ERANGE the names take more than `size` bytes (the buffer may hold some of them); ENOTDIR; ENOENT.
+ * bytes they take. Errors: ERANGE the names take more than `size` bytes (the buffer stays as it was); ENOTDIR; ENOENT.
  */
 int64_t flash_fs_list(struct flash_fs *fs, const char *path, char *buffer, size_t size);
 

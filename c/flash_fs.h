@@ -142,7 +142,7 @@ int flash_fs_format(struct flash_fs *fs, const struct flash_driver *driver, uint
  */
 int flash_fs_mount(struct flash_fs *fs, const struct flash_driver *driver);
 
-/* The same, with a cache of at most so many pages that were read; flash_fs_mount takes 16. A cached page takes page_bytes and
+/* The same, with a cache of at most so many pages that were read, one at least; flash_fs_mount takes 16. A cached page takes page_bytes and
  * some forty bytes.
  */
 int flash_fs_mount_with(struct flash_fs *fs, const struct flash_driver *driver, uint32_t cache_pages);
@@ -203,7 +203,7 @@ int flash_fs_rename(struct flash_fs *fs, const char *old_path, const char *new_p
 int flash_fs_stat(struct flash_fs *fs, const char *path, struct flash_info *info);
 
 /* Fills the buffer with the names in a directory, in the order of their bytes, each with a zero after it; returns how many
- * bytes they take. Errors: ERANGE the names take more than `size` bytes (the buffer may hold some of them); ENOTDIR; ENOENT.
+ * bytes they take. Errors: ERANGE the names take more than `size` bytes (the buffer stays as it was); ENOTDIR; ENOENT.
  */
 int64_t flash_fs_list(struct flash_fs *fs, const char *path, char *buffer, size_t size);
 

@@ -3,6 +3,8 @@
 # is skipped, with a line. FLASH_C_ARCHIVE names a libflash_c.a that is there; else `rt lib` makes one. OUT: where all is built.
 #
 #   bash c/test.sh [quick]     quick: without the sanitizer and without valgrind
+#
+# Each test program takes how much it does, and a seed: out/test_cuts 20000 7 does more than is done here.
 set -u
 [ -z "${FLASH_C_ARCHIVE:-}" ] || export FLASH_C_ARCHIVE=$(realpath "$FLASH_C_ARCHIVE")
 cd "$(dirname "$0")" || exit 2
@@ -58,7 +60,7 @@ names() {
         grep -v -e '^flash_port_write' -e '^flash_port_read' -e '^flash_port_close' | sort > "$work/known"
     diff "$work/exported" "$work/known" || return 1
     nm -u "$OUT/flash_fs.o" | awk '{ print $2 }' | sort > "$work/asked"
-    printf '%s\n' bcmp memcmp memcpy memmove memset rattle_alloc rattle_dealloc rattle_realloc strlen _GLOBAL_OFFSET_TABLE_ |
+    printf '%s\n' __stack_chk_fail __memcpy_chk bcmp memcmp memcpy memmove memset rattle_alloc rattle_dealloc rattle_realloc strlen _GLOBAL_OFFSET_TABLE_ |
         sort > "$work/allowed"
     if [ -n "$(comm -23 "$work/asked" "$work/allowed")" ]; then
         echo "the library asks for more than it may:"
@@ -86,6 +88,12 @@ images() {
     printf 'mkdir /a\nopen /a/b wc\nwrite 0 hello\nclose 0\nlink /a/b /c\n' | "$program" run "$work/program.img" || return 1
     "$OUT/list" "$work/program.img" | tee "$work/tree"
     [ "$(awk '{ print $NF }' "$work/tree" | tr '\n' ' ')" = "/a/ /a/b /c " ] && [ "$("$OUT/list" "$work/program.img" /c)" = hello ]
+}
+
+# An image that the program of the repository made, which is kept with its tests, is shown by C.
+image_of_program() {
+    cp "$1" "$work/made.img" && "$OUT/list" "$work/made.img" > "$work/tree" && cat "$work/tree" && cmp "$1" "$work/made.img" &&
+        [ "$(awk '{ print $NF }' "$work/tree")" = /a/ ]
 }
 
 # An image that C made is shown by C.
@@ -151,14 +159,15 @@ else
     skip "the driver of Linux's devices compiles" "no mtd/mtd-user.h with MEMREAD"
 fi
 run "the skeleton of an SPI driver compiles" $CC $FLAGS -c -o "$OUT/spi_nand.o" drivers/spi_nand.c
-run "drawn calls beside the model" "$OUT/test_model" 10000
-run "drawn calls beside the model, in a region of memory" "$OUT/test_model_in_region" 2000 7
-run "power that goes, and calls that fail" "$OUT/test_cuts" 1000
-run "drivers that lie" "$OUT/test_lies" 2000
-run "memory that is refused, many mounts, several volumes" "$OUT/test_memory" 100
+run "drawn calls beside the model" "$OUT/test_model" 2500
+run "drawn calls beside the model, in a region of memory" "$OUT/test_model_in_region" 500 7
+run "power that goes, and calls that fail" "$OUT/test_cuts" 300
+run "drivers that lie" "$OUT/test_lies" 500
+run "memory that is refused, many mounts, several volumes" "$OUT/test_memory" 60
 run "the example hello" "$OUT/hello"
 run "the example power_loss" "$OUT/power_loss"
 run "an image that C made, shown by C" image_of_c
+run "an image that the program made, shown by C" image_of_program ../crates/program_stories/data/made.img
 if [ -x ../crates/flashsh/out/flashsh ]; then
     run "images, with the program of the repository" images ../crates/flashsh/out/flashsh
 else
@@ -174,7 +183,7 @@ else
 fi
 if includes sqlite3.h && compiles -lsqlite3; then
     run "SQLite compiles" build test_sqlite test/test_sqlite.c examples/sqlite_vfs.c $HARNESS "$LIBRARY" -lsqlite3
-    run "SQLite, with power that goes" "$OUT/test_sqlite" 60
+    run "SQLite, with power that goes" "$OUT/test_sqlite" 25
 else
     skip "SQLite, with power that goes" "no sqlite3.h or no libsqlite3"
 fi
@@ -188,9 +197,9 @@ if [ "${1:-}" != quick ]; then
         }
         run "compiled with the sanitizer" eval 'sanitized test_model flash_malloc.c && sanitized test_lies flash_malloc.c &&
             sanitized test_cuts flash_malloc.c && sanitized test_memory && sanitized test_drivers flash_malloc.c'
-        run "sanitizer: drawn calls" "$OUT/test_model_sanitized" 1500 3
-        run "sanitizer: drivers that lie" "$OUT/test_lies_sanitized" 400 3
-        run "sanitizer: power that goes" "$OUT/test_cuts_sanitized" 100 3
+        run "sanitizer: drawn calls" "$OUT/test_model_sanitized" 1000 3
+        run "sanitizer: drivers that lie" "$OUT/test_lies_sanitized" 100 3
+        run "sanitizer: power that goes" "$OUT/test_cuts_sanitized" 50 3
         run "sanitizer: memory that is refused" "$OUT/test_memory_sanitized" 20 3
         run "sanitizer: the drivers" "$OUT/test_drivers_sanitized" "$work"
     else

@@ -2,7 +2,9 @@
  * erase fails with each fate. A mount then shows the tree after some number of the steps that were done, in their order,
  * at least of those that a completed sync covers.
  *
- *   test_cuts [LIVES] [SEED]
+ *   test_cuts [LIVES] [SEED] [PART]
+ *
+ * PART, from 0, is one of the eight lines that are written; without it all are.
  */
 #include "commands.h"
 #include "ram_nand.h"
@@ -321,10 +323,14 @@ int main(int count, char **words)
         {512, 32, 8, 1, 2000, 60, 50}, {512, 32, 8, 2, 5000, 300, 60}, {1024, 32, 6, 1, 5000, 200, 60}, {512, 64, 8, 1, 9000, 400, 60}};
     static const struct sizes in_a_row[] = {{512, 32, 16, 2, 3000, 50, 0}, {512, 32, 7, 1, 5000, 100, 0}, {2048, 64, 8, 1, 60000, 50, 0}};
     uint64_t lives = count > 1 ? strtoull(words[1], NULL, 10) : 1000, seed = count > 2 ? strtoull(words[2], NULL, 10) : 1;
-    cut_format(&each[0], seed);
+    size_t only = count > 3 ? strtoull(words[3], NULL, 10) : SIZE_MAX, part = 0;
+    if (only == SIZE_MAX || only == part++)
+        cut_format(&each[0], seed);
     for (size_t i = 0; i < sizeof each / sizeof *each; i++)
-        cut_each(&each[i], seed * 100 + i);
+        if (only == SIZE_MAX || only == part++)
+            cut_each(&each[i], seed * 100 + i);
     for (size_t i = 0; i < sizeof in_a_row / sizeof *in_a_row; i++)
-        live(&in_a_row[i], lives, seed * 1000 + i);
+        if (only == SIZE_MAX || only == part++)
+            live(&in_a_row[i], lives, seed * 1000 + i);
     return 0;
 }

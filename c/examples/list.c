@@ -31,7 +31,7 @@ static char *names_of(const char *directory, int64_t *size)
 static int show(const char *directory)
 {
     int64_t size;
-    char *names = names_of(directory, &size);
+    char *names = names_of(*directory == '\0' ? "/" : directory, &size); /* the root, with no name before its slash */
     if (names == NULL)
         return failed(directory, size);
     int status = 0;

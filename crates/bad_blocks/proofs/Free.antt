@@ -4,6 +4,7 @@ use Rattle.std.proofs.lemmas.Bool.{eqb-true, cases_Bool}
 use Rattle.nand_model.specs.Flash.{Flash}
 use Rattle.nand_model.specs.Calls.{Device, Erases, Marks}
 use Rattle.nand_model.specs.declared.nand.EraseFault.{EraseFault}
+use Rattle.nand_model.specs.declared.nand.EraseFault.TheVariants as erase_faults
 use Rattle.nand_model.specs.declared.nand.Gone.{Gone}
 use Rattle.block_state.specs.Kept.{bad_count}
 use Rattle.block_state.specs.laws.Kept.{mark_bad}
@@ -36,6 +37,10 @@ erase_costs b old new result does = elim (cases_Bool old.gone) [
   | inl gone ↦ let same : new.changes ≡ old.changes = ap (λ (d : Device). d.changes) (does.lasts.gone gone) in omega (arith, same)
   | inr power ↦ let one = does.changes power in omega (arith, one)
 ]
+
+-- an erase that failed was counted as a failure
+pub erase_fails : (b : ℕ) (old new : Device) → Erases b old new (Err erase_faults.Failed) → old.failures + 1 ≤ new.failures
+erase_fails b old new does = let failed = does.ends.failures in omega (arith, failed)
 
 -- and so is a mark
 pub mark_costs : (b : ℕ) (old new : Device) (result : Result (Unit {0}) Gone) → Marks b old new result → new.changes ≤ old.changes + 1

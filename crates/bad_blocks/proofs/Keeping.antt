@@ -66,4 +66,5 @@ may_later a b t u copies lasts rises kept stays may = record {
   newest = λ honest power i x at.
       let was : a.honest ≡ true = sym lasts.honest ∙ honest in
       stays was power x.name.key.object x.name.key.chunk _ (may.held i x at) (may.newest was (had_power a b lasts power) i x at);
+  ordinary = λ honest. may.ordinary (sym lasts.honest ∙ honest);
 }

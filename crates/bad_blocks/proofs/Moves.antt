@@ -17,6 +17,8 @@ use Rattle.flash_tree.specs.Numbering.{AreBelow}
 use Rattle.transactions.specs.Ready.{IsReady}
 use Rattle.transactions.specs.laws.Handing.{hands_same}
 use Rattle.transactions.specs.Sources.{IsPageName}
+use Rattle.transactions.specs.declared.source.PageName.{PageName}
+use Rattle.flash_tree.specs.Slots.{check_object}
 use Rattle.transactions.specs.declared.copies.CopyOf.{CopyOf}
 use Rattle.bad_blocks.specs.Copying.{KeepsCounts, KeepsDataAt, MayBeCopied, AreCopied, IsCopyOf, IsTarget, OpenAfter, copy_in}
 use Rattle.bad_blocks.specs.Lists.{IsListed, kept_by}
@@ -68,6 +70,11 @@ may_be_copied spare v d t x copies ready stands listed =
       held = λ i y at. let here : (t.entry y.block).kept ≡ (t.entry v).kept = ap (λ b. (t.entry b).kept) (listed.lists.here i y at) in omega (arith, here, some);
       once = listed.lists.once;
       newest = λ honest power i y at. stands.newest honest power y.name.key.object y.name.key.chunk (kept_by y) (listed.lists.kept i y at);
+      ordinary = λ honest i lt.
+          let there = slice_get_there copies i lt in
+          let y : CopyOf = there.0 in
+          subst (λ (n : PageName). n.key.object ≢ check_object) (sym (name_is copies i y there.1))
+          (stands.ordinary honest y.name.key.object y.name.key.chunk (kept_by y) (listed.lists.kept i y there.1));
     }
 
 -- ---- where the copies are told
@@ -160,6 +167,10 @@ module _ (spare v : ℕ) (target : Target) (d0 d1 : Device) (t0 t1 t2 : Table) (
         let now = now_kept in
         subst (λ b. (t2.entry b).kept ≤ (t2.entry b).next) same (omega (arith, now, here, listed.count))
 
+  -- once pages were copied no block may have a checkpoint
+  pub none_noted : t2.checkpoint ≡ None
+  none_noted = tells.counts.checkpoint ∙ is.checkpoint
+
   pub stands_moved : IsReady d1 t1 → Stands spare d1 t2 y
   stands_moved ready = record {
     tables = record {
@@ -174,13 +185,14 @@ module _ (spare v : ℕ) (target : Target) (d0 d1 : Device) (t0 t1 t2 : Table) (
             let page : i < t0.geometry.pages = omega (arith, lt, fits, listed.count) in
             let may : MayLie t0 z.name.key.object z.name.key.chunk (copy_in target.block i z) = record { block = is.within; page = page; name = was.name } in
             subst (MayLie t2 o c) (sym same) (subst (λ q. MayLie t2 q c (copy_in target.block i z)) of.0 (subst (λ l. MayLie t2 z.name.key.object l (copy_in target.block i z)) of.1
-            (may_lie_later t0 t2 _ _ _ (tells.counts.geometry ∙ keeps.geometry) (let group = tells.counts.next_group in omega (arith, group, keeps.numbers.groups_rise)) may)))
-        | inr none ↦ may_lie_later t0 t2 o c p (tells.counts.geometry ∙ keeps.geometry) (let group = tells.counts.next_group in omega (arith, group, keeps.numbers.groups_rise))
+            (may_lie_later t0 t2 _ _ _ (tells.counts.geometry ∙ keeps.geometry) (let group = tells.counts.next_group in omega (arith, group, keeps.numbers.numbers.groups_rise)) may)))
+        | inr none ↦ may_lie_later t0 t2 o c p (tells.counts.geometry ∙ keeps.geometry) (let group = tells.counts.next_group in omega (arith, group, keeps.numbers.numbers.groups_rise))
             (stands.tables.within o c p (sym (tells.index.kept_elsewhere o c (λ j z lt there of. none j z there of)) ∙ at))
       ];
       fits = λ b. subst (λ (g : Geometry). (t2.entry b).kept ≤ g.pages) (sym (tells.counts.geometry ∙ keeps.geometry)) (fits_then b);
       written = open_is;
       unkept = let unkept = same_unkepts in let bad = same_bads in omega (arith, unkept, bad, keeps.unkept, stands.tables.unkept);
+      apart = λ k noted. let two : None ≡ Some k = sym none_noted ∙ noted in absurd cc;
     };
     newest = λ honest power o c p at.
         let was : d0.honest ≡ true = sym keeps.lasts.honest ∙ honest in
@@ -194,6 +206,12 @@ module _ (spare v : ℕ) (target : Target) (d0 d1 : Device) (t0 t1 t2 : Table) (
           | inr none ↦
               let before : kept_pages x o c ≡ Some p = sym (tells.index.kept_elsewhere o c (λ j z lt there of. none j z there of)) ∙ at in
               all.others o c p (held o c p before) none (stands.newest was (had_power d0 d1 keeps.lasts power) o c p before)
+        ];
+    ordinary = λ honest o c p at.
+        let was = stands.ordinary (sym keeps.lasts.honest ∙ honest) in
+        elim (listed_or_not copies o c) [
+          | inl (i, z, there, of) ↦ subst (λ q. q ≢ check_object) of.0 (was z.name.key.object z.name.key.chunk (kept_by z) (listed.lists.kept i z there))
+          | inr none ↦ was o c p (sym (tells.index.kept_elsewhere o c (λ j z lt there of. none j z there of)) ∙ at)
         ];
     limits = let now = keeps.limits stands.limits in (
       let group = tells.counts.next_group in omega (arith, group, now.0),
@@ -245,6 +263,7 @@ module _ (spare v : ℕ) (target : Target) (d0 d1 : Device) (t0 t1 t2 : Table) (
           pages = let pages = was.pages in omega (arith, next, pages);
           seq = (let one = was.seq.0 in omega (arith, seq, one), let below = was.seq.1 in omega (arith, seq, next_seq, below));
         };
+    waits = λ k noted. let two : None ≡ Some k = sym none_noted ∙ noted in absurd cc;
     numbers = (let group = tells.counts.next_group in let one = ready.numbers.0 in omega (arith, group, one), let seq = tells.counts.next_seq in let one = ready.numbers.1 in omega (arith, seq, one));
     below = λ honest. subst (λ n. AreBelow d1.flash n t2.next_seq) (sym tells.counts.next_group) (subst (λ n. AreBelow d1.flash t1.next_group n) (sym tells.counts.next_seq) (ready.below honest));
   }
@@ -253,7 +272,7 @@ module _ (spare v : ℕ) (target : Target) (d0 d1 : Device) (t0 t1 t2 : Table) (
   moves_moved stays = record {
     lasts = keeps.lasts;
     ready = ready_told keeps.ready;
-    numbers = hands_same d0 d1 t0 t1 t2 tells.counts.next_group tells.counts.next_seq keeps.numbers;
+    numbers = hands_same d0 d1 t0 t1 t2 tells.counts.next_group tells.counts.next_seq tells.counts.checkpoint keeps.numbers;
     geometry = tells.counts.geometry ∙ keeps.geometry;
     marks = λ b bad. tells.counts.bad b ∙ keeps.marks b bad;
     kept_count = same_keeps;

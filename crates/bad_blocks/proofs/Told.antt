@@ -41,6 +41,7 @@ tells_none v w copies x t = record {
     next = λ b. refl;
     geometry = refl;
     open_block = refl;
+    checkpoint = refl;
     next_seq = refl;
     next_group = refl;
   };
@@ -147,6 +148,7 @@ module _ (v w i : ℕ) (copies : List CopyOf) (x0 x1 x2 : Index) (t0 t1 t2 : Tab
         next = λ b. recounts.next b ∙ tells.counts.next b;
         geometry = recounts.geometry ∙ tells.counts.geometry;
         open_block = recounts.open_block ∙ tells.counts.open_block;
+        checkpoint = recounts.checkpoint ∙ tells.counts.checkpoint;
         next_seq = recounts.next_seq ∙ tells.counts.next_seq;
         next_group = recounts.next_group ∙ tells.counts.next_group;
       };

@@ -150,6 +150,7 @@ ends_on count spare d t u v (Ok (ends.Into target)) geometry kept rises (is, pow
     good = is.good;
     unkept = sym (kept target.block) ∙ is.unkept;
     open_block = is.open_block;
+    checkpoint = is.checkpoint;
   },
   power,
 )

@@ -6,7 +6,8 @@ use Rattle.nand_model.specs.Calls.{Device, Lasts}
 use Rattle.block_state.specs.Kept.{bad_count, unkept_count}
 use Rattle.block_state.specs.Table.{Table}
 use Rattle.chunk_index.specs.declared.form.KeptPage.{KeptPage}
-use Rattle.transactions.specs.Copying.{CanCopy}
+use Rattle.transactions.specs.Copying.{CanCopy, copy_name}
+use Rattle.transactions.specs.Naming.{AreOrdinary}
 use Rattle.transactions.specs.Handing.{HandsOut}
 use Rattle.flash_tree.specs.Numbering.{AreBelow}
 use Rattle.transactions.specs.Ready.{IsReady}
@@ -51,13 +52,14 @@ abbrev pub AreKeptAt : Flash → List CopyOf → Type 0
 AreKeptAt flash copies = (i : ℕ) (x : CopyOf) → slice_get copies i ≡ Some x → IsKeptAt flash x.name.key.object x.name.key.chunk (kept_by x)
 
 -- Pages of a block that may be copied: no more than a block has pages, each in a block with kept pages, none of one key
--- with another, and of an honest device that has power each the newest of its key.
+-- with another, and of an honest device none of the object of checkpoints and, where it has power, each the newest of its key.
 pub record MayBeCopied (device : Device) (t : Table) (copies : List CopyOf) : Type 0 where
   pub can : CanCopy copies device.geometry t.next_group
   pub few : length copies ≤ device.geometry.pages
   pub held : (i : ℕ) (x : CopyOf) → slice_get copies i ≡ Some x → 1 ≤ (t.entry x.block).kept
   pub once : (i j : ℕ) (x y : CopyOf) → slice_get copies i ≡ Some x → slice_get copies j ≡ Some y → x.name.key ≡ y.name.key → i ≡ j
   pub newest : device.honest ≡ true → device.gone ≡ false → AreKeptAt device.flash copies
+  pub ordinary : device.honest ≡ true → AreOrdinary (length copies) (copy_name copies)
 
 -- copy i is page i of the block, in its version
 abbrev pub copy_in : ℕ → ℕ → CopyOf → KeptPage
@@ -93,12 +95,13 @@ abbrev pub OpenAfter : ℕ → ℕ → Bool → Table → Type 0
 OpenAfter w count true t = t.open_block ≡ None
 OpenAfter w count false t = (t.open_block ≡ Some w) × ((t.entry w).next ≡ count)
 
--- the block of the copies was good and without a kept page
+-- the block of the copies was good and without a kept page, and no block may have a checkpoint any more
 pub record IsTarget (count : ℕ) (target : Target) (old new : Table) : Type 0 where
   pub within : target.block < old.geometry.blocks
   pub good : (new.entry target.block).bad ≡ false
   pub unkept : (old.entry target.block).kept ≡ 0
   pub open_block : OpenAfter target.block count target.suspect new
+  pub checkpoint : new.checkpoint ≡ None
 
 -- how the copying ends: the copies are made; or their block was marked; or not
 abbrev pub CopiesEnd : (count spare : ℕ) → Device → Table → Table → Result Copied MoveFault → Type 0

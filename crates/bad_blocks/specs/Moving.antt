@@ -99,7 +99,7 @@ WhyNotMoved spare device t faults.Worn = (number_end ≤ t.next_seq) ⊎ (number
 WhyNotMoved spare device t faults.Lost = device.honest ≡ false
 WhyNotMoved spare device t faults.Gone = device.gone ≡ true
 
--- how a move ends
+-- how a move ends: once it is done no block may have a checkpoint
 abbrev pub MoveEnds : (v spare : ℕ) → Device → Table → Table → Result Moved MoveFault → Type 0
-MoveEnds v spare device old new (Ok moved) = IsLeft v new × IsMovedTo v old new moved × (device.gone ≡ false)
+MoveEnds v spare device old new (Ok moved) = IsLeft v new × IsMovedTo v old new moved × (device.gone ≡ false) × (new.checkpoint ≡ None)
 MoveEnds v spare device old new (Err fault) = WhyNotMoved spare device new fault

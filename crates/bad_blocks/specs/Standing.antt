@@ -1,6 +1,6 @@
 -- What stands between two calls of a store, over the map of the kept pages and the table of blocks.
 -- From: this project.
-use Rattle.std.specs.Prelude.{◌≡◌, ◌<◌, ◌≤◌, ℕ, ◌+◌, true, false, List, Some}
+use Rattle.std.specs.Prelude.{◌≡◌, ◌≢◌, ◌<◌, ◌≤◌, ℕ, ◌+◌, true, false, List, Some}
 use Rattle.volume_terms.specs.Sizes.{number_end}
 use Rattle.nand_model.specs.Flash.{Flash, Written}
 use Rattle.nand_model.specs.Calls.{Device}
@@ -14,6 +14,8 @@ use Rattle.chunk_index.specs.declared.form.KeptPage.{KeptPage}
 use Rattle.chunk_index.specs.declared.index.Index.{Index}
 use Rattle.chunk_index.specs.Maps.{KeptMap, kept_pages, CountsAgree}
 use Rattle.transactions.specs.Sources.{IsPageName}
+use Rattle.flash_tree.specs.Slots.{check_object}
+use Rattle.bad_blocks.specs.Taking.{LiesApart}
 
 -- the page there is the newest of the key, in that version
 pub record IsKeptAt (flash : Flash) (o c : ℕ) (p : KeptPage) : Type 0 where
@@ -44,23 +46,30 @@ pub record MayLie (t : Table) (o c : ℕ) (p : KeptPage) : Type 0 where
 
 -- What stands of the table and the index on every path and of every device: the counts of blocks are those of the index;
 -- a block has no more kept pages than it has pages, and the open one no more than were written to it; and so many blocks
--- as may still be needed for retirements, and one for a collection, are bad already or without a kept page.
+-- as may still be needed for retirements, and one for a collection, are bad already or without a kept page; and so is the block
+-- that may have a checkpoint.
 pub record TablesAgree (spare : ℕ) (t : Table) (x : Index) : Type 0 where
   pub counts : CountsAgree t x
   pub within : (o c : ℕ) (p : KeptPage) → kept_pages x o c ≡ Some p → MayLie t o c p
   pub fits : (b : ℕ) → (t.entry b).kept ≤ t.geometry.pages
   pub written : (o : ℕ) → t.open_block ≡ Some o → (t.entry o).kept ≤ (t.entry o).next
   pub unkept : 1 + spare ≤ unkept_count t + bad_count t
+  pub apart : LiesApart t
+
+-- no kept page is of the object of checkpoints
+abbrev pub KeepsOrdinary : Index → Type 0
+KeepsOrdinary x = (o c : ℕ) (p : KeptPage) → kept_pages x o c ≡ Some p → o ≢ check_object
 
 -- no number past 2^62 is the next
 abbrev pub IsWithinLimits : Table → Type 0
 IsWithinLimits t = (t.next_group ≤ number_end) × (t.next_seq ≤ number_end)
 
--- What stands: the tables agree; each kept page of an honest device that has power is the newest of its key; and no number
--- of 2^62 was handed out.
+-- What stands: the tables agree; each kept page of an honest device that has power is the newest of its key, and none is of
+-- the object of checkpoints; and no number of 2^62 was handed out.
 pub record Stands (spare : ℕ) (device : Device) (t : Table) (x : Index) : Type 0 where
   pub tables : TablesAgree spare t x
   pub newest : device.honest ≡ true → device.gone ≡ false → AreKept device.flash (kept_pages x)
+  pub ordinary : device.honest ≡ true → KeepsOrdinary x
   pub limits : IsWithinLimits t
 
 -- each kept page lies in a block with kept pages

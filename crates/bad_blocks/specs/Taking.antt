@@ -12,11 +12,16 @@ use Rattle.bad_blocks.specs.declared.take.TakeFault.TheVariants as faults
 use Rattle.bad_blocks.specs.declared.take.Tried.{Tried}
 use Rattle.bad_blocks.specs.declared.take.Tried.TheVariants as tries
 
+-- No kept page lies in the block that may have a checkpoint.
+abbrev pub LiesApart : Table → Type 0
+LiesApart t = (c : ℕ) → t.checkpoint ≡ Some c → (t.entry c).kept ≡ 0
+
 -- No more blocks than there are to spare are bad, and with these so many are without a kept page as may be needed for
--- retirements, and one for a collection.
+-- retirements, and one for a collection. The block that may have a checkpoint is one of those without a kept page.
 pub record HasUnkept (t : Table) (spare : ℕ) : Type 0 where
   pub bad : bad_count t ≤ spare
   pub unkept : 1 + spare ≤ unkept_count t + bad_count t
+  pub apart : LiesApart t
 
 -- The block was good and without a kept page. It is the open one, with all its pages and the next number, which is above
 -- those of all tags.
@@ -36,15 +41,23 @@ pub record CouldBeTaken (old new : Table) (k : ℕ) : Type 0 where
   pub unkept : (old.entry k).kept ≡ 0
   pub good : (new.entry k).bad ≡ false
 
--- It was the block's turn: of those that could be taken none was taken longer ago, and of those taken as long ago, which are
--- those never taken, it is the first.
-pub record IsItsTurn (block : ℕ) (old new : Table) : Type 0 where
-  pub oldest : (k : ℕ) → CouldBeTaken old new k → (old.entry block).seq ≤ (old.entry k).seq
-  pub lowest : (k : ℕ) → CouldBeTaken old new k → (old.entry k).seq ≡ (old.entry block).seq → block ≤ k
+-- no block that may have a checkpoint could be taken: there was none, or it went bad
+abbrev pub NoneGoesFirst : Table → Table → Type 0
+NoneGoesFirst old new = (c : ℕ) → old.checkpoint ≡ Some c → (new.entry c).bad ≡ true
 
--- each block has the number that it got when it was last taken
-abbrev pub SameSeqs : Table → Table → Type 0
-SameSeqs old new = (b : ℕ) → (new.entry b).seq ≡ (old.entry b).seq
+-- It was the block's turn. The block that may have a checkpoint goes first, unless it went bad. Else of those that could be
+-- taken none was taken longer ago, and of those taken as long ago, which are those never taken, it is the first.
+pub record IsItsTurn (block : ℕ) (old new : Table) : Type 0 where
+  pub first : (c : ℕ) → old.checkpoint ≡ Some c → (new.entry c).bad ≡ false → block ≡ c
+  pub oldest : NoneGoesFirst old new → (k : ℕ) → CouldBeTaken old new k → (old.entry block).seq ≤ (old.entry k).seq
+  pub lowest : NoneGoesFirst old new → (k : ℕ) → CouldBeTaken old new k → (old.entry k).seq ≡ (old.entry block).seq → block ≤ k
+
+-- Each block has the number that it got when it was last taken, and the block that may have a checkpoint is the same, or it
+-- went bad.
+pub record SameTurns (old new : Table) : Type 0 where
+  pub seqs : (b : ℕ) → (new.entry b).seq ≡ (old.entry b).seq
+  pub noted : (c : ℕ) → old.checkpoint ≡ Some c → (new.checkpoint ≡ Some c) ⊎ ((new.entry c).bad ≡ true)
+  pub from : (c : ℕ) → new.checkpoint ≡ Some c → old.checkpoint ≡ Some c
 
 -- no block is open, and no number was used
 pub record TakesNone (old new : Table) : Type 0 where
@@ -60,7 +73,7 @@ TriesOne device old new (Err gone) = TakesNone old new × (device.gone ≡ true)
 -- a block that is taken was at its turn, and the mark of one leaves the turns of the others
 abbrev pub TakesTurn : Table → Table → Result Tried Gone → Type 0
 TakesTurn old new (Ok (tries.Taken block)) = IsItsTurn block old new
-TakesTurn old new (Ok tries.Marked) = SameSeqs old new
+TakesTurn old new (Ok tries.Marked) = SameTurns old new
 TakesTurn old new (Err gone) = Unit {0}
 
 -- where a block is taken, as many are bad as before

@@ -32,6 +32,7 @@ pub record CountsMoved (v w n : ℕ) (old new : Table) : Type 0 where
   pub next : (b : ℕ) → (new.entry b).next ≡ (old.entry b).next
   pub geometry : new.geometry ≡ old.geometry
   pub open_block : new.open_block ≡ old.open_block
+  pub checkpoint : new.checkpoint ≡ old.checkpoint
   pub next_seq : new.next_seq ≡ old.next_seq
   pub next_group : new.next_group ≡ old.next_group
 

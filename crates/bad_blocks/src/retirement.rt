@@ -7,6 +7,7 @@ ghost use Rattle.transactions.specs.Handing.{HandsOut};
 ghost use Rattle.transactions.specs.Marking.{NotesMark};
 ghost use Rattle.block_state.specs.Kept.{bad_count};
 ghost use Rattle.block_state.specs.TableOf.{table};
+ghost use Rattle.transactions.specs.Opening.{MayLose};
 ghost use Rattle.transactions.specs.Ready.{IsReady};
 ghost use Rattle.nand_model.specs.Counts.{Costs, ReadsFew, unfinished};
 ghost use Rattle.bad_blocks.specs.Moving.{Moves, AnswersFailures, MarksFailures};
@@ -70,6 +71,7 @@ fn mark_emptied<N: Nand>(
     requires ready { IsReady (N.state device.old) (table blocks.old) }
     requires block { block < (N.state device.old).geometry.blocks }
     requires closed { (table blocks.old).open_block ≢ Some block }
+    requires first { MayLose block (table blocks.old) }
     ensures marks { (gone : Result (Unit {0}) Gone) × Marks block (N.state device.old) (N.state device.new) gone }
     ensures ready { IsReady (N.state device.new) (table blocks.new) }
     ensures notes { NotesMark block (N.state device.new).flash (table blocks.old) (table blocks.new) }
@@ -98,6 +100,7 @@ fn retire_one<N: Nand>(
 ) -> Result<Option<u32>, MoveFault>
     requires ready { IsReady (N.state device.old) (table blocks.old) }
     requires closed { (table blocks.old).open_block ≡ None }
+    requires none { (table blocks.old).checkpoint ≡ None }
     requires stands { Stands spare (N.state device.old) (table blocks.old) index.old }
     requires few { bad_count (table blocks.old) ≤ spare }
     requires room { IsRoomFor (N.state device.old).geometry room.old }
@@ -131,6 +134,7 @@ fn retire_all<N: Nand>(
 ) -> Result<(), MoveFault>
     requires ready { IsReady (N.state device.old) (table blocks.old) }
     requires closed { (table blocks.old).open_block ≡ None }
+    requires none { (table blocks.old).checkpoint ≡ None }
     requires stands { Stands spare (N.state device.old) (table blocks.old) index.old }
     requires few { bad_count (table blocks.old) ≤ spare }
     requires room { IsRoomFor (N.state device.old).geometry room.old }
@@ -166,6 +170,7 @@ pub fn retire<N: Nand>(
     spare: u32,
 ) -> Result<(), MoveFault>
     requires ready { IsReady (N.state device.old) (table blocks.old) }
+    requires none { (table blocks.old).checkpoint ≡ None }
     requires stands { Stands spare (N.state device.old) (table blocks.old) index.old }
     requires few { bad_count (table blocks.old) ≤ spare }
     requires room { IsRoomFor (N.state device.old).geometry room.old }

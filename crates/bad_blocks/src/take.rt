@@ -31,7 +31,7 @@ enum Tried {
     Marked,
 }
 
-/// Erases the free block whose turn it is and makes it the open one, or marks it where that fails.
+/// Erases the block that may have a checkpoint, else the free block whose turn it is, and makes it the open one, or marks it where that fails.
 fn try_block<N: Nand>(device: &mut N, blocks: &mut Blocks) -> Result<Tried, Gone>
     requires ready { IsReady (N.state device.old) (table blocks.old) }
     requires closed { (table blocks.old).open_block ≡ None }
@@ -48,7 +48,7 @@ fn try_block<N: Nand>(device: &mut N, blocks: &mut Blocks) -> Result<Tried, Gone
     ensures turn { TakesTurn (table blocks.old) (table blocks.new) result }
     ensures ends { TriesOne (N.state device.new) (table blocks.old) (table blocks.new) result }
 {
-    let Some(block) = blocks.next_free() else {
+    let Some(block) = blocks.next_taken() else {
         unreachable!()
     };
     match erase_and_open(device, blocks, block) {

@@ -1,15 +1,16 @@
 -- What is known of the blocks of a device.
-use Rattle.std.specs.Prelude.{◌≡◌, ◌≢◌, ◌⊎◌, ◌<◌, ◌≤◌, ℕ, ◌-◌, Bool, true, false, not, ◌&&◌, nat_eq, Option, Some, None, List, length, get_or}
+use Rattle.std.specs.Prelude.{◌≡◌, ◌≢◌, ◌⊎◌, ◌<◌, ◌≤◌, ℕ, ◌-◌, Bool, true, false, not, ◌&&◌, nat_eq, Option, Some, None, List, length, get_or, if◌then◌else◌}
 use Rattle.std.specs.Option.{option_map_or}
 use Rattle.nand_model.specs.declared.geometry.Geometry.{Geometry}
 use Rattle.block_state.specs.declared.blocks.BlockEntry.{BlockEntry}
 
--- The blocks of a device of these sizes: the entry of each, the one that is being written or none, and the numbers
--- that are handed out next.
+-- The blocks of a device of these sizes: the entry of each, the one that is being written or none, the one that may have
+-- a whole checkpoint or none, and the numbers that are handed out next.
 pub record Table : Type 0 where
   pub geometry : Geometry
   pub entry : ℕ → BlockEntry
   pub open_block : Option ℕ
+  pub checkpoint : Option ℕ
   pub next_seq : ℕ
   pub next_group : ℕ
 
@@ -66,6 +67,14 @@ pub record IsNextFree (t : Table) (n b : ℕ) : Type 0 where
   pub oldest : (k : ℕ) → k < n → is_free t k ≡ true → (t.entry b).seq ≤ (t.entry k).seq
   pub lowest : (k : ℕ) → k < n → is_free t k ≡ true → (t.entry k).seq ≡ (t.entry b).seq → b ≤ k
 
+-- Among the first n blocks the one to be allocated next: the block of the checkpoint where that is free, so that no group
+-- is written while a checkpoint is whole, and else the one whose turn it is.
+pub record IsNextTaken (t : Table) (n b : ℕ) : Type 0 where
+  pub within : b < n
+  pub free : is_free t b ≡ true
+  pub first : (c : ℕ) → t.checkpoint ≡ Some c → is_free t c ≡ true → b ≡ c
+  pub turn : ((c : ℕ) → t.checkpoint ≡ Some c → is_free t c ≡ false) → IsNextFree t n b
+
 -- none of the first n blocks is free
 abbrev pub NoneFree : Table → ℕ → Type 0
 NoneFree t n = (b : ℕ) → b < n → is_free t b ≡ false
@@ -87,6 +96,15 @@ pub record IsWhole (geometry : Geometry) (entries : List BlockEntry) (opened : O
   pub open_block : (o : ℕ) → opened ≡ Some o → MayOpen geometry entries o
   pub seqs : (b : ℕ) → (entry_at entries b).seq < next_seq
 
+-- the block of the checkpoint, if there is one, is on the device
+abbrev pub IsOnDevice : Geometry → Option ℕ → Type 0
+IsOnDevice geometry checkpoint = (c : ℕ) → checkpoint ≡ Some c → c < geometry.blocks
+
+-- which block may have a whole checkpoint once this one has none
+abbrev pub other_than : ℕ → Option ℕ → Option ℕ
+other_than b None = None
+other_than b (Some c) = if nat_eq c b then None else Some c
+
 -- the entry of one block is this, and those of all others stay, with the sizes and the group number
 pub record Sets (b : ℕ) (entry : BlockEntry) (old new : Table) : Type 0 where
   pub here : new.entry b ≡ entry
@@ -98,4 +116,12 @@ pub record Sets (b : ℕ) (entry : BlockEntry) (old new : Table) : Type 0 where
 pub record SetsEntry (b : ℕ) (entry : BlockEntry) (old new : Table) : Type 0 where
   pub sets : Sets b entry old new
   pub open_block : new.open_block ≡ old.open_block
+  pub checkpoint : new.checkpoint ≡ old.checkpoint
+  pub next_seq : new.next_seq ≡ old.next_seq
+
+-- the block is bad and has no checkpoint, and all else of the table stays
+pub record SetsBad (b : ℕ) (old new : Table) : Type 0 where
+  pub sets : Sets b (record (old.entry b) { bad = true }) old new
+  pub open_block : new.open_block ≡ old.open_block
+  pub checkpoint : new.checkpoint ≡ other_than b old.checkpoint
   pub next_seq : new.next_seq ≡ old.next_seq

@@ -1,3 +1,4 @@
+pub mod Checkpoint
 pub mod Counting
 pub mod Kept
 pub mod Table

@@ -1,7 +1,7 @@
 // The table, and what changes it.
 ghost use Rattle.std.specs.Prelude.{◌≡◌, ◌≢◌, ◌<◌, ◌≤◌, ◌+◌, ◌-◌, ◌^◌, max, ℕ, true, false, None, Some, IfOk, IfSome};
 ghost use Rattle.volume_terms.specs.Sizes.{number_end};
-ghost use Rattle.block_state.specs.Table.{blank, room, Sets, SetsEntry, IsWhole};
+ghost use Rattle.block_state.specs.Table.{blank, room, is_free, other_than, Sets, SetsEntry, SetsBad, IsWhole, IsOnDevice};
 
 use nand_model::Geometry;
 use std::alloc::{AllocError, Global};
@@ -34,9 +34,11 @@ pub struct Blocks {
     geometry: Geometry,
     entries: Vec<BlockEntry>,
     open_block: Option<u32>,
+    checkpoint: Option<u32>,
     next_seq: u64,
     next_group: u64,
     ghost whole: { IsWhole geometry entries.items open_block next_seq },
+    ghost on_device: { IsOnDevice geometry checkpoint },
 }
 
 impl Blocks {
@@ -44,7 +46,7 @@ impl Blocks {
 
     /// All blocks good and without kept pages, none open, and the numbers 1 next.
     pub fn new(alloc: Global, geometry: Geometry) -> Result<Blocks, AllocError>
-        ensures { IfOk result (λ blocks. table blocks ≡ record { geometry = geometry; entry = λ b. blank; open_block = None; next_seq = 1; next_group = 1 }) }
+        ensures { IfOk result (λ blocks. table blocks ≡ record { geometry = geometry; entry = λ b. blank; open_block = None; checkpoint = None; next_seq = 1; next_group = 1 }) }
     {
         let blank = BlockEntry {
             bad: false,
@@ -58,6 +60,7 @@ impl Blocks {
             geometry,
             entries,
             open_block: None,
+            checkpoint: None,
             next_seq: 1,
             next_group: 1,
         })
@@ -83,6 +86,13 @@ impl Blocks {
         ensures { result ≡ (table self.now).open_block }
     {
         self.open_block
+    }
+
+    /// The block that may have a whole checkpoint.
+    pub fn checkpoint(&self) -> Option<u32>
+        ensures { result ≡ (table self.now).checkpoint }
+    {
+        self.checkpoint
     }
 
     /// How many pages can still be written in the open block.
@@ -128,14 +138,36 @@ impl Blocks {
         group
     }
 
-    /// Notes that a block is bad. The block is not the open one.
+    /// Notes the block that may have a whole checkpoint: a free one, while no block is open.
+    pub fn note_checkpoint(&mut self, block: u32)
+        requires block { block < (table self.old).geometry.blocks }
+        requires closed { (table self.old).open_block ≡ None }
+        requires free { is_free (table self.old) block ≡ true }
+        ensures { table self.new ≡ record (table self.old) { checkpoint = Some block } }
+    {
+        self.checkpoint = Some(block);
+    }
+
+    /// The block that may have a whole checkpoint, once this one has none.
+    fn checkpoint_elsewhere(&self, block: u32) -> Option<u32>
+        ensures is { result ≡ other_than block (table self.now).checkpoint }
+        ensures on_device { IsOnDevice (table self.now).geometry result }
+    {
+        match self.checkpoint {
+            Some(other) if other != block => Some(other),
+            _ => None,
+        }
+    }
+
+    /// Notes that a block is bad, which then has no checkpoint. The block is not the open one.
     #[tactic(auto, using(crate::specs::laws::Table::whole_set))]
     pub fn mark_bad(&mut self, block: u32)
         requires block { block < (table self.old).geometry.blocks }
         requires closed { (table self.old).open_block ≢ Some block }
-        ensures { SetsEntry block (record ((table self.old).entry block) { bad = true }) (table self.old) (table self.new) }
+        ensures { SetsBad block (table self.old) (table self.new) }
     {
         let entry = self.entry(block);
+        self.checkpoint = self.checkpoint_elsewhere(block);
         self.entries[block as usize] = BlockEntry { bad: true, ..entry };
     }
 
@@ -178,7 +210,7 @@ impl Blocks {
         };
     }
 
-    /// Makes a good block, which was erased, the open one, and gives it the next number.
+    /// Makes a good block, which was erased and so has no checkpoint, the open one, and gives it the next number.
     #[tactic(auto, using(crate::specs::laws::Table::whole_set))]
     pub fn open(&mut self, block: u32)
         requires block { block < (table self.old).geometry.blocks }
@@ -186,8 +218,10 @@ impl Blocks {
         requires seq { (table self.old).next_seq < number_end }
         ensures sets { Sets block (record ((table self.old).entry block) { seq = (table self.old).next_seq; next = 0 }) (table self.old) (table self.new) }
         ensures open { (table self.new).open_block ≡ Some block }
+        ensures checkpoint { (table self.new).checkpoint ≡ other_than block (table self.old).checkpoint }
         ensures seq { (table self.new).next_seq ≡ (table self.old).next_seq + 1 }
     {
+        self.checkpoint = self.checkpoint_elsewhere(block);
         let entry = &mut self.entries[block as usize];
         entry.seq = self.next_seq;
         entry.next = 0;

@@ -1,6 +1,6 @@
 // What is counted over the table, and which block is to be taken or to be collected.
 ghost use Rattle.std.specs.Prelude.{◌≡◌, ◌<◌, ◌↔◌, IsTrue, IfSome, IfNone};
-ghost use Rattle.block_state.specs.Table.{is_free, IsFewest, NoneKept, HoldsFewer, IsNextFree, NoneFree, GoesBefore};
+ghost use Rattle.block_state.specs.Table.{is_free, IsFewest, NoneKept, HoldsFewer, IsNextFree, IsNextTaken, NoneFree, GoesBefore};
 ghost use Rattle.block_state.specs.Kept.{bad_count, free_count};
 
 use crate::blocks::Blocks;
@@ -92,6 +92,17 @@ impl Blocks {
             }
         }
         next
+    }
+
+    /// The free block to be allocated next: the one that may have a whole checkpoint, else the one whose turn it is.
+    pub fn next_taken(&self) -> Option<u32>
+        ensures found { IfSome result (λ block. IsNextTaken (table self.now) (table self.now).geometry.blocks block) }
+        ensures none { IfNone result (NoneFree (table self.now) (table self.now).geometry.blocks) }
+    {
+        match self.checkpoint() {
+            Some(block) if self.is_free(block) => Some(block),
+            _ => self.next_free(),
+        }
     }
 
     /// Whether a block is to be taken before the one whose turn it is so far.

@@ -5,6 +5,7 @@ pub mod Keeping
 pub mod Places
 pub mod Slots
 pub mod Tree
+pub mod Truth
 pub mod Mount
 pub mod FreeBlocks
 pub mod Sound

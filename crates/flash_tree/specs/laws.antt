@@ -17,5 +17,6 @@ pub mod Slot
 pub mod Telling
 pub mod Tree
 pub mod TreeSlot
+pub mod Truth
 pub mod WalkExists
 pub mod WholeList

@@ -4,4 +4,3 @@ pub mod Ranges
 pub mod SlotBytes
 pub mod HeaderBytes
 pub mod HeaderTests
-pub mod AllZero

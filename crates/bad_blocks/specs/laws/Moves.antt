@@ -18,6 +18,7 @@ use Rattle.chunk_index.specs.Maps.{kept_pages, kept_in, moved_to, CountsAgree}
 use Rattle.chunk_index.specs.Shelves.{look}
 use Rattle.bad_blocks.specs.Copying.{KeepsCounts, KeepsKeptAt, KeepsDataAt}
 use Rattle.bad_blocks.specs.Moving.{Moves, MovesOut}
+use Rattle.bad_blocks.specs.Taking.{LiesApart}
 use Rattle.bad_blocks.specs.Standing.{SameData, HasVersion, MayLie, AreHeld, Stands}
 use Rattle.flash_tree.specs.laws.Place.{had_power}
 
@@ -58,6 +59,10 @@ are_held t x none agree o c p is = elim (cases_eq (t.entry p.block).kept 0) [
   | inl zero_there ↦ absurd (none p.block (sym (agree.counts p.block) ∙ zero_there) o c p is refl)
 ]
 
+-- no kept page lies in the block that may have a checkpoint, where no other block was noted and kept counts stay
+pub lies_apart : (t u : Table) → ((c : ℕ) → u.checkpoint ≡ Some c → t.checkpoint ≡ Some c) → ((b : ℕ) → (u.entry b).kept ≡ (t.entry b).kept) → LiesApart t → LiesApart u
+lies_apart t u noted kept apart c is = kept c ∙ apart c (noted c is)
+
 pub may_lie_later : (t u : Table) (o c : ℕ) (p : KeptPage) → u.geometry ≡ t.geometry → t.next_group ≤ u.next_group → MayLie t o c p → MayLie u o c p
 may_lie_later t u o c p geometry rises may = record {
   block = subst (λ (g : Geometry). p.block < g.blocks) (sym geometry) may.block;
@@ -81,15 +86,17 @@ module _ (spare : ℕ) (d0 d1 : Device) (t0 t1 : Table) (x : Index) (held : AreH
         counts = λ b. keeps.kept b ∙ stands.tables.counts.counts b;
         within = λ b le. stands.tables.counts.within b (subst (λ (g : Geometry). g.blocks ≤ b) keeps.geometry le);
       };
-      within = λ o c p is. may_lie_later t0 t1 o c p keeps.geometry keeps.numbers.groups_rise (stands.tables.within o c p is);
+      within = λ o c p is. may_lie_later t0 t1 o c p keeps.geometry keeps.numbers.numbers.groups_rise (stands.tables.within o c p is);
       fits = λ b. let same = keeps.kept b in let was = stands.tables.fits b in
           subst (λ (g : Geometry). (t1.entry b).kept ≤ g.pages) (sym keeps.geometry) (omega (arith, same, was));
       written = written;
       unkept = omega (arith, keeps.unkept, stands.tables.unkept);
+      apart = lies_apart t0 t1 keeps.numbers.truth.noted keeps.kept stands.tables.apart;
     };
     newest = λ honest power o c p is.
         let was : d0.honest ≡ true = sym keeps.lasts.honest ∙ honest in
         stays was power o c p (held o c p is) (stands.newest was (had_power d0 d1 keeps.lasts power) o c p is);
+    ordinary = λ honest. stands.ordinary (sym keeps.lasts.honest ∙ honest);
     limits = keeps.limits stands.limits;
   }
 

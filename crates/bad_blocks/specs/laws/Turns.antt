@@ -108,7 +108,9 @@ stands_closed spare d t u x is stands = subst (λ (s : Table). Stands spare d s 
     fits = stands.tables.fits;
     written = λ o at. let two : None ≡ Some o = at in absurd cc;
     unkept = stands.tables.unkept;
+    apart = stands.tables.apart;
   };
   newest = stands.newest;
+  ordinary = stands.ordinary;
   limits = stands.limits;
 })

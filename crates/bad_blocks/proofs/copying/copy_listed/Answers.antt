@@ -29,6 +29,7 @@ loop-target-init g c =
       newest = λ honest. kept_here t d.flash;
       closed = ap (λ (x : Table). x.open_block) c.close.ensures;
       few = omega (arith, bad, c.requires.some.bad);
+      apart = λ k is. keeps.kept k ∙ c.requires.some.apart k (keeps.numbers.truth.noted k is);
       size = c.requires.size;
       copies = may_later d d t u c.args.copies.now (lasts_here d) (omega (arith, group)) keeps.kept (λ honest power. kept_here t d.flash) c.requires.copies;
     }
@@ -93,8 +94,9 @@ loop-target-preserved g c =
           (so_far.newest honest) (tried.newest (so_far.keeps.lasts.honest ∙ honest) tried.ends.2);
       closed = tried.ends.0;
       few = search rules;
+      apart = λ k is. tried.keeps.kept k ∙ so_far.apart k (tried.keeps.numbers.truth.noted k is);
       size = search rules;
-      copies = may_later d1 d2 u v c.args.copies.now tried.keeps.lasts tried.keeps.numbers.groups_rise tried.keeps.kept
+      copies = may_later d1 d2 u v c.args.copies.now tried.keeps.lasts tried.keeps.numbers.numbers.groups_rise tried.keeps.kept
           (λ honest power. tried.newest honest power) so_far.copies;
     }
 

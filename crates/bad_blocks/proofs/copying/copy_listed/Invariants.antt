@@ -4,6 +4,7 @@ use Rattle.block_state.specs.TableOf.{table}
 use Rattle.bad_blocks.specs.Copying.{MayBeCopied, KeepsCounts, KeepsDataAt, KeepsKeptAt}
 use Rattle.nand_model.specs.Counts.{Costs, ReadsFew}
 use Rattle.bad_blocks.specs.Moving.{AnswersFailures, MarksFailures}
+use Rattle.bad_blocks.specs.Taking.{LiesApart}
 use Rattle.bad_blocks.proofs.copying.copy_listed.Given as goal
 
 abbrev pub invariant-loop-target : goal.invariant-loop-target
@@ -17,6 +18,7 @@ invariant-loop-target g l = record {
   newest : (g.N.Nand.state l.fn.device).honest ≡ true → KeepsKeptAt (table l.fn.blocks) (g.N.Nand.state l.fn.device).flash (g.N.Nand.state l.device).flash;
   closed : (table l.blocks).open_block ≡ None;
   few : bad_count (table l.blocks) ≤ l.spare;
+  apart : LiesApart (table l.blocks);
   size : length l.scratch ≡ (g.N.Nand.state l.device).geometry.bytes;
   copies : MayBeCopied (g.N.Nand.state l.device) (table l.blocks) l.copies;
 }

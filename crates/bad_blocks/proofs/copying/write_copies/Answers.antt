@@ -1,4 +1,4 @@
-use Rattle.std.proofs.Common.{◌≡◌, ◌+◌, Ok, Err, refl, subst, length, arith, inl}
+use Rattle.std.proofs.Common.{◌≡◌, ◌+◌, Ok, Err, refl, subst, length, arith, inl, rules}
 use Rattle.nand_model.specs.Calls.{Device}
 use Rattle.nand_model.specs.laws.Calls.{lasts_on}
 use Rattle.block_state.specs.Kept.{bad_count}
@@ -8,6 +8,8 @@ use Rattle.block_state.specs.TableOf.{table}
 use Rattle.transactions.specs.Groups.{closed}
 use Rattle.transactions.specs.Marking.{NotesMark}
 use Rattle.transactions.specs.laws.Handing.{hands_on}
+use Rattle.transactions.specs.laws.Ready.{none_waits}
+use Rattle.flash_tree.specs.laws.Truth.{none_after}
 use Rattle.transactions.specs.declared.group.GroupFault.TheVariants as groups
 use Rattle.bad_blocks.proofs.Free.{one_more}
 use Rattle.bad_blocks.specs.laws.Keeping.{same_closed, same_ends, limits_ends, keeps_passes, keeps_same}
@@ -18,6 +20,26 @@ use Rattle.bad_blocks.proofs.copying.write_copies.Goals as goal
 
 pub write_group-requires-clause-has : goal.write_group-requires-clause-has
 write_group-requires-clause-has g c = λ honest i lt. has_copies c.args.copies.now _ (c.requires.copies.newest honest c.requires.fresh.power) i
+
+pub write_group-requires-clause-ordinary : goal.write_group-requires-clause-ordinary
+write_group-requires-clause-ordinary g c = c.requires.copies.ordinary
+
+pub mark_block-requires-clause-first : goal.mark_block-requires-clause-first
+mark_block-requires-clause-first g c =
+    let none = none_waits (g.N.Nand.state c.args.device.now) (table c.args.blocks.now) c.args.block c.requires.ready c.requires.fresh.open_block in
+    inl (none_after _ _ _ _ c.write_group.ensures.numbers.truth none)
+
+pub returns-in-Ok-clause-ends : goal.returns-in-Ok-clause-ends
+returns-in-Ok-clause-ends g c = λ spare. (
+  record {
+    within = search rules;
+    good = search rules;
+    unkept = search rules;
+    open_block = search rules;
+    checkpoint = none_after _ _ (table c.args.blocks.now).checkpoint _ c.write_group.ensures.numbers.truth (none_waits _ (table c.args.blocks.now) c.args.block c.requires.ready c.requires.fresh.open_block);
+  },
+  search rules,
+)
 
 pub returns-in-Ok-clause-keeps : goal.returns-in-Ok-clause-keeps
 returns-in-Ok-clause-keeps g c =

@@ -4,10 +4,10 @@ use Rattle.nand_model.specs.Calls.{Device}
 use Rattle.nand_model.specs.declared.geometry.Geometry.{Geometry}
 use Rattle.block_state.specs.Table.{Table}
 use Rattle.block_state.specs.TableOf.{table}
-use Rattle.bad_blocks.specs.Moving.{AnswersFailures}
+use Rattle.bad_blocks.specs.Moving.{AnswersFailures, MarksFailures}
 use Rattle.bad_blocks.specs.laws.FreeBlocks.{free_copied}
 use Rattle.bad_blocks.specs.laws.Moves.{are_held, stands_kept, moves_kept}
-use Rattle.bad_blocks.proofs.Moves.{may_be_copied, same_bads, stands_moved, moves_moved, free_moved, is_left, lies_in, lies_open, is_closed}
+use Rattle.bad_blocks.proofs.Moves.{none_noted, may_be_copied, same_bads, stands_moved, moves_moved, free_moved, is_left, lies_in, lies_open, is_closed}
 use Rattle.bad_blocks.proofs.moving.move_listed.Goals as goal
 
 pub copy_listed-requires-clause-copies : goal.copy_listed-requires-clause-copies
@@ -118,6 +118,8 @@ returns-then-suspect-clause-ends g c = λ v listed.
             (c.tell_copies.ensures.tells v listed.lists (unlike v target.block t0 listed.some copied.ends.0.unkept)) c.tell_copies.ensures.agree copied.newest c.if-suspect.true,
       ),
       copied.ends.1,
+      none_noted c.args.spare v target d0 d1 t0 t1 t2 x y c.args.copies.now listed held copied.keeps c.requires.stands copied.ends.0
+          (c.tell_copies.ensures.tells v listed.lists (unlike v target.block t0 listed.some copied.ends.0.unkept)) c.tell_copies.ensures.agree copied.newest,
     )
 
 pub returns-clause-moves : goal.returns-clause-moves
@@ -172,6 +174,8 @@ returns-clause-ends g c = λ v listed.
             (c.tell_copies.ensures.tells v listed.lists (unlike v target.block t0 listed.some copied.ends.0.unkept)) c.tell_copies.ensures.agree copied.newest c.if-suspect.false,
       ),
       copied.ends.1,
+      none_noted c.args.spare v target d0 d1 t0 t1 t2 x y c.args.copies.now listed held copied.keeps c.requires.stands copied.ends.0
+          (c.tell_copies.ensures.tells v listed.lists (unlike v target.block t0 listed.some copied.ends.0.unkept)) c.tell_copies.ensures.agree copied.newest,
     )
 
 pub returns-clause-marks : goal.returns-clause-marks
@@ -293,4 +297,42 @@ returns-clause-answers g c =
     let same = same_bads c.args.spare v target d0 d1 t0 t1 t2 x y c.args.copies.now listed held copied.keeps c.requires.stands copied.ends.0
     (c.tell_copies.ensures.tells v listed.lists (unlike v target.block t0 listed.some copied.ends.0.unkept)) c.tell_copies.ensures.agree copied.newest in
     let answered : AnswersFailures 0 0 d0 d1 t0 t1 = subst (λ (s : Bool). AnswersFailures 0 (if s then 1 else 0) d0 d1 t0 t1) c.if-suspect.false copied.answers in
+    omega (arith, same, answered)
+
+pub returns-then-suspect-clause-answers : goal.returns-then-suspect-clause-answers
+returns-then-suspect-clause-answers g c =
+    let d0 : Device = g.N.Nand.state c.args.device.now in
+    let d1 : Device = g.N.Nand.state c.copy_listed.new.device in
+    let t0 : Table = table c.args.blocks.now in
+    let t1 : Table = table c.copy_listed.new.blocks in
+    let x = c.args.index.now in
+    let held = are_held t0 x (c.the_counts_are_of_the_keys.ensures.none x) c.requires.stands.tables.counts in
+    let t2 : Table = table c.tell_copies.new.blocks in
+    let y = c.tell_copies.new.index in
+    let copied = c.in_ok-target.ensures in
+    let target = c.in_ok-target.target in
+    let v : ℕ = c.requires.listed.0 in
+    let listed = c.requires.listed.1 in
+    let same = same_bads c.args.spare v target d0 d1 t0 t1 t2 x y c.args.copies.now listed held copied.keeps c.requires.stands copied.ends.0
+    (c.tell_copies.ensures.tells v listed.lists (unlike v target.block t0 listed.some copied.ends.0.unkept)) c.tell_copies.ensures.agree copied.newest in
+    let answered : AnswersFailures 0 1 d0 d1 t0 t1 = subst (λ (s : Bool). AnswersFailures 0 (if s then 1 else 0) d0 d1 t0 t1) c.if-suspect.true copied.answers in
+    omega (arith, same, answered)
+
+pub returns-then-suspect-clause-marks : goal.returns-then-suspect-clause-marks
+returns-then-suspect-clause-marks g c =
+    let d0 : Device = g.N.Nand.state c.args.device.now in
+    let d1 : Device = g.N.Nand.state c.copy_listed.new.device in
+    let t0 : Table = table c.args.blocks.now in
+    let t1 : Table = table c.copy_listed.new.blocks in
+    let x = c.args.index.now in
+    let held = are_held t0 x (c.the_counts_are_of_the_keys.ensures.none x) c.requires.stands.tables.counts in
+    let t2 : Table = table c.tell_copies.new.blocks in
+    let y = c.tell_copies.new.index in
+    let copied = c.in_ok-target.ensures in
+    let target = c.in_ok-target.target in
+    let v : ℕ = c.requires.listed.0 in
+    let listed = c.requires.listed.1 in
+    let same = same_bads c.args.spare v target d0 d1 t0 t1 t2 x y c.args.copies.now listed held copied.keeps c.requires.stands copied.ends.0
+    (c.tell_copies.ensures.tells v listed.lists (unlike v target.block t0 listed.some copied.ends.0.unkept)) c.tell_copies.ensures.agree copied.newest in
+    let answered : MarksFailures 0 1 d0 d1 t0 t1 = subst (λ (s : Bool). MarksFailures 0 (if s then 1 else 0) d0 d1 t0 t1) c.if-suspect.true copied.marks in
     omega (arith, same, answered)

@@ -72,3 +72,6 @@ returns-clause-answers g c =
 
 pub returns-clause-empty : goal.returns-clause-empty
 returns-clause-empty g c = λ none. c.retire_all.ensures.empty (ap (λ (s : Table). (s.entry c.args.block).kept) c.close.ensures ∙ none)
+
+pub retire_all-requires-clause-none : goal.retire_all-requires-clause-none
+retire_all-requires-clause-none g c = ap (λ (x : Table). x.checkpoint) c.close.ensures ∙ c.requires.none

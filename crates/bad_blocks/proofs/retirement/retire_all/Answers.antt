@@ -6,6 +6,7 @@ use Rattle.chunk_index.specs.Kept.{HoldsNone}
 use Rattle.chunk_index.specs.Maps.{kept_pages}
 use Rattle.nand_model.specs.Counts.{Costs}
 use Rattle.bad_blocks.specs.Moving.{AnswersFailures, MarksFailures}
+use Rattle.flash_tree.specs.laws.Truth.{none_after}
 use Rattle.bad_blocks.specs.laws.FreeBlocks.{free_on}
 use Rattle.bad_blocks.proofs.RetireTurns.{Retiring, open_is, next_unkept, moves_next, marks_next, costs_next, retiring_next, retired_all, some_none}
 use Rattle.bad_blocks.proofs.retirement.retire_all.Goals as goal
@@ -124,3 +125,6 @@ returns-in_err-suspect-2-clause-free g c =
 
 pub returns-in_err-suspect-2-clause-empty : goal.returns-in_err-suspect-2-clause-empty
 returns-in_err-suspect-2-clause-empty g c = λ kept. absurd (some_none c.in-Some.next (sym c.in-Some.is ∙ (c.loop-suspect.invariant.empty kept).1))
+
+pub retire_one-requires-in-Some-clause-none : goal.retire_one-requires-in-Some-clause-none
+retire_one-requires-in-Some-clause-none g c = none_after _ _ _ _ c.loop-suspect.invariant.retiring.moves.numbers.truth c.requires.none

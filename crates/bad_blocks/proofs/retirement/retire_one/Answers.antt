@@ -1,9 +1,10 @@
-use Rattle.std.proofs.Common.{◌<◌, sym, subst, arith}
+use Rattle.std.proofs.Common.{◌<◌, sym, subst, arith, inl}
 use Rattle.std.proofs.lemmas.Result.{err_from_is_err_and}
 use Rattle.nand_model.specs.Calls.{Device}
 use Rattle.nand_model.specs.declared.geometry.Geometry.{Geometry}
 use Rattle.block_state.specs.Table.{Table}
 use Rattle.block_state.specs.TableOf.{table}
+use Rattle.flash_tree.specs.laws.Truth.{none_after}
 use Rattle.bad_blocks.proofs.Free.{mark_fails_not}
 use Rattle.bad_blocks.proofs.Retired.{moves_marked, stands_marked, free_marked, bad_marked, one_bad, out}
 use Rattle.bad_blocks.proofs.retirement.retire_one.Goals as goal
@@ -154,3 +155,6 @@ returns-clause-answers g c =
     let one = one_bad c.args.spare c.args.block d1 d2 d3 t1 t2 t3 c.args.index.now y m.marks.0 e.moves e.stands (c.the_counts_are_of_the_keys.ensures.none y) within e.ends.left.unkept m.marks.1 m.ready m.notes m.newest m.numbers e.ends.left.good ends.0 in
     let none = mark_fails_not c.args.block d2 d3 m.marks.0 m.marks.1 in
     omega (arith, one, e.answers, none)
+
+pub mark_emptied-requires-clause-first : goal.mark_emptied-requires-clause-first
+mark_emptied-requires-clause-first g c = inl (none_after _ _ _ _ c.in_ok-suspect.ensures.moves.numbers.truth c.requires.none)

@@ -7,7 +7,7 @@ use Rattle.transactions.specs.Ready.{IsReady}
 use Rattle.transactions.specs.laws.Handing.{hands_on, hands_closed}
 use Rattle.transactions.specs.laws.Ready.{ready_closed}
 use Rattle.bad_blocks.proofs.Passing.{passes_on, passes_closed, takes_from}
-use Rattle.bad_blocks.proofs.Turning.{turn_from}
+use Rattle.bad_blocks.proofs.Turning.{turn_from, same_turns_on, same_turns_closed}
 use Rattle.bad_blocks.proofs.take.take_block.Goals as goal
 
 pub returns-then-next_seq-ge-NUMBER_END-clause-ready : goal.returns-then-next_seq-ge-NUMBER_END-clause-ready
@@ -27,7 +27,8 @@ loop-block-init g c = record {
   costs = omega arith;
   reads = refl;
   few = subst (λ (x : Table). bad_count x ≤ c.args.spare) (sym c.close.ensures) c.requires.some.bad;
-  seqs = λ b. ap (λ (x : Table). (x.entry b).seq) c.close.ensures;
+  turns = same_turns_closed (table c.args.blocks.now) _ c.close.ensures;
+  apart = λ k is. ap (λ (x : Table). (x.entry k).kept) c.close.ensures ∙ c.requires.some.apart k (sym (ap (λ (x : Table). x.checkpoint) c.close.ensures) ∙ is);
 }
 
 pub loop-block-preserved : goal.loop-block-preserved
@@ -44,7 +45,8 @@ loop-block-preserved g c =
       costs = omega (arith, so_far.costs, tried.costs);
       reads = tried.reads ∙ so_far.reads;
       few = search rules;
-      seqs = λ b. tried.turn b ∙ so_far.seqs b;
+      turns = same_turns_on (table c.args.blocks.now) _ _ tried.passes.marks_stay so_far.turns tried.turn;
+      apart = λ k is. tried.passes.kept k ∙ so_far.apart k (tried.turn.from k is);
     }
 
 pub returns-in-Ok-Taken-clause-passes : goal.returns-in-Ok-Taken-clause-passes
@@ -102,7 +104,7 @@ pub returns-in-Ok-Taken-clause-turn : goal.returns-in-Ok-Taken-clause-turn
 returns-in-Ok-Taken-clause-turn g c =
     let so_far = c.loop-block.invariant in
     let took = rw c.in-Ok-Taken.field-0-is at c.in-Ok-Taken.ensures in
-    turn_from _ _ _ _ _ _ so_far.passes so_far.seqs took.turn
+    turn_from _ _ _ _ _ _ _ so_far.passes took.passes so_far.turns took.turn
 
 pub returns-in-Ok-Taken-clause-answers : goal.returns-in-Ok-Taken-clause-answers
 returns-in-Ok-Taken-clause-answers g c =

@@ -6,7 +6,7 @@ use Rattle.transactions.specs.Handing.{HandsOut}
 use Rattle.transactions.specs.Ready.{IsReady}
 use Rattle.bad_blocks.specs.Moving.{AnswersFailures}
 use Rattle.bad_blocks.specs.Passing.{Passes}
-use Rattle.bad_blocks.specs.Taking.{SameSeqs, TakesNone}
+use Rattle.bad_blocks.specs.Taking.{LiesApart, SameTurns, TakesNone}
 use Rattle.bad_blocks.proofs.take.take_block.Given as goal
 
 abbrev pub invariant-loop-block : goal.invariant-loop-block
@@ -20,7 +20,8 @@ invariant-loop-block g l = record {
   costs : (g.N.Nand.state l.device).changes + 2 * (g.N.Nand.state l.fn.device).failures ≤ (g.N.Nand.state l.fn.device).changes + 2 * (g.N.Nand.state l.device).failures;
   reads : (g.N.Nand.state l.device).reads ≡ (g.N.Nand.state l.fn.device).reads;
   few : bad_count (table l.blocks) ≤ l.spare;
-  seqs : SameSeqs (table l.fn.blocks) (table l.blocks);
+  turns : SameTurns (table l.fn.blocks) (table l.blocks);
+  apart : LiesApart (table l.blocks);
 }
 
 abbrev pub decreases-loop-block : goal.decreases-loop-block

@@ -4,17 +4,18 @@ use Rattle.block_state.specs.laws.Kept.{free_where_closed, none_free, same_bad_c
 use Rattle.block_state.specs.Table.{Table}
 use Rattle.block_state.specs.TableOf.{table}
 use Rattle.transactions.specs.Marking.{NotesMark}
+use Rattle.transactions.specs.Opening.{MayLose}
 use Rattle.transactions.specs.laws.Handing.{hands_on}
 use Rattle.bad_blocks.proofs.Passing.{passes_on, passes_erased, passes_opened, passes_marked, same_opened}
-use Rattle.bad_blocks.proofs.Free.{was_unkept, one_more, erase_costs, mark_costs}
-use Rattle.bad_blocks.proofs.Turning.{opened_in_turn, seqs_marked}
+use Rattle.bad_blocks.proofs.Free.{was_unkept, one_more, erase_costs, erase_fails, mark_costs}
+use Rattle.bad_blocks.proofs.Turning.{first_taken, opened_in_turn, turns_marked}
 use Rattle.bad_blocks.proofs.take.try_block.Goals as goal
 
 pub unreachable-requires : goal.unreachable-requires
 unreachable-requires g c =
     let t : Table = table c.args.blocks.now in
     let free = free_where_closed t c.requires.closed in
-    let none = none_free t (rw c.in_default.is at c.next_free.ensures).none in
+    let none = none_free t (rw c.in_default.is at c.next_taken.ensures).none in
     let some = c.requires.some.1 in
     omega (arith, free, none, some.bad, some.unkept)
 
@@ -54,7 +55,7 @@ returns-in_ok-mark_block-in-Err-Failed-clause-passes g c =
     let erased = rw c.in-Err-Failed.field-0-is at c.in-Err-Failed.ensures in
     let marked = c.mark_block.ensures in
     let notes = subst (λ (x : Table). NotesMark block (g.N.Nand.state c.mark_block.new.device).flash x (table c.mark_block.new.blocks)) erased.unchanged marked.notes in
-    passes_marked block _ _ _ t _ _ c.in-Some.ensures.found.within free.0 free.1 erased.erases.lasts (omega (arith, erased.erases.ends.failures)) erased.newest marked.marks marked.newest notes
+    passes_marked block _ _ _ t _ _ c.in-Some.ensures.found.within free.0 free.1 erased.erases.lasts (erase_fails block _ _ erased.erases) erased.newest marked.marks marked.newest notes
 
 pub returns-in_err-mark_block-in-Err-Failed-clause-passes : goal.returns-in_err-mark_block-in-Err-Failed-clause-passes
 returns-in_err-mark_block-in-Err-Failed-clause-passes g c =
@@ -64,7 +65,7 @@ returns-in_err-mark_block-in-Err-Failed-clause-passes g c =
     let erased = rw c.in-Err-Failed.field-0-is at c.in-Err-Failed.ensures in
     let marked = c.mark_block.ensures in
     let notes = subst (λ (x : Table). NotesMark block (g.N.Nand.state c.mark_block.new.device).flash x (table c.mark_block.new.blocks)) erased.unchanged marked.notes in
-    passes_marked block _ _ _ t _ _ c.in-Some.ensures.found.within free.0 free.1 erased.erases.lasts (omega (arith, erased.erases.ends.failures)) erased.newest marked.marks marked.newest notes
+    passes_marked block _ _ _ t _ _ c.in-Some.ensures.found.within free.0 free.1 erased.erases.lasts (erase_fails block _ _ erased.erases) erased.newest marked.marks marked.newest notes
 
 pub returns-in_ok-mark_block-in-Err-Failed-clause-ends : goal.returns-in_ok-mark_block-in-Err-Failed-clause-ends
 returns-in_ok-mark_block-in-Err-Failed-clause-ends g c =
@@ -117,7 +118,7 @@ returns-in_ok-mark_block-in-Err-Failed-clause-numbers g c =
     hands_on _ _ _ (table c.args.blocks.now) (table c.erase_and_open.new.blocks) _ erased.erases.lasts marked.marks.lasts erased.numbers marked.numbers
 
 pub returns-in-Ok-clause-turn : goal.returns-in-Ok-clause-turn
-returns-in-Ok-clause-turn g c = opened_in_turn c.in-Some.block (table c.args.blocks.now) _ c.requires.closed c.in-Some.ensures.found c.in-Ok.ensures.opens
+returns-in-Ok-clause-turn g c = opened_in_turn c.in-Some.block _ (table c.args.blocks.now) _ c.requires.ready c.requires.some.1.apart c.requires.closed c.in-Some.ensures.found c.in-Ok.ensures.opens
 
 pub returns-in_ok-mark_block-in-Err-Failed-clause-turn : goal.returns-in_ok-mark_block-in-Err-Failed-clause-turn
 returns-in_ok-mark_block-in-Err-Failed-clause-turn g c =
@@ -125,7 +126,7 @@ returns-in_ok-mark_block-in-Err-Failed-clause-turn g c =
     let block : ℕ = c.in-Some.block in
     let erased = rw c.in-Err-Failed.field-0-is at c.in-Err-Failed.ensures in
     let notes = subst (λ (x : Table). NotesMark block (g.N.Nand.state c.mark_block.new.device).flash x (table c.mark_block.new.blocks)) erased.unchanged c.mark_block.ensures.notes in
-    seqs_marked block _ t _ notes
+    turns_marked block _ t _ notes c.in_ok-mark_block-in-Err-Failed.ensures.marks.bad
 
 pub returns-in-Ok-clause-answers : goal.returns-in-Ok-clause-answers
 returns-in-Ok-clause-answers g c =
@@ -142,3 +143,11 @@ returns-in_ok-mark_block-in-Err-Failed-clause-answers g c =
     let done = c.in_ok-mark_block-in-Err-Failed.ensures in
     let more = one_more block _ t _ c.in-Some.ensures.found.within free.0 done.marks.bad notes in
     omega (arith, more, erased.erases.ends.failures, done.marks.ends.failures)
+
+pub erase_and_open-requires-clause-first : goal.erase_and_open-requires-clause-first
+erase_and_open-requires-clause-first g c = first_taken _ (table c.args.blocks.now) _ c.in-Some.block c.requires.ready c.requires.some.1.apart c.in-Some.ensures.found
+
+pub mark_block-requires-clause-first : goal.mark_block-requires-clause-first
+mark_block-requires-clause-first g c =
+    let erased = rw c.in-Err-Failed.field-0-is at c.in-Err-Failed.ensures in
+    subst (MayLose c.in-Some.block) (sym erased.unchanged) (first_taken _ (table c.args.blocks.now) _ c.in-Some.block c.requires.ready c.requires.some.1.apart c.in-Some.ensures.found)

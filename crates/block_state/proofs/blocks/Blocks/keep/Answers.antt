@@ -1,7 +1,7 @@
 use Rattle.block_state.specs.laws.Table.{whole_set}
 use Rattle.block_state.proofs.blocks.Blocks.keep.Goals as goal
 
-pub invariant_of-self : goal.invariant_of-self
-invariant_of-self c =
+pub invariant_of-self-clause-whole : goal.invariant_of-self-clause-whole
+invariant_of-self-clause-whole c =
     let whole = c.args.self.now.whole in
-    rw c.entry-entry.ensures (record { whole = whole_set _ _ _ _ c.args.block _ whole c.requires.block (whole.seqs c.args.block) (λ is. let may = whole.open_block c.args.block is in (may.good, may.next)) })
+    rw c.entry-entry.ensures (whole_set _ _ _ _ c.args.block _ whole c.requires.block (whole.seqs c.args.block) (λ is. let may = whole.open_block c.args.block is in (may.good, may.next)))

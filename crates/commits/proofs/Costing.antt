@@ -1,13 +1,20 @@
 -- What calls in turn cost.
-use Rattle.std.proofs.Common.{◌≡◌, ◌≤◌, ℕ, ◌+◌, ◌-◌, ◌*◌, Option, Some, None, sym, ap, subst, ◌∙◌, arith}
+use Rattle.std.proofs.Common.{◌≡◌, ◌<◌, ◌≤◌, ℕ, ◌+◌, ◌-◌, ◌*◌, List, Option, Some, None, refl, sym, ap, subst, ◌∙◌, arith}
 use Rattle.std.specs.Option.{option_map_or}
 use Rattle.std.proofs.Math.Nat.{mul-le-mul_right, mul-le-mul_left}
 use Rattle.nand_model.specs.Calls.{Device, Lasts}
+use Rattle.block_state.specs.Kept.{bad_count}
 use Rattle.block_state.specs.Table.{Table, room}
+use Rattle.transactions.specs.Ready.{IsReady}
+use Rattle.transactions.specs.laws.Ready.{none_waits}
+use Rattle.bad_blocks.specs.Moving.{MarksFailures}
 use Rattle.nand_model.specs.Counts.{Costs}
 use Rattle.bad_blocks.specs.Taking.{CostsATake}
 use Rattle.collector.specs.Making.{FitsOpen, HasMore}
+use Rattle.commits.specs.Carrying.{AreWritable}
 use Rattle.commits.specs.Committing.{TakesNoBlock, TakesOneBlock}
+use Rattle.flash_tree.specs.declared.place.FreshPage.{FreshPage}
+use Rattle.nand_model.specs.declared.geometry.Geometry.{Geometry}
 
 -- what each failure costs more
 each_more : (k m a b : ℕ) → k ≤ m → a ≤ b → k * b + m * a ≤ m * b + k * a
@@ -106,3 +113,24 @@ takes_one_turn count now spare t u a b c same first then here turn = λ has none
     let still : b.changes ≡ a.changes = ap (λ (d : Device). d.changes) at.0 in
     let few = turn (subst (λ (s : Table). HasMore s spare) (sym at.1) has) (omega (arith, rise, rises, none)) in
     omega (arith, few, still, same)
+
+-- a turn that ends with one more bad block had a failure
+pub never_still : (a d e : Device) (t u : Table) → e.failures ≡ a.failures → a.failures ≤ d.failures → bad_count t < bad_count u → MarksFailures 0 0 d e t u → ⊥
+never_still a d e t u still rise more marks = omega (arith, still, rise, more, marks)
+
+-- where the open block has room, no block may have a checkpoint
+pub none_with_room : (n : ℕ) (d : Device) (t : Table) → IsReady d t → 1 ≤ n → n ≤ room t → t.checkpoint ≡ None
+none_with_room n d t ready some fits = go t.open_block refl where
+  go : (o : Option ℕ) → t.open_block ≡ o → t.checkpoint ≡ None
+  go None is =
+      let none : room t ≡ 0 = ap (λ z. option_map_or (λ b. t.geometry.pages - (t.entry b).next) z 0) is in
+      absurd (omega (arith, none, some, fits))
+  go (Some b) is = none_waits d t b ready is
+
+-- pages that can be written can be it still
+pub writable_on : (a b : Device) (pages : List FreshPage) → Lasts a b → AreWritable a pages → AreWritable b pages
+writable_on a b pages lasts w = record {
+  few = w.few;
+  numbered = λ i p is. ((w.numbered i p is).0, λ honest. (w.numbered i p is).1 (sym lasts.honest ∙ honest));
+  size = λ i p is. w.size i p is ∙ ap (λ (g : Geometry). g.bytes) (sym lasts.geometry);
+}

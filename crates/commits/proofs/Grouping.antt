@@ -56,6 +56,7 @@ tables_closed spare t x a = record {
   fits = a.fits;
   written = λ o is. let two : None ≡ Some o = is in absurd cc;
   unkept = a.unkept;
+  apart = a.apart;
 }
 
 pub same_kept_pages : (x : Index) (f g : Flash) → KeepsNewest f g → SameData (kept_pages x) f g
@@ -87,6 +88,7 @@ keeps_group spare d e t u x stands held less is lasts ready numbers newest = rec
     newest = λ honest power.
         let was : d.honest ≡ true = sym lasts.honest ∙ honest in
         kept_group x d.flash e.flash (newest was) (stands.newest was (had_power d e lasts power));
+    ordinary = λ honest. stands.ordinary (sym lasts.honest ∙ honest);
     limits = limits_ends 0 t u (Err group_faults.Failed) is less stands.limits;
   };
   numbers = numbers;

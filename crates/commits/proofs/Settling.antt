@@ -29,7 +29,10 @@ use Rattle.transactions.specs.laws.Handing.{hands_same}
 use Rattle.transactions.specs.Newest.{ShowsGroup}
 use Rattle.flash_tree.specs.Numbering.{AreBelow}
 use Rattle.transactions.specs.Ready.{IsReady}
-use Rattle.bad_blocks.specs.Standing.{AreKept, HasFreeBlocks, IsKeptAt, IsWithinLimits, MayLie, Stands, TablesAgree}
+use Rattle.flash_tree.specs.Slots.{check_object}
+use Rattle.flash_tree.specs.laws.Truth.{none_after}
+use Rattle.transactions.specs.laws.Ready.{none_waits}
+use Rattle.bad_blocks.specs.Standing.{AreKept, KeepsOrdinary, HasFreeBlocks, IsKeptAt, IsWithinLimits, MayLie, Stands, TablesAgree}
 use Rattle.bad_blocks.specs.laws.FreeBlocks.{leaves_fewer}
 use Rattle.flash_tree.specs.laws.Place.{had_power}
 use Rattle.bad_blocks.specs.laws.Moves.{may_lie_later}
@@ -58,6 +61,9 @@ ready_counted d t u before after counts ready = record {
         pages = let pages = was.pages in omega (arith, next, pages);
         seq = (let one = was.seq.0 in omega (arith, seq, one), let below = was.seq.1 in omega (arith, seq, next_seq, below));
       };
+  waits = λ c is.
+      let was = ready.waits c (sym counts.checkpoint ∙ is) in
+      record { within = was.within; good = was.good; closed = counts.open_block ∙ was.closed };
   numbers = (let group = counts.next_group in let one = ready.numbers.0 in omega (arith, group, one), let seq = counts.next_seq in let one = ready.numbers.1 in omega (arith, seq, one));
   below = λ honest. subst (λ n. AreBelow d.flash n u.next_seq) (sym counts.next_group) (subst (λ n. AreBelow d.flash t.next_group n) (sym counts.next_seq) (ready.below honest));
 }
@@ -68,7 +74,7 @@ limits_counted t u before after counts (groups, seqs) = (let same = counts.next_
 
 -- and as many numbers are handed out
 pub hands_counted : (d e : Device) (t u v : Table) (before after : ℕ → ℕ) → Recounts before after u v → HandsOut d e t u → HandsOut d e t v
-hands_counted d e t u v before after counts hands = hands_same d e t u v counts.next_group counts.next_seq hands
+hands_counted d e t u v before after counts hands = hands_same d e t u v counts.next_group counts.next_seq counts.checkpoint hands
 
 -- Tables where the index was settled: pages of the buffer may lie where the group says, its block has room for them, and
 -- it was not free.
@@ -78,7 +84,8 @@ module _ (spare : ℕ) (lists : ListsAreWhole) (w : WrittenGroup) (t u v : Table
     (fills : (t.entry w.block).kept + length pages ≤ t.geometry.pages)
     (opened : (b : ℕ) → u.open_block ≡ Some b → (t.entry b).kept + length pages ≤ (u.entry b).next)
     (not_free : is_free t w.block ≡ true → length pages ≡ 0)
-    (shut : (u.open_block ≡ t.open_block) ⊎ (u.open_block ≡ None)) where
+    (shut : (u.open_block ≡ t.open_block) ⊎ (u.open_block ≡ None))
+    (noted : (c : ℕ) → u.checkpoint ≡ Some c → (t.checkpoint ≡ Some c) × (length pages ≡ 0)) where
   most : (b : ℕ) → (v.entry b).kept ≤ (t.entry b).kept + length pages
   most b =
       let now = agree.counts b in
@@ -128,6 +135,11 @@ module _ (spare : ℕ) (lists : ListsAreWhole) (w : WrittenGroup) (t u v : Table
         let fit = opened o (sym counts.open_block ∙ is) in
         omega (arith, few, next, fit);
     unkept = has_unkept t v geometry marks less closes spare free;
+    apart = λ c is.
+        let was = noted c (sym counts.checkpoint ∙ is) in
+        let few = most c in
+        let none = tables.apart c was.0 in
+        omega (arith, few, none, was.1);
   } where
     fits : (b : ℕ) → (v.entry b).kept ≤ t.geometry.pages
     fits b = elim (cases_eq b w.block) [
@@ -162,6 +174,14 @@ newest_settled w f x y settles buffered on_flash q c p is = go (present x q c) r
       let e : written_page w i ≡ p = cc in
       subst (IsKeptAt f q c) e (buffered q c i at)
 
+-- no page is of the object of checkpoints, where none was and no page of the buffer is
+pub ordinary_settled : (w : WrittenGroup) (x y : Index) → Settles w x y → ((q c i : ℕ) → present x q c ≡ presents.InBuffer i → q ≢ check_object) → KeepsOrdinary x → KeepsOrdinary y
+ordinary_settled w x y settles buffered kept q c p is = go (present x q c) refl where
+  go : (r : Present) → present x q c ≡ r → q ≢ check_object
+  go presents.Absent at = let two : None ≡ Some p = sym (settles.kept q c ∙ ap (once_written w) at) ∙ is in absurd cc
+  go (presents.OnFlash k) at = kept q c k (on_flash_kept x q c k at)
+  go (presents.InBuffer i) at = buffered q c i at
+
 -- ---- the table after a group that counts
 
 -- the block stays open, with so many pages more written, or none is open
@@ -176,7 +196,7 @@ open_after false count o t u is takes = inl (takes.open_block, ap (λ (e : Block
 
 module _ (spare : ℕ) (lists : ListsAreWhole) (d e : Device) (t u v : Table) (x y : Index) (pages : List FreshPage) (o : ℕ)
     (buffers : Buffers x pages) (is : t.open_block ≡ Some o) (ready : IsReady d t) (stands : Stands spare d t x) (free : HasFreeBlocks t spare)
-    (writable : AreWritable d.geometry pages) (ranges : HaveRanges pages) (fit : length pages ≤ room t)
+    (writable : AreWritable d pages) (ranges : HaveRanges pages) (fit : length pages ≤ room t)
     (lasts : Lasts d e) (then : IsReady e u) (numbers : HandsOut d e t u) (same : SameCounts t u) (after : StaysOrCloses (length pages) o t u) (limits : IsWithinLimits t → IsWithinLimits u) (power : e.gone ≡ false)
     (shows : d.honest ≡ true → ShowsGroup (next_group t (length pages) o) (fresh_name pages t.next_group) (fresh_bytes pages) d.flash e.flash)
     (settles : Settles (record { block = o; first = (t.entry o).next; number = t.next_group }) x y) (agree : CountsAgree v y) (counts : Recounts (kept_in x) (kept_in y) u v) where
@@ -201,8 +221,8 @@ module _ (spare : ℕ) (lists : ListsAreWhole) (d e : Device) (t u v : Table) (x
       let both : Some there.0.key ≡ Some k = sym (ap (option_map (λ (p : FreshPage). p.key)) there.1) ∙ key in
       let same_key : there.0.key ≡ k = cc in
       let range = ranges i there.0 there.1 in
-      let first = (writable.each i there.0 there.1).0 in
-      let rise = numbers.groups_rise in
+      let first = (writable.numbered i there.0 there.1).0 in
+      let rise = numbers.numbers.groups_rise in
       let rises = counts.next_group in
       let fits = pages_fit in
       record {
@@ -238,18 +258,32 @@ module _ (spare : ℕ) (lists : ListsAreWhole) (d e : Device) (t u v : Table) (x
   shut : (u.open_block ≡ t.open_block) ⊎ (u.open_block ≡ None)
   shut = elim after [ inl (still, next) ↦ inl still | inr none ↦ inr none ]
 
+  -- a block was open, so none may have a checkpoint
+  noted_none : (c : ℕ) → u.checkpoint ≡ Some c → (t.checkpoint ≡ Some c) × (length pages ≡ 0)
+  noted_none c at = let two : None ≡ Some c = sym (none_after d e t.checkpoint u.checkpoint numbers.truth (none_waits d t o ready is)) ∙ at in absurd cc
+
+  buffered_ordinary : d.honest ≡ true → (q c i : ℕ) → present x q c ≡ presents.InBuffer i → q ≢ check_object
+  buffered_ordinary honest q c i at same =
+      let key = buffers.there q c i at in
+      let k : Key = record { object = q; chunk = c } in
+      let there = slice_get_there pages i (place_within pages i k key) in
+      let both : Some there.0.key ≡ Some k = sym (ap (option_map (λ (p : FreshPage). p.key)) there.1) ∙ key in
+      let same_key : there.0.key ≡ k = cc in
+      (writable.numbered i there.0 there.1).1 honest (ap (λ (z : Key). z.object) same_key ∙ same)
+
   pub free_whole : HasFreeBlocks v spare
-  free_whole = free_settled spare lists group t u v x y pages settles buffers agree counts same stands.tables free numbers.groups_rise lies fills opened not_free shut
+  free_whole = free_settled spare lists group t u v x y pages settles buffers agree counts same stands.tables free numbers.numbers.groups_rise lies fills opened not_free shut noted_none
 
   pub commits_whole : Commits spare d e t v x y pages
   commits_whole = record {
     lasts = lasts;
     ready = ready_counted e u v (kept_in x) (kept_in y) counts then;
     stands = record {
-      tables = tables_settled spare lists group t u v x y pages settles buffers agree counts same stands.tables free numbers.groups_rise lies fills opened not_free shut;
+      tables = tables_settled spare lists group t u v x y pages settles buffers agree counts same stands.tables free numbers.numbers.groups_rise lies fills opened not_free shut noted_none;
       newest = λ honest on.
           let was : d.honest ≡ true = sym lasts.honest ∙ honest in
           newest_settled group e.flash x y settles (kept_buffered t x pages o buffers d.flash e.flash (shows was)) (kept_on_flash t x pages o buffers d.flash e.flash (shows was) (kept was));
+      ordinary = λ honest. ordinary_settled group x y settles (buffered_ordinary (sym lasts.honest ∙ honest)) (stands.ordinary (sym lasts.honest ∙ honest));
       limits = limits_counted u v (kept_in x) (kept_in y) counts (limits stands.limits);
     };
     numbers = hands_counted d e t u v (kept_in x) (kept_in y) counts numbers;
@@ -289,15 +323,16 @@ module _ (spare : ℕ) (lists : ListsAreWhole) (w : WrittenGroup) (d : Device) (
   written_is b at = let fit = stands.tables.written b at in let zero_long = no_page in omega (arith, fit, zero_long)
 
   pub free_empty : HasFreeBlocks v spare
-  free_empty = free_settled spare lists w t t v x y pages settles buffers agree counts here stands.tables free (omega arith) (λ q c i at. absurd (not_there q c i at)) full written_is (λ _. no_page) (inl refl)
+  free_empty = free_settled spare lists w t t v x y pages settles buffers agree counts here stands.tables free (omega arith) (λ q c i at. absurd (not_there q c i at)) full written_is (λ _. no_page) (inl refl) (λ c at. (at, no_page))
 
   pub bad_empty : bad_count v ≡ bad_count t
-  bad_empty = bad_settled spare lists w t t v x y pages settles buffers agree counts here stands.tables free (omega arith) (λ q c i at. absurd (not_there q c i at)) full written_is (λ _. no_page) (inl refl)
+  bad_empty = bad_settled spare lists w t t v x y pages settles buffers agree counts here stands.tables free (omega arith) (λ q c i at. absurd (not_there q c i at)) full written_is (λ _. no_page) (inl refl) (λ c at. (at, no_page))
 
   pub stands_empty : Stands spare d v y
   stands_empty = record {
-    tables = tables_settled spare lists w t t v x y pages settles buffers agree counts here stands.tables free (omega arith) (λ q c i at. absurd (not_there q c i at)) full written_is (λ _. no_page) (inl refl);
+    tables = tables_settled spare lists w t t v x y pages settles buffers agree counts here stands.tables free (omega arith) (λ q c i at. absurd (not_there q c i at)) full written_is (λ _. no_page) (inl refl) (λ c at. (at, no_page));
     newest = λ honest power. newest_settled w d.flash x y settles (λ q c i at. absurd (not_there q c i at)) (λ q c k at. stands.newest honest power q c k (on_flash_kept x q c k at));
+    ordinary = λ honest. ordinary_settled w x y settles (λ q c i at. absurd (not_there q c i at)) (stands.ordinary honest);
     limits = limits_counted t v (kept_in x) (kept_in y) counts stands.limits;
   }
 

@@ -71,6 +71,7 @@ leaves_gone spare d e t u x pages o lists stands free less opened buffers ready 
   stands = record {
     tables = subst (λ (s : Table). TablesAgree spare s x) (sym is) (tables_closed spare t x stands.tables);
     newest = λ honest power. let two : true ≡ false = sym gone ∙ power in absurd cc;
+    ordinary = λ honest. stands.ordinary (sym lasts.honest ∙ honest);
     limits = limits_ends (length pages) t u (Err group_faults.Gone) is less stands.limits;
   };
   numbers = numbers;
@@ -102,7 +103,7 @@ leaves_gone spare d e t u x pages o lists stands free less opened buffers ready 
 -- the group counts
 module _ (spare : ℕ) (lists : ListsAreWhole) (d e : Device) (t u v : Table) (x y : Index) (pages : List FreshPage) (o : ℕ) (placed : Placed)
     (buffers : Buffers x pages) (is : t.open_block ≡ Some o) (ready : IsReady d t) (stands : Stands spare d t x) (free : HasFreeBlocks t spare)
-    (writable : AreWritable d.geometry pages) (ranges : HaveRanges pages) (fit : length pages ≤ room t) (less : t.next_group < 2 ^ 62)
+    (writable : AreWritable d pages) (ranges : HaveRanges pages) (fit : length pages ≤ room t) (less : t.next_group < 2 ^ 62)
     (lasts : Lasts d e) (then : IsReady e u) (numbers : HandsOut d e t u) (grows : d.honest ≡ true → Grows d.flash e.flash) (table : OkTable placed.suspect (length pages) t u) (power : e.gone ≡ false)
     (tells : TellsGroup (next_group t (length pages) o) placed)
     (groups : d.honest ≡ true → AddsPages (next_group t (length pages) o) (fresh_name pages t.next_group) (fresh_bytes pages) d.flash e.flash)

@@ -1,9 +1,9 @@
 -- What a flash carries, and pages that can be written to it.
-use Rattle.std.specs.Prelude.{◌≡◌, ◌⊎◌, ◌<◌, ◌≤◌, ◌^◌, ℕ, List, length, Some, slice_get}
+use Rattle.std.specs.Prelude.{◌≡◌, ◌≢◌, ◌⊎◌, ◌<◌, ◌≤◌, ◌^◌, ℕ, true, List, length, Some, slice_get}
 use Rattle.nand_model.specs.Calls.{Device}
 use Rattle.nand_model.specs.Flash.{Flash}
-use Rattle.nand_model.specs.declared.geometry.Geometry.{Geometry}
 use Rattle.flash_tree.specs.FreeBlocks.{LeavesFree}
+use Rattle.flash_tree.specs.Slots.{check_object}
 use Rattle.flash_tree.specs.declared.place.FreshPage.{FreshPage}
 use Rattle.flash_tree.specs.declared.place.Key.{Key}
 use Rattle.pages.specs.Maps.{PageMap}
@@ -37,10 +37,15 @@ pub record StaysCarried (spare : ℕ) (x : Index) (old new : Device) : Type 0 wh
 abbrev pub StaysOrShows : (spare : ℕ) → Index → List FreshPage → Device → Device → Type 0
 StaysOrShows spare x pages old new = StaysCarried spare x old new ⊎ CarriesFree new spare (present_data x pages old.flash)
 
--- fewer than 2^32 pages, each of the size of the device's pages and of an object from 1 on
-pub record AreWritable (geometry : Geometry) (pages : List FreshPage) : Type 0 where
+-- each page is of an object from 1 on, and on an honest device not of that of checkpoints
+abbrev pub AreNumbered : Device → List FreshPage → Type 0
+AreNumbered device pages = (i : ℕ) (p : FreshPage) → slice_get pages i ≡ Some p → (1 ≤ p.key.object) × (device.honest ≡ true → p.key.object ≢ check_object)
+
+-- fewer than 2^32 pages, each of the size of the device's pages and of a number that an object may have
+pub record AreWritable (device : Device) (pages : List FreshPage) : Type 0 where
   pub few : length pages < 2 ^ 32
-  pub each : (i : ℕ) (p : FreshPage) → slice_get pages i ≡ Some p → (1 ≤ p.key.object) × (length p.bytes.items ≡ geometry.bytes)
+  pub numbered : AreNumbered device pages
+  pub size : (i : ℕ) (p : FreshPage) → slice_get pages i ≡ Some p → length p.bytes.items ≡ device.geometry.bytes
 
 -- the numbers of a key are of 64 bits
 pub record HasRanges (k : Key) : Type 0 where

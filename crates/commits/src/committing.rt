@@ -66,7 +66,7 @@ pub fn commit<N: Nand>(
     requires free { HasFreeBlocks (table blocks.old) spare }
     requires room { IsRoomFor (N.state device.old).geometry room.old }
     requires buffers { Buffers index.old (buffered buffer.old) }
-    requires pages { AreWritable (N.state device.old).geometry (buffered buffer.old) }
+    requires pages { AreWritable (N.state device.old) (buffered buffer.old) }
     ensures lasts { Lasts (N.state device.old) (N.state device.new) }
     ensures ready { IsReady (N.state device.new) (table blocks.new) }
     ensures stands { Stands spare (N.state device.new) (table blocks.new) index.new }

@@ -48,7 +48,7 @@ fn take_turn<N: Nand>(
     requires room { IsRoomFor (N.state device.old).geometry room.old }
     requires buffers { Buffers index.old (buffered buffer.old) }
     requires some { 1 ≤ length (buffered buffer.old) }
-    requires pages { AreWritable (N.state device.old).geometry (buffered buffer.old) }
+    requires pages { AreWritable (N.state device.old) (buffered buffer.old) }
     ensures leaves { Leaves spare (N.state device.old) (N.state device.new) (table blocks.old) (table blocks.new) index.old index.new (buffered buffer.old) (buffered buffer.new) }
     ensures marks { MarksFailures 0 0 (N.state device.old) (N.state device.new) (table blocks.old) (table blocks.new) }
     ensures answers { OnOk result (AnswersFailures 0 0 (N.state device.old) (N.state device.new) (table blocks.old) (table blocks.new)) }
@@ -97,7 +97,7 @@ pub(crate) fn write_whole<N: Nand>(
     requires room { IsRoomFor (N.state device.old).geometry room.old }
     requires buffers { Buffers index.old (buffered buffer.old) }
     requires some { 1 ≤ length (buffered buffer.old) }
-    requires pages { AreWritable (N.state device.old).geometry (buffered buffer.old) }
+    requires pages { AreWritable (N.state device.old) (buffered buffer.old) }
     ensures leaves { Leaves spare (N.state device.old) (N.state device.new) (table blocks.old) (table blocks.new) index.old index.new (buffered buffer.old) (buffered buffer.new) }
     ensures marks { MarksFailures 0 0 (N.state device.old) (N.state device.new) (table blocks.old) (table blocks.new) }
     ensures answers { OnOk result (AnswersFailures 0 0 (N.state device.old) (N.state device.new) (table blocks.old) (table blocks.new)) }

@@ -48,7 +48,7 @@ pub(crate) fn write_buffered<N: Nand>(
     requires stands { (spare : ℕ) × Stands spare (N.state device.old) (table blocks.old) index.old }
     requires buffers { Buffers index.old (buffered buffer.old) }
     requires some { 1 ≤ length (buffered buffer.old) }
-    requires pages { AreWritable (N.state device.old).geometry (buffered buffer.old) }
+    requires pages { AreWritable (N.state device.old) (buffered buffer.old) }
     requires open_room { length (buffered buffer.old) ≤ room (table blocks.old) }
     requires size { length scratch.old ≡ (N.state device.old).geometry.bytes }
     ensures lasts { Lasts (N.state device.old) (N.state device.new) }

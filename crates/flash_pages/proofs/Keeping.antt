@@ -1,5 +1,5 @@
 -- A device that is only read keeps what it has.
-use Rattle.std.specs.Prelude.{◌≡◌, ◌<◌, ◌+◌, ℕ, Bool, true, false, count_by}
+use Rattle.std.specs.Prelude.{None, ◌≡◌, ◌<◌, ◌+◌, ℕ, Bool, true, false, count_by}
 use Rattle.std.specs.List.{range_with_len}
 use Rattle.std.proofs.Common.{refl, arith}
 use Rattle.nand_model.specs.Flash.{Flash}
@@ -9,6 +9,7 @@ use Rattle.volume_terms.specs.Sizes.{number_limit}
 use Rattle.flash_tree.specs.Newest.{Numbers}
 use Rattle.flash_tree.specs.Mount.{bad_blocks}
 use Rattle.flash_tree.specs.FreeBlocks.{LeavesFree}
+use Rattle.flash_tree.specs.laws.Truth.{true_same}
 use Rattle.transactions.specs.laws.Handing.{below_greater}
 use Rattle.pages.specs.State.{PagesState}
 use Rattle.pages.specs.Stores.{GoesOn, HasPage, HasNumbersLeft, KeptAs}
@@ -60,4 +61,5 @@ goes_on p n spare most was is = record {
   };
   marks = omega arith;
   limits = λ honest left. left;
+  truth = true_same p.device None None refl;
 }

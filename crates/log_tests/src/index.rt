@@ -1,5 +1,6 @@
 // The index of what a scan finds.
 
+use crate::scans::pages_of;
 use crate::worked::{flashes, written};
 use block_state::Blocks;
 use chunk_index::{Index, KeptPage};
@@ -19,9 +20,10 @@ struct Mounted {
 
 impl Mounted {
     fn new<N: Nand>(alloc: Global, device: &mut N) -> Result<Mounted, Fail> {
-        let newest = scan_newest(alloc, device)?.newest;
-        let mut blocks = Blocks::new(alloc, device.geometry())?;
-        let index = Index::from_newest(alloc, &newest, &mut blocks)?;
+        let found = scan_newest(alloc, device)?.newest;
+        let newest = pages_of(alloc, &found)?;
+        let blocks = Blocks::new(alloc, device.geometry())?;
+        let (index, blocks) = Index::from_newest(alloc, found, blocks)?;
         Ok(Mounted {
             newest,
             index,

@@ -156,6 +156,7 @@ pub(crate) fn retired(
     assert!(rt; block < nand.geometry().blocks());
     assert!(rt; block < log.blocks.geometry().blocks());
     assert!(rt; !log.blocks.entry(block).bad);
+    assert!(rt; log.blocks.checkpoint().is_none());
     let result = retire(
         nand,
         &mut log.blocks,

@@ -2,6 +2,7 @@
 
 use crate::worked::{broken_off, flashes, powered_up, small, tag, written};
 use flash_tree::{Found, Key};
+use found_pages::{BUCKETS, FoundPages};
 use mount_scan::{ScanFault, scan, scan_newest};
 use nand_model::{Fate, MemNand};
 use plain_search::{greatest, newest};
@@ -11,6 +12,17 @@ use std::alloc::Global;
 use std::process::Abort;
 use std::test::Fail;
 use test_flash::TestFlash;
+
+/// The pages of all buckets.
+pub(crate) fn pages_of(alloc: Global, found: &FoundPages) -> Result<Vec<Found>, Fail> {
+    let mut pages = Vec::new(alloc);
+    for at in 0..BUCKETS {
+        for page in found.bucket(at) {
+            pages.push(*page)?;
+        }
+    }
+    Ok(pages)
+}
 
 /// The places of what was found.
 fn places_of(alloc: Global, list: &[Found]) -> Result<Vec<(u32, u32)>, Fail> {
@@ -40,18 +52,19 @@ fn finds_as_plainly(
     what: &str,
 ) -> Result<Vec<Found>, Fail> {
     let found = scan_newest(alloc, nand)?;
+    let listed = pages_of(alloc, &found.newest)?;
     let mut keys = 0usize;
     for object in 0..8u64 {
         for chunk in 0..10u64 {
             let key = Key { object, chunk };
             let plain = newest(nand, key)?;
-            assert_eq!(rt; entry(&found.newest, key), plain, "{what}, {key:?}");
+            assert_eq!(rt; entry(&listed, key), plain, "{what}, {key:?}");
             keys = keys.saturating_add(plain.is_some() as usize);
         }
     }
-    assert_eq!(rt; found.newest.len(), keys, "{what}");
+    assert_eq!(rt; listed.len(), keys, "{what}");
     assert_eq!(rt; found.numbers, greatest(nand)?, "{what}");
-    Ok(found.newest)
+    Ok(listed)
 }
 
 #[test]
@@ -62,11 +75,15 @@ fn finds_what_counts_and_the_newest_of_each_key(rt: HostRuntime) -> Result<(), F
         let found = scan(alloc, &mut nand)?;
         let what = flash.what;
         assert_eq!(rt; places_of(alloc, &found.counted)?, flash.counted, "{what}");
-        assert_eq!(rt; places_of(alloc, &found.newest)?, flash.newest, "{what}");
+        assert_eq!(rt;
+            places_of(alloc, &pages_of(alloc, &found.newest)?)?,
+            flash.newest,
+            "{what}"
+        );
         assert_eq!(rt; found.numbers, flash.numbers, "{what}");
         assert_eq!(rt;
             finds_as_plainly(&rt, alloc, &mut nand, what)?,
-            found.newest,
+            pages_of(alloc, &found.newest)?,
             "{what}"
         );
         assert_eq!(rt; nand.changes(), 0);
@@ -85,7 +102,11 @@ fn a_group_counts_with_its_last_page(rt: HostRuntime) -> Result<(), Fail> {
         let found = scan(rt.alloc(), &mut powered_up(flash))?;
         let (counted, newest) = if pages == 4 { (5, 4) } else { (1, 1) };
         assert_eq!(rt; found.counted.len(), counted, "{pages} pages");
-        assert_eq!(rt; found.newest.len(), newest, "{pages} pages");
+        assert_eq!(rt;
+            pages_of(rt.alloc(), &found.newest)?.len(),
+            newest,
+            "{pages} pages"
+        );
     }
     Ok(())
 }
@@ -118,7 +139,10 @@ fn a_cut_scan_says_gone_and_changes_nothing(rt: HostRuntime) -> Result<(), Fail>
         assert_eq!(rt; cut.changes(), 0);
         cut.power_up();
         let found = scan(rt.alloc(), &mut cut)?;
-        assert_eq!(rt; places_of(rt.alloc(), &found.newest)?, flash.newest);
+        assert_eq!(rt;
+            places_of(rt.alloc(), &pages_of(rt.alloc(), &found.newest)?)?,
+            flash.newest
+        );
     }
     Ok(())
 }
@@ -189,7 +213,7 @@ fn finds_what_a_plain_search_finds(rt: HostRuntime) -> Result<(), Fail> {
         let what = format!(in alloc; "round {round}")?;
         assert_eq!(rt;
             finds_as_plainly(&rt, alloc, &mut nand, &what)?,
-            found.newest,
+            pages_of(alloc, &found.newest)?,
             "{what}"
         );
         entries = entries.saturating_add(found.counted.len() as u64);

@@ -1,14 +1,15 @@
 // A device in memory to which groups are written.
 
-ghost use Rattle.std.specs.Prelude.{◌≡◌, ◌<◌, ◌≤◌, ℕ, IsTrue};
+ghost use Rattle.std.specs.Prelude.{◌≡◌, ◌<◌, ◌≤◌, ℕ, IsTrue, length};
 ghost use Rattle.nand_model.specs.MemoryState.{device};
 ghost use Rattle.nand_model.specs.declared.geometry.Geometry.{Geometry};
 ghost use Rattle.block_state.specs.TableOf.{table};
-ghost use Rattle.transactions.specs.Committing.{CanCommit};
+ghost use Rattle.transactions.specs.Committing.{CanCommit, fresh_name};
+ghost use Rattle.transactions.specs.Naming.{AreOrdinary};
 ghost use Rattle.transactions.specs.Ready.{IsReady};
 
 use block_state::Blocks;
-use flash_tree::{FreshPage, Key, TagNumbers};
+use flash_tree::{CHECK_OBJECT, FreshPage, Key, TagNumbers};
 use nand_model::{EraseFault, Geometry, MemNand, Nand};
 use std::alloc::Global;
 use std::process::Abort;
@@ -51,6 +52,7 @@ impl Volume {
         assert!(rt; block < self.nand.geometry().blocks());
         assert!(rt; !self.blocks.entry(block).bad);
         assert!(rt; self.blocks.open_block() != Some(block));
+        assert!(rt; self.blocks.checkpoint().is_none());
         assert!(rt; self.blocks.next_seq() < 1 << 62);
         erase_and_open(&mut self.nand, &mut self.blocks, block)
     }
@@ -74,15 +76,19 @@ impl Volume {
     }
 }
 
-/// Whether there are pages, and each is of an object and has so many bytes.
+/// Whether there are pages, and each is of a number that an object may have and has so many bytes.
 fn may_commit(pages: &[FreshPage], bytes: u32) -> bool
-    ensures { (g : Geometry) (number : ℕ) → IsTrue result → g.bytes ≡ bytes → 1 ≤ number → CanCommit pages.now g number }
+    ensures can { (g : Geometry) (number : ℕ) → IsTrue result → g.bytes ≡ bytes → 1 ≤ number → CanCommit pages.now g number }
+    ensures ordinary { (number : ℕ) → IsTrue result → AreOrdinary (length pages.now) (fresh_name pages.now number) }
 {
     if pages.is_empty() || pages.len() > 256 {
         return false;
     }
     for i in 0..pages.len() {
         if pages[i].key.object == 0 || pages[i].bytes.len() != bytes as usize {
+            return false;
+        }
+        if pages[i].key.object >= CHECK_OBJECT {
             return false;
         }
     }

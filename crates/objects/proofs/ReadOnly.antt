@@ -75,6 +75,7 @@ stands_read spare a b t x reads stands = record {
   newest = λ honest power.
       let before : a.honest ≡ true = sym reads.lasts.honest ∙ honest in
       subst (λ (f : Flash). AreKept f (kept_pages x)) (sym (same_flash a b reads before)) (stands.newest before (had_power a b reads.lasts power));
+  ordinary = λ honest. stands.ordinary (sym reads.lasts.honest ∙ honest);
   limits = stands.limits;
 }
 
@@ -143,6 +144,7 @@ finds_seen a b t u x y buffer buffer' cache cache' scratch scratch' found found'
   next = ap (λ (w : Blocks). next_numbers (table w)) blocks;
   spare = spares;
   worn = refl;
+  checkpoint = ap (λ (w : Blocks). (table w).checkpoint) blocks;
 } where
   failed : (a.gone || (not a.honest || broken)) ≡ true → (b.gone || (not b.honest || broken')) ≡ true
   failed is = elim (cases_Bool a.gone) [

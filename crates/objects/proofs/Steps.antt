@@ -1,5 +1,5 @@
 -- What a change and a commit leave of a store.
-use Rattle.std.specs.Prelude.{◌≡◌, ◌⊎◌, ◌<◌, ◌≤◌, ◌+◌, ◌*◌, ◌^◌, ℕ, Bool, true, false, List, [], ◌∷◌, length, Option, Some, None, IsSome, IsTrue, Result, Ok, Err, OnOk, slice_get}
+use Rattle.std.specs.Prelude.{◌≡◌, ◌≢◌, ◌⊎◌, ◌<◌, ◌≤◌, ◌+◌, ◌*◌, ◌^◌, ℕ, Bool, true, false, List, [], ◌∷◌, length, Option, Some, None, IsSome, IsTrue, Result, Ok, Err, OnOk, slice_get}
 use Rattle.std.specs.Option.{option_map, option_and_then}
 use Rattle.std.proofs.Common.{refl, sym, ◌∙◌, ap, subst, inl, inr, arith}
 use Rattle.std.proofs.lemmas.Bool.{cases_eq, false≢true}
@@ -15,10 +15,12 @@ use Rattle.chunk_index.specs.declared.form.Present.TheVariants as presents
 use Rattle.chunk_index.specs.declared.index.Index.{Index}
 use Rattle.chunk_index.specs.Entries.{stays_of}
 use Rattle.chunk_index.specs.Shelves.{look}
-use Rattle.chunk_index.specs.Maps.{present, IsPrepared, IsReadyKey, SameKept, SamePresent}
+use Rattle.chunk_index.specs.Maps.{kept_pages, present, IsPrepared, IsReadyKey, SameKept, SamePresent}
 use Rattle.chunk_index.specs.laws.Maps.{agree_same}
 use Rattle.transactions.specs.Handing.{HandsOut}
 use Rattle.transactions.specs.laws.Handing.{hands_nothing}
+use Rattle.flash_tree.specs.Slots.{check_object}
+use Rattle.chunk_index.specs.declared.form.KeptPage.{KeptPage}
 use Rattle.bad_blocks.specs.Standing.{MayLie, Stands}
 use Rattle.pages.specs.Maps.{PageMap, known_pages, without_cuts, changed}
 use Rattle.pages.specs.laws.Maps.{page_elsewhere, cut_elsewhere, elsewhere}
@@ -32,7 +34,7 @@ use Rattle.page_buffer.specs.Buffering.{Buffers, lacks, new_keys, with_new}
 use Rattle.page_cache.specs.declared.cache.PageCache.{PageCache}
 use Rattle.volume_terms.specs.declared.fault.StoreFault.{StoreFault}
 use Rattle.objects.specs.Caching.{Shows, HasNoMore, LacksCuts, LacksPages, AreIn}
-use Rattle.commits.specs.Carrying.{AreWritable}
+use Rattle.commits.specs.Carrying.{AreNumbered, AreWritable}
 use Rattle.collector.specs.Making.{HasMore}
 use Rattle.nand_model.specs.Counts.{Costs, ReadsFew}
 use Rattle.commits.specs.Committing.{KeepsOpen, TakesNoBlock, TakesOneBlock}
@@ -68,8 +70,10 @@ module _ (x y : Index) (same : SameKept x y) where
       fits = stands.tables.fits;
       written = stands.tables.written;
       unkept = stands.tables.unkept;
+      apart = stands.tables.apart;
     };
     newest = λ honest power o c p is. stands.newest honest power o c p (sym (same.kept o c) ∙ is);
+    ordinary = λ honest o c p is. stands.ordinary honest o c p (sym (same.kept o c) ∙ is);
     limits = stands.limits;
   }
 
@@ -85,47 +89,81 @@ pub buffered_shown : (x : Index) (pages : List FreshPage) (f : Flash) → Buffer
 buffered_shown x pages f buffers i p is =
     ap (data_by f pages) (buffers.told p.key.object p.key.chunk i (ap (option_map (λ (q : FreshPage). q.key)) is)) ∙ ap (option_map (λ (q : FreshPage). q.bytes.items)) is
 
--- no page of object 0 is present, before a change and after it
-none_zero : (spare : ℕ) (d : Device) (t : Table) (x : Index) (pages : List FreshPage) (f : Flash) (c : ℕ) → Stands spare d t x → Buffers x pages → AreOfObjects pages → present_data x pages f 0 c ≡ None
-none_zero spare d t x pages f c stands buffers objects = go (present x 0 c) refl
+-- no page is of this object
+abbrev pub LacksObject : ℕ → List FreshPage → Type 0
+LacksObject n pages = (i : ℕ) (p : FreshPage) → slice_get pages i ≡ Some p → p.key.object ≢ n
+
+-- Of an object of which no page is kept and none is buffered none is present, before a change and after it.
+none_of : (n : ℕ) (x : Index) (pages : List FreshPage) (f : Flash) (c : ℕ) → ((l : ℕ) (k : KeptPage) → kept_pages x n l ≡ Some k → ⊥) → Buffers x pages → LacksObject n pages
+    → present_data x pages f n c ≡ None
+none_of n x pages f c unkept buffers lacks = go (present x n c) refl
   where
-    go : (p : Present) → present x 0 c ≡ p → data_by f pages p ≡ None
+    go : (p : Present) → present x n c ≡ p → data_by f pages p ≡ None
     go presents.Absent is = refl
-    go (presents.OnFlash k) is =
-        let at : MayLie t 0 c k = stands.tables.within 0 c k (kept_there x 0 c k is) in
-        absurd (omega (arith, at.name.object.0))
+    go (presents.OnFlash k) is = absurd (unkept c k (kept_there x n c k is))
     go (presents.InBuffer i) is = page (slice_get pages i) refl
       where
         page : (m : Option FreshPage) → slice_get pages i ≡ m → option_map (λ (q : FreshPage). q.bytes.items) m ≡ None
         page None none = refl
         page (Some p) some =
-            let two : Some p.key ≡ Some (record { object = 0; chunk = c }) = sym (ap (option_map (λ (q : FreshPage). q.key)) some) ∙ buffers.there 0 c i is in
-            let one : p.key ≡ record { object = 0; chunk = c } = cc in
-            let some' : 1 ≤ p.key.object = objects i p some in
-            let zero' : p.key.object ≡ 0 = ap (λ (k : Key). k.object) one in
-            absurd (omega (arith, some', zero'))
+            let two : Some p.key ≡ Some (record { object = n; chunk = c }) = sym (ap (option_map (λ (q : FreshPage). q.key)) some) ∙ buffers.there n c i is in
+            let one : p.key ≡ record { object = n; chunk = c } = cc in
+            absurd (lacks i p some (ap (λ (k : Key). k.object) one))
 
 -- so no page of the buffer is of it
-objects_from : (y : Index) (new : List FreshPage) (f : Flash) → Buffers y new → ((c : ℕ) → present_data y new f 0 c ≡ None) → AreOfObjects new
-objects_from y new f buffers none i p there = elim (cases_eq p.key.object 0) [
-  | inr some ↦ omega (arith, some)
-  | inl zero' ↦
-      let here : present_data y new f p.key.object p.key.chunk ≡ Some p.bytes.items = buffered_shown y new f buffers i p there in
-      absurd (let two : None ≡ Some p.bytes.items = sym (none p.key.chunk) ∙ ap (λ n. present_data y new f n p.key.chunk) (sym zero') ∙ here in cc)
-]
+lacks_from : (n : ℕ) (y : Index) (new : List FreshPage) (f : Flash) → Buffers y new → ((c : ℕ) → present_data y new f n c ≡ None) → LacksObject n new
+lacks_from n y new f buffers none i p there same =
+    let here : present_data y new f p.key.object p.key.chunk ≡ Some p.bytes.items = buffered_shown y new f buffers i p there in
+    let two : None ≡ Some p.bytes.items = sym (none p.key.chunk) ∙ ap (λ m. present_data y new f m p.key.chunk) (sym same) ∙ here in
+    cc
 
-pub objects_changed : (spare : ℕ) (d : Device) (t : Table) (x y : Index) (old new : List FreshPage) (change : Change) (f : Flash) → Stands spare d t x → Buffers x old → AreOfObjects old → AreOfObjects change.pages.items
-    → Buffers y new → SamePages (present_data y new f) (changed change (present_data x old f)) → AreOfObjects new
-objects_changed spare d t x y old new change f stands before objects writes after is = objects_from y new f after (λ c.
+lacks_changed : (n : ℕ) (x y : Index) (old new : List FreshPage) (change : Change) (f : Flash) → ((l : ℕ) (k : KeptPage) → kept_pages x n l ≡ Some k → ⊥) → Buffers x old → LacksObject n old
+    → LacksObject n change.pages.items → Buffers y new → SamePages (present_data y new f) (changed change (present_data x old f)) → LacksObject n new
+lacks_changed n x y old new change f unkept before lacks writes after is = lacks_from n y new f after (λ c.
     let m : PageMap = present_data x old f in
-    is 0 c
-    ∙ page_elsewhere change.pages.items (without_cuts change.cuts.items m) 0 c (λ k of. let some' : 1 ≤ of.page.key.object = writes k of.page of.there in omega (arith, some', of.object))
-    ∙ cuts_nothing change.cuts.items m 0 c (none_zero spare d t x old f c stands before objects))
+    is n c
+    ∙ page_elsewhere change.pages.items (without_cuts change.cuts.items m) n c (λ k of. writes k of.page of.there of.object)
+    ∙ cuts_nothing change.cuts.items m n c (none_of n x old f c unkept before lacks))
 
-pub objects_cut : (spare : ℕ) (d : Device) (t : Table) (x y : Index) (old new : List FreshPage) (cuts : List Cut) (f : Flash) → Stands spare d t x → Buffers x old → AreOfObjects old
-    → Buffers y new → SamePages (present_data y new f) (without_cuts cuts (present_data x old f)) → AreOfObjects new
-objects_cut spare d t x y old new cuts f stands before objects after is =
-    objects_from y new f after (λ c. is 0 c ∙ cuts_nothing cuts (present_data x old f) 0 c (none_zero spare d t x old f c stands before objects))
+lacks_cut : (n : ℕ) (x y : Index) (old new : List FreshPage) (cuts : List Cut) (f : Flash) → ((l : ℕ) (k : KeptPage) → kept_pages x n l ≡ Some k → ⊥) → Buffers x old → LacksObject n old
+    → Buffers y new → SamePages (present_data y new f) (without_cuts cuts (present_data x old f)) → LacksObject n new
+lacks_cut n x y old new cuts f unkept before lacks after is =
+    lacks_from n y new f after (λ c. is n c ∙ cuts_nothing cuts (present_data x old f) n c (none_of n x old f c unkept before lacks))
+
+-- no page of object 0 is kept
+kept_zero : (spare : ℕ) (d : Device) (t : Table) (x : Index) → Stands spare d t x → (l : ℕ) (k : KeptPage) → kept_pages x 0 l ≡ Some k → ⊥
+kept_zero spare d t x stands l k is = let at : MayLie t 0 l k = stands.tables.within 0 l k is in omega (arith, at.name.object.0)
+
+zero_lacked : (d : Device) (pages : List FreshPage) → AreNumbered d pages → LacksObject 0 pages
+zero_lacked d pages numbered i p is same = let some' : 1 ≤ p.key.object = (numbered i p is).0 in omega (arith, some', same)
+
+-- so each page of the buffer is of a number that an object may have
+pub objects_changed : (spare : ℕ) (d : Device) (t : Table) (x y : Index) (old new : List FreshPage) (change : Change) (f : Flash) → Stands spare d t x → Buffers x old → AreNumbered d old → AreOfObjects change.pages.items
+    → Buffers y new → SamePages (present_data y new f) (changed change (present_data x old f)) → AreNumbered d new
+objects_changed spare d t x y old new change f stands before objects writes after is i p there = (some_left, ordinary_left) where
+  some_left : 1 ≤ p.key.object
+  some_left =
+      let ne = lacks_changed 0 x y old new change f (kept_zero spare d t x stands) before (zero_lacked d old objects)
+      (λ j q at same. let some' : 1 ≤ q.key.object = (writes j q at).0 in omega (arith, some', same)) after is i p there in
+      omega (arith, ne)
+
+  ordinary_left : d.honest ≡ true → p.key.object ≢ check_object
+  ordinary_left honest =
+      lacks_changed check_object x y old new change f (λ l k at. stands.ordinary honest check_object l k at refl) before (λ j q at. (objects j q at).1 honest)
+      (λ j q at same. let less : q.key.object < check_object = (writes j q at).1 in omega (arith, less, same)) after is i p there
+
+pub objects_cut : (spare : ℕ) (d : Device) (t : Table) (x y : Index) (old new : List FreshPage) (cuts : List Cut) (f : Flash) → Stands spare d t x → Buffers x old → AreNumbered d old
+    → Buffers y new → SamePages (present_data y new f) (without_cuts cuts (present_data x old f)) → AreNumbered d new
+objects_cut spare d t x y old new cuts f stands before objects after is i p there = (some_left, ordinary_left) where
+  some_left : 1 ≤ p.key.object
+  some_left = let ne = lacks_cut 0 x y old new cuts f (kept_zero spare d t x stands) before (zero_lacked d old objects) after is i p there in omega (arith, ne)
+
+  ordinary_left : d.honest ≡ true → p.key.object ≢ check_object
+  ordinary_left honest = lacks_cut check_object x y old new cuts f (λ l k at. stands.ordinary honest check_object l k at refl) before (λ j q at. (objects j q at).1 honest) after is i p there
+
+-- on a device that is as honest the pages are so still
+pub numbered_on : (a b : Device) (pages : List FreshPage) → Lasts a b → AreNumbered a pages → AreNumbered b pages
+numbered_on a b pages lasts numbered i p is = ((numbered i p is).0, λ honest. (numbered i p is).1 (sym lasts.honest ∙ honest))
 
 -- what the cache has left is present after a change
 pub shown_changed : (change : Change) (m : PageMap) (a b c : PageCache) → Shows a m → HasNoMore a b → HasNoMore b c → LacksCuts change.cuts.items b → LacksPages change.pages.items c → Shows c (changed change m)
@@ -190,10 +228,11 @@ commit_fails spare count d t u broken causes.Lost why = inr (inl why)
 commit_fails spare count d t u broken causes.Gone why = inl why
 
 -- the pages of a buffer can be written
-pub writable : (g : Geometry) (b : Buffer) → AreOfObjects (buffered b) → bytes_of_page b ≡ g.bytes → AreWritable g (buffered b)
-writable g b objects size = record {
+pub writable : (d : Device) (b : Buffer) → AreNumbered d (buffered b) → bytes_of_page b ≡ d.geometry.bytes → AreWritable d (buffered b)
+writable d b objects size = record {
   few = let few : length (buffered b) ≤ b.most = b.few in let small : b.most < 2 ^ 32 = b.small in omega (arith, few, small);
-  each = λ i p is. (objects i p is, b.sized i p is ∙ size);
+  numbered = objects;
+  size = λ i p is. b.sized i p is ∙ size;
 }
 
 -- as many pages are new where what is present is the same

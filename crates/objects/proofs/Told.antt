@@ -34,12 +34,12 @@ use Rattle.objects.proofs.Steps.{same_back, hands_still}
 
 pub hands_told : (d e : Device) (t u : Table) → HandsOut d e t u → HandsOutNumbers d e (next_numbers t) (next_numbers u)
 hands_told d e t u hands = record {
-  groups_rise = hands.groups_rise;
-  seqs_rise = hands.seqs_rise;
-  seqs = hands.seqs;
-  groups = hands.groups;
-  below = hands.below;
-  written = hands.written;
+  groups_rise = hands.numbers.groups_rise;
+  seqs_rise = hands.numbers.seqs_rise;
+  seqs = hands.numbers.seqs;
+  groups = hands.numbers.groups;
+  below = hands.numbers.below;
+  written = hands.numbers.written;
 }
 
 pub marks_told : (d e : Device) (t u : Table) → IsReady d t → IsReady e u → MarksFailures 0 0 d e t u → bad_on e + d.failures ≤ bad_on d + e.failures

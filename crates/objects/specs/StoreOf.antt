@@ -53,4 +53,5 @@ store_seen device t x buffer cache scratch found spare broken refused = record {
   next = next_numbers t;
   spare = spare;
   worn = false;
+  checkpoint = t.checkpoint;
 }

@@ -16,7 +16,7 @@ ghost use Rattle.nand_model.specs.Changes.{OnlyReads};
 ghost use Rattle.objects.specs.Found.{IsFound, found_bytes};
 ghost use Rattle.objects.specs.Reading.{IsFindFault};
 ghost use Rattle.objects.specs.Caching.{Shows, KeepsRest};
-ghost use Rattle.pages.specs.Changes.{AreOfObjects};
+ghost use Rattle.commits.specs.Carrying.{AreNumbered};
 ghost use Rattle.objects.specs.laws.OneProof.{stands_prop, newest_kept_prop};
 
 use crate::reading::load_kept;
@@ -65,7 +65,7 @@ pub struct Store<N: Nand> {
     ghost stands: { Stands spare (N.state device) (table blocks) index } by { stands_prop spare (N.state device) (table blocks) index },
     ghost room_size: { IsRoomFor (N.state device).geometry room },
     ghost buffers: { Buffers index (buffered buffer) },
-    ghost objects: { broken ≡ false → AreOfObjects (buffered buffer) },
+    ghost objects: { broken ≡ false → AreNumbered (N.state device) (buffered buffer) },
     ghost most: { most_pages buffer ≡ (N.state device).geometry.pages / 4 },
     ghost size: { length scratch.items ≡ (N.state device).geometry.bytes },
     ghost buffer_size: { bytes_of_page buffer ≡ (N.state device).geometry.bytes },

@@ -22,7 +22,7 @@ use Rattle.flash_tree.specs.Numbering.{AreBelow}
 use Rattle.transactions.specs.Ready.{IsOpenOn, IsReady}
 use Rattle.mount_scan.specs.Scanned.{TellsNewest, ArePlaced, AreNewest}
 use Rattle.mount_scan.specs.laws.Scan.{found_of, listed_spot}
-use Rattle.bad_blocks.specs.Standing.{IsKeptAt, MayLie, IsWithinLimits, Stands}
+use Rattle.bad_blocks.specs.Standing.{IsKeptAt, MayLie, IsWithinLimits, Stands, KeepsOrdinary}
 use Rattle.bad_blocks.specs.Taking.{HasUnkept}
 
 -- one of the first n pages is of the key, or none is
@@ -93,6 +93,7 @@ pub record IsMounted (spare : ℕ) (d : Device) (t : Table) (x : Index) (fs : Li
   pub open_block : t.open_block ≡ None
   pub fits : (b : ℕ) → b < t.geometry.blocks → (t.entry b).kept ≤ t.geometry.pages
   pub unkept : HasUnkept t spare
+  pub ordinary : KeepsOrdinary x
   pub limits : IsWithinLimits t
 
 module _ (spare : ℕ) (d : Device) (t : Table) (x : Index) (fs : List Found) (is : IsMounted spare d t x fs) where
@@ -141,8 +142,10 @@ module _ (spare : ℕ) (d : Device) (t : Table) (x : Index) (fs : List Found) (i
       fits = fits_all;
       written = λ o at. let both : None ≡ Some o = sym is.open_block ∙ at in absurd cc;
       unkept = is.unkept.unkept;
+      apart = is.unkept.apart;
     };
     newest = λ honest power o c p at. kept_at o c p (kept_listed fs x o c p is.indexes at);
+    ordinary = λ _. is.ordinary;
     limits = is.limits;
   }
 
@@ -167,6 +170,7 @@ ready_counted d before after t u counts ready = record {
         pages = subst (λ n. n ≤ d.geometry.pages) (sym (counts.next o)) was.pages;
         seq = (subst (λ n. 1 ≤ n) (sym (counts.seq o)) was.seq.0, omega (arith, was.seq, counts.seq o, counts.next_seq));
       };
+  waits = λ c is. let was = ready.waits c (sym counts.checkpoint ∙ is) in record { within = was.within; good = was.good; closed = counts.open_block ∙ was.closed };
   numbers = (subst (λ n. 1 ≤ n) (sym counts.next_group) ready.numbers.0, subst (λ n. 1 ≤ n) (sym counts.next_seq) ready.numbers.1);
   below = λ honest. subst (λ n. AreBelow d.flash n u.next_seq) (sym counts.next_group) (subst (λ n. AreBelow d.flash t.next_group n) (sym counts.next_seq) (ready.below honest));
 }

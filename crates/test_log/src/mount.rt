@@ -9,12 +9,13 @@ ghost use Rattle.chunk_index.specs.Maps.{kept_pages};
 ghost use Rattle.transactions.specs.Ready.{IsReady};
 ghost use Rattle.bad_blocks.specs.Taking.{HasUnkept};
 ghost use Rattle.bad_blocks.specs.Room.{IsRoomFor};
-ghost use Rattle.bad_blocks.specs.Standing.{Stands};
+ghost use Rattle.bad_blocks.specs.Standing.{KeepsOrdinary, Stands};
 
 use crate::fault::LogFault;
 use bad_blocks::MoveRoom;
 use block_state::Blocks;
 use chunk_index::Index;
+use flash_tree::{CHECK_OBJECT, Key};
 use mount_scan::scan_newest;
 use nand_model::{MemNand, Nand};
 use std::alloc::Global;
@@ -42,15 +43,29 @@ fn fit(blocks: &Blocks) -> bool
     true
 }
 
-/// Whether no block is open, no more are bad than these, and blocks enough are free.
+/// Whether no block is open, none may have a checkpoint, no more are bad than these, and blocks enough are free.
 pub fn has_unkept(blocks: &Blocks, spare: u32) -> bool
     ensures { IsTrue result → HasUnkept (table blocks.now) spare }
 {
     if blocks.open_block().is_some() {
         return false;
     }
+    if blocks.checkpoint().is_some() {
+        return false;
+    }
     let (free, bad) = (blocks.free_count(), blocks.bad_count());
     bad <= spare && u64::from(free) + u64::from(bad) > u64::from(spare)
+}
+
+/// Whether no page of the object of checkpoints is kept.
+fn keeps_ordinary(index: &Index) -> bool
+    ensures { IsTrue result → KeepsOrdinary index.now }
+{
+    let last = Key {
+        object: CHECK_OBJECT - 1,
+        chunk: u64::MAX,
+    };
+    index.next_kept(Some(last)).is_none()
 }
 
 /// The log on a device with so many blocks to spare. Each tag of a good block is read once. No block is open.
@@ -66,9 +81,9 @@ pub fn mount_log(alloc: Global, nand: &mut MemNand, spare: u32) -> Result<Mounte
     if found.numbers.group >= NUMBER_END || found.numbers.seq >= NUMBER_END {
         return Err(LogFault::Worn);
     }
-    let mut blocks = table_of(alloc, nand, found.numbers)?;
-    let index = Index::from_newest(alloc, &found.newest, &mut blocks)?;
-    if !fit(&blocks) || !has_unkept(&blocks, spare) {
+    let blocks = table_of(alloc, nand, found.numbers)?;
+    let (index, blocks) = Index::from_newest(alloc, found.newest, blocks)?;
+    if !fit(&blocks) || !has_unkept(&blocks, spare) || !keeps_ordinary(&index) {
         return Err(LogFault::Worn);
     }
     let room = MoveRoom::new(alloc, nand.geometry())?;

@@ -35,6 +35,9 @@ module _ (keeps : ℕ → ℕ → Bool) (d : Device) (t u : Table) (x y : Index)
   closed : u.open_block ≡ None
   closed = recounts.open_block ∙ opened.closed
 
+  checkpoint : u.checkpoint ≡ None
+  checkpoint = recounts.checkpoint ∙ opened.checkpoint
+
   ready : AreLeft n → IsReady d u
   ready left =
       let was = opened.ready left in
@@ -42,6 +45,7 @@ module _ (keeps : ℕ → ℕ → Bool) (d : Device) (t u : Table) (x y : Index)
         geometry = recounts.geometry ∙ was.geometry;
         marks = λ k. recounts.bad k ∙ was.marks k;
         open_block = λ o is. absurd (let two : None ≡ Some o = sym closed ∙ is in cc);
+        waits = λ c is. absurd (let two : None ≡ Some c = sym checkpoint ∙ is in cc);
         numbers = (subst (λ k. 1 ≤ k) (sym recounts.next_group) was.numbers.0, subst (λ k. 1 ≤ k) (sym recounts.next_seq) was.numbers.1);
         below = λ honest. subst (λ k. AreBelow d.flash k u.next_seq) (sym recounts.next_group) (subst (λ k. AreBelow d.flash t.next_group k) (sym recounts.next_seq) (was.below honest));
       }
@@ -64,6 +68,7 @@ module _ (keeps : ℕ → ℕ → Bool) (d : Device) (t u : Table) (x y : Index)
   forgotten = record {
     counts = counts;
     closed = closed;
+    checkpoint = checkpoint;
     unbuffered = unbuffered;
     newest = λ honest o c p is. opened.newest honest o c p (was_kept o c p is);
     ready = ready;

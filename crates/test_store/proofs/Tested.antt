@@ -7,7 +7,7 @@ use Rattle.flash_tree.specs.Newest.{Numbers}
 use Rattle.block_state.specs.Table.{Table}
 use Rattle.block_state.specs.laws.Kept.{free_where_closed}
 use Rattle.chunk_index.specs.declared.index.Index.{Index}
-use Rattle.bad_blocks.specs.Standing.{Stands, HasFreeBlocks}
+use Rattle.bad_blocks.specs.Standing.{Stands, HasFreeBlocks, KeepsOrdinary}
 use Rattle.newest_pages.specs.Opened.{AreLeft}
 use Rattle.test_store.specs.Keeping.{KeepsNewest}
 
@@ -27,15 +27,17 @@ fits_all t x d n keeps fits b = elim (cases_lt b t.geometry.blocks) [
 ]
 
 -- what stands then
-pub stands_tested : (spare : ℕ) (d : Device) (t : Table) (x : Index) (n : Numbers) → KeepsNewest d t x n → IsTested spare t n → Stands spare d t x
-stands_tested spare d t x n keeps tested = record {
+pub stands_tested : (spare : ℕ) (d : Device) (t : Table) (x : Index) (n : Numbers) → KeepsNewest d t x n → IsTested spare t n → KeepsOrdinary x → Stands spare d t x
+stands_tested spare d t x n keeps tested ordinary = record {
   tables = record {
     counts = keeps.counts;
     within = keeps.lie tested.left;
     fits = fits_all t x d n keeps tested.fits;
     written = λ o at. let both : None ≡ Some o = sym keeps.closed ∙ at in absurd cc;
     unkept = let same = free_where_closed t keeps.closed in omega (arith, same, tested.free);
+    apart = λ c at. let both : None ≡ Some c = sym keeps.checkpoint ∙ at in absurd cc;
   };
   newest = λ honest power. keeps.newest honest;
+  ordinary = λ _. ordinary;
   limits = tested.limits;
 }

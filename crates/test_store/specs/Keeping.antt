@@ -16,6 +16,7 @@ use Rattle.newest_pages.specs.Opened.{AreLeft}
 pub record KeepsNewest (device : Device) (t : Table) (x : Index) (n : Numbers) : Type 0 where
   pub counts : CountsAgree t x
   pub closed : t.open_block ≡ None
+  pub checkpoint : t.checkpoint ≡ None
   pub unbuffered : IsUnbuffered x
   pub newest : device.honest ≡ true → AreKept device.flash (kept_pages x)
   pub ready : AreLeft n → IsReady device t

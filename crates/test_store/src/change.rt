@@ -2,7 +2,7 @@
 ghost use Rattle.std.specs.Prelude.{◌≡◌, ◌≤◌, IsTrue, IfOk, length};
 ghost use Rattle.pages.specs.Changes.{AreApart, AreSized, AreOfObjects};
 
-use flash_tree::FreshPage;
+use flash_tree::{CHECK_OBJECT, FreshPage};
 use nand_model::Nand;
 use objects::Store;
 use pages::{Change, Cut, PageStore, Pages, are_sized};
@@ -48,7 +48,7 @@ fn are_of_objects(pages: &[FreshPage]) -> bool
     ensures { IsTrue result → AreOfObjects pages.now }
 {
     for page in pages {
-        if page.key.object == 0 {
+        if page.key.object == 0 || page.key.object >= CHECK_OBJECT {
             return false;
         }
     }

@@ -6,14 +6,14 @@ ghost use Rattle.block_state.specs.Kept.{bad_count};
 ghost use Rattle.block_state.specs.TableOf.{table};
 ghost use Rattle.chunk_index.specs.Maps.{CountsAgree};
 ghost use Rattle.transactions.specs.Ready.{IsReady};
-ghost use Rattle.bad_blocks.specs.Standing.{Stands, HasFreeBlocks};
+ghost use Rattle.bad_blocks.specs.Standing.{KeepsOrdinary, Stands, HasFreeBlocks};
 ghost use Rattle.newest_pages.specs.Opened.{IsOpened};
 ghost use Rattle.test_store.specs.Keeping.{KeepsNewest};
 
 use crate::fault::StandFault;
 use block_state::Blocks;
-use chunk_index::KeyFilter;
-use flash_tree::Key;
+use chunk_index::{Index, KeyFilter};
+use flash_tree::{CHECK_OBJECT, Key};
 use nand_model::Nand;
 use newest_pages::{Opened, open};
 use objects::Store;
@@ -63,8 +63,19 @@ fn has_free(blocks: &Blocks, spare: u32) -> bool
     bad <= spare && u64::from(free) + u64::from(bad) > u64::from(spare)
 }
 
+/// Whether no page of the object of checkpoints is kept.
+fn keeps_ordinary(index: &Index) -> bool
+    ensures { IsTrue result → KeepsOrdinary index.now }
+{
+    let last = Key {
+        object: CHECK_OBJECT - 1,
+        chunk: u64::MAX,
+    };
+    index.next_kept(Some(last)).is_none()
+}
+
 /// Whether there is what a store with so many blocks to spare needs: numbers are left, no block has too many kept pages, no
-/// more blocks are bad than are to spare, and blocks enough are free.
+/// more blocks are bad than are to spare, blocks enough are free, and no page of a checkpoint is kept.
 fn may_stand(opened: &Opened, spare: u32) -> bool
     ensures ready { IsTrue result → (d : Device) → KeepsNewest d (table opened.now.blocks) opened.now.index (numbers_of opened.now.numbers)
         → IsReady d (table opened.now.blocks) }
@@ -82,7 +93,7 @@ fn may_stand(opened: &Opened, spare: u32) -> bool
     if !fit(&opened.blocks) || !has_free(&opened.blocks, spare) {
         return false;
     }
-    true
+    keeps_ordinary(&opened.index)
 }
 
 /// A store of the newest pages of a device, of the keys that a filter keeps, with so many blocks to spare and so many pages

@@ -1,3 +1,4 @@
+pub mod CheckLaws
 pub mod GroupLaws
 pub mod ProgressLaws
 pub mod ReadyLaws

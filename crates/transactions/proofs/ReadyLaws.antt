@@ -1,8 +1,9 @@
 -- What holds after a group.
-use Rattle.std.proofs.Common.{◌≡◌, ◌≢◌, ◌+◌, ◌-◌, ◌<◌, ◌≤◌, if◌then◌else◌, ℕ, Bool, true, false, List, Option, Some, None, Ok, Err, Result, sym, ◌∙◌, ap, subst, arith, inl, inr}
+use Rattle.std.proofs.Common.{◌≡◌, ◌≢◌, ◌+◌, ◌-◌, ◌<◌, ◌≤◌, if◌then◌else◌, ℕ, Bool, true, false, List, Option, Some, None, Ok, Err, Result, refl, sym, ◌∙◌, ap, subst, arith, inl, inr}
+use Rattle.std.specs.Option.{option_map_or}
 use Rattle.std.proofs.lemmas.Bool.{cases_eq}
 use Rattle.nand_model.specs.Flash.{Erased}
-use Rattle.nand_model.specs.Calls.{Device}
+use Rattle.nand_model.specs.Calls.{Device, Lasts}
 use Rattle.nand_model.specs.Changes.{Grows}
 use Rattle.nand_model.specs.declared.geometry.Geometry.{Geometry}
 use Rattle.block_state.specs.declared.blocks.BlockEntry.{BlockEntry}
@@ -15,24 +16,35 @@ use Rattle.transactions.specs.declared.page.LastPage.{LastPage}
 use Rattle.transactions.specs.declared.page.LastPage.TheVariants as lasts
 use Rattle.flash_tree.specs.Numbering.{AreBelow}
 use Rattle.transactions.specs.Ready.{IsOpenOn, IsReady, IsPlaceIn}
-use Rattle.transactions.specs.Handing.{HandsOut}
+use Rattle.transactions.specs.Handing.{HandsNumbers}
+use Rattle.flash_tree.specs.Truth.{KeepsTrue}
+use Rattle.flash_tree.specs.laws.Truth.{true_same}
 use Rattle.transactions.specs.laws.Handing.{below_greater}
+use Rattle.transactions.specs.laws.Ready.{none_waits}
+use Rattle.transactions.specs.laws.Truth.{true_ordinary, ordinary_after}
+use Rattle.transactions.specs.Naming.{AreOrdinary}
 use Rattle.transactions.specs.Written.{WritesAll, AllEnds, LastNext, TableAfter, MayWrite, group_at, stays_open, is_suspect}
-use Rattle.transactions.specs.Groups.{next_group, AddsPages, GroupsAfter, OkTable, TakesPages, Stays}
+use Rattle.transactions.specs.declared.group.Placed.{Placed}
+use Rattle.transactions.specs.Groups.{next_group, AddsPages, GroupsAfter, GroupEnds, OkTable, TableEnds, TakesPages, Stays, BelowAfter}
 use Rattle.transactions.proofs.GroupLaws.{IsFresh, is_added, is_not_added, wrote_grows, below_after}
 
 -- the table with the group number handed out
 abbrev pub numbered : Table → Table
 numbered t = record t { next_group = t.next_group + 1 }
 
--- the next numbers stay when the end of a group is noted
-after_numbers : (block count : ℕ) (open_still : Bool) (t t' : Table) → TableAfter block count open_still t t' → (t'.next_group ≡ t.next_group) × (t'.next_seq ≡ t.next_seq)
-after_numbers block count true t t' (sets, still, seq) = (sets.next_group, seq)
-after_numbers block count false t t' is = (ap (λ (x : Table). x.next_group) is, ap (λ (x : Table). x.next_seq) is)
+-- the next numbers and the checkpoint stay when the end of a group is noted
+after_numbers : (block count : ℕ) (open_still : Bool) (t t' : Table) → TableAfter block count open_still t t'
+    → (t'.next_group ≡ t.next_group) × (t'.next_seq ≡ t.next_seq) × (t'.checkpoint ≡ t.checkpoint)
+after_numbers block count true t t' (sets, still, noted, seq) = (sets.next_group, seq, noted)
+after_numbers block count false t t' is = (ap (λ (x : Table). x.next_group) is, ap (λ (x : Table). x.next_seq) is, ap (λ (x : Table). x.checkpoint) is)
 
 module _ (old : Device) (t : Table) (count : ℕ) (place : GroupPlace) (ready : IsReady old t) (at : IsPlaceIn t count place) where
   open_now : IsOpenOn old t place.block
   open_now = ready.open_block place.block at.block
+
+  -- a block is open, so none may have a checkpoint
+  none_now : t.checkpoint ≡ None
+  none_now = none_waits old t place.block ready at.block
 
   -- the device may write the first page
   pub may_write : MayWrite old place 0
@@ -68,13 +80,24 @@ module _ (old : Device) (t : Table) (count : ℕ) (place : GroupPlace) (ready : 
     pub group_grows : old.honest ≡ true → Grows old.flash new.flash
     group_grows h = wrote_grows (group_at place) name bytes old.flash new.flash (all.wrote h) (inside_erased h) (fresh h)
 
+    below_seq : old.honest ≡ true → (seq : ℕ) → place.seq < seq → AreBelow old.flash t.next_group seq → AreBelow new.flash (t.next_group + 1) seq
+    below_seq h seq lt below =
+        subst (λ n. AreBelow new.flash (n + 1) seq) at.group
+        (below_after (group_at place) name bytes old.flash new.flash (all.wrote h) (inside_erased h) (fresh h) seq lt
+        (subst (λ n. AreBelow old.flash n seq) (sym at.group) below))
+
     numbers_below : new.honest ≡ true → AreBelow new.flash (t.next_group + 1) t.next_seq
     numbers_below honest =
         let h : old.honest ≡ true = sym all.lasts.honest ∙ honest in
-        let lt : place.seq < t.next_seq = omega (arith, at.seq, open_now.seq) in
-        subst (λ n. AreBelow new.flash (n + 1) t.next_seq) at.group
-        (below_after (group_at place) name bytes old.flash new.flash (all.wrote h) (inside_erased h) (fresh h) t.next_seq lt
-        (subst (λ n. AreBelow old.flash n t.next_seq) (sym at.group) (ready.below h)))
+        below_seq h t.next_seq (omega (arith, at.seq, open_now.seq)) (ready.below h)
+
+    -- numbers above the block's stay above all tags
+    pub group_below : old.honest ≡ true → (o : ℕ) → t.open_block ≡ Some o → BelowAfter t o old.flash new.flash
+    group_below h o is seq lt below =
+        let both : Some place.block ≡ Some o = sym at.block ∙ is in
+        let same : place.block ≡ o = cc in
+        let of_block : place.seq ≡ (t.entry o).seq = at.seq ∙ ap (λ b. (t.entry b).seq) same in
+        below_greater new.flash (t.next_group + 1) seq _ _ (omega arith) (omega arith) (below_seq h seq (omega (arith, of_block, lt)) below)
 
     -- the table is ready again, whichever way it ended
     pub ready_after : (t' : Table) → TableAfter place.block place.count (stays_open result) (numbered t) t' → IsReady new t'
@@ -87,6 +110,7 @@ module _ (old : Device) (t : Table) (count : ℕ) (place : GroupPlace) (ready : 
         geometry = ready.geometry ∙ sym all.lasts.geometry;
         marks = λ b. ready.marks b ∙ ap (λ f. f b) (sym all.bad);
         open_block = λ o none. let two : None ≡ Some o = none in absurd cc;
+        waits = λ c is. let two : None ≡ Some c = sym none_now ∙ is in absurd cc;
         numbers = (omega (arith, ready.numbers), ready.numbers.1);
         below = numbers_below;
       })
@@ -99,7 +123,8 @@ module _ (old : Device) (t : Table) (count : ℕ) (place : GroupPlace) (ready : 
           let parts : TableAfter place.block place.count true (numbered t) t' = after in
           let sets = parts.0 in
           let still = parts.1 in
-          let seq = parts.2 in
+          let noted = parts.2 in
+          let seq = parts.3 in
           record {
             geometry = sets.geometry ∙ ready.geometry ∙ sym all.lasts.geometry;
             marks = λ b. elim (cases_eq b place.block) [
@@ -118,6 +143,7 @@ module _ (old : Device) (t : Table) (count : ℕ) (place : GroupPlace) (ready : 
                   seq = subst (λ n. (1 ≤ (t'.entry place.block).seq) × ((t'.entry place.block).seq < n)) (sym seq)
                       (subst (λ (x : BlockEntry). (1 ≤ x.seq) × (x.seq < t.next_seq)) (sym sets.here) open_now.seq);
                 });
+            waits = λ c is. let two : None ≡ Some c = sym none_now ∙ sym noted ∙ is in absurd cc;
             numbers = (subst (λ n. 1 ≤ n) (sym sets.next_group) (omega (arith, ready.numbers)), subst (λ n. 1 ≤ n) (sym seq) ready.numbers.1);
             below = λ h. subst (λ n. AreBelow new.flash n t'.next_seq) (sym sets.next_group) (subst (λ n. AreBelow new.flash (t.next_group + 1) n) (sym seq) (numbers_below h));
           }
@@ -141,7 +167,7 @@ module _ (old : Device) (t : Table) (count : ℕ) (place : GroupPlace) (ready : 
     ]
 
     -- the number of a group is handed out, and of no block
-    pub group_hands : (t' : Table) → TableAfter place.block place.count (stays_open result) (numbered t) t' → HandsOut old new t t'
+    pub group_hands : (t' : Table) → TableAfter place.block place.count (stays_open result) (numbered t) t' → HandsNumbers old new t t'
     group_hands t' after =
         let same = after_numbers place.block place.count (stays_open result) (numbered t) t' after in
         record {
@@ -191,7 +217,7 @@ module _ (old : Device) (t : Table) (count : ℕ) (place : GroupPlace) (ready : 
 
 -- The open block has its pages less, and the number is used.
 pub table_filled : (t t' : Table) (count : ℕ) (place : GroupPlace) → IsPlaceIn t count place → TableAfter place.block place.count true (numbered t) t' → TakesPages count t t'
-table_filled t t' count place at (sets, still, seq) = record {
+table_filled t t' count place at (sets, still, noted, seq) = record {
   here = λ o is.
       let both : Some place.block ≡ Some o = sym at.block ∙ is in
       let same : place.block ≡ o = cc in
@@ -200,6 +226,7 @@ table_filled t t' count place at (sets, still, seq) = record {
   others = λ k not. sets.others k (λ is. not (at.block ∙ ap Some (sym is)));
   geometry = sets.geometry;
   open_block = still;
+  checkpoint = noted;
   next_seq = seq;
   next_number = sets.next_group;
 }
@@ -218,3 +245,39 @@ pub ends_written : (old new : Device) (count : ℕ) (last : LastPage) → AllEnd
     → (new.failures ≡ old.failures + (if is_suspect last then 1 else 0)) × (new.gone ≡ false) × (new.changes ≡ old.changes + count)
 ends_written old new count lasts.Done ends = (omega (arith, ends.0), ends.1, ends.2)
 ends_written old new count lasts.Suspect ends = (omega (arith, ends.0), ends.1, ends.2)
+
+-- ---- checkpoints
+
+-- the block that may have a checkpoint stays, however a group ended
+ok_noted : (suspect : Bool) (count : ℕ) (t u : Table) → OkTable suspect count t u → u.checkpoint ≡ t.checkpoint
+ok_noted true count t u is = ap (λ (x : Table). x.checkpoint) is
+ok_noted false count t u takes = takes.checkpoint
+
+pub ends_noted : (count : ℕ) (t u : Table) (result : Result Placed GroupFault) → TableEnds count t u result → u.checkpoint ≡ t.checkpoint
+ends_noted count t u (Ok placed) ends = ok_noted placed.suspect count t u ends
+ends_noted count t u (Err faults.NoRoom) ends = ap (λ (x : Table). x.checkpoint) ends
+ends_noted count t u (Err faults.Failed) ends = ap (λ (x : Table). x.checkpoint) ends
+ends_noted count t u (Err faults.Lost) ends = ap (λ (x : Table). x.checkpoint) ends
+ends_noted count t u (Err faults.Gone) ends = ap (λ (x : Table). x.checkpoint) ends
+
+module _ (d e : Device) (t u : Table) (count : ℕ) (name : ℕ → PageName) (bytes : ℕ → List ℕ) (result : Result Placed GroupFault) (some : 1 ≤ count)
+    (ready : IsReady d t) (lasts : Lasts d e) (ends : GroupEnds d e count result) (table : TableEnds count t u result)
+    (no_room : room t < count → result ≡ Err faults.NoRoom) where
+  -- without an open block nothing is written
+  nothing : t.open_block ≡ None → (d_is : e ≡ d) × (u ≡ t)
+  nothing closed =
+      let none : room t ≡ 0 = ap (λ o. option_map_or (λ k. t.geometry.pages - (t.entry k).next) o 0) closed in
+      let is : result ≡ Err faults.NoRoom = no_room (omega (arith, none, some)) in
+      (subst (GroupEnds d e count) is ends, subst (TableEnds count t u) is table)
+
+  -- a group of other objects keeps the checkpoints right
+  pub group_true : (d.honest ≡ true → (o : ℕ) → t.open_block ≡ Some o → GroupsAfter (next_group t count o) name bytes d.flash e.flash result)
+      → (d.honest ≡ true → Grows d.flash e.flash) → e.flash.bad ≡ d.flash.bad → (d.honest ≡ true → AreOrdinary count name) → KeepsTrue d e t.checkpoint u.checkpoint
+  group_true groups grows bads ordinary = go t.open_block refl where
+    go : (x : Option ℕ) → t.open_block ≡ x → KeepsTrue d e t.checkpoint u.checkpoint
+    go None is =
+        let same = nothing is in
+        subst (λ (k : Device). KeepsTrue d k t.checkpoint u.checkpoint) (sym same.0) (true_same d t.checkpoint u.checkpoint (ap (λ (x : Table). x.checkpoint) same.1))
+    go (Some o) is =
+        true_ordinary d e t u lasts (none_waits d t o ready is) (ends_noted count t u result table)
+        (λ honest. ordinary_after (next_group t count o) name bytes d.flash e.flash (grows honest) bads (omega (arith, some)) (ordinary honest) result (groups honest o is))

@@ -3,6 +3,7 @@ use Rattle.std.specs.Prelude.{◌≡◌, ◌≢◌, ◌⊎◌, ◌<◌, ◌≤�
 use Rattle.nand_model.specs.Flash.{Flash}
 use Rattle.nand_model.specs.Calls.{Device}
 use Rattle.flash_tree.specs.Groups.{Group, SameGroups, AddsGroup, AllThere}
+use Rattle.flash_tree.specs.Numbering.{AreBelow}
 use Rattle.block_state.specs.Table.{Table}
 use Rattle.transactions.specs.declared.source.PageName.{PageName}
 use Rattle.transactions.specs.declared.group.Placed.{Placed}
@@ -50,6 +51,7 @@ pub record TakesPages (count : ℕ) (old new : Table) : Type 0 where
   pub others : (k : ℕ) → old.open_block ≢ Some k → new.entry k ≡ old.entry k
   pub geometry : new.geometry ≡ old.geometry
   pub open_block : new.open_block ≡ old.open_block
+  pub checkpoint : new.checkpoint ≡ old.checkpoint
   pub next_seq : new.next_seq ≡ old.next_seq
   pub next_number : new.next_group ≡ old.next_group + 1
 
@@ -75,3 +77,8 @@ pub record Stays (t : Table) (old new : Device) : Type 0 where
   pub bad : new.flash.bad ≡ old.flash.bad
   pub other_nexts : (k : ℕ) → t.open_block ≢ Some k → new.flash.next k ≡ old.flash.next k
   pub other_blocks : old.honest ≡ true → (k l : ℕ) → t.open_block ≢ Some k → new.flash.page k l ≡ old.flash.page k l
+
+-- What holds of the numbers on a flash once a group was written in block o: all valid tags of good blocks have numbers below the next
+-- group and below any number above the block's, if they had before.
+abbrev pub BelowAfter : Table → ℕ → Flash → Flash → Type 0
+BelowAfter t o old new = (seq : ℕ) → (t.entry o).seq < seq → AreBelow old t.next_group seq → AreBelow new (1 + t.next_group) seq

@@ -1,14 +1,15 @@
--- The numbers that are handed out.
+-- The numbers that are handed out, and the checkpoints that stay right.
 use Rattle.std.specs.Prelude.{◌≡◌, ◌≤◌, ℕ, ◌+◌, true, false}
 use Rattle.nand_model.specs.Calls.{Device}
 use Rattle.flash_tree.specs.Numbering.{AreBelow}
+use Rattle.flash_tree.specs.Truth.{KeepsTrue}
 use Rattle.block_state.specs.Table.{Table}
 
 -- No number is taken back, and no more are handed out than the device counted changes: block numbers on every path, and
 -- group numbers where an honest device still has power. (A group of which nothing was programmed has used its number.)
 -- Where the next numbers were above all that stood on an honest device they are so still; and what stands there now is below
 -- the first ones and one more for each change, also where power went.
-pub record HandsOut (old new : Device) (t t' : Table) : Type 0 where
+pub record HandsNumbers (old new : Device) (t t' : Table) : Type 0 where
   pub groups_rise : t.next_group ≤ t'.next_group
   pub seqs_rise : t.next_seq ≤ t'.next_seq
   pub seqs : t'.next_seq + old.changes ≤ t.next_seq + new.changes
@@ -16,3 +17,8 @@ pub record HandsOut (old new : Device) (t t' : Table) : Type 0 where
   pub below : old.honest ≡ true → AreBelow old.flash t.next_group t.next_seq → AreBelow new.flash t'.next_group t'.next_seq
   pub written : old.honest ≡ true → AreBelow old.flash t.next_group t.next_seq
       → (more : ℕ) → new.changes ≡ old.changes + more → AreBelow new.flash (t.next_group + more) (t.next_seq + more)
+
+-- what calls of the log leave of the numbers and of checkpoints
+pub record HandsOut (old new : Device) (t t' : Table) : Type 0 where
+  pub numbers : HandsNumbers old new t t'
+  pub truth : KeepsTrue old new t.checkpoint t'.checkpoint

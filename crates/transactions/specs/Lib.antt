@@ -10,5 +10,6 @@ pub mod Newest
 pub mod Opening
 pub mod Handing
 pub mod Marking
+pub mod Checking
 pub mod CopyingOne
 pub mod laws

@@ -1,6 +1,7 @@
 -- Which keys a group names.
-use Rattle.std.specs.Prelude.{◌≡◌, ◌<◌, ℕ}
+use Rattle.std.specs.Prelude.{◌≡◌, ◌≢◌, ◌<◌, ℕ}
 use Rattle.flash_tree.specs.Groups.{Group}
+use Rattle.flash_tree.specs.Slots.{check_object}
 use Rattle.transactions.specs.declared.source.PageName.{PageName}
 
 -- page i is of the key of object o and chunk c
@@ -13,3 +14,7 @@ pub record NamesOnce (g : Group) (name : ℕ → PageName) (o c i : ℕ) : Type 
   pub within : i < g.size
   pub named : IsNamed name o c i
   pub once : (k : ℕ) → k < g.size → IsNamed name o c k → k ≡ i
+
+-- none of so many pages is of the object of checkpoints
+abbrev pub AreOrdinary : ℕ → (ℕ → PageName) → Type 0
+AreOrdinary count name = (i : ℕ) → i < count → (name i).key.object ≢ check_object

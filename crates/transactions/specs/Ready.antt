@@ -1,5 +1,5 @@
 -- What holds of a device and its table while groups are written.
-use Rattle.std.specs.Prelude.{◌≡◌, ◌<◌, ◌≤◌, ℕ, ◌+◌, true, false, Some}
+use Rattle.std.specs.Prelude.{◌≡◌, ◌<◌, ◌≤◌, ℕ, ◌+◌, true, false, Some, None}
 use Rattle.nand_model.specs.Calls.{Device}
 use Rattle.flash_tree.specs.Numbering.{AreBelow}
 use Rattle.block_state.specs.Table.{Table}
@@ -14,12 +14,20 @@ pub record IsOpenOn (device : Device) (t : Table) (o : ℕ) : Type 0 where
   pub pages : (t.entry o).next ≤ device.geometry.pages
   pub seq : (1 ≤ (t.entry o).seq) × ((t.entry o).seq < t.next_seq)
 
+-- The block that may have a whole checkpoint is a good one of the device, and no block is open: nothing is programmed while
+-- a checkpoint is whole.
+pub record IsWaiting (device : Device) (t : Table) (c : ℕ) : Type 0 where
+  pub within : c < device.geometry.blocks
+  pub good : device.flash.bad c ≡ false
+  pub closed : t.open_block ≡ None
+
 -- What every group needs, and keeps: the table is of the device, its marks are the device's, the open block can be
--- written, and the next numbers are above all that stand on an honest device.
+-- written, no block is open while there may be a checkpoint, and the next numbers are above all that stand on an honest device.
 pub record IsReady (device : Device) (t : Table) : Type 0 where
   pub geometry : t.geometry ≡ device.geometry
   pub marks : (b : ℕ) → (t.entry b).bad ≡ device.flash.bad b
   pub open_block : (o : ℕ) → t.open_block ≡ Some o → IsOpenOn device t o
+  pub waits : (c : ℕ) → t.checkpoint ≡ Some c → IsWaiting device t c
   pub numbers : (1 ≤ t.next_group) × (1 ≤ t.next_seq)
   pub below : device.honest ≡ true → AreBelow device.flash t.next_group t.next_seq
 

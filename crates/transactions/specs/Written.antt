@@ -184,7 +184,7 @@ FirstEnds old new g name bytes (Err fault) = WritesAll old new g name bytes (Err
 -- the open block has so many pages less; and where it takes no more pages, no block is open
 abbrev pub TableAfter : ℕ → ℕ → Bool → Table → Table → Type 0
 TableAfter block count true old new = Sets block (record (old.entry block) { next = (old.entry block).next + count }) old new
-    × (new.open_block ≡ old.open_block) × (new.next_seq ≡ old.next_seq)
+    × (new.open_block ≡ old.open_block) × (new.checkpoint ≡ old.checkpoint) × (new.next_seq ≡ old.next_seq)
 TableAfter block count false old new = new ≡ record old { open_block = None }
 
 -- the page is written

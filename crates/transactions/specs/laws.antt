@@ -3,3 +3,4 @@ pub mod Handing
 pub mod Newest
 pub mod Ready
 pub mod Steady
+pub mod Truth

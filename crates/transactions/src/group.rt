@@ -7,8 +7,9 @@ ghost use Rattle.nand_model.specs.Counts.{ReadsFew};
 ghost use Rattle.block_state.specs.Table.{room};
 ghost use Rattle.block_state.specs.TableOf.{table};
 ghost use Rattle.transactions.specs.Ready.{IsReady};
-ghost use Rattle.transactions.specs.Handing.{HandsOut};
-ghost use Rattle.transactions.specs.Groups.{next_group, TellsGroup, GroupsAfter, GroupEnds, TableEnds, Stays};
+ghost use Rattle.transactions.specs.Handing.{HandsNumbers, HandsOut};
+ghost use Rattle.transactions.specs.Naming.{AreOrdinary};
+ghost use Rattle.transactions.specs.Groups.{next_group, TellsGroup, GroupsAfter, GroupEnds, TableEnds, Stays, BelowAfter};
 ghost use Rattle.transactions.specs.Written.{unwritten};
 
 use crate::page::write_pages;
@@ -53,6 +54,7 @@ pub fn write_group<N: Nand, S: PageSource>(
     requires number { (table blocks.old).next_group < number_end }
     requires size { length scratch.old ≡ (N.state device.old).geometry.bytes }
     requires source { S.ready source.now (N.state device.old).geometry (table blocks.old).next_group }
+    requires ordinary { (N.state device.old).honest ≡ true → AreOrdinary (S.count source.now) (S.name source.now (table blocks.old).next_group) }
     requires has { (N.state device.old).honest ≡ true → (i : ℕ) → i < S.count source.now → S.has source.now (N.state device.old).flash i }
     ensures lasts { Lasts (N.state device.old) (N.state device.new) }
     ensures ready { IsReady (N.state device.new) (table blocks.new) }
@@ -71,6 +73,40 @@ pub fn write_group<N: Nand, S: PageSource>(
     ensures quiet { S.quiet source.now → (N.state device.new).reads + (N.state device.old).failures ≤ (N.state device.old).reads + (N.state device.new).failures }
     ensures reads { ReadsFew (unwritten result) (N.state device.old) (N.state device.new) }
     ensures numbers { HandsOut (N.state device.old) (N.state device.new) (table blocks.old) (table blocks.new) }
+{
+    write_any(device, blocks, source, scratch)
+}
+
+/// The same of any pages, those of a checkpoint too.
+pub(crate) fn write_any<N: Nand, S: PageSource>(
+    device: &mut N,
+    blocks: &mut Blocks,
+    source: &S,
+    scratch: &mut [u8],
+) -> Result<Placed, GroupFault>
+    requires ready { IsReady (N.state device.old) (table blocks.old) }
+    requires number { (table blocks.old).next_group < number_end }
+    requires size { length scratch.old ≡ (N.state device.old).geometry.bytes }
+    requires source { S.ready source.now (N.state device.old).geometry (table blocks.old).next_group }
+    requires has { (N.state device.old).honest ≡ true → (i : ℕ) → i < S.count source.now → S.has source.now (N.state device.old).flash i }
+    ensures lasts { Lasts (N.state device.old) (N.state device.new) }
+    ensures ready { IsReady (N.state device.new) (table blocks.new) }
+    ensures no_room { IsErrOf result GroupFault.NoRoom ↔ (room (table blocks.old) < S.count source.now) }
+    ensures ends { GroupEnds (N.state device.old) (N.state device.new) (S.count source.now) result }
+    ensures table { TableEnds (S.count source.now) (table blocks.old) (table blocks.new) result }
+    ensures placed { (o : ℕ) → (table blocks.old).open_block ≡ Some o
+        → IfOk result (λ placed. TellsGroup (next_group (table blocks.old) (S.count source.now) o) placed) }
+    ensures groups { (N.state device.old).honest ≡ true → (o : ℕ) → (table blocks.old).open_block ≡ Some o
+        → GroupsAfter (next_group (table blocks.old) (S.count source.now) o) (S.name source.now (table blocks.old).next_group)
+        (S.bytes source.now (N.state device.old).flash) (N.state device.old).flash (N.state device.new).flash result }
+    ensures grows { (N.state device.old).honest ≡ true → Grows (N.state device.old).flash (N.state device.new).flash }
+    ensures stays { Stays (table blocks.old) (N.state device.old) (N.state device.new) }
+    ensures quiet { S.quiet source.now → (N.state device.new).reads + (N.state device.old).failures ≤ (N.state device.old).reads + (N.state device.new).failures }
+    ensures reads { ReadsFew (unwritten result) (N.state device.old) (N.state device.new) }
+    ensures some { 1 ≤ S.count source.now }
+    ensures below { (N.state device.old).honest ≡ true → (o : ℕ) → (table blocks.old).open_block ≡ Some o
+        → BelowAfter (table blocks.old) o (N.state device.old).flash (N.state device.new).flash }
+    ensures numbers { HandsNumbers (N.state device.old) (N.state device.new) (table blocks.old) (table blocks.new) }
 {
     let count = source.count();
     let Some(place) = take_place(blocks, count) else {

@@ -1,6 +1,7 @@
 //! Writes pages in groups that count whole or not at all, wherever the power is cut.
 #![tactic(auto)]
 
+mod checkpoint;
 mod copies;
 mod fresh;
 mod group;
@@ -12,6 +13,7 @@ mod place;
 mod source;
 mod table;
 
+pub use checkpoint::write_checkpoint;
 pub use copies::{Copies, CopyOf};
 pub use fresh::Fresh;
 pub use group::{GroupFault, Placed, write_group};

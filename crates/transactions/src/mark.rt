@@ -5,6 +5,7 @@ ghost use Rattle.flash_tree.specs.Keeping.{KeepsElsewhere};
 ghost use Rattle.block_state.specs.TableOf.{table};
 ghost use Rattle.transactions.specs.Handing.{HandsOut};
 ghost use Rattle.transactions.specs.Marking.{NotesMark};
+ghost use Rattle.transactions.specs.Opening.{MayLose};
 ghost use Rattle.transactions.specs.Ready.{IsReady};
 
 use block_state::Blocks;
@@ -15,6 +16,7 @@ pub fn mark_block<N: Nand>(device: &mut N, blocks: &mut Blocks, block: u32) -> R
     requires ready { IsReady (N.state device.old) (table blocks.old) }
     requires block { block < (N.state device.old).geometry.blocks }
     requires closed { (table blocks.old).open_block ≢ Some block }
+    requires first { MayLose block (table blocks.old) }
     ensures marks { Marks block (N.state device.old) (N.state device.new) result }
     ensures ready { IsReady (N.state device.new) (table blocks.new) }
     ensures notes { NotesMark block (N.state device.new).flash (table blocks.old) (table blocks.new) }

@@ -5,7 +5,7 @@ ghost use Rattle.nand_model.specs.Calls.{Erases};
 ghost use Rattle.flash_tree.specs.Keeping.{KeepsElsewhere};
 ghost use Rattle.block_state.specs.TableOf.{table};
 ghost use Rattle.transactions.specs.Handing.{HandsOut};
-ghost use Rattle.transactions.specs.Opening.{Opens};
+ghost use Rattle.transactions.specs.Opening.{MayLose, Opens};
 ghost use Rattle.flash_tree.specs.Numbering.{AreBelow};
 ghost use Rattle.transactions.specs.Ready.{IsReady};
 
@@ -22,6 +22,7 @@ pub fn erase_and_open<N: Nand>(
     requires block { block < (N.state device.old).geometry.blocks }
     requires good { ((table blocks.old).entry block).bad ≡ false }
     requires closed { (table blocks.old).open_block ≢ Some block }
+    requires first { MayLose block (table blocks.old) }
     requires seq { (table blocks.old).next_seq < number_end }
     ensures erases { Erases block (N.state device.old) (N.state device.new) result }
     ensures ready { IsReady (N.state device.new) (table blocks.new) }

@@ -16,6 +16,7 @@ fn note_marks<N: Nand>(device: &N, blocks: &mut Blocks)
     requires geometry { (table blocks.old).geometry ≡ (N.state device.now).geometry }
     requires good { (b : ℕ) → ((table blocks.old).entry b).bad ≡ false }
     requires closed { (table blocks.old).open_block ≡ None }
+    requires checkpoint { (table blocks.old).checkpoint ≡ None }
     ensures { MarksNoted (N.state device.now) (N.state device.now).geometry.blocks (table blocks.old) (table blocks.new) }
 {
     for block in 0..device.geometry().blocks() {
@@ -26,7 +27,7 @@ fn note_marks<N: Nand>(device: &N, blocks: &mut Blocks)
 }
 
 /// The table of a device whose valid tags in good blocks have no numbers above these: the next ones are one above them.
-/// No block is open, and none has a kept page.
+/// No block is open, none may have a checkpoint, and none has a kept page.
 pub fn table_of<N: Nand>(
     alloc: Global,
     device: &N,
@@ -37,6 +38,7 @@ pub fn table_of<N: Nand>(
     requires above { (N.state device.now).honest ≡ true → AreAbove (N.state device.now).flash (numbers_of greatest) }
     ensures ready { IfOk result (λ blocks. IsReady (N.state device.now) (table blocks)) }
     ensures open { IfOk result (λ blocks. (table blocks).open_block ≡ None) }
+    ensures checkpoint { IfOk result (λ blocks. (table blocks).checkpoint ≡ None) }
     ensures kept { IfOk result (λ blocks. (b : ℕ) → ((table blocks).entry b).kept ≡ 0) }
     ensures seqs { IfOk result (λ blocks. (b : ℕ) → ((table blocks).entry b).seq ≡ 0) }
     ensures group { IfOk result (λ blocks. (table blocks).next_group ≡ greatest.group + 1) }

@@ -12,7 +12,7 @@ use Rattle.flash_tree.specs.laws.Newest.{one_tag, one_spot}
 use Rattle.chunk_index.specs.declared.form.KeptPage.{KeptPage}
 use Rattle.chunk_index.specs.declared.index.Index.{Index}
 use Rattle.chunk_index.specs.Maps.{KeptMap, kept_pages}
-use Rattle.bad_blocks.specs.Standing.{IsKeptAt, AreKept, IsWithinLimits, TablesAgree, Stands}
+use Rattle.bad_blocks.specs.Standing.{IsKeptAt, AreKept, KeepsOrdinary, IsWithinLimits, TablesAgree, Stands}
 use Rattle.nand_model.specs.Calls.{Device}
 use Rattle.block_state.specs.Table.{Table}
 use Rattle.pages.specs.Maps.{PageMap}
@@ -111,6 +111,7 @@ pub stands_prop : (spare : ℕ) (d : Device) (t : Table) (x : Index) → IsProp 
 stands_prop spare d t x a b = λ k. record {
   tables = let p : IsProp (TablesAgree spare t x) = Prim.hlevel props in p a.tables b.tables k;
   newest = λ honest power. are_kept_prop d.flash (kept_pages x) (a.newest honest power) (b.newest honest power) k;
+  ordinary = λ honest. let p : IsProp (KeepsOrdinary x) = Prim.hlevel props in p (a.ordinary honest) (b.ordinary honest) k;
   limits = let p : IsProp (IsWithinLimits t) = Prim.hlevel props in p a.limits b.limits k;
 }
 

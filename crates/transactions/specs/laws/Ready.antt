@@ -1,7 +1,7 @@
 -- What keeps a device and its table ready.
-use Rattle.std.specs.Prelude.{◌≡◌, ◌≢◌, ◌<◌, ◌≤◌, ℕ, ◌+◌, max, true, false, None, Some, Result}
-use Rattle.std.proofs.Common.{sym, ◌∙◌, ap, subst, inl, inr, arith}
-use Rattle.std.proofs.lemmas.Bool.{cases_eq, cases_lt}
+use Rattle.std.specs.Prelude.{◌≡◌, ◌≢◌, ◌<◌, ◌≤◌, ℕ, ◌+◌, max, true, false, None, Some, Option, Result, if◌then◌else◌}
+use Rattle.std.proofs.Common.{refl, sym, ◌∙◌, ap, subst, inl, inr, arith}
+use Rattle.std.proofs.lemmas.Bool.{cases_Bool, cases_eq, cases_lt}
 use Rattle.nand_model.specs.Flash.{Flash, IsWithin}
 use Rattle.nand_model.specs.Calls.{Device, Erases, Marks}
 use Rattle.nand_model.specs.Changes.{Shrinks, OnlyReads, PowersUp}
@@ -14,12 +14,13 @@ use Rattle.flash_tree.specs.Keeping.{Loses}
 use Rattle.flash_tree.specs.Newest.{Numbers, AreAbove}
 use Rattle.flash_tree.specs.laws.Newest.{tag_stays, loses_erase, loses_mark}
 use Rattle.block_state.specs.declared.blocks.BlockEntry.{BlockEntry}
+use Rattle.block_state.specs.laws.Checkpoint.{other_is_other}
 use Rattle.flash_tree.specs.Mount.{bad_blocks}
 use Rattle.block_state.specs.Counting.{how_many}
 use Rattle.block_state.specs.Kept.{bad_count}
-use Rattle.block_state.specs.Table.{Table, blank, is_bad}
+use Rattle.block_state.specs.Table.{Table, blank, is_bad, other_than}
 use Rattle.flash_tree.specs.Numbering.{AreBelow}
-use Rattle.transactions.specs.Ready.{IsOpenOn, IsReady}
+use Rattle.transactions.specs.Ready.{IsOpenOn, IsWaiting, IsReady}
 use Rattle.transactions.specs.Opening.{Opens}
 use Rattle.transactions.specs.Marking.{MarksNoted, NotesMark}
 
@@ -41,6 +42,20 @@ pub below_marked : (b : ℕ) (old new : Device) (group seq : ℕ) (result : Resu
     → AreBelow old.flash group seq → AreBelow new.flash group seq
 below_marked b old new group seq result honest does = below_lost b old.flash new.flash group seq (loses_mark b old new result honest does)
 
+-- while a block is open no block may have a checkpoint
+pub none_waits : (d : Device) (t : Table) (b : ℕ) → IsReady d t → t.open_block ≡ Some b → t.checkpoint ≡ None
+none_waits d t b ready opened = go t.checkpoint refl where
+  go : (x : Option ℕ) → t.checkpoint ≡ x → t.checkpoint ≡ None
+  go None is = is
+  go (Some c) is = let two : None ≡ Some b = sym (ready.waits c is).closed ∙ opened in absurd cc
+
+-- what waits goes on to wait, where its block has the mark that it had and none was opened
+waits_on : (old new : Device) (t u : Table) (c : ℕ) → ((k : ℕ) → t.checkpoint ≡ Some k → IsWaiting old t k) → t.checkpoint ≡ Some c → u.checkpoint ≡ Some c
+    → new.geometry ≡ old.geometry → new.flash.bad c ≡ old.flash.bad c → (t.open_block ≡ None → u.open_block ≡ None) → IsWaiting new u c
+waits_on old new t u c waits was is sizes mark closed =
+    let waited = waits c was in
+    record { within = subst (λ (g : Geometry). c < g.blocks) (sym sizes) waited.within; good = mark ∙ waited.good; closed = closed waited.closed }
+
 -- an erase of a block that is not open, however it ends
 pub ready_erased : (b : ℕ) (old new : Device) (t : Table) (result : Result (Unit {0}) EraseFault) → IsReady old t → t.open_block ≢ Some b → Erases b old new result → IsReady new t
 ready_erased b old new t result ready closed does = record {
@@ -55,6 +70,7 @@ ready_erased b old new t result ready closed does = record {
         pages = subst (λ (g : Geometry). (t.entry o).next ≤ g.pages) (sym does.lasts.geometry) was.pages;
         seq = was.seq;
       };
+  waits = λ c is. waits_on old new t t c ready.waits is is does.lasts.geometry (ap (λ f. f c) does.bad) (λ none. none);
   numbers = ready.numbers;
   below = λ honest.
       let h : old.honest ≡ true = sym does.lasts.honest ∙ honest in
@@ -79,6 +95,7 @@ ready_opened b d t t' ready lt good next opens = record {
         pages = subst (λ (x : BlockEntry). x.next ≤ d.geometry.pages) (sym opens.sets.here) (omega arith);
         seq = subst (λ (x : BlockEntry). (1 ≤ x.seq) × (x.seq < t'.next_seq)) (sym opens.sets.here) (ready.numbers.1, omega (arith, opens.next_seq));
       });
+  waits = λ c is. let two : None ≡ Some c = sym opens.checkpoint ∙ is in absurd cc;
   numbers = (subst (λ n. 1 ≤ n) (sym opens.sets.next_group) ready.numbers.0, omega (arith, opens.next_seq));
   below = λ honest k l u good has.
       let was = ready.below honest k l u good has in
@@ -99,6 +116,7 @@ ready_read old new t ready reads = record {
         pages = subst (λ (g : Geometry). (t.entry o).next ≤ g.pages) (sym reads.lasts.geometry) was.pages;
         seq = was.seq;
       };
+  waits = λ c is. waits_on old new t t c ready.waits is is reads.lasts.geometry (ap (λ f. f c) reads.bad) (λ none. none);
   numbers = ready.numbers;
   below = λ honest.
       let h : old.honest ≡ true = sym reads.lasts.honest ∙ honest in
@@ -124,9 +142,9 @@ ready_marked b old new t t' result ready closed does notes = record {
     | inr ne ↦ ap (λ (x : BlockEntry). x.bad) (notes.sets.others k ne) ∙ ready.marks k ∙ sym (does.other_bads k ne)
   ];
   open_block = λ o is.
-      let then : t.open_block ≡ Some o = sym notes.open_block ∙ is in
-      let ne : o ≢ b = λ e. closed (then ∙ ap Some e) in
-      let was : IsOpenOn old t o = ready.open_block o then in
+      let earlier : t.open_block ≡ Some o = sym notes.open_block ∙ is in
+      let ne : o ≢ b = λ e. closed (earlier ∙ ap Some e) in
+      let was : IsOpenOn old t o = ready.open_block o earlier in
       let same : t'.entry o ≡ t.entry o = notes.sets.others o ne in
       record {
         within = subst (λ (g : Geometry). o < g.blocks) (sym does.lasts.geometry) was.within;
@@ -135,22 +153,38 @@ ready_marked b old new t t' result ready closed does notes = record {
         pages = subst (λ (x : BlockEntry). x.next ≤ new.geometry.pages) (sym same) (subst (λ (g : Geometry). (t.entry o).next ≤ g.pages) (sym does.lasts.geometry) was.pages);
         seq = subst (λ n. (1 ≤ (t'.entry o).seq) × ((t'.entry o).seq < n)) (sym notes.next_seq) (subst (λ (x : BlockEntry). (1 ≤ x.seq) × (x.seq < t.next_seq)) (sym same) was.seq);
       };
+  waits = λ c is.
+      let still : t.checkpoint ≡ Some c = noted c is in
+      waits_on old new t t' c ready.waits still is does.lasts.geometry (elim (cases_eq c b) [
+        | inr ne ↦ does.other_bads c ne
+        | inl at ↦ ap new.flash.bad at ∙ elim (cases_Bool (new.flash.bad b)) [
+          | inl bad ↦ absurd ((other_is_other b c t.checkpoint (sym (ap (λ x. if x then other_than b t.checkpoint else t.checkpoint) bad) ∙ sym notes.checkpoint ∙ is)).1 at)
+          | inr good ↦ good ∙ sym (ready.waits c still).good ∙ ap old.flash.bad at ∙ ap old.flash.bad (sym at)
+        ]
+      ]) (λ none. notes.open_block ∙ none);
   numbers = (subst (λ n. 1 ≤ n) (sym notes.sets.next_group) ready.numbers.0, subst (λ n. 1 ≤ n) (sym notes.next_seq) ready.numbers.1);
   below = λ honest.
       let h : old.honest ≡ true = sym does.lasts.honest ∙ honest in
       subst (λ n. AreBelow new.flash n t'.next_seq) (sym notes.sets.next_group) (subst (λ n. AreBelow new.flash t.next_group n) (sym notes.next_seq)
       (below_marked b old new t.next_group t.next_seq result h does (ready.below h)));
-}
+} where
+  -- the block that is noted afterwards was noted
+  noted : (c : ℕ) → t'.checkpoint ≡ Some c → t.checkpoint ≡ Some c
+  noted c is = elim (cases_Bool (new.flash.bad b)) [
+    | inl bad ↦ (other_is_other b c t.checkpoint (sym (ap (λ x. if x then other_than b t.checkpoint else t.checkpoint) bad) ∙ sym notes.checkpoint ∙ is)).0
+    | inr good ↦ sym (ap (λ x. if x then other_than b t.checkpoint else t.checkpoint) good) ∙ sym notes.checkpoint ∙ is
+  ]
 
 -- A table that was made anew, with a device's marks and numbers above its tags.
 pub record IsMade (d : Device) (group seq : ℕ) (t : Table) : Type 0 where
   pub ready : IsReady d t
   pub open_block : t.open_block ≡ None
+  pub checkpoint : t.checkpoint ≡ None
   pub kept : (b : ℕ) → (t.entry b).kept ≡ 0
   pub seqs : (b : ℕ) → (t.entry b).seq ≡ 0
 
 pub made_ready : (d : Device) (group seq : ℕ) (t0 t1 t2 : Table) → IsWithin d.geometry.pages d.geometry.blocks d.flash → 1 ≤ group → 1 ≤ seq → (d.honest ≡ true → AreBelow d.flash group seq)
-    → t0 ≡ record { geometry = d.geometry; entry = λ b. blank; open_block = None; next_seq = 1; next_group = 1 }
+    → t0 ≡ record { geometry = d.geometry; entry = λ b. blank; open_block = None; checkpoint = None; next_seq = 1; next_group = 1 }
     → MarksNoted d d.geometry.blocks t0 t1 → t2 ≡ record t1 { next_seq = max t1.next_seq seq; next_group = max t1.next_group group } → IsMade d group seq t2
 made_ready d group seq t0 t1 t2 within some_group some_seq below fresh noted raised =
     let seq_one : t1.next_seq ≡ 1 = noted.next_seq ∙ ap (λ (t : Table). t.next_seq) fresh in
@@ -165,10 +199,12 @@ made_ready d group seq t0 t1 t2 within some_group some_seq below fresh noted rai
           | inr ge ↦ noted.others b ge ∙ sym (within.bad b ge)
         ];
         open_block = λ o is. let two : None ≡ Some o = sym noted.open_block ∙ is in absurd cc;
+        waits = λ c is. let two : None ≡ Some c = sym noted.checkpoint ∙ is in absurd cc;
         numbers = (omega (arith, group_is, some_group), omega (arith, seq_is, some_seq));
         below = λ honest. subst (λ n. AreBelow d.flash n (max t1.next_seq seq)) (sym group_is) (subst (λ n. AreBelow d.flash group n) (sym seq_is) (below honest));
       };
       open_block = noted.open_block;
+      checkpoint = noted.checkpoint;
       kept = λ b. noted.kept b ∙ ap (λ (t : Table). (t.entry b).kept) fresh;
       seqs = λ b. noted.seqs b ∙ ap (λ (t : Table). (t.entry b).seq) fresh;
     } in
@@ -180,6 +216,7 @@ ready_powered old new t ready closed up = record {
   geometry = ready.geometry ∙ sym up.geometry;
   marks = λ b. ready.marks b ∙ ap (λ f. f b) (sym up.bad);
   open_block = λ o is. let two : None ≡ Some o = sym closed ∙ is in absurd cc;
+  waits = λ c is. waits_on old new t t c ready.waits is is up.geometry (ap (λ f. f c) up.bad) (λ none. none);
   numbers = ready.numbers;
   below = λ honest b p u good has.
       let page : new.flash.page b p ≡ old.flash.page b p = ap (λ f. f b p) up.page in
@@ -192,6 +229,7 @@ ready_closed d t ready = record {
   geometry = ready.geometry;
   marks = ready.marks;
   open_block = λ o is. let two : None ≡ Some o = is in absurd cc;
+  waits = λ c is. let waited = ready.waits c is in record { within = waited.within; good = waited.good; closed = refl };
   numbers = ready.numbers;
   below = ready.below;
 }

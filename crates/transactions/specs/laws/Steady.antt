@@ -10,6 +10,7 @@ ready_steady steady d t ready = record {
   geometry = ready.geometry;
   marks = ready.marks;
   open_block = λ o is. let opens = ready.open_block o is in record { within = opens.within; good = opens.good; next = opens.next; pages = opens.pages; seq = opens.seq };
+  waits = λ c is. let waited = ready.waits c is in record { within = waited.within; good = waited.good; closed = waited.closed };
   numbers = ready.numbers;
   below = ready.below;
 }

@@ -30,3 +30,6 @@ pub returns-in-Suspect-clause-answers : goal.returns-in-Suspect-clause-answers
 returns-in-Suspect-clause-answers g c =
     let first = (rw c.in-Suspect.is at c.in_ok-move_kept.ensures).answers in
     on_ok_weaker c.retire.result (λ then. omega (arith, first, then)) c.retire.ensures.answers
+
+pub retire-requires-clause-none : goal.retire-requires-clause-none
+retire-requires-clause-none g c = (rw c.in-Suspect.is at c.in_ok-move_kept.ensures).ends.3

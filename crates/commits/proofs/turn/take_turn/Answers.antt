@@ -1,4 +1,4 @@
-use Rattle.std.proofs.Common.{◌≡◌, ◌≤◌, ◌+◌, ◌*◌, ℕ, true, false, List, length, refl, ap, subst, arith, inl, inr, ◌∙◌}
+use Rattle.std.proofs.Common.{◌≡◌, ◌≤◌, ◌+◌, ◌*◌, ℕ, true, false, List, length, refl, ap, subst, arith, inl, inr, ◌∙◌, rules}
 use Rattle.std.proofs.lemmas.Result.{err_from_is_err_and}
 use Rattle.nand_model.specs.Calls.{Device}
 use Rattle.flash_tree.specs.declared.place.FreshPage.{FreshPage}
@@ -7,7 +7,8 @@ use Rattle.nand_model.specs.declared.geometry.Geometry.{Geometry}
 use Rattle.block_state.specs.Table.{Table, room as room_of}
 use Rattle.nand_model.specs.Counts.{Costs}
 use Rattle.collector.specs.Making.{FitsOpen}
-use Rattle.commits.proofs.Costing.{costs_changes, costs_each, costs_failed, costs_more, costs_on, room_most, takes_none_written, takes_none_failed, takes_one_written, takes_one_failed}
+use Rattle.flash_tree.specs.laws.Truth.{none_after}
+use Rattle.commits.proofs.Costing.{none_with_room, writable_on, costs_changes, costs_each, costs_failed, costs_more, costs_on, room_most, takes_none_written, takes_none_failed, takes_one_written, takes_one_failed}
 use Rattle.block_state.specs.TableOf.{table}
 use Rattle.chunk_index.specs.declared.index.Index.{Index}
 use Rattle.page_buffer.specs.declared.buffer.Buffer.{Buffer}
@@ -873,3 +874,25 @@ returns-in_err-retire-in-Failed-clause-unhindered g c = λ h.
     let bad = c.write_buffered.ensures.bad in
     let failed : d1.failures + 1 ≤ d2.failures = omega (arith, bad, (rw c.in-Failed.is at c.in_ok-write_buffered.ensures).marks) in
     absurd (failed_hindered (length (buffered c.args.buffer.now)) (table c.args.blocks.now) d0 d1 d2 d3 c.make_room.ensures.moves.1.lasts.failures failed c.retire-in-Failed.ensures.moves.lasts.failures h)
+
+pub retire-requires-clause-none : goal.retire-requires-clause-none
+retire-requires-clause-none g c =
+    let d1 : Device = g.N.Nand.state c.make_room.new.device in
+    let t1 : Table = table c.make_room.new.blocks in
+    let room = c.make_room.ensures in
+    let made = c.in_ok-make_room.ensures.ends in
+    let none = none_with_room (length (buffered c.args.buffer.now)) d1 t1 room.moves.1.ready c.requires.some (search rules) in
+    none_after d1 _ t1.checkpoint _ (c.write_buffered.ensures.leaves c.args.spare room.stands (made.free c.requires.free)).numbers.truth none
+
+pub retire-requires-in-Failed-clause-none : goal.retire-requires-in-Failed-clause-none
+retire-requires-in-Failed-clause-none g c =
+    let d1 : Device = g.N.Nand.state c.make_room.new.device in
+    let t1 : Table = table c.make_room.new.blocks in
+    let room = c.make_room.ensures in
+    let made = c.in_ok-make_room.ensures.ends in
+    let none = none_with_room (length (buffered c.args.buffer.now)) d1 t1 room.moves.1.ready c.requires.some (search rules) in
+    none_after d1 _ t1.checkpoint _ (c.write_buffered.ensures.leaves c.args.spare room.stands (made.free c.requires.free)).numbers.truth none
+
+pub write_buffered-requires-clause-pages : goal.write_buffered-requires-clause-pages
+write_buffered-requires-clause-pages g c =
+    writable_on (g.N.Nand.state c.args.device.now) (g.N.Nand.state c.make_room.new.device) (buffered c.args.buffer.now) c.make_room.ensures.moves.1.lasts c.requires.pages

@@ -1,11 +1,12 @@
-use Rattle.std.proofs.Common.{◌≡◌, ◌+◌, ◌*◌, true, false, List, length, refl, ap, subst, ◌∙◌, arith}
+use Rattle.std.proofs.Common.{◌≡◌, ◌+◌, ◌*◌, true, false, List, length, refl, sym, ap, subst, ◌∙◌, arith}
 use Rattle.std.proofs.lemmas.Result.{err_from_is_err_and}
 use Rattle.nand_model.specs.Calls.{Device}
 use Rattle.flash_tree.specs.declared.place.FreshPage.{FreshPage}
 use Rattle.nand_model.specs.declared.geometry.Geometry.{Geometry}
 use Rattle.block_state.specs.Table.{Table}
 use Rattle.nand_model.specs.Counts.{Costs}
-use Rattle.commits.proofs.Costing.{costs_more, costs_none, costs_on, takes_none_turn, takes_one_turn}
+use Rattle.commits.proofs.Costing.{costs_more, costs_none, costs_on, takes_none_turn, takes_one_turn, never_still, writable_on}
+use Rattle.commits.specs.Carrying.{AreWritable}
 use Rattle.block_state.specs.TableOf.{table}
 use Rattle.chunk_index.specs.declared.index.Index.{Index}
 use Rattle.page_buffer.specs.BufferOf.{buffered}
@@ -122,7 +123,7 @@ loop-preserved g c =
       answers = omega (arith, so_far.answers, again.answers);
       costs = costs_on 0 0 (3 * d0.geometry.pages + 3) d0 d e so_far.costs (subst (λ (z : Geometry). Costs 0 (3 * z.pages + 3) 0 d e) so_far.keeps.lasts.geometry again.costs);
       reads = omega (arith, so_far.reads, again.reads);
-      first = λ still. let rise = so_far.keeps.lasts.failures in let more = again.ends.2 in let marks = again.marks in absurd (omega (arith, still, rise, more, marks));
+      first = λ still. absurd (never_still d0 d e t u still so_far.keeps.lasts.failures again.ends.2 again.marks);
       few = again.ends.3;
       free = again.ends.1;
       room = again.room;
@@ -194,3 +195,9 @@ returns-in_err-take_turn-clause-unhindered g c = λ h.
     let two : false ≡ true = c.in_err-take_turn.ensures.unhindered (unhindered_turn (length (buffered c.args.buffer.now)) (length (buffered c.loop.buffer)) (table c.args.blocks.now) (table c.loop.blocks) (g.N.Nand.state c.args.device.now) (g.N.Nand.state c.loop.device) (g.N.Nand.state c.take_turn.new.device)
     (ap length so_far.same) so_far.keeps.lasts c.take_turn.ensures.leaves.lasts so_far.first h) in
     absurd cc
+
+pub take_turn-requires-clause-pages : goal.take_turn-requires-clause-pages
+take_turn-requires-clause-pages g c =
+    let so_far = c.loop.invariant in
+    subst (AreWritable (g.N.Nand.state c.loop.device)) (sym so_far.same)
+    (writable_on (g.N.Nand.state c.args.device.now) (g.N.Nand.state c.loop.device) (buffered c.args.buffer.now) so_far.keeps.lasts c.requires.pages)

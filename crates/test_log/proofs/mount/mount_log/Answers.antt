@@ -1,5 +1,5 @@
-use Rattle.std.proofs.Common.{◌≡◌, refl, sym, subst, ◌∙◌, rules, arith}
-use Rattle.mount_scan.specs.Scanned.{TellsNewest}
+use Rattle.std.proofs.Common.{refl, ◌∙◌, rules, arith}
+use Rattle.found_pages.specs.Listed.{listed}
 use Rattle.nand_model.specs.MemoryState.{device}
 use Rattle.test_log.proofs.Mounting.{above_read, all_kept, ready_counted, tells_read, stands_mounted}
 use Rattle.test_log.proofs.mount.mount_log.Goals as goal
@@ -12,16 +12,16 @@ returns-clause-ready c = ready_counted _ _ _ _ _ c.in_ok-index.ensures.counts c.
 
 pub returns-clause-stands : goal.returns-clause-stands
 returns-clause-stands c =
-    let same : c.deref.result.now ≡ c.in_ok-found.found.newest.items = search rules in
-    stands_mounted c.args.spare (device c.scan_newest.new.device) _ c.in_ok-index.index c.deref.result.now (record {
+    stands_mounted c.args.spare (device c.scan_newest.new.device) _ c.in_ok-index.index (listed c.in_ok-found.found.newest) (record {
       honest = refl;
       ready = ready_counted _ _ _ _ _ c.in_ok-index.ensures.counts c.in_ok-blocks.ensures.ready;
-      tells = subst (TellsNewest (device c.scan_newest.new.device)) (sym same) (tells_read (device c.args.nand.now) _ _ c.scan_newest.ensures.reads.only refl c.in_ok-found.ensures.newest);
+      tells = tells_read (device c.args.nand.now) _ _ c.scan_newest.ensures.reads.only refl c.in_ok-found.ensures.newest;
       indexes = c.in_ok-index.ensures.indexes;
       counts = c.in_ok-index.ensures.agree;
       open_block = c.in_ok-index.ensures.counts.open_block ∙ c.in_ok-blocks.ensures.open;
       fits = search rules;
       unkept = search rules;
+      ordinary = c.keeps_ordinary.ensures (search rules);
       limits = (
         omega (arith, c.in_ok-index.ensures.counts.next_group, c.in_ok-blocks.ensures.group, c.if-found-ge-NUMBER_END.false),
         omega (arith, c.in_ok-index.ensures.counts.next_seq, c.in_ok-blocks.ensures.seq, c.if-found-ge-NUMBER_END-2.false),
@@ -30,6 +30,5 @@ returns-clause-stands c =
 
 pub returns-clause-all : goal.returns-clause-all
 returns-clause-all c =
-    let same : c.deref.result.now ≡ c.in_ok-found.found.newest.items = search rules in
-    let tells = subst (TellsNewest (device c.scan_newest.new.device)) (sym same) (tells_read (device c.args.nand.now) _ _ c.scan_newest.ensures.reads.only refl c.in_ok-found.ensures.newest) in
-    all_kept (device c.scan_newest.new.device) c.deref.result.now c.in_ok-index.index refl tells c.in_ok-index.ensures.indexes
+    all_kept (device c.scan_newest.new.device) (listed c.in_ok-found.found.newest) c.in_ok-index.index refl
+    (tells_read (device c.args.nand.now) _ _ c.scan_newest.ensures.reads.only refl c.in_ok-found.ensures.newest) c.in_ok-index.ensures.indexes

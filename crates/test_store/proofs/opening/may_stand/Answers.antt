@@ -7,4 +7,4 @@ use Rattle.test_store.proofs.opening.may_stand.Goals as goal
 pub returns-clause-stands : goal.returns-clause-stands
 returns-clause-stands c = λ is d opened.
     let o = c.args.opened.now in
-    stands_tested c.args.spare d (table o.blocks) o.index (numbers_of o.numbers) opened (record { left = (search rules, search rules); fits = search rules; free = search rules; limits = (search rules, search rules) })
+    stands_tested c.args.spare d (table o.blocks) o.index (numbers_of o.numbers) opened (record { left = (search rules, search rules); fits = search rules; free = search rules; limits = (search rules, search rules) }) (search rules)

@@ -1,137 +1,15 @@
-use Rattle.std.proofs.Common.{◌≡◌, ◌≤◌, ◌+◌, false, if◌then◌else◌, sym, subst, ℕ, true, Err, arith, rules}
-use Rattle.std.proofs.lemmas.Result.{err_from_is_err_and}
+use Rattle.std.proofs.Common.{rules}
 use Rattle.nand_model.specs.Calls.{Device}
-use Rattle.flash_tree.specs.Groups.{Group}
-use Rattle.block_state.specs.Table.{Table}
 use Rattle.block_state.specs.TableOf.{table}
-use Rattle.transactions.specs.declared.place.GroupPlace.{GroupPlace}
-use Rattle.transactions.specs.Groups.{AddsPages, GroupsAfter}
-use Rattle.transactions.specs.Written.{is_suspect}
-use Rattle.transactions.specs.Handing.{HandsOut}
-use Rattle.transactions.specs.laws.Handing.{hands_nothing}
-use Rattle.transactions.proofs.ReadyLaws.{room_left, may_write, ready_after, group_is, group_grows, group_hands, groups_ok, groups_err, ok_table, ends_written}
+use Rattle.transactions.proofs.ReadyLaws.{group_true}
 use Rattle.transactions.proofs.group.write_group.Goals as goal
-
-pub note_end-requires-clause-room : goal.note_end-requires-clause-room
-note_end-requires-clause-room g c =
-    let t : Table = table c.args.blocks.now in
-    let found = c.in-Some.ensures.found in
-    room_left t _ c.count-count.result c.in-Some.place found c.in-Some.ensures.taken (search rules)
-
-pub returns-in_err-last-clause-ready : goal.returns-in_err-last-clause-ready
-returns-in_err-last-clause-ready g c =
-    let old : Device = g.N.Nand.state c.args.device.now in
-    let place : GroupPlace = c.in-Some.place in
-    let found = c.in-Some.ensures.found in
-    let some : 1 ≤ place.count = omega (arith, found.count_is, c.count-count.ensures.some) in
-    let may = may_write old _ _ place c.requires.ready found in
-    let erased = λ (h : old.honest ≡ true) (l : ℕ) (le : place.first ≤ l). g.met.N.Nand.clean c.args.device.now h place.block (place.first + 0) l may.next (omega (arith, le)) in
-    let after = rw c.in-Some.ensures.taken at c.note_end.ensures in
-    ready_after old _ _ place c.requires.ready found _ _ _ _ c.write_pages-written.ensures.writes some erased _ after
-
-pub returns-in_err-last-clause-groups : goal.returns-in_err-last-clause-groups
-returns-in_err-last-clause-groups g c = λ h o is.
-    let old : Device = g.N.Nand.state c.args.device.now in
-    let new : Device = g.N.Nand.state c.write_pages-written.new.device in
-    let t : Table = table c.args.blocks.now in
-    let place : GroupPlace = c.in-Some.place in
-    let found = c.in-Some.ensures.found in
-    let some : 1 ≤ place.count = omega (arith, found.count_is, c.count-count.ensures.some) in
-    let may = may_write old _ _ place c.requires.ready found in
-    let erased = λ (h : old.honest ≡ true) (l : ℕ) (le : place.first ≤ l). g.met.N.Nand.clean c.args.device.now h place.block (place.first + 0) l may.next (omega (arith, le)) in
-    let all = rw c.in_err-last.was at c.write_pages-written.ensures.writes in
-    let p = err_from_is_err_and c.from_residual.result c.from_residual.ensures.1 in
-    let left = groups_err old t _ place c.requires.ready found new _ _ _ all some erased h in
-    let same = group_is old t _ place c.requires.ready found o is in
-    rw (← c.count-count.ensures.value, p.1, p.2) (subst (λ (x : Group). GroupsAfter x (g.S.PageSource.name c.args.source.now x.number) (g.S.PageSource.bytes c.args.source.now old.flash) old.flash new.flash (Err c.in_err-last.field-0.0)) same left)
-
-pub returns-in_err-last-clause-grows : goal.returns-in_err-last-clause-grows
-returns-in_err-last-clause-grows g c = λ h.
-    let old : Device = g.N.Nand.state c.args.device.now in
-    let place : GroupPlace = c.in-Some.place in
-    let found = c.in-Some.ensures.found in
-    let some : 1 ≤ place.count = omega (arith, found.count_is, c.count-count.ensures.some) in
-    let may = may_write old _ _ place c.requires.ready found in
-    let erased = λ (h : old.honest ≡ true) (l : ℕ) (le : place.first ≤ l). g.met.N.Nand.clean c.args.device.now h place.block (place.first + 0) l may.next (omega (arith, le)) in
-    group_grows old _ _ place c.requires.ready found _ _ _ _ c.write_pages-written.ensures.writes some erased h
-
-pub returns-clause-ready : goal.returns-clause-ready
-returns-clause-ready g c =
-    let old : Device = g.N.Nand.state c.args.device.now in
-    let place : GroupPlace = c.in-Some.place in
-    let found = c.in-Some.ensures.found in
-    let some : 1 ≤ place.count = omega (arith, found.count_is, c.count-count.ensures.some) in
-    let may = may_write old _ _ place c.requires.ready found in
-    let erased = λ (h : old.honest ≡ true) (l : ℕ) (le : place.first ≤ l). g.met.N.Nand.clean c.args.device.now h place.block (place.first + 0) l may.next (omega (arith, le)) in
-    let after = rw c.in-Some.ensures.taken at c.note_end.ensures in
-    ready_after old _ _ place c.requires.ready found _ _ _ _ c.write_pages-written.ensures.writes some erased _ after
-
-pub returns-clause-table : goal.returns-clause-table
-returns-clause-table g c =
-    let t : Table = table c.args.blocks.now in
-    let place : GroupPlace = c.in-Some.place in
-    let found = c.in-Some.ensures.found in
-    let after = rw (c.in-Some.ensures.taken, c.in_ok-last.was) at c.note_end.ensures in
-    rw (← c.count-count.ensures.value, c.is_suspect.ensures) (ok_table t _ c.count-count.result place c.in_ok-last.last found after)
-
-pub returns-clause-groups : goal.returns-clause-groups
-returns-clause-groups g c = λ h o is.
-    let old : Device = g.N.Nand.state c.args.device.now in
-    let new : Device = g.N.Nand.state c.write_pages-written.new.device in
-    let t : Table = table c.args.blocks.now in
-    let place : GroupPlace = c.in-Some.place in
-    let found = c.in-Some.ensures.found in
-    let some : 1 ≤ place.count = omega (arith, found.count_is, c.count-count.ensures.some) in
-    let may = may_write old _ _ place c.requires.ready found in
-    let erased = λ (h : old.honest ≡ true) (l : ℕ) (le : place.first ≤ l). g.met.N.Nand.clean c.args.device.now h place.block (place.first + 0) l may.next (omega (arith, le)) in
-    let all = rw c.in_ok-last.was at c.write_pages-written.ensures.writes in
-    let adds = groups_ok old t _ place c.requires.ready found new _ _ c.in_ok-last.last all some erased h in
-    let same = group_is old t _ place c.requires.ready found o is in
-    rw (← c.count-count.ensures.value) (subst (λ (x : Group). AddsPages x (g.S.PageSource.name c.args.source.now x.number) (g.S.PageSource.bytes c.args.source.now old.flash) old.flash new.flash) same adds)
-
-pub returns-clause-grows : goal.returns-clause-grows
-returns-clause-grows g c = λ h.
-    let old : Device = g.N.Nand.state c.args.device.now in
-    let place : GroupPlace = c.in-Some.place in
-    let found = c.in-Some.ensures.found in
-    let some : 1 ≤ place.count = omega (arith, found.count_is, c.count-count.ensures.some) in
-    let may = may_write old _ _ place c.requires.ready found in
-    let erased = λ (h : old.honest ≡ true) (l : ℕ) (le : place.first ≤ l). g.met.N.Nand.clean c.args.device.now h place.block (place.first + 0) l may.next (omega (arith, le)) in
-    group_grows old _ _ place c.requires.ready found _ _ _ _ c.write_pages-written.ensures.writes some erased h
-
-pub returns-in_default-clause-numbers : goal.returns-in_default-clause-numbers
-returns-in_default-clause-numbers g c =
-    let d : Device = g.N.Nand.state c.args.device.now in
-    let same = c.in_default.ensures.none in
-    subst (λ (t : Table). HandsOut d d (table c.args.blocks.now) t) (sym same.1) (hands_nothing d (table c.args.blocks.now))
-
-pub returns-in_err-last-clause-numbers : goal.returns-in_err-last-clause-numbers
-returns-in_err-last-clause-numbers g c =
-    let old : Device = g.N.Nand.state c.args.device.now in
-    let place : GroupPlace = c.in-Some.place in
-    let found = c.in-Some.ensures.found in
-    let some : 1 ≤ place.count = omega (arith, found.count_is, c.count-count.ensures.some) in
-    let may = may_write old _ _ place c.requires.ready found in
-    let erased = λ (h : old.honest ≡ true) (l : ℕ) (le : place.first ≤ l). g.met.N.Nand.clean c.args.device.now h place.block (place.first + 0) l may.next (omega (arith, le)) in
-    let after = rw c.in-Some.ensures.taken at c.note_end.ensures in
-    group_hands old _ _ place c.requires.ready found _ _ _ _ c.write_pages-written.ensures.writes some erased _ after
 
 pub returns-clause-numbers : goal.returns-clause-numbers
 returns-clause-numbers g c =
+    let made = c.write_any.ensures in
     let old : Device = g.N.Nand.state c.args.device.now in
-    let place : GroupPlace = c.in-Some.place in
-    let found = c.in-Some.ensures.found in
-    let some : 1 ≤ place.count = omega (arith, found.count_is, c.count-count.ensures.some) in
-    let may = may_write old _ _ place c.requires.ready found in
-    let erased = λ (h : old.honest ≡ true) (l : ℕ) (le : place.first ≤ l). g.met.N.Nand.clean c.args.device.now h place.block (place.first + 0) l may.next (omega (arith, le)) in
-    let after = rw c.in-Some.ensures.taken at c.note_end.ensures in
-    group_hands old _ _ place c.requires.ready found _ _ _ _ c.write_pages-written.ensures.writes some erased _ after
-
-pub returns-clause-ends : goal.returns-clause-ends
-returns-clause-ends g c =
-    let old : Device = g.N.Nand.state c.args.device.now in
-    let new : Device = g.N.Nand.state c.write_pages-written.new.device in
-    let found = c.in-Some.ensures.found in
-    let all = rw c.in_ok-last.was at c.write_pages-written.ensures.writes in
-    let ends = ends_written old new _ c.in_ok-last.last all.ends in
-    rw (← c.count-count.ensures.value, c.is_suspect.ensures) (subst (λ n. (new.failures ≡ old.failures + (if is_suspect c.in_ok-last.last then 1 else 0)) × (new.gone ≡ false) × (new.changes ≡ old.changes + n)) found.count_is ends)
+    record {
+      numbers = made.numbers;
+      truth = group_true old _ (table c.args.blocks.now) _ _ (g.S.PageSource.name c.args.source.now (table c.args.blocks.now).next_group) _ _ made.some c.requires.ready made.lasts made.ends made.table
+          (λ short. search rules) made.groups made.grows made.stays.bad c.requires.ordinary;
+    }

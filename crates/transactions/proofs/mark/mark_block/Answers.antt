@@ -1,4 +1,4 @@
-use Rattle.std.proofs.Common.{refl, rules}
+use Rattle.std.proofs.Common.{rules}
 use Rattle.flash_tree.specs.laws.Newest.{mark_keeps_elsewhere}
 use Rattle.transactions.specs.laws.Handing.{hands_marked}
 use Rattle.transactions.specs.laws.Ready.{ready_marked}
@@ -17,7 +17,7 @@ pub returns-else-is_bad-clause-newest : goal.returns-else-is_bad-clause-newest
 returns-else-is_bad-clause-newest g c = λ honest. mark_keeps_elsewhere c.args.block _ _ _ honest c.mark_bad-marked.ensures.marks
 
 pub returns-then-is_bad-clause-numbers : goal.returns-then-is_bad-clause-numbers
-returns-then-is_bad-clause-numbers g c = hands_marked c.args.block _ _ _ _ _ c.mark_bad-marked.ensures.marks c.mark_bad.ensures.sets.next_group c.mark_bad.ensures.next_seq
+returns-then-is_bad-clause-numbers g c = hands_marked c.args.block _ _ _ _ _ c.mark_bad-marked.ensures.marks c.requires.first (search rules)
 
 pub returns-else-is_bad-clause-numbers : goal.returns-else-is_bad-clause-numbers
-returns-else-is_bad-clause-numbers g c = hands_marked c.args.block _ _ _ _ _ c.mark_bad-marked.ensures.marks refl refl
+returns-else-is_bad-clause-numbers g c = hands_marked c.args.block _ _ _ _ _ c.mark_bad-marked.ensures.marks c.requires.first (search rules)

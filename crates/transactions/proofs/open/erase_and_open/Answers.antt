@@ -3,7 +3,9 @@ use Rattle.nand_model.specs.Calls.{Device}
 use Rattle.nand_model.specs.laws.Changes.{shrinks-erase}
 use Rattle.flash_tree.specs.laws.Newest.{erase_keeps_elsewhere}
 use Rattle.block_state.specs.TableOf.{table}
+use Rattle.block_state.specs.laws.Checkpoint.{other_than_it}
 use Rattle.transactions.specs.laws.Handing.{hands_erased}
+use Rattle.transactions.specs.laws.Truth.{true_erased, true_opened}
 use Rattle.transactions.specs.laws.Ready.{ready_erased, ready_opened}
 use Rattle.transactions.proofs.open.erase_and_open.Goals as goal
 
@@ -17,7 +19,7 @@ returns-clause-ready g c =
     let does = c.in_ok-erase.ensures.erases in
     let ready = ready_erased c.args.block old new (table c.args.blocks.now) _ c.requires.ready c.requires.closed c.erase.ensures.erases in
     ready_opened c.args.block new _ _ ready (search rules) (search rules) does.next
-    (record { sets = c.open.ensures.sets; open_block = c.open.ensures.open; next_seq = c.open.ensures.seq })
+    (record { sets = c.open.ensures.sets; open_block = c.open.ensures.open; checkpoint = c.open.ensures.checkpoint ∙ other_than_it c.args.block _ c.requires.first; next_seq = c.open.ensures.seq })
 
 pub returns-clause-below : goal.returns-clause-below
 returns-clause-below g c = λ honest.
@@ -34,9 +36,10 @@ returns-clause-newest g c = λ honest. erase_keeps_elsewhere c.args.block _ _ (s
 pub returns-in_err-erase-clause-numbers : goal.returns-in_err-erase-clause-numbers
 returns-in_err-erase-clause-numbers g c =
     let does = c.erase.ensures.erases in
-    hands_erased c.args.block _ _ _ _ _ does refl (omega arith) (omega (arith, does.lasts.changes))
+    hands_erased c.args.block _ _ _ _ _ does refl (omega arith) (omega (arith, does.lasts.changes)) (true_erased c.args.block _ _ (table c.args.blocks.now) (table c.args.blocks.now) _ does c.requires.first refl)
 
 pub returns-clause-numbers : goal.returns-clause-numbers
 returns-clause-numbers g c =
     let done = c.in_ok-erase.ensures.erases in
     hands_erased c.args.block _ _ _ _ _ c.erase.ensures.erases c.open.ensures.sets.next_group (omega (arith, c.open.ensures.seq)) (omega (arith, c.open.ensures.seq, done.changes done.ends.was))
+    (true_opened c.args.block _ _ (table c.args.blocks.now) (table c.open.new.self) done c.requires.first (c.open.ensures.checkpoint ∙ other_than_it c.args.block _ c.requires.first))

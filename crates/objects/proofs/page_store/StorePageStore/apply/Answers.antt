@@ -3,6 +3,7 @@ use Rattle.std.proofs.Common.{refl, ◌∙◌, sym, ap, subst, arith}
 use Rattle.std.proofs.lemmas.Result.{on_ok_weaker}
 use Rattle.nand_model.specs.Calls.{Device}
 use Rattle.nand_model.specs.declared.geometry.Geometry.{Geometry}
+use Rattle.block_state.specs.Table.{Table}
 use Rattle.block_state.specs.TableOf.{table}
 use Rattle.page_buffer.specs.BufferOf.{buffered, most_pages}
 use Rattle.pages.specs.Stores.{IsCarried}
@@ -33,6 +34,7 @@ returns-clause-goes_on g c =
       numbers = hands_told old now (table self.blocks) (table new.blocks) e.numbers;
       marks = marks_told old now (table self.blocks) (table new.blocks) self.ready new.ready e.marks;
       limits = λ honest _. limits_told now (table new.blocks) new.ready new.stands.limits (e.lasts.honest ∙ honest);
+      truth = e.numbers.truth;
     }
 
 pub returns-clause-sound : goal.returns-clause-sound
@@ -73,6 +75,7 @@ returns-clause-refused g c = λ none.
       sound = ap (λ w. (g.N.Nand.state new.device).honest && not w) is.2 ∙ ap (λ (d : Device). d.honest && not self.broken) is.0;
       device = is.0;
       next = ap next_numbers is.1;
+      checkpoint = ap (λ (u : Table). u.checkpoint) is.1;
     }
 
 pub returns-clause-stops : goal.returns-clause-stops

@@ -33,6 +33,7 @@ returns-clause-goes_on g c =
       numbers = hands_told old now (table self.blocks) (table new.blocks) e.numbers;
       marks = marks_told old now (table self.blocks) (table new.blocks) self.ready new.ready e.marks;
       limits = λ honest _. limits_told now (table new.blocks) new.ready new.stands.limits (e.lasts.honest ∙ honest);
+      truth = e.numbers.truth;
     }
 
 pub returns-clause-sound : goal.returns-clause-sound

@@ -10,6 +10,7 @@ use Rattle.objects.specs.StoreOf.{kept_map, next_numbers, store_seen}
 use Rattle.objects.proofs.Carried.{store_carries}
 use Rattle.objects.specs.laws.Sound.{sound_whole}
 use Rattle.objects.proofs.ReadOnly.{sound_honest}
+use Rattle.objects.proofs.Steps.{hands_still}
 use Rattle.objects.proofs.Told.{cut_stopped, cut_takes_none, cut_told, failed_stays, hands_none, kept_as, marks_none}
 use Rattle.objects.proofs.page_store.StorePageStore.cut.Goals as goal
 
@@ -34,6 +35,7 @@ returns-clause-goes_on g c =
       numbers = hands_none old now (table self.blocks) (table new.blocks) still tables;
       marks = marks_none old now (table self.blocks) (table new.blocks) still tables;
       limits = λ _ left. subst (λ (k : Device). HasNumbersLeft k.flash) (sym still) left;
+      truth = (hands_still old now (table self.blocks) (table new.blocks) still tables).truth;
     }
 
 pub returns-clause-present : goal.returns-clause-present

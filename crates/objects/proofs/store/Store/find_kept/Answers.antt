@@ -5,6 +5,7 @@ use Rattle.transactions.specs.laws.Ready.{ready_read}
 use Rattle.bad_blocks.specs.Room.{IsRoomFor}
 use Rattle.page_buffer.specs.BufferOf.{buffered}
 use Rattle.objects.specs.declared.store.Found.TheVariants as places
+use Rattle.objects.proofs.Steps.{numbered_on}
 use Rattle.objects.proofs.ReadOnly.{lies, stands_read, newest_read, shown_read, load_fails}
 use Rattle.objects.proofs.store.Store.find_kept.Goals.{then-self, else-self}
 use Rattle.objects.proofs.store.Store.find_kept.Goals as goal
@@ -19,7 +20,7 @@ invariant_of-self g c =
       stands = stands_read _ _ _ _ self.index reads self.stands;
       room_size = subst (λ (k : Geometry). IsRoomFor k self.room) (sym reads.lasts.geometry) self.room_size;
       buffers = self.buffers;
-      objects = self.objects;
+      objects = λ whole. numbered_on _ _ (buffered self.buffer) reads.lasts (self.objects whole);
       most = self.most ∙ ap (λ (k : Geometry). k.pages / 4) (sym reads.lasts.geometry);
       size = let was = self.size in let len = c.load_kept.ensures.size in let all = c.deref_mut.ensures.len in grind (arith, common_steps);
       buffer_size = self.buffer_size ∙ sym bytes;
@@ -41,7 +42,7 @@ invariant_of-self-in-Err g c =
       stands = stands_read _ _ _ _ self.index reads self.stands;
       room_size = subst (λ (k : Geometry). IsRoomFor k self.room) (sym reads.lasts.geometry) self.room_size;
       buffers = self.buffers;
-      objects = self.objects;
+      objects = λ whole. numbered_on _ _ (buffered self.buffer) reads.lasts (self.objects whole);
       most = self.most ∙ ap (λ (k : Geometry). k.pages / 4) (sym reads.lasts.geometry);
       size = let was = self.size in let len = c.load_kept.ensures.size in let all = c.deref_mut.ensures.len in grind (arith, common_steps);
       buffer_size = self.buffer_size ∙ sym bytes;

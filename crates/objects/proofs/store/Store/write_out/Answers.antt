@@ -59,7 +59,7 @@ returns-in-Err-clause-carried g c = λ whole honest.
     either_known d.honest (g.N.Nand.state c.commit.new.device) self.spare (kept_data self.index d.flash) (present_data self.index (buffered self.buffer) d.flash) (c.commit.ensures.newest honest carried)
 
 pub commit-requires-clause-pages : goal.commit-requires-clause-pages
-commit-requires-clause-pages g c = let self = c.args.self.now in writable (g.N.Nand.state self.device).geometry self.buffer (self.objects c.if-self.false) self.buffer_size
+commit-requires-clause-pages g c = let self = c.args.self.now in writable (g.N.Nand.state self.device) self.buffer (self.objects c.if-self.false) self.buffer_size
 
 pub returns-in-Err-clause-fault : goal.returns-in-Err-clause-fault
 returns-in-Err-clause-fault g c =

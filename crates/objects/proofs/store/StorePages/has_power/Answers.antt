@@ -3,6 +3,7 @@ use Rattle.nand_model.specs.declared.geometry.Geometry.{Geometry}
 use Rattle.transactions.specs.laws.Ready.{ready_read}
 use Rattle.bad_blocks.specs.Room.{IsRoomFor}
 use Rattle.page_buffer.specs.BufferOf.{buffered}
+use Rattle.objects.proofs.Steps.{numbered_on}
 use Rattle.objects.proofs.ReadOnly.{stands_read, newest_read, still_shown}
 use Rattle.objects.proofs.store.StorePages.has_power.Goals as goal
 
@@ -16,7 +17,7 @@ invariant_of-self g c =
       stands = stands_read _ _ _ _ self.index reads self.stands;
       room_size = subst (λ (k : Geometry). IsRoomFor k self.room) (sym reads.lasts.geometry) self.room_size;
       buffers = self.buffers;
-      objects = self.objects;
+      objects = λ whole. numbered_on _ _ (buffered self.buffer) reads.lasts (self.objects whole);
       most = self.most ∙ ap (λ (k : Geometry). k.pages / 4) (sym reads.lasts.geometry);
       size = self.size ∙ sym bytes;
       buffer_size = self.buffer_size ∙ sym bytes;

@@ -1,0 +1,36 @@
+// The writing of a checkpoint.
+ghost use Rattle.std.specs.Prelude.{◌≡◌, ◌<◌, ◌^◌, ℕ, length, true};
+ghost use Rattle.volume_terms.specs.Sizes.{number_end};
+ghost use Rattle.nand_model.specs.Calls.{Lasts};
+ghost use Rattle.block_state.specs.TableOf.{table};
+ghost use Rattle.transactions.specs.Ready.{IsReady};
+ghost use Rattle.transactions.specs.Checking.{log_of, WritesCheckpoint, WritesGroup, LeavesChecked};
+
+use crate::group::{GroupFault, Placed, write_any};
+use crate::source::PageSource;
+use block_state::Blocks;
+use nand_model::Nand;
+
+/// Writes the pages of a checkpoint as one group into the open block, in which nothing is written yet.
+///
+/// After a fault other than `NoRoom`, and after a suspect group, the block is open no longer.
+pub fn write_checkpoint<N: Nand, S: PageSource>(
+    device: &mut N,
+    blocks: &mut Blocks,
+    source: &S,
+    scratch: &mut [u8],
+) -> Result<Placed, GroupFault>
+    requires ready { IsReady (N.state device.old) (table blocks.old) }
+    requires number { (table blocks.old).next_group < number_end }
+    requires size { length scratch.old ≡ (N.state device.old).geometry.bytes }
+    requires source { S.ready source.now (N.state device.old).geometry (table blocks.old).next_group }
+    requires has { (N.state device.old).honest ≡ true → (i : ℕ) → i < S.count source.now → S.has source.now (N.state device.old).flash i }
+    requires lists { (N.state device.old).honest ≡ true → WritesCheckpoint S.PageSource source.now (N.state device.old) (table blocks.old) }
+    ensures lasts { Lasts (N.state device.old) (N.state device.new) }
+    ensures ready { IsReady (N.state device.new) (table blocks.new) }
+    ensures group { WritesGroup S.PageSource source.now (log_of (N.state device.old) (table blocks.old)) (log_of (N.state device.new) (table blocks.new)) result }
+    // Where no checkpoint was whole, each that is now is right, and in this block.
+    ensures checked { (N.state device.old).honest ≡ true → LeavesChecked (N.state device.old) (N.state device.new) (table blocks.old).open_block result }
+{
+    write_any(device, blocks, source, scratch)
+}

@@ -1,8 +1,8 @@
 // What a store knows of an object without reading.
-ghost use Rattle.std.specs.Prelude.{◌≡◌, Some, length, nat_le, MatchBool};
+ghost use Rattle.std.specs.Prelude.{◌≡◌, true, false, Some, length, nat_le, MatchBool, MatchOption};
 ghost use Rattle.std.specs.FinMap as map;
 ghost use Rattle.volume_terms.specs.Sizes.{Sizes};
-ghost use Rattle.posix_profile.specs.State.{Object, Objects, is_directory};
+ghost use Rattle.posix_profile.specs.State.{Object, Objects, is_directory, is_file};
 ghost use Rattle.posix_profile.specs.Names.{link_pairs};
 ghost use Rattle.posix_profile.specs.WellFormed.{IsNamed};
 ghost use Rattle.object_store.specs.Facts.{bytes_of};
@@ -18,6 +18,21 @@ pub fn length<S: ObjectStore>(store: &S, number: u64) -> u64
     match store.info(number) {
         Some(info) => info.size,
         None => 0,
+    }
+}
+
+/// The bytes of a file; nothing where no file is at this number.
+pub fn file_length<S: ObjectStore>(store: &S, number: u64) -> Option<u64>
+    ensures { (z : Sizes) (objects : Objects) → Has S.meaning z objects store.now
+        → MatchOption result (is_file (map.get objects number) ≡ false)
+        (λ size. (is_file (map.get objects number) ≡ true) × (size ≡ length (bytes_of (map.get objects number)))) }
+{
+    match store.info(number) {
+        Some(info) => match info.kind {
+            Kind::File => Some(info.size),
+            Kind::Directory => None,
+        },
+        None => None,
     }
 }
 

@@ -75,12 +75,13 @@ pub fn units_of(sizes: VolumeSizes, size: u64) -> u64
     size.div_ceil(sizes.page_bytes())
 }
 
-/// The units that there are for a file, with those that it has.
-pub fn units_for<S: ObjectStore>(store: &S, file: u64) -> u64
-    ensures { (z : Sizes) (objects : Objects) → Has S.meaning z objects store.now → IsFile objects file
+/// The units that there are for a file of so many bytes, with those that it has.
+pub fn units_for<S: ObjectStore>(store: &S, size: u64) -> u64
+    ensures { (z : Sizes) (objects : Objects) (file : ℕ) → Has S.meaning z objects store.now → IsFile objects file
+        → size ≡ length (bytes_of (map.get objects file))
         → (result ≡ capacity z - charge z objects + ceiling (length (bytes_of (map.get objects file))) z.page_bytes) × (result ≤ 2 ^ 28) }
 {
-    free_units(store).saturating_add(units_of(store.sizes(), length(store, file)))
+    free_units(store).saturating_add(units_of(store.sizes(), size))
 }
 
 /// Whether there is room for so many bytes in place of those of a file.
@@ -88,5 +89,5 @@ pub fn has_bytes_room<S: ObjectStore>(store: &S, file: u64, size: u64) -> bool
     ensures { (z : Sizes) (objects : Objects) → Has S.meaning z objects store.now → IsFile objects file
         → (moment : ℕ) (new : List ℕ) → size ≡ length new → result ≡ fits z (with_bytes objects moment file new) }
 {
-    units_of(store.sizes(), size) <= units_for(store, file)
+    units_of(store.sizes(), size) <= units_for(store, length(store, file))
 }

@@ -10,6 +10,7 @@ use Rattle.pages.specs.Maps.{PageMap, has}
 use Rattle.pages.specs.State.{PagesState}
 use Rattle.pages.specs.declared.change.Change.{Change}
 use Rattle.directories.specs.Heads.{IsHeaded}
+use Rattle.directories.specs.Slots.{NamedBy}
 
 -- the object is this directory, in a sound store with pages of this size
 pub record DirIn (p : PagesState) (z : Sizes) (o moment : ℕ) (entries : Entries) : Type 0 where
@@ -41,6 +42,10 @@ LeadsFrom at count name (Some object) = (i : ℕ) × (i < count) × ((e : Entry)
 -- what is told of a name is what the header and the slots say
 abbrev pub TellsName : Sizes → PagesState → ℕ → List ℕ → Option ℕ → Type 0
 TellsName z p d name found = (h : IsHeaded p d) × LeadsFrom (SlotOf z p.present d) h.fields.length name found
+
+-- what is told of a slot: it has the name and leads to the object, or it has another name
+abbrev pub TellsSlot : Sizes → PageMap → ℕ → ℕ → List ℕ → Option ℕ → Type 0
+TellsSlot z m d i name found = (e : Entry) × SlotOf z m d i e × NamedBy e name found
 
 -- there is a change exactly where the header and the slots say that the name is there
 abbrev pub TellsChange : Sizes → PagesState → ℕ → List ℕ → Option Change → Type 0

@@ -14,7 +14,7 @@ mod writing;
 pub use addition::add;
 pub use head::{DirectoryHead, head_page, read_head};
 pub use listing::{entries, names};
-pub use lookup::find;
+pub use lookup::{find, find_in_slot};
 pub use moving::{Route, rename_between, rename_within};
 pub use removal::remove;
 pub use replacement::replace;

@@ -10,13 +10,13 @@ ghost use Rattle.pages.specs.Afterwards.{after, IsSizedBy};
 ghost use Rattle.pages.specs.Faults.{MayLack, SaysWhy};
 ghost use Rattle.pages.specs.State.{OnlyFinds, KeepsPower};
 ghost use Rattle.pages.specs.declared.fault.PageFault.TheVariants as faults;
-ghost use Rattle.directories.specs.Directories.{DirIn, SlotOf, TellsName};
+ghost use Rattle.directories.specs.Directories.{DirIn, SlotOf, TellsName, TellsSlot};
 ghost use Rattle.directories.specs.Slots.{NamedBy, SlotAt, AreSlots, Finds};
 
 use crate::head::head_after;
 use crate::page::slot_of;
 use flash_tree::{Key, decode_tree_slot};
-use pages::{Change, PageFault, Pages, load_after, page_after};
+use pages::{Change, PageFault, Pages, load, load_after, page_after};
 use volume_terms::SLOT_BYTES;
 
 /// A slot that has the name that was looked for: its number, and the object that it leads to.
@@ -45,6 +45,31 @@ pub fn find<P: Pages>(pages: &mut P, directory: u64, name: &[u8]) -> Result<Opti
         Some(found) => Ok(Some(found.object)),
         None => Ok(None),
     }
+}
+
+/// The object that a slot of a directory leads to, if it has this name. One page is asked for.
+pub fn find_in_slot<P: Pages>(
+    pages: &mut P,
+    directory: u64,
+    place: u32,
+    name: &[u8],
+) -> Result<Option<u64>, PageFault>
+    ensures finds { OnlyFinds (P.state pages.old) (P.state pages.new) }
+    ensures asked { (P.state pages.new).asked ≤ (P.state pages.old).asked + 1 }
+    ensures power { OnOk result (KeepsPower (P.state pages.old) (P.state pages.new)) }
+    ensures told { (P.state pages.old).sound ≡ true → (z : Sizes) → z.page_bytes ≡ (P.state pages.old).page_bytes
+        → IfOk result (TellsSlot z (P.state pages.old).present directory place name.now) }
+    ensures why { IfErr result (SaysWhy (P.state pages.new)) }
+    ensures fault { (P.state pages.old).sound ≡ true → (z : Sizes) → z.page_bytes ≡ (P.state pages.old).page_bytes
+        → (e : Entry) → SlotOf z (P.state pages.old).present directory place e → IfErr result (MayLack (P.state pages.new)) }
+{
+    let slots = pages.page_bytes() / SLOT_BYTES as u32;
+    let key = Key {
+        object: directory,
+        chunk: 1 + u64::from(place / slots),
+    };
+    load(pages, key)?;
+    named_in(slot_of(pages.page(), place % slots), name)
 }
 
 /// Looks for a name in the first slots of a directory, after an earlier change. Each page is asked for once.

@@ -5,7 +5,8 @@ ghost use Rattle.line_shell.specs.Commands.{asked, moment_of, meaning, line_of};
 use crate::arguments::command_of;
 use crate::line::Line;
 use crate::number::number;
-use crate::word::{pieces_of, unescape_words};
+use crate::word::unescape_words;
+use byte_pieces::pieces_of;
 use posix_profile::{Bytes, Command};
 use std::alloc::{AllocError, Global};
 
@@ -50,7 +51,7 @@ fn meaning(words: Vec<Bytes>) -> Line
 pub fn parse(alloc: Global, line: &[u8]) -> Result<Line, AllocError>
     ensures { IfOk result (λ meant. meant ≡ line_of line.now) }
 {
-    let pieces = pieces_of(alloc, line)?;
+    let pieces = pieces_of(alloc, line, b' ')?;
     match unescape_words(alloc, &pieces)? {
         Some(words) => Ok(meaning(words)),
         None => Ok(Line::Bad),

@@ -12,17 +12,18 @@ use crate::run::MOST_LINES;
 use posix_profile::Stamped;
 use std::alloc::{AllocError, AllocFailed, Global};
 use std::io::BufRead;
+use thiserror::Error;
 
 /// Why a script was not read to its end.
-#[derive(Clone, Copy, Debug, PartialEq, Eq)]
+#[derive(Clone, Copy, Debug, PartialEq, Eq, Error)]
 pub enum ScriptFault {
-    /// The reader failed.
+    #[error("the lines could not be read: check where they come from")]
     Read,
-    /// A line has more than 65,536 bytes, or follows the first 16,777,216 lines.
+    #[error("a line has more than 65,536 bytes, or follows the first 16,777,216 lines: split the input")]
     TooLong,
-    /// A growth of memory was refused.
+    #[error("memory was refused for a line: free some, then try again")]
     NoMemory,
-    /// A line is no command.
+    #[error("a line is not a command: `run` replies `bad line` to each such line")]
     Line,
 }
 

@@ -1,18 +1,10 @@
 // The words of a line, and the bytes that they stand for.
-ghost use Rattle.std.specs.Prelude.{◌≡◌, ◌<◌, length, filter, map as list_map, nat_eq, nat_lt, option_map, MatchOption, IfOk, None};
-ghost use Rattle.std.specs.List.{slice_split};
-ghost use Rattle.line_shell.specs.Words.{space, unescaped, all_unescaped, byte_of_digits};
+ghost use Rattle.std.specs.Prelude.{◌≡◌, ◌<◌, length, filter, map as list_map, nat_lt, option_map, MatchOption, IfOk, None};
+ghost use Rattle.line_shell.specs.Words.{unescaped, all_unescaped, byte_of_digits};
 ghost use Rattle.line_shell.specs.Pieces.{IsPiece};
 
 use posix_profile::Bytes;
 use std::alloc::{AllocError, Global};
-
-/// What stands between spaces, also where that is nothing.
-pub fn pieces_of(alloc: Global, line: &[u8]) -> Result<Vec<&[u8]>, AllocError>
-    ensures { IfOk result (λ all. list_map (λ piece. piece.now) all.items ≡ slice_split (nat_eq space) line.now) }
-{
-    line.split(|byte| b' ' == *byte).collect(alloc)
-}
 
 /// A part at the front of a word that stands for at most one byte, and its size in the word.
 #[derive(Clone, Copy)]

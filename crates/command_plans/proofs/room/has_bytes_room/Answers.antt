@@ -11,4 +11,4 @@ returns g c z objects has file moment new many =
     let bytes = bytes_of (map.get objects c.args.file) in
     let there : map.get objects c.args.file ≡ Some (File file.0 bytes) = file.2 ∙ ap (λ b. Some (File file.0 b)) (sym (ap bytes_of file.2)) in
     let own = c.units_of.ensures ∙ ap₂ ceiling many (ap (λ z. z.page_bytes) (c.sizes.ensures ∙ has.sizes)) in
-    ap₂ nat_le own (c.units_for.ensures z objects has file).0 ∙ bytes_fit z objects moment c.args.file file.0 bytes new there has.fit
+    ap₂ nat_le own (c.units_for.ensures z objects c.args.file has file (c.length.ensures z objects has)).0 ∙ bytes_fit z objects moment c.args.file file.0 bytes new there has.fit

@@ -1,0 +1,7 @@
+mod Searching
+mod Editing
+mod Dividing
+mod Running
+mod Ranging
+mod Naming
+mod Absent

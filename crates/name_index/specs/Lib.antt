@@ -1,0 +1,6 @@
+pub mod Hashes
+pub mod Lists
+pub mod Halves
+pub mod Sets
+pub mod Packing
+pub mod Names

@@ -1,0 +1,47 @@
+-- A set of numbers in runs.
+use Rattle.std.specs.Prelude.{◌≡◌, ◌<◌, ◌≤◌, ℕ, Option, Some, None, IsSome, length, slice_index}
+use Rattle.std.specs.Ordering.{nat_cmp}
+use Rattle.std.specs.BTreeMap.{BTreeMap, get}
+use Rattle.name_index.specs.Lists.{IsIn, IsNextFrom}
+use Rattle.name_index.specs.Halves.{IsUpperPart}
+use Rattle.name_index.specs.declared.run.Run.{Run}
+
+-- the runs by the numbers that they begin at
+abbrev pub RunMap : Type 0
+RunMap = BTreeMap ℕ Run
+
+-- a run has the number
+abbrev pub Has : RunMap → ℕ → Type 0
+Has m x = (k : ℕ) × (r : Run) × (get nat_cmp m k ≡ Some r) × IsIn r.numbers.items x
+
+-- each number of a run lies from where the run begins on, and before where a later one begins
+pub record IsTiled (m : RunMap) : Type 0 where
+  pub from : (k x : ℕ) (r : Run) → get nat_cmp m k ≡ Some r → IsIn r.numbers.items x → k ≤ x
+  pub before : (k j x : ℕ) (r : Run) → get nat_cmp m k ≡ Some r → IsIn r.numbers.items x → IsSome (get nat_cmp m j) → k < j → x < j
+
+-- the last run that begins at a number or before it, or none where none does
+abbrev pub IsLastBegun : RunMap → ℕ → Option ℕ → Type 0
+IsLastBegun m x None = (k : ℕ) → k ≤ x → get nat_cmp m k ≡ None
+IsLastBegun m x (Some at) = IsSome (get nat_cmp m at) × (at ≤ x) × ((k : ℕ) → k ≤ x → IsSome (get nat_cmp m k) → k ≤ at)
+
+-- a run begins at a number or before it
+abbrev pub HasBegun : RunMap → ℕ → Type 0
+HasBegun m x = (k : ℕ) × (k ≤ x) × IsSome (get nat_cmp m k)
+
+-- the upper part of the run that begins at a number, if it is to be divided
+abbrev pub IsUpperOf : RunMap → ℕ → Option Run → Type 0
+IsUpperOf m at None = Unit {0}
+IsUpperOf m at (Some upper) = (r : Run) × (get nat_cmp m at ≡ Some r) × IsUpperPart r.numbers.items (Some upper)
+
+-- the number is the only one of the run that begins at another
+abbrev pub IsOnlyOf : RunMap → ℕ → ℕ → Type 0
+IsOnlyOf m at x = (r : Run) × (get nat_cmp m at ≡ Some r) × (length r.numbers.items ≡ 1) × (slice_index r.numbers.items 0 ≡ x)
+
+-- the least number from one on of the run that begins at a number, or none where it has none
+abbrev pub IsNextWithin : RunMap → ℕ → ℕ → Option ℕ → Type 0
+IsNextWithin m at from found = (r : Run) → get nat_cmp m at ≡ Some r → IsNextFrom (IsIn r.numbers.items) from found
+
+-- the least number of the runs that begin beyond a number, or none where none begins there
+abbrev pub IsFirstBeyond : RunMap → ℕ → Option ℕ → Type 0
+IsFirstBeyond m from None = (k : ℕ) → from < k → get nat_cmp m k ≡ None
+IsFirstBeyond m from (Some x) = (k : ℕ) × (r : Run) × (get nat_cmp m k ≡ Some r) × (from < k) × ((j : ℕ) → from < j → IsSome (get nat_cmp m j) → k ≤ j) × (slice_index r.numbers.items 0 ≡ x)

@@ -50,6 +50,7 @@ recounts_on {t} {u} {v} {f} {g} {h} c d = record {
   next = λ b. d.next b ∙ c.next b;
   geometry = d.geometry ∙ c.geometry;
   open_block = d.open_block ∙ c.open_block;
+  checkpoint = d.checkpoint ∙ c.checkpoint;
   next_seq = d.next_seq ∙ c.next_seq;
   next_group = d.next_group ∙ c.next_group;
 }
@@ -64,6 +65,7 @@ recounts_here {t} {f} {g} same = record {
   next = λ b. refl;
   geometry = refl;
   open_block = refl;
+  checkpoint = refl;
   next_seq = refl;
   next_group = refl;
 }
@@ -81,6 +83,7 @@ recounts_more {t} {u} {f} {g} {h} {k} more c = record {
   next = c.next;
   geometry = c.geometry;
   open_block = c.open_block;
+  checkpoint = c.checkpoint;
   next_seq = c.next_seq;
   next_group = c.next_group;
 }

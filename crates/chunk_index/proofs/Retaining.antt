@@ -147,7 +147,7 @@ gathers_none keeps first t = record {
   front = omega arith;
   left = refl;
   rest = λ k d le. refl;
-  counts = record { kept = λ b. refl; outside = λ b le. refl; bad = λ b. refl; seq = λ b. refl; next = λ b. refl; geometry = refl; open_block = refl; next_seq = refl; next_group = refl };
+  counts = record { kept = λ b. refl; outside = λ b le. refl; bad = λ b. refl; seq = λ b. refl; next = λ b. refl; geometry = refl; open_block = refl; checkpoint = refl; next_seq = refl; next_group = refl };
 }
 
 module _ (keeps : ℕ → Bool) (first : List KeyEntry) (n : ℕ) (now : List KeyEntry) (kept : ℕ) (t u : Table) (was : Gathers keeps first n now kept t u) (lt : n < length first) (e : KeyEntry) (here : e ≡ get_or now n e) where
@@ -193,6 +193,7 @@ module _ (keeps : ℕ → Bool) (first : List KeyEntry) (n : ℕ) (now : List Ke
     next = λ b. counts.next b ∙ was.counts.next b;
     geometry = counts.geometry ∙ was.counts.geometry;
     open_block = counts.open_block ∙ was.counts.open_block;
+    checkpoint = counts.checkpoint ∙ was.counts.checkpoint;
     next_seq = counts.next_seq ∙ was.counts.next_seq;
     next_group = counts.next_group ∙ was.counts.next_group;
   } where

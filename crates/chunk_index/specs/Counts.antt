@@ -13,6 +13,7 @@ pub record Recounts (before after : ℕ → ℕ) (old new : Table) : Type 0 wher
   pub next : (b : ℕ) → (new.entry b).next ≡ (old.entry b).next
   pub geometry : new.geometry ≡ old.geometry
   pub open_block : new.open_block ≡ old.open_block
+  pub checkpoint : new.checkpoint ≡ old.checkpoint
   pub next_seq : new.next_seq ≡ old.next_seq
   pub next_group : new.next_group ≡ old.next_group
 

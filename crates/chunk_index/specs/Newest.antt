@@ -1,6 +1,5 @@
 -- The newest pages of a scan, and the index of them.
 use Rattle.std.specs.Prelude.{◌≡◌, ◌<◌, ℕ, List, length, get_or, Some, None}
-use Rattle.flash_tree.specs.Places.{IsKeyBefore}
 use Rattle.flash_tree.specs.declared.place.Found.{Found}
 use Rattle.chunk_index.specs.declared.form.KeptPage.{KeptPage}
 use Rattle.chunk_index.specs.declared.form.Present.TheVariants as presents
@@ -14,10 +13,6 @@ page_of f = record { block = f.block; page = f.page; version = f.tag.version }
 -- the page is of chunk c of object o
 abbrev pub IsFoundOf : ℕ → ℕ → Found → Type 0
 IsFoundOf o c f = (f.tag.object ≡ o) × (f.tag.chunk ≡ c)
-
--- the keys rise, so that no key comes twice
-abbrev pub KeysRise : List Found → Type 0
-KeysRise fs = (i j : ℕ) (d : Found) → i < j → j < length fs → IsKeyBefore (get_or fs i d) (get_or fs j d)
 
 -- each page lies in one of so many blocks
 abbrev pub LieWithin : ℕ → List Found → Type 0

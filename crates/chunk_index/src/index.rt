@@ -205,7 +205,7 @@ impl Index {
     }
 
     /// Gives the entry of a key another kept page.
-    fn move_to(&mut self, key: Key, entry: KeyEntry, page: KeptPage, blocks: &mut Blocks)
+    pub(crate) fn move_to(&mut self, key: Key, entry: KeyEntry, page: KeptPage, blocks: &mut Blocks)
         requires entry { look self.old.shelf.objects key.object key.chunk ≡ Some entry }
         requires block { page.block < (table blocks.old).geometry.blocks }
         requires agree { CountsAgree (table blocks.old) self.old }

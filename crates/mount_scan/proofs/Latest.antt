@@ -1,201 +1,137 @@
--- The last page of each key is its newest.
-use Rattle.std.specs.Prelude.{◌≡◌, ◌<◌, ◌≤◌, ℕ, zero, suc, ◌+◌, List, [], ◌∷◌, ◌++◌, Some, length, take, slice_get, slice_set, Contains}
-use Rattle.std.specs.List.{AllPairs}
+-- The newest page of each key is left.
+use Rattle.std.specs.Prelude.{◌≡◌, ◌<◌, ℕ, ◌+◌, false, true, List, [], Option, length, Contains}
 use Rattle.std.proofs.Common.{refl, sym, ◌∙◌, ap, subst, inl, inr, arith, get_or}
-use Rattle.std.proofs.lemmas.Bool.{cases_eq, cases_lt, cases_order}
-use Rattle.std.proofs.lemmas.Option.{get_or_from_slice_get, slice_get_within, slice_get-get_or}
-use Rattle.std.proofs.lemmas.List.{take_more_set, length-set, get_or-set_other}
-use Rattle.std.proofs.lemmas.List.Elements.{Contains-append_left, Contains-push, Contains-push_cases, Contains-get_or}
-use Rattle.std.proofs.lemmas.List.Quantifiers.{all_pairs_push}
-use Rattle.nand_model.specs.Flash.{Flash}
+use Rattle.std.proofs.lemmas.Bool.{cases_eq, false≢true}
+use Rattle.std.proofs.lemmas.List.Elements.{Contains-get_or, All-contains}
+use Rattle.nand_model.specs.Flash.{Flash, IsWithin}
 use Rattle.nand_model.specs.Calls.{Device}
+use Rattle.nand_model.specs.Changes.{OnlyReads}
+use Rattle.nand_model.specs.declared.geometry.Geometry.{Geometry}
+use Rattle.page_tags.specs.declared.tag.Tag.{Tag}
 use Rattle.flash_tree.specs.Groups.{HasTag}
 use Rattle.flash_tree.specs.Newest.{Spot, Holds, IsAfter, IsNewest}
 use Rattle.flash_tree.specs.laws.Newest.{one_tag}
 use Rattle.flash_tree.specs.laws.Newest.{one_is_after}
-use Rattle.flash_tree.specs.laws.Order.{not_after_itself}
+use Rattle.flash_tree.specs.laws.Place.{same_flash, tag_placed}
 use Rattle.flash_tree.specs.declared.place.Found.{Found}
-use Rattle.flash_tree.specs.Places.{spot_of, IsKeyBefore}
-use Rattle.mount_scan.specs.Scanned.{AreCounted, AreNewest, TellsCounted, TellsNewest}
-use Rattle.mount_scan.specs.laws.Scan.{found_of, listed_spot, pair_at, not_before_itself}
-use Rattle.mount_scan.proofs.Ranked.{AreSorted}
-use Rattle.mount_scan.proofs.Tagged.{placed_among}
-use Rattle.mount_scan.specs.Keys.{HaveOneKey, IsSortedBefore, IsLastAt, IsLastOfKey, AreLastOfKeys, Gathers, AreLatest}
+use Rattle.flash_tree.specs.Places.{spot_of}
+use Rattle.found_pages.specs.Keys.{HaveOneKey, Thins, AreLatest}
+use Rattle.found_pages.specs.laws.Order.{not_after_on}
+use Rattle.mount_scan.specs.Scanned.{AreNewest, TellsCounted, TellsNewest}
+use Rattle.mount_scan.specs.laws.Scan.{found_of, listed_spot}
+use Rattle.mount_scan.specs.Runs.{AddsCounted}
+use Rattle.mount_scan.specs.Blocks.{AreTags}
+use Rattle.mount_scan.specs.Latest.{TellsBlock, HasLatestBelow}
+use Rattle.mount_scan.proofs.Tagged.{counted_told}
 
--- one index of a list has one page
-one_page : (list : List Found) (k : ℕ) (x y : Found) → slice_get list k ≡ Some x → slice_get list k ≡ Some y → x ≡ y
-one_page list k x y at_x at_y = let two : Some x ≡ Some y = sym at_x ∙ at_y in cc
+none_in : (f : Found) → Contains [] f → ⊥
+none_in f has = absurd (omega (arith, has.1))
 
-at_index : (list : List Found) (k l : ℕ) (x : Found) → k ≡ l → slice_get list k ≡ Some x → slice_get list l ≡ Some x
-at_index list k l x same at = subst (λ m. slice_get list m ≡ Some x) same at
+-- ---- one block
 
--- a page has an index
-index_of : (list : List Found) (x : Found) → Contains list x → (k : ℕ) × (slice_get list k ≡ Some x)
-index_of list x has = (has.0, subst (λ y. slice_get list has.0 ≡ Some y) has.2 (slice_get-get_or list has.0 x has.1))
-
-has_index : (list : List Found) (k : ℕ) (x : Found) → slice_get list k ≡ Some x → Contains list x
-has_index list k x at = (k, slice_get_within list k x at, get_or_from_slice_get list k x x at)
-
-key_before_on : (x y z : Found) → IsKeyBefore x y → IsSortedBefore y z → IsKeyBefore x z
-key_before_on x y z before then = elim then [
-  | inr same ↦ elim before [ inl lt ↦ inl (omega (arith, lt, same.0.0)) | inr rest ↦ inr (rest.0 ∙ same.0.0, omega (arith, rest.1, same.0.1)) ]
-  | inl after ↦ elim before [
-    | inl lt ↦ elim after [ inl more ↦ inl (omega (arith, lt, more)) | inr rest ↦ inl (omega (arith, lt, rest.0)) ]
-    | inr rest ↦ elim after [ inl more ↦ inl (omega (arith, more, rest.0)) | inr more ↦ inr (rest.0 ∙ more.0, omega (arith, rest.1, more.1)) ]
-  ]
-]
-
--- behind the last page of a key are later keys
-later_key : (list : List Found) (k l : ℕ) (x y : Found) → AllPairs IsSortedBefore list → IsLastAt list k → k < l → slice_get list k ≡ Some x → slice_get list l ≡ Some y → IsKeyBefore x y
-later_key list k l x y sorted ends lt at_k at_l =
-    let within : l < length list = slice_get_within list l y at_l in
-    let next : Found = get_or list (k + 1) x in
-    let at_next : slice_get list (k + 1) ≡ Some next = slice_get-get_or list (k + 1) x (omega (arith, lt, within)) in
-    let first : IsKeyBefore x next = elim (pair_at IsSortedBefore list k (k + 1) x next sorted (omega arith) at_k at_next) [
-      | inl before ↦ before
-      | inr same ↦ absurd (ends x next at_k at_next same.0)
-    ] in
-    elim (cases_eq (k + 1) l) [
-      | inl here ↦ subst (IsKeyBefore x) (one_page list l next y (at_index list (k + 1) l next here at_next) at_l) first
-      | inr ne ↦ key_before_on x next y first (pair_at IsSortedBefore list (k + 1) l next y sorted (omega (arith, lt, ne)) at_next at_l)
-    ]
-
--- the last page of its key is kept
-pub last_kept : (list : List Found) (i : ℕ) (x : Found) (kept : List Found) → AllPairs IsSortedBefore list → slice_get list i ≡ Some x → IsLastAt list i
-    → AreLastOfKeys list i kept → AreLastOfKeys list (i + 1) (kept ++ x ∷ [])
-last_kept list i x kept sorted at ends are = record {
-  each = λ f. (
-    λ has. elim (Contains-push_cases kept x f has) [
-      | inl was ↦ let is = (are.each f).0 was in record { index = is.index; before = omega (arith, is.before); here = is.here; last = is.last }
-      | inr same ↦ record { index = i; before = omega arith; here = subst (λ y. slice_get list i ≡ Some y) same at; last = ends }
-    ],
-    λ is. elim (cases_eq is.index i) [
-      | inr ne ↦ Contains-append_left kept (x ∷ []) f ((are.each f).1 (record { index = is.index; before = omega (arith, is.before, ne); here = is.here; last = is.last }))
-      | inl here ↦ subst (Contains (kept ++ x ∷ [])) (one_page list i x f at (at_index list is.index i f here is.here)) (Contains-push kept x)
-    ],
-  );
-  order = all_pairs_push IsKeyBefore kept x are.order (λ k d lt.
-      let is = (are.each (get_or kept k d)).0 (Contains-get_or kept k d lt) in
-      later_key list is.index i (get_or kept k d) x sorted is.last is.before is.here at);
-}
-
--- a page whose next has the same key is not
-pub last_passed : (list : List Found) (i : ℕ) (kept : List Found) → (IsLastAt list i → ⊥) → AreLastOfKeys list i kept → AreLastOfKeys list (i + 1) kept
-last_passed list i kept goes_on are = record {
-  each = λ f. (
-    λ has. let is = (are.each f).0 has in record { index = is.index; before = omega (arith, is.before); here = is.here; last = is.last },
-    λ is. elim (cases_eq is.index i) [
-      | inr ne ↦ (are.each f).1 (record { index = is.index; before = omega (arith, is.before, ne); here = is.here; last = is.last })
-      | inl here ↦ absurd (goes_on (subst (IsLastAt list) here is.last))
-    ],
-  );
-  order = are.order;
-}
-
--- a list that has a page where another has it
-same_there : (xs ys : List Found) (k : ℕ) (x : Found) → length ys ≡ length xs → ((d : Found) → get_or ys k d ≡ get_or xs k d) → slice_get xs k ≡ Some x → slice_get ys k ≡ Some x
-same_there xs ys k x len same at =
-    let within : k < length xs = slice_get_within xs k x at in
-    slice_get-get_or ys k x (omega (arith, within, len)) ∙ ap Some (same x ∙ get_or_from_slice_get xs k x x at)
-
--- the last page of its key is gathered
-pub gather_kept : (first list : List Found) (i kept : ℕ) (x : Found) → i < length list → slice_get list i ≡ Some x → IsLastAt list i → AllPairs IsSortedBefore first → Gathers first i list kept
-    → Gathers first (i + 1) (slice_set list kept x) (kept + 1)
-gather_kept first list i kept x lt at ends sorted are = record {
-  len = length-set list kept x ∙ are.len;
-  front = omega (arith, are.front);
-  last = subst (AreLastOfKeys first (i + 1)) (sym (take_more_set list kept x (omega (arith, are.front, lt)))) (last_kept first i x (take kept list) sorted
-      (same_there list first i x (sym are.len) (λ d. sym (are.rest i d (omega arith))) at)
-      (λ f g at_f at_g. ends f g
-      (same_there first list i f are.len (λ d. are.rest i d (omega arith)) at_f)
-      (same_there first list (i + 1) g are.len (λ d. are.rest (i + 1) d (omega arith)) at_g))
-      are.last);
-  rest = λ k d le. get_or-set_other list kept k x d (λ same. absurd (omega (arith, are.front, le, same))) ∙ are.rest k d (omega (arith, le));
-}
-
--- another stays
-pub gather_passed : (first list : List Found) (i kept : ℕ) → (IsLastAt list i → ⊥) → Gathers first i list kept → Gathers first (i + 1) list kept
-gather_passed first list i kept goes_on are = record {
-  len = are.len;
-  front = omega (arith, are.front);
-  last = last_passed first i (take kept list) (λ ends. goes_on (λ f g at_f at_g. ends f g
-      (same_there list first i f (sym are.len) (λ d. sym (are.rest i d (omega arith))) at_f)
-      (same_there list first (i + 1) g (sym are.len) (λ d. sym (are.rest (i + 1) d (omega arith))) at_g))) are.last;
-  rest = λ k d le. are.rest k d (omega (arith, le));
-}
-
--- a page is the last of its key, or the last is found from the next one on
-last_or_next : (list : List Found) (k : ℕ) (x next : Found) → slice_get list k ≡ Some x → slice_get list (k + 1) ≡ Some next
-    → (y : Found) × IsLastOfKey list (length list) y × HaveOneKey y next → (y : Found) × IsLastOfKey list (length list) y × HaveOneKey y x
-last_or_next list k x next at at_next rest = elim (cases_eq x.tag.object next.tag.object) [
-  | inr ne ↦ here (λ one. ne one.0)
-  | inl object ↦ elim (cases_eq x.tag.chunk next.tag.chunk) [
-    | inr ne ↦ here (λ one. ne one.1)
-    | inl chunk ↦ (rest.0, rest.1, (rest.2.0 ∙ sym object, rest.2.1 ∙ sym chunk))
-  ]
-] where
-  here : (HaveOneKey x next → ⊥) → (y : Found) × IsLastOfKey list (length list) y × HaveOneKey y x
-  here other = (
-    x,
+-- the pages that its tags tell
+pub one_block : (device : Device) (b : ℕ) (tags : List (Option Tag)) → IsWithin device.geometry.pages device.geometry.blocks device.flash → length tags ≡ device.geometry.pages
+    → (device.honest ≡ true → AreTags device.flash b tags) → (old new : List Found) → device.flash.bad b ≡ false → AddsCounted b tags (length tags) old new → old ≡ [] → TellsBlock device b new
+one_block device b tags within len told old new good adds empty =
+    let none : (f : Found) → Contains old f → ⊥ = λ f has. none_in f (subst (λ xs. Contains xs f) empty has) in
     record {
-      index = k;
-      before = slice_get_within list k x at;
-      here = at;
-      last = λ f g at_f at_g one. other (subst (λ u. HaveOneKey u next) (one_page list k f x at_f at) (subst (HaveOneKey f) (one_page list (k + 1) g next at_g at_next) one));
-    },
-    (refl, refl),
-  )
-
--- the page at the end of the list is the last of its key
-last_at_end : (list : List Found) (k : ℕ) (x : Found) → slice_get list k ≡ Some x → length list ≤ k + 1 → (y : Found) × IsLastOfKey list (length list) y × HaveOneKey y x
-last_at_end list k x at past = (
-  x,
-  record {
-    index = k;
-    before = slice_get_within list k x at;
-    here = at;
-    last = λ f g at_f at_g one. let within : k + 1 < length list = slice_get_within list (k + 1) g at_g in absurd (omega (arith, within, past));
-  },
-  (refl, refl),
-)
-
--- from each page on there is the last of its key
-last_from : (list : List Found) (left k : ℕ) (x : Found) → slice_get list k ≡ Some x → length list ≤ k + 1 + left
-    → (y : Found) × IsLastOfKey list (length list) y × HaveOneKey y x
-last_from list zero k x at near = last_at_end list k x at (omega (arith, near))
-last_from list (suc left) k x at near = elim (cases_lt (k + 1) (length list)) [
-  | inr past ↦ last_at_end list k x at past
-  | inl lt ↦
-      let next : Found = get_or list (k + 1) x in
-      let at_next : slice_get list (k + 1) ≡ Some next = slice_get-get_or list (k + 1) x lt in
-      last_or_next list k x next at at_next (last_from list left (k + 1) next at_next (omega (arith, near)))
-]
-
--- the last pages of the keys of a sorted list are the newest
-pub latest_of : (list sorted kept : List Found) → AreSorted list sorted → AreLastOfKeys sorted (length sorted) kept → AreLatest list kept
-latest_of list sorted kept order are = record {
-  among = λ f has. let is = (are.each f).0 has in (order.each f).0 (has_index sorted is.index f is.here);
-  last = λ f g has_f has_g one after.
-      let is = (are.each f).0 has_f in
-      let at = index_of sorted g ((order.each g).1 has_g) in
-      elim (cases_order at.0 is.index) [
-        | inl same ↦ not_after_itself (spot_of f) (subst (λ x. IsAfter (spot_of x) (spot_of f)) (one_page sorted is.index g f (at_index sorted at.0 is.index g same at.1) is.here) after)
-        | inr (inl lt) ↦ elim (pair_at IsSortedBefore sorted at.0 is.index g f order.order lt at.1 is.here) [
-          | inl before ↦ not_before_itself g f before one.0 one.1
-          | inr same ↦ same.1 after
-        ]
-        | inr (inr gt) ↦ not_before_itself f g (later_key sorted is.index at.0 f g order.order is.last gt is.here at.1) (sym one.0) (sym one.1)
+      placed = λ f has. elim ((adds.each f).0 has) [
+        | inl was ↦ absurd (none f was)
+        | inr is ↦ (is.block, omega (arith, is.before, len))
       ];
-  some = λ g has.
-      let at = index_of sorted g ((order.each g).1 has) in
-      let last = last_from sorted (length sorted) at.0 g at.1 (omega arith) in
-      (last.0, (are.each last.0).1 last.1, last.2);
-  order = are.order;
+      exact = λ honest f. (
+        λ has. elim ((adds.each f).0 has) [
+          | inl was ↦ absurd (none f was)
+          | inr is ↦ (counted_told device.flash b device.geometry.pages device.geometry.blocks tags within len (told honest) f good).1 is
+        ],
+        λ holds. (adds.each f).1 (inr ((counted_told device.flash b device.geometry.pages device.geometry.blocks tags within len (told honest) f good).0 holds)),
+      );
+    }
+
+-- a bad one has none
+pub no_block : (device : Device) (b : ℕ) (list : List Found) → device.flash.bad b ≡ true → list ≡ [] → TellsBlock device b list
+no_block device b list bad empty =
+    let none : (f : Found) → Contains list f → ⊥ = λ f has. none_in f (subst (λ xs. Contains xs f) empty has) in
+    record {
+      placed = λ f has. absurd (none f has);
+      exact = λ honest f. (
+        λ has. absurd (none f has),
+        λ holds. absurd (false≢true (sym holds.1.whole.good ∙ ap device.flash.bad (sym holds.1.block ∙ holds.0) ∙ bad)),
+      );
+    }
+
+-- ---- block after block
+
+pub latest_none : (device : Device) (list : List Found) → ((f : Found) → Contains list f → ⊥) → HasLatestBelow device 0 list
+latest_none device list none = record {
+  placed = λ f has. absurd (none f has);
+  held = λ honest f has. absurd (none f has);
+  some = λ honest g lt. absurd (omega (arith, lt));
 }
 
-module _ (f : Flash) (counted newest : List Found) (are : AreCounted f counted) (latest : AreLatest counted newest) where
-  counts : (o c : ℕ) (s : Spot) → Holds f o c s → Contains counted (found_of s)
-  counts o c s holds = (listed_spot counted s).0 ((are.each s).0 (record {
+pub latest_block : (device : Device) (b : ℕ) (one old new : List Found) → TellsBlock device b one → Thins one old new → HasLatestBelow device b old → HasLatestBelow device (b + 1) new
+latest_block device b one old new tells thins below = record {
+  placed = λ f has. elim (thins.among f has) [
+    | inl was ↦ let is = below.placed f was in (omega (arith, is.0), is.1)
+    | inr is ↦ let at = tells.placed f is in (omega (arith, at.0), at.1)
+  ];
+  held = λ honest f has. elim (thins.among f has) [
+    | inl was ↦ below.held honest f was
+    | inr is ↦ ((tells.exact honest f).0 is).1
+  ];
+  some = λ honest g lt holds. elim (cases_eq g.block b) [
+    | inl here ↦ thins.some g (inr ((tells.exact honest g).1 (here, holds)))
+    | inr ne ↦
+        let was = below.some honest g (omega (arith, lt, ne)) holds in
+        let then = thins.some was.0 (inl was.1) in
+        (then.0, then.1, (then.2.0 ∙ was.2.0, then.2.1 ∙ was.2.1), not_after_on (spot_of g) (spot_of was.0) (spot_of then.0) was.3 then.3)
+  ];
+}
+
+-- after some reads the same is
+pub latest_on : (a b : Device) (k : ℕ) (list : List Found) → OnlyReads a b → HasLatestBelow a k list → HasLatestBelow b k list
+latest_on a b k list reads below = record {
+  placed = λ f has. let is = below.placed f has in (is.0, subst (λ (g : Geometry). f.page < g.pages) (sym reads.lasts.geometry) is.1);
+  held = λ honest f has.
+      let was : a.honest ≡ true = sym reads.lasts.honest ∙ honest in
+      subst (λ fl. Holds fl f.tag.object f.tag.chunk (spot_of f)) (sym (same_flash a b reads was)) (below.held was f has);
+  some = λ honest g lt holds.
+      let was : a.honest ≡ true = sym reads.lasts.honest ∙ honest in
+      below.some was g lt (subst (λ fl. Holds fl g.tag.object g.tag.chunk (spot_of g)) (same_flash a b reads was) holds);
+}
+
+pub latest_back : (a b : Device) (k : ℕ) (list : List Found) → OnlyReads a b → HasLatestBelow b k list → HasLatestBelow a k list
+latest_back a b k list reads below = record {
+  placed = λ f has. let is = below.placed f has in (is.0, subst (λ (g : Geometry). f.page < g.pages) reads.lasts.geometry is.1);
+  held = λ honest f has. subst (λ fl. Holds fl f.tag.object f.tag.chunk (spot_of f)) (same_flash a b reads honest) (below.held (reads.lasts.honest ∙ honest) f has);
+  some = λ honest g lt holds. below.some (reads.lasts.honest ∙ honest) g lt (subst (λ fl. Holds fl g.tag.object g.tag.chunk (spot_of g)) (sym (same_flash a b reads honest)) holds);
+}
+
+-- what is left of all pages that count
+pub latest_counted : (device : Device) (counted old new : List Found) → TellsCounted device counted → ((f : Found) → Contains old f → ⊥) → Thins counted old new
+    → HasLatestBelow device device.geometry.blocks new
+latest_counted device counted old new tells none thins = record {
+  placed = λ f has. elim (thins.among f has) [
+    | inl was ↦ absurd (none f was)
+    | inr is ↦ All-contains (λ x. (x.block < device.geometry.blocks) × (x.page < device.geometry.pages)) counted f tells.placed is
+  ];
+  held = λ honest f has. elim (thins.among f has) [
+    | inl was ↦ absurd (none f was)
+    | inr is ↦ ((tells.exact honest).each (spot_of f)).1 ((listed_spot counted (spot_of f)).1 is)
+  ];
+  some = λ honest g lt holds. thins.some g (inr ((listed_spot counted (spot_of g)).0 (((tells.exact honest).each (spot_of g)).0 holds)));
+}
+
+-- ---- all blocks
+
+module _ (device : Device) (honest : device.honest ≡ true) (within : IsWithin device.geometry.pages device.geometry.blocks device.flash) (list newest : List Found)
+    (below : HasLatestBelow device device.geometry.blocks list) (latest : AreLatest list newest) where
+  abbrev flash : Flash
+  flash = device.flash
+
+  -- of a page that counts one is left of its key that it does not come after
+  left : (o c : ℕ) (s : Spot) → Holds flash o c s → (f : Found) × Contains list f × HaveOneKey f (found_of s) × (IsAfter s (spot_of f) → ⊥)
+  left o c s holds = below.some honest (found_of s) (tag_placed device.geometry.pages device.geometry.blocks flash s.block s.page s.tag within holds.has).0 (record {
     group = holds.group;
     whole = holds.whole;
     index = holds.index;
@@ -205,11 +141,11 @@ module _ (f : Flash) (counted newest : List Found) (are : AreCounted f counted) 
     has = holds.has;
     object = refl;
     chunk = refl;
-  }))
+  })
 
-  kept_is_newest : (x : Found) (o c : ℕ) → Contains newest x → x.tag.object ≡ o → x.tag.chunk ≡ c → IsNewest f o c (spot_of x)
+  kept_is_newest : (x : Found) (o c : ℕ) → Contains newest x → x.tag.object ≡ o → x.tag.chunk ≡ c → IsNewest flash o c (spot_of x)
   kept_is_newest x o c has object chunk =
-      let holds : Holds f x.tag.object x.tag.chunk (spot_of x) = (are.each (spot_of x)).1 ((listed_spot counted (spot_of x)).1 (latest.among x has)) in
+      let holds : Holds flash x.tag.object x.tag.chunk (spot_of x) = below.held honest x (latest.among x has) in
       record {
         holds = record {
           group = holds.group;
@@ -222,22 +158,26 @@ module _ (f : Flash) (counted newest : List Found) (are : AreCounted f counted) 
           object = object;
           chunk = chunk;
         };
-        last = λ t other after. latest.last x (found_of t) has (counts o c t other) (other.object ∙ sym object, other.chunk ∙ sym chunk) after;
+        last = λ t other after.
+            let some = left o c t other in
+            not_after_on t (spot_of some.0) (spot_of x) some.3
+            (latest.last x some.0 has some.1 (some.2.0 ∙ other.object ∙ sym object, some.2.1 ∙ other.chunk ∙ sym chunk)) after;
       }
 
-  newest_is_kept : (o c : ℕ) (s : Spot) → IsNewest f o c s → Contains newest (found_of s)
+  newest_is_kept : (o c : ℕ) (s : Spot) → IsNewest flash o c s → Contains newest (found_of s)
   newest_is_kept o c s is =
-      let some = latest.some (found_of s) (counts o c s is.holds) in
+      let first = left o c s is.holds in
+      let some = latest.some first.0 first.1 in
       let x : Found = some.0 in
-      let kept : IsNewest f o c (spot_of x) = kept_is_newest x o c some.1 (some.2.0 ∙ is.holds.object) (some.2.1 ∙ is.holds.chunk) in
+      let kept : IsNewest flash o c (spot_of x) = kept_is_newest x o c some.1 (some.2.0 ∙ first.2.0 ∙ is.holds.object) (some.2.1 ∙ first.2.1 ∙ is.holds.chunk) in
       let place : (x.block ≡ s.block) × (x.page ≡ s.page) = one_is_after (spot_of x) s (is.last (spot_of x) kept.holds) (kept.last s is.holds) in
-      let tag : x.tag ≡ s.tag = one_tag f s.block s.page x.tag s.tag
-      (subst (λ b. HasTag f b s.page x.tag) place.0 (subst (λ p. HasTag f x.block p x.tag) place.1 kept.holds.has)) is.holds.has in
+      let tag : x.tag ≡ s.tag = one_tag flash s.block s.page x.tag s.tag
+      (subst (λ b. HasTag flash b s.page x.tag) place.0 (subst (λ p. HasTag flash x.block p x.tag) place.1 kept.holds.has)) is.holds.has in
       let same : x ≡ found_of s = λ i. record { block = place.0 i; page = place.1 i; tag = tag i } in
       subst (Contains newest) same some.1
 
-  -- the latest of those that count are the newest pages
-  newest_pages : AreNewest f newest
+  -- the latest of what is left are the newest pages
+  newest_pages : AreNewest flash newest
   newest_pages = record {
     each = λ o c s. (
       λ is. ((listed_spot newest s).1 (newest_is_kept o c s is), is.holds.object, is.holds.chunk),
@@ -246,10 +186,11 @@ module _ (f : Flash) (counted newest : List Found) (are : AreCounted f counted) 
     order = latest.order;
   }
 
--- of what is told of the pages that count, what is told of the newest
-pub tells_newest : (device : Device) (counted newest : List Found) → TellsCounted device counted → AreLatest counted newest → TellsNewest device newest
-tells_newest device counted newest tells latest = record {
-  placed = placed_among device.geometry.blocks device.geometry.pages counted newest latest.among tells.placed;
+-- of what is left of all blocks, what is told of the newest pages
+pub tells_newest : (device : Device) (list newest : List Found) → IsWithin device.geometry.pages device.geometry.blocks device.flash → HasLatestBelow device device.geometry.blocks list → AreLatest list newest
+    → TellsNewest device newest
+tells_newest device list newest within below latest = record {
+  placed = λ k d lt. below.placed (get_or newest k d) (latest.among (get_or newest k d) (Contains-get_or newest k d lt));
   order = latest.order;
-  exact = λ honest. newest_pages device.flash counted newest (tells.exact honest) latest;
+  exact = λ honest. newest_pages device honest within list newest below latest;
 }

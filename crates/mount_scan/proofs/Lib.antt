@@ -2,5 +2,4 @@ pub mod Reading
 pub mod Adding
 pub mod Tagged
 pub mod Raised
-pub mod Ranked
 pub mod Latest

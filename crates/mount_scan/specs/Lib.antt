@@ -2,4 +2,4 @@ pub mod Scanned
 pub mod laws
 pub mod Runs
 pub mod Blocks
-pub mod Keys
+pub mod Latest

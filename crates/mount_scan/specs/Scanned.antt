@@ -6,7 +6,8 @@ use Rattle.nand_model.specs.Calls.{Device}
 use Rattle.nand_model.specs.Changes.{OnlyReads}
 use Rattle.flash_tree.specs.Newest.{Spot, Holds, IsNewest}
 use Rattle.flash_tree.specs.declared.place.Found.{Found}
-use Rattle.flash_tree.specs.Places.{spot_of, IsKeyBefore}
+use Rattle.flash_tree.specs.Places.{spot_of}
+use Rattle.found_pages.specs.Keys.{HaveOtherKeys}
 use Rattle.mount_scan.specs.declared.fault.ScanFault.{ScanFault}
 use Rattle.mount_scan.specs.declared.fault.ScanFault.TheVariants as faults
 
@@ -19,10 +20,10 @@ pub record AreCounted (flash : Flash) (list : List Found) : Type 0 where
   pub each : (s : Spot) → Holds flash s.tag.object s.tag.chunk s ↔ Contains (map spot_of list) s
   pub order : AllPairs IsPlaceBefore list
 
--- exactly the newest pages of all keys, in the strict order of these, so that each key stands once
+-- exactly the newest pages of all keys, in which each key stands once
 pub record AreNewest (flash : Flash) (list : List Found) : Type 0 where
   pub each : (o c : ℕ) (s : Spot) → IsNewest flash o c s ↔ (Contains (map spot_of list) s × (s.tag.object ≡ o) × (s.tag.chunk ≡ c))
-  pub order : AllPairs IsKeyBefore list
+  pub order : AllPairs HaveOtherKeys list
 
 -- all places are on a device of so many blocks of so many pages
 abbrev pub ArePlaced : (blocks pages : ℕ) → List Found → Type 0
@@ -34,10 +35,10 @@ pub record TellsCounted (device : Device) (list : List Found) : Type 0 where
   pub order : AllPairs IsPlaceBefore list
   pub exact : device.honest ≡ true → AreCounted device.flash list
 
--- What is told of the newest pages: of each device places on it whose keys rise, and of an honest one exactly those.
+-- What is told of the newest pages: of each device places on it, each key once, and of an honest one exactly those.
 pub record TellsNewest (device : Device) (list : List Found) : Type 0 where
   pub placed : ArePlaced device.geometry.blocks device.geometry.pages list
-  pub order : AllPairs IsKeyBefore list
+  pub order : AllPairs HaveOtherKeys list
   pub exact : device.honest ≡ true → AreNewest device.flash list
 
 -- how many pages the good ones of the first b blocks have

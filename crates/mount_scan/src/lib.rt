@@ -6,7 +6,6 @@ mod block;
 mod fault;
 mod group;
 mod law;
-mod newest;
 mod raise;
 mod whole;
 

@@ -1,17 +1,19 @@
 // A scan of all blocks.
-ghost use Rattle.std.specs.Prelude.{◌≡◌, ◌+◌, ◌<◌, true, IfOk, OnOk, if◌then◌else◌};
+ghost use Rattle.std.specs.Prelude.{◌≡◌, ◌+◌, ◌<◌, [], true, IfOk, OnOk, if◌then◌else◌};
 ghost use Rattle.flash_tree.specs.Newest.{AreGreatest};
 ghost use Rattle.flash_tree.specs.Places.{numbers_of};
 ghost use Rattle.mount_scan.specs.Scanned.{TellsCounted, TellsNewest, ReadsEach, good_pages};
 ghost use Rattle.mount_scan.specs.Blocks.{TellsBelow, AreGreatestBelow};
+ghost use Rattle.mount_scan.specs.Latest.{TellsBlock, HasLatestBelow};
+ghost use Rattle.found_pages.specs.Listed.{listed};
 
 use crate::answer::{NewestScan, Scan};
 use crate::block::read_tags;
 use crate::fault::ScanFault;
 use crate::group::add_counted;
-use crate::newest::keep_newest;
 use crate::raise::raised_by;
 use flash_tree::{Found, TagNumbers};
+use found_pages::FoundPages;
 use nand_model::Nand;
 use page_tags::Tag;
 use std::alloc::Global;
@@ -21,6 +23,23 @@ use std::alloc::Global;
 struct Seen {
     counted: Vec<Found>,
     numbers: TagNumbers,
+}
+
+impl Seen {
+    /// No block was read.
+    fn new(alloc: Global) -> Seen
+        ensures counted { result.counted.items ≡ [] }
+        ensures numbers { numbers_of result.numbers ≡ record { version = 0; group = 0; seq = 0 } }
+    {
+        Seen {
+            counted: Vec::new(alloc),
+            numbers: TagNumbers {
+                version: 0,
+                group: 0,
+                seq: 0,
+            },
+        }
+    }
 }
 
 /// Adds what stands in a block. Its tags are read into `tags`.
@@ -34,6 +53,7 @@ fn scan_block<N: Nand>(
     ensures reads { ReadsEach (if (N.state device.old).flash.bad block then 0 else (N.state device.old).geometry.pages) (N.state device.old) (N.state device.new) result }
     ensures counted { TellsBelow (N.state device.old) block seen.old.counted.items
         → OnOk result (TellsBelow (N.state device.old) (block + 1) seen.new.counted.items) }
+    ensures alone { seen.old.counted.items ≡ [] → OnOk result (TellsBlock (N.state device.old) block seen.new.counted.items) }
     ensures numbers { (N.state device.old).honest ≡ true → AreGreatestBelow (N.state device.old).flash block (numbers_of seen.old.numbers)
         → OnOk result (AreGreatestBelow (N.state device.old).flash (block + 1) (numbers_of seen.new.numbers)) }
 {
@@ -53,18 +73,48 @@ fn scan_blocks<N: Nand>(alloc: Global, device: &mut N) -> Result<Seen, ScanFault
     ensures numbers { (N.state device.old).honest ≡ true → IfOk result (λ seen. AreGreatest (N.state device.old).flash (numbers_of seen.numbers)) }
 {
     let mut tags = Vec::new(alloc);
-    let mut seen = Seen {
-        counted: Vec::new(alloc),
-        numbers: TagNumbers {
-            version: 0,
-            group: 0,
-            seq: 0,
-        },
-    };
+    let mut seen = Seen::new(alloc);
     for block in 0..device.geometry().blocks() {
         scan_block(device, block, &mut tags, &mut seen)?;
     }
     Ok(seen)
+}
+
+/// Adds the pages of a block to those that were found. Its tags are read into `tags`, and its pages into `seen`.
+fn find_block<N: Nand>(
+    device: &mut N,
+    block: u32,
+    tags: &mut Vec<Option<Tag>>,
+    seen: &mut Seen,
+    found: &mut FoundPages,
+) -> Result<(), ScanFault>
+    requires { block < (N.state device.old).geometry.blocks }
+    ensures reads { ReadsEach (if (N.state device.old).flash.bad block then 0 else (N.state device.old).geometry.pages) (N.state device.old) (N.state device.new) result }
+    ensures found { HasLatestBelow (N.state device.old) block (listed found.old)
+        → OnOk result (HasLatestBelow (N.state device.old) (block + 1) (listed found.new)) }
+    ensures numbers { (N.state device.old).honest ≡ true → AreGreatestBelow (N.state device.old).flash block (numbers_of seen.old.numbers)
+        → OnOk result (AreGreatestBelow (N.state device.old).flash (block + 1) (numbers_of seen.new.numbers)) }
+{
+    seen.counted.clear();
+    scan_block(device, block, tags, seen)?;
+    found.add_all(&seen.counted)?;
+    Ok(())
+}
+
+/// The newest pages of all blocks, among which others may be, and the greatest numbers.
+fn find_blocks<N: Nand>(alloc: Global, device: &mut N) -> Result<NewestScan, ScanFault>
+    ensures reads { ReadsEach (good_pages (N.state device.old).flash (N.state device.old).geometry.pages (N.state device.old).geometry.blocks) (N.state device.old) (N.state device.new) result }
+    ensures found { IfOk result (λ scan. HasLatestBelow (N.state device.old) (N.state device.old).geometry.blocks (listed scan.newest)) }
+    ensures numbers { (N.state device.old).honest ≡ true → IfOk result (λ scan. AreGreatest (N.state device.old).flash (numbers_of scan.numbers)) }
+{
+    let mut tags = Vec::new(alloc);
+    let mut seen = Seen::new(alloc);
+    let mut newest = FoundPages::new(alloc)?;
+    for block in 0..device.geometry().blocks() {
+        find_block(device, block, &mut tags, &mut seen, &mut newest)?;
+    }
+    let numbers = seen.numbers;
+    Ok(NewestScan { newest, numbers })
 }
 
 /// Finds the pages that count, the newest of each key and the greatest numbers. Each tag of a good block is read once,
@@ -74,12 +124,13 @@ fn scan_blocks<N: Nand>(alloc: Global, device: &mut N) -> Result<Seen, ScanFault
 pub fn scan<N: Nand>(alloc: Global, device: &mut N) -> Result<Scan, ScanFault>
     ensures reads { ReadsEach (good_pages (N.state device.old).flash (N.state device.old).geometry.pages (N.state device.old).geometry.blocks) (N.state device.old) (N.state device.new) result }
     ensures counted { IfOk result (λ scan. TellsCounted (N.state device.old) scan.counted.items) }
-    ensures newest { IfOk result (λ scan. TellsNewest (N.state device.old) scan.newest.items) }
+    ensures newest { IfOk result (λ scan. TellsNewest (N.state device.old) (listed scan.newest)) }
     ensures numbers { (N.state device.old).honest ≡ true → IfOk result (λ scan. AreGreatest (N.state device.old).flash (numbers_of scan.numbers)) }
 {
     let seen = scan_blocks(alloc, device)?;
-    let mut newest = Vec::from_slice(alloc, &seen.counted)?;
-    keep_newest(&mut newest);
+    let mut newest = FoundPages::new(alloc)?;
+    newest.add_all(&seen.counted)?;
+    newest.keep_newest();
     Ok(Scan {
         counted: seen.counted,
         newest,
@@ -87,18 +138,14 @@ pub fn scan<N: Nand>(alloc: Global, device: &mut N) -> Result<Scan, ScanFault>
     })
 }
 
-/// What `scan` finds, without the list of the pages that count, so that it takes half the memory. A mount needs no
-/// more.
+/// What `scan` finds, without the list of the pages that count, and in less memory: while it goes on, pages are given up that
+/// are not the newest of their keys. A mount needs no more.
 pub fn scan_newest<N: Nand>(alloc: Global, device: &mut N) -> Result<NewestScan, ScanFault>
     ensures reads { ReadsEach (good_pages (N.state device.old).flash (N.state device.old).geometry.pages (N.state device.old).geometry.blocks) (N.state device.old) (N.state device.new) result }
-    ensures newest { IfOk result (λ scan. TellsNewest (N.state device.old) scan.newest.items) }
+    ensures newest { IfOk result (λ scan. TellsNewest (N.state device.old) (listed scan.newest)) }
     ensures numbers { (N.state device.old).honest ≡ true → IfOk result (λ scan. AreGreatest (N.state device.old).flash (numbers_of scan.numbers)) }
 {
-    let Seen {
-        counted: mut newest,
-        numbers,
-    } = scan_blocks(alloc, device)?;
-    keep_newest(&mut newest);
-    newest.shrink_to_fit();
-    Ok(NewestScan { newest, numbers })
+    let mut scan = find_blocks(alloc, device)?;
+    scan.newest.keep_newest();
+    Ok(scan)
 }

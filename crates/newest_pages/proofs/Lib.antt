@@ -1,3 +1,4 @@
 pub mod Noting
+pub mod Buckets
 pub mod Tables
 pub mod Data

@@ -51,13 +51,14 @@ entry_kept f t t' sets b = elim (cases_eq b f.block) [
 
 -- a page whose seq becomes its block's
 pub notes_more : (list : List Found) (n : ℕ) (old t t' : Table) (f : Found) → slice_get list n ≡ Some f → Sets f.block (record (t.entry f.block) { seq = f.tag.seq }) t t'
-    → t'.open_block ≡ t.open_block → t'.next_seq ≡ t.next_seq → Notes list n old t → Notes list (n + 1) old t'
-notes_more list n old t t' f at sets open_same seq_same notes = record {
+    → t'.open_block ≡ t.open_block → t'.checkpoint ≡ t.checkpoint → t'.next_seq ≡ t.next_seq → Notes list n old t → Notes list (n + 1) old t'
+notes_more list n old t t' f at sets open_same noted seq_same notes = record {
   only = record {
     bad = λ b. entry_bad f t t' sets b ∙ notes.only.bad b;
     kept = λ b. entry_kept f t t' sets b ∙ notes.only.kept b;
     geometry = sets.geometry ∙ notes.only.geometry;
     open_block = open_same ∙ notes.only.open_block;
+    checkpoint = noted ∙ notes.only.checkpoint;
     next_group = sets.next_group ∙ notes.only.next_group;
     next_seq = seq_same ∙ notes.only.next_seq;
   };
@@ -83,6 +84,6 @@ notes_more list n old t t' f at sets open_same seq_same notes = record {
 pub notes_one : (list : List Found) (n : ℕ) (old t t' : Table) (f : Found) → slice_get list n ≡ Some f → NotesOne f t t' → Notes list n old t → Notes list (n + 1) old t'
 notes_one list n old t t' f at one notes = elim (cases_order f.tag.seq t.next_seq) [
   | inl same ↦ subst (Notes list (n + 1) old) (sym (one.same (omega (arith, same)))) (notes_skip list n old t f at (omega (arith, same)) notes)
-  | inr (inl lt) ↦ notes_more list n old t t' f at (one.sets lt) one.open_block one.next_seq notes
+  | inr (inl lt) ↦ notes_more list n old t t' f at (one.sets lt) one.open_block one.checkpoint one.next_seq notes
   | inr (inr gt) ↦ subst (Notes list (n + 1) old) (sym (one.same (omega (arith, gt)))) (notes_skip list n old t f at (omega (arith, gt)) notes)
 ]

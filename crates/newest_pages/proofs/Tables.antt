@@ -32,12 +32,13 @@ use Rattle.flash_tree.specs.laws.Place.{same_flash}
 
 -- a table without marks, where there are no numbers left
 pub blank_tables : (d : Device) (n : Numbers) (g : Geometry) (r : Result Blocks AllocError) → (AreLeft n → ⊥) → g ≡ d.geometry
-    → IfOk r (λ blocks. table blocks ≡ record { geometry = g; entry = λ b. blank; open_block = None; next_seq = 1; next_group = 1 })
+    → IfOk r (λ blocks. table blocks ≡ record { geometry = g; entry = λ b. blank; open_block = None; checkpoint = None; next_seq = 1; next_group = 1 })
     → IfOk r (λ blocks. IsTableOf d n (table blocks))
 blank_tables d n g (Err e) none same made = tt
 blank_tables d n g (Ok blocks) none same made = subst (λ (t : Table). IsTableOf d n t) (sym made) (record {
   geometry = same;
   closed = refl;
+  checkpoint = refl;
   none = λ b. refl;
   ready = λ left. absurd (none left);
   group = λ left. absurd (none left);
@@ -45,7 +46,7 @@ blank_tables d n g (Ok blocks) none same made = subst (λ (t : Table). IsTableOf
 })
 
 -- and no block of it was ever taken
-pub blank_seqs : (g : Geometry) (r : Result Blocks AllocError) → IfOk r (λ blocks. table blocks ≡ record { geometry = g; entry = λ b. blank; open_block = None; next_seq = 1; next_group = 1 })
+pub blank_seqs : (g : Geometry) (r : Result Blocks AllocError) → IfOk r (λ blocks. table blocks ≡ record { geometry = g; entry = λ b. blank; open_block = None; checkpoint = None; next_seq = 1; next_group = 1 })
     → IfOk r (λ blocks. (b : ℕ) → ((table blocks).entry b).seq ≡ 0)
 blank_seqs g (Err e) made = tt
 blank_seqs g (Ok blocks) made = λ b. ap (λ (t : Table). (t.entry b).seq) made
@@ -68,12 +69,6 @@ have_names d list n tells honest greatest i f at =
     let good : d.flash.bad f.block ≡ false = ap d.flash.bad held.block ∙ held.whole.good in
     let above = greatest.above f.block f.page f.tag good held.has in
     record { object = tag.object; chunk = tag.chunk; version = (tag.version.0, omega (arith, above, tag.version)) }
-
-pub names_same : (n : ℕ) (a b : List Found) → a ≡ b → HaveNames n a → HaveNames n b
-names_same n a b same names = subst (HaveNames n) same names
-
-pub notes_same : (a b : List Found) (t t' : Table) (v : ℕ) → a ≡ b → NotesSeq a (length a) t t' v → NotesSeq b (length b) t t' v
-notes_same a b t t' v same notes = subst (λ (fs : List Found). NotesSeq fs (length fs) t t' v) same notes
 
 -- ---- what was found is kept
 
@@ -213,6 +208,7 @@ counted_ready d t t' before after closed recounts ready = record {
   geometry = recounts.geometry ∙ ready.geometry;
   marks = λ b. recounts.bad b ∙ ready.marks b;
   open_block = λ o is. absurd (let two : None ≡ Some o = sym closed ∙ sym recounts.open_block ∙ is in cc);
+  waits = λ c is. let was = ready.waits c (sym recounts.checkpoint ∙ is) in record { within = was.within; good = was.good; closed = recounts.open_block ∙ closed };
   numbers = (subst (λ k. 1 ≤ k) (sym recounts.next_group) ready.numbers.0, subst (λ k. 1 ≤ k) (sym recounts.next_seq) ready.numbers.1);
   below = λ honest b p tag good has.
       let was = ready.below honest b p tag good has in
@@ -225,6 +221,7 @@ noted_ready d t t' closed only ready = record {
   geometry = only.geometry ∙ ready.geometry;
   marks = λ b. only.bad b ∙ ready.marks b;
   open_block = λ o is. absurd (let two : None ≡ Some o = sym closed ∙ sym only.open_block ∙ is in cc);
+  waits = λ c is. let was = ready.waits c (sym only.checkpoint ∙ is) in record { within = was.within; good = was.good; closed = only.open_block ∙ closed };
   numbers = (subst (λ k. 1 ≤ k) (sym only.next_group) ready.numbers.0, subst (λ k. 1 ≤ k) (sym only.next_seq) ready.numbers.1);
   below = λ honest b p tag good has.
       let was = ready.below honest b p tag good has in
@@ -236,6 +233,7 @@ pub noted_table : (d : Device) (n : Numbers) (t t' : Table) → OnlySeqs t t' �
 noted_table d n t t' only is = record {
   geometry = only.geometry ∙ is.geometry;
   closed = only.open_block ∙ is.closed;
+  checkpoint = only.checkpoint ∙ is.checkpoint;
   none = λ b. only.kept b ∙ is.none b;
   ready = λ left. noted_ready d t t' is.closed only (is.ready left);
   group = λ left. only.next_group ∙ is.group left;
@@ -291,6 +289,7 @@ opened d list x t t' n tells greatest names is seqs indexes counts recounts = re
   counts = counts;
   geometry = recounts.geometry ∙ is.geometry;
   closed = recounts.open_block ∙ is.closed;
+  checkpoint = recounts.checkpoint ∙ is.checkpoint;
   shown = is_shown list x indexes;
   unbuffered = not_buffered list x indexes;
   within = lies_within list x indexes d tells;

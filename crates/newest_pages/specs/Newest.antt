@@ -1,6 +1,6 @@
 -- The newest pages as a store of pages.
 -- From: this project.
-use Rattle.std.specs.Prelude.{true, false, not, ◌||◌, List, ℕ}
+use Rattle.std.specs.Prelude.{None, true, false, not, ◌||◌, List, ℕ}
 use Rattle.nand_model.specs.Calls.{Device}
 use Rattle.chunk_index.specs.declared.index.Index.{Index}
 use Rattle.pages.specs.Maps.{known_pages}
@@ -26,4 +26,5 @@ seen device x page = record {
   next = no_numbers;
   spare = 0;
   worn = true;
+  checkpoint = None;
 }

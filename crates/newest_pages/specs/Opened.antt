@@ -32,11 +32,12 @@ AreLeft n = (n.group < number_end) × (n.seq < number_end)
 abbrev pub kept_at : Spot → KeptPage
 kept_at s = record { block = s.block; page = s.page; version = s.tag.version }
 
--- A table of the device in which nothing is kept and no block is open. Where there are numbers left, it has the marks of
--- the device, and the next numbers are one above these.
+-- A table of the device in which nothing is kept, no block is open and none is noted for a checkpoint. Where there are numbers
+-- left, it has the marks of the device, and the next numbers are one above these.
 pub record IsTableOf (device : Device) (n : Numbers) (t : Table) : Type 0 where
   pub geometry : t.geometry ≡ device.geometry
   pub closed : t.open_block ≡ None
+  pub checkpoint : t.checkpoint ≡ None
   pub none : (b : ℕ) → (t.entry b).kept ≡ 0
   pub ready : AreLeft n → IsReady device t
   pub group : AreLeft n → t.next_group ≡ n.group + 1
@@ -48,6 +49,7 @@ pub record OnlySeqs (old new : Table) : Type 0 where
   pub kept : (b : ℕ) → (new.entry b).kept ≡ (old.entry b).kept
   pub geometry : new.geometry ≡ old.geometry
   pub open_block : new.open_block ≡ old.open_block
+  pub checkpoint : new.checkpoint ≡ old.checkpoint
   pub next_group : new.next_group ≡ old.next_group
   pub next_seq : new.next_seq ≡ old.next_seq
 
@@ -55,6 +57,7 @@ pub record OnlySeqs (old new : Table) : Type 0 where
 pub record NotesOne (f : Found) (old new : Table) : Type 0 where
   pub sets : f.tag.seq < old.next_seq → Sets f.block (record (old.entry f.block) { seq = f.tag.seq }) old new
   pub open_block : new.open_block ≡ old.open_block
+  pub checkpoint : new.checkpoint ≡ old.checkpoint
   pub next_seq : new.next_seq ≡ old.next_seq
   pub same : old.next_seq ≤ f.tag.seq → new ≡ old
 
@@ -83,12 +86,13 @@ HasItsSeq flash t b = (((o c : ℕ) (s : Spot) → IsNewest flash o c s → s.bl
     ⊎ ((o : ℕ) × (c : ℕ) × (s : Spot) × IsNewest flash o c s × (s.block ≡ b) × ((t.entry b).seq ≡ s.tag.seq))
 
 -- The newest page of each key is kept, with its place and version, and nothing else; what is kept is present; no block is
--- open. The counts of blocks are those of the index. Where there are numbers left, groups can be written: the next
+-- open, and none is noted for a checkpoint. The counts of blocks are those of the index. Where there are numbers left, groups can be written: the next
 -- numbers are one above the greatest, each kept page may be copied, and blocks have the numbers that their pages tell.
 pub record IsOpened (device : Device) (t : Table) (x : Index) (n : Numbers) : Type 0 where
   pub counts : CountsAgree t x
   pub geometry : t.geometry ≡ device.geometry
   pub closed : t.open_block ≡ None
+  pub checkpoint : t.checkpoint ≡ None
   pub shown : (o c : ℕ) → present x o c ≡ as_kept (kept_pages x o c)
   pub unbuffered : IsUnbuffered x
   pub within : (o c : ℕ) (p : KeptPage) → kept_pages x o c ≡ Some p → (p.block < device.geometry.blocks) × (p.page < device.geometry.pages)

@@ -1,9 +1,11 @@
 // Whether what a scan found may be copied.
 ghost use Rattle.std.specs.Prelude.{◌↔◌, IsTrue};
 ghost use Rattle.transactions.specs.Sources.{IsPageName, name_of};
+ghost use Rattle.found_pages.specs.Listed.{listed};
 ghost use Rattle.newest_pages.specs.Opened.{HaveNames};
 
 use flash_tree::Found;
+use found_pages::{BUCKETS, FoundPages};
 
 /// Whether the page's name may stand in a tag of the group of this number.
 fn has_name(found: Found, number: u64) -> bool
@@ -12,12 +14,24 @@ fn has_name(found: Found, number: u64) -> bool
     found.tag.object >= 1 && found.tag.version >= 1 && found.tag.version <= number
 }
 
-/// Whether this is so of each page.
-pub(crate) fn have_names(list: &[Found], number: u64) -> bool
+/// Whether this is so of each page of a list.
+fn are_named(list: &[Found], number: u64) -> bool
     ensures { IsTrue result ↔ HaveNames number list.now }
 {
     for found in list {
         if !has_name(*found, number) {
+            return false;
+        }
+    }
+    true
+}
+
+/// Whether this is so of each page that was found.
+pub(crate) fn have_names(newest: &FoundPages, number: u64) -> bool
+    ensures { IsTrue result ↔ HaveNames number (listed newest.now) }
+{
+    for at in 0..BUCKETS {
+        if !are_named(newest.bucket(at), number) {
             return false;
         }
     }

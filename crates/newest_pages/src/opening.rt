@@ -11,7 +11,7 @@ use crate::names::have_names;
 use crate::seqs::note_seqs;
 use block_state::Blocks;
 use chunk_index::Index;
-use flash_tree::{Found, TagNumbers};
+use flash_tree::TagNumbers;
 use mount_scan::{NewestScan, ScanFault, scan_newest};
 use nand_model::Nand;
 use std::alloc::{AllocError, Global};
@@ -96,7 +96,7 @@ pub fn open<N: Nand>(alloc: Global, device: &mut N) -> Result<Opened, OpenFault>
     }
     let mut blocks = table_above(alloc, device, numbers)?;
     note_seqs(&newest, &mut blocks);
-    let index = Index::from_newest(alloc, &newest, &mut blocks)?;
+    let (index, blocks) = Index::from_newest(alloc, newest, blocks)?;
     Ok(Opened {
         blocks,
         index,

@@ -2,10 +2,12 @@
 ghost use Rattle.std.specs.Prelude.{◌<◌, ℕ, length};
 ghost use Rattle.block_state.specs.TableOf.{table};
 ghost use Rattle.chunk_index.specs.Newest.{LieWithin};
+ghost use Rattle.found_pages.specs.Listed.{listed};
 ghost use Rattle.newest_pages.specs.Opened.{OnlySeqs, NotesOne, NotesSeq};
 
 use block_state::Blocks;
 use flash_tree::Found;
+use found_pages::{BUCKETS, FoundPages};
 
 /// Notes the number of the block of a page, where it was handed out.
 fn note_one(found: Found, blocks: &mut Blocks)
@@ -17,13 +19,24 @@ fn note_one(found: Found, blocks: &mut Blocks)
     }
 }
 
-/// Notes the number of the block of each page, where it was handed out, so that blocks go on to take their turn.
-pub(crate) fn note_seqs(list: &[Found], blocks: &mut Blocks)
+/// Notes the number of the block of each page of a list, where it was handed out.
+fn note_list(list: &[Found], blocks: &mut Blocks)
     requires within { LieWithin (table blocks.old).geometry.blocks list.now }
     ensures only { OnlySeqs (table blocks.old) (table blocks.new) }
     ensures notes { (b : ℕ) → NotesSeq list.now (length list.now) (table blocks.old) (table blocks.new) b }
 {
     for found in list {
         note_one(*found, blocks);
+    }
+}
+
+/// Notes the number of the block of each page that was found, where it was handed out, so that blocks go on to take their turn.
+pub(crate) fn note_seqs(newest: &FoundPages, blocks: &mut Blocks)
+    requires within { LieWithin (table blocks.old).geometry.blocks (listed newest.now) }
+    ensures only { OnlySeqs (table blocks.old) (table blocks.new) }
+    ensures notes { (b : ℕ) → NotesSeq (listed newest.now) (length (listed newest.now)) (table blocks.old) (table blocks.new) b }
+{
+    for at in 0..BUCKETS {
+        note_list(newest.bucket(at), blocks);
     }
 }

@@ -1,15 +1,15 @@
 -- What follows for a key.
 use Rattle.std.specs.Prelude.{◌≡◌, ◌↔◌, ◌<◌, ℕ, List, map, Some, length, slice_get, Contains}
-use Rattle.std.specs.List.{AllPairs}
-use Rattle.std.proofs.Common.{sym, ◌∙◌, ap, subst, inl, inr, arith, get_or}
+use Rattle.std.proofs.Common.{sym, ◌∙◌, ap, inl, inr, arith, get_or}
 use Rattle.std.proofs.lemmas.Bool.{cases_order}
 use Rattle.std.proofs.lemmas.List.{get_or-map, length-map}
-use Rattle.std.proofs.lemmas.Option.{get_or_from_slice_get, slice_get_within}
 use Rattle.nand_model.specs.Flash.{Flash, Written}
 use Rattle.page_tags.specs.Tags.{tag_bytes}
 use Rattle.flash_tree.specs.Newest.{Spot, IsNewest, HasNewest}
 use Rattle.flash_tree.specs.declared.place.Found.{Found}
-use Rattle.flash_tree.specs.Places.{spot_of, IsKeyBefore}
+use Rattle.flash_tree.specs.Places.{spot_of}
+use Rattle.found_pages.specs.Keys.{HaveOtherKeys}
+use Rattle.found_pages.specs.laws.Keys.{pair_at}
 use Rattle.mount_scan.specs.Scanned.{AreNewest}
 
 -- a place with a tag, as programs have it
@@ -36,23 +36,13 @@ newest_listed f list o c are = (
   λ (x, has, object, chunk). (spot_of x, (are.each o c (spot_of x)).1 ((listed_spot list (spot_of x)).1 has, object, chunk)),
 )
 
--- of two pages of a list the earlier is related to the later as all such pairs are
-pub pair_at : (R : Found → Found → Type 0) (list : List Found) (i j : ℕ) (x y : Found) → AllPairs R list → i < j → slice_get list i ≡ Some x → slice_get list j ≡ Some y → R x y
-pair_at R list i j x y pairs lt at_i at_j =
-    let related : R (get_or list i x) (get_or list j x) = pairs i j x lt (slice_get_within list j y at_j) in
-    subst (λ u. R u y) (get_or_from_slice_get list i x x at_i) (subst (R (get_or list i x)) (get_or_from_slice_get list j y x at_j) related)
-
--- no key comes before itself
-pub not_before_itself : (x y : Found) → IsKeyBefore x y → x.tag.object ≡ y.tag.object → x.tag.chunk ≡ y.tag.chunk → ⊥
-not_before_itself x y before object chunk = elim before [ inl lt ↦ absurd (omega (arith, lt, object)) | inr rest ↦ absurd (omega (arith, rest.1, chunk)) ]
-
 -- no key has two pages in the list
 pub newest_once : (f : Flash) (list : List Found) (i j : ℕ) (x y : Found) → AreNewest f list → slice_get list i ≡ Some x → slice_get list j ≡ Some y
     → x.tag.object ≡ y.tag.object → x.tag.chunk ≡ y.tag.chunk → i ≡ j
 newest_once f list i j x y are at_i at_j object chunk = elim (cases_order i j) [
   | inl same ↦ same
-  | inr (inl lt) ↦ absurd (not_before_itself x y (pair_at IsKeyBefore list i j x y are.order lt at_i at_j) object chunk)
-  | inr (inr gt) ↦ absurd (not_before_itself y x (pair_at IsKeyBefore list j i y x are.order gt at_j at_i) (sym object) (sym chunk))
+  | inr (inl lt) ↦ absurd (pair_at HaveOtherKeys list i j x y are.order lt at_i at_j (object, chunk))
+  | inr (inr gt) ↦ absurd (pair_at HaveOtherKeys list j i y x are.order gt at_j at_i (sym object, sym chunk))
 ]
 
 -- the newest data of a key are those of its page in the list

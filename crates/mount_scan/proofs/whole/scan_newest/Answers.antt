@@ -2,4 +2,4 @@ use Rattle.mount_scan.proofs.Latest.{tells_newest}
 use Rattle.mount_scan.proofs.whole.scan_newest.Goals as goal
 
 pub returns-clause-newest : goal.returns-clause-newest
-returns-clause-newest g c = rw c.shrink_to_fit.ensures.items (tells_newest _ _ _ c.in_ok-newest.ensures.counted c.keep_newest.ensures)
+returns-clause-newest g c = tells_newest (g.N.Nand.state c.args.device.now) _ _ (g.met.N.Nand.within c.args.device.now) c.in_ok-scan.ensures.found c.keep_newest.ensures

@@ -1,9 +1,7 @@
-use Rattle.std.proofs.Common.{List, length, ◌∙◌, sym, inl, inr, IsTrue, subst, false}
+use Rattle.std.proofs.Common.{◌∙◌, inl, inr, IsTrue, subst, false}
 use Rattle.std.proofs.lemmas.Bool.{cases_Bool}
-use Rattle.flash_tree.specs.declared.place.Found.{Found}
 use Rattle.block_state.specs.TableOf.{table}
-use Rattle.chunk_index.specs.Newest.{KeysRise, Indexes}
-use Rattle.newest_pages.proofs.Tables.{have_names, names_same, notes_same, noted_table, seqs_are, tells_read, greatest_read, opened}
+use Rattle.newest_pages.proofs.Tables.{have_names, noted_table, seqs_are, tells_read, greatest_read, opened}
 use Rattle.newest_pages.proofs.opening.open.Goals as goal
 
 pub returns-then-not-have_names-clause-fault : goal.returns-then-not-have_names-clause-fault
@@ -13,7 +11,7 @@ returns-then-not-have_names-clause-fault g c =
     elim (cases_Bool old.honest) [
       | inl honest ↦
           let named = have_names old _ _ c.in_ok-newest.ensures.newest honest (c.in_ok-newest.ensures.numbers honest) in
-          let two : IsTrue false = subst (λ b. IsTrue b) c.if-not-have_names.true (rw c.deref.ensures.value at c.have_names.ensures.1 named) in
+          let two : IsTrue false = subst (λ b. IsTrue b) c.if-not-have_names.true (c.have_names.ensures.1 named) in
           absurd cc
       | inr lies ↦ reads.lasts.honest ∙ lies
     ]
@@ -23,9 +21,6 @@ table_above-requires g c = record {
   above = λ honest. (greatest_read (g.N.Nand.state c.args.device.now) (g.N.Nand.state c.scan_newest.new.device) _ c.scan_newest.ensures.reads.only c.in_ok-newest.ensures.numbers honest).above;
 }
 
-pub from_newest-requires-clause-rise : goal.from_newest-requires-clause-rise
-from_newest-requires-clause-rise g c = subst (λ (fs : List Found). KeysRise fs) (sym c.deref-3.ensures.value) c.in_ok-newest.ensures.newest.order
-
 pub returns-clause-opened : goal.returns-clause-opened
 returns-clause-opened g c =
     let old = g.N.Nand.state c.args.device.now in
@@ -34,8 +29,8 @@ returns-clause-opened g c =
     opened new _ c.in_ok-index.index _ _ _
     (tells_read old new _ reads c.in_ok-newest.ensures.newest)
     (greatest_read old new _ reads c.in_ok-newest.ensures.numbers)
-    (names_same _ _ _ c.deref.ensures.value (c.have_names.ensures.0 c.if-not-have_names.false))
+    (c.have_names.ensures.0 c.if-not-have_names.false)
     (noted_table new _ _ _ c.note_seqs.ensures.only c.in_ok-blocks.ensures.table)
     (seqs_are new _ _ (table c.in_ok-blocks.blocks) (table c.note_seqs.new.blocks) (tells_read old new _ reads c.in_ok-newest.ensures.newest) (greatest_read old new _ reads c.in_ok-newest.ensures.numbers) c.in_ok-blocks.ensures.table c.in_ok-blocks.ensures.seqs
-    (λ b. notes_same _ _ (table c.in_ok-blocks.blocks) (table c.note_seqs.new.blocks) b c.deref-2.ensures.value (c.note_seqs.ensures.notes b)))
-    (subst (λ (fs : List Found). Indexes fs (length fs) c.in_ok-index.index) c.deref-3.ensures.value c.in_ok-index.ensures.indexes) c.in_ok-index.ensures.agree c.in_ok-index.ensures.counts
+    c.note_seqs.ensures.notes)
+    c.in_ok-index.ensures.indexes c.in_ok-index.ensures.agree c.in_ok-index.ensures.counts

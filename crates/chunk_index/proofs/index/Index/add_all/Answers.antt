@@ -1,12 +1,44 @@
-use Rattle.chunk_index.proofs.Founding.{absent_at, more_at, pages_same}
+use Rattle.std.proofs.Common.{◌≡◌, ◌∙◌, refl, sym, ap, subst, arith}
+use Rattle.nand_model.specs.declared.geometry.Geometry.{Geometry}
+use Rattle.found_pages.specs.Listed.{listed}
+use Rattle.found_pages.specs.laws.Listed.{before, before_all, bucket_part, part_end}
+use Rattle.chunk_index.specs.Newest.{LieWithin}
+use Rattle.chunk_index.specs.Found.{HasPages}
+use Rattle.chunk_index.proofs.Counting.{recounts_here, recounts_on}
+use Rattle.chunk_index.proofs.Founding.{part_once, part_within, part_absent, pages_none}
 use Rattle.chunk_index.proofs.index.Index.add_all.Goals as goal
 
-pub add-requires-clause-absent : goal.add-requires-clause-absent
-add-requires-clause-absent c =
-    let has = pages_same c.args.newest.now c.loop-at.at _ _ c.loop-at.invariant c.reserve_at.ensures in
-    absent_at c.args.newest.now c.loop-at.at c.reserve_at.new.self.shelf.objects c.requires.rise has c.loop-at-test.true _ _ _ c.key_of.ensures.object c.key_of.ensures.chunk
+pub loop-at-init : goal.loop-at-init
+loop-at-init c = record {
+  has = pages_none _ _ c.requires.empty;
+  left = λ k le. refl;
+  agree = c.requires.agree;
+  counts = recounts_here (λ b. refl);
+}
+
+pub add_some-requires : goal.add_some-requires
+add_some-requires c =
+    let at = bucket_part c.args.newest c.loop-at.at _ (omega (arith, c.loop-at-test.true)) (c.pages.ensures ∙ c.take-bucket.ensures.taken ∙ c.loop-at.invariant.left c.loop-at.at (omega arith)) in
+    record {
+      once = part_once _ _ _ at c.requires.once;
+      within = part_within _ _ _ _ at (subst (λ (g : Geometry). LieWithin g.blocks (listed c.args.newest)) (sym c.loop-at.invariant.counts.geometry) c.requires.within);
+      absent = part_absent _ _ _ _ c.requires.once at c.loop-at.invariant.has;
+      agree = c.loop-at.invariant.agree;
+    }
 
 pub loop-at-preserved : goal.loop-at-preserved
 loop-at-preserved c =
-    let has = pages_same c.args.newest.now c.loop-at.at _ _ c.loop-at.invariant c.reserve_at.ensures in
-    more_at c.args.newest.now c.loop-at.at c.reserve_at.new.self.shelf.objects c.add.new.self.shelf.objects c.requires.rise has c.loop-at-test.true _ _ _ c.page_of.result c.key_of.ensures.object c.key_of.ensures.chunk c.page_of.ensures c.in_ok-add.ensures.ok
+    let part = c.pages.ensures ∙ c.take-bucket.ensures.taken ∙ c.loop-at.invariant.left c.loop-at.at (omega arith) in
+    let at = bucket_part c.args.newest c.loop-at.at _ (omega (arith, c.loop-at-test.true)) part in
+    record {
+      has = subst (λ n. HasPages (listed c.args.newest) n c.add_some.new.self.shelf.objects) (part_end c.args.newest c.loop-at.at _ (omega (arith, c.loop-at-test.true)) part)
+          (c.in_ok-add_some.ensures.has _ _ c.requires.once at c.loop-at.invariant.has);
+      left = λ k le. c.take-bucket.ensures.others k (λ same. absurd (omega (arith, le, same))) ∙ c.loop-at.invariant.left k (omega (arith, le));
+      agree = c.in_ok-add_some.ensures.agree;
+      counts = recounts_on c.loop-at.invariant.counts c.in_ok-add_some.ensures.counts;
+    }
+
+pub returns-clause-has : goal.returns-clause-has
+returns-clause-has c =
+    let end : c.loop-at.at ≡ 64 = omega (arith, c.loop-at-test.false, c.loop-at.auto.at-end) in
+    subst (λ n. HasPages (listed c.args.newest) n c.loop-at.self.shelf.objects) (ap (before c.args.newest) end ∙ before_all c.args.newest) c.loop-at.invariant.has

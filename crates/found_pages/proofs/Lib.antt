@@ -1,0 +1,4 @@
+pub mod Ranked
+pub mod Latest
+pub mod Thinning
+pub mod Listing

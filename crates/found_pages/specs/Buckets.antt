@@ -1,0 +1,20 @@
+-- The pages that were found, in buckets.
+use Rattle.std.specs.Prelude.{◌≡◌, ℕ, ◌+◌, ◌/◌, ◌%◌, List, if◌then◌else◌, Some, flat_map, nat_lt, slice_get, Contains}
+use Rattle.flash_tree.specs.declared.place.Found.{Found}
+use Rattle.found_pages.specs.declared.bucket.Bucket.{Bucket}
+
+-- the bucket of the key of chunk c of object o
+abbrev pub bucket_of : ℕ → ℕ → ℕ
+bucket_of o c = if nat_lt c 1024 then o % 32 else 32 + c / 1024 % 32
+
+-- the pages of a bucket
+abbrev pub pages_of : Bucket → List Found
+pages_of b = b.pages.items
+
+-- the pages of some buckets, one bucket after another
+abbrev pub pages_in : List Bucket → List Found
+pages_in bs = flat_map pages_of bs
+
+-- each page is in the bucket of its key
+abbrev pub AreApart : List Bucket → Type 0
+AreApart bs = (k : ℕ) (b : Bucket) (f : Found) → slice_get bs k ≡ Some b → Contains (pages_of b) f → bucket_of f.tag.object f.tag.chunk ≡ k

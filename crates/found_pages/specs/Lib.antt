@@ -1,0 +1,4 @@
+pub mod Keys
+pub mod Buckets
+pub mod Listed
+pub mod laws

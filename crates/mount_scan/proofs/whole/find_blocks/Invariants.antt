@@ -1,0 +1,15 @@
+use Rattle.std.proofs.Common.{◌≡◌, true}
+use Rattle.flash_tree.specs.Places.{numbers_of}
+use Rattle.mount_scan.specs.Scanned.{good_pages}
+use Rattle.mount_scan.specs.Blocks.{AreGreatestBelow}
+use Rattle.mount_scan.specs.Latest.{HasLatestBelow}
+use Rattle.found_pages.specs.Listed.{listed}
+use Rattle.mount_scan.proofs.Reading.{HasRead}
+use Rattle.mount_scan.proofs.whole.find_blocks.Given as goal
+
+abbrev pub invariant-loop-block : goal.invariant-loop-block
+invariant-loop-block g l = record {
+  read : HasRead (good_pages (g.N.Nand.state l.fn.device).flash (g.N.Nand.state l.fn.device).geometry.pages l.block) (g.N.Nand.state l.fn.device) (g.N.Nand.state l.device);
+  found : HasLatestBelow (g.N.Nand.state l.fn.device) l.block (listed l.newest);
+  numbers : (g.N.Nand.state l.fn.device).honest ≡ true → AreGreatestBelow (g.N.Nand.state l.fn.device).flash l.block (numbers_of l.seen.numbers);
+}

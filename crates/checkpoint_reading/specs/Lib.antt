@@ -1,0 +1,5 @@
+pub mod Parts
+pub mod Pages
+pub mod Found
+pub mod Candidates
+pub mod Reading

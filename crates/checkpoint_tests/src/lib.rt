@@ -1,0 +1,10 @@
+//! Tests of a checkpoint put together by hand: what a search finds, also after an alteration of each rule, and what the
+//! allocation of its block leaves, wherever the power goes.
+#![tactic(auto)]
+
+#[cfg(test)]
+mod laid;
+#[cfg(test)]
+mod searches;
+#[cfg(test)]
+mod taken;

@@ -1,0 +1,117 @@
+//! What a search finds.
+
+use crate::laid::{Laid, checkpoint, empty, write};
+use checkpoint_reading::find_checkpoint;
+use mount_scan::ScanFault;
+use nand_model::{MemNand, Nand};
+use page_tags::CheckEntry;
+use std::alloc::Global;
+use std::test::Fail;
+
+/// The block of the checkpoint that is found, if one is.
+fn found_in(alloc: Global, nand: &mut MemNand) -> Result<Option<u32>, Fail> {
+    let search = find_checkpoint(alloc, nand)?;
+    if let Some(found) = &search.checkpoint {
+        return Ok(Some(found.block));
+    }
+    Ok(None)
+}
+
+/// All of it is returned, in a read of each block and one of each of its pages.
+#[test]
+fn a_whole_checkpoint_is_found(rt: HostRuntime) -> Result<(), Fail> {
+    let mut nand = empty(rt.alloc())?;
+    write(&rt, &mut nand, 3, &checkpoint(5), true)?;
+    nand.power_up();
+    let search = find_checkpoint(rt.alloc(), &mut nand)?;
+    assert_eq!(rt; nand.calls(), 10);
+    assert!(rt; search.seqs.as_slice() == &[0, 0, 0, 5, 0, 0, 0, 0][..]);
+    let found = search.checkpoint.expect(&rt, "a checkpoint");
+    assert_eq!(rt;
+        (found.block, found.size, found.number, found.seq),
+        (3, 2, 9, 5)
+    );
+    assert_eq!(rt; found.entries.len(), 20);
+    for k in 0..20u32 {
+        let entry = CheckEntry {
+            object: 2,
+            chunk: k as u64,
+            version: 7,
+            block: 4,
+            page: k,
+        };
+        assert!(rt; found.entries.get(k as usize) == Some(&entry), "entry {k}");
+    }
+    Ok(())
+}
+
+/// One alteration of each rule.
+fn altered(rule: u32) -> Laid {
+    let mut laid = checkpoint(5);
+    match rule {
+        0 => laid.first_tag.object = 2,
+        1 => laid.first_tag.index = 1,
+        2 => laid.first_tag.chunk = 2,
+        3 => laid.first_tag.version = 8,
+        4 => laid.first_tag.count = 33,
+        5 => laid.second_tag.seq = 4,
+        6 => laid.first[4] = 2,
+        7 => laid.first[8] = 32,
+        8 => laid.second[160] = 1,
+        9 => laid.second[8] = 14,
+        _ => laid.second[511] = 1,
+    }
+    laid
+}
+
+/// Neither is one of which a rule does not hold, nor one without its last page, nor one in a bad block.
+#[test]
+fn what_is_altered_is_not_found(rt: HostRuntime) -> Result<(), Fail> {
+    for rule in 0..11 {
+        let mut nand = empty(rt.alloc())?;
+        write(&rt, &mut nand, 3, &altered(rule), true)?;
+        assert_eq!(rt; found_in(rt.alloc(), &mut nand)?, None, "rule {rule}");
+    }
+    let mut nand = empty(rt.alloc())?;
+    write(&rt, &mut nand, 3, &checkpoint(5), false)?;
+    assert_eq!(rt; found_in(rt.alloc(), &mut nand)?, None);
+    let mut nand = empty(rt.alloc())?;
+    write(&rt, &mut nand, 3, &checkpoint(5), true)?;
+    assert!(rt; nand.geometry().blocks() == 8);
+    nand.mark_bad(3)?;
+    assert_eq!(rt; found_in(rt.alloc(), &mut nand)?, None);
+    Ok(())
+}
+
+/// The candidate with the greatest seq is read, among equals that of the lowest block; where it is not whole no other is.
+#[test]
+fn the_greatest_seq_is_read(rt: HostRuntime) -> Result<(), Fail> {
+    for (low, high, whole, block) in [
+        (5, 6, true, Some(4)),
+        (6, 5, true, Some(2)),
+        (5, 5, true, Some(2)),
+        (5, 6, false, None),
+    ] {
+        let mut nand = empty(rt.alloc())?;
+        write(&rt, &mut nand, 2, &checkpoint(low), true)?;
+        write(&rt, &mut nand, 4, &checkpoint(high), whole)?;
+        assert_eq!(rt; found_in(rt.alloc(), &mut nand)?, block, "{low} and {high}");
+    }
+    Ok(())
+}
+
+/// A cut at each read ends the search.
+#[test]
+fn a_cut_search_says_gone(rt: HostRuntime) -> Result<(), Fail> {
+    for op in 1..=11 {
+        let mut nand = empty(rt.alloc())?;
+        write(&rt, &mut nand, 3, &checkpoint(5), true)?;
+        nand.power_up();
+        let mut nand = nand.with_fuse(op, Vec::new(rt.alloc()));
+        match find_checkpoint(rt.alloc(), &mut nand) {
+            Ok(search) => assert!(rt; op == 11 && search.checkpoint.is_some()),
+            Err(fault) => assert!(rt; op < 11 && fault == ScanFault::Gone),
+        }
+    }
+    Ok(())
+}

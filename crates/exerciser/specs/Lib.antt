@@ -3,3 +3,4 @@ pub mod Causes
 pub mod Draws
 pub mod Lines
 pub mod Cutting
+pub mod Keeping

@@ -1,7 +1,7 @@
 // The commands that a cut session kept.
 ghost use Rattle.std.specs.Prelude.{◌≡◌, ◌≤◌, length, IfOk, IfSome, OnOk, OnErr};
 ghost use Rattle.posix_profile.specs.Losses.{is_synced, Covers};
-ghost use Rattle.posix_profile.specs.Runs.{after_one};
+ghost use Rattle.exerciser.specs.Keeping.{after_told};
 
 use plain_tree::{Answers, PlainTree, TreeFault};
 use posix_profile::{Command, Errno, Reply, Stamped};
@@ -33,15 +33,16 @@ fn covered(script: &[Stamped], replies: &[Reply]) -> usize
     covered
 }
 
-/// Does a command that was answered in the tree; one that was refused memory, or that the stop answered, is passed over.
+/// Does a command that was answered in the tree; one that was refused memory, that the stop answered, or that a read-only volume
+/// refused, is passed over.
 fn follow(tree: &mut PlainTree, stamped: &Stamped, reply: &Reply) -> Result<(), AllocError>
     ensures sizes { tree.new.sizes ≡ tree.old.sizes }
     ensures read_only { tree.new.read_only ≡ tree.old.read_only }
-    ensures state { OnOk result (tree.new.state ≡ after_one tree.old.sizes tree.old.read_only tree.old.state stamped.now reply.now) }
+    ensures state { OnOk result (tree.new.state ≡ after_told tree.old.sizes tree.old.read_only tree.old.state stamped.now reply.now) }
     ensures memory { OnErr result (tree.new.state ≡ tree.old.state) }
 {
     match reply {
-        Reply::Error(Errno::ENOMEM | Errno::EIO) => Ok(()),
+        Reply::Error(Errno::ENOMEM | Errno::EIO | Errno::EROFS) => Ok(()),
         _ => {
             let _reply = tree.step(stamped)?;
             Ok(())
@@ -62,7 +63,7 @@ fn follow_all(tree: &mut PlainTree, script: &[Stamped], replies: &[Reply]) -> Re
 
 /// The least number of commands of a session after which its tree is that of the volume: from those that a done sync covers
 /// to those that were begun. `before` is the tree before the session, and `end` how the session ended that was asked these
-/// commands; those answered ENOMEM or EIO change nothing. None where there is no such number. The volume, which needs a free
+/// commands; those answered ENOMEM, EIO or EROFS change nothing. None where there is no such number. The volume, which needs a free
 /// descriptor, is read by its commands and not changed.
 pub fn kept<V: Answers>(
     before: &PlainTree,

@@ -3,3 +3,4 @@ pub mod OpenedImages
 pub mod Telling
 pub mod CutEndings
 pub mod Early
+pub mod Stopping

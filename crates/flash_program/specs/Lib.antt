@@ -4,3 +4,4 @@ pub mod Statuses
 pub mod Spaces
 pub mod Images
 pub mod Acting
+pub mod Stopping

@@ -5,7 +5,7 @@ use Rattle.formatting.specs.declared.fault.FormatFault.TheVariants as formats
 use Rattle.line_shell.specs.Runs.{Shell}
 use Rattle.line_shell.specs.declared.fault.ShellFault.{ShellFault}
 use Rattle.mounting.specs.Faults.{WhyNotMounted}
-use Rattle.mounting.specs.Made.{CanOnlyBeRead}
+use Rattle.mounting.specs.Made.{AreNext, CanOnlyBeRead}
 use Rattle.mounting.specs.declared.fault.MountFault.{MountFault}
 use Rattle.nand_model.specs.Calls.{Device}
 use Rattle.nand_model.specs.Changes.{OnlyReads}
@@ -28,9 +28,12 @@ told (Err fault) reply = Err (faults.Shell fault)
 told (Ok done) replies.Done = Ok done
 told (Ok done) reply = Err faults.Unmount
 
--- the volume is mounted: the device was only read, and on an honest one the volume stands for the tree that it shows
+-- The volume is mounted: the device was only read, and has not lost its power in it. On an honest one the next numbers are above
+-- those on its flash, and the volume stands for the tree that it shows.
 pub record IsMounted {P : Type 0} (state : P → PagesState) (device : Device) (v : PageVolume P) : Type 0 where
   pub reads : OnlyReads device (state (pages_of v)).device
+  pub power : device.gone ≡ false → (state (pages_of v)).device.gone ≡ false
+  pub next : device.honest ≡ true → AreNext (state (pages_of v)).device.flash (state (pages_of v)).next
   pub goes_on : is_stopped v ≡ false
   pub read_only : (is_read_only v ≡ true) ↔ CanOnlyBeRead (state (pages_of v))
   pub tree : device.honest ≡ true → (objects : Objects) × StandsForTree state v objects

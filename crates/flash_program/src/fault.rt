@@ -8,34 +8,52 @@ use exerciser::mount_fault_name;
 use line_shell::{ScriptFault, ShellFault};
 use nand_image::ImageFault;
 use posix_calls::{FormatFault, MountFault};
+use thiserror::Error;
 
-/// Why the program ended otherwise than well.
-#[derive(Clone, Copy, Debug, PartialEq, Eq)]
+/// Why the program ended otherwise than well. Its line on standard error has the name, and not the text.
+#[derive(Clone, Copy, Debug, PartialEq, Eq, Error)]
 pub enum ProgramFault {
-    /// Memory was refused outside the shell.
+    #[error("memory was refused: free some, then run the program again")]
     NoMemory,
-    /// No device has the sizes that a new image is to have.
+    #[error("no device has these sizes: `--help` has the limits of a page, a block and a device")]
     BadGeometry,
-    /// The file could not be opened.
+    #[error("the image's file could not be opened: check its path and its permissions")]
     File,
     /// The image could not be opened or made.
+    #[error(transparent)]
     Image(ImageFault),
     /// The device of a new volume could not be formatted.
+    #[error(transparent)]
     Format(FormatFault),
     /// The volume could not be mounted.
+    #[error("{}", mount_text(*.0))]
     Mount(MountFault),
     /// The shell ended early, or the reading of a script as a shell would.
+    #[error(transparent)]
     Shell(ShellFault),
-    /// The volume could not be unmounted.
+    #[error("the volume could not be unmounted: what was not synced may be missing; run `check`")]
     Unmount,
-    /// A line of a script is no command.
+    #[error("a line is not a command: `run` replies `bad line` to each such line")]
     Line,
-    /// The tree before a cut was not told by commands.
+    #[error("a tree could not be read by commands: a path is too long, or there is no room to build it again")]
     Unread,
-    /// A cut left a tree that it may not leave.
+    #[error("a power loss left a tree that it must not: report it, with the image, the seed and the lines")]
     Torn,
     /// Standard output failed outside the shell.
+    #[error("standard output could not be written: check where it goes")]
     Write,
+}
+
+/// The text of a mount's fault.
+fn mount_text(fault: MountFault) -> &'static str {
+    match fault {
+        MountFault::Gone => "power was lost in the mount: mount again after the next power-up",
+        MountFault::NoMemory => "memory was refused in the mount: free some, then mount again",
+        MountFault::NotAVolume => "there is no volume: format it, if it is new",
+        MountFault::Newer(_) =>
+            "the volume has a newer format: take a newer version of this program",
+        MountFault::Damaged => "what is there is no tree: read out what can be read, then format",
+    }
 }
 
 impl From<ScriptFault> for ProgramFault {

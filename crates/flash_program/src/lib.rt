@@ -12,6 +12,7 @@ mod creating;
 mod cutting;
 mod ending;
 mod fault;
+mod law;
 mod memory;
 mod opening;
 mod running;
@@ -19,5 +20,9 @@ mod serve;
 mod space;
 
 pub use acting::act;
+pub use cut_draws::draw;
 pub use ending::report;
 pub use fault::ProgramFault;
+pub use law::only_a_cut_stops_the_program;
+pub use line_shell::{ShellFault, shell};
+pub use program_words::{Chosen, choose};

@@ -3,19 +3,21 @@ ghost use Rattle.std.specs.Prelude.{◌≡◌};
 ghost use Rattle.nand_image.specs.declared.fault.ImageFault.TheVariants as faults;
 
 use std::alloc::AllocError;
+use thiserror::Error;
 
-#[derive(Clone, Copy, Debug, PartialEq, Eq)]
+#[derive(Clone, Copy, Debug, PartialEq, Eq, Error)]
 pub enum ImageFault {
-    /// The file could not be read.
+    #[error("the image's file could not be read: check the disk, then try again")]
     Read,
-    /// The file could not be written.
+    #[error("the image's file could not be written: check its permissions and the room on the disk")]
     Write,
-    /// The file is shorter or longer than its image.
+    #[error("the file is shorter or longer than the image in it: take another copy of it")]
     Size,
-    /// The file does not begin as an image does.
+    #[error("the file is not an image: give one that `format` made")]
     Magic,
-    /// A size in the image is outside of what a device may have.
+    #[error("the image has sizes that no device has: take another copy of it")]
     BadGeometry,
+    #[error("memory was refused: free some, then try again")]
     NoMemory,
 }
 

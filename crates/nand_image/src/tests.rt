@@ -236,6 +236,11 @@ fn other_bytes_are_no_image(rt: HostRuntime) -> Result<(), Fail> {
     );
     bytes[0] = b'M';
     assert_eq!(rt; opened(rt.alloc(), &bytes).err(), Some(ImageFault::Magic));
+    let text = format!(in rt.alloc(); "{}", ImageFault::Magic)?;
+    assert_eq!(rt;
+        text.as_str(),
+        "the file is not an image: give one that `format` made"
+    );
     Ok(())
 }
 

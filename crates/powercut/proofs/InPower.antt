@@ -184,7 +184,7 @@ module _ {V : Type 0} (m : Meaning V) (v : V) (d e : Device) (commands : List St
         let rose = used.goes_on.numbers.groups p_honest power in
         let first = next_group in
         let changes = reads.changes in
-        let lt = within.groups n at_first in
+        let lt = within.numbers.groups n at_first in
         omega (arith, rose, first, changes, lt)
 
     seqs_left : q.next.seq < 2 ^ 62
@@ -192,7 +192,7 @@ module _ {V : Type 0} (m : Meaning V) (v : V) (d e : Device) (commands : List St
         let rose = used.goes_on.numbers.seqs in
         let first = next_seq in
         let changes = reads.changes in
-        let lt = within.seqs n at_first in
+        let lt = within.numbers.seqs n at_first in
         omega (arith, rose, first, changes, lt)
 
     -- nothing but a cut ends the use

@@ -11,7 +11,7 @@ use Rattle.flash_tree.specs.Sound.{IsSoundFlash}
 use Rattle.lives.specs.Lives.{SessionRecord, IsLife}
 use Rattle.lives.specs.laws.LifeLaws.{life_append}
 use Rattle.pages.specs.Stores.{bad_on}
-use Rattle.powercut.specs.Limits.{StaysWithin}
+use Rattle.powercut.specs.Limits.{StaysWithin, NumbersLast}
 use Rattle.powercut.specs.Living.{HasSame, AreWithin, HasLived}
 use Rattle.powercut.proofs.SameFlash.{same_on, sound_same, within_same, greatest_same, bad_more}
 
@@ -61,32 +61,35 @@ module _ (a b c : Device) (xs ys : List SessionRecord) (first : HasLived a b xs)
       let few : bad_blocks b.geometry c.flash ≤ spare = subst (λ (g : Geometry). bad_blocks g c.flash ≤ spare) then.geometry within.few_bad in
       record {
         few_bad = omega (arith, fewer, few);
-        versions = λ n greatest. let lt = within.versions n greatest in omega (arith, lt, more);
-        groups = λ n greatest. let lt = within.groups n greatest in omega (arith, lt, more);
-        seqs = λ n greatest. let lt = within.seqs n greatest in omega (arith, lt, more);
+        numbers = record {
+          versions = λ n greatest. let lt = within.numbers.versions n greatest in omega (arith, lt, more);
+          groups = λ n greatest. let lt = within.numbers.groups n greatest in omega (arith, lt, more);
+          seqs = λ n greatest. let lt = within.numbers.seqs n greatest in omega (arith, lt, more);
+        };
       }
 
   -- and in the later ones
-  later : (spare : ℕ) → StaysWithin spare a c → StaysWithin spare b c
-  later spare within = elim first.known [
+  numbers_later : NumbersLast a c → NumbersLast b c
+  numbers_later last = elim first.known [
     | inl same ↦
         let rose = first.changes in record {
-          few_bad = within.few_bad;
-          versions = λ n greatest. let lt = within.versions n (greatest_same b.flash a.flash (record { page = sym same.page; bad = sym same.bad }) n greatest) in omega (arith, lt, rose);
-          groups = λ n greatest. let lt = within.groups n (greatest_same b.flash a.flash (record { page = sym same.page; bad = sym same.bad }) n greatest) in omega (arith, lt, rose);
-          seqs = λ n greatest. let lt = within.seqs n (greatest_same b.flash a.flash (record { page = sym same.page; bad = sym same.bad }) n greatest) in omega (arith, lt, rose);
+          versions = λ n greatest. let lt = last.versions n (greatest_same b.flash a.flash (record { page = sym same.page; bad = sym same.bad }) n greatest) in omega (arith, lt, rose);
+          groups = λ n greatest. let lt = last.groups n (greatest_same b.flash a.flash (record { page = sym same.page; bad = sym same.bad }) n greatest) in omega (arith, lt, rose);
+          seqs = λ n greatest. let lt = last.seqs n (greatest_same b.flash a.flash (record { page = sym same.page; bad = sym same.bad }) n greatest) in omega (arith, lt, rose);
         }
     | inr m ↦
         let rose = first.changes in
-        let group = within.groups m.0 m.1 in
-        let seq = within.seqs m.0 m.1 in
+        let group = last.groups m.0 m.1 in
+        let seq = last.seqs m.0 m.1 in
         let all = first.numbers m.0.group m.0.seq (b.changes - a.changes) (within_greatest a.flash m.0 m.1) (omega (arith, rose)) in record {
-          few_bad = within.few_bad;
           versions = λ n greatest. let at = (greatest_within b.flash n _ _ greatest all).0 in omega (arith, at, group, rose);
           groups = λ n greatest. let at = (greatest_within b.flash n _ _ greatest all).1 in omega (arith, at, group, rose);
           seqs = λ n greatest. let at = (greatest_within b.flash n _ _ greatest all).2 in omega (arith, at, seq, rose);
         }
   ]
+
+  later : (spare : ℕ) → StaysWithin spare a c → StaysWithin spare b c
+  later spare within = record { few_bad = within.few_bad; numbers = numbers_later within.numbers }
 
   known_on : HasSame a.flash c.flash ⊎ ((n : Numbers) × AreGreatest a.flash n)
   known_on = elim first.known [
@@ -120,6 +123,10 @@ module _ (a b c : Device) (xs ys : List SessionRecord) (first : HasLived a b xs)
           after.2,
         );
   }
+
+-- as many blocks as are bad at first, and one more for each failure, are enough to spare
+pub few_from : (a c : Device) (spare listed : ℕ) → bad_on c + a.failures ≤ bad_on a + c.failures → c.failures ≤ a.failures + listed → bad_on a + listed ≤ spare → bad_on c ≤ spare
+few_from a c spare listed marked failed few = omega (arith, marked, failed, few)
 
 pub lived_here : (a : Device) → HasLived a a []
 lived_here a = lived_still a a refl refl refl refl (record { page = refl; bad = refl })

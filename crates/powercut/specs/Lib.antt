@@ -1,6 +1,6 @@
+pub mod Starting
 pub mod Sessions
 pub mod Limits
 pub mod Living
 pub mod Commands
-pub mod Starting
 pub mod Serving

@@ -22,6 +22,10 @@ pub record HasSame (old new : Flash) : Type 0 where
 abbrev pub AreWithin : Flash → (group seq : ℕ) → Type 0
 AreWithin flash group seq = (b p : ℕ) (t : Tag) → flash.bad b ≡ false → HasTag flash b p t → (t.group ≤ group) × (t.seq ≤ seq)
 
+-- from this tree on the sessions are a life to the tree that the last device soundly shows
+abbrev pub LivesOn : (spare : ℕ) → Objects → (first : Device) → List SessionRecord → (last : Device) → Type 0
+LivesOn spare tree first sessions last = (left : Objects) × IsLife (sizes_of first.geometry spare) tree sessions left × IsSoundFlash last.geometry last.flash spare left
+
 -- The one device became the other in these sessions. Marks stay, and no more blocks become bad than failures were counted; the
 -- numbers on the flash rise by no more than the changes that were counted; its greatest numbers at first are known, unless nothing was changed; and from each tree of a sound flash,
 -- as long as the limits are kept, the sessions are a life to the tree that is there now.
@@ -33,5 +37,4 @@ pub record HasLived (first last : Device) (sessions : List SessionRecord) : Type
   pub answered : bad_on last + first.failures ≤ bad_on first + last.failures
   pub numbers : (group seq more : ℕ) → AreWithin first.flash group seq → last.changes ≡ first.changes + more → AreWithin last.flash (group + more) (seq + more)
   pub known : HasSame first.flash last.flash ⊎ ((n : Numbers) × AreGreatest first.flash n)
-  pub life : (spare : ℕ) (tree : Objects) → IsSoundFlash first.geometry first.flash spare tree → StaysWithin spare first last
-      → (left : Objects) × IsLife (sizes_of first.geometry spare) tree sessions left × IsSoundFlash last.geometry last.flash spare left
+  pub life : (spare : ℕ) (tree : Objects) → IsSoundFlash first.geometry first.flash spare tree → StaysWithin spare first last → LivesOn spare tree first sessions last

@@ -17,6 +17,7 @@ pub record Starts (fused : Bool) (old new : Device) : Type 0 where
   pub cuts : new.cuts ≡ old.cuts
   pub failures : new.failures ≡ old.failures
   pub changes : new.changes ≡ old.changes
+  pub reads : new.reads ≡ old.reads
   pub steady : fused ≡ false → new.steady ≡ true
 
 -- the fuse with its fates as a list

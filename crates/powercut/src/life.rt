@@ -1,19 +1,18 @@
 // A life of a volume.
-ghost use Rattle.std.specs.Prelude.{◌≡◌, ◌≤◌, ◌+◌, ◌∷◌, [], ℕ, true, false, length, is_some, IfOk, if◌then◌else◌};
+ghost use Rattle.std.specs.Prelude.{◌≡◌, ◌≤◌, ◌+◌, ◌∷◌, [], ℕ, true, length, IfOk};
 ghost use Rattle.nand_model.specs.MemoryState.{device};
-ghost use Rattle.flash_tree.specs.Mount.{sizes_of};
 ghost use Rattle.flash_tree.specs.Sound.{IsSoundFlash};
-ghost use Rattle.lives.specs.Lives.{IsLife};
 ghost use Rattle.pages.specs.Stores.{bad_on};
 ghost use Rattle.posix_profile.specs.State.{Objects};
 ghost use Rattle.powercut.specs.Sessions.{record_of, records_of, IsEnded, AreEnded, cuts_in};
-ghost use Rattle.powercut.specs.Limits.{StaysWithin};
-ghost use Rattle.powercut.specs.Living.{HasLived};
+ghost use Rattle.powercut.specs.Limits.{StaysWithin, NumbersLast, HasReserve, FailsAsListed};
+ghost use Rattle.powercut.specs.Living.{HasLived, LivesOn};
 
 use crate::power::power_on;
 use crate::serving::serve;
 use crate::session::{Session, SessionEnd};
 use nand_model::MemNand;
+use planned_nand::PlannedNand;
 use std::alloc::{AllocError, Global};
 
 /// Why a life was not told to its end.
@@ -36,11 +35,12 @@ fn live_one(
     session: &Session,
 ) -> Result<(MemNand, SessionEnd), AllocError>
     ensures lived { IfOk result (λ lived. HasLived (device nand) (device lived.0) (record_of session.now lived.1 ∷ [])) }
-    ensures ended { IfOk result (λ lived. IsEnded session.now lived.1) }
-    ensures cuts { IfOk result (λ lived. (device lived.0).cuts ≡ (device nand).cuts + (if lived.1.cut then 1 else 0)) }
+    ensures ended { IfOk result (λ lived. IsEnded session.now lived.1 (device nand) (device lived.0)) }
 {
     let nand = power_on(alloc, nand, session)?;
-    let (nand, served) = serve(alloc, nand, &session.commands, session.unmount)?;
+    let planned = PlannedNand::new(nand);
+    let (planned, served) = serve(alloc, planned, &session.commands, session.unmount)?;
+    let nand = planned.into_nand();
     let begun = served.replies.len() as u64;
     let cut = nand.gone();
     Ok((
@@ -69,9 +69,12 @@ pub fn live(
     ensures ends { IfOk result (λ lived. length lived.1.items ≡ length sessions.now) }
     ensures geometry { IfOk result (λ lived. (device lived.0).geometry ≡ (device nand).geometry) }
     ensures life { IfOk result (λ lived. (spare : ℕ) (tree : Objects) → IsSoundFlash (device nand).geometry (device nand).flash spare tree → StaysWithin spare (device nand) (device lived.0)
-        → (last : Objects) × IsLife (sizes_of (device nand).geometry spare) tree (records_of sessions.now lived.1.items) last × IsSoundFlash (device lived.0).geometry (device lived.0).flash spare last) }
-    ensures each { IfOk result (λ lived. AreEnded sessions.now lived.1.items) }
+        → LivesOn spare tree (device nand) (records_of sessions.now lived.1.items) (device lived.0)) }
+    ensures reserve { IfOk result (λ lived. (spare : ℕ) (tree : Objects) → IsSoundFlash (device nand).geometry (device nand).flash spare tree → HasReserve spare (device nand) sessions.now → NumbersLast (device nand) (device lived.0)
+        → LivesOn spare tree (device nand) (records_of sessions.now lived.1.items) (device lived.0)) }
+    ensures each { IfOk result (λ lived. AreEnded sessions.now lived.1.items (device nand) (device lived.0)) }
     ensures cuts { IfOk result (λ lived. (device lived.0).cuts ≡ (device nand).cuts + cuts_in lived.1.items) }
+    ensures failures { IfOk result (λ lived. FailsAsListed sessions.now (device nand) (device lived.0)) }
     ensures marks { IfOk result (λ lived. bad_on (device lived.0) + (device nand).failures ≤ bad_on (device nand) + (device lived.0).failures) }
 {
     let mut last = nand;

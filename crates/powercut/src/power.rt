@@ -1,7 +1,8 @@
 // The power-up of a session.
-ghost use Rattle.std.specs.Prelude.{◌≡◌, IfOk, is_some};
+ghost use Rattle.std.specs.Prelude.{◌≡◌, ◌<◌, ◌^◌, IfOk, is_some};
 ghost use Rattle.nand_model.specs.MemoryState.{device, plan};
 ghost use Rattle.nand_model.specs.Plans.{listed};
+ghost use Rattle.planned_nand.specs.Planning.{fuse_call, call_of};
 ghost use Rattle.powercut.specs.Starting.{Starts, fuse_of, plan_of};
 
 use crate::session::Session;
@@ -13,7 +14,8 @@ fn copy_fuse(
     alloc: Global,
     fuse: &Option<(u64, Vec<Fate>)>,
 ) -> Result<Option<(u64, Vec<Fate>)>, AllocError>
-    ensures { IfOk result (λ copy. fuse_of copy ≡ fuse_of fuse.now) }
+    ensures fuse { IfOk result (λ copy. fuse_of copy ≡ fuse_of fuse.now) }
+    ensures call { IfOk result (λ copy. call_of (fuse_of copy) < 2 ^ 64) }
 {
     match fuse {
         None => Ok(None),
@@ -44,6 +46,7 @@ pub(crate) fn power_on(
 ) -> Result<MemNand, AllocError>
     ensures starts { IfOk result (λ d. Starts (is_some session.now.fuse) (device nand) (device d)) }
     ensures plan { IfOk result (λ d. plan d ≡ plan_of session.now) }
+    ensures call { IfOk result (λ d. fuse_call (plan d) < 2 ^ 64) }
 {
     let fuse = copy_fuse(alloc, &session.fuse)?;
     let failures = copy_failures(alloc, &session.failures)?;

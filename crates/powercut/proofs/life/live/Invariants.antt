@@ -9,6 +9,6 @@ abbrev pub invariant-loop-session : goal.invariant-loop-session
 invariant-loop-session l = record {
   count : length l.ends.items ≡ l.session-index;
   lived : HasLived (device l.fn.nand) (device l.last) (records_of l.sessions l.ends.items);
-  ended : AreEnded l.sessions l.ends.items;
+  ended : AreEnded l.sessions l.ends.items (device l.fn.nand) (device l.last);
   cuts : (device l.last).cuts ≡ (device l.fn.nand).cuts + cuts_in l.ends.items;
 }

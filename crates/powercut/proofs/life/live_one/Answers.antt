@@ -1,31 +1,44 @@
-use Rattle.std.specs.Prelude.{◌≡◌, List, [], ◌∷◌, length, is_some}
-use Rattle.std.proofs.Common.{refl, ◌∙◌, ap, subst, inl, inr, arith}
+use Rattle.std.specs.Prelude.{◌≡◌, Bool, List, [], ◌∷◌, length}
+use Rattle.std.proofs.Common.{refl, ◌∙◌, ap, sym, subst, inl, inr, arith}
 use Rattle.posix_profile.specs.declared.command.Stamped.{Stamped}
-use Rattle.nand_model.specs.MemoryState.{device}
+use Rattle.nand_model.specs.Calls.{Device, Lasts}
+use Rattle.nand_model.specs.Plans.{Plan}
+use Rattle.nand_model.specs.MemoryState.{device, plan}
 use Rattle.lives.specs.Lives.{SessionRecord}
+use Rattle.planned_nand.specs.Planning.{IsPlanned}
+use Rattle.planned_nand.specs.States.{state_of}
 use Rattle.powercut.specs.Living.{HasLived}
-use Rattle.powercut.proofs.Lasting.{lived_one, cuts_counted, no_cut, same_record}
+use Rattle.powercut.specs.Starting.{plan_of}
+use Rattle.powercut.proofs.Lasting.{lived_one, session_lived, planned_from, no_cut, same_record}
 use Rattle.powercut.proofs.life.live_one.Goals as goal
 
 pub returns-clause-lived : goal.returns-clause-lived
 returns-clause-lived c =
     let a = device c.args.nand in
-    let d = device c.in_ok-nand-2.nand in
-    let count : c.len-begun.result ≡ length c.in_ok-nand-2.served.replies.items = omega (arith, c.len-begun.ensures, c.in_ok-nand-2.served.replies.ok.0) in
+    let b = device c.in_ok-nand.nand in
+    let d = device c.into_nand-nand.result in
+    let served = c.in_ok-planned.served in
+    let last = c.into_nand-nand.ensures.device in
+    let count : c.len-begun.result ≡ length served.replies.items = omega (arith, c.len-begun.ensures, served.replies.ok.0) in
+    let gone : (state_of c.in_ok-planned.planned).gone ≡ d.gone = ap (λ (x : Device). x.gone) last in
     subst (λ (r : SessionRecord). HasLived a d (r ∷ []))
-    (same_record c.args.session.now c.deref.result.now c.in_ok-nand-2.served c.len-begun.result c.gone-cut.result d.gone c.deref.ensures.value count c.gone-cut.ensures)
-    (lived_one (is_some c.args.session.now.fuse) a (device c.in_ok-nand.nand) d c.in_ok-nand.ensures.starts _ refl c.in_ok-nand-2.ensures.lived)
-
-pub returns-clause-cuts : goal.returns-clause-cuts
-returns-clause-cuts c =
-    cuts_counted (is_some c.args.session.now.fuse) (device c.args.nand) (device c.in_ok-nand.nand) (device c.in_ok-nand-2.nand) c.in_ok-nand.ensures.starts
-    c.in_ok-nand-2.ensures.lasts c.gone-cut.result c.gone-cut.ensures
+    (same_record c.args.session.now c.deref.result.now served c.len-begun.result c.gone-cut.result (state_of c.in_ok-planned.planned).gone c.deref.ensures.value count (c.gone-cut.ensures ∙ sym gone))
+    (lived_one _ a b d c.in_ok-nand.ensures.starts _ refl
+    (session_lived b d (state_of c.new-planned.result) (state_of c.in_ok-planned.planned) _ _ _ c.new-planned.ensures last c.in_ok-planned.ensures.lived))
 
 pub returns-clause-ended : goal.returns-clause-ended
 returns-clause-ended c =
-    let served = c.in_ok-nand-2.ensures.served in
-    let count : c.len-begun.result ≡ length c.in_ok-nand-2.served.replies.items = omega (arith, c.len-begun.ensures, c.in_ok-nand-2.served.replies.ok.0) in
-    let commands : c.deref.result.now ≡ c.args.session.now.commands.items = c.deref.ensures.value in
+    let session = c.args.session.now in
+    let a = device c.args.nand in
+    let b = device c.in_ok-nand.nand in
+    let d = device c.into_nand-nand.result in
+    let served = c.in_ok-planned.ensures.served in
+    let count : c.len-begun.result ≡ length c.in_ok-planned.served.replies.items = omega (arith, c.len-begun.ensures, c.in_ok-planned.served.replies.ok.0) in
+    let commands : c.deref.result.now ≡ session.commands.items = c.deref.ensures.value in
+    let gone : (state_of c.in_ok-planned.planned).gone ≡ d.gone = ap (λ (x : Device). x.gone) c.into_nand-nand.ensures.device in
+    let lasts = subst (λ (x : Device). Lasts x (state_of c.in_ok-planned.planned)) c.new-planned.ensures c.in_ok-planned.ensures.lasts in
+    let there : IsPlanned (plan_of session) b d = subst (λ (p : Plan). IsPlanned p b d) c.in_ok-nand.ensures.plan (c.into_nand-nand.ensures.planned (plan c.in_ok-nand.nand) b lasts) in
+    let planned : IsPlanned (plan_of session) a d = planned_from _ a b d c.in_ok-nand.ensures.starts (plan_of session) there in
     record {
       replies = count;
       begun = λ mounted. elim (served.begun mounted) [
@@ -34,7 +47,8 @@ returns-clause-ended c =
       ];
       none = λ fault is. count ∙ served.none fault is;
       unmounts = served.unmounts;
-      fuse = no_cut (is_some c.args.session.now.fuse) (device c.args.nand) (device c.in_ok-nand.nand) (device c.in_ok-nand-2.nand) c.in_ok-nand.ensures.starts
-          c.in_ok-nand-2.ensures.lasts c.gone-cut.result c.gone-cut.ensures;
-      gone = λ is. c.gone-cut.ensures ∙ served.lost is;
+      cut = c.gone-cut.ensures;
+      planned = planned;
+      fuse = no_cut session a d c.gone-cut.result c.gone-cut.ensures planned;
+      gone = λ is. c.gone-cut.ensures ∙ sym gone ∙ served.lost is;
     }

@@ -1,0 +1,146 @@
+-- Nothing but a loss of power stops a session.
+use Rattle.std.proofs.Common.{◌≡◌, ◌⊎◌, ◌<◌, ◌+◌, ◌^◌, inl, inr, ℕ, true, false, List, [], ◌∷◌, Option, Result, Ok, Err, sym, ◌∙◌, ap, subst, arith}
+use Rattle.std.proofs.lemmas.Bool.{cases_Bool, true≢false}
+use Rattle.flash_tree.specs.Mount.{Answer, Answers as IsAnswer, IsTreeOf}
+use Rattle.flash_tree.specs.Newest.{Numbers, AreGreatest}
+use Rattle.flash_tree.specs.Sound.{IsSoundFlash}
+use Rattle.flash_tree.specs.laws.Place.{same_flash}
+use Rattle.line_shell.specs.Commands.{line_of}
+use Rattle.line_shell.specs.Runs.{Answers, Run, Shell}
+use Rattle.line_shell.specs.Runs.{Session as Between}
+use Rattle.line_shell.specs.declared.fault.ShellFault.{ShellFault}
+use Rattle.line_shell.specs.declared.fault.ShellFault.TheVariants as faults
+use Rattle.line_shell.specs.declared.line.Line.{Line}
+use Rattle.line_shell.specs.declared.line.Line.TheVariants as lines
+use Rattle.lives.specs.Lives.{at_mount}
+use Rattle.mounting.specs.Made.{AreNext}
+use Rattle.nand_model.specs.Calls.{Device}
+use Rattle.nand_model.specs.Changes.{OnlyReads}
+use Rattle.nand_model.specs.Flash.{Flash}
+use Rattle.nand_model.specs.declared.geometry.Geometry.{Geometry}
+use Rattle.page_volume.specs.Volumes.{pages_of, is_stopped, IsVolumeOf}
+use Rattle.page_volume.specs.declared.volume.PageVolume.{PageVolume}
+use Rattle.paged_objects.specs.Ending.{HasEnded}
+use Rattle.paged_objects.specs.Standing.{volume_of}
+use Rattle.paged_objects.specs.laws.Going.{goes_here, goes_on}
+use Rattle.pages.specs.State.{PagesState, NextNumbers}
+use Rattle.pages.specs.Stores.{GoesOn}
+use Rattle.posix_calls.specs.Endings.{IsUnmounted}
+use Rattle.posix_profile.specs.Runs.{is_stop}
+use Rattle.posix_profile.specs.State.{Objects, State}
+use Rattle.posix_profile.specs.declared.command.Stamped.{Stamped}
+use Rattle.posix_profile.specs.declared.reply.Reply.{Reply}
+use Rattle.posix_profile.specs.declared.reply.Reply.TheVariants as replies
+use Rattle.powercut.specs.Limits.{StaysWithin}
+use Rattle.volume_terms.specs.Sizes.{Sizes}
+use Rattle.flash_program.specs.Serving.{Serves}
+use Rattle.flash_program.specs.Sessions.{Session}
+use Rattle.flash_program.specs.declared.fault.ProgramFault.{ProgramFault}
+
+module _ {P V : Type 0} (state : P → PagesState) (inside : V → PageVolume P) (serves : V → Stamped → Reply → V → Type 0)
+    (serving : (old new : V) (command : Stamped) (reply : Reply) → serves old command reply new → Serves state (inside old) command reply (inside new)) where
+  module _ (first : PagesState) (z : Sizes) where
+    -- a volume after commands of a session that began with these pages: it is stopped for its reason, or stands for a state
+    record Stays (v : V) : Type 0 where
+      pub goes : GoesOn first (state (pages_of (inside v)))
+      pub stands : ((is_stopped (inside v) ≡ true) × HasEnded (state (pages_of (inside v)))) ⊎ ((is_stopped (inside v) ≡ false) × ((s : State) × IsVolumeOf state z s (inside v)))
+
+    called : (old new : V) (command : Stamped) (reply : Reply) → Stays old → serves old command reply new → Stays new
+    called old new command reply at served =
+        let one = serving old new command reply served in
+        record {
+          goes = goes_on first (state (pages_of (inside old))) (state (pages_of (inside new))) at.goes one.goes_on;
+          stands = elim at.stands [
+            | inl (stopped, ended) ↦
+                let same = (one.stopped stopped).1 in
+                inl (ap (λ (w : PageVolume P). is_stopped w) same ∙ stopped, subst (λ (w : PageVolume P). HasEnded (state (pages_of w))) (sym same) ended)
+            | inr (runs, here) ↦
+                let replied = one.replied runs z here.0 here.1 in
+                elim (cases_Bool (is_stop reply)) [
+                  | inl stop ↦ inl (replied.stops ∙ stop, replied.cause stop)
+                  | inr other ↦ inr (replied.stops ∙ other, (_, replied.state_is other))
+                ]
+          ];
+        }
+
+    answered : (line : Line) (old new : Between V) (text : List ℕ) → Stays old.volume → Answers serves line old text new → Stays new.volume
+    answered lines.Nothing old new text at (none, same) = subst (λ (s : Between V). Stays s.volume) (sym same) at
+    answered (lines.Now moment) old new text at (done, same) = subst (λ (s : Between V). Stays s.volume) (sym same) at
+    answered (lines.Do command) old new text at (reply, is, served, moment) = called old.volume new.volume _ reply at served
+    answered lines.Bad old new text at (bad, same) = subst (λ (s : Between V). Stays s.volume) (sym same) at
+
+    run : (asked : List (List ℕ)) (old new : Between V) (text : List ℕ) → Stays old.volume → Run serves asked old text new → Stays new.volume
+    unfolding Run
+    run [] old new text at (none, same) = subst (λ (s : Between V). Stays s.volume) (sym same) at
+    run (line ∷ asked) old new text at (head, rest, middle, is, here, later) = run asked middle new rest (answered (line_of line) old middle head at here) later
+
+    shell_ends : (input left before after : Option (List ℕ)) (old new : V) (ended : Result (Unit {0}) ShellFault) → Stays old → Shell serves input left before after old new ended → Stays new
+    shell_ends input left before after old new (Ok done) at shell = run _ _ _ _ at shell.told.run
+    shell_ends input left before after old new (Err faults.Read) at shell = run _ _ _ _ at shell.told.run
+    shell_ends input left before after old new (Err faults.TooLong) at shell = run _ _ _ _ at shell.told.run
+    shell_ends input left before after old new (Err faults.NoMemory) at shell = run _ _ _ _ at shell.told.run
+    shell_ends input left before after old new (Err faults.Write) at shell = answered _ _ _ _ (run _ _ _ _ at shell.told.run) shell.told.answer
+
+    unmounts : (last : V) (device : Device) (reply : Reply) → Stays last → (u : IsUnmounted state (inside last) device reply)
+        → HasEnded u.pages ⊎ ((is_stopped (inside last) ≡ false) × (reply ≡ replies.Done))
+    unmounts last device reply at u = elim at.stands [
+      | inl (stopped, ended) ↦ inl (subst (λ (q : PagesState). HasEnded q) (sym (u.stopped stopped).1) ended)
+      | inr (runs, here) ↦ elim (u.replies_are runs) [
+        | inl done ↦ inr (runs, done)
+        | inr stop ↦ inl (u.cause runs z here.0 here.1 stop)
+      ]
+    ]
+
+  module _ (one : (g : Geometry) (flash : Flash) (a b : Answer) → IsAnswer g flash a → IsAnswer g flash b → a ≡ b) where
+    module _ (d : Device) (p q : PagesState) (honest : d.honest ≡ true) (reads : OnlyReads d p.device) (next : AreNext p.device.flash p.next) (objects : Objects)
+        (answers : IsAnswer p.device.geometry p.device.flash (IsTreeOf p.spare objects)) (goes : GoesOn p q)
+        (spare : ℕ) (tree : Objects) (sound : IsSoundFlash d.geometry d.flash spare tree) (within : StaysWithin spare d q.device) (power : q.device.gone ≡ false) where
+      same : p.device.flash ≡ d.flash
+      same = same_flash d p.device reads honest
+
+      sound_there : IsSoundFlash p.device.geometry p.device.flash spare tree
+      sound_there = subst (λ (g : Geometry). IsSoundFlash g p.device.flash spare tree) (sym reads.lasts.geometry) (subst (λ (f : Flash). IsSoundFlash d.geometry f spare tree) (sym same) sound)
+
+      found : IsTreeOf p.spare objects ≡ IsTreeOf spare tree
+      found = one p.device.geometry p.device.flash (IsTreeOf p.spare objects) (IsTreeOf spare tree) answers (sound_there.volume, sound_there.shows, sound_there.room)
+
+      spare_is : p.spare ≡ spare
+      spare_is = let is = found in cc
+
+      greatest : AreGreatest d.flash next.0
+      greatest = subst (λ (f : Flash). AreGreatest f next.0) same next.1
+
+      not_ended : HasEnded q → ⊥
+      not_ended (inl (inl gone)) = true≢false (sym gone ∙ power)
+      not_ended (inl (inr dishonest)) = true≢false (sym (goes.device.honest ∙ reads.lasts.honest ∙ honest) ∙ dishonest)
+      not_ended (inr (inl group)) =
+          let rose = goes.numbers.groups (reads.lasts.honest ∙ honest) power in
+          let is : p.next.group ≡ next.0.group + 1 = ap (λ (x : NextNumbers). x.group) next.2 in
+          let changes = reads.changes in
+          let least = within.numbers.groups next.0 greatest in
+          omega (arith, group, rose, is, changes, least)
+      not_ended (inr (inr (inl seq))) =
+          let rose = goes.numbers.seqs in
+          let is : p.next.seq ≡ next.0.seq + 1 = ap (λ (x : NextNumbers). x.seq) next.2 in
+          let changes = reads.changes in
+          let least = within.numbers.seqs next.0 greatest in
+          omega (arith, seq, rose, is, changes, least)
+      not_ended (inr (inr (inr many))) = let few = within.few_bad in let kept = goes.spare in let is = spare_is in omega (arith, many, few, kept, is)
+
+    pub only_a_cut_stops : (before after : Device) (input left written now : Option (List ℕ)) (result : Result (Unit {0}) ProgramFault)
+        → (session : Session state inside serves before input left written now after result)
+        → (spare : ℕ) (tree : Objects) → before.honest ≡ true → IsSoundFlash before.geometry before.flash spare tree → StaysWithin spare before after
+        → after.gone ≡ false → (is_stopped (inside session.last) ≡ false) × (session.reply ≡ replies.Done)
+    only_a_cut_stops before after input left written now result session spare tree honest sound within power =
+        let told = session.mounted.tree honest in
+        let p = state (pages_of (inside session.first)) in
+        let z = volume_of p in
+        let u = session.unmounted in
+        let at_first : Stays p z session.first = record { goes = goes_here p; stands = inr (session.mounted.goes_on, (at_mount told.0, told.1.volume)) } in
+        let at_last = shell_ends p z input left written now session.first session.last session.shell at_first session.answered in
+        elim (unmounts p z session.last after session.reply at_last u) [
+          | inl ended ↦
+              absurd (not_ended before p u.pages honest session.mounted.reads (session.mounted.next honest) told.0 told.1.answers (goes_on p (state (pages_of (inside session.last))) u.pages at_last.goes u.goes_on)
+              spare tree sound (subst (λ (d : Device). StaysWithin spare before d) (sym u.device_is) within) (ap (λ (d : Device). d.gone) u.device_is ∙ power) ended)
+          | inr done ↦ done
+        ]

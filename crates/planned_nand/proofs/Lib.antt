@@ -1,0 +1,5 @@
+pub mod Walks
+pub mod Names
+pub mod Keeping
+pub mod Calls
+pub mod Passing

@@ -1,0 +1,25 @@
+// The counts that a device begins a session with, for contracts alone.
+ghost use Rattle.std.specs.Prelude.{◌≡◌, ℕ};
+ghost use base.Fml.{ftrue};
+
+use std::marker::Model;
+
+/// The counts of a device at a power-up. It takes no memory.
+#[derive(Drop)]
+pub(crate) struct Start {
+    pub ghost told: { ℕ × ℕ × ℕ },
+}
+
+impl Model for Start {
+    ghost also_owns = { λ _. ftrue };
+}
+
+impl Start {
+    /// Counts, as a proof chooses at the call.
+    pub(crate) fn as_told() -> Start
+        ghost told: { ℕ × ℕ × ℕ }
+        ensures { result.told ≡ told }
+    {
+        Start {}
+    }
+}

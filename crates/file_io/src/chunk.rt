@@ -57,7 +57,7 @@ pub(crate) fn chunk_bytes<P: Pages>(
             chunk: 1 + index,
         },
     )?;
-    let mut bytes = pages.page().to_vec(alloc)?;
+    let mut bytes = Vec::from_slice(alloc, pages.page())?;
     let used = head.length.saturating_sub(index * page_bytes);
     clear_from(&mut bytes, used as usize);
     Ok(bytes)

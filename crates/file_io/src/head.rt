@@ -94,7 +94,7 @@ pub(crate) fn read_head<P: Pages>(
     Ok(FileHead {
         length: header.length,
         moment: header.moment,
-        bits: header.bits.to_vec(alloc)?,
+        bits: Vec::from_slice(alloc, header.bits)?,
     })
 }
 

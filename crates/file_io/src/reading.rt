@@ -20,12 +20,10 @@ fn append(bytes: &mut Vec<u8>, part: &[u8]) -> Result<(), AllocError>
 
 /// Appends so many zeros.
 fn append_zeros(bytes: &mut Vec<u8>, count: u64) -> Result<(), AllocError>
+    requires { count ≤ 4096 }
     ensures { OnOk result (bytes.new.items ≡ bytes.old.items ++ replicate count 0) }
 {
-    for _ in 0..count {
-        bytes.push(0)?;
-    }
-    Ok(())
+    bytes.resize(bytes.len() + count as usize, 0)
 }
 
 /// Appends the bytes of a file that lie in one of its chunks, from `offset` on and before `end`.

@@ -66,7 +66,7 @@ fn written_bytes<P: Pages>(
     let to = end.min(begin + page_bytes);
     let part = &bytes[(from - offset) as usize..(to - offset) as usize];
     if to - from == page_bytes {
-        return Ok(part.to_vec(alloc)?);
+        return Ok(Vec::from_slice(alloc, part)?);
     }
     let mut page = chunk_bytes(alloc, pages, object, head, index)?;
     overwrite(&mut page, (from - begin) as usize, part);

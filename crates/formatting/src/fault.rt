@@ -3,15 +3,18 @@ ghost use Rattle.std.specs.Prelude.{◌≡◌};
 ghost use Rattle.formatting.specs.declared.fault.FormatFault.TheVariants as faults;
 
 use nand_model::Gone;
+use thiserror::Error;
 
 /// After `Worn` and `Gone` nothing is promised of what stands in good blocks.
-#[derive(Clone, Copy, Debug, PartialEq, Eq)]
+#[derive(Clone, Copy, Debug, PartialEq, Eq, Error)]
 pub enum FormatFault {
-    /// The device has fewer than four blocks besides the spare ones.
+    #[error("fewer than four blocks are left besides the spare ones: ask for fewer spare blocks")]
     Spare,
+    #[error("memory was refused, and nothing was changed: free some, then format again")]
     NoMemory,
-    /// More blocks are bad than are spare.
+    #[error("more blocks are bad than are spare: ask for more spare blocks, or take another part")]
     Worn,
+    #[error("power was lost: format again after the next power-up")]
     Gone,
 }
 

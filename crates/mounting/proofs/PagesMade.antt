@@ -17,7 +17,7 @@ use Rattle.chunk_index.specs.Maps.{kept_pages, kept_in, present}
 use Rattle.chunk_index.specs.declared.form.KeptPage.{KeptPage}
 use Rattle.chunk_index.specs.declared.index.Index.{Index}
 use Rattle.transactions.specs.Ready.{IsReady}
-use Rattle.bad_blocks.specs.Standing.{AreHeld, IsKept, Stands, HasFreeBlocks}
+use Rattle.bad_blocks.specs.Standing.{AreHeld, IsKept, Stands, HasFreeBlocks, KeepsOrdinary, TablesAgree}
 use Rattle.bad_blocks.specs.laws.FreeBlocks.{leaves_fewer, leaves_unkept, same_bad_blocks}
 use Rattle.bad_blocks.specs.laws.Moves.{are_held}
 use Rattle.page_buffer.specs.BufferOf.{buffered, most_pages}
@@ -36,7 +36,7 @@ use Rattle.mounting.specs.Marked.{marked, AreFitting}
 use Rattle.mounting.specs.Mounted.{HasRoomOn}
 use Rattle.mounting.specs.Tables.{IsPruned}
 use Rattle.mounting.proofs.Shown.{kept_newest}
-use Rattle.mounting.proofs.Standing.{stands_pruned}
+use Rattle.mounting.proofs.Standing.{stands_pruned, tables_pruned}
 
 -- a key with data is kept
 kept_of_data : (flash : Flash) (xs : List ℕ) (m : Option KeptPage) → option_and_then (data_at flash) m ≡ Some xs → (p : KeptPage) × (m ≡ Some p)
@@ -76,7 +76,10 @@ module _ (keeps : ℕ → ℕ → Bool) (d : Device) (t : Table) (x : Index) (n 
         let closed : free_count t ≡ unkept_count t = free_where_closed t pruned.closed in
         omega (arith, same, enough, unkept, closed)
 
-    pub stands : Stands spare d t x
+    tables : TablesAgree spare t x
+    tables = tables_pruned keeps spare d t x n pruned can.0 fits free
+
+    pub stands : (d.honest ≡ true → KeepsOrdinary x) → Stands spare d t x
     stands = stands_pruned keeps spare d t x n pruned can.0 fits free
 
     module _ (none : (b : ℕ) → kept_in x b ≡ 0 → HoldsNone (kept_pages x) b) where
@@ -87,7 +90,7 @@ module _ (keeps : ℕ → ℕ → Bool) (d : Device) (t : Table) (x : Index) (n 
       carried honest = record {
         newest = kept_newest d.flash x (pruned.newest honest);
         free = λ left. leaves_fewer d.geometry d.flash spare (IsKept (kept_pages x)) (HasPage (kept_data x d.flash)) (λ o c (xs, is). kept_of_data d.flash xs (kept_pages x o c) is)
-            (leaves_unkept spare d t x ready stands.tables held (pruned.newest honest));
+            (leaves_unkept spare d t x ready tables held (pruned.newest honest));
       }
 
       next_is : next_numbers t ≡ next_after n

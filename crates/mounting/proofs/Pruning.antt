@@ -58,6 +58,9 @@ module _ (keeps : ℕ → ℕ → Bool) (a b : Device) (t u : Table) (x y : Inde
   closed : u.open_block ≡ None
   closed = recounts.open_block ∙ opened.closed
 
+  checkpoint : u.checkpoint ≡ None
+  checkpoint = recounts.checkpoint ∙ opened.checkpoint
+
   geometry : u.geometry ≡ b.geometry
   geometry = recounts.geometry ∙ opened.geometry ∙ sym reads.lasts.geometry
 
@@ -68,6 +71,7 @@ module _ (keeps : ℕ → ℕ → Bool) (a b : Device) (t u : Table) (x y : Inde
         geometry = geometry;
         marks = λ k. recounts.bad k ∙ was.marks k ∙ sym (ap (λ (f : ℕ → Bool). f k) reads.bad);
         open_block = λ o is. absurd (let two : None ≡ Some o = sym closed ∙ is in cc);
+        waits = λ c is. absurd (let two : None ≡ Some c = sym checkpoint ∙ is in cc);
         numbers = (subst (λ k. 1 ≤ k) (sym recounts.next_group) was.numbers.0, subst (λ k. 1 ≤ k) (sym recounts.next_seq) was.numbers.1);
         below = below;
       } where
@@ -95,6 +99,7 @@ module _ (keeps : ℕ → ℕ → Bool) (a b : Device) (t u : Table) (x y : Inde
     counts = counts;
     geometry = geometry;
     closed = closed;
+    checkpoint = checkpoint;
     shown = shown;
     unbuffered = unbuffered;
     within = λ o c p is. subst (λ (g : Geometry). (p.block < g.blocks) × (p.page < g.pages)) (sym reads.lasts.geometry) (opened.within o c p (was_kept o c p is));

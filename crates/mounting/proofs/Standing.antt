@@ -1,26 +1,59 @@
 -- What a store needs of the tables of a tree.
-use Rattle.std.specs.Prelude.{◌≡◌, ℕ, Bool, Some, None}
-use Rattle.std.proofs.Common.{sym, ◌∙◌, arith}
+use Rattle.std.specs.Prelude.{◌≡◌, ◌<◌, ◌-◌, ◌^◌, ℕ, Bool, true, Option, Some, None}
+use Rattle.std.specs.FinMap as map
+use Rattle.std.specs.Option.{option_and_then}
+use Rattle.std.proofs.Common.{refl, sym, ap, subst, ◌∙◌, arith}
+use Rattle.volume_terms.specs.Sizes.{Sizes}
+use Rattle.nand_model.specs.Flash.{Flash}
+use Rattle.posix_profile.specs.State.{Object, Objects}
+use Rattle.posix_profile.specs.WellFormed.{IsForest}
+use Rattle.object_pages.specs.Holding.{HoldsObject, HoldsObjects}
+use Rattle.page_buffer.specs.Shown.{data_at, data_of, kept_data}
+use Rattle.chunk_index.specs.Maps.{kept_pages}
 use Rattle.nand_model.specs.Calls.{Device}
 use Rattle.flash_tree.specs.Newest.{Numbers}
 use Rattle.block_state.specs.Table.{Table}
 use Rattle.block_state.specs.laws.Kept.{free_where_closed}
 use Rattle.chunk_index.specs.declared.index.Index.{Index}
-use Rattle.bad_blocks.specs.Standing.{Stands, HasFreeBlocks}
+use Rattle.bad_blocks.specs.Standing.{AreKept, KeepsOrdinary, Stands, TablesAgree, HasFreeBlocks}
 use Rattle.newest_pages.specs.Opened.{AreLeft}
 use Rattle.mounting.specs.Marked.{AreFitting}
 use Rattle.mounting.specs.Tables.{IsPruned}
 
--- Where numbers are left and blocks enough are free, a store can stand on the tables.
-pub stands_pruned : (keeps : ℕ → ℕ → Bool) (spare : ℕ) (d : Device) (t : Table) (x : Index) (n : Numbers) → IsPruned keeps d t x n → AreLeft n → AreFitting t → HasFreeBlocks t spare → Stands spare d t x
-stands_pruned keeps spare d t x n pruned left fits free = record {
-  tables = record {
-    counts = pruned.counts;
-    within = pruned.lie left;
-    fits = fits;
-    written = λ o at. let both : None ≡ Some o = sym pruned.closed ∙ at in absurd cc;
-    unkept = let same = free_where_closed t pruned.closed in omega (arith, same, free);
-  };
+-- where numbers are left and blocks enough are free, the tables agree
+pub tables_pruned : (keeps : ℕ → ℕ → Bool) (spare : ℕ) (d : Device) (t : Table) (x : Index) (n : Numbers) → IsPruned keeps d t x n → AreLeft n → AreFitting t → HasFreeBlocks t spare
+    → TablesAgree spare t x
+tables_pruned keeps spare d t x n pruned left fits free = record {
+  counts = pruned.counts;
+  within = pruned.lie left;
+  fits = fits;
+  written = λ o at. let both : None ≡ Some o = sym pruned.closed ∙ at in absurd cc;
+  unkept = let same = free_where_closed t pruned.closed in omega (arith, same, free);
+  apart = λ c at. let both : None ≡ Some c = sym pruned.checkpoint ∙ at in absurd cc;
+}
+
+-- and a store can stand on them
+pub stands_pruned : (keeps : ℕ → ℕ → Bool) (spare : ℕ) (d : Device) (t : Table) (x : Index) (n : Numbers) → IsPruned keeps d t x n → AreLeft n → AreFitting t → HasFreeBlocks t spare
+    → (d.honest ≡ true → KeepsOrdinary x) → Stands spare d t x
+stands_pruned keeps spare d t x n pruned left fits free ordinary = record {
+  tables = tables_pruned keeps spare d t x n pruned left fits free;
   newest = λ honest power. pruned.newest honest;
+  ordinary = ordinary;
   limits = (omega (arith, pruned.group left, left.0), omega (arith, pruned.seq left, left.1));
 }
+
+-- The kept pages are of the objects of a tree, and none of these has the number of checkpoints.
+pub ordinary_shown : (z w : Sizes) (f : Flash) (x : Index) (objects : Objects) → IsForest z objects → HoldsObjects w (kept_data x f) objects → AreKept f (kept_pages x) → KeepsOrdinary x
+ordinary_shown z w f x objects forest holds kept o c p is same =
+    let has = (kept o c p is).newest.holds.has in
+    let two : None ≡ Some has.bytes = sym empty ∙ ap (option_and_then (data_at f)) is ∙ ap data_of has.page in
+    cc
+  where
+    none : map.get objects o ≡ None
+    none = go (map.get objects o) refl where
+      go : (m : Option Object) → map.get objects o ≡ m → map.get objects o ≡ None
+      go None at = at
+      go (Some object) at = let less : o < 2 ^ 64 - 1 = (forest.each o object at).number in absurd (omega (arith, less, same))
+
+    empty : kept_data x f o c ≡ None
+    empty = subst (HoldsObject w (kept_data x f) o) none (holds.each o) c

@@ -9,6 +9,7 @@ marked flash t = record {
   geometry = t.geometry;
   entry = λ b. record (t.entry b) { bad = flash.bad b };
   open_block = t.open_block;
+  checkpoint = t.checkpoint;
   next_seq = t.next_seq;
   next_group = t.next_group;
 }

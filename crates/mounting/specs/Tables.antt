@@ -20,6 +20,7 @@ pub record IsPruned (keeps : ℕ → ℕ → Bool) (device : Device) (t : Table)
   pub counts : CountsAgree t x
   pub geometry : t.geometry ≡ device.geometry
   pub closed : t.open_block ≡ None
+  pub checkpoint : t.checkpoint ≡ None
   pub shown : (o c : ℕ) → present x o c ≡ as_kept (kept_pages x o c)
   pub unbuffered : IsUnbuffered x
   pub within : (o c : ℕ) (p : KeptPage) → kept_pages x o c ≡ Some p → (p.block < device.geometry.blocks) × (p.page < device.geometry.pages)

@@ -3,6 +3,7 @@ ghost use Rattle.std.specs.Prelude.{◌≡◌, true, false, IfOk, IfErr};
 ghost use Rattle.flash_tree.specs.Places.{numbers_of};
 ghost use Rattle.block_state.specs.TableOf.{table};
 ghost use Rattle.flash_pages.specs.ReadOnly.{IsWorn};
+ghost use Rattle.bad_blocks.specs.Standing.{KeepsOrdinary};
 ghost use Rattle.mounting.specs.Made.{ArePagesOn, CanBeWritten};
 ghost use Rattle.mounting.specs.Marked.{AreFitting};
 ghost use Rattle.mounting.specs.Mounted.{IsTreeRead, HasRoomOn};
@@ -38,6 +39,7 @@ fn store_pages<N: Nand>(
     requires read { IsTreeRead (N.state on.device) (table on.blocks) on.index (numbers_of on.numbers) on.spare on.tree }
     requires fitting { AreFitting (table on.blocks) }
     requires room { HasRoomOn (N.state on.device) (table on.blocks) on.spare }
+    requires ordinary { (N.state on.device).honest ≡ true → KeepsOrdinary on.index }
     requires can { CanBeWritten (N.state on.device) (numbers_of on.numbers) on.spare }
     ensures made { IfOk result (λ store. ArePagesOn (N.state on.device) on.index (numbers_of on.numbers) on.spare (⟦<Store<N> as Pages>⟧.state store)) }
     ensures worn { IfOk result (λ store. (⟦<Store<N> as Pages>⟧.state store).worn ≡ false) }
@@ -89,6 +91,7 @@ pub(crate) fn make_pages<N: Nand>(
     requires fitting { AreFitting (table on.blocks) }
     requires room { HasRoomOn (N.state on.device) (table on.blocks) on.spare }
     requires worn { worn ≡ true → IsWorn (N.state on.device) (numbers_of on.numbers) on.spare }
+    requires ordinary { (N.state on.device).honest ≡ true → KeepsOrdinary on.index }
     requires can { worn ≡ false → CanBeWritten (N.state on.device) (numbers_of on.numbers) on.spare }
     ensures made { IfOk result (λ pages. ArePagesOn (N.state on.device) on.index (numbers_of on.numbers) on.spare (⟦<FlashPages<N> as Pages>⟧.state pages)) }
     ensures worn { IfOk result (λ pages. (⟦<FlashPages<N> as Pages>⟧.state pages).worn ≡ worn) }

@@ -12,7 +12,7 @@ ghost use Rattle.command_plans.specs.Plans.{Holds, Plans, Tries, Frees, LeavesDe
 ghost use Rattle.object_commands.specs.Reads.{read_of};
 ghost use Rattle.command_plans.specs.Tables.{handle_of, handles_in};
 
-use command_plans::facts::length;
+use command_plans::facts::file_length;
 use command_plans::place::find_object;
 use command_plans::plan::{HandleChange, Plan, StoreWork, tell};
 use command_plans::table::{DescriptorTable, OpenDescription};
@@ -213,14 +213,10 @@ fn seek_open<'a, S: ObjectStore>(
     ensures memory { Frees result }
     ensures device { LeavesDevice result }
 {
-    if !is_file(store, description.object) {
+    let Some(length) = file_length(store, description.object) else {
         return Err(Errno::EINVAL);
-    }
-    let origin = seek_origin(
-        whence,
-        description.offset,
-        length(store, description.object),
-    );
+    };
+    let origin = seek_origin(whence, description.offset, length);
     seek_signed(fd, description, seek_target(origin, offset))
 }
 

@@ -38,20 +38,25 @@ fn write_offset(description: OpenDescription, size: u64) -> u64
     }
 }
 
-/// How many bytes are written of so many.
-fn write_count<S: ObjectStore>(store: &S, description: OpenDescription, count: usize) -> u64
+/// How many bytes are written of so many, to a file of this size.
+fn write_count<S: ObjectStore>(
+    store: &S,
+    description: OpenDescription,
+    size: u64,
+    count: usize,
+) -> u64
     ensures count { (z : Sizes) (s : State) → Holds S.meaning z s store.now → IsFile s.objects description.object
-        → (moment : ℕ) (new : List ℕ) → count ≡ length new
+        → size ≡ length (bytes_of (map.get s.objects description.object)) → (moment : ℕ) (new : List ℕ) → count ≡ length new
         → result ≡ write_count z moment s (handle_of description) (bytes_of (map.get s.objects description.object)) new }
     ensures given { result ≤ count }
     ensures small { result ≤ 1048576 }
 {
     let sizes = store.sizes();
-    let offset = write_offset(description, length(store, description.object));
+    let offset = write_offset(description, size);
     let most = (count as u64)
         .min(sizes.most_written())
         .min(sizes.greatest_length().saturating_sub(offset));
-    let room = units_for(store, description.object).saturating_mul(sizes.page_bytes());
+    let room = units_for(store, size).saturating_mul(sizes.page_bytes());
     most.min(room.saturating_sub(offset))
 }
 
@@ -66,11 +71,12 @@ fn write_file<'a, S: ObjectStore>(
     ensures { (z : Sizes) (s : State) → Holds S.meaning z s store.now → IsFile s.objects description.object → fd < descriptors
         → Tries z Changing s (write_file z moment s fd (handle_of description) new.now (bytes_of (map.get s.objects description.object))) result }
 {
-    let offset = write_offset(description, length(store, description.object));
+    let size = length(store, description.object);
+    let offset = write_offset(description, size);
     if store.sizes().greatest_length() <= offset {
         return Err(Errno::EFBIG);
     }
-    let count = write_count(store, description, new.len());
+    let count = write_count(store, description, size, new.len());
     if count == 0 {
         return Err(Errno::ENOSPC);
     }

@@ -1,6 +1,6 @@
 -- What is known of the objects that a change speaks of.
 use Rattle.std.specs.Prelude.{◌≡◌, ◌≢◌, ◌≤◌, ℕ, Option, Some, None, slice_get}
-use Rattle.std.proofs.Common.{refl, sym, ◌∙◌, ap, inl, inr, arith}
+use Rattle.std.proofs.Common.{refl, sym, ◌∙◌, ap, subst, inl, inr, arith}
 use Rattle.std.specs.Cmp.{nat_cmp_total}
 use Rattle.std.specs.FinMap as map
 use Rattle.volume_terms.specs.Names.{IsName}
@@ -8,12 +8,13 @@ use Rattle.volume_terms.specs.Sizes.{Sizes, root_number}
 use Rattle.posix_profile.specs.State.{Object, File, Dir, Objects, IsFile, IsDirectory}
 use Rattle.posix_profile.specs.Changes.{new_number}
 use Rattle.posix_profile.specs.laws.Map.{insert_cases, remove_cases}
-use Rattle.posix_profile.specs.laws.Number.{new_number_is}
+use Rattle.posix_profile.specs.laws.Number.{new_number_is, new_number_few}
 use Rattle.object_store.specs.Changes.{made, without, IsTarget, IsSensible, CanMake}
 use Rattle.object_store.specs.declared.change.DirectoryEntry.{DirectoryEntry}
 use Rattle.object_store.specs.declared.change.ObjectChange.{ObjectChange}
 use Rattle.object_store.specs.declared.change.ObjectChange.TheVariants as changes
 use Rattle.flash_tree.specs.Slots.{IsSlotNumber}
+use Rattle.flash_tree.specs.Truth.{IsObjectNumber}
 use Rattle.flash_tree.specs.declared.place.FreshPage.{FreshPage}
 use Rattle.pages.specs.Changes.{AreApart}
 use Rattle.pages.specs.Maps.{PageMap, changed, IsPageOf}
@@ -41,14 +42,14 @@ target_name z objects can entry o dropped (inl new) = new.0.name
 target_name z objects can entry o dropped (inr there) =
     (can.forest.each entry.directory (Dir there.1.moment there.1.entries) there.1.directory_is).content entry.name.now there.0 there.1.object_is
 
--- ---- numbers from 1 up
+-- ---- numbers that objects may have
 
 abbrev AllNumbered : Objects → Type 0
-AllNumbered objects = (o : ℕ) (x : Object) → map.get objects o ≡ Some x → 1 ≤ o
+AllNumbered objects = (o : ℕ) (x : Object) → map.get objects o ≡ Some x → IsObjectNumber o
 
-numbered_put : (objects : Objects) → AllNumbered objects → (k : ℕ) (v : Object) → 1 ≤ k → AllNumbered (map.insert objects k v)
+numbered_put : (objects : Objects) → AllNumbered objects → (k : ℕ) (v : Object) → IsObjectNumber k → AllNumbered (map.insert objects k v)
 numbered_put objects all k v some o x is = elim (insert_cases nat_cmp_total map.nat_cmp-IsAntisymmetric objects k v o x is) [
-  | inl here' ↦ omega (arith, some, here'.0)
+  | inl here' ↦ subst IsObjectNumber (sym here'.0) some
   | inr there ↦ all o x there.1
 ]
 
@@ -59,23 +60,23 @@ numbered_without : (objects : Objects) → AllNumbered objects → (dropped : Op
 numbered_without objects all None = all
 numbered_without objects all (Some k) = numbered_less objects all k
 
--- after a change that can be made each object has a number from 1 up
+-- after a change that can be made each object has such a number
 made_numbered : (z : Sizes) (objects : Objects) → CanHave z objects → (change : ObjectChange) → IsSensible z objects change → AllNumbered (made objects change)
 made_numbered z objects can change sensible = go change sensible
   where
     all : AllNumbered objects
-    all o x is = (can.forest.each o x is).numbered
+    all o x is = let object = can.forest.each o x is in (object.numbered, object.number)
 
-    directory : (d : ℕ) → IsDirectory objects d → 1 ≤ d
+    directory : (d : ℕ) → IsDirectory objects d → IsObjectNumber d
     directory d dir = all d (Dir dir.0 dir.1) dir.2
 
-    file : (o : ℕ) → IsFile objects o → 1 ≤ o
+    file : (o : ℕ) → IsFile objects o → IsObjectNumber o
     file o it = all o (File it.0 it.1) it.2
 
     go : (change : ObjectChange) → IsSensible z objects change → AllNumbered (made objects change)
     go (changes.Create entry kind moment) is =
         let low = (new_number_is objects).low in
-        numbered_put _ (numbered_put objects all (new_number objects) _ (omega (arith, low))) entry.directory _ (directory entry.directory is.directory)
+        numbered_put _ (numbered_put objects all (new_number objects) _ (omega (arith, low), new_number_few z can.numbers objects can.fit)) entry.directory _ (directory entry.directory is.directory)
     go (changes.Name entry number moment) is = numbered_put objects all entry.directory _ (directory entry.directory is.0.directory)
     go (changes.Remove entry dropped moment) is =
         numbered_without _ (numbered_put objects all entry.directory _ (all entry.directory _ is.1.directory_is)) dropped
@@ -99,10 +100,9 @@ page_there z m change objects apart holds o c i is = go (map.get objects o) (hol
     go None none = let two : None ≡ Some is.page.bytes.items = sym (none c) ∙ written in absurd cc
     go (Some y) held = (y, λ i. Some y)
 
--- so none is of the number 0
-pub none_of_zero : (z : Sizes) (m : PageMap) (objects : Objects) → CanHave z objects → (change : ObjectChange) → CanMake z objects change → (pages : Change) → AreApart pages.pages.items
-    → HoldsObjects z (changed pages m) (made objects change) → (i : ℕ) (p : FreshPage) → slice_get pages.pages.items i ≡ Some p → p.key.object ≡ 0 → ⊥
-none_of_zero z m objects can change make pages apart holds i p is zero' =
+-- so none is of a number that no object may have
+pub none_of_others : (z : Sizes) (m : PageMap) (objects : Objects) → CanHave z objects → (change : ObjectChange) → CanMake z objects change → (pages : Change) → AreApart pages.pages.items
+    → HoldsObjects z (changed pages m) (made objects change) → (i : ℕ) (p : FreshPage) → slice_get pages.pages.items i ≡ Some p → (IsObjectNumber p.key.object → ⊥) → ⊥
+none_of_others z m objects can change make pages apart holds i p is other =
     let there = page_there z m pages (made objects change) apart holds p.key.object p.key.chunk i (record { page = p; there = is; object = refl; chunk = refl }) in
-    let some : 1 ≤ p.key.object = made_numbered z objects can change make.sensible p.key.object there.0 there.1 in
-    omega (arith, some, zero')
+    other (made_numbered z objects can change make.sensible p.key.object there.0 there.1)

@@ -1,8 +1,9 @@
 // A change of objects as one of pages.
-ghost use Rattle.std.specs.Prelude.{◌≡◌, ◌≤◌, ℕ, true, false, OnOk, IfOk, IfErr, Some, slice_get};
+ghost use Rattle.std.specs.Prelude.{◌≡◌, ◌↔◌, ◌≤◌, ℕ, true, false, IsTrue, OnOk, IfOk, IfErr, Some, slice_get};
 ghost use Rattle.volume_terms.specs.Sizes.{Sizes};
 ghost use Rattle.posix_profile.specs.State.{Objects};
 ghost use Rattle.posix_profile.specs.Changes.{new_number};
+ghost use Rattle.flash_tree.specs.Truth.{IsObjectNumber};
 ghost use Rattle.flash_tree.specs.declared.place.FreshPage.{FreshPage};
 ghost use Rattle.object_store.specs.Changes.{made, CanMake};
 ghost use Rattle.pages.specs.Changes.{IsChange, AreOfObjects};
@@ -17,18 +18,25 @@ use crate::content::{resize, write};
 use crate::moving::move_name;
 use crate::naming::{create, name};
 use crate::removal::{forget, remove};
-use flash_tree::FreshPage;
+use flash_tree::{CHECK_OBJECT, FreshPage};
 use object_store::ObjectChange;
 use pages::{Change, PageFault, Pages};
 use std::alloc::Global;
 
+/// Whether an object may have this number: neither 0 nor that of checkpoints.
+fn is_object_number(number: u64) -> bool
+    ensures { IsTrue result ↔ IsObjectNumber number }
+{
+    number != 0 && number < CHECK_OBJECT
+}
+
 /// Whether each page is of a number that an object can have.
 fn are_numbered(pages: &[FreshPage]) -> bool
     ensures numbered { result ≡ true → AreOfObjects pages.now }
-    ensures not { result ≡ false → (i : ℕ) × (p : FreshPage) × (slice_get pages.now i ≡ Some p) × (p.key.object ≡ 0) }
+    ensures not { result ≡ false → (i : ℕ) × (p : FreshPage) × (slice_get pages.now i ≡ Some p) × (IsObjectNumber p.key.object → ⊥) }
 {
     for page in pages {
-        if page.key.object == 0 {
+        if !is_object_number(page.key.object) {
             return false;
         }
     }

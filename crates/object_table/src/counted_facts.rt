@@ -15,6 +15,7 @@ use crate::facts::ObjectFacts;
 use posix_profile::Kind;
 use std::alloc::{AllocError, Global};
 use std::collections::BTreeMap;
+use std::mem::replace;
 use volume_terms::VolumeSizes;
 
 /// The facts of objects, by number, and the units that the objects cost.
@@ -36,16 +37,21 @@ fn facts_at(facts: &BTreeMap<u64, Option<ObjectFacts>>, number: u64) -> Option<O
     }
 }
 
-/// Puts facts at a number at which there is room.
-fn put_facts(facts: &mut BTreeMap<u64, Option<ObjectFacts>>, number: u64, new: ObjectFacts)
+/// Puts facts at a number at which there is room, and returns those that were there.
+fn put_facts(
+    facts: &mut BTreeMap<u64, Option<ObjectFacts>>,
+    number: u64,
+    new: ObjectFacts,
+) -> Option<ObjectFacts>
     requires { IsSome (get nat_cmp facts.old number) }
+    ensures before { result ≡ facts_in facts.old number }
     ensures here { get nat_cmp facts.new number ≡ Some (Some new) }
     ensures others { (k : ℕ) → k ≢ number → get nat_cmp facts.new k ≡ get nat_cmp facts.old k }
     ensures len { btree_map_len facts.new ≡ btree_map_len facts.old }
 {
-    match facts.insert(number, Some(new)) {
-        Ok(_) => {}
-        Err(_) => unreachable!(),
+    match facts.get_mut(&number) {
+        Some(place) => replace(place, Some(new)),
+        None => unreachable!(),
     }
 }
 
@@ -98,8 +104,8 @@ impl CountedFacts {
         requires { HasRoomIn self.old number }
         ensures { Puts self.old self.new number new }
     {
-        let freed = units_of(self.sizes, facts_at(&self.facts, number));
-        put_facts(&mut self.facts, number, new);
+        let old = put_facts(&mut self.facts, number, new);
+        let freed = units_of(self.sizes, old);
         let less = self.charge.saturating_sub(freed);
         self.charge = less.saturating_add(new.cost(self.sizes));
     }

@@ -31,6 +31,7 @@ after earlier p = record {
   next = p.next;
   spare = p.spare;
   worn = p.worn;
+  checkpoint = p.checkpoint;
 }
 
 -- the bytes of a page, or what was lent where there is none

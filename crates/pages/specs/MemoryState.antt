@@ -1,5 +1,5 @@
 -- What a store in memory keeps.
-use Rattle.std.specs.Prelude.{true, false, Option, slice_get}
+use Rattle.std.specs.Prelude.{true, false, Option, None, slice_get}
 use Rattle.pages.specs.Maps.{no_pages, with_pages}
 use Rattle.pages.specs.State.{PagesState, no_numbers}
 use Rattle.pages.specs.Afterwards.{bytes_or}
@@ -24,6 +24,7 @@ kept it = record {
   next = no_numbers;
   spare = 0;
   worn = false;
+  checkpoint = None;
 }
 
 -- the look-up that it is told to refuse

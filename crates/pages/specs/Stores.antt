@@ -7,6 +7,7 @@ use Rattle.flash_tree.specs.Newest.{HasNewest, AreAbove}
 use Rattle.flash_tree.specs.Numbering.{AreBelow}
 use Rattle.flash_tree.specs.Mount.{bad_blocks}
 use Rattle.flash_tree.specs.FreeBlocks.{LeavesFree}
+use Rattle.flash_tree.specs.Truth.{KeepsTrue}
 use Rattle.flash_tree.specs.declared.place.FreshPage.{FreshPage}
 use Rattle.flash_tree.specs.declared.place.Key.{Key}
 use Rattle.volume_terms.specs.Sizes.{number_limit, number_end}
@@ -53,7 +54,8 @@ abbrev pub bad_on : Device → ℕ
 bad_on device = bad_blocks device.geometry device.flash
 
 -- What every call of a store keeps, whatever its device does: the sizes, whether it can only be read, and what calls of the
--- device keep. Each block that goes bad answers a failure that the device counted. No number of 2^62 is written.
+-- device keep. Each block that goes bad answers a failure that the device counted. No number of 2^62 is written. Checkpoints
+-- stay right.
 pub record GoesOn (old new : PagesState) : Type 0 where
   pub page_bytes : new.page_bytes ≡ old.page_bytes
   pub most : new.most ≡ old.most
@@ -65,6 +67,7 @@ pub record GoesOn (old new : PagesState) : Type 0 where
   pub numbers : HandsOutNumbers old.device new.device old.next new.next
   pub marks : bad_on new.device + old.device.failures ≤ bad_on old.device + new.device.failures
   pub limits : old.device.honest ≡ true → HasNumbersLeft old.device.flash → HasNumbersLeft new.device.flash
+  pub truth : KeepsTrue old.device new.device old.checkpoint new.checkpoint
 
 -- Where the store is sound still, these are the pages of its last commit; an honest device has them, in either case.
 pub record KeptAs (new : PagesState) (m : PageMap) : Type 0 where
@@ -91,6 +94,7 @@ pub record StaysSame (old new : PagesState) : Type 0 where
   pub sound : new.sound ≡ old.sound
   pub device : new.device ≡ old.device
   pub next : new.next ≡ old.next
+  pub checkpoint : new.checkpoint ≡ old.checkpoint
 
 -- More is kept than leaves room for a change: with so many pages in each of all blocks that are not to spare but one, there
 -- are more.

@@ -1,11 +1,12 @@
 // The parts of a path, and the tests before the tree is looked at.
-ghost use Rattle.std.specs.Prelude.{◌≡◌, length, filter, nat_eq, nat_lt, IfOk, map as list_map};
+ghost use Rattle.std.specs.Prelude.{◌≡◌, length, filter, nat_lt, IfOk, map as list_map};
 ghost use Rattle.std.specs.Result.{result_err};
-ghost use Rattle.std.specs.List.{list_any, slice_split};
+ghost use Rattle.std.specs.List.{list_any};
 ghost use Rattle.volume_terms.specs.Sizes.{name_limit};
-ghost use Rattle.posix_profile.specs.Paths.{component, slash, parts, path_tests, first_error, ends_in_slash};
+ghost use Rattle.posix_profile.specs.Paths.{component, parts, path_tests, first_error, ends_in_slash};
 ghost use Rattle.path_walk.specs.Places.{component_of};
 
+use byte_pieces::pieces_of;
 use posix_profile::Errno;
 use std::alloc::{AllocError, Global};
 use volume_terms::{NAME_LIMIT, PATH_LIMIT};
@@ -30,18 +31,11 @@ pub struct PathPlace<'a> {
     pub slash_follows: bool,
 }
 
-/// What stands between slashes, also where that is nothing.
-fn pieces_of(alloc: Global, path: &[u8]) -> Result<Vec<&[u8]>, AllocError>
-    ensures { IfOk result (λ all. list_map (λ piece. piece.now) all.items ≡ slice_split (nat_eq slash) path.now) }
-{
-    path.split(|byte| SLASH == *byte).collect(alloc)
-}
-
 /// The parts of a path between slashes.
 pub(crate) fn parts_of(alloc: Global, path: &[u8]) -> Result<Vec<&[u8]>, AllocError>
     ensures { IfOk result (λ all. list_map (λ part. part.now) all.items ≡ parts path.now) }
 {
-    let pieces = pieces_of(alloc, path)?;
+    let pieces = pieces_of(alloc, path, SLASH)?;
     some_of(alloc, &pieces)
 }
 

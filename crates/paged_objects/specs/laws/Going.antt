@@ -9,6 +9,7 @@ use Rattle.nand_model.specs.laws.Calls.{lasts_on}
 use Rattle.nand_model.specs.laws.Changes.{only_reads_on, only_reads_here}
 use Rattle.nand_model.specs.declared.geometry.Geometry.{Geometry}
 use Rattle.flash_tree.specs.laws.Place.{same_flash, had_power}
+use Rattle.flash_tree.specs.laws.Truth.{true_on, true_read}
 use Rattle.flash_tree.specs.Mount.{bad_blocks, sizes_of}
 use Rattle.flash_tree.specs.Numbering.{AreBelow}
 use Rattle.pages.specs.State.{PagesState, NextNumbers, OnlyFinds}
@@ -30,6 +31,7 @@ finds_stay p q x = record {
   refused = x.refused;
   device = x.device;
   next = x.next;
+  checkpoint = x.checkpoint;
 }
 
 -- and so does a change that was refused memory
@@ -46,6 +48,7 @@ refused_stays p q goes x = record {
   refused = goes.refused;
   device = subst (OnlyReads p.device) (sym x.device) (only_reads_here p.device);
   next = x.next;
+  checkpoint = x.checkpoint;
 }
 
 pub stays_here : (p : PagesState) → StaysAs p p
@@ -61,6 +64,7 @@ stays_here p = record {
   refused = λ is. is;
   device = only_reads_here p.device;
   next = refl;
+  checkpoint = refl;
 }
 
 pub stays_on : (a b c : PagesState) → StaysAs a b → StaysAs b c → StaysAs a c
@@ -76,6 +80,7 @@ stays_on a b c x y = record {
   refused = λ is. y.refused (x.refused is);
   device = only_reads_on a.device b.device c.device x.device y.device;
   next = y.next ∙ x.next;
+  checkpoint = y.checkpoint ∙ x.checkpoint;
 }
 
 -- reads mark no block
@@ -116,6 +121,7 @@ stays_goes p q x =
       };
       marks = omega (arith, bad, failures);
       limits = λ honest left. subst (λ (f : Flash). HasNumbersLeft f) (sym (same_flash p.device q.device x.device honest)) left;
+      truth = true_read p.device q.device p.checkpoint q.checkpoint x.device x.checkpoint;
     }
 
 -- so they do where nothing is done
@@ -164,6 +170,7 @@ goes_on a b c x y = record {
   numbers = numbers_on a.device b.device c.device a.next b.next c.next x.device y.device x.numbers y.numbers;
   marks = omega (arith, x.marks, y.marks);
   limits = λ honest left. y.limits (x.device.honest ∙ honest) (x.limits honest left);
+  truth = true_on a.device b.device c.device a.checkpoint b.checkpoint c.checkpoint x.device x.truth y.truth;
 }
 
 -- the volume stays the same

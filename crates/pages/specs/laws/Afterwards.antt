@@ -21,6 +21,7 @@ finds_after earlier a b x = record {
   next = x.next;
   spare = x.spare;
   worn = x.worn;
+  checkpoint = x.checkpoint;
 }
 
 -- pages of so many bytes

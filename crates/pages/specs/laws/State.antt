@@ -18,6 +18,7 @@ finds_none a = record {
   next = refl;
   spare = refl;
   worn = refl;
+  checkpoint = refl;
 }
 
 pub finds_on : (a b c : PagesState) → OnlyFinds a b → OnlyFinds b c → OnlyFinds a c
@@ -35,4 +36,5 @@ finds_on a b c x y = record {
   next = y.next ∙ x.next;
   spare = y.spare ∙ x.spare;
   worn = y.worn ∙ x.worn;
+  checkpoint = y.checkpoint ∙ x.checkpoint;
 }

@@ -11,7 +11,7 @@ returns-clause-told g c = λ sound.
     let page : List ℕ = c.page.result.now in
     let found = c.in_ok-header.ensures.found in
     let size : length page ≡ old.page_bytes = c.page.ensures.size ∙ c.load.ensures.finds.page_bytes in
-    let bits : c.in_ok-to_vec.field-0.items ≡ c.in_ok-header.header.bits.now = search rules in (
+    let bits : c.in_ok-from_slice.field-0.items ≡ c.in_ok-header.header.bits.now = search rules in (
       record {
         fields = f;
         there = c.in_ok-load.ensures.page sound ∙ ap Some (sym c.page.ensures.bytes ∙ found.encodes);

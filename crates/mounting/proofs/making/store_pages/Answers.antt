@@ -18,7 +18,7 @@ new-requires-clause-stands g c =
     let on = c.args.on in
     let d = g.N.Nand.state on.device in
     let same : on.spare ≡ c.from.result = search rules in
-    subst (λ s. Stands s d (table on.blocks) on.index) same (stands (keeps_key on.tree) d (table on.blocks) on.index (numbers_of on.numbers) on.spare c.requires.read.tables c.requires.fitting c.requires.room c.requires.can)
+    subst (λ s. Stands s d (table on.blocks) on.index) same (stands (keeps_key on.tree) d (table on.blocks) on.index (numbers_of on.numbers) on.spare c.requires.read.tables c.requires.fitting c.requires.room c.requires.can c.requires.ordinary)
 
 pub new-requires-clause-few : goal.new-requires-clause-few
 new-requires-clause-few g c =

@@ -4,6 +4,8 @@ use Rattle.nand_model.specs.Changes.{OnlyReads}
 use Rattle.nand_model.specs.laws.Changes.{only_reads_on}
 use Rattle.flash_tree.specs.Places.{numbers_of}
 use Rattle.volume_terms.specs.VolumeSizes as volume
+use Rattle.flash_tree.specs.Mount.{sizes_of}
+use Rattle.mounting.proofs.Standing.{ordinary_shown}
 use Rattle.mounting.proofs.Giving.{ShownLaws, only_read_where, are_next, mounted_with}
 use Rattle.mounting.proofs.mounted.mount.Goals as goal
 
@@ -41,3 +43,12 @@ returns-in-Err-make_pages-clause-back g c =
 
 pub returns-in-Err-clause-back : goal.returns-in-Err-clause-back
 returns-in-Err-clause-back g c = only_reads_on _ _ _ c.in_ok-on.ensures.reads c.unmounted-in-Err.ensures.reads
+
+pub make_pages-requires-clause-ordinary : goal.make_pages-requires-clause-ordinary
+make_pages-requires-clause-ordinary g c = λ honest.
+    let on = c.in_ok-on.on in
+    let d = g.N.Nand.state on.device in
+    let told = c.in-Some.ensures.tree honest in
+    let shown = told.2 in
+    ordinary_shown (sizes_of d.geometry on.spare) (sizes_of d.geometry on.spare) d.flash on.index told.0
+    (c.the_footprint_holds_the_tree.ensures.forest _ shown.on.pages told.0 shown.shows) shown.holds (c.in_ok-on.ensures.read.tables.newest honest)

@@ -13,15 +13,15 @@ min_of_three : (a b n : ℕ) → min (min a b) n ≡ min a (min b n)
 min_of_three a b n = omega arith
 
 pub returns-clause-count : goal.returns-clause-count
-returns-clause-count g c z s holds file moment new few =
+returns-clause-count g c z s holds file same moment new few =
     let h = handle_of c.args.description in
     let bytes = bytes_of (map.get s.objects c.args.description.object) in
     let is = c.sizes-sizes.ensures ∙ holds.has.sizes in
     let there : map.get s.objects c.args.description.object ≡ Some (File file.0 bytes) = file.2 ∙ ap (λ b. Some (File file.0 b)) (sym (ap bytes_of file.2)) in
-    let offset = c.write_offset-offset.ensures bytes (c.length.ensures z s.objects holds.has) in
+    let offset = c.write_offset-offset.ensures bytes same in
     let most = c.most_written.ensures.value ∙ ap most_written is in
     let greatest = c.greatest_length.ensures.value ∙ ap greatest_length is in
-    let units = c.units_for.ensures z s.objects holds.has file in
+    let units = c.units_for.ensures z s.objects c.args.description.object holds.has file same in
     let paged = c.page_bytes.ensures ∙ ap (λ z. z.page_bytes) is in
     let wide : c.page_bytes.result ≤ 4096 = omega (arith, paged, page_few z holds.has.numbers) in
     let product : c.units_for.result * c.page_bytes.result ≤ 2 ^ 28 * 4096 = mul-le _ _ (2 ^ 28) 4096 units.1 wide in

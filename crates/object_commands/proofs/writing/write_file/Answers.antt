@@ -18,7 +18,7 @@ use Rattle.object_commands.proofs.writing.write_file.Goals as goal
 pub returns-then-greatest_length-offset : goal.returns-then-greatest_length-offset
 returns-then-greatest_length-offset g c z s holds file small =
     let bytes = bytes_of (map.get s.objects c.args.description.object) in
-    let off : c.write_offset-offset.result ≡ write_offset (handle_of c.args.description) bytes = c.write_offset-offset.ensures bytes (c.length.ensures z s.objects holds.has) in
+    let off : c.write_offset-offset.result ≡ write_offset (handle_of c.args.description) bytes = c.write_offset-offset.ensures bytes (c.length-size.ensures z s.objects holds.has) in
     let most : c.greatest_length.result ≡ greatest_length z = c.greatest_length.ensures.value ∙ ap greatest_length (c.sizes.ensures ∙ holds.has.sizes) in
     let le : greatest_length z ≤ write_offset (handle_of c.args.description) bytes = omega (arith, c.if-greatest_length-offset.true) in
     refused s _ _ _ _ (le-leb _ _ le)
@@ -26,10 +26,10 @@ returns-then-greatest_length-offset g c z s holds file small =
 pub returns-then-count-eq0 : goal.returns-then-count-eq0
 returns-then-count-eq0 g c z s holds file small =
     let bytes = bytes_of (map.get s.objects c.args.description.object) in
-    let off : c.write_offset-offset.result ≡ write_offset (handle_of c.args.description) bytes = c.write_offset-offset.ensures bytes (c.length.ensures z s.objects holds.has) in
+    let off : c.write_offset-offset.result ≡ write_offset (handle_of c.args.description) bytes = c.write_offset-offset.ensures bytes (c.length-size.ensures z s.objects holds.has) in
     let most : c.greatest_length.result ≡ greatest_length z = c.greatest_length.ensures.value ∙ ap greatest_length (c.sizes.ensures ∙ holds.has.sizes) in
     let lt : write_offset (handle_of c.args.description) bytes < greatest_length z = omega (arith, c.if-greatest_length-offset.false) in
-    refused s _ _ _ _ (eq-eqb _ _ (sym (c.write_count-count.ensures.count z s holds file c.args.moment c.args.new.now refl) ∙ c.if-count-eq0.true))
+    refused s _ _ _ _ (eq-eqb _ _ (sym (c.write_count-count.ensures.count z s holds file (c.length-size.ensures z s.objects holds.has) c.args.moment c.args.new.now refl) ∙ c.if-count-eq0.true))
     ∙ passed s _ _ _ _ (lt-leb _ _ lt)
 
 pub returns : goal.returns
@@ -37,10 +37,10 @@ returns g c z s holds file small =
     let h = handle_of c.args.description in
     let bytes = bytes_of (map.get s.objects c.args.description.object) in
     let o = write_offset h bytes in
-    let off : c.write_offset-offset.result ≡ write_offset h bytes = c.write_offset-offset.ensures bytes (c.length.ensures z s.objects holds.has) in
+    let off : c.write_offset-offset.result ≡ write_offset h bytes = c.write_offset-offset.ensures bytes (c.length-size.ensures z s.objects holds.has) in
     let most : c.greatest_length.result ≡ greatest_length z = c.greatest_length.ensures.value ∙ ap greatest_length (c.sizes.ensures ∙ holds.has.sizes) in
     let lt : write_offset h bytes < greatest_length z = omega (arith, c.if-greatest_length-offset.false) in
-    let count : c.write_count-count.result ≡ write_count z c.args.moment s h bytes c.args.new.now = c.write_count-count.ensures.count z s holds file c.args.moment c.args.new.now refl in
+    let count : c.write_count-count.result ≡ write_count z c.args.moment s h bytes c.args.new.now = c.write_count-count.ensures.count z s holds file (c.length-size.ensures z s.objects holds.has) c.args.moment c.args.new.now refl in
     let some = λ (none : write_count z c.args.moment s h bytes c.args.new.now ≡ 0). c.if-count-eq0.false (count ∙ none) in
     let end : c.saturating_add.result ≡ write_offset h bytes + c.write_count-count.result = omega (arith, c.saturating_add.ensures, c.greatest_length.ensures.small, c.write_count-count.ensures.small) in
     let out : ℕ → List ℕ → ℕ → ℕ → Outcome = λ off part end n. answer (with_offset (record { objects = with_bytes s.objects c.args.moment c.args.description.object (written bytes off part); handles = s.handles }) c.args.fd h end) (replies.Wrote n) in

@@ -1,6 +1,7 @@
-use Rattle.std.proofs.Common.{◌≡◌, ◌<◌, ◌∙◌, Some, slice_get, length, arith, refl, sym, ap, inl, inr}
+use Rattle.std.proofs.Common.{◌≡◌, ◌<◌, ◌∙◌, Some, slice_get, length, arith, rules, refl, sym, ap, subst, inl, inr}
 use Rattle.std.proofs.lemmas.Bool.{cases_eq}
 use Rattle.std.proofs.lemmas.Option.{slice_get_read, slice_get_within}
+use Rattle.flash_tree.specs.Truth.{IsObjectNumber}
 use Rattle.flash_tree.specs.declared.place.FreshPage.{FreshPage}
 use Rattle.object_pages.proofs.planning.are_numbered.Goals as goal
 
@@ -15,15 +16,15 @@ loop-page-preserved c = λ i p less at.
           let both : Some p ≡ Some c.page-item.result = sym at ∙ ap (slice_get c.args.pages.now) same ∙ here in
           let one : p ≡ c.page-item.result = cc in
           let object : p.key.object ≡ c.page-item.result.key.object = ap (λ (q : FreshPage). q.key.object) one in
-          grind (arith, object, c.if-page-eq0.false)
+          subst IsObjectNumber (sym object) (search rules)
     ]
 
-pub returns-then-page-eq0-clause-not : goal.returns-then-page-eq0-clause-not
-returns-then-page-eq0-clause-not c = λ _.
+pub returns-then-not-is_object_number-clause-not : goal.returns-then-not-is_object_number-clause-not
+returns-then-not-is_object_number-clause-not c = λ _.
     let within : c.loop-page.page-index < length c.args.pages.now = omega arith in
     let here : slice_get c.args.pages.now c.loop-page.page-index ≡ Some c.page-item.result =
     slice_get_read c.args.pages.now (length c.args.pages.now) c.loop-page.page-index c.page-item.result refl within c.page-item.is in
-    (c.loop-page.page-index, c.page-item.result, here, c.if-page-eq0.true)
+    (c.loop-page.page-index, c.page-item.result, here, search rules)
 
 pub returns-clause-numbered : goal.returns-clause-numbered
 returns-clause-numbered c = λ _ i p at.

@@ -1,8 +1,9 @@
 #!/usr/bin/env bash
-# What the five workloads of workloads.c ask of the device, and, where valgrind is there, how many instructions the library takes
+# What the workloads of workloads.c ask of the device, and, where valgrind is there, how many instructions the library takes
 # for each (with those of malloc and memcpy, without those of the flash in memory). Prints a table.
 #
-#   make -C c && bash c/bench/count.sh
+#   make -C c && bash c/bench/count.sh             all of them
+#   make -C c && bash c/bench/count.sh appends     one of them
 set -eu
 cd "$(dirname "$0")/.."
 OUT=${OUT:-out}
@@ -11,7 +12,7 @@ work=$(mktemp -d)
 trap 'rm -rf "$work"' EXIT
 echo '| Workload | Reads | Programs | Erases | Instructions, millions |'
 echo '|---|---|---|---|---|'
-for name in small_files in_order overwrites appends renames; do
+for name in ${*:-small_files in_order overwrites appends renames reads random_reads seeks}; do
     row=$("$OUT/workloads" $name)
     instructions='not counted'
     if command -v valgrind > /dev/null && [ -f /usr/include/valgrind/callgrind.h ]; then

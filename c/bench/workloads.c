@@ -1,4 +1,4 @@
-/* Five workloads on a flash in memory of 64 blocks of 64 pages of 2,048 bytes, one of them spare: what each asks of the device,
+/* Workloads on a flash in memory of 64 blocks of 64 pages of 2,048 bytes, one of them spare: what each asks of the device,
  * and under callgrind (count.sh) how many instructions of the processor the library takes, without those of the flash.
  *
  *   workloads NAME, or no name for all
@@ -138,6 +138,44 @@ static void appends(void)
     expect(flash_fs_close(&fs, fd) == 0, "close");
 }
 
+static int read_from = -1;
+
+static void before_reads(void)
+{
+    read_from = flash_fs_open(&fs, "/f", FLASH_RDWR | FLASH_CREAT, 0);
+    for (int i = 0; i < 4; i++)
+        expect(flash_fs_write(&fs, read_from, bytes, sizeof bytes, 0) == sizeof bytes, "a file of 4 MiB");
+    expect(flash_fs_fsync(&fs, read_from) == 0 && flash_fs_seek(&fs, read_from, 0, FLASH_SEEK_SET) == 0, "fsync");
+}
+
+static void reads(void)
+{
+    static uint8_t piece[4096];
+    for (int i = 0; i < 1024; i++)
+        expect(flash_fs_read(&fs, read_from, piece, sizeof piece) == sizeof piece, "a read of 4 KiB");
+    expect(flash_fs_close(&fs, read_from) == 0, "close");
+}
+
+static void random_reads(void)
+{
+    static uint8_t piece[512];
+    uint64_t drawn = 1;
+    for (int i = 0; i < 4096; i++) {
+        drawn = drawn * UINT64_C(6364136223846793005) + UINT64_C(1442695040888963407);
+        int64_t place = (int64_t)((drawn >> 33) % 8192) * 512;
+        expect(flash_fs_seek(&fs, read_from, place, FLASH_SEEK_SET) == place, "seek");
+        expect(flash_fs_read(&fs, read_from, piece, sizeof piece) == sizeof piece, "a read of 512 bytes");
+    }
+    expect(flash_fs_close(&fs, read_from) == 0, "close");
+}
+
+static void seeks(void)
+{
+    for (int i = 0; i < 1000; i++)
+        expect(flash_fs_seek(&fs, read_from, i, FLASH_SEEK_SET) == i, "seek");
+    expect(flash_fs_close(&fs, read_from) == 0, "close");
+}
+
 static void renames(void)
 {
     for (int i = 0; i < 500; i++) {
@@ -158,6 +196,9 @@ static const struct workload workloads[] = {
     {"overwrites", "2,000 overwrites of 512 bytes in 1 MiB, each with fsync", before_overwrites, overwrites},
     {"appends", "2,000 appends of 100 bytes, each with fsync", NULL, appends},
     {"renames", "500 updates by rename, each with sync", NULL, renames},
+    {"reads", "4 MiB read in order, by 4 KiB", before_reads, reads},
+    {"random_reads", "4,096 reads of 512 bytes in 4 MiB", before_reads, random_reads},
+    {"seeks", "1,000 seeks", before_reads, seeks},
 };
 
 static void run(const struct workload *workload)

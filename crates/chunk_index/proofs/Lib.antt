@@ -7,6 +7,7 @@ pub mod Mapping
 pub mod Telling
 pub mod Cutting
 pub mod Noting
+pub mod Adding
 pub mod Founding
 pub mod Parts
 pub mod Keys

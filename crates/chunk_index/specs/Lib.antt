@@ -10,6 +10,7 @@ pub mod Retained
 pub mod Maps
 pub mod Newest
 pub mod Found
+pub mod Adding
 pub mod Listing
 pub mod Kept
 pub mod Following

@@ -7,6 +7,7 @@ mod cut;
 mod entry;
 mod filter;
 mod form;
+mod from_kept;
 mod index;
 mod law;
 mod listing;
@@ -14,6 +15,7 @@ mod newest;
 mod next;
 mod object;
 mod packed;
+mod placed;
 mod retain;
 mod settle;
 mod shelf;
@@ -25,3 +27,4 @@ pub use law::{
     blocks_without_kept_pages_are_free, the_counts_add_up_to_the_kept_keys,
     the_counts_are_of_the_keys, the_list_of_a_block_is_whole,
 };
+pub use placed::Placed;

@@ -24,4 +24,4 @@ pub use law::{
 pub use mark::mark_block;
 pub use open::erase_and_open;
 pub use source::{PageName, PageSource, SourceFault};
-pub use table::table_of;
+pub use table::{marked_table, table_of};

@@ -3,7 +3,7 @@ ghost use Rattle.std.specs.Prelude.{◌≡◌, ◌<◌, ◌+◌, ◌-◌, ◌^�
 ghost use Rattle.flash_tree.specs.Newest.{AreAbove};
 ghost use Rattle.flash_tree.specs.Places.{numbers_of};
 ghost use Rattle.block_state.specs.TableOf.{table};
-ghost use Rattle.transactions.specs.Marking.{MarksNoted};
+ghost use Rattle.transactions.specs.Marking.{IsMarked, MarksNoted};
 ghost use Rattle.transactions.specs.Ready.{IsReady};
 
 use block_state::{Blocks, NextNumbers};
@@ -26,6 +26,26 @@ fn note_marks<N: Nand>(device: &N, blocks: &mut Blocks)
     }
 }
 
+/// A table of the device: it has the device's marks, and the next numbers are one above these. No block is open, none may
+/// have a checkpoint, and none has a kept page.
+pub fn marked_table<N: Nand>(
+    alloc: Global,
+    device: &N,
+    greatest: TagNumbers,
+) -> Result<Blocks, AllocError>
+    requires group { greatest.group < 2 ^ 64 - 1 }
+    requires seq { greatest.seq < 2 ^ 64 - 1 }
+    ensures { IfOk result (λ blocks. IsMarked (N.state device.now) (numbers_of greatest) (table blocks)) }
+{
+    let mut blocks = Blocks::new(alloc, device.geometry())?;
+    note_marks(device, &mut blocks);
+    blocks.raise(NextNumbers {
+        seq: greatest.seq + 1,
+        group: greatest.group + 1,
+    });
+    Ok(blocks)
+}
+
 /// The table of a device whose valid tags in good blocks have no numbers above these: the next ones are one above them.
 /// No block is open, none may have a checkpoint, and none has a kept page.
 pub fn table_of<N: Nand>(
@@ -44,11 +64,5 @@ pub fn table_of<N: Nand>(
     ensures group { IfOk result (λ blocks. (table blocks).next_group ≡ greatest.group + 1) }
     ensures seq { IfOk result (λ blocks. (table blocks).next_seq ≡ greatest.seq + 1) }
 {
-    let mut blocks = Blocks::new(alloc, device.geometry())?;
-    note_marks(device, &mut blocks);
-    blocks.raise(NextNumbers {
-        seq: greatest.seq + 1,
-        group: greatest.group + 1,
-    });
-    Ok(blocks)
+    marked_table(alloc, device, greatest)
 }

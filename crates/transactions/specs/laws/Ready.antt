@@ -22,7 +22,7 @@ use Rattle.block_state.specs.Table.{Table, blank, is_bad, other_than}
 use Rattle.flash_tree.specs.Numbering.{AreBelow}
 use Rattle.transactions.specs.Ready.{IsOpenOn, IsWaiting, IsReady}
 use Rattle.transactions.specs.Opening.{Opens}
-use Rattle.transactions.specs.Marking.{MarksNoted, NotesMark}
+use Rattle.transactions.specs.Marking.{IsMarked, MarksNoted, NotesMark}
 
 -- what a block loses brings no number
 below_lost : (b : ℕ) (old new : Flash) (group seq : ℕ) → Loses b old new → AreBelow old group seq → AreBelow new group seq
@@ -175,40 +175,38 @@ ready_marked b old new t t' result ready closed does notes = record {
     | inr good ↦ sym (ap (λ x. if x then other_than b t.checkpoint else t.checkpoint) good) ∙ sym notes.checkpoint ∙ is
   ]
 
--- A table that was made anew, with a device's marks and numbers above its tags.
-pub record IsMade (d : Device) (group seq : ℕ) (t : Table) : Type 0 where
-  pub ready : IsReady d t
-  pub open_block : t.open_block ≡ None
-  pub checkpoint : t.checkpoint ≡ None
-  pub kept : (b : ℕ) → (t.entry b).kept ≡ 0
-  pub seqs : (b : ℕ) → (t.entry b).seq ≡ 0
-
-pub made_ready : (d : Device) (group seq : ℕ) (t0 t1 t2 : Table) → IsWithin d.geometry.pages d.geometry.blocks d.flash → 1 ≤ group → 1 ≤ seq → (d.honest ≡ true → AreBelow d.flash group seq)
+-- a table that is made anew
+pub made_marked : (d : Device) (n : Numbers) (t0 t1 t2 : Table) → IsWithin d.geometry.pages d.geometry.blocks d.flash
     → t0 ≡ record { geometry = d.geometry; entry = λ b. blank; open_block = None; checkpoint = None; next_seq = 1; next_group = 1 }
-    → MarksNoted d d.geometry.blocks t0 t1 → t2 ≡ record t1 { next_seq = max t1.next_seq seq; next_group = max t1.next_group group } → IsMade d group seq t2
-made_ready d group seq t0 t1 t2 within some_group some_seq below fresh noted raised =
+    → MarksNoted d d.geometry.blocks t0 t1 → t2 ≡ record t1 { next_seq = max t1.next_seq (n.seq + 1); next_group = max t1.next_group (n.group + 1) } → IsMarked d n t2
+made_marked d n t0 t1 t2 within fresh noted raised =
     let seq_one : t1.next_seq ≡ 1 = noted.next_seq ∙ ap (λ (t : Table). t.next_seq) fresh in
     let group_one : t1.next_group ≡ 1 = noted.next_group ∙ ap (λ (t : Table). t.next_group) fresh in
-    let seq_is : max t1.next_seq seq ≡ seq = omega (arith, seq_one, some_seq) in
-    let group_is : max t1.next_group group ≡ group = omega (arith, group_one, some_group) in
-    let made : IsMade d group seq (record t1 { next_seq = max t1.next_seq seq; next_group = max t1.next_group group }) = record {
-      ready = record {
-        geometry = noted.geometry ∙ ap (λ (t : Table). t.geometry) fresh;
-        marks = λ b. elim (cases_lt b d.geometry.blocks) [
-          | inl lt ↦ noted.marked b lt
-          | inr ge ↦ noted.others b ge ∙ sym (within.bad b ge)
-        ];
-        open_block = λ o is. let two : None ≡ Some o = sym noted.open_block ∙ is in absurd cc;
-        waits = λ c is. let two : None ≡ Some c = sym noted.checkpoint ∙ is in absurd cc;
-        numbers = (omega (arith, group_is, some_group), omega (arith, seq_is, some_seq));
-        below = λ honest. subst (λ n. AreBelow d.flash n (max t1.next_seq seq)) (sym group_is) (subst (λ n. AreBelow d.flash group n) (sym seq_is) (below honest));
-      };
-      open_block = noted.open_block;
+    let made : IsMarked d n (record t1 { next_seq = max t1.next_seq (n.seq + 1); next_group = max t1.next_group (n.group + 1) }) = record {
+      geometry = noted.geometry ∙ ap (λ (t : Table). t.geometry) fresh;
+      marks = λ b. elim (cases_lt b d.geometry.blocks) [
+        | inl lt ↦ noted.marked b lt
+        | inr ge ↦ noted.others b ge ∙ sym (within.bad b ge)
+      ];
+      closed = noted.open_block;
       checkpoint = noted.checkpoint;
       kept = λ b. noted.kept b ∙ ap (λ (t : Table). (t.entry b).kept) fresh;
       seqs = λ b. noted.seqs b ∙ ap (λ (t : Table). (t.entry b).seq) fresh;
+      group = omega (arith, group_one);
+      seq = omega (arith, seq_one);
     } in
-    subst (IsMade d group seq) (sym raised) made
+    subst (IsMarked d n) (sym raised) made
+
+-- is ready, where no valid tag has numbers above its own
+pub made_ready : (d : Device) (n : Numbers) (t : Table) → IsMarked d n t → (d.honest ≡ true → AreAbove d.flash n) → IsReady d t
+made_ready d n t is above = record {
+  geometry = is.geometry;
+  marks = is.marks;
+  open_block = λ o at. let two : None ≡ Some o = sym is.closed ∙ at in absurd cc;
+  waits = λ c at. let two : None ≡ Some c = sym is.checkpoint ∙ at in absurd cc;
+  numbers = (omega (arith, is.group), omega (arith, is.seq));
+  below = λ honest. subst (λ k. AreBelow d.flash k t.next_seq) (sym is.group) (subst (λ k. AreBelow d.flash (n.group + 1) k) (sym is.seq) (above_below d.flash n (above honest)));
+}
 
 -- power comes back while no block is open
 pub ready_powered : (old new : Device) (t : Table) → IsReady old t → t.open_block ≡ None → PowersUp old new → IsReady new t

@@ -1,24 +1,18 @@
-use Rattle.std.proofs.Common.{◌+◌, ap, arith}
-use Rattle.block_state.specs.Table.{Table}
-use Rattle.block_state.specs.TableOf.{table}
+use Rattle.std.specs.Prelude.{◌≡◌, true, Result, Ok, Err, IfOk}
+use Rattle.std.specs.declared.alloc.AllocError.{AllocError}
+use Rattle.nand_model.specs.Calls.{Device}
+use Rattle.flash_tree.specs.Newest.{Numbers, AreAbove}
 use Rattle.flash_tree.specs.Places.{numbers_of}
-use Rattle.transactions.specs.laws.Ready.{made_ready, above_below}
+use Rattle.block_state.specs.TableOf.{table}
+use Rattle.block_state.specs.declared.blocks.Blocks.{Blocks}
+use Rattle.transactions.specs.Marking.{IsMarked}
+use Rattle.transactions.specs.Ready.{IsReady}
+use Rattle.transactions.specs.laws.Ready.{made_ready}
 use Rattle.transactions.proofs.table.table_of.Goals as goal
 
-pub note_marks-requires-clause-good : goal.note_marks-requires-clause-good
-note_marks-requires-clause-good g c = λ b. ap (λ (t : Table). (t.entry b).bad) c.in_ok-blocks.ensures
+all_ready : (d : Device) (n : Numbers) (r : Result Blocks AllocError) → (d.honest ≡ true → AreAbove d.flash n) → IfOk r (λ blocks. IsMarked d n (table blocks)) → IfOk r (λ blocks. IsReady d (table blocks))
+all_ready d n (Err e) above made = tt
+all_ready d n (Ok blocks) above made = made_ready d n (table blocks) made above
 
 pub returns-clause-ready : goal.returns-clause-ready
-returns-clause-ready g c = (made_ready (g.N.Nand.state c.args.device.now) (c.args.greatest.group + 1) (c.args.greatest.seq + 1) (table c.in_ok-blocks.blocks) (table c.note_marks.new.blocks) _
-    (g.met.N.Nand.within c.args.device.now) (omega arith) (omega arith) (λ honest. above_below _ (numbers_of c.args.greatest) (c.requires.above honest))
-    (rw c.geometry.ensures at c.in_ok-blocks.ensures) c.note_marks.ensures c.raise.ensures).ready
-
-pub returns-clause-kept : goal.returns-clause-kept
-returns-clause-kept g c = (made_ready (g.N.Nand.state c.args.device.now) (c.args.greatest.group + 1) (c.args.greatest.seq + 1) (table c.in_ok-blocks.blocks) (table c.note_marks.new.blocks) _
-    (g.met.N.Nand.within c.args.device.now) (omega arith) (omega arith) (λ honest. above_below _ (numbers_of c.args.greatest) (c.requires.above honest))
-    (rw c.geometry.ensures at c.in_ok-blocks.ensures) c.note_marks.ensures c.raise.ensures).kept
-
-pub returns-clause-seqs : goal.returns-clause-seqs
-returns-clause-seqs g c = (made_ready (g.N.Nand.state c.args.device.now) (c.args.greatest.group + 1) (c.args.greatest.seq + 1) (table c.in_ok-blocks.blocks) (table c.note_marks.new.blocks) _
-    (g.met.N.Nand.within c.args.device.now) (omega arith) (omega arith) (λ honest. above_below _ (numbers_of c.args.greatest) (c.requires.above honest))
-    (rw c.geometry.ensures at c.in_ok-blocks.ensures) c.note_marks.ensures c.raise.ensures).seqs
+returns-clause-ready g c = all_ready (g.N.Nand.state c.args.device.now) (numbers_of c.args.greatest) c.marked_table.result c.requires.above c.marked_table.ensures

@@ -5,7 +5,7 @@ use Rattle.found_pages.specs.laws.Listed.{before, before_all, bucket_part, part_
 use Rattle.chunk_index.specs.Newest.{LieWithin}
 use Rattle.chunk_index.specs.Found.{HasPages}
 use Rattle.chunk_index.proofs.Counting.{recounts_here, recounts_on}
-use Rattle.chunk_index.proofs.Founding.{part_once, part_within, part_absent, pages_none}
+use Rattle.chunk_index.proofs.Founding.{part_once, part_within, part_absent, part_more, pages_none}
 use Rattle.chunk_index.proofs.index.Index.add_all.Goals as goal
 
 pub loop-at-init : goal.loop-at-init
@@ -21,8 +21,8 @@ add_some-requires c =
     let at = bucket_part c.args.newest c.loop-at.at _ (omega (arith, c.loop-at-test.true)) (c.pages.ensures ∙ c.take-bucket.ensures.taken ∙ c.loop-at.invariant.left c.loop-at.at (omega arith)) in
     record {
       once = part_once _ _ _ at c.requires.once;
-      within = part_within _ _ _ _ at (subst (λ (g : Geometry). LieWithin g.blocks (listed c.args.newest)) (sym c.loop-at.invariant.counts.geometry) c.requires.within);
-      absent = part_absent _ _ _ _ c.requires.once at c.loop-at.invariant.has;
+      within = part_within _ _ _ at _ (subst (λ (g : Geometry). LieWithin g.blocks (listed c.args.newest)) (sym c.loop-at.invariant.counts.geometry) c.requires.within);
+      absent = part_absent _ _ _ at _ c.requires.once c.loop-at.invariant.has;
       agree = c.loop-at.invariant.agree;
     }
 
@@ -32,7 +32,7 @@ loop-at-preserved c =
     let at = bucket_part c.args.newest c.loop-at.at _ (omega (arith, c.loop-at-test.true)) part in
     record {
       has = subst (λ n. HasPages (listed c.args.newest) n c.add_some.new.self.shelf.objects) (part_end c.args.newest c.loop-at.at _ (omega (arith, c.loop-at-test.true)) part)
-          (c.in_ok-add_some.ensures.has _ _ c.requires.once at c.loop-at.invariant.has);
+          (part_more _ _ _ at _ c.requires.once c.loop-at.invariant.has c.add_some.new.self.shelf.objects c.in_ok-add_some.ensures.adds);
       left = λ k le. c.take-bucket.ensures.others k (λ same. absurd (omega (arith, le, same))) ∙ c.loop-at.invariant.left k (omega (arith, le));
       agree = c.in_ok-add_some.ensures.agree;
       counts = recounts_on c.loop-at.invariant.counts c.in_ok-add_some.ensures.counts;

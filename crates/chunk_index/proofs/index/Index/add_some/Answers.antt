@@ -1,39 +1,38 @@
-use Rattle.std.proofs.Common.{◌≡◌, ◌∙◌, ◌+◌, refl, sym, subst, arith, length}
+use Rattle.std.proofs.Common.{◌≡◌, ◌∙◌, refl, sym, ap, subst, arith, length, slice_get, Some}
+use Rattle.std.specs.Prelude.{map}
 use Rattle.std.proofs.lemmas.Option.{slice_get-get_or}
 use Rattle.nand_model.specs.declared.geometry.Geometry.{Geometry}
-use Rattle.chunk_index.specs.Newest.{LieWithin}
-use Rattle.chunk_index.specs.Found.{HasPages}
+use Rattle.chunk_index.specs.Adding.{AddsFirst, AreWithin}
 use Rattle.chunk_index.proofs.Counting.{recounts_here}
-use Rattle.chunk_index.proofs.Founding.{part_more, absent_more, agree_kept, counts_on}
+use Rattle.chunk_index.proofs.Adding.{adds_none, adds_more, agree_kept, counts_on, mapped, still_absent}
 use Rattle.chunk_index.proofs.index.Index.add_some.Goals as goal
 
 pub loop-at-init : goal.loop-at-init
-loop-at-init c = record {
-  has = λ fs n once at was. subst (λ k. HasPages fs k c.args.self.now.shelf.objects) (omega arith) was;
-  absent = λ i d le lt. c.requires.absent i d lt;
+loop-at-init g c = record {
+  adds = adds_none _ _;
   agree = c.requires.agree;
   counts = recounts_here (λ b. refl);
 }
 
-pub add_found-requires : goal.add_found-requires
-add_found-requires c = record {
-  absent = c.reserve_at.ensures.looks _ _ ∙ c.loop-at.invariant.absent c.loop-at.at _ (omega arith) c.loop-at-test.true;
-  block = subst (λ (g : Geometry). LieWithin g.blocks c.args.pages.now) (sym c.loop-at.invariant.counts.geometry) c.requires.within c.loop-at.at _ c.loop-at-test.true;
-  agree = agree_kept _ _ c.reserve_at.new.self c.reserve_at.ensures c.loop-at.invariant.agree;
-}
-
-pub loop-at-preserved : goal.loop-at-preserved
-loop-at-preserved c =
+pub add_kept-requires : goal.add_kept-requires
+add_kept-requires g c =
+    let there : slice_get (map g.P.Placed.kept_key c.args.pages.now) c.loop-at.at ≡ Some c.kept_key-page.result = mapped g.P.Placed.kept_key c.args.pages.now c.loop-at.at c.index-pages-at.result (slice_get-get_or c.args.pages.now c.loop-at.at c.index-pages-at.result c.loop-at-test.true ∙ ap Some (sym c.index-pages-at.is)) ∙ ap Some (sym c.kept_key-page.ensures) in
     record {
-      has = λ fs n once at was. part_more fs n c.loop-at.at c.args.pages.now _ c.reserve_at.new.self.shelf.objects _ _ once at c.loop-at-test.true (slice_get-get_or c.args.pages.now c.loop-at.at _ c.loop-at-test.true)
-          (c.loop-at.invariant.has fs n once at was) c.reserve_at.ensures c.in_ok-add_found.ensures.alters;
-      absent = absent_more c.args.pages.now c.loop-at.at _ _ c.reserve_at.new.self.shelf.objects _ c.requires.once c.loop-at-test.true (slice_get-get_or c.args.pages.now c.loop-at.at _ c.loop-at-test.true) c.reserve_at.ensures c.in_ok-add_found.ensures.alters
-          c.loop-at.invariant.absent;
-      agree = c.in_ok-add_found.ensures.agree;
-      counts = counts_on _ _ _ c.args.self.now c.loop-at.self c.reserve_at.new.self c.add_found.new.self c.reserve_at.ensures c.loop-at.invariant.counts c.in_ok-add_found.ensures.counts;
+      absent = c.reserve_at.ensures.looks _ _ ∙ still_absent _ c.loop-at.at _ _ c.kept_key-page.result c.requires.once c.requires.absent c.loop-at.invariant.adds there;
+      block = subst (λ (y : Geometry). AreWithin y.blocks (map g.P.Placed.kept_key c.args.pages.now)) (sym c.loop-at.invariant.counts.geometry) c.requires.within c.loop-at.at c.kept_key-page.result there;
+      agree = agree_kept _ _ c.reserve_at.new.self c.reserve_at.ensures c.loop-at.invariant.agree;
     }
 
-pub returns-clause-has : goal.returns-clause-has
-returns-clause-has c = λ fs n once at was.
+pub loop-at-preserved : goal.loop-at-preserved
+loop-at-preserved g c =
+    let there : slice_get (map g.P.Placed.kept_key c.args.pages.now) c.loop-at.at ≡ Some c.kept_key-page.result = mapped g.P.Placed.kept_key c.args.pages.now c.loop-at.at c.index-pages-at.result (slice_get-get_or c.args.pages.now c.loop-at.at c.index-pages-at.result c.loop-at-test.true ∙ ap Some (sym c.index-pages-at.is)) ∙ ap Some (sym c.kept_key-page.ensures) in
+    record {
+      adds = adds_more _ c.loop-at.at _ _ c.reserve_at.new.self.shelf.objects _ c.kept_key-page.result c.requires.once there c.loop-at.invariant.adds c.reserve_at.ensures c.in_ok-add_kept.ensures.alters;
+      agree = c.in_ok-add_kept.ensures.agree;
+      counts = counts_on _ _ _ c.args.self.now c.loop-at.self c.reserve_at.new.self c.add_kept.new.self c.reserve_at.ensures c.loop-at.invariant.counts c.in_ok-add_kept.ensures.counts;
+    }
+
+pub returns-clause-adds : goal.returns-clause-adds
+returns-clause-adds g c =
     let end : c.loop-at.at ≡ length c.args.pages.now = omega (arith, c.loop-at-test.false, c.loop-at.auto.at-end) in
-    subst (λ k. HasPages fs (n + k) c.loop-at.self.shelf.objects) end (c.loop-at.invariant.has fs n once at was)
+    subst (λ n. AddsFirst (map g.P.Placed.kept_key c.args.pages.now) n c.args.self.now.shelf.objects c.loop-at.self.shelf.objects) end c.loop-at.invariant.adds

@@ -1,0 +1,37 @@
+-- Pages that become kept, one after another.
+use Rattle.std.specs.Prelude.{◌≡◌, ◌<◌, ℕ, List, slice_get, Some, None}
+use Rattle.flash_tree.specs.declared.place.Found.{Found}
+use Rattle.page_tags.specs.declared.check.CheckEntry.{CheckEntry}
+use Rattle.chunk_index.specs.declared.form.KeptKey.{KeptKey}
+use Rattle.chunk_index.specs.Entries.{kept_at}
+use Rattle.chunk_index.specs.Newest.{page_of}
+use Rattle.chunk_index.specs.Shelves.{ObjectMap, look, Differs}
+
+-- the key of a page that a scan found, with the page
+abbrev pub found_key : Found → KeptKey
+found_key f = record { key = record { object = f.tag.object; chunk = f.tag.chunk }; at = page_of f }
+
+-- the key of an entry of a checkpoint, with the page that it tells
+abbrev pub entry_key : CheckEntry → KeptKey
+entry_key e = record { key = record { object = e.object; chunk = e.chunk }; at = record { block = e.block; page = e.page; version = e.version } }
+
+-- the page is of chunk c of object o
+abbrev pub IsPageOf : ℕ → ℕ → KeptKey → Type 0
+IsPageOf o c k = (k.key.object ≡ o) × (k.key.chunk ≡ c)
+
+-- no two pages are of one key
+abbrev pub AreOfOtherKeys : List KeptKey → Type 0
+AreOfOtherKeys ks = (i j : ℕ) (k l : KeptKey) → i < j → slice_get ks i ≡ Some k → slice_get ks j ≡ Some l → Differs k.key.object k.key.chunk l.key.object l.key.chunk
+
+-- each page lies in one of so many blocks
+abbrev pub AreWithin : ℕ → List KeptKey → Type 0
+AreWithin blocks ks = (i : ℕ) (k : KeptKey) → slice_get ks i ≡ Some k → k.at.block < blocks
+
+-- the key of none of the pages has an entry
+abbrev pub AreAbsent : List KeptKey → ObjectMap → Type 0
+AreAbsent ks m = (i : ℕ) (k : KeptKey) → slice_get ks i ≡ Some k → look m k.key.object k.key.chunk ≡ None
+
+-- The first n of the pages have their entries, and no other key's entry changes.
+pub record AddsFirst (ks : List KeptKey) (n : ℕ) (old new : ObjectMap) : Type 0 where
+  pub done : (i : ℕ) (k : KeptKey) → i < n → slice_get ks i ≡ Some k → look new k.key.object k.key.chunk ≡ Some (kept_at k.key.chunk (Some k.at))
+  pub rest : (o c : ℕ) → ((i : ℕ) (k : KeptKey) → i < n → slice_get ks i ≡ Some k → IsPageOf o c k → ⊥) → look new o c ≡ look old o c

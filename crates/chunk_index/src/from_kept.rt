@@ -1,0 +1,111 @@
+// The index of pages whose places are known.
+ghost use Rattle.std.specs.Prelude.{◌≡◌, ◌<◌, ◌≤◌, ℕ, length, map, None, Some, IfOk, OnOk};
+ghost use Rattle.block_state.specs.TableOf.{table};
+ghost use Rattle.chunk_index.specs.Adding.{AddsFirst, AreAbsent, AreOfOtherKeys, AreWithin};
+ghost use Rattle.chunk_index.specs.Counts.{Recounts};
+ghost use Rattle.chunk_index.specs.Entries.{as_kept, kept_at};
+ghost use Rattle.chunk_index.specs.Kept.{IsListOf, KeyRises};
+ghost use Rattle.chunk_index.specs.Maps.{kept_in, kept_pages, present, CountsAgree};
+ghost use Rattle.chunk_index.specs.Shelves.{look, AltersKey, SameEntries};
+
+use crate::entry::{KeyEntry, State};
+use crate::form::KeptKey;
+use crate::index::Index;
+use crate::placed::Placed;
+use block_state::Blocks;
+use std::alloc::{AllocError, Global};
+
+impl Index {
+    /// The index of a list of pages in the order of their keys, with the blocks: these pages are kept, and counted in their
+    /// blocks. It goes over the list once.
+    pub fn from_kept<P: Placed>(
+        alloc: Global,
+        pages: &[P],
+        blocks: Blocks,
+    ) -> Result<(Index, Blocks), AllocError>
+        requires rise { KeyRises (map P.kept_key pages.now) }
+        requires within { AreWithin (table blocks).geometry.blocks (map P.kept_key pages.now) }
+        requires none { (b : ℕ) → ((table blocks).entry b).kept ≡ 0 }
+        ensures list { IfOk result (λ made. IsListOf (kept_pages made.0) (map P.kept_key pages.now)) }
+        ensures shown { IfOk result (λ made. (o c : ℕ) → present made.0 o c ≡ as_kept (kept_pages made.0 o c)) }
+        ensures agree { IfOk result (λ made. CountsAgree (table made.1) made.0) }
+        ensures counts { IfOk result (λ made. Recounts (λ b. 0) (kept_in made.0) (table blocks) (table made.1)) }
+    {
+        let mut index = Index::bare(alloc);
+        let mut blocks = blocks;
+        index.add_some(pages, &mut blocks)?;
+        Ok((index, blocks))
+    }
+
+    /// Adds some pages whose keys have no entries.
+    pub(crate) fn add_some<P: Placed>(
+        &mut self,
+        pages: &[P],
+        blocks: &mut Blocks,
+    ) -> Result<(), AllocError>
+        requires once { AreOfOtherKeys (map P.kept_key pages.now) }
+        requires within { AreWithin (table blocks.old).geometry.blocks (map P.kept_key pages.now) }
+        requires absent { AreAbsent (map P.kept_key pages.now) self.old.shelf.objects }
+        requires agree { CountsAgree (table blocks.old) self.old }
+        ensures adds { OnOk result (AddsFirst (map P.kept_key pages.now) (length pages.now) self.old.shelf.objects self.new.shelf.objects) }
+        ensures agree { OnOk result (CountsAgree (table blocks.new) self.new) }
+        ensures counts { OnOk result (Recounts (kept_in self.old) (kept_in self.new) (table blocks.old) (table blocks.new)) }
+    {
+        for at in 0..pages.len() {
+            let page = pages[at].kept_key();
+            self.reserve_at(pages, at)?;
+            self.add_kept(page, blocks)?;
+        }
+        Ok(())
+    }
+
+    /// Sees that an object has room for its pages, if the page at a place is its first one of these.
+    fn reserve_at<P: Placed>(&mut self, pages: &[P], at: usize) -> Result<(), AllocError>
+        requires { at < length pages.now }
+        ensures { SameEntries self.old.shelf.objects self.new.shelf.objects }
+    {
+        let object = object_of(&pages[at]);
+        if at > 0 && object_of(&pages[at - 1]) == object {
+            return Ok(());
+        }
+        self.shelf.reserve(object, object_end(pages, at) - at)
+    }
+
+    /// Adds the page of a key that has no entry, and counts it in its block.
+    fn add_kept(&mut self, page: KeptKey, blocks: &mut Blocks) -> Result<(), AllocError>
+        requires absent { look self.old.shelf.objects page.key.object page.key.chunk ≡ None }
+        requires block { page.at.block < (table blocks.old).geometry.blocks }
+        requires agree { CountsAgree (table blocks.old) self.old }
+        ensures alters { OnOk result (AltersKey page.key.object page.key.chunk (Some (kept_at page.key.chunk (Some page.at))) self.old.shelf.objects self.new.shelf.objects) }
+        ensures agree { OnOk result (CountsAgree (table blocks.new) self.new) }
+        ensures counts { OnOk result (Recounts (kept_in self.old) (kept_in self.new) (table blocks.old) (table blocks.new)) }
+    {
+        self.add(page.key, None)?;
+        let entry = KeyEntry {
+            chunk: page.key.chunk,
+            kept: None,
+            state: State::Same,
+        };
+        self.move_to(page.key, entry, page.at, blocks);
+        Ok(())
+    }
+}
+
+/// The object that a page is of.
+fn object_of<P: Placed>(page: &P) -> u64 {
+    page.kept_key().key.object
+}
+
+/// Where the pages end that are of the same object as the one at a place.
+fn object_end<P: Placed>(pages: &[P], at: usize) -> usize
+    requires { at < length pages.now }
+    ensures { at ≤ result }
+{
+    let object = object_of(&pages[at]);
+    for end in at..pages.len() {
+        if object_of(&pages[end]) != object {
+            return end;
+        }
+    }
+    pages.len()
+}

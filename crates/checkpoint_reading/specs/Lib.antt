@@ -3,3 +3,4 @@ pub mod Pages
 pub mod Found
 pub mod Candidates
 pub mod Reading
+pub mod laws

@@ -38,7 +38,7 @@ from_kept flash o c xs (Some k) kept is = newest_of flash o c xs k (kept k refl)
 pub are_newest : (d : Device) (t : Table) (x : Index) (n : Numbers) → IsOpened d t x n → d.honest ≡ true
     → (o c : ℕ) (xs : List ℕ) → (kept_data x d.flash o c ≡ Some xs) ↔ HasNewest d.flash o c xs
 are_newest d t x n opened honest o c xs = (
-  from_kept d.flash o c xs (kept_pages x o c) (opened.newest honest o c),
+  from_kept d.flash o c xs (kept_pages x o c) (opened.tables.newest honest o c),
   λ has.
       ap (option_and_then (data_at d.flash)) (opened.all honest o c has.spot has.newest) ∙ ap data_of has.stored,
 )

@@ -1,4 +1,6 @@
 pub mod Noting
 pub mod Buckets
 pub mod Tables
+pub mod Entries
+pub mod TrueTables
 pub mod Data

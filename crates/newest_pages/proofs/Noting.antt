@@ -1,11 +1,11 @@
 -- The numbers of blocks that pages tell.
-use Rattle.std.specs.Prelude.{◌≡◌, ◌≤◌, ℕ, ◌+◌, List, Some, slice_get}
-use Rattle.std.proofs.Common.{sym, ◌∙◌, ap, subst, inl, inr, arith}
-use Rattle.std.proofs.lemmas.Bool.{cases_eq, cases_order}
+use Rattle.std.specs.Prelude.{◌≡◌, ◌<◌, ◌≤◌, ℕ, ◌+◌, List, Some, slice_get}
+use Rattle.std.proofs.Common.{refl, sym, ◌∙◌, ap, subst, inl, inr, arith}
+use Rattle.std.proofs.lemmas.Bool.{cases_eq, cases_lt, cases_order}
 use Rattle.flash_tree.specs.declared.place.Found.{Found}
 use Rattle.block_state.specs.declared.blocks.BlockEntry.{BlockEntry}
 use Rattle.block_state.specs.Table.{Table, Sets}
-use Rattle.newest_pages.specs.Opened.{OnlySeqs, NotesOne, HasSeqOf, AreNotBelow, NotesSeq}
+use Rattle.newest_pages.specs.Opened.{AreNoted, OnlySeqs, NotesOne, HasSeqOf, AreNotBelow, NotesSeq}
 
 -- what is known once the first n pages were gone through
 pub record Notes (list : List Found) (n : ℕ) (old new : Table) : Type 0 where
@@ -37,15 +37,15 @@ notes_skip list n old new f at above notes = record {
   ];
 }
 
-entry_bad : (f : Found) (t t' : Table) → Sets f.block (record (t.entry f.block) { seq = f.tag.seq }) t t' → (b : ℕ) → (t'.entry b).bad ≡ (t.entry b).bad
-entry_bad f t t' sets b = elim (cases_eq b f.block) [
-  | inl here ↦ ap (λ k. (t'.entry k).bad) here ∙ ap (λ (e : BlockEntry). e.bad) sets.here ∙ ap (λ k. (t.entry k).bad) (sym here)
+entry_bad : (k seq : ℕ) (t t' : Table) → Sets k (record (t.entry k) { seq = seq }) t t' → (b : ℕ) → (t'.entry b).bad ≡ (t.entry b).bad
+entry_bad k seq t t' sets b = elim (cases_eq b k) [
+  | inl here ↦ ap (λ j. (t'.entry j).bad) here ∙ ap (λ (e : BlockEntry). e.bad) sets.here ∙ ap (λ j. (t.entry j).bad) (sym here)
   | inr ne ↦ ap (λ (e : BlockEntry). e.bad) (sets.others b ne)
 ]
 
-entry_kept : (f : Found) (t t' : Table) → Sets f.block (record (t.entry f.block) { seq = f.tag.seq }) t t' → (b : ℕ) → (t'.entry b).kept ≡ (t.entry b).kept
-entry_kept f t t' sets b = elim (cases_eq b f.block) [
-  | inl here ↦ ap (λ k. (t'.entry k).kept) here ∙ ap (λ (e : BlockEntry). e.kept) sets.here ∙ ap (λ k. (t.entry k).kept) (sym here)
+entry_kept : (k seq : ℕ) (t t' : Table) → Sets k (record (t.entry k) { seq = seq }) t t' → (b : ℕ) → (t'.entry b).kept ≡ (t.entry b).kept
+entry_kept k seq t t' sets b = elim (cases_eq b k) [
+  | inl here ↦ ap (λ j. (t'.entry j).kept) here ∙ ap (λ (e : BlockEntry). e.kept) sets.here ∙ ap (λ j. (t.entry j).kept) (sym here)
   | inr ne ↦ ap (λ (e : BlockEntry). e.kept) (sets.others b ne)
 ]
 
@@ -54,8 +54,8 @@ pub notes_more : (list : List Found) (n : ℕ) (old t t' : Table) (f : Found) �
     → t'.open_block ≡ t.open_block → t'.checkpoint ≡ t.checkpoint → t'.next_seq ≡ t.next_seq → Notes list n old t → Notes list (n + 1) old t'
 notes_more list n old t t' f at sets open_same noted seq_same notes = record {
   only = record {
-    bad = λ b. entry_bad f t t' sets b ∙ notes.only.bad b;
-    kept = λ b. entry_kept f t t' sets b ∙ notes.only.kept b;
+    bad = λ b. entry_bad f.block f.tag.seq t t' sets b ∙ notes.only.bad b;
+    kept = λ b. entry_kept f.block f.tag.seq t t' sets b ∙ notes.only.kept b;
     geometry = sets.geometry ∙ notes.only.geometry;
     open_block = open_same ∙ notes.only.open_block;
     checkpoint = noted ∙ notes.only.checkpoint;
@@ -81,9 +81,64 @@ notes_more list n old t t' f at sets open_same noted seq_same notes = record {
 }
 
 -- a page more
-pub notes_one : (list : List Found) (n : ℕ) (old t t' : Table) (f : Found) → slice_get list n ≡ Some f → NotesOne f t t' → Notes list n old t → Notes list (n + 1) old t'
+pub notes_one : (list : List Found) (n : ℕ) (old t t' : Table) (f : Found) → slice_get list n ≡ Some f → NotesOne f.block f.tag.seq t t' → Notes list n old t → Notes list (n + 1) old t'
 notes_one list n old t t' f at one notes = elim (cases_order f.tag.seq t.next_seq) [
   | inl same ↦ subst (Notes list (n + 1) old) (sym (one.same (omega (arith, same)))) (notes_skip list n old t f at (omega (arith, same)) notes)
   | inr (inl lt) ↦ notes_more list n old t t' f at (one.sets lt) one.open_block one.checkpoint one.next_seq notes
   | inr (inr gt) ↦ subst (Notes list (n + 1) old) (sym (one.same (omega (arith, gt)))) (notes_skip list n old t f at (omega (arith, gt)) notes)
+]
+
+-- ---- a number for each block
+
+-- what is known once the first n blocks were gone through
+pub record NotedEach (seqs : List ℕ) (n : ℕ) (old new : Table) : Type 0 where
+  pub only : OnlySeqs old new
+  pub each : AreNoted seqs n old new
+
+pub noted_none : (seqs : List ℕ) (t : Table) → NotedEach seqs 0 t t
+noted_none seqs t = record {
+  only = record { bad = λ b. refl; kept = λ b. refl; geometry = refl; open_block = refl; checkpoint = refl; next_group = refl; next_seq = refl };
+  each = λ b seq lt. absurd (omega (arith, lt));
+}
+
+-- a block more, whose number is noted
+noted_set : (seqs : List ℕ) (n seq : ℕ) (old t t' : Table) → slice_get seqs n ≡ Some seq → seq < t.next_seq → NotesOne n seq t t' → NotedEach seqs n old t → NotedEach seqs (n + 1) old t'
+noted_set seqs n seq old t t' at below one before =
+    let sets = one.sets below in
+    record {
+      only = record {
+        bad = λ b. entry_bad n seq t t' sets b ∙ before.only.bad b;
+        kept = λ b. entry_kept n seq t t' sets b ∙ before.only.kept b;
+        geometry = sets.geometry ∙ before.only.geometry;
+        open_block = one.open_block ∙ before.only.open_block;
+        checkpoint = one.checkpoint ∙ before.only.checkpoint;
+        next_group = sets.next_group ∙ before.only.next_group;
+        next_seq = one.next_seq ∙ before.only.next_seq;
+      };
+      each = λ b s lt there less. elim (cases_eq b n) [
+        | inl here ↦
+            let two : Some seq ≡ Some s = sym at ∙ subst (λ k. slice_get seqs k ≡ Some s) here there in
+            let same : seq ≡ s = cc in
+            ap (λ k. (t'.entry k).seq) here ∙ ap (λ (e : BlockEntry). e.seq) sets.here ∙ same
+        | inr ne ↦ ap (λ (e : BlockEntry). e.seq) (sets.others b ne) ∙ before.each b s (omega (arith, lt, ne)) there less
+      ];
+    }
+
+-- a block more, whose number was not handed out
+noted_skip : (seqs : List ℕ) (n seq : ℕ) (old t : Table) → slice_get seqs n ≡ Some seq → t.next_seq ≤ seq → NotedEach seqs n old t → NotedEach seqs (n + 1) old t
+noted_skip seqs n seq old t at above before = record {
+  only = before.only;
+  each = λ b s lt there less. elim (cases_eq b n) [
+    | inl here ↦
+        let two : Some seq ≡ Some s = sym at ∙ subst (λ k. slice_get seqs k ≡ Some s) here there in
+        let same : seq ≡ s = cc in
+        absurd (omega (arith, same, less, above, before.only.next_seq))
+    | inr ne ↦ before.each b s (omega (arith, lt, ne)) there less
+  ];
+}
+
+pub noted_more : (seqs : List ℕ) (n seq : ℕ) (old t t' : Table) → slice_get seqs n ≡ Some seq → NotesOne n seq t t' → NotedEach seqs n old t → NotedEach seqs (n + 1) old t'
+noted_more seqs n seq old t t' at one before = elim (cases_lt seq t.next_seq) [
+  | inl below ↦ noted_set seqs n seq old t t' at below one before
+  | inr above ↦ subst (NotedEach seqs (n + 1) old) (sym (one.same above)) (noted_skip seqs n seq old t at above before)
 ]

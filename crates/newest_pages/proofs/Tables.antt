@@ -9,7 +9,8 @@ use Rattle.nand_model.specs.Calls.{Device}
 use Rattle.nand_model.specs.Changes.{OnlyReads}
 use Rattle.nand_model.specs.declared.geometry.Geometry.{Geometry}
 use Rattle.page_tags.specs.Tags.{IsTag}
-use Rattle.flash_tree.specs.Newest.{Spot, IsNewest, Numbers, AreGreatest}
+use Rattle.flash_tree.specs.Newest.{Spot, IsNewest, Numbers, AreAbove, AreGreatest}
+use Rattle.flash_tree.specs.Numbering.{AreBelow}
 use Rattle.flash_tree.specs.Places.{spot_of}
 use Rattle.flash_tree.specs.declared.place.Found.{Found}
 use Rattle.block_state.specs.Table.{Table, blank}
@@ -23,7 +24,9 @@ use Rattle.chunk_index.specs.Entries.{as_kept}
 use Rattle.chunk_index.specs.Maps.{kept_pages, present, kept_in, CountsAgree}
 use Rattle.chunk_index.specs.Newest.{Indexes, IsFoundOf, page_of}
 use Rattle.page_buffer.specs.Buffering.{IsUnbuffered}
-use Rattle.transactions.specs.Ready.{IsReady}
+use Rattle.transactions.specs.Marking.{IsMarked}
+use Rattle.transactions.specs.Ready.{IsReady, IsWaiting}
+use Rattle.transactions.specs.laws.Ready.{above_below}
 use Rattle.mount_scan.specs.Scanned.{AreNewest, TellsNewest}
 use Rattle.mount_scan.specs.laws.Scan.{found_of, listed_spot}
 use Rattle.bad_blocks.specs.Standing.{IsKeptAt, AreKept, MayLie}
@@ -40,7 +43,8 @@ blank_tables d n g (Ok blocks) none same made = subst (λ (t : Table). IsTableOf
   closed = refl;
   checkpoint = refl;
   none = λ b. refl;
-  ready = λ left. absurd (none left);
+  good = λ b good. refl;
+  marks = λ left. absurd (none left);
   group = λ left. absurd (none left);
   seq = λ left. absurd (none left);
 })
@@ -50,6 +54,20 @@ pub blank_seqs : (g : Geometry) (r : Result Blocks AllocError) → IfOk r (λ bl
     → IfOk r (λ blocks. (b : ℕ) → ((table blocks).entry b).seq ≡ 0)
 blank_seqs g (Err e) made = tt
 blank_seqs g (Ok blocks) made = λ b. ap (λ (t : Table). (t.entry b).seq) made
+
+-- and one with marks, where there are
+pub marked_tables : (d : Device) (n : Numbers) (r : Result Blocks AllocError) → IfOk r (λ blocks. IsMarked d n (table blocks)) → IfOk r (λ blocks. IsTableOf d n (table blocks))
+marked_tables d n (Err e) made = tt
+marked_tables d n (Ok blocks) made = record {
+  geometry = made.geometry;
+  closed = made.closed;
+  checkpoint = made.checkpoint;
+  none = made.kept;
+  good = λ b good. made.marks b ∙ good;
+  marks = λ left. made.marks;
+  group = λ left. made.group;
+  seq = λ left. made.seq;
+}
 
 -- ---- what was found is named
 
@@ -202,30 +220,16 @@ module _ (list : List Found) (x : Index) (indexes : Indexes list (length list) x
       let here = kept_found has.0 (found_of s) at in
       sym (ap (λ k. kept_pages x k s.tag.chunk) is.1 ∙ ap (kept_pages x o) is.2) ∙ here
 
--- a table whose kept counts alone changed, with no block open, is as ready
-counted_ready : (d : Device) (t t' : Table) (before after : ℕ → ℕ) → t.open_block ≡ None → Recounts before after t t' → IsReady d t → IsReady d t'
-counted_ready d t t' before after closed recounts ready = record {
-  geometry = recounts.geometry ∙ ready.geometry;
-  marks = λ b. recounts.bad b ∙ ready.marks b;
-  open_block = λ o is. absurd (let two : None ≡ Some o = sym closed ∙ sym recounts.open_block ∙ is in cc);
-  waits = λ c is. let was = ready.waits c (sym recounts.checkpoint ∙ is) in record { within = was.within; good = was.good; closed = recounts.open_block ∙ closed };
-  numbers = (subst (λ k. 1 ≤ k) (sym recounts.next_group) ready.numbers.0, subst (λ k. 1 ≤ k) (sym recounts.next_seq) ready.numbers.1);
-  below = λ honest b p tag good has.
-      let was = ready.below honest b p tag good has in
-      (subst (λ k. tag.version < k) (sym recounts.next_group) was.0, subst (λ k. tag.group < k) (sym recounts.next_group) was.1, subst (λ k. tag.seq < k) (sym recounts.next_seq) was.2);
-}
-
--- a table whose blocks have other numbers is as ready, with no block open
-noted_ready : (d : Device) (t t' : Table) → t.open_block ≡ None → OnlySeqs t t' → IsReady d t → IsReady d t'
-noted_ready d t t' closed only ready = record {
-  geometry = only.geometry ∙ ready.geometry;
-  marks = λ b. only.bad b ∙ ready.marks b;
-  open_block = λ o is. absurd (let two : None ≡ Some o = sym closed ∙ sym only.open_block ∙ is in cc);
-  waits = λ c is. let was = ready.waits c (sym only.checkpoint ∙ is) in record { within = was.within; good = was.good; closed = only.open_block ∙ closed };
-  numbers = (subst (λ k. 1 ≤ k) (sym only.next_group) ready.numbers.0, subst (λ k. 1 ≤ k) (sym only.next_seq) ready.numbers.1);
-  below = λ honest b p tag good has.
-      let was = ready.below honest b p tag good has in
-      (subst (λ k. tag.version < k) (sym only.next_group) was.0, subst (λ k. tag.group < k) (sym only.next_group) was.1, subst (λ k. tag.seq < k) (sym only.next_seq) was.2);
+-- a table with the marks of the device and numbers above its tags is ready, with no block open
+pub ready_from : (d : Device) (n : Numbers) (t : Table) → t.geometry ≡ d.geometry → ((b : ℕ) → (t.entry b).bad ≡ d.flash.bad b) → t.open_block ≡ None → ((c : ℕ) → t.checkpoint ≡ Some c → IsWaiting d t c)
+    → t.next_group ≡ n.group + 1 → t.next_seq ≡ n.seq + 1 → (d.honest ≡ true → AreAbove d.flash n) → IsReady d t
+ready_from d n t geometry marks closed waits group seq above = record {
+  geometry = geometry;
+  marks = marks;
+  open_block = λ o is. absurd (let two : None ≡ Some o = sym closed ∙ is in cc);
+  waits = waits;
+  numbers = (omega (arith, group), omega (arith, seq));
+  below = λ honest. subst (λ k. AreBelow d.flash k t.next_seq) (sym group) (subst (λ k. AreBelow d.flash (n.group + 1) k) (sym seq) (above_below d.flash n (above honest)));
 }
 
 -- it is a table of the device still
@@ -235,7 +239,8 @@ noted_table d n t t' only is = record {
   closed = only.open_block ∙ is.closed;
   checkpoint = only.checkpoint ∙ is.checkpoint;
   none = λ b. only.kept b ∙ is.none b;
-  ready = λ left. noted_ready d t t' is.closed only (is.ready left);
+  good = λ b good. only.bad b ∙ is.good b good;
+  marks = λ left b. only.bad b ∙ is.marks left b;
   group = λ left. only.next_group ∙ is.group left;
   seq = λ left. only.next_seq ∙ is.seq left;
 }
@@ -286,21 +291,26 @@ greatest_read a b n reads greatest honest =
 pub opened : (d : Device) (list : List Found) (x : Index) (t t' : Table) (n : Numbers) → TellsNewest d list → (d.honest ≡ true → AreGreatest d.flash n) → HaveNames n.group list
     → IsTableOf d n t → (d.honest ≡ true → AreLeft n → (b : ℕ) → HasItsSeq d.flash t b) → Indexes list (length list) x → CountsAgree t' x → Recounts (λ b. 0) (kept_in x) t t' → IsOpened d t' x n
 opened d list x t t' n tells greatest names is seqs indexes counts recounts = record {
-  counts = counts;
-  geometry = recounts.geometry ∙ is.geometry;
-  closed = recounts.open_block ∙ is.closed;
-  checkpoint = recounts.checkpoint ∙ is.checkpoint;
-  shown = is_shown list x indexes;
-  unbuffered = not_buffered list x indexes;
-  within = lies_within list x indexes d tells;
-  newest = are_kept list x indexes d tells;
+  tables = record {
+    counts = counts;
+    geometry = recounts.geometry ∙ is.geometry;
+    closed = recounts.open_block ∙ is.closed;
+    noted = recounts.checkpoint ∙ is.checkpoint;
+    shown = is_shown list x indexes;
+    unbuffered = not_buffered list x indexes;
+    within = lies_within list x indexes d tells;
+    newest = are_kept list x indexes d tells;
+    numbers = greatest;
+    ready = λ left.
+        ready_from d n t' (recounts.geometry ∙ is.geometry) (λ b. recounts.bad b ∙ is.marks left b) (recounts.open_block ∙ is.closed)
+        (λ c at. absurd (let two : None ≡ Some c = sym (recounts.checkpoint ∙ is.checkpoint) ∙ at in cc))
+        (recounts.next_group ∙ is.group left) (recounts.next_seq ∙ is.seq left) (λ honest. (greatest honest).above);
+    group = λ left. recounts.next_group ∙ is.group left;
+    seq = λ left. recounts.next_seq ∙ is.seq left;
+    lie = λ left.
+        let next : t'.next_group ≡ n.group + 1 = recounts.next_group ∙ is.group left in
+        may_lie list x indexes d t' n tells (recounts.geometry ∙ is.geometry) names (omega (arith, next));
+  };
   all = all_kept list x indexes d tells;
-  numbers = greatest;
-  ready = λ left. counted_ready d t t' _ _ is.closed recounts (is.ready left);
-  group = λ left. recounts.next_group ∙ is.group left;
-  seq = λ left. recounts.next_seq ∙ is.seq left;
   seqs = λ honest left b. counted_seq d t t' _ _ b recounts (seqs honest left b);
-  lie = λ left.
-      let next : t'.next_group ≡ n.group + 1 = recounts.next_group ∙ is.group left in
-      may_lie list x indexes d t' n tells (recounts.geometry ∙ is.geometry) names (omega (arith, next));
 }

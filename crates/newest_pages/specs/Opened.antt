@@ -1,6 +1,6 @@
 -- The tables of a device that was scanned.
 -- From: this project.
-use Rattle.std.specs.Prelude.{◌≡◌, ◌≢◌, ◌⊎◌, ◌<◌, ◌≤◌, ℕ, ◌+◌, true, false, List, Some, None, slice_get}
+use Rattle.std.specs.Prelude.{◌≡◌, ◌≢◌, ◌⊎◌, ◌<◌, ◌≤◌, ℕ, ◌+◌, true, false, List, Option, Some, None, slice_get}
 use Rattle.volume_terms.specs.Sizes.{number_end}
 use Rattle.nand_model.specs.Flash.{Flash}
 use Rattle.nand_model.specs.Calls.{Device}
@@ -32,14 +32,15 @@ AreLeft n = (n.group < number_end) × (n.seq < number_end)
 abbrev pub kept_at : Spot → KeptPage
 kept_at s = record { block = s.block; page = s.page; version = s.tag.version }
 
--- A table of the device in which nothing is kept, no block is open and none is noted for a checkpoint. Where there are numbers
--- left, it has the marks of the device, and the next numbers are one above these.
+-- A table of the device in which nothing is kept, no block is open, none is noted for a checkpoint, and no good one is marked. Where
+-- there are numbers left, it has the marks of the device, and the next numbers are one above these.
 pub record IsTableOf (device : Device) (n : Numbers) (t : Table) : Type 0 where
   pub geometry : t.geometry ≡ device.geometry
   pub closed : t.open_block ≡ None
   pub checkpoint : t.checkpoint ≡ None
   pub none : (b : ℕ) → (t.entry b).kept ≡ 0
-  pub ready : AreLeft n → IsReady device t
+  pub good : (b : ℕ) → device.flash.bad b ≡ false → (t.entry b).bad ≡ false
+  pub marks : AreLeft n → (b : ℕ) → (t.entry b).bad ≡ device.flash.bad b
   pub group : AreLeft n → t.next_group ≡ n.group + 1
   pub seq : AreLeft n → t.next_seq ≡ n.seq + 1
 
@@ -53,13 +54,17 @@ pub record OnlySeqs (old new : Table) : Type 0 where
   pub next_group : new.next_group ≡ old.next_group
   pub next_seq : new.next_seq ≡ old.next_seq
 
--- The block of a page gets the page's seq, where that was handed out, and else nothing changes.
-pub record NotesOne (f : Found) (old new : Table) : Type 0 where
-  pub sets : f.tag.seq < old.next_seq → Sets f.block (record (old.entry f.block) { seq = f.tag.seq }) old new
+-- A block gets this seq, where that was handed out, and else nothing changes.
+pub record NotesOne (b seq : ℕ) (old new : Table) : Type 0 where
+  pub sets : seq < old.next_seq → Sets b (record (old.entry b) { seq = seq }) old new
   pub open_block : new.open_block ≡ old.open_block
   pub checkpoint : new.checkpoint ≡ old.checkpoint
   pub next_seq : new.next_seq ≡ old.next_seq
-  pub same : old.next_seq ≤ f.tag.seq → new ≡ old
+  pub same : old.next_seq ≤ seq → new ≡ old
+
+-- each of the first n blocks has its number of the list, where that was handed out
+abbrev pub AreNoted : List ℕ → (n : ℕ) → Table → Table → Type 0
+AreNoted seqs n old new = (b seq : ℕ) → b < n → slice_get seqs b ≡ Some seq → seq < old.next_seq → (new.entry b).seq ≡ seq
 
 -- one of the first n pages lies in block b, and has this seq
 pub record HasSeqOf (list : List Found) (n b seq : ℕ) : Type 0 where
@@ -85,25 +90,31 @@ abbrev pub HasItsSeq : Flash → Table → ℕ → Type 0
 HasItsSeq flash t b = (((o c : ℕ) (s : Spot) → IsNewest flash o c s → s.block ≢ b) × ((t.entry b).seq ≡ 0))
     ⊎ ((o : ℕ) × (c : ℕ) × (s : Spot) × IsNewest flash o c s × (s.block ≡ b) × ((t.entry b).seq ≡ s.tag.seq))
 
--- The newest page of each key is kept, with its place and version, and nothing else; what is kept is present; no block is
--- open, and none is noted for a checkpoint. The counts of blocks are those of the index. Where there are numbers left, groups can be written: the next
--- numbers are one above the greatest, each kept page may be copied, and blocks have the numbers that their pages tell.
-pub record IsOpened (device : Device) (t : Table) (x : Index) (n : Numbers) : Type 0 where
+-- The tables of a device, by a checkpoint in this block or, with none, by a scan. What is kept is on the device, and is present; no block
+-- is open; the counts of blocks are those of the index. On an honest device each kept page is the newest of its key, and the numbers
+-- are the greatest. Where there are numbers left, groups can be written: the next numbers are one above these, and each kept page
+-- may be copied.
+pub record IsOpenedBy (checkpoint : Option ℕ) (device : Device) (t : Table) (x : Index) (n : Numbers) : Type 0 where
   pub counts : CountsAgree t x
   pub geometry : t.geometry ≡ device.geometry
   pub closed : t.open_block ≡ None
-  pub checkpoint : t.checkpoint ≡ None
+  pub noted : t.checkpoint ≡ checkpoint
   pub shown : (o c : ℕ) → present x o c ≡ as_kept (kept_pages x o c)
   pub unbuffered : IsUnbuffered x
   pub within : (o c : ℕ) (p : KeptPage) → kept_pages x o c ≡ Some p → (p.block < device.geometry.blocks) × (p.page < device.geometry.pages)
   pub newest : device.honest ≡ true → AreKept device.flash (kept_pages x)
-  pub all : device.honest ≡ true → (o c : ℕ) (s : Spot) → IsNewest device.flash o c s → kept_pages x o c ≡ Some (kept_at s)
   pub numbers : device.honest ≡ true → AreGreatest device.flash n
   pub ready : AreLeft n → IsReady device t
   pub group : AreLeft n → t.next_group ≡ n.group + 1
   pub seq : AreLeft n → t.next_seq ≡ n.seq + 1
-  pub seqs : device.honest ≡ true → AreLeft n → (b : ℕ) → HasItsSeq device.flash t b
   pub lie : AreLeft n → (o c : ℕ) (p : KeptPage) → kept_pages x o c ≡ Some p → MayLie t o c p
+
+-- The tables of a device by a scan: on an honest one the newest page of each key is kept, with its place and version, and blocks have
+-- the numbers that their pages tell.
+pub record IsOpened (device : Device) (t : Table) (x : Index) (n : Numbers) : Type 0 where
+  pub tables : IsOpenedBy None device t x n
+  pub all : device.honest ≡ true → (o c : ℕ) (s : Spot) → IsNewest device.flash o c s → kept_pages x o c ≡ Some (kept_at s)
+  pub seqs : device.honest ≡ true → AreLeft n → (b : ℕ) → HasItsSeq device.flash t b
 
 -- what a scan's fault is here
 abbrev pub of_scan : ScanFault → OpenFault

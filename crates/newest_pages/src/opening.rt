@@ -1,7 +1,6 @@
 // The tables of a device, by a scan.
 ghost use Rattle.std.specs.Prelude.{◌≡◌, ◌↔◌, ◌≤◌, ◌+◌, ℕ, true, false, IsTrue, OnOk, IfOk, IfErr};
 ghost use Rattle.nand_model.specs.Changes.{OnlyReads};
-ghost use Rattle.flash_tree.specs.Newest.{AreAbove};
 ghost use Rattle.flash_tree.specs.Places.{numbers_of};
 ghost use Rattle.block_state.specs.TableOf.{table};
 ghost use Rattle.mount_scan.specs.Scanned.{good_pages};
@@ -15,7 +14,7 @@ use flash_tree::TagNumbers;
 use mount_scan::{NewestScan, ScanFault, scan_newest};
 use nand_model::Nand;
 use std::alloc::{AllocError, Global};
-use transactions::table_of;
+use transactions::marked_table;
 use volume_terms::NUMBER_END;
 
 /// Why a device was not opened.
@@ -50,7 +49,7 @@ impl From<AllocError> for OpenFault {
     }
 }
 
-/// What a scan found: the table of blocks, the index of the newest pages, and the greatest numbers.
+/// What was found of a device: the table of blocks, the index of the newest pages, and the greatest numbers.
 #[derive(Drop)]
 pub struct Opened {
     pub blocks: Blocks,
@@ -65,21 +64,20 @@ pub(crate) fn are_left(numbers: TagNumbers) -> bool
     numbers.group < NUMBER_END && numbers.seq < NUMBER_END
 }
 
-/// The table of the device, whose tags are not above these numbers. With no numbers left nothing can be written, and the
-/// table is one without marks.
-fn table_above<N: Nand>(
+/// A table of the device, whose next numbers are one above these. With no numbers left nothing can be written, and the table
+/// is one without marks.
+pub(crate) fn table_above<N: Nand>(
     alloc: Global,
     device: &N,
     numbers: TagNumbers,
 ) -> Result<Blocks, AllocError>
-    requires above { (N.state device.now).honest ≡ true → AreAbove (N.state device.now).flash (numbers_of numbers) }
     ensures table { IfOk result (λ blocks. IsTableOf (N.state device.now) (numbers_of numbers) (table blocks)) }
     ensures seqs { IfOk result (λ blocks. (b : ℕ) → ((table blocks).entry b).seq ≡ 0) }
 {
     if !are_left(numbers) {
         return Blocks::new(alloc, device.geometry());
     }
-    table_of(alloc, device, numbers)
+    marked_table(alloc, device, numbers)
 }
 
 /// Scans a device, which is only read: the newest page of each key is kept. Each tag of a good block is read once at most.

@@ -1,21 +1,21 @@
 // The numbers that blocks got when they were last taken, as their pages tell.
-ghost use Rattle.std.specs.Prelude.{◌<◌, ℕ, length};
+ghost use Rattle.std.specs.Prelude.{◌≡◌, ◌<◌, ℕ, length};
 ghost use Rattle.block_state.specs.TableOf.{table};
 ghost use Rattle.chunk_index.specs.Newest.{LieWithin};
 ghost use Rattle.found_pages.specs.Listed.{listed};
-ghost use Rattle.newest_pages.specs.Opened.{OnlySeqs, NotesOne, NotesSeq};
+ghost use Rattle.newest_pages.specs.Opened.{AreNoted, OnlySeqs, NotesOne, NotesSeq};
 
 use block_state::Blocks;
 use flash_tree::Found;
 use found_pages::{BUCKETS, FoundPages};
 
-/// Notes the number of the block of a page, where it was handed out.
-fn note_one(found: Found, blocks: &mut Blocks)
-    requires block { found.block < (table blocks.old).geometry.blocks }
-    ensures { NotesOne found (table blocks.old) (table blocks.new) }
+/// Notes the number of a block, where it was handed out.
+fn note_one(block: u32, seq: u64, blocks: &mut Blocks)
+    requires block { block < (table blocks.old).geometry.blocks }
+    ensures { NotesOne block seq (table blocks.old) (table blocks.new) }
 {
-    if found.tag.seq < blocks.next_seq() {
-        blocks.note_seq(found.block, found.tag.seq);
+    if seq < blocks.next_seq() {
+        blocks.note_seq(block, seq);
     }
 }
 
@@ -26,7 +26,7 @@ fn note_list(list: &[Found], blocks: &mut Blocks)
     ensures notes { (b : ℕ) → NotesSeq list.now (length list.now) (table blocks.old) (table blocks.new) b }
 {
     for found in list {
-        note_one(*found, blocks);
+        note_one(found.block, found.tag.seq, blocks);
     }
 }
 
@@ -38,5 +38,16 @@ pub(crate) fn note_seqs(newest: &FoundPages, blocks: &mut Blocks)
 {
     for at in 0..BUCKETS {
         note_list(newest.bucket(at), blocks);
+    }
+}
+
+/// Notes for each block a number, where it was handed out.
+pub(crate) fn note_each(seqs: &[u64], blocks: &mut Blocks)
+    requires size { length seqs.now ≡ (table blocks.old).geometry.blocks }
+    ensures only { OnlySeqs (table blocks.old) (table blocks.new) }
+    ensures notes { AreNoted seqs.now (table blocks.old).geometry.blocks (table blocks.old) (table blocks.new) }
+{
+    for block in 0..blocks.geometry().blocks() {
+        note_one(block, seqs[block as usize], blocks);
     }
 }

@@ -28,19 +28,19 @@ module _ (keeps : ℕ → ℕ → Bool) (d : Device) (t u : Table) (x y : Index)
 
   unbuffered : (o c i : ℕ) → present y o c ≡ presents.InBuffer i → ⊥
   unbuffered o c i is = elim (cases_Bool (keeps o c)) [
-    | inl stays ↦ opened.unbuffered o c i (sym (retains.present o c stays) ∙ is)
+    | inl stays ↦ opened.tables.unbuffered o c i (sym (retains.present o c stays) ∙ is)
     | inr goes ↦ let two : presents.Absent ≡ presents.InBuffer i = sym (retains.present_no_more o c goes) ∙ is in absurd cc
   ]
 
   closed : u.open_block ≡ None
-  closed = recounts.open_block ∙ opened.closed
+  closed = recounts.open_block ∙ opened.tables.closed
 
   checkpoint : u.checkpoint ≡ None
-  checkpoint = recounts.checkpoint ∙ opened.checkpoint
+  checkpoint = recounts.checkpoint ∙ opened.tables.noted
 
   ready : AreLeft n → IsReady d u
   ready left =
-      let was = opened.ready left in
+      let was = opened.tables.ready left in
       record {
         geometry = recounts.geometry ∙ was.geometry;
         marks = λ k. recounts.bad k ∙ was.marks k;
@@ -52,7 +52,7 @@ module _ (keeps : ℕ → ℕ → Bool) (d : Device) (t u : Table) (x y : Index)
 
   lie : AreLeft n → (o c : ℕ) (p : KeptPage) → kept_pages y o c ≡ Some p → MayLie u o c p
   lie left o c p is =
-      let was = opened.lie left o c p (was_kept o c p is) in
+      let was = opened.tables.lie left o c p (was_kept o c p is) in
       record {
         block = subst (λ (g : Geometry). p.block < g.blocks) (sym recounts.geometry) was.block;
         page = subst (λ (g : Geometry). p.page < g.pages) (sym recounts.geometry) was.page;
@@ -70,7 +70,7 @@ module _ (keeps : ℕ → ℕ → Bool) (d : Device) (t u : Table) (x y : Index)
     closed = closed;
     checkpoint = checkpoint;
     unbuffered = unbuffered;
-    newest = λ honest o c p is. opened.newest honest o c p (was_kept o c p is);
+    newest = λ honest o c p is. opened.tables.newest honest o c p (was_kept o c p is);
     ready = ready;
     lie = lie;
   }

@@ -16,11 +16,6 @@ returns-then-not-have_names-clause-fault g c =
       | inr lies ↦ reads.lasts.honest ∙ lies
     ]
 
-pub table_above-requires : goal.table_above-requires
-table_above-requires g c = record {
-  above = λ honest. (greatest_read (g.N.Nand.state c.args.device.now) (g.N.Nand.state c.scan_newest.new.device) _ c.scan_newest.ensures.reads.only c.in_ok-newest.ensures.numbers honest).above;
-}
-
 pub returns-clause-opened : goal.returns-clause-opened
 returns-clause-opened g c =
     let old = g.N.Nand.state c.args.device.now in

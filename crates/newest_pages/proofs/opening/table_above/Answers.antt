@@ -1,7 +1,7 @@
 use Rattle.std.proofs.Common.{IsTrue, false, subst}
 use Rattle.flash_tree.specs.Places.{numbers_of}
 use Rattle.newest_pages.specs.Opened.{AreLeft}
-use Rattle.newest_pages.proofs.Tables.{blank_tables, blank_seqs}
+use Rattle.newest_pages.proofs.Tables.{blank_tables, blank_seqs, marked_tables}
 use Rattle.newest_pages.proofs.opening.table_above.Goals as goal
 
 pub returns-then-not-are_left-clause-table : goal.returns-then-not-are_left-clause-table
@@ -11,3 +11,6 @@ returns-then-not-are_left-clause-table g c =
 
 pub returns-then-not-are_left-clause-seqs : goal.returns-then-not-are_left-clause-seqs
 returns-then-not-are_left-clause-seqs g c = blank_seqs c.geometry.result c.new.result c.new.ensures
+
+pub returns-clause-table : goal.returns-clause-table
+returns-clause-table g c = marked_tables (g.N.Nand.state c.args.device.now) (numbers_of c.args.numbers) c.marked_table.result c.marked_table.ensures

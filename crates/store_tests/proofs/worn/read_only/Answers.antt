@@ -5,7 +5,7 @@ use Rattle.store_tests.proofs.Carrying.{carries_newest}
 use Rattle.store_tests.proofs.worn.read_only.Goals as goal
 
 pub new-requires-clause-written : goal.new-requires-clause-written
-new-requires-clause-written c = λ honest. c.the_opened_pages_are_the_newest.ensures.written (device c.open.new.device).flash c.in_ok-opened.opened.index (c.in_ok-opened.ensures.opened.newest honest)
+new-requires-clause-written c = λ honest. c.the_opened_pages_are_the_newest.ensures.written (device c.open.new.device).flash c.in_ok-opened.opened.index (c.in_ok-opened.ensures.opened.tables.newest honest)
 
 pub new-requires-in-Ok-clause-carrying : goal.new-requires-in-Ok-clause-carrying
 new-requires-in-Ok-clause-carrying c = λ honest.

@@ -2,7 +2,7 @@
 
 use flash_tree::CHECK_OBJECT;
 use nand_model::{Geometry, MemNand, Nand};
-use page_tags::Tag;
+use page_tags::{CheckEntry, Tag};
 use std::alloc::Global;
 use std::process::Abort;
 use std::test::Fail;
@@ -22,7 +22,18 @@ pub(crate) struct Laid {
     pub second_tag: Tag,
 }
 
-/// An entry of chunk k of object 2 in version 7, which lies in page k of block 4.
+/// Entry k: of chunk k of object 2 in version 7, which lies in page k of block 4.
+pub(crate) fn entry(k: u32) -> CheckEntry {
+    CheckEntry {
+        object: 2,
+        chunk: u64::from(k),
+        version: 7,
+        block: 4,
+        page: k,
+    }
+}
+
+/// The bytes of entry k.
 fn entry_bytes(k: u8) -> [u8; 32] {
     let mut bytes = [0; 32];
     bytes[0] = 2;

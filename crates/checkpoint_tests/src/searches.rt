@@ -1,10 +1,9 @@
 //! What a search finds.
 
-use crate::laid::{Laid, checkpoint, empty, write};
+use crate::laid::{Laid, checkpoint, empty, entry, write};
 use checkpoint_reading::find_checkpoint;
 use mount_scan::ScanFault;
 use nand_model::{MemNand, Nand};
-use page_tags::CheckEntry;
 use std::alloc::Global;
 use std::test::Fail;
 
@@ -33,14 +32,10 @@ fn a_whole_checkpoint_is_found(rt: HostRuntime) -> Result<(), Fail> {
     );
     assert_eq!(rt; found.entries.len(), 20);
     for k in 0..20u32 {
-        let entry = CheckEntry {
-            object: 2,
-            chunk: k as u64,
-            version: 7,
-            block: 4,
-            page: k,
-        };
-        assert!(rt; found.entries.get(k as usize) == Some(&entry), "entry {k}");
+        assert!(rt;
+            found.entries.get(k as usize) == Some(&entry(k)),
+            "entry {k}"
+        );
     }
     Ok(())
 }

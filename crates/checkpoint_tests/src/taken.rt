@@ -1,23 +1,13 @@
-// What the allocation of a block leaves of a checkpoint.
-ghost use Rattle.std.specs.Prelude.{IfOk};
-ghost use Rattle.nand_model.specs.MemoryState.{device};
-ghost use Rattle.block_state.specs.TableOf.{table};
-ghost use Rattle.transactions.specs.Ready.{IsReady};
-ghost use Rattle.bad_blocks.specs.Taking.{HasUnkept};
+//! What the allocation of a block leaves of a checkpoint.
 
 use crate::laid::{checkpoint, empty, write};
+use crate::left::{READS, assert_left};
 use bad_blocks::{TakeFault, take_block};
-use block_state::Blocks;
-use checkpoint_reading::find_checkpoint;
-use nand_model::{Fate, MemNand, Nand};
-use plain_search::greatest;
+use nand_model::{Fate, MemNand};
 use std::alloc::Global;
 use std::process::Abort;
 use std::test::Fail;
-use transactions::table_of;
-
-/// The reads of all tags of eight blocks of 32 pages. The call after them is an erase.
-const READS: u64 = 256;
+use test_log::mount_log_beside;
 
 /// A flash with a whole checkpoint in block 3, after a power-up.
 fn flash(rt: &impl Abort, alloc: Global) -> Result<MemNand, Fail> {
@@ -25,21 +15,6 @@ fn flash(rt: &impl Abort, alloc: Global) -> Result<MemNand, Fail> {
     write(rt, &mut nand, 3, &checkpoint(5), true)?;
     nand.power_up();
     Ok(nand)
-}
-
-/// The table of a flash whose tags were read: block 3 may have a checkpoint, and no page is kept.
-fn noted(rt: &impl Abort, alloc: Global, nand: &mut MemNand) -> Result<Blocks, Fail>
-    ensures ready { IfOk result (λ blocks. IsReady (device nand.new) (table blocks)) }
-    ensures unkept { IfOk result (λ blocks. HasUnkept (table blocks) 2) }
-{
-    let numbers = greatest(nand)?;
-    assert!(rt; numbers.group < 1 << 62 && numbers.seq < 1 << 62);
-    let mut blocks = table_of(alloc, nand, numbers)?;
-    assert!(rt; blocks.bad_count() <= 2 && blocks.free_count() > 2);
-    assert!(rt; 3 < blocks.geometry().blocks());
-    assert!(rt; blocks.is_free(3));
-    blocks.note_checkpoint(3);
-    Ok(blocks)
 }
 
 /// A device that is planned so, and what an allocation of a block leaves on it.
@@ -57,27 +32,6 @@ struct Case {
     whole: bool,
 }
 
-/// After a power-up the checkpoint is whole as it was, or none is.
-fn assert_left(
-    rt: &impl Abort,
-    alloc: Global,
-    nand: &mut MemNand,
-    whole: bool,
-) -> Result<(), Fail> {
-    nand.power_up();
-    let search = find_checkpoint(alloc, nand)?;
-    match &search.checkpoint {
-        None => assert!(rt; !whole),
-        Some(found) => {
-            assert!(rt; whole);
-            assert_eq!(rt; (found.block, found.size), (3, 2));
-            assert_eq!(rt; (found.number, found.seq), (9, 5));
-            assert_eq!(rt; found.entries.len(), 20);
-        }
-    }
-    Ok(())
-}
-
 /// Allocates a block, with two to spare, on a device that is planned so.
 fn assert_case(rt: &impl Abort, alloc: Global, case: &Case) -> Result<(), Fail> {
     let mut failures = Vec::new(alloc);
@@ -87,11 +41,11 @@ fn assert_case(rt: &impl Abort, alloc: Global, case: &Case) -> Result<(), Fail> 
     let fates = vec![in alloc; case.fates[0], case.fates[1]]?;
     let nand = flash(rt, alloc)?.with_failures(failures);
     let mut nand = nand.with_fuse(case.cut, fates);
-    let mut blocks = noted(rt, alloc, &mut nand)?;
-    let result = take_block(&mut nand, &mut blocks, 2);
+    let mut log = mount_log_beside(alloc, &mut nand, 2, 3)?;
+    let result = take_block(&mut nand, &mut log.blocks, 2);
     assert_eq!(rt; result, case.result);
-    assert_eq!(rt; blocks.open_block(), result.ok());
-    assert_eq!(rt; blocks.checkpoint(), case.noted);
+    assert_eq!(rt; log.blocks.open_block(), result.ok());
+    assert_eq!(rt; log.blocks.checkpoint(), case.noted);
     assert_left(rt, alloc, &mut nand, case.whole)
 }
 

@@ -1,1 +1,2 @@
 pub mod Mounting
+pub mod Beside

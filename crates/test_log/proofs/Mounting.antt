@@ -1,7 +1,7 @@
--- From what a scan tells to what stands.
+-- From what a scan tells to the table and the index.
 use Rattle.std.specs.Prelude.{◌≡◌, ◌⊎◌, ◌<◌, ◌≤◌, ◌^◌, ℕ, List, length, Some, None, true, false, Contains, IsSome}
 use Rattle.std.proofs.Common.{suc, zero, refl, sym, ◌∙◌, ap, subst, inl, inr, arith, get_or}
-use Rattle.std.proofs.lemmas.Bool.{cases_eq, cases_lt}
+use Rattle.std.proofs.lemmas.Bool.{cases_eq}
 use Rattle.std.proofs.lemmas.List.Elements.{Contains-get_or, All-contains}
 use Rattle.std.proofs.lemmas.Option.{get_or_from_slice_get, slice_get-get_or}
 use Rattle.nand_model.specs.Flash.{Flash}
@@ -22,8 +22,8 @@ use Rattle.flash_tree.specs.Numbering.{AreBelow}
 use Rattle.transactions.specs.Ready.{IsOpenOn, IsReady}
 use Rattle.mount_scan.specs.Scanned.{TellsNewest, ArePlaced, AreNewest}
 use Rattle.mount_scan.specs.laws.Scan.{found_of, listed_spot}
-use Rattle.bad_blocks.specs.Standing.{IsKeptAt, MayLie, IsWithinLimits, Stands, KeepsOrdinary}
-use Rattle.bad_blocks.specs.Taking.{HasUnkept}
+use Rattle.bad_blocks.specs.Standing.{IsKeptAt, MayLie, IsWithinLimits}
+use Rattle.test_log.specs.Scanned.{IsScanned}
 
 -- one of the first n pages is of the key, or none is
 one_of : (fs : List Found) (d : Found) (o c n : ℕ) → ((i : ℕ) × (i < n) × IsFoundOf o c (get_or fs i d)) ⊎ ((i : ℕ) → i < n → IsFoundOf o c (get_or fs i d) → ⊥)
@@ -84,19 +84,16 @@ tells_read old new fs reads honest tells =
     }
 
 -- What was scanned, indexed and counted.
-pub record IsMounted (spare : ℕ) (d : Device) (t : Table) (x : Index) (fs : List Found) : Type 0 where
+pub record IsIndexed (d : Device) (t : Table) (x : Index) (fs : List Found) : Type 0 where
   pub honest : d.honest ≡ true
   pub ready : IsReady d t
   pub tells : TellsNewest d fs
   pub indexes : Indexes fs (length fs) x
   pub counts : CountsAgree t x
-  pub open_block : t.open_block ≡ None
-  pub fits : (b : ℕ) → b < t.geometry.blocks → (t.entry b).kept ≤ t.geometry.pages
-  pub unkept : HasUnkept t spare
-  pub ordinary : KeepsOrdinary x
+  pub closed : t.open_block ≡ None
   pub limits : IsWithinLimits t
 
-module _ (spare : ℕ) (d : Device) (t : Table) (x : Index) (fs : List Found) (is : IsMounted spare d t x fs) where
+module _ (d : Device) (t : Table) (x : Index) (fs : List Found) (is : IsIndexed d t x fs) where
   newest_of : (f : Found) → Contains fs f → IsNewest d.flash f.tag.object f.tag.chunk (spot_of f)
   newest_of f has = ((is.tells.exact is.honest).each f.tag.object f.tag.chunk (spot_of f)).1 ((listed_spot fs (spot_of f)).1 has, refl, refl)
 
@@ -128,24 +125,13 @@ module _ (spare : ℕ) (d : Device) (t : Table) (x : Index) (fs : List Found) (i
         };
       }
 
-  fits_all : (b : ℕ) → (t.entry b).kept ≤ t.geometry.pages
-  fits_all b = elim (cases_lt b t.geometry.blocks) [
-    | inl lt ↦ is.fits b lt
-    | inr ge ↦ let none : (t.entry b).kept ≡ 0 = is.counts.counts b ∙ is.counts.within b ge in omega (arith, none)
-  ]
-
-  pub stands_mounted : Stands spare d t x
-  stands_mounted = record {
-    tables = record {
-      counts = is.counts;
-      within = λ o c p at. may_lie o c p (kept_listed fs x o c p is.indexes at);
-      fits = fits_all;
-      written = λ o at. let both : None ≡ Some o = sym is.open_block ∙ at in absurd cc;
-      unkept = is.unkept.unkept;
-      apart = is.unkept.apart;
-    };
-    newest = λ honest power o c p at. kept_at o c p (kept_listed fs x o c p is.indexes at);
-    ordinary = λ _. is.ordinary;
+  pub is_scanned : IsScanned d t x
+  is_scanned = record {
+    ready = is.ready;
+    counts = is.counts;
+    closed = is.closed;
+    newest = λ o c p at. kept_at o c p (kept_listed fs x o c p is.indexes at);
+    lie = λ o c p at. may_lie o c p (kept_listed fs x o c p is.indexes at);
     limits = is.limits;
   }
 

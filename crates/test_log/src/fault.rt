@@ -9,6 +9,8 @@ pub enum LogFault {
     Gone,
     /// No number is left, more blocks are bad than there are to spare, or too few are without a kept page.
     Worn,
+    /// The block that was said to have a checkpoint is not on the device, bad, or has a kept page.
+    NotFree,
 }
 
 impl From<ScanFault> for LogFault {

@@ -3,7 +3,10 @@
 #![tactic(auto)]
 
 mod fault;
+mod keys;
 mod mount;
+mod standing;
 
 pub use fault::LogFault;
-pub use mount::{MountedLog, has_unkept, mount_log};
+pub use mount::{MountedLog, mount_log, mount_log_beside};
+pub use standing::has_unkept;

@@ -3,7 +3,7 @@ use Rattle.block_state.specs.Kept.{bad_count, free_count}
 use Rattle.block_state.specs.Table.{Table}
 use Rattle.block_state.specs.TableOf.{table}
 use Rattle.block_state.specs.laws.Kept.{free_where_closed}
-use Rattle.test_log.proofs.mount.has_unkept.Goals as goal
+use Rattle.test_log.proofs.standing.has_unkept.Goals as goal
 
 pub returns-then-bad-spare : goal.returns-then-bad-spare
 returns-then-bad-spare c = λ is.

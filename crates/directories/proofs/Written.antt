@@ -91,6 +91,9 @@ module _ (d bytes : ℕ) (slot_page head_page : FreshPage) (head : DirectoryHead
   pub two_head : HasKey change d 0
   two_head = (1, subst (λ (ps : List FreshPage). IsPageOf ps d 0 1) (sym pages) (record { page = head_page; there = refl; object = head_is.object_is; chunk = head_is.chunk_is }))
 
+  pub two_slot_key : HasKey change d slot_page.key.chunk
+  two_slot_key = (0, subst (λ (ps : List FreshPage). IsPageOf ps d slot_page.key.chunk 0) (sym pages) (record { page = slot_page; there = refl; object = slot_is.object_is; chunk = refl }))
+
   module _ (old : PageMap) where
     placed : (i : ℕ) (p : FreshPage) → slice_get (both slot_page head_page) i ≡ Some p → changed change old p.key.object p.key.chunk ≡ Some p.bytes.items
     placed i p at = here change old two_apart i p (ap (λ (ps : List FreshPage). slice_get ps i) pages ∙ at)

@@ -5,3 +5,7 @@ pub mod Directories
 pub mod Faults
 pub mod Writes
 pub mod Listings
+pub mod Named
+pub mod Taking
+pub mod Hashing
+pub mod laws

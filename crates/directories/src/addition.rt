@@ -11,6 +11,7 @@ ghost use Rattle.pages.specs.State.{OnlyFinds, KeepsPower};
 ghost use Rattle.directories.specs.Directories.{DirIn, HasOnly, ReadsDirectory, TellsEnd};
 ghost use Rattle.pages.specs.Faults.{SaysWhyChanging};
 ghost use Rattle.directories.specs.Faults.{MayLackRoom};
+ghost use Rattle.directories.specs.Hashing.{WritesPast};
 
 use crate::head::{DirectoryHead, head_after};
 use crate::writing::{Writing, write};
@@ -34,6 +35,8 @@ pub fn add<P: Pages>(
     ensures power { OnOk result (KeepsPower (P.state pages.old) (P.state pages.new)) }
     ensures change { IfOk result (λ change. IsChange change (P.state pages.old).page_bytes 2) }
     ensures only { IfOk result (λ change. IsOnlyOf change directory) }
+    ensures slot { (z : Sizes) (before : ℕ) (entries : Entries) (d : DirIn (P.state pages.old) z directory before entries)
+        → IfOk result (λ change. WritesPast z change directory (map.len entries) (map.len entries + 1)) }
     ensures adds { (z : Sizes) (before : ℕ) (entries : Entries) (d : DirIn (P.state pages.old) z directory before entries) → map.get entries slot.now.name.now ≡ None
         → IfOk result (λ change. ReadsDirectory z (changed change (P.state pages.old).present) directory moment (map.insert entries slot.now.name.now slot.now.object) d.reads.fields.spare) }
     ensures besides { (z : Sizes) (before : ℕ) (entries : Entries) (d : DirIn (P.state pages.old) z directory before entries) → map.get entries slot.now.name.now ≡ None

@@ -1,5 +1,5 @@
 // The move of a name.
-ghost use Rattle.std.specs.Prelude.{◌≡◌, ◌≢◌, ◌≤◌, ◌+◌, ℕ, true, OnOk, IfOk, IfErr, IfSome, option_copied};
+ghost use Rattle.std.specs.Prelude.{◌≡◌, ◌≢◌, ◌≤◌, ◌+◌, ◌/◌, ℕ, true, OnOk, IfOk, IfErr, IfSome, option_copied};
 ghost use Rattle.std.specs.FinMap as map;
 ghost use Rattle.std.specs.Int.{div_ceil};
 ghost use Rattle.page_tags.specs.SlotEntry.{entry_of};
@@ -164,7 +164,7 @@ fn put_after<P: Pages>(
 }
 
 /// Writes a slot behind those that the header counts, after an earlier change.
-fn push_slot<P: Pages>(
+pub(crate) fn push_slot<P: Pages>(
     alloc: Global,
     pages: &mut P,
     earlier: Option<&Change>,
@@ -181,6 +181,8 @@ fn push_slot<P: Pages>(
     ensures change { IfOk result (λ change. IsChange change (P.state pages.old).page_bytes 2) }
     ensures only { IfOk result (λ change. IsOnlyOf change directory) }
     ensures head { IfOk result (λ change. HasKey change directory 0) }
+    ensures slot { (P.state pages.old).sound ≡ true → (z : Sizes) → z.page_bytes ≡ (P.state pages.old).page_bytes
+        → IfOk result (λ change. HasKey change directory (1 + head.length / page_slots z)) }
     ensures pushes { (P.state pages.old).sound ≡ true → (z : Sizes) → z.page_bytes ≡ (P.state pages.old).page_bytes
         → let old = (after (option_copied earlier.entry) (P.state pages.old)).present in
         IfOk result (λ change. HasHead z (changed change old) directory (record { spare = head.spare; length = head.length + 1; moment = moment })

@@ -99,7 +99,7 @@ pub(crate) fn remove_after<P: Pages>(
 
 /// Takes a slot from a directory, after an earlier change; the header that is given counts one slot less than there
 /// are.
-fn remove_slot<P: Pages>(
+pub(crate) fn remove_slot<P: Pages>(
     alloc: Global,
     pages: &mut P,
     earlier: Option<&Change>,

@@ -118,6 +118,8 @@ pub(crate) fn write<P: Pages>(
     ensures cuts { IfOk result (λ change. change.cuts.items ≡ []) }
     ensures only { IfOk result (λ change. IsOnlyOf change directory) }
     ensures head { IfOk result (λ change. HasKey change directory 0) }
+    ensures slot { (P.state pages.old).sound ≡ true → (z : Sizes) → z.page_bytes ≡ (P.state pages.old).page_bytes
+        → IfOk result (λ change. HasKey change directory (1 + writing.number / page_slots z)) }
     ensures writes { (P.state pages.old).sound ≡ true → (z : Sizes) → z.page_bytes ≡ (P.state pages.old).page_bytes
         → let old = (after (option_copied earlier.entry) (P.state pages.old)).present in
         IfOk result (λ change. HasHead z (changed change old) directory head

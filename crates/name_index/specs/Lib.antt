@@ -4,3 +4,4 @@ pub mod Halves
 pub mod Sets
 pub mod Packing
 pub mod Names
+pub mod Covering

@@ -47,7 +47,13 @@ no_memory new faults.Worn is = absurd cc
 no_memory new faults.Damaged is = absurd cc
 no_memory new faults.Full is = absurd cc
 
--- what follows of three things that hold of a change, if one was made
+-- what follows of one thing that holds of a change, if one was made
+pub on_made_one : {A E : Type 0} (P Q : A → Type 0) (r : Result (Option A) E) → ((x : A) → P x → Q x) → IfOk r (λ made. IfSome made P) → IfOk r (λ made. IfSome made Q)
+on_made_one P Q (Ok (Some x)) f p = f x p
+on_made_one P Q (Ok None) f p = tt
+on_made_one P Q (Err e) f p = tt
+
+-- of three
 pub on_made_three : {A E : Type 0} (P Q S T : A → Type 0) (r : Result (Option A) E) → ((x : A) → P x → Q x → S x → T x)
     → IfOk r (λ made. IfSome made P) → IfOk r (λ made. IfSome made Q) → IfOk r (λ made. IfSome made S) → IfOk r (λ made. IfSome made T)
 on_made_three P Q S T (Ok (Some x)) f p q s = f x p q s

@@ -1,4 +1,5 @@
 pub mod Holding
+pub mod Naming
 pub mod Counting
 pub mod Plans
 pub mod laws

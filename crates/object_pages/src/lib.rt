@@ -3,6 +3,7 @@
 
 mod content;
 mod creation;
+mod hashing;
 mod law;
 mod moving;
 mod naming;
@@ -11,12 +12,13 @@ mod reading;
 mod removal;
 
 pub use content::{resize, write};
+pub use hashing::hash_names;
 pub use law::{
     a_cut_object_is_held_no_more, each_page_is_charged, held_objects_are_a_volume,
     held_objects_are_shown,
 };
-pub use moving::move_name;
+pub use moving::{move_name, move_name_among};
 pub use naming::{create, name};
-pub use planning::plan;
-pub use reading::{find, names, read};
-pub use removal::{forget, remove};
+pub use planning::{plan, plan_among};
+pub use reading::{find, find_among, names, read};
+pub use removal::{forget, remove, remove_among};

@@ -14,6 +14,7 @@ ghost use Rattle.pages.specs.Maps.{changed};
 ghost use Rattle.pages.specs.State.{OnlyFinds, KeepsPower};
 ghost use Rattle.pages.specs.declared.fault.PageFault.TheVariants as faults;
 ghost use Rattle.object_pages.specs.Holding.{HoldsIn, HoldsObjects};
+ghost use Rattle.object_pages.specs.Naming.{WritesNames};
 ghost use Rattle.object_store.specs.Stores.{CanHave};
 
 use crate::creation::new_object;
@@ -55,6 +56,8 @@ pub fn create<P: Pages>(
     ensures creates { (z : Sizes) (objects : Objects) → HoldsIn (P.state pages.old) z objects → number ≡ new_number objects → IsAbsent objects at.entry
         → IfOk result (λ change. HoldsObjects z (changed change (P.state pages.old).present)
         (with_object objects moment at.entry.directory at.entry.name.now (empty_object kind moment))) }
+    ensures slots { (z : Sizes) (objects : Objects) → HoldsIn (P.state pages.old) z objects → IsAbsent objects at.entry
+        → IfOk result (λ change. WritesNames z change objects (with_object objects moment at.entry.directory at.entry.name.now (empty_object kind moment))) }
     ensures why { IfErr result (SaysWhyChanging (P.state pages.new)) }
     ensures fault { (z : Sizes) (objects : Objects) → HoldsIn (P.state pages.old) z objects → CanHave z objects → number ≡ new_number objects → IsAbsent objects at.entry
         → IfErr result (MayLackMemory (P.state pages.new)) }
@@ -80,6 +83,8 @@ pub fn name<P: Pages>(
     ensures only { IfOk result (λ change. IsOnlyOf change at.entry.directory) }
     ensures names { (z : Sizes) (objects : Objects) → HoldsIn (P.state pages.old) z objects → IsAbsent objects at.entry
         → IfOk result (λ change. HoldsObjects z (changed change (P.state pages.old).present) (with_name objects moment at.entry.directory at.entry.name.now number)) }
+    ensures slots { (z : Sizes) (objects : Objects) → HoldsIn (P.state pages.old) z objects → IsAbsent objects at.entry
+        → IfOk result (λ change. WritesNames z change objects (with_name objects moment at.entry.directory at.entry.name.now number)) }
     ensures why { IfErr result (SaysWhyChanging (P.state pages.new)) }
     ensures fault { (z : Sizes) (objects : Objects) → HoldsIn (P.state pages.old) z objects → CanHave z objects → IsAbsent objects at.entry → IsSlotNumber number
         → IfErr result (MayLackMemory (P.state pages.new)) }

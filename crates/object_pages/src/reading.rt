@@ -1,13 +1,16 @@
 // What is read of the objects that the pages hold.
-ghost use Rattle.std.specs.Prelude.{◌≡◌, OnOk, IfOk, IfErr, length, take, drop};
+ghost use Rattle.std.specs.Prelude.{◌≡◌, ◌+◌, OnOk, IfOk, IfErr, length, take, drop};
 ghost use Rattle.std.specs.FinMap as map;
 ghost use Rattle.volume_terms.specs.Sizes.{Sizes};
 ghost use Rattle.posix_profile.specs.State.{Objects, IsFile, IsDirectory, entries_of};
 ghost use Rattle.object_store.specs.Facts.{bytes_of};
 ghost use Rattle.pages.specs.Faults.{MayLack, MayLackMemory, SaysWhy, SaysWhyMaking};
 ghost use Rattle.pages.specs.State.{OnlyFinds, KeepsPower};
+ghost use Rattle.directories.specs.Named.{AsksHeld};
 ghost use Rattle.object_pages.specs.Holding.{HoldsIn};
+ghost use Rattle.object_pages.specs.Naming.{HasNames};
 
+use name_index::NameIndex;
 use pages::{PageFault, Pages};
 use posix_profile::{Bytes, NameList};
 use std::alloc::Global;
@@ -23,6 +26,25 @@ pub fn find<P: Pages>(pages: &mut P, directory: u64, name: &[u8]) -> Result<Opti
         → IfErr result (MayLack (P.state pages.new)) }
 {
     directories::find(pages, directory, name)
+}
+
+/// The object that a name of a directory leads to, found through an index of the names.
+pub fn find_among<P: Pages>(
+    names: &NameIndex,
+    pages: &mut P,
+    directory: u64,
+    name: &[u8],
+) -> Result<Option<u64>, PageFault>
+    ensures finds { OnlyFinds (P.state pages.old) (P.state pages.new) }
+    ensures asked { AsksHeld names.now directory name.now ((P.state pages.old).asked + 1) (P.state pages.new).asked }
+    ensures power { OnOk result (KeepsPower (P.state pages.old) (P.state pages.new)) }
+    ensures found { (z : Sizes) (objects : Objects) → HoldsIn (P.state pages.old) z objects → HasNames names.now z (P.state pages.old).present objects → IsDirectory objects directory
+        → IfOk result (λ found. found ≡ map.get (entries_of (map.get objects directory)) name.now) }
+    ensures why { IfErr result (SaysWhy (P.state pages.new)) }
+    ensures fault { (z : Sizes) (objects : Objects) → HoldsIn (P.state pages.old) z objects → IsDirectory objects directory
+        → IfErr result (MayLack (P.state pages.new)) }
+{
+    directories::find_among(names, pages, directory, name)
 }
 
 /// The names of a directory, in the order of their bytes.

@@ -10,7 +10,9 @@ ghost use Rattle.pages.specs.Faults.{MayLackMemory, SaysWhyChanging};
 ghost use Rattle.pages.specs.Maps.{PageMap, changed};
 ghost use Rattle.pages.specs.State.{OnlyFinds, KeepsPower};
 ghost use Rattle.object_pages.specs.Holding.{HoldsIn, HoldsObjects};
+ghost use Rattle.object_pages.specs.Naming.{HasNames, WritesNames};
 
+use name_index::NameIndex;
 use object_store::DirectoryEntry;
 use pages::{Change, Cut, PageFault, Pages};
 use std::alloc::{AllocError, Global};
@@ -42,6 +44,7 @@ pub(crate) fn and_forget(
     ensures change { (bytes most : ℕ) → IsChange change bytes most → IfOk result (λ both. IsChange both bytes most) }
     ensures forgets { (z : Sizes) (m : PageMap) (objects : Objects) → HoldsObjects z (changed change m) objects
         → IfOk result (λ both. HoldsObjects z (changed both m) (without dropped objects)) }
+    ensures slots { (z : Sizes) (old new : Objects) → WritesNames z change old new → IfOk result (λ both. WritesNames z both old (without dropped new)) }
 {
     let Some(number) = dropped else {
         return Ok(change);
@@ -69,6 +72,32 @@ pub fn remove<P: Pages>(
         → IfErr result (MayLackMemory (P.state pages.new)) }
 {
     let Some(change) = directories::remove(alloc, pages, at.directory, at.name, moment)? else {
+        return Err(PageFault::Damaged);
+    };
+    Ok(and_forget(alloc, change, dropped)?)
+}
+
+/// The change that takes a name from a directory, and the object that is told. The name is found through an index.
+pub fn remove_among<P: Pages>(
+    names: &NameIndex,
+    pages: &mut P,
+    alloc: Global,
+    at: DirectoryEntry<'_>,
+    dropped: Option<u64>,
+    moment: u64,
+) -> Result<Change, PageFault>
+    ensures finds { OnlyFinds (P.state pages.old) (P.state pages.new) }
+    ensures power { OnOk result (KeepsPower (P.state pages.old) (P.state pages.new)) }
+    ensures change { IfOk result (λ change. IsChange change (P.state pages.old).page_bytes 2) }
+    ensures removes { (z : Sizes) (objects : Objects) (o : ℕ) → HoldsIn (P.state pages.old) z objects → HasNames names.now z (P.state pages.old).present objects → LeadsTo objects at.entry o
+        → IfOk result (λ change. HoldsObjects z (changed change (P.state pages.old).present)
+        (without dropped (without_name objects moment at.entry.directory at.entry.name.now))) }
+    ensures why { IfErr result (SaysWhyChanging (P.state pages.new)) }
+    ensures fault { (z : Sizes) (objects : Objects) (o : ℕ) → HoldsIn (P.state pages.old) z objects → HasNames names.now z (P.state pages.old).present objects → LeadsTo objects at.entry o
+        → IfErr result (MayLackMemory (P.state pages.new)) }
+{
+    let made = directories::remove_among(alloc, names, pages, at.directory, at.name, moment)?;
+    let Some(change) = made else {
         return Err(PageFault::Damaged);
     };
     Ok(and_forget(alloc, change, dropped)?)

@@ -1,4 +1,4 @@
-use Rattle.std.proofs.Common.{◌≡◌, ◌+◌, ◌∙◌, ℕ, min, Option, None, length, refl, sym, subst, arith, rules}
+use Rattle.std.proofs.Common.{◌≡◌, ◌+◌, ◌/◌, ◌∙◌, ℕ, min, Option, None, length, refl, sym, subst, arith, rules}
 use Rattle.std.specs.FinMap as map
 use Rattle.pages.specs.Afterwards.{after}
 use Rattle.pages.specs.laws.Afterwards.{finds_after}
@@ -6,10 +6,11 @@ use Rattle.pages.specs.State.{PagesState}
 use Rattle.pages.specs.declared.change.Change.{Change}
 use Rattle.directories.specs.Directories.{DirIn}
 use Rattle.page_tags.specs.SlotEntry.{entry_of}
+use Rattle.volume_terms.specs.Sizes.{page_slots}
 use Rattle.pages.specs.laws.Faults.{says_more}
 use Rattle.pages.specs.Maps.{PageMap, changed}
 use Rattle.directories.specs.Directories.{HasBeside, HasOnly, SlotOf}
-use Rattle.directories.specs.Writes.{HasHead, KeepsSlots}
+use Rattle.directories.specs.Writes.{HasHead, HasKey, KeepsSlots}
 use Rattle.directories.specs.declared.head.DirectoryHead.{DirectoryHead}
 use Rattle.directories.proofs.Changed.{reads_added}
 use Rattle.directories.proofs.Results.{on_all, on_done, on_ok, on_err}
@@ -114,3 +115,18 @@ returns-clause-told g c = λ sound z size.
     on_done _ _ c.write.result
     (λ is. told_end old mid finds z c.args.directory c.in_ok-head.head says (subst (λ k. HasBeside z mid.present c.args.directory k c.in_ok-head.head.length) count is))
     (c.write.ensures.beside (finds.sound ∙ sound) z (size ∙ sym finds.page_bytes))
+
+pub returns-clause-slot : goal.returns-clause-slot
+returns-clause-slot g c = λ z moment entries d.
+    let old : PagesState = g.P.Pages.state c.args.pages.now in
+    let e : Option Change = None in
+    let p : PagesState = after e old in
+    let mid : PagesState = g.P.Pages.state c.head_after.new.pages in
+    let q : PagesState = after e mid in
+    let finds = finds_after e old mid c.head_after.ensures.finds in
+    let here : DirIn p z c.args.directory moment entries = record { sound = d.sound; size = d.size; reads = d.reads } in
+    let s = c.in_ok-head.ensures.told here.sound in
+    let sized = g.met.P.Pages.sized c.args.pages.now in
+    let counted = count_is p q finds z c.args.directory moment entries here sized c.in_ok-head.head s in
+    on_ok _ _ c.write.result (λ change key k low high. subst (λ j. HasKey change c.args.directory (1 + j / page_slots z)) (omega (arith, counted, low, high)) key)
+    (c.write.ensures.slot (sound_on p q finds z c.args.directory moment entries here sized c.in_ok-head.head s) z (size_on p q finds z c.args.directory moment entries here sized c.in_ok-head.head s))

@@ -29,3 +29,6 @@ returns-clause-fault g c = λ sound z size are.
 
 pub returns-clause-pages : goal.returns-clause-pages
 returns-clause-pages g c = λ sound z m size. c.write.ensures.pages sound z m size
+
+pub returns-clause-slot : goal.returns-clause-slot
+returns-clause-slot g c = λ sound z size. c.write.ensures.slot sound z size

@@ -6,8 +6,9 @@ use Rattle.pages.specs.State.{PagesState}
 use Rattle.pages.specs.declared.change.Change.{Change}
 use Rattle.std.proofs.Common.{option_copied}
 use Rattle.directories.specs.HeadPages.{IsHeadPage}
+use Rattle.directories.specs.Writes.{HasKey}
 use Rattle.page_tags.specs.SlotEntry.{entry_of}
-use Rattle.directories.proofs.Written.{two_change, two_only, two_head, two_has, two_slot, two_keeps, two_pages}
+use Rattle.directories.proofs.Written.{two_change, two_only, two_head, two_slot_key, two_has, two_slot, two_keeps, two_pages}
 use Rattle.directories.proofs.writing.write.Goals as goal
 
 pub returns-in_err-slot_page-clause-fault : goal.returns-in_err-slot_page-clause-fault
@@ -60,3 +61,13 @@ returns-clause-pages g c = λ sound z m size.
     let change : Change = record { pages = c.in_ok-pages.pages; cuts = c.new.result } in
     two_pages c.args.directory old.page_bytes c.in_ok-slot_page.slot_page c.in_ok-head_page.head_page c.args.head c.in_ok-slot_page.ensures.sized head_is change c.in_ok-pages.ensures.items c.new.ensures.items m z c.args.writing.number
     (c.in_ok-slot_page.ensures.page sound z size).chunk_is
+
+pub returns-clause-slot : goal.returns-clause-slot
+returns-clause-slot g c = λ sound z size.
+    let old : PagesState = g.P.Pages.state c.args.pages.now in
+    let bytes : c.page_bytes.result ≡ old.page_bytes = c.page_bytes.ensures.bytes ∙ c.slot_page.ensures.finds.page_bytes in
+    let head_is = subst (λ n. IsHeadPage c.in_ok-head_page.head_page n c.args.directory c.args.head) bytes c.in_ok-head_page.ensures in
+    let change : Change = record { pages = c.in_ok-pages.pages; cuts = c.new.result } in
+    let slot = c.in_ok-slot_page.ensures.page sound z size in
+    subst (HasKey change c.args.directory) slot.chunk_is
+    (two_slot_key c.args.directory old.page_bytes c.in_ok-slot_page.slot_page c.in_ok-head_page.head_page c.args.head c.in_ok-slot_page.ensures.sized head_is change c.in_ok-pages.ensures.items c.new.ensures.items)

@@ -1,9 +1,9 @@
-use Rattle.std.proofs.Common.{◌≡◌, ◌≢◌, ◌∙◌, ℕ, None, ap, arith}
+use Rattle.std.proofs.Common.{◌/◌, ◌+◌, ◌≡◌, ◌≢◌, ◌∙◌, ℕ, None, ap, arith}
 use Rattle.std.proofs.lemmas.Result.{err_from_is_err_and}
 use Rattle.std.specs.FinMap as map
-use Rattle.volume_terms.specs.Sizes.{root_number}
-use Rattle.posix_profile.specs.State.{Name, Entries, Object, IsDirectory}
-use Rattle.posix_profile.specs.Changes.{with_object}
+use Rattle.volume_terms.specs.Sizes.{root_number, page_slots}
+use Rattle.posix_profile.specs.State.{Name, Entries, Object, Objects, IsDirectory}
+use Rattle.posix_profile.specs.Changes.{new_number, with_object}
 use Rattle.posix_profile.specs.laws.Number.{new_number_is, new_number_few}
 use Rattle.object_store.specs.Changes.{empty_object}
 use Rattle.pages.specs.Changes.{IsChange}
@@ -12,7 +12,9 @@ use Rattle.pages.specs.State.{PagesState}
 use Rattle.pages.specs.declared.change.Change.{Change}
 use Rattle.object_pages.specs.Holding.{HoldsObjects}
 use Rattle.object_pages.specs.laws.Holding.{held, held_directory, directory_in, same_objects}
+use Rattle.directories.specs.laws.Keys.{key_both}
 use Rattle.object_pages.proofs.Entries.{few_entries}
+use Rattle.object_pages.proofs.Growing.{count, less_new, named_more}
 use Rattle.object_pages.proofs.Holdings.{entries_are, holds_new}
 use Rattle.object_pages.proofs.Results.{lacks_memory_only}
 use Rattle.object_pages.proofs.naming.create.Goals as goal
@@ -66,3 +68,14 @@ returns-clause-change g c =
       size = c.in_ok-change.ensures.size p.page_bytes a.size b.size;
       few = omega (arith, c.in_ok-change.ensures.few, a.few, b.few);
     }
+
+pub returns-clause-slots : goal.returns-clause-slots
+returns-clause-slots g c = λ z objects h absent.
+    let p : PagesState = g.P.Pages.state c.args.pages.now in
+    let d : ℕ = c.args.at.directory in
+    let dir : IsDirectory objects d = absent.directory in
+    let slot = c.in_ok-named.ensures.slot z dir.0 dir.1 (directory_in p z objects h d dir) in
+    let told : map.len dir.1 ≡ count objects d = ap map.len (entries_are p z objects h d dir) in
+    let base : Objects = map.insert objects (new_number objects) (empty_object c.args.kind c.args.moment) in
+    named_more z c.in_ok-change.change objects base c.args.moment d c.args.at.name.now (new_number objects) (less_new objects (new_number objects) c.args.moment c.args.kind)
+    (λ s low high. key_both c.in_ok-object.object c.in_ok-named.named c.in_ok-change.change c.in_ok-change.ensures.pages d (1 + s / page_slots z) (slot s (omega (arith, told, low)) (omega (arith, told, high))))

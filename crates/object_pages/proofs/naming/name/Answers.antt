@@ -9,8 +9,9 @@ use Rattle.directories.specs.Directories.{HasOnly, ReadsDirectory}
 use Rattle.object_pages.specs.Holding.{HoldsObjects}
 use Rattle.object_pages.specs.laws.Holding.{held_directory, directory_in}
 use Rattle.object_pages.proofs.Entries.{few_entries}
+use Rattle.object_pages.proofs.Growing.{count, named_more}
 use Rattle.object_pages.proofs.Holdings.{entries_are, holds_directory, holds_name}
-use Rattle.object_pages.proofs.Results.{on_three, on_err, lacks_memory_only}
+use Rattle.object_pages.proofs.Results.{on_ok, on_three, on_err, lacks_memory_only}
 use Rattle.object_pages.proofs.naming.name.Goals as goal
 
 pub returns-in_err-slot-clause-fault : goal.returns-in_err-slot-clause-fault
@@ -41,3 +42,13 @@ returns-clause-fault g c = λ z objects h can absent some.
     let few = few_entries z objects can c.args.at.directory dir in
     on_err _ _ c.add.result (λ fault is. lacks_memory_only (map.len dir.1) q fault (omega (arith, few)) is)
     (c.add.ensures.fault z dir.0 dir.1 (directory_in p z objects h c.args.at.directory dir))
+
+pub returns-clause-slots : goal.returns-clause-slots
+returns-clause-slots g c = λ z objects h absent.
+    let p : PagesState = g.P.Pages.state c.args.pages.now in
+    let d : ℕ = c.args.at.directory in
+    let dir : IsDirectory objects d = absent.directory in
+    let told : map.len dir.1 ≡ count objects d = ap map.len (entries_are p z objects h d dir) in
+    on_ok _ _ c.add.result
+    (λ change slot. named_more z change objects objects c.args.moment d c.args.at.name.now c.args.number (λ k. omega arith) (λ s low high. slot s (omega (arith, told, low)) (omega (arith, told, high))))
+    (c.add.ensures.slot z dir.0 dir.1 (directory_in p z objects h d dir))

@@ -1,0 +1,40 @@
+-- The hashes of the names that a change writes.
+use Rattle.std.specs.Prelude.{◌≡◌, ◌<◌, ◌≤◌, ◌+◌, ◌-◌, ◌*◌, ◌/◌, ◌^◌, ℕ, List}
+use Rattle.page_tags.specs.Headers.{Fields, IsHeaderOf}
+use Rattle.page_tags.specs.Slots.{Entry}
+use Rattle.page_tags.specs.declared.header.ObjectKind.TheVariants as kinds
+use Rattle.flash_tree.specs.Tree.{HasHeader}
+use Rattle.flash_tree.specs.declared.place.FreshPage.{FreshPage}
+use Rattle.name_index.specs.Hashes.{fnv1a}
+use Rattle.name_index.specs.Names.{Holds}
+use Rattle.name_index.specs.declared.index.NameIndex.{NameIndex}
+use Rattle.volume_terms.specs.Sizes.{Sizes, page_slots}
+use Rattle.pages.specs.Maps.{PageMap, has, changed, IsFirstOf}
+use Rattle.pages.specs.declared.change.Change.{Change}
+use Rattle.directories.specs.Slots.{SlotAt}
+use Rattle.directories.specs.Writes.{HasKey}
+
+-- an index holds what another holds
+abbrev pub HoldsMore : NameIndex → NameIndex → Type 0
+HoldsMore old new = (d h s : ℕ) → Holds old d h s → Holds new d h s
+
+-- the index has the hash of each name in the first n slots of a page that is of a directory's slots
+abbrev pub HoldsPage : NameIndex → ℕ → FreshPage → Type 0
+HoldsPage names n page = (k : ℕ) (e : Entry) → k < n → SlotAt page.bytes.items k e → (page.key.chunk - 1) * n + k < 2 ^ 32
+    → Holds names page.key.object (fnv1a e.name) ((page.key.chunk - 1) * n + k)
+
+-- the first page of an object's header among these is not that of a directory
+abbrev pub SaysNoDirectory : List FreshPage → ℕ → Type 0
+SaysNoDirectory pages o = (i : ℕ) × (first : IsFirstOf pages o 0 i) × ((f : Fields) → IsHeaderOf first.0.page.bytes.items f → f.kind ≡ kinds.Directory → ⊥)
+
+-- each slot of the directory from a number to another lies on a page of the change
+abbrev pub WritesPast : Sizes → Change → ℕ → ℕ → ℕ → Type 0
+WritesPast z change d from to = (s : ℕ) → from ≤ s → s < to → HasKey change d (1 + s / page_slots z)
+
+-- After the change the object is a directory, each of whose slots from a number on lies on a page of the change.
+pub record WritesNewSlots (z : Sizes) (m : PageMap) (change : Change) (d before later : ℕ) : Type 0 where
+  pub fields : Fields
+  pub has_header : HasHeader z (has (changed change m)) d fields
+  pub kind : fields.kind ≡ kinds.Directory
+  pub few : later < 2 ^ 32
+  pub written : WritesPast z change d before later

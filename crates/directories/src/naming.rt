@@ -1,0 +1,145 @@
+// The hashes of the names that a change writes, in an index.
+ghost use Rattle.std.specs.Prelude.{◌≡◌, ◌<◌, ◌≤◌, ◌+◌, ◌-◌, ◌*◌, ◌/◌, ◌^◌, ℕ, true, OnOk, Some, slice_get, length};
+ghost use Rattle.name_index.specs.Covering.{HasHashes};
+ghost use Rattle.name_index.specs.Hashes.{fnv1a};
+ghost use Rattle.name_index.specs.Names.{Holds};
+ghost use Rattle.page_tags.specs.Headers.{Fields, IsHeaderOf};
+ghost use Rattle.page_tags.specs.Slots.{Entry, slot_bytes};
+ghost use Rattle.page_tags.specs.declared.header.ObjectKind.TheVariants as kinds;
+ghost use Rattle.flash_tree.specs.Slots.{IsTreeSlot};
+ghost use Rattle.flash_tree.specs.declared.place.FreshPage.{FreshPage};
+ghost use Rattle.volume_terms.specs.Sizes.{Sizes, slot_length};
+ghost use Rattle.pages.specs.Changes.{AreSized};
+ghost use Rattle.pages.specs.Maps.{PageMap, changed};
+ghost use Rattle.directories.specs.Hashing.{HoldsMore, HoldsPage, SaysNoDirectory, WritesNewSlots};
+
+use crate::page::slot_of;
+use flash_tree::{FreshPage, Key, decode_tree_slot};
+use name_index::{NameIndex, name_hash};
+use page_tags::{ObjectKind, decode_header};
+use pages::Change;
+use std::alloc::AllocError;
+use volume_terms::SLOT_BYTES;
+
+/// Adds the hash of each name in the pages of directories' slots that a change writes. Of the names that were there before
+/// none is dropped.
+pub fn hash_change(
+    names: &mut NameIndex,
+    page_bytes: u32,
+    change: &Change,
+) -> Result<(), AllocError>
+    requires least { 512 ≤ page_bytes }
+    requires most { page_bytes ≤ 4096 }
+    requires sized { AreSized change.now.pages.items page_bytes }
+    ensures kept { HoldsMore names.old names.new }
+    ensures hashes { (z : Sizes) (m : PageMap) (d before later : ℕ) → z.page_bytes ≡ page_bytes → WritesNewSlots z m change.now d before later → HasHashes names.old z m d before
+        → OnOk result (HasHashes names.new z (changed change.now m) d later) }
+{
+    hash_pages(names, page_bytes, &change.pages)
+}
+
+/// The same for the pages of a change.
+fn hash_pages(names: &mut NameIndex, page_bytes: u32, pages: &[FreshPage]) -> Result<(), AllocError>
+    requires least { 512 ≤ page_bytes }
+    requires most { page_bytes ≤ 4096 }
+    requires sized { AreSized pages.now page_bytes }
+    ensures kept { HoldsMore names.old names.new }
+    ensures all { OnOk result ((i : ℕ) (page : FreshPage) → slice_get pages.now i ≡ Some page → 1 ≤ page.key.chunk → (SaysNoDirectory pages.now page.key.object → ⊥)
+        → HoldsPage names.new (page_bytes / slot_length) page) }
+{
+    for page in pages {
+        hash_one(names, page_bytes, pages, page)?;
+    }
+    Ok(())
+}
+
+/// The same for one of these pages.
+fn hash_one(
+    names: &mut NameIndex,
+    page_bytes: u32,
+    pages: &[FreshPage],
+    page: &FreshPage,
+) -> Result<(), AllocError>
+    requires least { 512 ≤ page_bytes }
+    requires most { page_bytes ≤ 4096 }
+    requires sized { AreSized pages.now page_bytes }
+    requires here { length page.now.bytes.items ≡ page_bytes }
+    ensures kept { HoldsMore names.old names.new }
+    ensures all { OnOk result (1 ≤ page.now.key.chunk → (SaysNoDirectory pages.now page.now.key.object → ⊥) → HoldsPage names.new (page_bytes / slot_length) page.now) }
+{
+    if page.key.chunk == 0 {
+        return Ok(());
+    }
+    if is_no_directory(pages, page_bytes, page.key.object) {
+        return Ok(());
+    }
+    hash_page(names, page_bytes / SLOT_BYTES as u32, page)
+}
+
+/// Whether the page of an object's header among these is not that of a directory. Where there is none it is not told.
+fn is_no_directory(pages: &[FreshPage], page_bytes: u32, object: u64) -> bool
+    requires least { 512 ≤ page_bytes }
+    requires most { page_bytes ≤ 4096 }
+    requires sized { AreSized pages.now page_bytes }
+    ensures { result ≡ true → SaysNoDirectory pages.now object }
+{
+    let key = Key { object, chunk: 0 };
+    for page in pages {
+        if page.key == key {
+            return !is_directory_page(&page.bytes);
+        }
+    }
+    false
+}
+
+/// Whether a page is the header of a directory.
+fn is_directory_page(page: &[u8]) -> bool
+    requires least { 32 ≤ length page.now }
+    requires most { length page.now ≤ 4096 }
+    ensures { (f : Fields) → IsHeaderOf page.now f → f.kind ≡ kinds.Directory → result ≡ true }
+{
+    match decode_header(page) {
+        Ok(header) => header.kind == ObjectKind::Directory,
+        Err(_) => false,
+    }
+}
+
+/// Adds the hash of each name in the first slots of a page.
+fn hash_page(names: &mut NameIndex, slots: u32, page: &FreshPage) -> Result<(), AllocError>
+    requires slots { 1 ≤ page.now.key.chunk }
+    requires room { slot_length * slots ≤ length page.now.bytes.items }
+    ensures kept { HoldsMore names.old names.new }
+    ensures all { OnOk result (HoldsPage names.new slots page.now) }
+{
+    let Some(first) = (page.key.chunk - 1).checked_mul(u64::from(slots)) else {
+        return Ok(());
+    };
+    if first > u64::from(u32::MAX) {
+        return Ok(());
+    }
+    for place in 0..slots {
+        let bytes = slot_of(&page.bytes, place);
+        hash_slot(names, page.key.object, first + u64::from(place), bytes)?;
+    }
+    Ok(())
+}
+
+/// Adds the hash of the name that the bytes of a slot have, if they are one and a directory can have its number.
+fn hash_slot(
+    names: &mut NameIndex,
+    directory: u64,
+    number: u64,
+    bytes: &[u8],
+) -> Result<(), AllocError>
+    requires { length bytes.now ≡ slot_length }
+    ensures kept { HoldsMore names.old names.new }
+    ensures here { OnOk result ((e : Entry) → IsTreeSlot e → bytes.now ≡ slot_bytes e → number < 2 ^ 32 → Holds names.new directory (fnv1a e.name) number) }
+{
+    let Some(slot) = decode_tree_slot(bytes) else {
+        return Ok(());
+    };
+    if number > u64::from(u32::MAX) {
+        return Ok(());
+    }
+    names.add(directory, name_hash(slot.name), number as u32)
+}

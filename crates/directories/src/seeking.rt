@@ -1,0 +1,95 @@
+// The search of a name through an index.
+ghost use Rattle.std.specs.Prelude.{◌≡◌, ◌<◌, ◌≤◌, ◌+◌, ℕ, List, true, OnOk, IfOk, IfErr, IfSome};
+ghost use Rattle.name_index.specs.Hashes.{fnv1a};
+ghost use Rattle.name_index.specs.Names.{Holds};
+ghost use Rattle.page_tags.specs.Slots.{Entry};
+ghost use Rattle.volume_terms.specs.Sizes.{Sizes};
+ghost use Rattle.posix_profile.specs.State.{Entries};
+ghost use Rattle.pages.specs.Faults.{MayLack, SaysWhy};
+ghost use Rattle.pages.specs.State.{OnlyFinds, KeepsPower};
+ghost use Rattle.directories.specs.Directories.{DirIn, SlotOf};
+ghost use Rattle.directories.specs.Named.{NamedIn, AsksHeld, FindsHeld, StandsAt, IsFoundAt, IsSought, TellsSought};
+ghost use Rattle.directories.specs.Slots.{AreSlots};
+
+use crate::head::{DirectoryHead, read_head};
+use crate::lookup::{Located, find_in_slot};
+use name_index::{NameIndex, name_hash};
+use pages::{PageFault, Pages};
+
+/// A name that was looked for: what the header of its directory says, and where it is.
+#[derive(Clone, Copy, Debug, PartialEq, Eq)]
+pub(crate) struct Sought {
+    pub(crate) head: DirectoryHead,
+    pub(crate) found: Option<Located>,
+}
+
+impl Sought {
+    /// The number of the slot that has the name.
+    pub(crate) fn place(&self) -> Option<u32>
+        ensures { (slots : List Entry) (entries : Entries) (name : List ℕ) → IsFoundAt slots entries name self.now.found → StandsAt slots entries name result }
+    {
+        match self.found {
+            Some(found) => Some(found.place),
+            None => None,
+        }
+    }
+}
+
+/// Looks for a name in the first slots of a directory that an index has under its hash. One page is asked for each.
+fn search_held<P: Pages>(
+    names: &NameIndex,
+    pages: &mut P,
+    directory: u64,
+    length: u32,
+    name: &[u8],
+) -> Result<Option<Located>, PageFault>
+    ensures finds { OnlyFinds (P.state pages.old) (P.state pages.new) }
+    ensures asked { AsksHeld names.now directory name.now (P.state pages.old).asked (P.state pages.new).asked }
+    ensures power { OnOk result (KeepsPower (P.state pages.old) (P.state pages.new)) }
+    ensures within { IfOk result (λ found. IfSome found (λ it. it.place < length)) }
+    ensures told { (P.state pages.old).sound ≡ true → (z : Sizes) → z.page_bytes ≡ (P.state pages.old).page_bytes
+        → IfOk result (FindsHeld (Holds names.now directory (fnv1a name.now)) (SlotOf z (P.state pages.old).present directory) length name.now) }
+    ensures why { IfErr result (SaysWhy (P.state pages.new)) }
+    ensures fault { (P.state pages.old).sound ≡ true → (z : Sizes) → z.page_bytes ≡ (P.state pages.old).page_bytes
+        → AreSlots (SlotOf z (P.state pages.old).present directory) 0 length → IfErr result (MayLack (P.state pages.new)) }
+{
+    let hash = name_hash(name);
+    let mut from: u32 = 0;
+    while from < length {
+        let Some(place) = names.next_slot(directory, hash, from) else {
+            return Ok(None);
+        };
+        if place >= length {
+            return Ok(None);
+        }
+        if let Some(object) = find_in_slot(pages, directory, place, name)? {
+            return Ok(Some(Located { place, object }));
+        }
+        from = place + 1;
+    }
+    Ok(None)
+}
+
+/// Looks for a name of a directory, in the slots that an index has under its hash.
+pub(crate) fn seek<P: Pages>(
+    names: &NameIndex,
+    pages: &mut P,
+    directory: u64,
+    name: &[u8],
+) -> Result<Sought, PageFault>
+    ensures finds { OnlyFinds (P.state pages.old) (P.state pages.new) }
+    ensures asked { AsksHeld names.now directory name.now ((P.state pages.old).asked + 1) (P.state pages.new).asked }
+    ensures power { OnOk result (KeepsPower (P.state pages.old) (P.state pages.new)) }
+    ensures within { IfOk result (λ sought. IfSome sought.found (λ it. it.place < sought.head.length)) }
+    ensures told { (P.state pages.old).sound ≡ true → (z : Sizes) → z.page_bytes ≡ (P.state pages.old).page_bytes
+        → IfOk result (TellsSought names.now z (P.state pages.old) directory name.now) }
+    ensures sought { (z : Sizes) (moment : ℕ) (entries : Entries) (d : NamedIn names.now (P.state pages.old) z directory moment entries)
+        → IfOk result (λ sought. IsSought z (P.state pages.old) directory name.now sought moment entries d.reads) }
+    ensures why { IfErr result (SaysWhy (P.state pages.new)) }
+    ensures fault { (z : Sizes) (moment : ℕ) (entries : Entries) (d : DirIn (P.state pages.old) z directory moment entries)
+        → IfErr result (MayLack (P.state pages.new)) }
+{
+    let head = read_head(pages, directory)?;
+    let found = search_held(names, pages, directory, head.length, name)?;
+    Ok(Sought { head, found })
+}

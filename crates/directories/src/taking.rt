@@ -1,0 +1,131 @@
+// The removal of a name that is found through an index.
+ghost use Rattle.std.specs.Prelude.{◌≡◌, ◌<◌, ◌≤◌, ◌+◌, ℕ, true, None, OnOk, IfOk, IfErr, IfSome, IfNone};
+ghost use Rattle.std.specs.FinMap as map;
+ghost use Rattle.volume_terms.specs.Sizes.{Sizes};
+ghost use Rattle.posix_profile.specs.State.{Entries};
+ghost use Rattle.pages.specs.Changes.{IsChange, IsOnlyOf};
+ghost use Rattle.pages.specs.Faults.{MayLackMemory, SaysWhyMaking};
+ghost use Rattle.pages.specs.Maps.{changed};
+ghost use Rattle.pages.specs.State.{OnlyFinds, KeepsPower};
+ghost use Rattle.directories.specs.Directories.{DirIn, HasOnly, ReadsDirectory, IsNamed};
+ghost use Rattle.directories.specs.Named.{NamedIn, AsksHeld, TellsHeldChange};
+ghost use Rattle.directories.specs.Taking.{TakesName, IsMovedTo};
+ghost use Rattle.directories.specs.Writes.{HasKey};
+
+use crate::head::DirectoryHead;
+use crate::lookup::Located;
+use crate::removal::remove_slot;
+use crate::seeking::seek;
+use name_index::NameIndex;
+use pages::{Change, PageFault, Pages};
+use std::alloc::Global;
+
+/// A name that is taken from a directory: the change, and the numbers of its slot and of the last slot, which stands
+/// there afterwards.
+#[derive(Drop)]
+pub(crate) struct Taken {
+    pub(crate) change: Change,
+    pub(crate) place: u32,
+    pub(crate) last: u32,
+}
+
+impl Taken {
+    /// Where a slot is afterwards that was found before.
+    pub(crate) fn moved(&self, found: Option<Located>) -> Option<u32>
+        ensures { IsMovedTo found self.now.place self.now.last result }
+    {
+        let Some(found) = found else {
+            return None;
+        };
+        if found.place == self.place {
+            None
+        } else if found.place == self.last {
+            Some(self.place)
+        } else {
+            Some(found.place)
+        }
+    }
+}
+
+/// Takes a name from a directory. There is nothing to take where it has no such name.
+pub(crate) fn take_name<P: Pages>(
+    alloc: Global,
+    names: &NameIndex,
+    pages: &mut P,
+    directory: u64,
+    name: &[u8],
+    moment: u64,
+) -> Result<Option<Taken>, PageFault>
+    ensures finds { OnlyFinds (P.state pages.old) (P.state pages.new) }
+    ensures asked { AsksHeld names.now directory name.now ((P.state pages.old).asked + 3) (P.state pages.new).asked }
+    ensures power { OnOk result (KeepsPower (P.state pages.old) (P.state pages.new)) }
+    ensures change { IfOk result (λ made. IfSome made (λ taken. IsChange taken.change (P.state pages.old).page_bytes 2)) }
+    ensures only { IfOk result (λ made. IfSome made (λ taken. IsOnlyOf taken.change directory)) }
+    ensures head { IfOk result (λ made. IfSome made (λ taken. HasKey taken.change directory 0)) }
+    ensures named { (z : Sizes) (before : ℕ) (entries : Entries) (d : NamedIn names.now (P.state pages.old) z directory before entries)
+        → IfOk result (λ made. IfNone made (map.get entries name.now ≡ None)) }
+    ensures takes { (z : Sizes) (before : ℕ) (entries : Entries) (d : NamedIn names.now (P.state pages.old) z directory before entries)
+        → IfOk result (λ made. IfSome made (TakesName z (P.state pages.old).present directory d.reads.slots name.now)) }
+    ensures removes { (z : Sizes) (before : ℕ) (entries : Entries) (d : NamedIn names.now (P.state pages.old) z directory before entries)
+        → IfOk result (λ made. IfSome made (λ taken. ReadsDirectory z (changed taken.change (P.state pages.old).present) directory moment (map.remove entries name.now) d.reads.fields.spare)) }
+    ensures besides { (z : Sizes) (before : ℕ) (entries : Entries) (d : NamedIn names.now (P.state pages.old) z directory before entries)
+        → HasOnly z (P.state pages.old).present directory (map.len entries)
+        → IfOk result (λ made. IfSome made (λ taken. HasOnly z (changed taken.change (P.state pages.old).present) directory (map.len (map.remove entries name.now)))) }
+    ensures told { (P.state pages.old).sound ≡ true → (z : Sizes) → z.page_bytes ≡ (P.state pages.old).page_bytes
+        → IfOk result (TellsHeldChange names.now z (P.state pages.old) directory name.now) }
+    ensures why { IfErr result (SaysWhyMaking (P.state pages.new)) }
+    ensures fault { (z : Sizes) (before : ℕ) (entries : Entries) (d : DirIn (P.state pages.old) z directory before entries)
+        → IfErr result (MayLackMemory (P.state pages.new)) }
+{
+    let sought = seek(names, pages, directory, name)?;
+    let Some(found) = sought.found else {
+        return Ok(None);
+    };
+    let place = found.place;
+    let last = sought.head.length - 1;
+    let shorter = DirectoryHead {
+        length: last,
+        moment,
+        ..sought.head
+    };
+    let change = remove_slot(alloc, pages, None, directory, place, shorter)?;
+    Ok(Some(Taken {
+        change,
+        place,
+        last,
+    }))
+}
+
+/// The change that takes a name from a directory, found through an index of its names: the last slot stands in its place
+/// then, and a page without slots goes. There is none where the directory has no such name.
+pub fn remove_among<P: Pages>(
+    alloc: Global,
+    names: &NameIndex,
+    pages: &mut P,
+    directory: u64,
+    name: &[u8],
+    moment: u64,
+) -> Result<Option<Change>, PageFault>
+    ensures finds { OnlyFinds (P.state pages.old) (P.state pages.new) }
+    ensures asked { AsksHeld names.now directory name.now ((P.state pages.old).asked + 3) (P.state pages.new).asked }
+    ensures power { OnOk result (KeepsPower (P.state pages.old) (P.state pages.new)) }
+    ensures change { IfOk result (λ made. IfSome made (λ change. IsChange change (P.state pages.old).page_bytes 2)) }
+    ensures only { IfOk result (λ made. IfSome made (λ change. IsOnlyOf change directory)) }
+    ensures named { (z : Sizes) (before : ℕ) (entries : Entries) (d : NamedIn names.now (P.state pages.old) z directory before entries)
+        → IfOk result (λ made. IsNamed entries name.now made) }
+    ensures removes { (z : Sizes) (before : ℕ) (entries : Entries) (d : NamedIn names.now (P.state pages.old) z directory before entries)
+        → IfOk result (λ made. IfSome made (λ change. ReadsDirectory z (changed change (P.state pages.old).present) directory moment (map.remove entries name.now) d.reads.fields.spare)) }
+    ensures besides { (z : Sizes) (before : ℕ) (entries : Entries) (d : NamedIn names.now (P.state pages.old) z directory before entries)
+        → HasOnly z (P.state pages.old).present directory (map.len entries)
+        → IfOk result (λ made. IfSome made (λ change. HasOnly z (changed change (P.state pages.old).present) directory (map.len (map.remove entries name.now)))) }
+    ensures told { (P.state pages.old).sound ≡ true → (z : Sizes) → z.page_bytes ≡ (P.state pages.old).page_bytes
+        → IfOk result (TellsHeldChange names.now z (P.state pages.old) directory name.now) }
+    ensures why { IfErr result (SaysWhyMaking (P.state pages.new)) }
+    ensures fault { (z : Sizes) (before : ℕ) (entries : Entries) (d : DirIn (P.state pages.old) z directory before entries)
+        → IfErr result (MayLackMemory (P.state pages.new)) }
+{
+    match take_name(alloc, names, pages, directory, name, moment)? {
+        Some(taken) => Ok(Some(taken.change)),
+        None => Ok(None),
+    }
+}

@@ -1,0 +1,14 @@
+use Rattle.std.proofs.Common.{◌∙◌, List, slice_get, sym, ap}
+use Rattle.flash_tree.specs.declared.place.FreshPage.{FreshPage}
+use Rattle.pages.specs.State.{PagesState}
+use Rattle.pages.specs.declared.change.Change.{Change}
+use Rattle.object_pages.proofs.Sensible.{none_of_others}
+use Rattle.object_pages.proofs.planning.plan_among.Goals as goal
+
+pub returns-else-are_numbered-clause-fault : goal.returns-else-are_numbered-clause-fault
+returns-else-are_numbered-clause-fault g c = λ z objects h has can make is.
+    let p : PagesState = g.P.Pages.state c.args.pages.now in
+    let planned : Change = c.in_ok-planned.planned in
+    let at = c.are_numbered.ensures.not c.if-are_numbered.false in
+    none_of_others z p.present objects can c.args.change.now make planned c.in_ok-planned.ensures.change.apart (c.in_ok-planned.ensures.makes z objects h has make is)
+    at.0 at.1 (ap (λ (xs : List FreshPage). slice_get xs at.0) (sym c.deref.ensures.value) ∙ at.2) at.3

@@ -1,0 +1,13 @@
+use Rattle.std.proofs.Common.{ap}
+use Rattle.posix_profile.specs.State.{entries_of}
+use Rattle.object_pages.specs.laws.Holding.{directory_in}
+use Rattle.object_pages.proofs.NamedHere.{named_in}
+use Rattle.object_pages.proofs.reading.find_among.Goals as goal
+
+pub returns-clause-found : goal.returns-clause-found
+returns-clause-found g c = λ z objects h has dir.
+    rw (ap entries_of dir.2) (c.find_among.ensures.found z dir.0 dir.1 (named_in c.args.names.now (g.P.Pages.state c.args.pages.now) z objects h has c.args.directory dir))
+
+pub returns-clause-fault : goal.returns-clause-fault
+returns-clause-fault g c = λ z objects h dir.
+    c.find_among.ensures.fault z dir.0 dir.1 (directory_in (g.P.Pages.state c.args.pages.now) z objects h c.args.directory dir)

@@ -24,16 +24,25 @@ use Rattle.pages.specs.Stores.{bad_on}
 use Rattle.paged_objects.specs.Standing.{volume_of, Shown}
 use Rattle.paged_objects.specs.laws.Showing.{kept_shown}
 use Rattle.flash_pages.specs.ReadOnly.{IsWorn}
+use Rattle.name_index.specs.declared.index.NameIndex.{NameIndex}
+use Rattle.bad_blocks.specs.Standing.{AreKept}
+use Rattle.chunk_index.specs.Maps.{kept_pages}
+use Rattle.tree_table.specs.Covering.{CoversObjects}
+use Rattle.tree_walk.specs.Hashes.{CoversTree}
 use Rattle.tree_walk.specs.Trees.{IsTreeThrough}
 use Rattle.tree_walk.specs.declared.tree.Tree.{Tree}
 use Rattle.mounting.specs.Made.{ArePagesOn, CanBeWritten, CanOnlyBeRead, AreNext, IsMountedWith}
-use Rattle.mounting.specs.Mounted.{IsTreeShown}
+use Rattle.mounting.specs.Mounted.{IsTreeShown, CoversNewest}
+use Rattle.mounting.proofs.Covering.{IsWithin, objects_within}
+use Rattle.mounting.proofs.Shown.{kept_newest}
 
 -- the laws that are used of a tree that is shown
 pub record ShownLaws : Type 0 where
   pub sizes : (d : Device) (m : PageMap) (spare : ℕ) → IsVolume d.geometry (has m) spare → IsSizes (sizes_of d.geometry spare)
   pub forest : (z : Sizes) (m : PageMap) (objects : Objects) → Shows z (has m) objects → IsForest z objects
   pub settled : (z : Sizes) (m : PageMap) (objects : Objects) → Shows z (has m) objects → settled objects ≡ objects
+  pub names : (z : Sizes) (m : PageMap) (tree : Tree) (objects : Objects) (index : NameIndex) → IsSizes z → IsTreeThrough z (has m) tree → Shows z (has m) objects
+      → CoversTree index z m tree → CoversObjects index z m objects
 
 -- what the making of a table tells
 abbrev pub TableLaw : Sizes → Tree → ObjectTable → Type 0
@@ -95,7 +104,8 @@ module _ (d : Device) (x : Index) (n : Numbers) (spare : ℕ) (p : PagesState) (
   are_next greatest = (n, subst (λ (k : Device). AreGreatest k.flash n) (sym pages.device_is) greatest, pages.next)
 
   module _ (laws : ShownLaws) (tree : Tree) (objects : Objects) (honest : d.honest ≡ true) (answers : Answers d.geometry d.flash (IsTreeOf spare objects)) (shown : IsTreeShown d x spare tree objects)
-      (table : ObjectTable) (told : Sizes) (same : told ≡ z) (law : TableLaw told tree table) (fit : charge told objects ≤ capacity told) where
+      (table : ObjectTable) (told : Sizes) (same : told ≡ z) (law : TableLaw told tree table) (fit : charge told objects ≤ capacity told)
+      (names : NameIndex) (covers : CoversNewest names d spare tree) (kept : AreKept d.flash (kept_pages x)) where
     sizes : IsSizes z
     sizes = laws.sizes d shown.on.pages spare shown.on.through.volume
 
@@ -118,7 +128,16 @@ module _ (d : Device) (x : Index) (n : Numbers) (spare : ℕ) (p : PagesState) (
     is_shown : Shown (volume_of p) p objects
     is_shown = subst (λ (o : Objects). Shown (volume_of p) p o) settles (kept_shown (volume_of p) p (kept_data x d.flash) objects refl (pages.kept honest) holds can)
 
-    pub mounted_with : IsMountedWith p table objects
+    -- what is handed out is what the newest pages have
+    within : IsWithin p.present shown.on.pages
+    within o c page at = (shown.on.newest o c page).1 (kept_newest d.flash x kept o c page (sym (pages.present honest o c) ∙ at))
+
+    named : CoversObjects names (volume_of p) p.present objects
+    named = subst (λ (k : Sizes). CoversObjects names k p.present objects) (sym volume_is)
+        (objects_within z p.present shown.on.pages names objects within
+        (laws.names z shown.on.pages tree objects names sizes shown.on.through.tree_is shown.shows (covers shown.on.pages shown.on.newest)))
+
+    pub mounted_with : IsMountedWith p table names objects
     mounted_with = record {
       answers = subst (λ (k : Device). Answers k.geometry k.flash (IsTreeOf p.spare objects)) (sym pages.device_is)
           (subst (λ s. Answers d.geometry d.flash (IsTreeOf s objects)) (sym pages.spare_is) answers);
@@ -136,4 +155,5 @@ module _ (d : Device) (x : Index) (n : Numbers) (spare : ℕ) (p : PagesState) (
       tells = law shown.on.pages objects (subst (λ (k : Sizes). IsSizes k) (sym same) sizes)
           (subst (λ (k : Sizes). IsTreeThrough k (has shown.on.pages) tree) (sym same) shown.on.through.tree_is)
           (subst (λ (k : Sizes). Shows k (has shown.on.pages) objects) (sym same) shown.shows) fits_told;
+      covers = named;
     }

@@ -1,6 +1,7 @@
 pub mod Finding
 pub mod Pruning
 pub mod Answering
+pub mod Covering
 pub mod Shown
 pub mod Standing
 pub mod PagesMade

@@ -45,28 +45,28 @@ module _ (keeps : ℕ → ℕ → Bool) (a b : Device) (t u : Table) (x y : Inde
 
   shown : (o c : ℕ) → present y o c ≡ as_kept (kept_pages y o c)
   shown o c = elim (cases_Bool (keeps o c)) [
-    | inl stays ↦ retains.present o c stays ∙ opened.shown o c ∙ sym (ap as_kept (retains.kept o c stays))
+    | inl stays ↦ retains.present o c stays ∙ opened.tables.shown o c ∙ sym (ap as_kept (retains.kept o c stays))
     | inr goes ↦ retains.present_no_more o c goes ∙ sym (ap as_kept (retains.kept_no_more o c goes))
   ]
 
   unbuffered : (o c i : ℕ) → present y o c ≡ presents.InBuffer i → ⊥
   unbuffered o c i is = elim (cases_Bool (keeps o c)) [
-    | inl stays ↦ opened.unbuffered o c i (sym (retains.present o c stays) ∙ is)
+    | inl stays ↦ opened.tables.unbuffered o c i (sym (retains.present o c stays) ∙ is)
     | inr goes ↦ let two : presents.Absent ≡ presents.InBuffer i = sym (retains.present_no_more o c goes) ∙ is in absurd cc
   ]
 
   closed : u.open_block ≡ None
-  closed = recounts.open_block ∙ opened.closed
+  closed = recounts.open_block ∙ opened.tables.closed
 
   checkpoint : u.checkpoint ≡ None
-  checkpoint = recounts.checkpoint ∙ opened.checkpoint
+  checkpoint = recounts.checkpoint ∙ opened.tables.noted
 
   geometry : u.geometry ≡ b.geometry
-  geometry = recounts.geometry ∙ opened.geometry ∙ sym reads.lasts.geometry
+  geometry = recounts.geometry ∙ opened.tables.geometry ∙ sym reads.lasts.geometry
 
   ready : AreLeft n → IsReady b u
   ready left =
-      let was = opened.ready left in
+      let was = opened.tables.ready left in
       record {
         geometry = geometry;
         marks = λ k. recounts.bad k ∙ was.marks k ∙ sym (ap (λ (f : ℕ → Bool). f k) reads.bad);
@@ -78,12 +78,12 @@ module _ (keeps : ℕ → ℕ → Bool) (a b : Device) (t u : Table) (x y : Inde
         below : b.honest ≡ true → (k p : ℕ) (tag : Tag) → b.flash.bad k ≡ false → HasTag b.flash k p tag → (tag.version < u.next_group) × (tag.group < u.next_group) × (tag.seq < u.next_seq)
         below honest k p tag good has =
             let same : b.flash ≡ a.flash = flash_is honest in
-            let before = (opened.ready left).below (was_honest honest) k p tag (sym (ap (λ (f : Flash). f.bad k) same) ∙ good) (subst (λ (f : Flash). HasTag f k p tag) same has) in
+            let before = (opened.tables.ready left).below (was_honest honest) k p tag (sym (ap (λ (f : Flash). f.bad k) same) ∙ good) (subst (λ (f : Flash). HasTag f k p tag) same has) in
             (subst (λ m. tag.version < m) (sym recounts.next_group) before.0, subst (λ m. tag.group < m) (sym recounts.next_group) before.1, subst (λ m. tag.seq < m) (sym recounts.next_seq) before.2)
 
   lie : AreLeft n → (o c : ℕ) (p : KeptPage) → kept_pages y o c ≡ Some p → MayLie u o c p
   lie left o c p is =
-      let was = opened.lie left o c p (was_kept o c p is) in
+      let was = opened.tables.lie left o c p (was_kept o c p is) in
       record {
         block = subst (λ (g : Geometry). p.block < g.blocks) (sym recounts.geometry) was.block;
         page = subst (λ (g : Geometry). p.page < g.pages) (sym recounts.geometry) was.page;
@@ -102,14 +102,14 @@ module _ (keeps : ℕ → ℕ → Bool) (a b : Device) (t u : Table) (x y : Inde
     checkpoint = checkpoint;
     shown = shown;
     unbuffered = unbuffered;
-    within = λ o c p is. subst (λ (g : Geometry). (p.block < g.blocks) × (p.page < g.pages)) (sym reads.lasts.geometry) (opened.within o c p (was_kept o c p is));
-    newest = λ honest o c p is. subst (λ (f : Flash). IsKeptAt f o c p) (sym (flash_is honest)) (opened.newest (was_honest honest) o c p (was_kept o c p is));
+    within = λ o c p is. subst (λ (g : Geometry). (p.block < g.blocks) × (p.page < g.pages)) (sym reads.lasts.geometry) (opened.tables.within o c p (was_kept o c p is));
+    newest = λ honest o c p is. subst (λ (f : Flash). IsKeptAt f o c p) (sym (flash_is honest)) (opened.tables.newest (was_honest honest) o c p (was_kept o c p is));
     all = λ honest o c s stays newest. retains.kept o c stays ∙ opened.all (was_honest honest) o c s (subst (λ (f : Flash). IsNewest f o c s) (flash_is honest) newest);
     others = retains.kept_no_more;
-    numbers = λ honest. subst (λ (f : Flash). AreGreatest f n) (sym (flash_is honest)) (opened.numbers (was_honest honest));
+    numbers = λ honest. subst (λ (f : Flash). AreGreatest f n) (sym (flash_is honest)) (opened.tables.numbers (was_honest honest));
     ready = ready;
-    group = λ left. recounts.next_group ∙ opened.group left;
-    seq = λ left. recounts.next_seq ∙ opened.seq left;
+    group = λ left. recounts.next_group ∙ opened.tables.group left;
+    seq = λ left. recounts.next_seq ∙ opened.tables.seq left;
     lie = lie;
   }
 

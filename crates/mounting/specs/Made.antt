@@ -8,6 +8,7 @@ use Rattle.flash_tree.specs.Newest.{Numbers, AreGreatest}
 use Rattle.flash_tree.specs.Mount.{Answers, IsTreeOf}
 use Rattle.chunk_index.specs.declared.index.Index.{Index}
 use Rattle.flash_pages.specs.ReadOnly.{next_after}
+use Rattle.name_index.specs.declared.index.NameIndex.{NameIndex}
 use Rattle.object_store.specs.Stores.{CanHave}
 use Rattle.object_store.specs.Stores.{settled}
 use Rattle.object_table.specs.Told.{table_sizes, Tells}
@@ -18,6 +19,7 @@ use Rattle.pages.specs.Stores.{bad_on, SamePages, KeptAs}
 use Rattle.paged_objects.specs.Standing.{volume_of, StandsFor, Shown}
 use Rattle.posix_profile.specs.State.{Objects}
 use Rattle.newest_pages.specs.Opened.{AreLeft}
+use Rattle.tree_table.specs.Covering.{CoversObjects}
 
 -- groups can be written: there are numbers left, and no more blocks are bad than there are to spare
 abbrev pub CanBeWritten : Device → Numbers → (spare : ℕ) → Type 0
@@ -48,12 +50,13 @@ pub record HasSizes (p : PagesState) (table : ObjectTable) : Type 0 where
   pub most : p.most ≡ p.device.geometry.pages / 4
   pub volume : table_sizes table ≡ volume_of p
 
--- These objects are the tree that the device shows: the pages hold them, a mount would show them again, and the table
--- tells of them.
-pub record IsMountedWith (p : PagesState) (table : ObjectTable) (objects : Objects) : Type 0 where
+-- These objects are the tree that the device shows: the pages hold them, a mount would show them again, the table tells of
+-- them, and the index has the hashes of their names.
+pub record IsMountedWith (p : PagesState) (table : ObjectTable) (names : NameIndex) (objects : Objects) : Type 0 where
   pub answers : Answers p.device.geometry p.device.flash (IsTreeOf p.spare objects)
   pub stands : StandsFor (volume_of p) p objects
   pub shown : Shown (volume_of p) p objects
   pub can : CanHave (volume_of p) objects
   pub settles : settled objects ≡ objects
   pub tells : Tells table objects
+  pub covers : CoversObjects names (volume_of p) p.present objects

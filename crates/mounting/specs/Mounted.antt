@@ -12,6 +12,8 @@ use Rattle.page_buffer.specs.Shown.{kept_data}
 use Rattle.pages.specs.Maps.{PageMap, has}
 use Rattle.pages.specs.Stores.{bad_on}
 use Rattle.posix_profile.specs.State.{Objects}
+use Rattle.name_index.specs.declared.index.NameIndex.{NameIndex}
+use Rattle.tree_walk.specs.Hashes.{CoversTree}
 use Rattle.tree_walk.specs.Trees.{keeps_key}
 use Rattle.tree_walk.specs.declared.tree.Tree.{Tree}
 use Rattle.flash_tree.specs.Tree.{Shows}
@@ -25,6 +27,10 @@ pub record IsTreeOn (device : Device) (spare : ℕ) (tree : Tree) : Type 0 where
   pub pages : PageMap
   pub newest : IsNewestMap device.flash pages
   pub through : IsGoneThrough device.geometry (has pages) spare tree
+
+-- By each map of the newest pages the index has the hashes of the names of the tree.
+abbrev pub CoversNewest : NameIndex → Device → (spare : ℕ) → Tree → Type 0
+CoversNewest names device spare tree = (pages : PageMap) → IsNewestMap device.flash pages → CoversTree names (sizes_of device.geometry spare) pages tree
 
 -- The pages of a tree are kept, and nothing else; and on an honest device the tree is that of its newest pages.
 pub record IsTreeRead (device : Device) (t : Table) (x : Index) (n : Numbers) (spare : ℕ) (tree : Tree) : Type 0 where

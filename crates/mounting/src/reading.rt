@@ -1,11 +1,13 @@
 // The tree of a device that was scanned.
 ghost use Rattle.std.specs.Prelude.{◌≡◌, true, false, IfOk, IfErr};
 ghost use Rattle.nand_model.specs.Changes.{OnlyReads};
+ghost use Rattle.flash_tree.specs.Mount.{sizes_of};
 ghost use Rattle.flash_tree.specs.Newest.{Numbers};
 ghost use Rattle.block_state.specs.Table.{Table};
 ghost use Rattle.page_buffer.specs.Shown.{kept_data};
 ghost use Rattle.pages.specs.Maps.{has};
 ghost use Rattle.newest_pages.specs.Opened.{IsOpened};
+ghost use Rattle.tree_walk.specs.Hashes.{CoversTree};
 ghost use Rattle.mounting.specs.Faults.{WhyNotMounted};
 ghost use Rattle.mounting.specs.Trees.{IsGoneThrough};
 
@@ -31,6 +33,8 @@ pub(crate) fn read_tree<N: Nand>(
     ensures power { (N.state device).gone ≡ false → IfOk result (λ read. (N.state read.0).gone ≡ false) }
     ensures tree { (N.state device).honest ≡ true
         → IfOk result (λ read. IsGoneThrough (N.state device).geometry (has (kept_data index.now (N.state device).flash)) read.1.spare read.1.tree) }
+    ensures names { (N.state device).honest ≡ true
+        → IfOk result (λ read. CoversTree read.1.names (sizes_of (N.state device).geometry read.1.spare) (kept_data index.now (N.state device).flash) read.1.tree) }
     ensures back { IfErr result (λ failed. OnlyReads (N.state device) (N.state failed.0)) }
     ensures fault { IfErr result (λ failed. WhyNotMounted (N.state failed.0) failed.1) }
 {

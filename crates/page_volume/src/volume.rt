@@ -16,6 +16,7 @@ ghost use Rattle.pages.specs.Stores.{GoesOn, HasFailed};
 ghost use Rattle.paged_objects.specs.Ending.{StaysAs, HasEnded};
 ghost use Rattle.paged_objects.specs.Standing.{StandsFor, Shown};
 
+use name_index::NameIndex;
 use object_commands::Volume;
 use object_store::ObjectStore;
 use object_table::ObjectTable;
@@ -40,6 +41,7 @@ impl<P: PageStore> PageVolume<P> {
         alloc: Global,
         pages: P,
         table: ObjectTable,
+        names: NameIndex,
         read_only: bool,
     ) -> Result<PageVolume<P>, (P, AllocError)>
         ensures pages { IfOk result (λ v. P.state (pages_of v) ≡ P.state pages) }
@@ -52,6 +54,7 @@ impl<P: PageStore> PageVolume<P> {
             → IfOk result (IsVolumeOf P.state (table_sizes table) (record { objects = objects; handles = map.empty })) }
         ensures given_back { IfErr result (λ back. P.state back.0 ≡ P.state pages) }
     {
+        drop(names);
         match Volume::new(alloc, PagedObjects::new(alloc, pages, table), read_only) {
             Ok(volume) => Ok(PageVolume { volume }),
             Err((objects, error)) => Err((objects.into_pages(), error)),

@@ -4,6 +4,7 @@ pub mod HeadBits
 pub mod Telling
 pub mod Visiting
 pub mod Seeing
+pub mod Hashing
 pub mod Putting
 pub mod Going
 pub mod Twice

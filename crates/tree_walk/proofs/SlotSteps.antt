@@ -10,6 +10,7 @@ use Rattle.page_tags.specs.Slots.{Entry, slot_bytes}
 use Rattle.flash_tree.specs.Slots.{IsTreeSlot}
 use Rattle.flash_tree.specs.Tree.{SlotIs}
 use Rattle.flash_tree.specs.Mount.{Wrong, LacksSlots}
+use Rattle.name_index.specs.Hashes.{fnv1a}
 use Rattle.pages.specs.Maps.{PageMap, has}
 use Rattle.posix_profile.specs.State.{Name, Entries}
 use Rattle.posix_profile.specs.laws.Map.{get_here, get_there}
@@ -55,12 +56,13 @@ names_push slots names e a = record {
 
 -- ---- the slots
 
-pub no_slots : (z : Sizes) (m : PageMap) (d : ℕ) (seen : Slots) → seen.names ≡ map.empty → seen.objects.items ≡ [] → HasSlots z m d 0 seen
-no_slots z m d seen names objects = record {
+pub no_slots : (z : Sizes) (m : PageMap) (d : ℕ) (seen : Slots) → seen.names ≡ map.empty → seen.objects.items ≡ [] → seen.hashes.items ≡ [] → HasSlots z m d 0 seen
+no_slots z m d seen names objects hashes = record {
   slots = [];
   are = record { size = refl; each = λ i e no'. absurd cc; once = λ i j a b no' at same. absurd cc };
   names = record { each = λ i e no'. absurd cc; only = λ name o is. let two : None ≡ Some o = sym (ap (λ (es : Entries). map.get es name) names ∙ map.get-empty (slice_cmp nat_cmp) name) ∙ is in absurd cc };
   objects = objects;
+  hashes = hashes;
 }
 
 module _ (z : Sizes) (m : PageMap) (d n : ℕ) (old : Slots) (h : HasSlots z m d n old) (e : Entry) (slot : SlotIs z (has m) d n e) where
@@ -92,6 +94,7 @@ module _ (z : Sizes) (m : PageMap) (d n : ℕ) (old : Slots) (h : HasSlots z m d
     };
     names = subst (AreSlotNames (h.slots ++ e ∷ [])) (sym t.names) (names_push h.slots old.names e h.names);
     objects = t.objects ∙ ap (λ os. os ++ e.object ∷ []) h.objects ∙ sym (map-append (λ (s : Entry). s.object) h.slots (e ∷ []));
+    hashes = t.hashes ∙ ap (λ hs. hs ++ fnv1a e.name ∷ []) h.hashes ∙ sym (map-append (λ (s : Entry). fnv1a s.name) h.slots (e ∷ []));
   }
 
   -- a slot of a name that was seen

@@ -4,5 +4,6 @@ pub mod Heads
 pub mod SlotLists
 pub mod Visits
 pub mod Trees
+pub mod Hashes
 pub mod Walks
 pub mod laws

@@ -7,13 +7,15 @@ use Rattle.flash_tree.specs.Mount.{Wrong, IsDamaged, AreSlots, LacksSlots}
 use Rattle.pages.specs.Maps.{PageMap, has}
 use Rattle.posix_profile.specs.State.{Name, Entries}
 use Rattle.volume_terms.specs.Sizes.{Sizes}
+use Rattle.name_index.specs.Hashes.{fnv1a}
 use Rattle.tree_walk.specs.declared.directory.Slots.{Slots}
 
--- the name was not seen before, and the slot's object is the next
+-- the name was not seen before, and the slot's object is the next, as is the hash of the name
 pub record TakesEntry (entry : Entry) (old new : Slots) : Type 0 where
   pub was_new : map.get old.names entry.name ≡ None
   pub names : new.names ≡ map.insert old.names entry.name entry.object
   pub objects : new.objects.items ≡ old.objects.items ++ entry.object ∷ []
+  pub hashes : new.hashes.items ≡ old.hashes.items ++ fnv1a entry.name ∷ []
 
 -- the bytes are no slot, or that of a name that was seen
 abbrev pub TakesNone : List ℕ → Slots → Wrong → Type 0
@@ -32,6 +34,7 @@ pub record HasSlots (z : Sizes) (m : PageMap) (d n : ℕ) (seen : Slots) : Type 
   pub are : AreSlots z (has m) d n slots
   pub names : AreSlotNames slots seen.names
   pub objects : seen.objects.items ≡ list_map (λ entry. entry.object) slots
+  pub hashes : seen.hashes.items ≡ list_map (λ entry. fnv1a entry.name) slots
 
 -- these are the objects that a directory of so many slots names
 abbrev pub NamesFrom : Sizes → PageMap → ℕ → ℕ → List ℕ → Type 0

@@ -7,40 +7,49 @@ ghost use Rattle.flash_tree.specs.Slots.{IsTreeSlot};
 ghost use Rattle.pages.specs.Maps.{PageMap};
 ghost use Rattle.pages.specs.State.{PagesState, OnlyFinds, KeepsPower};
 ghost use Rattle.volume_terms.specs.Sizes.{Sizes, page_slots};
+ghost use Rattle.name_index.specs.Covering.{HasHashes};
 ghost use Rattle.tree_walk.specs.Faults.{TellsWhy, TellsWrong};
+ghost use Rattle.tree_walk.specs.Hashes.{Keeps};
 ghost use Rattle.tree_walk.specs.SlotLists.{TakesEntry, TakesNone, HasSlots, LacksOf, NamesFrom};
 
 use crate::fault::WalkFault;
+use crate::hashes::add_hashes;
 use flash_tree::{Key, decode_tree_slot};
+use name_index::{NameIndex, name_hash};
 use name_map::NameMap;
 use pages::{Pages, Presence};
 use std::alloc::Global;
 use volume_terms::SLOT_BYTES;
 
-/// The names of the slots that were gone through, and the objects that these name, slot by slot.
+/// The names of the slots that were gone through; and slot by slot the objects that these name, and the hashes of the names.
 #[derive(Drop)]
 pub(crate) struct Slots {
     names: NameMap,
     objects: Vec<u64>,
+    hashes: Vec<u32>,
 }
 
 /// No slot was gone through yet.
 fn no_slots(alloc: Global) -> Slots
     ensures names { result.names ≡ map.empty }
     ensures objects { result.objects.items ≡ [] }
+    ensures hashes { result.hashes.items ≡ [] }
 {
     Slots {
         names: NameMap::new(alloc),
         objects: Vec::new(alloc),
+        hashes: Vec::new(alloc),
     }
 }
 
-/// The objects that the slots of a directory name, in their order. Each page is asked for once.
+/// The objects that the slots of a directory name, in their order. The hashes of their names are added to the index. Each
+/// page is asked for once.
 pub(crate) fn read_slots<P: Pages>(
     alloc: Global,
     pages: &mut P,
     directory: u64,
     length: u64,
+    names: &mut NameIndex,
 ) -> Result<Vec<u64>, WalkFault>
     requires few { length < 2 ^ 32 }
     ensures finds { OnlyFinds (P.state pages.old) (P.state pages.new) }
@@ -52,6 +61,9 @@ pub(crate) fn read_slots<P: Pages>(
     ensures fault { (P.state pages.old).sound ≡ true → (z : Sizes) → z.page_bytes ≡ (P.state pages.old).page_bytes
         → IfErr result (TellsWrong (LacksOf z (P.state pages.old).present directory length) (P.state pages.new)) }
     ensures why { IfErr result (TellsWhy (P.state pages.new)) }
+    ensures keeps { Keeps names.old names.new }
+    ensures hashes { (P.state pages.old).sound ≡ true → (z : Sizes) → z.page_bytes ≡ (P.state pages.old).page_bytes
+        → OnOk result (HasHashes names.new z (P.state pages.old).present directory length) }
 {
     let slots = u64::from(pages.page_bytes() / SLOT_BYTES as u32);
     let mut seen = no_slots(alloc);
@@ -59,6 +71,7 @@ pub(crate) fn read_slots<P: Pages>(
         let count = slots.min(length - chunk * slots);
         take_chunk(alloc, pages, directory, chunk, count, &mut seen)?;
     }
+    add_hashes(names, directory, &seen.hashes, length as u32)?;
     Ok(seen.objects)
 }
 
@@ -141,5 +154,6 @@ fn take_entry(alloc: Global, bytes: &[u8], seen: &mut Slots) -> Result<(), WalkF
         return Err(WalkFault::Damaged);
     }
     seen.objects.push(slot.object)?;
+    seen.hashes.push(name_hash(slot.name))?;
     Ok(())
 }

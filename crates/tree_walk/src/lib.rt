@@ -4,6 +4,7 @@
 mod directory;
 mod fault;
 mod file;
+mod hashes;
 mod head;
 mod law;
 mod object;

@@ -6,6 +6,7 @@ ghost use Rattle.pages.specs.Maps.{has};
 ghost use Rattle.pages.specs.State.{OnlyFinds, KeepsPower};
 ghost use Rattle.volume_terms.specs.Sizes.{Sizes, root_number};
 ghost use Rattle.tree_walk.specs.Faults.{TellsWhy, TellsWrong};
+ghost use Rattle.tree_walk.specs.Hashes.{CoversHeads, CoversTree};
 ghost use Rattle.tree_walk.specs.Visits.{IsSeen};
 ghost use Rattle.tree_walk.specs.Trees.{TellsHeads, HasNames, IsWrongTree, named_in, objects_listed, page_size};
 ghost use Rattle.tree_walk.specs.Walks.{Begins, HasAgain, HasHead, IsGoing, IsDirectoryAgain, Knows, Puts, Visits};
@@ -15,14 +16,20 @@ use crate::fault::WalkFault;
 use crate::head::Head;
 use crate::object::{Visited, visit};
 use crate::tree::{NamedObject, Tree};
+use name_index::NameIndex;
 use page_tags::ObjectKind;
 use pages::KnownPages;
 use std::alloc::{AllocError, Global};
 use std::collections::{BTreeMap, BTreeSet};
 use volume_terms::ROOT;
 
-/// Goes through all objects of a tree from the root on, each once, in the order in which they are named.
-pub fn walk<P: KnownPages>(alloc: Global, pages: &mut P) -> Result<Tree, WalkFault>
+/// Goes through all objects of a tree from the root on, each once, in the order in which they are named. The hashes of all
+/// names are added to the index.
+pub fn walk<P: KnownPages>(
+    alloc: Global,
+    pages: &mut P,
+    names: &mut NameIndex,
+) -> Result<Tree, WalkFault>
     ensures finds { OnlyFinds (P.state pages.old) (P.state pages.new) }
     ensures power { OnOk result (KeepsPower (P.state pages.old) (P.state pages.new)) }
     ensures through { (z : Sizes) → IsSeen z (P.state pages.old)
@@ -35,11 +42,12 @@ pub fn walk<P: KnownPages>(alloc: Global, pages: &mut P) -> Result<Tree, WalkFau
     ensures fault { (z : Sizes) → IsSeen z (P.state pages.old)
         → IfErr result (TellsWrong (IsWrongTree z (has (P.state pages.old).present)) (P.state pages.new)) }
     ensures why { IfErr result (TellsWhy (P.state pages.new)) }
+    ensures hashes { (z : Sizes) → IsSeen z (P.state pages.old) → IfOk result (CoversTree names.new z (P.state pages.old).present) }
 {
     let mut walk = begin(alloc)?;
     let mut place = 0;
     while place < walk.objects.len() {
-        walk.step(alloc, pages, place)?;
+        walk.step(alloc, pages, place, names)?;
         place += 1;
     }
     if walk.names_directory_again() {
@@ -98,6 +106,7 @@ impl WalkState {
         alloc: Global,
         pages: &mut P,
         place: usize,
+        names: &mut NameIndex,
     ) -> Result<(), WalkFault>
         requires within { place < length self.old.objects.items }
         requires knows { Knows self.old }
@@ -109,9 +118,11 @@ impl WalkState {
         ensures stops { (z : Sizes) → IsSeen z (P.state pages.old)
             → IfErr result (TellsWrong (λ wrong. (o : ℕ) × (slice_get self.old.objects.items place ≡ Some o) × Finds z (has (P.state pages.old).present) o (Stops wrong)) (P.state pages.new)) }
         ensures why { IfErr result (TellsWhy (P.state pages.new)) }
+        ensures hashes { (z : Sizes) → IsSeen z (P.state pages.old) → CoversHeads names.old z (P.state pages.old).present self.old.heads
+            → OnOk result (CoversHeads names.new z (P.state pages.old).present self.new.heads) }
     {
         let object = self.objects[place];
-        let visited = visit(alloc, pages, object)?;
+        let visited = visit(alloc, pages, object, names)?;
         self.take(object, visited)
     }
 

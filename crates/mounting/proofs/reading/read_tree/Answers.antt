@@ -1,4 +1,5 @@
 use Rattle.mounting.proofs.Answering.{MapsAnswer, fault_answered}
+use Rattle.mounting.proofs.Covering.{covers_lent}
 use Rattle.mounting.proofs.Reasons.{tree_reason}
 use Rattle.mounting.proofs.reading.read_tree.Goals as goal
 
@@ -14,3 +15,10 @@ unmounted-requires-in-Err-found g c =
     pages.page.items then.page.items c.geometry-geometry.result c.in-Err-found.fault c.in-Ok.ensures.device c.in-Ok.ensures.index c.into_device-device.ensures c.geometry-geometry.ensures
     c.find_tree-found.ensures.finds (λ honest. c.the_opened_pages_are_the_newest.ensures.pages d c.requires.0 c.args.index.now c.requires.1 c.requires.2 honest)
     c.in-Err-found.ensures.fault c.in-Err-found.ensures.why)
+
+pub returns-in-Ok-found-clause-names : goal.returns-in-Ok-found-clause-names
+returns-in-Ok-found-clause-names g c =
+    let pages = c.in-Ok.pages in
+    let found = c.in-Ok-found.tree in
+    covers_lent (g.N.Nand.state c.args.device) (g.N.Nand.state pages.device) c.args.index.now pages.index.now c.geometry-geometry.result found.names found.spare found.tree
+    c.in-Ok.ensures.device c.in-Ok.ensures.index c.geometry-geometry.ensures c.in-Ok-found.ensures.names

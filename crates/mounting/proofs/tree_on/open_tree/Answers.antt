@@ -2,6 +2,7 @@ use Rattle.std.proofs.Common.{sym, ◌∙◌}
 use Rattle.flash_tree.specs.Places.{numbers_of}
 use Rattle.block_state.specs.TableOf.{table}
 use Rattle.mounting.proofs.Answering.{tree_after}
+use Rattle.mounting.proofs.Covering.{covers_after}
 use Rattle.mounting.proofs.tree_on.open_tree.Goals as goal
 
 pub returns-clause-read : goal.returns-clause-read
@@ -20,3 +21,15 @@ returns-clause-read g c =
           (c.the_opened_pages_are_the_newest.ensures.pages a (table was.blocks) was.index (numbers_of was.numbers) opened before) before
           (c.in_ok-device-2.ensures.tree before);
     }
+
+pub returns-clause-names : goal.returns-clause-names
+returns-clause-names g c = λ honest.
+    let d = g.N.Nand.state c.args.device in
+    let a = g.N.Nand.state c.in_ok-device.device in
+    let b = g.N.Nand.state c.in_ok-device-2.device in
+    let was = c.in_ok-device.opened in
+    let found = c.in_ok-device-2.found in
+    let before = c.in_ok-device.ensures.reads.lasts.honest ∙ honest in
+    covers_after a b was.index found.names found.spare found.tree c.in_ok-device-2.ensures.reads
+    (c.the_opened_pages_are_the_newest.ensures.pages a (table was.blocks) was.index (numbers_of was.numbers) c.in_ok-device.ensures.opened before) before
+    (c.in_ok-device-2.ensures.names before)

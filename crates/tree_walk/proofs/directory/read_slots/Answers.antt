@@ -1,4 +1,4 @@
-use Rattle.std.proofs.Common.{◌≡◌, ◌≤◌, ◌<◌, ◌+◌, ◌-◌, ◌*◌, ◌/◌, ◌∙◌, ℕ, min, refl, sym, ap, subst, arith, rules}
+use Rattle.std.proofs.Common.{◌≡◌, ◌≤◌, ◌<◌, ◌+◌, ◌-◌, ◌*◌, ◌/◌, ◌∙◌, ℕ, List, min, refl, sym, ap, subst, arith, rules}
 use Rattle.std.proofs.lemmas.Result.{err_from_is_err_and}
 use Rattle.std.specs.Int.{div_ceil}
 use Rattle.volume_terms.specs.Sizes.{page_slots}
@@ -6,7 +6,9 @@ use Rattle.pages.specs.Maps.{PageMap}
 use Rattle.pages.specs.State.{PagesState}
 use Rattle.pages.specs.laws.State.{finds_none, finds_on}
 use Rattle.tree_walk.proofs.Telling.{tells_as}
+use Rattle.tree_walk.specs.Hashes.{HoldsEach}
 use Rattle.tree_walk.specs.SlotLists.{HasSlots, LacksOf}
+use Rattle.tree_walk.proofs.Hashing.{has_hashes}
 use Rattle.tree_walk.proofs.SlotSteps.{no_slots}
 use Rattle.tree_walk.proofs.SlotPages.{IsChunk, is_chunk, all_chunks}
 use Rattle.tree_walk.proofs.directory.read_slots.Goals as goal
@@ -19,7 +21,7 @@ loop-chunk-init g c = record {
   slots = λ sound z size.
       let old : PagesState = g.P.Pages.state c.args.pages.now in
       subst (λ k. HasSlots z old.present c.args.directory k c.no_slots-seen.result) (let zero_is : 0 ≡ min c.args.length (0 * page_slots z) = grind arith in zero_is)
-      (no_slots z old.present c.args.directory c.no_slots-seen.result c.no_slots-seen.ensures.names c.no_slots-seen.ensures.objects);
+      (no_slots z old.present c.args.directory c.no_slots-seen.result c.no_slots-seen.ensures.names c.no_slots-seen.ensures.objects c.no_slots-seen.ensures.hashes);
 }
 
 pub loop-chunk-preserved : goal.loop-chunk-preserved
@@ -90,3 +92,16 @@ returns-clause-told g c = λ sound z size.
     let all : min c.args.length (c.loop-chunk.chunk * page_slots z) ≡ c.args.length = subst (λ k. min c.args.length (c.loop-chunk.chunk * k) ≡ c.args.length) slots (all_chunks c.args.length n c.loop-chunk.chunk some more) in
     let h = subst (λ k. HasSlots z old.present c.args.directory k c.loop-chunk.seen) all (c.loop-chunk.invariant.slots sound z size) in
     (h.slots, h.are, h.objects)
+
+pub returns-clause-hashes : goal.returns-clause-hashes
+returns-clause-hashes g c = λ sound z size.
+    let old : PagesState = g.P.Pages.state c.args.pages.now in
+    let n : ℕ = c.from-slots.result in
+    let slots : n ≡ page_slots z = c.from-slots.ensures ∙ ap (λ k. k / 272) (c.page_bytes.ensures.bytes ∙ sym size) in
+    let some : 1 ≤ n = omega (arith, c.page_bytes.ensures.least, c.from-slots.ensures) in
+    let more : div_ceil c.args.length n ≤ c.loop-chunk.chunk = subst (λ k. k ≤ c.loop-chunk.chunk) c.div_ceil-chunk-end.ensures c.loop-chunk-test.false in
+    let all : min c.args.length (c.loop-chunk.chunk * page_slots z) ≡ c.args.length = subst (λ k. min c.args.length (c.loop-chunk.chunk * k) ≡ c.args.length) slots (all_chunks c.args.length n c.loop-chunk.chunk some more) in
+    let h = subst (λ k. HasSlots z old.present c.args.directory k c.loop-chunk.seen) all (c.loop-chunk.invariant.slots sound z size) in
+    let each = subst (λ (hs : List ℕ). HoldsEach c.add_hashes.new.names c.args.directory c.args.length hs) c.deref.ensures.value c.in_ok-add_hashes.ensures.there in
+    let few : z.page_bytes ≤ 4096 = omega (arith, size, c.page_bytes.ensures.bytes, c.page_bytes.ensures.most) in
+    has_hashes z old.present c.args.directory c.args.length c.loop-chunk.seen c.add_hashes.new.names few h each

@@ -2,6 +2,7 @@ use Rattle.std.proofs.Common.{◌≡◌, ◌∙◌, List, ℕ, true, false, IsSo
 use Rattle.std.proofs.lemmas.Result.{err_from_is_err_and}
 use Rattle.page_tags.specs.Headers.{is_present}
 use Rattle.flash_tree.specs.Mount.{Stops, Leads, Finds}
+use Rattle.name_index.specs.Covering.{HasHashes}
 use Rattle.pages.specs.Maps.{PageMap, has}
 use Rattle.pages.specs.State.{PagesState}
 use Rattle.tree_walk.specs.SlotLists.{NamesFrom, LacksOf}
@@ -54,3 +55,9 @@ returns-in_ok-named-in-Directory-clause-leads g c = λ z seen.
     let told = c.in_ok-named-in-Directory.ensures.told (finds.sound ∙ seen.sound) z (seen.size ∙ sym finds.page_bytes) in
     let from = subst (λ (m : PageMap). NamesFrom z m c.args.object c.in_ok-head.head.length named) finds.present told in
     record { head = says; leads = directory_there z old c.args.object c.in_ok-head.head says c.in-Directory.is named from }
+
+pub returns-in_ok-named-in-Directory-clause-hashes : goal.returns-in_ok-named-in-Directory-clause-hashes
+returns-in_ok-named-in-Directory-clause-hashes g c = λ z seen kind.
+    let finds = c.read_head.ensures.finds in
+    subst (λ (m : PageMap). HasHashes c.read_slots.new.names z m c.args.object c.in_ok-head.head.length) finds.present
+    (c.in_ok-named-in-Directory.ensures.hashes (finds.sound ∙ seen.sound) z (seen.size ∙ sym finds.page_bytes))

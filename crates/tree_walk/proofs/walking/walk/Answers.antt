@@ -6,6 +6,7 @@ use Rattle.pages.specs.Maps.{PageMap, has}
 use Rattle.pages.specs.State.{PagesState}
 use Rattle.pages.specs.laws.State.{finds_none, finds_on}
 use Rattle.tree_walk.specs.Trees.{AreNamesOf, IsWrongTree}
+use Rattle.tree_walk.specs.Hashes.{CoversHeads}
 use Rattle.tree_walk.specs.Walks.{IsGoing}
 use Rattle.tree_walk.proofs.Going.{begins_going}
 use Rattle.tree_walk.proofs.Seeing.{page_size, single, still_seen}
@@ -22,6 +23,7 @@ loop-place-init g c = record {
   power = refl;
   knows = c.in_ok-walk.ensures.begins.knows;
   going = λ z seen. begins_going z (has (g.P.Pages.state c.args.pages.now).present) c.in_ok-walk.walk c.in_ok-walk.ensures.begins;
+  hashes = λ z seen o head there. absurd (c.in_ok-walk.ensures.begins.heads o head there);
 }
 
 pub loop-place-preserved : goal.loop-place-preserved
@@ -36,6 +38,13 @@ loop-place-preserved g c = record {
       let going = subst (λ (m : PageMap). IsGoing z (has m) c.loop-place.place c.loop-place.walk) (sym finds.present) (c.loop-place.invariant.going z seen) in
       subst (λ (m : PageMap). IsGoing z (has m) (c.loop-place.place + 1) c.step.new.self) finds.present
       (c.in_ok-step.ensures.goes z (still_seen z old now finds seen) going);
+  hashes = λ z seen.
+      let old : PagesState = g.P.Pages.state c.args.pages.now in
+      let now : PagesState = g.P.Pages.state c.loop-place.pages in
+      let finds = c.loop-place.invariant.finds in
+      let covers = subst (λ (m : PageMap). CoversHeads c.loop-place.names z m c.loop-place.walk.heads) (sym finds.present) (c.loop-place.invariant.hashes z seen) in
+      subst (λ (m : PageMap). CoversHeads c.step.new.names z m c.step.new.self.heads) finds.present
+      (c.in_ok-step.ensures.hashes z (still_seen z old now finds seen) covers);
 }
 
 pub returns-in_err-step-clause-fault : goal.returns-in_err-step-clause-fault

@@ -2,6 +2,7 @@ use Rattle.std.proofs.Common.{◌-◌}
 use Rattle.pages.specs.Maps.{has}
 use Rattle.pages.specs.State.{OnlyFinds, KeepsPower}
 use Rattle.volume_terms.specs.Sizes.{Sizes}
+use Rattle.tree_walk.specs.Hashes.{CoversHeads}
 use Rattle.tree_walk.specs.Visits.{IsSeen}
 use Rattle.tree_walk.specs.Walks.{Knows, IsGoing}
 use Rattle.tree_walk.proofs.walking.walk.Given as goal
@@ -12,6 +13,7 @@ invariant-loop-place g l = record {
   power : KeepsPower (g.P.Pages.state l.fn.pages) (g.P.Pages.state l.pages);
   knows : Knows l.walk;
   going : (z : Sizes) → IsSeen z (g.P.Pages.state l.fn.pages) → IsGoing z (has (g.P.Pages.state l.fn.pages).present) l.place l.walk;
+  hashes : (z : Sizes) → IsSeen z (g.P.Pages.state l.fn.pages) → CoversHeads l.names z (g.P.Pages.state l.fn.pages).present l.walk.heads;
 }
 
 abbrev pub decreases-loop-place : goal.decreases-loop-place

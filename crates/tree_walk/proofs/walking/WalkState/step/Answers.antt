@@ -4,8 +4,10 @@ use Rattle.std.proofs.lemmas.Result.{err_from_is_err_and}
 use Rattle.flash_tree.specs.Mount.{Stops, Finds}
 use Rattle.pages.specs.Maps.{has}
 use Rattle.pages.specs.State.{PagesState}
+use Rattle.tree_walk.specs.Hashes.{CoversHeads}
 use Rattle.tree_walk.specs.Walks.{Visits, Knows, IsGoing}
 use Rattle.tree_walk.proofs.Going.{goes_on}
+use Rattle.tree_walk.proofs.Hashing.{covers_visited}
 use Rattle.tree_walk.proofs.Seeing.{page_size, single}
 use Rattle.tree_walk.proofs.Telling.{tells_as, result_lacks_memory, when_done}
 use Rattle.tree_walk.proofs.walking.WalkState.step.Goals as goal
@@ -39,3 +41,10 @@ returns-clause-stops g c = λ z seen. result_lacks_memory (λ wrong. (o : ℕ) �
 
 pub returns-clause-why : goal.returns-clause-why
 returns-clause-why g c = result_lacks_memory (λ wrong. Unit {0}) (g.P.Pages.state c.visit.new.pages) c.take.result c.take.ensures.why
+
+pub returns-clause-hashes : goal.returns-clause-hashes
+returns-clause-hashes g c = λ z seen covered.
+    let old : PagesState = g.P.Pages.state c.args.pages.now in
+    let object : ℕ = c.index-object.result.now in
+    when_done (Visits object c.in_ok-visited.visited c.args.self.now c.take.new.self) (CoversHeads c.visit.new.names z old.present c.take.new.self.heads) c.take.result
+    (λ t. covers_visited z old.present object c.in_ok-visited.visited c.args.self.now c.take.new.self c.args.names.now c.visit.new.names c.in_ok-visited.ensures.keeps (c.in_ok-visited.ensures.hashes z seen) covered t) c.take.ensures.takes

@@ -6,7 +6,6 @@ mod fault;
 mod finding;
 mod keeping;
 mod looking;
-mod reading;
 mod sizes;
 mod telling;
 
@@ -14,5 +13,4 @@ pub use cutting::cut;
 pub use fault::CutFault;
 pub use finding::{Finding, mount_fault_name};
 pub use keeping::kept;
-pub use reading::ReadVolume;
 pub use telling::tell;

@@ -11,7 +11,6 @@ ghost use Rattle.exerciser.specs.declared.fault.CutFault.TheVariants as faults;
 use crate::fault::CutFault;
 use crate::finding::Finding;
 use crate::keeping::kept;
-use crate::reading::ReadVolume;
 use crate::sizes::sizes_with;
 use flash_pages::FlashPages;
 use nand_model::{Geometry, MemNand, Nand};
@@ -52,21 +51,21 @@ fn tree_of<V: Answers>(
 }
 
 /// Mounts a device from a power-up on.
-fn mount(alloc: Global, mut nand: MemNand) -> Result<ReadVolume<MemNand>, (MemNand, MountFault)>
+fn mount(alloc: Global, mut nand: MemNand) -> Result<Volume<MemNand>, (MemNand, MountFault)>
     ensures { IfErr result (λ failed. IsAnswered (device nand) failed.1) }
 {
     nand.power_up();
     match Volume::mount(alloc, nand) {
-        Ok(volume) => Ok(ReadVolume { volume }),
+        Ok(volume) => Ok(volume),
         Err(failed) => Err(failed),
     }
 }
 
 /// Gives the device of a volume back as it is.
-fn abandon(read: ReadVolume<MemNand>) -> MemNand
-    ensures { device result ≡ (⟦<FlashPages<MemNand> as Pages>⟧.state (pages_of (over_pages read.volume))).device }
+fn abandon(volume: Volume<MemNand>) -> MemNand
+    ensures { device result ≡ (⟦<FlashPages<MemNand> as Pages>⟧.state (pages_of (over_pages volume))).device }
 {
-    read.volume.abandon()
+    volume.abandon()
 }
 
 /// The device with the tree that it shows.
@@ -75,9 +74,9 @@ pub(crate) fn begin(alloc: Global, nand: MemNand) -> Result<Standing, CutFault>
 {
     let geometry = nand.geometry();
     match mount(alloc, nand) {
-        Ok(mut read) => {
-            let tree = tree_of(alloc, geometry, &mut read)?;
-            let device = abandon(read);
+        Ok(mut volume) => {
+            let tree = tree_of(alloc, geometry, &mut volume)?;
+            let device = abandon(volume);
             Ok(Standing { device, tree })
         }
         Err((_nand, fault)) => Err(CutFault::from(fault)),
@@ -156,9 +155,9 @@ pub(crate) fn look(
 {
     let geometry = device.geometry();
     match mount(alloc, device) {
-        Ok(mut read) => {
-            let (tree, finding) = compare(alloc, geometry, tree, script, end, &mut read)?;
-            let device = abandon(read);
+        Ok(mut volume) => {
+            let (tree, finding) = compare(alloc, geometry, tree, script, end, &mut volume)?;
+            let device = abandon(volume);
             Ok((Standing { device, tree }, finding))
         }
         Err((_device, MountFault::NoMemory)) => Err(CutFault::NoMemory),

@@ -26,7 +26,7 @@ pub enum ProgramFault {
     #[error(transparent)]
     Format(FormatFault),
     /// The volume could not be mounted.
-    #[error("{}", mount_text(*.0))]
+    #[error(transparent)]
     Mount(MountFault),
     /// The shell ended early, or the reading of a script as a shell would.
     #[error(transparent)]
@@ -42,18 +42,6 @@ pub enum ProgramFault {
     /// Standard output failed outside the shell.
     #[error("standard output could not be written: check where it goes")]
     Write,
-}
-
-/// The text of a mount's fault.
-fn mount_text(fault: MountFault) -> &'static str {
-    match fault {
-        MountFault::Gone => "power was lost in the mount: mount again after the next power-up",
-        MountFault::NoMemory => "memory was refused in the mount: free some, then mount again",
-        MountFault::NotAVolume => "there is no volume: format it, if it is new",
-        MountFault::Newer(_) =>
-            "the volume has a newer format: take a newer version of this program",
-        MountFault::Damaged => "what is there is no tree: read out what can be read, then format",
-    }
 }
 
 impl From<ScriptFault> for ProgramFault {

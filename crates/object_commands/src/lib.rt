@@ -1,6 +1,7 @@
 //! The commands of the profile over any store of objects.
 #![tactic(auto)]
 
+mod answering;
 mod naming;
 mod opening;
 mod rename;

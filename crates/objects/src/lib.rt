@@ -9,4 +9,6 @@ mod page_store;
 mod reading;
 mod store;
 
+pub use object_table::ObjectTable;
+pub use pages::Change;
 pub use store::Store;

@@ -1,28 +1,8 @@
 // Commands that are asked of a volume.
 use crate::fault::TreeFault;
-use object_commands::Volume;
-use object_store::ObjectStore;
-use plain_volume::PlainVolume;
+use command_answers::Answers;
 use posix_profile::{Command, Errno, FilePath, Reply, Stamped};
 use std::alloc::{AllocError, Global};
-
-/// What answers commands.
-pub trait Answers {
-    /// Does a command and replies to it.
-    fn answer(&mut self, stamped: &Stamped) -> Reply;
-}
-
-impl<S: ObjectStore> Answers for Volume<S> {
-    fn answer(&mut self, stamped: &Stamped) -> Reply {
-        self.call(stamped)
-    }
-}
-
-impl Answers for PlainVolume {
-    fn answer(&mut self, stamped: &Stamped) -> Reply {
-        self.call(stamped)
-    }
-}
 
 /// The reply to a command that is not refused.
 pub(crate) fn ask<V: Answers>(

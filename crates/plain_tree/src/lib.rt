@@ -7,6 +7,6 @@ mod fault;
 mod reading;
 mod tree;
 
-pub use asking::Answers;
+pub use command_answers::Answers;
 pub use fault::TreeFault;
 pub use tree::PlainTree;

@@ -1,6 +1,7 @@
 // A tree as its commands tell it.
-use crate::asking::{Answers, ask, below, path_of};
+use crate::asking::{ask, below, path_of};
 use crate::fault::TreeFault;
+use command_answers::Answers;
 use posix_profile::{Access, Bytes, Command, Info, Kind, OpenFlags, Reply};
 use std::alloc::{AllocError, Global};
 use std::collections::VecDeque;

@@ -7,10 +7,10 @@ ghost use Rattle.posix_profile.specs.Runs.{takes_no_memory};
 ghost use Rattle.posix_profile.specs.Steps.{step};
 ghost use Rattle.posix_profile.specs.laws.Fresh.{fresh};
 
-use crate::asking::Answers;
 use crate::building::build;
 use crate::fault::TreeFault;
 use crate::reading::{read_tree, same_tree};
+use command_answers::Answers;
 use plain_volume::PlainVolume;
 use posix_profile::{Reply, Stamped};
 use std::alloc::{AllocError, Global};

@@ -8,6 +8,7 @@ use Rattle.posix_profile.specs.laws.Sound.{IsSound}
 use Rattle.posix_profile.specs.laws.Prune.{tree_well_formed}
 use Rattle.lives.specs.Lives.{at_mount}
 use Rattle.flash_tree.specs.Mount.{Answers, IsTreeOf}
+use Rattle.name_index.specs.declared.index.NameIndex.{NameIndex}
 use Rattle.object_table.specs.Told.{table_sizes}
 use Rattle.object_table.specs.declared.table.ObjectTable.{ObjectTable}
 use Rattle.pages.specs.State.{PagesState}
@@ -18,19 +19,19 @@ use Rattle.page_volume.specs.declared.volume.PageVolume.{PageVolume}
 use Rattle.posix_calls.specs.Mounts.{StandsForTree}
 
 -- a tree that fits is a state that a volume can have
-pub sound_at : (p : PagesState) (table : ObjectTable) (objects : Objects) → table_sizes table ≡ volume_of p → IsMountedWith p table objects → IsSound (table_sizes table) (at_mount objects)
-sound_at p table objects same mounted = subst (λ (z : Sizes). IsSound z (at_mount objects)) (sym same) (record {
+pub sound_at : (p : PagesState) (table : ObjectTable) (names : NameIndex) (objects : Objects) → table_sizes table ≡ volume_of p → IsMountedWith p table names objects → IsSound (table_sizes table) (at_mount objects)
+sound_at p table names objects same mounted = subst (λ (z : Sizes). IsSound z (at_mount objects)) (sym same) (record {
   well_formed = tree_well_formed (volume_of p) objects mounted.answers.1.tree;
   fit = mounted.can.fit;
 })
 
 -- what a volume over these pages stands for
-pub stands_for : {P E : Type 0} (state : P → PagesState) (p : PagesState) (table : ObjectTable) (objects : Objects) (r : Result (PageVolume P) E)
-    → table_sizes table ≡ volume_of p → IsMountedWith p table objects → IfOk r (λ v. state (pages_of v) ≡ p) → IfOk r (IsVolumeOf state (table_sizes table) (at_mount objects))
+pub stands_for : {P E : Type 0} (state : P → PagesState) (p : PagesState) (table : ObjectTable) (names : NameIndex) (objects : Objects) (r : Result (PageVolume P) E)
+    → table_sizes table ≡ volume_of p → IsMountedWith p table names objects → IfOk r (λ v. state (pages_of v) ≡ p) → IfOk r (IsVolumeOf state (table_sizes table) (at_mount objects))
     → IfOk r (λ v. StandsForTree state v objects)
-stands_for state p table objects (Ok v) same mounted pages volume = record {
+stands_for state p table names objects (Ok v) same mounted pages volume = record {
   answers = subst (λ (q : PagesState). Answers q.device.geometry q.device.flash (IsTreeOf q.spare objects)) (sym pages) mounted.answers;
   volume = subst (λ (q : PagesState). IsVolumeOf state (volume_of q) (at_mount objects) v) (sym pages) (subst (λ (z : Sizes). IsVolumeOf state z (at_mount objects) v) same volume);
   shown = subst (λ (q : PagesState). Shown (volume_of q) q objects) (sym pages) mounted.shown;
 }
-stands_for state p table objects (Err e) same mounted pages volume = tt
+stands_for state p table names objects (Err e) same mounted pages volume = tt

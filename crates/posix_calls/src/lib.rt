@@ -1,10 +1,12 @@
 //! A volume on a NAND device: format, mount, commands and unmount.
 #![tactic(auto)]
 
+mod answering;
 mod joining;
 mod mount;
 mod volume;
 
+pub use command_answers::Answers;
 pub use formatting::{FormatFault, format};
 pub use mounting::MountFault;
 pub use paged_objects::a_shown_tree_is_on_the_flash;

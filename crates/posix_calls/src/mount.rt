@@ -57,9 +57,10 @@ impl<N: Nand> Volume<N> {
         let Mounted {
             pages,
             table,
+            names,
             read_only,
         } = mounting::mount(alloc, device, capacity)?;
-        match join(alloc, pages, table, read_only) {
+        match join(alloc, pages, table, names, read_only) {
             Ok(volume) => Ok(Volume { volume }),
             Err((pages, _)) => Err(unmounted(pages.into_device(), MountFault::NoMemory)),
         }

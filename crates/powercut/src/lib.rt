@@ -8,4 +8,6 @@ mod serving;
 mod session;
 
 pub use life::{LiveFault, live};
+pub use nand_image::{ImageFault, ImageNand, create_image, open_image};
+pub use plain_tree::PlainTree;
 pub use session::{Session, SessionEnd};

@@ -14,11 +14,13 @@ use crate::session::{Session, SessionEnd};
 use nand_model::MemNand;
 use planned_nand::PlannedNand;
 use std::alloc::{AllocError, Global};
+use thiserror::Error;
 
-/// Why a life was not told to its end.
-#[derive(Clone, Copy, Debug, PartialEq, Eq)]
+/// Why a life was not lived to its end.
+#[derive(Clone, Copy, Debug, PartialEq, Eq, Error)]
 pub enum LiveFault {
     /// A growth was refused, outside the volume's own calls.
+    #[error("memory was refused outside of the volume's own calls: free some, then live again")]
     NoMemory,
 }
 

@@ -9,6 +9,6 @@ returns-clause-tree g c objects same mounted worn =
     let state = g.P.Pages.state in
     let p = state c.args.pages in
     let z = sym same in
-    stands_for state p c.args.table objects c.new.result same mounted c.new.ensures.pages
-    (c.new.ensures.at objects (subst IsSizes z mounted.can.numbers) (subst (λ (k : Sizes). StandsFor k p objects) z mounted.stands) mounted.tells (sound_at p c.args.table objects same mounted) worn
+    stands_for state p c.args.table c.args.names objects c.new.result same mounted c.new.ensures.pages
+    (c.new.ensures.at objects (subst IsSizes z mounted.can.numbers) (subst (λ (k : Sizes). StandsFor k p objects) z mounted.stands) mounted.tells (sound_at p c.args.table c.args.names objects same mounted) worn
     (λ _. (mounted.settles, subst (λ (k : Sizes). Shown k p objects) z mounted.shown)))

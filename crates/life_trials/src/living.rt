@@ -1,6 +1,6 @@
 // One session at a time. What these calls promise is not said again, so that what calls them is checked fast.
 use anyhow::{Result, anyhow};
-use exerciser::{ReadVolume, kept};
+use exerciser::kept;
 use nand_model::MemNand;
 use plain_tree::PlainTree;
 use posix_calls::Volume;
@@ -33,16 +33,16 @@ pub(crate) fn live_through(
 }
 
 /// The volume of a device, after a power-up.
-pub(crate) fn mounted(alloc: Global, mut device: MemNand) -> Result<ReadVolume<MemNand>> {
+pub(crate) fn mounted(alloc: Global, mut device: MemNand) -> Result<Volume<MemNand>> {
     device.power_up();
     match Volume::mount(alloc, device) {
-        Ok(volume) => Ok(ReadVolume { volume }),
+        Ok(volume) => Ok(volume),
         Err((_device, fault)) => Err(anyhow!("the next mount fails: {fault:?}")),
     }
 }
 
 /// Whether the volume has the tree.
-pub(crate) fn has_tree(tree: &PlainTree, volume: &mut ReadVolume<MemNand>) -> Result<bool> {
+pub(crate) fn has_tree(tree: &PlainTree, volume: &mut Volume<MemNand>) -> Result<bool> {
     match tree.same(volume) {
         Ok(is_same) => Ok(is_same),
         Err(fault) => Err(anyhow!("a tree is not read: {fault:?}")),
@@ -54,7 +54,7 @@ pub(crate) fn shown(
     before: &PlainTree,
     session: &Session,
     end: &SessionEnd,
-    volume: &mut ReadVolume<MemNand>,
+    volume: &mut Volume<MemNand>,
 ) -> Result<Option<u64>> {
     match kept(before, &session.commands, end, volume) {
         Ok(found) => Ok(found),
@@ -63,6 +63,6 @@ pub(crate) fn shown(
 }
 
 /// The device of a volume that was read.
-pub(crate) fn device_of(volume: ReadVolume<MemNand>) -> MemNand {
-    volume.volume.abandon()
+pub(crate) fn device_of(volume: Volume<MemNand>) -> MemNand {
+    volume.abandon()
 }

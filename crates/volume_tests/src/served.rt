@@ -47,6 +47,14 @@ pub(crate) fn mount(alloc: Global, nand: MemNand, capacity: usize) -> Result<Ser
     }
 }
 
+/// Mounts a device as it is, with the cache that a mount has by itself, and fails where it is no volume.
+pub(crate) fn mount_by_itself(alloc: Global, nand: MemNand) -> Result<Served, Fail> {
+    match Volume::mount(alloc, nand) {
+        Ok(volume) => Ok(Served { volume }),
+        Err((_nand, fault)) => Err(fault.into()),
+    }
+}
+
 /// What the shell tells of these lines.
 pub(crate) fn told<S: Serve>(alloc: Global, served: &mut S, lines: &[u8]) -> Result<Vec<u8>, Fail> {
     let mut reader = lines;

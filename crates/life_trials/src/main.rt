@@ -10,8 +10,7 @@
 //! - `stories`: four sessions whose lines are known here, each as by `cuts` and as by `fails`: a collection beside a file that is
 //!   kept; a file that takes the place of another; a full volume that is written again; directories that are moved. Then three
 //!   sessions, each a thousand times as the exerciser cuts it: a file that is not synced; the first of the four; a full volume
-//!   that is written five hundred times. Then a sync whose last program fails, as by `cuts`: with a page that reads back, whose
-//!   block is retired, and with one that does not, so that the group is written again elsewhere.
+//!   that is written five hundred times.
 //! - `all LIVES SEED`: as `drawn`, and then `stories`.
 #![tactic(auto)]
 

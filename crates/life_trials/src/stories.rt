@@ -4,7 +4,6 @@ use crate::cuts::cut_lines;
 use crate::exercised::exercise_lines;
 use crate::fails::fail_lines;
 use anyhow::Result;
-use nand_model::Fate;
 use std::alloc::{AllocError, Global};
 
 /// A file takes the place of another.
@@ -38,15 +37,6 @@ write 0 hello
 fsync 0
 open /b rwc
 ";
-
-/// A directory is made and synced.
-const MADE: &str = "mkdir /a
-sync
-";
-
-/// The call of that session that programs the last page of the sync. The mount reads 256 tags, and the root's header twice; the
-/// name is looked up in that header; and the sync erases a block and programs three pages.
-const LAST_PROGRAM: u64 = 263;
 
 /// A file that is written, read and not synced.
 const UNSYNCED: &str = "open /a rwc
@@ -87,8 +77,8 @@ fn filled(alloc: Global, opened: &str, descriptor: u32, rounds: u32) -> Result<S
     Ok(lines)
 }
 
-/// Lives through each of four sessions with each call cut, and then with each call failing; through three with cuts that are
-/// drawn; and through one whose last program fails, and either reads back or does not, with each call cut.
+/// Lives through each of four sessions with each call cut, and then with each call failing; and through three with cuts that
+/// are drawn.
 pub(crate) fn live_stories(alloc: Global, counts: &mut Vec<Count>) -> Result<()> {
     let two_files = filled(alloc, TWO_FILES, 1, 12)?;
     let one_file = filled(alloc, "open /a rwc\n", 0, 40)?;
@@ -99,9 +89,6 @@ pub(crate) fn live_stories(alloc: Global, counts: &mut Vec<Count>) -> Result<()>
     let full = filled(alloc, "open /a rwc\n", 0, 500)?;
     for lines in [UNSYNCED, two_files.as_str(), full.as_str()] {
         counts.push(exercise_lines(alloc, lines)?)?;
-    }
-    for fate in [Fate::New, Fate::Uncorrectable] {
-        counts.push(cut_lines(alloc, MADE, Some((LAST_PROGRAM, fate)))?)?;
     }
     Ok(())
 }

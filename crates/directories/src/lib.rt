@@ -4,6 +4,7 @@
 mod addition;
 mod finding;
 mod head;
+mod leaving;
 mod listing;
 mod lookup;
 mod moving;
@@ -19,6 +20,7 @@ mod writing;
 pub use addition::add;
 pub use finding::find_among;
 pub use head::{DirectoryHead, head_page, read_head};
+pub use leaving::{LeftSlot, left_slot};
 pub use listing::{entries, names};
 pub use lookup::{find, find_in_slot};
 pub use moving::{Route, rename_between, rename_within};

@@ -40,13 +40,8 @@ impl<P: PageStore> PagedObjects<P> {
     ghost use Rattle.paged_objects.specs.Parts.{pages_of, table_of, names_of};
 
     /// The objects that the pages hold, the table tells and the index names.
-    pub fn new(
-        alloc: Global,
-        pages: P,
-        table: ObjectTable,
-        names: NameIndex,
-    ) -> PagedObjects<P>
-        ensures pages { P.state (pages_of result) ≡ P.state pages }
+    pub fn new(alloc: Global, pages: P, table: ObjectTable, names: NameIndex) -> PagedObjects<P>
+        ensures pages { pages_of result ≡ pages }
         ensures table { table_of result ≡ table }
         ensures names { names_of result ≡ names }
     {
@@ -67,7 +62,7 @@ impl<P: PageStore> PagedObjects<P> {
 
     /// The pages alone. What was not committed is not on their device.
     pub fn into_pages(self) -> P
-        ensures { P.state result ≡ P.state (pages_of self) }
+        ensures { result ≡ pages_of self }
     {
         self.pages
     }
@@ -141,7 +136,13 @@ impl<P: PageStore> ObjectStore for PagedObjects<P> {
             ObjectChange::Forget { number } => {
                 forget(&mut self.pages, &mut self.table, &mut self.names, *number)
             }
-            _ => make(&mut self.pages, &mut self.table, &mut self.names, self.alloc, change),
+            _ => make(
+                &mut self.pages,
+                &mut self.table,
+                &mut self.names,
+                self.alloc,
+                change,
+            ),
         }
     }
 

@@ -1,8 +1,8 @@
 // A small tree over pages in memory: changes of its objects, and what is read after them.
-use crate::store::{ROOT, Volume, changed, empty_volume, entry};
+use crate::store::{ROOT, Store, changed, empty_volume, entry};
 use directories::read_head;
 use flash_tree::Key;
-use object_pages::{find_among, names, read};
+use object_pages::{find, names, read};
 use object_store::ObjectChange;
 use pages::{Pages, Presence};
 use posix_profile::Kind;
@@ -14,40 +14,40 @@ const DOCS: u64 = 2;
 const FILE: u64 = 3;
 
 /// A volume with a directory `docs`, and in it a file `a` of some bytes.
-fn small_volume(alloc: Global) -> Result<Volume, Fail> {
-    let volume = empty_volume(alloc)?;
+fn small_volume(alloc: Global) -> Result<Store, Fail> {
+    let store = empty_volume(alloc)?;
     let docs = ObjectChange::Create {
         entry: entry(ROOT, b"docs"),
         kind: Kind::Directory,
         moment: 1,
     };
-    let volume = changed(alloc, volume, docs, DOCS)?;
+    let store = changed(alloc, store, docs, DOCS)?;
     let file = ObjectChange::Create {
         entry: entry(DOCS, b"a"),
         kind: Kind::File,
         moment: 2,
     };
-    let volume = changed(alloc, volume, file, FILE)?;
+    let store = changed(alloc, store, file, FILE)?;
     let write = ObjectChange::Write {
         number: FILE,
         offset: 510,
         bytes: b"abcd",
         moment: 3,
     };
-    changed(alloc, volume, write, 4)
+    changed(alloc, store, write, 4)
 }
 
 /// Names lead to their objects; a gap is read as zeros, and no byte past the end.
 #[test]
 fn a_file_is_found_and_read(rt: HostRuntime) -> Result<(), Fail> {
     let alloc = rt.alloc();
-    let Volume {
+    let Store {
         names: index,
         mut pages,
     } = small_volume(alloc)?;
-    assert_eq!(rt; find_among(&index, &mut pages, ROOT, b"docs")?, Some(DOCS));
-    assert_eq!(rt; find_among(&index, &mut pages, DOCS, b"a")?, Some(FILE));
-    assert_eq!(rt; find_among(&index, &mut pages, DOCS, b"b")?, None);
+    assert_eq!(rt; find(&index, &mut pages, ROOT, b"docs")?, Some(DOCS));
+    assert_eq!(rt; find(&index, &mut pages, DOCS, b"a")?, Some(FILE));
+    assert_eq!(rt; find(&index, &mut pages, DOCS, b"b")?, None);
     let bytes = read(&mut pages, alloc, FILE, 514, 508, 9)?;
     assert_eq!(rt; bytes.as_slice(), b"\0\0abcd".as_slice());
     assert_eq!(rt; names(&mut pages, alloc, ROOT)?.as_slice().len(), 1);
@@ -58,7 +58,7 @@ fn a_file_is_found_and_read(rt: HostRuntime) -> Result<(), Fail> {
 #[test]
 fn an_object_that_is_forgotten_has_no_pages(rt: HostRuntime) -> Result<(), Fail> {
     let alloc = rt.alloc();
-    let volume = small_volume(alloc)?;
+    let store = small_volume(alloc)?;
     let moved = ObjectChange::Move {
         from: entry(DOCS, b"a"),
         to: entry(ROOT, b"b"),
@@ -66,40 +66,40 @@ fn an_object_that_is_forgotten_has_no_pages(rt: HostRuntime) -> Result<(), Fail>
         dropped: None,
         moment: 4,
     };
-    let volume = changed(alloc, volume, moved, 4)?;
+    let store = changed(alloc, store, moved, 4)?;
     let named = ObjectChange::Name {
         entry: entry(ROOT, b"c"),
         number: FILE,
         moment: 5,
     };
-    let volume = changed(alloc, volume, named, 4)?;
+    let store = changed(alloc, store, named, 4)?;
     let removed = ObjectChange::Remove {
         entry: entry(ROOT, b"docs"),
         dropped: Some(DOCS),
         moment: 6,
     };
-    let mut volume = changed(alloc, volume, removed, 4)?;
+    let mut store = changed(alloc, store, removed, 4)?;
     assert_eq!(rt;
-        find_among(&volume.names, &mut volume.pages, ROOT, b"b")?,
+        find(&store.names, &mut store.pages, ROOT, b"b")?,
         Some(FILE)
     );
     assert_eq!(rt;
-        find_among(&volume.names, &mut volume.pages, ROOT, b"docs")?,
+        find(&store.names, &mut store.pages, ROOT, b"docs")?,
         None
     );
     let header = Key {
         object: DOCS,
         chunk: 0,
     };
-    assert_eq!(rt; volume.pages.find(header)?, Presence::Absent);
-    let mut volume = changed(alloc, volume, ObjectChange::Forget { number: FILE }, 2)?;
+    assert_eq!(rt; store.pages.find(header)?, Presence::Absent);
+    let mut store = changed(alloc, store, ObjectChange::Forget { number: FILE }, 2)?;
     for chunk in 0..3 {
         let key = Key {
             object: FILE,
             chunk,
         };
-        assert_eq!(rt; volume.pages.find(key)?, Presence::Absent);
+        assert_eq!(rt; store.pages.find(key)?, Presence::Absent);
     }
-    assert_eq!(rt; read_head(&mut volume.pages, ROOT)?.spare, 3);
+    assert_eq!(rt; read_head(&mut store.pages, ROOT)?.spare, 3);
     Ok(())
 }

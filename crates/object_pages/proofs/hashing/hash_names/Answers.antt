@@ -1,4 +1,4 @@
-use Rattle.std.proofs.Common.{◌≡◌, ◌∙◌, refl, sym}
+use Rattle.std.proofs.Common.{◌∙◌, refl, sym}
 use Rattle.std.specs.FinMap as map
 use Rattle.name_index.specs.Covering.{HasHashes}
 use Rattle.posix_profile.specs.State.{entries_of}

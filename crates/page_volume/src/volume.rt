@@ -53,7 +53,7 @@ impl<P: PageStore> PageVolume<P> {
             → IsSound (table_sizes table) (record { objects = objects; handles = map.empty }) → (P.state pages).worn ≡ read_only
             → (read_only ≡ true → (settled objects ≡ objects) × Shown (table_sizes table) (P.state pages) objects)
             → IfOk result (IsVolumeOf P.state (table_sizes table) (record { objects = objects; handles = map.empty })) }
-        ensures given_back { IfErr result (λ back. P.state back.0 ≡ P.state pages) }
+        ensures given_back { IfErr result (λ back. back.0 ≡ pages) }
     {
         let objects = PagedObjects::new(alloc, pages, table, names);
         match Volume::new(alloc, objects, read_only) {
@@ -145,7 +145,7 @@ impl<P: PageStore> PageVolume<P> {
 
     /// Gives the pages back as they are, as if power were lost between two calls.
     pub fn into_pages(self) -> P
-        ensures { P.state result ≡ P.state (pages_of self) }
+        ensures { result ≡ pages_of self }
     {
         self.volume.into_store().into_pages()
     }

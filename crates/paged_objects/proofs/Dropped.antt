@@ -59,7 +59,7 @@ names_forgotten a b z m k objects o drops same names d dir s e less at =
 left_here : (z : Sizes) (m k : PageMap) (objects : Objects) (planned : Change) (d h : ℕ) (left : Option LeftSlot) → SamePages k (changed planned m)
     → IfSome left (λ slot. LeavesName z planned d h slot) → HasLeft z k objects d h left
 left_here z m k objects planned d h None same leaves = tt
-left_here z m k objects planned d h (Some left) same leaves dir e less at is = leaves.other (sym (leaves.written m e (same_slot z (changed planned m) k d left.slot e same at)) ∙ is)
+left_here z m k objects planned d h (Some left) same leaves = λ dir e less at is. leaves.other (sym (leaves.written m e (same_slot z (changed planned m) k d left.slot e same at)) ∙ is)
 
 pub left_by_change : (z : Sizes) (m k : PageMap) (objects : Objects) (planned : Change) (change : ObjectChange) (left : Option LeftSlot) → SamePages k (changed planned m)
     → IfSome left (LeavesBy z planned change) → HasLeftBy z k objects change left
@@ -70,3 +70,9 @@ left_by_change z m k objects planned (changes.Move from to number dropped moment
 left_by_change z m k objects planned (changes.Write number offset bytes moment) left same leaves = tt
 left_by_change z m k objects planned (changes.Resize number length moment) left same leaves = tt
 left_by_change z m k objects planned (changes.Forget number) left same leaves = tt
+
+-- what is so of each sizes with pages of so many bytes is so of these
+pub leaves_at : (z : Sizes) (planned : Change) (change : ObjectChange) (left : Option LeftSlot) (d : ℕ) → z.page_bytes ≡ d
+    → IfSome left (λ slot. (y : Sizes) → y.page_bytes ≡ d → LeavesBy y planned change slot) → IfSome left (LeavesBy z planned change)
+leaves_at z planned change None d is each = tt
+leaves_at z planned change (Some left) d is each = each z is

@@ -41,7 +41,7 @@ impl<P: PageStore> PagedObjects<P> {
 
     /// The objects that the pages hold, the table tells and the index names.
     pub fn new(alloc: Global, pages: P, table: ObjectTable, names: NameIndex) -> PagedObjects<P>
-        ensures pages { P.state (pages_of result) ≡ P.state pages }
+        ensures pages { pages_of result ≡ pages }
         ensures table { table_of result ≡ table }
         ensures names { names_of result ≡ names }
     {
@@ -62,7 +62,7 @@ impl<P: PageStore> PagedObjects<P> {
 
     /// The pages alone. What was not committed is not on their device.
     pub fn into_pages(self) -> P
-        ensures { P.state result ≡ P.state (pages_of self) }
+        ensures { result ≡ pages_of self }
     {
         self.pages
     }

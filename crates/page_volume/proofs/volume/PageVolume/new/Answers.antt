@@ -14,7 +14,7 @@ pub returns-in-Ok-clause-at : goal.returns-in-Ok-clause-at
 returns-in-Ok-clause-at g c objects numbers stands tells hashes sound worn shown =
     let state = g.P.Pages.state in
     let made = c.in-Ok.ensures.volume in
-    let pages : state c.in-Ok.volume.store.pages ≡ state c.args.pages = ap (λ o. state o.pages) made.0 ∙ c.new.ensures.pages in
+    let pages : state c.in-Ok.volume.store.pages ≡ state c.args.pages = ap (λ o. state o.pages) made.0 ∙ ap state c.new.ensures.pages in
     let table : c.in-Ok.volume.store.table ≡ c.args.table = ap (λ o. o.table) made.0 ∙ c.new.ensures.table in
     let names : c.in-Ok.volume.store.names ≡ c.args.names = ap (λ o. o.names) made.0 ∙ c.new.ensures.names in
     record {
@@ -35,5 +35,4 @@ returns-in-Ok-clause-at g c objects numbers stands tells hashes sound worn shown
 
 pub returns-in-Err-clause-given_back : goal.returns-in-Err-clause-given_back
 returns-in-Err-clause-given_back g c =
-    let state = g.P.Pages.state in
-    c.into_pages.ensures ∙ ap (λ o. state o.pages) c.in-Err.ensures.given_back ∙ c.new.ensures.pages
+    c.into_pages.ensures ∙ ap (λ o. o.pages) c.in-Err.ensures.given_back ∙ c.new.ensures.pages

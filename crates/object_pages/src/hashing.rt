@@ -6,8 +6,8 @@ ghost use Rattle.posix_profile.specs.State.{Objects};
 ghost use Rattle.pages.specs.Changes.{AreSized};
 ghost use Rattle.pages.specs.Maps.{changed};
 ghost use Rattle.directories.specs.Hashing.{HoldsMore};
-ghost use Rattle.object_pages.specs.Holding.{HoldsIn, HoldsObjects};
-ghost use Rattle.object_pages.specs.Naming.{HasNames, WritesNames};
+ghost use Rattle.object_pages.specs.Holding.{HoldsObjects};
+ghost use Rattle.object_pages.specs.Naming.{HasNames, HoldsNamed, WritesNames};
 
 use directories::hash_change;
 use name_index::NameIndex;
@@ -23,7 +23,7 @@ pub fn hash_names<P: Pages>(
 ) -> Result<(), AllocError>
     requires { AreSized change.now.pages.items (P.state pages.now).page_bytes }
     ensures kept { HoldsMore names.old names.new }
-    ensures hashes { (z : Sizes) (old new : Objects) → HoldsIn (P.state pages.now) z old → HasNames names.old z (P.state pages.now).present old → WritesNames z change.now old new
+    ensures hashes { (z : Sizes) (old new : Objects) → HoldsNamed names.old (P.state pages.now) z old → WritesNames z change.now old new
         → HoldsObjects z (changed change.now (P.state pages.now).present) new → IsSizes z → fits z new ≡ true
         → OnOk result (HasNames names.new z (changed change.now (P.state pages.now).present) new) }
 {

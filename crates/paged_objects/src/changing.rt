@@ -25,7 +25,7 @@ use crate::dropping::drop_names;
 use crate::fault::fault_of;
 use directories::{LeftSlot, left_slot};
 use name_index::NameIndex;
-use object_pages::{find_among, hash_names, plan_among};
+use object_pages::{find, hash_names, plan};
 use object_store::ObjectChange;
 use object_table::ObjectTable;
 use pages::{Change, Cut, PageStore};
@@ -62,7 +62,7 @@ fn find_object<P: PageStore>(
     ensures fault { (z : Sizes) (objects : Objects) → HasNamed names.now z (P.state pages.old) objects → IsDirectory objects directory
         → IfErr result (ReadFailsBy (P.state pages.new)) }
 {
-    match find_among(names, pages, directory, name) {
+    match find(names, pages, directory, name) {
         Ok(found) => Ok(found),
         Err(fault) => Err(fault_of(fault)),
     }
@@ -131,7 +131,7 @@ fn plan_named<P: PageStore>(
     ensures fault { (z : Sizes) (objects : Objects) → HasNamed names.old z (P.state pages.old) objects → CanMake z objects change.now → new ≡ new_number objects
         → IfErr result (ReadFailsBy (P.state pages.new)) }
 {
-    match plan_among(names, pages, alloc, change, new) {
+    match plan(names, pages, alloc, change, new) {
         Ok(planned) => {
             hash_names(names, pages, &planned)?;
             Ok(planned)

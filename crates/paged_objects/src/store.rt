@@ -104,7 +104,7 @@ impl<P: PageStore> ObjectStore for PagedObjects<P> {
     }
 
     fn find(&mut self, directory: u64, name: &[u8]) -> Result<Option<u64>, StoreFault> {
-        match object_pages::find_among(&self.names, &mut self.pages, directory, name) {
+        match object_pages::find(&self.names, &mut self.pages, directory, name) {
             Ok(found) => Ok(found),
             Err(fault) => Err(fault_of(fault)),
         }

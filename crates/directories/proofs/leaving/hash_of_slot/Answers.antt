@@ -5,8 +5,8 @@ use Rattle.page_tags.specs.Slots.{Entry}
 use Rattle.page_tags.specs.laws.Slot.{same_slot}
 use Rattle.directories.proofs.leaving.hash_of_slot.Goals as goal
 
-pub returns : goal.returns
-returns c = λ e tree bytes.
+pub returns-clause-hash : goal.returns-clause-hash
+returns-clause-hash c = λ e tree bytes.
     let decoded = c.in_ok-slot.ensures.found in
     let same : e ≡ entry_of c.in_ok-slot.slot = same_slot e (entry_of c.in_ok-slot.slot) tree.slot decoded.0.slot (sym bytes ∙ decoded.1) in
     ap (λ (x : Entry). fnv1a x.name) same ∙ sym c.name_hash.ensures

@@ -18,7 +18,7 @@ use Rattle.directories.proofs.Held.{asks_both, asks_first}
 use Rattle.directories.proofs.Results.{memory_room}
 use Rattle.directories.proofs.Renamed.{named_later, then_in, spare_then, stands_in}
 use Rattle.directories.proofs.Sought.{dir, was_named}
-use Rattle.directories.proofs.renaming.rename_within_among.Goals as goal
+use Rattle.directories.proofs.renaming.rename_within.Goals as goal
 
 pub returns-in_err-sought-clause-asked : goal.returns-in_err-sought-clause-asked
 returns-in_err-sought-clause-asked g c =

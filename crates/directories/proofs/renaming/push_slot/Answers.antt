@@ -6,7 +6,7 @@ use Rattle.pages.specs.State.{PagesState}
 use Rattle.directories.specs.Writes.{HasHead, KeepsSlots}
 use Rattle.directories.specs.declared.head.DirectoryHead.{DirectoryHead}
 use Rattle.directories.proofs.Results.{on_ok, on_err}
-use Rattle.directories.proofs.moving.push_slot.Goals as goal
+use Rattle.directories.proofs.renaming.push_slot.Goals as goal
 
 pub returns-clause-pushes : goal.returns-clause-pushes
 returns-clause-pushes g c = λ sound z size.

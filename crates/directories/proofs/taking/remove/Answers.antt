@@ -1,6 +1,6 @@
 use Rattle.std.proofs.lemmas.Result.{err_from_is_err_and}
 use Rattle.directories.proofs.Sought.{was_named}
-use Rattle.directories.proofs.taking.remove_among.Goals as goal
+use Rattle.directories.proofs.taking.remove.Goals as goal
 
 pub returns-in_err-taken-clause-fault : goal.returns-in_err-taken-clause-fault
 returns-in_err-taken-clause-fault g c = λ z moment entries d.

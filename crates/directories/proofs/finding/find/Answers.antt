@@ -3,7 +3,7 @@ use Rattle.std.proofs.lemmas.Result.{err_from_is_err_and}
 use Rattle.std.specs.FinMap as map
 use Rattle.directories.proofs.Lists.{leads}
 use Rattle.directories.proofs.Sought.{tells_some, tells_none}
-use Rattle.directories.proofs.finding.find_among.Goals as goal
+use Rattle.directories.proofs.finding.find.Goals as goal
 
 pub returns-in_err-sought-clause-fault : goal.returns-in_err-sought-clause-fault
 returns-in_err-sought-clause-fault g c = λ z moment entries d.

@@ -2,8 +2,11 @@ pub mod Finding
 pub mod Pruning
 pub mod Answering
 pub mod Covering
+pub mod Lent
+pub mod Parting
 pub mod Shown
 pub mod Standing
+pub mod Entering
 pub mod PagesMade
 pub mod Giving
 pub mod Reasons

@@ -56,11 +56,11 @@ carried_as p d spare m device spares carried =
 module _ (keeps : ℕ → ℕ → Bool) (d : Device) (t : Table) (x : Index) (n : Numbers) (spare : ℕ) (pruned : IsPruned keeps d t x n) where
   -- what is present without a buffer is what is kept
   present_kept : (o c : ℕ) → present_data x [] d.flash o c ≡ kept_data x d.flash o c
-  present_kept o c = ap (data_by d.flash []) (pruned.shown o c) ∙ data_kept d.flash (kept_pages x o c)
+  present_kept o c = ap (data_by d.flash []) (pruned.tables.shown o c) ∙ data_kept d.flash (kept_pages x o c)
 
   module _ (fits : AreFitting t) (room : HasRoomOn d t spare) (can : CanBeWritten d n spare) where
     pub ready : IsReady d t
-    ready = pruned.ready can.0
+    ready = pruned.tables.ready can.0
 
     pub few : bad_count t ≤ spare
     few = let same : bad_on d ≡ bad_count t = same_bad_blocks d t ready in let le = can.1 in omega (arith, same, le)
@@ -73,7 +73,7 @@ module _ (keeps : ℕ → ℕ → Bool) (d : Device) (t : Table) (x : Index) (n 
         let same : bad_on d ≡ bad_count t = same_bad_blocks d t ready in
         let enough : 1 + spare ≤ unkept_count (marked d.flash t) + bad_on d = room can.1 in
         let unkept : unkept_count (marked d.flash t) ≡ unkept_count t = same_unkept_count t (marked d.flash t) counts in
-        let closed : free_count t ≡ unkept_count t = free_where_closed t pruned.closed in
+        let closed : free_count t ≡ unkept_count t = free_where_closed t pruned.tables.closed in
         omega (arith, same, enough, unkept, closed)
 
     tables : TablesAgree spare t x
@@ -84,18 +84,18 @@ module _ (keeps : ℕ → ℕ → Bool) (d : Device) (t : Table) (x : Index) (n 
 
     module _ (none : (b : ℕ) → kept_in x b ≡ 0 → HoldsNone (kept_pages x) b) where
       held : AreHeld t x
-      held = are_held t x none pruned.counts
+      held = are_held t x none pruned.tables.counts
 
       carried : d.honest ≡ true → IsCarried d spare (kept_data x d.flash)
       carried honest = record {
-        newest = kept_newest d.flash x (pruned.newest honest);
+        newest = kept_newest d.flash x (pruned.tables.newest honest);
         free = λ left. leaves_fewer d.geometry d.flash spare (IsKept (kept_pages x)) (HasPage (kept_data x d.flash)) (λ o c (xs, is). kept_of_data d.flash xs (kept_pages x o c) is)
-            (leaves_unkept spare d t x ready tables held (pruned.newest honest));
+            (leaves_unkept spare d t x ready tables held (pruned.tables.newest honest));
       }
 
       next_is : next_numbers t ≡ next_after n
       next_is =
-          ap (λ g. record { group = g; seq = t.next_seq }) (pruned.group can.0) ∙ ap (λ s. record { group = n.group + 1; seq = s }) (pruned.seq can.0)
+          ap (λ g. record { group = g; seq = t.next_seq }) (pruned.tables.group can.0) ∙ ap (λ s. record { group = n.group + 1; seq = s }) (pruned.tables.seq can.0)
 
       -- the pages of a new store
       pub store_pages : (e : Device) (y : Index) (u : Table) (buffer : Buffer) (cache : PageCache) (scratch : List ℕ) (found : Found) (spare' : ℕ) (broken refused : Bool) → e ≡ d
@@ -130,12 +130,12 @@ module _ (keeps : ℕ → ℕ → Bool) (d : Device) (t : Table) (x : Index) (n 
     -- where numbers are left on a worn device, too many blocks are bad
     too_many_bad : d.honest ≡ true → HasNumbersLeft d.flash → spare < bad_on d
     too_many_bad honest left =
-        let least = (pruned.numbers honest).least (record { version = number_limit; group = number_limit; seq = number_limit }) left in
+        let least = (pruned.tables.numbers honest).least (record { version = number_limit; group = number_limit; seq = number_limit }) left in
         worn (omega (arith, least.1)) (omega (arith, least.2))
 
     worn_carried : d.honest ≡ true → IsCarried d spare (kept_data x d.flash)
     worn_carried honest = record {
-      newest = kept_newest d.flash x (pruned.newest honest);
+      newest = kept_newest d.flash x (pruned.tables.newest honest);
       free = λ left. none_free (HasPage (kept_data x d.flash)) (too_many_bad honest left);
     }
 
@@ -164,4 +164,4 @@ module _ (keeps : ℕ → ℕ → Bool) (d : Device) (t : Table) (x : Index) (n 
     worn_carries e y device index honest =
         subst (λ (k : Device). k.honest ≡ true → Carries k.flash (known_pages k.honest (kept_data y k.flash))) (sym device)
         (λ is. subst (λ h. Carries d.flash (known_pages h (kept_data y d.flash))) (sym is)
-        (subst (λ i. Carries d.flash (kept_data i d.flash)) (sym index) (kept_newest d.flash x (pruned.newest is)))) honest
+        (subst (λ i. Carries d.flash (kept_data i d.flash)) (sym index) (kept_newest d.flash x (pruned.tables.newest is)))) honest

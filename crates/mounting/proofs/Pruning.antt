@@ -1,5 +1,5 @@
 -- The tables once all pages but those of some keys are forgotten.
-use Rattle.std.specs.Prelude.{◌≡◌, ◌<◌, ◌≤◌, ℕ, Bool, true, false, length, Some, None, slice_get}
+use Rattle.std.specs.Prelude.{◌≡◌, ◌<◌, ◌≤◌, ℕ, Bool, true, false, length, Option, Some, None, slice_get}
 use Rattle.std.proofs.Common.{sym, ◌∙◌, ap, subst, inl, inr, arith}
 use Rattle.std.proofs.lemmas.Bool.{cases_Bool}
 use Rattle.volume_terms.specs.laws.List.{slice_get_there}
@@ -10,7 +10,7 @@ use Rattle.nand_model.specs.Changes.{OnlyReads}
 use Rattle.nand_model.specs.declared.geometry.Geometry.{Geometry}
 use Rattle.page_tags.specs.declared.tag.Tag.{Tag}
 use Rattle.flash_tree.specs.Groups.{HasTag}
-use Rattle.flash_tree.specs.Newest.{IsNewest, Numbers, AreGreatest}
+use Rattle.flash_tree.specs.Newest.{Spot, IsNewest, Numbers, AreGreatest}
 use Rattle.flash_tree.specs.laws.Newest.{one_tag}
 use Rattle.flash_tree.specs.laws.Place.{same_flash}
 use Rattle.block_state.specs.Table.{Table}
@@ -22,14 +22,20 @@ use Rattle.chunk_index.specs.declared.form.KeptKey.{KeptKey}
 use Rattle.chunk_index.specs.declared.form.KeptPage.{KeptPage}
 use Rattle.chunk_index.specs.declared.form.Present.TheVariants as presents
 use Rattle.chunk_index.specs.declared.index.Index.{Index}
+use Rattle.chunk_index.specs.Kept.{HoldsNone}
 use Rattle.transactions.specs.Ready.{IsReady}
+use Rattle.bad_blocks.specs.Taking.{LiesApart}
 use Rattle.bad_blocks.specs.Standing.{IsKeptAt, AreKept, MayLie}
-use Rattle.newest_pages.specs.Opened.{IsOpened, AreLeft}
+use Rattle.newest_pages.specs.Opened.{IsOpened, IsOpenedBy, AreLeft, kept_at}
 use Rattle.mounting.specs.Marked.{AreFitting}
-use Rattle.mounting.specs.Tables.{IsPruned}
+use Rattle.mounting.specs.Tables.{KeepsOnly, IsPruned}
 
-module _ (keeps : ℕ → ℕ → Bool) (a b : Device) (t u : Table) (x y : Index) (n : Numbers) (reads : OnlyReads a b) (opened : IsOpened a t x n) (retains : Retains keeps x y)
-    (counts : CountsAgree u y) (recounts : Recounts (kept_in x) (kept_in y) t u) where
+-- what is retained is only what a test keeps
+pub keeps_only : (keeps : ℕ → ℕ → Bool) (x y : Index) → Retains keeps x y → KeepsOnly keeps x y
+keeps_only keeps x y retains = record { same = retains.kept; none = retains.kept_no_more }
+
+module _ (keeps : ℕ → ℕ → Bool) (noted : Option ℕ) (a b : Device) (t u : Table) (x y : Index) (n : Numbers) (reads : OnlyReads a b) (opened : IsOpenedBy noted a t x n) (retains : Retains keeps x y)
+    (counts : CountsAgree u y) (recounts : Recounts (kept_in x) (kept_in y) t u) (none : (b : ℕ) → kept_in x b ≡ 0 → HoldsNone (kept_pages x) b) (zero : (b : ℕ) → HoldsNone (kept_pages y) b → kept_in y b ≡ 0) where
   was_honest : b.honest ≡ true → a.honest ≡ true
   was_honest honest = sym reads.lasts.honest ∙ honest
 
@@ -45,45 +51,55 @@ module _ (keeps : ℕ → ℕ → Bool) (a b : Device) (t u : Table) (x y : Inde
 
   shown : (o c : ℕ) → present y o c ≡ as_kept (kept_pages y o c)
   shown o c = elim (cases_Bool (keeps o c)) [
-    | inl stays ↦ retains.present o c stays ∙ opened.tables.shown o c ∙ sym (ap as_kept (retains.kept o c stays))
+    | inl stays ↦ retains.present o c stays ∙ opened.shown o c ∙ sym (ap as_kept (retains.kept o c stays))
     | inr goes ↦ retains.present_no_more o c goes ∙ sym (ap as_kept (retains.kept_no_more o c goes))
   ]
 
   unbuffered : (o c i : ℕ) → present y o c ≡ presents.InBuffer i → ⊥
   unbuffered o c i is = elim (cases_Bool (keeps o c)) [
-    | inl stays ↦ opened.tables.unbuffered o c i (sym (retains.present o c stays) ∙ is)
+    | inl stays ↦ opened.unbuffered o c i (sym (retains.present o c stays) ∙ is)
     | inr goes ↦ let two : presents.Absent ≡ presents.InBuffer i = sym (retains.present_no_more o c goes) ∙ is in absurd cc
   ]
 
   closed : u.open_block ≡ None
-  closed = recounts.open_block ∙ opened.tables.closed
+  closed = recounts.open_block ∙ opened.closed
 
-  checkpoint : u.checkpoint ≡ None
-  checkpoint = recounts.checkpoint ∙ opened.tables.noted
+  -- the block that is noted holds no kept page still
+  apart : LiesApart u
+  apart c at =
+      let was : t.checkpoint ≡ Some c = sym recounts.checkpoint ∙ at in
+      let held : kept_in x c ≡ 0 = sym (opened.counts.counts c) ∙ opened.apart c was in
+      counts.counts c ∙ zero c (λ o k p is. none c held o k p (was_kept o k p is))
 
   geometry : u.geometry ≡ b.geometry
-  geometry = recounts.geometry ∙ opened.tables.geometry ∙ sym reads.lasts.geometry
+  geometry = recounts.geometry ∙ opened.geometry ∙ sym reads.lasts.geometry
 
   ready : AreLeft n → IsReady b u
   ready left =
-      let was = opened.tables.ready left in
+      let was = opened.ready left in
       record {
         geometry = geometry;
         marks = λ k. recounts.bad k ∙ was.marks k ∙ sym (ap (λ (f : ℕ → Bool). f k) reads.bad);
         open_block = λ o is. absurd (let two : None ≡ Some o = sym closed ∙ is in cc);
-        waits = λ c is. absurd (let two : None ≡ Some c = sym checkpoint ∙ is in cc);
+        waits = λ c is.
+            let waiting = was.waits c (sym recounts.checkpoint ∙ is) in
+            record {
+              within = subst (λ (g : Geometry). c < g.blocks) (sym reads.lasts.geometry) waiting.within;
+              good = ap (λ (f : ℕ → Bool). f c) reads.bad ∙ waiting.good;
+              closed = closed;
+            };
         numbers = (subst (λ k. 1 ≤ k) (sym recounts.next_group) was.numbers.0, subst (λ k. 1 ≤ k) (sym recounts.next_seq) was.numbers.1);
         below = below;
       } where
         below : b.honest ≡ true → (k p : ℕ) (tag : Tag) → b.flash.bad k ≡ false → HasTag b.flash k p tag → (tag.version < u.next_group) × (tag.group < u.next_group) × (tag.seq < u.next_seq)
         below honest k p tag good has =
             let same : b.flash ≡ a.flash = flash_is honest in
-            let before = (opened.tables.ready left).below (was_honest honest) k p tag (sym (ap (λ (f : Flash). f.bad k) same) ∙ good) (subst (λ (f : Flash). HasTag f k p tag) same has) in
+            let before = (opened.ready left).below (was_honest honest) k p tag (sym (ap (λ (f : Flash). f.bad k) same) ∙ good) (subst (λ (f : Flash). HasTag f k p tag) same has) in
             (subst (λ m. tag.version < m) (sym recounts.next_group) before.0, subst (λ m. tag.group < m) (sym recounts.next_group) before.1, subst (λ m. tag.seq < m) (sym recounts.next_seq) before.2)
 
   lie : AreLeft n → (o c : ℕ) (p : KeptPage) → kept_pages y o c ≡ Some p → MayLie u o c p
   lie left o c p is =
-      let was = opened.tables.lie left o c p (was_kept o c p is) in
+      let was = opened.lie left o c p (was_kept o c p is) in
       record {
         block = subst (λ (g : Geometry). p.block < g.blocks) (sym recounts.geometry) was.block;
         page = subst (λ (g : Geometry). p.page < g.pages) (sym recounts.geometry) was.page;
@@ -94,24 +110,44 @@ module _ (keeps : ℕ → ℕ → Bool) (a b : Device) (t u : Table) (x y : Inde
         };
       }
 
-  pub pruned : IsPruned keeps b u y n
-  pruned = record {
+  -- the tables are still those of a device that was opened
+  pub still_opened : IsOpenedBy noted b u y n
+  still_opened = record {
     counts = counts;
     geometry = geometry;
+    good = λ k good. recounts.bad k ∙ opened.good k (sym (ap (λ (f : ℕ → Bool). f k) reads.bad) ∙ good);
     closed = closed;
-    checkpoint = checkpoint;
+    noted = recounts.checkpoint ∙ opened.noted;
+    apart = apart;
     shown = shown;
     unbuffered = unbuffered;
-    within = λ o c p is. subst (λ (g : Geometry). (p.block < g.blocks) × (p.page < g.pages)) (sym reads.lasts.geometry) (opened.tables.within o c p (was_kept o c p is));
-    newest = λ honest o c p is. subst (λ (f : Flash). IsKeptAt f o c p) (sym (flash_is honest)) (opened.tables.newest (was_honest honest) o c p (was_kept o c p is));
-    all = λ honest o c s stays newest. retains.kept o c stays ∙ opened.all (was_honest honest) o c s (subst (λ (f : Flash). IsNewest f o c s) (flash_is honest) newest);
-    others = retains.kept_no_more;
-    numbers = λ honest. subst (λ (f : Flash). AreGreatest f n) (sym (flash_is honest)) (opened.tables.numbers (was_honest honest));
+    within = λ o c p is. subst (λ (g : Geometry). (p.block < g.blocks) × (p.page < g.pages)) (sym reads.lasts.geometry) (opened.within o c p (was_kept o c p is));
+    newest = λ honest o c p is. subst (λ (f : Flash). IsKeptAt f o c p) (sym (flash_is honest)) (opened.newest (was_honest honest) o c p (was_kept o c p is));
+    numbers = λ honest. subst (λ (f : Flash). AreGreatest f n) (sym (flash_is honest)) (opened.numbers (was_honest honest));
     ready = ready;
-    group = λ left. recounts.next_group ∙ opened.tables.group left;
-    seq = λ left. recounts.next_seq ∙ opened.tables.seq left;
+    group = λ left. recounts.next_group ∙ opened.group left;
+    seq = λ left. recounts.next_seq ∙ opened.seq left;
     lie = lie;
   }
+
+-- the tables by a block that is noted are those by what they note
+as_noted : (noted : Option ℕ) (d : Device) (t : Table) (x : Index) (n : Numbers) → IsOpenedBy noted d t x n → IsOpenedBy t.checkpoint d t x n
+as_noted noted d t x n opened = subst (λ k. IsOpenedBy k d t x n) (sym opened.noted) opened
+
+pub pruned_by : (keeps : ℕ → ℕ → Bool) (noted : Option ℕ) (d : Device) (t : Table) (x y : Index) (n : Numbers) → IsOpenedBy noted d t y n → KeepsOnly keeps x y
+    → (d.honest ≡ true → (o c : ℕ) (s : Spot) → keeps o c ≡ true → IsNewest d.flash o c s → kept_pages x o c ≡ Some (kept_at s)) → IsPruned keeps d t y n
+pruned_by keeps noted d t x y n opened only all = record {
+  tables = as_noted noted d t y n opened;
+  all = λ honest o c s stays newest. only.same o c stays ∙ all honest o c s stays newest;
+  others = only.none;
+}
+
+-- after a scan of which the index kept all
+pub scan_pruned : (keeps : ℕ → ℕ → Bool) (a b : Device) (t u : Table) (x y : Index) (n : Numbers) → OnlyReads a b → IsOpened a t x n → IsOpenedBy None b u y n → KeepsOnly keeps x y → IsPruned keeps b u y n
+scan_pruned keeps a b t u x y n reads scanned opened only = pruned_by keeps None b u x y n opened only
+    (λ honest o c s stays newest.
+    let was : a.honest ≡ true = sym reads.lasts.honest ∙ honest in
+    scanned.all was o c s (subst (λ (f : Flash). IsNewest f o c s) (same_flash a b reads was) newest))
 
 -- the lists of the keys that are kept in a block are whole
 pub record ListsAreWhole : Type 0 where
@@ -154,5 +190,5 @@ module _ (lists : ListsAreWhole) (pages : ℕ) (flash : Flash) (x : Index) (kept
 
 pub fitting : (lists : ListsAreWhole) (keeps : ℕ → ℕ → Bool) (d : Device) (t : Table) (x : Index) (n : Numbers) → IsPruned keeps d t x n → d.honest ≡ true → AreFitting t
 fitting lists keeps d t x n pruned honest b =
-    let few = few_kept lists t.geometry.pages d.flash x (pruned.newest honest) (λ o c p is. subst (λ (g : Geometry). p.page < g.pages) (sym pruned.geometry) (pruned.within o c p is).1) b in
-    omega (arith, few, pruned.counts.counts b)
+    let few = few_kept lists t.geometry.pages d.flash x (pruned.tables.newest honest) (λ o c p is. subst (λ (g : Geometry). p.page < g.pages) (sym pruned.tables.geometry) (pruned.tables.within o c p is).1) b in
+    omega (arith, few, pruned.tables.counts.counts b)

@@ -104,7 +104,7 @@ module _ (laws : TreeLaws) (d : Device) (t : Table) (x : Index) (n : Numbers) (s
     go (Some xs) b is told = held xs is ∙ sym is
     go None None is told = told ∙ sym is
     go None (Some ys) is told =
-        let there : m o c ≡ Some ys = (on.newest o c ys).1 (kept_newest d.flash x (pruned.newest honest) o c ys told) in
+        let there : m o c ≡ Some ys = (on.newest o c ys).1 (kept_newest d.flash x (pruned.tables.newest honest) o c ys told) in
         let two : None ≡ Some ys = sym is ∙ there in
         absurd cc
 
@@ -112,7 +112,7 @@ module _ (laws : TreeLaws) (d : Device) (t : Table) (x : Index) (n : Numbers) (s
   goes o c not_kept = ap (option_and_then (data_at d.flash)) (pruned.others o c not_kept)
 
   lies : LieNewest d.flash (kept_pages x)
-  lies o c p is = let at = pruned.newest honest o c p is in (record { block = p.block; page = p.page; tag = at.tag }, at.newest, refl)
+  lies o c p is = let at = pruned.tables.newest honest o c p is in (record { block = p.block; page = p.page; tag = at.tag }, at.newest, refl)
 
   pub shows : (objects : Objects) × Shows z (has m) objects × Shows z (HasNewest d.flash) objects
   shows = laws.shown d.geometry d.flash m spare (objects_listed tree) within sized on.newest on.through.volume on.through.tree_is.through on.through.tree_is.once
@@ -130,16 +130,16 @@ module _ (laws : TreeLaws) (d : Device) (t : Table) (x : Index) (n : Numbers) (s
     only = laws.kept d.flash z m objects (keeps_key tree) (kept_pages x) footprint lies (λ o c s keeps newest. (kept_at s, pruned.all honest o c s keeps newest)) pruned.others
 
     counts : CountsAgree (marked d.flash t) x
-    counts = record { counts = pruned.counts.counts; within = pruned.counts.within }
+    counts = record { counts = pruned.tables.counts.counts; within = pruned.tables.counts.within }
 
     marks : HasMarks d.flash (marked d.flash t)
     marks b lt = refl
 
     bad_is : bad_count (marked d.flash t) ≡ bad_on d
-    bad_is = laws.bad (marked d.flash t) d.flash marks ∙ ap (λ (g : Geometry). bad_blocks g d.flash) pruned.geometry
+    bad_is = laws.bad (marked d.flash t) d.flash marks ∙ ap (λ (g : Geometry). bad_blocks g d.flash) pruned.tables.geometry
 
     pub answers_room : charge z objects ≤ capacity z → HasRoomOn d t spare → Answers d.geometry d.flash (IsTreeOf spare objects)
-    answers_room fits room = laws.room d.geometry d.flash m spare objects x (marked d.flash t) on.newest on.through.volume shown pruned.geometry counts marks only fits
+    answers_room fits room = laws.room d.geometry d.flash m spare objects x (marked d.flash t) on.newest on.through.volume shown pruned.tables.geometry counts marks only fits
         (λ few. let enough = room (omega (arith, few, bad_is)) in omega (arith, enough, bad_is))
 
     pub answers_full : (charge z objects ≤ capacity z → ⊥) → Answers d.geometry d.flash (IsWrong IsDamaged)
@@ -152,7 +152,7 @@ module _ (laws : TreeLaws) (d : Device) (t : Table) (x : Index) (n : Numbers) (s
     answers_scarce none = elim (cases_lt spare (bad_count (marked d.flash t))) [
       | inl many ↦ absurd (none (λ few. absurd (omega (arith, few, many, bad_is))))
       | inr few ↦ elim (cases_lt (unkept_count (marked d.flash t) + bad_count (marked d.flash t)) (1 + spare)) [
-        | inl lt ↦ laws.scarce d.geometry d.flash m spare objects x (marked d.flash t) on.newest on.through.volume shown pruned.geometry counts marks only few lt
+        | inl lt ↦ laws.scarce d.geometry d.flash m spare objects x (marked d.flash t) on.newest on.through.volume shown pruned.tables.geometry counts marks only few lt
         | inr ge ↦ absurd (none (λ f. omega (arith, ge, bad_is)))
       ]
     ]

@@ -24,12 +24,12 @@ use Rattle.mounting.specs.Tables.{IsPruned}
 pub tables_pruned : (keeps : ℕ → ℕ → Bool) (spare : ℕ) (d : Device) (t : Table) (x : Index) (n : Numbers) → IsPruned keeps d t x n → AreLeft n → AreFitting t → HasFreeBlocks t spare
     → TablesAgree spare t x
 tables_pruned keeps spare d t x n pruned left fits free = record {
-  counts = pruned.counts;
-  within = pruned.lie left;
+  counts = pruned.tables.counts;
+  within = pruned.tables.lie left;
   fits = fits;
-  written = λ o at. let both : None ≡ Some o = sym pruned.closed ∙ at in absurd cc;
-  unkept = let same = free_where_closed t pruned.closed in omega (arith, same, free);
-  apart = λ c at. let both : None ≡ Some c = sym pruned.checkpoint ∙ at in absurd cc;
+  written = λ o at. let both : None ≡ Some o = sym pruned.tables.closed ∙ at in absurd cc;
+  unkept = let same = free_where_closed t pruned.tables.closed in omega (arith, same, free);
+  apart = pruned.tables.apart;
 }
 
 -- and a store can stand on them
@@ -37,9 +37,9 @@ pub stands_pruned : (keeps : ℕ → ℕ → Bool) (spare : ℕ) (d : Device) (t
     → (d.honest ≡ true → KeepsOrdinary x) → Stands spare d t x
 stands_pruned keeps spare d t x n pruned left fits free ordinary = record {
   tables = tables_pruned keeps spare d t x n pruned left fits free;
-  newest = λ honest power. pruned.newest honest;
+  newest = λ honest power. pruned.tables.newest honest;
   ordinary = ordinary;
-  limits = (omega (arith, pruned.group left, left.0), omega (arith, pruned.seq left, left.1));
+  limits = (omega (arith, pruned.tables.group left, left.0), omega (arith, pruned.tables.seq left, left.1));
 }
 
 -- The kept pages are of the objects of a tree, and none of these has the number of checkpoints.

@@ -1,6 +1,9 @@
+pub mod Lending
 pub mod Marked
 pub mod Tables
 pub mod Trees
 pub mod Faults
 pub mod Mounted
+pub mod Named
 pub mod Made
+pub mod laws

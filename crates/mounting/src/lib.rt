@@ -1,6 +1,7 @@
 //! The mount of a device: its newest pages, the tree that they show, and whether a volume can go on with it.
 #![tactic(auto)]
 
+mod entries;
 mod fault;
 mod going_on;
 mod keys;
@@ -11,7 +12,9 @@ mod naming;
 mod prune;
 mod reader;
 mod reading;
+mod scanned;
 mod scanning;
+mod tagged;
 mod tree;
 mod tree_on;
 

@@ -1,21 +1,21 @@
 // The tables of a tree, without the pages of anything else.
-ghost use Rattle.std.specs.Prelude.{◌≡◌, ◌↔◌, ◌<◌, ◌≤◌, ◌+◌, ℕ, IsTrue};
+ghost use Rattle.std.specs.Prelude.{◌≡◌, ◌↔◌, ◌<◌, ◌≤◌, ◌+◌, ℕ, Option, IsTrue};
 ghost use Rattle.nand_model.specs.Calls.{Device};
 ghost use Rattle.nand_model.specs.Changes.{OnlyReads};
 ghost use Rattle.flash_tree.specs.Newest.{Numbers};
 ghost use Rattle.block_state.specs.Kept.{unkept_count};
 ghost use Rattle.block_state.specs.TableOf.{table};
 ghost use Rattle.chunk_index.specs.Maps.{CountsAgree};
-ghost use Rattle.newest_pages.specs.Opened.{IsOpened};
+ghost use Rattle.newest_pages.specs.Opened.{IsOpenedBy};
 ghost use Rattle.tree_walk.specs.Trees.{keeps_key};
 ghost use Rattle.pages.specs.Stores.{bad_on};
 ghost use Rattle.mounting.specs.Marked.{marked};
-ghost use Rattle.mounting.specs.Tables.{IsPruned};
+ghost use Rattle.mounting.specs.Tables.{KeepsOnly};
 
 use crate::keys::TreeKeys;
 use crate::marks::count_unkept;
 use block_state::Blocks;
-use chunk_index::Index;
+use chunk_index::{Index, the_counts_are_of_the_keys};
 use flash_tree::count_bad;
 use nand_model::Nand;
 use tree_walk::Tree;
@@ -23,8 +23,11 @@ use tree_walk::Tree;
 /// Forgets all pages but those that a tree looks up.
 pub(crate) fn prune(tree: &Tree, index: &mut Index, blocks: &mut Blocks)
     requires { CountsAgree (table blocks.old) index.old }
-    ensures { (a b : Device) (n : Numbers) → OnlyReads a b → IsOpened a (table blocks.old) index.old n → IsPruned (keeps_key tree.now) b (table blocks.new) index.new n }
+    ensures opened { (noted : Option ℕ) (a b : Device) (n : Numbers) → OnlyReads a b → IsOpenedBy noted a (table blocks.old) index.old n
+        → IsOpenedBy noted b (table blocks.new) index.new n }
+    ensures only { KeepsOnly (keeps_key tree.now) index.old index.new }
 {
+    the_counts_are_of_the_keys();
     index.retain(&TreeKeys { tree }, blocks);
 }
 

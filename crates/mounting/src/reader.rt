@@ -1,29 +1,34 @@
 // The newest pages of a device, over an index that stays.
-ghost use Rattle.std.specs.Prelude.{◌≡◌, ◌<◌, ℕ, length, true, Some, IsSome, IfOk, IfErr, OnOk, ◌≤◌, ◌+◌, ◌⊎◌, None};
+ghost use Rattle.std.specs.Prelude.{◌≡◌, ◌<◌, ◌&&◌, ℕ, Bool, length, true, Some, IfOk, IfErr, OnOk, ◌≤◌, ◌+◌, ◌⊎◌};
 ghost use Rattle.nand_model.specs.Changes.{OnlyReads};
 ghost use Rattle.chunk_index.specs.Maps.{kept_pages};
 ghost use Rattle.chunk_index.specs.declared.form.KeptPage.{KeptPage};
 ghost use Rattle.page_buffer.specs.Shown.{data_at};
-ghost use Rattle.newest_pages.specs.Newest.{seen};
+ghost use Rattle.bad_blocks.specs.Standing.{IsKeptAt};
+ghost use Rattle.mounting.specs.Lending.{LieWithin, TrustsKept, lent};
+ghost use Rattle.mounting.specs.laws.OneProof.{trusts_prop};
 
+use crate::tagged::read_tagged;
 use chunk_index::{Index, KeptPage};
 use flash_tree::Key;
 use nand_model::Nand;
-use page_buffer::read_kept;
 use pages::{KnownPages, Pages, Presence, has_power};
 use std::alloc::{AllocError, Global};
+use trusted_nand::Trust;
 use volume_terms::StoreFault;
 
-/// The kept pages of a device, which are read and not changed, over an index that is lent.
+/// The kept pages of a device, which are read and not changed, over an index that is lent. They are known where the index is
+/// trusted.
 #[derive(Drop)]
 pub(crate) struct LentPages<'a, N: Nand> {
     pub(crate) device: N,
     pub(crate) index: &'a Index,
     // The page that was found last.
     pub(crate) page: Vec<u8>,
+    pub(crate) trust: Trust,
     ghost size: { length page.items ≡ (N.state device).geometry.bytes },
-    ghost lie: { (o c : ℕ) (k : KeptPage) → kept_pages index.now o c ≡ Some k → (k.block < (N.state device).geometry.blocks) × (k.page < (N.state device).geometry.pages) },
-    ghost written: { (N.state device).honest ≡ true → (o c : ℕ) (k : KeptPage) → kept_pages index.now o c ≡ Some k → IsSome (data_at (N.state device).flash k) },
+    ghost lie: { LieWithin (N.state device) index.now },
+    ghost kept: { TrustsKept (N.state device) trust.told index.now } by { trusts_prop (N.state device) trust.told index.now },
 }
 
 impl<'a, N: Nand> LentPages<'a, N> {
@@ -33,10 +38,12 @@ impl<'a, N: Nand> LentPages<'a, N> {
         device: N,
         index: &'a Index,
     ) -> Result<LentPages<'a, N>, (N, AllocError)>
-        requires lie { (o c : ℕ) (k : KeptPage) → kept_pages index.now o c ≡ Some k → (k.block < (N.state device).geometry.blocks) × (k.page < (N.state device).geometry.pages) }
-        requires written { (N.state device).honest ≡ true → (o c : ℕ) (k : KeptPage) → kept_pages index.now o c ≡ Some k → IsSome (data_at (N.state device).flash k) }
+        ghost told: { Bool }
+        requires lie { LieWithin (N.state device) index.now }
+        requires kept { TrustsKept (N.state device) told index.now }
         ensures device { IfOk result (λ pages. N.state pages.device ≡ N.state device) }
         ensures index { IfOk result (λ pages. pages.index.now ≡ index.now) }
+        ensures trust { IfOk result (λ pages. pages.trust.told ≡ told) }
         ensures given_back { IfErr result (λ back. N.state back.0 ≡ N.state device) }
     {
         match vec![in alloc; 0u8; device.geometry().bytes() as usize] {
@@ -44,6 +51,7 @@ impl<'a, N: Nand> LentPages<'a, N> {
                 device,
                 index,
                 page,
+                trust: Trust::as_told(),
             }),
             Err(refused) => Err((device, refused)),
         }
@@ -56,24 +64,26 @@ impl<'a, N: Nand> LentPages<'a, N> {
         self.device
     }
 
-    /// Reads the page that is kept there.
-    fn read(&mut self, at: KeptPage) -> Result<Presence, StoreFault>
-        requires { (o : ℕ) × (c : ℕ) × (kept_pages self.old.index.now o c ≡ Some at) }
+    /// Reads the page of a key that is kept there.
+    fn read(&mut self, key: Key, at: KeptPage) -> Result<Presence, StoreFault>
+        requires { kept_pages self.old.index.now key.object key.chunk ≡ Some at }
         ensures reads { OnlyReads (N.state self.old.device) (N.state self.new.device) }
         ensures index { self.new.index.now ≡ self.old.index.now }
+        ensures trust { self.new.trust.told ≡ self.old.trust.told }
         ensures asked { (N.state self.new.device).reads ≤ (N.state self.old.device).reads + 1 }
         ensures power { OnOk result ((N.state self.new.device).gone ≡ (N.state self.old.device).gone) }
         ensures there { IfOk result (λ presence. presence ≡ Presence.Present) }
         ensures page { (N.state self.old.device).honest ≡ true → OnOk result (data_at (N.state self.old.device).flash at ≡ Some self.new.page.items) }
-        ensures fault { IfErr result (λ fault. (fault ≡ StoreFault.Device) × (((N.state self.new.device).gone ≡ true) ⊎ ((N.state self.old.device).honest ≡ true → data_at (N.state self.old.device).flash at ≡ None))) }
+        ensures fault { IfErr result (λ fault. (fault ≡ StoreFault.Device)
+            × (((N.state self.new.device).gone ≡ true) ⊎ ((N.state self.old.device).honest ≡ true → IsKeptAt (N.state self.old.device).flash key.object key.chunk at → ⊥))) }
     {
-        read_kept(&mut self.device, at, &mut self.page)?;
+        read_tagged(&mut self.device, key, at, &mut self.page)?;
         Ok(Presence::Present)
     }
 }
 
 impl<N: Nand> Pages for LentPages<'_, N> {
-    ghost state = { λ s. seen (N.state s.device) s.index.now s.page.items };
+    ghost state = { λ s. lent s.trust.told (N.state s.device) s.index.now s.page.items };
 
     ghost sized = { λ s. ((N.state s.device).geometry.least_bytes, (N.state s.device).geometry.most_bytes) };
 
@@ -83,7 +93,7 @@ impl<N: Nand> Pages for LentPages<'_, N> {
 
     fn find(&mut self, key: Key) -> Result<Presence, StoreFault> {
         match self.index.kept(key) {
-            Some(at) => self.read(at),
+            Some(at) => self.read(key, at),
             None => Ok(Presence::Absent),
         }
     }

@@ -1,5 +1,5 @@
-// The tree of a device that was scanned.
-ghost use Rattle.std.specs.Prelude.{◌≡◌, true, false, IfOk, IfErr};
+// The tree of a device whose newest pages an index keeps.
+ghost use Rattle.std.specs.Prelude.{◌≡◌, ◌⊎◌, ◌&&◌, Bool, true, false, IfOk, IfErr};
 ghost use Rattle.nand_model.specs.Changes.{OnlyReads};
 ghost use Rattle.flash_tree.specs.Mount.{sizes_of};
 ghost use Rattle.flash_tree.specs.Newest.{Numbers};
@@ -8,8 +8,10 @@ ghost use Rattle.page_buffer.specs.Shown.{kept_data};
 ghost use Rattle.pages.specs.Maps.{has};
 ghost use Rattle.newest_pages.specs.Opened.{IsOpened};
 ghost use Rattle.tree_walk.specs.Hashes.{CoversTree};
+ghost use Rattle.tree_walk.specs.declared.fault.RootFault.TheVariants as roots;
 ghost use Rattle.mounting.specs.Faults.{WhyNotMounted};
-ghost use Rattle.mounting.specs.Trees.{IsGoneThrough};
+ghost use Rattle.mounting.specs.Lending.{LieWithin, TrustsKept};
+ghost use Rattle.mounting.specs.Trees.{IsGoneThrough, TellsTree};
 
 use crate::fault::MountFault;
 use crate::naming::{tree_fault, unmounted};
@@ -20,9 +22,44 @@ use mount_answers::a_map_of_the_newest_pages_answers;
 use nand_model::Nand;
 use newest_pages::the_opened_pages_are_the_newest;
 use std::alloc::Global;
+use tree_walk::RootFault;
 
-/// Goes through the tree of a device whose newest pages an index keeps. The device is given back with the tree, or with the
-/// reason why there is none.
+/// Goes through the tree of the pages that an index keeps on a device. What is found is told of the device where the index is
+/// trusted. The device is given back.
+pub(crate) fn go_through<N: Nand>(
+    alloc: Global,
+    device: N,
+    index: &Index,
+) -> Result<(N, FoundTree), (N, RootFault)>
+    ghost told: { Bool }
+    requires lie { LieWithin (N.state device) index.now }
+    requires kept { TrustsKept (N.state device) told index.now }
+    ensures reads { IfOk result (λ read. OnlyReads (N.state device) (N.state read.0)) }
+    ensures power { (N.state device).gone ≡ false → IfOk result (λ read. (N.state read.0).gone ≡ false) }
+    ensures tree { ((N.state device).honest && told) ≡ true
+        → IfOk result (λ read. IsGoneThrough (N.state device).geometry (has (kept_data index.now (N.state device).flash)) read.1.spare read.1.tree) }
+    ensures names { ((N.state device).honest && told) ≡ true
+        → IfOk result (λ read. CoversTree read.1.names (sizes_of (N.state device).geometry read.1.spare) (kept_data index.now (N.state device).flash) read.1.tree) }
+    ensures back { IfErr result (λ failed. OnlyReads (N.state device) (N.state failed.0)) }
+    ensures fault { ((N.state device).honest && told) ≡ true
+        → IfErr result (λ failed. TellsTree (N.state device).geometry (has (kept_data index.now (N.state device).flash)) failed.1) }
+    ensures why { IfErr result (λ failed. failed.1 ≡ roots.Device → ((N.state failed.0).gone ≡ true) ⊎ (((N.state device).honest && told) ≡ false)) }
+{
+    let geometry = device.geometry();
+    let mut pages = match LentPages::new(alloc, device, index) {
+        Ok(pages) => pages,
+        Err((device, _)) => return Err((device, RootFault::NoMemory)),
+    };
+    let found = find_tree(alloc, &mut pages, geometry);
+    let device = pages.into_device();
+    match found {
+        Ok(tree) => Ok((device, tree)),
+        Err(fault) => Err((device, fault)),
+    }
+}
+
+/// Goes through the tree of a device that was scanned. The device is given back with the tree, or with the reason why there is
+/// none.
 pub(crate) fn read_tree<N: Nand>(
     alloc: Global,
     device: N,
@@ -40,15 +77,8 @@ pub(crate) fn read_tree<N: Nand>(
 {
     the_opened_pages_are_the_newest();
     a_map_of_the_newest_pages_answers();
-    let geometry = device.geometry();
-    let mut pages = match LentPages::new(alloc, device, index) {
-        Ok(pages) => pages,
-        Err((device, _)) => return Err(unmounted(device, MountFault::NoMemory)),
-    };
-    let found = find_tree(alloc, &mut pages, geometry);
-    let device = pages.into_device();
-    match found {
-        Ok(tree) => Ok((device, tree)),
-        Err(fault) => Err(unmounted(device, tree_fault(fault))),
+    match go_through(alloc, device, index) {
+        Ok(read) => Ok(read),
+        Err((device, fault)) => Err(unmounted(device, tree_fault(fault))),
     }
 }

@@ -1,22 +1,10 @@
-// A device whose tree is read, and whether a volume can go on with it.
-ghost use Rattle.std.specs.Prelude.{◌≡◌, true, false, IfOk, IfErr};
-ghost use Rattle.nand_model.specs.Changes.{OnlyReads};
-ghost use Rattle.flash_tree.specs.Places.{numbers_of};
-ghost use Rattle.block_state.specs.TableOf.{table};
-ghost use Rattle.mounting.specs.Faults.{WhyNotMounted};
-ghost use Rattle.mounting.specs.Mounted.{IsTreeRead, CoversNewest};
+// A device whose tree is read.
 
-use crate::fault::MountFault;
-use crate::prune::prune;
-use crate::reading::read_tree;
-use crate::scanning::scan;
 use block_state::Blocks;
 use chunk_index::Index;
 use flash_tree::TagNumbers;
 use name_index::NameIndex;
 use nand_model::Nand;
-use newest_pages::{Opened, the_opened_pages_are_the_newest};
-use std::alloc::Global;
 use tree_walk::Tree;
 
 /// A device whose tree was gone through: the tables of the tree's pages, the greatest numbers, how many blocks are to spare,
@@ -36,39 +24,4 @@ pub(crate) struct TreeOn<N: Nand> {
 pub(crate) struct NamedTree<N: Nand> {
     pub(crate) on: TreeOn<N>,
     pub(crate) names: NameIndex,
-}
-
-/// Scans a device and goes through its tree, whose pages alone are kept then.
-pub(crate) fn open_tree<N: Nand>(alloc: Global, device: N) -> Result<NamedTree<N>, (N, MountFault)>
-    ensures reads { IfOk result (λ named. OnlyReads (N.state device) (N.state named.on.device)) }
-    ensures power { (N.state device).gone ≡ false → IfOk result (λ named. (N.state named.on.device).gone ≡ false) }
-    ensures read { IfOk result (λ named. IsTreeRead (N.state named.on.device) (table named.on.blocks) named.on.index (numbers_of named.on.numbers)
-        named.on.spare named.on.tree) }
-    ensures names { (N.state device).honest ≡ true → IfOk result (λ named. CoversNewest named.names (N.state named.on.device) named.on.spare named.on.tree) }
-    ensures back { IfErr result (λ failed. OnlyReads (N.state device) (N.state failed.0)) }
-    ensures fault { IfErr result (λ failed. WhyNotMounted (N.state failed.0) failed.1) }
-{
-    the_opened_pages_are_the_newest();
-    let (device, opened) = scan(alloc, device)?;
-    let Opened {
-        blocks,
-        index,
-        numbers,
-    } = opened;
-    let (device, found) = read_tree(alloc, device, &index)?;
-    let mut blocks = blocks;
-    let mut index = index;
-    prune(&found.tree, &mut index, &mut blocks);
-    let on = TreeOn {
-        device,
-        blocks,
-        index,
-        numbers,
-        spare: found.spare,
-        tree: found.tree,
-    };
-    Ok(NamedTree {
-        on,
-        names: found.names,
-    })
 }

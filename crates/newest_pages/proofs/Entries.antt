@@ -27,6 +27,7 @@ use Rattle.chunk_index.specs.declared.form.Present.TheVariants as presents
 use Rattle.chunk_index.specs.declared.index.Index.{Index}
 use Rattle.transactions.specs.Ready.{IsWaiting}
 use Rattle.bad_blocks.specs.Standing.{AreKept, MayLie}
+use Rattle.bad_blocks.specs.Taking.{LiesApart}
 use Rattle.checkpoint_reading.specs.Found.{HasForm}
 use Rattle.newest_pages.specs.Checked.{numbers_at, MayAllBeKept, IsAsSaid, IsTrustedFor}
 use Rattle.newest_pages.specs.Opened.{AreLeft, IsOpenedBy, IsTableOf, OnlySeqs}
@@ -160,7 +161,7 @@ is_free_block d c n t0 t1 t2 x form is only agree recounts none =
 
 module _ (d : Device) (c : Checkpoint) (t0 t1 t2 t3 : Table) (x : Index) (form : HasForm d c) (placed : MayAllBeKept d c) (whole : d.honest ≡ true → IsWhole d.geometry d.flash c)
     (is : IsTableOf d (numbers_at c) t0) (only : OnlySeqs t0 t1) (list : IsListOf (kept_pages x) (map entry_key c.entries)) (shown : (o k : ℕ) → present x o k ≡ as_kept (kept_pages x o k))
-    (agree : CountsAgree t2 x) (recounts : Recounts (λ b. 0) (kept_in x) t1 t2) (last : t3 ≡ record t2 { checkpoint = Some c.block }) where
+    (agree : CountsAgree t2 x) (recounts : Recounts (λ b. 0) (kept_in x) t1 t2) (last : t3 ≡ record t2 { checkpoint = Some c.block }) (empty : kept_in x c.block ≡ 0) where
   abbrev noted : Table
   noted = record t2 { checkpoint = Some c.block }
 
@@ -176,6 +177,12 @@ module _ (d : Device) (c : Checkpoint) (t0 t1 t2 t3 : Table) (x : Index) (form :
   seq : AreLeft (numbers_at c) → t2.next_seq ≡ c.seq + 1
   seq left = recounts.next_seq ∙ only.next_seq ∙ is.seq left
 
+  -- no kept page lies in the checkpoint's block
+  lies_apart : LiesApart noted
+  lies_apart b is =
+      let same : c.block ≡ b = cc in
+      subst (λ k. (t2.entry k).kept ≡ 0) same (agree.counts c.block ∙ empty)
+
   -- no block is open while the checkpoint's is noted
   waiting : (told : Bool) (b : ℕ) → Some c.block ≡ Some b → IsWaiting (trusted_as told d) noted b
   waiting told b is_block =
@@ -190,8 +197,10 @@ module _ (d : Device) (c : Checkpoint) (t0 t1 t2 t3 : Table) (x : Index) (form :
   opened_for told trusted = subst (λ (t : Table). IsOpenedBy (Some c.block) (trusted_as told d) t x (numbers_at c)) (sym last) (record {
     counts = record { counts = agree.counts; within = agree.within };
     geometry = geometry;
+    good = λ b good. recounts.bad b ∙ only.bad b ∙ is.good b good;
     closed = closed;
     noted = refl;
+    apart = lies_apart;
     shown = shown;
     unbuffered = not_buffered x shown;
     within = lies_within d c x form placed list;

@@ -294,8 +294,10 @@ opened d list x t t' n tells greatest names is seqs indexes counts recounts = re
   tables = record {
     counts = counts;
     geometry = recounts.geometry ∙ is.geometry;
+    good = λ b good. recounts.bad b ∙ is.good b good;
     closed = recounts.open_block ∙ is.closed;
     noted = recounts.checkpoint ∙ is.checkpoint;
+    apart = λ b at. absurd (let two : None ≡ Some b = sym (recounts.checkpoint ∙ is.checkpoint) ∙ at in cc);
     shown = is_shown list x indexes;
     unbuffered = not_buffered list x indexes;
     within = lies_within list x indexes d tells;

@@ -15,6 +15,7 @@ use Rattle.page_buffer.specs.Buffering.{IsUnbuffered}
 use Rattle.transactions.specs.Ready.{IsReady}
 use Rattle.transactions.specs.Sources.{IsPageName, name_of}
 use Rattle.bad_blocks.specs.Standing.{AreKept, MayLie}
+use Rattle.bad_blocks.specs.Taking.{LiesApart}
 use Rattle.mount_scan.specs.declared.fault.ScanFault.{ScanFault}
 use Rattle.mount_scan.specs.declared.fault.ScanFault.TheVariants as scans
 use Rattle.newest_pages.specs.declared.opening.OpenFault.{OpenFault}
@@ -90,15 +91,17 @@ abbrev pub HasItsSeq : Flash → Table → ℕ → Type 0
 HasItsSeq flash t b = (((o c : ℕ) (s : Spot) → IsNewest flash o c s → s.block ≢ b) × ((t.entry b).seq ≡ 0))
     ⊎ ((o : ℕ) × (c : ℕ) × (s : Spot) × IsNewest flash o c s × (s.block ≡ b) × ((t.entry b).seq ≡ s.tag.seq))
 
--- The tables of a device, by a checkpoint in this block or, with none, by a scan. What is kept is on the device, and is present; no block
--- is open; the counts of blocks are those of the index. On an honest device each kept page is the newest of its key, and the numbers
--- are the greatest. Where there are numbers left, groups can be written: the next numbers are one above these, and each kept page
--- may be copied.
+-- The tables of a device, by a checkpoint in this block or, with none, by a scan. What is kept is on the device, and is present, and no
+-- page of it lies in that block; no block is open, and no good one is marked; the counts of blocks are those of the index. On an honest
+-- device each kept page is the newest of its key, and the numbers are the greatest. Where there are numbers left, groups can be
+-- written: the next numbers are one above these, and each kept page may be copied.
 pub record IsOpenedBy (checkpoint : Option ℕ) (device : Device) (t : Table) (x : Index) (n : Numbers) : Type 0 where
   pub counts : CountsAgree t x
   pub geometry : t.geometry ≡ device.geometry
+  pub good : (b : ℕ) → device.flash.bad b ≡ false → (t.entry b).bad ≡ false
   pub closed : t.open_block ≡ None
   pub noted : t.checkpoint ≡ checkpoint
+  pub apart : LiesApart t
   pub shown : (o c : ℕ) → present x o c ≡ as_kept (kept_pages x o c)
   pub unbuffered : IsUnbuffered x
   pub within : (o c : ℕ) (p : KeptPage) → kept_pages x o c ≡ Some p → (p.block < device.geometry.blocks) × (p.page < device.geometry.pages)

@@ -34,9 +34,9 @@ impl<N: Nand> NewestPages<N> {
     pub fn new(alloc: Global, device: N, index: Index) -> Result<NewestPages<N>, (N, AllocError)>
         requires lie { (o c : ℕ) (k : KeptPage) → kept_pages index o c ≡ Some k → (k.block < (N.state device).geometry.blocks) × (k.page < (N.state device).geometry.pages) }
         requires written { (N.state device).honest ≡ true → (o c : ℕ) (k : KeptPage) → kept_pages index o c ≡ Some k → IsSome (data_at (N.state device).flash k) }
-        ensures device { IfOk result (λ pages. N.state (device_of pages) ≡ N.state device) }
+        ensures device { IfOk result (λ pages. device_of pages ≡ device) }
         ensures index { IfOk result (λ pages. index_of pages ≡ index) }
-        ensures given_back { IfErr result (λ back. N.state back.0 ≡ N.state device) }
+        ensures given_back { IfErr result (λ back. back.0 ≡ device) }
     {
         match vec![in alloc; 0u8; device.geometry().bytes() as usize] {
             Ok(page) => Ok(NewestPages {
@@ -50,7 +50,7 @@ impl<N: Nand> NewestPages<N> {
 
     /// The device and the index, as they are.
     pub fn into_parts(self) -> (N, Index)
-        ensures device { N.state result.0 ≡ N.state (device_of self) }
+        ensures device { result.0 ≡ device_of self }
         ensures index { result.1 ≡ index_of self }
     {
         let NewestPages { device, index, .. } = self;

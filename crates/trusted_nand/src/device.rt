@@ -14,10 +14,13 @@ pub struct TrustedNand<N: Nand> {
 }
 
 impl<N: Nand> TrustedNand<N> {
+    ghost use Rattle.trusted_nand.specs.Parts.{inner_of};
+
     /// The device, trusted or not, as a proof chooses at the call.
     pub fn new(inner: N) -> TrustedNand<N>
         ghost told: { Bool }
         ensures state { ⟦<TrustedNand<N> as Nand>⟧.state result ≡ trusted_as told (N.state inner) }
+        ensures inner { inner_of result ≡ inner }
     {
         TrustedNand {
             inner,
@@ -27,7 +30,8 @@ impl<N: Nand> TrustedNand<N> {
 
     /// The device itself.
     pub fn into_inner(self) -> N
-        ensures { (told : Bool) × (⟦<TrustedNand<N> as Nand>⟧.state self ≡ trusted_as told (N.state result)) }
+        ensures state { (told : Bool) × (⟦<TrustedNand<N> as Nand>⟧.state self ≡ trusted_as told (N.state result)) }
+        ensures inner { result ≡ inner_of self }
     {
         self.inner
     }

@@ -5,3 +5,4 @@ mod device;
 mod trust;
 
 pub use device::TrustedNand;
+pub use trust::Trust;

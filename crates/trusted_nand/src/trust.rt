@@ -6,7 +6,7 @@ use std::marker::Model;
 
 /// Whether something is trusted. It takes no memory.
 #[derive(Drop)]
-pub(crate) struct Trust {
+pub struct Trust {
     pub ghost told: { Bool },
 }
 
@@ -16,7 +16,7 @@ impl Model for Trust {
 
 impl Trust {
     /// Trust, or none, as a proof chooses at the call.
-    pub(crate) fn as_told() -> Trust
+    pub fn as_told() -> Trust
         ghost told: { Bool }
         ensures { result.told ≡ told }
     {

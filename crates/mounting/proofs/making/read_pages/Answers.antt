@@ -1,4 +1,4 @@
-use Rattle.std.proofs.Common.{◌≡◌, ◌/◌, false, sym, subst, rules}
+use Rattle.std.proofs.Common.{◌≡◌, ◌/◌, false, sym, ap, subst, rules}
 use Rattle.flash_tree.specs.Places.{numbers_of}
 use Rattle.block_state.specs.TableOf.{table}
 use Rattle.flash_pages.specs.ReadOnly.{only_read}
@@ -13,7 +13,7 @@ pub new-requires-2-clause-carrying : goal.new-requires-2-clause-carrying
 new-requires-2-clause-carrying g c =
     let on = c.args.on in
     worn_carries (keeps_key on.tree) (g.N.Nand.state on.device) (table on.blocks) on.index (numbers_of on.numbers) on.spare c.requires.read.tables c.requires.worn
-    (g.N.Nand.state c.in_ok-pages.pages.device) c.in_ok-pages.pages.index c.in_ok-pages.ensures.device c.in_ok-pages.ensures.index
+    (g.N.Nand.state c.in_ok-pages.pages.device) c.in_ok-pages.pages.index (ap g.N.Nand.state c.in_ok-pages.ensures.device) c.in_ok-pages.ensures.index
 
 pub returns-clause-made : goal.returns-clause-made
 returns-clause-made g c =
@@ -27,4 +27,4 @@ returns-clause-made g c =
     subst (λ (k : PagesState). ArePagesOn d on.index n on.spare k) (sym c.new-2.ensures)
     (subst (λ s. ArePagesOn d on.index n on.spare (only_read page n s (c.pages-most.result / 4) false)) spare
     (subst (λ m. ArePagesOn d on.index n on.spare (only_read page n on.spare m false)) most
-    (worn_pages (keeps_key on.tree) d (table on.blocks) on.index n on.spare c.requires.read.tables c.requires.worn (g.N.Nand.state p.device) p.index p.page.items c.in_ok-pages.ensures.device c.in_ok-pages.ensures.index)))
+    (worn_pages (keeps_key on.tree) d (table on.blocks) on.index n on.spare c.requires.read.tables c.requires.worn (g.N.Nand.state p.device) p.index p.page.items (ap g.N.Nand.state c.in_ok-pages.ensures.device) c.in_ok-pages.ensures.index)))

@@ -18,7 +18,7 @@ pub returns-in-Ok-make_pages-clause-next : goal.returns-in-Ok-make_pages-clause-
 returns-in-Ok-make_pages-clause-next g c = λ honest.
     let on = c.in_ok-named.named.on in
     are_next (g.N.Nand.state on.device) on.index (numbers_of on.numbers) on.spare _ c.in-Ok-make_pages.ensures.made
-    (c.in_ok-named.ensures.read.tables.numbers (c.in_ok-named.ensures.reads.lasts.honest ∙ honest))
+    (c.in_ok-named.ensures.read.tables.tables.numbers (c.in_ok-named.ensures.reads.lasts.honest ∙ honest))
 
 pub returns-in-Ok-make_pages-clause-tree : goal.returns-in-Ok-make_pages-clause-tree
 returns-in-Ok-make_pages-clause-tree g c = λ honest.
@@ -34,7 +34,7 @@ returns-in-Ok-make_pages-clause-tree g c = λ honest.
     } in (
       told.0,
       mounted_with d on.index (numbers_of on.numbers) on.spare _ c.in-Ok-make_pages.ensures.made laws on.tree told.0 is told.1 told.2 c.in-Ok.table (volume.sizes_of c.in-Some.sizes)
-          c.in-Some.ensures.sizes c.in-Ok.ensures.tells told.3 c.in_ok-named.named.names (c.in_ok-named.ensures.names honest) (c.in_ok-named.ensures.read.tables.newest is),
+          c.in-Some.ensures.sizes c.in-Ok.ensures.tells told.3 c.in_ok-named.named.names (c.in_ok-named.ensures.names honest) (c.in_ok-named.ensures.read.tables.tables.newest is),
     )
 
 pub returns-in-Err-make_pages-clause-back : goal.returns-in-Err-make_pages-clause-back
@@ -52,4 +52,4 @@ make_pages-requires-clause-ordinary g c = λ honest.
     let told = c.in-Some.ensures.tree honest in
     let shown = told.2 in
     ordinary_shown (sizes_of d.geometry on.spare) (sizes_of d.geometry on.spare) d.flash on.index told.0
-    (c.the_footprint_holds_the_tree.ensures.forest _ shown.on.pages told.0 shown.shows) shown.holds (c.in_ok-named.ensures.read.tables.newest honest)
+    (c.the_footprint_holds_the_tree.ensures.forest _ shown.on.pages told.0 shown.shows) shown.holds (c.in_ok-named.ensures.read.tables.tables.newest honest)

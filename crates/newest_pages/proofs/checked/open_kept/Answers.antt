@@ -43,7 +43,7 @@ returns-clause-opened g c = λ told trusted.
     let list = subst (λ (es : List CheckEntry). IsListOf (kept_pages c.in_ok-index.index) (map entry_key es)) c.deref.ensures.value c.in_ok-index.ensures.list in
     opened_for (g.N.Nand.state c.args.device.now) (checkpoint_of c.args.found.now) (table c.in_ok-blocks.blocks) (table c.note_each.new.blocks) (table c.in_ok-index.blocks) (table c.note_checkpoint.new.self)
     c.in_ok-index.index c.requires.form placed c.requires.whole c.in_ok-blocks.ensures.table c.note_each.ensures.only list c.in_ok-index.ensures.shown c.in_ok-index.ensures.agree c.in_ok-index.ensures.counts
-    c.note_checkpoint.ensures told trusted
+    c.note_checkpoint.ensures (c.the_counts_are_of_the_keys.ensures.zero c.in_ok-index.index c.args.found.now.block (none_there (g.N.Nand.state c.args.device.now) (checkpoint_of c.args.found.now) c.in_ok-index.index c.requires.form placed list)) told trusted
 
 pub returns-clause-tree : goal.returns-clause-tree
 returns-clause-tree g c = λ (honest, true_flash).

@@ -1,9 +1,11 @@
-use Rattle.std.proofs.Common.{sym, ◌∙◌}
+use Rattle.std.proofs.Common.{None, sym, ◌∙◌}
 use Rattle.flash_tree.specs.Places.{numbers_of}
 use Rattle.block_state.specs.TableOf.{table}
 use Rattle.mounting.proofs.Answering.{tree_after}
+use Rattle.tree_walk.specs.Trees.{keeps_key}
 use Rattle.mounting.proofs.Covering.{covers_after}
-use Rattle.mounting.proofs.tree_on.open_tree.Goals as goal
+use Rattle.mounting.proofs.Pruning.{scan_pruned}
+use Rattle.mounting.proofs.scanned.open_tree.Goals as goal
 
 pub returns-clause-read : goal.returns-clause-read
 returns-clause-read g c =
@@ -14,7 +16,8 @@ returns-clause-read g c =
     let reads = c.in_ok-device-2.ensures.reads in
     let opened = c.in_ok-device.ensures.opened in
     record {
-      tables = c.prune.ensures a b (numbers_of was.numbers) reads opened;
+      tables = scan_pruned (keeps_key found.tree) a b (table was.blocks) (table c.prune.new.blocks) was.index c.prune.new.index (numbers_of was.numbers) reads opened
+          (c.prune.ensures.opened None a b (numbers_of was.numbers) reads opened.tables) c.prune.ensures.only;
       tree_on = λ honest.
           let before = sym reads.lasts.honest ∙ honest in
           tree_after a b was.index found.spare found.tree reads

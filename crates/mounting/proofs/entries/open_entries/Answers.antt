@@ -1,0 +1,34 @@
+use Rattle.std.proofs.Common.{Some, subst}
+use Rattle.std.specs.Prelude.{IfSome}
+use Rattle.flash_tree.specs.Checkpoints.{IsChecked}
+use Rattle.checkpoint_reading.specs.Found.{checkpoint_of}
+use Rattle.newest_pages.specs.Checked.{IsOpenedFor, KeepsItsTree}
+use Rattle.newest_pages.specs.laws.Trust.{trust, right_said}
+use Rattle.trusted_nand.specs.Parts.{inner_of}
+use Rattle.trusted_nand.specs.Trusting.{trusted_as}
+use Rattle.mounting.proofs.Entering.{since_read, checked_at}
+use Rattle.mounting.proofs.entries.open_entries.Goals as goal
+
+pub go_by-requires : goal.go_by-requires
+go_by-requires g c = λ κs within.
+    let d = g.N.Nand.state c.args.device in
+    let k = checkpoint_of c.args.found.now in
+    let opened = subst (λ m. IfSome m (IsOpenedFor d k)) c.in-Ok-Some.field-0-is c.in-Ok-Some.ensures.opened in
+    (within, opened _ (trust d k _).1)
+
+pub returns-in-Ok-Some-clause-read : goal.returns-in-Ok-Some-clause-read
+returns-in-Ok-Some-clause-read g c =
+    let d = g.N.Nand.state c.args.device in
+    let k = checkpoint_of c.args.found.now in
+    since_read c.go_by.result _ d (λ named. g.N.Nand.state (inner_of named.on.device)) (λ named. trusted_as named.on.device.trust.told (g.N.Nand.state named.on.device.inner))
+    (λ (honest, true_flash). (trust d k _).2 (right_said d.geometry d.flash k (true_flash k (c.requires.whole honest)))) c.go_by.ensures.read
+
+pub returns-in-Ok-Some-clause-checked : goal.returns-in-Ok-Some-clause-checked
+returns-in-Ok-Some-clause-checked g c = λ is.
+    let d = g.N.Nand.state c.args.device in
+    let k = checkpoint_of c.args.found.now in
+    let opened = subst (λ m. IfSome m (IsOpenedFor d k)) c.in-Ok-Some.field-0-is c.in-Ok-Some.ensures.opened in
+    let keeps = subst (λ m. IfSome m (KeepsItsTree d)) c.in-Ok-Some.field-0-is (c.in-Ok-Some.ensures.tree is) in
+    let trusted = trust d k (g.met.N.Nand.within c.args.device) in
+    checked_at c.go_by.result d.geometry d.flash (λ named. named.on.blocks.checkpoint) c.args.found.now.block
+    (subst (IsChecked d.geometry d.flash) (opened trusted.0 trusted.1).noted keeps.checked) c.go_by.ensures.noted

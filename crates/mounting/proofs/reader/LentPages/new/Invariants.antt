@@ -1,0 +1,4 @@
+use Rattle.mounting.proofs.reader.LentPages.new.Given as goal
+
+abbrev pub ghost-as_told : goal.ghost-as_told
+ghost-as_told g a = g.told

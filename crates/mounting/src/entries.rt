@@ -1,0 +1,94 @@
+// The tree of a device, by the entries of a checkpoint.
+ghost use Rattle.std.specs.Prelude.{◌≡◌, Bool, true, Some, IfOk, IfErr};
+ghost use Rattle.nand_model.specs.Changes.{OnlyReads};
+ghost use Rattle.nand_model.specs.Flash.{IsWithin};
+ghost use Rattle.flash_tree.specs.Checkpoints.{IsChecked};
+ghost use Rattle.flash_tree.specs.Places.{numbers_of};
+ghost use Rattle.block_state.specs.TableOf.{table};
+ghost use Rattle.checkpoint_reading.specs.Found.{HasForm, IsWholeOn, TellsSeqs, checkpoint_of};
+ghost use Rattle.newest_pages.specs.Checked.{HasTrueFlash};
+ghost use Rattle.newest_pages.specs.Opened.{IsOpenedBy};
+ghost use Rattle.trusted_nand.specs.Parts.{inner_of};
+ghost use Rattle.trusted_nand.specs.Trusting.{trusted_as};
+ghost use Rattle.mounting.specs.Named.{IsNamedTree, IsReadAs, IsTrustedSince};
+
+use crate::prune::prune;
+use crate::reading::go_through;
+use crate::tree_on::{NamedTree, TreeOn};
+use checkpoint_reading::FoundCheckpoint;
+use nand_model::Nand;
+use newest_pages::{Opened, open_kept};
+use std::alloc::Global;
+use tree_walk::{RootFault, the_headers_tell_the_keys};
+use trusted_nand::TrustedNand;
+
+/// A device whose flash lies within its sizes.
+struct Bounded<N: Nand> {
+    device: N,
+    ghost within: { IsWithin (N.state device).geometry.pages (N.state device).geometry.blocks (N.state device).flash },
+}
+
+/// Goes through the tree of a device by the tables of a checkpoint, and forgets all pages but the tree's. The device is trusted as
+/// is told.
+fn go_by<N: Nand>(
+    alloc: Global,
+    bounded: Bounded<N>,
+    found: &FoundCheckpoint,
+    opened: Opened,
+) -> Result<NamedTree<TrustedNand<N>>, (N, RootFault)>
+    ghost told: { Bool }
+    requires { IsOpenedBy (Some found.now.block) (trusted_as told (N.state bounded.device)) (table opened.blocks) opened.index (numbers_of opened.numbers) }
+    ensures read { IfOk result (λ named. IsReadAs told (N.state bounded.device) (N.state (inner_of named.on.device)) (⟦<TrustedNand<N> as Nand>⟧.state named.on.device)) }
+    ensures named { IfOk result (λ named. IsNamedTree (⟦<TrustedNand<N> as Nand>⟧.state named.on.device) named) }
+    ensures noted { IfOk result (λ named. (table named.on.blocks).checkpoint ≡ Some found.now.block) }
+    ensures back { IfErr result (λ failed. OnlyReads (N.state bounded.device) (N.state failed.0)) }
+{
+    the_headers_tell_the_keys();
+    let Bounded { device } = bounded;
+    let Opened {
+        blocks,
+        index,
+        numbers,
+    } = opened;
+    let (device, walked) = go_through(alloc, device, &index)?;
+    let mut blocks = blocks;
+    let mut index = index;
+    prune(&walked.tree, &mut index, &mut blocks);
+    let on = TreeOn {
+        device: TrustedNand::new(device),
+        blocks,
+        index,
+        numbers,
+        spare: walked.spare,
+        tree: walked.tree,
+    };
+    Ok(NamedTree {
+        on,
+        names: walked.names,
+    })
+}
+
+/// Goes through the tree of a device by the entries of a whole checkpoint, whose block is noted. The device is trusted then where
+/// its flash is as the checkpoint says: so where it is true. Where an entry cannot be taken, or the tree is not whole, the device
+/// is given back.
+pub(crate) fn open_entries<N: Nand>(
+    alloc: Global,
+    device: N,
+    found: &FoundCheckpoint,
+    seqs: &[u64],
+) -> Result<NamedTree<TrustedNand<N>>, (N, RootFault)>
+    requires form { HasForm (N.state device) (checkpoint_of found.now) }
+    requires whole { IsWholeOn (N.state device) (checkpoint_of found.now) }
+    requires seqs { TellsSeqs (N.state device) seqs.now }
+    ensures read { IfOk result (λ named. IsTrustedSince (N.state device) (N.state (inner_of named.on.device)) (⟦<TrustedNand<N> as Nand>⟧.state named.on.device)) }
+    ensures named { IfOk result (λ named. IsNamedTree (⟦<TrustedNand<N> as Nand>⟧.state named.on.device) named) }
+    ensures checked { HasTrueFlash (N.state device)
+        → IfOk result (λ named. IsChecked (N.state device).geometry (N.state device).flash (table named.on.blocks).checkpoint) }
+    ensures back { IfErr result (λ failed. OnlyReads (N.state device) (N.state failed.0)) }
+{
+    match open_kept(alloc, &device, found, seqs) {
+        Ok(Some(opened)) => go_by(alloc, Bounded { device }, found, opened),
+        Ok(None) => Err((device, RootFault::Damaged)),
+        Err(_) => Err((device, RootFault::NoMemory)),
+    }
+}

@@ -140,7 +140,7 @@ module _ {P : Type 0} (state : P → PagesState) (z : Sizes) where
       → Commits (meaning_of state) objects a b r → KeepsOnly z (state b.pages) (settled objects)
   commit_exact objects a b has same r done is commits =
       let ends : Commits (meaning_of state) objects a b (Ok done) = subst (Commits (meaning_of state) objects a b) is commits in
-      let sound = ends.0.0.sound in
+      let sound = ends.0.stands.sound in
       keeps_only z (state b.pages) objects has.numbers sound (commit_done state z objects a b has r done is commits)
       (subst (λ (y : Sizes). HoldsObjects y (state b.pages).kept objects) has.sizes (ends.1.0.holds sound)) same
 

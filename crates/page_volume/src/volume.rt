@@ -9,6 +9,7 @@ ghost use Rattle.posix_profile.specs.State.{Objects, State};
 ghost use Rattle.posix_profile.specs.laws.Sound.{IsSound};
 ghost use Rattle.posix_profile.specs.declared.reply.Errno.TheVariants as errors;
 ghost use Rattle.posix_profile.specs.declared.reply.Reply.TheVariants as replies;
+ghost use Rattle.object_pages.specs.Naming.{HasNames};
 ghost use Rattle.object_store.specs.Stores.{settled};
 ghost use Rattle.object_table.specs.Told.{table_sizes, Tells};
 ghost use Rattle.command_plans.specs.Classes.{makes_no_call};
@@ -37,7 +38,7 @@ impl<P: PageStore> PageVolume<P> {
     ghost use Rattle.page_volume.specs.Closing.{CanWrite, KeepsOnly};
     ghost use Rattle.page_volume.specs.Running.{RunsPages};
 
-    /// A volume of the objects that the pages hold and the table tells, with no descriptor open.
+    /// A volume of the objects that the pages hold, the table tells and the index names, with no descriptor open.
     pub fn new(
         alloc: Global,
         pages: P,
@@ -49,14 +50,14 @@ impl<P: PageStore> PageVolume<P> {
         ensures table { IfOk result (λ v. table_of v ≡ table) }
         ensures read_only { IfOk result (λ v. is_read_only v ≡ read_only) }
         ensures goes_on { IfOk result (λ v. is_stopped v ≡ false) }
-        ensures at { (objects : Objects) → IsSizes (table_sizes table) → StandsFor (table_sizes table) (P.state pages) objects → Tells table objects → IsSound (table_sizes table) (record { objects = objects; handles = map.empty })
-            → (P.state pages).worn ≡ read_only
+        ensures at { (objects : Objects) → IsSizes (table_sizes table) → StandsFor (table_sizes table) (P.state pages) objects → Tells table objects → HasNames names (table_sizes table) (P.state pages).present objects
+            → IsSound (table_sizes table) (record { objects = objects; handles = map.empty }) → (P.state pages).worn ≡ read_only
             → (read_only ≡ true → (settled objects ≡ objects) × Shown (table_sizes table) (P.state pages) objects)
             → IfOk result (IsVolumeOf P.state (table_sizes table) (record { objects = objects; handles = map.empty })) }
-        ensures given_back { IfErr result (λ back. P.state back.0 ≡ P.state pages) }
+        ensures given_back { IfErr result (λ back. back.0 ≡ pages) }
     {
-        drop(names);
-        match Volume::new(alloc, PagedObjects::new(alloc, pages, table), read_only) {
+        let objects = PagedObjects::new(alloc, pages, table, names);
+        match Volume::new(alloc, objects, read_only) {
             Ok(volume) => Ok(PageVolume { volume }),
             Err((objects, error)) => Err((objects.into_pages(), error)),
         }
@@ -149,7 +150,7 @@ impl<P: PageStore> PageVolume<P> {
 
     /// Gives the pages back as they are, as if power were lost between two calls.
     pub fn into_pages(self) -> P
-        ensures { P.state result ≡ P.state (pages_of self) }
+        ensures { result ≡ pages_of self }
     {
         self.volume.into_store().into_pages()
     }

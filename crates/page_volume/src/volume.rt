@@ -35,6 +35,7 @@ pub struct PageVolume<P: PageStore> {
 impl<P: PageStore> PageVolume<P> {
     ghost use Rattle.page_volume.specs.Volumes.{pages_of, table_of, is_read_only, is_stopped, IsVolumeOf};
     ghost use Rattle.object_commands.specs.Running.{OnlyTells};
+    ghost use Rattle.page_volume.specs.Closing.{CanWrite, KeepsOnly};
     ghost use Rattle.page_volume.specs.Running.{RunsPages};
 
     /// A volume of the objects that the pages hold, the table tells and the index names, with no descriptor open.
@@ -110,8 +111,9 @@ impl<P: PageStore> PageVolume<P> {
         self.volume.run(commands, replies)
     }
 
-    /// Commits what was accepted and gives the pages back, with the reply Done or EIO. A read-only volume makes no call.
-    pub fn finish(self) -> (P, Reply)
+    /// Closes all descriptors, commits what was accepted and gives the pages back, with the reply Done or EIO. A read-only
+    /// volume makes no call.
+    pub fn finish(mut self) -> (P, Reply)
         ensures goes_on { GoesOn (P.state (pages_of self)) (P.state result.0) }
         ensures stopped { is_stopped self ≡ true → (result.1 ≡ replies.Error errors.EIO) × (P.state result.0 ≡ P.state (pages_of self)) }
         ensures read_only { is_read_only self ≡ true → P.state result.0 ≡ P.state (pages_of self) }
@@ -126,16 +128,19 @@ impl<P: PageStore> PageVolume<P> {
             → Shown z (P.state result.0) tree ⊎ Shown z (P.state result.0) (settled s.objects) }
         ensures cause { is_stopped self ≡ false → (z : Sizes) (s : State) → IsVolumeOf P.state z s self → result.1 ≡ replies.Error errors.EIO
             → HasEnded (P.state result.0) }
+        // After Done the kept pages are those of the tree, and no others.
+        ensures exact { (z : Sizes) (s : State) → CanWrite P.state z s self → result.1 ≡ replies.Done → KeepsOnly z (P.state result.0) (settled s.objects) }
     {
-        let stopped = self.volume.stopped();
-        let read_only = self.volume.read_only();
+        if self.stopped() {
+            return (self.into_pages(), Reply::Error(Errno::EIO));
+        }
+        if self.read_only() {
+            return (self.into_pages(), Reply::Done);
+        }
+        if !self.close_all() {
+            return (self.into_pages(), Reply::Error(Errno::EIO));
+        }
         let mut objects = self.volume.into_store();
-        if stopped {
-            return (objects.into_pages(), Reply::Error(Errno::EIO));
-        }
-        if read_only {
-            return (objects.into_pages(), Reply::Done);
-        }
         let reply = match objects.commit() {
             Ok(()) => Reply::Done,
             Err(_) => Reply::Error(Errno::EIO),

@@ -18,7 +18,7 @@ use Rattle.pages.specs.Stores.{SamePages, GoesOn, StaysSame, KeptAs, KeepsEither
 use Rattle.pages.specs.declared.fault.PageFault.{PageFault}
 use Rattle.pages.specs.declared.fault.PageFault.TheVariants as page_faults
 use Rattle.object_pages.specs.Holding.{HoldsObjects}
-use Rattle.object_pages.specs.laws.Holding.{cut_object}
+use Rattle.object_pages.specs.laws.Holding.{cut_object, same_objects}
 use Rattle.paged_objects.specs.Faults.{fault_of, ReadFailsBy}
 use Rattle.paged_objects.specs.Standing.{StandsFor}
 use Rattle.paged_objects.specs.Ending.{StaysAs, Turns, Fails, Commits, HasPages, EndsPages}
@@ -111,7 +111,11 @@ pub committed : (z : Sizes) (p q : PagesState) (objects : Objects) → HasPages 
     → StandsFor z q objects × Commits z objects p q
 committed z p q objects has goes sound same keeps kept = (
   changed_stands z p q objects objects p.present goes has.stands sound has.stands.holds same (either_turns z p q objects goes has.stands has.can keeps),
-  record { goes_on = goes; shown = kept_shown z q p.present objects (volume_on p q goes ∙ has.stands.sizes) kept has.stands.holds has.can },
+  record {
+    goes_on = goes;
+    shown = kept_shown z q p.present objects (volume_on p q goes ∙ has.stands.sizes) kept has.stands.holds has.can;
+    holds = λ is. same_objects z p.present q.kept objects has.stands.holds (kept.kept is);
+  },
 )
 
 -- one that ended the use of the store

@@ -8,6 +8,7 @@ use Rattle.posix_profile.specs.State.{Objects}
 use Rattle.object_store.specs.Stores.{settled}
 use Rattle.pages.specs.State.{PagesState}
 use Rattle.pages.specs.Stores.{SamePages, GoesOn, HasFailed, bad_on}
+use Rattle.object_pages.specs.Holding.{HoldsObjects}
 use Rattle.object_store.specs.Stores.{CanHave}
 use Rattle.paged_objects.specs.Standing.{StandsFor, Shown}
 
@@ -49,10 +50,11 @@ pub record Fails (z : Sizes) (objects : Objects) (p q : PagesState) : Type 0 whe
   pub turns : Turns z objects p q
   pub cause : HasEnded q
 
--- the objects were committed: a mount shows them settled
+-- the objects were committed: a mount shows them settled, and a sound store keeps their pages and no others
 pub record Commits (z : Sizes) (objects : Objects) (p q : PagesState) : Type 0 where
   pub goes_on : GoesOn p q
   pub shown : Shown z q (settled objects)
+  pub holds : q.sound ≡ true → HoldsObjects z q.kept objects
 
 -- a store of pages holds objects that its volume can have
 pub record HasPages (z : Sizes) (p : PagesState) (objects : Objects) : Type 0 where

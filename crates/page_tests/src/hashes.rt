@@ -4,6 +4,7 @@ use directories::{LeftSlot, left_slot};
 use name_index::name_hash;
 use object_pages::{find, plan};
 use object_store::ObjectChange;
+use pages::{Pages, are_sized};
 use posix_profile::Kind;
 use std::alloc::Global;
 use std::test::Fail;
@@ -93,6 +94,22 @@ fn a_name_gives_way_to_one_with_its_hash(rt: HostRuntime) -> Result<(), Fail> {
     Ok(())
 }
 
+/// The slot that a name of the root leaves by a change of objects.
+fn left_by(
+    alloc: Global,
+    store: &mut Store,
+    change: &ObjectChange<'_>,
+    new: u64,
+    name: &[u8],
+) -> Result<Option<LeftSlot>, Fail> {
+    let change = plan(&store.names, &mut store.pages, alloc, change, new)?;
+    let page_bytes = store.pages.page_bytes();
+    if !are_sized(&change.pages, page_bytes) {
+        return Err("a page of another size".into());
+    }
+    Ok(left_slot(&store.names, page_bytes, &change, ROOT, name))
+}
+
 /// The slot that a name leaves is told where a name with another hash is in it then.
 #[test]
 fn the_slot_of_a_name_that_goes_is_told(rt: HostRuntime) -> Result<(), Fail> {
@@ -102,21 +119,18 @@ fn the_slot_of_a_name_that_goes_is_told(rt: HostRuntime) -> Result<(), Fail> {
         dropped: Some(2),
         moment: 5,
     };
-    let pair: Pair = (b"costarring", b"liquid");
-    let mut store = with_pair(alloc, pair)?;
-    let change = plan(&store.names, &mut store.pages, alloc, &removed, 4)?;
+    let mut store = with_pair(alloc, (b"costarring", b"liquid"))?;
     assert_eq!(rt;
-        left_slot(&store.names, 512, &change, ROOT, b"costarring"),
+        left_by(alloc, &mut store, &removed, 4, b"costarring")?,
         None
     );
     let mut store = with_file(alloc, store, b"last", 4)?;
-    let change = plan(&store.names, &mut store.pages, alloc, &removed, 5)?;
     let left = LeftSlot {
         slot: 0,
         hash: name_hash(b"last"),
     };
     assert_eq!(rt;
-        left_slot(&store.names, 512, &change, ROOT, b"costarring"),
+        left_by(alloc, &mut store, &removed, 5, b"costarring")?,
         Some(left)
     );
     Ok(())

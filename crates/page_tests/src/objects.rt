@@ -83,10 +83,7 @@ fn an_object_that_is_forgotten_has_no_pages(rt: HostRuntime) -> Result<(), Fail>
         find(&store.names, &mut store.pages, ROOT, b"b")?,
         Some(FILE)
     );
-    assert_eq!(rt;
-        find(&store.names, &mut store.pages, ROOT, b"docs")?,
-        None
-    );
+    assert_eq!(rt; find(&store.names, &mut store.pages, ROOT, b"docs")?, None);
     let header = Key {
         object: DOCS,
         chunk: 0,

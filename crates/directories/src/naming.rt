@@ -16,10 +16,14 @@ ghost use Rattle.directories.specs.Hashing.{HoldsMore, HoldsPage, SaysNoDirector
 use crate::page::slot_of;
 use flash_tree::{FreshPage, Key, decode_tree_slot};
 use name_index::{NameIndex, name_hash};
-use page_tags::{ObjectKind, decode_header};
 use pages::Change;
 use std::alloc::AllocError;
 use volume_terms::SLOT_BYTES;
+
+/// The byte of a header that has the object's kind, and what it is of a directory.
+const KIND_AT: usize = 5;
+
+const DIRECTORY: u8 = 2;
 
 /// Adds the hash of each name in the pages of directories' slots that a change writes. Of the names that were there before
 /// none is dropped.
@@ -92,16 +96,12 @@ fn is_no_directory(pages: &[FreshPage], page_bytes: u32, object: u64) -> bool
     false
 }
 
-/// Whether a page is the header of a directory.
+/// Whether a page may be the header of a directory, by the byte of the kind alone: this is asked for each page of a change.
 fn is_directory_page(page: &[u8]) -> bool
-    requires least { 32 ≤ length page.now }
-    requires most { length page.now ≤ 4096 }
+    requires { 32 ≤ length page.now }
     ensures { (f : Fields) → IsHeaderOf page.now f → f.kind ≡ kinds.Directory → result ≡ true }
 {
-    match decode_header(page) {
-        Ok(header) => header.kind == ObjectKind::Directory,
-        Err(_) => false,
-    }
+    page[KIND_AT] == DIRECTORY
 }
 
 /// Adds the hash of each name in the first slots of a page.

@@ -1,2 +1,3 @@
 pub mod ReadOnly
+pub mod Parts
 pub mod laws

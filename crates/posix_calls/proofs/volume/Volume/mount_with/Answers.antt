@@ -12,5 +12,5 @@ returns-in-Ok-clause-tree g c = λ honest.
 
 pub returns-in-Err-clause-back : goal.returns-in-Err-clause-back
 returns-in-Err-clause-back g c =
-    let same = c.into_device.ensures ∙ ap (λ (p : PagesState). p.device) c.in-Err.ensures.given_back in
+    let same = c.into_device.ensures.state ∙ ap (λ (p : PagesState). p.device) c.in-Err.ensures.given_back in
     only_reads_on _ _ _ c.in_ok-pages.ensures.reads (subst (λ (k : Device). OnlyReads k (g.N.Nand.state c.unmounted.result.0)) same c.unmounted.ensures.reads)

@@ -1,10 +1,10 @@
 -- What an index holds once the hashes of a change's names were added.
-use Rattle.std.specs.Prelude.{◌≡◌, ◌⊎◌, ◌<◌, ◌≤◌, ℕ, zero, suc, ◌+◌, ◌-◌, ◌*◌, ◌/◌, ◌%◌, ◌^◌, List, [], ◌∷◌, length, take, drop, Some, None, slice_get, Result, Ok, Err, OnOk, OnErr, Bool, true, false, cond}
+use Rattle.std.specs.Prelude.{◌≡◌, ◌<◌, ◌≤◌, ℕ, ◌+◌, ◌-◌, ◌*◌, ◌/◌, ◌%◌, ◌^◌, List, length, take, drop, Some, slice_get, Result, Ok, Err, OnOk, OnErr, Bool, true, false, cond}
 use Rattle.std.specs.Cmp.Lexicographic.{nat_list_cmp_total}
 use Rattle.std.specs.FinMap as map
-use Rattle.std.proofs.Common.{refl, sym, ◌∙◌, ap, subst, inl, inr, arith}
+use Rattle.std.proofs.Common.{sym, ◌∙◌, ap, subst, inl, inr, arith}
 use Rattle.std.proofs.Math.Nat.{div-add-mod'}
-use Rattle.std.proofs.lemmas.Bool.{cases_lt, cond-true, cond-false}
+use Rattle.std.proofs.lemmas.Bool.{cases_lt}
 use Rattle.page_tags.specs.Headers.{IsHeader, header_bytes}
 use Rattle.page_tags.specs.Slots.{Entry}
 use Rattle.flash_tree.specs.declared.place.FreshPage.{FreshPage}
@@ -15,12 +15,10 @@ use Rattle.name_index.specs.declared.index.NameIndex.{NameIndex}
 use Rattle.volume_terms.specs.Sizes.{Sizes, page_slots}
 use Rattle.posix_profile.specs.State.{Name, Entries}
 use Rattle.pages.specs.Changes.{AreSized}
-use Rattle.pages.specs.Maps.{PageMap, no_pages, takes, without_cuts, changed, IsPageOf, IsFirstOf}
-use Rattle.pages.specs.laws.Maps.{key_cases, cut_cases, page_elsewhere, first_here}
+use Rattle.pages.specs.Maps.{PageMap, without_cuts, changed, IsFirstOf}
+use Rattle.pages.specs.laws.Maps.{page_elsewhere, first_here}
 use Rattle.pages.specs.declared.change.Change.{Change}
-use Rattle.pages.specs.declared.change.Cut.{Cut}
 use Rattle.directories.specs.Directories.{SlotOf}
-use Rattle.directories.specs.Writes.{HasKey}
 use Rattle.directories.specs.laws.Keys.{first_or_none, cuts_leave}
 use Rattle.directories.specs.Hashing.{HoldsMore, HoldsPage, SaysNoDirectory, WritesNewSlots}
 

@@ -36,11 +36,7 @@ count_after z size m o moment entries r head h =
     ∙ ap (λ (f : Fields). f.length) (same_header z size (has m) (single m) o r.fields (fields_in z.page_bytes head) r.has (h.has, h.valid))
 
 module _ (p : PagesState) (z : Sizes) (o moment : ℕ) (entries : Entries) (d : DirIn p z o moment entries) where
-  -- it has a header
-  pub headed : IsHeaded p o
-  headed = record { fields = d.reads.fields; has = d.reads.has.0; valid = subst (λ n. IsHeader n d.reads.fields) d.size d.reads.has.1; kind = d.reads.kind }
-
-  -- which alone says what it says
+  -- its header alone says what it says
   pub fields_are : IsPageSize z.page_bytes → (h : IsHeaded p o) → h.fields ≡ d.reads.fields
   fields_are size h = same_header z size (has p.present) (single p.present) o h.fields d.reads.fields (h.has, subst (λ n. IsHeader n h.fields) (sym d.size) h.valid) d.reads.has
 

@@ -1,8 +1,7 @@
 -- A name that is taken, and where another is then.
-use Rattle.std.specs.Prelude.{◌≡◌, ℕ, true, List, length, Option, Some}
+use Rattle.std.specs.Prelude.{◌≡◌, ℕ, true, length, Option, Some}
 use Rattle.std.specs.FinMap as map
 use Rattle.std.proofs.Common.{sym, ◌∙◌, ap, subst}
-use Rattle.page_tags.specs.Slots.{Entry}
 use Rattle.flash_tree.specs.Tree.{IsPageSize, ReadsDir}
 use Rattle.name_index.specs.declared.index.NameIndex.{NameIndex}
 use Rattle.volume_terms.specs.Sizes.{Sizes}
@@ -71,7 +70,3 @@ dir_kept p q z o moment entries sound size same r = record {
     entries_are = r.entries_are;
   };
 }
-
--- the place of a name that was found
-pub stands_found : (slots : List Entry) (entries : Entries) (name : Name) (l : Located) → IsFoundAt slots entries name (Some l) → StandsAt slots entries name (Some l.place)
-stands_found slots entries name l is = (is.0, is.1, is.2)

@@ -1,16 +1,12 @@
 -- Results that say more.
 use Rattle.std.specs.Prelude.{ℕ, Result, Ok, Err, IfOk, OnOk, IfErr}
-use Rattle.pages.specs.Faults.{MayLack, MayLackMemory}
+use Rattle.pages.specs.Faults.{MayLackMemory}
 use Rattle.pages.specs.State.{PagesState}
 use Rattle.pages.specs.declared.fault.PageFault.{PageFault}
 use Rattle.pages.specs.declared.fault.PageFault.TheVariants as faults
 use Rattle.directories.specs.Faults.{MayLackRoom}
 
--- what holds anyway holds of a result that is there
-pub always : {A E P : Type 0} (r : Result A E) → P → OnOk r P
-always (Ok x) is = is
-always (Err e) is = tt
-
+-- what follows of what holds of a result that is there
 pub on_done : {A E : Type 0} (P Q : Type 0) (r : Result A E) → (P → Q) → OnOk r P → OnOk r Q
 on_done P Q (Ok x) f is = f is
 on_done P Q (Err e) f is = tt
@@ -29,13 +25,6 @@ on_err P Q (Ok x) f is = tt
 on_err P Q (Err e) f is = f e is
 
 -- what may lack to a call that adds no name may lack to one that adds one
-pub lacks_room : (n : ℕ) (new : PagesState) (fault : PageFault) → MayLack new fault → MayLackRoom n new fault
-lacks_room n new faults.NoMemory is = tt
-lacks_room n new faults.Device is = is
-lacks_room n new faults.Worn is = is
-lacks_room n new faults.Damaged is = is
-lacks_room n new faults.Full is = absurd is
-
 pub memory_room : (n : ℕ) (new : PagesState) (fault : PageFault) → MayLackMemory new fault → MayLackRoom n new fault
 memory_room n new faults.NoMemory is = tt
 memory_room n new faults.Device is = is

@@ -10,7 +10,7 @@ use Rattle.posix_profile.specs.State.{Name, Entries}
 use Rattle.pages.specs.Afterwards.{after}
 use Rattle.pages.specs.Maps.{PageMap}
 use Rattle.pages.specs.State.{PagesState, OnlyFinds}
-use Rattle.directories.specs.Directories.{DirIn, HasBeside, SlotOf, TellsEnd, TellsName, TellsOf}
+use Rattle.directories.specs.Directories.{DirIn, HasBeside, SlotOf, TellsEnd, TellsName}
 use Rattle.directories.specs.Heads.{IsHeadOf, SaysHead}
 use Rattle.directories.specs.Slots.{AreSlots, Finds}
 use Rattle.directories.specs.declared.head.DirectoryHead.{DirectoryHead}
@@ -92,10 +92,6 @@ module _ (p q : PagesState) (finds : OnlyFinds p q) (z : Sizes) (o : ℕ) (head 
       let at : Finds (SlotOf z p.present o) 0 s.0.fields.length name None = subst (λ n. Finds (SlotOf z p.present o) 0 n name None) s.1.length_is
       (subst (λ (m : PageMap). Finds (SlotOf z m o) 0 head.length name None) finds.present is) in
       (s.0, λ i less. at i (omega arith) less)
-
-  pub told_of : (name : Name) (found : Option Located) → Finds (SlotOf z q.present o) 0 head.length name found → TellsOf z p o name
-  told_of name (Some l) is = (Some l.object, told_leads name l is)
-  told_of name None is = (None, told_none name is)
 
   -- and of the page behind the slots
   pub told_end : HasBeside z q.present o head.length head.length → TellsEnd z p o

@@ -52,10 +52,6 @@ abbrev pub TellsChange : Sizes → PagesState → ℕ → List ℕ → Option Ch
 TellsChange z p d name None = TellsName z p d name None
 TellsChange z p d name (Some change) = (object : ℕ) × TellsName z p d name (Some object)
 
--- the header and the slots say whether the name is there
-abbrev pub TellsOf : Sizes → PagesState → ℕ → List ℕ → Type 0
-TellsOf z p d name = (found : Option ℕ) × TellsName z p d name found
-
 -- the header is there, and so is the page on which the next slot would stand beside others
 abbrev pub TellsEnd : Sizes → PagesState → ℕ → Type 0
 TellsEnd z p d = (h : IsHeaded p d) × HasBeside z p.present d h.fields.length h.fields.length

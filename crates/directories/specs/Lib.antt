@@ -8,4 +8,5 @@ pub mod Listings
 pub mod Named
 pub mod Taking
 pub mod Hashing
+pub mod Leaving
 pub mod laws

@@ -1,4 +1,4 @@
-// The look-up of a name through an index.
+// The look-up of a name.
 ghost use Rattle.std.specs.Prelude.{◌≡◌, ◌+◌, ℕ, true, OnOk, IfOk, IfErr};
 ghost use Rattle.std.specs.FinMap as map;
 ghost use Rattle.volume_terms.specs.Sizes.{Sizes};
@@ -14,7 +14,7 @@ use pages::{PageFault, Pages};
 
 /// The object that a name leads to from a directory, found through an index of its names: beside the header only the pages
 /// of slots are asked for that the index has under the name's hash.
-pub fn find_among<P: Pages>(
+pub fn find<P: Pages>(
     names: &NameIndex,
     pages: &mut P,
     directory: u64,

@@ -1,19 +1,16 @@
-// The look-up of a name.
-ghost use Rattle.std.specs.Prelude.{◌≡◌, ◌<◌, ◌≤◌, ◌+◌, ◌*◌, ◌/◌, ◌^◌, ℕ, true, OnOk, IfOk, IfErr, IfSome, IsOk, length, take, drop, option_copied};
-ghost use Rattle.std.specs.FinMap as map;
+// What slots say of a name.
+ghost use Rattle.std.specs.Prelude.{◌≡◌, ◌<◌, ◌≤◌, ◌+◌, ◌*◌, ◌/◌, ◌^◌, true, OnOk, IfOk, IfErr, IfSome, IsOk, length, option_copied};
 ghost use Rattle.std.specs.Int.{div_ceil};
 ghost use Rattle.page_tags.specs.Slots.{Entry, slot_bytes};
 ghost use Rattle.flash_tree.specs.Slots.{IsTreeSlot};
 ghost use Rattle.volume_terms.specs.Sizes.{Sizes, page_slots, slot_length};
-ghost use Rattle.posix_profile.specs.State.{Entries};
 ghost use Rattle.pages.specs.Afterwards.{after, IsSizedBy};
 ghost use Rattle.pages.specs.Faults.{MayLack, SaysWhy};
 ghost use Rattle.pages.specs.State.{OnlyFinds, KeepsPower};
 ghost use Rattle.pages.specs.declared.fault.PageFault.TheVariants as faults;
-ghost use Rattle.directories.specs.Directories.{DirIn, SlotOf, TellsName, TellsSlot};
+ghost use Rattle.directories.specs.Directories.{SlotOf, TellsSlot};
 ghost use Rattle.directories.specs.Slots.{NamedBy, SlotAt, AreSlots, Finds};
 
-use crate::head::head_after;
 use crate::page::slot_of;
 use flash_tree::{Key, decode_tree_slot};
 use pages::{Change, PageFault, Pages, load, load_after, page_after};
@@ -24,27 +21,6 @@ use volume_terms::SLOT_BYTES;
 pub(crate) struct Located {
     pub(crate) place: u32,
     pub(crate) object: u64,
-}
-
-/// The object that a name leads to from a directory. Each page is asked for once.
-pub fn find<P: Pages>(pages: &mut P, directory: u64, name: &[u8]) -> Result<Option<u64>, PageFault>
-    ensures finds { OnlyFinds (P.state pages.old) (P.state pages.new) }
-    ensures asked { (z : Sizes) (moment : ℕ) (entries : Entries) (d : DirIn (P.state pages.old) z directory moment entries)
-        → (P.state pages.new).asked ≤ (P.state pages.old).asked + 1 + div_ceil (map.len entries) (page_slots z) }
-    ensures power { OnOk result (KeepsPower (P.state pages.old) (P.state pages.new)) }
-    ensures found { (z : Sizes) (moment : ℕ) (entries : Entries) (d : DirIn (P.state pages.old) z directory moment entries)
-        → IfOk result (λ found. found ≡ map.get entries name.now) }
-    ensures told { (P.state pages.old).sound ≡ true → (z : Sizes) → z.page_bytes ≡ (P.state pages.old).page_bytes
-        → IfOk result (TellsName z (P.state pages.old) directory name.now) }
-    ensures why { IfErr result (SaysWhy (P.state pages.new)) }
-    ensures fault { (z : Sizes) (moment : ℕ) (entries : Entries) (d : DirIn (P.state pages.old) z directory moment entries)
-        → IfErr result (MayLack (P.state pages.new)) }
-{
-    let head = head_after(pages, None, directory)?;
-    match search(pages, None, directory, head.length, name)? {
-        Some(found) => Ok(Some(found.object)),
-        None => Ok(None),
-    }
 }
 
 /// The object that a slot of a directory leads to, if it has this name. One page is asked for.

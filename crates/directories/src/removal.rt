@@ -1,101 +1,23 @@
-// The removal of a name.
-ghost use Rattle.std.specs.Prelude.{◌≡◌, ◌<◌, ◌≤◌, ◌+◌, ◌^◌, ℕ, [], true, OnOk, IfOk, IfErr, IfSome, option_copied};
-ghost use Rattle.std.specs.FinMap as map;
-ghost use Rattle.std.specs.Int.{div_ceil};
+// The removal of a slot.
+ghost use Rattle.std.specs.Prelude.{◌≡◌, ◌<◌, ◌≤◌, ◌+◌, ◌^◌, ℕ, [], true, OnOk, IfOk, IfErr, option_copied};
 ghost use Rattle.page_tags.specs.Slots.{Entry};
-ghost use Rattle.volume_terms.specs.Sizes.{Sizes, page_slots};
-ghost use Rattle.posix_profile.specs.State.{Entries};
+ghost use Rattle.volume_terms.specs.Sizes.{Sizes};
 ghost use Rattle.pages.specs.Afterwards.{after, IsSizedBy};
 ghost use Rattle.pages.specs.Changes.{IsChange, IsOnlyOf};
 ghost use Rattle.pages.specs.Faults.{MayLack, SaysWhy, MayLackMemory, SaysWhyMaking};
 ghost use Rattle.pages.specs.Maps.{PageMap, changed};
 ghost use Rattle.pages.specs.State.{OnlyFinds, KeepsPower};
-ghost use Rattle.directories.specs.Directories.{DirIn, HasOnly, ReadsDirectory, SlotOf, IsNamed, TellsChange};
+ghost use Rattle.directories.specs.Directories.{HasOnly, SlotOf};
 ghost use Rattle.directories.specs.Slots.{AreSlots};
 ghost use Rattle.directories.specs.Writes.{HasHead, HasKey, IsSlotBytes, KeepsBehind, KeepsSlots, LosesSlot, CutsBehind};
 
-use crate::head::{DirectoryHead, head_after, head_page};
-use crate::lookup::search;
+use crate::head::{DirectoryHead, head_page};
 use crate::page::slot_of;
 use crate::writing::{Writing, write};
 use flash_tree::{Key, decode_tree_slot};
 use pages::{Change, Cut, PageFault, Pages, load_after, page_after};
 use std::alloc::{AllocError, Global};
 use volume_terms::SLOT_BYTES;
-
-/// The change that takes a name from a directory: the last slot stands in its place then, and a page without slots
-/// goes. There is none where the directory has no such name.
-pub fn remove<P: Pages>(
-    alloc: Global,
-    pages: &mut P,
-    directory: u64,
-    name: &[u8],
-    moment: u64,
-) -> Result<Option<Change>, PageFault>
-    ensures finds { OnlyFinds (P.state pages.old) (P.state pages.new) }
-    ensures asked { (z : Sizes) (before : ℕ) (entries : Entries) (d : DirIn (P.state pages.old) z directory before entries)
-        → (P.state pages.new).asked ≤ (P.state pages.old).asked + 3 + div_ceil (map.len entries) (page_slots z) }
-    ensures power { OnOk result (KeepsPower (P.state pages.old) (P.state pages.new)) }
-    ensures change { IfOk result (λ made. IfSome made (λ change. IsChange change (P.state pages.old).page_bytes 2)) }
-    ensures only { IfOk result (λ made. IfSome made (λ change. IsOnlyOf change directory)) }
-    ensures named { (z : Sizes) (before : ℕ) (entries : Entries) (d : DirIn (P.state pages.old) z directory before entries)
-        → IfOk result (λ made. IsNamed entries name.now made) }
-    ensures removes { (z : Sizes) (before : ℕ) (entries : Entries) (d : DirIn (P.state pages.old) z directory before entries)
-        → IfOk result (λ made. IfSome made (λ change. ReadsDirectory z (changed change (P.state pages.old).present) directory moment (map.remove entries name.now) d.reads.fields.spare)) }
-    ensures besides { (z : Sizes) (before : ℕ) (entries : Entries) (d : DirIn (P.state pages.old) z directory before entries) → HasOnly z (P.state pages.old).present directory (map.len entries)
-        → IfOk result (λ made. IfSome made (λ change. HasOnly z (changed change (P.state pages.old).present) directory (map.len (map.remove entries name.now)))) }
-    ensures told { (P.state pages.old).sound ≡ true → (z : Sizes) → z.page_bytes ≡ (P.state pages.old).page_bytes
-        → IfOk result (TellsChange z (P.state pages.old) directory name.now) }
-    ensures why { IfErr result (SaysWhyMaking (P.state pages.new)) }
-    ensures fault { (z : Sizes) (before : ℕ) (entries : Entries) (d : DirIn (P.state pages.old) z directory before entries)
-        → IfErr result (MayLackMemory (P.state pages.new)) }
-{
-    remove_after(alloc, pages, None, directory, name, moment)
-}
-
-/// The same after an earlier change.
-pub(crate) fn remove_after<P: Pages>(
-    alloc: Global,
-    pages: &mut P,
-    earlier: Option<&Change>,
-    directory: u64,
-    name: &[u8],
-    moment: u64,
-) -> Result<Option<Change>, PageFault>
-    requires { IsSizedBy (option_copied earlier) (P.state pages.old).page_bytes }
-    ensures finds { OnlyFinds (P.state pages.old) (P.state pages.new) }
-    ensures asked { (z : Sizes) (before : ℕ) (entries : Entries) (d : DirIn (after (option_copied earlier.entry) (P.state pages.old)) z directory before entries)
-        → (P.state pages.new).asked ≤ (P.state pages.old).asked + 3 + div_ceil (map.len entries) (page_slots z) }
-    ensures power { OnOk result (KeepsPower (P.state pages.old) (P.state pages.new)) }
-    ensures change { IfOk result (λ made. IfSome made (λ change. IsChange change (P.state pages.old).page_bytes 2)) }
-    ensures only { IfOk result (λ made. IfSome made (λ change. IsOnlyOf change directory)) }
-    ensures head { IfOk result (λ made. IfSome made (λ change. HasKey change directory 0)) }
-    ensures named { (z : Sizes) (before : ℕ) (entries : Entries) (d : DirIn (after (option_copied earlier.entry) (P.state pages.old)) z directory before entries)
-        → IfOk result (λ made. IsNamed entries name.now made) }
-    ensures removes { (z : Sizes) (before : ℕ) (entries : Entries) (d : DirIn (after (option_copied earlier.entry) (P.state pages.old)) z directory before entries)
-        → IfOk result (λ made. IfSome made (λ change. ReadsDirectory z (changed change (after (option_copied earlier.entry) (P.state pages.old)).present) directory moment
-        (map.remove entries name.now) d.reads.fields.spare)) }
-    ensures besides { (z : Sizes) (before : ℕ) (entries : Entries) (d : DirIn (after (option_copied earlier.entry) (P.state pages.old)) z directory before entries)
-        → HasOnly z (after (option_copied earlier.entry) (P.state pages.old)).present directory (map.len entries)
-        → IfOk result (λ made. IfSome made (λ change. HasOnly z (changed change (after (option_copied earlier.entry) (P.state pages.old)).present) directory (map.len (map.remove entries name.now)))) }
-    ensures told { (P.state pages.old).sound ≡ true → (z : Sizes) → z.page_bytes ≡ (P.state pages.old).page_bytes
-        → IfOk result (TellsChange z (after (option_copied earlier.entry) (P.state pages.old)) directory name.now) }
-    ensures why { IfErr result (SaysWhyMaking (P.state pages.new)) }
-    ensures fault { (z : Sizes) (before : ℕ) (entries : Entries) (d : DirIn (after (option_copied earlier.entry) (P.state pages.old)) z directory before entries)
-        → IfErr result (MayLackMemory (P.state pages.new)) }
-{
-    let head = head_after(pages, earlier, directory)?;
-    let Some(found) = search(pages, earlier, directory, head.length, name)? else {
-        return Ok(None);
-    };
-    let shorter = DirectoryHead {
-        length: head.length - 1,
-        moment,
-        ..head
-    };
-    let change = remove_slot(alloc, pages, earlier, directory, found.place, shorter)?;
-    Ok(Some(change))
-}
 
 /// Takes a slot from a directory, after an earlier change; the header that is given counts one slot less than there
 /// are.

@@ -1,23 +1,23 @@
-// The move of a name that is found through an index.
-ghost use Rattle.std.specs.Prelude.{◌≡◌, ◌≢◌, ◌≤◌, ◌+◌, ℕ, true, OnOk, IfOk, IfErr, IfSome, option_copied};
+// The move of a name.
+ghost use Rattle.std.specs.Prelude.{◌≡◌, ◌≢◌, ◌≤◌, ◌+◌, ◌/◌, ℕ, true, OnOk, IfOk, IfErr, IfSome, option_copied};
 ghost use Rattle.std.specs.FinMap as map;
 ghost use Rattle.page_tags.specs.SlotEntry.{entry_of};
 ghost use Rattle.flash_tree.specs.Slots.{IsTreeSlot};
-ghost use Rattle.volume_terms.specs.Sizes.{Sizes};
+ghost use Rattle.volume_terms.specs.Sizes.{Sizes, page_slots};
 ghost use Rattle.posix_profile.specs.State.{Entries};
 ghost use Rattle.pages.specs.Afterwards.{after, IsSizedBy};
 ghost use Rattle.pages.specs.Changes.{IsChange, IsOnlyOf};
 ghost use Rattle.pages.specs.Faults.{SaysWhyChanging};
-ghost use Rattle.pages.specs.Maps.{changed};
+ghost use Rattle.pages.specs.Maps.{PageMap, changed};
 ghost use Rattle.pages.specs.State.{OnlyFinds, KeepsPower};
-ghost use Rattle.directories.specs.Directories.{DirIn, HasOnly, ReadsDirectory, IsNamed};
+ghost use Rattle.directories.specs.Directories.{DirIn, HasOnly, ReadsDirectory, SlotOf, IsNamed};
 ghost use Rattle.directories.specs.Faults.{MayLackRoom};
 ghost use Rattle.directories.specs.Hashing.{WritesPast};
 ghost use Rattle.directories.specs.Named.{NamedIn, AsksHeld, StandsAt};
-ghost use Rattle.directories.specs.Writes.{HasKey};
+ghost use Rattle.directories.specs.Slots.{AreSlots};
+ghost use Rattle.directories.specs.Writes.{HasHead, HasKey, KeepsPages, KeepsSlots};
 
 use crate::head::{DirectoryHead, head_after};
-use crate::moving::{Route, push_slot};
 use crate::seeking::seek;
 use crate::taking::take_name;
 use crate::writing::{Writing, write};
@@ -28,7 +28,7 @@ use std::alloc::Global;
 
 /// The change that gives an entry of a directory another name in it, which then leads to the slot's object, also where
 /// it led to another. Both are found through an index of its names. There is none where the directory has no such name.
-pub fn rename_within_among<P: Pages>(
+pub fn rename_within<P: Pages>(
     alloc: Global,
     names: &NameIndex,
     pages: &mut P,
@@ -69,10 +69,17 @@ pub fn rename_within_among<P: Pages>(
     Ok(Some(change))
 }
 
+/// The directory that an entry is moved from, and the one that it is moved to.
+#[derive(Clone, Copy, Debug, PartialEq, Eq)]
+pub struct Route {
+    pub source: u64,
+    pub target: u64,
+}
+
 /// The change that moves an entry of one directory to another, under a name which then leads to the slot's object, also
 /// where it led to another. Both are found through an index of their names. There is none where the first has no such
 /// name.
-pub fn rename_between_among<P: Pages>(
+pub fn rename_between<P: Pages>(
     alloc: Global,
     names: &NameIndex,
     pages: &mut P,
@@ -169,4 +176,52 @@ fn put_at<P: Pages>(
         }
         None => push_slot(alloc, pages, earlier, directory, head, slot, moment),
     }
+}
+
+/// Writes a slot behind those that the header counts, after an earlier change.
+fn push_slot<P: Pages>(
+    alloc: Global,
+    pages: &mut P,
+    earlier: Option<&Change>,
+    directory: u64,
+    head: DirectoryHead,
+    slot: &Slot,
+    moment: u64,
+) -> Result<Change, PageFault>
+    requires sized { IsSizedBy (option_copied earlier) (P.state pages.old).page_bytes }
+    requires valid { IsTreeSlot (entry_of slot.now) }
+    ensures finds { OnlyFinds (P.state pages.old) (P.state pages.new) }
+    ensures asked { (P.state pages.new).asked ≤ (P.state pages.old).asked + 1 }
+    ensures power { OnOk result (KeepsPower (P.state pages.old) (P.state pages.new)) }
+    ensures change { IfOk result (λ change. IsChange change (P.state pages.old).page_bytes 2) }
+    ensures only { IfOk result (λ change. IsOnlyOf change directory) }
+    ensures head { IfOk result (λ change. HasKey change directory 0) }
+    ensures slot { (P.state pages.old).sound ≡ true → (z : Sizes) → z.page_bytes ≡ (P.state pages.old).page_bytes
+        → IfOk result (λ change. HasKey change directory (1 + head.length / page_slots z)) }
+    ensures pushes { (P.state pages.old).sound ≡ true → (z : Sizes) → z.page_bytes ≡ (P.state pages.old).page_bytes
+        → let old = (after (option_copied earlier.entry) (P.state pages.old)).present in
+        IfOk result (λ change. HasHead z (changed change old) directory (record { spare = head.spare; length = head.length + 1; moment = moment })
+        × SlotOf z (changed change old) directory head.length (entry_of slot.now)
+        × KeepsSlots z old (changed change old) directory head.length head.length) }
+    ensures pages { (P.state pages.old).sound ≡ true → (z : Sizes) (m : PageMap) → z.page_bytes ≡ (P.state pages.old).page_bytes
+        → IfOk result (λ change. KeepsPages z m (changed change m) directory head.length) }
+    ensures why { IfErr result (SaysWhyChanging (P.state pages.new)) }
+    ensures fault { (P.state pages.old).sound ≡ true → (z : Sizes) → z.page_bytes ≡ (P.state pages.old).page_bytes
+        → AreSlots (SlotOf z (after (option_copied earlier.entry) (P.state pages.old)).present directory) 0 head.length
+        → IfErr result (MayLackRoom head.length (P.state pages.new)) }
+{
+    let Some(length) = head.length.checked_add(1) else {
+        return Err(PageFault::Full);
+    };
+    let writing = Writing {
+        number: head.length,
+        before: head.length,
+        afterwards: length,
+    };
+    let longer = DirectoryHead {
+        length,
+        moment,
+        ..head
+    };
+    write(alloc, pages, earlier, directory, writing, slot, longer)
 }

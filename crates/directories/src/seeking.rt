@@ -1,5 +1,5 @@
 // The search of a name through an index.
-ghost use Rattle.std.specs.Prelude.{◌≡◌, ◌<◌, ◌≤◌, ◌+◌, ℕ, List, true, OnOk, IfOk, IfErr, IfSome};
+ghost use Rattle.std.specs.Prelude.{◌≡◌, ◌<◌, ◌+◌, ℕ, List, true, OnOk, IfOk, IfErr, IfSome};
 ghost use Rattle.name_index.specs.Hashes.{fnv1a};
 ghost use Rattle.name_index.specs.Names.{Holds};
 ghost use Rattle.page_tags.specs.Slots.{Entry};

@@ -1,5 +1,5 @@
-// The removal of a name that is found through an index.
-ghost use Rattle.std.specs.Prelude.{◌≡◌, ◌<◌, ◌≤◌, ◌+◌, ℕ, true, None, OnOk, IfOk, IfErr, IfSome, IfNone};
+// The removal of a name.
+ghost use Rattle.std.specs.Prelude.{◌≡◌, ◌+◌, ℕ, true, None, OnOk, IfOk, IfErr, IfSome, IfNone};
 ghost use Rattle.std.specs.FinMap as map;
 ghost use Rattle.volume_terms.specs.Sizes.{Sizes};
 ghost use Rattle.posix_profile.specs.State.{Entries};
@@ -98,7 +98,7 @@ pub(crate) fn take_name<P: Pages>(
 
 /// The change that takes a name from a directory, found through an index of its names: the last slot stands in its place
 /// then, and a page without slots goes. There is none where the directory has no such name.
-pub fn remove_among<P: Pages>(
+pub fn remove<P: Pages>(
     alloc: Global,
     names: &NameIndex,
     pages: &mut P,

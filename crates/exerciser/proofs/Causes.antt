@@ -1,17 +1,14 @@
 -- Why sessions end.
-use Rattle.std.proofs.Common.{◌≡◌, ℕ, List, Option, Result, Ok, Err, sym, subst}
+use Rattle.std.proofs.Common.{◌≡◌, ℕ, List, Option, Err, sym, subst}
 use Rattle.nand_model.specs.Calls.{Device}
 use Rattle.mounting.specs.declared.fault.MountFault.{MountFault}
 use Rattle.mounting.specs.declared.fault.MountFault.TheVariants as mounts
 use Rattle.powercut.specs.declared.session.SessionEnd.{SessionEnd}
 use Rattle.exerciser.specs.Faults.{of_mount}
 use Rattle.exerciser.specs.Causes.{IsAnswered, CountsCalls, IsOfSession, WhyNotBegun, HasCause}
-use Rattle.exerciser.specs.Cutting.{Goes}
 use Rattle.exerciser.specs.Lines.{IsTold}
 use Rattle.exerciser.specs.declared.fault.CutFault.{CutFault}
 use Rattle.exerciser.specs.declared.fault.CutFault.TheVariants as faults
-use Rattle.exerciser.specs.declared.finding.Finding.{Finding}
-use Rattle.exerciser.specs.declared.finding.Finding.TheVariants as findings
 
 -- a session that is not counted is not done
 pub not_counted : (calls : ℕ) (end : SessionEnd) (fault : CutFault) → CountsCalls end calls (Err fault) → IsOfSession fault
@@ -59,18 +56,6 @@ not_told first old new text faults.Unread told = tt
 not_told first old new text faults.Torn told = tt
 not_told first old new text faults.Write told = tt
 
--- both ends are the same
-abbrev SameEnd : (one other : Result (Unit {0}) CutFault) → Type 0
-SameEnd one other = one ≡ other
-
-is_torn : (fault : CutFault) → SameEnd (Err fault) (Err faults.Torn) → fault ≡ faults.Torn
-is_torn fault e = cc
-
-is_no_fault : (fault : CutFault) → SameEnd (Err fault) (Ok tt) → ⊥
-is_no_fault fault e = cc
-
 -- a tree is torn
-pub not_kept : (first : Device) (finding : Finding) (fault : CutFault) → Goes finding (Err fault) → HasCause first fault
-not_kept first (findings.Kept count) fault goes = absurd (is_no_fault fault goes)
-not_kept first findings.Torn fault goes = subst (λ f. HasCause first f) (sym (is_torn fault goes)) tt
-not_kept first (findings.Mount why) fault goes = subst (λ f. HasCause first f) (sym (is_torn fault goes)) tt
+pub not_kept : (first : Device) (fault : CutFault) → fault ≡ faults.Torn → HasCause first fault
+not_kept first fault is = subst (λ f. HasCause first f) (sym is) tt

@@ -1,4 +1,5 @@
 pub mod Drawing
 pub mod Sessions
 pub mod Covering
+pub mod Following
 pub mod Causes

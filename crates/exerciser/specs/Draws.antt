@@ -1,5 +1,12 @@
 -- Which calls of the device are cut, drawn from a seed.
-use Rattle.std.specs.Prelude.{◌≡◌, ℕ, zero, suc, ◌≤◌}
+use Rattle.std.specs.Prelude.{◌≡◌, ℕ, zero, suc, ◌≤◌, max, Ok}
+use Rattle.nand_model.specs.Calls.{Device}
+use Rattle.nand_model.specs.MemoryState.{device, plan}
+use Rattle.nand_model.specs.declared.memory.MemNand.{MemNand}
+use Rattle.powercut.specs.Sessions.{IsEnded}
+use Rattle.powercut.specs.declared.session.Session.{Session}
+use Rattle.powercut.specs.declared.session.SessionEnd.{SessionEnd}
+use Rattle.exerciser.specs.Causes.{CountsCalls}
 use Rattle.cut_draws.specs.Draws.{answers, operation_of, next_words}
 use Rattle.rand_core.specs.Pcg32Seed.{pcg32_seed}
 use Rattle.rand_core.specs.Stream.{Stream, next_u64}
@@ -21,3 +28,14 @@ session_word seed pages before = (next_u64 (words_after seed pages before)).0
 -- the word draws this call, among those of some session, of which there is at least one
 abbrev pub IsDrawn : (word operation : ℕ) → Type 0
 IsDrawn word operation = (calls : ℕ) × (1 ≤ calls) × (operation ≡ operation_of calls word)
+
+-- the session makes so many calls from its power-up on, with its mount and its unmount, which are done, on a device like this
+pub record IsCountOf (first : Device) (session : Session) (calls : ℕ) : Type 0 where
+  pub last : MemNand
+  pub end : SessionEnd
+  pub ended : IsEnded session end first (device last)
+  pub counted : CountsCalls end (plan last).calls (Ok calls)
+
+-- the word draws this call, among those that the session makes on the device
+abbrev pub IsDrawnAmong : Device → Session → (word operation : ℕ) → Type 0
+IsDrawnAmong first session word operation = (calls : ℕ) × IsCountOf first session calls × (operation ≡ operation_of (max calls 1) word)

@@ -1,8 +1,11 @@
--- What the commands of a session change, as they were answered.
-use Rattle.std.specs.Prelude.{Bool, true, false, if◌then◌else◌}
+-- What the commands of a session change, as they were answered, and which tree it may leave.
+use Rattle.std.specs.Prelude.{◌≡◌, ℕ, ◌≤◌, Bool, true, false, if◌then◌else◌, List, [], ◌∷◌, length, take, Option, Some, None}
 use Rattle.volume_terms.specs.Sizes.{Sizes}
+use Rattle.plain_volume.specs.Views.{PlainView}
+use Rattle.posix_profile.specs.Losses.{Covers}
+use Rattle.posix_profile.specs.Names.{settle}
 use Rattle.posix_profile.specs.Runs.{after_one}
-use Rattle.posix_profile.specs.State.{State}
+use Rattle.posix_profile.specs.State.{Objects, State}
 use Rattle.posix_profile.specs.declared.command.Stamped.{Stamped}
 use Rattle.posix_profile.specs.declared.reply.Errno.TheVariants as errors
 use Rattle.posix_profile.specs.declared.reply.Reply.{Reply}
@@ -16,3 +19,30 @@ is_read_only reply = false
 -- the state after a command with this reply: one that a read-only volume refused is passed over too
 abbrev pub after_told : Sizes → Bool → State → Stamped → Reply → State
 after_told z read_only s command reply = if is_read_only reply then s else after_one z read_only s command reply
+
+-- the state after the commands that were answered
+abbrev pub after_all_told : Sizes → Bool → State → List Stamped → List Reply → State
+after_all_told z read_only s commands [] = s
+after_all_told z read_only s [] (reply ∷ replies) = s
+after_all_told z read_only s (command ∷ commands) (reply ∷ replies) = after_all_told z read_only (after_told z read_only s command reply) commands replies
+
+-- what a mount shows of a tree
+abbrev pub shown_of : PlainView → Objects
+shown_of tree = (settle tree.state).objects
+
+-- what a mount shows of a tree after the first k commands, which were answered so
+abbrev pub shown_after : PlainView → List Stamped → List Reply → ℕ → Objects
+shown_after tree commands replies k = (settle (after_all_told tree.sizes tree.read_only tree.state commands (take k replies))).objects
+
+-- A session on a tree, whose commands were answered so, may leave the other tree: the one after its first k commands, which are at
+-- least all that a done sync covers, and no more than were answered.
+pub record Leaves (before : PlainView) (commands : List Stamped) (replies : List Reply) (tree : PlainView) (k : ℕ) : Type 0 where
+  pub covers : Covers commands replies k
+  pub asked : k ≤ length commands
+  pub answered : k ≤ length replies
+  pub same : shown_after before commands replies k ≡ shown_of tree
+
+-- the least number of commands after which it leaves the tree; none where it may not leave it
+abbrev pub IsLeast : PlainView → List Stamped → List Reply → PlainView → Option ℕ → Type 0
+IsLeast before commands replies tree (Some k) = Leaves before commands replies tree k × ((j : ℕ) → Leaves before commands replies tree j → k ≤ j)
+IsLeast before commands replies tree None = (k : ℕ) → Leaves before commands replies tree k → ⊥

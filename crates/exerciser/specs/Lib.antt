@@ -2,5 +2,6 @@ pub mod Faults
 pub mod Causes
 pub mod Draws
 pub mod Lines
-pub mod Cutting
 pub mod Keeping
+pub mod Seen
+pub mod Cutting

@@ -1,13 +1,10 @@
 -- The lines that are told of sessions.
-use Rattle.std.specs.Prelude.{ℕ, ◌≤◌, List, [], ◌∷◌, ◌++◌, length, Option, Result, Ok, Err, codes}
+use Rattle.std.specs.Prelude.{ℕ, List, [], ◌∷◌, ◌++◌, Option, Result, Ok, Err, codes}
 use Rattle.std.specs.Io.KnownBytes.{Appends}
 use Rattle.line_shell.specs.Replies.{newline, numbers_text}
 use Rattle.line_shell.specs.Written.{AppendsPart}
 use Rattle.mounting.specs.declared.fault.MountFault.{MountFault}
 use Rattle.mounting.specs.declared.fault.MountFault.TheVariants as mounts
-use Rattle.posix_profile.specs.Losses.{Covers}
-use Rattle.posix_profile.specs.declared.command.Stamped.{Stamped}
-use Rattle.posix_profile.specs.declared.reply.Reply.{Reply}
 use Rattle.exerciser.specs.declared.fault.CutFault.{CutFault}
 use Rattle.exerciser.specs.declared.fault.CutFault.TheVariants as faults
 use Rattle.exerciser.specs.declared.finding.Finding.{Finding}
@@ -31,18 +28,6 @@ finding_text (findings.Mount fault) commands = codes " mount " ++ mount_name fau
 abbrev pub session_line : (number operation : ℕ) → Finding → (commands : ℕ) → List ℕ
 session_line number operation finding commands =
     (codes "session" ++ numbers_text (number ∷ [])) ++ ((codes " op" ++ numbers_text (operation ∷ [])) ++ (finding_text finding commands ++ (newline ∷ [])))
-
--- no more commands are kept than there are
-abbrev pub IsWithin : ℕ → Finding → Type 0
-IsWithin commands (findings.Kept count) = count ≤ commands
-IsWithin commands findings.Torn = Unit {0}
-IsWithin commands (findings.Mount fault) = Unit {0}
-
--- all commands that a done sync covers are kept, and of the others only such as were answered
-abbrev pub IsKept : List Stamped → List Reply → Finding → Type 0
-IsKept commands replies (findings.Kept count) = Covers commands replies count × (count ≤ length replies)
-IsKept commands replies findings.Torn = Unit {0}
-IsKept commands replies (findings.Mount fault) = Unit {0}
 
 -- the text is out, unless the writer failed
 abbrev pub IsTold : Option (List ℕ) → Option (List ℕ) → List ℕ → Result (Unit {0}) CutFault → Type 0

@@ -1,23 +1,26 @@
 // Sessions that are cut at drawn calls of the device.
-ghost use Rattle.std.specs.Prelude.{◌≡◌, ◌≤◌, map, length, Some, IfOk, IfErr, OnOk};
+ghost use Rattle.std.specs.Prelude.{◌≡◌, ◌≤◌, ℕ, map, None, Some, IfOk, IfErr, OnOk};
+ghost use Rattle.nand_model.specs.Calls.{Device};
 ghost use Rattle.rand_core.specs.Stream.{next_u64};
 ghost use Rattle.nand_model.specs.MemoryState.{device};
 ghost use Rattle.cut_draws.specs.Draws.{answers, operation_of, fate_of, next_words};
+ghost use Rattle.powercut.specs.Sessions.{IsEnded};
 ghost use Rattle.powercut.specs.Starting.{fuse_of};
 ghost use Rattle.exerciser.specs.Causes.{IsOfSession, HasCause};
-ghost use Rattle.exerciser.specs.Draws.{words_after_session, session_word, IsDrawn};
-ghost use Rattle.exerciser.specs.Lines.{IsWithin};
-ghost use Rattle.exerciser.specs.Cutting.{Cuts, Goes};
+ghost use Rattle.exerciser.specs.Draws.{words_after_session, session_word, IsDrawnAmong};
+ghost use Rattle.exerciser.specs.Cutting.{Cuts};
+ghost use Rattle.exerciser.specs.Seen.{IsSeen, IsTorn};
 ghost use Rattle.exerciser.specs.declared.fault.CutFault.TheVariants as faults;
+ghost use Rattle.exerciser.specs.declared.seen.Seen.TheVariants as seens;
 
 use crate::fault::CutFault;
-use crate::finding::Finding;
 use crate::looking::{Standing, begin, count_calls, live_once, look};
+use crate::seen::Seen;
 use crate::telling::tell;
 use cut_draws::draw;
 use nand_model::{MemNand, Nand};
 use posix_profile::Stamped;
-use powercut::Session;
+use powercut::{Session, SessionEnd};
 use rand_core::SeedableRng;
 use rand_pcg::Lcg128Xsl64;
 use std::alloc::Global;
@@ -54,7 +57,7 @@ fn draw_fuse(
 ) -> Result<u64, CutFault>
     ensures commands { session.new.commands ≡ session.old.commands }
     ensures fuse { IfOk result (λ operation. fuse_of session.new.fuse ≡ Some (operation, map fate_of (next_words pages (next_u64 (answers generator.old)).1).0)) }
-    ensures drawn { IfOk result (λ operation. IsDrawn (next_u64 (answers generator.old)).0 operation) }
+    ensures drawn { IfOk result (IsDrawnAmong (device nand.now) (record session.old { fuse = None }) (next_u64 (answers generator.old)).0) }
     ensures left { OnOk result (answers generator.new ≡ words_after_session pages (answers generator.old)) }
     ensures fault { IfErr result IsOfSession }
 {
@@ -63,34 +66,52 @@ fn draw_fuse(
     set_fuse(alloc, session, generator, calls, pages)
 }
 
-/// Does a session that is cut at a drawn call, and tells the call and what a mount finds after it.
+/// A session that was cut at a drawn call: the device after the mount that followed, how the session ended, the call, and
+/// what the mount shows.
+#[derive(Drop)]
+struct Exercised {
+    device: MemNand,
+    end: SessionEnd,
+    operation: u64,
+    seen: Seen,
+}
+
+/// Does a session that is cut at a drawn call, and mounts the device after it.
 fn exercise(
     alloc: Global,
     standing: Standing,
     session: &mut Session,
     generator: &mut Lcg128Xsl64,
     pages: u32,
-) -> Result<(Standing, u64, Finding), CutFault>
+) -> Result<Exercised, CutFault>
     ensures commands { session.new.commands ≡ session.old.commands }
-    ensures drawn { IfOk result (λ done. IsDrawn (next_u64 (answers generator.old)).0 done.1) }
+    ensures fuse { IfOk result (λ done. fuse_of session.new.fuse ≡ Some (done.operation, map fate_of (next_words pages (next_u64 (answers generator.old)).1).0)) }
+    ensures drawn { IfOk result (λ done. IsDrawnAmong (device standing.device) (record session.old { fuse = None }) (next_u64 (answers generator.old)).0 done.operation) }
     ensures left { OnOk result (answers generator.new ≡ words_after_session pages (answers generator.old)) }
-    ensures within { IfOk result (λ done. IsWithin (length session.old.commands.items) done.2) }
+    ensures ended { IfOk result (λ done. (last : Device) × IsEnded session.new done.end (device standing.device) last) }
+    ensures seen { IfOk result (λ done. IsSeen standing.tree session.old.commands.items done.end.replies.items done.seen) }
     ensures fault { IfErr result IsOfSession }
 {
     let Standing { device, tree } = standing;
     let operation = draw_fuse(alloc, &device, session, generator, pages)?;
     let (device, end) = live_once(alloc, device, session)?;
-    let (standing, finding) = look(alloc, device, tree, &session.commands, &end)?;
-    Ok((standing, operation, finding))
+    let (device, seen) = look(alloc, device, &tree, &session.commands, &end)?;
+    Ok(Exercised {
+        device,
+        end,
+        operation,
+        seen,
+    })
 }
 
-/// Whether the sessions go on after this.
-fn go_on(finding: Finding) -> Result<(), CutFault>
-    ensures { Goes finding result }
+/// Where the sessions go on after this, if they do.
+fn go_on(device: MemNand, seen: Seen) -> Result<Standing, CutFault>
+    ensures kept { IfOk result (λ standing. (count : ℕ) × (seen ≡ seens.Kept count standing.tree)) }
+    ensures torn { IfErr result (λ e. IsTorn seen × (e ≡ faults.Torn)) }
 {
-    match finding {
-        Finding::Kept(_) => Ok(()),
-        Finding::Torn | Finding::Mount(_) => Err(CutFault::Torn),
+    match seen {
+        Seen::Kept(_, tree) => Ok(Standing { device, tree }),
+        Seen::Torn(_) | Seen::Mount(_) => Err(CutFault::Torn),
     }
 }
 
@@ -105,7 +126,7 @@ pub fn cut<W: Write>(
     sessions: u32,
     writer: &mut W,
 ) -> Result<(), CutFault>
-    ensures tells { Cuts (session_word seed (device nand).geometry.pages) (length script.items) sessions (W.contents writer.old) (W.contents writer.new) result }
+    ensures tells { Cuts (session_word seed (device nand).geometry.pages) script.items sessions (W.contents writer.old) (W.contents writer.new) result }
     ensures fault { IfErr result (HasCause (device nand)) }
 {
     let commands = script.len() as u64;
@@ -119,16 +140,10 @@ pub fn cut<W: Write>(
     let pages = nand.geometry().pages();
     let mut standing = begin(alloc, nand)?;
     for before in 0..u64::from(sessions) {
-        let (after, operation, finding) = exercise(
-            alloc,
-            standing,
-            &mut session,
-            &mut generator,
-            pages,
-        )?;
-        tell(writer, before + 1, operation, finding, commands)?;
-        go_on(finding)?;
-        standing = after;
+        let done = exercise(alloc, standing, &mut session, &mut generator, pages)?;
+        let finding = done.seen.finding();
+        tell(writer, before + 1, done.operation, finding, commands)?;
+        standing = go_on(done.device, done.seen)?;
     }
     Ok(())
 }

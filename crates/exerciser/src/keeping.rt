@@ -1,7 +1,7 @@
 // The commands that a cut session kept.
-ghost use Rattle.std.specs.Prelude.{◌≡◌, ◌≤◌, length, IfOk, IfSome, OnOk, OnErr};
+ghost use Rattle.std.specs.Prelude.{◌≡◌, ◌≤◌, ℕ, length, take, IfOk, IfSome, OnOk, OnErr};
 ghost use Rattle.posix_profile.specs.Losses.{is_synced, Covers};
-ghost use Rattle.exerciser.specs.Keeping.{after_told};
+ghost use Rattle.exerciser.specs.Keeping.{after_told, after_all_told, IsLeast};
 
 use plain_tree::{Answers, PlainTree, TreeFault};
 use posix_profile::{Command, Errno, Reply, Stamped};
@@ -21,6 +21,7 @@ fn is_synced(command: &Command, reply: &Reply) -> bool
 /// How many of the commands are those up to the last sync that is done.
 fn covered(script: &[Stamped], replies: &[Reply]) -> usize
     ensures covers { Covers script.now replies.now result }
+    ensures least { (k : ℕ) → Covers script.now replies.now k → result ≤ k }
     ensures begun { result ≤ length replies.now }
     ensures within { result ≤ length script.now }
 {
@@ -50,15 +51,48 @@ fn follow(tree: &mut PlainTree, stamped: &Stamped, reply: &Reply) -> Result<(), 
     }
 }
 
-/// Does the commands that were answered in the tree, in turn.
-fn follow_all(tree: &mut PlainTree, script: &[Stamped], replies: &[Reply]) -> Result<(), AllocError>
+/// Does the first so many commands in the tree, in turn, as they were answered.
+fn follow_first(
+    tree: &mut PlainTree,
+    script: &[Stamped],
+    replies: &[Reply],
+    count: usize,
+) -> Result<(), AllocError>
+    requires asked { count ≤ length script.now }
+    requires answered { count ≤ length replies.now }
     ensures sizes { tree.new.sizes ≡ tree.old.sizes }
     ensures read_only { tree.new.read_only ≡ tree.old.read_only }
+    ensures state { OnOk result (tree.new.state ≡ after_all_told tree.old.sizes tree.old.read_only tree.old.state script.now (take count replies.now)) }
 {
-    for (stamped, reply) in script.iter().zip(replies) {
-        follow(tree, stamped, reply)?;
+    for place in 0..count {
+        follow(tree, &script[place], &replies[place])?;
     }
     Ok(())
+}
+
+/// The least number of commands of a session that was answered so after which a mount shows this tree: from those that a done
+/// sync covers to those that were answered. `before` is the tree before the session. None where there is no such number.
+pub(crate) fn least_kept(
+    before: &PlainTree,
+    script: &[Stamped],
+    replies: &[Reply],
+    shown: &PlainTree,
+) -> Result<Option<u64>, AllocError>
+    ensures { IfOk result (IsLeast before.now script.now replies.now shown.now) }
+{
+    let mut tree = before.copy()?;
+    let covered = covered(script, replies);
+    follow_first(&mut tree, script, replies, covered)?;
+    let answered = script.len().min(replies.len());
+    for done in covered..answered + 1 {
+        if tree.shows_same(shown)? {
+            return Ok(Some(done as u64));
+        }
+        if done < answered {
+            follow(&mut tree, &script[done], &replies[done])?;
+        }
+    }
+    Ok(None)
 }
 
 /// The least number of commands of a session after which its tree is that of the volume: from those that a done sync covers
@@ -77,7 +111,7 @@ pub fn kept<V: Answers>(
 {
     let mut tree = before.copy()?;
     let covered = covered(script, &end.replies);
-    follow_all(&mut tree, &script[..covered], &end.replies[..covered])?;
+    follow_first(&mut tree, script, &end.replies, covered)?;
     let answered = script.len().min(end.replies.len());
     for done in covered..answered + 1 {
         if tree.same(volume)? {

@@ -6,6 +6,7 @@ mod fault;
 mod finding;
 mod keeping;
 mod looking;
+mod seen;
 mod sizes;
 mod telling;
 
@@ -13,4 +14,6 @@ pub use cutting::cut;
 pub use fault::CutFault;
 pub use finding::{Finding, mount_fault_name};
 pub use keeping::kept;
+pub use looking::compare;
+pub use seen::Seen;
 pub use telling::tell;

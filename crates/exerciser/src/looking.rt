@@ -1,16 +1,18 @@
 // The sessions and the mounts of an exercise that no fuse cuts.
-ghost use Rattle.std.specs.Prelude.{◌≡◌, length, IfOk, IfErr};
+ghost use Rattle.std.specs.Prelude.{◌≡◌, IfOk, IfErr};
 ghost use Rattle.nand_model.specs.MemoryState.{device};
 ghost use Rattle.page_volume.specs.Volumes.{pages_of};
 ghost use Rattle.posix_calls.specs.Volumes.{over_pages};
+ghost use Rattle.powercut.specs.Sessions.{IsEnded};
 ghost use Rattle.exerciser.specs.Faults.{IsOfReading};
 ghost use Rattle.exerciser.specs.Causes.{IsAnswered, CountsCalls, IsOfSession, WhyNotBegun};
-ghost use Rattle.exerciser.specs.Lines.{IsWithin, IsKept};
+ghost use Rattle.exerciser.specs.Draws.{IsCountOf};
+ghost use Rattle.exerciser.specs.Seen.{IsSeen};
 ghost use Rattle.exerciser.specs.declared.fault.CutFault.TheVariants as faults;
 
 use crate::fault::CutFault;
-use crate::finding::Finding;
-use crate::keeping::kept;
+use crate::keeping::{kept, least_kept};
+use crate::seen::Seen;
 use crate::sizes::sizes_with;
 use flash_pages::FlashPages;
 use nand_model::{Geometry, MemNand, Nand};
@@ -89,7 +91,8 @@ pub(crate) fn live_once(
     nand: MemNand,
     session: &Session,
 ) -> Result<(MemNand, SessionEnd), CutFault>
-    ensures { IfErr result (λ e. e ≡ faults.NoMemory) }
+    ensures ended { IfOk result (λ lived. IsEnded session.now lived.1 (device nand) (device lived.0)) }
+    ensures fault { IfErr result (λ e. e ≡ faults.NoMemory) }
 {
     let (last, mut ends) = live(alloc, nand, std::slice::from_ref(session))?;
     match ends.pop() {
@@ -111,56 +114,100 @@ fn calls_of(end: &SessionEnd, calls: u64) -> Result<u64, CutFault>
 
 /// How many calls of a device a session makes that is not cut, up to the end of its unmount.
 pub(crate) fn count_calls(alloc: Global, nand: &MemNand, session: &Session) -> Result<u64, CutFault>
-    ensures { IfErr result IsOfSession }
+    ensures counted { IfOk result (IsCountOf (device nand.now) session.now) }
+    ensures fault { IfErr result IsOfSession }
 {
     let (last, end) = live_once(alloc, nand.copy()?, session)?;
     calls_of(&end, last.calls())
 }
 
-/// Compares a volume with what a session may leave of a tree, and gives the tree that it shows, or where it is torn the one
-/// before.
+/// The tree that a volume shows; none where its commands tell of none that can be made again.
 #[tactic(auto, using(crate::proofs::Sessions::of_tree_is_reading))]
-fn compare<V: Answers>(
+fn shown_by<V: Answers>(
     alloc: Global,
     geometry: Geometry,
-    before: PlainTree,
-    script: &[Stamped],
-    end: &SessionEnd,
     volume: &mut V,
-) -> Result<(PlainTree, Finding), CutFault>
-    ensures within { IfOk result (λ compared. IsWithin (length script.now) compared.1) }
-    ensures kept { IfOk result (λ compared. IsKept script.now end.now.replies.items compared.1) }
-    ensures fault { IfErr result IsOfReading }
+) -> Result<Option<PlainTree>, CutFault>
+    ensures { IfErr result IsOfReading }
 {
-    match kept(&before, script, end, volume)? {
-        Some(count) => {
-            let tree = tree_of(alloc, geometry, volume)?;
-            Ok((tree, Finding::Kept(count)))
-        }
-        None => Ok((before, Finding::Torn)),
+    match tree_of(alloc, geometry, volume) {
+        Ok(tree) => Ok(Some(tree)),
+        Err(CutFault::Unread) => Ok(None),
+        Err(fault) => Err(fault),
     }
 }
 
-/// What a mount finds after a session from this tree on, and the tree that it shows.
+/// What is seen of a session that left this tree.
+fn judge(
+    before: &PlainTree,
+    script: &[Stamped],
+    replies: &[Reply],
+    shown: PlainTree,
+) -> Result<Seen, CutFault>
+    ensures seen { IfOk result (IsSeen before.now script.now replies.now) }
+    ensures fault { IfErr result (λ e. e ≡ faults.NoMemory) }
+{
+    match least_kept(before, script, replies, &shown)? {
+        Some(count) => Ok(Seen::Kept(count, shown)),
+        None => Ok(Seen::Torn(Some(shown))),
+    }
+}
+
+/// What is seen of a session that left a tree that cannot be made again: its commands are compared with the trees that the
+/// session may leave.
+#[tactic(auto, using(crate::proofs::Sessions::of_tree_is_reading))]
+fn judge_told<V: Answers>(
+    before: &PlainTree,
+    script: &[Stamped],
+    end: &SessionEnd,
+    volume: &mut V,
+) -> Result<Seen, CutFault>
+    ensures seen { IfOk result (IsSeen before.now script.now end.now.replies.items) }
+    ensures fault { IfErr result IsOfReading }
+{
+    match kept(before, script, end, volume)? {
+        Some(_) => Err(CutFault::Unread),
+        None => Ok(Seen::Torn(None)),
+    }
+}
+
+/// Compares what a volume shows with the trees that a session may leave that began with the tree `before`, and ended so. The
+/// volume, which needs a free descriptor, is read by its commands and not changed.
+pub fn compare<V: Answers>(
+    alloc: Global,
+    geometry: Geometry,
+    before: &PlainTree,
+    script: &[Stamped],
+    end: &SessionEnd,
+    volume: &mut V,
+) -> Result<Seen, CutFault>
+    ensures seen { IfOk result (IsSeen before.now script.now end.now.replies.items) }
+    ensures fault { IfErr result IsOfReading }
+{
+    match shown_by(alloc, geometry, volume)? {
+        Some(shown) => judge(before, script, &end.replies, shown),
+        None => judge_told(before, script, end, volume),
+    }
+}
+
+/// What a mount shows after a session from this tree on, and the device.
 pub(crate) fn look(
     alloc: Global,
     device: MemNand,
-    tree: PlainTree,
+    tree: &PlainTree,
     script: &[Stamped],
     end: &SessionEnd,
-) -> Result<(Standing, Finding), CutFault>
-    ensures within { IfOk result (λ looked. IsWithin (length script.now) looked.1) }
-    ensures kept { IfOk result (λ looked. IsKept script.now end.now.replies.items looked.1) }
+) -> Result<(MemNand, Seen), CutFault>
+    ensures seen { IfOk result (λ looked. IsSeen tree.now script.now end.now.replies.items looked.1) }
     ensures fault { IfErr result IsOfReading }
 {
     let geometry = device.geometry();
     match mount(alloc, device) {
         Ok(mut volume) => {
-            let (tree, finding) = compare(alloc, geometry, tree, script, end, &mut volume)?;
-            let device = abandon(volume);
-            Ok((Standing { device, tree }, finding))
+            let seen = compare(alloc, geometry, tree, script, end, &mut volume)?;
+            Ok((abandon(volume), seen))
         }
         Err((_device, MountFault::NoMemory)) => Err(CutFault::NoMemory),
-        Err((device, fault)) => Ok((Standing { device, tree }, Finding::Mount(fault))),
+        Err((device, fault)) => Ok((device, Seen::Mount(fault))),
     }
 }

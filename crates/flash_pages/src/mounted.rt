@@ -1,5 +1,7 @@
 // The pages of a mounted volume.
-ghost use Rattle.std.specs.Prelude.{◌≡◌};
+ghost use Rattle.std.specs.Prelude.{◌≡◌, ◌≤◌, ◌+◌, true, Ok};
+ghost use Rattle.nand_model.specs.Counts.{Costs};
+ghost use Rattle.objects.specs.Sealing.{IsExact, IsSealed};
 ghost use Rattle.flash_pages.specs.declared.mounted.FlashPages.TheVariants as kinds;
 
 use crate::read_only::ReadOnlyPages;
@@ -18,6 +20,7 @@ pub enum FlashPages<N: Nand> {
 
 impl<N: Nand> FlashPages<N> {
     ghost use Rattle.flash_pages.specs.Parts.{device_in};
+    ghost use Rattle.flash_pages.specs.Sealing.{IsDueOf};
 
     /// The device, as it is.
     pub fn into_device(self) -> N
@@ -27,6 +30,23 @@ impl<N: Nand> FlashPages<N> {
         match self {
             FlashPages::Store(store) => store.into_device(),
             FlashPages::ReadOnly(pages) => pages.into_device(),
+        }
+    }
+
+    /// Writes a checkpoint of the pages that are kept, where one is due, and gives the device back. Of pages that are only
+    /// read it makes no call.
+    pub fn seal(self) -> (N, Result<(), StoreFault>)
+        requires exact { IsExact (⟦<FlashPages<N> as Pages>⟧.state self) }
+        ensures seals { IsSealed (IsDueOf self) (⟦<FlashPages<N> as Pages>⟧.state self) (N.state result.0) result.1 }
+        // The erase of a block and the pages of the checkpoint, and for each failure an erase or a mark, and what failed.
+        ensures costs { let d = (⟦<FlashPages<N> as Pages>⟧.state self).device in Costs (d.geometry.pages + 1) 2 0 d (N.state result.0) }
+        // No page is read but one whose program is said to have failed.
+        ensures reads { let d = (⟦<FlashPages<N> as Pages>⟧.state self).device in (N.state result.0).reads + d.failures ≤ d.reads + (N.state result.0).failures }
+        ensures worn { (⟦<FlashPages<N> as Pages>⟧.state self).worn ≡ true → (N.state result.0 ≡ (⟦<FlashPages<N> as Pages>⟧.state self).device) × (result.1 ≡ Ok tt) }
+    {
+        match self {
+            FlashPages::Store(store) => store.seal(),
+            FlashPages::ReadOnly(pages) => (pages.into_device(), Ok(())),
         }
     }
 }

@@ -1,5 +1,5 @@
 -- How sessions that are cut end.
-use Rattle.std.proofs.Common.{◌≡◌, inl, inr, ℕ, List, length, Option, Result, Ok, Err, refl, sym, subst}
+use Rattle.std.proofs.Common.{◌≡◌, inl, inr, ℕ, List, Option, Result, Ok, Err, refl, sym, subst}
 use Rattle.std.specs.Global.{Vec}
 use Rattle.std.specs.Prelude.{IfErr}
 use Rattle.exerciser.specs.Causes.{HasCause}
@@ -32,14 +32,14 @@ module _ {F : Type 0} (known : F → Option (List ℕ)) (image : Option F) (seed
 
     -- the commands were done
     pub script_done : (now : Option (List ℕ)) (script : Vec Stamped) (ended : Result (Unit {0}) CutFault) → ReadsScript input left (Ok script)
-        → Cuts (session_word seed copy.geometry.pages) (length script.items) sessions written now ended → IfErr ended (HasCause copy)
+        → Cuts (session_word seed copy.geometry.pages) script.items sessions written now ended → IfErr ended (HasCause copy)
         → CutEnds known image seed sessions input left written now (cut_ended ended)
     script_done now script ended reads cuts cause =
-        let told = subst (λ g. Cuts (session_word seed g.pages) (length script.items) sessions written now ended) copied.2.geometry cuts in
+        let told = subst (λ g. Cuts (session_word seed g.pages) script.items sessions written now ended) copied.2.geometry cuts in
         inr (copied.0, copied.1, inr (copy, script, ended, copied.2, reads, told, cause, refl))
 
     pub script_stopped : (now : Option (List ℕ)) (script : Vec Stamped) (why : CutFault) (fault : ProgramFault) → fault ≡ of_cut why → ReadsScript input left (Ok script)
-        → Cuts (session_word seed copy.geometry.pages) (length script.items) sessions written now (Err why) → HasCause copy why
+        → Cuts (session_word seed copy.geometry.pages) script.items sessions written now (Err why) → HasCause copy why
         → CutEnds known image seed sessions input left written now (Err fault)
     script_stopped now script why fault is reads cuts cause =
         subst (λ f. CutEnds known image seed sessions input left written now (Err f)) (sym is) (script_done now script (Err why) reads cuts cause)

@@ -1,5 +1,5 @@
 -- What the subcommands do over an image.
-use Rattle.std.specs.Prelude.{◌≡◌, ◌⊎◌, ℕ, true, false, List, length, Option, Some, None, Result, Ok, Err, IfErr}
+use Rattle.std.specs.Prelude.{◌≡◌, ◌⊎◌, ℕ, true, false, List, Option, Some, None, Result, Ok, Err, IfErr}
 use Rattle.std.specs.Global.{Vec}
 use Rattle.exerciser.specs.Causes.{HasCause}
 use Rattle.exerciser.specs.Cutting.{Cuts}
@@ -91,7 +91,7 @@ NoScript input left written now result =
 abbrev pub ScriptCut : Device → (words : ℕ → ℕ) → (sessions : ℕ) → Option (List ℕ) → Option (List ℕ) → Option (List ℕ) → Option (List ℕ) → Result (Unit {0}) ProgramFault → Type 0
 ScriptCut opened words sessions input left written now result =
     (copy : Device) × (script : Vec Stamped) × (ended : Result (Unit {0}) CutFault) × PowersUp opened copy × ReadsScript input left (Ok script)
-    × Cuts words (length script.items) sessions written now ended × IfErr ended (HasCause copy) × (result ≡ cut_ended ended)
+    × Cuts words script.items sessions written now ended × IfErr ended (HasCause copy) × (result ≡ cut_ended ended)
 
 -- sessions that are cut, on a copy of an image: it does not open; or the lines are no script; or they are done, and the words
 -- of the seed draw the calls

@@ -59,6 +59,23 @@ fn each_session_keeps_a_tree(rt: HostRuntime) -> Result<(), Fail> {
     Ok(())
 }
 
+/// A session of these lines makes 263 calls: its mount reads the tags of 256 pages, and the root's header twice; the name is looked
+/// up in that header; the sync erases a block and programs three pages; and the unmount has nothing to write. The first three
+/// sessions are cut in their mounts, by the words 15492934433077865799, 5092013759793669961 and 16206103987400358024 of the seed 1.
+#[test]
+fn a_call_is_drawn_among_those_of_the_session(rt: HostRuntime) -> Result<(), Fail> {
+    let alloc = rt.alloc();
+    let commands = script(alloc, "mkdir /a\nsync\n")?;
+    let mut writer = Vec::new(alloc);
+    let ended = cut(alloc, formatted(alloc)?, commands, 1, 3, &mut writer);
+    assert_eq!(rt; ended, Ok(()));
+    assert_eq!(rt;
+        str::from_utf8(&writer)?,
+        "session 1 op 39 kept 0 of 2\nsession 2 op 246 kept 0 of 2\nsession 3 op 53 kept 0 of 2\n"
+    );
+    Ok(())
+}
+
 #[test]
 fn a_device_without_a_volume_is_not_cut(rt: HostRuntime) -> Result<(), Fail> {
     let alloc = rt.alloc();

@@ -12,3 +12,5 @@ mod lines;
 mod sessions;
 #[cfg(test)]
 mod stories;
+#[cfg(test)]
+mod torn;

@@ -9,7 +9,7 @@ use Rattle.volume_terms.specs.Rounding.{ceiling}
 use Rattle.volume_terms.specs.Sizes.{Sizes, IsSizes, capacity, page_slots, root_number}
 use Rattle.posix_profile.specs.State.{Name, Dir, Objects, IsDirectory}
 use Rattle.posix_profile.specs.Names.{Names}
-use Rattle.posix_profile.specs.Charge.{cost, charge}
+use Rattle.posix_profile.specs.Charge.{cost, charge, fits}
 use Rattle.posix_profile.specs.laws.Fresh.{slots_some}
 use Rattle.posix_profile.specs.laws.Number.{capacity_few}
 use Rattle.posix_profile.specs.laws.Total.{total_without}
@@ -29,15 +29,18 @@ few_slots z sizes = elim sizes.page_bytes [
   ]
 ]
 
--- objects that a volume can have cost too little for a directory that is as large as its header can say
-pub few_entries : (z : Sizes) (objects : Objects) → CanHave z objects → (o : ℕ) (dir : IsDirectory objects o) → map.len dir.1 < 4294967295
-few_entries z objects can o dir =
+-- objects that fit cost too little for a directory that is as large as its header can say
+pub few_fitting : (z : Sizes) (objects : Objects) → IsSizes z → fits z objects ≡ true → (o : ℕ) (dir : IsDirectory objects o) → map.len dir.1 < 4294967295
+few_fitting z objects numbers fit o dir =
     let n : ℕ = map.len dir.1 in
     let s : ℕ = page_slots z in
     let all = total_without nat_cmp_total map.nat_cmp-IsAntisymmetric (cost z) objects o (Dir dir.0 dir.1) dir.2 in
-    let units : ceiling n s ≤ 4096 * 256 = omega (arith, all, leb-true (charge z objects) (capacity z) can.fit, capacity_few z can.numbers) in
-    let most : n ≤ 4096 * 256 * s = (ceiling_at_most n s (4096 * 256) (slots_some z can.numbers)).0 units in
-    omega (arith, most, few_slots z can.numbers)
+    let units : ceiling n s ≤ 4096 * 256 = omega (arith, all, leb-true (charge z objects) (capacity z) fit, capacity_few z numbers) in
+    let most : n ≤ 4096 * 256 * s = (ceiling_at_most n s (4096 * 256) (slots_some z numbers)).0 units in
+    omega (arith, most, few_slots z numbers)
+
+pub few_entries : (z : Sizes) (objects : Objects) → CanHave z objects → (o : ℕ) (dir : IsDirectory objects o) → map.len dir.1 < 4294967295
+few_entries z objects can o dir = few_fitting z objects can.numbers can.fit o dir
 
 -- and one with a name less too little as well
 pub few_left : (z : Sizes) (objects : Objects) → CanHave z objects → (o : ℕ) (dir : IsDirectory objects o) (name : Name) → map.len (map.remove dir.1 name) < 4294967295

@@ -1,6 +1,6 @@
 -- The names of objects in an index, after a change.
 use Rattle.std.specs.Prelude.{List, [], ◌≡◌, ◌≢◌, ◌<◌, ◌≤◌, ◌+◌, ◌-◌, ℕ, Bool, true, false, cond, Option, Some, None, Result, Ok, Err, OnOk, IfOk, ◌/◌}
-use Rattle.std.proofs.Common.{refl, sym, ◌∙◌, ap, subst, inl, inr, arith}
+use Rattle.std.proofs.Common.{sym, ◌∙◌, ap, subst, inl, inr, arith}
 use Rattle.std.proofs.lemmas.Bool.{cases_eq}
 use Rattle.std.specs.Cmp.{nat_cmp_total}
 use Rattle.std.specs.Cmp.Lexicographic.{slice_cmp, nat_list_cmp_total}
@@ -8,14 +8,14 @@ use Rattle.std.specs.Ordering.{nat_cmp}
 use Rattle.std.specs.FinMap as map
 use Rattle.name_index.specs.Covering.{HasHashes}
 use Rattle.name_index.specs.declared.index.NameIndex.{NameIndex}
-use Rattle.volume_terms.specs.Sizes.{Sizes, page_slots}
+use Rattle.volume_terms.specs.Sizes.{Sizes, IsSizes, page_slots}
 use Rattle.posix_profile.specs.State.{Name, Entries, Object, File, Dir, Objects, IsDirectory, entries_of}
 use Rattle.posix_profile.specs.Changes.{with_name, without_name, with_bytes}
+use Rattle.posix_profile.specs.Charge.{fits}
 use Rattle.posix_profile.specs.laws.Map.{get_here, get_there, get_removed, removed_none}
 use Rattle.posix_profile.specs.declared.reply.Kind.{Kind}
 use Rattle.posix_profile.specs.declared.reply.Kind.TheVariants as kinds
 use Rattle.object_store.specs.Changes.{without, empty_object}
-use Rattle.object_store.specs.Stores.{CanHave}
 use Rattle.pages.specs.Changes.{IsOnlyOf}
 use Rattle.pages.specs.Maps.{PageMap, no_pages, without_cuts, changed}
 use Rattle.pages.specs.laws.Changes.{others_keep}
@@ -26,7 +26,7 @@ use Rattle.pages.specs.declared.change.Change.{Change}
 use Rattle.directories.specs.Hashing.{WritesPast, WritesNewSlots}
 use Rattle.object_pages.specs.Holding.{HoldsObject, HoldsObjects, HoldsDirectory}
 use Rattle.object_pages.specs.Naming.{HasNames, WritesNames}
-use Rattle.object_pages.proofs.Entries.{few_entries}
+use Rattle.object_pages.proofs.Entries.{few_fitting}
 
 -- no entry stands in no slot
 no_entries : (s : ℕ) → s < map.len (entries_of None) → ⊥
@@ -39,11 +39,11 @@ has_hashes names z m objects has d (Some (File moment bytes)) is s e less at = a
 has_hashes names z m objects has d (Some (Dir moment entries)) is s e less at = has d (moment, entries, is) s e less at
 
 -- what the pages of a change write of a directory's slots
-pub writes_slots : (z : Sizes) (m : PageMap) (change : Change) (old new : Objects) → HoldsObjects z (changed change m) new → CanHave z new → WritesNames z change old new → (d : ℕ) (dir : IsDirectory new d)
+pub writes_slots : (z : Sizes) (m : PageMap) (change : Change) (old new : Objects) → HoldsObjects z (changed change m) new → IsSizes z → fits z new ≡ true → WritesNames z change old new → (d : ℕ) (dir : IsDirectory new d)
     → WritesNewSlots z m change d (map.len (entries_of (map.get old d))) (map.len dir.1)
-writes_slots z m change old new holds can writes d dir =
+writes_slots z m change old new holds numbers fit writes d dir =
     let here : HoldsDirectory z (changed change m) d dir.0 dir.1 = subst (HoldsObject z (changed change m) d) dir.2 (holds.each d) in
-    let few : map.len dir.1 < 4294967295 = few_entries z new can d dir in
+    let few : map.len dir.1 < 4294967295 = few_fitting z new numbers fit d dir in
     record {
       fields = here.reads.fields;
       has_header = here.reads.has;

@@ -5,11 +5,10 @@ use Rattle.volume_terms.specs.Sizes.{Sizes}
 use Rattle.posix_profile.specs.State.{Objects, IsDirectory}
 use Rattle.pages.specs.State.{PagesState}
 use Rattle.directories.specs.Named.{NamedIn}
-use Rattle.object_pages.specs.Holding.{HoldsIn}
-use Rattle.object_pages.specs.Naming.{HasNames}
+use Rattle.object_pages.specs.Naming.{HoldsNamed}
 use Rattle.object_pages.specs.laws.Holding.{directory_in}
 
-abbrev pub named_in : (names : NameIndex) (p : PagesState) (z : Sizes) (objects : Objects) (h : HoldsIn p z objects) → HasNames names z p.present objects → (d : ℕ) (dir : IsDirectory objects d) → NamedIn names p z d dir.0 dir.1
-named_in names p z objects h has d dir =
-    let here = directory_in p z objects h d dir in
-    record { sound = here.sound; size = here.size; reads = here.reads; hashes = has d dir }
+abbrev pub named_in : (names : NameIndex) (p : PagesState) (z : Sizes) (objects : Objects) → HoldsNamed names p z objects → (d : ℕ) (dir : IsDirectory objects d) → NamedIn names p z d dir.0 dir.1
+named_in names p z objects n d dir =
+    let here = directory_in p z objects n.holds d dir in
+    record { sound = here.sound; size = here.size; reads = here.reads; hashes = n.hashes d dir }

@@ -39,14 +39,6 @@ lacks_memory_only n new faults.Worn less is = is
 lacks_memory_only n new faults.Damaged less is = is
 lacks_memory_only n new faults.Full less is = absurd (less is)
 
--- want of memory is one of the reasons
-pub no_memory : (new : PagesState) (fault : PageFault) → fault ≡ faults.NoMemory → MayLackMemory new fault
-no_memory new faults.NoMemory is = tt
-no_memory new faults.Device is = absurd cc
-no_memory new faults.Worn is = absurd cc
-no_memory new faults.Damaged is = absurd cc
-no_memory new faults.Full is = absurd cc
-
 -- what follows of one thing that holds of a change, if one was made
 pub on_made_one : {A E : Type 0} (P Q : A → Type 0) (r : Result (Option A) E) → ((x : A) → P x → Q x) → IfOk r (λ made. IfSome made P) → IfOk r (λ made. IfSome made Q)
 on_made_one P Q (Ok (Some x)) f p = f x p

@@ -1,13 +1,13 @@
 // The names of objects after a change, in an index.
-ghost use Rattle.std.specs.Prelude.{OnOk};
-ghost use Rattle.volume_terms.specs.Sizes.{Sizes};
+ghost use Rattle.std.specs.Prelude.{◌≡◌, true, OnOk};
+ghost use Rattle.volume_terms.specs.Sizes.{Sizes, IsSizes};
+ghost use Rattle.posix_profile.specs.Charge.{fits};
 ghost use Rattle.posix_profile.specs.State.{Objects};
-ghost use Rattle.object_store.specs.Stores.{CanHave};
 ghost use Rattle.pages.specs.Changes.{AreSized};
 ghost use Rattle.pages.specs.Maps.{changed};
 ghost use Rattle.directories.specs.Hashing.{HoldsMore};
-ghost use Rattle.object_pages.specs.Holding.{HoldsIn, HoldsObjects};
-ghost use Rattle.object_pages.specs.Naming.{HasNames, WritesNames};
+ghost use Rattle.object_pages.specs.Holding.{HoldsObjects};
+ghost use Rattle.object_pages.specs.Naming.{HasNames, HoldsNamed, WritesNames};
 
 use directories::hash_change;
 use name_index::NameIndex;
@@ -23,8 +23,9 @@ pub fn hash_names<P: Pages>(
 ) -> Result<(), AllocError>
     requires { AreSized change.now.pages.items (P.state pages.now).page_bytes }
     ensures kept { HoldsMore names.old names.new }
-    ensures hashes { (z : Sizes) (old new : Objects) → HoldsIn (P.state pages.now) z old → HasNames names.old z (P.state pages.now).present old → WritesNames z change.now old new
-        → HoldsObjects z (changed change.now (P.state pages.now).present) new → CanHave z new → OnOk result (HasNames names.new z (changed change.now (P.state pages.now).present) new) }
+    ensures hashes { (z : Sizes) (old new : Objects) → HoldsNamed names.old (P.state pages.now) z old → WritesNames z change.now old new
+        → HoldsObjects z (changed change.now (P.state pages.now).present) new → IsSizes z → fits z new ≡ true
+        → OnOk result (HasNames names.new z (changed change.now (P.state pages.now).present) new) }
 {
     hash_change(names, pages.page_bytes(), change)
 }

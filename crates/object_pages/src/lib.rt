@@ -17,8 +17,8 @@ pub use law::{
     a_cut_object_is_held_no_more, each_page_is_charged, held_objects_are_a_volume,
     held_objects_are_shown,
 };
-pub use moving::{move_name, move_name_among};
+pub use moving::move_name;
 pub use naming::{create, name};
-pub use planning::{plan, plan_among};
-pub use reading::{find, find_among, names, read};
-pub use removal::{forget, remove, remove_among};
+pub use planning::plan;
+pub use reading::{find, names, read};
+pub use removal::{forget, remove};

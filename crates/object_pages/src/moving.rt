@@ -1,5 +1,5 @@
 // The move of a name.
-ghost use Rattle.std.specs.Prelude.{◌≡◌, ◌≤◌, ℕ, OnOk, IfOk, IfErr, IfSome};
+ghost use Rattle.std.specs.Prelude.{OnOk, IfOk, IfErr, IfSome};
 ghost use Rattle.std.specs.FinMap as map;
 ghost use Rattle.page_tags.specs.SlotEntry.{entry_of};
 ghost use Rattle.flash_tree.specs.Slots.{IsTreeSlot};
@@ -13,15 +13,13 @@ ghost use Rattle.pages.specs.Faults.{MayLackMemory, SaysWhyChanging};
 ghost use Rattle.pages.specs.Maps.{changed};
 ghost use Rattle.pages.specs.State.{OnlyFinds, KeepsPower};
 ghost use Rattle.directories.specs.Directories.{IsNamed};
-ghost use Rattle.object_pages.specs.Holding.{HoldsIn, HoldsObjects};
-ghost use Rattle.object_pages.specs.Naming.{HasNames, WritesNames};
+ghost use Rattle.object_pages.specs.Holding.{HoldsObjects};
+ghost use Rattle.object_pages.specs.Naming.{HoldsNamed, WritesNames};
 ghost use Rattle.object_store.specs.Stores.{CanHave};
 
 use crate::naming::slot_for;
 use crate::removal::and_forget;
-use directories::{
-    Route, rename_between, rename_between_among, rename_within, rename_within_among,
-};
+use directories::{Route, rename_between, rename_within};
 use name_index::NameIndex;
 use object_store::DirectoryEntry;
 use page_tags::Slot;
@@ -29,69 +27,8 @@ use pages::{Change, PageFault, Pages};
 use std::alloc::Global;
 
 /// The change that gives an object a second name in place of the first; the second then leads to it, also where it led to
-/// another, and the object that is told goes.
-pub fn move_name<P: Pages>(
-    pages: &mut P,
-    alloc: Global,
-    from: DirectoryEntry<'_>,
-    to: DirectoryEntry<'_>,
-    number: u64,
-    dropped: Option<u64>,
-    moment: u64,
-) -> Result<Change, PageFault>
-    ensures finds { OnlyFinds (P.state pages.old) (P.state pages.new) }
-    ensures power { OnOk result (KeepsPower (P.state pages.old) (P.state pages.new)) }
-    ensures change { IfOk result (λ change. IsChange change (P.state pages.old).page_bytes 4) }
-    ensures moves { (z : Sizes) (objects : Objects) → HoldsIn (P.state pages.old) z objects → LeadsTo objects from.entry number → IsDirectory objects to.entry.directory
-        → IfOk result (λ change. HoldsObjects z (changed change (P.state pages.old).present)
-        (without dropped (with_name (without_name objects moment from.entry.directory from.entry.name.now) moment to.entry.directory to.entry.name.now number))) }
-    ensures why { IfErr result (SaysWhyChanging (P.state pages.new)) }
-    ensures fault { (z : Sizes) (objects : Objects) → HoldsIn (P.state pages.old) z objects → CanHave z objects → LeadsTo objects from.entry number
-        → IsDirectory objects to.entry.directory → IsName to.entry.name.now → IfErr result (MayLackMemory (P.state pages.new)) }
-{
-    let slot = slot_for(to.name, number)?;
-    let Some(change) = rename(pages, alloc, from, to.directory, &slot, moment)? else {
-        return Err(PageFault::Damaged);
-    };
-    Ok(and_forget(alloc, change, dropped)?)
-}
-
-/// The change that takes a name from its directory and writes a slot into another, or into the same. There is none where
-/// the first has no such name.
-fn rename<P: Pages>(
-    pages: &mut P,
-    alloc: Global,
-    from: DirectoryEntry<'_>,
-    directory: u64,
-    slot: &Slot,
-    moment: u64,
-) -> Result<Option<Change>, PageFault>
-    requires { IsTreeSlot (entry_of slot.now) }
-    ensures finds { OnlyFinds (P.state pages.old) (P.state pages.new) }
-    ensures power { OnOk result (KeepsPower (P.state pages.old) (P.state pages.new)) }
-    ensures change { IfOk result (λ made. IfSome made (λ change. IsChange change (P.state pages.old).page_bytes 4)) }
-    ensures named { (z : Sizes) (objects : Objects) → HoldsIn (P.state pages.old) z objects → IsDirectory objects from.entry.directory
-        → IfOk result (λ made. IsNamed (entries_of (map.get objects from.entry.directory)) from.entry.name.now made) }
-    ensures moves { (z : Sizes) (objects : Objects) → HoldsIn (P.state pages.old) z objects → IsDirectory objects from.entry.directory → IsDirectory objects directory
-        → IfOk result (λ made. IfSome made (λ change. HoldsObjects z (changed change (P.state pages.old).present)
-        (with_name (without_name objects moment from.entry.directory from.entry.name.now) moment directory slot.now.name.now slot.now.object))) }
-    ensures why { IfErr result (SaysWhyChanging (P.state pages.new)) }
-    ensures fault { (z : Sizes) (objects : Objects) → HoldsIn (P.state pages.old) z objects → CanHave z objects → IsDirectory objects from.entry.directory
-        → IsDirectory objects directory → IfErr result (MayLackMemory (P.state pages.new)) }
-{
-    if from.directory == directory {
-        return rename_within(alloc, pages, directory, from.name, slot, moment);
-    }
-    let route = Route {
-        source: from.directory,
-        target: directory,
-    };
-    rename_between(alloc, pages, route, from.name, slot, moment)
-}
-
-/// The change that gives an object a second name in place of the first; the second then leads to it, also where it led to
 /// another, and the object that is told goes. Both are found through an index.
-pub fn move_name_among<P: Pages>(
+pub fn move_name<P: Pages>(
     names: &NameIndex,
     pages: &mut P,
     alloc: Global,
@@ -104,18 +41,18 @@ pub fn move_name_among<P: Pages>(
     ensures finds { OnlyFinds (P.state pages.old) (P.state pages.new) }
     ensures power { OnOk result (KeepsPower (P.state pages.old) (P.state pages.new)) }
     ensures change { IfOk result (λ change. IsChange change (P.state pages.old).page_bytes 4) }
-    ensures moves { (z : Sizes) (objects : Objects) → HoldsIn (P.state pages.old) z objects → HasNames names.now z (P.state pages.old).present objects → LeadsTo objects from.entry number → IsDirectory objects to.entry.directory
+    ensures moves { (z : Sizes) (objects : Objects) → HoldsNamed names.now (P.state pages.old) z objects → LeadsTo objects from.entry number → IsDirectory objects to.entry.directory
         → IfOk result (λ change. HoldsObjects z (changed change (P.state pages.old).present)
         (without dropped (with_name (without_name objects moment from.entry.directory from.entry.name.now) moment to.entry.directory to.entry.name.now number))) }
-    ensures slots { (z : Sizes) (objects : Objects) → HoldsIn (P.state pages.old) z objects → HasNames names.now z (P.state pages.old).present objects → LeadsTo objects from.entry number → IsDirectory objects to.entry.directory
+    ensures slots { (z : Sizes) (objects : Objects) → HoldsNamed names.now (P.state pages.old) z objects → LeadsTo objects from.entry number → IsDirectory objects to.entry.directory
         → IfOk result (λ change. WritesNames z change objects
         (without dropped (with_name (without_name objects moment from.entry.directory from.entry.name.now) moment to.entry.directory to.entry.name.now number))) }
     ensures why { IfErr result (SaysWhyChanging (P.state pages.new)) }
-    ensures fault { (z : Sizes) (objects : Objects) → HoldsIn (P.state pages.old) z objects → HasNames names.now z (P.state pages.old).present objects → CanHave z objects → LeadsTo objects from.entry number
+    ensures fault { (z : Sizes) (objects : Objects) → HoldsNamed names.now (P.state pages.old) z objects → CanHave z objects → LeadsTo objects from.entry number
         → IsDirectory objects to.entry.directory → IsName to.entry.name.now → IfErr result (MayLackMemory (P.state pages.new)) }
 {
     let slot = slot_for(to.name, number)?;
-    let Some(change) = rename_among(names, pages, alloc, from, to.directory, &slot, moment)? else {
+    let Some(change) = rename(names, pages, alloc, from, to.directory, &slot, moment)? else {
         return Err(PageFault::Damaged);
     };
     Ok(and_forget(alloc, change, dropped)?)
@@ -123,7 +60,7 @@ pub fn move_name_among<P: Pages>(
 
 /// The change that takes a name from its directory and writes a slot into another, or into the same. There is none where
 /// the first has no such name. Both are found through an index.
-fn rename_among<P: Pages>(
+fn rename<P: Pages>(
     names: &NameIndex,
     pages: &mut P,
     alloc: Global,
@@ -136,24 +73,24 @@ fn rename_among<P: Pages>(
     ensures finds { OnlyFinds (P.state pages.old) (P.state pages.new) }
     ensures power { OnOk result (KeepsPower (P.state pages.old) (P.state pages.new)) }
     ensures change { IfOk result (λ made. IfSome made (λ change. IsChange change (P.state pages.old).page_bytes 4)) }
-    ensures named { (z : Sizes) (objects : Objects) → HoldsIn (P.state pages.old) z objects → HasNames names.now z (P.state pages.old).present objects → IsDirectory objects from.entry.directory
+    ensures named { (z : Sizes) (objects : Objects) → HoldsNamed names.now (P.state pages.old) z objects → IsDirectory objects from.entry.directory
         → IfOk result (λ made. IsNamed (entries_of (map.get objects from.entry.directory)) from.entry.name.now made) }
-    ensures moves { (z : Sizes) (objects : Objects) → HoldsIn (P.state pages.old) z objects → HasNames names.now z (P.state pages.old).present objects → IsDirectory objects from.entry.directory → IsDirectory objects directory
+    ensures moves { (z : Sizes) (objects : Objects) → HoldsNamed names.now (P.state pages.old) z objects → IsDirectory objects from.entry.directory → IsDirectory objects directory
         → IfOk result (λ made. IfSome made (λ change. HoldsObjects z (changed change (P.state pages.old).present)
         (with_name (without_name objects moment from.entry.directory from.entry.name.now) moment directory slot.now.name.now slot.now.object))) }
-    ensures slots { (z : Sizes) (objects : Objects) → HoldsIn (P.state pages.old) z objects → HasNames names.now z (P.state pages.old).present objects → IsDirectory objects from.entry.directory → IsDirectory objects directory
+    ensures slots { (z : Sizes) (objects : Objects) → HoldsNamed names.now (P.state pages.old) z objects → IsDirectory objects from.entry.directory → IsDirectory objects directory
         → IfOk result (λ made. IfSome made (λ change. WritesNames z change objects
         (with_name (without_name objects moment from.entry.directory from.entry.name.now) moment directory slot.now.name.now slot.now.object))) }
     ensures why { IfErr result (SaysWhyChanging (P.state pages.new)) }
-    ensures fault { (z : Sizes) (objects : Objects) → HoldsIn (P.state pages.old) z objects → HasNames names.now z (P.state pages.old).present objects → CanHave z objects → IsDirectory objects from.entry.directory
+    ensures fault { (z : Sizes) (objects : Objects) → HoldsNamed names.now (P.state pages.old) z objects → CanHave z objects → IsDirectory objects from.entry.directory
         → IsDirectory objects directory → IfErr result (MayLackMemory (P.state pages.new)) }
 {
     if from.directory == directory {
-        return rename_within_among(alloc, names, pages, directory, from.name, slot, moment);
+        return rename_within(alloc, names, pages, directory, from.name, slot, moment);
     }
     let route = Route {
         source: from.directory,
         target: directory,
     };
-    rename_between_among(alloc, names, pages, route, from.name, slot, moment)
+    rename_between(alloc, names, pages, route, from.name, slot, moment)
 }

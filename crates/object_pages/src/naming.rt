@@ -1,11 +1,10 @@
 // Names that lead to objects.
 ghost use Rattle.std.specs.Prelude.{◌≡◌, OnOk, IfOk, IfErr};
-ghost use Rattle.std.specs.FinMap as map;
 ghost use Rattle.page_tags.specs.SlotEntry.{entry_of};
 ghost use Rattle.flash_tree.specs.Slots.{IsSlotNumber, IsTreeSlot};
 ghost use Rattle.volume_terms.specs.Names.{IsName};
 ghost use Rattle.volume_terms.specs.Sizes.{Sizes};
-ghost use Rattle.posix_profile.specs.State.{Objects, IsDirectory, entries_of};
+ghost use Rattle.posix_profile.specs.State.{Objects};
 ghost use Rattle.posix_profile.specs.Changes.{new_number, with_object, with_name};
 ghost use Rattle.object_store.specs.Changes.{IsAbsent, empty_object};
 ghost use Rattle.pages.specs.Changes.{IsChange, IsOnlyOf};

@@ -1,5 +1,5 @@
 // A change of objects as one of pages.
-ghost use Rattle.std.specs.Prelude.{◌≡◌, ◌↔◌, ◌≤◌, ℕ, true, false, IsTrue, OnOk, IfOk, IfErr, Some, slice_get};
+ghost use Rattle.std.specs.Prelude.{◌≡◌, ◌↔◌, ℕ, true, false, IsTrue, OnOk, IfOk, IfErr, Some, slice_get};
 ghost use Rattle.volume_terms.specs.Sizes.{Sizes};
 ghost use Rattle.posix_profile.specs.State.{Objects};
 ghost use Rattle.posix_profile.specs.Changes.{new_number};
@@ -10,15 +10,15 @@ ghost use Rattle.pages.specs.Changes.{IsChange, AreOfObjects};
 ghost use Rattle.pages.specs.Faults.{MayLackMemory, SaysWhyChanging};
 ghost use Rattle.pages.specs.Maps.{changed};
 ghost use Rattle.pages.specs.State.{OnlyFinds, KeepsPower};
-ghost use Rattle.object_pages.specs.Holding.{HoldsIn, HoldsObjects};
-ghost use Rattle.object_pages.specs.Naming.{HasNames, WritesNames};
+ghost use Rattle.object_pages.specs.Holding.{HoldsObjects};
+ghost use Rattle.object_pages.specs.Naming.{HoldsNamed, WritesNames};
 ghost use Rattle.object_store.specs.Stores.{CanHave};
 ghost use Rattle.object_pages.specs.Plans.{most_pages};
 
 use crate::content::{resize, write};
-use crate::moving::{move_name, move_name_among};
+use crate::moving::move_name;
 use crate::naming::{create, name};
-use crate::removal::{forget, remove, remove_among};
+use crate::removal::{forget, remove};
 use flash_tree::{CHECK_OBJECT, FreshPage};
 use name_index::NameIndex;
 use object_store::ObjectChange;
@@ -45,10 +45,11 @@ fn are_numbered(pages: &[FreshPage]) -> bool
     true
 }
 
-/// The change of pages that makes a change of objects.
+/// The change of pages that makes a change of objects, in which each name is found through an index.
 ///
 /// `new` is the number that a new object gets.
 pub fn plan<P: Pages>(
+    names: &NameIndex,
     pages: &mut P,
     alloc: Global,
     change: &ObjectChange<'_>,
@@ -58,13 +59,15 @@ pub fn plan<P: Pages>(
     ensures power { OnOk result (KeepsPower (P.state pages.old) (P.state pages.new)) }
     ensures change { IfOk result (λ it. IsChange it (P.state pages.old).page_bytes (most_pages (P.state pages.old).page_bytes change.now)) }
     ensures numbered { IfOk result (λ it. AreOfObjects it.pages.items) }
-    ensures makes { (z : Sizes) (objects : Objects) → HoldsIn (P.state pages.old) z objects → CanMake z objects change.now → new ≡ new_number objects
+    ensures makes { (z : Sizes) (objects : Objects) → HoldsNamed names.now (P.state pages.old) z objects → CanMake z objects change.now → new ≡ new_number objects
         → IfOk result (λ it. HoldsObjects z (changed it (P.state pages.old).present) (made objects change.now)) }
+    ensures slots { (z : Sizes) (objects : Objects) → HoldsNamed names.now (P.state pages.old) z objects → CanMake z objects change.now
+        → IfOk result (λ it. WritesNames z it objects (made objects change.now)) }
     ensures why { IfErr result (SaysWhyChanging (P.state pages.new)) }
-    ensures fault { (z : Sizes) (objects : Objects) → HoldsIn (P.state pages.old) z objects → CanHave z objects → CanMake z objects change.now → new ≡ new_number objects
+    ensures fault { (z : Sizes) (objects : Objects) → HoldsNamed names.now (P.state pages.old) z objects → CanHave z objects → CanMake z objects change.now → new ≡ new_number objects
         → IfErr result (MayLackMemory (P.state pages.new)) }
 {
-    let planned = plan_each(pages, alloc, change, new)?;
+    let planned = plan_each(names, pages, alloc, change, new)?;
     if are_numbered(&planned.pages) {
         Ok(planned)
     } else {
@@ -74,6 +77,7 @@ pub fn plan<P: Pages>(
 
 /// The same for each kind of change; of no number it is told that no page is of it.
 fn plan_each<P: Pages>(
+    names: &NameIndex,
     pages: &mut P,
     alloc: Global,
     change: &ObjectChange<'_>,
@@ -82,10 +86,12 @@ fn plan_each<P: Pages>(
     ensures finds { OnlyFinds (P.state pages.old) (P.state pages.new) }
     ensures power { OnOk result (KeepsPower (P.state pages.old) (P.state pages.new)) }
     ensures change { IfOk result (λ it. IsChange it (P.state pages.old).page_bytes (most_pages (P.state pages.old).page_bytes change.now)) }
-    ensures makes { (z : Sizes) (objects : Objects) → HoldsIn (P.state pages.old) z objects → CanMake z objects change.now → new ≡ new_number objects
+    ensures makes { (z : Sizes) (objects : Objects) → HoldsNamed names.now (P.state pages.old) z objects → CanMake z objects change.now → new ≡ new_number objects
         → IfOk result (λ it. HoldsObjects z (changed it (P.state pages.old).present) (made objects change.now)) }
+    ensures slots { (z : Sizes) (objects : Objects) → HoldsNamed names.now (P.state pages.old) z objects → CanMake z objects change.now
+        → IfOk result (λ it. WritesNames z it objects (made objects change.now)) }
     ensures why { IfErr result (SaysWhyChanging (P.state pages.new)) }
-    ensures fault { (z : Sizes) (objects : Objects) → HoldsIn (P.state pages.old) z objects → CanHave z objects → CanMake z objects change.now → new ≡ new_number objects
+    ensures fault { (z : Sizes) (objects : Objects) → HoldsNamed names.now (P.state pages.old) z objects → CanHave z objects → CanMake z objects change.now → new ≡ new_number objects
         → IfErr result (MayLackMemory (P.state pages.new)) }
 {
     match change {
@@ -103,101 +109,14 @@ fn plan_each<P: Pages>(
             entry,
             dropped,
             moment,
-        } => remove(pages, alloc, *entry, *dropped, *moment),
+        } => remove(names, pages, alloc, *entry, *dropped, *moment),
         ObjectChange::Move {
             from,
             to,
             number,
             dropped,
             moment,
-        } => move_name(pages, alloc, *from, *to, *number, *dropped, *moment),
-        ObjectChange::Write {
-            number,
-            offset,
-            bytes,
-            moment,
-        } => write(pages, alloc, *number, *offset, bytes, *moment),
-        ObjectChange::Resize {
-            number,
-            length,
-            moment,
-        } => resize(pages, alloc, *number, *length, *moment),
-        ObjectChange::Forget { number } => Ok(forget(alloc, *number)?),
-    }
-}
-
-/// The change of pages that makes a change of objects, in which each name is found through an index.
-///
-/// `new` is the number that a new object gets.
-pub fn plan_among<P: Pages>(
-    names: &NameIndex,
-    pages: &mut P,
-    alloc: Global,
-    change: &ObjectChange<'_>,
-    new: u64,
-) -> Result<Change, PageFault>
-    ensures finds { OnlyFinds (P.state pages.old) (P.state pages.new) }
-    ensures power { OnOk result (KeepsPower (P.state pages.old) (P.state pages.new)) }
-    ensures change { IfOk result (λ it. IsChange it (P.state pages.old).page_bytes (most_pages (P.state pages.old).page_bytes change.now)) }
-    ensures numbered { IfOk result (λ it. AreOfObjects it.pages.items) }
-    ensures makes { (z : Sizes) (objects : Objects) → HoldsIn (P.state pages.old) z objects → HasNames names.now z (P.state pages.old).present objects → CanMake z objects change.now → new ≡ new_number objects
-        → IfOk result (λ it. HoldsObjects z (changed it (P.state pages.old).present) (made objects change.now)) }
-    ensures slots { (z : Sizes) (objects : Objects) → HoldsIn (P.state pages.old) z objects → HasNames names.now z (P.state pages.old).present objects → CanMake z objects change.now
-        → IfOk result (λ it. WritesNames z it objects (made objects change.now)) }
-    ensures why { IfErr result (SaysWhyChanging (P.state pages.new)) }
-    ensures fault { (z : Sizes) (objects : Objects) → HoldsIn (P.state pages.old) z objects → HasNames names.now z (P.state pages.old).present objects → CanHave z objects → CanMake z objects change.now → new ≡ new_number objects
-        → IfErr result (MayLackMemory (P.state pages.new)) }
-{
-    let planned = plan_each_among(names, pages, alloc, change, new)?;
-    if are_numbered(&planned.pages) {
-        Ok(planned)
-    } else {
-        Err(PageFault::Damaged)
-    }
-}
-
-/// The same for each kind of change; of no number it is told that no page is of it.
-fn plan_each_among<P: Pages>(
-    names: &NameIndex,
-    pages: &mut P,
-    alloc: Global,
-    change: &ObjectChange<'_>,
-    new: u64,
-) -> Result<Change, PageFault>
-    ensures finds { OnlyFinds (P.state pages.old) (P.state pages.new) }
-    ensures power { OnOk result (KeepsPower (P.state pages.old) (P.state pages.new)) }
-    ensures change { IfOk result (λ it. IsChange it (P.state pages.old).page_bytes (most_pages (P.state pages.old).page_bytes change.now)) }
-    ensures makes { (z : Sizes) (objects : Objects) → HoldsIn (P.state pages.old) z objects → HasNames names.now z (P.state pages.old).present objects → CanMake z objects change.now → new ≡ new_number objects
-        → IfOk result (λ it. HoldsObjects z (changed it (P.state pages.old).present) (made objects change.now)) }
-    ensures slots { (z : Sizes) (objects : Objects) → HoldsIn (P.state pages.old) z objects → HasNames names.now z (P.state pages.old).present objects → CanMake z objects change.now
-        → IfOk result (λ it. WritesNames z it objects (made objects change.now)) }
-    ensures why { IfErr result (SaysWhyChanging (P.state pages.new)) }
-    ensures fault { (z : Sizes) (objects : Objects) → HoldsIn (P.state pages.old) z objects → HasNames names.now z (P.state pages.old).present objects → CanHave z objects → CanMake z objects change.now → new ≡ new_number objects
-        → IfErr result (MayLackMemory (P.state pages.new)) }
-{
-    match change {
-        ObjectChange::Create {
-            entry,
-            kind,
-            moment,
-        } => create(pages, alloc, new, *entry, *kind, *moment),
-        ObjectChange::Name {
-            entry,
-            number,
-            moment,
-        } => name(pages, alloc, *entry, *number, *moment),
-        ObjectChange::Remove {
-            entry,
-            dropped,
-            moment,
-        } => remove_among(names, pages, alloc, *entry, *dropped, *moment),
-        ObjectChange::Move {
-            from,
-            to,
-            number,
-            dropped,
-            moment,
-        } => move_name_among(names, pages, alloc, *from, *to, *number, *dropped, *moment),
+        } => move_name(names, pages, alloc, *from, *to, *number, *dropped, *moment),
         ObjectChange::Write {
             number,
             offset,

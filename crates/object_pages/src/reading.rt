@@ -8,28 +8,15 @@ ghost use Rattle.pages.specs.Faults.{MayLack, MayLackMemory, SaysWhy, SaysWhyMak
 ghost use Rattle.pages.specs.State.{OnlyFinds, KeepsPower};
 ghost use Rattle.directories.specs.Named.{AsksHeld};
 ghost use Rattle.object_pages.specs.Holding.{HoldsIn};
-ghost use Rattle.object_pages.specs.Naming.{HasNames};
+ghost use Rattle.object_pages.specs.Naming.{HoldsNamed};
 
 use name_index::NameIndex;
 use pages::{PageFault, Pages};
 use posix_profile::{Bytes, NameList};
 use std::alloc::Global;
 
-/// The object that a name of a directory leads to.
-pub fn find<P: Pages>(pages: &mut P, directory: u64, name: &[u8]) -> Result<Option<u64>, PageFault>
-    ensures finds { OnlyFinds (P.state pages.old) (P.state pages.new) }
-    ensures power { OnOk result (KeepsPower (P.state pages.old) (P.state pages.new)) }
-    ensures found { (z : Sizes) (objects : Objects) → HoldsIn (P.state pages.old) z objects → IsDirectory objects directory
-        → IfOk result (λ found. found ≡ map.get (entries_of (map.get objects directory)) name.now) }
-    ensures why { IfErr result (SaysWhy (P.state pages.new)) }
-    ensures fault { (z : Sizes) (objects : Objects) → HoldsIn (P.state pages.old) z objects → IsDirectory objects directory
-        → IfErr result (MayLack (P.state pages.new)) }
-{
-    directories::find(pages, directory, name)
-}
-
 /// The object that a name of a directory leads to, found through an index of the names.
-pub fn find_among<P: Pages>(
+pub fn find<P: Pages>(
     names: &NameIndex,
     pages: &mut P,
     directory: u64,
@@ -38,13 +25,13 @@ pub fn find_among<P: Pages>(
     ensures finds { OnlyFinds (P.state pages.old) (P.state pages.new) }
     ensures asked { AsksHeld names.now directory name.now ((P.state pages.old).asked + 1) (P.state pages.new).asked }
     ensures power { OnOk result (KeepsPower (P.state pages.old) (P.state pages.new)) }
-    ensures found { (z : Sizes) (objects : Objects) → HoldsIn (P.state pages.old) z objects → HasNames names.now z (P.state pages.old).present objects → IsDirectory objects directory
+    ensures found { (z : Sizes) (objects : Objects) → HoldsNamed names.now (P.state pages.old) z objects → IsDirectory objects directory
         → IfOk result (λ found. found ≡ map.get (entries_of (map.get objects directory)) name.now) }
     ensures why { IfErr result (SaysWhy (P.state pages.new)) }
     ensures fault { (z : Sizes) (objects : Objects) → HoldsIn (P.state pages.old) z objects → IsDirectory objects directory
         → IfErr result (MayLack (P.state pages.new)) }
 {
-    directories::find_among(names, pages, directory, name)
+    directories::find(names, pages, directory, name)
 }
 
 /// The names of a directory, in the order of their bytes.

@@ -1,5 +1,5 @@
 // Names and objects that go.
-ghost use Rattle.std.specs.Prelude.{◌≡◌, ◌≤◌, ℕ, [], OnOk, IfOk, IfErr};
+ghost use Rattle.std.specs.Prelude.{◌≡◌, ℕ, [], OnOk, IfOk, IfErr};
 ghost use Rattle.std.specs.FinMap as map;
 ghost use Rattle.volume_terms.specs.Sizes.{Sizes};
 ghost use Rattle.posix_profile.specs.State.{Objects};
@@ -9,8 +9,8 @@ ghost use Rattle.pages.specs.Changes.{IsChange, IsOnlyOf};
 ghost use Rattle.pages.specs.Faults.{MayLackMemory, SaysWhyChanging};
 ghost use Rattle.pages.specs.Maps.{PageMap, changed};
 ghost use Rattle.pages.specs.State.{OnlyFinds, KeepsPower};
-ghost use Rattle.object_pages.specs.Holding.{HoldsIn, HoldsObjects};
-ghost use Rattle.object_pages.specs.Naming.{HasNames, WritesNames};
+ghost use Rattle.object_pages.specs.Holding.{HoldsObjects};
+ghost use Rattle.object_pages.specs.Naming.{HoldsNamed, WritesNames};
 
 use name_index::NameIndex;
 use object_store::DirectoryEntry;
@@ -53,32 +53,8 @@ pub(crate) fn and_forget(
     change.then(cut)
 }
 
-/// The change that takes a name from a directory, and the object that is told.
-pub fn remove<P: Pages>(
-    pages: &mut P,
-    alloc: Global,
-    at: DirectoryEntry<'_>,
-    dropped: Option<u64>,
-    moment: u64,
-) -> Result<Change, PageFault>
-    ensures finds { OnlyFinds (P.state pages.old) (P.state pages.new) }
-    ensures power { OnOk result (KeepsPower (P.state pages.old) (P.state pages.new)) }
-    ensures change { IfOk result (λ change. IsChange change (P.state pages.old).page_bytes 2) }
-    ensures removes { (z : Sizes) (objects : Objects) (o : ℕ) → HoldsIn (P.state pages.old) z objects → LeadsTo objects at.entry o
-        → IfOk result (λ change. HoldsObjects z (changed change (P.state pages.old).present)
-        (without dropped (without_name objects moment at.entry.directory at.entry.name.now))) }
-    ensures why { IfErr result (SaysWhyChanging (P.state pages.new)) }
-    ensures fault { (z : Sizes) (objects : Objects) (o : ℕ) → HoldsIn (P.state pages.old) z objects → LeadsTo objects at.entry o
-        → IfErr result (MayLackMemory (P.state pages.new)) }
-{
-    let Some(change) = directories::remove(alloc, pages, at.directory, at.name, moment)? else {
-        return Err(PageFault::Damaged);
-    };
-    Ok(and_forget(alloc, change, dropped)?)
-}
-
 /// The change that takes a name from a directory, and the object that is told. The name is found through an index.
-pub fn remove_among<P: Pages>(
+pub fn remove<P: Pages>(
     names: &NameIndex,
     pages: &mut P,
     alloc: Global,
@@ -89,14 +65,14 @@ pub fn remove_among<P: Pages>(
     ensures finds { OnlyFinds (P.state pages.old) (P.state pages.new) }
     ensures power { OnOk result (KeepsPower (P.state pages.old) (P.state pages.new)) }
     ensures change { IfOk result (λ change. IsChange change (P.state pages.old).page_bytes 2) }
-    ensures removes { (z : Sizes) (objects : Objects) (o : ℕ) → HoldsIn (P.state pages.old) z objects → HasNames names.now z (P.state pages.old).present objects → LeadsTo objects at.entry o
+    ensures removes { (z : Sizes) (objects : Objects) (o : ℕ) → HoldsNamed names.now (P.state pages.old) z objects → LeadsTo objects at.entry o
         → IfOk result (λ change. HoldsObjects z (changed change (P.state pages.old).present)
         (without dropped (without_name objects moment at.entry.directory at.entry.name.now))) }
     ensures why { IfErr result (SaysWhyChanging (P.state pages.new)) }
-    ensures fault { (z : Sizes) (objects : Objects) (o : ℕ) → HoldsIn (P.state pages.old) z objects → HasNames names.now z (P.state pages.old).present objects → LeadsTo objects at.entry o
+    ensures fault { (z : Sizes) (objects : Objects) (o : ℕ) → HoldsNamed names.now (P.state pages.old) z objects → LeadsTo objects at.entry o
         → IfErr result (MayLackMemory (P.state pages.new)) }
 {
-    let made = directories::remove_among(alloc, names, pages, at.directory, at.name, moment)?;
+    let made = directories::remove(alloc, names, pages, at.directory, at.name, moment)?;
     let Some(change) = made else {
         return Err(PageFault::Damaged);
     };

@@ -31,7 +31,7 @@ pub carried_same : (d : Device) (spare : ℕ) (m n : PageMap) → SamePages n m 
 carried_same d spare m n same = carried_fewer d spare m n (λ o c xs is. sym (same o c) ∙ is)
 
 -- what is known is there
-known_there : (h : Bool) (m : PageMap) (o c : ℕ) (xs : List ℕ) → known_pages h m o c ≡ Some xs → m o c ≡ Some xs
+pub known_there : (h : Bool) (m : PageMap) (o c : ℕ) (xs : List ℕ) → known_pages h m o c ≡ Some xs → m o c ≡ Some xs
 known_there true m o c xs is = is
 known_there false m o c xs is = absurd (let two : None ≡ Some xs = is in cc)
 
@@ -51,7 +51,7 @@ either_same d spare m n m' n' first then is = elim is [
 ]
 
 -- a kept key is one that has a page
-kept_of_data : (f : Flash) (m : Option KeptPage) (xs : List ℕ) → option_and_then (data_at f) m ≡ Some xs → (p : KeptPage) × (m ≡ Some p)
+pub kept_of_data : (f : Flash) (m : Option KeptPage) (xs : List ℕ) → option_and_then (data_at f) m ≡ Some xs → (p : KeptPage) × (m ≡ Some p)
 kept_of_data f None xs is = absurd (let two : None ≡ Some xs = is in cc)
 kept_of_data f (Some p) xs is = (p, refl)
 

@@ -4,3 +4,4 @@ pub mod Kept
 pub mod Carried
 pub mod Steps
 pub mod Told
+pub mod Sealed

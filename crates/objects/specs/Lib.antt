@@ -3,4 +3,5 @@ pub mod Reading
 pub mod StoreOf
 pub mod Caching
 pub mod Changing
+pub mod Sealing
 pub mod laws

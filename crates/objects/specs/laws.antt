@@ -1,2 +1,3 @@
 pub mod OneProof
 pub mod Sound
+pub mod Sealing

@@ -7,6 +7,7 @@ mod committing;
 mod cutting;
 mod page_store;
 mod reading;
+mod sealing;
 mod store;
 
 pub use object_table::ObjectTable;

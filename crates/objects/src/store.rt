@@ -53,7 +53,7 @@ pub struct Store<N: Nand> {
     pub(crate) cache: PageCache,
     pub(crate) room: MoveRoom,
     // What a page of the device is read into, and what is lent before a page was found.
-    scratch: Vec<u8>,
+    pub(crate) scratch: Vec<u8>,
     pub(crate) found: Found,
     // How many blocks may be bad.
     pub(crate) spare: u32,

@@ -1,9 +1,8 @@
 // Directories beside maps from names.
-use crate::store::{AWAY, HOME, slot_of, taken, two_directories};
+use crate::store::{AWAY, HOME, Store, slot_of, taken, taken_from, two_directories};
 use directories::{
     Route, add, entries, find, names, read_head, remove, rename_between, rename_within, replace,
 };
-use pages::MemPages;
 use rand_core::utils::NextWord;
 use rand_pcg::Pcg32;
 use std::alloc::Global;
@@ -17,13 +16,13 @@ type Names = BTreeMap<Vec<u8>, u64>;
 /// looked for one by one.
 fn has_names(
     alloc: Global,
-    pages: &mut MemPages,
+    store: &mut Store,
     directory: u64,
     wanted: &Names,
 ) -> Result<bool, Fail> {
-    let listed = names(alloc, pages, directory)?;
-    let found = entries(alloc, pages, directory)?;
-    let length = read_head(pages, directory)?.length as usize;
+    let listed = names(alloc, &mut store.pages, directory)?;
+    let found = entries(alloc, &mut store.pages, directory)?;
+    let length = read_head(&mut store.pages, directory)?.length as usize;
     if [listed.as_slice().len(), found.len(), length] != [wanted.len(); 3] {
         return Ok(false);
     }
@@ -32,42 +31,46 @@ fn has_names(
         if name.as_slice() != key.as_slice() || led != Some(*object) {
             return Ok(false);
         }
-        if *object % 16 == 0 && find(pages, directory, key.as_slice())? != led {
+        if *object % 16 == 0
+            && find(&store.names, &mut store.pages, directory, key.as_slice())? != led
+        {
             return Ok(false);
         }
     }
-    Ok(find(pages, directory, b"nowhere")?.is_none())
+    Ok(find(&store.names, &mut store.pages, directory, b"nowhere")?.is_none())
 }
 
 /// The store after a name leads to an object, whether it is there or not.
 fn put(
     alloc: Global,
-    mut pages: MemPages,
+    mut store: Store,
     directory: u64,
     wanted: &mut Names,
     name: &[u8],
     object: u64,
-) -> Result<MemPages, Fail> {
+) -> Result<Store, Fail> {
     let slot = slot_of(name, object)?;
     let change = match wanted.insert(name.to_vec(alloc)?, object)? {
-        None => add(alloc, &mut pages, directory, &slot, object)?,
-        Some(_) => replace(alloc, &mut pages, directory, &slot, object)?.ok_or("it has no name")?,
+        None => add(alloc, &mut store.pages, directory, &slot, object)?,
+        Some(_) => replace(alloc, &mut store.pages, directory, &slot, object)?.ok_or(
+            "it has no name",
+        )?,
     };
-    taken(alloc, pages, change)
+    taken(alloc, store, change)
 }
 
 /// The store after a name is removed where it is there.
 fn take_away(
     alloc: Global,
-    mut pages: MemPages,
+    mut store: Store,
     directory: u64,
     wanted: &mut Names,
     name: &[u8],
-) -> Result<MemPages, Fail> {
-    let change = remove(alloc, &mut pages, directory, name, 7)?;
+) -> Result<Store, Fail> {
+    let change = remove(alloc, &store.names, &mut store.pages, directory, name, 7)?;
     match (change, wanted.remove(name)) {
-        (Some(change), Some(_)) => taken(alloc, pages, change),
-        (None, None) => Ok(pages),
+        (Some(change), Some(_)) => taken_from(alloc, store, change, directory, name),
+        (None, None) => Ok(store),
         _ => Err("a name is there and is not".into()),
     }
 }
@@ -75,20 +78,28 @@ fn take_away(
 /// The store after a name gives way to another of the same directory where it is there.
 fn rename(
     alloc: Global,
-    mut pages: MemPages,
+    mut store: Store,
     directory: u64,
     wanted: &mut Names,
     from: &[u8],
     to: &[u8],
     object: u64,
-) -> Result<MemPages, Fail> {
-    let change = rename_within(alloc, &mut pages, directory, from, &slot_of(to, object)?, 8)?;
+) -> Result<Store, Fail> {
+    let change = rename_within(
+        alloc,
+        &store.names,
+        &mut store.pages,
+        directory,
+        from,
+        &slot_of(to, object)?,
+        8,
+    )?;
     match (change, wanted.remove(from)) {
         (Some(change), Some(_)) => {
             wanted.insert(to.to_vec(alloc)?, object)?;
-            taken(alloc, pages, change)
+            taken_from(alloc, store, change, directory, from)
         }
-        (None, None) => Ok(pages),
+        (None, None) => Ok(store),
         _ => Err("a name is there and is not".into()),
     }
 }
@@ -96,24 +107,32 @@ fn rename(
 /// The store after a name of one directory gives way to one of another where it is there.
 fn carry(
     alloc: Global,
-    mut pages: MemPages,
+    mut store: Store,
     wanted: &mut Names,
     others: &mut Names,
     from: &[u8],
     to: &[u8],
     object: u64,
-) -> Result<MemPages, Fail> {
+) -> Result<Store, Fail> {
     let route = Route {
         source: HOME,
         target: AWAY,
     };
-    let change = rename_between(alloc, &mut pages, route, from, &slot_of(to, object)?, 9)?;
+    let change = rename_between(
+        alloc,
+        &store.names,
+        &mut store.pages,
+        route,
+        from,
+        &slot_of(to, object)?,
+        9,
+    )?;
     match (change, wanted.remove(from)) {
         (Some(change), Some(_)) => {
             others.insert(to.to_vec(alloc)?, object)?;
-            taken(alloc, pages, change)
+            taken_from(alloc, store, change, HOME, from)
         }
-        (None, None) => Ok(pages),
+        (None, None) => Ok(store),
         _ => Err("a name is there and is not".into()),
     }
 }
@@ -145,33 +164,33 @@ fn fill_and_empty(
     page_bytes: u32,
     count: u32,
 ) -> Result<bool, Fail> {
-    let mut pages = two_directories(alloc, page_bytes)?;
+    let mut store = two_directories(alloc, page_bytes)?;
     let mut wanted = BTreeMap::new(alloc);
     for number in shuffled(alloc, random, count)? {
         let name = name_of(alloc, number)?;
-        pages = put(
+        store = put(
             alloc,
-            pages,
+            store,
             HOME,
             &mut wanted,
             &name,
             2 + u64::from(number),
         )?;
     }
-    if !has_names(alloc, &mut pages, HOME, &wanted)? {
+    if !has_names(alloc, &mut store, HOME, &wanted)? {
         return Ok(false);
     }
     for number in shuffled(alloc, random, count)? {
         let name = name_of(alloc, number)?;
-        pages = take_away(alloc, pages, HOME, &mut wanted, &name)?;
-        if number % 128 == 0 && !has_names(alloc, &mut pages, HOME, &wanted)? {
+        store = take_away(alloc, store, HOME, &mut wanted, &name)?;
+        if number % 128 == 0 && !has_names(alloc, &mut store, HOME, &wanted)? {
             return Ok(false);
         }
     }
     Ok(
         wanted.is_empty()
-            && has_names(alloc, &mut pages, HOME, &wanted)?
-            && has_names(alloc, &mut pages, AWAY, &wanted)?,
+            && has_names(alloc, &mut store, HOME, &wanted)?
+            && has_names(alloc, &mut store, AWAY, &wanted)?,
     )
 }
 
@@ -205,20 +224,20 @@ fn a_thousand_names_are_added_and_removed(rt: HostRuntime) -> Result<(), Fail> {
 
 /// Changes of two directories at random, with few names, so that many are there already.
 fn change_at_random(alloc: Global, random: &mut Pcg32, page_bytes: u32) -> Result<bool, Fail> {
-    let mut pages = two_directories(alloc, page_bytes)?;
+    let mut store = two_directories(alloc, page_bytes)?;
     let mut wanted = BTreeMap::new(alloc);
     let mut others = BTreeMap::new(alloc);
     for object in 2..120u64 {
         let name = name_of(alloc, random.next_word() % 20)?;
         let to = name_of(alloc, random.next_word() % 20)?;
-        pages = match random.next_word() % 6 {
-            0 => take_away(alloc, pages, HOME, &mut wanted, &name)?,
-            1 => rename(alloc, pages, HOME, &mut wanted, &name, &to, object)?,
-            2 => carry(alloc, pages, &mut wanted, &mut others, &name, &to, object)?,
-            _ => put(alloc, pages, HOME, &mut wanted, &name, object)?,
+        store = match random.next_word() % 6 {
+            0 => take_away(alloc, store, HOME, &mut wanted, &name)?,
+            1 => rename(alloc, store, HOME, &mut wanted, &name, &to, object)?,
+            2 => carry(alloc, store, &mut wanted, &mut others, &name, &to, object)?,
+            _ => put(alloc, store, HOME, &mut wanted, &name, object)?,
         };
-        if !has_names(alloc, &mut pages, HOME, &wanted)?
-            || !has_names(alloc, &mut pages, AWAY, &others)?
+        if !has_names(alloc, &mut store, HOME, &wanted)?
+            || !has_names(alloc, &mut store, AWAY, &others)?
         {
             return Ok(false);
         }

@@ -7,6 +7,8 @@ mod files;
 #[cfg(test)]
 mod folders;
 #[cfg(test)]
+mod hashes;
+#[cfg(test)]
 mod objects;
 #[cfg(test)]
 mod refusals;

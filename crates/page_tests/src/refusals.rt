@@ -3,13 +3,13 @@ ghost use Rattle.std.specs.Prelude.{◌≡◌};
 ghost use Rattle.page_tags.specs.SlotEntry.{entry_of};
 ghost use Rattle.flash_tree.specs.Slots.{IsTreeSlot};
 
-use crate::store::{AWAY, HOME, slot_of, taken, two_directories};
+use crate::store::{AWAY, HOME, Store, slot_of, taken, two_directories};
 use directories::{
     Route, add, entries, find, names, read_head, remove, rename_between, rename_within, replace,
 };
 use file_io::{create, read_at, read_info, set_length, write_at};
 use page_tags::Slot;
-use pages::{Change, Lack, MemPages, PageFault, Refusal};
+use pages::{Change, Lack, PageFault, Refusal};
 use std::alloc::Global;
 use std::process::Abort;
 use std::test::Fail;
@@ -37,14 +37,14 @@ enum Call {
 /// Each call, how many pages it asks for, and how much it tells: names, bytes, or the pages of its change.
 const CALLS: [(Call, u64, usize); 13] = [
     (Call::Head, 1, 3),
-    (Call::Find, 4, 1),
+    (Call::Find, 2, 1),
     (Call::Names, 4, 3),
     (Call::Entries, 4, 3),
     (Call::Add, 1, 2),
     (Call::Remove, 4, 2),
     (Call::Replace, 5, 2),
     (Call::RenameWithin, 5, 3),
-    (Call::RenameBetween, 5, 4),
+    (Call::RenameBetween, 6, 4),
     (Call::Info, 1, 700),
     (Call::Read, 2, 401),
     (Call::Write, 3, 3),
@@ -62,7 +62,7 @@ fn count_of(change: Option<Change>) -> usize {
 /// What a call over a directory tells, as a number.
 fn ask_directory(
     alloc: Global,
-    pages: &mut MemPages,
+    store: &mut Store,
     call: Call,
     slot: &Slot,
 ) -> Result<usize, PageFault>
@@ -77,53 +77,61 @@ fn ask_directory(
         ..*slot
     };
     Ok(match call {
-        Call::Head => read_head(pages, HOME)?.length as usize,
-        Call::Find => usize::from(find(pages, HOME, b"c")?.is_some()),
-        Call::Names => names(alloc, pages, HOME)?.as_slice().len(),
-        Call::Entries => entries(alloc, pages, HOME)?.len(),
-        Call::Add => count_of(Some(add(alloc, pages, HOME, slot, 9)?)),
-        Call::Remove => count_of(remove(alloc, pages, HOME, b"a", 9)?),
-        Call::Replace => count_of(replace(alloc, pages, HOME, &replaced, 9)?),
-        Call::RenameWithin => count_of(rename_within(alloc, pages, HOME, b"a", slot, 9)?),
-        _ => count_of(rename_between(alloc, pages, route, b"a", slot, 9)?),
+        Call::Head => read_head(&mut store.pages, HOME)?.length as usize,
+        Call::Find => usize::from(find(&store.names, &mut store.pages, HOME, b"c")?.is_some()),
+        Call::Names => names(alloc, &mut store.pages, HOME)?.as_slice().len(),
+        Call::Entries => entries(alloc, &mut store.pages, HOME)?.len(),
+        Call::Add => count_of(Some(add(alloc, &mut store.pages, HOME, slot, 9)?)),
+        Call::Remove => count_of(remove(alloc, &store.names, &mut store.pages, HOME, b"a", 9)?),
+        Call::Replace => count_of(replace(alloc, &mut store.pages, HOME, &replaced, 9)?),
+        Call::RenameWithin => count_of(rename_within(
+            alloc,
+            &store.names,
+            &mut store.pages,
+            HOME,
+            b"a",
+            slot,
+            9,
+        )?),
+        _ => count_of(rename_between(alloc, &store.names, &mut store.pages, route, b"a", slot, 9)?),
     })
 }
 
 /// What a call tells, as a number.
-fn ask(alloc: Global, pages: &mut MemPages, call: Call, slot: &Slot) -> Result<usize, PageFault>
+fn ask(alloc: Global, store: &mut Store, call: Call, slot: &Slot) -> Result<usize, PageFault>
     requires { IsTreeSlot (entry_of slot.now) }
 {
     Ok(match call {
-        Call::Info => read_info(pages, FILE)?.length as usize,
-        Call::Read => read_at(alloc, pages, FILE, 700, 299, 700)?.len(),
-        Call::Write => count_of(Some(write_at(alloc, pages, FILE, 300, &[2; 300], 9)?)),
-        Call::SetLength => count_of(Some(set_length(alloc, pages, FILE, 900, 9)?)),
-        _ => ask_directory(alloc, pages, call, slot)?,
+        Call::Info => read_info(&mut store.pages, FILE)?.length as usize,
+        Call::Read => read_at(alloc, &mut store.pages, FILE, 700, 299, 700)?.len(),
+        Call::Write => count_of(Some(write_at(alloc, &mut store.pages, FILE, 300, &[2; 300], 9)?)),
+        Call::SetLength => count_of(Some(set_length(alloc, &mut store.pages, FILE, 900, 9)?)),
+        _ => ask_directory(alloc, store, call, slot)?,
     })
 }
 
 /// A store with three names in the first directory, and a file of 700 bytes in two chunks.
-fn store(alloc: Global) -> Result<MemPages, Fail> {
-    let mut pages = two_directories(alloc, 512)?;
+fn three_names(alloc: Global) -> Result<Store, Fail> {
+    let mut store = two_directories(alloc, 512)?;
     for (name, object) in [(b"a", 2), (b"b", 3), (b"c", 4)] {
-        let change = add(alloc, &mut pages, HOME, &slot_of(name, object)?, 1)?;
-        pages = taken(alloc, pages, change)?;
+        let change = add(alloc, &mut store.pages, HOME, &slot_of(name, object)?, 1)?;
+        store = taken(alloc, store, change)?;
     }
-    let header = create(alloc, &pages, FILE, 1)?;
+    let header = create(alloc, &store.pages, FILE, 1)?;
     let change = Change {
         pages: vec![in alloc; header]?,
         cuts: Vec::new(alloc),
     };
-    pages = taken(alloc, pages, change)?;
-    let change = write_at(alloc, &mut pages, FILE, 0, &[1; 700], 1)?;
-    taken(alloc, pages, change)
+    store = taken(alloc, store, change)?;
+    let change = write_at(alloc, &mut store.pages, FILE, 0, &[1; 700], 1)?;
+    taken(alloc, store, change)
 }
 
 /// Refuses each page of a call in turn: the call says what lacked, and made again it tells what it should.
 fn refuse_each(
     rt: &impl Abort,
     alloc: Global,
-    pages: &mut MemPages,
+    store: &mut Store,
     call: Call,
     asked: u64,
     told: usize,
@@ -134,43 +142,42 @@ fn refuse_each(
             (Lack::Memory, PageFault::NoMemory),
             (Lack::Device, PageFault::Device),
         ] {
-            let number = pages.finds().saturating_add(number);
-            pages.refuse(Refusal { number, lack });
+            let number = store.pages.finds().saturating_add(number);
+            store.pages.refuse(Refusal { number, lack });
             assert_eq!(rt;
-                ask(alloc, pages, call, &slot).err(),
+                ask(alloc, store, call, &slot).err(),
                 Some(fault),
                 "{call:?}"
             );
-            assert_eq!(rt; ask(alloc, pages, call, &slot)?, told, "{call:?}");
+            assert_eq!(rt; ask(alloc, store, call, &slot)?, told, "{call:?}");
         }
     }
-    let before = pages.finds();
-    assert_eq!(rt; ask(alloc, pages, call, &slot)?, told, "{call:?}");
-    assert_eq!(rt; pages.finds().saturating_sub(before), asked, "{call:?}");
+    let before = store.pages.finds();
+    assert_eq!(rt; ask(alloc, store, call, &slot)?, told, "{call:?}");
+    assert_eq!(rt;
+        store.pages.finds().saturating_sub(before),
+        asked,
+        "{call:?}"
+    );
     Ok(())
 }
 
 #[test]
 fn a_refused_page_changes_nothing(rt: HostRuntime) -> Result<(), Fail> {
     let alloc = rt.alloc();
-    let mut pages = store(alloc)?;
+    let mut store = three_names(alloc)?;
     for (call, asked, told) in CALLS {
-        refuse_each(&rt, alloc, &mut pages, call, asked, told)?;
+        refuse_each(&rt, alloc, &mut store, call, asked, told)?;
     }
     Ok(())
 }
 
 /// What a call tells, which is asked for once more where memory was refused.
-fn ask_again(
-    alloc: Global,
-    pages: &mut MemPages,
-    call: Call,
-    slot: &Slot,
-) -> Result<usize, PageFault>
+fn ask_again(alloc: Global, store: &mut Store, call: Call, slot: &Slot) -> Result<usize, PageFault>
     requires { IsTreeSlot (entry_of slot.now) }
 {
-    match ask(alloc, pages, call, slot) {
-        Err(PageFault::NoMemory) => ask(alloc, pages, call, slot),
+    match ask(alloc, store, call, slot) {
+        Err(PageFault::NoMemory) => ask(alloc, store, call, slot),
         told => told,
     }
 }
@@ -179,11 +186,11 @@ fn ask_again(
 #[test]
 fn a_refused_growth_changes_nothing(rt: HostRuntime) -> Result<(), Fail> {
     let alloc = rt.alloc();
-    let mut pages = store(alloc)?;
+    let mut store = three_names(alloc)?;
     let slot = slot_of(b"new", 6)?;
     for (call, _, told) in CALLS {
         assert_eq!(rt;
-            ask_again(alloc, &mut pages, call, &slot)?,
+            ask_again(alloc, &mut store, call, &slot)?,
             told,
             "{call:?}"
         );

@@ -1,10 +1,13 @@
-// A store in memory that takes changes, and slots that a directory takes.
-ghost use Rattle.std.specs.Prelude.{IfOk};
+// A store in memory that takes changes, with an index of its names, and slots that a directory takes.
+ghost use Rattle.std.specs.Prelude.{◌≤◌, IfOk};
 ghost use Rattle.page_tags.specs.SlotEntry.{entry_of};
 ghost use Rattle.flash_tree.specs.Slots.{IsTreeSlot};
 
-use directories::{DirectoryHead, head_page};
+use directories::{DirectoryHead, head_page, left_slot};
 use flash_tree::CHECK_OBJECT;
+use name_index::{NameIndex, name_hash};
+use object_pages::{hash_names, plan};
+use object_store::{DirectoryEntry, ObjectChange};
 use page_tags::Slot;
 use pages::{Change, MemPages, Pages, are_sized};
 use std::alloc::Global;
@@ -16,16 +19,60 @@ pub(crate) const HOME: u64 = 1;
 
 pub(crate) const AWAY: u64 = 2;
 
+/// Pages in memory, and an index of the names in their directories.
+#[derive(Drop)]
+pub(crate) struct Store {
+    pub(crate) names: NameIndex,
+    pub(crate) pages: MemPages,
+}
+
+impl Store {
+    /// A store without pages.
+    fn new(alloc: Global, page_bytes: u32) -> Result<Store, Fail>
+        requires least { 512 ≤ page_bytes }
+        requires most { page_bytes ≤ 4096 }
+    {
+        Ok(Store {
+            names: NameIndex::new(alloc),
+            pages: MemPages::new(alloc, page_bytes)?,
+        })
+    }
+}
+
 /// The store after a change.
-pub(crate) fn taken(alloc: Global, pages: MemPages, change: Change) -> Result<MemPages, Fail> {
+pub(crate) fn taken(alloc: Global, store: Store, change: Change) -> Result<Store, Fail> {
+    let Store { mut names, pages } = store;
     if !are_sized(&change.pages, pages.page_bytes()) {
         return Err("a page of another size".into());
     }
-    Ok(pages.apply(alloc, change)?)
+    hash_names(&mut names, &pages, &change)?;
+    let pages = pages.apply(alloc, change)?;
+    Ok(Store { names, pages })
+}
+
+/// The store after a change that takes a name from a directory. Where its slot has a name with another hash then, the
+/// index does not hold the slot under the first one's any more.
+pub(crate) fn taken_from(
+    alloc: Global,
+    store: Store,
+    change: Change,
+    directory: u64,
+    name: &[u8],
+) -> Result<Store, Fail> {
+    let page_bytes = store.pages.page_bytes();
+    if !are_sized(&change.pages, page_bytes) {
+        return Err("a page of another size".into());
+    }
+    let left = left_slot(&store.names, page_bytes, &change, directory, name);
+    let Store { mut names, pages } = taken(alloc, store, change)?;
+    if let Some(left) = left {
+        names.remove(directory, name_hash(name), left.slot);
+    }
+    Ok(Store { names, pages })
 }
 
 /// A store with the two directories, without names.
-pub(crate) fn two_directories(alloc: Global, page_bytes: u32) -> Result<MemPages, Fail> {
+pub(crate) fn two_directories(alloc: Global, page_bytes: u32) -> Result<Store, Fail> {
     if !(512..=4096).contains(&page_bytes) {
         return Err("no such page".into());
     }
@@ -40,7 +87,41 @@ pub(crate) fn two_directories(alloc: Global, page_bytes: u32) -> Result<MemPages
         pages: vec![in alloc; home, away]?,
         cuts: Vec::new(alloc),
     };
-    taken(alloc, MemPages::new(alloc, page_bytes)?, change)
+    taken(alloc, Store::new(alloc, page_bytes)?, change)
+}
+
+/// The root of a volume.
+pub(crate) const ROOT: u64 = 1;
+
+/// A name in a directory.
+pub(crate) fn entry(directory: u64, name: &[u8]) -> DirectoryEntry<'_> {
+    DirectoryEntry { directory, name }
+}
+
+/// A volume with a root without names, whose header says three spare blocks.
+pub(crate) fn empty_volume(alloc: Global) -> Result<Store, Fail> {
+    let head = DirectoryHead {
+        spare: 3,
+        length: 0,
+        moment: 0,
+    };
+    let root = head_page(alloc, 512, ROOT, head)?;
+    let change = Change {
+        pages: vec![in alloc; root]?,
+        cuts: Vec::new(alloc),
+    };
+    taken(alloc, Store::new(alloc, 512)?, change)
+}
+
+/// The store after a change of objects.
+pub(crate) fn changed(
+    alloc: Global,
+    mut store: Store,
+    change: ObjectChange<'_>,
+    new: u64,
+) -> Result<Store, Fail> {
+    let change = plan(&store.names, &mut store.pages, alloc, &change, new)?;
+    taken(alloc, store, change)
 }
 
 /// A slot with this name, which leads to the object.

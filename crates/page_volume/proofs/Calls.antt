@@ -21,27 +21,33 @@ use Rattle.object_commands.specs.Endings.{IsAt, CommandEnds}
 use Rattle.object_commands.specs.Running.{InTurn, ReadsInTurn, Ran, Runs}
 use Rattle.object_commands.specs.laws.Steps.{One, one_ends, at_shown}
 use Rattle.object_table.specs.Told.{table_sizes}
+use Rattle.object_pages.specs.Naming.{HasNames}
 use Rattle.paged_objects.specs.Meaning.{paged_meaning}
+use Rattle.paged_objects.specs.Parts.{state_of}
 use Rattle.paged_objects.specs.Standing.{StandsFor, Shown}
 use Rattle.paged_objects.specs.Ending.{HasEnded}
 use Rattle.paged_objects.specs.laws.Lawful.{paged_lawful}
 use Rattle.paged_objects.specs.declared.store.PagedObjects.{PagedObjects}
 use Rattle.pages.specs.State.{PagesState}
 use Rattle.pages.specs.Stores.{bad_on}
-use Rattle.page_volume.specs.Volumes.{pages_of, table_of, is_read_only, IsVolumeOf}
+use Rattle.page_volume.specs.Volumes.{pages_of, table_of, names_of, is_read_only, IsVolumeOf}
 use Rattle.page_volume.specs.Running.{RanPages, RunsPages}
 use Rattle.page_volume.specs.declared.volume.PageVolume.{PageVolume}
 
 -- what objects over such pages stand for
 abbrev pub meaning_of : {P : Type 0} → (P → PagesState) → Meaning (PagedObjects P)
-meaning_of state = paged_meaning state (λ s. s.pages) (λ s. s.table)
+meaning_of state = paged_meaning (state_of state)
 
 pub is_at : {P : Type 0} (state : P → PagesState) (z : Sizes) (s : State) (v : PageVolume P) → IsVolumeOf state z s v → IsAt (meaning_of state) z s v.volume
 is_at state z s v is = record {
   has = record {
     numbers = is.numbers;
     sizes = is.sizes;
-    stands = (subst (λ y. StandsFor y (state (pages_of v)) s.objects) (sym is.sizes) is.stands, is.tells);
+    stands = record {
+      stands = subst (λ y. StandsFor y (state (pages_of v)) s.objects) (sym is.sizes) is.stands;
+      tells = is.tells;
+      named = subst (λ y. HasNames (names_of v) y (state (pages_of v)).present s.objects) (sym is.sizes) is.hashes;
+    };
     forest = is.sound.well_formed.forest;
     fit = is.sound.fit;
   };
@@ -63,12 +69,13 @@ pub is_volume : {P : Type 0} (state : P → PagesState) (z : Sizes) (s : State) 
 is_volume state z s v law worn at = record {
   numbers = at.has.numbers;
   sizes = at.has.sizes;
-  stands = subst (λ y. StandsFor y (state (pages_of v)) s.objects) at.has.sizes at.has.stands.0;
-  tells = at.has.stands.1;
+  stands = subst (λ y. StandsFor y (state (pages_of v)) s.objects) at.has.sizes at.has.stands.stands;
+  tells = at.has.stands.tells;
+  hashes = subst (λ y. HasNames (names_of v) y (state (pages_of v)).present s.objects) at.has.sizes at.has.stands.named;
   handles = at.handles;
   sound = at.sound;
   worn = worn;
-  few = λ writes. law (pages_of v) at.has.stands.0.sound (worn ∙ writes);
+  few = λ writes. law (pages_of v) at.has.stands.stands.sound (worn ∙ writes);
   reading = λ only. (at.only_read only).handles;
   named = λ only. (at.only_read only).named;
   shown = λ only. subst (λ y. Shown y (state (pages_of v)) s.objects) at.has.sizes (at.only_read only).shown;
@@ -93,11 +100,11 @@ module _ {P : Type 0} (state : P → PagesState) where
   -- one command
   pub one_call : (z : Sizes) (s : State) (stamped : Stamped) (r : Reply) (a b : PageVolume P) → IsVolumeOf state z s a → CommandEnds m z (class_of (is_read_only a) s stamped.command) (takes_no_memory stamped.command) s (step z (is_read_only a) s stamped) a.volume b.volume r
       → One m z (is_read_only a) s stamped r a.volume b.volume
-  one_call z s stamped r a b is ends = one_ends m (paged_lawful state (λ s. s.pages) (λ s. s.table)) z (is_read_only a) s stamped r a.volume b.volume (at_shown m z s a.volume (is_at state z s a is)) ends
+  one_call z s stamped r a b is ends = one_ends m (paged_lawful (state_of state)) z (is_read_only a) s stamped r a.volume b.volume (at_shown m z s a.volume (is_at state z s a is)) ends
 
   -- a call that only reads, or leaves the device as it is
   pub reads_device : (a b : PagedObjects P) → m.reads a b ⊎ m.leaves a b → OnlyReads (state a.pages).device (state b.pages).device
-  reads_device a b (inl reads) = reads.0.device
+  reads_device a b (inl reads) = reads.pages.device
   reads_device a b (inr leaves) = subst (λ (d : Device). OnlyReads (state a.pages).device d) (sym leaves) (only_reads_here (state a.pages).device)
 
   -- and such calls in turn
@@ -129,7 +136,7 @@ module _ {P : Type 0} (state : P → PagesState) where
     state_is = λ goes. is_volume state z _ b law worn (ran.state goes);
     only_failed = λ only stop. (ran.unread only stop).1.1;
     power = λ refused. not-true _ (ran.power refused);
-    tells = λ each. (ran.tells each).0;
+    tells = λ each. (ran.tells each).pages;
     only_reads = λ why. let reads = ran.only why in reads_all reads.0 a.volume.store b.volume.store reads.1;
   } where
     losses_from : {tree : Objects} → LossLeaves (Shown (table_sizes (table_of b)) (state (pages_of b))) tree z (is_read_only a) s commands answered → LossLeaves (Shown z (state (pages_of b))) tree z (is_read_only a) s commands answered

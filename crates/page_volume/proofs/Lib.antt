@@ -1,1 +1,3 @@
 mod Calls
+pub mod Closed
+pub mod Exact

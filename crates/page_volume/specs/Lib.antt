@@ -1,2 +1,3 @@
 pub mod Volumes
 pub mod Running
+pub mod Closing

@@ -3,8 +3,10 @@ use Rattle.std.specs.Prelude.{◌≡◌, ◌≤◌, Bool, true, false}
 use Rattle.volume_terms.specs.Sizes.{Sizes, IsSizes}
 use Rattle.posix_profile.specs.State.{State}
 use Rattle.posix_profile.specs.laws.Sound.{IsSound}
+use Rattle.name_index.specs.declared.index.NameIndex.{NameIndex}
 use Rattle.object_commands.specs.Endings.{AreReading}
 use Rattle.object_commands.specs.Volumes as volumes
+use Rattle.object_pages.specs.Naming.{HasNames}
 use Rattle.object_store.specs.Stores.{settled}
 use Rattle.object_table.specs.Told.{table_sizes, Tells}
 use Rattle.object_table.specs.declared.table.ObjectTable.{ObjectTable}
@@ -22,6 +24,10 @@ pages_of v = parts.pages_of (volumes.store_of v.volume)
 abbrev pub table_of : {P : Type 0} → PageVolume P → ObjectTable
 table_of v = parts.table_of (volumes.store_of v.volume)
 
+-- the index of the names of its objects
+abbrev pub names_of : {P : Type 0} → PageVolume P → NameIndex
+names_of v = parts.names_of (volumes.store_of v.volume)
+
 -- commands that would change it are refused
 abbrev pub is_read_only : {P : Type 0} → PageVolume P → Bool
 is_read_only v = volumes.is_read_only v.volume
@@ -30,14 +36,15 @@ is_read_only v = volumes.is_read_only v.volume
 abbrev pub is_stopped : {P : Type 0} → PageVolume P → Bool
 is_stopped v = volumes.is_stopped v.volume
 
--- The volume stands for a state: its sound pages hold the objects, its table tells them, and its descriptors are those of
--- the state, which is one that a volume of these sizes can have. Of a read-only volume no descriptor may write, each object has
+-- The volume stands for a state: its sound pages hold the objects, its table tells them, its index has the hashes of their names, and
+-- its descriptors are those of the state, which is one that a volume of these sizes can have. Of a read-only volume no descriptor may write, each object has
 -- a name, and a mount shows the objects; of another no more blocks are bad than there are to spare.
 pub record IsVolumeOf {P : Type 0} (state : P → PagesState) (z : Sizes) (s : State) (v : PageVolume P) : Type 0 where
   pub numbers : IsSizes z
   pub sizes : table_sizes (table_of v) ≡ z
   pub stands : StandsFor z (state (pages_of v)) s.objects
   pub tells : Tells (table_of v) s.objects
+  pub hashes : HasNames (names_of v) z (state (pages_of v)).present s.objects
   pub handles : volumes.handles_of v.volume ≡ s.handles
   pub sound : IsSound z s
   pub worn : (state (pages_of v)).worn ≡ is_read_only v

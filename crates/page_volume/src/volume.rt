@@ -9,6 +9,7 @@ ghost use Rattle.posix_profile.specs.State.{Objects, State};
 ghost use Rattle.posix_profile.specs.laws.Sound.{IsSound};
 ghost use Rattle.posix_profile.specs.declared.reply.Errno.TheVariants as errors;
 ghost use Rattle.posix_profile.specs.declared.reply.Reply.TheVariants as replies;
+ghost use Rattle.object_pages.specs.Naming.{HasNames};
 ghost use Rattle.object_store.specs.Stores.{settled};
 ghost use Rattle.object_table.specs.Told.{table_sizes, Tells};
 ghost use Rattle.command_plans.specs.Classes.{makes_no_call};
@@ -34,9 +35,10 @@ pub struct PageVolume<P: PageStore> {
 impl<P: PageStore> PageVolume<P> {
     ghost use Rattle.page_volume.specs.Volumes.{pages_of, table_of, is_read_only, is_stopped, IsVolumeOf};
     ghost use Rattle.object_commands.specs.Running.{OnlyTells};
+    ghost use Rattle.page_volume.specs.Closing.{CanWrite, KeepsOnly};
     ghost use Rattle.page_volume.specs.Running.{RunsPages};
 
-    /// A volume of the objects that the pages hold and the table tells, with no descriptor open.
+    /// A volume of the objects that the pages hold, the table tells and the index names, with no descriptor open.
     pub fn new(
         alloc: Global,
         pages: P,
@@ -48,14 +50,14 @@ impl<P: PageStore> PageVolume<P> {
         ensures table { IfOk result (λ v. table_of v ≡ table) }
         ensures read_only { IfOk result (λ v. is_read_only v ≡ read_only) }
         ensures goes_on { IfOk result (λ v. is_stopped v ≡ false) }
-        ensures at { (objects : Objects) → IsSizes (table_sizes table) → StandsFor (table_sizes table) (P.state pages) objects → Tells table objects → IsSound (table_sizes table) (record { objects = objects; handles = map.empty })
-            → (P.state pages).worn ≡ read_only
+        ensures at { (objects : Objects) → IsSizes (table_sizes table) → StandsFor (table_sizes table) (P.state pages) objects → Tells table objects → HasNames names (table_sizes table) (P.state pages).present objects
+            → IsSound (table_sizes table) (record { objects = objects; handles = map.empty }) → (P.state pages).worn ≡ read_only
             → (read_only ≡ true → (settled objects ≡ objects) × Shown (table_sizes table) (P.state pages) objects)
             → IfOk result (IsVolumeOf P.state (table_sizes table) (record { objects = objects; handles = map.empty })) }
-        ensures given_back { IfErr result (λ back. P.state back.0 ≡ P.state pages) }
+        ensures given_back { IfErr result (λ back. back.0 ≡ pages) }
     {
-        drop(names);
-        match Volume::new(alloc, PagedObjects::new(alloc, pages, table), read_only) {
+        let objects = PagedObjects::new(alloc, pages, table, names);
+        match Volume::new(alloc, objects, read_only) {
             Ok(volume) => Ok(PageVolume { volume }),
             Err((objects, error)) => Err((objects.into_pages(), error)),
         }
@@ -109,8 +111,9 @@ impl<P: PageStore> PageVolume<P> {
         self.volume.run(commands, replies)
     }
 
-    /// Commits what was accepted and gives the pages back, with the reply Done or EIO. A read-only volume makes no call.
-    pub fn finish(self) -> (P, Reply)
+    /// Closes all descriptors, commits what was accepted and gives the pages back, with the reply Done or EIO. A read-only
+    /// volume makes no call.
+    pub fn finish(mut self) -> (P, Reply)
         ensures goes_on { GoesOn (P.state (pages_of self)) (P.state result.0) }
         ensures stopped { is_stopped self ≡ true → (result.1 ≡ replies.Error errors.EIO) × (P.state result.0 ≡ P.state (pages_of self)) }
         ensures read_only { is_read_only self ≡ true → P.state result.0 ≡ P.state (pages_of self) }
@@ -125,16 +128,19 @@ impl<P: PageStore> PageVolume<P> {
             → Shown z (P.state result.0) tree ⊎ Shown z (P.state result.0) (settled s.objects) }
         ensures cause { is_stopped self ≡ false → (z : Sizes) (s : State) → IsVolumeOf P.state z s self → result.1 ≡ replies.Error errors.EIO
             → HasEnded (P.state result.0) }
+        // After Done the kept pages are those of the tree, and no others.
+        ensures exact { (z : Sizes) (s : State) → CanWrite P.state z s self → result.1 ≡ replies.Done → KeepsOnly z (P.state result.0) (settled s.objects) }
     {
-        let stopped = self.volume.stopped();
-        let read_only = self.volume.read_only();
+        if self.stopped() {
+            return (self.into_pages(), Reply::Error(Errno::EIO));
+        }
+        if self.read_only() {
+            return (self.into_pages(), Reply::Done);
+        }
+        if !self.close_all() {
+            return (self.into_pages(), Reply::Error(Errno::EIO));
+        }
         let mut objects = self.volume.into_store();
-        if stopped {
-            return (objects.into_pages(), Reply::Error(Errno::EIO));
-        }
-        if read_only {
-            return (objects.into_pages(), Reply::Done);
-        }
         let reply = match objects.commit() {
             Ok(()) => Reply::Done,
             Err(_) => Reply::Error(Errno::EIO),
@@ -144,7 +150,7 @@ impl<P: PageStore> PageVolume<P> {
 
     /// Gives the pages back as they are, as if power were lost between two calls.
     pub fn into_pages(self) -> P
-        ensures { P.state result ≡ P.state (pages_of self) }
+        ensures { result ≡ pages_of self }
     {
         self.volume.into_store().into_pages()
     }

@@ -1,13 +1,16 @@
 -- How the parts of a change end.
 use Rattle.std.specs.Prelude.{◌≡◌, ◌∷◌, [], ℕ, true, OnOk, IfErr, IsErrOf, Result, Ok, Err}
-use Rattle.std.proofs.Common.{refl, ◌∙◌, inl, inr}
+use Rattle.std.proofs.Common.{refl, sym, ◌∙◌, subst, inl, inr}
 use Rattle.std.specs.FinMap as map
 use Rattle.volume_terms.specs.Sizes.{Sizes}
 use Rattle.volume_terms.specs.declared.fault.StoreFault.{StoreFault}
 use Rattle.volume_terms.specs.declared.fault.StoreFault.TheVariants as faults
 use Rattle.posix_profile.specs.State.{Objects}
-use Rattle.object_table.specs.Told.{table_sizes, Tells, TellsTheSame}
-use Rattle.object_table.specs.declared.table.ObjectTable.{ObjectTable}
+use Rattle.object_table.specs.Told.{Tells, TellsTheSame}
+use Rattle.name_index.specs.Names.{DropsDirectory}
+use Rattle.name_index.specs.declared.index.NameIndex.{NameIndex}
+use Rattle.directories.specs.Hashing.{HoldsMore}
+use Rattle.object_pages.specs.Naming.{HasNames}
 use Rattle.pages.specs.Faults.{MayLackMemory}
 use Rattle.pages.specs.Maps.{PageMap, without_cuts}
 use Rattle.pages.specs.State.{PagesState, OnlyFinds}
@@ -15,12 +18,15 @@ use Rattle.pages.specs.Stores.{SamePages, GoesOn, StaysSame, KeptAs, KeepsEither
 use Rattle.pages.specs.declared.fault.PageFault.{PageFault}
 use Rattle.pages.specs.declared.fault.PageFault.TheVariants as page_faults
 use Rattle.object_pages.specs.Holding.{HoldsObjects}
-use Rattle.object_pages.specs.laws.Holding.{cut_object}
+use Rattle.object_pages.specs.laws.Holding.{cut_object, same_objects}
 use Rattle.paged_objects.specs.Faults.{fault_of, ReadFailsBy}
 use Rattle.paged_objects.specs.Standing.{StandsFor}
-use Rattle.paged_objects.specs.Ending.{StaysAs, Turns, Fails, Commits, HasPages, EndsPages, ChangeEnds}
+use Rattle.paged_objects.specs.Ending.{StaysAs, Turns, Fails, Commits, HasPages, EndsPages}
+use Rattle.paged_objects.specs.Known.{ObjectsState, sizes_in, HasNamed}
+use Rattle.paged_objects.specs.Changing.{ChangeEnds}
 use Rattle.paged_objects.specs.laws.Going.{finds_stay, refused_stays, stays_on, volume_on}
 use Rattle.paged_objects.proofs.Causes.{used_up}
+use Rattle.paged_objects.proofs.Dropped.{names_forgotten}
 use Rattle.paged_objects.specs.laws.Showing.{stays_stands, changed_stands, still_shown, either_turns, kept_shown, turns_after, fails_after, read_fails}
 
 -- a fault of reads, as the store's: one that has failed has lost its device
@@ -34,6 +40,12 @@ read_fault q page_faults.Full lost why = absurd why
 -- objects that are there after look-ups
 pub has_after : (z : Sizes) (p q : PagesState) (objects : Objects) → OnlyFinds p q → HasPages z p objects → HasPages z q objects
 has_after z p q objects finds has = record { stands = stays_stands z p q objects (finds_stay p q finds) has.stands; can = has.can }
+
+pub named_after : (names : NameIndex) (z : Sizes) (p q : PagesState) (objects : Objects) → OnlyFinds p q → HasNamed names z p objects → HasNamed names z q objects
+named_after names z p q objects finds has = record {
+  pages = has_after z p q objects finds has.pages;
+  named = subst (λ (m : PageMap). HasNames names z m objects) (sym finds.present) has.named;
+}
 
 -- a change of pages that was taken or not
 pub took : (z : Sizes) (p q : PagesState) (old new : Objects) (m : PageMap) (result : Result (Unit {0}) StoreFault) → HasPages z p old → HoldsObjects z m new → GoesOn p q
@@ -59,25 +71,26 @@ read_ends z p q old new faults.NoMemory finds why = finds_stay p q finds
 read_ends z p q old new faults.Device finds why = read_fails z p q old (finds_stay p q finds) why
 read_ends z p q old new faults.Worn finds why = absurd why
 
--- a change of the pages that is not made leaves the table
-pub not_made : (p q : PagesState) (table after : ObjectTable) (old new : Objects) (fault : StoreFault) → TellsTheSame table after → EndsPages (table_sizes table) p q old new (Err fault) → ChangeEnds p q table after old new (Err fault)
-not_made p q table after old new faults.NoMemory same ends = (ends, same)
-not_made p q table after old new faults.Device same ends = ends
-not_made p q table after old new faults.Worn same ends = ends
+-- a change of the pages that is not made leaves what is in memory
+pub not_made : (a b : ObjectsState) (old new : Objects) (fault : StoreFault) → TellsTheSame a.table b.table → HoldsMore a.names b.names → EndsPages (sizes_in a) a.pages b.pages old new (Err fault) → ChangeEnds a b old new (Err fault)
+not_made a b old new faults.NoMemory same more ends = record { pages = ends; table = same; names = more }
+not_made a b old new faults.Device same more ends = ends
+not_made a b old new faults.Worn same more ends = ends
 
 -- what a cut leaves of what a mount shows
 cut_turns : (z : Sizes) (p q : PagesState) (objects : Objects) → HasPages z p objects → GoesOn p q → KeptAs q p.kept → Turns z objects p q
 cut_turns z p q objects has goes kept tree shown = inl (still_shown z p q tree goes has.stands.sound kept shown)
 
 -- an object whose pages are cut is gone
-pub cut_done : (p q : PagesState) (table after : ObjectTable) (objects : Objects) (number : ℕ) → HasPages (table_sizes table) p objects → GoesOn p q → q.sound ≡ true
-    → SamePages q.present (without_cuts (record { object = number; from = 0 } ∷ []) p.present) → KeptAs q p.kept → Tells after (map.remove objects number)
-    → ChangeEnds p q table after objects (map.remove objects number) (Ok tt)
-cut_done p q table after objects number has goes sound same kept tells = (
-  changed_stands (table_sizes table) p q objects (map.remove objects number) (without_cuts (record { object = number; from = 0 } ∷ []) p.present) goes has.stands sound
-      (cut_object (table_sizes table) p.present objects has.stands.holds number) same (cut_turns (table_sizes table) p q objects has goes kept),
+pub cut_done : (a b : ObjectsState) (objects : Objects) (number : ℕ) → HasPages (sizes_in a) a.pages objects → GoesOn a.pages b.pages → b.pages.sound ≡ true
+    → SamePages b.pages.present (without_cuts (record { object = number; from = 0 } ∷ []) a.pages.present) → KeptAs b.pages a.pages.kept → Tells b.table (map.remove objects number)
+    → HasNames a.names (sizes_in a) a.pages.present objects → DropsDirectory number a.names b.names → ChangeEnds a b objects (map.remove objects number) (Ok tt)
+cut_done a b objects number has goes sound same kept tells named drops = (
+  changed_stands (sizes_in a) a.pages b.pages objects (map.remove objects number) (without_cuts (record { object = number; from = 0 } ∷ []) a.pages.present) goes has.stands sound
+      (cut_object (sizes_in a) a.pages.present objects has.stands.holds number) same (cut_turns (sizes_in a) a.pages b.pages objects has goes kept),
   tells,
-  cut_turns (table_sizes table) p q objects has goes kept,
+  names_forgotten a.names b.names (sizes_in a) a.pages.present b.pages.present objects number drops same named,
+  cut_turns (sizes_in a) a.pages b.pages objects has goes kept,
 )
 
 -- a call that takes no memory ended the use of the store
@@ -87,18 +100,22 @@ ended_so z p q objects faults.Device has goes turns why = record { goes_on = goe
 ended_so z p q objects faults.Worn has goes turns why = record { goes_on = goes; turns = turns; cause = inr (used_up z p q objects has goes why) }
 
 -- an object whose pages are not cut
-pub cut_failed : (p q : PagesState) (table : ObjectTable) (objects new : Objects) (fault : StoreFault) → HasPages (table_sizes table) p objects → GoesOn p q → KeptAs q p.kept → CommitFailsBy p q fault
-    → ChangeEnds p q table table objects new (Err fault)
-cut_failed p q table objects new faults.NoMemory has goes kept why = absurd why
-cut_failed p q table objects new faults.Device has goes kept why = ended_so (table_sizes table) p q objects faults.Device has goes (cut_turns (table_sizes table) p q objects has goes kept) why
-cut_failed p q table objects new faults.Worn has goes kept why = ended_so (table_sizes table) p q objects faults.Worn has goes (cut_turns (table_sizes table) p q objects has goes kept) why
+pub cut_failed : (a b : ObjectsState) (objects new : Objects) (fault : StoreFault) → HasPages (sizes_in a) a.pages objects → GoesOn a.pages b.pages → KeptAs b.pages a.pages.kept → CommitFailsBy a.pages b.pages fault
+    → ChangeEnds a b objects new (Err fault)
+cut_failed a b objects new faults.NoMemory has goes kept why = absurd why
+cut_failed a b objects new faults.Device has goes kept why = ended_so (sizes_in a) a.pages b.pages objects faults.Device has goes (cut_turns (sizes_in a) a.pages b.pages objects has goes kept) why
+cut_failed a b objects new faults.Worn has goes kept why = ended_so (sizes_in a) a.pages b.pages objects faults.Worn has goes (cut_turns (sizes_in a) a.pages b.pages objects has goes kept) why
 
 -- a commit that is done
 pub committed : (z : Sizes) (p q : PagesState) (objects : Objects) → HasPages z p objects → GoesOn p q → q.sound ≡ true → SamePages q.present p.present → KeepsEither p q → KeptAs q p.present
     → StandsFor z q objects × Commits z objects p q
 committed z p q objects has goes sound same keeps kept = (
   changed_stands z p q objects objects p.present goes has.stands sound has.stands.holds same (either_turns z p q objects goes has.stands has.can keeps),
-  record { goes_on = goes; shown = kept_shown z q p.present objects (volume_on p q goes ∙ has.stands.sizes) kept has.stands.holds has.can },
+  record {
+    goes_on = goes;
+    shown = kept_shown z q p.present objects (volume_on p q goes ∙ has.stands.sizes) kept has.stands.holds has.can;
+    holds = λ is. same_objects z p.present q.kept objects has.stands.holds (kept.kept is);
+  },
 )
 
 -- one that ended the use of the store

@@ -10,35 +10,42 @@ use Rattle.posix_profile.specs.WellFormed.{IsForest}
 use Rattle.object_store.specs.Changes.{CanMake, takes_none}
 use Rattle.object_store.specs.declared.change.ObjectChange.{ObjectChange}
 use Rattle.object_store.specs.declared.change.ObjectChange.TheVariants as changes
-use Rattle.object_store.specs.Stores.{ReadFaults, Applies}
+use Rattle.object_store.specs.Stores.{Has, ReadFaults, Applies}
 use Rattle.object_store.specs.Stores as meant
 use Rattle.object_table.specs.Told.{table_sizes, Tells, TellsTheSame}
 use Rattle.object_store.specs.Stores.{CanHave}
 use Rattle.object_table.specs.declared.table.ObjectTable.{ObjectTable}
-use Rattle.pages.specs.State.{PagesState, OnlyFinds}
+use Rattle.name_index.specs.Names.{Holds}
+use Rattle.name_index.specs.declared.index.NameIndex.{NameIndex}
+use Rattle.object_pages.specs.Naming.{HasNames}
+use Rattle.pages.specs.State.{OnlyFinds}
 use Rattle.pages.specs.Stores.{GoesOn, SamePages, KeptAs, KeepsEither, CommitFailsBy}
 use Rattle.paged_objects.specs.Faults.{ReadFailsBy}
 use Rattle.paged_objects.specs.Standing.{StandsFor}
-use Rattle.paged_objects.specs.Ending.{HasObjects, ChangeEnds}
+use Rattle.paged_objects.specs.Known.{ObjectsState, sizes_in, StaysIn, HasNamed, HasObjects}
+use Rattle.paged_objects.specs.Changing.{ChangeEnds}
 use Rattle.paged_objects.specs.Meaning.{paged_meaning}
 use Rattle.paged_objects.specs.laws.Going.{finds_stay}
-use Rattle.paged_objects.specs.laws.Lawful.{same_here}
+use Rattle.paged_objects.specs.laws.Lawful.{same_here, more_names}
 use Rattle.paged_objects.proofs.Ends.{committed, commit_failed}
 
 -- what the trait says of a store that has objects
-pub has_objects : (p : PagesState) (t : ObjectTable) (z : Sizes) (objects : Objects) → IsSizes z → table_sizes t ≡ z → StandsFor (table_sizes t) p objects → Tells t objects → IsForest z objects → fits z objects ≡ true
-    → HasObjects p t objects
-has_objects p t z objects numbers is stands tells forest fit = record {
+pub has_objects : {S : Type 0} (state : S → ObjectsState) (a : S) (z : Sizes) (objects : Objects) → Has (paged_meaning state) z objects a → HasObjects (state a) objects
+has_objects state a z objects has = record {
   pages = record {
-    stands = stands;
+    stands = has.stands.stands;
     can = record {
-      numbers = subst IsSizes (sym is) numbers;
-      forest = subst (λ (k : Sizes). IsForest k objects) (sym is) forest;
-      fit = subst (λ (k : Sizes). fits k objects ≡ true) (sym is) fit;
+      numbers = subst IsSizes (sym has.sizes) has.numbers;
+      forest = subst (λ (k : Sizes). IsForest k objects) (sym has.sizes) has.forest;
+      fit = subst (λ (k : Sizes). fits k objects ≡ true) (sym has.sizes) has.fit;
     };
   };
-  tells = tells;
+  tells = has.stands.tells;
+  named = has.stands.named;
 }
+
+pub has_named : (s : ObjectsState) (objects : Objects) → HasObjects s objects → HasNamed s.names (sizes_in s) s.pages objects
+has_named s objects has = record { pages = has.pages; named = has.named }
 
 -- what a volume can have, as the table says it
 pub can_have : (z y : Sizes) (objects : Objects) → y ≡ z → CanHave z objects → CanHave y objects
@@ -48,34 +55,53 @@ can_have z y objects is can = subst (λ (k : Sizes). CanHave k objects) (sym is)
 pub can_make : (z y : Sizes) (objects : Objects) (change : ObjectChange) → y ≡ z → CanMake z objects change → CanMake y objects change
 can_make z y objects change is make = subst (λ (k : Sizes). CanMake k objects change) (sym is) make
 
-module _ {S P : Type 0} (state : P → PagesState) (pages : S → P) (table : S → ObjectTable) where
-  -- a fault of a read
-  pub read_faults : (a b : S) (fault : StoreFault) → OnlyFinds (state (pages a)) (state (pages b)) → table b ≡ table a → ReadFailsBy (state (pages b)) fault
-      → ReadFaults (paged_meaning state pages table) a b fault
-  read_faults a b faults.NoMemory finds same why = (finds_stay _ _ finds, subst (TellsTheSame (table a)) (sym same) (same_here (table a)))
-  read_faults a b faults.Device finds same why = ((finds_stay _ _ finds, subst (TellsTheSame (table a)) (sym same) (same_here (table a))), why)
-  read_faults a b faults.Worn finds same why = absurd why
+-- the same, after look-ups alone
+found_in : (a b : ObjectsState) → OnlyFinds a.pages b.pages → b.table ≡ a.table → b.names ≡ a.names → StaysIn a b
+found_in a b finds table names = record {
+  pages = finds_stay a.pages b.pages finds;
+  table = subst (TellsTheSame a.table) (sym table) (same_here a.table);
+  names = λ d h t is. subst (λ (x : NameIndex). Holds x d h t) (sym names) is;
+}
 
-  -- the end of a commit, which leaves the table
-  pub commits : (a b : S) (objects : Objects) (result : Result (Unit {0}) StoreFault) → HasObjects (state (pages a)) (table a) objects → table b ≡ table a → GoesOn (state (pages a)) (state (pages b))
-      → OnOk result ((state (pages a)).sound ≡ true → (state (pages b)).sound ≡ true) → OnOk result (SamePages (state (pages b)).present (state (pages a)).present)
-      → KeepsEither (state (pages a)) (state (pages b)) → OnOk result (KeptAs (state (pages b)) (state (pages a)).present)
-      → IfErr result (CommitFailsBy (state (pages a)) (state (pages b))) → meant.Commits (paged_meaning state pages table) objects a b result
-  commits a b objects (Ok done) has same goes sound present keeps kept why =
-      let done = committed (table_sizes (table a)) (state (pages a)) (state (pages b)) objects has.pages goes (sound has.pages.stands.sound) present keeps kept in (
-        (subst (λ (t : ObjectTable). StandsFor (table_sizes t) (state (pages b)) objects) (sym same) done.0, subst (λ (t : ObjectTable). Tells t objects) (sym same) has.tells),
-        (done.1, ap table_sizes same),
+module _ {S : Type 0} (state : S → ObjectsState) where
+  -- a fault of a read
+  pub read_faults : (a b : S) (fault : StoreFault) → OnlyFinds (state a).pages (state b).pages → (state b).table ≡ (state a).table → (state b).names ≡ (state a).names → ReadFailsBy (state b).pages fault
+      → ReadFaults (paged_meaning state) a b fault
+  read_faults a b faults.NoMemory finds table names why = found_in (state a) (state b) finds table names
+  read_faults a b faults.Device finds table names why = (found_in (state a) (state b) finds table names, why)
+  read_faults a b faults.Worn finds table names why = absurd why
+
+  -- the end of a commit, which leaves what is in memory
+  pub commits : (a b : S) (objects : Objects) (result : Result (Unit {0}) StoreFault) → HasObjects (state a) objects → (state b).table ≡ (state a).table → (state b).names ≡ (state a).names → GoesOn (state a).pages (state b).pages
+      → OnOk result ((state a).pages.sound ≡ true → (state b).pages.sound ≡ true) → OnOk result (SamePages (state b).pages.present (state a).pages.present)
+      → KeepsEither (state a).pages (state b).pages → OnOk result (KeptAs (state b).pages (state a).pages.present)
+      → IfErr result (CommitFailsBy (state a).pages (state b).pages) → meant.Commits (paged_meaning state) objects a b result
+  commits a b objects (Ok done) has table names goes sound present keeps kept why =
+      let z : Sizes = sizes_in (state a) in
+      let sizes : sizes_in (state b) ≡ z = ap table_sizes table in
+      let done = committed z (state a).pages (state b).pages objects has.pages goes (sound has.pages.stands.sound) present keeps kept in (
+        record {
+          stands = subst (λ (k : Sizes). StandsFor k (state b).pages objects) (sym sizes) done.0;
+          tells = subst (λ (t : ObjectTable). Tells t objects) (sym table) has.tells;
+          named = subst (λ (k : Sizes). HasNames (state b).names k (state b).pages.present objects) (sym sizes)
+              (more_names z (state a).names (state b).names (state a).pages.present (state b).pages.present objects (λ d h t is. subst (λ (x : NameIndex). Holds x d h t) (sym names) is) present has.named);
+        },
+        (done.1, sizes),
       )
-  commits a b objects (Err faults.NoMemory) has same goes sound present keeps kept why = absurd why
-  commits a b objects (Err faults.Device) has same goes sound present keeps kept why = (commit_failed (table_sizes (table a)) (state (pages a)) (state (pages b)) objects faults.Device has.pages goes keeps why, ap table_sizes same)
-  commits a b objects (Err faults.Worn) has same goes sound present keeps kept why = (commit_failed (table_sizes (table a)) (state (pages a)) (state (pages b)) objects faults.Worn has.pages goes keeps why, ap table_sizes same)
+  commits a b objects (Err faults.NoMemory) has table names goes sound present keeps kept why = absurd why
+  commits a b objects (Err faults.Device) has table names goes sound present keeps kept why = (commit_failed (sizes_in (state a)) (state a).pages (state b).pages objects faults.Device has.pages goes keeps why, ap table_sizes table)
+  commits a b objects (Err faults.Worn) has table names goes sound present keeps kept why = (commit_failed (sizes_in (state a)) (state a).pages (state b).pages objects faults.Worn has.pages goes keeps why, ap table_sizes table)
 
   -- the end of a change
-  pub applied : (a b : S) (old new : Objects) (result : Result (Unit {0}) StoreFault) → GoesOn (state (pages a)) (state (pages b)) → table_sizes (table b) ≡ table_sizes (table a)
-      → ChangeEnds (state (pages a)) (state (pages b)) (table a) (table b) old new result → Applies (paged_meaning state pages table) old new a b result
+  pub applied : (a b : S) (old new : Objects) (result : Result (Unit {0}) StoreFault) → GoesOn (state a).pages (state b).pages → sizes_in (state b) ≡ sizes_in (state a)
+      → ChangeEnds (state a) (state b) old new result → Applies (paged_meaning state) old new a b result
   applied a b old new (Ok done) goes same ends = (
-    (subst (λ (k : Sizes). StandsFor k (state (pages b)) new) (sym same) ends.0, ends.1),
-    (record { goes_on = goes; turns = ends.2 }, same),
+    record {
+      stands = subst (λ (k : Sizes). StandsFor k (state b).pages new) (sym same) ends.0;
+      tells = ends.1;
+      named = subst (λ (k : Sizes). HasNames (state b).names k (state b).pages.present new) (sym same) ends.2;
+    },
+    (record { goes_on = goes; turns = ends.3 }, same),
   )
   applied a b old new (Err faults.NoMemory) goes same ends = ends
   applied a b old new (Err faults.Device) goes same ends = (ends, same)

@@ -1,15 +1,14 @@
--- What calls of a store of objects leave of its pages and of its table.
-use Rattle.std.specs.Prelude.{◌≡◌, ◌⊎◌, ◌<◌, ◌≤◌, true, Result, Ok, Err}
+-- What calls of a store of objects leave of its pages.
+use Rattle.std.specs.Prelude.{◌≡◌, ◌⊎◌, ◌≤◌, ◌<◌, true, Result, Ok, Err}
 use Rattle.nand_model.specs.Changes.{OnlyReads}
 use Rattle.volume_terms.specs.Sizes.{Sizes, number_end}
 use Rattle.volume_terms.specs.declared.fault.StoreFault.{StoreFault}
 use Rattle.volume_terms.specs.declared.fault.StoreFault.TheVariants as faults
 use Rattle.posix_profile.specs.State.{Objects}
 use Rattle.object_store.specs.Stores.{settled}
-use Rattle.object_table.specs.Told.{table_sizes, Tells, TellsTheSame}
-use Rattle.object_table.specs.declared.table.ObjectTable.{ObjectTable}
 use Rattle.pages.specs.State.{PagesState}
 use Rattle.pages.specs.Stores.{SamePages, GoesOn, HasFailed, bad_on}
+use Rattle.object_pages.specs.Holding.{HoldsObjects}
 use Rattle.object_store.specs.Stores.{CanHave}
 use Rattle.paged_objects.specs.Standing.{StandsFor, Shown}
 
@@ -51,20 +50,16 @@ pub record Fails (z : Sizes) (objects : Objects) (p q : PagesState) : Type 0 whe
   pub turns : Turns z objects p q
   pub cause : HasEnded q
 
--- the objects were committed: a mount shows them settled
+-- the objects were committed: a mount shows them settled, and a sound store keeps their pages and no others
 pub record Commits (z : Sizes) (objects : Objects) (p q : PagesState) : Type 0 where
   pub goes_on : GoesOn p q
   pub shown : Shown z q (settled objects)
+  pub holds : q.sound ≡ true → HoldsObjects z q.kept objects
 
 -- a store of pages holds objects that its volume can have
 pub record HasPages (z : Sizes) (p : PagesState) (objects : Objects) : Type 0 where
   pub stands : StandsFor z p objects
   pub can : CanHave z objects
-
--- and its table tells them
-pub record HasObjects (p : PagesState) (table : ObjectTable) (objects : Objects) : Type 0 where
-  pub pages : HasPages (table_sizes table) p objects
-  pub tells : Tells table objects
 
 -- how a change of the pages ends, which was to make the second objects of the first
 abbrev pub EndsPages : Sizes → PagesState → PagesState → Objects → Objects → Result (Unit {0}) StoreFault → Type 0
@@ -72,10 +67,3 @@ EndsPages z p q old new (Ok done) = StandsFor z q new × Turns z old p q
 EndsPages z p q old new (Err faults.NoMemory) = StaysAs p q
 EndsPages z p q old new (Err faults.Device) = Fails z old p q
 EndsPages z p q old new (Err faults.Worn) = Fails z old p q
-
--- how a change ends with the table that tells of them
-abbrev pub ChangeEnds : PagesState → PagesState → ObjectTable → ObjectTable → Objects → Objects → Result (Unit {0}) StoreFault → Type 0
-ChangeEnds p q table after old new (Ok done) = StandsFor (table_sizes table) q new × Tells after new × Turns (table_sizes table) old p q
-ChangeEnds p q table after old new (Err faults.NoMemory) = StaysAs p q × TellsTheSame table after
-ChangeEnds p q table after old new (Err faults.Device) = Fails (table_sizes table) old p q
-ChangeEnds p q table after old new (Err faults.Worn) = Fails (table_sizes table) old p q

@@ -1,5 +1,5 @@
-// Changes of objects, in their pages and in the table.
-ghost use Rattle.std.specs.Prelude.{◌≡◌, ◌≤◌, OnOk, IfOk, IfErr, Err, length};
+// Changes of objects, in their pages, in the table and in the index of names.
+ghost use Rattle.std.specs.Prelude.{◌≡◌, ◌≤◌, true, OnOk, IfOk, IfErr, IfSome, Err, length};
 ghost use Rattle.std.specs.FinMap as map;
 ghost use Rattle.volume_terms.specs.Sizes.{Sizes};
 ghost use Rattle.volume_terms.specs.declared.fault.StoreFault.TheVariants as faults;
@@ -8,16 +8,24 @@ ghost use Rattle.posix_profile.specs.Changes.{new_number};
 ghost use Rattle.object_store.specs.Changes.{made, CanMake};
 ghost use Rattle.object_store.specs.declared.change.ObjectChange.TheVariants as changes;
 ghost use Rattle.object_table.specs.Told.{table_sizes, IsReadyFor, LedBefore, TellsTheSame};
-ghost use Rattle.pages.specs.Changes.{AreApart, AreSized, AreOfObjects};
+ghost use Rattle.pages.specs.Changes.{AreApart, AreSized, AreOfObjects, IsChange};
 ghost use Rattle.pages.specs.Maps.{changed};
 ghost use Rattle.pages.specs.State.{OnlyFinds, KeepsPower};
-ghost use Rattle.pages.specs.Stores.{GoesOn};
+ghost use Rattle.pages.specs.Stores.{GoesOn, SamePages};
+ghost use Rattle.directories.specs.Hashing.{HoldsMore};
 ghost use Rattle.object_pages.specs.Holding.{HoldsObjects};
-ghost use Rattle.paged_objects.specs.Ending.{HasPages, HasObjects, EndsPages, ChangeEnds};
+ghost use Rattle.object_pages.specs.Naming.{HasNames};
+ghost use Rattle.object_pages.specs.Plans.{most_pages};
+ghost use Rattle.paged_objects.specs.Ending.{HasPages, EndsPages};
+ghost use Rattle.paged_objects.specs.Known.{HasNamed, HasObjects, state_with, sizes_in};
+ghost use Rattle.paged_objects.specs.Changing.{ChangeEnds, LeavesBy, HasLeftBy, outcome_of};
 ghost use Rattle.paged_objects.specs.Faults.{ReadFailsBy};
 
+use crate::dropping::drop_names;
 use crate::fault::fault_of;
-use object_pages::{find, plan};
+use directories::{LeftSlot, left_slot};
+use name_index::NameIndex;
+use object_pages::{find, hash_names, plan};
 use object_store::ObjectChange;
 use object_table::ObjectTable;
 use pages::{Change, Cut, PageStore};
@@ -42,18 +50,19 @@ fn prepare(table: &mut ObjectTable, change: &ObjectChange<'_>) -> Result<(), All
 
 /// The object that a name leads to.
 fn find_object<P: PageStore>(
+    names: &NameIndex,
     pages: &mut P,
     directory: u64,
     name: &[u8],
 ) -> Result<Option<u64>, StoreFault>
     ensures finds { OnlyFinds (P.state pages.old) (P.state pages.new) }
     ensures power { OnOk result (KeepsPower (P.state pages.old) (P.state pages.new)) }
-    ensures found { (z : Sizes) (objects : Objects) → HasPages z (P.state pages.old) objects → IsDirectory objects directory
+    ensures found { (z : Sizes) (objects : Objects) → HasNamed names.now z (P.state pages.old) objects → IsDirectory objects directory
         → IfOk result (λ found. found ≡ map.get (entries_of (map.get objects directory)) name.now) }
-    ensures fault { (z : Sizes) (objects : Objects) → HasPages z (P.state pages.old) objects → IsDirectory objects directory
+    ensures fault { (z : Sizes) (objects : Objects) → HasNamed names.now z (P.state pages.old) objects → IsDirectory objects directory
         → IfErr result (ReadFailsBy (P.state pages.new)) }
 {
-    match find(pages, directory, name) {
+    match find(names, pages, directory, name) {
         Ok(found) => Ok(found),
         Err(fault) => Err(fault_of(fault)),
     }
@@ -61,21 +70,24 @@ fn find_object<P: PageStore>(
 
 /// What the name leads to that a change takes away or gives to another object.
 fn find_replaced<P: PageStore>(
+    names: &NameIndex,
     pages: &mut P,
     change: &ObjectChange<'_>,
 ) -> Result<Option<u64>, StoreFault>
     ensures finds { OnlyFinds (P.state pages.old) (P.state pages.new) }
     ensures power { OnOk result (KeepsPower (P.state pages.old) (P.state pages.new)) }
-    ensures found { (z : Sizes) (objects : Objects) → HasPages z (P.state pages.old) objects → CanMake z objects change.now
+    ensures found { (z : Sizes) (objects : Objects) → HasNamed names.now z (P.state pages.old) objects → CanMake z objects change.now
         → IfOk result (LedBefore objects change.now) }
-    ensures fault { (z : Sizes) (objects : Objects) → HasPages z (P.state pages.old) objects → CanMake z objects change.now
+    ensures fault { (z : Sizes) (objects : Objects) → HasNamed names.now z (P.state pages.old) objects → CanMake z objects change.now
         → IfErr result (ReadFailsBy (P.state pages.new)) }
 {
     match change {
         ObjectChange::Create { .. } => Ok(None),
         ObjectChange::Name { .. } => Ok(None),
-        ObjectChange::Remove { entry, .. } => find_object(pages, entry.directory, entry.name),
-        ObjectChange::Move { to, .. } => find_object(pages, to.directory, to.name),
+        ObjectChange::Remove { entry, .. } => {
+            find_object(names, pages, entry.directory, entry.name)
+        }
+        ObjectChange::Move { to, .. } => find_object(names, pages, to.directory, to.name),
         ObjectChange::Write { .. } => Ok(None),
         ObjectChange::Resize { .. } => Ok(None),
         ObjectChange::Forget { .. } => Ok(None),
@@ -89,6 +101,7 @@ fn take<P: PageStore>(pages: &mut P, planned: Change) -> Result<(), StoreFault>
     requires objects { AreOfObjects planned.pages.items }
     ensures goes_on { GoesOn (P.state pages.old) (P.state pages.new) }
     ensures power { OnOk result (KeepsPower (P.state pages.old) (P.state pages.new)) }
+    ensures present { (P.state pages.old).sound ≡ true → OnOk result (SamePages (P.state pages.new).present (changed planned (P.state pages.old).present)) }
     ensures makes { (z : Sizes) (old new : Objects) → HasPages z (P.state pages.old) old → length planned.pages.items ≤ (P.state pages.old).most
         → HoldsObjects z (changed planned (P.state pages.old).present) new → EndsPages z (P.state pages.old) (P.state pages.new) old new result }
 {
@@ -98,42 +111,107 @@ fn take<P: PageStore>(pages: &mut P, planned: Change) -> Result<(), StoreFault>
     pages.apply(planned)
 }
 
-/// Makes a change of objects in their pages.
-fn change_pages<P: PageStore>(
+/// The change of pages that makes a change of objects. The index gets the hashes of the names that it writes.
+fn plan_named<P: PageStore>(
+    names: &mut NameIndex,
     pages: &mut P,
     alloc: Global,
     change: &ObjectChange<'_>,
     new: u64,
-) -> Result<(), StoreFault>
-    ensures goes_on { GoesOn (P.state pages.old) (P.state pages.new) }
+) -> Result<Change, StoreFault>
+    ensures finds { OnlyFinds (P.state pages.old) (P.state pages.new) }
     ensures power { OnOk result (KeepsPower (P.state pages.old) (P.state pages.new)) }
-    ensures makes { (z : Sizes) (objects : Objects) → HasPages z (P.state pages.old) objects → CanMake z objects change.now → new ≡ new_number objects
-        → EndsPages z (P.state pages.old) (P.state pages.new) objects (made objects change.now) result }
+    ensures kept { HoldsMore names.old names.new }
+    ensures change { IfOk result (λ it. IsChange it (P.state pages.old).page_bytes (most_pages (P.state pages.old).page_bytes change.now)) }
+    ensures numbered { IfOk result (λ it. AreOfObjects it.pages.items) }
+    ensures makes { (z : Sizes) (objects : Objects) → HasNamed names.old z (P.state pages.old) objects → CanMake z objects change.now → new ≡ new_number objects
+        → IfOk result (λ it. HoldsObjects z (changed it (P.state pages.old).present) (made objects change.now)) }
+    ensures names { (z : Sizes) (objects : Objects) → HasNamed names.old z (P.state pages.old) objects → CanMake z objects change.now → new ≡ new_number objects
+        → IfOk result (λ it. HasNames names.new z (changed it (P.state pages.old).present) (made objects change.now)) }
+    ensures fault { (z : Sizes) (objects : Objects) → HasNamed names.old z (P.state pages.old) objects → CanMake z objects change.now → new ≡ new_number objects
+        → IfErr result (ReadFailsBy (P.state pages.new)) }
 {
-    match plan(pages, alloc, change, new) {
-        Ok(planned) => take(pages, planned),
+    match plan(names, pages, alloc, change, new) {
+        Ok(planned) => {
+            hash_names(names, pages, &planned)?;
+            Ok(planned)
+        }
         Err(fault) => Err(fault_of(fault)),
     }
+}
+
+/// The slot that the name which a change takes from its directory leaves by a change of pages.
+fn left_by(
+    names: &NameIndex,
+    page_bytes: u32,
+    planned: &Change,
+    change: &ObjectChange<'_>,
+) -> Option<LeftSlot>
+    requires least { 512 ≤ page_bytes }
+    requires most { page_bytes ≤ 4096 }
+    requires sized { AreSized planned.now.pages.items page_bytes }
+    ensures { IfSome result (λ left. (z : Sizes) → z.page_bytes ≡ page_bytes → LeavesBy z planned.now change.now left) }
+{
+    match change {
+        ObjectChange::Create { .. } => None,
+        ObjectChange::Name { .. } => None,
+        ObjectChange::Remove { entry, .. } => {
+            left_slot(names, page_bytes, planned, entry.directory, entry.name)
+        }
+        ObjectChange::Move { from, .. } => {
+            left_slot(names, page_bytes, planned, from.directory, from.name)
+        }
+        ObjectChange::Write { .. } => None,
+        ObjectChange::Resize { .. } => None,
+        ObjectChange::Forget { .. } => None,
+    }
+}
+
+/// Makes a change of objects in their pages. The index has the names of the objects then, and the slot that a name left may
+/// be dropped from it.
+fn change_pages<P: PageStore>(
+    names: &mut NameIndex,
+    pages: &mut P,
+    alloc: Global,
+    change: &ObjectChange<'_>,
+    new: u64,
+) -> Result<Option<LeftSlot>, StoreFault>
+    ensures goes_on { GoesOn (P.state pages.old) (P.state pages.new) }
+    ensures power { OnOk result (KeepsPower (P.state pages.old) (P.state pages.new)) }
+    ensures kept { HoldsMore names.old names.new }
+    ensures makes { (z : Sizes) (objects : Objects) → HasNamed names.old z (P.state pages.old) objects → CanMake z objects change.now → new ≡ new_number objects
+        → EndsPages z (P.state pages.old) (P.state pages.new) objects (made objects change.now) (outcome_of result) }
+    ensures names { (z : Sizes) (objects : Objects) → HasNamed names.old z (P.state pages.old) objects → CanMake z objects change.now → new ≡ new_number objects
+        → OnOk result (HasNames names.new z (P.state pages.new).present (made objects change.now)) }
+    ensures left { (z : Sizes) (objects : Objects) → HasNamed names.old z (P.state pages.old) objects → CanMake z objects change.now → new ≡ new_number objects
+        → IfOk result (HasLeftBy z (P.state pages.new).present (made objects change.now) change.now) }
+{
+    let planned = plan_named(names, pages, alloc, change, new)?;
+    let left = left_by(names, pages.page_bytes(), &planned, change);
+    take(pages, planned)?;
+    Ok(left)
 }
 
 /// Makes a change of objects in their pages, and then in the table.
 pub(crate) fn make<P: PageStore>(
     pages: &mut P,
     table: &mut ObjectTable,
+    names: &mut NameIndex,
     alloc: Global,
     change: &ObjectChange<'_>,
 ) -> Result<(), StoreFault>
     ensures goes_on { GoesOn (P.state pages.old) (P.state pages.new) }
     ensures power { OnOk result (KeepsPower (P.state pages.old) (P.state pages.new)) }
     ensures sizes { table_sizes table.new ≡ table_sizes table.old }
-    ensures makes { (objects : Objects) → HasObjects (P.state pages.old) table.old objects → CanMake (table_sizes table.old) objects change.now
-        → ChangeEnds (P.state pages.old) (P.state pages.new) table.old table.new objects (made objects change.now) result }
+    ensures makes { (objects : Objects) → let old = state_with (P.state pages.old) table.old names.old in HasObjects old objects → CanMake (sizes_in old) objects change.now
+        → ChangeEnds old (state_with (P.state pages.new) table.new names.new) objects (made objects change.now) result }
 {
     prepare(table, change)?;
-    let replaced = find_replaced(pages, change)?;
+    let replaced = find_replaced(names, pages, change)?;
     let new = table.new_number();
-    change_pages(pages, alloc, change, new)?;
+    let left = change_pages(names, pages, alloc, change, new)?;
     table.apply(change, replaced);
+    drop_names(names, table, change, left);
     Ok(())
 }
 
@@ -141,13 +219,14 @@ pub(crate) fn make<P: PageStore>(
 pub(crate) fn forget<P: PageStore>(
     pages: &mut P,
     table: &mut ObjectTable,
+    names: &mut NameIndex,
     number: u64,
 ) -> Result<(), StoreFault>
     ensures goes_on { GoesOn (P.state pages.old) (P.state pages.new) }
     ensures device { (P.state pages.new).device ≡ (P.state pages.old).device }
     ensures sizes { table_sizes table.new ≡ table_sizes table.old }
-    ensures makes { (objects : Objects) → HasObjects (P.state pages.old) table.old objects → CanMake (table_sizes table.old) objects (changes.Forget number)
-        → ChangeEnds (P.state pages.old) (P.state pages.new) table.old table.new objects (map.remove objects number) result }
+    ensures makes { (objects : Objects) → let old = state_with (P.state pages.old) table.old names.old in HasObjects old objects → CanMake (sizes_in old) objects (changes.Forget number)
+        → ChangeEnds old (state_with (P.state pages.new) table.new names.new) objects (map.remove objects number) result }
     ensures memory { result ≡ Err faults.NoMemory → ⊥ }
 {
     let whole = Cut {
@@ -156,5 +235,6 @@ pub(crate) fn forget<P: PageStore>(
     };
     pages.cut(whole)?;
     table.apply(&ObjectChange::Forget { number }, None);
+    names.drop_directory(number);
     Ok(())
 }

@@ -1,7 +1,8 @@
-//! A store of objects over pages, and the table that tells of them.
+//! A store of objects over pages, with the table that tells of them and the index of their names.
 #![tactic(auto)]
 
 mod changing;
+mod dropping;
 mod fault;
 mod law;
 mod store;

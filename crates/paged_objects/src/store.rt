@@ -9,6 +9,7 @@ ghost use Rattle.object_table.specs.Told.{table_sizes, Tells};
 
 use crate::changing::{forget, make};
 use crate::fault::fault_of;
+use name_index::NameIndex;
 use object_store::{ObjectChange, ObjectStore};
 use object_table::ObjectTable;
 use pages::PageStore;
@@ -26,26 +27,29 @@ fn length_of(table: &ObjectTable, file: u64) -> u64
     }
 }
 
-/// Objects in pages. A table tells what it can without reading one.
+/// Objects in pages. A table tells what it can without reading one, and an index which slots may have a name.
 #[derive(Drop)]
 pub struct PagedObjects<P: PageStore> {
     alloc: Global,
     pages: P,
     table: ObjectTable,
+    names: NameIndex,
 }
 
 impl<P: PageStore> PagedObjects<P> {
-    ghost use Rattle.paged_objects.specs.Parts.{pages_of, table_of};
+    ghost use Rattle.paged_objects.specs.Parts.{pages_of, table_of, names_of};
 
-    /// The objects that the pages hold and the table tells.
-    pub fn new(alloc: Global, pages: P, table: ObjectTable) -> PagedObjects<P>
-        ensures pages { P.state (pages_of result) ≡ P.state pages }
+    /// The objects that the pages hold, the table tells and the index names.
+    pub fn new(alloc: Global, pages: P, table: ObjectTable, names: NameIndex) -> PagedObjects<P>
+        ensures pages { pages_of result ≡ pages }
         ensures table { table_of result ≡ table }
+        ensures names { names_of result ≡ names }
     {
         PagedObjects {
             alloc,
             pages,
             table,
+            names,
         }
     }
 
@@ -58,7 +62,7 @@ impl<P: PageStore> PagedObjects<P> {
 
     /// The pages alone. What was not committed is not on their device.
     pub fn into_pages(self) -> P
-        ensures { P.state result ≡ P.state (pages_of self) }
+        ensures { result ≡ pages_of self }
     {
         self.pages
     }
@@ -66,10 +70,10 @@ impl<P: PageStore> PagedObjects<P> {
 
 impl<P: PageStore> ObjectStore for PagedObjects<P> {
     ghost use Rattle.paged_objects.specs.Meaning.{paged_meaning};
-    ghost use Rattle.paged_objects.specs.Parts.{pages_of, table_of};
+    ghost use Rattle.paged_objects.specs.Parts.{state_of};
     ghost use Rattle.paged_objects.specs.laws.Lawful.{paged_lawful};
 
-    ghost meaning = { paged_meaning P.state pages_of table_of };
+    ghost meaning = { paged_meaning (state_of P.state) };
 
     fn sizes(&self) -> VolumeSizes {
         self.table.sizes()
@@ -100,7 +104,7 @@ impl<P: PageStore> ObjectStore for PagedObjects<P> {
     }
 
     fn find(&mut self, directory: u64, name: &[u8]) -> Result<Option<u64>, StoreFault> {
-        match object_pages::find(&mut self.pages, directory, name) {
+        match object_pages::find(&self.names, &mut self.pages, directory, name) {
             Ok(found) => Ok(found),
             Err(fault) => Err(fault_of(fault)),
         }
@@ -129,8 +133,16 @@ impl<P: PageStore> ObjectStore for PagedObjects<P> {
 
     fn apply(&mut self, change: &ObjectChange<'_>) -> Result<(), StoreFault> {
         match change {
-            ObjectChange::Forget { number } => { forget(&mut self.pages, &mut self.table, *number) }
-            _ => make(&mut self.pages, &mut self.table, self.alloc, change),
+            ObjectChange::Forget { number } => {
+                forget(&mut self.pages, &mut self.table, &mut self.names, *number)
+            }
+            _ => make(
+                &mut self.pages,
+                &mut self.table,
+                &mut self.names,
+                self.alloc,
+                change,
+            ),
         }
     }
 
@@ -138,5 +150,5 @@ impl<P: PageStore> ObjectStore for PagedObjects<P> {
         self.pages.commit()
     }
 
-    ghost lawful = { paged_lawful P.state pages_of table_of };
+    ghost lawful = { paged_lawful (state_of P.state) };
 }

@@ -1,5 +1,5 @@
 // Maps as a store.
-ghost use Rattle.std.specs.Prelude.{◌≡◌, ◌<◌, ◌^◌, Some, IfOk, true, take, drop};
+ghost use Rattle.std.specs.Prelude.{◌≡◌, ◌<◌, ◌^◌, ◌↔◌, Some, IfOk, IsTrue, true, take, drop};
 ghost use Rattle.std.specs.FinMap as map;
 ghost use Rattle.volume_terms.specs.Sizes.{IsSizes};
 ghost use Rattle.volume_terms.specs.VolumeSizes.{sizes_of};
@@ -17,6 +17,7 @@ use plain_state::charge::{charge, fits};
 use plain_state::links::{entry_at, entry_count_at, info, is_named, parent};
 use plain_state::object::{EntryMap, ObjectMap, PlainObject};
 use plain_state::prune::settled;
+use plain_state::same::same_objects;
 use plain_state::table::{copy_objects, object_at, put_object};
 use posix_profile::{Bytes, Info, NameList};
 use std::alloc::{AllocError, Global};
@@ -77,6 +78,13 @@ impl PlainObjects {
             sizes: self.sizes,
             objects,
         })
+    }
+
+    /// Whether both have the same objects at the same numbers.
+    pub fn same(&self, other: &PlainObjects) -> bool
+        ensures { IsTrue result ↔ (objects_of self.now ≡ objects_of other.now) }
+    {
+        same_objects(&self.objects, &other.objects)
     }
 }
 

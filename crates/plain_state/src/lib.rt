@@ -6,4 +6,5 @@ pub mod charge;
 pub mod links;
 pub mod object;
 pub mod prune;
+pub mod same;
 pub mod table;

@@ -1,5 +1,5 @@
 // A tree for tests.
-ghost use Rattle.std.specs.Prelude.{◌≡◌, false, IfOk, OnOk, OnErr};
+ghost use Rattle.std.specs.Prelude.{◌≡◌, ◌↔◌, false, IfOk, IsTrue, OnOk, OnErr};
 ghost use Rattle.volume_terms.specs.Sizes.{IsSizes};
 ghost use Rattle.volume_terms.specs.VolumeSizes.{sizes_of};
 ghost use Rattle.posix_profile.specs.Names.{settle};
@@ -93,6 +93,14 @@ impl PlainTree {
         ensures memory { OnErr result (self.new ≡ self.old) }
     {
         self.plain.settle()
+    }
+
+    /// Whether a mount shows the same of both: the same objects at the same numbers, each with its moment, bytes and names.
+    pub fn shows_same(&self, other: &PlainTree) -> Result<bool, AllocError>
+        ensures { IfOk result (λ same. IsTrue same ↔ ((settle self.now.state).objects ≡ (settle other.now.state).objects)) }
+    {
+        let settled = self.plain.settled(false)?;
+        Ok(settled.same_objects(&other.plain.settled(false)?))
     }
 
     /// Whether the volume has the same tree: equal names, and under each the same number, kind, links, length, moment and

@@ -1,5 +1,5 @@
 // A volume over maps.
-ghost use Rattle.std.specs.Prelude.{◌≡◌, ◌≤◌, ℕ, true, false, length, IfOk, OnOk, OnErr};
+ghost use Rattle.std.specs.Prelude.{◌≡◌, ◌≤◌, ◌↔◌, ℕ, true, false, length, IfOk, IsTrue, OnOk, OnErr};
 ghost use Rattle.std.specs.FinMap as map;
 ghost use Rattle.volume_terms.specs.Sizes.{IsSizes};
 ghost use Rattle.volume_terms.specs.VolumeSizes.{sizes_of};
@@ -147,6 +147,13 @@ impl PlainVolume {
             alloc: self.alloc,
             volume,
         })
+    }
+
+    /// Whether both have the same objects at the same numbers. Descriptors are not looked at.
+    pub fn same_objects(&self, other: &PlainVolume) -> bool
+        ensures { IsTrue result ↔ (self.now.state.objects ≡ other.now.state.objects) }
+    {
+        self.volume.store().same(other.volume.store())
     }
 
     /// What a mount shows, in place of the state. An `Err` leaves the volume.

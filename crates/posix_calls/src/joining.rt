@@ -27,7 +27,7 @@ pub(crate) fn join<P: PageStore>(
     ensures goes_on { IfOk result (λ v. is_stopped v ≡ false) }
     ensures tree { (objects : Objects) → table_sizes table ≡ volume_of (P.state pages) → IsMountedWith (P.state pages) table names objects
         → (P.state pages).worn ≡ read_only → IfOk result (λ v. StandsForTree P.state v objects) }
-    ensures given_back { IfErr result (λ back. P.state back.0 ≡ P.state pages) }
+    ensures given_back { IfErr result (λ back. back.0 ≡ pages) }
 {
     PageVolume::new(alloc, pages, table, names, read_only)
 }

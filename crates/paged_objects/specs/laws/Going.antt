@@ -147,7 +147,7 @@ written_on a b c x y z first then' h k honest at more is =
           (k.written (first.honest ∙ honest) (h.below honest at) (c.changes - b.changes) late_is)
     ]
 
-numbers_on : (a b c : Device) (x y z : NextNumbers) → Lasts a b → Lasts b c → HandsOutNumbers a b x y → HandsOutNumbers b c y z → HandsOutNumbers a c x z
+pub numbers_on : (a b c : Device) (x y z : NextNumbers) → Lasts a b → Lasts b c → HandsOutNumbers a b x y → HandsOutNumbers b c y z → HandsOutNumbers a c x z
 numbers_on a b c x y z first then' h k = record {
   groups_rise = omega (arith, h.groups_rise, k.groups_rise);
   seqs_rise = omega (arith, h.seqs_rise, k.seqs_rise);

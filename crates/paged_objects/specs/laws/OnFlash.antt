@@ -102,13 +102,13 @@ module _ (z : Sizes) (m : PageMap) (numbers : IsSizes z) where
       (subst (λ (g : Fields). LooksUp z g c) (one_header flash carries o holds.reads.fields f holds.reads.has.0 holds.reads.has.1 newest valid) looks)
 
   -- each key that the settled objects look up has a page
-  footprint_pages : (flash : Flash) → Carries flash m → (objects : Objects) → HoldsObjects z m objects → (o c : ℕ) → InFootprint z (HasNewest flash) (settled objects) o c → HasPage m o c
+  pub footprint_pages : (flash : Flash) → Carries flash m → (objects : Objects) → HoldsObjects z m objects → (o c : ℕ) → InFootprint z (HasNewest flash) (settled objects) o c → HasPage m o c
   footprint_pages flash carries objects holds o c foot =
       object_looked flash carries o foot.object
       (held z m objects holds o (Some foot.object) (retain_cases nat_cmp_total map.nat_cmp-IsAntisymmetric objects _ o foot.object foot.there).1)
       foot.fields foot.has.0 foot.has.1 c foot.looks
 
-module _ (g : Geometry) (flash : Flash) (spare : ℕ) (m : PageMap) (objects : Objects) (holds : HoldsObjects (sizes_of g spare) m objects) (can : CanHave (sizes_of g spare) objects) (carries : Carries flash m) (leaves : LeavesFree g flash spare (HasPage m)) where
+module _ (g : Geometry) (flash : Flash) (spare : ℕ) (m : PageMap) (objects : Objects) (holds : HoldsObjects (sizes_of g spare) m objects) (can : CanHave (sizes_of g spare) objects) (carries : Carries flash m) where
   volume_there : IsVolume g (HasNewest flash) spare
   volume_there =
       let volume = holds_volume g spare m objects holds can.forest can.numbers.spare_blocks in
@@ -123,23 +123,24 @@ module _ (g : Geometry) (flash : Flash) (spare : ℕ) (m : PageMap) (objects : O
   tree_there : Shows (sizes_of g spare) (HasNewest flash) (settled objects)
   tree_there = footprint_law (sizes_of g spare) (has m) (HasNewest flash) (settled objects) (λ o c bytes foot is. carries o c bytes is) (shows_settled (sizes_of g spare) m objects holds can.forest)
 
-  free_there : bad_blocks g flash ≤ spare → HasFree g flash (sizes_of g spare) (settled objects) (1 + spare - bad_blocks g flash)
-  free_there few =
-      free_of_picked g flash (sizes_of g spare) (settled objects) leaves.free (1 + spare - bad_blocks g flash)
-      (λ b within picked.
-      let free = leaves.each b within picked in
-      record {
-        within = within;
-        good = free.good;
-        apart = λ o c s foot newest. free.apart o c s (footprint_pages (sizes_of g spare) m can.numbers flash carries objects holds o c foot) newest;
-      })
-      (omega (arith, leaves.enough, few))
+  module _ (leaves : LeavesFree g flash spare (HasPage m)) where
+    free_there : bad_blocks g flash ≤ spare → HasFree g flash (sizes_of g spare) (settled objects) (1 + spare - bad_blocks g flash)
+    free_there few =
+        free_of_picked g flash (sizes_of g spare) (settled objects) leaves.free (1 + spare - bad_blocks g flash)
+        (λ b within picked.
+        let free = leaves.each b within picked in
+        record {
+          within = within;
+          good = free.good;
+          apart = λ o c s foot newest. free.apart o c s (footprint_pages (sizes_of g spare) m can.numbers flash carries objects holds o c foot) newest;
+        })
+        (omega (arith, leaves.enough, few))
 
-  room_there : HasRoom g flash spare (settled objects)
-  room_there = record {
-    fits = leb-true _ _ (settle_fits (sizes_of g spare) (record { objects = objects; handles = map.empty }) can.fit);
-    free = free_there;
-  }
+    room_there : HasRoom g flash spare (settled objects)
+    room_there = record {
+      fits = leb-true _ _ (settle_fits (sizes_of g spare) (record { objects = objects; handles = map.empty }) can.fit);
+      free = free_there;
+    }
 
 -- A mount finds the tree that is shown sound on an honest device, as long as numbers are left and no more blocks are bad than are to spare.
 pub shown_sound : (z : Sizes) (p : PagesState) (tree : Objects) → Shown z p tree → p.device.honest ≡ true → HasNumbersLeft p.device.flash → bad_on p.device ≤ p.spare
@@ -151,9 +152,18 @@ shown_sound z p tree shown honest left few =
     let carried = shown.carried honest in
     let leaves = carried.free left in
     subst (λ (t : Objects). IsSoundFlash p.device.geometry p.device.flash p.spare t) (sym shown.settles) (record {
-      volume = volume_there p.device.geometry p.device.flash p.spare shown.pages shown.objects holds can carried.newest leaves;
-      shows = tree_there p.device.geometry p.device.flash p.spare shown.pages shown.objects holds can carried.newest leaves;
+      volume = volume_there p.device.geometry p.device.flash p.spare shown.pages shown.objects holds can carried.newest;
+      shows = tree_there p.device.geometry p.device.flash p.spare shown.pages shown.objects holds can carried.newest;
       room = room_there p.device.geometry p.device.flash p.spare shown.pages shown.objects holds can carried.newest leaves;
       few_bad = few;
       numbers = left;
     })
+
+-- An honest device is a volume, and shows the tree that is shown.
+pub shown_there : (z : Sizes) (p : PagesState) (tree : Objects) → Shown z p tree → p.device.honest ≡ true → IsVolume p.device.geometry (HasNewest p.device.flash) p.spare × Shows (volume_of p) (HasNewest p.device.flash) tree
+shown_there z p tree shown honest =
+    let holds = subst (λ (k : Sizes). HoldsObjects k shown.pages shown.objects) (sym shown.sizes) shown.holds in
+    let can = subst (λ (k : Sizes). CanHave k shown.objects) (sym shown.sizes) shown.can in
+    let newest = (shown.carried honest).newest in
+    (volume_there p.device.geometry p.device.flash p.spare shown.pages shown.objects holds can newest,
+      subst (λ (t : Objects). Shows (volume_of p) (HasNewest p.device.flash) t) (sym shown.settles) (tree_there p.device.geometry p.device.flash p.spare shown.pages shown.objects holds can newest))

@@ -129,6 +129,7 @@ pub commits_after : (z : Sizes) (p q r : PagesState) (objects : Objects) → Sta
 commits_after z p q r objects stays commits = record {
   goes_on = goes_on p q r (stays_goes p q stays) commits.goes_on;
   shown = commits.shown;
+  holds = commits.holds;
 }
 
 -- a read that ended the use of the store

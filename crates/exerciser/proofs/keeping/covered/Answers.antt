@@ -12,7 +12,15 @@ loop-place-preserved c =
     let asked : slice_get c.args.script.now c.loop-place.place ≡ Some c.index-script-place.result = slice_get_read c.args.script.now (length c.args.script.now) c.loop-place.place c.index-script-place.result refl asked_at c.index-script-place.is in
     let told : slice_get c.args.replies.now c.loop-place.place ≡ Some c.index-replies-place.result = slice_get_read c.args.replies.now (length c.args.replies.now) c.loop-place.place c.index-replies-place.result refl told_at c.index-replies-place.is in
     elim c.if-is_synced.branch [
-      | then-is_synced w ↦ record { covers = λ i few sync. omega (arith, few, w.covered-is); within = omega (arith, w.covered-is) }
+      | then-is_synced w ↦ record {
+        covers = λ i few sync. omega (arith, few, w.covered-is);
+        least = λ k covers. omega (
+          arith,
+          w.covered-is,
+          covers c.loop-place.place (c.index-script-place.result, c.index-replies-place.result, asked, told, ap (λ x. is_synced x.command c.index-replies-place.result) c.index-script-place.is ∙ sym c.is_synced.ensures ∙ w.if-is_synced.true),
+        );
+        within = omega (arith, w.covered-is);
+      }
       | else-is_synced w ↦ record {
         covers = λ i few sync. omega (
           arith,
@@ -20,6 +28,7 @@ loop-place-preserved c =
           covers_other c.args.script.now c.args.replies.now c.loop-place.place c.loop-place.covered c.index-script-place.result c.index-replies-place.result
               c.loop-place.invariant.covers asked told (ap (λ x. is_synced x.command c.index-replies-place.result) c.index-script-place.is ∙ sym c.is_synced.ensures ∙ w.if-is_synced.false) i few sync,
         );
+        least = λ k covers. omega (arith, w.covered-is, c.loop-place.invariant.least k covers);
         within = omega (arith, w.covered-is, c.loop-place.invariant.within);
       }
     ]

@@ -1,4 +1,4 @@
-use Rattle.std.proofs.Common.{◌≡◌, ◌∙◌, refl, sym}
+use Rattle.std.proofs.Common.{◌∙◌, refl, sym}
 use Rattle.std.specs.FinMap as map
 use Rattle.name_index.specs.Covering.{HasHashes}
 use Rattle.posix_profile.specs.State.{entries_of}
@@ -7,8 +7,8 @@ use Rattle.object_pages.proofs.Growing.{has_hashes, writes_slots, on_each_direct
 use Rattle.object_pages.proofs.hashing.hash_names.Goals as goal
 
 pub returns-clause-hashes : goal.returns-clause-hashes
-returns-clause-hashes g c = λ z old new h has writes holds can.
+returns-clause-hashes g c = λ z old new n writes holds numbers fit.
     let m : PageMap = (g.P.Pages.state c.args.pages.now).present in
     on_each_directory new (λ d dir. HasHashes c.hash_change.new.names z (changed c.args.change.now m) d (map.len dir.1)) c.hash_change.result
-    (λ d dir. c.hash_change.ensures.hashes z m d (map.len (entries_of (map.get old d))) (map.len dir.1) (h.size ∙ sym c.page_bytes.ensures.bytes)
-    (writes_slots z m c.args.change.now old new holds can writes d dir) (has_hashes c.args.names.now z m old has d (map.get old d) refl))
+    (λ d dir. c.hash_change.ensures.hashes z m d (map.len (entries_of (map.get old d))) (map.len dir.1) (n.holds.size ∙ sym c.page_bytes.ensures.bytes)
+    (writes_slots z m c.args.change.now old new holds numbers fit writes d dir) (has_hashes c.args.names.now z m old n.hashes d (map.get old d) refl))

@@ -7,23 +7,24 @@ use Rattle.pages.specs.Maps.{changed}
 use Rattle.pages.specs.State.{PagesState}
 use Rattle.pages.specs.declared.change.Change.{Change}
 use Rattle.object_pages.specs.Holding.{HoldsObjects}
+use Rattle.object_pages.specs.Naming.{WritesNames}
 use Rattle.object_pages.proofs.Entries.{named_number}
 use Rattle.object_pages.proofs.moving.move_name.Goals as goal
 
 pub returns-in_err-slot-clause-fault : goal.returns-in_err-slot-clause-fault
-returns-in_err-slot-clause-fault g c = λ z objects h can leads target name.
+returns-in_err-slot-clause-fault g c = λ z objects n can leads target name.
     absurd (c.in_err-slot.ensures.fault name (named_number z objects can c.args.from.directory c.args.number c.args.from.name.now leads))
 
 pub returns-in_err-change-clause-fault : goal.returns-in_err-change-clause-fault
-returns-in_err-change-clause-fault g c = λ z objects h can leads target name.
+returns-in_err-change-clause-fault g c = λ z objects n can leads target name.
     let source : IsDirectory objects c.args.from.directory = (leads.moment, leads.entries, leads.directory_is) in
     let r = err_from_is_err_and c.from_residual-in_err-change.result c.from_residual-in_err-change.ensures.1 in
-    rw (r.1, r.2) (c.in_err-change.ensures.fault z objects h can source target)
+    rw (r.1, r.2) (c.in_err-change.ensures.fault z objects n can source target)
 
 pub returns-in_default-clause-fault : goal.returns-in_default-clause-fault
-returns-in_default-clause-fault g c = λ z objects h can leads target name.
+returns-in_default-clause-fault g c = λ z objects n can leads target name.
     let source : IsDirectory objects c.args.from.directory = (leads.moment, leads.entries, leads.directory_is) in
-    let told : map.get (entries_of (map.get objects c.args.from.directory)) c.args.from.name.now ≡ None = rw c.in_default.is at (c.in_ok-change.ensures.named z objects h source) in
+    let told : map.get (entries_of (map.get objects c.args.from.directory)) c.args.from.name.now ≡ None = rw c.in_default.is at (c.in_ok-change.ensures.named z objects n source) in
     let two : None ≡ Some c.args.number = sym told ∙ ap (λ x. map.get (entries_of x) c.args.from.name.now) leads.directory_is ∙ leads.object_is in
     absurd cc
 
@@ -31,13 +32,24 @@ pub returns-clause-change : goal.returns-clause-change
 returns-clause-change g c = c.in_ok-and_forget.ensures.change (g.P.Pages.state c.args.pages.now).page_bytes 4 (rw c.in-Some.is at c.in_ok-change.ensures.change)
 
 pub returns-clause-moves : goal.returns-clause-moves
-returns-clause-moves g c = λ z objects h leads target.
+returns-clause-moves g c = λ z objects n leads target.
     let p : PagesState = g.P.Pages.state c.args.pages.now in
     let source : IsDirectory objects c.args.from.directory = (leads.moment, leads.entries, leads.directory_is) in
     let change : Change = c.in-Some.change in
     let base : Objects = without_name objects c.args.moment c.args.from.directory c.args.from.name.now in
-    let moved = rw c.in-Some.is at (c.in_ok-change.ensures.moves z objects h source target) in
+    let moved = rw c.in-Some.is at (c.in_ok-change.ensures.moves z objects n source target) in
     let named : HoldsObjects z (changed change p.present) (with_name base c.args.moment c.args.to.directory c.args.to.name.now c.args.number) =
     subst (λ k. HoldsObjects z (changed change p.present) (with_name base c.args.moment c.args.to.directory c.args.to.name.now k)) c.in_ok-slot.ensures.object
     (subst (λ (k : Name). HoldsObjects z (changed change p.present) (with_name base c.args.moment c.args.to.directory k c.in_ok-slot.slot.object)) c.in_ok-slot.ensures.name moved) in
     c.in_ok-and_forget.ensures.forgets z p.present (with_name base c.args.moment c.args.to.directory c.args.to.name.now c.args.number) named
+
+pub returns-clause-slots : goal.returns-clause-slots
+returns-clause-slots g c = λ z objects n leads target.
+    let source : IsDirectory objects c.args.from.directory = (leads.moment, leads.entries, leads.directory_is) in
+    let change : Change = c.in-Some.change in
+    let base : Objects = without_name objects c.args.moment c.args.from.directory c.args.from.name.now in
+    let moved = rw c.in-Some.is at (c.in_ok-change.ensures.slots z objects n source target) in
+    let named : WritesNames z change objects (with_name base c.args.moment c.args.to.directory c.args.to.name.now c.args.number) =
+    subst (λ k. WritesNames z change objects (with_name base c.args.moment c.args.to.directory c.args.to.name.now k)) c.in_ok-slot.ensures.object
+    (subst (λ (k : Name). WritesNames z change objects (with_name base c.args.moment c.args.to.directory k c.in_ok-slot.slot.object)) c.in_ok-slot.ensures.name moved) in
+    c.in_ok-and_forget.ensures.slots z objects (with_name base c.args.moment c.args.to.directory c.args.to.name.now c.args.number) named

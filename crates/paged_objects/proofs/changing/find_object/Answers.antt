@@ -5,9 +5,12 @@ use Rattle.paged_objects.specs.laws.Showing.{holds_in}
 use Rattle.paged_objects.proofs.Ends.{read_fault}
 use Rattle.paged_objects.proofs.changing.find_object.Goals as goal
 
+pub returns-in-Ok-clause-found : goal.returns-in-Ok-clause-found
+returns-in-Ok-clause-found g c = λ z objects has is. c.in-Ok.ensures.found z objects (record { holds = holds_in z _ objects has.pages.stands; hashes = has.named }) is
+
 pub returns-in-Err-clause-fault : goal.returns-in-Err-clause-fault
 returns-in-Err-clause-fault g c = λ z objects has is.
     let p : PagesState = g.P.Pages.state c.args.pages.now in
     let q : PagesState = g.P.Pages.state c.find.new.pages in
-    rw c.fault_of.ensures (read_fault q c.in-Err.fault (g.met.P.PageStore.lost c.find.new.pages (c.find.ensures.finds.sound ∙ has.stands.sound))
-    (lacks_memory q c.in-Err.fault (c.in-Err.ensures.fault z objects (holds_in z p objects has.stands) is)))
+    rw c.fault_of.ensures (read_fault q c.in-Err.fault (g.met.P.PageStore.lost c.find.new.pages (c.find.ensures.finds.sound ∙ has.pages.stands.sound))
+    (lacks_memory q c.in-Err.fault (c.in-Err.ensures.fault z objects (holds_in z p objects has.pages.stands) is)))

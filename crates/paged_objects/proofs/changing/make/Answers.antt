@@ -4,14 +4,15 @@ use Rattle.volume_terms.specs.Sizes.{Sizes}
 use Rattle.volume_terms.specs.declared.fault.StoreFault.TheVariants as faults
 use Rattle.object_store.specs.Changes.{made}
 use Rattle.posix_profile.specs.Changes.{new_number}
-use Rattle.object_table.specs.Told.{table_sizes, LedBefore}
+use Rattle.object_table.specs.Told.{table_sizes, Tells, LedBefore}
 use Rattle.pages.specs.State.{PagesState}
 use Rattle.paged_objects.specs.Ending.{EndsPages}
+use Rattle.paged_objects.specs.Known.{ObjectsState, state_with, HasNamed}
 use Rattle.paged_objects.specs.laws.Going.{finds_stay, stays_here, stays_goes, goes_here, goes_on}
 use Rattle.paged_objects.specs.laws.Showing.{turns_after}
 use Rattle.paged_objects.specs.laws.Lawful.{tells_on}
-use Rattle.paged_objects.proofs.Ends.{has_after, ends_after, read_ends, not_made}
-use Rattle.paged_objects.proofs.Meant.{can_make, can_have}
+use Rattle.paged_objects.proofs.Ends.{named_after, ends_after, read_ends, not_made}
+use Rattle.paged_objects.proofs.Meant.{has_named, can_make, can_have}
 use Rattle.paged_objects.proofs.changing.make.Goals as goal
 
 pub returns-in_err-prepare-clause-goes_on : goal.returns-in_err-prepare-clause-goes_on
@@ -21,7 +22,8 @@ pub returns-in_err-prepare-clause-makes : goal.returns-in_err-prepare-clause-mak
 returns-in_err-prepare-clause-makes g c = λ objects has make.
     let p : PagesState = g.P.Pages.state c.args.pages.now in
     let e = err_from_is_err_and c.from_residual.result c.from_residual.ensures.1 in
-    rw (e.1, e.2) (not_made p p c.args.table.now c.prepare.new.table objects (made objects c.args.change.now) faults.NoMemory c.prepare.ensures.same (stays_here p))
+    rw (e.1, e.2) (not_made (state_with p c.args.table.now c.args.names.now) (state_with p c.prepare.new.table c.args.names.now) objects (made objects c.args.change.now) faults.NoMemory
+    c.prepare.ensures.same (λ d h s it. it) (stays_here p))
 
 pub returns-in_err-replaced-clause-goes_on : goal.returns-in_err-replaced-clause-goes_on
 returns-in_err-replaced-clause-goes_on g c =
@@ -32,30 +34,32 @@ returns-in_err-replaced-clause-makes g c = λ objects has make.
     let p : PagesState = g.P.Pages.state c.args.pages.now in
     let q : PagesState = g.P.Pages.state c.find_replaced.new.pages in
     let z : Sizes = table_sizes c.args.table.now in
+    let a : ObjectsState = state_with p c.args.table.now c.args.names.now in
     let new = made objects c.args.change.now in
     let e = err_from_is_err_and c.from_residual-in_err-replaced.result c.from_residual-in_err-replaced.ensures.1 in
-    rw (e.1, e.2) (not_made p q c.args.table.now c.prepare.new.table objects new c.in_err-replaced.field-0.0 c.prepare.ensures.same
-    (read_ends z p q objects new c.in_err-replaced.field-0.0 c.find_replaced.ensures.finds (c.in_err-replaced.ensures.fault z objects has.pages make)))
+    rw (e.1, e.2) (not_made a (state_with q c.prepare.new.table c.args.names.now) objects new c.in_err-replaced.field-0.0 c.prepare.ensures.same (λ d h s it. it)
+    (read_ends z p q objects new c.in_err-replaced.field-0.0 c.find_replaced.ensures.finds (c.in_err-replaced.ensures.fault z objects (has_named a objects has) make)))
 
-pub returns-in_err-change_pages-clause-goes_on : goal.returns-in_err-change_pages-clause-goes_on
-returns-in_err-change_pages-clause-goes_on g c =
+pub returns-in_err-left-clause-goes_on : goal.returns-in_err-left-clause-goes_on
+returns-in_err-left-clause-goes_on g c =
     let p : PagesState = g.P.Pages.state c.args.pages.now in
     let q : PagesState = g.P.Pages.state c.find_replaced.new.pages in
     goes_on p q (g.P.Pages.state c.change_pages.new.pages) (stays_goes p q (finds_stay p q c.find_replaced.ensures.finds)) c.change_pages.ensures.goes_on
 
-pub returns-in_err-change_pages-clause-makes : goal.returns-in_err-change_pages-clause-makes
-returns-in_err-change_pages-clause-makes g c = λ objects has make.
+pub returns-in_err-left-clause-makes : goal.returns-in_err-left-clause-makes
+returns-in_err-left-clause-makes g c = λ objects has make.
     let p : PagesState = g.P.Pages.state c.args.pages.now in
     let q : PagesState = g.P.Pages.state c.find_replaced.new.pages in
     let r : PagesState = g.P.Pages.state c.change_pages.new.pages in
     let z : Sizes = table_sizes c.args.table.now in
+    let a : ObjectsState = state_with p c.args.table.now c.args.names.now in
     let new = made objects c.args.change.now in
-    let stays = finds_stay p q c.find_replaced.ensures.finds in
+    let named = named_after c.args.names.now z p q objects c.find_replaced.ensures.finds (has_named a objects has) in
     let next : c.new_number-new.result ≡ new_number objects = c.new_number-new.ensures objects (tells_on c.args.table.now c.prepare.new.table objects c.prepare.ensures.same has.tells) in
-    let ends : EndsPages z q r objects new (Err c.in_err-change_pages.field-0.0) = c.in_err-change_pages.ensures.makes z objects (has_after z p q objects c.find_replaced.ensures.finds has.pages) make next in
-    let e = err_from_is_err_and c.from_residual-in_err-change_pages.result c.from_residual-in_err-change_pages.ensures.1 in
-    rw (e.1, e.2) (not_made p r c.args.table.now c.prepare.new.table objects new c.in_err-change_pages.field-0.0 c.prepare.ensures.same
-    (ends_after z p q r objects new (Err c.in_err-change_pages.field-0.0) stays ends))
+    let ends : EndsPages z q r objects new (Err c.in_err-left.field-0.0) = c.in_err-left.ensures.makes z objects named make next in
+    let e = err_from_is_err_and c.from_residual-in_err-left.result c.from_residual-in_err-left.ensures.1 in
+    rw (e.1, e.2) (not_made a (state_with r c.prepare.new.table c.change_pages.new.names) objects new c.in_err-left.field-0.0 c.prepare.ensures.same c.change_pages.ensures.kept
+    (ends_after z p q r objects new (Err c.in_err-left.field-0.0) (finds_stay p q c.find_replaced.ensures.finds) ends))
 
 pub returns-clause-goes_on : goal.returns-clause-goes_on
 returns-clause-goes_on g c =
@@ -69,14 +73,19 @@ returns-clause-makes g c = λ objects has make.
     let q : PagesState = g.P.Pages.state c.find_replaced.new.pages in
     let r : PagesState = g.P.Pages.state c.change_pages.new.pages in
     let z : Sizes = table_sizes c.args.table.now in
+    let a : ObjectsState = state_with p c.args.table.now c.args.names.now in
     let new = made objects c.args.change.now in
     let same = c.prepare.ensures.same in
-    let stays = finds_stay p q c.find_replaced.ensures.finds in
+    let mine = has_named a objects has in
+    let named = named_after c.args.names.now z p q objects c.find_replaced.ensures.finds mine in
     let tells = tells_on c.args.table.now c.prepare.new.table objects same has.tells in
     let next : c.new_number-new.result ≡ new_number objects = c.new_number-new.ensures objects tells in
-    let ends : EndsPages z q r objects new (Ok tt) = c.in_ok-change_pages.ensures.makes z objects (has_after z p q objects c.find_replaced.ensures.finds has.pages) make next in
-    let led : LedBefore objects c.args.change.now c.in_ok-replaced.replaced = c.in_ok-replaced.ensures.found z objects has.pages make in (
+    let ends : EndsPages z q r objects new (Ok tt) = c.in_ok-left.ensures.makes z objects named make next in
+    let led : LedBefore objects c.args.change.now c.in_ok-replaced.replaced = c.in_ok-replaced.ensures.found z objects mine make in
+    let told : Tells c.apply.new.self new =
+    c.apply.ensures.tells objects tells (can_have z (table_sizes c.prepare.new.table) objects same.sizes has.pages.can) (can_make z (table_sizes c.prepare.new.table) objects c.args.change.now same.sizes make) led in (
       ends.0,
-      c.apply.ensures.tells objects tells (can_have z (table_sizes c.prepare.new.table) objects same.sizes has.pages.can) (can_make z (table_sizes c.prepare.new.table) objects c.args.change.now same.sizes make) led,
-      turns_after z p q r objects stays ends.1,
+      told,
+      c.drop_names.ensures z r.present objects (c.in_ok-left.ensures.names z objects named make next) told (c.in_ok-left.ensures.left z objects named make next),
+      turns_after z p q r objects (finds_stay p q c.find_replaced.ensures.finds) ends.1,
     )

@@ -7,6 +7,9 @@ use Rattle.paged_objects.proofs.changing.take.Goals as goal
 pub returns-then-len-most_pages-clause-goes_on : goal.returns-then-len-most_pages-clause-goes_on
 returns-then-len-most_pages-clause-goes_on g c = goes_here (g.P.Pages.state c.args.pages.now)
 
+pub returns-clause-present : goal.returns-clause-present
+returns-clause-present g c = c.apply.ensures.present
+
 pub returns-clause-makes : goal.returns-clause-makes
 returns-clause-makes g c = λ z old new has few holds.
     let p : PagesState = g.P.Pages.state c.args.pages.now in

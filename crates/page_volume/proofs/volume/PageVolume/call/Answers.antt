@@ -49,7 +49,7 @@ returns-clause-reads g c goes z s is only =
     let a = c.args.self.now in
     let b = c.call.new.self in
     let one = one_call g.P.Pages.state z s c.args.stamped.now c.call.result a (record { volume = b }) is (c.call.ensures.ends goes z s (is_at g.P.Pages.state z s a is)) in
-    (one.reads only).0
+    (one.reads only).pages
 
 pub returns-clause-power : goal.returns-clause-power
 returns-clause-power g c goes z s is refused =

@@ -1,8 +1,7 @@
-use Rattle.std.proofs.Common.{◌∙◌, ap, subst}
+use Rattle.std.proofs.Common.{subst}
 use Rattle.nand_model.specs.Calls.{Device}
 use Rattle.nand_model.specs.Changes.{OnlyReads}
 use Rattle.nand_model.specs.laws.Changes.{only_reads_on}
-use Rattle.pages.specs.State.{PagesState}
 use Rattle.posix_calls.proofs.volume.Volume.mount_with.Goals as goal
 
 pub returns-in-Ok-clause-tree : goal.returns-in-Ok-clause-tree
@@ -12,5 +11,5 @@ returns-in-Ok-clause-tree g c = λ honest.
 
 pub returns-in-Err-clause-back : goal.returns-in-Err-clause-back
 returns-in-Err-clause-back g c =
-    let same = c.into_device.ensures.state ∙ ap (λ (p : PagesState). p.device) c.in-Err.ensures.given_back in
+    let same = rw c.in-Err.ensures.given_back at c.into_device.ensures.state in
     only_reads_on _ _ _ c.in_ok-pages.ensures.reads (subst (λ (k : Device). OnlyReads k (g.N.Nand.state c.unmounted.result.0)) same c.unmounted.ensures.reads)

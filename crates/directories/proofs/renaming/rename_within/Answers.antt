@@ -1,0 +1,202 @@
+use Rattle.std.proofs.Common.{◌≤◌, ◌/◌, ◌+◌, ◌≡◌, ◌∙◌, ℕ, sym, subst, arith}
+use Rattle.std.proofs.lemmas.Result.{err_from_is_err_and}
+use Rattle.std.specs.FinMap as map
+use Rattle.flash_tree.specs.Tree.{IsPageSize}
+use Rattle.pages.specs.Changes.{IsChange, AreSized}
+use Rattle.volume_terms.specs.Sizes.{page_slots}
+use Rattle.pages.specs.Maps.{PageMap, changed}
+use Rattle.pages.specs.State.{PagesState}
+use Rattle.pages.specs.laws.Changes.{others_keep}
+use Rattle.pages.specs.laws.Faults.{lacks_memory}
+use Rattle.pages.specs.declared.change.Change.{Change}
+use Rattle.posix_profile.specs.State.{Entries}
+use Rattle.directories.specs.Directories.{HasOnly, ReadsDirectory}
+use Rattle.directories.specs.declared.taking.Taken.{Taken}
+use Rattle.directories.specs.laws.Keys.{key_both}
+use Rattle.directories.proofs.Hashed.{len_less}
+use Rattle.directories.proofs.Held.{asks_both, asks_first}
+use Rattle.directories.proofs.Results.{memory_room}
+use Rattle.directories.proofs.Renamed.{named_later, then_in, spare_then, stands_in}
+use Rattle.directories.proofs.Sought.{dir, was_named}
+use Rattle.directories.proofs.renaming.rename_within.Goals as goal
+
+pub returns-in_err-sought-clause-asked : goal.returns-in_err-sought-clause-asked
+returns-in_err-sought-clause-asked g c =
+    asks_first c.args.names.now c.args.directory c.args.directory c.args.to.now.name.now c.args.from.now (g.P.Pages.state c.args.pages.now).asked (g.P.Pages.state c.seek.new.pages).asked c.seek.ensures.asked
+
+pub returns-in_err-sought-clause-fault : goal.returns-in_err-sought-clause-fault
+returns-in_err-sought-clause-fault g c = λ z moment entries d.
+    let old : PagesState = g.P.Pages.state c.args.pages.now in
+    let mid : PagesState = g.P.Pages.state c.seek.new.pages in
+    let r = err_from_is_err_and c.from_residual.result c.from_residual.ensures.1 in
+    rw (r.1, r.2) (memory_room (map.len (map.remove entries c.args.from.now)) mid _ (lacks_memory mid _ (c.in_err-sought.ensures.fault z moment entries (dir c.args.names.now old z c.args.directory moment entries d))))
+
+pub returns-in_err-taken-clause-asked : goal.returns-in_err-taken-clause-asked
+returns-in_err-taken-clause-asked g c =
+    asks_both c.args.names.now c.args.directory c.args.directory c.args.to.now.name.now c.args.from.now (g.P.Pages.state c.args.pages.now).asked (g.P.Pages.state c.seek.new.pages).asked
+    (g.P.Pages.state c.take_name.new.pages).asked _ c.seek.ensures.asked c.take_name.ensures.asked (omega arith)
+
+pub returns-in_err-taken-clause-fault : goal.returns-in_err-taken-clause-fault
+returns-in_err-taken-clause-fault g c = λ z moment entries d.
+    let old : PagesState = g.P.Pages.state c.args.pages.now in
+    let mid : PagesState = g.P.Pages.state c.seek.new.pages in
+    let later_d = named_later c.args.names.now old mid z c.args.directory moment entries c.seek.ensures.finds d in
+    let r = err_from_is_err_and c.from_residual-in_err-taken.result c.from_residual-in_err-taken.ensures.1 in
+    rw (r.1, r.2) (memory_room (map.len (map.remove entries c.args.from.now)) (g.P.Pages.state c.take_name.new.pages) _
+    (c.in_err-taken.ensures.fault z moment entries (dir c.args.names.now mid z c.args.directory moment entries later_d)))
+
+pub returns-in_default-clause-asked : goal.returns-in_default-clause-asked
+returns-in_default-clause-asked g c =
+    asks_both c.args.names.now c.args.directory c.args.directory c.args.to.now.name.now c.args.from.now (g.P.Pages.state c.args.pages.now).asked (g.P.Pages.state c.seek.new.pages).asked
+    (g.P.Pages.state c.take_name.new.pages).asked _ c.seek.ensures.asked c.take_name.ensures.asked (omega arith)
+
+pub returns-in_default-clause-named : goal.returns-in_default-clause-named
+returns-in_default-clause-named g c = λ z moment entries d.
+    let old : PagesState = g.P.Pages.state c.args.pages.now in
+    let mid : PagesState = g.P.Pages.state c.seek.new.pages in
+    rw c.in_default.is at (c.in_ok-taken.ensures.named z moment entries (named_later c.args.names.now old mid z c.args.directory moment entries c.seek.ensures.finds d))
+
+pub returns-in_err-second-clause-asked : goal.returns-in_err-second-clause-asked
+returns-in_err-second-clause-asked g c =
+    asks_both c.args.names.now c.args.directory c.args.directory c.args.to.now.name.now c.args.from.now (g.P.Pages.state c.args.pages.now).asked (g.P.Pages.state c.seek.new.pages).asked
+    (g.P.Pages.state c.take_name.new.pages).asked _ c.seek.ensures.asked c.take_name.ensures.asked c.put_at.ensures.asked
+
+pub returns-in_err-change-clause-asked : goal.returns-in_err-change-clause-asked
+returns-in_err-change-clause-asked g c =
+    asks_both c.args.names.now c.args.directory c.args.directory c.args.to.now.name.now c.args.from.now (g.P.Pages.state c.args.pages.now).asked (g.P.Pages.state c.seek.new.pages).asked
+    (g.P.Pages.state c.take_name.new.pages).asked _ c.seek.ensures.asked c.take_name.ensures.asked c.put_at.ensures.asked
+
+pub returns-clause-asked : goal.returns-clause-asked
+returns-clause-asked g c =
+    asks_both c.args.names.now c.args.directory c.args.directory c.args.to.now.name.now c.args.from.now (g.P.Pages.state c.args.pages.now).asked (g.P.Pages.state c.seek.new.pages).asked
+    (g.P.Pages.state c.take_name.new.pages).asked _ c.seek.ensures.asked c.take_name.ensures.asked c.put_at.ensures.asked
+
+pub returns-in_err-second-clause-fault : goal.returns-in_err-second-clause-fault
+returns-in_err-second-clause-fault g c = λ z moment entries d.
+    let names = c.args.names.now in
+    let o : ℕ = c.args.directory in
+    let old : PagesState = g.P.Pages.state c.args.pages.now in
+    let mid : PagesState = g.P.Pages.state c.seek.new.pages in
+    let next : PagesState = g.P.Pages.state c.take_name.new.pages in
+    let sized = g.met.P.Pages.sized c.args.pages.now in
+    let size : IsPageSize z.page_bytes = record { least = omega (arith, d.size, sized.0); most = omega (arith, d.size, sized.1) } in
+    let later_d = named_later names old mid z o moment entries c.seek.ensures.finds d in
+    let taken : Taken = c.in-Some.taken in
+    let t = rw c.in-Some.is at (c.in_ok-taken.ensures.takes z moment entries later_d) in
+    let reads = rw c.in-Some.is at (c.in_ok-taken.ensures.removes z moment entries later_d) in
+    let at = then_in names old mid next c.seek.ensures.finds c.take_name.ensures.finds z size o moment entries d c.args.from.now taken c.args.moment t reads in
+    let stands = stands_in names old mid next c.seek.ensures.finds c.take_name.ensures.finds z size o moment entries d c.args.from.now taken c.args.moment t reads
+    c.args.to.now.name.now c.in_ok-sought.sought.found c.moved-place.result (c.in_ok-sought.ensures.sought z moment entries d).found c.moved-place.ensures in
+    let r = err_from_is_err_and c.from_residual-in_err-second.result c.from_residual-in_err-second.ensures.1 in
+    rw (r.1, r.2) (c.in_err-second.ensures.fault z c.args.moment (map.remove entries c.args.from.now) at stands)
+
+pub returns-clause-change : goal.returns-clause-change
+returns-clause-change g c =
+    let old : PagesState = g.P.Pages.state c.args.pages.now in
+    let mid : PagesState = g.P.Pages.state c.seek.new.pages in
+    let next : PagesState = g.P.Pages.state c.take_name.new.pages in
+    let first_bytes : mid.page_bytes ≡ old.page_bytes = c.seek.ensures.finds.page_bytes in
+    let bytes : next.page_bytes ≡ old.page_bytes = c.take_name.ensures.finds.page_bytes ∙ first_bytes in
+    let a : IsChange c.in-Some.taken.change old.page_bytes 2 = subst (λ n. IsChange c.in-Some.taken.change n 2) first_bytes (rw c.in-Some.is at c.in_ok-taken.ensures.change) in
+    let b : IsChange c.in_ok-second.second next.page_bytes 2 = c.in_ok-second.ensures.change in
+    let head = rw c.in-Some.is at c.in_ok-taken.ensures.head in
+    let key = c.in_ok-second.ensures.head in
+    let shared = c.in_ok-change.ensures.shared c.args.directory 0 head.0 key.0 head.1 key.1 in
+    record {
+      apart = c.in_ok-change.ensures.apart a.apart b.apart;
+      size = c.in_ok-change.ensures.size old.page_bytes a.size (subst (AreSized c.in_ok-second.second.pages.items) bytes b.size);
+      few = omega (arith, shared, a.few, b.few);
+    }
+
+pub returns-clause-others : goal.returns-clause-others
+returns-clause-others g c = λ o k other.
+    let old : PagesState = g.P.Pages.state c.args.pages.now in
+    let only = rw c.in-Some.is at c.in_ok-taken.ensures.only in
+    c.in_ok-change.ensures.pages old.present o k
+    ∙ others_keep c.in_ok-second.second c.args.directory c.in_ok-second.ensures.only (changed c.in-Some.taken.change old.present) o k other
+    ∙ others_keep c.in-Some.taken.change c.args.directory only old.present o k other
+
+pub returns-clause-named : goal.returns-clause-named
+returns-clause-named g c = λ z moment entries d.
+    let old : PagesState = g.P.Pages.state c.args.pages.now in
+    let mid : PagesState = g.P.Pages.state c.seek.new.pages in
+    let later_d = named_later c.args.names.now old mid z c.args.directory moment entries c.seek.ensures.finds d in
+    was_named c.args.names.now mid z c.args.directory moment entries later_d c.args.from.now c.in-Some.taken (rw c.in-Some.is at (c.in_ok-taken.ensures.takes z moment entries later_d))
+
+pub returns-clause-moves : goal.returns-clause-moves
+returns-clause-moves g c = λ z moment entries d.
+    let names = c.args.names.now in
+    let o : ℕ = c.args.directory in
+    let old : PagesState = g.P.Pages.state c.args.pages.now in
+    let mid : PagesState = g.P.Pages.state c.seek.new.pages in
+    let next : PagesState = g.P.Pages.state c.take_name.new.pages in
+    let sized = g.met.P.Pages.sized c.args.pages.now in
+    let size : IsPageSize z.page_bytes = record { least = omega (arith, d.size, sized.0); most = omega (arith, d.size, sized.1) } in
+    let later_d = named_later names old mid z o moment entries c.seek.ensures.finds d in
+    let taken : Taken = c.in-Some.taken in
+    let t = rw c.in-Some.is at (c.in_ok-taken.ensures.takes z moment entries later_d) in
+    let reads = rw c.in-Some.is at (c.in_ok-taken.ensures.removes z moment entries later_d) in
+    let at = then_in names old mid next c.seek.ensures.finds c.take_name.ensures.finds z size o moment entries d c.args.from.now taken c.args.moment t reads in
+    let stands = stands_in names old mid next c.seek.ensures.finds c.take_name.ensures.finds z size o moment entries d c.args.from.now taken c.args.moment t reads
+    c.args.to.now.name.now c.in_ok-sought.sought.found c.moved-place.result (c.in_ok-sought.ensures.sought z moment entries d).found c.moved-place.ensures in
+    let first : Change = taken.change in
+    let second : Change = c.in_ok-second.second in
+    let puts = c.in_ok-second.ensures.puts z c.args.moment (map.remove entries c.args.from.now) at stands in
+    let now : Entries = map.insert (map.remove entries c.args.from.now) c.args.to.now.name.now c.args.to.now.object in
+    let spare = spare_then names old mid next c.seek.ensures.finds c.take_name.ensures.finds z size o moment entries d c.args.from.now taken c.args.moment t reads in
+    let present : next.present ≡ old.present = c.take_name.ensures.finds.present ∙ c.seek.ensures.finds.present in
+    let both : changed second (changed first old.present) ≡ changed c.in_ok-change.change old.present = λ i x k. sym (c.in_ok-change.ensures.pages old.present x k) i in
+    subst (λ (m : PageMap). ReadsDirectory z m o c.args.moment now d.reads.fields.spare) both
+    (subst (λ (k : PageMap). ReadsDirectory z (changed second (changed first k)) o c.args.moment now d.reads.fields.spare) present
+    (subst (λ n. ReadsDirectory z (changed second (changed first next.present)) o c.args.moment now n) spare puts))
+
+pub returns-clause-besides : goal.returns-clause-besides
+returns-clause-besides g c = λ z moment entries d only.
+    let names = c.args.names.now in
+    let o : ℕ = c.args.directory in
+    let old : PagesState = g.P.Pages.state c.args.pages.now in
+    let mid : PagesState = g.P.Pages.state c.seek.new.pages in
+    let next : PagesState = g.P.Pages.state c.take_name.new.pages in
+    let sized = g.met.P.Pages.sized c.args.pages.now in
+    let size : IsPageSize z.page_bytes = record { least = omega (arith, d.size, sized.0); most = omega (arith, d.size, sized.1) } in
+    let later_d = named_later names old mid z o moment entries c.seek.ensures.finds d in
+    let taken : Taken = c.in-Some.taken in
+    let t = rw c.in-Some.is at (c.in_ok-taken.ensures.takes z moment entries later_d) in
+    let reads = rw c.in-Some.is at (c.in_ok-taken.ensures.removes z moment entries later_d) in
+    let at = then_in names old mid next c.seek.ensures.finds c.take_name.ensures.finds z size o moment entries d c.args.from.now taken c.args.moment t reads in
+    let stands = stands_in names old mid next c.seek.ensures.finds c.take_name.ensures.finds z size o moment entries d c.args.from.now taken c.args.moment t reads
+    c.args.to.now.name.now c.in_ok-sought.sought.found c.moved-place.result (c.in_ok-sought.ensures.sought z moment entries d).found c.moved-place.ensures in
+    let first : Change = taken.change in
+    let second : Change = c.in_ok-second.second in
+    let left : Entries = map.remove entries c.args.from.now in
+    let n : ℕ = map.len (map.insert left c.args.to.now.name.now c.args.to.now.object) in
+    let only_mid : HasOnly z mid.present o (map.len entries) = subst (λ (k : PageMap). HasOnly z k o (map.len entries)) (sym c.seek.ensures.finds.present) only in
+    let few = rw c.in-Some.is at (c.in_ok-taken.ensures.besides z moment entries later_d only_mid) in
+    let few_then : HasOnly z (changed first next.present) o (map.len left) = subst (λ (k : PageMap). HasOnly z (changed first k) o (map.len left)) (sym c.take_name.ensures.finds.present) few in
+    let present : next.present ≡ old.present = c.take_name.ensures.finds.present ∙ c.seek.ensures.finds.present in
+    let both : changed second (changed first old.present) ≡ changed c.in_ok-change.change old.present = λ i x k. sym (c.in_ok-change.ensures.pages old.present x k) i in
+    subst (λ (m : PageMap). HasOnly z m o n) both
+    (subst (λ (k : PageMap). HasOnly z (changed second (changed first k)) o n) present
+    (c.in_ok-second.ensures.besides z c.args.moment left at stands few_then))
+
+pub returns-clause-slot : goal.returns-clause-slot
+returns-clause-slot g c = λ z moment entries d.
+    let names = c.args.names.now in
+    let o : ℕ = c.args.directory in
+    let old : PagesState = g.P.Pages.state c.args.pages.now in
+    let mid : PagesState = g.P.Pages.state c.seek.new.pages in
+    let next : PagesState = g.P.Pages.state c.take_name.new.pages in
+    let sized = g.met.P.Pages.sized c.args.pages.now in
+    let size : IsPageSize z.page_bytes = record { least = omega (arith, d.size, sized.0); most = omega (arith, d.size, sized.1) } in
+    let later_d = named_later names old mid z o moment entries c.seek.ensures.finds d in
+    let taken : Taken = c.in-Some.taken in
+    let t = rw c.in-Some.is at (c.in_ok-taken.ensures.takes z moment entries later_d) in
+    let reads = rw c.in-Some.is at (c.in_ok-taken.ensures.removes z moment entries later_d) in
+    let at = then_in names old mid next c.seek.ensures.finds c.take_name.ensures.finds z size o moment entries d c.args.from.now taken c.args.moment t reads in
+    let stands = stands_in names old mid next c.seek.ensures.finds c.take_name.ensures.finds z size o moment entries d c.args.from.now taken c.args.moment t reads
+    c.args.to.now.name.now c.in_ok-sought.sought.found c.moved-place.result (c.in_ok-sought.ensures.sought z moment entries d).found c.moved-place.ensures in
+    let first : Change = taken.change in
+    let second : Change = c.in_ok-second.second in
+    let slots = c.in_ok-second.ensures.slot z c.args.moment (map.remove entries c.args.from.now) at stands in
+    let fewer : map.len (map.remove entries c.args.from.now) ≤ map.len entries = len_less entries c.args.from.now in
+    λ k low high. key_both first second c.in_ok-change.change c.in_ok-change.ensures.pages o (1 + k / page_slots z) (slots k (omega (arith, low, fewer)) high)

@@ -1,0 +1,30 @@
+-- What is seen of a session, by the tree before it, its commands and their replies.
+use Rattle.std.specs.Prelude.{List, Some, None}
+use Rattle.plain_volume.specs.Views.{PlainView}
+use Rattle.posix_profile.specs.declared.command.Stamped.{Stamped}
+use Rattle.posix_profile.specs.declared.reply.Reply.{Reply}
+use Rattle.exerciser.specs.Keeping.{IsLeast}
+use Rattle.exerciser.specs.declared.finding.Finding.{Finding}
+use Rattle.exerciser.specs.declared.finding.Finding.TheVariants as findings
+use Rattle.exerciser.specs.declared.seen.Seen.{Seen}
+use Rattle.exerciser.specs.declared.seen.Seen.TheVariants as seens
+
+-- what a line tells of it
+abbrev pub finding_of : Seen → Finding
+finding_of (seens.Kept count tree) = findings.Kept count
+finding_of (seens.Torn tree) = findings.Torn
+finding_of (seens.Mount fault) = findings.Mount fault
+
+-- A tree is kept where the session may leave it, after the least number of commands that leaves it; and torn where it may not. Of
+-- what cannot be made again as a tree, and of a mount that fails, nothing is said.
+abbrev pub IsSeen : PlainView → List Stamped → List Reply → Seen → Type 0
+IsSeen before commands replies (seens.Kept count tree) = IsLeast before commands replies tree (Some count)
+IsSeen before commands replies (seens.Torn (Some tree)) = IsLeast before commands replies tree None
+IsSeen before commands replies (seens.Torn None) = Unit {0}
+IsSeen before commands replies (seens.Mount fault) = Unit {0}
+
+-- no tree is kept
+abbrev pub IsTorn : Seen → Type 0
+IsTorn (seens.Kept count tree) = ⊥
+IsTorn (seens.Torn tree) = Unit {0}
+IsTorn (seens.Mount fault) = Unit {0}

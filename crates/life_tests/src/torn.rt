@@ -1,0 +1,228 @@
+// Volumes that lose what they must keep, and what is seen of sessions on them.
+use exerciser::{Finding, Seen, compare};
+use line_shell::read_script;
+use nand_model::Geometry;
+use plain_tree::{Answers, PlainTree};
+use posix_calls::{Bytes, Command, Errno, FilePath, NameList, Reply, Stamped};
+use powercut::SessionEnd;
+use std::alloc::{AllocError, Global};
+use std::process::Abort;
+use std::test::Fail;
+use volume_terms::VolumeSizes;
+
+/// The reply of what does commands where memory may be refused.
+fn reply_of(replied: Result<Reply, AllocError>) -> Reply {
+    match replied {
+        Ok(reply) => reply,
+        Err(_) => Reply::Error(Errno::ENOMEM),
+    }
+}
+
+/// Answers Done to a sync and keeps nothing of what it covers: a mount shows the tree `kept`.
+#[derive(Drop)]
+struct Forgetful {
+    tree: PlainTree,
+    kept: PlainTree,
+}
+
+impl Answers for Forgetful {
+    fn answer(&mut self, stamped: &Stamped) -> Reply {
+        reply_of(self.tree.step(stamped))
+    }
+}
+
+/// A tree as a volume. Where its page of 512 bytes is lost, the second of each file, that page reads as zeros.
+#[derive(Drop)]
+struct Shown {
+    tree: PlainTree,
+    is_lost: bool,
+}
+
+/// The bytes with zeros for the second page.
+fn without_second_page(bytes: Bytes) -> Bytes {
+    let mut bytes = bytes.into_vec();
+    for (place, byte) in bytes.iter_mut().enumerate() {
+        if place / 512 == 1 {
+            *byte = 0;
+        }
+    }
+    Bytes::new(bytes)
+}
+
+impl Answers for Shown {
+    fn answer(&mut self, stamped: &Stamped) -> Reply {
+        match reply_of(self.tree.step(stamped)) {
+            Reply::Data(bytes) if self.is_lost => Reply::Data(without_second_page(bytes)),
+            reply => reply,
+        }
+    }
+}
+
+/// Of a directory x that was renamed to y, the new name is on the flash, and the old one too.
+#[derive(Drop)]
+struct HalfRenamed {
+    alloc: Global,
+    tree: PlainTree,
+}
+
+/// The command for y in place of the one for x.
+fn for_new_name(alloc: Global, command: &Command) -> Result<Option<Command>, AllocError> {
+    Ok(match command {
+        Command::Stat { path } if path.as_slice() == b"/x".as_slice() => Some(Command::Stat {
+            path: FilePath::new(b"/y".to_vec(alloc)?),
+        }),
+        Command::List { path } if path.as_slice() == b"/x".as_slice() => Some(Command::List {
+            path: FilePath::new(b"/y".to_vec(alloc)?),
+        }),
+        _ => None,
+    })
+}
+
+/// Both names.
+fn both_names(alloc: Global) -> Result<NameList, AllocError> {
+    let mut names = Vec::new(alloc);
+    names.push(Bytes::new(b"x".to_vec(alloc)?))?;
+    names.push(Bytes::new(b"y".to_vec(alloc)?))?;
+    Ok(NameList::new(names))
+}
+
+impl HalfRenamed {
+    fn step(&mut self, stamped: &Stamped) -> Result<Reply, AllocError> {
+        if let Command::List { path } = &stamped.command {
+            if path.as_slice() == b"/".as_slice() {
+                return Ok(Reply::Names(both_names(self.alloc)?));
+            }
+        }
+        match for_new_name(self.alloc, &stamped.command)? {
+            Some(command) => self.tree.step(&Stamped { moment: 0, command }),
+            None => self.tree.step(stamped),
+        }
+    }
+}
+
+impl Answers for HalfRenamed {
+    fn answer(&mut self, stamped: &Stamped) -> Reply {
+        reply_of(self.step(stamped))
+    }
+}
+
+fn script(alloc: Global, lines: &str) -> Result<Vec<Stamped>, Fail> {
+    let mut reader = lines.as_bytes();
+    Ok(read_script(alloc, &mut reader)?)
+}
+
+/// The end of a session of these commands on what answers them, in which power is lost after the last.
+fn end_of<V: Answers>(
+    alloc: Global,
+    volume: &mut V,
+    commands: &[Stamped],
+) -> Result<SessionEnd, Fail> {
+    let mut replies = Vec::new(alloc);
+    for stamped in commands {
+        replies.push(volume.answer(stamped))?;
+    }
+    let begun = replies.len() as u64;
+    Ok(SessionEnd {
+        mounted: Ok(()),
+        replies,
+        begun,
+        unmounted: None,
+        cut: true,
+    })
+}
+
+/// The tree after these lines, from an empty one on.
+fn tree_after(alloc: Global, lines: &str) -> Result<PlainTree, Fail> {
+    let mut tree = PlainTree::new(alloc, VolumeSizes::new(512, 32, 8, 1))?;
+    for stamped in &script(alloc, lines)? {
+        let _reply = tree.step(stamped)?;
+    }
+    Ok(tree)
+}
+
+/// What is seen of a session of these commands on this tree, which ended so, where this is shown.
+fn seen_of<V: Answers>(
+    alloc: Global,
+    before: &PlainTree,
+    commands: &[Stamped],
+    end: &SessionEnd,
+    shown: &mut V,
+) -> Result<Seen, Fail> {
+    let geometry = Geometry::new(512, 32, 8)?;
+    match compare(alloc, geometry, before, commands, end, shown) {
+        Ok(seen) => Ok(seen),
+        Err(fault) => Err(fault.into()),
+    }
+}
+
+/// The device and the end of a session of these lines that begins with the tree after `first`.
+fn forgetful_session(
+    alloc: Global,
+    first: &str,
+    commands: &[Stamped],
+) -> Result<(Forgetful, SessionEnd), Fail> {
+    let mut volume = Forgetful {
+        tree: tree_after(alloc, first)?,
+        kept: tree_after(alloc, first)?,
+    };
+    let end = end_of(alloc, &mut volume, commands)?;
+    Ok((volume, end))
+}
+
+#[test]
+fn a_sync_that_is_forgotten_tears_the_tree(rt: HostRuntime) -> Result<(), Fail> {
+    let alloc = rt.alloc();
+    let commands = script(alloc, "mkdir /b\nsync\nmkdir /c\n")?;
+    let (volume, end) = forgetful_session(alloc, "mkdir /a\n", &commands)?;
+    let before = tree_after(alloc, "mkdir /a\n")?;
+    let mut shown = Shown {
+        tree: volume.kept,
+        is_lost: false,
+    };
+    let seen = seen_of(alloc, &before, &commands, &end, &mut shown)?;
+    assert_eq!(rt; seen.finding(), Finding::Torn);
+    let mut shown = Shown {
+        tree: volume.tree,
+        is_lost: false,
+    };
+    let seen = seen_of(alloc, &before, &commands, &end, &mut shown)?;
+    assert_eq!(rt; seen.finding(), Finding::Kept(3));
+    Ok(())
+}
+
+#[test]
+fn a_page_that_is_lost_tears_the_tree(rt: HostRuntime) -> Result<(), Fail> {
+    let alloc = rt.alloc();
+    let commands = script(
+        alloc,
+        "open /a rwc\nseek 0 600 set\nwrite 0 hello\nfsync 0\n",
+    )?;
+    let (volume, end) = forgetful_session(alloc, "", &commands)?;
+    let before = tree_after(alloc, "")?;
+    let mut shown = Shown {
+        tree: volume.tree,
+        is_lost: true,
+    };
+    let seen = seen_of(alloc, &before, &commands, &end, &mut shown)?;
+    assert_eq!(rt; seen.finding(), Finding::Torn);
+    shown.is_lost = false;
+    let seen = seen_of(alloc, &before, &commands, &end, &mut shown)?;
+    assert_eq!(rt; seen.finding(), Finding::Kept(4));
+    Ok(())
+}
+
+/// What is shown cannot be made again: no directory has two names.
+#[test]
+fn half_of_a_rename_tears_the_tree(rt: HostRuntime) -> Result<(), Fail> {
+    let alloc = rt.alloc();
+    let commands = script(alloc, "rename /x /y\n")?;
+    let (volume, end) = forgetful_session(alloc, "mkdir /x\n", &commands)?;
+    let before = tree_after(alloc, "mkdir /x\n")?;
+    let mut shown = HalfRenamed {
+        alloc,
+        tree: volume.tree,
+    };
+    let seen = seen_of(alloc, &before, &commands, &end, &mut shown)?;
+    assert!(rt; matches!(seen, Seen::Torn(None)));
+    Ok(())
+}

@@ -1,0 +1,23 @@
+use Rattle.std.proofs.Common.{sym, subst}
+use Rattle.object_store.specs.Changes.{made}
+use Rattle.object_pages.specs.Holding.{HoldsObjects}
+use Rattle.object_pages.specs.Naming.{HasNames, HoldsNamed}
+use Rattle.pages.specs.Maps.{PageMap, changed}
+use Rattle.pages.specs.State.{PagesState}
+use Rattle.paged_objects.specs.laws.Showing.{holds_in}
+use Rattle.paged_objects.proofs.Ends.{named_after}
+use Rattle.paged_objects.proofs.changing.plan_named.Goals as goal
+
+pub returns-in_ok-hash_names-in-Ok-clause-names : goal.returns-in_ok-hash_names-in-Ok-clause-names
+returns-in_ok-hash_names-in-Ok-clause-names g c = λ z objects has make is.
+    let p : PagesState = g.P.Pages.state c.args.pages.now in
+    let q : PagesState = g.P.Pages.state c.plan.new.pages in
+    let new = made objects c.args.change.now in
+    let finds = c.plan.ensures.finds in
+    let after = named_after c.args.names.now z p q objects finds has in
+    let here : HoldsNamed c.args.names.now p z objects = record { holds = holds_in z p objects has.pages.stands; hashes = has.named } in
+    let holds : HoldsObjects z (changed c.in-Ok.planned p.present) new = c.in-Ok.ensures.makes z objects here make is in
+    let writes = c.in-Ok.ensures.slots z objects here make in
+    subst (λ (m : PageMap). HasNames c.hash_names.new.names z (changed c.in-Ok.planned m) new) finds.present
+    (c.in_ok-hash_names-in-Ok.ensures.hashes z objects new (record { holds = holds_in z q objects after.pages.stands; hashes = after.named }) writes
+    (subst (λ (m : PageMap). HoldsObjects z (changed c.in-Ok.planned m) new) (sym finds.present) holds) has.pages.can.numbers make.fits)

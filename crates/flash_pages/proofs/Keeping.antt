@@ -1,5 +1,5 @@
 -- A device that is only read keeps what it has.
-use Rattle.std.specs.Prelude.{None, ◌≡◌, ◌<◌, ◌+◌, ℕ, Bool, true, false, count_by}
+use Rattle.std.specs.Prelude.{◌≡◌, ◌<◌, ◌+◌, ℕ, Bool, true, false, count_by}
 use Rattle.std.specs.List.{range_with_len}
 use Rattle.std.proofs.Common.{refl, arith}
 use Rattle.nand_model.specs.Flash.{Flash}
@@ -61,5 +61,5 @@ goes_on p n spare most was is = record {
   };
   marks = omega arith;
   limits = λ honest left. left;
-  truth = true_same p.device None None refl;
+  truth = true_same p.device p.checkpoint p.checkpoint refl;
 }

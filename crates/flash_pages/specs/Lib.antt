@@ -1,3 +1,4 @@
 pub mod ReadOnly
+pub mod Parts
 pub mod Sealing
 pub mod laws

@@ -1,5 +1,5 @@
 -- The pages of a device that is worn out, which are only read.
-use Rattle.std.specs.Prelude.{None, ◌≡◌, ◌<◌, ℕ, ◌+◌, Bool, true, not, ◌&&◌}
+use Rattle.std.specs.Prelude.{◌≡◌, ◌<◌, ℕ, ◌+◌, Bool, true, not, ◌&&◌}
 use Rattle.volume_terms.specs.Sizes.{number_end}
 use Rattle.nand_model.specs.Calls.{Device}
 use Rattle.flash_tree.specs.Newest.{Numbers, AreGreatest}
@@ -40,5 +40,5 @@ only_read p n spare most refused_change = record {
   next = next_after n;
   spare = spare;
   worn = true;
-  checkpoint = None;
+  checkpoint = p.checkpoint;
 }

@@ -19,11 +19,13 @@ pub enum FlashPages<N: Nand> {
 }
 
 impl<N: Nand> FlashPages<N> {
+    ghost use Rattle.flash_pages.specs.Parts.{device_in};
     ghost use Rattle.flash_pages.specs.Sealing.{IsDueOf};
 
     /// The device, as it is.
     pub fn into_device(self) -> N
-        ensures { N.state result ≡ (⟦<FlashPages<N> as Pages>⟧.state self).device }
+        ensures state { N.state result ≡ (⟦<FlashPages<N> as Pages>⟧.state self).device }
+        ensures device { result ≡ device_in self }
     {
         match self {
             FlashPages::Store(store) => store.into_device(),

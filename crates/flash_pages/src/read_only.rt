@@ -24,6 +24,8 @@ pub struct ReadOnlyPages<N: Nand> {
     spare: u32,
     // How many pages a change may have.
     most: u32,
+    // The block that may have a checkpoint.
+    checkpoint: Option<u32>,
     // Whether a change was refused, so that the pages are not what its caller meant any more.
     refused_change: bool,
     ghost worn: { IsWorn (N.state (device_of pages)) (numbers_of greatest) spare },
@@ -32,24 +34,27 @@ pub struct ReadOnlyPages<N: Nand> {
 }
 
 impl<N: Nand> ReadOnlyPages<N> {
-    /// These pages of a device whose greatest numbers these are, with so many blocks to spare. A change that is refused
-    /// has at most so many pages.
+    /// These pages of a device whose greatest numbers these are, with so many blocks to spare, and the block that may have a
+    /// checkpoint. A change that is refused has at most so many pages.
     pub fn new(
         pages: NewestPages<N>,
         greatest: TagNumbers,
         spare: u32,
         most: u32,
+        checkpoint: Option<u32>,
     ) -> ReadOnlyPages<N>
         requires worn { IsWorn (⟦<NewestPages<N> as Pages>⟧.state pages).device (numbers_of greatest) spare }
         requires numbers { HasGreatest (⟦<NewestPages<N> as Pages>⟧.state pages).device (numbers_of greatest) }
         requires carrying { IsCarrying (⟦<NewestPages<N> as Pages>⟧.state pages) }
-        ensures { ⟦<ReadOnlyPages<N> as Pages>⟧.state result ≡ only_read (⟦<NewestPages<N> as Pages>⟧.state pages) (numbers_of greatest) spare most false }
+        ensures pages { result.pages ≡ pages }
+        ensures state { ⟦<ReadOnlyPages<N> as Pages>⟧.state result ≡ only_read (record (⟦<NewestPages<N> as Pages>⟧.state pages) { checkpoint = checkpoint }) (numbers_of greatest) spare most false }
     {
         ReadOnlyPages {
             pages,
             greatest,
             spare,
             most,
+            checkpoint,
             refused_change: false,
         }
     }
@@ -67,7 +72,7 @@ impl<N: Nand> ReadOnlyPages<N> {
 
     /// The device, as it is.
     pub fn into_device(self) -> N
-        ensures { N.state result ≡ (⟦<ReadOnlyPages<N> as Pages>⟧.state self).device }
+        ensures { result ≡ device_of self.pages }
     {
         let (device, _index) = self.pages.into_parts();
         device
@@ -75,7 +80,7 @@ impl<N: Nand> ReadOnlyPages<N> {
 }
 
 impl<N: Nand> Pages for ReadOnlyPages<N> {
-    ghost state = { λ s. only_read (⟦<NewestPages<N> as Pages>⟧.state s.pages) (numbers_of s.greatest) s.spare s.most s.refused_change };
+    ghost state = { λ s. only_read (record (⟦<NewestPages<N> as Pages>⟧.state s.pages) { checkpoint = s.checkpoint }) (numbers_of s.greatest) s.spare s.most s.refused_change };
 
     ghost sized = { λ s. ((⟦<NewestPages<N> as Pages>⟧.state s.pages).device.geometry.least_bytes, (⟦<NewestPages<N> as Pages>⟧.state s.pages).device.geometry.most_bytes) };
 

@@ -38,7 +38,8 @@ abbrev pub KeysLaw : Type 0
 KeysLaw = (z : Sizes) (m : PageMap) (tree : Tree) → z.page_bytes ≡ page_size tree → TellsHeads z (has m) tree
     → (o c : ℕ) → (keeps_key tree o c ≡ true) ↔ IsLookedUp z (has m) (objects_listed tree) o c
 
-is_size : (g : Geometry) (spare : ℕ) → IsPageSize (sizes_of g spare).page_bytes
+-- a page of a device is large enough for a header
+pub is_size : (g : Geometry) (spare : ℕ) → IsPageSize (sizes_of g spare).page_bytes
 is_size g spare = record { least = let low = g.least_bytes in omega (arith, low); most = g.most_bytes }
 
 module _ (told : Bool) (noted : Option ℕ) (a b : Device) (t u : Table) (x y : Index) (n : Numbers) (spare : ℕ) (tree : Tree) (names : NameIndex) (reads : OnlyReads a b)

@@ -7,6 +7,7 @@ pub mod Parting
 pub mod Shown
 pub mod Standing
 pub mod Entering
+pub mod Noting
 pub mod PagesMade
 pub mod Giving
 pub mod Reasons

@@ -140,8 +140,9 @@ module _ (keeps : ℕ → ℕ → Bool) (d : Device) (t : Table) (x : Index) (n 
     }
 
     -- the pages of a device that is only read
-    pub worn_pages : (e : Device) (y : Index) (page : List ℕ) → e ≡ d → y ≡ x → ArePagesOn d x n spare (only_read (seen e y page) n spare (d.geometry.pages / 4) false)
-    worn_pages e y page device index = record {
+    pub worn_pages : (e : Device) (y : Index) (page : List ℕ) (at : Option ℕ) → e ≡ d → y ≡ x
+        → ArePagesOn d x n spare (only_read (record (seen e y page) { checkpoint = at }) n spare (d.geometry.pages / 4) false)
+    worn_pages e y page at device index = record {
       device_is = device;
       spare_is = refl;
       page_bytes = ap (λ (k : Device). k.geometry.bytes) device;
@@ -150,7 +151,7 @@ module _ (keeps : ℕ → ℕ → Bool) (d : Device) (t : Table) (x : Index) (n 
       sound = λ honest. ap (λ (k : Device). k.honest && true) device ∙ ap (λ h. h && true) honest;
       present = λ honest o c. there honest o c;
       kept = λ honest. record {
-        carried = λ is. carried_as (only_read (seen e y page) n spare (d.geometry.pages / 4) false) d spare (kept_data x d.flash) device refl (worn_carried honest);
+        carried = λ is. carried_as (only_read (record (seen e y page) { checkpoint = at }) n spare (d.geometry.pages / 4) false) d spare (kept_data x d.flash) device refl (worn_carried honest);
         kept = λ sound o c. there honest o c;
       };
     } where

@@ -2,6 +2,8 @@
 use Rattle.std.specs.Prelude.{◌≡◌, true, false}
 use Rattle.nand_model.specs.Calls.{Device}
 use Rattle.flash_tree.specs.Mount.{Answers, NotAVolume, IsWrong, IsNewer, IsDamaged}
+use Rattle.mount_scan.specs.declared.fault.ScanFault.{ScanFault}
+use Rattle.mount_scan.specs.declared.fault.ScanFault.TheVariants as scans
 use Rattle.newest_pages.specs.declared.opening.OpenFault.{OpenFault}
 use Rattle.newest_pages.specs.declared.opening.OpenFault.TheVariants as opens
 use Rattle.tree_walk.specs.declared.fault.RootFault.{RootFault}
@@ -28,6 +30,11 @@ abbrev pub of_open : OpenFault → MountFault
 of_open opens.NoMemory = faults.NoMemory
 of_open opens.Lost = faults.Damaged
 of_open opens.Gone = faults.Gone
+
+-- a fault of the search for a checkpoint, as one of a mount
+abbrev pub of_search : ScanFault → MountFault
+of_search scans.NoMemory = faults.NoMemory
+of_search scans.Gone = faults.Gone
 
 -- a fault of a tree that was not read, as one of a mount
 abbrev pub of_root : RootFault → MountFault

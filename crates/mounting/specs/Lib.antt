@@ -5,5 +5,6 @@ pub mod Trees
 pub mod Faults
 pub mod Mounted
 pub mod Named
+pub mod Going
 pub mod Made
 pub mod laws

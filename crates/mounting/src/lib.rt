@@ -1,8 +1,10 @@
 //! The mount of a device: its newest pages, the tree that they show, and whether a volume can go on with it.
 #![tactic(auto)]
 
+mod checked;
 mod entries;
 mod fault;
+mod going;
 mod going_on;
 mod keys;
 mod making;
@@ -18,6 +20,7 @@ mod tagged;
 mod tree;
 mod tree_on;
 
+pub use checked::mount_checked;
 pub use fault::MountFault;
 pub use mounted::{Mounted, mount};
 pub use naming::unmounted;

@@ -2,7 +2,9 @@
 ghost use Rattle.std.specs.Prelude.{◌≡◌, true, false, IfOk, IfErr};
 ghost use Rattle.flash_tree.specs.Places.{numbers_of};
 ghost use Rattle.block_state.specs.TableOf.{table};
+ghost use Rattle.flash_pages.specs.Parts.{device_in};
 ghost use Rattle.flash_pages.specs.ReadOnly.{IsWorn};
+ghost use Rattle.newest_pages.specs.Parts.{device_of};
 ghost use Rattle.bad_blocks.specs.Standing.{KeepsOrdinary};
 ghost use Rattle.mounting.specs.Made.{ArePagesOn, CanBeWritten};
 ghost use Rattle.mounting.specs.Marked.{AreFitting};
@@ -43,7 +45,9 @@ fn store_pages<N: Nand>(
     requires can { CanBeWritten (N.state on.device) (numbers_of on.numbers) on.spare }
     ensures made { IfOk result (λ store. ArePagesOn (N.state on.device) on.index (numbers_of on.numbers) on.spare (⟦<Store<N> as Pages>⟧.state store)) }
     ensures worn { IfOk result (λ store. (⟦<Store<N> as Pages>⟧.state store).worn ≡ false) }
-    ensures given_back { IfErr result (λ back. N.state back.0 ≡ N.state on.device) }
+    ensures device { IfOk result (λ store. store.device ≡ on.device) }
+    ensures checkpoint { IfOk result (λ store. (⟦<Store<N> as Pages>⟧.state store).checkpoint ≡ (table on.blocks).checkpoint) }
+    ensures given_back { IfErr result (λ back. back.0 ≡ on.device) }
 {
     the_counts_are_of_the_keys();
     let TreeOn {
@@ -65,19 +69,23 @@ fn read_pages<N: Nand>(alloc: Global, on: TreeOn<N>) -> Result<ReadOnlyPages<N>,
     requires worn { IsWorn (N.state on.device) (numbers_of on.numbers) on.spare }
     ensures made { IfOk result (λ pages. ArePagesOn (N.state on.device) on.index (numbers_of on.numbers) on.spare (⟦<ReadOnlyPages<N> as Pages>⟧.state pages)) }
     ensures worn { IfOk result (λ pages. (⟦<ReadOnlyPages<N> as Pages>⟧.state pages).worn ≡ true) }
-    ensures given_back { IfErr result (λ back. N.state back.0 ≡ N.state on.device) }
+    ensures device { IfOk result (λ pages. device_of pages.pages ≡ on.device) }
+    ensures checkpoint { IfOk result (λ pages. (⟦<ReadOnlyPages<N> as Pages>⟧.state pages).checkpoint ≡ (table on.blocks).checkpoint) }
+    ensures given_back { IfErr result (λ back. back.0 ≡ on.device) }
 {
     the_opened_pages_are_the_newest();
     let TreeOn {
         device,
+        blocks,
         index,
         numbers,
         spare,
         ..
     } = on;
+    let checkpoint = blocks.checkpoint();
     let most = device.geometry().pages() / BUFFERS_IN_BLOCK;
     let pages = NewestPages::new(alloc, device, index)?;
-    Ok(ReadOnlyPages::new(pages, numbers, u32::from(spare), most))
+    Ok(ReadOnlyPages::new(pages, numbers, u32::from(spare), most, checkpoint))
 }
 
 /// The pages of a device, which are only read where it is worn. Where memory is refused the device is given back.
@@ -95,7 +103,9 @@ pub(crate) fn make_pages<N: Nand>(
     requires can { worn ≡ false → CanBeWritten (N.state on.device) (numbers_of on.numbers) on.spare }
     ensures made { IfOk result (λ pages. ArePagesOn (N.state on.device) on.index (numbers_of on.numbers) on.spare (⟦<FlashPages<N> as Pages>⟧.state pages)) }
     ensures worn { IfOk result (λ pages. (⟦<FlashPages<N> as Pages>⟧.state pages).worn ≡ worn) }
-    ensures given_back { IfErr result (λ back. N.state back.0 ≡ N.state on.device) }
+    ensures device { IfOk result (λ pages. device_in pages ≡ on.device) }
+    ensures checkpoint { IfOk result (λ pages. (⟦<FlashPages<N> as Pages>⟧.state pages).checkpoint ≡ (table on.blocks).checkpoint) }
+    ensures given_back { IfErr result (λ back. back.0 ≡ on.device) }
 {
     if worn {
         let pages = read_pages(alloc, on)?;

@@ -2,15 +2,17 @@
 ghost use Rattle.std.specs.Prelude.{◌≡◌, ◌↔◌, true, false, IfOk, IfErr};
 ghost use Rattle.nand_model.specs.Changes.{OnlyReads};
 ghost use Rattle.posix_profile.specs.State.{Objects};
+ghost use Rattle.block_state.specs.TableOf.{table};
+ghost use Rattle.flash_pages.specs.Parts.{device_in};
 ghost use Rattle.mounting.specs.Faults.{WhyNotMounted};
+ghost use Rattle.mounting.specs.Going.{IsGoing};
 ghost use Rattle.mounting.specs.Made.{CanOnlyBeRead, AreNext, HasSizes, IsMountedWith};
 
 use crate::fault::MountFault;
-use crate::going_on::go_on;
 use crate::making::{is_worn, make_pages};
 use crate::naming::unmounted;
-use crate::scanned::open_tree;
-use crate::tree_on::NamedTree;
+use crate::scanned::scan_going;
+use crate::tree_on::{Going, NamedTree};
 use flash_pages::FlashPages;
 use mount_answers::{a_volume_has_sizes, the_footprint_holds_the_tree};
 use name_index::NameIndex;
@@ -28,6 +30,47 @@ pub struct Mounted<N: Nand> {
     pub table: ObjectTable,
     pub names: NameIndex,
     pub read_only: bool,
+}
+
+/// The pages of a volume that goes on, the table of its objects and the hashes of their names. Where memory is refused the device
+/// is given back.
+pub(crate) fn make_mounted<N: Nand>(
+    alloc: Global,
+    going: Going<N>,
+    capacity: NonZeroUsize,
+) -> Result<Mounted<N>, N>
+    requires { IsGoing (N.state going.named.on.device) going }
+    ensures device { IfOk result (λ mounted. (⟦<FlashPages<N> as Pages>⟧.state mounted.pages).device ≡ N.state going.named.on.device) }
+    ensures same { IfOk result (λ mounted. device_in mounted.pages ≡ going.named.on.device) }
+    ensures checkpoint { IfOk result (λ mounted. (⟦<FlashPages<N> as Pages>⟧.state mounted.pages).checkpoint ≡ (table going.named.on.blocks).checkpoint) }
+    ensures sizes { IfOk result (λ mounted. HasSizes (⟦<FlashPages<N> as Pages>⟧.state mounted.pages) mounted.table) }
+    ensures worn { IfOk result (λ mounted. (⟦<FlashPages<N> as Pages>⟧.state mounted.pages).worn ≡ mounted.read_only) }
+    ensures read_only { IfOk result (λ mounted. (mounted.read_only ≡ true) ↔ CanOnlyBeRead (⟦<FlashPages<N> as Pages>⟧.state mounted.pages)) }
+    ensures next { (N.state going.named.on.device).honest ≡ true
+        → IfOk result (λ mounted. AreNext (⟦<FlashPages<N> as Pages>⟧.state mounted.pages).device.flash (⟦<FlashPages<N> as Pages>⟧.state mounted.pages).next) }
+    ensures tree { (N.state going.named.on.device).honest ≡ true
+        → IfOk result (λ mounted. (objects : Objects) × IsMountedWith (⟦<FlashPages<N> as Pages>⟧.state mounted.pages) mounted.table mounted.names objects) }
+    ensures back { IfErr result (λ device. device ≡ going.named.on.device) }
+{
+    a_volume_has_sizes();
+    the_footprint_holds_the_tree();
+    the_names_of_a_tree_are_those_of_its_objects();
+    let Going { named, sizes } = going;
+    let NamedTree { on, names } = named;
+    let table = match table(alloc, &on.tree, sizes) {
+        Ok(table) => table,
+        Err(_) => return Err(on.device),
+    };
+    let read_only = is_worn(&on);
+    match make_pages(alloc, on, capacity, read_only) {
+        Ok(pages) => Ok(Mounted {
+            pages,
+            table,
+            names,
+            read_only,
+        }),
+        Err((device, _)) => Err(device),
+    }
 }
 
 /// Mounts a device, which is only read, with a cache of at most so many pages. After a fault it is given back: where that is
@@ -48,27 +91,9 @@ pub fn mount<N: Nand>(
     ensures back { IfErr result (λ failed. OnlyReads (N.state device) (N.state failed.0)) }
     ensures fault { IfErr result (λ failed. WhyNotMounted (N.state failed.0) failed.1) }
 {
-    a_volume_has_sizes();
-    the_footprint_holds_the_tree();
-    the_names_of_a_tree_are_those_of_its_objects();
-    let named = open_tree(alloc, device)?;
-    let NamedTree { on, names } = named;
-    let sizes = match go_on(&on) {
-        Some(sizes) => sizes,
-        None => return Err(unmounted(on.device, MountFault::Damaged)),
-    };
-    let table = match table(alloc, &on.tree, sizes) {
-        Ok(table) => table,
-        Err(_) => return Err(unmounted(on.device, MountFault::NoMemory)),
-    };
-    let read_only = is_worn(&on);
-    match make_pages(alloc, on, capacity, read_only) {
-        Ok(pages) => Ok(Mounted {
-            pages,
-            table,
-            names,
-            read_only,
-        }),
-        Err((device, _)) => Err(unmounted(device, MountFault::NoMemory)),
+    let going = scan_going(alloc, device)?;
+    match make_mounted(alloc, going, capacity) {
+        Ok(mounted) => Ok(mounted),
+        Err(device) => Err(unmounted(device, MountFault::NoMemory)),
     }
 }

@@ -1,13 +1,24 @@
 // Why a device was not scanned, or its tree not read, as a reason why it is not mounted.
 ghost use Rattle.std.specs.Prelude.{◌≡◌, false};
 ghost use Rattle.nand_model.specs.Changes.{OnlyReads};
-ghost use Rattle.mounting.specs.Faults.{IsReason, WhyNotMounted, of_open, of_root};
+ghost use Rattle.mounting.specs.Faults.{IsReason, WhyNotMounted, of_open, of_root, of_search};
 
 use crate::fault::MountFault;
+use mount_scan::ScanFault;
 use nand_model::Nand;
 use newest_pages::OpenFault;
 use pages::has_power;
 use tree_walk::RootFault;
+
+/// A fault of the search for a checkpoint in the words of a mount.
+pub(crate) fn search_fault(fault: ScanFault) -> MountFault
+    ensures { result ≡ of_search fault }
+{
+    match fault {
+        ScanFault::NoMemory => MountFault::NoMemory,
+        ScanFault::Gone => MountFault::Gone,
+    }
+}
 
 /// A fault of a scan in the words of a mount. A page that was not given back is damage.
 pub(crate) fn scan_fault(fault: OpenFault) -> MountFault

@@ -4,19 +4,22 @@ ghost use Rattle.nand_model.specs.Changes.{OnlyReads};
 ghost use Rattle.flash_tree.specs.Places.{numbers_of};
 ghost use Rattle.block_state.specs.TableOf.{table};
 ghost use Rattle.mounting.specs.Faults.{WhyNotMounted};
+ghost use Rattle.mounting.specs.Going.{IsGoing};
 ghost use Rattle.mounting.specs.Mounted.{IsTreeRead, CoversNewest};
 
 use crate::fault::MountFault;
+use crate::going_on::go_on;
+use crate::naming::unmounted;
 use crate::prune::prune;
 use crate::reading::read_tree;
 use crate::scanning::scan;
-use crate::tree_on::{NamedTree, TreeOn};
+use crate::tree_on::{Going, NamedTree, TreeOn};
 use nand_model::Nand;
 use newest_pages::{Opened, the_opened_pages_are_the_newest};
 use std::alloc::Global;
 
 /// Scans a device and goes through its tree, whose pages alone are kept then.
-pub(crate) fn open_tree<N: Nand>(alloc: Global, device: N) -> Result<NamedTree<N>, (N, MountFault)>
+fn open_tree<N: Nand>(alloc: Global, device: N) -> Result<NamedTree<N>, (N, MountFault)>
     ensures reads { IfOk result (λ named. OnlyReads (N.state device) (N.state named.on.device)) }
     ensures power { (N.state device).gone ≡ false → IfOk result (λ named. (N.state named.on.device).gone ≡ false) }
     ensures read { IfOk result (λ named. IsTreeRead (N.state named.on.device) (table named.on.blocks) named.on.index (numbers_of named.on.numbers)
@@ -48,4 +51,19 @@ pub(crate) fn open_tree<N: Nand>(alloc: Global, device: N) -> Result<NamedTree<N
         on,
         names: found.names,
     })
+}
+
+/// Scans a device for the tree with which a volume goes on.
+pub(crate) fn scan_going<N: Nand>(alloc: Global, device: N) -> Result<Going<N>, (N, MountFault)>
+    ensures reads { IfOk result (λ going. OnlyReads (N.state device) (N.state going.named.on.device)) }
+    ensures power { (N.state device).gone ≡ false → IfOk result (λ going. (N.state going.named.on.device).gone ≡ false) }
+    ensures going { IfOk result (λ going. IsGoing (N.state going.named.on.device) going) }
+    ensures back { IfErr result (λ failed. OnlyReads (N.state device) (N.state failed.0)) }
+    ensures fault { IfErr result (λ failed. WhyNotMounted (N.state failed.0) failed.1) }
+{
+    let named = open_tree(alloc, device)?;
+    match go_on(&named.on) {
+        Some(sizes) => Ok(Going { named, sizes }),
+        None => Err(unmounted(named.on.device, MountFault::Damaged)),
+    }
 }

@@ -6,6 +6,7 @@ use flash_tree::TagNumbers;
 use name_index::NameIndex;
 use nand_model::Nand;
 use tree_walk::Tree;
+use volume_terms::VolumeSizes;
 
 /// A device whose tree was gone through: the tables of the tree's pages, the greatest numbers, how many blocks are to spare,
 /// and the tree.
@@ -24,4 +25,11 @@ pub(crate) struct TreeOn<N: Nand> {
 pub(crate) struct NamedTree<N: Nand> {
     pub(crate) on: TreeOn<N>,
     pub(crate) names: NameIndex,
+}
+
+/// A tree with which a volume can go on, and the sizes of the volume.
+#[derive(Drop)]
+pub(crate) struct Going<N: Nand> {
+    pub(crate) named: NamedTree<N>,
+    pub(crate) sizes: VolumeSizes,
 }

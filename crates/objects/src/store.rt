@@ -125,14 +125,14 @@ impl<N: Nand> Store<N> {
         requires few { bad_count (table blocks) ≤ spare }
         requires free { HasFreeBlocks (table blocks) spare }
         requires none { IsUnbuffered index }
-        ensures device { IfOk result (λ store. N.state store.device ≡ N.state device) }
+        ensures device { IfOk result (λ store. store.device ≡ device) }
         ensures blocks { IfOk result (λ store. (table store.blocks ≡ table blocks) × (store.spare ≡ spare)) }
         ensures whole { IfOk result (λ store. store.broken ≡ false) }
         ensures most { IfOk result (λ store. most_pages store.buffer ≡ (N.state device).geometry.pages / 4) }
         ensures capacity { IfOk result (λ store. capacity_of store.cache ≡ non_zero_usize_get capacity) }
         ensures kept { (o c : ℕ) → IfOk result (λ store. kept_map (N.state store.device) store.index o c ≡ kept_map (N.state device) index o c) }
         ensures pages { (o c : ℕ) → IfOk result (λ store. present_data store.index (buffered store.buffer) (N.state device).flash o c ≡ present_data index [] (N.state device).flash o c) }
-        ensures given_back { IfErr result (λ back. N.state back.0 ≡ N.state device) }
+        ensures given_back { IfErr result (λ back. back.0 ≡ device) }
     {
         match make_rooms(alloc, device.geometry(), capacity) {
             Ok(
@@ -161,7 +161,7 @@ impl<N: Nand> Store<N> {
 
     /// The device, as it is.
     pub fn into_device(self) -> N
-        ensures { N.state result ≡ N.state self.device }
+        ensures { result ≡ self.device }
     {
         self.device
     }

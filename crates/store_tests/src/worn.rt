@@ -55,7 +55,7 @@ fn read_only(alloc: Global, mut nand: MemNand) -> Result<ReadOnlyPages<MemNand>,
         return Err("numbers are left".into());
     }
     match NewestPages::new(alloc, nand, opened.index) {
-        Ok(pages) => Ok(ReadOnlyPages::new(pages, numbers, 1, 8)),
+        Ok(pages) => Ok(ReadOnlyPages::new(pages, numbers, 1, 8, None)),
         Err((_nand, refused)) => Err(refused.into()),
     }
 }

@@ -23,8 +23,9 @@ returns-clause-made g c =
     let p = c.in_ok-pages.pages in
     let spare : on.spare ≡ c.from.result = search rules in
     let most : d.geometry.pages / 4 ≡ c.pages-most.result / 4 = search rules in
-    let page = seen (g.N.Nand.state p.device) p.index p.page.items in
-    subst (λ (k : PagesState). ArePagesOn d on.index n on.spare k) (sym c.new-2.ensures)
+    let at = c.checkpoint-checkpoint.result in
+    let page = record (seen (g.N.Nand.state p.device) p.index p.page.items) { checkpoint = at } in
+    subst (λ (k : PagesState). ArePagesOn d on.index n on.spare k) (sym c.new-2.ensures.state)
     (subst (λ s. ArePagesOn d on.index n on.spare (only_read page n s (c.pages-most.result / 4) false)) spare
     (subst (λ m. ArePagesOn d on.index n on.spare (only_read page n on.spare m false)) most
-    (worn_pages (keeps_key on.tree) d (table on.blocks) on.index n on.spare c.requires.read.tables c.requires.worn (g.N.Nand.state p.device) p.index p.page.items (ap g.N.Nand.state c.in_ok-pages.ensures.device) c.in_ok-pages.ensures.index)))
+    (worn_pages (keeps_key on.tree) d (table on.blocks) on.index n on.spare c.requires.read.tables c.requires.worn (g.N.Nand.state p.device) p.index p.page.items at (ap g.N.Nand.state c.in_ok-pages.ensures.device) c.in_ok-pages.ensures.index)))

@@ -1,55 +1,16 @@
-use Rattle.std.proofs.Common.{◌≡◌, true, ◌∙◌, subst}
+use Rattle.std.proofs.Common.{◌∙◌, ap, subst}
 use Rattle.nand_model.specs.Calls.{Device}
 use Rattle.nand_model.specs.Changes.{OnlyReads}
 use Rattle.nand_model.specs.laws.Changes.{only_reads_on}
-use Rattle.flash_tree.specs.Places.{numbers_of}
-use Rattle.volume_terms.specs.VolumeSizes as volume
-use Rattle.flash_tree.specs.Mount.{sizes_of}
-use Rattle.mounting.proofs.Standing.{ordinary_shown}
-use Rattle.mounting.proofs.Giving.{ShownLaws, only_read_where, are_next, mounted_with}
 use Rattle.mounting.proofs.mounted.mount.Goals as goal
 
-pub returns-in-Ok-make_pages-clause-read_only : goal.returns-in-Ok-make_pages-clause-read_only
-returns-in-Ok-make_pages-clause-read_only g c =
-    let on = c.in_ok-named.named.on in
-    only_read_where (g.N.Nand.state on.device) on.index (numbers_of on.numbers) on.spare _ c.in-Ok-make_pages.ensures.made _ c.is_worn-read_only.ensures.worn c.is_worn-read_only.ensures.left
+pub returns-in-Ok-clause-next : goal.returns-in-Ok-clause-next
+returns-in-Ok-clause-next g c = λ honest. c.in-Ok.ensures.next (c.in_ok-going.ensures.reads.lasts.honest ∙ honest)
 
-pub returns-in-Ok-make_pages-clause-next : goal.returns-in-Ok-make_pages-clause-next
-returns-in-Ok-make_pages-clause-next g c = λ honest.
-    let on = c.in_ok-named.named.on in
-    are_next (g.N.Nand.state on.device) on.index (numbers_of on.numbers) on.spare _ c.in-Ok-make_pages.ensures.made
-    (c.in_ok-named.ensures.read.tables.tables.numbers (c.in_ok-named.ensures.reads.lasts.honest ∙ honest))
-
-pub returns-in-Ok-make_pages-clause-tree : goal.returns-in-Ok-make_pages-clause-tree
-returns-in-Ok-make_pages-clause-tree g c = λ honest.
-    let on = c.in_ok-named.named.on in
-    let d = g.N.Nand.state on.device in
-    let is : d.honest ≡ true = c.in_ok-named.ensures.reads.lasts.honest ∙ honest in
-    let told = c.in-Some.ensures.tree is in
-    let laws : ShownLaws = record {
-      sizes = λ k m spare volume. c.a_volume_has_sizes.ensures k.geometry m spare volume;
-      forest = c.the_footprint_holds_the_tree.ensures.forest;
-      settled = c.the_footprint_holds_the_tree.ensures.settled;
-      names = c.the_names_of_a_tree_are_those_of_its_objects.ensures;
-    } in (
-      told.0,
-      mounted_with d on.index (numbers_of on.numbers) on.spare _ c.in-Ok-make_pages.ensures.made laws on.tree told.0 is told.1 told.2 c.in-Ok.table (volume.sizes_of c.in-Some.sizes)
-          c.in-Some.ensures.sizes c.in-Ok.ensures.tells told.3 c.in_ok-named.named.names (c.in_ok-named.ensures.names honest) (c.in_ok-named.ensures.read.tables.tables.newest is),
-    )
-
-pub returns-in-Err-make_pages-clause-back : goal.returns-in-Err-make_pages-clause-back
-returns-in-Err-make_pages-clause-back g c =
-    let told = c.unmounted-in-Err-make_pages in
-    only_reads_on _ _ _ c.in_ok-named.ensures.reads (subst (λ (k : Device). OnlyReads k (g.N.Nand.state told.result.0)) c.in-Err-make_pages.ensures.given_back told.ensures.reads)
+pub returns-in-Ok-clause-tree : goal.returns-in-Ok-clause-tree
+returns-in-Ok-clause-tree g c = λ honest. c.in-Ok.ensures.tree (c.in_ok-going.ensures.reads.lasts.honest ∙ honest)
 
 pub returns-in-Err-clause-back : goal.returns-in-Err-clause-back
-returns-in-Err-clause-back g c = only_reads_on _ _ _ c.in_ok-named.ensures.reads c.unmounted-in-Err.ensures.reads
-
-pub make_pages-requires-clause-ordinary : goal.make_pages-requires-clause-ordinary
-make_pages-requires-clause-ordinary g c = λ honest.
-    let on = c.in_ok-named.named.on in
-    let d = g.N.Nand.state on.device in
-    let told = c.in-Some.ensures.tree honest in
-    let shown = told.2 in
-    ordinary_shown (sizes_of d.geometry on.spare) (sizes_of d.geometry on.spare) d.flash on.index told.0
-    (c.the_footprint_holds_the_tree.ensures.forest _ shown.on.pages told.0 shown.shows) shown.holds (c.in_ok-named.ensures.read.tables.tables.newest honest)
+returns-in-Err-clause-back g c =
+    only_reads_on _ _ _ c.in_ok-going.ensures.reads
+    (subst (λ (k : Device). OnlyReads k (g.N.Nand.state c.unmounted.result.0)) (ap g.N.Nand.state c.in-Err.ensures.back) c.unmounted.ensures.reads)

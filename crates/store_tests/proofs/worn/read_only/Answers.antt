@@ -1,3 +1,4 @@
+use Rattle.std.proofs.Common.{ap}
 use Rattle.nand_model.specs.MemoryState.{device}
 use Rattle.block_state.specs.TableOf.{table}
 use Rattle.flash_tree.specs.Places.{numbers_of}
@@ -10,5 +11,5 @@ new-requires-clause-written c = λ honest. c.the_opened_pages_are_the_newest.ens
 pub new-requires-in-Ok-clause-carrying : goal.new-requires-in-Ok-clause-carrying
 new-requires-in-Ok-clause-carrying c = λ honest.
     let opened = c.in_ok-opened.opened in
-    carries_newest (device c.open.new.device) (device c.in-Ok.pages.device) opened.index c.in-Ok.pages.index c.in-Ok.ensures.device c.in-Ok.ensures.index
+    carries_newest (device c.open.new.device) (device c.in-Ok.pages.device) opened.index c.in-Ok.pages.index (ap device c.in-Ok.ensures.device) c.in-Ok.ensures.index
     (c.the_opened_pages_are_the_newest.ensures.pages (device c.open.new.device) (table opened.blocks) opened.index (numbers_of opened.numbers) c.in_ok-opened.ensures.opened honest)

@@ -1,3 +1,4 @@
+use Rattle.std.proofs.Common.{ap}
 use Rattle.flash_tree.specs.Places.{numbers_of}
 use Rattle.newest_pages.specs.Newest.{seen}
 use Rattle.newest_pages.specs.Parts.{device_of, index_of, page_of}
@@ -10,5 +11,5 @@ seal-requires g c = record { exact = rw c.in-Store.is at c.requires.exact }
 pub returns-in-ReadOnly-clause-seals : goal.returns-in-ReadOnly-clause-seals
 returns-in-ReadOnly-clause-seals g c =
     let s = c.in-ReadOnly.pages in
-    let p = seen (g.N.Nand.state (device_of s.pages)) (index_of s.pages) (page_of s.pages) in
-    rw c.in-ReadOnly.is (sealed_reading p (numbers_of s.greatest) s.spare s.most s.refused_change (g.N.Nand.state c.into_device.result) s.worn s.numbers s.carrying c.into_device.ensures)
+    let p = record (seen (g.N.Nand.state (device_of s.pages)) (index_of s.pages) (page_of s.pages)) { checkpoint = s.checkpoint } in
+    rw c.in-ReadOnly.is (sealed_reading p (numbers_of s.greatest) s.spare s.most s.refused_change (g.N.Nand.state c.into_device.result) s.worn s.numbers s.carrying (ap g.N.Nand.state c.into_device.ensures))

@@ -7,9 +7,9 @@ use Rattle.flash_pages.proofs.read_only.ReadOnlyPagesPageStore.cut.Goals as goal
 pub returns-clause-kept : goal.returns-clause-kept
 returns-clause-kept g c = λ sound.
     let self = c.args.self.now in
-    keeps_all (seen (g.N.Nand.state self.pages.device) self.pages.index self.pages.page.items) (numbers_of self.greatest) self.spare self.most true self.worn self.numbers self.carrying
+    keeps_all (record (seen (g.N.Nand.state self.pages.device) self.pages.index self.pages.page.items) { checkpoint = self.checkpoint }) (numbers_of self.greatest) self.spare self.most true self.worn self.numbers self.carrying
 
 pub returns-clause-goes_on : goal.returns-clause-goes_on
 returns-clause-goes_on g c =
     let self = c.args.self.now in
-    goes_on (seen (g.N.Nand.state self.pages.device) self.pages.index self.pages.page.items) (numbers_of self.greatest) self.spare self.most self.refused_change true
+    goes_on (record (seen (g.N.Nand.state self.pages.device) self.pages.index self.pages.page.items) { checkpoint = self.checkpoint }) (numbers_of self.greatest) self.spare self.most self.refused_change true

@@ -1,15 +1,8 @@
 use Rattle.std.proofs.Common.{◌∙◌, sym}
-use Rattle.mounting.proofs.Lent.{fault_lent, not_absent_lent}
+use Rattle.mounting.proofs.Lent.{not_absent_lent}
 use Rattle.mounting.proofs.reader.LentPagesPages.find.Goals as goal
 
-pub returns-in-Some-clause-fault : goal.returns-in-Some-clause-fault
-returns-in-Some-clause-fault g c =
-    let self = c.args.self.now in
-    let new = c.read.new.self in
-    fault_lent self.trust.told new.trust.told (g.N.Nand.state self.device) (g.N.Nand.state new.device) self.index.now new.index.now new.page.items c.args.key.object c.args.key.chunk c.in-Some.at c.read.result
-    c.read.ensures.reads c.read.ensures.trust (sym c.kept.ensures ∙ c.in-Some.is) self.kept c.read.ensures.fault
-
-pub returns-in-Some-clause-absent : goal.returns-in-Some-clause-absent
-returns-in-Some-clause-absent g c = λ sound none.
+pub returns-else-eq-clause-absent : goal.returns-else-eq-clause-absent
+returns-else-eq-clause-absent g c = λ sound none.
     let self = c.args.self.now in
     absurd (not_absent_lent self.trust.told (g.N.Nand.state self.device) self.index.now c.args.key.object c.args.key.chunk c.in-Some.at (sym c.kept.ensures ∙ c.in-Some.is) self.kept sound none)

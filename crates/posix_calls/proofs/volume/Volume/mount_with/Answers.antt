@@ -11,5 +11,5 @@ returns-in-Ok-clause-tree g c = λ honest.
 
 pub returns-in-Err-clause-back : goal.returns-in-Err-clause-back
 returns-in-Err-clause-back g c =
-    let same = rw c.in-Err.ensures.given_back at c.into_device.ensures in
+    let same = rw c.in-Err.ensures.given_back at c.into_device.ensures.state in
     only_reads_on _ _ _ c.in_ok-pages.ensures.reads (subst (λ (k : Device). OnlyReads k (g.N.Nand.state c.unmounted.result.0)) same c.unmounted.ensures.reads)

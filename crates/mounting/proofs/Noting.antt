@@ -1,0 +1,308 @@
+-- The block that may have a checkpoint, noted after a scan.
+use Rattle.std.specs.Prelude.{◌≡◌, ◌≢◌, ◌↔◌, ◌<◌, ◌≤◌, ◌&&◌, ◌+◌, ◌*◌, ℕ, Bool, true, false, List, length, [], ◌∷◌, Option, Some, None, Contains, Result, Ok, Err, IfOk, IfErr}
+use Rattle.std.proofs.Common.{refl, sym, ◌∙◌, ap, subst, inl, inr, arith}
+use Rattle.std.proofs.lemmas.Bool.{cases_Bool}
+use Rattle.nand_model.specs.Flash.{Flash}
+use Rattle.nand_model.specs.Calls.{Device}
+use Rattle.nand_model.specs.Changes.{OnlyReads}
+use Rattle.nand_model.specs.declared.geometry.Geometry.{Geometry}
+use Rattle.nand_model.specs.laws.Changes.{only_reads_on}
+use Rattle.page_tags.specs.Headers.{Fields}
+use Rattle.page_tags.specs.declared.check.CheckEntry.{CheckEntry}
+use Rattle.posix_profile.specs.State.{Objects}
+use Rattle.flash_tree.specs.Checkpoints.{Checkpoint, IsWhole, IsRight, IsTrueFlash, IsChecked, StandsOnly}
+use Rattle.flash_tree.specs.Mount.{Wholly, GoesThrough, sizes_of, IsVolume}
+use Rattle.flash_tree.specs.Newest.{Spot, IsNewest, HasNewest, Numbers}
+use Rattle.flash_tree.specs.Tree.{Shows, InFootprint, IsSingle}
+use Rattle.flash_tree.specs.laws.Checking.{same_block}
+use Rattle.flash_tree.specs.laws.Finding.{same_header}
+use Rattle.flash_tree.specs.laws.Newest.{one_newest, one_spot}
+use Rattle.flash_tree.specs.laws.OneTree.{one_tree}
+use Rattle.flash_tree.specs.laws.Place.{same_flash}
+use Rattle.flash_tree.specs.laws.Tree.{footprint_law}
+use Rattle.block_state.specs.Table.{Table}
+use Rattle.chunk_index.specs.Kept.{HoldsNone}
+use Rattle.chunk_index.specs.Maps.{kept_pages, kept_in}
+use Rattle.chunk_index.specs.declared.form.KeptPage.{KeptPage}
+use Rattle.chunk_index.specs.declared.index.Index.{Index}
+use Rattle.bad_blocks.specs.Standing.{AreKept}
+use Rattle.newest_pages.specs.Checked.{HasTrueFlash}
+use Rattle.newest_pages.specs.Opened.{IsOpenedBy}
+use Rattle.pages.specs.Maps.{PageMap, has}
+use Rattle.trusted_nand.specs.Trusting.{trusted_as}
+use Rattle.volume_terms.specs.Rounding.{ceiling}
+use Rattle.volume_terms.specs.Sizes.{Sizes, root_number}
+use Rattle.mount_answers.specs.Footprints.{KeepsFootprint}
+use Rattle.mount_answers.specs.Newest.{IsNewestMap}
+use Rattle.checkpoint_reading.specs.Found.{HasForm, IsWholeOn, HasNoneWhole, TellsSeqs, AreFirstSeqs}
+use Rattle.mounting.specs.Going.{IsGoodOn, MayBeNoted, NotesFree}
+use Rattle.mounting.specs.Marked.{AreFitting}
+use Rattle.mounting.specs.Mounted.{IsTreeRead, IsTreeShown, HasRoomOn}
+use Rattle.mounting.specs.Named.{IsTrustedSince}
+use Rattle.mounting.specs.Tables.{IsPruned}
+use Rattle.tree_walk.specs.Trees.{IsLookedUp, keeps_key, objects_listed}
+use Rattle.tree_walk.specs.declared.tree.Tree.{Tree}
+use Rattle.mounting.proofs.Entering.{KeysLaw, is_size}
+
+-- a device that is trusted is as it is
+pub trusted_is : (d : Device) → trusted_as true d ≡ d
+trusted_is d = ap (λ h. record d { honest = h }) (both_true d.honest) where
+  both_true : (h : Bool) → (h && true) ≡ h
+  both_true true = refl
+  both_true false = refl
+
+-- ---- the tables with the block that is noted
+
+module _ (d : Device) (t : Table) (x : Index) (n : Numbers) (b : ℕ) (opened : IsOpenedBy t.checkpoint d t x n) (within : b < d.geometry.blocks) (good : d.flash.bad b ≡ false) (empty : (t.entry b).kept ≡ 0) where
+  abbrev u : Table
+  u = record t { checkpoint = Some b }
+
+  noted_opened : IsOpenedBy (Some b) d u x n
+  noted_opened = record {
+    counts = record { counts = opened.counts.counts; within = opened.counts.within };
+    geometry = opened.geometry;
+    good = opened.good;
+    closed = opened.closed;
+    noted = refl;
+    apart = λ c at. let same : b ≡ c = cc in subst (λ k. (t.entry k).kept ≡ 0) same empty;
+    shown = opened.shown;
+    unbuffered = opened.unbuffered;
+    within = opened.within;
+    newest = opened.newest;
+    numbers = opened.numbers;
+    ready = λ left.
+        let was = opened.ready left in
+        record {
+          geometry = was.geometry;
+          marks = was.marks;
+          open_block = λ o is. absurd (let two : None ≡ Some o = sym opened.closed ∙ is in cc);
+          waits = λ c at.
+              let same : b ≡ c = cc in
+              record { within = subst (λ k. k < d.geometry.blocks) same within; good = subst (λ k. d.flash.bad k ≡ false) same good; closed = opened.closed };
+          numbers = was.numbers;
+          below = was.below;
+        };
+    group = opened.group;
+    seq = opened.seq;
+    lie = λ left o c p is. let at = opened.lie left o c p is in record { block = at.block; page = at.page; name = at.name };
+  }
+
+-- a tree that was read stays read
+pub noted_read : (d : Device) (t u : Table) (x : Index) (n : Numbers) (spare : ℕ) (tree : Tree) (at : Option ℕ) → MayBeNoted d at → NotesFree at t u → IsTreeRead d t x n spare tree → IsTreeRead d u x n spare tree
+noted_read d t u x n spare tree at may notes read = elim notes.is [
+  | inl same ↦ subst (λ (k : Table). IsTreeRead d k x n spare tree) (sym same) read
+  | inr (b, is, empty, noted) ↦
+      let v : u ≡ record t { checkpoint = Some b } = noted ∙ ap (λ k. record t { checkpoint = k }) is in
+      let good = may.good b is in
+      subst (λ (k : Table). IsTreeRead d k x n spare tree) (sym v) (record {
+        tables = record { tables = noted_opened d t x n b read.tables.tables good.0 good.1 empty; all = read.tables.all; others = read.tables.others };
+        tree_on = read.tree_on;
+      })
+]
+
+-- ---- on a true flash the pages of the tree lie apart from a whole checkpoint
+
+-- the spare blocks of a volume are one number
+one_spare : (g : Geometry) (m : ℕ → ℕ → List ℕ → Type 0) → IsSingle m → (s t : ℕ) → IsVolume g m s → IsVolume g m t → s ≡ t
+one_spare g m single s t v w =
+    let same : v.fields ≡ w.fields = same_header (sizes_of g s) (is_size g s) m single _ v.fields w.fields v.has w.has in
+    sym v.spare_is ∙ ap (λ (f : Fields). f.spare) same ∙ w.spare_is
+
+module _ (g : Geometry) (flash : Flash) (c : Checkpoint) (right : IsRight g flash c) (m : PageMap) (newest : IsNewestMap flash m) (spare : ℕ) (objects : Objects) (volume : IsVolume g (has m) spare)
+    (shows : Shows (sizes_of g spare) (has m) objects) where
+  abbrev z : Sizes
+  z = sizes_of g spare
+
+  abbrev n : ℕ → ℕ → List ℕ → Type 0
+  n = HasNewest flash
+
+  single : IsSingle n
+  single = one_newest flash
+
+  volume_is : IsVolume g n spare
+  volume_is = record { fields = volume.fields; has = ((newest _ 0 _).0 volume.has.0, volume.has.1); kind = volume.kind; spare_is = volume.spare_is; room = volume.room }
+
+  shows_is : Shows z n objects
+  shows_is = footprint_law z (has m) n objects (λ o k bytes foot at. (newest o k bytes).0 at) shows
+
+  spare_is : right.tree.spare ≡ spare
+  spare_is = one_spare g n single right.tree.spare spare right.tree.volume volume_is
+
+  objects_are : right.tree.objects ≡ objects
+  objects_are =
+      let size = is_size g spare in
+      one_tree z size.most n single right.tree.objects objects (subst (λ s. Shows (sizes_of g s) n right.tree.objects) spare_is right.tree.shows) shows_is
+
+  -- the newest page of a key that is looked up lies in another block
+  pub lies_apart : (o k : ℕ) (s : Spot) → InFootprint z (has m) objects o k → IsNewest flash o k s → s.block ≢ c.block
+  lies_apart o k s foot at same =
+      let here : InFootprint z n objects o k = record { object = foot.object; there = foot.there; fields = foot.fields; has = ((newest o 0 _).0 foot.has.0, foot.has.1); looks = foot.looks } in
+      let there : InFootprint (sizes_of g right.tree.spare) n right.tree.objects o k =
+      subst (λ q. InFootprint (sizes_of g q) n right.tree.objects o k) (sym spare_is) (subst (λ (q : Objects). InFootprint z n q o k) (sym objects_are) here) in
+      let (e, listed, object, chunk) = right.tree.all o k there in
+      let (r, last, told) = (right.tree.only e listed).1 in
+      let key : IsNewest flash o k r = subst (λ j. IsNewest flash o j r) chunk (subst (λ j. IsNewest flash j e.chunk r) object last) in
+      let spot : r ≡ s = one_spot flash o k r s key at in
+      right.apart e listed (ap (λ (f : CheckEntry). f.block) told ∙ ap (λ (q : Spot). q.block) spot ∙ same)
+
+-- so the checkpoint's block holds no kept page of the tree
+pub holds_none : (flash : Flash) (x : Index) (keeps : ℕ → ℕ → Bool) (b : ℕ) → AreKept flash (kept_pages x) → ((o k : ℕ) → keeps o k ≡ false → kept_pages x o k ≡ None)
+    → ((o k : ℕ) (s : Spot) → keeps o k ≡ true → IsNewest flash o k s → s.block ≢ b) → HoldsNone (kept_pages x) b
+holds_none flash x keeps b kept others apart o k p is = elim (cases_Bool (keeps o k)) [
+  | inr goes ↦ let two : None ≡ Some p = sym (others o k goes) ∙ is in absurd cc
+  | inl stays ↦ let at = kept o k p is in apart o k (record { block = p.block; page = p.page; tag = at.tag }) stays at.newest
+]
+
+-- what is noted then is what may have one
+pub noted_checked : (g : Geometry) (flash : Flash) (at : Option ℕ) (t u : Table) → IsTrueFlash g flash → StandsOnly g flash at → NotesFree at t u
+    → ((b : ℕ) → flash.bad b ≡ false → (t.entry b).bad ≡ false) → ((c : Checkpoint) → IsWhole g flash c → (t.entry c.block).kept ≡ 0) → IsChecked g flash u.checkpoint
+noted_checked g flash at t u true_flash only notes good empty = record {
+  right = true_flash;
+  only = λ c whole.
+      let is = only c whole in
+      let noted = notes.free c.block is (good c.block whole.good) (empty c whole) in
+      ap (λ (k : Table). k.checkpoint) noted ∙ is;
+}
+
+-- ---- devices that were only read since
+
+pub true_after : (a b : Device) → OnlyReads a b → HasTrueFlash a → HasTrueFlash b
+true_after a b reads (honest, is) = (
+  reads.lasts.honest ∙ honest,
+  subst (λ (g : Geometry). IsTrueFlash g b.flash) (sym reads.lasts.geometry) (subst (λ (f : Flash). IsTrueFlash a.geometry f) (sym (same_flash a b reads honest)) is),
+)
+
+pub true_before : (a b : Device) → OnlyReads a b → HasTrueFlash b → HasTrueFlash a
+true_before a b reads (honest, is) =
+    let was : a.honest ≡ true = sym reads.lasts.honest ∙ honest in
+    (was, subst (λ (g : Geometry). IsTrueFlash g a.flash) reads.lasts.geometry (subst (λ (f : Flash). IsTrueFlash b.geometry f) (same_flash a b reads was) is))
+
+pub checked_before : (a b : Device) (at : Option ℕ) → OnlyReads a b → (HasTrueFlash b → IsChecked b.geometry b.flash at) → HasTrueFlash a → IsChecked a.geometry a.flash at
+checked_before a b at reads checked is =
+    subst (λ (g : Geometry). IsChecked g a.flash at) reads.lasts.geometry
+    (subst (λ (f : Flash). IsChecked b.geometry f at) (same_flash a b reads is.0) (checked (true_after a b reads is)))
+
+-- the block may be noted still
+pub may_after : (a b : Device) (at : Option ℕ) → OnlyReads a b → MayBeNoted a at → MayBeNoted b at
+may_after a b at reads may = record {
+  good = λ k is.
+      let was = may.good k is in
+      (subst (λ (g : Geometry). k < g.blocks) (sym reads.lasts.geometry) was.0, ap (λ (bad : ℕ → Bool). bad k) reads.bad ∙ was.1);
+  only = λ is.
+      let was = true_before a b reads is in
+      subst (λ (g : Geometry). StandsOnly g b.flash at) (sym reads.lasts.geometry) (subst (λ (f : Flash). StandsOnly a.geometry f at) (sym (same_flash a b reads was.0)) (may.only was));
+}
+
+-- ---- a volume that goes on after a scan
+
+pub fitting_noted : (at : Option ℕ) (t u : Table) → NotesFree at t u → AreFitting t → AreFitting u
+fitting_noted at t u notes fits = elim notes.is [
+  | inl same ↦ subst AreFitting (sym same) fits
+  | inr (b, is, empty, noted) ↦ subst AreFitting (sym noted) fits
+]
+
+pub room_noted : (d : Device) (spare : ℕ) (at : Option ℕ) (t u : Table) → NotesFree at t u → HasRoomOn d t spare → HasRoomOn d u spare
+room_noted d spare at t u notes room = elim notes.is [
+  | inl same ↦ subst (λ (k : Table). HasRoomOn d k spare) (sym same) room
+  | inr (b, is, empty, noted) ↦ subst (λ (k : Table). HasRoomOn d k spare) (sym noted) room
+]
+
+-- what is known of the keys that a tree looks up
+abbrev pub TestLaw : Type 0
+TestLaw = (z : Sizes) (m : PageMap) (objects : Objects) (list : List ℕ) (keeps : ℕ → ℕ → Bool) → 32 ≤ z.page_bytes → z.page_bytes ≤ 4096 → Shows z (has m) objects
+    → GoesThrough z (has m) (root_number ∷ []) 0 (Wholly list) → ((o c : ℕ) → (keeps o c ≡ true) ↔ IsLookedUp z (has m) list o c) → KeepsFootprint z m objects keeps
+
+pub scan_checked : KeysLaw → TestLaw → (d : Device) (t u : Table) (x : Index) (n : Numbers) (spare : ℕ) (tree : Tree) (objects : Objects) (at : Option ℕ) → ((b : ℕ) → HoldsNone (kept_pages x) b → kept_in x b ≡ 0)
+    → HasTrueFlash d → MayBeNoted d at → NotesFree at t u → IsTreeRead d t x n spare tree → IsTreeShown d x spare tree objects → IsChecked d.geometry d.flash u.checkpoint
+scan_checked keys test d t u x n spare tree objects at zero (honest, true_flash) may notes read shown =
+    let on = shown.on in
+    let m : PageMap = on.pages in
+    let z : Sizes = sizes_of d.geometry spare in
+    let size = is_size d.geometry spare in
+    let foot = test z m objects (objects_listed tree) (keeps_key tree) size.least size.most shown.shows on.through.tree_is.through (keys z m tree (sym on.through.size) on.through.tree_is.heads) in
+    noted_checked d.geometry d.flash at t u true_flash (may.only (honest, true_flash)) notes read.tables.tables.good
+    (λ c whole. read.tables.tables.counts.counts c.block ∙ zero c.block
+    (holds_none d.flash x (keeps_key tree) c.block (read.tables.tables.newest honest) read.tables.others
+    (λ o k s stays newest. lies_apart d.geometry d.flash c (true_flash c whole) m on.newest spare objects on.through.volume shown.shows o k s ((foot o k).0 stays) newest)))
+
+-- ---- what was only read before
+
+-- a device that was trusted since the one that was read
+pub since_before : (a b c seen : Device) → OnlyReads a b → (a.gone ≡ false → b.gone ≡ false) → IsTrustedSince b c seen → IsTrustedSince a c seen
+since_before a b c seen reads power since = record {
+  told = since.told;
+  read = record {
+    reads = only_reads_on a b c reads since.read.reads;
+    power = λ was. since.read.power (power was);
+    seen_is = since.read.seen_is;
+  };
+  trusted = λ is. since.trusted (true_after a b reads is);
+}
+
+-- the same devices
+pub since_same : (a b c s t : Device) → c ≡ b → t ≡ s → IsTrustedSince a b s → IsTrustedSince a c t
+since_same a b c s t new seen since = subst (λ (d : Device). IsTrustedSince a c d) (sym seen) (subst (λ (d : Device). IsTrustedSince a d s) (sym new) since)
+
+-- and one that has power
+pub since_with : (a b c seen : Device) → OnlyReads a b → c.gone ≡ false → IsTrustedSince b c seen → IsTrustedSince a c seen
+since_with a b c seen reads power since = record {
+  told = since.told;
+  read = record { reads = only_reads_on a b c reads since.read.reads; power = λ was. power; seen_is = since.read.seen_is };
+  trusted = λ is. since.trusted (true_after a b reads is);
+}
+
+-- ---- what a search found
+
+pub form_after : (a b : Device) (c : Checkpoint) → OnlyReads a b → HasForm a c → HasForm b c
+form_after a b c reads form =
+    let geometry : b.geometry ≡ a.geometry = reads.lasts.geometry in
+    record {
+      block = subst (λ (g : Geometry). c.block < g.blocks) (sym geometry) form.block;
+      good = ap (λ (bad : ℕ → Bool). bad c.block) reads.bad ∙ form.good;
+      room = subst (λ (g : Geometry). c.size ≤ g.pages) (sym geometry) form.room;
+      tag = form.tag;
+      size = subst (λ (g : Geometry). c.size ≡ ceiling (32 * (1 + length c.entries)) g.bytes) (sym geometry) form.size;
+      entries = form.entries;
+      rise = form.rise;
+    }
+
+pub whole_after : (a b : Device) (c : Checkpoint) → OnlyReads a b → IsWholeOn a c → IsWholeOn b c
+whole_after a b c reads whole honest =
+    let was : a.honest ≡ true = sym reads.lasts.honest ∙ honest in
+    subst (λ (g : Geometry). IsWhole g b.flash c) (sym reads.lasts.geometry) (subst (λ (f : Flash). IsWhole a.geometry f c) (sym (same_flash a b reads was)) (whole was))
+
+pub seqs_after : (a b : Device) (seqs : List ℕ) → OnlyReads a b → TellsSeqs a seqs → TellsSeqs b seqs
+seqs_after a b seqs reads tells = record {
+  len = tells.len ∙ ap (λ (g : Geometry). g.blocks) (sym reads.lasts.geometry);
+  each = λ honest.
+      let was : a.honest ≡ true = sym reads.lasts.honest ∙ honest in
+      subst (λ (f : Flash). AreFirstSeqs f seqs) (sym (same_flash a b reads was)) (tells.each was);
+}
+
+-- where no checkpoint is whole none is noted
+pub none_noted : (a b : Device) → OnlyReads a b → HasNoneWhole a → MayBeNoted b None
+none_noted a b reads none = may_after a b None reads (record {
+  good = λ k is. absurd cc;
+  only = λ (honest, is) c whole. absurd (none honest is c whole);
+})
+
+-- and where one is, its block is
+pub found_noted : (d : Device) (c : Checkpoint) → HasForm d c → IsWholeOn d c → MayBeNoted d (Some c.block)
+found_noted d c form whole = record {
+  good = λ k is. let same : c.block ≡ k = cc in subst (IsGoodOn d) same (form.block, form.good);
+  only = λ (honest, is) other there. ap Some (same_block d.geometry d.flash is c other (whole honest) there);
+}
+
+-- ---- what is said of a result
+
+pub ok_map : {T E : Type 0} {P Q : T → Type 0} (r : Result T E) → ((x : T) → P x → Q x) → IfOk r P → IfOk r Q
+ok_map (Ok x) to is = to x is
+ok_map (Err e) to is = tt
+
+pub err_map : {T E : Type 0} {P Q : E → Type 0} (r : Result T E) → ((e : E) → P e → Q e) → IfErr r P → IfErr r Q
+err_map (Ok x) to is = tt
+err_map (Err e) to is = to e is
+
+pub ok_both : {T E : Type 0} {P Q R : T → Type 0} (r : Result T E) → ((x : T) → P x → Q x → R x) → IfOk r P → IfOk r Q → IfOk r R
+ok_both (Ok x) to p q = to x p q
+ok_both (Err e) to p q = tt

@@ -1,0 +1,72 @@
+use Rattle.std.proofs.Common.{◌≡◌, ◌<◌, Some, true, refl, sym, ◌∙◌, ap, subst, ◌≤◌}
+use Rattle.nand_model.specs.Calls.{Device}
+use Rattle.nand_model.specs.declared.geometry.Geometry.{Geometry}
+use Rattle.flash_tree.specs.Mount.{Answers, IsTreeOf, sizes_of}
+use Rattle.flash_tree.specs.Places.{numbers_of}
+use Rattle.posix_profile.specs.State.{Objects}
+use Rattle.posix_profile.specs.Charge as costs
+use Rattle.volume_terms.specs.Sizes.{capacity}
+use Rattle.volume_terms.specs.VolumeSizes as volume
+use Rattle.block_state.specs.TableOf.{table}
+use Rattle.mounting.specs.Mounted.{IsTreeRead, IsTreeShown, HasRoomOn, CoversNewest}
+use Rattle.trusted_nand.specs.Trusting.{trusted_as}
+use Rattle.mounting.specs.Named.{IsTrustedSince}
+use Rattle.mounting.proofs.Noting.{trusted_is, noted_read, fitting_noted, room_noted, may_after, scan_checked, checked_before}
+use Rattle.mounting.proofs.going.by_scan.Goals as goal
+
+pub note_free-requires-clause-block : goal.note_free-requires-clause-block
+note_free-requires-clause-block g c = λ b is.
+    let e = c.in_ok-going.ensures in
+    let placed = (c.requires.good b is).0 in
+    let same = e.going.named.tree.tables.tables.geometry ∙ e.reads.lasts.geometry in
+    subst (λ (k : Geometry). b < k.blocks) (sym same) placed
+
+pub note_free-requires-clause-closed : goal.note_free-requires-clause-closed
+note_free-requires-clause-closed g c = c.in_ok-going.ensures.going.named.tree.tables.tables.closed
+
+pub returns-clause-read : goal.returns-clause-read
+returns-clause-read g c =
+    let e = c.in_ok-going.ensures in
+    let a = g.N.Nand.state c.args.device in
+    let b = g.N.Nand.state c.in_ok-going.going.named.on.device in
+    subst (λ (d : Device). IsTrustedSince a (g.N.Nand.state c.new.result.inner) d) (sym c.new.ensures.state)
+    (subst (λ (d : Device). IsTrustedSince a d (trusted_as true b)) (sym (ap g.N.Nand.state c.new.ensures.inner))
+    (record { told = true; read = record { reads = e.reads; power = e.power; seen_is = refl }; trusted = λ is. refl }))
+
+pub returns-clause-going : goal.returns-clause-going
+returns-clause-going g c =
+    let e = c.in_ok-going.ensures in
+    let named = c.in_ok-going.going.named in
+    let on = named.on in
+    let b = g.N.Nand.state on.device in
+    let t = table on.blocks in
+    let u = table c.note_free.new.blocks in
+    let n = numbers_of on.numbers in
+    let a = g.N.Nand.state c.args.device in
+    let sizes = volume.sizes_of c.in_ok-going.going.sizes in
+    let may = may_after a b c.args.noted e.reads c.requires in
+    let seen = c.new.ensures.state ∙ trusted_is b in
+    record {
+      named = record {
+        tree = subst (λ (d : Device). IsTreeRead d u on.index n on.spare on.tree) (sym seen) (noted_read b t u on.index n on.spare on.tree c.args.noted may c.note_free.ensures e.going.named.tree);
+        names = subst (λ (d : Device). d.honest ≡ true → CoversNewest named.names d on.spare on.tree) (sym seen) e.going.named.names;
+      };
+      sizes = subst (λ (d : Device). sizes ≡ sizes_of d.geometry on.spare) (sym seen) e.going.sizes;
+      fitting = fitting_noted c.args.noted t u c.note_free.ensures e.going.fitting;
+      room = subst (λ (d : Device). HasRoomOn d u on.spare) (sym seen) (room_noted b on.spare c.args.noted t u c.note_free.ensures e.going.room);
+      tree = subst (λ (d : Device). d.honest ≡ true → (objects : Objects) × Answers d.geometry d.flash (IsTreeOf on.spare objects) × IsTreeShown d on.index on.spare on.tree objects × (costs.charge sizes objects ≤ capacity sizes))
+          (sym seen) e.going.tree;
+    }
+
+pub returns-clause-checked : goal.returns-clause-checked
+returns-clause-checked g c =
+    let e = c.in_ok-going.ensures in
+    let on = c.in_ok-going.going.named.on in
+    let a = g.N.Nand.state c.args.device in
+    let b = g.N.Nand.state on.device in
+    let u = table c.note_free.new.blocks in
+    checked_before a b u.checkpoint e.reads
+    (λ is.
+    let told = e.going.tree is.0 in
+    scan_checked c.the_headers_tell_the_keys.ensures c.the_tree_looks_up_its_footprint.ensures.test b (table on.blocks) u on.index (numbers_of on.numbers) on.spare on.tree told.0 c.args.noted
+    (c.the_counts_are_of_the_keys.ensures.zero on.index) is (may_after a b c.args.noted e.reads c.requires) c.note_free.ensures e.going.named.tree told.2)

@@ -1,0 +1,38 @@
+use Rattle.std.proofs.Common.{Some, subst}
+use Rattle.std.specs.Prelude.{IfSome}
+use Rattle.nand_model.specs.laws.Changes.{only_reads_on}
+use Rattle.checkpoint_reading.specs.Found.{HasForm, IsWholeOn, checkpoint_of}
+use Rattle.mounting.proofs.Noting.{form_after, whole_after, may_after, found_noted, since_before, since_with, checked_before, true_after, ok_map, ok_both}
+use Rattle.mounting.proofs.going.open_volume.Goals as goal
+
+pub returns-in-None-clause-read : goal.returns-in-None-clause-read
+returns-in-None-clause-read g c = ok_map c.by_scan.result (λ x since. since_before _ _ _ _ c.in-Ok.ensures.reads.only c.in-Ok.ensures.reads.gone since) c.by_scan.ensures.read
+
+pub returns-in-Ok-by_entries-clause-read : goal.returns-in-Ok-by_entries-clause-read
+returns-in-Ok-by_entries-clause-read g c = since_before _ _ _ _ c.in-Ok.ensures.reads.only c.in-Ok.ensures.reads.gone c.in-Ok-by_entries.ensures.read
+
+pub returns-in-Ok-by_entries-clause-checked : goal.returns-in-Ok-by_entries-clause-checked
+returns-in-Ok-by_entries-clause-checked g c = checked_before _ _ _ c.in-Ok.ensures.reads.only c.in-Ok-by_entries.ensures.checked
+
+pub scan_after-requires : goal.scan_after-requires
+scan_after-requires g c =
+    let a = g.N.Nand.state c.args.device in
+    let b = g.N.Nand.state c.find_checkpoint.new.device in
+    let k = checkpoint_of c.in-Some.found in
+    let reads = c.in-Ok.ensures.reads.only in
+    let form = subst (λ m. IfSome m (λ f. HasForm a (checkpoint_of f))) c.in-Some.is c.in-Ok.ensures.form in
+    let whole = subst (λ m. IfSome m (λ f. IsWholeOn a (checkpoint_of f))) c.in-Some.is c.in-Ok.ensures.found in
+    may_after b (g.N.Nand.state c.in-Err-by_entries.device) (Some c.in-Some.found.block) c.in-Err-by_entries.ensures.back
+    (found_noted b k (form_after a b k reads form) (whole_after a b k reads whole))
+
+pub returns-clause-read : goal.returns-clause-read
+returns-clause-read g c =
+    let reads = only_reads_on _ _ _ c.in-Ok.ensures.reads.only c.in-Err-by_entries.ensures.back in
+    ok_both c.scan_after.result (λ x power since. since_with _ _ _ _ reads power since) c.scan_after.ensures.power c.scan_after.ensures.read
+
+pub returns-clause-checked : goal.returns-clause-checked
+returns-clause-checked g c = λ is.
+    let a = g.N.Nand.state c.args.device in
+    let e = g.N.Nand.state c.in-Err-by_entries.device in
+    let reads = only_reads_on a (g.N.Nand.state c.find_checkpoint.new.device) e c.in-Ok.ensures.reads.only c.in-Err-by_entries.ensures.back in
+    ok_map c.scan_after.result (λ x checked. checked_before a e _ reads (λ _. checked) is) (c.scan_after.ensures.checked (true_after a e reads is))

@@ -1,0 +1,18 @@
+use Rattle.std.proofs.Common.{sym, ◌∙◌}
+use Rattle.nand_model.specs.laws.Changes.{only_reads_on}
+use Rattle.mounting.proofs.scanned.scan_going.Goals as goal
+
+pub returns-in-Some-clause-going : goal.returns-in-Some-clause-going
+returns-in-Some-clause-going g c =
+    let told = c.in-Some.ensures in
+    let e = c.in_ok-named.ensures in
+    record {
+      named = record { tree = e.read; names = λ honest. e.names (sym e.reads.lasts.honest ∙ honest) };
+      sizes = told.sizes;
+      fitting = told.fitting;
+      room = told.room;
+      tree = told.tree;
+    }
+
+pub returns-in-None-clause-back : goal.returns-in-None-clause-back
+returns-in-None-clause-back g c = only_reads_on _ _ _ c.in_ok-named.ensures.reads c.unmounted.ensures.reads

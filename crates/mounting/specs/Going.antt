@@ -1,0 +1,43 @@
+-- A tree with which a volume goes on.
+-- From: this project.
+use Rattle.std.specs.Prelude.{◌≡◌, ◌≤◌, ◌<◌, ◌⊎◌, ℕ, true, false, Option, Some, None}
+use Rattle.nand_model.specs.Calls.{Device}
+use Rattle.flash_tree.specs.Checkpoints.{StandsOnly}
+use Rattle.flash_tree.specs.Mount.{Answers, IsTreeOf, sizes_of}
+use Rattle.block_state.specs.Table.{Table}
+use Rattle.block_state.specs.TableOf.{table}
+use Rattle.newest_pages.specs.Checked.{HasTrueFlash}
+use Rattle.posix_profile.specs.State.{Objects}
+use Rattle.posix_profile.specs.Charge.{charge}
+use Rattle.volume_terms.specs.Sizes.{Sizes, capacity}
+use Rattle.volume_terms.specs.VolumeSizes.{sizes_of as volume_sizes}
+use Rattle.mounting.specs.Marked.{AreFitting}
+use Rattle.mounting.specs.Mounted.{IsTreeShown, HasRoomOn}
+use Rattle.mounting.specs.Named.{IsNamedTree}
+use Rattle.mounting.specs.declared.tree_on.Going.{Going}
+
+-- The tree was read, has room, and fits into the volume of these sizes; of an honest device it is what a mount answers.
+pub record IsGoing {N : Type 0} (device : Device) (going : Going N) : Type 0 where
+  pub named : IsNamedTree device going.named
+  pub sizes : volume_sizes going.sizes ≡ sizes_of device.geometry going.named.on.spare
+  pub fitting : AreFitting (table going.named.on.blocks)
+  pub room : HasRoomOn device (table going.named.on.blocks) going.named.on.spare
+  pub tree : device.honest ≡ true → (objects : Objects)
+      × Answers device.geometry device.flash (IsTreeOf going.named.on.spare objects)
+      × IsTreeShown device going.named.on.index going.named.on.spare going.named.on.tree objects
+      × (charge (volume_sizes going.sizes) objects ≤ capacity (volume_sizes going.sizes))
+
+-- the block is a good one of the device
+abbrev pub IsGoodOn : Device → ℕ → Type 0
+IsGoodOn device b = (b < device.geometry.blocks) × (device.flash.bad b ≡ false)
+
+-- The block may be noted: it is a good one, if there is one, and each whole checkpoint of a true flash lies in it.
+pub record MayBeNoted (device : Device) (at : Option ℕ) : Type 0 where
+  pub good : (b : ℕ) → at ≡ Some b → IsGoodOn device b
+  pub only : HasTrueFlash device → StandsOnly device.geometry device.flash at
+
+-- The block is noted where it is free, and else nothing changes.
+pub record NotesFree (at : Option ℕ) (old new : Table) : Type 0 where
+  pub is : (new ≡ old) ⊎ ((b : ℕ) × (at ≡ Some b) × ((old.entry b).kept ≡ 0) × (new ≡ record old { checkpoint = at }))
+  pub free : (b : ℕ) → at ≡ Some b → (old.entry b).bad ≡ false → (old.entry b).kept ≡ 0 → new ≡ record old { checkpoint = at }
+  pub none : at ≡ None → new ≡ old

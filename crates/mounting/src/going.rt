@@ -1,0 +1,161 @@
+// The tree with which a volume goes on: by a checkpoint or by a scan.
+ghost use Rattle.std.specs.Prelude.{◌≡◌, ◌<◌, ℕ, false, Some, None, IfOk, IfErr};
+ghost use Rattle.nand_model.specs.Changes.{OnlyReads};
+ghost use Rattle.flash_tree.specs.Checkpoints.{IsChecked};
+ghost use Rattle.block_state.specs.TableOf.{table};
+ghost use Rattle.checkpoint_reading.specs.Found.{HasForm, IsWholeOn, TellsSeqs, checkpoint_of};
+ghost use Rattle.newest_pages.specs.Checked.{HasTrueFlash};
+ghost use Rattle.trusted_nand.specs.Parts.{inner_of};
+ghost use Rattle.mounting.specs.Faults.{WhyNotMounted};
+ghost use Rattle.mounting.specs.Going.{IsGoing, MayBeNoted, NotesFree};
+ghost use Rattle.mounting.specs.Named.{IsTrustedSince};
+
+use crate::entries::open_entries;
+use crate::fault::MountFault;
+use crate::going_on::go_on;
+use crate::naming::{search_fault, unmounted};
+use crate::scanned::scan_going;
+use crate::tree_on::{Going, NamedTree, TreeOn};
+use block_state::Blocks;
+use checkpoint_reading::{CheckpointSearch, FoundCheckpoint, find_checkpoint};
+use chunk_index::the_counts_are_of_the_keys;
+use mount_answers::the_tree_looks_up_its_footprint;
+use nand_model::Nand;
+use pages::has_power;
+use std::alloc::Global;
+use tree_walk::{RootFault, the_headers_tell_the_keys};
+use trusted_nand::TrustedNand;
+
+/// Notes the block that may have a checkpoint, unless it is bad or holds a kept page.
+fn note_free(blocks: &mut Blocks, noted: Option<u32>)
+    requires block { (b : ℕ) → noted ≡ Some b → b < (table blocks.old).geometry.blocks }
+    requires closed { (table blocks.old).open_block ≡ None }
+    ensures { NotesFree noted (table blocks.old) (table blocks.new) }
+{
+    if let Some(block) = noted {
+        let entry = blocks.entry(block);
+        if !entry.bad && entry.kept == 0 {
+            blocks.note_checkpoint(block);
+        }
+    }
+}
+
+/// Goes on by the entries of a whole checkpoint. Where that cannot be, the device is given back.
+fn by_entries<N: Nand>(
+    alloc: Global,
+    device: N,
+    found: &FoundCheckpoint,
+    seqs: &[u64],
+) -> Result<Going<TrustedNand<N>>, (N, RootFault)>
+    requires form { HasForm (N.state device) (checkpoint_of found.now) }
+    requires whole { IsWholeOn (N.state device) (checkpoint_of found.now) }
+    requires seqs { TellsSeqs (N.state device) seqs.now }
+    ensures read { IfOk result (λ going. IsTrustedSince (N.state device) (N.state (inner_of going.named.on.device)) (⟦<TrustedNand<N> as Nand>⟧.state going.named.on.device)) }
+    ensures going { IfOk result (λ going. IsGoing (⟦<TrustedNand<N> as Nand>⟧.state going.named.on.device) going) }
+    ensures checked { HasTrueFlash (N.state device)
+        → IfOk result (λ going. IsChecked (N.state device).geometry (N.state device).flash (table going.named.on.blocks).checkpoint) }
+    ensures back { IfErr result (λ failed. OnlyReads (N.state device) (N.state failed.0)) }
+{
+    let named = open_entries(alloc, device, found, seqs)?;
+    match go_on(&named.on) {
+        Some(sizes) => Ok(Going { named, sizes }),
+        None => Err((named.on.device.into_inner(), RootFault::Damaged)),
+    }
+}
+
+/// Goes on by a scan. The block that may have a checkpoint is noted, unless kept pages lie in it.
+fn by_scan<N: Nand>(
+    alloc: Global,
+    device: N,
+    noted: Option<u32>,
+) -> Result<Going<TrustedNand<N>>, (N, MountFault)>
+    requires { MayBeNoted (N.state device) noted }
+    ensures read { IfOk result (λ going. IsTrustedSince (N.state device) (N.state (inner_of going.named.on.device)) (⟦<TrustedNand<N> as Nand>⟧.state going.named.on.device)) }
+    ensures going { IfOk result (λ going. IsGoing (⟦<TrustedNand<N> as Nand>⟧.state going.named.on.device) going) }
+    ensures checked { HasTrueFlash (N.state device)
+        → IfOk result (λ going. IsChecked (N.state device).geometry (N.state device).flash (table going.named.on.blocks).checkpoint) }
+    ensures back { IfErr result (λ failed. OnlyReads (N.state device) (N.state failed.0)) }
+    ensures fault { IfErr result (λ failed. WhyNotMounted (N.state failed.0) failed.1) }
+{
+    the_headers_tell_the_keys();
+    the_counts_are_of_the_keys();
+    the_tree_looks_up_its_footprint();
+    let going = scan_going(alloc, device)?;
+    let Going { named, sizes } = going;
+    let NamedTree { on, names } = named;
+    let TreeOn {
+        device,
+        blocks,
+        index,
+        numbers,
+        spare,
+        tree,
+    } = on;
+    let mut blocks = blocks;
+    note_free(&mut blocks, noted);
+    let on = TreeOn {
+        device: TrustedNand::new(device),
+        blocks,
+        index,
+        numbers,
+        spare,
+        tree,
+    };
+    let named = NamedTree { on, names };
+    Ok(Going { named, sizes })
+}
+
+/// Goes on by a scan after the entries of a checkpoint in this block did not do, unless power went or memory was refused.
+fn scan_after<N: Nand>(
+    alloc: Global,
+    device: N,
+    block: u32,
+    fault: RootFault,
+) -> Result<Going<TrustedNand<N>>, (N, MountFault)>
+    requires { MayBeNoted (N.state device) (Some block) }
+    ensures read { IfOk result (λ going. IsTrustedSince (N.state device) (N.state (inner_of going.named.on.device)) (⟦<TrustedNand<N> as Nand>⟧.state going.named.on.device)) }
+    ensures power { IfOk result (λ going. (N.state (inner_of going.named.on.device)).gone ≡ false) }
+    ensures going { IfOk result (λ going. IsGoing (⟦<TrustedNand<N> as Nand>⟧.state going.named.on.device) going) }
+    ensures checked { HasTrueFlash (N.state device)
+        → IfOk result (λ going. IsChecked (N.state device).geometry (N.state device).flash (table going.named.on.blocks).checkpoint) }
+    ensures back { IfErr result (λ failed. OnlyReads (N.state device) (N.state failed.0)) }
+    ensures fault { IfErr result (λ failed. WhyNotMounted (N.state failed.0) failed.1) }
+{
+    let mut device = device;
+    if !has_power(&mut device) {
+        return Err((device, MountFault::Gone));
+    }
+    if fault == RootFault::NoMemory {
+        return Err((device, MountFault::NoMemory));
+    }
+    by_scan(alloc, device, Some(block))
+}
+
+/// Finds the tree with which a volume goes on: by the entries of the checkpoint, where one is whole, and else, or where they do not
+/// do, by a scan.
+pub(crate) fn open_volume<N: Nand>(
+    alloc: Global,
+    device: N,
+) -> Result<Going<TrustedNand<N>>, (N, MountFault)>
+    ensures read { IfOk result (λ going. IsTrustedSince (N.state device) (N.state (inner_of going.named.on.device)) (⟦<TrustedNand<N> as Nand>⟧.state going.named.on.device)) }
+    ensures going { IfOk result (λ going. IsGoing (⟦<TrustedNand<N> as Nand>⟧.state going.named.on.device) going) }
+    ensures checked { HasTrueFlash (N.state device)
+        → IfOk result (λ going. IsChecked (N.state device).geometry (N.state device).flash (table going.named.on.blocks).checkpoint) }
+    ensures back { IfErr result (λ failed. OnlyReads (N.state device) (N.state failed.0)) }
+    ensures fault { IfErr result (λ failed. WhyNotMounted (N.state failed.0) failed.1) }
+{
+    let mut device = device;
+    let search = match find_checkpoint(alloc, &mut device) {
+        Ok(search) => search,
+        Err(fault) => return Err(unmounted(device, search_fault(fault))),
+    };
+    let CheckpointSearch { seqs, checkpoint } = search;
+    let found = match checkpoint {
+        Some(found) => found,
+        None => return by_scan(alloc, device, None),
+    };
+    match by_entries(alloc, device, &found, &seqs) {
+        Ok(going) => Ok(going),
+        Err((device, fault)) => scan_after(alloc, device, found.block, fault),
+    }
+}

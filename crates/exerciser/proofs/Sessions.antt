@@ -74,7 +74,7 @@ one_more : (words : ℕ → ℕ) (commands : List Stamped) (before : ℕ) (first
     → IsDrawn (words before) operation → IsLeast first commands replies tree (Some count)
     → AreKept words commands (before + 1) tree (text ++ session_line (before + 1) operation (findings.Kept count) (length commands))
 unfolding AreKept
-one_more words commands before first tree text operation count replies kept drawn least = simp unary_clauses (text, operation, first, replies, count, kept, drawn, least, refl)
+one_more words commands before first tree text operation count replies kept drawn least = simp unary_clauses (text, operation, first, count, kept, drawn, (replies, least), refl)
 
 module _ (words : ℕ → ℕ) (commands : List Stamped) (before sessions : ℕ) (first : PlainView) (old now later : Option (List ℕ)) (so_far : SoFar words commands before first old now) where
   pub goes_further : (operation count : ℕ) (replies : List Reply) (tree : PlainView) → IsDrawn (words before) operation → IsLeast first commands replies tree (Some count)

@@ -14,13 +14,17 @@ use Rattle.exerciser.specs.declared.fault.CutFault.TheVariants as faults
 use Rattle.exerciser.specs.declared.finding.Finding.TheVariants as findings
 use Rattle.exerciser.specs.declared.seen.Seen.{Seen}
 
+-- for some replies, a session of these commands on the first tree leaves the other after its first so many, and after no fewer
+abbrev pub Keeps : List Stamped → (first tree : PlainView) → ℕ → Type 0
+Keeps commands first tree count = (replies : List Reply) × IsLeast first commands replies tree (Some count)
+
 -- The text is the lines of so many sessions of these commands, from the first on, and this is the tree after them: each keeps, of the
--- tree before it, the first commands that its line counts, which were answered by some replies. The words draw their calls.
+-- tree before it, the first commands that its line counts. The words draw their calls.
 unfoldable pub AreKept : (words : ℕ → ℕ) → (commands : List Stamped) → (sessions : ℕ) → (tree : PlainView) → List ℕ → Type 0
 AreKept words commands zero tree text = text ≡ []
 AreKept words commands (suc before) tree text =
-    (lines : List ℕ) × (operation : ℕ) × (first : PlainView) × (replies : List Reply) × (count : ℕ) × AreKept words commands before first lines × IsDrawn (words before) operation
-    × IsLeast first commands replies tree (Some count) × (text ≡ lines ++ session_line (suc before) operation (findings.Kept count) (length commands))
+    (lines : List ℕ) × (operation : ℕ) × (first : PlainView) × (count : ℕ) × AreKept words commands before first lines × IsDrawn (words before) operation
+    × Keeps commands first tree count × (text ≡ lines ++ session_line (suc before) operation (findings.Kept count) (length commands))
 
 -- the lines of sessions that kept a tree, and of one after them, of which this is seen
 pub record AreKeptBefore (words : ℕ → ℕ) (commands : List Stamped) (sessions : ℕ) (seen : Seen) (text : List ℕ) : Type 0 where

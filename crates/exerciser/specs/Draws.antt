@@ -1,13 +1,14 @@
 -- Which calls of the device are cut, drawn from a seed.
-use Rattle.std.specs.Prelude.{◌≡◌, ℕ, zero, suc, ◌≤◌, max, Ok}
+use Rattle.std.specs.Prelude.{◌≡◌, ℕ, zero, suc, ◌≤◌, max, List, map, None, Ok}
 use Rattle.nand_model.specs.Calls.{Device}
 use Rattle.nand_model.specs.MemoryState.{device, plan}
+use Rattle.nand_model.specs.declared.fate.Fate.{Fate}
 use Rattle.nand_model.specs.declared.memory.MemNand.{MemNand}
 use Rattle.powercut.specs.Sessions.{IsEnded}
 use Rattle.powercut.specs.declared.session.Session.{Session}
 use Rattle.powercut.specs.declared.session.SessionEnd.{SessionEnd}
 use Rattle.exerciser.specs.Causes.{CountsCalls}
-use Rattle.cut_draws.specs.Draws.{answers, operation_of, next_words}
+use Rattle.cut_draws.specs.Draws.{answers, operation_of, fate_of, next_words}
 use Rattle.rand_core.specs.Pcg32Seed.{pcg32_seed}
 use Rattle.rand_core.specs.Stream.{Stream, next_u64}
 use Rattle.rand_pcg.specs.Pcg.{pcg64_of_seed}
@@ -15,6 +16,10 @@ use Rattle.rand_pcg.specs.Pcg.{pcg64_of_seed}
 -- the words that are left after a session, which takes one for its call and one for each page of a block
 abbrev pub words_after_session : (pages : ℕ) → Stream → Stream
 words_after_session pages words = (next_words pages (next_u64 words).1).1
+
+-- the fates that words draw for so many pages, after the word of the call
+abbrev pub drawn_fates : (pages : ℕ) → Stream → List Fate
+drawn_fates pages words = map fate_of (next_words pages (next_u64 words).1).0
 
 -- the words of a seed that are left after so many sessions
 unfoldable pub words_after : (seed pages sessions : ℕ) → Stream
@@ -28,6 +33,10 @@ session_word seed pages before = (next_u64 (words_after seed pages before)).0
 -- the word draws this call, among those of some session, of which there is at least one
 abbrev pub IsDrawn : (word operation : ℕ) → Type 0
 IsDrawn word operation = (calls : ℕ) × (1 ≤ calls) × (operation ≡ operation_of calls word)
+
+-- the session with no call that is cut
+abbrev pub uncut : Session → Session
+uncut session = record session { fuse = None }
 
 -- the session makes so many calls from its power-up on, with its mount and its unmount, which are done, on a device like this
 pub record IsCountOf (first : Device) (session : Session) (calls : ℕ) : Type 0 where

@@ -1,13 +1,13 @@
 // Sessions that are cut at drawn calls of the device.
-ghost use Rattle.std.specs.Prelude.{◌≡◌, ◌≤◌, ℕ, map, None, Some, IfOk, IfErr, OnOk};
+ghost use Rattle.std.specs.Prelude.{◌≡◌, ◌≤◌, ℕ, Some, IfOk, IfErr, OnOk};
 ghost use Rattle.nand_model.specs.Calls.{Device};
 ghost use Rattle.rand_core.specs.Stream.{next_u64};
 ghost use Rattle.nand_model.specs.MemoryState.{device};
-ghost use Rattle.cut_draws.specs.Draws.{answers, operation_of, fate_of, next_words};
+ghost use Rattle.cut_draws.specs.Draws.{answers, operation_of};
 ghost use Rattle.powercut.specs.Sessions.{IsEnded};
 ghost use Rattle.powercut.specs.Starting.{fuse_of};
 ghost use Rattle.exerciser.specs.Causes.{IsOfSession, HasCause};
-ghost use Rattle.exerciser.specs.Draws.{words_after_session, session_word, IsDrawnAmong};
+ghost use Rattle.exerciser.specs.Draws.{words_after_session, drawn_fates, session_word, uncut, IsDrawnAmong};
 ghost use Rattle.exerciser.specs.Cutting.{Cuts};
 ghost use Rattle.exerciser.specs.Seen.{IsSeen, IsTorn};
 ghost use Rattle.exerciser.specs.declared.fault.CutFault.TheVariants as faults;
@@ -37,7 +37,7 @@ fn set_fuse(
 ) -> Result<u64, CutFault>
     requires { 1 ≤ calls }
     ensures commands { session.new.commands ≡ session.old.commands }
-    ensures fuse { IfOk result (λ operation. fuse_of session.new.fuse ≡ Some (operation, map fate_of (next_words pages (next_u64 (answers generator.old)).1).0)) }
+    ensures fuse { IfOk result (λ operation. fuse_of session.new.fuse ≡ Some (operation, drawn_fates pages (answers generator.old))) }
     ensures drawn { IfOk result (λ operation. operation ≡ operation_of calls (next_u64 (answers generator.old)).0) }
     ensures left { OnOk result (answers generator.new ≡ words_after_session pages (answers generator.old)) }
     ensures fault { IfErr result (λ e. e ≡ faults.NoMemory) }
@@ -56,8 +56,8 @@ fn draw_fuse(
     pages: u32,
 ) -> Result<u64, CutFault>
     ensures commands { session.new.commands ≡ session.old.commands }
-    ensures fuse { IfOk result (λ operation. fuse_of session.new.fuse ≡ Some (operation, map fate_of (next_words pages (next_u64 (answers generator.old)).1).0)) }
-    ensures drawn { IfOk result (IsDrawnAmong (device nand.now) (record session.old { fuse = None }) (next_u64 (answers generator.old)).0) }
+    ensures fuse { IfOk result (λ operation. fuse_of session.new.fuse ≡ Some (operation, drawn_fates pages (answers generator.old))) }
+    ensures drawn { IfOk result (IsDrawnAmong (device nand.now) (uncut session.old) (next_u64 (answers generator.old)).0) }
     ensures left { OnOk result (answers generator.new ≡ words_after_session pages (answers generator.old)) }
     ensures fault { IfErr result IsOfSession }
 {
@@ -85,8 +85,8 @@ fn exercise(
     pages: u32,
 ) -> Result<Exercised, CutFault>
     ensures commands { session.new.commands ≡ session.old.commands }
-    ensures fuse { IfOk result (λ done. fuse_of session.new.fuse ≡ Some (done.operation, map fate_of (next_words pages (next_u64 (answers generator.old)).1).0)) }
-    ensures drawn { IfOk result (λ done. IsDrawnAmong (device standing.device) (record session.old { fuse = None }) (next_u64 (answers generator.old)).0 done.operation) }
+    ensures fuse { IfOk result (λ done. fuse_of session.new.fuse ≡ Some (done.operation, drawn_fates pages (answers generator.old))) }
+    ensures drawn { IfOk result (λ done. IsDrawnAmong (device standing.device) (uncut session.old) (next_u64 (answers generator.old)).0 done.operation) }
     ensures left { OnOk result (answers generator.new ≡ words_after_session pages (answers generator.old)) }
     ensures ended { IfOk result (λ done. (last : Device) × IsEnded session.new done.end (device standing.device) last) }
     ensures seen { IfOk result (λ done. IsSeen standing.tree session.old.commands.items done.end.replies.items done.seen) }

@@ -29,7 +29,7 @@ use Rattle.bad_blocks.specs.Taking.{LiesApart}
 use Rattle.bad_blocks.specs.laws.FreeBlocks.{leaves_unkept}
 use Rattle.bad_blocks.specs.laws.KeptPages.{kept_stays, data_stays, spot_of}
 use Rattle.bad_blocks.specs.laws.Moves.{may_lie_later}
-use Rattle.checkpoint_writing.specs.Keeping.{KeepsPages, Seals, ShowsExactly, StaysChecked}
+use Rattle.checkpoint_writing.specs.Keeping.{IsExact, KeepsPages, Seals, ShowsExactly, StaysChecked}
 use Rattle.checkpoint_writing.specs.Writing.{Leaves}
 use Rattle.posix_profile.specs.State.{Objects}
 
@@ -71,10 +71,10 @@ keeps_on a b c first then = record {
       (then.newest (first.lasts.honest ∙ honest) o k s other stays.newest (let same = first.kept s.block in omega (arith, same, some)));
 }
 
-pub leaves_on : (block : ℕ) (a b c : LogState) → Leaves block a b → Leaves block b c → Leaves block a c
-leaves_on block a b c first then = record {
+pub leaves_on : (right : Type 0) (block : ℕ) (a b c : LogState) → Leaves right block a b → Leaves (Unit {0}) block b c → Leaves right block a c
+leaves_on right block a b c first then = record {
   keeps = keeps_on a b c first.keeps then.keeps;
-  checked = λ honest was. then.checked (first.keeps.lasts.honest ∙ honest) (first.checked honest was);
+  checked = λ is honest was. then.checked tt (first.keeps.lasts.honest ∙ honest) (first.checked is honest was);
   reads = let one = first.reads in let two = then.reads in omega (arith, one, two);
   open_block = then.open_block;
   checkpoint = then.checkpoint;
@@ -174,10 +174,10 @@ module _ (v : ℕ) (d e : Device) (t u : Table) (result : Result (Unit {0}) Gone
   same_failures (Err gone) ends = ends.failures
 
   -- what a mark leaves of a block that was closed
-  pub leaves_marked : IsReady e u → HandsOut d e t u → (d.honest ≡ true → KeepsElsewhere v d.flash e.flash) → t.open_block ≡ None → MayLose v t → Leaves v (log_of d t) (log_of e u)
+  pub leaves_marked : IsReady e u → HandsOut d e t u → (d.honest ≡ true → KeepsElsewhere v d.flash e.flash) → t.open_block ≡ None → MayLose v t → Leaves (Unit {0}) v (log_of d t) (log_of e u)
   leaves_marked ready hands elsewhere closed first = record {
     keeps = keeps_marked ready hands.numbers elsewhere;
-    checked = hands.truth.checked;
+    checked = λ _. hands.truth.checked;
     reads = let same = same_failures result marks.ends in let reads = marks.reads in omega (arith, same, reads);
     open_block = notes.open_block ∙ closed;
     checkpoint = λ c is. go c (hands.truth.noted c is) first;
@@ -234,7 +234,7 @@ module _ (spare : ℕ) (x : Index) (d e : Device) (t u : Table) (held : AreHeld 
     | inr power ↦ leaves_unkept spare e u x keeps.ready tables held_after (are_kept honest power)
   ]
 
-  pub seals_from : StaysChecked (log_of d t) (log_of e u)
+  pub seals_from : (IsExact d x → StaysChecked (log_of d t) (log_of e u))
       → (d.honest ≡ true → (s : ℕ) (objects : Objects) → ShowsExactly d.geometry d.flash (kept_pages x) s objects → ShowsExactly e.geometry e.flash (kept_pages x) s objects)
       → Seals spare x (log_of d t) (log_of e u)
   seals_from checked shows = record { keeps = keeps; stands = stands_after; checked = checked; shows = shows; same_data = same_data; free = free }
@@ -244,7 +244,7 @@ pub seals_here : (spare : ℕ) (x : Index) (d : Device) (t : Table) → IsReady 
 seals_here spare x d t ready stands = record {
   keeps = keeps_here d t ready (hands_nothing d t).numbers;
   stands = stands;
-  checked = λ honest is. is;
+  checked = λ _ honest is. is;
   shows = λ honest s objects is. is;
   same_data = λ honest o c p bytes is has. has;
   free = λ honest leaves. leaves;

@@ -35,7 +35,7 @@ use Rattle.checkpoint_writing.specs.Due.{IsDue, check_pages}
 use Rattle.checkpoint_writing.specs.Keeping.{IsExact, KeepsPages, ShowsExactly}
 use Rattle.checkpoint_writing.specs.Listing.{kept_keys, check_entry, check_entries}
 use Rattle.checkpoint_writing.specs.Source.{CanList, index_entries}
-use Rattle.checkpoint_writing.specs.Writing.{MayTake}
+use Rattle.checkpoint_writing.specs.Writing.{ListKept, MayTake}
 use Rattle.checkpoint_writing.specs.declared.source.Checks.{Checks}
 use Rattle.checkpoint_writing.proofs.KeyLists.{lists_keys}
 use Rattle.checkpoint_writing.proofs.Shown.{shows_still}
@@ -155,9 +155,16 @@ module _ (spare : ℕ) (d : Device) (t : Table) (x : Index) (ready : IsReady d t
     | inr power ↦ shows_later honest power s objects exact held e u keeps
   ]
 
+  -- the entries list it, where the kept keys are those of the tree
+  pub list_kept : (held : AreHeld t x) (exact : IsExact d x) (e : Device) (u : Table) → KeepsPages (log_of d t) (log_of e u) → e.gone ≡ false → ListKept x e
+  list_kept held exact e u keeps power honest =
+      let was : d.honest ≡ true = sym keeps.lasts.honest ∙ honest in
+      let shown = exact was in
+      lists_later was (had_power d e keeps.lasts power) shown.0 shown.1 shown.2 held e u keeps
+
   -- the block that was taken may take the checkpoint
-  pub may_take : (held : AreHeld t x) (exact : IsExact d x) (e : Device) (u : Table) (block : ℕ) → IsReady e u → Passes d e t u → KeepsPages (log_of d t) (log_of e u) → Takes block e t u → e.gone ≡ false → MayTake block x e u
-  may_take held exact e u block later passes keeps takes power = record {
+  pub may_take : (held : AreHeld t x) (e : Device) (u : Table) (block : ℕ) → IsReady e u → Passes d e t u → KeepsPages (log_of d t) (log_of e u) → Takes block e t u → e.gone ≡ false → MayTake block x e u
+  may_take held e u block later passes keeps takes power = record {
     open_block = takes.open_block;
     next = takes.next;
     unkept = passes.kept block ∙ takes.unkept;
@@ -172,7 +179,6 @@ module _ (spare : ℕ) (d : Device) (t : Table) (x : Index) (ready : IsReady d t
     ordinary = λ honest f is at.
         let by = kept_by (kept_pages x) keys lists f is in
         stands.ordinary (was honest) by.0.key.object by.0.key.chunk by.0.at by.1 (ap (λ (g : CheckEntry). g.object) by.2 ∙ at);
-    tree = λ honest. let shown = exact (was honest) in lists_later (was honest) (had_power d e keeps.lasts power) shown.0 shown.1 shown.2 held e u keeps;
     fresh = λ honest. subst (λ n. AreBelow e.flash n (u.entry block).seq) (sym passes.next_group) (subst (λ n. AreBelow e.flash t.next_group n) (sym takes.seq) (takes.below honest));
   } where
     was : e.honest ≡ true → d.honest ≡ true

@@ -162,20 +162,20 @@ module _ {T : Type 0} (pages : Ghosts T) (source : T) (d e : Device) (t u : Tabl
 
   -- what the writing leaves, where the block is noted and where it is not
   pub leaves_noted : (v : Table) → v ≡ noted block u → IsReady e u → t.next_group < number_end → ReadsSuspects d e
-      → (d.honest ≡ true → IsChecked d.geometry d.flash None → IsChecked e.geometry e.flash (Some block)) → Leaves block (log_of d t) (log_of e v)
+      → {right : Type 0} → (right → d.honest ≡ true → IsChecked d.geometry d.flash None → IsChecked e.geometry e.flash (Some block)) → Leaves right block (log_of d t) (log_of e v)
   leaves_noted v is after less reads checked = record {
     keeps = keeps_noted v is after less;
-    checked = λ honest was. subst (IsChecked e.geometry e.flash) (sym (ap (λ (x : Table). x.checkpoint) is)) (checked honest (subst (IsChecked d.geometry d.flash) none_before was));
+    checked = λ is_right honest was. subst (IsChecked e.geometry e.flash) (sym (ap (λ (x : Table). x.checkpoint) is)) (checked is_right honest (subst (IsChecked d.geometry d.flash) none_before was));
     reads = reads;
     open_block = ap (λ (x : Table). x.open_block) is;
     checkpoint = λ c at. let both : Some block ≡ Some c = sym (ap (λ (x : Table). x.checkpoint) is) ∙ at in cc;
   }
 
   pub leaves_group : IsReady e u → t.next_group < number_end → ReadsSuspects d e → u.open_block ≡ None → u.checkpoint ≡ t.checkpoint
-      → (d.honest ≡ true → IsChecked d.geometry d.flash None → IsChecked e.geometry e.flash None) → Leaves block (log_of d t) (log_of e u)
+      → {right : Type 0} → (right → d.honest ≡ true → IsChecked d.geometry d.flash None → IsChecked e.geometry e.flash None) → Leaves right block (log_of d t) (log_of e u)
   leaves_group after less reads closed still checked = record {
     keeps = keeps_group after less;
-    checked = λ honest was. subst (IsChecked e.geometry e.flash) (sym (still ∙ none_before)) (checked honest (subst (IsChecked d.geometry d.flash) none_before was));
+    checked = λ is_right honest was. subst (IsChecked e.geometry e.flash) (sym (still ∙ none_before)) (checked is_right honest (subst (IsChecked d.geometry d.flash) none_before was));
     reads = reads;
     open_block = closed;
     checkpoint = λ c at. let two : None ≡ Some c = sym none_before ∙ sym still ∙ at in absurd cc;

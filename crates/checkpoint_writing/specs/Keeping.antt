@@ -52,12 +52,12 @@ abbrev pub StaysChecked : LogState → LogState → Type 0
 StaysChecked old new = old.device.honest ≡ true
     → IsChecked old.device.geometry old.device.flash old.table.checkpoint → IsChecked new.device.geometry new.device.flash new.table.checkpoint
 
--- What stands of a log stands still, with the tree that was shown, the data of each kept page and as many free blocks; and no whole
--- checkpoint is wrong that was not before.
+-- What stands of a log stands still, with the tree that was shown, the data of each kept page and as many free blocks. Where the kept
+-- keys are those of the tree, no whole checkpoint is wrong that was not before.
 pub record Seals (spare : ℕ) (x : Index) (old new : LogState) : Type 0 where
   pub keeps : KeepsPages old new
   pub stands : Stands spare new.device new.table x
-  pub checked : StaysChecked old new
+  pub checked : IsExact old.device x → StaysChecked old new
   pub shows : old.device.honest ≡ true → (s : ℕ) (objects : Objects)
       → ShowsExactly old.device.geometry old.device.flash (kept_pages x) s objects → ShowsExactly new.device.geometry new.device.flash (kept_pages x) s objects
   pub same_data : old.device.honest ≡ true → SameData (kept_pages x) old.device.flash new.device.flash

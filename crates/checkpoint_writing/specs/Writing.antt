@@ -23,8 +23,8 @@ use Rattle.checkpoint_writing.specs.declared.fault.SealFault.TheVariants as faul
 use Rattle.checkpoint_writing.specs.declared.writing.Written.{Written}
 use Rattle.checkpoint_writing.specs.declared.writing.Written.TheVariants as writes
 
--- The open block may take the checkpoint of the kept keys: it has neither a kept nor a written page, and of an honest device the
--- entries list the tree, none of the object of checkpoints, and the block's number and that of the next group are above all.
+-- The open block may take the checkpoint of the kept keys: it has neither a kept nor a written page, and of an honest device no entry
+-- is of the object of checkpoints, and the block's number and that of the next group are above all.
 pub record MayTake (block : ℕ) (x : Index) (d : Device) (t : Table) : Type 0 where
   pub open_block : t.open_block ≡ Some block
   pub next : (t.entry block).next ≡ 0
@@ -33,8 +33,11 @@ pub record MayTake (block : ℕ) (x : Index) (d : Device) (t : Table) : Type 0 w
   pub rise : AllPairs IsEntryBefore (index_entries x)
   pub apart : (e : CheckEntry) → Contains (index_entries x) e → e.block ≢ block
   pub ordinary : d.honest ≡ true → (e : CheckEntry) → Contains (index_entries x) e → e.object ≢ check_object
-  pub tree : d.honest ≡ true → ListsTree d.geometry d.flash (index_entries x)
   pub fresh : d.honest ≡ true → AreBelow d.flash t.next_group (t.entry block).seq
+
+-- the entries of the kept keys list the tree of an honest device
+abbrev pub ListKept : Index → Device → Type 0
+ListKept x d = d.honest ≡ true → ListsTree d.geometry d.flash (index_entries x)
 
 -- The checkpoint of the kept keys is in the block that may have one, and of an honest device it is whole.
 pub record HasCheckpoint (x : Index) (log : LogState) : Type 0 where
@@ -53,10 +56,11 @@ ReadsSuspects old new = new.reads + old.failures ≤ old.reads + new.failures
 abbrev pub ChangesAtMost : ℕ → Device → Device → Type 0
 ChangesAtMost count old new = new.changes ≤ old.changes + count
 
--- What each step leaves once the block was taken: it is closed, and no other may have a checkpoint.
-pub record Leaves (block : ℕ) (old new : LogState) : Type 0 where
+-- What each step leaves once the block was taken: it is closed, and no other may have a checkpoint. If this is so, each whole checkpoint
+-- stays right.
+pub record Leaves (right : Type 0) (block : ℕ) (old new : LogState) : Type 0 where
   pub keeps : KeepsPages old new
-  pub checked : StaysChecked old new
+  pub checked : right → StaysChecked old new
   pub reads : ReadsSuspects old.device new.device
   pub open_block : new.table.open_block ≡ None
   pub checkpoint : (c : ℕ) → new.table.checkpoint ≡ Some c → c ≡ block

@@ -5,7 +5,7 @@ ghost use Rattle.transactions.specs.Checking.{log_of};
 ghost use Rattle.transactions.specs.Ready.{IsReady};
 ghost use Rattle.bad_blocks.specs.Moving.{AnswersFailures, MarksFailures};
 ghost use Rattle.bad_blocks.specs.Standing.{Stands};
-ghost use Rattle.checkpoint_writing.specs.Keeping.{IsExact, Seals};
+ghost use Rattle.checkpoint_writing.specs.Keeping.{Seals};
 ghost use Rattle.checkpoint_writing.specs.Due.{check_pages};
 ghost use Rattle.checkpoint_writing.specs.Sealing.{SealEnds};
 ghost use Rattle.checkpoint_writing.specs.Writing.{ReadsSuspects};
@@ -33,7 +33,6 @@ pub fn seal<N: Nand>(
     requires ready { IsReady (N.state device.old) (table blocks.old) }
     requires stands { Stands spare (N.state device.old) (table blocks.old) index.now }
     requires size { length scratch.old ≡ (N.state device.old).geometry.bytes }
-    requires exact { IsExact (N.state device.old) index.now }
     ensures seals { Seals spare index.now (log_of (N.state device.old) (table blocks.old)) (log_of (N.state device.new) (table blocks.new)) }
     // Each mark answers a failure, and after Ok each failure has its mark.
     ensures marks { MarksFailures 0 0 (N.state device.old) (N.state device.new) (table blocks.old) (table blocks.new) }

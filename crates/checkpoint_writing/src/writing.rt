@@ -9,7 +9,7 @@ ghost use Rattle.transactions.specs.Ready.{IsReady};
 ghost use Rattle.bad_blocks.specs.Moving.{AnswersFailures, MarksFailures};
 ghost use Rattle.checkpoint_writing.specs.Sealing.{IntoEnds};
 ghost use Rattle.checkpoint_writing.specs.Source.{CanList};
-ghost use Rattle.checkpoint_writing.specs.Writing.{ChangesAtMost, Leaves, MarkEnds, MayMark, MayTake, WriteEnds, unanswered};
+ghost use Rattle.checkpoint_writing.specs.Writing.{ChangesAtMost, Leaves, ListKept, MarkEnds, MayMark, MayTake, WriteEnds, unanswered};
 
 use crate::fault::SealFault;
 use crate::source::Checks;
@@ -53,7 +53,7 @@ fn write_checks<N: Nand>(
     requires size { length scratch.old ≡ (N.state device.old).geometry.bytes }
     requires list { CanList checks.now (N.state device.old).geometry (table blocks.old).next_group }
     requires take { MayTake block checks.now.index.now (N.state device.old) (table blocks.old) }
-    ensures leaves { Leaves block (log_of (N.state device.old) (table blocks.old)) (log_of (N.state device.new) (table blocks.new)) }
+    ensures leaves { Leaves (ListKept checks.now.index.now (N.state device.old)) block (log_of (N.state device.old) (table blocks.old)) (log_of (N.state device.new) (table blocks.new)) }
     ensures block { MayMark block (table blocks.new) }
     ensures counts { (bad_count (table blocks.new) ≡ bad_count (table blocks.old)) × ChangesAtMost checks.now.pages (N.state device.old) (N.state device.new) }
     ensures answers { OnOk result ((N.state device.new).failures ≡ (N.state device.old).failures + unanswered result) }
@@ -86,7 +86,7 @@ fn mark_failed<N: Nand>(
 ) -> Result<(), SealFault>
     requires ready { IsReady (N.state device.old) (table blocks.old) }
     requires block { MayMark block (table blocks.old) }
-    ensures leaves { Leaves block (log_of (N.state device.old) (table blocks.old)) (log_of (N.state device.new) (table blocks.new)) }
+    ensures leaves { Leaves (Unit {0}) block (log_of (N.state device.old) (table blocks.old)) (log_of (N.state device.new) (table blocks.new)) }
     ensures marks { bad_count (table blocks.new) ≤ bad_count (table blocks.old) + 1 }
     ensures failures { (N.state device.new).failures ≡ (N.state device.old).failures }
     ensures costs { ChangesAtMost 1 (N.state device.old) (N.state device.new) }
@@ -117,7 +117,7 @@ pub(crate) fn write_into<N: Nand>(
     requires size { length scratch.old ≡ (N.state device.old).geometry.bytes }
     requires list { CanList checks.now (N.state device.old).geometry (table blocks.old).next_group }
     requires take { MayTake block checks.now.index.now (N.state device.old) (table blocks.old) }
-    ensures leaves { Leaves block (log_of (N.state device.old) (table blocks.old)) (log_of (N.state device.new) (table blocks.new)) }
+    ensures leaves { Leaves (ListKept checks.now.index.now (N.state device.old)) block (log_of (N.state device.old) (table blocks.old)) (log_of (N.state device.new) (table blocks.new)) }
     ensures marks { MarksFailures 0 0 (N.state device.old) (N.state device.new) (table blocks.old) (table blocks.new) }
     ensures answers { OnOk result (AnswersFailures 0 0 (N.state device.old) (N.state device.new) (table blocks.old) (table blocks.new)) }
     ensures costs { Costs checks.now.pages 1 0 (N.state device.old) (N.state device.new) }

@@ -1,7 +1,7 @@
 // The pages of a mounted volume.
 ghost use Rattle.std.specs.Prelude.{◌≡◌, ◌≤◌, ◌+◌, true, Ok};
 ghost use Rattle.nand_model.specs.Counts.{Costs};
-ghost use Rattle.objects.specs.Sealing.{IsExact, IsSealed};
+ghost use Rattle.objects.specs.Sealing.{IsSealed};
 ghost use Rattle.flash_pages.specs.declared.mounted.FlashPages.TheVariants as kinds;
 
 use crate::read_only::ReadOnlyPages;
@@ -36,7 +36,6 @@ impl<N: Nand> FlashPages<N> {
     /// Writes a checkpoint of the pages that are kept, where one is due, and gives the device back. Of pages that are only
     /// read it makes no call.
     pub fn seal(self) -> (N, Result<(), StoreFault>)
-        requires exact { IsExact (⟦<FlashPages<N> as Pages>⟧.state self) }
         ensures seals { IsSealed (IsDueOf self) (⟦<FlashPages<N> as Pages>⟧.state self) (N.state result.0) result.1 }
         // The erase of a block and the pages of the checkpoint, and for each failure an erase or a mark, and what failed.
         ensures costs { let d = (⟦<FlashPages<N> as Pages>⟧.state self).device in Costs (d.geometry.pages + 1) 2 0 d (N.state result.0) }

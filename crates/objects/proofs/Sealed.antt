@@ -33,7 +33,7 @@ use Rattle.checkpoint_writing.specs.declared.fault.SealFault.{SealFault}
 use Rattle.checkpoint_writing.specs.declared.fault.SealFault.TheVariants as causes
 use Rattle.volume_terms.specs.declared.fault.StoreFault.{StoreFault}
 use Rattle.volume_terms.specs.declared.fault.StoreFault.TheVariants as faults
-use Rattle.objects.specs.Sealing.{IsExact, IsSealed, KeepsTree, LeavesOne, SealEnds, seal_fault_of, EndsOn}
+use Rattle.objects.specs.Sealing.{IsExact, IsSealed, KeepsTree, LeavesOne, SealEnds, StaysRight, seal_fault_of, EndsOn}
 use Rattle.objects.specs.StoreOf.{kept_map, next_numbers, store_seen}
 use Rattle.objects.specs.laws.Sound.{sound_whole}
 use Rattle.objects.specs.declared.store.Found.{Found}
@@ -77,8 +77,8 @@ module _ (d : Device) (t : Table) (x : Index) (buffer : Buffer) (cache : PageCac
   -- what is kept is what the log keeps
   pub exact_kept : broken ≡ false → (broken ≡ false → d.honest ≡ true → AreKept d.flash (kept_pages x)) → IsExact seen → writing.IsExact d x
   exact_kept whole newest exact honest =
-      let tree : Objects = (exact (is_sound d.honest broken honest whole)).0 in
-      let is : KeepsTree seen tree = (exact (is_sound d.honest broken honest whole)).1 in (
+      let tree : Objects = (exact (is_sound d.honest broken honest whole) honest).0 in
+      let is : KeepsTree seen tree = (exact (is_sound d.honest broken honest whole) honest).1 in (
         spare,
         tree,
         record {
@@ -105,16 +105,16 @@ module _ (d : Device) (t : Table) (x : Index) (buffer : Buffer) (cache : PageCac
       numbers = hands_told d d t t (hands_nothing d t);
       marks = omega arith;
       limits = λ honest left. left;
-      checked = λ honest checked. checked;
     };
+    checked = λ _ honest was. was;
     kept = λ sound. absurd (let two : false ≡ true = sym (not_sound d.honest broken is) ∙ sound in cc);
     ends = inr (not_sound d.honest broken is);
   }
 
-  module _ (e : Device) (u : Table) (before : IsReady d t) (stands : Stands spare d t x) (newest : broken ≡ false → d.honest ≡ true → AreKept d.flash (kept_pages x)) (none : (y : Index) (b : ℕ) → kept_in y b ≡ 0 → HoldsNone (kept_pages y) b)
+  module _ (e : Device) (u : Table) (before : IsReady d t) (stands : Stands spare d t x) (whole : broken ≡ false) (newest : broken ≡ false → d.honest ≡ true → AreKept d.flash (kept_pages x)) (none : (y : Index) (b : ℕ) → kept_in y b ≡ 0 → HoldsNone (kept_pages y) b)
       (seals : writing.Seals spare x (log_of d t) (log_of e u)) (marks : MarksFailures 0 0 d e t u) where
-    still_carried : broken ≡ false → d.honest ≡ true → IsCarried e spare (kept_map d x)
-    still_carried whole honest = carried_known d.honest e spare (kept_data x d.flash) (record {
+    still_carried : d.honest ≡ true → IsCarried e spare (kept_map d x)
+    still_carried honest = carried_known d.honest e spare (kept_data x d.flash) (record {
       newest = carries_still d.flash e.flash x (newest whole honest) (seals.same_data honest);
       free = λ left. leaves_fewer e.geometry e.flash spare (IsKept (kept_pages x)) (HasPage (kept_data x d.flash)) (λ o c has. kept_of_data d.flash (kept_pages x o c) has.0 has.1)
           (seals.free honest (leaves_unkept spare d t x before stands.tables (are_held t x (none x) stands.tables.counts) (newest whole honest)));
@@ -132,11 +132,13 @@ module _ (d : Device) (t : Table) (x : Index) (buffer : Buffer) (cache : PageCac
       numbers = numbers_told d e t u seals.keeps.numbers;
       marks = marks_told d e t u before seals.keeps.ready marks;
       limits = λ honest left. limits_told e u seals.keeps.ready seals.stands.limits (seals.keeps.lasts.honest ∙ honest);
-      checked = seals.checked;
     }
 
+    left_right : IsExact seen → StaysRight seen (left_by seen e u)
+    left_right exact honest = seals.checked (exact_kept whole newest exact) honest
+
     left_kept : seen.sound ≡ true → KeptAs (left_by seen e u) seen.kept
-    left_kept sound = record { carried = λ honest. still_carried (sound_whole d.honest broken sound) (sound_honest d.honest broken sound); kept = λ yes o c. refl }
+    left_kept sound = record { carried = λ honest. still_carried (sound_honest d.honest broken sound); kept = λ yes o c. refl }
 
     stays_same : log_of e u ≡ log_of d t → StaysSame seen (left_by seen e u)
     stays_same same = record {
@@ -162,13 +164,14 @@ module _ (d : Device) (t : Table) (x : Index) (buffer : Buffer) (cache : PageCac
     ends_failed causes.Gone (due, why) = inl (inl why)
 
     pub sealed_done : endings.SealEnds spare x (log_of d t) (log_of e u) (Ok tt) → IsSealed (IsDue spare t) seen e (Ok tt)
-    sealed_done ends = record { pages = left_by seen e u; device_is = refl; ends_on = left_on; kept = left_kept; ends = ends_done ends }
+    sealed_done ends = record { pages = left_by seen e u; device_is = refl; ends_on = left_on; checked = left_right; kept = left_kept; ends = ends_done ends }
 
     pub sealed_failed : (fault : SealFault) (told : StoreFault) → told ≡ seal_fault_of fault → endings.SealEnds spare x (log_of d t) (log_of e u) (Err fault) → IsSealed (IsDue spare t) seen e (Err told)
     sealed_failed fault told same ends = record {
       pages = left_by seen e u;
       device_is = refl;
       ends_on = left_on;
+      checked = left_right;
       kept = left_kept;
       ends = subst (λ (f : StoreFault). SealEnds (IsDue spare t) seen (left_by seen e u) (Err f)) (sym same) (ends_failed fault ends);
     }

@@ -21,12 +21,11 @@ pub record KeepsTree (p : PagesState) (tree : Objects) : Type 0 where
   pub all : (o c : ℕ) → InFootprint (sizes_of p.device.geometry p.spare) (HasNewest p.device.flash) tree o c → HasPage p.kept o c
   pub only : (o c : ℕ) → HasPage p.kept o c → InFootprint (sizes_of p.device.geometry p.spare) (HasNewest p.device.flash) tree o c
 
--- a sound store keeps the pages of a tree, and no others
+-- a sound store of an honest device keeps the pages of a tree, and no others
 abbrev pub IsExact : PagesState → Type 0
-IsExact p = p.sound ≡ true → (tree : Objects) × KeepsTree p tree
+IsExact p = p.sound ≡ true → p.device.honest ≡ true → (tree : Objects) × KeepsTree p tree
 
--- What a store keeps that is given up: what every call of a store keeps, but that a block may come to be noted. If each whole
--- checkpoint of an honest device was right and in the block that was noted, each is right and in the one that is noted then.
+-- What a store keeps that is given up: what every call of a store keeps, but that a block may come to be noted.
 pub record EndsOn (old new : PagesState) : Type 0 where
   pub page_bytes : new.page_bytes ≡ old.page_bytes
   pub most : new.most ≡ old.most
@@ -38,8 +37,11 @@ pub record EndsOn (old new : PagesState) : Type 0 where
   pub numbers : HandsOutNumbers old.device new.device old.next new.next
   pub marks : bad_on new.device + old.device.failures ≤ bad_on old.device + new.device.failures
   pub limits : old.device.honest ≡ true → HasNumbersLeft old.device.flash → HasNumbersLeft new.device.flash
-  pub checked : old.device.honest ≡ true
-      → IsChecked old.device.geometry old.device.flash old.checkpoint → IsChecked new.device.geometry new.device.flash new.checkpoint
+
+-- If each whole checkpoint of an honest device was right and in the block that was noted, each is right and in the one that is now.
+abbrev pub StaysRight : PagesState → PagesState → Type 0
+StaysRight old new = old.device.honest ≡ true
+    → IsChecked old.device.geometry old.device.flash old.checkpoint → IsChecked new.device.geometry new.device.flash new.checkpoint
 
 -- the block noted has a checkpoint, which is whole on an honest device
 pub record HasWhole (p : PagesState) : Type 0 where
@@ -60,11 +62,12 @@ SealEnds due old new (Err faults.Device) = HasFailed new.device ⊎ (old.sound �
 SealEnds due old new (Err faults.Worn) = new.spare < bad_on new.device
 
 -- A store gave its device back, and a checkpoint was written where one was due: what became of its pages, of which those that were
--- kept are so still; and how that ended.
+-- kept are so still; that checkpoints stay right where it kept the pages of a tree and no others; and how that ended.
 pub record IsSealed (due : Type 0) (old : PagesState) (device : Device) (result : Result (Unit {0}) StoreFault) : Type 0 where
   pub pages : PagesState
   pub device_is : pages.device ≡ device
   pub ends_on : EndsOn old pages
+  pub checked : IsExact old → StaysRight old pages
   pub kept : old.sound ≡ true → KeptAs pages old.kept
   pub ends : SealEnds due old pages result
 

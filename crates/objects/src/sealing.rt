@@ -3,7 +3,7 @@ ghost use Rattle.std.specs.Prelude.{◌≡◌, ◌≤◌, ◌+◌};
 ghost use Rattle.block_state.specs.TableOf.{table};
 ghost use Rattle.checkpoint_writing.specs.Due.{IsDue};
 ghost use Rattle.nand_model.specs.Counts.{Costs};
-ghost use Rattle.objects.specs.Sealing.{IsExact, IsSealed, seal_fault_of};
+ghost use Rattle.objects.specs.Sealing.{IsSealed, seal_fault_of};
 
 use crate::store::Store;
 use checkpoint_writing::{SealFault, seal};
@@ -27,7 +27,6 @@ impl<N: Nand> Store<N> {
     /// Writes a checkpoint of the pages that are kept, where one is due, and gives the device back. What is buffered is not
     /// written.
     pub fn seal(self) -> (N, Result<(), StoreFault>)
-        requires exact { IsExact (⟦<Store<N> as Pages>⟧.state self) }
         ensures seals { IsSealed (IsDue self.spare (table self.blocks)) (⟦<Store<N> as Pages>⟧.state self) (N.state result.0) result.1 }
         // The erase of a block and the pages of the checkpoint, and for each failure an erase or a mark, and what failed.
         ensures costs { Costs ((N.state self.device).geometry.pages + 1) 2 0 (N.state self.device) (N.state result.0) }

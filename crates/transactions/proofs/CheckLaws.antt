@@ -7,7 +7,7 @@ use Rattle.nand_model.specs.declared.geometry.Geometry.{Geometry}
 use Rattle.page_tags.specs.declared.tag.Tag.{Tag}
 use Rattle.page_tags.specs.Tags.{tag_bytes, IsTag}
 use Rattle.page_tags.specs.Checks.{check_page}
-use Rattle.flash_tree.specs.Checkpoints.{Checkpoint, check_group, check_tag, IsChecked, AddsCheckpoint}
+use Rattle.flash_tree.specs.Checkpoints.{Checkpoint, check_group, check_tag, IsChecked, AddsCheckpoint, ListsTree}
 use Rattle.flash_tree.specs.Groups.{Group, SameGroups, AddsGroup, AllThere}
 use Rattle.flash_tree.specs.laws.Checking.{none_checked, none_where, ordinary_added, checkpoint_added}
 use Rattle.block_state.specs.Table.{Table}
@@ -22,7 +22,7 @@ use Rattle.transactions.specs.Ready.{IsReady}
 use Rattle.transactions.specs.Written.{tag_in}
 use Rattle.transactions.specs.laws.Handing.{below_greater}
 
-module _ {T : Type 0} (pages : Ghosts T) (source : T) (d e : Device) (t : Table) (writes : WritesCheckpoint pages source d t) (ready : IsReady d t) (lasts : Lasts d e)
+module _ {T : Type 0} (pages : Ghosts T) (source : T) (d e : Device) (t : Table) (writes : WritesCheckpoint pages source d t) (tree : ListsTree d.geometry d.flash writes.entries) (ready : IsReady d t) (lasts : Lasts d e)
     (grows : Grows d.flash e.flash) (stays : Stays t d e) (honest : d.honest ≡ true) (below : BelowAfter t writes.block d.flash e.flash) where
   -- the checkpoint that is written
   abbrev written : Checkpoint
@@ -57,7 +57,7 @@ module _ {T : Type 0} (pages : Ghosts T) (source : T) (d e : Device) (t : Table)
     adds = subst (λ (x : Group). AddsGroup x d.flash e.flash) same_group added.group;
     elsewhere = λ k l ne. stays.other_blocks honest k l (λ is. let both : Some writes.block ≡ Some k = sym writes.open_block ∙ is in let here : writes.block ≡ k = cc in ne (sym here));
     whole = record { good = good; size = writes.size; pages = all_there added.pages; entries = writes.each; rise = writes.rise };
-    tree = writes.tree;
+    tree = tree;
     apart = writes.apart;
     ordinary = writes.ordinary;
     below = writes.fresh;

@@ -28,8 +28,8 @@ pub record LogState : Type 0 where
 abbrev pub log_of : Device → Table → LogState
 log_of d t = record { device = d; table = t }
 
--- The source has the pages of a checkpoint that lists the device's tree, for the open block, of which no page is written: no page of the
--- tree lies in this block, no entry is of the object of checkpoints, and the next group and the block have numbers above all that stand.
+-- The source has the pages of a checkpoint of these entries, for the open block, of which no page is written: no entry is of a page in
+-- this block or of the object of checkpoints, and the next group and the block have numbers above all that stand.
 pub record WritesCheckpoint {T : Type 0} (pages : Ghosts T) (source : T) (d : Device) (t : Table) : Type 0 where
   pub block : ℕ
   pub open_block : t.open_block ≡ Some block
@@ -40,7 +40,6 @@ pub record WritesCheckpoint {T : Type 0} (pages : Ghosts T) (source : T) (d : De
   pub bytes : (i : ℕ) → i < pages.count source → pages.bytes source d.flash i ≡ check_page d.geometry.bytes entries i
   pub each : All IsCheckEntry entries
   pub rise : AllPairs IsEntryBefore entries
-  pub tree : ListsTree d.geometry d.flash entries
   pub apart : (e : CheckEntry) → Contains entries e → e.block ≢ block
   pub ordinary : (e : CheckEntry) → Contains entries e → e.object ≢ check_object
   pub fresh : AreBelow d.flash t.next_group (t.entry block).seq

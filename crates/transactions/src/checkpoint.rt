@@ -4,6 +4,7 @@ ghost use Rattle.volume_terms.specs.Sizes.{number_end};
 ghost use Rattle.nand_model.specs.Calls.{Lasts};
 ghost use Rattle.block_state.specs.TableOf.{table};
 ghost use Rattle.transactions.specs.Ready.{IsReady};
+ghost use Rattle.flash_tree.specs.Checkpoints.{ListsTree};
 ghost use Rattle.transactions.specs.Checking.{log_of, WritesCheckpoint, WritesGroup, LeavesChecked};
 
 use crate::group::{GroupFault, Placed, write_any};
@@ -25,12 +26,12 @@ pub fn write_checkpoint<N: Nand, S: PageSource>(
     requires size { length scratch.old ≡ (N.state device.old).geometry.bytes }
     requires source { S.ready source.now (N.state device.old).geometry (table blocks.old).next_group }
     requires has { (N.state device.old).honest ≡ true → (i : ℕ) → i < S.count source.now → S.has source.now (N.state device.old).flash i }
-    requires lists { (N.state device.old).honest ≡ true → WritesCheckpoint S.PageSource source.now (N.state device.old) (table blocks.old) }
     ensures lasts { Lasts (N.state device.old) (N.state device.new) }
     ensures ready { IsReady (N.state device.new) (table blocks.new) }
     ensures group { WritesGroup S.PageSource source.now (log_of (N.state device.old) (table blocks.old)) (log_of (N.state device.new) (table blocks.new)) result }
-    // Where no checkpoint was whole, each that is now is right, and in this block.
-    ensures checked { (N.state device.old).honest ≡ true → LeavesChecked (N.state device.old) (N.state device.new) (table blocks.old).open_block result }
+    // Where no checkpoint was whole, and this one lists the device's tree, each that is whole now is right, and in this block.
+    ensures checked { (N.state device.old).honest ≡ true → (writes : WritesCheckpoint S.PageSource source.now (N.state device.old) (table blocks.old))
+        → ListsTree (N.state device.old).geometry (N.state device.old).flash writes.entries → LeavesChecked (N.state device.old) (N.state device.new) (table blocks.old).open_block result }
 {
     write_any(device, blocks, source, scratch)
 }

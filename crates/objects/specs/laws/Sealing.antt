@@ -16,5 +16,4 @@ ends_going p q goes = record {
   numbers = goes.numbers;
   marks = goes.marks;
   limits = goes.limits;
-  checked = goes.truth.checked;
 }

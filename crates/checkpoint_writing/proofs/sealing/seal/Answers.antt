@@ -8,7 +8,7 @@ use Rattle.bad_blocks.specs.Standing.{AreHeld}
 use Rattle.bad_blocks.specs.laws.Moves.{are_held, lies_apart}
 use Rattle.checkpoint_writing.specs.Keeping.{KeepsPages}
 use Rattle.checkpoint_writing.proofs.Keeping.{keeps_on, keeps_taken, seals_from, seals_here}
-use Rattle.checkpoint_writing.proofs.Listed.{can_list, may_take, shows_after}
+use Rattle.checkpoint_writing.proofs.Listed.{can_list, list_kept, may_take, shows_after}
 use Rattle.checkpoint_writing.proofs.sealing.seal.Goals as goal
 
 pub returns-in_default-clause-seals : goal.returns-in_default-clause-seals
@@ -29,7 +29,7 @@ returns-in_err-block-clause-seals g c =
     let none = c.in_err-block.ensures.ends.0 in
     let keeps : KeepsPages (log_of d t) (log_of e u) = keeps_taken d e t u k.lasts k.ready k.numbers.numbers k.passes in
     seals_from c.args.spare x d e t u held c.requires.stands keeps none.open_block
-    (lies_apart t u k.numbers.truth.noted k.passes.kept c.requires.stands.tables.apart) k.numbers.truth.checked
+    (lies_apart t u k.numbers.truth.noted k.passes.kept c.requires.stands.tables.apart) (λ _. k.numbers.truth.checked)
     (shows_after c.args.spare d t x c.requires.ready c.requires.stands held e u keeps)
 
 pub write_into-requires-clause-list : goal.write_into-requires-clause-list
@@ -55,7 +55,7 @@ write_into-requires-clause-take g c =
     let k = c.take_block.ensures in
     let held : AreHeld t x = are_held t x (c.the_counts_are_of_the_keys.ensures.none x) c.requires.stands.tables.counts in
     let ends = c.in_ok-block.ensures.ends in
-    may_take c.args.spare d t x c.requires.ready c.requires.stands held c.requires.exact e u c.in_ok-block.block k.ready k.passes (keeps_taken d e t u k.lasts k.ready k.numbers.numbers k.passes) ends.0 ends.1
+    may_take c.args.spare d t x c.requires.ready c.requires.stands held e u c.in_ok-block.block k.ready k.passes (keeps_taken d e t u k.lasts k.ready k.numbers.numbers k.passes) ends.0 ends.1
 
 pub returns-clause-seals : goal.returns-clause-seals
 returns-clause-seals g c =
@@ -70,8 +70,9 @@ returns-clause-seals g c =
     let v : Table = table c.write_into.new.blocks in
     let w = c.write_into.ensures in
     let takes = c.in_ok-block.ensures.ends.0 in
-    let keeps : KeepsPages (log_of d t) (log_of f v) = keeps_on (log_of d t) (log_of e u) (log_of f v) (keeps_taken d e t u k.lasts k.ready k.numbers.numbers k.passes) w.leaves.keeps in
+    let taken : KeepsPages (log_of d t) (log_of e u) = keeps_taken d e t u k.lasts k.ready k.numbers.numbers k.passes in
+    let keeps : KeepsPages (log_of d t) (log_of f v) = keeps_on (log_of d t) (log_of e u) (log_of f v) taken w.leaves.keeps in
     seals_from c.args.spare x d f t v held c.requires.stands keeps w.leaves.open_block
     (λ n is. keeps.kept n ∙ ap (λ b. (t.entry b).kept) (w.leaves.checkpoint n is) ∙ takes.unkept)
-    (λ honest checked. w.leaves.checked (k.lasts.honest ∙ honest) (k.numbers.truth.checked honest checked))
+    (λ exact honest checked. w.leaves.checked (list_kept c.args.spare d t x c.requires.ready c.requires.stands held exact e u taken c.in_ok-block.ensures.ends.1) (k.lasts.honest ∙ honest) (k.numbers.truth.checked honest checked))
     (shows_after c.args.spare d t x c.requires.ready c.requires.stands held f v keeps)

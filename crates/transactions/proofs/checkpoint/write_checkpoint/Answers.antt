@@ -4,9 +4,8 @@ use Rattle.transactions.proofs.CheckLaws.{checkpoint_written}
 use Rattle.transactions.proofs.checkpoint.write_checkpoint.Goals as goal
 
 pub returns-clause-checked : goal.returns-clause-checked
-returns-clause-checked g c = λ honest.
+returns-clause-checked g c = λ honest writes tree.
     let made = c.write_any.ensures in
     let old : Device = g.N.Nand.state c.args.device.now in
-    let writes = c.requires.lists honest in
-    checkpoint_written g.S.PageSource c.args.source.now old (g.N.Nand.state c.write_any.new.device) (table c.args.blocks.now) writes c.requires.ready made.lasts
+    checkpoint_written g.S.PageSource c.args.source.now old (g.N.Nand.state c.write_any.new.device) (table c.args.blocks.now) writes tree c.requires.ready made.lasts
     (made.grows honest) made.stays honest (made.below honest writes.block writes.open_block) c.write_any.result (made.groups honest writes.block writes.open_block)

@@ -5,9 +5,6 @@ use Rattle.newest_pages.specs.Parts.{device_of, index_of, page_of}
 use Rattle.flash_pages.proofs.Sealed.{sealed_reading}
 use Rattle.flash_pages.proofs.mounted.FlashPages.seal.Goals as goal
 
-pub seal-requires : goal.seal-requires
-seal-requires g c = record { exact = rw c.in-Store.is at c.requires.exact }
-
 pub returns-in-ReadOnly-clause-seals : goal.returns-in-ReadOnly-clause-seals
 returns-in-ReadOnly-clause-seals g c =
     let s = c.in-ReadOnly.pages in

@@ -164,6 +164,7 @@ pub shown_there : (z : Sizes) (p : PagesState) (tree : Objects) → Shown z p tr
 shown_there z p tree shown honest =
     let holds = subst (λ (k : Sizes). HoldsObjects k shown.pages shown.objects) (sym shown.sizes) shown.holds in
     let can = subst (λ (k : Sizes). CanHave k shown.objects) (sym shown.sizes) shown.can in
-    let newest = (shown.carried honest).newest in
-    (volume_there p.device.geometry p.device.flash p.spare shown.pages shown.objects holds can newest,
-      subst (λ (t : Objects). Shows (volume_of p) (HasNewest p.device.flash) t) (sym shown.settles) (tree_there p.device.geometry p.device.flash p.spare shown.pages shown.objects holds can newest))
+    let newest = (shown.carried honest).newest in (
+      volume_there p.device.geometry p.device.flash p.spare shown.pages shown.objects holds can newest,
+      subst (λ (t : Objects). Shows (volume_of p) (HasNewest p.device.flash) t) (sym shown.settles) (tree_there p.device.geometry p.device.flash p.spare shown.pages shown.objects holds can newest),
+    )

@@ -1,8 +1,10 @@
 -- What a header and a search of the slots tell of a directory that is there.
-use Rattle.std.specs.Prelude.{◌≡◌, ◌≤◌, ◌+◌, ◌/◌, ℕ, length, Option, Some, None, slice_get, true}
+use Rattle.std.specs.Prelude.{◌≡◌, ◌<◌, ◌≤◌, ◌+◌, ◌/◌, ℕ, length, Option, Some, None, slice_get, true}
 use Rattle.std.specs.FinMap as map
 use Rattle.std.specs.Int.{div_ceil}
-use Rattle.std.proofs.Common.{sym, ◌∙◌, subst, arith}
+use Rattle.std.proofs.Common.{refl, sym, ◌∙◌, subst, arith}
+use Rattle.page_tags.specs.Headers.{IsHeader, greatest_told}
+use Rattle.page_tags.specs.declared.header.ObjectKind.TheVariants as kinds
 use Rattle.page_tags.specs.Slots.{Entry}
 use Rattle.flash_tree.specs.Tree.{IsPageSize}
 use Rattle.volume_terms.specs.Sizes.{Sizes, page_slots}
@@ -100,3 +102,24 @@ module _ (p q : PagesState) (finds : OnlyFinds p q) (z : Sizes) (o : ℕ) (head 
 -- what a header says after no change, it says
 pub said_now : (p : PagesState) (o : ℕ) (head : DirectoryHead) → SaysHead (after None p) o head → SaysHead p o head
 said_now p o head s = (record { fields = s.0.fields; has = s.0.has; valid = s.0.valid; kind = s.0.kind }, s.1)
+
+-- what is told of a directory that is there, where its entries are counted elsewhere
+module _ (p : PagesState) (z : Sizes) (o moment : ℕ) (entries : Entries) (d : DirIn p z o moment entries) (count : ℕ) (is : count ≡ map.len entries) where
+  abbrev pub head_of : DirectoryHead
+  head_of = record { spare = d.reads.fields.spare; length = count; moment = d.reads.fields.moment }
+
+  counted : count ≡ d.reads.fields.length
+  counted = is ∙ entries_len d.reads.slots d.reads.once entries d.reads.entries_are ∙ sym d.reads.size
+
+  pub head_told : SaysHead p o head_of
+  head_told = (
+    record { fields = d.reads.fields; has = d.reads.has.0; valid = subst (λ n. IsHeader n d.reads.fields) d.size d.reads.has.1; kind = d.reads.kind },
+    record { spare = refl; length_is = counted; moment = refl },
+  )
+
+  -- a header can say so many
+  pub few_counted : count < 4294967296
+  few_counted =
+      let most : d.reads.fields.length ≤ greatest_told z.page_bytes kinds.Directory =
+      subst (λ k. d.reads.fields.length ≤ greatest_told z.page_bytes k) d.reads.kind d.reads.has.1.length_fits in
+      omega (arith, most, counted)

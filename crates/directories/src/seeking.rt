@@ -36,7 +36,7 @@ impl Sought {
 }
 
 /// Looks for a name in the first slots of a directory that an index has under its hash. One page is asked for each.
-fn search_held<P: Pages>(
+pub(crate) fn search_held<P: Pages>(
     names: &NameIndex,
     pages: &mut P,
     directory: u64,

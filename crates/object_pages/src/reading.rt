@@ -1,5 +1,5 @@
 // What is read of the objects that the pages hold.
-ghost use Rattle.std.specs.Prelude.{◌≡◌, ◌+◌, OnOk, IfOk, IfErr, length, take, drop};
+ghost use Rattle.std.specs.Prelude.{◌≡◌, OnOk, IfOk, IfErr, length, take, drop};
 ghost use Rattle.std.specs.FinMap as map;
 ghost use Rattle.volume_terms.specs.Sizes.{Sizes};
 ghost use Rattle.posix_profile.specs.State.{Objects, IsFile, IsDirectory, entries_of};
@@ -15,23 +15,24 @@ use pages::{PageFault, Pages};
 use posix_profile::{Bytes, NameList};
 use std::alloc::Global;
 
-/// The object that a name of a directory leads to, found through an index of the names.
+/// The object that a name of a directory of so many entries leads to, found through an index of the names.
 pub fn find<P: Pages>(
     names: &NameIndex,
     pages: &mut P,
     directory: u64,
+    count: u64,
     name: &[u8],
 ) -> Result<Option<u64>, PageFault>
     ensures finds { OnlyFinds (P.state pages.old) (P.state pages.new) }
-    ensures asked { AsksHeld names.now directory name.now ((P.state pages.old).asked + 1) (P.state pages.new).asked }
+    ensures asked { AsksHeld names.now directory name.now (P.state pages.old).asked (P.state pages.new).asked }
     ensures power { OnOk result (KeepsPower (P.state pages.old) (P.state pages.new)) }
-    ensures found { (z : Sizes) (objects : Objects) → HoldsNamed names.now (P.state pages.old) z objects → IsDirectory objects directory
-        → IfOk result (λ found. found ≡ map.get (entries_of (map.get objects directory)) name.now) }
+    ensures found { (z : Sizes) (objects : Objects) → HoldsNamed names.now (P.state pages.old) z objects → (dir : IsDirectory objects directory)
+        → count ≡ map.len dir.1 → IfOk result (λ found. found ≡ map.get (entries_of (map.get objects directory)) name.now) }
     ensures why { IfErr result (SaysWhy (P.state pages.new)) }
-    ensures fault { (z : Sizes) (objects : Objects) → HoldsIn (P.state pages.old) z objects → IsDirectory objects directory
-        → IfErr result (MayLack (P.state pages.new)) }
+    ensures fault { (z : Sizes) (objects : Objects) → HoldsIn (P.state pages.old) z objects → (dir : IsDirectory objects directory)
+        → count ≡ map.len dir.1 → IfErr result (MayLack (P.state pages.new)) }
 {
-    directories::find(names, pages, directory, name)
+    directories::find(names, pages, directory, count, name)
 }
 
 /// The names of a directory, in the order of their bytes.

@@ -32,12 +32,25 @@ fn has_names(
             return Ok(false);
         }
         if *object % 16 == 0
-            && find(&store.names, &mut store.pages, directory, key.as_slice())? != led
+            && find(
+                &store.names,
+                &mut store.pages,
+                directory,
+                length as u64,
+                key.as_slice(),
+            )? != led
         {
             return Ok(false);
         }
     }
-    Ok(find(&store.names, &mut store.pages, directory, b"nowhere")?.is_none())
+    Ok(find(
+        &store.names,
+        &mut store.pages,
+        directory,
+        length as u64,
+        b"nowhere",
+    )?
+    .is_none())
 }
 
 /// The store after a name leads to an object, whether it is there or not.

@@ -1,6 +1,6 @@
 // Names with equal hashes in one directory. Which words have them was found elsewhere.
 use crate::store::{ROOT, Store, changed, empty_volume, entry};
-use directories::{LeftSlot, left_slot};
+use directories::{LeftSlot, left_slot, read_head};
 use name_index::name_hash;
 use object_pages::{find, plan};
 use object_store::ObjectChange;
@@ -40,9 +40,10 @@ fn with_pair(alloc: Global, (first, second): Pair) -> Result<Store, Fail> {
 
 /// What the names of a pair lead to.
 fn found(store: &mut Store, (first, second): Pair) -> Result<[Option<u64>; 2], Fail> {
+    let count = u64::from(read_head(&mut store.pages, ROOT)?.length);
     Ok([
-        find(&store.names, &mut store.pages, ROOT, first)?,
-        find(&store.names, &mut store.pages, ROOT, second)?,
+        find(&store.names, &mut store.pages, ROOT, count, first)?,
+        find(&store.names, &mut store.pages, ROOT, count, second)?,
     ])
 }
 

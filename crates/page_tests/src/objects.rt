@@ -45,9 +45,9 @@ fn a_file_is_found_and_read(rt: HostRuntime) -> Result<(), Fail> {
         names: index,
         mut pages,
     } = small_volume(alloc)?;
-    assert_eq!(rt; find(&index, &mut pages, ROOT, b"docs")?, Some(DOCS));
-    assert_eq!(rt; find(&index, &mut pages, DOCS, b"a")?, Some(FILE));
-    assert_eq!(rt; find(&index, &mut pages, DOCS, b"b")?, None);
+    assert_eq!(rt; find(&index, &mut pages, ROOT, 1, b"docs")?, Some(DOCS));
+    assert_eq!(rt; find(&index, &mut pages, DOCS, 1, b"a")?, Some(FILE));
+    assert_eq!(rt; find(&index, &mut pages, DOCS, 1, b"b")?, None);
     let bytes = read(&mut pages, alloc, FILE, 514, 508, 9)?;
     assert_eq!(rt; bytes.as_slice(), b"\0\0abcd".as_slice());
     assert_eq!(rt; names(&mut pages, alloc, ROOT)?.as_slice().len(), 1);
@@ -80,10 +80,13 @@ fn an_object_that_is_forgotten_has_no_pages(rt: HostRuntime) -> Result<(), Fail>
     };
     let mut store = changed(alloc, store, removed, 4)?;
     assert_eq!(rt;
-        find(&store.names, &mut store.pages, ROOT, b"b")?,
+        find(&store.names, &mut store.pages, ROOT, 2, b"b")?,
         Some(FILE)
     );
-    assert_eq!(rt; find(&store.names, &mut store.pages, ROOT, b"docs")?, None);
+    assert_eq!(rt;
+        find(&store.names, &mut store.pages, ROOT, 2, b"docs")?,
+        None
+    );
     let header = Key {
         object: DOCS,
         chunk: 0,

@@ -37,7 +37,7 @@ enum Call {
 /// Each call, how many pages it asks for, and how much it tells: names, bytes, or the pages of its change.
 const CALLS: [(Call, u64, usize); 13] = [
     (Call::Head, 1, 3),
-    (Call::Find, 2, 1),
+    (Call::Find, 1, 1),
     (Call::Names, 4, 3),
     (Call::Entries, 4, 3),
     (Call::Add, 1, 2),
@@ -78,7 +78,7 @@ fn ask_directory(
     };
     Ok(match call {
         Call::Head => read_head(&mut store.pages, HOME)?.length as usize,
-        Call::Find => usize::from(find(&store.names, &mut store.pages, HOME, b"c")?.is_some()),
+        Call::Find => usize::from(find(&store.names, &mut store.pages, HOME, 3, b"c")?.is_some()),
         Call::Names => names(alloc, &mut store.pages, HOME)?.as_slice().len(),
         Call::Entries => entries(alloc, &mut store.pages, HOME)?.len(),
         Call::Add => count_of(Some(add(alloc, &mut store.pages, HOME, slot, 9)?)),

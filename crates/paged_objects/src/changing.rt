@@ -7,7 +7,7 @@ ghost use Rattle.posix_profile.specs.State.{Objects, IsDirectory, entries_of};
 ghost use Rattle.posix_profile.specs.Changes.{new_number};
 ghost use Rattle.object_store.specs.Changes.{made, CanMake};
 ghost use Rattle.object_store.specs.declared.change.ObjectChange.TheVariants as changes;
-ghost use Rattle.object_table.specs.Told.{table_sizes, IsReadyFor, LedBefore, TellsTheSame};
+ghost use Rattle.object_table.specs.Told.{table_sizes, IsReadyFor, LedBefore, Tells, TellsTheSame};
 ghost use Rattle.pages.specs.Changes.{AreApart, AreSized, AreOfObjects, IsChange};
 ghost use Rattle.pages.specs.Maps.{changed};
 ghost use Rattle.pages.specs.State.{OnlyFinds, KeepsPower};
@@ -50,6 +50,7 @@ fn prepare(table: &mut ObjectTable, change: &ObjectChange<'_>) -> Result<(), All
 
 /// The object that a name leads to.
 fn find_object<P: PageStore>(
+    table: &ObjectTable,
     names: &NameIndex,
     pages: &mut P,
     directory: u64,
@@ -57,12 +58,12 @@ fn find_object<P: PageStore>(
 ) -> Result<Option<u64>, StoreFault>
     ensures finds { OnlyFinds (P.state pages.old) (P.state pages.new) }
     ensures power { OnOk result (KeepsPower (P.state pages.old) (P.state pages.new)) }
-    ensures found { (z : Sizes) (objects : Objects) → HasNamed names.now z (P.state pages.old) objects → IsDirectory objects directory
+    ensures found { (z : Sizes) (objects : Objects) → HasNamed names.now z (P.state pages.old) objects → Tells table.now objects → IsDirectory objects directory
         → IfOk result (λ found. found ≡ map.get (entries_of (map.get objects directory)) name.now) }
-    ensures fault { (z : Sizes) (objects : Objects) → HasNamed names.now z (P.state pages.old) objects → IsDirectory objects directory
+    ensures fault { (z : Sizes) (objects : Objects) → HasNamed names.now z (P.state pages.old) objects → Tells table.now objects → IsDirectory objects directory
         → IfErr result (ReadFailsBy (P.state pages.new)) }
 {
-    match find(names, pages, directory, name) {
+    match find(names, pages, directory, table.entry_count(directory), name) {
         Ok(found) => Ok(found),
         Err(fault) => Err(fault_of(fault)),
     }
@@ -70,24 +71,25 @@ fn find_object<P: PageStore>(
 
 /// What the name leads to that a change takes away or gives to another object.
 fn find_replaced<P: PageStore>(
+    table: &ObjectTable,
     names: &NameIndex,
     pages: &mut P,
     change: &ObjectChange<'_>,
 ) -> Result<Option<u64>, StoreFault>
     ensures finds { OnlyFinds (P.state pages.old) (P.state pages.new) }
     ensures power { OnOk result (KeepsPower (P.state pages.old) (P.state pages.new)) }
-    ensures found { (z : Sizes) (objects : Objects) → HasNamed names.now z (P.state pages.old) objects → CanMake z objects change.now
+    ensures found { (z : Sizes) (objects : Objects) → HasNamed names.now z (P.state pages.old) objects → Tells table.now objects → CanMake z objects change.now
         → IfOk result (LedBefore objects change.now) }
-    ensures fault { (z : Sizes) (objects : Objects) → HasNamed names.now z (P.state pages.old) objects → CanMake z objects change.now
+    ensures fault { (z : Sizes) (objects : Objects) → HasNamed names.now z (P.state pages.old) objects → Tells table.now objects → CanMake z objects change.now
         → IfErr result (ReadFailsBy (P.state pages.new)) }
 {
     match change {
         ObjectChange::Create { .. } => Ok(None),
         ObjectChange::Name { .. } => Ok(None),
         ObjectChange::Remove { entry, .. } => {
-            find_object(names, pages, entry.directory, entry.name)
+            find_object(table, names, pages, entry.directory, entry.name)
         }
-        ObjectChange::Move { to, .. } => find_object(names, pages, to.directory, to.name),
+        ObjectChange::Move { to, .. } => { find_object(table, names, pages, to.directory, to.name) }
         ObjectChange::Write { .. } => Ok(None),
         ObjectChange::Resize { .. } => Ok(None),
         ObjectChange::Forget { .. } => Ok(None),
@@ -207,7 +209,7 @@ pub(crate) fn make<P: PageStore>(
         → ChangeEnds old (state_with (P.state pages.new) table.new names.new) objects (made objects change.now) result }
 {
     prepare(table, change)?;
-    let replaced = find_replaced(names, pages, change)?;
+    let replaced = find_replaced(table, names, pages, change)?;
     let new = table.new_number();
     let left = change_pages(names, pages, alloc, change, new)?;
     table.apply(change, replaced);

@@ -104,7 +104,8 @@ impl<P: PageStore> ObjectStore for PagedObjects<P> {
     }
 
     fn find(&mut self, directory: u64, name: &[u8]) -> Result<Option<u64>, StoreFault> {
-        match object_pages::find(&self.names, &mut self.pages, directory, name) {
+        let count = self.table.entry_count(directory);
+        match object_pages::find(&self.names, &mut self.pages, directory, count, name) {
             Ok(found) => Ok(found),
             Err(fault) => Err(fault_of(fault)),
         }

@@ -5,9 +5,9 @@ use Rattle.object_pages.proofs.NamedHere.{named_in}
 use Rattle.object_pages.proofs.reading.find.Goals as goal
 
 pub returns-clause-found : goal.returns-clause-found
-returns-clause-found g c = λ z objects n dir.
-    rw (ap entries_of dir.2) (c.find.ensures.found z dir.0 dir.1 (named_in c.args.names.now (g.P.Pages.state c.args.pages.now) z objects n c.args.directory dir))
+returns-clause-found g c = λ z objects n dir is.
+    rw (ap entries_of dir.2) (c.find.ensures.found z dir.0 dir.1 (named_in c.args.names.now (g.P.Pages.state c.args.pages.now) z objects n c.args.directory dir) is)
 
 pub returns-clause-fault : goal.returns-clause-fault
-returns-clause-fault g c = λ z objects h dir.
-    c.find.ensures.fault z dir.0 dir.1 (directory_in (g.P.Pages.state c.args.pages.now) z objects h c.args.directory dir)
+returns-clause-fault g c = λ z objects h dir is.
+    c.find.ensures.fault z dir.0 dir.1 (directory_in (g.P.Pages.state c.args.pages.now) z objects h c.args.directory dir) is

@@ -38,7 +38,7 @@ returns-in_err-replaced-clause-makes g c = λ objects has make.
     let new = made objects c.args.change.now in
     let e = err_from_is_err_and c.from_residual-in_err-replaced.result c.from_residual-in_err-replaced.ensures.1 in
     rw (e.1, e.2) (not_made a (state_with q c.prepare.new.table c.args.names.now) objects new c.in_err-replaced.field-0.0 c.prepare.ensures.same (λ d h s it. it)
-    (read_ends z p q objects new c.in_err-replaced.field-0.0 c.find_replaced.ensures.finds (c.in_err-replaced.ensures.fault z objects (has_named a objects has) make)))
+    (read_ends z p q objects new c.in_err-replaced.field-0.0 c.find_replaced.ensures.finds (c.in_err-replaced.ensures.fault z objects (has_named a objects has) (tells_on c.args.table.now c.prepare.new.table objects c.prepare.ensures.same has.tells) make)))
 
 pub returns-in_err-left-clause-goes_on : goal.returns-in_err-left-clause-goes_on
 returns-in_err-left-clause-goes_on g c =
@@ -81,7 +81,7 @@ returns-clause-makes g c = λ objects has make.
     let tells = tells_on c.args.table.now c.prepare.new.table objects same has.tells in
     let next : c.new_number-new.result ≡ new_number objects = c.new_number-new.ensures objects tells in
     let ends : EndsPages z q r objects new (Ok tt) = c.in_ok-left.ensures.makes z objects named make next in
-    let led : LedBefore objects c.args.change.now c.in_ok-replaced.replaced = c.in_ok-replaced.ensures.found z objects mine make in
+    let led : LedBefore objects c.args.change.now c.in_ok-replaced.replaced = c.in_ok-replaced.ensures.found z objects mine tells make in
     let told : Tells c.apply.new.self new =
     c.apply.ensures.tells objects tells (can_have z (table_sizes c.prepare.new.table) objects same.sizes has.pages.can) (can_make z (table_sizes c.prepare.new.table) objects c.args.change.now same.sizes make) led in (
       ends.0,

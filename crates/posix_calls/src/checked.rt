@@ -50,9 +50,6 @@ pub fn mount_checked<N: Nand>(
     } = mounting::mount_checked(alloc, device, capacity)?;
     match join(alloc, pages, table, names, read_only) {
         Ok(volume) => Ok(Volume { volume }),
-        Err((pages, _)) => Err(unmounted(
-            pages.into_device().into_inner(),
-            MountFault::NoMemory,
-        )),
+        Err((pages, _)) => Err(unmounted(pages.into_device().into_inner(), MountFault::NoMemory)),
     }
 }

@@ -5,7 +5,14 @@ use Rattle.nand_model.specs.laws.Changes.{only_reads_on}
 use Rattle.flash_pages.specs.Parts.{device_in}
 use Rattle.pages.specs.State.{PagesState}
 use Rattle.trusted_nand.specs.Parts.{inner_of}
+use Rattle.posix_calls.proofs.Mounting.{read_only_there, since_there}
 use Rattle.posix_calls.proofs.checked.mount_checked.Goals as goal
+
+pub returns-in-Ok-clause-read : goal.returns-in-Ok-clause-read
+returns-in-Ok-clause-read g c = since_there _ _ _ _ c.in-Ok.ensures.pages c.in_ok-pages.ensures.read
+
+pub returns-in-Ok-clause-read_only : goal.returns-in-Ok-clause-read_only
+returns-in-Ok-clause-read_only g c = read_only_there _ _ _ _ c.in-Ok.ensures.read_only c.in-Ok.ensures.pages c.in_ok-pages.ensures.read_only
 
 pub returns-in-Ok-clause-tree : goal.returns-in-Ok-clause-tree
 returns-in-Ok-clause-tree g c = λ honest.

@@ -1,5 +1,5 @@
 -- A volume of mounted pages stands for their tree.
-use Rattle.std.specs.Prelude.{◌≡◌, Result, Ok, Err, IfOk}
+use Rattle.std.specs.Prelude.{◌≡◌, ◌↔◌, Bool, true, Result, Ok, Err, IfOk}
 use Rattle.std.proofs.Common.{sym, subst}
 use Rattle.std.specs.FinMap as map
 use Rattle.volume_terms.specs.Sizes.{Sizes}
@@ -13,7 +13,9 @@ use Rattle.object_table.specs.Told.{table_sizes}
 use Rattle.object_table.specs.declared.table.ObjectTable.{ObjectTable}
 use Rattle.pages.specs.State.{PagesState}
 use Rattle.paged_objects.specs.Standing.{volume_of, Shown}
-use Rattle.mounting.specs.Made.{IsMountedWith}
+use Rattle.nand_model.specs.Calls.{Device}
+use Rattle.mounting.specs.Made.{CanOnlyBeRead, IsMountedWith}
+use Rattle.mounting.specs.Named.{IsTrustedSince}
 use Rattle.page_volume.specs.Volumes.{pages_of, IsVolumeOf}
 use Rattle.page_volume.specs.declared.volume.PageVolume.{PageVolume}
 use Rattle.posix_calls.specs.Mounts.{StandsForTree}
@@ -35,3 +37,10 @@ stands_for state p table names objects (Ok v) same mounted pages volume = record
   shown = subst (λ (q : PagesState). Shown (volume_of q) q objects) (sym pages) mounted.shown;
 }
 stands_for state p table names objects (Err e) same mounted pages volume = tt
+
+-- what is said of the pages of a mount is said of those of the volume
+pub read_only_there : (b r : Bool) (p q : PagesState) → b ≡ r → q ≡ p → (r ≡ true) ↔ CanOnlyBeRead p → (b ≡ true) ↔ CanOnlyBeRead q
+read_only_there b r p q is same told = subst (λ (x : PagesState). (b ≡ true) ↔ CanOnlyBeRead x) (sym same) (subst (λ x. (x ≡ true) ↔ CanOnlyBeRead p) (sym is) told)
+
+pub since_there : (a now : Device) (p q : PagesState) → q ≡ p → IsTrustedSince a now p.device → (x : Device) × IsTrustedSince a x q.device
+since_there a now p q same since = (now, subst (λ (x : PagesState). IsTrustedSince a now x.device) (sym same) since)

@@ -2,10 +2,12 @@
 #![tactic(auto)]
 
 mod answering;
+mod checked;
 mod joining;
 mod mount;
 mod volume;
 
+pub use checked::mount_checked;
 pub use command_answers::Answers;
 pub use formatting::{FormatFault, format};
 pub use mounting::MountFault;

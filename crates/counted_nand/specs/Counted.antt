@@ -8,4 +8,4 @@ counts_of d = d.counts
 
 -- no calls
 abbrev pub none : Counts
-none = record { reads = 0; programs = 0; erases = 0; marks = 0 }
+none = record { reads = 0; tags = 0; programs = 0; erases = 0; marks = 0 }

@@ -4,7 +4,10 @@ ghost use Rattle.std.specs.Prelude.{◌≡◌, ◌-◌};
 /// How many calls of each kind there were.
 #[derive(Clone, Copy, Debug, PartialEq, Eq)]
 pub struct Counts {
+    /// Of tags alone, and of pages.
     pub reads: u64,
+    /// Those of tags alone.
+    pub tags: u64,
     pub programs: u64,
     pub erases: u64,
     pub marks: u64,
@@ -13,10 +16,11 @@ pub struct Counts {
 impl Counts {
     /// Those after others.
     pub fn since(self, before: Counts) -> Counts
-        ensures { result ≡ record { reads = self.reads - before.reads; programs = self.programs - before.programs; erases = self.erases - before.erases; marks = self.marks - before.marks } }
+        ensures { result ≡ record { reads = self.reads - before.reads; tags = self.tags - before.tags; programs = self.programs - before.programs; erases = self.erases - before.erases; marks = self.marks - before.marks } }
     {
         Counts {
             reads: self.reads.saturating_sub(before.reads),
+            tags: self.tags.saturating_sub(before.tags),
             programs: self.programs.saturating_sub(before.programs),
             erases: self.erases.saturating_sub(before.erases),
             marks: self.marks.saturating_sub(before.marks),

@@ -24,6 +24,7 @@ impl<N: Nand> CountedNand<N> {
             inner,
             counts: Counts {
                 reads: 0,
+                tags: 0,
                 programs: 0,
                 erases: 0,
                 marks: 0,
@@ -58,6 +59,7 @@ impl<N: Nand> Nand for CountedNand<N> {
 
     fn read_tag(&mut self, block: u32, page: u32, tag: &mut [u8; 48]) -> Result<PageKind, Gone> {
         self.counts.reads = self.counts.reads.saturating_add(1);
+        self.counts.tags = self.counts.tags.saturating_add(1);
         self.inner.read_tag(block, page, tag)
     }
 

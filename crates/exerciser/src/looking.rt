@@ -2,6 +2,7 @@
 ghost use Rattle.std.specs.Prelude.{◌≡◌, IfOk, IfErr};
 ghost use Rattle.nand_model.specs.MemoryState.{device};
 ghost use Rattle.page_volume.specs.Volumes.{pages_of};
+ghost use Rattle.posix_calls.specs.Endings.{LiesOn};
 ghost use Rattle.posix_calls.specs.Volumes.{over_pages};
 ghost use Rattle.powercut.specs.Sessions.{IsEnded};
 ghost use Rattle.exerciser.specs.Faults.{IsOfReading};
@@ -22,6 +23,7 @@ use posix_calls::{MountFault, Volume};
 use posix_profile::{Command, Reply, Stamped};
 use powercut::{Session, SessionEnd, live};
 use std::alloc::Global;
+use trusted_nand::TrustedNand;
 
 /// A device and the tree that a mount of it shows.
 #[derive(Drop)]
@@ -65,7 +67,7 @@ fn mount(alloc: Global, mut nand: MemNand) -> Result<Volume<MemNand>, (MemNand, 
 
 /// Gives the device of a volume back as it is.
 fn abandon(volume: Volume<MemNand>) -> MemNand
-    ensures { device result ≡ (⟦<FlashPages<MemNand> as Pages>⟧.state (pages_of (over_pages volume))).device }
+    ensures { LiesOn (⟦<FlashPages<TrustedNand<MemNand>> as Pages>⟧.state (pages_of (over_pages volume))) (device result) }
 {
     volume.abandon()
 }

@@ -3,7 +3,6 @@ pub mod Flags
 pub mod Held
 pub mod Numbers
 pub mod Questions
-pub mod Serving
 pub mod Sessions
 pub mod Slots
 pub mod Volumes

@@ -2,12 +2,13 @@
 ghost use Rattle.posix_profile.specs.declared.command.Stamped.{Stamped};
 ghost use Rattle.posix_profile.specs.declared.reply.Reply.{Reply};
 ghost use Rattle.posix_calls.specs.Volumes.{over_pages};
-ghost use Rattle.flash_c.specs.Serving.{Serves};
+ghost use Rattle.posix_calls.specs.Calls.{IsCalled};
 
 use flash_pages::FlashPages;
 use nand_model::Nand;
 use pages::Pages;
 use posix_calls::{Reply, Stamped, Volume};
+use trusted_nand::TrustedNand;
 
 /// What serves commands.
 pub(crate) trait Serve {
@@ -20,7 +21,7 @@ pub(crate) trait Serve {
 
 /// A volume of any device serves as `posix_calls` says.
 impl<N: Nand> Serve for Volume<N> {
-    ghost serves = { λ old command reply new. Serves ⟦<FlashPages<N> as Pages>⟧.state (over_pages old) command reply (over_pages new) };
+    ghost serves = { λ old command reply new. IsCalled ⟦<FlashPages<TrustedNand<N>> as Pages>⟧.state (over_pages old) command reply (over_pages new) };
 
     fn serve(&mut self, command: &Stamped) -> Reply {
         self.call(command)

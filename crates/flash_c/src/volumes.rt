@@ -17,6 +17,7 @@ use port_nand::PortNand;
 use posix_calls::Errno;
 use std::alloc::Global;
 use std::fs::File;
+use trusted_nand::TrustedNand;
 
 /// The pages that the cache of `flash_mount` keeps.
 const CACHE_PAGES: u32 = 16;
@@ -89,7 +90,7 @@ pub extern "C" fn flash_mount_with(
 /// Commits what was accepted, and empties the slot.
 #[unsafe(no_mangle)]
 pub extern "C" fn flash_unmount(slot: &mut Slot) -> i32
-    ensures { EndsIn ⟦<FlashPages<PortNand<File>> as Pages>⟧.state (λ s. over_pages s.session.volume) slot.old result slot.new }
+    ensures { EndsIn ⟦<FlashPages<TrustedNand<PortNand<File>>> as Pages>⟧.state (λ s. over_pages s.session.volume) slot.old result slot.new }
 {
     if !slot.is_full() {
         return error_number(Errno::EINVAL);

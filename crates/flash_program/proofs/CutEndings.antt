@@ -11,7 +11,6 @@ use Rattle.nand_model.specs.Calls.{Device}
 use Rattle.posix_profile.specs.declared.command.Stamped.{Stamped}
 use Rattle.flash_program.specs.Images.{NotOpened, IsCopy, ReadsInput, CutEnds, of_script, of_cut, cut_ended}
 use Rattle.flash_program.specs.declared.fault.ProgramFault.{ProgramFault}
-use Rattle.flash_program.specs.declared.fault.ProgramFault.TheVariants as faults
 
 -- both ends are the same
 abbrev SameEnd : (one other : Result (Unit {0}) ProgramFault) → Type 0

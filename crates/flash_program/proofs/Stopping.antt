@@ -1,8 +1,8 @@
 -- Nothing but a loss of power stops a session.
-use Rattle.std.proofs.Common.{◌≡◌, ◌⊎◌, ◌<◌, ◌+◌, ◌^◌, inl, inr, ℕ, true, false, List, [], ◌∷◌, Option, Result, Ok, Err, sym, ◌∙◌, ap, subst, arith}
+use Rattle.std.proofs.Common.{◌≡◌, ◌⊎◌, ◌+◌, inl, inr, ℕ, true, false, List, [], ◌∷◌, Option, Result, Ok, Err, sym, ◌∙◌, ap, subst, arith}
 use Rattle.std.proofs.lemmas.Bool.{cases_Bool, true≢false}
 use Rattle.flash_tree.specs.Mount.{Answer, Answers as IsAnswer, IsTreeOf}
-use Rattle.flash_tree.specs.Newest.{Numbers, AreGreatest}
+use Rattle.flash_tree.specs.Newest.{AreGreatest}
 use Rattle.flash_tree.specs.Sound.{IsSoundFlash}
 use Rattle.flash_tree.specs.laws.Place.{same_flash}
 use Rattle.line_shell.specs.Commands.{line_of}
@@ -25,7 +25,13 @@ use Rattle.paged_objects.specs.Standing.{volume_of}
 use Rattle.paged_objects.specs.laws.Going.{goes_here, goes_on}
 use Rattle.pages.specs.State.{PagesState, NextNumbers}
 use Rattle.pages.specs.Stores.{GoesOn}
+use Rattle.posix_calls.specs.Calls.{IsCalled}
 use Rattle.posix_calls.specs.Endings.{IsUnmounted}
+use Rattle.posix_calls.specs.laws.Ending.{ends_after}
+use Rattle.posix_calls.specs.laws.Trusting.{read_since, left_as_seen}
+use Rattle.objects.specs.Sealing.{EndsOn}
+use Rattle.objects.specs.laws.Sealing.{ends_going}
+use Rattle.powercut.specs.Living.{IsSoundOn}
 use Rattle.posix_profile.specs.Runs.{is_stop}
 use Rattle.posix_profile.specs.State.{Objects, State}
 use Rattle.posix_profile.specs.declared.command.Stamped.{Stamped}
@@ -33,12 +39,11 @@ use Rattle.posix_profile.specs.declared.reply.Reply.{Reply}
 use Rattle.posix_profile.specs.declared.reply.Reply.TheVariants as replies
 use Rattle.powercut.specs.Limits.{StaysWithin}
 use Rattle.volume_terms.specs.Sizes.{Sizes}
-use Rattle.flash_program.specs.Serving.{Serves}
 use Rattle.flash_program.specs.Sessions.{Session}
 use Rattle.flash_program.specs.declared.fault.ProgramFault.{ProgramFault}
 
 module _ {P V : Type 0} (state : P → PagesState) (inside : V → PageVolume P) (serves : V → Stamped → Reply → V → Type 0)
-    (serving : (old new : V) (command : Stamped) (reply : Reply) → serves old command reply new → Serves state (inside old) command reply (inside new)) where
+    (serving : (old new : V) (command : Stamped) (reply : Reply) → serves old command reply new → IsCalled state (inside old) command reply (inside new)) where
   module _ (first : PagesState) (z : Sizes) where
     -- a volume after commands of a session that began with these pages: it is stopped for its reason, or stands for a state
     record Stays (v : V) : Type 0 where
@@ -57,8 +62,8 @@ module _ {P V : Type 0} (state : P → PagesState) (inside : V → PageVolume P)
             | inr (runs, here) ↦
                 let replied = one.replied runs z here.0 here.1 in
                 elim (cases_Bool (is_stop reply)) [
-                  | inl stop ↦ inl (replied.stops ∙ stop, replied.cause stop)
-                  | inr other ↦ inr (replied.stops ∙ other, (_, replied.state_is other))
+                  | inl stop ↦ inl (one.stops runs ∙ stop, replied.cause stop)
+                  | inr other ↦ inr (one.stops runs ∙ other, (_, replied.state_is other))
                 ]
           ];
         }
@@ -93,7 +98,7 @@ module _ {P V : Type 0} (state : P → PagesState) (inside : V → PageVolume P)
 
   module _ (one : (g : Geometry) (flash : Flash) (a b : Answer) → IsAnswer g flash a → IsAnswer g flash b → a ≡ b) where
     module _ (d : Device) (p q : PagesState) (honest : d.honest ≡ true) (reads : OnlyReads d p.device) (next : AreNext p.device.flash p.next) (objects : Objects)
-        (answers : IsAnswer p.device.geometry p.device.flash (IsTreeOf p.spare objects)) (goes : GoesOn p q)
+        (answers : IsAnswer p.device.geometry p.device.flash (IsTreeOf p.spare objects)) (goes : EndsOn p q)
         (spare : ℕ) (tree : Objects) (sound : IsSoundFlash d.geometry d.flash spare tree) (within : StaysWithin spare d q.device) (power : q.device.gone ≡ false) where
       same : p.device.flash ≡ d.flash
       same = same_flash d p.device reads honest
@@ -129,18 +134,22 @@ module _ {P V : Type 0} (state : P → PagesState) (inside : V → PageVolume P)
 
     pub only_a_cut_stops : (before after : Device) (input left written now : Option (List ℕ)) (result : Result (Unit {0}) ProgramFault)
         → (session : Session state inside serves before input left written now after result)
-        → (spare : ℕ) (tree : Objects) → before.honest ≡ true → IsSoundFlash before.geometry before.flash spare tree → StaysWithin spare before after
+        → (spare : ℕ) (tree : Objects) → before.honest ≡ true → IsSoundOn spare tree before → StaysWithin spare before after
         → after.gone ≡ false → (is_stopped (inside session.last) ≡ false) × (session.reply ≡ replies.Done)
     only_a_cut_stops before after input left written now result session spare tree honest sound within power =
-        let told = session.mounted.tree honest in
         let p = state (pages_of (inside session.first)) in
+        let reads = read_since before session.mounted.now p.device session.mounted.since (honest, sound.truth) in
+        let here = reads.lasts.honest ∙ honest in
+        let told = session.mounted.tree here in
         let z = volume_of p in
         let u = session.unmounted in
         let at_first : Stays p z session.first = record { goes = goes_here p; stands = inr (session.mounted.goes_on, (at_mount told.0, told.1.volume)) } in
         let at_last = shell_ends p z input left written now session.first session.last session.shell at_first session.answered in
+        let ends = ends_after p (state (pages_of (inside session.last))) u.pages (ends_going p (state (pages_of (inside session.last))) at_last.goes) u.ends_on in
+        let same = left_as_seen u.pages after u.device_is (ends.device.honest ∙ here) in
         elim (unmounts p z session.last after session.reply at_last u) [
           | inl ended ↦
-              absurd (not_ended before p u.pages honest session.mounted.reads (session.mounted.next honest) told.0 told.1.answers (goes_on p (state (pages_of (inside session.last))) u.pages at_last.goes u.goes_on)
-              spare tree sound (subst (λ (d : Device). StaysWithin spare before d) (sym u.device_is) within) (ap (λ (d : Device). d.gone) u.device_is ∙ power) ended)
+              absurd (not_ended before p u.pages honest reads (session.mounted.next here) told.0 told.1.answers ends
+              spare tree sound.sound (subst (λ (d : Device). StaysWithin spare before d) (sym same) within) (ap (λ (d : Device). d.gone) same ∙ power) ended)
           | inr done ↦ done
         ]

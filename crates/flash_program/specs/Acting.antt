@@ -4,13 +4,14 @@ use Rattle.flash_pages.specs.declared.mounted.FlashPages.{FlashPages}
 use Rattle.nand_model.specs.declared.nand.Nand.{Ghosts}
 use Rattle.page_volume.specs.declared.volume.PageVolume.{PageVolume}
 use Rattle.pages.specs.State.{PagesState}
+use Rattle.posix_calls.specs.Calls.{IsCalled}
 use Rattle.posix_calls.specs.Volumes.{over_pages}
 use Rattle.posix_profile.specs.declared.command.Stamped.{Stamped}
 use Rattle.posix_profile.specs.declared.reply.Reply.{Reply}
+use Rattle.trusted_nand.specs.declared.device.TrustedNand.{TrustedNand}
 use Rattle.program_words.specs.declared.chosen.Chosen.{Chosen}
 use Rattle.program_words.specs.declared.chosen.Chosen.TheVariants as choices
 use Rattle.flash_program.specs.Images.{RunEnds, ImageCheckEnds, CutEnds, MakeEnds}
-use Rattle.flash_program.specs.Serving.{Serves}
 use Rattle.flash_program.specs.Sessions.{ProgramEnds}
 use Rattle.flash_program.specs.declared.fault.ProgramFault.{ProgramFault}
 use Rattle.flash_program.specs.declared.serve.ServedVolume.{ServedVolume}
@@ -22,11 +23,11 @@ pub record Means (P V : Type 0) : Type 1 where
   pub serves : V → Stamped → Reply → V → Type 0
 
 -- the mounted volumes over a device, where this is the state of their pages
-abbrev pub over_device : {N : Type 0} {nand : Ghosts N} → (FlashPages N nand → PagesState) → Means (FlashPages N nand) (ServedVolume N nand)
+abbrev pub over_device : {N : Type 0} {trusted : Ghosts (TrustedNand N)} → (FlashPages (TrustedNand N) trusted → PagesState) → Means (FlashPages (TrustedNand N) trusted) (ServedVolume N trusted)
 over_device state = record {
   state = state;
   inside = λ v. over_pages v.volume;
-  serves = λ old command reply new. Serves state (over_pages old.volume) command reply (over_pages new.volume);
+  serves = λ old command reply new. IsCalled state (over_pages old.volume) command reply (over_pages new.volume);
 }
 
 -- The program acts as was chosen: over a flash in memory, whatever the file is, or that is a copy of the image in the file; or

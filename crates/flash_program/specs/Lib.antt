@@ -1,4 +1,3 @@
-pub mod Serving
 pub mod Sessions
 pub mod Statuses
 pub mod Spaces

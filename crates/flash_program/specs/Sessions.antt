@@ -1,24 +1,21 @@
 -- What the program does.
-use Rattle.std.specs.Prelude.{◌≡◌, ◌↔◌, ◌⊎◌, ℕ, true, false, List, Option, Result, Ok, Err}
-use Rattle.flash_tree.specs.Sound.{IsSoundFlash}
+use Rattle.std.specs.Prelude.{◌≡◌, ◌⊎◌, ℕ, true, false, List, Option, Result, Ok, Err}
 use Rattle.formatting.specs.declared.fault.FormatFault.TheVariants as formats
 use Rattle.line_shell.specs.Runs.{Shell}
 use Rattle.line_shell.specs.declared.fault.ShellFault.{ShellFault}
 use Rattle.mounting.specs.Faults.{WhyNotMounted}
-use Rattle.mounting.specs.Made.{AreNext, CanOnlyBeRead}
 use Rattle.mounting.specs.declared.fault.MountFault.{MountFault}
 use Rattle.nand_model.specs.Calls.{Device}
 use Rattle.nand_model.specs.Changes.{OnlyReads}
-use Rattle.page_volume.specs.Volumes.{pages_of, is_read_only, is_stopped}
 use Rattle.page_volume.specs.declared.volume.PageVolume.{PageVolume}
 use Rattle.pages.specs.State.{PagesState}
 use Rattle.posix_calls.specs.Endings.{IsUnmounted}
-use Rattle.posix_calls.specs.Mounts.{StandsForTree}
-use Rattle.posix_profile.specs.State.{Objects}
+use Rattle.posix_calls.specs.Mounts.{IsMounted}
 use Rattle.posix_profile.specs.declared.command.Stamped.{Stamped}
 use Rattle.posix_profile.specs.declared.reply.Reply.{Reply}
 use Rattle.posix_profile.specs.declared.reply.Reply.TheVariants as replies
 use Rattle.posix_profile.specs.laws.Fresh.{fresh}
+use Rattle.powercut.specs.Living.{IsSoundOn}
 use Rattle.flash_program.specs.declared.fault.ProgramFault.{ProgramFault}
 use Rattle.flash_program.specs.declared.fault.ProgramFault.TheVariants as faults
 
@@ -27,16 +24,6 @@ abbrev pub told : Result (Unit {0}) ShellFault → Reply → Result (Unit {0}) P
 told (Err fault) reply = Err (faults.Shell fault)
 told (Ok done) replies.Done = Ok done
 told (Ok done) reply = Err faults.Unmount
-
--- The volume is mounted: the device was only read, and has not lost its power in it. On an honest one the next numbers are above
--- those on its flash, and the volume stands for the tree that it shows.
-pub record IsMounted {P : Type 0} (state : P → PagesState) (device : Device) (v : PageVolume P) : Type 0 where
-  pub reads : OnlyReads device (state (pages_of v)).device
-  pub power : device.gone ≡ false → (state (pages_of v)).device.gone ≡ false
-  pub next : device.honest ≡ true → AreNext (state (pages_of v)).device.flash (state (pages_of v)).next
-  pub goes_on : is_stopped v ≡ false
-  pub read_only : (is_read_only v ≡ true) ↔ CanOnlyBeRead (state (pages_of v))
-  pub tree : device.honest ≡ true → (objects : Objects) × StandsForTree state v objects
 
 -- The volume of a device was mounted, lines were answered by it, and it was unmounted.
 pub record Session {P V : Type 0} (state : P → PagesState) (inside : V → PageVolume P) (serves : V → Stamped → Reply → V → Type 0)
@@ -72,14 +59,14 @@ IsEarly (faults.Format formats.Worn) = Unit {0}
 IsEarly fault = ⊥
 
 -- The device has eight blocks of 32 pages of 512 bytes, is honest, and has a new volume, whose root is empty, with one spare
--- block.
+-- block, on a true flash.
 pub record IsFresh (device : Device) : Type 0 where
   pub bytes_are : device.geometry.bytes ≡ 512
   pub pages_are : device.geometry.pages ≡ 32
   pub blocks_are : device.geometry.blocks ≡ 8
   pub honest : device.honest ≡ true
   pub has_power : device.gone ≡ false
-  pub sound : IsSoundFlash device.geometry device.flash 1 fresh.objects
+  pub sound : IsSoundOn 1 fresh.objects device
 
 -- how the program ends: where no device was made no line is read and nothing is written, else as the lines over a fresh
 -- device do

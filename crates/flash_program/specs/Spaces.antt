@@ -2,7 +2,6 @@
 use Rattle.std.specs.Prelude.{◌≡◌, ◌⊎◌, ◌↔◌, ◌<◌, ◌≤◌, ℕ, ◌+◌, ◌-◌, Bool, true, false, List, [], ◌∷◌, ◌++◌, Option, Result, Ok, Err, codes, if◌then◌else◌}
 use Rattle.std.specs.Io.KnownBytes.{Appends}
 use Rattle.flash_tree.specs.Mount.{bad_blocks}
-use Rattle.flash_tree.specs.Sound.{IsSoundFlash}
 use Rattle.formatting.specs.declared.fault.FormatFault.{FormatFault}
 use Rattle.formatting.specs.declared.fault.FormatFault.TheVariants as formats
 use Rattle.line_shell.specs.Replies.{newline, reply_text}
@@ -18,7 +17,9 @@ use Rattle.posix_profile.specs.declared.command.Stamped.{Stamped}
 use Rattle.posix_profile.specs.declared.reply.Reply.{Reply}
 use Rattle.posix_profile.specs.declared.reply.Reply.TheVariants as replies
 use Rattle.posix_profile.specs.laws.Fresh.{fresh}
-use Rattle.flash_program.specs.Sessions.{IsMounted, NotMounted}
+use Rattle.posix_calls.specs.Mounts.{IsMounted}
+use Rattle.powercut.specs.Living.{IsSoundOn}
+use Rattle.flash_program.specs.Sessions.{NotMounted}
 use Rattle.flash_program.specs.declared.fault.ProgramFault.{ProgramFault}
 use Rattle.flash_program.specs.declared.fault.ProgramFault.TheVariants as faults
 
@@ -84,12 +85,12 @@ pub record KeepsMarks (before after : Device) : Type 0 where
   pub lasts : Lasts before after
   pub marks : bad_blocks before.geometry after.flash ≤ bad_blocks before.geometry before.flash + (after.failures - before.failures)
 
--- the device of an honest one has a new volume, whose root is empty, with so many spare blocks
+-- the device of an honest one has a new volume, whose root is empty, with so many spare blocks, on a true flash
 pub record IsFormatted (spare : ℕ) (before after : Device) : Type 0 where
   pub keeps : KeepsMarks before after
   pub honest : after.honest ≡ before.honest
   pub has_power : after.gone ≡ false
-  pub sound : before.honest ≡ true → IsSoundFlash after.geometry after.flash spare fresh.objects
+  pub sound : before.honest ≡ true → IsSoundOn spare fresh.objects after
 
 -- A device was not formatted, and nothing is written: for its spare blocks exactly where there are too few others; as worn only
 -- where more of its blocks are bad by then than are spare; as gone only where it is.

@@ -18,6 +18,7 @@ use pages::Pages;
 use program_words::Chosen;
 use std::alloc::Global;
 use std::io::{BufRead, Read, Seek, Write};
+use trusted_nand::TrustedNand;
 
 /// Does what was chosen.
 fn perform<F: Read + Write + Seek + Drop, R: BufRead, W: Write>(
@@ -27,7 +28,7 @@ fn perform<F: Read + Write + Seek + Drop, R: BufRead, W: Write>(
     input: &mut R,
     out: &mut W,
 ) -> Result<(), ProgramFault>
-    ensures { ActsAs F.remaining (over_device ⟦<FlashPages<MemNand> as Pages>⟧.state) (over_device ⟦<FlashPages<ImageNand<F>> as Pages>⟧.state)
+    ensures { ActsAs F.remaining (over_device ⟦<FlashPages<TrustedNand<MemNand>> as Pages>⟧.state) (over_device ⟦<FlashPages<TrustedNand<ImageNand<F>>> as Pages>⟧.state)
         chosen.now image (R.remaining input.old) (R.remaining input.new) (W.contents out.old) (W.contents out.new) result }
 {
     match chosen {
@@ -56,7 +57,7 @@ pub fn act<F: Read + Write + Seek + Drop, R: BufRead, W: Write, E: Write>(
     err: &mut E,
 ) -> u8
     ensures { (ended : Result (Unit {0}) Fault) × (result ≡ status_of ended) × IsReported (E.contents err.old) (E.contents err.new) ended
-        × ActsAs F.remaining (over_device ⟦<FlashPages<MemNand> as Pages>⟧.state) (over_device ⟦<FlashPages<ImageNand<F>> as Pages>⟧.state)
+        × ActsAs F.remaining (over_device ⟦<FlashPages<TrustedNand<MemNand>> as Pages>⟧.state) (over_device ⟦<FlashPages<TrustedNand<ImageNand<F>>> as Pages>⟧.state)
         chosen.now image (R.remaining input.old) (R.remaining input.new) (W.contents out.old) (W.contents out.new) ended }
 {
     let ended = perform(alloc, chosen, image, input, out);

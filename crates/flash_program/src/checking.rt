@@ -12,6 +12,7 @@ use nand_model::MemNand;
 use pages::Pages;
 use std::alloc::Global;
 use std::io::{Read, Write};
+use trusted_nand::TrustedNand;
 
 /// Tells the space of the volume in an image, and whether it can only be read. The image is not changed: its type has no
 /// means to be written.
@@ -20,7 +21,7 @@ pub(crate) fn check_image<F: Read + Drop, W: Write>(
     image: Option<F>,
     writer: &mut W,
 ) -> Result<(), ProgramFault>
-    ensures { ImageCheckEnds F.remaining ⟦<FlashPages<MemNand> as Pages>⟧.state (λ v. over_pages v.volume) ⟦<ServedVolume<MemNand> as Serve>⟧.serves
+    ensures { ImageCheckEnds F.remaining ⟦<FlashPages<TrustedNand<MemNand>> as Pages>⟧.state (λ v. over_pages v.volume) ⟦<ServedVolume<MemNand> as Serve>⟧.serves
         image (W.contents writer.old) (W.contents writer.new) result }
 {
     let device = copy_of(alloc, image)?;

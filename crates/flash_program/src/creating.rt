@@ -14,6 +14,7 @@ use pages::Pages;
 use posix_calls::format;
 use std::alloc::Global;
 use std::io::{Read, Seek, Write};
+use trusted_nand::TrustedNand;
 
 /// Formats a device, and tells the space of its volume.
 fn format_device<N: Nand, W: Write>(
@@ -22,7 +23,7 @@ fn format_device<N: Nand, W: Write>(
     spare: u32,
     writer: &mut W,
 ) -> (N, Result<(), ProgramFault>)
-    ensures { FormatEnds ⟦<FlashPages<N> as Pages>⟧.state (λ v. over_pages v.volume) ⟦<ServedVolume<N> as Serve>⟧.serves
+    ensures { FormatEnds ⟦<FlashPages<TrustedNand<N>> as Pages>⟧.state (λ v. over_pages v.volume) ⟦<ServedVolume<N> as Serve>⟧.serves
         spare (N.state device) (W.contents writer.old) (W.contents writer.new) (N.state result.0) result.1 }
 {
     match format(alloc, device, spare) {
@@ -41,7 +42,7 @@ pub(crate) fn make_image<F: Read + Write + Seek + Drop, W: Write>(
     spare: u32,
     writer: &mut W,
 ) -> Result<(), ProgramFault>
-    ensures { MakeEnds ⟦<FlashPages<ImageNand<F>> as Pages>⟧.state (λ v. over_pages v.volume) ⟦<ServedVolume<ImageNand<F>> as Serve>⟧.serves
+    ensures { MakeEnds ⟦<FlashPages<TrustedNand<ImageNand<F>>> as Pages>⟧.state (λ v. over_pages v.volume) ⟦<ServedVolume<ImageNand<F>> as Serve>⟧.serves
         image size pages blocks spare (W.contents writer.old) (W.contents writer.new) result }
 {
     let Some(file) = image else {

@@ -6,11 +6,12 @@ use flash_pages::FlashPages;
 use flash_tree::a_flash_has_one_answer_at_most;
 use nand_model::Nand;
 use pages::Pages;
+use trusted_nand::TrustedNand;
 
 /// In a session that the program makes of lines nothing but a loss of power is answered EIO, as long as the spare blocks and the
 /// numbers of an honest device suffice.
 pub fn only_a_cut_stops_the_program<N: Nand>()
-    ensures { OnlyACutStops (over_device ⟦<FlashPages<N> as Pages>⟧.state) }
+    ensures { OnlyACutStops (over_device ⟦<FlashPages<TrustedNand<N>> as Pages>⟧.state) }
 {
     a_flash_has_one_answer_at_most();
 }

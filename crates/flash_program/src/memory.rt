@@ -18,6 +18,7 @@ use posix_calls::{Volume, format};
 use posix_profile::Reply;
 use std::alloc::Global;
 use std::io::{BufRead, Write};
+use trusted_nand::TrustedNand;
 
 /// A flash in memory with a new volume on it: eight blocks of 32 pages of 512 bytes, one of them spare.
 #[tactic(auto, using(crate::proofs::Early::early))]
@@ -56,7 +57,7 @@ pub(crate) fn answer_lines<N: Nand, R: BufRead, W: Write>(
     reader: &mut R,
     writer: &mut W,
 ) -> (N, Result<(), ProgramFault>)
-    ensures { LinesEnd ⟦<FlashPages<N> as Pages>⟧.state (λ v. over_pages v.volume) ⟦<ServedVolume<N> as Serve>⟧.serves (N.state device)
+    ensures { LinesEnd ⟦<FlashPages<TrustedNand<N>> as Pages>⟧.state (λ v. over_pages v.volume) ⟦<ServedVolume<N> as Serve>⟧.serves (N.state device)
         (R.remaining reader.old) (R.remaining reader.new) (W.contents writer.old) (W.contents writer.new) (N.state result.0) result.1 }
 {
     let volume = match Volume::mount(alloc, device) {
@@ -75,7 +76,7 @@ pub(crate) fn run_in_memory<R: BufRead, W: Write>(
     reader: &mut R,
     writer: &mut W,
 ) -> Result<(), ProgramFault>
-    ensures { ProgramEnds ⟦<FlashPages<MemNand> as Pages>⟧.state (λ v. over_pages v.volume) ⟦<ServedVolume<MemNand> as Serve>⟧.serves
+    ensures { ProgramEnds ⟦<FlashPages<TrustedNand<MemNand>> as Pages>⟧.state (λ v. over_pages v.volume) ⟦<ServedVolume<MemNand> as Serve>⟧.serves
         (R.remaining reader.old) (R.remaining reader.new) (W.contents writer.old) (W.contents writer.new) result }
 {
     let device = new_flash(alloc)?;

@@ -11,6 +11,7 @@ use nand_image::{ImageNand, open_image};
 use pages::Pages;
 use std::alloc::Global;
 use std::io::{BufRead, Read, Seek, Write};
+use trusted_nand::TrustedNand;
 
 /// Answers the lines of the reader in the writer, over the volume in an image.
 pub(crate) fn run_image<F: Read + Write + Seek + Drop, R: BufRead, W: Write>(
@@ -19,7 +20,7 @@ pub(crate) fn run_image<F: Read + Write + Seek + Drop, R: BufRead, W: Write>(
     reader: &mut R,
     writer: &mut W,
 ) -> Result<(), ProgramFault>
-    ensures { RunEnds F.remaining ⟦<FlashPages<ImageNand<F>> as Pages>⟧.state (λ v. over_pages v.volume) ⟦<ServedVolume<ImageNand<F>> as Serve>⟧.serves
+    ensures { RunEnds F.remaining ⟦<FlashPages<TrustedNand<ImageNand<F>>> as Pages>⟧.state (λ v. over_pages v.volume) ⟦<ServedVolume<ImageNand<F>> as Serve>⟧.serves
         image (R.remaining reader.old) (R.remaining reader.new) (W.contents writer.old) (W.contents writer.new) result }
 {
     let Some(file) = image else {

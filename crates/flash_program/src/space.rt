@@ -1,5 +1,6 @@
 // The space of a volume.
 ghost use Rattle.std.specs.Prelude.{◌≡◌};
+ghost use Rattle.nand_model.specs.MemoryState as memory;
 ghost use Rattle.posix_calls.specs.Volumes.{over_pages};
 ghost use Rattle.flash_program.specs.Spaces.{space_asked, space_text, IsTold, CheckEnds, shown, ShowEnds};
 ghost use Rattle.line_shell.specs.Written.{Writes};
@@ -8,12 +9,13 @@ use crate::fault::ProgramFault;
 use crate::serve::ServedVolume;
 use flash_pages::FlashPages;
 use line_shell::{Serve, write_bytes, write_reply};
-use nand_model::Nand;
+use nand_model::{MemNand, Nand};
 use pages::Pages;
 use posix_calls::Volume;
 use posix_profile::{Command, Reply, Stamped};
 use std::alloc::Global;
 use std::io::{self, Write};
+use trusted_nand::TrustedNand;
 
 /// Asks a volume for its space.
 fn ask_space<V: Serve>(volume: &mut V) -> Reply
@@ -47,13 +49,13 @@ fn tell_space<W: Write>(writer: &mut W, reply: &Reply, read_only: bool) -> Resul
 }
 
 /// Mounts the volume of a device, tells its space and whether it can only be read, and leaves it as it is.
-pub(crate) fn check_device<N: Nand, W: Write>(
+pub(crate) fn check_device<W: Write>(
     alloc: Global,
-    device: N,
+    device: MemNand,
     writer: &mut W,
-) -> (N, Result<(), ProgramFault>)
-    ensures { CheckEnds ⟦<FlashPages<N> as Pages>⟧.state (λ v. over_pages v.volume) ⟦<ServedVolume<N> as Serve>⟧.serves
-        (N.state device) (W.contents writer.old) (W.contents writer.new) (N.state result.0) result.1 }
+) -> (MemNand, Result<(), ProgramFault>)
+    ensures { CheckEnds ⟦<FlashPages<TrustedNand<MemNand>> as Pages>⟧.state (λ v. over_pages v.volume) ⟦<ServedVolume<MemNand> as Serve>⟧.serves
+        (memory.device device) (W.contents writer.old) (W.contents writer.new) (memory.device result.0) result.1 }
 {
     let volume = match Volume::mount(alloc, device) {
         Ok(volume) => volume,
@@ -82,7 +84,7 @@ pub(crate) fn show_device<N: Nand, W: Write>(
     device: N,
     writer: &mut W,
 ) -> (N, Result<(), ProgramFault>)
-    ensures { ShowEnds ⟦<FlashPages<N> as Pages>⟧.state (λ v. over_pages v.volume) ⟦<ServedVolume<N> as Serve>⟧.serves
+    ensures { ShowEnds ⟦<FlashPages<TrustedNand<N>> as Pages>⟧.state (λ v. over_pages v.volume) ⟦<ServedVolume<N> as Serve>⟧.serves
         (N.state device) (W.contents writer.old) (W.contents writer.new) (N.state result.0) result.1 }
 {
     let volume = match Volume::mount(alloc, device) {

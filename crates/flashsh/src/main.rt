@@ -26,6 +26,7 @@ use std::env::{self, Args};
 use std::fs::{File, OpenOptions};
 use std::io::{BufRead, LineWriter, Read, Write};
 use std::process::ExitCode;
+use trusted_nand::TrustedNand;
 
 /// The words after the program's name, which is the first of the arguments.
 fn words_after_name(alloc: Global, arguments: Args) -> Result<Vec<String>, AllocError>
@@ -81,7 +82,7 @@ fn perform<R: BufRead, W: Write, E: Write>(
     err: &mut E,
 ) -> u8
     ensures { (ended : Result (Unit {0}) Fault) × (result ≡ status_of ended) × IsReported (E.contents err.old) (E.contents err.new) ended
-        × IsDone ⟦<File as Read>⟧.remaining (over_device ⟦<FlashPages<MemNand> as Pages>⟧.state) (over_device ⟦<FlashPages<ImageNand<File>> as Pages>⟧.state)
+        × IsDone ⟦<File as Read>⟧.remaining (over_device ⟦<FlashPages<TrustedNand<MemNand>> as Pages>⟧.state) (over_device ⟦<FlashPages<TrustedNand<ImageNand<File>>> as Pages>⟧.state)
         chosen.now (R.remaining input.old) (R.remaining input.new) (W.contents out.old) (W.contents out.new) ended }
 {
     act(rt.alloc(), chosen, open(rt, chosen), input, out, err)
@@ -89,7 +90,7 @@ fn perform<R: BufRead, W: Write, E: Write>(
 
 /// Does what was chosen, between standard input, output and error, and gives the status of its end.
 fn perform_between_streams(rt: &HostRuntime, chosen: &Chosen) -> u8
-    ensures { IsDoneWith ⟦<File as Read>⟧.remaining (over_device ⟦<FlashPages<MemNand> as Pages>⟧.state) (over_device ⟦<FlashPages<ImageNand<File>> as Pages>⟧.state)
+    ensures { IsDoneWith ⟦<File as Read>⟧.remaining (over_device ⟦<FlashPages<TrustedNand<MemNand>> as Pages>⟧.state) (over_device ⟦<FlashPages<TrustedNand<ImageNand<File>>> as Pages>⟧.state)
         chosen.now result }
 {
     let mut input = rt.stdin().lock();
@@ -116,7 +117,7 @@ fn explain(rt: &HostRuntime, words: &[String]) -> u8
 
 /// Does what the words choose, or tells why they are not taken, and gives the status.
 fn answer(rt: &HostRuntime, words: &[String]) -> u8
-    ensures { EndsWith ⟦<File as Read>⟧.remaining (over_device ⟦<FlashPages<MemNand> as Pages>⟧.state) (over_device ⟦<FlashPages<ImageNand<File>> as Pages>⟧.state)
+    ensures { EndsWith ⟦<File as Read>⟧.remaining (over_device ⟦<FlashPages<TrustedNand<MemNand>> as Pages>⟧.state) (over_device ⟦<FlashPages<TrustedNand<ImageNand<File>>> as Pages>⟧.state)
         (map string_bytes words.now) result }
 {
     match choose(rt.alloc(), words) {

@@ -59,9 +59,9 @@ fn each_session_keeps_a_tree(rt: HostRuntime) -> Result<(), Fail> {
     Ok(())
 }
 
-/// A session of these lines makes 262 calls: its mount reads the tags of 256 pages, and the root's header; that header is read once
-/// more for the new name; the sync erases a block and programs three pages; and the unmount has nothing to write. The first three
-/// sessions are cut in their mounts, by the words 15492934433077865799, 5092013759793669961 and 16206103987400358024 of the seed 1.
+/// A session of these lines makes 272 calls: its mount reads the tags of the 8 first pages for a checkpoint, those of 256 pages, and
+/// the root's header; that header is read once more for the new name; the sync erases a block and programs three pages; and the
+/// unmount erases a block and programs the one page of a checkpoint of three entries. The first three sessions are cut in their mounts, by the words 15492934433077865799, 5092013759793669961 and 16206103987400358024 of the seed 1.
 #[test]
 fn a_call_is_drawn_among_those_of_the_session(rt: HostRuntime) -> Result<(), Fail> {
     let alloc = rt.alloc();
@@ -71,7 +71,7 @@ fn a_call_is_drawn_among_those_of_the_session(rt: HostRuntime) -> Result<(), Fai
     assert_eq!(rt; ended, Ok(()));
     assert_eq!(rt;
         str::from_utf8(&writer)?,
-        "session 1 op 224 kept 0 of 2\nsession 2 op 34 kept 0 of 2\nsession 3 op 171 kept 0 of 2\n"
+        "session 1 op 72 kept 0 of 2\nsession 2 op 122 kept 0 of 2\nsession 3 op 217 kept 0 of 2\n"
     );
     Ok(())
 }

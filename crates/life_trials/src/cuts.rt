@@ -63,13 +63,13 @@ fn commands_of(alloc: Global, lines: &str) -> Result<Vec<Stamped>> {
     }
 }
 
-/// A session of these lines that is not disturbed.
+/// A session of these lines that is not disturbed, and unmounted at its end.
 pub(crate) fn session_of(alloc: Global, lines: &str) -> Result<Session> {
     Ok(Session {
         commands: commands_of(alloc, lines)?,
         fuse: None,
         failures: Vec::new(alloc),
-        unmount: false,
+        unmount: true,
     })
 }
 

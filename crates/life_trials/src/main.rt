@@ -7,9 +7,10 @@
 //! - `cuts [CALL FATE]`: a session of the lines of standard input, cut at each of its calls with each fate of the pages, alone
 //!   and with a cut in the next mount. The call may fail besides, and leaves its page so: `old`, `new`, `erased`, `uncorrectable`.
 //! - `fails`: a session of the lines of standard input, with each of its calls failing with each fate of the pages.
-//! - `stories`: four sessions whose lines are known here, each as by `cuts` and as by `fails`: a collection beside a file that is
-//!   kept; a file that takes the place of another; a full volume that is written again; directories that are moved. Then three
-//!   sessions, each a thousand times as the exerciser cuts it: a file that is not synced; the first of the four; a full volume
+//! - `stories`: five sessions whose lines are known here, each as by `cuts` and as by `fails`: a collection beside a file that is
+//!   kept; a file that takes the place of another; a full volume that is written again; directories that are moved; as many names as
+//!   the volume takes. One as by `cuts` with a call that fails: a sync whose last program fails, and leaves its page new, and then
+//!   uncorrectable. Then three sessions, each a thousand times as the exerciser cuts it: a file that is not synced; the first of the four; a full volume
 //!   that is written five hundred times.
 //! - `all LIVES SEED`: as `drawn`, and then `stories`.
 #![tactic(auto)]

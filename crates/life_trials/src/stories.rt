@@ -4,6 +4,7 @@ use crate::cuts::cut_lines;
 use crate::exercised::exercise_lines;
 use crate::fails::fail_lines;
 use anyhow::Result;
+use nand_model::Fate;
 use std::alloc::{AllocError, Global};
 
 /// A file takes the place of another.
@@ -37,6 +38,15 @@ write 0 hello
 fsync 0
 open /b rwc
 ";
+
+/// A directory that is synced.
+const SYNCED: &str = "mkdir /a
+sync
+";
+
+/// The call that programs the last page of that sync: after the tags of the 8 first pages and of all 256, the root's header, that
+/// once more for the new name, an erase and two programs.
+const LAST_PROGRAM: u64 = 270;
 
 /// A file that is written, read and not synced.
 const UNSYNCED: &str = "open /a rwc
@@ -77,15 +87,41 @@ fn filled(alloc: Global, opened: &str, descriptor: u32, rounds: u32) -> Result<S
     Ok(lines)
 }
 
-/// Lives through each of four sessions with each call cut, and then with each call failing; and through three with cuts that
-/// are drawn.
+/// Lines that make as many names as the volume takes, one more, and remove one.
+fn named(alloc: Global) -> Result<String, AllocError> {
+    let mut lines = String::new(alloc);
+    for name in 10..82 {
+        lines.push_str(&format!(in alloc; "mkdir /{name}\n")?)?;
+    }
+    lines.push_str("space\nrmdir /10\nspace\nsync\n")?;
+    Ok(lines)
+}
+
+/// Lives through a sync whose last program fails, and leaves its page new or uncorrectable, with each call cut.
+fn live_failing(alloc: Global, counts: &mut Vec<Count>) -> Result<()> {
+    for fate in [Fate::New, Fate::Uncorrectable] {
+        counts.push(cut_lines(alloc, SYNCED, Some((LAST_PROGRAM, fate)))?)?;
+    }
+    Ok(())
+}
+
+/// Lives through each of five sessions with each call cut, and then with each call failing; through one with a call that fails and
+/// each call cut; and through three with cuts that are drawn.
 pub(crate) fn live_stories(alloc: Global, counts: &mut Vec<Count>) -> Result<()> {
     let two_files = filled(alloc, TWO_FILES, 1, 12)?;
     let one_file = filled(alloc, "open /a rwc\n", 0, 40)?;
-    for lines in [two_files.as_str(), REPLACED, one_file.as_str(), MOVED] {
+    let names = named(alloc)?;
+    for lines in [
+        two_files.as_str(),
+        REPLACED,
+        one_file.as_str(),
+        MOVED,
+        names.as_str(),
+    ] {
         counts.push(cut_lines(alloc, lines, None)?)?;
         counts.push(fail_lines(alloc, lines)?)?;
     }
+    live_failing(alloc, counts)?;
     let full = filled(alloc, "open /a rwc\n", 0, 500)?;
     for lines in [UNSYNCED, two_files.as_str(), full.as_str()] {
         counts.push(exercise_lines(alloc, lines)?)?;

@@ -1,6 +1,6 @@
 -- The tree that was gone through by the entries of a checkpoint.
 use Rattle.std.specs.Prelude.{◌≡◌, ◌↔◌, ◌&&◌, ℕ, Bool, true, List, Option, Some, Result, Ok, Err, IfOk}
-use Rattle.std.proofs.Common.{refl, sym, ◌∙◌, ap, subst, arith}
+use Rattle.std.proofs.Common.{sym, ◌∙◌, ap, subst, arith}
 use Rattle.nand_model.specs.Flash.{Flash, IsWithin}
 use Rattle.nand_model.specs.Calls.{Device}
 use Rattle.nand_model.specs.Changes.{OnlyReads}
@@ -24,7 +24,6 @@ use Rattle.tree_walk.specs.Hashes.{CoversTree}
 use Rattle.tree_walk.specs.Trees.{IsLookedUp, TellsHeads, keeps_key, objects_listed, page_size}
 use Rattle.tree_walk.specs.declared.tree.Tree.{Tree}
 use Rattle.volume_terms.specs.Sizes.{Sizes}
-use Rattle.mount_answers.specs.Newest.{IsNewestMap}
 use Rattle.mounting.specs.Mounted.{IsTreeOn, IsTreeRead, CoversNewest}
 use Rattle.mounting.specs.Named.{IsReadAs, IsTrustedSince}
 use Rattle.mounting.specs.Tables.{KeepsOnly, IsPruned}

@@ -1,37 +1,45 @@
--- What is said of pages that were looked up before.
-use Rattle.std.specs.Prelude.{◌≡◌, ℕ, true}
-use Rattle.std.proofs.Common.{sym, ◌∙◌, subst, inr}
+-- What is told of a tree that was gone through, or was not.
+use Rattle.std.specs.Prelude.{ℕ}
+use Rattle.std.proofs.Common.{inl, inr}
 use Rattle.nand_model.specs.declared.geometry.Geometry.{Geometry}
-use Rattle.flash_tree.specs.Mount.{Wrong, sizes_of, IsVolume}
-use Rattle.pages.specs.Maps.{PageMap, has}
+use Rattle.flash_tree.specs.Tree.{NewestMap}
+use Rattle.flash_tree.specs.Mount.{sizes_of, IsVolume}
 use Rattle.pages.specs.State.{PagesState, OnlyFinds}
-use Rattle.tree_walk.specs.Faults.{TellsWrong}
-use Rattle.tree_walk.specs.Trees.{IsTreeThrough, IsWrongTree, page_size}
-use Rattle.tree_walk.specs.Visits.{IsSeen}
+use Rattle.tree_walk.specs.Faults.{TellsWrong, TellsRoot, RootFailsBy}
+use Rattle.tree_walk.specs.Trees.{IsWrongTree}
+use Rattle.tree_walk.specs.declared.fault.RootFault.{RootFault}
+use Rattle.tree_walk.specs.declared.fault.RootFault.TheVariants as roots
 use Rattle.tree_walk.specs.declared.fault.WalkFault.{WalkFault}
 use Rattle.tree_walk.specs.declared.fault.WalkFault.TheVariants as walks
-use Rattle.tree_walk.specs.declared.tree.Tree.{Tree}
-use Rattle.mounting.specs.Trees.{IsGoneThrough, HasWrongTree, TellsTree, of_walk}
+use Rattle.mounting.specs.Trees.{TellsTree, FailsTree, of_walk}
 
--- after a look-up the pages are seen as before
-pub seen_after : (g : Geometry) (spare : ℕ) (p q : PagesState) → OnlyFinds p q → p.sound ≡ true → g.bytes ≡ p.page_bytes → IsSeen (sizes_of g spare) q
-seen_after g spare p q finds sound size = record { sound = finds.sound ∙ sound; size = size ∙ sym finds.page_bytes }
+-- what is wrong below the root's header is wrong with the tree
+pub walk_tells : (g : Geometry) (m : NewestMap) (spare : ℕ) (fault : WalkFault) (new : PagesState) → IsVolume g m spare → TellsWrong (IsWrongTree (sizes_of g spare) m) new fault
+    → TellsTree g m (of_walk fault)
+walk_tells g m spare walks.NoMemory new volume told = tt
+walk_tells g m spare walks.Device new volume told = tt
+walk_tells g m spare (walks.Newer format) new volume told = inr (spare, volume, told)
+walk_tells g m spare walks.Damaged new volume told = inr (spare, volume, told)
 
-pub gone_through : (g : Geometry) (spare : ℕ) (tree : Tree) (p q : PagesState) → OnlyFinds p q → g.bytes ≡ p.page_bytes → IsVolume g (has p.present) spare → page_size tree ≡ q.page_bytes
-    → IsTreeThrough (sizes_of g spare) (has q.present) tree → IsGoneThrough g (has p.present) spare tree
-gone_through g spare tree p q finds size volume told is = record {
-  volume = volume;
-  size = told ∙ finds.page_bytes ∙ sym size;
-  tree_is = subst (λ (m : PageMap). IsTreeThrough (sizes_of g spare) (has m) tree) finds.present is;
-}
+-- and so is what is wrong with the header
+pub root_tells : (g : Geometry) (m : NewestMap) (fault : RootFault) → TellsRoot g m fault → TellsTree g m fault
+root_tells g m roots.NoMemory told = tt
+root_tells g m roots.Device told = tt
+root_tells g m roots.NotAVolume told = told
+root_tells g m (roots.Newer format) told = inl told
+root_tells g m roots.Damaged told = inl told
 
-wrong_tree : (g : Geometry) (spare : ℕ) (wrong : Wrong) (p q : PagesState) → OnlyFinds p q → IsVolume g (has p.present) spare
-    → IsWrongTree (sizes_of g spare) (has q.present) wrong → HasWrongTree g (has p.present) wrong
-wrong_tree g spare wrong p q finds volume amiss = inr (spare, volume, subst (λ (m : PageMap). IsWrongTree (sizes_of g spare) (has m) wrong) finds.present amiss)
+pub root_fails : (fault : RootFault) (new : PagesState) → RootFailsBy new fault → FailsTree new fault
+root_fails roots.NoMemory new why = tt
+root_fails roots.Device new why = why
+root_fails roots.NotAVolume new why = tt
+root_fails (roots.Newer format) new why = tt
+root_fails roots.Damaged new why = tt
 
-pub walk_tells : (g : Geometry) (spare : ℕ) (fault : WalkFault) (p q r : PagesState) → OnlyFinds p q → IsVolume g (has p.present) spare
-    → TellsWrong (IsWrongTree (sizes_of g spare) (has q.present)) r fault → TellsTree g (has p.present) (of_walk fault)
-walk_tells g spare walks.NoMemory p q r finds volume told = tt
-walk_tells g spare walks.Device p q r finds volume told = tt
-walk_tells g spare (walks.Newer format) p q r finds volume told = wrong_tree g spare _ p q finds volume told
-walk_tells g spare walks.Damaged p q r finds volume told = wrong_tree g spare _ p q finds volume told
+-- a device that has failed has failed after a look-up
+pub fails_still : (fault : RootFault) (old new : PagesState) → OnlyFinds old new → FailsTree old fault → FailsTree new fault
+fails_still roots.NoMemory old new finds why = tt
+fails_still roots.Device old new finds why = finds.failed why
+fails_still roots.NotAVolume old new finds why = tt
+fails_still (roots.Newer format) old new finds why = tt
+fails_still roots.Damaged old new finds why = tt

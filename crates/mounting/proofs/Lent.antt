@@ -1,16 +1,16 @@
 -- What is told of pages that are lent.
-use Rattle.std.specs.Prelude.{◌≡◌, ◌⊎◌, ◌↔◌, ◌&&◌, ◌||◌, ℕ, Bool, true, false, not, List, Option, Some, None, IsSome, IsTrue, is_some, Result, Ok, Err, IfErr}
+use Rattle.std.specs.Prelude.{◌≡◌, ◌⊎◌, ◌↔◌, ◌&&◌, ◌||◌, ◌≤◌, ◌+◌, ℕ, Bool, true, false, not, List, Option, Some, None, IsSome, IsTrue, is_some, Result, Ok, Err, IfErr}
 use Rattle.std.specs.Option.{option_and_then}
-use Rattle.std.proofs.Common.{refl, sym, ◌∙◌, ap, subst, inl, inr}
+use Rattle.std.proofs.Common.{refl, sym, ◌∙◌, ap, subst, inl, inr, arith}
 use Rattle.std.proofs.lemmas.Bool.{cases_Bool, or_left, or_right}
-use Rattle.nand_model.specs.Flash.{Flash, Page, Erased, Written, Uncorrectable}
+use Rattle.nand_model.specs.Flash.{Flash}
 use Rattle.nand_model.specs.Calls.{Device, kind_of, tag_of}
 use Rattle.nand_model.specs.Changes.{OnlyReads}
 use Rattle.nand_model.specs.declared.geometry.Geometry.{Geometry}
 use Rattle.nand_model.specs.declared.nand.PageKind.{PageKind}
 use Rattle.nand_model.specs.declared.nand.PageKind.TheVariants as page_kinds
-use Rattle.page_tags.specs.Tags.{tag_bytes}
 use Rattle.flash_tree.specs.declared.place.Key.{Key}
+use Rattle.flash_tree.specs.Mount.{sizes_of}
 use Rattle.flash_tree.specs.laws.Place.{same_flash}
 use Rattle.bad_blocks.specs.Standing.{IsKeptAt, AreKept}
 use Rattle.chunk_index.specs.declared.form.KeptPage.{KeptPage}
@@ -18,16 +18,17 @@ use Rattle.chunk_index.specs.declared.index.Index.{Index}
 use Rattle.chunk_index.specs.Maps.{kept_pages}
 use Rattle.page_buffer.specs.Shown.{data_of, data_at, kept_data}
 use Rattle.pages.specs.Maps.{PageMap, known_pages}
-use Rattle.pages.specs.State.{OnlyFinds, FindsPage, FailsBy}
+use Rattle.pages.specs.State.{OnlyFinds, FailsBy}
 use Rattle.pages.specs.declared.store.Presence.{Presence}
-use Rattle.pages.specs.declared.store.Presence.TheVariants as presences
+use Rattle.tree_walk.specs.Trees.{tree_pages}
+use Rattle.tree_walk.specs.declared.tree.Tree.{Tree}
 use Rattle.trusted_nand.specs.Trusting.{trusted_as}
 use Rattle.trusted_nand.specs.laws.Trusted.{honest_of}
-use Rattle.newest_pages.specs.Newest.{seen}
-use Rattle.newest_pages.specs.laws.Reading.{finds_seen, kept_lent, absent, not_absent}
+use Rattle.newest_pages.specs.laws.Reading.{finds_seen}
 use Rattle.volume_terms.specs.declared.fault.StoreFault.{StoreFault}
 use Rattle.volume_terms.specs.declared.fault.StoreFault.TheVariants as faults
 use Rattle.mounting.specs.Lending.{TrustsKept, IsTagOf, lent}
+use Rattle.mounting.specs.Reads.{ReadsThrough}
 
 -- a device that is only read is so as it is trusted
 pub reads_trusted : (told : Bool) (a b : Device) → OnlyReads a b → OnlyReads (trusted_as told a) (trusted_as told b)
@@ -163,3 +164,17 @@ pub kept_tag : (d : Device) (key : Key) (at : KeptPage) (was bytes : List ℕ) �
 kept_tag d key at was bytes filled kept =
     let has = kept.newest.holds.has in
     (kept.tag, has.valid, filled ∙ ap (λ p. tag_of p was) has.page, kept.newest.holds.object, kept.newest.holds.chunk, kept.version)
+
+-- ---- how many pages were read
+
+-- as many as were asked for
+pub few_lent : (told told' : Bool) (d a b back : Device) (g : Geometry) (spare : ℕ) (tree : Tree) → a ≡ d → told' ≡ told → g ≡ d.geometry → back ≡ b
+    → ((a.honest && told') ≡ true → g.bytes ≡ a.geometry.bytes → b.reads ≤ a.reads + tree_pages (sizes_of g spare) tree) → (d.honest && told) ≡ true → ReadsThrough d back spare tree
+few_lent told told' d a b back g spare tree same trusted geometry given asked both =
+    let here : (a.honest && told') ≡ true = ap (λ t. a.honest && t) trusted ∙ ap (λ (k : Device). k.honest && told) same ∙ both in
+    let sizes : g.bytes ≡ a.geometry.bytes = ap (λ (k : Geometry). k.bytes) geometry ∙ sym (ap (λ (k : Device). k.geometry.bytes) same) in
+    let few = asked here sizes in
+    let pages : tree_pages (sizes_of g spare) tree ≡ tree_pages (sizes_of d.geometry spare) tree = ap (λ (k : Geometry). tree_pages (sizes_of k spare) tree) geometry in
+    let before : a.reads ≡ d.reads = ap (λ (k : Device). k.reads) same in
+    let after : back.reads ≡ b.reads = ap (λ (k : Device). k.reads) given in
+    omega (arith, few, pages, before, after)

@@ -8,6 +8,8 @@ pub mod Shown
 pub mod Standing
 pub mod Entering
 pub mod Noting
+pub mod Sure
+pub mod ReadsTree
 pub mod PagesMade
 pub mod Giving
 pub mod Reasons

@@ -1,6 +1,6 @@
 -- The block that may have a checkpoint, noted after a scan.
-use Rattle.std.specs.Prelude.{◌≡◌, ◌≢◌, ◌↔◌, ◌<◌, ◌≤◌, ◌&&◌, ◌+◌, ◌*◌, ℕ, Bool, true, false, List, length, [], ◌∷◌, Option, Some, None, Contains, Result, Ok, Err, IfOk, IfErr}
-use Rattle.std.proofs.Common.{refl, sym, ◌∙◌, ap, subst, inl, inr, arith}
+use Rattle.std.specs.Prelude.{◌≡◌, ◌≢◌, ◌↔◌, ◌<◌, ◌≤◌, ◌&&◌, ◌+◌, ◌*◌, ℕ, Bool, true, false, List, length, [], ◌∷◌, Option, Some, None, Result, Ok, Err, IfOk, IfErr}
+use Rattle.std.proofs.Common.{refl, sym, ◌∙◌, ap, subst, inl, inr}
 use Rattle.std.proofs.lemmas.Bool.{cases_Bool}
 use Rattle.nand_model.specs.Flash.{Flash}
 use Rattle.nand_model.specs.Calls.{Device}
@@ -23,7 +23,6 @@ use Rattle.flash_tree.specs.laws.Tree.{footprint_law}
 use Rattle.block_state.specs.Table.{Table}
 use Rattle.chunk_index.specs.Kept.{HoldsNone}
 use Rattle.chunk_index.specs.Maps.{kept_pages, kept_in}
-use Rattle.chunk_index.specs.declared.form.KeptPage.{KeptPage}
 use Rattle.chunk_index.specs.declared.index.Index.{Index}
 use Rattle.bad_blocks.specs.Standing.{AreKept}
 use Rattle.newest_pages.specs.Checked.{HasTrueFlash}
@@ -39,7 +38,6 @@ use Rattle.mounting.specs.Going.{IsGoodOn, MayBeNoted, NotesFree}
 use Rattle.mounting.specs.Marked.{AreFitting}
 use Rattle.mounting.specs.Mounted.{IsTreeRead, IsTreeShown, HasRoomOn}
 use Rattle.mounting.specs.Named.{IsTrustedSince}
-use Rattle.mounting.specs.Tables.{IsPruned}
 use Rattle.tree_walk.specs.Trees.{IsLookedUp, keeps_key, objects_listed}
 use Rattle.tree_walk.specs.declared.tree.Tree.{Tree}
 use Rattle.mounting.proofs.Entering.{KeysLaw, is_size}
@@ -103,7 +101,7 @@ noted_read d t u x n spare tree at may notes read = elim notes.is [
 -- ---- on a true flash the pages of the tree lie apart from a whole checkpoint
 
 -- the spare blocks of a volume are one number
-one_spare : (g : Geometry) (m : ℕ → ℕ → List ℕ → Type 0) → IsSingle m → (s t : ℕ) → IsVolume g m s → IsVolume g m t → s ≡ t
+pub one_spare : (g : Geometry) (m : ℕ → ℕ → List ℕ → Type 0) → IsSingle m → (s t : ℕ) → IsVolume g m s → IsVolume g m t → s ≡ t
 one_spare g m single s t v w =
     let same : v.fields ≡ w.fields = same_header (sizes_of g s) (is_size g s) m single _ v.fields w.fields v.has w.has in
     sym v.spare_is ∙ ap (λ (f : Fields). f.spare) same ∙ w.spare_is

@@ -13,7 +13,7 @@ use Rattle.block_state.specs.Table.{Table}
 use Rattle.block_state.specs.laws.Kept.{free_where_closed, same_unkept_count}
 use Rattle.chunk_index.specs.Entries.{as_kept}
 use Rattle.chunk_index.specs.Kept.{HoldsNone}
-use Rattle.chunk_index.specs.Maps.{kept_pages, kept_in, present}
+use Rattle.chunk_index.specs.Maps.{kept_pages, kept_in}
 use Rattle.chunk_index.specs.declared.form.KeptPage.{KeptPage}
 use Rattle.chunk_index.specs.declared.index.Index.{Index}
 use Rattle.transactions.specs.Ready.{IsReady}

@@ -1,5 +1,5 @@
 -- What was gone through in a part of the newest pages was gone through in all of them.
-use Rattle.std.specs.Prelude.{◌≡◌, ◌⊎◌, ◌↔◌, ◌<◌, ℕ, zero, suc, true, List, [], ◌∷◌, Option, Some, None, slice_get}
+use Rattle.std.specs.Prelude.{◌≡◌, ◌⊎◌, ◌↔◌, ◌<◌, ℕ, zero, suc, List, Option, Some, None}
 use Rattle.std.specs.Option.{option_and_then}
 use Rattle.std.proofs.Common.{refl, sym, ◌∙◌, ap, subst, inl, inr, arith}
 use Rattle.nand_model.specs.Flash.{Flash, IsWithin}
@@ -7,11 +7,11 @@ use Rattle.nand_model.specs.declared.geometry.Geometry.{Geometry}
 use Rattle.page_tags.specs.Headers.{Fields, header_bytes, is_present}
 use Rattle.page_tags.specs.Slots.{Entry}
 use Rattle.page_tags.specs.declared.header.ObjectKind.TheVariants as kinds
-use Rattle.volume_terms.specs.Sizes.{Sizes, page_slots, root_number}
+use Rattle.volume_terms.specs.Sizes.{Sizes, root_number}
 use Rattle.volume_terms.specs.laws.List.{slice_get_there}
 use Rattle.flash_tree.specs.Newest.{Spot, IsNewest, HasNewest}
 use Rattle.flash_tree.specs.Tree.{IsPageSize, IsSingle, HasHeader, SlotIs, LooksUp}
-use Rattle.flash_tree.specs.Mount.{Leads, Finds, Wholly, GoesThrough, sizes_of}
+use Rattle.flash_tree.specs.Mount.{Leads, Finds, sizes_of}
 use Rattle.flash_tree.specs.laws.Finding.{same_header, kinds_apart}
 use Rattle.flash_tree.specs.laws.Newest.{one_newest, one_spot}
 use Rattle.flash_tree.specs.laws.NewestTold.{data_or_none}
@@ -27,8 +27,7 @@ use Rattle.newest_pages.specs.Opened.{kept_at}
 use Rattle.page_buffer.specs.Shown.{data_at, kept_data}
 use Rattle.pages.specs.Maps.{PageMap, has}
 use Rattle.tree_walk.specs.Hashes.{CoversTree}
-use Rattle.tree_walk.specs.Trees.{IsTreeThrough, IsLookedUp, TellsHeads, AreNamesOf, HasNames, keeps_key, objects_listed, page_size}
-use Rattle.tree_walk.specs.declared.head.Head.{Head}
+use Rattle.tree_walk.specs.Trees.{IsTreeThrough, IsLookedUp, TellsHeads, AreNamesOf, objects_listed}
 use Rattle.tree_walk.specs.declared.tree.NamedObject.{NamedObject}
 use Rattle.tree_walk.specs.declared.tree.Tree.{Tree}
 use Rattle.mount_answers.specs.Newest.{IsNewestMap}
@@ -57,7 +56,7 @@ newest_map g flash within = (
 )
 
 -- a map has one page of a key
-single : (m : PageMap) → IsSingle (has m)
+pub single : (m : PageMap) → IsSingle (has m)
 single m o c xs ys a b = let two : Some xs ≡ Some ys = sym a ∙ b in cc
 
 -- ---- what a map has, and another has too

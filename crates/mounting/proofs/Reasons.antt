@@ -8,7 +8,6 @@ use Rattle.nand_model.specs.Flash.{Flash}
 use Rattle.nand_model.specs.declared.geometry.Geometry.{Geometry}
 use Rattle.flash_tree.specs.Mount.{Answer, Answers, NotAVolume, IsWrong, IsNewer, IsDamaged}
 use Rattle.flash_tree.specs.laws.Place.{same_flash, had_power}
-use Rattle.newest_pages.specs.declared.opening.OpenFault.TheVariants as opens
 use Rattle.tree_walk.specs.declared.fault.RootFault.{RootFault}
 use Rattle.tree_walk.specs.declared.fault.RootFault.TheVariants as roots
 use Rattle.mounting.specs.Faults.{IsReason, WhyNotMounted, AnswersFault, of_root}

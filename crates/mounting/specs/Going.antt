@@ -9,7 +9,7 @@ use Rattle.block_state.specs.TableOf.{table}
 use Rattle.newest_pages.specs.Checked.{HasTrueFlash}
 use Rattle.posix_profile.specs.State.{Objects}
 use Rattle.posix_profile.specs.Charge.{charge}
-use Rattle.volume_terms.specs.Sizes.{Sizes, capacity}
+use Rattle.volume_terms.specs.Sizes.{capacity}
 use Rattle.volume_terms.specs.VolumeSizes.{sizes_of as volume_sizes}
 use Rattle.mounting.specs.Marked.{AreFitting}
 use Rattle.mounting.specs.Mounted.{IsTreeShown, HasRoomOn}

@@ -1,6 +1,6 @@
 -- Kept pages that are read over an index, which is trusted or not.
 -- From: this project.
-use Rattle.std.specs.Prelude.{◌≡◌, ◌<◌, ◌&&◌, ℕ, Bool, true, List, Option, Some}
+use Rattle.std.specs.Prelude.{◌≡◌, ◌<◌, ◌&&◌, ℕ, Bool, true, List, Some}
 use Rattle.nand_model.specs.Calls.{Device}
 use Rattle.page_tags.specs.declared.tag.Tag.{Tag}
 use Rattle.page_tags.specs.Tags.{tag_bytes, IsTag}
@@ -9,7 +9,6 @@ use Rattle.chunk_index.specs.declared.form.KeptPage.{KeptPage}
 use Rattle.chunk_index.specs.declared.index.Index.{Index}
 use Rattle.chunk_index.specs.Maps.{kept_pages}
 use Rattle.bad_blocks.specs.Standing.{AreKept}
-use Rattle.page_buffer.specs.Shown.{kept_data}
 use Rattle.pages.specs.State.{PagesState}
 use Rattle.trusted_nand.specs.Trusting.{trusted_as}
 use Rattle.newest_pages.specs.Newest.{seen}
@@ -21,10 +20,6 @@ LieWithin device x = (o c : ℕ) (p : KeptPage) → kept_pages x o c ≡ Some p 
 -- of an honest device an index that is trusted keeps newest pages
 abbrev pub TrustsKept : Device → Bool → Index → Type 0
 TrustsKept device told x = (device.honest && told) ≡ true → AreKept device.flash (kept_pages x)
-
--- the page is that of the key that was found last, where the index is trusted
-abbrev pub HoldsLast : Device → Bool → Index → Option Key → List ℕ → Type 0
-HoldsLast device told x last page = (k : Key) → last ≡ Some k → (device.honest && told) ≡ true → kept_data x device.flash k.object k.chunk ≡ Some page
 
 -- the bytes are a valid tag of the key, in the version that is kept
 abbrev pub IsTagOf : List ℕ → Key → KeptPage → Type 0

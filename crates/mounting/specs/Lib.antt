@@ -2,6 +2,7 @@ pub mod Lending
 pub mod Marked
 pub mod Tables
 pub mod Trees
+pub mod Reads
 pub mod Faults
 pub mod Mounted
 pub mod Named

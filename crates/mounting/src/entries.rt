@@ -1,5 +1,5 @@
 // The tree of a device, by the entries of a checkpoint.
-ghost use Rattle.std.specs.Prelude.{◌≡◌, Bool, true, Some, IfOk, IfErr};
+ghost use Rattle.std.specs.Prelude.{◌≡◌, ◌&&◌, Bool, true, Some, IfOk, IfErr};
 ghost use Rattle.nand_model.specs.Changes.{OnlyReads};
 ghost use Rattle.nand_model.specs.Flash.{IsWithin};
 ghost use Rattle.flash_tree.specs.Checkpoints.{IsChecked};
@@ -11,6 +11,7 @@ ghost use Rattle.newest_pages.specs.Opened.{IsOpenedBy};
 ghost use Rattle.trusted_nand.specs.Parts.{inner_of};
 ghost use Rattle.trusted_nand.specs.Trusting.{trusted_as};
 ghost use Rattle.mounting.specs.Named.{IsNamedTree, IsReadAs, IsTrustedSince};
+ghost use Rattle.mounting.specs.Reads.{EndsMount, ReadsThrough, WhyNotThrough};
 
 use crate::prune::prune;
 use crate::reading::go_through;
@@ -41,7 +42,11 @@ fn go_by<N: Nand>(
     ensures read { IfOk result (λ named. IsReadAs told (N.state bounded.device) (N.state (inner_of named.on.device)) (⟦<TrustedNand<N> as Nand>⟧.state named.on.device)) }
     ensures named { IfOk result (λ named. IsNamedTree (⟦<TrustedNand<N> as Nand>⟧.state named.on.device) named) }
     ensures noted { IfOk result (λ named. (table named.on.blocks).checkpoint ≡ Some found.now.block) }
+    ensures few { ((N.state bounded.device).honest && told) ≡ true
+        → IfOk result (λ named. ReadsThrough (N.state bounded.device) (N.state (inner_of named.on.device)) named.on.spare named.on.tree) }
     ensures back { IfErr result (λ failed. OnlyReads (N.state bounded.device) (N.state failed.0)) }
+    ensures fault { ((N.state bounded.device).honest && told) ≡ true
+        → IfErr result (λ failed. WhyNotThrough opened.index (N.state bounded.device) (N.state failed.0) failed.1) }
 {
     the_headers_tell_the_keys();
     let Bounded { device } = bounded;
@@ -84,7 +89,10 @@ pub(crate) fn open_entries<N: Nand>(
     ensures named { IfOk result (λ named. IsNamedTree (⟦<TrustedNand<N> as Nand>⟧.state named.on.device) named) }
     ensures checked { HasTrueFlash (N.state device)
         → IfOk result (λ named. IsChecked (N.state device).geometry (N.state device).flash (table named.on.blocks).checkpoint) }
+    ensures few { HasTrueFlash (N.state device)
+        → IfOk result (λ named. ReadsThrough (N.state device) (N.state (inner_of named.on.device)) named.on.spare named.on.tree) }
     ensures back { IfErr result (λ failed. OnlyReads (N.state device) (N.state failed.0)) }
+    ensures fault { HasTrueFlash (N.state device) → IfErr result (λ failed. EndsMount (N.state failed.0) failed.1) }
 {
     match open_kept(alloc, &device, found, seqs) {
         Ok(Some(opened)) => go_by(alloc, Bounded { device }, found, opened),

@@ -1,7 +1,9 @@
 // The tree with which a volume goes on: by a checkpoint or by a scan.
 ghost use Rattle.std.specs.Prelude.{◌≡◌, ◌<◌, ℕ, false, Some, None, IfOk, IfErr};
+ghost use Rattle.posix_profile.specs.State.{Objects};
 ghost use Rattle.nand_model.specs.Changes.{OnlyReads};
 ghost use Rattle.flash_tree.specs.Checkpoints.{IsChecked};
+ghost use Rattle.flash_tree.specs.Sound.{IsSoundFlash};
 ghost use Rattle.block_state.specs.TableOf.{table};
 ghost use Rattle.checkpoint_reading.specs.Found.{HasForm, IsWholeOn, TellsSeqs, checkpoint_of};
 ghost use Rattle.newest_pages.specs.Checked.{HasTrueFlash};
@@ -9,6 +11,7 @@ ghost use Rattle.trusted_nand.specs.Parts.{inner_of};
 ghost use Rattle.mounting.specs.Faults.{WhyNotMounted};
 ghost use Rattle.mounting.specs.Going.{IsGoing, MayBeNoted, NotesFree};
 ghost use Rattle.mounting.specs.Named.{IsTrustedSince};
+ghost use Rattle.mounting.specs.Reads.{EndsMount, ReadsByCheckpoint, ReadsTree};
 
 use crate::entries::open_entries;
 use crate::fault::MountFault;
@@ -19,10 +22,12 @@ use crate::tree_on::{Going, NamedTree, TreeOn};
 use block_state::Blocks;
 use checkpoint_reading::{CheckpointSearch, FoundCheckpoint, find_checkpoint};
 use chunk_index::the_counts_are_of_the_keys;
-use mount_answers::the_tree_looks_up_its_footprint;
+use flash_tree::a_flash_has_one_answer_at_most;
+use mount_answers::{a_volume_has_sizes, the_tree_looks_up_its_footprint};
 use nand_model::Nand;
 use pages::has_power;
 use std::alloc::Global;
+use tree_table::the_pages_of_a_tree_are_those_of_its_objects;
 use tree_walk::{RootFault, the_headers_tell_the_keys};
 use trusted_nand::TrustedNand;
 
@@ -54,8 +59,14 @@ fn by_entries<N: Nand>(
     ensures going { IfOk result (λ going. IsGoing (⟦<TrustedNand<N> as Nand>⟧.state going.named.on.device) going) }
     ensures checked { HasTrueFlash (N.state device)
         → IfOk result (λ going. IsChecked (N.state device).geometry (N.state device).flash (table going.named.on.blocks).checkpoint) }
+    ensures few { HasTrueFlash (N.state device) → IfOk result (λ going. ReadsTree (N.state device) (N.state (inner_of going.named.on.device))) }
     ensures back { IfErr result (λ failed. OnlyReads (N.state device) (N.state failed.0)) }
+    ensures fault { HasTrueFlash (N.state device) → (spare : ℕ) (tree : Objects) → IsSoundFlash (N.state device).geometry (N.state device).flash spare tree
+        → IfErr result (λ failed. EndsMount (N.state failed.0) failed.1) }
 {
+    a_flash_has_one_answer_at_most();
+    a_volume_has_sizes();
+    the_pages_of_a_tree_are_those_of_its_objects();
     let named = open_entries(alloc, device, found, seqs)?;
     match go_on(&named.on) {
         Some(sizes) => Ok(Going { named, sizes }),
@@ -120,6 +131,7 @@ fn scan_after<N: Nand>(
         → IfOk result (λ going. IsChecked (N.state device).geometry (N.state device).flash (table going.named.on.blocks).checkpoint) }
     ensures back { IfErr result (λ failed. OnlyReads (N.state device) (N.state failed.0)) }
     ensures fault { IfErr result (λ failed. WhyNotMounted (N.state failed.0) failed.1) }
+    ensures ends { EndsMount (N.state device) fault → IfOk result (λ going. ⊥) }
 {
     let mut device = device;
     if !has_power(&mut device) {
@@ -141,6 +153,7 @@ pub(crate) fn open_volume<N: Nand>(
     ensures going { IfOk result (λ going. IsGoing (⟦<TrustedNand<N> as Nand>⟧.state going.named.on.device) going) }
     ensures checked { HasTrueFlash (N.state device)
         → IfOk result (λ going. IsChecked (N.state device).geometry (N.state device).flash (table going.named.on.blocks).checkpoint) }
+    ensures few { IfOk result (λ going. ReadsByCheckpoint (N.state device) (N.state (inner_of going.named.on.device))) }
     ensures back { IfErr result (λ failed. OnlyReads (N.state device) (N.state failed.0)) }
     ensures fault { IfErr result (λ failed. WhyNotMounted (N.state failed.0) failed.1) }
 {

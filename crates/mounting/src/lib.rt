@@ -1,7 +1,6 @@
 //! The mount of a device: its newest pages, the tree that they show, and whether a volume can go on with it.
 #![tactic(auto)]
 
-mod checked;
 mod entries;
 mod fault;
 mod going;
@@ -20,7 +19,6 @@ mod tagged;
 mod tree;
 mod tree_on;
 
-pub use checked::mount_checked;
 pub use fault::MountFault;
 pub use mounted::{Mounted, mount};
 pub use naming::unmounted;

@@ -5,7 +5,7 @@ ghost use Rattle.chunk_index.specs.Maps.{kept_pages};
 ghost use Rattle.chunk_index.specs.declared.form.KeptPage.{KeptPage};
 ghost use Rattle.page_buffer.specs.Shown.{data_at};
 ghost use Rattle.bad_blocks.specs.Standing.{IsKeptAt};
-ghost use Rattle.mounting.specs.Lending.{HoldsLast, LieWithin, TrustsKept, lent};
+ghost use Rattle.mounting.specs.Lending.{LieWithin, TrustsKept, lent};
 ghost use Rattle.mounting.specs.laws.OneProof.{trusts_prop};
 
 use crate::tagged::read_tagged;
@@ -26,12 +26,9 @@ pub(crate) struct LentPages<'a, N: Nand> {
     // The page that was found last.
     pub(crate) page: Vec<u8>,
     pub(crate) trust: Trust,
-    // Its key, if one was found.
-    last: Option<Key>,
     ghost size: { length page.items ≡ (N.state device).geometry.bytes },
     ghost lie: { LieWithin (N.state device) index.now },
     ghost kept: { TrustsKept (N.state device) trust.told index.now } by { trusts_prop (N.state device) trust.told index.now },
-    ghost held: { HoldsLast (N.state device) trust.told index.now last page.items },
 }
 
 impl<'a, N: Nand> LentPages<'a, N> {
@@ -55,7 +52,6 @@ impl<'a, N: Nand> LentPages<'a, N> {
                 index,
                 page,
                 trust: Trust::as_told(),
-                last: None,
             }),
             Err(refused) => Err((device, refused)),
         }
@@ -81,9 +77,7 @@ impl<'a, N: Nand> LentPages<'a, N> {
         ensures fault { IfErr result (λ fault. (fault ≡ StoreFault.Device)
             × (((N.state self.new.device).gone ≡ true) ⊎ ((N.state self.old.device).honest ≡ true → IsKeptAt (N.state self.old.device).flash key.object key.chunk at → ⊥))) }
     {
-        self.last = None;
         read_tagged(&mut self.device, key, at, &mut self.page)?;
-        self.last = Some(key);
         Ok(Presence::Present)
     }
 }
@@ -99,12 +93,7 @@ impl<N: Nand> Pages for LentPages<'_, N> {
 
     fn find(&mut self, key: Key) -> Result<Presence, StoreFault> {
         match self.index.kept(key) {
-            Some(at) => {
-                if self.last == Some(key) {
-                    return Ok(Presence::Present);
-                }
-                self.read(key, at)
-            }
+            Some(at) => self.read(key, at),
             None => Ok(Presence::Absent),
         }
     }

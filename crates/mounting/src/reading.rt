@@ -11,6 +11,7 @@ ghost use Rattle.tree_walk.specs.Hashes.{CoversTree};
 ghost use Rattle.tree_walk.specs.declared.fault.RootFault.TheVariants as roots;
 ghost use Rattle.mounting.specs.Faults.{WhyNotMounted};
 ghost use Rattle.mounting.specs.Lending.{LieWithin, TrustsKept};
+ghost use Rattle.mounting.specs.Reads.{ReadsThrough};
 ghost use Rattle.mounting.specs.Trees.{IsGoneThrough, TellsTree};
 
 use crate::fault::MountFault;
@@ -35,6 +36,7 @@ pub(crate) fn go_through<N: Nand>(
     requires lie { LieWithin (N.state device) index.now }
     requires kept { TrustsKept (N.state device) told index.now }
     ensures reads { IfOk result (λ read. OnlyReads (N.state device) (N.state read.0)) }
+    ensures few { ((N.state device).honest && told) ≡ true → IfOk result (λ read. ReadsThrough (N.state device) (N.state read.0) read.1.spare read.1.tree) }
     ensures power { (N.state device).gone ≡ false → IfOk result (λ read. (N.state read.0).gone ≡ false) }
     ensures tree { ((N.state device).honest && told) ≡ true
         → IfOk result (λ read. IsGoneThrough (N.state device).geometry (has (kept_data index.now (N.state device).flash)) read.1.spare read.1.tree) }

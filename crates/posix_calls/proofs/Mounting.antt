@@ -1,12 +1,12 @@
 -- A volume of mounted pages stands for their tree.
-use Rattle.std.specs.Prelude.{◌≡◌, ◌↔◌, Bool, true, Result, Ok, Err, IfOk}
-use Rattle.std.proofs.Common.{sym, subst}
-use Rattle.std.specs.FinMap as map
+use Rattle.std.specs.Prelude.{◌≡◌, ◌↔◌, Bool, true, false, Result, Ok, Err, IfOk}
+use Rattle.std.proofs.Common.{sym, ◌∙◌, ap, subst}
 use Rattle.volume_terms.specs.Sizes.{Sizes}
 use Rattle.posix_profile.specs.State.{Objects}
 use Rattle.posix_profile.specs.laws.Sound.{IsSound}
 use Rattle.posix_profile.specs.laws.Prune.{tree_well_formed}
 use Rattle.lives.specs.Lives.{at_mount}
+use Rattle.flash_tree.specs.Checkpoints.{IsChecked}
 use Rattle.flash_tree.specs.Mount.{Answers, IsTreeOf}
 use Rattle.name_index.specs.declared.index.NameIndex.{NameIndex}
 use Rattle.object_table.specs.Told.{table_sizes}
@@ -14,11 +14,13 @@ use Rattle.object_table.specs.declared.table.ObjectTable.{ObjectTable}
 use Rattle.pages.specs.State.{PagesState}
 use Rattle.paged_objects.specs.Standing.{volume_of, Shown}
 use Rattle.nand_model.specs.Calls.{Device}
-use Rattle.mounting.specs.Made.{CanOnlyBeRead, IsMountedWith}
+use Rattle.mounting.specs.Made.{CanOnlyBeRead, AreNext, IsMountedWith}
 use Rattle.mounting.specs.Named.{IsTrustedSince}
-use Rattle.page_volume.specs.Volumes.{pages_of, IsVolumeOf}
+use Rattle.mounting.specs.Reads.{ReadsByCheckpoint}
+use Rattle.newest_pages.specs.Checked.{HasTrueFlash}
+use Rattle.page_volume.specs.Volumes.{pages_of, is_read_only, is_stopped, IsVolumeOf}
 use Rattle.page_volume.specs.declared.volume.PageVolume.{PageVolume}
-use Rattle.posix_calls.specs.Mounts.{StandsForTree}
+use Rattle.posix_calls.specs.Mounts.{StandsForTree, IsMounted}
 
 -- a tree that fits is a state that a volume can have
 pub sound_at : (p : PagesState) (table : ObjectTable) (names : NameIndex) (objects : Objects) → table_sizes table ≡ volume_of p → IsMountedWith p table names objects → IsSound (table_sizes table) (at_mount objects)
@@ -38,9 +40,20 @@ stands_for state p table names objects (Ok v) same mounted pages volume = record
 }
 stands_for state p table names objects (Err e) same mounted pages volume = tt
 
--- what is said of the pages of a mount is said of those of the volume
-pub read_only_there : (b r : Bool) (p q : PagesState) → b ≡ r → q ≡ p → (r ≡ true) ↔ CanOnlyBeRead p → (b ≡ true) ↔ CanOnlyBeRead q
-read_only_there b r p q is same told = subst (λ (x : PagesState). (b ≡ true) ↔ CanOnlyBeRead x) (sym same) (subst (λ x. (x ≡ true) ↔ CanOnlyBeRead p) (sym is) told)
+-- a volume over pages that were mounted is mounted
+module _ {P : Type 0} (state : P → PagesState) (device now : Device) (p : PagesState) (v : PageVolume P) (r : Bool) (there : state (pages_of v) ≡ p) (since : IsTrustedSince device now p.device) where
+  since_there : IsTrustedSince device now (state (pages_of v)).device
+  since_there = subst (λ (q : PagesState). IsTrustedSince device now q.device) (sym there) since
 
-pub since_there : (a now : Device) (p q : PagesState) → q ≡ p → IsTrustedSince a now p.device → (x : Device) × IsTrustedSince a x q.device
-since_there a now p q same since = (now, subst (λ (x : PagesState). IsTrustedSince a now x.device) (sym same) since)
+  pub mounted_there : is_stopped v ≡ false → is_read_only v ≡ r → (r ≡ true) ↔ CanOnlyBeRead p → (p.device.honest ≡ true → AreNext p.device.flash p.next)
+      → (HasTrueFlash device → IsChecked device.geometry device.flash p.checkpoint) → ReadsByCheckpoint device p.device → (p.device.honest ≡ true → (objects : Objects) × StandsForTree state v objects) → IsMounted state device v
+  mounted_there goes is read_only next checked few tree = record {
+    now = now;
+    since = since_there;
+    goes_on = goes;
+    read_only = subst (λ (q : PagesState). (is_read_only v ≡ true) ↔ CanOnlyBeRead q) (sym there) (subst (λ x. (x ≡ true) ↔ CanOnlyBeRead p) (sym is) read_only);
+    next = subst (λ (q : PagesState). q.device.honest ≡ true → AreNext q.device.flash q.next) (sym there) next;
+    tree = λ honest. tree (sym (ap (λ (q : PagesState). q.device.honest) there) ∙ honest);
+    checked = λ truth. subst (λ (q : PagesState). IsChecked device.geometry device.flash q.checkpoint) (sym there) (checked truth);
+    few = subst (λ (q : PagesState). ReadsByCheckpoint device q.device) (sym there) few;
+  }

@@ -1,8 +1,10 @@
 -- How a volume ends.
 -- From: this project.
-use Rattle.std.specs.Prelude.{◌≡◌, ◌⊎◌, true, false}
+use Rattle.std.specs.Prelude.{◌≡◌, ◌⊎◌, ◌+◌, Bool, true, false, Result, Ok, Err}
 use Rattle.nand_model.specs.Calls.{Device}
+use Rattle.nand_model.specs.Counts.{Costs}
 use Rattle.object_store.specs.Stores.{settled}
+use Rattle.objects.specs.Sealing.{EndsOn, StaysRight, IsSealed, SealEnds}
 use Rattle.page_volume.specs.Volumes.{pages_of, is_read_only, is_stopped, IsVolumeOf}
 use Rattle.page_volume.specs.declared.volume.PageVolume.{PageVolume}
 use Rattle.pages.specs.State.{PagesState}
@@ -13,15 +15,22 @@ use Rattle.posix_profile.specs.State.{Objects, State}
 use Rattle.posix_profile.specs.declared.reply.Errno.TheVariants as errors
 use Rattle.posix_profile.specs.declared.reply.Reply.{Reply}
 use Rattle.posix_profile.specs.declared.reply.Reply.TheVariants as replies
+use Rattle.trusted_nand.specs.Trusting.{trusted_as}
 use Rattle.volume_terms.specs.Sizes.{Sizes}
+use Rattle.volume_terms.specs.declared.fault.StoreFault.{StoreFault}
+
+-- the device of these pages is this one, trusted or not
+abbrev pub LiesOn : PagesState → Device → Type 0
+LiesOn pages device = (told : Bool) × (pages.device ≡ trusted_as told device)
 
 -- The volume gives its device back. One that is stopped answers EIO, and leaves the device. One that is read-only leaves it too,
 -- and answers Done where it is not stopped. Else the answer is Done, and a mount shows what names keep of the objects; or it is EIO
 -- for its reason, and a mount shows that or the tree that it would have shown. After Done the device has not lost its power in it.
+-- Checkpoints stay right, also where power is lost.
 pub record IsUnmounted {P : Type 0} (state : P → PagesState) (v : PageVolume P) (device : Device) (reply : Reply) : Type 0 where
   pub pages : PagesState
-  pub device_is : pages.device ≡ device
-  pub goes_on : GoesOn (state (pages_of v)) pages
+  pub device_is : LiesOn pages device
+  pub ends_on : EndsOn (state (pages_of v)) pages
   pub stopped : is_stopped v ≡ true → (reply ≡ replies.Error errors.EIO) × (pages ≡ state (pages_of v))
   pub read_only : is_read_only v ≡ true → pages ≡ state (pages_of v)
   pub replies_are : is_stopped v ≡ false → (reply ≡ replies.Done) ⊎ (reply ≡ replies.Error errors.EIO)
@@ -31,3 +40,29 @@ pub record IsUnmounted {P : Type 0} (state : P → PagesState) (v : PageVolume P
   pub tree : is_stopped v ≡ false → (z : Sizes) (s : State) → IsVolumeOf state z s v → (tree : Objects) → Shown z (state (pages_of v)) tree
       → Shown z pages tree ⊎ Shown z pages (settled s.objects)
   pub cause : is_stopped v ≡ false → (z : Sizes) (s : State) → IsVolumeOf state z s v → reply ≡ replies.Error errors.EIO → HasEnded pages
+  pub checked : is_stopped v ≡ false → (z : Sizes) (s : State) → IsVolumeOf state z s v → StaysRight (state (pages_of v)) pages
+
+-- what a checkpoint of these pages costs at most: the erase of a block and its pages, and two changes for each failure
+abbrev pub CostsACheckpoint : PagesState → Device → Type 0
+CostsACheckpoint pages device = Costs (pages.device.geometry.pages + 1) 2 0 pages.device device
+
+-- The pages were committed, and no checkpoint of them was due; or one is whole on the device now, or it counted a failure. It cost the
+-- erase of a block and the pages of the checkpoint at most, and for each failure an erase or a mark, and what failed.
+pub record LeavesCheckpoint {P : Type 0} (state : P → PagesState) (due : P → Type 0) (v : PageVolume P) (device : Device) : Type 0 where
+  pub committed : P
+  pub goes_on : GoesOn (state (pages_of v)) (state committed)
+  pub left : PagesState
+  pub device_is : LiesOn left device
+  pub ends : SealEnds (due committed) (state committed) left (Ok tt)
+  pub costs : CostsACheckpoint (state committed) left.device
+
+-- the reply to an unmount, by how the writing of its checkpoint ended
+abbrev pub reply_of : Result (Unit {0}) StoreFault → Reply
+reply_of (Ok done) = replies.Done
+reply_of (Err fault) = replies.Error errors.EIO
+
+-- What follows the last reply of pages that are given up: after Done their checkpoint is written where it is due, and else they are left.
+abbrev pub EndsWith : (due : Type 0) → PagesState → Reply → Device → Reply → Type 0
+EndsWith due pages reply device told =
+    ((reply ≡ replies.Done) × (sealed : Result (Unit {0}) StoreFault) × IsSealed due pages device sealed × CostsACheckpoint pages device × (told ≡ reply_of sealed))
+    ⊎ ((reply ≡ replies.Done → ⊥) × (pages.device ≡ device) × (told ≡ reply))

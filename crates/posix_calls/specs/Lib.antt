@@ -1,3 +1,5 @@
+pub mod Calls
 pub mod Mounts
 pub mod Volumes
 pub mod Endings
+pub mod laws

@@ -1,8 +1,15 @@
 -- What a volume stands for once it is mounted.
 -- From: this project.
+use Rattle.std.specs.Prelude.{◌≡◌, ◌↔◌, true, false}
+use Rattle.flash_tree.specs.Checkpoints.{IsChecked}
 use Rattle.flash_tree.specs.Mount.{Answers, IsTreeOf}
 use Rattle.lives.specs.Lives.{at_mount}
-use Rattle.page_volume.specs.Volumes.{pages_of, IsVolumeOf}
+use Rattle.mounting.specs.Made.{CanOnlyBeRead, AreNext}
+use Rattle.mounting.specs.Named.{IsTrustedSince}
+use Rattle.mounting.specs.Reads.{ReadsByCheckpoint}
+use Rattle.nand_model.specs.Calls.{Device}
+use Rattle.newest_pages.specs.Checked.{HasTrueFlash}
+use Rattle.page_volume.specs.Volumes.{pages_of, is_read_only, is_stopped, IsVolumeOf}
 use Rattle.page_volume.specs.declared.volume.PageVolume.{PageVolume}
 use Rattle.pages.specs.State.{PagesState}
 use Rattle.paged_objects.specs.Standing.{volume_of, Shown}
@@ -13,3 +20,17 @@ pub record StandsForTree {P : Type 0} (state : P → PagesState) (v : PageVolume
   pub answers : Answers (state (pages_of v)).device.geometry (state (pages_of v)).device.flash (IsTreeOf (state (pages_of v)).spare objects)
   pub volume : IsVolumeOf state (volume_of (state (pages_of v))) (at_mount objects) v
   pub shown : Shown (volume_of (state (pages_of v))) (state (pages_of v)) objects
+
+-- The volume of a device is mounted. The device was only read, keeps its power, and is trusted where its flash was true. Then, if it is
+-- honest, the next numbers are above those on its flash, and the volume stands for the tree that it shows; and the block that is noted
+-- is the only one with a whole checkpoint, which is right. Where the flash was true and sound and had a whole checkpoint, at most a page
+-- of each block, those of the checkpoint and those that are looked up to see the tree were read.
+pub record IsMounted {P : Type 0} (state : P → PagesState) (device : Device) (v : PageVolume P) : Type 0 where
+  pub now : Device
+  pub since : IsTrustedSince device now (state (pages_of v)).device
+  pub goes_on : is_stopped v ≡ false
+  pub read_only : (is_read_only v ≡ true) ↔ CanOnlyBeRead (state (pages_of v))
+  pub next : (state (pages_of v)).device.honest ≡ true → AreNext (state (pages_of v)).device.flash (state (pages_of v)).next
+  pub tree : (state (pages_of v)).device.honest ≡ true → (objects : Objects) × StandsForTree state v objects
+  pub checked : HasTrueFlash device → IsChecked device.geometry device.flash (state (pages_of v)).checkpoint
+  pub few : ReadsByCheckpoint device (state (pages_of v)).device

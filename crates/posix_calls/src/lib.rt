@@ -2,12 +2,11 @@
 #![tactic(auto)]
 
 mod answering;
-mod checked;
+mod ending;
 mod joining;
 mod mount;
 mod volume;
 
-pub use checked::mount_checked;
 pub use command_answers::Answers;
 pub use formatting::{FormatFault, format};
 pub use mounting::MountFault;

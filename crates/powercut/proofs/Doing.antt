@@ -18,11 +18,15 @@ use Rattle.posix_profile.specs.declared.reply.Errno.TheVariants as errors
 use Rattle.posix_profile.specs.declared.reply.Reply.{Reply}
 use Rattle.posix_profile.specs.declared.reply.Reply.TheVariants as replies
 use Rattle.nand_model.specs.Calls.{Device}
+use Rattle.flash_tree.specs.Checkpoints.{IsChecked}
 use Rattle.pages.specs.State.{PagesState}
 use Rattle.pages.specs.Stores.{GoesOn}
 use Rattle.paged_objects.specs.Ending.{HasEnded}
 use Rattle.paged_objects.specs.Standing.{Shown}
-use Rattle.paged_objects.specs.laws.Going.{goes_on}
+use Rattle.objects.specs.Sealing.{EndsOn, StaysRight}
+use Rattle.objects.specs.laws.Sealing.{ends_going}
+use Rattle.posix_calls.specs.Endings.{LiesOn}
+use Rattle.posix_calls.specs.laws.Ending.{ends_after, goes_right, right_after}
 use Rattle.powercut.specs.Commands.{Meaning, DoesOne, DoesCommands, Does, LeavesFrom, IsUsed}
 
 -- only one reply is the stop
@@ -121,19 +125,21 @@ module _ {V : Type 0} (m : Meaning V) (commands : List Stamped) (told : List Rep
   well_more still going written z s is = well_now going written z s is still
 
   -- the last, at the stop
-  pub does_stopped : m.stopped d ≡ true → GoesOn (m.pages a) (m.pages d) → (m.stopped a ≡ false → m.stopped b ≡ false) → Does m commands (told ++ r ∷ []) a d
-  does_stopped stopped goes still = record {
+  pub does_stopped : m.stopped d ≡ true → GoesOn (m.pages a) (m.pages d) → m.read_only d ≡ m.read_only a → (m.stopped a ≡ false → m.stopped b ≡ false) → Does m commands (told ++ r ∷ []) a d
+  does_stopped stopped goes same_only still = record {
     goes_on = goes;
+    read_only = same_only;
     begun = λ going. inr (told, ap (λ (x : Reply). told ++ x ∷ []) (stop_is r (sym (stops (still going)) ∙ stopped)));
     does = λ going written z s is. stopped_now going written z s is stopped;
   }
 
 -- all commands are done
 pub does_all : {V : Type 0} (m : Meaning V) (commands : List Stamped) (told : List Reply) (a b : V) → length told ≡ length commands
-    → GoesSoFar m commands told a b → GoesOn (m.pages a) (m.pages b) → Does m commands told a b
+    → GoesSoFar m commands told a b → GoesOn (m.pages a) (m.pages b) → m.read_only b ≡ m.read_only a → Does m commands told a b
 unfolding GoesSoFar
-does_all m commands told a b all so_far goes = record {
+does_all m commands told a b all so_far goes same_only = record {
   goes_on = goes;
+  read_only = same_only;
   begun = λ going. inl all;
   does = λ going written z s is.
       let was = so_far going written z s is in
@@ -160,14 +166,16 @@ pub record UnmountsOne {V : Type 0} (m : Meaning V) (v : V) (q : PagesState) (re
   pub done : (z : Sizes) (s : State) → m.stands z s v → reply ≡ replies.Done → Shown z q (settled s.objects)
   pub tree : (z : Sizes) (s : State) → m.stands z s v → (tree : Objects) → Shown z (m.pages v) tree → Shown z q tree ⊎ Shown z q (settled s.objects)
   pub cause : (z : Sizes) (s : State) → m.stands z s v → reply ≡ replies.Error errors.EIO → HasEnded q
+  pub checked : (z : Sizes) (s : State) → m.stands z s v → StaysRight (m.pages v) q
 
 module _ {V : Type 0} (m : Meaning V) (commands : List Stamped) (told : List Reply) (a b : V) (done : Does m commands told a b) where
   -- the volume is abandoned
-  pub used_abandoned : (device : Device) → device ≡ (m.pages b).device → IsUsed m a commands told None device
+  pub used_abandoned : (device : Device) → LiesOn (m.pages b) device → IsUsed m a commands told None device
   used_abandoned device is = record {
     left = m.pages b;
-    device_is = sym is;
-    goes_on = done.goes_on;
+    device_is = is;
+    ends_on = ends_going (m.pages a) (m.pages b) done.goes_on;
+    right = λ going z s stands. goes_right (m.pages a) (m.pages b) done.goes_on;
     begun = done.begun;
     abandoned = λ none. (b, done, is);
     leaves = λ going written z s tree stands shown.
@@ -186,8 +194,8 @@ module _ {V : Type 0} (m : Meaning V) (commands : List Stamped) (told : List Rep
   }
 
   -- an unmount of the volume, which leaves these pages, with this reply
-  module _ (device : Device) (reply : Reply) (q : PagesState) (device_is : q.device ≡ device) (on : GoesOn (m.pages b) q) (stops : m.stopped b ≡ true → (reply ≡ replies.Error errors.EIO) × (q ≡ m.pages b))
-      (goes : m.stopped b ≡ false → UnmountsOne m b q reply) where
+  module _ (device : Device) (reply : Reply) (q : PagesState) (device_is : LiesOn q device) (on : EndsOn (m.pages b) q) (stops : m.stopped b ≡ true → (reply ≡ replies.Error errors.EIO) × (q ≡ m.pages b))
+      (reads : m.read_only b ≡ true → q ≡ m.pages b) (goes : m.stopped b ≡ false → UnmountsOne m b q reply) where
     module _ (going : m.stopped a ≡ false) (written : m.read_only a ≡ false) (z : Sizes) (s : State) (tree : Objects) (stands : m.stands z s a) (shown : Shown z (m.pages a) tree) where
       does : DoesCommands m z s commands told a b
       does = done.does going written z s stands
@@ -249,12 +257,29 @@ module _ {V : Type 0} (m : Meaning V) (commands : List Stamped) (told : List Rep
         done = λ is. let one : Some reply ≡ Some replies.Done = is in let same : reply ≡ replies.Done = cc in done_there same;
       }
 
+    as_left : q ≡ m.pages b → StaysRight (m.pages b) q
+    as_left same honest checked = subst (λ (x : PagesState). IsChecked x.device.geometry x.device.flash x.checkpoint) (sym same) checked
+
+    -- the checkpoints stay right in the unmount
+    right_there : m.stopped a ≡ false → (z : Sizes) (s : State) → m.stands z s a → StaysRight (m.pages b) q
+    right_there going z s stands = elim (cases_Bool (m.stopped b)) [
+      | inl stopped ↦ as_left (stops stopped).1
+      | inr still ↦ elim (cases_Bool (m.read_only b)) [
+        | inl only ↦ as_left (reads only)
+        | inr written ↦
+            let does = done.does going (sym done.read_only ∙ written) z s stands in
+            (goes still).checked z (after z false s commands told) (does.stands still)
+      ]
+    ]
+
     -- the volume is unmounted
     pub used_unmounted : IsUsed m a commands told (Some reply) device
     used_unmounted = record {
       left = q;
       device_is = device_is;
-      goes_on = goes_on (m.pages a) (m.pages b) q done.goes_on on;
+      ends_on = ends_after (m.pages a) (m.pages b) q (ends_going (m.pages a) (m.pages b) done.goes_on) on;
+      right = λ going z s stands.
+          right_after (m.pages a) (m.pages b) q (ends_going (m.pages a) (m.pages b) done.goes_on) (goes_right (m.pages a) (m.pages b) done.goes_on) (right_there going z s stands);
       begun = done.begun;
       abandoned = λ none. (let two : Some reply ≡ None = none in absurd cc);
       leaves = λ going written z s tree stands shown. left_from going written z s tree stands shown;

@@ -70,18 +70,20 @@ module _ (one : (g : Geometry) (flash : Flash) (a b : Answer) → Answers g flas
   pub failed_lived : (fault : MountFault) → WhyNotMounted e fault → HasLived d e (failed_record commands (answer_of (Err fault)) e.gone ∷ [])
   failed_lived fault why =
       let same : HasSame d.flash e.flash = record { page = reads.page honest; bad = reads.bad } in
-      let still = lived_still d e reads.lasts.geometry reads.lasts.honest reads.changes reads.failures same in
+      let still = lived_still d e reads.lasts.geometry reads.changes reads.failures same in
       record {
         geometry = still.geometry;
-        honest = still.honest;
         changes = still.changes;
         marks = still.marks;
         answered = still.answered;
-        numbers = still.numbers;
-        known = still.known;
-        life = λ spare tree sound within.
-            let there = subst (λ (g : Geometry). IsSoundFlash g e.flash spare tree) (sym reads.lasts.geometry) (sound_same d.geometry d.flash e.flash same spare tree sound) in
-            (tree, (tree, session_failed spare tree there fault why (sizes_of d.geometry spare), refl), there);
+        truly = λ truth. record {
+          truth = (still.truly truth).truth;
+          numbers = (still.truly truth).numbers;
+          known = (still.truly truth).known;
+          life = λ spare tree sound within.
+              let there = subst (λ (g : Geometry). IsSoundFlash g e.flash spare tree) (sym reads.lasts.geometry) (sound_same d.geometry d.flash e.flash same spare tree sound) in
+              (tree, (tree, session_failed spare tree there fault why (sizes_of d.geometry spare), refl), there);
+        };
       }
 
 -- where nothing was replied that is what is recorded

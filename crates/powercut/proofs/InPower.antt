@@ -8,6 +8,7 @@ use Rattle.nand_model.specs.Flash.{Flash}
 use Rattle.nand_model.specs.Calls.{Device, Lasts}
 use Rattle.nand_model.specs.Changes.{OnlyReads}
 use Rattle.nand_model.specs.laws.Calls.{lasts_on}
+use Rattle.newest_pages.specs.Checked.{HasTrueFlash}
 use Rattle.nand_model.specs.declared.geometry.Geometry.{Geometry}
 use Rattle.posix_profile.specs.Losses.{Covers, settled_after}
 use Rattle.posix_profile.specs.State.{Objects}
@@ -16,22 +17,28 @@ use Rattle.posix_profile.specs.declared.command.Stamped.{Stamped}
 use Rattle.posix_profile.specs.declared.reply.Errno.TheVariants as errors
 use Rattle.posix_profile.specs.declared.reply.Reply.{Reply}
 use Rattle.posix_profile.specs.declared.reply.Reply.TheVariants as replies
+use Rattle.flash_tree.specs.Checkpoints.{IsChecked}
 use Rattle.flash_tree.specs.Newest.{Numbers, AreGreatest}
 use Rattle.flash_tree.specs.Numbering.{AreBelow}
 use Rattle.flash_tree.specs.Mount.{Answer, Answers, IsTreeOf, sizes_of}
 use Rattle.flash_tree.specs.Sound.{IsSoundFlash}
+use Rattle.flash_tree.specs.laws.Place.{same_flash}
 use Rattle.lives.specs.Lives.{Mounted, Gone, SessionRecord, at_mount, IsSessionFrom, IsLife}
 use Rattle.lives.specs.laws.Sessions.{loss_keeps}
 use Rattle.pages.specs.State.{PagesState, NextNumbers}
-use Rattle.pages.specs.Stores.{GoesOn}
+use Rattle.pages.specs.Stores.{bad_on}
+use Rattle.trusted_nand.specs.Trusting.{trusted_as}
+use Rattle.posix_calls.specs.laws.Trusting.{read_since, left_as_seen, lasts_seen}
 use Rattle.flash_pages.specs.ReadOnly.{next_after}
 use Rattle.mounting.specs.Made.{CanOnlyBeRead, AreNext}
+use Rattle.mounting.specs.Named.{IsTrustedSince}
+use Rattle.objects.specs.Sealing.{EndsOn}
 use Rattle.paged_objects.specs.Ending.{HasEnded}
 use Rattle.paged_objects.specs.Standing.{volume_of, Shown}
 use Rattle.paged_objects.specs.laws.OnFlash.{shown_sound}
 use Rattle.powercut.specs.Commands.{Meaning, LeavesFrom, IsUsed}
 use Rattle.powercut.specs.Limits.{StaysWithin}
-use Rattle.powercut.specs.Living.{HasSame, AreWithin, HasLived}
+use Rattle.powercut.specs.Living.{HasSame, AreWithin, IsTrueOn, TrulyLived, HasLived}
 use Rattle.powercut.proofs.SameFlash.{same_back, greatest_same, sound_same}
 use Rattle.powercut.proofs.Living.{greatest_within, none_marked, marked_on}
 
@@ -92,12 +99,8 @@ module _ (z : Sizes) (before : Objects) (commands : List Stamped) (told : List R
         some.3,
       )
 
--- what the calls of a device keep is kept over the whole use
-pub used_lasts : {V : Type 0} (m : Meaning V) (v : V) (d e : Device) (commands : List Stamped) (told : List Reply) (unmounted : Option Reply) → OnlyReads d (m.pages v).device → IsUsed m v commands told unmounted e → Lasts d e
-used_lasts m v d e commands told unmounted reads used = subst (λ (x : Device). Lasts d x) used.device_is (lasts_on d (m.pages v).device used.left.device reads.lasts used.goes_on.device)
-
 -- what stands on the flash is within the greatest numbers at first and one more for each change
-numbers_written : (p q : PagesState) → GoesOn p q → p.device.honest ≡ true → (n : Numbers) → AreGreatest p.device.flash n → p.next ≡ next_after n
+numbers_written : (p q : PagesState) → EndsOn p q → p.device.honest ≡ true → (n : Numbers) → AreGreatest p.device.flash n → p.next ≡ next_after n
     → (more : ℕ) → q.device.changes ≡ p.device.changes + more → AreWithin q.device.flash (n.group + more) (n.seq + more)
 numbers_written p q goes honest n greatest next more risen b k t good has =
     let group : p.next.group ≡ n.group + 1 = ap (λ (x : NextNumbers). x.group) next in
@@ -120,7 +123,7 @@ module _ {V : Type 0} (m : Meaning V) (v : V) (d e : Device) (commands : List St
     (one : (g : Geometry) (flash : Flash) (a b : Answer) → Answers g flash a → Answers g flash b → a ≡ b)
     (reads : OnlyReads d (m.pages v).device) (goes : m.stopped v ≡ false) (read_only : (m.read_only v ≡ true) ↔ CanOnlyBeRead (m.pages v))
     (next : AreNext (m.pages v).device.flash (m.pages v).next) (objects : Objects) (stands : Stands m v objects)
-    (used : IsUsed m v commands told unmounted e) where
+    (checked : IsChecked d.geometry d.flash (m.pages v).checkpoint) (used : IsUsed m v commands told unmounted e) where
   abbrev p : PagesState
   p = m.pages v
 
@@ -140,7 +143,7 @@ module _ {V : Type 0} (m : Meaning V) (v : V) (d e : Device) (commands : List St
   at_first = greatest_same p.device.flash d.flash (same_back d.flash p.device.flash same) n next.1
 
   lasts : Lasts d q.device
-  lasts = lasts_on d p.device q.device reads.lasts used.goes_on.device
+  lasts = lasts_on d p.device q.device reads.lasts used.ends_on.device
 
   next_group : p.next.group ≡ n.group + 1
   next_group = ap (λ (x : NextNumbers). x.group) next.2
@@ -151,7 +154,7 @@ module _ {V : Type 0} (m : Meaning V) (v : V) (d e : Device) (commands : List St
   numbers : (group seq more : ℕ) → AreWithin d.flash group seq → q.device.changes ≡ d.changes + more → AreWithin q.device.flash (group + more) (seq + more)
   numbers group seq more within risen k t tag good has =
       let at = greatest_within d.flash n group seq at_first within in
-      let all = numbers_written p q used.goes_on p_honest n next.1 next.2 more (risen ∙ ap (λ m. m + more) (sym reads.changes)) k t tag good has in
+      let all = numbers_written p q used.ends_on p_honest n next.1 next.2 more (risen ∙ ap (λ m. m + more) (sym reads.changes)) k t tag good has in
       (omega (arith, all.0, at.1), omega (arith, all.1, at.2))
 
   module _ (spare : ℕ) (tree : Objects) (sound : IsSoundFlash d.geometry d.flash spare tree) (within : StaysWithin spare d q.device) where
@@ -181,7 +184,7 @@ module _ {V : Type 0} (m : Meaning V) (v : V) (d e : Device) (commands : List St
     -- the groups and the seqs that are left do not run out while the device has power
     groups_left : q.device.gone ≡ false → q.next.group < 2 ^ 62
     groups_left power =
-        let rose = used.goes_on.numbers.groups p_honest power in
+        let rose = used.ends_on.numbers.groups p_honest power in
         let first = next_group in
         let changes = reads.changes in
         let lt = within.numbers.groups n at_first in
@@ -189,7 +192,7 @@ module _ {V : Type 0} (m : Meaning V) (v : V) (d e : Device) (commands : List St
 
     seqs_left : q.next.seq < 2 ^ 62
     seqs_left =
-        let rose = used.goes_on.numbers.seqs in
+        let rose = used.ends_on.numbers.seqs in
         let first = next_seq in
         let changes = reads.changes in
         let lt = within.numbers.seqs n at_first in
@@ -204,14 +207,14 @@ module _ {V : Type 0} (m : Meaning V) (v : V) (d e : Device) (commands : List St
       | inr power ↦ absurd (omega (arith, group, groups_left power))
     ]
     ends_by_cut (inr (inr (inl seq))) = absurd (omega (arith, seq, seqs_left))
-    ends_by_cut (inr (inr (inr many))) = let few = within.few_bad in let kept = used.goes_on.spare in let is = spare_is in absurd (omega (arith, many, few, kept, is))
+    ends_by_cut (inr (inr (inr many))) = let few = within.few_bad in let kept = used.ends_on.spare in let is = spare_is in absurd (omega (arith, many, few, kept, is))
 
     left_sound : (after : Objects) → Shown (volume_of p) q after → IsSoundFlash q.device.geometry q.device.flash spare after
     left_sound after shown =
         let few = within.few_bad in
-        let is : q.spare ≡ spare = used.goes_on.spare ∙ spare_is in
+        let is : q.spare ≡ spare = used.ends_on.spare ∙ spare_is in
         subst (λ k. IsSoundFlash q.device.geometry q.device.flash k after) is
-        (shown_sound (volume_of p) q after shown (lasts.honest ∙ honest) (used.goes_on.limits p_honest sound_there.numbers) (omega (arith, few, is)))
+        (shown_sound (volume_of p) q after shown (lasts.honest ∙ honest) (used.ends_on.limits p_honest sound_there.numbers) (omega (arith, few, is)))
 
     sizes_are : volume_of p ≡ sizes_of d.geometry spare
     sizes_are = ap (λ (g : Geometry). sizes_of g p.spare) reads.lasts.geometry ∙ ap (λ k. sizes_of d.geometry k) spare_is
@@ -225,18 +228,64 @@ module _ {V : Type 0} (m : Meaning V) (v : V) (d e : Device) (commands : List St
         let of_sizes = subst (λ (z : Sizes). IsSessionFrom z tree record_told session.0) sizes_are from_tree in
         (session.0, (session.0, of_sizes, refl), left_sound session.0 session.2)
 
-  lived_there : HasLived d q.device (mounted_record commands told unmounted q.device.gone ∷ [])
-  lived_there = record {
-    geometry = lasts.geometry;
-    honest = lasts.honest;
-    changes = lasts.changes;
-    marks = lasts.marks;
-    answered = marked_on d p.device q.device (none_marked d p.device reads.lasts.geometry reads.failures reads.bad) used.goes_on.marks;
+  -- the block that is noted at the mount is the only one with a whole checkpoint
+  checked_there : IsChecked p.device.geometry p.device.flash p.checkpoint
+  checked_there =
+      subst (λ (g : Geometry). IsChecked g p.device.flash p.checkpoint) (sym reads.lasts.geometry)
+      (subst (λ (f : Flash). IsChecked d.geometry f p.checkpoint) (sym (same_flash d p.device reads honest)) checked)
+
+  pub truly_there : TrulyLived d q.device (mounted_record commands told unmounted q.device.gone ∷ [])
+  truly_there = record {
+    truth = (used.right goes (volume_of p) (at_mount objects) stands.volume p_honest checked_there).right;
     numbers = numbers;
     known = inr (n, at_first);
     life = life;
   }
 
-  -- from the device at the mount to the device that is given back
-  pub used_lived : HasLived d e (mounted_record commands told unmounted e.gone ∷ [])
-  used_lived = subst (λ (x : Device). HasLived d x (mounted_record commands told unmounted x.gone ∷ [])) used.device_is lived_there
+-- from the device at the mount to the device that is given back
+module _ {V : Type 0} (m : Meaning V) (v : V) (d e now : Device) (commands : List Stamped) (told : List Reply) (unmounted : Option Reply)
+    (since : IsTrustedSince d now (m.pages v).device) (used : IsUsed m v commands told unmounted e) where
+  lasts_there : Lasts (trusted_as since.told now) (trusted_as used.device_is.0 e)
+  lasts_there = subst (λ (x : Device). Lasts (trusted_as since.told now) x) used.device_is.1 (subst (λ (x : Device). Lasts x used.left.device) since.read.seen_is used.ends_on.device)
+
+  -- what the calls of a device keep is kept over the whole use
+  pub used_lasts : e.honest ≡ d.honest → Lasts d e
+  used_lasts honest = lasts_on d now e since.read.reads.lasts (lasts_seen since.told used.device_is.0 now e lasts_there (honest ∙ sym since.read.reads.lasts.honest))
+
+  marked_seen : bad_on e + now.failures ≤ bad_on now + e.failures
+  marked_seen =
+      subst (λ (x : Device). bad_on x + now.failures ≤ bad_on now + x.failures) used.device_is.1
+      (subst (λ (x : Device). bad_on used.left.device + x.failures ≤ bad_on x + used.left.device.failures) since.read.seen_is used.ends_on.marks)
+
+  module _ (honest : d.honest ≡ true) (one : (g : Geometry) (flash : Flash) (a b : Answer) → Answers g flash a → Answers g flash b → a ≡ b)
+      (goes : m.stopped v ≡ false) (read_only : (m.read_only v ≡ true) ↔ CanOnlyBeRead (m.pages v))
+      (next : (m.pages v).device.honest ≡ true → AreNext (m.pages v).device.flash (m.pages v).next)
+      (tree : (m.pages v).device.honest ≡ true → (objects : Objects) × Stands m v objects)
+      (checked : HasTrueFlash d → IsChecked d.geometry d.flash (m.pages v).checkpoint) where
+    module _ (truth : IsTrueOn d) where
+      reads : OnlyReads d (m.pages v).device
+      reads = read_since d now (m.pages v).device since (honest, truth)
+
+      here : (m.pages v).device.honest ≡ true
+      here = reads.lasts.honest ∙ honest
+
+      left : used.left.device ≡ e
+      left = left_as_seen used.left e used.device_is (used.ends_on.device.honest ∙ here)
+
+      truly : TrulyLived d e (mounted_record commands told unmounted e.gone ∷ [])
+      truly =
+          let there = tree here in
+          subst (λ (x : Device). TrulyLived d x (mounted_record commands told unmounted x.gone ∷ [])) left
+          (truly_there m v d e commands told unmounted honest one reads goes read_only (next here) there.0 there.1 (checked (honest, truth)) used)
+
+    pub used_lived : HasLived d e (mounted_record commands told unmounted e.gone ∷ [])
+    used_lived =
+        let reads = since.read.reads in
+        let seen = lasts_there in
+        record {
+          geometry = seen.geometry ∙ reads.lasts.geometry;
+          changes = let first = reads.changes in let then = seen.changes in omega (arith, first, then);
+          marks = λ k is. seen.marks k (ap (λ (bad : ℕ → Bool). bad k) reads.bad ∙ is);
+          answered = marked_on d now e (none_marked d now reads.lasts.geometry reads.failures reads.bad) marked_seen;
+          truly = truly;
+        }

@@ -1,5 +1,5 @@
 -- One session from its power-up on.
-use Rattle.std.specs.Prelude.{◌≡◌, ◌+◌, ◌≤◌, ◌<◌, ℕ, Bool, true, false, List, [], ◌∷◌, length, Option, None, Some, is_some, if◌then◌else◌}
+use Rattle.std.specs.Prelude.{◌≡◌, ◌+◌, ℕ, Bool, true, false, List, [], ◌∷◌, length, Option, None, Some, is_some, if◌then◌else◌}
 use Rattle.std.specs.Global.{Vec}
 use Rattle.std.proofs.Common.{refl, sym, ◌∙◌, ap, subst, arith}
 use Rattle.nand_model.specs.Calls.{Device}
@@ -22,7 +22,7 @@ module _ (fused : Bool) (a b c : Device) (starts : Starts fused a b) where
   pub lived_one : (session : SessionRecord) → a.honest ≡ true → (b.gone ≡ false → b.honest ≡ true → HasLived b c (session ∷ [])) → HasLived a c (session ∷ [])
   lived_one session honest lived =
       lived_on a b c [] (session ∷ [])
-      (lived_still a b starts.geometry starts.honest starts.changes starts.failures (record { page = starts.page; bad = starts.bad }))
+      (lived_still a b starts.geometry starts.changes starts.failures (record { page = starts.page; bad = starts.bad }))
       (lived starts.gone (starts.honest ∙ honest))
 
   -- what the plan makes of the device is counted from before the power-up
@@ -56,17 +56,19 @@ no_cut session a c true is planned none = let some = (planned.cut (sym is)).0 in
 pub lived_named : (a b : Device) (x y : ℕ) (sessions : List SessionRecord) → HasLived (record a { cuts = x }) (record b { cuts = y }) sessions → HasLived a b sessions
 lived_named a b x y sessions lived = record {
   geometry = lived.geometry;
-  honest = lived.honest;
   changes = lived.changes;
   marks = lived.marks;
   answered = lived.answered;
-  numbers = lived.numbers;
-  known = lived.known;
-  life = λ spare tree sound within.
-      lived.life spare tree sound (record {
-        few_bad = within.few_bad;
-        numbers = record { versions = within.numbers.versions; groups = within.numbers.groups; seqs = within.numbers.seqs };
-      });
+  truly = λ truth. let truly = lived.truly truth in record {
+    truth = truly.truth;
+    numbers = truly.numbers;
+    known = truly.known;
+    life = λ spare tree sound within.
+        truly.life spare tree sound (record {
+          few_bad = within.few_bad;
+          numbers = record { versions = within.numbers.versions; groups = within.numbers.groups; seqs = within.numbers.seqs };
+        });
+  };
 }
 
 -- what was lived through is so of the devices behind what names their session

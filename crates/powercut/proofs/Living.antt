@@ -7,13 +7,14 @@ use Rattle.nand_model.specs.Calls.{Device}
 use Rattle.nand_model.specs.declared.geometry.Geometry.{Geometry}
 use Rattle.flash_tree.specs.Newest.{Numbers, AreGreatest}
 use Rattle.flash_tree.specs.Mount.{sizes_of, bad_blocks}
+use Rattle.flash_tree.specs.Checkpoints.{IsTrueFlash}
 use Rattle.flash_tree.specs.Sound.{IsSoundFlash}
 use Rattle.lives.specs.Lives.{SessionRecord, IsLife}
 use Rattle.lives.specs.laws.LifeLaws.{life_append}
 use Rattle.pages.specs.Stores.{bad_on}
 use Rattle.powercut.specs.Limits.{StaysWithin, NumbersLast}
-use Rattle.powercut.specs.Living.{HasSame, AreWithin, HasLived}
-use Rattle.powercut.proofs.SameFlash.{same_on, sound_same, within_same, greatest_same, bad_more}
+use Rattle.powercut.specs.Living.{HasSame, AreWithin, TrulyLived, HasLived}
+use Rattle.powercut.proofs.SameFlash.{same_on, sound_same, true_same, within_same, greatest_same, bad_more}
 
 -- the greatest numbers are within what all are within, the versions within the groups
 pub greatest_within : (f : Flash) (n : Numbers) (group seq : ℕ) → AreGreatest f n → AreWithin f group seq → (n.version ≤ group) × (n.group ≤ group) × (n.seq ≤ seq)
@@ -38,18 +39,20 @@ pub marked_on : (a b c : Device) → bad_on b + a.failures ≤ bad_on a + b.fail
 marked_on a b c first then = omega (arith, first, then)
 
 -- a device that is not changed has lived through nothing
-pub lived_still : (a b : Device) → b.geometry ≡ a.geometry → b.honest ≡ a.honest → b.changes ≡ a.changes → b.failures ≡ a.failures → HasSame a.flash b.flash → HasLived a b []
-lived_still a b geometry honest changes failures same = record {
+pub lived_still : (a b : Device) → b.geometry ≡ a.geometry → b.changes ≡ a.changes → b.failures ≡ a.failures → HasSame a.flash b.flash → HasLived a b []
+lived_still a b geometry changes failures same = record {
   geometry = geometry;
-  honest = honest;
   changes = omega (arith, changes);
   marks = λ k is. ap (λ bad. bad k) same.bad ∙ is;
   answered = none_marked a b geometry failures same.bad;
-  numbers = λ group seq more within e.
-      let none : more ≡ 0 = omega (arith, changes, e) in
-      subst (λ n. AreWithin b.flash (group + n) (seq + n)) (sym none) (λ k p t good has. let at = within_same a.flash b.flash same group seq within k p t good has in (omega (arith, at.0), omega (arith, at.1)));
-  known = inl same;
-  life = λ spare tree sound within. (tree, refl, subst (λ (g : Geometry). IsSoundFlash g b.flash spare tree) (sym geometry) (sound_same a.geometry a.flash b.flash same spare tree sound));
+  truly = λ truth. record {
+    truth = subst (λ (g : Geometry). IsTrueFlash g b.flash) (sym geometry) (true_same a.geometry a.flash b.flash same truth);
+    numbers = λ group seq more within e.
+        let none : more ≡ 0 = omega (arith, changes, e) in
+        subst (λ n. AreWithin b.flash (group + n) (seq + n)) (sym none) (λ k p t good has. let at = within_same a.flash b.flash same group seq within k p t good has in (omega (arith, at.0), omega (arith, at.1)));
+    known = inl same;
+    life = λ spare tree sound within. (tree, refl, subst (λ (g : Geometry). IsSoundFlash g b.flash spare tree) (sym geometry) (sound_same a.geometry a.flash b.flash same spare tree sound));
+  };
 }
 
 module _ (a b c : Device) (xs ys : List SessionRecord) (first : HasLived a b xs) (then : HasLived b c ys) where
@@ -68,60 +71,66 @@ module _ (a b c : Device) (xs ys : List SessionRecord) (first : HasLived a b xs)
         };
       }
 
-  -- and in the later ones
-  numbers_later : NumbersLast a c → NumbersLast b c
-  numbers_later last = elim first.known [
-    | inl same ↦
-        let rose = first.changes in record {
-          versions = λ n greatest. let lt = last.versions n (greatest_same b.flash a.flash (record { page = sym same.page; bad = sym same.bad }) n greatest) in omega (arith, lt, rose);
-          groups = λ n greatest. let lt = last.groups n (greatest_same b.flash a.flash (record { page = sym same.page; bad = sym same.bad }) n greatest) in omega (arith, lt, rose);
-          seqs = λ n greatest. let lt = last.seqs n (greatest_same b.flash a.flash (record { page = sym same.page; bad = sym same.bad }) n greatest) in omega (arith, lt, rose);
-        }
-    | inr m ↦
-        let rose = first.changes in
-        let group = last.groups m.0 m.1 in
-        let seq = last.seqs m.0 m.1 in
-        let all = first.numbers m.0.group m.0.seq (b.changes - a.changes) (within_greatest a.flash m.0 m.1) (omega (arith, rose)) in record {
-          versions = λ n greatest. let at = (greatest_within b.flash n _ _ greatest all).0 in omega (arith, at, group, rose);
-          groups = λ n greatest. let at = (greatest_within b.flash n _ _ greatest all).1 in omega (arith, at, group, rose);
-          seqs = λ n greatest. let at = (greatest_within b.flash n _ _ greatest all).2 in omega (arith, at, seq, rose);
-        }
-  ]
-
-  later : (spare : ℕ) → StaysWithin spare a c → StaysWithin spare b c
-  later spare within = record { few_bad = within.few_bad; numbers = numbers_later within.numbers }
-
-  known_on : HasSame a.flash c.flash ⊎ ((n : Numbers) × AreGreatest a.flash n)
-  known_on = elim first.known [
-    | inl same ↦ elim then.known [
-      | inl again ↦ inl (same_on a.flash b.flash c.flash same again)
-      | inr m ↦ inr (m.0, greatest_same b.flash a.flash (record { page = sym same.page; bad = sym same.bad }) m.0 m.1)
+  module _ (early : TrulyLived a b xs) (late : TrulyLived b c ys) where
+    -- and in the later ones
+    numbers_later : NumbersLast a c → NumbersLast b c
+    numbers_later last = elim early.known [
+      | inl same ↦
+          let rose = first.changes in record {
+            versions = λ n greatest. let lt = last.versions n (greatest_same b.flash a.flash (record { page = sym same.page; bad = sym same.bad }) n greatest) in omega (arith, lt, rose);
+            groups = λ n greatest. let lt = last.groups n (greatest_same b.flash a.flash (record { page = sym same.page; bad = sym same.bad }) n greatest) in omega (arith, lt, rose);
+            seqs = λ n greatest. let lt = last.seqs n (greatest_same b.flash a.flash (record { page = sym same.page; bad = sym same.bad }) n greatest) in omega (arith, lt, rose);
+          }
+      | inr m ↦
+          let rose = first.changes in
+          let group = last.groups m.0 m.1 in
+          let seq = last.seqs m.0 m.1 in
+          let all = early.numbers m.0.group m.0.seq (b.changes - a.changes) (within_greatest a.flash m.0 m.1) (omega (arith, rose)) in record {
+            versions = λ n greatest. let at = (greatest_within b.flash n _ _ greatest all).0 in omega (arith, at, group, rose);
+            groups = λ n greatest. let at = (greatest_within b.flash n _ _ greatest all).1 in omega (arith, at, group, rose);
+            seqs = λ n greatest. let at = (greatest_within b.flash n _ _ greatest all).2 in omega (arith, at, seq, rose);
+          }
     ]
-    | inr m ↦ inr m
-  ]
+
+    later : (spare : ℕ) → StaysWithin spare a c → StaysWithin spare b c
+    later spare within = record { few_bad = within.few_bad; numbers = numbers_later within.numbers }
+
+    known_on : HasSame a.flash c.flash ⊎ ((n : Numbers) × AreGreatest a.flash n)
+    known_on = elim early.known [
+      | inl same ↦ elim late.known [
+        | inl again ↦ inl (same_on a.flash b.flash c.flash same again)
+        | inr m ↦ inr (m.0, greatest_same b.flash a.flash (record { page = sym same.page; bad = sym same.bad }) m.0 m.1)
+      ]
+      | inr m ↦ inr m
+    ]
+
+    truly_on : TrulyLived a c (xs ++ ys)
+    truly_on = record {
+      truth = late.truth;
+      numbers = λ group seq more within e.
+          let one = first.changes in
+          let two = then.changes in
+          let mid = early.numbers group seq (b.changes - a.changes) within (omega (arith, one)) in
+          let end = late.numbers (group + (b.changes - a.changes)) (seq + (b.changes - a.changes)) (c.changes - b.changes) mid (omega (arith, two)) in
+          λ k p t good has. let at = end k p t good has in (omega (arith, at.0, e, one, two), omega (arith, at.1, e, one, two));
+      known = known_on;
+      life = λ spare tree sound within.
+          let before = early.life spare tree sound (earlier spare within) in
+          let after = late.life spare before.0 before.2 (later spare within) in (
+            after.0,
+            life_append (sizes_of a.geometry spare) tree before.0 after.0 xs ys before.1 (subst (λ (g : Geometry). IsLife (sizes_of g spare) before.0 ys after.0) first.geometry after.1),
+            after.2,
+          );
+    }
 
   -- sessions in turn
   pub lived_on : HasLived a c (xs ++ ys)
   lived_on = record {
     geometry = then.geometry ∙ first.geometry;
-    honest = then.honest ∙ first.honest;
     changes = let one = first.changes in let two = then.changes in omega (arith, one, two);
     marks = λ k is. then.marks k (first.marks k is);
     answered = marked_on a b c first.answered then.answered;
-    numbers = λ group seq more within e.
-        let one = first.changes in
-        let two = then.changes in
-        let mid = first.numbers group seq (b.changes - a.changes) within (omega (arith, one)) in
-        let end = then.numbers (group + (b.changes - a.changes)) (seq + (b.changes - a.changes)) (c.changes - b.changes) mid (omega (arith, two)) in
-        λ k p t good has. let at = end k p t good has in (omega (arith, at.0, e, one, two), omega (arith, at.1, e, one, two));
-    known = known_on;
-    life = λ spare tree sound within.
-        let before = first.life spare tree sound (earlier spare within) in
-        let after = then.life spare before.0 before.2 (later spare within) in (
-          after.0,
-          life_append (sizes_of a.geometry spare) tree before.0 after.0 xs ys before.1 (subst (λ (g : Geometry). IsLife (sizes_of g spare) before.0 ys after.0) first.geometry after.1),
-          after.2,
-        );
+    truly = λ truth. let early = first.truly truth in truly_on early (then.truly early.truth);
   }
 
 -- as many blocks as are bad at first, and one more for each failure, are enough to spare
@@ -129,4 +138,4 @@ pub few_from : (a c : Device) (spare listed : ℕ) → bad_on c + a.failures ≤
 few_from a c spare listed marked failed few = omega (arith, marked, failed, few)
 
 pub lived_here : (a : Device) → HasLived a a []
-lived_here a = lived_still a a refl refl refl refl (record { page = refl; bad = refl })
+lived_here a = lived_still a a refl refl refl (record { page = refl; bad = refl })

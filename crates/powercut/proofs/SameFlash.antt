@@ -8,6 +8,7 @@ use Rattle.nand_model.specs.Changes.{Grows}
 use Rattle.nand_model.specs.declared.geometry.Geometry.{Geometry}
 use Rattle.page_tags.specs.declared.tag.Tag.{Tag}
 use Rattle.posix_profile.specs.State.{Objects}
+use Rattle.flash_tree.specs.Checkpoints.{Checkpoint, check_group, IsWhole, IsTrueFlash}
 use Rattle.flash_tree.specs.Groups.{HasTag, Group, IsGroup, SameGroups}
 use Rattle.flash_tree.specs.Newest.{Spot, IsNewest, HasNewest, AreAbove, AreGreatest, Numbers}
 use Rattle.flash_tree.specs.Tree.{InFootprint}
@@ -119,6 +120,36 @@ sound_same g a b same spare objects sound = record {
   few_bad = subst (λ n. n ≤ spare) (sym (bad_same g a b same)) sound.few_bad;
   numbers = above_same a b same _ sound.numbers;
 }
+
+-- and so whether it is true
+whole_same : (g : Geometry) (a b : Flash) → HasSame a b → (c : Checkpoint) → IsWhole g a c → IsWhole g b c
+whole_same g a b same c whole = record {
+  good = ap (λ (bad : ℕ → Bool). bad c.block) same.bad ∙ whole.good;
+  size = whole.size;
+  pages = λ i lt. let there = whole.pages i lt in (ap (λ (page : ℕ → ℕ → _). page (check_group c).block ((check_group c).start + i)) same.page ∙ there.0, there.1);
+  entries = whole.entries;
+  rise = whole.rise;
+}
+
+pub true_same : (g : Geometry) (a b : Flash) → HasSame a b → IsTrueFlash g a → IsTrueFlash g b
+true_same g a b same truth c whole =
+    let back = same_back a b same in
+    let right = truth c (whole_same g b a back c whole) in
+    let tree = right.tree in
+    let z = sizes_of g tree.spare in
+    record {
+      tree = record {
+        spare = tree.spare;
+        objects = tree.objects;
+        volume = volume_same g a b same tree.spare tree.volume;
+        shows = footprint_law z (HasNewest a) (HasNewest b) tree.objects (λ o k bytes foot has. newest_same a b same o k bytes has) tree.shows;
+        all = λ o k foot. tree.all o k (foot_same z b a back tree.objects o k foot);
+        only = λ e has. let at = tree.only e has in (foot_same z a b same tree.objects e.object e.chunk at.0, (at.1.0, spot_same a b same e.object e.chunk at.1.0 at.1.1, at.1.2));
+      };
+      apart = right.apart;
+      above = above_same a b same _ right.above;
+      alone = λ k p t good apart has. right.alone k p t (ap (λ (bad : ℕ → Bool). bad k) (sym same.bad) ∙ good) apart (tag_same b a back k p t has);
+    }
 
 one_more : (a b : Bool) → (a ≡ true → b ≡ true) → cond {A = ℕ} a 1 0 ≤ cond {A = ℕ} b 1 0
 one_more true true more = omega arith

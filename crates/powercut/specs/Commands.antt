@@ -5,6 +5,8 @@ use Rattle.std.specs.List.{list_any}
 use Rattle.volume_terms.specs.Sizes.{Sizes}
 use Rattle.nand_model.specs.Calls.{Device}
 use Rattle.object_store.specs.Stores.{settled}
+use Rattle.objects.specs.Sealing.{EndsOn, StaysRight}
+use Rattle.posix_calls.specs.Endings.{LiesOn}
 use Rattle.posix_profile.specs.Losses.{is_synced, LossLeaves, settled_after}
 use Rattle.posix_profile.specs.Runs.{Replies, is_stop, after_one, after, RunHolds}
 use Rattle.posix_profile.specs.State.{Objects, State}
@@ -51,6 +53,7 @@ AreBegun commands answered = (length answered ≡ length commands) ⊎ EndsStopp
 -- The commands are begun one by one, up to the stop; and of a volume that goes on and is not read-only it is known what they do.
 pub record Does {V : Type 0} (m : Meaning V) (commands : List Stamped) (answered : List Reply) (a b : V) : Type 0 where
   pub goes_on : GoesOn (m.pages a) (m.pages b)
+  pub read_only : m.read_only b ≡ m.read_only a
   pub begun : m.stopped a ≡ false → AreBegun commands answered
   pub does : m.stopped a ≡ false → m.read_only a ≡ false → (z : Sizes) (s : State) → m.stands z s a → DoesCommands m z s commands answered a b
 
@@ -66,12 +69,13 @@ pub record LeavesFrom (z : Sizes) (s : State) (tree : Objects) (commands : List 
   pub done : unmounted ≡ Some replies.Done → Shown z left (settled_after z false s commands answered (length answered))
 
 -- What is done with a volume from its mount on: the commands, and an unmount, or none. Its device is given back: with no unmount it
--- is as the commands left it.
+-- is as the commands left it. Checkpoints stay right.
 pub record IsUsed {V : Type 0} (m : Meaning V) (v : V) (commands : List Stamped) (answered : List Reply) (unmounted : Option Reply) (device : Device) : Type 0 where
   pub left : PagesState
-  pub device_is : left.device ≡ device
-  pub goes_on : GoesOn (m.pages v) left
+  pub device_is : LiesOn left device
+  pub ends_on : EndsOn (m.pages v) left
   pub begun : m.stopped v ≡ false → AreBegun commands answered
-  pub abandoned : unmounted ≡ None → (after : V) × Does m commands answered v after × (device ≡ (m.pages after).device)
+  pub abandoned : unmounted ≡ None → (after : V) × Does m commands answered v after × LiesOn (m.pages after) device
   pub leaves : m.stopped v ≡ false → m.read_only v ≡ false → (z : Sizes) (s : State) (tree : Objects) → m.stands z s v → Shown z (m.pages v) tree
       → LeavesFrom z s tree commands answered unmounted left
+  pub right : m.stopped v ≡ false → (z : Sizes) (s : State) → m.stands z s v → StaysRight (m.pages v) left

@@ -1,12 +1,11 @@
 // A life of a volume.
 ghost use Rattle.std.specs.Prelude.{◌≡◌, ◌≤◌, ◌+◌, ◌∷◌, [], ℕ, true, length, IfOk};
 ghost use Rattle.nand_model.specs.MemoryState.{device};
-ghost use Rattle.flash_tree.specs.Sound.{IsSoundFlash};
 ghost use Rattle.pages.specs.Stores.{bad_on};
 ghost use Rattle.posix_profile.specs.State.{Objects};
 ghost use Rattle.powercut.specs.Sessions.{record_of, records_of, IsEnded, AreEnded, cuts_in};
 ghost use Rattle.powercut.specs.Limits.{StaysWithin, NumbersLast, HasReserve, FailsAsListed};
-ghost use Rattle.powercut.specs.Living.{HasLived, LivesOn};
+ghost use Rattle.powercut.specs.Living.{HasLived, IsTrueOn, IsSoundOn, LivesOn};
 
 use crate::power::power_on;
 use crate::serving::serve;
@@ -60,7 +59,7 @@ fn live_one(
 /// Does the sessions in turn on the device, each from a power-up on, and tells how each ended. After a fault the device is
 /// dropped.
 ///
-/// For every list of sessions on a sound flash, each of which may end before or within any program, erase or mark of a block,
+/// For every list of sessions on a sound and true flash, each of which may end before or within any program, erase or mark of a block,
 /// the next mount that succeeds shows the tree after some prefix of the session's commands, which holds at least all that a
 /// done sync covered; and every reply is the profile's.
 pub fn live(
@@ -70,10 +69,11 @@ pub fn live(
 ) -> Result<(MemNand, Vec<SessionEnd>), LiveFault>
     ensures ends { IfOk result (λ lived. length lived.1.items ≡ length sessions.now) }
     ensures geometry { IfOk result (λ lived. (device lived.0).geometry ≡ (device nand).geometry) }
-    ensures life { IfOk result (λ lived. (spare : ℕ) (tree : Objects) → IsSoundFlash (device nand).geometry (device nand).flash spare tree → StaysWithin spare (device nand) (device lived.0)
+    ensures life { IfOk result (λ lived. (spare : ℕ) (tree : Objects) → IsSoundOn spare tree (device nand) → StaysWithin spare (device nand) (device lived.0)
         → LivesOn spare tree (device nand) (records_of sessions.now lived.1.items) (device lived.0)) }
-    ensures reserve { IfOk result (λ lived. (spare : ℕ) (tree : Objects) → IsSoundFlash (device nand).geometry (device nand).flash spare tree → HasReserve spare (device nand) sessions.now → NumbersLast (device nand) (device lived.0)
+    ensures reserve { IfOk result (λ lived. (spare : ℕ) (tree : Objects) → IsSoundOn spare tree (device nand) → HasReserve spare (device nand) sessions.now → NumbersLast (device nand) (device lived.0)
         → LivesOn spare tree (device nand) (records_of sessions.now lived.1.items) (device lived.0)) }
+    ensures truth { IfOk result (λ lived. IsTrueOn (device nand) → IsTrueOn (device lived.0)) }
     ensures each { IfOk result (λ lived. AreEnded sessions.now lived.1.items (device nand) (device lived.0)) }
     ensures cuts { IfOk result (λ lived. (device lived.0).cuts ≡ (device nand).cuts + cuts_in lived.1.items) }
     ensures failures { IfOk result (λ lived. FailsAsListed sessions.now (device nand) (device lived.0)) }

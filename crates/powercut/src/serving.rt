@@ -14,11 +14,12 @@ use nand_model::Nand;
 use pages::Pages;
 use posix_calls::{MountFault, Reply, Stamped, Volume};
 use std::alloc::{AllocError, Global};
+use trusted_nand::TrustedNand;
 
 impl<N: Nand> Commanded for Volume<N> {
     ghost meaning = { record {
-      pages = λ v. ⟦<FlashPages<N> as Pages>⟧.state (pages_of (over_pages v));
-      stands = λ z s v. IsVolumeOf ⟦<FlashPages<N> as Pages>⟧.state z s (over_pages v);
+      pages = λ v. ⟦<FlashPages<TrustedNand<N>> as Pages>⟧.state (pages_of (over_pages v));
+      stands = λ z s v. IsVolumeOf ⟦<FlashPages<TrustedNand<N>> as Pages>⟧.state z s (over_pages v);
       stopped = λ v. is_stopped (over_pages v);
       read_only = λ v. is_read_only (over_pages v);
     } };
@@ -66,7 +67,7 @@ pub(crate) fn serve<N: Nand + Drop>(
     commands: &[Stamped],
     unmount: bool,
 ) -> Result<(N, Served), AllocError>
-    ensures lasts { IfOk result (λ r. Lasts (N.state device) (N.state r.0)) }
+    ensures lasts { IfOk result (λ r. (N.state r.0).honest ≡ (N.state device).honest → Lasts (N.state device) (N.state r.0)) }
     ensures lived { (N.state device).gone ≡ false → (N.state device).honest ≡ true
         → IfOk result (λ r. HasLived (N.state device) (N.state r.0) (served_record commands.now r.1 (N.state r.0).gone ∷ [])) }
     ensures served { IfOk result (λ r. IsServed commands.now unmount (N.state r.0).gone r.1) }

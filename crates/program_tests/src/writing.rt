@@ -5,7 +5,8 @@ use std::test::Fail;
 /// What is told of the small volume when it is new.
 const SPACE: &str = "space 512 144 143\n";
 
-/// An image takes 258 writes, the erasing of its 256 pages one for each, and the page of the root three.
+/// An image takes 258 writes, the erasing of its 256 pages one for each, and the page of the root three. Then the space is told, and
+/// the unmount writes a checkpoint: 32 for the erasing of a block, and three for a page.
 #[test]
 fn a_new_image_fails_at_each_write(rt: HostRuntime) -> Result<(), Fail> {
     let alloc = rt.alloc();
@@ -19,12 +20,18 @@ fn a_new_image_fails_at_each_write(rt: HostRuntime) -> Result<(), Fail> {
         };
         around.ends(&rt, alloc, &SMALL, 2, ("", fault))?;
     }
+    for writes in 517..=551 {
+        let mut around = Around::new(alloc, b"", "")?;
+        around.image.writes = writes;
+        around.ends(&rt, alloc, &SMALL, 2, (SPACE, "fault EIO\n"))?;
+    }
     let mut around = Around::new(alloc, b"", "")?;
-    around.image.writes = 517;
+    around.image.writes = 552;
     around.ends(&rt, alloc, &SMALL, 0, (SPACE, ""))
 }
 
-/// The file is first moved for the erasing: once for each of 256 pages, and then three times for the page of the root.
+/// The file is first moved for the erasing: once for each of 256 pages, then three times for the page of the root, and by the unmount
+/// 32 times for the erasing of a block and three times for a page.
 #[test]
 fn a_new_image_fails_at_each_seek(rt: HostRuntime) -> Result<(), Fail> {
     let alloc = rt.alloc();
@@ -33,8 +40,13 @@ fn a_new_image_fails_at_each_seek(rt: HostRuntime) -> Result<(), Fail> {
         around.image.seeks = seeks;
         around.ends(&rt, alloc, &SMALL, 2, ("", "fault Gone\n"))?;
     }
+    for seeks in 259..=293 {
+        let mut around = Around::new(alloc, b"", "")?;
+        around.image.seeks = seeks;
+        around.ends(&rt, alloc, &SMALL, 2, (SPACE, "fault EIO\n"))?;
+    }
     let mut around = Around::new(alloc, b"", "")?;
-    around.image.seeks = 259;
+    around.image.seeks = 294;
     around.ends(&rt, alloc, &SMALL, 0, (SPACE, ""))
 }
 

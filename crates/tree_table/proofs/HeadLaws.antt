@@ -1,5 +1,5 @@
 -- What is told of a header is true of the object that is shown.
-use Rattle.std.specs.Prelude.{◌≡◌, ℕ, zero, suc, ◌+◌, List, [], ◌∷◌, length, slice_get, Some, None, is_some}
+use Rattle.std.specs.Prelude.{◌≡◌, ◌<◌, ℕ, zero, suc, ◌+◌, List, [], ◌∷◌, length, slice_get, Some, None, is_some}
 use Rattle.std.proofs.Common.{refl, sym, ◌∙◌, ap, arith}
 use Rattle.std.proofs.lemmas.Bool.{cond-false}
 use Rattle.std.specs.Ordering.{nat_cmp}
@@ -8,15 +8,18 @@ use Rattle.std.specs.FinMap as map
 use Rattle.page_tags.specs.Headers.{Fields}
 use Rattle.page_tags.specs.Slots.{Entry}
 use Rattle.page_tags.specs.declared.header.ObjectKind.TheVariants as kinds
-use Rattle.volume_terms.specs.Sizes.{Sizes}
+use Rattle.volume_terms.specs.Sizes.{Sizes, page_slots}
 use Rattle.posix_profile.specs.State.{Object, File, Dir}
 use Rattle.posix_profile.specs.Charge.{cost}
+use Rattle.volume_terms.specs.laws.Rounding.{ceiling_is}
 use Rattle.flash_tree.specs.Tree.{NewestMap, IsSingle, IsPageSize, ReadsAs, slot_pairs}
 use Rattle.flash_tree.specs.laws.Finding.{same_header}
 use Rattle.flash_tree.specs.laws.Pairs.{at_find}
 use Rattle.flash_tree.specs.laws.Slot.{slot_of_pair}
 use Rattle.tree_walk.specs.Heads.{SaysHead}
 use Rattle.tree_walk.specs.declared.head.Head.{Head}
+use Rattle.tree_walk.specs.Visits.{head_pages}
+use Rattle.tree_table.specs.Looked.{looked}
 use Rattle.tree_table.specs.Units.{head_cost}
 use Rattle.tree_table.proofs.Elements.{none_of}
 
@@ -62,3 +65,10 @@ said z size m single o head (Dir moment entries) (f, has, is) r =
 pub costs_as : (z : Sizes) (head : Head) (x : Object) → IsHeaderOfObject head x → head_cost z head ≡ cost z x
 costs_as z head (File moment bytes) is = ap (λ k. head_cost z (record head { kind = k })) is.0 ∙ ap (λ n. head_cost z (record head { kind = kinds.File; length = n })) is.2
 costs_as z head (Dir moment entries) is = ap (λ k. head_cost z (record head { kind = k })) is.0 ∙ ap (λ n. head_cost z (record head { kind = kinds.Directory; length = n })) is.2
+
+-- and how many pages are looked up to see it
+pub looks_as : (z : Sizes) (head : Head) (x : Object) → 0 < page_slots z → IsHeaderOfObject head x → head_pages z head ≡ looked z x
+looks_as z head (File moment bytes) some is = ap (λ k. head_pages z (record head { kind = k })) is.0
+looks_as z head (Dir moment entries) some is =
+    ap (λ k. head_pages z (record head { kind = k })) is.0 ∙ ap (λ n. head_pages z (record head { kind = kinds.Directory; length = n })) is.2
+    ∙ ap (λ n. 1 + n) (ceiling_is (map.len entries) (page_slots z) some)

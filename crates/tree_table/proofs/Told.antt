@@ -1,19 +1,21 @@
 -- Of each object that is shown the tree tells the header, and so what all of them cost.
-use Rattle.std.specs.Prelude.{◌≡◌, ℕ, List, length, slice_get, sum_by, Option, Some}
+use Rattle.std.specs.Prelude.{◌≡◌, ◌<◌, ℕ, List, length, slice_get, sum_by, Option, Some}
 use Rattle.std.specs.Option.{option_map_or}
 use Rattle.std.proofs.Common.{sym, ◌∙◌, ap, inl, inr, arith}
 use Rattle.std.specs.FinMap as map
-use Rattle.volume_terms.specs.Sizes.{Sizes, IsSizes}
+use Rattle.volume_terms.specs.Sizes.{Sizes, IsSizes, page_slots}
 use Rattle.posix_profile.specs.State.{Object, Objects}
 use Rattle.posix_profile.specs.Charge.{cost, charge}
 use Rattle.flash_tree.specs.Tree.{IsSingle, IsPageSize, Shows}
 use Rattle.pages.specs.Maps.{PageMap, has}
-use Rattle.tree_walk.specs.Trees.{IsTreeThrough, head_at, names_of, objects_listed}
+use Rattle.tree_walk.specs.Trees.{IsTreeThrough, head_at, names_of, objects_listed, tree_pages}
+use Rattle.tree_walk.specs.Visits.{head_pages, told_pages}
 use Rattle.tree_walk.specs.Walks.{IsOn, IsOnce}
 use Rattle.tree_walk.specs.declared.head.Head.{Head}
 use Rattle.tree_walk.specs.declared.tree.Tree.{Tree}
+use Rattle.tree_table.specs.Looked.{looked, looked_pages}
 use Rattle.tree_table.specs.Units.{head_cost, told_cost}
-use Rattle.tree_table.proofs.HeadLaws.{IsHeaderOfObject, said, costs_as}
+use Rattle.tree_table.proofs.HeadLaws.{IsHeaderOfObject, said, costs_as, looks_as}
 use Rattle.tree_table.proofs.Slots.{NamedSlot, AreSlotsOf, all_slots}
 use Rattle.tree_table.proofs.Summed.{summed}
 use Rattle.tree_table.proofs.Whole as list
@@ -44,6 +46,12 @@ module _ (z : Sizes) (size : IsPageSize z.page_bytes) (m : PageMap) (tree : Tree
       let h = head_of o x.0 x.1 in
       (x.0, x.1, ap (λ (head : Option Head). option_map_or (head_cost z) head 0) h.1 ∙ costs_as z h.0 x.0 h.2)) listed
 
+  pub looked_up : 0 < page_slots z → tree_pages z tree ≡ looked_pages z objects
+  looked_up some = summed (looked z) (told_pages z tree.heads) (objects_listed tree) objects once (λ i o at.
+      let x = there i o at in
+      let h = head_of o x.0 x.1 in
+      (x.0, x.1, ap (λ (head : Option Head). option_map_or (head_pages z) head 0) h.1 ∙ looks_as z h.0 x.0 some h.2)) listed
+
 -- the slots of a tree's names
 pub slots_of : (z : Sizes) (size : IsPageSize z.page_bytes) (m : PageMap) (tree : Tree) (objects : Objects) → IsTreeThrough z (has m) tree → Shows z (has m) objects
     → (all : List NamedSlot) × AreSlotsOf objects (objects_listed tree) (length (objects_listed tree)) all (names_of tree)
@@ -56,3 +64,7 @@ page_size z sizes = record {
   least = elim sizes.page_bytes [ inl a ↦ omega (arith, a) | inr (inl b) ↦ omega (arith, b) | inr (inr (inl c)) ↦ omega (arith, c) | inr (inr (inr d)) ↦ omega (arith, d) ];
   most = elim sizes.page_bytes [ inl a ↦ omega (arith, a) | inr (inl b) ↦ omega (arith, b) | inr (inr (inl c)) ↦ omega (arith, c) | inr (inr (inr d)) ↦ omega (arith, d) ];
 }
+
+-- which have room for a slot
+pub some_slots : (z : Sizes) → IsSizes z → 0 < page_slots z
+some_slots z sizes = elim sizes.page_bytes [ inl a ↦ omega (arith, a) | inr (inl b) ↦ omega (arith, b) | inr (inr (inl c)) ↦ omega (arith, c) | inr (inr (inr d)) ↦ omega (arith, d) ]

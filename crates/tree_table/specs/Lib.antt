@@ -1,3 +1,4 @@
 pub mod Units
 pub mod Building
 pub mod Covering
+pub mod Looked

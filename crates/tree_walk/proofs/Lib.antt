@@ -6,6 +6,8 @@ pub mod Visiting
 pub mod Seeing
 pub mod Hashing
 pub mod Putting
+pub mod Counting
 pub mod Going
 pub mod Twice
+pub mod Rooting
 pub mod Looking

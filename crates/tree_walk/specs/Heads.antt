@@ -15,6 +15,7 @@ pub record IsHeadOf (head : Head) (f : Fields) : Type 0 where
   pub kind : head.kind ≡ f.kind
   pub length_is : head.length ≡ f.length
   pub moment : head.moment ≡ f.moment
+  pub spare : head.spare ≡ f.spare
   pub bits : (c : ℕ) → 1 ≤ c → is_present head.bits.items c ≡ is_present f.bits c
 
 -- the object has a header, and this is what it says

@@ -1,5 +1,5 @@
 -- What is told of a tree that was gone through.
-use Rattle.std.specs.Prelude.{◌≡◌, ◌⊎◌, ℕ, zero, suc, Bool, false, List, [], ◌∷◌, ◌++◌, length, map as list_map, Option, Some, slice_get}
+use Rattle.std.specs.Prelude.{◌≡◌, ◌⊎◌, ℕ, zero, suc, Bool, false, List, [], ◌∷◌, ◌++◌, length, map as list_map, sum_by, Option, Some, slice_get}
 use Rattle.std.specs.Option.{option_map_or}
 use Rattle.std.specs.Ordering.{nat_cmp}
 use Rattle.std.specs.BTreeMap.{get}
@@ -8,6 +8,7 @@ use Rattle.flash_tree.specs.Tree.{NewestMap, HasHeader, LooksUp}
 use Rattle.flash_tree.specs.Mount.{Wrong, IsDamaged, Leads, Finds, Wrongly, Wholly, GoesThrough, NamesTwice}
 use Rattle.volume_terms.specs.Sizes.{Sizes, root_number}
 use Rattle.tree_walk.specs.Heads.{SaysHead, head_looks_up}
+use Rattle.tree_walk.specs.Visits.{told_pages}
 use Rattle.tree_walk.specs.declared.head.Head.{Head}
 use Rattle.tree_walk.specs.declared.tree.NamedObject.{NamedObject}
 use Rattle.tree_walk.specs.declared.tree.Tree.{Tree}
@@ -23,6 +24,10 @@ head_at tree o = get nat_cmp tree.heads o
 -- the bytes of a page
 abbrev pub page_size : Tree → ℕ
 page_size tree = tree.page_bytes
+
+-- how many pages the headers and the slots of the objects take
+abbrev pub tree_pages : Sizes → Tree → ℕ
+tree_pages z tree = sum_by (told_pages z tree.heads) (objects_listed tree)
 
 -- whether the page of a key is looked up to see the tree, as the headers say
 abbrev pub keeps_key : Tree → ℕ → ℕ → Bool

@@ -1,5 +1,5 @@
 -- A walk over the objects of a tree that is on its way.
-use Rattle.std.specs.Prelude.{◌≡◌, ◌⊎◌, ◌↔◌, ◌<◌, ◌≤◌, ℕ, true, false, List, [], ◌∷◌, ◌++◌, length, slice_get, nat_eq, Some}
+use Rattle.std.specs.Prelude.{◌≡◌, ◌⊎◌, ◌↔◌, ◌<◌, ◌≤◌, ℕ, true, false, List, [], ◌∷◌, ◌++◌, length, slice_get, take, sum_by, nat_eq, Some}
 use Rattle.std.specs.List.{list_any}
 use Rattle.std.specs.Ordering.{nat_cmp}
 use Rattle.std.specs.BTreeMap as table
@@ -10,6 +10,7 @@ use Rattle.flash_tree.specs.Mount.{Leads, Finds, with_new, ListEnd, GoesThrough}
 use Rattle.volume_terms.specs.Sizes.{Sizes, root_number}
 use Rattle.tree_walk.specs.Heads.{SaysHead}
 use Rattle.tree_walk.specs.Trees.{AreNamesOf, named_in}
+use Rattle.tree_walk.specs.Visits.{told_pages}
 use Rattle.tree_walk.specs.declared.head.Head.{Head}
 use Rattle.tree_walk.specs.declared.object.Visited.{Visited}
 use Rattle.tree_walk.specs.declared.walking.WalkState.{WalkState}
@@ -39,6 +40,10 @@ HasAgain walk o = set.contains nat_cmp walk.again o ≡ true
 -- what is said of the header of an object that was visited
 abbrev pub HasHead : WalkState → ℕ → Head → Type 0
 HasHead walk o head = table.get nat_cmp walk.heads o ≡ Some head
+
+-- how many pages the headers and the slots of the first n objects take
+abbrev pub pages_before : Sizes → WalkState → (n : ℕ) → ℕ
+pages_before z walk n = sum_by (told_pages z walk.heads) (take n walk.objects.items)
 
 -- the objects that are named stand behind the others, each that is not known yet; the others of them are named again
 pub record Puts (named : List ℕ) (old new : WalkState) : Type 0 where

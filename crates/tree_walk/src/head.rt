@@ -23,6 +23,8 @@ pub struct Head {
     pub kind: ObjectKind,
     pub length: u64,
     pub moment: u64,
+    /// Of the root: how many blocks the volume keeps spare.
+    pub spare: u16,
     // The presence bits of a file's chunks, up to its last.
     pub(crate) bits: Vec<u8>,
 }
@@ -91,6 +93,7 @@ fn decode_head(alloc: Global, page: &[u8]) -> Result<Head, WalkFault>
         kind: header.kind,
         length: header.length,
         moment: header.moment,
+        spare: header.spare,
         bits: header.bits[..kept].to_vec(alloc)?,
     })
 }

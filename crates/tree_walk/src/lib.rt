@@ -17,5 +17,5 @@ pub use head::Head;
 pub use law::the_headers_tell_the_keys;
 pub use object::{Visited, visit};
 pub use tree::{NamedObject, Tree};
-pub use volume::root;
+pub use volume::{root, spare_of};
 pub use walking::walk;

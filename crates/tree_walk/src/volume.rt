@@ -1,12 +1,16 @@
 // The root's header, which makes pages a volume.
-ghost use Rattle.std.specs.Prelude.{◌≡◌, ◌≤◌, ◌+◌, true, OnOk, IfOk, IfErr, length};
-ghost use Rattle.flash_tree.specs.Mount.{IsVolume};
-ghost use Rattle.pages.specs.Maps.{has};
+ghost use Rattle.std.specs.Prelude.{◌≡◌, ◌⊎◌, ◌<◌, ◌≤◌, ◌+◌, true, OnOk, IfOk, IfErr, IfSome, IfNone, length};
+ghost use Rattle.page_tags.specs.declared.header.ObjectKind.TheVariants as kinds;
+ghost use Rattle.flash_tree.specs.Mount.{IsVolume, IsDamaged, HasWrongRoot, sizes_of};
+ghost use Rattle.pages.specs.Maps.{PageMap, has};
 ghost use Rattle.pages.specs.State.{OnlyFinds, KeepsPower};
 ghost use Rattle.tree_walk.specs.Faults.{RootFailsBy, TellsRoot};
 ghost use Rattle.tree_walk.specs.Roots.{SpareTold, NoSpareTold};
+ghost use Rattle.tree_walk.specs.Trees.{IsTreeThrough};
 
 use crate::fault::RootFault;
+use crate::head::Head;
+use crate::tree::Tree;
 use flash_tree::Key;
 use nand_model::Geometry;
 use page_tags::{HeaderFault, ObjectKind, decode_header};
@@ -56,5 +60,29 @@ fn spare_in(page: &[u8], blocks: u32) -> Result<u16, RootFault>
         Err(HeaderFault::Kind) => Err(RootFault::Damaged),
         Err(HeaderFault::Length) => Err(RootFault::Damaged),
         Err(HeaderFault::Pad) => Err(RootFault::Damaged),
+    }
+}
+
+/// How many blocks a volume keeps spare whose tree was gone through on a device of these sizes, by what is told of the root's
+/// header. There are none where that is not the header of a root. No page is asked for.
+pub fn spare_of(tree: &Tree, geometry: Geometry) -> Option<u16>
+    ensures volume { (m : PageMap) → IsTreeThrough (sizes_of geometry 0) (has m) tree.now → IfSome result (IsVolume geometry (has m)) }
+    ensures none { (m : PageMap) → IsTreeThrough (sizes_of geometry 0) (has m) tree.now → IfNone result (HasWrongRoot geometry (has m) IsDamaged) }
+{
+    match tree.head(ROOT) {
+        Some(head) => spare_told(head, geometry.blocks()),
+        None => None,
+    }
+}
+
+/// The spare blocks that a header says, if it is that of a root on so many blocks.
+fn spare_told(head: &Head, blocks: u32) -> Option<u16>
+    ensures told { IfSome result (λ spare. (head.now.kind ≡ kinds.Directory) × (head.now.spare ≡ spare) × (spare + 4 ≤ blocks)) }
+    ensures none { IfNone result ((head.now.kind ≡ kinds.File) ⊎ (blocks < head.now.spare + 4)) }
+{
+    if head.kind == ObjectKind::Directory && u32::from(head.spare) + 4 <= blocks {
+        Some(head.spare)
+    } else {
+        None
     }
 }

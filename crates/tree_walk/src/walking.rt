@@ -1,15 +1,15 @@
 // The objects of a tree, one after the other.
-ghost use Rattle.std.specs.Prelude.{◌≡◌, ◌<◌, ◌+◌, ℕ, [], ◌∷◌, ◌++◌, true, false, Some, IfOk, IfErr, OnOk, length, slice_get};
+ghost use Rattle.std.specs.Prelude.{◌≡◌, ◌<◌, ◌≤◌, ◌+◌, ℕ, [], ◌∷◌, ◌++◌, true, false, Some, IfOk, IfErr, OnOk, length, slice_get};
 ghost use Rattle.page_tags.specs.declared.header.ObjectKind.TheVariants as kinds;
-ghost use Rattle.flash_tree.specs.Mount.{Wholly, GoesThrough, NamesTwice, Stops, Finds};
+ghost use Rattle.flash_tree.specs.Mount.{Stops, Finds};
 ghost use Rattle.pages.specs.Maps.{has};
 ghost use Rattle.pages.specs.State.{OnlyFinds, KeepsPower};
-ghost use Rattle.volume_terms.specs.Sizes.{Sizes, root_number};
+ghost use Rattle.volume_terms.specs.Sizes.{Sizes};
 ghost use Rattle.tree_walk.specs.Faults.{TellsWhy, TellsWrong};
 ghost use Rattle.tree_walk.specs.Hashes.{CoversHeads, CoversTree};
 ghost use Rattle.tree_walk.specs.Visits.{IsSeen};
-ghost use Rattle.tree_walk.specs.Trees.{TellsHeads, HasNames, IsWrongTree, named_in, objects_listed, page_size};
-ghost use Rattle.tree_walk.specs.Walks.{Begins, HasAgain, HasHead, IsGoing, IsDirectoryAgain, Knows, Puts, Visits};
+ghost use Rattle.tree_walk.specs.Trees.{IsTreeThrough, IsWrongTree, named_in, page_size, tree_pages};
+ghost use Rattle.tree_walk.specs.Walks.{Begins, HasAgain, HasHead, IsGoing, IsDirectoryAgain, Knows, Puts, Visits, pages_before};
 ghost use Rattle.tree_walk.specs.declared.fault.WalkFault.TheVariants as faults;
 
 use crate::fault::WalkFault;
@@ -24,7 +24,7 @@ use std::collections::{BTreeMap, BTreeSet};
 use volume_terms::ROOT;
 
 /// Goes through all objects of a tree from the root on, each once, in the order in which they are named. The hashes of all
-/// names are added to the index.
+/// names are added to the index. Each header is asked for once, and so is each page of a directory's slots.
 pub fn walk<P: KnownPages>(
     alloc: Global,
     pages: &mut P,
@@ -32,13 +32,9 @@ pub fn walk<P: KnownPages>(
 ) -> Result<Tree, WalkFault>
     ensures finds { OnlyFinds (P.state pages.old) (P.state pages.new) }
     ensures power { OnOk result (KeepsPower (P.state pages.old) (P.state pages.new)) }
-    ensures through { (z : Sizes) → IsSeen z (P.state pages.old)
-        → IfOk result (λ tree. GoesThrough z (has (P.state pages.old).present) (root_number ∷ []) 0 (Wholly (objects_listed tree))) }
-    ensures once { (z : Sizes) → IsSeen z (P.state pages.old)
-        → IfOk result (λ tree. NamesTwice z (has (P.state pages.old).present) (objects_listed tree) → ⊥) }
+    ensures asked { (z : Sizes) → IsSeen z (P.state pages.old) → IfOk result (λ tree. (P.state pages.new).asked ≤ (P.state pages.old).asked + tree_pages z tree) }
+    ensures tree { (z : Sizes) → IsSeen z (P.state pages.old) → IfOk result (IsTreeThrough z (has (P.state pages.old).present)) }
     ensures size { IfOk result (λ tree. page_size tree ≡ (P.state pages.old).page_bytes) }
-    ensures heads { (z : Sizes) → IsSeen z (P.state pages.old) → IfOk result (TellsHeads z (has (P.state pages.old).present)) }
-    ensures names { (z : Sizes) → IsSeen z (P.state pages.old) → IfOk result (HasNames z (has (P.state pages.old).present)) }
     ensures fault { (z : Sizes) → IsSeen z (P.state pages.old)
         → IfErr result (TellsWrong (IsWrongTree z (has (P.state pages.old).present)) (P.state pages.new)) }
     ensures why { IfErr result (TellsWhy (P.state pages.new)) }
@@ -117,6 +113,8 @@ impl WalkState {
             → OnOk result (IsGoing z (has (P.state pages.old).present) (place + 1) self.new) }
         ensures stops { (z : Sizes) → IsSeen z (P.state pages.old)
             → IfErr result (TellsWrong (λ wrong. (o : ℕ) × (slice_get self.old.objects.items place ≡ Some o) × Finds z (has (P.state pages.old).present) o (Stops wrong)) (P.state pages.new)) }
+        ensures asked { (z : Sizes) → IsSeen z (P.state pages.old) → IsGoing z (has (P.state pages.old).present) place self.old
+            → OnOk result ((P.state pages.new).asked + pages_before z self.old place ≤ (P.state pages.old).asked + pages_before z self.new (place + 1)) }
         ensures why { IfErr result (TellsWhy (P.state pages.new)) }
         ensures hashes { (z : Sizes) → IsSeen z (P.state pages.old) → CoversHeads names.old z (P.state pages.old).present self.old.heads
             → OnOk result (CoversHeads names.new z (P.state pages.old).present self.new.heads) }

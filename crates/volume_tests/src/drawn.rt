@@ -2,6 +2,7 @@
 
 use crate::book::{commands_of, new_tree, step, text_of};
 use crate::devices::formatted;
+use crate::rows::expect;
 use crate::served::{Served, mount};
 use plain_tree::{Answers, PlainTree};
 use posix_calls::Stamped;
@@ -130,20 +131,27 @@ fn do_both(
     Ok(!told.starts_with("error"))
 }
 
-/// Unmounts, and mounts again.
+/// Unmounts, and mounts again, by the checkpoint; or loses power after a sync, and mounts again, by a scan.
 fn mount_again(
     rt: &impl Abort,
     alloc: Global,
-    served: Served,
+    mut served: Served,
     capacity: usize,
+    is_unmounted: bool,
 ) -> Result<Served, Fail> {
-    let (mut nand, is_done) = served.unmount();
-    assert!(rt; is_done);
+    let mut nand = if is_unmounted {
+        let (nand, is_done) = served.unmount();
+        assert!(rt; is_done);
+        nand
+    } else {
+        expect(rt, alloc, &mut served, "sync -> ok")?;
+        served.abandon()
+    };
     nand.power_up();
     mount(alloc, nand, capacity)
 }
 
-/// Each fifty commands are followed by an unmount and a mount.
+/// Each fifty commands are followed by an unmount or a loss of power, in turn, and a mount.
 #[test]
 fn a_volume_tells_what_a_plain_tree_does(rt: HostRuntime) -> Result<(), Fail> {
     let alloc = rt.alloc();
@@ -151,13 +159,13 @@ fn a_volume_tells_what_a_plain_tree_does(rt: HostRuntime) -> Result<(), Fail> {
         let mut tree = new_tree(alloc)?;
         let mut served = mount(alloc, formatted(alloc)?, capacity)?;
         let mut done = 0u32;
-        for commands in drawn(alloc, seed, 1100)?.chunks(50) {
+        for (turn, commands) in drawn(alloc, seed, 1100)?.chunks(50).enumerate() {
             for stamped in commands {
                 if do_both(&rt, alloc, &mut served, &mut tree, stamped)? {
                     done = done.saturating_add(1);
                 }
             }
-            served = mount_again(&rt, alloc, served, capacity)?;
+            served = mount_again(&rt, alloc, served, capacity, turn % 2 == 0)?;
             tree.settle()?;
         }
         // Enough of them are not refused.

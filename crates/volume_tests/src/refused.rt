@@ -67,8 +67,15 @@ fn call_again(
     book.expect_reply(rt, alloc, number, &reply)
 }
 
-/// Does a session of these lines, call by call, and mounts its device again.
-fn do_calls(rt: &impl Abort, alloc: Global, lines: &str) -> Result<(), Fail> {
+/// How a session ends: by an unmount, after which a mount goes by a checkpoint, or without one.
+#[derive(Clone, Copy, PartialEq, Eq)]
+enum End {
+    Unmount,
+    Abandon,
+}
+
+/// Does a session of these lines, call by call, ends it, and mounts its device again.
+fn do_calls(rt: &impl Abort, alloc: Global, lines: &str, end: End) -> Result<(), Fail> {
     let nand = formatted(alloc)?;
     let book = book_of(alloc, lines)?;
     let count = book.commands.len();
@@ -76,7 +83,10 @@ fn do_calls(rt: &impl Abort, alloc: Global, lines: &str) -> Result<(), Fail> {
     for number in 0..count {
         call_again(rt, alloc, &mut served, &book, number)?;
     }
-    let (mut nand, is_done) = served.unmount();
+    let (mut nand, is_done) = match end {
+        End::Unmount => served.unmount(),
+        End::Abandon => (served.abandon(), true),
+    };
     assert!(rt; is_done);
     nand.power_up();
     let mut served = mount_again(rt, alloc, nand)?;
@@ -85,19 +95,20 @@ fn do_calls(rt: &impl Abort, alloc: Global, lines: &str) -> Result<(), Fail> {
 }
 
 // Run these with each allocation refused in turn.
+/// The session ends with a sync.
 #[test]
 fn what_is_refused_memory_is_done_by_the_next_call(rt: HostRuntime) -> Result<(), Fail> {
-    do_calls(&rt, rt.alloc(), SESSION)
+    do_calls(&rt, rt.alloc(), SESSION, End::Abandon)
 }
 
 #[test]
 fn a_file_is_refused_memory(rt: HostRuntime) -> Result<(), Fail> {
-    do_calls(&rt, rt.alloc(), FILE)
+    do_calls(&rt, rt.alloc(), FILE, End::Unmount)
 }
 
 #[test]
 fn a_tree_is_refused_memory(rt: HostRuntime) -> Result<(), Fail> {
-    do_calls(&rt, rt.alloc(), TREE)
+    do_calls(&rt, rt.alloc(), TREE, End::Unmount)
 }
 
 /// Does the commands in a run, and once more those that it did not begin.

@@ -4,15 +4,20 @@
 //! standard input. Three of them are this program's own: after `mark` a new part of the measure begins; what stands between
 //! `repeat N` and `end` is asked N times, with the number of the turn, from 0, in place of each `#`.
 //!
-//! With a fifth argument the processor time of each part and of the whole, and the greatest memory, go to standard error.
+//! At the end the volume is left as if power were lost, mounted by a scan, unmounted, and mounted by a checkpoint.
+//!
+//! With a fifth argument the processor time of each part, of the whole and of the mounts, and the greatest memory, go to standard
+//! error.
 #![tactic(auto)]
 
+mod mounts;
 mod script;
 mod usage;
 
 use anyhow::{Context, Result, anyhow};
 use counted_nand::{CountedNand, Counts};
 use line_shell::{Serve, shell};
+use mounts::{Cost, measure};
 use nand_model::{Geometry, MemNand};
 use posix_calls::{Reply, Stamped, Volume, format};
 use script::read_parts;
@@ -72,6 +77,7 @@ impl Report {
             programs,
             erases,
             marks,
+            ..
         } = self.counts;
         format!(in alloc;
             "{reads} reads, {programs} programs, {erases} erases, {marks} marks, {} errors",
@@ -107,19 +113,54 @@ fn ask<R: Files + Alloc>(rt: &R, alloc: Global, served: &mut Served, lines: &[u8
     }
 }
 
-/// Asks the lines of these parts of a fresh volume.
-fn run<R: Files + Alloc>(rt: &R, alloc: Global, size: Size, parts: &[Vec<u8>]) -> Result<Report> {
+/// Asks the lines of these parts of a fresh volume, and gives its device with the report.
+fn run<R: Files + Alloc>(
+    rt: &R,
+    alloc: Global,
+    size: Size,
+    parts: &[Vec<u8>],
+) -> Result<(CountedNand<MemNand>, Report)> {
     let mut served = fresh(alloc, size)?;
     let mut nanoseconds = 0;
     for lines in parts {
         nanoseconds = ask(rt, alloc, &mut served, lines)?;
     }
     let Served { volume, errors } = served;
-    Ok(Report {
-        counts: volume.abandon().counts(),
+    let device = volume.abandon();
+    let report = Report {
+        counts: device.counts(),
         errors,
         nanoseconds,
-    })
+    };
+    Ok((device, report))
+}
+
+/// Tells what a call costs.
+fn tell(rt: &HostRuntime, alloc: Global, name: &str, cost: Cost, is_timed: bool) -> Result<()> {
+    println!(rt; "{name}: {}", cost.text(alloc)?)?;
+    if is_timed {
+        eprintln!(rt; "{name}: {} microseconds", cost.nanoseconds / 1000)?;
+    }
+    Ok(())
+}
+
+/// Tells what the mounts of a device cost.
+fn tell_mounts(
+    rt: &HostRuntime,
+    alloc: Global,
+    device: CountedNand<MemNand>,
+    is_timed: bool,
+) -> Result<()> {
+    let mounts = measure(rt, alloc, device)?;
+    tell(rt, alloc, "mount by a scan", mounts.by_scan, is_timed)?;
+    tell(rt, alloc, "unmount", mounts.unmount, is_timed)?;
+    tell(
+        rt,
+        alloc,
+        "mount by its checkpoint",
+        mounts.by_checkpoint,
+        is_timed,
+    )
 }
 
 /// The size that the next arguments tell.
@@ -148,22 +189,29 @@ fn main(rt: HostRuntime) -> Result<()> {
     let mut text = Vec::new(alloc);
     rt.stdin().lock().read_to_end(&mut text)?;
     let parts = read_parts(alloc, &text)?;
-    let mount = run(&rt, alloc, size, &[])?;
+    let mount = run(&rt, alloc, size, &[])?.1;
     println!(rt; "mount: {}", mount.text(alloc)?)?;
     let mut before = mount;
+    let mut last = None;
     let mut nanoseconds = 0u64;
     for number in 0..parts.len() {
-        let report = run(&rt, alloc, size, &parts[..number + 1])?;
+        let (left, report) = run(&rt, alloc, size, &parts[..number + 1])?;
         println!(rt; "part {number}: {}", report.since(before).text(alloc)?)?;
         if is_timed {
             eprintln!(rt; "part {number}: {} microseconds", report.nanoseconds / 1000)?;
         }
         nanoseconds = nanoseconds.saturating_add(report.nanoseconds);
         before = report;
+        last = Some(left);
     }
     println!(rt; "whole: {}", before.since(mount).text(alloc)?)?;
     if is_timed {
         eprintln!(rt; "whole: {} microseconds", nanoseconds / 1000)?;
+    }
+    if let Some(device) = last {
+        tell_mounts(&rt, alloc, device, is_timed)?;
+    }
+    if is_timed {
         eprintln!(rt; "at most {} kilobytes", greatest_memory(&rt)?)?;
     }
     Ok(())

@@ -6,7 +6,7 @@ pub returns-in-Ok-clause-formatted : goal.returns-in-Ok-clause-formatted
 returns-in-Ok-clause-formatted g c = record {
   after = g.N.Nand.state c.in-Ok._device;
   lasts = c.in-Ok.ensures.keeps.lasts;
-  formatted = λ done honest. c.in-Ok.ensures.formatted honest;
+  formatted = λ done honest. (c.in-Ok.ensures.formatted honest, c.in-Ok.ensures.true_flash honest);
   fault = inl refl;
 }
 

@@ -2,14 +2,6 @@ use Rattle.std.proofs.Common.{◌∙◌, w32}
 use Rattle.std.proofs.lemmas.Int.{to_z-of_z}
 use Rattle.flash_c.proofs.devices.mount_device.Goals as goal
 
-pub returns-in-Ok-clause-mounted : goal.returns-in-Ok-clause-mounted
-returns-in-Ok-clause-mounted g c = record {
-  reads = c.in-Ok.ensures.reads;
-  goes_on = c.in-Ok.ensures.goes_on;
-  read_only = c.in-Ok.ensures.read_only;
-  tree = c.in-Ok.ensures.tree;
-}
-
 pub returns-in-Err-clause-fault : goal.returns-in-Err-clause-fault
 returns-in-Err-clause-fault g c = record {
   after = g.N.Nand.state c.in-Err._device;

@@ -1,4 +1,3 @@
-use Rattle.flash_pages.specs.declared.mounted.FlashPages.{FlashPages}
 use Rattle.posix_calls.specs.Volumes.{over_pages}
 use Rattle.flash_program.proofs.Stopping.{only_a_cut_stops}
 use Rattle.flash_program.proofs.law.only_a_cut_stops_the_program.Goals as goal

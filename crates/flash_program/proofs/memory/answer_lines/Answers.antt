@@ -7,15 +7,8 @@ returns g c = inr (record {
   last = _;
   shell = _;
   reply = _;
-  mounted = record {
-    reads = c.in-Ok.ensures.reads;
-    power = c.in-Ok.ensures.power;
-    next = c.in-Ok.ensures.next;
-    goes_on = c.in-Ok.ensures.goes_on;
-    read_only = c.in-Ok.ensures.read_only;
-    tree = c.in-Ok.ensures.tree;
-  };
+  mounted = c.in-Ok.ensures.mounted;
   answered = c.shell-ended.ensures;
-  unmounted = c.unmount-device.ensures;
+  unmounted = c.unmount-device.ensures.ends;
   result_is = c.told.ensures;
 })

@@ -10,16 +10,9 @@ returns g c = inr (record {
   reply = c.ask_space-reply.result;
   spoken = c.tell_space-told.result;
   answer = _;
-  mounted = record {
-    reads = c.in-Ok.ensures.reads;
-    power = c.in-Ok.ensures.power;
-    next = c.in-Ok.ensures.next;
-    goes_on = c.in-Ok.ensures.goes_on;
-    read_only = c.in-Ok.ensures.read_only;
-    tree = c.in-Ok.ensures.tree;
-  };
+  mounted = c.in-Ok.ensures.mounted;
   asked = c.ask_space-reply.ensures;
   told = told_alone _ _ (reply_text c.ask_space-reply.result) c.tell_space-told.result c.tell_space-told.ensures;
-  unmounted = c.unmount-device.ensures;
+  unmounted = c.unmount-device.ensures.ends;
   result_is = c.shown.ensures;
 })

@@ -1,4 +1,5 @@
-use Rattle.std.proofs.Common.{Some, subst}
+use Rattle.std.proofs.Common.{subst}
+use Rattle.std.proofs.lemmas.Bool.{and_from}
 use Rattle.std.specs.Prelude.{IfSome}
 use Rattle.flash_tree.specs.Checkpoints.{IsChecked}
 use Rattle.checkpoint_reading.specs.Found.{checkpoint_of}
@@ -7,6 +8,8 @@ use Rattle.newest_pages.specs.laws.Trust.{trust, right_said}
 use Rattle.trusted_nand.specs.Parts.{inner_of}
 use Rattle.trusted_nand.specs.Trusting.{trusted_as}
 use Rattle.mounting.proofs.Entering.{since_read, checked_at}
+use Rattle.mounting.proofs.Noting.{err_map}
+use Rattle.mounting.proofs.Sure.{ends_mount}
 use Rattle.mounting.proofs.entries.open_entries.Goals as goal
 
 pub go_by-requires : goal.go_by-requires
@@ -32,3 +35,17 @@ returns-in-Ok-Some-clause-checked g c = λ is.
     let trusted = trust d k (g.met.N.Nand.within c.args.device) in
     checked_at c.go_by.result d.geometry d.flash (λ named. named.on.blocks.checkpoint) c.args.found.now.block
     (subst (IsChecked d.geometry d.flash) (opened trusted.0 trusted.1).noted keeps.checked) c.go_by.ensures.noted
+
+pub returns-in-Ok-Some-clause-few : goal.returns-in-Ok-Some-clause-few
+returns-in-Ok-Some-clause-few g c = λ is.
+    let d = g.N.Nand.state c.args.device in
+    let k = checkpoint_of c.args.found.now in
+    c.go_by.ensures.few (and_from _ _ is.0 ((trust d k _).2 (right_said d.geometry d.flash k (is.1 k (c.requires.whole is.0)))))
+
+pub returns-in-Ok-Some-clause-fault : goal.returns-in-Ok-Some-clause-fault
+returns-in-Ok-Some-clause-fault g c = λ is.
+    let d = g.N.Nand.state c.args.device in
+    let k = checkpoint_of c.args.found.now in
+    let keeps = subst (λ m. IfSome m (KeepsItsTree d)) c.in-Ok-Some.field-0-is (c.in-Ok-Some.ensures.tree is) in
+    err_map c.go_by.result (λ failed why. ends_mount d _ keeps (g.N.Nand.state failed.0) failed.1 why)
+    (c.go_by.ensures.fault (and_from _ _ is.0 ((trust d k _).2 (right_said d.geometry d.flash k (is.1 k (c.requires.whole is.0))))))

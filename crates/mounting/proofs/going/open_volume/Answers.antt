@@ -3,6 +3,9 @@ use Rattle.std.specs.Prelude.{IfSome}
 use Rattle.nand_model.specs.laws.Changes.{only_reads_on}
 use Rattle.checkpoint_reading.specs.Found.{HasForm, IsWholeOn, checkpoint_of}
 use Rattle.mounting.proofs.Noting.{form_after, whole_after, may_after, found_noted, since_before, since_with, checked_before, true_after, ok_map, ok_both}
+use Rattle.trusted_nand.specs.Parts.{inner_of}
+use Rattle.mounting.specs.Reads.{EndsMount}
+use Rattle.mounting.proofs.ReadsTree.{reads_by, reads_none, ok_unless}
 use Rattle.mounting.proofs.going.open_volume.Goals as goal
 
 pub returns-in-None-clause-read : goal.returns-in-None-clause-read
@@ -36,3 +39,15 @@ returns-clause-checked g c = λ is.
     let e = g.N.Nand.state c.in-Err-by_entries.device in
     let reads = only_reads_on a (g.N.Nand.state c.find_checkpoint.new.device) e c.in-Ok.ensures.reads.only c.in-Err-by_entries.ensures.back in
     ok_map c.scan_after.result (λ x checked. checked_before a e _ reads (λ _. checked) is) (c.scan_after.ensures.checked (true_after a e reads is))
+
+pub returns-in-Ok-by_entries-clause-few : goal.returns-in-Ok-by_entries-clause-few
+returns-in-Ok-by_entries-clause-few g c =
+    reads_by (g.N.Nand.state c.args.device) (g.N.Nand.state c.find_checkpoint.new.device) (g.N.Nand.state (inner_of c.in-Ok-by_entries.going.named.on.device)) c.in-Ok.ensures.reads.only
+    c.in-Ok.ensures.few c.in-Ok-by_entries.ensures.few
+
+pub returns-clause-few : goal.returns-clause-few
+returns-clause-few g c =
+    let e = g.N.Nand.state c.in-Err-by_entries.device in
+    let fault = c.in-Err-by_entries.fault in
+    ok_unless c.scan_after.result (EndsMount e fault) c.scan_after.ensures.ends
+    (λ x not. reads_none (g.N.Nand.state c.args.device) (g.N.Nand.state c.find_checkpoint.new.device) e (g.N.Nand.state (inner_of x.named.on.device)) fault c.in-Ok.ensures.reads.only c.in-Err-by_entries.ensures.fault not)

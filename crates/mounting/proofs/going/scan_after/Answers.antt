@@ -1,4 +1,4 @@
-use Rattle.std.proofs.Common.{false, Some, sym, ◌∙◌, ap}
+use Rattle.std.proofs.Common.{Some, sym, ◌∙◌}
 use Rattle.std.proofs.lemmas.Bool.{not-true}
 use Rattle.nand_model.specs.laws.Changes.{only_reads_on}
 use Rattle.mounting.proofs.Noting.{may_after, since_before, checked_before, true_after, ok_map, err_map}

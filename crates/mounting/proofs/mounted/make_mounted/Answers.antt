@@ -1,4 +1,3 @@
-use Rattle.std.proofs.Common.{◌≡◌, true}
 use Rattle.flash_tree.specs.Places.{numbers_of}
 use Rattle.volume_terms.specs.VolumeSizes as volume
 use Rattle.flash_tree.specs.Mount.{sizes_of}

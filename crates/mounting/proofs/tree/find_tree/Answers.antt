@@ -1,38 +1,39 @@
-use Rattle.std.proofs.Common.{sym, subst}
-use Rattle.flash_tree.specs.Mount.{sizes_of}
+use Rattle.std.proofs.Common.{ℕ, sym, ◌∙◌, subst, inl}
+use Rattle.flash_tree.specs.Mount.{IsVolume, sizes_of}
 use Rattle.pages.specs.Maps.{PageMap, has}
-use Rattle.tree_walk.specs.Hashes.{CoversTree}
 use Rattle.tree_walk.specs.declared.fault.RootFault.{RootFault}
 use Rattle.mounting.specs.Trees.{TellsTree}
-use Rattle.mounting.proofs.Finding.{seen_after, gone_through, walk_tells}
+use Rattle.mounting.proofs.Finding.{walk_tells}
 use Rattle.mounting.proofs.tree.find_tree.Goals as goal
 
-pub returns-in-Ok-clause-tree : goal.returns-in-Ok-clause-tree
-returns-in-Ok-clause-tree g c = λ sound size.
-    let p = g.P.Pages.state c.args.pages.now in
-    let q = g.P.Pages.state c.root.new.pages in
-    let geometry = c.args.geometry in
-    let z = sizes_of geometry c.in_ok-spare.spare in
-    let seen = seen_after geometry c.in_ok-spare.spare p q c.root.ensures.finds sound size in
-    let e = c.in-Ok.ensures in
-    gone_through geometry c.in_ok-spare.spare c.in-Ok.tree p q c.root.ensures.finds size (c.in_ok-spare.ensures.volume sound size) e.size
-    (record { through = e.through z seen; once = e.once z seen; heads = e.heads z seen; names = e.names z seen })
+pub returns-in-Some-clause-asked : goal.returns-in-Some-clause-asked
+returns-in-Some-clause-asked g c = λ sound size. c.in-Ok.ensures.asked (sizes_of c.args.geometry c.in-Some.spare) (record { sound = sound; size = size })
 
-pub returns-in-Ok-clause-names : goal.returns-in-Ok-clause-names
-returns-in-Ok-clause-names g c = λ sound size.
-    let p = g.P.Pages.state c.args.pages.now in
-    let q = g.P.Pages.state c.root.new.pages in
+pub returns-in-Some-clause-tree : goal.returns-in-Some-clause-tree
+returns-in-Some-clause-tree g c = λ sound size.
+    let m = (g.P.Pages.state c.args.pages.now).present in
     let geometry = c.args.geometry in
-    let z = sizes_of geometry c.in_ok-spare.spare in
-    let seen = seen_after geometry c.in_ok-spare.spare p q c.root.ensures.finds sound size in
-    subst (λ (m : PageMap). CoversTree c.walk.new.names z m c.in-Ok.tree) c.root.ensures.finds.present (c.in-Ok.ensures.hashes z seen)
+    record {
+      volume = c.in-Some.ensures.volume m (c.in-Ok.ensures.tree (sizes_of geometry 0) (record { sound = sound; size = size }));
+      size = c.in-Ok.ensures.size ∙ sym size;
+      tree_is = c.in-Ok.ensures.tree (sizes_of geometry c.in-Some.spare) (record { sound = sound; size = size });
+    }
+
+pub returns-in-Some-clause-names : goal.returns-in-Some-clause-names
+returns-in-Some-clause-names g c = λ sound size. c.in-Ok.ensures.hashes (sizes_of c.args.geometry c.in-Some.spare) (record { sound = sound; size = size })
+
+pub returns-in-None-clause-fault : goal.returns-in-None-clause-fault
+returns-in-None-clause-fault g c = λ sound size.
+    inl (c.in-None.ensures.none (g.P.Pages.state c.args.pages.now).present (c.in-Ok.ensures.tree (sizes_of c.args.geometry 0) (record { sound = sound; size = size })))
 
 pub returns-in-Err-clause-fault : goal.returns-in-Err-clause-fault
 returns-in-Err-clause-fault g c = λ sound size.
     let p = g.P.Pages.state c.args.pages.now in
-    let q = g.P.Pages.state c.root.new.pages in
+    let q = g.P.Pages.state c.walk.new.pages in
     let geometry = c.args.geometry in
-    let z = sizes_of geometry c.in_ok-spare.spare in
-    let seen = seen_after geometry c.in_ok-spare.spare p q c.root.ensures.finds sound size in
-    subst (λ (f : RootFault). TellsTree geometry (has p.present) f) (sym c.root_fault.ensures)
-    (walk_tells geometry c.in_ok-spare.spare _ p q (g.P.Pages.state c.walk.new.pages) c.root.ensures.finds (c.in_ok-spare.ensures.volume sound size) (c.in-Err.ensures.fault z seen))
+    let finds = c.walk.ensures.finds in
+    let below = subst (λ (m : PageMap). (spare : ℕ) → IsVolume geometry (has m) spare → TellsTree geometry (has m) c.root_fault.result) (sym finds.present)
+    (λ spare volume. subst (λ (f : RootFault). TellsTree geometry (has p.present) f) (sym c.root_fault.ensures)
+    (walk_tells geometry (has p.present) spare c.in-Err.fault q volume (c.in-Err.ensures.fault (sizes_of geometry spare) (record { sound = sound; size = size })))) in
+    subst (λ (m : PageMap). TellsTree geometry (has m) c.first_fault.result) finds.present
+    (c.first_fault.ensures.told (finds.sound ∙ sound) (size ∙ sym finds.page_bytes) below)

@@ -55,11 +55,11 @@ returns-then-is_stopped g c =
     subst (λ (rs : List Reply). Does m commands rs c.args.volume.now c.answer-reply.new.self) (sym pushed)
     (does_stopped m commands told stamped reply c.args.volume.now c.loop-stamped.volume c.answer-reply.new.self at was.read_only was.does c.answer-reply.ensures.one c.answer-reply.ensures.stops
     (sym c.is_stopped.ensures ∙ c.if-is_stopped.true)
-    (goes_on (m.pages c.args.volume.now) (m.pages c.loop-stamped.volume) (m.pages c.answer-reply.new.self) was.goes_on c.answer-reply.ensures.goes_on) was.still)
+    (goes_on (m.pages c.args.volume.now) (m.pages c.loop-stamped.volume) (m.pages c.answer-reply.new.self) was.goes_on c.answer-reply.ensures.goes_on) (c.answer-reply.ensures.read_only ∙ was.read_only) was.still)
 
 pub returns : goal.returns
 returns g c =
     let m = g.V.Commanded.meaning in
     let was = c.loop-stamped.invariant in
     let all : length c.loop-stamped.replies.items ≡ length c.args.commands.now = omega (arith, was.count, c.loop-stamped-test.false, c.loop-stamped.auto.stamped-index-end) in
-    does_all m c.args.commands.now c.loop-stamped.replies.items c.args.volume.now c.loop-stamped.volume all was.does was.goes_on
+    does_all m c.args.commands.now c.loop-stamped.replies.items c.args.volume.now c.loop-stamped.volume all was.does was.goes_on was.read_only

@@ -55,7 +55,13 @@ returns-clause-reserve c = λ spare tree sound reserve numbers.
     let b = device c.loop-session.last in
     let was = c.loop-session.invariant in
     let failed = failures_listed c.args.sessions.now c.loop-session.ends.items a b was.ended reserve.counted in
-    was.lived.life spare tree sound (record {
+    (was.lived.truly sound.truth).life spare tree sound.sound (record {
       few_bad = few_from a b spare (length (failing_in c.args.sessions.now)) was.lived.answered failed reserve.few;
       numbers = numbers;
     })
+
+pub returns-clause-life : goal.returns-clause-life
+returns-clause-life c = λ spare tree sound within. (c.loop-session.invariant.lived.truly sound.truth).life spare tree sound.sound within
+
+pub returns-clause-truth : goal.returns-clause-truth
+returns-clause-truth c = λ truth. (c.loop-session.invariant.lived.truly truth).truth

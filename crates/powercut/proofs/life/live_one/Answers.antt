@@ -1,4 +1,4 @@
-use Rattle.std.specs.Prelude.{◌≡◌, Bool, List, [], ◌∷◌, length}
+use Rattle.std.specs.Prelude.{◌≡◌, List, [], ◌∷◌, length}
 use Rattle.std.proofs.Common.{refl, ◌∙◌, ap, sym, subst, inl, inr, arith}
 use Rattle.posix_profile.specs.declared.command.Stamped.{Stamped}
 use Rattle.nand_model.specs.Calls.{Device, Lasts}
@@ -36,7 +36,7 @@ returns-clause-ended c =
     let count : c.len-begun.result ≡ length c.in_ok-planned.served.replies.items = omega (arith, c.len-begun.ensures, c.in_ok-planned.served.replies.ok.0) in
     let commands : c.deref.result.now ≡ session.commands.items = c.deref.ensures.value in
     let gone : (state_of c.in_ok-planned.planned).gone ≡ d.gone = ap (λ (x : Device). x.gone) c.into_nand-nand.ensures.device in
-    let lasts = subst (λ (x : Device). Lasts x (state_of c.in_ok-planned.planned)) c.new-planned.ensures c.in_ok-planned.ensures.lasts in
+    let lasts = subst (λ (x : Device). Lasts x (state_of c.in_ok-planned.planned)) c.new-planned.ensures (c.in_ok-planned.ensures.lasts refl) in
     let there : IsPlanned (plan_of session) b d = subst (λ (p : Plan). IsPlanned p b d) c.in_ok-nand.ensures.plan (c.into_nand-nand.ensures.planned (plan c.in_ok-nand.nand) b lasts) in
     let planned : IsPlanned (plan_of session) a d = planned_from _ a b d c.in_ok-nand.ensures.starts (plan_of session) there in
     record {

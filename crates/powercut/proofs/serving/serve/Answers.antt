@@ -9,14 +9,13 @@ use Rattle.powercut.proofs.Standing.{stands_there}
 use Rattle.powercut.proofs.serving.serve.Goals as goal
 
 pub returns-in_ok-device-in-Ok-clause-lasts : goal.returns-in_ok-device-in-Ok-clause-lasts
-returns-in_ok-device-in-Ok-clause-lasts g c = used_lasts _ c.in-Ok.volume _ _ c.args.commands.now _ _ c.in-Ok.ensures.reads c.in_ok-device-in-Ok.ensures.used
+returns-in_ok-device-in-Ok-clause-lasts g c = used_lasts _ c.in-Ok.volume _ _ _ c.args.commands.now _ _ c.in-Ok.ensures.mounted.since c.in_ok-device-in-Ok.ensures.used
 
 pub returns-in_ok-device-in-Ok-clause-lived : goal.returns-in_ok-device-in-Ok-clause-lived
 returns-in_ok-device-in-Ok-clause-lived g c = λ power honest.
-    let mounted = c.in-Ok.ensures in
-    let tree = mounted.tree honest in
-    used_lived _ c.in-Ok.volume _ _ c.args.commands.now _ _ honest c.a_flash_has_one_answer_at_most.ensures mounted.reads mounted.goes_on mounted.read_only (mounted.next honest) tree.0
-    (stands_there _ _ c.in-Ok.volume tree.0 tree.1) c.in_ok-device-in-Ok.ensures.used
+    let mounted = c.in-Ok.ensures.mounted in
+    used_lived _ c.in-Ok.volume _ _ _ c.args.commands.now _ _ mounted.since c.in_ok-device-in-Ok.ensures.used honest c.a_flash_has_one_answer_at_most.ensures mounted.goes_on mounted.read_only mounted.next
+    (λ here. let tree = mounted.tree here in (tree.0, stands_there _ _ c.in-Ok.volume tree.0 tree.1)) mounted.checked
 
 pub returns-in-Err-clause-lived : goal.returns-in-Err-clause-lived
 returns-in-Err-clause-lived g c = λ power honest.
@@ -28,7 +27,7 @@ returns-in_ok-device-in-Ok-clause-served g c =
     let used = c.in_ok-device-in-Ok.ensures.used in
     let asked = c.in_ok-device-in-Ok.ensures.unmounts in
     record {
-      begun = λ _. used.begun c.in-Ok.ensures.goes_on;
+      begun = λ _. used.begun c.in-Ok.ensures.mounted.goes_on;
       none = λ fault is. absurd cc;
       unmounts = (λ some. (sym asked ∙ some, refl), λ both. asked ∙ both.0);
       lost = λ is. absurd cc;

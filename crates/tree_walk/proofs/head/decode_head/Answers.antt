@@ -24,6 +24,7 @@ returns-clause-told c =
         kind = refl;
         length_is = refl;
         moment = refl;
+        spare = refl;
         bits = λ n from. ap (λ (bs : List ℕ). is_present bs n) bits ∙ same_bits (length page) f (omega (arith, c.requires.least)) found.valid c.match-header.chunks last c.min-kept.result kept n from;
       },
     )

@@ -1,5 +1,7 @@
-use Rattle.std.proofs.Common.{◌≡◌, ◌+◌, ◌∙◌, ℕ, false, true, Some, slice_get, length, refl, sym, subst, inl, inr, arith, rules}
+use Rattle.std.proofs.Common.{◌≡◌, ◌+◌, ◌∙◌, ℕ, false, true, Some, slice_get, length, take, refl, sym, ap, subst, inl, inr, arith, rules}
 use Rattle.std.proofs.lemmas.Result.{err_from_is_err_and}
+use Rattle.std.specs.Prelude.{sum_by}
+use Rattle.std.proofs.lemmas.List.{take_all}
 use Rattle.std.proofs.lemmas.Option.{slice_get_within}
 use Rattle.flash_tree.specs.Mount.{Wrong, Wrongly, stops, Stops, Finds}
 use Rattle.pages.specs.Maps.{PageMap, has}
@@ -7,6 +9,7 @@ use Rattle.pages.specs.State.{PagesState}
 use Rattle.pages.specs.laws.State.{finds_none, finds_on}
 use Rattle.tree_walk.specs.Trees.{AreNamesOf, IsWrongTree}
 use Rattle.tree_walk.specs.Hashes.{CoversHeads}
+use Rattle.tree_walk.specs.Visits.{told_pages}
 use Rattle.tree_walk.specs.Walks.{IsGoing}
 use Rattle.tree_walk.proofs.Going.{begins_going}
 use Rattle.tree_walk.proofs.Seeing.{page_size, single, still_seen}
@@ -24,6 +27,7 @@ loop-place-init g c = record {
   knows = c.in_ok-walk.ensures.begins.knows;
   going = λ z seen. begins_going z (has (g.P.Pages.state c.args.pages.now).present) c.in_ok-walk.walk c.in_ok-walk.ensures.begins;
   hashes = λ z seen o head there. absurd (c.in_ok-walk.ensures.begins.heads o head there);
+  few = λ z seen. omega arith;
 }
 
 pub loop-place-preserved : goal.loop-place-preserved
@@ -45,6 +49,14 @@ loop-place-preserved g c = record {
       let covers = subst (λ (m : PageMap). CoversHeads c.loop-place.names z m c.loop-place.walk.heads) (sym finds.present) (c.loop-place.invariant.hashes z seen) in
       subst (λ (m : PageMap). CoversHeads c.step.new.names z m c.step.new.self.heads) finds.present
       (c.in_ok-step.ensures.hashes z (still_seen z old now finds seen) covers);
+  few = λ z seen.
+      let old : PagesState = g.P.Pages.state c.args.pages.now in
+      let now : PagesState = g.P.Pages.state c.loop-place.pages in
+      let finds = c.loop-place.invariant.finds in
+      let going = subst (λ (m : PageMap). IsGoing z (has m) c.loop-place.place c.loop-place.walk) (sym finds.present) (c.loop-place.invariant.going z seen) in
+      let more = c.in_ok-step.ensures.asked z (still_seen z old now finds seen) going in
+      let before = c.loop-place.invariant.few z seen in
+      omega (arith, more, before);
 }
 
 pub returns-in_err-step-clause-fault : goal.returns-in_err-step-clause-fault
@@ -88,18 +100,8 @@ returns-then-names_directory_again-clause-fault g c = λ z seen.
       ),
     )
 
-pub returns-clause-through : goal.returns-clause-through
-returns-clause-through g c = λ z seen.
-    let old : PagesState = g.P.Pages.state c.args.pages.now in
-    let walk = c.loop-place.walk in
-    let going = c.loop-place.invariant.going z seen in
-    let sized = g.met.P.Pages.sized c.args.pages.now in
-    let size = page_size z old sized.0 sized.1 seen in
-    let all : length walk.objects.items ≡ c.loop-place.place = omega (arith, going.within, c.loop-place-test.false, c.len.ensures) in
-    gone_through z size (has old.present) (single old.present) c.loop-place.place walk going all
-
-pub returns-clause-once : goal.returns-clause-once
-returns-clause-once g c = λ z seen twice.
+pub returns-clause-tree : goal.returns-clause-tree
+returns-clause-tree g c = λ z seen.
     let old : PagesState = g.P.Pages.state c.args.pages.now in
     let walk = c.loop-place.walk in
     let going = c.loop-place.invariant.going z seen in
@@ -107,24 +109,23 @@ returns-clause-once g c = λ z seen twice.
     let size = page_size z old sized.0 sized.1 seen in
     let all : length walk.objects.items ≡ c.loop-place.place = omega (arith, going.within, c.loop-place-test.false, c.len.ensures) in
     let off : c.names_directory_again.result ≡ false = search rules in
-    let d = names_twice z size (has old.present) (single old.present) c.loop-place.place walk going all twice in
-    c.names_directory_again.ensures.not off d.0 d.1
-
-pub returns-clause-heads : goal.returns-clause-heads
-returns-clause-heads g c = λ z seen.
-    let walk = c.loop-place.walk in
-    let going = c.loop-place.invariant.going z seen in
-    let all : length walk.objects.items ≡ c.loop-place.place = omega (arith, going.within, c.loop-place-test.false, c.len.ensures) in
     record {
-      each = λ i o is. going.heads i o (omega (arith, all, slice_get_within walk.objects.items i o is)) is;
-      only = λ o head there. let w = going.only o head there in (w.0, w.2);
-      says = λ o head there. going.says o head there;
+      through = gone_through z size (has old.present) (single old.present) c.loop-place.place walk going all;
+      once = λ twice.
+          let d = names_twice z size (has old.present) (single old.present) c.loop-place.place walk going all twice in
+          c.names_directory_again.ensures.not off d.0 d.1;
+      heads = record {
+        each = λ i o is. going.heads i o (omega (arith, all, slice_get_within walk.objects.items i o is)) is;
+        only = λ o head there. let w = going.only o head there in (w.0, w.2);
+        says = λ o head there. going.says o head there;
+      };
+      names = subst (λ n. AreNamesOf z (has old.present) walk.objects.items n walk.names.items) (sym all) going.names;
     }
 
-pub returns-clause-names : goal.returns-clause-names
-returns-clause-names g c = λ z seen.
-    let old : PagesState = g.P.Pages.state c.args.pages.now in
+pub returns-clause-asked : goal.returns-clause-asked
+returns-clause-asked g c = λ z seen.
     let walk = c.loop-place.walk in
-    let going = c.loop-place.invariant.going z seen in
-    let all : length walk.objects.items ≡ c.loop-place.place = omega (arith, going.within, c.loop-place-test.false, c.len.ensures) in
-    subst (λ n. AreNamesOf z (has old.present) walk.objects.items n walk.names.items) (sym all) going.names
+    let few = c.loop-place.invariant.few z seen in
+    let whole : take c.loop-place.place walk.objects.items ≡ walk.objects.items = take_all c.loop-place.place walk.objects.items (omega (arith, c.loop-place-test.false, c.len.ensures)) in
+    let same = ap (sum_by (told_pages z walk.heads)) whole in
+    omega (arith, few, same)

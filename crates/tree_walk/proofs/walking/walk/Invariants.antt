@@ -1,10 +1,10 @@
-use Rattle.std.proofs.Common.{◌-◌}
+use Rattle.std.proofs.Common.{◌≤◌, ◌+◌, ◌-◌}
 use Rattle.pages.specs.Maps.{has}
 use Rattle.pages.specs.State.{OnlyFinds, KeepsPower}
 use Rattle.volume_terms.specs.Sizes.{Sizes}
 use Rattle.tree_walk.specs.Hashes.{CoversHeads}
 use Rattle.tree_walk.specs.Visits.{IsSeen}
-use Rattle.tree_walk.specs.Walks.{Knows, IsGoing}
+use Rattle.tree_walk.specs.Walks.{Knows, IsGoing, pages_before}
 use Rattle.tree_walk.proofs.walking.walk.Given as goal
 
 abbrev pub invariant-loop-place : goal.invariant-loop-place
@@ -14,6 +14,7 @@ invariant-loop-place g l = record {
   knows : Knows l.walk;
   going : (z : Sizes) → IsSeen z (g.P.Pages.state l.fn.pages) → IsGoing z (has (g.P.Pages.state l.fn.pages).present) l.place l.walk;
   hashes : (z : Sizes) → IsSeen z (g.P.Pages.state l.fn.pages) → CoversHeads l.names z (g.P.Pages.state l.fn.pages).present l.walk.heads;
+  few : (z : Sizes) → IsSeen z (g.P.Pages.state l.fn.pages) → (g.P.Pages.state l.pages).asked ≤ (g.P.Pages.state l.fn.pages).asked + pages_before z l.walk l.place;
 }
 
 abbrev pub decreases-loop-place : goal.decreases-loop-place

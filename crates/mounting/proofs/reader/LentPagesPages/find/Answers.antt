@@ -2,7 +2,7 @@ use Rattle.std.proofs.Common.{◌∙◌, sym}
 use Rattle.mounting.proofs.Lent.{not_absent_lent}
 use Rattle.mounting.proofs.reader.LentPagesPages.find.Goals as goal
 
-pub returns-else-eq-clause-absent : goal.returns-else-eq-clause-absent
-returns-else-eq-clause-absent g c = λ sound none.
+pub returns-in-Some-clause-absent : goal.returns-in-Some-clause-absent
+returns-in-Some-clause-absent g c = λ sound none.
     let self = c.args.self.now in
     absurd (not_absent_lent self.trust.told (g.N.Nand.state self.device) self.index.now c.args.key.object c.args.key.chunk c.in-Some.at (sym c.kept.ensures ∙ c.in-Some.is) self.kept sound none)

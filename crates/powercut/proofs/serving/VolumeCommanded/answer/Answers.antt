@@ -1,10 +1,21 @@
 use Rattle.powercut.proofs.serving.VolumeCommanded.answer.Goals as goal
 
+pub returns-clause-goes_on : goal.returns-clause-goes_on
+returns-clause-goes_on g c = c.call.ensures.goes_on
+
+pub returns-clause-read_only : goal.returns-clause-read_only
+returns-clause-read_only g c = c.call.ensures.read_only
+
+pub returns-clause-stops : goal.returns-clause-stops
+returns-clause-stops g c = c.call.ensures.stops
+
 pub returns-clause-one : goal.returns-clause-one
-returns-clause-one g c = λ goes z s stands. record {
-  right = c.call.ensures.replies goes z s stands;
-  stands = c.call.ensures.state goes z s stands;
-  tree = c.call.ensures.tree goes z s stands;
-  synced = c.call.ensures.synced goes z s stands;
-  cause = c.call.ensures.cause goes z s stands;
-}
+returns-clause-one g c = λ goes z s stands.
+    let replied = c.call.ensures.replied goes z s stands in
+    record {
+      right = replied.reply_is;
+      stands = replied.state_is;
+      tree = replied.tree;
+      synced = replied.synced;
+      cause = replied.cause;
+    }

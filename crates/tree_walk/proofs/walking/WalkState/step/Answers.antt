@@ -1,11 +1,12 @@
-use Rattle.std.proofs.Common.{◌≡◌, ◌+◌, ◌∙◌, ℕ, Some, slice_get, sym, ap}
+use Rattle.std.proofs.Common.{◌≡◌, ◌≤◌, ◌+◌, ◌∙◌, ℕ, Some, slice_get, sym, ap, arith}
 use Rattle.std.proofs.lemmas.Option.{slice_get-get_or}
 use Rattle.std.proofs.lemmas.Result.{err_from_is_err_and}
 use Rattle.flash_tree.specs.Mount.{Stops, Finds}
 use Rattle.pages.specs.Maps.{has}
 use Rattle.pages.specs.State.{PagesState}
 use Rattle.tree_walk.specs.Hashes.{CoversHeads}
-use Rattle.tree_walk.specs.Walks.{Visits, Knows, IsGoing}
+use Rattle.tree_walk.specs.Walks.{Visits, Knows, IsGoing, pages_before}
+use Rattle.tree_walk.proofs.Counting.{pages_more}
 use Rattle.tree_walk.proofs.Going.{goes_on}
 use Rattle.tree_walk.proofs.Hashing.{covers_visited}
 use Rattle.tree_walk.proofs.Seeing.{page_size, single}
@@ -35,6 +36,19 @@ returns-clause-goes g c = λ z seen going.
     let size = page_size z old sized.0 sized.1 seen in
     when_done (Visits object c.in_ok-visited.visited c.args.self.now c.take.new.self) (IsGoing z (has old.present) (c.args.place + 1) c.take.new.self) c.take.result
     (λ t. goes_on z size (has old.present) (single old.present) c.args.place object c.args.self.now c.in_ok-visited.visited c.take.new.self going at (c.in_ok-visited.ensures.leads z seen) t) c.take.ensures.takes
+
+pub returns-clause-asked : goal.returns-clause-asked
+returns-clause-asked g c = λ z seen going.
+    let old : PagesState = g.P.Pages.state c.args.pages.now in
+    let new : PagesState = g.P.Pages.state c.visit.new.pages in
+    let was = c.args.self.now in
+    let list = was.objects.items in
+    let object : ℕ = c.index-object.result.now in
+    let visited = c.in_ok-visited.visited in
+    let at : slice_get list c.args.place ≡ Some object = slice_get-get_or list c.args.place object c.requires.within ∙ ap Some (sym c.index-object.ensures) in
+    let few = c.in_ok-visited.ensures.asked z seen.size in
+    when_done (Visits object visited was c.take.new.self) (new.asked + pages_before z was c.args.place ≤ old.asked + pages_before z c.take.new.self (c.args.place + 1)) c.take.result
+    (λ t. let more = pages_more z c.args.place object was visited c.take.new.self going.once at t in omega (arith, more, few)) c.take.ensures.takes
 
 pub returns-clause-stops : goal.returns-clause-stops
 returns-clause-stops g c = λ z seen. result_lacks_memory (λ wrong. (o : ℕ) × (slice_get c.args.self.now.objects.items c.args.place ≡ Some o) × Finds z (has (g.P.Pages.state c.args.pages.now).present) o (Stops wrong)) (g.P.Pages.state c.visit.new.pages) c.take.result c.take.ensures.why

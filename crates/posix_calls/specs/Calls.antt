@@ -23,8 +23,7 @@ use Rattle.volume_terms.specs.Sizes.{Sizes}
 -- then for its reason; a mount shows the tree that it did, or what names keep of the objects before the command, and after
 -- a sync that. Where memory was refused the device has power. What only tells reads alone; so does every call of a read-only volume, which
 -- nothing stops but a device that is gone or not honest.
-pub record Replied {P : Type 0} (state : P → PagesState) (z : Sizes) (s : State) (old : PageVolume P) (command : Stamped) (reply : Reply) (new : PageVolume P) : Type 0 where
-  pub stops : is_stopped new ≡ is_stop reply
+pub record IsReplied {P : Type 0} (state : P → PagesState) (z : Sizes) (s : State) (old : PageVolume P) (command : Stamped) (reply : Reply) (new : PageVolume P) : Type 0 where
   pub reply_is : Replies z (is_read_only old) s command reply
   pub state_is : is_stop reply ≡ false → IsVolumeOf state z (after_one z (is_read_only old) s command reply) new
   pub tree : (tree : Objects) → Shown z (state (pages_of old)) tree → Shown z (state (pages_of new)) tree ⊎ Shown z (state (pages_of new)) (settled s.objects)
@@ -35,12 +34,18 @@ pub record Replied {P : Type 0} (state : P → PagesState) (z : Sizes) (s : Stat
   pub only_reads : is_read_only old ≡ true → OnlyReads (state (pages_of old)).device (state (pages_of new)).device
   pub only_failed : is_read_only old ≡ true → is_stop reply ≡ true → HasFailed (state (pages_of new)).device
 
+-- a volume goes on: its pages do, and it is read-only if it was
+pub record VolumeGoesOn {P : Type 0} (state : P → PagesState) (old new : PageVolume P) : Type 0 where
+  pub pages : GoesOn (state (pages_of old)) (state (pages_of new))
+  pub read_only : is_read_only new ≡ is_read_only old
+
 -- What makes no call of the device leaves it, and a reply other than EIO leaves its power. A volume that is stopped answers EIO and stays
--- as it is; another one replies from the state that it stands for.
-pub record Serves {P : Type 0} (state : P → PagesState) (old : PageVolume P) (command : Stamped) (reply : Reply) (new : PageVolume P) : Type 0 where
+-- as it is; another one is stopped by EIO alone, and replies from the state that it stands for.
+pub record IsCalled {P : Type 0} (state : P → PagesState) (old : PageVolume P) (command : Stamped) (reply : Reply) (new : PageVolume P) : Type 0 where
   pub goes_on : GoesOn (state (pages_of old)) (state (pages_of new))
   pub read_only : is_read_only new ≡ is_read_only old
   pub leaves : makes_no_call command.command ≡ true → (state (pages_of new)).device ≡ (state (pages_of old)).device
   pub keeps_power : is_stop reply ≡ false → (state (pages_of old)).device.gone ≡ false → (state (pages_of new)).device.gone ≡ false
   pub stopped : is_stopped old ≡ true → (reply ≡ replies.Error errors.EIO) × (new ≡ old)
-  pub replied : is_stopped old ≡ false → (z : Sizes) (s : State) → IsVolumeOf state z s old → Replied state z s old command reply new
+  pub stops : is_stopped old ≡ false → is_stopped new ≡ is_stop reply
+  pub replied : is_stopped old ≡ false → (z : Sizes) (s : State) → IsVolumeOf state z s old → IsReplied state z s old command reply new

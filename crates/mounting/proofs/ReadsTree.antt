@@ -1,0 +1,99 @@
+-- How many pages were read to see the tree of a device whose flash is sound.
+use Rattle.std.specs.Prelude.{◌≡◌, ℕ, true, Result, Ok, Err, IfOk}
+use Rattle.std.proofs.Common.{sym, ◌∙◌, ap, subst, arith}
+use Rattle.std.proofs.lemmas.Bool.{and_from}
+use Rattle.nand_model.specs.Flash.{Flash}
+use Rattle.nand_model.specs.Calls.{Device}
+use Rattle.nand_model.specs.Changes.{OnlyReads}
+use Rattle.nand_model.specs.declared.geometry.Geometry.{Geometry}
+use Rattle.posix_profile.specs.State.{Objects}
+use Rattle.flash_tree.specs.Mount.{Answer, Answers, IsWrong, IsDamaged, IsTreeOf, IsVolume, sizes_of}
+use Rattle.flash_tree.specs.Sound.{IsSoundFlash}
+use Rattle.flash_tree.specs.Tree.{Shows}
+use Rattle.flash_tree.specs.laws.Place.{same_flash}
+use Rattle.newest_pages.specs.Checked.{HasTrueFlash}
+use Rattle.checkpoint_reading.specs.Found.{ReadsFew}
+use Rattle.pages.specs.Maps.{PageMap, has}
+use Rattle.tree_table.specs.Looked.{looked_pages}
+use Rattle.tree_walk.specs.Trees.{IsTreeThrough, tree_pages}
+use Rattle.tree_walk.specs.declared.fault.RootFault.{RootFault}
+use Rattle.tree_walk.specs.declared.tree.Tree.{Tree}
+use Rattle.volume_terms.specs.Sizes.{Sizes, IsSizes}
+use Rattle.chunk_index.specs.declared.index.Index.{Index}
+use Rattle.mounting.specs.Mounted.{IsTreeShown}
+use Rattle.mounting.specs.Named.{IsTrustedSince}
+use Rattle.mounting.specs.Reads.{EndsMount, ReadsThrough, ReadsTree, ReadsByCheckpoint}
+use Rattle.mounting.proofs.Noting.{true_after}
+
+-- the laws that are used
+pub record ReadLaws : Type 0 where
+  pub sizes : (g : Geometry) (m : PageMap) (spare : ℕ) → IsVolume g (has m) spare → IsSizes (sizes_of g spare)
+  pub pages : (z : Sizes) (m : PageMap) (tree : Tree) (objects : Objects) → IsSizes z → IsTreeThrough z (has m) tree → Shows z (has m) objects → tree_pages z tree ≡ looked_pages z objects
+  pub one : (g : Geometry) (flash : Flash) (a b : Answer) → Answers g flash a → Answers g flash b → a ≡ b
+
+-- a device that was read since, and is trusted as its flash was true
+module _ (a b seen : Device) (since : IsTrustedSince a b seen) (is : HasTrueFlash a) where
+  geometry : seen.geometry ≡ a.geometry
+  geometry = ap (λ (d : Device). d.geometry) since.read.seen_is ∙ since.read.reads.lasts.geometry
+
+  flash : seen.flash ≡ a.flash
+  flash = ap (λ (d : Device). d.flash) since.read.seen_is ∙ same_flash a b since.read.reads is.0
+
+  pub honest_seen : seen.honest ≡ true
+  honest_seen = ap (λ (d : Device). d.honest) since.read.seen_is ∙ and_from _ _ (since.read.reads.lasts.honest ∙ is.0) (since.trusted is)
+
+  answers_before : (answer : Answer) → Answers seen.geometry seen.flash answer → Answers a.geometry a.flash answer
+  answers_before answer told = subst (λ (g : Geometry). Answers g a.flash answer) geometry (subst (λ (f : Flash). Answers seen.geometry f answer) flash told)
+
+  -- where its flash is sound it is not damaged
+  pub not_damaged : ReadLaws → (spare : ℕ) (objects : Objects) → IsSoundFlash a.geometry a.flash spare objects → Answers seen.geometry seen.flash (IsWrong IsDamaged) → ⊥
+  not_damaged laws spare objects sound told =
+      let two : IsTreeOf spare objects ≡ IsWrong IsDamaged = laws.one a.geometry a.flash _ _ (sound.volume, sound.shows, sound.room) (answers_before (IsWrong IsDamaged) told) in
+      cc
+
+  -- and the pages of a tree that was gone through are those that are looked up to see the flash's
+  pub reads_tree : ReadLaws → (x : Index) (spare : ℕ) (tree : Tree) (objects : Objects) → ReadsThrough a b spare tree → Answers seen.geometry seen.flash (IsTreeOf spare objects)
+      → IsTreeShown seen x spare tree objects → ReadsTree a b
+  reads_tree laws x spare tree objects few answers shown s other sound =
+      let on = shown.on in
+      let z : Sizes = sizes_of seen.geometry spare in
+      let pages : tree_pages z tree ≡ looked_pages z objects = laws.pages z on.pages tree objects (laws.sizes seen.geometry on.pages spare on.through.volume) on.through.tree_is shown.shows in
+      let here : tree_pages (sizes_of a.geometry spare) tree ≡ looked_pages (sizes_of a.geometry spare) objects =
+      subst (λ (g : Geometry). tree_pages (sizes_of g spare) tree ≡ looked_pages (sizes_of g spare) objects) geometry pages in
+      let same : IsTreeOf spare objects ≡ IsTreeOf s other = laws.one a.geometry a.flash _ _ (answers_before (IsTreeOf spare objects) answers) (sound.volume, sound.shows, sound.room) in
+      let spares : spare ≡ s = cc in
+      let trees : objects ≡ other = cc in
+      let moved : looked_pages (sizes_of a.geometry spare) objects ≡ looked_pages (sizes_of a.geometry s) other =
+      ap (λ n. looked_pages (sizes_of a.geometry n) objects) spares ∙ ap (λ (o : Objects). looked_pages (sizes_of a.geometry s) o) trees in
+      omega (arith, few, here, moved)
+
+-- a flash that is only read stays sound
+sound_after : (a b : Device) (spare : ℕ) (objects : Objects) → OnlyReads a b → a.honest ≡ true → IsSoundFlash a.geometry a.flash spare objects → IsSoundFlash b.geometry b.flash spare objects
+sound_after a b spare objects reads honest sound =
+    subst (λ (g : Geometry). IsSoundFlash g b.flash spare objects) (sym reads.lasts.geometry) (subst (λ (f : Flash). IsSoundFlash a.geometry f spare objects) (sym (same_flash a b reads honest)) sound)
+
+-- after the search for the checkpoint
+pub reads_by : (a b new : Device) → OnlyReads a b → ReadsFew a b → (HasTrueFlash b → ReadsTree b new) → ReadsByCheckpoint a new
+reads_by a b new reads few tree is c whole spare objects sound =
+    let here = sound_after a b spare objects reads is.0 sound in
+    let first = few is.0 is.1 c whole in
+    let then = tree (true_after a b reads is) spare objects here in
+    let same : looked_pages (sizes_of b.geometry spare) objects ≡ looked_pages (sizes_of a.geometry spare) objects = ap (λ (g : Geometry). looked_pages (sizes_of g spare) objects) reads.lasts.geometry in
+    omega (arith, first, then, same)
+
+-- where a scan would follow, no checkpoint was whole
+pub reads_none : (a b e new : Device) (fault : RootFault) → OnlyReads a b
+    → (HasTrueFlash b → (spare : ℕ) (tree : Objects) → IsSoundFlash b.geometry b.flash spare tree → EndsMount e fault) → (EndsMount e fault → ⊥) → ReadsByCheckpoint a new
+reads_none a b e new fault reads ends not is c whole spare objects sound = absurd (not (ends (true_after a b reads is) spare objects (sound_after a b spare objects reads is.0 sound)))
+
+-- a device that is trusted is read as it is
+pub reads_seen : (a b seen : Device) → IsTrustedSince a b seen → ReadsByCheckpoint a b → ReadsByCheckpoint a seen
+reads_seen a b seen since few is c whole spare objects sound =
+    let same : seen.reads ≡ b.reads = ap (λ (d : Device). d.reads) since.read.seen_is in
+    let less = few is c whole spare objects sound in
+    omega (arith, less, same)
+
+-- what is said of a result that cannot be
+pub ok_unless : {T E : Type 0} {P : T → Type 0} (r : Result T E) (A : Type 0) → (A → IfOk r (λ x. ⊥)) → ((x : T) → (A → ⊥) → P x) → IfOk r P
+ok_unless (Ok x) A never by = by x never
+ok_unless (Err e) A never by = tt

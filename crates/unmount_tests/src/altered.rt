@@ -1,0 +1,294 @@
+// Checkpoints that were altered, and flashes under them: a mount shows what a scan shows, changes nothing, and the volume goes on.
+
+use crate::devices::formatted;
+use crate::lines::{abandon, asked, mount, session, step_all, try_mount};
+use crate::search::{checkpoint_of, expect_entries, put, read};
+use flash_tree::Key;
+use nand_model::{MemNand, Nand};
+use page_tags::Tag;
+use plain_search::newest;
+use plain_tree::PlainTree;
+use std::alloc::Global;
+use std::process::Abort;
+use std::test::Fail;
+use volume_terms::VolumeSizes;
+
+/// Another byte at a place of a page of the checkpoint, or of its tag.
+#[derive(Clone, Copy)]
+enum Patch {
+    Byte(u32, usize, u8),
+    TagByte(u32, usize, u8),
+    /// So many bytes of the first page, at these two places, are exchanged.
+    Exchanged(usize, usize, usize),
+    /// Nothing is written in the page.
+    Erased(u32),
+}
+
+use Patch::{Byte, Erased, Exchanged, TagByte};
+
+/// Of a checkpoint of 17 entries in two pages: the headers of the root, of `/a`, of the file in it and of `/b` are entries 0, 3, 5
+/// and 16; the slots of the root are 1 and 2, that of `/a` is 4; the ten chunks of the file are 6 to 15. Entry 15 is the first of
+/// the second page.
+const REFUSED: [&[Patch]; 27] = [
+    // The tags: a count above the pages of a block, index 1, chunk 2, a version below the group, another object.
+    &[TagByte(0, 4, 33), TagByte(1, 4, 33)],
+    &[TagByte(0, 0, 1)],
+    &[TagByte(0, 16, 2)],
+    &[TagByte(0, 24, 1), TagByte(1, 24, 1)],
+    &[TagByte(1, 24, 1)],
+    &[TagByte(0, 8, 0xfe)],
+    &[TagByte(1, 8, 0xfe)],
+    // The group lacks a page.
+    &[Erased(0)],
+    &[Erased(1)],
+    // The head: its first byte, its version, zeros, and the number of entries.
+    &[Byte(0, 0, b'M')],
+    &[Byte(0, 4, 2)],
+    &[Byte(0, 5, 1)],
+    &[Byte(0, 31, 1)],
+    &[Byte(0, 8, 16)],
+    &[Byte(0, 8, 18)],
+    // A byte after the last entry.
+    &[Byte(1, 64, 1)],
+    &[Byte(1, 511, 1)],
+    // Two entries are exchanged, and the places of two slots.
+    &[Exchanged(32, 64, 32)],
+    &[Exchanged(88, 120, 8)],
+    // The entry of the root's header: a block and a page out of range, the checkpoint's own block, object 0, version 0, the version
+    // of the header that the format wrote, and one above the group.
+    &[Byte(0, 56, 8)],
+    &[Byte(0, 60, 32)],
+    &[Byte(0, 56, 3)],
+    &[Byte(0, 32, 0)],
+    &[Byte(0, 48, 0)],
+    &[Byte(0, 48, 1)],
+    &[Byte(0, 48, 0xff)],
+    // The last chunk of the file is not listed, but one after it.
+    &[Byte(1, 8, 11)],
+];
+
+/// Nothing, and an entry too many, of an object that nothing names: it is dropped.
+const TAKEN: [&[Patch]; 2] = [&[], &[Byte(0, 8, 18), Byte(1, 64, 9), Byte(1, 80, 1)]];
+
+/// A device with such a checkpoint in block 3, and its tree. The format took block 0, the first session block 1, and block 2 for a
+/// checkpoint, which the second session took for its pages.
+fn device(rt: &impl Abort, alloc: Global) -> Result<MemNand, Fail> {
+    let bytes = "x".repeat(alloc, 2560)?;
+    let lines = format!(in alloc; "mkdir /a\nopen /a/f wc\nwrite 0 {bytes}\nwrite 0 {bytes}")?;
+    let nand = formatted(alloc, 8, 1)?;
+    let nand = session(
+        rt,
+        alloc,
+        nand,
+        &lines,
+        "ok\nfd 0\nwrote 2560\nwrote 2560\n",
+    )?;
+    let mut nand = session(rt, alloc, nand, "mkdir /b", "ok\n")?;
+    expect_entries(rt, alloc, &mut nand, 17)?;
+    let found = checkpoint_of(&mut nand)?.ok_or("no checkpoint")?;
+    assert_eq!(rt; (found.block, found.page, found.tag.count), (3, 0, 2));
+    Ok(nand)
+}
+
+fn set(bytes: &mut [u8], at: usize, byte: u8) {
+    if let Some(to) = bytes.get_mut(at) {
+        *to = byte;
+    }
+}
+
+/// Exchanges so many bytes at two places.
+fn exchange(bytes: &mut [u8], one: usize, other: usize, count: usize) -> Result<(), Fail> {
+    for number in 0..count {
+        let (one, other) = (one.saturating_add(number), other.saturating_add(number));
+        let first = bytes.get(one).copied().ok_or("no such byte")?;
+        let second = bytes.get(other).copied().ok_or("no such byte")?;
+        set(bytes, one, second);
+        set(bytes, other, first);
+    }
+    Ok(())
+}
+
+/// Alters the checkpoint in block 3.
+fn alter(alloc: Global, nand: &mut MemNand, patch: Patch) -> Result<(), Fail> {
+    let page = match patch {
+        Byte(page, _, _) => page,
+        TagByte(page, _, _) => page,
+        Exchanged(_, _, _) => 0,
+        Erased(page) => page,
+    };
+    let mut bytes = Vec::new(alloc);
+    let mut tag = read(nand, 3, page, &mut bytes)?;
+    match patch {
+        Byte(_, at, byte) => set(&mut bytes, at, byte),
+        TagByte(_, at, byte) => set(&mut tag, at, byte),
+        Exchanged(one, other, count) => exchange(&mut bytes, one, other, count)?,
+        Erased(_) => bytes.clear(),
+    }
+    put(nand, 3, page, &bytes, &tag)
+}
+
+/// How a mount goes, of a device with a checkpoint in block 3.
+#[derive(Clone, Copy, Debug, PartialEq, Eq)]
+enum Way {
+    Checkpoint,
+    Scan,
+}
+
+/// That a mount goes this way and changes nothing.
+fn expect_way(
+    rt: &impl Abort,
+    alloc: Global,
+    mut nand: MemNand,
+    way: Way,
+) -> Result<MemNand, Fail> {
+    nand.power_up();
+    let nand = match try_mount(alloc, nand) {
+        Ok(volume) => abandon(volume),
+        Err((nand, _fault)) => nand,
+    };
+    assert_eq!(rt; nand.changes(), 0);
+    // Eight tags, two pages of the checkpoint and seven of the tree; or each tag.
+    let told = if nand.calls() == 17 {
+        Way::Checkpoint
+    } else {
+        Way::Scan
+    };
+    assert_eq!(rt; told, way);
+    assert!(rt; way == Way::Checkpoint || nand.calls() > 224);
+    Ok(nand)
+}
+
+/// The device without its checkpoint.
+fn bare(nand: &MemNand) -> Result<MemNand, Fail> {
+    let mut nand = nand.copy()?;
+    for page in 0..2 {
+        put(&mut nand, 3, page, &[], &[0; 48])?;
+    }
+    Ok(nand)
+}
+
+/// That the volume of a device goes on, with this tree.
+fn expect_going(
+    rt: &impl Abort,
+    alloc: Global,
+    nand: MemNand,
+    mut tree: PlainTree,
+) -> Result<(), Fail> {
+    step_all(alloc, &mut tree, "mkdir /z")?;
+    let nand = session(rt, alloc, nand, "mkdir /z", "ok\n")?;
+    let mut volume = mount(alloc, nand)?;
+    assert!(rt; tree.same(&mut volume)?);
+    Ok(())
+}
+
+/// That a mount of a device goes this way and shows what a mount does where the checkpoint is not there, and that the volume goes on.
+fn expect_same(rt: &impl Abort, alloc: Global, nand: MemNand, way: Way) -> Result<(), Fail> {
+    let nand = expect_way(rt, alloc, nand, way)?;
+    match (try_mount(alloc, bare(&nand)?), try_mount(alloc, nand)) {
+        (Ok(mut scanned), Ok(mut volume)) => {
+            let tree = PlainTree::read_from(alloc, VolumeSizes::new(512, 32, 8, 1), &mut scanned)?;
+            assert!(rt; tree.same(&mut volume)?);
+            expect_going(rt, alloc, abandon(volume), tree)
+        }
+        (Err((_scanned, wanted)), Err((_nand, fault))) => {
+            assert_eq!(rt; fault, wanted);
+            Ok(())
+        }
+        _ => Err("the other answer".into()),
+    }
+}
+
+/// A copy of a device whose checkpoint is altered so.
+fn altered(alloc: Global, nand: &MemNand, patches: &[Patch]) -> Result<MemNand, Fail> {
+    let mut nand = nand.copy()?;
+    for patch in patches {
+        alter(alloc, &mut nand, *patch)?;
+    }
+    Ok(nand)
+}
+
+#[test]
+fn a_mount_by_an_altered_checkpoint_is_that_of_a_scan(rt: HostRuntime) -> Result<(), Fail> {
+    let alloc = rt.alloc();
+    let whole = device(&rt, alloc)?;
+    for patches in REFUSED {
+        let nand = altered(alloc, &whole, patches)?;
+        expect_same(&rt, alloc, nand, Way::Scan)?;
+    }
+    for patches in TAKEN {
+        let nand = altered(alloc, &whole, patches)?;
+        expect_same(&rt, alloc, nand, Way::Checkpoint)?;
+    }
+    Ok(())
+}
+
+/// Puts a copy of the first page of the checkpoint into block 7, with a number that is so much greater.
+fn add_candidate(alloc: Global, nand: &mut MemNand, more: i8) -> Result<(), Fail> {
+    let mut bytes = Vec::new(alloc);
+    let tag = Tag::decode(&read(nand, 3, 0, &mut bytes)?).ok_or("no tag")?;
+    let seq = tag.seq.saturating_add_signed(i64::from(more));
+    put(nand, 7, 0, &bytes, &Tag { seq, ..tag }.encode())
+}
+
+fn mark(nand: &mut MemNand, block: u32) -> Result<(), Fail> {
+    if block >= nand.geometry().blocks() {
+        return Err("no such block".into());
+    }
+    nand.put_mark(block);
+    Ok(())
+}
+
+/// A candidate with a greater number is read in place of the checkpoint, and is not whole; one with a lesser number is not read.
+#[test]
+fn the_candidate_with_the_greatest_number_is_read(rt: HostRuntime) -> Result<(), Fail> {
+    let alloc = rt.alloc();
+    let whole = device(&rt, alloc)?;
+    for (more, way) in [(1i8, Way::Scan), (-1, Way::Checkpoint)] {
+        let mut nand = whole.copy()?;
+        add_candidate(alloc, &mut nand, more)?;
+        expect_same(&rt, alloc, nand, way)?;
+    }
+    Ok(())
+}
+
+/// An entry does not lead into a bad block, be it another than before or the same, nor is a checkpoint in one.
+#[test]
+fn a_block_of_a_checkpoint_is_bad(rt: HostRuntime) -> Result<(), Fail> {
+    let alloc = rt.alloc();
+    let whole = device(&rt, alloc)?;
+    let mut nand = altered(alloc, &whole, &[Byte(0, 56, 7)])?;
+    mark(&mut nand, 7)?;
+    expect_same(&rt, alloc, nand, Way::Scan)?;
+    for block in [1, 2, 3] {
+        let mut nand = whole.copy()?;
+        mark(&mut nand, block)?;
+        expect_same(&rt, alloc, nand, Way::Scan)?;
+    }
+    Ok(())
+}
+
+/// Erases the newest page of a key.
+fn erase_newest(nand: &mut MemNand, object: u64, chunk: u64) -> Result<(), Fail> {
+    let found = newest(nand, Key { object, chunk })?.ok_or("no page")?;
+    put(nand, found.block, found.page, &[], &[0; 48])
+}
+
+/// A kept page of the tree is erased: the header of the root, of a directory and of a file, and entries of a directory. A page of a
+/// file is not read by the mount; its loss is told where it is read.
+#[test]
+fn a_kept_page_is_erased(rt: HostRuntime) -> Result<(), Fail> {
+    let alloc = rt.alloc();
+    let whole = device(&rt, alloc)?;
+    for (object, chunk) in [(1, 0), (1, 1), (1, 2), (2, 0), (2, 1), (3, 0), (4, 0)] {
+        let mut nand = whole.copy()?;
+        erase_newest(&mut nand, object, chunk)?;
+        expect_same(&rt, alloc, nand, Way::Scan)?;
+    }
+    let mut nand = whole;
+    erase_newest(&mut nand, 3, 4)?;
+    let nand = expect_way(&rt, alloc, nand, Way::Checkpoint)?;
+    let lines = "open /a/f r\nread 0 3\nseek 0 1536 set\nread 0 3\nlist /";
+    let replies = "fd 0\ndata 3 xxx\nat 1536\nerror EIO\nerror EIO\n";
+    let _volume = asked(&rt, alloc, nand, lines, replies)?;
+    Ok(())
+}

@@ -1,0 +1,191 @@
+// Unmounts that write no checkpoint, beside those that just write one.
+
+use crate::devices::formatted;
+use crate::lines::{abandon, lost_session, mount, session, told, unmount};
+use crate::search::{checkpoint_of, put};
+use flash_tree::Key;
+use nand_model::{MemNand, Nand};
+use page_tags::Tag;
+use plain_search::newest;
+use std::alloc::Global;
+use std::process::Abort;
+use std::test::Fail;
+
+/// Lines that make a file of so many pages.
+fn filling(alloc: Global, pages: usize) -> Result<String, Fail> {
+    let mut lines = String::new(alloc);
+    lines.push_str("open /f wc\n")?;
+    for part in 0..pages.div_ceil(5) {
+        let left = pages.saturating_sub(part.saturating_mul(5));
+        let bytes = "x".repeat(alloc, left.min(5).saturating_mul(512))?;
+        lines.push_str("write 0 ")?;
+        lines.push_str(&bytes)?;
+        lines.push_str("\n")?;
+    }
+    lines.push_str("sync\n")?;
+    Ok(lines)
+}
+
+/// A device of so many blocks with a file of so many pages, as if power were lost after a sync.
+fn filled(alloc: Global, blocks: u32, pages: usize) -> Result<MemNand, Fail> {
+    let mut volume = mount(alloc, formatted(alloc, blocks, 1)?)?;
+    let told = told(alloc, &mut volume, &filling(alloc, pages)?)?;
+    if !told.ends_with(b"\nok\n") {
+        return Err("the file was not written".into());
+    }
+    Ok(abandon(volume))
+}
+
+/// The changes of an unmount right after a mount, with the device.
+fn unmounted(rt: &impl Abort, alloc: Global, nand: MemNand) -> Result<(u64, MemNand), Fail> {
+    let (nand, is_done) = unmount(mount(alloc, nand)?);
+    assert!(rt; is_done);
+    Ok((nand.changes(), nand))
+}
+
+/// A file of 508 pages has with its header, its slot and that of the root 511 keys: with the head 512 parts of 32 bytes, which are
+/// 32 pages of 512 bytes. A page more does not fit into a block of 32 pages.
+#[test]
+fn a_checkpoint_fits_into_a_block(rt: HostRuntime) -> Result<(), Fail> {
+    let alloc = rt.alloc();
+    let (changes, nand) = unmounted(&rt, alloc, filled(alloc, 28, 508)?)?;
+    assert_eq!(rt; changes, 1 + 32);
+    let nand = abandon(mount(alloc, nand)?);
+    assert_eq!(rt; nand.calls(), 28 + 32 + 3);
+    let (changes, mut nand) = unmounted(&rt, alloc, filled(alloc, 28, 509)?)?;
+    assert_eq!(rt; (changes, checkpoint_of(&mut nand)?), (0, None));
+    let _ = lost_session(&rt, alloc, nand, "stat /f", "info file 2 1 260608 0\n")?;
+    Ok(())
+}
+
+/// Which of eight blocks hold a newest page of the root, its slot, and a file of so many pages.
+fn used(nand: &mut MemNand, pages: u64) -> Result<[bool; 8], Fail> {
+    let mut blocks = [false; 8];
+    for number in 0..pages.saturating_add(3) {
+        let (object, chunk) = match number {
+            0 | 1 => (1, number),
+            _ => (2, number - 2),
+        };
+        let found = newest(nand, Key { object, chunk })?.ok_or("no page")?;
+        if let Some(block) = blocks.get_mut(found.block as usize) {
+            *block = true;
+        }
+    }
+    Ok(blocks)
+}
+
+/// The number of blocks that are free, and the last of them.
+fn free(blocks: &[bool; 8]) -> (u32, u32) {
+    let mut free = (0u32, 0);
+    for block in 0..8u32 {
+        if blocks.get(block as usize) == Some(&false) {
+            free = (free.0.saturating_add(1), block);
+        }
+    }
+    free
+}
+
+/// A volume of a file of so many pages, after one of them was written once more.
+fn rewritten(rt: &impl Abort, alloc: Global, pages: usize) -> Result<MemNand, Fail> {
+    let nand = filled(alloc, 8, pages)?;
+    let lines = "open /f rw\nwrite 0 y\nsync";
+    lost_session(rt, alloc, nand, lines, "fd 0\nwrote 1\nok\n")
+}
+
+/// That an unmount of it makes so many changes, also where one of the free blocks is bad, and loses nothing.
+fn expect_changes(
+    rt: &impl Abort,
+    alloc: Global,
+    mut nand: MemNand,
+    pages: u64,
+    wanted: u64,
+    stat: &str,
+) -> Result<(), Fail> {
+    let (count, block) = free(&used(&mut nand, pages)?);
+    assert_eq!(rt; count > 2, wanted > 0, "{count}");
+    let mut worn = nand.copy()?;
+    assert!(rt; block < worn.geometry().blocks());
+    worn.put_mark(block);
+    for nand in [nand, worn] {
+        let (changes, nand) = unmounted(rt, alloc, nand)?;
+        assert_eq!(rt; changes, wanted, "{count}");
+        let _ = lost_session(rt, alloc, nand, "stat /f", stat)?;
+    }
+    Ok(())
+}
+
+/// A file of 100 pages leaves more than two blocks free, and has 103 keys: the checkpoint takes seven pages, and an erase. Of
+/// one of 141 pages two blocks are left, and no checkpoint is written. A bad block is one less that has to be free.
+#[test]
+fn a_checkpoint_leaves_two_blocks_free(rt: HostRuntime) -> Result<(), Fail> {
+    let alloc = rt.alloc();
+    let nand = rewritten(&rt, alloc, 100)?;
+    expect_changes(&rt, alloc, nand, 100, 8, "info file 2 1 51200 0\n")?;
+    let nand = rewritten(&rt, alloc, 141)?;
+    expect_changes(&rt, alloc, nand, 141, 0, "info file 2 1 72192 0\n")
+}
+
+/// Marks the last two blocks of eight.
+fn worn(mut nand: MemNand) -> Result<MemNand, Fail> {
+    if nand.geometry().blocks() != 8 {
+        return Err("other blocks".into());
+    }
+    nand.put_mark(6);
+    nand.put_mark(7);
+    Ok(nand)
+}
+
+/// A volume with more bad blocks than there are to spare is only read, with a checkpoint and without.
+#[test]
+fn a_read_only_volume_writes_no_checkpoint(rt: HostRuntime) -> Result<(), Fail> {
+    let alloc = rt.alloc();
+    let lost = lost_session(
+        &rt,
+        alloc,
+        formatted(alloc, 8, 1)?,
+        "mkdir /a\nsync",
+        "ok\nok\n",
+    )?;
+    let ended = session(&rt, alloc, lost.copy()?, "list /", "names 1 a\n")?;
+    assert_eq!(rt; ended.changes(), 2);
+    for (nand, calls) in [(worn(ended)?, 10), (worn(lost)?, 6 + 6 * 32 + 3)] {
+        let (changes, nand) = unmounted(&rt, alloc, nand)?;
+        assert_eq!(rt; (nand.calls(), changes), (calls, 0));
+        let lines = "mkdir /b\nlist /";
+        let nand = session(&rt, alloc, nand, lines, "error EROFS\nnames 1 a\n")?;
+        assert_eq!(rt; nand.changes(), 0);
+    }
+    Ok(())
+}
+
+/// The root of a volume without names, whose only page has this number.
+fn rooted(alloc: Global, number: u64) -> Result<MemNand, Fail> {
+    let mut nand = formatted(alloc, 8, 1)?;
+    let mut header = [0; 512];
+    header[..7].copy_from_slice(b"NLFS\x02\x02\x01");
+    let tag = Tag {
+        index: 0,
+        count: 1,
+        object: 1,
+        chunk: 0,
+        version: number,
+        group: number,
+        seq: number,
+    };
+    put(&mut nand, 0, 0, &header, &tag.encode())?;
+    Ok(nand)
+}
+
+/// The last number is 2^62 - 1: it is left for a checkpoint, or not.
+#[test]
+fn a_checkpoint_needs_a_number(rt: HostRuntime) -> Result<(), Fail> {
+    let alloc = rt.alloc();
+    for (number, changes, calls) in [((1 << 62) - 3, 6, 12), ((1 << 62) - 2, 4, 8 + 256 + 3)] {
+        let nand = session(&rt, alloc, rooted(alloc, number)?, "mkdir /a", "ok\n")?;
+        assert_eq!(rt; nand.changes(), changes);
+        let nand = abandon(mount(alloc, nand)?);
+        assert_eq!(rt; nand.calls(), calls);
+        let _ = lost_session(&rt, alloc, nand, "list /", "names 1 a\n")?;
+    }
+    Ok(())
+}

@@ -1,5 +1,5 @@
 // The telling of copies to the index.
-ghost use Rattle.std.specs.Prelude.{◌≡◌, ◌≢◌, ◌<◌, ◌≤◌, ◌^◌, ℕ, length};
+ghost use Rattle.std.specs.Prelude.{◌≡◌, ◌≢◌, ◌<◌, ◌≤◌, ℕ, length};
 ghost use Rattle.block_state.specs.TableOf.{table};
 ghost use Rattle.chunk_index.specs.Maps.{kept_pages, CountsAgree};
 ghost use Rattle.bad_blocks.specs.Lists.{ListsKept};
@@ -13,7 +13,7 @@ use transactions::CopyOf;
 pub(crate) fn tell_copies(index: &mut Index, blocks: &mut Blocks, copies: &[CopyOf], block: u32)
     requires within { block < (table blocks.old).geometry.blocks }
     requires agree { CountsAgree (table blocks.old) index.old }
-    requires few { length copies.now < 2 ^ 32 }
+    requires few { length copies.now ≤ (table blocks.old).geometry.pages }
     requires listed { (v : ℕ) × ListsKept v (kept_pages index.old) copies.now × (v ≢ block) }
     ensures agree { CountsAgree (table blocks.new) index.new }
     ensures tells { (v : ℕ) → ListsKept v (kept_pages index.old) copies.now → v ≢ block

@@ -8,10 +8,10 @@ use Rattle.flash_tree.specs.declared.place.Found.{Found}
 use Rattle.found_pages.specs.Keys.{HaveOtherKeys}
 use Rattle.found_pages.specs.Listed.{IsPartAt}
 use Rattle.chunk_index.specs.declared.form.KeptKey.{KeptKey}
-use Rattle.chunk_index.specs.Adding.{found_key, AreOfOtherKeys, AreWithin, AreAbsent, AddsFirst}
+use Rattle.chunk_index.specs.Adding.{found_key, AreOfOtherKeys, AreInPages, AreWithin, AreAbsent, AddsFirst}
 use Rattle.chunk_index.specs.Entries.{kept_at}
 use Rattle.chunk_index.specs.Found.{HasPages}
-use Rattle.chunk_index.specs.Newest.{page_of, IsFoundOf, LieWithin}
+use Rattle.chunk_index.specs.Newest.{page_of, IsFoundOf, LieInPages, LieWithin}
 use Rattle.chunk_index.specs.Shelves.{ObjectMap, look, Differs}
 use Rattle.chunk_index.proofs.Adding.{mapped, mapped_from}
 
@@ -50,6 +50,13 @@ module _ (fs : List Found) (n : ℕ) (part : List Found) (at : IsPartAt fs n par
       let less = slice_get_within part i one.0 one.1 in
       let lies : one.0.block < blocks = subst (λ (f : Found). f.block < blocks) (there i one.0 one.0 one.1) (within (n + i) one.0 (omega (arith, less, at.within))) in
       subst (λ (g : KeptKey). g.at.block < blocks) one.2 lies
+
+  pub part_in_pages : (pages : ℕ) → LieInPages pages fs → AreInPages pages (map found_key part)
+  part_in_pages pages within i k is =
+      let one = mapped_from found_key part i k is in
+      let less = slice_get_within part i one.0 one.1 in
+      let lies : one.0.page < pages = subst (λ (f : Found). f.page < pages) (there i one.0 one.0 one.1) (within (n + i) one.0 (omega (arith, less, at.within))) in
+      subst (λ (g : KeptKey). g.at.page < pages) one.2 lies
 
   module _ (old : ObjectMap) (once : AllPairs HaveOtherKeys fs) (has : HasPages fs n old) where
     -- no page before the part is of the key of one in it

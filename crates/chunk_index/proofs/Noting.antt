@@ -115,7 +115,7 @@ may_after g P m n t u may was = record {
   block = subst (λ (x : _). g.block < x.blocks) (sym was.counts.geometry) may.block;
   fits = λ o c i is. elim (was.each o c) [
     | inl done ↦ absurd (settled_not_buffered g (look m o c) i (sym (ap present_of done) ∙ is))
-    | inr (same, none) ↦ may.fits o c i (sym (ap present_of same) ∙ is)
+    | inr (same, none) ↦ subst (λ (x : _). g.first + i < x.pages) (sym was.counts.geometry) (may.fits o c i (sym (ap present_of same) ∙ is))
   ];
   tallies = was.tallies;
 }

@@ -34,7 +34,7 @@ settled_same g (Some e) same = go e.state refl where
   go states.Vacant is = absurd (false≢true (rw is at same))
 
 -- the page that an entry shows has its number
-pub has_page : (g : WrittenGroup) (e : KeyEntry) → ((i : ℕ) → present_by e.kept e.state ≡ presents.InBuffer i → g.first + i < 4294967296) → HasPage g e.state
+pub has_page : (g : WrittenGroup) (e : KeyEntry) → ((i : ℕ) → present_by e.kept e.state ≡ presents.InBuffer i → g.first + i < 256) → HasPage g e.state
 has_page g e fits = go e.state refl where
   go : (s : State) → e.state ≡ s → HasPage g s
   go states.Same is = tt
@@ -58,7 +58,7 @@ module _ (g : WrittenGroup) (m : ObjectMap) (o c : ℕ) (e : KeyEntry) (is : loo
   pub settled_room : (t : Table) → Tallies t m → (size : ℕ) → total (λ (x : KeyEntry). 1) m ≡ size → size < 4294967296 → HasRoom t (one_at e.kept) 1
   settled_room t tallies size counted few = subst (λ v. HasRoom t (one_at (kept_of v)) 1) is (room_for t m o c tallies (rw is refl) size counted few)
 
-  pub settled_page : (fits : (i : ℕ) → present_of (look m o c) ≡ presents.InBuffer i → g.first + i < 4294967296) → HasPage g e.state
+  pub settled_page : (fits : (i : ℕ) → present_of (look m o c) ≡ presents.InBuffer i → g.first + i < 256) → HasPage g e.state
   settled_page fits = has_page g e (λ i shown. fits i (ap present_of is ∙ shown))
 
 -- the place of a settled page lies on the device

@@ -27,6 +27,10 @@ AreOfOtherKeys ks = (i j : ℕ) (k l : KeptKey) → i < j → slice_get ks i ≡
 abbrev pub AreWithin : ℕ → List KeptKey → Type 0
 AreWithin blocks ks = (i : ℕ) (k : KeptKey) → slice_get ks i ≡ Some k → k.at.block < blocks
 
+-- each page is one of so many of its block
+abbrev pub AreInPages : ℕ → List KeptKey → Type 0
+AreInPages pages ks = (i : ℕ) (k : KeptKey) → slice_get ks i ≡ Some k → k.at.page < pages
+
 -- the key of none of the pages has an entry
 abbrev pub AreAbsent : List KeptKey → ObjectMap → Type 0
 AreAbsent ks m = (i : ℕ) (k : KeptKey) → slice_get ks i ≡ Some k → look m k.key.object k.key.chunk ≡ None

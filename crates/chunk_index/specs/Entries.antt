@@ -126,13 +126,24 @@ abbrev pub IsLastBelow : List KeyEntry → Option ℕ → Option KeyEntry → Ty
 IsLastBelow es bound None = (l : ℕ) → IsBelow l bound → find_by chunk es l ≡ None
 IsLastBelow es bound (Some e) = (find_by chunk es (chunk e) ≡ Some e) × IsBelow (chunk e) bound × ((l : ℕ) → chunk e < l → IsBelow l bound → find_by chunk es l ≡ None)
 
--- each page of the buffer has a number for its page on the flash, from the group's first on
+-- each page of the buffer has a page of 8 bits on the flash, from the group's first on, as each page of a block has
 abbrev pub HasPage : WrittenGroup → State → Type 0
-HasPage g (states.Buffered i) = g.first + i < 4294967296
+HasPage g (states.Buffered i) = g.first + i < 256
 HasPage g states.Same = Unit {0}
 HasPage g states.Dropped = Unit {0}
 HasPage g states.Vacant = Unit {0}
 
--- the block of a kept page has 16 bits, as each block of a device does
-abbrev pub HasSmallBlock : Option KeptPage → Type 0
-HasSmallBlock p = IfSome p (λ (q : KeptPage). q.block < 65536)
+-- a kept page lies in a block below 65535 at a page of 8 bits, as each page of a device does
+abbrev pub IsSmallPage : Option KeptPage → Type 0
+IsSmallPage p = IfSome p (λ (q : KeptPage). (q.block < 65535) × (q.page < 256))
+
+-- a page of the buffer has a number below 253, as each of a quarter of a block does
+abbrev pub IsSmallState : State → Type 0
+IsSmallState (states.Buffered i) = i < 253
+IsSmallState states.Same = Unit {0}
+IsSmallState states.Dropped = Unit {0}
+IsSmallState states.Vacant = Unit {0}
+
+-- the entry has room in 20 bytes: its kept page and its state are small
+abbrev pub IsSmall : KeyEntry → Type 0
+IsSmall e = IsSmallPage e.kept × IsSmallState e.state

@@ -100,9 +100,9 @@ pub record Settles (g : WrittenGroup) (old new : Index) : Type 0 where
   pub presents : (o c : ℕ) → present new o c ≡ as_kept (kept_pages new o c)
   pub ready : (o c : ℕ) → IsReadyKey old o c → IsReadyKey new o c
 
--- each page of the buffer has a number for its page on the flash
-abbrev pub Fits : WrittenGroup → Index → Type 0
-Fits g x = (o c i : ℕ) → present x o c ≡ presents.InBuffer i → g.first + i < 4294967296
+-- each page of the buffer lies in a block of so many pages
+abbrev pub Fits : ℕ → WrittenGroup → Index → Type 0
+Fits pages g x = (o c i : ℕ) → present x o c ≡ presents.InBuffer i → g.first + i < pages
 
 -- The keys that stay are kept, present, prepared and ready as they were, and of all others nothing is kept or present.
 pub record Retains (keeps : ℕ → ℕ → Bool) (old new : Index) : Type 0 where

@@ -18,6 +18,10 @@ IsFoundOf o c f = (f.tag.object ≡ o) × (f.tag.chunk ≡ c)
 abbrev pub LieWithin : ℕ → List Found → Type 0
 LieWithin blocks fs = (i : ℕ) (d : Found) → i < length fs → (get_or fs i d).block < blocks
 
+-- each page is one of so many of its block
+abbrev pub LieInPages : ℕ → List Found → Type 0
+LieInPages pages fs = (i : ℕ) (d : Found) → i < length fs → (get_or fs i d).page < pages
+
 -- The first n of the pages are kept and present, each where it lies in its version, and no key that none of them is of.
 pub record Indexes (fs : List Found) (n : ℕ) (x : Index) : Type 0 where
   pub kept_here : (i : ℕ) (d : Found) → i < n → kept_pages x (get_or fs i d).tag.object (get_or fs i d).tag.chunk ≡ Some (page_of (get_or fs i d))

@@ -1,12 +1,24 @@
 -- What a packed entry means.
-use Rattle.chunk_index.specs.Halves.{joined, kept_if, state_with}
+use Rattle.std.specs.Prelude.{ℕ, ◌==◌, if◌then◌else◌, Option, Some, None}
+use Rattle.chunk_index.specs.Halves.{joined}
+use Rattle.chunk_index.specs.declared.form.KeptPage.{KeptPage}
+use Rattle.chunk_index.specs.declared.entry.State.{State}
+use Rattle.chunk_index.specs.declared.entry.State.TheVariants as states
 use Rattle.chunk_index.specs.declared.entry.KeyEntry.{KeyEntry}
 use Rattle.chunk_index.specs.declared.packed.PackedEntry.TheInside.{Inside}
+
+-- the page, if it is in a block
+abbrev pub kept_from : KeptPage → Option KeptPage
+kept_from p = if p.block == 65535 then None else Some p
+
+-- the state that has the number
+abbrev pub state_from : ℕ → State
+state_from n = if n == 255 then states.Same else (if n == 254 then states.Dropped else (if n == 253 then states.Vacant else states.Buffered n))
 
 -- the entry that is packed
 abbrev pub unpacked : Inside → KeyEntry
 unpacked a = record {
   chunk = joined a.chunk_low a.chunk_high;
-  kept = kept_if a.is_kept (record { block = a.block; page = a.page; version = joined a.version_low a.version_high });
-  state = state_with a.state a.number;
+  kept = kept_from (record { block = a.block; page = a.page; version = joined a.version_low a.version_high });
+  state = state_from a.number;
 }

@@ -8,10 +8,10 @@ use Rattle.chunk_index.specs.Entries.{settled, present_of, counted_at}
 use Rattle.chunk_index.specs.Shelves.{ObjectMap, look, total}
 use Rattle.chunk_index.specs.Counts.{Recounts, Tallies}
 
--- The group lies on the device, each page of the buffer has a number in it, and the blocks count what is kept.
+-- The group's block and each page of the buffer lie on the device, and the blocks count what is kept.
 pub record MaySettle (g : WrittenGroup) (m : ObjectMap) (t : Table) : Type 0 where
   pub block : g.block < t.geometry.blocks
-  pub fits : (o c i : ℕ) → present_of (look m o c) ≡ presents.InBuffer i → g.first + i < 4294967296
+  pub fits : (o c i : ℕ) → present_of (look m o c) ≡ presents.InBuffer i → g.first + i < t.geometry.pages
   pub tallies : Tallies t m
 
 -- Each key that is meant is settled, each other one is settled or stays as it was, and the blocks count what is kept then.

@@ -1,6 +1,6 @@
 // Keys that are no longer present, whole objects and ends of objects.
 ghost use Rattle.std.specs.Prelude.{◌≡◌, ◌⊎◌, ◌≢◌, ◌<◌, ℕ, Some, IfSome};
-ghost use Rattle.chunk_index.specs.Entries.{HasSmallBlock};
+ghost use Rattle.chunk_index.specs.Entries.{IsSmall};
 ghost use Rattle.chunk_index.specs.Noted.{IsNoted};
 ghost use Rattle.chunk_index.specs.Shelves.{look, Differs, IsLastFrom};
 ghost use Rattle.chunk_index.specs.Maps.{IsReadyKey, StaysPrepared, SameKept, Places, Cuts};
@@ -48,7 +48,7 @@ impl Index {
     /// A key that is noted is no longer present.
     fn drop_entry(&mut self, key: Key, entry: KeyEntry)
         requires entry { look self.old.shelf.objects key.object key.chunk ≡ Some entry }
-        requires block { HasSmallBlock entry.kept }
+        requires small { IsSmall entry }
         requires noted { ∥ IsNoted self.old.changes key.object key.chunk ∥₁ }
         ensures places { Places key.object key.chunk forms.Dropped self.old self.new }
         ensures kept { SameKept self.old self.new }
@@ -68,7 +68,7 @@ impl Shelf {
     /// The last entry of an object from a chunk on, before a bound.
     pub fn last_from(&self, object: u64, from: u64, bound: Option<u64>) -> Option<KeyEntry>
         ensures last { IsLastFrom self.now.objects object from bound result }
-        ensures block { IfSome result (λ e. HasSmallBlock e.kept) }
+        ensures small { IfSome result IsSmall }
     {
         let entry = self.last_below(object, bound)?;
         if entry.chunk < from {

@@ -2,7 +2,7 @@
 ghost use Rattle.std.specs.Prelude.{◌≡◌, ◌≢◌, ◌<◌, ◌≤◌, ◌+◌, ◌^◌, ℕ, true, false, length, vec_capacity, None, Some, OnOk, OnErr, IsOk, IsSome};
 ghost use Rattle.block_state.specs.Table.{Table};
 ghost use Rattle.block_state.specs.TableOf.{table};
-ghost use Rattle.chunk_index.specs.Entries.{same_of, is_same, with_state, with_kept, kept_at, state_of, HasSmallBlock};
+ghost use Rattle.chunk_index.specs.Entries.{same_of, is_same, with_state, with_kept, kept_at, state_of, IsSmall, IsSmallPage, IsSmallState};
 ghost use Rattle.chunk_index.specs.Noted.{IsNoted};
 ghost use Rattle.chunk_index.specs.Shelves.{look, total, Differs, AltersKey, SameEntries};
 ghost use Rattle.chunk_index.specs.Counts.{Recounts};
@@ -93,7 +93,7 @@ impl Index {
     /// Sees that the entry of a key stays once the changes are settled.
     fn keep_entry(&mut self, key: Key, entry: KeyEntry)
         requires entry { look self.old.shelf.objects key.object key.chunk ≡ Some entry }
-        requires block { HasSmallBlock entry.kept }
+        requires small { IsSmall entry }
         ensures kept { SameKept self.old self.new }
         ensures present { SamePresent self.old self.new }
         ensures ready { IsReadyKey self.new key.object key.chunk }
@@ -126,7 +126,7 @@ impl Index {
     /// Gives a key an entry, whose present page is the kept one.
     pub(crate) fn add(&mut self, key: Key, kept: Option<KeptPage>) -> Result<(), AllocError>
         requires absent { look self.old.shelf.objects key.object key.chunk ≡ None }
-        requires block { HasSmallBlock kept }
+        requires small { IsSmallPage kept }
         ensures ok { OnOk result (AltersKey key.object key.chunk (Some (kept_at key.chunk kept)) self.old.shelf.objects self.new.shelf.objects) }
         ensures err { OnErr result (SameEntries self.old.shelf.objects self.new.shelf.objects) }
     {
@@ -139,9 +139,10 @@ impl Index {
         self.shelf.insert(key.object, entry)
     }
 
-    /// Gives a prepared key another present page.
+    /// Gives a prepared key another present page. One of the buffer has a number below 253.
     pub fn place(&mut self, key: Key, form: Form)
         requires prepared { IsPrepared self.old key.object key.chunk }
+        requires number { IsSmallState (state_of form) }
         ensures places { Places key.object key.chunk form self.old self.new }
         ensures kept { SameKept self.old self.new }
         ensures prepared { StaysPrepared self.old self.new }
@@ -162,7 +163,8 @@ impl Index {
     /// Gives a key whose present page is the kept one another present page.
     fn place_first(&mut self, key: Key, entry: KeyEntry, form: Form)
         requires entry { look self.old.shelf.objects key.object key.chunk ≡ Some entry }
-        requires block { HasSmallBlock entry.kept }
+        requires small { IsSmall entry }
+        requires number { IsSmallState (state_of form) }
         ensures { AltersKey key.object key.chunk (Some (with_state (state_of form) entry)) self.old.shelf.objects self.new.shelf.objects }
     {
         self.changes.note(key);
@@ -172,7 +174,8 @@ impl Index {
     /// Gives a key that is noted another present page.
     pub(crate) fn place_noted(&mut self, key: Key, entry: KeyEntry, form: Form)
         requires entry { look self.old.shelf.objects key.object key.chunk ≡ Some entry }
-        requires block { HasSmallBlock entry.kept }
+        requires small { IsSmall entry }
+        requires number { IsSmallState (state_of form) }
         requires noted { ∥ IsNoted self.old.changes key.object key.chunk ∥₁ }
         ensures alters { AltersKey key.object key.chunk (Some (with_state (state_of form) entry)) self.old.shelf.objects self.new.shelf.objects }
         ensures changes { self.new.changes ≡ self.old.changes }
@@ -185,6 +188,7 @@ impl Index {
     pub fn copied(&mut self, key: Key, place: PagePlace, blocks: &mut Blocks)
         requires kept { IsSome (kept_pages self.old key.object key.chunk) }
         requires block { place.block < (table blocks.old).geometry.blocks }
+        requires page { place.page < (table blocks.old).geometry.pages }
         requires agree { CountsAgree (table blocks.old) self.old }
         ensures copies { (was : KeptPage) → kept_pages self.old key.object key.chunk ≡ Some was → Copies key.object key.chunk place was self.old self.new }
         ensures prepared { StaysPrepared self.old self.new }
@@ -207,7 +211,9 @@ impl Index {
     /// Gives the entry of a key another kept page.
     pub(crate) fn move_to(&mut self, key: Key, entry: KeyEntry, page: KeptPage, blocks: &mut Blocks)
         requires entry { look self.old.shelf.objects key.object key.chunk ≡ Some entry }
+        requires small { IsSmall entry }
         requires block { page.block < (table blocks.old).geometry.blocks }
+        requires page { page.page < (table blocks.old).geometry.pages }
         requires agree { CountsAgree (table blocks.old) self.old }
         ensures alters { AltersKey key.object key.chunk (Some (with_kept (Some page) entry)) self.old.shelf.objects self.new.shelf.objects }
         ensures agree { CountsAgree (table blocks.new) self.new }
@@ -221,7 +227,7 @@ impl Index {
     /// Settles all keys: the pages of the buffer were written as this group. Only keys that changed are touched.
     pub fn settle_group(&mut self, group: WrittenGroup, blocks: &mut Blocks)
         requires block { group.block < (table blocks.old).geometry.blocks }
-        requires fits { Fits group self.old }
+        requires fits { Fits (table blocks.old).geometry.pages group self.old }
         requires agree { CountsAgree (table blocks.old) self.old }
         ensures settles { Settles group self.old self.new }
         ensures agree { CountsAgree (table blocks.new) self.new }

@@ -1,7 +1,7 @@
 // The entries of one object.
 ghost use Rattle.std.specs.Prelude.{◌≡◌, [], None, Some, IfOk, IfErr, IfSome, OnOk, OnErr, IsSome};
 ghost use Rattle.chunk_index.specs.Lists.{Rises, IsAt, IsGapFor, IsEndFor, find_by, is_nil};
-ghost use Rattle.chunk_index.specs.Entries.{chunk, Alters, IsLastBelow, HasSmallBlock};
+ghost use Rattle.chunk_index.specs.Entries.{chunk, Alters, IsLastBelow, IsSmall};
 
 use crate::entry::KeyEntry;
 use crate::packed::PackedEntry;
@@ -36,7 +36,7 @@ impl ObjectEntries {
     /// The entry of a chunk.
     pub fn get(&self, number: u64) -> Option<KeyEntry>
         ensures entry { result ≡ find_by chunk self.now.entries.items number }
-        ensures block { IfSome result (λ e. HasSmallBlock e.kept) }
+        ensures small { IfSome result IsSmall }
     {
         match self.search(number) {
             Ok(at) => Some(self.entries[at].unpack()),
@@ -47,7 +47,7 @@ impl ObjectEntries {
     /// Puts an entry of a chunk that has none.
     pub fn insert(&mut self, entry: KeyEntry) -> Result<(), AllocError>
         requires absent { find_by chunk self.old.entries.items entry.chunk ≡ None }
-        requires block { HasSmallBlock entry.kept }
+        requires small { IsSmall entry }
         ensures ok { OnOk result (Alters entry.chunk (Some entry) self.old.entries.items self.new.entries.items) }
         ensures err { OnErr result (self.new.entries.items ≡ self.old.entries.items) }
     {
@@ -80,7 +80,7 @@ impl ObjectEntries {
     /// Puts an entry in place of that of its chunk.
     pub fn set(&mut self, entry: KeyEntry)
         requires here { IsSome (find_by chunk self.old.entries.items entry.chunk) }
-        requires block { HasSmallBlock entry.kept }
+        requires small { IsSmall entry }
         ensures { Alters entry.chunk (Some entry) self.old.entries.items self.new.entries.items }
     {
         match self.search(entry.chunk) {
@@ -125,7 +125,7 @@ impl ObjectEntries {
     /// The last entry whose chunk lies before a bound.
     pub fn last_below(&self, bound: Option<u64>) -> Option<KeyEntry>
         ensures last { IsLastBelow self.now.entries.items bound result }
-        ensures block { IfSome result (λ e. HasSmallBlock e.kept) }
+        ensures small { IfSome result IsSmall }
     {
         let end = self.count_below(bound);
         if end == 0 {

@@ -1,37 +1,40 @@
 // An entry as it is held in memory.
 ghost use Rattle.std.specs.Prelude.{◌≡◌, ◌<◌};
-ghost use Rattle.chunk_index.specs.Entries.{HasSmallBlock};
-ghost use Rattle.chunk_index.specs.Halves.{joined, kept_if, state_with};
+ghost use Rattle.chunk_index.specs.Halves.{joined};
+ghost use Rattle.chunk_index.specs.Entries.{IsSmall, IsSmallPage, IsSmallState};
+ghost use Rattle.chunk_index.specs.Packed.{kept_from, state_from};
 
 use crate::entry::{KeyEntry, State};
 use crate::form::KeptPage;
 use std::marker::Model;
 
-/// A state without the number of its page in the buffer.
-#[derive(Clone, Copy, Debug, PartialEq, Eq)]
-pub enum PackedState {
-    Same,
-    Buffered,
-    Dropped,
-    Vacant,
-}
+/// The block of an entry without a kept page. A device has at most 4,096 blocks.
+const NO_BLOCK: u16 = 65_535;
 
-/// One entry in 28 bytes, where a `KeyEntry` takes 40: the numbers of 64 bits lie in halves, so that an entry begins at
-/// a multiple of 4. A device has at most 4,096 blocks.
+/// The number of an entry whose present page is the kept one.
+const SAME: u8 = 255;
+
+/// The number of an entry of which nothing is present, and that goes.
+const DROPPED: u8 = 254;
+
+/// The number of an entry of which nothing is present, and that stays.
+const VACANT: u8 = 253;
+
+/// One entry in 20 bytes, where a `KeyEntry` takes 40: the numbers of 64 bits lie in halves, so that an entry begins at
+/// a multiple of 4. A page of the buffer is told by its number, and each other state by a number that no buffer reaches:
+/// it has at most a quarter of a block's 256 pages.
 #[derive(Drop)]
 pub struct PackedEntry {
     chunk_low: u32,
     chunk_high: u32,
     version_low: u32,
     version_high: u32,
-    page: u32,
-    number: u32,
     block: u16,
-    is_kept: bool,
-    state: PackedState,
+    page: u8,
+    number: u8,
 }
 
-const _: () = prove!(size_of::<PackedEntry>() == 28);
+const _: () = prove!(size_of::<PackedEntry>() == 20);
 
 impl Model for PackedEntry {
     ghost use Rattle.chunk_index.specs.declared.entry.KeyEntry.{KeyEntry};
@@ -46,11 +49,10 @@ impl Model for PackedEntry {
 impl PackedEntry {
     /// Packs an entry.
     pub fn pack(entry: KeyEntry) -> PackedEntry
-        requires { HasSmallBlock entry.kept }
+        requires { IsSmall entry }
         ensures { result ≡ entry }
     {
-        let (is_kept, at) = page_or_zeros(entry.kept);
-        let (state, number) = numbered(entry.state);
+        let at = page_or_none(entry.kept);
         let (chunk_low, chunk_high) = halves(entry.chunk);
         let (version_low, version_high) = halves(at.version);
         PackedEntry {
@@ -58,21 +60,19 @@ impl PackedEntry {
             chunk_high,
             version_low,
             version_high,
-            page: at.page,
-            number,
             block: at.block as u16,
-            is_kept,
-            state,
+            page: at.page as u8,
+            number: numbered(entry.state),
         }
     }
 
     /// The entry.
     pub fn unpack(&self) -> KeyEntry
         ensures entry { result ≡ self.now }
-        ensures block { HasSmallBlock result.kept }
+        ensures small { IsSmall result }
     {
         KeyEntry {
-            chunk: joined(self.chunk_low, self.chunk_high),
+            chunk: self.chunk(),
             kept: self.kept(),
             state: self.state(),
         }
@@ -88,28 +88,33 @@ impl PackedEntry {
     /// Where the page is kept, and its version.
     fn kept(&self) -> Option<KeptPage>
         ensures kept { result ≡ self.now.kept }
-        ensures block { HasSmallBlock result }
+        ensures small { IsSmallPage result }
     {
-        if !self.is_kept {
+        if self.block == NO_BLOCK {
             return None;
         }
         Some(KeptPage {
-            block: self.block as u32,
-            page: self.page,
+            block: u32::from(self.block),
+            page: u32::from(self.page),
             version: joined(self.version_low, self.version_high),
         })
     }
 
     /// How what is present differs from what is kept.
     fn state(&self) -> State
-        ensures { result ≡ self.now.state }
+        ensures state { result ≡ self.now.state }
+        ensures small { IsSmallState result }
     {
-        match self.state {
-            PackedState::Same => State::Same,
-            PackedState::Buffered => State::Buffered(self.number),
-            PackedState::Dropped => State::Dropped,
-            PackedState::Vacant => State::Vacant,
+        if self.number == SAME {
+            return State::Same;
         }
+        if self.number == DROPPED {
+            return State::Dropped;
+        }
+        if self.number == VACANT {
+            return State::Vacant;
+        }
+        State::Buffered(u32::from(self.number))
     }
 }
 
@@ -129,31 +134,33 @@ fn joined(low: u32, high: u32) -> u64
     high as u64 * 4_294_967_296 + low as u64
 }
 
-/// Whether there is a page, and which; where there is none, one of zeros.
-fn page_or_zeros(kept: Option<KeptPage>) -> (bool, KeptPage)
-    requires { HasSmallBlock kept }
-    ensures kept { kept_if result.0 result.1 ≡ kept }
-    ensures block { result.1.block < 65536 }
+/// A kept page; where there is none, one in no block.
+fn page_or_none(kept: Option<KeptPage>) -> KeptPage
+    requires { IsSmallPage kept }
+    ensures kept { kept_from result ≡ kept }
+    ensures block { result.block < 65536 }
+    ensures page { result.page < 256 }
 {
-    let zeros = KeptPage {
-        block: 0,
+    let none = KeptPage {
+        block: u32::from(NO_BLOCK),
         page: 0,
         version: 0,
     };
     match kept {
-        Some(page) => (true, page),
-        None => (false, zeros),
+        Some(page) => page,
+        None => none,
     }
 }
 
-/// A state and the number of its page in the buffer; where it has none, 0.
-fn numbered(state: State) -> (PackedState, u32)
-    ensures { state_with result.0 result.1 ≡ state }
+/// The number of a state.
+fn numbered(state: State) -> u8
+    requires { IsSmallState state }
+    ensures { state_from result ≡ state }
 {
     match state {
-        State::Same => (PackedState::Same, 0),
-        State::Buffered(number) => (PackedState::Buffered, number),
-        State::Dropped => (PackedState::Dropped, 0),
-        State::Vacant => (PackedState::Vacant, 0),
+        State::Same => SAME,
+        State::Buffered(number) => number as u8,
+        State::Dropped => DROPPED,
+        State::Vacant => VACANT,
     }
 }

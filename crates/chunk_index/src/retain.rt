@@ -1,7 +1,7 @@
 // The keys that stay, and the end of all others.
 ghost use Rattle.std.specs.Prelude.{◌≡◌, ◌<◌, ◌≤◌, ◌+◌, ℕ, length, IfSome};
 ghost use Rattle.block_state.specs.TableOf.{table};
-ghost use Rattle.chunk_index.specs.Entries.{kept_of, one_at, counted_at, weigh, HasSmallBlock};
+ghost use Rattle.chunk_index.specs.Entries.{kept_of, one_at, counted_at, weigh, IsSmall};
 ghost use Rattle.chunk_index.specs.Shelves.{look, total, IsNextObject};
 ghost use Rattle.chunk_index.specs.Counts.{Recounts, HasCounted, Tallies};
 ghost use Rattle.chunk_index.specs.Retained.{retained, retained_told, retained_of, RetainsObject};
@@ -117,9 +117,9 @@ impl KeyEntry {
     /// are settled, and tells of nothing.
     fn retained(self, stays: bool, blocks: &mut Blocks) -> Option<KeyEntry>
         requires counted { HasCounted (table blocks.old) (one_at self.kept) }
-        requires block { HasSmallBlock self.kept }
+        requires small { IsSmall self }
         ensures result { result ≡ retained stays self }
-        ensures block { IfSome result (λ e. HasSmallBlock e.kept) }
+        ensures small { IfSome result IsSmall }
         ensures counts { Recounts (one_at self.kept) (one_at (kept_of result)) (table blocks.old) (table blocks.new) }
     {
         if stays {

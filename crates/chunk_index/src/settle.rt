@@ -1,7 +1,7 @@
 // What becomes of the entries once the buffer was written.
 ghost use Rattle.std.specs.Prelude.{◌≡◌, ◌<◌, ◌≤◌, ◌+◌, ◌^◌, ℕ, false, Some, IfSome};
 ghost use Rattle.block_state.specs.TableOf.{table};
-ghost use Rattle.chunk_index.specs.Entries.{settled, settled_by, same_of, counted_at, HasPage, HasSmallBlock};
+ghost use Rattle.chunk_index.specs.Entries.{settled, settled_by, same_of, counted_at, HasPage, IsSmall};
 ghost use Rattle.chunk_index.specs.Shelves.{look, total, IsListed};
 ghost use Rattle.chunk_index.specs.Counts.{Recounts, Tallies};
 ghost use Rattle.chunk_index.specs.Settled.{MaySettle, SettlesWhere, IsKey, IsFrom, IsAny};
@@ -19,11 +19,11 @@ impl KeyEntry {
     /// What the entry becomes, if it stays.
     fn settled(self, group: WrittenGroup) -> Option<KeyEntry>
         requires page { HasPage group self.state }
-        requires group { group.block < 65536 }
-        requires block { HasSmallBlock self.kept }
+        requires block { group.block < 65535 }
+        requires small { IsSmall self }
         ensures result { result ≡ settled_by group self self.state }
         ensures chunk { IfSome result (λ e. e.chunk ≡ self.chunk) }
-        ensures block { IfSome result (λ e. HasSmallBlock e.kept) }
+        ensures small { IfSome result IsSmall }
     {
         match self.state {
             State::Same => Some(self),

@@ -4,7 +4,7 @@ ghost use Rattle.std.specs.Ordering.{nat_cmp};
 ghost use Rattle.std.proofs.Props.{props};
 ghost use Rattle.std.specs.BTreeMap.{get, IsEmpty, IsOrdered};
 ghost use Rattle.chunk_index.specs.Shelves.{look, total, AltersKey, SameEntries, IsLastOf, IsNextObject};
-ghost use Rattle.chunk_index.specs.Entries.{HasSmallBlock};
+ghost use Rattle.chunk_index.specs.Entries.{IsSmall};
 
 use crate::entry::KeyEntry;
 use crate::object::ObjectEntries;
@@ -52,7 +52,7 @@ impl Shelf {
     pub fn entry(&self, key: Key) -> Option<KeyEntry>
         ensures entry { result ≡ look self.now.objects key.object key.chunk }
         ensures chunk { IfSome result (λ e. e.chunk ≡ key.chunk) }
-        ensures block { IfSome result (λ e. HasSmallBlock e.kept) }
+        ensures small { IfSome result IsSmall }
     {
         match self.objects.get(&key.object) {
             Some(entries) => entries.get(key.chunk),
@@ -70,7 +70,7 @@ impl Shelf {
     /// Puts an entry in place of that of its key.
     pub fn set(&mut self, object: u64, entry: KeyEntry)
         requires here { IsSome (look self.old.objects object entry.chunk) }
-        requires block { HasSmallBlock entry.kept }
+        requires small { IsSmall entry }
         ensures alters { AltersKey object entry.chunk (Some entry) self.old.objects self.new.objects }
         ensures size { self.new.size ≡ self.old.size }
     {
@@ -83,7 +83,7 @@ impl Shelf {
     /// Puts an entry of a key that has none.
     pub fn insert(&mut self, object: u64, entry: KeyEntry) -> Result<(), AllocError>
         requires absent { look self.old.objects object entry.chunk ≡ None }
-        requires block { HasSmallBlock entry.kept }
+        requires small { IsSmall entry }
         ensures ok { OnOk result (AltersKey object entry.chunk (Some entry) self.old.objects self.new.objects) }
         ensures grown { OnOk result (self.new.size ≡ self.old.size + 1) }
         ensures err { OnErr result (SameEntries self.old.objects self.new.objects) }
@@ -143,7 +143,7 @@ impl Shelf {
         requires absent { look self.old.objects object entry.chunk ≡ None }
         requires here { IsSome (get nat_cmp self.old.objects object) }
         requires room { self.old.size < 2 ^ 32 - 1 }
-        requires block { HasSmallBlock entry.kept }
+        requires small { IsSmall entry }
         ensures ok { OnOk result (AltersKey object entry.chunk (Some entry) self.old.objects self.new.objects) }
         ensures grown { OnOk result (self.new.size ≡ self.old.size + 1) }
         ensures err { OnErr result (SameEntries self.old.objects self.new.objects) }
@@ -226,7 +226,7 @@ impl Shelf {
     /// The last entry of an object whose chunk lies before a bound.
     pub fn last_below(&self, object: u64, bound: Option<u64>) -> Option<KeyEntry>
         ensures last { IsLastOf self.now.objects object bound result }
-        ensures block { IfSome result (λ e. HasSmallBlock e.kept) }
+        ensures small { IfSome result IsSmall }
     {
         match self.objects.get(&object) {
             Some(entries) => entries.last_below(bound),

@@ -9,6 +9,7 @@ use Rattle.chunk_index.specs.Counts.{Recounts}
 use Rattle.chunk_index.specs.declared.index.Index.{Index}
 use Rattle.page_buffer.specs.declared.buffer.Buffer.{Buffer}
 use Rattle.transactions.specs.Groups.{TakesPages}
+use Rattle.transactions.specs.Ready.{IsReady}
 use Rattle.collector.specs.Making.{FitsOpen}
 use Rattle.collector.specs.declared.fault.RoomFault.{RoomFault}
 use Rattle.collector.specs.declared.fault.RoomFault.TheVariants as faults
@@ -18,6 +19,13 @@ use Rattle.commits.specs.Writing.{AttemptEnds}
 -- the pages of the open block that are not written
 room_open : (o : ℕ) (t : Table) → t.open_block ≡ Some o → room t ≡ t.geometry.pages - (t.entry o).next
 room_open o t is = ap (λ (b : Option ℕ). option_map_or (λ k. t.geometry.pages - (t.entry k).next) b 0) is
+
+-- pages that the open block has room for lie in it
+pub lie_in_open : (o n : ℕ) (d : Device) (t : Table) → IsReady d t → t.open_block ≡ Some o → n ≤ room t → (t.entry o).next + n ≤ t.geometry.pages
+lie_in_open o n d t ready opened fit =
+    let is = room_open o t opened in
+    let next : (t.entry o).next ≤ t.geometry.pages = subst (λ (g : Geometry). (t.entry o).next ≤ g.pages) (sym ready.geometry) (ready.open_block o opened).pages in
+    omega (arith, is, next, fit)
 
 -- ---- the open block stays open
 

@@ -1,5 +1,5 @@
 // An index with the blocks that it counts in.
-ghost use Rattle.std.specs.Prelude.{◌≡◌, ◌<◌, ℕ};
+ghost use Rattle.std.specs.Prelude.{◌≡◌, ◌<◌, ◌≤◌, ℕ};
 ghost use Rattle.block_state.specs.TableOf.{table};
 ghost use Rattle.chunk_index.specs.Maps.{present, CountsAgree};
 ghost use Rattle.chunk_index.specs.declared.form.Present.TheVariants as presents;
@@ -10,13 +10,14 @@ use flash_tree::Key;
 use nand_model::Geometry;
 use std::alloc::{AllocError, Global};
 
-/// An index whose buffer has less than a hundred pages, with the blocks that it counts in.
+/// An index whose buffer has at most 64 pages, with the blocks that it counts in, each of 256 pages.
 #[derive(Drop)]
 pub struct Filled {
     index: Index,
     blocks: Blocks,
     ghost agree: { CountsAgree (table blocks) index },
-    ghost few: { (o c i : ℕ) → present index o c ≡ presents.InBuffer i → i < 100 },
+    ghost few: { (o c i : ℕ) → present index o c ≡ presents.InBuffer i → i < 64 },
+    ghost pages: { (table blocks).geometry.pages ≡ 256 },
 }
 
 impl Filled {
@@ -34,7 +35,7 @@ impl Filled {
 
     /// A page of the buffer is the present one of a key.
     pub fn buffer(&mut self, key: Key, page: u32) -> Result<(), AllocError>
-        requires { page < 100 }
+        requires { page < 64 }
     {
         self.index.prepare(key)?;
         self.index.place(key, Form::Buffered(page));
@@ -43,7 +44,7 @@ impl Filled {
 
     /// The buffer was written from a page of a block on.
     pub fn settle(&mut self, block: u32, first: u32, number: u64)
-        requires { first < 1000 }
+        requires { first ≤ 192 }
     {
         if block < self.blocks.geometry().blocks() {
             let group = WrittenGroup {

@@ -5,7 +5,7 @@
 //! the index takes is what the program holds above one of few blocks.
 #![tactic(auto)]
 
-ghost use Rattle.std.specs.Prelude.{◌<◌};
+ghost use Rattle.std.specs.Prelude.{◌≤◌};
 
 mod filled;
 
@@ -47,7 +47,7 @@ fn fill(filled: &mut Filled, blocks: u32, of_object: u32) -> Result<()> {
 
 /// Fills one group.
 fn fill_group(filled: &mut Filled, block: u32, first: u32, of_object: u32) -> Result<()>
-    requires { first < 256 }
+    requires { first ≤ 192 }
 {
     for page in 0..GROUP {
         filled.buffer(key(block, first + page, of_object), page)?;

@@ -16,7 +16,7 @@ use Rattle.flash_tree.specs.laws.Telling.{AreNewestAt}
 use Rattle.block_state.specs.Table.{Table, is_free}
 use Rattle.trusted_nand.specs.Trusting.{trusted_as}
 use Rattle.trusted_nand.specs.laws.Trusted.{honest_of, trusted_of}
-use Rattle.chunk_index.specs.Adding.{entry_key, AreWithin}
+use Rattle.chunk_index.specs.Adding.{entry_key, AreInPages, AreWithin}
 use Rattle.chunk_index.specs.Counts.{Recounts}
 use Rattle.chunk_index.specs.Entries.{as_kept}
 use Rattle.chunk_index.specs.Kept.{HoldsNone, IsListOf, KeyRises}
@@ -71,6 +71,12 @@ keys_within d c g placed same i k at =
     let one = mapped_from entry_key c.entries i k at in
     let lies : one.0.block < d.geometry.blocks = (placed i one.0 one.1).block in
     subst (λ (f : KeptKey). f.at.block < g.blocks) one.2 (subst (λ (h : Geometry). one.0.block < h.blocks) (sym same) lies)
+
+pub keys_in_pages : (d : Device) (c : Checkpoint) (g : Geometry) → MayAllBeKept d c → g ≡ d.geometry → AreInPages g.pages (map entry_key c.entries)
+keys_in_pages d c g placed same i k at =
+    let one = mapped_from entry_key c.entries i k at in
+    let lies : one.0.page < d.geometry.pages = (placed i one.0 one.1).page in
+    subst (λ (f : KeptKey). f.at.page < g.pages) one.2 (subst (λ (h : Geometry). one.0.page < h.pages) (sym same) lies)
 
 -- ---- what is kept
 

@@ -1,5 +1,5 @@
 // The buffer.
-ghost use Rattle.std.specs.Prelude.{◌≡◌, ◌≤◌, ◌<◌, ◌+◌, ◌++◌, ◌^◌, ℕ, length, vec_capacity, [], IfOk, is_some, option_to_list, true, false};
+ghost use Rattle.std.specs.Prelude.{◌≡◌, ◌≤◌, ◌<◌, ◌+◌, ◌++◌, ℕ, length, vec_capacity, [], IfOk, is_some, option_to_list, true, false};
 ghost use Rattle.block_state.specs.Table.{Table};
 ghost use Rattle.block_state.specs.TableOf.{table};
 ghost use Rattle.chunk_index.specs.Maps.{CountsAgree, Settles, kept_in};
@@ -21,7 +21,7 @@ pub struct Buffer {
     written: Vec<FreshPage>,
     most: u32,
     page_bytes: u32,
-    ghost small: { most < 2 ^ 32 },
+    ghost small: { most ≤ 64 },
     ghost few: { length pages.items ≤ most },
     ghost room: { most ≤ vec_capacity pages },
     ghost next_room: { most ≤ vec_capacity written },
@@ -32,8 +32,9 @@ pub struct Buffer {
 impl Buffer {
     ghost use Rattle.page_buffer.specs.BufferOf.{buffered, last_written, most_pages, bytes_of_page};
 
-    /// An empty buffer, with room for so many pages of so many bytes.
+    /// An empty buffer, with room for so many pages of so many bytes: at most a quarter of the pages of the largest block.
     pub fn new(alloc: Global, most: u32, page_bytes: u32) -> Result<Buffer, AllocError>
+        requires { most ≤ 64 }
         ensures empty { IfOk result (λ it. buffered it ≡ []) }
         ensures most { IfOk result (λ it. most_pages it ≡ most) }
         ensures bytes { IfOk result (λ it. bytes_of_page it ≡ page_bytes) }
@@ -64,7 +65,7 @@ impl Buffer {
     pub fn settle(&mut self, index: &mut Index, group: WrittenGroup, blocks: &mut Blocks)
         requires buffers { Buffers index.old (buffered self.old) }
         requires block { group.block < (table blocks.old).geometry.blocks }
-        requires fits { group.first + length (buffered self.old) ≤ 2 ^ 32 }
+        requires fits { group.first + length (buffered self.old) ≤ (table blocks.old).geometry.pages }
         requires agree { CountsAgree (table blocks.old) index.old }
         ensures settles { Settles group index.old index.new }
         ensures agree { CountsAgree (table blocks.new) index.new }

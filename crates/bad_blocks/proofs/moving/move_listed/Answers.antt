@@ -1,4 +1,4 @@
-use Rattle.std.proofs.Common.{◌≡◌, ◌≢◌, ◌<◌, ◌≤◌, ℕ, Bool, if◌then◌else◌, sym, ap, subst, ◌∙◌, arith}
+use Rattle.std.proofs.Common.{◌≡◌, ◌≢◌, ◌<◌, ◌≤◌, ℕ, length, Bool, if◌then◌else◌, sym, ap, subst, ◌∙◌, arith}
 use Rattle.std.proofs.lemmas.Result.{err_from_is_err_and}
 use Rattle.nand_model.specs.Calls.{Device}
 use Rattle.nand_model.specs.declared.geometry.Geometry.{Geometry}
@@ -27,7 +27,7 @@ tell_copies-requires-clause-agree g c =
 pub tell_copies-requires-clause-few : goal.tell_copies-requires-clause-few
 tell_copies-requires-clause-few g c =
     let may = may_be_copied c.args.spare c.requires.listed.0 _ (table c.args.blocks.now) c.args.index.now c.args.copies.now c.requires.ready c.requires.stands c.requires.listed.1 in
-    may.can.few
+    subst (λ (geometry : Geometry). length c.args.copies.now ≤ geometry.pages) (sym (c.in_ok-target.ensures.keeps.geometry ∙ c.requires.ready.geometry)) may.few
 
 -- the block of the copies had no kept page
 unlike : (v w : ℕ) (t : Table) → 1 ≤ (t.entry v).kept → (t.entry w).kept ≡ 0 → v ≢ w

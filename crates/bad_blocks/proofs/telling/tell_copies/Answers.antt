@@ -1,4 +1,4 @@
-use Rattle.std.proofs.Common.{◌≡◌, ◌<◌, ℕ, IsSome, length, refl, sym, subst, ◌∙◌, rules}
+use Rattle.std.proofs.Common.{◌≡◌, ◌<◌, ℕ, IsSome, length, refl, sym, subst, ◌∙◌, rules, arith}
 use Rattle.std.proofs.lemmas.Option.{slice_get-get_or}
 use Rattle.nand_model.specs.declared.geometry.Geometry.{Geometry}
 use Rattle.block_state.specs.TableOf.{table}
@@ -27,6 +27,12 @@ copied-requires-clause-kept c =
 
 pub copied-requires-clause-block : goal.copied-requires-clause-block
 copied-requires-clause-block c = subst (λ (geometry : Geometry). c.args.block < geometry.blocks) (sym c.loop-i.invariant.geometry) c.requires.within
+
+pub overflow_cast-page : goal.overflow_cast-page
+overflow_cast-page c = omega (arith, c.loop-i-test.true, c.requires.few, (table c.args.blocks.now).geometry.most_pages)
+
+pub copied-requires-clause-page : goal.copied-requires-clause-page
+copied-requires-clause-page c = subst (λ (geometry : Geometry). c.loop-i.i < geometry.pages) (sym c.loop-i.invariant.geometry) (omega (arith, c.loop-i-test.true, c.requires.few))
 
 pub loop-i-preserved : goal.loop-i-preserved
 loop-i-preserved c =

@@ -1,5 +1,6 @@
-use Rattle.std.proofs.Common.{◌≡◌, ◌+◌, ℕ, true, false, List, length, Some, Ok, Err, refl, sym, ap, subst, ◌∙◌, arith, if◌then◌else◌}
+use Rattle.std.proofs.Common.{◌≡◌, ◌≤◌, ◌+◌, ℕ, true, false, List, length, Some, Ok, Err, refl, sym, ap, subst, ◌∙◌, arith, if◌then◌else◌}
 use Rattle.nand_model.specs.Calls.{Device}
+use Rattle.nand_model.specs.declared.geometry.Geometry.{Geometry}
 use Rattle.flash_tree.specs.Keeping.{KeepsNewest}
 use Rattle.flash_tree.specs.declared.place.FreshPage.{FreshPage}
 use Rattle.block_state.specs.Table.{Table}
@@ -11,13 +12,24 @@ use Rattle.transactions.specs.Groups.{AddsPages, GroupsAfter, OkTable, TellsGrou
 use Rattle.transactions.specs.declared.group.GroupFault.TheVariants as groups
 use Rattle.bad_blocks.specs.laws.Keeping.{same_ends, same_closed}
 use Rattle.commits.specs.Carrying.{HaveRanges}
-use Rattle.commits.proofs.Staying.{stays_open}
+use Rattle.commits.proofs.Staying.{lie_in_open, stays_open}
 use Rattle.commits.proofs.Counts.{ListsAreWhole}
 use Rattle.commits.proofs.Grouping.{newest_written}
 use Rattle.commits.proofs.Settling.{ready_counted}
 use Rattle.commits.proofs.Turning.{leaves_committed, leaves_kept}
 use Rattle.commits.proofs.Written.{agree_still, bad_closed, bad_recounted, commits_written, free_written, good_block, keeps_written, leaves_gone}
 use Rattle.commits.proofs.writing.write_buffered.Goals as goal
+
+pub settle-requires-clause-fits : goal.settle-requires-clause-fits
+settle-requires-clause-fits g c =
+    let t : Table = table c.args.blocks.now in
+    let u : Table = table c.write_group.new.blocks in
+    let o : ℕ = c.in-Some.block in
+    let opened : t.open_block ≡ Some o = sym c.in-Some.ensures in
+    let same = same_ends (length c.pages-pages.result.now) t u (Ok c.in-Ok.placed) c.in-Ok.ensures.table in
+    let first : c.in-Ok.placed.first ≡ (t.entry o).next = (c.in-Ok.ensures.placed o opened).first in
+    let lie = lie_in_open o (length (buffered c.args.buffer.now)) (g.N.Nand.state c.args.device.now) t c.requires.ready opened c.requires.open_room in
+    subst (λ (s : Geometry). c.in-Ok.placed.first + length (buffered c.args.buffer.now) ≤ s.pages) (sym same.geometry) (omega (arith, first, lie))
 
 pub settle-requires-clause-agree : goal.settle-requires-clause-agree
 settle-requires-clause-agree g c =

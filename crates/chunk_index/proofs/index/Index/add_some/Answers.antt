@@ -2,7 +2,7 @@ use Rattle.std.proofs.Common.{◌≡◌, ◌∙◌, refl, sym, ap, subst, arith,
 use Rattle.std.specs.Prelude.{map}
 use Rattle.std.proofs.lemmas.Option.{slice_get-get_or}
 use Rattle.nand_model.specs.declared.geometry.Geometry.{Geometry}
-use Rattle.chunk_index.specs.Adding.{AddsFirst, AreWithin}
+use Rattle.chunk_index.specs.Adding.{AddsFirst, AreInPages, AreWithin}
 use Rattle.chunk_index.proofs.Counting.{recounts_here}
 use Rattle.chunk_index.proofs.Adding.{adds_none, adds_more, agree_kept, counts_on, mapped, still_absent}
 use Rattle.chunk_index.proofs.index.Index.add_some.Goals as goal
@@ -20,6 +20,7 @@ add_kept-requires g c =
     record {
       absent = c.reserve_at.ensures.looks _ _ ∙ still_absent _ c.loop-at.at _ _ c.kept_key-page.result c.requires.once c.requires.absent c.loop-at.invariant.adds there;
       block = subst (λ (y : Geometry). AreWithin y.blocks (map g.P.Placed.kept_key c.args.pages.now)) (sym c.loop-at.invariant.counts.geometry) c.requires.within c.loop-at.at c.kept_key-page.result there;
+      page = subst (λ (y : Geometry). AreInPages y.pages (map g.P.Placed.kept_key c.args.pages.now)) (sym c.loop-at.invariant.counts.geometry) c.requires.pages c.loop-at.at c.kept_key-page.result there;
       agree = agree_kept _ _ c.reserve_at.new.self c.reserve_at.ensures c.loop-at.invariant.agree;
     }
 

@@ -7,10 +7,10 @@ use Rattle.chunk_index.proofs.Noting.{where_key, where_absent}
 use Rattle.chunk_index.proofs.shelf.Shelf.settle_key.Goals as goal
 
 pub settled-requires-clause-page : goal.settled-requires-clause-page
-settled-requires-clause-page c = settled_page c.args.group c.args.self.now.objects c.args.key.object c.args.key.chunk c.in-Some.entry (sym c.in-Some.ensures.entry) (c.requires.fits c.args.key.object c.args.key.chunk)
+settled-requires-clause-page c = settled_page c.args.group c.args.self.now.objects c.args.key.object c.args.key.chunk c.in-Some.entry (sym c.in-Some.ensures.entry) (λ i is. let fits = c.requires.fits c.args.key.object c.args.key.chunk i is in omega (arith, fits, (table c.args.blocks.now).geometry.most_pages))
 
-pub settled-requires-clause-group : goal.settled-requires-clause-group
-settled-requires-clause-group c = omega (arith, c.requires.block, (table c.args.blocks.now).geometry.most_blocks)
+pub settled-requires-clause-block : goal.settled-requires-clause-block
+settled-requires-clause-block c = omega (arith, c.requires.block, (table c.args.blocks.now).geometry.most_blocks)
 
 pub recount-requires-clause-within : goal.recount-requires-clause-within
 recount-requires-clause-within c =

@@ -14,7 +14,7 @@ place-requires c =
     let pages : List FreshPage = buffered c.args.self.now in
     let p : FreshPage = c.index.result.now in
     let at : slice_get pages c.args.slot ≡ Some p = slice_get_read pages (length pages) c.args.slot p refl c.requires.slot c.index.ensures in
-    record { prepared = ready_prepared c.args.index.now _ _ (buffered_ready c.args.index.now _ _ c.args.slot ((holding _ _ c.requires.buffers).told _ _ c.args.slot (here pages c.args.slot p at))) }
+    record { prepared = ready_prepared c.args.index.now _ _ (buffered_ready c.args.index.now _ _ c.args.slot ((holding _ _ c.requires.buffers).told _ _ c.args.slot (here pages c.args.slot p at))); number = tt }
 
 pub place-requires-then-slot-len : goal.place-requires-then-slot-len
 place-requires-then-slot-len c =
@@ -22,7 +22,7 @@ place-requires-then-slot-len c =
     let last : FreshPage = c.in-Some.last in
     let split : buffered c.args.self.now ≡ init ++ last ∷ [] = rw c.in-Some.is at c.pop.ensures.items in
     let at : slice_get (buffered c.args.self.now) (length init) ≡ Some last = ap (λ (xs : List FreshPage). slice_get xs (length init)) split ∙ push_last init last in
-    record { prepared = c.place.ensures.prepared _ _ (ready_prepared c.args.index.now _ _ (buffered_ready c.args.index.now _ _ (length init) ((holding _ _ c.requires.buffers).told _ _ (length init) (here (buffered c.args.self.now) (length init) last at)))) }
+    record { prepared = c.place.ensures.prepared _ _ (ready_prepared c.args.index.now _ _ (buffered_ready c.args.index.now _ _ (length init) ((holding _ _ c.requires.buffers).told _ _ (length init) (here (buffered c.args.self.now) (length init) last at)))); number = omega (arith, c.requires.slot, c.args.self.now.few, c.args.self.now.small) }
 
 pub invariant_of-self-then-slot-len : goal.invariant_of-self-then-slot-len
 invariant_of-self-then-slot-len c =

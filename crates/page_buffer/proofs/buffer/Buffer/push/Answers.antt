@@ -10,6 +10,9 @@ use Rattle.page_buffer.proofs.buffer.Buffer.push.Goals as goal
 pub overflow_cast-len : goal.overflow_cast-len
 overflow_cast-len c = omega (arith, c.len.ensures, c.args.self.now.small, c.args.self.now.few, c.requires.room)
 
+pub place-requires-clause-number : goal.place-requires-clause-number
+place-requires-clause-number c = omega (arith, c.len.ensures, c.args.self.now.small, c.requires.room)
+
 pub invariant_of-self : goal.invariant_of-self
 invariant_of-self c =
     let self = c.args.self.now in

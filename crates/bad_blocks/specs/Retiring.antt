@@ -7,6 +7,7 @@ use Rattle.block_state.specs.Table.{Table}
 use Rattle.bad_blocks.specs.Moving.{LiesOpen, IsAway, IsLeft, WhyNotMoved}
 use Rattle.bad_blocks.specs.Standing.{HasFreeBlocks}
 use Rattle.bad_blocks.specs.declared.fault.MoveFault.{MoveFault}
+use Rattle.bad_blocks.specs.declared.fault.MoveFault.TheVariants as faults
 
 -- The good block holds no kept page: it held none, and no block is open; or its pages lie elsewhere.
 pub record IsEmptied (v : ℕ) (old new : Table) (suspect : Option ℕ) : Type 0 where
@@ -39,10 +40,16 @@ abbrev pub RetireEnds : (v spare : ℕ) → Device → Table → Table → Resul
 RetireEnds v spare device old new (Ok done) = IsRetired v spare old new × (device.gone ≡ false)
 RetireEnds v spare device old new (Err fault) = WhyNotMoved spare device new fault
 
+-- why a block without a kept page is not retired: the device is gone, or more blocks are bad than there are to spare
+abbrev pub WhyNotMarked : (spare : ℕ) → Device → Table → MoveFault → Type 0
+WhyNotMarked spare device t faults.Worn = (spare < bad_count t) × (device.gone ≡ false)
+WhyNotMarked spare device t faults.Lost = ⊥
+WhyNotMarked spare device t faults.Gone = device.gone ≡ true
+
 -- how the mark of an emptied block ends
 abbrev pub MarkedEnds : (v spare : ℕ) → Device → Table → Result (Unit {0}) MoveFault → Type 0
 MarkedEnds v spare device new (Ok done) = ((new.entry v).bad ≡ true) × (bad_count new ≤ spare) × (device.gone ≡ false)
-MarkedEnds v spare device new (Err fault) = WhyNotMoved spare device new fault
+MarkedEnds v spare device new (Err fault) = WhyNotMarked spare device new fault
 
 -- The block is bad and holds no kept page; what it held, if anything, lies elsewhere. One more block is bad.
 pub record IsOut (v spare : ℕ) (old new : Table) (suspect : Option ℕ) : Type 0 where

@@ -1,5 +1,5 @@
 // The retirement of a block.
-ghost use Rattle.std.specs.Prelude.{◌≡◌, ◌≢◌, ◌<◌, ◌≤◌, ◌+◌, ℕ, true, false, Some, None, Result, IfOk, OnOk};
+ghost use Rattle.std.specs.Prelude.{◌≡◌, ◌≢◌, ◌<◌, ◌≤◌, ◌+◌, ℕ, true, false, Some, None, Ok, Result, IfErr, IfOk, OnOk};
 ghost use Rattle.nand_model.specs.Calls.{Marks};
 ghost use Rattle.nand_model.specs.declared.nand.Gone.{Gone};
 ghost use Rattle.flash_tree.specs.Keeping.{KeepsElsewhere};
@@ -11,7 +11,7 @@ ghost use Rattle.transactions.specs.Opening.{MayLose};
 ghost use Rattle.transactions.specs.Ready.{IsReady};
 ghost use Rattle.nand_model.specs.Counts.{Costs, ReadsFew, unfinished};
 ghost use Rattle.bad_blocks.specs.Moving.{Moves, AnswersFailures, MarksFailures};
-ghost use Rattle.bad_blocks.specs.Retiring.{EmptyEnds, MarkedEnds, OneEnds, RetireEnds, open_failures};
+ghost use Rattle.bad_blocks.specs.Retiring.{EmptyEnds, MarkedEnds, OneEnds, RetireEnds, WhyNotMarked, open_failures};
 ghost use Rattle.bad_blocks.specs.Room.{IsRoomFor};
 ghost use Rattle.bad_blocks.specs.Standing.{Stands, KeepsFree};
 
@@ -47,7 +47,7 @@ fn empty_block<N: Nand>(
     ensures costs { Costs ((N.state device.old).geometry.pages + 1) ((N.state device.old).geometry.pages + 2) (open_failures result) (N.state device.old) (N.state device.new) }
     ensures reads { ReadsFew (unfinished result) (N.state device.old) (N.state device.new) }
     // Nothing is moved out of a block that is empty.
-    ensures nothing { ((table blocks.old).entry block).kept ≡ 0 → (N.state device.new ≡ N.state device.old) × IfOk result (λ suspect. suspect ≡ None) }
+    ensures nothing { ((table blocks.old).entry block).kept ≡ 0 → (N.state device.new ≡ N.state device.old) × (result ≡ Ok None) }
     ensures ends { EmptyEnds block spare (N.state device.new) (table blocks.old) (table blocks.new) result }
     ensures room { IsRoomFor (N.state device.new).geometry room.new }
 {
@@ -114,6 +114,7 @@ fn retire_one<N: Nand>(
     ensures costs { Costs ((N.state device.old).geometry.pages + 2) ((N.state device.old).geometry.pages + 2) (open_failures result) (N.state device.old) (N.state device.new) }
     ensures reads { ReadsFew (unfinished result) (N.state device.old) (N.state device.new) }
     ensures empty { ((table blocks.old).entry block).kept ≡ 0 → ((N.state device.new).changes ≤ (N.state device.old).changes + 1) × IfOk result (λ suspect. suspect ≡ None) }
+    ensures needs_none { ((table blocks.old).entry block).kept ≡ 0 → IfErr result (WhyNotMarked spare (N.state device.new) (table blocks.new)) }
     ensures ends { OneEnds block spare (N.state device.new) (table blocks.old) (table blocks.new) result }
     ensures room { IsRoomFor (N.state device.new).geometry room.new }
 {
@@ -148,6 +149,7 @@ fn retire_all<N: Nand>(
     ensures costs { Costs ((N.state device.old).geometry.pages + 2) ((N.state device.old).geometry.pages + 2) 0 (N.state device.old) (N.state device.new) }
     ensures reads { ReadsFew (unfinished result) (N.state device.old) (N.state device.new) }
     ensures empty { ((table blocks.old).entry block).kept ≡ 0 → (N.state device.new).changes ≤ (N.state device.old).changes + 1 }
+    ensures needs_none { ((table blocks.old).entry block).kept ≡ 0 → IfErr result (WhyNotMarked spare (N.state device.new) (table blocks.new)) }
     ensures ends { RetireEnds block spare (N.state device.new) (table blocks.old) (table blocks.new) result }
     ensures room { IsRoomFor (N.state device.new).geometry room.new }
 {
@@ -186,6 +188,8 @@ pub fn retire<N: Nand>(
     ensures reads { ReadsFew (unfinished result) (N.state device.old) (N.state device.new) }
     // An empty block is marked, and nothing else is changed.
     ensures empty { ((table blocks.old).entry block).kept ≡ 0 → (N.state device.new).changes ≤ (N.state device.old).changes + 1 }
+    // An empty block needs no number.
+    ensures needs_none { ((table blocks.old).entry block).kept ≡ 0 → IfErr result (WhyNotMarked spare (N.state device.new) (table blocks.new)) }
     ensures ends { RetireEnds block spare (N.state device.new) (table blocks.old) (table blocks.new) result }
     ensures room { IsRoomFor (N.state device.new).geometry room.new }
 {

@@ -60,9 +60,9 @@ pub fn read_info<P: Pages>(pages: &mut P, object: u64) -> Result<FileInfo, PageF
     ensures moment { (z : Sizes) (moment : ℕ) (all : List ℕ) (f : FileIn (P.state pages.old) z object moment all)
         → IfOk result (λ info. info.moment ≡ moment) }
     ensures told { (P.state pages.old).sound ≡ true → OnOk result (HasFileHeader (P.state pages.old) object) }
-    ensures why { IfErr result (SaysWhy (P.state pages.new)) }
+    ensures why { IfErr result (SaysWhy (P.state pages.old) (P.state pages.new)) }
     ensures fault { (z : Sizes) (moment : ℕ) (all : List ℕ) (f : FileIn (P.state pages.old) z object moment all)
-        → IfErr result (MayLack (P.state pages.new)) }
+        → IfErr result (MayLack (P.state pages.old) (P.state pages.new)) }
 {
     load(pages, Key { object, chunk: 0 })?;
     let header = decode_file(pages.page())?;

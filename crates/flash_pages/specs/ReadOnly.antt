@@ -35,6 +35,7 @@ only_read p n spare most refused_change = record {
   sound = p.sound && not refused_change;
   failed = p.failed;
   refused = p.refused;
+  commits = p.commits;
   asked = p.asked;
   device = p.device;
   next = next_after n;

@@ -20,9 +20,9 @@ use Rattle.nand_model.specs.Flash.{Flash}
 use Rattle.nand_model.specs.declared.geometry.Geometry.{Geometry}
 use Rattle.page_volume.specs.Volumes.{pages_of, is_stopped, IsVolumeOf}
 use Rattle.page_volume.specs.declared.volume.PageVolume.{PageVolume}
-use Rattle.paged_objects.specs.Ending.{HasEnded}
+use Rattle.paged_objects.specs.Ending.{HasEndedAt}
 use Rattle.paged_objects.specs.Standing.{volume_of}
-use Rattle.paged_objects.specs.laws.Going.{goes_here, goes_on}
+use Rattle.paged_objects.specs.laws.Going.{ended_at, goes_here, goes_on}
 use Rattle.pages.specs.State.{PagesState, NextNumbers}
 use Rattle.pages.specs.Stores.{GoesOn}
 use Rattle.posix_calls.specs.Calls.{IsCalled}
@@ -48,7 +48,7 @@ module _ {P V : Type 0} (state : P → PagesState) (inside : V → PageVolume P)
     -- a volume after commands of a session that began with these pages: it is stopped for its reason, or stands for a state
     record Stays (v : V) : Type 0 where
       pub goes : GoesOn first (state (pages_of (inside v)))
-      pub stands : ((is_stopped (inside v) ≡ true) × HasEnded (state (pages_of (inside v)))) ⊎ ((is_stopped (inside v) ≡ false) × ((s : State) × IsVolumeOf state z s (inside v)))
+      pub stands : ((is_stopped (inside v) ≡ true) × HasEndedAt (state (pages_of (inside v)))) ⊎ ((is_stopped (inside v) ≡ false) × ((s : State) × IsVolumeOf state z s (inside v)))
 
     called : (old new : V) (command : Stamped) (reply : Reply) → Stays old → serves old command reply new → Stays new
     called old new command reply at served =
@@ -58,11 +58,11 @@ module _ {P V : Type 0} (state : P → PagesState) (inside : V → PageVolume P)
           stands = elim at.stands [
             | inl (stopped, ended) ↦
                 let same = (one.stopped stopped).1 in
-                inl (ap (λ (w : PageVolume P). is_stopped w) same ∙ stopped, subst (λ (w : PageVolume P). HasEnded (state (pages_of w))) (sym same) ended)
+                inl (ap (λ (w : PageVolume P). is_stopped w) same ∙ stopped, subst (λ (w : PageVolume P). HasEndedAt (state (pages_of w))) (sym same) ended)
             | inr (runs, here) ↦
                 let replied = one.replied runs z here.0 here.1 in
                 elim (cases_Bool (is_stop reply)) [
-                  | inl stop ↦ inl (one.stops runs ∙ stop, replied.cause stop)
+                  | inl stop ↦ inl (one.stops runs ∙ stop, ended_at (state (pages_of (inside old))) (state (pages_of (inside new))) (replied.cause stop))
                   | inr other ↦ inr (one.stops runs ∙ other, (_, replied.state_is other))
                 ]
           ];
@@ -87,12 +87,12 @@ module _ {P V : Type 0} (state : P → PagesState) (inside : V → PageVolume P)
     shell_ends input left before after old new (Err faults.Write) at shell = answered _ _ _ _ (run _ _ _ _ at shell.told.run) shell.told.answer
 
     unmounts : (last : V) (device : Device) (reply : Reply) → Stays last → (u : IsUnmounted state (inside last) device reply)
-        → HasEnded u.pages ⊎ ((is_stopped (inside last) ≡ false) × (reply ≡ replies.Done))
+        → HasEndedAt u.pages ⊎ ((is_stopped (inside last) ≡ false) × (reply ≡ replies.Done))
     unmounts last device reply at u = elim at.stands [
-      | inl (stopped, ended) ↦ inl (subst (λ (q : PagesState). HasEnded q) (sym (u.stopped stopped).1) ended)
+      | inl (stopped, ended) ↦ inl (subst (λ (q : PagesState). HasEndedAt q) (sym (u.stopped stopped).1) ended)
       | inr (runs, here) ↦ elim (u.replies_are runs) [
         | inl done ↦ inr (runs, done)
-        | inr stop ↦ inl (u.cause runs z here.0 here.1 stop)
+        | inr stop ↦ inl (ended_at (state (pages_of (inside last))) u.pages (u.cause runs z here.0 here.1 stop))
       ]
     ]
 
@@ -115,7 +115,7 @@ module _ {P V : Type 0} (state : P → PagesState) (inside : V → PageVolume P)
       greatest : AreGreatest d.flash next.0
       greatest = subst (λ (f : Flash). AreGreatest f next.0) same next.1
 
-      not_ended : HasEnded q → ⊥
+      not_ended : HasEndedAt q → ⊥
       not_ended (inl (inl gone)) = true≢false (sym gone ∙ power)
       not_ended (inl (inr dishonest)) = true≢false (sym (goes.device.honest ∙ reads.lasts.honest ∙ honest) ∙ dishonest)
       not_ended (inr (inl group)) =

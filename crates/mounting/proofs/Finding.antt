@@ -29,12 +29,12 @@ root_tells g m roots.NotAVolume told = told
 root_tells g m (roots.Newer format) told = inl told
 root_tells g m roots.Damaged told = inl told
 
-pub root_fails : (fault : RootFault) (new : PagesState) → RootFailsBy new fault → FailsTree new fault
-root_fails roots.NoMemory new why = tt
-root_fails roots.Device new why = why
-root_fails roots.NotAVolume new why = tt
-root_fails (roots.Newer format) new why = tt
-root_fails roots.Damaged new why = tt
+pub root_fails : (fault : RootFault) (old new : PagesState) → RootFailsBy old new fault → FailsTree new fault
+root_fails roots.NoMemory old new why = tt
+root_fails roots.Device old new why = why
+root_fails roots.NotAVolume old new why = tt
+root_fails (roots.Newer format) old new why = tt
+root_fails roots.Damaged old new why = tt
 
 -- a device that has failed has failed after a look-up
 pub fails_still : (fault : RootFault) (old new : PagesState) → OnlyFinds old new → FailsTree old fault → FailsTree new fault

@@ -18,7 +18,7 @@ use Rattle.chunk_index.specs.declared.index.Index.{Index}
 use Rattle.chunk_index.specs.Maps.{kept_pages}
 use Rattle.page_buffer.specs.Shown.{data_of, data_at, kept_data}
 use Rattle.pages.specs.Maps.{PageMap, known_pages}
-use Rattle.pages.specs.State.{OnlyFinds, FailsBy}
+use Rattle.pages.specs.State.{FailsBy, OnlyFinds, PagesState}
 use Rattle.pages.specs.declared.store.Presence.{Presence}
 use Rattle.tree_walk.specs.Trees.{tree_pages}
 use Rattle.tree_walk.specs.declared.tree.Tree.{Tree}
@@ -74,6 +74,7 @@ finds_lent told told' a b x y page page' reads index same = subst (λ t. OnlyFin
       sound = f.sound;
       failed = f.failed;
       refused = f.refused;
+      commits = f.commits;
       asked = f.asked;
       device = reads;
       next = f.next;
@@ -117,12 +118,12 @@ has_lent told a x o c m result same at kept both =
         (λ _. subst (λ (n : Option (List ℕ)). IsSome n) (sym there.1) refl, λ _. refl)
 
 -- each fault has its cause
-pub fault_lent : (told told' : Bool) (a b : Device) (x y : Index) (page : List ℕ) (o c : ℕ) (at : KeptPage) (result : Result Presence StoreFault) → OnlyReads a b → told' ≡ told → kept_pages x o c ≡ Some at
+pub fault_lent : (old : PagesState) (told told' : Bool) (a b : Device) (x y : Index) (page : List ℕ) (o c : ℕ) (at : KeptPage) (result : Result Presence StoreFault) → OnlyReads a b → told' ≡ told → kept_pages x o c ≡ Some at
     → TrustsKept a told x → IfErr result (λ fault. (fault ≡ faults.Device) × ((b.gone ≡ true) ⊎ (a.honest ≡ true → IsKeptAt a.flash o c at → ⊥)))
-    → IfErr result (FailsBy (lent told' b y page))
-fault_lent told told' a b x y page o c at (Ok found) reads same is kept why = tt
-fault_lent told told' a b x y page o c at (Err fault) reads same is kept why =
-    subst (FailsBy (lent told' b y page)) (sym why.0) (elim why.1 [
+    → IfErr result (FailsBy old (lent told' b y page))
+fault_lent old told told' a b x y page o c at (Ok found) reads same is kept why = tt
+fault_lent old told told' a b x y page o c at (Err fault) reads same is kept why =
+    subst (FailsBy old (lent told' b y page)) (sym why.0) (elim why.1 [
       | inl gone ↦ or_left b.gone (not (b.honest && told')) gone
       | inr not_kept ↦ elim (cases_Bool (a.honest && told)) [
         | inl both ↦ absurd (not_kept (honest_of a.honest told both) (kept both o c at is))

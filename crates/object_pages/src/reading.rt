@@ -28,9 +28,9 @@ pub fn find<P: Pages>(
     ensures power { OnOk result (KeepsPower (P.state pages.old) (P.state pages.new)) }
     ensures found { (z : Sizes) (objects : Objects) → HoldsNamed names.now (P.state pages.old) z objects → (dir : IsDirectory objects directory)
         → count ≡ map.len dir.1 → IfOk result (λ found. found ≡ map.get (entries_of (map.get objects directory)) name.now) }
-    ensures why { IfErr result (SaysWhy (P.state pages.new)) }
+    ensures why { IfErr result (SaysWhy (P.state pages.old) (P.state pages.new)) }
     ensures fault { (z : Sizes) (objects : Objects) → HoldsIn (P.state pages.old) z objects → (dir : IsDirectory objects directory)
-        → count ≡ map.len dir.1 → IfErr result (MayLack (P.state pages.new)) }
+        → count ≡ map.len dir.1 → IfErr result (MayLack (P.state pages.old) (P.state pages.new)) }
 {
     directories::find(names, pages, directory, count, name)
 }

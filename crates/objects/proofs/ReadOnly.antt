@@ -29,16 +29,18 @@ use Rattle.page_buffer.specs.Shown.{data_of, data_at, data_by, data_in, kept_dat
 use Rattle.page_cache.specs.declared.cache.PageCache.{PageCache}
 use Rattle.pages.specs.Maps.{known_pages}
 use Rattle.pages.specs.laws.Known.{known_same}
-use Rattle.pages.specs.State.{OnlyFinds, FindsPage, FailsBy}
+use Rattle.pages.specs.State.{PagesState, OnlyFinds, FindsPage, FailsBy}
 use Rattle.pages.specs.declared.store.Presence.{Presence}
 use Rattle.pages.specs.declared.store.Presence.TheVariants as presences
 use Rattle.volume_terms.specs.declared.fault.StoreFault.{StoreFault}
 use Rattle.volume_terms.specs.declared.fault.StoreFault.TheVariants as faults
 use Rattle.page_buffer.specs.BufferOf.{buffered, most_pages}
 use Rattle.page_buffer.specs.declared.buffer.Buffer.{Buffer}
+use Rattle.objects.specs.declared.counts.StoreCounts.{StoreCounts}
 use Rattle.objects.specs.declared.store.Found.{Found}
 use Rattle.objects.specs.Found.{bytes_or}
 use Rattle.objects.specs.Caching.{Shows}
+use Rattle.objects.specs.Counts.{NoneFalls}
 use Rattle.objects.specs.Reading.{Caches, IsLoadFault, IsFindFault}
 use Rattle.objects.specs.StoreOf.{store_seen, next_numbers, is_near}
 use Rattle.objects.specs.laws.Sound.{sound_whole}
@@ -109,11 +111,11 @@ kept_written f x o c k kept is none =
     absurd cc
 
 -- each fault of a load has its cause
-pub load_fails : (spare : ℕ) (a b : Device) (t : Table) (x : Index) (o c : ℕ) (at : KeptPage) (broken refused : Bool) (fault : StoreFault) → OnlyReads a b → Stands spare a t x
-    → present x o c ≡ presents.OnFlash at → IsLoadFault a b at fault → (fault ≡ faults.NoMemory → refused ≡ true) → IsFindFault b broken refused fault
-load_fails spare a b t x o c at broken refused faults.NoMemory reads stands there why is = is refl
-load_fails spare a b t x o c at broken refused faults.Worn reads stands there why is = why
-load_fails spare a b t x o c at broken refused faults.Device reads stands there why is = elim why [
+pub load_fails : (spare : ℕ) (a b : Device) (t : Table) (x : Index) (o c : ℕ) (at : KeptPage) (broken : Bool) (memory : Type 0) (fault : StoreFault) → OnlyReads a b → Stands spare a t x
+    → present x o c ≡ presents.OnFlash at → IsLoadFault a b at fault → (fault ≡ faults.NoMemory → memory) → IsFindFault b broken memory fault
+load_fails spare a b t x o c at broken memory faults.NoMemory reads stands there why is = is refl
+load_fails spare a b t x o c at broken memory faults.Worn reads stands there why is = why
+load_fails spare a b t x o c at broken memory faults.Device reads stands there why is = elim why [
   | inl gone ↦ inl gone
   | inr none ↦ elim (cases_Bool a.honest) [
     | inr lies' ↦ inr (inl (reads.lasts.honest ∙ lies'))
@@ -125,10 +127,10 @@ load_fails spare a b t x o c at broken refused faults.Device reads stands there 
 ]
 
 -- a call that only reads the device, and changes no index and no buffer, only finds
-pub finds_seen : (a b : Device) (t u : Blocks) (x y : Index) (buffer buffer' : Buffer) (cache cache' : PageCache) (scratch scratch' : List ℕ) (found found' : Found) (spare spare' : ℕ) (broken broken' refused refused' : Bool)
-    → OnlyReads a b → u ≡ t → y ≡ x → buffer' ≡ buffer → spare' ≡ spare → broken' ≡ broken → (refused ≡ true → refused' ≡ true)
-    → OnlyFinds (store_seen a (table t) x buffer cache scratch found spare broken refused) (store_seen b (table u) y buffer' cache' scratch' found' spare' broken' refused')
-finds_seen a b t u x y buffer buffer' cache cache' scratch scratch' found found' spare spare' broken broken' refused refused' reads blocks index buffers spares breaks refuses = record {
+pub finds_seen : (a b : Device) (t u : Blocks) (x y : Index) (buffer buffer' : Buffer) (cache cache' : PageCache) (scratch scratch' : List ℕ) (found found' : Found) (spare spare' : ℕ) (broken broken' : Bool) (counts counts' : StoreCounts)
+    → OnlyReads a b → u ≡ t → y ≡ x → buffer' ≡ buffer → spare' ≡ spare → broken' ≡ broken → NoneFalls counts counts' → counts'.commits.total ≡ counts.commits.total
+    → OnlyFinds (store_seen a (table t) x buffer cache scratch found spare broken counts) (store_seen b (table u) y buffer' cache' scratch' found' spare' broken' counts')
+finds_seen a b t u x y buffer buffer' cache cache' scratch scratch' found found' spare spare' broken broken' counts counts' reads blocks index buffers spares breaks refuses begins = record {
   page_bytes = ap (λ (g : Geometry). g.bytes) reads.lasts.geometry;
   most = ap most_pages buffers;
   present = ap (λ i. known_pages b.honest (present_data i (buffered buffer') b.flash)) index
@@ -138,7 +140,8 @@ finds_seen a b t u x y buffer buffer' cache cache' scratch scratch' found found'
   buffered = ap (λ (i : Buffer). length (buffered i)) buffers;
   sound = ap (λ h. h && not broken') reads.lasts.honest ∙ ap (λ w. a.honest && not w) breaks;
   failed = failed;
-  refused = refuses;
+  refused = refuses.refused;
+  commits = begins;
   asked = reads.lasts.reads;
   device = reads;
   next = ap (λ (w : Blocks). next_numbers (table w)) blocks;
@@ -199,12 +202,12 @@ not_absent a x pages o c at broken is kept sound none =
     kept_written a.flash x o c at (kept (sound_whole a.honest broken sound) honest) (kept_there x o c at is) (sym here ∙ none)
 
 -- each fault has its cause
-pub fault_seen : (b : Device) (t : Table) (x : Index) (buffer : Buffer) (cache : PageCache) (scratch : List ℕ) (found : Found) (spare : ℕ) (broken refused : Bool) (result : Result Presence StoreFault)
-    → IfErr result (IsFindFault b broken refused) → IfErr result (FailsBy (store_seen b t x buffer cache scratch found spare broken refused))
-fault_seen b t x buffer cache scratch found spare broken refused (Ok told) why = tt
-fault_seen b t x buffer cache scratch found spare broken refused (Err faults.NoMemory) why = why
-fault_seen b t x buffer cache scratch found spare broken refused (Err faults.Worn) why = why
-fault_seen b t x buffer cache scratch found spare broken refused (Err faults.Device) why = elim why [
+pub fault_seen : (b : Device) (t : Table) (x : Index) (buffer : Buffer) (cache : PageCache) (scratch : List ℕ) (found : Found) (spare : ℕ) (broken : Bool) (counts : StoreCounts) (old : PagesState) (result : Result Presence StoreFault)
+    → IfErr result (IsFindFault b broken (old.refused < counts.refused.total)) → IfErr result (FailsBy old (store_seen b t x buffer cache scratch found spare broken counts))
+fault_seen b t x buffer cache scratch found spare broken counts old (Ok told) why = tt
+fault_seen b t x buffer cache scratch found spare broken counts old (Err faults.NoMemory) why = why
+fault_seen b t x buffer cache scratch found spare broken counts old (Err faults.Worn) why = why
+fault_seen b t x buffer cache scratch found spare broken counts old (Err faults.Device) why = elim why [
   | inl gone ↦ or_left b.gone (not b.honest || broken) gone
   | inr rest ↦ or_right b.gone (not b.honest || broken) (elim rest [
     | inl lies ↦ or_left (not b.honest) broken (ap not lies)

@@ -36,6 +36,7 @@ use Rattle.volume_terms.specs.declared.fault.StoreFault.TheVariants as faults
 use Rattle.objects.specs.Sealing.{IsExact, IsSealed, KeepsTree, LeavesOne, SealEnds, StaysRight, seal_fault_of, EndsOn}
 use Rattle.objects.specs.StoreOf.{kept_map, next_numbers, store_seen}
 use Rattle.objects.specs.laws.Sound.{sound_whole}
+use Rattle.objects.specs.declared.counts.StoreCounts.{StoreCounts}
 use Rattle.objects.specs.declared.store.Found.{Found}
 use Rattle.objects.proofs.Carried.{carried_known, has_page, kept_of_data, known_there}
 use Rattle.objects.proofs.ReadOnly.{sound_honest}
@@ -70,9 +71,9 @@ carries_still f g x kept same o c xs is = go (kept_pages x o c) refl
         let now : HasVersion g o c p.version xs = subst (HasVersion g o c p.version) bytes (same o c p has.bytes there was) in
         record { spot = now.spot; newest = now.newest; stored = now.stored }
 
-module _ (d : Device) (t : Table) (x : Index) (buffer : Buffer) (cache : PageCache) (scratch : List ℕ) (found : Found) (spare : ℕ) (broken refused : Bool) where
+module _ (d : Device) (t : Table) (x : Index) (buffer : Buffer) (cache : PageCache) (scratch : List ℕ) (found : Found) (spare : ℕ) (broken : Bool) (counts : StoreCounts) where
   abbrev seen : PagesState
-  seen = store_seen d t x buffer cache scratch found spare broken refused
+  seen = store_seen d t x buffer cache scratch found spare broken counts
 
   -- what is kept is what the log keeps
   pub exact_kept : broken ≡ false → (broken ≡ false → d.honest ≡ true → AreKept d.flash (kept_pages x)) → IsExact seen → writing.IsExact d x
@@ -99,7 +100,8 @@ module _ (d : Device) (t : Table) (x : Index) (buffer : Buffer) (cache : PageCac
       most = refl;
       spare = refl;
       worn = refl;
-      refused = λ yes. yes;
+      refused = omega arith;
+      commits = omega arith;
       failed = λ yes. yes;
       device = lasts_here d;
       numbers = hands_told d d t t (hands_nothing d t);
@@ -126,7 +128,8 @@ module _ (d : Device) (t : Table) (x : Index) (buffer : Buffer) (cache : PageCac
       most = refl;
       spare = refl;
       worn = refl;
-      refused = λ yes. yes;
+      refused = omega arith;
+      commits = omega arith;
       failed = λ yes. or_left seen.failed e.gone yes;
       device = seals.keeps.lasts;
       numbers = numbers_told d e t u seals.keeps.numbers;

@@ -1,5 +1,5 @@
 -- What a change and a commit leave of a store.
-use Rattle.std.specs.Prelude.{◌≡◌, ◌≢◌, ◌⊎◌, ◌<◌, ◌≤◌, ◌+◌, ◌*◌, ◌^◌, ℕ, Bool, true, false, List, [], ◌∷◌, length, Option, Some, None, IsSome, IsTrue, Result, Ok, Err, OnOk, slice_get}
+use Rattle.std.specs.Prelude.{◌≡◌, ◌≢◌, ◌⊎◌, ◌<◌, ◌≤◌, ◌+◌, ◌*◌, ℕ, Bool, true, false, List, [], ◌∷◌, length, Option, Some, None, IsSome, IsTrue, Result, Ok, Err, OnOk, slice_get}
 use Rattle.std.specs.Option.{option_map, option_and_then}
 use Rattle.std.proofs.Common.{refl, sym, ◌∙◌, ap, subst, inl, inr, arith}
 use Rattle.std.proofs.lemmas.Bool.{cases_eq, false≢true}
@@ -230,7 +230,7 @@ commit_fails spare count d t u broken causes.Gone why = inl why
 -- the pages of a buffer can be written
 pub writable : (d : Device) (b : Buffer) → AreNumbered d (buffered b) → bytes_of_page b ≡ d.geometry.bytes → AreWritable d (buffered b)
 writable d b objects size = record {
-  few = let few : length (buffered b) ≤ b.most = b.few in let small : b.most < 2 ^ 32 = b.small in omega (arith, few, small);
+  few = let few : length (buffered b) ≤ b.most = b.few in let small : b.most ≤ 64 = b.small in omega (arith, few, small);
   numbered = objects;
   size = λ i p is. b.sized i p is ∙ size;
 }

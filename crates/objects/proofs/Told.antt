@@ -22,7 +22,8 @@ use Rattle.bad_blocks.specs.Standing.{IsWithinLimits}
 use Rattle.bad_blocks.specs.laws.FreeBlocks.{same_bad_blocks}
 use Rattle.pages.specs.Maps.{PageMap}
 use Rattle.pages.specs.State.{PagesState}
-use Rattle.pages.specs.Stores.{HandsOutNumbers, HasNumbersLeft, HasPage, IsCarried, IsCrowded, IsWornOut, KeptAs, SamePages, ChangeFailsBy, CommitFailsBy, bad_on}
+use Rattle.pages.specs.Stores as stores
+use Rattle.pages.specs.Stores.{HandsOutNumbers, HasNumbersLeft, HasPage, IsCarried, Begins, IsCrowded, KeptAs, SamePages, ChangeFailsBy, CommitFailsBy, bad_on}
 use Rattle.volume_terms.specs.declared.fault.StoreFault.{StoreFault}
 use Rattle.volume_terms.specs.declared.fault.StoreFault.TheVariants as faults
 use Rattle.objects.specs.Changing.{HasNothingLeft, IsCommitFault, IsChangeFault}
@@ -184,7 +185,7 @@ is_crowded p x count (ks, list, long) pages many = record {
 module _ (p q : PagesState) (t u : Table) (x : Index) (count : ℕ) (table_is : t.geometry ≡ p.device.geometry) (sizes : q.device.geometry ≡ p.device.geometry) (spare : q.spare ≡ p.spare) (next : q.next ≡ next_numbers u)
     (ready : IsReady q.device u) (fits : p.most ≤ p.device.geometry.pages) (few_pages : count ≤ p.most) (few : bad_count t ≤ p.spare) (listed : HasKept (kept_pages x) (kept_count t))
     (pages : (o c : ℕ) (k : KeptPage) → kept_pages x o c ≡ Some k → HasPage p.kept o c) where
-  pub worn_told : HasNothingLeft p.spare count q.device t u → IsWornOut p q
+  worn_told : HasNothingLeft p.spare count q.device t u → stores.HasNothingLeft p q
   worn_told (inl (inl seq)) = inr (inl (subst (λ n. 2 ^ 62 ≤ n.seq) (sym next) seq))
   worn_told (inl (inr (inl group))) = inl (subst (λ n. 2 ^ 62 ≤ n.group) (sym next) group)
   worn_told (inl (inr (inr more))) =
@@ -212,21 +213,24 @@ module _ (p q : PagesState) (t u : Table) (x : Index) (count : ℕ) (table_is : 
     ]
   ]
 
-  pub change_told : (result : Result (Unit {0}) StoreFault) (broken : Bool) → broken ≡ false → IfErr result (IsChangeFault p.spare count q.device t u broken q.refused) → IfErr result (ChangeFailsBy p q)
-  change_told (Ok done) broken whole why = tt
-  change_told (Err faults.NoMemory) broken whole why = why
-  change_told (Err faults.Worn) broken whole why = worn_told why
-  change_told (Err faults.Device) broken whole (inl is) = inl is
-  change_told (Err faults.Device) broken whole (inr (inl is)) = inr is
-  change_told (Err faults.Device) broken whole (inr (inr is)) = absurd (let two : true ≡ false = sym is ∙ whole in cc)
+  pub change_told : (result : Result (Unit {0}) StoreFault) (broken : Bool) → broken ≡ false → IfErr result (λ fault. (fault ≡ faults.NoMemory) ⊎ Begins p q)
+      → IfErr result (IsChangeFault p.spare count q.device t u broken (p.refused < q.refused)) → IfErr result (ChangeFailsBy p q)
+  change_told (Ok done) broken whole begins why = tt
+  change_told (Err faults.NoMemory) broken whole begins why = why
+  change_told (Err faults.Worn) broken whole (inl none) why = absurd (let two : faults.Worn ≡ faults.NoMemory = none in cc)
+  change_told (Err faults.Worn) broken whole (inr begins) why = (inr begins, worn_told why)
+  change_told (Err faults.Device) broken whole begins (inl is) = inl is
+  change_told (Err faults.Device) broken whole begins (inr (inl is)) = inr is
+  change_told (Err faults.Device) broken whole begins (inr (inr is)) = absurd (let two : true ≡ false = sym is ∙ whole in cc)
 
-  pub commit_told : (result : Result (Unit {0}) StoreFault) (broken : Bool) → broken ≡ false → IfErr result (IsCommitFault p.spare count q.device t u broken) → IfErr result (CommitFailsBy p q)
-  commit_told (Ok done) broken whole why = tt
-  commit_told (Err faults.NoMemory) broken whole why = why
-  commit_told (Err faults.Worn) broken whole why = worn_told why
-  commit_told (Err faults.Device) broken whole (inl is) = inl is
-  commit_told (Err faults.Device) broken whole (inr (inl is)) = inr is
-  commit_told (Err faults.Device) broken whole (inr (inr is)) = absurd (let two : true ≡ false = sym is ∙ whole in cc)
+  pub commit_told : (result : Result (Unit {0}) StoreFault) (broken : Bool) → broken ≡ false → OnErr result (Begins p q)
+      → IfErr result (IsCommitFault p.spare count q.device t u broken) → IfErr result (CommitFailsBy p q)
+  commit_told (Ok done) broken whole begins why = tt
+  commit_told (Err faults.NoMemory) broken whole begins why = why
+  commit_told (Err faults.Worn) broken whole begins why = (inr begins, worn_told why)
+  commit_told (Err faults.Device) broken whole begins (inl is) = inl is
+  commit_told (Err faults.Device) broken whole begins (inr (inl is)) = inr is
+  commit_told (Err faults.Device) broken whole begins (inr (inr is)) = absurd (let two : true ≡ false = sym is ∙ whole in cc)
 
 -- ---- how a commit and a cut end
 

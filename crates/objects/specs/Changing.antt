@@ -30,7 +30,7 @@ IsCommitFault spare count device old new was_broken faults.Device = (device.gone
 IsCommitFault spare count device old new was_broken faults.Worn = HasNothingLeft spare count device old new
 
 -- the same of a change, for which memory may have been refused
-abbrev pub IsChangeFault : (spare count : ℕ) → Device → Table → Table → (was_broken refused : Bool) → StoreFault → Type 0
-IsChangeFault spare count device old new was_broken refused faults.NoMemory = refused ≡ true
-IsChangeFault spare count device old new was_broken refused faults.Device = (device.gone ≡ true) ⊎ (device.honest ≡ false) ⊎ (was_broken ≡ true)
-IsChangeFault spare count device old new was_broken refused faults.Worn = HasNothingLeft spare count device old new
+abbrev pub IsChangeFault : (spare count : ℕ) → Device → Table → Table → (was_broken : Bool) → (memory : Type 0) → StoreFault → Type 0
+IsChangeFault spare count device old new was_broken memory faults.NoMemory = memory
+IsChangeFault spare count device old new was_broken memory faults.Device = (device.gone ≡ true) ⊎ (device.honest ≡ false) ⊎ (was_broken ≡ true)
+IsChangeFault spare count device old new was_broken memory faults.Worn = HasNothingLeft spare count device old new

@@ -25,7 +25,7 @@ Caches device key at old new = (o c : ℕ) (xs : List ℕ) → cached new o c �
     → (cached old o c ≡ Some xs) ⊎ (IsKey key o c × (device.honest ≡ true → data_at device.flash at ≡ Some xs))
 
 -- Why a page that is kept was not found: memory was refused; or the device is gone or not honest, or the store is broken.
-abbrev pub IsFindFault : Device → (broken refused : Bool) → StoreFault → Type 0
-IsFindFault new broken refused faults.NoMemory = refused ≡ true
-IsFindFault new broken refused faults.Device = (new.gone ≡ true) ⊎ (new.honest ≡ false) ⊎ (broken ≡ true)
-IsFindFault new broken refused faults.Worn = ⊥
+abbrev pub IsFindFault : Device → (broken : Bool) → (memory : Type 0) → StoreFault → Type 0
+IsFindFault new broken memory faults.NoMemory = memory
+IsFindFault new broken memory faults.Device = (new.gone ≡ true) ⊎ (new.honest ≡ false) ⊎ (broken ≡ true)
+IsFindFault new broken memory faults.Worn = ⊥

@@ -31,7 +31,8 @@ pub record EndsOn (old new : PagesState) : Type 0 where
   pub most : new.most ≡ old.most
   pub spare : new.spare ≡ old.spare
   pub worn : new.worn ≡ old.worn
-  pub refused : old.refused ≡ true → new.refused ≡ true
+  pub refused : old.refused ≤ new.refused
+  pub commits : old.commits ≤ new.commits
   pub failed : old.failed ≡ true → new.failed ≡ true
   pub device : Lasts old.device new.device
   pub numbers : HandsOutNumbers old.device new.device old.next new.next

@@ -14,6 +14,7 @@ use Rattle.page_buffer.specs.declared.buffer.Buffer.{Buffer}
 use Rattle.page_cache.specs.Cached.{cached}
 use Rattle.page_cache.specs.declared.cache.PageCache.{PageCache}
 use Rattle.objects.specs.Found.{found_bytes}
+use Rattle.objects.specs.declared.counts.StoreCounts.{StoreCounts}
 use Rattle.objects.specs.declared.store.Found.{Found}
 
 -- the pages of the last commit, where they are known
@@ -36,8 +37,8 @@ is_near (presents.InBuffer i) held = true
 
 -- A store as a store of pages: it is sound where its device is honest and no change or commit failed, and it has failed
 -- where its device is gone or is not honest, or a change or commit failed.
-abbrev pub store_seen : Device → Table → Index → Buffer → PageCache → List ℕ → Found → (spare : ℕ) → (broken refused : Bool) → PagesState
-store_seen device t x buffer cache scratch found spare broken refused = record {
+abbrev pub store_seen : Device → Table → Index → Buffer → PageCache → List ℕ → Found → (spare : ℕ) → (broken : Bool) → StoreCounts → PagesState
+store_seen device t x buffer cache scratch found spare broken counts = record {
   page_bytes = device.geometry.bytes;
   most = most_pages buffer;
   present = present_map device x buffer;
@@ -47,7 +48,8 @@ store_seen device t x buffer cache scratch found spare broken refused = record {
   buffered = length (buffered buffer);
   sound = device.honest && not broken;
   failed = device.gone || (not device.honest || broken);
-  refused = refused;
+  refused = counts.refused.total;
+  commits = counts.commits.total;
   asked = device.reads;
   device = device;
   next = next_numbers t;

@@ -16,6 +16,7 @@ ghost use Rattle.page_cache.specs.Changes.{KeepsSizes};
 ghost use Rattle.volume_terms.specs.declared.fault.StoreFault.TheVariants as faults;
 ghost use Rattle.objects.specs.Caching.{HasNoMore, LacksCuts, LacksPages, HavePlaces, HaveUncutPlaces, KeepsKeys, KeepsUncutKeys};
 ghost use Rattle.pages.specs.Stores.{SamePages, IsCarried};
+ghost use Rattle.objects.specs.Counts.{CountsUpTo, HasBegun, IsRefused, NoneFalls};
 ghost use Rattle.objects.specs.Changing.{IsCommitFault, IsChangeFault};
 
 use crate::caching::{drop_cuts, drop_pages, make_places};
@@ -50,7 +51,9 @@ impl<N: Nand> Store<N> {
         ensures answers { OnOk result (AnswersFailures 0 0 (N.state self.old.device) (N.state self.new.device) (table self.old.blocks) (table self.new.blocks)) }
         ensures costs { Costs (length (buffered self.old.buffer) + (N.state self.old.device).geometry.pages + 1) (3 * (N.state self.old.device).geometry.pages + 3) 0 (N.state self.old.device) (N.state self.new.device) }
         ensures reads { ReadsFew (unfinished result) (N.state self.old.device) (N.state self.new.device) }
-        ensures same { (self.new.spare ≡ self.old.spare) × (self.old.refused ≡ true → self.new.refused ≡ true) }
+        ensures same { self.new.spare ≡ self.old.spare }
+        ensures counts { NoneFalls self.old.counts self.new.counts }
+        ensures begins { self.old.broken ≡ false → IfErr result (λ fault. (fault ≡ faults.NoMemory) ⊎ HasBegun self.old.counts self.new.counts) }
         ensures whole { OnOk result ((self.old.broken ≡ false) × (self.new.broken ≡ false)) }
         ensures present { (N.state self.old.device).honest ≡ true → OnOk result (SamePages (present_map (N.state self.new.device) self.new.index self.new.buffer)
             (changed change (present_map (N.state self.old.device) self.old.index self.old.buffer))) }
@@ -67,7 +70,7 @@ impl<N: Nand> Store<N> {
         // Where the buffer has room there is no call of the device, and the table stays.
         ensures room { with_new self.old.index (buffered self.old.buffer) change.pages.items ≤ most_pages self.old.buffer
             → (N.state self.new.device ≡ N.state self.old.device) × SamePages (kept_map (N.state self.new.device) self.new.index) (kept_map (N.state self.old.device) self.old.index)
-            × (table self.new.blocks ≡ table self.old.blocks) }
+            × (table self.new.blocks ≡ table self.old.blocks) × (self.new.counts.commits.total ≡ self.old.counts.commits.total) }
         // The pages are in the buffer then; and where the cache has room for all of them, it has a place for each that is
         // not cut, into which the page comes once it is written.
         ensures buffered { OnOk result (AreBuffered change.pages.items self.new.index) }
@@ -79,7 +82,7 @@ impl<N: Nand> Store<N> {
         // And it stays open then, where it has so many and no program fails.
         ensures keeps_open { OnOk result ((table self.new.blocks ≡ table self.old.blocks) ⊎ KeepsOpen (length (buffered self.old.buffer)) (table self.old.blocks) (table self.new.blocks) (N.state self.old.device) (N.state self.new.device)) }
         ensures stops { IfErr result (λ fault. (fault ≡ faults.NoMemory) ⊎ (self.new.broken ≡ true)) }
-        ensures fault { IfErr result (IsChangeFault self.old.spare (length (buffered self.old.buffer)) (N.state self.new.device) (table self.old.blocks) (table self.new.blocks) self.old.broken self.new.refused) }
+        ensures fault { IfErr result (IsChangeFault self.old.spare (length (buffered self.old.buffer)) (N.state self.new.device) (table self.old.blocks) (table self.new.blocks) self.old.broken (IsRefused self.old.counts self.new.counts)) }
     {
         if self.broken {
             return Err(StoreFault::Device);
@@ -94,17 +97,18 @@ impl<N: Nand> Store<N> {
     /// Sees that there is room for pages in the index and in the cache.
     fn prepare(&mut self, pages: &[FreshPage]) -> Result<(), StoreFault>
         ensures same { (self.new.device ≡ self.old.device) × (self.new.blocks ≡ self.old.blocks) × (self.new.buffer ≡ self.old.buffer)
-            × (self.new.spare ≡ self.old.spare) × (self.new.broken ≡ self.old.broken) × (self.old.refused ≡ true → self.new.refused ≡ true) }
+            × (self.new.spare ≡ self.old.spare) × (self.new.broken ≡ self.old.broken) }
+        ensures counts { NoneFalls self.old.counts self.new.counts × (self.new.counts.commits.total ≡ self.old.counts.commits.total) }
         ensures kept { SameKept self.old.index self.new.index }
         ensures present { SamePresent self.old.index self.new.index }
         ensures ready { OnOk result (AreReady self.new.index pages.now) }
         ensures places { held_count self.old.cache + length pages.now ≤ capacity_of self.old.cache → OnOk result (HavePlaces pages.now self.new.cache) }
-        ensures fault { IfErr result (λ fault. (fault ≡ faults.NoMemory) × (self.new.refused ≡ true)) }
+        ensures fault { IfErr result (λ fault. (fault ≡ faults.NoMemory) × IsRefused self.old.counts self.new.counts) }
     {
         match prepare_all(&mut self.index, &mut self.cache, pages) {
             Ok(()) => Ok(()),
             Err(_) => {
-                self.refused = true;
+                self.counts.refused.rise();
                 Err(StoreFault::NoMemory)
             }
         }
@@ -121,7 +125,9 @@ impl<N: Nand> Store<N> {
         ensures answers { OnOk result (AnswersFailures 0 0 (N.state self.old.device) (N.state self.new.device) (table self.old.blocks) (table self.new.blocks)) }
         ensures costs { Costs (length (buffered self.old.buffer) + (N.state self.old.device).geometry.pages + 1) (3 * (N.state self.old.device).geometry.pages + 3) 0 (N.state self.old.device) (N.state self.new.device) }
         ensures reads { ReadsFew (unfinished result) (N.state self.old.device) (N.state self.new.device) }
-        ensures same { (self.new.spare ≡ self.old.spare) × (self.new.refused ≡ self.old.refused) }
+        ensures same { self.new.spare ≡ self.old.spare }
+        ensures counts { CountsUpTo (length (buffered self.old.buffer)) self.old.counts self.new.counts }
+        ensures begins { OnErr result (HasBegun self.old.counts self.new.counts) }
         ensures keys { (o c : ℕ) → IsReadyKey self.old.index o c → IsReadyKey self.new.index o c }
         ensures whole { OnOk result (self.new.broken ≡ false) }
         ensures kept { OnOk result (SamePages (kept_map (N.state self.new.device) self.new.index) (kept_map (N.state self.old.device) self.old.index)
@@ -134,7 +140,8 @@ impl<N: Nand> Store<N> {
             → IsCarried (N.state self.new.device) self.old.spare (kept_map (N.state self.old.device) self.old.index)
             ⊎ IsCarried (N.state self.new.device) self.old.spare (present_map (N.state self.old.device) self.old.index self.old.buffer) }
         ensures enough { with_new self.old.index (buffered self.old.buffer) pages.now ≤ most_pages self.old.buffer
-            → (self.new.device ≡ self.old.device) × (self.new.index ≡ self.old.index) × (self.new.blocks ≡ self.old.blocks) }
+            → (self.new.device ≡ self.old.device) × (self.new.index ≡ self.old.index) × (self.new.blocks ≡ self.old.blocks)
+            × (self.new.counts.commits.total ≡ self.old.counts.commits.total) }
         ensures takes_none { TakesNoBlock (length (buffered self.old.buffer)) (table self.old.blocks) (N.state self.old.device) (N.state self.new.device) }
         ensures takes_one { TakesOneBlock (length (buffered self.old.buffer)) self.old.spare (table self.old.blocks) (N.state self.old.device) (N.state self.new.device) }
         ensures keeps_open { OnOk result ((table self.new.blocks ≡ table self.old.blocks) ⊎ KeepsOpen (length (buffered self.old.buffer)) (table self.old.blocks) (table self.new.blocks) (N.state self.old.device) (N.state self.new.device)) }
@@ -156,7 +163,7 @@ impl<N: Nand> Store<N> {
         requires objects { AreOfObjects change.pages.items }
         requires room { with_new self.old.index (buffered self.old.buffer) change.pages.items ≤ most_pages self.old.buffer }
         ensures same { (self.new.device ≡ self.old.device) × (self.new.blocks ≡ self.old.blocks) × (self.new.spare ≡ self.old.spare)
-            × (self.new.broken ≡ self.old.broken) × (self.new.refused ≡ self.old.refused) }
+            × (self.new.broken ≡ self.old.broken) × (self.new.counts ≡ self.old.counts) }
         ensures kept { SamePages (kept_map (N.state self.new.device) self.new.index) (kept_map (N.state self.old.device) self.old.index) }
         ensures present { (N.state self.old.device).honest ≡ true → SamePages (present_map (N.state self.new.device) self.new.index self.new.buffer)
             (changed change (present_map (N.state self.old.device) self.old.index self.old.buffer)) }

@@ -11,6 +11,7 @@ ghost use Rattle.commits.specs.Committing.{IsUnhindered, KeepsOpen, TakesNoBlock
 ghost use Rattle.pages.specs.Stores.{SamePages, IsCarried};
 ghost use Rattle.objects.specs.Caching.{TakesPages, KeepsKeys};
 ghost use Rattle.objects.specs.Changing.{IsCommitFault, fault_of};
+ghost use Rattle.objects.specs.Counts.{CountsUpTo, HasBegun};
 
 use crate::caching::keep_written;
 use crate::store::{Found, Store};
@@ -49,7 +50,9 @@ impl<N: Nand> Store<N> {
         ensures costs { Costs (length (buffered self.old.buffer) + (N.state self.old.device).geometry.pages + 1) (3 * (N.state self.old.device).geometry.pages + 3) 0 (N.state self.old.device) (N.state self.new.device) }
         // What is buffered is written without a read.
         ensures reads { ReadsFor (length (buffered self.old.buffer)) (N.state self.old.device) (N.state self.new.device) result }
-        ensures same { (self.new.spare ≡ self.old.spare) × (self.new.refused ≡ self.old.refused) }
+        ensures same { self.new.spare ≡ self.old.spare }
+        ensures counts { CountsUpTo (length (buffered self.old.buffer)) self.old.counts self.new.counts }
+        ensures begins { self.old.broken ≡ false → OnErr result (HasBegun self.old.counts self.new.counts) }
         ensures keys { (o c : ℕ) → IsReadyKey self.old.index o c → IsReadyKey self.new.index o c }
         ensures whole { OnOk result ((self.old.broken ≡ false) × (self.new.broken ≡ false)) }
         ensures kept { OnOk result (SamePages (kept_map (N.state self.new.device) self.new.index) (present_map (N.state self.old.device) self.old.index self.old.buffer)) }
@@ -79,6 +82,7 @@ impl<N: Nand> Store<N> {
         }
         the_counts_are_of_the_keys();
         self.found = Found::Nowhere;
+        self.counts.begin(self.buffer.pages().len());
         match commit(
             &mut self.device,
             &mut self.blocks,

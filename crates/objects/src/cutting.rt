@@ -20,7 +20,7 @@ impl<N: Nand> Store<N> {
     /// no memory.
     pub fn cut_away(&mut self, cut: Cut) -> Result<(), StoreFault>
         ensures same { (self.new.device ≡ self.old.device) × (self.new.blocks ≡ self.old.blocks) × (self.new.spare ≡ self.old.spare)
-            × (self.new.broken ≡ self.old.broken) × (self.new.refused ≡ self.old.refused) }
+            × (self.new.broken ≡ self.old.broken) × (self.new.counts ≡ self.old.counts) }
         ensures kept { SamePages (kept_map (N.state self.new.device) self.new.index) (kept_map (N.state self.old.device) self.old.index) }
         ensures present { (N.state self.old.device).honest ≡ true → OnOk result (SamePages (present_map (N.state self.new.device) self.new.index self.new.buffer)
             (without_cuts (cut ∷ []) (present_map (N.state self.old.device) self.old.index self.old.buffer))) }

@@ -4,12 +4,14 @@
 mod caching;
 mod changing;
 mod committing;
+mod counts;
 mod cutting;
 mod page_store;
 mod reading;
 mod sealing;
 mod store;
 
+pub use counts::StoreCounts;
 pub use object_table::ObjectTable;
 pub use pages::Change;
 pub use store::Store;

@@ -13,12 +13,14 @@ ghost use Rattle.page_buffer.specs.BufferOf.{buffered, most_pages, bytes_of_page
 ghost use Rattle.page_buffer.specs.Shown.{data_at, kept_data, present_data};
 ghost use Rattle.page_cache.specs.Cached.{held, cached, capacity_of, page_bytes_of};
 ghost use Rattle.nand_model.specs.Changes.{OnlyReads};
+ghost use Rattle.objects.specs.Counts.{IsRefused, NoneFalls};
 ghost use Rattle.objects.specs.Found.{IsFound, found_bytes};
 ghost use Rattle.objects.specs.Reading.{IsFindFault};
 ghost use Rattle.objects.specs.Caching.{Shows, KeepsRest};
 ghost use Rattle.commits.specs.Carrying.{AreNumbered};
 ghost use Rattle.objects.specs.laws.OneProof.{stands_prop, newest_kept_prop};
 
+use crate::counts::StoreCounts;
 use crate::reading::load_kept;
 use bad_blocks::MoveRoom;
 use block_state::Blocks;
@@ -59,8 +61,7 @@ pub struct Store<N: Nand> {
     pub(crate) spare: u32,
     // Whether a commit failed, so that nothing is known of the pages any more.
     pub(crate) broken: bool,
-    // Whether memory was refused once.
-    pub(crate) refused: bool,
+    pub(crate) counts: StoreCounts,
     ghost ready: { IsReady (N.state device) (table blocks) },
     ghost stands: { Stands spare (N.state device) (table blocks) index } by { stands_prop spare (N.state device) (table blocks) index },
     ghost room_size: { IsRoomFor (N.state device).geometry room },
@@ -153,7 +154,7 @@ impl<N: Nand> Store<N> {
                 found: Found::Nowhere,
                 spare,
                 broken: false,
-                refused: false,
+                counts: StoreCounts::new(),
             }),
             Err(refused) => Err((device, refused)),
         }
@@ -175,11 +176,11 @@ impl<N: Nand> Store<N> {
         ensures power { OnOk result ((N.state self.new.device).gone ≡ (N.state self.old.device).gone) }
         ensures cached { IsSome (cached self.old.cache key.object key.chunk) → N.state self.new.device ≡ N.state self.old.device }
         ensures rest { KeepsRest key.object key.chunk self.old.cache self.new.cache }
-        ensures refused { self.old.refused ≡ true → self.new.refused ≡ true }
+        ensures counts { NoneFalls self.old.counts self.new.counts × (self.new.counts.commits.total ≡ self.old.counts.commits.total) }
         ensures there { IfOk result (λ presence. presence ≡ Presence.Present) }
         ensures page { self.old.broken ≡ false → (N.state self.old.device).honest ≡ true
             → OnOk result (data_at (N.state self.old.device).flash at ≡ Some (found_bytes (buffered self.new.buffer) self.new.cache self.new.scratch.items self.new.found)) }
-        ensures fault { IfErr result (IsFindFault (N.state self.new.device) self.new.broken self.new.refused) }
+        ensures fault { IfErr result (IsFindFault (N.state self.new.device) self.new.broken (IsRefused self.old.counts self.new.counts)) }
     {
         match load_kept(
             &mut self.device,
@@ -193,7 +194,7 @@ impl<N: Nand> Store<N> {
                 Ok(Presence::Present)
             }
             Err(fault) => {
-                self.refused = self.refused || fault == StoreFault::NoMemory;
+                self.counts.note(fault);
                 Err(fault)
             }
         }
@@ -203,7 +204,7 @@ impl<N: Nand> Store<N> {
 impl<N: Nand> Pages for Store<N> {
     ghost use Rattle.objects.specs.StoreOf.{store_seen};
 
-    ghost state = { λ s. store_seen (N.state s.device) (table s.blocks) s.index s.buffer s.cache s.scratch.items s.found s.spare s.broken s.refused };
+    ghost state = { λ s. store_seen (N.state s.device) (table s.blocks) s.index s.buffer s.cache s.scratch.items s.found s.spare s.broken s.counts };
 
     ghost sized = { λ s. ((N.state s.device).geometry.least_bytes, (N.state s.device).geometry.most_bytes) };
 

@@ -26,6 +26,7 @@ use Rattle.paged_objects.specs.Meaning.{paged_meaning}
 use Rattle.paged_objects.specs.Parts.{state_of}
 use Rattle.paged_objects.specs.Standing.{StandsFor, Shown}
 use Rattle.paged_objects.specs.Ending.{HasEnded}
+use Rattle.paged_objects.specs.laws.Going.{ended_after}
 use Rattle.paged_objects.specs.laws.Lawful.{paged_lawful}
 use Rattle.paged_objects.specs.declared.store.PagedObjects.{PagedObjects}
 use Rattle.pages.specs.State.{PagesState}
@@ -132,7 +133,7 @@ module _ {P : Type 0} (state : P → PagesState) where
   ran_pages z s commands answered a b is same law worn ran = record {
     holds = ran.holds;
     losses = λ tree shown. losses_from (ran.losses tree (shown_to state z a tree is shown));
-    cause = λ stop. (ran.failure stop).fails.0.cause;
+    cause = λ stop. let f = ran.failure stop in ended_after (state (pages_of a)) (state f.from.pages) (state (pages_of b)) f.lasts.0.commits f.fails.0.cause;
     state_is = λ goes. is_volume state z _ b law worn (ran.state goes);
     only_failed = λ only stop. (ran.unread only stop).1.1;
     power = λ refused. not-true _ (ran.power refused);
@@ -183,7 +184,7 @@ module _ {P : Type 0} (state : P → PagesState) (z : Sizes) (objects : Objects)
   commit_tree (Err faults.Worn) none commits tree shown = either (commits.0.turns tree (to_sizes shown))
 
   -- one that is not done has its cause
-  pub commit_cause : (r : Result (Unit {0}) StoreFault) (fault : StoreFault) → r ≡ Err fault → (r ≡ Err faults.NoMemory → ⊥) → Commits (meaning_of state) objects a b r → HasEnded (state b.pages)
+  pub commit_cause : (r : Result (Unit {0}) StoreFault) (fault : StoreFault) → r ≡ Err fault → (r ≡ Err faults.NoMemory → ⊥) → Commits (meaning_of state) objects a b r → HasEnded (state a.pages) (state b.pages)
   commit_cause r faults.NoMemory is none commits = absurd (none is)
   commit_cause r faults.Device is none commits = let ends : Commits (meaning_of state) objects a b (Err faults.Device) = subst (Commits (meaning_of state) objects a b) is commits in ends.0.cause
   commit_cause r faults.Worn is none commits = let ends : Commits (meaning_of state) objects a b (Err faults.Worn) = subst (Commits (meaning_of state) objects a b) is commits in ends.0.cause

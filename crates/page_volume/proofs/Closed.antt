@@ -25,7 +25,7 @@ use Rattle.pages.specs.State.{PagesState}
 use Rattle.pages.specs.Stores.{GoesOn}
 use Rattle.paged_objects.specs.Ending.{HasEnded}
 use Rattle.paged_objects.specs.Standing.{Shown}
-use Rattle.paged_objects.specs.laws.Going.{goes_here, goes_on}
+use Rattle.paged_objects.specs.laws.Going.{ended_after, goes_here, goes_on}
 use Rattle.page_volume.specs.Closing.{Closes, IsClosed}
 use Rattle.page_volume.specs.Volumes.{pages_of, is_read_only, is_stopped, IsVolumeOf}
 use Rattle.page_volume.specs.declared.volume.PageVolume.{PageVolume}
@@ -207,7 +207,7 @@ module _ {P : Type 0} (state : P → PagesState) where
       device = ap (λ (v : PageVolume P). (state (pages_of v)).device) same ∙ so_far.device;
       stands = λ goes. absurd (true≢false (sym stop ∙ sym (ap is_stopped same) ∙ goes));
       tree = λ z s is tree shown. subst (λ (v : PageVolume P). Shown z (state (pages_of v)) tree ⊎ Shown z (state (pages_of v)) (settled s.objects)) (sym same) (so_far.tree z s is tree shown);
-      cause = λ _ z s is. subst (λ (v : PageVolume P). HasEnded (state (pages_of v))) (sym same) (so_far.cause stop z s is);
+      cause = λ _ z s is. subst (λ (v : PageVolume P). HasEnded (state (pages_of a)) (state (pages_of v))) (sym same) (so_far.cause stop z s is);
     }
 
     -- another closes one more descriptor
@@ -215,7 +215,7 @@ module _ {P : Type 0} (state : P → PagesState) where
         (answers : (z : Sizes) (s : State) → IsVolumeOf state z s b → Replies z (is_read_only b) s (record { moment = moment; command = commands.Close n }) r)
         (stands : (z : Sizes) (s : State) → IsVolumeOf state z s b → is_stop r ≡ false → IsVolumeOf state z (after_one z (is_read_only b) s (record { moment = moment; command = commands.Close n }) r) c)
         (tree : (z : Sizes) (s : State) → IsVolumeOf state z s b → (t : Objects) → Shown z (state (pages_of b)) t → Shown z (state (pages_of c)) t ⊎ Shown z (state (pages_of c)) (settled s.objects))
-        (cause : (z : Sizes) (s : State) → IsVolumeOf state z s b → is_stop r ≡ true → HasEnded (state (pages_of c))) where
+        (cause : (z : Sizes) (s : State) → IsVolumeOf state z s b → is_stop r ≡ true → HasEnded (state (pages_of b)) (state (pages_of c))) where
       shown_more : (z : Sizes) (s : State) → IsVolumeOf state z s a → (t : Objects) → Shown z (state (pages_of b)) t → Shown z (state (pages_of c)) t ⊎ Shown z (state (pages_of c)) (settled s.objects)
       shown_more z s is t shown =
           let at = so_far.stands runs z s is in
@@ -242,5 +242,7 @@ module _ {P : Type 0} (state : P → PagesState) where
             | inr again ↦ inr again
           ]
         ];
-        cause = λ stop z s is. let at = so_far.stands runs z s is in cause z at.0 at.1 (sym stops ∙ stop);
+        cause = λ stop z s is.
+            let at = so_far.stands runs z s is in
+            ended_after (state (pages_of a)) (state (pages_of b)) (state (pages_of c)) so_far.goes_on.commits (cause z at.0 at.1 (sym stops ∙ stop));
       }

@@ -28,7 +28,7 @@ pub record Closes {P : Type 0} (state : P → PagesState) (n : ℕ) (a b : PageV
   pub stands : is_stopped b ≡ false → (z : Sizes) (s : State) → IsVolumeOf state z s a → (t : State) × IsVolumeOf state z t b × IsClosed n s t
   pub tree : (z : Sizes) (s : State) → IsVolumeOf state z s a → (tree : Objects) → Shown z (state (pages_of a)) tree
       → Shown z (state (pages_of b)) tree ⊎ Shown z (state (pages_of b)) (settled s.objects)
-  pub cause : is_stopped b ≡ true → (z : Sizes) (s : State) → IsVolumeOf state z s a → HasEnded (state (pages_of b))
+  pub cause : is_stopped b ≡ true → (z : Sizes) (s : State) → IsVolumeOf state z s a → HasEnded (state (pages_of a)) (state (pages_of b))
 
 -- The store is sound, and on an honest device a key has a kept page exactly where it is looked up to see the tree.
 pub record KeepsOnly (z : Sizes) (p : PagesState) (tree : Objects) : Type 0 where

@@ -24,7 +24,7 @@ use Rattle.page_volume.specs.declared.volume.PageVolume.{PageVolume}
 pub record RanPages {P : Type 0} (state : P → PagesState) (z : Sizes) (s : State) (commands : List Stamped) (answered : List Reply) (a b : PageVolume P) : Type 0 where
   pub holds : RunHolds z (is_read_only a) s commands answered
   pub losses : (tree : Objects) → Shown z (state (pages_of a)) tree → LossLeaves (Shown z (state (pages_of b))) tree z (is_read_only a) s commands answered
-  pub cause : is_stopped b ≡ true → HasEnded (state (pages_of b))
+  pub cause : is_stopped b ≡ true → HasEnded (state (pages_of a)) (state (pages_of b))
   pub only_failed : is_read_only a ≡ true → is_stopped b ≡ true → HasFailed (state (pages_of b)).device
   pub state_is : is_stopped b ≡ false → IsVolumeOf state z (after z (is_read_only a) s commands answered) b
   pub power : ends_refused answered ≡ true → (state (pages_of b)).device.gone ≡ false

@@ -81,7 +81,7 @@ impl<P: PageStore> PageVolume<P> {
         ensures synced { is_stopped self.old ≡ false → (z : Sizes) (s : State) → IsVolumeOf P.state z s self.old → is_synced stamped.now.command result ≡ true
             → Shown z (P.state (pages_of self.new)) (settled s.objects) }
         ensures cause { is_stopped self.old ≡ false → (z : Sizes) (s : State) → IsVolumeOf P.state z s self.old → is_stop result ≡ true
-            → HasEnded (P.state (pages_of self.new)) }
+            → HasEnded (P.state (pages_of self.old)) (P.state (pages_of self.new)) }
         // Where memory was refused the device has power.
         ensures power { is_stopped self.old ≡ false → (z : Sizes) (s : State) → IsVolumeOf P.state z s self.old → result ≡ replies.Error errors.ENOMEM
             → (P.state (pages_of self.new)).device.gone ≡ false }
@@ -127,7 +127,7 @@ impl<P: PageStore> PageVolume<P> {
         ensures tree { is_stopped self ≡ false → (z : Sizes) (s : State) → IsVolumeOf P.state z s self → (tree : Objects) → Shown z (P.state (pages_of self)) tree
             → Shown z (P.state result.0) tree ⊎ Shown z (P.state result.0) (settled s.objects) }
         ensures cause { is_stopped self ≡ false → (z : Sizes) (s : State) → IsVolumeOf P.state z s self → result.1 ≡ replies.Error errors.EIO
-            → HasEnded (P.state result.0) }
+            → HasEnded (P.state (pages_of self)) (P.state result.0) }
         // After Done the kept pages are those of the tree, and no others.
         ensures exact { (z : Sizes) (s : State) → CanWrite P.state z s self → result.1 ≡ replies.Done → KeepsOnly z (P.state result.0) (settled s.objects) }
     {

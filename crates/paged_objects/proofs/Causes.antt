@@ -27,12 +27,12 @@ not_crowded z p objects stands crowded =
     omega (arith, few, fit, room, many)
 
 -- so a store that is worn has no numbers left, or more bad blocks than there are to spare
-pub used_up : (z : Sizes) (p q : PagesState) (objects : Objects) → HasPages z p objects → GoesOn p q → IsWornOut p q → IsUsedUp q
-used_up z p q objects has goes (inl group) = inl group
-used_up z p q objects has goes (inr (inl seq)) = inr (inl seq)
-used_up z p q objects has goes (inr (inr (inl bad))) = inr (inr bad)
-used_up z p q objects has goes (inr (inr (inr (inl few)))) =
+pub used_up : (z : Sizes) (p q : PagesState) (objects : Objects) → HasPages z p objects → GoesOn p q → IsWornOut p q → IsUsedUp p q
+used_up z p q objects has goes (why, inl group) = inr (why, inl group)
+used_up z p q objects has goes (why, inr (inl seq)) = inr (why, inr seq)
+used_up z p q objects has goes (why, inr (inr (inl bad))) = inl bad
+used_up z p q objects has goes (why, inr (inr (inr (inl few)))) =
     let sizes : volume_of q ≡ z = volume_on p q goes ∙ has.stands.sizes in
     let numbers : IsSizes (volume_of q) = subst IsSizes (sym sizes) has.can.numbers in
     absurd (omega (arith, few, numbers.spare_blocks))
-used_up z p q objects has goes (inr (inr (inr (inr crowded)))) = absurd (not_crowded z p objects has.stands crowded)
+used_up z p q objects has goes (why, inr (inr (inr (inr crowded)))) = absurd (not_crowded z p objects has.stands crowded)

@@ -7,7 +7,7 @@ use Rattle.volume_terms.specs.declared.fault.StoreFault.TheVariants as faults
 use Rattle.posix_profile.specs.State.{Objects}
 use Rattle.object_store.specs.Stores.{settled}
 use Rattle.pages.specs.State.{PagesState}
-use Rattle.pages.specs.Stores.{SamePages, GoesOn, HasFailed, bad_on}
+use Rattle.pages.specs.Stores.{Begins, SamePages, GoesOn, HasFailed, bad_on}
 use Rattle.object_pages.specs.Holding.{HoldsObjects}
 use Rattle.object_store.specs.Stores.{CanHave}
 use Rattle.paged_objects.specs.Standing.{StandsFor, Shown}
@@ -22,7 +22,8 @@ pub record StaysAs (old new : PagesState) : Type 0 where
   pub worn : new.worn ≡ old.worn
   pub sound : new.sound ≡ old.sound
   pub failed : old.failed ≡ true → new.failed ≡ true
-  pub refused : old.refused ≡ true → new.refused ≡ true
+  pub refused : old.refused ≤ new.refused
+  pub commits : old.commits ≤ new.commits
   pub device : OnlyReads old.device new.device
   pub next : new.next ≡ old.next
   pub checkpoint : new.checkpoint ≡ old.checkpoint
@@ -31,13 +32,22 @@ pub record StaysAs (old new : PagesState) : Type 0 where
 abbrev pub Turns : Sizes → Objects → PagesState → PagesState → Type 0
 Turns z objects p q = (tree : Objects) → Shown z p tree → Shown z q tree ⊎ Shown z q (settled objects)
 
--- nothing is left to write with: a number of 2^62 would be needed, or more blocks are bad than there are to spare
-abbrev pub IsUsedUp : PagesState → Type 0
-IsUsedUp p = (number_end ≤ p.next.group) ⊎ (number_end ≤ p.next.seq) ⊎ (p.spare < bad_on p.device)
+-- a number of 2^62 would be needed
+abbrev pub HasNoNumber : PagesState → Type 0
+HasNoNumber p = (number_end ≤ p.next.group) ⊎ (number_end ≤ p.next.seq)
 
--- what ended the use of a store: its device is gone or not honest, or nothing is left to write with
-abbrev pub HasEnded : PagesState → Type 0
-HasEnded p = HasFailed p.device ⊎ IsUsedUp p
+-- Nothing is left to write with: more blocks are bad than there are to spare; or a number of 2^62 would be needed, of a store
+-- that can only be read, or that began to commit pages between two states.
+abbrev pub IsUsedUp : PagesState → PagesState → Type 0
+IsUsedUp p q = (q.spare < bad_on q.device) ⊎ (((q.worn ≡ true) ⊎ Begins p q) × HasNoNumber q)
+
+-- what ended the use of a store between two states: its device is gone or not honest, or nothing is left to write with
+abbrev pub HasEnded : PagesState → PagesState → Type 0
+HasEnded p q = HasFailed q.device ⊎ IsUsedUp p q
+
+-- the same of one state, whatever was begun before it
+abbrev pub HasEndedAt : PagesState → Type 0
+HasEndedAt q = HasFailed q.device ⊎ (number_end ≤ q.next.group) ⊎ (number_end ≤ q.next.seq) ⊎ (q.spare < bad_on q.device)
 
 -- a change of the objects was made
 pub record Changes (z : Sizes) (objects : Objects) (p q : PagesState) : Type 0 where
@@ -48,7 +58,7 @@ pub record Changes (z : Sizes) (objects : Objects) (p q : PagesState) : Type 0 w
 pub record Fails (z : Sizes) (objects : Objects) (p q : PagesState) : Type 0 where
   pub goes_on : GoesOn p q
   pub turns : Turns z objects p q
-  pub cause : HasEnded q
+  pub cause : HasEnded p q
 
 -- the objects were committed: a mount shows them settled, and a sound store keeps their pages and no others
 pub record Commits (z : Sizes) (objects : Objects) (p q : PagesState) : Type 0 where

@@ -26,6 +26,7 @@ after earlier p = record {
   sound = p.sound;
   failed = p.failed;
   refused = p.refused;
+  commits = p.commits;
   asked = p.asked;
   device = p.device;
   next = p.next;

@@ -1,5 +1,5 @@
 -- Why a call that reads what pages hold fails.
-use Rattle.std.specs.Prelude.{◌≡◌, true}
+use Rattle.std.specs.Prelude.{◌≡◌, ◌<◌, true}
 use Rattle.pages.specs.State.{PagesState}
 use Rattle.volume_terms.specs.declared.fault.StoreFault.{StoreFault}
 use Rattle.volume_terms.specs.declared.fault.StoreFault.TheVariants as store_faults
@@ -20,13 +20,13 @@ Says memory damage full new faults.Worn = ⊥
 Says memory damage full new faults.Damaged = damage
 Says memory damage full new faults.Full = full
 
--- a call that takes no memory, where what it reads is there
-abbrev pub MayLack : PagesState → PageFault → Type 0
-MayLack new = Says (new.refused ≡ true) ⊥ ⊥ new
+-- a call that takes no memory, where what it reads is there: only a growth that is refused in it is a want of memory
+abbrev pub MayLack : PagesState → PagesState → PageFault → Type 0
+MayLack old new = Says (old.refused < new.refused) ⊥ ⊥ new
 
 -- and where nothing is known of what it reads
-abbrev pub SaysWhy : PagesState → PageFault → Type 0
-SaysWhy new = Says (new.refused ≡ true) (Unit {0}) ⊥ new
+abbrev pub SaysWhy : PagesState → PagesState → PageFault → Type 0
+SaysWhy old new = Says (old.refused < new.refused) (Unit {0}) ⊥ new
 
 -- a call that takes memory, where what it reads is there
 abbrev pub MayLackMemory : PagesState → PageFault → Type 0

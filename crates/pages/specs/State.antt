@@ -1,5 +1,5 @@
 -- What is known of a store's pages at one moment, and what a look-up leaves of it.
-use Rattle.std.specs.Prelude.{◌≡◌, ◌≤◌, ℕ, Bool, true, List, Option, Some, None}
+use Rattle.std.specs.Prelude.{◌≡◌, ◌<◌, ◌≤◌, ℕ, Bool, true, List, Option, Some, None}
 use Rattle.nand_model.specs.Calls.{Device}
 use Rattle.nand_model.specs.Changes.{OnlyReads}
 use Rattle.pages.specs.Maps.{PageMap}
@@ -19,8 +19,8 @@ no_numbers = record { group = 0; seq = 0 }
 
 -- The bytes of a page, how many pages a change has at most, the page of each key now and at the last commit, the page that
 -- was found last, of which keys a look-up makes no call of the device, and how many pages the next commit is to write; whether
--- the store keeps what it is told, whether its device has failed, whether it was refused memory, how many pages it has asked
--- for so far; and its device, the numbers that come next, how many blocks may be bad, whether it can only be read, and the block
+-- the store keeps what it is told, whether its device has failed, how many growths were refused to it, how many commits of
+-- buffered pages it began, and how many pages it has asked for so far; and its device, the numbers that come next, how many blocks may be bad, whether it can only be read, and the block
 -- that may have a checkpoint.
 pub record PagesState : Type 0 where
   pub page_bytes : ℕ
@@ -32,7 +32,8 @@ pub record PagesState : Type 0 where
   pub buffered : ℕ
   pub sound : Bool
   pub failed : Bool
-  pub refused : Bool
+  pub refused : ℕ
+  pub commits : ℕ
   pub asked : ℕ
   pub device : Device
   pub next : NextNumbers
@@ -49,7 +50,8 @@ pub record OnlyFinds (old new : PagesState) : Type 0 where
   pub buffered : new.buffered ≡ old.buffered
   pub sound : new.sound ≡ old.sound
   pub failed : old.failed ≡ true → new.failed ≡ true
-  pub refused : old.refused ≡ true → new.refused ≡ true
+  pub refused : old.refused ≤ new.refused
+  pub commits : new.commits ≡ old.commits
   pub asked : old.asked ≤ new.asked
   pub device : OnlyReads old.device new.device
   pub next : new.next ≡ old.next
@@ -66,8 +68,8 @@ abbrev pub FindsPage : PageMap → ℕ → ℕ → List ℕ → Presence → Typ
 FindsPage m o c lent presences.Present = m o c ≡ Some lent
 FindsPage m o c lent presences.Absent = m o c ≡ None
 
--- each fault of a look-up has its cause, and it wears nothing
-abbrev pub FailsBy : PagesState → StoreFault → Type 0
-FailsBy new faults.NoMemory = new.refused ≡ true
-FailsBy new faults.Device = new.failed ≡ true
-FailsBy new faults.Worn = ⊥
+-- Each fault of a look-up has its cause: a growth was refused in that call, or the device has failed. It wears nothing.
+abbrev pub FailsBy : PagesState → PagesState → StoreFault → Type 0
+FailsBy old new faults.NoMemory = old.refused < new.refused
+FailsBy old new faults.Device = new.failed ≡ true
+FailsBy old new faults.Worn = ⊥

@@ -61,7 +61,8 @@ pub record GoesOn (old new : PagesState) : Type 0 where
   pub most : new.most ≡ old.most
   pub spare : new.spare ≡ old.spare
   pub worn : new.worn ≡ old.worn
-  pub refused : old.refused ≡ true → new.refused ≡ true
+  pub refused : old.refused ≤ new.refused
+  pub commits : old.commits ≤ new.commits
   pub failed : old.failed ≡ true → new.failed ≡ true
   pub device : Lasts old.device new.device
   pub numbers : HandsOutNumbers old.device new.device old.next new.next
@@ -82,6 +83,11 @@ KeepsEither old new = KeptAs new old.kept ⊎ KeptAs new old.present
 -- three times a block's pages and three more for each failure.
 abbrev pub CostsACommit : PagesState → PagesState → Type 0
 CostsACommit old new = Costs (old.buffered + old.device.geometry.pages + 1) (3 * old.device.geometry.pages + 3) 0 old.device new.device
+
+-- no commit is begun, and no call of the device is made
+pub record CommitsNothing (old new : PagesState) : Type 0 where
+  pub device : new.device ≡ old.device
+  pub commits : new.commits ≡ old.commits
 
 -- a look-up of each of the pages makes no call of the device
 abbrev pub AreNear : List FreshPage → PagesState → Type 0
@@ -104,11 +110,19 @@ pub record IsCrowded (p : PagesState) : Type 0 where
   pub each : (i : ℕ) (k : Key) → slice_get keys i ≡ Some k → HasPage p.kept k.object k.chunk
   pub many : (p.device.geometry.blocks - p.spare - 1) * (p.device.geometry.pages - p.most) < length keys
 
--- Nothing is left to write with: a number of 2^62 would be needed, more blocks are bad than there are to spare, there are too
--- few blocks, or more is kept than leaves room.
-abbrev pub IsWornOut : PagesState → PagesState → Type 0
-IsWornOut old new = (number_end ≤ new.next.group) ⊎ (number_end ≤ new.next.seq) ⊎ (new.spare < bad_on new.device)
+-- the store began to commit pages that were buffered
+abbrev pub Begins : PagesState → PagesState → Type 0
+Begins old new = old.commits < new.commits
+
+-- nothing is left to write with: a number of 2^62 would be needed, more blocks are bad than there are to spare, there are too
+-- few blocks, or more is kept than leaves room
+abbrev pub HasNothingLeft : PagesState → PagesState → Type 0
+HasNothingLeft old new = (number_end ≤ new.next.group) ⊎ (number_end ≤ new.next.seq) ⊎ (new.spare < bad_on new.device)
     ⊎ (new.device.geometry.blocks < new.spare + 2) ⊎ IsCrowded old
+
+-- nothing is left to write with, of a store that can only be read, or that began a commit
+abbrev pub IsWornOut : PagesState → PagesState → Type 0
+IsWornOut old new = ((new.worn ≡ true) ⊎ Begins old new) × HasNothingLeft old new
 
 -- the device is gone, or it is not honest
 abbrev pub HasFailed : Device → Type 0
@@ -116,7 +130,7 @@ HasFailed device = (device.gone ≡ true) ⊎ (device.honest ≡ false)
 
 -- each fault of a change has its cause
 abbrev pub ChangeFailsBy : PagesState → PagesState → StoreFault → Type 0
-ChangeFailsBy old new faults.NoMemory = new.refused ≡ true
+ChangeFailsBy old new faults.NoMemory = old.refused < new.refused
 ChangeFailsBy old new faults.Device = HasFailed new.device
 ChangeFailsBy old new faults.Worn = IsWornOut old new
 

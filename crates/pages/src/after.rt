@@ -28,9 +28,9 @@ fn load_changed<P: Pages>(pages: &mut P, change: &Change, key: Key) -> Result<So
     ensures page { (P.state pages.old).sound ≡ true
         → IfOk result (λ source. changed change.now (P.state pages.old).present key.object key.chunk ≡ Some (lent_by (Some change.now) (P.state pages.new) source)) }
     ensures power { OnOk result (KeepsPower (P.state pages.old) (P.state pages.new)) }
-    ensures told { IfErr result (SaysWhy (P.state pages.new)) }
+    ensures told { IfErr result (SaysWhy (P.state pages.old) (P.state pages.new)) }
     ensures fault { (P.state pages.old).sound ≡ true → (xs : List ℕ) → changed change.now (P.state pages.old).present key.object key.chunk ≡ Some xs
-        → IfErr result (MayLack (P.state pages.new)) }
+        → IfErr result (MayLack (P.state pages.old) (P.state pages.new)) }
 {
     if let Some(place) = place_of(&change.pages, key) {
         return Ok(Source::Change(place));
@@ -55,9 +55,9 @@ pub fn load_after<P: Pages>(
     ensures page { let seen = after (option_copied earlier.entry) (P.state pages.old) in
         seen.sound ≡ true → IfOk result (λ source. seen.present key.object key.chunk ≡ Some (lent_by (option_copied earlier.entry) (P.state pages.new) source)) }
     ensures power { OnOk result (KeepsPower (P.state pages.old) (P.state pages.new)) }
-    ensures told { IfErr result (SaysWhy (P.state pages.new)) }
+    ensures told { IfErr result (SaysWhy (P.state pages.old) (P.state pages.new)) }
     ensures fault { let seen = after (option_copied earlier.entry) (P.state pages.old) in
-        seen.sound ≡ true → (xs : List ℕ) → seen.present key.object key.chunk ≡ Some xs → IfErr result (MayLack (P.state pages.new)) }
+        seen.sound ≡ true → (xs : List ℕ) → seen.present key.object key.chunk ≡ Some xs → IfErr result (MayLack (P.state pages.old) (P.state pages.new)) }
 {
     match earlier {
         Some(change) => load_changed(pages, change, key),

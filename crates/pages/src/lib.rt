@@ -11,6 +11,7 @@ mod memory;
 mod page_store;
 mod power;
 mod store;
+mod tally;
 
 pub use after::{Source, load_after, page_after};
 pub use change::{Change, Cut, are_sized};
@@ -24,3 +25,4 @@ pub use memory::{Lack, MemPages, Refusal};
 pub use page_store::PageStore;
 pub use power::has_power;
 pub use store::{Pages, Presence};
+pub use tally::Tally;

@@ -13,9 +13,9 @@ pub fn load<P: Pages>(pages: &mut P, key: Key) -> Result<(), PageFault>
     ensures asked { (P.state pages.new).asked ≤ (P.state pages.old).asked + 1 }
     ensures page { (P.state pages.old).sound ≡ true → OnOk result ((P.state pages.old).present key.object key.chunk ≡ Some (P.state pages.new).lent) }
     ensures power { OnOk result (KeepsPower (P.state pages.old) (P.state pages.new)) }
-    ensures told { IfErr result (SaysWhy (P.state pages.new)) }
+    ensures told { IfErr result (SaysWhy (P.state pages.old) (P.state pages.new)) }
     ensures fault { (P.state pages.old).sound ≡ true → (xs : List ℕ) → (P.state pages.old).present key.object key.chunk ≡ Some xs
-        → IfErr result (MayLack (P.state pages.new)) }
+        → IfErr result (MayLack (P.state pages.old) (P.state pages.new)) }
 {
     match pages.find(key)? {
         Presence::Present => Ok(()),

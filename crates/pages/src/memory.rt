@@ -6,6 +6,7 @@ ghost use Rattle.pages.specs.State.{FailsBy};
 
 use crate::change::{Change, place_of};
 use crate::store::{Pages, Presence};
+use crate::tally::Tally;
 use flash_tree::{FreshPage, Key};
 use std::alloc::{AllocError, Global};
 use volume_terms::StoreFault;
@@ -35,7 +36,7 @@ pub struct MemPages {
     finds: u64,
     refusal: Option<Refusal>,
     failed: bool,
-    refused: bool,
+    refused: Tally,
     ghost least: { 512 ≤ page_bytes },
     ghost most: { page_bytes ≤ 4096 },
     ghost sized: { AreSized pages.items page_bytes },
@@ -54,7 +55,7 @@ impl MemPages {
         ensures none { (o c : ℕ) → IfOk result (λ it. (kept it).present o c ≡ None) }
         ensures asked { IfOk result (λ it. (kept it).asked ≡ 0) }
         ensures failed { IfOk result (λ it. (kept it).failed ≡ false) }
-        ensures refused { IfOk result (λ it. (kept it).refused ≡ false) }
+        ensures refused { IfOk result (λ it. (kept it).refused ≡ 0) }
         ensures willing { IfOk result (λ it. refusing it ≡ None) }
     {
         Ok(MemPages {
@@ -65,7 +66,7 @@ impl MemPages {
             finds: 0,
             refusal: None,
             failed: false,
-            refused: false,
+            refused: Tally::new(),
         })
     }
 
@@ -127,16 +128,16 @@ impl MemPages {
         ensures blank { self.new.blank ≡ self.old.blank }
         ensures refusal { self.new.refusal ≡ self.old.refusal }
         ensures failed { self.old.failed ≡ true → self.new.failed ≡ true }
-        ensures refused { self.old.refused ≡ true → self.new.refused ≡ true }
+        ensures refused { self.old.refused.total ≤ self.new.refused.total }
         ensures rises { self.old.finds ≤ self.new.finds }
         ensures asked { self.new.finds ≤ self.old.finds + 1 }
         ensures found { OnOk result (self.new.found ≡ place) }
-        ensures fault { IfErr result (FailsBy (kept self.new)) }
+        ensures fault { IfErr result (FailsBy (kept self.old) (kept self.new)) }
     {
         self.finds = self.finds.saturating_add(1);
         match self.lacking() {
             Some(Lack::Memory) => {
-                self.refused = true;
+                self.refused.rise();
                 Err(StoreFault::NoMemory)
             }
             Some(Lack::Device) => {

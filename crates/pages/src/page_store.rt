@@ -1,10 +1,10 @@
 // Pages that are changed and kept.
-ghost use Rattle.std.specs.Prelude.{◌≡◌, ◌⊎◌, ◌≤◌, ◌+◌, true, false, length, OnOk, IfErr, IsErrOf, ◌∷◌, []};
+ghost use Rattle.std.specs.Prelude.{◌≡◌, ◌⊎◌, ◌≤◌, ◌+◌, true, false, length, IsOk, OnOk, IfErr, IsErrOf, ◌∷◌, []};
 ghost use Rattle.nand_model.specs.Counts.{ReadsFew, ReadsFor, unfinished};
 ghost use Rattle.pages.specs.Changes.{AreApart, AreSized, AreOfObjects};
 ghost use Rattle.pages.specs.Maps.{changed, without_cuts};
 ghost use Rattle.pages.specs.State.{KeepsPower};
-ghost use Rattle.pages.specs.Stores.{SamePages, GoesOn, KeptAs, KeepsEither, StaysSame, CostsACommit, AreNear, ChangeFailsBy, CommitFailsBy, bad_on};
+ghost use Rattle.pages.specs.Stores.{SamePages, GoesOn, KeptAs, KeepsEither, StaysSame, CostsACommit, CommitsNothing, AreNear, ChangeFailsBy, CommitFailsBy, bad_on};
 ghost use Rattle.volume_terms.specs.declared.fault.StoreFault.TheVariants as faults;
 
 use crate::change::{Change, Cut};
@@ -31,8 +31,8 @@ pub trait PageStore: Pages {
         ensures present { (Self.state self.old).sound ≡ true → OnOk result (SamePages (Self.state self.new).present (changed change (Self.state self.old).present)) }
         ensures kept { (Self.state self.old).sound ≡ true → KeepsEither (Self.state self.old) (Self.state self.new) }
         ensures power { OnOk result (KeepsPower (Self.state self.old) (Self.state self.new)) }
-        // Where there is room beside what is buffered there is no call of the device, and else one commit's.
-        ensures room { (Self.state self.old).buffered + length change.pages.items ≤ (Self.state self.old).most → (Self.state self.new).device ≡ (Self.state self.old).device }
+        // Where there is room beside what is buffered nothing is committed, and else once.
+        ensures room { (Self.state self.old).buffered + length change.pages.items ≤ (Self.state self.old).most → CommitsNothing (Self.state self.old) (Self.state self.new) }
         ensures costs { CostsACommit (Self.state self.old) (Self.state self.new) }
         ensures reads { ReadsFew (unfinished result) (Self.state self.old).device (Self.state self.new).device }
         ensures buffered { OnOk result ((Self.state self.new).buffered ≤ (Self.state self.old).buffered + length change.pages.items) }
@@ -62,8 +62,9 @@ pub trait PageStore: Pages {
         ensures kept { (Self.state self.old).sound ≡ true → KeepsEither (Self.state self.old) (Self.state self.new) }
         ensures committed { (Self.state self.old).sound ≡ true → OnOk result (KeptAs (Self.state self.new) (Self.state self.old).present) }
         ensures power { OnOk result (KeepsPower (Self.state self.old) (Self.state self.new)) }
-        // Where nothing is buffered there is no call of the device.
-        ensures nothing { (Self.state self.old).buffered ≡ 0 → (Self.state self.new).device ≡ (Self.state self.old).device }
+        // Where nothing is buffered nothing is committed, and it is done.
+        ensures nothing { (Self.state self.old).buffered ≡ 0 → CommitsNothing (Self.state self.old) (Self.state self.new) }
+        ensures idle { (Self.state self.old).sound ≡ true → (Self.state self.old).buffered ≡ 0 → IsOk result }
         ensures costs { CostsACommit (Self.state self.old) (Self.state self.new) }
         // What is buffered is written without a read.
         ensures reads { ReadsFor (Self.state self.old).buffered (Self.state self.old).device (Self.state self.new).device result }

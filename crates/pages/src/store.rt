@@ -33,7 +33,7 @@ pub trait Pages {
         ensures page { (state self.old).sound ≡ true → IfOk result (FindsPage (state self.old).present key.object key.chunk (state self.new).lent) }
         // An answer is given by a device that has not lost its power in the call.
         ensures power { OnOk result (KeepsPower (state self.old) (state self.new)) }
-        ensures fault { IfErr result (FailsBy (state self.new)) };
+        ensures fault { IfErr result (FailsBy (state self.old) (state self.new)) };
 
     /// Whether the device has power still. It may ask the device, as for a page.
     fn has_power(&mut self) -> bool

@@ -44,7 +44,7 @@ pub record Finished {P : Type 0} (state : P → PagesState) (v : PageVolume P) (
   pub done : is_stopped v ≡ false → (z : Sizes) (s : State) → IsVolumeOf state z s v → reply ≡ replies.Done → Shown z p (settled s.objects)
   pub tree : is_stopped v ≡ false → (z : Sizes) (s : State) → IsVolumeOf state z s v → (tree : Objects) → Shown z (state (pages_of v)) tree
       → Shown z p tree ⊎ Shown z p (settled s.objects)
-  pub cause : is_stopped v ≡ false → (z : Sizes) (s : State) → IsVolumeOf state z s v → reply ≡ replies.Error errors.EIO → HasEnded p
+  pub cause : is_stopped v ≡ false → (z : Sizes) (s : State) → IsVolumeOf state z s v → reply ≡ replies.Error errors.EIO → HasEnded (state (pages_of v)) p
   pub exact : (z : Sizes) (s : State) → CanWrite state z s v → reply ≡ replies.Done → KeepsOnly z p (settled s.objects)
 
 -- the device keeps its power where the pages say so
@@ -107,12 +107,12 @@ module _ {P : Type 0} (state : P → PagesState) (v : PageVolume P) (p : PagesSt
     has_power (Ok done') (inr wrote) all power = wrote.1
     has_power (Err fault) ends not power = absurd (not_done not)
 
-    ended : (r : Result (Unit {0}) StoreFault) → SealEnds due p sealed.pages r → p.sound ≡ true → reply_of r ≡ replies.Error errors.EIO → HasEnded sealed.pages
+    ended : (r : Result (Unit {0}) StoreFault) → SealEnds due p sealed.pages r → p.sound ≡ true → reply_of r ≡ replies.Error errors.EIO → HasEnded (state (pages_of v)) sealed.pages
     ended (Ok done') ends sound not = absurd (not_done (sym not))
     ended (Err faults.NoMemory) ends sound all = absurd ends
     ended (Err faults.Device) (inl failed) sound all = inl failed
     ended (Err faults.Device) (inr unsound) sound all = absurd (true≢false (sym sound ∙ unsound))
-    ended (Err faults.Worn) ends sound all = inr (inr (inr ends))
+    ended (Err faults.Worn) ends sound all = inr (inl ends)
 
     which : (r : Result (Unit {0}) StoreFault) → (reply_of r ≡ replies.Done) ⊎ (reply_of r ≡ replies.Error errors.EIO)
     which (Ok done') = inl refl

@@ -28,7 +28,7 @@ pub record IsReplied {P : Type 0} (state : P → PagesState) (z : Sizes) (s : St
   pub state_is : is_stop reply ≡ false → IsVolumeOf state z (after_one z (is_read_only old) s command reply) new
   pub tree : (tree : Objects) → Shown z (state (pages_of old)) tree → Shown z (state (pages_of new)) tree ⊎ Shown z (state (pages_of new)) (settled s.objects)
   pub synced : is_synced command.command reply ≡ true → Shown z (state (pages_of new)) (settled s.objects)
-  pub cause : is_stop reply ≡ true → HasEnded (state (pages_of new))
+  pub cause : is_stop reply ≡ true → HasEnded (state (pages_of old)) (state (pages_of new))
   pub power : reply ≡ replies.Error errors.ENOMEM → (state (pages_of new)).device.gone ≡ false
   pub reads : OnlyTells z (is_read_only old) s command reply → StaysAs (state (pages_of old)) (state (pages_of new))
   pub only_reads : is_read_only old ≡ true → OnlyReads (state (pages_of old)).device (state (pages_of new)).device

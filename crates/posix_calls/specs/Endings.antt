@@ -39,7 +39,7 @@ pub record IsUnmounted {P : Type 0} (state : P → PagesState) (v : PageVolume P
   pub done : is_stopped v ≡ false → (z : Sizes) (s : State) → IsVolumeOf state z s v → reply ≡ replies.Done → Shown z pages (settled s.objects)
   pub tree : is_stopped v ≡ false → (z : Sizes) (s : State) → IsVolumeOf state z s v → (tree : Objects) → Shown z (state (pages_of v)) tree
       → Shown z pages tree ⊎ Shown z pages (settled s.objects)
-  pub cause : is_stopped v ≡ false → (z : Sizes) (s : State) → IsVolumeOf state z s v → reply ≡ replies.Error errors.EIO → HasEnded pages
+  pub cause : is_stopped v ≡ false → (z : Sizes) (s : State) → IsVolumeOf state z s v → reply ≡ replies.Error errors.EIO → HasEnded (state (pages_of v)) pages
   pub checked : is_stopped v ≡ false → (z : Sizes) (s : State) → IsVolumeOf state z s v → StaysRight (state (pages_of v)) pages
 
 -- what a checkpoint of these pages costs at most: the erase of a block and its pages, and two changes for each failure

@@ -21,7 +21,7 @@ use Rattle.nand_model.specs.Calls.{Device}
 use Rattle.flash_tree.specs.Checkpoints.{IsChecked}
 use Rattle.pages.specs.State.{PagesState}
 use Rattle.pages.specs.Stores.{GoesOn}
-use Rattle.paged_objects.specs.Ending.{HasEnded}
+use Rattle.paged_objects.specs.Ending.{HasEndedAt}
 use Rattle.paged_objects.specs.Standing.{Shown}
 use Rattle.objects.specs.Sealing.{EndsOn, StaysRight}
 use Rattle.objects.specs.laws.Sealing.{ends_going}
@@ -165,7 +165,7 @@ pub record UnmountsOne {V : Type 0} (m : Meaning V) (v : V) (q : PagesState) (re
   pub replies_are : (reply ≡ replies.Done) ⊎ (reply ≡ replies.Error errors.EIO)
   pub done : (z : Sizes) (s : State) → m.stands z s v → reply ≡ replies.Done → Shown z q (settled s.objects)
   pub tree : (z : Sizes) (s : State) → m.stands z s v → (tree : Objects) → Shown z (m.pages v) tree → Shown z q tree ⊎ Shown z q (settled s.objects)
-  pub cause : (z : Sizes) (s : State) → m.stands z s v → reply ≡ replies.Error errors.EIO → HasEnded q
+  pub cause : (z : Sizes) (s : State) → m.stands z s v → reply ≡ replies.Error errors.EIO → HasEndedAt q
   pub checked : (z : Sizes) (s : State) → m.stands z s v → StaysRight (m.pages v) q
 
 module _ {V : Type 0} (m : Meaning V) (commands : List Stamped) (told : List Reply) (a b : V) (done : Does m commands told a b) where
@@ -235,9 +235,9 @@ module _ {V : Type 0} (m : Meaning V) (commands : List Stamped) (told : List Rep
         | inr still ↦ subst (Shown z q) (sym (all_told z s commands told)) ((goes still).done z (after z false s commands told) (does.stands still) is)
       ]
 
-      ended_there : (list_any is_stop told ≡ true) ⊎ (reply ≡ replies.Error errors.EIO) → HasEnded q
+      ended_there : (list_any is_stop told ≡ true) ⊎ (reply ≡ replies.Error errors.EIO) → HasEndedAt q
       ended_there why = elim (cases_Bool (m.stopped b)) [
-        | inl stopped ↦ subst HasEnded (sym (stops stopped).1) (does.cause stopped)
+        | inl stopped ↦ subst HasEndedAt (sym (stops stopped).1) (does.cause stopped)
         | inr still ↦ elim why [
           | inl stop ↦ absurd (true≢false (sym (does.stops ∙ stop) ∙ still))
           | inr told' ↦ (goes still).cause z (after z false s commands told) (does.stands still) told'

@@ -33,7 +33,7 @@ use Rattle.flash_pages.specs.ReadOnly.{next_after}
 use Rattle.mounting.specs.Made.{CanOnlyBeRead, AreNext}
 use Rattle.mounting.specs.Named.{IsTrustedSince}
 use Rattle.objects.specs.Sealing.{EndsOn}
-use Rattle.paged_objects.specs.Ending.{HasEnded}
+use Rattle.paged_objects.specs.Ending.{HasEndedAt}
 use Rattle.paged_objects.specs.Standing.{volume_of, Shown}
 use Rattle.paged_objects.specs.laws.OnFlash.{shown_sound}
 use Rattle.powercut.specs.Commands.{Meaning, LeavesFrom, IsUsed}
@@ -76,7 +76,7 @@ module _ (z : Sizes) (before : Objects) (commands : List Stamped) (told : List R
   ]
 
   -- the session, where what ends the use of a volume is a cut
-  pub session_served : (cut : Bool) → (HasEnded left → cut ≡ true)
+  pub session_served : (cut : Bool) → (HasEndedAt left → cut ≡ true)
       → (after : Objects) × IsSessionFrom z before (mounted_record commands told unmounted cut) after × Shown z left after
   session_served cut ends =
       let some = keeps_some unmounted refl in (
@@ -199,7 +199,7 @@ module _ {V : Type 0} (m : Meaning V) (v : V) (d e : Device) (commands : List St
         omega (arith, rose, first, changes, lt)
 
     -- nothing but a cut ends the use
-    ends_by_cut : HasEnded q → q.device.gone ≡ true
+    ends_by_cut : HasEndedAt q → q.device.gone ≡ true
     ends_by_cut (inl (inl gone)) = gone
     ends_by_cut (inl (inr dishonest)) = absurd (true≢false (sym (lasts.honest ∙ honest) ∙ dishonest))
     ends_by_cut (inr (inl group)) = elim (cases_Bool q.device.gone) [

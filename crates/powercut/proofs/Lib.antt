@@ -1,5 +1,6 @@
 mod Lasting
 mod Doing
+mod Ended
 mod InPower
 mod FailedMount
 mod Standing

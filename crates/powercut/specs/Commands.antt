@@ -17,7 +17,7 @@ use Rattle.posix_profile.specs.declared.reply.Reply.TheVariants as replies
 use Rattle.lives.specs.Lives.{EndsStopped}
 use Rattle.pages.specs.State.{PagesState}
 use Rattle.pages.specs.Stores.{GoesOn}
-use Rattle.paged_objects.specs.Ending.{HasEnded}
+use Rattle.paged_objects.specs.Ending.{HasEndedAt}
 use Rattle.paged_objects.specs.Standing.{Shown}
 
 -- what a volume is: its pages, the states that it stands for, whether it is stopped, and whether it can only be read
@@ -33,7 +33,7 @@ pub record DoesOne {V : Type 0} (m : Meaning V) (z : Sizes) (s : State) (stamped
   pub stands : is_stop reply ≡ false → m.stands z (after_one z (m.read_only a) s stamped reply) b
   pub tree : (tree : Objects) → Shown z (m.pages a) tree → Shown z (m.pages b) tree ⊎ Shown z (m.pages b) (settled s.objects)
   pub synced : is_synced stamped.command reply ≡ true → Shown z (m.pages b) (settled s.objects)
-  pub cause : is_stop reply ≡ true → HasEnded (m.pages b)
+  pub cause : is_stop reply ≡ true → HasEndedAt (m.pages b)
 
 -- From a state: the replies are right, and all commands are answered unless the last reply is EIO; a mount shows the tree after
 -- some of the commands, at least those that a sync covers; the volume is stopped exactly where a reply is EIO, and then for its
@@ -43,7 +43,7 @@ pub record DoesCommands {V : Type 0} (m : Meaning V) (z : Sizes) (s : State) (co
   pub begun : (length answered ≡ length commands) ⊎ EndsStopped answered
   pub losses : (tree : Objects) → Shown z (m.pages a) tree → LossLeaves (Shown z (m.pages b)) tree z false s commands answered
   pub stops : m.stopped b ≡ list_any is_stop answered
-  pub cause : m.stopped b ≡ true → HasEnded (m.pages b)
+  pub cause : m.stopped b ≡ true → HasEndedAt (m.pages b)
   pub stands : m.stopped b ≡ false → m.stands z (after z false s commands answered) b
 
 -- all commands are answered, or the last reply is EIO
@@ -64,7 +64,7 @@ pub record LeavesFrom (z : Sizes) (s : State) (tree : Objects) (commands : List 
   pub holds : RunHolds z false s commands answered
   pub begun : (length answered ≡ length commands) ⊎ EndsStopped answered
   pub unmounts : (reply : Reply) → unmounted ≡ Some reply → (reply ≡ replies.Done) ⊎ (reply ≡ replies.Error errors.EIO)
-  pub cause : (list_any is_stop answered ≡ true) ⊎ (unmounted ≡ Some (replies.Error errors.EIO)) → HasEnded left
+  pub cause : (list_any is_stop answered ≡ true) ⊎ (unmounted ≡ Some (replies.Error errors.EIO)) → HasEndedAt left
   pub losses : LossLeaves (Shown z left) tree z false s commands answered
   pub done : unmounted ≡ Some replies.Done → Shown z left (settled_after z false s commands answered (length answered))
 

@@ -1,5 +1,5 @@
 -- Why pages show no volume or no tree.
-use Rattle.std.specs.Prelude.{◌≡◌, true}
+use Rattle.std.specs.Prelude.{◌≡◌, ◌<◌, true}
 use Rattle.pages.specs.State.{PagesState}
 use Rattle.page_tags.specs.declared.header.HeaderFault.{HeaderFault}
 use Rattle.page_tags.specs.declared.header.HeaderFault.TheVariants as headers
@@ -51,9 +51,9 @@ TellsRoot g m (roots.Newer format) = HasWrongRoot g m (IsNewer format)
 TellsRoot g m roots.Damaged = HasWrongRoot g m IsDamaged
 
 -- memory was refused where it is wanted, and the device has failed where it is told so
-abbrev pub RootFailsBy : PagesState → RootFault → Type 0
-RootFailsBy new roots.NoMemory = new.refused ≡ true
-RootFailsBy new roots.Device = new.failed ≡ true
-RootFailsBy new roots.NotAVolume = Unit {0}
-RootFailsBy new (roots.Newer format) = Unit {0}
-RootFailsBy new roots.Damaged = Unit {0}
+abbrev pub RootFailsBy : PagesState → PagesState → RootFault → Type 0
+RootFailsBy old new roots.NoMemory = old.refused < new.refused
+RootFailsBy old new roots.Device = new.failed ≡ true
+RootFailsBy old new roots.NotAVolume = Unit {0}
+RootFailsBy old new (roots.Newer format) = Unit {0}
+RootFailsBy old new roots.Damaged = Unit {0}

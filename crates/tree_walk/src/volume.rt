@@ -26,7 +26,7 @@ pub fn root<P: Pages>(pages: &mut P, geometry: Geometry) -> Result<u16, RootFaul
         → IfOk result (IsVolume geometry (has (P.state pages.old).present)) }
     ensures fault { (P.state pages.old).sound ≡ true → geometry.bytes ≡ (P.state pages.old).page_bytes
         → IfErr result (TellsRoot geometry (has (P.state pages.old).present)) }
-    ensures why { IfErr result (RootFailsBy (P.state pages.new)) }
+    ensures why { IfErr result (RootFailsBy (P.state pages.old) (P.state pages.new)) }
 {
     let key = Key {
         object: ROOT,

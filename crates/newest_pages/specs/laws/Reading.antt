@@ -1,7 +1,7 @@
 -- What reads of the device leave of the newest pages.
 use Rattle.std.specs.Prelude.{◌≡◌, ◌⊎◌, ℕ, true, not, ◌||◌, List, Option, Some, None, IsSome, Result, Ok, Err, IfOk, IfErr, OnOk}
 use Rattle.std.specs.Option.{option_and_then}
-use Rattle.std.proofs.Common.{refl, sym, ◌∙◌, ap, subst, inl, inr}
+use Rattle.std.proofs.Common.{refl, sym, ◌∙◌, ap, subst, inl, inr, arith}
 use Rattle.std.proofs.lemmas.Bool.{cases_Bool, or_left, or_right}
 use Rattle.nand_model.specs.Flash.{Flash}
 use Rattle.nand_model.specs.Calls.{Device}
@@ -14,7 +14,7 @@ use Rattle.chunk_index.specs.Maps.{KeptMap, kept_pages}
 use Rattle.page_buffer.specs.Shown.{data_at, kept_data}
 use Rattle.pages.specs.Maps.{known_pages}
 use Rattle.pages.specs.laws.Known.{known_same}
-use Rattle.pages.specs.State.{OnlyFinds, FindsPage, FailsBy}
+use Rattle.pages.specs.State.{FailsBy, FindsPage, OnlyFinds, PagesState}
 use Rattle.pages.specs.declared.store.Presence.{Presence}
 use Rattle.pages.specs.declared.store.Presence.TheVariants as presences
 use Rattle.volume_terms.specs.declared.fault.StoreFault.{StoreFault}
@@ -38,7 +38,8 @@ finds_seen a b x y page page' reads index = record {
   buffered = refl;
   sound = reads.lasts.honest;
   failed = failed;
-  refused = λ is. is;
+  refused = omega arith;
+  commits = refl;
   asked = reads.lasts.reads;
   device = reads;
   next = refl;
@@ -83,13 +84,13 @@ not_absent a x o c at is written honest none =
     some_or_none (data_at a.flash at) (written honest o c at is) (sym here ∙ none)
 
 -- each fault has its cause
-pub fault_seen : (a b : Device) (x y : Index) (page : List ℕ) (o c : ℕ) (at : KeptPage) (result : Result Presence StoreFault) → OnlyReads a b → kept_pages x o c ≡ Some at
+pub fault_seen : (old : PagesState) (a b : Device) (x y : Index) (page : List ℕ) (o c : ℕ) (at : KeptPage) (result : Result Presence StoreFault) → OnlyReads a b → kept_pages x o c ≡ Some at
     → (a.honest ≡ true → (o c : ℕ) (k : KeptPage) → kept_pages x o c ≡ Some k → IsSome (data_at a.flash k))
     → IfErr result (λ fault. (fault ≡ faults.Device) × ((b.gone ≡ true) ⊎ (a.honest ≡ true → data_at a.flash at ≡ None)))
-    → IfErr result (FailsBy (seen b y page))
-fault_seen a b x y page o c at (Ok told) reads is written why = tt
-fault_seen a b x y page o c at (Err fault) reads is written why =
-    subst (FailsBy (seen b y page)) (sym why.0) (elim why.1 [
+    → IfErr result (FailsBy old (seen b y page))
+fault_seen old a b x y page o c at (Ok told) reads is written why = tt
+fault_seen old a b x y page o c at (Err fault) reads is written why =
+    subst (FailsBy old (seen b y page)) (sym why.0) (elim why.1 [
       | inl gone ↦ or_left b.gone (not b.honest) gone
       | inr none ↦ elim (cases_Bool a.honest) [
         | inl honest ↦ absurd (some_or_none (data_at a.flash at) (written honest o c at is) (none honest))

@@ -11,6 +11,7 @@ ends_going p q goes = record {
   spare = goes.spare;
   worn = goes.worn;
   refused = goes.refused;
+  commits = goes.commits;
   failed = goes.failed;
   device = goes.device;
   numbers = goes.numbers;

@@ -15,7 +15,7 @@ use Rattle.flash_tree.specs.Numbering.{AreBelow}
 use Rattle.pages.specs.State.{PagesState, NextNumbers, OnlyFinds}
 use Rattle.pages.specs.Stores.{GoesOn, StaysSame, HandsOutNumbers, HasNumbersLeft, bad_on}
 use Rattle.paged_objects.specs.Standing.{volume_of}
-use Rattle.paged_objects.specs.Ending.{StaysAs}
+use Rattle.paged_objects.specs.Ending.{HasEnded, HasEndedAt, StaysAs}
 
 -- look-ups leave the pages as they are
 pub finds_stay : (p q : PagesState) → OnlyFinds p q → StaysAs p q
@@ -29,6 +29,7 @@ finds_stay p q x = record {
   sound = x.sound;
   failed = x.failed;
   refused = x.refused;
+  commits = omega (arith, x.commits);
   device = x.device;
   next = x.next;
   checkpoint = x.checkpoint;
@@ -46,6 +47,7 @@ refused_stays p q goes x = record {
   sound = x.sound;
   failed = goes.failed;
   refused = goes.refused;
+  commits = goes.commits;
   device = subst (OnlyReads p.device) (sym x.device) (only_reads_here p.device);
   next = x.next;
   checkpoint = x.checkpoint;
@@ -61,7 +63,8 @@ stays_here p = record {
   kept = λ o c. refl;
   sound = refl;
   failed = λ is. is;
-  refused = λ is. is;
+  refused = omega arith;
+  commits = omega arith;
   device = only_reads_here p.device;
   next = refl;
   checkpoint = refl;
@@ -77,7 +80,8 @@ stays_on a b c x y = record {
   kept = λ o k. y.kept o k ∙ x.kept o k;
   sound = y.sound ∙ x.sound;
   failed = λ is. y.failed (x.failed is);
-  refused = λ is. y.refused (x.refused is);
+  refused = omega (arith, x.refused, y.refused);
+  commits = omega (arith, x.commits, y.commits);
   device = only_reads_on a.device b.device c.device x.device y.device;
   next = y.next ∙ x.next;
   checkpoint = y.checkpoint ∙ x.checkpoint;
@@ -93,6 +97,20 @@ same_bad a b reads =
 above : (flash : Flash) (group seq more_group more_seq : ℕ) → group ≤ more_group → seq ≤ more_seq → AreBelow flash group seq → AreBelow flash more_group more_seq
 above flash group seq more_group more_seq groups seqs below b p t good tag = let h = below b p t good tag in (omega (arith, h.0, groups), omega (arith, h.1, groups), omega (arith, h.2, seqs))
 
+-- what ended a store between two states ended it between an earlier one and the second
+pub ended_after : (p q r : PagesState) → p.commits ≤ q.commits → HasEnded q r → HasEnded p r
+ended_after p q r rises (inl failed) = inl failed
+ended_after p q r rises (inr (inl bad)) = inr (inl bad)
+ended_after p q r rises (inr (inr (inl worn, none))) = inr (inr (inl worn, none))
+ended_after p q r rises (inr (inr (inr begun, none))) = inr (inr (inr (omega (arith, rises, begun)), none))
+
+-- and at it
+pub ended_at : (p q : PagesState) → HasEnded p q → HasEndedAt q
+ended_at p q (inl failed) = inl failed
+ended_at p q (inr (inl bad)) = inr (inr (inr bad))
+ended_at p q (inr (inr (why, inl group))) = inr (inl group)
+ended_at p q (inr (inr (why, inr seq))) = inr (inr (inl seq))
+
 -- pages that stay go on
 pub stays_goes : (p q : PagesState) → StaysAs p q → GoesOn p q
 stays_goes p q x =
@@ -107,6 +125,7 @@ stays_goes p q x =
       spare = x.spare;
       worn = x.worn;
       refused = x.refused;
+      commits = x.commits;
       failed = x.failed;
       device = x.device.lasts;
       numbers = record {
@@ -164,7 +183,8 @@ goes_on a b c x y = record {
   most = y.most ∙ x.most;
   spare = y.spare ∙ x.spare;
   worn = y.worn ∙ x.worn;
-  refused = λ is. y.refused (x.refused is);
+  refused = omega (arith, x.refused, y.refused);
+  commits = omega (arith, x.commits, y.commits);
   failed = λ is. y.failed (x.failed is);
   device = lasts_on a.device b.device c.device x.device y.device;
   numbers = numbers_on a.device b.device c.device a.next b.next c.next x.device y.device x.numbers y.numbers;

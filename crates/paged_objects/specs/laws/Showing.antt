@@ -18,7 +18,7 @@ use Rattle.object_store.specs.Stores.{CanHave}
 use Rattle.object_pages.specs.laws.Holding.{same_objects}
 use Rattle.paged_objects.specs.Standing.{volume_of, StandsFor, Shown}
 use Rattle.paged_objects.specs.Ending.{StaysAs, Turns, Changes, Fails, Commits}
-use Rattle.paged_objects.specs.laws.Going.{stays_goes, goes_on, volume_on}
+use Rattle.paged_objects.specs.laws.Going.{ended_after, stays_goes, goes_on, volume_on}
 
 -- what a device carries it carries after reads
 carried_read : (a b : Device) (spare : ℕ) (m : PageMap) → OnlyReads a b → a.honest ≡ true → IsCarried a spare m → IsCarried b spare m
@@ -122,7 +122,7 @@ pub fails_after : (z : Sizes) (p q r : PagesState) (objects : Objects) → Stays
 fails_after z p q r objects stays fails = record {
   goes_on = goes_on p q r (stays_goes p q stays) fails.goes_on;
   turns = turns_after z p q r objects stays fails.turns;
-  cause = fails.cause;
+  cause = ended_after p q r stays.commits fails.cause;
 }
 
 pub commits_after : (z : Sizes) (p q r : PagesState) (objects : Objects) → StaysAs p q → Commits z objects q r → Commits z objects p r

@@ -16,6 +16,7 @@ finds_after earlier a b x = record {
   sound = x.sound;
   failed = x.failed;
   refused = x.refused;
+  commits = x.commits;
   asked = x.asked;
   device = x.device;
   next = x.next;

@@ -75,3 +75,6 @@ returns-clause-empty g c = λ none. c.retire_all.ensures.empty (ap (λ (s : Tabl
 
 pub retire_all-requires-clause-none : goal.retire_all-requires-clause-none
 retire_all-requires-clause-none g c = ap (λ (x : Table). x.checkpoint) c.close.ensures ∙ c.requires.none
+
+pub returns-clause-needs_none : goal.returns-clause-needs_none
+returns-clause-needs_none g c = λ none. c.retire_all.ensures.needs_none (ap (λ (s : Table). (s.entry c.args.block).kept) c.close.ensures ∙ none)

@@ -31,7 +31,7 @@ returns-in_err-load-clause-fault g c = λ z moment all f head.
     let set : is_present f.reads.fields.bits (1 + c.args.index) ≡ true = ap (λ (xs : List ℕ). is_present xs (1 + c.args.index)) (sym (c.deref.ensures.value ∙ head.bits)) ∙ sym c.is_present.ensures ∙ on in
     let page = chunk_there old z c.args.object moment all f d (size_old ∙ sym f.size) some c.args.index set in
     let p = err_from_is_err_and c.from_residual-in_err-load.result c.from_residual-in_err-load.ensures.1 in
-    rw (p.1, p.2) (lacks_memory (g.P.Pages.state c.load.new.pages) _ (c.in_err-load.ensures.fault f.sound page.0 page.1))
+    rw (p.1, p.2) (lacks_memory (g.P.Pages.state c.args.pages.now) (g.P.Pages.state c.load.new.pages) _ (c.in_err-load.ensures.fault f.sound page.0 page.1))
 
 pub returns-clause-holds : goal.returns-clause-holds
 returns-clause-holds g c = λ z moment all f head.

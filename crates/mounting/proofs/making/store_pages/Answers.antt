@@ -42,5 +42,5 @@ returns-in-Ok-clause-made g c =
     let told = c.in-Ok.ensures in
     let same : c.from.result ≡ on.spare = search rules in
     store_pages (keeps_key on.tree) d (table on.blocks) on.index (numbers_of on.numbers) on.spare c.requires.read.tables c.requires.fitting c.requires.room c.requires.can (c.the_counts_are_of_the_keys.ensures.none on.index)
-    (g.N.Nand.state s.device) s.index (table s.blocks) s.buffer s.cache s.scratch.items s.found s.spare s.broken s.refused
+    (g.N.Nand.state s.device) s.index (table s.blocks) s.buffer s.cache s.scratch.items s.found s.spare s.broken s.counts
     (ap g.N.Nand.state told.device) (subst (λ k. (table s.blocks ≡ table on.blocks) × (s.spare ≡ k)) same told.blocks) told.whole told.most told.kept told.pages

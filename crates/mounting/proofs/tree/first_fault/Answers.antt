@@ -12,4 +12,4 @@ pub returns-in-Err-clause-told : goal.returns-in-Err-clause-told
 returns-in-Err-clause-told g c = λ sound size below. root_tells c.args.geometry (has (g.P.Pages.state c.args.pages.now).present) c.in-Err.fault (c.in-Err.ensures.fault sound size)
 
 pub returns-in-Err-clause-why : goal.returns-in-Err-clause-why
-returns-in-Err-clause-why g c = λ below. root_fails c.in-Err.fault (g.P.Pages.state c.root.new.pages) c.in-Err.ensures.why
+returns-in-Err-clause-why g c = λ below. root_fails c.in-Err.fault (g.P.Pages.state c.args.pages.now) (g.P.Pages.state c.root.new.pages) c.in-Err.ensures.why

@@ -15,7 +15,7 @@ use Rattle.object_pages.proofs.content.touch.Goals as goal
 pub returns-in_err-info-clause-fault : goal.returns-in_err-info-clause-fault
 returns-in_err-info-clause-fault g c = λ z objects h file fits.
     let r = err_from_is_err_and c.from_residual.result c.from_residual.ensures.1 in
-    rw (r.1, r.2) (lacks_memory (g.P.Pages.state c.read_info.new.pages) _ (c.in_err-info.ensures.fault z file.0 file.1 (file_in (g.P.Pages.state c.args.pages.now) z objects h c.args.number file)))
+    rw (r.1, r.2) (lacks_memory (g.P.Pages.state c.args.pages.now) (g.P.Pages.state c.read_info.new.pages) _ (c.in_err-info.ensures.fault z file.0 file.1 (file_in (g.P.Pages.state c.args.pages.now) z objects h c.args.number file)))
 
 pub returns-clause-touches : goal.returns-clause-touches
 returns-clause-touches g c = λ z objects h file.

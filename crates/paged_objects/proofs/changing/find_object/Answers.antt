@@ -16,4 +16,4 @@ returns-in-Err-clause-fault g c = λ z objects has tells is.
     let p : PagesState = g.P.Pages.state c.args.pages.now in
     let q : PagesState = g.P.Pages.state c.find.new.pages in
     rw c.fault_of.ensures (read_fault q c.in-Err.fault (g.met.P.PageStore.lost c.find.new.pages (c.find.ensures.finds.sound ∙ has.pages.stands.sound))
-    (lacks_memory q c.in-Err.fault (c.in-Err.ensures.fault z objects (holds_in z p objects has.pages.stands) is (c.entry_count.ensures objects tells is ∙ ap (λ x. map.len (entries_of x)) is.2))))
+    (lacks_memory p q c.in-Err.fault (c.in-Err.ensures.fault z objects (holds_in z p objects has.pages.stands) is (c.entry_count.ensures objects tells is ∙ ap (λ x. map.len (entries_of x)) is.2))))

@@ -26,9 +26,10 @@ returns-clause-goes_on g c =
     record {
       page_bytes = ap (λ (k : Geometry). k.bytes) e.lasts.geometry;
       most = new.most ∙ ap (λ (k : Geometry). k.pages / 4) e.lasts.geometry ∙ sym self.most;
-      spare = e.same.0;
+      spare = e.same;
       worn = refl;
-      refused = e.same.1;
+      refused = e.counts.refused;
+      commits = e.counts.commits;
       failed = failed_stays old now self.broken new.broken e.lasts (breaks_on c.change.result self.broken new.broken e.whole e.stops (λ none. (e.refused none).2));
       device = e.lasts;
       numbers = hands_told old now (table self.blocks) (table new.blocks) e.numbers;
@@ -55,14 +56,14 @@ returns-clause-kept g c = λ sound.
     let now = g.N.Nand.state new.device in
     let honest = sound_honest old.honest self.broken sound in
     let whole = sound_whole old.honest self.broken sound in
-    let q : PagesState = store_seen now (table new.blocks) new.index new.buffer new.cache new.scratch.items new.found new.spare new.broken new.refused in
+    let q : PagesState = store_seen now (table new.blocks) new.index new.buffer new.cache new.scratch.items new.found new.spare new.broken new.counts in
     let m = kept_map old self.index in
     let n = present_map old self.index self.buffer in
     keeps_either q m n
     (ways c.change.result q m n (sound_on c.change.result old now self.broken new.broken e.lasts e.whole honest) e.kept (stops_told c.change.result now.honest new.broken e.stops)
     (λ none. let is = e.refused none in (is_sound now.honest new.broken (e.lasts.honest ∙ honest) (is.2 ∙ whole), is.3)))
     (λ is. store_carries new.spare now (table new.blocks) new.index c.the_counts_are_of_the_keys.ensures.none new.ready new.stands.tables (new.newest (sound_whole now.honest new.broken is) (sound_honest now.honest new.broken is)))
-    (subst (λ k. IsCarried now k m ⊎ IsCarried now k n) (sym e.same.0) (e.carried whole honest))
+    (subst (λ k. IsCarried now k m ⊎ IsCarried now k n) (sym e.same) (e.carried whole honest))
 
 pub returns-clause-refused : goal.returns-clause-refused
 returns-clause-refused g c = λ none.
@@ -90,16 +91,18 @@ returns-clause-fault g c = λ sound.
     let now = g.N.Nand.state new.device in
     let honest = sound_honest old.honest self.broken sound in
     let whole = sound_whole old.honest self.broken sound in
-    let p : PagesState = store_seen old (table self.blocks) self.index self.buffer self.cache self.scratch.items self.found self.spare self.broken self.refused in
-    let q : PagesState = store_seen now (table new.blocks) new.index new.buffer new.cache new.scratch.items new.found new.spare new.broken new.refused in
+    let p : PagesState = store_seen old (table self.blocks) self.index self.buffer self.cache self.scratch.items self.found self.spare self.broken self.counts in
+    let q : PagesState = store_seen now (table new.blocks) new.index new.buffer new.cache new.scratch.items new.found new.spare new.broken new.counts in
     let few : length (buffered self.buffer) ≤ most_pages self.buffer = self.buffer.few in
     let most : most_pages self.buffer ≡ old.geometry.pages / 4 = self.most in
-    change_told p q (table self.blocks) (table new.blocks) self.index (length (buffered self.buffer)) self.ready.geometry e.lasts.geometry e.same.0 refl new.ready (omega (arith, most)) few (self.few whole)
+    change_told p q (table self.blocks) (table new.blocks) self.index (length (buffered self.buffer)) self.ready.geometry e.lasts.geometry e.same refl new.ready (omega (arith, most)) few (self.few whole)
     (c.the_counts_add_up_to_the_kept_keys.ensures.all (table self.blocks) self.index self.stands.tables.counts) (λ o k at is. has_page old self.index o k at honest (self.newest whole honest) is)
-    c.change.result self.broken whole e.fault
+    c.change.result self.broken whole (e.begins whole) e.fault
 
 pub returns-clause-room : goal.returns-clause-room
-returns-clause-room g c = λ fits. (c.change.ensures.room (omega (arith, fits, few_new c.args.self.now.index c.args.change.pages.items))).0
+returns-clause-room g c = λ fits.
+    let r = c.change.ensures.room (omega (arith, fits, few_new c.args.self.now.index c.args.change.pages.items)) in
+    record { device = r.0; commits = r.3 }
 
 pub returns-clause-near : goal.returns-clause-near
 returns-clause-near g c = on_ok_weaker c.change.result (λ there i p is. near_buffered _ _ (there i p is)) c.change.ensures.buffered

@@ -1,5 +1,5 @@
 use Rattle.std.specs.Prelude.{◌≡◌, ◌⊎◌, ◌≤◌, ◌+◌, ◌*◌, ◌/◌, List, length}
-use Rattle.std.proofs.Common.{refl, ◌∙◌, sym, ap, subst, arith}
+use Rattle.std.proofs.Common.{refl, ◌∙◌, sym, ap, subst, inl, arith}
 use Rattle.std.proofs.lemmas.Result.{on_ok_weaker}
 use Rattle.flash_tree.specs.declared.place.FreshPage.{FreshPage}
 use Rattle.nand_model.specs.declared.geometry.Geometry.{Geometry}
@@ -24,9 +24,10 @@ returns-clause-goes_on g c =
     record {
       page_bytes = ap (λ (k : Geometry). k.bytes) e.lasts.geometry;
       most = new.most ∙ ap (λ (k : Geometry). k.pages / 4) e.lasts.geometry ∙ sym self.most;
-      spare = e.same.0;
+      spare = e.same;
       worn = refl;
-      refused = λ is. e.same.1 ∙ is;
+      refused = omega (arith, e.counts.refused);
+      commits = e.counts.commits;
       failed = failed_stays old now self.broken new.broken e.lasts
           (breaks_on c.write_out.result self.broken new.broken e.whole (stops_either c.write_out.result new.broken e.stops) (λ none. absurd (takes_none c.write_out.result self.spare (length (buffered self.buffer)) now (table self.blocks) (table new.blocks) self.broken e.fault none)));
       device = e.lasts;
@@ -51,14 +52,14 @@ returns-clause-kept g c = λ sound.
     let now = g.N.Nand.state new.device in
     let honest = sound_honest old.honest self.broken sound in
     let whole = sound_whole old.honest self.broken sound in
-    let q : PagesState = store_seen now (table new.blocks) new.index new.buffer new.cache new.scratch.items new.found new.spare new.broken new.refused in
+    let q : PagesState = store_seen now (table new.blocks) new.index new.buffer new.cache new.scratch.items new.found new.spare new.broken new.counts in
     let m = kept_map old self.index in
     let n = present_map old self.index self.buffer in
     keeps_either q m n
     (ways c.write_out.result q m n (sound_on c.write_out.result old now self.broken new.broken e.lasts e.whole honest) (right_way c.write_out.result q m n e.kept)
     (stops_told c.write_out.result now.honest new.broken (stops_either c.write_out.result new.broken e.stops)) (λ none. absurd (takes_none c.write_out.result self.spare (length (buffered self.buffer)) now (table self.blocks) (table new.blocks) self.broken e.fault none)))
     (λ is. store_carries new.spare now (table new.blocks) new.index c.the_counts_are_of_the_keys.ensures.none new.ready new.stands.tables (new.newest (sound_whole now.honest new.broken is) (sound_honest now.honest new.broken is)))
-    (subst (λ k. IsCarried now k m ⊎ IsCarried now k n) (sym e.same.0) (e.carried whole honest))
+    (subst (λ k. IsCarried now k m ⊎ IsCarried now k n) (sym e.same) (e.carried whole honest))
 
 pub returns-clause-committed : goal.returns-clause-committed
 returns-clause-committed g c = λ sound.
@@ -68,7 +69,7 @@ returns-clause-committed g c = λ sound.
     let old = g.N.Nand.state self.device in
     let now = g.N.Nand.state new.device in
     let honest = sound_honest old.honest self.broken sound in
-    let q : PagesState = store_seen now (table new.blocks) new.index new.buffer new.cache new.scratch.items new.found new.spare new.broken new.refused in
+    let q : PagesState = store_seen now (table new.blocks) new.index new.buffer new.cache new.scratch.items new.found new.spare new.broken new.counts in
     committed c.write_out.result q (present_map old self.index self.buffer) (sound_on c.write_out.result old now self.broken new.broken e.lasts e.whole honest) e.kept
     (λ is. store_carries new.spare now (table new.blocks) new.index c.the_counts_are_of_the_keys.ensures.none new.ready new.stands.tables (new.newest (sound_whole now.honest new.broken is) (sound_honest now.honest new.broken is)))
 
@@ -84,13 +85,13 @@ returns-clause-fault g c = λ sound.
     let now = g.N.Nand.state new.device in
     let honest = sound_honest old.honest self.broken sound in
     let whole = sound_whole old.honest self.broken sound in
-    let p : PagesState = store_seen old (table self.blocks) self.index self.buffer self.cache self.scratch.items self.found self.spare self.broken self.refused in
-    let q : PagesState = store_seen now (table new.blocks) new.index new.buffer new.cache new.scratch.items new.found new.spare new.broken new.refused in
+    let p : PagesState = store_seen old (table self.blocks) self.index self.buffer self.cache self.scratch.items self.found self.spare self.broken self.counts in
+    let q : PagesState = store_seen now (table new.blocks) new.index new.buffer new.cache new.scratch.items new.found new.spare new.broken new.counts in
     let few : length (buffered self.buffer) ≤ most_pages self.buffer = self.buffer.few in
     let most : most_pages self.buffer ≡ old.geometry.pages / 4 = self.most in
-    commit_told p q (table self.blocks) (table new.blocks) self.index (length (buffered self.buffer)) self.ready.geometry e.lasts.geometry e.same.0 refl new.ready (omega (arith, most)) few (self.few whole)
+    commit_told p q (table self.blocks) (table new.blocks) self.index (length (buffered self.buffer)) self.ready.geometry e.lasts.geometry e.same refl new.ready (omega (arith, most)) few (self.few whole)
     (c.the_counts_add_up_to_the_kept_keys.ensures.all (table self.blocks) self.index self.stands.tables.counts) (λ o k at is. has_page old self.index o k at honest (self.newest whole honest) is)
-    c.write_out.result self.broken whole e.fault
+    c.write_out.result self.broken whole (e.begins whole) e.fault
 
 pub returns-clause-memory : goal.returns-clause-memory
 returns-clause-memory g c = λ none.
@@ -99,7 +100,15 @@ returns-clause-memory g c = λ none.
     takes_none c.write_out.result self.spare (length (buffered self.buffer)) (g.N.Nand.state new.device) (table self.blocks) (table new.blocks) self.broken c.write_out.ensures.fault none
 
 pub returns-clause-nothing : goal.returns-clause-nothing
-returns-clause-nothing g c = λ none. c.write_out.ensures.nothing (none_buffered (buffered c.args.self.now.buffer) none)
+returns-clause-nothing g c = λ none. record {
+  device = c.write_out.ensures.nothing (none_buffered (buffered c.args.self.now.buffer) none);
+  commits = c.write_out.ensures.counts.none none;
+}
+
+pub returns-clause-idle : goal.returns-clause-idle
+returns-clause-idle g c = λ sound none.
+    let self = c.args.self.now in
+    c.write_out.ensures.unhindered (sound_whole (g.N.Nand.state self.device).honest self.broken sound) (inl (none_buffered (buffered self.buffer) none))
 
 pub returns-clause-buffered : goal.returns-clause-buffered
 returns-clause-buffered g c = on_ok_weaker c.write_out.result (λ empty. ap (λ (xs : List FreshPage). length xs) empty) c.write_out.ensures.empty

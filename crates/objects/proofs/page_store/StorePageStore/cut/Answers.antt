@@ -1,11 +1,12 @@
-use Rattle.std.specs.Prelude.{◌≡◌, ◌/◌, true, false}
-use Rattle.std.proofs.Common.{refl, ◌∙◌, sym, ap, subst}
+use Rattle.std.specs.Prelude.{◌≡◌, ◌≤◌, ◌/◌, true, false}
+use Rattle.std.proofs.Common.{refl, ◌∙◌, sym, ap, subst, arith}
 use Rattle.nand_model.specs.Calls.{Device, Lasts}
 use Rattle.nand_model.specs.declared.geometry.Geometry.{Geometry}
 use Rattle.nand_model.specs.laws.Calls.{lasts_here}
 use Rattle.block_state.specs.TableOf.{table}
 use Rattle.pages.specs.State.{PagesState}
 use Rattle.pages.specs.Stores.{HasNumbersLeft}
+use Rattle.objects.specs.declared.counts.StoreCounts.{StoreCounts}
 use Rattle.objects.specs.StoreOf.{kept_map, next_numbers, store_seen}
 use Rattle.objects.proofs.Carried.{store_carries}
 use Rattle.objects.specs.laws.Sound.{sound_whole}
@@ -29,7 +30,8 @@ returns-clause-goes_on g c =
       most = new.most ∙ ap (λ (k : Geometry). k.pages / 4) lasts.geometry ∙ sym self.most;
       spare = same.2;
       worn = refl;
-      refused = λ is. same.4 ∙ is;
+      refused = subst (λ (k : StoreCounts). self.counts.refused.total ≤ k.refused.total) (sym same.4) (omega arith);
+      commits = subst (λ (k : StoreCounts). self.counts.commits.total ≤ k.commits.total) (sym same.4) (omega arith);
       failed = failed_stays old now self.broken new.broken lasts (λ is. same.3 ∙ is);
       device = lasts;
       numbers = hands_none old now (table self.blocks) (table new.blocks) still tables;
@@ -50,7 +52,7 @@ returns-clause-kept g c = λ sound.
     let now = g.N.Nand.state new.device in
     let honest : now.honest ≡ true = ap (λ x. (g.N.Nand.state x).honest) e.same.0 ∙ sound_honest old.honest self.broken sound in
     let whole : new.broken ≡ false = e.same.3 ∙ sound_whole old.honest self.broken sound in
-    let q : PagesState = store_seen now (table new.blocks) new.index new.buffer new.cache new.scratch.items new.found new.spare new.broken new.refused in
+    let q : PagesState = store_seen now (table new.blocks) new.index new.buffer new.cache new.scratch.items new.found new.spare new.broken new.counts in
     kept_as q (kept_map old self.index) e.kept (store_carries new.spare now (table new.blocks) new.index c.the_counts_are_of_the_keys.ensures.none new.ready new.stands.tables (new.newest whole honest))
 
 pub returns-clause-stops : goal.returns-clause-stops
@@ -63,8 +65,8 @@ pub returns-clause-fault : goal.returns-clause-fault
 returns-clause-fault g c = λ sound.
     let self = c.args.self.now in
     let new = c.cut_away.new.self in
-    cut_told c.cut_away.result (store_seen (g.N.Nand.state self.device) (table self.blocks) self.index self.buffer self.cache self.scratch.items self.found self.spare self.broken self.refused)
-    (store_seen (g.N.Nand.state new.device) (table new.blocks) new.index new.buffer new.cache new.scratch.items new.found new.spare new.broken new.refused) self.broken
+    cut_told c.cut_away.result (store_seen (g.N.Nand.state self.device) (table self.blocks) self.index self.buffer self.cache self.scratch.items self.found self.spare self.broken self.counts)
+    (store_seen (g.N.Nand.state new.device) (table new.blocks) new.index new.buffer new.cache new.scratch.items new.found new.spare new.broken new.counts) self.broken
     (sound_whole (g.N.Nand.state self.device).honest self.broken sound) c.cut_away.ensures.fault
 
 pub returns-clause-device : goal.returns-clause-device

@@ -13,6 +13,7 @@ use Rattle.flash_tree.specs.declared.place.FreshPage.{FreshPage}
 use Rattle.page_cache.specs.Cached.{held_count, capacity_of}
 use Rattle.page_buffer.specs.Buffering.{AreReady}
 use Rattle.pages.specs.Stores.{IsCarried}
+use Rattle.objects.specs.declared.counts.StoreCounts.{StoreCounts}
 use Rattle.objects.specs.StoreOf.{kept_map, present_map}
 use Rattle.objects.proofs.Carried.{carried_same, either_same, store_carries}
 use Rattle.objects.proofs.Steps.{same_back, same_on, fits_on, hands_still, hands_between, takes_still, takes_between, takes_one_still, takes_one_between, costs_still, costs_between, open_between, kept_map_same, present_map_same, ready_prepared, few_new}
@@ -101,7 +102,7 @@ returns-in_err-make_room-clause-room g c = λ fits.
     let same = c.prepare.ensures.same in
     let enough = c.make_room.ensures.enough (fits_on self.index p.index self.buffer p.buffer c.args.change.pages.items c.deref-2.result.now c.prepare.ensures.present same.2 c.deref-2.ensures.value fits) in
     let still : g.N.Nand.state m.device ≡ g.N.Nand.state self.device = ap g.N.Nand.state (enough.0 ∙ same.0) in
-    (still, kept_map_same (g.N.Nand.state self.device) (g.N.Nand.state m.device) self.index m.index still (subst (SameKept self.index) (sym enough.1) c.prepare.ensures.kept), ap table (enough.2 ∙ same.1))
+    (still, kept_map_same (g.N.Nand.state self.device) (g.N.Nand.state m.device) self.index m.index still (subst (SameKept self.index) (sym enough.1) c.prepare.ensures.kept), ap table (enough.2 ∙ same.1), enough.3 ∙ c.prepare.ensures.counts.1)
 
 pub returns-clause-room : goal.returns-clause-room
 returns-clause-room g c = λ fits.
@@ -114,6 +115,7 @@ returns-clause-room g c = λ fits.
       ap g.N.Nand.state c.make.ensures.same.0 ∙ still,
       same_on _ _ _ c.make.ensures.kept (kept_map_same (g.N.Nand.state self.device) (g.N.Nand.state m.device) self.index m.index still (subst (SameKept self.index) (sym enough.1) c.prepare.ensures.kept)),
       ap table (c.make.ensures.same.1 ∙ enough.2 ∙ same.1),
+      ap (λ (k : StoreCounts). k.commits.total) c.make.ensures.same.4 ∙ enough.3 ∙ c.prepare.ensures.counts.1,
     )
 
 pub returns-clause-kept : goal.returns-clause-kept

@@ -7,7 +7,6 @@ use Rattle.page_buffer.specs.BufferOf.{buffered}
 use Rattle.objects.specs.declared.store.Found.TheVariants as places
 use Rattle.objects.proofs.Steps.{numbered_on}
 use Rattle.objects.proofs.ReadOnly.{lies, stands_read, newest_read, shown_read, load_fails}
-use Rattle.objects.proofs.store.Store.find_kept.Goals.{then-self, else-self}
 use Rattle.objects.proofs.store.Store.find_kept.Goals as goal
 
 pub invariant_of-self : goal.invariant_of-self
@@ -60,7 +59,7 @@ load_kept-requires-clause-block g c = let self = c.args.self.now in (lies _ _ _ 
 pub load_kept-requires-clause-page : goal.load_kept-requires-clause-page
 load_kept-requires-clause-page g c = let self = c.args.self.now in (lies _ _ _ self.index c.args.key.object c.args.key.chunk c.args.at self.ready self.stands c.requires).1
 
-pub returns-after-self-clause-fault : goal.returns-after-self-clause-fault
-returns-after-self-clause-fault g c =
+pub returns-in-Err-clause-fault : goal.returns-in-Err-clause-fault
+returns-in-Err-clause-fault g c =
     let self = c.args.self.now in
-    load_fails _ _ _ _ self.index c.args.key.object c.args.key.chunk c.args.at self.broken _ c.in-Err.fault c.load_kept.ensures.reads self.stands c.requires c.in-Err.ensures.fault (λ is. elim c.if-self.branch [ then-self w ↦ w.self-is ∙ w.if-self.true | else-self w ↦ w.self-is ∙ (let b = rw is at w.eq-self.ensures in b) ])
+    load_fails _ _ _ _ self.index c.args.key.object c.args.key.chunk c.args.at self.broken _ c.in-Err.fault c.load_kept.ensures.reads self.stands c.requires c.in-Err.ensures.fault c.note.ensures.refused

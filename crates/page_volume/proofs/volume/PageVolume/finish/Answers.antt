@@ -1,10 +1,10 @@
-use Rattle.std.specs.Prelude.{◌≡◌, ◌⊎◌, false, not}
+use Rattle.std.specs.Prelude.{◌≡◌, ◌⊎◌, ◌≤◌, false, not}
 use Rattle.std.proofs.Common.{sym, ◌∙◌, ap, subst}
 use Rattle.std.proofs.lemmas.Bool.{not-true, not-false}
 use Rattle.object_store.specs.Stores.{settled}
 use Rattle.paged_objects.specs.Ending.{HasEnded}
 use Rattle.paged_objects.specs.Standing.{Shown}
-use Rattle.paged_objects.specs.laws.Going.{goes_here, goes_on}
+use Rattle.paged_objects.specs.laws.Going.{ended_after, goes_here, goes_on}
 use Rattle.pages.specs.State.{PagesState}
 use Rattle.pages.specs.Stores.{GoesOn}
 use Rattle.posix_profile.specs.State.{Objects}
@@ -34,7 +34,7 @@ returns-then-not-close_all-clause-tree g c goes z s is tree shown =
 
 pub returns-then-not-close_all-clause-cause : goal.returns-then-not-close_all-clause-cause
 returns-then-not-close_all-clause-cause g c goes z s is told =
-    subst HasEnded (sym (ap g.P.Pages.state c.into_pages-then-not-close_all.ensures)) (c.close_all.ensures.closes.cause (not-false _ (sym c.if-not-close_all.ensures.stops)) z s is)
+    subst (HasEnded (g.P.Pages.state (pages_of c.args.self))) (sym (ap g.P.Pages.state c.into_pages-then-not-close_all.ensures)) (c.close_all.ensures.closes.cause (not-false _ (sym c.if-not-close_all.ensures.stops)) z s is)
 
 pub returns-clause-goes_on : goal.returns-clause-goes_on
 returns-clause-goes_on g c =
@@ -104,6 +104,8 @@ returns-clause-cause g c goes z s is told =
     let has = has_of state z at.0 c.close_all.new.self a c.into_store-objects.ensures at.1 in
     elim c.match-commit.branch [
       | in-Ok w ↦ let two : replies.Done ≡ replies.Error errors.EIO = sym w.reply-is ∙ told in absurd cc
-      | in-Err w ↦ subst HasEnded (sym (ap state c.into_pages-2.ensures))
-          (commit_cause state z at.0.objects a b has c.commit.result _ w.in-Err.is c.commit.ensures.memory (c.commit.ensures.commits z at.0.objects has))
+      | in-Err w ↦ subst (HasEnded (state (pages_of c.args.self))) (sym (ap state c.into_pages-2.ensures))
+          (ended_after (state (pages_of c.args.self)) (state a.pages) (state b.pages)
+          (subst (λ (p : PagesState). (state (pages_of c.args.self)).commits ≤ p.commits) (sym (ap (λ o. state o.pages) c.into_store-objects.ensures)) c.close_all.ensures.closes.goes_on.commits)
+          (commit_cause state z at.0.objects a b has c.commit.result _ w.in-Err.is c.commit.ensures.memory (c.commit.ensures.commits z at.0.objects has)))
     ]

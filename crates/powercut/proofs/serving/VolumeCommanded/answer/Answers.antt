@@ -1,3 +1,4 @@
+use Rattle.powercut.proofs.Ended.{call_ended}
 use Rattle.powercut.proofs.serving.VolumeCommanded.answer.Goals as goal
 
 pub returns-clause-goes_on : goal.returns-clause-goes_on
@@ -17,5 +18,5 @@ returns-clause-one g c = λ goes z s stands.
       stands = replied.state_is;
       tree = replied.tree;
       synced = replied.synced;
-      cause = replied.cause;
+      cause = call_ended replied;
     }

@@ -1,0 +1,25 @@
+-- What ended the use of a volume in a call of it, or in its unmount, told of the pages that are left.
+use Rattle.std.specs.Prelude.{◌≡◌, true, false}
+use Rattle.nand_model.specs.Calls.{Device}
+use Rattle.volume_terms.specs.Sizes.{Sizes}
+use Rattle.posix_profile.specs.Runs.{is_stop}
+use Rattle.posix_profile.specs.State.{State}
+use Rattle.posix_profile.specs.declared.command.Stamped.{Stamped}
+use Rattle.posix_profile.specs.declared.reply.Errno.TheVariants as errors
+use Rattle.posix_profile.specs.declared.reply.Reply.{Reply}
+use Rattle.posix_profile.specs.declared.reply.Reply.TheVariants as replies
+use Rattle.pages.specs.State.{PagesState}
+use Rattle.paged_objects.specs.Ending.{HasEndedAt}
+use Rattle.paged_objects.specs.laws.Going.{ended_at}
+use Rattle.page_volume.specs.Volumes.{pages_of, is_stopped, IsVolumeOf}
+use Rattle.page_volume.specs.declared.volume.PageVolume.{PageVolume}
+use Rattle.posix_calls.specs.Calls.{IsReplied}
+use Rattle.posix_calls.specs.Endings.{IsUnmounted}
+
+pub call_ended : {P : Type 0} {state : P → PagesState} {z : Sizes} {s : State} {old : PageVolume P} {command : Stamped} {reply : Reply} {new : PageVolume P} → IsReplied state z s old command reply new
+    → is_stop reply ≡ true → HasEndedAt (state (pages_of new))
+call_ended {P} {state} {z} {s} {old} {command} {reply} {new} replied stop = ended_at (state (pages_of old)) (state (pages_of new)) (replied.cause stop)
+
+pub unmount_ended : {P : Type 0} {state : P → PagesState} {v : PageVolume P} {device : Device} {reply : Reply} (ends : IsUnmounted state v device reply)
+    → is_stopped v ≡ false → (z : Sizes) (s : State) → IsVolumeOf state z s v → reply ≡ replies.Error errors.EIO → HasEndedAt ends.pages
+unmount_ended {P} {state} {v} {device} {reply} ends runs z s stands told = ended_at (state (pages_of v)) ends.pages (ends.cause runs z s stands told)

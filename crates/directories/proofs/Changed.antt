@@ -1,5 +1,5 @@
 -- What a directory reads after a change of its slots.
-use Rattle.std.specs.Prelude.{◌≡◌, ◌<◌, ◌≤◌, ℕ, ◌+◌, List, [], ◌∷◌, ◌++◌, length, Some, None, slice_get}
+use Rattle.std.specs.Prelude.{◌≡◌, ◌<◌, ◌≤◌, ℕ, ◌+◌, List, [], ◌∷◌, ◌++◌, length, take, set, Some, None, slice_get}
 use Rattle.std.specs.FinMap as map
 use Rattle.std.proofs.Common.{refl, sym, ◌∙◌, ap, subst, inl, inr, arith}
 use Rattle.std.proofs.lemmas.List.{length-append, length-take}
@@ -15,8 +15,42 @@ use Rattle.directories.specs.Directories.{SlotOf, ReadsDirectory}
 use Rattle.directories.specs.Heads.{fields_in}
 use Rattle.directories.specs.Writes.{HasHead, KeepsSlots}
 use Rattle.directories.specs.declared.head.DirectoryHead.{DirectoryHead}
-use Rattle.directories.proofs.Lists.{AreOnce, once_push, entries_push, put_at, put_len, get_put, once_put, entries_put, fewer, origin, once_fewer, entries_fewer}
+use Rattle.directories.proofs.Lists.{AreOnce, once_push, entries_push, put_len, get_put, once_put, entries_put, fewer, origin, once_fewer, entries_fewer}
 use Rattle.directories.proofs.Reading.{one_entry}
+
+-- ---- the slots afterwards
+
+module _ (z : Sizes) (old new : PageMap) (o before : ℕ) (entries : Entries) (r : ReadsDir z (has old) o before entries) where
+  -- one slot more
+  pub added_each : (entry : Entry) → SlotOf z new o (length r.slots) entry → KeepsSlots z old new o (length r.slots) (length r.slots)
+      → (k : ℕ) (e : Entry) → slice_get (r.slots ++ entry ∷ []) k ≡ Some e → SlotOf z new o k e
+  added_each entry slot kept k e at = elim (get_push r.slots entry k e at) [
+    | inl x ↦ kept k e (λ same. omega (arith, same, x.0)) x.0 (r.each k e x.1)
+    | inr x ↦ subst (λ y. SlotOf z new o k y) (sym x.1) (subst (λ n. SlotOf z new o n entry) (sym x.0) slot)
+  ]
+
+  -- a slot in place of another
+  pub put_each : (i : ℕ) (entry : Entry) → SlotOf z new o i entry → KeepsSlots z old new o (length r.slots) i → (k : ℕ) (e : Entry) → slice_get (set r.slots i entry) k ≡ Some e → SlotOf z new o k e
+  put_each i entry slot kept k y at = elim (get_put r.slots i entry k y at) [
+    | inl x ↦ subst (λ e. SlotOf z new o k e) (sym x.1) (subst (λ n. SlotOf z new o n entry) (sym x.0) slot)
+    | inr x ↦ kept k y x.0 (slice_get_within r.slots k y x.1) (r.each k y x.1)
+  ]
+
+  -- one slot less
+  pub fewer_each : z.page_bytes ≤ 4096 → (last : ℕ) → length r.slots ≡ last + 1 → (i : ℕ) (e : Entry) → slice_get r.slots i ≡ Some e → (l : Entry) → slice_get r.slots last ≡ Some l
+      → (i < last → (x : Entry) × SlotOf z old o last x × SlotOf z new o i x) → KeepsSlots z old new o last i → (k : ℕ) (y : Entry) → slice_get (take last (set r.slots i l)) k ≡ Some y → SlotOf z new o k y
+  fewer_each few last len i e at_i l at_last filled kept k y at =
+      let x = origin r.slots r.once entries r.entries_are i e at_i last len l at_last k y at in
+      elim x.4 [
+        | inl p ↦
+            let f = filled (omega (arith, p.0, x.3)) in
+            let there : SlotOf z old o last y = r.each last y (ap (slice_get r.slots) (sym p.1) ∙ x.1) in
+            let one : f.0 ≡ y = one_entry z few old o last f.0 y f.1 there in
+            subst (λ n. SlotOf z new o n y) (sym p.0) (subst (λ e. SlotOf z new o i e) one f.2)
+        | inr p ↦ kept k y p.0 x.3 (r.each k y (ap (slice_get r.slots) (sym p.1) ∙ x.1))
+      ]
+
+-- ---- what it reads
 
 module _ (z : Sizes) (old new : PageMap) (o before moment : ℕ) (entries : Entries) (r : ReadsDir z (has old) o before entries) (head : DirectoryHead) (h : HasHead z new o head)
     (spare : head.spare ≡ r.fields.spare) (when : head.moment ≡ moment) where
@@ -41,20 +75,14 @@ module _ (z : Sizes) (old new : PageMap) (o before moment : ℕ) (entries : Entr
   pub reads_added : head.length ≡ length r.slots + 1 → (entry : Entry) → map.get entries entry.name ≡ None → SlotOf z new o (length r.slots) entry → KeepsSlots z old new o (length r.slots) (length r.slots)
       → ReadsDirectory z new o moment (map.insert entries entry.name entry.object) r.fields.spare
   reads_added len entry absent slot kept = reads_slots (r.slots ++ entry ∷ []) (map.insert entries entry.name entry.object) (len ∙ sym (length-append r.slots (entry ∷ [])))
-      (λ k e at. elim (get_push r.slots entry k e at) [
-        | inl x ↦ kept k e (λ same. omega (arith, same, x.0)) x.0 (r.each k e x.1)
-        | inr x ↦ subst (λ y. SlotOf z new o k y) (sym x.1) (subst (λ n. SlotOf z new o n entry) (sym x.0) slot)
-      ])
+      (added_each z old new o before entries r entry slot kept)
       (once_push r.slots r.once entries r.entries_are entry absent) (entries_push r.slots r.once entries r.entries_are entry absent)
 
   -- a slot in place of another
   pub reads_put : head.length ≡ length r.slots → (i : ℕ) (e : Entry) → slice_get r.slots i ≡ Some e → (entry : Entry) → entry.name ≡ e.name → SlotOf z new o i entry → KeepsSlots z old new o (length r.slots) i
       → ReadsDirectory z new o moment (map.insert entries entry.name entry.object) r.fields.spare
-  reads_put len i e at_i entry name_is slot kept = reads_slots (put_at r.slots i entry) (map.insert entries entry.name entry.object) (len ∙ sym (put_len r.slots i entry))
-      (λ k y at. elim (get_put r.slots i entry k y at) [
-        | inl x ↦ subst (λ e. SlotOf z new o k e) (sym x.1) (subst (λ n. SlotOf z new o n entry) (sym x.0) slot)
-        | inr x ↦ kept k y x.0 (slice_get_within r.slots k y x.1) (r.each k y x.1)
-      ])
+  reads_put len i e at_i entry name_is slot kept = reads_slots (set r.slots i entry) (map.insert entries entry.name entry.object) (len ∙ sym (put_len r.slots i entry))
+      (put_each z old new o before entries r i entry slot kept)
       (once_put r.slots r.once entries r.entries_are i e at_i entry name_is) (entries_put r.slots r.once entries r.entries_are i e at_i entry name_is)
 
   -- one slot less
@@ -64,17 +92,8 @@ module _ (z : Sizes) (old new : PageMap) (o before moment : ℕ) (entries : Entr
       let last : ℕ = head.length in
       let l = slice_get_there r.slots last (omega (arith, len)) in
       reads_slots (fewer r.slots r.once entries r.entries_are i e at_i last len l.0 l.1) (map.remove entries e.name)
-      (let t : length (fewer r.slots r.once entries r.entries_are i e at_i last len l.0 l.1) ≡ _ = length-take last (put_at r.slots i l.0) in omega (arith, t, put_len r.slots i l.0, len))
-      (λ k y at.
-      let x = origin r.slots r.once entries r.entries_are i e at_i last len l.0 l.1 k y at in
-      elim x.4 [
-        | inl p ↦
-            let f = filled (omega (arith, p.0, x.3)) in
-            let there : SlotOf z old o last y = r.each last y (ap (slice_get r.slots) (sym p.1) ∙ x.1) in
-            let one : f.0 ≡ y = one_entry z few old o last f.0 y f.1 there in
-            subst (λ n. SlotOf z new o n y) (sym p.0) (subst (λ e. SlotOf z new o i e) one f.2)
-        | inr p ↦ kept k y p.0 x.3 (r.each k y (ap (slice_get r.slots) (sym p.1) ∙ x.1))
-      ])
+      (let t : length (fewer r.slots r.once entries r.entries_are i e at_i last len l.0 l.1) ≡ _ = length-take last (set r.slots i l.0) in omega (arith, t, put_len r.slots i l.0, len))
+      (fewer_each z old new o before entries r few last len i e at_i l.0 l.1 filled kept)
       (once_fewer r.slots r.once entries r.entries_are i e at_i last len l.0 l.1) (entries_fewer r.slots r.once entries r.entries_are i e at_i last len l.0 l.1)
 
 -- a directory whose pages stay

@@ -1,5 +1,5 @@
 -- Lists of slots, and the entries that they make.
-use Rattle.std.specs.Prelude.{◌≡◌, ◌≢◌, ◌⊎◌, ◌<◌, ℕ, zero, suc, ◌+◌, List, [], ◌∷◌, ◌++◌, length, take, false, is_some, Option, Some, None, slice_get}
+use Rattle.std.specs.Prelude.{◌≡◌, ◌≢◌, ◌⊎◌, ◌<◌, ℕ, zero, suc, ◌+◌, List, [], ◌∷◌, ◌++◌, length, take, set, false, is_some, Option, Some, None, slice_get}
 use Rattle.std.specs.Ordering.{nat_cmp}
 use Rattle.std.specs.Cmp.Lexicographic.{slice_cmp, nat_list_cmp_total}
 use Rattle.std.specs.FinMap as map
@@ -98,17 +98,12 @@ module _ (slots : List Entry) (once : AreOnce slots) (entries : Entries) (are : 
 
 -- ---- a slot in place of another
 
-abbrev pub put_at : List Entry → ℕ → Entry → List Entry
-put_at [] i e = []
-put_at (x ∷ xs) zero e = e ∷ xs
-put_at (x ∷ xs) (suc i) e = x ∷ put_at xs i e
-
-pub put_len : (xs : List Entry) (i : ℕ) (e : Entry) → length (put_at xs i e) ≡ length xs
+pub put_len : (xs : List Entry) (i : ℕ) (e : Entry) → length (set xs i e) ≡ length xs
 put_len [] i e = refl
 put_len (x ∷ xs) zero e = refl
 put_len (x ∷ xs) (suc i) e = ap suc (put_len xs i e)
 
-pub get_put : (xs : List Entry) (i : ℕ) (e : Entry) (k : ℕ) (y : Entry) → slice_get (put_at xs i e) k ≡ Some y → ((k ≡ i) × (y ≡ e)) ⊎ ((k ≢ i) × (slice_get xs k ≡ Some y))
+pub get_put : (xs : List Entry) (i : ℕ) (e : Entry) (k : ℕ) (y : Entry) → slice_get (set xs i e) k ≡ Some y → ((k ≡ i) × (y ≡ e)) ⊎ ((k ≢ i) × (slice_get xs k ≡ Some y))
 get_put [] i e k y is = absurd cc
 get_put (x ∷ xs) zero e zero y is = inl (refl, cc)
 get_put (x ∷ xs) zero e (suc k) y is = inr (λ same. omega (arith, same), is)
@@ -118,12 +113,12 @@ get_put (x ∷ xs) (suc i) e (suc k) y is = elim (get_put xs i e k y is) [
   | inr there ↦ inr (λ same. there.0 (omega (arith, same)), there.1)
 ]
 
-pub put_here : (xs : List Entry) (i : ℕ) (e : Entry) → i < length xs → slice_get (put_at xs i e) i ≡ Some e
+pub put_here : (xs : List Entry) (i : ℕ) (e : Entry) → i < length xs → slice_get (set xs i e) i ≡ Some e
 put_here [] i e less = absurd (omega (arith, less))
 put_here (x ∷ xs) zero e less = refl
 put_here (x ∷ xs) (suc i) e less = put_here xs i e (omega (arith, less))
 
-pub put_there : (xs : List Entry) (i : ℕ) (e : Entry) (k : ℕ) (y : Entry) → k ≢ i → slice_get xs k ≡ Some y → slice_get (put_at xs i e) k ≡ Some y
+pub put_there : (xs : List Entry) (i : ℕ) (e : Entry) (k : ℕ) (y : Entry) → k ≢ i → slice_get xs k ≡ Some y → slice_get (set xs i e) k ≡ Some y
 put_there [] i e k y other is = is
 put_there (x ∷ xs) zero e zero y other is = absurd (other refl)
 put_there (x ∷ xs) zero e (suc k) y other is = is
@@ -132,20 +127,20 @@ put_there (x ∷ xs) (suc i) e (suc k) y other is = put_there xs i e k y (λ sam
 
 module _ (slots : List Entry) (once : AreOnce slots) (entries : Entries) (are : entries ≡ map.from_entries (slot_pairs slots)) (i : ℕ) (e : Entry) (at_i : slice_get slots i ≡ Some e) (new : Entry) (name_is : new.name ≡ e.name) where
   -- the name that stood at a place
-  named_at : (k : ℕ) (y : Entry) → slice_get (put_at slots i new) k ≡ Some y → (x : Entry) × (slice_get slots k ≡ Some x) × (x.name ≡ y.name)
+  named_at : (k : ℕ) (y : Entry) → slice_get (set slots i new) k ≡ Some y → (x : Entry) × (slice_get slots k ≡ Some x) × (x.name ≡ y.name)
   named_at k y is = elim (get_put slots i new k y is) [
     | inl here ↦ (e, ap (slice_get slots) here.0 ∙ at_i, sym name_is ∙ ap (λ (x : Entry). x.name) (sym here.1))
     | inr there ↦ (y, there.1, refl)
   ]
 
-  pub once_put : AreOnce (put_at slots i new)
+  pub once_put : AreOnce (set slots i new)
   once_put j k a b at bt same =
       let x = named_at j a at in
       let y = named_at k b bt in
       once j k x.0 y.0 x.1 y.1 (x.2 ∙ same ∙ sym y.2)
 
-  pub entries_put : map.insert entries new.name new.object ≡ map.from_entries (slot_pairs (put_at slots i new))
-  entries_put = are_entries (put_at slots i new) once_put (map.insert entries new.name new.object)
+  pub entries_put : map.insert entries new.name new.object ≡ map.from_entries (slot_pairs (set slots i new))
+  entries_put = are_entries (set slots i new) once_put (map.insert entries new.name new.object)
       (λ k y at. elim (get_put slots i new k y at) [
         | inl here ↦ ap (map.get (map.insert entries new.name new.object)) (ap (λ (x : Entry). x.name) here.1) ∙ get_here nat_list_cmp_total name_same entries new.name new.object
             ∙ ap (λ (x : Entry). Some x.object) (sym here.1)
@@ -179,12 +174,12 @@ module _ (slots : List Entry) (once : AreOnce slots) (entries : Entries) (are : 
     (last : ℕ) (len : length slots ≡ last + 1) (l : Entry) (at_last : slice_get slots last ≡ Some l) where
   -- the slots without slot i: the last one stands in its place
   abbrev pub fewer : List Entry
-  fewer = take last (put_at slots i l)
+  fewer = take last (set slots i l)
 
   -- where a slot was before
   pub origin : (k : ℕ) (y : Entry) → slice_get fewer k ≡ Some y → (j : ℕ) × (slice_get slots j ≡ Some y) × (j ≢ i) × (k < last) × (((k ≡ i) × (j ≡ last)) ⊎ ((k ≢ i) × (j ≡ k)))
   origin k y is =
-      let t = get_take last (put_at slots i l) k y is in
+      let t = get_take last (set slots i l) k y is in
       elim (get_put slots i l k y t.1) [
         | inl here ↦ (last, at_last ∙ ap Some (sym here.1), λ same. omega (arith, same, here.0, t.0), t.0, inl (here.0, refl))
         | inr there ↦ (k, there.1, there.0, t.0, inr (there.0, refl))
@@ -215,8 +210,8 @@ module _ (slots : List Entry) (once : AreOnce slots) (entries : Entries) (are : 
             let both : Some y ≡ Some l = sym at ∙ ap (slice_get slots) is ∙ at_last in
             let one : y ≡ l = cc in
             let low : i < last = omega (arith, slice_get_within slots i e at_i, len, other, is) in
-            (i, take_there last (put_at slots i l) i y low (put_here slots i l (omega (arith, low, len)) ∙ ap Some (sym one)))
-        | inr not ↦ (k, take_there last (put_at slots i l) k y (omega (arith, within, len, not)) (put_there slots i l k y other at))
+            (i, take_there last (set slots i l) i y low (put_here slots i l (omega (arith, low, len)) ∙ ap Some (sym one)))
+        | inr not ↦ (k, take_there last (set slots i l) k y (omega (arith, within, len, not)) (put_there slots i l k y other at))
       ]
 
   pub entries_fewer : map.remove entries e.name ≡ map.from_entries (slot_pairs fewer)

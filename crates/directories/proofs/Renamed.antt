@@ -38,10 +38,10 @@ module _ (names : NameIndex) (old mid next : PagesState) (first_finds : OnlyFind
   pub spare_then : then_in.reads.fields.spare ≡ d.reads.fields.spare
   spare_then = reads_then.1
 
-  same : changed taken.change next.present ≡ changed taken.change mid.present
+  pub same : changed taken.change next.present ≡ changed taken.change mid.present
   same = ap (changed taken.change) finds.present
 
-  counted : length then_in.reads.slots ≡ taken.last
+  pub counted : length then_in.reads.slots ≡ taken.last
   counted =
       sym (entries_len then_in.reads.slots then_in.reads.once (map.remove entries from) then_in.reads.entries_are)
       ∙ count_after z size (changed taken.change next.present) o moment (map.remove entries from) then_in.reads t.head (subst (λ (m : PageMap). HasHead z m o t.head) (sym same) t.loses.header)

@@ -31,3 +31,8 @@ memory_room n new faults.Device is = is
 memory_room n new faults.Worn is = is
 memory_room n new faults.Damaged is = is
 memory_room n new faults.Full is = absurd is
+
+-- what follows of two things that hold of a result that is there
+pub on_both : {A E : Type 0} (P Q S : A → Type 0) (r : Result A E) → ((x : A) → P x → Q x → S x) → IfOk r P → IfOk r Q → IfOk r S
+on_both P Q S (Ok x) f p q = f x p q
+on_both P Q S (Err e) f p q = tt

@@ -76,10 +76,10 @@ module _ (names : NameIndex) (p : PagesState) (z : Sizes) (o moment : ℕ) (entr
     last_is : head.length - 1 + 1 ≡ length d.reads.slots
     last_is = omega (arith, within, says.length_is, d.reads.size)
 
-    pub taken_name : LosesSlot z p.present (changed change p.present) o shorter l.place → TakesName z p.present o d.reads.slots name (record { change = change; place = l.place; last = head.length - 1 })
+    pub taken_name : LosesSlot z p.present change o shorter l.place → TakesName z p.present o d.reads.slots name (record { change = change; place = l.place; last = head.length - 1 })
     taken_name loses = record { entry = found.0; there = found.1; name_is = found.2; last_is = last_is; head = shorter; counts = refl; loses = loses }
 
-    pub name_removed : z.page_bytes ≤ 4096 → LosesSlot z p.present (changed change p.present) o shorter l.place
+    pub name_removed : z.page_bytes ≤ 4096 → LosesSlot z p.present change o shorter l.place
         → ReadsDirectory z (changed change p.present) o later (map.remove entries name) d.reads.fields.spare
     name_removed few loses =
         subst (λ (k : Name). ReadsDirectory z (changed change p.present) o later (map.remove entries k) d.reads.fields.spare) found.2

@@ -22,7 +22,7 @@ use Rattle.directories.specs.Directories.{HasBeside, HasOnly, SlotOf}
 use Rattle.directories.specs.HeadPages.{IsHeadPage}
 use Rattle.directories.specs.Heads.{fields_in}
 use Rattle.directories.specs.Slots.{AreSlots}
-use Rattle.directories.specs.Writes.{KeepsPages, KeepsBehind, IsSlotsPage, IsSlotPage, IsSlotBytes, HasHead, HasKey, KeepsSlots, LosesSlot, CutsBehind}
+use Rattle.directories.specs.Writes.{KeepsPages, KeepsBehind, IsSlotsPage, IsSlotPage, IsSlotBytes, HasHead, HasKey, KeepsSlots, EndsInZeros, LosesSlot, CutsBehind}
 use Rattle.directories.specs.declared.head.DirectoryHead.{DirectoryHead}
 use Rattle.directories.specs.declared.writing.Writing.{Writing}
 use Rattle.directories.proofs.PageCounts.{one_more_page}
@@ -70,6 +70,11 @@ module _ (d bytes : ℕ) (slot_page head_page : FreshPage) (head : DirectoryHead
   both_size zero p is = let same : slot_page ≡ p = cc in ap (λ (q : FreshPage). length q.bytes.items) (sym same) ∙ slot_is.size
   both_size (suc zero) p is = let same : head_page ≡ p = cc in ap (λ (q : FreshPage). length q.bytes.items) (sym same) ∙ head_is.head_is.size
   both_size (suc (suc i)) p is = let no' : None ≡ Some p = is in absurd cc
+
+  two_there : (i : ℕ) (p : FreshPage) → slice_get (both slot_page head_page) i ≡ Some p → (slot_page ≡ p) ⊎ (head_page ≡ p)
+  two_there zero p is = inl cc
+  two_there (suc zero) p is = inr cc
+  two_there (suc (suc i)) p is = let no' : None ≡ Some p = is in absurd cc
 
   -- two pages at most
   pub two_change : IsChange change bytes 2
@@ -135,6 +140,18 @@ module _ (d bytes : ℕ) (slot_page head_page : FreshPage) (head : DirectoryHead
         )
       ]
 
+      -- past the last slot
+      pub two_zeros : EndsInZeros z change d writing.afterwards
+      two_zeros c i of j le = elim (two_there i of.page (ap (λ (ps : List FreshPage). slice_get ps i) (sym pages) ∙ of.there)) [
+        | inl same ↦
+            let chunk : slot_page.key.chunk ≡ 1 + c = ap (λ (p : FreshPage). p.key.chunk) same ∙ of.chunk in
+            let at : c ≡ writing.number / page_slots z = omega (arith, chunk, slot.chunk_is) in
+            subst (λ (p : FreshPage). get_or p.bytes.items j 0 ≡ 0) same (slot.past j (subst (λ k. 272 * min (writing.afterwards - k * page_slots z) (page_slots z) ≤ j) at le))
+        | inr same ↦
+            let chunk : head_page.key.chunk ≡ 1 + c = ap (λ (p : FreshPage). p.key.chunk) same ∙ of.chunk in
+            absurd (omega (arith, chunk, head_is.chunk_is))
+      ]
+
     -- the pages of the other slots
     pub two_pages : (z : Sizes) (number : ℕ) → slot_page.key.chunk ≡ 1 + number / page_slots z → KeepsPages z old (changed change old) d number
     two_pages z number chunk c some other = elsewhere change old d c
@@ -197,6 +214,9 @@ module _ (d bytes : ℕ) (head_page : FreshPage) (head : DirectoryHead) (head_is
       is.2,
       is.3,
     )
+
+  pub one_zeros : (z : Sizes) (count : ℕ) → EndsInZeros z change d count
+  one_zeros z count c i of j le = absurd (omega (arith, (only_head d (1 + c) i of).2, head_is.chunk_is))
 
   -- the pages of slots
   pub one_pages : (old : PageMap) (c : ℕ) → 1 ≤ c → changed change old d c ≡ old d c
@@ -309,11 +329,15 @@ page_made z old d writing entry page n count was xs slots some room within valid
             ∙ is.3,
       );
   past = λ j le.
-      let le_n : 272 * (writing.afterwards - writing.number / n * n) ≤ j = subst (λ m. 272 * (writing.afterwards - writing.number / m * m) ≤ j) (sym slots) le in
-      let base : writing.number / n * n + writing.number % n ≡ writing.number = div-add-mod' writing.number n in
+      let first : ℕ = writing.number / n * n in
+      let most : ℕ = min (writing.afterwards - first) n in
+      let le_n : 272 * most ≤ j = subst (λ m. 272 * min (writing.afterwards - writing.number / m * m) m ≤ j) (sym slots) le in
+      let base : first + writing.number % n ≡ writing.number = div-add-mod' writing.number n in
+      let small : writing.number % n < n = omega (arith, some) in
       let a : ℕ = 272 * (writing.number % n) + 272 in
-      let after_slot : a ≤ j = omega (arith, le_n, within, base) in
-      let few : count ≤ writing.afterwards - writing.number / n * n = subst (λ m. m ≤ writing.afterwards - writing.number / n * n) (sym count_is) (grind arith) in
+      let under : writing.number % n + 1 ≤ most = grind (arith, base, small, within) in
+      let after_slot : a ≤ j = omega (arith, le_n, under) in
+      let few : count ≤ most = subst (λ m. m ≤ most) (sym count_is) (grind arith) in
       let after_kept : 272 * count ≤ j = omega (arith, few, le_n) in
       let len : length (take (272 * count) xs) ≡ 272 * count = grind (arith, length-take (272 * count) xs, long) in
       let split : a + (j - a) ≡ j = omega (arith, after_slot) in
@@ -356,11 +380,12 @@ module _ (z : Sizes) (old : PageMap) (d : ℕ) (head : DirectoryHead) (i : ℕ) 
     | inr cut ↦ cut_keeps_head d (1 + head.length / n) change cut_change pages uncut cut.1.0 cut.1.2 cut.1.3 cut.1.1 old z head (omega arith) h
   ]
 
-  pub loses_cut : LosesSlot z old (changed change old) d head i → LosesSlot z old (changed cut_change old) d head i
+  pub loses_cut : LosesSlot z old change d head i → LosesSlot z old cut_change d head i
   loses_cut l = record {
     header = head_stays l.header;
     filled = λ less. let f = l.filled less in (f.0, f.1, slot_stays i f.0 less f.2);
     others = λ k e other less is. slot_stays k e less (l.others k e other less is);
+    zeros = λ c k of. l.zeros c k (record { page = of.page; there = ap (λ (ps : List FreshPage). slice_get ps k) (sym pages) ∙ of.there; object = of.object; chunk = of.chunk });
   }
 
 -- what lies behind the slots is gone, where that was so of one slot more

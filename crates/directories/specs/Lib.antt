@@ -7,6 +7,7 @@ pub mod Writes
 pub mod Listings
 pub mod Named
 pub mod Taking
+pub mod SlotLists
 pub mod Hashing
 pub mod Leaving
 pub mod laws

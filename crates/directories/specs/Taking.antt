@@ -2,7 +2,7 @@
 use Rattle.std.specs.Prelude.{◌≡◌, ◌≢◌, ◌⊎◌, ◌+◌, ℕ, List, length, Option, Some, None, slice_get}
 use Rattle.page_tags.specs.Slots.{Entry}
 use Rattle.volume_terms.specs.Sizes.{Sizes}
-use Rattle.pages.specs.Maps.{PageMap, changed}
+use Rattle.pages.specs.Maps.{PageMap}
 use Rattle.directories.specs.Writes.{LosesSlot}
 use Rattle.directories.specs.declared.head.DirectoryHead.{DirectoryHead}
 use Rattle.directories.specs.declared.lookup.Located.{Located}
@@ -16,7 +16,7 @@ pub record TakesName (z : Sizes) (m : PageMap) (d : ℕ) (slots : List Entry) (n
   pub last_is : taken.last + 1 ≡ length slots
   pub head : DirectoryHead
   pub counts : head.length ≡ taken.last
-  pub loses : LosesSlot z m (changed taken.change m) d head taken.place
+  pub loses : LosesSlot z m taken.change d head taken.place
 
 -- where a slot is after one at a place was taken, which the last one stands in then
 abbrev pub IsMovedTo : Option Located → ℕ → ℕ → Option ℕ → Type 0

@@ -1,10 +1,10 @@
 -- What the change of a directory writes, and what it leaves.
-use Rattle.std.specs.Prelude.{◌≡◌, ◌≢◌, ◌⊎◌, ◌<◌, ◌≤◌, ℕ, ◌+◌, ◌-◌, ◌*◌, ◌/◌, ◌%◌, List, [], ◌∷◌, length, take, drop, Some, slice_index}
+use Rattle.std.specs.Prelude.{◌≡◌, ◌≢◌, ◌⊎◌, ◌<◌, ◌≤◌, ℕ, ◌+◌, ◌-◌, ◌*◌, ◌/◌, ◌%◌, min, List, [], ◌∷◌, length, take, drop, Some, slice_index}
 use Rattle.std.specs.Int.{div_ceil}
 use Rattle.page_tags.specs.Headers.{IsHeader, header_bytes}
 use Rattle.page_tags.specs.Slots.{Entry}
 use Rattle.volume_terms.specs.Sizes.{Sizes, page_slots, slot_length}
-use Rattle.pages.specs.Maps.{PageMap, IsPageOf}
+use Rattle.pages.specs.Maps.{PageMap, IsPageOf, changed}
 use Rattle.flash_tree.specs.declared.place.FreshPage.{FreshPage}
 use Rattle.pages.specs.declared.change.Change.{Change}
 use Rattle.pages.specs.declared.change.Cut.{Cut}
@@ -29,7 +29,7 @@ pub record IsSlotPage (z : Sizes) (old : PageMap) (d : ℕ) (writing : Writing) 
   pub here : SlotAt page.bytes.items (writing.number % page_slots z) entry
   pub kept : (k : ℕ) (e : Entry) → k ≢ writing.number → k < writing.before → k < writing.afterwards → k / page_slots z ≡ writing.number / page_slots z → SlotOf z old d k e
       → SlotAt page.bytes.items (k % page_slots z) e
-  pub past : (j : ℕ) → slot_length * (writing.afterwards - writing.number / page_slots z * page_slots z) ≤ j → slice_index page.bytes.items j ≡ 0
+  pub past : (j : ℕ) → slot_length * min (writing.afterwards - writing.number / page_slots z * page_slots z) (page_slots z) ≤ j → slice_index page.bytes.items j ≡ 0
 
 -- the directory has this header
 pub record HasHead (z : Sizes) (m : PageMap) (d : ℕ) (head : DirectoryHead) : Type 0 where
@@ -56,11 +56,16 @@ HasKey change o c = (i : ℕ) × IsPageOf change.pages.items o c i
 abbrev pub IsSlotBytes : Sizes → PageMap → ℕ → ℕ → List ℕ → Type 0
 IsSlotBytes z m d i bytes = (page : List ℕ) × (m d (1 + i / page_slots z) ≡ Some page) × (bytes ≡ take slot_length (drop (slot_length * (i % page_slots z)) page))
 
--- the directory has this header, and the last slot stands in place of the one that went; the others stay
-pub record LosesSlot (z : Sizes) (old new : PageMap) (d : ℕ) (head : DirectoryHead) (i : ℕ) : Type 0 where
-  pub header : HasHead z new d head
-  pub filled : i < head.length → (e : Entry) × SlotOf z old d head.length e × SlotOf z new d i e
-  pub others : KeepsSlots z old new d head.length i
+-- each page of the directory's slots that the change writes is zero past the last of so many
+abbrev pub EndsInZeros : Sizes → Change → ℕ → ℕ → Type 0
+EndsInZeros z change d count = (c i : ℕ) → (of : IsPageOf change.pages.items d (1 + c) i) → (j : ℕ) → slot_length * min (count - c * page_slots z) (page_slots z) ≤ j → slice_index of.page.bytes.items j ≡ 0
+
+-- after the change the directory has this header, and the last slot stands in place of the one that went; the others stay
+pub record LosesSlot (z : Sizes) (old : PageMap) (change : Change) (d : ℕ) (head : DirectoryHead) (i : ℕ) : Type 0 where
+  pub header : HasHead z (changed change old) d head
+  pub filled : i < head.length → (e : Entry) × SlotOf z old d head.length e × SlotOf z (changed change old) d i e
+  pub others : KeepsSlots z old (changed change old) d head.length i
+  pub zeros : EndsInZeros z change d head.length
 
 -- the change cuts the directory behind the pages of so many slots, n on a page, exactly where the last of these pages is full
 abbrev pub CutsBehind : ℕ → ℕ → ℕ → Change → Type 0

@@ -12,6 +12,7 @@ ghost use Rattle.directories.specs.Directories.{DirIn, HasOnly, ReadsDirectory, 
 ghost use Rattle.pages.specs.Faults.{SaysWhyChanging};
 ghost use Rattle.directories.specs.Faults.{MayLackRoom};
 ghost use Rattle.directories.specs.Hashing.{WritesPast};
+ghost use Rattle.directories.specs.SlotLists.{IsPushed, Rewrites};
 
 use crate::head::{DirectoryHead, head_after};
 use crate::writing::{Writing, write};
@@ -44,6 +45,7 @@ pub fn add<P: Pages>(
         → IfOk result (λ change. HasOnly z (changed change (P.state pages.old).present) directory (map.len (map.insert entries slot.now.name.now slot.now.object))) }
     ensures told { (P.state pages.old).sound ≡ true → (z : Sizes) → z.page_bytes ≡ (P.state pages.old).page_bytes
         → OnOk result (TellsEnd z (P.state pages.old) directory) }
+    ensures slots { IfOk result (Rewrites (P.state pages.old) directory (IsPushed (entry_of slot.now))) }
     ensures why { IfErr result (SaysWhyChanging (P.state pages.new)) }
     ensures fault { (z : Sizes) (before : ℕ) (entries : Entries) (d : DirIn (P.state pages.old) z directory before entries)
         → IfErr result (MayLackRoom (map.len entries) (P.state pages.new)) }

@@ -30,9 +30,9 @@ pub fn find<P: Pages>(
         → count ≡ map.len entries → IfOk result (λ found. found ≡ map.get entries name.now) }
     ensures told { count < 2 ^ 32 → (P.state pages.old).sound ≡ true → (z : Sizes) → z.page_bytes ≡ (P.state pages.old).page_bytes
         → IfOk result (LeadsHeld (Holds names.now directory (fnv1a name.now)) (SlotOf z (P.state pages.old).present directory) count name.now) }
-    ensures why { IfErr result (SaysWhy (P.state pages.new)) }
+    ensures why { IfErr result (SaysWhy (P.state pages.old) (P.state pages.new)) }
     ensures fault { (z : Sizes) (moment : ℕ) (entries : Entries) (d : DirIn (P.state pages.old) z directory moment entries)
-        → count ≡ map.len entries → IfErr result (MayLack (P.state pages.new)) }
+        → count ≡ map.len entries → IfErr result (MayLack (P.state pages.old) (P.state pages.new)) }
 {
     let found = search_held(names, pages, directory, slots_of(count), name)?;
     match found {

@@ -28,8 +28,8 @@ pub fn read_head<P: Pages>(pages: &mut P, directory: u64) -> Result<DirectoryHea
     ensures asked { (P.state pages.new).asked ≤ (P.state pages.old).asked + 1 }
     ensures power { OnOk result (KeepsPower (P.state pages.old) (P.state pages.new)) }
     ensures told { (P.state pages.old).sound ≡ true → IfOk result (SaysHead (P.state pages.old) directory) }
-    ensures why { IfErr result (SaysWhy (P.state pages.new)) }
-    ensures fault { (P.state pages.old).sound ≡ true → IsHeaded (P.state pages.old) directory → IfErr result (MayLack (P.state pages.new)) }
+    ensures why { IfErr result (SaysWhy (P.state pages.old) (P.state pages.new)) }
+    ensures fault { (P.state pages.old).sound ≡ true → IsHeaded (P.state pages.old) directory → IfErr result (MayLack (P.state pages.old) (P.state pages.new)) }
 {
     head_after(pages, None, directory)
 }
@@ -45,9 +45,9 @@ pub(crate) fn head_after<P: Pages>(
     ensures asked { (P.state pages.new).asked ≤ (P.state pages.old).asked + 1 }
     ensures power { OnOk result (KeepsPower (P.state pages.old) (P.state pages.new)) }
     ensures told { (P.state pages.old).sound ≡ true → IfOk result (SaysHead (after (option_copied earlier.entry) (P.state pages.old)) directory) }
-    ensures why { IfErr result (SaysWhy (P.state pages.new)) }
+    ensures why { IfErr result (SaysWhy (P.state pages.old) (P.state pages.new)) }
     ensures fault { (P.state pages.old).sound ≡ true → IsHeaded (after (option_copied earlier.entry) (P.state pages.old)) directory
-        → IfErr result (MayLack (P.state pages.new)) }
+        → IfErr result (MayLack (P.state pages.old) (P.state pages.new)) }
 {
     let key = Key {
         object: directory,

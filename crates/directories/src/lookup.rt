@@ -35,9 +35,9 @@ pub fn find_in_slot<P: Pages>(
     ensures power { OnOk result (KeepsPower (P.state pages.old) (P.state pages.new)) }
     ensures told { (P.state pages.old).sound ≡ true → (z : Sizes) → z.page_bytes ≡ (P.state pages.old).page_bytes
         → IfOk result (TellsSlot z (P.state pages.old).present directory place name.now) }
-    ensures why { IfErr result (SaysWhy (P.state pages.new)) }
+    ensures why { IfErr result (SaysWhy (P.state pages.old) (P.state pages.new)) }
     ensures fault { (P.state pages.old).sound ≡ true → (z : Sizes) → z.page_bytes ≡ (P.state pages.old).page_bytes
-        → (e : Entry) → SlotOf z (P.state pages.old).present directory place e → IfErr result (MayLack (P.state pages.new)) }
+        → (e : Entry) → SlotOf z (P.state pages.old).present directory place e → IfErr result (MayLack (P.state pages.old) (P.state pages.new)) }
 {
     let slots = pages.page_bytes() / SLOT_BYTES as u32;
     let key = Key {
@@ -63,9 +63,9 @@ pub(crate) fn search<P: Pages>(
     ensures within { IfOk result (λ found. IfSome found (λ it. it.place < length)) }
     ensures told { (P.state pages.old).sound ≡ true → (z : Sizes) → z.page_bytes ≡ (P.state pages.old).page_bytes
         → IfOk result (Finds (SlotOf z (after (option_copied earlier.entry) (P.state pages.old)).present directory) 0 length name.now) }
-    ensures why { IfErr result (SaysWhy (P.state pages.new)) }
+    ensures why { IfErr result (SaysWhy (P.state pages.old) (P.state pages.new)) }
     ensures fault { (P.state pages.old).sound ≡ true → (z : Sizes) → z.page_bytes ≡ (P.state pages.old).page_bytes
-        → AreSlots (SlotOf z (after (option_copied earlier.entry) (P.state pages.old)).present directory) 0 length → IfErr result (MayLack (P.state pages.new)) }
+        → AreSlots (SlotOf z (after (option_copied earlier.entry) (P.state pages.old)).present directory) 0 length → IfErr result (MayLack (P.state pages.old) (P.state pages.new)) }
 {
     let slots = pages.page_bytes() / SLOT_BYTES as u32;
     for chunk in 0..length.div_ceil(slots) {
@@ -96,10 +96,10 @@ fn search_chunk<P: Pages>(
     ensures within { IfOk result (λ found. IfSome found (λ it. it.place < chunk * ((P.state pages.old).page_bytes / slot_length) + count)) }
     ensures told { (P.state pages.old).sound ≡ true → (z : Sizes) → z.page_bytes ≡ (P.state pages.old).page_bytes
         → IfOk result (Finds (SlotOf z (after (option_copied earlier.entry) (P.state pages.old)).present directory) (chunk * page_slots z) (chunk * page_slots z + count) name.now) }
-    ensures why { IfErr result (SaysWhy (P.state pages.new)) }
+    ensures why { IfErr result (SaysWhy (P.state pages.old) (P.state pages.new)) }
     ensures fault { (P.state pages.old).sound ≡ true → (z : Sizes) → z.page_bytes ≡ (P.state pages.old).page_bytes → 1 ≤ count
         → AreSlots (SlotOf z (after (option_copied earlier.entry) (P.state pages.old)).present directory) (chunk * page_slots z) (chunk * page_slots z + count)
-        → IfErr result (MayLack (P.state pages.new)) }
+        → IfErr result (MayLack (P.state pages.old) (P.state pages.new)) }
 {
     let key = Key {
         object: directory,

@@ -9,7 +9,7 @@ ghost use Rattle.pages.specs.Maps.{PageMap, changed};
 ghost use Rattle.pages.specs.State.{OnlyFinds, KeepsPower};
 ghost use Rattle.directories.specs.Directories.{HasOnly, SlotOf};
 ghost use Rattle.directories.specs.Slots.{AreSlots};
-ghost use Rattle.directories.specs.Writes.{HasHead, HasKey, IsSlotBytes, KeepsBehind, KeepsSlots, LosesSlot, CutsBehind};
+ghost use Rattle.directories.specs.Writes.{HasHead, HasKey, IsSlotBytes, KeepsBehind, KeepsSlots, EndsInZeros, LosesSlot, CutsBehind};
 
 use crate::head::{DirectoryHead, head_page};
 use crate::page::slot_of;
@@ -40,7 +40,7 @@ pub(crate) fn remove_slot<P: Pages>(
     ensures head { IfOk result (λ change. HasKey change directory 0) }
     ensures removes { (P.state pages.old).sound ≡ true → (z : Sizes) → z.page_bytes ≡ (P.state pages.old).page_bytes
         → let old = (after (option_copied earlier.entry) (P.state pages.old)).present in
-        IfOk result (λ change. LosesSlot z old (changed change old) directory shorter place) }
+        IfOk result (λ change. LosesSlot z old change directory shorter place) }
     ensures besides { (P.state pages.old).sound ≡ true → (z : Sizes) → z.page_bytes ≡ (P.state pages.old).page_bytes
         → let old = (after (option_copied earlier.entry) (P.state pages.old)).present in
         HasOnly z old directory (shorter.length + 1) → IfOk result (λ change. HasOnly z (changed change old) directory shorter.length) }
@@ -76,7 +76,7 @@ fn shorten<P: Pages>(
     ensures head { IfOk result (λ change. HasKey change directory 0) }
     ensures shortens { (P.state pages.old).sound ≡ true → (z : Sizes) → z.page_bytes ≡ (P.state pages.old).page_bytes
         → let old = (after (option_copied earlier.entry) (P.state pages.old)).present in
-        IfOk result (λ change. LosesSlot z old (changed change old) directory shorter place) }
+        IfOk result (λ change. LosesSlot z old change directory shorter place) }
     ensures pages { (P.state pages.old).sound ≡ true → (z : Sizes) (m : PageMap) → z.page_bytes ≡ (P.state pages.old).page_bytes
         → IfOk result (λ change. KeepsBehind z m (changed change m) directory shorter.length) }
     ensures why { IfErr result (SaysWhyMaking (P.state pages.new)) }
@@ -136,7 +136,7 @@ fn fill<P: Pages>(
     ensures head { IfOk result (λ change. HasKey change directory 0) }
     ensures fills { (P.state pages.old).sound ≡ true → (z : Sizes) → z.page_bytes ≡ (P.state pages.old).page_bytes
         → let old = (after (option_copied earlier.entry) (P.state pages.old)).present in
-        IfOk result (λ change. LosesSlot z old (changed change old) directory shorter place) }
+        IfOk result (λ change. LosesSlot z old change directory shorter place) }
     ensures pages { (P.state pages.old).sound ≡ true → (z : Sizes) (m : PageMap) → z.page_bytes ≡ (P.state pages.old).page_bytes
         → IfOk result (λ change. KeepsBehind z m (changed change m) directory shorter.length) }
     ensures why { IfErr result (SaysWhyMaking (P.state pages.new)) }
@@ -169,9 +169,9 @@ fn slot_bytes<P: Pages>(
     ensures power { OnOk result (KeepsPower (P.state pages.old) (P.state pages.new)) }
     ensures told { (P.state pages.old).sound ≡ true → (z : Sizes) → z.page_bytes ≡ (P.state pages.old).page_bytes
         → IfOk result (λ bytes. IsSlotBytes z (after (option_copied earlier.entry) (P.state pages.old)).present directory number bytes) }
-    ensures why { IfErr result (SaysWhy (P.state pages.new)) }
+    ensures why { IfErr result (SaysWhy (P.state pages.old) (P.state pages.new)) }
     ensures fault { (P.state pages.old).sound ≡ true → (z : Sizes) (e : Entry) → z.page_bytes ≡ (P.state pages.old).page_bytes
-        → SlotOf z (after (option_copied earlier.entry) (P.state pages.old)).present directory number e → IfErr result (MayLack (P.state pages.new)) }
+        → SlotOf z (after (option_copied earlier.entry) (P.state pages.old)).present directory number e → IfErr result (MayLack (P.state pages.old) (P.state pages.new)) }
 {
     let slots = pages.page_bytes() / SLOT_BYTES as u32;
     let key = Key {
@@ -198,7 +198,8 @@ fn head_change(
     ensures only { IfOk result (λ change. IsOnlyOf change directory) }
     ensures head { IfOk result (λ change. HasKey change directory 0) }
     ensures writes { (z : Sizes) (old : PageMap) → z.page_bytes ≡ page_bytes → IfOk result (λ change. HasHead z (changed change old) directory head
-        × ((count : ℕ) → KeepsSlots z old (changed change old) directory count count)) }
+        × ((count : ℕ) → KeepsSlots z old (changed change old) directory count count)
+        × ((count : ℕ) → EndsInZeros z change directory count)) }
     ensures pages { (m : PageMap) (c : ℕ) → 1 ≤ c → IfOk result (λ change. changed change m directory c ≡ m directory c) }
 {
     let page = head_page(alloc, page_bytes, directory, head)?;

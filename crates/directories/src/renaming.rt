@@ -14,8 +14,9 @@ ghost use Rattle.directories.specs.Directories.{DirIn, HasOnly, ReadsDirectory, 
 ghost use Rattle.directories.specs.Faults.{MayLackRoom};
 ghost use Rattle.directories.specs.Hashing.{WritesPast};
 ghost use Rattle.directories.specs.Named.{NamedIn, AsksHeld, StandsAt};
+ghost use Rattle.directories.specs.SlotLists.{IsMoved, IsPut, IsWithout, PutsSlot, RewritesHeld};
 ghost use Rattle.directories.specs.Slots.{AreSlots};
-ghost use Rattle.directories.specs.Writes.{HasHead, HasKey, KeepsPages, KeepsSlots};
+ghost use Rattle.directories.specs.Writes.{HasHead, HasKey, KeepsPages, KeepsSlots, EndsInZeros};
 
 use crate::head::{DirectoryHead, head_after};
 use crate::seeking::seek;
@@ -54,6 +55,7 @@ pub fn rename_within<P: Pages>(
         (map.len (map.insert (map.remove entries from.now) to.now.name.now to.now.object)))) }
     ensures slot { (z : Sizes) (before : ℕ) (entries : Entries) (d : NamedIn names.now (P.state pages.old) z directory before entries)
         → IfOk result (λ made. IfSome made (λ change. WritesPast z change directory (map.len entries) (map.len (map.insert (map.remove entries from.now) to.now.name.now to.now.object)))) }
+    ensures slots { IfOk result (λ made. IfSome made (RewritesHeld names.now (P.state pages.old) directory (IsMoved from.now (entry_of to.now)))) }
     ensures why { IfErr result (SaysWhyChanging (P.state pages.new)) }
     ensures fault { (z : Sizes) (before : ℕ) (entries : Entries) (d : NamedIn names.now (P.state pages.old) z directory before entries)
         → IfErr result (MayLackRoom (map.len (map.remove entries from.now)) (P.state pages.new)) }
@@ -111,6 +113,8 @@ pub fn rename_between<P: Pages>(
         → IfOk result (λ made. IfSome made (λ change. HasOnly z (changed change (P.state pages.old).present) route.target (map.len (map.insert entries to.now.name.now to.now.object)))) }
     ensures slot { (z : Sizes) (before : ℕ) (entries : Entries) (d : NamedIn names.now (P.state pages.old) z route.target before entries)
         → IfOk result (λ made. IfSome made (λ change. WritesPast z change route.target (map.len entries) (map.len (map.insert entries to.now.name.now to.now.object)))) }
+    ensures source_slots { IfOk result (λ made. IfSome made (RewritesHeld names.now (P.state pages.old) route.source (IsWithout from.now))) }
+    ensures target_slots { IfOk result (λ made. IfSome made (RewritesHeld names.now (P.state pages.old) route.target (IsPut (entry_of to.now)))) }
     ensures why { IfErr result (SaysWhyChanging (P.state pages.new)) }
     ensures fault { (z : Sizes) (s t : ℕ) (left entries : Entries) (source : NamedIn names.now (P.state pages.old) z route.source s left)
         (target : NamedIn names.now (P.state pages.old) z route.target t entries) → IfErr result (MayLackRoom (map.len entries) (P.state pages.new)) }
@@ -156,6 +160,8 @@ fn put_at<P: Pages>(
         → StandsAt d.reads.slots entries slot.now.name.now place → HasOnly z (after (option_copied earlier.entry) (P.state pages.old)).present directory (map.len entries)
         → IfOk result (λ change. HasOnly z (changed change (after (option_copied earlier.entry) (P.state pages.old)).present) directory
         (map.len (map.insert entries slot.now.name.now slot.now.object))) }
+    ensures slots { (z : Sizes) (before : ℕ) (entries : Entries) (d : DirIn (after (option_copied earlier.entry) (P.state pages.old)) z directory before entries)
+        → StandsAt d.reads.slots entries slot.now.name.now place → IfOk result (λ change. PutsSlot z change directory (entry_of slot.now) d.reads.slots) }
     ensures why { IfErr result (SaysWhyChanging (P.state pages.new)) }
     ensures fault { (z : Sizes) (before : ℕ) (entries : Entries) (d : DirIn (after (option_copied earlier.entry) (P.state pages.old)) z directory before entries)
         → StandsAt d.reads.slots entries slot.now.name.now place → IfErr result (MayLackRoom (map.len entries) (P.state pages.new)) }
@@ -202,7 +208,8 @@ fn push_slot<P: Pages>(
         → let old = (after (option_copied earlier.entry) (P.state pages.old)).present in
         IfOk result (λ change. HasHead z (changed change old) directory (record { spare = head.spare; length = head.length + 1; moment = moment })
         × SlotOf z (changed change old) directory head.length (entry_of slot.now)
-        × KeepsSlots z old (changed change old) directory head.length head.length) }
+        × KeepsSlots z old (changed change old) directory head.length head.length
+        × EndsInZeros z change directory (head.length + 1)) }
     ensures pages { (P.state pages.old).sound ≡ true → (z : Sizes) (m : PageMap) → z.page_bytes ≡ (P.state pages.old).page_bytes
         → IfOk result (λ change. KeepsPages z m (changed change m) directory head.length) }
     ensures why { IfErr result (SaysWhyChanging (P.state pages.new)) }

@@ -11,6 +11,7 @@ ghost use Rattle.pages.specs.Faults.{MayLackMemory, SaysWhyMaking};
 ghost use Rattle.pages.specs.Maps.{changed};
 ghost use Rattle.pages.specs.State.{OnlyFinds, KeepsPower};
 ghost use Rattle.directories.specs.Directories.{DirIn, HasOnly, ReadsDirectory, IsNamed, TellsChange};
+ghost use Rattle.directories.specs.SlotLists.{IsPut, Rewrites};
 
 use crate::head::{DirectoryHead, head_after};
 use crate::lookup::search;
@@ -43,6 +44,7 @@ pub fn replace<P: Pages>(
         → IfOk result (λ made. IfSome made (λ change. HasOnly z (changed change (P.state pages.old).present) directory (map.len (map.insert entries slot.now.name.now slot.now.object)))) }
     ensures told { (P.state pages.old).sound ≡ true → (z : Sizes) → z.page_bytes ≡ (P.state pages.old).page_bytes
         → IfOk result (TellsChange z (P.state pages.old) directory slot.now.name.now) }
+    ensures slots { IfOk result (λ made. IfSome made (Rewrites (P.state pages.old) directory (IsPut (entry_of slot.now)))) }
     ensures why { IfErr result (SaysWhyMaking (P.state pages.new)) }
     ensures fault { (z : Sizes) (before : ℕ) (entries : Entries) (d : DirIn (P.state pages.old) z directory before entries)
         → IfErr result (MayLackMemory (P.state pages.new)) }

@@ -49,9 +49,9 @@ pub(crate) fn search_held<P: Pages>(
     ensures within { IfOk result (λ found. IfSome found (λ it. it.place < length)) }
     ensures told { (P.state pages.old).sound ≡ true → (z : Sizes) → z.page_bytes ≡ (P.state pages.old).page_bytes
         → IfOk result (FindsHeld (Holds names.now directory (fnv1a name.now)) (SlotOf z (P.state pages.old).present directory) length name.now) }
-    ensures why { IfErr result (SaysWhy (P.state pages.new)) }
+    ensures why { IfErr result (SaysWhy (P.state pages.old) (P.state pages.new)) }
     ensures fault { (P.state pages.old).sound ≡ true → (z : Sizes) → z.page_bytes ≡ (P.state pages.old).page_bytes
-        → AreSlots (SlotOf z (P.state pages.old).present directory) 0 length → IfErr result (MayLack (P.state pages.new)) }
+        → AreSlots (SlotOf z (P.state pages.old).present directory) 0 length → IfErr result (MayLack (P.state pages.old) (P.state pages.new)) }
 {
     let hash = name_hash(name);
     let mut from: u32 = 0;
@@ -85,9 +85,9 @@ pub(crate) fn seek<P: Pages>(
         → IfOk result (TellsSought names.now z (P.state pages.old) directory name.now) }
     ensures sought { (z : Sizes) (moment : ℕ) (entries : Entries) (d : NamedIn names.now (P.state pages.old) z directory moment entries)
         → IfOk result (λ sought. IsSought z (P.state pages.old) directory name.now sought moment entries d.reads) }
-    ensures why { IfErr result (SaysWhy (P.state pages.new)) }
+    ensures why { IfErr result (SaysWhy (P.state pages.old) (P.state pages.new)) }
     ensures fault { (z : Sizes) (moment : ℕ) (entries : Entries) (d : DirIn (P.state pages.old) z directory moment entries)
-        → IfErr result (MayLack (P.state pages.new)) }
+        → IfErr result (MayLack (P.state pages.old) (P.state pages.new)) }
 {
     let head = read_head(pages, directory)?;
     let found = search_held(names, pages, directory, head.length, name)?;

@@ -9,6 +9,7 @@ ghost use Rattle.pages.specs.Maps.{changed};
 ghost use Rattle.pages.specs.State.{OnlyFinds, KeepsPower};
 ghost use Rattle.directories.specs.Directories.{DirIn, HasOnly, ReadsDirectory, IsNamed};
 ghost use Rattle.directories.specs.Named.{NamedIn, AsksHeld, TellsHeldChange};
+ghost use Rattle.directories.specs.SlotLists.{IsWithout, RewritesHeld};
 ghost use Rattle.directories.specs.Taking.{TakesName, IsMovedTo};
 ghost use Rattle.directories.specs.Writes.{HasKey};
 
@@ -120,6 +121,7 @@ pub fn remove<P: Pages>(
         → IfOk result (λ made. IfSome made (λ change. HasOnly z (changed change (P.state pages.old).present) directory (map.len (map.remove entries name.now)))) }
     ensures told { (P.state pages.old).sound ≡ true → (z : Sizes) → z.page_bytes ≡ (P.state pages.old).page_bytes
         → IfOk result (TellsHeldChange names.now z (P.state pages.old) directory name.now) }
+    ensures slots { IfOk result (λ made. IfSome made (RewritesHeld names.now (P.state pages.old) directory (IsWithout name.now))) }
     ensures why { IfErr result (SaysWhyMaking (P.state pages.new)) }
     ensures fault { (z : Sizes) (before : ℕ) (entries : Entries) (d : DirIn (P.state pages.old) z directory before entries)
         → IfErr result (MayLackMemory (P.state pages.new)) }

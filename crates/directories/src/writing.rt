@@ -10,7 +10,7 @@ ghost use Rattle.pages.specs.Maps.{PageMap, changed};
 ghost use Rattle.pages.specs.State.{OnlyFinds, KeepsPower};
 ghost use Rattle.directories.specs.Directories.{SlotOf, HasBeside};
 ghost use Rattle.directories.specs.Slots.{AreSlots};
-ghost use Rattle.directories.specs.Writes.{IsSlotsPage, IsSlotPage, HasHead, HasKey, KeepsPages, KeepsSlots};
+ghost use Rattle.directories.specs.Writes.{IsSlotsPage, IsSlotPage, HasHead, HasKey, KeepsPages, KeepsSlots, EndsInZeros};
 
 use crate::head::{DirectoryHead, head_page};
 use crate::page::{copy_slots, write_slot};
@@ -124,7 +124,8 @@ pub(crate) fn write<P: Pages>(
         → let old = (after (option_copied earlier.entry) (P.state pages.old)).present in
         IfOk result (λ change. HasHead z (changed change old) directory head
         × SlotOf z (changed change old) directory writing.number (entry_of slot.now)
-        × KeepsSlots z old (changed change old) directory (min writing.before writing.afterwards) writing.number) }
+        × KeepsSlots z old (changed change old) directory (min writing.before writing.afterwards) writing.number
+        × EndsInZeros z change directory writing.afterwards) }
     ensures pages { (P.state pages.old).sound ≡ true → (z : Sizes) (m : PageMap) → z.page_bytes ≡ (P.state pages.old).page_bytes
         → IfOk result (λ change. KeepsPages z m (changed change m) directory writing.number) }
     ensures beside { (P.state pages.old).sound ≡ true → (z : Sizes) → z.page_bytes ≡ (P.state pages.old).page_bytes

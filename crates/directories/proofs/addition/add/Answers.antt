@@ -1,4 +1,5 @@
-use Rattle.std.proofs.Common.{◌≡◌, ◌+◌, ◌/◌, ◌∙◌, ℕ, min, Option, None, length, refl, sym, subst, arith, rules}
+use Rattle.std.proofs.Common.{◌≡◌, ◌+◌, ◌/◌, ◌∙◌, ℕ, min, List, [], ◌∷◌, ◌++◌, Option, None, length, refl, sym, ap, subst, arith, rules}
+use Rattle.std.proofs.lemmas.List.{length-append}
 use Rattle.std.specs.FinMap as map
 use Rattle.pages.specs.Afterwards.{after}
 use Rattle.pages.specs.laws.Afterwards.{finds_after}
@@ -6,16 +7,19 @@ use Rattle.pages.specs.State.{PagesState}
 use Rattle.pages.specs.declared.change.Change.{Change}
 use Rattle.directories.specs.Directories.{DirIn}
 use Rattle.page_tags.specs.SlotEntry.{entry_of}
+use Rattle.page_tags.specs.Slots.{Entry}
 use Rattle.volume_terms.specs.Sizes.{page_slots}
 use Rattle.pages.specs.laws.Faults.{says_more}
 use Rattle.pages.specs.Maps.{PageMap, changed}
 use Rattle.directories.specs.Directories.{HasBeside, HasOnly, SlotOf}
-use Rattle.directories.specs.Writes.{HasHead, HasKey, KeepsSlots}
+use Rattle.directories.specs.SlotLists.{IsPushed}
+use Rattle.directories.specs.Writes.{EndsInZeros, HasHead, HasKey, KeepsSlots}
 use Rattle.directories.specs.declared.head.DirectoryHead.{DirectoryHead}
-use Rattle.directories.proofs.Changed.{reads_added}
-use Rattle.directories.proofs.Results.{on_all, on_done, on_ok, on_err}
+use Rattle.directories.proofs.Changed.{added_each, reads_added}
+use Rattle.directories.proofs.Results.{on_all, on_both, on_done, on_ok, on_err}
 use Rattle.directories.proofs.PageCounts.{only_written}
 use Rattle.directories.proofs.Reading.{count_after}
+use Rattle.directories.proofs.SlotLists.{rewrites_ok, writes_slots}
 use Rattle.directories.proofs.Told.{page_size, some_slots, sound_on, size_on, are_on, head_says, length_is, count_is, said_now, told_end}
 use Rattle.directories.proofs.addition.add.Goals as goal
 
@@ -130,3 +134,35 @@ returns-clause-slot g c = λ z moment entries d.
     let counted = count_is p q finds z c.args.directory moment entries here sized c.in_ok-head.head s in
     on_ok _ _ c.write.result (λ change key k low high. subst (λ j. HasKey change c.args.directory (1 + j / page_slots z)) (omega (arith, counted, low, high)) key)
     (c.write.ensures.slot (sound_on p q finds z c.args.directory moment entries here sized c.in_ok-head.head s) z (size_on p q finds z c.args.directory moment entries here sized c.in_ok-head.head s))
+
+pub returns-clause-slots : goal.returns-clause-slots
+returns-clause-slots g c = rewrites_ok (g.P.Pages.state c.args.pages.now) c.args.directory (IsPushed (entry_of c.args.slot.now)) c.write.result (λ z moment entries d.
+    let old : PagesState = g.P.Pages.state c.args.pages.now in
+    let e : Option Change = None in
+    let p : PagesState = after e old in
+    let mid : PagesState = g.P.Pages.state c.head_after.new.pages in
+    let q : PagesState = after e mid in
+    let finds = finds_after e old mid c.head_after.ensures.finds in
+    let here : DirIn p z c.args.directory moment entries = record { sound = d.sound; size = d.size; reads = d.reads } in
+    let s = c.in_ok-head.ensures.told here.sound in
+    let sized = g.met.P.Pages.sized c.args.pages.now in
+    let len = length_is p q finds z c.args.directory moment entries here sized c.in_ok-head.head s in
+    let sound_on' = sound_on p q finds z c.args.directory moment entries here sized c.in_ok-head.head s in
+    let size_on' = size_on p q finds z c.args.directory moment entries here sized c.in_ok-head.head s in
+    let counted : c.in-Some.length ≡ c.in_ok-head.head.length + 1 = search rules in
+    let slots : List Entry = d.reads.slots in
+    let n : ℕ = length slots in
+    let m : PageMap = old.present in
+    let entry : Entry = entry_of c.args.slot.now in
+    on_both _ _ _ c.write.result
+    (λ change is w.
+    let slot = subst (λ k. SlotOf z (changed change m) c.args.directory k entry) len (subst (λ (k : PageMap). SlotOf z (changed change k) c.args.directory c.in_ok-head.head.length entry) c.head_after.ensures.finds.present w.1) in
+    let count : min c.in_ok-head.head.length c.in-Some.length ≡ n = grind (arith, counted, len) in
+    let kept = subst (λ k. KeepsSlots z m (changed change m) c.args.directory n k) len
+    (subst (λ k. KeepsSlots z m (changed change m) c.args.directory k c.in_ok-head.head.length) count
+    (subst (λ (k : PageMap). KeepsSlots z k (changed change k) c.args.directory (min c.in_ok-head.head.length c.in-Some.length) c.in_ok-head.head.length) c.head_after.ensures.finds.present w.2)) in
+    let size : c.in-Some.length ≡ length (slots ++ entry ∷ []) = counted ∙ ap (λ k. k + 1) len ∙ sym (length-append slots (entry ∷ [])) in
+    let zeros = subst (EndsInZeros z change c.args.directory) size w.3 in
+    (slots ++ entry ∷ [], refl, writes_slots z m change c.args.directory mid.page_bytes 2 is size_on' (slots ++ entry ∷ []) zeros (added_each z m (changed change m) c.args.directory moment entries d.reads entry slot kept)))
+    c.write.ensures.change
+    (c.write.ensures.writes sound_on' z size_on'))

@@ -16,7 +16,7 @@ returns-in_err-load-clause-fault g c = λ z moment all d some within first.
     let are = slots_among (SlotOf z old.present c.args.directory) (c.args.chunk * page_slots z) (c.args.chunk * page_slots z + c.args.count) (length d.reads.slots) within (slots_are old z c.args.directory moment all d) in
     let there = page_of_slots z old.present c.args.directory c.args.chunk c.args.count some (omega (arith, fits, some)) are in
     let p = err_from_is_err_and c.from_residual.result c.from_residual.ensures.1 in
-    rw (p.1, p.2) (lacks_memory (g.P.Pages.state c.load.new.pages) _ (c.in_err-load.ensures.fault d.sound there.0 (subst (λ n. old.present c.args.directory (1 + n) ≡ Some there.0) (sym c.from.ensures) there.1)))
+    rw (p.1, p.2) (lacks_memory (g.P.Pages.state c.args.pages.now) (g.P.Pages.state c.load.new.pages) _ (c.in_err-load.ensures.fault d.sound there.0 (subst (λ n. old.present c.args.directory (1 + n) ≡ Some there.0) (sym c.from.ensures) there.1)))
 
 pub returns-clause-why : goal.returns-clause-why
 returns-clause-why g c = c.take_page.ensures.why (g.P.Pages.state c.load.new.pages)

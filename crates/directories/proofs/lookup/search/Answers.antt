@@ -7,6 +7,7 @@ use Rattle.volume_terms.specs.laws.Rounding.{part_begins, parts_reach, part_end}
 use Rattle.pages.specs.Afterwards.{changed_by}
 use Rattle.pages.specs.Maps.{PageMap}
 use Rattle.pages.specs.State.{PagesState}
+use Rattle.pages.specs.laws.Faults.{lacks_on, says_on}
 use Rattle.pages.specs.laws.State.{finds_on}
 use Rattle.directories.specs.Directories.{SlotOf}
 use Rattle.directories.specs.Slots.{AreSlots, Finds}
@@ -31,9 +32,14 @@ returns-in_err-found-clause-fault g c = λ sound z size are.
     let at : PageMap → ℕ → Entry → Type 0 = λ p. SlotOf z (changed_by (option_copied c.args.earlier) p) c.args.directory in
     let more : 1 ≤ c.min-count.result = grind arith in
     let p = err_from_is_err_and c.from_residual.result c.from_residual.ensures.1 in
-    rw (p.1, p.2) (c.in_err-found.ensures.fault sound_now z size_now more
+    rw (p.1, p.2) (lacks_on old now (g.P.Pages.state c.search_chunk.new.pages) _ finds.refused (c.in_err-found.ensures.fault sound_now z size_now more
     (subst (λ p. AreSlots (at p) (c.loop-chunk.chunk * page_slots z) (c.loop-chunk.chunk * page_slots z + c.min-count.result)) (sym finds.present)
-    (slots_among (at old.present) (c.loop-chunk.chunk * page_slots z) (c.loop-chunk.chunk * page_slots z + c.min-count.result) len high are)))
+    (slots_among (at old.present) (c.loop-chunk.chunk * page_slots z) (c.loop-chunk.chunk * page_slots z + c.min-count.result) len high are))))
+
+pub returns-in_err-found-clause-why : goal.returns-in_err-found-clause-why
+returns-in_err-found-clause-why g c =
+    let p = err_from_is_err_and c.from_residual.result c.from_residual.ensures.1 in
+    rw (p.1, p.2) (says_on (g.P.Pages.state c.args.pages.now) (g.P.Pages.state c.loop-chunk.pages) (g.P.Pages.state c.search_chunk.new.pages) _ c.loop-chunk.invariant.finds.refused c.in_err-found.ensures.why)
 
 pub returns-then-is_some-clause-told : goal.returns-then-is_some-clause-told
 returns-then-is_some-clause-told g c = λ sound z size.

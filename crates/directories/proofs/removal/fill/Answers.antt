@@ -19,7 +19,7 @@ pub returns-in_err-bytes-clause-fault : goal.returns-in_err-bytes-clause-fault
 returns-in_err-bytes-clause-fault g c = λ sound z size are.
     let s = are c.args.shorter.length (omega arith) (omega arith) in
     let p = err_from_is_err_and c.from_residual.result c.from_residual.ensures.1 in
-    rw (p.1, p.2) (lacks_memory (g.P.Pages.state c.slot_bytes.new.pages) _ (c.in_err-bytes.ensures.fault sound z s.0 size s.1))
+    rw (p.1, p.2) (lacks_memory (g.P.Pages.state c.args.pages.now) (g.P.Pages.state c.slot_bytes.new.pages) _ (c.in_err-bytes.ensures.fault sound z s.0 size s.1))
 
 pub returns-in_default-clause-fault : goal.returns-in_default-clause-fault
 returns-in_default-clause-fault g c = λ sound z size are.
@@ -47,6 +47,7 @@ returns-clause-fills g c = λ sound z size.
       filled = λ less. (e, last, subst (λ (k : PageMap). SlotOf z (changed change (by k)) c.args.directory c.args.place e) finds.present w.1);
       others = subst (λ k. KeepsSlots z m (changed change m) c.args.directory k c.args.place) count
           (subst (λ (k : PageMap). KeepsSlots z (by k) (changed change (by k)) c.args.directory (min (len + 1) len) c.args.place) finds.present w.2);
+      zeros = w.3;
     })
     (c.write.ensures.writes (finds.sound ∙ sound) z (size ∙ sym finds.page_bytes))
 

@@ -1,5 +1,5 @@
 use Rattle.pages.specs.declared.change.Change.{Change}
-use Rattle.directories.proofs.Written.{one_change, one_only, one_head, one_has, one_keeps, one_pages}
+use Rattle.directories.proofs.Written.{one_change, one_only, one_head, one_has, one_keeps, one_zeros, one_pages}
 use Rattle.directories.proofs.removal.head_change.Goals as goal
 
 pub returns-clause-change : goal.returns-clause-change
@@ -22,6 +22,7 @@ returns-clause-writes c = λ z old size.
     let change : Change = record { pages = c.in_ok-pages.pages; cuts = c.new.result } in (
       one_has c.args.directory c.args.page_bytes c.in_ok-page.page c.args.head c.in_ok-page.ensures change c.in_ok-pages.ensures.items c.new.ensures.items old z size,
       one_keeps c.args.directory c.args.page_bytes c.in_ok-page.page c.args.head c.in_ok-page.ensures change c.in_ok-pages.ensures.items c.new.ensures.items old z size,
+      one_zeros c.args.directory c.args.page_bytes c.in_ok-page.page c.args.head c.in_ok-page.ensures change c.in_ok-pages.ensures.items c.new.ensures.items z,
     )
 
 pub returns-clause-pages : goal.returns-clause-pages

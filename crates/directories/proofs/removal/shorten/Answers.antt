@@ -16,6 +16,7 @@ returns-in_ok-head_change-clause-shortens g c = λ sound z size.
       header = w.0;
       filled = λ less. absurd (omega (arith, less, over));
       others = subst (λ k. KeepsSlots z m (changed c.in_ok-head_change.field-0 m) c.args.directory c.args.shorter.length k) last (w.1 c.args.shorter.length);
+      zeros = w.2 c.args.shorter.length;
     }
 
 pub returns-in_ok-head_change-clause-pages : goal.returns-in_ok-head_change-clause-pages

@@ -3,7 +3,7 @@ use Rattle.pages.specs.Afterwards.{changed_by}
 use Rattle.pages.specs.laws.Faults.{says_more}
 use Rattle.pages.specs.Maps.{PageMap, changed}
 use Rattle.pages.specs.State.{PagesState}
-use Rattle.directories.specs.Writes.{HasHead, KeepsSlots}
+use Rattle.directories.specs.Writes.{HasHead, KeepsSlots, EndsInZeros}
 use Rattle.directories.specs.declared.head.DirectoryHead.{DirectoryHead}
 use Rattle.directories.proofs.Results.{on_ok, on_err}
 use Rattle.directories.proofs.renaming.push_slot.Goals as goal
@@ -20,6 +20,7 @@ returns-clause-pushes g c = λ sound z size.
       subst (λ k. HasHead z (changed change m) c.args.directory (by k)) counted w.0,
       w.1,
       subst (λ k. KeepsSlots z m (changed change m) c.args.directory k c.args.head.length) count w.2,
+      subst (λ k. EndsInZeros z change c.args.directory k) counted w.3,
     ))
     (c.write.ensures.writes sound z size)
 

@@ -1,22 +1,25 @@
-use Rattle.std.proofs.Common.{◌+◌, ◌/◌, ◌≡◌, ◌∙◌, ℕ, Some, ap, sym, subst, arith}
+use Rattle.std.proofs.Common.{◌≤◌, ◌+◌, ◌/◌, ◌≡◌, ◌∙◌, ℕ, List, Some, ap, sym, subst, arith}
 use Rattle.std.proofs.lemmas.Result.{err_from_is_err_and}
 use Rattle.std.specs.FinMap as map
 use Rattle.volume_terms.specs.Sizes.{page_slots}
 use Rattle.pages.specs.Afterwards.{after}
+use Rattle.page_tags.specs.Slots.{Entry}
 use Rattle.pages.specs.Changes.{IsChange, IsOnlyOf, AreSized}
 use Rattle.pages.specs.Maps.{PageMap, changed}
 use Rattle.pages.specs.State.{PagesState}
 use Rattle.pages.specs.laws.Changes.{others_keep}
 use Rattle.pages.specs.laws.Faults.{lacks_memory}
 use Rattle.pages.specs.declared.change.Change.{Change}
-use Rattle.posix_profile.specs.State.{Entries}
+use Rattle.posix_profile.specs.State.{Name, Entries}
 use Rattle.directories.specs.Directories.{HasOnly, ReadsDirectory}
+use Rattle.directories.specs.declared.taking.Taken.{Taken}
 use Rattle.directories.proofs.Changed.{reads_kept}
 use Rattle.directories.specs.laws.Keys.{key_both}
 use Rattle.directories.proofs.Held.{asks_both, asks_first}
 use Rattle.directories.proofs.Results.{memory_room}
 use Rattle.directories.proofs.Renamed.{named_later, dir_kept}
-use Rattle.directories.proofs.Sought.{dir, was_named}
+use Rattle.directories.proofs.SlotLists.{left_slots, left_without, left_writes, writes_first, writes_second}
+use Rattle.directories.proofs.Sought.{dir, few_bytes, was_named}
 use Rattle.directories.proofs.renaming.rename_between.Goals as goal
 
 pub returns-in_err-sought-clause-asked : goal.returns-in_err-sought-clause-asked
@@ -28,7 +31,7 @@ returns-in_err-sought-clause-fault g c = λ z s t left entries source target.
     let old : PagesState = g.P.Pages.state c.args.pages.now in
     let mid : PagesState = g.P.Pages.state c.seek.new.pages in
     let r = err_from_is_err_and c.from_residual.result c.from_residual.ensures.1 in
-    rw (r.1, r.2) (memory_room (map.len entries) mid _ (lacks_memory mid _ (c.in_err-sought.ensures.fault z t entries (dir c.args.names.now old z c.args.route.target t entries target))))
+    rw (r.1, r.2) (memory_room (map.len entries) mid _ (lacks_memory old mid _ (c.in_err-sought.ensures.fault z t entries (dir c.args.names.now old z c.args.route.target t entries target))))
 
 pub returns-in_err-taken-clause-asked : goal.returns-in_err-taken-clause-asked
 returns-in_err-taken-clause-asked g c =
@@ -199,3 +202,43 @@ returns-clause-slot g c = λ z t entries d.
     let stands = c.place-place.ensures d.reads.slots entries c.args.to.now.name.now (c.in_ok-sought.ensures.sought z t entries d).found in
     let both = c.in_ok-second.ensures.slot z t entries at stands in
     λ k low high. key_both first second c.in_ok-change.change c.in_ok-change.ensures.pages o (1 + k / page_slots z) (both k low high)
+
+pub returns-clause-source_slots : goal.returns-clause-source_slots
+returns-clause-source_slots g c = λ z moment entries d.
+    let names = c.args.names.now in
+    let old : PagesState = g.P.Pages.state c.args.pages.now in
+    let mid : PagesState = g.P.Pages.state c.seek.new.pages in
+    let o : ℕ = c.args.route.source in
+    let from : Name = c.args.from.now in
+    let taken : Taken = c.in-Some.taken in
+    let few : z.page_bytes ≤ 4096 = few_bytes names old z o moment entries d (g.met.P.Pages.sized c.args.pages.now) in
+    let later_d = named_later names old mid z o moment entries c.seek.ensures.finds d in
+    let t = rw c.in-Some.is at (c.in_ok-taken.ensures.takes z moment entries later_d) in
+    let a : IsChange taken.change mid.page_bytes 2 = rw c.in-Some.is at c.in_ok-taken.ensures.change in
+    let left : List Entry = left_slots z few mid.present o moment entries later_d.reads from taken t in (
+      left,
+      left_without z few mid.present o moment entries later_d.reads from taken t,
+      writes_first z taken.change c.in_ok-second.second c.in_ok-change.change (c.in_ok-change.ensures.apart a.apart c.in_ok-second.ensures.change.apart) c.in_ok-change.ensures.pages o
+          c.args.route.target c.in_ok-second.ensures.only c.requires.apart left (left_writes z few mid.present o moment entries later_d.reads from taken t mid.page_bytes 2 a later_d.size),
+    )
+
+pub returns-clause-target_slots : goal.returns-clause-target_slots
+returns-clause-target_slots g c = λ z t entries d.
+    let old : PagesState = g.P.Pages.state c.args.pages.now in
+    let next : PagesState = g.P.Pages.state c.take_name.new.pages in
+    let o : ℕ = c.args.route.target in
+    let one = c.seek.ensures.finds in
+    let two = c.take_name.ensures.finds in
+    let first : Change = c.in-Some.taken.change in
+    let second : Change = c.in_ok-second.second in
+    let only : IsOnlyOf first c.args.route.source = rw c.in-Some.is at c.in_ok-taken.ensures.only in
+    let at = dir_kept old (after (Some first) next) z o t entries (two.sound ∙ one.sound ∙ d.sound) (d.size ∙ sym one.page_bytes ∙ sym two.page_bytes)
+    (λ k. others_keep first c.args.route.source only next.present o k (λ same. c.requires.apart (sym same)) ∙ ap (λ (m : PageMap). m o k) (two.present ∙ one.present)) d.reads in
+    let stands = c.place-place.ensures d.reads.slots entries c.args.to.now.name.now (c.in_ok-sought.ensures.sought z t entries d).found in
+    let a : IsChange first (g.P.Pages.state c.seek.new.pages).page_bytes 2 = rw c.in-Some.is at c.in_ok-taken.ensures.change in
+    let puts = c.in_ok-second.ensures.slots z t entries at stands in (
+      puts.0,
+      puts.1,
+      writes_second z first second c.in_ok-change.change (c.in_ok-change.ensures.apart a.apart c.in_ok-second.ensures.change.apart) c.in_ok-change.ensures.pages o c.args.route.source only
+          (λ same. c.requires.apart (sym same)) puts.0 puts.2,
+    )

@@ -1,7 +1,9 @@
-use Rattle.std.proofs.Common.{◌≤◌, ◌/◌, ◌+◌, ◌≡◌, ◌∙◌, ℕ, sym, subst, arith}
+use Rattle.std.proofs.Common.{◌≤◌, ◌/◌, ◌+◌, ◌≡◌, ◌∙◌, ℕ, List, sym, ap, subst, arith}
 use Rattle.std.proofs.lemmas.Result.{err_from_is_err_and}
 use Rattle.std.specs.FinMap as map
 use Rattle.flash_tree.specs.Tree.{IsPageSize}
+use Rattle.page_tags.specs.SlotEntry.{entry_of}
+use Rattle.page_tags.specs.Slots.{Entry}
 use Rattle.pages.specs.Changes.{IsChange, AreSized}
 use Rattle.volume_terms.specs.Sizes.{page_slots}
 use Rattle.pages.specs.Maps.{PageMap, changed}
@@ -11,12 +13,14 @@ use Rattle.pages.specs.laws.Faults.{lacks_memory}
 use Rattle.pages.specs.declared.change.Change.{Change}
 use Rattle.posix_profile.specs.State.{Entries}
 use Rattle.directories.specs.Directories.{HasOnly, ReadsDirectory}
+use Rattle.directories.specs.SlotLists.{slots_page, IsPut}
 use Rattle.directories.specs.declared.taking.Taken.{Taken}
 use Rattle.directories.specs.laws.Keys.{key_both}
 use Rattle.directories.proofs.Hashed.{len_less}
 use Rattle.directories.proofs.Held.{asks_both, asks_first}
 use Rattle.directories.proofs.Results.{memory_room}
-use Rattle.directories.proofs.Renamed.{named_later, then_in, spare_then, stands_in}
+use Rattle.directories.proofs.Renamed.{counted, named_later, same, then_in, spare_then, stands_in}
+use Rattle.directories.proofs.SlotLists.{left_are, left_slots, left_without, left_writes, writes_both}
 use Rattle.directories.proofs.Sought.{dir, was_named}
 use Rattle.directories.proofs.renaming.rename_within.Goals as goal
 
@@ -29,7 +33,7 @@ returns-in_err-sought-clause-fault g c = λ z moment entries d.
     let old : PagesState = g.P.Pages.state c.args.pages.now in
     let mid : PagesState = g.P.Pages.state c.seek.new.pages in
     let r = err_from_is_err_and c.from_residual.result c.from_residual.ensures.1 in
-    rw (r.1, r.2) (memory_room (map.len (map.remove entries c.args.from.now)) mid _ (lacks_memory mid _ (c.in_err-sought.ensures.fault z moment entries (dir c.args.names.now old z c.args.directory moment entries d))))
+    rw (r.1, r.2) (memory_room (map.len (map.remove entries c.args.from.now)) mid _ (lacks_memory old mid _ (c.in_err-sought.ensures.fault z moment entries (dir c.args.names.now old z c.args.directory moment entries d))))
 
 pub returns-in_err-taken-clause-asked : goal.returns-in_err-taken-clause-asked
 returns-in_err-taken-clause-asked g c =
@@ -200,3 +204,37 @@ returns-clause-slot g c = λ z moment entries d.
     let slots = c.in_ok-second.ensures.slot z c.args.moment (map.remove entries c.args.from.now) at stands in
     let fewer : map.len (map.remove entries c.args.from.now) ≤ map.len entries = len_less entries c.args.from.now in
     λ k low high. key_both first second c.in_ok-change.change c.in_ok-change.ensures.pages o (1 + k / page_slots z) (slots k (omega (arith, low, fewer)) high)
+
+pub returns-clause-slots : goal.returns-clause-slots
+returns-clause-slots g c = λ z moment entries d.
+    let names = c.args.names.now in
+    let o : ℕ = c.args.directory in
+    let old : PagesState = g.P.Pages.state c.args.pages.now in
+    let mid : PagesState = g.P.Pages.state c.seek.new.pages in
+    let next : PagesState = g.P.Pages.state c.take_name.new.pages in
+    let sized = g.met.P.Pages.sized c.args.pages.now in
+    let size : IsPageSize z.page_bytes = record { least = omega (arith, d.size, sized.0); most = omega (arith, d.size, sized.1) } in
+    let later_d = named_later names old mid z o moment entries c.seek.ensures.finds d in
+    let taken : Taken = c.in-Some.taken in
+    let t = rw c.in-Some.is at (c.in_ok-taken.ensures.takes z moment entries later_d) in
+    let reads = rw c.in-Some.is at (c.in_ok-taken.ensures.removes z moment entries later_d) in
+    let at = then_in names old mid next c.seek.ensures.finds c.take_name.ensures.finds z size o moment entries d c.args.from.now taken c.args.moment t reads in
+    let stands = stands_in names old mid next c.seek.ensures.finds c.take_name.ensures.finds z size o moment entries d c.args.from.now taken c.args.moment t reads
+    c.args.to.now.name.now c.in_ok-sought.sought.found c.moved-place.result (c.in_ok-sought.ensures.sought z moment entries d).found c.moved-place.ensures in
+    let first : Change = taken.change in
+    let second : Change = c.in_ok-second.second in
+    let both : Change = c.in_ok-change.change in
+    let entry : Entry = entry_of c.args.to.now in
+    let puts = c.in_ok-second.ensures.slots z c.args.moment (map.remove entries c.args.from.now) at stands in
+    let a : IsChange first mid.page_bytes 2 = rw c.in-Some.is at c.in_ok-taken.ensures.change in
+    let left : List Entry = left_slots z size.most mid.present o moment entries later_d.reads c.args.from.now taken t in
+    let without = left_without z size.most mid.present o moment entries later_d.reads c.args.from.now taken t in
+    let writes = left_writes z size.most mid.present o moment entries later_d.reads c.args.from.now taken t mid.page_bytes 2 a later_d.size in
+    let one : left ≡ at.reads.slots = left_are z size.most mid.present o moment entries later_d.reads c.args.from.now taken t (changed first next.present)
+    (same names old mid next c.seek.ensures.finds c.take_name.ensures.finds z size o moment entries d c.args.from.now taken c.args.moment t reads) at.reads.slots
+    (counted names old mid next c.seek.ensures.finds c.take_name.ensures.finds z size o moment entries d c.args.from.now taken c.args.moment t reads) at.reads.each in (
+      puts.0,
+      (left, without, subst (λ (s : List Entry). IsPut entry s puts.0) (sym one) puts.1),
+      writes_both z first second both (c.in_ok-change.ensures.apart a.apart c.in_ok-second.ensures.change.apart) c.in_ok-change.ensures.pages o left puts.0 writes puts.2
+          (λ k none. puts.3 k none ∙ ap (λ (s : List Entry). slots_page z s k) (sym one)),
+    )

@@ -1,4 +1,5 @@
-use Rattle.std.proofs.Common.{◌≡◌, ◌<◌, ◌∙◌, ℕ, min, Option, None, length, refl, sym, subst, arith}
+use Rattle.std.proofs.Common.{◌≡◌, ◌<◌, ◌∙◌, ℕ, min, List, Option, None, length, refl, sym, subst, inl, arith}
+use Rattle.std.specs.Prelude.{set}
 use Rattle.std.proofs.lemmas.Result.{err_from_is_err_and}
 use Rattle.std.specs.FinMap as map
 use Rattle.pages.specs.Afterwards.{after}
@@ -8,14 +9,17 @@ use Rattle.pages.specs.State.{PagesState}
 use Rattle.pages.specs.declared.change.Change.{Change}
 use Rattle.directories.specs.Directories.{DirIn}
 use Rattle.page_tags.specs.SlotEntry.{entry_of}
+use Rattle.page_tags.specs.Slots.{Entry}
 use Rattle.pages.specs.Maps.{PageMap, changed}
 use Rattle.directories.specs.Directories.{HasOnly, SlotOf}
 use Rattle.directories.specs.Slots.{AreSlots}
-use Rattle.directories.specs.Writes.{HasHead, KeepsSlots}
+use Rattle.directories.specs.Writes.{EndsInZeros, HasHead, KeepsSlots}
 use Rattle.directories.specs.declared.head.DirectoryHead.{DirectoryHead}
-use Rattle.directories.proofs.Changed.{reads_put}
+use Rattle.directories.proofs.Changed.{put_each, reads_put}
+use Rattle.directories.proofs.Lists.{put_len}
 use Rattle.directories.proofs.PageCounts.{only_written}
 use Rattle.directories.proofs.Reading.{count_after}
+use Rattle.directories.proofs.SlotLists.{writes_slots}
 use Rattle.directories.proofs.Told.{page_size, some_slots, count_is, sound_on, size_on, are_on, head_says, length_is, located, leads_to, leads_nowhere, asked_for, asked_more, told_leads, told_none, said_now}
 use Rattle.directories.proofs.replacement.replace.Goals as goal
 
@@ -48,7 +52,7 @@ returns-in_err-found-clause-fault g c = λ z moment entries d.
     let s = c.in_ok-head.ensures.told here.sound in
     let sized = g.met.P.Pages.sized c.args.pages.now in
     let r = err_from_is_err_and c.from_residual-in_err-found.result c.from_residual-in_err-found.ensures.1 in
-    rw (r.1, r.2) (lacks_memory (g.P.Pages.state c.search.new.pages) _ (c.in_err-found.ensures.fault (sound_on p q finds z c.args.directory moment entries here sized c.in_ok-head.head s) z (size_on p q finds z c.args.directory moment entries here sized c.in_ok-head.head s) (are_on p q finds z c.args.directory moment entries here sized c.in_ok-head.head s)))
+    rw (r.1, r.2) (lacks_memory mid (g.P.Pages.state c.search.new.pages) _ (c.in_err-found.ensures.fault (sound_on p q finds z c.args.directory moment entries here sized c.in_ok-head.head s) z (size_on p q finds z c.args.directory moment entries here sized c.in_ok-head.head s) (are_on p q finds z c.args.directory moment entries here sized c.in_ok-head.head s)))
 
 pub returns-in_default-clause-asked : goal.returns-in_default-clause-asked
 returns-in_default-clause-asked g c = λ z moment entries d.
@@ -207,3 +211,35 @@ returns-clause-besides g c = λ z moment entries d only.
     let count = count_after z size (changed change m) c.args.directory c.args.moment (map.insert entries c.args.slot.now.name.now c.args.slot.now.object) r.0 head header in
     subst (HasOnly z (changed change m) c.args.directory) (sym count)
     (only_written z m (changed change m) c.args.directory c.in-Some.found.place n some within keeps (map.len entries) (omega (arith, counted)) only)
+
+pub returns-clause-slots : goal.returns-clause-slots
+returns-clause-slots g c = λ z moment entries d.
+    let old : PagesState = g.P.Pages.state c.args.pages.now in
+    let e : Option Change = None in
+    let p : PagesState = after e old in
+    let mid : PagesState = g.P.Pages.state c.head_after.new.pages in
+    let q : PagesState = after e mid in
+    let finds = finds_after e old mid c.head_after.ensures.finds in
+    let here : DirIn p z c.args.directory moment entries = record { sound = d.sound; size = d.size; reads = d.reads } in
+    let s = c.in_ok-head.ensures.told here.sound in
+    let sized = g.met.P.Pages.sized c.args.pages.now in
+    let len = length_is p q finds z c.args.directory moment entries here sized c.in_ok-head.head s in
+    let at = located p q finds z c.args.directory moment entries here sized c.in_ok-head.head s c.args.slot.now.name.now c.in-Some.found (rw c.in-Some.is at (c.in_ok-found.ensures.told (sound_on p q finds z c.args.directory moment entries here sized c.in_ok-head.head s) z (size_on p q finds z c.args.directory moment entries here sized c.in_ok-head.head s))) in
+    let next = c.search.ensures.finds in
+    let slots : List Entry = d.reads.slots in
+    let entry : Entry = entry_of c.args.slot.now in
+    let m : PageMap = old.present in
+    let place : ℕ = c.in-Some.found.place in
+    let all : (g.P.Pages.state c.search.new.pages).present ≡ m = next.present ∙ c.head_after.ensures.finds.present in
+    let w = c.in_ok-change.ensures.writes (next.sound ∙ sound_on p q finds z c.args.directory moment entries here sized c.in_ok-head.head s) z (size_on p q finds z c.args.directory moment entries here sized c.in_ok-head.head s ∙ sym next.page_bytes) in
+    let slot = subst (λ (k : PageMap). SlotOf z (changed c.in_ok-change.change k) c.args.directory place entry) all w.1 in
+    let count : min c.in_ok-head.head.length c.in_ok-head.head.length ≡ length slots = grind (arith, len) in
+    let kept = subst (λ k. KeepsSlots z m (changed c.in_ok-change.change m) c.args.directory k place) count
+    (subst (λ (k : PageMap). KeepsSlots z k (changed c.in_ok-change.change k) c.args.directory (min c.in_ok-head.head.length c.in_ok-head.head.length) place) all w.2) in
+    let zeros = subst (EndsInZeros z c.in_ok-change.change c.args.directory) (len ∙ sym (put_len slots place entry)) w.3 in
+    let bytes = size_on p q finds z c.args.directory moment entries here sized c.in_ok-head.head s ∙ sym next.page_bytes in (
+      set slots place entry,
+      inl (place, at.0, at.1, at.2, refl),
+      writes_slots z m c.in_ok-change.change c.args.directory _ 2 c.in_ok-change.ensures.change bytes (set slots place entry) zeros
+          (put_each z m (changed c.in_ok-change.change m) c.args.directory moment entries d.reads place entry slot kept),
+    )

@@ -4,6 +4,7 @@ use Rattle.std.proofs.lemmas.Result.{err_from_is_err_and}
 use Rattle.name_index.specs.Names.{Holds}
 use Rattle.pages.specs.Maps.{PageMap}
 use Rattle.pages.specs.State.{PagesState}
+use Rattle.pages.specs.laws.Faults.{lacks_on, says_on}
 use Rattle.pages.specs.laws.State.{finds_on}
 use Rattle.directories.specs.Directories.{SlotOf}
 use Rattle.directories.proofs.Held.{asked_on}
@@ -43,8 +44,14 @@ returns-in_err-object-clause-fault g c = λ sound z size are.
     let within : c.in-Some.place < c.args.length = c.if-place-length.false in
     let s = are c.in-Some.place (omega arith) within in
     let r = err_from_is_err_and c.from_residual.result c.from_residual.ensures.1 in
-    rw (r.1, r.2) (c.in_err-object.ensures.fault (finds.sound ∙ sound) z (size ∙ sym finds.page_bytes) s.0
-    (subst (λ (m : PageMap). SlotOf z m c.args.directory c.in-Some.place s.0) (sym finds.present) s.1))
+    rw (r.1, r.2) (lacks_on (g.P.Pages.state c.args.pages.now) (g.P.Pages.state c.loop-from.pages) (g.P.Pages.state c.find_in_slot.new.pages) _ finds.refused
+    (c.in_err-object.ensures.fault (finds.sound ∙ sound) z (size ∙ sym finds.page_bytes) s.0
+    (subst (λ (m : PageMap). SlotOf z m c.args.directory c.in-Some.place s.0) (sym finds.present) s.1)))
+
+pub returns-in_err-object-clause-why : goal.returns-in_err-object-clause-why
+returns-in_err-object-clause-why g c =
+    let r = err_from_is_err_and c.from_residual.result c.from_residual.ensures.1 in
+    rw (r.1, r.2) (says_on (g.P.Pages.state c.args.pages.now) (g.P.Pages.state c.loop-from.pages) (g.P.Pages.state c.find_in_slot.new.pages) _ c.loop-from.invariant.finds.refused c.in_err-object.ensures.why)
 
 pub returns-in-Some-2-clause-asked : goal.returns-in-Some-2-clause-asked
 returns-in-Some-2-clause-asked g c =

@@ -4,6 +4,7 @@ use Rattle.name_index.specs.Hashes.{fnv1a}
 use Rattle.name_index.specs.Names.{Holds}
 use Rattle.pages.specs.Maps.{PageMap}
 use Rattle.pages.specs.State.{PagesState}
+use Rattle.pages.specs.laws.Faults.{lacks_on, says_on}
 use Rattle.directories.specs.Directories.{SlotOf}
 use Rattle.directories.specs.Named.{FindsHeld}
 use Rattle.directories.proofs.Sought.{sought_in}
@@ -18,8 +19,13 @@ returns-in_err-found-clause-fault g c = λ z moment entries d.
     let s = c.in_ok-head.ensures.told d.sound in
     let sized = g.met.P.Pages.sized c.args.pages.now in
     let r = err_from_is_err_and c.from_residual-in_err-found.result c.from_residual-in_err-found.ensures.1 in
-    rw (r.1, r.2) (c.in_err-found.ensures.fault (sound_on old mid finds z c.args.directory moment entries d sized c.in_ok-head.head s) z (size_on old mid finds z c.args.directory moment entries d sized c.in_ok-head.head s)
-    (are_on old mid finds z c.args.directory moment entries d sized c.in_ok-head.head s))
+    rw (r.1, r.2) (lacks_on old mid (g.P.Pages.state c.search_held.new.pages) _ finds.refused (c.in_err-found.ensures.fault (sound_on old mid finds z c.args.directory moment entries d sized c.in_ok-head.head s) z (size_on old mid finds z c.args.directory moment entries d sized c.in_ok-head.head s)
+    (are_on old mid finds z c.args.directory moment entries d sized c.in_ok-head.head s)))
+
+pub returns-in_err-found-clause-why : goal.returns-in_err-found-clause-why
+returns-in_err-found-clause-why g c =
+    let r = err_from_is_err_and c.from_residual-in_err-found.result c.from_residual-in_err-found.ensures.1 in
+    rw (r.1, r.2) (says_on (g.P.Pages.state c.args.pages.now) (g.P.Pages.state c.read_head.new.pages) (g.P.Pages.state c.search_held.new.pages) _ c.read_head.ensures.finds.refused c.in_err-found.ensures.why)
 
 pub returns-clause-told : goal.returns-clause-told
 returns-clause-told g c = λ sound z size.

@@ -1,5 +1,8 @@
 use Rattle.std.proofs.lemmas.Result.{err_from_is_err_and}
-use Rattle.directories.proofs.Sought.{was_named}
+use Rattle.pages.specs.State.{PagesState}
+use Rattle.directories.specs.declared.taking.Taken.{Taken}
+use Rattle.directories.proofs.SlotLists.{left_slots, left_without, left_writes}
+use Rattle.directories.proofs.Sought.{few_bytes, was_named}
 use Rattle.directories.proofs.taking.remove.Goals as goal
 
 pub returns-in_err-taken-clause-fault : goal.returns-in_err-taken-clause-fault
@@ -25,3 +28,15 @@ returns-in-None-clause-named g c = λ z moment entries d. rw c.in-None.is at (c.
 
 pub returns-in-None-clause-told : goal.returns-in-None-clause-told
 returns-in-None-clause-told g c = λ sound z size. rw c.in-None.is at (c.in_ok-taken.ensures.told sound z size)
+
+pub returns-in-Some-clause-slots : goal.returns-in-Some-clause-slots
+returns-in-Some-clause-slots g c = λ z moment entries d.
+    let old : PagesState = g.P.Pages.state c.args.pages.now in
+    let few = few_bytes c.args.names.now old z c.args.directory moment entries d (g.met.P.Pages.sized c.args.pages.now) in
+    let taken : Taken = c.in-Some.taken in
+    let t = rw c.in-Some.is at (c.in_ok-taken.ensures.takes z moment entries d) in
+    let is = rw c.in-Some.is at c.in_ok-taken.ensures.change in (
+      left_slots z few old.present c.args.directory moment entries d.reads c.args.name.now taken t,
+      left_without z few old.present c.args.directory moment entries d.reads c.args.name.now taken t,
+      left_writes z few old.present c.args.directory moment entries d.reads c.args.name.now taken t old.page_bytes 2 is d.size,
+    )

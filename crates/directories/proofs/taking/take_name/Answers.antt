@@ -17,7 +17,7 @@ use Rattle.directories.proofs.taking.take_name.Goals as goal
 pub returns-in_err-sought-clause-fault : goal.returns-in_err-sought-clause-fault
 returns-in_err-sought-clause-fault g c = λ z moment entries d.
     let r = err_from_is_err_and c.from_residual.result c.from_residual.ensures.1 in
-    rw (r.1, r.2) (lacks_memory (g.P.Pages.state c.seek.new.pages) _ (c.in_err-sought.ensures.fault z moment entries d))
+    rw (r.1, r.2) (lacks_memory (g.P.Pages.state c.args.pages.now) (g.P.Pages.state c.seek.new.pages) _ (c.in_err-sought.ensures.fault z moment entries d))
 
 pub returns-in_default-clause-named : goal.returns-in_default-clause-named
 returns-in_default-clause-named g c = λ z moment entries d. rw c.in_default.is at (c.in_ok-sought.ensures.sought z moment entries d).found
@@ -50,7 +50,7 @@ returns-clause-takes g c = λ z moment entries d.
     let within : c.in-Some.found.place < n = rw c.in-Some.is at c.in_ok-sought.ensures.within in
     let change : Change = c.in_ok-change.change in
     let head : DirectoryHead = record { spare = c.in_ok-sought.sought.head.spare; length = n - 1; moment = c.args.moment } in
-    let loses = subst (λ (k : PageMap). LosesSlot z k (changed change k) c.args.directory head c.in-Some.found.place) finds.present
+    let loses = subst (λ (k : PageMap). LosesSlot z k change c.args.directory head c.in-Some.found.place) finds.present
     (c.in_ok-change.ensures.removes (finds.sound ∙ d.sound) z (d.size ∙ sym finds.page_bytes)) in
     taken_name c.args.names.now old z c.args.directory moment entries d c.args.name.now c.in_ok-sought.sought.head sought.head c.in-Some.found (rw c.in-Some.is at sought.found) within c.args.moment change loses
 
@@ -64,7 +64,7 @@ returns-clause-removes g c = λ z moment entries d.
     let within : c.in-Some.found.place < n = rw c.in-Some.is at c.in_ok-sought.ensures.within in
     let change : Change = c.in_ok-change.change in
     let head : DirectoryHead = record { spare = c.in_ok-sought.sought.head.spare; length = n - 1; moment = c.args.moment } in
-    let loses = subst (λ (k : PageMap). LosesSlot z k (changed change k) c.args.directory head c.in-Some.found.place) finds.present
+    let loses = subst (λ (k : PageMap). LosesSlot z k change c.args.directory head c.in-Some.found.place) finds.present
     (c.in_ok-change.ensures.removes (finds.sound ∙ d.sound) z (d.size ∙ sym finds.page_bytes)) in
     name_removed c.args.names.now old z c.args.directory moment entries d c.args.name.now c.in_ok-sought.sought.head sought.head c.in-Some.found (rw c.in-Some.is at sought.found) within c.args.moment change
     (few_bytes c.args.names.now old z c.args.directory moment entries d sized) loses
@@ -83,7 +83,7 @@ returns-clause-besides g c = λ z moment entries d only.
     let change : Change = c.in_ok-change.change in
     let m : PageMap = old.present in
     let head : DirectoryHead = record { spare = c.in_ok-sought.sought.head.spare; length = n - 1; moment = c.args.moment } in
-    let loses = subst (λ (k : PageMap). LosesSlot z k (changed change k) c.args.directory head c.in-Some.found.place) finds.present
+    let loses = subst (λ (k : PageMap). LosesSlot z k change c.args.directory head c.in-Some.found.place) finds.present
     (c.in_ok-change.ensures.removes (finds.sound ∙ d.sound) z (d.size ∙ sym finds.page_bytes)) in
     let turns = subst (λ (k : PageMap). HasOnly z k c.args.directory (n - 1 + 1) → HasOnly z (changed change k) c.args.directory (n - 1)) finds.present
     (c.in_ok-change.ensures.besides (finds.sound ∙ d.sound) z (d.size ∙ sym finds.page_bytes)) in

@@ -8,7 +8,7 @@ use Rattle.std.proofs.Common.{option_copied}
 use Rattle.directories.specs.HeadPages.{IsHeadPage}
 use Rattle.directories.specs.Writes.{HasKey}
 use Rattle.page_tags.specs.SlotEntry.{entry_of}
-use Rattle.directories.proofs.Written.{two_change, two_only, two_head, two_slot_key, two_has, two_slot, two_keeps, two_pages}
+use Rattle.directories.proofs.Written.{two_change, two_only, two_head, two_slot_key, two_has, two_slot, two_keeps, two_zeros, two_pages}
 use Rattle.directories.proofs.writing.write.Goals as goal
 
 pub returns-in_err-slot_page-clause-fault : goal.returns-in_err-slot_page-clause-fault
@@ -51,6 +51,7 @@ returns-clause-writes g c = λ sound z size.
       two_has c.args.directory old.page_bytes c.in_ok-slot_page.slot_page c.in_ok-head_page.head_page c.args.head c.in_ok-slot_page.ensures.sized head_is change c.in_ok-pages.ensures.items c.new.ensures.items m z size,
       two_slot c.args.directory old.page_bytes c.in_ok-slot_page.slot_page c.in_ok-head_page.head_page c.args.head c.in_ok-slot_page.ensures.sized head_is change c.in_ok-pages.ensures.items c.new.ensures.items m z c.args.writing (entry_of c.args.slot.now) slot,
       two_keeps c.args.directory old.page_bytes c.in_ok-slot_page.slot_page c.in_ok-head_page.head_page c.args.head c.in_ok-slot_page.ensures.sized head_is change c.in_ok-pages.ensures.items c.new.ensures.items m z c.args.writing (entry_of c.args.slot.now) slot,
+      two_zeros c.args.directory old.page_bytes c.in_ok-slot_page.slot_page c.in_ok-head_page.head_page c.args.head c.in_ok-slot_page.ensures.sized head_is change c.in_ok-pages.ensures.items c.new.ensures.items m z c.args.writing (entry_of c.args.slot.now) slot,
     )
 
 pub returns-clause-pages : goal.returns-clause-pages

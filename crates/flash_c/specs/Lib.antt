@@ -1,6 +1,7 @@
 pub mod Filling
 pub mod Flags
 pub mod Held
+pub mod Lending
 pub mod Numbers
 pub mod Questions
 pub mod Sessions

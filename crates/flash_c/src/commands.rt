@@ -21,10 +21,7 @@ fn done_in(slot: &mut Slot, moment: u64, command: Command) -> i32
     if !slot.is_full() {
         return error_number(Errno::EINVAL);
     }
-    let mut session = slot.take();
-    let number = done(&mut session, &Stamped { moment, command });
-    slot.put(session);
-    number
+    done(slot.session(), &Stamped { moment, command })
 }
 
 /// Does a command that counts in the session of a slot.
@@ -34,10 +31,7 @@ fn count_in(slot: &mut Slot, moment: u64, command: Command) -> i64
     if !slot.is_full() {
         return i64::from(error_number(Errno::EINVAL));
     }
-    let mut session = slot.take();
-    let number = count(&mut session, &Stamped { moment, command });
-    slot.put(session);
-    number
+    count(slot.session(), &Stamped { moment, command })
 }
 
 /// The bytes of a path that C hands in.
@@ -89,10 +83,7 @@ pub extern "C" fn flash_write(
     if !slot.is_full() {
         return i64::from(error_number(Errno::EINVAL));
     }
-    let mut session = slot.take();
-    let number = write(alloc, &mut session, moment, fd, bytes);
-    slot.put(session);
-    number
+    write(alloc, slot.session(), moment, fd, bytes)
 }
 
 /// Sets the descriptor's offset, counted from the start of the file (0), from the offset (1) or from the end (2 and above), and

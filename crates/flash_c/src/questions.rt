@@ -19,10 +19,7 @@ pub extern "C" fn flash_read(slot: &mut Slot, fd: u32, buffer: &mut [u8]) -> i64
     if !slot.is_full() {
         return i64::from(error_number(Errno::EINVAL));
     }
-    let mut session = slot.take();
-    let number = read(&mut session, fd, buffer);
-    slot.put(session);
-    number
+    read(slot.session(), fd, buffer)
 }
 
 /// Reports what a path leads to.
@@ -41,10 +38,7 @@ pub extern "C" fn flash_stat(
     if !slot.is_full() {
         return error_number(Errno::EINVAL);
     }
-    let mut session = slot.take();
-    let number = stat(&mut session, path, info);
-    slot.put(session);
-    number
+    stat(slot.session(), path, info)
 }
 
 /// Puts the names of a directory in the buffer, each with a zero after it, and returns how many bytes they take. ERANGE: the
@@ -59,10 +53,7 @@ pub extern "C" fn flash_list(alloc: Global, slot: &mut Slot, path: &[u8], buffer
     if !slot.is_full() {
         return i64::from(error_number(Errno::EINVAL));
     }
-    let mut session = slot.take();
-    let number = list(&mut session, path, buffer);
-    slot.put(session);
-    number
+    list(slot.session(), path, buffer)
 }
 
 /// Reports the room of the volume.
@@ -73,8 +64,5 @@ pub extern "C" fn flash_space(slot: &mut Slot, room: &mut FlashSpace) -> i32
     if !slot.is_full() {
         return error_number(Errno::EINVAL);
     }
-    let mut session = slot.take();
-    let number = space(&mut session, room);
-    slot.put(session);
-    number
+    space(slot.session(), room)
 }

@@ -116,10 +116,7 @@ pub extern "C" fn flash_read_only(slot: &mut Slot) -> i32
     if !slot.is_full() {
         return error_number(Errno::EINVAL);
     }
-    let session = slot.take();
-    let yes = session.volume.read_only();
-    slot.put(session);
-    i32::from(yes)
+    i32::from(slot.session().volume.read_only())
 }
 
 /// Whether the volume is stopped, and answers EIO to each command: 1 is yes, 0 no.
@@ -130,8 +127,5 @@ pub extern "C" fn flash_stopped(slot: &mut Slot) -> i32
     if !slot.is_full() {
         return error_number(Errno::EINVAL);
     }
-    let session = slot.take();
-    let yes = session.volume.stopped();
-    slot.put(session);
-    i32::from(yes)
+    i32::from(slot.session().volume.stopped())
 }

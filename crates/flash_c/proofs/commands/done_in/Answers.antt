@@ -3,7 +3,7 @@ use Rattle.std.proofs.lemmas.Int.{to_z-of_z}
 use Rattle.posix_profile.specs.declared.reply.Errno.TheVariants as errors
 use Rattle.posix_profile.specs.declared.reply.Reply.TheVariants as replies
 use Rattle.flash_c.specs.Slots.{empty}
-use Rattle.flash_c.proofs.Replies.{put_back}
+use Rattle.flash_c.proofs.Replies.{served_in_place}
 use Rattle.flash_c.proofs.commands.done_in.Goals as goal
 
 pub returns-then-not-is_full : goal.returns-then-not-is_full
@@ -11,9 +11,9 @@ returns-then-not-is_full c = (replies.Error errors.EINVAL, empty (sym c.is_full.
 
 pub returns : goal.returns
 returns c =
-    let m = c.done-number.ensures in (
+    let m = c.done.ensures in (
       m.0,
-      put_back _ c.args.slot.now c.is_full.new.self c.take-session.result c.done-number.new.session _ _ m.0 c.put.new.self
-          (sym c.is_full.ensures.full ∙ c.if-not-is_full.false) c.is_full.ensures.same c.take-session.ensures.session refl m.1 c.put.ensures.session c.put.ensures.full,
-      to_z-of_z w32 c.done-number.result (search (c.done-number.type_inv)) ∙ m.2,
+      served_in_place _ c.args.slot.now c.is_full.new.self c.session.result.now c.done.new.session _ _ m.0
+          (sym c.is_full.ensures.full ∙ c.if-not-is_full.false) c.is_full.ensures.same c.session.ensures.session refl m.1,
+      to_z-of_z w32 c.done.result (search (c.done.type_inv)) ∙ m.2,
     )

@@ -3,7 +3,7 @@ use Rattle.std.proofs.lemmas.Int.{to_z-of_z}
 use Rattle.posix_profile.specs.declared.reply.Errno.TheVariants as errors
 use Rattle.posix_profile.specs.declared.reply.Reply.TheVariants as replies
 use Rattle.flash_c.specs.Slots.{empty}
-use Rattle.flash_c.proofs.Replies.{put_back}
+use Rattle.flash_c.proofs.Replies.{served_in_place}
 use Rattle.flash_c.proofs.questions.flash_read.Goals as goal
 
 pub returns-then-not-is_full : goal.returns-then-not-is_full
@@ -11,10 +11,10 @@ returns-then-not-is_full c = (replies.Error errors.EINVAL, empty (sym c.is_full.
 
 pub returns : goal.returns
 returns c =
-    let m = c.read-number.ensures in (
+    let m = c.read.ensures in (
       m.0,
-      put_back _ c.args.slot.now c.is_full.new.self c.take-session.result c.read-number.new.session _ _ m.0 c.put.new.self
-          (sym c.is_full.ensures.full ∙ c.if-not-is_full.false) c.is_full.ensures.same c.take-session.ensures.session refl m.1 c.put.ensures.session c.put.ensures.full,
-      to_z-of_z w64 c.read-number.result (search (c.read-number.type_inv)) ∙ m.2,
+      served_in_place _ c.args.slot.now c.is_full.new.self c.session.result.now c.read.new.session _ _ m.0
+          (sym c.is_full.ensures.full ∙ c.if-not-is_full.false) c.is_full.ensures.same c.session.ensures.session refl m.1,
+      to_z-of_z w64 c.read.result (search (c.read.type_inv)) ∙ m.2,
       m.3,
     )

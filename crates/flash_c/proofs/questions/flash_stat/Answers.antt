@@ -5,7 +5,7 @@ use Rattle.posix_profile.specs.declared.reply.Errno.TheVariants as errors
 use Rattle.posix_profile.specs.declared.reply.Reply.TheVariants as replies
 use Rattle.flash_c.specs.Sessions.{at}
 use Rattle.flash_c.specs.Slots.{empty, refused}
-use Rattle.flash_c.proofs.Replies.{put_back}
+use Rattle.flash_c.proofs.Replies.{served_in_place}
 use Rattle.flash_c.proofs.questions.flash_stat.Goals as goal
 
 pub returns-in_default : goal.returns-in_default
@@ -16,10 +16,10 @@ returns-then-not-is_full c = (replies.Error errors.EINVAL, empty (sym c.is_full.
 
 pub returns : goal.returns
 returns c =
-    let m = c.stat-number.ensures in (
+    let m = c.stat.ensures in (
       m.0,
-      put_back _ c.args.slot.now c.is_full.new.self c.take-session.result c.stat-number.new.session _ _ m.0 c.put.new.self
-          (sym c.is_full.ensures.full ∙ c.if-not-is_full.false) c.is_full.ensures.same c.take-session.ensures.session (ap (λ (p : List ℕ). at 0 (commands.Stat p)) c.in-Ok.ensures) m.1 c.put.ensures.session c.put.ensures.full,
-      to_z-of_z w32 c.stat-number.result (search (c.stat-number.type_inv)) ∙ m.2,
+      served_in_place _ c.args.slot.now c.is_full.new.self c.session.result.now c.stat.new.session _ _ m.0
+          (sym c.is_full.ensures.full ∙ c.if-not-is_full.false) c.is_full.ensures.same c.session.ensures.session (ap (λ (p : List ℕ). at 0 (commands.Stat p)) c.in-Ok.ensures) m.1,
+      to_z-of_z w32 c.stat.result (search (c.stat.type_inv)) ∙ m.2,
       m.3,
     )

@@ -1,5 +1,5 @@
 // Sessions on eight blocks of 32 pages of 512 bytes, lines by hand, and what a session keeps of a tree.
-use crate::lines::formatted;
+use crate::lines::{formatted, script};
 use exerciser::{CutFault, Finding, cut, kept, mount_fault_name, tell};
 use line_shell::read_script;
 use nand_model::{Geometry, MemNand};
@@ -13,11 +13,6 @@ use std::test::Fail;
 use volume_terms::VolumeSizes;
 
 const LINES: &str = "open /a rwc\nwrite 0 hello\nseek 0 0 set\nread 0 10\nspace\nfsync 0\n";
-
-fn script(alloc: Global, lines: &str) -> Result<Vec<Stamped>, Fail> {
-    let mut reader = lines.as_bytes();
-    Ok(read_script(alloc, &mut reader)?)
-}
 
 fn blank(alloc: Global) -> Result<MemNand, Fail> {
     Ok(MemNand::new(alloc, Geometry::new(512, 32, 8)?)?)

@@ -14,3 +14,5 @@ mod sessions;
 mod stories;
 #[cfg(test)]
 mod torn;
+#[cfg(test)]
+mod worked;

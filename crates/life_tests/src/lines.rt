@@ -1,5 +1,5 @@
 // Sessions of lines, and what they are told.
-use line_shell::{Line, parse, write_reply};
+use line_shell::{Line, parse, read_script, write_reply};
 use nand_model::{Fate, Geometry, MemNand};
 use posix_calls::{Stamped, format};
 use powercut::{Session, SessionEnd, live};
@@ -25,6 +25,12 @@ fn commands(alloc: Global, lines: &[&str]) -> Result<Vec<Stamped>, Fail> {
         }
     }
     Ok(commands)
+}
+
+/// The commands of a text of lines.
+pub(crate) fn script(alloc: Global, lines: &str) -> Result<Vec<Stamped>, Fail> {
+    let mut reader = lines.as_bytes();
+    Ok(read_script(alloc, &mut reader)?)
 }
 
 /// A session of lines that is abandoned at its end, on a device that is not disturbed.

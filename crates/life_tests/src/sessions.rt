@@ -36,7 +36,7 @@ fn session(alloc: Global, command: Command, unmount: bool) -> Result<Session, Fa
 /// What a session tells.
 #[derive(Clone, Copy, Debug)]
 enum Told {
-    /// That power was lost in its mount.
+    /// That power was lost in its mount, before its command.
     Gone,
     /// That its one command is done.
     Done,
@@ -49,15 +49,31 @@ enum Told {
 impl Told {
     fn is_of(self, end: &SessionEnd) -> bool {
         match (self, end.replies.as_slice()) {
-            (Told::Gone, []) => end.mounted == Err(MountFault::Gone) && end.cut,
-            (Told::Done, [Reply::Done]) => end.mounted == Ok(()) && !end.cut,
-            (Told::NoNames, [Reply::Names(list)]) => list.as_slice().is_empty(),
+            (Told::Gone, []) => end.mounted == Err(MountFault::Gone) && end.cut && end.begun == 0,
+            (Told::Done, [Reply::Done]) => is_undisturbed(end),
+            (Told::NoNames, [Reply::Names(list)]) => {
+                is_undisturbed(end) && list.as_slice().is_empty()
+            }
             (Told::Name(name), [Reply::Names(list)]) => match list.as_slice() {
-                [only] => only.as_slice() == name.as_bytes(),
+                [only] => is_undisturbed(end) && only.as_slice() == name.as_bytes(),
                 _ => false,
             },
             _ => false,
         }
+    }
+}
+
+/// Whether a session of one command was mounted, begun, and not cut.
+fn is_undisturbed(end: &SessionEnd) -> bool {
+    end.mounted == Ok(()) && end.begun == 1 && !end.cut
+}
+
+/// Whether an unmount is told as it was asked for: it is done, or not made.
+fn is_unmounted(end: &SessionEnd, asked: bool) -> bool {
+    match &end.unmounted {
+        Some(Reply::Done) => asked,
+        Some(_) => false,
+        None => !asked,
     }
 }
 
@@ -71,8 +87,9 @@ fn expect(
 ) -> Result<(), Fail> {
     let (_nand, ends) = live_through(alloc, nand, sessions)?;
     assert_eq!(rt; ends.len(), told.len());
-    for (end, told) in ends.iter().zip(told) {
+    for ((end, session), told) in ends.iter().zip(sessions).zip(told) {
         assert!(rt; told.is_of(end), "{told:?} {end:?}");
+        assert!(rt; is_unmounted(end, session.unmount), "{end:?}");
     }
     Ok(())
 }

@@ -1,6 +1,6 @@
 // Volumes that lose what they must keep, and what is seen of sessions on them.
+use crate::lines::script;
 use exerciser::{Finding, Seen, compare};
-use line_shell::read_script;
 use nand_model::Geometry;
 use plain_tree::{Answers, PlainTree};
 use posix_calls::{Bytes, Command, Errno, FilePath, NameList, Reply, Stamped};
@@ -104,11 +104,6 @@ impl Answers for HalfRenamed {
     fn answer(&mut self, stamped: &Stamped) -> Reply {
         reply_of(self.step(stamped))
     }
-}
-
-fn script(alloc: Global, lines: &str) -> Result<Vec<Stamped>, Fail> {
-    let mut reader = lines.as_bytes();
-    Ok(read_script(alloc, &mut reader)?)
 }
 
 /// The end of a session of these commands on what answers them, in which power is lost after the last.

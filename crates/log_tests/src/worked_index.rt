@@ -1,5 +1,5 @@
 // An index through all that it is asked for, each reply worked by hand.
-ghost use Rattle.std.specs.Prelude.{◌≡◌, ◌<◌, ℕ};
+ghost use Rattle.std.specs.Prelude.{◌≡◌, ◌<◌, ◌≤◌, ℕ};
 ghost use Rattle.block_state.specs.TableOf.{table};
 ghost use Rattle.chunk_index.specs.Maps.{present, CountsAgree};
 ghost use Rattle.chunk_index.specs.declared.form.Present.TheVariants as presents;
@@ -12,14 +12,15 @@ use std::alloc::{AllocError, Global};
 use std::process::Abort;
 use std::test::Fail;
 
-/// An index with the blocks that it counts in: eight, and less than a hundred pages in the buffer.
+/// An index with the blocks that it counts in: eight of 32 pages, and at most eight pages in the buffer.
 #[derive(Drop)]
 struct Store {
     index: Index,
     blocks: Blocks,
     ghost agree: { CountsAgree (table blocks) index },
-    ghost few: { (o c i : ℕ) → present index o c ≡ presents.InBuffer i → i < 100 },
+    ghost few: { (o c i : ℕ) → present index o c ≡ presents.InBuffer i → i < 8 },
     ghost eight: { (table blocks).geometry.blocks ≡ 8 },
+    ghost pages: { (table blocks).geometry.pages ≡ 32 },
 }
 
 impl Store {
@@ -34,7 +35,7 @@ impl Store {
 
     /// A page of the buffer is the present one of a key.
     fn buffer(&mut self, key: Key, page: u32) -> Result<(), AllocError>
-        requires { page < 100 }
+        requires { page < 8 }
     {
         self.index.prepare(key)?;
         self.index.place(key, Form::Buffered(page));
@@ -44,7 +45,7 @@ impl Store {
     /// The buffer was written from a page of a block on, under this number.
     fn settle(&mut self, block: u32, first: u32, number: u64)
         requires block { block < 8 }
-        requires first { first < 100 }
+        requires first { first ≤ 24 }
     {
         let group = WrittenGroup {
             block,
@@ -56,7 +57,8 @@ impl Store {
 
     /// The kept page of a key, if there is one, was copied to another place.
     fn copy(&mut self, key: Key, place: PagePlace)
-        requires { place.block < 8 }
+        requires block { place.block < 8 }
+        requires page { place.page < 32 }
     {
         match self.index.kept(key) {
             Some(_) => self.index.copied(key, place, &mut self.blocks),

@@ -1,13 +1,14 @@
 // Checkpoints that were altered, and flashes under them: a mount shows what a scan shows, changes nothing, and the volume goes on.
 
 use crate::devices::formatted;
-use crate::lines::{abandon, asked, mount, session, step_all, try_mount};
+use crate::lines::{abandon, asked, mount, mount_as_it_is, session, step_all, try_mount};
 use crate::search::{checkpoint_of, expect_entries, put, read};
 use flash_tree::Key;
 use nand_model::{MemNand, Nand};
 use page_tags::Tag;
 use plain_search::newest;
 use plain_tree::PlainTree;
+use posix_calls::MountFault;
 use std::alloc::Global;
 use std::process::Abort;
 use std::test::Fail;
@@ -70,20 +71,18 @@ const REFUSED: [&[Patch]; 27] = [
 /// Nothing, and an entry too many, of an object that nothing names: it is dropped.
 const TAKEN: [&[Patch]; 2] = [&[], &[Byte(0, 8, 18), Byte(1, 64, 9), Byte(1, 80, 1)]];
 
-/// A device with such a checkpoint in block 3, and its tree. The format took block 0, the first session block 1, and block 2 for a
-/// checkpoint, which the second session took for its pages.
-fn device(rt: &impl Abort, alloc: Global) -> Result<MemNand, Fail> {
+/// A formatted device after a session that makes a directory with a file.
+fn with_file(rt: &impl Abort, alloc: Global) -> Result<MemNand, Fail> {
     let bytes = "x".repeat(alloc, 2560)?;
     let lines = format!(in alloc; "mkdir /a\nopen /a/f wc\nwrite 0 {bytes}\nwrite 0 {bytes}")?;
-    let nand = formatted(alloc, 8, 1)?;
-    let nand = session(
-        rt,
-        alloc,
-        nand,
-        &lines,
-        "ok\nfd 0\nwrote 2560\nwrote 2560\n",
-    )?;
-    let mut nand = session(rt, alloc, nand, "mkdir /b", "ok\n")?;
+    let replies = "ok\nfd 0\nwrote 2560\nwrote 2560\n";
+    session(rt, alloc, formatted(alloc, 8, 1)?, &lines, replies)
+}
+
+/// A device with such a checkpoint in block 3. The format took block 0, the first session block 1, and block 2 for a
+/// checkpoint, which the second session took for its pages.
+fn device(rt: &impl Abort, alloc: Global) -> Result<MemNand, Fail> {
+    let mut nand = session(rt, alloc, with_file(rt, alloc)?, "mkdir /b", "ok\n")?;
     expect_entries(rt, alloc, &mut nand, 17)?;
     let found = checkpoint_of(&mut nand)?.ok_or("no checkpoint")?;
     assert_eq!(rt; (found.block, found.page, found.tag.count), (3, 0, 2));
@@ -134,28 +133,29 @@ enum Way {
     Scan,
 }
 
-/// That a mount goes this way and changes nothing.
-fn expect_way(
-    rt: &impl Abort,
-    alloc: Global,
-    mut nand: MemNand,
-    way: Way,
-) -> Result<MemNand, Fail> {
+/// The way of a mount that made so many calls: eight tags, two pages of the checkpoint and seven of the tree; or each tag.
+fn way_of(calls: u64) -> Option<Way> {
+    match calls {
+        17 => Some(Way::Checkpoint),
+        225.. => Some(Way::Scan),
+        _ => None,
+    }
+}
+
+/// The device after a mount, whether that shows a tree or not.
+fn after_mount(alloc: Global, mut nand: MemNand) -> MemNand {
     nand.power_up();
-    let nand = match try_mount(alloc, nand) {
+    match try_mount(alloc, nand) {
         Ok(volume) => abandon(volume),
         Err((nand, _fault)) => nand,
-    };
-    assert_eq!(rt; nand.changes(), 0);
-    // Eight tags, two pages of the checkpoint and seven of the tree; or each tag.
-    let told = if nand.calls() == 17 {
-        Way::Checkpoint
-    } else {
-        Way::Scan
-    };
-    assert_eq!(rt; told, way);
-    assert!(rt; way == Way::Checkpoint || nand.calls() > 224);
-    Ok(nand)
+    }
+}
+
+/// That a mount goes this way and changes nothing.
+fn expect_way(rt: &impl Abort, alloc: Global, nand: MemNand, way: Way) -> MemNand {
+    let nand = after_mount(alloc, nand);
+    assert_eq!(rt; (way_of(nand.calls()), nand.changes()), (Some(way), 0));
+    nand
 }
 
 /// The device without its checkpoint.
@@ -181,20 +181,33 @@ fn expect_going(
     Ok(())
 }
 
+/// The tree that a mount shows, or its fault.
+fn shown(alloc: Global, nand: MemNand) -> Result<Result<PlainTree, MountFault>, Fail> {
+    match try_mount(alloc, nand) {
+        Ok(mut volume) => {
+            let sizes = VolumeSizes::new(512, 32, 8, 1);
+            Ok(Ok(PlainTree::read_from(alloc, sizes, &mut volume)?))
+        }
+        Err((_nand, fault)) => Ok(Err(fault)),
+    }
+}
+
+/// That a mount shows this tree, and that the volume goes on.
+fn expect_tree(rt: &impl Abort, alloc: Global, nand: MemNand, tree: PlainTree) -> Result<(), Fail> {
+    let mut volume = mount_as_it_is(alloc, nand)?;
+    assert!(rt; tree.same(&mut volume)?);
+    expect_going(rt, alloc, abandon(volume), tree)
+}
+
 /// That a mount of a device goes this way and shows what a mount does where the checkpoint is not there, and that the volume goes on.
 fn expect_same(rt: &impl Abort, alloc: Global, nand: MemNand, way: Way) -> Result<(), Fail> {
-    let nand = expect_way(rt, alloc, nand, way)?;
-    match (try_mount(alloc, bare(&nand)?), try_mount(alloc, nand)) {
-        (Ok(mut scanned), Ok(mut volume)) => {
-            let tree = PlainTree::read_from(alloc, VolumeSizes::new(512, 32, 8, 1), &mut scanned)?;
-            assert!(rt; tree.same(&mut volume)?);
-            expect_going(rt, alloc, abandon(volume), tree)
-        }
-        (Err((_scanned, wanted)), Err((_nand, fault))) => {
-            assert_eq!(rt; fault, wanted);
+    let nand = expect_way(rt, alloc, nand, way);
+    match shown(alloc, bare(&nand)?)? {
+        Ok(tree) => expect_tree(rt, alloc, nand, tree),
+        Err(wanted) => {
+            assert_eq!(rt; shown(alloc, nand)?.err(), Some(wanted));
             Ok(())
         }
-        _ => Err("the other answer".into()),
     }
 }
 
@@ -251,26 +264,32 @@ fn the_candidate_with_the_greatest_number_is_read(rt: HostRuntime) -> Result<(),
     Ok(())
 }
 
+/// A copy of a device with a bad block.
+fn marked(nand: &MemNand, block: u32) -> Result<MemNand, Fail> {
+    let mut nand = nand.copy()?;
+    mark(&mut nand, block)?;
+    Ok(nand)
+}
+
 /// An entry does not lead into a bad block, be it another than before or the same, nor is a checkpoint in one.
 #[test]
 fn a_block_of_a_checkpoint_is_bad(rt: HostRuntime) -> Result<(), Fail> {
     let alloc = rt.alloc();
     let whole = device(&rt, alloc)?;
-    let mut nand = altered(alloc, &whole, &[Byte(0, 56, 7)])?;
-    mark(&mut nand, 7)?;
-    expect_same(&rt, alloc, nand, Way::Scan)?;
+    let nand = altered(alloc, &whole, &[Byte(0, 56, 7)])?;
+    expect_same(&rt, alloc, marked(&nand, 7)?, Way::Scan)?;
     for block in [1, 2, 3] {
-        let mut nand = whole.copy()?;
-        mark(&mut nand, block)?;
-        expect_same(&rt, alloc, nand, Way::Scan)?;
+        expect_same(&rt, alloc, marked(&whole, block)?, Way::Scan)?;
     }
     Ok(())
 }
 
-/// Erases the newest page of a key.
-fn erase_newest(nand: &mut MemNand, object: u64, chunk: u64) -> Result<(), Fail> {
-    let found = newest(nand, Key { object, chunk })?.ok_or("no page")?;
-    put(nand, found.block, found.page, &[], &[0; 48])
+/// A copy of a device whose newest page of a key is erased.
+fn without_newest(nand: &MemNand, object: u64, chunk: u64) -> Result<MemNand, Fail> {
+    let mut nand = nand.copy()?;
+    let found = newest(&mut nand, Key { object, chunk })?.ok_or("no page")?;
+    put(&mut nand, found.block, found.page, &[], &[0; 48])?;
+    Ok(nand)
 }
 
 /// A kept page of the tree is erased: the header of the root, of a directory and of a file, and entries of a directory. A page of a
@@ -280,13 +299,11 @@ fn a_kept_page_is_erased(rt: HostRuntime) -> Result<(), Fail> {
     let alloc = rt.alloc();
     let whole = device(&rt, alloc)?;
     for (object, chunk) in [(1, 0), (1, 1), (1, 2), (2, 0), (2, 1), (3, 0), (4, 0)] {
-        let mut nand = whole.copy()?;
-        erase_newest(&mut nand, object, chunk)?;
+        let nand = without_newest(&whole, object, chunk)?;
         expect_same(&rt, alloc, nand, Way::Scan)?;
     }
-    let mut nand = whole;
-    erase_newest(&mut nand, 3, 4)?;
-    let nand = expect_way(&rt, alloc, nand, Way::Checkpoint)?;
+    let nand = without_newest(&whole, 3, 4)?;
+    let nand = expect_way(&rt, alloc, nand, Way::Checkpoint);
     let lines = "open /a/f r\nread 0 3\nseek 0 1536 set\nread 0 3\nlist /";
     let replies = "fd 0\ndata 3 xxx\nat 1536\nerror EIO\nerror EIO\n";
     let _volume = asked(&rt, alloc, nand, lines, replies)?;

@@ -2,7 +2,7 @@
 // of the last sync.
 
 use crate::devices::{FATES, cut, failing, formatted};
-use crate::lines::{Mounted, abandon, mount, step_all, told, try_mount, unmount};
+use crate::lines::{Mounted, abandon, mount, mount_as_it_is, stepped, told, unmount};
 use crate::search::checkpoint_of;
 use flash_tree::count_bad;
 use nand_model::{Fate, MemNand};
@@ -44,17 +44,18 @@ struct Left {
     is_done: bool,
 }
 
+/// The volume of a device as it is after the session.
+fn ask_all(alloc: Global, nand: MemNand) -> Result<Mounted, Fail> {
+    let mut volume = mount_as_it_is(alloc, nand)?;
+    let _told = told(alloc, &mut volume, BEFORE)?;
+    let _told = told(alloc, &mut volume, LAST)?;
+    Ok(volume)
+}
+
 /// Does the session on a device as it is, and unmounts.
 fn finish(alloc: Global, nand: MemNand) -> Result<Left, Fail> {
-    match try_mount(alloc, nand) {
-        Ok(mut volume) => {
-            let _told = told(alloc, &mut volume, BEFORE)?;
-            let _told = told(alloc, &mut volume, LAST)?;
-            let (nand, is_done) = unmount(volume);
-            Ok(Left { nand, is_done })
-        }
-        Err((_nand, fault)) => Err(fault.into()),
-    }
+    let (nand, is_done) = unmount(ask_all(alloc, nand)?);
+    Ok(Left { nand, is_done })
 }
 
 /// The tree of a volume of eight blocks that was just formatted with one block to spare, or two.
@@ -65,24 +66,35 @@ fn new_tree(alloc: Global, spare: u32) -> Result<PlainTree, Fail> {
     Ok(PlainTree::new(alloc, VolumeSizes::new(512, 32, 8, 2))?)
 }
 
-/// The number of the first call of the unmount.
-fn first_call(alloc: Global, nand: MemNand) -> Result<u64, Fail> {
-    let mut volume = mount(alloc, nand)?;
-    let _told = told(alloc, &mut volume, BEFORE)?;
-    let _told = told(alloc, &mut volume, LAST)?;
-    Ok(abandon(volume).calls().saturating_add(1))
+/// The tree after the sync and the one after all.
+fn trees(alloc: Global, spare: u32) -> Result<(PlainTree, PlainTree), Fail> {
+    let old = stepped(alloc, &new_tree(alloc, spare)?, BEFORE)?;
+    let new = stepped(alloc, &old, LAST)?;
+    Ok((old, new))
+}
+
+/// The number of calls before the unmount.
+fn calls_before(alloc: Global, nand: &MemNand) -> Result<u64, Fail> {
+    Ok(abandon(ask_all(alloc, nand.copy()?)?).calls())
+}
+
+/// The number of calls up to the end of the unmount.
+fn calls_after(alloc: Global, nand: &MemNand) -> Result<u64, Fail> {
+    Ok(finish(alloc, nand.copy()?)?.nand.calls())
+}
+
+/// That what is told of a plan holds.
+fn expect(rt: &impl Abort, holds: bool, plan: Plan<'_>) {
+    assert!(rt; holds, "{plan:?}");
 }
 
 impl Trial {
     /// On a device with so many blocks to spare.
     fn new(alloc: Global, spare: u32) -> Result<Trial, Fail> {
         let nand = formatted(alloc, 8, spare)?;
-        let mut old = new_tree(alloc, spare)?;
-        step_all(alloc, &mut old, BEFORE)?;
-        let mut new = old.copy()?;
-        step_all(alloc, &mut new, LAST)?;
-        let first = first_call(alloc, nand.copy()?)?;
-        let last = finish(alloc, nand.copy()?)?.nand.calls();
+        let first = calls_before(alloc, &nand)?.saturating_add(1);
+        let last = calls_after(alloc, &nand)?;
+        let (old, new) = trees(alloc, spare)?;
         Ok(Trial {
             spare,
             nand,
@@ -113,20 +125,37 @@ impl Trial {
         let mut volume = mount(alloc, nand)?;
         let is_there = self.has_tree(&mut volume, is_done)?;
         let (nand, is_kept) = unmount(volume);
-        assert!(rt; is_there && is_kept, "{plan:?}");
+        expect(rt, is_there && is_kept, plan);
         Ok(nand)
     }
 
-    /// Does the session so, which ends with Done unless power goes or more blocks fail than are to spare. Then the trees are looked
-    /// at, by a scan and by a checkpoint.
-    fn end(&self, rt: &impl Abort, alloc: Global, plan: Plan<'_>) -> Result<MemNand, Fail> {
+    /// A copy of the device with this plan.
+    fn planned(&self, alloc: Global, plan: Plan<'_>) -> Result<MemNand, Fail> {
         let nand = failing(alloc, self.nand.copy()?, plan.fails, plan.fate)?;
-        let Left { nand, is_done } = finish(alloc, cut(alloc, nand, plan.cut, plan.fate)?)?;
-        let is_well = !nand.gone() && count_bad(&nand) <= self.spare;
-        assert_eq!(rt; is_done, is_well, "{plan:?}");
-        let looked = self.look(rt, alloc, nand.copy()?, is_done, plan)?;
-        let _looked = self.look(rt, alloc, looked, is_done, plan)?;
-        Ok(nand)
+        cut(alloc, nand, plan.cut, plan.fate)
+    }
+
+    /// Looks at the tree of what is left by a scan, and then by a checkpoint.
+    fn look_twice(
+        &self,
+        rt: &impl Abort,
+        alloc: Global,
+        left: &Left,
+        plan: Plan<'_>,
+    ) -> Result<(), Fail> {
+        let looked = self.look(rt, alloc, left.nand.copy()?, left.is_done, plan)?;
+        let _looked = self.look(rt, alloc, looked, left.is_done, plan)?;
+        Ok(())
+    }
+
+    /// Does the session so, which ends with Done unless power goes or more blocks fail than are to spare. Then the trees are looked
+    /// at.
+    fn end(&self, rt: &impl Abort, alloc: Global, plan: Plan<'_>) -> Result<MemNand, Fail> {
+        let left = finish(alloc, self.planned(alloc, plan)?)?;
+        let is_well = !left.nand.gone() && count_bad(&left.nand) <= self.spare;
+        expect(rt, left.is_done == is_well, plan);
+        self.look_twice(rt, alloc, &left, plan)?;
+        Ok(left.nand)
     }
 
     /// Cuts a call.
@@ -137,8 +166,7 @@ impl Trial {
                 cut: call,
                 fate,
             };
-            let nand = self.end(rt, alloc, plan)?;
-            assert!(rt; nand.gone(), "{plan:?}");
+            expect(rt, self.end(rt, alloc, plan)?.gone(), plan);
         }
         Ok(())
     }
@@ -165,9 +193,9 @@ impl Trial {
                 fate,
             };
             let mut nand = self.end(rt, alloc, plan)?;
-            assert_eq!(rt; count_bad(&nand), 1, "{plan:?}");
+            expect(rt, count_bad(&nand) == 1, plan);
             let is_whole = checkpoint_of(&mut nand)?.is_some();
-            assert_eq!(rt; is_whole, call < self.last, "{plan:?}");
+            expect(rt, is_whole == (call < self.last), plan);
         }
         Ok(())
     }
@@ -180,9 +208,33 @@ impl Trial {
                 cut: 0,
                 fate,
             };
-            let nand = self.end(rt, alloc, plan)?;
-            let bad = count_bad(&nand);
-            assert!(rt; bad == 1 || bad == 2, "{plan:?}");
+            let bad = count_bad(&self.end(rt, alloc, plan)?);
+            expect(rt, bad == 1 || bad == 2, plan);
+        }
+        Ok(())
+    }
+
+    /// Cuts a call, alone and after it failed.
+    fn cut_each_way(&self, rt: &impl Abort, alloc: Global, call: u64) -> Result<(), Fail> {
+        self.cut_alone(rt, alloc, call)?;
+        for gap in 1..=3u64 {
+            self.cut_later(rt, alloc, call, gap)?;
+        }
+        Ok(())
+    }
+
+    /// Fails a call and one after it.
+    fn fail_each_way(&self, rt: &impl Abort, alloc: Global, call: u64) -> Result<(), Fail> {
+        for gap in 1..=3u64 {
+            self.fail_twice(rt, alloc, call, gap)?;
+        }
+        Ok(())
+    }
+
+    /// Fails each two calls of the unmount.
+    fn fail_pairs(&self, rt: &impl Abort, alloc: Global) -> Result<(), Fail> {
+        for call in self.first..=self.last {
+            self.fail_each_way(rt, alloc, call)?;
         }
         Ok(())
     }
@@ -194,10 +246,7 @@ fn a_cut_unmount_leaves_one_of_two_trees(rt: HostRuntime) -> Result<(), Fail> {
     let alloc = rt.alloc();
     let trial = Trial::new(alloc, 1)?;
     for call in trial.first..=trial.last {
-        trial.cut_alone(&rt, alloc, call)?;
-        trial.cut_later(&rt, alloc, call, 1)?;
-        trial.cut_later(&rt, alloc, call, 2)?;
-        trial.cut_later(&rt, alloc, call, 3)?;
+        trial.cut_each_way(&rt, alloc, call)?;
     }
     Ok(())
 }
@@ -217,12 +266,7 @@ fn a_failure_in_an_unmount_is_not_told(rt: HostRuntime) -> Result<(), Fail> {
 fn two_failures_in_an_unmount(rt: HostRuntime) -> Result<(), Fail> {
     let alloc = rt.alloc();
     for spare in [1, 2u32] {
-        let trial = Trial::new(alloc, spare)?;
-        for call in trial.first..=trial.last {
-            trial.fail_twice(&rt, alloc, call, 1)?;
-            trial.fail_twice(&rt, alloc, call, 2)?;
-            trial.fail_twice(&rt, alloc, call, 3)?;
-        }
+        Trial::new(alloc, spare)?.fail_pairs(&rt, alloc)?;
     }
     Ok(())
 }

@@ -33,23 +33,42 @@ pub(crate) fn unmount(volume: Mounted) -> (MemNand, bool) {
     (nand, matches!(reply, Reply::Done))
 }
 
-/// Mounts a device after a power-up, and fails where it is no volume.
-pub(crate) fn mount(alloc: Global, mut nand: MemNand) -> Result<Mounted, Fail> {
-    nand.power_up();
+/// Mounts a device as it is, and fails where it is no volume.
+pub(crate) fn mount_as_it_is(alloc: Global, nand: MemNand) -> Result<Mounted, Fail> {
     match try_mount(alloc, nand) {
         Ok(volume) => Ok(volume),
         Err((_nand, fault)) => Err(fault.into()),
     }
 }
 
+/// Mounts a device after a power-up.
+pub(crate) fn mount(alloc: Global, mut nand: MemNand) -> Result<Mounted, Fail> {
+    nand.power_up();
+    mount_as_it_is(alloc, nand)
+}
+
+/// The device after a mount and no command.
+pub(crate) fn mounted(alloc: Global, nand: MemNand) -> Result<MemNand, Fail> {
+    Ok(abandon(mount(alloc, nand)?))
+}
+
+/// That a device counts so many calls and changes since its power-up.
+pub(crate) fn expect_counts(rt: &impl Abort, nand: &MemNand, calls: u64, changes: u64) {
+    assert_eq!(rt; (nand.calls(), nand.changes()), (calls, changes));
+}
+
 /// What a volume is told of these lines.
 pub(crate) fn told(alloc: Global, volume: &mut Mounted, lines: &str) -> Result<Vec<u8>, Fail> {
-    let mut reader = lines.as_bytes();
     let mut told = Vec::new(alloc);
-    for stamped in &read_script(alloc, &mut reader)? {
+    for stamped in &script(alloc, lines)? {
         write_reply(&mut told, &answer(volume, stamped))?;
     }
     Ok(told)
+}
+
+fn expect_told(rt: &impl Abort, told: &[u8], replies: &str) -> Result<(), Fail> {
+    assert_eq!(rt; str::from_utf8(told)?, replies);
+    Ok(())
 }
 
 /// The volume of a device after these lines, which are to be told these replies.
@@ -62,7 +81,7 @@ pub(crate) fn asked(
 ) -> Result<Mounted, Fail> {
     let mut volume = mount(alloc, nand)?;
     let told = told(alloc, &mut volume, lines)?;
-    assert_eq!(rt; str::from_utf8(&told)?, replies);
+    expect_told(rt, &told, replies)?;
     Ok(volume)
 }
 
@@ -90,11 +109,23 @@ pub(crate) fn lost_session(
     Ok(abandon(asked(rt, alloc, nand, lines, replies)?))
 }
 
+/// The commands of a text of lines.
+fn script(alloc: Global, lines: &str) -> Result<Vec<Stamped>, Fail> {
+    let mut reader = lines.as_bytes();
+    Ok(read_script(alloc, &mut reader)?)
+}
+
 /// Does these lines to a tree.
 pub(crate) fn step_all(alloc: Global, tree: &mut PlainTree, lines: &str) -> Result<(), Fail> {
-    let mut reader = lines.as_bytes();
-    for stamped in &read_script(alloc, &mut reader)? {
+    for stamped in &script(alloc, lines)? {
         let _reply = tree.step(stamped)?;
     }
     Ok(())
+}
+
+/// The tree after these lines.
+pub(crate) fn stepped(alloc: Global, tree: &PlainTree, lines: &str) -> Result<PlainTree, Fail> {
+    let mut tree = tree.copy()?;
+    step_all(alloc, &mut tree, lines)?;
+    Ok(tree)
 }

@@ -1,9 +1,11 @@
 // What an unmount writes and a mount reads, by hand, and the cuts of both.
 
 use crate::devices::{FATES, cut, formatted};
-use crate::lines::{Mounted, abandon, lost_session, mount, session, told, try_mount, unmount};
+use crate::lines::{
+    Mounted, expect_counts, lost_session, mounted, session, told, try_mount, unmount,
+};
 use crate::search::{checkpoint_bytes, checkpoint_of, expect_entries};
-use flash_tree::Key;
+use flash_tree::{Found, Key};
 use nand_model::{Fate, MemNand};
 use plain_search::newest;
 use posix_calls::MountFault;
@@ -14,6 +16,54 @@ use std::test::Fail;
 /// A head of three entries begins so.
 const HEAD: [u8; 16] = [0x4e, 0x4c, 0x46, 0x43, 1, 0, 0, 0, 3, 0, 0, 0, 0, 0, 0, 0];
 
+/// That the checkpoint is a page with such a head, and three entries.
+fn expect_three_entries(rt: &impl Abort, alloc: Global, nand: &mut MemNand) -> Result<(), Fail> {
+    let bytes = checkpoint_bytes(alloc, nand)?;
+    assert_eq!(rt; bytes.len(), 512);
+    assert!(rt; bytes.starts_with(&HEAD));
+    expect_entries(rt, alloc, nand, 3)
+}
+
+/// The device after the first session.
+fn checked(rt: &impl Abort, alloc: Global) -> Result<MemNand, Fail> {
+    let mut nand = session(rt, alloc, formatted(alloc, 8, 1)?, "mkdir /a", "ok\n")?;
+    assert_eq!(rt; nand.changes(), 6);
+    expect_three_entries(rt, alloc, &mut nand)?;
+    Ok(nand)
+}
+
+/// The device after a session that only looks.
+fn looked_at(rt: &impl Abort, alloc: Global, nand: MemNand) -> Result<MemNand, Fail> {
+    let nand = mounted(alloc, nand)?;
+    expect_counts(rt, &nand, 12, 0);
+    let lines = "list /\nmkdir /a\nopen /a r\nsync";
+    let replies = "names 1 a\nerror EEXIST\nfd 0\nok\n";
+    let nand = session(rt, alloc, nand, lines, replies)?;
+    assert_eq!(rt; nand.changes(), 0);
+    Ok(nand)
+}
+
+/// The device after a session that commits a name more, and has no checkpoint then.
+fn committed(rt: &impl Abort, alloc: Global, nand: MemNand) -> Result<MemNand, Fail> {
+    let mut nand = lost_session(rt, alloc, nand, "mkdir /b\nsync", "ok\nok\n")?;
+    assert_eq!(rt; nand.changes(), 4);
+    assert_eq!(rt; checkpoint_of(&mut nand)?, None);
+    Ok(nand)
+}
+
+/// That the commit stands in the block of the checkpoint, with the number after it.
+fn expect_next(rt: &impl Abort, nand: &mut MemNand, found: Found) -> Result<(), Fail> {
+    let root = Key {
+        object: 1,
+        chunk: 0,
+    };
+    let header = newest(nand, root)?.ok_or("no root")?;
+    assert_eq!(rt; header.block, found.block);
+    assert_eq!(rt; (found.tag.group, found.tag.seq), (3, 3));
+    assert_eq!(rt; (header.tag.group, header.tag.seq), (4, 4));
+    Ok(())
+}
+
 /// A commit is the erase of a block and three programs: the header of the directory, the entry of its name and the header of
 /// the root. A checkpoint of three entries is an erase and a program. A mount by it reads the tag of page 0 of each of eight
 /// blocks, the page of the checkpoint, and three pages of the tree. The format has the numbers 1, the commit 2, the checkpoint
@@ -21,36 +71,10 @@ const HEAD: [u8; 16] = [0x4e, 0x4c, 0x46, 0x43, 1, 0, 0, 0, 3, 0, 0, 0, 0, 0, 0,
 #[test]
 fn a_mount_goes_by_the_checkpoint_of_an_unmount(rt: HostRuntime) -> Result<(), Fail> {
     let alloc = rt.alloc();
-    let nand = formatted(alloc, 8, 1)?;
-    let mut nand = session(&rt, alloc, nand, "mkdir /a", "ok\n")?;
-    assert_eq!(rt; nand.changes(), 6);
-    let bytes = checkpoint_bytes(alloc, &mut nand)?;
-    assert_eq!(rt; bytes.len(), 512);
-    assert_eq!(rt; bytes.get(..16), Some(HEAD.as_slice()));
-    expect_entries(&rt, alloc, &mut nand, 3)?;
-    let nand = abandon(mount(alloc, nand)?);
-    assert_eq!(rt; (nand.calls(), nand.changes()), (12, 0));
-    let lines = "list /\nmkdir /a\nopen /a r\nsync";
-    let mut nand = session(
-        &rt,
-        alloc,
-        nand,
-        lines,
-        "names 1 a\nerror EEXIST\nfd 0\nok\n",
-    )?;
-    assert_eq!(rt; nand.changes(), 0);
+    let mut nand = looked_at(&rt, alloc, checked(&rt, alloc)?)?;
     let found = checkpoint_of(&mut nand)?.ok_or("no checkpoint")?;
-    let mut nand = lost_session(&rt, alloc, nand, "mkdir /b\nsync", "ok\nok\n")?;
-    assert_eq!(rt; nand.changes(), 4);
-    assert_eq!(rt; checkpoint_of(&mut nand)?, None);
-    let root = Key {
-        object: 1,
-        chunk: 0,
-    };
-    let header = newest(&mut nand, root)?.ok_or("no root")?;
-    assert_eq!(rt; header.block, found.block);
-    assert_eq!(rt; (found.tag.group, found.tag.seq), (3, 3));
-    assert_eq!(rt; (header.tag.group, header.tag.seq), (4, 4));
+    let mut nand = committed(&rt, alloc, nand)?;
+    expect_next(&rt, &mut nand, found)?;
     let lines = "list /\nstat /b";
     let _ = lost_session(&rt, alloc, nand, lines, "names 2 a b\ninfo dir 3 2 0 0\n")?;
     Ok(())
@@ -68,6 +92,19 @@ fn mount_cut(
     Ok(try_mount(alloc, cut(alloc, nand, call, fate)?))
 }
 
+/// The same, which is to be mounted.
+fn mounted_to_be_cut(
+    alloc: Global,
+    nand: &MemNand,
+    call: u64,
+    fate: Fate,
+) -> Result<Mounted, Fail> {
+    match mount_cut(alloc, nand, call, fate)? {
+        Ok(volume) => Ok(volume),
+        Err((_nand, fault)) => Err(fault.into()),
+    }
+}
+
 /// The device after a session of a line and an unmount, of which a call is cut. The device has to be gone.
 fn cut_session(
     rt: &impl Abort,
@@ -77,13 +114,37 @@ fn cut_session(
     call: u64,
     fate: Fate,
 ) -> Result<MemNand, Fail> {
-    let Ok(mut volume) = mount_cut(alloc, nand, call, fate)? else {
-        return Err("no mount".into());
-    };
+    let mut volume = mounted_to_be_cut(alloc, nand, call, fate)?;
     let _told = told(alloc, &mut volume, line)?;
     let (nand, is_done) = unmount(volume);
     assert!(rt; nand.gone() && !is_done, "{call} {fate:?}");
     Ok(nand)
+}
+
+/// That a checkpoint is there, or none.
+fn expect_checkpoint(rt: &impl Abort, nand: &mut MemNand, is_whole: bool) -> Result<(), Fail> {
+    assert_eq!(rt; checkpoint_of(nand)?.is_some(), is_whole);
+    Ok(())
+}
+
+/// That the device has the one name, and takes another one.
+fn expect_one_name(rt: &impl Abort, alloc: Global, nand: MemNand) -> Result<(), Fail> {
+    let nand = session(rt, alloc, nand, "list /\nmkdir /b", "names 1 a\nok\n")?;
+    let _ = session(rt, alloc, nand, "list /", "names 2 a b\n")?;
+    Ok(())
+}
+
+/// Looks at a device on which a checkpoint was cut: a mount goes by it where it is whole.
+fn look_after_cut(
+    rt: &impl Abort,
+    alloc: Global,
+    nand: MemNand,
+    is_whole: bool,
+) -> Result<(), Fail> {
+    let mut nand = mounted(alloc, nand)?;
+    assert_eq!(rt; nand.calls() == 12, is_whole);
+    expect_checkpoint(rt, &mut nand, is_whole)?;
+    expect_one_name(rt, alloc, nand)
 }
 
 /// Cuts the erase, or the program, of the first checkpoint: the names stay, and a mount goes by it where its page is there.
@@ -96,13 +157,7 @@ fn cut_checkpoint(
 ) -> Result<(), Fail> {
     for fate in FATES {
         let left = cut_session(rt, alloc, nand, "mkdir /a", call, fate)?;
-        let is_whole = is_program && fate == Fate::New;
-        let mut left = abandon(mount(alloc, left)?);
-        assert_eq!(rt; left.calls() == 12, is_whole, "{call} {fate:?}");
-        let is_there = checkpoint_of(&mut left)?.is_some();
-        assert_eq!(rt; is_there, is_whole, "{call} {fate:?}");
-        let left = session(rt, alloc, left, "list /\nmkdir /b", "names 1 a\nok\n")?;
-        let _ = session(rt, alloc, left, "list /", "names 2 a b\n")?;
+        look_after_cut(rt, alloc, left, is_program && fate == Fate::New)?;
     }
     Ok(())
 }
@@ -114,6 +169,31 @@ fn a_cut_checkpoint_loses_nothing(rt: HostRuntime) -> Result<(), Fail> {
     let committed = lost_session(&rt, alloc, nand.copy()?, "mkdir /a\nsync", "ok\nok\n")?.calls();
     cut_checkpoint(&rt, alloc, &nand, committed.wrapping_add(1), false)?;
     cut_checkpoint(&rt, alloc, &nand, committed.wrapping_add(2), true)
+}
+
+/// The names after a commit of a second one, which was cut, and after one of a third one.
+fn names_left(is_there: bool) -> (&'static str, &'static str) {
+    if is_there {
+        ("names 2 a b\n", "names 3 a b c\n")
+    } else {
+        ("names 1 a\n", "names 2 a c\n")
+    }
+}
+
+/// Looks at a device on which the commit of a second name was cut.
+fn look_after_commit(
+    rt: &impl Abort,
+    alloc: Global,
+    nand: MemNand,
+    is_there: bool,
+    is_whole: bool,
+) -> Result<(), Fail> {
+    let (names, more) = names_left(is_there);
+    let mut nand = lost_session(rt, alloc, nand, "list /", names)?;
+    expect_checkpoint(rt, &mut nand, is_whole)?;
+    let nand = session(rt, alloc, nand, "mkdir /c", "ok\n")?;
+    let _ = session(rt, alloc, nand, "list /", more)?;
+    Ok(())
 }
 
 /// Cuts a call of the commit after a checkpoint, the last one or another: it is there where the last program is. The erase is the
@@ -128,17 +208,8 @@ fn cut_commit(
 ) -> Result<(), Fail> {
     for fate in FATES {
         let left = cut_session(rt, alloc, nand, "mkdir /b", call, fate)?;
-        let (names, more) = if is_last && fate == Fate::New {
-            ("names 2 a b\n", "names 3 a b c\n")
-        } else {
-            ("names 1 a\n", "names 2 a c\n")
-        };
-        let mut left = lost_session(rt, alloc, left, "list /", names)?;
-        let is_whole = is_first && fate == Fate::Old;
-        let is_there = checkpoint_of(&mut left)?.is_some();
-        assert_eq!(rt; is_there, is_whole, "{call} {fate:?}");
-        let left = session(rt, alloc, left, "mkdir /c", "ok\n")?;
-        let _ = session(rt, alloc, left, "list /", more)?;
+        let is_there = is_last && fate == Fate::New;
+        look_after_commit(rt, alloc, left, is_there, is_first && fate == Fate::Old)?;
     }
     Ok(())
 }
@@ -165,10 +236,8 @@ fn a_mount_by_a_checkpoint_without_power_is_gone(rt: HostRuntime) -> Result<(), 
         match mount_cut(alloc, &nand, call, Fate::Old)? {
             Ok(_volume) => assert_eq!(rt; call, 13),
             Err((left, fault)) => {
-                assert_eq!(rt; fault, MountFault::Gone, "{call}");
-                assert_eq!(rt; left.changes(), 0, "{call}");
-                let left = abandon(mount(alloc, left)?);
-                assert_eq!(rt; (left.calls(), left.changes()), (12, 0), "{call}");
+                assert_eq!(rt; (fault, left.changes()), (MountFault::Gone, 0), "{call}");
+                expect_counts(&rt, &mounted(alloc, left)?, 12, 0);
             }
         }
     }
@@ -185,14 +254,9 @@ fn an_unlinked_open_file_is_not_in_the_checkpoint(rt: HostRuntime) -> Result<(),
     let replies = "fd 0\nwrote 5\nok\nok\nat 0\ndata 5 hello\nok\nok\n";
     let mut nand = session(&rt, alloc, formatted(alloc, 8, 1)?, lines, replies)?;
     expect_entries(&rt, alloc, &mut nand, 1)?;
-    let nand = abandon(mount(alloc, nand)?);
-    assert_eq!(rt; (nand.calls(), nand.changes()), (10, 0));
-    let _ = session(
-        &rt,
-        alloc,
-        nand,
-        "list /\nspace",
-        "names 0\nspace 512 144 143\n",
-    )?;
+    let nand = mounted(alloc, nand)?;
+    expect_counts(&rt, &nand, 10, 0);
+    let replies = "names 0\nspace 512 144 143\n";
+    let _ = session(&rt, alloc, nand, "list /\nspace", replies)?;
     Ok(())
 }

@@ -1,7 +1,7 @@
 // Unmounts that write no checkpoint, beside those that just write one.
 
 use crate::devices::formatted;
-use crate::lines::{abandon, lost_session, mount, session, told, unmount};
+use crate::lines::{abandon, expect_counts, lost_session, mount, mounted, session, told, unmount};
 use crate::search::{checkpoint_of, put};
 use flash_tree::Key;
 use nand_model::{MemNand, Nand};
@@ -43,17 +43,28 @@ fn unmounted(rt: &impl Abort, alloc: Global, nand: MemNand) -> Result<(u64, MemN
     Ok((nand.changes(), nand))
 }
 
+/// That an unmount of a device writes a checkpoint of 32 pages, by which a mount goes.
+fn expect_whole_block(rt: &impl Abort, alloc: Global, nand: MemNand) -> Result<(), Fail> {
+    let (changes, nand) = unmounted(rt, alloc, nand)?;
+    assert_eq!(rt; changes, 1 + 32);
+    expect_counts(rt, &mounted(alloc, nand)?, 28 + 32 + 3, 0);
+    Ok(())
+}
+
+/// That an unmount of a device writes no checkpoint.
+fn expect_none(rt: &impl Abort, alloc: Global, nand: MemNand) -> Result<MemNand, Fail> {
+    let (changes, mut nand) = unmounted(rt, alloc, nand)?;
+    assert_eq!(rt; (changes, checkpoint_of(&mut nand)?), (0, None));
+    Ok(nand)
+}
+
 /// A file of 508 pages has with its header, its slot and that of the root 511 keys: with the head 512 parts of 32 bytes, which are
 /// 32 pages of 512 bytes. A page more does not fit into a block of 32 pages.
 #[test]
 fn a_checkpoint_fits_into_a_block(rt: HostRuntime) -> Result<(), Fail> {
     let alloc = rt.alloc();
-    let (changes, nand) = unmounted(&rt, alloc, filled(alloc, 28, 508)?)?;
-    assert_eq!(rt; changes, 1 + 32);
-    let nand = abandon(mount(alloc, nand)?);
-    assert_eq!(rt; nand.calls(), 28 + 32 + 3);
-    let (changes, mut nand) = unmounted(&rt, alloc, filled(alloc, 28, 509)?)?;
-    assert_eq!(rt; (changes, checkpoint_of(&mut nand)?), (0, None));
+    expect_whole_block(&rt, alloc, filled(alloc, 28, 508)?)?;
+    let nand = expect_none(&rt, alloc, filled(alloc, 28, 509)?)?;
     let _ = lost_session(&rt, alloc, nand, "stat /f", "info file 2 1 260608 0\n")?;
     Ok(())
 }
@@ -92,8 +103,32 @@ fn rewritten(rt: &impl Abort, alloc: Global, pages: usize) -> Result<MemNand, Fa
     lost_session(rt, alloc, nand, lines, "fd 0\nwrote 1\nok\n")
 }
 
-/// That an unmount of it makes so many changes, also where one of the free blocks is bad, and loses nothing.
+/// That an unmount of it makes so many changes, and loses nothing.
 fn expect_changes(
+    rt: &impl Abort,
+    alloc: Global,
+    nand: MemNand,
+    wanted: u64,
+    stat: &str,
+) -> Result<(), Fail> {
+    let (changes, nand) = unmounted(rt, alloc, nand)?;
+    assert_eq!(rt; changes, wanted);
+    let _ = lost_session(rt, alloc, nand, "stat /f", stat)?;
+    Ok(())
+}
+
+/// A copy of the device with a bad block.
+fn with_bad(nand: &MemNand, block: u32) -> Result<MemNand, Fail> {
+    let mut nand = nand.copy()?;
+    if block >= nand.geometry().blocks() {
+        return Err("no such block".into());
+    }
+    nand.put_mark(block);
+    Ok(nand)
+}
+
+/// The same where one of the free blocks is bad, too: there are more than two of them, or no changes.
+fn expect_changes_twice(
     rt: &impl Abort,
     alloc: Global,
     mut nand: MemNand,
@@ -103,15 +138,8 @@ fn expect_changes(
 ) -> Result<(), Fail> {
     let (count, block) = free(&used(&mut nand, pages)?);
     assert_eq!(rt; count > 2, wanted > 0, "{count}");
-    let mut worn = nand.copy()?;
-    assert!(rt; block < worn.geometry().blocks());
-    worn.put_mark(block);
-    for nand in [nand, worn] {
-        let (changes, nand) = unmounted(rt, alloc, nand)?;
-        assert_eq!(rt; changes, wanted, "{count}");
-        let _ = lost_session(rt, alloc, nand, "stat /f", stat)?;
-    }
-    Ok(())
+    expect_changes(rt, alloc, with_bad(&nand, block)?, wanted, stat)?;
+    expect_changes(rt, alloc, nand, wanted, stat)
 }
 
 /// A file of 100 pages leaves more than two blocks free, and has 103 keys: the checkpoint takes seven pages, and an erase. Of
@@ -120,9 +148,9 @@ fn expect_changes(
 fn a_checkpoint_leaves_two_blocks_free(rt: HostRuntime) -> Result<(), Fail> {
     let alloc = rt.alloc();
     let nand = rewritten(&rt, alloc, 100)?;
-    expect_changes(&rt, alloc, nand, 100, 8, "info file 2 1 51200 0\n")?;
+    expect_changes_twice(&rt, alloc, nand, 100, 8, "info file 2 1 51200 0\n")?;
     let nand = rewritten(&rt, alloc, 141)?;
-    expect_changes(&rt, alloc, nand, 141, 0, "info file 2 1 72192 0\n")
+    expect_changes_twice(&rt, alloc, nand, 141, 0, "info file 2 1 72192 0\n")
 }
 
 /// Marks the last two blocks of eight.
@@ -135,27 +163,26 @@ fn worn(mut nand: MemNand) -> Result<MemNand, Fail> {
     Ok(nand)
 }
 
+/// That a volume makes so many calls in a mount and none in an unmount, and can only be read.
+fn expect_read_only(rt: &impl Abort, alloc: Global, nand: MemNand, calls: u64) -> Result<(), Fail> {
+    let (_changes, nand) = unmounted(rt, alloc, nand)?;
+    expect_counts(rt, &nand, calls, 0);
+    let replies = "error EROFS\nnames 1 a\n";
+    let nand = session(rt, alloc, nand, "mkdir /b\nlist /", replies)?;
+    assert_eq!(rt; nand.changes(), 0);
+    Ok(())
+}
+
 /// A volume with more bad blocks than there are to spare is only read, with a checkpoint and without.
 #[test]
 fn a_read_only_volume_writes_no_checkpoint(rt: HostRuntime) -> Result<(), Fail> {
     let alloc = rt.alloc();
-    let lost = lost_session(
-        &rt,
-        alloc,
-        formatted(alloc, 8, 1)?,
-        "mkdir /a\nsync",
-        "ok\nok\n",
-    )?;
+    let nand = formatted(alloc, 8, 1)?;
+    let lost = lost_session(&rt, alloc, nand, "mkdir /a\nsync", "ok\nok\n")?;
     let ended = session(&rt, alloc, lost.copy()?, "list /", "names 1 a\n")?;
     assert_eq!(rt; ended.changes(), 2);
-    for (nand, calls) in [(worn(ended)?, 10), (worn(lost)?, 6 + 6 * 32 + 3)] {
-        let (changes, nand) = unmounted(&rt, alloc, nand)?;
-        assert_eq!(rt; (nand.calls(), changes), (calls, 0));
-        let lines = "mkdir /b\nlist /";
-        let nand = session(&rt, alloc, nand, lines, "error EROFS\nnames 1 a\n")?;
-        assert_eq!(rt; nand.changes(), 0);
-    }
-    Ok(())
+    expect_read_only(&rt, alloc, worn(ended)?, 10)?;
+    expect_read_only(&rt, alloc, worn(lost)?, 6 + 6 * 32 + 3)
 }
 
 /// The root of a volume without names, whose only page has this number.
@@ -176,16 +203,26 @@ fn rooted(alloc: Global, number: u64) -> Result<MemNand, Fail> {
     Ok(nand)
 }
 
+/// A session on a volume of such a number makes so many changes, and a mount after it so many calls.
+fn expect_at(
+    rt: &impl Abort,
+    alloc: Global,
+    number: u64,
+    changes: u64,
+    calls: u64,
+) -> Result<(), Fail> {
+    let nand = session(rt, alloc, rooted(alloc, number)?, "mkdir /a", "ok\n")?;
+    assert_eq!(rt; nand.changes(), changes);
+    let nand = mounted(alloc, nand)?;
+    expect_counts(rt, &nand, calls, 0);
+    let _ = lost_session(rt, alloc, nand, "list /", "names 1 a\n")?;
+    Ok(())
+}
+
 /// The last number is 2^62 - 1: it is left for a checkpoint, or not.
 #[test]
 fn a_checkpoint_needs_a_number(rt: HostRuntime) -> Result<(), Fail> {
     let alloc = rt.alloc();
-    for (number, changes, calls) in [((1 << 62) - 3, 6, 12), ((1 << 62) - 2, 4, 8 + 256 + 3)] {
-        let nand = session(&rt, alloc, rooted(alloc, number)?, "mkdir /a", "ok\n")?;
-        assert_eq!(rt; nand.changes(), changes);
-        let nand = abandon(mount(alloc, nand)?);
-        assert_eq!(rt; nand.calls(), calls);
-        let _ = lost_session(&rt, alloc, nand, "list /", "names 1 a\n")?;
-    }
-    Ok(())
+    expect_at(&rt, alloc, (1 << 62) - 3, 6, 12)?;
+    expect_at(&rt, alloc, (1 << 62) - 2, 4, 8 + 256 + 3)
 }

@@ -1,8 +1,8 @@
 // Flashes that were put together byte by byte, and altered in one place.
 
-use crate::devices::{erased, formatted};
+use crate::devices::{Hit, cut, erased, formatted};
 use crate::rows::expect;
-use crate::served::try_mount;
+use crate::served::{Served, try_mount};
 use crate::stories::Part::Rows;
 use crate::stories::{Part, tell};
 use flash_tree::Key;
@@ -16,7 +16,7 @@ use std::test::Fail;
 
 /// The page of an object's chunk: its first bytes. All others are zero.
 #[derive(Clone, Copy)]
-struct TestPage {
+pub(crate) struct TestPage {
     object: u64,
     chunk: u64,
     bytes: &'static [u8],
@@ -24,7 +24,7 @@ struct TestPage {
 
 /// Other bytes from a place of a page on, or of its tag.
 #[derive(Clone, Copy)]
-enum Patch {
+pub(crate) enum Patch {
     Bytes(usize, usize, &'static [u8]),
     Tag(usize, usize, &'static [u8]),
 }
@@ -67,7 +67,7 @@ const FILE: TestPage = TestPage {
     bytes: b"NLFS\x02\x01\0\0\x05\0\0\0\0\0\0\0\0\0\0\0\0\0\0\0\0\0\0\0\0\0\0\0\x01",
 };
 
-const WITH_FILE: [TestPage; 4] = [
+pub(crate) const WITH_FILE: [TestPage; 4] = [
     ROOT,
     SLOT,
     FILE,
@@ -309,7 +309,7 @@ fn add_page(
 }
 
 /// A device with these pages, each in a block of its own, altered.
-fn flash_of(
+pub(crate) fn flash_of(
     alloc: Global,
     pages: &[TestPage],
     format: u8,
@@ -358,6 +358,78 @@ fn an_altered_flash_has_its_fault(rt: HostRuntime) -> Result<(), Fail> {
             expect_answer(&rt, alloc, nand, answer)?;
         }
     }
+    Ok(())
+}
+
+/// Mounts a device, and once more where memory is refused, which is counted.
+fn mount_again(
+    alloc: Global,
+    nand: MemNand,
+    refused: &mut u32,
+) -> Result<Served, (MemNand, MountFault)> {
+    match try_mount(alloc, nand, 16) {
+        Err((nand, MountFault::NoMemory)) => {
+            *refused = refused.saturating_add(1);
+            try_mount(alloc, nand, 16)
+        }
+        mounted => mounted,
+    }
+}
+
+/// The fault of a mount, which changes nothing, or none.
+fn fault_of(
+    rt: &impl Abort,
+    alloc: Global,
+    nand: MemNand,
+    refused: &mut u32,
+) -> Option<MountFault> {
+    let (nand, fault) = match mount_again(alloc, nand, refused) {
+        Ok(served) => (served.abandon(), None),
+        Err((nand, fault)) => (nand, Some(fault)),
+    };
+    assert_eq!(rt; nand.changes(), 0);
+    fault
+}
+
+const FAULTS: [(&[TestPage], &[Patch], Option<MountFault>); 6] = [
+    (&[], &[], Some(MountFault::NotAVolume)),
+    (
+        &WITH_FILE,
+        &[Patch::Bytes(0, 4, b"\x03")],
+        Some(MountFault::Newer(3)),
+    ),
+    (
+        &WITH_FILE,
+        &[Patch::Tag(3, 0, b"\x01")],
+        Some(MountFault::Damaged),
+    ),
+    (&RING, &[], Some(MountFault::Damaged)),
+    (
+        &TWO_NAMES,
+        &[Patch::Bytes(2, 10, b"a")],
+        Some(MountFault::Damaged),
+    ),
+    (&LOST_RING, &[], None),
+];
+
+// Run it with each allocation refused in turn.
+/// Want of memory is told of one mount at most, and the next one tells the fault.
+#[test]
+fn a_mount_that_is_refused_memory_has_its_fault_next(rt: HostRuntime) -> Result<(), Fail> {
+    let alloc = rt.alloc();
+    let mut refused = 0;
+    for (pages, patches, wanted) in FAULTS {
+        let nand = flash_of(alloc, pages, 2, patches)?;
+        assert_eq!(&rt; fault_of(&rt, alloc, nand, &mut refused), wanted);
+    }
+    let hit = Hit {
+        call: 100,
+        left: &[],
+    };
+    let nand = cut(alloc, &formatted(alloc)?, hit)?;
+    let fault = fault_of(&rt, alloc, nand, &mut refused);
+    assert_eq!(&rt; fault, Some(MountFault::Gone));
+    assert!(&rt; refused <= 1, "{refused}");
     Ok(())
 }
 

@@ -1,6 +1,5 @@
 // What a plain tree tells of commands, and the tree after each of them.
 
-use crate::served::Served;
 use line_shell::{read_script, write_reply};
 use plain_tree::{Answers, PlainTree};
 use posix_calls::{Reply, Stamped};
@@ -78,14 +77,14 @@ pub(crate) fn book_of(alloc: Global, lines: &str) -> Result<Book, Fail> {
 
 impl Book {
     /// Looks whether a volume has the tree before the command of a number, or that of one after it, up to another number.
-    pub(crate) fn has_tree(
+    pub(crate) fn has_tree<V: Answers>(
         &self,
-        served: &mut Served,
+        volume: &mut V,
         from: usize,
         to: usize,
     ) -> Result<bool, Fail> {
         for tree in self.trees.get(from..=to).unwrap_or(&[]) {
-            if tree.same(served)? {
+            if tree.same(volume)? {
                 return Ok(true);
             }
         }

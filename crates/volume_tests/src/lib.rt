@@ -21,9 +21,13 @@ mod formats;
 #[cfg(test)]
 mod images;
 #[cfg(test)]
+mod last_number;
+#[cfg(test)]
 mod losses;
 #[cfg(test)]
 mod numbers;
+#[cfg(test)]
+mod refusals;
 #[cfg(test)]
 mod refused;
 #[cfg(test)]

@@ -12,14 +12,14 @@ use std::process::Abort;
 use std::test::Fail;
 
 /// A file that is written and read.
-const FILE: &str = "open /a rwc
+pub(crate) const FILE: &str = "open /a rwc
 write 0 hello
 seek 0 0 set
 read 0 10
 space";
 
 /// Directories that are moved and taken away, one of them while it is open.
-const TREE: &str = "mkdir /a
+pub(crate) const TREE: &str = "mkdir /a
 mkdir /b
 mkdir /a/c
 stat /a
@@ -144,6 +144,24 @@ fn expect_replies(
             );
         }
     }
+    Ok(())
+}
+
+/// The same commands as one list.
+#[test]
+fn a_run_tells_what_its_commands_do(rt: HostRuntime) -> Result<(), Fail> {
+    let alloc = rt.alloc();
+    let mut replies = Vec::new(alloc);
+    let mut served = mount(alloc, formatted(alloc)?, 16)?;
+    served.run(&commands_of(alloc, FILE)?, &mut replies)?;
+    let mut told = String::new(alloc);
+    for reply in &replies {
+        told.push_str(&text_of(alloc, reply)?)?;
+    }
+    assert_eq!(&rt;
+        told.as_str(),
+        "fd 0\nwrote 5\nat 0\ndata 5 hello\nspace 512 144 140\n"
+    );
     Ok(())
 }
 

@@ -92,6 +92,36 @@ mkdir /[n*256] -> error ENAMETOOLONG
 stat [/*4095] -> info dir 1 4 0 0
 stat [/*4096] -> error ENAMETOOLONG";
 
+/// Each command of a path takes 4,095 bytes, in names of 255, and no more.
+const LONG_PATHS: &str = "mkdir /d -> ok
+open [/*4093]/f rwc -> fd 0
+open [/*4094]/f rwc -> error ENAMETOOLONG
+open /x/[n*256] r -> error ENAMETOOLONG
+stat [/*4093]/f -> info file 3 1 0 0
+stat /f/[n*256] -> error ENAMETOOLONG
+mkdir [/*4093]/e -> ok
+mkdir [/*4094]/g -> error ENAMETOOLONG
+rmdir [/*4094]/e -> error ENAMETOOLONG
+rmdir /x/[n*256] -> error ENAMETOOLONG
+rmdir [/*4093]/e -> ok
+link [/*4093]/f [/*4093]/g -> ok
+link [/*4094]/f /h -> error ENAMETOOLONG
+link /f [/*4094]/h -> error ENAMETOOLONG
+link /f /x/[n*256] -> error ENAMETOOLONG
+unlink [/*4094]/g -> error ENAMETOOLONG
+unlink /x/[n*256] -> error ENAMETOOLONG
+unlink [/*4093]/g -> ok
+rename [/*4093]/f /d[/*4091]/f -> ok
+rename /d[/*4092]/f /f -> error ENAMETOOLONG
+rename /d/f [/*4094]/f -> error ENAMETOOLONG
+rename /d/f /x/[n*256] -> error ENAMETOOLONG
+rename /x/[n*256] /f -> error ENAMETOOLONG
+rename /d/f /d/[n*255] -> ok
+list /d[/*4093] -> names 1 [n*255]
+list /d[/*4094] -> error ENAMETOOLONG
+list /f/[n*256] -> error ENAMETOOLONG
+list / -> names 1 d";
+
 /// There are 64 descriptors.
 const DESCRIPTORS: &str = "open / r -> error EMFILE
 close 7 -> ok
@@ -216,7 +246,7 @@ const SYNC: Part = Rows("sync -> ok");
 
 const THREE: Part = Turns(3, "mkdir /# -> ok");
 
-const STORIES: [&[Part]; 22] = [
+const STORIES: [&[Part]; 23] = [
     &[Rows(GAP)],
     &[Rows(HELLO), LostAfter(0), NONE],
     &[Rows(CUT_OFF)],
@@ -224,6 +254,7 @@ const STORIES: [&[Part]; 22] = [
     &[Rows(HELLO), Rows(NAMELESS), Lost, NONE],
     &[Rows(NAMES)],
     &[Rows(PATHS)],
+    &[Rows(LONG_PATHS)],
     &[Turns(64, "open / r -> fd #"), Rows(DESCRIPTORS)],
     &[Rows(FLAGS)],
     &[Rows(LIMITS)],

@@ -8,4 +8,4 @@ pub invariant_of-result-clause-agree : goal.invariant_of-result-clause-agree
 invariant_of-result-clause-agree c = c.new-3.ensures.agree (table c.in_ok-blocks.blocks) (λ b. ap (λ (t : Table). (t.entry b).kept) c.in_ok-blocks.ensures)
 
 pub invariant_of-result-clause-few : goal.invariant_of-result-clause-few
-invariant_of-result-clause-few c = below_empty 100 _ c.new-3.ensures.empty
+invariant_of-result-clause-few c = below_empty 8 _ c.new-3.ensures.empty

@@ -1,0 +1,140 @@
+// Sessions over the flash of which each call of the pages that may take memory is refused in turn.
+
+use crate::book::{Book, book_of};
+use crate::devices::formatted;
+use crate::losses::SESSION;
+use crate::refused::{FILE, TREE};
+use crate::served::mount;
+use flash_pages::FlashPages;
+use mounting::Mounted;
+use nand_model::MemNand;
+use page_volume::PageVolume;
+use plain_tree::Answers;
+use posix_calls::{Command, Errno, Reply, Stamped};
+use refusing_pages::RefusingPages;
+use std::alloc::Global;
+use std::num::NonZeroUsize;
+use std::process::Abort;
+use std::test::Fail;
+use trusted_nand::TrustedNand;
+
+/// A volume over the pages of a flash, of which one call is refused.
+#[derive(Drop)]
+struct Refusing {
+    volume: PageVolume<RefusingPages<FlashPages<TrustedNand<MemNand>>>>,
+}
+
+impl Answers for Refusing {
+    fn answer(&mut self, stamped: &Stamped) -> Reply {
+        self.volume.call(stamped)
+    }
+}
+
+/// A volume over the pages of a mount, which refuse memory after so many calls.
+fn volume_over(
+    alloc: Global,
+    mounted: Mounted<TrustedNand<MemNand>>,
+    calls: u64,
+) -> Result<Refusing, Fail> {
+    let Mounted {
+        pages,
+        table,
+        names,
+        read_only,
+    } = mounted;
+    let pages = RefusingPages::new(pages, calls);
+    match PageVolume::new(alloc, pages, table, names, read_only) {
+        Ok(volume) => Ok(Refusing { volume }),
+        Err((_pages, error)) => Err(error.into()),
+    }
+}
+
+/// Mounts a device as it is, with a cache of one page.
+fn mount_refusing(alloc: Global, nand: MemNand, calls: u64) -> Result<Refusing, Fail> {
+    match mounting::mount(alloc, nand, NonZeroUsize::MIN) {
+        Ok(mounted) => volume_over(alloc, mounted, calls),
+        Err((_nand, fault)) => Err(fault.into()),
+    }
+}
+
+/// The device as it is, and whether a call was refused.
+fn into_device(refusing: Refusing) -> (MemNand, bool) {
+    let (pages, is_refused) = refusing.volume.into_pages().into_inner();
+    (pages.into_device().into_inner(), is_refused)
+}
+
+/// Whether a command may be answered by ENOMEM.
+fn takes_memory(command: &Command) -> bool {
+    !matches!(
+        command,
+        Command::Close { .. }
+            | Command::Seek { .. }
+            | Command::Fsync { .. }
+            | Command::Sync
+            | Command::Space
+    )
+}
+
+/// Does the commands of a book. One that is refused memory leaves the tree, and is done once more. Gives how many were refused.
+fn do_commands(
+    rt: &impl Abort,
+    alloc: Global,
+    refusing: &mut Refusing,
+    book: &Book,
+) -> Result<u32, Fail> {
+    let mut refused = 0u32;
+    for (number, stamped) in book.commands.iter().enumerate() {
+        let mut reply = refusing.answer(stamped);
+        if matches!(reply, Reply::Error(Errno::ENOMEM)) {
+            refused = refused.saturating_add(1);
+            assert!(rt; takes_memory(&stamped.command), "{number}");
+            assert!(rt; book.has_tree(refusing, number, number)?, "{number}");
+            reply = refusing.answer(stamped);
+        }
+        book.expect_reply(rt, alloc, number, &reply)?;
+    }
+    Ok(refused)
+}
+
+/// Does the session of a book with a call refused: one command is answered by ENOMEM then. A mount shows the tree after all. Tells
+/// whether there is such a call.
+fn refuse_at(
+    rt: &impl Abort,
+    alloc: Global,
+    nand: &MemNand,
+    book: &Book,
+    calls: u64,
+) -> Result<bool, Fail> {
+    let mut refusing = mount_refusing(alloc, nand.copy()?, calls)?;
+    let refused = do_commands(rt, alloc, &mut refusing, book)?;
+    let (mut nand, is_refused) = into_device(refusing);
+    assert_eq!(rt; refused, u32::from(is_refused), "{calls}");
+    nand.power_up();
+    let count = book.commands.len();
+    let mut served = mount(alloc, nand, 16)?;
+    assert!(rt; book.has_tree(&mut served, count, count)?, "{calls}");
+    Ok(is_refused)
+}
+
+/// Refuses each call of a session of these lines and a sync. Gives how many there are.
+fn refuse_each(rt: &impl Abort, alloc: Global, lines: &str) -> Result<u64, Fail> {
+    let nand = formatted(alloc)?;
+    let book = book_of(alloc, &format!(in alloc; "{lines}\nsync")?)?;
+    for calls in 0..1000 {
+        if !refuse_at(rt, alloc, &nand, &book, calls)? {
+            return Ok(calls);
+        }
+    }
+    Err("too many calls".into())
+}
+
+/// Each command but a few makes such a call.
+#[test]
+fn each_call_of_the_pages_is_refused_in_turn(rt: HostRuntime) -> Result<(), Fail> {
+    let alloc = rt.alloc();
+    for (lines, least) in [(FILE, 4), (TREE, 19), (SESSION, 24)] {
+        let calls = refuse_each(&rt, alloc, lines)?;
+        assert!(&rt; calls >= least, "{calls}");
+    }
+    Ok(())
+}

@@ -46,7 +46,7 @@ refuse() {
         [ -s "$work/mark" ] || break
         if [ $status = 0 ]; then
             passed=$((passed + 1))
-        elif [ $status = 101 ] && grep -q '^error: \(AllocError\|NoMemory\)' "$work/told"; then
+        elif [ $status = 101 ] && grep -q '^error: \(AllocError\|AllocFailed\|NoMemory\|Kind(OutOfMemory)\)' "$work/told"; then
             ended=$((ended + 1))
         else
             wrong=$((wrong + 1))

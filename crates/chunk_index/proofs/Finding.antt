@@ -180,3 +180,17 @@ module _ {X : Type 0} (f : X → ℕ) where
   -- with no bound all elements lie before it
   pub ends_all : (xs : List X) → IsEndFor f xs None (length xs)
   ends_all xs = record { within = omega arith; lesser = λ j d lt. tt; greater = λ j d le lt below. omega (arith, le, lt) }
+
+-- a number greater than that of the last element goes behind it
+pub gap_after : {X : Type 0} (f : X → ℕ) (xs : List X) (n i : ℕ) → Rises f xs → i ≡ length xs → ((j : ℕ) (d : X) → j + 1 ≡ length xs → f (get_or xs j d) < n) → IsGapFor f xs n i
+gap_after f xs n i rises is last = record {
+  within = omega (arith, is);
+  lesser = λ j d lt. elim (cases_eq (j + 1) (length xs)) [
+    | inl e ↦ last j d e
+    | inr ne ↦
+        let r : f (get_or xs j d) < f (get_or xs (length xs - 1) d) = rises j (length xs - 1) d (omega (arith, ne, lt, is)) (omega (arith, lt, is)) in
+        let l : f (get_or xs (length xs - 1) d) < n = last (length xs - 1) d (omega (arith, lt, is)) in
+        omega (arith, r, l)
+  ];
+  greater = λ j d le lt. absurd (omega (arith, is, le, lt));
+}

@@ -4,7 +4,7 @@ use Rattle.std.specs.Prelude.{map}
 use Rattle.std.specs.List.{AllPairs}
 use Rattle.std.proofs.lemmas.Bool.{cases_eq, cases_lt}
 use Rattle.std.proofs.lemmas.Option.{get_or_from_slice_get, slice_get-get_or, slice_get_within}
-use Rattle.flash_tree.specs.declared.place.Found.{Found}
+use Rattle.found_pages.specs.declared.copy.PageCopy.{PageCopy}
 use Rattle.found_pages.specs.Keys.{HaveOtherKeys}
 use Rattle.found_pages.specs.Listed.{IsPartAt}
 use Rattle.chunk_index.specs.declared.form.KeptKey.{KeptKey}
@@ -16,22 +16,22 @@ use Rattle.chunk_index.specs.Shelves.{ObjectMap, look, Differs}
 use Rattle.chunk_index.proofs.Adding.{mapped, mapped_from}
 
 -- keys that are not one differ
-keys_differ : (f g : Found) → HaveOtherKeys f g → Differs f.tag.object f.tag.chunk g.tag.object g.tag.chunk
-keys_differ f g other = elim (cases_eq f.tag.object g.tag.object) [
+keys_differ : (f g : PageCopy) → HaveOtherKeys f g → Differs f.object f.chunk g.object g.chunk
+keys_differ f g other = elim (cases_eq f.object g.object) [
   | inr ne ↦ inl (λ is. ne (sym is))
-  | inl object ↦ elim (cases_eq f.tag.chunk g.tag.chunk) [ inr ne ↦ inr (λ is. ne (sym is)) | inl chunk ↦ absurd (other (object, chunk)) ]
+  | inl object ↦ elim (cases_eq f.chunk g.chunk) [ inr ne ↦ inr (λ is. ne (sym is)) | inl chunk ↦ absurd (other (object, chunk)) ]
 ]
 
 -- before the first page there is no entry
-pub pages_none : (fs : List Found) (m : ObjectMap) → ((o c : ℕ) → look m o c ≡ None) → HasPages fs 0 m
+pub pages_none : (fs : List PageCopy) (m : ObjectMap) → ((o c : ℕ) → look m o c ≡ None) → HasPages fs 0 m
 pages_none fs m empty = record {
   done = λ i d lt. absurd (omega (arith, lt));
   rest = λ o c n. empty o c;
 }
 
-module _ (fs : List Found) (n : ℕ) (part : List Found) (at : IsPartAt fs n part) where
+module _ (fs : List PageCopy) (n : ℕ) (part : List PageCopy) (at : IsPartAt fs n part) where
   -- a page of the part stands in the list
-  there : (i : ℕ) (f d : Found) → slice_get part i ≡ Some f → get_or fs (n + i) d ≡ f
+  there : (i : ℕ) (f d : PageCopy) → slice_get part i ≡ Some f → get_or fs (n + i) d ≡ f
   there i f d is = at.each i d (slice_get_within part i f is) ∙ get_or_from_slice_get part i f d is
 
   pub part_once : AllPairs HaveOtherKeys fs → AreOfOtherKeys (map found_key part)
@@ -40,55 +40,55 @@ module _ (fs : List Found) (n : ℕ) (part : List Found) (at : IsPartAt fs n par
       let two = mapped_from found_key part j l also in
       let less = slice_get_within part j two.0 two.1 in
       let other : HaveOtherKeys (get_or fs (n + i) one.0) (get_or fs (n + j) one.0) = once (n + i) (n + j) one.0 (omega (arith, lt)) (omega (arith, less, at.within)) in
-      let apart : HaveOtherKeys one.0 two.0 = subst (λ (g : Found). HaveOtherKeys one.0 g) (there j two.0 one.0 two.1) (subst (λ (f : Found). HaveOtherKeys f (get_or fs (n + j) one.0)) (there i one.0 one.0 one.1) other) in
+      let apart : HaveOtherKeys one.0 two.0 = subst (λ (g : PageCopy). HaveOtherKeys one.0 g) (there j two.0 one.0 two.1) (subst (λ (f : PageCopy). HaveOtherKeys f (get_or fs (n + j) one.0)) (there i one.0 one.0 one.1) other) in
       subst (λ (g : KeptKey). Differs k.key.object k.key.chunk g.key.object g.key.chunk) two.2
-      (subst (λ (f : KeptKey). Differs f.key.object f.key.chunk two.0.tag.object two.0.tag.chunk) one.2 (keys_differ one.0 two.0 apart))
+      (subst (λ (f : KeptKey). Differs f.key.object f.key.chunk two.0.object two.0.chunk) one.2 (keys_differ one.0 two.0 apart))
 
   pub part_within : (blocks : ℕ) → LieWithin blocks fs → AreWithin blocks (map found_key part)
   part_within blocks within i k is =
       let one = mapped_from found_key part i k is in
       let less = slice_get_within part i one.0 one.1 in
-      let lies : one.0.block < blocks = subst (λ (f : Found). f.block < blocks) (there i one.0 one.0 one.1) (within (n + i) one.0 (omega (arith, less, at.within))) in
+      let lies : one.0.block < blocks = subst (λ (f : PageCopy). f.block < blocks) (there i one.0 one.0 one.1) (within (n + i) one.0 (omega (arith, less, at.within))) in
       subst (λ (g : KeptKey). g.at.block < blocks) one.2 lies
 
   pub part_in_pages : (pages : ℕ) → LieInPages pages fs → AreInPages pages (map found_key part)
   part_in_pages pages within i k is =
       let one = mapped_from found_key part i k is in
       let less = slice_get_within part i one.0 one.1 in
-      let lies : one.0.page < pages = subst (λ (f : Found). f.page < pages) (there i one.0 one.0 one.1) (within (n + i) one.0 (omega (arith, less, at.within))) in
+      let lies : one.0.page < pages = subst (λ (f : PageCopy). f.page < pages) (there i one.0 one.0 one.1) (within (n + i) one.0 (omega (arith, less, at.within))) in
       subst (λ (g : KeptKey). g.at.page < pages) one.2 lies
 
   module _ (old : ObjectMap) (once : AllPairs HaveOtherKeys fs) (has : HasPages fs n old) where
     -- no page before the part is of the key of one in it
-    before_other : (i j : ℕ) (f d : Found) → slice_get part i ≡ Some f → j < n → IsFoundOf f.tag.object f.tag.chunk (get_or fs j d) → ⊥
+    before_other : (i j : ℕ) (f d : PageCopy) → slice_get part i ≡ Some f → j < n → IsFoundOf f.object f.chunk (get_or fs j d) → ⊥
     before_other i j f d is lt of =
         let less = slice_get_within part i f is in
         let other : HaveOtherKeys (get_or fs j d) (get_or fs (n + i) d) = once j (n + i) d (omega (arith, lt)) (omega (arith, less, at.within)) in
-        subst (λ (g : Found). HaveOtherKeys (get_or fs j d) g) (there i f d is) other of
+        subst (λ (g : PageCopy). HaveOtherKeys (get_or fs j d) g) (there i f d is) other of
 
     pub part_absent : AreAbsent (map found_key part) old
     part_absent i k is =
         let one = mapped_from found_key part i k is in
-        let f : Found = one.0 in
-        subst (λ (g : KeptKey). look old g.key.object g.key.chunk ≡ None) one.2 (has.rest f.tag.object f.tag.chunk (λ j d lt of. before_other i j f d one.1 lt of))
+        let f : PageCopy = one.0 in
+        subst (λ (g : KeptKey). look old g.key.object g.key.chunk ≡ None) one.2 (has.rest f.object f.chunk (λ j d lt of. before_other i j f d one.1 lt of))
 
     -- the pages of the part are added
     pub part_more : (new : ObjectMap) → AddsFirst (map found_key part) (length part) old new → HasPages fs (n + length part) new
     part_more new adds = record {
       done = λ i d lt. elim (cases_lt i n) [
         | inl less ↦
-            let g : Found = get_or fs i d in
-            adds.rest g.tag.object g.tag.chunk (λ j k within is of.
+            let g : PageCopy = get_or fs i d in
+            adds.rest g.object g.chunk (λ j k within is of.
             let one = mapped_from found_key part j k is in
             let same : found_key one.0 ≡ k = one.2 in
             before_other j i one.0 d one.1 less (sym of.0 ∙ ap (λ (y : KeptKey). y.key.object) (sym same), sym of.1 ∙ ap (λ (y : KeptKey). y.key.chunk) (sym same))) ∙ has.done i d less
         | inr ge ↦
             let j : i - n < length part = omega (arith, lt, ge) in
             let same : n + (i - n) ≡ i = omega (arith, ge) in
-            let f : Found = get_or part (i - n) d in
+            let f : PageCopy = get_or part (i - n) d in
             let is : slice_get part (i - n) ≡ Some f = slice_get-get_or part (i - n) d j in
             let here : get_or fs i d ≡ f = ap (λ k. get_or fs k d) (sym same) ∙ there (i - n) f d is in
-            subst (λ (g : Found). look new g.tag.object g.tag.chunk ≡ Some (kept_at g.tag.chunk (Some (page_of g)))) (sym here) (adds.done (i - n) (found_key f) j (mapped found_key part (i - n) f is))
+            subst (λ (g : PageCopy). look new g.object g.chunk ≡ Some (kept_at g.chunk (Some (page_of g)))) (sym here) (adds.done (i - n) (found_key f) j (mapped found_key part (i - n) f is))
       ];
       rest = λ o c none.
           adds.rest o c (λ j k lt is of.

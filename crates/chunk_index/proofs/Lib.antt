@@ -7,6 +7,8 @@ pub mod Mapping
 pub mod Telling
 pub mod Cutting
 pub mod Noting
+pub mod InPlace
+pub mod Moving
 pub mod Adding
 pub mod Founding
 pub mod Parts

@@ -283,7 +283,3 @@ one_noted keys cuts all o c not noted = ∥∥₁_elim noted (λ x y. squash₁ 
   | inl l ↦ ∣ inl l ∣₁
   | inr r ↦ elim r [ inl l ↦ ∣ inr l ∣₁ | inr a ↦ absurd (false≢true (sym not ∙ a)) ]
 ])
-
--- a key without an entry is settled
-pub where_absent : (g : WrittenGroup) (k : Key) (m : ObjectMap) (t : Table) → look m k.object k.chunk ≡ None → Tallies t m → SettlesWhere g (IsKey k) m m t t
-where_absent g k m t none tallies = where_fewer g IsNone (IsKey k) m m t t (where_none g IsNone m t (λ o c is. is) tallies) (λ o c is. inr (subst (λ p. look m p c ≡ None) is.0 (subst (λ q. look m k.object q ≡ None) is.1 none)))

@@ -9,8 +9,8 @@ use Rattle.chunk_index.specs.declared.entry.State.{State}
 use Rattle.chunk_index.specs.declared.entry.State.TheVariants as states
 use Rattle.block_state.specs.Table.{Table}
 use Rattle.chunk_index.specs.Entries.{settled, settled_by, same_of, present_of, present_by, kept_of, one_at, HasPage}
-use Rattle.chunk_index.specs.Shelves.{ObjectMap, look, total, AltersKey}
-use Rattle.chunk_index.specs.Counts.{Recounts, HasRoom, Tallies}
+use Rattle.chunk_index.specs.Shelves.{ObjectMap, look, total}
+use Rattle.chunk_index.specs.Counts.{HasRoom, Tallies}
 use Rattle.chunk_index.proofs.Counting.{room_for, room_block}
 
 -- settling twice is settling once
@@ -45,16 +45,6 @@ has_page g e fits = go e.state refl where
 -- ---- one key
 
 module _ (g : WrittenGroup) (m : ObjectMap) (o c : ℕ) (e : KeyEntry) (is : look m o c ≡ Some e) where
-  settles_to : (to : Option KeyEntry) → to ≡ settled_by g e e.state → to ≡ settled g (look m o c)
-  settles_to to by = by ∙ sym (ap (settled g) is)
-
-  pub settled_set : (n : ObjectMap) (new : KeyEntry) → Some new ≡ settled_by g e e.state → new.chunk ≡ c → AltersKey o new.chunk (Some new) m n → AltersKey o c (settled g (look m o c)) m n
-  settled_set n new by same alters = subst (λ v. AltersKey o c v m n) (settles_to (Some new) by) (subst (λ l. AltersKey o l (Some new) m n) same alters)
-
-  pub settled_counts : (t u : Table) (to : Option KeyEntry) → to ≡ settled_by g e e.state → Recounts (one_at e.kept) (one_at (kept_of to)) t u → Recounts (one_at (kept_of (look m o c))) (one_at (kept_of (settled g (look m o c)))) t u
-  settled_counts t u to by recounts =
-      subst (λ v. Recounts (one_at (kept_of (look m o c))) (one_at (kept_of v)) t u) (settles_to to by) (subst (λ v. Recounts (one_at (kept_of v)) (one_at (kept_of to)) t u) (sym is) recounts)
-
   pub settled_room : (t : Table) → Tallies t m → (size : ℕ) → total (λ (x : KeyEntry). 1) m ≡ size → size < 4294967296 → HasRoom t (one_at e.kept) 1
   settled_room t tallies size counted few = subst (λ v. HasRoom t (one_at (kept_of v)) 1) is (room_for t m o c tallies (rw is refl) size counted few)
 

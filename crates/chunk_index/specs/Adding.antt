@@ -1,6 +1,6 @@
 -- Pages that become kept, one after another.
 use Rattle.std.specs.Prelude.{◌≡◌, ◌<◌, ℕ, List, slice_get, Some, None}
-use Rattle.flash_tree.specs.declared.place.Found.{Found}
+use Rattle.found_pages.specs.declared.copy.PageCopy.{PageCopy}
 use Rattle.page_tags.specs.declared.check.CheckEntry.{CheckEntry}
 use Rattle.chunk_index.specs.declared.form.KeptKey.{KeptKey}
 use Rattle.chunk_index.specs.Entries.{kept_at}
@@ -8,8 +8,8 @@ use Rattle.chunk_index.specs.Newest.{page_of}
 use Rattle.chunk_index.specs.Shelves.{ObjectMap, look, Differs}
 
 -- the key of a page that a scan found, with the page
-abbrev pub found_key : Found → KeptKey
-found_key f = record { key = record { object = f.tag.object; chunk = f.tag.chunk }; at = page_of f }
+abbrev pub found_key : PageCopy → KeptKey
+found_key f = record { key = record { object = f.object; chunk = f.chunk }; at = page_of f }
 
 -- the key of an entry of a checkpoint, with the page that it tells
 abbrev pub entry_key : CheckEntry → KeptKey

@@ -6,8 +6,10 @@ pub mod Shelves
 pub mod Noted
 pub mod Counts
 pub mod Settled
+pub mod InPlace
 pub mod Retained
 pub mod Maps
+pub mod Moved
 pub mod Newest
 pub mod Found
 pub mod Adding

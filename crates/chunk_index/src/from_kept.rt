@@ -17,7 +17,8 @@ use std::alloc::{AllocError, Global};
 
 impl Index {
     /// The index of a list of pages in the order of their keys, with the blocks: these pages are kept, and counted in their
-    /// blocks. It goes over the list once.
+    /// blocks. It goes over the list twice: every other object gets room first, so that the nodes of the shelf fill up. Where all
+    /// objects came in order, a node would stay half full once it was split.
     pub fn from_kept<P: Placed>(
         alloc: Global,
         pages: &[P],
@@ -34,8 +35,23 @@ impl Index {
     {
         let mut index = Index::bare(alloc);
         let mut blocks = blocks;
+        index.reserve_every_other(pages)?;
         index.add_some(pages, &mut blocks)?;
         Ok((index, blocks))
+    }
+
+    /// Sees that every other object of a list in the order of keys has room for its pages: the first one, the third and so on.
+    fn reserve_every_other<P: Placed>(&mut self, pages: &[P]) -> Result<(), AllocError>
+        ensures { SameEntries self.old.shelf.objects self.new.shelf.objects }
+    {
+        let mut reserves = false;
+        for at in 0..pages.len() {
+            reserves = reserves != is_first_of_object(pages, at);
+            if reserves {
+                self.reserve_at(pages, at)?;
+            }
+        }
+        Ok(())
     }
 
     /// Adds some pages whose keys have no entries.
@@ -66,11 +82,11 @@ impl Index {
         requires { at < length pages.now }
         ensures { SameEntries self.old.shelf.objects self.new.shelf.objects }
     {
-        let object = object_of(&pages[at]);
-        if at > 0 && object_of(&pages[at - 1]) == object {
+        if !is_first_of_object(pages, at) {
             return Ok(());
         }
-        self.shelf.reserve(object, object_end(pages, at) - at)
+        self.shelf
+            .reserve(object_of(&pages[at]), object_end(pages, at) - at)
     }
 
     /// Adds the page of a key that has no entry, and counts it in its block.
@@ -97,6 +113,13 @@ impl Index {
 /// The object that a page is of.
 fn object_of<P: Placed>(page: &P) -> u64 {
     page.kept_key().key.object
+}
+
+/// Whether the page before the one at a place, if any, is of another object.
+fn is_first_of_object<P: Placed>(pages: &[P], at: usize) -> bool
+    requires { at < length pages.now }
+{
+    at == 0 || object_of(&pages[at - 1]) != object_of(&pages[at])
 }
 
 /// Where the pages end that are of the same object as the one at a place.

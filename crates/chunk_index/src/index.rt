@@ -2,7 +2,7 @@
 ghost use Rattle.std.specs.Prelude.{◌≡◌, ◌≢◌, ◌<◌, ◌≤◌, ◌+◌, ◌^◌, ℕ, true, false, length, vec_capacity, None, Some, OnOk, OnErr, IsOk, IsSome};
 ghost use Rattle.block_state.specs.Table.{Table};
 ghost use Rattle.block_state.specs.TableOf.{table};
-ghost use Rattle.chunk_index.specs.Entries.{same_of, is_same, with_state, with_kept, kept_at, state_of, IsSmall, IsSmallPage, IsSmallState};
+ghost use Rattle.chunk_index.specs.Entries.{same_of, with_state, with_kept, kept_at, state_of, IsSmall, IsSmallPage, IsSmallState};
 ghost use Rattle.chunk_index.specs.Noted.{IsNoted};
 ghost use Rattle.chunk_index.specs.Shelves.{look, total, Differs, AltersKey, SameEntries};
 ghost use Rattle.chunk_index.specs.Counts.{Recounts};
@@ -148,27 +148,9 @@ impl Index {
         ensures prepared { StaysPrepared self.old self.new }
         ensures ready { (o c : ℕ) → Differs key.object key.chunk o c → IsReadyKey self.old o c → IsReadyKey self.new o c }
     {
-        match self.shelf.entry(key) {
-            Some(entry) => {
-                if entry.is_same() {
-                    self.place_first(key, entry, form);
-                } else {
-                    self.place_noted(key, entry, form);
-                }
-            }
-            None => {}
+        if self.shelf.place(key, form.state()) {
+            self.changes.note(key);
         }
-    }
-
-    /// Gives a key whose present page is the kept one another present page.
-    fn place_first(&mut self, key: Key, entry: KeyEntry, form: Form)
-        requires entry { look self.old.shelf.objects key.object key.chunk ≡ Some entry }
-        requires small { IsSmall entry }
-        requires number { IsSmallState (state_of form) }
-        ensures { AltersKey key.object key.chunk (Some (with_state (state_of form) entry)) self.old.shelf.objects self.new.shelf.objects }
-    {
-        self.changes.note(key);
-        self.place_noted(key, entry, form);
     }
 
     /// Gives a key that is noted another present page.
@@ -196,16 +178,7 @@ impl Index {
         ensures agree { CountsAgree (table blocks.new) self.new }
         ensures counts { Recounts (kept_in self.old) (kept_in self.new) (table blocks.old) (table blocks.new) }
     {
-        if let Some(entry) = self.shelf.entry(key) {
-            if let Some(was) = entry.kept {
-                let page = KeptPage {
-                    block: place.block,
-                    page: place.page,
-                    version: was.version,
-                };
-                self.move_to(key, entry, page, blocks);
-            }
-        }
+        self.shelf.copied(key, place, blocks);
     }
 
     /// Gives the entry of a key another kept page.

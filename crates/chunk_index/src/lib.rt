@@ -3,6 +3,7 @@
 
 mod change;
 mod changes;
+mod copied;
 mod cut;
 mod entry;
 mod filter;

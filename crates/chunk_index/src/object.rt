@@ -1,9 +1,10 @@
 // The entries of one object.
 ghost use Rattle.std.specs.Prelude.{◌≡◌, [], None, Some, IfOk, IfErr, IfSome, OnOk, OnErr, IsSome};
 ghost use Rattle.chunk_index.specs.Lists.{Rises, IsAt, IsGapFor, IsEndFor, find_by, is_nil};
-ghost use Rattle.chunk_index.specs.Entries.{chunk, Alters, IsLastBelow, IsSmall};
+ghost use Rattle.chunk_index.specs.Entries.{chunk, same_of, Alters, IsLastBelow, IsSmall, IsSmallState};
+ghost use Rattle.chunk_index.specs.InPlace.{placed};
 
-use crate::entry::KeyEntry;
+use crate::entry::{KeyEntry, State};
 use crate::packed::PackedEntry;
 use std::alloc::{AllocError, Global};
 
@@ -24,8 +25,34 @@ impl ObjectEntries {
         }
     }
 
-    /// Where the entry of a chunk is, or where it would go.
+    /// Where the entry of a chunk is, or where it would go. The first places that are looked at are those of an object
+    /// without holes: a chunk lies at the place of its number there, and the next one goes behind the last.
     pub(crate) fn search(&self, number: u64) -> Result<usize, usize>
+        ensures found { IfOk result (IsAt chunk self.now.entries.items number) }
+        ensures absent { IfErr result (IsGapFor chunk self.now.entries.items number) }
+    {
+        let place = number as usize;
+        match self.entries.get(place) {
+            Some(entry) if entry.chunk() == number => Ok(place),
+            Some(_) => self.search_halves(number),
+            None => self.search_end(number),
+        }
+    }
+
+    /// Where the entry of a chunk is, or where it would go, looked for from the end.
+    fn search_end(&self, number: u64) -> Result<usize, usize>
+        ensures found { IfOk result (IsAt chunk self.now.entries.items number) }
+        ensures absent { IfErr result (IsGapFor chunk self.now.entries.items number) }
+    {
+        let count = self.entries.len();
+        if count == 0 || self.entries[count - 1].chunk() < number {
+            return Err(count);
+        }
+        self.search_halves(number)
+    }
+
+    /// Where the entry of a chunk is, or where it would go, looked for by halves.
+    fn search_halves(&self, number: u64) -> Result<usize, usize>
         ensures found { IfOk result (IsAt chunk self.now.entries.items number) }
         ensures absent { IfErr result (IsGapFor chunk self.now.entries.items number) }
     {
@@ -86,6 +113,23 @@ impl ObjectEntries {
         match self.search(entry.chunk) {
             Ok(at) => self.entries[at] = PackedEntry::pack(entry),
             Err(_) => {}
+        }
+    }
+
+    /// Gives the entry of a chunk another state, and returns whether what was present is what is kept.
+    pub fn place(&mut self, number: u64, state: State) -> bool
+        requires here { IsSome (find_by chunk self.old.entries.items number) }
+        requires small { IsSmallState state }
+        ensures alters { Alters number (placed state (find_by chunk self.old.entries.items number)) self.old.entries.items self.new.entries.items }
+        ensures same { result ≡ same_of (find_by chunk self.old.entries.items number) }
+    {
+        match self.search(number) {
+            Ok(at) => {
+                let entry = self.entries[at].unpack();
+                self.entries[at] = PackedEntry::pack(KeyEntry { state, ..entry });
+                entry.is_same()
+            }
+            Err(_) => true,
         }
     }
 

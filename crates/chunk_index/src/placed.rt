@@ -2,7 +2,8 @@
 ghost use Rattle.std.specs.Prelude.{◌≡◌};
 
 use crate::form::{KeptKey, KeptPage};
-use flash_tree::{Found, Key};
+use flash_tree::Key;
+use found_pages::PageCopy;
 use page_tags::CheckEntry;
 
 /// A page of a key, on the flash.
@@ -16,22 +17,23 @@ pub trait Placed {
         ensures { result ≡ kept_key self.now };
 }
 
-impl Placed for Found {
+impl Placed for PageCopy {
     ghost use Rattle.chunk_index.specs.Adding.{found_key};
 
     ghost kept_key = { found_key };
 
     fn kept_key(&self) -> KeptKey {
-        let key = Key {
-            object: self.tag.object,
-            chunk: self.tag.chunk,
-        };
-        let at = KeptPage {
-            block: self.block,
-            page: self.page,
-            version: self.tag.version,
-        };
-        KeptKey { key, at }
+        KeptKey {
+            key: Key {
+                object: self.object,
+                chunk: self.chunk,
+            },
+            at: KeptPage {
+                block: self.block,
+                page: self.page,
+                version: self.version,
+            },
+        }
     }
 }
 

@@ -1,21 +1,46 @@
 // What becomes of the entries once the buffer was written.
 ghost use Rattle.std.specs.Prelude.{◌≡◌, ◌<◌, ◌≤◌, ◌+◌, ◌^◌, ℕ, false, Some, IfSome};
 ghost use Rattle.block_state.specs.TableOf.{table};
-ghost use Rattle.chunk_index.specs.Entries.{settled, settled_by, same_of, counted_at, HasPage, IsSmall};
-ghost use Rattle.chunk_index.specs.Shelves.{look, total, IsListed};
+ghost use Rattle.chunk_index.specs.Entries.{chunk, settled, settled_by, same_of, kept_of, one_at, counted_at, HasPage, Alters, IsSmall};
+ghost use Rattle.chunk_index.specs.InPlace.{goes_of, left_of};
+ghost use Rattle.chunk_index.specs.Lists.{find_by};
+ghost use Rattle.chunk_index.specs.Shelves.{look, total, AltersKey, IsListed};
 ghost use Rattle.chunk_index.specs.Counts.{Recounts, Tallies};
-ghost use Rattle.chunk_index.specs.Settled.{MaySettle, SettlesWhere, IsKey, IsFrom, IsAny};
+ghost use Rattle.chunk_index.specs.Settled.{MaySettle, MaySettleEntry, SettlesWhere, RecountsSettled, IsKey, IsFrom, IsAny};
 ghost use Rattle.chunk_index.specs.Noted.{IsNoted, IsCut};
 
 use crate::change;
 use crate::changes::ChangeList;
 use crate::entry::{KeyEntry, State};
 use crate::form::{KeptPage, WrittenGroup};
+use crate::object::ObjectEntries;
+use crate::packed::PackedEntry;
 use crate::shelf::Shelf;
 use block_state::Blocks;
 use flash_tree::Key;
 
 impl KeyEntry {
+    /// What the entry becomes, if it stays. The page that is kept then is counted in place of the one that was.
+    fn settle(self, group: WrittenGroup, blocks: &mut Blocks) -> Option<KeyEntry>
+        requires may { MaySettleEntry group self (table blocks.old) }
+        requires small { IsSmall self }
+        ensures result { result ≡ settled_by group self self.state }
+        ensures chunk { IfSome result (λ e. e.chunk ≡ self.chunk) }
+        ensures small { IfSome result IsSmall }
+        ensures counts { Recounts (one_at self.kept) (one_at (kept_of result)) (table blocks.old) (table blocks.new) }
+    {
+        match self.settled(group) {
+            Some(new) => {
+                change::recount(self.kept, new.kept, blocks);
+                Some(new)
+            }
+            None => {
+                change::recount(self.kept, None, blocks);
+                None
+            }
+        }
+    }
+
     /// What the entry becomes, if it stays.
     fn settled(self, group: WrittenGroup) -> Option<KeyEntry>
         requires page { HasPage group self.state }
@@ -120,18 +145,42 @@ impl Shelf {
         requires { MaySettle group self.old.objects (table blocks.old) }
         ensures { SettlesWhere group (IsKey key) self.old.objects self.new.objects (table blocks.old) (table blocks.new) }
     {
-        let Some(entry) = self.entry(key) else {
-            return;
-        };
-        match entry.settled(group) {
-            Some(new) => {
-                change::recount(entry.kept, new.kept, blocks);
-                self.set(key.object, new);
-            }
-            None => {
-                change::recount(entry.kept, None, blocks);
-                self.remove(key);
-            }
+        if self.settle_entry(key, group, blocks) {
+            self.remove(key);
+        }
+    }
+
+    /// Settles the entry of a key in its place, if there is one, and counts its page. Returns whether it is to go.
+    fn settle_entry(&mut self, key: Key, group: WrittenGroup, blocks: &mut Blocks) -> bool
+        requires may { IfSome (look self.old.objects key.object key.chunk) (λ e. MaySettleEntry group e (table blocks.old)) }
+        ensures alters { AltersKey key.object key.chunk (left_of group (look self.old.objects key.object key.chunk)) self.old.objects self.new.objects }
+        ensures goes { result ≡ goes_of group (look self.old.objects key.object key.chunk) }
+        ensures counts { RecountsSettled group (look self.old.objects key.object key.chunk) (table blocks.old) (table blocks.new) }
+    {
+        match self.objects.get_mut(&key.object) {
+            Some(entries) => entries.settle(key.chunk, group, blocks),
+            None => false,
+        }
+    }
+}
+
+impl ObjectEntries {
+    /// Settles the entry of a chunk in its place, if there is one, and counts its page. Returns whether it is to go.
+    fn settle(&mut self, number: u64, group: WrittenGroup, blocks: &mut Blocks) -> bool
+        requires may { IfSome (find_by chunk self.old.entries.items number) (λ e. MaySettleEntry group e (table blocks.old)) }
+        ensures alters { Alters number (left_of group (find_by chunk self.old.entries.items number)) self.old.entries.items self.new.entries.items }
+        ensures goes { result ≡ goes_of group (find_by chunk self.old.entries.items number) }
+        ensures counts { RecountsSettled group (find_by chunk self.old.entries.items number) (table blocks.old) (table blocks.new) }
+    {
+        match self.search(number) {
+            Ok(at) => match self.entries[at].unpack().settle(group, blocks) {
+                Some(new) => {
+                    self.entries[at] = PackedEntry::pack(new);
+                    false
+                }
+                None => true,
+            },
+            Err(_) => false,
         }
     }
 }

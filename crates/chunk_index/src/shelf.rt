@@ -4,9 +4,10 @@ ghost use Rattle.std.specs.Ordering.{nat_cmp};
 ghost use Rattle.std.proofs.Props.{props};
 ghost use Rattle.std.specs.BTreeMap.{get, IsEmpty, IsOrdered};
 ghost use Rattle.chunk_index.specs.Shelves.{look, total, AltersKey, SameEntries, IsLastOf, IsNextObject};
-ghost use Rattle.chunk_index.specs.Entries.{IsSmall};
+ghost use Rattle.chunk_index.specs.Entries.{same_of, IsSmall, IsSmallState};
+ghost use Rattle.chunk_index.specs.InPlace.{placed};
 
-use crate::entry::KeyEntry;
+use crate::entry::{KeyEntry, State};
 use crate::object::ObjectEntries;
 use flash_tree::Key;
 use std::alloc::{AllocError, Global};
@@ -77,6 +78,20 @@ impl Shelf {
         match self.objects.get_mut(&object) {
             Some(entries) => entries.set(entry),
             None => {}
+        }
+    }
+
+    /// Gives the entry of a key another state, and returns whether its present page was the kept one.
+    pub fn place(&mut self, key: Key, state: State) -> bool
+        requires here { IsSome (look self.old.objects key.object key.chunk) }
+        requires small { IsSmallState state }
+        ensures alters { AltersKey key.object key.chunk (placed state (look self.old.objects key.object key.chunk)) self.old.objects self.new.objects }
+        ensures same { result ≡ same_of (look self.old.objects key.object key.chunk) }
+        ensures size { self.new.size ≡ self.old.size }
+    {
+        match self.objects.get_mut(&key.object) {
+            Some(entries) => entries.place(key.chunk, state),
+            None => true,
         }
     }
 

@@ -9,27 +9,27 @@ use Rattle.std.proofs.lemmas.List.Elements.{Contains-append_left, Contains-push,
 use Rattle.std.proofs.lemmas.List.Quantifiers.{all_pairs_push}
 use Rattle.flash_tree.specs.Newest.{IsAfter}
 use Rattle.flash_tree.specs.laws.Order.{not_after_itself}
-use Rattle.flash_tree.specs.declared.place.Found.{Found}
-use Rattle.flash_tree.specs.Places.{spot_of, IsKeyBefore}
+use Rattle.found_pages.specs.declared.copy.PageCopy.{PageCopy}
+use Rattle.found_pages.specs.Copies.{spot_of_copy, IsKeyBefore}
 use Rattle.found_pages.specs.laws.Keys.{pair_at, not_before_itself}
 use Rattle.found_pages.proofs.Ranked.{AreSorted}
 use Rattle.found_pages.specs.Keys.{HaveOneKey, IsSortedBefore, IsLastAt, IsLastOfKey, AreLastOfKeys, Gathers, AreLatest}
 
 -- one index of a list has one page
-one_page : (list : List Found) (k : ℕ) (x y : Found) → slice_get list k ≡ Some x → slice_get list k ≡ Some y → x ≡ y
+one_page : (list : List PageCopy) (k : ℕ) (x y : PageCopy) → slice_get list k ≡ Some x → slice_get list k ≡ Some y → x ≡ y
 one_page list k x y at_x at_y = let two : Some x ≡ Some y = sym at_x ∙ at_y in cc
 
-at_index : (list : List Found) (k l : ℕ) (x : Found) → k ≡ l → slice_get list k ≡ Some x → slice_get list l ≡ Some x
+at_index : (list : List PageCopy) (k l : ℕ) (x : PageCopy) → k ≡ l → slice_get list k ≡ Some x → slice_get list l ≡ Some x
 at_index list k l x same at = subst (λ m. slice_get list m ≡ Some x) same at
 
 -- a page has an index
-index_of : (list : List Found) (x : Found) → Contains list x → (k : ℕ) × (slice_get list k ≡ Some x)
+index_of : (list : List PageCopy) (x : PageCopy) → Contains list x → (k : ℕ) × (slice_get list k ≡ Some x)
 index_of list x has = (has.0, subst (λ y. slice_get list has.0 ≡ Some y) has.2 (slice_get-get_or list has.0 x has.1))
 
-has_index : (list : List Found) (k : ℕ) (x : Found) → slice_get list k ≡ Some x → Contains list x
+has_index : (list : List PageCopy) (k : ℕ) (x : PageCopy) → slice_get list k ≡ Some x → Contains list x
 has_index list k x at = (k, slice_get_within list k x at, get_or_from_slice_get list k x x at)
 
-key_before_on : (x y z : Found) → IsKeyBefore x y → IsSortedBefore y z → IsKeyBefore x z
+key_before_on : (x y z : PageCopy) → IsKeyBefore x y → IsSortedBefore y z → IsKeyBefore x z
 key_before_on x y z before then = elim then [
   | inr same ↦ elim before [ inl lt ↦ inl (omega (arith, lt, same.0.0)) | inr rest ↦ inr (rest.0 ∙ same.0.0, omega (arith, rest.1, same.0.1)) ]
   | inl after ↦ elim before [
@@ -39,10 +39,10 @@ key_before_on x y z before then = elim then [
 ]
 
 -- behind the last page of a key are later keys
-later_key : (list : List Found) (k l : ℕ) (x y : Found) → AllPairs IsSortedBefore list → IsLastAt list k → k < l → slice_get list k ≡ Some x → slice_get list l ≡ Some y → IsKeyBefore x y
+later_key : (list : List PageCopy) (k l : ℕ) (x y : PageCopy) → AllPairs IsSortedBefore list → IsLastAt list k → k < l → slice_get list k ≡ Some x → slice_get list l ≡ Some y → IsKeyBefore x y
 later_key list k l x y sorted ends lt at_k at_l =
     let within : l < length list = slice_get_within list l y at_l in
-    let next : Found = get_or list (k + 1) x in
+    let next : PageCopy = get_or list (k + 1) x in
     let at_next : slice_get list (k + 1) ≡ Some next = slice_get-get_or list (k + 1) x (omega (arith, lt, within)) in
     let first : IsKeyBefore x next = elim (pair_at IsSortedBefore list k (k + 1) x next sorted (omega arith) at_k at_next) [
       | inl before ↦ before
@@ -54,7 +54,7 @@ later_key list k l x y sorted ends lt at_k at_l =
     ]
 
 -- the last page of its key is kept
-pub last_kept : (list : List Found) (i : ℕ) (x : Found) (kept : List Found) → AllPairs IsSortedBefore list → slice_get list i ≡ Some x → IsLastAt list i
+pub last_kept : (list : List PageCopy) (i : ℕ) (x : PageCopy) (kept : List PageCopy) → AllPairs IsSortedBefore list → slice_get list i ≡ Some x → IsLastAt list i
     → AreLastOfKeys list i kept → AreLastOfKeys list (i + 1) (kept ++ x ∷ [])
 last_kept list i x kept sorted at ends are = record {
   each = λ f. (
@@ -73,7 +73,7 @@ last_kept list i x kept sorted at ends are = record {
 }
 
 -- a page whose next has the same key is not
-pub last_passed : (list : List Found) (i : ℕ) (kept : List Found) → (IsLastAt list i → ⊥) → AreLastOfKeys list i kept → AreLastOfKeys list (i + 1) kept
+pub last_passed : (list : List PageCopy) (i : ℕ) (kept : List PageCopy) → (IsLastAt list i → ⊥) → AreLastOfKeys list i kept → AreLastOfKeys list (i + 1) kept
 last_passed list i kept goes_on are = record {
   each = λ f. (
     λ has. let is = (are.each f).0 has in record { index = is.index; before = omega (arith, is.before); here = is.here; last = is.last },
@@ -86,13 +86,13 @@ last_passed list i kept goes_on are = record {
 }
 
 -- a list that has a page where another has it
-same_there : (xs ys : List Found) (k : ℕ) (x : Found) → length ys ≡ length xs → ((d : Found) → get_or ys k d ≡ get_or xs k d) → slice_get xs k ≡ Some x → slice_get ys k ≡ Some x
+same_there : (xs ys : List PageCopy) (k : ℕ) (x : PageCopy) → length ys ≡ length xs → ((d : PageCopy) → get_or ys k d ≡ get_or xs k d) → slice_get xs k ≡ Some x → slice_get ys k ≡ Some x
 same_there xs ys k x len same at =
     let within : k < length xs = slice_get_within xs k x at in
     slice_get-get_or ys k x (omega (arith, within, len)) ∙ ap Some (same x ∙ get_or_from_slice_get xs k x x at)
 
 -- the last page of its key is gathered
-pub gather_kept : (first list : List Found) (i kept : ℕ) (x : Found) → i < length list → slice_get list i ≡ Some x → IsLastAt list i → AllPairs IsSortedBefore first → Gathers first i list kept
+pub gather_kept : (first list : List PageCopy) (i kept : ℕ) (x : PageCopy) → i < length list → slice_get list i ≡ Some x → IsLastAt list i → AllPairs IsSortedBefore first → Gathers first i list kept
     → Gathers first (i + 1) (slice_set list kept x) (kept + 1)
 gather_kept first list i kept x lt at ends sorted are = record {
   len = length-set list kept x ∙ are.len;
@@ -107,7 +107,7 @@ gather_kept first list i kept x lt at ends sorted are = record {
 }
 
 -- another stays
-pub gather_passed : (first list : List Found) (i kept : ℕ) → (IsLastAt list i → ⊥) → Gathers first i list kept → Gathers first (i + 1) list kept
+pub gather_passed : (first list : List PageCopy) (i kept : ℕ) → (IsLastAt list i → ⊥) → Gathers first i list kept → Gathers first (i + 1) list kept
 gather_passed first list i kept goes_on are = record {
   len = are.len;
   front = omega (arith, are.front);
@@ -118,16 +118,16 @@ gather_passed first list i kept goes_on are = record {
 }
 
 -- a page is the last of its key, or the last is found from the next one on
-last_or_next : (list : List Found) (k : ℕ) (x next : Found) → slice_get list k ≡ Some x → slice_get list (k + 1) ≡ Some next
-    → (y : Found) × IsLastOfKey list (length list) y × HaveOneKey y next → (y : Found) × IsLastOfKey list (length list) y × HaveOneKey y x
-last_or_next list k x next at at_next rest = elim (cases_eq x.tag.object next.tag.object) [
+last_or_next : (list : List PageCopy) (k : ℕ) (x next : PageCopy) → slice_get list k ≡ Some x → slice_get list (k + 1) ≡ Some next
+    → (y : PageCopy) × IsLastOfKey list (length list) y × HaveOneKey y next → (y : PageCopy) × IsLastOfKey list (length list) y × HaveOneKey y x
+last_or_next list k x next at at_next rest = elim (cases_eq x.object next.object) [
   | inr ne ↦ here (λ one. ne one.0)
-  | inl object ↦ elim (cases_eq x.tag.chunk next.tag.chunk) [
+  | inl object ↦ elim (cases_eq x.chunk next.chunk) [
     | inr ne ↦ here (λ one. ne one.1)
     | inl chunk ↦ (rest.0, rest.1, (rest.2.0 ∙ sym object, rest.2.1 ∙ sym chunk))
   ]
 ] where
-  here : (HaveOneKey x next → ⊥) → (y : Found) × IsLastOfKey list (length list) y × HaveOneKey y x
+  here : (HaveOneKey x next → ⊥) → (y : PageCopy) × IsLastOfKey list (length list) y × HaveOneKey y x
   here other = (
     x,
     record {
@@ -140,7 +140,7 @@ last_or_next list k x next at at_next rest = elim (cases_eq x.tag.object next.ta
   )
 
 -- the page at the end of the list is the last of its key
-last_at_end : (list : List Found) (k : ℕ) (x : Found) → slice_get list k ≡ Some x → length list ≤ k + 1 → (y : Found) × IsLastOfKey list (length list) y × HaveOneKey y x
+last_at_end : (list : List PageCopy) (k : ℕ) (x : PageCopy) → slice_get list k ≡ Some x → length list ≤ k + 1 → (y : PageCopy) × IsLastOfKey list (length list) y × HaveOneKey y x
 last_at_end list k x at past = (
   x,
   record {
@@ -153,26 +153,26 @@ last_at_end list k x at past = (
 )
 
 -- from each page on there is the last of its key
-last_from : (list : List Found) (left k : ℕ) (x : Found) → slice_get list k ≡ Some x → length list ≤ k + 1 + left
-    → (y : Found) × IsLastOfKey list (length list) y × HaveOneKey y x
+last_from : (list : List PageCopy) (left k : ℕ) (x : PageCopy) → slice_get list k ≡ Some x → length list ≤ k + 1 + left
+    → (y : PageCopy) × IsLastOfKey list (length list) y × HaveOneKey y x
 last_from list zero k x at near = last_at_end list k x at (omega (arith, near))
 last_from list (suc left) k x at near = elim (cases_lt (k + 1) (length list)) [
   | inr past ↦ last_at_end list k x at past
   | inl lt ↦
-      let next : Found = get_or list (k + 1) x in
+      let next : PageCopy = get_or list (k + 1) x in
       let at_next : slice_get list (k + 1) ≡ Some next = slice_get-get_or list (k + 1) x lt in
       last_or_next list k x next at at_next (last_from list left (k + 1) next at_next (omega (arith, near)))
 ]
 
 -- the last pages of the keys of a sorted list are the newest
-pub latest_of : (list sorted kept : List Found) → AreSorted list sorted → AreLastOfKeys sorted (length sorted) kept → AreLatest list kept
+pub latest_of : (list sorted kept : List PageCopy) → AreSorted list sorted → AreLastOfKeys sorted (length sorted) kept → AreLatest list kept
 latest_of list sorted kept order are = record {
   among = λ f has. let is = (are.each f).0 has in (order.each f).0 (has_index sorted is.index f is.here);
   last = λ f g has_f has_g one after.
       let is = (are.each f).0 has_f in
       let at = index_of sorted g ((order.each g).1 has_g) in
       elim (cases_order at.0 is.index) [
-        | inl same ↦ not_after_itself (spot_of f) (subst (λ x. IsAfter (spot_of x) (spot_of f)) (one_page sorted is.index g f (at_index sorted at.0 is.index g same at.1) is.here) after)
+        | inl same ↦ not_after_itself (spot_of_copy f) (subst (λ x. IsAfter (spot_of_copy x) (spot_of_copy f)) (one_page sorted is.index g f (at_index sorted at.0 is.index g same at.1) is.here) after)
         | inr (inl lt) ↦ elim (pair_at IsSortedBefore sorted at.0 is.index g f order.order lt at.1 is.here) [
           | inl before ↦ not_before_itself g f before one.0 one.1
           | inr same ↦ same.1 after

@@ -8,26 +8,26 @@ use Rattle.std.proofs.lemmas.List.{length-set, get_or_append_left, get_or-append
 use Rattle.std.proofs.lemmas.Option.{slice_get-get_or, slice_get_within}
 use Rattle.flash_tree.specs.Newest.{IsAfter}
 use Rattle.flash_tree.specs.laws.Order.{not_after_itself}
-use Rattle.flash_tree.specs.declared.place.Found.{Found}
-use Rattle.flash_tree.specs.Places.{spot_of}
+use Rattle.found_pages.specs.declared.copy.PageCopy.{PageCopy}
+use Rattle.found_pages.specs.Copies.{spot_of_copy}
 use Rattle.found_pages.specs.declared.bucket.Bucket.{Bucket}
 use Rattle.found_pages.specs.Keys.{HaveOneKey, HaveOtherKeys, Thins, AreLatest}
 use Rattle.found_pages.specs.Buckets.{bucket_of, pages_of, pages_in, AreApart}
 
 -- the page is in the bucket at this place
-pub record IsInBucket (bs : List Bucket) (k : ℕ) (f : Found) : Type 0 where
+pub record IsInBucket (bs : List Bucket) (k : ℕ) (f : PageCopy) : Type 0 where
   pub bucket : Bucket
   pub there : slice_get bs k ≡ Some bucket
   pub has : Contains (pages_of bucket) f
 
-pub in_pages : (bs : List Bucket) (k : ℕ) (b : Bucket) (f : Found) → slice_get bs k ≡ Some b → Contains (pages_of b) f → Contains (pages_in bs) f
+pub in_pages : (bs : List Bucket) (k : ℕ) (b : Bucket) (f : PageCopy) → slice_get bs k ≡ Some b → Contains (pages_of b) f → Contains (pages_in bs) f
 in_pages [] k b f at has = absurd cc
 in_pages (x ∷ bs) zero b f at has =
     let same : x ≡ b = cc in
     Contains-append_left (pages_of x) (pages_in bs) f (subst (λ (y : Bucket). Contains (pages_of y) f) (sym same) has)
 in_pages (x ∷ bs) (suc k) b f at has = Contains-append_right (pages_of x) (pages_in bs) f (in_pages bs k b f at has)
 
-pub of_pages : (bs : List Bucket) (f : Found) → Contains (pages_in bs) f → (k : ℕ) × IsInBucket bs k f
+pub of_pages : (bs : List Bucket) (f : PageCopy) → Contains (pages_in bs) f → (k : ℕ) × IsInBucket bs k f
 of_pages [] f has = absurd (omega (arith, has.1))
 of_pages (x ∷ bs) f has = elim (Contains-append_cases (pages_of x) (pages_in bs) f has) [
   | inl here ↦ (0, record { bucket = x; there = refl; has = here })
@@ -35,7 +35,7 @@ of_pages (x ∷ bs) f has = elim (Contains-append_cases (pages_of x) (pages_in b
 ]
 
 -- a page of a bucket is one of all
-all_of : (bs : List Bucket) (k : ℕ) (f : Found) → IsInBucket bs k f → Contains (pages_in bs) f
+all_of : (bs : List Bucket) (k : ℕ) (f : PageCopy) → IsInBucket bs k f → Contains (pages_in bs) f
 all_of bs k f is = in_pages bs k is.bucket f is.there is.has
 
 set_here : (bs : List Bucket) (k : ℕ) (old new : Bucket) → slice_get bs k ≡ Some old → slice_get (slice_set bs k new) k ≡ Some new
@@ -56,7 +56,7 @@ module _ (bs : List Bucket) (i : ℕ) (old new : Bucket) (at : slice_get bs i �
   others = slice_set bs i new
 
   -- a page of the new buckets is one of the new bucket, or of one of the others
-  now_in : (k : ℕ) (f : Found) → IsInBucket others k f → ((k ≡ i) × Contains (pages_of new) f) ⊎ ((k ≢ i) × IsInBucket bs k f)
+  now_in : (k : ℕ) (f : PageCopy) → IsInBucket others k f → ((k ≡ i) × Contains (pages_of new) f) ⊎ ((k ≢ i) × IsInBucket bs k f)
   now_in k f is = elim (cases_eq k i) [
     | inr ne ↦ inr (ne, record { bucket = is.bucket; there = sym (set_there bs i k new ne) ∙ is.there; has = is.has })
     | inl same ↦
@@ -66,7 +66,7 @@ module _ (bs : List Bucket) (i : ℕ) (old new : Bucket) (at : slice_get bs i �
         inl (same, subst (λ (b : Bucket). Contains (pages_of b) f) equal is.has)
   ]
 
-  was_in : (k : ℕ) (f : Found) → IsInBucket bs k f → ((k ≡ i) × Contains (pages_of old) f) ⊎ ((k ≢ i) × IsInBucket others k f)
+  was_in : (k : ℕ) (f : PageCopy) → IsInBucket bs k f → ((k ≡ i) × Contains (pages_of old) f) ⊎ ((k ≢ i) × IsInBucket others k f)
   was_in k f is = elim (cases_eq k i) [
     | inr ne ↦ inr (ne, record { bucket = is.bucket; there = set_there bs i k new ne ∙ is.there; has = is.has })
     | inl same ↦
@@ -76,14 +76,14 @@ module _ (bs : List Bucket) (i : ℕ) (old new : Bucket) (at : slice_get bs i �
         inl (same, subst (λ (b : Bucket). Contains (pages_of b) f) equal is.has)
   ]
 
-  in_new : (f : Found) → Contains (pages_of new) f → Contains (pages_in others) f
+  in_new : (f : PageCopy) → Contains (pages_of new) f → Contains (pages_in others) f
   in_new f has = in_pages others i new f (set_here bs i old new at) has
 
-  in_old : (f : Found) → Contains (pages_of old) f → Contains (pages_in bs) f
+  in_old : (f : PageCopy) → Contains (pages_of old) f → Contains (pages_in bs) f
   in_old f has = in_pages bs i old f at has
 
   -- pages are added to all, as they are to a bucket
-  pub set_thins : (added : List Found) → Thins added (pages_of old) (pages_of new) → Thins added (pages_in bs) (pages_in others)
+  pub set_thins : (added : List PageCopy) → Thins added (pages_of old) (pages_of new) → Thins added (pages_in bs) (pages_in others)
   set_thins added thins = record {
     among = λ f has.
         let is = of_pages others f has in
@@ -96,28 +96,28 @@ module _ (bs : List Bucket) (i : ℕ) (old new : Bucket) (at : slice_get bs i �
       | inl was ↦
           let is = of_pages bs g was in
           elim (was_in is.0 g is.1) [
-            | inr there ↦ (g, all_of others is.0 g there.1, (refl, refl), not_after_itself (spot_of g))
+            | inr there ↦ (g, all_of others is.0 g there.1, (refl, refl), not_after_itself (spot_of_copy g))
             | inl here ↦ moved g (thins.some g (inl here.1))
           ]
     ];
   } where
-    moved : (g : Found) → (f : Found) × Contains (pages_of new) f × HaveOneKey f g × (IsAfter (spot_of g) (spot_of f) → ⊥)
-        → (f : Found) × Contains (pages_in others) f × HaveOneKey f g × (IsAfter (spot_of g) (spot_of f) → ⊥)
+    moved : (g : PageCopy) → (f : PageCopy) × Contains (pages_of new) f × HaveOneKey f g × (IsAfter (spot_of_copy g) (spot_of_copy f) → ⊥)
+        → (f : PageCopy) × Contains (pages_in others) f × HaveOneKey f g × (IsAfter (spot_of_copy g) (spot_of_copy f) → ⊥)
     moved g was = (was.0, in_new was.0 was.1, was.2, was.3)
 
   -- each page is still in the bucket of its key
-  pub set_apart : AreApart bs → ((f : Found) → Contains (pages_of new) f → bucket_of f.tag.object f.tag.chunk ≡ i) → AreApart others
+  pub set_apart : AreApart bs → ((f : PageCopy) → Contains (pages_of new) f → bucket_of f.object f.chunk ≡ i) → AreApart others
   set_apart apart here k b f there has = elim (now_in k f (record { bucket = b; there = there; has = has })) [
     | inl is ↦ here f is.1 ∙ sym is.0
     | inr is ↦ apart k is.1.bucket f is.1.there is.1.has
   ]
 
 -- the pages of the bucket of a page that is added, and of the same keys
-pub added_apart : (bs : List Bucket) (i : ℕ) (old new : Bucket) (x : Found) → slice_get bs i ≡ Some old → i ≡ bucket_of x.tag.object x.tag.chunk
-    → ((f : Found) → Contains (pages_of new) f → Contains (pages_of old) f ⊎ (f ≡ x)) → AreApart bs → (f : Found) → Contains (pages_of new) f → bucket_of f.tag.object f.tag.chunk ≡ i
+pub added_apart : (bs : List Bucket) (i : ℕ) (old new : Bucket) (x : PageCopy) → slice_get bs i ≡ Some old → i ≡ bucket_of x.object x.chunk
+    → ((f : PageCopy) → Contains (pages_of new) f → Contains (pages_of old) f ⊎ (f ≡ x)) → AreApart bs → (f : PageCopy) → Contains (pages_of new) f → bucket_of f.object f.chunk ≡ i
 added_apart bs i old new x at place among apart f has = elim (among f has) [
   | inl was ↦ apart i old f at was
-  | inr same ↦ ap (λ (g : Found). bucket_of g.tag.object g.tag.chunk) same ∙ sym place
+  | inr same ↦ ap (λ (g : PageCopy). bucket_of g.object g.chunk) same ∙ sym place
 ]
 
 -- ---- each bucket
@@ -148,7 +148,7 @@ thinned_more old new n a b at latest thinned = record {
 }
 
 -- the pages of two lists are related as all pairs of both are, where those of each are and those across
-pairs_append : (R : Found → Found → Type 0) (xs ys : List Found) → AllPairs R xs → AllPairs R ys → ((x y : Found) → Contains xs x → Contains ys y → R x y) → AllPairs R (xs ++ ys)
+pairs_append : (R : PageCopy → PageCopy → Type 0) (xs ys : List PageCopy) → AllPairs R xs → AllPairs R ys → ((x y : PageCopy) → Contains xs x → Contains ys y → R x y) → AllPairs R (xs ++ ys)
 pairs_append R xs ys first next across i j d lt within = elim (cases_lt j (length xs)) [
   | inl low ↦
       let at_i : get_or (xs ++ ys) i d ≡ get_or xs i d = get_or_append_left xs ys d i (omega (arith, lt, low)) in
@@ -169,16 +169,16 @@ pairs_append R xs ys first next across i j d lt within = elim (cases_lt j (lengt
 ]
 
 -- each key stands once in each bucket, and in one bucket
-once : (bs : List Bucket) (n : ℕ) → ((k : ℕ) (b : Bucket) (f : Found) → slice_get bs k ≡ Some b → Contains (pages_of b) f → bucket_of f.tag.object f.tag.chunk ≡ n + k)
+once : (bs : List Bucket) (n : ℕ) → ((k : ℕ) (b : Bucket) (f : PageCopy) → slice_get bs k ≡ Some b → Contains (pages_of b) f → bucket_of f.object f.chunk ≡ n + k)
     → ((k : ℕ) (b : Bucket) → slice_get bs k ≡ Some b → AllPairs HaveOtherKeys (pages_of b)) → AllPairs HaveOtherKeys (pages_in bs)
 once [] n apart each = λ i j d lt within. absurd (omega (arith, within))
 once (b ∷ bs) n apart each = pairs_append HaveOtherKeys (pages_of b) (pages_in bs) (each 0 b refl)
     (once bs (n + 1) (λ k x f at has. apart (suc k) x f at has ∙ omega arith) (λ k x at. each (suc k) x at))
     (λ f g has_f has_g one.
     let is = of_pages bs g has_g in
-    let here : bucket_of f.tag.object f.tag.chunk ≡ n + 0 = apart 0 b f refl has_f in
-    let there : bucket_of g.tag.object g.tag.chunk ≡ n + suc is.0 = apart (suc is.0) is.1.bucket g is.1.there is.1.has in
-    let same : bucket_of f.tag.object f.tag.chunk ≡ bucket_of g.tag.object g.tag.chunk = ap (λ o. bucket_of o f.tag.chunk) one.0 ∙ ap (bucket_of g.tag.object) one.1 in
+    let here : bucket_of f.object f.chunk ≡ n + 0 = apart 0 b f refl has_f in
+    let there : bucket_of g.object g.chunk ≡ n + suc is.0 = apart (suc is.0) is.1.bucket g is.1.there is.1.has in
+    let same : bucket_of f.object f.chunk ≡ bucket_of g.object g.chunk = ap (λ o. bucket_of o f.chunk) one.0 ∙ ap (bucket_of g.object) one.1 in
     absurd (omega (arith, here, there, same)))
 
 module _ (old new : List Bucket) (n : ℕ) (end : length old ≤ n) (apart : AreApart old) (thinned : AreThinned old new n) where
@@ -197,18 +197,18 @@ module _ (old new : List Bucket) (n : ℕ) (end : length old ≤ n) (apart : Are
       let at_b : slice_get new k ≡ Some b = slice_get-get_or new k a (omega (arith, within, thinned.len)) in
       (b, at_b, thinned.done k a b (omega (arith, within, end)) at at_b)
 
-  was_there : (k : ℕ) (f : Found) → IsInBucket new k f → IsInBucket old k f
+  was_there : (k : ℕ) (f : PageCopy) → IsInBucket new k f → IsInBucket old k f
   was_there k f is = let was = before k is.bucket is.there in record { bucket = was.0; there = was.1; has = was.2.among f is.has }
 
   -- the buckets are still apart
   pub thinned_apart : AreApart new
   thinned_apart k b f at has = let was = was_there k f (record { bucket = b; there = at; has = has }) in apart k was.bucket f was.there was.has
 
-  one_bucket : (j k : ℕ) (f g : Found) → IsInBucket old j f → IsInBucket old k g → HaveOneKey f g → k ≡ j
+  one_bucket : (j k : ℕ) (f g : PageCopy) → IsInBucket old j f → IsInBucket old k g → HaveOneKey f g → k ≡ j
   one_bucket j k f g in_f in_g one =
-      sym (apart k in_g.bucket g in_g.there in_g.has) ∙ sym (ap (λ o. bucket_of o f.tag.chunk) one.0 ∙ ap (bucket_of g.tag.object) one.1) ∙ apart j in_f.bucket f in_f.there in_f.has
+      sym (apart k in_g.bucket g in_g.there in_g.has) ∙ sym (ap (λ o. bucket_of o f.chunk) one.0 ∙ ap (bucket_of g.object) one.1) ∙ apart j in_f.bucket f in_f.there in_f.has
 
-  last_of : (j : ℕ) (f g : Found) → IsInBucket new j f → IsInBucket old j g → HaveOneKey g f → IsAfter (spot_of g) (spot_of f) → ⊥
+  last_of : (j : ℕ) (f g : PageCopy) → IsInBucket new j f → IsInBucket old j g → HaveOneKey g f → IsAfter (spot_of_copy g) (spot_of_copy f) → ⊥
   last_of j f g is was one later =
       let there = before j is.bucket is.there in
       let two : Some there.0 ≡ Some was.bucket = sym there.1 ∙ was.there in
@@ -233,7 +233,7 @@ module _ (old new : List Bucket) (n : ℕ) (end : length old ≤ n) (apart : Are
   }
 
 -- buckets without pages have none
-pub none_listed : (bs : List Bucket) → ((k : ℕ) (b : Bucket) → slice_get bs k ≡ Some b → pages_of b ≡ []) → (f : Found) → Contains (pages_in bs) f → ⊥
+pub none_listed : (bs : List Bucket) → ((k : ℕ) (b : Bucket) → slice_get bs k ≡ Some b → pages_of b ≡ []) → (f : PageCopy) → Contains (pages_in bs) f → ⊥
 none_listed bs none f has =
     let is = of_pages bs f has in
     let empty : Contains [] f = subst (λ xs. Contains xs f) (none is.0 is.1.bucket is.1.there) is.1.has in
@@ -254,7 +254,7 @@ none_more (y ∷ bs) x empty none (suc k) b at = none_more bs x empty (λ j c th
 pub bucket_there : (bs : List Bucket) (i : ℕ) (b : Bucket) → i < length bs → b ≡ get_or bs i b → slice_get bs i ≡ Some b
 bucket_there bs i b lt is = slice_get-get_or bs i b lt ∙ ap Some (sym is)
 
-pub ok_thins : {T E : Type 0} (result : Result T E) (bs : List Bucket) (i : ℕ) (old new : Bucket) (x : Found) → slice_get bs i ≡ Some old
+pub ok_thins : {T E : Type 0} (result : Result T E) (bs : List Bucket) (i : ℕ) (old new : Bucket) (x : PageCopy) → slice_get bs i ≡ Some old
     → OnOk result (Thins (x ∷ []) (pages_of old) (pages_of new)) → OnOk result (Thins (x ∷ []) (pages_in bs) (pages_in (slice_set bs i new)))
 ok_thins (Ok done) bs i old new x at thins = set_thins bs i old new at (x ∷ []) thins
 ok_thins (Err error) bs i old new x at thins = tt

@@ -12,25 +12,25 @@ use Rattle.std.proofs.lemmas.Cmp.{ranked, then_total, on_total, nat_cmp_total, t
 use Rattle.std.proofs.lemmas.List.MinMax.{ranks_by}
 use Rattle.std.proofs.lemmas.List.Sorted.{sorted_far, Contains-permutation, IsPermutation-sym}
 use Rattle.flash_tree.specs.Newest.{IsAfter}
-use Rattle.flash_tree.specs.declared.place.Found.{Found}
-use Rattle.flash_tree.specs.Places.{spot_of}
+use Rattle.found_pages.specs.declared.copy.PageCopy.{PageCopy}
+use Rattle.found_pages.specs.Copies.{spot_of_copy}
 use Rattle.found_pages.specs.Keys.{IsSortedBefore}
 
 -- the same pages, in the order by key, and those of one key from the oldest to the newest
-pub record AreSorted (list sorted : List Found) : Type 0 where
-  pub each : (f : Found) → Contains sorted f ↔ Contains list f
+pub record AreSorted (list sorted : List PageCopy) : Type 0 where
+  pub each : (f : PageCopy) → Contains sorted f ↔ Contains list f
   pub order : AllPairs IsSortedBefore sorted
 
 -- how two pages compare by their ranks
-abbrev pub rank_cmp : Found → Found → Ordering
+abbrev pub rank_cmp : PageCopy → PageCopy → Ordering
 rank_cmp x y =
-    ordering_then (ordering_then (ordering_then (ordering_then (ordering_then (nat_cmp x.tag.object y.tag.object) (nat_cmp x.tag.chunk y.tag.chunk))
-    (nat_cmp x.tag.version y.tag.version)) (nat_cmp x.tag.seq y.tag.seq)) (nat_cmp x.page y.page)) (nat_cmp x.block y.block)
+    ordering_then (ordering_then (ordering_then (ordering_then (ordering_then (nat_cmp x.object y.object) (nat_cmp x.chunk y.chunk))
+    (nat_cmp x.version y.version)) (nat_cmp x.seq y.seq)) (nat_cmp x.page y.page)) (nat_cmp x.block y.block)
 
 rank_total : IsTotalOrder rank_cmp
 rank_total = then_total (then_total (then_total (then_total (then_total
-    (on_total (λ (x : Found). x.tag.object) nat_cmp_total) (on_total (λ (x : Found). x.tag.chunk) nat_cmp_total)) (on_total (λ (x : Found). x.tag.version) nat_cmp_total))
-    (on_total (λ (x : Found). x.tag.seq) nat_cmp_total)) (on_total (λ (x : Found). x.page) nat_cmp_total)) (on_total (λ (x : Found). x.block) nat_cmp_total)
+    (on_total (λ (x : PageCopy). x.object) nat_cmp_total) (on_total (λ (x : PageCopy). x.chunk) nat_cmp_total)) (on_total (λ (x : PageCopy). x.version) nat_cmp_total))
+    (on_total (λ (x : PageCopy). x.seq) nat_cmp_total)) (on_total (λ (x : PageCopy). x.page) nat_cmp_total)) (on_total (λ (x : PageCopy). x.block) nat_cmp_total)
 
 up_to : (x y : ℕ) (s : Ordering) → MatchOrdering s (x < y) (x ≡ y) (y < x) → is_lt s ≡ false → y ≤ x
 up_to x y Less is least = absurd cc
@@ -53,34 +53,34 @@ tied_on : (r : Ordering) (x y : ℕ) → r ≡ Equal → x ≡ y → ordering_th
 tied_on r x y first same = ap (λ s. ordering_then s (nat_cmp x y)) first ∙ tied x y same
 
 -- each number is at most its other where all numbers before it are equal
-record IsUpTo (y x : Found) : Type 0 where
-  object : y.tag.object ≤ x.tag.object
-  chunk : x.tag.object ≡ y.tag.object → y.tag.chunk ≤ x.tag.chunk
-  version : x.tag.object ≡ y.tag.object → x.tag.chunk ≡ y.tag.chunk → y.tag.version ≤ x.tag.version
-  seq : x.tag.object ≡ y.tag.object → x.tag.chunk ≡ y.tag.chunk → x.tag.version ≡ y.tag.version → y.tag.seq ≤ x.tag.seq
-  page : x.tag.object ≡ y.tag.object → x.tag.chunk ≡ y.tag.chunk → x.tag.version ≡ y.tag.version → x.tag.seq ≡ y.tag.seq → y.page ≤ x.page
-  block : x.tag.object ≡ y.tag.object → x.tag.chunk ≡ y.tag.chunk → x.tag.version ≡ y.tag.version → x.tag.seq ≡ y.tag.seq → x.page ≡ y.page → y.block ≤ x.block
+record IsUpTo (y x : PageCopy) : Type 0 where
+  object : y.object ≤ x.object
+  chunk : x.object ≡ y.object → y.chunk ≤ x.chunk
+  version : x.object ≡ y.object → x.chunk ≡ y.chunk → y.version ≤ x.version
+  seq : x.object ≡ y.object → x.chunk ≡ y.chunk → x.version ≡ y.version → y.seq ≤ x.seq
+  page : x.object ≡ y.object → x.chunk ≡ y.chunk → x.version ≡ y.version → x.seq ≡ y.seq → y.page ≤ x.page
+  block : x.object ≡ y.object → x.chunk ≡ y.chunk → x.version ≡ y.version → x.seq ≡ y.seq → x.page ≡ y.page → y.block ≤ x.block
 
-is_up_to : (x y : Found) → is_lt (rank_cmp x y) ≡ false → IsUpTo y x
+is_up_to : (x y : PageCopy) → is_lt (rank_cmp x y) ≡ false → IsUpTo y x
 is_up_to x y least =
-    let one : Ordering = nat_cmp x.tag.object y.tag.object in
-    let two : Ordering = ordering_then one (nat_cmp x.tag.chunk y.tag.chunk) in
-    let three : Ordering = ordering_then two (nat_cmp x.tag.version y.tag.version) in
-    let four : Ordering = ordering_then three (nat_cmp x.tag.seq y.tag.seq) in
+    let one : Ordering = nat_cmp x.object y.object in
+    let two : Ordering = ordering_then one (nat_cmp x.chunk y.chunk) in
+    let three : Ordering = ordering_then two (nat_cmp x.version y.version) in
+    let four : Ordering = ordering_then three (nat_cmp x.seq y.seq) in
     let five : Ordering = ordering_then four (nat_cmp x.page y.page) in
     let at_five = not_less_on five x.block y.block least in
     let at_four = not_less_on four x.page y.page at_five.0 in
-    let at_three = not_less_on three x.tag.seq y.tag.seq at_four.0 in
-    let at_two = not_less_on two x.tag.version y.tag.version at_three.0 in
-    let at_one = not_less_on one x.tag.chunk y.tag.chunk at_two.0 in
-    let tied_one : x.tag.object ≡ y.tag.object → one ≡ Equal = tied x.tag.object y.tag.object in
-    let tied_two : x.tag.object ≡ y.tag.object → x.tag.chunk ≡ y.tag.chunk → two ≡ Equal = λ o c. tied_on one x.tag.chunk y.tag.chunk (tied_one o) c in
-    let tied_three : x.tag.object ≡ y.tag.object → x.tag.chunk ≡ y.tag.chunk → x.tag.version ≡ y.tag.version → three ≡ Equal =
-    λ o c v. tied_on two x.tag.version y.tag.version (tied_two o c) v in
-    let tied_four : x.tag.object ≡ y.tag.object → x.tag.chunk ≡ y.tag.chunk → x.tag.version ≡ y.tag.version → x.tag.seq ≡ y.tag.seq → four ≡ Equal =
-    λ o c v s. tied_on three x.tag.seq y.tag.seq (tied_three o c v) s in
+    let at_three = not_less_on three x.seq y.seq at_four.0 in
+    let at_two = not_less_on two x.version y.version at_three.0 in
+    let at_one = not_less_on one x.chunk y.chunk at_two.0 in
+    let tied_one : x.object ≡ y.object → one ≡ Equal = tied x.object y.object in
+    let tied_two : x.object ≡ y.object → x.chunk ≡ y.chunk → two ≡ Equal = λ o c. tied_on one x.chunk y.chunk (tied_one o) c in
+    let tied_three : x.object ≡ y.object → x.chunk ≡ y.chunk → x.version ≡ y.version → three ≡ Equal =
+    λ o c v. tied_on two x.version y.version (tied_two o c) v in
+    let tied_four : x.object ≡ y.object → x.chunk ≡ y.chunk → x.version ≡ y.version → x.seq ≡ y.seq → four ≡ Equal =
+    λ o c v s. tied_on three x.seq y.seq (tied_three o c v) s in
     record {
-      object = not_less x.tag.object y.tag.object at_one.0;
+      object = not_less x.object y.object at_one.0;
       chunk = λ o. at_one.1 (tied_one o);
       version = λ o c. at_two.1 (tied_two o c);
       seq = λ o c v. at_three.1 (tied_three o c v);
@@ -89,7 +89,7 @@ is_up_to x y least =
     }
 
 -- within one key the later of two pages has the later place
-not_after : (x y : Found) → IsUpTo y x → x.tag.object ≡ y.tag.object → x.tag.chunk ≡ y.tag.chunk → IsAfter (spot_of y) (spot_of x) → ⊥
+not_after : (x y : PageCopy) → IsUpTo y x → x.object ≡ y.object → x.chunk ≡ y.chunk → IsAfter (spot_of_copy y) (spot_of_copy x) → ⊥
 not_after x y up o c after = elim after [
   | inl lt ↦ absurd (omega (arith, lt, up.version o c))
   | inr (v, rest) ↦ elim rest [
@@ -101,13 +101,13 @@ not_after x y up o c after = elim after [
   ]
 ]
 
-sorted_before : (x y : Found) → is_lt (rank_cmp x y) ≡ false → IsSortedBefore y x
+sorted_before : (x y : PageCopy) → is_lt (rank_cmp x y) ≡ false → IsSortedBefore y x
 sorted_before x y least =
     let up : IsUpTo y x = is_up_to x y least in
-    elim (cases_order y.tag.object x.tag.object) [
+    elim (cases_order y.object x.object) [
       | inr (inl lt) ↦ inl (inl lt)
       | inr (inr gt) ↦ absurd (omega (arith, gt, up.object))
-      | inl o ↦ elim (cases_order y.tag.chunk x.tag.chunk) [
+      | inl o ↦ elim (cases_order y.chunk x.chunk) [
         | inr (inl lt) ↦ inl (inr (o, lt))
         | inr (inr gt) ↦ absurd (omega (arith, gt, up.chunk (sym o)))
         | inl c ↦ inr ((o, c), not_after x y up (sym o) (sym c))
@@ -115,7 +115,7 @@ sorted_before x y least =
     ]
 
 -- what a sort by the ranks leaves
-pub sorted_by_rank : (list new : List Found) → IsPermutation list new → IsSortedBy (λ x y. is_lt (rank_cmp x y)) new → AreSorted list new
+pub sorted_by_rank : (list new : List PageCopy) → IsPermutation list new → IsSortedBy (λ x y. is_lt (rank_cmp x y)) new → AreSorted list new
 sorted_by_rank list new moved up = record {
   each = λ f. (Contains-permutation new list f (IsPermutation-sym list new moved), Contains-permutation list new f moved);
   order = λ i j d lt within. sorted_before (get_or new j d) (get_or new i d)

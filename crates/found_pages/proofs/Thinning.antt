@@ -1,27 +1,28 @@
 -- Pages that are added, and others that go.
-use Rattle.std.specs.Prelude.{◌≡◌, ◌⊎◌, ◌<◌, ◌+◌, ℕ, List, [], ◌∷◌, ◌++◌, length, take, Contains}
+use Rattle.std.specs.Prelude.{◌≡◌, ◌⊎◌, ◌<◌, ◌+◌, ℕ, List, [], ◌∷◌, ◌++◌, length, map, take, Contains}
 use Rattle.std.proofs.Common.{refl, sym, ◌∙◌, ap, subst, inl, inr, arith, get_or}
 use Rattle.std.proofs.lemmas.List.Elements.{Contains-append_left, Contains-append_right, Contains-push, Contains-push_cases}
-use Rattle.std.proofs.lemmas.List.{take_more}
+use Rattle.std.proofs.lemmas.List.{take_more, map-append}
 use Rattle.flash_tree.specs.Newest.{IsAfter}
 use Rattle.flash_tree.specs.laws.Order.{not_after_itself}
+use Rattle.found_pages.specs.declared.copy.PageCopy.{PageCopy}
 use Rattle.flash_tree.specs.declared.place.Found.{Found}
-use Rattle.flash_tree.specs.Places.{spot_of}
+use Rattle.found_pages.specs.Copies.{copy_of, spot_of_copy}
 use Rattle.found_pages.specs.Keys.{HaveOneKey, Thins, AreLatest}
 use Rattle.found_pages.specs.laws.Order.{not_after_on}
 
-none_in : (f : Found) → Contains [] f → ⊥
+none_in : (f : PageCopy) → Contains [] f → ⊥
 none_in f has = absurd (omega (arith, has.1))
 
 -- nothing is added, and nothing goes
-pub thins_none : (list : List Found) → Thins [] list list
+pub thins_none : (list : List PageCopy) → Thins [] list list
 thins_none list = record {
   among = λ f has. inl has;
-  some = λ g has. elim has [ inl was ↦ (g, was, (refl, refl), not_after_itself (spot_of g)) | inr is ↦ absurd (none_in g is) ];
+  some = λ g has. elim has [ inl was ↦ (g, was, (refl, refl), not_after_itself (spot_of_copy g)) | inr is ↦ absurd (none_in g is) ];
 }
 
 -- the latest are left
-pub thins_latest : (old new : List Found) → AreLatest old new → Thins [] old new
+pub thins_latest : (old new : List PageCopy) → AreLatest old new → Thins [] old new
 thins_latest old new latest = record {
   among = λ f has. inl (latest.among f has);
   some = λ g has. elim has [
@@ -33,25 +34,25 @@ thins_latest old new latest = record {
 }
 
 -- a page is added behind the others
-pub thins_push : (old : List Found) (x : Found) → Thins (x ∷ []) old (old ++ x ∷ [])
+pub thins_push : (old : List PageCopy) (x : PageCopy) → Thins (x ∷ []) old (old ++ x ∷ [])
 thins_push old x = record {
   among = λ f has. elim (Contains-push_cases old x f has) [ inl was ↦ inl was | inr same ↦ inr (0, omega arith, same) ];
   some = λ g has. elim has [
-    | inl was ↦ (g, Contains-append_left old (x ∷ []) g was, (refl, refl), not_after_itself (spot_of g))
+    | inl was ↦ (g, Contains-append_left old (x ∷ []) g was, (refl, refl), not_after_itself (spot_of_copy g))
     | inr is ↦ elim (Contains-push_cases [] x g is) [
       | inl none ↦ absurd (none_in g none)
       | inr same ↦ (x, Contains-push old x, one_key x g same, not_after_same x g same)
     ]
   ];
 } where
-  one_key : (x g : Found) → x ≡ g → HaveOneKey x g
-  one_key x g same = (λ i. (same i).tag.object, λ i. (same i).tag.chunk)
+  one_key : (x g : PageCopy) → x ≡ g → HaveOneKey x g
+  one_key x g same = (λ i. (same i).object, λ i. (same i).chunk)
 
-  not_after_same : (x g : Found) → x ≡ g → IsAfter (spot_of g) (spot_of x) → ⊥
-  not_after_same x g same = subst (λ (y : Found). IsAfter (spot_of y) (spot_of x) → ⊥) same (not_after_itself (spot_of x))
+  not_after_same : (x g : PageCopy) → x ≡ g → IsAfter (spot_of_copy g) (spot_of_copy x) → ⊥
+  not_after_same x g same = subst (λ (y : PageCopy). IsAfter (spot_of_copy y) (spot_of_copy x) → ⊥) same (not_after_itself (spot_of_copy x))
 
 -- some pages are added, and then others
-pub thins_on : (a b c old mid new : List Found) → ((f : Found) → Contains c f → Contains a f ⊎ Contains b f) → ((f : Found) → Contains a f ⊎ Contains b f → Contains c f)
+pub thins_on : (a b c old mid new : List PageCopy) → ((f : PageCopy) → Contains c f → Contains a f ⊎ Contains b f) → ((f : PageCopy) → Contains a f ⊎ Contains b f → Contains c f)
     → Thins a old mid → Thins b mid new → Thins c old new
 thins_on a b c old mid new split join first next = record {
   among = λ f has. elim (next.among f has) [
@@ -63,32 +64,35 @@ thins_on a b c old mid new split join first next = record {
     | inr is ↦ elim (split g is) [ inl in_a ↦ later g (first.some g (inr in_a)) | inr in_b ↦ next.some g (inr in_b) ]
   ];
 } where
-  later : (g : Found) → (f : Found) × Contains mid f × HaveOneKey f g × (IsAfter (spot_of g) (spot_of f) → ⊥)
-      → (f : Found) × Contains new f × HaveOneKey f g × (IsAfter (spot_of g) (spot_of f) → ⊥)
+  later : (g : PageCopy) → (f : PageCopy) × Contains mid f × HaveOneKey f g × (IsAfter (spot_of_copy g) (spot_of_copy f) → ⊥)
+      → (f : PageCopy) × Contains new f × HaveOneKey f g × (IsAfter (spot_of_copy g) (spot_of_copy f) → ⊥)
   later g was =
       let then = next.some was.0 (inl was.1) in
-      (then.0, then.1, (then.2.0 ∙ was.2.0, then.2.1 ∙ was.2.1), not_after_on (spot_of g) (spot_of was.0) (spot_of then.0) was.3 then.3)
+      (then.0, then.1, (then.2.0 ∙ was.2.0, then.2.1 ∙ was.2.1), not_after_on (spot_of_copy g) (spot_of_copy was.0) (spot_of_copy then.0) was.3 then.3)
 
 -- where none is added, what is left was there
-pub among_old : (old new : List Found) → Thins [] old new → (f : Found) → Contains new f → Contains old f
+pub among_old : (old new : List PageCopy) → Thins [] old new → (f : PageCopy) → Contains new f → Contains old f
 among_old old new thins f has = elim (thins.among f has) [ inl was ↦ was | inr none ↦ absurd (none_in f none) ]
 
 -- and where one is put behind the others, was there or is that one
-pub one_or_none : (old mid : List Found) (x : Found) → Thins [] old mid → (f : Found) → Contains (mid ++ x ∷ []) f → Contains old f ⊎ (f ≡ x)
+pub one_or_none : (old mid : List PageCopy) (x : PageCopy) → Thins [] old mid → (f : PageCopy) → Contains (mid ++ x ∷ []) f → Contains old f ⊎ (f ≡ x)
 one_or_none old mid x thins f has = elim (Contains-push_cases mid x f has) [
   | inl was ↦ inl (among_old old mid thins f was)
   | inr same ↦ inr (sym same)
 ]
 
--- the first pages of a list were added, and then the next one
-pub thins_next : (added old mid new : List Found) (i : ℕ) (x : Found) → i < length added → get_or added i x ≡ x → Thins (take i added) old mid → Thins (x ∷ []) mid new → Thins (take (i + 1) added) old new
-thins_next added old mid new i x lt at first next =
-    let more : take (i + 1) added ≡ take i added ++ x ∷ [] = take_more added i x lt ∙ ap (λ y. take i added ++ y ∷ []) at in
-    subst (λ list. Thins list old new) (sym more)
-    (thins_on (take i added) (x ∷ []) (take i added ++ x ∷ []) old mid new
-    (λ f has. elim (Contains-push_cases (take i added) x f has) [ inl was ↦ inl was | inr same ↦ inr (0, omega arith, same) ])
-    (λ f has. elim has [
-      | inl was ↦ Contains-append_left (take i added) (x ∷ []) f was
-      | inr is ↦ Contains-append_right (take i added) (x ∷ []) f is
-    ])
-    first next)
+-- some pages were added, and then one more
+thins_more : (added old mid new : List PageCopy) (x : PageCopy) → Thins added old mid → Thins (x ∷ []) mid new → Thins (added ++ x ∷ []) old new
+thins_more added old mid new x first next = thins_on added (x ∷ []) (added ++ x ∷ []) old mid new
+    (λ f has. elim (Contains-push_cases added x f has) [ inl was ↦ inl was | inr same ↦ inr (0, omega arith, same) ])
+    (λ f has. elim has [ inl was ↦ Contains-append_left added (x ∷ []) f was | inr is ↦ Contains-append_right added (x ∷ []) f is ])
+    first next
+
+-- the first pages of a list were added, and then the copy of the next one
+pub thins_next : (added : List Found) (old mid new : List PageCopy) (i : ℕ) (x : Found) (y : PageCopy) → i < length added → get_or added i x ≡ x → y ≡ copy_of x
+    → Thins (map copy_of (take i added)) old mid → Thins (y ∷ []) mid new → Thins (map copy_of (take (i + 1) added)) old new
+thins_next added old mid new i x y lt at copied first next =
+    let more : take (i + 1) added ≡ take i added ++ x ∷ [] = take_more added i x lt ∙ ap (λ z. take i added ++ z ∷ []) at in
+    let copies : map copy_of (take (i + 1) added) ≡ map copy_of (take i added) ++ y ∷ [] =
+    ap (map copy_of) more ∙ map-append copy_of (take i added) (x ∷ []) ∙ ap (λ z. map copy_of (take i added) ++ z ∷ []) (sym copied) in
+    subst (λ list. Thins list old new) (sym copies) (thins_more (map copy_of (take i added)) old mid new y first next)

@@ -1,3 +1,4 @@
+pub mod Copies
 pub mod Keys
 pub mod Buckets
 pub mod Listed

@@ -2,14 +2,14 @@
 ghost use Rattle.std.specs.Prelude.{◌≡◌, ◌⊎◌, [], ◌∷◌, OnOk, Contains};
 ghost use Rattle.found_pages.specs.Keys.{Thins, AreLatest};
 
+use crate::copy::PageCopy;
 use crate::newest::keep_newest;
-use flash_tree::Found;
 use std::alloc::{AllocError, Global};
 
 /// The pages of some keys. Of each key they have the newest page that was found, and may have others.
 #[derive(Drop)]
 pub struct Bucket {
-    pub(crate) pages: Vec<Found>,
+    pub(crate) pages: Vec<PageCopy>,
     // How many pages there were when there was one of each key last.
     kept: usize,
 }
@@ -28,15 +28,15 @@ impl Bucket {
     }
 
     /// The pages.
-    pub fn pages(&self) -> &[Found]
+    pub fn pages(&self) -> &[PageCopy]
         ensures { result.now ≡ pages_of self.now }
     {
         &self.pages
     }
 
     /// Adds a page. Others may go that are not the newest of their keys.
-    pub(crate) fn add(&mut self, found: Found) -> Result<(), AllocError>
-        ensures among { (f : Found) → Contains (pages_of self.new) f → Contains (pages_of self.old) f ⊎ (f ≡ found) }
+    pub(crate) fn add(&mut self, found: PageCopy) -> Result<(), AllocError>
+        ensures among { (f : PageCopy) → Contains (pages_of self.new) f → Contains (pages_of self.old) f ⊎ (f ≡ found) }
         ensures added { OnOk result (Thins (found ∷ []) (pages_of self.old) (pages_of self.new)) }
     {
         self.make_room()?;

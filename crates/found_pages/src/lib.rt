@@ -2,8 +2,10 @@
 #![tactic(auto)]
 
 mod bucket;
+mod copy;
 mod newest;
 mod pages;
 
 pub use bucket::Bucket;
+pub use copy::PageCopy;
 pub use pages::{BUCKETS, FoundPages};

@@ -3,41 +3,40 @@ ghost use Rattle.std.specs.Prelude.{◌≡◌, ◌+◌, ◌<◌, ◌≤◌, ◌�
 ghost use Rattle.std.specs.List.{AllPairs};
 ghost use Rattle.found_pages.specs.Keys.{rank_of, IsLastAt, IsSortedBefore, Gathers, AreLatest};
 
-use flash_tree::Found;
+use crate::copy::PageCopy;
 
 /// What pages are sorted by: the key, and then what orders the pages of one key.
-fn rank(found: &Found) -> (u64, u64, u64, u64, u32, u32)
+fn rank(found: &PageCopy) -> (u64, u64, u64, u64, u32, u32)
     ensures { result ≡ rank_of found.now }
 {
-    let tag = &found.tag;
     (
-        tag.object,
-        tag.chunk,
-        tag.version,
-        tag.seq,
+        found.object,
+        found.chunk,
+        found.version,
+        found.seq,
         found.page,
         found.block,
     )
 }
 
 /// Whether the next page, if any, has another key.
-fn is_last_of_key(sorted: &[Found], i: usize) -> bool
+fn is_last_of_key(sorted: &[PageCopy], i: usize) -> bool
     requires { i < length sorted.now }
     ensures { IsTrue result ↔ IsLastAt sorted.now i }
 {
-    let tag = &sorted[i].tag;
+    let here = &sorted[i];
     match sorted.get(i + 1) {
-        Some(next) => next.tag.object != tag.object || next.tag.chunk != tag.chunk,
+        Some(next) => next.object != here.object || next.chunk != here.chunk,
         None => true,
     }
 }
 
 /// Moves a page to the end of the `kept` ones in front, if it is the last of its key, and tells how many these are
 /// then.
-fn gather_at(sorted: &mut Vec<Found>, i: usize, kept: usize) -> usize
+fn gather_at(sorted: &mut Vec<PageCopy>, i: usize, kept: usize) -> usize
     requires i { i < length sorted.old.items }
     requires kept { kept ≤ i }
-    ensures { (first : List Found) → AllPairs IsSortedBefore first → Gathers first i sorted.old.items kept → Gathers first (i + 1) sorted.new.items result }
+    ensures { (first : List PageCopy) → AllPairs IsSortedBefore first → Gathers first i sorted.old.items kept → Gathers first (i + 1) sorted.new.items result }
 {
     if is_last_of_key(sorted, i) {
         sorted[kept] = sorted[i];
@@ -48,7 +47,7 @@ fn gather_at(sorted: &mut Vec<Found>, i: usize, kept: usize) -> usize
 }
 
 /// Moves the last page of each key to the front, and tells how many these are.
-fn gather_last(sorted: &mut Vec<Found>) -> usize
+fn gather_last(sorted: &mut Vec<PageCopy>) -> usize
     requires { AllPairs IsSortedBefore sorted.old.items }
     ensures { Gathers sorted.old.items (length sorted.old.items) sorted.new.items result }
 {
@@ -60,7 +59,7 @@ fn gather_last(sorted: &mut Vec<Found>) -> usize
 }
 
 /// Keeps of the pages of each key the newest, and takes no memory.
-pub(crate) fn keep_newest(list: &mut Vec<Found>)
+pub(crate) fn keep_newest(list: &mut Vec<PageCopy>)
     ensures { AreLatest list.old.items list.new.items }
 {
     list.sort_unstable_by_key(rank);

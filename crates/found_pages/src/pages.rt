@@ -1,9 +1,11 @@
 // The pages that were found.
-ghost use Rattle.std.specs.Prelude.{◌≡◌, ◌<◌, ℕ, [], ◌∷◌, Some, IfOk, OnOk, length, slice_get, Contains};
+ghost use Rattle.std.specs.Prelude.{◌≡◌, ◌<◌, ℕ, [], ◌∷◌, map, Some, IfOk, OnOk, length, slice_get, Contains};
+ghost use Rattle.found_pages.specs.Copies.{copy_of};
 ghost use Rattle.found_pages.specs.Keys.{Thins, AreLatest};
-ghost use Rattle.found_pages.specs.Buckets.{bucket_of, pages_of, AreApart};
+ghost use Rattle.found_pages.specs.Buckets.{reversed, bucket_of, pages_of, AreApart};
 
 use crate::bucket::Bucket;
+use crate::copy::PageCopy;
 use flash_tree::{Found, Key};
 use std::alloc::{AllocError, Global};
 use std::mem;
@@ -21,13 +23,26 @@ pub struct FoundPages {
     ghost apart: { AreApart buckets.items },
 }
 
-/// The bucket of a key: objects in turn have the chunks below 1,024 in one of the first, and those above in one of the others.
+/// The number whose bits are the lowest five of an object's number in reverse.
+fn reversed(object: u64) -> u64
+    ensures reversed { result ≡ reversed object }
+    ensures within { result < 32 }
+{
+    let high = object % 2 * 16 + object / 2 % 2 * 8;
+    high + object / 4 % 2 * 4 + object / 8 % 2 * 2 + object / 16 % 2
+}
+
+/// The bucket of a key: one of the first 32 has the chunks below 1,024 of an object, and one of the others those above.
+///
+/// The index of the newest pages takes the buckets in turn. Of the objects whose numbers follow each other every sixteenth is in two
+/// buckets that stand next to each other, then every eighth in four, and so on: the objects that come later lie between those that
+/// came before, and fill the nodes of a B-tree. Where they came in order, a node would stay half full once it was split.
 fn bucket_of(key: Key) -> usize
     ensures bucket { result ≡ bucket_of key.object key.chunk }
     ensures within { result < 64 }
 {
     if key.chunk < 1024 {
-        (key.object % 32) as usize
+        reversed(key.object) as usize
     } else {
         (32 + key.chunk / 1024 % 32) as usize
     }
@@ -38,7 +53,7 @@ impl FoundPages {
 
     /// There are none.
     pub fn new(alloc: Global) -> Result<FoundPages, AllocError>
-        ensures { IfOk result (λ pages. (f : Found) → Contains (listed pages) f → ⊥) }
+        ensures { IfOk result (λ pages. (f : PageCopy) → Contains (listed pages) f → ⊥) }
     {
         let mut buckets = Vec::with_capacity(alloc, BUCKETS)?;
         for _bucket in 0..BUCKETS {
@@ -48,22 +63,22 @@ impl FoundPages {
     }
 
     /// Adds a page. Others may go that are not the newest of their keys.
-    pub fn add(&mut self, found: Found) -> Result<(), AllocError>
+    pub fn add(&mut self, found: PageCopy) -> Result<(), AllocError>
         ensures { OnOk result (Thins (found ∷ []) (listed self.old) (listed self.new)) }
     {
         let key = Key {
-            object: found.tag.object,
-            chunk: found.tag.chunk,
+            object: found.object,
+            chunk: found.chunk,
         };
         self.buckets[bucket_of(key)].add(found)
     }
 
     /// Adds some pages.
     pub fn add_all(&mut self, found: &[Found]) -> Result<(), AllocError>
-        ensures { OnOk result (Thins found.now (listed self.old) (listed self.new)) }
+        ensures { OnOk result (Thins (map copy_of found.now) (listed self.old) (listed self.new)) }
     {
         for page in found {
-            self.add(*page)?;
+            self.add(PageCopy::of(page))?;
         }
         Ok(())
     }
@@ -78,7 +93,7 @@ impl FoundPages {
     }
 
     /// The pages of a bucket.
-    pub fn bucket(&self, at: usize) -> &[Found]
+    pub fn bucket(&self, at: usize) -> &[PageCopy]
         requires { at < 64 }
         ensures { result.now ≡ bucket_at self.now at }
     {

@@ -4,7 +4,8 @@ use crate::scans::pages_of;
 use crate::worked::{flashes, written};
 use block_state::Blocks;
 use chunk_index::{Index, KeptPage};
-use flash_tree::{Found, Key};
+use flash_tree::Key;
+use found_pages::PageCopy;
 use mount_scan::scan_newest;
 use nand_model::Nand;
 use std::alloc::Global;
@@ -13,7 +14,7 @@ use std::test::Fail;
 /// The newest pages of any device, which need not be honest, with the index of them and the table of its blocks.
 #[derive(Drop)]
 struct Mounted {
-    newest: Vec<Found>,
+    newest: Vec<PageCopy>,
     index: Index,
     blocks: Blocks,
 }
@@ -41,13 +42,13 @@ fn the_newest_pages_of_a_scan_are_kept(rt: HostRuntime) -> Result<(), Fail> {
         let mut kept = 0u64;
         for found in &mounted.newest {
             let key = Key {
-                object: found.tag.object,
-                chunk: found.tag.chunk,
+                object: found.object,
+                chunk: found.chunk,
             };
             let page = KeptPage {
                 block: found.block,
                 page: found.page,
-                version: found.tag.version,
+                version: found.version,
             };
             assert_eq!(rt;
                 mounted.index.kept(key),

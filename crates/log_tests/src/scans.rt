@@ -2,7 +2,7 @@
 
 use crate::worked::{broken_off, flashes, powered_up, small, tag, written};
 use flash_tree::{Found, Key};
-use found_pages::{BUCKETS, FoundPages};
+use found_pages::{BUCKETS, FoundPages, PageCopy};
 use mount_scan::{ScanFault, scan, scan_newest};
 use nand_model::{Fate, MemNand};
 use plain_search::{greatest, newest};
@@ -14,7 +14,7 @@ use std::test::Fail;
 use test_flash::TestFlash;
 
 /// The pages of all buckets.
-pub(crate) fn pages_of(alloc: Global, found: &FoundPages) -> Result<Vec<Found>, Fail> {
+pub(crate) fn pages_of(alloc: Global, found: &FoundPages) -> Result<Vec<PageCopy>, Fail> {
     let mut pages = Vec::new(alloc);
     for at in 0..BUCKETS {
         for page in found.bucket(at) {
@@ -24,8 +24,8 @@ pub(crate) fn pages_of(alloc: Global, found: &FoundPages) -> Result<Vec<Found>, 
     Ok(pages)
 }
 
-/// The places of what was found.
-fn places_of(alloc: Global, list: &[Found]) -> Result<Vec<(u32, u32)>, Fail> {
+/// The places of pages that count.
+fn counted_at(alloc: Global, list: &[Found]) -> Result<Vec<(u32, u32)>, Fail> {
     let mut places = Vec::new(alloc);
     for found in list {
         places.push((found.block, found.page))?;
@@ -33,15 +33,32 @@ fn places_of(alloc: Global, list: &[Found]) -> Result<Vec<(u32, u32)>, Fail> {
     Ok(places)
 }
 
+/// The places of all pages that were found, bucket by bucket.
+fn places_of(alloc: Global, found: &FoundPages) -> Result<Vec<(u32, u32)>, Fail> {
+    let mut places = Vec::new(alloc);
+    for page in pages_of(alloc, found)? {
+        places.push((page.block, page.page))?;
+    }
+    Ok(places)
+}
+
 /// The entry of a key.
-fn entry(list: &[Found], key: Key) -> Option<Found> {
+fn entry(list: &[PageCopy], key: Key) -> Option<PageCopy> {
     let mut entry = None;
-    for found in list {
-        if found.tag.object == key.object && found.tag.chunk == key.chunk {
-            entry = Some(*found);
+    for page in list {
+        if page.object == key.object && page.chunk == key.chunk {
+            entry = Some(*page);
         }
     }
     entry
+}
+
+/// The copy of a page, if there is one.
+fn copy_of(found: Option<Found>) -> Option<PageCopy> {
+    match found {
+        Some(found) => Some(PageCopy::of(&found)),
+        None => None,
+    }
 }
 
 /// The scan of the newest pages finds what the plain search finds, of keys of objects up to 7 and chunks up to 9.
@@ -50,14 +67,14 @@ fn finds_as_plainly(
     alloc: Global,
     nand: &mut MemNand,
     what: &str,
-) -> Result<Vec<Found>, Fail> {
+) -> Result<Vec<PageCopy>, Fail> {
     let found = scan_newest(alloc, nand)?;
     let listed = pages_of(alloc, &found.newest)?;
     let mut keys = 0usize;
     for object in 0..8u64 {
         for chunk in 0..10u64 {
             let key = Key { object, chunk };
-            let plain = newest(nand, key)?;
+            let plain = copy_of(newest(nand, key)?);
             assert_eq!(rt; entry(&listed, key), plain, "{what}, {key:?}");
             keys = keys.saturating_add(plain.is_some() as usize);
         }
@@ -74,12 +91,8 @@ fn finds_what_counts_and_the_newest_of_each_key(rt: HostRuntime) -> Result<(), F
         let mut nand = written(alloc, &flash)?;
         let found = scan(alloc, &mut nand)?;
         let what = flash.what;
-        assert_eq!(rt; places_of(alloc, &found.counted)?, flash.counted, "{what}");
-        assert_eq!(rt;
-            places_of(alloc, &pages_of(alloc, &found.newest)?)?,
-            flash.newest,
-            "{what}"
-        );
+        assert_eq!(rt; counted_at(alloc, &found.counted)?, flash.counted, "{what}");
+        assert_eq!(rt; places_of(alloc, &found.newest)?, flash.newest, "{what}");
         assert_eq!(rt; found.numbers, flash.numbers, "{what}");
         assert_eq!(rt;
             finds_as_plainly(&rt, alloc, &mut nand, what)?,
@@ -139,10 +152,7 @@ fn a_cut_scan_says_gone_and_changes_nothing(rt: HostRuntime) -> Result<(), Fail>
         assert_eq!(rt; cut.changes(), 0);
         cut.power_up();
         let found = scan(rt.alloc(), &mut cut)?;
-        assert_eq!(rt;
-            places_of(rt.alloc(), &pages_of(rt.alloc(), &found.newest)?)?,
-            flash.newest
-        );
+        assert_eq!(rt; places_of(rt.alloc(), &found.newest)?, flash.newest);
     }
     Ok(())
 }

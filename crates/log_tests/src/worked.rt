@@ -105,7 +105,7 @@ fn equal_seqs(alloc: Global) -> Result<WorkedFlash, Fail> {
         blocks: vec![in alloc; (1, first), (3, other)]?,
         bad: None,
         counted: vec![in alloc; (1, 0), (1, 1), (3, 0), (3, 1)]?,
-        newest: vec![in alloc; (1, 1), (1, 0)]?,
+        newest: vec![in alloc; (1, 0), (1, 1)]?,
         numbers: numbers(2, 3, 4),
     })
 }

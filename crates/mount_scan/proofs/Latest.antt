@@ -1,31 +1,47 @@
 -- The newest page of each key is left.
-use Rattle.std.specs.Prelude.{◌≡◌, ◌<◌, ℕ, ◌+◌, false, true, List, [], Option, length, Contains}
+use Rattle.std.specs.Prelude.{◌≡◌, ◌<◌, ℕ, ◌+◌, false, true, List, [], map, Option, length, Contains}
 use Rattle.std.proofs.Common.{refl, sym, ◌∙◌, ap, subst, inl, inr, arith, get_or}
 use Rattle.std.proofs.lemmas.Bool.{cases_eq, false≢true}
+use Rattle.std.proofs.lemmas.List.{get_or-map, length-map}
 use Rattle.std.proofs.lemmas.List.Elements.{Contains-get_or, All-contains}
 use Rattle.nand_model.specs.Flash.{Flash, IsWithin}
 use Rattle.nand_model.specs.Calls.{Device}
 use Rattle.nand_model.specs.Changes.{OnlyReads}
 use Rattle.nand_model.specs.declared.geometry.Geometry.{Geometry}
 use Rattle.page_tags.specs.declared.tag.Tag.{Tag}
-use Rattle.flash_tree.specs.Groups.{HasTag}
 use Rattle.flash_tree.specs.Newest.{Spot, Holds, IsAfter, IsNewest}
-use Rattle.flash_tree.specs.laws.Newest.{one_tag}
-use Rattle.flash_tree.specs.laws.Newest.{one_is_after}
+use Rattle.flash_tree.specs.laws.Newest.{one_spot}
 use Rattle.flash_tree.specs.laws.Place.{same_flash, tag_placed}
 use Rattle.flash_tree.specs.declared.place.Found.{Found}
 use Rattle.flash_tree.specs.Places.{spot_of}
+use Rattle.found_pages.specs.Copies.{copy_at, copy_of, spot_of_copy}
 use Rattle.found_pages.specs.Keys.{HaveOneKey, Thins, AreLatest}
+use Rattle.found_pages.specs.declared.copy.PageCopy.{PageCopy}
 use Rattle.found_pages.specs.laws.Order.{not_after_on}
-use Rattle.mount_scan.specs.Scanned.{AreNewest, TellsCounted, TellsNewest}
+use Rattle.mount_scan.specs.Scanned.{IsNewestCopy, AreNewest, TellsCounted, TellsNewest}
 use Rattle.mount_scan.specs.laws.Scan.{found_of, listed_spot}
 use Rattle.mount_scan.specs.Runs.{AddsCounted}
 use Rattle.mount_scan.specs.Blocks.{AreTags}
-use Rattle.mount_scan.specs.Latest.{TellsBlock, HasLatestBelow}
+use Rattle.mount_scan.specs.Latest.{TellsBlock, IsCountedCopy, HasLatestBelow}
 use Rattle.mount_scan.proofs.Tagged.{counted_told}
 
 none_in : (f : Found) → Contains [] f → ⊥
 none_in f has = absurd (omega (arith, has.1))
+
+-- ---- copies
+
+-- a copy of some pages is that of one of them
+copied_from : (list : List Found) (f : PageCopy) → Contains (map copy_of list) f → (x : Found) × Contains list x × (copy_of x ≡ f)
+copied_from list f has =
+    let d : Found = found_of (spot_of_copy f) in
+    let lt : has.0 < length list = omega (arith, has.1, length-map list copy_of) in
+    (get_or list has.0 d, Contains-get_or list has.0 d lt, sym (get_or-map copy_of list has.0 d f lt) ∙ has.2)
+
+has_copy : (list : List Found) (x : Found) → Contains list x → Contains (map copy_of list) (copy_of x)
+has_copy list x has = (has.0, omega (arith, has.1, length-map list copy_of), get_or-map copy_of list has.0 x (copy_of x) has.1 ∙ ap copy_of has.2)
+
+counted_copy : (flash : Flash) (x : Found) (f : PageCopy) → copy_of x ≡ f → Holds flash x.tag.object x.tag.chunk (spot_of x) → IsCountedCopy flash f
+counted_copy flash x f same holds = subst (IsCountedCopy flash) same (record { spot = spot_of x; holds = holds; copied = refl })
 
 -- ---- one block
 
@@ -62,75 +78,84 @@ no_block device b list bad empty =
 
 -- ---- block after block
 
-pub latest_none : (device : Device) (list : List Found) → ((f : Found) → Contains list f → ⊥) → HasLatestBelow device 0 list
+pub latest_none : (device : Device) (list : List PageCopy) → ((f : PageCopy) → Contains list f → ⊥) → HasLatestBelow device 0 list
 latest_none device list none = record {
   placed = λ f has. absurd (none f has);
   held = λ honest f has. absurd (none f has);
   some = λ honest g lt. absurd (omega (arith, lt));
 }
 
-pub latest_block : (device : Device) (b : ℕ) (one old new : List Found) → TellsBlock device b one → Thins one old new → HasLatestBelow device b old → HasLatestBelow device (b + 1) new
+pub latest_block : (device : Device) (b : ℕ) (one : List Found) (old new : List PageCopy) → TellsBlock device b one → Thins (map copy_of one) old new → HasLatestBelow device b old
+    → HasLatestBelow device (b + 1) new
 latest_block device b one old new tells thins below = record {
   placed = λ f has. elim (thins.among f has) [
     | inl was ↦ let is = below.placed f was in (omega (arith, is.0), is.1)
-    | inr is ↦ let at = tells.placed f is in (omega (arith, at.0), at.1)
+    | inr is ↦
+        let (x, there, same) = copied_from one f is in
+        let at = tells.placed x there in
+        subst (λ (y : PageCopy). (y.block < b + 1) × (y.page < device.geometry.pages)) same (omega (arith, at.0), at.1)
   ];
   held = λ honest f has. elim (thins.among f has) [
     | inl was ↦ below.held honest f was
-    | inr is ↦ ((tells.exact honest f).0 is).1
+    | inr is ↦ let (x, there, same) = copied_from one f is in counted_copy device.flash x f same ((tells.exact honest x).0 there).1
   ];
   some = λ honest g lt holds. elim (cases_eq g.block b) [
-    | inl here ↦ thins.some g (inr ((tells.exact honest g).1 (here, holds)))
+    | inl here ↦ thins.some (copy_of g) (inr (has_copy one g ((tells.exact honest g).1 (here, holds))))
     | inr ne ↦
         let was = below.some honest g (omega (arith, lt, ne)) holds in
         let then = thins.some was.0 (inl was.1) in
-        (then.0, then.1, (then.2.0 ∙ was.2.0, then.2.1 ∙ was.2.1), not_after_on (spot_of g) (spot_of was.0) (spot_of then.0) was.3 then.3)
+        (then.0, then.1, (then.2.0 ∙ was.2.0, then.2.1 ∙ was.2.1), not_after_on (spot_of g) (spot_of_copy was.0) (spot_of_copy then.0) was.3 then.3)
   ];
 }
 
 -- after some reads the same is
-pub latest_on : (a b : Device) (k : ℕ) (list : List Found) → OnlyReads a b → HasLatestBelow a k list → HasLatestBelow b k list
+pub latest_on : (a b : Device) (k : ℕ) (list : List PageCopy) → OnlyReads a b → HasLatestBelow a k list → HasLatestBelow b k list
 latest_on a b k list reads below = record {
   placed = λ f has. let is = below.placed f has in (is.0, subst (λ (g : Geometry). f.page < g.pages) (sym reads.lasts.geometry) is.1);
   held = λ honest f has.
       let was : a.honest ≡ true = sym reads.lasts.honest ∙ honest in
-      subst (λ fl. Holds fl f.tag.object f.tag.chunk (spot_of f)) (sym (same_flash a b reads was)) (below.held was f has);
+      subst (λ fl. IsCountedCopy fl f) (sym (same_flash a b reads was)) (below.held was f has);
   some = λ honest g lt holds.
       let was : a.honest ≡ true = sym reads.lasts.honest ∙ honest in
       below.some was g lt (subst (λ fl. Holds fl g.tag.object g.tag.chunk (spot_of g)) (same_flash a b reads was) holds);
 }
 
-pub latest_back : (a b : Device) (k : ℕ) (list : List Found) → OnlyReads a b → HasLatestBelow b k list → HasLatestBelow a k list
+pub latest_back : (a b : Device) (k : ℕ) (list : List PageCopy) → OnlyReads a b → HasLatestBelow b k list → HasLatestBelow a k list
 latest_back a b k list reads below = record {
   placed = λ f has. let is = below.placed f has in (is.0, subst (λ (g : Geometry). f.page < g.pages) reads.lasts.geometry is.1);
-  held = λ honest f has. subst (λ fl. Holds fl f.tag.object f.tag.chunk (spot_of f)) (same_flash a b reads honest) (below.held (reads.lasts.honest ∙ honest) f has);
+  held = λ honest f has. subst (λ fl. IsCountedCopy fl f) (same_flash a b reads honest) (below.held (reads.lasts.honest ∙ honest) f has);
   some = λ honest g lt holds. below.some (reads.lasts.honest ∙ honest) g lt (subst (λ fl. Holds fl g.tag.object g.tag.chunk (spot_of g)) (sym (same_flash a b reads honest)) holds);
 }
 
 -- what is left of all pages that count
-pub latest_counted : (device : Device) (counted old new : List Found) → TellsCounted device counted → ((f : Found) → Contains old f → ⊥) → Thins counted old new
+pub latest_counted : (device : Device) (counted : List Found) (old new : List PageCopy) → TellsCounted device counted → ((f : PageCopy) → Contains old f → ⊥) → Thins (map copy_of counted) old new
     → HasLatestBelow device device.geometry.blocks new
 latest_counted device counted old new tells none thins = record {
   placed = λ f has. elim (thins.among f has) [
     | inl was ↦ absurd (none f was)
-    | inr is ↦ All-contains (λ x. (x.block < device.geometry.blocks) × (x.page < device.geometry.pages)) counted f tells.placed is
+    | inr is ↦
+        let (x, there, same) = copied_from counted f is in
+        let at = All-contains (λ (y : Found). (y.block < device.geometry.blocks) × (y.page < device.geometry.pages)) counted x tells.placed there in
+        subst (λ (y : PageCopy). (y.block < device.geometry.blocks) × (y.page < device.geometry.pages)) same at
   ];
   held = λ honest f has. elim (thins.among f has) [
     | inl was ↦ absurd (none f was)
-    | inr is ↦ ((tells.exact honest).each (spot_of f)).1 ((listed_spot counted (spot_of f)).1 is)
+    | inr is ↦
+        let (x, there, same) = copied_from counted f is in
+        counted_copy device.flash x f same (((tells.exact honest).each (spot_of x)).1 ((listed_spot counted (spot_of x)).1 there))
   ];
-  some = λ honest g lt holds. thins.some g (inr ((listed_spot counted (spot_of g)).0 (((tells.exact honest).each (spot_of g)).0 holds)));
+  some = λ honest g lt holds. thins.some (copy_of g) (inr (has_copy counted g ((listed_spot counted (spot_of g)).0 (((tells.exact honest).each (spot_of g)).0 holds))));
 }
 
 -- ---- all blocks
 
-module _ (device : Device) (honest : device.honest ≡ true) (within : IsWithin device.geometry.pages device.geometry.blocks device.flash) (list newest : List Found)
+module _ (device : Device) (honest : device.honest ≡ true) (within : IsWithin device.geometry.pages device.geometry.blocks device.flash) (list newest : List PageCopy)
     (below : HasLatestBelow device device.geometry.blocks list) (latest : AreLatest list newest) where
   abbrev flash : Flash
   flash = device.flash
 
   -- of a page that counts one is left of its key that it does not come after
-  left : (o c : ℕ) (s : Spot) → Holds flash o c s → (f : Found) × Contains list f × HaveOneKey f (found_of s) × (IsAfter s (spot_of f) → ⊥)
+  left : (o c : ℕ) (s : Spot) → Holds flash o c s → (f : PageCopy) × Contains list f × HaveOneKey f (copy_at s) × (IsAfter s (spot_of_copy f) → ⊥)
   left o c s holds = below.some honest (found_of s) (tag_placed device.geometry.pages device.geometry.blocks flash s.block s.page s.tag within holds.has).0 (record {
     group = holds.group;
     whole = holds.whole;
@@ -143,52 +168,40 @@ module _ (device : Device) (honest : device.honest ≡ true) (within : IsWithin 
     chunk = refl;
   })
 
-  kept_is_newest : (x : Found) (o c : ℕ) → Contains newest x → x.tag.object ≡ o → x.tag.chunk ≡ c → IsNewest flash o c (spot_of x)
-  kept_is_newest x o c has object chunk =
-      let holds : Holds flash x.tag.object x.tag.chunk (spot_of x) = below.held honest x (latest.among x has) in
+  kept_is_newest : (x : PageCopy) → Contains newest x → IsNewestCopy flash x
+  kept_is_newest x has =
+      let counted : IsCountedCopy flash x = below.held honest x (latest.among x has) in
       record {
-        holds = record {
-          group = holds.group;
-          whole = holds.whole;
-          index = holds.index;
-          within = holds.within;
-          block = holds.block;
-          page = holds.page;
-          has = holds.has;
-          object = object;
-          chunk = chunk;
+        spot = counted.spot;
+        copied = counted.copied;
+        newest = record {
+          holds = counted.holds;
+          last = λ t other after.
+              let some = left x.object x.chunk t other in
+              not_after_on t (spot_of_copy some.0) (spot_of_copy x) some.3
+              (latest.last x some.0 has some.1 (some.2.0 ∙ other.object, some.2.1 ∙ other.chunk))
+              (subst (λ (y : PageCopy). IsAfter t (spot_of_copy y)) counted.copied after);
         };
-        last = λ t other after.
-            let some = left o c t other in
-            not_after_on t (spot_of some.0) (spot_of x) some.3
-            (latest.last x some.0 has some.1 (some.2.0 ∙ other.object ∙ sym object, some.2.1 ∙ other.chunk ∙ sym chunk)) after;
       }
 
-  newest_is_kept : (o c : ℕ) (s : Spot) → IsNewest flash o c s → Contains newest (found_of s)
+  newest_is_kept : (o c : ℕ) (s : Spot) → IsNewest flash o c s → Contains newest (copy_at s)
   newest_is_kept o c s is =
       let first = left o c s is.holds in
       let some = latest.some first.0 first.1 in
-      let x : Found = some.0 in
-      let kept : IsNewest flash o c (spot_of x) = kept_is_newest x o c some.1 (some.2.0 ∙ first.2.0 ∙ is.holds.object) (some.2.1 ∙ first.2.1 ∙ is.holds.chunk) in
-      let place : (x.block ≡ s.block) × (x.page ≡ s.page) = one_is_after (spot_of x) s (is.last (spot_of x) kept.holds) (kept.last s is.holds) in
-      let tag : x.tag ≡ s.tag = one_tag flash s.block s.page x.tag s.tag
-      (subst (λ b. HasTag flash b s.page x.tag) place.0 (subst (λ p. HasTag flash x.block p x.tag) place.1 kept.holds.has)) is.holds.has in
-      let same : x ≡ found_of s = λ i. record { block = place.0 i; page = place.1 i; tag = tag i } in
-      subst (Contains newest) same some.1
+      let x : PageCopy = some.0 in
+      let kept : IsNewestCopy flash x = kept_is_newest x some.1 in
+      let object : x.object ≡ o = some.2.0 ∙ first.2.0 ∙ is.holds.object in
+      let chunk : x.chunk ≡ c = some.2.1 ∙ first.2.1 ∙ is.holds.chunk in
+      let key : IsNewest flash o c kept.spot = subst (λ k. IsNewest flash o k kept.spot) chunk (subst (λ k. IsNewest flash k x.chunk kept.spot) object kept.newest) in
+      subst (Contains newest) (sym kept.copied ∙ ap copy_at (one_spot flash o c kept.spot s key is)) some.1
 
   -- the latest of what is left are the newest pages
   newest_pages : AreNewest flash newest
-  newest_pages = record {
-    each = λ o c s. (
-      λ is. ((listed_spot newest s).1 (newest_is_kept o c s is), is.holds.object, is.holds.chunk),
-      λ has. kept_is_newest (found_of s) o c ((listed_spot newest s).0 has.0) has.1 has.2,
-    );
-    order = latest.order;
-  }
+  newest_pages = record { each = newest_is_kept; only = kept_is_newest; order = latest.order }
 
 -- of what is left of all blocks, what is told of the newest pages
-pub tells_newest : (device : Device) (list newest : List Found) → IsWithin device.geometry.pages device.geometry.blocks device.flash → HasLatestBelow device device.geometry.blocks list → AreLatest list newest
-    → TellsNewest device newest
+pub tells_newest : (device : Device) (list newest : List PageCopy) → IsWithin device.geometry.pages device.geometry.blocks device.flash → HasLatestBelow device device.geometry.blocks list
+    → AreLatest list newest → TellsNewest device newest
 tells_newest device list newest within below latest = record {
   placed = λ k d lt. below.placed (get_or newest k d) (latest.among (get_or newest k d) (Contains-get_or newest k d lt));
   order = latest.order;

@@ -1,20 +1,29 @@
 -- The newest pages of the blocks that were scanned.
 use Rattle.std.specs.Prelude.{◌≡◌, ◌↔◌, ◌<◌, ℕ, true, List, Contains}
+use Rattle.nand_model.specs.Flash.{Flash}
 use Rattle.nand_model.specs.Calls.{Device}
-use Rattle.flash_tree.specs.Newest.{Holds, IsAfter}
+use Rattle.flash_tree.specs.Newest.{Spot, Holds, IsAfter}
 use Rattle.flash_tree.specs.declared.place.Found.{Found}
 use Rattle.flash_tree.specs.Places.{spot_of}
+use Rattle.found_pages.specs.Copies.{copy_at, copy_of, spot_of_copy}
 use Rattle.found_pages.specs.Keys.{HaveOneKey}
+use Rattle.found_pages.specs.declared.copy.PageCopy.{PageCopy}
 
 -- What is told of a block: of each device places in it, and of an honest one exactly the pages that count.
 pub record TellsBlock (device : Device) (b : ℕ) (list : List Found) : Type 0 where
   pub placed : (f : Found) → Contains list f → (f.block ≡ b) × (f.page < device.geometry.pages)
   pub exact : device.honest ≡ true → (f : Found) → Contains list f ↔ ((f.block ≡ b) × Holds device.flash f.tag.object f.tag.chunk (spot_of f))
 
--- What is left of the blocks below b: of each device places in them, and of an honest one pages that count, among which is one for
--- each page that counts in these blocks, of its key, that it does not come after.
-pub record HasLatestBelow (device : Device) (b : ℕ) (list : List Found) : Type 0 where
-  pub placed : (f : Found) → Contains list f → (f.block < b) × (f.page < device.geometry.pages)
-  pub held : device.honest ≡ true → (f : Found) → Contains list f → Holds device.flash f.tag.object f.tag.chunk (spot_of f)
+-- the page of a copy counts
+pub record IsCountedCopy (flash : Flash) (x : PageCopy) : Type 0 where
+  pub spot : Spot
+  pub holds : Holds flash x.object x.chunk spot
+  pub copied : copy_at spot ≡ x
+
+-- What is left of the blocks below b: of each device places in them, and of an honest one copies of pages that count, among which is
+-- one for each page that counts in these blocks, of its key, that it does not come after.
+pub record HasLatestBelow (device : Device) (b : ℕ) (list : List PageCopy) : Type 0 where
+  pub placed : (f : PageCopy) → Contains list f → (f.block < b) × (f.page < device.geometry.pages)
+  pub held : device.honest ≡ true → (f : PageCopy) → Contains list f → IsCountedCopy device.flash f
   pub some : device.honest ≡ true → (g : Found) → g.block < b → Holds device.flash g.tag.object g.tag.chunk (spot_of g)
-      → (f : Found) × Contains list f × HaveOneKey f g × (IsAfter (spot_of g) (spot_of f) → ⊥)
+      → (f : PageCopy) × Contains list f × HaveOneKey f (copy_of g) × (IsAfter (spot_of g) (spot_of_copy f) → ⊥)

@@ -7,7 +7,9 @@ use Rattle.nand_model.specs.Changes.{OnlyReads}
 use Rattle.flash_tree.specs.Newest.{Spot, Holds, IsNewest}
 use Rattle.flash_tree.specs.declared.place.Found.{Found}
 use Rattle.flash_tree.specs.Places.{spot_of}
+use Rattle.found_pages.specs.Copies.{copy_at}
 use Rattle.found_pages.specs.Keys.{HaveOtherKeys}
+use Rattle.found_pages.specs.declared.copy.PageCopy.{PageCopy}
 use Rattle.mount_scan.specs.declared.fault.ScanFault.{ScanFault}
 use Rattle.mount_scan.specs.declared.fault.ScanFault.TheVariants as faults
 
@@ -20,14 +22,25 @@ pub record AreCounted (flash : Flash) (list : List Found) : Type 0 where
   pub each : (s : Spot) → Holds flash s.tag.object s.tag.chunk s ↔ Contains (map spot_of list) s
   pub order : AllPairs IsPlaceBefore list
 
--- exactly the newest pages of all keys, in which each key stands once
-pub record AreNewest (flash : Flash) (list : List Found) : Type 0 where
-  pub each : (o c : ℕ) (s : Spot) → IsNewest flash o c s ↔ (Contains (map spot_of list) s × (s.tag.object ≡ o) × (s.tag.chunk ≡ c))
+-- the page of a copy is the newest of its key
+pub record IsNewestCopy (flash : Flash) (x : PageCopy) : Type 0 where
+  pub spot : Spot
+  pub newest : IsNewest flash x.object x.chunk spot
+  pub copied : copy_at spot ≡ x
+
+-- exactly the copies of the newest pages of all keys, in which each key stands once
+pub record AreNewest (flash : Flash) (list : List PageCopy) : Type 0 where
+  pub each : (o c : ℕ) (s : Spot) → IsNewest flash o c s → Contains list (copy_at s)
+  pub only : (x : PageCopy) → Contains list x → IsNewestCopy flash x
   pub order : AllPairs HaveOtherKeys list
 
 -- all places are on a device of so many blocks of so many pages
 abbrev pub ArePlaced : (blocks pages : ℕ) → List Found → Type 0
 ArePlaced blocks pages = All (λ f. (f.block < blocks) × (f.page < pages))
+
+-- and the places of all copies
+abbrev pub AreCopiesPlaced : (blocks pages : ℕ) → List PageCopy → Type 0
+AreCopiesPlaced blocks pages = All (λ f. (f.block < blocks) × (f.page < pages))
 
 -- What is told of the pages that count: of each device places on it, each once, and of an honest one exactly those.
 pub record TellsCounted (device : Device) (list : List Found) : Type 0 where
@@ -36,8 +49,8 @@ pub record TellsCounted (device : Device) (list : List Found) : Type 0 where
   pub exact : device.honest ≡ true → AreCounted device.flash list
 
 -- What is told of the newest pages: of each device places on it, each key once, and of an honest one exactly those.
-pub record TellsNewest (device : Device) (list : List Found) : Type 0 where
-  pub placed : ArePlaced device.geometry.blocks device.geometry.pages list
+pub record TellsNewest (device : Device) (list : List PageCopy) : Type 0 where
+  pub placed : AreCopiesPlaced device.geometry.blocks device.geometry.pages list
   pub order : AllPairs HaveOtherKeys list
   pub exact : device.honest ≡ true → AreNewest device.flash list
 

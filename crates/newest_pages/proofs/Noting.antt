@@ -2,33 +2,33 @@
 use Rattle.std.specs.Prelude.{◌≡◌, ◌<◌, ◌≤◌, ℕ, ◌+◌, List, Some, slice_get}
 use Rattle.std.proofs.Common.{refl, sym, ◌∙◌, ap, subst, inl, inr, arith}
 use Rattle.std.proofs.lemmas.Bool.{cases_eq, cases_lt, cases_order}
-use Rattle.flash_tree.specs.declared.place.Found.{Found}
+use Rattle.found_pages.specs.declared.copy.PageCopy.{PageCopy}
 use Rattle.block_state.specs.declared.blocks.BlockEntry.{BlockEntry}
 use Rattle.block_state.specs.Table.{Table, Sets}
 use Rattle.newest_pages.specs.Opened.{AreNoted, OnlySeqs, NotesOne, HasSeqOf, AreNotBelow, NotesSeq}
 
 -- what is known once the first n pages were gone through
-pub record Notes (list : List Found) (n : ℕ) (old new : Table) : Type 0 where
+pub record Notes (list : List PageCopy) (n : ℕ) (old new : Table) : Type 0 where
   pub only : OnlySeqs old new
   pub each : (b : ℕ) → NotesSeq list n old new b
 
-one_at : (list : List Found) (n : ℕ) (f g : Found) → slice_get list n ≡ Some f → slice_get list n ≡ Some g → f ≡ g
+one_at : (list : List PageCopy) (n : ℕ) (f g : PageCopy) → slice_get list n ≡ Some f → slice_get list n ≡ Some g → f ≡ g
 one_at list n f g x y = let two : Some f ≡ Some g = sym x ∙ y in cc
 
 -- a page more that tells nothing of the block
-on_elsewhere : (list : List Found) (n next b : ℕ) (f : Found) → slice_get list n ≡ Some f → (f.block ≡ b → next ≤ f.tag.seq) → AreNotBelow list n b next → AreNotBelow list (n + 1) b next
+on_elsewhere : (list : List PageCopy) (n next b : ℕ) (f : PageCopy) → slice_get list n ≡ Some f → (f.block ≡ b → next ≤ f.seq) → AreNotBelow list n b next → AreNotBelow list (n + 1) b next
 on_elsewhere list n next b f at above before i g lt there block = elim (cases_eq i n) [
   | inl same ↦
       let here : f ≡ g = one_at list n f g at (subst (λ k. slice_get list k ≡ Some g) same there) in
-      subst (λ (x : Found). next ≤ x.tag.seq) here (above (ap (λ (x : Found). x.block) here ∙ block))
+      subst (λ (x : PageCopy). next ≤ x.seq) here (above (ap (λ (x : PageCopy). x.block) here ∙ block))
   | inr ne ↦ before i g (omega (arith, lt, ne)) there block
 ]
 
-wider : (list : List Found) (n b seq : ℕ) → HasSeqOf list n b seq → HasSeqOf list (n + 1) b seq
+wider : (list : List PageCopy) (n b seq : ℕ) → HasSeqOf list n b seq → HasSeqOf list (n + 1) b seq
 wider list n b seq has = record { index = has.index; found = has.found; before = omega (arith, has.before); there = has.there; block = has.block; seq_is = has.seq_is }
 
 -- a page whose seq was not handed out
-pub notes_skip : (list : List Found) (n : ℕ) (old new : Table) (f : Found) → slice_get list n ≡ Some f → new.next_seq ≤ f.tag.seq → Notes list n old new → Notes list (n + 1) old new
+pub notes_skip : (list : List PageCopy) (n : ℕ) (old new : Table) (f : PageCopy) → slice_get list n ≡ Some f → new.next_seq ≤ f.seq → Notes list n old new → Notes list (n + 1) old new
 notes_skip list n old new f at above notes = record {
   only = notes.only;
   each = λ b. elim (notes.each b) [
@@ -50,12 +50,12 @@ entry_kept k seq t t' sets b = elim (cases_eq b k) [
 ]
 
 -- a page whose seq becomes its block's
-pub notes_more : (list : List Found) (n : ℕ) (old t t' : Table) (f : Found) → slice_get list n ≡ Some f → Sets f.block (record (t.entry f.block) { seq = f.tag.seq }) t t'
+pub notes_more : (list : List PageCopy) (n : ℕ) (old t t' : Table) (f : PageCopy) → slice_get list n ≡ Some f → Sets f.block (record (t.entry f.block) { seq = f.seq }) t t'
     → t'.open_block ≡ t.open_block → t'.checkpoint ≡ t.checkpoint → t'.next_seq ≡ t.next_seq → Notes list n old t → Notes list (n + 1) old t'
 notes_more list n old t t' f at sets open_same noted seq_same notes = record {
   only = record {
-    bad = λ b. entry_bad f.block f.tag.seq t t' sets b ∙ notes.only.bad b;
-    kept = λ b. entry_kept f.block f.tag.seq t t' sets b ∙ notes.only.kept b;
+    bad = λ b. entry_bad f.block f.seq t t' sets b ∙ notes.only.bad b;
+    kept = λ b. entry_kept f.block f.seq t t' sets b ∙ notes.only.kept b;
     geometry = sets.geometry ∙ notes.only.geometry;
     open_block = open_same ∙ notes.only.open_block;
     checkpoint = noted ∙ notes.only.checkpoint;
@@ -81,8 +81,8 @@ notes_more list n old t t' f at sets open_same noted seq_same notes = record {
 }
 
 -- a page more
-pub notes_one : (list : List Found) (n : ℕ) (old t t' : Table) (f : Found) → slice_get list n ≡ Some f → NotesOne f.block f.tag.seq t t' → Notes list n old t → Notes list (n + 1) old t'
-notes_one list n old t t' f at one notes = elim (cases_order f.tag.seq t.next_seq) [
+pub notes_one : (list : List PageCopy) (n : ℕ) (old t t' : Table) (f : PageCopy) → slice_get list n ≡ Some f → NotesOne f.block f.seq t t' → Notes list n old t → Notes list (n + 1) old t'
+notes_one list n old t t' f at one notes = elim (cases_order f.seq t.next_seq) [
   | inl same ↦ subst (Notes list (n + 1) old) (sym (one.same (omega (arith, same)))) (notes_skip list n old t f at (omega (arith, same)) notes)
   | inr (inl lt) ↦ notes_more list n old t t' f at (one.sets lt) one.open_block one.checkpoint one.next_seq notes
   | inr (inr gt) ↦ subst (Notes list (n + 1) old) (sym (one.same (omega (arith, gt)))) (notes_skip list n old t f at (omega (arith, gt)) notes)

@@ -5,7 +5,7 @@ use Rattle.volume_terms.specs.Sizes.{number_end}
 use Rattle.nand_model.specs.Flash.{Flash}
 use Rattle.nand_model.specs.Calls.{Device}
 use Rattle.flash_tree.specs.Newest.{Spot, IsNewest, Numbers, AreGreatest}
-use Rattle.flash_tree.specs.declared.place.Found.{Found}
+use Rattle.found_pages.specs.declared.copy.PageCopy.{PageCopy}
 use Rattle.block_state.specs.Table.{Table, Sets}
 use Rattle.chunk_index.specs.declared.form.KeptPage.{KeptPage}
 use Rattle.chunk_index.specs.declared.index.Index.{Index}
@@ -13,7 +13,8 @@ use Rattle.chunk_index.specs.Entries.{as_kept}
 use Rattle.chunk_index.specs.Maps.{kept_pages, present, CountsAgree}
 use Rattle.page_buffer.specs.Buffering.{IsUnbuffered}
 use Rattle.transactions.specs.Ready.{IsReady}
-use Rattle.transactions.specs.Sources.{IsPageName, name_of}
+use Rattle.transactions.specs.Sources.{IsPageName}
+use Rattle.transactions.specs.declared.source.PageName.{PageName}
 use Rattle.bad_blocks.specs.Standing.{AreKept, MayLie}
 use Rattle.bad_blocks.specs.Taking.{LiesApart}
 use Rattle.mount_scan.specs.declared.fault.ScanFault.{ScanFault}
@@ -21,9 +22,13 @@ use Rattle.mount_scan.specs.declared.fault.ScanFault.TheVariants as scans
 use Rattle.newest_pages.specs.declared.opening.OpenFault.{OpenFault}
 use Rattle.newest_pages.specs.declared.opening.OpenFault.TheVariants as faults
 
+-- what the page of a copy is called
+abbrev pub name_in : PageCopy → PageName
+name_in f = record { key = record { object = f.object; chunk = f.chunk }; version = f.version }
+
 -- each page may be named in a tag of the group of this number
-abbrev pub HaveNames : ℕ → List Found → Type 0
-HaveNames number list = (i : ℕ) (f : Found) → slice_get list i ≡ Some f → IsPageName number (name_of f.tag)
+abbrev pub HaveNames : ℕ → List PageCopy → Type 0
+HaveNames number list = (i : ℕ) (f : PageCopy) → slice_get list i ≡ Some f → IsPageName number (name_in f)
 
 -- there are numbers left above these
 abbrev pub AreLeft : Numbers → Type 0
@@ -68,21 +73,21 @@ abbrev pub AreNoted : List ℕ → (n : ℕ) → Table → Table → Type 0
 AreNoted seqs n old new = (b seq : ℕ) → b < n → slice_get seqs b ≡ Some seq → seq < old.next_seq → (new.entry b).seq ≡ seq
 
 -- one of the first n pages lies in block b, and has this seq
-pub record HasSeqOf (list : List Found) (n b seq : ℕ) : Type 0 where
+pub record HasSeqOf (list : List PageCopy) (n b seq : ℕ) : Type 0 where
   pub index : ℕ
-  pub found : Found
+  pub found : PageCopy
   pub before : index < n
   pub there : slice_get list index ≡ Some found
   pub block : found.block ≡ b
-  pub seq_is : seq ≡ found.tag.seq
+  pub seq_is : seq ≡ found.seq
 
 -- no seq of the first n pages in block b is below this number
-abbrev pub AreNotBelow : List Found → (n b next : ℕ) → Type 0
-AreNotBelow list n b next = (i : ℕ) (f : Found) → i < n → slice_get list i ≡ Some f → f.block ≡ b → next ≤ f.tag.seq
+abbrev pub AreNotBelow : List PageCopy → (n b next : ℕ) → Type 0
+AreNotBelow list n b next = (i : ℕ) (f : PageCopy) → i < n → slice_get list i ≡ Some f → f.block ≡ b → next ≤ f.seq
 
 -- Block b has the seq of one of the first n pages, which lies in it; or the seq that it had, where none of them that lies
 -- in it has a seq that was handed out.
-abbrev pub NotesSeq : List Found → (n : ℕ) → Table → Table → ℕ → Type 0
+abbrev pub NotesSeq : List PageCopy → (n : ℕ) → Table → Table → ℕ → Type 0
 NotesSeq list n old new b = HasSeqOf list n b (new.entry b).seq ⊎ (((new.entry b).seq ≡ (old.entry b).seq) × AreNotBelow list n b old.next_seq)
 
 -- no newest page lies in block b, and its number is that of a block that was not taken; or its number is the seq of one

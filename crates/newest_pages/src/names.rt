@@ -1,21 +1,20 @@
 // Whether what a scan found may be copied.
 ghost use Rattle.std.specs.Prelude.{◌↔◌, IsTrue};
-ghost use Rattle.transactions.specs.Sources.{IsPageName, name_of};
+ghost use Rattle.transactions.specs.Sources.{IsPageName};
 ghost use Rattle.found_pages.specs.Listed.{listed};
-ghost use Rattle.newest_pages.specs.Opened.{HaveNames};
+ghost use Rattle.newest_pages.specs.Opened.{name_in, HaveNames};
 
-use flash_tree::Found;
-use found_pages::{BUCKETS, FoundPages};
+use found_pages::{BUCKETS, FoundPages, PageCopy};
 
 /// Whether the page's name may stand in a tag of the group of this number.
-fn has_name(found: Found, number: u64) -> bool
-    ensures { IsTrue result ↔ IsPageName number (name_of found.tag) }
+fn has_name(found: PageCopy, number: u64) -> bool
+    ensures { IsTrue result ↔ IsPageName number (name_in found) }
 {
-    found.tag.object >= 1 && found.tag.version >= 1 && found.tag.version <= number
+    found.object >= 1 && found.version >= 1 && found.version <= number
 }
 
 /// Whether this is so of each page of a list.
-fn are_named(list: &[Found], number: u64) -> bool
+fn are_named(list: &[PageCopy], number: u64) -> bool
     ensures { IsTrue result ↔ HaveNames number list.now }
 {
     for found in list {

@@ -6,8 +6,7 @@ ghost use Rattle.found_pages.specs.Listed.{listed};
 ghost use Rattle.newest_pages.specs.Opened.{AreNoted, OnlySeqs, NotesOne, NotesSeq};
 
 use block_state::Blocks;
-use flash_tree::Found;
-use found_pages::{BUCKETS, FoundPages};
+use found_pages::{BUCKETS, FoundPages, PageCopy};
 
 /// Notes the number of a block, where it was handed out.
 fn note_one(block: u32, seq: u64, blocks: &mut Blocks)
@@ -20,13 +19,13 @@ fn note_one(block: u32, seq: u64, blocks: &mut Blocks)
 }
 
 /// Notes the number of the block of each page of a list, where it was handed out.
-fn note_list(list: &[Found], blocks: &mut Blocks)
+fn note_list(list: &[PageCopy], blocks: &mut Blocks)
     requires within { LieWithin (table blocks.old).geometry.blocks list.now }
     ensures only { OnlySeqs (table blocks.old) (table blocks.new) }
     ensures notes { (b : ℕ) → NotesSeq list.now (length list.now) (table blocks.old) (table blocks.new) b }
 {
     for found in list {
-        note_one(found.block, found.tag.seq, blocks);
+        note_one(found.block, found.seq, blocks);
     }
 }
 

@@ -5,7 +5,7 @@ use Rattle.std.proofs.Common.{refl, sym, ◌∙◌, ap, subst, arith, get_or}
 use Rattle.std.proofs.lemmas.List.{take_more, take_all, length-append}
 use Rattle.std.proofs.lemmas.List.Concat.{flat_map-append, get_or-flat_map}
 use Rattle.std.proofs.lemmas.Option.{slice_get-get_or}
-use Rattle.flash_tree.specs.declared.place.Found.{Found}
+use Rattle.found_pages.specs.declared.copy.PageCopy.{PageCopy}
 use Rattle.found_pages.specs.declared.bucket.Bucket.{Bucket}
 use Rattle.found_pages.specs.declared.pages.FoundPages.{FoundPages}
 use Rattle.found_pages.specs.Buckets.{pages_of, pages_in}
@@ -15,7 +15,7 @@ use Rattle.found_pages.specs.Listed.{listed, bucket_at, IsPartAt}
 abbrev pub before : FoundPages → ℕ → ℕ
 before x k = length (pages_in (take k x.buckets.items))
 
-append_nil : (xs : List Found) → xs ++ [] ≡ xs
+append_nil : (xs : List PageCopy) → xs ++ [] ≡ xs
 append_nil [] = refl
 append_nil (x ∷ xs) = ap (λ ys. x ∷ ys) (append_nil xs)
 
@@ -40,7 +40,7 @@ pub before_all : (x : FoundPages) → before x 64 ≡ length (listed x)
 before_all x = ap (λ bs. length (pages_in bs)) (take_all 64 x.buckets.items (omega (arith, x.count)))
 
 -- the pages of a bucket stand behind those of the buckets before it
-pub page_at : (x : FoundPages) (k i : ℕ) (b : Bucket) (d : Found) → k < 64 → i < length (bucket_at x k) → get_or (listed x) (before x k + i) d ≡ get_or (bucket_at x k) i d
+pub page_at : (x : FoundPages) (k i : ℕ) (b : Bucket) (d : PageCopy) → k < 64 → i < length (bucket_at x k) → get_or (listed x) (before x k + i) d ≡ get_or (bucket_at x k) i d
 page_at x k i b d lt within =
     let bs = x.buckets.items in
     let same : bucket_at x k ≡ pages_of (get_or bs k b) = some_bucket x k b lt in
@@ -76,12 +76,12 @@ a_bucket_of : FoundPages → Bucket
 a_bucket_of x = first x.buckets.items (omega (arith, x.count))
 
 -- a bucket's pages are a part of all
-pub bucket_part : (x : FoundPages) (k : ℕ) (part : List Found) → k < 64 → part ≡ bucket_at x k → IsPartAt (listed x) (before x k) part
+pub bucket_part : (x : FoundPages) (k : ℕ) (part : List PageCopy) → k < 64 → part ≡ bucket_at x k → IsPartAt (listed x) (before x k) part
 bucket_part x k part lt same = subst (IsPartAt (listed x) (before x k)) (sym same) (record {
   within = bucket_within x k (a_bucket_of x) lt;
   each = λ i d less. page_at x k i (a_bucket_of x) d lt less;
 })
 
 -- and the next bucket begins behind them
-pub part_end : (x : FoundPages) (k : ℕ) (part : List Found) → k < 64 → part ≡ bucket_at x k → before x k + length part ≡ before x (k + 1)
+pub part_end : (x : FoundPages) (k : ℕ) (part : List PageCopy) → k < 64 → part ≡ bucket_at x k → before x k + length part ≡ before x (k + 1)
 part_end x k part lt same = ap (λ xs. before x k + length xs) same ∙ sym (before_more x k (a_bucket_of x) lt)

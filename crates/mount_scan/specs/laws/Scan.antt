@@ -1,6 +1,6 @@
 -- What follows for a key.
 use Rattle.std.specs.Prelude.{◌≡◌, ◌↔◌, ◌<◌, ℕ, List, map, Some, length, slice_get, Contains}
-use Rattle.std.proofs.Common.{sym, ◌∙◌, ap, inl, inr, arith, get_or}
+use Rattle.std.proofs.Common.{sym, ◌∙◌, ap, subst, inl, inr, arith, get_or}
 use Rattle.std.proofs.lemmas.Bool.{cases_order}
 use Rattle.std.proofs.lemmas.List.{get_or-map, length-map}
 use Rattle.nand_model.specs.Flash.{Flash, Written}
@@ -8,9 +8,11 @@ use Rattle.page_tags.specs.Tags.{tag_bytes}
 use Rattle.flash_tree.specs.Newest.{Spot, IsNewest, HasNewest}
 use Rattle.flash_tree.specs.declared.place.Found.{Found}
 use Rattle.flash_tree.specs.Places.{spot_of}
+use Rattle.found_pages.specs.Copies.{copy_at}
 use Rattle.found_pages.specs.Keys.{HaveOtherKeys}
+use Rattle.found_pages.specs.declared.copy.PageCopy.{PageCopy}
 use Rattle.found_pages.specs.laws.Keys.{pair_at}
-use Rattle.mount_scan.specs.Scanned.{AreNewest}
+use Rattle.mount_scan.specs.Scanned.{IsNewestCopy, AreNewest}
 
 -- a place with a tag, as programs have it
 abbrev pub found_of : Spot → Found
@@ -28,27 +30,40 @@ listed_spot list s = (
       (has.0, omega (arith, has.1, length-map list spot_of), at ∙ ap spot_of has.2),
 )
 
--- a key has a newest page exactly where the list has one of it
-pub newest_listed : (f : Flash) (list : List Found) (o c : ℕ) → AreNewest f list
-    → ((s : Spot) × IsNewest f o c s) ↔ ((x : Found) × Contains list x × (x.tag.object ≡ o) × (x.tag.chunk ≡ c))
+-- the newest page of a key is that of its copy
+newest_of : (f : Flash) (x : PageCopy) (o c : ℕ) (is : IsNewestCopy f x) → x.object ≡ o → x.chunk ≡ c → IsNewest f o c is.spot
+newest_of f x o c is object chunk = subst (λ k. IsNewest f o k is.spot) chunk (subst (λ k. IsNewest f k x.chunk is.spot) object is.newest)
+
+-- a key has a newest page exactly where the list has a copy of one of it
+pub newest_listed : (f : Flash) (list : List PageCopy) (o c : ℕ) → AreNewest f list
+    → ((s : Spot) × IsNewest f o c s) ↔ ((x : PageCopy) × Contains list x × (x.object ≡ o) × (x.chunk ≡ c))
 newest_listed f list o c are = (
-  λ (s, newest). let is = (are.each o c s).0 newest in (found_of s, (listed_spot list s).0 is.0, is.1, is.2),
-  λ (x, has, object, chunk). (spot_of x, (are.each o c (spot_of x)).1 ((listed_spot list (spot_of x)).1 has, object, chunk)),
+  λ (s, newest). (copy_at s, are.each o c s newest, newest.holds.object, newest.holds.chunk),
+  λ (x, has, object, chunk). ((are.only x has).spot, newest_of f x o c (are.only x has) object chunk),
 )
 
 -- no key has two pages in the list
-pub newest_once : (f : Flash) (list : List Found) (i j : ℕ) (x y : Found) → AreNewest f list → slice_get list i ≡ Some x → slice_get list j ≡ Some y
-    → x.tag.object ≡ y.tag.object → x.tag.chunk ≡ y.tag.chunk → i ≡ j
+pub newest_once : (f : Flash) (list : List PageCopy) (i j : ℕ) (x y : PageCopy) → AreNewest f list → slice_get list i ≡ Some x → slice_get list j ≡ Some y
+    → x.object ≡ y.object → x.chunk ≡ y.chunk → i ≡ j
 newest_once f list i j x y are at_i at_j object chunk = elim (cases_order i j) [
   | inl same ↦ same
   | inr (inl lt) ↦ absurd (pair_at HaveOtherKeys list i j x y are.order lt at_i at_j (object, chunk))
   | inr (inr gt) ↦ absurd (pair_at HaveOtherKeys list j i y x are.order gt at_j at_i (sym object, sym chunk))
 ]
 
+-- what the page of a copy has are the data of its key
+has_data : (f : Flash) (x : PageCopy) (o c : ℕ) (bytes spare : List ℕ) → IsNewestCopy f x → x.object ≡ o → x.chunk ≡ c → f.page x.block x.page ≡ Written bytes spare → HasNewest f o c bytes
+has_data f x o c bytes spare is object chunk stored =
+    let held = is.newest.holds.has in
+    let there : f.page is.spot.block is.spot.page ≡ Written bytes spare = subst (λ (y : PageCopy). f.page y.block y.page ≡ Written bytes spare) (sym is.copied) stored in
+    let two : Written held.bytes (tag_bytes is.spot.tag) ≡ Written bytes spare = sym held.page ∙ there in
+    let same : held.bytes ≡ bytes = cc in
+    record { spot = is.spot; newest = newest_of f x o c is object chunk; stored = held.page ∙ ap (λ ys. Written ys (tag_bytes is.spot.tag)) same }
+
 -- the newest data of a key are those of its page in the list
-pub newest_data : (f : Flash) (list : List Found) (o c : ℕ) (bytes : List ℕ) → AreNewest f list
-    → HasNewest f o c bytes ↔ ((x : Found) × Contains list x × (x.tag.object ≡ o) × (x.tag.chunk ≡ c) × (f.page x.block x.page ≡ Written bytes (tag_bytes x.tag)))
+pub newest_data : (f : Flash) (list : List PageCopy) (o c : ℕ) (bytes : List ℕ) → AreNewest f list
+    → HasNewest f o c bytes ↔ ((x : PageCopy) × Contains list x × (x.object ≡ o) × (x.chunk ≡ c) × (spare : List ℕ) × (f.page x.block x.page ≡ Written bytes spare))
 newest_data f list o c bytes are = (
-  λ has. let is = (are.each o c has.spot).0 has.newest in (found_of has.spot, (listed_spot list has.spot).0 is.0, is.1, is.2, has.stored),
-  λ (x, has, object, chunk, stored). record { spot = spot_of x; newest = (are.each o c (spot_of x)).1 ((listed_spot list (spot_of x)).1 has, object, chunk); stored = stored },
+  λ has. (copy_at has.spot, are.each o c has.spot has.newest, has.newest.holds.object, has.newest.holds.chunk, tag_bytes has.spot.tag, has.stored),
+  λ (x, has, object, chunk, spare, stored). has_data f x o c bytes spare (are.only x has) object chunk stored,
 )

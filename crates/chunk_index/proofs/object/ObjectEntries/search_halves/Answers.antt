@@ -2,7 +2,7 @@ use Rattle.std.proofs.Common.{rules}
 use Rattle.std.proofs.lemmas.List.Sorted.{answers_always}
 use Rattle.chunk_index.specs.Entries.{chunk}
 use Rattle.chunk_index.proofs.Finding.{searched}
-use Rattle.chunk_index.proofs.object.ObjectEntries.search.Goals as goal
+use Rattle.chunk_index.proofs.object.ObjectEntries.search_halves.Goals as goal
 
 -- the closure gives an entry's chunk
 pub returns : goal.returns

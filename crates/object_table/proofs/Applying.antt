@@ -1,5 +1,5 @@
 -- What a change of objects lets a table do, step by step.
-use Rattle.std.specs.Prelude.{◌≡◌, ◌≢◌, ◌⊎◌, ◌<◌, ◌≤◌, ℕ, true, Option, Some, None, is_some, cond}
+use Rattle.std.specs.Prelude.{◌≡◌, ◌≢◌, ◌⊎◌, ◌<◌, ◌≤◌, ℕ, true, Option, Some, None, is_some}
 use Rattle.std.proofs.Common.{refl, sym, ◌∙◌, ap, subst, inl, inr, arith}
 use Rattle.std.proofs.lemmas.Bool.{cases_eq, cond-true, leb-true}
 use Rattle.std.specs.Cmp.{nat_cmp_total}
@@ -8,7 +8,7 @@ use Rattle.std.specs.Ordering.{nat_cmp}
 use Rattle.std.specs.FinMap as map
 use Rattle.volume_terms.specs.Sizes.{Sizes, IsSizes, capacity, page_slots}
 use Rattle.volume_terms.specs.Rounding.{ceiling}
-use Rattle.posix_profile.specs.State.{Name, Entries, Object, File, Dir, Objects, IsDirectory, entries_of}
+use Rattle.posix_profile.specs.State.{Name, Entries, Object, Dir, Objects, IsDirectory, entries_of}
 use Rattle.posix_profile.specs.Names.{Names, Reached, root, below}
 use Rattle.posix_profile.specs.Charge.{cost, charge, fits}
 use Rattle.posix_profile.specs.Changes.{new_number, with_name, without_name}

@@ -1,5 +1,5 @@
 -- The least number that is free.
-use Rattle.std.specs.Prelude.{◌≡◌, ◌≢◌, ◌<◌, ◌≤◌, ◌+◌, ◌-◌, ◌&&◌, ℕ, zero, suc, Bool, true, false, not, List, [], ◌∷◌, length, slice_index_or, map as list_map, Option, Some, None, cond, is_some, nat_eq, nat_le, nat_lt, option_and_then}
+use Rattle.std.specs.Prelude.{◌≡◌, ◌<◌, ◌≤◌, ◌+◌, ◌&&◌, ℕ, zero, suc, Bool, true, false, not, List, [], ◌∷◌, length, slice_index_or, map as list_map, Option, Some, None, cond, is_some, nat_eq, nat_le, nat_lt, option_and_then}
 use Rattle.std.proofs.Common.{refl, sym, ◌∙◌, ap, subst, inl, inr, arith}
 use Rattle.std.proofs.lemmas.Bool.{cases_eq, cases_lt, cases_Bool, cond-true, cond-false, true≢false, false≢true, eqb-true, eq-eqb, ne_eqb, lt-ltb, le-leb}
 use Rattle.std.proofs.lemmas.Bool.Decides.{nat_tests}
@@ -7,12 +7,12 @@ use Rattle.std.proofs.lemmas.List.{length-map}
 use Rattle.std.proofs.lemmas.List.Sums.{sum_by-cons}
 use Rattle.std.proofs.lemmas.List.Sorted.{length_permutation, sum_by_popped}
 use Rattle.std.specs.List.Sorted.{IsPermutation}
-use Rattle.std.specs.List.{sum_by, range_with_len, AllByRecursion}
+use Rattle.std.specs.List.{range_with_len, AllByRecursion}
 use Rattle.std.specs.Ordering.{nat_cmp, is_lt}
 use Rattle.std.specs.Cmp.{nat_cmp_total}
 use Rattle.std.specs.FinMap as map
 use Rattle.std.specs.Map.{lookup}
-use Rattle.std.specs.BTreeMap.{BTreeMap, get, is_at, btree_map_len}
+use Rattle.std.specs.BTreeMap.{BTreeMap, is_at, btree_map_len}
 use Rattle.std.specs.BinaryHeap.{IsUpperBound, heap_items}
 use Rattle.std.specs.declared.cmp.Reverse.{Reverse}
 use Rattle.std.proofs.lemmas.List.FromFn.{length-range_with_len}

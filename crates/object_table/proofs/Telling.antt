@@ -1,9 +1,8 @@
 -- What a table that tells objects says of one.
-use Rattle.std.specs.Prelude.{◌≡◌, ◌≢◌, ◌<◌, ◌≤◌, ℕ, ◌+◌, ◌-◌, List, length, Option, Some, None, IsSome, option_map, option_and_then}
+use Rattle.std.specs.Prelude.{◌≡◌, ◌≢◌, ◌<◌, ◌≤◌, ℕ, ◌+◌, List, length, Option, Some, None, IsSome, option_map, option_and_then}
 use Rattle.std.proofs.Common.{refl, sym, ◌∙◌, ap, subst, inl, inr, arith}
 use Rattle.std.proofs.lemmas.Bool.{cases_eq, cases_lt}
 use Rattle.std.specs.Cmp.{nat_cmp_total}
-use Rattle.std.specs.Ordering.{nat_cmp}
 use Rattle.std.specs.FinMap as map
 use Rattle.volume_terms.specs.Sizes.{Sizes}
 use Rattle.volume_terms.specs.Rounding.{ceiling}
@@ -13,7 +12,6 @@ use Rattle.posix_profile.specs.NameSteps.{info}
 use Rattle.posix_profile.specs.Charge.{cost}
 use Rattle.posix_profile.specs.Changes.{new_number, with_bytes}
 use Rattle.posix_profile.specs.WellFormed.{IsForest}
-use Rattle.posix_profile.specs.declared.reply.Kind.TheVariants as kinds
 use Rattle.posix_profile.specs.laws.Map.{get_here, get_there}
 use Rattle.posix_profile.specs.laws.Link.{IsSubdirectory, file_links, directory_links}
 use Rattle.posix_profile.specs.laws.Name.{not_both, namer_directory}

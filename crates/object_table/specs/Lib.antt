@@ -1,4 +1,5 @@
 pub mod Facts
+pub mod Packed
 pub mod Taken
 pub mod Numbers
 pub mod Counted

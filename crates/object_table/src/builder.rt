@@ -33,6 +33,14 @@ impl TableBuilder {
         }
     }
 
+    /// Makes room for an object that is to come. A call that fails leaves the objects that came.
+    pub fn make_room(&mut self, number: u64) -> Result<(), AllocError>
+        ensures size { sizes_built self.new ≡ sizes_built self.old }
+        ensures same { (objects : Objects) → Builds self.old objects → Builds self.new objects }
+    {
+        self.counted.make_room(number)
+    }
+
     /// An object comes: a file of so many bytes, or a directory, whose entries come later as names.
     pub fn insert(
         &mut self,

@@ -12,6 +12,7 @@ ghost use Rattle.object_table.specs.Taken.{facts_in};
 ghost use Rattle.object_table.specs.Counted.{told_at, sizes_in, charge_in, HasRoomIn, units_of, Counts, CountsTheSame, Puts, Drops, KeepsNumbers, GetsName, LosesName, IsCountable, Edits, FreshObject, CanGo};
 
 use crate::facts::ObjectFacts;
+use crate::packed::PackedFacts;
 use posix_profile::Kind;
 use std::alloc::{AllocError, Global};
 use std::collections::BTreeMap;
@@ -23,23 +24,23 @@ use volume_terms::VolumeSizes;
 pub(crate) struct CountedFacts {
     pub(crate) sizes: VolumeSizes,
     // An entry without facts is room for an object that is to come.
-    pub(crate) facts: BTreeMap<u64, Option<ObjectFacts>>,
+    pub(crate) facts: BTreeMap<u64, PackedFacts>,
     pub(crate) charge: u64,
 }
 
 /// The facts at a number, if there are any.
-fn facts_at(facts: &BTreeMap<u64, Option<ObjectFacts>>, number: u64) -> Option<ObjectFacts>
+fn facts_at(facts: &BTreeMap<u64, PackedFacts>, number: u64) -> Option<ObjectFacts>
     ensures { result ≡ facts_in facts.now number }
 {
     match facts.get(&number) {
-        Some(facts) => *facts,
+        Some(facts) => facts.unpack(),
         None => None,
     }
 }
 
 /// Puts facts at a number at which there is room, and returns those that were there.
 fn put_facts(
-    facts: &mut BTreeMap<u64, Option<ObjectFacts>>,
+    facts: &mut BTreeMap<u64, PackedFacts>,
     number: u64,
     new: ObjectFacts,
 ) -> Option<ObjectFacts>
@@ -50,7 +51,7 @@ fn put_facts(
     ensures len { btree_map_len facts.new ≡ btree_map_len facts.old }
 {
     match facts.get_mut(&number) {
-        Some(place) => replace(place, Some(new)),
+        Some(place) => replace(place, PackedFacts::pack(new)).unpack(),
         None => unreachable!(),
     }
 }
@@ -95,7 +96,7 @@ impl CountedFacts {
         if self.facts.contains_key(&number) {
             return Ok(());
         }
-        self.facts.insert(number, None)?;
+        self.facts.insert(number, PackedFacts::none())?;
         Ok(())
     }
 

@@ -4,7 +4,7 @@ ghost use Rattle.std.specs.Prelude.{◌≡◌, ◌≤◌, ◌<◌, ◌+◌, ℕ,
 ghost use Rattle.std.specs.BinaryHeap.{IsHeap, heap_items, heap_len, heap_capacity};
 ghost use Rattle.object_table.specs.Taken.{by_number, IsLeastFree, AllTaken, Takes, GivesBack, taken_in};
 
-use crate::facts::ObjectFacts;
+use crate::packed::PackedFacts;
 use std::alloc::{AllocError, Global};
 use std::cmp::Reverse;
 use std::collections::{BTreeMap, BinaryHeap};
@@ -24,7 +24,7 @@ impl FreeNumbers {
     ghost use Rattle.object_table.specs.Numbers.{KnowsFree, next_number};
 
     /// The free numbers where these facts are all that there are.
-    pub(crate) fn new(alloc: Global, facts: &BTreeMap<u64, Option<ObjectFacts>>) -> FreeNumbers
+    pub(crate) fn new(alloc: Global, facts: &BTreeMap<u64, PackedFacts>) -> FreeNumbers
         ensures knows { KnowsFree result (taken_in facts.now) }
         ensures none { heap_len result.freed ≡ 0 }
     {
@@ -56,7 +56,7 @@ impl FreeNumbers {
     }
 
     /// The least number that is free is taken, as these facts say.
-    pub(crate) fn take(&mut self, facts: &BTreeMap<u64, Option<ObjectFacts>>)
+    pub(crate) fn take(&mut self, facts: &BTreeMap<u64, PackedFacts>)
         ensures knows { (before : ℕ → Bool) → KnowsFree self.old before → Takes before (taken_in facts.now) (next_number self.old) → KnowsFree self.new (taken_in facts.now) }
         ensures len { heap_len self.new.freed ≤ heap_len self.old.freed }
         ensures capacity { heap_capacity self.new.freed ≡ heap_capacity self.old.freed }
@@ -87,7 +87,7 @@ impl FreeNumbers {
 }
 
 /// Whether there are facts at a number.
-fn is_taken(facts: &BTreeMap<u64, Option<ObjectFacts>>, number: u64) -> bool
+fn is_taken(facts: &BTreeMap<u64, PackedFacts>, number: u64) -> bool
     ensures { result ≡ taken_in facts.now number }
 {
     match facts.get(&number) {
@@ -98,7 +98,7 @@ fn is_taken(facts: &BTreeMap<u64, Option<ObjectFacts>>, number: u64) -> bool
 
 /// The least number from this one up at which there are no facts, where there are facts at each below. Of one number more
 /// than there are entries, one has none.
-fn first_free(facts: &BTreeMap<u64, Option<ObjectFacts>>, from: u64) -> u64
+fn first_free(facts: &BTreeMap<u64, PackedFacts>, from: u64) -> u64
     ensures low { AllTaken (taken_in facts.now) from → from ≤ result }
     ensures free { AllTaken (taken_in facts.now) from → taken_in facts.now result ≡ false }
     ensures below { AllTaken (taken_in facts.now) from → AllTaken (taken_in facts.now) result }

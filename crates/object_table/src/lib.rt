@@ -5,6 +5,7 @@ mod builder;
 mod counted_facts;
 mod facts;
 mod free_numbers;
+mod packed;
 mod parts;
 mod table;
 

@@ -20,9 +20,23 @@ pub(crate) fn insert_objects(tree: &Tree, builder: &mut TableBuilder) -> Result<
     ensures builds { (m : PageMap) (objects : Objects) → IsShown (sizes_built builder.old) m tree.now objects → Builds builder.old map.empty
         → OnOk result ((part : Objects) × IsNameless objects part × Builds builder.new part) }
 {
+    make_room(tree, builder)?;
     let objects = tree.objects();
     for place in 0..objects.len() {
         insert_object(tree, objects[place], builder)?;
+    }
+    Ok(())
+}
+
+/// Makes room for every other object of a tree. The table's map splits a full node in halves, which stay half full where
+/// the objects come in order; here those between fill them.
+fn make_room(tree: &Tree, builder: &mut TableBuilder) -> Result<(), AllocError>
+    ensures size { sizes_built builder.new ≡ sizes_built builder.old }
+    ensures same { (objects : Objects) → Builds builder.old objects → Builds builder.new objects }
+{
+    let objects = tree.objects();
+    for place in (0..objects.len()).step_by(2) {
+        builder.make_room(objects[place])?;
     }
     Ok(())
 }

@@ -1,4 +1,4 @@
-use Rattle.std.proofs.Common.{◌≡◌, ◌<◌, ◌∙◌, ℕ, List, Some, length, slice_get, slice_index, refl, sym, ap, subst, arith}
+use Rattle.std.proofs.Common.{◌≡◌, ◌<◌, ◌∙◌, ℕ, List, Some, length, slice_get, slice_index, sym, ap, subst, arith}
 use Rattle.std.proofs.lemmas.Option.{slice_get-get_or}
 use Rattle.std.specs.FinMap as map
 use Rattle.volume_terms.specs.Sizes.{Sizes}
@@ -12,8 +12,8 @@ use Rattle.tree_table.proofs.objects.insert_objects.Goals as goal
 
 pub loop-place-init : goal.loop-place-init
 loop-place-init c = record {
-  size = refl;
-  builds = λ m objects shown start. (map.empty, begins_bare objects (objects_listed c.args.tree.now), start);
+  size = c.make_room.ensures.size;
+  builds = λ m objects shown start. (map.empty, begins_bare objects (objects_listed c.args.tree.now), c.make_room.ensures.same map.empty start);
 }
 
 pub loop-place-preserved : goal.loop-place-preserved

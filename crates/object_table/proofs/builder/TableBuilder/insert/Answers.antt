@@ -1,5 +1,4 @@
 use Rattle.std.proofs.Common.{sym, subst}
-use Rattle.std.specs.FinMap as map
 use Rattle.volume_terms.specs.Sizes.{Sizes}
 use Rattle.object_table.specs.Facts.{bare_facts}
 use Rattle.object_table.specs.Counted.{sizes_in, FreshObject}

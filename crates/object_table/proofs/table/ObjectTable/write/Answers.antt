@@ -1,4 +1,4 @@
-use Rattle.std.proofs.Common.{◌≡◌, max, length, sym, ap, arith}
+use Rattle.std.proofs.Common.{◌≡◌, length, sym, ap, arith}
 use Rattle.std.specs.FinMap as map
 use Rattle.posix_profile.specs.State.{File}
 use Rattle.posix_profile.specs.Changes.{written}

@@ -14,22 +14,23 @@ use page_buffer::read_kept;
 use page_cache::PageCache;
 use volume_terms::StoreFault;
 
-/// Sees that the page of a key, which is kept there, is in the cache.
+/// Sees that the page of a key, which is kept there, is in the cache. It is read into `scratch`, which changes places with a
+/// frame of the cache.
 pub(crate) fn load_kept<N: Nand>(
     device: &mut N,
     cache: &mut PageCache,
-    scratch: &mut [u8],
+    scratch: &mut Vec<u8>,
     key: Key,
     at: KeptPage,
 ) -> Result<(), StoreFault>
     requires block { at.block < (N.state device.old).geometry.blocks }
     requires page { at.page < (N.state device.old).geometry.pages }
-    requires size { length scratch.old ≡ (N.state device.old).geometry.bytes }
+    requires size { length scratch.old.items ≡ (N.state device.old).geometry.bytes }
     requires cache { page_bytes_of cache.old ≡ (N.state device.old).geometry.bytes }
     ensures reads { OnlyReads (N.state device.old) (N.state device.new) }
     ensures asked { (N.state device.new).reads ≤ (N.state device.old).reads + 1 }
     ensures power { OnOk result ((N.state device.new).gone ≡ (N.state device.old).gone) }
-    ensures size { length scratch.new ≡ length scratch.old }
+    ensures size { length scratch.new.items ≡ length scratch.old.items }
     ensures sizes { KeepsSizes cache.old cache.new }
     ensures caches { Caches (N.state device.old) key at cache.old cache.new }
     ensures rest { KeepsRest key.object key.chunk cache.old cache.new }

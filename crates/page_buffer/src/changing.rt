@@ -55,12 +55,16 @@ fn count_new(index: &Index, pages: &[FreshPage]) -> usize
 impl Buffer {
     ghost use Rattle.page_buffer.specs.BufferOf.{buffered, most_pages, bytes_of_page};
 
-    /// Whether the buffer holds these pages with those that it has, each key counted once.
+    /// Whether the buffer holds these pages with those that it has, each key counted once. No key is looked up where it
+    /// has room for as many pages more.
     pub fn has_room(&self, index: &Index, pages: &[FreshPage]) -> bool
         ensures { IsTrue result ↔ (with_new index.now (buffered self.now) pages.now ≤ most_pages self.now) }
     {
-        let count = count_new(index, pages);
         let most = self.most() as usize;
+        if pages.len() <= most && self.pages.len() <= most - pages.len() {
+            return true;
+        }
+        let count = count_new(index, pages);
         count <= most && self.pages.len() <= most - count
     }
 

@@ -1,5 +1,5 @@
 -- What becomes of the keys of a cache.
-use Rattle.std.proofs.Common.{◌≡◌, ◌≤◌, ◌<◌, ℕ, zero, suc, ◌+◌, ◌-◌, ◌==◌, Bool, true, false, ◌&&◌, ◌⊎◌, List, [], ◌∷◌, length, cond, Contains, Option, Some, None, IsSome, refl, sym, ◌∙◌, ap, subst, inl, inr, arith, is_some, option_map, slice_get, IfSome, Bor, Result, Ok, Err, OnOk, OnErr, option_and_then}
+use Rattle.std.proofs.Common.{◌≡◌, ◌≤◌, ◌<◌, ℕ, zero, suc, ◌+◌, ◌-◌, ◌==◌, Bool, true, false, ◌&&◌, ◌⊎◌, List, [], ◌∷◌, length, cond, Contains, Option, Some, None, IsSome, refl, sym, ◌∙◌, ap, subst, inl, inr, arith, is_some, option_map, slice_get, IfSome, Bor}
 use Rattle.std.proofs.lemmas.Bool.{cases_Bool, true≢false, cond-true, cond-false, and_parts, eqb-true, eq-eqb}
 use Rattle.std.proofs.lemmas.Cmp.{nat_eq_equiv, and_equiv, on_equiv}
 use Rattle.std.specs.Cmp.{IsEquivalence}
@@ -12,7 +12,7 @@ use Rattle.lru.specs.LruCache.{LruCache, lru_cache, promoted, put_entries, displ
 use Rattle.lru.proofs.Splits.{Contains-cons, Contains-head, Contains-tail}
 use Rattle.lru.proofs.CallerLemmas.{Contains-put_entries, Contains-promoted, Contains-remove_entry, Contains-lookup, lookup-put_entries}
 use Rattle.std.specs.Option.{option_copied, option_map_or}
-use Rattle.page_cache.specs.Slots.{Reserved, held_in, page_in, is_key, frame_of, AreSized}
+use Rattle.page_cache.specs.Slots.{Held, held_in, page_in, is_key, frame_of, AreSized}
 use Rattle.page_cache.specs.Cached.{held, held_count, capacity_of}
 use Rattle.page_cache.specs.Changes.{KeepsSizes, HasTheSame, IsOther, Changes, Puts}
 use Rattle.page_cache.specs.declared.slot.Slot.{Slot}
@@ -103,9 +103,6 @@ module _ (old new : PageCache) (o c : ℕ) (size : new.page_bytes ≡ old.page_b
     one_more = subst (λ (s : LruCache (ℕ × ℕ) Slot). length s.entries ≤ held_count old + 1) (sym is) (put_one_more key_eq old.slots (o, c) slot);
   }
 
-  pub changes : (slot : Slot) → IsSome (held old o c) → new.slots ≡ lru_cache (put_entries key_eq old.slots (o, c) slot) old.slots.cap → Changes o c (Some (held_in slot)) old new
-  changes slot there is = record { sizes = put_sizes slot is; here = put_here slot is; others = put_in_room slot is (inl there) }
-
   pub removes : IsDistinct key_eq (keys_of old.slots.entries) → new.slots ≡ lru_cache (remove_entry (is_key o c) old.slots.entries) old.slots.cap → Changes o c None old new
   removes distinct is = record {
     sizes = record { page_bytes = size; capacity = ap (λ (s : LruCache (ℕ × ℕ) Slot). s.cap) is };
@@ -120,37 +117,54 @@ module _ (old new : PageCache) (o c : ℕ) (size : new.page_bytes ≡ old.page_b
       one : (x y : ℕ × ℕ) → is_key o c x ≡ true → is_key o c y ≡ key_eq x y
       one x y e = key_laws.congr (o, c) x y e
 
-  pub vacates : (slot : Slot) → held_in slot ≡ Reserved → IsSome (held old o c) → new.slots ≡ lru_cache (set_value (is_key o c) old.slots.entries slot) old.slots.cap → Changes o c (Some Reserved) old new
-  vacates slot place there is = record {
-    sizes = record { page_bytes = size; capacity = ap (λ (s : LruCache (ℕ × ℕ) Slot). s.cap) is };
-    here =
-        ap (λ (s : LruCache (ℕ × ℕ) Slot). option_map held_in (lookup (is_key o c) s.entries)) is
-        ∙ ap (option_map held_in) (set (o, c) ∙ cond-true _ (Some slot) (lookup (is_key o c) old.slots.entries) (key_laws.refl (o, c))) ∙ ap Some place;
-    others = λ p q other.
-        ap (λ (s : LruCache (ℕ × ℕ) Slot). option_map held_in (lookup (is_key p q) s.entries)) is
-        ∙ ap (option_map held_in) (set (p, q) ∙ cond-false _ (Some slot) (lookup (is_key p q) old.slots.entries) (not_key o c p q other));
-  }
-    where
-      one : (x y : ℕ × ℕ) → is_key o c x ≡ true → is_key o c y ≡ key_eq x y
-      one x y e = key_laws.congr (o, c) x y e
-
-      set : (k : ℕ × ℕ) → lookup (key_eq k) (set_value (is_key o c) old.slots.entries slot) ≡ cond (is_key o c k) (Some slot) (lookup (key_eq k) old.slots.entries)
-      set k = lookup-set_value key_laws (is_key o c) one k slot old.slots.entries (some_held (lookup (is_key o c) old.slots.entries) there)
+  -- what a promoted list has of any key
+  promoted_lookup : (p q : ℕ) → lookup (is_key p q) (promoted (is_key o c) old.slots.entries) ≡ lookup (is_key p q) old.slots.entries
+  promoted_lookup p q = elim (cases_Bool (is_key o c (p, q))) [
+    | inl e ↦
+        let same = key_same o c (p, q) e in
+        subst (λ a. lookup (is_key a q) (promoted (is_key o c) old.slots.entries) ≡ lookup (is_key a q) old.slots.entries) same.0
+        (subst (λ b. lookup (is_key o b) (promoted (is_key o c) old.slots.entries) ≡ lookup (is_key o b) old.slots.entries) same.1
+        (lookup-promoted_same (is_key o c) old.slots.entries))
+    | inr n ↦ lookup-promoted (is_key o c) (is_key p q) (keys_apart o c p q (λ a b. true≢false (sym (same_key o c (p, q) (sym a) (sym b)) ∙ n))) old.slots.entries
+  ]
 
   pub promotes : new.slots ≡ lru_cache (promoted (is_key o c) old.slots.entries) old.slots.cap → HasTheSame old new
   promotes is = record {
     sizes = record { page_bytes = size; capacity = ap (λ (s : LruCache (ℕ × ℕ) Slot). s.cap) is };
     count = ap (λ (s : LruCache (ℕ × ℕ) Slot). length s.entries) is ∙ length-promoted (is_key o c) old.slots.entries;
-    each = λ p q. ap (λ (s : LruCache (ℕ × ℕ) Slot). option_map held_in (lookup (is_key p q) s.entries)) is ∙ ap (option_map held_in) (each' p q (cases_Bool (is_key o c (p, q))));
+    each = λ p q. ap (λ (s : LruCache (ℕ × ℕ) Slot). option_map held_in (lookup (is_key p q) s.entries)) is ∙ ap (option_map held_in) (promoted_lookup p q);
   }
-    where
-      each' : (p q : ℕ) → (is_key o c (p, q) ≡ true) ⊎ (is_key o c (p, q) ≡ false) → lookup (is_key p q) (promoted (is_key o c) old.slots.entries) ≡ lookup (is_key p q) old.slots.entries
-      each' p q (inl e) =
-          let same = key_same o c (p, q) e in
-          subst (λ a. lookup (is_key a q) (promoted (is_key o c) old.slots.entries) ≡ lookup (is_key a q) old.slots.entries) same.0
-          (subst (λ b. lookup (is_key o b) (promoted (is_key o c) old.slots.entries) ≡ lookup (is_key o b) old.slots.entries) same.1
-          (lookup-promoted_same (is_key o c) old.slots.entries))
-      each' p q (inr n) = lookup-promoted (is_key o c) (is_key p q) (keys_apart o c p q (λ a b. true≢false (sym (same_key o c (p, q) (sym a) (sym b)) ∙ n))) old.slots.entries
+
+  -- a slot was written over the one of the key, in a list that has of each key what the old one has
+  module _ (es : List ((ℕ × ℕ) × Slot)) (each : (p q : ℕ) → lookup (is_key p q) es ≡ lookup (is_key p q) old.slots.entries) where
+    writes_over : (slot : Slot) (h : Held) → held_in slot ≡ h → IsSome (held old o c) → new.slots ≡ lru_cache (set_value (is_key o c) es slot) old.slots.cap → Changes o c (Some h) old new
+    writes_over slot h has there is = record {
+      sizes = record { page_bytes = size; capacity = ap (λ (s : LruCache (ℕ × ℕ) Slot). s.cap) is };
+      here =
+          ap (λ (s : LruCache (ℕ × ℕ) Slot). option_map held_in (lookup (is_key o c) s.entries)) is
+          ∙ ap (option_map held_in) (set (o, c) ∙ cond-true _ (Some slot) (lookup (is_key o c) es) (key_laws.refl (o, c))) ∙ ap Some has;
+      others = λ p q other.
+          ap (λ (s : LruCache (ℕ × ℕ) Slot). option_map held_in (lookup (is_key p q) s.entries)) is
+          ∙ ap (option_map held_in) (set (p, q) ∙ cond-false _ (Some slot) (lookup (is_key p q) es) (not_key o c p q other) ∙ each p q);
+    }
+      where
+        one : (x y : ℕ × ℕ) → is_key o c x ≡ true → is_key o c y ≡ key_eq x y
+        one x y e = key_laws.congr (o, c) x y e
+
+        found : IsSome (lookup (is_key o c) es)
+        found = ap is_some (each o c) ∙ some_held (lookup (is_key o c) old.slots.entries) there
+
+        set : (k : ℕ × ℕ) → lookup (key_eq k) (set_value (is_key o c) es slot) ≡ cond (is_key o c k) (Some slot) (lookup (key_eq k) es)
+        set k = lookup-set_value key_laws (is_key o c) one k slot es found
+
+  -- the slot of the key has another value
+  pub writes : (slot : Slot) (h : Held) → held_in slot ≡ h → IsSome (held old o c) → new.slots ≡ lru_cache (set_value (is_key o c) old.slots.entries slot) old.slots.cap → Changes o c (Some h) old new
+  writes = writes_over old.slots.entries (λ p q. refl)
+
+  -- and the key is used
+  pub writes_used : (slot : Slot) (h : Held) → held_in slot ≡ h → IsSome (held old o c)
+      → new.slots ≡ lru_cache (set_value (is_key o c) (promoted (is_key o c) old.slots.entries) slot) old.slots.cap → Changes o c (Some h) old new
+  writes_used = writes_over (promoted (is_key o c) old.slots.entries) promoted_lookup
 
 pub removed_count : (old new : LruCache (ℕ × ℕ) Slot) (k : ℕ × ℕ) → IsSome (option_map held_in (lookup (key_eq k) old.entries))
     → new ≡ lru_cache (remove_entry (key_eq k) old.entries) old.cap → length new.entries + 1 ≡ length old.entries
@@ -180,7 +194,7 @@ module _ (bytes : ℕ) (old : LruCache (ℕ × ℕ) Slot) (new : LruCache (ℕ �
   pub same_sized : new ≡ old → AreSized bytes new.entries
   same_sized is key it in' = sized key it (subst (λ (s : LruCache (ℕ × ℕ) Slot). Contains s.entries (key, it)) is in')
 
-  found_sized : (k : ℕ × ℕ) (f : Option Slot) (it : Slot) → lookup (key_eq k) old.entries ≡ f → f ≡ Some it → length (frame_of it).items ≡ bytes
+  pub found_sized : (k : ℕ × ℕ) (f : Option Slot) (it : Slot) → lookup (key_eq k) old.entries ≡ f → f ≡ Some it → length (frame_of it).items ≡ bytes
   found_sized k f it is found = let c = Contains-lookup (key_eq k) old.entries it (is ∙ found) in sized c.0 it c.1
 
   -- and where the slot of a key has another with its frame
@@ -188,6 +202,13 @@ module _ (bytes : ℕ) (old : LruCache (ℕ × ℕ) Slot) (new : LruCache (ℕ �
   vacated_sized k was slot found same is key it in' = elim (Contains-set (key_eq k) old.entries slot (key, it) (subst (λ (s : LruCache (ℕ × ℕ) Slot). Contains s.entries (key, it)) is in')) [
     | inl there ↦ sized key it there
     | inr put ↦ ap (λ s. length (frame_of s).items) put ∙ ap (λ (f : Vec ℕ Global). length f.items) same ∙ found_sized k (Some was) was found refl
+  ]
+
+  -- and where a key that is used has another slot
+  pub written_sized : (k : ℕ × ℕ) (slot : Slot) → length (frame_of slot).items ≡ bytes → new ≡ lru_cache (set_value (key_eq k) (promoted (key_eq k) old.entries) slot) old.cap → AreSized bytes new.entries
+  written_sized k slot size is key it in' = elim (Contains-set (key_eq k) (promoted (key_eq k) old.entries) slot (key, it) (subst (λ (s : LruCache (ℕ × ℕ) Slot). Contains s.entries (key, it)) is in')) [
+    | inl there ↦ sized key it (Contains-promoted (key_eq k) old.entries (key, it) there)
+    | inr put ↦ ap (λ s. length (frame_of s).items) put ∙ size
   ]
 
   -- and the frame of the slot that was over
@@ -210,24 +231,6 @@ module _ (bytes : ℕ) (old : LruCache (ℕ × ℕ) Slot) (new : LruCache (ℕ �
   page_sized k (slots.Reserved frame) (Some p) is e = absurd cc
   page_sized k (slots.Page frame) (Some p) is e =
       let same : p.now ≡ frame.items = cc in ap length same ∙ found_sized k (Some (slots.Page frame)) (slots.Page frame) is refl
-
-  -- the frames whether a slot was put or not
-  pub either_sized : {A E : Type 0} (k : ℕ × ℕ) (slot : Slot) (r : Result A E) → length (frame_of slot).items ≡ bytes
-      → OnOk r (new ≡ lru_cache (put_entries key_eq old k slot) old.cap) → OnErr r (new ≡ old) → AreSized bytes new.entries
-  either_sized k slot (Ok done) size ok err = put_sized k slot size ok
-  either_sized k slot (Err e) size ok err = same_sized err
-
-some_copied : {X : Type 0} (page : Option (Bor X)) → is_some (option_copied page) ≡ is_some page
-some_copied None = refl
-some_copied (Some p) = refl
-
--- a key that is used has a page where it had one
-pub use_finds : (old new : LruCache (ℕ × ℕ) Slot) (o c : ℕ) (b : Bool) (page : Option (Bor (List ℕ))) → new ≡ lru_cache (promoted (is_key o c) old.entries) old.cap
-    → b ≡ is_some page → option_copied page ≡ option_and_then page_in (option_map held_in (lookup (is_key o c) new.entries))
-    → b ≡ is_some (option_and_then page_in (option_map held_in (lookup (is_key o c) old.entries)))
-use_finds old new o c b page after is told =
-    is ∙ sym (some_copied page) ∙ ap is_some (told ∙ ap (λ (s : LruCache (ℕ × ℕ) Slot). option_and_then page_in (option_map held_in (lookup (is_key o c) s.entries))) after
-    ∙ ap (λ f. option_and_then page_in (option_map held_in f)) (lookup-promoted_same (is_key o c) old.entries))
 
 -- a key that is passed over is none of those that are looked for
 pub passed_over : (o c q : ℕ) (k : ℕ × ℕ) → (k.0 ≡ o → k.1 < c) → c ≤ q → is_key o q k ≡ false

@@ -1,5 +1,5 @@
 -- Lists of entries that are looked up by tests of their keys.
-use Rattle.std.proofs.Common.{◌≡◌, ◌≤◌, ◌<◌, ℕ, zero, suc, ◌+◌, ◌-◌, Bool, true, false, ◌⊎◌, List, [], ◌∷◌, length, take, Contains, Option, Some, None, IsSome, refl, sym, ◌∙◌, ap, inl, inr, arith, cond, is_some, option_map, subst}
+use Rattle.std.proofs.Common.{◌≡◌, ◌≤◌, ◌<◌, ℕ, zero, suc, ◌+◌, ◌-◌, Bool, true, false, ◌⊎◌, List, [], ◌∷◌, length, take, Option, Some, None, IsSome, refl, sym, ◌∙◌, ap, inl, inr, arith, cond, is_some, option_map, subst}
 use Rattle.std.proofs.lemmas.Bool.{cases_Bool, false≢true, cond-true, cond-false}
 use Rattle.std.specs.Cmp.{IsEquivalence}
 use Rattle.std.specs.Option.{option_map_or}

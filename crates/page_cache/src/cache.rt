@@ -8,6 +8,7 @@ use crate::slot::Slot;
 use flash_tree::Key;
 use lru::LruCache;
 use std::alloc::{AllocError, Global};
+use std::mem;
 use std::num::NonZeroUsize;
 
 /// Pages of one size under their keys, and places for pages. The number of keys is bounded; the least recently used goes
@@ -63,10 +64,10 @@ impl PageCache {
         ensures found { IsTrue result ↔ IsSome (cached self.old key.object key.chunk) }
         ensures same { HasTheSame self.old self.new }
     {
-        if !self.slots.promote(&(key.object, key.chunk)) {
-            return false;
+        match self.slots.get(&(key.object, key.chunk)) {
+            Some(slot) => slot.page().is_some(),
+            None => false,
         }
-        self.page(key).is_some()
     }
 
     /// The page of the key, if there is one.
@@ -80,15 +81,17 @@ impl PageCache {
         }
     }
 
-    /// Makes the bytes the page of the key.
-    pub fn put(&mut self, key: Key, bytes: &[u8]) -> Result<(), AllocError>
-        requires { length bytes.now ≡ page_bytes_of self.old }
-        ensures ok { OnOk result (Puts key.object key.chunk (Page bytes.now) self.old self.new) }
+    /// Makes the bytes of the frame the page of the key. The frame changes places with one that no key has, so that no
+    /// page is copied.
+    pub fn put(&mut self, key: Key, frame: &mut Vec<u8>) -> Result<(), AllocError>
+        requires { length frame.old.items ≡ page_bytes_of self.old }
+        ensures ok { OnOk result (Puts key.object key.chunk (Page frame.old.items) self.old self.new) }
         ensures err { OnErr result (HasTheSame self.old self.new) }
+        ensures size { length frame.new.items ≡ page_bytes_of self.old }
     {
-        let mut frame = self.take_frame()?;
-        frame.copy_from_slice(bytes);
-        self.insert(key, Slot::Page(frame))
+        let mut page = self.take_frame()?;
+        mem::swap(&mut page, frame);
+        self.insert(key, Slot::Page(page))
     }
 
     /// Makes a place for the page that the key is to get. The page that it has goes.
@@ -108,14 +111,9 @@ impl PageCache {
         ensures taken { IsSome (held self.old key.object key.chunk) → Changes key.object key.chunk (Some (Page frame.items)) self.old self.new }
         ensures given_back { held self.old key.object key.chunk ≡ None → (result ≡ frame) × HasTheSame self.old self.new }
     {
-        let at = (key.object, key.chunk);
-        if !self.slots.contains(&at) {
-            return frame;
-        }
-        match self.slots.push(at, Slot::Page(frame)) {
-            Ok(Some((_, old))) => old.into_frame(),
-            Ok(None) => unreachable!(),
-            Err(_) => unreachable!(),
+        match self.slots.get_mut(&(key.object, key.chunk)) {
+            Some(slot) => mem::replace(slot, Slot::Page(frame)).into_frame(),
+            None => frame,
         }
     }
 

@@ -21,7 +21,7 @@ invariant_of-self g c =
       buffers = self.buffers;
       objects = λ whole. numbered_on _ _ (buffered self.buffer) reads.lasts (self.objects whole);
       most = self.most ∙ ap (λ (k : Geometry). k.pages / 4) (sym reads.lasts.geometry);
-      size = let was = self.size in let len = c.load_kept.ensures.size in let all = c.deref_mut.ensures.len in grind (arith, common_steps);
+      size = c.load_kept.ensures.size ∙ self.size ∙ sym bytes;
       buffer_size = self.buffer_size ∙ sym bytes;
       cache_size = c.load_kept.ensures.sizes.page_bytes ∙ self.cache_size ∙ sym bytes;
       place = λ i is. absurd (let two : places.Cached c.args.key ≡ places.Buffered i = is in cc);
@@ -43,7 +43,7 @@ invariant_of-self-in-Err g c =
       buffers = self.buffers;
       objects = λ whole. numbered_on _ _ (buffered self.buffer) reads.lasts (self.objects whole);
       most = self.most ∙ ap (λ (k : Geometry). k.pages / 4) (sym reads.lasts.geometry);
-      size = let was = self.size in let len = c.load_kept.ensures.size in let all = c.deref_mut.ensures.len in grind (arith, common_steps);
+      size = c.load_kept.ensures.size ∙ self.size ∙ sym bytes;
       buffer_size = self.buffer_size ∙ sym bytes;
       cache_size = c.load_kept.ensures.sizes.page_bytes ∙ self.cache_size ∙ sym bytes;
       place = self.place;

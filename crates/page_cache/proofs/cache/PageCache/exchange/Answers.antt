@@ -1,18 +1,20 @@
 use Rattle.std.proofs.Common.{length, sym, ◌∙◌, ap, refl}
-use Rattle.page_cache.specs.declared.slot.Slot.TheVariants as slots
-use Rattle.page_cache.proofs.Caching.{changes, either_sized, displaced_sized}
+use Rattle.page_cache.specs.Slots.{frame_of, held_in}
+use Rattle.page_cache.proofs.Caching.{writes_used, written_sized, found_sized}
 use Rattle.page_cache.proofs.cache.PageCache.exchange.Goals as goal
 
 pub invariant_of-self : goal.invariant_of-self
 invariant_of-self c = record {
-  sized = either_sized _ c.args.self.now.slots _ c.args.self.now.sized (c.args.key.object, c.args.key.chunk) _ c.push.result c.requires c.push.ensures.entries c.push.ensures.err;
+  sized = written_sized _ c.args.self.now.slots _ c.args.self.now.sized (c.args.key.object, c.args.key.chunk) c.replace.new.dest
+      (ap (λ s. length (frame_of s).items) c.replace.ensures.after ∙ c.requires) refl;
   spare_size = c.args.self.now.spare_size;
 }
 
-pub returns-clause-size : goal.returns-clause-size
-returns-clause-size c =
+pub returns-in-Some-clause-size : goal.returns-in-Some-clause-size
+returns-in-Some-clause-size c =
     ap (λ v. length v.items) c.into_frame.ensures
-    ∙ displaced_sized _ c.args.self.now.slots c.push.new.self c.args.self.now.sized (c.args.key.object, c.args.key.chunk) _ (slots.Page c.args.frame) _ (sym c.in-Ok-Some.ensures.old ∙ c.in-Ok-Some.field-0-is)
+    ∙ ap (λ s. length (frame_of s).items) c.replace.ensures.value
+    ∙ found_sized _ c.args.self.now.slots c.args.self.now.slots c.args.self.now.sized (c.args.key.object, c.args.key.chunk) _ c.in-Some.slot.now refl (sym c.in-Some.ensures.value)
 
-pub returns-clause-taken : goal.returns-clause-taken
-returns-clause-taken c = λ there. changes c.args.self.now _ c.args.key.object c.args.key.chunk refl _ there c.in-Ok-Some.ensures.entries
+pub returns-in-Some-clause-taken : goal.returns-in-Some-clause-taken
+returns-in-Some-clause-taken c = λ there. writes_used c.args.self.now _ c.args.key.object c.args.key.chunk refl c.replace.new.dest _ (ap held_in c.replace.ensures.after) there refl

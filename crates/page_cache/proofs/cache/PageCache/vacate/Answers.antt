@@ -1,5 +1,5 @@
 use Rattle.std.proofs.Common.{refl, sym}
-use Rattle.page_cache.proofs.Caching.{vacates, vacated_sized}
+use Rattle.page_cache.proofs.Caching.{writes, vacated_sized}
 use Rattle.page_cache.proofs.cache.PageCache.vacate.Goals as goal
 
 pub invariant_of-self : goal.invariant_of-self
@@ -9,4 +9,4 @@ invariant_of-self c = record {
 }
 
 pub returns-in-Some-clause-vacated : goal.returns-in-Some-clause-vacated
-returns-in-Some-clause-vacated c = λ there. vacates c.args.self.now _ c.args.key.object c.args.key.chunk refl c.vacate.new.self c.vacate.ensures.place there refl
+returns-in-Some-clause-vacated c = λ there. writes c.args.self.now _ c.args.key.object c.args.key.chunk refl c.vacate.new.self _ c.vacate.ensures.place there refl

@@ -20,7 +20,7 @@ use Rattle.posix_profile.specs.declared.reply.Reply.TheVariants as replies
 use Rattle.nand_model.specs.Calls.{Device}
 use Rattle.flash_tree.specs.Checkpoints.{IsChecked}
 use Rattle.pages.specs.State.{PagesState}
-use Rattle.pages.specs.Stores.{GoesOn}
+use Rattle.pages.specs.Stores.{GoesOn, HasFailed}
 use Rattle.paged_objects.specs.Ending.{HasEndedAt}
 use Rattle.paged_objects.specs.Standing.{Shown}
 use Rattle.objects.specs.Sealing.{EndsOn, StaysRight}
@@ -47,20 +47,20 @@ none_at i r is = cc
 
 -- So many commands are done, from a state, and the volume is not stopped.
 pub record GoesWell {V : Type 0} (m : Meaning V) (z : Sizes) (s : State) (commands : List Stamped) (told : List Reply) (a b : V) : Type 0 where
-  pub holds : RunHolds z false s commands told
+  pub holds : RunHolds z (m.read_only a) s commands told
   pub none : list_any is_stop told ≡ false
-  pub losses : (tree : Objects) → Shown z (m.pages a) tree → LossLeaves (Shown z (m.pages b)) tree z false s commands told
+  pub losses : (tree : Objects) → Shown z (m.pages a) tree → LossLeaves (Shown z (m.pages b)) tree z (m.read_only a) s commands told
   pub goes : m.stopped b ≡ false
-  pub state_is : m.stands z (after z false s commands told) b
+  pub state_is : m.stands z (after z (m.read_only a) s commands told) b
 
--- from each state that a volume which goes on and is not read-only stands for
+-- from each state that a volume which goes on stands for
 pub GoesSoFar : {V : Type 0} (m : Meaning V) (commands : List Stamped) (told : List Reply) (a b : V) → Type 0
-GoesSoFar m commands told a b = m.stopped a ≡ false → m.read_only a ≡ false → (z : Sizes) (s : State) → m.stands z s a → GoesWell m z s commands told a b
+GoesSoFar m commands told a b = m.stopped a ≡ false → (z : Sizes) (s : State) → m.stands z s a → GoesWell m z s commands told a b
 
 -- none is done yet
 pub well_none : {V : Type 0} (m : Meaning V) (commands : List Stamped) (a : V) → GoesSoFar m commands [] a a
 unfolding GoesSoFar
-well_none m commands a goes written z s is = record {
+well_none m commands a goes z s is = record {
   holds = tt;
   none = refl;
   losses = λ tree shown. inr (λ i done. absurd (none_at i done.1 done.3), shown);
@@ -71,25 +71,25 @@ well_none m commands a goes written z s is = record {
 module _ {V : Type 0} (m : Meaning V) (commands : List Stamped) (told : List Reply) (c : Stamped) (r : Reply) (a b d : V) (at : slice_get commands (length told) ≡ Some c)
     (same : m.read_only b ≡ m.read_only a) (so_far : GoesSoFar m commands told a b)
     (one : m.stopped b ≡ false → (z : Sizes) (s : State) → m.stands z s b → DoesOne m z s c r b d) (stops : m.stopped b ≡ false → m.stopped d ≡ is_stop r) where
-  module _ (going : m.stopped a ≡ false) (written : m.read_only a ≡ false) (z : Sizes) (s : State) (is : m.stands z s a) where
+  module _ (going : m.stopped a ≡ false) (z : Sizes) (s : State) (is : m.stands z s a) where
     was : GoesWell m z s commands told a b
     unfolding GoesSoFar
-    was = so_far going written z s is
+    was = so_far going z s is
 
     abbrev now : State
-    now = after z false s commands told
+    now = after z (m.read_only a) s commands told
 
     does_one : DoesOne m z now c r b d
     does_one = one was.goes z now was.state_is
 
-    holds_now : RunHolds z false s commands (told ++ r ∷ [])
+    holds_now : RunHolds z (m.read_only a) s commands (told ++ r ∷ [])
     holds_now =
-        let one = subst (λ ro. Replies z ro now c r) (same ∙ written) does_one.right in
-        holds_more z false s commands told c r at was.holds one (λ stop. absurd (true≢false (sym stop ∙ was.none)))
+        let one = subst (λ ro. Replies z ro now c r) same does_one.right in
+        holds_more z (m.read_only a) s commands told c r at was.holds one (λ stop. absurd (true≢false (sym stop ∙ was.none)))
 
-    losses_now : (t : Objects) → Shown z (m.pages a) t → LossLeaves (Shown z (m.pages d)) t z false s commands (told ++ r ∷ [])
+    losses_now : (t : Objects) → Shown z (m.pages a) t → LossLeaves (Shown z (m.pages d)) t z (m.read_only a) s commands (told ++ r ∷ [])
     losses_now t shown =
-        loss_more (Shown z (m.pages b)) (Shown z (m.pages d)) t z false s commands told c r at
+        loss_more (Shown z (m.pages b)) (Shown z (m.pages d)) t z (m.read_only a) s commands told c r at
         does_one.tree does_one.synced (was.losses t shown)
 
     stopped_as : m.stopped d ≡ is_stop r
@@ -98,13 +98,13 @@ module _ {V : Type 0} (m : Meaning V) (commands : List Stamped) (told : List Rep
     well_now : m.stopped d ≡ false → GoesWell m z s commands (told ++ r ∷ []) a d
     well_now still =
         let quiet : is_stop r ≡ false = sym stopped_as ∙ still in
-        let next = subst (λ ro. m.stands z (after_one z ro now c r) d) (same ∙ written) (does_one.stands quiet) in
+        let next = subst (λ ro. m.stands z (after_one z ro now c r) d) same (does_one.stands quiet) in
         record {
           holds = holds_now;
           none = any_push told r was.none ∙ quiet;
           losses = losses_now;
           goes = still;
-          state_is = subst (λ x. m.stands z x d) (sym (after_more z false s commands told c r at)) next;
+          state_is = subst (λ x. m.stands z x d) (sym (after_more z (m.read_only a) s commands told c r at)) next;
         }
 
     stopped_now : m.stopped d ≡ true → DoesCommands m z s commands (told ++ r ∷ []) a d
@@ -116,13 +116,14 @@ module _ {V : Type 0} (m : Meaning V) (commands : List Stamped) (told : List Rep
           losses = losses_now;
           stops = stopped ∙ sym (any_push told r was.none ∙ stop);
           cause = λ _. does_one.cause stop;
+          failed = λ only _. does_one.failed (same ∙ only) stop;
           stands = λ goes. absurd (true≢false (sym stopped ∙ goes));
         }
 
   -- one command more
   pub well_more : m.stopped d ≡ false → GoesSoFar m commands (told ++ r ∷ []) a d
   unfolding GoesSoFar
-  well_more still going written z s is = well_now going written z s is still
+  well_more still going z s is = well_now going z s is still
 
   -- the last, at the stop
   pub does_stopped : m.stopped d ≡ true → GoesOn (m.pages a) (m.pages d) → m.read_only d ≡ m.read_only a → (m.stopped a ≡ false → m.stopped b ≡ false) → Does m commands (told ++ r ∷ []) a d
@@ -130,7 +131,7 @@ module _ {V : Type 0} (m : Meaning V) (commands : List Stamped) (told : List Rep
     goes_on = goes;
     read_only = same_only;
     begun = λ going. inr (told, ap (λ (x : Reply). told ++ x ∷ []) (stop_is r (sym (stops (still going)) ∙ stopped)));
-    does = λ going written z s is. stopped_now going written z s is stopped;
+    does = λ going z s is. stopped_now going z s is stopped;
   }
 
 -- all commands are done
@@ -141,14 +142,15 @@ does_all m commands told a b all so_far goes same_only = record {
   goes_on = goes;
   read_only = same_only;
   begun = λ going. inl all;
-  does = λ going written z s is.
-      let was = so_far going written z s is in
+  does = λ going z s is.
+      let was = so_far going z s is in
       record {
         holds = was.holds;
         begun = inl all;
         losses = was.losses;
         stops = was.goes ∙ sym was.none;
         cause = λ stopped. absurd (true≢false (sym stopped ∙ was.goes));
+        failed = λ only stopped. absurd (true≢false (sym stopped ∙ was.goes));
         stands = λ _. was.state_is;
       };
 }
@@ -157,8 +159,8 @@ does_all m commands told a b all so_far goes same_only = record {
 covers_all : (commands : List Stamped) (told : List Reply) → Covers commands told (length told)
 covers_all commands told i (command, reply, there, answered, done) = slice_get_within told i reply answered
 
-all_told : (z : Sizes) (s : State) (commands : List Stamped) (told : List Reply) → settled_after z false s commands told (length told) ≡ settled (after z false s commands told).objects
-all_told z s commands told = ap (λ (x : List Reply). settled (after z false s commands x).objects) (take_all (length told) told (omega arith))
+all_told : (z : Sizes) (ro : Bool) (s : State) (commands : List Stamped) (told : List Reply) → settled_after z ro s commands told (length told) ≡ settled (after z ro s commands told).objects
+all_told z ro s commands told = ap (λ (x : List Reply). settled (after z ro s commands x).objects) (take_all (length told) told (omega arith))
 
 -- What an unmount of a volume that goes on answers and leaves.
 pub record UnmountsOne {V : Type 0} (m : Meaning V) (v : V) (q : PagesState) (reply : Reply) : Type 0 where
@@ -166,6 +168,7 @@ pub record UnmountsOne {V : Type 0} (m : Meaning V) (v : V) (q : PagesState) (re
   pub done : (z : Sizes) (s : State) → m.stands z s v → reply ≡ replies.Done → Shown z q (settled s.objects)
   pub tree : (z : Sizes) (s : State) → m.stands z s v → (tree : Objects) → Shown z (m.pages v) tree → Shown z q tree ⊎ Shown z q (settled s.objects)
   pub cause : (z : Sizes) (s : State) → m.stands z s v → reply ≡ replies.Error errors.EIO → HasEndedAt q
+  pub only_done : m.read_only v ≡ true → reply ≡ replies.Done
   pub checked : (z : Sizes) (s : State) → m.stands z s v → StaysRight (m.pages v) q
 
 module _ {V : Type 0} (m : Meaning V) (commands : List Stamped) (told : List Reply) (a b : V) (done : Does m commands told a b) where
@@ -178,14 +181,18 @@ module _ {V : Type 0} (m : Meaning V) (commands : List Stamped) (told : List Rep
     right = λ going z s stands. goes_right (m.pages a) (m.pages b) done.goes_on;
     begun = done.begun;
     abandoned = λ none. (b, done, is);
-    leaves = λ going written z s tree stands shown.
-        let does = done.does going written z s stands in
+    leaves = λ going z s tree stands shown.
+        let does = done.does going z s stands in
         record {
           holds = does.holds;
           begun = does.begun;
           unmounts = λ reply told. let two : None ≡ Some reply = told in absurd cc;
           cause = λ why. elim why [
             | inl stop ↦ does.cause (does.stops ∙ stop)
+            | inr told ↦ let two : None ≡ Some (replies.Error errors.EIO) = told in absurd cc
+          ];
+          failed = λ only why. elim why [
+            | inl stop ↦ does.failed only (does.stops ∙ stop)
             | inr told ↦ let two : None ≡ Some (replies.Error errors.EIO) = told in absurd cc
           ];
           losses = does.losses tree shown;
@@ -196,9 +203,9 @@ module _ {V : Type 0} (m : Meaning V) (commands : List Stamped) (told : List Rep
   -- an unmount of the volume, which leaves these pages, with this reply
   module _ (device : Device) (reply : Reply) (q : PagesState) (device_is : LiesOn q device) (on : EndsOn (m.pages b) q) (stops : m.stopped b ≡ true → (reply ≡ replies.Error errors.EIO) × (q ≡ m.pages b))
       (reads : m.read_only b ≡ true → q ≡ m.pages b) (goes : m.stopped b ≡ false → UnmountsOne m b q reply) where
-    module _ (going : m.stopped a ≡ false) (written : m.read_only a ≡ false) (z : Sizes) (s : State) (tree : Objects) (stands : m.stands z s a) (shown : Shown z (m.pages a) tree) where
+    module _ (going : m.stopped a ≡ false) (z : Sizes) (s : State) (tree : Objects) (stands : m.stands z s a) (shown : Shown z (m.pages a) tree) where
       does : DoesCommands m z s commands told a b
-      does = done.does going written z s stands
+      does = done.does going z s stands
 
       reply_is : (reply ≡ replies.Done) ⊎ (reply ≡ replies.Error errors.EIO)
       reply_is = elim (cases_Bool (m.stopped b)) [
@@ -207,14 +214,14 @@ module _ {V : Type 0} (m : Meaning V) (commands : List Stamped) (told : List Rep
       ]
 
       -- the tree that a mount would show before the unmount, or all of the commands
-      turned : m.stopped b ≡ false → (t : Objects) → Shown z (m.pages b) t → Shown z q t ⊎ Shown z q (settled_after z false s commands told (length told))
-      turned still t there = elim ((goes still).tree z (after z false s commands told) (does.stands still) t there) [
+      turned : m.stopped b ≡ false → (t : Objects) → Shown z (m.pages b) t → Shown z q t ⊎ Shown z q (settled_after z (m.read_only a) s commands told (length told))
+      turned still t there = elim ((goes still).tree z (after z (m.read_only a) s commands told) (does.stands still) t there) [
         | inl still ↦ inl still
-        | inr all ↦ inr (subst (Shown z q) (sym (all_told z s commands told)) all)
+        | inr all ↦ inr (subst (Shown z q) (sym (all_told z (m.read_only a) s commands told)) all)
       ]
 
-      left_goes : m.stopped b ≡ false → LossLeaves (Shown z (m.pages b)) tree z false s commands told → LossLeaves (Shown z q) tree z false s commands told
-      left_goes going' (inl some) = elim (turned going' (settled_after z false s commands told some.0) some.3) [
+      left_goes : m.stopped b ≡ false → LossLeaves (Shown z (m.pages b)) tree z (m.read_only a) s commands told → LossLeaves (Shown z q) tree z (m.read_only a) s commands told
+      left_goes going' (inl some) = elim (turned going' (settled_after z (m.read_only a) s commands told some.0) some.3) [
         | inl still ↦ inl (some.0, some.1, some.2, still)
         | inr all ↦ inl (length told, covers_all commands told, omega arith, all)
       ]
@@ -223,16 +230,16 @@ module _ {V : Type 0} (m : Meaning V) (commands : List Stamped) (told : List Rep
         | inr all ↦ inl (length told, covers_all commands told, omega arith, all)
       ]
 
-      left_there : LossLeaves (Shown z q) tree z false s commands told
+      left_there : LossLeaves (Shown z q) tree z (m.read_only a) s commands told
       left_there = elim (cases_Bool (m.stopped b)) [
-        | inl stopped ↦ subst (λ (p : PagesState). LossLeaves (Shown z p) tree z false s commands told) (sym (stops stopped).1) (does.losses tree shown)
+        | inl stopped ↦ subst (λ (p : PagesState). LossLeaves (Shown z p) tree z (m.read_only a) s commands told) (sym (stops stopped).1) (does.losses tree shown)
         | inr still ↦ left_goes still (does.losses tree shown)
       ]
 
-      done_there : reply ≡ replies.Done → Shown z q (settled_after z false s commands told (length told))
+      done_there : reply ≡ replies.Done → Shown z q (settled_after z (m.read_only a) s commands told (length told))
       done_there is = elim (cases_Bool (m.stopped b)) [
         | inl stopped ↦ let two : replies.Done ≡ replies.Error errors.EIO = sym is ∙ (stops stopped).0 in absurd cc
-        | inr still ↦ subst (Shown z q) (sym (all_told z s commands told)) ((goes still).done z (after z false s commands told) (does.stands still) is)
+        | inr still ↦ subst (Shown z q) (sym (all_told z (m.read_only a) s commands told)) ((goes still).done z (after z (m.read_only a) s commands told) (does.stands still) is)
       ]
 
       ended_there : (list_any is_stop told ≡ true) ⊎ (reply ≡ replies.Error errors.EIO) → HasEndedAt q
@@ -240,11 +247,20 @@ module _ {V : Type 0} (m : Meaning V) (commands : List Stamped) (told : List Rep
         | inl stopped ↦ subst HasEndedAt (sym (stops stopped).1) (does.cause stopped)
         | inr still ↦ elim why [
           | inl stop ↦ absurd (true≢false (sym (does.stops ∙ stop) ∙ still))
-          | inr told' ↦ (goes still).cause z (after z false s commands told) (does.stands still) told'
+          | inr told' ↦ (goes still).cause z (after z (m.read_only a) s commands told) (does.stands still) told'
         ]
       ]
 
-      left_from : LeavesFrom z s tree commands told (Some reply) q
+      failed_there : m.read_only a ≡ true → (list_any is_stop told ≡ true) ⊎ (reply ≡ replies.Error errors.EIO) → HasFailed q.device
+      failed_there only why = elim (cases_Bool (m.stopped b)) [
+        | inl stopped ↦ subst (λ (p : PagesState). HasFailed p.device) (sym (stops stopped).1) (does.failed only stopped)
+        | inr still ↦ elim why [
+          | inl stop ↦ absurd (true≢false (sym (does.stops ∙ stop) ∙ still))
+          | inr told' ↦ let two : replies.Done ≡ replies.Error errors.EIO = sym ((goes still).only_done (done.read_only ∙ only)) ∙ told' in absurd cc
+        ]
+      ]
+
+      left_from : LeavesFrom z (m.read_only a) s tree commands told (Some reply) q
       left_from = record {
         holds = does.holds;
         begun = does.begun;
@@ -253,6 +269,10 @@ module _ {V : Type 0} (m : Meaning V) (commands : List Stamped) (told : List Rep
           | inl stop ↦ ended_there (inl stop)
           | inr is ↦ let one : Some reply ≡ Some (replies.Error errors.EIO) = is in let same : reply ≡ replies.Error errors.EIO = cc in ended_there (inr same)
         ];
+        failed = λ only why. failed_there only (elim why [
+          | inl stop ↦ inl stop
+          | inr is ↦ let one : Some reply ≡ Some (replies.Error errors.EIO) = is in let same : reply ≡ replies.Error errors.EIO = cc in inr same
+        ]);
         losses = left_there;
         done = λ is. let one : Some reply ≡ Some replies.Done = is in let same : reply ≡ replies.Done = cc in done_there same;
       }
@@ -267,8 +287,8 @@ module _ {V : Type 0} (m : Meaning V) (commands : List Stamped) (told : List Rep
       | inr still ↦ elim (cases_Bool (m.read_only b)) [
         | inl only ↦ as_left (reads only)
         | inr written ↦
-            let does = done.does going (sym done.read_only ∙ written) z s stands in
-            (goes still).checked z (after z false s commands told) (does.stands still)
+            let does = done.does going z s stands in
+            (goes still).checked z (after z (m.read_only a) s commands told) (does.stands still)
       ]
     ]
 
@@ -282,5 +302,5 @@ module _ {V : Type 0} (m : Meaning V) (commands : List Stamped) (told : List Rep
           right_after (m.pages a) (m.pages b) q (ends_going (m.pages a) (m.pages b) done.goes_on) (goes_right (m.pages a) (m.pages b) done.goes_on) (right_there going z s stands);
       begun = done.begun;
       abandoned = λ none. (let two : Some reply ≡ None = none in absurd cc);
-      leaves = λ going written z s tree stands shown. left_from going written z s tree stands shown;
+      leaves = λ going z s tree stands shown. left_from going z s tree stands shown;
     }

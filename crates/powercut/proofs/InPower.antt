@@ -1,5 +1,5 @@
 -- A mounted volume serves its session, and leaves a sound flash.
-use Rattle.std.specs.Prelude.{◌≡◌, ◌↔◌, ◌<◌, ◌≤◌, ◌^◌, ◌+◌, ℕ, Bool, true, false, List, [], ◌∷◌, length, Option, Some, None}
+use Rattle.std.specs.Prelude.{◌≡◌, ◌↔◌, ◌⊎◌, ◌<◌, ◌≤◌, ◌^◌, ◌+◌, ℕ, Bool, true, false, List, [], ◌∷◌, length, Option, Some, None}
 use Rattle.std.proofs.Common.{refl, sym, ◌∙◌, ap, subst, inl, inr, arith}
 use Rattle.std.proofs.lemmas.Bool.{cases_Bool, true≢false}
 use Rattle.std.proofs.lemmas.Option.{slice_get_within}
@@ -11,6 +11,7 @@ use Rattle.nand_model.specs.laws.Calls.{lasts_on}
 use Rattle.newest_pages.specs.Checked.{HasTrueFlash}
 use Rattle.nand_model.specs.declared.geometry.Geometry.{Geometry}
 use Rattle.posix_profile.specs.Losses.{Covers, settled_after}
+use Rattle.posix_profile.specs.Runs.{RunHolds}
 use Rattle.posix_profile.specs.State.{Objects}
 use Rattle.posix_profile.specs.laws.Sound.{IsSound}
 use Rattle.posix_profile.specs.declared.command.Stamped.{Stamped}
@@ -20,13 +21,13 @@ use Rattle.posix_profile.specs.declared.reply.Reply.TheVariants as replies
 use Rattle.flash_tree.specs.Checkpoints.{IsChecked}
 use Rattle.flash_tree.specs.Newest.{Numbers, AreGreatest}
 use Rattle.flash_tree.specs.Numbering.{AreBelow}
-use Rattle.flash_tree.specs.Mount.{Answer, Answers, IsTreeOf, sizes_of}
+use Rattle.flash_tree.specs.Mount.{Answer, Answers, IsTreeOf, sizes_of, bad_blocks}
 use Rattle.flash_tree.specs.Sound.{IsSoundFlash}
 use Rattle.flash_tree.specs.laws.Place.{same_flash}
 use Rattle.lives.specs.Lives.{Mounted, Gone, SessionRecord, at_mount, IsSessionFrom, IsLife}
 use Rattle.lives.specs.laws.Sessions.{loss_keeps}
 use Rattle.pages.specs.State.{PagesState, NextNumbers}
-use Rattle.pages.specs.Stores.{bad_on}
+use Rattle.pages.specs.Stores.{bad_on, HasFailed}
 use Rattle.trusted_nand.specs.Trusting.{trusted_as}
 use Rattle.posix_calls.specs.laws.Trusting.{read_since, left_as_seen, lasts_seen}
 use Rattle.flash_pages.specs.ReadOnly.{next_after}
@@ -39,7 +40,8 @@ use Rattle.paged_objects.specs.laws.OnFlash.{shown_sound}
 use Rattle.powercut.specs.Commands.{Meaning, LeavesFrom, IsUsed}
 use Rattle.powercut.specs.Limits.{StaysWithin}
 use Rattle.powercut.specs.Living.{HasSame, AreWithin, IsTrueOn, TrulyLived, HasLived}
-use Rattle.powercut.proofs.SameFlash.{same_back, greatest_same, sound_same}
+use Rattle.powercut.specs.Sessions.{IsServedFrom, IsUsedUp}
+use Rattle.powercut.proofs.SameFlash.{same_back, greatest_same, sound_same, bad_same, answers_same}
 use Rattle.powercut.proofs.Living.{greatest_within, none_marked, marked_on}
 
 -- what is recorded of a session whose mount was done
@@ -54,7 +56,7 @@ mounted_record commands told unmounted cut = record {
 }
 
 module _ (z : Sizes) (before : Objects) (commands : List Stamped) (told : List Reply) (unmounted : Option Reply) (left : PagesState)
-    (sound : IsSound z (at_mount before)) (leaves : LeavesFrom z (at_mount before) before commands told unmounted left) where
+    (sound : IsSound z (at_mount before)) (leaves : LeavesFrom z false (at_mount before) before commands told unmounted left) where
   -- so many of the commands are in the tree that a mount shows
   abbrev KeepsSome : Option Reply → Type 0
   KeepsSome u = (k : ℕ) × Covers commands told k × (k ≤ length told) × Shown z left (settled_after z false (at_mount before) commands told k) × (u ≡ Some replies.Done → k ≡ length told)
@@ -221,7 +223,9 @@ module _ {V : Type 0} (m : Meaning V) (v : V) (d e : Device) (commands : List St
 
     life : (after : Objects) × IsLife (sizes_of d.geometry spare) tree (mounted_record commands told unmounted q.device.gone ∷ []) after × IsSoundFlash q.device.geometry q.device.flash spare after
     life =
-        let leaves = used.leaves goes is_written (volume_of p) (at_mount objects) objects stands.volume stands.shown in
+        let leaves =
+        subst (λ (ro : Bool). LeavesFrom (volume_of p) ro (at_mount objects) objects commands told unmounted q) is_written
+        (used.leaves goes (volume_of p) (at_mount objects) objects stands.volume stands.shown) in
         let session = session_served (volume_of p) objects commands told unmounted q stands.sound leaves q.device.gone ends_by_cut in
         let record_told = mounted_record commands told unmounted q.device.gone in
         let from_tree = subst (λ (x : Objects). IsSessionFrom (volume_of p) x record_told session.0) tree_is session.1 in
@@ -233,6 +237,67 @@ module _ {V : Type 0} (m : Meaning V) (v : V) (d e : Device) (commands : List St
   checked_there =
       subst (λ (g : Geometry). IsChecked g p.device.flash p.checkpoint) (sym reads.lasts.geometry)
       (subst (λ (f : Flash). IsChecked d.geometry f p.checkpoint) (sym (same_flash d p.device reads honest)) checked)
+
+  failed_gone : HasFailed q.device → q.device.gone ≡ true
+  failed_gone (inl gone) = gone
+  failed_gone (inr dishonest) = absurd (true≢false (sym (lasts.honest ∙ honest) ∙ dishonest))
+
+  -- power is lost, or the blocks or the numbers are used up
+  ended_why : m.read_only v ≡ false → HasEndedAt q → (q.device.gone ≡ true) ⊎ ((m.read_only v ≡ false) × IsUsedUp p.spare n d q.device)
+  ended_why written (inl failed) = inl (failed_gone failed)
+  ended_why written (inr (inl group)) = elim (cases_Bool q.device.gone) [
+    | inl gone ↦ inl gone
+    | inr power ↦
+        let rose = used.ends_on.numbers.groups p_honest power in
+        let first = next_group in
+        let changes = reads.changes in
+        inr (written, inr (inl (omega (arith, group, rose, first, changes))))
+  ]
+  ended_why written (inr (inr (inl seq))) =
+      let rose = used.ends_on.numbers.seqs in
+      let first = next_seq in
+      let changes = reads.changes in
+      inr (written, inr (inr (omega (arith, seq, rose, first, changes))))
+  ended_why written (inr (inr (inr many))) = let kept = used.ends_on.spare in inr (written, inl (omega (arith, many, kept)))
+
+  -- the replies are right from the tree on
+  pub served_there : IsServedFrom d q.device commands told unmounted
+  served_there =
+      let leaves = used.leaves goes (volume_of p) (at_mount objects) objects stands.volume stands.shown in
+      let bad : bad_on p.device ≡ bad_on d = ap (λ (g : Geometry). bad_blocks g p.device.flash) reads.lasts.geometry ∙ bad_same d.geometry d.flash p.device.flash same in
+      let group = next_group in
+      let seq = next_seq in
+      record {
+        spare = p.spare;
+        tree = objects;
+        shows = answers_same d.geometry p.device.flash d.flash (same_back d.flash p.device.flash same) p.spare objects
+            (subst (λ (g : Geometry). Answers g p.device.flash (IsTreeOf p.spare objects)) reads.lasts.geometry stands.answers);
+        numbers = n;
+        greatest = at_first;
+        read_only = m.read_only v;
+        read_only_is = (
+          λ only. elim (read_only.0 only) [
+            | inl many ↦ inl (omega (arith, many, bad))
+            | inr used ↦ elim used [
+              | inl over ↦ inr (inl (omega (arith, over, group)))
+              | inr over ↦ inr (inr (omega (arith, over, seq)))
+            ]
+          ],
+          λ why. read_only.1 (elim why [
+            | inl many ↦ inl (omega (arith, many, bad))
+            | inr used ↦ elim used [
+              | inl over ↦ inr (inl (omega (arith, over, group)))
+              | inr over ↦ inr (inr (omega (arith, over, seq)))
+            ]
+          ]),
+        );
+        holds = subst (λ (g : Geometry). RunHolds (sizes_of g p.spare) (m.read_only v) (at_mount objects) commands told) reads.lasts.geometry leaves.holds;
+        unmounts = leaves.unmounts;
+        stops = λ why. elim (cases_Bool (m.read_only v)) [
+          | inl only ↦ inl (failed_gone (leaves.failed only why))
+          | inr written ↦ ended_why written (leaves.cause why)
+        ];
+      }
 
   pub truly_there : TrulyLived d q.device (mounted_record commands told unmounted q.device.gone ∷ [])
   truly_there = record {
@@ -277,6 +342,13 @@ module _ {V : Type 0} (m : Meaning V) (v : V) (d e now : Device) (commands : Lis
           let there = tree here in
           subst (λ (x : Device). TrulyLived d x (mounted_record commands told unmounted x.gone ∷ [])) left
           (truly_there m v d e commands told unmounted honest one reads goes read_only (next here) there.0 there.1 (checked (honest, truth)) used)
+
+    -- of a true flash
+    pub used_right : IsTrueOn d → IsServedFrom d e commands told unmounted
+    used_right truth =
+        let there = tree (here truth) in
+        subst (λ (x : Device). IsServedFrom d x commands told unmounted) (left truth)
+        (served_there m v d e commands told unmounted honest one (reads truth) goes read_only (next (here truth)) there.0 there.1 (checked (honest, truth)) used)
 
     pub used_lived : HasLived d e (mounted_record commands told unmounted e.gone ∷ [])
     used_lived =

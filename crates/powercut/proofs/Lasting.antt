@@ -1,21 +1,32 @@
 -- One session from its power-up on.
 use Rattle.std.specs.Prelude.{◌≡◌, ◌+◌, ℕ, Bool, true, false, List, [], ◌∷◌, length, Option, None, Some, is_some, if◌then◌else◌}
 use Rattle.std.specs.Global.{Vec}
-use Rattle.std.proofs.Common.{refl, sym, ◌∙◌, ap, subst, arith}
+use Rattle.std.proofs.Common.{refl, sym, ◌∙◌, ap, subst, inl, inr, arith}
+use Rattle.flash_tree.specs.Checkpoints.{IsTrueFlash}
+use Rattle.flash_tree.specs.Mount.{Answers, IsTreeOf, sizes_of, bad_blocks}
+use Rattle.mounting.specs.Faults.{WhyNotMounted}
+use Rattle.mounting.specs.declared.fault.MountFault.{MountFault}
+use Rattle.mounting.specs.declared.fault.MountFault.TheVariants as faults
+use Rattle.newest_pages.specs.Checked.{HasTrueFlash}
+use Rattle.pages.specs.Stores.{bad_on}
 use Rattle.nand_model.specs.Calls.{Device}
 use Rattle.nand_model.specs.Plans.{Plan}
 use Rattle.nand_model.specs.declared.fate.Fate.{Fate}
+use Rattle.nand_model.specs.declared.geometry.Geometry.{Geometry}
 use Rattle.planned_nand.specs.Planning.{call_of, IsPlanned}
-use Rattle.lives.specs.Lives.{SessionRecord}
+use Rattle.lives.specs.Lives.{SessionRecord, at_mount}
+use Rattle.posix_profile.specs.Runs.{RunHolds}
 use Rattle.posix_profile.specs.declared.command.Stamped.{Stamped}
-use Rattle.powercut.specs.Living.{HasLived}
+use Rattle.posix_profile.specs.declared.reply.Reply.{Reply}
+use Rattle.powercut.specs.Living.{HasSame, HasLived}
 use Rattle.powercut.specs.Serving.{served_record}
-use Rattle.powercut.specs.Sessions.{answer_of, record_of, IsEnded}
+use Rattle.powercut.specs.Sessions.{answer_of, record_of, IsEnded, IsServedFrom}
 use Rattle.powercut.specs.declared.serving.Served.{Served}
 use Rattle.powercut.specs.declared.session.Session.{Session}
 use Rattle.powercut.specs.declared.session.SessionEnd.{SessionEnd}
 use Rattle.powercut.specs.Starting.{Starts, fuse_of, plan_of}
 use Rattle.powercut.proofs.Living.{lived_still, lived_on}
+use Rattle.powercut.proofs.SameFlash.{same_back, greatest_same, true_same, bad_same, answers_same}
 
 module _ (fused : Bool) (a b c : Device) (starts : Starts fused a b) where
   -- the power-up changes nothing that counts
@@ -38,6 +49,83 @@ module _ (fused : Bool) (a b c : Device) (starts : Starts fused a b) where
         uncut = λ goes some. let lt = planned.uncut goes some in omega (arith, lt, changes, reads);
         failures = λ all. let few = planned.failures all in omega (arith, few, failures);
       }
+
+-- the flash is as it was before the power-up, and so are the replies to a volume on it
+module _ (fused : Bool) (a b d : Device) (starts : Starts fused a b) (n k : ℕ) (commands : List Stamped) (answered : List Reply) (unmounted : Option Reply) where
+  same_flash : HasSame a.flash b.flash
+  same_flash = record { page = starts.page; bad = starts.bad }
+
+  same_bad : bad_on b ≡ bad_on a
+  same_bad = ap (λ (g : Geometry). bad_blocks g b.flash) starts.geometry ∙ bad_same a.geometry a.flash b.flash same_flash
+
+  served_before : IsServedFrom b d commands answered unmounted → IsServedFrom a d commands answered unmounted
+  served_before served =
+      let bad = same_bad in
+      let changes = starts.changes in
+      record {
+        spare = served.spare;
+        tree = served.tree;
+        shows = answers_same a.geometry b.flash a.flash (same_back a.flash b.flash same_flash) served.spare served.tree
+            (subst (λ (g : Geometry). Answers g b.flash (IsTreeOf served.spare served.tree)) starts.geometry served.shows);
+        numbers = served.numbers;
+        greatest = greatest_same b.flash a.flash (same_back a.flash b.flash same_flash) served.numbers served.greatest;
+        read_only = served.read_only;
+        read_only_is = (
+          λ only. elim (served.read_only_is.0 only) [
+            | inl many ↦ inl (omega (arith, many, bad))
+            | inr used ↦ inr used
+          ],
+          λ why. served.read_only_is.1 (elim why [
+            | inl many ↦ inl (omega (arith, many, bad))
+            | inr used ↦ inr used
+          ]),
+        );
+        holds = subst (λ (g : Geometry). RunHolds (sizes_of g served.spare) served.read_only (at_mount served.tree) commands answered) starts.geometry served.holds;
+        unmounts = served.unmounts;
+        stops = λ why. elim (served.stops why) [
+          | inl gone ↦ inl gone
+          | inr up ↦ inr (
+            up.0,
+            elim up.1 [
+              | inl many ↦ inl many
+              | inr used ↦ elim used [
+                | inl group ↦ inr (inl (omega (arith, group, changes)))
+                | inr seq ↦ inr (inr (omega (arith, seq, changes)))
+              ]
+            ],
+          )
+        ];
+      }
+
+  true_after : IsTrueFlash a.geometry a.flash → IsTrueFlash b.geometry b.flash
+  true_after truth = subst (λ (g : Geometry). IsTrueFlash g b.flash) (sym starts.geometry) (true_same a.geometry a.flash b.flash same_flash truth)
+
+  -- what names a session says nothing of them
+  uncounted : IsServedFrom (record b { cuts = n }) (record d { cuts = k }) commands answered unmounted → IsServedFrom b d commands answered unmounted
+  uncounted served = record {
+    spare = served.spare;
+    tree = served.tree;
+    shows = served.shows;
+    numbers = served.numbers;
+    greatest = served.greatest;
+    read_only = served.read_only;
+    read_only_is = served.read_only_is;
+    holds = served.holds;
+    unmounts = served.unmounts;
+    stops = served.stops;
+  }
+
+  pub served_counts : a.honest ≡ true → (HasTrueFlash (record b { cuts = n }) → IsServedFrom (record b { cuts = n }) (record d { cuts = k }) commands answered unmounted) → IsTrueFlash a.geometry a.flash
+      → IsServedFrom a d commands answered unmounted
+  served_counts honest served truth = served_before (uncounted (served (starts.honest ∙ honest, true_after truth)))
+
+-- the reason of a mount's fault has nothing of the counts
+pub why_counts : (d : Device) (n : ℕ) (fault : MountFault) → WhyNotMounted (record d { cuts = n }) fault → WhyNotMounted d fault
+why_counts d n faults.Gone why = why
+why_counts d n faults.NoMemory why = why
+why_counts d n faults.NotAVolume why = why
+why_counts d n (faults.Newer format) why = why
+why_counts d n faults.Damaged why = why
 
 -- one cut is counted where power is lost
 pub cuts_counted : (session : Session) (end : SessionEnd) (a c : Device) → IsEnded session end a c → c.cuts ≡ a.cuts + (if end.cut then 1 else 0)

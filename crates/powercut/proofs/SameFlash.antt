@@ -12,7 +12,7 @@ use Rattle.flash_tree.specs.Checkpoints.{Checkpoint, check_group, IsWhole, IsTru
 use Rattle.flash_tree.specs.Groups.{HasTag, Group, IsGroup, SameGroups}
 use Rattle.flash_tree.specs.Newest.{Spot, IsNewest, HasNewest, AreAbove, AreGreatest, Numbers}
 use Rattle.flash_tree.specs.Tree.{InFootprint}
-use Rattle.flash_tree.specs.Mount.{sizes_of, IsVolume, bad_blocks, IsFree, HasRoom}
+use Rattle.flash_tree.specs.Mount.{sizes_of, IsVolume, bad_blocks, IsFree, HasRoom, Answers, IsTreeOf}
 use Rattle.flash_tree.specs.Sound.{IsSoundFlash}
 use Rattle.flash_tree.specs.laws.Newest.{same_groups_keep, has_newest_stays, tag_stays}
 use Rattle.flash_tree.specs.laws.Tree.{footprint_law}
@@ -111,7 +111,15 @@ greatest_same f g same n greatest = record {
   least = λ m above. greatest.least m (above_same g f (same_back f g same) m above);
 }
 
--- whether a flash is sound depends on pages and marks alone
+-- the tree that a flash shows depends on pages and marks alone
+pub answers_same : (g : Geometry) (a b : Flash) → HasSame a b → (spare : ℕ) (objects : Objects) → Answers g a (IsTreeOf spare objects) → Answers g b (IsTreeOf spare objects)
+answers_same g a b same spare objects shown = (
+  volume_same g a b same spare shown.0,
+  footprint_law (sizes_of g spare) (HasNewest a) (HasNewest b) objects (λ o c bytes foot has. newest_same a b same o c bytes has) shown.1,
+  room_same g a b same spare objects shown.2,
+)
+
+-- and so whether it is sound
 pub sound_same : (g : Geometry) (a b : Flash) → HasSame a b → (spare : ℕ) (objects : Objects) → IsSoundFlash g a spare objects → IsSoundFlash g b spare objects
 sound_same g a b same spare objects sound = record {
   volume = volume_same g a b same spare sound.volume;

@@ -16,7 +16,7 @@ use Rattle.posix_profile.specs.declared.reply.Reply.{Reply}
 use Rattle.posix_profile.specs.declared.reply.Reply.TheVariants as replies
 use Rattle.lives.specs.Lives.{EndsStopped}
 use Rattle.pages.specs.State.{PagesState}
-use Rattle.pages.specs.Stores.{GoesOn}
+use Rattle.pages.specs.Stores.{GoesOn, HasFailed}
 use Rattle.paged_objects.specs.Ending.{HasEndedAt}
 use Rattle.paged_objects.specs.Standing.{Shown}
 
@@ -27,46 +27,49 @@ pub record Meaning (V : Type 0) : Type 1 where
   pub stopped : V → Bool
   pub read_only : V → Bool
 
--- What one command answers and leaves, from a state of a volume that goes on.
+-- What one command answers and leaves, from a state of a volume that goes on. One that is read-only is stopped by its device alone.
 pub record DoesOne {V : Type 0} (m : Meaning V) (z : Sizes) (s : State) (stamped : Stamped) (reply : Reply) (a b : V) : Type 0 where
   pub right : Replies z (m.read_only a) s stamped reply
   pub stands : is_stop reply ≡ false → m.stands z (after_one z (m.read_only a) s stamped reply) b
   pub tree : (tree : Objects) → Shown z (m.pages a) tree → Shown z (m.pages b) tree ⊎ Shown z (m.pages b) (settled s.objects)
   pub synced : is_synced stamped.command reply ≡ true → Shown z (m.pages b) (settled s.objects)
   pub cause : is_stop reply ≡ true → HasEndedAt (m.pages b)
+  pub failed : m.read_only a ≡ true → is_stop reply ≡ true → HasFailed (m.pages b).device
 
 -- From a state: the replies are right, and all commands are answered unless the last reply is EIO; a mount shows the tree after
 -- some of the commands, at least those that a sync covers; the volume is stopped exactly where a reply is EIO, and then for its
--- reason, and else it stands for the state after the commands.
+-- reason, of a volume that is read-only by its device alone; and else it stands for the state after the commands.
 pub record DoesCommands {V : Type 0} (m : Meaning V) (z : Sizes) (s : State) (commands : List Stamped) (answered : List Reply) (a b : V) : Type 0 where
-  pub holds : RunHolds z false s commands answered
+  pub holds : RunHolds z (m.read_only a) s commands answered
   pub begun : (length answered ≡ length commands) ⊎ EndsStopped answered
-  pub losses : (tree : Objects) → Shown z (m.pages a) tree → LossLeaves (Shown z (m.pages b)) tree z false s commands answered
+  pub losses : (tree : Objects) → Shown z (m.pages a) tree → LossLeaves (Shown z (m.pages b)) tree z (m.read_only a) s commands answered
   pub stops : m.stopped b ≡ list_any is_stop answered
   pub cause : m.stopped b ≡ true → HasEndedAt (m.pages b)
-  pub stands : m.stopped b ≡ false → m.stands z (after z false s commands answered) b
+  pub failed : m.read_only a ≡ true → m.stopped b ≡ true → HasFailed (m.pages b).device
+  pub stands : m.stopped b ≡ false → m.stands z (after z (m.read_only a) s commands answered) b
 
 -- all commands are answered, or the last reply is EIO
 abbrev pub AreBegun : List Stamped → List Reply → Type 0
 AreBegun commands answered = (length answered ≡ length commands) ⊎ EndsStopped answered
 
--- The commands are begun one by one, up to the stop; and of a volume that goes on and is not read-only it is known what they do.
+-- The commands are begun one by one, up to the stop; and of a volume that goes on it is known what they do.
 pub record Does {V : Type 0} (m : Meaning V) (commands : List Stamped) (answered : List Reply) (a b : V) : Type 0 where
   pub goes_on : GoesOn (m.pages a) (m.pages b)
   pub read_only : m.read_only b ≡ m.read_only a
   pub begun : m.stopped a ≡ false → AreBegun commands answered
-  pub does : m.stopped a ≡ false → m.read_only a ≡ false → (z : Sizes) (s : State) → m.stands z s a → DoesCommands m z s commands answered a b
+  pub does : m.stopped a ≡ false → (z : Sizes) (s : State) → m.stands z s a → DoesCommands m z s commands answered a b
 
 -- From a state and a tree that a mount would show: the replies are right, and all commands are answered unless the last reply is
 -- EIO; the unmount, if there is one, is done or it is EIO, as a reply is, for its reason; and the pages that are left show the
 -- tree after some of the commands, at least those that a sync covers, and after all of them where the unmount is done.
-pub record LeavesFrom (z : Sizes) (s : State) (tree : Objects) (commands : List Stamped) (answered : List Reply) (unmounted : Option Reply) (left : PagesState) : Type 0 where
-  pub holds : RunHolds z false s commands answered
+pub record LeavesFrom (z : Sizes) (read_only : Bool) (s : State) (tree : Objects) (commands : List Stamped) (answered : List Reply) (unmounted : Option Reply) (left : PagesState) : Type 0 where
+  pub holds : RunHolds z read_only s commands answered
   pub begun : (length answered ≡ length commands) ⊎ EndsStopped answered
   pub unmounts : (reply : Reply) → unmounted ≡ Some reply → (reply ≡ replies.Done) ⊎ (reply ≡ replies.Error errors.EIO)
   pub cause : (list_any is_stop answered ≡ true) ⊎ (unmounted ≡ Some (replies.Error errors.EIO)) → HasEndedAt left
-  pub losses : LossLeaves (Shown z left) tree z false s commands answered
-  pub done : unmounted ≡ Some replies.Done → Shown z left (settled_after z false s commands answered (length answered))
+  pub failed : read_only ≡ true → (list_any is_stop answered ≡ true) ⊎ (unmounted ≡ Some (replies.Error errors.EIO)) → HasFailed left.device
+  pub losses : LossLeaves (Shown z left) tree z read_only s commands answered
+  pub done : unmounted ≡ Some replies.Done → Shown z left (settled_after z read_only s commands answered (length answered))
 
 -- What is done with a volume from its mount on: the commands, and an unmount, or none. Its device is given back: with no unmount it
 -- is as the commands left it. Checkpoints stay right.
@@ -76,6 +79,6 @@ pub record IsUsed {V : Type 0} (m : Meaning V) (v : V) (commands : List Stamped)
   pub ends_on : EndsOn (m.pages v) left
   pub begun : m.stopped v ≡ false → AreBegun commands answered
   pub abandoned : unmounted ≡ None → (after : V) × Does m commands answered v after × LiesOn (m.pages after) device
-  pub leaves : m.stopped v ≡ false → m.read_only v ≡ false → (z : Sizes) (s : State) (tree : Objects) → m.stands z s v → Shown z (m.pages v) tree
-      → LeavesFrom z s tree commands answered unmounted left
+  pub leaves : m.stopped v ≡ false → (z : Sizes) (s : State) (tree : Objects) → m.stands z s v → Shown z (m.pages v) tree
+      → LeavesFrom z (m.read_only v) s tree commands answered unmounted left
   pub right : m.stopped v ≡ false → (z : Sizes) (s : State) → m.stands z s v → StaysRight (m.pages v) left

@@ -3,7 +3,8 @@
 use Rattle.std.specs.Prelude.{◌≡◌, ◌⊎◌, ◌↔◌, Bool, true, List, length, Ok, Err, is_some}
 use Rattle.lives.specs.Lives.{SessionRecord, EndsStopped}
 use Rattle.mounting.specs.declared.fault.MountFault.{MountFault}
-use Rattle.mounting.specs.declared.fault.MountFault.TheVariants as faults
+use Rattle.mounting.specs.Faults.{WhyNotMounted}
+use Rattle.nand_model.specs.Calls.{Device}
 use Rattle.posix_profile.specs.declared.command.Stamped.{Stamped}
 use Rattle.powercut.specs.Sessions.{answer_of}
 use Rattle.powercut.specs.declared.serving.Served.{Served}
@@ -19,10 +20,10 @@ served_record commands served cut = record {
   cut = cut;
 }
 
--- What is served on any flash, by a device that is gone at the end or not: where the mount was done all commands are answered, unless
--- the last reply is EIO, and the volume is unmounted exactly as asked; where it was not, nothing is answered.
-pub record IsServed (commands : List Stamped) (unmount gone : Bool) (served : Served) : Type 0 where
+-- What is served on any flash, by a device that is so at the end: where the mount was done all commands are answered, unless the last
+-- reply is EIO, and the volume is unmounted exactly as asked; where it was not, nothing is answered, and the fault has its reason.
+pub record IsServed (commands : List Stamped) (unmount : Bool) (last : Device) (served : Served) : Type 0 where
   pub begun : served.mounted ≡ Ok tt → (length served.replies.items ≡ length commands) ⊎ EndsStopped served.replies.items
   pub none : (fault : MountFault) → served.mounted ≡ Err fault → length served.replies.items ≡ 0
   pub unmounts : (is_some served.unmounted ≡ true) ↔ ((unmount ≡ true) × (served.mounted ≡ Ok tt))
-  pub lost : served.mounted ≡ Err faults.Gone → gone ≡ true
+  pub why : (fault : MountFault) → served.mounted ≡ Err fault → WhyNotMounted last fault

@@ -1,11 +1,24 @@
 -- Sessions and their ends, as a life tells them.
 -- From: this project.
-use Rattle.std.specs.Prelude.{◌≡◌, ◌⊎◌, ◌↔◌, ℕ, ◌+◌, true, false, length, List, [], ◌∷◌, ◌++◌, Result, Ok, Err, is_some, if◌then◌else◌}
-use Rattle.lives.specs.Lives.{MountAnswer, Mounted, NoMemory, Gone, Faulty, SessionRecord, EndsStopped}
+use Rattle.std.specs.Prelude.{◌≡◌, ◌⊎◌, ◌↔◌, ◌<◌, ◌≤◌, ℕ, ◌+◌, Bool, true, false, length, List, [], ◌∷◌, ◌++◌, Option, Some, Result, Ok, Err, is_some, if◌then◌else◌}
+use Rattle.std.specs.List.{list_any}
+use Rattle.flash_tree.specs.Checkpoints.{IsTrueFlash}
+use Rattle.flash_tree.specs.Mount.{Answers, IsTreeOf, sizes_of}
+use Rattle.flash_tree.specs.Newest.{Numbers, AreGreatest}
+use Rattle.lives.specs.Lives.{MountAnswer, Mounted, NoMemory, Gone, Faulty, SessionRecord, EndsStopped, at_mount}
+use Rattle.mounting.specs.Faults.{WhyNotMounted}
 use Rattle.mounting.specs.declared.fault.MountFault.{MountFault}
 use Rattle.mounting.specs.declared.fault.MountFault.TheVariants as faults
 use Rattle.nand_model.specs.Calls.{Device}
+use Rattle.pages.specs.Stores.{bad_on}
 use Rattle.planned_nand.specs.Planning.{failing, IsPlanned}
+use Rattle.posix_profile.specs.Runs.{RunHolds, is_stop}
+use Rattle.posix_profile.specs.State.{Objects}
+use Rattle.posix_profile.specs.declared.command.Stamped.{Stamped}
+use Rattle.posix_profile.specs.declared.reply.Errno.TheVariants as errors
+use Rattle.posix_profile.specs.declared.reply.Reply.{Reply}
+use Rattle.posix_profile.specs.declared.reply.Reply.TheVariants as replies
+use Rattle.volume_terms.specs.Sizes.{number_end}
 use Rattle.powercut.specs.Starting.{plan_of}
 use Rattle.powercut.specs.declared.session.Session.{Session}
 use Rattle.powercut.specs.declared.session.SessionEnd.{SessionEnd}
@@ -36,6 +49,27 @@ records_of [] ends = []
 records_of (session ∷ sessions) [] = []
 records_of (session ∷ sessions) (end ∷ ends) = record_of session end ∷ records_of sessions ends
 
+-- More blocks are bad on the last device than there are to spare; or one number more for each change since the first is too many.
+abbrev pub IsUsedUp : (spare : ℕ) → Numbers → (first last : Device) → Type 0
+IsUsedUp spare n first last =
+    (spare < bad_on last) ⊎ (number_end + first.changes ≤ n.group + 1 + last.changes) ⊎ (number_end + first.changes ≤ n.seq + 1 + last.changes)
+
+-- The flash of the first device shows a tree, and the replies to the commands are right from it on, of a volume that is read-only exactly
+-- where more blocks are bad than there are to spare, or a number is used up. An unmount is done or EIO; and EIO comes only where power is
+-- lost, or the blocks or the numbers of a volume that can be written are used up.
+pub record IsServedFrom (first last : Device) (commands : List Stamped) (answered : List Reply) (unmounted : Option Reply) : Type 0 where
+  pub spare : ℕ
+  pub tree : Objects
+  pub shows : Answers first.geometry first.flash (IsTreeOf spare tree)
+  pub numbers : Numbers
+  pub greatest : AreGreatest first.flash numbers
+  pub read_only : Bool
+  pub read_only_is : (read_only ≡ true) ↔ ((spare < bad_on first) ⊎ (number_end ≤ numbers.group) ⊎ (number_end ≤ numbers.seq))
+  pub holds : RunHolds (sizes_of first.geometry spare) read_only (at_mount tree) commands answered
+  pub unmounts : (reply : Reply) → unmounted ≡ Some reply → (reply ≡ replies.Done) ⊎ (reply ≡ replies.Error errors.EIO)
+  pub stops : (list_any is_stop answered ≡ true) ⊎ (unmounted ≡ Some (replies.Error errors.EIO))
+      → (last.gone ≡ true) ⊎ ((read_only ≡ false) × IsUsedUp spare numbers first last)
+
 -- How a session ends, on any flash, that makes the one device the other.
 pub record IsEnded (session : Session) (end : SessionEnd) (first last : Device) : Type 0 where
   -- each command that was begun has its reply
@@ -44,6 +78,10 @@ pub record IsEnded (session : Session) (end : SessionEnd) (first last : Device) 
   pub begun : end.mounted ≡ Ok tt → (end.begun ≡ length session.commands.items) ⊎ EndsStopped end.replies.items
   -- where it was not, none is
   pub none : (fault : MountFault) → end.mounted ≡ Err fault → end.begun ≡ 0
+  -- and the fault has its reason
+  pub why : (fault : MountFault) → end.mounted ≡ Err fault → WhyNotMounted last fault
+  -- where it was done, and each whole checkpoint was right, the flash showed a tree, and the replies are right from it
+  pub served : IsTrueFlash first.geometry first.flash → end.mounted ≡ Ok tt → IsServedFrom first last session.commands.items end.replies.items end.unmounted
   -- an unmount is answered exactly where the session asks for it and the mount was done
   pub unmounts : (is_some end.unmounted ≡ true) ↔ ((session.unmount ≡ true) × (end.mounted ≡ Ok tt))
   -- power is lost where it is gone at the end

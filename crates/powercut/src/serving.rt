@@ -1,11 +1,13 @@
 // What is done between a power-up and the end of a session, on any device.
-ghost use Rattle.std.specs.Prelude.{◌≡◌, true, false, [], ◌∷◌, length, is_some, IfOk};
+ghost use Rattle.std.specs.Prelude.{◌≡◌, true, false, [], ◌∷◌, length, is_some, Ok, IfOk};
 ghost use Rattle.nand_model.specs.Calls.{Lasts};
+ghost use Rattle.newest_pages.specs.Checked.{HasTrueFlash};
 ghost use Rattle.page_volume.specs.Volumes.{pages_of, is_read_only, is_stopped, IsVolumeOf};
 ghost use Rattle.posix_calls.specs.Volumes.{over_pages};
 ghost use Rattle.powercut.specs.Commands.{IsUsed};
 ghost use Rattle.powercut.specs.Living.{HasLived};
 ghost use Rattle.powercut.specs.Serving.{served_record, IsServed};
+ghost use Rattle.powercut.specs.Sessions.{IsServedFrom};
 
 use crate::commands::{Commanded, do_commands};
 use flash_pages::FlashPages;
@@ -70,7 +72,9 @@ pub(crate) fn serve<N: Nand + Drop>(
     ensures lasts { IfOk result (λ r. (N.state r.0).honest ≡ (N.state device).honest → Lasts (N.state device) (N.state r.0)) }
     ensures lived { (N.state device).gone ≡ false → (N.state device).honest ≡ true
         → IfOk result (λ r. HasLived (N.state device) (N.state r.0) (served_record commands.now r.1 (N.state r.0).gone ∷ [])) }
-    ensures served { IfOk result (λ r. IsServed commands.now unmount (N.state r.0).gone r.1) }
+    ensures served { IfOk result (λ r. IsServed commands.now unmount (N.state r.0) r.1) }
+    ensures right { HasTrueFlash (N.state device) → IfOk result (λ r. r.1.mounted ≡ Ok tt
+        → IsServedFrom (N.state device) (N.state r.0) commands.now r.1.replies.items r.1.unmounted) }
 {
     a_flash_has_one_answer_at_most();
     match Volume::mount(alloc, device) {

@@ -5,11 +5,15 @@ use Rattle.nand_model.specs.Calls.{Device, Lasts}
 use Rattle.nand_model.specs.Plans.{Plan}
 use Rattle.nand_model.specs.MemoryState.{device, plan}
 use Rattle.lives.specs.Lives.{SessionRecord}
+use Rattle.mounting.specs.Faults.{WhyNotMounted}
+use Rattle.mounting.specs.declared.fault.MountFault.TheVariants as faults
+use Rattle.newest_pages.specs.Checked.{HasTrueFlash}
 use Rattle.planned_nand.specs.Planning.{IsPlanned}
 use Rattle.planned_nand.specs.States.{state_of}
 use Rattle.powercut.specs.Living.{HasLived}
+use Rattle.powercut.specs.Sessions.{IsServedFrom}
 use Rattle.powercut.specs.Starting.{plan_of}
-use Rattle.powercut.proofs.Lasting.{lived_one, session_lived, planned_from, no_cut, same_record}
+use Rattle.powercut.proofs.Lasting.{lived_one, session_lived, planned_from, no_cut, same_record, why_counts, served_counts}
 use Rattle.powercut.proofs.life.live_one.Goals as goal
 
 pub returns-clause-lived : goal.returns-clause-lived
@@ -50,5 +54,14 @@ returns-clause-ended c =
       cut = c.gone-cut.ensures;
       planned = planned;
       fuse = no_cut session a d c.gone-cut.result c.gone-cut.ensures planned;
-      gone = λ is. c.gone-cut.ensures ∙ sym gone ∙ served.lost is;
+      gone = λ is. c.gone-cut.ensures ∙ sym gone ∙ served.why faults.Gone is;
+      why = λ fault is. why_counts d (state_of c.in_ok-planned.planned).cuts fault (subst (λ (x : Device). WhyNotMounted x fault) c.into_nand-nand.ensures.device (served.why fault is));
+      served = λ truth mounted.
+          let told = c.in_ok-planned.served in
+          let w = state_of c.in_ok-planned.planned in
+          subst (λ (xs : List Stamped). IsServedFrom a d xs told.replies.items told.unmounted) commands
+          (served_counts _ a b d c.in_ok-nand.ensures.starts _ _ c.deref.result.now _ _ refl
+          (subst (λ (x : Device). HasTrueFlash x → IsServedFrom x (record d { cuts = w.cuts }) c.deref.result.now told.replies.items told.unmounted) c.new-planned.ensures
+          (subst (λ (x : Device). HasTrueFlash (state_of c.new-planned.result) → IsServedFrom (state_of c.new-planned.result) x c.deref.result.now told.replies.items told.unmounted) c.into_nand-nand.ensures.device
+          (λ true'. c.in_ok-planned.ensures.right true' mounted))) truth);
     }

@@ -19,4 +19,5 @@ returns-clause-one g c = λ goes z s stands.
       tree = replied.tree;
       synced = replied.synced;
       cause = call_ended replied;
+      failed = replied.only_failed;
     }

@@ -1,11 +1,18 @@
 -- Why sessions end.
-use Rattle.std.proofs.Common.{◌≡◌, ℕ, List, Option, Err, sym, subst}
+use Rattle.std.proofs.Common.{◌≡◌, ℕ, List, Option, Result, Ok, Err, sym, subst}
+use Rattle.std.specs.Prelude.{◌≢◌, IfOk, IfErr}
+use Rattle.plain_volume.specs.Views.{PlainView}
+use Rattle.posix_profile.specs.declared.command.Stamped.{Stamped}
+use Rattle.posix_profile.specs.declared.reply.Reply.{Reply}
 use Rattle.nand_model.specs.Calls.{Device}
 use Rattle.mounting.specs.declared.fault.MountFault.{MountFault}
 use Rattle.mounting.specs.declared.fault.MountFault.TheVariants as mounts
 use Rattle.powercut.specs.declared.session.SessionEnd.{SessionEnd}
-use Rattle.exerciser.specs.Faults.{of_mount}
-use Rattle.exerciser.specs.Causes.{IsAnswered, CountsCalls, IsOfSession, WhyNotBegun, HasCause}
+use Rattle.exerciser.specs.Faults.{IsOfReading, of_mount}
+use Rattle.exerciser.specs.Seen.{IsSeen}
+use Rattle.exerciser.specs.declared.seen.Seen.{Seen}
+use Rattle.exerciser.specs.declared.seen.Seen.TheVariants as seens
+use Rattle.exerciser.specs.Causes.{IsAnswered, CountsCalls, IsOfSession, MountsAs, WhyNotBegun, HasCause}
 use Rattle.exerciser.specs.Lines.{IsTold}
 use Rattle.exerciser.specs.declared.fault.CutFault.{CutFault}
 use Rattle.exerciser.specs.declared.fault.CutFault.TheVariants as faults
@@ -18,6 +25,21 @@ not_counted calls end faults.Unmount counts = tt
 not_counted calls end faults.Unread counts = absurd counts
 not_counted calls end faults.Torn counts = absurd counts
 not_counted calls end faults.Write counts = absurd counts
+
+-- a mount that has this fault is seen as that
+pub seen_as : (tree : PlainView) (commands : List Stamped) (told : List Reply) (fault : MountFault) (result : Result Seen CutFault) → IfOk result (λ seen. (seen ≡ seens.Mount fault) × (fault ≢ mounts.NoMemory))
+    → IfOk result (IsSeen tree commands told)
+seen_as tree commands told fault (Ok seen) is = subst (IsSeen tree commands told) (sym is.0) tt
+seen_as tree commands told fault (Err other) is = tt
+
+pub seen_failed : (device : Device) (fault : MountFault) (result : Result Seen CutFault) → IsAnswered device fault → IfOk result (λ seen. (seen ≡ seens.Mount fault) × (fault ≢ mounts.NoMemory))
+    → IfOk result (MountsAs device)
+seen_failed device fault (Ok seen) why is = subst (MountsAs device) (sym is.0) (is.1, why)
+seen_failed device fault (Err other) why is = tt
+
+pub fails_reading : (result : Result Seen CutFault) → IfErr result (λ e. e ≡ faults.NoMemory) → IfErr result IsOfReading
+fails_reading (Ok seen) is = tt
+fails_reading (Err fault) is = subst IsOfReading (sym is) tt
 
 -- two faults of a mount
 abbrev Same : MountFault → MountFault → Type 0

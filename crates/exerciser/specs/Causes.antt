@@ -9,10 +9,18 @@ use Rattle.posix_profile.specs.declared.reply.Reply.TheVariants as replies
 use Rattle.powercut.specs.declared.session.SessionEnd.{SessionEnd}
 use Rattle.exerciser.specs.declared.fault.CutFault.{CutFault}
 use Rattle.exerciser.specs.declared.fault.CutFault.TheVariants as faults
+use Rattle.exerciser.specs.declared.seen.Seen.{Seen}
+use Rattle.exerciser.specs.declared.seen.Seen.TheVariants as seens
 
 -- a mount of the device, which powers it up and only reads it, has this fault for its reason
 abbrev pub IsAnswered : Device → MountFault → Type 0
 IsAnswered device fault = (up : Device) × (back : Device) × PowersUp device up × OnlyReads up back × WhyNotMounted back fault
+
+-- a mount that fails has its reason, and was not refused memory
+abbrev pub MountsAs : Device → Seen → Type 0
+MountsAs device (seens.Kept count tree) = Unit {0}
+MountsAs device (seens.Torn tree) = Unit {0}
+MountsAs device (seens.Mount fault) = (fault ≢ mounts.NoMemory) × IsAnswered device fault
 
 -- How a session that is not cut is counted: by its calls exactly where it was mounted and unmounted; NoMemory where its mount was
 -- refused memory; else Unmount.

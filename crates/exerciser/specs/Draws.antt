@@ -1,5 +1,5 @@
 -- Which calls of the device are cut, drawn from a seed.
-use Rattle.std.specs.Prelude.{◌≡◌, ℕ, zero, suc, ◌≤◌, max, List, map, None, Ok}
+use Rattle.std.specs.Prelude.{◌≡◌, ℕ, zero, suc, max, List, map, None, Ok}
 use Rattle.nand_model.specs.Calls.{Device}
 use Rattle.nand_model.specs.MemoryState.{device, plan}
 use Rattle.nand_model.specs.declared.fate.Fate.{Fate}
@@ -29,10 +29,6 @@ words_after seed pages (suc before) = words_after_session pages (words_after see
 -- the word of a seed that draws the call of the session after so many
 abbrev pub session_word : (seed pages before : ℕ) → ℕ
 session_word seed pages before = (next_u64 (words_after seed pages before)).0
-
--- the word draws this call, among those of some session, of which there is at least one
-abbrev pub IsDrawn : (word operation : ℕ) → Type 0
-IsDrawn word operation = (calls : ℕ) × (1 ≤ calls) × (operation ≡ operation_of calls word)
 
 -- the session with no call that is cut
 abbrev pub uncut : Session → Session

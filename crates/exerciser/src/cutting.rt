@@ -1,13 +1,12 @@
 // Sessions that are cut at drawn calls of the device.
 ghost use Rattle.std.specs.Prelude.{◌≡◌, ◌≤◌, ℕ, Some, IfOk, IfErr, OnOk};
-ghost use Rattle.nand_model.specs.Calls.{Device};
 ghost use Rattle.rand_core.specs.Stream.{next_u64};
 ghost use Rattle.nand_model.specs.MemoryState.{device};
 ghost use Rattle.cut_draws.specs.Draws.{answers, operation_of};
 ghost use Rattle.powercut.specs.Sessions.{IsEnded};
 ghost use Rattle.powercut.specs.Starting.{fuse_of};
-ghost use Rattle.exerciser.specs.Causes.{IsOfSession, HasCause};
-ghost use Rattle.exerciser.specs.Draws.{words_after_session, drawn_fates, session_word, uncut, IsDrawnAmong};
+ghost use Rattle.exerciser.specs.Causes.{IsOfSession, HasCause, MountsAs};
+ghost use Rattle.exerciser.specs.Draws.{words_after_session, drawn_fates, uncut, IsDrawnAmong};
 ghost use Rattle.exerciser.specs.Cutting.{Cuts};
 ghost use Rattle.exerciser.specs.Seen.{IsSeen, IsTorn};
 ghost use Rattle.exerciser.specs.declared.fault.CutFault.TheVariants as faults;
@@ -36,7 +35,7 @@ fn set_fuse(
     pages: u32,
 ) -> Result<u64, CutFault>
     requires { 1 ≤ calls }
-    ensures commands { session.new.commands ≡ session.old.commands }
+    ensures same { uncut session.new ≡ uncut session.old }
     ensures fuse { IfOk result (λ operation. fuse_of session.new.fuse ≡ Some (operation, drawn_fates pages (answers generator.old))) }
     ensures drawn { IfOk result (λ operation. operation ≡ operation_of calls (next_u64 (answers generator.old)).0) }
     ensures left { OnOk result (answers generator.new ≡ words_after_session pages (answers generator.old)) }
@@ -55,7 +54,7 @@ fn draw_fuse(
     generator: &mut Lcg128Xsl64,
     pages: u32,
 ) -> Result<u64, CutFault>
-    ensures commands { session.new.commands ≡ session.old.commands }
+    ensures same { uncut session.new ≡ uncut session.old }
     ensures fuse { IfOk result (λ operation. fuse_of session.new.fuse ≡ Some (operation, drawn_fates pages (answers generator.old))) }
     ensures drawn { IfOk result (IsDrawnAmong (device nand.now) (uncut session.old) (next_u64 (answers generator.old)).0) }
     ensures left { OnOk result (answers generator.new ≡ words_after_session pages (answers generator.old)) }
@@ -66,8 +65,7 @@ fn draw_fuse(
     set_fuse(alloc, session, generator, calls, pages)
 }
 
-/// A session that was cut at a drawn call: the device after the mount that followed, how the session ended, the call, and
-/// what the mount shows.
+/// A session that was cut at a drawn call: the device that it left, how it ended, the call, and what a mount then shows.
 #[derive(Drop)]
 struct Exercised {
     device: MemNand,
@@ -84,18 +82,19 @@ fn exercise(
     generator: &mut Lcg128Xsl64,
     pages: u32,
 ) -> Result<Exercised, CutFault>
-    ensures commands { session.new.commands ≡ session.old.commands }
+    ensures same { uncut session.new ≡ uncut session.old }
     ensures fuse { IfOk result (λ done. fuse_of session.new.fuse ≡ Some (done.operation, drawn_fates pages (answers generator.old))) }
     ensures drawn { IfOk result (λ done. IsDrawnAmong (device standing.device) (uncut session.old) (next_u64 (answers generator.old)).0 done.operation) }
     ensures left { OnOk result (answers generator.new ≡ words_after_session pages (answers generator.old)) }
-    ensures ended { IfOk result (λ done. (last : Device) × IsEnded session.new done.end (device standing.device) last) }
+    ensures ended { IfOk result (λ done. IsEnded session.new done.end (device standing.device) (device done.device)) }
     ensures seen { IfOk result (λ done. IsSeen standing.tree session.old.commands.items done.end.replies.items done.seen) }
+    ensures mounts { IfOk result (λ done. MountsAs (device done.device) done.seen) }
     ensures fault { IfErr result IsOfSession }
 {
     let Standing { device, tree } = standing;
     let operation = draw_fuse(alloc, &device, session, generator, pages)?;
     let (device, end) = live_once(alloc, device, session)?;
-    let (device, seen) = look(alloc, device, &tree, &session.commands, &end)?;
+    let seen = look(alloc, &device, &tree, &session.commands, &end)?;
     Ok(Exercised {
         device,
         end,
@@ -106,6 +105,7 @@ fn exercise(
 
 /// Where the sessions go on after this, if they do.
 fn go_on(device: MemNand, seen: Seen) -> Result<Standing, CutFault>
+    ensures device { IfOk result (λ standing. standing.device ≡ device) }
     ensures kept { IfOk result (λ standing. (count : ℕ) × (seen ≡ seens.Kept count standing.tree)) }
     ensures torn { IfErr result (λ e. IsTorn seen × (e ≡ faults.Torn)) }
 {
@@ -126,7 +126,7 @@ pub fn cut<W: Write>(
     sessions: u32,
     writer: &mut W,
 ) -> Result<(), CutFault>
-    ensures tells { Cuts (session_word seed (device nand).geometry.pages) script.items sessions (W.contents writer.old) (W.contents writer.new) result }
+    ensures tells { Cuts (record { first = device nand; seed = seed; commands = script.items; sessions = sessions }) (W.contents writer.old) (W.contents writer.new) result }
     ensures fault { IfErr result (HasCause (device nand)) }
 {
     let commands = script.len() as u64;

@@ -1,29 +1,26 @@
 // The sessions and the mounts of an exercise that no fuse cuts.
-ghost use Rattle.std.specs.Prelude.{◌≡◌, IfOk, IfErr};
+ghost use Rattle.std.specs.Prelude.{◌≡◌, ◌≢◌, IfOk, IfErr};
 ghost use Rattle.nand_model.specs.MemoryState.{device};
-ghost use Rattle.page_volume.specs.Volumes.{pages_of};
-ghost use Rattle.posix_calls.specs.Endings.{LiesOn};
-ghost use Rattle.posix_calls.specs.Volumes.{over_pages};
+ghost use Rattle.mounting.specs.declared.fault.MountFault.{MountFault};
+ghost use Rattle.mounting.specs.declared.fault.MountFault.TheVariants as mounts;
 ghost use Rattle.powercut.specs.Sessions.{IsEnded};
 ghost use Rattle.exerciser.specs.Faults.{IsOfReading};
-ghost use Rattle.exerciser.specs.Causes.{IsAnswered, CountsCalls, IsOfSession, WhyNotBegun};
+ghost use Rattle.exerciser.specs.Causes.{IsAnswered, CountsCalls, IsOfSession, MountsAs, WhyNotBegun};
 ghost use Rattle.exerciser.specs.Draws.{IsCountOf};
 ghost use Rattle.exerciser.specs.Seen.{IsSeen};
 ghost use Rattle.exerciser.specs.declared.fault.CutFault.TheVariants as faults;
+ghost use Rattle.exerciser.specs.declared.seen.Seen.TheVariants as seens;
 
 use crate::fault::CutFault;
 use crate::keeping::{kept, least_kept};
 use crate::seen::Seen;
 use crate::sizes::sizes_with;
-use flash_pages::FlashPages;
 use nand_model::{Geometry, MemNand, Nand};
-use pages::Pages;
 use plain_tree::{Answers, PlainTree};
 use posix_calls::{MountFault, Volume};
 use posix_profile::{Command, Reply, Stamped};
 use powercut::{Session, SessionEnd, live};
 use std::alloc::Global;
-use trusted_nand::TrustedNand;
 
 /// A device and the tree that a mount of it shows.
 #[derive(Drop)]
@@ -65,25 +62,18 @@ fn mount(alloc: Global, mut nand: MemNand) -> Result<Volume<MemNand>, (MemNand, 
     }
 }
 
-/// Gives the device of a volume back as it is.
-fn abandon(volume: Volume<MemNand>) -> MemNand
-    ensures { LiesOn (⟦<FlashPages<TrustedNand<MemNand>> as Pages>⟧.state (pages_of (over_pages volume))) (device result) }
-{
-    volume.abandon()
-}
-
-/// The device with the tree that it shows.
+/// The device with the tree that it shows. A copy of it is mounted.
 pub(crate) fn begin(alloc: Global, nand: MemNand) -> Result<Standing, CutFault>
-    ensures { IfErr result (WhyNotBegun (device nand)) }
+    ensures device { IfOk result (λ standing. device standing.device ≡ device nand) }
+    ensures fault { IfErr result (WhyNotBegun (device nand)) }
 {
-    let geometry = nand.geometry();
-    match mount(alloc, nand) {
+    let copy = nand.copy()?;
+    match mount(alloc, copy) {
         Ok(mut volume) => {
-            let tree = tree_of(alloc, geometry, &mut volume)?;
-            let device = abandon(volume);
-            Ok(Standing { device, tree })
+            let tree = tree_of(alloc, nand.geometry(), &mut volume)?;
+            Ok(Standing { device: nand, tree })
         }
-        Err((_nand, fault)) => Err(CutFault::from(fault)),
+        Err((_copy, fault)) => Err(CutFault::from(fault)),
     }
 }
 
@@ -147,6 +137,7 @@ fn judge(
     shown: PlainTree,
 ) -> Result<Seen, CutFault>
     ensures seen { IfOk result (IsSeen before.now script.now replies.now) }
+    ensures mounted { IfOk result (λ seen. (fault : MountFault) → seen ≡ seens.Mount fault → ⊥) }
     ensures fault { IfErr result (λ e. e ≡ faults.NoMemory) }
 {
     match least_kept(before, script, replies, &shown)? {
@@ -165,6 +156,7 @@ fn judge_told<V: Answers>(
     volume: &mut V,
 ) -> Result<Seen, CutFault>
     ensures seen { IfOk result (IsSeen before.now script.now end.now.replies.items) }
+    ensures mounted { IfOk result (λ seen. (fault : MountFault) → seen ≡ seens.Mount fault → ⊥) }
     ensures fault { IfErr result IsOfReading }
 {
     match kept(before, script, end, volume)? {
@@ -184,6 +176,7 @@ pub fn compare<V: Answers>(
     volume: &mut V,
 ) -> Result<Seen, CutFault>
     ensures seen { IfOk result (IsSeen before.now script.now end.now.replies.items) }
+    ensures mounted { IfOk result (λ seen. (fault : MountFault) → seen ≡ seens.Mount fault → ⊥) }
     ensures fault { IfErr result IsOfReading }
 {
     match shown_by(alloc, geometry, volume)? {
@@ -192,24 +185,32 @@ pub fn compare<V: Answers>(
     }
 }
 
-/// What a mount shows after a session from this tree on, and the device.
+/// What is seen where a mount has this fault.
+fn seen_of(fault: MountFault) -> Result<Seen, CutFault>
+    ensures seen { IfOk result (λ seen. (seen ≡ seens.Mount fault) × (fault ≢ mounts.NoMemory)) }
+    ensures fault { IfErr result (λ e. e ≡ faults.NoMemory) }
+{
+    match fault {
+        MountFault::NoMemory => Err(CutFault::NoMemory),
+        _ => Ok(Seen::Mount(fault)),
+    }
+}
+
+/// What a mount of a copy of the device shows after a session from this tree on.
 pub(crate) fn look(
     alloc: Global,
-    device: MemNand,
+    nand: &MemNand,
     tree: &PlainTree,
     script: &[Stamped],
     end: &SessionEnd,
-) -> Result<(MemNand, Seen), CutFault>
-    ensures seen { IfOk result (λ looked. IsSeen tree.now script.now end.now.replies.items looked.1) }
+) -> Result<Seen, CutFault>
+    ensures seen { IfOk result (IsSeen tree.now script.now end.now.replies.items) }
+    ensures mounts { IfOk result (MountsAs (device nand.now)) }
     ensures fault { IfErr result IsOfReading }
 {
-    let geometry = device.geometry();
-    match mount(alloc, device) {
-        Ok(mut volume) => {
-            let seen = compare(alloc, geometry, tree, script, end, &mut volume)?;
-            Ok((abandon(volume), seen))
-        }
-        Err((_device, MountFault::NoMemory)) => Err(CutFault::NoMemory),
-        Err((device, fault)) => Ok((device, Seen::Mount(fault))),
+    let copy = nand.copy()?;
+    match mount(alloc, copy) {
+        Ok(mut volume) => compare(alloc, nand.geometry(), tree, script, end, &mut volume),
+        Err((_copy, fault)) => seen_of(fault),
     }
 }

@@ -1,5 +1,5 @@
 // The sizes of a volume, from what it tells of its space.
-ghost use Rattle.std.specs.Prelude.{◌≡◌, ◌≤◌, ◌+◌, ℕ, IfSome};
+ghost use Rattle.std.specs.Prelude.{◌≡◌, ◌≤◌, ◌+◌, ℕ, IfSome, IfNone};
 ghost use Rattle.flash_tree.specs.Mount.{sizes_of};
 ghost use Rattle.volume_terms.specs.Sizes.{IsSizes, capacity};
 ghost use Rattle.volume_terms.specs.VolumeSizes as volume;
@@ -26,6 +26,7 @@ fn sizes_of(geometry: Geometry, spare: u32) -> VolumeSizes
 pub(crate) fn sizes_with(geometry: Geometry, total: u64) -> Option<VolumeSizes>
     ensures sizes { IfSome result (λ sizes. (spare : ℕ) × (volume.sizes_of sizes ≡ sizes_of geometry spare) × IsSizes (volume.sizes_of sizes)) }
     ensures total { IfSome result (λ sizes. capacity (volume.sizes_of sizes) ≡ total) }
+    ensures none { IfNone result ((spare : ℕ) → spare + 4 ≤ geometry.blocks → capacity (sizes_of geometry spare) ≡ total → ⊥) }
 {
     for spare in 0..geometry.blocks() - 3 {
         let sizes = sizes_of(geometry, spare);

@@ -6,7 +6,6 @@ use Rattle.exerciser.specs.Causes.{HasCause}
 use Rattle.exerciser.specs.Cutting.{Cuts}
 use Rattle.exerciser.specs.declared.fault.CutFault.{CutFault}
 use Rattle.line_shell.specs.Scripts.{ReadsScript}
-use Rattle.exerciser.specs.Draws.{session_word}
 use Rattle.nand_model.specs.Calls.{Device}
 use Rattle.posix_profile.specs.declared.command.Stamped.{Stamped}
 use Rattle.flash_program.specs.Images.{NotOpened, IsCopy, ReadsInput, CutEnds, of_script, of_cut, cut_ended}
@@ -31,14 +30,12 @@ module _ {F : Type 0} (known : F → Option (List ℕ)) (image : Option F) (seed
 
     -- the commands were done
     pub script_done : (now : Option (List ℕ)) (script : Vec Stamped) (ended : Result (Unit {0}) CutFault) → ReadsScript input left (Ok script)
-        → Cuts (session_word seed copy.geometry.pages) script.items sessions written now ended → IfErr ended (HasCause copy)
+        → Cuts (record { first = copy; seed = seed; commands = script.items; sessions = sessions }) written now ended → IfErr ended (HasCause copy)
         → CutEnds known image seed sessions input left written now (cut_ended ended)
-    script_done now script ended reads cuts cause =
-        let told = subst (λ g. Cuts (session_word seed g.pages) script.items sessions written now ended) copied.2.geometry cuts in
-        inr (copied.0, copied.1, inr (copy, script, ended, copied.2, reads, told, cause, refl))
+    script_done now script ended reads cuts cause = inr (copied.0, copied.1, inr (copy, script, ended, copied.2, reads, cuts, cause, refl))
 
     pub script_stopped : (now : Option (List ℕ)) (script : Vec Stamped) (why : CutFault) (fault : ProgramFault) → fault ≡ of_cut why → ReadsScript input left (Ok script)
-        → Cuts (session_word seed copy.geometry.pages) script.items sessions written now (Err why) → HasCause copy why
+        → Cuts (record { first = copy; seed = seed; commands = script.items; sessions = sessions }) written now (Err why) → HasCause copy why
         → CutEnds known image seed sessions input left written now (Err fault)
     script_stopped now script why fault is reads cuts cause =
         subst (λ f. CutEnds known image seed sessions input left written now (Err f)) (sym is) (script_done now script (Err why) reads cuts cause)

@@ -3,7 +3,6 @@ use Rattle.std.specs.Prelude.{◌≡◌, ◌⊎◌, ℕ, true, false, List, Opti
 use Rattle.std.specs.Global.{Vec}
 use Rattle.exerciser.specs.Causes.{HasCause}
 use Rattle.exerciser.specs.Cutting.{Cuts}
-use Rattle.exerciser.specs.Draws.{session_word}
 use Rattle.exerciser.specs.declared.fault.CutFault.{CutFault}
 use Rattle.exerciser.specs.declared.fault.CutFault.TheVariants as cuts
 use Rattle.line_shell.specs.Scripts.{ReadsScript}
@@ -86,20 +85,20 @@ abbrev pub NoScript : Option (List ℕ) → Option (List ℕ) → Option (List �
 NoScript input left written now result =
     (fault : ScriptFault) × ReadsScript input left (Err fault) × (result ≡ Err (of_script fault)) × (now ≡ written)
 
--- The commands of the lines were done in sessions that are cut at calls that these words draw, on a copy of the flash, and the
--- sessions told; a fault of them has its cause.
-abbrev pub ScriptCut : Device → (words : ℕ → ℕ) → (sessions : ℕ) → Option (List ℕ) → Option (List ℕ) → Option (List ℕ) → Option (List ℕ) → Result (Unit {0}) ProgramFault → Type 0
-ScriptCut opened words sessions input left written now result =
+-- The commands of the lines were done in sessions that are cut at calls that the seed draws, on a copy of the flash, and the sessions
+-- told; a fault of them has its cause.
+abbrev pub ScriptCut : Device → (seed sessions : ℕ) → Option (List ℕ) → Option (List ℕ) → Option (List ℕ) → Option (List ℕ) → Result (Unit {0}) ProgramFault → Type 0
+ScriptCut opened seed sessions input left written now result =
     (copy : Device) × (script : Vec Stamped) × (ended : Result (Unit {0}) CutFault) × PowersUp opened copy × ReadsScript input left (Ok script)
-    × Cuts words script.items sessions written now ended × IfErr ended (HasCause copy) × (result ≡ cut_ended ended)
+    × Cuts (record { first = copy; seed = seed; commands = script.items; sessions = sessions }) written now ended × IfErr ended (HasCause copy) × (result ≡ cut_ended ended)
 
--- sessions that are cut, on a copy of an image: it does not open; or the lines are no script; or they are done, and the words
--- of the seed draw the calls
+-- sessions that are cut, on a copy of an image: it does not open; or the lines are no script; or they are done, and the
+-- seed draws the calls
 abbrev pub CutEnds : {F : Type 0} → (F → Option (List ℕ)) → Option F → (seed sessions : ℕ) → Option (List ℕ) → Option (List ℕ) → Option (List ℕ) → Option (List ℕ) → Result (Unit {0}) ProgramFault → Type 0
 CutEnds known image seed sessions input left written now result =
     (NotOpened known image result × (left ≡ input) × (now ≡ written))
     ⊎ ((opened : Device) × Opens known image opened
-    × (NoScript input left written now result ⊎ ScriptCut opened (session_word seed opened.geometry.pages) sessions input left written now result))
+    × (NoScript input left written now result ⊎ ScriptCut opened seed sessions input left written now result))
 
 -- no image was made: there is no file, or the sizes are none of a device, or memory was refused or the file not written
 abbrev pub NotMade : {F : Type 0} → Option F → (size pages blocks : ℕ) → Result (Unit {0}) ProgramFault → Type 0

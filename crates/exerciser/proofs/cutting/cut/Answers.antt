@@ -1,91 +1,122 @@
-use Rattle.std.proofs.Common.{◌≡◌, ◌<◌, ◌+◌, length, refl, ap, ◌∙◌, subst, inl, inr, arith, Ok, Err}
+use Rattle.std.proofs.Common.{◌≡◌, ℕ, ◌<◌, ◌+◌, length, refl, sym, ap, ◌∙◌, subst, inl, inr, arith, Ok, Err}
 use Rattle.std.proofs.lemmas.Result.{err_from_is_err_and}
 use Rattle.std.specs.Global.{Vec}
+use Rattle.nand_model.specs.Calls.{Device}
 use Rattle.nand_model.specs.MemoryState.{device}
 use Rattle.nand_model.specs.declared.geometry.Geometry.{Geometry}
+use Rattle.nand_model.specs.declared.memory.MemNand.{MemNand}
 use Rattle.cut_draws.specs.Draws.{answers}
 use Rattle.posix_profile.specs.declared.command.Stamped.{Stamped}
-use Rattle.exerciser.specs.Draws.{session_word}
+use Rattle.powercut.specs.declared.session.Session.{Session}
+use Rattle.exerciser.specs.Cutting.{Exercise}
 use Rattle.exerciser.specs.Lines.{IsTold, session_line}
 use Rattle.exerciser.specs.Seen.{finding_of, IsSeen}
 use Rattle.exerciser.specs.declared.seen.Seen.{Seen}
-use Rattle.exerciser.proofs.Drawing.{first_words, more_words, draws_next, drawn_of}
+use Rattle.exerciser.proofs.Drawing.{first_words, more_words, cut_session}
 use Rattle.exerciser.proofs.Causes.{not_done, not_begun, not_told, not_kept}
-use Rattle.exerciser.proofs.Sessions.{some_tree, not_done_is_silent, not_begun_is_silent, starts, goes_further, stops_telling, stops_torn, stops_silently, told_as, ends}
+use Rattle.exerciser.proofs.Sessions.{SoFar, some_tree, not_done_is_silent, not_begun_is_silent, starts, goes_further, stops_telling, stops_torn, stops_silently, told_as, ends}
 use Rattle.exerciser.proofs.cutting.cut.Goals as goal
+
+-- what is asked for
+abbrev asked : MemNand → (seed : ℕ) → Vec Stamped → (sessions : ℕ) → Exercise
+asked nand seed script sessions = record { first = device nand; seed = seed; commands = script.items; sessions = sessions }
 
 pub loop-before-init : goal.loop-before-init
 loop-before-init g c = record {
   commands = refl;
+  failures = c.new.ensures.items;
+  unmounts = refl;
   words = first_words c.args.seed (device c.args.nand).geometry.pages c.seed_from_u64-generator.result c.seed_from_u64-generator.ensures;
-  told = starts (session_word c.args.seed (device c.args.nand).geometry.pages) c.args.script.items c.in_ok-standing.standing.tree (g.W.Write.contents c.args.writer.now);
+  told = starts (asked c.args.nand c.args.seed c.args.script c.args.sessions) (device c.in_ok-standing.standing.device) c.in_ok-standing.standing.tree (g.W.Write.contents c.args.writer.now) c.in_ok-standing.ensures.device;
 }
 
 pub returns-in_err-standing-clause-tells : goal.returns-in_err-standing-clause-tells
 returns-in_err-standing-clause-tells g c =
     let p = err_from_is_err_and c.from_residual.result c.from_residual.ensures.1 in
-    rw (p.1, p.2) (stops_silently (session_word c.args.seed (device c.args.nand).geometry.pages) c.args.script.items 0 c.args.sessions some_tree (g.W.Write.contents c.args.writer.now) (g.W.Write.contents c.args.writer.now) c.in_err-standing.field-0.0 (inr refl)
-    (starts (session_word c.args.seed (device c.args.nand).geometry.pages) c.args.script.items some_tree (g.W.Write.contents c.args.writer.now)) (not_begun_is_silent (device c.args.nand) c.in_err-standing.field-0.0 c.in_err-standing.ensures))
+    let x = asked c.args.nand c.args.seed c.args.script c.args.sessions in
+    rw (p.1, p.2) (stops_silently x 0 (device c.args.nand) some_tree (g.W.Write.contents c.args.writer.now) (g.W.Write.contents c.args.writer.now) c.in_err-standing.field-0.0 (inr refl)
+    (starts x (device c.args.nand) some_tree (g.W.Write.contents c.args.writer.now) refl) (not_begun_is_silent (device c.args.nand) c.in_err-standing.field-0.0 c.in_err-standing.ensures.fault))
 
 pub returns-in_err-done-clause-tells : goal.returns-in_err-done-clause-tells
 returns-in_err-done-clause-tells g c =
     let p = err_from_is_err_and c.from_residual-in_err-done.result c.from_residual-in_err-done.ensures.1 in
     let few : c.loop-before.before < c.args.sessions = omega (arith, c.from-before-end.ensures) in
-    rw (p.1, p.2) (stops_silently (session_word c.args.seed (device c.args.nand).geometry.pages) c.args.script.items c.loop-before.before c.args.sessions c.loop-before.standing.tree _ _ c.in_err-done.field-0.0 (inl few) c.loop-before.invariant.told
-    (not_done_is_silent c.in_err-done.field-0.0 c.in_err-done.ensures.fault))
+    rw (p.1, p.2) (stops_silently (asked c.args.nand c.args.seed c.args.script c.args.sessions) c.loop-before.before (device c.loop-before.standing.device) c.loop-before.standing.tree _ _ c.in_err-done.field-0.0 (inl few)
+    c.loop-before.invariant.told (not_done_is_silent c.in_err-done.field-0.0 c.in_err-done.ensures.fault))
 
 pub returns-in_err-tell-clause-tells : goal.returns-in_err-tell-clause-tells
 returns-in_err-tell-clause-tells g c =
     let p = err_from_is_err_and c.from_residual-in_err-tell.result c.from_residual-in_err-tell.ensures.1 in
     let few : c.loop-before.before < c.args.sessions = omega (arith, c.from-before-end.ensures) in
     let count : c.len-commands.result ≡ length c.args.script.items = omega (arith, c.len-commands.ensures, c.args.script.ok.0) in
-    let drawn = draws_next c.args.seed (device c.args.nand).geometry.pages c.loop-before.before c.in_ok-done.done.operation _ c.loop-before.invariant.words (drawn_of _ _ _ _ c.in_ok-done.ensures.drawn) in
-    let is_seen = subst (λ (v : Vec Stamped). IsSeen c.loop-before.standing.tree v.items c.in_ok-done.done.end.replies.items c.in_ok-done.done.seen) c.loop-before.invariant.commands c.in_ok-done.ensures.seen in
-    let told = told_as (g.W.Write.contents c.loop-before.writer) (g.W.Write.contents c.tell.new.writer) (c.loop-before.before + 1) c.in_ok-done.done.operation c.finding-finding.result (finding_of c.in_ok-done.done.seen) c.len-commands.result (length c.args.script.items) (Err c.in_err-tell.field-0.0)
-    c.finding-finding.ensures count c.in_err-tell.ensures in
-    rw (p.1, p.2) (stops_telling (session_word c.args.seed (device c.args.nand).geometry.pages) c.args.script.items c.loop-before.before c.args.sessions c.loop-before.standing.tree _ _ (g.W.Write.contents c.tell.new.writer) c.loop-before.invariant.told
-    c.in_ok-done.done.operation c.in_ok-done.done.end.replies.items c.in_ok-done.done.seen c.in_err-tell.field-0.0 few drawn is_seen told)
+    let x = asked c.args.nand c.args.seed c.args.script c.args.sessions in
+    let was = c.loop-before.invariant in
+    let one = c.in_ok-done.ensures in
+    let pages = c.pages-pages.ensures ∙ ap (λ (g : Geometry). g.pages) c.geometry.ensures in
+    let done =
+    cut_session x c.loop-before.before c.pages-pages.result (answers c.loop-before.generator) c.loop-before.session c.exercise.new.session (device c.loop-before.standing.device) (device c.in_ok-done.done.device) pages was.words
+    one.same (ap (λ (v : Vec Stamped). v.items) was.commands) was.failures was.unmounts c.in_ok-done.done.end c.in_ok-done.done.operation one.fuse one.drawn one.ended in
+    let is_seen = subst (λ (v : Vec Stamped). IsSeen c.loop-before.standing.tree v.items c.in_ok-done.done.end.replies.items c.in_ok-done.done.seen) was.commands one.seen in
+    let told = told_as (g.W.Write.contents c.loop-before.writer) (g.W.Write.contents c.tell.new.writer) (c.loop-before.before + 1) c.in_ok-done.done.operation c.finding-finding.result (finding_of c.in_ok-done.done.seen)
+    c.len-commands.result (length c.args.script.items) (Err c.in_err-tell.field-0.0) c.finding-finding.ensures count c.in_err-tell.ensures in
+    rw (p.1, p.2) (stops_telling x c.loop-before.before (device c.loop-before.standing.device) (device c.in_ok-done.done.device) c.loop-before.standing.tree _ _ (g.W.Write.contents c.tell.new.writer) was.told done
+    c.in_ok-done.done.seen few is_seen one.mounts c.in_err-tell.field-0.0 told)
 
 pub returns-in_err-standing-2-clause-tells : goal.returns-in_err-standing-2-clause-tells
 returns-in_err-standing-2-clause-tells g c =
     let p = err_from_is_err_and c.from_residual-in_err-standing-2.result c.from_residual-in_err-standing-2.ensures.1 in
     let few : c.loop-before.before < c.args.sessions = omega (arith, c.from-before-end.ensures) in
     let count : c.len-commands.result ≡ length c.args.script.items = omega (arith, c.len-commands.ensures, c.args.script.ok.0) in
-    let drawn = draws_next c.args.seed (device c.args.nand).geometry.pages c.loop-before.before c.in_ok-done.done.operation _ c.loop-before.invariant.words (drawn_of _ _ _ _ c.in_ok-done.ensures.drawn) in
-    let is_seen = subst (λ (v : Vec Stamped). IsSeen c.loop-before.standing.tree v.items c.in_ok-done.done.end.replies.items c.in_ok-done.done.seen) c.loop-before.invariant.commands c.in_ok-done.ensures.seen in
-    let told = told_as (g.W.Write.contents c.loop-before.writer) (g.W.Write.contents c.tell.new.writer) (c.loop-before.before + 1) c.in_ok-done.done.operation c.finding-finding.result (finding_of c.in_ok-done.done.seen) c.len-commands.result (length c.args.script.items) (Ok tt)
-    c.finding-finding.ensures count c.in_ok-tell.ensures in
-    rw (p.1, p.2) (stops_torn (session_word c.args.seed (device c.args.nand).geometry.pages) c.args.script.items c.loop-before.before c.args.sessions c.loop-before.standing.tree _ _ (g.W.Write.contents c.tell.new.writer) c.loop-before.invariant.told
-    c.in_ok-done.done.operation c.in_ok-done.done.end.replies.items c.in_ok-done.done.seen c.in_err-standing-2.field-0.0 few drawn is_seen told c.in_err-standing-2.ensures.torn.0 c.in_err-standing-2.ensures.torn.1)
+    let x = asked c.args.nand c.args.seed c.args.script c.args.sessions in
+    let was = c.loop-before.invariant in
+    let one = c.in_ok-done.ensures in
+    let pages = c.pages-pages.ensures ∙ ap (λ (g : Geometry). g.pages) c.geometry.ensures in
+    let done =
+    cut_session x c.loop-before.before c.pages-pages.result (answers c.loop-before.generator) c.loop-before.session c.exercise.new.session (device c.loop-before.standing.device) (device c.in_ok-done.done.device) pages was.words
+    one.same (ap (λ (v : Vec Stamped). v.items) was.commands) was.failures was.unmounts c.in_ok-done.done.end c.in_ok-done.done.operation one.fuse one.drawn one.ended in
+    let is_seen = subst (λ (v : Vec Stamped). IsSeen c.loop-before.standing.tree v.items c.in_ok-done.done.end.replies.items c.in_ok-done.done.seen) was.commands one.seen in
+    let told = told_as (g.W.Write.contents c.loop-before.writer) (g.W.Write.contents c.tell.new.writer) (c.loop-before.before + 1) c.in_ok-done.done.operation c.finding-finding.result (finding_of c.in_ok-done.done.seen)
+    c.len-commands.result (length c.args.script.items) (Ok tt) c.finding-finding.ensures count c.in_ok-tell.ensures in
+    rw (p.1, p.2) (stops_torn x c.loop-before.before (device c.loop-before.standing.device) (device c.in_ok-done.done.device) c.loop-before.standing.tree _ _ (g.W.Write.contents c.tell.new.writer) was.told done
+    c.in_ok-done.done.seen few is_seen one.mounts c.in_err-standing-2.field-0.0 told c.in_err-standing-2.ensures.torn.0 c.in_err-standing-2.ensures.torn.1)
 
 pub loop-before-preserved : goal.loop-before-preserved
 loop-before-preserved g c =
     let few : c.loop-before.before < c.args.sessions = omega (arith, c.from-before-end.ensures) in
     let count : c.len-commands.result ≡ length c.args.script.items = omega (arith, c.len-commands.ensures, c.args.script.ok.0) in
-    let drawn = draws_next c.args.seed (device c.args.nand).geometry.pages c.loop-before.before c.in_ok-done.done.operation _ c.loop-before.invariant.words (drawn_of _ _ _ _ c.in_ok-done.ensures.drawn) in
-    let is_seen = subst (λ (v : Vec Stamped). IsSeen c.loop-before.standing.tree v.items c.in_ok-done.done.end.replies.items c.in_ok-done.done.seen) c.loop-before.invariant.commands c.in_ok-done.ensures.seen in
-    let told = told_as (g.W.Write.contents c.loop-before.writer) (g.W.Write.contents c.tell.new.writer) (c.loop-before.before + 1) c.in_ok-done.done.operation c.finding-finding.result (finding_of c.in_ok-done.done.seen) c.len-commands.result (length c.args.script.items) (Ok tt)
-    c.finding-finding.ensures count c.in_ok-tell.ensures in
+    let x = asked c.args.nand c.args.seed c.args.script c.args.sessions in
+    let was = c.loop-before.invariant in
+    let one = c.in_ok-done.ensures in
+    let pages = c.pages-pages.ensures ∙ ap (λ (g : Geometry). g.pages) c.geometry.ensures in
+    let done =
+    cut_session x c.loop-before.before c.pages-pages.result (answers c.loop-before.generator) c.loop-before.session c.exercise.new.session (device c.loop-before.standing.device) (device c.in_ok-done.done.device) pages was.words
+    one.same (ap (λ (v : Vec Stamped). v.items) was.commands) was.failures was.unmounts c.in_ok-done.done.end c.in_ok-done.done.operation one.fuse one.drawn one.ended in
+    let is_seen = subst (λ (v : Vec Stamped). IsSeen c.loop-before.standing.tree v.items c.in_ok-done.done.end.replies.items c.in_ok-done.done.seen) was.commands one.seen in
+    let told = told_as (g.W.Write.contents c.loop-before.writer) (g.W.Write.contents c.tell.new.writer) (c.loop-before.before + 1) c.in_ok-done.done.operation c.finding-finding.result (finding_of c.in_ok-done.done.seen)
+    c.len-commands.result (length c.args.script.items) (Ok tt) c.finding-finding.ensures count c.in_ok-tell.ensures in
+    let next = c.in_ok-standing-2.standing in
     let kept = c.in_ok-standing-2.ensures.kept in
+    let further =
+    goes_further x c.loop-before.before (device c.loop-before.standing.device) (device c.in_ok-done.done.device) c.loop-before.standing.tree _ _ (g.W.Write.contents c.tell.new.writer) was.told done kept.0 next.tree
+    (subst (λ (s : Seen). IsSeen c.loop-before.standing.tree c.args.script.items c.in_ok-done.done.end.replies.items s) kept.1 is_seen)
+    (subst (λ (s : Seen). IsTold (g.W.Write.contents c.loop-before.writer) (g.W.Write.contents c.tell.new.writer) (session_line (c.loop-before.before + 1) c.in_ok-done.done.operation (finding_of s) (length c.args.script.items)) (Ok tt)) kept.1 told) in
     record {
-      commands = c.in_ok-done.ensures.commands ∙ c.loop-before.invariant.commands;
-      words = more_words c.args.seed (device c.args.nand).geometry.pages c.pages-pages.result c.loop-before.before (answers c.loop-before.generator) (answers c.exercise.new.generator)
-          (c.pages-pages.ensures ∙ ap (λ (x : Geometry). x.pages) c.geometry.ensures) c.loop-before.invariant.words c.in_ok-done.ensures.left;
-      told = goes_further (session_word c.args.seed (device c.args.nand).geometry.pages) c.args.script.items c.loop-before.before c.args.sessions c.loop-before.standing.tree _ _ (g.W.Write.contents c.tell.new.writer) c.loop-before.invariant.told
-          c.in_ok-done.done.operation kept.0 c.in_ok-done.done.end.replies.items c.in_ok-standing-2.standing.tree drawn
-          (subst (λ (x : Seen). IsSeen c.loop-before.standing.tree c.args.script.items c.in_ok-done.done.end.replies.items x) kept.1 is_seen)
-          (subst (λ (x : Seen). IsTold (g.W.Write.contents c.loop-before.writer) (g.W.Write.contents c.tell.new.writer) (session_line (c.loop-before.before + 1) c.in_ok-done.done.operation (finding_of x) (length c.args.script.items)) (Ok tt)) kept.1 told);
+      commands = ap (λ (s : Session). s.commands) one.same ∙ was.commands;
+      failures = ap (λ (s : Session). s.failures.items) one.same ∙ was.failures;
+      unmounts = ap (λ (s : Session). s.unmount) one.same ∙ was.unmounts;
+      words = more_words c.args.seed (device c.args.nand).geometry.pages c.pages-pages.result c.loop-before.before (answers c.loop-before.generator) (answers c.exercise.new.generator) pages was.words one.left;
+      told = subst (λ (d : Device). SoFar x (c.loop-before.before + 1) d next.tree (g.W.Write.contents c.args.writer.now) (g.W.Write.contents c.tell.new.writer)) (sym (ap device c.in_ok-standing-2.ensures.device)) further;
     }
 
 pub returns-clause-tells : goal.returns-clause-tells
 returns-clause-tells g c =
     let all : c.loop-before.before ≡ c.args.sessions = omega (arith, c.from-before-end.ensures) in
-    ends (session_word c.args.seed (device c.args.nand).geometry.pages) c.args.script.items c.loop-before.before c.args.sessions c.loop-before.standing.tree _ _ all c.loop-before.invariant.told
+    ends (asked c.args.nand c.args.seed c.args.script c.args.sessions) c.loop-before.before (device c.loop-before.standing.device) c.loop-before.standing.tree _ _ all c.loop-before.invariant.told
 
 pub returns-in_err-standing-clause-fault : goal.returns-in_err-standing-clause-fault
 returns-in_err-standing-clause-fault g c =
     let p = err_from_is_err_and c.from_residual.result c.from_residual.ensures.1 in
-    rw (p.1, p.2) (not_begun (device c.args.nand) c.in_err-standing.field-0.0 c.in_err-standing.ensures)
+    rw (p.1, p.2) (not_begun (device c.args.nand) c.in_err-standing.field-0.0 c.in_err-standing.ensures.fault)
 
 pub returns-in_err-done-clause-fault : goal.returns-in_err-done-clause-fault
 returns-in_err-done-clause-fault g c =

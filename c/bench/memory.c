@@ -71,14 +71,14 @@ enum { STACK = 1 << 20, PAINT = 0xa5 };
 static uint8_t stack[STACK];
 static ucontext_t here, there;
 static void (*to_run)(void);
-static size_t deepest;
 
 static void start(void)
 {
     to_run();
 }
 
-static void on_painted_stack(void (*function)(void))
+/* Returns how many bytes of the stack were used. */
+static size_t on_painted_stack(void (*function)(void))
 {
     memset(stack, PAINT, sizeof stack);
     to_run = function;
@@ -91,8 +91,7 @@ static void on_painted_stack(void (*function)(void))
     size_t untouched = 0;
     while (untouched < STACK && stack[untouched] == PAINT)
         untouched++;
-    if (STACK - untouched > deepest)
-        deepest = STACK - untouched;
+    return STACK - untouched;
 }
 
 /* ---- The work. */
@@ -115,23 +114,29 @@ static void format(void) { code = flash_fs_format(&fs, &nand.driver, spare); }
 static void mount(void) { code = flash_fs_mount(&fs, &nand.driver); }
 static void unmount(void) { code = flash_fs_unmount(&fs); }
 
-/* Files of at most 64 KiB, in directories of a hundred, until so many of a hundred units are in use. */
+/* Files of at most so many bytes, in directories of a hundred, until so many of a hundred units are in use. */
+static unsigned percent = 80;
+static size_t file_bytes;
+
 static void fill(void)
 {
     char path[64];
     struct flash_space space;
     for (int i = 0;; i++) {
         expect(flash_fs_space(&fs, &space) == 0, "space");
-        if ((space.total - space.free) * 100 >= space.total * 80)
+        if ((space.total - space.free) * 100 >= space.total * percent)
             break;
         if (i % 100 == 0) {
             snprintf(path, sizeof path, "/d%d", i / 100);
             expect(flash_fs_mkdir(&fs, path, 1) == 0, "mkdir");
         }
-        size_t size = space.total > 2000 ? sizeof bytes : 5000;
         snprintf(path, sizeof path, "/d%d/f%d", i / 100, i);
         int fd = flash_fs_open(&fs, path, FLASH_WRONLY | FLASH_CREAT, 1);
-        expect(flash_fs_write(&fs, fd, bytes, size, 1) == (int64_t)size && flash_fs_close(&fs, fd) == 0, "write");
+        for (size_t done = 0; done < file_bytes; done += sizeof bytes) {
+            size_t part = file_bytes - done < sizeof bytes ? file_bytes - done : sizeof bytes;
+            expect(flash_fs_write(&fs, fd, bytes, part, 1) == (int64_t)part, "write");
+        }
+        expect(flash_fs_close(&fs, fd) == 0, "close");
     }
     code = flash_fs_sync(&fs);
 }
@@ -158,10 +163,15 @@ static void work(void)
     expect((code = flash_fs_unlink(&fs, "/work/old", 2)) == 0 && (code = flash_fs_rmdir(&fs, "/work", 2)) == 0, "rmdir");
 }
 
+/* The greatest depth of the stack in a mount, a format or an unmount, and in other calls. */
+static size_t deepest, deepest_call;
+
 static size_t peak_of(void (*function)(void))
 {
     memory.peak = memory.now;
-    on_painted_stack(function);
+    size_t depth = on_painted_stack(function), *greatest = function == work || function == fill ? &deepest_call : &deepest;
+    if (depth > *greatest)
+        *greatest = depth;
     expect(code == 0, "a call");
     return memory.peak;
 }
@@ -170,7 +180,9 @@ static void measure(uint32_t page_bytes, uint32_t block_pages, uint32_t blocks, 
 {
     struct flash_space space;
     spare = kept_for_bad;
-    deepest = 0;
+    percent = 80;
+    file_bytes = blocks < 64 ? 5000 : sizeof bytes;
+    deepest = deepest_call = 0;
     expect(ram_nand_make(&nand, page_bytes, block_pages, blocks) == 0, "memory");
     size_t formatting = peak_of(format), empty_mount = peak_of(mount), empty = memory.now;
     size_t empty_work = peak_of(work), after_work = memory.now;
@@ -182,18 +194,89 @@ static void measure(uint32_t page_bytes, uint32_t block_pages, uint32_t blocks, 
     expect(flash_fs_space(&fs, &space) == 0, "space");
     size_t full_work = peak_of(work), after_full_work = memory.now;
     peak_of(unmount);
-    printf("| %u x %u x %u | %zu | %zu | %zu | %zu | %zu | %llu | %zu | %zu | %zu | %zu | %zu |\n", blocks, block_pages, page_bytes,
+    printf("| %u x %u x %u | %zu | %zu | %zu | %zu | %zu | %llu | %zu | %zu | %zu | %zu | %zu | %zu |\n", blocks, block_pages, page_bytes,
            formatting, empty_mount, empty, empty_work, after_work, (unsigned long long)(space.total - space.free), full_mount, full,
-           full_work, after_full_work, deepest);
+           full_work, after_full_work, deepest, deepest_call);
+    ram_nand_free(&nand);
+}
+
+/* What a page in use takes, besides what the volume takes without files. */
+static void measure_pages(uint32_t blocks, unsigned full, size_t size)
+{
+    struct flash_space space;
+    spare = blocks / 50;
+    percent = full;
+    file_bytes = size;
+    expect(ram_nand_make(&nand, 2048, 64, blocks) == 0, "memory");
+    peak_of(format);
+    peak_of(mount);
+    size_t empty = memory.now;
+    peak_of(fill);
+    flash_fs_abandon(&fs);
+    ram_nand_power_up(&nand);
+    size_t scan = peak_of(mount), rest = memory.now;
+    expect(flash_fs_space(&fs, &space) == 0, "space");
+    size_t pages = space.total - space.free;
+    printf("| %u x 64 x 2048 | %u | %zu | %zu | %zu | %zu | %.1f | %.1f |\n", blocks, full, size, pages, rest, scan,
+           (double)(rest - empty) / pages, (double)(scan - empty) / pages);
+    flash_fs_abandon(&fs);
+    ram_nand_free(&nand);
+}
+
+/* Empty files in one directory. */
+static int files_to_make;
+
+static void make_files(void)
+{
+    char path[64];
+    expect((code = flash_fs_mkdir(&fs, "/names", 1)) == 0, "mkdir");
+    for (int i = 0; i < files_to_make; i++) {
+        snprintf(path, sizeof path, "/names/f%06d", i);
+        int fd = flash_fs_open(&fs, path, FLASH_WRONLY | FLASH_CREAT, 1);
+        expect(fd >= 0 && flash_fs_close(&fs, fd) == 0, "open");
+    }
+    code = flash_fs_sync(&fs);
+}
+
+/* What a file takes, besides what the volume takes without files. */
+static void measure_files(uint32_t blocks, int files)
+{
+    files_to_make = files;
+    spare = 20;
+    expect(ram_nand_make(&nand, 2048, 64, blocks) == 0, "memory");
+    peak_of(format);
+    peak_of(mount);
+    size_t empty = memory.now;
+    peak_of(make_files);
+    size_t made = memory.now;
+    flash_fs_abandon(&fs);
+    ram_nand_power_up(&nand);
+    size_t scan = peak_of(mount), scanned = memory.now;
+    printf("| %u x 64 x 2048 | %d | %zu | %zu | %zu | %zu | %zu |\n", blocks, files, made, scan, scanned, (made - empty) / files,
+           (scanned - empty) / files);
+    peak_of(unmount);
     ram_nand_free(&nand);
 }
 
 int main(void)
 {
     printf("| Volume | format, peak | mount of an empty one, peak | at rest | calls, peak | after them | units in use | mount 80 %% full, "
-           "peak | at rest | calls, peak | after them | stack |\n|---|---|---|---|---|---|---|---|---|---|---|---|\n");
+           "peak | at rest | calls, peak | after them | stack of a mount | of calls |\n|---|---|---|---|---|---|---|---|---|---|---|---|---|\n");
     measure(512, 32, 16, 2);
     measure(2048, 64, 64, 2);
     measure(2048, 64, 1024, 20);
+    printf("\n| Volume | percent full | bytes of a file | pages in use | at rest | mount by a scan, peak | a page, at rest | at the peak "
+           "|\n|---|---|---|---|---|---|---|---|\n");
+    static const uint32_t volumes[] = {64, 1024, 4096};
+    static const unsigned fullness[] = {10, 50, 80};
+    for (size_t v = 0; v < 3; v++)
+        for (size_t f = 0; f < 3; f++)
+            measure_pages(volumes[v], fullness[f], 65536);
+    measure_pages(64, 80, 5 << 20);
+    measure_pages(1024, 80, 30 << 20);
+    printf("\n| Volume | empty files in a directory | made, at rest | mount by a scan, peak | at rest | a file when made | a file after the "
+           "mount |\n|---|---|---|---|---|---|---|\n");
+    measure_files(64, 1000);
+    measure_files(1024, 10000);
     return 0;
 }

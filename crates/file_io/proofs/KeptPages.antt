@@ -10,8 +10,8 @@ use Rattle.pages.specs.Maps.{PageMap}
 use Rattle.file_io.specs.Chunks.{IsSplit, IsPartLast, IsPartKept}
 use Rattle.pages.specs.State.{PagesState, OnlyFinds}
 use Rattle.file_io.specs.Files.{HasFileHeader, HasPages}
-use Rattle.file_io.specs.Heads.{SaysHead}
-use Rattle.file_io.specs.declared.head.FileHead.{FileHead}
+use Rattle.file_io.specs.Heads.{bits_in, SaysHead}
+use Rattle.file_io.specs.declared.file_head.FileHead.{FileHead}
 
 -- the chunk, counted from 0, has a page where its bit is set
 abbrev pub IsThere : PageMap → ℕ → List ℕ → ℕ → Type 0
@@ -80,15 +80,15 @@ grows_past d old len some more =
 
 -- what was found after the header was read was there before, by the header
 module _ (p q : PagesState) (finds : OnlyFinds p q) (o : ℕ) (head : FileHead) (s : SaysHead p o head) where
-  abbrev at_entry : (IsOne : ℕ → ℕ → ℕ → Type 0) → HasPages q.present o head.bits.items (IsOne q.page_bytes head.length) → HasPages p.present o s.0.fields.bits (IsOne p.page_bytes s.0.fields.length)
+  abbrev at_entry : (IsOne : ℕ → ℕ → ℕ → Type 0) → HasPages q.present o (bits_in head) (IsOne q.page_bytes head.length) → HasPages p.present o s.0.fields.bits (IsOne p.page_bytes s.0.fields.length)
   at_entry IsOne is =
       subst (λ (m : PageMap). HasPages m o s.0.fields.bits (IsOne p.page_bytes s.0.fields.length)) finds.present
       (subst (λ d. HasPages q.present o s.0.fields.bits (IsOne d s.0.fields.length)) finds.page_bytes
       (subst (λ n. HasPages q.present o s.0.fields.bits (IsOne q.page_bytes n)) s.1.length_is
       (subst (λ (xs : List ℕ). HasPages q.present o xs (IsOne q.page_bytes head.length)) s.1.bits is)))
 
-  pub kept_at_entry : (off n : ℕ) → HasPages q.present o head.bits.items (IsPartKept q.page_bytes head.length off n) → (h : HasFileHeader p o) × HasPages p.present o h.fields.bits (IsPartKept p.page_bytes h.fields.length off n)
+  pub kept_at_entry : (off n : ℕ) → HasPages q.present o (bits_in head) (IsPartKept q.page_bytes head.length off n) → (h : HasFileHeader p o) × HasPages p.present o h.fields.bits (IsPartKept p.page_bytes h.fields.length off n)
   kept_at_entry off n is = (s.0, at_entry (λ d len. IsPartKept d len off n) is)
 
-  pub last_at_entry : HasPages q.present o head.bits.items (IsPartLast q.page_bytes head.length) → HasPages p.present o s.0.fields.bits (IsPartLast p.page_bytes s.0.fields.length)
+  pub last_at_entry : HasPages q.present o (bits_in head) (IsPartLast q.page_bytes head.length) → HasPages p.present o s.0.fields.bits (IsPartLast p.page_bytes s.0.fields.length)
   last_at_entry is = at_entry (λ d len. IsPartLast d len) is

@@ -3,6 +3,7 @@ use Rattle.std.specs.Prelude.{◌≡◌, ◌⊎◌, ◌<◌, ◌≤◌, ℕ, zer
 use Rattle.std.proofs.Common.{refl, sym, ◌∙◌, ap, subst, inl, inr, arith}
 use Rattle.std.proofs.Math.Nat.{div-mul-le_self, lt-div-mul-add}
 use Rattle.std.proofs.lemmas.Bool.{cases_lt, cases_Bool}
+use Rattle.page_tags.specs.HeaderFields.{file_fields}
 use Rattle.page_tags.specs.Headers.{Fields, IsHeader, IsBytes, MayBeSet, header_bytes, is_present}
 use Rattle.page_tags.specs.declared.header.ObjectKind.TheVariants as kinds
 use Rattle.posix_profile.specs.Changes.{resized}
@@ -14,7 +15,7 @@ use Rattle.pages.specs.State.{PagesState}
 use Rattle.pages.specs.declared.change.Change.{Change}
 use Rattle.pages.specs.declared.change.Cut.{Cut}
 use Rattle.flash_tree.specs.declared.place.FreshPage.{FreshPage}
-use Rattle.file_io.specs.Files.{FileIn, Becomes, fields_in}
+use Rattle.file_io.specs.Files.{FileIn, Becomes}
 use Rattle.file_io.specs.Chunks.{AreOf, HoldChunks, IsTail, IsAmong}
 use Rattle.file_io.specs.Cuts.{CutsFrom}
 use Rattle.file_io.proofs.Becoming.{becomes}
@@ -51,9 +52,9 @@ bit_within d f len k valid kind is set =
     subst (λ n. 1 + k ≤ (n + d - 1) / d) is (subst (λ q. MayBeSet d q f.length (1 + k)) kind (valid.within (1 + k) (omega arith) set))
 
 -- the bits after the cut
-pub resize_valid : (d len was : ℕ) (old : List ℕ) → IsHeader d (fields_in len was old) → (n moment : ℕ) (bits : List ℕ) → n ≤ 8 * (d - 32) * d → moment < 2 ^ 64 → length bits ≡ length old → IsBytes bits
+pub resize_valid : (d len was : ℕ) (old : List ℕ) → IsHeader d (file_fields len was old) → (n moment : ℕ) (bits : List ℕ) → n ≤ 8 * (d - 32) * d → moment < 2 ^ 64 → length bits ≡ length old → IsBytes bits
     → ((k : ℕ) → (n + d - 1) / d ≤ k → k < (len + d - 1) / d → is_present bits (1 + k) ≡ false)
-    → ((k : ℕ) → (k < (n + d - 1) / d) ⊎ ((len + d - 1) / d ≤ k) → is_present bits (1 + k) ≡ is_present old (1 + k)) → IsHeader d (fields_in n moment bits)
+    → ((k : ℕ) → (k < (n + d - 1) / d) ⊎ ((len + d - 1) / d ≤ k) → is_present bits (1 + k) ≡ is_present old (1 + k)) → IsHeader d (file_fields n moment bits)
 resize_valid d len was old is n moment bits fits when room bytes cleared others = header_valid d len was old is n moment bits when fits room bytes within
   where
     within : (k : ℕ) → is_present bits (1 + k) ≡ true → 1 + k ≤ (n + d - 1) / d
@@ -96,7 +97,7 @@ module _ (p : PagesState) (z : Sizes) (o before : ℕ) (all : List ℕ) (f : Fil
 
   module _ (limit : ℕ) (grows : len < n → limit ≡ (n + d - 1) / d) (stays : n ≤ len → limit ≡ 0) (pages : List FreshPage) (of : AreOf o (IsTail d len was limit) pages) (hold : HoldChunks d all pages)
       (change : Change) (cuts : CutsFrom o ((n + d - 1) / d) ((len + d - 1) / d) change.cuts.items) (q : FreshPage) (items : change.pages.items ≡ pages ++ q ∷ []) (object : q.key.object ≡ o) (chunk : q.key.chunk ≡ 0)
-      (bits : List ℕ) (header : q.bytes.items ≡ header_bytes (fields_in n moment bits)) (valid : IsHeader d (fields_in n moment bits))
+      (bits : List ℕ) (header : q.bytes.items ≡ header_bytes (file_fields n moment bits)) (valid : IsHeader d (file_fields n moment bits))
       (cleared : (k : ℕ) → (n + d - 1) / d ≤ k → k < (len + d - 1) / d → is_present bits (1 + k) ≡ false)
       (others : (k : ℕ) → (k < (n + d - 1) / d) ⊎ ((len + d - 1) / d ≤ k) → is_present bits (1 + k) ≡ is_present was (1 + k)) where
     m : PageMap
@@ -159,10 +160,10 @@ module _ (p : PagesState) (z : Sizes) (o before : ℕ) (all : List ℕ) (f : Fil
         let held = tail_grows o d len limit n was all pages grown of hold in
         let hold' = subst (λ (xs : List FreshPage). HoldChunks d (resized all n) xs) (sym items) (hold_push d (resized all n) pages q held (λ k is. absurd (omega (arith, is, chunk)))) in
         let there : slice_get change.pages.items (length pages) ≡ Some q = ap (λ (xs : List FreshPage). slice_get xs (length pages)) items ∙ push_last pages q in
-        let at : changed change p.present o 0 ≡ Some (header_bytes (fields_in n moment bits)) =
+        let at : changed change p.present o 0 ≡ Some (header_bytes (file_fields n moment bits)) =
         ap (λ k. changed change p.present k 0) (sym object) ∙ ap (λ k. changed change p.present q.key.object k) (sym chunk)
         ∙ page_here change.pages.items (without_cuts change.cuts.items p.present) of'.apart (length pages) q there ∙ ap Some header in
-        becomes p z o before moment all (resized all n) f d size some (changed change p.present) (fields_in n moment bits) at valid refl refl (sym (length-resized all n))
+        becomes p z o before moment all (resized all n) f d size some (changed change p.present) (file_fields n moment bits) at valid refl refl (sym (length-resized all n))
         (resize_chunks p z o before all f d size some len len_is was was_is n limit ((n + d - 1) / d) (ceil_low n d some) (ceil_high n d some) (λ more. grows (omega (arith, more, len_is))) (λ less. stays (omega (arith, less, len_is)))
         (OrHeader (IsTail d len was limit)) change.pages.items of' (but_header (IsTail d len was limit)) (λ c is. inl is) hold' bits (λ k low. others k (inl low)) (without_cuts change.cuts.items p.present)
         (λ k low. uncut_before (1 + k) (omega (arith, low))) past)

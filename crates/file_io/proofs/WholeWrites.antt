@@ -4,6 +4,7 @@ use Rattle.std.proofs.Common.{refl, sym, ◌∙◌, ap, subst, inl, inr, arith}
 use Rattle.std.proofs.Math.Nat.{div-mul-le_self, lt-div-mul-add, mul-le-mul_right}
 use Rattle.std.proofs.lemmas.Bool.{cases_lt}
 use Rattle.std.proofs.lemmas.Nat.{le-div}
+use Rattle.page_tags.specs.HeaderFields.{file_fields}
 use Rattle.page_tags.specs.Headers.{IsHeader, IsBytes, header_bytes, is_present}
 use Rattle.posix_profile.specs.Changes.{written}
 use Rattle.volume_terms.specs.Sizes.{Sizes}
@@ -16,7 +17,7 @@ use Rattle.pages.specs.State.{PagesState}
 use Rattle.pages.specs.declared.change.Change.{Change}
 use Rattle.pages.specs.declared.change.Cut.{Cut}
 use Rattle.flash_tree.specs.declared.place.FreshPage.{FreshPage}
-use Rattle.file_io.specs.Files.{FileIn, Becomes, fields_in}
+use Rattle.file_io.specs.Files.{FileIn, Becomes}
 use Rattle.file_io.specs.Chunks.{AreOf, HoldChunks, IsAmong, IsWritten}
 use Rattle.file_io.proofs.Becoming.{becomes}
 use Rattle.file_io.proofs.Filling.{among_chunks}
@@ -25,8 +26,8 @@ use Rattle.file_io.proofs.WriteChunks.{write_chunks}
 use Rattle.file_io.proofs.Written.{length-written}
 
 -- a header with other bits, none of them past the end of the file
-pub header_valid : (d len was : ℕ) (old : List ℕ) → IsHeader d (fields_in len was old) → (new_len moment : ℕ) (bits : List ℕ) → moment < 2 ^ 64 → new_len ≤ 8 * (d - 32) * d → length bits ≡ length old → IsBytes bits
-    → ((k : ℕ) → is_present bits (1 + k) ≡ true → 1 + k ≤ (new_len + d - 1) / d) → IsHeader d (fields_in new_len moment bits)
+pub header_valid : (d len was : ℕ) (old : List ℕ) → IsHeader d (file_fields len was old) → (new_len moment : ℕ) (bits : List ℕ) → moment < 2 ^ 64 → new_len ≤ 8 * (d - 32) * d → length bits ≡ length old → IsBytes bits
+    → ((k : ℕ) → is_present bits (1 + k) ≡ true → 1 + k ≤ (new_len + d - 1) / d) → IsHeader d (file_fields new_len moment bits)
 header_valid d len was old is new_len moment bits when fits room bytes within = record {
   spare = omega arith;
   length_fits = fits;
@@ -40,8 +41,8 @@ header_valid d len was old is new_len moment bits when fits room bytes within = 
 }
 
 -- the bits after a write
-pub write_valid : (d len was : ℕ) (old : List ℕ) → IsHeader d (fields_in len was old) → 1 ≤ d → (off n moment long : ℕ) (bits : List ℕ) → 1 ≤ n → off + n ≤ 8 * (d - 32) * d → moment < 2 ^ 64 → long ≡ max len (off + n)
-    → length bits ≡ length old → IsBytes bits → ((k : ℕ) → (k < off / d) ⊎ ((off + n - 1) / d + 1 ≤ k) → is_present bits (1 + k) ≡ is_present old (1 + k)) → IsHeader d (fields_in long moment bits)
+pub write_valid : (d len was : ℕ) (old : List ℕ) → IsHeader d (file_fields len was old) → 1 ≤ d → (off n moment long : ℕ) (bits : List ℕ) → 1 ≤ n → off + n ≤ 8 * (d - 32) * d → moment < 2 ^ 64 → long ≡ max len (off + n)
+    → length bits ≡ length old → IsBytes bits → ((k : ℕ) → (k < off / d) ⊎ ((off + n - 1) / d + 1 ≤ k) → is_present bits (1 + k) ≡ is_present old (1 + k)) → IsHeader d (file_fields long moment bits)
 write_valid d len was old is least off n moment long bits some fits when long_is room bytes others =
     header_valid d len was old is long moment bits when (omega (arith, long_is, fits, is.length_fits)) room bytes within
   where
@@ -124,7 +125,7 @@ module _ (p : PagesState) (z : Sizes) (o before : ℕ) (all : List ℕ) (f : Fil
 
   -- a write with a header
   pub write_new : (change : Change) (q : FreshPage) (long : ℕ) (bits : List ℕ) → change.pages.items ≡ pages ++ q ∷ [] → change.cuts.items ≡ [] → q.key.object ≡ o → q.key.chunk ≡ 0
-      → q.bytes.items ≡ header_bytes (fields_in long moment bits) → IsHeader d (fields_in long moment bits) → long ≡ max len (off + length bytes)
+      → q.bytes.items ≡ header_bytes (file_fields long moment bits) → IsHeader d (file_fields long moment bits) → long ≡ max len (off + length bytes)
       → ((k : ℕ) → off / d ≤ k → k < (off + length bytes - 1) / d + 1 → is_present bits (1 + k) ≡ true)
       → ((k : ℕ) → (k < off / d) ⊎ ((off + length bytes - 1) / d + 1 ≤ k) → is_present bits (1 + k) ≡ is_present was (1 + k))
       → Becomes z p.present (changed change p.present) o f.reads.fields (off / d) ((off + length bytes - 1) / d + 1) moment (written all off bytes)
@@ -136,9 +137,9 @@ module _ (p : PagesState) (z : Sizes) (o before : ℕ) (all : List ℕ) (f : Fil
       let of' = subst (λ (xs : List FreshPage). AreOf o (OrHeader IsOne) xs) (sym items) pushed in
       let hold' = subst (λ (xs : List FreshPage). HoldChunks d (written all off bytes) xs) (sym items) (hold_push d (written all off bytes) pages q hold (λ k is. absurd (omega (arith, is, chunk)))) in
       let there : slice_get change.pages.items (length pages) ≡ Some q = ap (λ (xs : List FreshPage). slice_get xs (length pages)) items ∙ push_last pages q in
-      let at : changed change p.present o 0 ≡ Some (header_bytes (fields_in long moment bits)) =
+      let at : changed change p.present o 0 ≡ Some (header_bytes (file_fields long moment bits)) =
       ap (λ k. changed change p.present k 0) (sym object) ∙ ap (λ k. changed change p.present q.key.object k) (sym chunk) ∙ page_here change.pages.items m of'.apart (length pages) q there ∙ ap Some header in
-      becomes p z o before moment all (written all off bytes) f d size some (changed change p.present) (fields_in long moment bits) at valid refl refl
+      becomes p z o before moment all (written all off bytes) f d size some (changed change p.present) (file_fields long moment bits) at valid refl refl
       (long_is ∙ omega (arith, len_is, length-written all off bytes))
       (write_chunks p z o before all f d size some len len_is was was_is off bytes any (OrHeader IsOne) change.pages.items of' (but_header IsOne) (λ c is. inl is) hold' bits marked others m same)
       (off / d) ((off + length bytes - 1) / d + 1) marked (λ k is. new_bit k bits is marked others)

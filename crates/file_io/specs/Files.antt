@@ -1,7 +1,6 @@
 -- A file of a store's pages, and what a change makes of it.
 use Rattle.std.specs.Prelude.{◌≡◌, ◌⊎◌, ◌≤◌, ℕ, true, false, List, Some, None}
 use Rattle.page_tags.specs.Headers.{Fields, IsHeader, header_bytes, is_present}
-use Rattle.page_tags.specs.declared.header.Format.TheVariants as formats
 use Rattle.page_tags.specs.declared.header.ObjectKind.TheVariants as kinds
 use Rattle.flash_tree.specs.Tree.{ReadsFile}
 use Rattle.volume_terms.specs.Sizes.{Sizes}
@@ -25,10 +24,6 @@ pub record HasFileHeader (p : PagesState) (o : ℕ) : Type 0 where
 -- each of these chunks that the bits name has a page
 abbrev pub HasPages : PageMap → ℕ → List ℕ → (ℕ → Type 0) → Type 0
 HasPages m o bits IsOne = (c : ℕ) → IsOne c → is_present bits c ≡ true → (page : List ℕ) × (m o c ≡ Some page)
-
--- what the header of a file says: it is written in format 2
-abbrev pub fields_in : ℕ → ℕ → List ℕ → Fields
-fields_in len moment bits = record { format = formats.Two; kind = kinds.File; spare = 0; length = len; moment = moment; bits = bits }
 
 -- the object has no chunk besides those that the header names
 abbrev pub HasOnly : PageMap → ℕ → Fields → Type 0

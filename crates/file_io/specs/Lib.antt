@@ -1,4 +1,5 @@
 pub mod Files
+pub mod HeadPages
 pub mod Heads
 pub mod Chunks
 pub mod Parts

@@ -1,5 +1,5 @@
 // The presence bits of a range of chunks, counted from 0.
-ghost use Rattle.std.specs.Prelude.{◌≡◌, ◌<◌, ◌≤◌, ◌+◌, ◌-◌, ◌*◌, ◌^◌, ◌⊎◌, ℕ, true, false, length};
+ghost use Rattle.std.specs.Prelude.{◌≡◌, ◌<◌, ◌≤◌, ◌+◌, ◌-◌, ◌*◌, ◌^◌, ◌⊎◌, ℕ, true, false, length, drop};
 ghost use Rattle.page_tags.specs.Headers.{is_present};
 
 use page_tags::{is_present, set_present};
@@ -19,7 +19,7 @@ pub(crate) fn has_all(bits: &[u8], first: u64, end: u64) -> bool
 }
 
 /// Marks the chunks from `first` on and before `end` as present or not.
-pub(crate) fn mark(bits: &mut [u8], first: u64, end: u64, present: bool)
+fn mark(bits: &mut [u8], first: u64, end: u64, present: bool)
     requires small { end < 2 ^ 64 - 1 }
     requires within { end ≤ 8 * length bits.old }
     ensures here { (k : ℕ) → first ≤ k → k < end → is_present bits.new (1 + k) ≡ present }
@@ -28,4 +28,15 @@ pub(crate) fn mark(bits: &mut [u8], first: u64, end: u64, present: bool)
     for index in first..end {
         set_present(bits, 1 + index, present);
     }
+}
+
+/// The same in the page of a header.
+pub(crate) fn mark_in(page: &mut [u8], first: u64, end: u64, present: bool)
+    requires least { 32 ≤ length page.old }
+    requires small { end < 2 ^ 64 - 1 }
+    requires within { end ≤ 8 * (length page.old - 32) }
+    ensures here { (k : ℕ) → first ≤ k → k < end → is_present (drop 32 page.new) (1 + k) ≡ present }
+    ensures others { (k : ℕ) → (k < first) ⊎ (end ≤ k) → is_present (drop 32 page.new) (1 + k) ≡ is_present (drop 32 page.old) (1 + k) }
+{
+    mark(&mut page[32..], first, end, present);
 }

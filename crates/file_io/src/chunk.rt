@@ -5,11 +5,11 @@ ghost use Rattle.volume_terms.specs.Sizes.{Sizes};
 ghost use Rattle.pages.specs.Changes.{AreSized};
 ghost use Rattle.pages.specs.State.{OnlyFinds, KeepsPower};
 ghost use Rattle.file_io.specs.Files.{FileIn, HasPages};
-ghost use Rattle.file_io.specs.Heads.{IsHeadOf};
+ghost use Rattle.file_io.specs.Heads.{IsHeadOf, bits_in};
 ghost use Rattle.file_io.specs.Chunks.{AreOf, HoldChunks, HoldsChunk, IsPartLast, IsTail};
 ghost use Rattle.pages.specs.Faults.{MayLackMemory, SaysWhyMaking};
 
-use crate::head::FileHead;
+use crate::file_head::FileHead;
 use flash_tree::{FreshPage, Key};
 use page_tags::is_present;
 use pages::{PageFault, Pages, load};
@@ -37,7 +37,7 @@ pub(crate) fn chunk_bytes<P: Pages>(
     ensures finds { OnlyFinds (P.state pages.old) (P.state pages.new) }
     ensures asked { (P.state pages.new).asked ≤ (P.state pages.old).asked + 1 }
     ensures power { OnOk result (KeepsPower (P.state pages.old) (P.state pages.new)) }
-    ensures told { (P.state pages.old).sound ≡ true → is_present head.now.bits.items (1 + index) ≡ true
+    ensures told { (P.state pages.old).sound ≡ true → is_present (bits_in head.now) (1 + index) ≡ true
         → OnOk result ((page : List ℕ) × ((P.state pages.old).present object (1 + index) ≡ Some page)) }
     ensures size { IfOk result (λ bytes. length bytes.items ≡ (P.state pages.old).page_bytes) }
     ensures holds { (z : Sizes) (moment : ℕ) (all : List ℕ) (f : FileIn (P.state pages.old) z object moment all)
@@ -47,7 +47,7 @@ pub(crate) fn chunk_bytes<P: Pages>(
         → IsHeadOf head.now f.reads.fields → IfErr result (MayLackMemory (P.state pages.new)) }
 {
     let page_bytes = u64::from(pages.page_bytes());
-    if !is_present(&head.bits, 1 + index) {
+    if !is_present(head.bits(), 1 + index) {
         return Ok(vec![in alloc; 0u8; page_bytes as usize]?);
     }
     load(
@@ -78,8 +78,8 @@ pub(crate) fn tail_pages<P: Pages>(
     ensures power { OnOk result (KeepsPower (P.state pages.old) (P.state pages.new)) }
     ensures unasked { before ≤ head.now.length / (P.state pages.old).page_bytes → (P.state pages.new).asked ≡ (P.state pages.old).asked }
     ensures told { (P.state pages.old).sound ≡ true → head.now.length / (P.state pages.old).page_bytes < before
-        → OnOk result (HasPages (P.state pages.old).present object head.now.bits.items (IsPartLast (P.state pages.old).page_bytes head.now.length)) }
-    ensures of { IfOk result (λ fresh. AreOf object (IsTail (P.state pages.old).page_bytes head.now.length head.now.bits.items before) fresh.items) }
+        → OnOk result (HasPages (P.state pages.old).present object (bits_in head.now) (IsPartLast (P.state pages.old).page_bytes head.now.length)) }
+    ensures of { IfOk result (λ fresh. AreOf object (IsTail (P.state pages.old).page_bytes head.now.length (bits_in head.now) before) fresh.items) }
     ensures few { IfOk result (λ fresh. length fresh.items ≤ 1) }
     ensures sized { IfOk result (λ fresh. AreSized fresh.items (P.state pages.old).page_bytes) }
     ensures hold { (z : Sizes) (moment : ℕ) (all : List ℕ) (f : FileIn (P.state pages.old) z object moment all)
@@ -90,7 +90,7 @@ pub(crate) fn tail_pages<P: Pages>(
 {
     let page_bytes = u64::from(pages.page_bytes());
     let index = head.length / page_bytes;
-    if head.length % page_bytes == 0 || index >= before || !is_present(&head.bits, 1 + index) {
+    if head.length % page_bytes == 0 || index >= before || !is_present(head.bits(), 1 + index) {
         return Ok(Vec::new(alloc));
     }
     let bytes = chunk_bytes(alloc, pages, object, head, index)?;

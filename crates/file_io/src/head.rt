@@ -1,35 +1,28 @@
 // The header of a file.
-ghost use Rattle.std.specs.Prelude.{◌≡◌, ◌≤◌, ◌+◌, ◌-◌, ℕ, List, [], true, Some, IfOk, IfErr, IsOkAnd, OnOk, length, replicate};
-ghost use Rattle.page_tags.specs.HeaderFields.{fields_of};
+ghost use Rattle.std.specs.Prelude.{◌≡◌, ◌≤◌, ◌+◌, ◌-◌, ℕ, List, [], true, Some, IfOk, IfErr, IsOkAnd, OnOk, length, drop, replicate};
+ghost use Rattle.page_tags.specs.HeaderFields.{fields_of, file_fields};
 ghost use Rattle.page_tags.specs.Headers.{Fields, IsBytes, IsHeader, IsHeaderOf, header_bytes};
 ghost use Rattle.page_tags.specs.declared.header.ObjectKind.TheVariants as kinds;
 ghost use Rattle.flash_tree.specs.Tree.{ReadsFile};
 ghost use Rattle.volume_terms.specs.Sizes.{Sizes};
 ghost use Rattle.pages.specs.Maps.{PageMap, has};
 ghost use Rattle.pages.specs.State.{OnlyFinds, KeepsPower};
-ghost use Rattle.file_io.specs.Files.{FileIn, HasFileHeader, fields_in};
-ghost use Rattle.file_io.specs.Heads.{IsHeadOf, SaysHead};
+ghost use Rattle.file_io.specs.Files.{FileIn, HasFileHeader};
+ghost use Rattle.file_io.specs.Heads.{IsHeadOf, SaysHead, bits_in};
 ghost use Rattle.pages.specs.Faults.{MayLack, MayLackMemory, SaysWhy, SaysWhyMaking};
 ghost use Rattle.pages.specs.declared.fault.PageFault.TheVariants as faults;
 
+use crate::file_head::FileHead;
 use flash_tree::{FreshPage, Key};
-use page_tags::{Format, Header, ObjectKind, decode_header, encode_header};
+use page_tags::{Header, ObjectKind, decode_header, write_file_header};
 use pages::{PageFault, Pages, load};
-use std::alloc::{AllocError, Global};
+use std::alloc::Global;
 
 /// The length of a file in bytes, and the moment of its last change.
 #[derive(Clone, Copy, Debug, PartialEq, Eq)]
 pub struct FileInfo {
     pub length: u64,
     pub moment: u64,
-}
-
-/// What the header of a file says: its length, the moment of its last change, and the presence bits of its chunks.
-#[derive(Drop)]
-pub(crate) struct FileHead {
-    pub length: u64,
-    pub moment: u64,
-    pub bits: Vec<u8>,
 }
 
 /// What a page says as the header of a file.
@@ -83,51 +76,38 @@ pub(crate) fn read_head<P: Pages>(
     ensures power { OnOk result (KeepsPower (P.state pages.old) (P.state pages.new)) }
     ensures head { (z : Sizes) (moment : ℕ) (all : List ℕ) (f : FileIn (P.state pages.old) z object moment all)
         → IfOk result (λ head. IsHeadOf head f.reads.fields) }
-    ensures valid { IfOk result (λ head. IsHeader (P.state pages.old).page_bytes (fields_in head.length head.moment head.bits.items)) }
+    ensures size { IfOk result (λ head. length head.page.items ≡ (P.state pages.old).page_bytes) }
+    ensures valid { IfOk result (λ head. IsHeader (P.state pages.old).page_bytes (file_fields head.length head.moment (bits_in head))) }
     ensures told { (P.state pages.old).sound ≡ true → IfOk result (SaysHead (P.state pages.old) object) }
     ensures why { IfErr result (SaysWhyMaking (P.state pages.new)) }
     ensures fault { (z : Sizes) (moment : ℕ) (all : List ℕ) (f : FileIn (P.state pages.old) z object moment all)
         → IfErr result (MayLackMemory (P.state pages.new)) }
 {
     load(pages, Key { object, chunk: 0 })?;
-    let header = decode_file(pages.page())?;
+    let page = pages.page();
+    let header = decode_file(page)?;
     Ok(FileHead {
         length: header.length,
         moment: header.moment,
-        bits: Vec::from_slice(alloc, header.bits)?,
+        page: Vec::from_slice(alloc, page)?,
     })
 }
 
-/// The page of a file's header.
-pub(crate) fn head_page(
-    alloc: Global,
-    page_bytes: u32,
-    object: u64,
-    len: u64,
-    moment: u64,
-    bits: &[u8],
-) -> Result<FreshPage, AllocError>
-    requires least { 32 ≤ page_bytes }
-    requires most { page_bytes ≤ 4096 }
-    requires valid { IsBytes bits.now → IsHeader page_bytes (fields_in len moment bits.now) }
-    ensures object { IfOk result (λ page. page.key.object ≡ object) }
-    ensures chunk { IfOk result (λ page. page.key.chunk ≡ 0) }
-    ensures size { IfOk result (λ page. length page.bytes.items ≡ page_bytes) }
-    ensures header { IfOk result (λ page. page.bytes.items ≡ header_bytes (fields_in len moment bits.now)) }
-    ensures valid { IsHeader page_bytes (fields_in len moment bits.now) }
+/// The page of a file's header, from a page that has its presence bits.
+pub(crate) fn head_page(object: u64, len: u64, moment: u64, page: Vec<u8>) -> FreshPage
+    requires least { 32 ≤ length page.items }
+    requires most { length page.items ≤ 4096 }
+    requires valid { IsBytes page.items → IsHeader (length page.items) (file_fields len moment (drop 32 page.items)) }
+    ensures object { result.key.object ≡ object }
+    ensures chunk { result.key.chunk ≡ 0 }
+    ensures size { length result.bytes.items ≡ length page.items }
+    ensures header { result.bytes.items ≡ header_bytes (file_fields len moment (drop 32 page.items)) }
+    ensures valid { IsHeader (length page.items) (file_fields len moment (drop 32 page.items)) }
 {
-    let mut bytes = vec![in alloc; 0u8; page_bytes as usize]?;
-    let header = Header {
-        format: Format::Two,
-        kind: ObjectKind::File,
-        spare: 0,
-        length: len,
-        moment,
-        bits,
-    };
-    encode_header(&header, &mut bytes);
+    let mut bytes = page;
+    write_file_header(len, moment, &mut bytes);
     let key = Key { object, chunk: 0 };
-    Ok(FreshPage { key, bytes })
+    FreshPage { key, bytes }
 }
 
 /// The page that makes an object a file of no bytes: its header.
@@ -144,7 +124,6 @@ pub fn create<P: Pages>(
         → IfOk result (λ page. m object 0 ≡ Some page.bytes.items → ReadsFile z (has m) object moment []) }
     ensures fault { IfErr result (λ e. e ≡ faults.NoMemory) }
 {
-    let page_bytes = pages.page_bytes();
-    let bits = vec![in alloc; 0u8; page_bytes as usize - 32]?;
-    Ok(head_page(alloc, page_bytes, object, 0, moment, &bits)?)
+    let page = vec![in alloc; 0u8; pages.page_bytes() as usize]?;
+    Ok(head_page(object, 0, moment, page))
 }

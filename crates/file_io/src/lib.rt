@@ -3,6 +3,7 @@
 
 mod bits;
 mod chunk;
+mod file_head;
 mod head;
 mod reading;
 mod resizing;

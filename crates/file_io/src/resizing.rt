@@ -1,5 +1,5 @@
 // The length of a file.
-ghost use Rattle.std.specs.Prelude.{◌≡◌, ◌<◌, ◌≤◌, ◌⊎◌, ◌+◌, ◌-◌, ◌*◌, ◌/◌, ◌^◌, ℕ, List, true, false, IfOk, IfErr, OnOk, length, min};
+ghost use Rattle.std.specs.Prelude.{◌≡◌, ◌<◌, ◌≤◌, ◌⊎◌, ◌+◌, ◌-◌, ◌*◌, ◌/◌, ◌^◌, ℕ, List, true, false, IfOk, IfErr, OnOk, length, min, drop};
 ghost use Rattle.page_tags.specs.Headers.{greatest_told, is_present};
 ghost use Rattle.page_tags.specs.declared.header.ObjectKind.TheVariants as kinds;
 ghost use Rattle.posix_profile.specs.Changes.{resized};
@@ -12,7 +12,7 @@ ghost use Rattle.file_io.specs.Files.{Becomes, FileIn, HasFileHeader, HasPages};
 ghost use Rattle.file_io.specs.Chunks.{IsPartLast};
 ghost use Rattle.file_io.specs.Cuts.{CutsFrom};
 
-use crate::bits::mark;
+use crate::bits::mark_in;
 use crate::chunk::tail_pages;
 use crate::head::{head_page, read_head};
 use pages::{Change, Cut, PageFault, Pages};
@@ -26,21 +26,22 @@ fn tail_limit(old: u64, len: u64, chunks: u64) -> u64
     if old < len { chunks } else { 0 }
 }
 
-/// The cut of an object's chunks, of which so many stay, whose presence bits are cleared. Where the file has no more
-/// than that, nothing is cut.
+/// The cut of an object's chunks, of which so many stay, whose presence bits are cleared in the page of the header. Where
+/// the file has no more than that, nothing is cut.
 fn cut_chunks(
     alloc: Global,
     object: u64,
-    bits: &mut [u8],
+    page: &mut [u8],
     kept: u64,
     chunks: u64,
 ) -> Result<Vec<Cut>, AllocError>
     requires small { kept < 2 ^ 32 }
     requires short { chunks < 2 ^ 32 }
-    requires within { chunks ≤ 8 * length bits.old }
+    requires least { 32 ≤ length page.old }
+    requires within { chunks ≤ 8 * (length page.old - 32) }
     ensures cuts { IfOk result (λ cuts. CutsFrom object kept chunks cuts.items) }
-    ensures cleared { (k : ℕ) → kept ≤ k → k < chunks → OnOk result (is_present bits.new (1 + k) ≡ false) }
-    ensures others { (k : ℕ) → (k < kept) ⊎ (chunks ≤ k) → is_present bits.new (1 + k) ≡ is_present bits.old (1 + k) }
+    ensures cleared { (k : ℕ) → kept ≤ k → k < chunks → OnOk result (is_present (drop 32 page.new) (1 + k) ≡ false) }
+    ensures others { (k : ℕ) → (k < kept) ⊎ (chunks ≤ k) → is_present (drop 32 page.new) (1 + k) ≡ is_present (drop 32 page.old) (1 + k) }
 {
     if chunks <= kept {
         return Ok(Vec::new(alloc));
@@ -50,7 +51,7 @@ fn cut_chunks(
         from: 1 + kept,
     };
     let cuts = vec![in alloc; cut]?;
-    mark(bits, kept, chunks, false);
+    mark_in(page, kept, chunks, false);
     Ok(cuts)
 }
 
@@ -83,9 +84,8 @@ pub fn set_length<P: Pages>(
     ensures fault { (z : Sizes) (before : ℕ) (all : List ℕ) (f : FileIn (P.state pages.old) z object before all)
         → IfErr result (MayLackMemory (P.state pages.new)) }
 {
-    let mut head = read_head(alloc, pages, object)?;
-    let page_bytes = pages.page_bytes();
-    let size = u64::from(page_bytes);
+    let head = read_head(alloc, pages, object)?;
+    let size = u64::from(pages.page_bytes());
     let mut change = Change::none(alloc);
     if head.length == len && head.moment == moment {
         return Ok(change);
@@ -94,8 +94,8 @@ pub fn set_length<P: Pages>(
     let chunks = (head.length + size - 1) / size;
     let limit = tail_limit(head.length, len, kept);
     change.pages = tail_pages(alloc, pages, object, &head, limit)?;
-    change.cuts = cut_chunks(alloc, object, &mut head.bits, kept, chunks)?;
-    let header = head_page(alloc, page_bytes, object, len, moment, &head.bits)?;
-    change.pages.push(header)?;
+    let mut page = head.page;
+    change.cuts = cut_chunks(alloc, object, &mut page, kept, chunks)?;
+    change.pages.push(head_page(object, len, moment, page))?;
     Ok(change)
 }

@@ -8,13 +8,14 @@ ghost use Rattle.pages.specs.Maps.{changed, IsPageOf};
 ghost use Rattle.pages.specs.Changes.{AreSized, IsChange, IsNothing, IsOnlyOf};
 ghost use Rattle.pages.specs.State.{OnlyFinds, KeepsPower};
 ghost use Rattle.file_io.specs.Files.{Becomes, FileIn, HasFileHeader, HasPages};
-ghost use Rattle.file_io.specs.Heads.{IsHeadOf};
+ghost use Rattle.file_io.specs.Heads.{IsHeadOf, bits_in};
 ghost use Rattle.file_io.specs.Chunks.{AreOf, HoldChunks, HoldsChunk, IsAmong, IsPartKept, IsWritten, overwritten};
 ghost use Rattle.pages.specs.Faults.{MayLackMemory, SaysWhyMaking};
 
-use crate::bits::{has_all, mark};
+use crate::bits::{has_all, mark_in};
 use crate::chunk::{chunk_bytes, tail_pages};
-use crate::head::{FileHead, head_page, read_head};
+use crate::file_head::FileHead;
+use crate::head::{head_page, read_head};
 use flash_tree::{FreshPage, Key};
 use pages::{Change, PageFault, Pages};
 use std::alloc::Global;
@@ -50,7 +51,7 @@ fn written_bytes<P: Pages>(
         → (P.state pages.new).asked ≡ (P.state pages.old).asked }
     ensures told { (P.state pages.old).sound ≡ true
         → (index * (P.state pages.old).page_bytes < offset) ⊎ (offset + length bytes.now < index * (P.state pages.old).page_bytes + (P.state pages.old).page_bytes)
-        → is_present head.now.bits.items (1 + index) ≡ true → OnOk result ((page : List ℕ) × ((P.state pages.old).present object (1 + index) ≡ Some page)) }
+        → is_present (bits_in head.now) (1 + index) ≡ true → OnOk result ((page : List ℕ) × ((P.state pages.old).present object (1 + index) ≡ Some page)) }
     ensures size { IfOk result (λ page. length page.items ≡ (P.state pages.old).page_bytes) }
     ensures holds { (z : Sizes) (moment : ℕ) (all : List ℕ) (f : FileIn (P.state pages.old) z object moment all)
         → IsHeadOf head.now f.reads.fields
@@ -91,8 +92,8 @@ fn written_pages<P: Pages>(
         + min 1 (offset % (P.state pages.old).page_bytes) + min 1 ((offset + length bytes.now) % (P.state pages.old).page_bytes) }
     ensures power { OnOk result (KeepsPower (P.state pages.old) (P.state pages.new)) }
     ensures told { (P.state pages.old).sound ≡ true
-        → OnOk result (HasPages (P.state pages.old).present object head.now.bits.items (IsPartKept (P.state pages.old).page_bytes head.now.length offset (length bytes.now))) }
-    ensures of { IfOk result (λ fresh. AreOf object (IsWritten (P.state pages.old).page_bytes head.now.length head.now.bits.items
+        → OnOk result (HasPages (P.state pages.old).present object (bits_in head.now) (IsPartKept (P.state pages.old).page_bytes head.now.length offset (length bytes.now))) }
+    ensures of { IfOk result (λ fresh. AreOf object (IsWritten (P.state pages.old).page_bytes head.now.length (bits_in head.now)
         (offset / (P.state pages.old).page_bytes) ((offset + length bytes.now - 1) / (P.state pages.old).page_bytes + 1)) fresh.items) }
     ensures few { IfOk result (λ fresh. length fresh.items + offset / (P.state pages.old).page_bytes
         ≤ (offset + length bytes.now - 1) / (P.state pages.old).page_bytes + 2) }
@@ -156,9 +157,8 @@ pub fn write_at<P: Pages>(
     ensures fault { (z : Sizes) (before : ℕ) (all : List ℕ) (f : FileIn (P.state pages.old) z object before all)
         → IfErr result (MayLackMemory (P.state pages.new)) }
 {
-    let mut head = read_head(alloc, pages, object)?;
-    let page_bytes = pages.page_bytes();
-    let size = u64::from(page_bytes);
+    let head = read_head(alloc, pages, object)?;
+    let size = u64::from(pages.page_bytes());
     let mut change = Change::none(alloc);
     if bytes.is_empty() {
         return Ok(change);
@@ -167,12 +167,12 @@ pub fn write_at<P: Pages>(
     let to = offset + bytes.len() as u64;
     let first = offset / size;
     let end = (to - 1) / size + 1;
-    if head.moment == moment && to <= head.length && has_all(&head.bits, first, end) {
+    if head.moment == moment && to <= head.length && has_all(head.bits(), first, end) {
         return Ok(change);
     }
-    mark(&mut head.bits, first, end, true);
     let length = head.length.max(to);
-    let header = head_page(alloc, page_bytes, object, length, moment, &head.bits)?;
-    change.pages.push(header)?;
+    let mut page = head.page;
+    mark_in(&mut page, first, end, true);
+    change.pages.push(head_page(object, length, moment, page))?;
     Ok(change)
 }

@@ -1,7 +1,7 @@
 // The header of an object, in the page of its chunk 0.
 
-ghost use Rattle.std.specs.Prelude.{◌≡◌, ◌≢◌, ◌≤◌, ◌↔◌, length, IfOk, IfErr, IsOkAnd, IsTrue, MatchOption, Err, slice_index};
-ghost use Rattle.page_tags.specs.HeaderFields.{fields_of};
+ghost use Rattle.std.specs.Prelude.{◌≡◌, ◌≢◌, ◌≤◌, ◌↔◌, length, IfOk, IfErr, IsOkAnd, IsTrue, MatchOption, Err, slice_index, drop};
+ghost use Rattle.page_tags.specs.HeaderFields.{fields_of, file_fields};
 ghost use Rattle.page_tags.specs.HeaderParts.{HasPast, head_bytes, last_chunk};
 ghost use Rattle.page_tags.specs.Headers.{Fields, HasFault, IsFirstFault, IsHeader, IsHeaderOf, format_number, greatest_told, header_bytes, kind_number};
 ghost use Rattle.page_tags.specs.declared.header.Format.{Format};
@@ -156,6 +156,25 @@ pub fn encode_header(header: &Header, page: &mut [u8])
     page[32..].copy_from_slice(header.bits);
 }
 
+/// Writes the header of a file, in format 2, over the first 32 bytes of a page of 32 to 4096 bytes. The presence bits are
+/// those that stand in the page.
+pub fn write_file_header(len: u64, moment: u64, page: &mut [u8])
+    requires least { 32 ≤ length page.old }
+    requires most { length page.old ≤ 4096 }
+    requires valid { IsHeader (length page.old) (file_fields len moment (drop 32 page.old)) }
+    ensures { page.new ≡ header_bytes (file_fields len moment (drop 32 page.old)) }
+{
+    let header = Header {
+        format: Format::Two,
+        kind: ObjectKind::File,
+        spare: 0,
+        length: len,
+        moment,
+        bits: &[],
+    };
+    page[..32].copy_from_slice(&head_of(&header));
+}
+
 // Whether a bit of a chunk past the last one is set.
 fn has_chunk_past(bits: &[u8], last: u64) -> bool
     ensures { IsTrue result ↔ HasPast bits.now last }
@@ -173,9 +192,7 @@ fn has_wrong_pad(page: &[u8], format: Format, kind: ObjectKind) -> bool
     ensures { IsTrue result ↔ HasFault page.now HeaderFault.Pad }
 {
     let last = kind.last_chunk(page.len(), u64_at(page, 8));
-    !format.allows(u64_at(page, 16))
-        || !are_zero(&page[24..32])
-        || has_chunk_past(&page[32..], last)
+    !format.allows(u64_at(page, 16)) || u64_at(page, 24) != 0 || has_chunk_past(&page[32..], last)
 }
 
 /// The header that a page of 32 to 4096 bytes is, or the first thing that is wrong with it.

@@ -14,7 +14,9 @@ mod zeros;
 pub use check::{
     CheckEntry, decode_check_entry, decode_check_head, encode_check_entry, encode_check_head,
 };
-pub use header::{Format, Header, HeaderFault, ObjectKind, decode_header, encode_header};
+pub use header::{
+    Format, Header, HeaderFault, ObjectKind, decode_header, encode_header, write_file_header,
+};
 pub use law::{
     each_page_is_a_header_or_has_a_fault, each_slot_is_one_or_none, each_tag_is_one_or_none,
     headers_differ, slots_differ, tags_differ,

@@ -16,7 +16,7 @@ returns-then-not-is_present-clause-holds g c = λ z moment all f head.
     let size_old : d ≡ old.page_bytes = c.from-page_bytes.ensures ∙ c.page_bytes.ensures.bytes in
     let some : 1 ≤ d = omega (arith, c.from-page_bytes.ensures, c.page_bytes.ensures.least) in
     let off : c.is_present.result ≡ false = search rules in
-    let unset : is_present f.reads.fields.bits (1 + c.args.index) ≡ false = ap (λ (xs : List ℕ). is_present xs (1 + c.args.index)) (sym (c.deref.ensures.value ∙ head.bits)) ∙ sym c.is_present.ensures ∙ off in
+    let unset : is_present f.reads.fields.bits (1 + c.args.index) ≡ false = ap (λ (xs : List ℕ). is_present xs (1 + c.args.index)) (sym (c.bits.ensures ∙ head.bits)) ∙ sym c.is_present.ensures ∙ off in
     let zeros : c.in_ok-vec.field-0.items ≡ replicate d 0 = search rules in
     subst (λ n. HoldsChunk n all c.args.index c.in_ok-vec.field-0.items) size_old
     (subst (λ (xs : List ℕ). HoldsChunk d all c.args.index xs) (sym zeros) (absent_holds old z c.args.object moment all f d (size_old ∙ sym f.size) some c.args.index unset))
@@ -28,7 +28,7 @@ returns-in_err-load-clause-fault g c = λ z moment all f head.
     let size_old : d ≡ old.page_bytes = c.from-page_bytes.ensures ∙ c.page_bytes.ensures.bytes in
     let some : 1 ≤ d = omega (arith, c.from-page_bytes.ensures, c.page_bytes.ensures.least) in
     let on : c.is_present.result ≡ true = search rules in
-    let set : is_present f.reads.fields.bits (1 + c.args.index) ≡ true = ap (λ (xs : List ℕ). is_present xs (1 + c.args.index)) (sym (c.deref.ensures.value ∙ head.bits)) ∙ sym c.is_present.ensures ∙ on in
+    let set : is_present f.reads.fields.bits (1 + c.args.index) ≡ true = ap (λ (xs : List ℕ). is_present xs (1 + c.args.index)) (sym (c.bits.ensures ∙ head.bits)) ∙ sym c.is_present.ensures ∙ on in
     let page = chunk_there old z c.args.object moment all f d (size_old ∙ sym f.size) some c.args.index set in
     let p = err_from_is_err_and c.from_residual-in_err-load.result c.from_residual-in_err-load.ensures.1 in
     rw (p.1, p.2) (lacks_memory (g.P.Pages.state c.args.pages.now) (g.P.Pages.state c.load.new.pages) _ (c.in_err-load.ensures.fault f.sound page.0 page.1))
@@ -40,7 +40,7 @@ returns-clause-holds g c = λ z moment all f head.
     let size_old : d ≡ old.page_bytes = c.from-page_bytes.ensures ∙ c.page_bytes.ensures.bytes in
     let some : 1 ≤ d = omega (arith, c.from-page_bytes.ensures, c.page_bytes.ensures.least) in
     let on : c.is_present.result ≡ true = search rules in
-    let set : is_present f.reads.fields.bits (1 + c.args.index) ≡ true = ap (λ (xs : List ℕ). is_present xs (1 + c.args.index)) (sym (c.deref.ensures.value ∙ head.bits)) ∙ sym c.is_present.ensures ∙ on in
+    let set : is_present f.reads.fields.bits (1 + c.args.index) ≡ true = ap (λ (xs : List ℕ). is_present xs (1 + c.args.index)) (sym (c.bits.ensures ∙ head.bits)) ∙ sym c.is_present.ensures ∙ on in
     let page : List ℕ = c.page.result.now in
     let there : old.present c.args.object (1 + c.args.index) ≡ Some page = c.in_ok-load.ensures.page f.sound ∙ ap Some (sym c.page.ensures.bytes) in
     let copied : c.in_ok-bytes.bytes.items ≡ page = search rules in

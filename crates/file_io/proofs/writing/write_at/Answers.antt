@@ -1,6 +1,9 @@
-use Rattle.std.proofs.Common.{◌≡◌, ◌≤◌, ◌+◌, ◌-◌, ◌*◌, ◌/◌, ◌%◌, ◌++◌, ◌∙◌, ℕ, List, [], ◌∷◌, true, false, min, refl, sym, ap, subst, length, arith, rules}
+use Rattle.std.proofs.Common.{◌≡◌, ◌≤◌, ◌+◌, ◌-◌, ◌*◌, ◌/◌, ◌%◌, ◌++◌, ◌∙◌, ℕ, List, [], ◌∷◌, true, false, min, refl, sym, ap, subst, length, drop, length-drop, arith, rules}
 use Rattle.std.proofs.lemmas.List.{length-append, with_items_is, places}
 use Rattle.std.proofs.lemmas.Result.{err_from_is_err_and}
+use Rattle.std.specs.Vec.{with_items}
+use Rattle.page_tags.specs.laws.Byte.{IsBytes-drop}
+use Rattle.page_tags.specs.HeaderFields.{file_fields}
 use Rattle.page_tags.specs.Headers.{IsHeader, is_present}
 use Rattle.posix_profile.specs.Changes.{written}
 use Rattle.pages.specs.Changes.{AreSized}
@@ -8,7 +11,8 @@ use Rattle.pages.specs.Maps.{changed}
 use Rattle.pages.specs.State.{PagesState}
 use Rattle.pages.specs.declared.change.Change.{Change}
 use Rattle.flash_tree.specs.declared.place.FreshPage.{FreshPage}
-use Rattle.file_io.specs.Files.{Becomes, fields_in}
+use Rattle.file_io.specs.Heads.{bits_in}
+use Rattle.file_io.specs.Files.{Becomes}
 use Rattle.file_io.specs.Chunks.{AreOf, HoldChunks, IsAmong, IsWritten}
 use Rattle.file_io.proofs.FilePages.{later}
 use Rattle.file_io.proofs.Filling.{among_chunks}
@@ -55,12 +59,12 @@ returns-then-has_all-clause-writes g c = λ z before all f any.
     let d : ℕ = c.from-size.result in
     let off : ℕ = c.args.offset in
     let n : ℕ = length c.args.bytes.now in
-    let size_now : d ≡ now.page_bytes = c.from-size.ensures ∙ c.page_bytes-page_bytes.ensures.bytes in
+    let size_now : d ≡ now.page_bytes = c.from-size.ensures ∙ c.page_bytes.ensures.bytes in
     let size : d ≡ z.page_bytes = size_now ∙ c.read_head.ensures.finds.page_bytes ∙ sym f.size in
-    let some : 1 ≤ d = omega (arith, c.from-size.ensures, c.page_bytes-page_bytes.ensures.least) in
+    let some : 1 ≤ d = omega (arith, c.from-size.ensures, c.page_bytes.ensures.least) in
     let head = c.in_ok-head.ensures.head z before all f in
     let len : ℕ = c.in_ok-head.head.length in
-    let bits : List ℕ = c.in_ok-head.head.bits.items in
+    let bits : List ℕ = (bits_in c.in_ok-head.head) in
     let pages : List FreshPage = c.in_ok-change.field-0.items in
     let of : AreOf c.args.object (IsWritten d len bits (off / d) ((off + n - 1) / d + 1)) pages =
     subst (λ x. AreOf c.args.object (IsWritten x len bits (off / x) ((off + n - 1) / x + 1)) pages) (sym size_now) c.in_ok-change.ensures.of in
@@ -69,7 +73,7 @@ returns-then-has_all-clause-writes g c = λ z before all f any.
     let change : Change = record { pages = c.in_ok-change.field-0; cuts = c.none-change.result.cuts } in
     subst (λ x. Becomes z old.present (changed change old.present) c.args.object f.reads.fields (off / x) ((off + n - 1) / x + 1) c.args.moment (written all off c.args.bytes.now)) size
     (write_same old z c.args.object before all f d size some len (head.length_is ∙ f.reads.size) bits head.bits off c.args.bytes.now any c.args.moment pages of hold change refl c.none-change.ensures.cuts
-    (sym head.moment ∙ c.if-head-moment.true) c.if-to-head.true (λ k low high. ap (λ (xs : List ℕ). is_present xs (1 + k)) (sym c.deref.ensures.value) ∙ c.has_all.ensures.all c.if-has_all.true k low high))
+    (sym head.moment ∙ c.if-head-moment.true) c.if-to-head.true (λ k low high. ap (λ (xs : List ℕ). is_present xs (1 + k)) (sym c.bits.ensures) ∙ c.has_all.ensures.all c.if-has_all.true k low high))
 
 pub returns-then-has_all-clause-only : goal.returns-then-has_all-clause-only
 returns-then-has_all-clause-only g c =
@@ -77,14 +81,14 @@ returns-then-has_all-clause-only g c =
     let off : ℕ = c.args.offset in
     let n : ℕ = length c.args.bytes.now in
     let change : Change = record { pages = c.in_ok-change.field-0; cuts = c.none-change.result.cuts } in
-    only_of change c.args.object (IsWritten now.page_bytes c.in_ok-head.head.length c.in_ok-head.head.bits.items (off / now.page_bytes) ((off + n - 1) / now.page_bytes + 1)) c.in_ok-change.ensures.of
+    only_of change c.args.object (IsWritten now.page_bytes c.in_ok-head.head.length (bits_in c.in_ok-head.head) (off / now.page_bytes) ((off + n - 1) / now.page_bytes + 1)) c.in_ok-change.ensures.of
     (no_cuts change.cuts.items c.none-change.ensures.cuts c.args.object)
 
 pub returns-then-has_all-clause-change : goal.returns-then-has_all-clause-change
 returns-then-has_all-clause-change g c = λ chunks few.
     let old : PagesState = g.P.Pages.state c.args.pages.now in
     let now : PagesState = g.P.Pages.state c.read_head.new.pages in
-    let some : 1 ≤ old.page_bytes = omega (arith, c.page_bytes-page_bytes.ensures.least, c.page_bytes-page_bytes.ensures.bytes, c.read_head.ensures.finds.page_bytes) in
+    let some : 1 ≤ old.page_bytes = omega (arith, c.page_bytes.ensures.least, c.page_bytes.ensures.bytes, c.read_head.ensures.finds.page_bytes) in
     let any : 1 ≤ length c.args.bytes.now = search rules in
     let count = few_pages now.page_bytes old.page_bytes c.args.offset (length c.args.bytes.now) (length c.in_ok-change.field-0.items) chunks c.read_head.ensures.finds.page_bytes some any few c.in_ok-change.ensures.few in
     record {
@@ -99,31 +103,29 @@ returns-then-has_all-clause-quiet g c = λ z before all f when fits set i is.
     let off : ℕ = c.args.offset in
     let n : ℕ = length c.args.bytes.now in
     let one = (c.in_ok-change.ensures.of.each i is.page is.there).1 in
-    among_chunks now.page_bytes c.in_ok-head.head.length c.in_ok-head.head.bits.items (off / now.page_bytes) ((off + n - 1) / now.page_bytes + 1) is.page.key.chunk is.chunk one
+    among_chunks now.page_bytes c.in_ok-head.head.length (bits_in c.in_ok-head.head) (off / now.page_bytes) ((off + n - 1) / now.page_bytes + 1) is.page.key.chunk is.chunk one
 
 pub head_page-requires-clause-valid : goal.head_page-requires-clause-valid
 head_page-requires-clause-valid g c = λ bytes.
     let old : PagesState = g.P.Pages.state c.args.pages.now in
     let d : ℕ = c.from-size.result in
-    let size_old : d ≡ old.page_bytes = c.from-size.ensures ∙ c.page_bytes-page_bytes.ensures.bytes ∙ c.read_head.ensures.finds.page_bytes in
+    let size_old : d ≡ old.page_bytes = c.from-size.ensures ∙ c.page_bytes.ensures.bytes ∙ c.read_head.ensures.finds.page_bytes in
     let len : ℕ = c.in_ok-head.head.length in
-    let bits : List ℕ = c.in_ok-head.head.bits.items in
-    let valid : IsHeader d (fields_in len c.in_ok-head.head.moment bits) = subst (λ x. IsHeader x (fields_in len c.in_ok-head.head.moment bits)) (sym size_old) c.in_ok-head.ensures.valid in
-    let items : c.deref-2.result.now ≡ c.mark.new.bits = c.deref-2.ensures.value ∙ with_items_is c.in_ok-head.head.bits c.mark.new.bits (search (rules, places)) in
-    let was : c.deref_mut.result.now ≡ bits = c.deref_mut.ensures.value in
-    let room : length c.deref-2.result.now ≡ length bits = ap length items ∙ search rules in
+    let bits : List ℕ = (bits_in c.in_ok-head.head) in
+    let valid : IsHeader d (file_fields len c.in_ok-head.head.moment bits) = subst (λ x. IsHeader x (file_fields len c.in_ok-head.head.moment bits)) (sym size_old) c.in_ok-head.ensures.valid in
+    let page : List ℕ = (with_items c.in_ok-head.head.page c.mark_in.new.page).items in
+    let items : page ≡ c.mark_in.new.page = with_items_is c.in_ok-head.head.page c.mark_in.new.page (search (rules, places)) in
+    let was : c.deref_mut.result.now ≡ c.in_ok-head.head.page.items = c.deref_mut.ensures.value in
+    let same : length c.mark_in.new.page ≡ length c.deref_mut.result.now = search rules in
+    let kept : length page ≡ length c.in_ok-head.head.page.items = ap length items ∙ same ∙ ap length was in
+    let long : length page ≡ d = kept ∙ c.in_ok-head.ensures.size ∙ sym size_old in
+    let room : length (drop 32 page) ≡ length bits = length-drop 32 page ∙ ap (λ n. n - 32) kept ∙ sym (length-drop 32 c.in_ok-head.head.page.items) in
     let fits : c.args.offset + length c.args.bytes.now ≤ 8 * (d - 32) * d = subst (λ x. c.args.offset + length c.args.bytes.now ≤ 8 * (x - 32) * x) (sym size_old) c.requires in
     let any : 1 ≤ length c.args.bytes.now = search rules in
-    subst (λ x. IsHeader x (fields_in c.max-length.result c.args.moment c.deref-2.result.now)) c.from-size.ensures
-    (write_valid d len c.in_ok-head.head.moment bits valid (omega (arith, c.from-size.ensures, c.page_bytes-page_bytes.ensures.least)) c.args.offset (length c.args.bytes.now) c.args.moment c.max-length.result c.deref-2.result.now
-    any fits c.ranges.moment.fits c.max-length.ensures room bytes
-    (λ k outside. ap (λ (xs : List ℕ). is_present xs (1 + k)) items ∙ c.mark.ensures.others k outside ∙ ap (λ (xs : List ℕ). is_present xs (1 + k)) was))
-
-pub returns-in_err-header-clause-asked : goal.returns-in_err-header-clause-asked
-returns-in_err-header-clause-asked g c = λ z before all f.
-    let head = c.in_ok-head.ensures.head z before all f in
-    asked_up (g.P.Pages.state c.read_head.new.pages).page_bytes z.page_bytes c.in_ok-head.head.length (length all) c.args.offset (length c.args.bytes.now) (g.P.Pages.state c.args.pages.now).asked (g.P.Pages.state c.read_head.new.pages).asked (g.P.Pages.state c.written_pages.new.pages).asked
-    (c.read_head.ensures.finds.page_bytes ∙ sym f.size) (head.length_is ∙ f.reads.size) c.read_head.ensures.asked c.written_pages.ensures.asked
+    subst (λ x. IsHeader x (file_fields c.max-length.result c.args.moment (drop 32 page))) (sym long)
+    (write_valid d len c.in_ok-head.head.moment bits valid (omega (arith, c.from-size.ensures, c.page_bytes.ensures.least)) c.args.offset (length c.args.bytes.now) c.args.moment c.max-length.result (drop 32 page)
+    any fits c.ranges.moment.fits c.max-length.ensures room (IsBytes-drop 32 page bytes)
+    (λ k outside. ap (λ (xs : List ℕ). is_present (drop 32 xs) (1 + k)) items ∙ c.mark_in.ensures.others k outside ∙ ap (λ (xs : List ℕ). is_present (drop 32 xs) (1 + k)) was))
 
 pub returns-in_err-push-clause-asked : goal.returns-in_err-push-clause-asked
 returns-in_err-push-clause-asked g c = λ z before all f.
@@ -144,29 +146,32 @@ returns-clause-writes g c = λ z before all f any.
     let d : ℕ = c.from-size.result in
     let off : ℕ = c.args.offset in
     let n : ℕ = length c.args.bytes.now in
-    let size_now : d ≡ now.page_bytes = c.from-size.ensures ∙ c.page_bytes-page_bytes.ensures.bytes in
+    let size_now : d ≡ now.page_bytes = c.from-size.ensures ∙ c.page_bytes.ensures.bytes in
     let size : d ≡ z.page_bytes = size_now ∙ c.read_head.ensures.finds.page_bytes ∙ sym f.size in
-    let some : 1 ≤ d = omega (arith, c.from-size.ensures, c.page_bytes-page_bytes.ensures.least) in
+    let some : 1 ≤ d = omega (arith, c.from-size.ensures, c.page_bytes.ensures.least) in
     let head = c.in_ok-head.ensures.head z before all f in
     let len : ℕ = c.in_ok-head.head.length in
-    let bits : List ℕ = c.in_ok-head.head.bits.items in
+    let bits : List ℕ = (bits_in c.in_ok-head.head) in
     let pages : List FreshPage = c.in_ok-change.field-0.items in
     let of : AreOf c.args.object (IsWritten d len bits (off / d) ((off + n - 1) / d + 1)) pages =
     subst (λ x. AreOf c.args.object (IsWritten x len bits (off / x) ((off + n - 1) / x + 1)) pages) (sym size_now) c.in_ok-change.ensures.of in
     let hold : HoldChunks d (written all off c.args.bytes.now) pages =
     subst (λ x. HoldChunks x (written all off c.args.bytes.now) pages) (sym size_now) (c.in_ok-change.ensures.hold z before all (later old now z c.args.object before all c.read_head.ensures.finds f) head) in
     let change : Change = record { pages = c.push.new.self; cuts = c.none-change.result.cuts } in
-    let q : FreshPage = c.in_ok-header.header in
+    let q : FreshPage = c.head_page.result in
     let items : c.push.new.self.items ≡ pages ++ q ∷ [] = c.in_ok-push.ensures.items in
-    let now_bits : List ℕ = c.deref-2.result.now in
-    let bits_are : now_bits ≡ c.mark.new.bits = c.deref-2.ensures.value ∙ with_items_is c.in_ok-head.head.bits c.mark.new.bits (search (rules, places)) in
-    let was : c.deref_mut.result.now ≡ bits = c.deref_mut.ensures.value in
-    let valid : IsHeader d (fields_in c.max-length.result c.args.moment now_bits) = subst (λ x. IsHeader x (fields_in c.max-length.result c.args.moment now_bits)) (sym c.from-size.ensures) c.head_page.ensures.valid in
+    let page : List ℕ = (with_items c.in_ok-head.head.page c.mark_in.new.page).items in
+    let page_is : page ≡ c.mark_in.new.page = with_items_is c.in_ok-head.head.page c.mark_in.new.page (search (rules, places)) in
+    let was : c.deref_mut.result.now ≡ c.in_ok-head.head.page.items = c.deref_mut.ensures.value in
+    let same : length c.mark_in.new.page ≡ length c.deref_mut.result.now = search rules in
+    let long : length page ≡ d = ap length page_is ∙ same ∙ ap length was ∙ c.in_ok-head.ensures.size ∙ sym (size_now ∙ c.read_head.ensures.finds.page_bytes) in
+    let now_bits : List ℕ = drop 32 page in
+    let valid : IsHeader d (file_fields c.max-length.result c.args.moment now_bits) = subst (λ x. IsHeader x (file_fields c.max-length.result c.args.moment now_bits)) long c.head_page.ensures.valid in
     subst (λ x. Becomes z old.present (changed change old.present) c.args.object f.reads.fields (off / x) ((off + n - 1) / x + 1) c.args.moment (written all off c.args.bytes.now)) size
     (write_new old z c.args.object before all f d size some len (head.length_is ∙ f.reads.size) bits head.bits off c.args.bytes.now any c.args.moment pages of hold change q c.max-length.result now_bits items c.none-change.ensures.cuts
-    c.in_ok-header.ensures.object c.in_ok-header.ensures.chunk c.in_ok-header.ensures.header valid c.max-length.ensures
-    (λ k low high. ap (λ (xs : List ℕ). is_present xs (1 + k)) bits_are ∙ c.mark.ensures.here k low high)
-    (λ k outside. ap (λ (xs : List ℕ). is_present xs (1 + k)) bits_are ∙ c.mark.ensures.others k outside ∙ ap (λ (xs : List ℕ). is_present xs (1 + k)) was))
+    c.head_page.ensures.object c.head_page.ensures.chunk c.head_page.ensures.header valid c.max-length.ensures
+    (λ k low high. ap (λ (xs : List ℕ). is_present (drop 32 xs) (1 + k)) page_is ∙ c.mark_in.ensures.here k low high)
+    (λ k outside. ap (λ (xs : List ℕ). is_present (drop 32 xs) (1 + k)) page_is ∙ c.mark_in.ensures.others k outside ∙ ap (λ (xs : List ℕ). is_present (drop 32 xs) (1 + k)) was))
 
 pub returns-clause-only : goal.returns-clause-only
 returns-clause-only g c =
@@ -175,13 +180,13 @@ returns-clause-only g c =
     let n : ℕ = length c.args.bytes.now in
     let d : ℕ = now.page_bytes in
     let len : ℕ = c.in_ok-head.head.length in
-    let bits : List ℕ = c.in_ok-head.head.bits.items in
+    let bits : List ℕ = (bits_in c.in_ok-head.head) in
     let IsOne : ℕ → Type 0 = IsWritten d len bits (off / d) ((off + n - 1) / d + 1) in
     let pages : List FreshPage = c.in_ok-change.field-0.items in
-    let q : FreshPage = c.in_ok-header.header in
+    let q : FreshPage = c.head_page.result in
     let change : Change = record { pages = c.push.new.self; cuts = c.none-change.result.cuts } in
     let items : c.push.new.self.items ≡ pages ++ q ∷ [] = c.in_ok-push.ensures.items in
-    let of = header_push c.args.object IsOne pages q c.in_ok-change.ensures.of (among_chunks d len bits (off / d) ((off + n - 1) / d + 1) 0 refl) c.in_ok-header.ensures.object c.in_ok-header.ensures.chunk in
+    let of = header_push c.args.object IsOne pages q c.in_ok-change.ensures.of (among_chunks d len bits (off / d) ((off + n - 1) / d + 1) 0 refl) c.head_page.ensures.object c.head_page.ensures.chunk in
     only_of change c.args.object (OrHeader IsOne) (subst (λ (xs : List FreshPage). AreOf c.args.object (OrHeader IsOne) xs) (sym items) of) (no_cuts change.cuts.items c.none-change.ensures.cuts c.args.object)
 
 pub returns-clause-change : goal.returns-clause-change
@@ -192,17 +197,20 @@ returns-clause-change g c = λ chunks few.
     let n : ℕ = length c.args.bytes.now in
     let d : ℕ = now.page_bytes in
     let len : ℕ = c.in_ok-head.head.length in
-    let bits : List ℕ = c.in_ok-head.head.bits.items in
+    let bits : List ℕ = (bits_in c.in_ok-head.head) in
     let IsOne : ℕ → Type 0 = IsWritten d len bits (off / d) ((off + n - 1) / d + 1) in
     let pages : List FreshPage = c.in_ok-change.field-0.items in
-    let q : FreshPage = c.in_ok-header.header in
+    let q : FreshPage = c.head_page.result in
     let items : c.push.new.self.items ≡ pages ++ q ∷ [] = c.in_ok-push.ensures.items in
-    let of = header_push c.args.object IsOne pages q c.in_ok-change.ensures.of (among_chunks d len bits (off / d) ((off + n - 1) / d + 1) 0 refl) c.in_ok-header.ensures.object c.in_ok-header.ensures.chunk in
+    let of = header_push c.args.object IsOne pages q c.in_ok-change.ensures.of (among_chunks d len bits (off / d) ((off + n - 1) / d + 1) 0 refl) c.head_page.ensures.object c.head_page.ensures.chunk in
     let same : d ≡ old.page_bytes = c.read_head.ensures.finds.page_bytes in
-    let some : 1 ≤ old.page_bytes = omega (arith, c.page_bytes-page_bytes.ensures.least, c.page_bytes-page_bytes.ensures.bytes, same) in
+    let some : 1 ≤ old.page_bytes = omega (arith, c.page_bytes.ensures.least, c.page_bytes.ensures.bytes, same) in
     let any : 1 ≤ n = search rules in
     let count = few_pages d old.page_bytes off n (length pages) chunks same some any few c.in_ok-change.ensures.few in
-    let size : length q.bytes.items ≡ old.page_bytes = c.in_ok-header.ensures.size ∙ c.page_bytes-page_bytes.ensures.bytes ∙ same in
+    let page : List ℕ = (with_items c.in_ok-head.head.page c.mark_in.new.page).items in
+    let page_is : page ≡ c.mark_in.new.page = with_items_is c.in_ok-head.head.page c.mark_in.new.page (search (rules, places)) in
+    let kept : length c.mark_in.new.page ≡ length c.deref_mut.result.now = search rules in
+    let size : length q.bytes.items ≡ old.page_bytes = c.head_page.ensures.size ∙ ap length page_is ∙ kept ∙ ap length c.deref_mut.ensures.value ∙ c.in_ok-head.ensures.size in
     let long : length c.push.new.self.items ≡ length pages + 1 = ap length items ∙ length-append pages (q ∷ []) in
     record {
       apart = (subst (λ (xs : List FreshPage). AreOf c.args.object (OrHeader IsOne) xs) (sym items) of).apart;
@@ -216,13 +224,13 @@ returns-clause-quiet g c = λ z before all f when fits set i is.
     let old : PagesState = g.P.Pages.state c.args.pages.now in
     let head = c.in_ok-head.ensures.head z before all f in
     let d : ℕ = c.from-size.result in
-    let size : d ≡ z.page_bytes = c.from-size.ensures ∙ c.page_bytes-page_bytes.ensures.bytes ∙ c.read_head.ensures.finds.page_bytes ∙ sym f.size in
+    let size : d ≡ z.page_bytes = c.from-size.ensures ∙ c.page_bytes.ensures.bytes ∙ c.read_head.ensures.finds.page_bytes ∙ sym f.size in
     elim c.else-head-moment.branch [
       | else-head-moment-via-then-head-moment+then-to-head+else-has_all w ↦
           let lack = w.has_all.ensures.lacks w.if-has_all.false in
           let among : IsAmong (c.args.offset / z.page_bytes) ((c.args.offset + length c.args.bytes.now - 1) / z.page_bytes + 1) (1 + lack.0) =
           subst (λ x. IsAmong (c.args.offset / x) ((c.args.offset + length c.args.bytes.now - 1) / x + 1) (1 + lack.0)) size (record { from = omega (arith, lack.1); to = omega (arith, lack.2) }) in
-          let two : true ≡ false = sym (set (1 + lack.0) among) ∙ ap (λ (xs : List ℕ). is_present xs (1 + lack.0)) (sym (w.deref.ensures.value ∙ head.bits)) ∙ lack.3 in
+          let two : true ≡ false = sym (set (1 + lack.0) among) ∙ ap (λ (xs : List ℕ). is_present xs (1 + lack.0)) (sym (w.bits.ensures ∙ head.bits)) ∙ lack.3 in
           absurd cc
       | else-head-moment-via-then-head-moment+else-to-head w ↦ absurd (omega (arith, w.if-to-head.false, fits, head.length_is, f.reads.size))
       | else-head-moment-via-else-head-moment w ↦ absurd (w.if-head-moment.false (head.moment ∙ f.reads.when ∙ sym when))

@@ -6,6 +6,7 @@ use Rattle.pages.specs.Changes.{AreSized}
 use Rattle.pages.specs.State.{PagesState}
 use Rattle.pages.specs.laws.State.{finds_on}
 use Rattle.flash_tree.specs.declared.place.FreshPage.{FreshPage}
+use Rattle.file_io.specs.Heads.{bits_in}
 use Rattle.file_io.specs.Chunks.{AreOf, HoldsChunk, HoldChunks, IsPartKept, IsPartLast, IsTail, IsWritten}
 use Rattle.pages.specs.Maps.{PageMap}
 use Rattle.file_io.specs.Files.{HasPages}
@@ -35,7 +36,7 @@ loop-index-init g c =
     let old : PagesState = g.P.Pages.state c.args.pages.now in
     let d : ℕ = c.from-page_bytes.result in
     let len : ℕ = c.args.head.now.length in
-    let bits : List ℕ = c.args.head.now.bits.items in
+    let bits : List ℕ = (bits_in c.args.head.now) in
     let first : ℕ = c.args.offset / d in
     let fresh : List FreshPage = c.in_ok-fresh.fresh.items in
     let size_old : d ≡ old.page_bytes = c.from-page_bytes.ensures ∙ c.page_bytes.ensures.bytes in
@@ -103,7 +104,7 @@ loop-index-preserved g c =
     let k : ℕ = c.loop-index.index in
     let o : ℕ = c.args.object in
     let len : ℕ = c.args.head.now.length in
-    let bits : List ℕ = c.args.head.now.bits.items in
+    let bits : List ℕ = (bits_in c.args.head.now) in
     let first : ℕ = c.args.offset / d in
     let fresh : List FreshPage = c.loop-index.fresh.items in
     let size_old : d ≡ old.page_bytes = c.from-page_bytes.ensures ∙ c.page_bytes.ensures.bytes in
@@ -140,7 +141,7 @@ returns-clause-of g c =
     let old : PagesState = g.P.Pages.state c.args.pages.now in
     let d : ℕ = c.from-page_bytes.result in
     let len : ℕ = c.args.head.now.length in
-    let bits : List ℕ = c.args.head.now.bits.items in
+    let bits : List ℕ = (bits_in c.args.head.now) in
     let fresh : List FreshPage = c.loop-index.fresh.items in
     let n : ℕ = c.args.offset + length c.args.bytes.now - 1 in
     let size_old : d ≡ old.page_bytes = c.from-page_bytes.ensures ∙ c.page_bytes.ensures.bytes in
@@ -162,7 +163,7 @@ returns-clause-told g c = λ sound.
     let d : ℕ = c.from-page_bytes.result in
     let o : ℕ = c.args.object in
     let len : ℕ = c.args.head.now.length in
-    let bits : List ℕ = c.args.head.now.bits.items in
+    let bits : List ℕ = (bits_in c.args.head.now) in
     let off : ℕ = c.args.offset in
     let n : ℕ = length c.args.bytes.now in
     let size_old : d ≡ old.page_bytes = c.from-page_bytes.ensures ∙ c.page_bytes.ensures.bytes in

@@ -4,7 +4,7 @@ use Rattle.posix_profile.specs.Changes.{written}
 use Rattle.pages.specs.Changes.{AreSized}
 use Rattle.pages.specs.State.{OnlyFinds, KeepsPower}
 use Rattle.file_io.specs.Files.{FileIn}
-use Rattle.file_io.specs.Heads.{IsHeadOf}
+use Rattle.file_io.specs.Heads.{bits_in, IsHeadOf}
 use Rattle.file_io.specs.Chunks.{AreOf, IsWritten, HoldChunks}
 use Rattle.file_io.proofs.KeptPages.{IsThere}
 use Rattle.file_io.proofs.writing.written_pages.Given as goal
@@ -16,8 +16,8 @@ invariant-loop-index g l = record {
   asked : (g.P.Pages.state l.pages).asked ≤ (g.P.Pages.state l.fn.pages).asked + min 1 (l.offset - l.head.length)
       + min (min 1 (l.offset % l.page_bytes)) (l.index - l.first) + min (min 1 ((l.offset + length l.bytes) % l.page_bytes)) (l.index - (l.end - 1));
   told : (g.P.Pages.state l.fn.pages).sound ≡ true → (k : ℕ) → l.first ≤ k → k < l.index → (k * l.page_bytes < l.offset) ⊎ (l.offset + length l.bytes < k * l.page_bytes + l.page_bytes)
-      → IsThere (g.P.Pages.state l.fn.pages).present l.object l.head.bits.items k;
-  of : AreOf l.object (IsWritten l.page_bytes l.head.length l.head.bits.items l.first l.index) l.fresh.items;
+      → IsThere (g.P.Pages.state l.fn.pages).present l.object (bits_in l.head) k;
+  of : AreOf l.object (IsWritten l.page_bytes l.head.length (bits_in l.head) l.first l.index) l.fresh.items;
   few : length l.fresh.items + l.first ≤ l.index + 1;
   sized : AreSized l.fresh.items l.page_bytes;
   hold : (z : Sizes) (moment : ℕ) (all : List ℕ) (f : FileIn (g.P.Pages.state l.fn.pages) z l.object moment all) → IsHeadOf l.head f.reads.fields

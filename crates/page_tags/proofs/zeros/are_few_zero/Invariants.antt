@@ -1,5 +1,5 @@
 use Rattle.std.proofs.Common.{◌≡◌, ◌<◌, ℕ, get_or}
-use Rattle.page_tags.proofs.zeros.are_zero.Given as goal
+use Rattle.page_tags.proofs.zeros.are_few_zero.Given as goal
 
 abbrev pub invariant-loop-i : goal.invariant-loop-i
 invariant-loop-i l = record {

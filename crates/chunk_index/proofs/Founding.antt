@@ -1,5 +1,5 @@
 -- The adding of the pages of a scan, bucket by bucket.
-use Rattle.std.proofs.Common.{◌≡◌, ℕ, ◌+◌, ◌-◌, ◌<◌, List, length, get_or, slice_get, Some, None, sym, ap, subst, ◌∙◌, arith, inl, inr}
+use Rattle.std.proofs.Common.{◌≡◌, ℕ, ◌+◌, ◌-◌, ◌<◌, ◌^◌, List, length, get_or, slice_get, Some, None, sym, ap, subst, ◌∙◌, arith, inl, inr}
 use Rattle.std.specs.Prelude.{map}
 use Rattle.std.specs.List.{AllPairs}
 use Rattle.std.proofs.lemmas.Bool.{cases_eq, cases_lt}
@@ -8,10 +8,10 @@ use Rattle.found_pages.specs.declared.copy.PageCopy.{PageCopy}
 use Rattle.found_pages.specs.Keys.{HaveOtherKeys}
 use Rattle.found_pages.specs.Listed.{IsPartAt}
 use Rattle.chunk_index.specs.declared.form.KeptKey.{KeptKey}
-use Rattle.chunk_index.specs.Adding.{found_key, AreOfOtherKeys, AreInPages, AreWithin, AreAbsent, AddsFirst}
+use Rattle.chunk_index.specs.Adding.{found_key, AreOfOtherKeys, AreInPages, AreLow, AreWithin, AreAbsent, AddsFirst}
 use Rattle.chunk_index.specs.Entries.{kept_at}
 use Rattle.chunk_index.specs.Found.{HasPages}
-use Rattle.chunk_index.specs.Newest.{page_of, IsFoundOf, LieInPages, LieWithin}
+use Rattle.chunk_index.specs.Newest.{page_of, IsFoundOf, LieInPages, LieLow, LieWithin}
 use Rattle.chunk_index.specs.Shelves.{ObjectMap, look, Differs}
 use Rattle.chunk_index.proofs.Adding.{mapped, mapped_from}
 
@@ -50,6 +50,13 @@ module _ (fs : List PageCopy) (n : ℕ) (part : List PageCopy) (at : IsPartAt fs
       let less = slice_get_within part i one.0 one.1 in
       let lies : one.0.block < blocks = subst (λ (f : PageCopy). f.block < blocks) (there i one.0 one.0 one.1) (within (n + i) one.0 (omega (arith, less, at.within))) in
       subst (λ (g : KeptKey). g.at.block < blocks) one.2 lies
+
+  pub part_low : LieLow fs → AreLow (map found_key part)
+  part_low low i k is =
+      let one = mapped_from found_key part i k is in
+      let less = slice_get_within part i one.0 one.1 in
+      let lies : one.0.chunk < 2 ^ 32 = subst (λ (f : PageCopy). f.chunk < 2 ^ 32) (there i one.0 one.0 one.1) (low (n + i) one.0 (omega (arith, less, at.within))) in
+      subst (λ (g : KeptKey). g.key.chunk < 2 ^ 32) one.2 lies
 
   pub part_in_pages : (pages : ℕ) → LieInPages pages fs → AreInPages pages (map found_key part)
   part_in_pages pages within i k is =

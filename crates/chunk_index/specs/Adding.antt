@@ -1,5 +1,5 @@
 -- Pages that become kept, one after another.
-use Rattle.std.specs.Prelude.{◌≡◌, ◌<◌, ℕ, List, slice_get, Some, None}
+use Rattle.std.specs.Prelude.{◌≡◌, ◌<◌, ◌^◌, ℕ, List, slice_get, Some, None}
 use Rattle.found_pages.specs.declared.copy.PageCopy.{PageCopy}
 use Rattle.page_tags.specs.declared.check.CheckEntry.{CheckEntry}
 use Rattle.chunk_index.specs.declared.form.KeptKey.{KeptKey}
@@ -30,6 +30,10 @@ AreWithin blocks ks = (i : ℕ) (k : KeptKey) → slice_get ks i ≡ Some k → 
 -- each page is one of so many of its block
 abbrev pub AreInPages : ℕ → List KeptKey → Type 0
 AreInPages pages ks = (i : ℕ) (k : KeptKey) → slice_get ks i ≡ Some k → k.at.page < pages
+
+-- each page is of a chunk that a tree may look up
+abbrev pub AreLow : List KeptKey → Type 0
+AreLow ks = (i : ℕ) (k : KeptKey) → slice_get ks i ≡ Some k → k.key.chunk < 2 ^ 32
 
 -- the key of none of the pages has an entry
 abbrev pub AreAbsent : List KeptKey → ObjectMap → Type 0

@@ -1,5 +1,5 @@
 -- What the entries of an index tell.
-use Rattle.std.specs.Prelude.{◌≡◌, ◌≢◌, ◌<◌, ℕ, ◌+◌, List, if◌then◌else◌, ◌==◌, Bool, true, false, Option, Some, None, IfSome}
+use Rattle.std.specs.Prelude.{◌≡◌, ◌≢◌, ◌<◌, ◌^◌, ℕ, ◌+◌, List, if◌then◌else◌, ◌==◌, Bool, true, false, Option, Some, None, IfSome}
 use Rattle.std.specs.Option.{option_map_or, option_and_then}
 use Rattle.std.specs.List.{sum_by}
 use Rattle.chunk_index.specs.Lists.{find_by, IsBelow}
@@ -144,6 +144,8 @@ IsSmallState states.Same = Unit {0}
 IsSmallState states.Dropped = Unit {0}
 IsSmallState states.Vacant = Unit {0}
 
--- the entry has room in 20 bytes: its kept page and its state are small
-abbrev pub IsSmall : KeyEntry → Type 0
-IsSmall e = IsSmallPage e.kept × IsSmallState e.state
+-- the entry has room in 16 bytes: its kept page and its state are small, and its chunk is one that a tree may look up
+pub record IsSmall (e : KeyEntry) : Type 0 where
+  pub page : IsSmallPage e.kept
+  pub state : IsSmallState e.state
+  pub low : e.chunk < 2 ^ 32

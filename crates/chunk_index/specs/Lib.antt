@@ -1,6 +1,5 @@
 pub mod Lists
 pub mod Entries
-pub mod Halves
 pub mod Packed
 pub mod Shelves
 pub mod Noted

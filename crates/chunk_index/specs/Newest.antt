@@ -1,5 +1,5 @@
 -- The newest pages of a scan, and the index of them.
-use Rattle.std.specs.Prelude.{◌≡◌, ◌<◌, ℕ, List, length, get_or, Some, None}
+use Rattle.std.specs.Prelude.{◌≡◌, ◌<◌, ◌^◌, ℕ, List, length, get_or, Some, None}
 use Rattle.found_pages.specs.declared.copy.PageCopy.{PageCopy}
 use Rattle.chunk_index.specs.declared.form.KeptPage.{KeptPage}
 use Rattle.chunk_index.specs.declared.form.Present.TheVariants as presents
@@ -21,6 +21,10 @@ LieWithin blocks fs = (i : ℕ) (d : PageCopy) → i < length fs → (get_or fs 
 -- each page is one of so many of its block
 abbrev pub LieInPages : ℕ → List PageCopy → Type 0
 LieInPages pages fs = (i : ℕ) (d : PageCopy) → i < length fs → (get_or fs i d).page < pages
+
+-- each page is of a chunk that a tree may look up
+abbrev pub LieLow : List PageCopy → Type 0
+LieLow fs = (i : ℕ) (d : PageCopy) → i < length fs → (get_or fs i d).chunk < 2 ^ 32
 
 -- The first n of the pages are kept and present, each where it lies in its version, and no key that none of them is of.
 pub record Indexes (fs : List PageCopy) (n : ℕ) (x : Index) : Type 0 where

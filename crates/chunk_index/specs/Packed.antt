@@ -1,6 +1,5 @@
 -- What a packed entry means.
 use Rattle.std.specs.Prelude.{ℕ, ◌==◌, if◌then◌else◌, Option, Some, None}
-use Rattle.chunk_index.specs.Halves.{joined}
 use Rattle.chunk_index.specs.declared.form.KeptPage.{KeptPage}
 use Rattle.chunk_index.specs.declared.entry.State.{State}
 use Rattle.chunk_index.specs.declared.entry.State.TheVariants as states
@@ -18,7 +17,7 @@ state_from n = if n == 255 then states.Same else (if n == 254 then states.Droppe
 -- the entry that is packed
 abbrev pub unpacked : Inside → KeyEntry
 unpacked a = record {
-  chunk = joined a.chunk_low a.chunk_high;
-  kept = kept_from (record { block = a.block; page = a.page; version = joined a.version_low a.version_high });
+  chunk = a.chunk;
+  kept = kept_from (record { block = a.block; page = a.page; version = a.version });
   state = state_from a.number;
 }

@@ -1,7 +1,7 @@
 // The index of pages whose places are known.
-ghost use Rattle.std.specs.Prelude.{◌≡◌, ◌<◌, ◌≤◌, ℕ, length, map, None, Some, IfOk, OnOk};
+ghost use Rattle.std.specs.Prelude.{◌≡◌, ◌<◌, ◌≤◌, ◌^◌, ℕ, length, map, None, Some, IfOk, OnOk};
 ghost use Rattle.block_state.specs.TableOf.{table};
-ghost use Rattle.chunk_index.specs.Adding.{AddsFirst, AreAbsent, AreOfOtherKeys, AreInPages, AreWithin};
+ghost use Rattle.chunk_index.specs.Adding.{AddsFirst, AreAbsent, AreOfOtherKeys, AreInPages, AreLow, AreWithin};
 ghost use Rattle.chunk_index.specs.Counts.{Recounts};
 ghost use Rattle.chunk_index.specs.Entries.{as_kept, kept_at};
 ghost use Rattle.chunk_index.specs.Kept.{IsListOf, KeyRises};
@@ -27,6 +27,7 @@ impl Index {
         requires rise { KeyRises (map P.kept_key pages.now) }
         requires within { AreWithin (table blocks).geometry.blocks (map P.kept_key pages.now) }
         requires pages { AreInPages (table blocks).geometry.pages (map P.kept_key pages.now) }
+        requires low { AreLow (map P.kept_key pages.now) }
         requires none { (b : ℕ) → ((table blocks).entry b).kept ≡ 0 }
         ensures list { IfOk result (λ made. IsListOf (kept_pages made.0) (map P.kept_key pages.now)) }
         ensures shown { IfOk result (λ made. (o c : ℕ) → present made.0 o c ≡ as_kept (kept_pages made.0 o c)) }
@@ -63,6 +64,7 @@ impl Index {
         requires once { AreOfOtherKeys (map P.kept_key pages.now) }
         requires within { AreWithin (table blocks.old).geometry.blocks (map P.kept_key pages.now) }
         requires pages { AreInPages (table blocks.old).geometry.pages (map P.kept_key pages.now) }
+        requires low { AreLow (map P.kept_key pages.now) }
         requires absent { AreAbsent (map P.kept_key pages.now) self.old.shelf.objects }
         requires agree { CountsAgree (table blocks.old) self.old }
         ensures adds { OnOk result (AddsFirst (map P.kept_key pages.now) (length pages.now) self.old.shelf.objects self.new.shelf.objects) }
@@ -94,6 +96,7 @@ impl Index {
         requires absent { look self.old.shelf.objects page.key.object page.key.chunk ≡ None }
         requires block { page.at.block < (table blocks.old).geometry.blocks }
         requires page { page.at.page < (table blocks.old).geometry.pages }
+        requires low { page.key.chunk < 2 ^ 32 }
         requires agree { CountsAgree (table blocks.old) self.old }
         ensures alters { OnOk result (AltersKey page.key.object page.key.chunk (Some (kept_at page.key.chunk (Some page.at))) self.old.shelf.objects self.new.shelf.objects) }
         ensures agree { OnOk result (CountsAgree (table blocks.new) self.new) }

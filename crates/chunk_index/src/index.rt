@@ -71,8 +71,9 @@ impl Index {
 
     /// Sees that there is room for the present page of a key, also once the changes are settled, so that `place` and
     /// `settle_group` take no memory. No kept and no present page changes, also where memory is refused, which it never is
-    /// for a key that is kept or present.
+    /// for a key that is kept or present. The chunk is one that a tree may look up.
     pub fn prepare(&mut self, key: Key) -> Result<(), AllocError>
+        requires { key.chunk < 2 ^ 32 }
         ensures kept { SameKept self.old self.new }
         ensures present { SamePresent self.old self.new }
         ensures ready { OnOk result (IsReadyKey self.new key.object key.chunk) }
@@ -113,7 +114,8 @@ impl Index {
 
     /// Gives a key an entry, which tells of nothing.
     fn add_entry(&mut self, key: Key) -> Result<(), AllocError>
-        requires { look self.old.shelf.objects key.object key.chunk ≡ None }
+        requires absent { look self.old.shelf.objects key.object key.chunk ≡ None }
+        requires low { key.chunk < 2 ^ 32 }
         ensures kept { SameKept self.old self.new }
         ensures present { SamePresent self.old self.new }
         ensures ready { OnOk result (IsReadyKey self.new key.object key.chunk) }
@@ -127,6 +129,7 @@ impl Index {
     pub(crate) fn add(&mut self, key: Key, kept: Option<KeptPage>) -> Result<(), AllocError>
         requires absent { look self.old.shelf.objects key.object key.chunk ≡ None }
         requires small { IsSmallPage kept }
+        requires low { key.chunk < 2 ^ 32 }
         ensures ok { OnOk result (AltersKey key.object key.chunk (Some (kept_at key.chunk kept)) self.old.shelf.objects self.new.shelf.objects) }
         ensures err { OnErr result (SameEntries self.old.shelf.objects self.new.shelf.objects) }
     {

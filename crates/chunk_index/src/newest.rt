@@ -7,7 +7,7 @@ ghost use Rattle.found_pages.specs.Listed.{listed};
 ghost use Rattle.chunk_index.specs.Counts.{Recounts};
 ghost use Rattle.chunk_index.specs.Shelves.{look};
 ghost use Rattle.chunk_index.specs.Maps.{kept_in, CountsAgree};
-ghost use Rattle.chunk_index.specs.Newest.{LieInPages, LieWithin, Indexes};
+ghost use Rattle.chunk_index.specs.Newest.{LieInPages, LieLow, LieWithin, Indexes};
 ghost use Rattle.chunk_index.specs.Found.{HasPages};
 
 use crate::index::Index;
@@ -26,6 +26,7 @@ impl Index {
         requires once { AllPairs HaveOtherKeys (listed newest) }
         requires within { LieWithin (table blocks).geometry.blocks (listed newest) }
         requires pages { LieInPages (table blocks).geometry.pages (listed newest) }
+        requires low { LieLow (listed newest) }
         requires none { (b : ℕ) → ((table blocks).entry b).kept ≡ 0 }
         ensures indexes { IfOk result (λ made. Indexes (listed newest) (length (listed newest)) made.0) }
         ensures agree { IfOk result (λ made. CountsAgree (table made.1) made.0) }
@@ -42,6 +43,7 @@ impl Index {
         requires once { AllPairs HaveOtherKeys (listed newest) }
         requires within { LieWithin (table blocks.old).geometry.blocks (listed newest) }
         requires pages { LieInPages (table blocks.old).geometry.pages (listed newest) }
+        requires low { LieLow (listed newest) }
         requires empty { (o c : ℕ) → look self.old.shelf.objects o c ≡ None }
         requires agree { CountsAgree (table blocks.old) self.old }
         ensures has { OnOk result (HasPages (listed newest) (length (listed newest)) self.new.shelf.objects) }

@@ -1,6 +1,5 @@
 // An entry as it is held in memory.
-ghost use Rattle.std.specs.Prelude.{◌≡◌, ◌<◌};
-ghost use Rattle.chunk_index.specs.Halves.{joined};
+ghost use Rattle.std.specs.Prelude.{◌≡◌, ◌<◌, ◌^◌};
 ghost use Rattle.chunk_index.specs.Entries.{IsSmall, IsSmallPage, IsSmallState};
 ghost use Rattle.chunk_index.specs.Packed.{kept_from, state_from};
 
@@ -20,21 +19,19 @@ const DROPPED: u8 = 254;
 /// The number of an entry of which nothing is present, and that stays.
 const VACANT: u8 = 253;
 
-/// One entry in 20 bytes, where a `KeyEntry` takes 40: the numbers of 64 bits lie in halves, so that an entry begins at
-/// a multiple of 4. A page of the buffer is told by its number, and each other state by a number that no buffer reaches:
-/// it has at most a quarter of a block's 256 pages.
+/// One entry in 16 bytes, where a `KeyEntry` takes 40: no tree looks up a page of a chunk of more than 32 bits. A page of
+/// the buffer is told by its number, and each other state by a number that no buffer reaches: it has at most a quarter of
+/// a block's 256 pages.
 #[derive(Drop)]
 pub struct PackedEntry {
-    chunk_low: u32,
-    chunk_high: u32,
-    version_low: u32,
-    version_high: u32,
+    version: u64,
+    chunk: u32,
     block: u16,
     page: u8,
     number: u8,
 }
 
-const _: () = prove!(size_of::<PackedEntry>() == 20);
+const _: () = prove!(size_of::<PackedEntry>() == 16);
 
 impl Model for PackedEntry {
     ghost use Rattle.chunk_index.specs.declared.entry.KeyEntry.{KeyEntry};
@@ -53,13 +50,9 @@ impl PackedEntry {
         ensures { result ≡ entry }
     {
         let at = page_or_none(entry.kept);
-        let (chunk_low, chunk_high) = halves(entry.chunk);
-        let (version_low, version_high) = halves(at.version);
         PackedEntry {
-            chunk_low,
-            chunk_high,
-            version_low,
-            version_high,
+            version: at.version,
+            chunk: entry.chunk as u32,
             block: at.block as u16,
             page: at.page as u8,
             number: numbered(entry.state),
@@ -80,9 +73,10 @@ impl PackedEntry {
 
     /// The chunk that the entry is of.
     pub fn chunk(&self) -> u64
-        ensures { result ≡ self.now.chunk }
+        ensures chunk { result ≡ self.now.chunk }
+        ensures low { result < 2 ^ 32 }
     {
-        joined(self.chunk_low, self.chunk_high)
+        self.chunk as u64
     }
 
     /// Where the page is kept, and its version.
@@ -96,7 +90,7 @@ impl PackedEntry {
         Some(KeptPage {
             block: u32::from(self.block),
             page: u32::from(self.page),
-            version: joined(self.version_low, self.version_high),
+            version: self.version,
         })
     }
 
@@ -116,22 +110,6 @@ impl PackedEntry {
         }
         State::Buffered(u32::from(self.number))
     }
-}
-
-/// The lower and the upper half of a number.
-fn halves(number: u64) -> (u32, u32)
-    ensures { joined result.0 result.1 ≡ number }
-{
-    let low = number % 4_294_967_296;
-    let high = number / 4_294_967_296;
-    (low as u32, high as u32)
-}
-
-/// The number of two halves.
-fn joined(low: u32, high: u32) -> u64
-    ensures { result ≡ joined low high }
-{
-    high as u64 * 4_294_967_296 + low as u64
 }
 
 /// A kept page; where there is none, one in no block.

@@ -26,11 +26,11 @@ impl Placed for PageCopy {
         KeptKey {
             key: Key {
                 object: self.object,
-                chunk: self.chunk,
+                chunk: self.chunk as u64,
             },
             at: KeptPage {
-                block: self.block,
-                page: self.page,
+                block: self.block as u32,
+                page: self.page as u32,
                 version: self.version,
             },
         }

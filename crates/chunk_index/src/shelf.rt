@@ -17,6 +17,10 @@ use std::ops::Bound;
 /// No more than a kept count can tell.
 const MOST_ENTRIES: usize = 4_294_967_295;
 
+/// As many as a node of the map has room for, and one more: so a node is split at its end only while it has each second one
+/// of the objects between its first and its last, and the half that stays has room for those between.
+const OBJECTS_AHEAD: u64 = 16;
+
 /// The entries of all objects, in an ordered map by their numbers. An object without entries and one that is not here
 /// mean the same.
 #[derive(Drop)]
@@ -107,7 +111,7 @@ impl Shelf {
         if self.is_full() {
             return Err(AllocError);
         }
-        self.prepare_object(object)?;
+        self.prepare_in_order(object)?;
         self.put(object, entry)
     }
 
@@ -137,6 +141,46 @@ impl Shelf {
             Some(entries) => entries.shrink(),
             None => {}
         }
+    }
+
+    /// Sees that an object is here. Where objects are made in the order of their numbers, every other one of those to come
+    /// is here before, without entries, and those between fill the nodes of the map. No key gets or loses an entry.
+    fn prepare_in_order(&mut self, object: u64) -> Result<(), AllocError>
+        ensures same { SameEntries self.old.objects self.new.objects }
+        ensures here { OnOk result (IsSome (get nat_cmp self.new.objects object)) }
+        ensures size { self.new.size ≡ self.old.size }
+    {
+        if self.objects.contains_key(&object) {
+            return Ok(());
+        }
+        self.prepare_ahead(object)?;
+        self.prepare_object(object)
+    }
+
+    /// Sees that every other one of the objects after one that is not here is, as far as they are past all others.
+    fn prepare_ahead(&mut self, object: u64) -> Result<(), AllocError>
+        ensures same { SameEntries self.old.objects self.new.objects }
+        ensures size { self.new.size ≡ self.old.size }
+    {
+        if self.next_object(Some(object)).is_none() {
+            return self.prepare_others(object);
+        }
+        let last = object.saturating_add(2 * OBJECTS_AHEAD + 1);
+        if self.next_object(Some(last)).is_none() {
+            return self.prepare_object(last);
+        }
+        Ok(())
+    }
+
+    /// Sees that every other one of the objects after one is here, so many of them.
+    fn prepare_others(&mut self, object: u64) -> Result<(), AllocError>
+        ensures same { SameEntries self.old.objects self.new.objects }
+        ensures size { self.new.size ≡ self.old.size }
+    {
+        for step in 1..=OBJECTS_AHEAD {
+            self.prepare_object(object.saturating_add(2 * step))?;
+        }
+        Ok(())
     }
 
     /// Sees that an object is here. No key gets or loses an entry.

@@ -1,14 +1,14 @@
 -- Pages that are added, and others that go.
-use Rattle.std.specs.Prelude.{◌≡◌, ◌⊎◌, ◌<◌, ◌+◌, ℕ, List, [], ◌∷◌, ◌++◌, length, map, take, Contains}
+use Rattle.std.specs.Prelude.{◌≡◌, ◌⊎◌, ◌<◌, ◌+◌, ℕ, List, [], ◌∷◌, ◌++◌, length, take, Contains}
 use Rattle.std.proofs.Common.{refl, sym, ◌∙◌, ap, subst, inl, inr, arith, get_or}
 use Rattle.std.proofs.lemmas.List.Elements.{Contains-append_left, Contains-append_right, Contains-push, Contains-push_cases}
-use Rattle.std.proofs.lemmas.List.{take_more, map-append}
+use Rattle.std.proofs.lemmas.List.{take_more}
 use Rattle.flash_tree.specs.Newest.{IsAfter}
 use Rattle.flash_tree.specs.laws.Order.{not_after_itself}
 use Rattle.found_pages.specs.declared.copy.PageCopy.{PageCopy}
 use Rattle.flash_tree.specs.declared.place.Found.{Found}
-use Rattle.found_pages.specs.Copies.{copy_of, spot_of_copy}
-use Rattle.found_pages.specs.Keys.{HaveOneKey, Thins, AreLatest}
+use Rattle.found_pages.specs.Copies.{FitsCopy, copy_of, spot_of_copy}
+use Rattle.found_pages.specs.Keys.{HaveOneKey, Thins, IsCopyOf, ThinsFound, AreLatest}
 use Rattle.found_pages.specs.laws.Order.{not_after_on}
 
 none_in : (f : PageCopy) → Contains [] f → ⊥
@@ -81,18 +81,65 @@ one_or_none old mid x thins f has = elim (Contains-push_cases mid x f has) [
   | inr same ↦ inr (sym same)
 ]
 
--- some pages were added, and then one more
-thins_more : (added old mid new : List PageCopy) (x : PageCopy) → Thins added old mid → Thins (x ∷ []) mid new → Thins (added ++ x ∷ []) old new
-thins_more added old mid new x first next = thins_on added (x ∷ []) (added ++ x ∷ []) old mid new
-    (λ f has. elim (Contains-push_cases added x f has) [ inl was ↦ inl was | inr same ↦ inr (0, omega arith, same) ])
-    (λ f has. elim has [ inl was ↦ Contains-append_left added (x ∷ []) f was | inr is ↦ Contains-append_right added (x ∷ []) f is ])
-    first next
+-- ---- the pages of a list
 
--- the first pages of a list were added, and then the copy of the next one
-pub thins_next : (added : List Found) (old mid new : List PageCopy) (i : ℕ) (x : Found) (y : PageCopy) → i < length added → get_or added i x ≡ x → y ≡ copy_of x
-    → Thins (map copy_of (take i added)) old mid → Thins (y ∷ []) mid new → Thins (map copy_of (take (i + 1) added)) old new
-thins_next added old mid new i x y lt at copied first next =
-    let more : take (i + 1) added ≡ take i added ++ x ∷ [] = take_more added i x lt ∙ ap (λ z. take i added ++ z ∷ []) at in
-    let copies : map copy_of (take (i + 1) added) ≡ map copy_of (take i added) ++ y ∷ [] =
-    ap (map copy_of) more ∙ map-append copy_of (take i added) (x ∷ []) ∙ ap (λ z. map copy_of (take i added) ++ z ∷ []) (sym copied) in
-    subst (λ list. Thins list old new) (sym copies) (thins_more (map copy_of (take i added)) old mid new y first next)
+-- no page of a list was added
+pub found_none : (list : List PageCopy) → ThinsFound [] list list
+found_none list = record {
+  among = λ f has. inl has;
+  some = λ g has. elim has [
+    | inl was ↦ (g, was, (refl, refl), not_after_itself (spot_of_copy g))
+    | inr is ↦ absurd (let lt = is.1.1 in omega (arith, lt))
+  ];
+}
+
+module _ (added : List Found) (old mid new : List PageCopy) (i : ℕ) (x : Found) (lt : i < length added) (at : get_or added i x ≡ x) where
+  one_more : take (i + 1) added ≡ take i added ++ x ∷ []
+  one_more = take_more added i x lt ∙ ap (λ z. take i added ++ z ∷ []) at
+
+  -- a copy of the first pages is one of the pages before, or of the last
+  split : (f : PageCopy) → IsCopyOf (take (i + 1) added) f → IsCopyOf (take i added) f ⊎ (FitsCopy x × (copy_of x ≡ f))
+  split f (y, has, fits, same) = elim (Contains-push_cases (take i added) x y (subst (λ xs. Contains xs y) one_more has)) [
+    | inl was ↦ inl (y, was, fits, same)
+    | inr is ↦ inr (subst FitsCopy (sym is) fits, ap copy_of is ∙ same)
+  ]
+
+  wider : (f : PageCopy) → IsCopyOf (take i added) f → IsCopyOf (take (i + 1) added) f
+  wider f (y, has, fits, same) = (y, subst (λ xs. Contains xs y) (sym one_more) (Contains-append_left (take i added) (x ∷ []) y has), fits, same)
+
+  last : FitsCopy x → IsCopyOf (take (i + 1) added) (copy_of x)
+  last fits = (x, subst (λ xs. Contains xs x) (sym one_more) (Contains-push (take i added) x), fits, refl)
+
+  -- the next page does not fit
+  pub found_skip : (FitsCopy x → ⊥) → ThinsFound (take i added) old new → ThinsFound (take (i + 1) added) old new
+  found_skip not first = record {
+    among = λ f has. elim (first.among f has) [ inl was ↦ inl was | inr is ↦ inr (wider f is) ];
+    some = λ g has. elim has [
+      | inl was ↦ first.some g (inl was)
+      | inr is ↦ elim (split g is) [ inl before ↦ first.some g (inr before) | inr (fits, same) ↦ absurd (not fits) ]
+    ];
+  }
+
+  -- and its copy was added
+  pub found_next : (y : PageCopy) → (y ≡ copy_of x) × FitsCopy x → ThinsFound (take i added) old mid → Thins (y ∷ []) mid new → ThinsFound (take (i + 1) added) old new
+  found_next y (copied, fits) first next = record {
+    among = λ f has. elim (next.among f has) [
+      | inr is ↦ elim (Contains-push_cases [] y f is) [
+        | inl none ↦ absurd (none_in f none)
+        | inr same ↦ inr (subst (IsCopyOf (take (i + 1) added)) (sym copied ∙ same) (last fits))
+      ]
+      | inl was ↦ elim (first.among f was) [ inl before ↦ inl before | inr is ↦ inr (wider f is) ]
+    ];
+    some = λ g has. elim has [
+      | inl was ↦ later g (first.some g (inl was))
+      | inr is ↦ elim (split g is) [
+        | inl before ↦ later g (first.some g (inr before))
+        | inr (fit, same) ↦ next.some g (inr (0, omega arith, copied ∙ same))
+      ]
+    ];
+  } where
+    later : (g : PageCopy) → (f : PageCopy) × Contains mid f × HaveOneKey f g × (IsAfter (spot_of_copy g) (spot_of_copy f) → ⊥)
+        → (f : PageCopy) × Contains new f × HaveOneKey f g × (IsAfter (spot_of_copy g) (spot_of_copy f) → ⊥)
+    later g was =
+        let then = next.some was.0 (inl was.1) in
+        (then.0, then.1, (then.2.0 ∙ was.2.0, then.2.1 ∙ was.2.1), not_after_on (spot_of_copy g) (spot_of_copy was.0) (spot_of_copy then.0) was.3 then.3)

@@ -1,4 +1,5 @@
 -- The copies of pages that a scan lists.
+use Rattle.std.specs.Prelude.{◌<◌, ◌^◌}
 use Rattle.flash_tree.specs.Newest.{Spot}
 use Rattle.flash_tree.specs.Places.{spot_of, ComesBefore}
 use Rattle.flash_tree.specs.declared.place.Found.{Found}
@@ -7,6 +8,10 @@ use Rattle.found_pages.specs.declared.copy.PageCopy.{PageCopy}
 -- the copy at a place with a tag
 abbrev pub copy_at : Spot → PageCopy
 copy_at s = record { object = s.tag.object; chunk = s.tag.chunk; version = s.tag.version; seq = s.tag.seq; block = s.block; page = s.page }
+
+-- the page has a chunk that a tree may look up, and a place that a device may have
+abbrev pub FitsCopy : Found → Type 0
+FitsCopy f = (f.tag.chunk < 2 ^ 32) × (f.block < 2 ^ 16) × (f.page < 2 ^ 16)
 
 -- the copy of a page that was found
 abbrev pub copy_of : Found → PageCopy

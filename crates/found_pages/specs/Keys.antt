@@ -3,7 +3,8 @@ use Rattle.std.specs.Prelude.{◌≡◌, ◌⊎◌, ◌↔◌, ◌<◌, ◌≤�
 use Rattle.std.specs.List.{AllPairs}
 use Rattle.flash_tree.specs.Newest.{IsAfter}
 use Rattle.found_pages.specs.declared.copy.PageCopy.{PageCopy}
-use Rattle.found_pages.specs.Copies.{spot_of_copy, IsKeyBefore}
+use Rattle.flash_tree.specs.declared.place.Found.{Found}
+use Rattle.found_pages.specs.Copies.{FitsCopy, copy_of, spot_of_copy, IsKeyBefore}
 
 -- what pages are sorted by: the key, and then what orders the pages of one key
 abbrev pub rank_of : PageCopy → ℕ × ℕ × ℕ × ℕ × ℕ × ℕ
@@ -57,3 +58,12 @@ pub record AreLatest (list kept : List PageCopy) : Type 0 where
 pub record Thins (added old new : List PageCopy) : Type 0 where
   pub among : (f : PageCopy) → Contains new f → Contains old f ⊎ Contains added f
   pub some : (g : PageCopy) → Contains old g ⊎ Contains added g → (f : PageCopy) × Contains new f × HaveOneKey f g × (IsAfter (spot_of_copy g) (spot_of_copy f) → ⊥)
+
+-- the copy of one of these pages
+abbrev pub IsCopyOf : List Found → PageCopy → Type 0
+IsCopyOf added f = (x : Found) × Contains added x × FitsCopy x × (copy_of x ≡ f)
+
+-- Those of some pages that fit were added, and others went that are not the newest of their keys.
+pub record ThinsFound (added : List Found) (old new : List PageCopy) : Type 0 where
+  pub among : (f : PageCopy) → Contains new f → Contains old f ⊎ IsCopyOf added f
+  pub some : (g : PageCopy) → Contains old g ⊎ IsCopyOf added g → (f : PageCopy) × Contains new f × HaveOneKey f g × (IsAfter (spot_of_copy g) (spot_of_copy f) → ⊥)

@@ -6,7 +6,7 @@ ghost use Rattle.found_pages.specs.Keys.{rank_of, IsLastAt, IsSortedBefore, Gath
 use crate::copy::PageCopy;
 
 /// What pages are sorted by: the key, and then what orders the pages of one key.
-fn rank(found: &PageCopy) -> (u64, u64, u64, u64, u32, u32)
+fn rank(found: &PageCopy) -> (u64, u32, u64, u64, u16, u16)
     ensures { result ≡ rank_of found.now }
 {
     (

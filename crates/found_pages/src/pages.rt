@@ -1,7 +1,6 @@
 // The pages that were found.
-ghost use Rattle.std.specs.Prelude.{◌≡◌, ◌<◌, ℕ, [], ◌∷◌, map, Some, IfOk, OnOk, length, slice_get, Contains};
-ghost use Rattle.found_pages.specs.Copies.{copy_of};
-ghost use Rattle.found_pages.specs.Keys.{Thins, AreLatest};
+ghost use Rattle.std.specs.Prelude.{◌≡◌, ◌<◌, ℕ, [], ◌∷◌, Some, IfOk, OnOk, length, slice_get, Contains};
+ghost use Rattle.found_pages.specs.Keys.{Thins, ThinsFound, AreLatest};
 ghost use Rattle.found_pages.specs.Buckets.{reversed, bucket_of, pages_of, AreApart};
 
 use crate::bucket::Bucket;
@@ -68,17 +67,19 @@ impl FoundPages {
     {
         let key = Key {
             object: found.object,
-            chunk: found.chunk,
+            chunk: found.chunk as u64,
         };
         self.buckets[bucket_of(key)].add(found)
     }
 
-    /// Adds some pages.
+    /// Adds some pages, but none of a chunk that no tree looks up.
     pub fn add_all(&mut self, found: &[Found]) -> Result<(), AllocError>
-        ensures { OnOk result (Thins (map copy_of found.now) (listed self.old) (listed self.new)) }
+        ensures { OnOk result (ThinsFound found.now (listed self.old) (listed self.new)) }
     {
         for page in found {
-            self.add(PageCopy::of(page))?;
+            if let Some(copy) = PageCopy::of(page) {
+                self.add(copy)?;
+            }
         }
         Ok(())
     }

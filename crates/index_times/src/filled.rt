@@ -1,5 +1,5 @@
 // An index with the blocks that it counts in.
-ghost use Rattle.std.specs.Prelude.{◌≡◌, ◌<◌, ◌≤◌, ℕ};
+ghost use Rattle.std.specs.Prelude.{◌≡◌, ◌<◌, ◌≤◌, ◌^◌, ℕ};
 ghost use Rattle.block_state.specs.TableOf.{table};
 ghost use Rattle.chunk_index.specs.Maps.{present, CountsAgree};
 ghost use Rattle.chunk_index.specs.declared.form.Present.TheVariants as presents;
@@ -35,7 +35,8 @@ impl Filled {
 
     /// A page of the buffer is the present one of a key.
     pub fn buffer(&mut self, key: Key, page: u32) -> Result<(), AllocError>
-        requires { page < 64 }
+        requires low { key.chunk < 2 ^ 32 }
+        requires page { page < 64 }
     {
         self.index.prepare(key)?;
         self.index.place(key, Form::Buffered(page));

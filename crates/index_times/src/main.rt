@@ -5,7 +5,7 @@
 //! the index takes is what the program holds above one of few blocks.
 #![tactic(auto)]
 
-ghost use Rattle.std.specs.Prelude.{◌≤◌};
+ghost use Rattle.std.specs.Prelude.{◌<◌, ◌≤◌, ◌^◌};
 
 mod filled;
 
@@ -26,7 +26,9 @@ const CHANGE: u32 = 16;
 const ROUNDS: u32 = 1000;
 
 /// The key of a page of an index that is filled in turn, object after object, each of so many pages.
-fn key(block: u32, page: u32, of_object: u32) -> Key {
+fn key(block: u32, page: u32, of_object: u32) -> Key
+    ensures { result.chunk < 2 ^ 32 }
+{
     let number = block as u64 * PAGES as u64 + page as u64;
     let of_object = of_object.max(1) as u64;
     Key {

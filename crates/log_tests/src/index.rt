@@ -43,11 +43,11 @@ fn the_newest_pages_of_a_scan_are_kept(rt: HostRuntime) -> Result<(), Fail> {
         for found in &mounted.newest {
             let key = Key {
                 object: found.object,
-                chunk: found.chunk,
+                chunk: u64::from(found.chunk),
             };
             let page = KeptPage {
-                block: found.block,
-                page: found.page,
+                block: u32::from(found.block),
+                page: u32::from(found.page),
                 version: found.version,
             };
             assert_eq!(rt;

@@ -37,7 +37,7 @@ fn counted_at(alloc: Global, list: &[Found]) -> Result<Vec<(u32, u32)>, Fail> {
 fn places_of(alloc: Global, found: &FoundPages) -> Result<Vec<(u32, u32)>, Fail> {
     let mut places = Vec::new(alloc);
     for page in pages_of(alloc, found)? {
-        places.push((page.block, page.page))?;
+        places.push((u32::from(page.block), u32::from(page.page)))?;
     }
     Ok(places)
 }
@@ -46,7 +46,7 @@ fn places_of(alloc: Global, found: &FoundPages) -> Result<Vec<(u32, u32)>, Fail>
 fn entry(list: &[PageCopy], key: Key) -> Option<PageCopy> {
     let mut entry = None;
     for page in list {
-        if page.object == key.object && page.chunk == key.chunk {
+        if page.object == key.object && u64::from(page.chunk) == key.chunk {
             entry = Some(*page);
         }
     }
@@ -56,7 +56,7 @@ fn entry(list: &[PageCopy], key: Key) -> Option<PageCopy> {
 /// The copy of a page, if there is one.
 fn copy_of(found: Option<Found>) -> Option<PageCopy> {
     match found {
-        Some(found) => Some(PageCopy::of(&found)),
+        Some(found) => PageCopy::of(&found),
         None => None,
     }
 }
@@ -120,6 +120,28 @@ fn a_group_counts_with_its_last_page(rt: HostRuntime) -> Result<(), Fail> {
             newest,
             "{pages} pages"
         );
+    }
+    Ok(())
+}
+
+#[test]
+fn a_scan_passes_over_chunks_that_no_tree_looks_up(rt: HostRuntime) -> Result<(), Fail> {
+    for (chunk, newest) in [
+        (4_294_967_295u64, 2usize),
+        (4_294_967_296, 1),
+        (u64::MAX, 1),
+    ] {
+        let mut flash = small(rt.alloc())?;
+        flash.write(4, &tag((0, 2), (1, 7), (1, 2, 1)), 7)?;
+        flash.write(4, &tag((1, 2), (1, chunk), (2, 2, 1)), 7)?;
+        let found = scan_newest(rt.alloc(), &mut powered_up(flash))?;
+        assert_eq!(rt;
+            pages_of(rt.alloc(), &found.newest)?.len(),
+            newest,
+            "{chunk}"
+        );
+        // The numbers of each page count.
+        assert_eq!(rt; found.numbers.version, 2, "{chunk}");
     }
     Ok(())
 }

@@ -1,5 +1,5 @@
 // An index through all that it is asked for, each reply worked by hand.
-ghost use Rattle.std.specs.Prelude.{◌≡◌, ◌<◌, ◌≤◌, ℕ};
+ghost use Rattle.std.specs.Prelude.{◌≡◌, ◌<◌, ◌≤◌, ◌^◌, ℕ};
 ghost use Rattle.block_state.specs.TableOf.{table};
 ghost use Rattle.chunk_index.specs.Maps.{present, CountsAgree};
 ghost use Rattle.chunk_index.specs.declared.form.Present.TheVariants as presents;
@@ -35,7 +35,8 @@ impl Store {
 
     /// A page of the buffer is the present one of a key.
     fn buffer(&mut self, key: Key, page: u32) -> Result<(), AllocError>
-        requires { page < 8 }
+        requires low { key.chunk < 2 ^ 32 }
+        requires page { page < 8 }
     {
         self.index.prepare(key)?;
         self.index.place(key, Form::Buffered(page));
@@ -67,7 +68,9 @@ impl Store {
     }
 
     /// There is room for the present page of a key.
-    fn prepare(&mut self, key: Key) -> Result<(), AllocError> {
+    fn prepare(&mut self, key: Key) -> Result<(), AllocError>
+        requires { key.chunk < 2 ^ 32 }
+    {
         self.index.prepare(key)
     }
 
@@ -111,7 +114,9 @@ impl KeyFilter for UpTo {
 }
 
 /// The key of a chunk of an object.
-fn key(object: u64, chunk: u64) -> Key {
+fn key(object: u64, chunk: u64) -> Key
+    ensures { result.chunk ≡ chunk }
+{
     Key { object, chunk }
 }
 

@@ -20,7 +20,7 @@ use Rattle.directories.specs.Directories as directories
 use Rattle.file_io.specs.Files as files
 use Rattle.object_pages.specs.Holding.{HoldsObject, HoldsObjects}
 use Rattle.mount_answers.specs.Footprints.{IsFootprint}
-use Rattle.mount_answers.proofs.WholeTrees.{is_page_size}
+use Rattle.mount_answers.proofs.VolumeSizes.{is_page_size}
 use Rattle.mount_answers.proofs.SlotCounts.{entries_len}
 
 -- a map has one page of a key

@@ -9,24 +9,32 @@ use Rattle.flash_tree.specs.Mount.{Wrong, IsDamaged, Wrongly, Wholly, GoesThroug
 use Rattle.pages.specs.Maps.{PageMap, has}
 use Rattle.tree_walk.specs.Trees.{IsWrongTree}
 use Rattle.mount_answers.specs.Newest.{IsNewestMap}
-use Rattle.mount_answers.proofs.SameMaps.{through_too, twice_too, no_volume_too, wrong_root_too, volume_too}
+use Rattle.mount_answers.proofs.VolumeSizes.{is_page_size}
+use Rattle.mount_answers.proofs.SameMaps.{HasAll, through_too, twice_too, no_volume_too, wrong_root_too, volume_too}
+
+-- what the map has is the newest, and what is the newest it has
+pub has_newest : (flash : Flash) (m : PageMap) → IsNewestMap flash m → HasAll (has m) (HasNewest flash)
+has_newest flash m is o c xs low at = ((is o c xs).0 at).0
+
+pub newest_has : (flash : Flash) (m : PageMap) → IsNewestMap flash m → HasAll (HasNewest flash) (has m)
+newest_has flash m is o c xs low at = (is o c xs).1 (at, low)
 
 module _ (g : Geometry) (flash : Flash) (m : PageMap) where
   pub no_volume : IsNewestMap flash m → IsNoVolume (has m) → Answers g flash NotAVolume
-  no_volume is = no_volume_too (has m) (HasNewest flash) (λ o c xs. (is o c xs).0) (λ o c xs. (is o c xs).1)
+  no_volume is = no_volume_too (has m) (HasNewest flash) (has_newest flash m is) (newest_has flash m is)
 
   pub wrong_root : (wrong : Wrong) → IsNewestMap flash m → HasWrongRoot g (has m) wrong → Answers g flash (IsWrong wrong)
-  wrong_root wrong is root = inl (wrong_root_too (has m) (HasNewest flash) (λ o c xs. (is o c xs).0) (λ o c xs. (is o c xs).1) g wrong root)
+  wrong_root wrong is root = inl (wrong_root_too (has m) (HasNewest flash) (has_newest flash m is) (newest_has flash m is) g wrong root)
 
   pub is_volume : (spare : ℕ) → IsNewestMap flash m → IsVolume g (has m) spare → IsVolume g (HasNewest flash) spare
-  is_volume spare is volume = volume_too (has m) (HasNewest flash) (λ o c xs. (is o c xs).0) (λ o c xs. (is o c xs).1) g spare volume
+  is_volume spare is volume = volume_too (has m) (HasNewest flash) (has_newest flash m is) (newest_has flash m is) g spare volume
 
   pub wrong_object : (spare : ℕ) (wrong : Wrong) → IsNewestMap flash m → IsVolume g (has m) spare
       → GoesThrough (sizes_of g spare) (has m) (root_number ∷ []) 0 (Wrongly wrong) → Answers g flash (IsWrong wrong)
   wrong_object spare wrong is volume on = inr (inl (
     spare,
     is_volume spare is volume,
-    through_too (has m) (HasNewest flash) (λ o c xs. (is o c xs).0) (λ o c xs. (is o c xs).1) (sizes_of g spare) (root_number ∷ []) 0 (Wrongly wrong) on,
+    through_too (has m) (HasNewest flash) (has_newest flash m is) (newest_has flash m is) (sizes_of g spare) (root_number ∷ []) 0 (Wrongly wrong) (is_page_size g) on,
   ))
 
   pub two_names : (spare : ℕ) (list : List ℕ) → IsNewestMap flash m → IsVolume g (has m) spare
@@ -36,8 +44,8 @@ module _ (g : Geometry) (flash : Flash) (m : PageMap) where
     is_volume spare is volume,
     refl,
     list,
-    through_too (has m) (HasNewest flash) (λ o c xs. (is o c xs).0) (λ o c xs. (is o c xs).1) (sizes_of g spare) (root_number ∷ []) 0 (Wholly list) on,
-    twice_too (has m) (HasNewest flash) (λ o c xs. (is o c xs).0) (λ o c xs. (is o c xs).1) (sizes_of g spare) list twice,
+    through_too (has m) (HasNewest flash) (has_newest flash m is) (newest_has flash m is) (sizes_of g spare) (root_number ∷ []) 0 (Wholly list) (is_page_size g) on,
+    twice_too (has m) (HasNewest flash) (has_newest flash m is) (newest_has flash m is) (sizes_of g spare) list twice,
   )))
 
   pub wrong_tree : (spare : ℕ) (wrong : Wrong) → IsNewestMap flash m → IsVolume g (has m) spare → IsWrongTree (sizes_of g spare) (has m) wrong → Answers g flash (IsWrong wrong)

@@ -10,7 +10,7 @@ use Rattle.posix_profile.specs.Charge.{charge}
 use Rattle.flash_tree.specs.Newest.{Spot, HasNewest}
 use Rattle.flash_tree.specs.laws.Newest.{one_spot}
 use Rattle.flash_tree.specs.laws.Tree.{footprint_law}
-use Rattle.flash_tree.specs.Tree.{InFootprint, Shows}
+use Rattle.flash_tree.specs.Tree.{IsPageSize, InFootprint, Shows}
 use Rattle.flash_tree.specs.Mount.{IsDamaged, sizes_of, IsVolume, bad_blocks, IsFree, HasFree, IsWrong, IsTreeOf, Answers}
 use Rattle.block_state.specs.Table.{Table}
 use Rattle.block_state.specs.Kept.{is_unkept, unkept_count, bad_count}
@@ -21,19 +21,22 @@ use Rattle.chunk_index.specs.Maps.{kept_pages, kept_in, CountsAgree}
 use Rattle.pages.specs.Maps.{PageMap, has}
 use Rattle.mount_answers.specs.Newest.{IsNewestMap}
 use Rattle.mount_answers.specs.KeptTrees.{KeepsOnlyTree}
-use Rattle.mount_answers.proofs.NewestMaps.{is_volume}
-use Rattle.mount_answers.proofs.SameMaps.{header_too}
+use Rattle.mount_answers.proofs.NewestMaps.{has_newest, newest_has, is_volume}
+use Rattle.mount_answers.proofs.SameMaps.{HasAll, header_too}
+use Rattle.mount_answers.proofs.VolumeSizes.{is_page_size}
+use Rattle.pages.specs.laws.Low.{looked_low}
 use Rattle.mount_answers.proofs.Picked.{few_picked}
 
 module _ (flash : Flash) (m : PageMap) (is : IsNewestMap flash m) (z : Sizes) (objects : Objects) where
-  to : (o c : ℕ) (xs : List ℕ) → has m o c xs → HasNewest flash o c xs
-  to o c xs = (is o c xs).0
+  to : HasAll (has m) (HasNewest flash)
+  to = has_newest flash m is
 
-  back : (o c : ℕ) (xs : List ℕ) → HasNewest flash o c xs → has m o c xs
-  back o c xs = (is o c xs).1
+  back : HasAll (HasNewest flash) (has m)
+  back = newest_has flash m is
 
-  shown_on_flash : Shows z (has m) objects → Shows z (HasNewest flash) objects
-  shown_on_flash shown = footprint_law z (has m) (HasNewest flash) objects (λ o c bytes looked there. to o c bytes there) shown
+  shown_on_flash : IsPageSize z.page_bytes → Shows z (has m) objects → Shows z (HasNewest flash) objects
+  shown_on_flash size shown =
+      footprint_law z (has m) (HasNewest flash) objects (λ o c bytes looked there. to o c bytes (looked_low z size looked.fields c looked.has.1 looked.looks) there) shown
 
   looked_on_flash : (o c : ℕ) → InFootprint z (has m) objects o c → InFootprint z (HasNewest flash) objects o c
   looked_on_flash o c f = record { object = f.object; there = f.there; fields = f.fields; has = header_too (has m) (HasNewest flash) to back z o f.fields f.has; looks = f.looks }
@@ -49,7 +52,7 @@ too_full g flash m spare objects is volume shown more = inr (inr (inr (
   is_volume g flash m spare is volume,
   refl,
   objects,
-  shown_on_flash flash m is (sizes_of g spare) objects shown,
+  shown_on_flash flash m is (sizes_of g spare) objects (is_page_size g) shown,
   λ room. let fits = room.fits in omega (arith, more, fits),
 )))
 
@@ -87,7 +90,7 @@ module _ (flash : Flash) (m : PageMap) (is : IsNewestMap flash m) (spare : ℕ) 
       is_volume t.geometry flash m spare is volume,
       refl,
       objects,
-      shown_on_flash flash m is z objects shown,
+      shown_on_flash flash m is z objects (is_page_size t.geometry) shown,
       λ room.
           let enough = few_free zero_where_none (1 + spare - bad_blocks t.geometry flash) (room.free (omega (arith, few, same))) in
           omega (arith, enough, scarce, few, same),
@@ -99,7 +102,7 @@ module _ (flash : Flash) (m : PageMap) (is : IsNewestMap flash m) (spare : ℕ) 
         → IsVolume t.geometry (has m) spare → Shows z (has m) objects → Answers t.geometry flash (IsTreeOf spare objects)
     room_here free same enough fits volume shown = (
       is_volume t.geometry flash m spare is volume,
-      shown_on_flash flash m is z objects shown,
+      shown_on_flash flash m is z objects (is_page_size t.geometry) shown,
       record {
         fits = fits;
         free = λ few. let more = enough (omega (arith, few, same)) in free (1 + spare - bad_blocks t.geometry flash) (omega (arith, more, same));

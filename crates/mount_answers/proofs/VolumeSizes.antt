@@ -1,11 +1,13 @@
 -- The sizes of a device are those of a volume.
 use mathlib.Core.Logic.{∥∥₁_elim}
 use Rattle.std.specs.Prelude.{◌≤◌, ℕ, ◌+◌}
+use Rattle.std.proofs.Common.{arith}
 use Rattle.nand_model.specs.Size.{IsSize}
 use Rattle.nand_model.specs.declared.geometry.Geometry.{Geometry}
 use Rattle.volume_terms.specs.Sizes.{IsSizes}
 use Rattle.volume_terms.specs.laws.Number.{one_of_four}
 use Rattle.flash_tree.specs.Mount.{sizes_of}
+use Rattle.flash_tree.specs.Tree.{IsPageSize}
 
 -- so many spare blocks leave blocks enough
 pub sizes_are : (g : Geometry) (spare : ℕ) → spare + 4 ≤ g.blocks → IsSizes (sizes_of g spare)
@@ -16,3 +18,7 @@ sizes_are g spare room = record {
   few_blocks = g.most_blocks;
   spare_blocks = room;
 }
+
+-- a device's pages can be filled by headers
+pub is_page_size : (g : Geometry) → IsPageSize g.bytes
+is_page_size g = record { least = omega (arith, g.least_bytes); most = g.most_bytes }

@@ -11,16 +11,14 @@ use Rattle.flash_tree.specs.Newest.{HasNewest}
 use Rattle.flash_tree.specs.laws.Newest.{one_newest}
 use Rattle.flash_tree.specs.laws.Finding.{same_header, kinds_apart, header_no_fault, one_end}
 use Rattle.flash_tree.specs.laws.Tree.{footprint_law}
-use Rattle.flash_tree.specs.Tree.{IsPageSize, NewestMap, IsSingle, Shows}
+use Rattle.flash_tree.specs.Tree.{NewestMap, IsSingle, Shows}
 use Rattle.flash_tree.specs.Mount.{Wrong, ListEnd, Wrongly, Wholly, GoesThrough, NamesTwice, sizes_of, IsVolume, IsNoVolume, HasWrongRoot, Answer, NotAVolume, IsWrong, IsTreeOf, Answers}
 use Rattle.pages.specs.Maps.{PageMap, has}
 use Rattle.mount_answers.specs.Newest.{IsNewestMap}
-use Rattle.mount_answers.proofs.SameMaps.{through_too, twice_too}
-use Rattle.mount_answers.proofs.NewestMaps.{is_volume}
-
--- a device's pages can be filled by headers
-pub is_page_size : (g : Geometry) → IsPageSize g.bytes
-is_page_size g = record { least = omega (arith, g.least_bytes); most = g.most_bytes }
+use Rattle.pages.specs.laws.Low.{looked_low}
+use Rattle.mount_answers.proofs.SameMaps.{HasAll, through_too, twice_too}
+use Rattle.mount_answers.proofs.NewestMaps.{has_newest, newest_has, is_volume}
+use Rattle.mount_answers.proofs.VolumeSizes.{is_page_size}
 
 module _ (g : Geometry) (m : NewestMap) (single : IsSingle m) where
   abbrev z : ℕ → Sizes
@@ -80,9 +78,10 @@ pub both_show : (g : Geometry) (flash : Flash) (m : PageMap) (spare : ℕ) (list
     → GoesThrough (sizes_of g spare) (has m) (root_number ∷ []) 0 (Wholly list) → (NamesTwice (sizes_of g spare) (has m) list → ⊥) → (a : Answer) → Answers g flash a
     → (objects : Objects) × Shows (sizes_of g spare) (has m) objects × Shows (sizes_of g spare) (HasNewest flash) objects
 both_show g flash m spare list is volume on once a answers =
-    let to = λ (o c : ℕ) (xs : List ℕ). (is o c xs).0 in
-    let back = λ (o c : ℕ) (xs : List ℕ). (is o c xs).1 in
+    let to : HasAll (has m) (HasNewest flash) = has_newest flash m is in
+    let back : HasAll (HasNewest flash) (has m) = newest_has flash m is in
+    let z : Sizes = sizes_of g spare in
     let found = answered_tree g flash spare list (is_volume g flash m spare is volume)
-    (through_too (has m) (HasNewest flash) to back (sizes_of g spare) (root_number ∷ []) 0 (Wholly list) on)
-    (λ twice. once (twice_too (HasNewest flash) (has m) back to (sizes_of g spare) list twice)) a answers in
-    (found.0, footprint_law (sizes_of g spare) (HasNewest flash) (has m) found.0 (λ o c bytes looked there. back o c bytes there) found.1, found.1)
+    (through_too (has m) (HasNewest flash) to back z (root_number ∷ []) 0 (Wholly list) (is_page_size g) on)
+    (λ twice. once (twice_too (HasNewest flash) (has m) back to z list twice)) a answers in
+    (found.0, footprint_law z (HasNewest flash) (has m) found.0 (λ o c bytes looked there. back o c bytes (looked_low z (is_page_size g) looked.fields c looked.has.1 looked.looks) there) found.1, found.1)

@@ -1,8 +1,7 @@
 -- The newest page of each key is left.
-use Rattle.std.specs.Prelude.{◌≡◌, ◌<◌, ℕ, ◌+◌, false, true, List, [], map, Option, length, Contains}
+use Rattle.std.specs.Prelude.{◌≡◌, ◌<◌, ◌^◌, ℕ, ◌+◌, false, true, List, [], Option, length, Contains}
 use Rattle.std.proofs.Common.{refl, sym, ◌∙◌, ap, subst, inl, inr, arith, get_or}
 use Rattle.std.proofs.lemmas.Bool.{cases_eq, false≢true}
-use Rattle.std.proofs.lemmas.List.{get_or-map, length-map}
 use Rattle.std.proofs.lemmas.List.Elements.{Contains-get_or, All-contains}
 use Rattle.nand_model.specs.Flash.{Flash, IsWithin}
 use Rattle.nand_model.specs.Calls.{Device}
@@ -14,8 +13,8 @@ use Rattle.flash_tree.specs.laws.Newest.{one_spot}
 use Rattle.flash_tree.specs.laws.Place.{same_flash, tag_placed}
 use Rattle.flash_tree.specs.declared.place.Found.{Found}
 use Rattle.flash_tree.specs.Places.{spot_of}
-use Rattle.found_pages.specs.Copies.{copy_at, copy_of, spot_of_copy}
-use Rattle.found_pages.specs.Keys.{HaveOneKey, Thins, AreLatest}
+use Rattle.found_pages.specs.Copies.{FitsCopy, copy_at, copy_of, spot_of_copy}
+use Rattle.found_pages.specs.Keys.{HaveOneKey, ThinsFound, AreLatest}
 use Rattle.found_pages.specs.declared.copy.PageCopy.{PageCopy}
 use Rattle.found_pages.specs.laws.Order.{not_after_on}
 use Rattle.mount_scan.specs.Scanned.{IsNewestCopy, AreNewest, TellsCounted, TellsNewest}
@@ -29,16 +28,6 @@ none_in : (f : Found) → Contains [] f → ⊥
 none_in f has = absurd (omega (arith, has.1))
 
 -- ---- copies
-
--- a copy of some pages is that of one of them
-copied_from : (list : List Found) (f : PageCopy) → Contains (map copy_of list) f → (x : Found) × Contains list x × (copy_of x ≡ f)
-copied_from list f has =
-    let d : Found = found_of (spot_of_copy f) in
-    let lt : has.0 < length list = omega (arith, has.1, length-map list copy_of) in
-    (get_or list has.0 d, Contains-get_or list has.0 d lt, sym (get_or-map copy_of list has.0 d f lt) ∙ has.2)
-
-has_copy : (list : List Found) (x : Found) → Contains list x → Contains (map copy_of list) (copy_of x)
-has_copy list x has = (has.0, omega (arith, has.1, length-map list copy_of), get_or-map copy_of list has.0 x (copy_of x) has.1 ∙ ap copy_of has.2)
 
 counted_copy : (flash : Flash) (x : Found) (f : PageCopy) → copy_of x ≡ f → Holds flash x.tag.object x.tag.chunk (spot_of x) → IsCountedCopy flash f
 counted_copy flash x f same holds = subst (IsCountedCopy flash) same (record { spot = spot_of x; holds = holds; copied = refl })
@@ -81,28 +70,47 @@ no_block device b list bad empty =
 pub latest_none : (device : Device) (list : List PageCopy) → ((f : PageCopy) → Contains list f → ⊥) → HasLatestBelow device 0 list
 latest_none device list none = record {
   placed = λ f has. absurd (none f has);
+  low = λ f has. absurd (none f has);
   held = λ honest f has. absurd (none f has);
   some = λ honest g lt. absurd (omega (arith, lt));
 }
 
-pub latest_block : (device : Device) (b : ℕ) (one : List Found) (old new : List PageCopy) → TellsBlock device b one → Thins (map copy_of one) old new → HasLatestBelow device b old
+-- a copy of a page that fits has the chunk of one
+copy_low : (x : Found) (f : PageCopy) → FitsCopy x → copy_of x ≡ f → f.chunk < 2 ^ 32
+copy_low x f fits same = subst (λ (y : PageCopy). y.chunk < 2 ^ 32) same fits.0
+
+-- each place of a device fits
+place_fits : (g : Geometry) (x : Found) → x.tag.chunk < 2 ^ 32 → x.block < g.blocks → x.page < g.pages → FitsCopy x
+place_fits g x low block page =
+    let blocks = g.most_blocks in
+    let pages = g.most_pages in
+    (low, omega (arith, block, blocks), omega (arith, page, pages))
+
+pub latest_block : (device : Device) (b : ℕ) (one : List Found) (old new : List PageCopy) → b < device.geometry.blocks → TellsBlock device b one → ThinsFound one old new → HasLatestBelow device b old
     → HasLatestBelow device (b + 1) new
-latest_block device b one old new tells thins below = record {
+latest_block device b one old new within tells thins below = record {
   placed = λ f has. elim (thins.among f has) [
     | inl was ↦ let is = below.placed f was in (omega (arith, is.0), is.1)
     | inr is ↦
-        let (x, there, same) = copied_from one f is in
+        let (x, there, fits, same) = is in
         let at = tells.placed x there in
         subst (λ (y : PageCopy). (y.block < b + 1) × (y.page < device.geometry.pages)) same (omega (arith, at.0), at.1)
   ];
+  low = λ f has. elim (thins.among f has) [
+    | inl was ↦ below.low f was
+    | inr is ↦ let (x, there, fits, same) = is in copy_low x f fits same
+  ];
   held = λ honest f has. elim (thins.among f has) [
     | inl was ↦ below.held honest f was
-    | inr is ↦ let (x, there, same) = copied_from one f is in counted_copy device.flash x f same ((tells.exact honest x).0 there).1
+    | inr is ↦ let (x, there, fits, same) = is in counted_copy device.flash x f same ((tells.exact honest x).0 there).1
   ];
-  some = λ honest g lt holds. elim (cases_eq g.block b) [
-    | inl here ↦ thins.some (copy_of g) (inr (has_copy one g ((tells.exact honest g).1 (here, holds))))
+  some = λ honest g lt low holds. elim (cases_eq g.block b) [
+    | inl here ↦
+        let has = (tells.exact honest g).1 (here, holds) in
+        let at = tells.placed g has in
+        thins.some (copy_of g) (inr (g, has, place_fits device.geometry g low (omega (arith, at.0, within)) at.1, refl))
     | inr ne ↦
-        let was = below.some honest g (omega (arith, lt, ne)) holds in
+        let was = below.some honest g (omega (arith, lt, ne)) low holds in
         let then = thins.some was.0 (inl was.1) in
         (then.0, then.1, (then.2.0 ∙ was.2.0, then.2.1 ∙ was.2.1), not_after_on (spot_of g) (spot_of_copy was.0) (spot_of_copy then.0) was.3 then.3)
   ];
@@ -112,39 +120,48 @@ latest_block device b one old new tells thins below = record {
 pub latest_on : (a b : Device) (k : ℕ) (list : List PageCopy) → OnlyReads a b → HasLatestBelow a k list → HasLatestBelow b k list
 latest_on a b k list reads below = record {
   placed = λ f has. let is = below.placed f has in (is.0, subst (λ (g : Geometry). f.page < g.pages) (sym reads.lasts.geometry) is.1);
+  low = below.low;
   held = λ honest f has.
       let was : a.honest ≡ true = sym reads.lasts.honest ∙ honest in
       subst (λ fl. IsCountedCopy fl f) (sym (same_flash a b reads was)) (below.held was f has);
-  some = λ honest g lt holds.
+  some = λ honest g lt low holds.
       let was : a.honest ≡ true = sym reads.lasts.honest ∙ honest in
-      below.some was g lt (subst (λ fl. Holds fl g.tag.object g.tag.chunk (spot_of g)) (same_flash a b reads was) holds);
+      below.some was g lt low (subst (λ fl. Holds fl g.tag.object g.tag.chunk (spot_of g)) (same_flash a b reads was) holds);
 }
 
 pub latest_back : (a b : Device) (k : ℕ) (list : List PageCopy) → OnlyReads a b → HasLatestBelow b k list → HasLatestBelow a k list
 latest_back a b k list reads below = record {
   placed = λ f has. let is = below.placed f has in (is.0, subst (λ (g : Geometry). f.page < g.pages) reads.lasts.geometry is.1);
+  low = below.low;
   held = λ honest f has. subst (λ fl. IsCountedCopy fl f) (same_flash a b reads honest) (below.held (reads.lasts.honest ∙ honest) f has);
-  some = λ honest g lt holds. below.some (reads.lasts.honest ∙ honest) g lt (subst (λ fl. Holds fl g.tag.object g.tag.chunk (spot_of g)) (sym (same_flash a b reads honest)) holds);
+  some = λ honest g lt low holds. below.some (reads.lasts.honest ∙ honest) g lt low (subst (λ fl. Holds fl g.tag.object g.tag.chunk (spot_of g)) (sym (same_flash a b reads honest)) holds);
 }
 
 -- what is left of all pages that count
-pub latest_counted : (device : Device) (counted : List Found) (old new : List PageCopy) → TellsCounted device counted → ((f : PageCopy) → Contains old f → ⊥) → Thins (map copy_of counted) old new
+pub latest_counted : (device : Device) (counted : List Found) (old new : List PageCopy) → TellsCounted device counted → ((f : PageCopy) → Contains old f → ⊥) → ThinsFound counted old new
     → HasLatestBelow device device.geometry.blocks new
 latest_counted device counted old new tells none thins = record {
   placed = λ f has. elim (thins.among f has) [
     | inl was ↦ absurd (none f was)
     | inr is ↦
-        let (x, there, same) = copied_from counted f is in
+        let (x, there, fits, same) = is in
         let at = All-contains (λ (y : Found). (y.block < device.geometry.blocks) × (y.page < device.geometry.pages)) counted x tells.placed there in
         subst (λ (y : PageCopy). (y.block < device.geometry.blocks) × (y.page < device.geometry.pages)) same at
+  ];
+  low = λ f has. elim (thins.among f has) [
+    | inl was ↦ absurd (none f was)
+    | inr is ↦ let (x, there, fits, same) = is in copy_low x f fits same
   ];
   held = λ honest f has. elim (thins.among f has) [
     | inl was ↦ absurd (none f was)
     | inr is ↦
-        let (x, there, same) = copied_from counted f is in
+        let (x, there, fits, same) = is in
         counted_copy device.flash x f same (((tells.exact honest).each (spot_of x)).1 ((listed_spot counted (spot_of x)).1 there))
   ];
-  some = λ honest g lt holds. thins.some (copy_of g) (inr (has_copy counted g ((listed_spot counted (spot_of g)).0 (((tells.exact honest).each (spot_of g)).0 holds))));
+  some = λ honest g lt low holds.
+      let has = (listed_spot counted (spot_of g)).0 (((tells.exact honest).each (spot_of g)).0 holds) in
+      let at = All-contains (λ (y : Found). (y.block < device.geometry.blocks) × (y.page < device.geometry.pages)) counted g tells.placed has in
+      thins.some (copy_of g) (inr (g, has, place_fits device.geometry g low at.0 at.1, refl));
 }
 
 -- ---- all blocks
@@ -155,8 +172,8 @@ module _ (device : Device) (honest : device.honest ≡ true) (within : IsWithin 
   flash = device.flash
 
   -- of a page that counts one is left of its key that it does not come after
-  left : (o c : ℕ) (s : Spot) → Holds flash o c s → (f : PageCopy) × Contains list f × HaveOneKey f (copy_at s) × (IsAfter s (spot_of_copy f) → ⊥)
-  left o c s holds = below.some honest (found_of s) (tag_placed device.geometry.pages device.geometry.blocks flash s.block s.page s.tag within holds.has).0 (record {
+  left : (o c : ℕ) (s : Spot) → s.tag.chunk < 2 ^ 32 → Holds flash o c s → (f : PageCopy) × Contains list f × HaveOneKey f (copy_at s) × (IsAfter s (spot_of_copy f) → ⊥)
+  left o c s low holds = below.some honest (found_of s) (tag_placed device.geometry.pages device.geometry.blocks flash s.block s.page s.tag within holds.has).0 low (record {
     group = holds.group;
     whole = holds.whole;
     index = holds.index;
@@ -177,16 +194,17 @@ module _ (device : Device) (honest : device.honest ≡ true) (within : IsWithin 
         newest = record {
           holds = counted.holds;
           last = λ t other after.
-              let some = left x.object x.chunk t other in
+              let chunk : x.chunk ≡ t.tag.chunk = sym other.chunk in
+              let some = left x.object x.chunk t (subst (λ k. k < 2 ^ 32) chunk (below.low x (latest.among x has))) other in
               not_after_on t (spot_of_copy some.0) (spot_of_copy x) some.3
               (latest.last x some.0 has some.1 (some.2.0 ∙ other.object, some.2.1 ∙ other.chunk))
               (subst (λ (y : PageCopy). IsAfter t (spot_of_copy y)) counted.copied after);
         };
       }
 
-  newest_is_kept : (o c : ℕ) (s : Spot) → IsNewest flash o c s → Contains newest (copy_at s)
-  newest_is_kept o c s is =
-      let first = left o c s is.holds in
+  newest_is_kept : (o c : ℕ) (s : Spot) → c < 2 ^ 32 → IsNewest flash o c s → Contains newest (copy_at s)
+  newest_is_kept o c s low is =
+      let first = left o c s (subst (λ k. k < 2 ^ 32) (sym is.holds.chunk) low) is.holds in
       let some = latest.some first.0 first.1 in
       let x : PageCopy = some.0 in
       let kept : IsNewestCopy flash x = kept_is_newest x some.1 in
@@ -204,6 +222,7 @@ pub tells_newest : (device : Device) (list newest : List PageCopy) → IsWithin 
     → AreLatest list newest → TellsNewest device newest
 tells_newest device list newest within below latest = record {
   placed = λ k d lt. below.placed (get_or newest k d) (latest.among (get_or newest k d) (Contains-get_or newest k d lt));
+  low = λ k d lt. below.low (get_or newest k d) (latest.among (get_or newest k d) (Contains-get_or newest k d lt));
   order = latest.order;
   exact = λ honest. newest_pages device honest within list newest below latest;
 }

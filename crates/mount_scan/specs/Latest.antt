@@ -1,5 +1,5 @@
 -- The newest pages of the blocks that were scanned.
-use Rattle.std.specs.Prelude.{◌≡◌, ◌↔◌, ◌<◌, ℕ, true, List, Contains}
+use Rattle.std.specs.Prelude.{◌≡◌, ◌↔◌, ◌<◌, ◌^◌, ℕ, true, List, Contains}
 use Rattle.nand_model.specs.Flash.{Flash}
 use Rattle.nand_model.specs.Calls.{Device}
 use Rattle.flash_tree.specs.Newest.{Spot, Holds, IsAfter}
@@ -20,10 +20,11 @@ pub record IsCountedCopy (flash : Flash) (x : PageCopy) : Type 0 where
   pub holds : Holds flash x.object x.chunk spot
   pub copied : copy_at spot ≡ x
 
--- What is left of the blocks below b: of each device places in them, and of an honest one copies of pages that count, among which is
--- one for each page that counts in these blocks, of its key, that it does not come after.
+-- What is left of the blocks below b: of each device places in them of chunks that a tree may look up, and of an honest one copies of
+-- pages that count, among which is one for each such page that counts in these blocks, of its key, that it does not come after.
 pub record HasLatestBelow (device : Device) (b : ℕ) (list : List PageCopy) : Type 0 where
   pub placed : (f : PageCopy) → Contains list f → (f.block < b) × (f.page < device.geometry.pages)
+  pub low : (f : PageCopy) → Contains list f → f.chunk < 2 ^ 32
   pub held : device.honest ≡ true → (f : PageCopy) → Contains list f → IsCountedCopy device.flash f
-  pub some : device.honest ≡ true → (g : Found) → g.block < b → Holds device.flash g.tag.object g.tag.chunk (spot_of g)
+  pub some : device.honest ≡ true → (g : Found) → g.block < b → g.tag.chunk < 2 ^ 32 → Holds device.flash g.tag.object g.tag.chunk (spot_of g)
       → (f : PageCopy) × Contains list f × HaveOneKey f (copy_of g) × (IsAfter (spot_of g) (spot_of_copy f) → ⊥)

@@ -1,5 +1,5 @@
 -- What a scan tells of a flash.
-use Rattle.std.specs.Prelude.{◌≡◌, ◌⊎◌, ◌↔◌, ◌<◌, ◌≤◌, ℕ, ◌+◌, true, false, List, map, sum, Result, Ok, Err, OnOk, All, Contains, if◌then◌else◌}
+use Rattle.std.specs.Prelude.{◌≡◌, ◌⊎◌, ◌↔◌, ◌<◌, ◌≤◌, ◌^◌, ℕ, ◌+◌, true, false, List, map, sum, Result, Ok, Err, OnOk, All, Contains, if◌then◌else◌}
 use Rattle.std.specs.List.{AllPairs, range_with_len}
 use Rattle.nand_model.specs.Flash.{Flash}
 use Rattle.nand_model.specs.Calls.{Device}
@@ -28,9 +28,9 @@ pub record IsNewestCopy (flash : Flash) (x : PageCopy) : Type 0 where
   pub newest : IsNewest flash x.object x.chunk spot
   pub copied : copy_at spot ≡ x
 
--- exactly the copies of the newest pages of all keys, in which each key stands once
+-- exactly the copies of the newest pages of all keys of chunks that a tree may look up, in which each key stands once
 pub record AreNewest (flash : Flash) (list : List PageCopy) : Type 0 where
-  pub each : (o c : ℕ) (s : Spot) → IsNewest flash o c s → Contains list (copy_at s)
+  pub each : (o c : ℕ) (s : Spot) → c < 2 ^ 32 → IsNewest flash o c s → Contains list (copy_at s)
   pub only : (x : PageCopy) → Contains list x → IsNewestCopy flash x
   pub order : AllPairs HaveOtherKeys list
 
@@ -48,9 +48,11 @@ pub record TellsCounted (device : Device) (list : List Found) : Type 0 where
   pub order : AllPairs IsPlaceBefore list
   pub exact : device.honest ≡ true → AreCounted device.flash list
 
--- What is told of the newest pages: of each device places on it, each key once, and of an honest one exactly those.
+-- What is told of the newest pages: of each device places on it, each key once, of chunks that a tree may look up, and of an honest
+-- one exactly those.
 pub record TellsNewest (device : Device) (list : List PageCopy) : Type 0 where
   pub placed : AreCopiesPlaced device.geometry.blocks device.geometry.pages list
+  pub low : All (λ (f : PageCopy). f.chunk < 2 ^ 32) list
   pub order : AllPairs HaveOtherKeys list
   pub exact : device.honest ≡ true → AreNewest device.flash list
 

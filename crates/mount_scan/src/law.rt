@@ -1,19 +1,19 @@
 // What follows for a key. A function here does nothing: its clause is the law.
-ghost use Rattle.std.specs.Prelude.{◌≡◌, ◌↔◌, ◌<◌, ℕ, List, Some, slice_get, Contains};
+ghost use Rattle.std.specs.Prelude.{◌≡◌, ◌↔◌, ◌<◌, ◌^◌, ℕ, List, Some, slice_get, Contains};
 ghost use Rattle.nand_model.specs.Flash.{Flash, Written};
 ghost use Rattle.flash_tree.specs.Newest.{Spot, IsNewest, HasNewest};
 ghost use Rattle.found_pages.specs.declared.copy.PageCopy.{PageCopy};
 ghost use Rattle.mount_scan.specs.Scanned.{AreNewest};
 
-/// A key has a newest page exactly where the list of the newest pages has a copy of one of it.
+/// A key of a chunk that a tree may look up has a newest page exactly where the list of the newest pages has a copy of one of it.
 pub fn a_page_is_found_for_each_key()
-    ensures { (f : Flash) (list : List PageCopy) (o c : ℕ) → AreNewest f list
+    ensures { (f : Flash) (list : List PageCopy) (o c : ℕ) → c < 2 ^ 32 → AreNewest f list
         → ((s : Spot) × IsNewest f o c s) ↔ ((x : PageCopy) × Contains list x × (x.object ≡ o) × (x.chunk ≡ c)) }
 {}
 
-/// The newest data of a key are those of its page in the list.
+/// The newest data of such a key are those of its page in the list.
 pub fn a_found_page_has_the_newest_data()
-    ensures { (f : Flash) (list : List PageCopy) (o c : ℕ) (bytes : List ℕ) → AreNewest f list
+    ensures { (f : Flash) (list : List PageCopy) (o c : ℕ) (bytes : List ℕ) → c < 2 ^ 32 → AreNewest f list
         → HasNewest f o c bytes ↔ ((x : PageCopy) × Contains list x × (x.object ≡ o) × (x.chunk ≡ c) × (spare : List ℕ) × (f.page x.block x.page ≡ Written bytes spare)) }
 {}
 

@@ -1,5 +1,5 @@
 -- The tree that was gone through by the entries of a checkpoint.
-use Rattle.std.specs.Prelude.{◌≡◌, ◌↔◌, ◌&&◌, ℕ, Bool, true, List, Option, Some, Result, Ok, Err, IfOk}
+use Rattle.std.specs.Prelude.{◌≡◌, ◌↔◌, ◌&&◌, ◌<◌, ◌^◌, ℕ, Bool, true, List, Option, Some, Result, Ok, Err, IfOk}
 use Rattle.std.proofs.Common.{sym, ◌∙◌, ap, subst, arith}
 use Rattle.nand_model.specs.Flash.{Flash, IsWithin}
 use Rattle.nand_model.specs.Calls.{Device}
@@ -30,7 +30,7 @@ use Rattle.mounting.specs.Tables.{KeepsOnly, IsPruned}
 use Rattle.mounting.specs.Trees.{IsGoneThrough}
 use Rattle.mounting.proofs.Parting.{newest_map, gone_to, covers_to, looked_up, kept_at_newest}
 use Rattle.mounting.proofs.Pruning.{pruned_by}
-use Rattle.mounting.proofs.Shown.{kept_newest}
+use Rattle.mounting.proofs.Shown.{kept_low, kept_newest}
 
 -- what the keys of a tree are
 abbrev pub KeysLaw : Type 0
@@ -59,8 +59,8 @@ module _ (told : Bool) (noted : Option ℕ) (a b : Device) (t u : Table) (x y : 
   kept_is : (b.honest && told) ≡ true → (o c : ℕ) (xs : List ℕ) → m o c ≡ Some xs → HasNewest b.flash o c xs
   kept_is both o c xs is = subst (λ (f : Flash). HasNewest f o c xs) (sym (flash_is both)) (kept_newest a.flash x (opened.newest (was both)) o c xs is)
 
-  all : (b.honest && told) ≡ true → (o c : ℕ) (s : Spot) → keeps_key tree o c ≡ true → IsNewest b.flash o c s → kept_pages x o c ≡ Some (kept_at s)
-  all both o c s stays newest =
+  all : (b.honest && told) ≡ true → (o c : ℕ) (s : Spot) → c < 2 ^ 32 → keeps_key tree o c ≡ true → IsNewest b.flash o c s → kept_pages x o c ≡ Some (kept_at s)
+  all both o c s low stays newest =
       let through = gone (was both) in
       let z : Sizes = sizes_of a.geometry spare in
       let looked = (keys z m tree (sym through.size) through.tree_is.heads o c).0 stays in
@@ -76,7 +76,7 @@ module _ (told : Bool) (noted : Option ℕ) (a b : Device) (t u : Table) (x y : 
       record {
         pages = map.0;
         newest = map.1;
-        through = gone_to m map.0 (λ o c xs is. (map.1 o c xs).1 (kept_is both o c xs is)) b.geometry spare tree
+        through = gone_to m map.0 (λ o c xs is. (map.1 o c xs).1 (kept_is both o c xs is, kept_low a.flash x opened.low o c xs is)) b.geometry spare tree
             (subst (λ (g : Geometry). IsGoneThrough g (has m) spare tree) (sym reads.lasts.geometry) (gone (was both)));
       }
 
@@ -87,7 +87,7 @@ module _ (told : Bool) (noted : Option ℕ) (a b : Device) (t u : Table) (x y : 
   names_read both pages newest =
       let z : Sizes = sizes_of a.geometry spare in
       subst (λ (g : Geometry). CoversTree names (sizes_of g spare) pages tree) (sym reads.lasts.geometry)
-      (covers_to m pages (λ o c xs is. (newest o c xs).1 (kept_is both o c xs is)) z (is_size a.geometry spare) tree (gone (was both)).tree_is names (covers (was both)))
+      (covers_to m pages (λ o c xs is. (newest o c xs).1 (kept_is both o c xs is, kept_low a.flash x opened.low o c xs is)) z (is_size a.geometry spare) tree (gone (was both)).tree_is names (covers (was both)))
 
 -- ---- what is said of a result
 

@@ -1,5 +1,5 @@
 -- What a mount gives.
-use Rattle.std.specs.Prelude.{◌≡◌, ◌↔◌, ◌<◌, ◌≤◌, ◌^◌, ◌/◌, ℕ, ◌+◌, Bool, true, false}
+use Rattle.std.specs.Prelude.{◌≡◌, ◌↔◌, ◌<◌, ◌≤◌, ◌^◌, ◌/◌, ℕ, ◌+◌, Bool, true, false, Some}
 use Rattle.std.proofs.Common.{refl, sym, ◌∙◌, ap, subst, inl, inr, arith}
 use Rattle.std.proofs.lemmas.Bool.{cases_lt, cases_Bool, le-leb}
 use Rattle.nand_model.specs.Calls.{Device}
@@ -10,6 +10,7 @@ use Rattle.posix_profile.specs.WellFormed.{IsForest}
 use Rattle.flash_tree.specs.Newest.{Numbers, AreGreatest}
 use Rattle.flash_tree.specs.Tree.{Shows}
 use Rattle.flash_tree.specs.Mount.{Answers, IsTreeOf, IsVolume, sizes_of}
+use Rattle.chunk_index.specs.declared.form.KeptPage.{KeptPage}
 use Rattle.chunk_index.specs.declared.index.Index.{Index}
 use Rattle.object_pages.specs.Holding.{HoldsObjects}
 use Rattle.object_store.specs.Stores.{CanHave}
@@ -34,7 +35,7 @@ use Rattle.tree_walk.specs.declared.tree.Tree.{Tree}
 use Rattle.mounting.specs.Made.{ArePagesOn, CanBeWritten, CanOnlyBeRead, AreNext, IsMountedWith}
 use Rattle.mounting.specs.Mounted.{IsTreeShown, CoversNewest}
 use Rattle.mounting.proofs.Covering.{IsWithin, objects_within}
-use Rattle.mounting.proofs.Shown.{kept_newest}
+use Rattle.mounting.proofs.Shown.{kept_low, kept_newest}
 
 -- the laws that are used of a tree that is shown
 pub record ShownLaws : Type 0 where
@@ -105,7 +106,7 @@ module _ (d : Device) (x : Index) (n : Numbers) (spare : ℕ) (p : PagesState) (
 
   module _ (laws : ShownLaws) (tree : Tree) (objects : Objects) (honest : d.honest ≡ true) (answers : Answers d.geometry d.flash (IsTreeOf spare objects)) (shown : IsTreeShown d x spare tree objects)
       (table : ObjectTable) (told : Sizes) (same : told ≡ z) (law : TableLaw told tree table) (fit : charge told objects ≤ capacity told)
-      (names : NameIndex) (covers : CoversNewest names d spare tree) (kept : AreKept d.flash (kept_pages x)) where
+      (names : NameIndex) (covers : CoversNewest names d spare tree) (kept : AreKept d.flash (kept_pages x)) (low : (o c : ℕ) (k : KeptPage) → kept_pages x o c ≡ Some k → c < 2 ^ 32) where
     sizes : IsSizes z
     sizes = laws.sizes d shown.on.pages spare shown.on.through.volume
 
@@ -130,7 +131,9 @@ module _ (d : Device) (x : Index) (n : Numbers) (spare : ℕ) (p : PagesState) (
 
     -- what is handed out is what the newest pages have
     within : IsWithin p.present shown.on.pages
-    within o c page at = (shown.on.newest o c page).1 (kept_newest d.flash x kept o c page (sym (pages.present honest o c) ∙ at))
+    within o c page at =
+        let is = sym (pages.present honest o c) ∙ at in
+        (shown.on.newest o c page).1 (kept_newest d.flash x kept o c page is, kept_low d.flash x low o c page is)
 
     named : CoversObjects names (volume_of p) p.present objects
     named = subst (λ (k : Sizes). CoversObjects names k p.present objects) (sym volume_is)

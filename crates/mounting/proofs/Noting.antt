@@ -66,6 +66,7 @@ module _ (d : Device) (t : Table) (x : Index) (n : Numbers) (b : ℕ) (opened : 
     shown = opened.shown;
     unbuffered = opened.unbuffered;
     within = opened.within;
+    low = opened.low;
     newest = opened.newest;
     numbers = opened.numbers;
     ready = λ left.
@@ -118,10 +119,10 @@ module _ (g : Geometry) (flash : Flash) (c : Checkpoint) (right : IsRight g flas
   single = one_newest flash
 
   volume_is : IsVolume g n spare
-  volume_is = record { fields = volume.fields; has = ((newest _ 0 _).0 volume.has.0, volume.has.1); kind = volume.kind; spare_is = volume.spare_is; room = volume.room }
+  volume_is = record { fields = volume.fields; has = (((newest _ 0 _).0 volume.has.0).0, volume.has.1); kind = volume.kind; spare_is = volume.spare_is; room = volume.room }
 
   shows_is : Shows z n objects
-  shows_is = footprint_law z (has m) n objects (λ o k bytes foot at. (newest o k bytes).0 at) shows
+  shows_is = footprint_law z (has m) n objects (λ o k bytes foot at. ((newest o k bytes).0 at).0) shows
 
   spare_is : right.tree.spare ≡ spare
   spare_is = one_spare g n single right.tree.spare spare right.tree.volume volume_is
@@ -134,7 +135,7 @@ module _ (g : Geometry) (flash : Flash) (c : Checkpoint) (right : IsRight g flas
   -- the newest page of a key that is looked up lies in another block
   pub lies_apart : (o k : ℕ) (s : Spot) → InFootprint z (has m) objects o k → IsNewest flash o k s → s.block ≢ c.block
   lies_apart o k s foot at same =
-      let here : InFootprint z n objects o k = record { object = foot.object; there = foot.there; fields = foot.fields; has = ((newest o 0 _).0 foot.has.0, foot.has.1); looks = foot.looks } in
+      let here : InFootprint z n objects o k = record { object = foot.object; there = foot.there; fields = foot.fields; has = (((newest o 0 _).0 foot.has.0).0, foot.has.1); looks = foot.looks } in
       let there : InFootprint (sizes_of g right.tree.spare) n right.tree.objects o k =
       subst (λ q. InFootprint (sizes_of g q) n right.tree.objects o k) (sym spare_is) (subst (λ (q : Objects). InFootprint z n q o k) (sym objects_are) here) in
       let (e, listed, object, chunk) = right.tree.all o k there in

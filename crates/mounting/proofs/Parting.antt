@@ -1,7 +1,8 @@
 -- What was gone through in a part of the newest pages was gone through in all of them.
-use Rattle.std.specs.Prelude.{◌≡◌, ◌⊎◌, ◌↔◌, ◌<◌, ℕ, zero, suc, List, Option, Some, None}
+use Rattle.std.specs.Prelude.{◌≡◌, ◌⊎◌, ◌↔◌, ◌<◌, ◌≤◌, ◌^◌, ℕ, zero, suc, List, Option, Some, None}
 use Rattle.std.specs.Option.{option_and_then}
 use Rattle.std.proofs.Common.{refl, sym, ◌∙◌, ap, subst, inl, inr, arith}
+use Rattle.std.proofs.lemmas.Bool.{cases_lt}
 use Rattle.nand_model.specs.Flash.{Flash, IsWithin}
 use Rattle.nand_model.specs.declared.geometry.Geometry.{Geometry}
 use Rattle.page_tags.specs.Headers.{Fields, header_bytes, is_present}
@@ -48,11 +49,20 @@ data_exact flash o c (inl (bytes, newest)) xs =
     (λ is. let same : bytes ≡ xs = cc in subst (HasNewest flash o c) same newest, λ other. ap Some (one_newest flash o c bytes xs newest other))
 data_exact flash o c (inr none) xs = (λ is. absurd cc, λ newest. absurd (none xs newest))
 
+-- of a chunk that a tree may look up, and of no other
+abbrev low_told : (flash : Flash) (o c : ℕ) → (c < 2 ^ 32) ⊎ (2 ^ 32 ≤ c) → IsToldOf flash o c → Option (List ℕ)
+low_told flash o c (inl low) told = data_told flash o c told
+low_told flash o c (inr high) told = None
+
+low_exact : (flash : Flash) (o c : ℕ) (at : (c < 2 ^ 32) ⊎ (2 ^ 32 ≤ c)) (told : IsToldOf flash o c) (xs : List ℕ) → (low_told flash o c at told ≡ Some xs) ↔ (HasNewest flash o c xs × (c < 2 ^ 32))
+low_exact flash o c (inl low) told xs = (λ is. ((data_exact flash o c told xs).0 is, low), λ (newest, also). (data_exact flash o c told xs).1 newest)
+low_exact flash o c (inr high) told xs = (λ is. absurd cc, λ (newest, low). absurd (omega (arith, low, high)))
+
 -- each flash of some size has one
 pub newest_map : (g : Geometry) (flash : Flash) → IsWithin g.pages g.blocks flash → (m : PageMap) × IsNewestMap flash m
 newest_map g flash within = (
-  λ o c. data_told flash o c (data_or_none flash o c g.pages g.blocks within),
-  λ o c xs. data_exact flash o c (data_or_none flash o c g.pages g.blocks within) xs,
+  λ o c. low_told flash o c (cases_lt c (2 ^ 32)) (data_or_none flash o c g.pages g.blocks within),
+  λ o c xs. low_exact flash o c (cases_lt c (2 ^ 32)) (data_or_none flash o c g.pages g.blocks within) xs,
 )
 
 -- a map has one page of a key

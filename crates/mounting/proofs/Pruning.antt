@@ -1,5 +1,5 @@
 -- The tables once all pages but those of some keys are forgotten.
-use Rattle.std.specs.Prelude.{◌≡◌, ◌<◌, ◌≤◌, ℕ, Bool, true, false, length, Option, Some, None, slice_get}
+use Rattle.std.specs.Prelude.{◌≡◌, ◌<◌, ◌≤◌, ◌^◌, ℕ, Bool, true, false, length, Option, Some, None, slice_get}
 use Rattle.std.proofs.Common.{sym, ◌∙◌, ap, subst, inl, inr, arith}
 use Rattle.std.proofs.lemmas.Bool.{cases_Bool}
 use Rattle.volume_terms.specs.laws.List.{slice_get_there}
@@ -122,6 +122,7 @@ module _ (keeps : ℕ → ℕ → Bool) (noted : Option ℕ) (a b : Device) (t u
     shown = shown;
     unbuffered = unbuffered;
     within = λ o c p is. subst (λ (g : Geometry). (p.block < g.blocks) × (p.page < g.pages)) (sym reads.lasts.geometry) (opened.within o c p (was_kept o c p is));
+    low = λ o c p is. opened.low o c p (was_kept o c p is);
     newest = λ honest o c p is. subst (λ (f : Flash). IsKeptAt f o c p) (sym (flash_is honest)) (opened.newest (was_honest honest) o c p (was_kept o c p is));
     numbers = λ honest. subst (λ (f : Flash). AreGreatest f n) (sym (flash_is honest)) (opened.numbers (was_honest honest));
     ready = ready;
@@ -135,19 +136,19 @@ as_noted : (noted : Option ℕ) (d : Device) (t : Table) (x : Index) (n : Number
 as_noted noted d t x n opened = subst (λ k. IsOpenedBy k d t x n) (sym opened.noted) opened
 
 pub pruned_by : (keeps : ℕ → ℕ → Bool) (noted : Option ℕ) (d : Device) (t : Table) (x y : Index) (n : Numbers) → IsOpenedBy noted d t y n → KeepsOnly keeps x y
-    → (d.honest ≡ true → (o c : ℕ) (s : Spot) → keeps o c ≡ true → IsNewest d.flash o c s → kept_pages x o c ≡ Some (kept_at s)) → IsPruned keeps d t y n
+    → (d.honest ≡ true → (o c : ℕ) (s : Spot) → c < 2 ^ 32 → keeps o c ≡ true → IsNewest d.flash o c s → kept_pages x o c ≡ Some (kept_at s)) → IsPruned keeps d t y n
 pruned_by keeps noted d t x y n opened only all = record {
   tables = as_noted noted d t y n opened;
-  all = λ honest o c s stays newest. only.same o c stays ∙ all honest o c s stays newest;
+  all = λ honest o c s low stays newest. only.same o c stays ∙ all honest o c s low stays newest;
   others = only.none;
 }
 
 -- after a scan of which the index kept all
 pub scan_pruned : (keeps : ℕ → ℕ → Bool) (a b : Device) (t u : Table) (x y : Index) (n : Numbers) → OnlyReads a b → IsOpened a t x n → IsOpenedBy None b u y n → KeepsOnly keeps x y → IsPruned keeps b u y n
 scan_pruned keeps a b t u x y n reads scanned opened only = pruned_by keeps None b u x y n opened only
-    (λ honest o c s stays newest.
+    (λ honest o c s low stays newest.
     let was : a.honest ≡ true = sym reads.lasts.honest ∙ honest in
-    scanned.all was o c s (subst (λ (f : Flash). IsNewest f o c s) (same_flash a b reads was) newest))
+    scanned.all was o c s low (subst (λ (f : Flash). IsNewest f o c s) (same_flash a b reads was) newest))
 
 -- the lists of the keys that are kept in a block are whole
 pub record ListsAreWhole : Type 0 where

@@ -1,5 +1,5 @@
 -- The tree that a device shows, and what a mount answers of it.
-use Rattle.std.specs.Prelude.{◌≡◌, ◌↔◌, ◌<◌, ◌≤◌, ℕ, ◌+◌, Bool, true, false, List, [], ◌∷◌, Option, Some, None}
+use Rattle.std.specs.Prelude.{◌≡◌, ◌↔◌, ◌<◌, ◌≤◌, ◌^◌, ℕ, ◌+◌, Bool, true, false, List, [], ◌∷◌, Option, Some, None}
 use Rattle.std.specs.Option.{option_and_then}
 use Rattle.std.proofs.Common.{refl, sym, ◌∙◌, ap, inl, inr, arith}
 use Rattle.std.proofs.lemmas.Bool.{cases_lt}
@@ -16,6 +16,7 @@ use Rattle.flash_tree.specs.Mount.{Wholly, GoesThrough, NamesTwice, Answers, IsW
 use Rattle.block_state.specs.Kept.{bad_count, unkept_count}
 use Rattle.block_state.specs.Table.{Table}
 use Rattle.chunk_index.specs.Free.{HasMarks}
+use Rattle.pages.specs.laws.Low.{looked_low}
 use Rattle.chunk_index.specs.Maps.{KeptMap, kept_pages, CountsAgree}
 use Rattle.chunk_index.specs.declared.form.KeptPage.{KeptPage}
 use Rattle.chunk_index.specs.declared.index.Index.{Index}
@@ -80,6 +81,14 @@ from_kept : (flash : Flash) (o c : ℕ) (xs : List ℕ) (m : Option KeptPage) �
 from_kept flash o c xs None kept is = absurd cc
 from_kept flash o c xs (Some k) kept is = newest_of flash o c xs k (kept k refl) is
 
+-- and its chunk is one that a tree may look up
+low_from : (flash : Flash) (o c : ℕ) (xs : List ℕ) (m : Option KeptPage) → ((k : KeptPage) → m ≡ Some k → c < 2 ^ 32) → option_and_then (data_at flash) m ≡ Some xs → c < 2 ^ 32
+low_from flash o c xs None low is = absurd cc
+low_from flash o c xs (Some k) low is = low k refl
+
+pub kept_low : (flash : Flash) (x : Index) → ((o c : ℕ) (p : KeptPage) → kept_pages x o c ≡ Some p → c < 2 ^ 32) → (o c : ℕ) (xs : List ℕ) → kept_data x flash o c ≡ Some xs → c < 2 ^ 32
+kept_low flash x low o c xs is = low_from flash o c xs (kept_pages x o c) (low o c) is
+
 -- what is kept is the newest
 pub kept_newest : (flash : Flash) (x : Index) → AreKept flash (kept_pages x) → Carries flash (kept_data x flash)
 kept_newest flash x kept o c xs is = from_kept flash o c xs (kept_pages x o c) (kept o c) is
@@ -97,14 +106,14 @@ module _ (laws : TreeLaws) (d : Device) (t : Table) (x : Index) (n : Numbers) (s
   stays o c keeps = go (m o c) (kept_data x d.flash o c) refl refl where
     held : (xs : List ℕ) → m o c ≡ Some xs → kept_data x d.flash o c ≡ Some xs
     held xs is =
-        let newest = (on.newest o c xs).0 is in
-        ap (option_and_then (data_at d.flash)) (pruned.all honest o c newest.spot keeps newest.newest) ∙ ap data_of newest.stored
+        let (newest, low) = (on.newest o c xs).0 is in
+        ap (option_and_then (data_at d.flash)) (pruned.all honest o c newest.spot low keeps newest.newest) ∙ ap data_of newest.stored
 
     go : (a b : Option (List ℕ)) → m o c ≡ a → kept_data x d.flash o c ≡ b → kept_data x d.flash o c ≡ m o c
     go (Some xs) b is told = held xs is ∙ sym is
     go None None is told = told ∙ sym is
     go None (Some ys) is told =
-        let there : m o c ≡ Some ys = (on.newest o c ys).1 (kept_newest d.flash x (pruned.tables.newest honest) o c ys told) in
+        let there : m o c ≡ Some ys = (on.newest o c ys).1 (kept_newest d.flash x (pruned.tables.newest honest) o c ys told, kept_low d.flash x pruned.tables.low o c ys told) in
         let two : None ≡ Some ys = sym is ∙ there in
         absurd cc
 
@@ -126,8 +135,15 @@ module _ (laws : TreeLaws) (d : Device) (t : Table) (x : Index) (n : Numbers) (s
     pub holds : HoldsObjects z (kept_data x d.flash) objects
     holds = laws.holds d.geometry spare m (kept_data x d.flash) objects on.through.volume shown (laws.part z m (kept_data x d.flash) objects (keeps_key tree) footprint stays goes)
 
+    -- a key that stays is of a chunk that a tree may look up
+    low : (o c : ℕ) → keeps_key tree o c ≡ true → c < 2 ^ 32
+    low o c keeps =
+        let foot = (footprint o c).0 keeps in
+        let least = d.geometry.least_bytes in
+        looked_low z (record { least = omega (arith, least); most = d.geometry.most_bytes }) foot.fields c foot.has.1 foot.looks
+
     only : KeepsOnlyTree d.flash z m objects (kept_pages x)
-    only = laws.kept d.flash z m objects (keeps_key tree) (kept_pages x) footprint lies (λ o c s keeps newest. (kept_at s, pruned.all honest o c s keeps newest)) pruned.others
+    only = laws.kept d.flash z m objects (keeps_key tree) (kept_pages x) footprint lies (λ o c s keeps newest. (kept_at s, pruned.all honest o c s (low o c keeps) keeps newest)) pruned.others
 
     counts : CountsAgree (marked d.flash t) x
     counts = record { counts = pruned.tables.counts.counts; within = pruned.tables.counts.within }

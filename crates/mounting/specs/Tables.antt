@@ -1,6 +1,6 @@
 -- The tables of a device that is mounted: the newest pages of a tree are kept, and nothing else.
 -- From: this project.
-use Rattle.std.specs.Prelude.{◌≡◌, ℕ, Bool, true, false, Some, None}
+use Rattle.std.specs.Prelude.{◌≡◌, ◌<◌, ◌^◌, ℕ, Bool, true, false, Some, None}
 use Rattle.nand_model.specs.Calls.{Device}
 use Rattle.flash_tree.specs.Newest.{Spot, IsNewest, Numbers}
 use Rattle.block_state.specs.Table.{Table}
@@ -14,8 +14,8 @@ pub record KeepsOnly (keeps : ℕ → ℕ → Bool) (old new : Index) : Type 0 w
   pub none : (o c : ℕ) → keeps o c ≡ false → kept_pages new o c ≡ None
 
 -- The tables are those of a device that was opened, by a checkpoint in the block that is noted or, with none noted, by a scan. Of an
--- honest device the newest pages of some keys are kept, and nothing else.
+-- honest device the newest pages of some keys are kept, of chunks that a tree may look up, and nothing else.
 pub record IsPruned (keeps : ℕ → ℕ → Bool) (device : Device) (t : Table) (x : Index) (n : Numbers) : Type 0 where
   pub tables : IsOpenedBy t.checkpoint device t x n
-  pub all : device.honest ≡ true → (o c : ℕ) (s : Spot) → keeps o c ≡ true → IsNewest device.flash o c s → kept_pages x o c ≡ Some (kept_at s)
+  pub all : device.honest ≡ true → (o c : ℕ) (s : Spot) → c < 2 ^ 32 → keeps o c ≡ true → IsNewest device.flash o c s → kept_pages x o c ≡ Some (kept_at s)
   pub others : (o c : ℕ) → keeps o c ≡ false → kept_pages x o c ≡ None

@@ -1,5 +1,5 @@
 -- The data of pages that are newest.
-use Rattle.std.specs.Prelude.{◌≡◌, ◌↔◌, ℕ, true, List, Option, Some, None, IsSome}
+use Rattle.std.specs.Prelude.{◌≡◌, ◌↔◌, ◌<◌, ◌^◌, ℕ, true, List, Option, Some, None, IsSome}
 use Rattle.std.specs.Option.{option_and_then}
 use Rattle.std.proofs.Common.{refl, sym, ◌∙◌, ap, subst}
 use Rattle.nand_model.specs.Flash.{Flash, Written}
@@ -35,10 +35,15 @@ from_kept : (flash : Flash) (o c : ℕ) (xs : List ℕ) (m : Option KeptPage) �
 from_kept flash o c xs None kept is = absurd cc
 from_kept flash o c xs (Some k) kept is = newest_of flash o c xs k (kept k refl) is
 
+-- what is kept is of a chunk that a tree may look up
+low_kept : (flash : Flash) (o c : ℕ) (xs : List ℕ) (m : Option KeptPage) → ((k : KeptPage) → m ≡ Some k → c < 2 ^ 32) → option_and_then (data_at flash) m ≡ Some xs → c < 2 ^ 32
+low_kept flash o c xs None low is = absurd cc
+low_kept flash o c xs (Some k) low is = low k refl
+
 pub are_newest : (d : Device) (t : Table) (x : Index) (n : Numbers) → IsOpened d t x n → d.honest ≡ true
-    → (o c : ℕ) (xs : List ℕ) → (kept_data x d.flash o c ≡ Some xs) ↔ HasNewest d.flash o c xs
+    → (o c : ℕ) (xs : List ℕ) → (kept_data x d.flash o c ≡ Some xs) ↔ (HasNewest d.flash o c xs × (c < 2 ^ 32))
 are_newest d t x n opened honest o c xs = (
-  from_kept d.flash o c xs (kept_pages x o c) (opened.tables.newest honest o c),
-  λ has.
-      ap (option_and_then (data_at d.flash)) (opened.all honest o c has.spot has.newest) ∙ ap data_of has.stored,
+  λ is. (from_kept d.flash o c xs (kept_pages x o c) (opened.tables.newest honest o c) is, low_kept d.flash o c xs (kept_pages x o c) (opened.tables.low o c) is),
+  λ (has, low).
+      ap (option_and_then (data_at d.flash)) (opened.all honest o c has.spot low has.newest) ∙ ap data_of has.stored,
 )

@@ -16,7 +16,7 @@ use Rattle.flash_tree.specs.laws.Telling.{AreNewestAt}
 use Rattle.block_state.specs.Table.{Table, is_free}
 use Rattle.trusted_nand.specs.Trusting.{trusted_as}
 use Rattle.trusted_nand.specs.laws.Trusted.{honest_of, trusted_of}
-use Rattle.chunk_index.specs.Adding.{entry_key, AreInPages, AreWithin}
+use Rattle.chunk_index.specs.Adding.{entry_key, AreInPages, AreLow, AreWithin}
 use Rattle.chunk_index.specs.Counts.{Recounts}
 use Rattle.chunk_index.specs.Entries.{as_kept}
 use Rattle.chunk_index.specs.Kept.{HoldsNone, IsListOf, KeyRises}
@@ -78,6 +78,11 @@ keys_in_pages d c g placed same i k at =
     let lies : one.0.page < d.geometry.pages = (placed i one.0 one.1).page in
     subst (λ (f : KeptKey). f.at.page < g.pages) one.2 (subst (λ (h : Geometry). one.0.page < h.pages) (sym same) lies)
 
+pub keys_low : (d : Device) (c : Checkpoint) → MayAllBeKept d c → AreLow (map entry_key c.entries)
+keys_low d c placed i k at =
+    let one = mapped_from entry_key c.entries i k at in
+    subst (λ (f : KeptKey). f.key.chunk < 2 ^ 32) one.2 (placed i one.0 one.1).low
+
 -- ---- what is kept
 
 module _ (d : Device) (c : Checkpoint) (x : Index) (form : HasForm d c) (placed : MayAllBeKept d c) (list : IsListOf (kept_pages x) (map entry_key c.entries)) where
@@ -95,6 +100,14 @@ module _ (d : Device) (c : Checkpoint) (x : Index) (form : HasForm d c) (placed 
       let block : e.block ≡ p.block = ap (λ (y : KeptKey). y.at.block) same in
       let page : e.page ≡ p.page = ap (λ (y : KeptKey). y.at.page) same in
       (omega (arith, may.block, block), omega (arith, may.page, page))
+
+  -- of a chunk that a tree may look up
+  pub lies_low : (o k : ℕ) (p : KeptPage) → kept_pages x o k ≡ Some p → k < 2 ^ 32
+  lies_low o k p is =
+      let (i, e, at, same) = told_by o k p is in
+      let low = (placed i e at).low in
+      let chunk : e.chunk ≡ k = ap (λ (y : KeptKey). y.key.chunk) same in
+      omega (arith, low, chunk)
 
   -- none of them in the block of the checkpoint
   pub none_there : HoldsNone (kept_pages x) c.block
@@ -210,6 +223,7 @@ module _ (d : Device) (c : Checkpoint) (t0 t1 t2 t3 : Table) (x : Index) (form :
     shown = shown;
     unbuffered = not_buffered x shown;
     within = lies_within d c x form placed list;
+    low = lies_low d c x form placed list;
     newest = λ both. are_newest d c x form placed list d.flash (said both).newest;
     numbers = λ both. greatest_at d.geometry d.flash c (whole (honest_of d.honest told both)) (said both).above;
     ready = λ left.

@@ -182,6 +182,16 @@ module _ (list : List PageCopy) (x : Index) (indexes : Indexes list (length list
       let placed = subst (λ (g : PageCopy). (g.block < d.geometry.blocks) × (g.page < d.geometry.pages)) at (tells.placed was.0 f (slice_get_within list was.0 f was.2)) in
       subst (λ (q : KeptPage). (q.block < d.geometry.blocks) × (q.page < d.geometry.pages)) was.4 placed
 
+  -- its chunk is one that a tree may look up
+  pub lies_low : (d : Device) → TellsNewest d list → (o c : ℕ) (p : KeptPage) → kept_pages x o c ≡ Some p → c < 2 ^ 32
+  lies_low d tells o c p kept =
+      let was = was_found o c p kept in
+      let f : PageCopy = was.1 in
+      let at : (get_or list was.0 f) ≡ f = get_or_from_slice_get list was.0 f f was.2 in
+      let of : IsFoundOf o c f = was.3 in
+      let low = subst (λ (g : PageCopy). g.chunk < 2 ^ 32) at (tells.low was.0 f (slice_get_within list was.0 f was.2)) in
+      subst (λ k. k < 2 ^ 32) of.1 low
+
   -- and may be copied
   pub may_lie : (d : Device) (t : Table) (n : Numbers) → TellsNewest d list → t.geometry ≡ d.geometry → HaveNames n.group list → n.group ≤ t.next_group
       → (o c : ℕ) (p : KeptPage) → kept_pages x o c ≡ Some p → MayLie t o c p
@@ -213,9 +223,9 @@ module _ (list : List PageCopy) (x : Index) (indexes : Indexes list (length list
       subst (λ (q : KeptPage). IsKeptAt d.flash o c q) (ap page_of is.copied ∙ was.4) (record { tag = is.spot.tag; newest = there; version = refl })
 
   -- and each newest page is kept
-  pub all_kept : (d : Device) → TellsNewest d list → d.honest ≡ true → (o c : ℕ) (s : Spot) → IsNewest d.flash o c s → kept_pages x o c ≡ Some (kept_at s)
-  all_kept d tells honest o c s newest =
-      let has = (tells.exact honest).each o c s newest in
+  pub all_kept : (d : Device) → TellsNewest d list → d.honest ≡ true → (o c : ℕ) (s : Spot) → c < 2 ^ 32 → IsNewest d.flash o c s → kept_pages x o c ≡ Some (kept_at s)
+  all_kept d tells honest o c s low newest =
+      let has = (tells.exact honest).each o c s low newest in
       let at : slice_get list has.0 ≡ Some (copy_at s) = subst (λ y. slice_get list has.0 ≡ Some y) has.2 (slice_get-get_or list has.0 (copy_at s) has.1) in
       let here = kept_found has.0 (copy_at s) at in
       sym (ap (λ k. kept_pages x k s.tag.chunk) newest.holds.object ∙ ap (kept_pages x o) newest.holds.chunk) ∙ here
@@ -259,8 +269,8 @@ has_its_seq d list n t t' b tells honest greatest next none (inl has) =
       has.seq_is ∙ sym (ap (λ (y : PageCopy). y.seq) is.copied),
     )
 has_its_seq d list n t t' b tells honest greatest next none (inr is) = inl (
-  (λ o c s newest here.
-      let has = (tells.exact honest).each o c s newest in
+  (λ o c s low newest here.
+      let has = (tells.exact honest).each o c s low newest in
       let at : slice_get list has.0 ≡ Some (copy_at s) = subst (λ y. slice_get list has.0 ≡ Some y) has.2 (slice_get-get_or list has.0 (copy_at s) has.1) in
       let above : t.next_seq ≤ s.tag.seq = is.1 has.0 (copy_at s) has.1 at here in
       let held = newest.holds in
@@ -283,6 +293,7 @@ counted_seq d t t' before after b recounts (inr is) = inr (is.0, is.1, is.2, is.
 pub tells_read : (a b : Device) (list : List PageCopy) → OnlyReads a b → TellsNewest a list → TellsNewest b list
 tells_read a b list reads tells = record {
   placed = subst (λ (g : Geometry). (k : ℕ) (d : PageCopy) → k < length list → ((get_or list k d).block < g.blocks) × ((get_or list k d).page < g.pages)) (sym reads.lasts.geometry) tells.placed;
+  low = tells.low;
   order = tells.order;
   exact = λ honest.
       let before : a.honest ≡ true = sym reads.lasts.honest ∙ honest in
@@ -308,6 +319,7 @@ opened d list x t t' n tells greatest names is seqs indexes counts recounts = re
     shown = is_shown list x indexes;
     unbuffered = not_buffered list x indexes;
     within = lies_within list x indexes d tells;
+    low = lies_low list x indexes d tells;
     newest = are_kept list x indexes d tells;
     numbers = greatest;
     ready = λ left.

@@ -21,6 +21,7 @@ use Rattle.block_state.specs.TableOf.{table}
 use Rattle.chunk_index.specs.Adding.{entry_key}
 use Rattle.chunk_index.specs.Counts.{Recounts}
 use Rattle.chunk_index.specs.Kept.{IsListOf}
+use Rattle.pages.specs.laws.Low.{looked_low}
 use Rattle.chunk_index.specs.Maps.{kept_pages, kept_in}
 use Rattle.chunk_index.specs.declared.form.KeptKey.{KeptKey}
 use Rattle.chunk_index.specs.declared.form.KeptPage.{KeptPage}
@@ -70,6 +71,7 @@ module _ (d : Device) (c : Checkpoint) (honest : d.honest ≡ true) (whole : IsW
         good = ap d.flash.bad block ∙ good;
         apart = right.apart e has;
         object = (object.numbered, below);
+        low = looked_low (sizes_of d.geometry right.tree.spare) (record { least = let least = d.geometry.least_bytes in omega (arith, least); most = d.geometry.most_bytes }) foot.fields e.chunk foot.has.1 foot.looks;
         version = (omega (arith, held.has.valid.version, version), omega (arith, most, version));
       }
 

@@ -1,6 +1,6 @@
 -- The tables of a device by the entries of a checkpoint.
 -- From: this project.
-use Rattle.std.specs.Prelude.{◌≡◌, ◌≢◌, ◌<◌, ◌≤◌, ℕ, Bool, true, false, Some, slice_get}
+use Rattle.std.specs.Prelude.{◌≡◌, ◌≢◌, ◌<◌, ◌≤◌, ◌^◌, ℕ, Bool, true, false, Some, slice_get}
 use Rattle.nand_model.specs.Calls.{Device}
 use Rattle.nand_model.specs.Flash.{Flash}
 use Rattle.page_tags.specs.declared.check.CheckEntry.{CheckEntry}
@@ -27,13 +27,14 @@ abbrev pub numbers_at : Checkpoint → Numbers
 numbers_at c = record { version = c.number; group = c.number; seq = c.seq }
 
 -- The entry of a checkpoint may tell of a kept page: its place is on the device, in a good block that is not the checkpoint's, its
--- object may be one of a tree, and its version is none of a later group.
+-- object may be one of a tree, its chunk one that a tree may look up, and its version is none of a later group.
 pub record MayBeKept (device : Device) (c : Checkpoint) (e : CheckEntry) : Type 0 where
   pub block : e.block < device.geometry.blocks
   pub page : e.page < device.geometry.pages
   pub good : device.flash.bad e.block ≡ false
   pub apart : e.block ≢ c.block
   pub object : IsObjectNumber e.object
+  pub low : e.chunk < 2 ^ 32
   pub version : (1 ≤ e.version) × (e.version ≤ c.number)
 
 -- each entry may

@@ -1,6 +1,6 @@
 -- The tables of a device that was scanned.
 -- From: this project.
-use Rattle.std.specs.Prelude.{◌≡◌, ◌≢◌, ◌⊎◌, ◌<◌, ◌≤◌, ℕ, ◌+◌, true, false, List, Option, Some, None, slice_get}
+use Rattle.std.specs.Prelude.{◌≡◌, ◌≢◌, ◌⊎◌, ◌<◌, ◌≤◌, ◌^◌, ℕ, ◌+◌, true, false, List, Option, Some, None, slice_get}
 use Rattle.volume_terms.specs.Sizes.{number_end}
 use Rattle.nand_model.specs.Flash.{Flash}
 use Rattle.nand_model.specs.Calls.{Device}
@@ -90,14 +90,14 @@ AreNotBelow list n b next = (i : ℕ) (f : PageCopy) → i < n → slice_get lis
 abbrev pub NotesSeq : List PageCopy → (n : ℕ) → Table → Table → ℕ → Type 0
 NotesSeq list n old new b = HasSeqOf list n b (new.entry b).seq ⊎ (((new.entry b).seq ≡ (old.entry b).seq) × AreNotBelow list n b old.next_seq)
 
--- no newest page lies in block b, and its number is that of a block that was not taken; or its number is the seq of one
+-- no newest page of a chunk that a tree may look up lies in block b, and its number is that of a block that was not taken; or its number is the seq of one
 -- that does
 abbrev pub HasItsSeq : Flash → Table → ℕ → Type 0
-HasItsSeq flash t b = (((o c : ℕ) (s : Spot) → IsNewest flash o c s → s.block ≢ b) × ((t.entry b).seq ≡ 0))
+HasItsSeq flash t b = (((o c : ℕ) (s : Spot) → c < 2 ^ 32 → IsNewest flash o c s → s.block ≢ b) × ((t.entry b).seq ≡ 0))
     ⊎ ((o : ℕ) × (c : ℕ) × (s : Spot) × IsNewest flash o c s × (s.block ≡ b) × ((t.entry b).seq ≡ s.tag.seq))
 
--- The tables of a device, by a checkpoint in this block or, with none, by a scan. What is kept is on the device, and is present, and no
--- page of it lies in that block; no block is open, and no good one is marked; the counts of blocks are those of the index. On an honest
+-- The tables of a device, by a checkpoint in this block or, with none, by a scan. What is kept is on the device, of a chunk that a tree
+-- may look up, and is present, and no page of it lies in that block; no block is open, and no good one is marked; the counts of blocks are those of the index. On an honest
 -- device each kept page is the newest of its key, and the numbers are the greatest. Where there are numbers left, groups can be
 -- written: the next numbers are one above these, and each kept page may be copied.
 pub record IsOpenedBy (checkpoint : Option ℕ) (device : Device) (t : Table) (x : Index) (n : Numbers) : Type 0 where
@@ -110,6 +110,7 @@ pub record IsOpenedBy (checkpoint : Option ℕ) (device : Device) (t : Table) (x
   pub shown : (o c : ℕ) → present x o c ≡ as_kept (kept_pages x o c)
   pub unbuffered : IsUnbuffered x
   pub within : (o c : ℕ) (p : KeptPage) → kept_pages x o c ≡ Some p → (p.block < device.geometry.blocks) × (p.page < device.geometry.pages)
+  pub low : (o c : ℕ) (p : KeptPage) → kept_pages x o c ≡ Some p → c < 2 ^ 32
   pub newest : device.honest ≡ true → AreKept device.flash (kept_pages x)
   pub numbers : device.honest ≡ true → AreGreatest device.flash n
   pub ready : AreLeft n → IsReady device t
@@ -117,11 +118,11 @@ pub record IsOpenedBy (checkpoint : Option ℕ) (device : Device) (t : Table) (x
   pub seq : AreLeft n → t.next_seq ≡ n.seq + 1
   pub lie : AreLeft n → (o c : ℕ) (p : KeptPage) → kept_pages x o c ≡ Some p → MayLie t o c p
 
--- The tables of a device by a scan: on an honest one the newest page of each key is kept, with its place and version, and blocks have
+-- The tables of a device by a scan: on an honest one the newest page of each key of a chunk that a tree may look up is kept, with its place and version, and blocks have
 -- the numbers that their pages tell.
 pub record IsOpened (device : Device) (t : Table) (x : Index) (n : Numbers) : Type 0 where
   pub tables : IsOpenedBy None device t x n
-  pub all : device.honest ≡ true → (o c : ℕ) (s : Spot) → IsNewest device.flash o c s → kept_pages x o c ≡ Some (kept_at s)
+  pub all : device.honest ≡ true → (o c : ℕ) (s : Spot) → c < 2 ^ 32 → IsNewest device.flash o c s → kept_pages x o c ≡ Some (kept_at s)
   pub seqs : device.honest ≡ true → AreLeft n → (b : ℕ) → HasItsSeq device.flash t b
 
 -- what a scan's fault is here

@@ -12,6 +12,9 @@ use nand_model::Nand;
 use page_tags::CheckEntry;
 use std::alloc::{AllocError, Global};
 
+/// No tree looks up a page of this chunk, or of a greater one.
+const CHUNK_END: u64 = 4_294_967_296;
+
 /// Whether an entry of a checkpoint may tell of a kept page.
 fn may_be_kept<N: Nand>(device: &N, found: &FoundCheckpoint, entry: &CheckEntry) -> bool
     ensures { IsTrue result ↔ MayBeKept (N.state device.now) (checkpoint_of found.now) entry.now }
@@ -23,7 +26,7 @@ fn may_be_kept<N: Nand>(device: &N, found: &FoundCheckpoint, entry: &CheckEntry)
     if device.is_bad(entry.block) || entry.block == found.block {
         return false;
     }
-    if entry.object < 1 || entry.object >= CHECK_OBJECT {
+    if entry.object < 1 || entry.object >= CHECK_OBJECT || entry.chunk >= CHUNK_END {
         return false;
     }
     entry.version >= 1 && entry.version <= found.number

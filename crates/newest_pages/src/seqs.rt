@@ -25,7 +25,7 @@ fn note_list(list: &[PageCopy], blocks: &mut Blocks)
     ensures notes { (b : ℕ) → NotesSeq list.now (length list.now) (table blocks.old) (table blocks.new) b }
 {
     for found in list {
-        note_one(found.block, found.seq, blocks);
+        note_one(found.block as u32, found.seq, blocks);
     }
 }
 

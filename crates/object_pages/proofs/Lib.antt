@@ -6,3 +6,5 @@ pub mod Holdings
 pub mod Results
 pub mod Wholes
 pub mod Sensible
+pub mod SlotCounts
+pub mod LowPages

@@ -1,10 +1,10 @@
 -- What is known of the objects that a change speaks of.
-use Rattle.std.specs.Prelude.{◌≡◌, ◌≢◌, ◌≤◌, ℕ, Option, Some, None, slice_get}
+use Rattle.std.specs.Prelude.{◌≡◌, ◌≢◌, ◌<◌, ◌≤◌, ◌^◌, ℕ, Option, Some, None, slice_get}
 use Rattle.std.proofs.Common.{refl, sym, ◌∙◌, ap, subst, inl, inr, arith}
 use Rattle.std.specs.Cmp.{nat_cmp_total}
 use Rattle.std.specs.FinMap as map
 use Rattle.volume_terms.specs.Names.{IsName}
-use Rattle.volume_terms.specs.Sizes.{Sizes, root_number}
+use Rattle.volume_terms.specs.Sizes.{Sizes, IsSizes, root_number}
 use Rattle.posix_profile.specs.State.{Object, File, Dir, Objects, IsFile, IsDirectory}
 use Rattle.posix_profile.specs.Changes.{new_number}
 use Rattle.posix_profile.specs.laws.Map.{insert_cases, remove_cases}
@@ -16,12 +16,13 @@ use Rattle.object_store.specs.declared.change.ObjectChange.TheVariants as change
 use Rattle.flash_tree.specs.Slots.{IsSlotNumber}
 use Rattle.flash_tree.specs.Truth.{IsObjectNumber}
 use Rattle.flash_tree.specs.declared.place.FreshPage.{FreshPage}
-use Rattle.pages.specs.Changes.{AreApart}
+use Rattle.pages.specs.Changes.{AreApart, IsTreeKey}
 use Rattle.pages.specs.Maps.{PageMap, changed, IsPageOf}
 use Rattle.pages.specs.laws.Maps.{here}
 use Rattle.pages.specs.declared.change.Change.{Change}
 use Rattle.object_pages.specs.Holding.{HoldsObject, HoldsObjects}
 use Rattle.object_store.specs.Stores.{CanHave}
+use Rattle.object_pages.proofs.LowPages.{held_low}
 
 -- a slot may lead to a file
 pub file_number : (z : Sizes) (objects : Objects) → CanHave z objects → (o : ℕ) → IsFile objects o → IsSlotNumber o
@@ -100,9 +101,22 @@ page_there z m change objects apart holds o c i is = go (map.get objects o) (hol
     go None none = let two : None ≡ Some is.page.bytes.items = sym (none c) ∙ written in absurd cc
     go (Some y) held = (y, λ i. Some y)
 
--- so none is of a number that no object may have
+-- and of a chunk that a tree may look up
+page_low : (z : Sizes) (m : PageMap) (change : Change) (objects : Objects) → IsSizes z → AreApart change.pages.items → HoldsObjects z (changed change m) objects
+    → (o c i : ℕ) → IsPageOf change.pages.items o c i → c < 2 ^ 32
+page_low z m change objects sizes apart holds o c i is = held_low z sizes (changed change m) o c is.page.bytes.items written (map.get objects o) (holds.each o) where
+  written : changed change m o c ≡ Some is.page.bytes.items
+  written =
+      ap (λ k. changed change m k c) (sym is.object) ∙ ap (changed change m is.page.key.object) (sym is.chunk)
+      ∙ here change m apart i is.page is.there
+
+-- so each is of a key that a tree may look up
 pub none_of_others : (z : Sizes) (m : PageMap) (objects : Objects) → CanHave z objects → (change : ObjectChange) → CanMake z objects change → (pages : Change) → AreApart pages.pages.items
-    → HoldsObjects z (changed pages m) (made objects change) → (i : ℕ) (p : FreshPage) → slice_get pages.pages.items i ≡ Some p → (IsObjectNumber p.key.object → ⊥) → ⊥
+    → HoldsObjects z (changed pages m) (made objects change) → (i : ℕ) (p : FreshPage) → slice_get pages.pages.items i ≡ Some p → (IsTreeKey p.key → ⊥) → ⊥
 none_of_others z m objects can change make pages apart holds i p is other =
-    let there = page_there z m pages (made objects change) apart holds p.key.object p.key.chunk i (record { page = p; there = is; object = refl; chunk = refl }) in
-    other (made_numbered z objects can change make.sensible p.key.object there.0 there.1)
+    let of : IsPageOf pages.pages.items p.key.object p.key.chunk i = record { page = p; there = is; object = refl; chunk = refl } in
+    let there = page_there z m pages (made objects change) apart holds p.key.object p.key.chunk i of in
+    other (record {
+      object = made_numbered z objects can change make.sensible p.key.object there.0 there.1;
+      low = page_low z m pages (made objects change) can.numbers apart holds p.key.object p.key.chunk i of;
+    })

@@ -3,10 +3,9 @@ ghost use Rattle.std.specs.Prelude.{◌≡◌, ◌↔◌, ℕ, true, false, IsTr
 ghost use Rattle.volume_terms.specs.Sizes.{Sizes};
 ghost use Rattle.posix_profile.specs.State.{Objects};
 ghost use Rattle.posix_profile.specs.Changes.{new_number};
-ghost use Rattle.flash_tree.specs.Truth.{IsObjectNumber};
 ghost use Rattle.flash_tree.specs.declared.place.FreshPage.{FreshPage};
 ghost use Rattle.object_store.specs.Changes.{made, CanMake};
-ghost use Rattle.pages.specs.Changes.{IsChange, AreOfObjects};
+ghost use Rattle.pages.specs.Changes.{IsChange, IsTreeKey, AreOfTrees};
 ghost use Rattle.pages.specs.Faults.{MayLackMemory, SaysWhyChanging};
 ghost use Rattle.pages.specs.Maps.{changed};
 ghost use Rattle.pages.specs.State.{OnlyFinds, KeepsPower};
@@ -19,26 +18,30 @@ use crate::content::{resize, write};
 use crate::moving::move_name;
 use crate::naming::{create, name};
 use crate::removal::{forget, remove};
-use flash_tree::{CHECK_OBJECT, FreshPage};
+use flash_tree::{CHECK_OBJECT, FreshPage, Key};
 use name_index::NameIndex;
 use object_store::ObjectChange;
 use pages::{Change, PageFault, Pages};
 use std::alloc::Global;
 
-/// Whether an object may have this number: neither 0 nor that of checkpoints.
-fn is_object_number(number: u64) -> bool
-    ensures { IsTrue result ↔ IsObjectNumber number }
+/// No tree looks up a page of this chunk, or of a greater one.
+const CHUNK_END: u64 = 4_294_967_296;
+
+/// Whether a tree may look up the page of a key: its object's number is neither 0 nor that of checkpoints, and its chunk has
+/// 32 bits.
+fn is_tree_key(key: Key) -> bool
+    ensures { IsTrue result ↔ IsTreeKey key }
 {
-    number != 0 && number < CHECK_OBJECT
+    key.object != 0 && key.object < CHECK_OBJECT && key.chunk < CHUNK_END
 }
 
-/// Whether each page is of a number that an object can have.
-fn are_numbered(pages: &[FreshPage]) -> bool
-    ensures numbered { result ≡ true → AreOfObjects pages.now }
-    ensures not { result ≡ false → (i : ℕ) × (p : FreshPage) × (slice_get pages.now i ≡ Some p) × (IsObjectNumber p.key.object → ⊥) }
+/// Whether each page is of a key that a tree may look up.
+fn are_of_trees(pages: &[FreshPage]) -> bool
+    ensures trees { result ≡ true → AreOfTrees pages.now }
+    ensures not { result ≡ false → (i : ℕ) × (p : FreshPage) × (slice_get pages.now i ≡ Some p) × (IsTreeKey p.key → ⊥) }
 {
     for page in pages {
-        if !is_object_number(page.key.object) {
+        if !is_tree_key(page.key) {
             return false;
         }
     }
@@ -58,7 +61,7 @@ pub fn plan<P: Pages>(
     ensures finds { OnlyFinds (P.state pages.old) (P.state pages.new) }
     ensures power { OnOk result (KeepsPower (P.state pages.old) (P.state pages.new)) }
     ensures change { IfOk result (λ it. IsChange it (P.state pages.old).page_bytes (most_pages (P.state pages.old).page_bytes change.now)) }
-    ensures numbered { IfOk result (λ it. AreOfObjects it.pages.items) }
+    ensures trees { IfOk result (λ it. AreOfTrees it.pages.items) }
     ensures makes { (z : Sizes) (objects : Objects) → HoldsNamed names.now (P.state pages.old) z objects → CanMake z objects change.now → new ≡ new_number objects
         → IfOk result (λ it. HoldsObjects z (changed it (P.state pages.old).present) (made objects change.now)) }
     ensures slots { (z : Sizes) (objects : Objects) → HoldsNamed names.now (P.state pages.old) z objects → CanMake z objects change.now
@@ -68,7 +71,7 @@ pub fn plan<P: Pages>(
         → IfErr result (MayLackMemory (P.state pages.new)) }
 {
     let planned = plan_each(names, pages, alloc, change, new)?;
-    if are_numbered(&planned.pages) {
+    if are_of_trees(&planned.pages) {
         Ok(planned)
     } else {
         Err(PageFault::Damaged)

@@ -39,7 +39,7 @@ use Rattle.collector.specs.Making.{HasMore}
 use Rattle.nand_model.specs.Counts.{Costs, ReadsFew}
 use Rattle.commits.specs.Committing.{KeepsOpen, TakesNoBlock, TakesOneBlock}
 use Rattle.objects.specs.Changing.{IsCommitFault, fault_of}
-use Rattle.pages.specs.Changes.{AreOfObjects}
+use Rattle.pages.specs.Changes.{AreOfTrees}
 use Rattle.pages.specs.Stores.{SamePages}
 use Rattle.nand_model.specs.declared.geometry.Geometry.{Geometry}
 use Rattle.collector.specs.Making.{WhyNoRoom}
@@ -138,19 +138,19 @@ zero_lacked : (d : Device) (pages : List FreshPage) → AreNumbered d pages → 
 zero_lacked d pages numbered i p is same = let some' : 1 ≤ p.key.object = (numbered i p is).0 in omega (arith, some', same)
 
 -- so each page of the buffer is of a number that an object may have
-pub objects_changed : (spare : ℕ) (d : Device) (t : Table) (x y : Index) (old new : List FreshPage) (change : Change) (f : Flash) → Stands spare d t x → Buffers x old → AreNumbered d old → AreOfObjects change.pages.items
+pub objects_changed : (spare : ℕ) (d : Device) (t : Table) (x y : Index) (old new : List FreshPage) (change : Change) (f : Flash) → Stands spare d t x → Buffers x old → AreNumbered d old → AreOfTrees change.pages.items
     → Buffers y new → SamePages (present_data y new f) (changed change (present_data x old f)) → AreNumbered d new
 objects_changed spare d t x y old new change f stands before objects writes after is i p there = (some_left, ordinary_left) where
   some_left : 1 ≤ p.key.object
   some_left =
       let ne = lacks_changed 0 x y old new change f (kept_zero spare d t x stands) before (zero_lacked d old objects)
-      (λ j q at same. let some' : 1 ≤ q.key.object = (writes j q at).0 in omega (arith, some', same)) after is i p there in
+      (λ j q at same. let some' : 1 ≤ q.key.object = (writes j q at).object.0 in omega (arith, some', same)) after is i p there in
       omega (arith, ne)
 
   ordinary_left : d.honest ≡ true → p.key.object ≢ check_object
   ordinary_left honest =
       lacks_changed check_object x y old new change f (λ l k at. stands.ordinary honest check_object l k at refl) before (λ j q at. (objects j q at).1 honest)
-      (λ j q at same. let less : q.key.object < check_object = (writes j q at).1 in omega (arith, less, same)) after is i p there
+      (λ j q at same. let less : q.key.object < check_object = (writes j q at).object.1 in omega (arith, less, same)) after is i p there
 
 pub objects_cut : (spare : ℕ) (d : Device) (t : Table) (x y : Index) (old new : List FreshPage) (cuts : List Cut) (f : Flash) → Stands spare d t x → Buffers x old → AreNumbered d old
     → Buffers y new → SamePages (present_data y new f) (without_cuts cuts (present_data x old f)) → AreNumbered d new

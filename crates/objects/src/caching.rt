@@ -1,5 +1,5 @@
 // What a change and a commit do to the cache.
-ghost use Rattle.std.specs.Prelude.{◌≡◌, ◌≤◌, ◌+◌, None, length, OnOk};
+ghost use Rattle.std.specs.Prelude.{◌≡◌, ◌≤◌, ◌+◌, None, false, length, OnOk};
 ghost use Rattle.pages.specs.Maps.{PageMap};
 ghost use Rattle.page_buffer.specs.BufferOf.{buffered, last_written, most_pages, bytes_of_page};
 ghost use Rattle.page_cache.specs.Cached.{cached, held_count, capacity_of, page_bytes_of};
@@ -20,6 +20,7 @@ pub(crate) fn make_places(cache: &mut PageCache, pages: &[FreshPage]) -> Result<
     ensures no_fewer { held_count cache.old ≤ held_count cache.new }
     // Where there is room for all, each gets its place, and nothing of another key goes.
     ensures places { held_count cache.old + length pages.now ≤ capacity_of cache.old → OnOk result (HavePlaces pages.now cache.new × KeepsUnwritten pages.now cache.old cache.new) }
+    ensures lacks { OnOk result (LacksPages pages.now cache.new) }
 {
     for page in pages {
         cache.reserve(page.key)?;
@@ -40,7 +41,7 @@ pub(crate) fn drop_cuts(cache: &mut PageCache, cuts: &[Cut])
 }
 
 /// The pages that the cache has of the keys of these pages go. Places for them stay.
-pub(crate) fn drop_pages(cache: &mut PageCache, pages: &[FreshPage])
+fn drop_pages(cache: &mut PageCache, pages: &[FreshPage])
     ensures sizes { KeepsSizes cache.old cache.new }
     ensures fewer { HasNoMore cache.old cache.new }
     ensures lacks { LacksPages pages.now cache.new }
@@ -49,6 +50,19 @@ pub(crate) fn drop_pages(cache: &mut PageCache, pages: &[FreshPage])
 {
     for page in pages {
         cache.vacate(page.key);
+    }
+}
+
+/// The same, where the cache may have some of them again after a commit. Else it has none, and nothing is looked for.
+pub(crate) fn drop_committed(cache: &mut PageCache, pages: &[FreshPage], is_committed: bool)
+    requires { is_committed ≡ false → LacksPages pages.now cache.old }
+    ensures sizes { KeepsSizes cache.old cache.new }
+    ensures fewer { HasNoMore cache.old cache.new }
+    ensures lacks { LacksPages pages.now cache.new }
+    ensures places { KeepsKeys cache.old cache.new }
+{
+    if is_committed {
+        drop_pages(cache, pages);
     }
 }
 

@@ -1,5 +1,5 @@
 // The change of a store's pages.
-ghost use Rattle.std.specs.Prelude.{◌≡◌, ◌≤◌, ◌+◌, ◌*◌, ◌/◌, ◌⊎◌, ℕ, length, true, false, OnOk, IfErr, OnErr, IsErrOf};
+ghost use Rattle.std.specs.Prelude.{◌≡◌, ◌≤◌, ◌+◌, ◌*◌, ◌/◌, ◌⊎◌, ℕ, length, true, false, OnOk, IfOk, IfErr, OnErr, IsErrOf};
 ghost use Rattle.page_cache.specs.Cached.{held_count, capacity_of};
 ghost use Rattle.nand_model.specs.Calls.{Lasts};
 ghost use Rattle.block_state.specs.TableOf.{table};
@@ -8,7 +8,7 @@ ghost use Rattle.transactions.specs.Handing.{HandsOut};
 ghost use Rattle.nand_model.specs.Counts.{Costs, ReadsFew, unfinished};
 ghost use Rattle.bad_blocks.specs.Moving.{AnswersFailures, MarksFailures};
 ghost use Rattle.commits.specs.Committing.{KeepsOpen, TakesNoBlock, TakesOneBlock};
-ghost use Rattle.pages.specs.Changes.{AreApart, AreSized, AreOfObjects};
+ghost use Rattle.pages.specs.Changes.{AreApart, AreSized, AreOfTrees};
 ghost use Rattle.pages.specs.Maps.{changed};
 ghost use Rattle.page_buffer.specs.BufferOf.{buffered, most_pages, bytes_of_page};
 ghost use Rattle.page_buffer.specs.Buffering.{ArePrepared, AreReady, with_new, AreBuffered};
@@ -19,7 +19,7 @@ ghost use Rattle.pages.specs.Stores.{SamePages, IsCarried};
 ghost use Rattle.objects.specs.Counts.{CountsUpTo, HasBegun, IsRefused, NoneFalls};
 ghost use Rattle.objects.specs.Changing.{IsCommitFault, IsChangeFault};
 
-use crate::caching::{drop_cuts, drop_pages, make_places};
+use crate::caching::{drop_committed, drop_cuts, make_places};
 use crate::store::{Found, Store};
 use chunk_index::{Index, the_counts_are_of_the_keys};
 use flash_tree::FreshPage;
@@ -43,7 +43,7 @@ impl<N: Nand> Store<N> {
         requires apart { AreApart change.pages.items }
         requires size { AreSized change.pages.items (N.state self.old.device).geometry.bytes }
         requires few { length change.pages.items ≤ (N.state self.old.device).geometry.pages / 4 }
-        requires objects { AreOfObjects change.pages.items }
+        requires trees { AreOfTrees change.pages.items }
         ensures lasts { Lasts (N.state self.old.device) (N.state self.new.device) }
         ensures numbers { HandsOut (N.state self.old.device) (N.state self.new.device) (table self.old.blocks) (table self.new.blocks) }
         ensures power { OnOk result ((N.state self.new.device).gone ≡ (N.state self.old.device).gone) }
@@ -89,13 +89,14 @@ impl<N: Nand> Store<N> {
         }
         the_counts_are_of_the_keys();
         self.prepare(&change.pages)?;
-        self.make_room(&change.pages)?;
-        self.make(change);
+        let is_committed = self.make_room(&change.pages)?;
+        self.make(change, is_committed);
         Ok(())
     }
 
     /// Sees that there is room for pages in the index and in the cache.
     fn prepare(&mut self, pages: &[FreshPage]) -> Result<(), StoreFault>
+        requires { AreOfTrees pages.now }
         ensures same { (self.new.device ≡ self.old.device) × (self.new.blocks ≡ self.old.blocks) × (self.new.buffer ≡ self.old.buffer)
             × (self.new.spare ≡ self.old.spare) × (self.new.broken ≡ self.old.broken) }
         ensures counts { NoneFalls self.old.counts self.new.counts × (self.new.counts.commits.total ≡ self.old.counts.commits.total) }
@@ -103,6 +104,7 @@ impl<N: Nand> Store<N> {
         ensures present { SamePresent self.old.index self.new.index }
         ensures ready { OnOk result (AreReady self.new.index pages.now) }
         ensures places { held_count self.old.cache + length pages.now ≤ capacity_of self.old.cache → OnOk result (HavePlaces pages.now self.new.cache) }
+        ensures lacks { OnOk result (LacksPages pages.now self.new.cache) }
         ensures fault { IfErr result (λ fault. (fault ≡ faults.NoMemory) × IsRefused self.old.counts self.new.counts) }
     {
         match prepare_all(&mut self.index, &mut self.cache, pages) {
@@ -114,8 +116,8 @@ impl<N: Nand> Store<N> {
         }
     }
 
-    /// Commits what is buffered, where the buffer has no room for the pages besides.
-    fn make_room(&mut self, pages: &[FreshPage]) -> Result<(), StoreFault>
+    /// Commits what is buffered, where the buffer has no room for the pages besides, and returns whether it did.
+    fn make_room(&mut self, pages: &[FreshPage]) -> Result<bool, StoreFault>
         requires whole { self.old.broken ≡ false }
         requires few { length pages.now ≤ (N.state self.old.device).geometry.pages / 4 }
         ensures lasts { Lasts (N.state self.old.device) (N.state self.new.device) }
@@ -136,6 +138,7 @@ impl<N: Nand> Store<N> {
         ensures room { OnOk result (with_new self.new.index (buffered self.new.buffer) pages.now ≤ most_pages self.new.buffer) }
         ensures fewer { OnOk result (length (buffered self.new.buffer) ≤ length (buffered self.old.buffer)) }
         ensures places { KeepsKeys self.old.cache self.new.cache }
+        ensures cache { IfOk result (λ is_committed. is_committed ≡ false → self.new.cache ≡ self.old.cache) }
         ensures carried { (N.state self.old.device).honest ≡ true
             → IsCarried (N.state self.new.device) self.old.spare (kept_map (N.state self.old.device) self.old.index)
             ⊎ IsCarried (N.state self.new.device) self.old.spare (present_map (N.state self.old.device) self.old.index self.old.buffer) }
@@ -150,17 +153,21 @@ impl<N: Nand> Store<N> {
     {
         the_counts_are_of_the_keys();
         if self.buffer.has_room(&self.index, pages) {
-            return Ok(());
+            return Ok(false);
         }
-        self.write_out()
+        match self.write_out() {
+            Ok(()) => Ok(true),
+            Err(fault) => Err(fault),
+        }
     }
 
-    /// Makes a change, for which there is room.
-    fn make(&mut self, change: Change)
+    /// Makes a change, for which there is room; `is_committed`: there was a commit since the cache had no page of its keys.
+    fn make(&mut self, change: Change, is_committed: bool)
+        requires lacks { is_committed ≡ false → LacksPages change.pages.items self.old.cache }
         requires prepared { ArePrepared self.old.index change.pages.items }
         requires size { AreSized change.pages.items (N.state self.old.device).geometry.bytes }
         requires apart { AreApart change.pages.items }
-        requires objects { AreOfObjects change.pages.items }
+        requires trees { AreOfTrees change.pages.items }
         requires room { with_new self.old.index (buffered self.old.buffer) change.pages.items ≤ most_pages self.old.buffer }
         ensures same { (self.new.device ≡ self.old.device) × (self.new.blocks ≡ self.old.blocks) × (self.new.spare ≡ self.old.spare)
             × (self.new.broken ≡ self.old.broken) × (self.new.counts ≡ self.old.counts) }
@@ -173,7 +180,7 @@ impl<N: Nand> Store<N> {
     {
         self.found = Found::Nowhere;
         drop_cuts(&mut self.cache, &change.cuts);
-        drop_pages(&mut self.cache, &change.pages);
+        drop_committed(&mut self.cache, &change.pages, is_committed);
         self.buffer.apply(&mut self.index, change);
     }
 }
@@ -184,10 +191,12 @@ fn prepare_all(
     cache: &mut PageCache,
     pages: &[FreshPage],
 ) -> Result<(), AllocError>
+    requires { AreOfTrees pages.now }
     ensures kept { SameKept index.old index.new }
     ensures present { SamePresent index.old index.new }
     ensures ready { OnOk result (AreReady index.new pages.now) }
     ensures places { held_count cache.old + length pages.now ≤ capacity_of cache.old → OnOk result (HavePlaces pages.now cache.new) }
+    ensures lacks { OnOk result (LacksPages pages.now cache.new) }
     ensures sizes { KeepsSizes cache.old cache.new }
     ensures fewer { HasNoMore cache.old cache.new }
 {

@@ -1,7 +1,7 @@
 // The change of present pages.
 ghost use Rattle.std.specs.Prelude.{◌≡◌, ◌≤◌, ◌<◌, ◌+◌, ◌↔◌, ℕ, List, length, IsTrue, OnOk};
 ghost use Rattle.chunk_index.specs.Maps.{present, IsReadyKey, IsPrepared, SameKept, SamePresent, StaysPrepared};
-ghost use Rattle.pages.specs.Changes.{AreApart, AreSized};
+ghost use Rattle.pages.specs.Changes.{AreApart, AreSized, AreOfTrees};
 ghost use Rattle.pages.specs.Maps.{with_pages, IsPageOf};
 ghost use Rattle.nand_model.specs.Flash.{Flash};
 ghost use Rattle.page_buffer.specs.Shown.{present_data};
@@ -16,6 +16,7 @@ use std::alloc::AllocError;
 /// Sees that there is room in an index for pages, also once the changes are settled. No kept and no present page changes,
 /// also where memory is refused.
 pub fn prepare(index: &mut Index, pages: &[FreshPage]) -> Result<(), AllocError>
+    requires { AreOfTrees pages.now }
     ensures kept { SameKept index.old index.new }
     ensures present { SamePresent index.old index.new }
     ensures ready { OnOk result (AreReady index.new pages.now) }

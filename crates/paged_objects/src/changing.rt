@@ -8,7 +8,7 @@ ghost use Rattle.posix_profile.specs.Changes.{new_number};
 ghost use Rattle.object_store.specs.Changes.{made, CanMake};
 ghost use Rattle.object_store.specs.declared.change.ObjectChange.TheVariants as changes;
 ghost use Rattle.object_table.specs.Told.{table_sizes, IsReadyFor, LedBefore, Tells, TellsTheSame};
-ghost use Rattle.pages.specs.Changes.{AreApart, AreSized, AreOfObjects, IsChange};
+ghost use Rattle.pages.specs.Changes.{AreApart, AreSized, AreOfTrees, IsChange};
 ghost use Rattle.pages.specs.Maps.{changed};
 ghost use Rattle.pages.specs.State.{OnlyFinds, KeepsPower};
 ghost use Rattle.pages.specs.Stores.{GoesOn, SamePages};
@@ -100,7 +100,7 @@ fn find_replaced<P: PageStore>(
 fn take<P: PageStore>(pages: &mut P, planned: Change) -> Result<(), StoreFault>
     requires apart { AreApart planned.pages.items }
     requires size { AreSized planned.pages.items (P.state pages.old).page_bytes }
-    requires objects { AreOfObjects planned.pages.items }
+    requires trees { AreOfTrees planned.pages.items }
     ensures goes_on { GoesOn (P.state pages.old) (P.state pages.new) }
     ensures power { OnOk result (KeepsPower (P.state pages.old) (P.state pages.new)) }
     ensures present { (P.state pages.old).sound ≡ true → OnOk result (SamePages (P.state pages.new).present (changed planned (P.state pages.old).present)) }
@@ -125,7 +125,7 @@ fn plan_named<P: PageStore>(
     ensures power { OnOk result (KeepsPower (P.state pages.old) (P.state pages.new)) }
     ensures kept { HoldsMore names.old names.new }
     ensures change { IfOk result (λ it. IsChange it (P.state pages.old).page_bytes (most_pages (P.state pages.old).page_bytes change.now)) }
-    ensures numbered { IfOk result (λ it. AreOfObjects it.pages.items) }
+    ensures numbered { IfOk result (λ it. AreOfTrees it.pages.items) }
     ensures makes { (z : Sizes) (objects : Objects) → HasNamed names.old z (P.state pages.old) objects → CanMake z objects change.now → new ≡ new_number objects
         → IfOk result (λ it. HoldsObjects z (changed it (P.state pages.old).present) (made objects change.now)) }
     ensures names { (z : Sizes) (objects : Objects) → HasNamed names.old z (P.state pages.old) objects → CanMake z objects change.now → new ≡ new_number objects

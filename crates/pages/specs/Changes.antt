@@ -1,8 +1,9 @@
 -- Changes that a store takes.
-use Rattle.std.specs.Prelude.{◌≡◌, ◌⊎◌, ◌≤◌, ℕ, List, [], ◌∷◌, ◌++◌, length, Some, slice_get}
+use Rattle.std.specs.Prelude.{◌≡◌, ◌⊎◌, ◌<◌, ◌≤◌, ◌^◌, ℕ, List, [], ◌∷◌, ◌++◌, length, Some, slice_get}
 use Rattle.pages.specs.Maps.{IsPageOf, IsCut}
 use Rattle.flash_tree.specs.Truth.{IsObjectNumber}
 use Rattle.flash_tree.specs.declared.place.FreshPage.{FreshPage}
+use Rattle.flash_tree.specs.declared.place.Key.{Key}
 use Rattle.pages.specs.declared.change.Cut.{Cut}
 use Rattle.pages.specs.declared.change.Change.{Change}
 
@@ -14,9 +15,14 @@ AreApart pages = (o c i j : ℕ) → IsPageOf pages o c i → IsPageOf pages o c
 abbrev pub AreSized : List FreshPage → ℕ → Type 0
 AreSized pages bytes = (i : ℕ) (p : FreshPage) → slice_get pages i ≡ Some p → length p.bytes.items ≡ bytes
 
--- each page is of a number that an object may have
-abbrev pub AreOfObjects : List FreshPage → Type 0
-AreOfObjects pages = (i : ℕ) (p : FreshPage) → slice_get pages i ≡ Some p → IsObjectNumber p.key.object
+-- a key that a tree may look up: of an object's number, and of a chunk of 32 bits
+pub record IsTreeKey (key : Key) : Type 0 where
+  pub object : IsObjectNumber key.object
+  pub low : key.chunk < 2 ^ 32
+
+-- each page is of such a key
+abbrev pub AreOfTrees : List FreshPage → Type 0
+AreOfTrees pages = (i : ℕ) (p : FreshPage) → slice_get pages i ≡ Some p → IsTreeKey p.key
 
 -- at most so many pages, of so many bytes each, and each of a key of its own
 pub record IsChange (change : Change) (bytes most : ℕ) : Type 0 where

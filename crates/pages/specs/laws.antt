@@ -4,3 +4,4 @@ pub mod Faults
 pub mod Known
 pub mod Maps
 pub mod State
+pub mod Low

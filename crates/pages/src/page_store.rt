@@ -1,7 +1,7 @@
 // Pages that are changed and kept.
 ghost use Rattle.std.specs.Prelude.{◌≡◌, ◌⊎◌, ◌≤◌, ◌+◌, true, false, length, IsOk, OnOk, IfErr, IsErrOf, ◌∷◌, []};
 ghost use Rattle.nand_model.specs.Counts.{ReadsFew, ReadsFor, unfinished};
-ghost use Rattle.pages.specs.Changes.{AreApart, AreSized, AreOfObjects};
+ghost use Rattle.pages.specs.Changes.{AreApart, AreSized, AreOfTrees};
 ghost use Rattle.pages.specs.Maps.{changed, without_cuts};
 ghost use Rattle.pages.specs.State.{KeepsPower};
 ghost use Rattle.pages.specs.Stores.{SamePages, GoesOn, KeptAs, KeepsEither, StaysSame, CostsACommit, CommitsNothing, AreNear, ChangeFailsBy, CommitFailsBy, bad_on};
@@ -25,7 +25,7 @@ pub trait PageStore: Pages {
         requires apart { AreApart change.pages.items }
         requires size { AreSized change.pages.items (Self.state self.old).page_bytes }
         requires few { length change.pages.items ≤ (Self.state self.old).most }
-        requires objects { AreOfObjects change.pages.items }
+        requires trees { AreOfTrees change.pages.items }
         ensures goes_on { GoesOn (Self.state self.old) (Self.state self.new) }
         ensures sound { OnOk result ((Self.state self.old).sound ≡ true → (Self.state self.new).sound ≡ true) }
         ensures present { (Self.state self.old).sound ≡ true → OnOk result (SamePages (Self.state self.new).present (changed change (Self.state self.old).present)) }

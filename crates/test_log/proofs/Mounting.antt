@@ -78,6 +78,7 @@ tells_read old new fs reads honest tells =
     let same : new.flash ≡ old.flash = λ i. record { bad = reads.bad i; next = reads.next i; page = page i } in
     record {
       placed = subst (λ (g : Geometry). AreCopiesPlaced g.blocks g.pages fs) (sym reads.lasts.geometry) tells.placed;
+      low = tells.low;
       order = tells.order;
       exact = λ _. subst (λ (f : Flash). AreNewest f fs) (sym same) (tells.exact honest);
     }
@@ -164,9 +165,9 @@ ready_counted d before after t u counts ready = record {
 
 -- each key with a newest page is kept
 pub all_kept : (d : Device) (fs : List PageCopy) (x : Index) → d.honest ≡ true → TellsNewest d fs → Indexes fs (length fs) x
-    → (o c : ℕ) (s : Spot) → IsNewest d.flash o c s → IsSome (kept_pages x o c)
-all_kept d fs x honest tells indexes o c s newest =
-    let has : Contains fs (copy_at s) = (tells.exact honest).each o c s newest in
+    → (o c : ℕ) (s : Spot) → c < 2 ^ 32 → IsNewest d.flash o c s → IsSome (kept_pages x o c)
+all_kept d fs x honest tells indexes o c s low newest =
+    let has : Contains fs (copy_at s) = (tells.exact honest).each o c s low newest in
     let there : get_or fs has.0 (copy_at s) ≡ copy_at s = has.2 in
     let here = indexes.kept_here has.0 (copy_at s) has.1 in
     let at : kept_pages x s.tag.object s.tag.chunk ≡ Some (page_of (copy_at s)) = subst (λ (f : PageCopy). kept_pages x f.object f.chunk ≡ Some (page_of f)) there here in

@@ -1,5 +1,5 @@
 // What a scan finds, with room for moves.
-ghost use Rattle.std.specs.Prelude.{◌≡◌, ◌≤◌, ℕ, Some, IfOk, IsSome};
+ghost use Rattle.std.specs.Prelude.{◌≡◌, ◌<◌, ◌≤◌, ◌^◌, ℕ, Some, IfOk, IsSome};
 ghost use Rattle.nand_model.specs.MemoryState.{device};
 ghost use Rattle.nand_model.specs.Changes.{OnlyReads};
 ghost use Rattle.block_state.specs.Kept.{bad_count};
@@ -27,7 +27,7 @@ use volume_terms::NUMBER_END;
 #[derive(Drop)]
 pub struct MountedLog {
     pub blocks: Blocks,
-    /// The newest page of each key is kept; beside a checkpoint none of the object of checkpoints is.
+    /// The newest page of each key of a chunk that a tree may look up is kept; beside a checkpoint none of the object of checkpoints is.
     pub index: Index,
     pub room: MoveRoom,
 }
@@ -36,7 +36,7 @@ pub struct MountedLog {
 fn scan_log(alloc: Global, nand: &mut MemNand) -> Result<MountedLog, LogFault>
     ensures reads { OnlyReads (device nand.old) (device nand.new) }
     ensures scanned { IfOk result (λ log. IsScanned (device nand.new) (table log.blocks) log.index) }
-    ensures all { IfOk result (λ log. (o c : ℕ) (s : Spot) → IsNewest (device nand.new).flash o c s → IsSome (kept_pages log.index o c)) }
+    ensures all { IfOk result (λ log. (o c : ℕ) (s : Spot) → c < 2 ^ 32 → IsNewest (device nand.new).flash o c s → IsSome (kept_pages log.index o c)) }
     ensures room { IfOk result (λ log. IsRoomFor (device nand.new).geometry log.room) }
 {
     let found = scan_newest(alloc, nand)?;
@@ -58,7 +58,7 @@ pub fn mount_log(alloc: Global, nand: &mut MemNand, spare: u32) -> Result<Mounte
     ensures reads { OnlyReads (device nand.old) (device nand.new) }
     ensures ready { IfOk result (λ log. IsReady (device nand.new) (table log.blocks)) }
     ensures stands { IfOk result (λ log. Stands spare (device nand.new) (table log.blocks) log.index) }
-    ensures all { IfOk result (λ log. (o c : ℕ) (s : Spot) → IsNewest (device nand.new).flash o c s → IsSome (kept_pages log.index o c)) }
+    ensures all { IfOk result (λ log. (o c : ℕ) (s : Spot) → c < 2 ^ 32 → IsNewest (device nand.new).flash o c s → IsSome (kept_pages log.index o c)) }
     ensures few { IfOk result (λ log. bad_count (table log.blocks) ≤ spare) }
     ensures room { IfOk result (λ log. IsRoomFor (device nand.new).geometry log.room) }
 {

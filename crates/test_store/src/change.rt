@@ -1,12 +1,15 @@
 // Changes that a store can take.
 ghost use Rattle.std.specs.Prelude.{◌≡◌, ◌≤◌, IsTrue, IfOk, length};
-ghost use Rattle.pages.specs.Changes.{AreApart, AreSized, AreOfObjects};
+ghost use Rattle.pages.specs.Changes.{AreApart, AreSized, AreOfTrees};
 
 use flash_tree::{CHECK_OBJECT, FreshPage};
 use nand_model::Nand;
 use objects::Store;
 use pages::{Change, Cut, PageStore, Pages, are_sized};
 use std::alloc::{AllocError, Global};
+
+/// No tree looks up a page of this chunk, or of a greater one.
+const CHUNK_END: u64 = 4_294_967_296;
 
 /// A change whose pages are of different keys.
 #[derive(Drop)]
@@ -43,25 +46,25 @@ impl Apart {
     }
 }
 
-/// Whether all pages are of objects.
-fn are_of_objects(pages: &[FreshPage]) -> bool
-    ensures { IsTrue result → AreOfObjects pages.now }
+/// Whether all pages are of keys that a tree may look up.
+fn are_of_trees(pages: &[FreshPage]) -> bool
+    ensures { IsTrue result → AreOfTrees pages.now }
 {
     for page in pages {
-        if page.key.object == 0 || page.key.object >= CHECK_OBJECT {
+        if page.key.object == 0 || page.key.object >= CHECK_OBJECT || page.key.chunk >= CHUNK_END {
             return false;
         }
     }
     true
 }
 
-/// Whether a store can take a change: its pages are of the store's size and of objects, and there are not too many.
+/// Whether a store can take a change: its pages are of the store's size and of keys that a tree may look up, and there are not too many.
 pub fn fits<N: Nand>(store: &Store<N>, change: &Change) -> bool
     ensures size { IsTrue result → AreSized change.now.pages.items (⟦<Store<N> as Pages>⟧.state store.now).page_bytes }
     ensures few { IsTrue result → length change.now.pages.items ≤ (⟦<Store<N> as Pages>⟧.state store.now).most }
-    ensures objects { IsTrue result → AreOfObjects change.now.pages.items }
+    ensures trees { IsTrue result → AreOfTrees change.now.pages.items }
 {
     change.pages.len() <= store.most_pages() as usize
         && are_sized(&change.pages, store.page_bytes())
-        && are_of_objects(&change.pages)
+        && are_of_trees(&change.pages)
 }

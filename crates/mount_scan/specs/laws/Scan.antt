@@ -1,5 +1,5 @@
 -- What follows for a key.
-use Rattle.std.specs.Prelude.{◌≡◌, ◌↔◌, ◌<◌, ℕ, List, map, Some, length, slice_get, Contains}
+use Rattle.std.specs.Prelude.{◌≡◌, ◌↔◌, ◌<◌, ◌^◌, ℕ, List, map, Some, length, slice_get, Contains}
 use Rattle.std.proofs.Common.{sym, ◌∙◌, ap, subst, inl, inr, arith, get_or}
 use Rattle.std.proofs.lemmas.Bool.{cases_order}
 use Rattle.std.proofs.lemmas.List.{get_or-map, length-map}
@@ -35,10 +35,10 @@ newest_of : (f : Flash) (x : PageCopy) (o c : ℕ) (is : IsNewestCopy f x) → x
 newest_of f x o c is object chunk = subst (λ k. IsNewest f o k is.spot) chunk (subst (λ k. IsNewest f k x.chunk is.spot) object is.newest)
 
 -- a key has a newest page exactly where the list has a copy of one of it
-pub newest_listed : (f : Flash) (list : List PageCopy) (o c : ℕ) → AreNewest f list
+pub newest_listed : (f : Flash) (list : List PageCopy) (o c : ℕ) → c < 2 ^ 32 → AreNewest f list
     → ((s : Spot) × IsNewest f o c s) ↔ ((x : PageCopy) × Contains list x × (x.object ≡ o) × (x.chunk ≡ c))
-newest_listed f list o c are = (
-  λ (s, newest). (copy_at s, are.each o c s newest, newest.holds.object, newest.holds.chunk),
+newest_listed f list o c low are = (
+  λ (s, newest). (copy_at s, are.each o c s low newest, newest.holds.object, newest.holds.chunk),
   λ (x, has, object, chunk). ((are.only x has).spot, newest_of f x o c (are.only x has) object chunk),
 )
 
@@ -61,9 +61,9 @@ has_data f x o c bytes spare is object chunk stored =
     record { spot = is.spot; newest = newest_of f x o c is object chunk; stored = held.page ∙ ap (λ ys. Written ys (tag_bytes is.spot.tag)) same }
 
 -- the newest data of a key are those of its page in the list
-pub newest_data : (f : Flash) (list : List PageCopy) (o c : ℕ) (bytes : List ℕ) → AreNewest f list
+pub newest_data : (f : Flash) (list : List PageCopy) (o c : ℕ) (bytes : List ℕ) → c < 2 ^ 32 → AreNewest f list
     → HasNewest f o c bytes ↔ ((x : PageCopy) × Contains list x × (x.object ≡ o) × (x.chunk ≡ c) × (spare : List ℕ) × (f.page x.block x.page ≡ Written bytes spare))
-newest_data f list o c bytes are = (
-  λ has. (copy_at has.spot, are.each o c has.spot has.newest, has.newest.holds.object, has.newest.holds.chunk, tag_bytes has.spot.tag, has.stored),
+newest_data f list o c bytes low are = (
+  λ has. (copy_at has.spot, are.each o c has.spot low has.newest, has.newest.holds.object, has.newest.holds.chunk, tag_bytes has.spot.tag, has.stored),
   λ (x, has, object, chunk, spare, stored). has_data f x o c bytes spare (are.only x has) object chunk stored,
 )

@@ -28,7 +28,7 @@ returns-in-Ok-make_pages-clause-tree g c = λ honest.
     } in (
       told.0,
       mounted_with d on.index (numbers_of on.numbers) on.spare _ c.in-Ok-make_pages.ensures.made laws on.tree told.0 honest told.1 told.2 c.in-Ok.table (volume.sizes_of c.args.going.sizes)
-          c.requires.sizes c.in-Ok.ensures.tells told.3 c.args.going.named.names (c.requires.named.names honest) (c.requires.named.tree.tables.tables.newest honest),
+          c.requires.sizes c.in-Ok.ensures.tells told.3 c.args.going.named.names (c.requires.named.names honest) (c.requires.named.tree.tables.tables.newest honest) c.requires.named.tree.tables.tables.low,
     )
 
 pub make_pages-requires-clause-ordinary : goal.make_pages-requires-clause-ordinary

@@ -3,14 +3,14 @@ use Rattle.std.specs.Prelude.{List, map}
 use Rattle.nand_model.specs.declared.geometry.Geometry.{Geometry}
 use Rattle.page_tags.specs.declared.check.CheckEntry.{CheckEntry}
 use Rattle.block_state.specs.TableOf.{table}
-use Rattle.chunk_index.specs.Adding.{entry_key, AreInPages, AreWithin}
+use Rattle.chunk_index.specs.Adding.{entry_key, AreInPages, AreLow, AreWithin}
 use Rattle.chunk_index.specs.Kept.{IsListOf, KeyRises}
 use Rattle.chunk_index.specs.Maps.{kept_pages}
 use Rattle.checkpoint_reading.specs.Found.{checkpoint_of}
 use Rattle.newest_pages.specs.Checked.{numbers_at}
 use Rattle.newest_pages.specs.Opened.{AreNoted}
 use Rattle.newest_pages.proofs.Buckets.{not_true}
-use Rattle.newest_pages.proofs.Entries.{keys_rise, keys_in_pages, keys_within, none_there, is_free_block, opened_for}
+use Rattle.newest_pages.proofs.Entries.{keys_rise, keys_in_pages, keys_low, keys_within, none_there, is_free_block, opened_for}
 use Rattle.newest_pages.proofs.TrueTables.{all_may, keeps_tree}
 use Rattle.newest_pages.proofs.checked.open_kept.Goals as goal
 
@@ -33,6 +33,11 @@ from_kept-requires-clause-pages g c =
     subst (λ (es : List CheckEntry). AreInPages (table c.note_each.new.blocks).geometry.pages (map entry_key es)) (sym c.deref.ensures.value)
     (keys_in_pages (g.N.Nand.state c.args.device.now) (checkpoint_of c.args.found.now) (table c.note_each.new.blocks).geometry (c.may_all_be_kept.ensures.0 c.if-not-may_all_be_kept.false)
     (c.note_each.ensures.only.geometry ∙ c.in_ok-blocks.ensures.table.geometry))
+
+pub from_kept-requires-clause-low : goal.from_kept-requires-clause-low
+from_kept-requires-clause-low g c =
+    subst (λ (es : List CheckEntry). AreLow (map entry_key es)) (sym c.deref.ensures.value)
+    (keys_low (g.N.Nand.state c.args.device.now) (checkpoint_of c.args.found.now) (c.may_all_be_kept.ensures.0 c.if-not-may_all_be_kept.false))
 
 pub note_checkpoint-requires-clause-free : goal.note_checkpoint-requires-clause-free
 note_checkpoint-requires-clause-free g c =

@@ -3,8 +3,10 @@ use Rattle.std.proofs.Common.{◌∙◌, refl, sym, ap, subst, arith, inl, inr, 
 use Rattle.std.proofs.lemmas.Bool.{cases_eq}
 use Rattle.std.proofs.lemmas.Option.{slice_get_within, slice_get_read}
 use Rattle.flash_tree.specs.declared.place.FreshPage.{FreshPage}
+use Rattle.std.specs.Option.{option_and_then}
+use Rattle.page_cache.specs.Slots.{page_in}
 use Rattle.page_cache.specs.Cached.{held, held_count, capacity_of}
-use Rattle.objects.proofs.Shown.{sizes_on, fewer_placed, held_put}
+use Rattle.objects.proofs.Shown.{sizes_on, fewer_placed, held_put, lacks_on, lacks_page}
 use Rattle.objects.proofs.caching.make_places.Goals as goal
 
 pub loop-page-preserved : goal.loop-page-preserved
@@ -28,6 +30,10 @@ loop-page-preserved c =
                 let one : p ≡ q = cc in
                 subst (λ (x : FreshPage). IsSome (held c.reserve.new.self x.key.object x.key.chunk)) one (ap is_some puts.here)
           ];
+      lacks = λ o k i lt of. elim (cases_eq i c.loop-page.page-index) [
+        | inr ne ↦ lacks_on old c.reserve.new.self o k (fewer_placed p.key.object p.key.chunk old c.reserve.new.self puts) (was.lacks o k i (omega (arith, lt, ne)) of)
+        | inl e ↦ lacks_page c.reserve.new.self c.args.pages.now o k i p of (ap (slice_get c.args.pages.now) e ∙ at) (ap (option_and_then page_in) puts.here)
+      ];
       others = λ fits o k none.
           let free : held_count old < capacity_of old = omega (arith, fits, was.few, was.sizes.capacity, c.loop-page-test.true) in
           puts.room (inr free) o k (λ same there. none c.loop-page.page-index (omega arith) (record { page = p; there = at; object = sym same; chunk = sym there }))
@@ -41,3 +47,8 @@ returns-clause-places c = λ fits. (
       c.loop-page.invariant.places fits i p (omega (arith, within, c.loop-page-test.false)) is,
   λ o k none. c.loop-page.invariant.others fits o k (λ i lt. none i),
 )
+
+pub returns-clause-lacks : goal.returns-clause-lacks
+returns-clause-lacks c = λ o k i of.
+    let within : i < length c.args.pages.now = slice_get_within c.args.pages.now i of.page of.there in
+    c.loop-page.invariant.lacks o k i (omega (arith, within, c.loop-page-test.false)) of

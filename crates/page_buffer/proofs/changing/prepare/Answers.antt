@@ -7,6 +7,12 @@ use Rattle.page_buffer.proofs.Keys.{object_is, chunk_is}
 use Rattle.page_buffer.proofs.Preparing.{kept_on}
 use Rattle.page_buffer.proofs.changing.prepare.Goals as goal
 
+pub prepare-requires : goal.prepare-requires
+prepare-requires c =
+    let p : FreshPage = c.page-item.result in
+    let at : slice_get c.args.pages.now c.loop-page.page-index ≡ Some p = slice_get_read c.args.pages.now (length c.args.pages.now) c.loop-page.page-index p refl c.loop-page-test.true c.page-item.is in
+    (c.requires c.loop-page.page-index p at).low
+
 pub returns-in_err-prepare-clause-kept : goal.returns-in_err-prepare-clause-kept
 returns-in_err-prepare-clause-kept c = kept_on _ _ _ c.loop-page.invariant.kept c.prepare.ensures.kept
 

@@ -5,7 +5,7 @@ use Rattle.found_pages.specs.laws.Listed.{before, before_all, bucket_part, part_
 use Rattle.chunk_index.specs.Newest.{LieInPages, LieWithin}
 use Rattle.chunk_index.specs.Found.{HasPages}
 use Rattle.chunk_index.proofs.Counting.{recounts_here, recounts_on}
-use Rattle.chunk_index.proofs.Founding.{part_once, part_in_pages, part_within, part_absent, part_more, pages_none}
+use Rattle.chunk_index.proofs.Founding.{part_once, part_in_pages, part_low, part_within, part_absent, part_more, pages_none}
 use Rattle.chunk_index.proofs.index.Index.add_all.Goals as goal
 
 pub loop-at-init : goal.loop-at-init
@@ -23,6 +23,7 @@ add_some-requires c =
       once = part_once _ _ _ at c.requires.once;
       within = part_within _ _ _ at _ (subst (λ (g : Geometry). LieWithin g.blocks (listed c.args.newest)) (sym c.loop-at.invariant.counts.geometry) c.requires.within);
       pages = part_in_pages _ _ _ at _ (subst (λ (g : Geometry). LieInPages g.pages (listed c.args.newest)) (sym c.loop-at.invariant.counts.geometry) c.requires.pages);
+      low = part_low _ _ _ at c.requires.low;
       absent = part_absent _ _ _ at _ c.requires.once c.loop-at.invariant.has;
       agree = c.loop-at.invariant.agree;
     }

@@ -4,7 +4,7 @@ use Rattle.chunk_index.proofs.index.Index.add_kept.Goals as goal
 pub move_to-requires : goal.move_to-requires
 move_to-requires c = record {
   entry = c.in_ok-add.ensures.ok.here;
-  small = (tt, tt);
+  small = record { page = tt; state = tt; low = c.requires.low };
   block = c.requires.block;
   page = c.requires.page;
   agree = agree_added _ c.args.self.now c.add.new.self c.args.page.key.object c.args.page.key.chunk c.requires.absent c.in_ok-add.ensures.ok c.requires.agree;

@@ -21,6 +21,7 @@ add_kept-requires g c =
       absent = c.reserve_at.ensures.looks _ _ ∙ still_absent _ c.loop-at.at _ _ c.kept_key-page.result c.requires.once c.requires.absent c.loop-at.invariant.adds there;
       block = subst (λ (y : Geometry). AreWithin y.blocks (map g.P.Placed.kept_key c.args.pages.now)) (sym c.loop-at.invariant.counts.geometry) c.requires.within c.loop-at.at c.kept_key-page.result there;
       page = subst (λ (y : Geometry). AreInPages y.pages (map g.P.Placed.kept_key c.args.pages.now)) (sym c.loop-at.invariant.counts.geometry) c.requires.pages c.loop-at.at c.kept_key-page.result there;
+      low = c.requires.low c.loop-at.at c.kept_key-page.result there;
       agree = agree_kept _ _ c.reserve_at.new.self c.reserve_at.ensures c.loop-at.invariant.agree;
     }
 

@@ -14,7 +14,11 @@ pub set-requires-clause-here : goal.set-requires-clause-here
 set-requires-clause-here c = there_at c.args.self.now.shelf.objects c.args.key.object c.args.key.chunk c.args.entry c.args.entry.chunk c.requires.entry refl
 
 pub set-requires-clause-small : goal.set-requires-clause-small
-set-requires-clause-small c = ((omega (arith, c.requires.block, (table c.args.blocks.now).geometry.most_blocks), omega (arith, c.requires.page, (table c.args.blocks.now).geometry.most_pages)), c.requires.small.1)
+set-requires-clause-small c = record {
+  page = (omega (arith, c.requires.block, (table c.args.blocks.now).geometry.most_blocks), omega (arith, c.requires.page, (table c.args.blocks.now).geometry.most_pages));
+  state = c.requires.small.state;
+  low = c.requires.small.low;
+}
 
 pub invariant_of-self : goal.invariant_of-self
 invariant_of-self c =

@@ -1,6 +1,17 @@
+use Rattle.std.proofs.Common.{sym, subst, ◌+◌, take}
 use Rattle.std.proofs.lemmas.List.{get_or_default}
-use Rattle.found_pages.proofs.Thinning.{thins_next}
+use Rattle.found_pages.specs.Keys.{ThinsFound}
+use Rattle.found_pages.specs.Listed.{listed}
+use Rattle.found_pages.proofs.Thinning.{found_skip, found_next}
+use Rattle.found_pages.proofs.pages.FoundPages.add_all.Goals.{in-Some+in_ok-add, in_default}
 use Rattle.found_pages.proofs.pages.FoundPages.add_all.Goals as goal
 
 pub loop-page-preserved : goal.loop-page-preserved
-loop-page-preserved c = thins_next c.args.found.now _ _ _ c.loop-page.page-index _ _ c.loop-page-test.true (get_or_default c.args.found.now c.loop-page.page-index _ _ c.loop-page-test.true) c.of.ensures c.loop-page.invariant c.in_ok-add.ensures
+loop-page-preserved c =
+    let xs = c.args.found.now in
+    let n = c.loop-page.page-index in
+    let at = get_or_default xs n _ _ c.loop-page-test.true in
+    elim c.match-of.branch [
+      | in-Some+in_ok-add w ↦ subst (λ s. ThinsFound (take (n + 1) xs) (listed c.args.self.now) (listed s)) (sym w.self-is) (found_next xs _ _ _ n _ c.loop-page-test.true at w.in-Some.copy w.in-Some.ensures.some c.loop-page.invariant w.in_ok-add.ensures)
+      | in_default w ↦ subst (λ s. ThinsFound (take (n + 1) xs) (listed c.args.self.now) (listed s)) (sym w.self-is) (found_skip xs _ (listed c.loop-page.self) (listed c.loop-page.self) n _ c.loop-page-test.true at w.in_default.ensures.none c.loop-page.invariant)
+    ]

@@ -11,6 +11,8 @@ use Rattle.transactions.specs.laws.Handing.{hands_nothing}
 use Rattle.pages.specs.laws.Changes.{changed_same}
 use Rattle.flash_tree.specs.declared.place.FreshPage.{FreshPage}
 use Rattle.page_cache.specs.Cached.{held_count, capacity_of}
+use Rattle.page_cache.specs.declared.cache.PageCache.{PageCache}
+use Rattle.objects.specs.Caching.{LacksPages}
 use Rattle.page_buffer.specs.Buffering.{AreReady}
 use Rattle.pages.specs.Stores.{IsCarried}
 use Rattle.objects.specs.declared.counts.StoreCounts.{StoreCounts}
@@ -31,8 +33,8 @@ returns-in_err-prepare-clause-carried g c = λ whole honest.
     inl (carried_same mid self.spare (kept_map mid p.index) (kept_map old self.index) (same_back _ _ (kept_map_same old mid self.index p.index still c.prepare.ensures.kept))
     (subst (λ n. IsCarried mid n (kept_map mid p.index)) same.3 (store_carries p.spare mid (table p.blocks) p.index c.the_counts_are_of_the_keys.ensures.none p.ready p.stands.tables (p.newest (same.4 ∙ whole) told))))
 
-pub returns-in_err-make_room-clause-carried : goal.returns-in_err-make_room-clause-carried
-returns-in_err-make_room-clause-carried g c = λ whole honest.
+pub returns-in_err-is_committed-clause-carried : goal.returns-in_err-is_committed-clause-carried
+returns-in_err-is_committed-clause-carried g c = λ whole honest.
     let self = c.args.self.now in
     let p = c.prepare.new.self in
     let same = c.prepare.ensures.same in
@@ -51,6 +53,12 @@ make-requires-clause-prepared g c =
     let m = c.make_room.new.self in
     let ready : AreReady c.prepare.new.self.index c.args.change.pages.items = subst (AreReady c.prepare.new.self.index) c.deref.ensures.value c.in_ok-prepare.ensures.ready in
     λ o k i of. ready_prepared m.index o k (c.make_room.ensures.keys o k (ready o k i of))
+
+pub make-requires-clause-lacks : goal.make-requires-clause-lacks
+make-requires-clause-lacks g c = λ none.
+    let p = c.prepare.new.self in
+    let lacks : LacksPages c.args.change.pages.items p.cache = subst (λ (l : List FreshPage). LacksPages l p.cache) c.deref.ensures.value c.in_ok-prepare.ensures.lacks in
+    subst (λ (cache : PageCache). LacksPages c.args.change.pages.items cache) (sym (c.in_ok-is_committed.ensures.cache none)) lacks
 
 pub returns-clause-marks : goal.returns-clause-marks
 returns-clause-marks g c =
@@ -75,7 +83,7 @@ returns-clause-present g c = λ honest o k.
     let told : now.honest ≡ true = c.make_room.ensures.lasts.honest ∙ ap (λ (x : Device). x.honest) still ∙ honest in
     c.make.ensures.present told o k
     ∙ changed_same c.args.change (present_map now m.index m.buffer) (present_map old self.index self.buffer) o k
-    (c.in_ok-make_room.ensures.present o k ∙ present_map_same old mid self.index p.index self.buffer p.buffer still c.prepare.ensures.present same.2 o k)
+    (c.in_ok-is_committed.ensures.present o k ∙ present_map_same old mid self.index p.index self.buffer p.buffer still c.prepare.ensures.present same.2 o k)
 
 pub returns-clause-carried : goal.returns-clause-carried
 returns-clause-carried g c = λ whole honest.
@@ -94,8 +102,8 @@ returns-clause-carried g c = λ whole honest.
     (same_back _ _ (present_map_same old mid self.index p.index self.buffer p.buffer still c.prepare.ensures.present same.2))
     (subst (λ n. IsCarried now n (kept_map mid p.index) ⊎ IsCarried now n (present_map mid p.index p.buffer)) same.3 (c.make_room.ensures.carried told)))
 
-pub returns-in_err-make_room-clause-room : goal.returns-in_err-make_room-clause-room
-returns-in_err-make_room-clause-room g c = λ fits.
+pub returns-in_err-is_committed-clause-room : goal.returns-in_err-is_committed-clause-room
+returns-in_err-is_committed-clause-room g c = λ fits.
     let self = c.args.self.now in
     let p = c.prepare.new.self in
     let m = c.make_room.new.self in
@@ -130,7 +138,7 @@ returns-clause-kept g c =
     let still : mid ≡ old = ap g.N.Nand.state same.0 in
     let now = kept_map (g.N.Nand.state n.device) n.index in
     let then = kept_map (g.N.Nand.state m.device) m.index in
-    elim c.in_ok-make_room.ensures.kept [
+    elim c.in_ok-is_committed.ensures.kept [
       | inl kept ↦ inl (same_on now (kept_map mid p.index) (kept_map old self.index) (same_on now then (kept_map mid p.index) c.make.ensures.kept kept) (kept_map_same old mid self.index p.index still c.prepare.ensures.kept))
       | inr shown ↦ inr (same_on now (present_map mid p.index p.buffer) (present_map old self.index self.buffer) (same_on now then (present_map mid p.index p.buffer) c.make.ensures.kept shown)
           (present_map_same old mid self.index p.index self.buffer p.buffer still c.prepare.ensures.present same.2))
@@ -144,8 +152,8 @@ returns-in_err-prepare-clause-numbers g c =
     let same = c.prepare.ensures.same in
     hands_still _ _ (table c.args.self.now.blocks) _ (ap g.N.Nand.state same.0) (ap table same.1)
 
-pub returns-in_err-make_room-clause-numbers : goal.returns-in_err-make_room-clause-numbers
-returns-in_err-make_room-clause-numbers g c =
+pub returns-in_err-is_committed-clause-numbers : goal.returns-in_err-is_committed-clause-numbers
+returns-in_err-is_committed-clause-numbers g c =
     let same = c.prepare.ensures.same in
     hands_between _ _ _ _ (table c.args.self.now.blocks) _ (table c.make_room.new.self.blocks) _ (ap g.N.Nand.state same.0) (ap table same.1) c.make_room.ensures.numbers refl refl
 
@@ -160,8 +168,8 @@ returns-in_err-prepare-clause-takes_none g c =
     let self = c.args.self.now in
     takes_still (length (buffered self.buffer)) (table self.blocks) (g.N.Nand.state self.device) (g.N.Nand.state c.prepare.new.self.device) (ap g.N.Nand.state c.prepare.ensures.same.0)
 
-pub returns-in_err-make_room-clause-takes_none : goal.returns-in_err-make_room-clause-takes_none
-returns-in_err-make_room-clause-takes_none g c =
+pub returns-in_err-is_committed-clause-takes_none : goal.returns-in_err-is_committed-clause-takes_none
+returns-in_err-is_committed-clause-takes_none g c =
     let self = c.args.self.now in
     let p = c.prepare.new.self in
     let same = c.prepare.ensures.same in
@@ -184,8 +192,8 @@ returns-in_err-prepare-clause-takes_one g c =
     let self = c.args.self.now in
     takes_one_still (length (buffered self.buffer)) self.spare (table self.blocks) (g.N.Nand.state self.device) (g.N.Nand.state c.prepare.new.self.device) (ap g.N.Nand.state c.prepare.ensures.same.0)
 
-pub returns-in_err-make_room-clause-takes_one : goal.returns-in_err-make_room-clause-takes_one
-returns-in_err-make_room-clause-takes_one g c =
+pub returns-in_err-is_committed-clause-takes_one : goal.returns-in_err-is_committed-clause-takes_one
+returns-in_err-is_committed-clause-takes_one g c =
     let self = c.args.self.now in
     let p = c.prepare.new.self in
     let same = c.prepare.ensures.same in
@@ -212,7 +220,7 @@ returns-clause-answers g c =
     let b = ap (λ (x : Blocks). bad_count (table x)) first.1 in
     let d = ap (λ x. (g.N.Nand.state x).failures) last.0 in
     let e = ap (λ (x : Blocks). bad_count (table x)) last.1 in
-    omega (arith, c.in_ok-make_room.ensures.answers, a, b, d, e)
+    omega (arith, c.in_ok-is_committed.ensures.answers, a, b, d, e)
 
 pub returns-then-self-clause-costs : goal.returns-then-self-clause-costs
 returns-then-self-clause-costs g c = let self = c.args.self.now in costs_still _ _ (g.N.Nand.state self.device) (g.N.Nand.state self.device) refl
@@ -220,8 +228,8 @@ returns-then-self-clause-costs g c = let self = c.args.self.now in costs_still _
 pub returns-in_err-prepare-clause-costs : goal.returns-in_err-prepare-clause-costs
 returns-in_err-prepare-clause-costs g c = let self = c.args.self.now in costs_still _ _ (g.N.Nand.state self.device) (g.N.Nand.state c.prepare.new.self.device) (ap g.N.Nand.state c.prepare.ensures.same.0)
 
-pub returns-in_err-make_room-clause-costs : goal.returns-in_err-make_room-clause-costs
-returns-in_err-make_room-clause-costs g c =
+pub returns-in_err-is_committed-clause-costs : goal.returns-in_err-is_committed-clause-costs
+returns-in_err-is_committed-clause-costs g c =
     let self = c.args.self.now in
     let p = c.prepare.new.self in
     let same = c.prepare.ensures.same in
@@ -248,13 +256,13 @@ returns-clause-keeps_open g c =
     let made = c.make.ensures.same in
     open_between (length (buffered self.buffer)) (length (buffered p.buffer)) (table self.blocks) (table p.blocks) (table m.blocks) (table n.blocks)
     (g.N.Nand.state self.device) (g.N.Nand.state p.device) (g.N.Nand.state m.device) (g.N.Nand.state n.device) (ap g.N.Nand.state same.0) (ap table same.1)
-    (ap (λ (b : Buffer). length (buffered b)) same.2) (ap g.N.Nand.state made.0) (ap table made.1) c.in_ok-make_room.ensures.keeps_open
+    (ap (λ (b : Buffer). length (buffered b)) same.2) (ap g.N.Nand.state made.0) (ap table made.1) c.in_ok-is_committed.ensures.keeps_open
 
 pub returns-clause-few : goal.returns-clause-few
 returns-clause-few g c =
     let m = c.make_room.new.self in
     let same = ap (λ (b : Buffer). length (buffered b)) c.prepare.ensures.same.2 in
-    omega (arith, c.make.ensures.few, c.in_ok-make_room.ensures.fewer, same, few_new m.index c.args.change.pages.items)
+    omega (arith, c.make.ensures.few, c.in_ok-is_committed.ensures.fewer, same, few_new m.index c.args.change.pages.items)
 
 pub returns-clause-places : goal.returns-clause-places
 returns-clause-places g c = λ fits i q is uncut.

@@ -8,6 +8,7 @@ use Rattle.page_cache.specs.Slots.{Held}
 use Rattle.objects.specs.Caching.{LacksCuts, LacksPages, KeepsUncut}
 use Rattle.objects.specs.declared.store.Found.TheVariants as places
 use Rattle.objects.proofs.Carried.{newest_kept}
+use Rattle.objects.proofs.Shown.{lacks_on}
 use Rattle.objects.proofs.Steps.{stands_kept, known_changed, objects_changed, shown_changed}
 use Rattle.objects.proofs.store.Store.make.Goals as goal
 
@@ -22,18 +23,18 @@ invariant_of-self g c =
       stands = stands_kept self.index y e.kept _ _ _ self.stands;
       room_size = self.room_size;
       buffers = e.buffers;
-      objects = λ whole. objects_changed _ _ _ self.index y (buffered self.buffer) (buffered c.apply.new.self) c.args.change flash self.stands self.buffers (self.objects whole) c.requires.objects e.buffers (e.changes flash);
+      objects = λ whole. objects_changed _ _ _ self.index y (buffered self.buffer) (buffered c.apply.new.self) c.args.change flash self.stands self.buffers (self.objects whole) c.requires.trees e.buffers (e.changes flash);
       most = e.sizes.0 ∙ self.most;
       size = self.size;
       buffer_size = e.sizes.1 ∙ self.buffer_size;
-      cache_size = c.drop_pages.ensures.sizes.page_bytes ∙ c.drop_cuts.ensures.sizes.page_bytes ∙ self.cache_size;
+      cache_size = c.drop_committed.ensures.sizes.page_bytes ∙ c.drop_cuts.ensures.sizes.page_bytes ∙ self.cache_size;
       place = λ i is. absurd (let two : places.Nowhere ≡ places.Buffered i = is in cc);
       few = self.few;
       free = self.free;
       newest = λ whole honest. newest_kept (g.N.Nand.state self.device).flash self.index y e.kept (self.newest whole honest);
       shown = λ whole honest o k xs is. e.changes flash o k
-          ∙ shown_changed c.args.change (present_data self.index (buffered self.buffer) flash) self.cache c.drop_cuts.new.cache c.drop_pages.new.cache (self.shown whole honest)
-          c.drop_cuts.ensures.fewer c.drop_pages.ensures.fewer (subst (λ (l : List Cut). LacksCuts l c.drop_cuts.new.cache) c.deref.ensures.value c.drop_cuts.ensures.lacks) (subst (λ (l : List FreshPage). LacksPages l c.drop_pages.new.cache) c.deref-2.ensures.value c.drop_pages.ensures.lacks) o k xs is;
+          ∙ shown_changed c.args.change (present_data self.index (buffered self.buffer) flash) self.cache c.drop_cuts.new.cache c.drop_committed.new.cache (self.shown whole honest)
+          c.drop_cuts.ensures.fewer c.drop_committed.ensures.fewer (subst (λ (l : List Cut). LacksCuts l c.drop_cuts.new.cache) c.deref.ensures.value c.drop_cuts.ensures.lacks) (subst (λ (l : List FreshPage). LacksPages l c.drop_committed.new.cache) c.deref-2.ensures.value c.drop_committed.ensures.lacks) o k xs is;
     }
 
 pub returns-clause-present : goal.returns-clause-present
@@ -46,4 +47,9 @@ pub returns-clause-places : goal.returns-clause-places
 returns-clause-places g c = λ o k uncut had.
     let self = c.args.self.now in
     let others = subst (λ (l : List Cut). KeepsUncut l self.cache c.drop_cuts.new.cache) c.deref.ensures.value c.drop_cuts.ensures.others in
-    c.drop_pages.ensures.places o k (subst (λ (h : Option Held). IsSome h) (sym (others o k uncut)) had)
+    c.drop_committed.ensures.places o k (subst (λ (h : Option Held). IsSome h) (sym (others o k uncut)) had)
+
+pub drop_committed-requires : goal.drop_committed-requires
+drop_committed-requires g c = λ none o k i of.
+    let lacks : LacksPages c.deref-2.result.now c.args.self.now.cache = subst (λ (l : List FreshPage). LacksPages l c.args.self.now.cache) (sym c.deref-2.ensures.value) (c.requires.lacks none) in
+    lacks_on c.args.self.now.cache c.drop_cuts.new.cache o k c.drop_cuts.ensures.fewer (lacks o k i of)

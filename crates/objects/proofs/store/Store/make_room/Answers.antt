@@ -1,6 +1,5 @@
-use Rattle.std.specs.Prelude.{◌≤◌, ◌/◌, length}
+use Rattle.std.specs.Prelude.{◌≤◌, ◌/◌, length, Ok}
 use Rattle.std.proofs.Common.{◌∙◌, refl, sym, ap, subst, inl, inr}
-use Rattle.std.proofs.lemmas.Result.{on_ok_weaker}
 use Rattle.nand_model.specs.declared.geometry.Geometry.{Geometry}
 use Rattle.page_buffer.specs.BufferOf.{buffered}
 use Rattle.block_state.specs.TableOf.{table}
@@ -9,11 +8,11 @@ use Rattle.objects.proofs.Carried.{store_carries}
 use Rattle.objects.proofs.Steps.{costs_still, room_after}
 use Rattle.objects.proofs.store.Store.make_room.Goals as goal
 
-pub returns-clause-room : goal.returns-clause-room
-returns-clause-room g c =
+pub returns-in-Ok-clause-room : goal.returns-in-Ok-clause-room
+returns-in-Ok-clause-room g c =
     let new = c.write_out.new.self in
     let most = new.most ∙ ap (λ (k : Geometry). k.pages / 4) c.write_out.ensures.lasts.geometry in
-    room_after c.write_out.result new.index (buffered new.buffer) c.args.pages.now _ c.write_out.ensures.empty (subst (λ n. length c.args.pages.now ≤ n) (sym most) c.requires.few)
+    room_after (Ok c.in-Ok.field-0) new.index (buffered new.buffer) c.args.pages.now _ c.in-Ok.ensures.empty (subst (λ n. length c.args.pages.now ≤ n) (sym most) c.requires.few)
 
 pub returns-then-has_room-clause-carried : goal.returns-then-has_room-clause-carried
 returns-then-has_room-clause-carried g c = λ honest.
@@ -29,5 +28,5 @@ returns-then-has_room-clause-costs g c = let self = c.args.self.now in costs_sti
 pub returns-then-has_room-clause-keeps_open : goal.returns-then-has_room-clause-keeps_open
 returns-then-has_room-clause-keeps_open g c = inl refl
 
-pub returns-clause-keeps_open : goal.returns-clause-keeps_open
-returns-clause-keeps_open g c = on_ok_weaker c.write_out.result (λ keeps. inr keeps) c.write_out.ensures.keeps_open
+pub returns-in-Ok-clause-keeps_open : goal.returns-in-Ok-clause-keeps_open
+returns-in-Ok-clause-keeps_open g c = inr c.in-Ok.ensures.keeps_open

@@ -1,5 +1,5 @@
 -- The least number that is free.
-use Rattle.std.specs.Prelude.{◌≡◌, ◌<◌, ◌≤◌, ◌+◌, ◌&&◌, ℕ, zero, suc, Bool, true, false, not, List, [], ◌∷◌, length, slice_index_or, map as list_map, Option, Some, None, cond, is_some, nat_eq, nat_le, nat_lt, option_and_then}
+use Rattle.std.specs.Prelude.{◌≡◌, ◌<◌, ◌≤◌, ◌+◌, ◌&&◌, ℕ, zero, suc, Bool, true, false, not, List, [], ◌∷◌, length, slice_index_or, map as list_map, Option, Some, None, cond, is_some, nat_eq, nat_le, nat_lt, min, option_and_then}
 use Rattle.std.proofs.Common.{refl, sym, ◌∙◌, ap, subst, inl, inr, arith}
 use Rattle.std.proofs.lemmas.Bool.{cases_eq, cases_lt, cases_Bool, cond-true, cond-false, true≢false, false≢true, eqb-true, eq-eqb, ne_eqb, lt-ltb, le-leb}
 use Rattle.std.proofs.lemmas.Bool.Decides.{nat_tests}
@@ -166,6 +166,22 @@ mark_below old before after knows none takes k two lt =
 
 pub mark_knows : (new : FreeNumbers) (after : ℕ → Bool) → heap_items new.freed ≡ [] → 2 ≤ new.low → after new.low ≡ false → AllTaken after new.low → KnowsFree new after
 mark_knows new after none two free below = record { freed = none_given after new.low (heap_items new.freed) none below; low = two; mark = free }
+
+-- a number is given back, and the least that is free then is the mark
+pub anew_knows : (new : FreeNumbers) (before after : ℕ → Bool) (number least : ℕ) → heap_items new.freed ≡ [] → IsLeastFree before least → GivesBack before after number → 2 ≤ number
+    → new.low ≡ min least number → KnowsFree new after
+anew_knows new before after number least none free gives two low =
+    mark_knows new after none (omega (arith, low, two, free.low)) (ap after low ∙ mark) (λ k from lt. gives.others k (λ is. absurd (omega (arith, is, lt, low))) ∙ free.below k from (omega (arith, lt, low)))
+  where
+    mark : after (min least number) ≡ false
+    mark = elim (cases_lt least number) [
+      | inl lt ↦
+          let is : min least number ≡ least = omega (arith, lt) in
+          ap after is ∙ gives.others least (λ same. absurd (omega (arith, same, lt))) ∙ free.free
+      | inr le ↦
+          let is : min least number ≡ number = omega (arith, le) in
+          ap after is ∙ gives.here
+    ]
 
 -- a number is given back
 pub gave_back : (before after : ℕ → Bool) (low m : ℕ) (old new : List (Reverse ℕ)) → ((n : ℕ) → times n old ≡ once (was_given_back before low n)) → GivesBack before after m → 2 ≤ m → m < low

@@ -1,8 +1,8 @@
 -- What counted facts stand for.
-use Rattle.std.specs.Prelude.{◌≡◌, ◌≢◌, ◌<◌, ◌-◌, ◌+◌, ◌^◌, min, ℕ, Option, Some, None, IsSome, is_some, if◌then◌else◌}
+use Rattle.std.specs.Prelude.{◌≡◌, ◌≢◌, ◌<◌, ◌-◌, ◌+◌, ◌^◌, min, ℕ, Option, Some, None, IsSome, is_some}
 use Rattle.std.specs.FinMap as map
 use Rattle.std.specs.Ordering.{nat_cmp}
-use Rattle.std.specs.BTreeMap.{get, btree_map_len}
+use Rattle.std.specs.BTreeMap.{get}
 use Rattle.volume_terms.specs.Sizes.{Sizes, IsSizes}
 use Rattle.volume_terms.specs.VolumeSizes as volume
 use Rattle.posix_profile.specs.State.{Name, Object, Objects, IsDirectory, entries_of}
@@ -41,7 +41,6 @@ pub record Counts (counted : CountedFacts) (objects : Objects) : Type 0 where
 pub record KeepsNumbers (old new : CountedFacts) : Type 0 where
   pub sizes : sizes_in new ≡ sizes_in old
   pub taken : (k : ℕ) → is_some (told_at new k) ≡ is_some (told_at old k)
-  pub len : btree_map_len new.facts ≡ btree_map_len old.facts
 
 -- they are the same
 pub record CountsTheSame (old new : CountedFacts) : Type 0 where
@@ -60,7 +59,6 @@ pub record Puts (old new : CountedFacts) (o : ℕ) (f : ObjectFacts) : Type 0 wh
   pub here : told_at new o ≡ Some f
   pub others : (k : ℕ) → k ≢ o → told_at new k ≡ told_at old k
   pub charge : charge_in new ≡ min (charge_in old - units_of (sizes_in old) (told_at old o) + min (facts_cost (sizes_in old) f) (2 ^ 64 - 1)) (2 ^ 64 - 1)
-  pub len : btree_map_len new.facts ≡ btree_map_len old.facts
 
 -- There are no facts at the number now.
 pub record Drops (old new : CountedFacts) (o : ℕ) : Type 0 where
@@ -68,7 +66,6 @@ pub record Drops (old new : CountedFacts) (o : ℕ) : Type 0 where
   pub here : told_at new o ≡ None
   pub others : (k : ℕ) → k ≢ o → told_at new k ≡ told_at old k
   pub charge : charge_in new ≡ charge_in old - units_of (sizes_in old) (told_at old o)
-  pub len : btree_map_len new.facts + (if is_some (told_at old o) then 1 else 0) ≡ btree_map_len old.facts
 
 -- The facts at the number, if there are any, are changed so.
 pub record Edits (old new : CountedFacts) (o : ℕ) (change : ObjectFacts → ObjectFacts) : Type 0 where

@@ -3,6 +3,5 @@ pub mod Packed
 pub mod Taken
 pub mod Numbers
 pub mod Counted
-pub mod Parts
 pub mod Told
 pub mod Built

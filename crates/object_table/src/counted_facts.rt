@@ -2,7 +2,7 @@
 ghost use Rattle.std.specs.Prelude.{◌≡◌, ◌≢◌, ◌<◌, ◌≤◌, ◌+◌, ℕ, Bool, Some, None, is_some, IsSome, OnOk, List, length, true};
 ghost use Rattle.std.specs.FinMap as map;
 ghost use Rattle.std.specs.Ordering.{nat_cmp};
-ghost use Rattle.std.specs.BTreeMap.{get, btree_map_len};
+ghost use Rattle.std.specs.BTreeMap.{get};
 ghost use Rattle.volume_terms.specs.VolumeSizes as volume;
 ghost use Rattle.posix_profile.specs.State.{Objects, Object, IsFile};
 ghost use Rattle.posix_profile.specs.Changes.{with_bytes, with_name, without_name};
@@ -28,6 +28,9 @@ pub(crate) struct CountedFacts {
     pub(crate) charge: u64,
 }
 
+/// For how many objects to come there is room made beside one that comes behind all others.
+const AHEAD: u64 = 8;
+
 /// The facts at a number, if there are any.
 fn facts_at(facts: &BTreeMap<u64, PackedFacts>, number: u64) -> Option<ObjectFacts>
     ensures { result ≡ facts_in facts.now number }
@@ -48,7 +51,6 @@ fn put_facts(
     ensures before { result ≡ facts_in facts.old number }
     ensures here { get nat_cmp facts.new number ≡ Some (Some new) }
     ensures others { (k : ℕ) → k ≢ number → get nat_cmp facts.new k ≡ get nat_cmp facts.old k }
-    ensures len { btree_map_len facts.new ≡ btree_map_len facts.old }
 {
     match facts.get_mut(&number) {
         Some(place) => replace(place, PackedFacts::pack(new)).unpack(),
@@ -70,7 +72,6 @@ impl CountedFacts {
     /// No facts.
     pub(crate) fn new(alloc: Global, sizes: VolumeSizes) -> CountedFacts
         ensures counts { Counts result map.empty }
-        ensures len { btree_map_len result.facts ≡ 0 }
         ensures size { sizes_in result ≡ volume.sizes_of sizes }
     {
         CountedFacts {
@@ -91,12 +92,43 @@ impl CountedFacts {
     pub(crate) fn make_room(&mut self, number: u64) -> Result<(), AllocError>
         ensures same { CountsTheSame self.old self.new }
         ensures room { OnOk result (HasRoomIn self.new number) }
-        ensures len { btree_map_len self.new.facts ≤ btree_map_len self.old.facts + 1 }
     {
         if self.facts.contains_key(&number) {
             return Ok(());
         }
         self.facts.insert(number, PackedFacts::none())?;
+        Ok(())
+    }
+
+    /// Makes room for the facts of a new object. Where it comes behind all others, every other one of those to come gets room too,
+    /// so that those between them fill the nodes of the map: where all came in order, a node would stay half full once it was
+    /// split.
+    pub(crate) fn make_room_ahead(&mut self, number: u64) -> Result<(), AllocError>
+        ensures same { CountsTheSame self.old self.new }
+        ensures room { OnOk result (HasRoomIn self.new number) }
+    {
+        if !self.is_behind_all(number) {
+            return self.make_room(number);
+        }
+        self.make_every_other(number)?;
+        self.make_room(number)
+    }
+
+    /// Whether no object with this number or a greater one has facts or room for them.
+    fn is_behind_all(&self, number: u64) -> bool {
+        match self.facts.last_key_value() {
+            Some((last, _)) => *last < number,
+            None => true,
+        }
+    }
+
+    /// Makes room for every other object behind one.
+    fn make_every_other(&mut self, number: u64) -> Result<(), AllocError>
+        ensures { CountsTheSame self.old self.new }
+    {
+        for step in 0..AHEAD {
+            self.make_room(number.saturating_add(2 * step + 2))?;
+        }
         Ok(())
     }
 

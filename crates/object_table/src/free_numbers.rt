@@ -1,7 +1,7 @@
 // The numbers that no object has.
 ghost use Rattle.std.proofs.Props.{props};
-ghost use Rattle.std.specs.Prelude.{◌≡◌, ◌≤◌, ◌<◌, ◌+◌, ℕ, Bool, true, false, OnOk};
-ghost use Rattle.std.specs.BinaryHeap.{IsHeap, heap_items, heap_len, heap_capacity};
+ghost use Rattle.std.specs.Prelude.{◌≡◌, ◌≤◌, ◌<◌, ℕ, Bool, true, false};
+ghost use Rattle.std.specs.BinaryHeap.{IsHeap, heap_items};
 ghost use Rattle.object_table.specs.Taken.{by_number, IsLeastFree, AllTaken, Takes, GivesBack, taken_in};
 
 use crate::packed::PackedFacts;
@@ -12,7 +12,13 @@ use std::collections::{BTreeMap, BinaryHeap};
 /// The least number that a new object gets: 1 is the root's.
 pub(crate) const FIRST: u64 = 2;
 
+/// How many numbers that were given back are listed at most.
+const LISTED: usize = 32;
+
 /// The numbers that are free: those that were given back, and from `low` up those that no object has.
+///
+/// Where more are given back than the list has room for, it begins anew: the least that is free is the mark then, and those above are
+/// sought when they are needed.
 #[derive(Drop)]
 pub(crate) struct FreeNumbers {
     freed: BinaryHeap<Reverse<u64>>,
@@ -25,8 +31,7 @@ impl FreeNumbers {
 
     /// The free numbers where these facts are all that there are.
     pub(crate) fn new(alloc: Global, facts: &BTreeMap<u64, PackedFacts>) -> FreeNumbers
-        ensures knows { KnowsFree result (taken_in facts.now) }
-        ensures none { heap_len result.freed ≡ 0 }
+        ensures { KnowsFree result (taken_in facts.now) }
     {
         let freed = BinaryHeap::new(alloc);
         let low = first_free(facts, FIRST);
@@ -44,22 +49,16 @@ impl FreeNumbers {
         }
     }
 
-    /// Makes room for so many numbers to be given back.
-    pub(crate) fn reserve(&mut self, count: usize) -> Result<(), AllocError>
-        ensures same { (taken : ℕ → Bool) → KnowsFree self.old taken → KnowsFree self.new taken }
-        ensures next { next_number self.new ≡ next_number self.old }
-        ensures len { heap_len self.new.freed ≡ heap_len self.old.freed }
-        ensures capacity { heap_capacity self.old.freed ≤ heap_capacity self.new.freed }
-        ensures room { OnOk result (heap_len self.new.freed + count ≤ heap_capacity self.new.freed) }
+    /// Makes room for the list of numbers that are given back.
+    pub(crate) fn make_list(&mut self) -> Result<(), AllocError>
+        ensures { (taken : ℕ → Bool) → KnowsFree self.old taken → KnowsFree self.new taken }
     {
-        self.freed.reserve(count)
+        self.freed.reserve_exact(LISTED)
     }
 
     /// The least number that is free is taken, as these facts say.
     pub(crate) fn take(&mut self, facts: &BTreeMap<u64, PackedFacts>)
-        ensures knows { (before : ℕ → Bool) → KnowsFree self.old before → Takes before (taken_in facts.now) (next_number self.old) → KnowsFree self.new (taken_in facts.now) }
-        ensures len { heap_len self.new.freed ≤ heap_len self.old.freed }
-        ensures capacity { heap_capacity self.new.freed ≡ heap_capacity self.old.freed }
+        ensures { (before : ℕ → Bool) → KnowsFree self.old before → Takes before (taken_in facts.now) (next_number self.old) → KnowsFree self.new (taken_in facts.now) }
     {
         match self.freed.pop() {
             Some(_) => {}
@@ -72,17 +71,36 @@ impl FreeNumbers {
 
     /// A number is free again.
     pub(crate) fn give_back(&mut self, number: u64)
-        requires { heap_len self.old.freed < heap_capacity self.old.freed }
-        ensures knows { (before after : ℕ → Bool) → KnowsFree self.old before → GivesBack before after number → KnowsFree self.new after }
-        ensures len { heap_len self.new.freed ≤ heap_len self.old.freed + 1 }
-        ensures capacity { heap_capacity self.old.freed ≤ heap_capacity self.new.freed }
+        ensures { (before after : ℕ → Bool) → KnowsFree self.old before → GivesBack before after number → KnowsFree self.new after }
     {
         if FIRST <= number && number < self.low {
-            match self.freed.push(Reverse(number)) {
-                Ok(()) => {}
-                Err(_) => unreachable!(),
-            }
+            self.list(number);
         }
+    }
+
+    /// A number below the mark is free again.
+    fn list(&mut self, number: u64)
+        requires first { 2 ≤ number }
+        requires below { number < self.old.low }
+        ensures { (before after : ℕ → Bool) → KnowsFree self.old before → GivesBack before after number → KnowsFree self.new after }
+    {
+        if self.freed.len() == self.freed.capacity() {
+            self.begin_anew(number);
+            return;
+        }
+        match self.freed.push(Reverse(number)) {
+            Ok(()) => {}
+            Err(_) => unreachable!(),
+        }
+    }
+
+    /// A number is free again, and the least that is free is the mark.
+    fn begin_anew(&mut self, number: u64)
+        requires { 2 ≤ number }
+        ensures { (before after : ℕ → Bool) → KnowsFree self.old before → GivesBack before after number → KnowsFree self.new after }
+    {
+        self.low = self.next().min(number);
+        self.freed.clear();
     }
 }
 

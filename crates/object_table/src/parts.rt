@@ -1,32 +1,14 @@
 // What is done with the facts and the free numbers of a table at once.
 ghost use Rattle.std.specs.Prelude.{◌≡◌, ◌≤◌, ◌+◌, ℕ, Bool, OnOk};
 ghost use Rattle.std.specs.FinMap as map;
-ghost use Rattle.std.specs.BTreeMap.{btree_map_len};
-ghost use Rattle.std.specs.BinaryHeap.{heap_len, heap_capacity};
 ghost use Rattle.posix_profile.specs.State.{Object, Objects};
-ghost use Rattle.object_table.specs.Taken.{IsLeastFree};
+ghost use Rattle.object_table.specs.Taken.{IsLeastFree, taken_in};
 ghost use Rattle.object_table.specs.Numbers.{KnowsFree, next_number};
 ghost use Rattle.object_table.specs.Counted.{sizes_in, HasRoomIn, Counts, CountsTheSame, FreshObject, CanGo, Drops};
-ghost use Rattle.object_table.specs.Parts.{AreParts};
 
 use crate::counted_facts::CountedFacts;
 use crate::facts::ObjectFacts;
 use crate::free_numbers::FreeNumbers;
-use std::alloc::AllocError;
-
-/// Makes room for the next new object, and for its number to be given back.
-pub(crate) fn make_room(
-    counted: &mut CountedFacts,
-    numbers: &mut FreeNumbers,
-) -> Result<(), AllocError>
-    ensures same { CountsTheSame counted.old counted.new }
-    ensures next { next_number numbers.new ≡ next_number numbers.old }
-    ensures parts { AreParts counted.old numbers.old → AreParts counted.new numbers.new }
-    ensures room { OnOk result (HasRoomIn counted.new (next_number numbers.new)) }
-{
-    numbers.reserve(counted.facts.len() + 1)?;
-    counted.make_room(numbers.next())
-}
 
 /// A new object gets the least number that is free, at which there is room.
 pub(crate) fn add_object(
@@ -38,7 +20,7 @@ pub(crate) fn add_object(
     ensures number { result ≡ next_number numbers.old }
     ensures least { (taken : ℕ → Bool) → KnowsFree numbers.old taken → IsLeastFree taken result }
     ensures size { sizes_in counted.new ≡ sizes_in counted.old }
-    ensures parts { AreParts counted.old numbers.old → AreParts counted.new numbers.new }
+    ensures free { KnowsFree numbers.old (taken_in counted.old.facts) → KnowsFree numbers.new (taken_in counted.new.facts) }
     ensures counts { (objects : Objects) (x : Object) → Counts counted.old objects → FreshObject (sizes_in counted.old) objects result x facts → Counts counted.new (map.insert objects result x) }
 {
     let number = numbers.next();
@@ -49,9 +31,8 @@ pub(crate) fn add_object(
 
 /// An object goes, and its number is free again.
 pub(crate) fn drop_object(counted: &mut CountedFacts, numbers: &mut FreeNumbers, number: u64)
-    requires { AreParts counted.old numbers.old }
     ensures size { sizes_in counted.new ≡ sizes_in counted.old }
-    ensures parts { AreParts counted.new numbers.new }
+    ensures free { KnowsFree numbers.old (taken_in counted.old.facts) → KnowsFree numbers.new (taken_in counted.new.facts) }
     ensures counts { (objects : Objects) → Counts counted.old objects → CanGo (sizes_in counted.old) objects number → Counts counted.new (map.remove objects number) }
 {
     match counted.at(number) {

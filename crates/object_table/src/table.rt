@@ -1,8 +1,6 @@
 // The table of objects.
 ghost use Rattle.std.specs.Prelude.{◌≡◌, ◌≤◌, ◌<◌, ◌+◌, ◌^◌, ℕ, Option, Some, None, OnOk, IfOk, List, length};
 ghost use Rattle.std.specs.FinMap as map;
-ghost use Rattle.std.specs.BTreeMap.{btree_map_len};
-ghost use Rattle.std.specs.BinaryHeap.{heap_len, heap_capacity};
 ghost use Rattle.volume_terms.specs.VolumeSizes as volume;
 ghost use Rattle.posix_profile.specs.State.{Objects, IsFile, IsDirectory, entries_of};
 ghost use Rattle.posix_profile.specs.Charge.{charge};
@@ -17,7 +15,7 @@ ghost use Rattle.object_table.specs.Counted.{sizes_in, Counts, CanGo, GetsName, 
 use crate::counted_facts::CountedFacts;
 use crate::facts::ObjectFacts;
 use crate::free_numbers::FreeNumbers;
-use crate::parts::{add_object, drop_object, make_room};
+use crate::parts::{add_object, drop_object};
 use object_store::ObjectChange;
 use posix_profile::{Info, Kind};
 use std::alloc::{AllocError, Global};
@@ -31,7 +29,6 @@ pub struct ObjectTable {
     counted: CountedFacts,
     numbers: FreeNumbers,
     ghost free: { KnowsFree numbers (taken_in counted.facts) },
-    ghost room: { heap_len numbers.freed + btree_map_len counted.facts ≤ heap_capacity numbers.freed },
 }
 
 impl ObjectTable {
@@ -54,7 +51,7 @@ impl ObjectTable {
         ensures tells { (objects : Objects) → Counts counted objects → IfOk result (λ table. Tells table objects) }
     {
         let mut numbers = FreeNumbers::new(alloc, &counted.facts);
-        numbers.reserve(counted.facts.len())?;
+        numbers.make_list()?;
         Ok(ObjectTable { counted, numbers })
     }
 
@@ -114,7 +111,7 @@ impl ObjectTable {
         ensures same { TellsTheSame self.old self.new }
         ensures room { OnOk result (HasRoomAt self.new (next_of self.new)) }
     {
-        make_room(&mut self.counted, &mut self.numbers)
+        self.counted.make_room_ahead(self.numbers.next())
     }
 
     /// Makes a change, in the room that was made. `replaced` is what the name led to that a removal takes away, or that

@@ -5,12 +5,12 @@ use Rattle.object_table.specs.Taken.{taken_in}
 use Rattle.object_table.proofs.Free.{took_knows, mark_below, mark_knows}
 use Rattle.object_table.proofs.free_numbers.FreeNumbers.take.Goals as goal
 
-pub returns-in-Some-clause-knows : goal.returns-in-Some-clause-knows
-returns-in-Some-clause-knows c = λ before knows takes.
+pub returns-in-Some : goal.returns-in-Some
+returns-in-Some c = λ before knows takes.
     took_knows c.args.self.now _ before (taken_in c.args.facts.now) c.in-Some.field-0 knows c.in-Some.ensures.top c.in-Some.ensures.permutation refl takes
 
-pub returns-in-None-clause-knows : goal.returns-in-None-clause-knows
-returns-in-None-clause-knows c = λ before knows takes.
+pub returns-in-None : goal.returns-in-None
+returns-in-None c = λ before knows takes.
     let zero' : length (heap_items c.args.self.now.freed) ≡ 0 = omega (arith, c.args.self.now.freed.data.ok.0, c.in-None.ensures.none) in
     let none = nil_from_length (heap_items c.args.self.now.freed) zero' in
     let below = mark_below c.args.self.now before (taken_in c.args.facts.now) knows none takes in

@@ -1,5 +1,4 @@
-use Rattle.std.proofs.Common.{arith}
 use Rattle.object_table.proofs.table.ObjectTable.new.Goals as goal
 
 pub invariant_of-result : goal.invariant_of-result
-invariant_of-result c = record { free = c.new-numbers.ensures.knows; room = omega (arith, c.new-numbers.ensures.none, c.new-counted.ensures.len) }
+invariant_of-result c = record { free = c.new-numbers.ensures }

@@ -163,12 +163,16 @@ struct Shown {
 }
 
 impl Answers for Shown {
+    ghost shows = { λ _ _ _ _. ⊥ };
+
     fn answer(&mut self, stamped: &Stamped) -> Reply {
         match self.tree.step(stamped) {
             Ok(reply) => reply,
             Err(_) => Reply::Error(Errno::ENOMEM),
         }
     }
+
+    ghost sound = { λ v z read_only s shown. absurd shown };
 }
 
 fn tree_after(alloc: Global, lines: &str) -> Result<PlainTree, Fail> {

@@ -26,9 +26,13 @@ struct Forgetful {
 }
 
 impl Answers for Forgetful {
+    ghost shows = { λ _ _ _ _. ⊥ };
+
     fn answer(&mut self, stamped: &Stamped) -> Reply {
         reply_of(self.tree.step(stamped))
     }
+
+    ghost sound = { λ v z read_only s shown. absurd shown };
 }
 
 /// A tree as a volume. Where its page of 512 bytes is lost, the second of each file, that page reads as zeros.
@@ -50,12 +54,16 @@ fn without_second_page(bytes: Bytes) -> Bytes {
 }
 
 impl Answers for Shown {
+    ghost shows = { λ _ _ _ _. ⊥ };
+
     fn answer(&mut self, stamped: &Stamped) -> Reply {
         match reply_of(self.tree.step(stamped)) {
             Reply::Data(bytes) if self.is_lost => Reply::Data(without_second_page(bytes)),
             reply => reply,
         }
     }
+
+    ghost sound = { λ v z read_only s shown. absurd shown };
 }
 
 /// Of a directory x that was renamed to y, the new name is on the flash, and the old one too.
@@ -101,9 +109,13 @@ impl HalfRenamed {
 }
 
 impl Answers for HalfRenamed {
+    ghost shows = { λ _ _ _ _. ⊥ };
+
     fn answer(&mut self, stamped: &Stamped) -> Reply {
         reply_of(self.step(stamped))
     }
+
+    ghost sound = { λ v z read_only s shown. absurd shown };
 }
 
 /// The end of a session of these commands on what answers them, in which power is lost after the last.

@@ -6,3 +6,4 @@ pub mod RunSteps
 pub mod Moves
 pub mod Above
 pub mod ReadOnly
+pub mod Answered

@@ -5,3 +5,4 @@ pub mod Volumes
 pub mod Endings
 pub mod Running
 pub mod laws
+pub mod Answering

@@ -1,11 +1,17 @@
 // A volume over a store of objects answers commands.
+ghost use Rattle.object_commands.specs.Answering.{ShowsState};
+
 use crate::volume::Volume;
 use command_answers::Answers;
 use object_store::ObjectStore;
 use posix_profile::{Reply, Stamped};
 
 impl<S: ObjectStore> Answers for Volume<S> {
+    ghost shows = { ShowsState S.meaning };
+
     fn answer(&mut self, stamped: &Stamped) -> Reply {
         self.call(stamped)
     }
+
+    ghost sound = { λ v z read_only s shown. shown.2.sound };
 }

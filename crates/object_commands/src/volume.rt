@@ -139,6 +139,7 @@ pub struct Volume<S> {
 }
 
 impl<S: ObjectStore> Volume<S> {
+    ghost use Rattle.command_plans.specs.Tables.{handles_in};
     ghost use Rattle.object_commands.specs.Volumes.{store_of, handles_of, is_read_only, is_stopped};
     ghost use Rattle.object_commands.specs.Endings.{IsAt, CommandEnds, StaysReading, TellsRefusal};
     ghost use Rattle.object_commands.specs.Running.{Runs};
@@ -149,14 +150,21 @@ impl<S: ObjectStore> Volume<S> {
         ensures given_back { IfErr result (λ back. back.0 ≡ store) }
     {
         match DescriptorTable::new(alloc) {
-            Ok(table) => Ok(Volume {
-                alloc,
-                store,
-                table,
-                read_only,
-                stopped: false,
-            }),
+            Ok(table) => Ok(Volume::over(alloc, store, table, read_only)),
             Err(error) => Err((store, error)),
+        }
+    }
+
+    /// A volume over the store, with these descriptors.
+    pub fn over(alloc: Global, store: S, table: DescriptorTable, read_only: bool) -> Volume<S>
+        ensures { (store_of result ≡ store) × (handles_of result ≡ handles_in table) × (is_read_only result ≡ read_only) × (is_stopped result ≡ false) }
+    {
+        Volume {
+            alloc,
+            store,
+            table,
+            read_only,
+            stopped: false,
         }
     }
 

@@ -8,7 +8,7 @@ use Rattle.std.proofs.lemmas.Bool.{cases_eq, or_cases, or_left, or_right, eqb-tr
 use Rattle.volume_terms.specs.Sizes.{Sizes, descriptors, root_number}
 use Rattle.posix_profile.specs.State.{Name, Object, Objects, Handle, State}
 use Rattle.posix_profile.specs.HandleSteps.{at_handle, close_step}
-use Rattle.posix_profile.specs.Names.{Names, Reached, root, below, is_named, is_open, prune, settle}
+use Rattle.posix_profile.specs.Names.{Names, Reached, root, below, is_named, is_open, prune}
 use Rattle.posix_profile.specs.Outcomes.{Outcome, answer}
 use Rattle.posix_profile.specs.Runs.{Replies, after_one, is_no_memory, is_stop}
 use Rattle.posix_profile.specs.Steps.{step, step_at}

@@ -1,7 +1,8 @@
 -- What a volume over pages is, and which state it stands for.
 use Rattle.std.specs.Prelude.{◌≡◌, ◌≤◌, Bool, true, false}
+use Rattle.std.specs.FinMap as map
 use Rattle.volume_terms.specs.Sizes.{Sizes, IsSizes}
-use Rattle.posix_profile.specs.State.{State}
+use Rattle.posix_profile.specs.State.{Objects, State}
 use Rattle.posix_profile.specs.laws.Sound.{IsSound}
 use Rattle.name_index.specs.declared.index.NameIndex.{NameIndex}
 use Rattle.object_commands.specs.Endings.{AreReading}
@@ -14,6 +15,7 @@ use Rattle.pages.specs.State.{PagesState}
 use Rattle.pages.specs.Stores.{bad_on}
 use Rattle.paged_objects.specs.Parts as parts
 use Rattle.paged_objects.specs.Standing.{StandsFor, Shown}
+use Rattle.paged_objects.specs.declared.store.PagedObjects.{PagedObjects}
 use Rattle.page_volume.specs.declared.volume.PageVolume.{PageVolume}
 
 -- its pages
@@ -52,3 +54,17 @@ pub record IsVolumeOf {P : Type 0} (state : P → PagesState) (z : Sizes) (s : S
   pub reading : is_read_only v ≡ true → AreReading s.handles
   pub named : is_read_only v ≡ true → settled s.objects ≡ s.objects
   pub shown : is_read_only v ≡ true → Shown z (state (pages_of v)) s.objects
+
+-- A store of objects in pages has these objects: its sound pages and its table hold them, its index has the hashes of their
+-- names, and a volume of its sizes can have them.
+pub record IsStored {P : Type 0} (state : P → PagesState) (o : PagedObjects P) (objects : Objects) : Type 0 where
+  pub numbers : IsSizes (table_sizes (parts.table_of o))
+  pub stands : StandsFor (table_sizes (parts.table_of o)) (state (parts.pages_of o)) objects
+  pub tells : Tells (parts.table_of o) objects
+  pub hashes : HasNames (parts.names_of o) (table_sizes (parts.table_of o)) (state (parts.pages_of o)).present objects
+  pub sound : IsSound (table_sizes (parts.table_of o)) (record { objects = objects; handles = map.empty })
+
+-- Each of these objects of a store has a name, and a mount shows them.
+pub record IsShownBy {P : Type 0} (state : P → PagesState) (o : PagedObjects P) (objects : Objects) : Type 0 where
+  pub named : settled objects ≡ objects
+  pub shown : Shown (table_sizes (parts.table_of o)) (state (parts.pages_of o)) objects

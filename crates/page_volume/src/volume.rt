@@ -17,10 +17,9 @@ ghost use Rattle.pages.specs.Stores.{GoesOn, HasFailed};
 ghost use Rattle.paged_objects.specs.Ending.{StaysAs, HasEnded};
 ghost use Rattle.paged_objects.specs.Standing.{StandsFor, Shown};
 
-use name_index::NameIndex;
+use command_plans::table::DescriptorTable;
 use object_commands::Volume;
 use object_store::ObjectStore;
-use object_table::ObjectTable;
 use paged_objects::PagedObjects;
 use pages::PageStore;
 use posix_profile::{Errno, Reply, Stamped};
@@ -33,33 +32,30 @@ pub struct PageVolume<P: PageStore> {
 }
 
 impl<P: PageStore> PageVolume<P> {
-    ghost use Rattle.page_volume.specs.Volumes.{pages_of, table_of, is_read_only, is_stopped, IsVolumeOf};
+    ghost use Rattle.page_volume.specs.Volumes.{pages_of, table_of, is_read_only, is_stopped, IsStored, IsShownBy, IsVolumeOf};
+    ghost use Rattle.command_plans.specs.Tables.{handles_in};
+    ghost use Rattle.paged_objects.specs.Parts as parts;
     ghost use Rattle.object_commands.specs.Running.{OnlyTells};
     ghost use Rattle.page_volume.specs.Closing.{CanWrite, KeepsOnly};
     ghost use Rattle.page_volume.specs.Running.{RunsPages};
 
-    /// A volume of the objects that the pages hold, the table tells and the index names, with no descriptor open.
+    /// A volume of objects in pages, with a table of descriptors of which none is open.
     pub fn new(
         alloc: Global,
-        pages: P,
-        table: ObjectTable,
-        names: NameIndex,
+        objects: PagedObjects<P>,
+        descriptors: DescriptorTable,
         read_only: bool,
-    ) -> Result<PageVolume<P>, (P, AllocError)>
-        ensures pages { IfOk result (λ v. P.state (pages_of v) ≡ P.state pages) }
-        ensures table { IfOk result (λ v. table_of v ≡ table) }
-        ensures read_only { IfOk result (λ v. is_read_only v ≡ read_only) }
-        ensures goes_on { IfOk result (λ v. is_stopped v ≡ false) }
-        ensures at { (objects : Objects) → IsSizes (table_sizes table) → StandsFor (table_sizes table) (P.state pages) objects → Tells table objects → HasNames names (table_sizes table) (P.state pages).present objects
-            → IsSound (table_sizes table) (record { objects = objects; handles = map.empty }) → (P.state pages).worn ≡ read_only
-            → (read_only ≡ true → (settled objects ≡ objects) × Shown (table_sizes table) (P.state pages) objects)
-            → IfOk result (IsVolumeOf P.state (table_sizes table) (record { objects = objects; handles = map.empty })) }
-        ensures given_back { IfErr result (λ back. back.0 ≡ pages) }
+    ) -> PageVolume<P>
+        requires { handles_in descriptors ≡ map.empty }
+        ensures pages { pages_of result ≡ parts.pages_of objects }
+        ensures table { table_of result ≡ parts.table_of objects }
+        ensures read_only { is_read_only result ≡ read_only }
+        ensures goes_on { is_stopped result ≡ false }
+        ensures at { (tree : Objects) → IsStored P.state objects tree → (P.state (parts.pages_of objects)).worn ≡ read_only → (read_only ≡ true → IsShownBy P.state objects tree)
+            → IsVolumeOf P.state (table_sizes (parts.table_of objects)) (record { objects = tree; handles = map.empty }) result }
     {
-        let objects = PagedObjects::new(alloc, pages, table, names);
-        match Volume::new(alloc, objects, read_only) {
-            Ok(volume) => Ok(PageVolume { volume }),
-            Err((objects, error)) => Err((objects.into_pages(), error)),
+        PageVolume {
+            volume: Volume::over(alloc, objects, descriptors, read_only),
         }
     }
 

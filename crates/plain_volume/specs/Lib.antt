@@ -2,3 +2,4 @@ pub mod Views
 pub mod Codes
 pub mod Standing
 pub mod Runs
+pub mod Answering

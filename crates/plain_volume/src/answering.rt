@@ -4,7 +4,13 @@ use command_answers::Answers;
 use posix_profile::{Reply, Stamped};
 
 impl Answers for PlainVolume {
+    ghost use Rattle.plain_volume.specs.Answering.{ShowsPlain};
+
+    ghost shows = { ShowsPlain };
+
     fn answer(&mut self, stamped: &Stamped) -> Reply {
         self.call(stamped)
     }
+
+    ghost sound = { λ v z read_only s shown. shown.1 };
 }

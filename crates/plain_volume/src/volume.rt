@@ -7,6 +7,7 @@ ghost use Rattle.posix_profile.specs.Names.{settle};
 ghost use Rattle.posix_profile.specs.Runs.{is_no_memory, is_stop, takes_no_memory};
 ghost use Rattle.posix_profile.specs.Steps.{step};
 ghost use Rattle.posix_profile.specs.laws.Fresh.{fresh};
+ghost use Rattle.posix_profile.specs.laws.Sound.{IsSound};
 ghost use Rattle.object_commands.specs.Volumes.{store_of, handles_of, is_read_only, is_stopped};
 ghost use Rattle.plain_volume.specs.Runs.{RunsPlain};
 
@@ -94,6 +95,7 @@ impl PlainVolume {
         ensures state { is_no_memory result ≡ false → self.new.state ≡ (step self.old.sizes self.old.read_only self.old.state stamped.now).state }
         ensures memory { is_no_memory result ≡ true → (self.new.state ≡ self.old.state) × (takes_no_memory stamped.now.command ≡ false) }
         ensures goes_on { is_stop result ≡ false }
+        ensures sound { IsSound self.new.sizes self.new.state }
     {
         self.volume.call(stamped)
     }
@@ -139,7 +141,8 @@ impl PlainVolume {
 
     /// The volume that a mount makes of what this one would show: no descriptors, and the objects that names keep.
     pub fn settled(&self, read_only: bool) -> Result<PlainVolume, AllocError>
-        ensures { IfOk result (λ volume. volume ≡ record { sizes = self.now.sizes; read_only = read_only; state = settle self.now.state }) }
+        ensures settles { IfOk result (λ volume. volume ≡ record { sizes = self.now.sizes; read_only = read_only; state = settle self.now.state }) }
+        ensures sound { IfOk result (λ volume. IsSound volume.sizes volume.state) }
     {
         let objects = self.volume.store().settled()?;
         let volume = volume_over(self.alloc, objects, read_only)?;

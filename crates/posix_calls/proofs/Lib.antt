@@ -1,2 +1,3 @@
 mod Mounting
 mod Unmounting
+pub mod Answered

@@ -1,5 +1,5 @@
 -- A volume of mounted pages stands for their tree.
-use Rattle.std.specs.Prelude.{◌≡◌, ◌↔◌, Bool, true, false, Result, Ok, Err, IfOk}
+use Rattle.std.specs.Prelude.{◌≡◌, ◌↔◌, Bool, true, false}
 use Rattle.std.proofs.Common.{sym, ◌∙◌, ap, subst}
 use Rattle.volume_terms.specs.Sizes.{Sizes}
 use Rattle.posix_profile.specs.State.{Objects}
@@ -20,6 +20,8 @@ use Rattle.mounting.specs.Reads.{ReadsByCheckpoint}
 use Rattle.newest_pages.specs.Checked.{HasTrueFlash}
 use Rattle.page_volume.specs.Volumes.{pages_of, is_read_only, is_stopped, IsVolumeOf}
 use Rattle.page_volume.specs.declared.volume.PageVolume.{PageVolume}
+use Rattle.paged_objects.specs.Parts as parts
+use Rattle.paged_objects.specs.declared.store.PagedObjects.{PagedObjects}
 use Rattle.posix_calls.specs.Mounts.{StandsForTree, IsMounted}
 
 -- a tree that fits is a state that a volume can have
@@ -30,15 +32,13 @@ sound_at p table names objects same mounted = subst (λ (z : Sizes). IsSound z (
 })
 
 -- what a volume over these pages stands for
-pub stands_for : {P E : Type 0} (state : P → PagesState) (p : PagesState) (table : ObjectTable) (names : NameIndex) (objects : Objects) (r : Result (PageVolume P) E)
-    → table_sizes table ≡ volume_of p → IsMountedWith p table names objects → IfOk r (λ v. state (pages_of v) ≡ p) → IfOk r (IsVolumeOf state (table_sizes table) (at_mount objects))
-    → IfOk r (λ v. StandsForTree state v objects)
-stands_for state p table names objects (Ok v) same mounted pages volume = record {
+pub stands_for : {P : Type 0} (state : P → PagesState) (p : PagesState) (z : Sizes) (objects : Objects) (v : PageVolume P) (table : ObjectTable) (names : NameIndex)
+    → z ≡ volume_of p → IsMountedWith p table names objects → state (pages_of v) ≡ p → IsVolumeOf state z (at_mount objects) v → StandsForTree state v objects
+stands_for state p z objects v table names same mounted pages volume = record {
   answers = subst (λ (q : PagesState). Answers q.device.geometry q.device.flash (IsTreeOf q.spare objects)) (sym pages) mounted.answers;
-  volume = subst (λ (q : PagesState). IsVolumeOf state (volume_of q) (at_mount objects) v) (sym pages) (subst (λ (z : Sizes). IsVolumeOf state z (at_mount objects) v) same volume);
+  volume = subst (λ (q : PagesState). IsVolumeOf state (volume_of q) (at_mount objects) v) (sym pages) (subst (λ (k : Sizes). IsVolumeOf state k (at_mount objects) v) same volume);
   shown = subst (λ (q : PagesState). Shown (volume_of q) q objects) (sym pages) mounted.shown;
 }
-stands_for state p table names objects (Err e) same mounted pages volume = tt
 
 -- a volume over pages that were mounted is mounted
 module _ {P : Type 0} (state : P → PagesState) (device now : Device) (p : PagesState) (v : PageVolume P) (r : Bool) (there : state (pages_of v) ≡ p) (since : IsTrustedSince device now p.device) where
@@ -57,3 +57,21 @@ module _ {P : Type 0} (state : P → PagesState) (device now : Device) (p : Page
     checked = λ truth. subst (λ (q : PagesState). IsChecked device.geometry device.flash q.checkpoint) (sym there) (checked truth);
     few = subst (λ (q : PagesState). ReadsByCheckpoint device q.device) (sym there) few;
   }
+
+-- a volume over the objects of pages that were mounted is mounted
+module _ {P : Type 0} (state : P → PagesState) (device now : Device) (pages : P) (table : ObjectTable) (names : NameIndex) (r : Bool) (o : PagedObjects P) (v : PageVolume P)
+    (in_pages : parts.pages_of o ≡ pages) (in_table : parts.table_of o ≡ table) (in_names : parts.names_of o ≡ names) (there : state (pages_of v) ≡ state (parts.pages_of o)) where
+  stored : (tree : Objects) → IsMountedWith (state pages) table names tree → IsMountedWith (state (parts.pages_of o)) (parts.table_of o) (parts.names_of o) tree
+  stored tree m = subst (λ (p : P). IsMountedWith (state p) (parts.table_of o) (parts.names_of o) tree) (sym in_pages)
+      (subst (λ (t : ObjectTable). IsMountedWith (state pages) t (parts.names_of o) tree) (sym in_table) (subst (λ (n : NameIndex). IsMountedWith (state pages) table n tree) (sym in_names) m))
+
+  pub mounted_over : IsTrustedSince device now (state pages).device → is_stopped v ≡ false → is_read_only v ≡ r → (r ≡ true) ↔ CanOnlyBeRead (state pages)
+      → ((state pages).device.honest ≡ true → AreNext (state pages).device.flash (state pages).next) → (HasTrueFlash device → IsChecked device.geometry device.flash (state pages).checkpoint)
+      → ReadsByCheckpoint device (state pages).device → table_sizes table ≡ volume_of (state pages) → (state pages).worn ≡ r
+      → ((state pages).device.honest ≡ true → (objects : Objects) × IsMountedWith (state pages) table names objects)
+      → ((tree : Objects) → table_sizes (parts.table_of o) ≡ volume_of (state (parts.pages_of o)) → IsMountedWith (state (parts.pages_of o)) (parts.table_of o) (parts.names_of o) tree
+      → (state (parts.pages_of o)).worn ≡ r → StandsForTree state v tree) → IsMounted state device v
+  mounted_over since goes is read_only next checked few sizes worn tree stands = mounted_there state device now (state pages) v r (there ∙ ap state in_pages) since goes is read_only next checked few
+      (λ honest.
+      let told = tree honest in
+      (told.0, stands told.0 (ap table_sizes in_table ∙ sizes ∙ sym (ap (λ (p : P). volume_of (state p)) in_pages)) (stored told.0 told.1) (ap (λ (p : P). (state p).worn) in_pages ∙ worn)))

@@ -3,3 +3,4 @@ pub mod Mounts
 pub mod Volumes
 pub mod Endings
 pub mod laws
+pub mod Answering

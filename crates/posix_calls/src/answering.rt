@@ -1,11 +1,21 @@
 // A volume that answers what reads its tree by commands.
 use crate::volume::Volume;
 use command_answers::Answers;
+use flash_pages::FlashPages;
 use nand_model::Nand;
+use pages::Pages;
 use posix_profile::{Reply, Stamped};
+use trusted_nand::TrustedNand;
 
 impl<N: Nand> Answers for Volume<N> {
+    ghost use Rattle.posix_calls.specs.Answering.{ShowsState};
+    ghost use Rattle.posix_calls.specs.Volumes.{over_pages};
+
+    ghost shows = { λ v. ShowsState ⟦<FlashPages<TrustedNand<N>> as Pages>⟧.state (over_pages v) };
+
     fn answer(&mut self, stamped: &Stamped) -> Reply {
         self.call(stamped)
     }
+
+    ghost sound = { λ v z read_only s shown. shown.2.sound };
 }

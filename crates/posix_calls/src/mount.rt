@@ -5,9 +5,11 @@ ghost use Rattle.mounting.specs.Faults.{WhyNotMounted};
 
 use crate::joining::join;
 use crate::volume::Volume;
+use command_plans::table::DescriptorTable;
 use flash_pages::FlashPages;
 use mounting::{MountFault, Mounted, unmounted};
 use nand_model::Nand;
+use paged_objects::PagedObjects;
 use pages::Pages;
 use std::alloc::Global;
 use std::num::NonZeroUsize;
@@ -44,12 +46,13 @@ impl<N: Nand> Volume<N> {
             names,
             read_only,
         } = mounting::mount(alloc, device, capacity)?;
-        match join(alloc, pages, table, names, read_only) {
-            Ok(volume) => Ok(Volume { volume }),
-            Err((pages, _)) => Err(unmounted(
-                pages.into_device().into_inner(),
-                MountFault::NoMemory,
-            )),
+        match DescriptorTable::new(alloc) {
+            Ok(descriptors) => {
+                let objects = PagedObjects::new(alloc, pages, table, names);
+                let volume = join(alloc, objects, descriptors, read_only);
+                Ok(Volume { volume })
+            }
+            Err(_) => Err(unmounted(pages.into_device().into_inner(), MountFault::NoMemory)),
         }
     }
 }

@@ -5,10 +5,12 @@ use crate::devices::formatted;
 use crate::losses::SESSION;
 use crate::refused::{FILE, TREE};
 use crate::served::mount;
+use command_plans::table::DescriptorTable;
 use flash_pages::FlashPages;
 use mounting::Mounted;
 use nand_model::MemNand;
 use page_volume::PageVolume;
+use paged_objects::PagedObjects;
 use plain_tree::Answers;
 use posix_calls::{Command, Errno, Reply, Stamped};
 use refusing_pages::RefusingPages;
@@ -25,9 +27,13 @@ struct Refusing {
 }
 
 impl Answers for Refusing {
+    ghost shows = { λ _ _ _ _. ⊥ };
+
     fn answer(&mut self, stamped: &Stamped) -> Reply {
         self.volume.call(stamped)
     }
+
+    ghost sound = { λ v z read_only s shown. absurd shown };
 }
 
 /// A volume over the pages of a mount, which refuse memory after so many calls.
@@ -43,10 +49,10 @@ fn volume_over(
         read_only,
     } = mounted;
     let pages = RefusingPages::new(pages, calls);
-    match PageVolume::new(alloc, pages, table, names, read_only) {
-        Ok(volume) => Ok(Refusing { volume }),
-        Err((_pages, error)) => Err(error.into()),
-    }
+    let objects = PagedObjects::new(alloc, pages, table, names);
+    let descriptors = DescriptorTable::new(alloc)?;
+    let volume = PageVolume::new(alloc, objects, descriptors, read_only);
+    Ok(Refusing { volume })
 }
 
 /// Mounts a device as it is, with a cache of one page.

@@ -22,9 +22,13 @@ impl Serve for Served {
 }
 
 impl Answers for Served {
+    ghost shows = { λ _ _ _ _. ⊥ };
+
     fn answer(&mut self, stamped: &Stamped) -> Reply {
         self.volume.call(stamped)
     }
+
+    ghost sound = { λ v z read_only s shown. absurd shown };
 }
 
 /// Mounts a device as it is, with a cache of so many pages.

@@ -1,15 +1,24 @@
-use Rattle.std.proofs.Common.{sym, subst}
+use Rattle.std.proofs.Common.{sym, ap, subst}
 use Rattle.volume_terms.specs.Sizes.{Sizes, IsSizes}
 use Rattle.object_pages.specs.Naming.{HasNames}
+use Rattle.object_table.specs.Told.{table_sizes}
+use Rattle.page_volume.specs.Volumes.{IsStored}
 use Rattle.paged_objects.specs.Standing.{StandsFor, Shown}
 use Rattle.posix_calls.proofs.Mounting.{sound_at, stands_for}
 use Rattle.posix_calls.proofs.joining.join.Goals as goal
 
 pub returns-clause-tree : goal.returns-clause-tree
-returns-clause-tree g c objects same mounted worn =
+returns-clause-tree g c tree same mounted worn =
     let state = g.P.Pages.state in
-    let p = state c.args.pages in
+    let objects = c.args.objects in
+    let p = state objects.pages in
     let z = sym same in
-    stands_for state p c.args.table c.args.names objects c.new.result same mounted c.new.ensures.pages
-    (c.new.ensures.at objects (subst IsSizes z mounted.can.numbers) (subst (λ (k : Sizes). StandsFor k p objects) z mounted.stands) mounted.tells (subst (λ (k : Sizes). HasNames c.args.names k p.present objects) z (λ d dir. mounted.covers d dir.0 dir.1 dir.2)) (sound_at p c.args.table c.args.names objects same mounted) worn
-    (λ _. (mounted.settles, subst (λ (k : Sizes). Shown k p objects) z mounted.shown)))
+    let stored : IsStored state objects tree = record {
+      numbers = subst IsSizes z mounted.can.numbers;
+      stands = subst (λ (k : Sizes). StandsFor k p tree) z mounted.stands;
+      tells = mounted.tells;
+      hashes = subst (λ (k : Sizes). HasNames objects.names k p.present tree) z (λ d dir. mounted.covers d dir.0 dir.1 dir.2);
+      sound = sound_at p objects.table objects.names tree same mounted;
+    } in
+    stands_for state p (table_sizes objects.table) tree c.new.result objects.table objects.names same mounted (ap state c.new.ensures.pages)
+    (c.new.ensures.at tree stored worn (λ _. record { named = mounted.settles; shown = subst (λ (k : Sizes). Shown k p tree) z mounted.shown }))

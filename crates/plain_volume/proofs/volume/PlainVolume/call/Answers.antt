@@ -15,3 +15,6 @@ returns-clause-memory c = (call_ends c.args.self.now c.args.stamped.now c.call.r
 
 pub returns-clause-goes_on : goal.returns-clause-goes_on
 returns-clause-goes_on c = (call_ends c.args.self.now c.args.stamped.now c.call.result c.self.inside.volume c.call.new.self c.self.invariant c.self.view_is c.call.ensures.ends).goes_on
+
+pub returns-clause-sound : goal.returns-clause-sound
+returns-clause-sound c = (call_ends c.args.self.now c.args.stamped.now c.call.result c.self.inside.volume c.call.new.self c.self.invariant c.self.view_is c.call.ensures.ends).plain.sound

@@ -19,3 +19,6 @@ invariant_of-result c =
     plain_from z (settle (state_of v)) c.in_ok-volume.volume c.self.invariant.numbers (settle_sound z (state_of v) c.self.invariant.sound)
     (ap numbers_of made.store ∙ c.in_ok-objects.ensures.sizes ∙ ap numbers_of c.store.ensures) (λ i. record { objects = objects i; handles = made.handles i }) made.goes_on
     none_open (ap (λ (s : State). s.objects) (settle_again z (state_of v) c.self.invariant.sound.well_formed))
+
+pub returns-clause-sound : goal.returns-clause-sound
+returns-clause-sound c = (invariant_of-result c).sound

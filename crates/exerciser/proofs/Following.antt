@@ -1,5 +1,5 @@
 -- The trees after the first commands of a session, one by one.
-use Rattle.std.proofs.Common.{◌≡◌, ◌≤◌, ◌<◌, ℕ, ◌+◌, zero, suc, Bool, true, false, List, [], ◌∷◌, length, take, Some, None, slice_get, inl, inr, subst, arith}
+use Rattle.std.proofs.Common.{◌≡◌, ◌≤◌, ◌<◌, ℕ, ◌+◌, zero, suc, Bool, true, false, List, [], ◌∷◌, length, take, Some, None, slice_get, inl, inr, subst, arith, ap, sym, ◌∙◌, IsTrue, ◌↔◌}
 use native.Mathlib.Numerals.{unary_clauses}
 use Rattle.std.proofs.lemmas.Bool.{cases_eq, cases_lt}
 use Rattle.volume_terms.specs.Sizes.{Sizes}
@@ -8,7 +8,12 @@ use Rattle.posix_profile.specs.Losses.{Covers}
 use Rattle.posix_profile.specs.State.{State}
 use Rattle.posix_profile.specs.declared.command.Stamped.{Stamped}
 use Rattle.posix_profile.specs.declared.reply.Reply.{Reply}
-use Rattle.exerciser.specs.Keeping.{after_told, after_all_told, shown_of, shown_after, Leaves, IsLeast}
+use Rattle.plain_tree.specs.Sameness.{TellsSame}
+use Rattle.posix_profile.specs.Names.{prune, settle}
+use Rattle.posix_profile.specs.laws.Prune.{prune_same}
+use Rattle.posix_profile.specs.laws.Sound.{IsSound}
+use Rattle.std.specs.FinMap as map
+use Rattle.exerciser.specs.Keeping.{after_told, after_all_told, shown_of, shown_after, Leaves, IsLeast, IsKept}
 
 after_suc : (z : Sizes) (read_only : Bool) (s : State) (commands : List Stamped) (replies : List Reply) (k : ℕ) (command : Stamped) (reply : Reply)
     → slice_get commands k ≡ Some command → slice_get replies k ≡ Some reply
@@ -56,3 +61,40 @@ module _ (before : PlainView) (commands : List Stamped) (replies : List Reply) (
 
   pub none_found : (n : ℕ) → ((k : ℕ) → k ≤ length commands → k ≤ length replies → k < n) → NoneBelow n → IsLeast before commands replies shown None
   none_found n all none k leaves = none k (all k leaves.asked leaves.answered) leaves
+
+-- what a mount shows of a sound state without descriptors is its objects
+pub bare_settled : (z : Sizes) (s : State) → IsSound z s → s.handles ≡ map.empty → (settle s).objects ≡ s.objects
+bare_settled z s sound bare = ap (λ (t : State). t.objects) (ap prune (λ i. record { objects = s.objects; handles = sym bare i }) ∙ prune_same z s sound.well_formed)
+
+-- the volume shows the state still, which is not that of fewer commands
+abbrev pub NoneKept : {V : Type 0} → (V → Sizes → Bool → State → Type 0) → V → V → PlainView → List Stamped → List Reply → ℕ → Type 0
+NoneKept shows old now before commands replies n =
+    (z : Sizes) (read_only : Bool) (s : State) → shows old z read_only s → s.handles ≡ map.empty → shows now z read_only s × NoneBelow before commands replies (record { sizes = z; read_only = read_only; state = s }) n
+
+module _ {V : Type 0} (shows : V → Sizes → Bool → State → Type 0) (sound : (v : V) (z : Sizes) (read_only : Bool) (s : State) → shows v z read_only s → IsSound z s)
+    (before : PlainView) (commands : List Stamped) (replies : List Reply) (old : V) where
+  pub kept_start : (n : ℕ) → ((k : ℕ) → Covers commands replies k → n ≤ k) → NoneKept shows old old before commands replies n
+  kept_start n least = λ z read_only s shown bare. (shown, none_uncovered before commands replies (record { sizes = z; read_only = read_only; state = s }) n least)
+
+  pub kept_end : (now : V) (n : ℕ) → ((k : ℕ) → k ≤ length commands → k ≤ length replies → k < n) → NoneKept shows old now before commands replies n → IsKept shows old before commands replies None
+  kept_end now n all none = λ z read_only s shown bare. none_found before commands replies (record { sizes = z; read_only = read_only; state = s }) n all (none z read_only s shown bare).1
+
+  module _ (now new : V) (tree : PlainView) (n : ℕ) (same : Bool) (state : tree.state ≡ after_all_told before.sizes before.read_only before.state commands (take n replies))
+      (none : NoneKept shows old now before commands replies n) (told : TellsSame shows now new (settle tree.state).objects same) where
+    is_same : (z : Sizes) (read_only : Bool) (s : State) → shows old z read_only s → s.handles ≡ map.empty → IsTrue same ↔ (shown_after before commands replies n ≡ (settle s).objects)
+    is_same z read_only s shown bare =
+        let so = none z read_only s shown bare in
+        let both = (told z read_only s so.0).0 bare in
+        let settled = bare_settled z s (sound now z read_only s so.0) bare in
+        let after : (settle tree.state).objects ≡ shown_after before commands replies n = ap (λ (t : State). (settle t).objects) state in
+        (λ is. sym after ∙ both.0 is ∙ sym settled, λ is. both.1 (after ∙ is ∙ settled))
+
+    pub kept_more : same ≡ false → NoneKept shows old new before commands replies (n + 1)
+    kept_more no' = λ z read_only s shown bare.
+        let so = none z read_only s shown bare in
+        ((told z read_only s so.0).1, none_next before commands replies (record { sizes = z; read_only = read_only; state = s }) n (λ is. not_both same no' ((is_same z read_only s shown bare).1 is)) so.1)
+
+    pub kept_found : same ≡ true → Covers commands replies n → n ≤ length commands → n ≤ length replies → IsKept shows old before commands replies (Some n)
+    kept_found yes' covers asked answered = λ z read_only s shown bare.
+        least_found before commands replies (record { sizes = z; read_only = read_only; state = s }) n
+        (record { covers = covers; asked = asked; answered = answered; same = (is_same z read_only s shown bare).0 yes' }) (none z read_only s shown bare).1

@@ -1,5 +1,6 @@
 -- What the commands of a session change, as they were answered, and which tree it may leave.
 use Rattle.std.specs.Prelude.{◌≡◌, ℕ, ◌≤◌, Bool, true, false, if◌then◌else◌, List, [], ◌∷◌, length, take, Option, Some, None}
+use Rattle.std.specs.FinMap as map
 use Rattle.volume_terms.specs.Sizes.{Sizes}
 use Rattle.plain_volume.specs.Views.{PlainView}
 use Rattle.posix_profile.specs.Losses.{Covers}
@@ -46,3 +47,12 @@ pub record Leaves (before : PlainView) (commands : List Stamped) (replies : List
 abbrev pub IsLeast : PlainView → List Stamped → List Reply → PlainView → Option ℕ → Type 0
 IsLeast before commands replies tree (Some k) = Leaves before commands replies tree k × ((j : ℕ) → Leaves before commands replies tree j → k ≤ j)
 IsLeast before commands replies tree None = (k : ℕ) → Leaves before commands replies tree k → ⊥
+
+-- of each state that is shown before, with no descriptor open: the least number of commands after which a session leaves what a mount shows of it; none where it may not leave it
+abbrev pub IsKept : {V : Type 0} → (V → Sizes → Bool → State → Type 0) → V → PlainView → List Stamped → List Reply → Option ℕ → Type 0
+IsKept shows old before commands replies found =
+    (z : Sizes) (read_only : Bool) (s : State) → shows old z read_only s → s.handles ≡ map.empty → IsLeast before commands replies (record { sizes = z; read_only = read_only; state = s }) found
+
+-- what a mount shows of each state that is shown before, with no descriptor open, is what it shows of the tree
+abbrev pub IsTreeShown : {V : Type 0} → (V → Sizes → Bool → State → Type 0) → V → PlainView → Type 0
+IsTreeShown shows old tree = (z : Sizes) (read_only : Bool) (s : State) → shows old z read_only s → s.handles ≡ map.empty → shown_of tree ≡ (settle s).objects

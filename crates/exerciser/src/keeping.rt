@@ -1,7 +1,7 @@
 // The commands that a cut session kept.
 ghost use Rattle.std.specs.Prelude.{◌≡◌, ◌≤◌, ℕ, length, take, IfOk, IfSome, OnOk, OnErr};
 ghost use Rattle.posix_profile.specs.Losses.{is_synced, Covers};
-ghost use Rattle.exerciser.specs.Keeping.{after_told, after_all_told, IsLeast};
+ghost use Rattle.exerciser.specs.Keeping.{after_told, after_all_told, IsLeast, IsKept};
 
 use plain_tree::{Answers, PlainTree, TreeFault};
 use posix_profile::{Command, Errno, Reply, Stamped};
@@ -95,6 +95,33 @@ pub(crate) fn least_kept(
     Ok(None)
 }
 
+/// As `kept`, of a session that was answered so.
+fn kept_of<V: Answers>(
+    before: &PlainTree,
+    script: &[Stamped],
+    replies: &[Reply],
+    volume: &mut V,
+) -> Result<Option<u64>, TreeFault>
+    ensures covers { IfOk result (λ found. IfSome found (λ k. Covers script.now replies.now k)) }
+    ensures begun { IfOk result (λ found. IfSome found (λ k. k ≤ length replies.now)) }
+    ensures within { IfOk result (λ found. IfSome found (λ k. k ≤ length script.now)) }
+    ensures least { IfOk result (IsKept V.shows volume.old before.now script.now replies.now) }
+{
+    let mut tree = before.copy()?;
+    let covered = covered(script, replies);
+    follow_first(&mut tree, script, replies, covered)?;
+    let answered = script.len().min(replies.len());
+    for done in covered..answered + 1 {
+        if tree.same(volume)? {
+            return Ok(Some(done as u64));
+        }
+        if done < answered {
+            follow(&mut tree, &script[done], &replies[done])?;
+        }
+    }
+    Ok(None)
+}
+
 /// The least number of commands of a session after which its tree is that of the volume: from those that a done sync covers
 /// to those that were begun. `before` is the tree before the session, and `end` how the session ended that was asked these
 /// commands; those answered ENOMEM, EIO or EROFS change nothing. None where there is no such number. The volume, which needs a free
@@ -108,18 +135,7 @@ pub fn kept<V: Answers>(
     ensures covers { IfOk result (λ found. IfSome found (λ k. Covers script.now end.now.replies.items k)) }
     ensures begun { IfOk result (λ found. IfSome found (λ k. k ≤ length end.now.replies.items)) }
     ensures within { IfOk result (λ found. IfSome found (λ k. k ≤ length script.now)) }
+    ensures least { IfOk result (IsKept V.shows volume.old before.now script.now end.now.replies.items) }
 {
-    let mut tree = before.copy()?;
-    let covered = covered(script, &end.replies);
-    follow_first(&mut tree, script, &end.replies, covered)?;
-    let answered = script.len().min(end.replies.len());
-    for done in covered..answered + 1 {
-        if tree.same(volume)? {
-            return Ok(Some(done as u64));
-        }
-        if done < answered {
-            follow(&mut tree, &script[done], &end.replies[done])?;
-        }
-    }
-    Ok(None)
+    kept_of(before, script, &end.replies, volume)
 }

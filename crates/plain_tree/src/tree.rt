@@ -1,15 +1,19 @@
 // A tree for tests.
-ghost use Rattle.std.specs.Prelude.{◌≡◌, ◌↔◌, false, IfOk, IsTrue, OnOk, OnErr};
-ghost use Rattle.volume_terms.specs.Sizes.{IsSizes};
+ghost use Rattle.std.specs.Prelude.{◌≡◌, ◌↔◌, ◌∷◌, [], false, map as list_map, IfOk, IsTrue, OnOk, OnErr};
+ghost use Rattle.volume_terms.specs.Sizes.{Sizes, IsSizes};
 ghost use Rattle.volume_terms.specs.VolumeSizes.{sizes_of};
 ghost use Rattle.posix_profile.specs.Names.{settle};
 ghost use Rattle.posix_profile.specs.Runs.{takes_no_memory};
+ghost use Rattle.posix_profile.specs.State.{Objects};
 ghost use Rattle.posix_profile.specs.Steps.{step};
+ghost use Rattle.posix_profile.specs.WellFormed.{IsTree};
 ghost use Rattle.posix_profile.specs.laws.Fresh.{fresh};
+ghost use Rattle.plain_tree.specs.Items.{AreRead, item_of, root_path};
+ghost use Rattle.plain_tree.specs.Sameness.{TellsObjects, TellsSame};
 
 use crate::building::build;
 use crate::fault::TreeFault;
-use crate::reading::{read_tree, same_tree};
+use crate::reading::{TreeEntry, read_tree, same_tree};
 use command_answers::Answers;
 use plain_volume::PlainVolume;
 use posix_profile::{Reply, Stamped};
@@ -54,16 +58,27 @@ impl PlainTree {
         volume: &mut V,
     ) -> Result<PlainTree, TreeFault>
         requires { IsSizes (sizes_of sizes) }
+        ensures { IfOk result (λ tree. TellsObjects V.shows volume.old volume.new (settle tree.state).objects) }
     {
         let entries = read_tree(alloc, volume)?;
         let mut plain = PlainVolume::new(alloc, sizes, false)?;
         build(alloc, &mut plain, &entries)?;
-        let made = read_tree(alloc, &mut plain)?;
-        if same_tree(&entries, &made) {
-            Ok(PlainTree { alloc, plain })
+        let tree = PlainTree { alloc, plain };
+        if tree.has_entries(&entries)? {
+            Ok(tree)
         } else {
             Err(TreeFault::Unlike)
         }
+    }
+
+    /// Whether what a mount shows of the tree is read so.
+    fn has_entries(&self, entries: &[TreeEntry]) -> Result<bool, TreeFault>
+        ensures { IfOk result (λ same. (z : Sizes) (objects : Objects) → IsTree z objects → AreRead objects (root_path ∷ []) (list_map item_of entries.now)
+            → IsTrue same ↔ ((settle self.now.state).objects ≡ objects)) }
+    {
+        let mut plain = self.plain.settled(false)?;
+        let made = read_tree(self.alloc, &mut plain)?;
+        Ok(same_tree(&made, entries))
     }
 
     /// The same tree once more, with the same descriptors.
@@ -105,10 +120,10 @@ impl PlainTree {
 
     /// Whether the volume has the same tree: equal names, and under each the same number, kind, links, length, moment and
     /// bytes. Objects that descriptors alone keep are not looked at. The volume needs a descriptor that is free.
-    pub fn same<V: Answers>(&self, volume: &mut V) -> Result<bool, TreeFault> {
-        let mut plain = self.plain.settled(false)?;
-        let entries = read_tree(self.alloc, &mut plain)?;
-        let others = read_tree(self.alloc, volume)?;
-        Ok(same_tree(&entries, &others))
+    pub fn same<V: Answers>(&self, volume: &mut V) -> Result<bool, TreeFault>
+        ensures { IfOk result (TellsSame V.shows volume.old volume.new (settle self.now.state).objects) }
+    {
+        let entries = read_tree(self.alloc, volume)?;
+        self.has_entries(&entries)
     }
 }

@@ -1,0 +1,51 @@
+use Rattle.std.proofs.Common.{◌≡◌, ◌≤◌, ◌<◌, length, slice_get, Some, refl, sym, ap, ◌∙◌, arith}
+use Rattle.std.proofs.lemmas.Option.{slice_get_read}
+use Rattle.plain_volume.specs.Views.{PlainView}
+use Rattle.exerciser.specs.Keeping.{after_told}
+use Rattle.exerciser.proofs.Covering.{covers_more}
+use Rattle.exerciser.proofs.Following.{after_next, kept_start, kept_more, kept_found, kept_end}
+use Rattle.exerciser.proofs.keeping.kept_of.Goals.{then-done-answered+in_ok-follow, else-done-answered}
+use Rattle.exerciser.proofs.keeping.kept_of.Goals as goal
+
+pub returns-then-branch-clause-covers : goal.returns-then-branch-clause-covers
+returns-then-branch-clause-covers g c = covers_more c.args.script.now c.args.replies.now c.covered-covered.result c.loop-done.done c.loop-done.invariant.least c.loop-done.invariant.covers
+
+pub returns-then-branch-clause-least : goal.returns-then-branch-clause-least
+returns-then-branch-clause-least g c =
+    let few : c.loop-done.done ≤ c.min-answered.result = omega arith in
+    kept_found g.V.Answers.shows g.met.V.Answers.sound c.args.before.now c.args.script.now c.args.replies.now c.args.volume.now c.loop-done.volume c.same.new.volume c.loop-done.tree c.loop-done.done c.in_ok-same.field-0
+    (c.loop-done.invariant.state few) c.loop-done.invariant.none c.in_ok-same.ensures c.if-branch.true (covers_more c.args.script.now c.args.replies.now c.covered-covered.result c.loop-done.done c.loop-done.invariant.least c.loop-done.invariant.covers)
+    (omega (arith, few, c.min-answered.ensures)) (omega (arith, few, c.min-answered.ensures))
+
+pub loop-done-preserved : goal.loop-done-preserved
+loop-done-preserved g c =
+    let few : c.loop-done.done ≤ c.min-answered.result = omega arith in
+    let state = c.loop-done.invariant.state few in
+    let none = kept_more g.V.Answers.shows g.met.V.Answers.sound c.args.before.now c.args.script.now c.args.replies.now c.args.volume.now c.loop-done.volume c.same.new.volume c.loop-done.tree c.loop-done.done c.in_ok-same.field-0
+    state c.loop-done.invariant.none c.in_ok-same.ensures c.if-branch.false in
+    elim c.if-done-answered.branch [
+      | then-done-answered+in_ok-follow w ↦
+          let asked_at : c.loop-done.done < length c.args.script.now = omega (arith, w.if-done-answered.true, c.min-answered.ensures) in
+          let told_at : c.loop-done.done < length c.args.replies.now = omega (arith, w.if-done-answered.true, c.min-answered.ensures) in
+          let asked : slice_get c.args.script.now c.loop-done.done ≡ Some w.index-script-done.result = slice_get_read c.args.script.now (length c.args.script.now) c.loop-done.done w.index-script-done.result refl asked_at w.index-script-done.is in
+          let told : slice_get c.args.replies.now c.loop-done.done ≡ Some w.index-replies-done.result = slice_get_read c.args.replies.now (length c.args.replies.now) c.loop-done.done w.index-replies-done.result refl told_at w.index-replies-done.is in
+          record {
+            sizes = ap (λ (t : PlainView). t.sizes) w.tree-is ∙ w.in_ok-follow.ensures.sizes ∙ c.loop-done.invariant.sizes;
+            read_only = ap (λ (t : PlainView). t.read_only) w.tree-is ∙ w.in_ok-follow.ensures.read_only ∙ c.loop-done.invariant.read_only;
+            state = λ more.
+                ap (λ (t : PlainView). t.state) w.tree-is ∙ w.in_ok-follow.ensures.state
+                ∙ (λ i. after_told (c.loop-done.invariant.sizes i) (c.loop-done.invariant.read_only i) (state i) w.index-script-done.result w.index-replies-done.result)
+                ∙ sym (after_next c.args.before.now.sizes c.args.before.now.read_only c.args.before.now.state c.args.script.now c.args.replies.now c.loop-done.done w.index-script-done.result w.index-replies-done.result asked told);
+            covers = c.loop-done.invariant.covers;
+            least = omega (arith, c.loop-done.invariant.least);
+            none = none;
+          }
+      | else-done-answered w ↦ record {
+        sizes = ap (λ (t : PlainView). t.sizes) w.tree-is ∙ c.loop-done.invariant.sizes;
+        read_only = ap (λ (t : PlainView). t.read_only) w.tree-is ∙ c.loop-done.invariant.read_only;
+        state = λ more. absurd (omega (arith, more, w.if-done-answered.false));
+        covers = c.loop-done.invariant.covers;
+        least = omega (arith, c.loop-done.invariant.least);
+        none = none;
+      }
+    ]

@@ -103,6 +103,13 @@ Fills honest told (Ok kinds.Erased) old new = new ≡ old
 Fills honest told (Ok kinds.Uncorrectable) old new = new ≡ old
 Fills honest told (Err gone) old new = new ≡ old
 
+-- The data of a page that was read: of a page that was written an honest device tells it. In all other cases the buffer may hold anything.
+abbrev pub FillsData : Bool → List ℕ → Result PageKind Gone → List ℕ → Type 0
+FillsData honest told (Ok kinds.Written) new = honest ≡ true → new ≡ told
+FillsData honest told (Ok kinds.Erased) new = Unit {0}
+FillsData honest told (Ok kinds.Uncorrectable) new = Unit {0}
+FillsData honest told (Err gone) new = Unit {0}
+
 abbrev pub ProgramEnds : Device → Device → Result (Unit {0}) ProgramFault → Type 0
 ProgramEnds old new (Ok done) = Completes old new
 ProgramEnds old new (Err program_faults.Failed) = Fails old new

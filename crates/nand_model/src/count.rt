@@ -4,9 +4,9 @@ ghost use base.Fml.{ftrue};
 
 use std::marker::Model;
 
-/// A number that takes no memory and has no greatest value. `next` alone makes a greater one.
+/// A count for contracts alone: it takes no memory, has no greatest value, and no program reads it.
 #[derive(Drop)]
-pub(crate) struct Count {
+pub struct Count {
     pub ghost total: { ℕ },
 }
 
@@ -15,16 +15,25 @@ impl Model for Count {
 }
 
 impl Count {
-    pub(crate) fn new() -> Count
+    /// Nothing was counted.
+    pub fn new() -> Count
         ensures { result.total ≡ 0 }
     {
         Count {}
     }
 
-    pub(crate) fn next(&self) -> Count
+    /// One more.
+    pub fn next(&self) -> Count
         ensures { result.total ≡ self.now.total + 1 }
     {
         Count {}
+    }
+
+    /// Counts one more.
+    pub fn rise(&mut self)
+        ensures { self.new.total ≡ self.old.total + 1 }
+    {
+        *self = self.next();
     }
 
     pub(crate) fn copy(&self) -> Count

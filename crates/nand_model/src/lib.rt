@@ -11,6 +11,7 @@ mod nand;
 mod plan;
 mod power;
 
+pub use count::Count;
 pub use fate::Fate;
 pub use geometry::{BadGeometry, Geometry};
 pub use law::{

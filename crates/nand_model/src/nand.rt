@@ -1,7 +1,7 @@
 // The interface of a NAND flash device.
 ghost use Rattle.std.specs.Prelude.{◌≡◌, ◌<◌, true, false, length, Some};
 ghost use Rattle.nand_model.specs.Flash.{IsClean, IsWithin, IsSized};
-ghost use Rattle.nand_model.specs.Calls.{Device, Reads, ReadTells, Fills, bytes_of, tag_of, Programs, Erases, Marks};
+ghost use Rattle.nand_model.specs.Calls.{Device, Reads, ReadTells, Fills, FillsData, bytes_of, tag_of, Programs, Erases, Marks};
 
 use crate::geometry::Geometry;
 
@@ -56,7 +56,8 @@ pub trait Nand {
         ensures kind { ReadTells (state self.old).honest ((state self.old).flash.page block page) result }
         ensures tag { Fills (state self.old).honest (tag_of ((state self.old).flash.page block page) tag.old) result tag.old tag.new };
 
-    /// Reads the data and the tag of a page. The buffers are filled where the page is written, and else stay.
+    /// Reads the data and the tag of a page. The buffers are filled where the page is written; else the tag's stays, and that
+    /// of the data may hold anything, as a driver leaves it that corrects errors there.
     fn read_page(
         &mut self,
         block: u32,
@@ -69,7 +70,7 @@ pub trait Nand {
         requires size { length bytes.old ≡ (state self.old).geometry.bytes }
         ensures reads { Reads (state self.old) (state self.new) result }
         ensures kind { ReadTells (state self.old).honest ((state self.old).flash.page block page) result }
-        ensures bytes { Fills (state self.old).honest (bytes_of ((state self.old).flash.page block page) bytes.old) result bytes.old bytes.new }
+        ensures bytes { FillsData (state self.old).honest (bytes_of ((state self.old).flash.page block page) bytes.old) result bytes.new }
         ensures tag { Fills (state self.old).honest (tag_of ((state self.old).flash.page block page) tag.old) result tag.old tag.new };
 
     /// Programs the next page of a good block.

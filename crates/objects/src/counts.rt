@@ -3,22 +3,22 @@ ghost use Rattle.std.specs.Prelude.{◌≡◌};
 ghost use Rattle.objects.specs.Counts.{CountsCommit, IsRefused, NoneFalls};
 ghost use Rattle.volume_terms.specs.declared.fault.StoreFault.TheVariants as faults;
 
-use pages::Tally;
+use nand_model::Count;
 use volume_terms::StoreFault;
 
 /// The growths that were refused to a store, and the commits of buffered pages that it began. No program reads them.
 #[derive(Drop)]
 pub struct StoreCounts {
-    pub refused: Tally,
-    pub commits: Tally,
+    pub refused: Count,
+    pub commits: Count,
 }
 
 impl StoreCounts {
     /// Nothing was counted.
     pub(crate) fn new() -> StoreCounts {
         StoreCounts {
-            refused: Tally::new(),
-            commits: Tally::new(),
+            refused: Count::new(),
+            commits: Count::new(),
         }
     }
 

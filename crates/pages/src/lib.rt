@@ -11,7 +11,6 @@ mod memory;
 mod page_store;
 mod power;
 mod store;
-mod tally;
 
 pub use after::{Source, load_after, page_after};
 pub use change::{Change, Cut, are_sized};
@@ -25,4 +24,3 @@ pub use memory::{Lack, MemPages, Refusal};
 pub use page_store::PageStore;
 pub use power::has_power;
 pub use store::{Pages, Presence};
-pub use tally::Tally;

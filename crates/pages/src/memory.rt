@@ -6,8 +6,8 @@ ghost use Rattle.pages.specs.State.{FailsBy};
 
 use crate::change::{Change, place_of};
 use crate::store::{Pages, Presence};
-use crate::tally::Tally;
 use flash_tree::{FreshPage, Key};
+use nand_model::Count;
 use std::alloc::{AllocError, Global};
 use volume_terms::StoreFault;
 
@@ -36,7 +36,7 @@ pub struct MemPages {
     finds: u64,
     refusal: Option<Refusal>,
     failed: bool,
-    refused: Tally,
+    refused: Count,
     ghost least: { 512 ≤ page_bytes },
     ghost most: { page_bytes ≤ 4096 },
     ghost sized: { AreSized pages.items page_bytes },
@@ -66,7 +66,7 @@ impl MemPages {
             finds: 0,
             refusal: None,
             failed: false,
-            refused: Tally::new(),
+            refused: Count::new(),
         })
     }
 

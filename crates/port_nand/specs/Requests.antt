@@ -1,5 +1,5 @@
 -- Requests and answers on a stream.
-use Rattle.std.specs.Prelude.{ℕ, ◌==◌, if◌then◌else◌, Option, Some, None, List, [], ◌∷◌, ◌++◌}
+use Rattle.std.specs.Prelude.{ℕ, ◌==◌, if◌then◌else◌, Option, Some, None, List, ◌∷◌, ◌++◌}
 use Rattle.std.specs.Int.{to_le_bytes, w32}
 use Rattle.nand_model.specs.declared.nand.PageKind.{PageKind}
 use Rattle.nand_model.specs.declared.nand.PageKind.TheVariants as kinds

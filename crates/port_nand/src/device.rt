@@ -3,13 +3,10 @@ ghost use Rattle.std.specs.Prelude.{◌≡◌, ℕ, false, length, IfOk};
 ghost use Rattle.port_nand.specs.Blocks.{IsWhole, next_at};
 
 use crate::block::{Block, new_blocks, set_bad, set_next};
-use crate::count::Count;
 use crate::stream::{ask_byte, ask_geometry, ask_page, receive, request_head, send};
-use nand_model::{EraseFault, Geometry, Gone, Nand, PageKind, ProgramFault};
+use nand_model::{Count, EraseFault, Geometry, Gone, Nand, PageKind, ProgramFault};
 use std::alloc::{AllocError, Global};
 use std::io::{Read, Write};
-
-const GREATEST_PAGE: usize = 4096;
 
 /// Why a device was not opened.
 #[derive(Clone, Copy, Debug, PartialEq, Eq)]
@@ -34,7 +31,6 @@ pub struct PortNand<S> {
     stream: S,
     geometry: Geometry,
     blocks: Vec<Block>,
-    scratch: Vec<u8>,
     gone: bool,
     cuts: Count,
     failures: Count,
@@ -69,14 +65,12 @@ impl<S: Read + Write + Drop> PortNand<S> {
     fn of_sizes(alloc: Global, mut stream: S, geometry: Geometry) -> Result<PortNand<S>, OpenFault>
         ensures { IfOk result (λ d. (device d).gone ≡ false) }
     {
-        let scratch = Vec::from_elem(alloc, 0u8, GREATEST_PAGE)?;
         let mut blocks = new_blocks(alloc, geometry.blocks())?;
         read_marks(&mut stream, geometry.blocks(), &mut blocks)?;
         Ok(PortNand {
             stream,
             geometry,
             blocks,
-            scratch,
             gone: false,
             cuts: Count::new(),
             failures: Count::new(),
@@ -158,17 +152,13 @@ impl<S: Read + Write> Nand for PortNand<S> {
             return Err(Gone);
         }
         self.reads = self.reads.next();
-        if bytes.len() <= self.scratch.len() {
-            let mut answer = [255u8; 49];
-            let head = request_head(b'R', block, page);
-            let scratch = &mut self.scratch[..bytes.len()];
-            if let Some(kind) = ask_page(&mut self.stream, &head, scratch, &mut answer) {
-                if kind == PageKind::Written {
-                    bytes.copy_from_slice(scratch);
-                    tag.copy_from_slice(&answer[1..]);
-                }
-                return Ok(kind);
+        let mut answer = [255u8; 49];
+        let head = request_head(b'R', block, page);
+        if let Some(kind) = ask_page(&mut self.stream, &head, bytes, &mut answer) {
+            if kind == PageKind::Written {
+                tag.copy_from_slice(&answer[1..]);
             }
+            return Ok(kind);
         }
         self.gone = true;
         self.cuts = self.cuts.next();

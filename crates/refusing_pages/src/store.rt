@@ -2,7 +2,8 @@
 ghost use Rattle.std.specs.Prelude.{◌≡◌, ◌<◌, true, false};
 
 use flash_tree::Key;
-use pages::{Change, Cut, PageStore, Pages, Presence, Tally};
+use nand_model::Count;
+use pages::{Change, Cut, PageStore, Pages, Presence};
 use volume_terms::StoreFault;
 
 /// A store of pages that answers `NoMemory` once: after so many calls that may take memory. Such calls find a page, or make a change.
@@ -12,7 +13,7 @@ pub struct RefusingPages<P> {
     inner: P,
     /// How many calls are left before the one that is refused, and none after it.
     left: Option<u64>,
-    refused: Tally,
+    refused: Count,
 }
 
 impl<P> RefusingPages<P> {
@@ -21,7 +22,7 @@ impl<P> RefusingPages<P> {
         RefusingPages {
             inner,
             left: Some(calls),
-            refused: Tally::new(),
+            refused: Count::new(),
         }
     }
 

@@ -1,5 +1,5 @@
 use Rattle.std.proofs.Common.{subst, sym, ap, arith}
-use Rattle.pages.specs.declared.tally.Tally.{Tally}
+use Rattle.nand_model.specs.declared.count.Count.{Count}
 use Rattle.pages.specs.Stores.{GoesOn}
 use Rattle.refusing_pages.specs.Refusing.{refusing}
 use Rattle.refusing_pages.proofs.Refusing.{goes_on, goes_nowhere}
@@ -16,5 +16,5 @@ pub returns-clause-goes_on : goal.returns-clause-goes_on
 returns-clause-goes_on g c =
     let was = c.args.self.now in
     let is = c.refuses.new.self in
-    goes_on was.refused.total is.refused.total (g.P.Pages.state was.inner) (g.P.Pages.state c.apply.new.self) (let same = ap (λ (t : Tally). t.total) (c.refuses.ensures.counts c.if-refuses.false) in omega (arith, same))
+    goes_on was.refused.total is.refused.total (g.P.Pages.state was.inner) (g.P.Pages.state c.apply.new.self) (let same = ap (λ (t : Count). t.total) (c.refuses.ensures.counts c.if-refuses.false) in omega (arith, same))
     (subst (λ x. GoesOn (g.P.Pages.state x) (g.P.Pages.state c.apply.new.self)) c.refuses.ensures.inner c.apply.ensures.goes_on)

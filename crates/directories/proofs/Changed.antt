@@ -15,7 +15,8 @@ use Rattle.directories.specs.Directories.{SlotOf, ReadsDirectory}
 use Rattle.directories.specs.Heads.{fields_in}
 use Rattle.directories.specs.Writes.{HasHead, KeepsSlots}
 use Rattle.directories.specs.declared.head.DirectoryHead.{DirectoryHead}
-use Rattle.directories.proofs.Lists.{AreOnce, once_push, entries_push, put_len, get_put, once_put, entries_put, fewer, origin, once_fewer, entries_fewer}
+use Rattle.flash_tree.specs.laws.SlotCounts.{AreOnce}
+use Rattle.directories.proofs.Lists.{once_push, entries_push, put_len, get_put, once_put, entries_put, fewer, origin, once_fewer, entries_fewer}
 use Rattle.directories.proofs.Reading.{one_entry}
 
 -- ---- the slots afterwards

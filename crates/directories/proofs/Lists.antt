@@ -11,14 +11,11 @@ use Rattle.flash_tree.specs.Tree.{slot_pairs}
 use Rattle.flash_tree.specs.laws.Slot.{slot_of_pair}
 use Rattle.flash_tree.specs.laws.Pairs.{at_find}
 use Rattle.flash_tree.specs.laws.Shown.{found}
+use Rattle.flash_tree.specs.laws.SlotCounts.{AreOnce, entries_len as slots_len}
 use Rattle.volume_terms.specs.laws.List.{get_push, push_before, push_last}
 use Rattle.posix_profile.specs.laws.Name.{name_same}
 use Rattle.posix_profile.specs.laws.Map.{cases_key, get_here, get_there, get_removed, removed_none}
 use Rattle.posix_profile.specs.State.{Name, Entries}
-
--- no name stands twice
-abbrev pub AreOnce : List Entry → Type 0
-AreOnce slots = (i j : ℕ) (a b : Entry) → slice_get slots i ≡ Some a → slice_get slots j ≡ Some b → a.name ≡ b.name → i ≡ j
 
 -- ---- the entries of slots
 
@@ -231,14 +228,5 @@ module _ (slots : List Entry) (once : AreOnce slots) (entries : Entries) (are : 
 
 -- ---- how many there are
 
-len_pairs : (slots : List Entry) → AreOnce slots → map.len (map.from_entries {R = slice_cmp nat_cmp} (slot_pairs slots)) ≡ length slots
-len_pairs [] once = map.len-empty (slice_cmp nat_cmp) ℕ
-len_pairs (s ∷ slots) once =
-    let rest_once : AreOnce slots = λ i j a b at bt same. let one : suc i ≡ suc j = once (suc i) (suc j) a b at bt same in omega (arith, one) in
-    let rest = len_pairs slots rest_once in
-    let absent : map.contains_key (map.from_entries {R = slice_cmp nat_cmp} (slot_pairs slots)) s.name ≡ false = ap is_some (none slots rest_once (map.from_entries (slot_pairs slots)) refl s.name
-    (λ k e is same. let one : suc k ≡ zero = once (suc k) zero e s is refl same in omega (arith, one))) in
-    map.len-insert nat_list_cmp_total (map.from_entries (slot_pairs slots)) s.name s.object ∙ cond-false _ _ _ absent ∙ ap (λ n. n + 1) rest ∙ omega arith
-
 pub entries_len : (slots : List Entry) → AreOnce slots → (entries : Entries) → entries ≡ map.from_entries (slot_pairs slots) → map.len entries ≡ length slots
-entries_len slots once entries are = ap map.len are ∙ len_pairs slots once
+entries_len slots once entries are = ap map.len are ∙ slots_len slots once

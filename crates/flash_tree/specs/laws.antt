@@ -14,6 +14,7 @@ pub mod Part
 pub mod Place
 pub mod Shown
 pub mod Slot
+pub mod SlotCounts
 pub mod Telling
 pub mod Tree
 pub mod TreeSlot

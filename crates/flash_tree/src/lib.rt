@@ -19,7 +19,7 @@ pub use law::{
 };
 pub use marks::count_bad;
 pub use place::{Found, FreshPage, Key, TagNumbers};
-pub use slot::{CHECK_OBJECT, decode_tree_slot};
+pub use slot::{CHECK_OBJECT, CHUNK_END, decode_tree_slot};
 pub use tag::tag_at;
 pub use truth::{
     a_block_that_fades_leaves_a_flash_true, a_true_flash_has_one_checkpoint,

@@ -10,6 +10,9 @@ use page_tags::{Slot, decode_slot};
 /// The number of the object that the pages of a checkpoint are of. No slot of a tree leads to it.
 pub const CHECK_OBJECT: u64 = u64::MAX;
 
+/// No tree looks up a page of this chunk, or of a greater one.
+pub const CHUNK_END: u64 = 1 << 32;
+
 /// The slot that these `SLOT_BYTES` bytes are, if they are one that a directory of a tree may have: a slot that leads to the
 /// object of checkpoints is damage.
 pub fn decode_tree_slot(bytes: &[u8]) -> Option<Slot<'_>>

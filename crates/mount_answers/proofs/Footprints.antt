@@ -21,7 +21,7 @@ use Rattle.file_io.specs.Files as files
 use Rattle.object_pages.specs.Holding.{HoldsObject, HoldsObjects}
 use Rattle.mount_answers.specs.Footprints.{IsFootprint}
 use Rattle.mount_answers.proofs.VolumeSizes.{is_page_size}
-use Rattle.mount_answers.proofs.SlotCounts.{entries_len}
+use Rattle.flash_tree.specs.laws.SlotCounts.{entries_len}
 
 -- a map has one page of a key
 pub one_page : (m : PageMap) → IsSingle (has m)

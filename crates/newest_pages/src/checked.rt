@@ -7,13 +7,10 @@ use crate::opening::{Opened, table_above};
 use crate::seqs::note_each;
 use checkpoint_reading::FoundCheckpoint;
 use chunk_index::{Index, the_counts_are_of_the_keys};
-use flash_tree::{CHECK_OBJECT, TagNumbers};
+use flash_tree::{CHECK_OBJECT, CHUNK_END, TagNumbers};
 use nand_model::Nand;
 use page_tags::CheckEntry;
 use std::alloc::{AllocError, Global};
-
-/// No tree looks up a page of this chunk, or of a greater one.
-const CHUNK_END: u64 = 4_294_967_296;
 
 /// Whether an entry of a checkpoint may tell of a kept page.
 fn may_be_kept<N: Nand>(device: &N, found: &FoundCheckpoint, entry: &CheckEntry) -> bool

@@ -6,5 +6,4 @@ pub mod Holdings
 pub mod Results
 pub mod Wholes
 pub mod Sensible
-pub mod SlotCounts
 pub mod LowPages

@@ -13,7 +13,7 @@ use Rattle.flash_tree.specs.Tree.{IsPageSize}
 use Rattle.pages.specs.Maps.{PageMap}
 use Rattle.pages.specs.laws.Low.{present_low, slots_few}
 use Rattle.object_pages.specs.Holding.{HoldsFile, HoldsDirectory, HoldsObject}
-use Rattle.object_pages.proofs.SlotCounts.{entries_len}
+use Rattle.flash_tree.specs.laws.SlotCounts.{entries_len}
 
 -- the pages of a volume can be filled by headers
 is_page_size : (z : Sizes) → IsSizes z → IsPageSize z.page_bytes

@@ -18,14 +18,11 @@ use crate::content::{resize, write};
 use crate::moving::move_name;
 use crate::naming::{create, name};
 use crate::removal::{forget, remove};
-use flash_tree::{CHECK_OBJECT, FreshPage, Key};
+use flash_tree::{CHECK_OBJECT, CHUNK_END, FreshPage, Key};
 use name_index::NameIndex;
 use object_store::ObjectChange;
 use pages::{Change, PageFault, Pages};
 use std::alloc::Global;
-
-/// No tree looks up a page of this chunk, or of a greater one.
-const CHUNK_END: u64 = 4_294_967_296;
 
 /// Whether a tree may look up the page of a key: its object's number is neither 0 nor that of checkpoints, and its chunk has
 /// 32 bits.

@@ -2,14 +2,11 @@
 ghost use Rattle.std.specs.Prelude.{◌≡◌, ◌≤◌, IsTrue, IfOk, length};
 ghost use Rattle.pages.specs.Changes.{AreApart, AreSized, AreOfTrees};
 
-use flash_tree::{CHECK_OBJECT, FreshPage};
+use flash_tree::{CHECK_OBJECT, CHUNK_END, FreshPage};
 use nand_model::Nand;
 use objects::Store;
 use pages::{Change, Cut, PageStore, Pages, are_sized};
 use std::alloc::{AllocError, Global};
-
-/// No tree looks up a page of this chunk, or of a greater one.
-const CHUNK_END: u64 = 4_294_967_296;
 
 /// A change whose pages are of different keys.
 #[derive(Drop)]

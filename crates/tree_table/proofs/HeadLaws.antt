@@ -14,31 +14,13 @@ use Rattle.posix_profile.specs.Charge.{cost}
 use Rattle.volume_terms.specs.laws.Rounding.{ceiling_is}
 use Rattle.flash_tree.specs.Tree.{NewestMap, IsSingle, IsPageSize, ReadsAs, slot_pairs}
 use Rattle.flash_tree.specs.laws.Finding.{same_header}
-use Rattle.flash_tree.specs.laws.Pairs.{at_find}
-use Rattle.flash_tree.specs.laws.Slot.{slot_of_pair}
+use Rattle.flash_tree.specs.laws.SlotCounts.{entries_len}
 use Rattle.tree_walk.specs.Heads.{SaysHead}
 use Rattle.tree_walk.specs.declared.head.Head.{Head}
 use Rattle.tree_walk.specs.Visits.{head_pages}
 use Rattle.tree_table.specs.Looked.{looked}
 use Rattle.tree_table.specs.Units.{head_cost}
 use Rattle.tree_table.proofs.Elements.{none_of}
-
--- ---- how many entries slots make
-
--- no name stands twice
-abbrev AreOnce : List Entry → Type 0
-AreOnce slots = (i j : ℕ) (a b : Entry) → slice_get slots i ≡ Some a → slice_get slots j ≡ Some b → a.name ≡ b.name → i ≡ j
-
-pairs_len : (slots : List Entry) → AreOnce slots → map.len (map.from_entries {R = slice_cmp nat_cmp} (slot_pairs slots)) ≡ length slots
-pairs_len [] once = map.len-empty (slice_cmp nat_cmp) ℕ
-pairs_len (s ∷ slots) once =
-    let rest_once : AreOnce slots = λ i j a b at bt same. let one : suc i ≡ suc j = once (suc i) (suc j) a b at bt same in omega (arith, one) in
-    let none : map.get (map.from_entries {R = slice_cmp nat_cmp} (slot_pairs slots)) s.name ≡ None = none_of _ (λ o is.
-    let at = at_find nat_list_cmp_total (map.slice_cmp-IsAntisymmetric map.nat_cmp-IsAntisymmetric) (slot_pairs slots) s.name o (sym (map.get-from_entries nat_list_cmp_total (slot_pairs slots) s.name) ∙ is) in
-    let slot = slot_of_pair slots at.0 s.name o at.1 in
-    let one : suc at.0 ≡ zero = once (suc at.0) zero slot.0 s slot.1 refl slot.2 in
-    omega (arith, one)) in
-    map.len-insert nat_list_cmp_total (map.from_entries (slot_pairs slots)) s.name s.object ∙ cond-false _ _ _ (ap is_some none) ∙ ap (λ n. n + 1) (pairs_len slots rest_once) ∙ omega arith
 
 -- ---- heads and objects
 
@@ -58,7 +40,7 @@ said z size m single o head (Dir moment entries) (f, has, is) r =
     let same : f ≡ r.fields = same_header z size m single o f r.fields has r.has in (
       is.kind ∙ ap (λ (x : Fields). x.kind) same ∙ r.kind,
       is.moment ∙ ap (λ (x : Fields). x.moment) same ∙ r.when,
-      is.length_is ∙ ap (λ (x : Fields). x.length) same ∙ r.size ∙ sym (pairs_len r.slots r.once) ∙ ap map.len (sym r.entries_are),
+      is.length_is ∙ ap (λ (x : Fields). x.length) same ∙ r.size ∙ sym (entries_len r.slots r.once) ∙ ap map.len (sym r.entries_are),
     )
 
 -- so it tells what the object costs

@@ -1,4 +1,4 @@
--- How many entries slots make, and how many pages they take.
+-- How many entries slots make.
 use Rattle.std.specs.Prelude.{◌≡◌, ℕ, zero, suc, ◌+◌, List, [], ◌∷◌, length, slice_get, false, is_some, Option, Some, None}
 use Rattle.std.specs.Ordering.{nat_cmp}
 use Rattle.std.specs.Cmp.Lexicographic.{slice_cmp, nat_list_cmp_total}
@@ -11,7 +11,7 @@ use Rattle.flash_tree.specs.laws.Slot.{slot_of_pair}
 use Rattle.flash_tree.specs.laws.Pairs.{at_find}
 
 -- no name stands twice
-abbrev AreOnce : List Entry → Type 0
+abbrev pub AreOnce : List Entry → Type 0
 AreOnce slots = (i j : ℕ) (a b : Entry) → slice_get slots i ≡ Some a → slice_get slots j ≡ Some b → a.name ≡ b.name → i ≡ j
 
 -- the name of the first slot stands in none of the others

@@ -8,7 +8,7 @@ use crate::parts::write_parts;
 use chunk_index::Index;
 use flash_tree::{CHECK_OBJECT, Key};
 use nand_model::{Geometry, Nand};
-use transactions::{PageName, PageSource, SourceFault};
+use transactions::{LentPage, PageName, PageSource, SourceFault};
 
 /// The pages of a checkpoint of the keys that are kept. The number of their group is their version.
 #[derive(Clone, Copy)]
@@ -61,6 +61,12 @@ impl PageSource for Checks<'_> {
 
     fn count(&self) -> u32 {
         self.pages
+    }
+
+    fn lent(&self, i: u32, group: u64) -> Option<LentPage<'_>> {
+        let _ = i;
+        let _ = group;
+        None
     }
 
     fn page<N: Nand>(

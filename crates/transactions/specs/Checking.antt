@@ -8,7 +8,7 @@ use Rattle.nand_model.specs.Counts.{ReadsFew}
 use Rattle.nand_model.specs.declared.geometry.Geometry.{Geometry}
 use Rattle.page_tags.specs.Checks.{IsCheckEntry, IsEntryBefore, check_page}
 use Rattle.page_tags.specs.declared.check.CheckEntry.{CheckEntry}
-use Rattle.flash_tree.specs.Checkpoints.{ListsTree, IsChecked}
+use Rattle.flash_tree.specs.Checkpoints.{IsChecked}
 use Rattle.flash_tree.specs.Numbering.{AreBelow}
 use Rattle.flash_tree.specs.Slots.{check_object}
 use Rattle.block_state.specs.Table.{Table, room}

@@ -4,7 +4,7 @@ ghost use Rattle.nand_model.specs.Calls.{bytes_of};
 ghost use Rattle.nand_model.specs.Changes.{OnlyReads};
 ghost use Rattle.transactions.specs.Copying.{IsTagOf, HasItsName};
 
-use crate::source::{PageName, PageSource, SourceFault};
+use crate::source::{LentPage, PageName, PageSource, SourceFault};
 use nand_model::{Gone, Nand, PageKind};
 use page_tags::Tag;
 
@@ -76,6 +76,12 @@ impl PageSource for Copies<'_> {
 
     fn count(&self) -> u32 {
         self.places.len() as u32
+    }
+
+    fn lent(&self, i: u32, group: u64) -> Option<LentPage<'_>> {
+        let _ = i;
+        let _ = group;
+        None
     }
 
     fn page<N: Nand>(

@@ -3,7 +3,7 @@ ghost use Rattle.std.specs.Prelude.{◌≡◌, ◌<◌, ◌≤◌, ℕ, List, le
 ghost use Rattle.nand_model.specs.Changes.{OnlyReads};
 ghost use Rattle.transactions.specs.Sources.{IsPageName};
 
-use crate::source::{PageName, PageSource, SourceFault};
+use crate::source::{LentPage, PageName, PageSource, SourceFault};
 use flash_tree::{FreshPage, Key};
 use nand_model::Nand;
 
@@ -48,6 +48,14 @@ impl PageSource for Fresh<'_> {
 
     fn count(&self) -> u32 {
         self.pages.len() as u32
+    }
+
+    fn lent(&self, i: u32, group: u64) -> Option<LentPage<'_>> {
+        let fresh = &self.pages[i as usize];
+        Some(LentPage {
+            name: name_in(fresh.key, group),
+            bytes: &fresh.bytes,
+        })
     }
 
     fn page<N: Nand>(

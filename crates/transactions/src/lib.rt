@@ -23,5 +23,5 @@ pub use law::{
 };
 pub use mark::mark_block;
 pub use open::erase_and_open;
-pub use source::{PageName, PageSource, SourceFault};
+pub use source::{LentPage, PageName, PageSource, SourceFault};
 pub use table::{marked_table, table_of};

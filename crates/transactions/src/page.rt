@@ -49,7 +49,31 @@ fn tag_of(place: &GroupPlace, name: PageName, i: u32) -> Tag
     }
 }
 
-/// Writes page `i` of the group.
+/// Programs page `i` of the group, which has this name.
+#[tactic(auto, using(nand_model::specs::laws::Calls::lasts_on))]
+fn program_page<N: Nand>(
+    device: &mut N,
+    place: &GroupPlace,
+    i: u32,
+    name: PageName,
+    bytes: &[u8],
+) -> Result<(), GroupFault>
+    requires at { i < place.now.count }
+    requires may { MayWrite (N.state device.old) place.now i }
+    requires name { IsPageName place.now.group name }
+    requires size { length bytes.now ≡ (N.state device.old).geometry.bytes }
+    ensures quiet { (N.state device.new).reads ≡ (N.state device.old).reads }
+    ensures writes { WritesOne (N.state device.old) (N.state device.new) (group_at place.now) (λ _. name) (λ _. bytes.now) i result }
+{
+    let tag = tag_of(place, name, i);
+    match device.program(place.block, place.first + i, bytes, &tag.encode()) {
+        Ok(()) => Ok(()),
+        Err(ProgramFault::Failed) => Err(GroupFault::Failed),
+        Err(ProgramFault::Gone) => Err(GroupFault::Gone),
+    }
+}
+
+/// Writes page `i` of the group: from where it lies in memory, or by way of the scratch page.
 #[tactic(auto, using(nand_model::specs::laws::Calls::lasts_on))]
 fn write_page<N: Nand, S: PageSource>(
     device: &mut N,
@@ -69,16 +93,13 @@ fn write_page<N: Nand, S: PageSource>(
     ensures writes { WritesOne (N.state device.old) (N.state device.new) (group_at place.now)
         (S.name source.now place.now.group) (S.bytes source.now (N.state device.old).flash) i result }
 {
-    let name = match source.page(device, i, place.group, scratch) {
-        Ok(name) => name,
-        Err(SourceFault::Lost) => return Err(GroupFault::Lost),
-        Err(SourceFault::Gone) => return Err(GroupFault::Gone),
-    };
-    let tag = tag_of(place, name, i);
-    match device.program(place.block, place.first + i, scratch, &tag.encode()) {
-        Ok(()) => Ok(()),
-        Err(ProgramFault::Failed) => Err(GroupFault::Failed),
-        Err(ProgramFault::Gone) => Err(GroupFault::Gone),
+    if let Some(lent) = source.lent(i, place.group) {
+        return program_page(device, place, i, lent.name, lent.bytes);
+    }
+    match source.page(device, i, place.group, scratch) {
+        Ok(name) => program_page(device, place, i, name, scratch),
+        Err(SourceFault::Lost) => Err(GroupFault::Lost),
+        Err(SourceFault::Gone) => Err(GroupFault::Gone),
     }
 }
 

@@ -1,5 +1,5 @@
 // What is written in a group.
-ghost use Rattle.std.specs.Prelude.{◌≡◌, ◌↔◌, ◌<◌, ◌≤◌, ◌+◌, ℕ, List, length, true, IfOk, IsTrue};
+ghost use Rattle.std.specs.Prelude.{◌≡◌, ◌↔◌, ◌<◌, ◌≤◌, ◌+◌, ℕ, List, length, true, IfOk, IfSome, IsTrue};
 ghost use Rattle.nand_model.specs.Flash.{Flash};
 ghost use Rattle.nand_model.specs.Changes.{Grows, OnlyReads};
 ghost use Rattle.nand_model.specs.declared.geometry.Geometry.{Geometry};
@@ -37,6 +37,13 @@ pub enum SourceFault {
     Gone,
 }
 
+/// A page that lies in memory, with its name.
+#[derive(Clone, Copy, Debug, PartialEq, Eq)]
+pub struct LentPage<'a> {
+    pub name: PageName,
+    pub bytes: &'a [u8],
+}
+
 /// The pages of a group that is to be written.
 pub trait PageSource {
     ghost use Rattle.transactions.specs.declared.source.PageName.{PageName};
@@ -66,6 +73,15 @@ pub trait PageSource {
         requires { (g : Geometry) × (n : ℕ) × ready self.now g n }
         ensures value { result ≡ count self.now }
         ensures some { 1 ≤ result };
+
+    /// Lends page `i`, with its name in the group of this number, where it lies in memory as it is to be written.
+    fn lent(&self, i: u32, group: u64) -> Option<LentPage<'_>>
+        requires place { i < count self.now }
+        requires ready { (g : Geometry) × ready self.now g group }
+        ensures name { IfSome result (λ lent. (lent.name ≡ name self.now group i) × IsPageName group lent.name) }
+        ensures size { (g : Geometry) → ready self.now g group → IfSome result (λ lent. length lent.bytes.now ≡ g.bytes) }
+        ensures has { (flash : Flash) → IfSome result (λ lent. has self.now flash i) }
+        ensures bytes { (flash : Flash) → IfSome result (λ lent. lent.bytes.now ≡ bytes self.now flash i) };
 
     /// Fills a buffer with page `i`, and names it. Of the device it is read at most.
     fn page<N: Nand>(

@@ -1,4 +1,5 @@
 // What serves the commands of a session.
+ghost use Rattle.std.specs.Prelude.{◌≤◌};
 ghost use Rattle.posix_profile.specs.declared.command.Stamped.{Stamped};
 ghost use Rattle.posix_profile.specs.declared.reply.Reply.{Reply};
 ghost use Rattle.posix_calls.specs.Volumes.{over_pages};
@@ -17,6 +18,10 @@ pub(crate) trait Serve {
 
     fn serve(&mut self, command: &Stamped) -> Reply
         ensures { serves self.old command.now result self.new };
+
+    /// How many bytes a command is handed to write at most: some, and no more than one writes, so that none is copied twice.
+    fn most_handed_in(&self) -> usize
+        ensures { 1 ≤ result };
 }
 
 /// A volume of any device serves as `posix_calls` says.
@@ -25,5 +30,9 @@ impl<N: Nand> Serve for Volume<N> {
 
     fn serve(&mut self, command: &Stamped) -> Reply {
         self.call(command)
+    }
+
+    fn most_handed_in(&self) -> usize {
+        (self.most_written() as usize).max(1)
     }
 }

@@ -24,6 +24,10 @@ impl Serve for Session {
     fn serve(&mut self, command: &Stamped) -> Reply {
         self.volume.serve(command)
     }
+
+    fn most_handed_in(&self) -> usize {
+        self.volume.most_handed_in()
+    }
 }
 
 /// Does a command that only succeeds or fails.

@@ -1,24 +1,18 @@
 // A write that goes on until all is written.
-ghost use Rattle.std.specs.Prelude.{◌≡◌, ◌≤◌, ◌<◌, ◌⊎◌, ℕ, IfSome, IfNone, take, drop};
-ghost use Rattle.posix_profile.specs.declared.command.Command.TheVariants as commands;
-ghost use Rattle.posix_profile.specs.declared.reply.Errno.TheVariants as errors;
+ghost use Rattle.std.specs.Prelude.{◌≡◌, ◌≤◌, ◌<◌, ◌⊎◌, ℕ, IfSome, IfNone};
 ghost use Rattle.posix_profile.specs.declared.reply.Reply.TheVariants as replies;
-ghost use Rattle.flash_c.specs.Sessions.{at, most_handed_in, write_number, IsWritten};
+ghost use Rattle.flash_c.specs.Sessions.{write_number, HandsIn, IsWritten};
 
 use crate::numbers::{count_number, signed};
 use crate::serve::Serve;
 use posix_calls::{Bytes, Command, Errno, Reply, Stamped};
 use std::alloc::Global;
 
-/// The most bytes that one command hands in. No volume takes more in one.
-const MOST_HANDED_IN: usize = 1 << 18;
-
-/// Writes the first of the bytes by one command. Where memory for them is refused it is not begun.
+/// Writes the first of the bytes by one command: as many as it is handed at most. Where memory for them is refused it is not begun.
 fn write_some<S: Serve>(alloc: Global, session: &mut S, moment: u64, fd: u32, bytes: &[u8]) -> Reply
-    ensures { S.serves session.old (at moment (commands.Write fd (take most_handed_in bytes.now))) result session.new
-        ⊎ ((result ≡ replies.Error errors.ENOMEM) × (session.new ≡ session.old)) }
+    ensures { HandsIn S.serves (record { moment = moment; fd = fd; bytes = bytes.now }) session.old result session.new }
 {
-    let length = bytes.len().min(MOST_HANDED_IN);
+    let length = bytes.len().min(session.most_handed_in());
     let Ok(bytes) = Vec::from_slice(alloc, &bytes[..length]) else {
         return Reply::Error(Errno::ENOMEM);
     };

@@ -1,7 +1,7 @@
 // A volume over pages.
 ghost use Rattle.std.specs.Prelude.{◌≡◌, ◌⊎◌, ◌≤◌, ℕ, true, false, length, IfOk, IfErr, OnOk};
 ghost use Rattle.std.specs.FinMap as map;
-ghost use Rattle.volume_terms.specs.Sizes.{Sizes, IsSizes};
+ghost use Rattle.volume_terms.specs.Sizes.{Sizes, IsSizes, most_written};
 ghost use Rattle.posix_profile.specs.Losses.{is_synced};
 ghost use Rattle.nand_model.specs.Changes.{OnlyReads};
 ghost use Rattle.posix_profile.specs.Runs.{Replies, after_one, is_stop};
@@ -149,6 +149,13 @@ impl<P: PageStore> PageVolume<P> {
         ensures { result ≡ pages_of self }
     {
         self.volume.into_store().into_pages()
+    }
+
+    /// The most bytes that one Write writes.
+    pub fn most_written(&self) -> u64
+        ensures { result ≡ most_written (table_sizes (table_of self.now)) }
+    {
+        self.volume.store().sizes().most_written()
     }
 
     /// Whether commands that would change it are refused.

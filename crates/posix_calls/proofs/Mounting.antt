@@ -22,7 +22,7 @@ use Rattle.page_volume.specs.Volumes.{pages_of, is_read_only, is_stopped, IsVolu
 use Rattle.page_volume.specs.declared.volume.PageVolume.{PageVolume}
 use Rattle.paged_objects.specs.Parts as parts
 use Rattle.paged_objects.specs.declared.store.PagedObjects.{PagedObjects}
-use Rattle.posix_calls.specs.Mounts.{StandsForTree, IsMounted}
+use Rattle.posix_calls.specs.Mounts.{AreMounted, StandsForTree, IsMounted}
 
 -- a tree that fits is a state that a volume can have
 pub sound_at : (p : PagesState) (table : ObjectTable) (names : NameIndex) (objects : Objects) → table_sizes table ≡ volume_of p → IsMountedWith p table names objects → IsSound (table_sizes table) (at_mount objects)
@@ -69,9 +69,13 @@ module _ {P : Type 0} (state : P → PagesState) (device now : Device) (pages : 
       → ((state pages).device.honest ≡ true → AreNext (state pages).device.flash (state pages).next) → (HasTrueFlash device → IsChecked device.geometry device.flash (state pages).checkpoint)
       → ReadsByCheckpoint device (state pages).device → table_sizes table ≡ volume_of (state pages) → (state pages).worn ≡ r
       → ((state pages).device.honest ≡ true → (objects : Objects) × IsMountedWith (state pages) table names objects)
-      → ((tree : Objects) → table_sizes (parts.table_of o) ≡ volume_of (state (parts.pages_of o)) → IsMountedWith (state (parts.pages_of o)) (parts.table_of o) (parts.names_of o) tree
-      → (state (parts.pages_of o)).worn ≡ r → StandsForTree state v tree) → IsMounted state device v
+      → ((tree : Objects) → AreMounted state o r tree → StandsForTree state v tree) → IsMounted state device v
   mounted_over since goes is read_only next checked few sizes worn tree stands = mounted_there state device now (state pages) v r (there ∙ ap state in_pages) since goes is read_only next checked few
       (λ honest.
       let told = tree honest in
-      (told.0, stands told.0 (ap table_sizes in_table ∙ sizes ∙ sym (ap (λ (p : P). volume_of (state p)) in_pages)) (stored told.0 told.1) (ap (λ (p : P). (state p).worn) in_pages ∙ worn)))
+      let are : AreMounted state o r told.0 = record {
+        sizes = ap table_sizes in_table ∙ sizes ∙ sym (ap (λ (p : P). volume_of (state p)) in_pages);
+        mounted = stored told.0 told.1;
+        worn = ap (λ (p : P). (state p).worn) in_pages ∙ worn;
+      } in
+      (told.0, stands told.0 are))

@@ -1,19 +1,28 @@
 -- What a volume stands for once it is mounted.
 -- From: this project.
-use Rattle.std.specs.Prelude.{◌≡◌, ◌↔◌, true, false}
+use Rattle.std.specs.Prelude.{◌≡◌, ◌↔◌, Bool, true, false}
 use Rattle.flash_tree.specs.Checkpoints.{IsChecked}
 use Rattle.flash_tree.specs.Mount.{Answers, IsTreeOf}
 use Rattle.lives.specs.Lives.{at_mount}
-use Rattle.mounting.specs.Made.{CanOnlyBeRead, AreNext}
+use Rattle.mounting.specs.Made.{CanOnlyBeRead, AreNext, IsMountedWith}
 use Rattle.mounting.specs.Named.{IsTrustedSince}
 use Rattle.mounting.specs.Reads.{ReadsByCheckpoint}
 use Rattle.nand_model.specs.Calls.{Device}
 use Rattle.newest_pages.specs.Checked.{HasTrueFlash}
+use Rattle.object_table.specs.Told.{table_sizes}
 use Rattle.page_volume.specs.Volumes.{pages_of, is_read_only, is_stopped, IsVolumeOf}
 use Rattle.page_volume.specs.declared.volume.PageVolume.{PageVolume}
 use Rattle.pages.specs.State.{PagesState}
+use Rattle.paged_objects.specs.Parts as parts
 use Rattle.paged_objects.specs.Standing.{volume_of, Shown}
+use Rattle.paged_objects.specs.declared.store.PagedObjects.{PagedObjects}
 use Rattle.posix_profile.specs.State.{Objects}
+
+-- These objects are mounted: they are those of the tree, and their pages are worn exactly where they can only be read.
+pub record AreMounted {P : Type 0} (state : P → PagesState) (o : PagedObjects P) (read_only : Bool) (tree : Objects) : Type 0 where
+  pub sizes : table_sizes (parts.table_of o) ≡ volume_of (state (parts.pages_of o))
+  pub mounted : IsMountedWith (state (parts.pages_of o)) (parts.table_of o) (parts.names_of o) tree
+  pub worn : (state (parts.pages_of o)).worn ≡ read_only
 
 -- The volume stands for the tree that its device shows, with no descriptor open; and a mount would show the tree again.
 pub record StandsForTree {P : Type 0} (state : P → PagesState) (v : PageVolume P) (objects : Objects) : Type 0 where

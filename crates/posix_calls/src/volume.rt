@@ -1,5 +1,7 @@
 // A volume on a device.
 ghost use Rattle.std.specs.Prelude.{◌≡◌, ◌≤◌, ℕ, false, length, OnOk};
+ghost use Rattle.volume_terms.specs.Sizes.{most_written};
+ghost use Rattle.object_table.specs.Told.{table_sizes};
 ghost use Rattle.posix_profile.specs.declared.reply.Reply.TheVariants as replies;
 
 use crate::ending::end_with;
@@ -25,7 +27,7 @@ where
 
 impl<N: Nand> Volume<N> {
     ghost use Rattle.page_volume.specs.Running.{RunsPages};
-    ghost use Rattle.page_volume.specs.Volumes.{pages_of, is_read_only, is_stopped};
+    ghost use Rattle.page_volume.specs.Volumes.{pages_of, table_of, is_read_only, is_stopped};
     ghost use Rattle.flash_pages.specs.Sealing.{IsDueOf};
     ghost use Rattle.posix_calls.specs.Calls.{IsCalled, VolumeGoesOn};
     ghost use Rattle.posix_calls.specs.Endings.{IsUnmounted, LeavesCheckpoint, LiesOn};
@@ -69,6 +71,13 @@ impl<N: Nand> Volume<N> {
         ensures { LiesOn (⟦<FlashPages<TrustedNand<N>> as Pages>⟧.state (pages_of (over_pages self))) (N.state result) }
     {
         self.volume.into_pages().into_device().into_inner()
+    }
+
+    /// The most bytes that one Write writes, of however many it is asked.
+    pub fn most_written(&self) -> u64
+        ensures { result ≡ most_written (table_sizes (table_of (over_pages self.now))) }
+    {
+        self.volume.most_written()
     }
 
     /// Whether commands that would change it are refused.

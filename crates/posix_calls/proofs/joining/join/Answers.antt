@@ -8,10 +8,12 @@ use Rattle.posix_calls.proofs.Mounting.{sound_at, stands_for}
 use Rattle.posix_calls.proofs.joining.join.Goals as goal
 
 pub returns-clause-tree : goal.returns-clause-tree
-returns-clause-tree g c tree same mounted worn =
+returns-clause-tree g c tree are =
     let state = g.P.Pages.state in
     let objects = c.args.objects in
     let p = state objects.pages in
+    let same = are.sizes in
+    let mounted = are.mounted in
     let z = sym same in
     let stored : IsStored state objects tree = record {
       numbers = subst IsSizes z mounted.can.numbers;
@@ -21,4 +23,4 @@ returns-clause-tree g c tree same mounted worn =
       sound = sound_at p objects.table objects.names tree same mounted;
     } in
     stands_for state p (table_sizes objects.table) tree c.new.result objects.table objects.names same mounted (ap state c.new.ensures.pages)
-    (c.new.ensures.at tree stored worn (λ _. record { named = mounted.settles; shown = subst (λ (k : Sizes). Shown k p tree) z mounted.shown }))
+    (c.new.ensures.at tree stored are.worn (λ _. record { named = mounted.settles; shown = subst (λ (k : Sizes). Shown k p tree) z mounted.shown }))

@@ -5,6 +5,7 @@ use Rattle.std.specs.Prelude.{IfOk, true}
 use Rattle.nand_model.specs.Calls.{Device}
 use Rattle.nand_model.specs.MemoryState.{device, plan}
 use Rattle.nand_model.specs.declared.memory.MemNand.{MemNand}
+use Rattle.powercut.specs.Living.{IsTrueOn}
 use Rattle.powercut.specs.Sessions.{IsEnded}
 use Rattle.powercut.specs.Starting.{fuse_of}
 use Rattle.powercut.specs.declared.session.Session.{Session}
@@ -34,8 +35,8 @@ more_words seed pages drawn before old new same_pages same left =
 module _ (x : Exercise) (before pages : ℕ) (old : Stream) (was now : Session) (first last : Device) (same_pages : pages ≡ x.first.geometry.pages) (same : old ≡ words_after x.seed x.first.geometry.pages before)
     (like : uncut now ≡ uncut was) (commands : was.commands.items ≡ x.commands) (failures : was.failures.items ≡ []) (unmounts : was.unmount ≡ true) where
   abbrev pub cut_session : (end : SessionEnd) (operation : ℕ) → fuse_of now.fuse ≡ Some (operation, drawn_fates pages old) → IsDrawnAmong first (uncut was) (next_u64 old).0 operation → IsEnded now end first last
-      → IsCutSession x before first last
-  cut_session end operation fuse drawn ended = record {
+      → (IsTrueOn first → IsTrueOn last) → IsCutSession x before first last
+  cut_session end operation fuse drawn ended truth = record {
     session = now;
     end = end;
     operation = operation;
@@ -45,6 +46,7 @@ module _ (x : Exercise) (before pages : ℕ) (old : Stream) (was now : Session) 
     unmounts = ap (λ (s : Session). s.unmount) like ∙ unmounts;
     drawn = subst (λ s. IsDrawnAmong first s (session_word x.seed x.first.geometry.pages before) operation) (sym like) (subst (λ words. IsDrawnAmong first (uncut was) (next_u64 words).0 operation) same drawn);
     ended = ended;
+    truth = truth;
   }
 
 -- a call is drawn among those that are counted

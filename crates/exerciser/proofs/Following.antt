@@ -1,19 +1,23 @@
 -- The trees after the first commands of a session, one by one.
-use Rattle.std.proofs.Common.{◌≡◌, ◌≤◌, ◌<◌, ℕ, ◌+◌, zero, suc, Bool, true, false, List, [], ◌∷◌, length, take, Some, None, slice_get, inl, inr, subst, arith, ap, sym, ◌∙◌, IsTrue, ◌↔◌}
+use Rattle.std.proofs.Common.{◌≡◌, ◌≤◌, ◌<◌, ℕ, ◌+◌, zero, suc, Bool, true, false, List, [], ◌∷◌, length, take, map as list_map, Option, Some, None, IfSome, Result, Ok, Err, IfOk, slice_get, inl, inr, subst, arith, ap, sym, ◌∙◌}
 use native.Mathlib.Numerals.{unary_clauses}
 use Rattle.std.proofs.lemmas.Bool.{cases_eq, cases_lt}
 use Rattle.volume_terms.specs.Sizes.{Sizes}
 use Rattle.plain_volume.specs.Views.{PlainView}
 use Rattle.posix_profile.specs.Losses.{Covers}
-use Rattle.posix_profile.specs.State.{State}
+use Rattle.posix_profile.specs.State.{Objects, State}
+use Rattle.posix_profile.specs.WellFormed.{IsTree}
 use Rattle.posix_profile.specs.declared.command.Stamped.{Stamped}
 use Rattle.posix_profile.specs.declared.reply.Reply.{Reply}
-use Rattle.plain_tree.specs.Sameness.{TellsSame}
+use Rattle.plain_tree.specs.Items.{item_of}
+use Rattle.plain_tree.specs.Lists.{IsMadeOf, Lists, ListsShown, shown_of}
+use Rattle.plain_tree.specs.declared.list.TreeList.{TreeList}
+use Rattle.plain_tree.specs.laws.Sameness.{same_read, state_tree}
 use Rattle.posix_profile.specs.Names.{prune, settle}
 use Rattle.posix_profile.specs.laws.Prune.{prune_same}
 use Rattle.posix_profile.specs.laws.Sound.{IsSound}
 use Rattle.std.specs.FinMap as map
-use Rattle.exerciser.specs.Keeping.{after_told, after_all_told, shown_of, shown_after, Leaves, IsLeast, IsKept}
+use Rattle.exerciser.specs.Keeping.{after_told, after_all_told, shown_after, Leaves, IsLeast, IsKept, IsTreeShown}
 
 after_suc : (z : Sizes) (read_only : Bool) (s : State) (commands : List Stamped) (replies : List Reply) (k : ℕ) (command : Stamped) (reply : Reply)
     → slice_get commands k ≡ Some command → slice_get replies k ≡ Some reply
@@ -36,21 +40,21 @@ pub after_next : (z : Sizes) (read_only : Bool) (s : State) (commands : List Sta
     → after_all_told z read_only s commands (take (k + 1) replies) ≡ after_told z read_only (after_all_told z read_only s commands (take k replies)) command reply
 after_next z read_only s commands replies k command reply asked told = simp unary_clauses (after_suc z read_only s commands replies k command reply asked told)
 
-module _ (before : PlainView) (commands : List Stamped) (replies : List Reply) (shown : PlainView) where
-  -- it may not leave the tree of fewer commands
+module _ (before : PlainView) (commands : List Stamped) (replies : List Reply) (IsSuch : Objects → Type 0) where
+  -- it may not leave what is such after fewer commands
   abbrev pub NoneBelow : ℕ → Type 0
-  NoneBelow n = (k : ℕ) → k < n → Leaves before commands replies shown k → ⊥
+  NoneBelow n = (k : ℕ) → k < n → Leaves before commands replies IsSuch k → ⊥
 
   pub none_uncovered : (n : ℕ) → ((k : ℕ) → Covers commands replies k → n ≤ k) → NoneBelow n
   none_uncovered n least k few leaves = omega (arith, few, least k leaves.covers)
 
-  pub none_next : (n : ℕ) → (shown_after before commands replies n ≡ shown_of shown → ⊥) → NoneBelow n → NoneBelow (n + 1)
+  pub none_next : (n : ℕ) → (IsSuch (shown_after before commands replies n) → ⊥) → NoneBelow n → NoneBelow (n + 1)
   none_next n other none k few leaves = elim (cases_eq k n) [
-    | inl is ↦ other (subst (λ j. shown_after before commands replies j ≡ shown_of shown) is leaves.same)
+    | inl is ↦ other (subst (λ j. IsSuch (shown_after before commands replies j)) is leaves.such)
     | inr not ↦ none k (omega (arith, few, not)) leaves
   ]
 
-  pub least_found : (n : ℕ) → Leaves before commands replies shown n → NoneBelow n → IsLeast before commands replies shown (Some n)
+  pub least_found : (n : ℕ) → Leaves before commands replies IsSuch n → NoneBelow n → IsLeast before commands replies IsSuch (Some n)
   least_found n leaves none = (
     leaves,
     λ j also. elim (cases_lt j n) [
@@ -59,42 +63,57 @@ module _ (before : PlainView) (commands : List Stamped) (replies : List Reply) (
     ],
   )
 
-  pub none_found : (n : ℕ) → ((k : ℕ) → k ≤ length commands → k ≤ length replies → k < n) → NoneBelow n → IsLeast before commands replies shown None
+  pub none_found : (n : ℕ) → ((k : ℕ) → k ≤ length commands → k ≤ length replies → k < n) → NoneBelow n → IsLeast before commands replies IsSuch None
   none_found n all none k leaves = none k (all k leaves.asked leaves.answered) leaves
 
 -- what a mount shows of a sound state without descriptors is its objects
 pub bare_settled : (z : Sizes) (s : State) → IsSound z s → s.handles ≡ map.empty → (settle s).objects ≡ s.objects
 bare_settled z s sound bare = ap (λ (t : State). t.objects) (ap prune (λ i. record { objects = s.objects; handles = sym bare i }) ∙ prune_same z s sound.well_formed)
 
--- the volume shows the state still, which is not that of fewer commands
-abbrev pub NoneKept : {V : Type 0} → (V → Sizes → Bool → State → Type 0) → V → V → PlainView → List Stamped → List Reply → ℕ → Type 0
-NoneKept shows old now before commands replies n =
-    (z : Sizes) (read_only : Bool) (s : State) → shows old z read_only s → s.handles ≡ map.empty → shows now z read_only s × NoneBelow before commands replies (record { sizes = z; read_only = read_only; state = s }) n
+module _ (before : PlainView) (commands : List Stamped) (replies : List Reply) (list : TreeList) (z : Sizes) (objects : Objects) (tree : IsTree z objects) (listed : Lists list objects) where
+  -- what leaves the objects leaves what is listed of them
+  leaves_listed : (k : ℕ) → Leaves before commands replies (λ x. x ≡ objects) k → Leaves before commands replies (Lists list) k
+  leaves_listed k leaves = record { covers = leaves.covers; asked = leaves.asked; answered = leaves.answered; such = subst (Lists list) (sym leaves.such) listed }
+
+  -- what is the least for a list is the least for the tree that it is read of
+  pub least_listed : (found : Option ℕ) → IsLeast before commands replies (Lists list) found → IfSome found (λ k. IsTree before.sizes (shown_after before commands replies k))
+      → IsLeast before commands replies (λ x. x ≡ objects) found
+  least_listed (Some k) least shows = (
+    record {
+      covers = least.0.covers;
+      asked = least.0.asked;
+      answered = least.0.answered;
+      such = same_read before.sizes z (shown_after before commands replies k) objects shows tree (list_map item_of list.entries.items) least.0.such listed;
+    },
+    λ j also. least.1 j (leaves_listed j also),
+  )
+  least_listed None none shows = λ k leaves. none k (leaves_listed k leaves)
 
 module _ {V : Type 0} (shows : V → Sizes → Bool → State → Type 0) (sound : (v : V) (z : Sizes) (read_only : Bool) (s : State) → shows v z read_only s → IsSound z s)
-    (before : PlainView) (commands : List Stamped) (replies : List Reply) (old : V) where
-  pub kept_start : (n : ℕ) → ((k : ℕ) → Covers commands replies k → n ≤ k) → NoneKept shows old old before commands replies n
-  kept_start n least = λ z read_only s shown bare. (shown, none_uncovered before commands replies (record { sizes = z; read_only = read_only; state = s }) n least)
+    (old : V) (list : TreeList) (listed : ListsShown shows old list) where
+  -- so it is for each state that is shown
+  pub kept_listed : (before : PlainView) (commands : List Stamped) (replies : List Reply) (found : Option ℕ) → IsLeast before commands replies (Lists list) found
+      → IfSome found (λ k. IsTree before.sizes (shown_after before commands replies k)) → IsKept shows old before commands replies found
+  kept_listed before commands replies found least trees = λ z read_only s shown bare.
+      subst (λ objects. IsLeast before commands replies (λ x. x ≡ objects) found) (sym (bare_settled z s (sound old z read_only s shown) bare))
+      (least_listed before commands replies list z s.objects (state_tree z s (sound old z read_only s shown) bare) (listed z read_only s shown) found least trees)
 
-  pub kept_end : (now : V) (n : ℕ) → ((k : ℕ) → k ≤ length commands → k ≤ length replies → k < n) → NoneKept shows old now before commands replies n → IsKept shows old before commands replies None
-  kept_end now n all none = λ z read_only s shown bare. none_found before commands replies (record { sizes = z; read_only = read_only; state = s }) n all (none z read_only s shown bare).1
+  -- the tree that is made of the list is the one that is shown
+  pub made_shown : (tree : PlainView) → IsMadeOf list tree → IsTreeShown shows old tree
+  made_shown tree made z read_only s shown bare =
+      same_read tree.sizes z (shown_of tree) s.objects made.shows (state_tree z s (sound old z read_only s shown) bare) (list_map item_of list.entries.items) made.listed (listed z read_only s shown)
+      ∙ sym (bare_settled z s (sound old z read_only s shown) bare)
 
-  module _ (now new : V) (tree : PlainView) (n : ℕ) (same : Bool) (state : tree.state ≡ after_all_told before.sizes before.read_only before.state commands (take n replies))
-      (none : NoneKept shows old now before commands replies n) (told : TellsSame shows now new (settle tree.state).objects same) where
-    is_same : (z : Sizes) (read_only : Bool) (s : State) → shows old z read_only s → s.handles ≡ map.empty → IsTrue same ↔ (shown_after before commands replies n ≡ (settle s).objects)
-    is_same z read_only s shown bare =
-        let so = none z read_only s shown bare in
-        let both = (told z read_only s so.0).0 bare in
-        let settled = bare_settled z s (sound now z read_only s so.0) bare in
-        let after : (settle tree.state).objects ≡ shown_after before commands replies n = ap (λ (t : State). (settle t).objects) state in
-        (λ is. sym after ∙ both.0 is ∙ sym settled, λ is. both.1 (after ∙ is ∙ settled))
+-- what follows of a result that is Ok, of two things
+pub ok_of : {A E : Type 0} (P Q R : A → Type 0) (r : Result A E) → ((x : A) → P x → Q x → R x) → IfOk r P → IfOk r Q → IfOk r R
+ok_of P Q R (Ok x) on one other = on x one other
+ok_of P Q R (Err e) on one other = one
 
-    pub kept_more : same ≡ false → NoneKept shows old new before commands replies (n + 1)
-    kept_more no' = λ z read_only s shown bare.
-        let so = none z read_only s shown bare in
-        ((told z read_only s so.0).1, none_next before commands replies (record { sizes = z; read_only = read_only; state = s }) n (λ is. not_both same no' ((is_same z read_only s shown bare).1 is)) so.1)
+pub ok_then : {A E : Type 0} (P Q : A → Type 0) (r : Result A E) → ((x : A) → P x → Q x) → IfOk r P → IfOk r Q
+ok_then P Q (Ok x) on is = on x is
+ok_then P Q (Err e) on is = is
 
-    pub kept_found : same ≡ true → Covers commands replies n → n ≤ length commands → n ≤ length replies → IsKept shows old before commands replies (Some n)
-    kept_found yes' covers asked answered = λ z read_only s shown bare.
-        least_found before commands replies (record { sizes = z; read_only = read_only; state = s }) n
-        (record { covers = covers; asked = asked; answered = answered; same = (is_same z read_only s shown bare).0 yes' }) (none z read_only s shown bare).1
+-- what follows of what there is
+pub some_then : {A : Type 0} (P Q : A → Type 0) (found : Option A) → ((x : A) → P x → Q x) → IfSome found P → IfSome found Q
+some_then P Q (Some x) on is = on x is
+some_then P Q None on is = is

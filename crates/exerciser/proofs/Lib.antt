@@ -3,3 +3,4 @@ pub mod Sessions
 pub mod Covering
 pub mod Following
 pub mod Causes
+pub mod Mounting

@@ -5,11 +5,11 @@ use native.Mathlib.Numerals.{unary_clauses}
 use Rattle.std.proofs.KnownBytes.{Appends-nil, Appends-trans}
 use Rattle.std.specs.Io.KnownBytes.{Appends}
 use Rattle.exerciser.specs.Faults.{IsOfReading, of_tree}
-use Rattle.exerciser.specs.Causes.{IsOfSession, MountsAs, WhyNotBegun}
+use Rattle.exerciser.specs.Causes.{IsTreeOn, IsOfSession, MountsAs, WhyNotBegun}
 use Rattle.nand_model.specs.Calls.{Device}
 use Rattle.plain_volume.specs.Views.{PlainView}
 use Rattle.posix_profile.specs.laws.Fresh.{fresh}
-use Rattle.exerciser.specs.Keeping.{IsLeast}
+use Rattle.exerciser.specs.Keeping.{IsLeast, IsShownOf}
 use Rattle.exerciser.specs.Lines.{session_line, IsTold}
 use Rattle.exerciser.specs.Seen.{finding_of, IsSeen, IsTorn}
 use Rattle.exerciser.specs.Cutting.{Exercise, IsCutSession, AreKept, AreKeptBefore, Cuts}
@@ -67,18 +67,18 @@ unfolding AreKept
 starts x last tree old is = record { text = []; kept = (is, refl); told = Appends-nil old }
 
 -- one line more
-one_more : (x : Exercise) (before : ℕ) (first last : Device) (old tree : PlainView) (text : List ℕ) (count : ℕ) → AreKept x before first old text
-    → (done : IsCutSession x before first last) → IsLeast old x.commands done.end.replies.items tree (Some count)
+one_more : (x : Exercise) (before : ℕ) (first last : Device) (old tree : PlainView) (text : List ℕ) (count : ℕ) → AreKept x before first old text → IsTreeOn first old
+    → (done : IsCutSession x before first last) → IsLeast old x.commands done.end.replies.items (IsShownOf tree) (Some count) → IsTreeOn last tree
     → AreKept x (before + 1) last tree (text ++ session_line (before + 1) done.operation (findings.Kept count) (length x.commands))
 unfolding AreKept
-one_more x before first last old tree text count kept done least = simp unary_clauses (text, first, old, count, kept, done, least, refl)
+one_more x before first last old tree text count kept was done least on = simp unary_clauses (text, first, old, count, kept, was, done, least, on, refl)
 
-module _ (x : Exercise) (before : ℕ) (first last : Device) (tree : PlainView) (old now later : Option (List ℕ)) (so_far : SoFar x before first tree old now) (done : IsCutSession x before first last) where
-  pub goes_further : (count : ℕ) (next : PlainView) → IsLeast tree x.commands done.end.replies.items next (Some count)
+module _ (x : Exercise) (before : ℕ) (first last : Device) (tree : PlainView) (old now later : Option (List ℕ)) (so_far : SoFar x before first tree old now) (done : IsCutSession x before first last) (was : IsTreeOn first tree) where
+  pub goes_further : (count : ℕ) (next : PlainView) → IsLeast tree x.commands done.end.replies.items (IsShownOf next) (Some count) → IsTreeOn last next
       → IsTold now later (session_line (before + 1) done.operation (findings.Kept count) (length x.commands)) (Ok tt) → SoFar x (before + 1) last next old later
-  goes_further count next least told = record {
+  goes_further count next least on told = record {
     text = so_far.text ++ session_line (before + 1) done.operation (findings.Kept count) (length x.commands);
-    kept = one_more x before first last tree next so_far.text count so_far.kept done least;
+    kept = one_more x before first last tree next so_far.text count so_far.kept was done least on;
     told = Appends-trans old now later so_far.text (session_line (before + 1) done.operation (findings.Kept count) (length x.commands)) so_far.told told;
   }
 
@@ -90,7 +90,7 @@ module _ (x : Exercise) (before : ℕ) (first last : Device) (tree : PlainView) 
     -- the lines so far and one more
     with_line : AreKeptBefore x seen (so_far.text ++ line)
     with_line =
-        record { before = before; lines = so_far.text; first = first; last = last; tree = tree; few = few; kept = so_far.kept; done = done; is_seen = is_seen; mounts = mounts; text_is = refl }
+        record { before = before; lines = so_far.text; first = first; last = last; tree = tree; few = few; kept = so_far.kept; on = was; done = done; is_seen = is_seen; mounts = mounts; text_is = refl }
 
     -- a line that was not told whole
     pub stops_telling : (fault : CutFault) → IsTold now later line (Err fault) → Cuts x old later (Err fault)

@@ -1,7 +1,14 @@
 -- Why sessions end before the last one.
-use Rattle.std.specs.Prelude.{◌≡◌, ◌≢◌, ℕ, Some, Result, Ok, Err}
+use Rattle.std.specs.Prelude.{◌≡◌, ◌≢◌, ℕ, Bool, Some, None, Result, Ok, Err}
 use Rattle.nand_model.specs.Calls.{Device}
 use Rattle.nand_model.specs.Changes.{PowersUp, OnlyReads}
+use Rattle.flash_tree.specs.Mount.{Answers, IsTreeOf}
+use Rattle.lives.specs.Lives.{at_mount}
+use Rattle.newest_pages.specs.Checked.{HasTrueFlash}
+use Rattle.plain_tree.specs.Lists.{shown_of}
+use Rattle.plain_volume.specs.Views.{PlainView}
+use Rattle.posix_profile.specs.State.{Objects, State}
+use Rattle.volume_terms.specs.Sizes.{Sizes}
 use Rattle.mounting.specs.Faults.{WhyNotMounted}
 use Rattle.mounting.specs.declared.fault.MountFault.{MountFault}
 use Rattle.mounting.specs.declared.fault.MountFault.TheVariants as mounts
@@ -16,10 +23,24 @@ use Rattle.exerciser.specs.declared.seen.Seen.TheVariants as seens
 abbrev pub IsAnswered : Device → MountFault → Type 0
 IsAnswered device fault = (up : Device) × (back : Device) × PowersUp device up × OnlyReads up back × WhyNotMounted back fault
 
--- a mount that fails has its reason, and was not refused memory
+-- A volume shows the tree that the device's flash stands for, with no descriptor open.
+pub record ShowsFlash {V : Type 0} (shows : V → Sizes → Bool → State → Type 0) (device : Device) (v : V) : Type 0 where
+  pub spare : ℕ
+  pub objects : Objects
+  pub sizes : Sizes
+  pub read_only : Bool
+  pub answers : Answers device.geometry device.flash (IsTreeOf spare objects)
+  pub shown : shows v sizes read_only (at_mount objects)
+
+-- what a mount shows of the tree is what the device's flash stands for, where that flash is true
+abbrev pub IsTreeOn : Device → PlainView → Type 0
+IsTreeOn device tree = HasTrueFlash device → (spare : ℕ) × Answers device.geometry device.flash (IsTreeOf spare (shown_of tree))
+
+-- the tree that is seen is the one on the device; and a mount that fails has its reason, and was not refused memory
 abbrev pub MountsAs : Device → Seen → Type 0
-MountsAs device (seens.Kept count tree) = Unit {0}
-MountsAs device (seens.Torn tree) = Unit {0}
+MountsAs device (seens.Kept count tree) = IsTreeOn device tree
+MountsAs device (seens.Torn (Some tree)) = IsTreeOn device tree
+MountsAs device (seens.Torn None) = Unit {0}
 MountsAs device (seens.Mount fault) = (fault ≢ mounts.NoMemory) × IsAnswered device fault
 
 -- How a session that is not cut is counted: by its calls exactly where it was mounted and unmounted; NoMemory where its mount was

@@ -5,13 +5,14 @@ use Rattle.line_shell.specs.Written.{AppendsPart}
 use Rattle.nand_model.specs.Calls.{Device}
 use Rattle.plain_volume.specs.Views.{PlainView}
 use Rattle.posix_profile.specs.declared.command.Stamped.{Stamped}
+use Rattle.powercut.specs.Living.{IsTrueOn}
 use Rattle.powercut.specs.Sessions.{IsEnded}
 use Rattle.powercut.specs.Starting.{fuse_of}
 use Rattle.powercut.specs.declared.session.Session.{Session}
 use Rattle.powercut.specs.declared.session.SessionEnd.{SessionEnd}
-use Rattle.exerciser.specs.Causes.{MountsAs}
+use Rattle.exerciser.specs.Causes.{IsTreeOn, MountsAs}
 use Rattle.exerciser.specs.Draws.{IsDrawnAmong, drawn_fates, session_word, uncut, words_after}
-use Rattle.exerciser.specs.Keeping.{IsLeast}
+use Rattle.exerciser.specs.Keeping.{IsLeast, IsShownOf}
 use Rattle.exerciser.specs.Lines.{session_line}
 use Rattle.exerciser.specs.Seen.{finding_of, IsSeen, IsTorn}
 use Rattle.exerciser.specs.declared.fault.CutFault.{CutFault}
@@ -27,7 +28,7 @@ pub record Exercise : Type 0 where
   pub sessions : ℕ
 
 -- The session after so many, which made the one device the other. It has the commands, no call that fails, and an unmount; the seed draws
--- the call at which it is cut, among those that it makes where it is not cut, and the fates.
+-- the call at which it is cut, among those that it makes where it is not cut, and the fates. A true flash stays true.
 pub record IsCutSession (x : Exercise) (before : ℕ) (first last : Device) : Type 0 where
   pub session : Session
   pub end : SessionEnd
@@ -38,14 +39,15 @@ pub record IsCutSession (x : Exercise) (before : ℕ) (first last : Device) : Ty
   pub unmounts : session.unmount ≡ true
   pub drawn : IsDrawnAmong first (uncut session) (session_word x.seed x.first.geometry.pages before) operation
   pub ended : IsEnded session end first last
+  pub truth : IsTrueOn first → IsTrueOn last
 
--- The text is the lines of so many sessions, from the first on, which left this device, and this is the tree after them: each keeps, of
--- the tree before it, the first commands that its line counts, as it answered them; and no fewer.
+-- The text is the lines of so many sessions, from the first on, which left this device, and this is the tree that lies on it: each keeps,
+-- of the tree before it, the first commands that its line counts, as it answered them; and no fewer.
 unfoldable pub AreKept : Exercise → (sessions : ℕ) → (last : Device) → (tree : PlainView) → List ℕ → Type 0
 AreKept x zero last tree text = (last ≡ x.first) × (text ≡ [])
 AreKept x (suc before) last tree text =
-    (lines : List ℕ) × (first : Device) × (old : PlainView) × (count : ℕ) × AreKept x before first old lines × (done : IsCutSession x before first last)
-    × IsLeast old x.commands done.end.replies.items tree (Some count) × (text ≡ lines ++ session_line (suc before) done.operation (findings.Kept count) (length x.commands))
+    (lines : List ℕ) × (first : Device) × (old : PlainView) × (count : ℕ) × AreKept x before first old lines × IsTreeOn first old × (done : IsCutSession x before first last)
+    × IsLeast old x.commands done.end.replies.items (IsShownOf tree) (Some count) × IsTreeOn last tree × (text ≡ lines ++ session_line (suc before) done.operation (findings.Kept count) (length x.commands))
 
 -- the lines of sessions that kept a tree, and of one after them, of which this is seen
 pub record AreKeptBefore (x : Exercise) (seen : Seen) (text : List ℕ) : Type 0 where
@@ -56,6 +58,7 @@ pub record AreKeptBefore (x : Exercise) (seen : Seen) (text : List ℕ) : Type 0
   pub tree : PlainView
   pub few : before < x.sessions
   pub kept : AreKept x before first tree lines
+  pub on : IsTreeOn first tree
   pub done : IsCutSession x before first last
   pub is_seen : IsSeen tree x.commands done.end.replies.items seen
   pub mounts : MountsAs last seen

@@ -1,9 +1,9 @@
 -- What is seen of a session, by the tree before it, its commands and their replies.
-use Rattle.std.specs.Prelude.{List, Some, None}
+use Rattle.std.specs.Prelude.{List, Option, Some, None}
 use Rattle.plain_volume.specs.Views.{PlainView}
 use Rattle.posix_profile.specs.declared.command.Stamped.{Stamped}
 use Rattle.posix_profile.specs.declared.reply.Reply.{Reply}
-use Rattle.exerciser.specs.Keeping.{IsLeast}
+use Rattle.exerciser.specs.Keeping.{IsLeast, IsShownOf}
 use Rattle.exerciser.specs.declared.finding.Finding.{Finding}
 use Rattle.exerciser.specs.declared.finding.Finding.TheVariants as findings
 use Rattle.exerciser.specs.declared.seen.Seen.{Seen}
@@ -15,11 +15,17 @@ finding_of (seens.Kept count tree) = findings.Kept count
 finding_of (seens.Torn tree) = findings.Torn
 finding_of (seens.Mount fault) = findings.Mount fault
 
+-- the tree that is seen; none where it cannot be made again, and of a mount that fails
+abbrev pub tree_in : Seen → Option PlainView
+tree_in (seens.Kept count tree) = Some tree
+tree_in (seens.Torn tree) = tree
+tree_in (seens.Mount fault) = None
+
 -- A tree is kept where the session may leave it, after the least number of commands that leaves it; and torn where it may not. Of
 -- what cannot be made again as a tree, and of a mount that fails, nothing is said.
 abbrev pub IsSeen : PlainView → List Stamped → List Reply → Seen → Type 0
-IsSeen before commands replies (seens.Kept count tree) = IsLeast before commands replies tree (Some count)
-IsSeen before commands replies (seens.Torn (Some tree)) = IsLeast before commands replies tree None
+IsSeen before commands replies (seens.Kept count tree) = IsLeast before commands replies (IsShownOf tree) (Some count)
+IsSeen before commands replies (seens.Torn (Some tree)) = IsLeast before commands replies (IsShownOf tree) None
 IsSeen before commands replies (seens.Torn None) = Unit {0}
 IsSeen before commands replies (seens.Mount fault) = Unit {0}
 

@@ -3,6 +3,7 @@ ghost use Rattle.std.specs.Prelude.{◌≡◌, ◌≤◌, ℕ, Some, IfOk, IfErr
 ghost use Rattle.rand_core.specs.Stream.{next_u64};
 ghost use Rattle.nand_model.specs.MemoryState.{device};
 ghost use Rattle.cut_draws.specs.Draws.{answers, operation_of};
+ghost use Rattle.powercut.specs.Living.{IsTrueOn};
 ghost use Rattle.powercut.specs.Sessions.{IsEnded};
 ghost use Rattle.powercut.specs.Starting.{fuse_of};
 ghost use Rattle.exerciser.specs.Causes.{IsOfSession, HasCause, MountsAs};
@@ -87,6 +88,7 @@ fn exercise(
     ensures drawn { IfOk result (λ done. IsDrawnAmong (device standing.device) (uncut session.old) (next_u64 (answers generator.old)).0 done.operation) }
     ensures left { OnOk result (answers generator.new ≡ words_after_session pages (answers generator.old)) }
     ensures ended { IfOk result (λ done. IsEnded session.new done.end (device standing.device) (device done.device)) }
+    ensures truth { IfOk result (λ done. IsTrueOn (device standing.device) → IsTrueOn (device done.device)) }
     ensures seen { IfOk result (λ done. IsSeen standing.tree session.old.commands.items done.end.replies.items done.seen) }
     ensures mounts { IfOk result (λ done. MountsAs (device done.device) done.seen) }
     ensures fault { IfErr result IsOfSession }

@@ -1,12 +1,14 @@
 // The commands that a cut session kept.
 ghost use Rattle.std.specs.Prelude.{◌≡◌, ◌≤◌, ℕ, length, take, IfOk, IfSome, OnOk, OnErr};
 ghost use Rattle.posix_profile.specs.Losses.{is_synced, Covers};
-ghost use Rattle.exerciser.specs.Keeping.{after_told, after_all_told, IsLeast, IsKept};
+ghost use Rattle.posix_profile.specs.WellFormed.{IsTree};
+ghost use Rattle.plain_tree.specs.Lists.{Lists};
+ghost use Rattle.exerciser.specs.Keeping.{after_told, after_all_told, shown_after, IsLeast, IsKept};
 
-use plain_tree::{Answers, PlainTree, TreeFault};
+use plain_tree::{Answers, PlainTree, TreeFault, TreeList};
 use posix_profile::{Command, Errno, Reply, Stamped};
 use powercut::SessionEnd;
-use std::alloc::AllocError;
+use std::alloc::{AllocError, Global};
 
 /// Whether it is a sync that is done.
 fn is_synced(command: &Command, reply: &Reply) -> bool
@@ -70,49 +72,26 @@ fn follow_first(
     Ok(())
 }
 
-/// The least number of commands of a session that was answered so after which a mount shows this tree: from those that a done
-/// sync covers to those that were answered. `before` is the tree before the session. None where there is no such number.
+/// The least number of commands of a session that was answered so after which the list is read of what a mount shows: from those
+/// that a done sync covers to those that were answered. `before` is the tree before the session. None where there is no such number.
 pub(crate) fn least_kept(
     before: &PlainTree,
     script: &[Stamped],
     replies: &[Reply],
-    shown: &PlainTree,
-) -> Result<Option<u64>, AllocError>
-    ensures { IfOk result (IsLeast before.now script.now replies.now shown.now) }
-{
-    let mut tree = before.copy()?;
-    let covered = covered(script, replies);
-    follow_first(&mut tree, script, replies, covered)?;
-    let answered = script.len().min(replies.len());
-    for done in covered..answered + 1 {
-        if tree.shows_same(shown)? {
-            return Ok(Some(done as u64));
-        }
-        if done < answered {
-            follow(&mut tree, &script[done], &replies[done])?;
-        }
-    }
-    Ok(None)
-}
-
-/// As `kept`, of a session that was answered so.
-fn kept_of<V: Answers>(
-    before: &PlainTree,
-    script: &[Stamped],
-    replies: &[Reply],
-    volume: &mut V,
+    list: &TreeList,
 ) -> Result<Option<u64>, TreeFault>
     ensures covers { IfOk result (λ found. IfSome found (λ k. Covers script.now replies.now k)) }
     ensures begun { IfOk result (λ found. IfSome found (λ k. k ≤ length replies.now)) }
     ensures within { IfOk result (λ found. IfSome found (λ k. k ≤ length script.now)) }
-    ensures least { IfOk result (IsKept V.shows volume.old before.now script.now replies.now) }
+    ensures least { IfOk result (IsLeast before.now script.now replies.now (Lists list.now)) }
+    ensures shows { IfOk result (λ found. IfSome found (λ k. IsTree before.now.sizes (shown_after before.now script.now replies.now k))) }
 {
     let mut tree = before.copy()?;
     let covered = covered(script, replies);
     follow_first(&mut tree, script, replies, covered)?;
     let answered = script.len().min(replies.len());
     for done in covered..answered + 1 {
-        if tree.same(volume)? {
+        if tree.has(list)? {
             return Ok(Some(done as u64));
         }
         if done < answered {
@@ -127,6 +106,7 @@ fn kept_of<V: Answers>(
 /// commands; those answered ENOMEM, EIO or EROFS change nothing. None where there is no such number. The volume, which needs a free
 /// descriptor, is read by its commands and not changed.
 pub fn kept<V: Answers>(
+    alloc: Global,
     before: &PlainTree,
     script: &[Stamped],
     end: &SessionEnd,
@@ -137,5 +117,6 @@ pub fn kept<V: Answers>(
     ensures within { IfOk result (λ found. IfSome found (λ k. k ≤ length script.now)) }
     ensures least { IfOk result (IsKept V.shows volume.old before.now script.now end.now.replies.items) }
 {
-    kept_of(before, script, &end.replies, volume)
+    let list = TreeList::read(alloc, volume)?;
+    least_kept(before, script, &end.replies, &list)
 }

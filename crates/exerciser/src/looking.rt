@@ -1,26 +1,33 @@
 // The sessions and the mounts of an exercise that no fuse cuts.
-ghost use Rattle.std.specs.Prelude.{◌≡◌, ◌≢◌, IfOk, IfErr};
+ghost use Rattle.std.specs.Prelude.{◌≡◌, ◌≢◌, None, IfOk, IfErr, IfSome};
+ghost use Rattle.volume_terms.specs.Sizes.{IsSizes};
+ghost use Rattle.volume_terms.specs.VolumeSizes.{sizes_of};
 ghost use Rattle.nand_model.specs.MemoryState.{device};
 ghost use Rattle.mounting.specs.declared.fault.MountFault.{MountFault};
 ghost use Rattle.mounting.specs.declared.fault.MountFault.TheVariants as mounts;
+ghost use Rattle.plain_tree.specs.Lists.{IsMadeOf, Lists, ListsShown};
+ghost use Rattle.powercut.specs.Living.{IsTrueOn};
 ghost use Rattle.powercut.specs.Sessions.{IsEnded};
 ghost use Rattle.exerciser.specs.Faults.{IsOfReading};
-ghost use Rattle.exerciser.specs.Causes.{IsAnswered, CountsCalls, IsOfSession, MountsAs, WhyNotBegun};
+ghost use Rattle.newest_pages.specs.Checked.{HasTrueFlash};
+ghost use Rattle.exerciser.specs.Causes.{IsAnswered, CountsCalls, IsOfSession, IsTreeOn, MountsAs, ShowsFlash, WhyNotBegun};
 ghost use Rattle.exerciser.specs.Draws.{IsCountOf};
-ghost use Rattle.exerciser.specs.Seen.{IsSeen};
+ghost use Rattle.exerciser.specs.Keeping.{IsKept, IsLeast, IsTreeShown};
+ghost use Rattle.exerciser.specs.Seen.{IsSeen, tree_in};
 ghost use Rattle.exerciser.specs.declared.fault.CutFault.TheVariants as faults;
 ghost use Rattle.exerciser.specs.declared.seen.Seen.TheVariants as seens;
 
 use crate::fault::CutFault;
-use crate::keeping::{kept, least_kept};
+use crate::keeping::least_kept;
 use crate::seen::Seen;
 use crate::sizes::sizes_with;
 use nand_model::{Geometry, MemNand, Nand};
-use plain_tree::{Answers, PlainTree};
+use plain_tree::{Answers, PlainTree, TreeFault, TreeList};
 use posix_calls::{MountFault, Volume};
 use posix_profile::{Command, Reply, Stamped};
 use powercut::{Session, SessionEnd, live};
 use std::alloc::Global;
+use volume_terms::VolumeSizes;
 
 /// A device and the tree that a mount of it shows.
 #[derive(Drop)]
@@ -29,15 +36,21 @@ pub(crate) struct Standing {
     pub(crate) tree: PlainTree,
 }
 
-/// The tree of a mounted volume on a device of these sizes.
+/// What commands tell of a volume: its sizes, and its tree.
+#[derive(Drop)]
+struct Told {
+    sizes: VolumeSizes,
+    list: TreeList,
+}
+
+/// Reads what a mounted volume on a device of these sizes tells.
 #[tactic(auto, using(crate::proofs::Sessions::of_tree_is_reading))]
-fn tree_of<V: Answers>(
-    alloc: Global,
-    geometry: Geometry,
-    volume: &mut V,
-) -> Result<PlainTree, CutFault>
-    ensures { IfErr result IsOfReading }
+fn read<V: Answers>(alloc: Global, geometry: Geometry, volume: &mut V) -> Result<Told, CutFault>
+    ensures sizes { IfOk result (λ told. IsSizes (sizes_of told.sizes)) }
+    ensures list { IfOk result (λ told. ListsShown V.shows volume.old told.list) }
+    ensures fault { IfErr result IsOfReading }
 {
+    let list = TreeList::read(alloc, volume)?;
     let asked = Stamped {
         moment: 0,
         command: Command::Space,
@@ -45,15 +58,29 @@ fn tree_of<V: Answers>(
     let Reply::SpaceInfo(space) = volume.answer(&asked) else {
         return Err(CutFault::Unread);
     };
-    let Some(sizes) = sizes_with(geometry, space.total) else {
-        return Err(CutFault::Unread);
-    };
-    Ok(PlainTree::read_from(alloc, sizes, volume)?)
+    match sizes_with(geometry, space.total) {
+        Some(sizes) => Ok(Told { sizes, list }),
+        None => Err(CutFault::Unread),
+    }
+}
+
+/// The tree that is told; none where it cannot be made again.
+fn made_of(alloc: Global, told: &Told) -> Result<Option<PlainTree>, CutFault>
+    requires { IsSizes (sizes_of told.now.sizes) }
+    ensures made { IfOk result (λ made. IfSome made (IsMadeOf told.now.list)) }
+    ensures fault { IfErr result IsOfReading }
+{
+    match PlainTree::made_of(alloc, told.sizes, &told.list) {
+        Ok(tree) => Ok(Some(tree)),
+        Err(TreeFault::NoMemory) => Err(CutFault::NoMemory),
+        Err(_) => Ok(None),
+    }
 }
 
 /// Mounts a device from a power-up on.
 fn mount(alloc: Global, mut nand: MemNand) -> Result<Volume<MemNand>, (MemNand, MountFault)>
-    ensures { IfErr result (λ failed. IsAnswered (device nand) failed.1) }
+    ensures shows { IfOk result (λ volume. HasTrueFlash (device nand) → ShowsFlash ⟦<Volume<MemNand> as Answers>⟧.shows (device nand) volume) }
+    ensures fault { IfErr result (λ failed. IsAnswered (device nand) failed.1) }
 {
     nand.power_up();
     match Volume::mount(alloc, nand) {
@@ -65,13 +92,17 @@ fn mount(alloc: Global, mut nand: MemNand) -> Result<Volume<MemNand>, (MemNand, 
 /// The device with the tree that it shows. A copy of it is mounted.
 pub(crate) fn begin(alloc: Global, nand: MemNand) -> Result<Standing, CutFault>
     ensures device { IfOk result (λ standing. device standing.device ≡ device nand) }
+    ensures tree { IfOk result (λ standing. IsTreeOn (device nand) standing.tree) }
     ensures fault { IfErr result (WhyNotBegun (device nand)) }
 {
     let copy = nand.copy()?;
     match mount(alloc, copy) {
         Ok(mut volume) => {
-            let tree = tree_of(alloc, nand.geometry(), &mut volume)?;
-            Ok(Standing { device: nand, tree })
+            let told = read(alloc, nand.geometry(), &mut volume)?;
+            match made_of(alloc, &told)? {
+                Some(tree) => Ok(Standing { device: nand, tree }),
+                None => Err(CutFault::Unread),
+            }
         }
         Err((_copy, fault)) => Err(CutFault::from(fault)),
     }
@@ -84,6 +115,7 @@ pub(crate) fn live_once(
     session: &Session,
 ) -> Result<(MemNand, SessionEnd), CutFault>
     ensures ended { IfOk result (λ lived. IsEnded session.now lived.1 (device nand) (device lived.0)) }
+    ensures truth { IfOk result (λ lived. IsTrueOn (device nand) → IsTrueOn (device lived.0)) }
     ensures fault { IfErr result (λ e. e ≡ faults.NoMemory) }
 {
     let (last, mut ends) = live(alloc, nand, std::slice::from_ref(session))?;
@@ -113,55 +145,27 @@ pub(crate) fn count_calls(alloc: Global, nand: &MemNand, session: &Session) -> R
     calls_of(&end, last.calls())
 }
 
-/// The tree that a volume shows; none where its commands tell of none that can be made again.
+/// What is seen of a session that left what this list tells, of which this tree was made, or none.
 #[tactic(auto, using(crate::proofs::Sessions::of_tree_is_reading))]
-fn shown_by<V: Answers>(
-    alloc: Global,
-    geometry: Geometry,
-    volume: &mut V,
-) -> Result<Option<PlainTree>, CutFault>
-    ensures { IfErr result IsOfReading }
-{
-    match tree_of(alloc, geometry, volume) {
-        Ok(tree) => Ok(Some(tree)),
-        Err(CutFault::Unread) => Ok(None),
-        Err(fault) => Err(fault),
-    }
-}
-
-/// What is seen of a session that left this tree.
 fn judge(
     before: &PlainTree,
     script: &[Stamped],
     replies: &[Reply],
-    shown: PlainTree,
+    list: &TreeList,
+    made: Option<PlainTree>,
 ) -> Result<Seen, CutFault>
+    requires { IfSome made (IsMadeOf list.now) }
     ensures seen { IfOk result (IsSeen before.now script.now replies.now) }
-    ensures mounted { IfOk result (λ seen. (fault : MountFault) → seen ≡ seens.Mount fault → ⊥) }
-    ensures fault { IfErr result (λ e. e ≡ faults.NoMemory) }
-{
-    match least_kept(before, script, replies, &shown)? {
-        Some(count) => Ok(Seen::Kept(count, shown)),
-        None => Ok(Seen::Torn(Some(shown))),
-    }
-}
-
-/// What is seen of a session that left a tree that cannot be made again: its commands are compared with the trees that the
-/// session may leave.
-#[tactic(auto, using(crate::proofs::Sessions::of_tree_is_reading))]
-fn judge_told<V: Answers>(
-    before: &PlainTree,
-    script: &[Stamped],
-    end: &SessionEnd,
-    volume: &mut V,
-) -> Result<Seen, CutFault>
-    ensures seen { IfOk result (IsSeen before.now script.now end.now.replies.items) }
+    ensures tree { IfOk result (λ seen. IfSome (tree_in seen) (IsMadeOf list.now)) }
+    ensures torn { IfOk result (λ seen. seen ≡ seens.Torn None → IsLeast before.now script.now replies.now (Lists list.now) None) }
     ensures mounted { IfOk result (λ seen. (fault : MountFault) → seen ≡ seens.Mount fault → ⊥) }
     ensures fault { IfErr result IsOfReading }
 {
-    match kept(before, script, end, volume)? {
-        Some(_) => Err(CutFault::Unread),
-        None => Ok(Seen::Torn(None)),
+    let found = least_kept(before, script, replies, list)?;
+    match (found, made) {
+        (Some(count), Some(tree)) => Ok(Seen::Kept(count, tree)),
+        (Some(_), None) => Err(CutFault::Unread),
+        (None, made) => Ok(Seen::Torn(made)),
     }
 }
 
@@ -176,13 +180,14 @@ pub fn compare<V: Answers>(
     volume: &mut V,
 ) -> Result<Seen, CutFault>
     ensures seen { IfOk result (IsSeen before.now script.now end.now.replies.items) }
+    ensures tree { IfOk result (λ seen. IfSome (tree_in seen) (IsTreeShown V.shows volume.old)) }
+    ensures torn { IfOk result (λ seen. seen ≡ seens.Torn None → IsKept V.shows volume.old before.now script.now end.now.replies.items None) }
     ensures mounted { IfOk result (λ seen. (fault : MountFault) → seen ≡ seens.Mount fault → ⊥) }
     ensures fault { IfErr result IsOfReading }
 {
-    match shown_by(alloc, geometry, volume)? {
-        Some(shown) => judge(before, script, &end.replies, shown),
-        None => judge_told(before, script, end, volume),
-    }
+    let told = read(alloc, geometry, volume)?;
+    let made = made_of(alloc, &told)?;
+    judge(before, script, &end.replies, &told.list, made)
 }
 
 /// What is seen where a mount has this fault.

@@ -213,7 +213,7 @@ fn the_least_number_is_kept_from_the_last_sync_on(rt: HostRuntime) -> Result<(),
             tree: tree_after(alloc, lines)?,
         };
         assert_eq!(rt;
-            kept(&before, &commands, &end, &mut volume)?,
+            kept(alloc, &before, &commands, &end, &mut volume)?,
             count,
             "{lines}"
         );

@@ -118,7 +118,7 @@ fn count_kept(
     let kept = if matches!(end.unmounted, Some(Reply::Done)) {
         has_tree(all, &mut volume)?.then_some(end.begun)
     } else {
-        shown(before, session, end, &mut volume)?
+        shown(alloc, before, session, end, &mut volume)?
     };
     match kept {
         Some(kept) => Ok((kept, device_of(volume))),

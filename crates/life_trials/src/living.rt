@@ -51,12 +51,13 @@ pub(crate) fn has_tree(tree: &PlainTree, volume: &mut Volume<MemNand>) -> Result
 
 /// How many commands of a session the volume shows, if it shows the tree after a prefix that the syncs cover.
 pub(crate) fn shown(
+    alloc: Global,
     before: &PlainTree,
     session: &Session,
     end: &SessionEnd,
     volume: &mut Volume<MemNand>,
 ) -> Result<Option<u64>> {
-    match kept(before, &session.commands, end, volume) {
+    match kept(alloc, before, &session.commands, end, volume) {
         Ok(found) => Ok(found),
         Err(fault) => Err(anyhow!("a tree is not read: {fault:?}")),
     }

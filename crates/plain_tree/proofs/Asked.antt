@@ -19,6 +19,11 @@ pub ok_then : {A E : Type 0} (P Q : A → Type 0) (r : Result A E) → ((x : A) 
 ok_then P Q (Ok x) on is = on x is
 ok_then P Q (Err e) on is = is
 
+-- two things that follow of it
+pub ok_both : {A E : Type 0} (P Q : A → Type 0) (r : Result A E) → IfOk r P → IfOk r Q → IfOk r (λ x. P x × Q x)
+ok_both P Q (Ok x) one other = (one, other)
+ok_both P Q (Err e) one other = one
+
 pub done_then : {A E : Type 0} (P Q : Type 0) (r : Result A E) → (P → Q) → OnOk r P → OnOk r Q
 done_then P Q (Ok x) on is = on is
 done_then P Q (Err e) on is = is

@@ -1,3 +1,5 @@
 pub mod Items
+pub mod Lists
 pub mod Reading
 pub mod Sameness
+pub mod laws

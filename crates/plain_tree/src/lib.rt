@@ -4,9 +4,11 @@
 mod asking;
 mod building;
 mod fault;
+mod list;
 mod reading;
 mod tree;
 
 pub use command_answers::Answers;
 pub use fault::TreeFault;
+pub use list::TreeList;
 pub use tree::PlainTree;

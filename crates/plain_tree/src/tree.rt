@@ -1,19 +1,18 @@
 // A tree for tests.
-ghost use Rattle.std.specs.Prelude.{◌≡◌, ◌↔◌, ◌∷◌, [], false, map as list_map, IfOk, IsTrue, OnOk, OnErr};
-ghost use Rattle.volume_terms.specs.Sizes.{Sizes, IsSizes};
+ghost use Rattle.std.specs.Prelude.{◌≡◌, ◌↔◌, false, IfOk, IsTrue, OnOk, OnErr};
+ghost use Rattle.volume_terms.specs.Sizes.{IsSizes};
 ghost use Rattle.volume_terms.specs.VolumeSizes.{sizes_of};
 ghost use Rattle.posix_profile.specs.Names.{settle};
 ghost use Rattle.posix_profile.specs.Runs.{takes_no_memory};
-ghost use Rattle.posix_profile.specs.State.{Objects};
 ghost use Rattle.posix_profile.specs.Steps.{step};
-ghost use Rattle.posix_profile.specs.WellFormed.{IsTree};
 ghost use Rattle.posix_profile.specs.laws.Fresh.{fresh};
-ghost use Rattle.plain_tree.specs.Items.{AreRead, item_of, root_path};
+ghost use Rattle.plain_tree.specs.Lists.{IsMadeOf, Lists, ShowsTree, shown_of};
 ghost use Rattle.plain_tree.specs.Sameness.{TellsObjects, TellsSame};
 
 use crate::building::build;
 use crate::fault::TreeFault;
-use crate::reading::{TreeEntry, read_tree, same_tree};
+use crate::list::TreeList;
+use crate::reading::{read_tree, same_tree};
 use command_answers::Answers;
 use plain_volume::PlainVolume;
 use posix_profile::{Reply, Stamped};
@@ -49,9 +48,28 @@ impl PlainTree {
         Ok(PlainTree { alloc, plain })
     }
 
-    /// The tree of a volume of these sizes, read by its commands and made again by them: the same names, numbers, moments and
-    /// bytes. The volume needs a descriptor that is free. Where objects were removed, room is needed for as many as the
-    /// greatest number.
+    /// The tree that a list tells, made by commands in a volume of these sizes: the same names, numbers, moments and bytes. Where
+    /// objects were removed, room is needed for as many as the greatest number. `Unlike` where what is made is not what is listed.
+    pub fn made_of(
+        alloc: Global,
+        sizes: VolumeSizes,
+        list: &TreeList,
+    ) -> Result<PlainTree, TreeFault>
+        requires { IsSizes (sizes_of sizes) }
+        ensures { IfOk result (λ tree. IsMadeOf list.now tree) }
+    {
+        let mut plain = PlainVolume::new(alloc, sizes, false)?;
+        build(alloc, &mut plain, &list.entries)?;
+        let tree = PlainTree { alloc, plain };
+        if tree.has(list)? {
+            Ok(tree)
+        } else {
+            Err(TreeFault::Unlike)
+        }
+    }
+
+    /// The tree of a volume of these sizes, read by its commands and made again by them. The volume needs a descriptor that is
+    /// free.
     pub fn read_from<V: Answers>(
         alloc: Global,
         sizes: VolumeSizes,
@@ -60,25 +78,18 @@ impl PlainTree {
         requires { IsSizes (sizes_of sizes) }
         ensures { IfOk result (λ tree. TellsObjects V.shows volume.old volume.new (settle tree.state).objects) }
     {
-        let entries = read_tree(alloc, volume)?;
-        let mut plain = PlainVolume::new(alloc, sizes, false)?;
-        build(alloc, &mut plain, &entries)?;
-        let tree = PlainTree { alloc, plain };
-        if tree.has_entries(&entries)? {
-            Ok(tree)
-        } else {
-            Err(TreeFault::Unlike)
-        }
+        let list = TreeList::read(alloc, volume)?;
+        PlainTree::made_of(alloc, sizes, &list)
     }
 
-    /// Whether what a mount shows of the tree is read so.
-    fn has_entries(&self, entries: &[TreeEntry]) -> Result<bool, TreeFault>
-        ensures { IfOk result (λ same. (z : Sizes) (objects : Objects) → IsTree z objects → AreRead objects (root_path ∷ []) (list_map item_of entries.now)
-            → IsTrue same ↔ ((settle self.now.state).objects ≡ objects)) }
+    /// Whether the list is what is read of what a mount shows of the tree.
+    pub fn has(&self, list: &TreeList) -> Result<bool, TreeFault>
+        ensures shows { IfOk result (λ same. ShowsTree self.now) }
+        ensures listed { IfOk result (λ same. IsTrue same ↔ Lists list.now (shown_of self.now)) }
     {
         let mut plain = self.plain.settled(false)?;
         let made = read_tree(self.alloc, &mut plain)?;
-        Ok(same_tree(&made, entries))
+        Ok(same_tree(&made, &list.entries))
     }
 
     /// The same tree once more, with the same descriptors.
@@ -110,20 +121,12 @@ impl PlainTree {
         self.plain.settle()
     }
 
-    /// Whether a mount shows the same of both: the same objects at the same numbers, each with its moment, bytes and names.
-    pub fn shows_same(&self, other: &PlainTree) -> Result<bool, AllocError>
-        ensures { IfOk result (λ same. IsTrue same ↔ ((settle self.now.state).objects ≡ (settle other.now.state).objects)) }
-    {
-        let settled = self.plain.settled(false)?;
-        Ok(settled.same_objects(&other.plain.settled(false)?))
-    }
-
     /// Whether the volume has the same tree: equal names, and under each the same number, kind, links, length, moment and
     /// bytes. Objects that descriptors alone keep are not looked at. The volume needs a descriptor that is free.
     pub fn same<V: Answers>(&self, volume: &mut V) -> Result<bool, TreeFault>
         ensures { IfOk result (TellsSame V.shows volume.old volume.new (settle self.now.state).objects) }
     {
-        let entries = read_tree(self.alloc, volume)?;
-        self.has_entries(&entries)
+        let list = TreeList::read(self.alloc, volume)?;
+        self.has(&list)
     }
 }

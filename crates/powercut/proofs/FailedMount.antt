@@ -19,7 +19,7 @@ use Rattle.mounting.specs.declared.fault.MountFault.{MountFault}
 use Rattle.mounting.specs.declared.fault.MountFault.TheVariants as faults
 use Rattle.powercut.specs.Sessions.{answer_of}
 use Rattle.powercut.specs.Living.{HasSame, HasLived}
-use Rattle.powercut.proofs.SameFlash.{sound_same}
+use Rattle.powercut.specs.laws.SameFlash.{sound_same}
 use Rattle.powercut.proofs.Living.{lived_still}
 
 -- what is recorded of a session whose mount failed

@@ -41,7 +41,7 @@ use Rattle.powercut.specs.Commands.{Meaning, LeavesFrom, IsUsed}
 use Rattle.powercut.specs.Limits.{StaysWithin}
 use Rattle.powercut.specs.Living.{HasSame, AreWithin, IsTrueOn, TrulyLived, HasLived}
 use Rattle.powercut.specs.Sessions.{IsServedFrom, IsUsedUp}
-use Rattle.powercut.proofs.SameFlash.{same_back, greatest_same, sound_same, bad_same, answers_same}
+use Rattle.powercut.specs.laws.SameFlash.{same_back, greatest_same, sound_same, bad_same, answers_same}
 use Rattle.powercut.proofs.Living.{greatest_within, none_marked, marked_on}
 
 -- what is recorded of a session whose mount was done

@@ -26,7 +26,7 @@ use Rattle.powercut.specs.declared.session.Session.{Session}
 use Rattle.powercut.specs.declared.session.SessionEnd.{SessionEnd}
 use Rattle.powercut.specs.Starting.{Starts, fuse_of, plan_of}
 use Rattle.powercut.proofs.Living.{lived_still, lived_on}
-use Rattle.powercut.proofs.SameFlash.{same_back, greatest_same, true_same, bad_same, answers_same}
+use Rattle.powercut.specs.laws.SameFlash.{same_back, greatest_same, true_same, bad_same, answers_same}
 
 module _ (fused : Bool) (a b c : Device) (starts : Starts fused a b) where
   -- the power-up changes nothing that counts

@@ -4,6 +4,5 @@ mod Ended
 mod InPower
 mod FailedMount
 mod Standing
-mod SameFlash
 mod Living
 mod Lists

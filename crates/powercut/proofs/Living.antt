@@ -14,7 +14,7 @@ use Rattle.lives.specs.laws.LifeLaws.{life_append}
 use Rattle.pages.specs.Stores.{bad_on}
 use Rattle.powercut.specs.Limits.{StaysWithin, NumbersLast}
 use Rattle.powercut.specs.Living.{HasSame, AreWithin, TrulyLived, HasLived}
-use Rattle.powercut.proofs.SameFlash.{same_on, sound_same, true_same, within_same, greatest_same, bad_more}
+use Rattle.powercut.specs.laws.SameFlash.{same_on, sound_same, true_same, within_same, greatest_same, bad_more}
 
 -- the greatest numbers are within what all are within, the versions within the groups
 pub greatest_within : (f : Flash) (n : Numbers) (group seq : ℕ) → AreGreatest f n → AreWithin f group seq → (n.version ≤ group) × (n.group ≤ group) × (n.seq ≤ seq)

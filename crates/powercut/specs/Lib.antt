@@ -4,3 +4,4 @@ pub mod Limits
 pub mod Living
 pub mod Commands
 pub mod Serving
+pub mod laws

@@ -8,6 +8,7 @@ use Rattle.nand_model.specs.declared.memory.MemNand.{MemNand}
 use Rattle.cut_draws.specs.Draws.{answers}
 use Rattle.posix_profile.specs.declared.command.Stamped.{Stamped}
 use Rattle.powercut.specs.declared.session.Session.{Session}
+use Rattle.exerciser.specs.Causes.{IsTreeOn, MountsAs}
 use Rattle.exerciser.specs.Cutting.{Exercise}
 use Rattle.exerciser.specs.Lines.{IsTold, session_line}
 use Rattle.exerciser.specs.Seen.{finding_of, IsSeen}
@@ -28,6 +29,7 @@ loop-before-init g c = record {
   unmounts = refl;
   words = first_words c.args.seed (device c.args.nand).geometry.pages c.seed_from_u64-generator.result c.seed_from_u64-generator.ensures;
   told = starts (asked c.args.nand c.args.seed c.args.script c.args.sessions) (device c.in_ok-standing.standing.device) c.in_ok-standing.standing.tree (g.W.Write.contents c.args.writer.now) c.in_ok-standing.ensures.device;
+  on = subst (λ (d : Device). IsTreeOn d c.in_ok-standing.standing.tree) (sym c.in_ok-standing.ensures.device) c.in_ok-standing.ensures.tree;
 }
 
 pub returns-in_err-standing-clause-tells : goal.returns-in_err-standing-clause-tells
@@ -55,11 +57,11 @@ returns-in_err-tell-clause-tells g c =
     let pages = c.pages-pages.ensures ∙ ap (λ (g : Geometry). g.pages) c.geometry.ensures in
     let done =
     cut_session x c.loop-before.before c.pages-pages.result (answers c.loop-before.generator) c.loop-before.session c.exercise.new.session (device c.loop-before.standing.device) (device c.in_ok-done.done.device) pages was.words
-    one.same (ap (λ (v : Vec Stamped). v.items) was.commands) was.failures was.unmounts c.in_ok-done.done.end c.in_ok-done.done.operation one.fuse one.drawn one.ended in
+    one.same (ap (λ (v : Vec Stamped). v.items) was.commands) was.failures was.unmounts c.in_ok-done.done.end c.in_ok-done.done.operation one.fuse one.drawn one.ended one.truth in
     let is_seen = subst (λ (v : Vec Stamped). IsSeen c.loop-before.standing.tree v.items c.in_ok-done.done.end.replies.items c.in_ok-done.done.seen) was.commands one.seen in
     let told = told_as (g.W.Write.contents c.loop-before.writer) (g.W.Write.contents c.tell.new.writer) (c.loop-before.before + 1) c.in_ok-done.done.operation c.finding-finding.result (finding_of c.in_ok-done.done.seen)
     c.len-commands.result (length c.args.script.items) (Err c.in_err-tell.field-0.0) c.finding-finding.ensures count c.in_err-tell.ensures in
-    rw (p.1, p.2) (stops_telling x c.loop-before.before (device c.loop-before.standing.device) (device c.in_ok-done.done.device) c.loop-before.standing.tree _ _ (g.W.Write.contents c.tell.new.writer) was.told done
+    rw (p.1, p.2) (stops_telling x c.loop-before.before (device c.loop-before.standing.device) (device c.in_ok-done.done.device) c.loop-before.standing.tree _ _ (g.W.Write.contents c.tell.new.writer) was.told done was.on
     c.in_ok-done.done.seen few is_seen one.mounts c.in_err-tell.field-0.0 told)
 
 pub returns-in_err-standing-2-clause-tells : goal.returns-in_err-standing-2-clause-tells
@@ -73,11 +75,11 @@ returns-in_err-standing-2-clause-tells g c =
     let pages = c.pages-pages.ensures ∙ ap (λ (g : Geometry). g.pages) c.geometry.ensures in
     let done =
     cut_session x c.loop-before.before c.pages-pages.result (answers c.loop-before.generator) c.loop-before.session c.exercise.new.session (device c.loop-before.standing.device) (device c.in_ok-done.done.device) pages was.words
-    one.same (ap (λ (v : Vec Stamped). v.items) was.commands) was.failures was.unmounts c.in_ok-done.done.end c.in_ok-done.done.operation one.fuse one.drawn one.ended in
+    one.same (ap (λ (v : Vec Stamped). v.items) was.commands) was.failures was.unmounts c.in_ok-done.done.end c.in_ok-done.done.operation one.fuse one.drawn one.ended one.truth in
     let is_seen = subst (λ (v : Vec Stamped). IsSeen c.loop-before.standing.tree v.items c.in_ok-done.done.end.replies.items c.in_ok-done.done.seen) was.commands one.seen in
     let told = told_as (g.W.Write.contents c.loop-before.writer) (g.W.Write.contents c.tell.new.writer) (c.loop-before.before + 1) c.in_ok-done.done.operation c.finding-finding.result (finding_of c.in_ok-done.done.seen)
     c.len-commands.result (length c.args.script.items) (Ok tt) c.finding-finding.ensures count c.in_ok-tell.ensures in
-    rw (p.1, p.2) (stops_torn x c.loop-before.before (device c.loop-before.standing.device) (device c.in_ok-done.done.device) c.loop-before.standing.tree _ _ (g.W.Write.contents c.tell.new.writer) was.told done
+    rw (p.1, p.2) (stops_torn x c.loop-before.before (device c.loop-before.standing.device) (device c.in_ok-done.done.device) c.loop-before.standing.tree _ _ (g.W.Write.contents c.tell.new.writer) was.told done was.on
     c.in_ok-done.done.seen few is_seen one.mounts c.in_err-standing-2.field-0.0 told c.in_err-standing-2.ensures.torn.0 c.in_err-standing-2.ensures.torn.1)
 
 pub loop-before-preserved : goal.loop-before-preserved
@@ -90,21 +92,23 @@ loop-before-preserved g c =
     let pages = c.pages-pages.ensures ∙ ap (λ (g : Geometry). g.pages) c.geometry.ensures in
     let done =
     cut_session x c.loop-before.before c.pages-pages.result (answers c.loop-before.generator) c.loop-before.session c.exercise.new.session (device c.loop-before.standing.device) (device c.in_ok-done.done.device) pages was.words
-    one.same (ap (λ (v : Vec Stamped). v.items) was.commands) was.failures was.unmounts c.in_ok-done.done.end c.in_ok-done.done.operation one.fuse one.drawn one.ended in
+    one.same (ap (λ (v : Vec Stamped). v.items) was.commands) was.failures was.unmounts c.in_ok-done.done.end c.in_ok-done.done.operation one.fuse one.drawn one.ended one.truth in
     let is_seen = subst (λ (v : Vec Stamped). IsSeen c.loop-before.standing.tree v.items c.in_ok-done.done.end.replies.items c.in_ok-done.done.seen) was.commands one.seen in
     let told = told_as (g.W.Write.contents c.loop-before.writer) (g.W.Write.contents c.tell.new.writer) (c.loop-before.before + 1) c.in_ok-done.done.operation c.finding-finding.result (finding_of c.in_ok-done.done.seen)
     c.len-commands.result (length c.args.script.items) (Ok tt) c.finding-finding.ensures count c.in_ok-tell.ensures in
     let next = c.in_ok-standing-2.standing in
     let kept = c.in_ok-standing-2.ensures.kept in
     let further =
-    goes_further x c.loop-before.before (device c.loop-before.standing.device) (device c.in_ok-done.done.device) c.loop-before.standing.tree _ _ (g.W.Write.contents c.tell.new.writer) was.told done kept.0 next.tree
+    goes_further x c.loop-before.before (device c.loop-before.standing.device) (device c.in_ok-done.done.device) c.loop-before.standing.tree _ _ (g.W.Write.contents c.tell.new.writer) was.told done was.on kept.0 next.tree
     (subst (λ (s : Seen). IsSeen c.loop-before.standing.tree c.args.script.items c.in_ok-done.done.end.replies.items s) kept.1 is_seen)
+    (subst (λ (s : Seen). MountsAs (device c.in_ok-done.done.device) s) kept.1 one.mounts)
     (subst (λ (s : Seen). IsTold (g.W.Write.contents c.loop-before.writer) (g.W.Write.contents c.tell.new.writer) (session_line (c.loop-before.before + 1) c.in_ok-done.done.operation (finding_of s) (length c.args.script.items)) (Ok tt)) kept.1 told) in
     record {
       commands = ap (λ (s : Session). s.commands) one.same ∙ was.commands;
       failures = ap (λ (s : Session). s.failures.items) one.same ∙ was.failures;
       unmounts = ap (λ (s : Session). s.unmount) one.same ∙ was.unmounts;
       words = more_words c.args.seed (device c.args.nand).geometry.pages c.pages-pages.result c.loop-before.before (answers c.loop-before.generator) (answers c.exercise.new.generator) pages was.words one.left;
+      on = subst (λ (d : Device). IsTreeOn d next.tree) (sym (ap device c.in_ok-standing-2.ensures.device)) (subst (λ (s : Seen). MountsAs (device c.in_ok-done.done.device) s) kept.1 one.mounts);
       told = subst (λ (d : Device). SoFar x (c.loop-before.before + 1) d next.tree (g.W.Write.contents c.args.writer.now) (g.W.Write.contents c.tell.new.writer)) (sym (ap device c.in_ok-standing-2.ensures.device)) further;
     }
 

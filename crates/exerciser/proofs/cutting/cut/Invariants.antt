@@ -2,6 +2,7 @@ use Rattle.std.proofs.Common.{◌≡◌, []}
 use Rattle.std.specs.Prelude.{true}
 use Rattle.nand_model.specs.MemoryState.{device}
 use Rattle.cut_draws.specs.Draws.{answers}
+use Rattle.exerciser.specs.Causes.{IsTreeOn}
 use Rattle.exerciser.specs.Draws.{words_after}
 use Rattle.exerciser.proofs.Sessions.{SoFar}
 use Rattle.exerciser.proofs.cutting.cut.Given as goal
@@ -13,6 +14,7 @@ invariant-loop-before g l = record {
   failures : l.session.failures.items ≡ [];
   unmounts : l.session.unmount ≡ true;
   words : answers l.generator ≡ words_after l.fn.seed (device l.fn.nand).geometry.pages l.before;
+  on : IsTreeOn (device l.standing.device) l.standing.tree;
   told : SoFar (record { first = device l.fn.nand; seed = l.fn.seed; commands = l.fn.script.items; sessions = l.fn.sessions }) l.before (device l.standing.device) l.standing.tree
       (g.W.Write.contents l.initial.writer) (g.W.Write.contents l.writer);
 }

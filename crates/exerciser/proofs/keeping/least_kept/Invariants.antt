@@ -1,10 +1,11 @@
 use Rattle.std.proofs.Common.{◌≡◌, ◌≤◌, take}
 use Rattle.posix_profile.specs.Losses.{Covers}
+use Rattle.plain_tree.specs.Lists.{Lists}
 use Rattle.exerciser.specs.Keeping.{after_all_told}
 use Rattle.exerciser.proofs.Following.{NoneBelow}
 use Rattle.exerciser.proofs.keeping.least_kept.Given as goal
 
--- so many commands are done, no fewer than a done sync covers, and the tree is not one of fewer
+-- so many commands are done, no fewer than a done sync covers, and the list is of no tree after fewer
 abbrev pub invariant-loop-done : goal.invariant-loop-done
 invariant-loop-done l = record {
   sizes : l.tree.sizes ≡ l.before.sizes;
@@ -12,5 +13,5 @@ invariant-loop-done l = record {
   state : l.done ≤ l.answered → l.tree.state ≡ after_all_told l.before.sizes l.before.read_only l.before.state l.script (take l.done l.replies);
   covers : Covers l.script l.replies l.covered;
   least : l.covered ≤ l.done;
-  none : NoneBelow l.before l.script l.replies l.shown l.done;
+  none : NoneBelow l.before l.script l.replies (Lists l.list) l.done;
 }

@@ -3,7 +3,7 @@ use Rattle.std.proofs.Common.{map as list_map}
 use Rattle.std.proofs.lemmas.List.{map-append}
 use Rattle.plain_tree.specs.Items.{IsRead, AreRead, item_of, paths_of, root_path}
 use Rattle.plain_tree.specs.declared.reading.TreeName.{TreeName}
-use Rattle.plain_tree.proofs.Listing.{AreReadSoFar, so_far_start, so_far_next, so_far_all, none_wait, tells_both, tells_then}
+use Rattle.plain_tree.specs.laws.Listing.{AreReadSoFar, so_far_start, so_far_next, so_far_all, none_wait, tells_both, tells_then}
 use Rattle.plain_tree.proofs.reading.read_tree.Goals as goal
 
 pub loop-round-init : goal.loop-round-init

@@ -1,7 +1,7 @@
 use Rattle.std.proofs.Common.{map as list_map}
 use Rattle.plain_tree.specs.Items.{item_of, paths_of}
 use Rattle.plain_tree.specs.Reading.{Tells}
-use Rattle.plain_tree.proofs.Listing.{AreReadSoFar}
+use Rattle.plain_tree.specs.laws.Listing.{AreReadSoFar}
 use Rattle.plain_tree.proofs.reading.read_tree.Given as goal
 
 -- the entries are the first of the tree

@@ -15,8 +15,8 @@ use Rattle.posix_profile.specs.laws.Name.{name_same}
 use Rattle.posix_profile.specs.laws.Prune.{well_formed_tree}
 use Rattle.posix_profile.specs.laws.Sound.{IsSound}
 use Rattle.plain_tree.specs.Items.{OfDirectory, Item, IsFound, IsRead, AreRead, content_of, path_below, paths_below, root_path}
-use Rattle.plain_tree.proofs.Listing.{one_item, one_reading}
-use Rattle.plain_tree.proofs.Paths.{found_below, root_found}
+use Rattle.plain_tree.specs.laws.Listing.{one_item, one_reading}
+use Rattle.plain_tree.specs.laws.Paths.{found_below, root_found}
 
 member_left : {A : Type 0} (xs ys : List A) (x : A) → Member xs x → Member (xs ++ ys) x
 member_left [] ys x m = absurd m

@@ -1,0 +1,75 @@
+-- What a mount of a true flash shows is what the flash stands for.
+use Rattle.std.proofs.Common.{◌≡◌, true, refl, sym, ◌∙◌, ap, subst, Some, None, IfSome}
+use Rattle.nand_model.specs.Calls.{Device}
+use Rattle.nand_model.specs.Changes.{PowersUp, OnlyReads}
+use Rattle.nand_model.specs.declared.geometry.Geometry.{Geometry}
+use Rattle.flash_tree.specs.Mount.{Answers, IsTreeOf}
+use Rattle.lives.specs.Lives.{at_mount}
+use Rattle.mounting.specs.declared.fault.MountFault.{MountFault}
+use Rattle.flash_tree.specs.Checkpoints.{IsTrueFlash}
+use Rattle.newest_pages.specs.Checked.{HasTrueFlash}
+use Rattle.pages.specs.State.{PagesState}
+use Rattle.page_volume.specs.Volumes.{pages_of, is_read_only}
+use Rattle.page_volume.specs.declared.volume.PageVolume.{PageVolume}
+use Rattle.paged_objects.specs.Standing.{volume_of}
+use Rattle.plain_tree.specs.Lists.{IsMadeOf, ListsShown, shown_of}
+use Rattle.plain_tree.specs.declared.list.TreeList.{TreeList}
+use Rattle.plain_volume.specs.Views.{PlainView}
+use Rattle.posix_calls.specs.Answering.{ShowsState}
+use Rattle.posix_calls.specs.Mounts.{IsMounted}
+use Rattle.posix_calls.specs.laws.Trusting.{seen_since}
+use Rattle.powercut.specs.Living.{HasSame}
+use Rattle.powercut.specs.laws.SameFlash.{answers_same, same_back, same_on, true_same}
+use Rattle.exerciser.specs.Causes.{IsTreeOn, MountsAs, ShowsFlash}
+use Rattle.exerciser.specs.Keeping.{IsTreeShown}
+use Rattle.exerciser.specs.Seen.{tree_in}
+use Rattle.exerciser.specs.declared.seen.Seen.{Seen}
+use Rattle.exerciser.specs.declared.seen.Seen.TheVariants as seens
+use Rattle.exerciser.proofs.Following.{bare_settled, made_shown}
+
+module _ {P V : Type 0} (state : P → PagesState) (over : V → PageVolume P) (d e : Device) (v : V) (up : PowersUp d e) (m : IsMounted state e (over v)) where
+  same : HasSame d.flash e.flash
+  same = record { page = up.page; bad = up.bad }
+
+  truth_up : HasTrueFlash d → HasTrueFlash e
+  truth_up truth = (up.honest ∙ truth.0, subst (λ (g : Geometry). IsTrueFlash g e.flash) (sym up.geometry) (true_same d.geometry d.flash e.flash same truth.1))
+
+  -- a volume that is mounted shows the tree of the flash
+  pub shows_flash : HasTrueFlash d → ShowsFlash (λ v. ShowsState state (over v)) d v
+  shows_flash truth =
+      let p = state (pages_of (over v)) in
+      let seen : p.device ≡ m.now = seen_since e m.now p.device m.since (truth_up truth) in
+      let reads : OnlyReads e m.now = m.since.read.reads in
+      let honest : p.device.honest ≡ true = ap (λ (x : Device). x.honest) seen ∙ reads.lasts.honest ∙ up.honest ∙ truth.0 in
+      let geometry : p.device.geometry ≡ d.geometry = ap (λ (x : Device). x.geometry) seen ∙ reads.lasts.geometry ∙ up.geometry in
+      let read : HasSame e.flash m.now.flash = record { page = reads.page (up.honest ∙ truth.0); bad = reads.bad } in
+      let there : HasSame d.flash p.device.flash = subst (λ (x : Device). HasSame d.flash x.flash) (sym seen) (same_on d.flash e.flash m.now.flash same read) in
+      let tree = m.tree honest in
+      record {
+        spare = p.spare;
+        objects = tree.0;
+        sizes = volume_of p;
+        read_only = is_read_only (over v);
+        answers = answers_same d.geometry p.device.flash d.flash (same_back d.flash p.device.flash there) p.spare tree.0
+            (subst (λ (g : Geometry). Answers g p.device.flash (IsTreeOf p.spare tree.0)) geometry tree.1.answers);
+        shown = (m.goes_on, refl, tree.1.volume);
+      }
+
+module _ {P V : Type 0} (state : P → PagesState) (over : V → PageVolume P) (d : Device) (v : V) (on : HasTrueFlash d → ShowsFlash (λ v. ShowsState state (over v)) d v) where
+  -- a tree that it shows lies on the device
+  pub tree_on : (tree : PlainView) → IsTreeShown (λ v. ShowsState state (over v)) v tree → IsTreeOn d tree
+  tree_on tree is = λ truth.
+      let m = on truth in
+      let same : shown_of tree ≡ m.objects = is m.sizes m.read_only (at_mount m.objects) m.shown refl ∙ bare_settled m.sizes (at_mount m.objects) m.shown.2.sound refl in
+      (m.spare, subst (λ objects. Answers d.geometry d.flash (IsTreeOf m.spare objects)) (sym same) m.answers)
+
+  -- and so does one that is made of what it tells
+  pub made_on : (list : TreeList) → ListsShown (λ v. ShowsState state (over v)) v list → (tree : PlainView) → IsMadeOf list tree → IsTreeOn d tree
+  made_on list listed tree made = tree_on tree (made_shown (λ v. ShowsState state (over v)) (λ v z read_only s shown. shown.2.sound) v list listed tree made)
+
+-- what is seen by commands is seen by a mount
+pub seen_on : (d : Device) (seen : Seen) → IfSome (tree_in seen) (IsTreeOn d) → ((fault : MountFault) → seen ≡ seens.Mount fault → ⊥) → MountsAs d seen
+seen_on d (seens.Kept count tree) on mounted = on
+seen_on d (seens.Torn (Some tree)) on mounted = on
+seen_on d (seens.Torn None) on mounted = tt
+seen_on d (seens.Mount fault) on mounted = absurd (mounted fault refl)

@@ -102,7 +102,7 @@ struct flash_driver {
     int (*is_bad)(void *context, uint32_t block);
     /* Reads the tag of a page: FLASH_ERASED, FLASH_WRITTEN (then the tag is filled) or FLASH_UNCORRECTABLE. */
     int (*read_tag)(void *context, uint32_t block, uint32_t page, uint8_t *tag);
-    /* Reads a page and its tag: as read_tag. */
+    /* Reads a page and its tag: as read_tag. Where the page is not FLASH_WRITTEN, `data` may hold anything. */
     int (*read_page)(void *context, uint32_t block, uint32_t page, uint8_t *data, uint8_t *tag);
     /* Programs an erased page, data and tag together: FLASH_DONE or FLASH_FAILED. */
     int (*program)(void *context, uint32_t block, uint32_t page, const uint8_t *data, const uint8_t *tag);

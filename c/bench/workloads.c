@@ -185,6 +185,35 @@ static void renames(void)
     }
 }
 
+static void write_file(int number)
+{
+    char path[32];
+    snprintf(path, sizeof path, "/f%02d", number);
+    int fd = flash_fs_open(&fs, path, FLASH_WRONLY | FLASH_CREAT | FLASH_EXCL, 0);
+    expect(flash_fs_write(&fs, fd, bytes, 65536, 0) == 65536 && flash_fs_close(&fs, fd) == 0, path);
+}
+
+static void before_churn(void)
+{
+    for (int i = 0; i < 64; i++)
+        write_file(i);
+    expect(flash_fs_sync(&fs) == 0, "64 files of 64 KiB");
+}
+
+static void churn(void)
+{
+    char path[32];
+    uint64_t drawn = 1;
+    for (int i = 0; i < 1000; i++) {
+        drawn = drawn * UINT64_C(6364136223846793005) + UINT64_C(1442695040888963407);
+        int number = (int)((drawn >> 33) % 64);
+        snprintf(path, sizeof path, "/f%02d", number);
+        expect(flash_fs_unlink(&fs, path, 0) == 0, path);
+        write_file(number);
+    }
+    expect(flash_fs_sync(&fs) == 0, "sync");
+}
+
 struct workload {
     const char *name, *text;
     void (*before)(void), (*work)(void);
@@ -196,6 +225,7 @@ static const struct workload workloads[] = {
     {"overwrites", "2,000 overwrites of 512 bytes in 1 MiB, each with fsync", before_overwrites, overwrites},
     {"appends", "2,000 appends of 100 bytes, each with fsync", NULL, appends},
     {"renames", "500 updates by rename, each with sync", NULL, renames},
+    {"churn", "1,000 files of 64 KiB removed and written, 64 at a time", before_churn, churn},
     {"reads", "4 MiB read in order, by 4 KiB", before_reads, reads},
     {"random_reads", "4,096 reads of 512 bytes in 4 MiB", before_reads, random_reads},
     {"seeks", "1,000 seeks", before_reads, seeks},

@@ -1,11 +1,23 @@
 #!/usr/bin/env bash
-# Builds crates/flash_c/out/libflash_c.a over the libraries that a whole run of `rt ci` in this checkout proved and left in
-# crates/*/out, so that the gate proves them once: only flash_c itself is proved again here. Elsewhere `rt lib` in
-# crates/flash_c makes the same archive.
+# Builds the proved library libflash_c.a for a target, over the libraries that a whole run of `rt ci` in this checkout proved and
+# left in crates/*/out, so that the gate proves them once: only flash_c itself is proved again here, once for each target.
+#
+#   c/archive.sh                                    crates/flash_c/out/libflash_c.a, for x86-64
+#   c/archive.sh aarch64-unknown-linux-gnu          crates/flash_c/out/aarch64-unknown-linux-gnu/libflash_c.a
+#   c/archive.sh x86_64-unknown-linux-gnu x86-64    crates/flash_c/out/x86_64-unknown-linux-gnu-x86-64/libflash_c.a, for the
+#                                                   oldest processors of x86-64
+#
+# PROVE=yes first proves by `rt lib` what changed of those libraries, and builds nothing where the archive was made of the same
+# texts. KEEP=FILE keeps there the LLVM module that the archive is compiled from. JOBS: how many proofs at a time (2).
 set -eu
+kept=${KEEP:+$(realpath -m "$KEEP")}
 cd "$(dirname "$0")/.."
 kit=$(dirname "$(dirname "$(readlink -f "$(command -v rt)")")")
+target=${1:-x86_64-unknown-linux-gnu}
+folder=crates/flash_c/out${1:+/$1}${2:+-$2}
+archive=$PWD/$folder/libflash_c.a
 words=()
+formats=()
 
 # The libraries that a crate stands on, by crates.txt.
 libraries_of() {
@@ -20,11 +32,47 @@ visit() {
         seen[$name]=yes
         if [ -d "crates/$name/src" ]; then
             words+=(-L "dependency=$PWD/crates/$name/out/rlib")
+            formats+=("crates/$name/out/rlib/$name.rlib/format")
             visit "$name"
         fi
     done
 }
+
+prove_libraries() {
+    local name
+    for name in $(libraries_of flash_c); do
+        [ ! -d "crates/$name/src" ] || (cd "crates/$name" && rt lib)
+    done
+}
+
+# A sum of the sources of flash_c and of the libraries, whose file `format` has the sum of theirs.
+made_of() {
+    { find crates/flash_c/{src,specs,proofs} -type f | sort; printf '%s\n' "${formats[@]}" "$kit/KIT-ID"; } |
+        xargs sha256sum | sha256sum
+}
+
+# A toolchain folder whose clang is the kit's, and keeps its input. rattle clears the environment: the paths are in the script.
+make_keeping_toolchain() {
+    local tool
+    mkdir "$1/bin"
+    ln -s "$kit/toolchain/lib" "$1/lib"
+    for tool in "$kit"/toolchain/bin/*; do
+        [ "${tool##*/}" = clang ] || ln -s "$tool" "$1/bin/"
+    done
+    cat > "$1/bin/clang" << WRAPPER
+#!/usr/bin/env bash
+for word in "\$@"; do case \$word in *.bc) cp "\$word" "$kept";; esac; done
+exec -a clang "$kit/toolchain/bin/clang" "\$@"
+WRAPPER
+    chmod +x "$1/bin/clang"
+}
+
 visit flash_c
+if [ -n "${PROVE:-}" ]; then
+    prove_libraries
+    if [ -z "$kept" ] && [ -e "$archive.made_of" ] && [ "$(made_of)" = "$(cat "$archive.made_of")" ]; then exit; fi
+fi
+sum=$(made_of)
 for name in std $(libraries_of flash_c); do
     if [ -d "crates/$name/src" ]; then
         words+=(--extern "$name=$PWD/crates/$name/out/rlib/$name.rlib")
@@ -32,8 +80,16 @@ for name in std $(libraries_of flash_c); do
         words+=(--extern "$name=$kit/rlibs/$name.rlib")
     fi
 done
-mkdir -p crates/flash_c/out
+toolchain=$kit/toolchain
+if [ -n "$kept" ]; then
+    toolchain=$(mktemp -d)
+    trap 'rm -rf "$toolchain"' EXIT
+    make_keeping_toolchain "$toolchain"
+fi
+mkdir -p "$folder"
+rm -f "$archive.made_of"
 cd crates/flash_c
 "$kit/bin/rattle" build --crate-name flash_c src/lib.rt "${words[@]}" -L "dependency=$kit/rlibs" \
-    --antt-project "$kit/rattle/logic/antt-project.json" --logic-built "$kit/logic_built" --jobs 2 --links flash_c= \
-    --crate-type staticlib --toolchain "$kit/toolchain" -o out/libflash_c.a
+    --antt-project "$kit/rattle/logic/antt-project.json" --logic-built "$kit/logic_built" --jobs "${JOBS:-2}" --links flash_c= \
+    --crate-type staticlib --target "$target" ${2:+--cpu "$2"} --toolchain "$toolchain" -o "$archive"
+echo "$sum" > "$archive.made_of"

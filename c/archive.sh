@@ -61,7 +61,7 @@ make_keeping_toolchain() {
     done
     cat > "$1/bin/clang" << WRAPPER
 #!/usr/bin/env bash
-for word in "\$@"; do case \$word in *.bc) cp "\$word" "$kept";; esac; done
+for word in "\$@"; do case \$word in *.bc) cat "\$word" > "$kept";; esac; done
 exec -a clang "$kit/toolchain/bin/clang" "\$@"
 WRAPPER
     chmod +x "$1/bin/clang"

@@ -81,7 +81,7 @@ static size_t size_for(size_t bytes)
     return bytes == 0 ? 2 * UNIT : (bytes + 2 * UNIT - 1) / UNIT * UNIT;
 }
 
-struct flash_memory rattle_alloc(size_t bytes, size_t align)
+struct flash_memory flash_memory_alloc(size_t bytes, size_t align)
 {
     size_t size = size_for(bytes);
     if (first == NULL || size == 0 || align > UNIT)
@@ -100,7 +100,7 @@ struct flash_memory rattle_alloc(size_t bytes, size_t align)
     return refused;
 }
 
-void rattle_dealloc(uint8_t *at)
+void flash_memory_dealloc(uint8_t *at)
 {
     struct block *block = (struct block *)(void *)at - 1;
     block->used = 0;
@@ -108,7 +108,7 @@ void rattle_dealloc(uint8_t *at)
     join(block);
 }
 
-struct flash_memory rattle_realloc(uint8_t *at, size_t kept, size_t bytes, size_t align)
+struct flash_memory flash_memory_realloc(uint8_t *at, size_t kept, size_t bytes, size_t align)
 {
     struct block *block = (struct block *)(void *)at - 1;
     size_t before = block->size, size = size_for(bytes);
@@ -122,10 +122,10 @@ struct flash_memory rattle_realloc(uint8_t *at, size_t kept, size_t bytes, size_
         return (struct flash_memory){true, at};
     }
     cut(block, before); /* the neighbours are free again */
-    struct flash_memory moved = rattle_alloc(bytes, align);
+    struct flash_memory moved = flash_memory_alloc(bytes, align);
     if (moved.given) {
         memcpy(moved.at, at, kept < bytes ? kept : bytes);
-        rattle_dealloc(at);
+        flash_memory_dealloc(at);
     }
     return moved;
 }

@@ -21,15 +21,15 @@ struct flash_memory {
 /* So many bytes at a multiple of `align`, a power of two of at most 16. The library may be refused memory at any time: the call
  * in which that happens returns FLASH_ENOMEM, or does without.
  */
-struct flash_memory rattle_alloc(size_t bytes, size_t align);
+struct flash_memory flash_memory_alloc(size_t bytes, size_t align);
 
 /* Makes a block larger or smaller; its first `kept` bytes, or `bytes` if that is fewer, stay. If this is refused, the block
  * stays as it is.
  */
-struct flash_memory rattle_realloc(uint8_t *at, size_t kept, size_t bytes, size_t align);
+struct flash_memory flash_memory_realloc(uint8_t *at, size_t kept, size_t bytes, size_t align);
 
 /* Gives a block back. */
-void rattle_dealloc(uint8_t *at);
+void flash_memory_dealloc(uint8_t *at);
 
 #ifdef __cplusplus
 }

@@ -1,6 +1,7 @@
 #!/usr/bin/env bash
 # The tests of the C library: a line for each, and at the end how many there were. What asks for a tool that is not on the machine
 # is skipped, with a line. FLASH_C_ARCHIVE names a libflash_c.a that is there; else `rt lib` makes one. OUT: where all is built.
+# `make test TARGET=..` runs it for another target: RUN is what runs its programs here, and CC, CXX and NM are its tools.
 #
 #   bash c/test.sh [quick]     quick: without the sanitizer and without valgrind
 #
@@ -10,6 +11,10 @@ set -u
 cd "$(dirname "$0")" || exit 2
 OUT=${OUT:-out}
 CC=${CC:-gcc}
+CXX=${CXX:-g++}
+NM=${NM:-nm}
+RUN=${RUN:-}
+TARGET=${TARGET:-}
 FLAGS="-std=c11 -Wall -Wextra -Wpedantic -Werror -O2 -g -I. -Idrivers -Iexamples"
 passed=0 failed=0 skipped=0
 log=$(mktemp)
@@ -44,24 +49,34 @@ has() { command -v "$1" > /dev/null 2>&1; }
 build() {
     local output=$1
     shift
-    $CC $FLAGS -o "$OUT/$output" "$@"
+    $CC $FLAGS -o "$OUT/$output" "$@" && wrap "$OUT/$output"
 }
 
-compiles() { echo 'int main(void) { return 0; }' | $CC "$@" -x c -o "$work/tried" - 2> /dev/null && "$work/tried"; }
+# Where programs are run by another, puts a script that does so in the place of one.
+wrap() {
+    [ -n "$RUN" ] || return 0
+    mv "$1" "$1.program"
+    printf '#!/bin/sh\nexec %s "%s" "$@"\n' "$RUN" "$(realpath "$1.program")" > "$1"
+    chmod +x "$1"
+}
+
+compiles() { echo 'int main(void) { return 0; }' | $CC -x c -o "$work/tried" - "$@" 2> /dev/null && $RUN "$work/tried"; }
 includes() { echo "#include <$1>" | $CC -E -x c - > /dev/null 2>&1; }
 
 # The names of the header are those of the library, and it asks a program for few others.
 names() {
     sed -n 's/^[a-z].*[ *]\(flash_fs_[a-z_]*\)(.*/\1/p' flash_fs.h | sort > "$work/declared"
-    nm --defined-only "$OUT/libflashfs.a" 2> /dev/null | awk '$2 ~ /[TDBRV]/ { print $3 }' | grep -v '^rattle_' | sort > "$work/defined"
+    sed -n 's/^[a-z].*[ *]\(flash_memory_[a-z]*\)(.*/\1/p' flash_memory.h | sort > "$work/memory"
+    sort -o "$work/declared" "$work/declared" "$work/memory"
+    $NM --defined-only "$OUT/libflashfs.a" 2> /dev/null | awk '$2 ~ /[TDBRV]/ { print $3 }' | sort > "$work/defined"
     diff "$work/declared" "$work/defined" || return 1
-    nm --defined-only "$OUT/libflash_c.a" 2> /dev/null | awk '$2 == "T" && $3 ~ /^flash_/ { print $3 }' | sort > "$work/exported"
+    $NM --defined-only "$OUT/libflash_c.a" 2> /dev/null | awk '$2 == "T" && $3 ~ /^flash_/ { print $3 }' | sort > "$work/exported"
     sed -n 's/^[a-z].*[ *]\(flash_[a-z_]*\)(.*;$/\1/p; s/^int flash_\(link\|rename\)(.*,$/flash_\1/p' flash_port.c |
         grep -v -e '^flash_port_write' -e '^flash_port_read' -e '^flash_port_close' | sort > "$work/known"
     diff "$work/exported" "$work/known" || return 1
-    nm -u "$OUT/flash_fs.o" | awk '{ print $2 }' | sort > "$work/asked"
-    printf '%s\n' __stack_chk_fail __memcpy_chk bcmp memcmp memcpy memmove memset rattle_alloc rattle_dealloc rattle_realloc strlen _GLOBAL_OFFSET_TABLE_ |
-        sort > "$work/allowed"
+    $NM -u "$OUT/flash_fs.o" | awk '{ print $2 }' | sort > "$work/asked"
+    printf '%s\n' __stack_chk_fail __memcpy_chk bcmp memcmp memcpy memmove memset strlen _GLOBAL_OFFSET_TABLE_ |
+        sort - "$work/memory" > "$work/allowed"
     if [ -n "$(comm -23 "$work/asked" "$work/allowed")" ]; then
         echo "the library asks for more than it may:"
         comm -23 "$work/asked" "$work/allowed"
@@ -108,15 +123,19 @@ installed() {
     if has pkg-config; then
         words=$(PKG_CONFIG_PATH="$work/prefix/lib/pkgconfig" pkg-config --cflags --libs flashfs) || return 1
     fi
-    $CC -std=c11 -Idrivers -o "$work/hello" examples/hello.c drivers/ram_nand.c $words && "$work/hello"
+    $CC -std=c11 -Idrivers -o "$work/hello" examples/hello.c drivers/ram_nand.c $words && $RUN "$work/hello"
 }
 
 with_cmake() {
-    cmake -S test/cmake -B "$work/cmake" ${FLASH_C_ARCHIVE:+-DFLASH_C_ARCHIVE="$FLASH_C_ARCHIVE"} &&
-        cmake --build "$work/cmake" && "$work/cmake/hello"
+    cmake -S test/cmake -B "$work/cmake" ${FLASH_C_ARCHIVE:+-DFLASH_C_ARCHIVE="$FLASH_C_ARCHIVE"} \
+        ${TARGET:+-DCMAKE_TOOLCHAIN_FILE="$PWD/$TARGET.cmake"} &&
+        cmake --build "$work/cmake" && $RUN "$work/cmake/hello"
 }
 
-cpp() { g++ -std=c++14 -Wall -Wextra -Wpedantic -Werror -I. -Idrivers -o "$OUT/volume" examples/volume.cpp "$OUT/ram_nand.o" "$OUT/libflashfs.a" && "$OUT/volume"; }
+cpp() {
+    $CXX -std=c++14 -Wall -Wextra -Wpedantic -Werror -I. -Idrivers -o "$OUT/volume" examples/volume.cpp "$OUT/ram_nand.o" \
+        "$OUT/libflashfs.a" && $RUN "$OUT/volume"
+}
 rust() { rustc --edition 2024 -D warnings -L "native=$OUT" --out-dir "$work" examples/volume.rs && [ "$("$work/volume")" = today ]; }
 
 run "the library, by make" make -s OUT="$OUT"
@@ -174,9 +193,17 @@ else
     skip "images, with the program of the repository" "crates/flashsh is not built"
 fi
 run "make install" installed
-if has cmake; then run "with CMake" with_cmake; else skip "with CMake" "no cmake"; fi
-if has g++; then run "the wrapper for C++" cpp; else skip "the wrapper for C++" "no g++"; fi
-if has rustc && [ "$(rustc --version | sed 's/rustc 1\.\([0-9]*\).*/\1/')" -ge 85 ]; then
+if ! has cmake; then
+    skip "with CMake" "no cmake"
+elif [ -n "$TARGET" ] && [ ! -f "$TARGET.cmake" ]; then
+    skip "with CMake" "no toolchain file for $TARGET"
+else
+    run "with CMake" with_cmake
+fi
+if has "${CXX%% *}"; then run "the wrapper for C++" cpp; else skip "the wrapper for C++" "no $CXX"; fi
+if [ -n "$TARGET" ]; then
+    skip "the wrapper for Rust" "it is compiled for this machine alone"
+elif has rustc && [ "$(rustc --version | sed 's/rustc 1\.\([0-9]*\).*/\1/')" -ge 85 ]; then
     run "the wrapper for Rust" rust
 else
     skip "the wrapper for Rust" "no rustc from 1.85 on"
@@ -188,7 +215,9 @@ else
     skip "SQLite, with power that goes" "no sqlite3.h or no libsqlite3"
 fi
 
-if [ "${1:-}" != quick ]; then
+if [ -n "$RUN" ]; then
+    skip "sanitizer and valgrind" "programs are run by ${RUN%% *}"
+elif [ "${1:-}" != quick ]; then
     sanitizer="-fsanitize=address,undefined -fno-sanitize-recover=all"
     if compiles $sanitizer; then
         sanitized() {

@@ -28,7 +28,7 @@ static void count(size_t more, size_t fewer)
 }
 
 /* A block has its size in 16 bytes before it. */
-struct flash_memory rattle_alloc(size_t bytes, size_t align)
+struct flash_memory flash_memory_alloc(size_t bytes, size_t align)
 {
     (void)align;
     uint8_t *at = malloc(bytes + 16);
@@ -47,7 +47,7 @@ static size_t size_of(const uint8_t *at)
     return bytes;
 }
 
-void rattle_dealloc(uint8_t *at)
+void flash_memory_dealloc(uint8_t *at)
 {
     count(0, size_of(at));
     memory.blocks--;
@@ -55,12 +55,12 @@ void rattle_dealloc(uint8_t *at)
 }
 
 /* As one that moves: for a moment both blocks are there. */
-struct flash_memory rattle_realloc(uint8_t *at, size_t kept, size_t bytes, size_t align)
+struct flash_memory flash_memory_realloc(uint8_t *at, size_t kept, size_t bytes, size_t align)
 {
-    struct flash_memory moved = rattle_alloc(bytes, align);
+    struct flash_memory moved = flash_memory_alloc(bytes, align);
     if (moved.given) {
         memcpy(moved.at, at, kept < bytes ? kept : bytes);
-        rattle_dealloc(at);
+        flash_memory_dealloc(at);
     }
     return moved;
 }

@@ -38,7 +38,7 @@ int main(void)
 {
     struct draw draw = {7};
     uint64_t refused = 0, given = 0;
-    check(!rattle_alloc(1, 1).given, "memory before a region is given");
+    check(!flash_memory_alloc(1, 1).given, "memory before a region is given");
     memset(region, 0xa5, sizeof region);
     flash_heap_give(region + BESIDE, REGION);
     for (int turn = 0; turn < 200000; turn++) {
@@ -47,7 +47,7 @@ int main(void)
         uint8_t with = (uint8_t)drawn(&draw, 256);
         check(blocks[i].at == NULL || is_filled(blocks[i].at, blocks[i].bytes, blocks[i].filled), "turn %d: a block changed", turn);
         if (blocks[i].at == NULL) {
-            struct flash_memory made = rattle_alloc(bytes, 16);
+            struct flash_memory made = flash_memory_alloc(bytes, 16);
             check(made.at != NULL, "a null pointer");
             refused += !made.given;
             given += made.given;
@@ -57,7 +57,7 @@ int main(void)
                   "turn %d: a block outside", turn);
             fill(i, made.at, bytes, with);
         } else if (drawn(&draw, 3) == 0) {
-            struct flash_memory made = rattle_realloc(blocks[i].at, blocks[i].bytes, bytes, 16);
+            struct flash_memory made = flash_memory_realloc(blocks[i].at, blocks[i].bytes, bytes, 16);
             refused += !made.given;
             if (!made.given)
                 continue;
@@ -65,19 +65,19 @@ int main(void)
             check(is_filled(made.at, kept, blocks[i].filled), "turn %d: bytes were not kept", turn);
             fill(i, made.at, bytes, with);
         } else {
-            rattle_dealloc(blocks[i].at);
+            flash_memory_dealloc(blocks[i].at);
             blocks[i].at = NULL;
         }
         check(flash_heap_used() <= flash_heap_peak() && flash_heap_peak() <= REGION, "the counts");
     }
     for (int i = 0; i < BLOCKS; i++)
         if (blocks[i].at != NULL)
-            rattle_dealloc(blocks[i].at);
+            flash_memory_dealloc(blocks[i].at);
     check(flash_heap_used() == 0, "memory is left");
     check(refused > 0 && given > 0, "the test is too small");
-    check(rattle_alloc(REGION - 48, 16).given, "the region is in pieces");
+    check(flash_memory_alloc(REGION - 48, 16).given, "the region is in pieces");
     check(is_filled(region, BESIDE, 0xa5) && is_filled(region + BESIDE + REGION, BESIDE, 0xa5), "bytes beside the region changed");
-    check(!rattle_alloc(SIZE_MAX, 1).given && !rattle_alloc(1, 64).given, "what cannot be given");
+    check(!flash_memory_alloc(SIZE_MAX, 1).given && !flash_memory_alloc(1, 64).given, "what cannot be given");
     printf("  200,000 turns, %llu blocks given, %llu refused\n", (unsigned long long)given, (unsigned long long)refused);
     return 0;
 }

@@ -197,6 +197,7 @@ int main(int count, char **words)
             else
                 (void)flash_fs_unmount(&fs);
             check(flash_fs_unmount(&fs) == FLASH_EINVAL, "a second unmount");
+            check(flash_fs_stopped(&fs) == FLASH_EINVAL && flash_fs_read_only(&fs) == FLASH_EINVAL, "questions after it");
         }
     }
     printf("  %llu volumes, %llu lies in %llu calls of the driver: %llu mounts and %llu refused, %llu of %llu calls done\n",

@@ -29,7 +29,7 @@ static bool is_refused(void)
     return refuses;
 }
 
-struct flash_memory rattle_alloc(size_t bytes, size_t align)
+struct flash_memory flash_memory_alloc(size_t bytes, size_t align)
 {
     check(align <= 16, "an alignment of %zu", align);
     if (is_refused())
@@ -38,7 +38,7 @@ struct flash_memory rattle_alloc(size_t bytes, size_t align)
     return (struct flash_memory){true, malloc(bytes + 1)};
 }
 
-struct flash_memory rattle_realloc(uint8_t *at, size_t kept, size_t bytes, size_t align)
+struct flash_memory flash_memory_realloc(uint8_t *at, size_t kept, size_t bytes, size_t align)
 {
     check(align <= 16, "an alignment of %zu", align);
     if (bytes > kept && is_refused())
@@ -49,7 +49,7 @@ struct flash_memory rattle_realloc(uint8_t *at, size_t kept, size_t bytes, size_
     return (struct flash_memory){true, moved};
 }
 
-void rattle_dealloc(uint8_t *at)
+void flash_memory_dealloc(uint8_t *at)
 {
     memory.blocks--;
     free(at);

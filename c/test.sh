@@ -140,6 +140,10 @@ cpp() {
 }
 rust() { rustc --edition 2024 -D warnings -L "native=$OUT" --out-dir "$work" examples/volume.rs && [ "$("$work/volume")" = today ]; }
 
+if [ -n "$RUN" ] && ! has "${RUN%% *}"; then
+    echo "no ${RUN%% *}, which runs programs of $TARGET"
+    exit 2
+fi
 run "the library, by make" make -s OUT="$OUT"
 [ $failed -eq 0 ] || exit 1
 

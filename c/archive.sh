@@ -47,8 +47,8 @@ prove_libraries() {
 
 # A sum of the sources of flash_c and of the libraries, whose file `format` has the sum of theirs.
 made_of() {
-    { find crates/flash_c/{src,specs,proofs} -type f | sort; printf '%s\n' "${formats[@]}" "$kit/KIT-ID"; } |
-        xargs sha256sum | sha256sum
+    { find crates/flash_c/{src,specs,proofs} -type f | sort | xargs sha256sum; sha256sum "${formats[@]}"; cat "$kit/KIT-ID"; } |
+        sha256sum
 }
 
 # A toolchain folder whose clang is the kit's, and keeps its input. rattle clears the environment: the paths are in the script.

@@ -1,0 +1,81 @@
+#include "words.h"
+
+#include <limits.h>
+#include <stddef.h>
+#include <stdio.h>
+#include <string.h>
+#include <unistd.h>
+
+struct words words = {.spare = UINT_MAX, .commit = 5, .umask = 022};
+
+#define WORD(text, field) {text, offsetof(struct words, field), 1}
+#define NUMBER(text, field) WORD(text "=%u", field), WORD(text " %u", field)
+
+static const struct fuse_opt known[] = {
+    WORD("--format", formats),
+    NUMBER("--data", data),
+    NUMBER("--pages", pages),
+    NUMBER("--blocks", blocks),
+    NUMBER("--spare", spare),
+    NUMBER("--commit", commit),
+    WORD("commit=%u", commit),
+    WORD("--ignore-times", ignores_times),
+    WORD("ignore_times", ignores_times),
+    WORD("--synchronous", synchronous),
+    WORD("synchronous", synchronous),
+    WORD("uid=%u", uid),
+    WORD("gid=%u", gid),
+    WORD("umask=%o", umask),
+    WORD("ro", read_only),
+    FUSE_OPT_KEY("ro", FUSE_OPT_KEY_KEEP), /* the kernel refuses changes too */
+    FUSE_OPT_END};
+
+/* The first word that is no option is the device; the next is FUSE's, the mount point. */
+static int take(void *data, const char *word, int key, struct fuse_args *left)
+{
+    (void)data, (void)left;
+    if (key != FUSE_OPT_KEY_NONOPT || words.device != NULL)
+        return 1;
+    words.device = strdup(word);
+    return words.device != NULL ? 0 : -1;
+}
+
+static void show_help(void)
+{
+    printf("flash-fuse [OPTIONS] IMAGE|DEVICE MOUNTPOINT\n\n"
+           "Mounts the volume in an image file, or on an MTD device (/dev/mtd0), as a folder. `fusermount3 -u MOUNTPOINT` ends it.\n\n"
+           "    --format               first make an empty volume: what the image or device held is gone\n"
+           "    --data=BYTES           of an image that is made: bytes of a page, 512, 1024, 2048 or 4096 (2048)\n"
+           "    --pages=N              pages of a block, 32, 64, 128 or 256 (64)\n"
+           "    --blocks=N             blocks, 5 to 4096 (64)\n"
+           "    --spare=N              blocks that may go bad (one in 50, and one)\n"
+           "    --commit=SECONDS       how often all is synced (5); 0: only by fsync and at the end\n"
+           "    --ignore-times         a time that cannot be kept is no error\n"
+           "    --synchronous          each change of the image is on the disk before it returns\n"
+           "    -o uid=N,gid=N         the owner of everything (who mounts)\n"
+           "    -o umask=M             the modes of everything are 0777 without these bits (022)\n"
+           "    -o ro                  nothing is changed\n\n"
+           "Of FUSE:\n");
+    fuse_cmdline_help();
+    fuse_lowlevel_help();
+}
+
+bool words_read(struct fuse_args *arguments, int *status)
+{
+    *status = 1;
+    words.uid = getuid(), words.gid = getgid();
+    if (fuse_opt_parse(arguments, &words, known, take) < 0 || fuse_parse_cmdline(arguments, &words.fuse) < 0)
+        return false;
+    if (words.fuse.show_help || words.fuse.show_version) {
+        *status = 0;
+        if (words.fuse.show_help)
+            show_help();
+        else
+            fuse_lowlevel_version();
+        return false;
+    }
+    if (words.device != NULL && words.fuse.mountpoint != NULL)
+        return true;
+    fprintf(stderr, "flash-fuse [OPTIONS] IMAGE|DEVICE MOUNTPOINT; --help has the options\n");
+    return false;
+}

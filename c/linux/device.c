@@ -13,7 +13,7 @@ static int failed(int code, const char *why)
     return code;
 }
 
-/* An image that is in use stays as it is: it is looked at before it is made anew. */
+/* Takes the lock by which one program at a time uses a device. */
 static bool is_free(int file) { return flock(file, LOCK_EX | LOCK_NB) == 0; }
 
 static int open_mtd(struct device *device)
@@ -29,14 +29,24 @@ static int open_mtd(struct device *device)
 
 static unsigned or_else(unsigned said, unsigned usual) { return said != 0 ? said : usual; }
 
+/* What is replaced is an image that nobody uses, or an empty file. */
+static int may_replace(struct device *device, const struct stat *status)
+{
+    int code = file_nand_open(&device->image, words.device);
+    if (code == FLASH_EINVAL && status->st_size > 0)
+        return failed(code, "it is no image, and stays as it is");
+    if (code < 0)
+        return 0;
+    bool free = is_free(device->image.file);
+    file_nand_close(&device->image);
+    return free ? 0 : failed(FLASH_EBUSY, "it is in use");
+}
+
 static int make_image(struct device *device)
 {
-    if (file_nand_open(&device->image, words.device) == 0) {
-        bool free = is_free(device->image.file);
-        file_nand_close(&device->image);
-        if (!free)
-            return failed(FLASH_EBUSY, "it is in use");
-    }
+    struct stat status;
+    if (stat(words.device, &status) == 0 && may_replace(device, &status) < 0)
+        return FLASH_EBUSY;
     int code = file_nand_make(&device->image, words.device, or_else(words.data, DATA), or_else(words.pages, PAGES),
                               or_else(words.blocks, BLOCKS));
     return code < 0 ? failed(code, code == FLASH_EINVAL ? "no flash has these sizes" : "it cannot be made") : 0;

@@ -8,7 +8,7 @@
 
 #include <limits.h>
 #include <stdio.h>
-#include <string.h>
+#include <stdlib.h>
 #include <syslog.h>
 
 static int failed(int code, const char *why)
@@ -53,7 +53,9 @@ static int add_options(struct fuse_args *arguments)
     char name[PATH_MAX + sizeof "fsname="];
     snprintf(name, sizeof name, "fsname=%s", words.device);
     code = code == 0 ? fuse_opt_add_opt_escaped(&options, name) : code;
-    return code == 0 ? fuse_opt_insert_arg(arguments, 1, "-o") | fuse_opt_insert_arg(arguments, 2, options) : code;
+    code = code == 0 ? fuse_opt_insert_arg(arguments, 1, "-o") | fuse_opt_insert_arg(arguments, 2, options) : code;
+    free(options);
+    return code;
 }
 
 static int loop(struct fuse_session *session)
@@ -87,10 +89,11 @@ static int serve(struct fuse_args *arguments)
 int main(int count, char **texts)
 {
     static struct device device;
-    struct fuse_args arguments = FUSE_ARGS_INIT(count, texts);
+    const struct fuse_args given = FUSE_ARGS_INIT(count, texts);
+    struct fuse_args arguments = FUSE_ARGS_INIT(0, NULL);
     int status;
     openlog("flash-fuse", LOG_PERROR, LOG_DAEMON);
-    if (!words_read(&arguments, &status))
+    if (!words_read(&given, &arguments, &status))
         return status;
     if (device_open(&device) < 0)
         return 1;
@@ -103,5 +106,7 @@ int main(int count, char **texts)
     }
     device_close(&device);
     fuse_opt_free_args(&arguments);
+    free(words.fuse.mountpoint);
+    free(words.device);
     return status;
 }

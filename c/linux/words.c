@@ -9,7 +9,7 @@
 struct words words = {.spare = UINT_MAX, .commit = 5, .umask = 022};
 
 #define WORD(text, field) {text, offsetof(struct words, field), 1}
-#define NUMBER(text, field) WORD(text "=%u", field), WORD(text " %u", field)
+#define NUMBER(text, field) WORD(text "=%u", field)
 
 static const struct fuse_opt known[] = {
     WORD("--format", formats),
@@ -29,6 +29,30 @@ static const struct fuse_opt known[] = {
     WORD("ro", read_only),
     FUSE_OPT_KEY("ro", FUSE_OPT_KEY_KEEP), /* the kernel refuses changes too */
     FUSE_OPT_END};
+
+static bool takes_number(const char *word)
+{
+    static const char *const numbers[] = {"--data", "--pages", "--blocks", "--spare", "--commit"};
+    for (size_t i = 0; i < sizeof numbers / sizeof *numbers; i++)
+        if (strcmp(word, numbers[i]) == 0)
+            return true;
+    return false;
+}
+
+/* A number may follow its word, as in `--blocks 64`: then they are joined, for fuse_opt_parse. */
+static int join_numbers(const struct fuse_args *given, struct fuse_args *joined)
+{
+    char text[100];
+    int code = 0;
+    for (int i = 0; i < given->argc && code == 0; i++) {
+        bool joins = takes_number(given->argv[i]) && i + 1 < given->argc;
+        if (joins && snprintf(text, sizeof text, "%s=%s", given->argv[i], given->argv[i + 1]) >= (int)sizeof text)
+            return -1;
+        code = fuse_opt_add_arg(joined, joins ? text : given->argv[i]);
+        i += joins;
+    }
+    return code;
+}
 
 /* The first word that is no option is the device; the next is FUSE's, the mount point. */
 static int take(void *data, const char *word, int key, struct fuse_args *left)
@@ -60,11 +84,12 @@ static void show_help(void)
     fuse_lowlevel_help();
 }
 
-bool words_read(struct fuse_args *arguments, int *status)
+bool words_read(const struct fuse_args *given, struct fuse_args *left, int *status)
 {
     *status = 1;
     words.uid = getuid(), words.gid = getgid();
-    if (fuse_opt_parse(arguments, &words, known, take) < 0 || fuse_parse_cmdline(arguments, &words.fuse) < 0)
+    if (join_numbers(given, left) < 0 || fuse_opt_parse(left, &words, known, take) < 0 ||
+        fuse_parse_cmdline(left, &words.fuse) < 0)
         return false;
     if (words.fuse.show_help || words.fuse.show_version) {
         *status = 0;

@@ -22,9 +22,9 @@ struct words {
 /* The words that were read: set once, before anything is mounted. */
 extern struct words words;
 
-/* Reads all words; what is left is for FUSE's own session. Returns whether there is something to mount; where not, `status` is
- * that of the program's end, and why was printed.
+/* Reads the words that were given; `left` has those for FUSE's own session. Returns whether there is something to mount; where
+ * not, `status` is that of the program's end, and why was printed.
  */
-bool words_read(struct fuse_args *arguments, int *status);
+bool words_read(const struct fuse_args *given, struct fuse_args *left, int *status);
 
 #endif

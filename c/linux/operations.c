@@ -3,11 +3,19 @@
 #include "descriptors.h"
 #include "volume.h"
 
-#include <errno.h>
+#include <stdatomic.h>
+#include <syslog.h>
 
 struct node *node_of(fuse_ino_t number) { return number == FUSE_ROOT_ID ? node_root() : (struct node *)(uintptr_t)number; }
 
-void reply_code(fuse_req_t request, int code) { fuse_reply_err(request, -code); }
+/* That the volume stopped is said once: from then on each call is answered so. */
+void reply_code(fuse_req_t request, int code)
+{
+    static atomic_flag said = ATOMIC_FLAG_INIT;
+    if (code == FLASH_EIO && !atomic_flag_test_and_set(&said))
+        syslog(LOG_ERR, "%s: the device failed, and the volume has stopped: unmount it, and mount it again", words.device);
+    fuse_reply_err(request, -code);
+}
 
 void reply_object(fuse_req_t request, int code, struct node *parent, const char *name, struct fuse_file_info *file)
 {
@@ -34,7 +42,7 @@ void reply_object(fuse_req_t request, int code, struct node *parent, const char 
     node_forget(node, 1);
 }
 
-/* What the volume's header asks for: all objects take at least a unit, so that many may be made. */
+/* Each object takes at least a unit: so many as are free can be made. */
 static void get_space(fuse_req_t request, fuse_ino_t number)
 {
     (void)number;

@@ -62,7 +62,7 @@ void descriptor_rest(struct node *node)
         close_descriptor(node);
 }
 
-static unsigned without_name(void)
+unsigned descriptors_without_name(void)
 {
     unsigned count = 0;
     for (int fd = 0; fd < DESCRIPTORS; fd++)
@@ -74,7 +74,7 @@ int descriptor_keep(struct node *node)
 {
     if (node->handles == 0 || node->names == NULL || node->names->next != NULL)
         return 0;
-    if (without_name() >= MOST_WITHOUT_NAME)
+    if (descriptors_without_name() >= MOST_WITHOUT_NAME)
         return FLASH_EMFILE;
     int fd = descriptor_of(node);
     return fd < 0 ? fd : 0;

@@ -26,6 +26,9 @@ void descriptor_rest(struct node *node);
  */
 int descriptor_keep(struct node *node);
 
+/* How many descriptors belong to files without a name. */
+unsigned descriptors_without_name(void);
+
 /* Closes the descriptor that was not used for longest, of those that a path opens again. Returns whether there was one. */
 bool descriptor_spare(void);
 

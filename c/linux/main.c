@@ -47,7 +47,7 @@ static int begin_volume(const struct flash_driver *driver)
 static int add_options(struct fuse_args *arguments)
 {
     char *options = NULL;
-    int code = fuse_opt_add_opt(&options, "default_permissions,subtype=flash-fuse");
+    int code = fuse_opt_add_opt(&options, "default_permissions");
     if (code == 0 && flash_fs_read_only(&volume))
         code = fuse_opt_add_opt(&options, "ro");
     char name[PATH_MAX + sizeof "fsname="];

@@ -88,14 +88,14 @@ uint64_t __wrap_volume_now(void)
     return __real_volume_now();
 }
 
-/* A file without a name would be lost by a remount: then it waits. */
-static bool has_descriptors(void)
+/* A file without a name would be lost by a remount, so that waits; the others are opened again by their paths. */
+static bool may_remount(void)
 {
+    if (until_remount > 0 || flash_fs_stopped(&volume) || descriptors_without_name() > 0)
+        return false;
     while (descriptor_spare())
         ;
-    int fd = flash_fs_open(&volume, "/", FLASH_RDONLY, 0);
-    flash_fs_close(&volume, fd);
-    return fd != 0; /* the least that is free */
+    return true;
 }
 
 static void remount(void)
@@ -130,7 +130,7 @@ void __wrap_volume_leave(void)
     static bool reports;
     if (!reports)
         reports = true, atexit(report);
-    if (until_remount == 0 && !flash_fs_stopped(&volume) && !has_descriptors())
+    if (may_remount())
         remount();
     __real_volume_leave();
 }

@@ -73,7 +73,7 @@ unmount_image() {
 
 # A flash that fails, under a volume that is remounted.
 mount_in_trouble() {
-    export TROUBLE_SEED=$RANDOM TROUBLE_FAILURES=3 TROUBLE_EACH=400 TROUBLE_REMOUNT=5000 TROUBLE_REPORT=$work/report
+    export TROUBLE_SEED=$RANDOM TROUBLE_FAILURES=6 TROUBLE_EACH=200 TROUBLE_REMOUNT=1000 TROUBLE_REPORT=$work/report
     mount_image "$OUT/flash-fuse-trouble" --ignore-times
 }
 
@@ -245,10 +245,24 @@ fills() {
     unmount_image
 }
 
-# With more bad blocks than spare ones it is read only. The byte of a block in the image says whether it is bad.
+# The blocks of an image of 64 whose first page is erased, and so all: the byte of a page that says so is before its tag and data.
+free_blocks() {
+    local block place
+    for block in {0..63}; do
+        place=$((32 + 64 + block * 64 * (1 + 48 + 2048)))
+        [ "$(od -An -tu1 -j $place -N 1 "$1")" -ne 0 ] || echo "$block"
+    done
+}
+
+# With more bad blocks than spare ones a volume is read only.
 wears() {
-    local image=$work/small.img
-    printf '\1\1\1' | dd of="$image" bs=1 seek=$((32 + 61)) conv=notrunc status=none
+    local image=$work/worn.img block
+    mount_image "$OUT/flash-fuse" --format --spare=2
+    cp "$work/drawn" "$volume/kept"
+    unmount_image
+    for block in $(free_blocks "$image" | tail -n 3); do
+        printf '\1' | dd of="$image" bs=1 seek=$((32 + block)) conv=notrunc status=none
+    done
     mount_image "$OUT/flash-fuse"
     cmp "$work/drawn" "$volume/kept"
     refused rm "$volume/kept"
@@ -256,12 +270,14 @@ wears() {
     unmount_image
 }
 
-# The image as other programs of the repository show it: the tree that the host has.
+# The image as other programs of the repository show it: the tree that the host has. Of a name with a line's end the first line
+# is compared.
 is_shown() {
     local flashsh=../crates/flashsh/out/flashsh
     [ ! -x $flashsh ] || $flashsh check "$image"
-    diff <(cd "$host" && find . -path '*/.git' -prune -o -type f -printf '%s %P\n' | LC_ALL=C sort) \
-        <("$OUT/list" "$image" | sed -n 's|^ *\([0-9]*\) *[0-9]* /|\1 |p' | grep -v '/\.git/' | LC_ALL=C sort)
+    export LC_ALL=C
+    diff <(cd "$host" && find . -path '*/.git' -prune -o -type f -printf '%s %P\n' | grep -a '^[0-9]' | sort) \
+        <("$OUT/list" "$image" | sed -n 's|^ *\([0-9][0-9]*\)  *[0-9][0-9]* /|\1 |p' | grep -av '/\.git/' | sort)
 }
 
 begin() {

@@ -204,6 +204,7 @@ kills() {
     for round in {1..8}; do
         mount_image "$OUT/flash-fuse" --commit=1
         mkdir -p "$volume/killed"
+        : > "$work/synced-$round"
         writes_until_killed "$round" &
         writer=$!
         sleep $((RANDOM % 2)).$((RANDOM % 10))$((RANDOM % 10))
@@ -216,7 +217,7 @@ kills() {
             bytes $((i * 37)) $((i * 997 % 20000)) | cmp - "$volume/killed/$round-$i"
         done
         echo "round $round: $(wc -l < "$work/synced-$round") files were synced"
-        rm -r "$volume/killed"
+        rm -rf "$volume/killed"
         unmount_image
     done
 }

@@ -1,7 +1,9 @@
 #include "device.h"
 #include "words.h"
 
+#include <errno.h>
 #include <stdio.h>
+#include <string.h>
 #include <sys/file.h>
 #include <sys/stat.h>
 
@@ -22,7 +24,7 @@ static int open_mtd(struct device *device)
         return failed(FLASH_EINVAL, "a device has its own sizes");
     int code = mtd_nand_open(&device->mtd, words.device, 0, 0);
     if (code < 0)
-        return failed(code, code == FLASH_ENOENT ? "it cannot be opened" : "no NAND flash whose pages have 48 free spare bytes");
+        return failed(code, code == FLASH_ENOENT ? strerror(errno) : "no NAND flash whose pages have 48 free spare bytes");
     device->driver = &device->mtd.driver;
     return is_free(device->mtd.device) ? 0 : failed(FLASH_EBUSY, "it is in use");
 }
@@ -49,7 +51,7 @@ static int make_image(struct device *device)
         return FLASH_EBUSY;
     int code = file_nand_make(&device->image, words.device, or_else(words.data, DATA), or_else(words.pages, PAGES),
                               or_else(words.blocks, BLOCKS));
-    return code < 0 ? failed(code, code == FLASH_EINVAL ? "no flash has these sizes" : "it cannot be made") : 0;
+    return code < 0 ? failed(code, code == FLASH_EINVAL ? "no flash has these sizes" : strerror(errno)) : 0;
 }
 
 static int open_image(struct device *device)
@@ -57,7 +59,7 @@ static int open_image(struct device *device)
     if (words.data != 0 || words.pages != 0 || words.blocks != 0)
         return failed(FLASH_EINVAL, "an image has its sizes; --format makes one with others");
     int code = file_nand_open(&device->image, words.device);
-    return code < 0 ? failed(code, code == FLASH_ENOENT ? "it cannot be opened for reading and writing" : "it is no image") : 0;
+    return code < 0 ? failed(code, code == FLASH_ENOENT ? strerror(errno) : "it is no image") : 0;
 }
 
 int device_open(struct device *device)

@@ -30,6 +30,8 @@ static const char *reason(int code)
         return "sizes out of range, or too many spare blocks";
     case FLASH_ENOSPC:
         return "more blocks are bad than are spare";
+    case FLASH_EIO:
+        return "it cannot be read, or not be written";
     default:
         return "it cannot be mounted";
     }

@@ -54,14 +54,20 @@ static int join_numbers(const struct fuse_args *given, struct fuse_args *joined)
     return code;
 }
 
-/* The first word that is no option is the device; the next is FUSE's, the mount point. */
+/* The first word that is no option is the device; the next is FUSE's, the mount point. A long option that is not known ends the
+ * program before it has done anything.
+ */
 static int take(void *data, const char *word, int key, struct fuse_args *left)
 {
     (void)data, (void)left;
-    if (key != FUSE_OPT_KEY_NONOPT || words.device != NULL)
+    if (key == FUSE_OPT_KEY_NONOPT && words.device == NULL) {
+        words.device = strdup(word);
+        return words.device != NULL ? 0 : -1;
+    }
+    if (strncmp(word, "--", 2) != 0 || strcmp(word, "--help") == 0 || strcmp(word, "--version") == 0)
         return 1;
-    words.device = strdup(word);
-    return words.device != NULL ? 0 : -1;
+    fprintf(stderr, "flash-fuse: unknown option %s; --help has the options\n", word);
+    return -1;
 }
 
 static void show_help(void)

@@ -3,7 +3,7 @@
 # is skipped, with a line. FLASH_C_ARCHIVE names a libflash_c.a that is there; else `rt lib` makes one. OUT: where all is built.
 # `make test TARGET=..` runs it for another target: RUN is what runs its programs here, and CC, CXX and NM are its tools.
 #
-#   bash c/test.sh [quick]     quick: without the sanitizer and without valgrind
+#   bash c/test.sh [quick]     quick: without the sanitizer, without valgrind, and without a volume that is mounted on Linux
 #
 # Each test program takes how much it does, and a seed: out/test_cuts 20000 7 does more than is done here.
 set -u
@@ -248,6 +248,10 @@ elif [ "${1:-}" != quick ]; then
     else
         skip "valgrind" "it is not here"
     fi
+    # A volume that is mounted on Linux: lines of its own.
+    OUT=$OUT bash linux/test.sh | tee "$log"
+    passed=$((passed + $(grep -c '^ok ' "$log"))) failed=$((failed + $(grep -c '^FAIL ' "$log")))
+    skipped=$((skipped + $(grep -c '^skip ' "$log")))
 fi
 
 printf '%s passed, %s failed, %s skipped\n' $passed $failed $skipped

@@ -79,11 +79,15 @@ static int open_file(sqlite3_vfs *vfs, const char *name, sqlite3_file *base, int
     struct file *file = (struct file *)base;
     char temporary[32];
     (void)vfs;
-    if (name == NULL) /* a file without a name: it goes when it is closed */
+    file->base.pMethods = NULL;
+    if (name == NULL) { /* a file without a name: it goes when it is closed. A cut may have left one of this name before */
         name = (snprintf(temporary, sizeof temporary, "/temporary-%llu", (unsigned long long)++moment), temporary);
+        int code = flash_fs_unlink(volume, name, ++moment);
+        if (code < 0 && code != FLASH_ENOENT)
+            return result(code, SQLITE_CANTOPEN);
+    }
     uint32_t access = flags & SQLITE_OPEN_READONLY ? FLASH_RDONLY : FLASH_RDWR;
     uint32_t makes = flags & SQLITE_OPEN_CREATE ? FLASH_CREAT : 0, alone = flags & SQLITE_OPEN_EXCLUSIVE ? FLASH_EXCL : 0;
-    file->base.pMethods = NULL;
     file->fd = flash_fs_open(volume, name, access | makes | alone, ++moment);
     if (file->fd < 0)
         return result(file->fd, SQLITE_CANTOPEN);

@@ -124,8 +124,31 @@ static void live(const char *mode, uint64_t lives, uint64_t seed)
     ram_nand_free(&nand);
 }
 
+/* Temporary files that a cut left have the names of the next ones, which are opened all the same. */
+static void sort_beside_what_was_left(void)
+{
+    char name[32];
+    sqlite3 *database = NULL;
+    check(ram_nand_make(&nand, 2048, 64, 64) == 0 && flash_fs_format(&fs, &nand.driver, 2) == 0, "memory");
+    check(flash_fs_mount(&fs, &nand.driver) == 0 && flash_sqlite_register(&fs) == SQLITE_OK, "a volume");
+    for (int i = 0; i < 100; i++) {
+        snprintf(name, sizeof name, "/temporary-%d", i);
+        int fd = flash_fs_open(&fs, name, FLASH_WRONLY | FLASH_CREAT, 0);
+        check(flash_fs_write(&fs, fd, "left", 4, 0) == 4 && flash_fs_close(&fs, fd) == 0, "what was left");
+    }
+    int code = sqlite3_open("/data.db", &database);
+    check(code == SQLITE_OK && run(database, "pragma temp_store = file; pragma temp.cache_size = 10; create temp table sorted (id, text);"
+                                             "insert into sorted with recursive n(i) as (select 1 union all select i + 1 from n limit 5000)"
+                                             " select i, hex(i) from n; create index temp.texts on sorted (text)") == SQLITE_OK,
+          "a temporary table");
+    check(number(database, "select count(*) from sorted") == 5000, "its rows");
+    check(sqlite3_close(database) == SQLITE_OK && flash_fs_unmount(&fs) == 0, "the end");
+    ram_nand_free(&nand);
+}
+
 int main(int count, char **words)
 {
+    sort_beside_what_was_left(); /* first: the names are counted */
     static const char *const modes[] = {"delete", "truncate", "persist", "wal"};
     uint64_t lives = count > 1 ? strtoull(words[1], NULL, 10) : 100, seed = count > 2 ? strtoull(words[2], NULL, 10) : 1;
     for (size_t i = 0; i < sizeof modes / sizeof *modes; i++)

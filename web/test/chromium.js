@@ -1,0 +1,53 @@
+'use strict'
+// Chromium without a window, driven over a pipe by the DevTools protocol.
+const { spawn } = require('node:child_process'), { mkdtempSync, rmSync } = require('node:fs'), { tmpdir } = require('node:os'), { join } = require('node:path')
+
+function start(program) {
+  const folder = mkdtempSync(join(tmpdir(), 'page-')), words = ['--headless=new', '--no-sandbox', '--remote-debugging-pipe', `--user-data-dir=${folder}`, 'about:blank']
+  const browser = spawn(program, words, { stdio: ['ignore', 'ignore', 'ignore', 'pipe', 'pipe'] })
+  const waiting = new Map()
+  let text = '', last = 0
+  browser.stdio[4].on('data', bytes => {
+    const parts = (text += bytes).split('\0')
+    text = parts.pop()
+    for (const { id, result, error } of parts.map(part => JSON.parse(part))) {
+      if (waiting.has(id)) waiting.get(id)({ result, error })
+      waiting.delete(id)
+    }
+  })
+  const ask = async (method, params = {}, sessionId) => {
+    const answer = new Promise(done => waiting.set(++last, done))
+    browser.stdio[3].write(JSON.stringify({ id: last, method, params, sessionId }) + '\0')
+    const { result, error } = await answer
+    if (error) throw new Error(`${method}: ${error.message}`)
+    return result
+  }
+  const stop = () => new Promise(done => {
+    browser.on('exit', () => { rmSync(folder, { recursive: true, force: true, maxRetries: 5 }); done() })
+    browser.kill()
+  })
+  return { ask, stop }
+}
+
+// Opens an address in a window of this size and theme. `value` is what an expression of the page has, once a promise of it is kept.
+async function openPage({ ask }, url, { width = 1400, height = 900, theme = 'light' } = {}) {
+  const { targetId } = await ask('Target.createTarget', { url: 'about:blank' })
+  const { sessionId } = await ask('Target.attachToTarget', { targetId, flatten: true })
+  const send = (method, params) => ask(method, params, sessionId)
+  const value = async expression => {
+    const { result, exceptionDetails } = await send('Runtime.evaluate', { expression, returnByValue: true, awaitPromise: true })
+    if (exceptionDetails) throw new Error(exceptionDetails.exception?.description ?? exceptionDetails.text)
+    return result.value
+  }
+  await send('Emulation.setDeviceMetricsOverride', { width, height, deviceScaleFactor: 1, mobile: width < 600 })
+  await send('Emulation.setEmulatedMedia', { features: [{ name: 'prefers-color-scheme', value: theme }, { name: 'prefers-reduced-motion', value: 'reduce' }] })
+  await send('Page.navigate', { url })
+  const isReady = 'typeof session === "object" && session && typeof view === "object" && view && !busy'
+  const until = async expression => { while (!await value(expression)) await new Promise(done => setTimeout(done, 50)) }
+  const ready = () => until(isReady)
+  await ready()
+  const close = () => ask('Target.closeTarget', { targetId })
+  return { send, value, until, ready, close }
+}
+
+module.exports = { start, openPage }

@@ -4,8 +4,10 @@ let view, busy = false, turn = 0
 
 function freshView() {
   const none = () => new Float32Array(size.pages)
-  return { call: 1, fate: view?.fate ?? 2, cut: null, running: -1, shown: null, picture: null, power: true, touched: null, pointer: null, saying: null,
-    heat: none(), glow: none(), marked: new Set(), results: [], answers: [] }
+  return {
+    call: 1, fate: view?.fate ?? 2, cut: null, running: -1, shown: null, picture: null, power: true, touched: null, pointer: null,
+    saying: null, heat: none(), glow: none(), marked: new Set(), results: [], answers: [],
+  }
 }
 
 async function act(work) {
@@ -90,7 +92,10 @@ const QUESTIONS = {
   show: showPages,
 }
 
-const namesOf = directory => view.shown.tree.map(node => node.path).filter(path => path !== '/' && path.slice(0, path.lastIndexOf('/')) === (directory === '/' ? '' : directory))
+function namesOf(directory) {
+  const above = directory === '/' ? '' : directory
+  return view.shown.tree.map(node => node.path).filter(path => path !== '/' && path.slice(0, path.lastIndexOf('/')) === above)
+}
 
 // The pages of a file or a directory, chunk by chunk, which are marked on the chip.
 function showPages(path) {
@@ -102,15 +107,19 @@ function showPages(path) {
     ...pages.map(({ page, chunk }) => `${chunk === 0n ? 'header' : `chunk ${chunk}`}: block ${blockAt(page)}, page ${pageIn(page)}`)].join('\n')
 }
 
+function answer(asked, said, isError) {
+  view.answers.push({ after: session.lines.length, asked, said, isError })
+}
+
 function ask(line, word, path) {
   const said = QUESTIONS[word](path)
-  view.answers.push({ after: session.lines.length, asked: line, said: said ?? 'there is no such file or directory in the tree that is shown', isError: said === null })
+  answer(line, said ?? 'there is no such file or directory in the tree that is shown', said === null)
   show()
 }
 
 function refuse(line, code) {
   plan()
-  view.answers.push({ after: session.lines.length, asked: line, said: errorText(code), isError: true })
+  answer(line, errorText(code), true)
   settle(session.now)
 }
 
@@ -128,7 +137,8 @@ async function type(typed, milliseconds = 420) {
   if (Object.hasOwn(QUESTIONS, word)) return ask(line, word, path)
   const from = session.calls.length, picture = copyOf(session.now.picture), code = add(line)
   if (code < 0) return refuse(line, code)
-  Object.assign(view, { results: [], call: Math.max(1, Math.min(view.call, session.calls.length)), cut: null, running: session.lines.length - 1, picture, touched: null, marked: new Set() })
+  const call = Math.max(1, Math.min(view.call, session.calls.length))
+  Object.assign(view, { results: [], call, cut: null, running: session.lines.length - 1, picture, touched: null, marked: new Set() })
   $('result').replaceChildren(HINT)
   show()
   if (await play(session.calls.subarray(from), session.calls.length === from ? milliseconds * 0.4 : milliseconds)) settle(session.now)

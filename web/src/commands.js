@@ -4,9 +4,10 @@
 const WRITE = 2, CREATE = 4, TRUNCATE = 16, APPEND = 32
 const EINVAL = -22, UNKNOWN = -1000, TOO_LONG = -1001
 const ERRORS = {
-  [-1]: 'that is a directory (EPERM)', [-2]: 'nothing has this name (ENOENT)', [-5]: 'the volume has stopped (EIO)', [-12]: 'no memory (ENOMEM)',
-  [-16]: 'the root stays (EBUSY)', [-17]: 'the name exists (EEXIST)', [-19]: 'the device holds no volume', [-20]: 'not a directory (ENOTDIR)',
-  [-21]: 'that is a directory (EISDIR)', [EINVAL]: 'that cannot be (EINVAL)', [-27]: 'too long a file (EFBIG)', [-28]: 'the volume is full (ENOSPC)',
+  [-1]: 'that is a directory (EPERM)', [-2]: 'nothing has this name (ENOENT)', [-5]: 'the volume has stopped (EIO)',
+  [-12]: 'no memory (ENOMEM)', [-16]: 'the root stays (EBUSY)', [-17]: 'the name exists (EEXIST)', [-19]: 'the device holds no volume',
+  [-20]: 'not a directory (ENOTDIR)', [-21]: 'that is a directory (EISDIR)', [EINVAL]: 'that cannot be (EINVAL)',
+  [-27]: 'too long a file (EFBIG)', [-28]: 'the volume is full (ENOSPC)',
   [-30]: 'the volume can only be read (EROFS)', [-36]: 'too long a name (ENAMETOOLONG)', [-39]: 'the directory has entries (ENOTEMPTY)',
   [-84]: 'what the device holds is no tree', [-95]: 'a volume of a newer format', [UNKNOWN]: 'no such command: help shows them',
   [TOO_LONG]: 'the session has more calls of the device than the page keeps',
@@ -23,8 +24,8 @@ const mostAtOnce = () => (size.blockPages / 4 - 3) * size.pageBytes
 // The bytes of a write: the text, or so many of a log's.
 function bytesOf(words, seed) {
   if (!/^\d{3,5}$/.test(words)) return utf8.encode(words + '\n')
-  const lines = []
-  for (let i = 0; i * 16 < +words; i++) lines.push(`${String(seed).padStart(2, '0')}:${String(i).padStart(2, '0')} ${(20 + Math.sin(i / 4 + seed) * 3).toFixed(2)} degrees\n`)
+  const twoDigits = number => String(number).padStart(2, '0'), degrees = i => (20 + Math.sin(i / 4 + seed) * 3).toFixed(2)
+  const lines = Array.from({ length: Math.ceil(+words / 16) }, (_, i) => `${twoDigits(seed)}:${twoDigits(i)} ${degrees(i)} degrees\n`)
   return utf8.encode(lines.join('').slice(0, +words))
 }
 

@@ -6,15 +6,22 @@ const MOST_IMAGE_PAGES = 65536, MOST_IMAGE_BYTES = 2 ** 27 // 128 MiB of data: t
 const imagePlace = (sizes, page) => IMAGE_HEAD_BYTES + sizes.blocks + page * (1 + TAG_BYTES + sizes.pageBytes)
 const isPower = (number, least, most) => number >= least && number <= most && (number & (number - 1)) === 0
 
+function refuseUnless(holds, words) {
+  if (!holds) throw new Error(words)
+}
+
 // The sizes in the head of an image; throws, with a text, where the bytes are none.
 function imageSizes(bytes) {
-  if (bytes.length < IMAGE_HEAD_BYTES || text.decode(bytes.subarray(0, 8)) !== IMAGE_MAGIC) throw new Error('This is no image: it does not begin with NANDIMG1.')
+  const begins = bytes.length >= IMAGE_HEAD_BYTES && text.decode(bytes.subarray(0, 8)) === IMAGE_MAGIC
+  refuseUnless(begins, 'This is no image: it does not begin with NANDIMG1.')
   const head = new DataView(bytes.buffer, bytes.byteOffset, IMAGE_HEAD_BYTES)
   const [pageBytes, blockPages, blocks] = [8, 12, 16].map(at => head.getUint32(at, true))
-  if (!isPower(pageBytes, 512, 4096) || !isPower(blockPages, 32, 256) || blocks < 5 || blocks > 4096) throw new Error('The image is of sizes that no device has.')
-  const pages = blockPages * blocks, sizes = { pageBytes, blockPages, blocks, pages }
-  if (bytes.length !== imagePlace(sizes, pages)) throw new Error(`The image has ${bytes.length} bytes where its sizes want ${imagePlace(sizes, pages)}.`)
-  if (pages > MOST_IMAGE_PAGES || pages * pageBytes > MOST_IMAGE_BYTES) throw new Error('The image is larger than this page holds: 65,536 pages, 128 MiB.')
+  const areSizes = isPower(pageBytes, 512, 4096) && isPower(blockPages, 32, 256) && blocks >= 5 && blocks <= 4096
+  refuseUnless(areSizes, 'The image is of sizes that no device has.')
+  const pages = blockPages * blocks, sizes = { pageBytes, blockPages, blocks, pages }, length = imagePlace(sizes, pages)
+  refuseUnless(bytes.length === length, `The image has ${bytes.length} bytes where its sizes want ${length}.`)
+  const fits = pages <= MOST_IMAGE_PAGES && pages * pageBytes <= MOST_IMAGE_BYTES
+  refuseUnless(fits, 'The image is larger than this page holds: 65,536 pages, 128 MiB.')
   return sizes
 }
 

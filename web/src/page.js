@@ -64,7 +64,8 @@ function listenToImages() {
 async function copyAddress() {
   writeAddress()
   const isCopied = await navigator.clipboard?.writeText(location.href).then(() => true, () => false)
-  $('result').replaceChildren(isCopied ? 'The link is copied. ' : 'The link is the address of this page. ', 'It has the script, the call and the fate, and no image.')
+  const where = isCopied ? 'The link is copied. ' : 'The link is the address of this page. '
+  $('result').replaceChildren(where, 'It has the script, the call and the fate, and no image.')
 }
 
 function listenToPage() {

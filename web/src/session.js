@@ -96,14 +96,20 @@ function goesOn() {
   return flash.mkdir(TRY, 1) === 0 && flash.unmount(TRY) === 0
 }
 
+function whatIsWrong(run, found, part) {
+  if (found.code < 0) return `The mount failed: ${errorText(found.code)}.`
+  if (part.kept < 0) return 'The tree is that after no first part of the commands.'
+  if (run.isMisused) return 'The library broke a promise to the driver.'
+  return goesOn() ? null : 'The volume did not take another command.'
+}
+
 // Cuts the session in a call, mounts, and says what that shows. `wrong` says why it is not what the theorem allows; null: it is.
 function tryCut(at, fate) {
   const run = runToCut(at, fate)
   if (run === null) return null
   flash.power_up(TRY)
   const found = mounted(TRY), part = firstPart(found.key, run.syncedSteps, run.begunSteps)
-  const wrong = found.code < 0 ? `The mount failed: ${errorText(found.code)}.` : part.kept < 0 ? 'The tree is that after no first part of the commands.'
-    : run.isMisused ? 'The library broke a promise to the driver.' : !goesOn() ? 'The volume did not take another command.' : null
+  const wrong = whatIsWrong(run, found, part)
   flash.abandon(TRY)
   return { at, fate, ...run, ...part, wrong, ...found }
 }

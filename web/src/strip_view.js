@@ -23,8 +23,9 @@ function drawStripLabels(c) {
   c.textBaseline = 'middle'
   c.textAlign = 'right'
   c.fillStyle = color('--soft')
-  for (const [words, y] of [['command', LANES / 2], ['device', (LANES + TICKS) / 2 + 1], ['kept', middle], ['0', plot.y(0) - 4]]) c.fillText(words, plot.left - 10, y)
-  if (session.lines.length > 0) c.fillText(session.lines.length, plot.left - 10, plot.y(session.lines.length) + 4)
+  const labels = [['command', LANES / 2], ['device', (LANES + TICKS) / 2 + 1], ['kept', middle], ['0', plot.y(0) - 4]]
+  if (session.lines.length > 0) labels.push([session.lines.length, plot.y(session.lines.length) + 4])
+  for (const [words, y] of labels) c.fillText(words, plot.left - 10, y)
 }
 
 // The runs of calls of one line: the line, its first call, and the one after its last.
@@ -40,20 +41,21 @@ function runsOfLines() {
 function drawCommands(c, runs, running) {
   c.textAlign = 'center'
   for (const { line, from, to } of runs) {
-    const x = plot.x(from), width = plot.x(to) - x
+    const x = plot.x(from), width = plot.x(to) - x, word = session.lines[line].trim().split(' ')[0]
     c.fillStyle = line === running ? color('--kept-soft') : color('--lane')
     rounded(c, x + 0.5, 2, Math.max(1, width - 1), LANES - 4, 3)
     c.fill()
     c.fillStyle = color('--ink')
-    c.fillText(width > 58 ? `${line + 1} ${session.lines[line].trim().split(' ')[0]}` : width > 16 ? `${line + 1}` : '', x + width / 2, LANES / 2 + 0.5)
+    c.fillText(width > 58 ? `${line + 1} ${word}` : width > 16 ? `${line + 1}` : '', x + width / 2, LANES / 2 + 0.5)
   }
 }
 
 function drawCalls(c) {
   const fill = { [PROGRAM]: color('--program'), [ERASE]: color('--erase'), [MARK]: color('--erase') }, read = color('--look')
   session.calls.forEach((call, i) => {
+    const [top, height] = changes(call) ? [LANES + 3, TICKS - LANES - 3] : [TICKS - 9, 9]
     c.fillStyle = fill[kindOf(call)] ?? read
-    c.fillRect(plot.x(i + 1) + plot.step * 0.15, changes(call) ? LANES + 3 : TICKS - 9, Math.max(1, plot.step * 0.7), changes(call) ? TICKS - LANES - 3 : 9)
+    c.fillRect(plot.x(i + 1) + plot.step * 0.15, top, Math.max(1, plot.step * 0.7), height)
   })
 }
 
@@ -76,7 +78,10 @@ function drawBounds(c) {
 function drawAllowed(c, runs) {
   c.fillStyle = color('--kept')
   c.globalAlpha = 0.1
-  for (const { from, to } of runs) c.fillRect(plot.x(from), plot.y(begunBy(from)), plot.x(to) - plot.x(from), plot.y(syncedBy(from)) - plot.y(begunBy(from)))
+  for (const { from, to } of runs) {
+    const top = plot.y(begunBy(from))
+    c.fillRect(plot.x(from), top, plot.x(to) - plot.x(from), plot.y(syncedBy(from)) - top)
+  }
   c.globalAlpha = 1
   drawBounds(c)
   const roomOf = ({ from, to }) => (to - from) * Math.min(4, begunBy(from) - syncedBy(from))

@@ -61,9 +61,9 @@ function verdictOfSession() {
   const { lines, onChip, before } = session, count = lines.length
   if (before.code < 0) return { head: 'No mount', text: `The mount failed: ${errorText(before.code)}.`, isWrong: true }
   if (count === 0) return MOUNTED
-  const waiting = count - onChip.kept
-  return { head: `${onChip.kept} of ${plural(count, 'command')} on the chip`,
-    text: waiting === 0 ? 'A mount shows all of them.' : waiting === 1 ? 'The last one waits in memory for a sync.' : `The last ${waiting} wait in memory for a sync.` }
+  const waiting = count - onChip.kept, head = `${onChip.kept} of ${plural(count, 'command')} on the chip`
+  if (waiting === 0) return { head, text: 'A mount shows all of them.' }
+  return { head, text: `The last ${waiting === 1 ? 'one waits' : `${waiting} wait`} in memory for a sync.` }
 }
 
 function verdictOfCut(cut) {
@@ -81,7 +81,9 @@ function showVerdict() {
 
 function describeCall(call) {
   const block = `block ${blockOf(call)}`, page = `${block}, page ${pageOf(call)}`
-  return [`a look at the mark of ${block}`, `a read of the tag of ${page}`, `a read of ${page}`, `a program of ${page}`, `an erase of ${block}`, `a mark on ${block}`][kindOf(call)]
+  const words = [`a read of the mark of ${block}`, `a read of the tag of ${page}`, `a read of ${page}`, `a program of ${page}`,
+    `an erase of ${block}`, `a mark on ${block}`]
+  return words[kindOf(call)]
 }
 
 // What a call that is cut may leave, a word a fate: enum ram_nand_fate. A call that changes nothing leaves nothing else.
@@ -104,21 +106,23 @@ function showFates(call) {
 
 function showCall() {
   const count = session.calls.length, call = session.calls[view.call - 1], strip = $('strip')
-  for (const [name, value] of [['min', Math.min(1, count)], ['max', count], ['now', Math.min(view.call, count)]]) strip.setAttribute(`aria-value${name}`, value)
+  const values = { min: Math.min(1, count), max: count, now: Math.min(view.call, count) }
+  for (const [name, value] of Object.entries(values)) strip.setAttribute(`aria-value${name}`, value)
   $('fates').hidden = true
   if (count === 0) {
     $('when').textContent = 'The commands so far asked nothing of the chip.'
     for (const id of ['call', 'what', 'tag']) $(id).textContent = ''
     return strip.setAttribute('aria-valuetext', $('when').textContent)
   }
+  const where = `${describeCall(call)}, in command ${begunBy(view.call)}.`
   $('when').textContent = 'Power goes at device call '
   $('call').textContent = view.call
-  $('what').textContent = ` of ${count.toLocaleString('en')}, ${describeCall(call)}, in command ${begunBy(view.call)}. ${changes(call) ? 'It is left' : 'It touches nothing.'}`
+  $('what').textContent = ` of ${count.toLocaleString('en')}, ${where} ${changes(call) ? 'It is left' : 'It touches nothing.'}`
   const tag = tagOfCall(view.call)
   $('tag').textContent = tag ? `The page: ${describeTag(tag)}.` : ''
   showFates(call)
   const cut = view.cut ? ` ${$('verdict').textContent}` : ''
-  strip.setAttribute('aria-valuetext', `Call ${view.call} of ${count}, ${describeCall(call)}, in command ${begunBy(view.call)}.${cut}`)
+  strip.setAttribute('aria-valuetext', `Call ${view.call} of ${count}, ${where}${cut}`)
 }
 
 function showCosts() {
@@ -138,14 +142,15 @@ function showButtons() {
   $('forward').disabled = !isIdle || count === 0 || view.call >= count
 }
 
-const HINT = 'Between the two lines is what the theorem allows: at least the commands that were synced, at most those that were begun. Drag the red plug along the calls, or try them all.'
+const HINT = 'Between the two lines is what the theorem allows: at least the commands that were synced, at most those that were begun. ' +
+  'Drag the red plug along the calls, or try them all.'
 
 function showResult(isDone, seconds) {
-  const all = view.results.length, wrong = view.results.filter(result => result.wrong).length
-  const power = `Power went ${all.toLocaleString('en')} times, at each of ${plural(session.calls.length, 'call')} with each of ${flash.fates()} fates. `
-  const right = 'Each mount showed the tree after some first part of the commands, at least the synced ones, and the volume went on.'
-  $('result').replaceChildren(power, element('b', wrong ? 'wrong' : '', wrong ? `${plural(wrong, 'cut')} went wrong: ${view.results.find(result => result.wrong).wrong}` : right),
-    isDone ? ` ${seconds.toFixed(1)} s.` : '')
+  const count = view.results.length.toLocaleString('en'), wrong = view.results.filter(result => result.wrong)
+  const power = `Power went ${count} times, at each of ${plural(session.calls.length, 'call')} with each of ${flash.fates()} fates. `
+  const said = wrong.length > 0 ? `${plural(wrong.length, 'cut')} went wrong: ${wrong[0].wrong}`
+    : 'Each mount showed the tree after some first part of the commands, at least the synced ones, and the volume went on.'
+  $('result').replaceChildren(power, element('b', wrong.length > 0 ? 'wrong' : '', said), isDone ? ` ${seconds.toFixed(1)} s.` : '')
 }
 
 function draw() {

@@ -1,9 +1,11 @@
 'use strict'
 // Chromium without a window, driven over a pipe by the DevTools protocol.
-const { spawn } = require('node:child_process'), { mkdtempSync, rmSync } = require('node:fs'), { tmpdir } = require('node:os'), { join } = require('node:path')
+const { spawn } = require('node:child_process'), { mkdtempSync, rmSync } = require('node:fs')
+const { tmpdir } = require('node:os'), { join } = require('node:path')
 
 function start(program) {
-  const folder = mkdtempSync(join(tmpdir(), 'page-')), words = ['--headless=new', '--no-sandbox', '--remote-debugging-pipe', `--user-data-dir=${folder}`, 'about:blank']
+  const folder = mkdtempSync(join(tmpdir(), 'page-'))
+  const words = ['--headless=new', '--no-sandbox', '--remote-debugging-pipe', `--user-data-dir=${folder}`, 'about:blank']
   const browser = spawn(program, words, { stdio: ['ignore', 'ignore', 'ignore', 'pipe', 'pipe'] })
   const waiting = new Map()
   let text = '', last = 0
@@ -40,7 +42,8 @@ async function openPage({ ask }, url, { width = 1400, height = 900, theme = 'lig
     return result.value
   }
   await send('Emulation.setDeviceMetricsOverride', { width, height, deviceScaleFactor: 1, mobile: width < 600 })
-  await send('Emulation.setEmulatedMedia', { features: [{ name: 'prefers-color-scheme', value: theme }, { name: 'prefers-reduced-motion', value: 'reduce' }] })
+  const features = [{ name: 'prefers-color-scheme', value: theme }, { name: 'prefers-reduced-motion', value: 'reduce' }]
+  await send('Emulation.setEmulatedMedia', { features })
   await send('Page.navigate', { url })
   const isReady = 'typeof session === "object" && session && typeof view === "object" && view && !busy'
   const until = async expression => { while (!await value(expression)) await new Promise(done => setTimeout(done, 50)) }

@@ -7,9 +7,10 @@ function readImage(bytes) {
   const [pageBytes, blockPages, blocks] = [8, 12, 16].map(at => bytes.readUInt32LE(at))
   const marks = [...bytes.subarray(HEAD_BYTES, HEAD_BYTES + blocks)].map(mark => mark !== 0)
   const pages = Array.from({ length: blocks * blockPages }, (_, page) => {
-    const at = HEAD_BYTES + blocks + page * (1 + TAG_BYTES + pageBytes), tag = bytes.subarray(at + 1), data = bytes.subarray(at + 1 + TAG_BYTES, at + 1 + TAG_BYTES + pageBytes)
+    const at = HEAD_BYTES + blocks + page * (1 + TAG_BYTES + pageBytes), tag = bytes.subarray(at + 1, at + 1 + TAG_BYTES)
+    const [index, count] = [0, 4].map(place => tag.readUInt32LE(place)), data = bytes.subarray(at + 1 + TAG_BYTES, at + 1 + TAG_BYTES + pageBytes)
     const [object, chunk, version, group, seq] = [8, 16, 24, 32, 40].map(place => tag.readBigUInt64LE(place))
-    return { page, block: Math.floor(page / blockPages), kind: bytes[at], index: tag.readUInt32LE(0), count: tag.readUInt32LE(4), object, chunk, version, group, seq, data }
+    return { page, block: Math.floor(page / blockPages), kind: bytes[at], index, count, object, chunk, version, group, seq, data }
   })
   return { pageBytes, blockPages, marks, pages }
 }
@@ -18,8 +19,8 @@ function readImage(bytes) {
 function isWhole({ marks, pages }, first) {
   const { block, count, group } = pages[first]
   if (marks[block] || count < 1 || count > 256) return false
-  const run = pages.slice(first, first + count)
-  return run.length === count && run.every((page, i) => page.kind === 1 && page.block === block && page.index === i && page.count === count && page.group === group)
+  const run = pages.slice(first, first + count), isOfGroup = page => page.block === block && page.count === count && page.group === group
+  return run.length === count && run.every((page, i) => page.kind === 1 && page.index === i && isOfGroup(page))
 }
 
 const isNewer = (one, other) => {
@@ -29,8 +30,8 @@ const isNewer = (one, other) => {
 
 // The newest page of each key, among those of whole groups.
 function newestPages(image) {
-  const newest = new Map(), counted = image.pages.filter(page => page.index < page.count && page.page >= page.index && isWhole(image, page.page - page.index))
-  for (const page of counted) {
+  const newest = new Map(), isCounted = ({ index, count, page }) => index < count && page >= index && isWhole(image, page - index)
+  for (const page of image.pages.filter(isCounted)) {
     const key = `${page.object} ${page.chunk}`, other = newest.get(key)
     if (!other || isNewer(page, other)) newest.set(key, page)
   }
@@ -46,7 +47,8 @@ function chunksOf(data, pageBytes) {
 }
 
 function entriesOf(pages, length, pageBytes) {
-  const slots = pages.flatMap(({ data }) => Array.from({ length: Math.floor(pageBytes / SLOT_BYTES) }, (_, i) => data.subarray(i * SLOT_BYTES, (i + 1) * SLOT_BYTES)))
+  const count = Math.floor(pageBytes / SLOT_BYTES), slot = (data, i) => data.subarray(i * SLOT_BYTES, (i + 1) * SLOT_BYTES)
+  const slots = pages.flatMap(({ data }) => Array.from({ length: count }, (_, i) => slot(data, i)))
   return slots.slice(0, length).map(slot => ({ object: slot.readBigUInt64LE(0), name: slot.toString('utf8', 10, 10 + slot.readUInt16LE(8)) }))
 }
 

@@ -1,9 +1,11 @@
 'use strict'
 // The tests of out/page.html in Chromium: a line for each. test.sh calls it, with the folder of what was built; in it are the page, the module
 // and, where the library for the host was there, in native/ the programs list, make_image and replay.
-const { readFileSync, writeFileSync, mkdtempSync, mkdirSync, existsSync, rmSync } = require('node:fs'), { execFileSync } = require('node:child_process')
-const { createHash } = require('node:crypto'), { gzipSync } = require('node:zlib'), { tmpdir } = require('node:os'), { join, resolve } = require('node:path')
-const { start, openPage } = require('./chromium.js'), { readImage, treeOf } = require('./footprint.js'), { drawnTrace } = require('./trace.js'), { replay } = require('./replay.js')
+const { readFileSync, writeFileSync, mkdtempSync, mkdirSync, existsSync, rmSync } = require('node:fs')
+const { execFileSync } = require('node:child_process'), { createHash } = require('node:crypto'), { gzipSync } = require('node:zlib')
+const { tmpdir } = require('node:os'), { join, resolve } = require('node:path')
+const { start, openPage } = require('./chromium.js'), { readImage, treeOf } = require('./footprint.js')
+const { drawnTrace } = require('./trace.js'), { replay } = require('./replay.js')
 const { SCRIPT_CALLS, SCRIPT_COSTS, keptByHand } = require('./stored_script.js')
 
 const out = resolve(process.argv[2]), native = join(out, 'native'), url = `file://${join(out, 'page.html')}`
@@ -53,7 +55,8 @@ const checkCut = ({ at, fate, kept, isPart, wrong, synced, begun, syncs }) => {
   const where = `call ${at}, fate ${fate}:`
   check(wrong === null, where, wrong)
   checkEqual(synced, syncs, `${where} synced`)
-  check(kept >= syncs && kept + (isPart ? 1 : 0) <= begun, `${where} kept ${kept}${isPart ? ' and a part' : ''} where ${syncs} were synced and ${begun} begun`)
+  const isAllowed = kept >= syncs && kept + (isPart ? 1 : 0) <= begun
+  check(isAllowed, `${where} kept ${kept}${isPart ? ' and a part' : ''} where ${syncs} were synced and ${begun} begun`)
 }
 
 const imageNow = async cut => Buffer.from(await page.value(`(() => {
@@ -92,7 +95,8 @@ async function testWords() {
   const words = await page.value('document.body.textContent.replace(/\\s+/g, " ")')
   check(words.includes('the library behind flash_fs.h'), 'the page does not say what runs')
   check(words.includes('Not covered by a proof: the way from there to WebAssembly'), 'the page does not say what is not proved')
-  check(!/src=|href="http|fetch\(|import\(/.test(readFileSync(join(out, 'page.html'), 'utf8').replace(/MODULE = "[^"]*"/, '')), 'the page asks for another file')
+  const source = readFileSync(join(out, 'page.html'), 'utf8').replace(/MODULE = "[^"]*"/, '')
+  check(!/src=|href="http|fetch\(|import\(/.test(source), 'the page asks for another file')
 }
 
 async function testStoredScript() {
@@ -102,7 +106,7 @@ async function testStoredScript() {
   checkEqual(cuts.length, 4 * SCRIPT_CALLS, 'cuts')
   cuts.forEach(checkCut)
   for (const { at, fate, kept, isPart } of cuts)
-    check(!isPart && keptByHand(at, fate).includes(kept), `call ${at}, fate ${fate}: kept ${kept}`, isPart ? 'and a part' : '', 'where it is', keptByHand(at, fate))
+    check(!isPart && keptByHand(at, fate).includes(kept), `call ${at}, fate ${fate}: kept`, { kept, isPart }, 'where it is', keptByHand(at, fate))
 }
 
 // Each bar of the strip is of the colour of what is right.
@@ -132,9 +136,10 @@ const drawSession = seed => page.value(`(() => {
   let state = ${seed}
   const drawn = below => { state = (Math.imul(state, 1103515245) + 12345) >>> 0; return (state >>> 8) % below }
   const one = names => names[drawn(names.length)]
-  const directory = () => one(['/a', '/b', '/a/c', '/log', '/etc']), file = () => one(['/x', '/a/y', '/b/z', '/a/c/w', '/boots', '/log/sunday', '/etc/rate'])
-  const lines = [() => 'mkdir ' + directory(), () => 'write ' + file() + ' ' + (100 + drawn(6000)), () => 'append ' + file() + ' ' + (100 + drawn(3000)),
-    () => 'mv ' + file() + ' ' + file(), () => 'mv ' + directory() + ' ' + directory(), () => 'ln ' + file() + ' ' + file(), () => 'rm ' + file(),
+  const directory = () => one(['/a', '/b', '/a/c', '/log', '/etc'])
+  const file = () => one(['/x', '/a/y', '/b/z', '/a/c/w', '/boots', '/log/sunday', '/etc/rate'])
+  const lines = [() => 'mkdir ' + directory(), () => 'write ' + file() + ' ' + (100 + drawn(6000)),
+    () => 'append ' + file() + ' ' + (100 + drawn(3000)), () => 'mv ' + file() + ' ' + file(), () => 'mv ' + directory() + ' ' + directory(), () => 'ln ' + file() + ' ' + file(), () => 'rm ' + file(),
     () => 'rmdir ' + directory(), () => 'truncate ' + file() + ' ' + drawn(6000), () => drawn(3) ? 'sync' : 'fail', () => 'sync']
   makeBase()
   begin()
@@ -209,20 +214,21 @@ async function testPlantedFaults() {
   const none = await wrongOnStrip()
   check(none.wrong === none.tried && none.text.includes('The mount failed'), 'mounts that fail do not turn the strip red:', none)
   await page.value('look()')
-  check(await page.value(`$('verdict').textContent.includes('The mount failed') && $('verdict').firstChild.classList.contains('wrong')`), 'the verdict of a mount that failed')
+  const isSaid = `$('verdict').textContent.includes('The mount failed') && $('verdict').firstChild.classList.contains('wrong')`
+  check(await page.value(isSaid), 'the verdict of a mount that failed')
   await page.value('flash = flash.unplanted')
 }
 
 // Bad blocks, by any byte but 0, and lost pages, by any kind above 1, are drawn so.
 async function testBadBlocks() {
   await startAnew()
-  const image = await imageNow(null), kindAt = place => 32 + 16 + place * (1 + 48 + 512), cellsWith = async () => page.value('[...view.picture.marks]')
+  const image = await imageNow(null), kindAt = place => 32 + 16 + place * (1 + 48 + 512)
   image[32 + 3] = 0xff
   image[32 + 14] = 1
   image[kindAt(32 * 15 + 4)] = 9
   writeFileSync(join(work, 'bad.img'), image)
   await dropFile(join(work, 'bad.img'))
-  checkEqual(await cellsWith(), [0, 0, 0, 1, 0, 0, 0, 0, 0, 0, 0, 1, 0, 0, 1, 0], 'marks')
+  checkEqual(await page.value('[...view.picture.marks]'), [0, 0, 0, 1, 0, 0, 0, 0, 0, 0, 0, 1, 0, 0, 1, 0], 'marks')
   checkEqual(await page.value('view.picture.cells[32 * 15 + 4]'), 2, 'the kind of a lost page')
   check((await page.value(`$('cells').getAttribute('aria-label')`)).endsWith('Bad blocks: 3, 11, 14.'), 'the text of the chip')
   const points = await page.value(`[3, 11, 14, 13].map(block => {
@@ -234,8 +240,8 @@ async function testBadBlocks() {
 
 async function testRefusedImages() {
   await startAnew()
-  const image = await imageNow(null), tries = { 'does not begin': Buffer.from('no image'), 'sizes that no device': Buffer.concat([image.subarray(0, 8), Buffer.from([1]), image.subarray(9)]),
-    'where its sizes want': image.subarray(0, -1) }
+  const image = await imageNow(null), oddSizes = Buffer.concat([image.subarray(0, 8), Buffer.from([1]), image.subarray(9)])
+  const tries = { 'does not begin': Buffer.from('no image'), 'sizes that no device': oddSizes, 'where its sizes want': image.subarray(0, -1) }
   for (const [words, bytes] of Object.entries(tries)) {
     writeFileSync(join(work, 'none.img'), bytes)
     await openFile(join(work, 'none.img'))
@@ -285,15 +291,19 @@ async function testSteps() {
   const words = tag => `object ${tag.object}, chunk ${tag.chunk}, version ${tag.version}, group ${tag.group}, seq ${tag.seq}`
   checkEqual(await page.value(`[view.call, $('tag').textContent]`), [program, `The page: ${words(tag)}.`], 'the step to the first program')
   await page.value(`$('fates').children[1].click()`)
-  const box = await page.value(`(() => { const box = $('cells').getBoundingClientRect(), [x, y] = cellAt(blockAt(${place}), pageIn(${place})); return { x: box.x + x + 3, y: box.y + y + 3 } })()`)
-  await page.send('Input.dispatchMouseEvent', { type: 'mouseMoved', ...box })
-  check((await page.value(`$('about').textContent`)).endsWith(words(tag)), 'the tag under the pointer:', await page.value(`$('about').textContent`), 'where it is', words(tag))
+  const inside = await page.value(`(() => {
+    const box = $('cells').getBoundingClientRect(), [x, y] = cellAt(blockAt(${place}), pageIn(${place}))
+    return { x: box.x + x + 3, y: box.y + y + 3 }
+  })()`)
+  await page.send('Input.dispatchMouseEvent', { type: 'mouseMoved', ...inside })
+  const about = await page.value(`$('about').textContent`)
+  check(about.endsWith(words(tag)), 'the tag under the pointer:', about, 'where it is', words(tag))
 }
 
 async function testCosts() {
   await startAnew()
-  const words = await page.value(`(() => { settle(session.now); return Object.fromEntries(['programs', 'erases', 'reads', 'amplification', 'time'].map(id => [id, $(id).textContent])) })()`)
-  checkEqual(words, Object.fromEntries(Object.entries(SCRIPT_COSTS).map(([id, number]) => [id, String(number)])), 'what the flash did')
+  await page.value('settle(session.now)')
+  for (const [id, number] of Object.entries(SCRIPT_COSTS)) checkEqual(await page.value(`$('${id}').textContent`), `${number}`, id)
 }
 
 // An address is what its page shows: script, call and fate.
@@ -312,9 +322,11 @@ async function testAddress() {
 async function testKeyboard() {
   await startAnew()
   await page.send('Accessibility.enable')
-  const { nodes } = await page.send('Accessibility.getFullAXTree'), isControl = node => node.properties?.some(({ name, value }) => name === 'focusable' && value.value)
-  const controls = nodes.filter(node => !node.ignored && isControl(node) && node.role.value !== 'RootWebArea')
-  check(controls.length >= 15 && controls.every(node => node.name?.value), 'a control has no name:', controls.filter(node => !node.name?.value).map(node => node.role.value))
+  const { nodes } = await page.send('Accessibility.getFullAXTree')
+  const isFocusable = node => node.properties?.some(({ name, value }) => name === 'focusable' && value.value)
+  const controls = nodes.filter(node => !node.ignored && isFocusable(node) && node.role.value !== 'RootWebArea')
+  const nameless = controls.filter(node => !node.name?.value).map(node => node.role.value)
+  check(controls.length >= 15 && nameless.length === 0, 'a control has no name:', nameless)
   await page.value(`choose(5); $('strip').focus()`)
   const key = async name => { for (const type of ['keyDown', 'keyUp']) await page.send('Input.dispatchKeyEvent', { type, key: name, code: name }) }
   await key('ArrowRight')

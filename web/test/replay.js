@@ -23,7 +23,8 @@ async function replay(lines) {
     flash.begin_calls()
   }
   for (const line of lines) {
-    const [name, ...words] = line.split(' '), numbers = words.filter(word => word[0] !== '/').map(Number), paths = words.filter(word => word[0] === '/')
+    const [name, ...words] = line.split(' '), isPath = word => word[0] === '/'
+    const numbers = words.filter(word => !isPath(word)).map(Number), paths = words.filter(isPath)
     if (name === 'end') { await end(); continue }
     if (paths.length > 0) put(...paths)
     const code = (special[name] ? special[name](numbers) : flash[name](...numbers)) ?? 0

@@ -4,6 +4,8 @@
 // whose replies, calls and flash are compared.
 
 const SIZES = [[512, 32, 16], [1024, 32, 20], [512, 64, 12], [2048, 32, 24]]
+const OFTEN = ['open', 'open', 'open', 'open', 'close', 'close', 'read', 'read', 'write', 'write', 'write', 'write', 'write', 'truncate', 'sync',
+  'sync', 'stat', 'list', 'space', 'mkdir', 'mkdir', 'rmdir', 'unlink', 'link', 'rename', 'rename']
 const FLAGS = [1, 2, 3, 6, 7, 7, 7, 23, 39, 15, 0, 64]
 
 function source(seed) {
@@ -29,13 +31,13 @@ function drawnCommand(drawn) {
   const moment = drawn(100000), path = () => drawnPath(drawn)
   const commands = {
     open: () => [`open 0 ${FLAGS[drawn(FLAGS.length)]} ${moment} ${path()}`], close: () => [`close 0 ${drawn(4)}`],
-    read: () => [`read 0 ${drawn(4)} ${drawn(9000)}`], write: () => drawnWrite(drawn, moment), truncate: () => [`truncate 0 ${drawn(4)} ${drawn(9000)} ${moment}`],
+    read: () => [`read 0 ${drawn(4)} ${drawn(9000)}`], write: () => drawnWrite(drawn, moment),
+    truncate: () => [`truncate 0 ${drawn(4)} ${drawn(9000)} ${moment}`],
     sync: () => ['sync 0'], stat: () => [`stat 0 ${path()}`], list: () => [`list 0 ${path()}`], space: () => ['space 0'],
     mkdir: () => [`mkdir 0 ${moment} ${path()}`], rmdir: () => [`rmdir 0 ${moment} ${path()}`], unlink: () => [`unlink 0 ${moment} ${path()}`],
     link: () => [`link 0 ${moment} ${path()} ${path()}`], rename: () => [`rename 0 ${moment} ${path()} ${path()}`],
   }
-  const often = 'open open open open close close read read write write write write write truncate sync sync stat list space mkdir mkdir rmdir unlink link rename rename'.split(' ')
-  return commands[often[drawn(often.length)]]()
+  return commands[OFTEN[drawn(OFTEN.length)]]()
 }
 
 // A power-on session on the flash of the one before: a mount, commands, and an end with power that goes, or an unmount.

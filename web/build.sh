@@ -5,7 +5,7 @@
 #   bash web/build.sh
 #
 # FLASH_C_MODULE names the LLVM module of flash_c for 64-bit ARM, where one is there; else c/archive.sh makes one, over the proved
-# libraries in crates/*/out, and flash_c alone is proved again. OUT: where all is built.
+# libraries in crates/*/out, for which flash_c alone is proved again. OUT: where all is built.
 set -eu
 [ -z "${FLASH_C_MODULE:-}" ] || FLASH_C_MODULE=$(realpath "$FLASH_C_MODULE")
 OUT=$(realpath -m "${OUT:-$(dirname "$0")/out}")
@@ -85,8 +85,13 @@ assemble() {
     done < page.html
 }
 
+# Whether the module is there, and newer than what it is made of.
+is_current() {
+    [ -e "$1" ] && [ -z "$(find ../crates.txt ../crates/*/{src,specs,proofs} -newer "$1" -print -quit)" ]
+}
+
 module=${FLASH_C_MODULE:-$OUT/flash_c.bc}
-[ -n "${FLASH_C_MODULE:-}" ] || KEEP=$module bash ../c/archive.sh aarch64-unknown-linux-gnu
+[ -n "${FLASH_C_MODULE:-}" ] || is_current "$module" || KEEP=$module bash ../c/archive.sh aarch64-unknown-linux-gnu
 retarget "$module" "$OUT/flash_c_wasm.ll"
 # shellcheck disable=SC2086
 "$clang" $machine -O3 -c -x ir "$OUT/flash_c_wasm.ll" -o "$OUT/flash_c.o"

@@ -2,9 +2,9 @@
 # The tests of the page, in Chromium: a line for each, and at the end how many there were. What asks for a tool that is not on the
 # machine is skipped, with a line.
 #
-#   bash web/test.sh
+#   bash web/test.sh [WORD]     WORD: only the tests that have it in their names
 #
-# The page is that of build.sh, which is called where there is none and it can make one. FLASH_C_ARCHIVE names a libflash_c.a of this
+# The page is that of build.sh, which is called where it is not there or older than its files. FLASH_C_ARCHIVE names a libflash_c.a of this
 # processor, for the tests that compare with the host. CHROMIUM: the browser. OUT: where all is built.
 set -u
 [ -z "${FLASH_C_ARCHIVE:-}" ] || FLASH_C_ARCHIVE=$(realpath "$FLASH_C_ARCHIVE")
@@ -20,6 +20,10 @@ skip_all() {
 }
 
 has() { command -v "$1" > /dev/null 2>&1; }
+is_current() {
+    [ -e "$OUT/page.html" ] && [ -z "$(find page.html page.css build.sh src glue ../c/*.[ch] ../c/drivers -newer "$OUT/page.html" -print -quit)" ]
+}
+
 can_build() { has rt && { [ -n "${FLASH_C_MODULE:-}" ] || [ -d ../crates/posix_calls/out/rlib ]; }; }
 
 # The programs that the page is compared with: list, make_image and replay, the last over the files that the module is made of.
@@ -34,8 +38,8 @@ build_native() {
 
 has "$CHROMIUM" || skip_all "there is no $CHROMIUM"
 has node || skip_all "there is no node"
-if [ ! -e "$OUT/page.html" ]; then
-    can_build || skip_all "there is no page, and no module to make it of"
+if ! is_current; then
+    can_build || skip_all "it is not built, and there is no module to make it of"
     bash build.sh || exit 1
 fi
 rm -f "$OUT/native/replay"
@@ -43,4 +47,4 @@ if [ -e "$archive" ] && has "$CC" && ! build_native; then
     printf 'FAIL  the programs that the page is compared with\n0 passed, 1 failed, 0 skipped\n'
     exit 1
 fi
-exec node test/page_tests.js "$OUT"
+exec node test/page_tests.js "$OUT" "$@"

@@ -3,6 +3,8 @@
 const { spawn } = require('node:child_process'), { mkdtempSync, rmSync } = require('node:fs')
 const { tmpdir } = require('node:os'), { join } = require('node:path')
 
+const MOST_TRIES = 400
+
 function start(program) {
   const folder = mkdtempSync(join(tmpdir(), 'page-'))
   const words = ['--headless=new', '--no-sandbox', '--remote-debugging-pipe', `--user-data-dir=${folder}`, 'about:blank']
@@ -46,11 +48,15 @@ async function openPage({ ask }, url, { width = 1400, height = 900, theme = 'lig
   await send('Emulation.setEmulatedMedia', { features })
   await send('Page.navigate', { url })
   const isReady = 'typeof session === "object" && session && typeof view === "object" && view && !busy'
-  const until = async expression => { while (!await value(expression)) await new Promise(done => setTimeout(done, 50)) }
-  const ready = () => until(isReady)
+  const ready = async () => {
+    for (let tries = 0; !await value(isReady); tries++) {
+      if (tries === MOST_TRIES) throw new Error(`the page is not ready: ${await value('document.body.innerText.slice(0, 200)')}`)
+      await new Promise(done => setTimeout(done, 50))
+    }
+  }
   await ready()
   const close = () => ask('Target.closeTarget', { targetId })
-  return { send, value, until, ready, close }
+  return { send, value, ready, close }
 }
 
 module.exports = { start, openPage }

@@ -97,7 +97,7 @@ async function testModule() {
 async function testWords() {
   const words = await page.value('document.body.textContent.replace(/\\s+/g, " ")')
   check(words.includes('the library behind flash_fs.h'), 'the page does not say what runs')
-  check(words.includes('Not covered by a proof: the way from there to WebAssembly'), 'the page does not say what is not proved')
+  check(words.includes('The way from there to WebAssembly is not covered by a proof'), 'the page does not say what is not proved')
   const source = readFileSync(join(out, 'page.html'), 'utf8').replace(/MODULE = "[^"]*"/, '')
   check(!/src=|href="http|fetch\(|import\(/.test(source), 'the page asks for another file')
 }
@@ -124,12 +124,12 @@ async function testStrip() {
   return seconds
 }
 
-// How many points of the strip are red, without the line of the handle.
+// How many points of the strip are red, below the calls and without the line of the handle.
 const redOnStrip = () => page.value(`(() => {
   const { width, height } = $('strip'), points = $('strip').getContext('2d').getImageData(0, 0, width, height).data
   const handle = plot.x(view.call) + plot.step / 2
   let red = 0
-  for (let i = 0; i < points.length; i += 4)
+  for (let i = 4 * width * STRIP_TOP; i < points.length; i += 4)
     if (Math.abs(i / 4 % width - handle) > 9 && points[i] > 150 && points[i + 1] < 100 && points[i + 2] < 90) red++
   return red
 })()`)
@@ -208,7 +208,7 @@ async function testPlantedFaults() {
     await page.value('act(pullAtAll)')
     return page.value(`({ tried: view.results.length, wrong: view.results.filter(result => result.wrong).length, text: $('result').textContent })`)
   }
-  const header = (await page.value('pagesOf(session.before.picture, session.before.tree.find(node => node.path === "/etc/rate").object)'))[0].page
+  const header = await page.value(`(({ picture, tree }) => pagesOf(picture, tree.find(node => node.path === '/etc/rate').object)[0].page)(session.before)`)
   await plant(`kinds[${header}] = 2`)
   const lost = await wrongOnStrip()
   check(lost.wrong > 20 && lost.text.includes('went wrong') && await redOnStrip() > 500, 'a lost page does not turn the strip red:', lost)
@@ -361,7 +361,8 @@ async function testPictures() {
     for (const [width, height] of [[1400, 900], [390, 844]]) {
       const seen = await openPage(browser, url, { width, height, theme })
       await seen.value('act(pullAtAll)')
-      checkEqual(await seen.value('[document.documentElement.dataset.theme, document.documentElement.scrollWidth]'), [theme, width], 'theme and width')
+      checkEqual(await seen.value('document.documentElement.dataset.theme'), theme, 'theme')
+      check(await seen.value('document.documentElement.scrollWidth <= innerWidth'), 'the page is wider than', width)
       const { data } = await seen.send('Page.captureScreenshot', { captureBeyondViewport: width < 600 })
       writeFileSync(join(out, 'pictures', `${theme}-${width}.png`), Buffer.from(data, 'base64'))
       await seen.close()

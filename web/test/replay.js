@@ -22,6 +22,7 @@ async function replay(lines) {
     parts = []
     flash.begin_calls()
   }
+  flash.begin_calls()
   for (const line of lines) {
     const [name, ...words] = line.split(' '), isPath = word => word[0] === '/'
     const numbers = words.filter(word => !isPath(word)).map(Number), paths = words.filter(isPath)

@@ -6,7 +6,7 @@
 const SIZES = [[512, 32, 16], [1024, 32, 20], [512, 64, 12], [2048, 32, 24]]
 const OFTEN = ['open', 'open', 'open', 'open', 'close', 'close', 'read', 'read', 'write', 'write', 'write', 'write', 'write', 'truncate', 'sync',
   'sync', 'stat', 'list', 'space', 'mkdir', 'mkdir', 'rmdir', 'unlink', 'link', 'rename', 'rename']
-const FLAGS = [1, 2, 3, 6, 7, 7, 7, 23, 39, 15, 0, 64]
+const FLAGS = [1, 2, 3, 6, 7, 7, 7, 7, 23, 39, 15, 0], DIRECTORIES = ['dir', 'old'], FILES = ['a', 'b', 'c', 'x.txt', 'n'.repeat(60)]
 
 function source(seed) {
   let state = seed >>> 0
@@ -16,10 +16,11 @@ function source(seed) {
   }
 }
 
-function drawnPath(drawn) {
-  const names = ['a', 'b', 'c', 'dir', 'old', 'x.txt', 'n'.repeat(60)], depth = 1 + (drawn(3) === 0 ? 1 : 0) + (drawn(12) === 0 ? 1 : 0)
-  const path = '/' + Array.from({ length: depth }, () => names[drawn(names.length)]).join('/')
-  return drawn(60) === 0 ? ['/', '//a', '/..', '/a/.', '/dir/'][drawn(5)] : path
+// Most paths lead through names that are likely directories, and end in one that is likely of the kind that is asked for.
+function drawnPath(drawn, isDirectory = false) {
+  const one = names => names[drawn(names.length)], above = Array.from({ length: [0, 0, 1, 2][drawn(4)] }, () => one(DIRECTORIES))
+  if (drawn(60) === 0) return one(['/', '//a', '/..', '/a/.', '/dir/'])
+  return '/' + [...above, one(isDirectory !== (drawn(15) === 0) ? DIRECTORIES : FILES)].join('/')
 }
 
 function drawnWrite(drawn, moment) {
@@ -28,13 +29,13 @@ function drawnWrite(drawn, moment) {
 }
 
 function drawnCommand(drawn) {
-  const moment = drawn(100000), path = () => drawnPath(drawn)
+  const moment = drawn(100000), path = () => drawnPath(drawn), directory = () => drawnPath(drawn, true)
   const commands = {
     open: () => [`open 0 ${FLAGS[drawn(FLAGS.length)]} ${moment} ${path()}`], close: () => [`close 0 ${drawn(4)}`],
     read: () => [`read 0 ${drawn(4)} ${drawn(9000)}`], write: () => drawnWrite(drawn, moment),
     truncate: () => [`truncate 0 ${drawn(4)} ${drawn(9000)} ${moment}`],
-    sync: () => ['sync 0'], stat: () => [`stat 0 ${path()}`], list: () => [`list 0 ${path()}`], space: () => ['space 0'],
-    mkdir: () => [`mkdir 0 ${moment} ${path()}`], rmdir: () => [`rmdir 0 ${moment} ${path()}`], unlink: () => [`unlink 0 ${moment} ${path()}`],
+    sync: () => ['sync 0'], stat: () => [`stat 0 ${path()}`], list: () => [`list 0 ${directory()}`], space: () => ['space 0'],
+    mkdir: () => [`mkdir 0 ${moment} ${directory()}`], rmdir: () => [`rmdir 0 ${moment} ${directory()}`], unlink: () => [`unlink 0 ${moment} ${path()}`],
     link: () => [`link 0 ${moment} ${path()} ${path()}`], rename: () => [`rename 0 ${moment} ${path()} ${path()}`],
   }
   return commands[OFTEN[drawn(OFTEN.length)]]()
@@ -43,7 +44,7 @@ function drawnCommand(drawn) {
 // A power-on session on the flash of the one before: a mount, commands, and an end with power that goes, or an unmount.
 function drawnSession(drawn, count) {
   const lines = ['mount 0']
-  if (drawn(5) > 0) lines.push(`cut 0 ${1 + drawn(count * 5)} ${drawn(4)}`)
+  if (drawn(5) > 0) lines.push(`cut 0 ${1 + drawn(count)} ${drawn(4)}`)
   if (drawn(8) === 0) lines.push('fail_next_program 0')
   for (let i = 0; i < count; i++) lines.push(...drawnCommand(drawn))
   return [...lines, drawn(4) === 0 ? 'unmount 0' : 'abandon 0', 'power_up 0', 'end']

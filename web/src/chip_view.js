@@ -20,7 +20,7 @@ function rounded(c, x, y, width, height, radius) {
   c.roundRect(x, y, width, height, radius)
 }
 
-const LEGS = 12, TOP = 34, BOTTOM = 13, LABELS = 34, LEAST_ROW = 5
+const LEGS = 12, TOP = 34, BOTTOM = 13, LABELS = 34, LEAST_ROW = 4
 let grid
 
 // Where the cells are in a canvas of this size. Rows have a least height: the canvas of a chip with many blocks is higher than its frame.

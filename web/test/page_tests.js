@@ -112,6 +112,17 @@ async function testStoredScript() {
     check(!isPart && keptByHand(at, fate).includes(kept), `call ${at}, fate ${fate}: kept`, { kept, isPart }, 'where it is', keptByHand(at, fate))
 }
 
+// Commands that change nothing are kept only if they were begun: the tree after the first sync is that after the two behind it too.
+async function testBegun() {
+  await startAnew()
+  await page.value('act(fresh)')
+  for (const line of ['mkdir /x', 'sync', 'sync', 'sync', 'mkdir /y', 'sync']) await page.value(`act(() => type('${line}'))`)
+  const cuts = await allCuts(), lineOf = await page.value('session.lineOf'), lastOf = line => lineOf.lastIndexOf(line) + 1
+  cuts.forEach(checkCut)
+  const keptAt = at => cuts.find(cut => cut.at === at && cut.fate === 1).kept
+  checkEqual([keptAt(lastOf(1)), keptAt(lastOf(1) + 1), keptAt(lastOf(5))], [2, 4, 6], 'kept')
+}
+
 // Each bar of the strip is of the colour of what is right.
 async function testStrip() {
   await startAnew()
@@ -175,7 +186,7 @@ async function testFates() {
     checkEqual(image.pages[place].kind, kind, `what fate ${word} leaves`)
   }
   checkEqual(await page.value(`$('fates').children.length`), 4, 'fates that can be chosen')
-  checkEqual(await page.value('[flash.fates(), flash.cut(TRY, 1, 4), tryCut(1, 4)]'), [4, -22, null], 'a fifth fate')
+  checkEqual(await page.value('[flash.fates(), flash.cut(TRY, 1, 4), tryCut(1, 4) === null]'), [4, -22, true], 'a fifth fate')
   const other = await openPage(browser, `${url}#script=mkdir%20/a&line=sync&call=2&fate=4`)
   check((await other.value(`$('verdict').textContent`)).includes('The device has no fate 4'), 'the address with a fifth fate was taken')
   await other.close()
@@ -197,28 +208,23 @@ async function testCells() {
   }
 }
 
-// A page of the tree that is lost after each cut, and a flash that is lost whole, so that the mount fails.
+// After each cut a change of the flash by hand, before the mount: a page is lost, and its group with it; a byte of a file is another, until
+// the script has committed another file in its place; all pages are lost.
 async function testPlantedFaults() {
-  await startAnew()
-  const plant = lost => page.value(`(() => {
-    const real = flash
-    flash = { ...real, power_up: chip => { real.power_up(chip); const kinds = memoryAt(real.kinds(chip), size.pages); ${lost} }, unplanted: real }
-  })()`)
-  const wrongOnStrip = async () => {
+  const place = chunk => `pagesOf(session.before.picture, session.before.tree.find(node => node.path === '/etc/rate').object)[${chunk}].page`
+  for (const [change, words, least] of [
+    [`memoryAt(real.kinds(chip), size.pages)[${place(0)}] = 2`, 'The mount failed', 40],
+    [`memoryAt(real.data(chip), size.pages * size.pageBytes)[${place(1)} * size.pageBytes] ^= 1`, 'The tree is that after no first part', 40],
+    ['memoryAt(real.kinds(chip), size.pages).fill(2)', 'The mount failed', 4 * SCRIPT_CALLS]]) {
+    await startAnew()
+    await page.value(`(real => { flash = { ...real, power_up: chip => { real.power_up(chip); ${change} }, unplanted: real } })(flash)`)
     await page.value('act(pullAtAll)')
-    return page.value(`({ tried: view.results.length, wrong: view.results.filter(result => result.wrong).length, text: $('result').textContent })`)
+    const { wrong, said } = await page.value(`({ wrong: view.results.filter(result => result.wrong).length, said: $('result').textContent })`)
+    check(wrong >= least && said.includes(`went wrong: ${words}`) && await redOnStrip() > 500, 'a planted fault does not turn the strip red:', { wrong, said })
+    await page.value('choose(1)')
+    const isSaid = `$('verdict').textContent.includes('${words}') && $('verdict').firstChild.classList.contains('wrong')`
+    check(await page.value(isSaid), 'the verdict of a planted fault')
   }
-  const header = await page.value(`(({ picture, tree }) => pagesOf(picture, tree.find(node => node.path === '/etc/rate').object)[0].page)(session.before)`)
-  await plant(`kinds[${header}] = 2`)
-  const lost = await wrongOnStrip()
-  check(lost.wrong > 20 && lost.text.includes('went wrong') && await redOnStrip() > 500, 'a lost page does not turn the strip red:', lost)
-  await startAnew()
-  await plant('kinds.fill(2)')
-  const none = await wrongOnStrip()
-  check(none.wrong === none.tried && none.text.includes('The mount failed'), 'mounts that fail do not turn the strip red:', none)
-  await page.value('look()')
-  const isSaid = `$('verdict').textContent.includes('The mount failed') && $('verdict').firstChild.classList.contains('wrong')`
-  check(await page.value(isSaid), 'the verdict of a mount that failed')
 }
 
 // Bad blocks, by any byte but 0, and lost pages, by any kind above 1, are drawn so.
@@ -375,6 +381,7 @@ async function main() {
   await run('the module has no import, and its size', testModule)
   await run('what the page says of itself', testWords)
   await run('the stored script, by hand', testStoredScript)
+  await run('no more is kept than was begun', testBegun)
   await run('the strip of the stored script is green', testStrip)
   await run('fates', testFates)
   await run('cells in the tree, by the format', testCells)

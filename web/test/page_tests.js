@@ -25,9 +25,9 @@ async function run(name, test) {
   if (!name.includes(wanted)) return
   const begun = performance.now()
   try {
-    await test()
+    const counted = await test(), seconds = ((performance.now() - begun) / 1000).toFixed(1)
     counts.passed++
-    console.log(`ok    ${name} (${((performance.now() - begun) / 1000).toFixed(1)} s)`)
+    console.log(`ok    ${name} (${counted ? `${counted}, ` : ''}${seconds} s)`)
   } catch (error) {
     counts.failed++
     console.log(`FAIL  ${name}\n${error.message}`)
@@ -132,7 +132,7 @@ async function testStrip() {
   checkEqual({ tried, wrong }, { tried: 4 * SCRIPT_CALLS, wrong: 0 }, 'the strip')
   check(said.includes('Each mount showed the tree after some first part of the commands, at least the synced ones'), said)
   check(await redOnStrip() < 60, 'there is red beside the handle')
-  return seconds
+  return `${tried} cuts in ${seconds} s`
 }
 
 // How many points of the strip are red, below the calls and without the line of the handle.
@@ -164,8 +164,9 @@ const drawSession = seed => page.value(`(() => {
 })()`)
 
 async function testDrawnSessions() {
+  await startAnew()
   const total = { cuts: 0, erases: 0, marks: 0 }
-  for (let seed = 1; seed <= 8; seed++) {
+  for (let seed = 1; seed <= 16; seed++) {
     const { lines, kinds } = await drawSession(seed * 7919), cuts = await allCuts()
     try { cuts.forEach(checkCut) } catch (error) { throw new Error(`seed ${seed}, ${lines.join('; ')}\n${error.message}`) }
     total.cuts += cuts.length
@@ -173,6 +174,7 @@ async function testDrawnSessions() {
     total.marks += kinds[5]
   }
   check(total.cuts > 1000 && total.erases > 10 && total.marks > 0, 'the sessions do too little:', total)
+  return `${total.cuts} cuts, ${total.erases} erases, ${total.marks} marks`
 }
 
 // What a fate leaves of a page that was to be programmed, by flash_fs.h: erased, written or uncorrectable; and no fate is taken that no device has.
@@ -308,6 +310,16 @@ async function testSteps() {
   check(about.endsWith(words(tag)), 'the tag under the pointer:', about, 'where it is', words(tag))
 }
 
+// What the plug shows when it is pulled slowly is what a mount shows at once.
+async function testPull() {
+  await startAnew()
+  await page.value('view.fate = 1; choose(25)')
+  const seen = `[$('verdict').textContent, view.shown.key, view.power, [...document.querySelectorAll('#lines .kept')].length]`, wanted = await page.value(seen)
+  checkEqual(wanted.slice(2), [true, 7], 'power, and the lines that are kept')
+  await page.value('act(pull)')
+  checkEqual(await page.value(seen), wanted, 'after the plug was pulled')
+}
+
 async function testCosts() {
   await startAnew()
   await page.value('settle(session.now)')
@@ -391,6 +403,7 @@ async function main() {
   await run('what is no image', testRefusedImages)
   await runNative('images, with C', testImages)
   await run('steps and tags', testSteps)
+  await run('the plug is pulled', testPull)
   await run('what the flash did', testCosts)
   await run('a link', testAddress)
   await run('keyboard and names', testKeyboard)

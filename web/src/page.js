@@ -74,7 +74,8 @@ function listenToPage() {
     document.documentElement.dataset.theme = document.documentElement.dataset.theme === 'dark' ? 'light' : 'dark'
     draw()
   }
-  window.onresize = draw
+  const sizes = new ResizeObserver(draw)
+  for (const id of ['frame', 'strip']) sizes.observe($(id))
 }
 
 // The script of the address, or the stored one. An address that is none is shown with its error.

@@ -119,7 +119,7 @@ function showCall() {
   $('call').textContent = view.call
   $('what').textContent = ` of ${count.toLocaleString('en')}, ${where} ${changes(call) ? 'It is left' : 'It touches nothing.'}`
   const tag = tagOfCall(view.call)
-  $('tag').textContent = tag ? `The page: ${describeTag(tag)}.` : ''
+  $('tag').textContent = tag ? `${changes(call) ? 'To be written' : 'The page'}: ${describeTag(tag)}.` : ''
   showFates(call)
   const cut = view.cut ? ` ${$('verdict').textContent}` : ''
   strip.setAttribute('aria-valuetext', `Call ${view.call} of ${count}, ${where}${cut}`)

@@ -299,7 +299,7 @@ async function testSteps() {
   for (let call = 1; call < program; call++) await page.value(`$('forward').click()`)
   const place = await page.value(`placeOf(session.calls[${program - 1}])`), tag = readImage(await imageNow({ at: program, fate: 1 })).pages[place]
   const words = tag => `object ${tag.object}, chunk ${tag.chunk}, version ${tag.version}, group ${tag.group}, seq ${tag.seq}`
-  checkEqual(await page.value(`[view.call, $('tag').textContent]`), [program, `The page: ${words(tag)}.`], 'the step to the first program')
+  checkEqual(await page.value(`[view.call, $('tag').textContent]`), [program, `To be written: ${words(tag)}.`], 'the step to the first program')
   await page.value(`$('fates').children[1].click()`)
   const inside = await page.value(`(() => {
     const box = $('cells').getBoundingClientRect(), [x, y] = cellAt(blockAt(${place}), pageIn(${place}))

@@ -42,7 +42,7 @@ retarget() {
         -e '/^attributes /s/ "\(probe-stack\|stack-probe-size\|target-cpu\|frame-pointer\)"="[^"]*"//g' \
         -e '/^declare .*@llvm\.aarch64\.neon\.addp/d; s/@llvm\.aarch64\.neon\.addp\.v16i8/@add_neighbours/g' "$OUT/flash_c.ll" > "$2"
     add_neighbours >> "$2"
-    if grep -q -e '@llvm\.aarch64' -e '"target-features"' "$2"; then
+    if grep -i -e 'aarch64' -e 'neon' -e ' asm ' -e '"target-' "$2" >&2; then
         echo "the module has more of its processor by name than is known here" >&2
         return 1
     fi

@@ -74,12 +74,14 @@ function listenToPage() {
     document.documentElement.dataset.theme = document.documentElement.dataset.theme === 'dark' ? 'light' : 'dark'
     draw()
   }
+  window.onhashchange = () => act(firstScript)
   const sizes = new ResizeObserver(draw)
   for (const id of ['frame', 'strip']) sizes.observe($(id))
 }
 
 // The script of the address, or the stored one. An address that is none is shown with its error.
 async function firstScript() {
+  makeBase()
   try {
     const found = fromAddress(location.hash)
     await (found ? runScript(found.lines, found.call, found.fate) : runScript())

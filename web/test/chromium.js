@@ -9,12 +9,13 @@ function start(program) {
   const folder = mkdtempSync(join(tmpdir(), 'page-'))
   const words = ['--headless=new', '--no-sandbox', '--remote-debugging-pipe', `--user-data-dir=${folder}`, 'about:blank']
   const browser = spawn(program, words, { stdio: ['ignore', 'ignore', 'ignore', 'pipe', 'pipe'] })
-  const waiting = new Map()
+  const waiting = new Map(), thrown = []
   let text = '', last = 0
   browser.stdio[4].on('data', bytes => {
     const parts = (text += bytes).split('\0')
     text = parts.pop()
-    for (const { id, result, error } of parts.map(part => JSON.parse(part))) {
+    for (const { id, result, error, method, params } of parts.map(part => JSON.parse(part))) {
+      if (method === 'Runtime.exceptionThrown') thrown.push(params.exceptionDetails.exception?.description ?? params.exceptionDetails.text)
       if (waiting.has(id)) waiting.get(id)({ result, error })
       waiting.delete(id)
     }
@@ -30,10 +31,10 @@ function start(program) {
     browser.on('exit', () => { rmSync(folder, { recursive: true, force: true, maxRetries: 5 }); done() })
     browser.kill()
   })
-  return { ask, stop }
+  return { ask, stop, thrown }
 }
 
-// Opens an address in a window of this size and theme. `value` is what an expression of the page has, once a promise of it is kept.
+// Opens an address in a window of this size and theme. What its script throws and does not catch goes to `thrown`. `value` is what an expression of the page has, once a promise of it is kept.
 async function openPage({ ask }, url, { width = 1400, height = 900, theme = 'light' } = {}) {
   const { targetId } = await ask('Target.createTarget', { url: 'about:blank' })
   const { sessionId } = await ask('Target.attachToTarget', { targetId, flatten: true })
@@ -46,6 +47,7 @@ async function openPage({ ask }, url, { width = 1400, height = 900, theme = 'lig
   await send('Emulation.setDeviceMetricsOverride', { width, height, deviceScaleFactor: 1, mobile: width < 600 })
   const features = [{ name: 'prefers-color-scheme', value: theme }, { name: 'prefers-reduced-motion', value: 'reduce' }]
   await send('Emulation.setEmulatedMedia', { features })
+  await send('Runtime.enable')
   await send('Page.navigate', { url })
   const isReady = 'typeof session === "object" && session && typeof view === "object" && view && !busy'
   const ready = async () => {

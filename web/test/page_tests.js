@@ -336,6 +336,10 @@ async function testAddress() {
   const seen = '[session.lines, view.call, view.fate, $("verdict").textContent, view.shown.tree.map(node => node.path)]'
   checkEqual(await other.value(seen), await page.value(seen), 'a page that was opened at an address')
   checkEqual(await other.value('session.lines'), ['mkdir /a&b', 'write /a&b/c 50% + #1', 'sync'], 'the lines of an address')
+  await other.value(`location.hash = '#script=mkdir%20/q&call=1&fate=0'`)
+  await new Promise(done => setTimeout(done, 100))
+  await other.ready()
+  checkEqual(await other.value('[session.lines, view.fate]'), [['mkdir /q'], 0], 'another address in the same page')
   await other.close()
 }
 
@@ -409,6 +413,7 @@ async function main() {
   await run('keyboard and names', testKeyboard)
   await runNative('10,000 commands with cuts, as on the host', testReplay)
   await run('pictures', testPictures)
+  await run('no page threw', async () => checkEqual(browser.thrown, [], 'thrown'))
   await browser.stop()
   rmSync(work, { recursive: true, force: true })
   console.log(`${counts.passed} passed, ${counts.failed} failed, ${counts.skipped} skipped`)

@@ -65,7 +65,7 @@ function touchedBy(call) {
 
 // Shows what was found: after a cut, or now.
 function settle(found, cut = null) {
-  Object.assign(view, { cut, shown: found, picture: copyOf(found.picture), running: -1, saying: null, power: true,
+  Object.assign(view, { cut, shown: found, picture: copyOf(found.picture), running: -1, saying: null, power: true, marked: new Set(),
     touched: cut && touchedBy(session.calls[cut.at - 1]) })
   show()
 }
@@ -138,7 +138,7 @@ async function type(typed, milliseconds = 420) {
   const from = session.calls.length, picture = copyOf(session.now.picture), code = add(line)
   if (code < 0) return refuse(line, code)
   const call = Math.max(1, Math.min(view.call, session.calls.length))
-  Object.assign(view, { results: [], call, cut: null, running: session.lines.length - 1, picture, touched: null, marked: new Set() })
+  Object.assign(view, { results: [], call, cut: null, running: session.lines.length - 1, picture, touched: null })
   $('result').replaceChildren(HINT)
   show()
   if (await play(session.calls.subarray(from), session.calls.length === from ? milliseconds * 0.4 : milliseconds)) settle(session.now)
@@ -166,7 +166,6 @@ function look() {
   turn++
   if (session.calls.length === 0) return
   const cut = tryCut(view.call, view.fate)
-  view.marked = new Set()
   settle(cut, cut)
   writeAddress()
 }

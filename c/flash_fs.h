@@ -1,24 +1,31 @@
 /* A file system for raw NAND flash.
  *
  * Functions return 0, or a number that is not negative (a descriptor, a count of bytes, an offset), or one of the FLASH_E*
- * numbers, which are negative. A function that returns an error has changed nothing, but for FLASH_EIO.
+ * numbers, which are negative. A call on a mounted volume that returns an error has changed nothing, but for FLASH_EIO; what a
+ * format, a mount and an unmount leave after an error is said with them.
  *
  * Any function on a volume may return, besides what is said with it:
  *   FLASH_EINVAL  the volume is not mounted;
  *   FLASH_EIO     the device lost power or failed beyond repair. The volume is stopped: it returns FLASH_EIO to each call
  *                 until it is ended by flash_fs_unmount or flash_fs_abandon and mounted again;
- *   FLASH_ENOMEM  memory was refused to the library in this call (never by close, seek, fsync, sync and space).
- * Functions that change the volume may return FLASH_EROFS, of a volume that can only be read, and FLASH_ENOSPC.
+ *   FLASH_ENOMEM  memory was refused to the library in this call (never by close, seek, fsync, sync, space and fstat).
+ * Functions that change the volume may return FLASH_EROFS, of a volume that can only be read, and FLASH_ENOSPC: never unlink,
+ * rmdir, and a truncate that does not lengthen, which are the way out of a full volume, nor close, fsync and sync.
+ *
+ * Of a volume that is stopped or not mounted, FLASH_EINVAL of flags or a whence that are none comes first, then FLASH_ENOMEM of
+ * a path that is copied, then these errors; a stopped volume may return FLASH_ENOMEM to a write too.
  *
  * A path is bytes up to a zero, as "/logs/today": at most 4,095, in each component at most 255. Every path starts at the root.
- * A moment is any number; it is kept with what a call changes, as the time of its last change.
+ * A moment is any number of 64 bits, as the seconds since 1970: the library has no clock. It is kept with what a call changes,
+ * as the time of its last change: with a new object, with a file that is written, cut or lengthened, and with each directory
+ * in which a name is added, removed or replaced.
  *
  * What was written lies in memory until a sync, an fsync or an unmount, or until it is more than the buffer holds. After a loss
  * of power a mount shows the tree after some number of the calls, in their order, and at least after all that a completed
  * sync or fsync covers: either of them makes durable everything that was done before it, in all files.
  *
  * One thread at a time may be in a function of this header, whatever volume it is called for. No pointer is null, but for
- * the buffer of a read or a write of 0 bytes.
+ * the buffer of a read, a write or a list of 0 bytes.
  */
 #ifndef FLASH_FS_H
 #define FLASH_FS_H
@@ -41,14 +48,14 @@ enum {
     FLASH_EIO = -5,           /* the device lost power or failed: the volume is stopped */
     FLASH_EBADF = -9,         /* no such descriptor, or not opened for this */
     FLASH_ENOMEM = -12,       /* memory was refused */
-    FLASH_EBUSY = -16,        /* the volume is mounted already; the root cannot be removed or renamed */
+    FLASH_EBUSY = -16,        /* the volume, or one of its driver, is mounted; the root cannot be removed or renamed */
     FLASH_EEXIST = -17,       /* the name exists already */
     FLASH_ENOVOLUME = -19,    /* the device holds no volume */
     FLASH_ENOTDIR = -20,      /* a file where a directory is needed */
     FLASH_EISDIR = -21,       /* a directory where a file is needed */
     FLASH_EINVAL = -22,       /* an argument that no call takes, or a volume that is not mounted */
-    FLASH_EMFILE = -24,       /* all 64 descriptors are open, or all FLASH_VOLUMES volumes are mounted */
-    FLASH_EFBIG = -27,        /* past the greatest length of a file */
+    FLASH_EMFILE = -24,       /* all 64 descriptors of the volume are open, or all FLASH_VOLUMES volumes are mounted */
+    FLASH_EFBIG = -27,        /* past the greatest length of a file, which is given at flash_fs_write */
     FLASH_ENOSPC = -28,       /* the volume is full; in a format: too few good blocks */
     FLASH_EROFS = -30,        /* the volume can only be read */
     FLASH_ERANGE = -34,       /* the buffer is too small for the names */
@@ -69,7 +76,8 @@ enum { FLASH_ERASED = 0, FLASH_WRITTEN = 1, FLASH_UNCORRECTABLE = 2 };
 /* What a program, an erase and a mark return; a mark only the first. */
 enum { FLASH_DONE = 0, FLASH_FAILED = 1 };
 
-/* A driver of a NAND flash. The struct and its context stay as they are while a volume over it is mounted.
+/* A driver of a NAND flash. The struct and its context stay as they are while a volume over it is mounted, and only one is: two
+ * drivers are of the same flash if they are one struct, or have the same context and the same program function.
  *
  * A function that returns a number other than those it may return, as -1, reports a loss of power: nothing is asked of the
  * driver after that until the next format or mount.
@@ -78,7 +86,7 @@ enum { FLASH_DONE = 0, FLASH_FAILED = 1 };
  *   - a block is below `blocks`, a page below `block_pages`;
  *   - a page is programmed only if its block is not marked bad and was erased since the format or mount began, with
  *     FLASH_DONE, and only the first page after that or the one after the last that was programmed, with FLASH_DONE;
- *   - `data` points to page_bytes bytes, `tag` to FLASH_TAG_BYTES.
+ *   - `data` points to page_bytes bytes, `tag` to FLASH_TAG_BYTES, at any address: of no alignment.
  *
  * The driver promises this, and no proof reaches it:
  *   - a page whose program returned FLASH_DONE reads as FLASH_WRITTEN with that data and that tag until its block is erased:
@@ -121,29 +129,32 @@ struct flash_driver {
 
 #define FLASH_FS_BYTES 1024
 
-/* A volume. It is zero before its first use: `struct flash_fs fs = {0}`, or a static one. What is inside is the library's; a
- * mounted volume is not copied or moved.
+/* A volume. It is zero before its first use: `struct flash_fs fs = {0}`, or a static one. It lies at a multiple of 16, as the
+ * compiler places it; in memory of an allocator that gives less, a format and a mount return FLASH_EINVAL. What is inside is
+ * the library's; a mounted volume is not copied or moved.
  */
 struct flash_fs {
     FLASH_ALIGNED unsigned char opaque[FLASH_FS_BYTES];
 };
 
 /* Makes the device an empty volume with so many blocks to spare for those that go bad, spare + 4 at most `blocks`. The volume
- * is not mounted by this; what the device held before is gone. If power goes during a format, format again.
- * Errors: EBUSY the volume is mounted; EINVAL sizes out of range, or too many spare blocks; ENOSPC too few good blocks;
- * EIO; ENOMEM; EMFILE.
+ * is not mounted by this; what the device held before is gone. If power goes during a format, format again. Errors: EBUSY the
+ * volume, or another of the driver, is mounted; EINVAL sizes out of range, too many spare blocks, or an address of `fs`;
+ * ENOMEM; EMFILE: nothing was erased. ENOSPC too few good blocks; EIO: what the device held may be gone.
  */
 int flash_fs_format(struct flash_fs *fs, const struct flash_driver *driver, uint32_t spare);
 
-/* Mounts the volume of a device. It only reads: a tag once at most, and the pages of directories and headers. It takes
- * memory by the number of pages that are in use, which an unmount or an abandon gives back.
- * Errors: EBUSY the volume is mounted; EINVAL sizes out of range; ENOVOLUME, ENEWER, EDAMAGED what the device holds; EIO;
- * ENOMEM; EMFILE. After an error the volume is not mounted.
+/* Mounts the volume of a device. It only reads: after an unmount mostly the tag of the first page of each block, and some
+ * pages of a list of the pages in use; else that tag twice and every other tag once. Besides these it reads about a page for
+ * each file, and those of directories. It takes memory by the number of pages that are in use, which an unmount or an abandon
+ * gives back. Errors: EBUSY the volume, or another of the driver, is mounted; EINVAL sizes out of range, or an address of
+ * `fs`; ENOVOLUME, ENEWER, EDAMAGED what the device holds; EIO; ENOMEM; EMFILE. After an error the volume is not mounted,
+ * unless it was before.
  */
 int flash_fs_mount(struct flash_fs *fs, const struct flash_driver *driver);
 
-/* The same, with a cache of at most so many pages that were read, one at least; flash_fs_mount takes 16. A cached page takes page_bytes and
- * some forty bytes.
+/* The same, with a cache of at most so many pages that were read, one at least; flash_fs_mount takes 16. A cached page takes
+ * page_bytes and some forty bytes.
  */
 int flash_fs_mount_with(struct flash_fs *fs, const struct flash_driver *driver, uint32_t cache_pages);
 
@@ -155,12 +166,12 @@ int flash_fs_unmount(struct flash_fs *fs);
 /* Ends the mount and writes nothing, as if power were lost. Nothing is done to a volume that is not mounted. */
 void flash_fs_abandon(struct flash_fs *fs);
 
-/* Whether the volume can only be read: 1, or 0. It is so from the mount on where the device is worn out. Errors: EINVAL not
- * mounted.
+/* Whether the volume can only be read: 1, or 0; FLASH_EINVAL where it is not mounted. It is so from the mount on where the
+ * device is worn out.
  */
 int flash_fs_read_only(struct flash_fs *fs);
 
-/* Whether the volume has stopped, and returns FLASH_EIO to each call: 1, or 0. Errors: EINVAL not mounted. */
+/* Whether the volume has stopped, and returns FLASH_EIO to each call: 1, or 0; FLASH_EINVAL where it is not mounted. */
 int flash_fs_stopped(struct flash_fs *fs);
 
 /* ---- Directories and names ---- */
@@ -205,7 +216,8 @@ int flash_fs_rename(struct flash_fs *fs, const char *old_path, const char *new_p
 int flash_fs_stat(struct flash_fs *fs, const char *path, struct flash_info *info);
 
 /* Fills the buffer with the names in a directory, in the order of their bytes, each with a zero after it; returns how many
- * bytes they take. Errors: ERANGE the names take more than `size` bytes (the buffer stays as it was); ENOTDIR; ENOENT.
+ * bytes they take. Errors: ERANGE the names take more than `size` bytes (the buffer stays as it was); ENOTDIR; ENOENT. With a
+ * size of 0 it asks whether there are any.
  */
 int64_t flash_fs_list(struct flash_fs *fs, const char *path, char *buffer, size_t size);
 
@@ -230,9 +242,9 @@ enum {
 /* Where a seek counts from. */
 enum { FLASH_SEEK_SET = 0, FLASH_SEEK_CUR = 1, FLASH_SEEK_END = 2 };
 
-/* Opens a file, or a directory for reading, and returns the least descriptor that is free, 0 to 63, at offset 0. With
- * FLASH_CREAT a file that is not there is made; with FLASH_TRUNC its bytes are cut. Errors: ENOENT; EEXIST with FLASH_CREAT and
- * FLASH_EXCL; EISDIR; EMFILE 64 are open; EINVAL FLASH_TRUNC without FLASH_WRONLY, or flags that are none.
+/* Opens a file, or a directory for reading, and returns the least descriptor of this volume that is free, 0 to 63, at offset
+ * 0. With FLASH_CREAT a file that is not there is made; with FLASH_TRUNC its bytes are cut. Errors: ENOENT; EEXIST with
+ * FLASH_CREAT and FLASH_EXCL; EISDIR; EMFILE 64 are open; EINVAL FLASH_TRUNC without FLASH_WRONLY, or flags that are none.
  */
 int flash_fs_open(struct flash_fs *fs, const char *path, uint32_t flags, uint64_t moment);
 
@@ -245,11 +257,25 @@ int flash_fs_close(struct flash_fs *fs, int fd);
 int64_t flash_fs_read(struct flash_fs *fs, int fd, void *buffer, size_t size);
 
 /* Writes at the offset, or with FLASH_APPEND at the end of the file, and moves the offset behind. A gap before it reads as
- * zeros. Returns how many bytes were written: fewer than `size` where an error came after them, which the next call
- * returns, or where the file cannot grow further. A write is not one step: power that goes may leave a part of it, from its
- * beginning. Errors: EBADF; EFBIG; ENOSPC.
+ * zeros. Returns how many bytes were written: fewer than `size` where the volume has room for no more (then another write
+ * returns ENOSPC), where the file cannot grow further (EFBIG), where the volume stopped (EIO), or where memory was refused,
+ * which another call may be given. A file has at most 8 * (D - 32) * D bytes for pages of D: 1.9 MiB of 512, 7.75 of 1024,
+ * 31.5 of 2048, 127 of 4096. A write of at most (P / 4 - 3) * D bytes, in blocks of P pages, that is written whole is one
+ * step. A longer one is not: power that goes may leave a part of it, from its beginning. Errors: EBADF; EFBIG; ENOSPC.
  */
 int64_t flash_fs_write(struct flash_fs *fs, int fd, const void *bytes, size_t size, uint64_t moment);
+
+/* A read and a write at an offset of their own: the descriptor's offset stays. With FLASH_APPEND a write goes to the end of
+ * the file all the same, as on Linux. Else they are as flash_fs_read and flash_fs_write. Errors: those of a read and a write
+ * of no bytes, and then EINVAL the offset is negative; EFBIG and ENOSPC of a write.
+ */
+int64_t flash_fs_pread(struct flash_fs *fs, int fd, void *buffer, size_t size, int64_t offset);
+int64_t flash_fs_pwrite(struct flash_fs *fs, int fd, const void *bytes, size_t size, int64_t offset, uint64_t moment);
+
+/* Reports what a descriptor stands for, as flash_fs_stat does of a path, also where its last name is gone. It asks the driver
+ * nothing. Errors: EBADF.
+ */
+int flash_fs_fstat(struct flash_fs *fs, int fd, struct flash_info *info);
 
 /* Moves the offset and returns it; the file does not grow. Errors: EBADF; EINVAL before 0, of a directory, or a whence that is
  * none; EOVERFLOW.

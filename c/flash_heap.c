@@ -73,10 +73,10 @@ static void count(size_t more, size_t fewer)
         peak_bytes = used_bytes;
 }
 
-/* The size of a block for so many bytes; 0 if the region is smaller. */
+/* The size of a block for so many bytes; 0 if the region is smaller, or none was given. */
 static size_t size_for(size_t bytes)
 {
-    if (bytes > (size_t)(end - first))
+    if (first == NULL || bytes > (size_t)(end - first))
         return 0;
     return bytes == 0 ? 2 * UNIT : (bytes + 2 * UNIT - 1) / UNIT * UNIT;
 }
@@ -84,7 +84,7 @@ static size_t size_for(size_t bytes)
 struct flash_memory flash_memory_alloc(size_t bytes, size_t align)
 {
     size_t size = size_for(bytes);
-    if (first == NULL || size == 0 || align > UNIT)
+    if (size == 0 || align > UNIT)
         return refused;
     for (struct block *block = (struct block *)(void *)first; block != NULL; block = after(block)) {
         if (block->used)

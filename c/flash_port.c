@@ -21,7 +21,6 @@
 
 #include <assert.h>
 #include <string.h>
-#include <sys/types.h>
 
 /* ---- What libflash_c.a exports. A slice is a pointer and a length; no pointer is null. */
 
@@ -47,6 +46,8 @@ int64_t flash_open(struct flash_slot *slot, const uint8_t *path, size_t length, 
 int flash_close(struct flash_slot *slot, uint32_t fd);
 int64_t flash_read(struct flash_slot *slot, uint32_t fd, uint8_t *buffer, size_t size);
 int64_t flash_write(struct flash_slot *slot, uint32_t fd, const uint8_t *bytes, size_t size, uint64_t moment);
+int64_t flash_pread(struct flash_slot *slot, uint32_t fd, uint8_t *buffer, size_t size, int64_t offset);
+int64_t flash_pwrite(struct flash_slot *slot, uint32_t fd, const uint8_t *bytes, size_t size, int64_t offset, uint64_t moment);
 int64_t flash_seek(struct flash_slot *slot, uint32_t fd, int64_t offset, uint32_t whence);
 int flash_truncate(struct flash_slot *slot, uint32_t fd, int64_t length, uint64_t moment);
 int flash_fsync(struct flash_slot *slot, uint32_t fd);
@@ -59,13 +60,14 @@ int flash_link(struct flash_slot *slot, const uint8_t *old_path, size_t old_leng
 int flash_rename(struct flash_slot *slot, const uint8_t *old_path, size_t old_length, const uint8_t *new_path,
                  size_t new_length, uint64_t moment);
 int flash_stat(struct flash_slot *slot, const uint8_t *path, size_t length, struct flash_info *info);
+int flash_fstat(struct flash_slot *slot, uint32_t fd, struct flash_info *info);
 int64_t flash_list(struct flash_slot *slot, const uint8_t *path, size_t length, uint8_t *buffer, size_t size);
 int flash_space(struct flash_slot *slot, struct flash_space *space);
 
 /* ---- What the library is given by this file. */
 
-ssize_t flash_port_write(int stream, const void *bytes, size_t size);
-ssize_t flash_port_read(int stream, void *bytes, size_t size);
+int64_t flash_port_write(int stream, const void *bytes, size_t size);
+int64_t flash_port_read(int stream, void *bytes, size_t size);
 int flash_port_close(int stream);
 int32_t rattle_errno(void);
 
@@ -95,9 +97,12 @@ static struct volume *volume_of(struct flash_fs *fs)
     return (struct volume *)(void *)fs->opaque;
 }
 
+/* The slot of a volume. Its memory is where it is, also of one that is zero: the library may look at it. */
 static struct flash_slot *slot_of(struct flash_fs *fs)
 {
-    return &volume_of(fs)->slot;
+    struct volume *volume = volume_of(fs);
+    volume->slot.at = volume->session;
+    return &volume->slot;
 }
 
 /* ---- Streams. Their numbers begin at a number that no file of a system is likely to have. */
@@ -111,14 +116,30 @@ static struct volume *volume_at(int stream)
     return stream >= FIRST_STREAM && stream < FIRST_STREAM + FLASH_VOLUMES ? streams[stream - FIRST_STREAM] : NULL;
 }
 
+/* Whether two drivers are of one flash. */
+static bool is_same(const struct flash_driver *one, const struct flash_driver *other)
+{
+    return one == other || (one->context == other->context && one->program == other->program);
+}
+
+/* Whether a volume of the driver is mounted. */
+static bool is_mounted(const struct flash_driver *driver)
+{
+    for (int i = 0; i < FLASH_VOLUMES; i++)
+        if (streams[i] != NULL && is_same(streams[i]->driver, driver))
+            return true;
+    return false;
+}
+
 static int open_stream(struct volume *volume, const struct flash_driver *driver)
 {
+    if (is_mounted(driver))
+        return FLASH_EBUSY;
     if (flash_port_bytes() != sizeof volume->stream || flash_slot_bytes() > sizeof volume->session)
         return FLASH_EINVAL; /* this file is not of this library */
     for (int i = 0; i < FLASH_VOLUMES; i++)
         if (streams[i] == NULL) {
             streams[i] = volume;
-            volume->slot.at = volume->session;
             volume->driver = driver;
             volume->stream = FIRST_STREAM + i;
             volume->expected = EXPECTS_HEAD;
@@ -187,7 +208,7 @@ static void begin(struct volume *volume)
     }
 }
 
-ssize_t flash_port_write(int stream, const void *bytes, size_t size)
+int64_t flash_port_write(int stream, const void *bytes, size_t size)
 {
     struct volume *volume = volume_at(stream);
     if (volume == NULL)
@@ -213,13 +234,13 @@ ssize_t flash_port_write(int stream, const void *bytes, size_t size)
         volume->expected = EXPECTS_HEAD;
         volume->returned = checked(driver->program(driver->context, number_at(volume->head + 4),
                                                    number_at(volume->head + 8), bytes, volume->tag));
-        return (ssize_t)size;
+        return (int64_t)size;
     }
     return -1;
 }
 
 /* A page is read by the driver to where the library wants it. */
-ssize_t flash_port_read(int stream, void *bytes, size_t size)
+int64_t flash_port_read(int stream, void *bytes, size_t size)
 {
     struct volume *volume = volume_at(stream);
     if (volume == NULL || size == 0)
@@ -235,33 +256,35 @@ ssize_t flash_port_read(int stream, void *bytes, size_t size)
     if (volume->head[0] == 'R' && size == driver->page_bytes) {
         volume->returned = checked(driver->read_page(driver->context, number_at(volume->head + 4),
                                                      number_at(volume->head + 8), answer, volume->tag));
-        return volume->returned < 0 ? -1 : (ssize_t)size;
+        return volume->returned < 0 ? -1 : (int64_t)size;
     }
     if (volume->returned < 0 || (size != 1 && size != 1 + FLASH_TAG_BYTES))
         return -1;
     answer[0] = (uint8_t)volume->returned;
     memcpy(answer + 1, volume->tag, size - 1);
-    return (ssize_t)size;
+    return (int64_t)size;
 }
 
 /* ---- Volumes */
 
+/* Opens the device of a volume that is not mounted. */
+static int open_device(struct flash_fs *fs, const struct flash_driver *driver)
+{
+    if ((uintptr_t)fs % _Alignof(struct flash_fs) != 0)
+        return FLASH_EINVAL;
+    return slot_of(fs)->full ? FLASH_EBUSY : open_stream(volume_of(fs), driver);
+}
+
 int flash_fs_format(struct flash_fs *fs, const struct flash_driver *driver, uint32_t spare)
 {
-    struct volume *volume = volume_of(fs);
-    if (volume->slot.full)
-        return FLASH_EBUSY;
-    int code = open_stream(volume, driver);
-    return code < 0 ? code : flash_format((struct flash_port){&volume->stream}, spare);
+    int code = open_device(fs, driver);
+    return code < 0 ? code : flash_format((struct flash_port){&volume_of(fs)->stream}, spare);
 }
 
 int flash_fs_mount_with(struct flash_fs *fs, const struct flash_driver *driver, uint32_t cache_pages)
 {
-    struct volume *volume = volume_of(fs);
-    if (volume->slot.full)
-        return FLASH_EBUSY;
-    int code = open_stream(volume, driver);
-    return code < 0 ? code : flash_mount_with(&volume->slot, (struct flash_port){&volume->stream}, cache_pages);
+    int code = open_device(fs, driver);
+    return code < 0 ? code : flash_mount_with(slot_of(fs), (struct flash_port){&volume_of(fs)->stream}, cache_pages);
 }
 
 int flash_fs_mount(struct flash_fs *fs, const struct flash_driver *driver)
@@ -323,9 +346,15 @@ int flash_fs_stat(struct flash_fs *fs, const char *path, struct flash_info *info
     return flash_stat(slot_of(fs), PATH(path), info);
 }
 
+int flash_fs_fstat(struct flash_fs *fs, int fd, struct flash_info *info)
+{
+    return flash_fstat(slot_of(fs), (uint32_t)fd, info);
+}
+
 int64_t flash_fs_list(struct flash_fs *fs, const char *path, char *buffer, size_t size)
 {
-    return flash_list(slot_of(fs), PATH(path), (uint8_t *)buffer, size);
+    uint8_t none;
+    return flash_list(slot_of(fs), PATH(path), size == 0 ? &none : (uint8_t *)buffer, size);
 }
 
 int flash_fs_space(struct flash_fs *fs, struct flash_space *space)
@@ -356,6 +385,18 @@ int64_t flash_fs_write(struct flash_fs *fs, int fd, const void *bytes, size_t si
 {
     static const uint8_t none;
     return flash_write(slot_of(fs), (uint32_t)fd, size == 0 ? &none : bytes, size, moment);
+}
+
+int64_t flash_fs_pread(struct flash_fs *fs, int fd, void *buffer, size_t size, int64_t offset)
+{
+    uint8_t none;
+    return flash_pread(slot_of(fs), (uint32_t)fd, size == 0 ? &none : buffer, size, offset);
+}
+
+int64_t flash_fs_pwrite(struct flash_fs *fs, int fd, const void *bytes, size_t size, int64_t offset, uint64_t moment)
+{
+    static const uint8_t none;
+    return flash_pwrite(slot_of(fs), (uint32_t)fd, size == 0 ? &none : bytes, size, offset, moment);
 }
 
 int64_t flash_fs_seek(struct flash_fs *fs, int fd, int64_t offset, int whence)

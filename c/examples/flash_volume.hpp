@@ -58,6 +58,29 @@ public:
         }
     }
 
+    // The same at an offset of its own; that of the file stays.
+    std::size_t read_at(void *buffer, std::size_t size, std::int64_t offset)
+    {
+        return static_cast<std::size_t>(checked("pread", flash_fs_pread(fs_, fd_, buffer, size, offset)));
+    }
+    void write_at(const void *bytes, std::size_t size, std::int64_t offset, std::uint64_t moment = 0)
+    {
+        const char *at = static_cast<const char *>(bytes);
+        while (size > 0) {
+            std::int64_t count = checked("pwrite", flash_fs_pwrite(fs_, fd_, at, size, offset, moment));
+            at += count;
+            offset += count;
+            size -= static_cast<std::size_t>(count);
+        }
+    }
+
+    flash_info stat()
+    {
+        flash_info info;
+        checked("fstat", flash_fs_fstat(fs_, fd_, &info));
+        return info;
+    }
+
     void seek(std::int64_t offset) { checked("seek", flash_fs_seek(fs_, fd_, offset, FLASH_SEEK_SET)); }
     void truncate(std::int64_t length, std::uint64_t moment = 0)
     {

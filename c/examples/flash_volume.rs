@@ -5,6 +5,7 @@ use std::pin::Pin;
 
 const EINVAL: i64 = -22;
 const ENOVOLUME: c_int = -19;
+const READ: u32 = 1;
 const WRITE: u32 = 2;
 const CREATE: u32 = 4;
 const APPEND: u32 = 32;
@@ -36,6 +37,17 @@ struct Driver {
 #[repr(C, align(16))]
 struct Fs([u8; 1024]);
 
+/// What is reported of a file: the fields of `struct flash_info`.
+#[repr(C)]
+#[derive(Clone, Copy, Debug, Default)]
+pub struct Info {
+    pub kind: u64,
+    pub object: u64,
+    pub links: u64,
+    pub size: u64,
+    pub moment: u64,
+}
+
 #[link(name = "flashfs", kind = "static")]
 unsafe extern "C" {
     fn flash_fs_format(fs: *mut Fs, driver: *const Driver, spare: u32) -> c_int;
@@ -46,6 +58,9 @@ unsafe extern "C" {
     fn flash_fs_open(fs: *mut Fs, path: *const c_char, flags: u32, moment: u64) -> c_int;
     fn flash_fs_close(fs: *mut Fs, fd: c_int) -> c_int;
     fn flash_fs_write(fs: *mut Fs, fd: c_int, bytes: *const c_void, size: usize, moment: u64) -> i64;
+    fn flash_fs_pread(fs: *mut Fs, fd: c_int, buffer: *mut c_void, size: usize, offset: i64) -> i64;
+    fn flash_fs_pwrite(fs: *mut Fs, fd: c_int, bytes: *const c_void, size: usize, offset: i64, moment: u64) -> i64;
+    fn flash_fs_fstat(fs: *mut Fs, fd: c_int, info: *mut Info) -> c_int;
     fn flash_fs_list(fs: *mut Fs, path: *const c_char, buffer: *mut c_char, size: usize) -> i64;
 }
 
@@ -129,6 +144,23 @@ impl<N: Nand> Volume<N> {
         let wrote = unsafe { flash_fs_write(fs, fd, bytes.as_ptr().cast(), bytes.len(), moment) };
         unsafe { flash_fs_close(fs, fd) };
         checked(wrote)
+    }
+    /// Writes bytes at an offset of a file, which is made where it is not there, and returns what is reported of it then.
+    pub fn write_at(self: Pin<&mut Self>, path: &str, bytes: &[u8], offset: i64, moment: u64) -> Result<Info, i64> {
+        let (fs, path, mut info) = (self.fs(), CString::new(path).map_err(|_| EINVAL)?, Info::default());
+        let fd = checked(unsafe { flash_fs_open(fs, path.as_ptr(), WRITE | CREATE, moment) }.into())? as c_int;
+        let wrote = checked(unsafe { flash_fs_pwrite(fs, fd, bytes.as_ptr().cast(), bytes.len(), offset, moment) });
+        let told = checked(unsafe { flash_fs_fstat(fs, fd, &mut info) }.into());
+        unsafe { flash_fs_close(fs, fd) };
+        wrote.and(told).map(|_| info)
+    }
+    /// Reads from an offset of a file on, and returns how many bytes came.
+    pub fn read_at(self: Pin<&mut Self>, path: &str, buffer: &mut [u8], offset: i64) -> Result<usize, i64> {
+        let (fs, path) = (self.fs(), CString::new(path).map_err(|_| EINVAL)?);
+        let fd = checked(unsafe { flash_fs_open(fs, path.as_ptr(), READ, 0) }.into())? as c_int;
+        let count = unsafe { flash_fs_pread(fs, fd, buffer.as_mut_ptr().cast(), buffer.len(), offset) };
+        unsafe { flash_fs_close(fs, fd) };
+        checked(count).map(|count| count as usize)
     }
     pub fn list(self: Pin<&mut Self>, path: &str) -> Result<Vec<String>, i64> {
         let (fs, path, mut buffer) = (self.fs(), CString::new(path).map_err(|_| EINVAL)?, vec![0u8; 65536]);

@@ -17,6 +17,9 @@ try {
         {
             flash::File file = volume.open("/etc/new", FLASH_WRONLY | FLASH_CREAT | FLASH_TRUNC, turn);
             file.write("settings", 8, turn);
+            file.write_at("S", 1, 0, turn);
+            if (file.stat().size != 8)
+                return 1;
         }
         volume.rename("/etc/new", "/etc/settings", turn);
         volume.sync();

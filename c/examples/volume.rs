@@ -43,6 +43,8 @@ fn main() -> Result<(), i64> {
     let mut volume = Volume::mount(nand, 2)?;
     volume.as_mut().mkdir("/logs", 1)?;
     volume.as_mut().append("/logs/today", b"started\n", 2)?;
+    let (info, mut start) = (volume.as_mut().write_at("/logs/today", b"S", 0, 3)?, [0; 5]);
+    assert_eq!((info.size, volume.as_mut().read_at("/logs/today", &mut start, 0)?, &start), (8, 5, b"Start"));
     println!("{}", volume.as_mut().list("/logs")?.join(" "));
     volume.as_mut().unmount()?;
     Ok(())

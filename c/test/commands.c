@@ -74,7 +74,7 @@ struct command draw_command(struct draw *draw, size_t most)
 {
     static const enum what often[] = {OPEN,     OPEN,  OPEN,  OPEN,  CLOSE, READ, READ,  WRITE,  WRITE,  WRITE,  WRITE, WRITE,
                                       WRITE,    SEEK,  SEEK,  FSYNC, SYNC,  STAT, MKDIR, MKDIR,  UNLINK, UNLINK, LINK,  RENAME,
-                                      TRUNCATE, RMDIR, RENAME, LIST, SPACE, CLOSE};
+                                      TRUNCATE, RMDIR, RENAME, LIST, SPACE, CLOSE, PREAD, PWRITE, PWRITE, FSTAT};
     struct command command = {.what = often[drawn(draw, sizeof often / sizeof *often)]};
     bool of_directory = command.what == MKDIR || command.what == RMDIR || command.what == LIST ||
                         (command.what == RENAME && drawn(draw, 4) == 0);
@@ -169,6 +169,17 @@ struct outcome do_on_volume(struct flash_fs *fs, const struct command *command)
         outcome.code = flash_fs_space(fs, &space);
         outcome.filled = number_of(&space, sizeof space);
         break;
+    case PREAD:
+        outcome.code = flash_fs_pread(fs, command->fd, bytes_there, command->size, command->offset);
+        outcome.filled = number_of(bytes_there, outcome.code);
+        break;
+    case PWRITE:
+        outcome.code = flash_fs_pwrite(fs, command->fd, bytes_of(command), command->size, command->offset, command->moment);
+        break;
+    case FSTAT:
+        outcome.code = flash_fs_fstat(fs, command->fd, &info);
+        outcome.filled = number_of(&info, sizeof info);
+        break;
     case WHATS:
         break;
     }
@@ -233,10 +244,22 @@ struct outcome do_on_model(struct model *model, const struct command *command,
         outcome.code = model_space(model, &space);
         outcome.filled = number_of(&space, sizeof space);
         break;
+    case PREAD:
+        outcome.code = model_pread(model, command->fd, bytes_there, command->size, command->offset);
+        outcome.filled = number_of(bytes_there, outcome.code);
+        break;
+    case PWRITE:
+        outcome.code = model_pwrite(model, command->fd, bytes_of(command), command->size, command->offset, command->moment, each,
+                                    context);
+        break;
+    case FSTAT:
+        outcome.code = model_fstat(model, command->fd, &info);
+        outcome.filled = number_of(&info, sizeof info);
+        break;
     case WHATS:
         break;
     }
-    if (each != NULL && command->what != WRITE)
+    if (each != NULL && command->what != WRITE && command->what != PWRITE)
         each(context, model);
     return outcome;
 }
@@ -244,7 +267,8 @@ struct outcome do_on_model(struct model *model, const struct command *command,
 const char *name_of(enum what what)
 {
     static const char *const names[] = {"open", "close", "read",   "write", "seek",   "truncate", "fsync", "sync", "stat",
-                                        "mkdir", "rmdir", "link", "unlink", "rename", "list",     "space"};
+                                        "mkdir", "rmdir", "link", "unlink", "rename", "list",     "space", "pread", "pwrite",
+                                        "fstat"};
     return names[what];
 }
 

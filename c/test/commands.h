@@ -4,15 +4,18 @@
 
 #include "model.h"
 
-enum what { OPEN, CLOSE, READ, WRITE, SEEK, TRUNCATE, FSYNC, SYNC, STAT, MKDIR, RMDIR, LINK, UNLINK, RENAME, LIST, SPACE, WHATS };
+enum what {
+    OPEN, CLOSE, READ, WRITE, SEEK, TRUNCATE, FSYNC, SYNC, STAT, MKDIR, RMDIR, LINK, UNLINK, RENAME, LIST, SPACE, PREAD, PWRITE,
+    FSTAT, WHATS
+};
 
 struct command {
     enum what what;
     char path[1100], other[1100];
     int fd, whence;
     uint32_t flags;
-    int64_t offset; /* of a seek; the length of a truncate */
-    size_t size;    /* of a read, a write, a list */
+    int64_t offset; /* of a seek, a pread, a pwrite; the length of a truncate */
+    size_t size;    /* of a read, a write, a list, a pread, a pwrite */
     unsigned seed;  /* of the bytes that are written */
     uint64_t moment;
 };

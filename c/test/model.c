@@ -639,6 +639,43 @@ int64_t model_write(struct model *model, int fd, const uint8_t *bytes, size_t si
     return (int64_t)done;
 }
 
+/* The offset of a read or a write of its own: the descriptor's is kept aside. */
+int64_t model_pread(struct model *model, int fd, uint8_t *buffer, size_t size, int64_t offset)
+{
+    int64_t code = model_read(model, fd, buffer, 0);
+    if (code < 0 || offset < 0)
+        return code < 0 ? code : FLASH_EINVAL;
+    struct model_handle *handle = handle_of(model, fd);
+    uint64_t kept = handle->offset;
+    handle->offset = (uint64_t)offset;
+    code = model_read(model, fd, buffer, size);
+    handle->offset = kept;
+    return code;
+}
+
+int64_t model_pwrite(struct model *model, int fd, const uint8_t *bytes, size_t size, int64_t offset, uint64_t moment,
+                     void (*each)(void *context, const struct model *model), void *context)
+{
+    int64_t code = model_write(model, fd, bytes, 0, moment, NULL, NULL);
+    if (code < 0 || offset < 0)
+        return code < 0 ? code : FLASH_EINVAL;
+    struct model_handle *handle = handle_of(model, fd);
+    uint64_t kept = handle->offset;
+    handle->offset = (uint64_t)offset;
+    code = model_write(model, fd, bytes, size, moment, each, context);
+    handle->offset = kept;
+    return code;
+}
+
+int64_t model_fstat(struct model *model, int fd, struct flash_info *info)
+{
+    const struct model_handle *handle = handle_of(model, fd);
+    if (handle == NULL)
+        return FLASH_EBADF;
+    *info = info_of(model, handle->object);
+    return 0;
+}
+
 int64_t model_seek(struct model *model, int fd, int64_t offset, int whence)
 {
     if (whence < FLASH_SEEK_SET || whence > FLASH_SEEK_END)

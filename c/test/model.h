@@ -54,6 +54,10 @@ int64_t model_close(struct model *model, int fd);
 int64_t model_read(struct model *model, int fd, uint8_t *buffer, size_t size);
 int64_t model_write(struct model *model, int fd, const uint8_t *bytes, size_t size, uint64_t moment,
                     void (*each)(void *context, const struct model *model), void *context);
+int64_t model_pread(struct model *model, int fd, uint8_t *buffer, size_t size, int64_t offset);
+int64_t model_pwrite(struct model *model, int fd, const uint8_t *bytes, size_t size, int64_t offset, uint64_t moment,
+                     void (*each)(void *context, const struct model *model), void *context);
+int64_t model_fstat(struct model *model, int fd, struct flash_info *info);
 int64_t model_seek(struct model *model, int fd, int64_t offset, int whence);
 int64_t model_truncate(struct model *model, int fd, int64_t length, uint64_t moment);
 int64_t model_fsync(struct model *model, int fd);

@@ -113,7 +113,7 @@ static uint64_t run_refused(const struct command *commands, int count, const str
         if (is_refused && there.code == FLASH_ENOMEM) {
             ++*refusals;
             check(command.what != CLOSE && command.what != SEEK && command.what != FSYNC && command.what != SYNC &&
-                      command.what != SPACE,
+                      command.what != SPACE && command.what != FSTAT,
                   "%s returned ENOMEM", name_of(command.what));
             check(flash_fs_stopped(&fs) == 0, "a volume that was refused memory has stopped");
             struct outcome again = do_on_volume(&fs, &command), wanted = do_on_model(model, &command, NULL, NULL);
@@ -125,7 +125,7 @@ static uint64_t run_refused(const struct command *commands, int count, const str
         }
         if (is_refused) { /* done without, or a part of a write */
             ++*without;
-            if (command.what == WRITE && there.code > 0)
+            if ((command.what == WRITE || command.what == PWRITE) && there.code > 0)
                 command.size = (size_t)there.code;
         }
         struct outcome wanted = do_on_model(model, &command, NULL, NULL);
@@ -271,6 +271,103 @@ static void test_two_volumes(uint64_t seed)
     printf("  two volumes at once, 4,000 calls\n");
 }
 
+/* While a volume of a driver is mounted no other one is, whether by the same struct or by another of the same flash. */
+static void test_one_driver(void)
+{
+    static struct flash_fs other;
+    struct flash_driver same;
+    ram_nand_copy(&nand, &before);
+    same = nand.driver;
+    check(flash_fs_mount(&fs, &nand.driver) == 0, "a mount");
+    for (int turn = 0; turn < 2; turn++) {
+        const struct flash_driver *driver = turn == 0 ? &nand.driver : &same;
+        check(flash_fs_mount(&other, driver) == FLASH_EBUSY && flash_fs_format(&other, driver, SPARE) == FLASH_EBUSY,
+              "a second volume of a driver");
+        check(flash_fs_unmount(&other) == FLASH_EINVAL, "an unmount after it");
+    }
+    check(flash_fs_mkdir(&fs, "/still", 1) == 0 && flash_fs_unmount(&fs) == 0, "the first volume");
+    ram_nand_power_up(&nand);
+    check(flash_fs_mount(&other, &same) == 0, "a mount of the second after the first");
+    flash_fs_abandon(&other);
+    printf("  two volumes of one driver: the second is refused while the first is mounted\n");
+}
+
+static void make_empty(void)
+{
+    ram_nand_copy(&nand, &before);
+    check(flash_fs_format(&fs, &nand.driver, SPARE) == 0, "a format");
+    ram_nand_power_up(&nand);
+    check(flash_fs_mount(&fs, &nand.driver) == 0, "a mount");
+}
+
+/* A volume at an address that is no multiple of 16, and a list of no bytes. */
+static void test_addresses(void)
+{
+    static struct {
+        _Alignas(16) unsigned char bytes[2 * sizeof(struct flash_fs)];
+    } room;
+    struct flash_fs *crooked = (struct flash_fs *)(void *)(room.bytes + 8);
+    ram_nand_copy(&nand, &before);
+    check(flash_fs_mount(crooked, &nand.driver) == FLASH_EINVAL && flash_fs_format(crooked, &nand.driver, SPARE) == FLASH_EINVAL,
+          "a volume at an odd address");
+    make_empty();
+    check(flash_fs_list(&fs, "/", NULL, 0) == 0, "a list of no bytes, of no names");
+    check(flash_fs_mkdir(&fs, "/a", 1) == 0 && flash_fs_list(&fs, "/", NULL, 0) == FLASH_ERANGE, "a list of no bytes, of a name");
+    flash_fs_abandon(&fs);
+    printf("  a volume at an odd address is refused; a list of no bytes\n");
+}
+
+/* By hand: reads and writes at an offset leave that of the descriptor, and a file without a name is described. */
+static void test_placed(void)
+{
+    struct flash_info named, open;
+    char bytes[8] = "";
+    make_empty();
+    int fd = flash_fs_open(&fs, "/file", FLASH_RDWR | FLASH_CREAT, 1);
+    check(flash_fs_write(&fs, fd, "0123456789", 10, 1) == 10 && flash_fs_seek(&fs, fd, 3, FLASH_SEEK_SET) == 3, "a file");
+    check(flash_fs_pwrite(&fs, fd, "AB", 2, 6, 77) == 2 && flash_fs_pread(&fs, fd, bytes, 4, 5) == 4, "at an offset");
+    check(memcmp(bytes, "5AB8", 4) == 0 && flash_fs_seek(&fs, fd, 0, FLASH_SEEK_CUR) == 3, "the bytes, and the offset");
+    check(flash_fs_pread(&fs, fd, bytes, 4, 10) == 0 && flash_fs_pread(&fs, fd, bytes, 4, INT64_MAX) == 0, "past the end");
+    check(flash_fs_pwrite(&fs, fd, NULL, 0, 5, 1) == 0 && flash_fs_pread(&fs, fd, NULL, 0, 5) == 0, "of no bytes");
+    check(flash_fs_stat(&fs, "/file", &named) == 0 && flash_fs_fstat(&fs, fd, &open) == 0, "a path, and a descriptor");
+    check(memcmp(&named, &open, sizeof named) == 0 && open.size == 10 && open.moment == 77 && open.links == 1, "the same");
+    check(flash_fs_unlink(&fs, "/file", 2) == 0 && flash_fs_fstat(&fs, fd, &open) == 0, "without a name");
+    check(open.object == named.object && open.links == 0 && open.size == 10, "what is reported of a file without a name");
+    int log = flash_fs_open(&fs, "/log", FLASH_WRONLY | FLASH_CREAT | FLASH_APPEND, 1);
+    check(flash_fs_pwrite(&fs, log, "one", 3, 100, 1) == 3 && flash_fs_pwrite(&fs, log, "two", 3, 0, 1) == 3, "appended");
+    check(flash_fs_fstat(&fs, log, &open) == 0 && open.size == 6 && flash_fs_seek(&fs, log, 0, FLASH_SEEK_CUR) == 0, "its end");
+    flash_fs_abandon(&fs);
+    check(memory.blocks == 0, "memory is left");
+    printf("  reads and writes at an offset, and what descriptors stand for, by hand\n");
+}
+
+/* By hand: the errors of these calls come in their order. */
+static void test_placed_errors(void)
+{
+    struct flash_info info;
+    char bytes[8] = "";
+    make_empty();
+    int fd = flash_fs_open(&fs, "/file", FLASH_RDWR | FLASH_CREAT, 1), log = flash_fs_open(&fs, "/file", FLASH_WRONLY, 1);
+    int root = flash_fs_open(&fs, "/", FLASH_RDONLY, 1);
+    check(flash_fs_fstat(&fs, root, &info) == 0 && info.kind == FLASH_DIRECTORY && info.object == 1, "the root");
+    check(flash_fs_fstat(&fs, 40, &info) == FLASH_EBADF && flash_fs_fstat(&fs, -1, &info) == FLASH_EBADF, "no descriptor");
+    check(flash_fs_pread(&fs, 40, bytes, 1, -1) == FLASH_EBADF && flash_fs_pread(&fs, log, bytes, 1, -1) == FLASH_EBADF &&
+              flash_fs_pwrite(&fs, root, bytes, 1, -1, 1) == FLASH_EBADF,
+          "not open for this");
+    check(flash_fs_pread(&fs, root, bytes, 1, -1) == FLASH_EISDIR, "a directory");
+    check(flash_fs_pread(&fs, fd, bytes, 1, -1) == FLASH_EINVAL && flash_fs_pwrite(&fs, fd, bytes, 1, -1, 1) == FLASH_EINVAL,
+          "before 0");
+    nand.cut_at = nand.calls + 1;
+    check(flash_fs_sync(&fs) == FLASH_EIO && flash_fs_fstat(&fs, fd, &info) == FLASH_EIO &&
+              flash_fs_pread(&fs, 40, bytes, 1, -1) == FLASH_EIO && flash_fs_pwrite(&fs, fd, bytes, 1, 0, 1) == FLASH_EIO,
+          "a stopped volume");
+    flash_fs_abandon(&fs);
+    check(flash_fs_fstat(&fs, fd, &info) == FLASH_EINVAL && flash_fs_pread(&fs, fd, bytes, 1, 0) == FLASH_EINVAL &&
+              flash_fs_pwrite(&fs, fd, bytes, 1, 0, 1) == FLASH_EINVAL,
+          "a volume that is not mounted");
+    printf("  the errors of these calls, by hand\n");
+}
+
 static void test_too_many(void)
 {
     static struct flash_fs many[FLASH_VOLUMES + 1];
@@ -303,6 +400,10 @@ int main(int count, char **words)
     test_many_mounts();
     test_two_volumes(seed);
     test_too_many();
+    test_one_driver();
+    test_addresses();
+    test_placed();
+    test_placed_errors();
     ram_nand_free(&nand);
     ram_nand_free(&before);
     return 0;

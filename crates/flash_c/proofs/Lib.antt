@@ -1,4 +1,7 @@
+pub mod Formats
+pub mod Mounts
 pub mod NameBytes
+pub mod Places
 pub mod Replies
 pub mod Steps
 pub mod Writes

@@ -1,8 +1,10 @@
+pub mod Describing
 pub mod Filling
 pub mod Flags
 pub mod Held
 pub mod Lending
 pub mod Numbers
+pub mod Placed
 pub mod Questions
 pub mod Sessions
 pub mod Slots

@@ -1,6 +1,8 @@
-// Mount, format and unmount, over any device: what they return.
+// Mount, format and end of a volume, over any device: what they return, and the device after them.
 ghost use Rattle.std.specs.Prelude.{◌≡◌, ◌<ℤ◌, ◌≤ℤ◌, pos, IfOk, IfErr};
 ghost use Rattle.flash_c.specs.Volumes.{NotMounted, IsFormatted, IsEnded};
+ghost use Rattle.page_volume.specs.Volumes.{pages_of};
+ghost use Rattle.posix_calls.specs.Endings.{LiesOn};
 ghost use Rattle.posix_calls.specs.Mounts.{IsMounted};
 ghost use Rattle.posix_calls.specs.Volumes.{over_pages};
 
@@ -12,37 +14,44 @@ use posix_calls::{Volume, format};
 use std::alloc::Global;
 use trusted_nand::TrustedNand;
 
-/// Mounts the volume of a device, with a cache of so many pages, of one at least.
+/// Mounts the volume of a device, with a cache of so many pages, of one at least. After a fault the device is given back with the
+/// fault's number.
 pub(crate) fn mount_device<N: Nand + Drop>(
     alloc: Global,
     device: N,
     cache_pages: u32,
-) -> Result<Volume<N>, i32>
+) -> Result<Volume<N>, (N, i32)>
     ensures mounted { IfOk result (λ v. IsMounted ⟦<FlashPages<TrustedNand<N>> as Pages>⟧.state (N.state device) (over_pages v)) }
-    ensures fault { IfErr result (λ number. NotMounted (N.state device) number) }
-    ensures negative { IfErr result (λ number. number <ℤ pos 0) }
+    ensures fault { IfErr result (λ back. NotMounted (N.state device) (N.state back.0) back.1) }
 {
     match Volume::mount_with(alloc, device, cache_pages as usize) {
         Ok(volume) => Ok(volume),
-        Err((_device, fault)) => Err(mount_number(fault)),
+        Err((device, fault)) => Err((device, mount_number(fault))),
     }
 }
 
-/// Makes a device a volume with so many spare blocks, whose root is empty: 0, or the fault.
-pub(crate) fn format_device<N: Nand + Drop>(alloc: Global, device: N, spare: u32) -> i32
-    ensures formatted { IsFormatted (N.state device) spare result }
-    ensures at_most_0 { result ≤ℤ pos 0 }
+/// Makes a device a volume with so many spare blocks, whose root is empty: gives it back with 0, or with the number of the fault.
+pub(crate) fn format_device<N: Nand + Drop>(alloc: Global, device: N, spare: u32) -> (N, i32)
+    ensures { IsFormatted spare (N.state device) (N.state result.0) result.1 }
 {
     match format(alloc, device, spare) {
-        Ok(_device) => 0,
-        Err((_device, fault)) => format_number(fault),
+        Ok(device) => (device, 0),
+        Err((device, fault)) => (device, format_number(fault)),
     }
 }
 
-/// Commits what was accepted and gives the device up: 0, or EIO.
-pub(crate) fn end<N: Nand + Drop>(volume: Volume<N>) -> i32
-    ensures { IsEnded ⟦<FlashPages<TrustedNand<N>> as Pages>⟧.state (over_pages volume) result }
+/// Commits what was accepted and gives the device up: with 0, or EIO.
+pub(crate) fn end<N: Nand + Drop>(volume: Volume<N>) -> (N, i32)
+    ensures { IsEnded ⟦<FlashPages<TrustedNand<N>> as Pages>⟧.state (over_pages volume) (N.state result.0) result.1 }
 {
-    let (_device, reply) = volume.unmount();
-    done_number(&reply)
+    let (device, reply) = volume.unmount();
+    let number = done_number(&reply);
+    (device, number)
+}
+
+/// Gives the device up as it is: no call of it is made.
+pub(crate) fn abandon<N: Nand + Drop>(volume: Volume<N>) -> N
+    ensures { LiesOn (⟦<FlashPages<TrustedNand<N>> as Pages>⟧.state (pages_of (over_pages volume))) (N.state result) }
+{
+    volume.abandon()
 }

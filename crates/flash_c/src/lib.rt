@@ -12,6 +12,7 @@ mod filling;
 mod flags;
 mod names;
 mod numbers;
+mod placed;
 mod port;
 mod questions;
 mod serve;

@@ -1,4 +1,5 @@
 // The commands that fill the caller's memory: read, stat, list and the room of the volume.
+ghost use Rattle.flash_c.specs.Describing.{DescribesIn};
 ghost use Rattle.flash_c.specs.Questions.{IsRead, IsStat, IsListed, IsRoom};
 ghost use Rattle.flash_c.specs.Slots.{Replied};
 
@@ -6,7 +7,7 @@ use crate::commands::path_of;
 use crate::filling::{FlashInfo, FlashSpace};
 use crate::numbers::error_number;
 use crate::serve::Serve;
-use crate::session::{Session, list, read, space, stat};
+use crate::session::{Session, fstat, list, read, space, stat};
 use crate::slot::Slot;
 use posix_calls::Errno;
 use std::alloc::Global;
@@ -39,6 +40,17 @@ pub extern "C" fn flash_stat(
         return error_number(Errno::EINVAL);
     }
     stat(slot.session(), path, info)
+}
+
+/// Reports what a descriptor stands for.
+#[unsafe(no_mangle)]
+pub extern "C" fn flash_fstat(slot: &mut Slot, fd: u32, info: &mut FlashInfo) -> i32
+    ensures { DescribesIn ⟦<Session as Serve>⟧.describes slot.old (record { fd = fd; before = info.old; number = result; after = info.new }) slot.new }
+{
+    if !slot.is_full() {
+        return error_number(Errno::EINVAL);
+    }
+    fstat(slot.session(), fd, info)
 }
 
 /// Puts the names of a directory in the buffer, each with a zero after it, and returns how many bytes they take. ERANGE: the

@@ -1,14 +1,17 @@
 // What serves the commands of a session.
-ghost use Rattle.std.specs.Prelude.{◌≤◌};
+ghost use Rattle.std.specs.Prelude.{◌≤◌, ℕ, Result};
 ghost use Rattle.posix_profile.specs.declared.command.Stamped.{Stamped};
+ghost use Rattle.posix_profile.specs.declared.reply.Errno.{Errno};
+ghost use Rattle.posix_profile.specs.declared.reply.Info.{Info};
 ghost use Rattle.posix_profile.specs.declared.reply.Reply.{Reply};
 ghost use Rattle.posix_calls.specs.Volumes.{over_pages};
 ghost use Rattle.posix_calls.specs.Calls.{IsCalled};
+ghost use Rattle.posix_calls.specs.Describing.{IsDescribed};
 
 use flash_pages::FlashPages;
 use nand_model::Nand;
 use pages::Pages;
-use posix_calls::{Reply, Stamped, Volume};
+use posix_calls::{Errno, Info, Reply, Stamped, Volume};
 use trusted_nand::TrustedNand;
 
 /// What serves commands.
@@ -16,17 +19,26 @@ pub(crate) trait Serve {
     /// One call: what serves before it, the command, the reply, and what serves after it.
     ghost serves: { Self → Stamped → Reply → Self → Type 0 };
 
+    /// What is reported of a descriptor.
+    ghost describes: { Self → ℕ → Result Info Errno → Type 0 };
+
     fn serve(&mut self, command: &Stamped) -> Reply
         ensures { serves self.old command.now result self.new };
 
     /// How many bytes a command is handed to write at most: some, and no more than one writes, so that none is copied twice.
     fn most_handed_in(&self) -> usize
         ensures { 1 ≤ result };
+
+    /// What Stat reports of the object that a descriptor stands for.
+    fn describe(&self, fd: u32) -> Result<Info, Errno>
+        ensures { describes self.now fd result };
 }
 
 /// A volume of any device serves as `posix_calls` says.
 impl<N: Nand> Serve for Volume<N> {
     ghost serves = { λ old command reply new. IsCalled ⟦<FlashPages<TrustedNand<N>> as Pages>⟧.state (over_pages old) command reply (over_pages new) };
+
+    ghost describes = { λ v. IsDescribed ⟦<FlashPages<TrustedNand<N>> as Pages>⟧.state (over_pages v) };
 
     fn serve(&mut self, command: &Stamped) -> Reply {
         self.call(command)
@@ -34,5 +46,9 @@ impl<N: Nand> Serve for Volume<N> {
 
     fn most_handed_in(&self) -> usize {
         (self.most_written() as usize).max(1)
+    }
+
+    fn describe(&self, fd: u32) -> Result<Info, Errno> {
+        Volume::describe(self, fd)
     }
 }

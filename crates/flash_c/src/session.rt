@@ -2,6 +2,7 @@
 ghost use Rattle.std.specs.Prelude.{◌≡◌};
 ghost use Rattle.posix_profile.specs.declared.reply.Reply.{Reply};
 ghost use Rattle.flash_c.specs.Numbers.{done_number, count_number};
+ghost use Rattle.flash_c.specs.Describing.{stat_reply, IsFstat};
 ghost use Rattle.flash_c.specs.Questions.{IsRead, IsStat, IsListed, IsRoom};
 
 use crate::filling::{FlashInfo, FlashSpace, put_data, put_info, put_space};
@@ -9,7 +10,7 @@ use crate::names::put_names;
 use crate::numbers::{count_number, done_number};
 use crate::serve::Serve;
 use port_nand::PortNand;
-use posix_calls::{Command, FilePath, Reply, Stamped, Volume};
+use posix_calls::{Command, Errno, FilePath, Info, Reply, Stamped, Volume};
 use std::fs::File;
 
 /// A mounted volume, whose device is at the other end of a stream.
@@ -21,12 +22,18 @@ pub struct Session {
 impl Serve for Session {
     ghost serves = { λ old command reply new. ⟦<Volume<PortNand<File>> as Serve>⟧.serves old.volume command reply new.volume };
 
+    ghost describes = { λ session. ⟦<Volume<PortNand<File>> as Serve>⟧.describes session.volume };
+
     fn serve(&mut self, command: &Stamped) -> Reply {
         self.volume.serve(command)
     }
 
     fn most_handed_in(&self) -> usize {
         self.volume.most_handed_in()
+    }
+
+    fn describe(&self, fd: u32) -> Result<Info, Errno> {
+        Serve::describe(&self.volume, fd)
     }
 }
 
@@ -59,6 +66,23 @@ pub(crate) fn stat<S: Serve>(session: &mut S, path: FilePath, info: &mut FlashIn
 {
     let command = Command::Stat { path };
     put_info(info, &session.serve(&Stamped { moment: 0, command }))
+}
+
+/// The reply of a Stat that reports this.
+fn stat_reply(told: Result<Info, Errno>) -> Reply
+    ensures { result ≡ stat_reply told }
+{
+    match told {
+        Ok(info) => Reply::Info(info),
+        Err(error) => Reply::Error(error),
+    }
+}
+
+/// Reports what a descriptor stands for in the struct.
+pub(crate) fn fstat<S: Serve>(session: &S, fd: u32, info: &mut FlashInfo) -> i32
+    ensures { IsFstat S.describes session.now (record { fd = fd; before = info.old; number = result; after = info.new }) }
+{
+    put_info(info, &stat_reply(session.describe(fd)))
 }
 
 /// Puts the names of a directory in the buffer.

@@ -4,9 +4,9 @@ ghost use Rattle.page_volume.specs.Volumes.{is_read_only, is_stopped};
 ghost use Rattle.posix_calls.specs.Volumes.{over_pages};
 ghost use Rattle.posix_profile.specs.declared.reply.Errno.TheVariants as errors;
 ghost use Rattle.flash_c.specs.Numbers.{error_number};
-ghost use Rattle.flash_c.specs.Slots.{MountsIn, EndsIn, IsAsked};
+ghost use Rattle.flash_c.specs.Slots.{FormatsAt, MountsIn, EndsIn, IsAsked};
 
-use crate::devices::{end, format_device, mount_device};
+use crate::devices::{abandon, end, format_device, mount_device};
 use crate::numbers::{error_number, open_number};
 use crate::port::Port;
 use crate::session::Session;
@@ -37,17 +37,18 @@ pub extern "C" fn flash_port_bytes() -> usize {
 /// Makes a device a volume with so many spare blocks, whose root is empty. All that it held is lost.
 #[unsafe(no_mangle)]
 pub extern "C" fn flash_format(alloc: Global, port: Port, spare: u32) -> i32
-    ensures { result ≤ℤ pos 0 }
+    ensures formats { FormatsAt spare result }
+    ensures at_most_0 { result ≤ℤ pos 0 }
 {
     match PortNand::open(alloc, port.into_file()) {
-        Ok(device) => format_device(alloc, device, spare),
+        Ok(device) => format_device(alloc, device, spare).1,
         Err(fault) => open_number(fault),
     }
 }
 
 /// Opens a device and mounts its volume in an empty slot.
 fn mount_in(alloc: Global, slot: &mut Slot, port: Port, cache_pages: u32) -> i32
-    ensures { MountsIn slot.old result slot.new }
+    ensures { MountsIn ⟦<FlashPages<TrustedNand<PortNand<File>>> as Pages>⟧.state (λ s. over_pages s.session.volume) slot.old result slot.new }
 {
     let file = port.into_file();
     if slot.is_full() {
@@ -62,14 +63,14 @@ fn mount_in(alloc: Global, slot: &mut Slot, port: Port, cache_pages: u32) -> i32
             slot.put(Session { volume });
             0
         }
-        Err(number) => number,
+        Err((_device, number)) => number,
     }
 }
 
 /// Mounts the volume of a device in an empty slot, with a cache of 16 pages.
 #[unsafe(no_mangle)]
 pub extern "C" fn flash_mount(alloc: Global, slot: &mut Slot, port: Port) -> i32
-    ensures { MountsIn slot.old result slot.new }
+    ensures { MountsIn ⟦<FlashPages<TrustedNand<PortNand<File>>> as Pages>⟧.state (λ s. over_pages s.session.volume) slot.old result slot.new }
 {
     mount_in(alloc, slot, port, CACHE_PAGES)
 }
@@ -82,7 +83,7 @@ pub extern "C" fn flash_mount_with(
     port: Port,
     cache_pages: u32,
 ) -> i32
-    ensures { MountsIn slot.old result slot.new }
+    ensures { MountsIn ⟦<FlashPages<TrustedNand<PortNand<File>>> as Pages>⟧.state (λ s. over_pages s.session.volume) slot.old result slot.new }
 {
     mount_in(alloc, slot, port, cache_pages)
 }
@@ -95,7 +96,7 @@ pub extern "C" fn flash_unmount(slot: &mut Slot) -> i32
     if !slot.is_full() {
         return error_number(Errno::EINVAL);
     }
-    end(slot.take().volume)
+    end(slot.take().volume).1
 }
 
 /// Empties the slot and commits nothing, as if power were lost.
@@ -104,7 +105,7 @@ pub extern "C" fn flash_abandon(slot: &mut Slot)
     ensures { slot.new.full ≡ false }
 {
     if slot.is_full() {
-        let _session = slot.take();
+        let _device = abandon(slot.take().volume);
     }
 }
 

@@ -6,3 +6,4 @@ pub mod Endings
 pub mod Running
 pub mod laws
 pub mod Answering
+pub mod Describing

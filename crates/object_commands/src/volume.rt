@@ -29,7 +29,7 @@ use command_plans::plan::{HandleChange, Plan, StoreWork, hand_on};
 use command_plans::stamp::is_stamped;
 use command_plans::table::DescriptorTable;
 use object_store::{ObjectStore, Refusal};
-use posix_profile::{Command, Errno, Reply, Stamped};
+use posix_profile::{Command, Errno, Info, Reply, Stamped};
 use std::alloc::{AllocError, Global};
 use volume_terms::StoreFault;
 
@@ -143,6 +143,7 @@ impl<S: ObjectStore> Volume<S> {
     ghost use Rattle.object_commands.specs.Volumes.{store_of, handles_of, is_read_only, is_stopped};
     ghost use Rattle.object_commands.specs.Endings.{IsAt, CommandEnds, StaysReading, TellsRefusal};
     ghost use Rattle.object_commands.specs.Running.{Runs};
+    ghost use Rattle.object_commands.specs.Describing.{Describes};
 
     /// A volume over the store: no descriptor is open.
     pub fn new(alloc: Global, store: S, read_only: bool) -> Result<Volume<S>, (S, AllocError)>
@@ -218,6 +219,23 @@ impl<S: ObjectStore> Volume<S> {
         ensures { result ≡ is_stopped self.now }
     {
         self.stopped
+    }
+
+    /// What Stat reports of the object that a descriptor stands for, which need not have a name. It reads nothing.
+    pub fn describe(&self, fd: u32) -> Result<Info, Errno>
+        ensures stopped { is_stopped self.now ≡ true → result ≡ Err errors.EIO }
+        ensures describes { is_stopped self.now ≡ false → (z : Sizes) (s : State) → IsAt S.meaning z s self.now → Describes s fd result }
+    {
+        if self.stopped {
+            return Err(Errno::EIO);
+        }
+        let Some(description) = self.table.get(fd) else {
+            return Err(Errno::EBADF);
+        };
+        match self.store.info(description.object) {
+            Some(info) => Ok(info),
+            None => Err(Errno::EBADF),
+        }
     }
 
     /// The reply where memory was refused: where the device's power went meanwhile it is the stop. Its caller stops the volume

@@ -1,5 +1,5 @@
 // A volume over pages.
-ghost use Rattle.std.specs.Prelude.{◌≡◌, ◌⊎◌, ◌≤◌, ℕ, true, false, length, IfOk, IfErr, OnOk};
+ghost use Rattle.std.specs.Prelude.{◌≡◌, ◌⊎◌, ◌≤◌, ℕ, true, false, length, Err, IfOk, IfErr, OnOk};
 ghost use Rattle.std.specs.FinMap as map;
 ghost use Rattle.volume_terms.specs.Sizes.{Sizes, IsSizes, most_written};
 ghost use Rattle.posix_profile.specs.Losses.{is_synced};
@@ -22,7 +22,7 @@ use object_commands::Volume;
 use object_store::ObjectStore;
 use paged_objects::PagedObjects;
 use pages::PageStore;
-use posix_profile::{Errno, Reply, Stamped};
+use posix_profile::{Errno, Info, Reply, Stamped};
 use std::alloc::{AllocError, Global};
 
 /// A volume whose objects lie in pages. One that is stopped answers EIO to each command.
@@ -35,6 +35,7 @@ impl<P: PageStore> PageVolume<P> {
     ghost use Rattle.page_volume.specs.Volumes.{pages_of, table_of, is_read_only, is_stopped, IsStored, IsShownBy, IsVolumeOf};
     ghost use Rattle.command_plans.specs.Tables.{handles_in};
     ghost use Rattle.paged_objects.specs.Parts as parts;
+    ghost use Rattle.object_commands.specs.Describing.{Describes};
     ghost use Rattle.object_commands.specs.Running.{OnlyTells};
     ghost use Rattle.page_volume.specs.Closing.{CanWrite, KeepsOnly};
     ghost use Rattle.page_volume.specs.Running.{RunsPages};
@@ -149,6 +150,14 @@ impl<P: PageStore> PageVolume<P> {
         ensures { result ≡ pages_of self }
     {
         self.volume.into_store().into_pages()
+    }
+
+    /// What Stat reports of the object that a descriptor stands for, which need not have a name. It makes no call of the device.
+    pub fn describe(&self, fd: u32) -> Result<Info, Errno>
+        ensures stopped { is_stopped self.now ≡ true → result ≡ Err errors.EIO }
+        ensures describes { is_stopped self.now ≡ false → (z : Sizes) (s : State) → IsVolumeOf P.state z s self.now → Describes s fd result }
+    {
+        self.volume.describe(fd)
     }
 
     /// The most bytes that one Write writes.

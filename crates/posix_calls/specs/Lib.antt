@@ -1,4 +1,5 @@
 pub mod Calls
+pub mod Describing
 pub mod Mounts
 pub mod Volumes
 pub mod Endings

@@ -9,7 +9,7 @@ use flash_pages::FlashPages;
 use nand_model::Nand;
 use page_volume::PageVolume;
 use pages::Pages;
-use posix_profile::{Reply, Stamped};
+use posix_profile::{Errno, Info, Reply, Stamped};
 use std::alloc::AllocError;
 use trusted_nand::TrustedNand;
 
@@ -30,6 +30,7 @@ impl<N: Nand> Volume<N> {
     ghost use Rattle.page_volume.specs.Volumes.{pages_of, table_of, is_read_only, is_stopped};
     ghost use Rattle.flash_pages.specs.Sealing.{IsDueOf};
     ghost use Rattle.posix_calls.specs.Calls.{IsCalled, VolumeGoesOn};
+    ghost use Rattle.posix_calls.specs.Describing.{IsDescribed};
     ghost use Rattle.posix_calls.specs.Endings.{IsUnmounted, LeavesCheckpoint, LiesOn};
     ghost use Rattle.posix_calls.specs.Volumes.{over_pages};
 
@@ -71,6 +72,13 @@ impl<N: Nand> Volume<N> {
         ensures { LiesOn (⟦<FlashPages<TrustedNand<N>> as Pages>⟧.state (pages_of (over_pages self))) (N.state result) }
     {
         self.volume.into_pages().into_device().into_inner()
+    }
+
+    /// What Stat reports of the object that a descriptor stands for, which need not have a name. It makes no call of the device.
+    pub fn describe(&self, fd: u32) -> Result<Info, Errno>
+        ensures { IsDescribed ⟦<FlashPages<TrustedNand<N>> as Pages>⟧.state (over_pages self.now) fd result }
+    {
+        self.volume.describe(fd)
     }
 
     /// The most bytes that one Write writes, of however many it is asked.

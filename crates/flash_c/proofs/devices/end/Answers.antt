@@ -4,8 +4,7 @@ use Rattle.flash_c.proofs.devices.end.Goals as goal
 
 pub returns : goal.returns
 returns g c = record {
-  after = g.N.Nand.state c.unmount-device.result.0;
   reply = c.unmount-device.result.1;
   unmounted = c.unmount-device.ensures.ends;
-  number_is = to_z-of_z w32 c.done_number.result (search (c.done_number.type_inv)) ∙ c.done_number.ensures;
+  number_is = to_z-of_z w32 c.done_number-number.result (search (c.done_number-number.type_inv)) ∙ c.done_number-number.ensures;
 }

@@ -4,7 +4,6 @@ use Rattle.flash_c.proofs.devices.mount_device.Goals as goal
 
 pub returns-in-Err-clause-fault : goal.returns-in-Err-clause-fault
 returns-in-Err-clause-fault g c = record {
-  after = g.N.Nand.state c.in-Err._device;
   fault = c.in-Err.fault;
   number_is = to_z-of_z w32 c.mount_number.result (search (c.mount_number.type_inv)) ∙ c.mount_number.ensures.number;
   reads = c.in-Err.ensures.back;

@@ -1,5 +1,6 @@
-use Rattle.std.proofs.Common.{◌≡◌, ◌∙◌, ℤ, true, false, ap, sym, subst, to_z, of_z, w32}
+use Rattle.std.proofs.Common.{◌≡◌, ◌∙◌, ℤ, true, false, ap, sym, subst, to_z, of_z, w32, rules}
 use Rattle.std.proofs.lemmas.Int.{to_z-of_z}
+use Rattle.nand_model.specs.Calls.{Device}
 use Rattle.page_volume.specs.declared.volume.PageVolume.{PageVolume}
 use Rattle.pages.specs.State.{PagesState}
 use Rattle.posix_calls.specs.Volumes.{over_pages}
@@ -9,15 +10,16 @@ use Rattle.flash_c.specs.declared.slot.Slot.{Slot}
 use Rattle.flash_c.proofs.volumes.flash_unmount.Goals as goal
 
 -- the same volume ends with the same number
-ended_as : {P : Type 0} (state : P → PagesState) (v w : PageVolume P) (n m : ℤ) → v ≡ w → n ≡ m → IsEnded state v n → IsEnded state w m
-ended_as state v w n m same number is = subst (IsEnded state w) number (subst (λ x. IsEnded state x n) same is)
+ended_as : {P : Type 0} (state : P → PagesState) (v w : PageVolume P) (device : Device) (n m : ℤ) → v ≡ w → n ≡ m → IsEnded state v device n → IsEnded state w device m
+ended_as state v w device n m same number is = subst (λ x. IsEnded state x device m) same (subst (IsEnded state v device) number is)
 
 pub returns : goal.returns
+
 returns c =
     let session : c.take.result ≡ c.args.slot.now.session = c.take.ensures.session ∙ ap (λ (s : Slot). s.session) c.is_full.ensures.same in
-    let number : to_z w32 (of_z w32 c.end.result) ≡ c.end.result = to_z-of_z w32 c.end.result (search (c.end.type_inv)) in
+    let number : to_z w32 (of_z w32 c.end.result.1) ≡ c.end.result.1 = to_z-of_z w32 c.end.result.1 (search rules) in
     record {
       empties = c.take.ensures.full;
-      ended = λ full. ended_as _ _ _ _ _ (ap (λ (s : Session). over_pages s.volume) session) (sym number) c.end.ensures;
+      ended = λ full. (c.end.result.0, ended_as _ _ _ _ _ _ (ap (λ (s : Session). over_pages s.volume) session) (sym number) c.end.ensures);
       empty = λ is. (let two : true ≡ false = sym c.if-not-is_full.false ∙ c.is_full.ensures.full ∙ is in absurd cc);
     }

@@ -1,0 +1,22 @@
+-- Why a device was not formatted.
+use Rattle.std.proofs.Common.{◌≡◌, ◌⊎◌, ◌<◌, ◌≤◌, ◌+◌, ℕ, true, refl, inl, inr, arith}
+use Rattle.std.proofs.lemmas.Bool.{cases_lt}
+use Rattle.flash_tree.specs.Mount.{bad_blocks}
+use Rattle.formatting.specs.declared.fault.FormatFault.{FormatFault}
+use Rattle.formatting.specs.declared.fault.FormatFault.TheVariants as formats
+use Rattle.nand_model.specs.Calls.{Device}
+use Rattle.flash_c.specs.Volumes.{WhyNotFormatted}
+
+pub reason : (spare : ℕ) (old new : Device) (fault : FormatFault) → ((fault ≡ formats.Spare) ⊎ (fault ≡ formats.NoMemory) → new ≡ old)
+    → (fault ≡ formats.Gone → new.gone ≡ true) → (fault ≡ formats.Worn → spare < bad_blocks new.geometry new.flash) → WhyNotFormatted spare old new fault
+reason spare old new formats.Spare left gone worn = left (inl refl)
+reason spare old new formats.NoMemory left gone worn = left (inr refl)
+reason spare old new formats.Worn left gone worn = worn refl
+reason spare old new formats.Gone left gone worn = gone refl
+
+-- enough blocks, where too few are a fault
+pub enough : (blocks least : ℕ) → (blocks < least → ⊥) → least ≤ blocks
+enough blocks least few = elim (cases_lt blocks least) [
+  | inl less ↦ absurd (few less)
+  | inr more ↦ omega arith
+]

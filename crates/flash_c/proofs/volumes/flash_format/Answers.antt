@@ -1,0 +1,9 @@
+use Rattle.std.proofs.Common.{◌≡◌, sym, subst, Ok, to_z, of_z, w32, rules}
+use Rattle.std.proofs.lemmas.Int.{to_z-of_z}
+use Rattle.flash_c.specs.Volumes.{IsFormatted}
+use Rattle.flash_c.proofs.volumes.flash_format.Goals as goal
+
+pub returns-in-Ok-clause-formats : goal.returns-in-Ok-clause-formats
+returns-in-Ok-clause-formats c =
+    let same : to_z w32 (of_z w32 c.format_device.result.1) ≡ c.format_device.result.1 = to_z-of_z w32 c.format_device.result.1 (search rules) in
+    (Ok c.in-Ok.device, (c.in-Ok.ensures, c.format_device.result.0, subst (IsFormatted c.args.spare _ _) (sym same) c.format_device.ensures))

@@ -1,0 +1,114 @@
+// Reads and writes at an offset of their own, over anything that serves commands: the descriptor's offset is set, and set back.
+ghost use Rattle.std.specs.Prelude.{◌≡◌, pos};
+ghost use Rattle.flash_c.specs.Placed.{Seeks, GoesTo, GoesBack, IsReadAt, IsWrittenAt, ReadsAtIn, WritesAtIn};
+
+use crate::numbers::error_number;
+use crate::serve::Serve;
+use crate::session::{Session, count, read};
+use crate::slot::Slot;
+use crate::writing::write;
+use posix_calls::{Command, Errno, Stamped, Whence};
+use std::alloc::Global;
+
+/// Moves the offset of a descriptor and returns it.
+fn seek<S: Serve>(session: &mut S, fd: u32, offset: i64, whence: Whence) -> i64
+    ensures { Seeks S.serves session.old ((record { fd = fd; offset = offset }), whence) result session.new }
+{
+    let command = Command::Seek { fd, offset, whence };
+    count(session, &Stamped { moment: 0, command })
+}
+
+/// Sets the offset of a descriptor, and returns what it was.
+fn go_to<S: Serve>(session: &mut S, fd: u32, offset: i64) -> Result<i64, i64>
+    ensures { GoesTo S.serves session.old (record { fd = fd; offset = offset }) result session.new }
+{
+    let was = seek(session, fd, 0, Whence::Cur);
+    if was < 0 {
+        return Err(was);
+    }
+    let now = seek(session, fd, offset, Whence::Set);
+    if now < 0 {
+        return Err(now);
+    }
+    Ok(was)
+}
+
+/// Sets the offset of a descriptor back, and returns the number of what was done meanwhile.
+fn go_back<S: Serve>(session: &mut S, fd: u32, was: i64, number: i64) -> i64
+    ensures { GoesBack S.serves session.old (record { fd = fd; was = was; number = number }) result session.new }
+{
+    let back = seek(session, fd, was, Whence::Set);
+    if back < 0 { back } else { number }
+}
+
+/// Reads into the buffer at an offset. A read of no bytes goes before, so that the errors of a read come before those of a seek.
+pub(crate) fn read_at<S: Serve>(session: &mut S, fd: u32, buffer: &mut [u8], offset: i64) -> i64
+    ensures { IsReadAt S.serves session.old (record { place = record { fd = fd; offset = offset }; before = buffer.old; number = result; after = buffer.new }) session.new }
+{
+    let none = read(session, fd, &mut []);
+    if none < 0 {
+        return none;
+    }
+    match go_to(session, fd, offset) {
+        Ok(was) => {
+            let number = read(session, fd, buffer);
+            go_back(session, fd, was, number)
+        }
+        Err(number) => number,
+    }
+}
+
+/// Writes bytes at an offset. A write of no bytes goes before, so that the errors of a write come before those of a seek.
+pub(crate) fn write_at<S: Serve>(
+    alloc: Global,
+    session: &mut S,
+    moment: u64,
+    fd: u32,
+    bytes: &[u8],
+    offset: i64,
+) -> i64
+    ensures { IsWrittenAt S.serves session.old (record { moment = moment; place = record { fd = fd; offset = offset }; bytes = bytes.now }) result session.new }
+{
+    let none = write(alloc, session, moment, fd, &[]);
+    if none < 0 {
+        return none;
+    }
+    match go_to(session, fd, offset) {
+        Ok(was) => {
+            let number = write(alloc, session, moment, fd, bytes);
+            go_back(session, fd, was, number)
+        }
+        Err(number) => number,
+    }
+}
+
+/// Reads at an offset: puts the bytes at the front of the buffer and returns how many. The descriptor's offset stays.
+#[unsafe(no_mangle)]
+pub extern "C" fn flash_pread(slot: &mut Slot, fd: u32, buffer: &mut [u8], offset: i64) -> i64
+    ensures { ReadsAtIn ⟦<Session as Serve>⟧.serves slot.old
+        (record { place = record { fd = fd; offset = offset }; before = buffer.old; number = result; after = buffer.new }) slot.new }
+{
+    if !slot.is_full() {
+        return i64::from(error_number(Errno::EINVAL));
+    }
+    read_at(slot.session(), fd, buffer, offset)
+}
+
+/// Writes bytes at an offset and returns how many, as `flash_write`. The descriptor's offset stays.
+#[unsafe(no_mangle)]
+pub extern "C" fn flash_pwrite(
+    alloc: Global,
+    slot: &mut Slot,
+    fd: u32,
+    bytes: &[u8],
+    offset: i64,
+    moment: u64,
+) -> i64
+    ensures { WritesAtIn ⟦<Session as Serve>⟧.serves slot.old
+        (record { moment = moment; place = record { fd = fd; offset = offset }; bytes = bytes.now }) result slot.new }
+{
+    if !slot.is_full() {
+        return i64::from(error_number(Errno::EINVAL));
+    }
+    write_at(alloc, slot.session(), moment, fd, bytes, offset)
+}

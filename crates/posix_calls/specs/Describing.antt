@@ -1,0 +1,16 @@
+-- What a volume reports of a descriptor.
+use Rattle.std.specs.Prelude.{◌≡◌, ℕ, true, false, Result, Err}
+use Rattle.object_commands.specs.Describing.{Describes}
+use Rattle.page_volume.specs.Volumes.{is_stopped, IsVolumeOf}
+use Rattle.page_volume.specs.declared.volume.PageVolume.{PageVolume}
+use Rattle.pages.specs.State.{PagesState}
+use Rattle.posix_profile.specs.State.{State}
+use Rattle.posix_profile.specs.declared.reply.Errno.{Errno}
+use Rattle.posix_profile.specs.declared.reply.Errno.TheVariants as errors
+use Rattle.posix_profile.specs.declared.reply.Info.{Info}
+use Rattle.volume_terms.specs.Sizes.{Sizes}
+
+-- A volume that is stopped reports EIO; another one what Stat reports of the descriptor's object in the state that it stands for.
+pub record IsDescribed {P : Type 0} (state : P → PagesState) (v : PageVolume P) (fd : ℕ) (told : Result Info Errno) : Type 0 where
+  pub stopped : is_stopped v ≡ true → told ≡ Err errors.EIO
+  pub describes : is_stopped v ≡ false → (z : Sizes) (s : State) → IsVolumeOf state z s v → Describes s fd told

@@ -34,7 +34,8 @@ function start(program) {
   return { ask, stop, thrown }
 }
 
-// Opens an address in a window of this size and theme. What its script throws and does not catch goes to `thrown`. `value` is what an expression of the page has, once a promise of it is kept.
+// Opens an address in a window of this size and theme. What its script throws and does not catch goes to `thrown`.
+// `value` is what an expression of the page has, once a promise of it is kept.
 async function openPage({ ask }, url, { width = 1400, height = 900, theme = 'light' } = {}) {
   const { targetId } = await ask('Target.createTarget', { url: 'about:blank' })
   const { sessionId } = await ask('Target.attachToTarget', { targetId, flatten: true })

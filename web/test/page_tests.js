@@ -153,7 +153,8 @@ const drawSession = seed => page.value(`(() => {
   const directory = () => one(['/a', '/b', '/a/c', '/log', '/etc'])
   const file = () => one(['/x', '/a/y', '/b/z', '/a/c/w', '/boots', '/log/sunday', '/etc/rate'])
   const lines = [() => 'mkdir ' + directory(), () => 'write ' + file() + ' ' + (100 + drawn(6000)),
-    () => 'append ' + file() + ' ' + (100 + drawn(3000)), () => 'mv ' + file() + ' ' + file(), () => 'mv ' + directory() + ' ' + directory(), () => 'ln ' + file() + ' ' + file(), () => 'rm ' + file(),
+    () => 'append ' + file() + ' ' + (100 + drawn(3000)), () => 'mv ' + file() + ' ' + file(),
+    () => 'mv ' + directory() + ' ' + directory(), () => 'ln ' + file() + ' ' + file(), () => 'rm ' + file(),
     () => 'rmdir ' + directory(), () => 'truncate ' + file() + ' ' + drawn(6000), () => drawn(3) ? 'sync' : 'fail', () => 'sync']
   makeBase()
   begin()

@@ -1,5 +1,4 @@
 #include "attributes.h"
-#include "at_offset.h"
 #include "volume.h"
 #include "words.h"
 
@@ -38,5 +37,5 @@ int attributes_facts(struct node *node, struct flash_info *facts)
     if (code >= 0)
         return flash_fs_stat(&volume, path, facts);
     *facts = node->facts;
-    return node->fd >= 0 ? facts_of_open(&volume, node->fd, facts) : 0;
+    return node->fd >= 0 ? flash_fs_fstat(&volume, node->fd, facts) : 0;
 }

@@ -1,6 +1,5 @@
 /* Files that are open. Their descriptors are found when they are used, by descriptors.c. */
 #include "operations.h"
-#include "at_offset.h"
 #include "descriptors.h"
 #include "volume.h"
 
@@ -45,7 +44,7 @@ void read_file(fuse_req_t request, fuse_ino_t number, size_t size, off_t offset,
     }
     volume_enter();
     int fd = descriptor_of(node_of(number));
-    int64_t count = fd < 0 ? fd : read_at_offset(&volume, fd, buffer, size, offset);
+    int64_t count = fd < 0 ? fd : flash_fs_pread(&volume, fd, buffer, size, offset);
     volume_leave();
     if (count < 0)
         reply_code(request, (int)count);
@@ -59,7 +58,7 @@ void write_file(fuse_req_t request, fuse_ino_t number, const char *bytes, size_t
     (void)file;
     volume_enter();
     int fd = descriptor_of(node_of(number));
-    int64_t count = fd < 0 ? fd : write_at_offset(&volume, fd, bytes, size, offset, volume_now());
+    int64_t count = fd < 0 ? fd : flash_fs_pwrite(&volume, fd, bytes, size, offset, volume_now());
     volume_leave();
     if (count < 0)
         reply_code(request, (int)count);

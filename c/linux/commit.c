@@ -3,6 +3,7 @@
 
 #include <errno.h>
 #include <pthread.h>
+#include <signal.h>
 #include <time.h>
 
 static pthread_t thread;
@@ -37,11 +38,18 @@ static void *sync_each(void *unused)
     return unused;
 }
 
+/* Signals are for the thread that serves: they end its wait. */
 int commit_begin(unsigned seconds)
 {
+    sigset_t all, before;
+    if (seconds == 0)
+        return 0;
     period = seconds;
-    int code = seconds == 0 ? 0 : pthread_create(&thread, NULL, sync_each, NULL);
-    runs = seconds != 0 && code == 0;
+    sigfillset(&all);
+    pthread_sigmask(SIG_BLOCK, &all, &before);
+    int code = pthread_create(&thread, NULL, sync_each, NULL);
+    pthread_sigmask(SIG_SETMASK, &before, NULL);
+    runs = code == 0;
     return code;
 }
 

@@ -284,6 +284,8 @@ is_shown() {
 begin() {
     mkdir "$volume" "$host" "$work/tree"
     cp -r drivers examples test linux ./*.c ./*.h "$work/tree"
+    # git has the modes of files in its trees, and a volume has none.
+    find "$work/tree" -type f -exec chmod 644 {} +
     seq "$seed" 7 1500000 > "$work/drawn"
     head -c 20M /dev/zero > "$work/large"
     mount_image "$OUT/flash-fuse" --format --blocks=1024 --spare=40

@@ -7,24 +7,75 @@ use Rattle.posix_profile.specs.declared.reply.Reply.{Reply}
 use Rattle.nand_model.specs.Calls.{Device}
 use Rattle.mounting.specs.declared.fault.MountFault.{MountFault}
 use Rattle.mounting.specs.declared.fault.MountFault.TheVariants as mounts
+use Rattle.powercut.specs.Sessions.{IsEnded}
+use Rattle.powercut.specs.declared.session.Session.{Session}
 use Rattle.powercut.specs.declared.session.SessionEnd.{SessionEnd}
 use Rattle.exerciser.specs.Faults.{IsOfReading, of_mount}
 use Rattle.exerciser.specs.Seen.{IsSeen}
 use Rattle.exerciser.specs.declared.seen.Seen.{Seen}
 use Rattle.exerciser.specs.declared.seen.Seen.TheVariants as seens
-use Rattle.exerciser.specs.Causes.{IsAnswered, CountsCalls, IsOfSession, MountsAs, WhyNotBegun, HasCause}
+use Rattle.exerciser.specs.Causes.{IsAnswered, CountsCalls, HasCause, HasTree, MountsAs, WhyNotBegun, WhyUncounted, WhyUndone, WhyUnseen, uncut}
 use Rattle.exerciser.specs.Lines.{IsTold}
 use Rattle.exerciser.specs.declared.fault.CutFault.{CutFault}
 use Rattle.exerciser.specs.declared.fault.CutFault.TheVariants as faults
 
--- a session that is not counted is not done
-pub not_counted : (calls : ℕ) (end : SessionEnd) (fault : CutFault) → CountsCalls end calls (Err fault) → IsOfSession fault
-not_counted calls end faults.NoMemory counts = tt
-not_counted calls end (faults.Mount fault) counts = absurd counts
-not_counted calls end faults.Unmount counts = tt
-not_counted calls end faults.Unread counts = absurd counts
-not_counted calls end faults.Torn counts = absurd counts
-not_counted calls end faults.Write counts = absurd counts
+-- a session that is not counted is not mounted and unmounted
+not_counted : (first last : Device) (session : Session) (calls : ℕ) (end : SessionEnd) (fault : CutFault) → IsEnded session end first last → CountsCalls end calls (Err fault)
+    → WhyUncounted first session fault
+not_counted first last session calls end faults.NoMemory ended counts = tt
+not_counted first last session calls end (faults.Mount fault) ended counts = absurd counts
+not_counted first last session calls end faults.Unmount ended counts = record { last = last; end = end; ended = ended; refused = counts.0; undone = counts.1 }
+not_counted first last session calls end faults.Unread ended counts = absurd counts
+not_counted first last session calls end faults.Torn ended counts = absurd counts
+not_counted first last session calls end faults.Write ended counts = absurd counts
+
+pub uncounted : (first last : Device) (session : Session) (calls : ℕ) (end : SessionEnd) (result : Result ℕ CutFault) → IsEnded session end first last → CountsCalls end calls result
+    → IfErr result (WhyUncounted first session)
+uncounted first last session calls end (Ok count) ended counts = tt
+uncounted first last session calls end (Err fault) ended counts = not_counted first last session calls end fault ended counts
+
+-- so no call of it is drawn
+pub not_drawn : (first : Device) (session : Session) (fault : CutFault) → WhyUncounted first (uncut session) fault → WhyUndone first session fault
+not_drawn first session faults.NoMemory why = tt
+not_drawn first session (faults.Mount fault) why = why
+not_drawn first session faults.Unmount why = why
+not_drawn first session faults.Unread why = absurd why
+not_drawn first session faults.Torn why = why
+not_drawn first session faults.Write why = why
+
+-- memory was refused
+pub no_memory : (first : Device) (session : Session) (fault : CutFault) → fault ≡ faults.NoMemory → WhyUndone first session fault
+no_memory first session fault is = subst (WhyUndone first session) (sym is) tt
+
+-- nothing was seen after the session, cut or not
+pub not_seen : (first last : Device) (session now : Session) (end : SessionEnd) (fault : CutFault) → uncut now ≡ uncut session → IsEnded now end first last → WhyUnseen last fault → WhyUndone first session fault
+not_seen first last session now end faults.NoMemory like ended why = tt
+not_seen first last session now end (faults.Mount fault) like ended why = why
+not_seen first last session now end faults.Unmount like ended why = absurd why
+not_seen first last session now end faults.Unread like ended why = record { now = now; last = last; end = end; like = like; ended = ended; tree = why }
+not_seen first last session now end faults.Torn like ended why = why
+not_seen first last session now end faults.Write like ended why = why
+
+-- a tree was not read of a volume that was mounted
+pub not_told : (device : Device) (fault : CutFault) → HasTree device → IsOfReading fault → WhyUnseen device fault
+not_told device faults.NoMemory tree of = tt
+not_told device (faults.Mount fault) tree of = of
+not_told device faults.Unmount tree of = of
+not_told device faults.Unread tree of = tree
+not_told device faults.Torn tree of = of
+not_told device faults.Write tree of = of
+
+pub fails_telling : (device : Device) (result : Result Seen CutFault) → HasTree device → IfErr result IsOfReading → IfErr result (WhyUnseen device)
+fails_telling device (Ok seen) tree of = tt
+fails_telling device (Err fault) tree of = not_told device fault tree of
+
+pub begins_untold : (device : Device) (fault : CutFault) → HasTree device → IsOfReading fault → WhyNotBegun device fault
+begins_untold device faults.NoMemory tree of = tt
+begins_untold device (faults.Mount fault) tree of = absurd of
+begins_untold device faults.Unmount tree of = of
+begins_untold device faults.Unread tree of = tree
+begins_untold device faults.Torn tree of = of
+begins_untold device faults.Write tree of = of
 
 -- a mount that has this fault is seen as that
 pub seen_as : (tree : PlainView) (commands : List Stamped) (told : List Reply) (fault : MountFault) (result : Result Seen CutFault) → IfOk result (λ seen. (seen ≡ seens.Mount fault) × (fault ≢ mounts.NoMemory))
@@ -32,14 +83,14 @@ pub seen_as : (tree : PlainView) (commands : List Stamped) (told : List Reply) (
 seen_as tree commands told fault (Ok seen) is = subst (IsSeen tree commands told) (sym is.0) tt
 seen_as tree commands told fault (Err other) is = tt
 
-pub seen_failed : (device : Device) (fault : MountFault) (result : Result Seen CutFault) → IsAnswered device fault → IfOk result (λ seen. (seen ≡ seens.Mount fault) × (fault ≢ mounts.NoMemory))
-    → IfOk result (MountsAs device)
-seen_failed device fault (Ok seen) why is = subst (MountsAs device) (sym is.0) (is.1, why)
-seen_failed device fault (Err other) why is = tt
+pub seen_failed : (device : Device) (tree : PlainView) (commands : List Stamped) (told : List Reply) (fault : MountFault) (result : Result Seen CutFault) → IsAnswered device fault
+    → IfOk result (λ seen. (seen ≡ seens.Mount fault) × (fault ≢ mounts.NoMemory)) → IfOk result (MountsAs device tree commands told)
+seen_failed device tree commands told fault (Ok seen) why is = subst (MountsAs device tree commands told) (sym is.0) (is.1, why)
+seen_failed device tree commands told fault (Err other) why is = tt
 
-pub fails_reading : (result : Result Seen CutFault) → IfErr result (λ e. e ≡ faults.NoMemory) → IfErr result IsOfReading
-fails_reading (Ok seen) is = tt
-fails_reading (Err fault) is = subst IsOfReading (sym is) tt
+pub fails_reading : (device : Device) (result : Result Seen CutFault) → IfErr result (λ e. e ≡ faults.NoMemory) → IfErr result (WhyUnseen device)
+fails_reading device (Ok seen) is = tt
+fails_reading device (Err fault) is = subst (WhyUnseen device) (sym is) tt
 
 -- two faults of a mount
 abbrev Same : MountFault → MountFault → Type 0
@@ -53,13 +104,13 @@ begins_for device (mounts.Newer format) why = (λ (e : Same (mounts.Newer format
 begins_for device mounts.Damaged why = (λ (e : Same mounts.Damaged mounts.NoMemory). cc, why)
 
 -- a session was not done
-pub not_done : (first : Device) (fault : CutFault) → IsOfSession fault → HasCause first fault
-not_done first faults.NoMemory of = tt
-not_done first (faults.Mount fault) of = absurd of
-not_done first faults.Unmount of = tt
-not_done first faults.Unread of = tt
-not_done first faults.Torn of = absurd of
-not_done first faults.Write of = absurd of
+pub not_done : (first here : Device) (session : Session) (fault : CutFault) → WhyUndone here session fault → HasCause first fault
+not_done first here session faults.NoMemory why = tt
+not_done first here session (faults.Mount fault) why = absurd why
+not_done first here session faults.Unmount why = tt
+not_done first here session faults.Unread why = tt
+not_done first here session faults.Torn why = tt
+not_done first here session faults.Write why = tt
 
 pub not_begun : (first : Device) (fault : CutFault) → WhyNotBegun first fault → HasCause first fault
 not_begun first faults.NoMemory why = tt
@@ -70,13 +121,13 @@ not_begun first faults.Torn why = absurd why
 not_begun first faults.Write why = absurd why
 
 -- the writer failed
-pub not_told : (first : Device) (old new : Option (List ℕ)) (text : List ℕ) (fault : CutFault) → IsTold old new text (Err fault) → HasCause first fault
-not_told first old new text faults.NoMemory told = tt
-not_told first old new text (faults.Mount fault) told = absurd told
-not_told first old new text faults.Unmount told = tt
-not_told first old new text faults.Unread told = tt
-not_told first old new text faults.Torn told = tt
-not_told first old new text faults.Write told = tt
+pub not_written : (first : Device) (old new : Option (List ℕ)) (text : List ℕ) (fault : CutFault) → IsTold old new text (Err fault) → HasCause first fault
+not_written first old new text faults.NoMemory told = tt
+not_written first old new text (faults.Mount fault) told = absurd told
+not_written first old new text faults.Unmount told = tt
+not_written first old new text faults.Unread told = tt
+not_written first old new text faults.Torn told = tt
+not_written first old new text faults.Write told = tt
 
 -- a tree is torn
 pub not_kept : (first : Device) (fault : CutFault) → fault ≡ faults.Torn → HasCause first fault

@@ -3,14 +3,13 @@ use Rattle.std.proofs.Common.{◌≡◌, ℕ, ◌+◌, max, [], Some, Result, Ok
 use native.Mathlib.Numerals.{unary_clauses}
 use Rattle.std.specs.Prelude.{IfOk, true}
 use Rattle.nand_model.specs.Calls.{Device}
-use Rattle.nand_model.specs.MemoryState.{device, plan}
-use Rattle.nand_model.specs.declared.memory.MemNand.{MemNand}
+use Rattle.planned_nand.specs.Planning.{calls_since}
 use Rattle.powercut.specs.Living.{IsTrueOn}
 use Rattle.powercut.specs.Sessions.{IsEnded}
 use Rattle.powercut.specs.Starting.{fuse_of}
 use Rattle.powercut.specs.declared.session.Session.{Session}
 use Rattle.powercut.specs.declared.session.SessionEnd.{SessionEnd}
-use Rattle.exerciser.specs.Causes.{CountsCalls}
+use Rattle.exerciser.specs.Causes.{CountsCalls, uncut}
 use Rattle.exerciser.specs.declared.fault.CutFault.{CutFault}
 use Rattle.cut_draws.specs.Draws.{answers, operation_of}
 use Rattle.rand_core.specs.Pcg32Seed.{pcg32_seed}
@@ -18,7 +17,7 @@ use Rattle.rand_core.specs.Stream.{Stream, next_u64}
 use Rattle.rand_pcg.specs.Lcg.{Lcg}
 use Rattle.rand_pcg.specs.Pcg.{pcg64_of_seed}
 use Rattle.exerciser.specs.Cutting.{Exercise, IsCutSession}
-use Rattle.exerciser.specs.Draws.{words_after_session, words_after, session_word, drawn_fates, uncut, IsCountOf, IsDrawnAmong}
+use Rattle.exerciser.specs.Draws.{words_after_session, words_after, session_word, drawn_fates, IsCountOf, IsDrawnAmong}
 
 pub first_words : (seed pages : ℕ) (generator : Lcg) → generator ≡ pcg64_of_seed (pcg32_seed 32 seed) → answers generator ≡ words_after seed pages 0
 unfolding words_after
@@ -56,7 +55,7 @@ drawn_from first session count calls word (Ok operation) counted is drawn = (cou
 drawn_from first session count calls word (Err fault) counted is drawn = tt
 
 -- what is counted of a session is its calls
-pub counts : (end : SessionEnd) (calls : ℕ) (last : MemNand) (first : Device) (session : Session) (result : Result ℕ CutFault) → IsEnded session end first (device last) → calls ≡ (plan last).calls
+pub counts : (end : SessionEnd) (calls : ℕ) (last first : Device) (session : Session) (result : Result ℕ CutFault) → IsEnded session end first last → calls ≡ calls_since first last
     → CountsCalls end calls result → IfOk result (IsCountOf first session)
 counts end calls last first session (Ok count) ended is counted = record { last = last; end = end; ended = ended; counted = subst (λ n. CountsCalls end n (Ok count)) is counted }
 counts end calls last first session (Err fault) ended is counted = tt

@@ -109,6 +109,10 @@ pub ok_of : {A E : Type 0} (P Q R : A → Type 0) (r : Result A E) → ((x : A) 
 ok_of P Q R (Ok x) on one other = on x one other
 ok_of P Q R (Err e) on one other = one
 
+pub ok_of_all : {A E : Type 0} (P Q R S : A → Type 0) (r : Result A E) → ((x : A) → P x → Q x → R x → S x) → IfOk r P → IfOk r Q → IfOk r R → IfOk r S
+ok_of_all P Q R S (Ok x) on one other third = on x one other third
+ok_of_all P Q R S (Err e) on one other third = one
+
 pub ok_then : {A E : Type 0} (P Q : A → Type 0) (r : Result A E) → ((x : A) → P x → Q x) → IfOk r P → IfOk r Q
 ok_then P Q (Ok x) on is = on x is
 ok_then P Q (Err e) on is = is

@@ -1,5 +1,5 @@
 -- What a mount of a true flash shows is what the flash stands for.
-use Rattle.std.proofs.Common.{◌≡◌, true, refl, sym, ◌∙◌, ap, subst, Some, None, IfSome}
+use Rattle.std.proofs.Common.{◌≡◌, List, true, refl, sym, ◌∙◌, ap, subst, Some, None, IfSome}
 use Rattle.nand_model.specs.Calls.{Device}
 use Rattle.nand_model.specs.Changes.{PowersUp, OnlyReads}
 use Rattle.nand_model.specs.declared.geometry.Geometry.{Geometry}
@@ -15,13 +15,15 @@ use Rattle.paged_objects.specs.Standing.{volume_of}
 use Rattle.plain_tree.specs.Lists.{IsMadeOf, ListsShown, shown_of}
 use Rattle.plain_tree.specs.declared.list.TreeList.{TreeList}
 use Rattle.plain_volume.specs.Views.{PlainView}
+use Rattle.posix_profile.specs.declared.command.Stamped.{Stamped}
+use Rattle.posix_profile.specs.declared.reply.Reply.{Reply}
 use Rattle.posix_calls.specs.Answering.{ShowsState}
 use Rattle.posix_calls.specs.Mounts.{IsMounted}
 use Rattle.posix_calls.specs.laws.Trusting.{seen_since}
 use Rattle.powercut.specs.Living.{HasSame}
 use Rattle.powercut.specs.laws.SameFlash.{answers_same, same_back, same_on, true_same}
-use Rattle.exerciser.specs.Causes.{IsTreeOn, MountsAs, ShowsFlash}
-use Rattle.exerciser.specs.Keeping.{IsTreeShown}
+use Rattle.exerciser.specs.Causes.{HasTree, IsTornOn, IsTreeOn, MountsAs, ShowsFlash}
+use Rattle.exerciser.specs.Keeping.{IsKept, IsLeast, IsTreeShown}
 use Rattle.exerciser.specs.Seen.{tree_in}
 use Rattle.exerciser.specs.declared.seen.Seen.{Seen}
 use Rattle.exerciser.specs.declared.seen.Seen.TheVariants as seens
@@ -63,13 +65,28 @@ module _ {P V : Type 0} (state : P → PagesState) (over : V → PageVolume P) (
       let same : shown_of tree ≡ m.objects = is m.sizes m.read_only (at_mount m.objects) m.shown refl ∙ bare_settled m.sizes (at_mount m.objects) m.shown.2.sound refl in
       (m.spare, subst (λ objects. Answers d.geometry d.flash (IsTreeOf m.spare objects)) (sym same) m.answers)
 
+  -- the device stands for a tree
+  pub has_tree : HasTree d
+  has_tree truth = let m = on truth in (m.spare, m.objects, m.answers)
+
+  -- a session that may not leave what is shown may not leave the tree that lies on the device
+  pub torn_on : (before : PlainView) (commands : List Stamped) (told : List Reply) → IsKept (λ v. ShowsState state (over v)) v before commands told None → IsTornOn d before commands told
+  torn_on before commands told kept = λ truth.
+      let m = on truth in (
+        m.spare,
+        m.objects,
+        m.answers,
+        subst (λ objects. IsLeast before commands told (λ x. x ≡ objects) None) (bare_settled m.sizes (at_mount m.objects) m.shown.2.sound refl) (kept m.sizes m.read_only (at_mount m.objects) m.shown refl),
+      )
+
   -- and so does one that is made of what it tells
   pub made_on : (list : TreeList) → ListsShown (λ v. ShowsState state (over v)) v list → (tree : PlainView) → IsMadeOf list tree → IsTreeOn d tree
   made_on list listed tree made = tree_on tree (made_shown (λ v. ShowsState state (over v)) (λ v z read_only s shown. shown.2.sound) v list listed tree made)
 
 -- what is seen by commands is seen by a mount
-pub seen_on : (d : Device) (seen : Seen) → IfSome (tree_in seen) (IsTreeOn d) → ((fault : MountFault) → seen ≡ seens.Mount fault → ⊥) → MountsAs d seen
-seen_on d (seens.Kept count tree) on mounted = on
-seen_on d (seens.Torn (Some tree)) on mounted = on
-seen_on d (seens.Torn None) on mounted = tt
-seen_on d (seens.Mount fault) on mounted = absurd (mounted fault refl)
+pub seen_on : (d : Device) (before : PlainView) (commands : List Stamped) (told : List Reply) (seen : Seen) → IfSome (tree_in seen) (IsTreeOn d) → (seen ≡ seens.Torn None → IsTornOn d before commands told)
+    → ((fault : MountFault) → seen ≡ seens.Mount fault → ⊥) → MountsAs d before commands told seen
+seen_on d before commands told (seens.Kept count tree) on torn mounted = on
+seen_on d before commands told (seens.Torn (Some tree)) on torn mounted = on
+seen_on d before commands told (seens.Torn None) on torn mounted = torn refl
+seen_on d before commands told (seens.Mount fault) on torn mounted = absurd (mounted fault refl)

@@ -1,18 +1,19 @@
 -- The lines of sessions, one after another.
-use Rattle.std.proofs.Common.{◌≡◌, ◌<◌, ℕ, ◌+◌, List, [], ◌++◌, length, Option, Some, Result, Ok, Err, refl, sym, ap, ◌∙◌, subst, append_assoc}
+use Rattle.std.proofs.Common.{◌≡◌, ◌<◌, ℕ, ◌+◌, List, [], ◌++◌, length, Option, Some, Result, Ok, Err, refl, sym, ap, ◌∙◌, subst, inl, inr, append_assoc}
 use Rattle.std.specs.Prelude.{◌⊎◌, false}
 use native.Mathlib.Numerals.{unary_clauses}
 use Rattle.std.proofs.KnownBytes.{Appends-nil, Appends-trans}
 use Rattle.std.specs.Io.KnownBytes.{Appends}
 use Rattle.exerciser.specs.Faults.{IsOfReading, of_tree}
-use Rattle.exerciser.specs.Causes.{IsTreeOn, IsOfSession, MountsAs, WhyNotBegun}
+use Rattle.exerciser.specs.Causes.{IsTreeOn, MountsAs, WhyNotBegun, WhyUndone}
+use Rattle.powercut.specs.declared.session.Session.{Session}
 use Rattle.nand_model.specs.Calls.{Device}
 use Rattle.plain_volume.specs.Views.{PlainView}
 use Rattle.posix_profile.specs.laws.Fresh.{fresh}
 use Rattle.exerciser.specs.Keeping.{IsLeast, IsShownOf}
 use Rattle.exerciser.specs.Lines.{session_line, IsTold}
 use Rattle.exerciser.specs.Seen.{finding_of, IsSeen, IsTorn}
-use Rattle.exerciser.specs.Cutting.{Exercise, IsCutSession, AreKept, AreKeptBefore, Cuts}
+use Rattle.exerciser.specs.Cutting.{Exercise, IsAsked, IsCutSession, AreKept, AreKeptBefore, Cuts, WhyStopped}
 use Rattle.exerciser.specs.declared.fault.CutFault.{CutFault}
 use Rattle.exerciser.specs.declared.fault.CutFault.TheVariants as faults
 use Rattle.exerciser.specs.declared.finding.Finding.{Finding}
@@ -27,30 +28,23 @@ of_tree_is_reading trees.NoMemory = tt
 of_tree_is_reading (trees.Refused error) = tt
 of_tree_is_reading trees.Unlike = tt
 
--- a fault of which no line tells, and that is none of the writer
-abbrev pub IsSilent : CutFault → Type 0
-IsSilent faults.NoMemory = Unit {0}
-IsSilent (faults.Mount fault) = Unit {0}
-IsSilent faults.Unmount = Unit {0}
-IsSilent faults.Unread = Unit {0}
-IsSilent faults.Torn = ⊥
-IsSilent faults.Write = ⊥
+-- a session that was not done stops the sessions
+pub not_done_stops : (x : Exercise) (before : ℕ) (last : Device) (session : Session) (fault : CutFault) → IsAsked x session → WhyUndone last session fault → WhyStopped x before last fault
+not_done_stops x before last session faults.NoMemory asked why = tt
+not_done_stops x before last session (faults.Mount fault) asked why = absurd why
+not_done_stops x before last session faults.Unmount asked why = (session, asked, why)
+not_done_stops x before last session faults.Unread asked why = inr (session, asked, why)
+not_done_stops x before last session faults.Torn asked why = why
+not_done_stops x before last session faults.Write asked why = why
 
-pub not_done_is_silent : (fault : CutFault) → IsOfSession fault → IsSilent fault
-not_done_is_silent faults.NoMemory of = tt
-not_done_is_silent (faults.Mount fault) of = absurd of
-not_done_is_silent faults.Unmount of = tt
-not_done_is_silent faults.Unread of = tt
-not_done_is_silent faults.Torn of = of
-not_done_is_silent faults.Write of = of
-
-pub not_begun_is_silent : (device : Device) (fault : CutFault) → WhyNotBegun device fault → IsSilent fault
-not_begun_is_silent device faults.NoMemory why = tt
-not_begun_is_silent device (faults.Mount fault) why = tt
-not_begun_is_silent device faults.Unmount why = tt
-not_begun_is_silent device faults.Unread why = tt
-not_begun_is_silent device faults.Torn why = why
-not_begun_is_silent device faults.Write why = why
+-- and so does a device on which none was begun
+pub not_begun_stops : (x : Exercise) (device : Device) (fault : CutFault) → WhyNotBegun device fault → WhyStopped x 0 device fault
+not_begun_stops x device faults.NoMemory why = tt
+not_begun_stops x device (faults.Mount fault) why = refl
+not_begun_stops x device faults.Unmount why = absurd why
+not_begun_stops x device faults.Unread why = inl (refl, why)
+not_begun_stops x device faults.Torn why = why
+not_begun_stops x device faults.Write why = why
 
 -- a tree, where none was read
 abbrev pub some_tree : PlainView
@@ -82,7 +76,7 @@ module _ (x : Exercise) (before : ℕ) (first last : Device) (tree : PlainView) 
     told = Appends-trans old now later so_far.text (session_line (before + 1) done.operation (findings.Kept count) (length x.commands)) so_far.told told;
   }
 
-  module _ (seen : Seen) (few : before < x.sessions) (is_seen : IsSeen tree x.commands done.end.replies.items seen) (mounts : MountsAs last seen) where
+  module _ (seen : Seen) (few : before < x.sessions) (is_seen : IsSeen tree x.commands done.end.replies.items seen) (mounts : MountsAs last tree x.commands done.end.replies.items seen) where
     -- the line of the session
     abbrev line : List ℕ
     line = session_line (before + 1) done.operation (finding_of seen) (length x.commands)
@@ -130,13 +124,13 @@ told_as old new number operation finding told count commands result is counted l
 
 -- a session that was not done
 pub stops_silently : (x : Exercise) (before : ℕ) (last : Device) (tree : PlainView) (old now : Option (List ℕ)) (fault : CutFault) → before < x.sessions ⊎ (before ≡ 0)
-    → SoFar x before last tree old now → IsSilent fault → Cuts x old now (Err fault)
-stops_silently x before last tree old now faults.NoMemory few so_far silent = record { before = before; text = so_far.text; last = last; tree = tree; few = few; kept = so_far.kept; told = so_far.told }
-stops_silently x before last tree old now (faults.Mount fault) few so_far silent = record { before = before; text = so_far.text; last = last; tree = tree; few = few; kept = so_far.kept; told = so_far.told }
-stops_silently x before last tree old now faults.Unmount few so_far silent = record { before = before; text = so_far.text; last = last; tree = tree; few = few; kept = so_far.kept; told = so_far.told }
-stops_silently x before last tree old now faults.Unread few so_far silent = record { before = before; text = so_far.text; last = last; tree = tree; few = few; kept = so_far.kept; told = so_far.told }
-stops_silently x before last tree old now faults.Torn few so_far silent = absurd silent
-stops_silently x before last tree old now faults.Write few so_far silent = absurd silent
+    → SoFar x before last tree old now → WhyStopped x before last fault → Cuts x old now (Err fault)
+stops_silently x before last tree old now faults.NoMemory few so_far why = record { before = before; text = so_far.text; last = last; tree = tree; few = few; kept = so_far.kept; told = so_far.told; why = why }
+stops_silently x before last tree old now (faults.Mount fault) few so_far why = record { before = before; text = so_far.text; last = last; tree = tree; few = few; kept = so_far.kept; told = so_far.told; why = why }
+stops_silently x before last tree old now faults.Unmount few so_far why = record { before = before; text = so_far.text; last = last; tree = tree; few = few; kept = so_far.kept; told = so_far.told; why = why }
+stops_silently x before last tree old now faults.Unread few so_far why = record { before = before; text = so_far.text; last = last; tree = tree; few = few; kept = so_far.kept; told = so_far.told; why = why }
+stops_silently x before last tree old now faults.Torn few so_far why = absurd why
+stops_silently x before last tree old now faults.Write few so_far why = absurd why
 
 pub ends : (x : Exercise) (before : ℕ) (last : Device) (tree : PlainView) (old now : Option (List ℕ)) → before ≡ x.sessions → SoFar x before last tree old now → Cuts x old now (Ok tt)
 ends x before last tree old now all so_far = (last, tree, so_far.text, subst (λ n. AreKept x n last tree so_far.text) all so_far.kept, so_far.told)

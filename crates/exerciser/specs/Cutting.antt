@@ -10,8 +10,8 @@ use Rattle.powercut.specs.Sessions.{IsEnded}
 use Rattle.powercut.specs.Starting.{fuse_of}
 use Rattle.powercut.specs.declared.session.Session.{Session}
 use Rattle.powercut.specs.declared.session.SessionEnd.{SessionEnd}
-use Rattle.exerciser.specs.Causes.{IsTreeOn, MountsAs}
-use Rattle.exerciser.specs.Draws.{IsDrawnAmong, drawn_fates, session_word, uncut, words_after}
+use Rattle.exerciser.specs.Causes.{HasTree, IsTreeOn, IsUndone, IsUnread, MountsAs, uncut}
+use Rattle.exerciser.specs.Draws.{IsDrawnAmong, drawn_fates, session_word, words_after}
 use Rattle.exerciser.specs.Keeping.{IsLeast, IsShownOf}
 use Rattle.exerciser.specs.Lines.{session_line}
 use Rattle.exerciser.specs.Seen.{finding_of, IsSeen, IsTorn}
@@ -61,11 +61,27 @@ pub record AreKeptBefore (x : Exercise) (seen : Seen) (text : List ℕ) : Type 0
   pub on : IsTreeOn first tree
   pub done : IsCutSession x before first last
   pub is_seen : IsSeen tree x.commands done.end.replies.items seen
-  pub mounts : MountsAs last seen
+  pub mounts : MountsAs last tree x.commands done.end.replies.items seen
   pub text_is : text ≡ lines ++ session_line (before + 1) done.operation (finding_of seen) (length x.commands)
 
--- the lines of fewer sessions, all of which kept a tree, are out; none where the first tree was not read
-pub record IsStopped (x : Exercise) (old new : Option (List ℕ)) : Type 0 where
+-- a session of the exercise: it has these commands, no call that fails, and an unmount
+pub record IsAsked (x : Exercise) (session : Session) : Type 0 where
+  pub commands_are : session.commands.items ≡ x.commands
+  pub failures_are : session.failures.items ≡ []
+  pub unmounts : session.unmount ≡ true
+
+-- Why the session after so many was not told of: memory was refused; a mount of the first device failed; the session is not mounted and
+-- unmounted where it is not cut; or a tree was not read, of a volume that was mounted, before the first session or after this one.
+abbrev pub WhyStopped : Exercise → (before : ℕ) → (last : Device) → CutFault → Type 0
+WhyStopped x before last faults.NoMemory = Unit {0}
+WhyStopped x before last (faults.Mount fault) = before ≡ 0
+WhyStopped x before last faults.Unmount = (session : Session) × IsAsked x session × IsUndone last (uncut session)
+WhyStopped x before last faults.Unread = ((before ≡ 0) × HasTree last) ⊎ ((session : Session) × IsAsked x session × IsUnread last session)
+WhyStopped x before last faults.Torn = ⊥
+WhyStopped x before last faults.Write = ⊥
+
+-- The lines of fewer sessions, all of which kept a tree, are out; none where the first tree was not read. The fault has its cause.
+pub record IsStopped (x : Exercise) (fault : CutFault) (old new : Option (List ℕ)) : Type 0 where
   pub before : ℕ
   pub text : List ℕ
   pub last : Device
@@ -73,6 +89,7 @@ pub record IsStopped (x : Exercise) (old new : Option (List ℕ)) : Type 0 where
   pub few : before < x.sessions ⊎ (before ≡ 0)
   pub kept : AreKept x before last tree text
   pub told : Appends old new text
+  pub why : WhyStopped x before last fault
 
 -- What is told of sessions: where all is well a line for each, which says that a tree is kept. Where a tree is torn its line comes
 -- last. Where the writer failed the last line may be told in part.
@@ -80,4 +97,4 @@ abbrev pub Cuts : Exercise → Option (List ℕ) → Option (List ℕ) → Resul
 Cuts x old new (Ok done) = (last : Device) × (tree : PlainView) × (text : List ℕ) × AreKept x x.sessions last tree text × Appends old new text
 Cuts x old new (Err faults.Torn) = (seen : Seen) × (text : List ℕ) × IsTorn seen × AreKeptBefore x seen text × Appends old new text
 Cuts x old new (Err faults.Write) = (seen : Seen) × (text : List ℕ) × AreKeptBefore x seen text × AppendsPart old new text
-Cuts x old new (Err fault) = IsStopped x old new
+Cuts x old new (Err fault) = IsStopped x fault old new

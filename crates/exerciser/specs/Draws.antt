@@ -1,9 +1,8 @@
 -- Which calls of the device are cut, drawn from a seed.
-use Rattle.std.specs.Prelude.{◌≡◌, ℕ, zero, suc, max, List, map, None, Ok}
+use Rattle.std.specs.Prelude.{◌≡◌, ℕ, zero, suc, max, List, map, Ok}
 use Rattle.nand_model.specs.Calls.{Device}
-use Rattle.nand_model.specs.MemoryState.{device, plan}
 use Rattle.nand_model.specs.declared.fate.Fate.{Fate}
-use Rattle.nand_model.specs.declared.memory.MemNand.{MemNand}
+use Rattle.planned_nand.specs.Planning.{calls_since}
 use Rattle.powercut.specs.Sessions.{IsEnded}
 use Rattle.powercut.specs.declared.session.Session.{Session}
 use Rattle.powercut.specs.declared.session.SessionEnd.{SessionEnd}
@@ -30,16 +29,13 @@ words_after seed pages (suc before) = words_after_session pages (words_after see
 abbrev pub session_word : (seed pages before : ℕ) → ℕ
 session_word seed pages before = (next_u64 (words_after seed pages before)).0
 
--- the session with no call that is cut
-abbrev pub uncut : Session → Session
-uncut session = record session { fuse = None }
-
--- the session makes so many calls from its power-up on, with its mount and its unmount, which are done, on a device like this
+-- The session makes so many calls from its power-up on, with its mount and its unmount, which are done, on a device like this: as many as the
+-- device counts from before it to after it.
 pub record IsCountOf (first : Device) (session : Session) (calls : ℕ) : Type 0 where
-  pub last : MemNand
+  pub last : Device
   pub end : SessionEnd
-  pub ended : IsEnded session end first (device last)
-  pub counted : CountsCalls end (plan last).calls (Ok calls)
+  pub ended : IsEnded session end first last
+  pub counted : CountsCalls end (calls_since first last) (Ok calls)
 
 -- the word draws this call, among those that the session makes on the device
 abbrev pub IsDrawnAmong : Device → Session → (word operation : ℕ) → Type 0

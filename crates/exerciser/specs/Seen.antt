@@ -21,8 +21,8 @@ tree_in (seens.Kept count tree) = Some tree
 tree_in (seens.Torn tree) = tree
 tree_in (seens.Mount fault) = None
 
--- A tree is kept where the session may leave it, after the least number of commands that leaves it; and torn where it may not. Of
--- what cannot be made again as a tree, and of a mount that fails, nothing is said.
+-- A tree is kept where the session may leave it, after the least number of commands that leaves it; and torn where it may not. What
+-- cannot be made again as a tree, and a mount that fails, are told of the device (`MountsAs`).
 abbrev pub IsSeen : PlainView → List Stamped → List Reply → Seen → Type 0
 IsSeen before commands replies (seens.Kept count tree) = IsLeast before commands replies (IsShownOf tree) (Some count)
 IsSeen before commands replies (seens.Torn (Some tree)) = IsLeast before commands replies (IsShownOf tree) None

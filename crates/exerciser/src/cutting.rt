@@ -6,8 +6,8 @@ ghost use Rattle.cut_draws.specs.Draws.{answers, operation_of};
 ghost use Rattle.powercut.specs.Living.{IsTrueOn};
 ghost use Rattle.powercut.specs.Sessions.{IsEnded};
 ghost use Rattle.powercut.specs.Starting.{fuse_of};
-ghost use Rattle.exerciser.specs.Causes.{IsOfSession, HasCause, MountsAs};
-ghost use Rattle.exerciser.specs.Draws.{words_after_session, drawn_fates, uncut, IsDrawnAmong};
+ghost use Rattle.exerciser.specs.Causes.{HasCause, MountsAs, WhyUndone, uncut};
+ghost use Rattle.exerciser.specs.Draws.{words_after_session, drawn_fates, IsDrawnAmong};
 ghost use Rattle.exerciser.specs.Cutting.{Cuts};
 ghost use Rattle.exerciser.specs.Seen.{IsSeen, IsTorn};
 ghost use Rattle.exerciser.specs.declared.fault.CutFault.TheVariants as faults;
@@ -59,7 +59,7 @@ fn draw_fuse(
     ensures fuse { IfOk result (λ operation. fuse_of session.new.fuse ≡ Some (operation, drawn_fates pages (answers generator.old))) }
     ensures drawn { IfOk result (IsDrawnAmong (device nand.now) (uncut session.old) (next_u64 (answers generator.old)).0) }
     ensures left { OnOk result (answers generator.new ≡ words_after_session pages (answers generator.old)) }
-    ensures fault { IfErr result IsOfSession }
+    ensures fault { IfErr result (WhyUndone (device nand.now) session.old) }
 {
     session.fuse = None;
     let calls = count_calls(alloc, nand, session)?.max(1);
@@ -90,8 +90,8 @@ fn exercise(
     ensures ended { IfOk result (λ done. IsEnded session.new done.end (device standing.device) (device done.device)) }
     ensures truth { IfOk result (λ done. IsTrueOn (device standing.device) → IsTrueOn (device done.device)) }
     ensures seen { IfOk result (λ done. IsSeen standing.tree session.old.commands.items done.end.replies.items done.seen) }
-    ensures mounts { IfOk result (λ done. MountsAs (device done.device) done.seen) }
-    ensures fault { IfErr result IsOfSession }
+    ensures mounts { IfOk result (λ done. MountsAs (device done.device) standing.tree session.old.commands.items done.end.replies.items done.seen) }
+    ensures fault { IfErr result (WhyUndone (device standing.device) session.old) }
 {
     let Standing { device, tree } = standing;
     let operation = draw_fuse(alloc, &device, session, generator, pages)?;

@@ -5,7 +5,6 @@ ghost use Rattle.exerciser.specs.declared.fault.CutFault.TheVariants as faults;
 
 use plain_tree::TreeFault;
 use posix_calls::MountFault;
-use powercut::LiveFault;
 use std::alloc::AllocError;
 use thiserror::Error;
 
@@ -37,14 +36,6 @@ impl From<AllocError> for CutFault {
     ghost from_gives = { λ _ e. e ≡ faults.NoMemory };
 
     fn from(_error: AllocError) -> CutFault {
-        CutFault::NoMemory
-    }
-}
-
-impl From<LiveFault> for CutFault {
-    ghost from_gives = { λ _ e. e ≡ faults.NoMemory };
-
-    fn from(_fault: LiveFault) -> CutFault {
         CutFault::NoMemory
     }
 }

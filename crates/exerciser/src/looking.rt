@@ -1,8 +1,9 @@
 // The sessions and the mounts of an exercise that no fuse cuts.
-ghost use Rattle.std.specs.Prelude.{◌≡◌, ◌≢◌, None, IfOk, IfErr, IfSome};
+ghost use Rattle.std.specs.Prelude.{◌≡◌, ◌≢◌, false, None, is_some, IfOk, IfErr, IfSome};
 ghost use Rattle.volume_terms.specs.Sizes.{IsSizes};
 ghost use Rattle.volume_terms.specs.VolumeSizes.{sizes_of};
-ghost use Rattle.nand_model.specs.MemoryState.{device};
+ghost use Rattle.nand_model.specs.MemoryState.{device, plan};
+ghost use Rattle.planned_nand.specs.Planning.{calls_since};
 ghost use Rattle.mounting.specs.declared.fault.MountFault.{MountFault};
 ghost use Rattle.mounting.specs.declared.fault.MountFault.TheVariants as mounts;
 ghost use Rattle.plain_tree.specs.Lists.{IsMadeOf, Lists, ListsShown};
@@ -10,7 +11,7 @@ ghost use Rattle.powercut.specs.Living.{IsTrueOn};
 ghost use Rattle.powercut.specs.Sessions.{IsEnded};
 ghost use Rattle.exerciser.specs.Faults.{IsOfReading};
 ghost use Rattle.newest_pages.specs.Checked.{HasTrueFlash};
-ghost use Rattle.exerciser.specs.Causes.{IsAnswered, CountsCalls, IsOfSession, IsTreeOn, MountsAs, ShowsFlash, WhyNotBegun};
+ghost use Rattle.exerciser.specs.Causes.{IsAnswered, CountsCalls, IsTreeOn, MountsAs, ShowsFlash, WhyNotBegun, WhyUncounted, WhyUnseen};
 ghost use Rattle.exerciser.specs.Draws.{IsCountOf};
 ghost use Rattle.exerciser.specs.Keeping.{IsKept, IsLeast, IsTreeShown};
 ghost use Rattle.exerciser.specs.Seen.{IsSeen, tree_in};
@@ -25,7 +26,7 @@ use nand_model::{Geometry, MemNand, Nand};
 use plain_tree::{Answers, PlainTree, TreeFault, TreeList};
 use posix_calls::{MountFault, Volume};
 use posix_profile::{Command, Reply, Stamped};
-use powercut::{Session, SessionEnd, live};
+use powercut::{Session, SessionEnd, live_one};
 use std::alloc::Global;
 use volume_terms::VolumeSizes;
 
@@ -116,13 +117,11 @@ pub(crate) fn live_once(
 ) -> Result<(MemNand, SessionEnd), CutFault>
     ensures ended { IfOk result (λ lived. IsEnded session.now lived.1 (device nand) (device lived.0)) }
     ensures truth { IfOk result (λ lived. IsTrueOn (device nand) → IsTrueOn (device lived.0)) }
+    ensures calls { IfOk result (λ lived. (device lived.0).gone ≡ false → (plan lived.0).calls ≡ calls_since (device nand) (device lived.0)) }
     ensures fault { IfErr result (λ e. e ≡ faults.NoMemory) }
 {
-    let (last, mut ends) = live(alloc, nand, std::slice::from_ref(session))?;
-    match ends.pop() {
-        Some(end) => Ok((last, end)),
-        None => Err(CutFault::NoMemory),
-    }
+    let (last, end) = live_one(alloc, nand, session)?;
+    Ok((last, end))
 }
 
 /// So many calls, where the session was mounted and unmounted, and else why it was not.
@@ -138,8 +137,9 @@ fn calls_of(end: &SessionEnd, calls: u64) -> Result<u64, CutFault>
 
 /// How many calls of a device a session makes that is not cut, up to the end of its unmount.
 pub(crate) fn count_calls(alloc: Global, nand: &MemNand, session: &Session) -> Result<u64, CutFault>
+    requires { is_some session.now.fuse ≡ false }
     ensures counted { IfOk result (IsCountOf (device nand.now) session.now) }
-    ensures fault { IfErr result IsOfSession }
+    ensures fault { IfErr result (WhyUncounted (device nand.now) session.now) }
 {
     let (last, end) = live_once(alloc, nand.copy()?, session)?;
     calls_of(&end, last.calls())
@@ -210,8 +210,8 @@ pub(crate) fn look(
     end: &SessionEnd,
 ) -> Result<Seen, CutFault>
     ensures seen { IfOk result (IsSeen tree.now script.now end.now.replies.items) }
-    ensures mounts { IfOk result (MountsAs (device nand.now)) }
-    ensures fault { IfErr result IsOfReading }
+    ensures mounts { IfOk result (MountsAs (device nand.now) tree.now script.now end.now.replies.items) }
+    ensures fault { IfErr result (WhyUnseen (device nand.now)) }
 {
     let copy = nand.copy()?;
     match mount(alloc, copy) {

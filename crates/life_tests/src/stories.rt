@@ -34,7 +34,7 @@ fn calls_of(alloc: Global, nand: &MemNand, lines: &[&str]) -> Result<u64, Fail> 
     Ok(nand.calls())
 }
 
-/// The sessions of a cut, of a mount that is cut too where a call is told, and of looks.
+/// The sessions of a cut, of a mount and an unmount that are cut too where a call is told, and of looks.
 fn sessions_of(
     alloc: Global,
     story: Story<'_>,
@@ -45,7 +45,9 @@ fn sessions_of(
     let mut sessions = Vec::new(alloc);
     sessions.push(cut_session(alloc, story.all, call, fates)?)?;
     if let Some(again) = again {
-        sessions.push(cut_session(alloc, &[], again, fates)?)?;
+        let mut second = cut_session(alloc, &[], again, fates)?;
+        second.unmount = true;
+        sessions.push(second)?;
     }
     sessions.push(session(alloc, story.looks)?)?;
     Ok(sessions)
@@ -72,7 +74,7 @@ fn left_by(
     Ok(Left::Old)
 }
 
-/// Cuts each of the last calls with all pages left in one way, alone and with a cut in the next mount. Gives the calls
+/// Cuts each of the last calls with all pages left in one way, alone and with a cut in the next session. Gives the calls
 /// and the fates after which the tree is the one after the last lines, the first of the last calls being 0.
 fn cut_each(
     rt: &impl Abort,

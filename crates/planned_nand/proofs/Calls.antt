@@ -9,14 +9,14 @@ use Rattle.nand_model.specs.declared.nand.PageKind.{PageKind}
 use Rattle.nand_model.specs.declared.nand.Gone.{Gone}
 use Rattle.nand_model.specs.declared.nand.ProgramFault.{ProgramFault}
 use Rattle.nand_model.specs.declared.nand.EraseFault.{EraseFault}
-use Rattle.planned_nand.specs.Naming.{KeepsPlan}
+use Rattle.planned_nand.specs.Naming.{Totals, KeepsPlan}
 use Rattle.planned_nand.proofs.Keeping.{Counts, keeps_on}
 
 not_true : (b : Bool) → (b ≡ true → ⊥) → b ≡ false
 not_true true never = absurd (never refl)
 not_true false never = refl
 
-module _ (d e : Device) (p q : Plan) (told : ℕ × ℕ × ℕ) (keeps : KeepsPlan d p told) where
+module _ (d e : Device) (p q : Plan) (told : Totals) (keeps : KeepsPlan d p told) where
   -- a read
   pub read_keeps : (result : Result PageKind Gone) → Reads d e result → ReadsAsPlanned p d result → q ≡ after_read p → KeepsPlan e q told
   read_keeps result reads planned is =
@@ -58,7 +58,7 @@ three cut failed whole true listed P is = inl (refl, is)
 three cut failed whole false true P is = inr (inl (refl, refl, is))
 three cut failed whole false false P is = inr (inr (refl, is))
 
-module _ (d e : Device) (p q : Plan) (told : ℕ × ℕ × ℕ) (keeps : KeepsPlan d p told) where
+module _ (d e : Device) (p q : Plan) (told : Totals) (keeps : KeepsPlan d p told) where
   abbrev fused : Bool
   fused = is_fused p.fuse (next_call p)
 

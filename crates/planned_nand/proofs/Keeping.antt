@@ -7,7 +7,7 @@ use Rattle.nand_model.specs.Plans.{Plan, counted, is_fused, failure_at}
 use Rattle.nand_model.specs.Planned.{next_call}
 use Rattle.nand_model.specs.declared.fate.Fate.{Fate}
 use Rattle.planned_nand.specs.Planning.{call_of, fuse_call, failing, calls_of, are_counted}
-use Rattle.planned_nand.specs.Naming.{reached, KeepsPlan}
+use Rattle.planned_nand.specs.Naming.{reached, Totals, KeepsPlan}
 
 -- the number of the next call
 next_is : (n top : ℕ) → min (min n top + 1) top ≡ min (n + 1) top
@@ -101,7 +101,7 @@ cuts_on d e start lasts power were =
           ]
     ]
 
-module _ (d e : Device) (p q : Plan) (told : ℕ × ℕ × ℕ) (keeps : KeepsPlan d p told) (lasts : Lasts d e)
+module _ (d e : Device) (p q : Plan) (told : Totals) (keeps : KeepsPlan d p told) (lasts : Lasts d e)
     (fuse : q.fuse ≡ p.fuse) (failures : q.failures ≡ p.failures) (calls : q.calls ≡ next_call p) (counts : d.gone ≡ false → Counts p d e) where
   same_fuse : fuse_call q ≡ fuse_call p
   same_fuse = ap call_of fuse

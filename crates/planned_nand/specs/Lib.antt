@@ -1,3 +1,4 @@
 pub mod Planning
+pub mod Running
 pub mod Naming
 pub mod States

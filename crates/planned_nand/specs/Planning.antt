@@ -1,6 +1,6 @@
 -- What the plan of a session makes of a device in memory.
 -- From: this project.
-use Rattle.std.specs.Prelude.{◌≡◌, ℕ, ◌+◌, ◌-◌, ◌^◌, ◌<◌, ◌≤◌, Bool, true, false, ◌&&◌, nat_lt, Option, None, Some, List, [], ◌∷◌, length, map, if◌then◌else◌}
+use Rattle.std.specs.Prelude.{◌≡◌, ℕ, ◌+◌, ◌-◌, ◌^◌, ◌<◌, ◌≤◌, Bool, true, false, ◌&&◌, nat_lt, min, Option, None, Some, List, [], ◌∷◌, length, map, if◌then◌else◌}
 use Rattle.nand_model.specs.Calls.{Device}
 use Rattle.nand_model.specs.Plans.{Plan}
 use Rattle.nand_model.specs.declared.fate.Fate.{Fate}
@@ -21,6 +21,10 @@ failing plan = map (λ f. f.0) plan.failures
 -- how many calls were made on a device with power
 abbrev pub calls_of : Device → ℕ
 calls_of d = d.reads + d.changes
+
+-- how many calls were made since, as a fuse counts them: up to the greatest number of 64 bits
+abbrev pub calls_since : (first last : Device) → ℕ
+calls_since first last = min (calls_of last - calls_of first) (2 ^ 64 - 1)
 
 -- each is below the greatest number of 64 bits, from which on a device tells no more calls apart
 abbrev pub are_counted : List ℕ → Bool

@@ -3,8 +3,9 @@ ghost use Rattle.std.specs.Prelude.{◌≡◌, ◌<◌, ◌^◌, ℕ, true, fals
 ghost use Rattle.nand_model.specs.Calls.{Device, Lasts};
 ghost use Rattle.nand_model.specs.Plans.{Plan};
 ghost use Rattle.nand_model.specs.MemoryState.{device, plan};
-ghost use Rattle.planned_nand.specs.Planning.{fuse_call, IsPlanned};
-ghost use Rattle.planned_nand.specs.Naming.{KeepsPlan, totals, begun};
+ghost use Rattle.planned_nand.specs.Planning.{fuse_call, calls_since, IsPlanned};
+ghost use Rattle.planned_nand.specs.Running.{RunsAsPlanned};
+ghost use Rattle.planned_nand.specs.Naming.{KeepsPlan, HasRun, totals, begun};
 
 use crate::start::Start;
 use nand_model::{EraseFault, Geometry, Gone, MemNand, Nand, PageKind, ProgramFault};
@@ -12,12 +13,13 @@ use nand_model::{EraseFault, Geometry, Gone, MemNand, Nand, PageKind, ProgramFau
 /// A device in memory from a power-up to the end of a session. Each call is the device's own.
 ///
 /// Code that works on any device is proved without a word on plans. What is known of this one still says, when it comes back from
-/// such code, which session it is from: its count of cuts begins at a number that names the plan and the counts before it.
+/// such code, which session it is from: its count of cuts begins at a number that names the plan, and the counts and the flash before it.
 #[derive(Drop)]
 pub struct PlannedNand {
     nand: MemNand,
     start: Start,
     ghost kept: { KeepsPlan (device nand) (plan nand) start.told },
+    ghost run: { ∥ HasRun start.told (plan nand) (device nand) ∥₁ },
 }
 
 impl PlannedNand {
@@ -25,7 +27,7 @@ impl PlannedNand {
 
     /// A device that was just powered up, with the plan of its session.
     pub fn new(nand: MemNand) -> PlannedNand
-        ghost told: { ℕ × ℕ × ℕ }
+        ghost told: { ℕ × ℕ × ℕ × ℕ × ℕ }
         requires power { (device nand).gone ≡ false }
         requires anew { (plan nand).calls ≡ 0 }
         requires fuse { fuse_call (plan nand) < 2 ^ 64 }
@@ -42,6 +44,9 @@ impl PlannedNand {
     pub fn into_nand(self) -> MemNand
         ensures device { state_of self ≡ record (device result) { cuts = (state_of self).cuts } }
         ensures planned { (p : Plan) (first : Device) → Lasts (begun p first) (state_of self) → IsPlanned p first (device result) }
+        ensures runs { (p : Plan) (first : Device) → Lasts (begun p first) (state_of self) → ∥ RunsAsPlanned p first (device result) ∥₁ }
+        ensures calls { (p : Plan) (first : Device) → Lasts (begun p first) (state_of self) → (device result).gone ≡ false
+            → (plan result).calls ≡ calls_since first (device result) }
     {
         self.nand
     }

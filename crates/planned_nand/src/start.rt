@@ -1,13 +1,13 @@
-// The counts that a device begins a session with, for contracts alone.
+// What a device begins a session with, for contracts alone.
 ghost use Rattle.std.specs.Prelude.{◌≡◌, ℕ};
 ghost use base.Fml.{ftrue};
 
 use std::marker::Model;
 
-/// The counts of a device at a power-up. It takes no memory.
+/// The counts of a device at a power-up, and the number of its flash. It takes no memory.
 #[derive(Drop)]
 pub(crate) struct Start {
-    pub ghost told: { ℕ × ℕ × ℕ },
+    pub ghost told: { ℕ × ℕ × ℕ × ℕ × ℕ },
 }
 
 impl Model for Start {
@@ -15,9 +15,9 @@ impl Model for Start {
 }
 
 impl Start {
-    /// Counts, as a proof chooses at the call.
+    /// Numbers, as a proof chooses at the call.
     pub(crate) fn as_told() -> Start
-        ghost told: { ℕ × ℕ × ℕ }
+        ghost told: { ℕ × ℕ × ℕ × ℕ × ℕ }
         ensures { result.told ≡ told }
     {
         Start {}

@@ -1,7 +1,8 @@
 -- One session from its power-up on.
-use Rattle.std.specs.Prelude.{◌≡◌, ◌+◌, ℕ, Bool, true, false, List, [], ◌∷◌, length, Option, None, Some, is_some, if◌then◌else◌}
+use Rattle.std.specs.Prelude.{◌≡◌, ◌+◌, ◌-◌, ◌^◌, ℕ, Bool, min, true, false, List, [], ◌∷◌, length, Option, None, Some, is_some, if◌then◌else◌}
 use Rattle.std.specs.Global.{Vec}
 use Rattle.std.proofs.Common.{refl, sym, ◌∙◌, ap, subst, inl, inr, arith}
+use mathlib.Core.Logic.{∥∥₁_elim}
 use Rattle.flash_tree.specs.Checkpoints.{IsTrueFlash}
 use Rattle.flash_tree.specs.Mount.{Answers, IsTreeOf, sizes_of, bad_blocks}
 use Rattle.mounting.specs.Faults.{WhyNotMounted}
@@ -10,17 +11,19 @@ use Rattle.mounting.specs.declared.fault.MountFault.TheVariants as faults
 use Rattle.newest_pages.specs.Checked.{HasTrueFlash}
 use Rattle.pages.specs.Stores.{bad_on}
 use Rattle.nand_model.specs.Calls.{Device}
+use Rattle.nand_model.specs.Changes.{PowersUp}
 use Rattle.nand_model.specs.Plans.{Plan}
 use Rattle.nand_model.specs.declared.fate.Fate.{Fate}
 use Rattle.nand_model.specs.declared.geometry.Geometry.{Geometry}
-use Rattle.planned_nand.specs.Planning.{call_of, IsPlanned}
+use Rattle.planned_nand.specs.Planning.{call_of, calls_of, calls_since, IsPlanned}
+use Rattle.planned_nand.specs.Running.{RunsAsPlanned}
 use Rattle.lives.specs.Lives.{SessionRecord, at_mount}
 use Rattle.posix_profile.specs.Runs.{RunHolds}
 use Rattle.posix_profile.specs.declared.command.Stamped.{Stamped}
 use Rattle.posix_profile.specs.declared.reply.Reply.{Reply}
 use Rattle.powercut.specs.Living.{HasSame, HasLived}
 use Rattle.powercut.specs.Serving.{served_record}
-use Rattle.powercut.specs.Sessions.{answer_of, record_of, IsEnded, IsServedFrom}
+use Rattle.powercut.specs.Sessions.{answer_of, record_of, IsEnded, IsServedFrom, RunsFrom}
 use Rattle.powercut.specs.declared.serving.Served.{Served}
 use Rattle.powercut.specs.declared.session.Session.{Session}
 use Rattle.powercut.specs.declared.session.SessionEnd.{SessionEnd}
@@ -49,6 +52,61 @@ module _ (fused : Bool) (a b c : Device) (starts : Starts fused a b) where
         uncut = λ goes some. let lt = planned.uncut goes some in omega (arith, lt, changes, reads);
         failures = λ all. let few = planned.failures all in omega (arith, few, failures);
       }
+
+  -- and so are its calls
+  pub since_before : calls_since b c ≡ calls_since a c
+  since_before =
+      let changes = starts.changes in
+      let reads = starts.reads in
+      let made : calls_of b ≡ calls_of a = omega (arith, changes, reads) in
+      ap (λ n. min (calls_of c - n) (2 ^ 64 - 1)) made
+
+  -- the device as it was powered up, with no word on its fuse
+  abbrev up : Device
+  up = record b { steady = true }
+
+  powers_up : ((k : ℕ) → b.flash.next k ≡ None) → PowersUp a up
+  powers_up nexts = record {
+    geometry = starts.geometry;
+    honest = starts.honest;
+    gone = starts.gone;
+    steady = refl;
+    page = starts.page;
+    bad = starts.bad;
+    nexts = nexts;
+    cuts = starts.cuts;
+    failures = starts.failures;
+    changes = starts.changes;
+    reads = starts.reads;
+  }
+
+  ran_from : (p : Plan) → ((k : ℕ) → b.flash.next k ≡ None) → RunsAsPlanned p b c → RunsFrom p a c
+  ran_from p nexts ran = (
+    up,
+    powers_up nexts,
+    record {
+      start = ran.start;
+      is_as = record {
+        geometry = ran.is_as.geometry;
+        honest = ran.is_as.honest;
+        bad = ran.is_as.bad;
+        next = ran.is_as.next;
+        page = ran.is_as.page;
+        cuts = ran.is_as.cuts;
+        failures = ran.is_as.failures;
+        changes = ran.is_as.changes;
+        reads = ran.is_as.reads;
+      };
+      power = ran.power;
+      calls = ran.calls;
+      done = ran.done;
+      count = ran.count;
+    },
+  )
+
+  -- each call ends as planned from the power-up on
+  pub runs_from : (p : Plan) → ((k : ℕ) → b.flash.next k ≡ None) → ∥ RunsAsPlanned p b c ∥₁ → ∥ RunsFrom p a c ∥₁
+  runs_from p nexts ran = ∥∥₁_elim ran (λ x y. squash₁ x y) (λ (r : RunsAsPlanned p b c). ∣ ran_from p nexts r ∣₁)
 
 -- the flash is as it was before the power-up, and so are the replies to a volume on it
 module _ (fused : Bool) (a b d : Device) (starts : Starts fused a b) (n k : ℕ) (commands : List Stamped) (answered : List Reply) (unmounted : Option Reply) where

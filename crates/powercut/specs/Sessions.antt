@@ -11,7 +11,10 @@ use Rattle.mounting.specs.declared.fault.MountFault.{MountFault}
 use Rattle.mounting.specs.declared.fault.MountFault.TheVariants as faults
 use Rattle.nand_model.specs.Calls.{Device}
 use Rattle.pages.specs.Stores.{bad_on}
+use Rattle.nand_model.specs.Changes.{PowersUp}
+use Rattle.nand_model.specs.Plans.{Plan}
 use Rattle.planned_nand.specs.Planning.{failing, IsPlanned}
+use Rattle.planned_nand.specs.Running.{RunsAsPlanned}
 use Rattle.posix_profile.specs.Runs.{RunHolds, is_stop}
 use Rattle.posix_profile.specs.State.{Objects}
 use Rattle.posix_profile.specs.declared.command.Stamped.{Stamped}
@@ -70,6 +73,11 @@ pub record IsServedFrom (first last : Device) (commands : List Stamped) (answere
   pub stops : (list_any is_stop answered ≡ true) ⊎ (unmounted ≡ Some (replies.Error errors.EIO))
       → (last.gone ≡ true) ⊎ ((read_only ≡ false) × IsUsedUp spare numbers first last)
 
+-- Power comes back to the one device, and then calls in turn make it the other: each ends as the plan says, is cut at the fuse and leaves what
+-- its fates say, fails where a failure is listed and leaves what the fates of that say, and else is done.
+abbrev pub RunsFrom : Plan → (first last : Device) → Type 0
+RunsFrom plan first last = (up : Device) × PowersUp first up × RunsAsPlanned plan up last
+
 -- How a session ends, on any flash, that makes the one device the other.
 pub record IsEnded (session : Session) (end : SessionEnd) (first last : Device) : Type 0 where
   -- each command that was begun has its reply
@@ -88,6 +96,8 @@ pub record IsEnded (session : Session) (end : SessionEnd) (first last : Device) 
   pub cut : end.cut ≡ last.gone
   -- it goes at the call of the session's fuse, if so many are made; and no more failures are counted than the session lists
   pub planned : IsPlanned (plan_of session) first last
+  -- each call of the device ends by the fuse and the failures of the session, with their fates
+  pub outcomes : ∥ RunsFrom (plan_of session) first last ∥₁
   -- where there is no fuse no power is lost
   pub fuse : is_some session.fuse ≡ false → end.cut ≡ false
   -- a mount answers Gone only where power is lost

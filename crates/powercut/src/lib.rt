@@ -7,7 +7,7 @@ mod power;
 mod serving;
 mod session;
 
-pub use life::{LiveFault, live};
+pub use life::{LiveFault, live, live_one};
 pub use nand_image::{ImageFault, ImageNand, create_image, open_image};
 pub use plain_tree::PlainTree;
 pub use session::{Session, SessionEnd};

@@ -1,6 +1,7 @@
 // A life of a volume.
-ghost use Rattle.std.specs.Prelude.{◌≡◌, ◌≤◌, ◌+◌, ◌∷◌, [], ℕ, true, length, IfOk};
-ghost use Rattle.nand_model.specs.MemoryState.{device};
+ghost use Rattle.std.specs.Prelude.{◌≡◌, ◌≤◌, ◌+◌, ◌∷◌, [], ℕ, true, false, length, IfOk};
+ghost use Rattle.nand_model.specs.MemoryState.{device, plan};
+ghost use Rattle.planned_nand.specs.Planning.{calls_since};
 ghost use Rattle.pages.specs.Stores.{bad_on};
 ghost use Rattle.posix_profile.specs.State.{Objects};
 ghost use Rattle.powercut.specs.Sessions.{record_of, records_of, IsEnded, AreEnded, cuts_in};
@@ -29,14 +30,15 @@ impl From<AllocError> for LiveFault {
     }
 }
 
-/// Does one session on the device, from its power-up on.
-fn live_one(
+/// Does one session on the device, from its power-up on, and tells how it ended.
+pub fn live_one(
     alloc: Global,
     nand: MemNand,
     session: &Session,
 ) -> Result<(MemNand, SessionEnd), AllocError>
     ensures lived { IfOk result (λ lived. HasLived (device nand) (device lived.0) (record_of session.now lived.1 ∷ [])) }
     ensures ended { IfOk result (λ lived. IsEnded session.now lived.1 (device nand) (device lived.0)) }
+    ensures calls { IfOk result (λ lived. (device lived.0).gone ≡ false → (plan lived.0).calls ≡ calls_since (device nand) (device lived.0)) }
 {
     let nand = power_on(alloc, nand, session)?;
     let planned = PlannedNand::new(nand);

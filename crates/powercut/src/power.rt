@@ -1,5 +1,5 @@
 // The power-up of a session.
-ghost use Rattle.std.specs.Prelude.{◌≡◌, ◌<◌, ◌^◌, IfOk, is_some};
+ghost use Rattle.std.specs.Prelude.{◌≡◌, ◌<◌, ◌^◌, ℕ, None, IfOk, is_some};
 ghost use Rattle.nand_model.specs.MemoryState.{device, plan};
 ghost use Rattle.nand_model.specs.Plans.{listed};
 ghost use Rattle.planned_nand.specs.Planning.{fuse_call, call_of};
@@ -45,6 +45,7 @@ pub(crate) fn power_on(
     session: &Session,
 ) -> Result<MemNand, AllocError>
     ensures starts { IfOk result (λ d. Starts (is_some session.now.fuse) (device nand) (device d)) }
+    ensures nexts { IfOk result (λ d. (b : ℕ) → (device d).flash.next b ≡ None) }
     ensures plan { IfOk result (λ d. plan d ≡ plan_of session.now) }
     ensures call { IfOk result (λ d. fuse_call (plan d) < 2 ^ 64) }
 {

@@ -9,13 +9,13 @@ use Rattle.cut_draws.specs.Draws.{answers}
 use Rattle.posix_profile.specs.declared.command.Stamped.{Stamped}
 use Rattle.powercut.specs.declared.session.Session.{Session}
 use Rattle.exerciser.specs.Causes.{IsTreeOn, MountsAs}
-use Rattle.exerciser.specs.Cutting.{Exercise}
+use Rattle.exerciser.specs.Cutting.{Exercise, IsAsked}
 use Rattle.exerciser.specs.Lines.{IsTold, session_line}
 use Rattle.exerciser.specs.Seen.{finding_of, IsSeen}
 use Rattle.exerciser.specs.declared.seen.Seen.{Seen}
 use Rattle.exerciser.proofs.Drawing.{first_words, more_words, cut_session}
-use Rattle.exerciser.proofs.Causes.{not_done, not_begun, not_told, not_kept}
-use Rattle.exerciser.proofs.Sessions.{SoFar, some_tree, not_done_is_silent, not_begun_is_silent, starts, goes_further, stops_telling, stops_torn, stops_silently, told_as, ends}
+use Rattle.exerciser.proofs.Causes.{not_done, not_begun, not_written, not_kept}
+use Rattle.exerciser.proofs.Sessions.{SoFar, some_tree, not_done_stops, not_begun_stops, starts, goes_further, stops_telling, stops_torn, stops_silently, told_as, ends}
 use Rattle.exerciser.proofs.cutting.cut.Goals as goal
 
 -- what is asked for
@@ -37,14 +37,18 @@ returns-in_err-standing-clause-tells g c =
     let p = err_from_is_err_and c.from_residual.result c.from_residual.ensures.1 in
     let x = asked c.args.nand c.args.seed c.args.script c.args.sessions in
     rw (p.1, p.2) (stops_silently x 0 (device c.args.nand) some_tree (g.W.Write.contents c.args.writer.now) (g.W.Write.contents c.args.writer.now) c.in_err-standing.field-0.0 (inr refl)
-    (starts x (device c.args.nand) some_tree (g.W.Write.contents c.args.writer.now) refl) (not_begun_is_silent (device c.args.nand) c.in_err-standing.field-0.0 c.in_err-standing.ensures.fault))
+    (starts x (device c.args.nand) some_tree (g.W.Write.contents c.args.writer.now) refl) (not_begun_stops x (device c.args.nand) c.in_err-standing.field-0.0 c.in_err-standing.ensures.fault))
 
 pub returns-in_err-done-clause-tells : goal.returns-in_err-done-clause-tells
 returns-in_err-done-clause-tells g c =
     let p = err_from_is_err_and c.from_residual-in_err-done.result c.from_residual-in_err-done.ensures.1 in
     let few : c.loop-before.before < c.args.sessions = omega (arith, c.from-before-end.ensures) in
-    rw (p.1, p.2) (stops_silently (asked c.args.nand c.args.seed c.args.script c.args.sessions) c.loop-before.before (device c.loop-before.standing.device) c.loop-before.standing.tree _ _ c.in_err-done.field-0.0 (inl few)
-    c.loop-before.invariant.told (not_done_is_silent c.in_err-done.field-0.0 c.in_err-done.ensures.fault))
+    let x = asked c.args.nand c.args.seed c.args.script c.args.sessions in
+    let was = c.loop-before.invariant in
+    let here = device c.loop-before.standing.device in
+    let of : IsAsked x c.loop-before.session = record { commands_are = ap (λ (v : Vec Stamped). v.items) was.commands; failures_are = was.failures; unmounts = was.unmounts } in
+    rw (p.1, p.2) (stops_silently x c.loop-before.before here c.loop-before.standing.tree _ _ c.in_err-done.field-0.0 (inl few) was.told
+    (not_done_stops x c.loop-before.before here c.loop-before.session c.in_err-done.field-0.0 of c.in_err-done.ensures.fault))
 
 pub returns-in_err-tell-clause-tells : goal.returns-in_err-tell-clause-tells
 returns-in_err-tell-clause-tells g c =
@@ -59,10 +63,11 @@ returns-in_err-tell-clause-tells g c =
     cut_session x c.loop-before.before c.pages-pages.result (answers c.loop-before.generator) c.loop-before.session c.exercise.new.session (device c.loop-before.standing.device) (device c.in_ok-done.done.device) pages was.words
     one.same (ap (λ (v : Vec Stamped). v.items) was.commands) was.failures was.unmounts c.in_ok-done.done.end c.in_ok-done.done.operation one.fuse one.drawn one.ended one.truth in
     let is_seen = subst (λ (v : Vec Stamped). IsSeen c.loop-before.standing.tree v.items c.in_ok-done.done.end.replies.items c.in_ok-done.done.seen) was.commands one.seen in
+    let mounts = subst (λ (v : Vec Stamped). MountsAs (device c.in_ok-done.done.device) c.loop-before.standing.tree v.items c.in_ok-done.done.end.replies.items c.in_ok-done.done.seen) was.commands one.mounts in
     let told = told_as (g.W.Write.contents c.loop-before.writer) (g.W.Write.contents c.tell.new.writer) (c.loop-before.before + 1) c.in_ok-done.done.operation c.finding-finding.result (finding_of c.in_ok-done.done.seen)
     c.len-commands.result (length c.args.script.items) (Err c.in_err-tell.field-0.0) c.finding-finding.ensures count c.in_err-tell.ensures in
     rw (p.1, p.2) (stops_telling x c.loop-before.before (device c.loop-before.standing.device) (device c.in_ok-done.done.device) c.loop-before.standing.tree _ _ (g.W.Write.contents c.tell.new.writer) was.told done was.on
-    c.in_ok-done.done.seen few is_seen one.mounts c.in_err-tell.field-0.0 told)
+    c.in_ok-done.done.seen few is_seen mounts c.in_err-tell.field-0.0 told)
 
 pub returns-in_err-standing-2-clause-tells : goal.returns-in_err-standing-2-clause-tells
 returns-in_err-standing-2-clause-tells g c =
@@ -77,10 +82,11 @@ returns-in_err-standing-2-clause-tells g c =
     cut_session x c.loop-before.before c.pages-pages.result (answers c.loop-before.generator) c.loop-before.session c.exercise.new.session (device c.loop-before.standing.device) (device c.in_ok-done.done.device) pages was.words
     one.same (ap (λ (v : Vec Stamped). v.items) was.commands) was.failures was.unmounts c.in_ok-done.done.end c.in_ok-done.done.operation one.fuse one.drawn one.ended one.truth in
     let is_seen = subst (λ (v : Vec Stamped). IsSeen c.loop-before.standing.tree v.items c.in_ok-done.done.end.replies.items c.in_ok-done.done.seen) was.commands one.seen in
+    let mounts = subst (λ (v : Vec Stamped). MountsAs (device c.in_ok-done.done.device) c.loop-before.standing.tree v.items c.in_ok-done.done.end.replies.items c.in_ok-done.done.seen) was.commands one.mounts in
     let told = told_as (g.W.Write.contents c.loop-before.writer) (g.W.Write.contents c.tell.new.writer) (c.loop-before.before + 1) c.in_ok-done.done.operation c.finding-finding.result (finding_of c.in_ok-done.done.seen)
     c.len-commands.result (length c.args.script.items) (Ok tt) c.finding-finding.ensures count c.in_ok-tell.ensures in
     rw (p.1, p.2) (stops_torn x c.loop-before.before (device c.loop-before.standing.device) (device c.in_ok-done.done.device) c.loop-before.standing.tree _ _ (g.W.Write.contents c.tell.new.writer) was.told done was.on
-    c.in_ok-done.done.seen few is_seen one.mounts c.in_err-standing-2.field-0.0 told c.in_err-standing-2.ensures.torn.0 c.in_err-standing-2.ensures.torn.1)
+    c.in_ok-done.done.seen few is_seen mounts c.in_err-standing-2.field-0.0 told c.in_err-standing-2.ensures.torn.0 c.in_err-standing-2.ensures.torn.1)
 
 pub loop-before-preserved : goal.loop-before-preserved
 loop-before-preserved g c =
@@ -94,6 +100,7 @@ loop-before-preserved g c =
     cut_session x c.loop-before.before c.pages-pages.result (answers c.loop-before.generator) c.loop-before.session c.exercise.new.session (device c.loop-before.standing.device) (device c.in_ok-done.done.device) pages was.words
     one.same (ap (λ (v : Vec Stamped). v.items) was.commands) was.failures was.unmounts c.in_ok-done.done.end c.in_ok-done.done.operation one.fuse one.drawn one.ended one.truth in
     let is_seen = subst (λ (v : Vec Stamped). IsSeen c.loop-before.standing.tree v.items c.in_ok-done.done.end.replies.items c.in_ok-done.done.seen) was.commands one.seen in
+    let mounts = subst (λ (v : Vec Stamped). MountsAs (device c.in_ok-done.done.device) c.loop-before.standing.tree v.items c.in_ok-done.done.end.replies.items c.in_ok-done.done.seen) was.commands one.mounts in
     let told = told_as (g.W.Write.contents c.loop-before.writer) (g.W.Write.contents c.tell.new.writer) (c.loop-before.before + 1) c.in_ok-done.done.operation c.finding-finding.result (finding_of c.in_ok-done.done.seen)
     c.len-commands.result (length c.args.script.items) (Ok tt) c.finding-finding.ensures count c.in_ok-tell.ensures in
     let next = c.in_ok-standing-2.standing in
@@ -101,14 +108,14 @@ loop-before-preserved g c =
     let further =
     goes_further x c.loop-before.before (device c.loop-before.standing.device) (device c.in_ok-done.done.device) c.loop-before.standing.tree _ _ (g.W.Write.contents c.tell.new.writer) was.told done was.on kept.0 next.tree
     (subst (λ (s : Seen). IsSeen c.loop-before.standing.tree c.args.script.items c.in_ok-done.done.end.replies.items s) kept.1 is_seen)
-    (subst (λ (s : Seen). MountsAs (device c.in_ok-done.done.device) s) kept.1 one.mounts)
+    (subst (λ (s : Seen). MountsAs (device c.in_ok-done.done.device) c.loop-before.standing.tree c.args.script.items c.in_ok-done.done.end.replies.items s) kept.1 mounts)
     (subst (λ (s : Seen). IsTold (g.W.Write.contents c.loop-before.writer) (g.W.Write.contents c.tell.new.writer) (session_line (c.loop-before.before + 1) c.in_ok-done.done.operation (finding_of s) (length c.args.script.items)) (Ok tt)) kept.1 told) in
     record {
       commands = ap (λ (s : Session). s.commands) one.same ∙ was.commands;
       failures = ap (λ (s : Session). s.failures.items) one.same ∙ was.failures;
       unmounts = ap (λ (s : Session). s.unmount) one.same ∙ was.unmounts;
       words = more_words c.args.seed (device c.args.nand).geometry.pages c.pages-pages.result c.loop-before.before (answers c.loop-before.generator) (answers c.exercise.new.generator) pages was.words one.left;
-      on = subst (λ (d : Device). IsTreeOn d next.tree) (sym (ap device c.in_ok-standing-2.ensures.device)) (subst (λ (s : Seen). MountsAs (device c.in_ok-done.done.device) s) kept.1 one.mounts);
+      on = subst (λ (d : Device). IsTreeOn d next.tree) (sym (ap device c.in_ok-standing-2.ensures.device)) (subst (λ (s : Seen). MountsAs (device c.in_ok-done.done.device) c.loop-before.standing.tree c.args.script.items c.in_ok-done.done.end.replies.items s) kept.1 mounts);
       told = subst (λ (d : Device). SoFar x (c.loop-before.before + 1) d next.tree (g.W.Write.contents c.args.writer.now) (g.W.Write.contents c.tell.new.writer)) (sym (ap device c.in_ok-standing-2.ensures.device)) further;
     }
 
@@ -125,12 +132,12 @@ returns-in_err-standing-clause-fault g c =
 pub returns-in_err-done-clause-fault : goal.returns-in_err-done-clause-fault
 returns-in_err-done-clause-fault g c =
     let p = err_from_is_err_and c.from_residual-in_err-done.result c.from_residual-in_err-done.ensures.1 in
-    rw (p.1, p.2) (not_done (device c.args.nand) c.in_err-done.field-0.0 c.in_err-done.ensures.fault)
+    rw (p.1, p.2) (not_done (device c.args.nand) (device c.loop-before.standing.device) c.loop-before.session c.in_err-done.field-0.0 c.in_err-done.ensures.fault)
 
 pub returns-in_err-tell-clause-fault : goal.returns-in_err-tell-clause-fault
 returns-in_err-tell-clause-fault g c =
     let p = err_from_is_err_and c.from_residual-in_err-tell.result c.from_residual-in_err-tell.ensures.1 in
-    rw (p.1, p.2) (not_told (device c.args.nand) (g.W.Write.contents c.loop-before.writer) (g.W.Write.contents c.tell.new.writer)
+    rw (p.1, p.2) (not_written (device c.args.nand) (g.W.Write.contents c.loop-before.writer) (g.W.Write.contents c.tell.new.writer)
     (session_line (c.loop-before.before + 1) c.in_ok-done.done.operation c.finding-finding.result c.len-commands.result) c.in_err-tell.field-0.0 c.in_err-tell.ensures)
 
 pub returns-in_err-standing-2-clause-fault : goal.returns-in_err-standing-2-clause-fault

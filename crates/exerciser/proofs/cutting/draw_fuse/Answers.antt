@@ -1,5 +1,5 @@
 use Rattle.nand_model.specs.MemoryState.{device}
-use Rattle.exerciser.specs.Draws.{uncut}
+use Rattle.exerciser.specs.Causes.{uncut}
 use Rattle.exerciser.proofs.Drawing.{drawn_from}
 use Rattle.exerciser.proofs.cutting.draw_fuse.Goals as goal
 

@@ -9,11 +9,12 @@ use Rattle.mounting.specs.Faults.{WhyNotMounted}
 use Rattle.mounting.specs.declared.fault.MountFault.TheVariants as faults
 use Rattle.newest_pages.specs.Checked.{HasTrueFlash}
 use Rattle.planned_nand.specs.Planning.{IsPlanned}
+use Rattle.planned_nand.specs.Running.{RunsAsPlanned}
 use Rattle.planned_nand.specs.States.{state_of}
 use Rattle.powercut.specs.Living.{HasLived}
 use Rattle.powercut.specs.Sessions.{IsServedFrom}
 use Rattle.powercut.specs.Starting.{plan_of}
-use Rattle.powercut.proofs.Lasting.{lived_one, session_lived, planned_from, no_cut, same_record, why_counts, served_counts}
+use Rattle.powercut.proofs.Lasting.{lived_one, session_lived, planned_from, runs_from, since_before, no_cut, same_record, why_counts, served_counts}
 use Rattle.powercut.proofs.life.live_one.Goals as goal
 
 pub returns-clause-lived : goal.returns-clause-lived
@@ -43,6 +44,7 @@ returns-clause-ended c =
     let lasts = subst (λ (x : Device). Lasts x (state_of c.in_ok-planned.planned)) c.new-planned.ensures (c.in_ok-planned.ensures.lasts refl) in
     let there : IsPlanned (plan_of session) b d = subst (λ (p : Plan). IsPlanned p b d) c.in_ok-nand.ensures.plan (c.into_nand-nand.ensures.planned (plan c.in_ok-nand.nand) b lasts) in
     let planned : IsPlanned (plan_of session) a d = planned_from _ a b d c.in_ok-nand.ensures.starts (plan_of session) there in
+    let runs : ∥ RunsAsPlanned (plan_of session) b d ∥₁ = subst (λ (p : Plan). ∥ RunsAsPlanned p b d ∥₁) c.in_ok-nand.ensures.plan (c.into_nand-nand.ensures.runs (plan c.in_ok-nand.nand) b lasts) in
     record {
       replies = count;
       begun = λ mounted. elim (served.begun mounted) [
@@ -53,6 +55,7 @@ returns-clause-ended c =
       unmounts = served.unmounts;
       cut = c.gone-cut.ensures;
       planned = planned;
+      outcomes = runs_from _ a b d c.in_ok-nand.ensures.starts (plan_of session) c.in_ok-nand.ensures.nexts runs;
       fuse = no_cut session a d c.gone-cut.result c.gone-cut.ensures planned;
       gone = λ is. c.gone-cut.ensures ∙ sym gone ∙ served.why faults.Gone is;
       why = λ fault is. why_counts d (state_of c.in_ok-planned.planned).cuts fault (subst (λ (x : Device). WhyNotMounted x fault) c.into_nand-nand.ensures.device (served.why fault is));
@@ -65,3 +68,11 @@ returns-clause-ended c =
           (subst (λ (x : Device). HasTrueFlash (state_of c.new-planned.result) → IsServedFrom (state_of c.new-planned.result) x c.deref.result.now told.replies.items told.unmounted) c.into_nand-nand.ensures.device
           (λ true'. c.in_ok-planned.ensures.right true' mounted))) truth);
     }
+
+pub returns-clause-calls : goal.returns-clause-calls
+returns-clause-calls c = λ power.
+    let a = device c.args.nand in
+    let b = device c.in_ok-nand.nand in
+    let d = device c.into_nand-nand.result in
+    let lasts = subst (λ (x : Device). Lasts x (state_of c.in_ok-planned.planned)) c.new-planned.ensures (c.in_ok-planned.ensures.lasts refl) in
+    c.into_nand-nand.ensures.calls (plan c.in_ok-nand.nand) b lasts power ∙ since_before _ a b d c.in_ok-nand.ensures.starts

@@ -1,4 +1,4 @@
--- `as_told` takes the counts that it is told. Assumes `Logic`.
+-- `as_told` takes what it is told. Assumes `Logic`.
 use Rattle.std.proofs.Common.{[], ◌∷◌, refl}
 use seplogic.Ra.Ura.{Ura}
 use mir.Syntax.{Fn}

@@ -1,5 +1,5 @@
 -- What stands after a move.
-use Rattle.std.proofs.Common.{◌≡◌, ◌≢◌, ◌<◌, ◌≤◌, ℕ, ◌+◌, Bool, true, false, List, length, Some, None, slice_get, if◌then◌else◌, ◌==◌, refl, sym, ap, subst, ◌∙◌, arith, inl, inr}
+use Rattle.std.proofs.Common.{◌≡◌, ◌≢◌, ◌<◌, ◌≤◌, ℕ, ◌+◌, Bool, true, false, List, length, Some, None, Ok, slice_get, if◌then◌else◌, ◌==◌, refl, sym, ap, subst, ◌∙◌, arith, inl, inr}
 use Rattle.std.proofs.lemmas.Bool.{cases_Bool, cases_eq}
 use Rattle.std.proofs.lemmas.Bool.Decides.{nat_tests}
 use Rattle.std.proofs.lemmas.Option.{slice_get_within}
@@ -22,9 +22,16 @@ use Rattle.flash_tree.specs.Slots.{check_object}
 use Rattle.transactions.specs.declared.copies.CopyOf.{CopyOf}
 use Rattle.bad_blocks.specs.Copying.{KeepsCounts, KeepsDataAt, MayBeCopied, AreCopied, IsCopyOf, IsTarget, OpenAfter, copy_in}
 use Rattle.bad_blocks.specs.Lists.{IsListed, kept_by}
-use Rattle.bad_blocks.specs.Moving.{Moves, MovesOut, IsKeptIn, LiesIn, LiesOpen, IsLeft}
+use Rattle.nand_model.specs.Counts.{Costs, ReadsFew}
+use Rattle.bad_blocks.specs.Bills.{Pays, bill_of}
+use Rattle.bad_blocks.specs.declared.fault.MoveFault.{MoveFault}
+use Rattle.bad_blocks.specs.declared.moving.Moved.{Moved}
+use Rattle.bad_blocks.specs.Moving.{AnswersFailures, MarksFailures, MovesOut, IsKeptIn, LiesIn, LiesOpen, IsLeft}
 use Rattle.bad_blocks.specs.Standing.{IsKeptAt, MayLie, AreHeld, Stands, KeepsFree}
+use Rattle.bad_blocks.specs.Steps.{Step}
 use Rattle.bad_blocks.specs.Telling.{Tells}
+use Rattle.bad_blocks.specs.laws.Steps.{moves_kept_out}
+use Rattle.transactions.specs.Checking.{log_of}
 use Rattle.bad_blocks.specs.declared.copying.Target.{Target}
 use Rattle.bad_blocks.proofs.KeptPages.{listed_or_not, name_is}
 use Rattle.bad_blocks.specs.laws.FreeBlocks.{free_where_stands}
@@ -171,7 +178,7 @@ module _ (spare v : ℕ) (target : Target) (d0 d1 : Device) (t0 t1 t2 : Table) (
   pub none_noted : t2.checkpoint ≡ None
   none_noted = tells.counts.checkpoint ∙ is.checkpoint
 
-  pub stands_moved : IsReady d1 t1 → Stands spare d1 t2 y
+  stands_moved : IsReady d1 t1 → Stands spare d1 t2 y
   stands_moved ready = record {
     tables = record {
       counts = agree;
@@ -227,7 +234,7 @@ module _ (spare v : ℕ) (target : Target) (d0 d1 : Device) (t0 t1 t2 : Table) (
       ]
     ]
 
-  moves_out : MovesOut v x y
+  pub moves_out : MovesOut v x y
   moves_out = record {
     moved = λ o c p at here.
         let z : CopyOf = record { block = p.block; page = p.page; name = record { key = record { object = o; chunk = c }; version = p.version } } in
@@ -268,21 +275,32 @@ module _ (spare v : ℕ) (target : Target) (d0 d1 : Device) (t0 t1 t2 : Table) (
     below = λ honest. subst (λ n. AreBelow d1.flash n t2.next_seq) (sym tells.counts.next_group) (subst (λ n. AreBelow d1.flash t1.next_group n) (sym tells.counts.next_seq) (ready.below honest));
   }
 
-  pub moves_moved : (d0.honest ≡ true → KeepsDataAt t0 d0.flash d1.flash) → Moves v d0 d1 t0 t2 x y
-  moves_moved stays = record {
+  -- the device has power, so blocks are free by the table
+  free_moved : AreHeld t2 y → d1.gone ≡ false → KeepsFree spare d0 d1 x y
+  free_moved there power honest free = free_where_stands spare d1 t2 y (ready_told keeps.ready) there (stands_moved keeps.ready) (keeps.lasts.honest ∙ honest) power
+
+  pub step_moved : AreHeld t2 y → d1.gone ≡ false → (d0.honest ≡ true → KeepsDataAt t0 d0.flash d1.flash) → Step spare (log_of d0 t0) (log_of d1 t2) x y
+  step_moved there power stays = record {
     lasts = keeps.lasts;
     ready = ready_told keeps.ready;
+    stands = stands_moved keeps.ready;
     numbers = hands_same d0 d1 t0 t1 t2 tells.counts.next_group tells.counts.next_seq tells.counts.checkpoint keeps.numbers;
     geometry = tells.counts.geometry ∙ keeps.geometry;
     marks = λ b bad. tells.counts.bad b ∙ keeps.marks b bad;
     kept_count = same_keeps;
-    index = moves_out;
+    index = moves_kept_out v x y moves_out;
     same_data = same_data spare d0 d1 t0 t1 x held keeps stands stays;
+    free = free_moved there power;
   }
 
-  -- the device has power, so blocks are free by the table
-  pub free_moved : AreHeld t2 y → d1.gone ≡ false → KeepsFree spare d0 d1 x y
-  free_moved there power honest free = free_where_stands spare d1 t2 y (ready_told keeps.ready) there (stands_moved keeps.ready) (keeps.lasts.honest ∙ honest) power
+  -- what the copies cost, where so many failures are left unanswered
+  pub pays_moved : (n : ℕ) (moved : Moved) → (if target.suspect then 1 else 0) ≡ n → Costs (length copies + 1) (d0.geometry.pages + 2) (if target.suspect then 1 else 0) d0 d1
+      → MarksFailures 0 (if target.suspect then 1 else 0) d0 d1 t0 t1 → AnswersFailures 0 (if target.suspect then 1 else 0) d0 d1 t0 t1 → ReadsFew 0 d0 d1
+      → Pays {E = MoveFault} (bill_of (log_of d0 t0) (length copies + 1) 0 n) (log_of d0 t0) (log_of d1 t2) (Ok moved)
+  pays_moved n moved is costs marks answers reads =
+      let same = same_bads in
+      subst (λ k. Pays {E = MoveFault} (bill_of (log_of d0 t0) (length copies + 1) 0 k) (log_of d0 t0) (log_of d1 t2) (Ok moved)) is
+      (record { costs = costs; marks = omega (arith, same, marks); answers = omega (arith, same, answers); reads = reads })
 
   pub is_left : IsLeft v t2
   is_left = record { unkept = now_none; good = tells.counts.bad v ∙ still_good }

@@ -9,35 +9,25 @@ use Rattle.block_state.specs.laws.Kept.{free_where_closed, free_where_held}
 use Rattle.chunk_index.specs.declared.index.Index.{Index}
 use Rattle.chunk_index.specs.Kept.{HoldsNone}
 use Rattle.chunk_index.specs.Maps.{kept_pages}
-use Rattle.nand_model.specs.Counts.{Costs, ReadsFew}
-use Rattle.bad_blocks.specs.Moving.{Moves, AnswersFailures, MarksFailures, LiesIn, IsAway}
+use Rattle.transactions.specs.Checking.{LogState, log_of}
+use Rattle.bad_blocks.specs.Bills.{Pays, PaysOut, bill_of}
+use Rattle.bad_blocks.specs.Moving.{MovesOut, LiesIn, IsAway}
 use Rattle.bad_blocks.specs.Retiring.{IsOut, IsRetired, RetireEnds, open_failures}
-use Rattle.bad_blocks.specs.Standing.{Stands}
+use Rattle.bad_blocks.specs.Steps.{Step}
 use Rattle.bad_blocks.specs.declared.fault.MoveFault.{MoveFault}
-use Rattle.bad_blocks.specs.laws.Costs.{costs_join}
-use Rattle.bad_blocks.specs.laws.Turns.{moves_out_on, moves_join}
+use Rattle.bad_blocks.specs.laws.Bills.{pays_on}
+use Rattle.bad_blocks.specs.laws.Steps.{step_on}
+use Rattle.bad_blocks.specs.laws.Turns.{moves_out_on}
 
--- a suspect copy is a failure without its mark
-abbrev pub open_of : Option ℕ → ℕ
-open_of None = 0
-open_of (Some w) = 1
+-- What holds after some of the blocks.
+pub record Retiring (spare v : ℕ) (old new : LogState) (x y : Index) (suspect : Option ℕ) : Type 0 where
+  pub step : Step spare old new x y
+  pub moved : MovesOut v x y
+  pub pays : PaysOut old new (Ok suspect)
+  pub out : IsOut v spare old.table new.table suspect
+  pub power : new.device.gone ≡ false
 
-pub open_is : (suspect : Option ℕ) → open_failures (Ok suspect) ≡ open_of suspect
-open_is None = refl
-open_is (Some w) = refl
-
--- What stands after some of the blocks.
-pub record Retiring (spare v : ℕ) (d0 d : Device) (t0 t : Table) (x0 x : Index) (suspect : Option ℕ) : Type 0 where
-  pub moves : Moves v d0 d t0 t x0 x
-  pub stands : Stands spare d t x
-  pub marks : MarksFailures 1 (open_of suspect) d0 d t0 t
-  pub answers : AnswersFailures 1 (open_of suspect) d0 d t0 t
-  pub costs : Costs (d0.geometry.pages + 2) (d0.geometry.pages + 2) (open_of suspect) d0 d
-  pub reads : ReadsFew 0 d0 d
-  pub out : IsOut v spare t0 t suspect
-  pub power : d.gone ≡ false
-
-module _ (spare v w : ℕ) (d0 d : Device) (t0 t : Table) (x0 x : Index) (r : Retiring spare v d0 d t0 t x0 x (Some w)) where
+module _ (spare v w : ℕ) (d0 d : Device) (t0 t : Table) (x0 x : Index) (r : Retiring spare v (log_of d0 t0) (log_of d t) x0 x (Some w)) where
   -- the first block held kept pages
   some : 1 ≤ (t0.entry v).kept
   some = elim (cases_eq (t0.entry v).kept 0) [
@@ -54,29 +44,27 @@ module _ (spare v w : ℕ) (d0 d : Device) (t0 t : Table) (x0 x : Index) (r : Re
   not_first : v ≢ w
   not_first e = let two : true ≡ false = sym r.out.bad ∙ ap (λ b. (t.entry b).bad) e ∙ lies.good in cc
 
-  pub moves_next : (d' : Device) (t' : Table) (x' : Index) → HoldsNone (kept_pages x0) w → Moves w d d' t t' x x' → Moves v d0 d' t0 t' x0 x'
-  moves_next d' t' x' none moves = moves_join v v w d0 d d' t0 t t' x0 x x' r.moves moves (moves_out_on v w x0 x x' none r.moves.index moves.index)
+  pub moved_next : (x' : Index) → HoldsNone (kept_pages x0) w → MovesOut w x x' → MovesOut v x0 x'
+  moved_next x' none moved = moves_out_on v w x0 x x' none r.moved moved
 
-  pub marks_next : (o : ℕ) (d' : Device) (t' : Table) → MarksFailures 1 o d d' t t' → MarksFailures 1 o d0 d' t0 t'
-  marks_next o d' t' marks = let first : bad_count t + d0.failures + 1 ≤ bad_count t0 + d.failures + 1 = r.marks in
-      let second : bad_count t' + d.failures + o ≤ bad_count t + d'.failures + 1 = marks in
-      omega (arith, first, second)
+  pub step_next : (d' : Device) (t' : Table) (x' : Index) → Step spare (log_of d t) (log_of d' t') x x' → Step spare (log_of d0 t0) (log_of d' t') x0 x'
+  step_next d' t' x' step = step_on spare (log_of d0 t0) (log_of d t) (log_of d' t') x0 x x' r.step step
 
-  pub answers_next : (o : ℕ) (d' : Device) (t' : Table) → AnswersFailures 1 o d d' t t' → AnswersFailures 1 o d0 d' t0 t'
-  answers_next o d' t' answers = let first : bad_count t0 + d.failures + 1 ≤ bad_count t + d0.failures + 1 = r.answers in
-      let second : bad_count t + d'.failures + 1 ≤ bad_count t' + d.failures + o = answers in
-      omega (arith, first, second)
+  -- the mark of the block answers the failure of its copy
+  pub pays_next : {S F : Type 0} (o : ℕ) (d' : Device) (t' : Table) (result : Result S F) → Pays (bill_of (log_of d t) (d.geometry.pages + 2) 1 o) (log_of d t) (log_of d' t') result
+      → Pays (bill_of (log_of d0 t0) (d0.geometry.pages + 2) 1 o) (log_of d0 t0) (log_of d' t') result
+  pays_next o d' t' result pays =
+      let same : d.geometry.pages ≡ d0.geometry.pages = ap (λ (g : Geometry). g.pages) r.step.lasts.geometry in
+      pays_on (d0.geometry.pages + 2) 1 (bill_of (log_of d0 t0) (d0.geometry.pages + 2) 1 1) (bill_of (log_of d t) (d.geometry.pages + 2) 1 o) (log_of d0 t0) (log_of d t) (log_of d' t') (Some w) result
+      (omega (arith, same)) (omega (arith, same)) (omega arith) r.pays pays
 
-  pub costs_next : (o : ℕ) (d' : Device) → Costs (d.geometry.pages + 2) (d.geometry.pages + 2) o d d' → Costs (d0.geometry.pages + 2) (d0.geometry.pages + 2) o d0 d'
-  costs_next o d' costs = costs_join (d0.geometry.pages + 2) o d0 d d' r.costs (subst (λ (g : Geometry). Costs (g.pages + 2) (g.pages + 2) o d d') r.moves.lasts.geometry costs)
-
-  module _ (d' : Device) (t' : Table) (x' : Index) (suspect : Option ℕ) (none : HoldsNone (kept_pages x0) w) (moves : Moves w d d' t t' x x') (out : IsOut w spare t t' suspect) where
+  module _ (d' : Device) (t' : Table) (x' : Index) (suspect : Option ℕ) (none : HoldsNone (kept_pages x0) w) (step : Step spare (log_of d t) (log_of d' t') x x') (out : IsOut w spare t t' suspect) where
     later : (t'.entry v).bad ≡ true
-    later = moves.marks v r.out.bad
+    later = step.marks v r.out.bad
 
     lies_on : (k : ℕ) → LiesIn w k t t' → LiesIn v k t0 t'
     lies_on k l = record {
-      within = subst (λ (g : Geometry). k < g.blocks) r.moves.geometry l.within;
+      within = subst (λ (g : Geometry). k < g.blocks) r.step.geometry l.within;
       good = l.good;
       was = sym (lies.elsewhere k not_v not_w) ∙ l.was;
       there = l.there ∙ lies.there;
@@ -102,15 +90,11 @@ module _ (spare v w : ℕ) (d0 d : Device) (t0 t : Table) (x0 x : Index) (r : Re
     unkept_on None (k, l) = l.lies.elsewhere v not_first (λ e. let two : true ≡ false = sym later ∙ ap (λ b. (t'.entry b).bad) e ∙ l.lies.good in cc) ∙ r.out.unkept
     unkept_on (Some k) (l, closed) = l.elsewhere v not_first (λ e. let two : true ≡ false = sym later ∙ ap (λ b. (t'.entry b).bad) e ∙ l.good in cc) ∙ r.out.unkept
 
-    pub retiring_next : Stands spare d' t' x' → MarksFailures 1 (open_of suspect) d d' t t' → AnswersFailures 1 (open_of suspect) d d' t t' → Costs (d.geometry.pages + 2) (d.geometry.pages + 2) (open_of suspect) d d' → ReadsFew 0 d d' → d'.gone ≡ false
-        → Retiring spare v d0 d' t0 t' x0 x' suspect
-    retiring_next stands marks answers costs reads power = record {
-      moves = moves_next d' t' x' none moves;
-      stands = stands;
-      marks = marks_next (open_of suspect) d' t' marks;
-      answers = answers_next (open_of suspect) d' t' answers;
-      costs = costs_next (open_of suspect) d' costs;
-      reads = omega (arith, r.reads, reads);
+    pub retiring_next : MovesOut w x x' → PaysOut (log_of d t) (log_of d' t') (Ok suspect) → d'.gone ≡ false → Retiring spare v (log_of d0 t0) (log_of d' t') x0 x' suspect
+    retiring_next moved pays power = record {
+      step = step_next d' t' x' step;
+      moved = moved_next x' none moved;
+      pays = pays_next (open_failures (Ok suspect)) d' t' (Ok suspect) pays;
       out = record {
         bad = later;
         unkept = unkept_on suspect (out.moved there_some);
@@ -123,7 +107,7 @@ module _ (spare v w : ℕ) (d0 d : Device) (t0 t : Table) (x0 x : Index) (r : Re
     }
 
 -- where no block is left to retire, blocks enough are free
-pub retired_all : (spare v : ℕ) (d0 d : Device) (t0 t : Table) (x0 x : Index) → Retiring spare v d0 d t0 t x0 x None → IsRetired v spare t0 t
+pub retired_all : (spare v : ℕ) (d0 d : Device) (t0 t : Table) (x0 x : Index) → Retiring spare v (log_of d0 t0) (log_of d t) x0 x None → IsRetired v spare t0 t
 retired_all spare v d0 d t0 t x0 x r = record {
   bad = r.out.bad;
   unkept = r.out.unkept;
@@ -131,12 +115,12 @@ retired_all spare v d0 d t0 t x0 x r = record {
   few = r.out.few;
   more = r.out.more;
   free = elim (cases_eq (t0.entry v).kept 0) [
-    | inl none ↦ let same : free_count t ≡ unkept_count t = free_where_closed t (r.out.was_empty none).0 in omega (arith, same, r.stands.tables.unkept)
+    | inl none ↦ let same : free_count t ≡ unkept_count t = free_where_closed t (r.out.was_empty none).0 in omega (arith, same, r.step.stands.tables.unkept)
     | inr ne ↦
         let away = r.out.moved (omega (arith, ne)) in
         let kept : (t.entry away.0).kept ≡ (t0.entry v).kept = away.1.lies.there in
         let same : free_count t ≡ unkept_count t = free_where_held t away.0 away.1.open_block (omega (arith, kept, ne)) in
-        omega (arith, same, r.stands.tables.unkept)
+        omega (arith, same, r.step.stands.tables.unkept)
   ];
 }
 

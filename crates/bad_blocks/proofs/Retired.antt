@@ -1,5 +1,5 @@
 -- Blocks that are emptied, marked and out.
-use Rattle.std.proofs.Common.{◌≡◌, ◌≢◌, ◌<◌, ◌≤◌, ℕ, ◌+◌, true, false, Option, Some, None, Result, sym, ap, subst, ◌∙◌, arith}
+use Rattle.std.proofs.Common.{◌≡◌, ◌≢◌, ◌<◌, ◌≤◌, ℕ, ◌+◌, true, false, Option, Some, None, Result, Ok, Err, ◌*◌, sym, ap, subst, ◌∙◌, arith}
 use Rattle.nand_model.specs.Calls.{Device, Marks}
 use Rattle.nand_model.specs.declared.nand.Gone.{Gone}
 use Rattle.flash_tree.specs.Keeping.{KeepsElsewhere}
@@ -15,14 +15,20 @@ use Rattle.nand_model.specs.declared.geometry.Geometry.{Geometry}
 use Rattle.block_state.specs.Kept.{bad_count}
 use Rattle.block_state.specs.Table.{Table, Sets}
 use Rattle.bad_blocks.specs.Copying.{KeepsCounts}
-use Rattle.bad_blocks.specs.Moving.{Moves, LiesIn, IsAway}
-use Rattle.bad_blocks.specs.Standing.{AreHeld, Stands, KeepsFree}
-use Rattle.bad_blocks.specs.laws.FreeBlocks.{free_on, free_still}
+use Rattle.bad_blocks.specs.Bills.{PaysEmptying, PaysOut}
+use Rattle.bad_blocks.specs.Moving.{LiesIn, IsAway}
+use Rattle.bad_blocks.specs.Standing.{AreHeld, Stands}
+use Rattle.bad_blocks.specs.Steps.{Step}
+use Rattle.bad_blocks.specs.laws.FreeBlocks.{free_still}
 use Rattle.bad_blocks.specs.laws.Keeping.{bad_rises}
-use Rattle.bad_blocks.specs.laws.Moves.{are_held, stands_still, moves_kept}
-use Rattle.bad_blocks.specs.laws.Turns.{moves_join}
+use Rattle.bad_blocks.specs.laws.Moves.{are_held, stands_still}
+use Rattle.bad_blocks.specs.laws.Steps.{step_kept, step_on}
+use Rattle.transactions.specs.Checking.{log_of}
+use Rattle.bad_blocks.specs.declared.fault.MoveFault.{MoveFault}
+use Rattle.bad_blocks.proofs.Free.{mark_costs, mark_fails_not}
+use Rattle.std.proofs.Math.Nat.{mul-le-mul_left}
 use Rattle.bad_blocks.proofs.Marked.{marked_entry, keeps_marked, kept_marked, written_marked, one_more_bad}
-use Rattle.bad_blocks.specs.Retiring.{IsEmptied, IsOut}
+use Rattle.bad_blocks.specs.Retiring.{IsEmptied, IsOut, open_failures}
 
 module _ (v : ℕ) (t u s : Table) (kept : (b : ℕ) → (s.entry b).kept ≡ (u.entry b).kept) (next : (b : ℕ) → (s.entry b).next ≡ (u.entry b).next) (bad : (b : ℕ) → b ≢ v → (s.entry b).bad ≡ (u.entry b).bad)
     (open_block : s.open_block ≡ u.open_block) (none : (u.entry v).kept ≡ 0) where
@@ -55,34 +61,31 @@ module _ (v : ℕ) (t u s : Table) (kept : (b : ℕ) → (s.entry b).kept ≡ (u
   }
 
 -- a block that was emptied is marked
-module _ (spare v : ℕ) (d1 d2 d3 : Device) (t1 t2 t3 : Table) (x y : Index) (gone : Result (Unit {0}) Gone) (moves : Moves v d1 d2 t1 t2 x y) (stands : Stands spare d2 t2 y)
+module _ (spare v : ℕ) (d1 d2 d3 : Device) (t1 t2 t3 : Table) (x y : Index) (gone : Result (Unit {0}) Gone) (step : Step spare (log_of d1 t1) (log_of d2 t2) x y)
     (law : (b : ℕ) → kept_in y b ≡ 0 → HoldsNone (kept_pages y) b) (within : v < t1.geometry.blocks) (empty : (t2.entry v).kept ≡ 0)
     (marks : Marks v d2 d3 gone) (ready : IsReady d3 t3) (notes : NotesMark v d3.flash t2 t3) (newest : d2.honest ≡ true → KeepsElsewhere v d2.flash d3.flash) (numbers : HandsOut d2 d3 t2 t3) where
   inside : v < t2.geometry.blocks
-  inside = subst (λ (g : Geometry). v < g.blocks) (sym moves.geometry) within
+  inside = subst (λ (g : Geometry). v < g.blocks) (sym step.geometry) within
 
   keeps : KeepsCounts d2 d3 t2 t3
-  keeps = keeps_marked v d2 d3 t2 t3 gone inside empty marks notes moves.ready ready numbers
+  keeps = keeps_marked v d2 d3 t2 t3 gone inside empty marks notes step.ready ready numbers
 
   held : AreHeld t2 y
-  held = are_held t2 y law stands.tables.counts
+  held = are_held t2 y law step.stands.tables.counts
 
-  pub moves_marked : Moves v d1 d3 t1 t3 x y
-  moves_marked = moves_join v v v d1 d2 d3 t1 t2 t3 x y y moves
-      (moves_kept spare d2 d3 t2 t3 y held keeps stands v (λ honest. (kept_marked v d2 d3 t2 t3 gone inside empty marks notes honest (newest honest)).1)) moves.index
-
-  pub stands_marked : Stands spare d3 t3 y
-  stands_marked = stands_still spare d2 d3 t2 t3 y held keeps stands (written_marked v d2 d3 t2 t3 gone inside empty marks notes stands.tables.written)
+  stands_marked : Stands spare d3 t3 y
+  stands_marked = stands_still spare d2 d3 t2 t3 y held keeps step.stands (written_marked v d2 d3 t2 t3 gone inside empty marks notes step.stands.tables.written)
       (λ honest power. (kept_marked v d2 d3 t2 t3 gone inside empty marks notes honest (newest honest)).0)
 
-  pub free_marked : KeepsFree spare d1 d2 x y → KeepsFree spare d1 d3 x y
-  free_marked first = free_on spare d1 d2 d3 x y y moves.lasts.honest first
-      (free_still spare d2 d3 t2 t3 y held keeps stands stands_marked.tables (λ honest. (kept_marked v d2 d3 t2 t3 gone inside empty marks notes honest (newest honest)).0))
+  pub step_marked : Step spare (log_of d1 t1) (log_of d3 t3) x y
+  step_marked = step_on spare (log_of d1 t1) (log_of d2 t2) (log_of d3 t3) x y y step
+      (step_kept spare d2 d3 t2 t3 y held keeps step.stands stands_marked (λ honest. (kept_marked v d2 d3 t2 t3 gone inside empty marks notes honest (newest honest)).1)
+      (free_still spare d2 d3 t2 t3 y held keeps step.stands stands_marked.tables (λ honest. (kept_marked v d2 d3 t2 t3 gone inside empty marks notes honest (newest honest)).0)))
 
-  pub bad_marked : bad_count t3 ≤ bad_count t2 + 1
-  bad_marked = one_more_bad v d2 d3 t2 t3 gone inside empty marks notes moves.ready
+  bad_marked : bad_count t3 ≤ bad_count t2 + 1
+  bad_marked = one_more_bad v d2 d3 t2 t3 gone inside empty marks notes step.ready
 
-  pub one_bad : (t2.entry v).bad ≡ false → (t3.entry v).bad ≡ true → bad_count t3 ≡ bad_count t2 + 1
+  one_bad : (t2.entry v).bad ≡ false → (t3.entry v).bad ≡ true → bad_count t3 ≡ bad_count t2 + 1
   one_bad good is =
       let sets : Sets v (record (t2.entry v) { bad = true }) t2 t3 = record {
         here = notes.sets.here ∙ ap (λ b. record (t2.entry v) { bad = b }) (sym (ap (λ (e : BlockEntry). e.bad) notes.sets.here) ∙ is);
@@ -92,12 +95,44 @@ module _ (spare v : ℕ) (d1 d2 d3 : Device) (t1 t2 t3 : Table) (x y : Index) (g
       } in
       mark_bad t2 t3 v sets inside good
 
-  pub more_bad : (t2.entry v).bad ≡ false → (t3.entry v).bad ≡ true → bad_count t1 < bad_count t3
+  more_bad : (t2.entry v).bad ≡ false → (t3.entry v).bad ≡ true → bad_count t1 < bad_count t3
   more_bad good is =
       let more = one_bad good is in
-      let rises : bad_count t1 ≤ bad_count t2 = bad_rises t1 t2 moves.geometry moves.marks in
+      let rises : bad_count t1 ≤ bad_count t2 = bad_rises t1 t2 step.geometry step.marks in
       omega (arith, more, rises)
 
   pub out : (suspect : Option ℕ) → IsEmptied v t1 t2 suspect → (t3.entry v).bad ≡ true → bad_count t3 ≤ spare → IsOut v spare t1 t3 suspect
   out suspect e is few = out_marked v t1 t2 t3 keeps.kept (λ b. (marked_entry v d3.flash t2 t3 notes b).1) (λ b ne. ap (λ (z : BlockEntry). z.bad) (notes.sets.others b ne)) notes.open_block empty
       spare suspect e is few (more_bad e.left.good is)
+
+  -- what the mark costs besides
+  module _ (suspect : Option ℕ) (pays : PaysEmptying (log_of d1 t1) (log_of d2 t2) (Ok suspect)) where
+    changes : d3.changes ≤ d2.changes + 1
+    changes = mark_costs v d2 d3 gone marks
+
+    none : d3.failures ≡ d2.failures
+    none = mark_fails_not v d2 d3 gone marks
+
+    times : (d1.geometry.pages + 2) * d3.failures ≡ (d1.geometry.pages + 2) * d2.failures
+    times = ap (λ n. (d1.geometry.pages + 2) * n) none
+
+    pub pays_out : (t2.entry v).bad ≡ false → (t3.entry v).bad ≡ true → PaysOut (log_of d1 t1) (log_of d3 t3) (Ok suspect)
+    pays_out good is = record {
+      costs = let one = changes in let same = times in let costs = pays.costs in omega (arith, one, same, costs);
+      marks = let one = bad_marked in let same = none in let marks = pays.marks in omega (arith, one, same, marks);
+      answers = let one = one_bad good is in let same = none in let answers = pays.answers in omega (arith, one, same, answers);
+      reads = let reads = marks.reads in let rises = marks.lasts.changes in let same = none in let first = pays.reads in omega (arith, reads, rises, same, first);
+    }
+
+    pub pays_unmarked : (fault : MoveFault) → PaysOut (log_of d1 t1) (log_of d3 t3) (Err fault)
+    pays_unmarked fault = record {
+      costs =
+          let one = changes in
+          let same = times in
+          let costs = pays.costs in
+          let fewer : (d1.geometry.pages + 2) * (d1.failures + 0) ≤ (d1.geometry.pages + 2) * (d1.failures + open_failures (Ok suspect)) = mul-le-mul_left (d1.geometry.pages + 2) (omega arith) in
+          omega (arith, one, same, costs, fewer);
+      marks = let one = bad_marked in let same = none in let marks = pays.marks in omega (arith, one, same, marks);
+      answers = tt;
+      reads = let reads = marks.reads in let rises = marks.lasts.changes in let same = none in let first = pays.reads in omega (arith, reads, rises, same, first);
+    }

@@ -8,4 +8,6 @@ pub mod Copying
 pub mod Telling
 pub mod Retiring
 pub mod Room
+pub mod Steps
+pub mod Bills
 pub mod laws

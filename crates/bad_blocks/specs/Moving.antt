@@ -37,18 +37,6 @@ pub record MovesOut (v : ℕ) (old new : Index) : Type 0 where
   pub prepared : StaysPrepared old new
   pub ready : (o c : ℕ) → IsReadyKey old o c → IsReadyKey new o c
 
--- What a call keeps that moves kept pages out of block v, wherever it ends: the newest page of each kept key has its
--- version and its data, and as many pages are kept.
-pub record Moves (v : ℕ) (old new : Device) (t t' : Table) (x x' : Index) : Type 0 where
-  pub lasts : Lasts old new
-  pub ready : IsReady new t'
-  pub numbers : HandsOut old new t t'
-  pub geometry : t'.geometry ≡ t.geometry
-  pub marks : (b : ℕ) → (t.entry b).bad ≡ true → (t'.entry b).bad ≡ true
-  pub kept_count : kept_count t' ≡ kept_count t
-  pub index : MovesOut v x x'
-  pub same_data : old.honest ≡ true → SameData (kept_pages x) old.flash new.flash
-
 -- Each mark but `more` answers a failure that the device counted, and `unanswered` failures have none.
 abbrev pub MarksFailures : (more unanswered : ℕ) → Device → Device → Table → Table → Type 0
 MarksFailures more unanswered old new t t' = bad_count t' + old.failures + unanswered ≤ bad_count t + new.failures + more

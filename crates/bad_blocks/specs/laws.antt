@@ -4,3 +4,5 @@ pub mod Moves
 pub mod Turns
 pub mod FreeBlocks
 pub mod Costs
+pub mod Steps
+pub mod Bills

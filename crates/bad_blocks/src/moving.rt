@@ -2,12 +2,12 @@
 ghost use Rattle.std.specs.Prelude.{◌≡◌, ◌<◌, ◌≤◌, ◌+◌, ℕ, length, false, OnOk};
 ghost use Rattle.block_state.specs.Kept.{bad_count};
 ghost use Rattle.block_state.specs.TableOf.{table};
-ghost use Rattle.transactions.specs.Ready.{IsReady};
+ghost use Rattle.transactions.specs.Checking.{log_of};
+ghost use Rattle.bad_blocks.specs.Bills.{PaysCopies, PaysMove};
 ghost use Rattle.bad_blocks.specs.Lists.{IsListed};
-ghost use Rattle.nand_model.specs.Counts.{Costs, ReadsFew, unfinished};
-ghost use Rattle.bad_blocks.specs.Moving.{Moves, AnswersFailures, MarksFailures, MoveEnds, unanswered};
+ghost use Rattle.bad_blocks.specs.Moving.{MoveEnds, MovesOut};
 ghost use Rattle.bad_blocks.specs.Room.{IsRoomFor};
-ghost use Rattle.bad_blocks.specs.Standing.{Stands, KeepsFree};
+ghost use Rattle.bad_blocks.specs.Steps.{CanWrite, Step};
 
 use crate::copying::copy_listed;
 use crate::fault::MoveFault;
@@ -36,19 +36,12 @@ fn move_listed<N: Nand>(
     scratch: &mut [u8],
     spare: u32,
 ) -> Result<Moved, MoveFault>
-    requires ready { IsReady (N.state device.old) (table blocks.old) }
-    requires stands { Stands spare (N.state device.old) (table blocks.old) index.old }
-    requires few { bad_count (table blocks.old) ≤ spare }
+    requires can { CanWrite spare (log_of (N.state device.old) (table blocks.old)) index.old }
     requires size { length scratch.old ≡ (N.state device.old).geometry.bytes }
     requires listed { (v : ℕ) × IsListed v (table blocks.old) index.old copies.now }
-    ensures moves { (v : ℕ) → IsListed v (table blocks.old) index.old copies.now
-        → Moves v (N.state device.old) (N.state device.new) (table blocks.old) (table blocks.new) index.old index.new }
-    ensures stands { Stands spare (N.state device.new) (table blocks.new) index.new }
-    ensures free { KeepsFree spare (N.state device.old) (N.state device.new) index.old index.new }
-    ensures marks { MarksFailures 0 (unanswered result) (N.state device.old) (N.state device.new) (table blocks.old) (table blocks.new) }
-    ensures answers { OnOk result (AnswersFailures 0 (unanswered result) (N.state device.old) (N.state device.new) (table blocks.old) (table blocks.new)) }
-    ensures costs { Costs (length copies.now + 1) ((N.state device.old).geometry.pages + 2) (unanswered result) (N.state device.old) (N.state device.new) }
-    ensures reads { ReadsFew (unfinished result) (N.state device.old) (N.state device.new) }
+    ensures step { Step spare (log_of (N.state device.old) (table blocks.old)) (log_of (N.state device.new) (table blocks.new)) index.old index.new }
+    ensures out { (v : ℕ) → IsListed v (table blocks.old) index.old copies.now → MovesOut v index.old index.new }
+    ensures pays { PaysCopies (length copies.now) (log_of (N.state device.old) (table blocks.old)) (log_of (N.state device.new) (table blocks.new)) result }
     ensures few { OnOk result (bad_count (table blocks.new) ≤ spare) }
     ensures ends { (v : ℕ) → IsListed v (table blocks.old) index.old copies.now
         → MoveEnds v spare (N.state device.new) (table blocks.old) (table blocks.new) result }
@@ -73,20 +66,14 @@ pub fn move_kept<N: Nand>(
     block: u32,
     spare: u32,
 ) -> Result<Moved, MoveFault>
-    requires ready { IsReady (N.state device.old) (table blocks.old) }
-    requires stands { Stands spare (N.state device.old) (table blocks.old) index.old }
-    requires few { bad_count (table blocks.old) ≤ spare }
+    requires can { CanWrite spare (log_of (N.state device.old) (table blocks.old)) index.old }
     requires room { IsRoomFor (N.state device.old).geometry room.old }
     requires block { block < (N.state device.old).geometry.blocks }
     requires good { ((table blocks.old).entry block).bad ≡ false }
     requires some { 1 ≤ ((table blocks.old).entry block).kept }
-    ensures moves { Moves block (N.state device.old) (N.state device.new) (table blocks.old) (table blocks.new) index.old index.new }
-    ensures stands { Stands spare (N.state device.new) (table blocks.new) index.new }
-    ensures free { KeepsFree spare (N.state device.old) (N.state device.new) index.old index.new }
-    ensures marks { MarksFailures 0 (unanswered result) (N.state device.old) (N.state device.new) (table blocks.old) (table blocks.new) }
-    ensures answers { OnOk result (AnswersFailures 0 (unanswered result) (N.state device.old) (N.state device.new) (table blocks.old) (table blocks.new)) }
-    ensures costs { Costs (((table blocks.old).entry block).kept + 1) ((N.state device.old).geometry.pages + 2) (unanswered result) (N.state device.old) (N.state device.new) }
-    ensures reads { ReadsFew (unfinished result) (N.state device.old) (N.state device.new) }
+    ensures step { Step spare (log_of (N.state device.old) (table blocks.old)) (log_of (N.state device.new) (table blocks.new)) index.old index.new }
+    ensures out { MovesOut block index.old index.new }
+    ensures pays { PaysMove block (log_of (N.state device.old) (table blocks.old)) (log_of (N.state device.new) (table blocks.new)) result }
     ensures few { OnOk result (bad_count (table blocks.new) ≤ spare) }
     ensures ends { MoveEnds block spare (N.state device.new) (table blocks.old) (table blocks.new) result }
     ensures room { IsRoomFor (N.state device.new).geometry room.new }

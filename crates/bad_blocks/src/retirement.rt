@@ -3,17 +3,18 @@ ghost use Rattle.std.specs.Prelude.{◌≡◌, ◌≢◌, ◌<◌, ◌≤◌, �
 ghost use Rattle.nand_model.specs.Calls.{Marks};
 ghost use Rattle.nand_model.specs.declared.nand.Gone.{Gone};
 ghost use Rattle.flash_tree.specs.Keeping.{KeepsElsewhere};
-ghost use Rattle.transactions.specs.Handing.{HandsOut};
-ghost use Rattle.transactions.specs.Marking.{NotesMark};
 ghost use Rattle.block_state.specs.Kept.{bad_count};
 ghost use Rattle.block_state.specs.TableOf.{table};
+ghost use Rattle.transactions.specs.Checking.{log_of};
+ghost use Rattle.transactions.specs.Handing.{HandsOut};
+ghost use Rattle.transactions.specs.Marking.{NotesMark};
 ghost use Rattle.transactions.specs.Opening.{MayLose};
 ghost use Rattle.transactions.specs.Ready.{IsReady};
-ghost use Rattle.nand_model.specs.Counts.{Costs, ReadsFew, unfinished};
-ghost use Rattle.bad_blocks.specs.Moving.{Moves, AnswersFailures, MarksFailures};
-ghost use Rattle.bad_blocks.specs.Retiring.{EmptyEnds, MarkedEnds, OneEnds, RetireEnds, WhyNotMarked, open_failures};
+ghost use Rattle.bad_blocks.specs.Bills.{PaysEmptying, PaysOut, PaysRetirement};
+ghost use Rattle.bad_blocks.specs.Moving.{MovesOut};
+ghost use Rattle.bad_blocks.specs.Retiring.{EmptyEnds, MarkedEnds, OneEnds, RetireEnds, WhyNotMarked};
 ghost use Rattle.bad_blocks.specs.Room.{IsRoomFor};
-ghost use Rattle.bad_blocks.specs.Standing.{Stands, KeepsFree};
+ghost use Rattle.bad_blocks.specs.Steps.{CanWrite, Step};
 
 use crate::fault::MoveFault;
 use crate::moving::{Moved, move_kept};
@@ -32,20 +33,14 @@ fn empty_block<N: Nand>(
     block: u32,
     spare: u32,
 ) -> Result<Option<u32>, MoveFault>
-    requires ready { IsReady (N.state device.old) (table blocks.old) }
+    requires can { CanWrite spare (log_of (N.state device.old) (table blocks.old)) index.old }
     requires closed { (table blocks.old).open_block ≡ None }
-    requires stands { Stands spare (N.state device.old) (table blocks.old) index.old }
-    requires few { bad_count (table blocks.old) ≤ spare }
     requires room { IsRoomFor (N.state device.old).geometry room.old }
     requires block { block < (N.state device.old).geometry.blocks }
     requires good { ((table blocks.old).entry block).bad ≡ false }
-    ensures moves { Moves block (N.state device.old) (N.state device.new) (table blocks.old) (table blocks.new) index.old index.new }
-    ensures stands { Stands spare (N.state device.new) (table blocks.new) index.new }
-    ensures free { KeepsFree spare (N.state device.old) (N.state device.new) index.old index.new }
-    ensures marks { MarksFailures 0 (open_failures result) (N.state device.old) (N.state device.new) (table blocks.old) (table blocks.new) }
-    ensures answers { OnOk result (AnswersFailures 0 (open_failures result) (N.state device.old) (N.state device.new) (table blocks.old) (table blocks.new)) }
-    ensures costs { Costs ((N.state device.old).geometry.pages + 1) ((N.state device.old).geometry.pages + 2) (open_failures result) (N.state device.old) (N.state device.new) }
-    ensures reads { ReadsFew (unfinished result) (N.state device.old) (N.state device.new) }
+    ensures step { Step spare (log_of (N.state device.old) (table blocks.old)) (log_of (N.state device.new) (table blocks.new)) index.old index.new }
+    ensures out { MovesOut block index.old index.new }
+    ensures pays { PaysEmptying (log_of (N.state device.old) (table blocks.old)) (log_of (N.state device.new) (table blocks.new)) result }
     // Nothing is moved out of a block that is empty.
     ensures nothing { ((table blocks.old).entry block).kept ≡ 0 → (N.state device.new ≡ N.state device.old) × (result ≡ Ok None) }
     ensures ends { EmptyEnds block spare (N.state device.new) (table blocks.old) (table blocks.new) result }
@@ -98,21 +93,15 @@ fn retire_one<N: Nand>(
     block: u32,
     spare: u32,
 ) -> Result<Option<u32>, MoveFault>
-    requires ready { IsReady (N.state device.old) (table blocks.old) }
+    requires can { CanWrite spare (log_of (N.state device.old) (table blocks.old)) index.old }
     requires closed { (table blocks.old).open_block ≡ None }
     requires none { (table blocks.old).checkpoint ≡ None }
-    requires stands { Stands spare (N.state device.old) (table blocks.old) index.old }
-    requires few { bad_count (table blocks.old) ≤ spare }
     requires room { IsRoomFor (N.state device.old).geometry room.old }
     requires block { block < (N.state device.old).geometry.blocks }
     requires good { ((table blocks.old).entry block).bad ≡ false }
-    ensures moves { Moves block (N.state device.old) (N.state device.new) (table blocks.old) (table blocks.new) index.old index.new }
-    ensures stands { Stands spare (N.state device.new) (table blocks.new) index.new }
-    ensures free { KeepsFree spare (N.state device.old) (N.state device.new) index.old index.new }
-    ensures marks { MarksFailures 1 (open_failures result) (N.state device.old) (N.state device.new) (table blocks.old) (table blocks.new) }
-    ensures answers { OnOk result (AnswersFailures 1 (open_failures result) (N.state device.old) (N.state device.new) (table blocks.old) (table blocks.new)) }
-    ensures costs { Costs ((N.state device.old).geometry.pages + 2) ((N.state device.old).geometry.pages + 2) (open_failures result) (N.state device.old) (N.state device.new) }
-    ensures reads { ReadsFew (unfinished result) (N.state device.old) (N.state device.new) }
+    ensures step { Step spare (log_of (N.state device.old) (table blocks.old)) (log_of (N.state device.new) (table blocks.new)) index.old index.new }
+    ensures out { MovesOut block index.old index.new }
+    ensures pays { PaysOut (log_of (N.state device.old) (table blocks.old)) (log_of (N.state device.new) (table blocks.new)) result }
     ensures empty { ((table blocks.old).entry block).kept ≡ 0 → ((N.state device.new).changes ≤ (N.state device.old).changes + 1) × IfOk result (λ suspect. suspect ≡ None) }
     ensures needs_none { ((table blocks.old).entry block).kept ≡ 0 → IfErr result (WhyNotMarked spare (N.state device.new) (table blocks.new)) }
     ensures ends { OneEnds block spare (N.state device.new) (table blocks.old) (table blocks.new) result }
@@ -133,21 +122,15 @@ fn retire_all<N: Nand>(
     block: u32,
     spare: u32,
 ) -> Result<(), MoveFault>
-    requires ready { IsReady (N.state device.old) (table blocks.old) }
+    requires can { CanWrite spare (log_of (N.state device.old) (table blocks.old)) index.old }
     requires closed { (table blocks.old).open_block ≡ None }
     requires none { (table blocks.old).checkpoint ≡ None }
-    requires stands { Stands spare (N.state device.old) (table blocks.old) index.old }
-    requires few { bad_count (table blocks.old) ≤ spare }
     requires room { IsRoomFor (N.state device.old).geometry room.old }
     requires block { block < (N.state device.old).geometry.blocks }
     requires good { ((table blocks.old).entry block).bad ≡ false }
-    ensures moves { Moves block (N.state device.old) (N.state device.new) (table blocks.old) (table blocks.new) index.old index.new }
-    ensures stands { Stands spare (N.state device.new) (table blocks.new) index.new }
-    ensures free { KeepsFree spare (N.state device.old) (N.state device.new) index.old index.new }
-    ensures marks { MarksFailures 1 0 (N.state device.old) (N.state device.new) (table blocks.old) (table blocks.new) }
-    ensures answers { OnOk result (AnswersFailures 1 0 (N.state device.old) (N.state device.new) (table blocks.old) (table blocks.new)) }
-    ensures costs { Costs ((N.state device.old).geometry.pages + 2) ((N.state device.old).geometry.pages + 2) 0 (N.state device.old) (N.state device.new) }
-    ensures reads { ReadsFew (unfinished result) (N.state device.old) (N.state device.new) }
+    ensures step { Step spare (log_of (N.state device.old) (table blocks.old)) (log_of (N.state device.new) (table blocks.new)) index.old index.new }
+    ensures out { MovesOut block index.old index.new }
+    ensures pays { PaysRetirement (log_of (N.state device.old) (table blocks.old)) (log_of (N.state device.new) (table blocks.new)) result }
     ensures empty { ((table blocks.old).entry block).kept ≡ 0 → (N.state device.new).changes ≤ (N.state device.old).changes + 1 }
     ensures needs_none { ((table blocks.old).entry block).kept ≡ 0 → IfErr result (WhyNotMarked spare (N.state device.new) (table blocks.new)) }
     ensures ends { RetireEnds block spare (N.state device.new) (table blocks.old) (table blocks.new) result }
@@ -171,21 +154,14 @@ pub fn retire<N: Nand>(
     block: u32,
     spare: u32,
 ) -> Result<(), MoveFault>
-    requires ready { IsReady (N.state device.old) (table blocks.old) }
+    requires can { CanWrite spare (log_of (N.state device.old) (table blocks.old)) index.old }
     requires none { (table blocks.old).checkpoint ≡ None }
-    requires stands { Stands spare (N.state device.old) (table blocks.old) index.old }
-    requires few { bad_count (table blocks.old) ≤ spare }
     requires room { IsRoomFor (N.state device.old).geometry room.old }
     requires block { block < (N.state device.old).geometry.blocks }
     requires good { ((table blocks.old).entry block).bad ≡ false }
-    ensures moves { Moves block (N.state device.old) (N.state device.new) (table blocks.old) (table blocks.new) index.old index.new }
-    ensures stands { Stands spare (N.state device.new) (table blocks.new) index.new }
-    ensures free { KeepsFree spare (N.state device.old) (N.state device.new) index.old index.new }
-    // Each mark but that of the block answers a failure, and after Ok each failure has its mark.
-    ensures marks { MarksFailures 1 0 (N.state device.old) (N.state device.new) (table blocks.old) (table blocks.new) }
-    ensures answers { OnOk result (AnswersFailures 1 0 (N.state device.old) (N.state device.new) (table blocks.old) (table blocks.new)) }
-    ensures costs { Costs ((N.state device.old).geometry.pages + 2) ((N.state device.old).geometry.pages + 2) 0 (N.state device.old) (N.state device.new) }
-    ensures reads { ReadsFew (unfinished result) (N.state device.old) (N.state device.new) }
+    ensures step { Step spare (log_of (N.state device.old) (table blocks.old)) (log_of (N.state device.new) (table blocks.new)) index.old index.new }
+    ensures out { MovesOut block index.old index.new }
+    ensures pays { PaysRetirement (log_of (N.state device.old) (table blocks.old)) (log_of (N.state device.new) (table blocks.new)) result }
     // An empty block is marked, and nothing else is changed.
     ensures empty { ((table blocks.old).entry block).kept ≡ 0 → (N.state device.new).changes ≤ (N.state device.old).changes + 1 }
     // An empty block needs no number.

@@ -18,7 +18,7 @@ use Rattle.mount_scan.specs.declared.fault.ScanFault.{ScanFault}
 use Rattle.checkpoint_reading.specs.declared.found.FoundCheckpoint.{FoundCheckpoint}
 use Rattle.checkpoint_reading.specs.declared.candidate.Candidate.{Candidate}
 use Rattle.checkpoint_reading.specs.Found.{HasForm, IsWholeOn, HasNoneWhole, ReadsFew, checkpoint_of}
-use Rattle.checkpoint_reading.specs.Candidates.{IsCandidate, IsGreatestBelow, MayBegin, FirstsBelow}
+use Rattle.checkpoint_reading.specs.Candidates.{IsCandidate, IsGreatestBelow, IsOf, LiesFirst, MayBegin, FirstsBelow}
 use Rattle.checkpoint_reading.specs.Reading.{begun, IsNone, HasNoneAt, pages_of}
 use Rattle.checkpoint_reading.proofs.ReadCount.{back_honest}
 
@@ -75,15 +75,15 @@ best_is g flash pages blocks None within true_flash x whole none =
     absurd (none x.block (check_tag x 0) (tag_placed pages blocks flash x.block 0 (check_tag x 0) within has).0 (record { good = whole.good; has = has; begins = (refl, refl, refl) }))
 best_is g flash pages blocks (Some c) within true_flash x whole greatest =
     let has = first_tag g flash x whole in
-    let up = greatest.1 x.block (check_tag x 0) (tag_placed pages blocks flash x.block 0 (check_tag x 0) within has).0 (record { good = whole.good; has = has; begins = (refl, refl, refl) }) in
+    let up = (greatest.first x.block (check_tag x 0) (tag_placed pages blocks flash x.block 0 (check_tag x 0) within has).0 (record { good = whole.good; has = has; begins = (refl, refl, refl) })).0 in
     let right = true_flash x whole in
-    let down = right.above c.block 0 c.tag greatest.0.good greatest.0.has in (
+    let down = right.above c.block 0 c.tag greatest.may.good greatest.may.has in (
       c,
       refl,
-      greatest.0.has,
+      greatest.may.has,
       elim (cases_eq x.block c.block) [
         | inl same ↦ same
-        | inr ne ↦ absurd (right.alone c.block 0 c.tag greatest.0.good (λ other. ne (sym other)) greatest.0.has (omega (arith, up, down.2)))
+        | inr ne ↦ absurd (right.alone c.block 0 c.tag greatest.may.good (λ other. ne (sym other)) greatest.may.has (omega (arith, up, down.2)))
       ],
     )
 
@@ -106,3 +106,12 @@ few_read a b c best within greatest first next honest true_flash x whole =
     let size : x.size ≡ is.0.tag.count = same_size a.geometry a.flash is.0 is.2 x whole is.3 in
     let count : pages_of best ≡ is.0.tag.count = ap pages_of is.1 in
     omega (arith, first, next, size, count)
+
+-- the checkpoint that is found is that of the best candidate
+pub lies_first : (d : Device) (best : Option Candidate) (found : Option FoundCheckpoint) → (d.honest ≡ true → IsGreatestBelow d.flash d.geometry.blocks best) → IfSome found (IsOf best)
+    → IfSome found (λ f. LiesFirst d (checkpoint_of f))
+lies_first d best None greatest of = tt
+lies_first d None (Some f) greatest of = absurd of
+lies_first d (Some c) (Some f) greatest (block, seq) = λ honest k t lt may.
+    let first = (greatest honest).first k t lt may in
+    (omega (arith, first.0, seq), λ same. let low = first.1 (omega (arith, same, seq)) in omega (arith, low, block))

@@ -54,18 +54,20 @@ greatest_stays flash b None least were = λ k t lt may. elim (cases_eq k b) [
       absurd cc
   | inr ne ↦ were k t (omega (arith, lt, ne)) may
 ]
-greatest_stays flash b (Some c) least were = (
-  were.0,
-  λ k t lt may. elim (cases_eq k b) [
+greatest_stays flash b (Some c) least were = record {
+  within = let within = were.within in omega (arith, within);
+  may = were.may;
+  first = λ k t lt may. elim (cases_eq k b) [
     | inl here ↦
         let is = least t (subst (λ x. MayBegin flash x t) here may) in
         let some : Some c ≡ Some is.0 = is.1 in
         let same : c ≡ is.0 = cc in
         let seqs : c.tag.seq ≡ is.0.tag.seq = ap (λ (x : Candidate). x.tag.seq) same in
-        omega (arith, is.2, seqs)
-    | inr ne ↦ were.1 k t (omega (arith, lt, ne)) may
-  ],
-)
+        let within = were.within in
+        (omega (arith, is.2, seqs), λ _. omega (arith, within, here))
+    | inr ne ↦ were.first k t (omega (arith, lt, ne)) may
+  ];
+}
 
 -- a block whose tag begins no checkpoint
 pub stays_ordinary : (flash : Flash) (b : ℕ) (best : Option Candidate) (tag : Tag) → (BeginsCheckpoint tag → ⊥) → FirstIs flash b (Some tag) → IsGreatestBelow flash b best → IsGreatestBelow flash (b + 1) best
@@ -89,16 +91,19 @@ stays_none flash b best is were = greatest_stays flash b best (λ t may. absurd 
 pub takes_greater :
     (flash : Flash) (b : ℕ) (best : Option Candidate) (tag : Tag) → BeginsCheckpoint tag → IsAbove tag.seq best → FirstIs flash b (Some tag) → IsGreatestBelow flash b best
     → IsGreatestBelow flash (b + 1) (Some (record { block = b; tag = tag }))
-takes_greater flash b best tag begins above is were = (
-  record { good = is.0; has = is.1; begins = begins },
-  λ k t lt may. elim (cases_eq k b) [
-    | inl here ↦ let seqs : tag.seq ≡ t.seq = ap (λ (v : Tag). v.seq) (one_first flash b tag t is (subst (λ x. MayBegin flash x t) here may)) in omega (arith, seqs)
-    | inr ne ↦ below best above were k t (omega (arith, lt, ne)) may
-  ],
-) where
-  below : (best : Option Candidate) → IsAbove tag.seq best → IsGreatestBelow flash b best → (k : ℕ) (t : Tag) → k < b → MayBegin flash k t → t.seq ≤ tag.seq
+takes_greater flash b best tag begins above is were = record {
+  within = omega arith;
+  may = record { good = is.0; has = is.1; begins = begins };
+  first = λ k t lt may. elim (cases_eq k b) [
+    | inl here ↦
+        let seqs : tag.seq ≡ t.seq = ap (λ (v : Tag). v.seq) (one_first flash b tag t is (subst (λ x. MayBegin flash x t) here may)) in
+        (omega (arith, seqs), λ _. omega (arith, here))
+    | inr ne ↦ let less = below best above were k t (omega (arith, lt, ne)) may in (omega (arith, less), λ same. absurd (omega (arith, less, same)))
+  ];
+} where
+  below : (best : Option Candidate) → IsAbove tag.seq best → IsGreatestBelow flash b best → (k : ℕ) (t : Tag) → k < b → MayBegin flash k t → t.seq < tag.seq
   below None above none k t lt may = absurd (none k t lt may)
-  below (Some c) above were k t lt may = let le = were.1 k t lt may in omega (arith, le, above)
+  below (Some c) above were k t lt may = let le = (were.first k t lt may).0 in omega (arith, le, above)
 
 -- ---- all blocks
 

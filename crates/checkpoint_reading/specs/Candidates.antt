@@ -6,7 +6,9 @@ use Rattle.page_tags.specs.declared.tag.Tag.{Tag}
 use Rattle.page_tags.specs.Tags.{IsTag}
 use Rattle.flash_tree.specs.Groups.{HasTag}
 use Rattle.flash_tree.specs.Slots.{check_object}
+use Rattle.flash_tree.specs.Checkpoints.{Checkpoint}
 use Rattle.checkpoint_reading.specs.Found.{AreFirstSeqs}
+use Rattle.checkpoint_reading.specs.declared.found.FoundCheckpoint.{FoundCheckpoint}
 use Rattle.checkpoint_reading.specs.declared.candidate.Candidate.{Candidate}
 use Rattle.checkpoint_reading.specs.declared.candidate.Firsts.{Firsts}
 
@@ -39,10 +41,30 @@ pub record MayBegin (flash : Flash) (b : ℕ) (t : Tag) : Type 0 where
   pub has : HasTag flash b 0 t
   pub begins : BeginsCheckpoint t
 
--- of the blocks below b that may begin a checkpoint one with the greatest seq; none, where no block may
+-- of the blocks that may begin a checkpoint this one comes no later: its seq is not less, nor the same in a higher block
+abbrev pub ComesFirst : (block seq : ℕ) → ℕ → Tag → Type 0
+ComesFirst block seq k t = (t.seq ≤ seq) × (t.seq ≡ seq → block ≤ k)
+
+-- Of the blocks below b that may begin a checkpoint it has the greatest seq, and of those with this seq it is the lowest.
+pub record IsBestBelow (flash : Flash) (b : ℕ) (c : Candidate) : Type 0 where
+  pub within : c.block < b
+  pub may : MayBegin flash c.block c.tag
+  pub first : (k : ℕ) (t : Tag) → k < b → MayBegin flash k t → ComesFirst c.block c.tag.seq k t
+
+-- the best of the blocks below b that may begin a checkpoint; none, where no block may
 abbrev pub IsGreatestBelow : Flash → ℕ → Option Candidate → Type 0
 IsGreatestBelow flash b None = (k : ℕ) (t : Tag) → k < b → MayBegin flash k t → ⊥
-IsGreatestBelow flash b (Some c) = MayBegin flash c.block c.tag × ((k : ℕ) (t : Tag) → k < b → MayBegin flash k t → t.seq ≤ c.tag.seq)
+IsGreatestBelow flash b (Some c) = IsBestBelow flash b c
+
+-- the checkpoint is that of the candidate
+abbrev pub IsOf : Option Candidate → FoundCheckpoint → Type 0
+IsOf None f = ⊥
+IsOf (Some c) f = (f.block ≡ c.block) × (f.seq ≡ c.tag.seq)
+
+-- of an honest device: of the good blocks whose page 0 may be a checkpoint's first the checkpoint's has the greatest seq, and of those with
+-- this seq it is the lowest
+abbrev pub LiesFirst : Device → Checkpoint → Type 0
+LiesFirst device c = device.honest ≡ true → (k : ℕ) (t : Tag) → k < device.geometry.blocks → MayBegin device.flash k t → ComesFirst c.block c.seq k t
 
 -- A candidate of any device: a good block of it, with a valid tag.
 pub record IsCandidate (device : Device) (c : Candidate) : Type 0 where

@@ -1,8 +1,8 @@
 // The search for a whole checkpoint.
-ghost use Rattle.std.specs.Prelude.{◌≤◌, ◌+◌, IfOk, IfSome, IfNone};
+ghost use Rattle.std.specs.Prelude.{◌≤◌, ◌+◌, Some, IfOk, IfSome, IfNone};
 ghost use Rattle.flash_tree.specs.Checkpoints.{Checkpoint};
 ghost use Rattle.checkpoint_reading.specs.Found.{ReadsAtMost, ReadsFew, HasForm, IsWholeOn, HasNoneWhole, TellsSeqs, checkpoint_of};
-ghost use Rattle.checkpoint_reading.specs.Candidates.{IsCandidate};
+ghost use Rattle.checkpoint_reading.specs.Candidates.{IsCandidate, IsOf, LiesFirst};
 ghost use Rattle.checkpoint_reading.specs.Reading.{HasNoneAt, pages_of};
 
 use crate::candidate::{Candidate, read_firsts};
@@ -24,6 +24,7 @@ fn read_candidate<N: Nand>(
     ensures form { IfOk result (λ found. IfSome found (λ c. HasForm (N.state device.old) (checkpoint_of c))) }
     ensures found { IfOk result (λ found. IfSome found (λ c. IsWholeOn (N.state device.old) (checkpoint_of c))) }
     ensures none { IfOk result (λ found. IfNone found (HasNoneAt (N.state device.old) candidate)) }
+    ensures of { IfOk result (λ found. IfSome found (IsOf (Some candidate))) }
 {
     let Candidate { block, tag } = candidate;
     let geometry = device.geometry();
@@ -56,6 +57,7 @@ fn read_best<N: Nand>(
     ensures form { IfOk result (λ found. IfSome found (λ c. HasForm (N.state device.old) (checkpoint_of c))) }
     ensures found { IfOk result (λ found. IfSome found (λ c. IsWholeOn (N.state device.old) (checkpoint_of c))) }
     ensures none { IfSome best (λ candidate. IfOk result (λ found. IfNone found (HasNoneAt (N.state device.old) candidate))) }
+    ensures of { IfOk result (λ found. IfSome found (IsOf best)) }
 {
     match best {
         Some(candidate) => read_candidate(alloc, device, candidate),
@@ -75,6 +77,7 @@ pub fn find_checkpoint<N: Nand>(
     ensures form { IfOk result (λ search. IfSome search.checkpoint (λ c. HasForm (N.state device.old) (checkpoint_of c))) }
     ensures found { IfOk result (λ search. IfSome search.checkpoint (λ c. IsWholeOn (N.state device.old) (checkpoint_of c))) }
     ensures none { IfOk result (λ search. IfNone search.checkpoint (HasNoneWhole (N.state device.old))) }
+    ensures first { IfOk result (λ search. IfSome search.checkpoint (λ c. LiesFirst (N.state device.old) (checkpoint_of c))) }
     ensures seqs { IfOk result (λ search. TellsSeqs (N.state device.old) search.seqs.items) }
 {
     let firsts = read_firsts(alloc, device)?;

@@ -1,27 +1,35 @@
 -- What stands where a block is taken.
-use Rattle.std.proofs.Common.{◌≡◌, ◌<◌, ◌≤◌, ℕ, ◌+◌, ◌-◌, Option, Some, sym, ap, subst, ◌∙◌, inl, inr, arith}
+use Rattle.std.proofs.Common.{◌≡◌, ◌<◌, ◌≤◌, ℕ, ◌+◌, ◌-◌, ◌*◌, true, Option, Some, Result, OnOk, sym, ap, subst, ◌∙◌, inl, inr, arith}
 use Rattle.std.specs.Option.{option_map_or}
 use Rattle.std.proofs.lemmas.Bool.{cases_lt}
 use Rattle.nand_model.specs.Calls.{Device, Lasts}
 use Rattle.nand_model.specs.declared.geometry.Geometry.{Geometry}
 use Rattle.block_state.specs.Kept.{bad_count, unkept_count, free_count, IsScarce}
-use Rattle.block_state.specs.Table.{Table, room}
+use Rattle.block_state.specs.Table.{Table, IsFewest, room}
 use Rattle.block_state.specs.laws.Kept.{free_where_unkept}
 use Rattle.chunk_index.specs.Kept.{HoldsNone}
 use Rattle.chunk_index.specs.Maps.{kept_pages, kept_in}
 use Rattle.chunk_index.specs.declared.index.Index.{Index}
 use Rattle.transactions.specs.Handing.{HandsOut}
 use Rattle.transactions.specs.Ready.{IsReady}
-use Rattle.bad_blocks.specs.Copying.{KeepsCounts}
-use Rattle.bad_blocks.specs.Moving.{Moves}
+use Rattle.nand_model.specs.Counts.{Costs, ReadsFew, unfinished}
+use Rattle.transactions.specs.Checking.{LogState, log_of}
+use Rattle.bad_blocks.specs.Bills.{Pays, bill_of}
+use Rattle.bad_blocks.specs.Copying.{KeepsCounts, KeepsDataAt}
+use Rattle.bad_blocks.specs.Moving.{AnswersFailures}
+use Rattle.bad_blocks.specs.Steps.{Step}
 use Rattle.bad_blocks.specs.Passing.{Passes}
 use Rattle.bad_blocks.specs.Standing.{AreHeld, HasFreeBlocks, KeepsFree, Stands}
-use Rattle.bad_blocks.specs.Taking.{Takes, TakesNone}
+use Rattle.bad_blocks.specs.Taking.{CostsATake, Takes, TakesNone}
+use Rattle.bad_blocks.specs.laws.Bills.{pays_none}
+use Rattle.bad_blocks.specs.laws.Costs.{costs_kept, costs_taken}
+use Rattle.bad_blocks.specs.laws.Steps.{step_kept}
 use Rattle.bad_blocks.specs.laws.FreeBlocks.{free_still}
 use Rattle.bad_blocks.specs.laws.KeptPages.{kept_where, data_where}
 use Rattle.bad_blocks.specs.laws.Keeping.{same_here, keeps_passes}
-use Rattle.collector.specs.Making.{FitsOpen, HasMore}
-use Rattle.bad_blocks.specs.laws.Moves.{are_held, moves_kept, stands_still, stands_kept}
+use Rattle.bad_blocks.specs.laws.Moves.{are_held, stands_still, stands_kept}
+use Rattle.collector.specs.Making.{FitsOpen, HasMore, PaysRoom}
+use Rattle.collector.specs.declared.fault.RoomFault.{RoomFault}
 
 module _ (spare : ℕ) (d0 d1 : Device) (t u : Table) (x : Index) (law : (b : ℕ) → kept_in x b ≡ 0 → HoldsNone (kept_pages x) b)
     (lasts : Lasts d0 d1) (ready : IsReady d1 u) (numbers : HandsOut d0 d1 t u) (passes : Passes d0 d1 t u) (stands : Stands spare d0 t x) where
@@ -31,8 +39,8 @@ module _ (spare : ℕ) (d0 d1 : Device) (t u : Table) (x : Index) (law : (b : �
   held : AreHeld t x
   held = are_held t x law stands.tables.counts
 
-  pub moves_taken : Moves 0 d0 d1 t u x x
-  moves_taken = moves_kept spare d0 d1 t u x held keeps stands 0 (λ honest. data_where d0.flash d1.flash t (passes.newest honest))
+  stored : d0.honest ≡ true → KeepsDataAt t d0.flash d1.flash
+  stored honest = data_where d0.flash d1.flash t (passes.newest honest)
 
   -- a block was taken
   module _ (b : ℕ) (takes : Takes b d1 t u) where
@@ -47,11 +55,14 @@ module _ (spare : ℕ) (d0 d1 : Device) (t u : Table) (x : Index) (law : (b : �
         let zero_there = none_kept in
         omega (arith, none, zero_there)
 
-    pub stands_taken : Stands spare d1 u x
+    stands_taken : Stands spare d1 u x
     stands_taken = stands_still spare d0 d1 t u x held keeps stands written (λ honest power. kept_where d0.flash d1.flash t (passes.newest honest))
 
-    pub free_where_taken : KeepsFree spare d0 d1 x x
+    free_where_taken : KeepsFree spare d0 d1 x x
     free_where_taken = free_still spare d0 d1 t u x held keeps stands stands_taken.tables (λ honest. kept_where d0.flash d1.flash t (passes.newest honest))
+
+    pub step_taken : Step spare (log_of d0 t) (log_of d1 u) x x
+    step_taken = step_kept spare d0 d1 t u x held keeps stands stands_taken stored free_where_taken
 
     -- so one is free less than are without a kept page
     pub free_taken : HasMore t spare → HasFreeBlocks u spare
@@ -63,11 +74,54 @@ module _ (spare : ℕ) (d0 d1 : Device) (t u : Table) (x : Index) (law : (b : �
           within = subst (λ (g : Geometry). b < g.blocks) (sym passes.geometry) takes.within
 
   -- none was
-  pub stands_none : TakesNone t u → Stands spare d1 u x
+  stands_none : TakesNone t u → Stands spare d1 u x
   stands_none none = stands_kept spare d0 d1 t u x held keeps stands none.open_block (λ honest power. kept_where d0.flash d1.flash t (passes.newest honest))
 
-  pub free_where_none : TakesNone t u → KeepsFree spare d0 d1 x x
+  free_where_none : TakesNone t u → KeepsFree spare d0 d1 x x
   free_where_none none = free_still spare d0 d1 t u x held keeps stands (stands_none none).tables (λ honest. kept_where d0.flash d1.flash t (passes.newest honest))
+
+  pub step_untaken : TakesNone t u → Step spare (log_of d0 t) (log_of d1 u) x x
+  step_untaken none = step_kept spare d0 d1 t u x held keeps stands (stands_none none) stored (free_where_none none)
+
+-- what it costs, where a block is taken or not
+pub pays_taken : (spare : ℕ) (d0 d1 : Device) (t u : Table) (result : Result (Unit {0}) RoomFault) → Lasts d0 d1 → Passes d0 d1 t u → CostsATake d0 d1 → d1.reads ≡ d0.reads
+    → OnOk result (AnswersFailures 0 0 d0 d1 t u) → PaysRoom spare (log_of d0 t) (log_of d1 u) result
+pays_taken spare d0 d1 t u result lasts passes costs reads answers = record {
+  pays = record {
+    costs = costs_taken d0.geometry.pages d0.geometry.pages d0 d1 lasts costs;
+    marks = omega (arith, passes.failures);
+    answers = answers;
+    reads = omega (arith, reads, lasts.changes, lasts.failures);
+  };
+  fewest = λ v is. costs_taken d0.geometry.pages (t.entry v).kept d0 d1 lasts costs;
+  takes = λ _. costs;
+}
+
+-- what it costs where nothing is done
+pub pays_nothing : (spare : ℕ) (log : LogState) (result : Result (Unit {0}) RoomFault) → PaysRoom spare log log result
+pays_nothing spare log result = record {
+  pays = pays_none _ _ log result;
+  fewest = λ v is. let one : (log.device.geometry.pages + 2) * (log.device.failures + 0) ≡ (log.device.geometry.pages + 2) * log.device.failures = omega arith in omega (arith, one);
+  takes = λ _. omega arith;
+}
+
+-- where no block is to be taken, the collection of the block with the fewest committed pages
+pub pays_collected : {T E : Type 0} (spare v : ℕ) (old new : LogState) (collected : Result T E) (result : Result (Unit {0}) RoomFault) → IsReady old.device old.table → (old.table.entry v).kept ≤ old.table.geometry.pages
+    → IsFewest old.table old.table.geometry.blocks v → (HasMore old.table spare → ⊥) → Pays (bill_of old ((old.table.entry v).kept + 1) 0 0) old new collected
+    → OnOk result (AnswersFailures 0 0 old.device new.device old.table new.table) → ReadsFew (unfinished result) old.device new.device → PaysRoom spare old new result
+pays_collected spare v old new collected result ready fits fewest none pays answers reads = record {
+  pays = record {
+    costs = costs_kept v 0 old.device new.device old.table ready.geometry fits pays.costs;
+    marks = pays.marks;
+    answers = answers;
+    reads = reads;
+  };
+  fewest = λ w is.
+      let few : (old.table.entry v).kept ≤ (old.table.entry w).kept = fewest.least w is.within is.good is.some in
+      let costs = pays.costs in
+      omega (arith, few, costs);
+  takes = λ more. absurd (none more);
+}
 
 -- the open block has the pages that were not written
 pub fits_open : (count w n : ℕ) (t : Table) → t.open_block ≡ Some w → (t.entry w).next ≡ n → n + count ≤ t.geometry.pages → FitsOpen count t

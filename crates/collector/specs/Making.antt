@@ -2,10 +2,14 @@
 -- From: this project.
 use Rattle.std.specs.Prelude.{◌≡◌, ◌⊎◌, ◌<◌, ◌≤◌, ℕ, ◌+◌, false, Some, Result, Ok, Err}
 use Rattle.nand_model.specs.Calls.{Device}
+use Rattle.nand_model.specs.Counts.{Costs}
 use Rattle.block_state.specs.Kept.{bad_count, unkept_count, HasSpare, IsScarce}
 use Rattle.block_state.specs.Table.{Table, IsFewest, room}
 use Rattle.chunk_index.specs.declared.index.Index.{Index}
+use Rattle.transactions.specs.Checking.{LogState}
+use Rattle.bad_blocks.specs.Bills.{Pays, bill_of}
 use Rattle.bad_blocks.specs.Moving.{MovesOut, WhyNotMoved}
+use Rattle.bad_blocks.specs.Taking.{CostsATake}
 use Rattle.bad_blocks.specs.Standing.{HasFreeBlocks}
 use Rattle.bad_blocks.specs.declared.fault.MoveFault.{MoveFault}
 use Rattle.bad_blocks.specs.declared.fault.MoveFault.TheVariants as moves
@@ -79,3 +83,10 @@ StaysWhereFull old new t t' x x' (Err faults.Full) = StaysWhole old new t t' x x
 StaysWhereFull old new t t' x x' (Err faults.Worn) = Unit {0}
 StaysWhereFull old new t t' x x' (Err faults.Lost) = Unit {0}
 StaysWhereFull old new t t' x x' (Err faults.Gone) = Unit {0}
+
+-- What the making of room costs: an erase and the pages of a block at most. But for failures, an erase and a program for each page that is
+-- committed in the block with the fewest are enough; and while blocks are left that can be allocated no more is done than that.
+pub record PaysRoom (spare : ℕ) (old new : LogState) (result : Result (Unit {0}) RoomFault) : Type 0 where
+  pub pays : Pays (bill_of old (old.device.geometry.pages + 1) 0 0) old new result
+  pub fewest : (v : ℕ) → IsFewest old.table old.table.geometry.blocks v → Costs ((old.table.entry v).kept + 1) (old.device.geometry.pages + 2) 0 old.device new.device
+  pub takes : HasMore old.table spare → CostsATake old.device new.device

@@ -1,15 +1,10 @@
 // The making of room.
-ghost use Rattle.std.specs.Prelude.{◌≡◌, ◌≤◌, ◌+◌, ℕ, IsOk, OnOk};
-ghost use Rattle.block_state.specs.Kept.{bad_count};
-ghost use Rattle.block_state.specs.Table.{IsFewest};
+ghost use Rattle.std.specs.Prelude.{◌≡◌, ◌≤◌, ℕ, IsOk};
 ghost use Rattle.block_state.specs.TableOf.{table};
-ghost use Rattle.transactions.specs.Ready.{IsReady};
-ghost use Rattle.nand_model.specs.Counts.{Costs, ReadsFew, unfinished};
-ghost use Rattle.bad_blocks.specs.Moving.{Moves, AnswersFailures, MarksFailures};
+ghost use Rattle.transactions.specs.Checking.{log_of};
 ghost use Rattle.bad_blocks.specs.Room.{IsRoomFor};
-ghost use Rattle.bad_blocks.specs.Standing.{Stands, KeepsFree};
-ghost use Rattle.bad_blocks.specs.Taking.{CostsATake};
-ghost use Rattle.collector.specs.Making.{FitsOpen, HasMore, MovesFewest, RoomEnds, StaysWhole, StaysWhereFull};
+ghost use Rattle.bad_blocks.specs.Steps.{CanWrite, Step};
+ghost use Rattle.collector.specs.Making.{FitsOpen, MovesFewest, PaysRoom, RoomEnds, StaysWhole, StaysWhereFull};
 
 use crate::choice::{has_unkept, victim};
 use crate::collection::collect;
@@ -31,23 +26,11 @@ pub fn make_room<N: Nand>(
     count: u32,
     spare: u32,
 ) -> Result<(), RoomFault>
-    requires ready { IsReady (N.state device.old) (table blocks.old) }
-    requires stands { Stands spare (N.state device.old) (table blocks.old) index.old }
-    requires few { bad_count (table blocks.old) ≤ spare }
+    requires can { CanWrite spare (log_of (N.state device.old) (table blocks.old)) index.old }
     requires room { IsRoomFor (N.state device.old).geometry room.old }
-    ensures moves { (v : ℕ) × Moves v (N.state device.old) (N.state device.new) (table blocks.old) (table blocks.new) index.old index.new }
+    ensures step { Step spare (log_of (N.state device.old) (table blocks.old)) (log_of (N.state device.new) (table blocks.new)) index.old index.new }
     ensures fewest { MovesFewest spare (table blocks.old) index.old index.new }
-    ensures stands { Stands spare (N.state device.new) (table blocks.new) index.new }
-    ensures free { KeepsFree spare (N.state device.old) (N.state device.new) index.old index.new }
-    ensures marks { MarksFailures 0 0 (N.state device.old) (N.state device.new) (table blocks.old) (table blocks.new) }
-    ensures answers { OnOk result (AnswersFailures 0 0 (N.state device.old) (N.state device.new) (table blocks.old) (table blocks.new)) }
-    ensures costs { Costs ((N.state device.old).geometry.pages + 1) ((N.state device.old).geometry.pages + 2) 0 (N.state device.old) (N.state device.new) }
-    // But for failures, an erase and a program for each page that is kept in the block with the fewest are enough.
-    ensures costs_fewest { (v : ℕ) → IsFewest (table blocks.old) (table blocks.old).geometry.blocks v
-        → Costs (((table blocks.old).entry v).kept + 1) ((N.state device.old).geometry.pages + 2) 0 (N.state device.old) (N.state device.new) }
-    // While blocks are left that can be taken, no more is done than the taking of one.
-    ensures takes { HasMore (table blocks.old) spare → CostsATake (N.state device.old) (N.state device.new) }
-    ensures reads { ReadsFew (unfinished result) (N.state device.old) (N.state device.new) }
+    ensures pays { PaysRoom spare (log_of (N.state device.old) (table blocks.old)) (log_of (N.state device.new) (table blocks.new)) result }
     ensures ends { RoomEnds count spare (N.state device.old) (N.state device.new) (table blocks.old) (table blocks.new) result }
     ensures room { IsRoomFor (N.state device.new).geometry room.new }
     ensures succeeds { FitsOpen count (table blocks.old) → IsOk result }

@@ -18,11 +18,9 @@ use Rattle.chunk_index.specs.Maps.{kept_pages, present, moved_to}
 use Rattle.chunk_index.specs.Shelves.{look}
 use Rattle.page_buffer.specs.Buffering.{Buffers}
 use Rattle.page_buffer.specs.Shown.{data_of, data_at, data_by, kept_data, present_data}
-use Rattle.bad_blocks.specs.Moving.{IsKeptIn, MovesOut}
 use Rattle.bad_blocks.specs.Standing.{AreKept, HasVersion, IsKeptAt, SameData}
-use Rattle.bad_blocks.specs.laws.Moves.{moves_out_none}
 use Rattle.pages.specs.Stores.{Carries}
-use Rattle.commits.specs.Keeping.{MovesKept}
+use Rattle.bad_blocks.specs.Steps.{MovesKept}
 
 -- what is present on the flash is the kept page
 pub on_flash_kept : (x : Index) (o c : ℕ) (k : KeptPage) → present x o c ≡ presents.OnFlash k → kept_pages x o c ≡ Some k
@@ -43,54 +41,10 @@ on_flash_kept x o c k = go (look x.shelf.objects o c) where
 
 -- ---- moves
 
-moved_again : (p q : KeptPage) (r : Present) → moved_to p (moved_to q r) ≡ moved_to p r
-moved_again p q presents.Absent = refl
-moved_again p q (presents.OnFlash k) = refl
-moved_again p q (presents.InBuffer i) = refl
-
 moved_slot : (p : KeptPage) (r : Present) (i : ℕ) → moved_to p r ≡ presents.InBuffer i → r ≡ presents.InBuffer i
 moved_slot p presents.Absent i is = absurd cc
 moved_slot p (presents.OnFlash k) i is = absurd cc
 moved_slot p (presents.InBuffer j) i is = is
-
--- pages that were moved out of one block
-pub moves_kept_out : (v : ℕ) (x y : Index) → MovesOut v x y → MovesKept x y
-moves_kept_out v x y moves = record {
-  moved = λ o c p is. elim (cases_eq p.block v) [
-    | inl e ↦ moves.moved o c p is e
-    | inr ne ↦
-        let apart : IsKeptIn v x o c → ⊥ = λ k. let same : Some k.0 ≡ Some p = sym k.1 ∙ is in let e : k.0 ≡ p = cc in ne (sym (ap (λ (q : KeptPage). q.block) e) ∙ k.2) in
-        record { at = p; is = moves.kept o c apart ∙ is; version = refl; present = moves.present o c apart ∙ follows_itself o c p is }
-  ];
-  kept = λ o c none. moves.kept o c (apart o c none) ∙ none;
-  present = λ o c none. moves.present o c (apart o c none);
-  prepared = moves.prepared;
-  ready = moves.ready;
-} where
-  apart : (o c : ℕ) → kept_pages x o c ≡ None → IsKeptIn v x o c → ⊥
-  apart o c none k = let two : None ≡ Some k.0 = sym none ∙ k.1 in cc
-
-  follows_itself : (o c : ℕ) (p : KeptPage) → kept_pages x o c ≡ Some p → present x o c ≡ moved_to p (present x o c)
-  follows_itself o c p is = go (present x o c) refl where
-    go : (r : Present) → present x o c ≡ r → r ≡ moved_to p r
-    go presents.Absent at = refl
-    go (presents.OnFlash k) at = let both : Some k ≡ Some p = sym (on_flash_kept x o c k at) ∙ is in let e : k ≡ p = cc in ap presents.OnFlash e
-    go (presents.InBuffer i) at = refl
-
-pub moves_kept_none : (x : Index) → MovesKept x x
-moves_kept_none x = moves_kept_out 0 x x (moves_out_none 0 x)
-
-pub moves_kept_on : (x y z : Index) → MovesKept x y → MovesKept y z → MovesKept x z
-moves_kept_on x y z first then = record {
-  moved = λ o c p is.
-      let a = first.moved o c p is in
-      let b = then.moved o c a.at a.is in
-      record { at = b.at; is = b.is; version = b.version ∙ a.version; present = b.present ∙ ap (moved_to b.at) a.present ∙ moved_again b.at a.at (present x o c) };
-  kept = λ o c none. then.kept o c (first.kept o c none);
-  present = λ o c none. then.present o c (first.kept o c none) ∙ first.present o c none;
-  prepared = λ o c is. then.prepared o c (first.prepared o c is);
-  ready = λ o c is. then.ready o c (first.ready o c is);
-}
 
 module _ (x y : Index) (moves : MovesKept x y) where
   -- the buffer's keys are the same
@@ -147,11 +101,6 @@ carries_kept x f g kept same o c xs is = go (kept_pages x o c) refl where
       let both : Some reads.0 ≡ Some xs = sym reads.1 ∙ sym (ap (option_and_then (data_at f)) some) ∙ is in
       let e : reads.0 ≡ xs = cc in
       newest_of g o c p.version xs (same o c p xs some (subst (HasVersion f o c p.version) e reads.2))
-
-pub same_data_on : (x y : Index) (f g h : Flash) → MovesKept x y → SameData (kept_pages x) f g → SameData (kept_pages y) g h → SameData (kept_pages x) f h
-same_data_on x y f g h moves first then o c p xs is v =
-    let m = moves.moved o c p is in
-    subst (λ n. HasVersion h o c n xs) m.version (then o c m.at xs m.is (subst (λ n. HasVersion g o c n xs) (sym m.version) (first o c p xs is v)))
 
 module _ (x y : Index) (f g : Flash) (moves : MovesKept x y) (was : AreKept f (kept_pages x)) (now : AreKept g (kept_pages y)) (same : SameData (kept_pages x) f g) where
   -- the page of a key has its data, where it lies now

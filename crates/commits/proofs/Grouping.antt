@@ -42,8 +42,10 @@ use Rattle.flash_tree.specs.laws.Place.{had_power}
 use Rattle.bad_blocks.specs.laws.Keeping.{limits_ends}
 use Rattle.bad_blocks.specs.laws.Moves.{may_lie_later}
 use Rattle.pages.specs.Stores.{Carries, HasPage}
-use Rattle.commits.specs.Keeping.{Keeps}
-use Rattle.commits.proofs.Following.{on_flash_kept, kept_reads, moves_kept_none}
+use Rattle.transactions.specs.Checking.{log_of}
+use Rattle.bad_blocks.specs.Steps.{Step}
+use Rattle.bad_blocks.specs.laws.Steps.{moves_kept_none}
+use Rattle.commits.proofs.Following.{on_flash_kept, kept_reads}
 use Rattle.commits.proofs.Freeing.{free_is}
 
 -- ---- a group that does not count
@@ -79,7 +81,7 @@ free_group spare d e t u x stands held is lasts ready newest honest free = elim 
 ]
 
 pub keeps_group : (spare : ℕ) (d e : Device) (t u : Table) (x : Index) → Stands spare d t x → AreHeld t x → t.next_group < 2 ^ 62 → u ≡ closed t → Lasts d e → IsReady e u → HandsOut d e t u
-    → (d.honest ≡ true → KeepsNewest d.flash e.flash) → Keeps spare d e t u x x
+    → (d.honest ≡ true → KeepsNewest d.flash e.flash) → Step spare (log_of d t) (log_of e u) x x
 keeps_group spare d e t u x stands held less is lasts ready numbers newest = record {
   lasts = lasts;
   ready = ready;
@@ -93,6 +95,7 @@ keeps_group spare d e t u x stands held less is lasts ready numbers newest = rec
   };
   numbers = numbers;
   geometry = ap (λ (s : Table). s.geometry) is;
+  marks = λ b bad. ap (λ (s : Table). (s.entry b).bad) is ∙ bad;
   kept_count = ap kept_count is;
   index = moves_kept_none x;
   same_data = λ honest. same_kept_pages x d.flash e.flash (newest honest);

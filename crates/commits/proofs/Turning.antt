@@ -22,9 +22,8 @@ use Rattle.page_buffer.specs.Shown.{data_at, data_by, kept_data, present_data}
 use Rattle.page_buffer.specs.laws.Buffering.{buffers_empty}
 use Rattle.transactions.specs.Ready.{IsReady}
 use Rattle.transactions.specs.laws.Handing.{hands_on, hands_nothing}
-use Rattle.bad_blocks.specs.Moving.{Moves}
 use Rattle.bad_blocks.specs.Standing.{AreKept, HasFreeBlocks, IsKept, IsWithinLimits, KeepsFree, SameData, Stands}
-use Rattle.bad_blocks.specs.laws.FreeBlocks.{free_here, free_on, leaves_fewer}
+use Rattle.bad_blocks.specs.laws.FreeBlocks.{free_on, leaves_fewer}
 use Rattle.flash_tree.specs.laws.Place.{had_power}
 use Rattle.collector.specs.Making.{LeavesRoom, WhyNoRoom}
 use Rattle.collector.specs.declared.fault.RoomFault.{RoomFault}
@@ -33,9 +32,12 @@ use Rattle.commits.specs.Carrying.{CarriesEither, CarriesFree, KeepsOrShows, Sta
 use Rattle.pages.specs.Maps.{PageMap}
 use Rattle.pages.specs.Stores.{HasNumbersLeft, HasPage, IsCarried}
 use Rattle.commits.specs.Committing.{CommitEnds}
-use Rattle.commits.specs.Keeping.{Keeps, Commits, IsAnswered, Leaves, MovesKept}
+use Rattle.transactions.specs.Checking.{log_of}
+use Rattle.bad_blocks.specs.Steps.{MovesKept, Step}
+use Rattle.bad_blocks.specs.laws.Steps.{moves_kept_on, same_data_on, step_on}
+use Rattle.commits.specs.Keeping.{Commits, IsAnswered, Leaves}
 use Rattle.commits.specs.Writing.{AttemptEnds, IsWhole, IsWaiting, WholeEnds}
-use Rattle.commits.proofs.Following.{moves_kept_out, moves_kept_none, moves_kept_on, buffers_moved, presents_moved, carries_kept, kept_reads, same_data_on, same_kept, same_present}
+use Rattle.commits.proofs.Following.{buffers_moved, presents_moved, carries_kept, kept_reads, same_kept, same_present}
 
 -- ---- keys
 
@@ -75,49 +77,8 @@ numbers_left d t ready (groups, seqs) honest b p tag good has =
 
 -- ---- calls
 
--- nothing was done
-pub keeps_here : (spare : ℕ) (d : Device) (t : Table) (x : Index) → IsReady d t → Stands spare d t x → Keeps spare d d t t x x
-keeps_here spare d t x ready stands = record {
-  lasts = lasts_here d;
-  ready = ready;
-  stands = stands;
-  numbers = hands_nothing d t;
-  geometry = refl;
-  kept_count = refl;
-  index = moves_kept_none x;
-  same_data = λ honest o c p xs is v. v;
-  free = free_here spare d x;
-}
-
--- kept pages were moved out of a block
-pub keeps_moved : (spare v : ℕ) (d e : Device) (t u : Table) (x y : Index) → Moves v d e t u x y → Stands spare e u y → KeepsFree spare d e x y → Keeps spare d e t u x y
-keeps_moved spare v d e t u x y moves stands free = record {
-  lasts = moves.lasts;
-  ready = moves.ready;
-  stands = stands;
-  numbers = moves.numbers;
-  geometry = moves.geometry;
-  kept_count = moves.kept_count;
-  index = moves_kept_out v x y moves.index;
-  same_data = moves.same_data;
-  free = free;
-}
-
-pub keeps_on : (spare : ℕ) (a b c : Device) (t u v : Table) (x y z : Index) → Keeps spare a b t u x y → Keeps spare b c u v y z → Keeps spare a c t v x z
-keeps_on spare a b c t u v x y z first then = record {
-  lasts = lasts_on a b c first.lasts then.lasts;
-  ready = then.ready;
-  stands = then.stands;
-  numbers = hands_on a b c t u v first.lasts then.lasts first.numbers then.numbers;
-  geometry = then.geometry ∙ first.geometry;
-  kept_count = then.kept_count ∙ first.kept_count;
-  index = moves_kept_on x y z first.index then.index;
-  same_data = λ honest. same_data_on x y a.flash b.flash c.flash first.index (first.same_data honest) (then.same_data (first.lasts.honest ∙ honest));
-  free = free_on spare a b c x y z first.lasts.honest first.free then.free;
-}
-
 -- no buffered page counts
-pub leaves_kept : (spare : ℕ) (d e : Device) (t u : Table) (x y : Index) (pages rest : List FreshPage) → Keeps spare d e t u x y → rest ≡ pages → Buffers y rest → Leaves spare d e t u x y pages rest
+pub leaves_kept : (spare : ℕ) (d e : Device) (t u : Table) (x y : Index) (pages rest : List FreshPage) → Step spare (log_of d t) (log_of e u) x y → rest ≡ pages → Buffers y rest → Leaves spare d e t u x y pages rest
 leaves_kept spare d e t u x y pages rest keeps same buffers = record {
   lasts = keeps.lasts;
   ready = keeps.ready;
@@ -129,7 +90,7 @@ leaves_kept spare d e t u x y pages rest keeps same buffers = record {
   newest = λ honest. inl (record { same_data = keeps.same_data honest; free = λ free. leaves_as_kept spare e x y keeps.index (keeps.free honest free) });
 }
 
-pub leaves_moved : (spare : ℕ) (d e : Device) (t u : Table) (x y : Index) (pages : List FreshPage) → Keeps spare d e t u x y → Buffers x pages → Leaves spare d e t u x y pages pages
+pub leaves_moved : (spare : ℕ) (d e : Device) (t u : Table) (x y : Index) (pages : List FreshPage) → Step spare (log_of d t) (log_of e u) x y → Buffers x pages → Leaves spare d e t u x y pages pages
 leaves_moved spare d e t u x y pages keeps buffers = leaves_kept spare d e t u x y pages pages keeps refl (buffers_moved x y keeps.index pages buffers)
 
 -- what is kept is not in the buffer
@@ -152,7 +113,7 @@ leaves_committed spare d e t u x y pages rest commits empty = record {
   newest = λ honest. inr (commits.newest honest);
 }
 
-module _ (spare : ℕ) (a b c : Device) (t u v : Table) (x y z : Index) (pages : List FreshPage) (stands : Stands spare a t x) (first : Keeps spare a b t u x y) where
+module _ (spare : ℕ) (a b c : Device) (t u v : Table) (x y z : Index) (pages : List FreshPage) (stands : Stands spare a t x) (first : Step spare (log_of a t) (log_of b u) x y) where
   was_kept : a.honest ≡ true → b.gone ≡ false → AreKept a.flash (kept_pages x)
   was_kept honest power = stands.newest honest (had_power a b first.lasts power)
 
@@ -202,7 +163,7 @@ module _ (spare : ℕ) (a b c : Device) (t u v : Table) (x y z : Index) (pages :
       }
 
 -- kept pages are moved once the buffered pages count
-pub commits_then : (spare : ℕ) (a b c : Device) (t u v : Table) (x y z : Index) (pages : List FreshPage) → Commits spare a b t u x y pages → Keeps spare b c u v y z → Commits spare a c t v x z pages
+pub commits_then : (spare : ℕ) (a b c : Device) (t u v : Table) (x y z : Index) (pages : List FreshPage) → Commits spare a b t u x y pages → Step spare (log_of b u) (log_of c v) y z → Commits spare a c t v x z pages
 commits_then spare a b c t u v x y z pages first then = record {
   lasts = lasts_on a b c first.lasts then.lasts;
   ready = then.ready;
@@ -232,7 +193,7 @@ commits_then spare a b c t u v x y z pages first then = record {
 
 -- ---- the same with the buffer
 
-pub whole_after : (spare : ℕ) (a b c : Device) (t u v : Table) (x y z : Index) (b0 b1 b2 : Buffer) → Stands spare a t x → Keeps spare a b t u x y → buffered b1 ≡ buffered b0
+pub whole_after : (spare : ℕ) (a b c : Device) (t u v : Table) (x y z : Index) (b0 b1 b2 : Buffer) → Stands spare a t x → Step spare (log_of a t) (log_of b u) x y → buffered b1 ≡ buffered b0
     → IsWhole spare b c u v y z b1 b2 → IsWhole spare a c t v x z b0 b2
 whole_after spare a b c t u v x y z b0 b1 b2 stands first same then = record {
   commits = commits_after spare a b c t u v x y z (buffered b0) stands first then.power (subst (Commits spare b c u v y z) same then.commits);
@@ -241,7 +202,7 @@ whole_after spare a b c t u v x y z b0 b1 b2 stands first same then = record {
   power = then.power;
 }
 
-pub whole_then : (spare : ℕ) (a b c : Device) (t u v : Table) (x y z : Index) (b0 b1 : Buffer) → IsWhole spare a b t u x y b0 b1 → Keeps spare b c u v y z → HasFreeBlocks v spare → c.gone ≡ false
+pub whole_then : (spare : ℕ) (a b c : Device) (t u v : Table) (x y z : Index) (b0 b1 : Buffer) → IsWhole spare a b t u x y b0 b1 → Step spare (log_of b u) (log_of c v) y z → HasFreeBlocks v spare → c.gone ≡ false
     → IsWhole spare a c t v x z b0 b1
 whole_then spare a b c t u v x y z b0 b1 first then free power = record {
   commits = commits_then spare a b c t u v x y z (buffered b0) first.commits then;
@@ -250,27 +211,27 @@ whole_then spare a b c t u v x y z b0 b1 first then free power = record {
   power = power;
 }
 
-pub waiting_after : (spare : ℕ) (a b c : Device) (t u v : Table) (x y z : Index) (b0 b1 : Buffer) → Keeps spare a b t u x y → IsWaiting spare b c u v y z b0 b1 → IsWaiting spare a c t v x z b0 b1
+pub waiting_after : (spare : ℕ) (a b c : Device) (t u v : Table) (x y z : Index) (b0 b1 : Buffer) → Step spare (log_of a t) (log_of b u) x y → IsWaiting spare b c u v y z b0 b1 → IsWaiting spare a c t v x z b0 b1
 waiting_after spare a b c t u v x y z b0 b1 first then = record {
-  keeps = keeps_on spare a b c t u v x y z first then.keeps;
+  keeps = step_on spare (log_of a t) (log_of b u) (log_of c v) x y z first then.keeps;
   buffered_still = then.buffered_still;
   power = then.power;
 }
 
-pub waiting_then : (spare : ℕ) (a b c : Device) (t u v : Table) (x y z : Index) (b0 b1 : Buffer) → IsWaiting spare a b t u x y b0 b1 → Keeps spare b c u v y z → c.gone ≡ false → IsWaiting spare a c t v x z b0 b1
+pub waiting_then : (spare : ℕ) (a b c : Device) (t u v : Table) (x y z : Index) (b0 b1 : Buffer) → IsWaiting spare a b t u x y b0 b1 → Step spare (log_of b u) (log_of c v) y z → c.gone ≡ false → IsWaiting spare a c t v x z b0 b1
 waiting_then spare a b c t u v x y z b0 b1 first then power = record {
-  keeps = keeps_on spare a b c t u v x y z first.keeps then;
+  keeps = step_on spare (log_of a t) (log_of b u) (log_of c v) x y z first.keeps then;
   buffered_still = first.buffered_still;
   power = power;
 }
 
 -- what was answered later was so from the beginning on
-pub answered_after : (spare : ℕ) (a b c : Device) (t u v : Table) (x y : Index) → Keeps spare a b t u x y → IsAnswered spare b c u v y → IsAnswered spare a c t v x
+pub answered_after : (spare : ℕ) (a b c : Device) (t u v : Table) (x y : Index) → Step spare (log_of a t) (log_of b u) x y → IsAnswered spare b c u v y → IsAnswered spare a c t v x
 answered_after spare a b c t u v x y first then = record {
   device = then.device;
   table = then.table;
   index = then.index;
-  before = keeps_on spare a b then.device t u then.table x y then.index first then.before;
+  before = step_on spare (log_of a t) (log_of b u) (log_of then.device then.table) x y then.index first then.before;
   answered = then.answered;
 }
 

@@ -27,10 +27,12 @@ use Rattle.transactions.specs.declared.group.Placed.{Placed}
 use Rattle.bad_blocks.specs.Standing.{AreHeld, HasFreeBlocks, HasVersion, IsKept, Stands, TablesAgree}
 use Rattle.bad_blocks.specs.laws.Keeping.{same_ends, same_closed, limits_ends}
 use Rattle.commits.specs.Carrying.{AreWritable, HaveRanges, StaysOrShows}
-use Rattle.commits.specs.Keeping.{Commits, Keeps, Leaves}
+use Rattle.transactions.specs.Checking.{log_of}
+use Rattle.bad_blocks.specs.Steps.{Step}
+use Rattle.commits.specs.Keeping.{Commits, Leaves}
 use Rattle.commits.specs.Writing.{IsGoodBlock}
 use Rattle.commits.proofs.Counts.{ListsAreWhole, held_lists}
-use Rattle.commits.proofs.Following.{moves_kept_none}
+use Rattle.bad_blocks.specs.laws.Steps.{moves_kept_none}
 use Rattle.commits.proofs.Grouping.{carries_present, free_group, free_present, keeps_group, newest_written, same_kept_pages, tables_closed}
 use Rattle.commits.proofs.Settling.{commits_whole, free_whole, open_after}
 
@@ -58,7 +60,7 @@ good_block o d e t v ready is lasts same = record {
 
 -- the group does not count
 pub keeps_written : (spare : ℕ) (d e : Device) (t u : Table) (x : Index) (xs : List FreshPage) (o : ℕ) → ListsAreWhole → Stands spare d t x → t.next_group < 2 ^ 62 → u ≡ closed t → Lasts d e → IsReady e u
-    → HandsOut d e t u → (d.honest ≡ true → KeepsNewest d.flash e.flash) → Keeps spare d e t u x x
+    → HandsOut d e t u → (d.honest ≡ true → KeepsNewest d.flash e.flash) → Step spare (log_of d t) (log_of e u) x x
 keeps_written spare d e t u x xs o lists stands less is lasts then numbers newest = keeps_group spare d e t u x stands (held_lists lists t x stands.tables.counts) less is lasts then numbers newest
 
 -- the device went, and the group counts or not

@@ -1,24 +1,24 @@
 -- How a commit ends.
-use Rattle.std.specs.Prelude.{◌≡◌, ◌<◌, ◌≤◌, ◌+◌, ℕ, true, false, [], length, Result, Ok, Err}
+use Rattle.std.specs.Prelude.{◌≡◌, ◌<◌, ◌≤◌, ◌+◌, ◌*◌, ℕ, true, false, [], length, Some, Result, Ok, Err, IsOk, OnOk}
 use Rattle.volume_terms.specs.Sizes.{number_end}
 use Rattle.nand_model.specs.Calls.{Device}
 use Rattle.block_state.specs.Kept.{bad_count}
 use Rattle.block_state.specs.Table.{Table, room}
 use Rattle.chunk_index.specs.declared.index.Index.{Index}
 use Rattle.page_buffer.specs.declared.buffer.Buffer.{Buffer}
-use Rattle.page_buffer.specs.BufferOf.{buffered, last_written, most_pages, bytes_of_page}
+use Rattle.page_buffer.specs.BufferOf.{buffered, last_written}
 use Rattle.page_buffer.specs.Buffering.{IsUnbuffered}
 use Rattle.page_buffer.specs.Shown.{kept_data, present_data}
+use Rattle.nand_model.specs.Counts.{Costs, ReadsFor}
+use Rattle.transactions.specs.Checking.{LogState}
+use Rattle.chunk_index.specs.declared.form.KeptPage.{KeptPage}
+use Rattle.chunk_index.specs.Maps.{kept_pages}
+use Rattle.bad_blocks.specs.Moving.{AnswersFailures, MarksFailures}
 use Rattle.bad_blocks.specs.Standing.{HasFreeBlocks}
 use Rattle.collector.specs.Making.{FitsOpen, HasMore, WhyNoRoom}
 use Rattle.collector.specs.declared.fault.RoomFault.{RoomFault}
 use Rattle.pages.specs.Stores.{IsCarried}
 use Rattle.commits.specs.Keeping.{IsAnswered}
-
--- the buffer holds as many pages of as many bytes at most
-pub record SameSizes (old new : Buffer) : Type 0 where
-  pub most : most_pages new ≡ most_pages old
-  pub bytes : bytes_of_page new ≡ bytes_of_page old
 
 -- A commit that is done: the buffer is empty, and has the pages that it had as those that were written last; what was
 -- present is kept, with its data, and what was dropped is not; an honest device carries the present pages.
@@ -68,3 +68,20 @@ pub record IsUnhindered (count : ℕ) (t : Table) (old new : Device) : Type 0 wh
 -- taken.
 abbrev pub TakesOneBlock : (count spare : ℕ) → Table → Device → Device → Type 0
 TakesOneBlock count spare t old new = HasMore t spare → new.failures ≡ old.failures → new.changes ≤ old.changes + count + 1
+
+-- What a commit of so many pages costs: their programs and the making of room, and for each failure a retirement and two of these again.
+-- They are written without a read: pages are read to be copied, and after a failure. A block is allocated only where the open one lacks
+-- the pages, or a program failed; and no more than one while blocks are left that can be allocated.
+pub record PaysCommit (count spare : ℕ) (old new : LogState) (result : Result (Unit {0}) RoomFault) : Type 0 where
+  pub costs : Costs (count + old.device.geometry.pages + 1) (3 * old.device.geometry.pages + 3) 0 old.device new.device
+  pub marks : MarksFailures 0 0 old.device new.device old.table new.table
+  pub answers : OnOk result (AnswersFailures 0 0 old.device new.device old.table new.table)
+  pub reads : ReadsFor count old.device new.device result
+  pub takes_none : TakesNoBlock count old.table old.device new.device
+  pub takes_one : TakesOneBlock count spare old.table old.device new.device
+
+-- a commit of nothing is done, without a call of the device, and no page is committed that was not
+pub record CommitsNothing (old new : Device) (x y : Index) (result : Result (Unit {0}) RoomFault) : Type 0 where
+  pub done : IsOk result
+  pub device : new ≡ old
+  pub kept : (o c : ℕ) (p : KeptPage) → kept_pages y o c ≡ Some p → kept_pages x o c ≡ Some p

@@ -1,45 +1,28 @@
 -- What is kept while the buffered pages are written.
-use Rattle.std.specs.Prelude.{◌≡◌, ◌⊎◌, ℕ, true, false, List, [], Some, None}
+use Rattle.std.specs.Prelude.{◌≡◌, ◌⊎◌, ℕ, true, false, List, [], Some}
 use Rattle.nand_model.specs.Calls.{Device, Lasts}
-use Rattle.block_state.specs.Kept.{kept_count}
 use Rattle.block_state.specs.Table.{Table}
 use Rattle.flash_tree.specs.declared.place.FreshPage.{FreshPage}
-use Rattle.chunk_index.specs.declared.form.KeptPage.{KeptPage}
 use Rattle.chunk_index.specs.declared.index.Index.{Index}
 use Rattle.chunk_index.specs.Entries.{as_kept}
-use Rattle.chunk_index.specs.Maps.{kept_pages, present, StaysPrepared, IsReadyKey}
+use Rattle.chunk_index.specs.Maps.{kept_pages, present}
+use Rattle.page_buffer.specs.declared.buffer.Buffer.{Buffer}
+use Rattle.page_buffer.specs.BufferOf.{buffered, most_pages, bytes_of_page}
 use Rattle.page_buffer.specs.Buffering.{Buffers}
 use Rattle.page_buffer.specs.Shown.{kept_data, present_data}
+use Rattle.transactions.specs.Checking.{LogState, log_of}
 use Rattle.transactions.specs.Handing.{HandsOut}
 use Rattle.transactions.specs.Ready.{IsReady}
-use Rattle.bad_blocks.specs.Moving.{Follows}
-use Rattle.bad_blocks.specs.Standing.{Stands, SameData, KeepsFree}
+use Rattle.bad_blocks.specs.Standing.{Stands}
+use Rattle.bad_blocks.specs.Steps.{MovesKept, StaysReady, Step}
 use Rattle.commits.specs.Carrying.{CarriesFree, StaysOrShows}
 
--- there is room for each key still, also once the changes are settled
-abbrev pub StaysReady : Index → Index → Type 0
-StaysReady old new = (o c : ℕ) → IsReadyKey old o c → IsReadyKey new o c
-
--- Each kept page may lie elsewhere now, in its version, and what is present of its key follows. Of a key that is not kept
--- nothing changes.
-pub record MovesKept (old new : Index) : Type 0 where
-  pub moved : (o c : ℕ) (p : KeptPage) → kept_pages old o c ≡ Some p → Follows o c p old new
-  pub kept : (o c : ℕ) → kept_pages old o c ≡ None → kept_pages new o c ≡ None
-  pub present : (o c : ℕ) → kept_pages old o c ≡ None → present new o c ≡ present old o c
-  pub prepared : StaysPrepared old new
-  pub ready : StaysReady old new
-
--- What stands while no buffered page counts: kept pages may have been moved, and blocks have been taken and marked.
-pub record Keeps (spare : ℕ) (old new : Device) (t t' : Table) (x x' : Index) : Type 0 where
-  pub lasts : Lasts old new
-  pub ready : IsReady new t'
-  pub stands : Stands spare new t' x'
-  pub numbers : HandsOut old new t t'
-  pub geometry : t'.geometry ≡ t.geometry
-  pub kept_count : kept_count t' ≡ kept_count t
-  pub index : MovesKept x x'
-  pub same_data : old.honest ≡ true → SameData (kept_pages x) old.flash new.flash
-  pub free : KeepsFree spare old new x x'
+-- What a commit keeps of the log, wherever it ends.
+pub record KeepsLog (spare : ℕ) (old new : LogState) (y : Index) : Type 0 where
+  pub lasts : Lasts old.device new.device
+  pub ready : IsReady new.device new.table
+  pub stands : Stands spare new.device new.table y
+  pub numbers : HandsOut old.device new.device old.table new.table
 
 -- What stands once the buffered pages count: what is present is what is kept, and of an honest device each key has the
 -- data that was present, and its device blocks enough that hold none of it.
@@ -59,7 +42,7 @@ pub record IsAnswered (spare : ℕ) (old new : Device) (t t' : Table) (x : Index
   pub device : Device
   pub table : Table
   pub index : Index
-  pub before : Keeps spare old device t table x index
+  pub before : Step spare (log_of old t) (log_of device table) x index
   pub answered : (new.failures ≡ device.failures) ⊎ ((o : ℕ) × (table.open_block ≡ Some o) × ((t'.entry o).bad ≡ true))
 
 -- the buffer has all its pages still, and kept pages were moved at most; or it is empty, and what is present is kept
@@ -76,3 +59,16 @@ pub record Leaves (spare : ℕ) (old new : Device) (t t' : Table) (x x' : Index)
   pub waits : WaitsOrSettles x x' pages pages'
   pub keys : StaysReady x x'
   pub newest : old.honest ≡ true → StaysOrShows spare x pages old new
+
+-- the buffer holds as many pages of as many bytes at most
+pub record SameSizes (old new : Buffer) : Type 0 where
+  pub most : most_pages new ≡ most_pages old
+  pub bytes : bytes_of_page new ≡ bytes_of_page old
+
+-- What a commit leaves of the buffer and of the keys, wherever it ends: what is buffered is in the index, the buffer has all its pages still
+-- or none, it has the room that it had, and so has each key.
+pub record KeepsBuffer (x y : Index) (b b' : Buffer) : Type 0 where
+  pub buffers : Buffers y (buffered b')
+  pub waits : WaitsOrSettles x y (buffered b) (buffered b')
+  pub sizes : SameSizes b b'
+  pub keys : StaysReady x y

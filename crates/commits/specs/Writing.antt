@@ -15,7 +15,9 @@ use Rattle.commits.specs.declared.writing.Attempt.TheVariants as attempts
 use Rattle.commits.specs.declared.turn.Turn.{Turn}
 use Rattle.commits.specs.declared.turn.Turn.TheVariants as turns
 use Rattle.commits.specs.Committing.{StaysOpen}
-use Rattle.commits.specs.Keeping.{Keeps, Commits, IsAnswered}
+use Rattle.transactions.specs.Checking.{log_of}
+use Rattle.bad_blocks.specs.Steps.{Step}
+use Rattle.commits.specs.Keeping.{Commits, IsAnswered}
 use Rattle.collector.specs.Making.{WhyNoRoom}
 
 -- the buffer is empty, and its pages are those that were written last
@@ -32,7 +34,7 @@ pub record IsWhole (spare : ℕ) (old new : Device) (t t' : Table) (x x' : Index
 
 -- no buffered page counts, all are buffered still, and the device has power
 pub record IsWaiting (spare : ℕ) (old new : Device) (t t' : Table) (x x' : Index) (b b' : Buffer) : Type 0 where
-  pub keeps : Keeps spare old new t t' x x'
+  pub keeps : Step spare (log_of old t) (log_of new t') x x'
   pub buffered_still : buffered b' ≡ buffered b
   pub power : new.gone ≡ false
 

@@ -1,23 +1,18 @@
 // The commit.
-ghost use Rattle.std.specs.Prelude.{◌≡◌, ◌≤◌, ◌+◌, ◌*◌, ℕ, [], length, true, Some, IsOk, OnOk};
-ghost use Rattle.nand_model.specs.Calls.{Lasts};
-ghost use Rattle.block_state.specs.Kept.{bad_count};
+ghost use Rattle.std.specs.Prelude.{◌≡◌, ◌≤◌, ◌+◌, ℕ, [], length, true, IsOk, OnOk};
 ghost use Rattle.block_state.specs.TableOf.{table};
 ghost use Rattle.chunk_index.specs.declared.form.WrittenGroup.{WrittenGroup};
 ghost use Rattle.chunk_index.specs.Counts.{Recounts};
-ghost use Rattle.chunk_index.specs.Maps.{CountsAgree, Settles, kept_in, kept_pages};
-ghost use Rattle.chunk_index.specs.declared.form.KeptPage.{KeptPage};
+ghost use Rattle.chunk_index.specs.Maps.{CountsAgree, Settles, kept_in};
 ghost use Rattle.page_buffer.specs.BufferOf.{buffered, last_written};
 ghost use Rattle.page_buffer.specs.Buffering.{Buffers, IsUnbuffered};
-ghost use Rattle.transactions.specs.Handing.{HandsOut};
-ghost use Rattle.transactions.specs.Ready.{IsReady};
-ghost use Rattle.nand_model.specs.Counts.{Costs, ReadsFor};
-ghost use Rattle.bad_blocks.specs.Moving.{AnswersFailures, MarksFailures};
+ghost use Rattle.transactions.specs.Checking.{log_of};
 ghost use Rattle.bad_blocks.specs.Room.{IsRoomFor};
-ghost use Rattle.bad_blocks.specs.Standing.{HasFreeBlocks, Stands};
+ghost use Rattle.bad_blocks.specs.Standing.{HasFreeBlocks};
+ghost use Rattle.bad_blocks.specs.Steps.{CanWrite};
 ghost use Rattle.commits.specs.Carrying.{AreWritable, CarriesEither, KeepsOrShows};
-ghost use Rattle.commits.specs.Committing.{CommitEnds, IsUnhindered, KeepsOpen, SameSizes, TakesNoBlock, TakesOneBlock};
-ghost use Rattle.commits.specs.Keeping.{StaysReady, WaitsOrSettles};
+ghost use Rattle.commits.specs.Committing.{CommitEnds, CommitsNothing, IsUnhindered, KeepsOpen, PaysCommit};
+ghost use Rattle.commits.specs.Keeping.{KeepsBuffer, KeepsLog, SameSizes};
 
 use crate::turn::write_whole;
 use bad_blocks::MoveRoom;
@@ -60,43 +55,22 @@ pub fn commit<N: Nand>(
     room: &mut MoveRoom,
     spare: u32,
 ) -> Result<(), RoomFault>
-    requires ready { IsReady (N.state device.old) (table blocks.old) }
-    requires stands { Stands spare (N.state device.old) (table blocks.old) index.old }
-    requires few { bad_count (table blocks.old) ≤ spare }
+    requires can { CanWrite spare (log_of (N.state device.old) (table blocks.old)) index.old }
     requires free { HasFreeBlocks (table blocks.old) spare }
     requires room { IsRoomFor (N.state device.old).geometry room.old }
     requires buffers { Buffers index.old (buffered buffer.old) }
     requires pages { AreWritable (N.state device.old) (buffered buffer.old) }
-    ensures lasts { Lasts (N.state device.old) (N.state device.new) }
-    ensures ready { IsReady (N.state device.new) (table blocks.new) }
-    ensures stands { Stands spare (N.state device.new) (table blocks.new) index.new }
-    ensures numbers { HandsOut (N.state device.old) (N.state device.new) (table blocks.old) (table blocks.new) }
-    // Each mark answers a failure, and after Ok each failure has its mark.
-    ensures marks { MarksFailures 0 0 (N.state device.old) (N.state device.new) (table blocks.old) (table blocks.new) }
-    ensures answers { OnOk result (AnswersFailures 0 0 (N.state device.old) (N.state device.new) (table blocks.old) (table blocks.new)) }
-    // The programs of the pages, a making of room, and a retirement and two of these again for each failure.
-    ensures costs { Costs (length (buffered buffer.old) + (N.state device.old).geometry.pages + 1) (3 * (N.state device.old).geometry.pages + 3) 0 (N.state device.old) (N.state device.new) }
-    // What is buffered is written without a read: pages are read to be copied, and after a failure.
-    ensures reads { ReadsFor (length (buffered buffer.old)) (N.state device.old) (N.state device.new) result }
-    // A block is taken only where the open one lacks the pages, or a program failed.
-    ensures takes_none { TakesNoBlock (length (buffered buffer.old)) (table blocks.old) (N.state device.old) (N.state device.new) }
-    // And no more than one, while blocks are left that can be taken.
-    ensures takes_one { TakesOneBlock (length (buffered buffer.old)) spare (table blocks.old) (N.state device.old) (N.state device.new) }
+    ensures log { KeepsLog spare (log_of (N.state device.old) (table blocks.old)) (log_of (N.state device.new) (table blocks.new)) index.new }
+    ensures pays { PaysCommit (length (buffered buffer.old)) spare (log_of (N.state device.old) (table blocks.old)) (log_of (N.state device.new) (table blocks.new)) result }
     // The open block is closed only where it lacks the pages, or a program failed.
     ensures keeps_open { OnOk result (KeepsOpen (length (buffered buffer.old)) (table blocks.old) (table blocks.new) (N.state device.old) (N.state device.new)) }
-    // A commit of nothing is done, and so is one that nothing hinders.
-    ensures nothing { buffered buffer.old ≡ [] → IsOk result }
     ensures unhindered { IsUnhindered (length (buffered buffer.old)) (table blocks.old) (N.state device.old) (N.state device.new) → IsOk result }
     ensures room { IsRoomFor (N.state device.new).geometry room.new }
-    ensures buffers { Buffers index.new (buffered buffer.new) }
-    ensures waits { WaitsOrSettles index.old index.new (buffered buffer.old) (buffered buffer.new) }
-    ensures sizes { SameSizes buffer.old buffer.new }
-    ensures keys { StaysReady index.old index.new }
+    ensures buffer { KeepsBuffer index.old index.new buffer.old buffer.new }
     // Wherever it ends, the device carries what was kept, or all that was present, with blocks enough free of it.
     ensures newest { (N.state device.old).honest ≡ true → CarriesEither spare index.old (buffered buffer.old) (N.state device.old) (N.state device.new) }
     ensures data { (N.state device.old).honest ≡ true → KeepsOrShows index.old (buffered buffer.old) (N.state device.old).flash (N.state device.new).flash }
-    ensures no_call { buffered buffer.old ≡ [] → N.state device.new ≡ N.state device.old }
-    ensures no_move { buffered buffer.old ≡ [] → (o c : ℕ) (p : KeptPage) → kept_pages index.new o c ≡ Some p → kept_pages index.old o c ≡ Some p }
+    ensures nothing { buffered buffer.old ≡ [] → CommitsNothing (N.state device.old) (N.state device.new) index.old index.new result }
     ensures ends { CommitEnds spare (N.state device.old) (N.state device.new) (table blocks.old) (table blocks.new) index.old index.new buffer.old buffer.new result }
 {
     if buffer.pages().is_empty() {

@@ -8,10 +8,12 @@ ghost use Rattle.transactions.specs.Ready.{IsReady};
 ghost use Rattle.nand_model.specs.Counts.{Costs, ReadsFor};
 ghost use Rattle.bad_blocks.specs.Moving.{AnswersFailures, MarksFailures};
 ghost use Rattle.bad_blocks.specs.Room.{IsRoomFor};
-ghost use Rattle.bad_blocks.specs.Standing.{HasFreeBlocks, Stands};
+ghost use Rattle.bad_blocks.specs.Standing.{HasFreeBlocks};
+ghost use Rattle.bad_blocks.specs.Steps.{CanWrite};
+ghost use Rattle.transactions.specs.Checking.{log_of};
 ghost use Rattle.commits.specs.Carrying.{AreWritable};
-ghost use Rattle.commits.specs.Committing.{IsUnhindered, KeepsOpen, SameSizes, TakesNoBlock, TakesOneBlock};
-ghost use Rattle.commits.specs.Keeping.{Leaves};
+ghost use Rattle.commits.specs.Committing.{IsUnhindered, KeepsOpen, TakesNoBlock, TakesOneBlock};
+ghost use Rattle.commits.specs.Keeping.{Leaves, SameSizes};
 ghost use Rattle.commits.specs.Writing.{TurnCosts, TurnEnds, TurnReads, WholeEnds};
 
 use crate::writing::{Attempt, write_buffered};
@@ -41,9 +43,7 @@ fn take_turn<N: Nand>(
     room: &mut MoveRoom,
     spare: u32,
 ) -> Result<Turn, RoomFault>
-    requires ready { IsReady (N.state device.old) (table blocks.old) }
-    requires stands { Stands spare (N.state device.old) (table blocks.old) index.old }
-    requires few { bad_count (table blocks.old) ≤ spare }
+    requires can { CanWrite spare (log_of (N.state device.old) (table blocks.old)) index.old }
     requires free { HasFreeBlocks (table blocks.old) spare }
     requires room { IsRoomFor (N.state device.old).geometry room.old }
     requires buffers { Buffers index.old (buffered buffer.old) }
@@ -90,9 +90,7 @@ pub(crate) fn write_whole<N: Nand>(
     room: &mut MoveRoom,
     spare: u32,
 ) -> Result<(), RoomFault>
-    requires ready { IsReady (N.state device.old) (table blocks.old) }
-    requires stands { Stands spare (N.state device.old) (table blocks.old) index.old }
-    requires few { bad_count (table blocks.old) ≤ spare }
+    requires can { CanWrite spare (log_of (N.state device.old) (table blocks.old)) index.old }
     requires free { HasFreeBlocks (table blocks.old) spare }
     requires room { IsRoomFor (N.state device.old).geometry room.old }
     requires buffers { Buffers index.old (buffered buffer.old) }

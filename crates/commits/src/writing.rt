@@ -11,8 +11,7 @@ ghost use Rattle.transactions.specs.Ready.{IsReady};
 ghost use Rattle.bad_blocks.specs.Moving.{AnswersFailures, MarksFailures};
 ghost use Rattle.bad_blocks.specs.Standing.{HasFreeBlocks, Stands};
 ghost use Rattle.commits.specs.Carrying.{AreWritable};
-ghost use Rattle.commits.specs.Committing.{SameSizes};
-ghost use Rattle.commits.specs.Keeping.{Leaves};
+ghost use Rattle.commits.specs.Keeping.{Leaves, SameSizes};
 ghost use Rattle.commits.specs.Writing.{AttemptEnds, AttemptReads, TrustsOpen, unanswered};
 
 use crate::keys::have_ranges;

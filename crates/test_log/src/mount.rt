@@ -2,13 +2,12 @@
 ghost use Rattle.std.specs.Prelude.{◌≡◌, ◌<◌, ◌≤◌, ◌^◌, ℕ, Some, IfOk, IsSome};
 ghost use Rattle.nand_model.specs.MemoryState.{device};
 ghost use Rattle.nand_model.specs.Changes.{OnlyReads};
-ghost use Rattle.block_state.specs.Kept.{bad_count};
 ghost use Rattle.block_state.specs.TableOf.{table};
 ghost use Rattle.flash_tree.specs.Newest.{Spot, IsNewest};
 ghost use Rattle.chunk_index.specs.Maps.{kept_pages};
-ghost use Rattle.transactions.specs.Ready.{IsReady};
+ghost use Rattle.transactions.specs.Checking.{log_of};
 ghost use Rattle.bad_blocks.specs.Room.{IsRoomFor};
-ghost use Rattle.bad_blocks.specs.Standing.{Stands};
+ghost use Rattle.bad_blocks.specs.Steps.{CanWrite};
 ghost use Rattle.test_log.specs.Scanned.{IsScanned};
 
 use crate::fault::LogFault;
@@ -56,10 +55,8 @@ fn scan_log(alloc: Global, nand: &mut MemNand) -> Result<MountedLog, LogFault>
 /// The log on a device with so many blocks to spare. Each tag of a good block is read once. No block is open.
 pub fn mount_log(alloc: Global, nand: &mut MemNand, spare: u32) -> Result<MountedLog, LogFault>
     ensures reads { OnlyReads (device nand.old) (device nand.new) }
-    ensures ready { IfOk result (λ log. IsReady (device nand.new) (table log.blocks)) }
-    ensures stands { IfOk result (λ log. Stands spare (device nand.new) (table log.blocks) log.index) }
+    ensures can { IfOk result (λ log. CanWrite spare (log_of (device nand.new) (table log.blocks)) log.index) }
     ensures all { IfOk result (λ log. (o c : ℕ) (s : Spot) → c < 2 ^ 32 → IsNewest (device nand.new).flash o c s → IsSome (kept_pages log.index o c)) }
-    ensures few { IfOk result (λ log. bad_count (table log.blocks) ≤ spare) }
     ensures room { IfOk result (λ log. IsRoomFor (device nand.new).geometry log.room) }
 {
     let log = scan_log(alloc, nand)?;
@@ -78,9 +75,7 @@ pub fn mount_log_beside(
     checkpoint: u32,
 ) -> Result<MountedLog, LogFault>
     ensures reads { OnlyReads (device nand.old) (device nand.new) }
-    ensures ready { IfOk result (λ log. IsReady (device nand.new) (table log.blocks)) }
-    ensures stands { IfOk result (λ log. Stands spare (device nand.new) (table log.blocks) log.index) }
-    ensures few { IfOk result (λ log. bad_count (table log.blocks) ≤ spare) }
+    ensures can { IfOk result (λ log. CanWrite spare (log_of (device nand.new) (table log.blocks)) log.index) }
     ensures room { IfOk result (λ log. IsRoomFor (device nand.new).geometry log.room) }
     ensures noted { IfOk result (λ log. (table log.blocks).checkpoint ≡ Some checkpoint) }
 {

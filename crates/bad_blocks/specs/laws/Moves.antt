@@ -17,7 +17,7 @@ use Rattle.chunk_index.specs.Kept.{HoldsNone}
 use Rattle.chunk_index.specs.Maps.{kept_pages, kept_in, moved_to, CountsAgree}
 use Rattle.chunk_index.specs.Shelves.{look}
 use Rattle.bad_blocks.specs.Copying.{KeepsCounts, KeepsKeptAt, KeepsDataAt}
-use Rattle.bad_blocks.specs.Moving.{Moves, MovesOut}
+use Rattle.bad_blocks.specs.Moving.{MovesOut}
 use Rattle.bad_blocks.specs.Taking.{LiesApart}
 use Rattle.bad_blocks.specs.Standing.{SameData, HasVersion, MayLie, AreHeld, Stands}
 use Rattle.flash_tree.specs.laws.Place.{had_power}
@@ -25,7 +25,7 @@ use Rattle.flash_tree.specs.laws.Place.{had_power}
 -- ---- the index
 
 -- what is present is what is kept, where it is on the flash
-follows_here : (m : Option KeyEntry) (p : KeptPage) → kept_of m ≡ Some p → present_of m ≡ moved_to p (present_of m)
+pub follows_here : (m : Option KeyEntry) (p : KeptPage) → kept_of m ≡ Some p → present_of m ≡ moved_to p (present_of m)
 follows_here None p is = absurd cc
 follows_here (Some e) p is = go e.state where
   go : (s : State) → present_by e.kept s ≡ moved_to p (present_by e.kept s)
@@ -103,15 +103,3 @@ module _ (spare : ℕ) (d0 d1 : Device) (t0 t1 : Table) (x : Index) (held : AreH
   -- and no block is open
   pub stands_kept : t1.open_block ≡ None → (d0.honest ≡ true → d1.gone ≡ false → KeepsKeptAt t0 d0.flash d1.flash) → Stands spare d1 t1 x
   stands_kept closed = stands_still (λ o is. let two : None ≡ Some o = sym closed ∙ is in absurd cc)
-
-  pub moves_kept : (v : ℕ) → (d0.honest ≡ true → KeepsDataAt t0 d0.flash d1.flash) → Moves v d0 d1 t0 t1 x x
-  moves_kept v stays = record {
-    lasts = keeps.lasts;
-    ready = keeps.ready;
-    numbers = keeps.numbers;
-    geometry = keeps.geometry;
-    marks = keeps.marks;
-    kept_count = same_kept_sum t0 t1 keeps.geometry keeps.kept;
-    index = moves_out_none v x;
-    same_data = same_data stays;
-  }

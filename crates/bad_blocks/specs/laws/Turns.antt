@@ -13,28 +13,14 @@ use Rattle.chunk_index.specs.Maps.{kept_pages, present, moved_to}
 use Rattle.transactions.specs.Ready.{IsReady}
 use Rattle.transactions.specs.laws.Handing.{hands_on, hands_nothing, hands_closed}
 use Rattle.transactions.specs.laws.Ready.{ready_closed}
-use Rattle.bad_blocks.specs.Moving.{Moves, MovesOut, IsKeptIn}
-use Rattle.bad_blocks.specs.Standing.{HasVersion, Stands}
+use Rattle.bad_blocks.specs.Moving.{MovesOut, IsKeptIn}
+use Rattle.bad_blocks.specs.Standing.{Stands}
 use Rattle.bad_blocks.specs.laws.Moves.{moves_out_none}
 
-moved_twice : (q r : KeptPage) (p : Present) → moved_to r (moved_to q p) ≡ moved_to r p
+pub moved_twice : (q r : KeptPage) (p : Present) → moved_to r (moved_to q p) ≡ moved_to r p
 moved_twice q r presents.Absent = refl
 moved_twice q r (presents.OnFlash k) = refl
 moved_twice q r (presents.InBuffer i) = refl
-
--- each kept key has a kept page in its version afterwards
-pub version_after : (v : ℕ) (x y : Index) → MovesOut v x y → (o c : ℕ) (p : KeptPage) → kept_pages x o c ≡ Some p → (q : KeptPage) × (kept_pages y o c ≡ Some q) × (q.version ≡ p.version)
-version_after v x y moves o c p is = elim (cases_eq p.block v) [
-  | inl here ↦ let f = moves.moved o c p is here in (f.at, f.is, f.version)
-  | inr ne ↦ (
-    p,
-    moves.kept o c (λ (q, at, inside).
-        let both : Some p ≡ Some q = sym is ∙ at in
-        let same : p ≡ q = cc in
-        ne (ap (λ (k : KeptPage). k.block) same ∙ inside)) ∙ is,
-    refl,
-  )
-]
 
 -- pages that were moved out of a block, into one that held none, and then out of that
 pub moves_out_on : (v w : ℕ) (x y z : Index) → HoldsNone (kept_pages x) w → MovesOut v x y → MovesOut w y z → MovesOut v x z
@@ -58,48 +44,7 @@ moves_out_on v w x y z none first second = record {
   ready = λ o c is. second.ready o c (first.ready o c is);
 }
 
-pub moves_join : (v v1 v2 : ℕ) (a b c : Device) (t u s : Table) (x y z : Index) → Moves v1 a b t u x y → Moves v2 b c u s y z → MovesOut v x z → Moves v a c t s x z
-moves_join v v1 v2 a b c t u s x y z first second index = record {
-  lasts = lasts_on a b c first.lasts second.lasts;
-  ready = second.ready;
-  numbers = hands_on a b c t u s first.lasts second.lasts first.numbers second.numbers;
-  geometry = second.geometry ∙ first.geometry;
-  marks = λ k is. second.marks k (first.marks k is);
-  kept_count = second.kept_count ∙ first.kept_count;
-  index = index;
-  same_data = λ honest o d p bytes is has.
-      let after = version_after v1 x y first.index o d p is in
-      let mid : HasVersion b.flash o d after.0.version bytes = subst (λ n. HasVersion b.flash o d n bytes) (sym after.2) (first.same_data honest o d p bytes is has) in
-      subst (λ n. HasVersion c.flash o d n bytes) after.2 (second.same_data (first.lasts.honest ∙ honest) o d after.0 bytes after.1 mid);
-}
-
--- ---- where nothing is done
-
-pub moves_none : (v : ℕ) (d : Device) (t : Table) (x : Index) → IsReady d t → Moves v d d t t x x
-moves_none v d t x ready = record {
-  lasts = lasts_here d;
-  ready = ready;
-  numbers = hands_nothing d t;
-  geometry = refl;
-  marks = λ b is. is;
-  kept_count = refl;
-  index = moves_out_none v x;
-  same_data = λ honest o c p bytes is has. has;
-}
-
 -- a table that is closed besides
-pub moves_closed : (v : ℕ) (d : Device) (t u : Table) (x : Index) → u ≡ record t { open_block = None } → IsReady d t → Moves v d d t u x x
-moves_closed v d t u x is ready = subst (λ (s : Table). Moves v d d t s x x) (sym is) (record {
-  lasts = lasts_here d;
-  ready = ready_closed d t ready;
-  numbers = hands_closed d t (record t { open_block = None }) refl;
-  geometry = refl;
-  marks = λ b is. is;
-  kept_count = refl;
-  index = moves_out_none v x;
-  same_data = λ honest o c p bytes is has. has;
-})
-
 pub stands_closed : (spare : ℕ) (d : Device) (t u : Table) (x : Index) → u ≡ record t { open_block = None } → Stands spare d t x → Stands spare d u x
 stands_closed spare d t u x is stands = subst (λ (s : Table). Stands spare d s x) (sym is) (record {
   tables = record {

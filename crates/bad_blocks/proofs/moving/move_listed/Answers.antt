@@ -4,14 +4,14 @@ use Rattle.nand_model.specs.Calls.{Device}
 use Rattle.nand_model.specs.declared.geometry.Geometry.{Geometry}
 use Rattle.block_state.specs.Table.{Table}
 use Rattle.block_state.specs.TableOf.{table}
-use Rattle.bad_blocks.specs.Moving.{AnswersFailures, MarksFailures}
 use Rattle.bad_blocks.specs.laws.FreeBlocks.{free_copied}
-use Rattle.bad_blocks.specs.laws.Moves.{are_held, stands_kept, moves_kept}
-use Rattle.bad_blocks.proofs.Moves.{none_noted, may_be_copied, same_bads, stands_moved, moves_moved, free_moved, is_left, lies_in, lies_open, is_closed}
+use Rattle.bad_blocks.specs.laws.Moves.{are_held, moves_out_none, stands_kept}
+use Rattle.bad_blocks.specs.laws.Steps.{step_kept}
+use Rattle.bad_blocks.proofs.Moves.{none_noted, may_be_copied, same_bads, step_moved, moves_out, pays_moved, is_left, lies_in, lies_open, is_closed}
 use Rattle.bad_blocks.proofs.moving.move_listed.Goals as goal
 
 pub copy_listed-requires-clause-copies : goal.copy_listed-requires-clause-copies
-copy_listed-requires-clause-copies g c = may_be_copied c.args.spare c.requires.listed.0 _ (table c.args.blocks.now) c.args.index.now c.args.copies.now c.requires.ready c.requires.stands c.requires.listed.1
+copy_listed-requires-clause-copies g c = may_be_copied c.args.spare c.requires.listed.0 _ (table c.args.blocks.now) c.args.index.now c.args.copies.now c.requires.can.ready c.requires.can.stands c.requires.listed.1
 
 pub tell_copies-requires-clause-within : goal.tell_copies-requires-clause-within
 tell_copies-requires-clause-within g c =
@@ -21,13 +21,13 @@ tell_copies-requires-clause-within g c =
 pub tell_copies-requires-clause-agree : goal.tell_copies-requires-clause-agree
 tell_copies-requires-clause-agree g c =
     let copied = c.in_ok-target.ensures in
-    let agree = c.requires.stands.tables.counts in
+    let agree = c.requires.can.stands.tables.counts in
     record { counts = λ b. copied.keeps.kept b ∙ agree.counts b; within = λ b le. agree.within b (subst (λ (geometry : Geometry). geometry.blocks ≤ b) copied.keeps.geometry le) }
 
 pub tell_copies-requires-clause-few : goal.tell_copies-requires-clause-few
 tell_copies-requires-clause-few g c =
-    let may = may_be_copied c.args.spare c.requires.listed.0 _ (table c.args.blocks.now) c.args.index.now c.args.copies.now c.requires.ready c.requires.stands c.requires.listed.1 in
-    subst (λ (geometry : Geometry). length c.args.copies.now ≤ geometry.pages) (sym (c.in_ok-target.ensures.keeps.geometry ∙ c.requires.ready.geometry)) may.few
+    let may = may_be_copied c.args.spare c.requires.listed.0 _ (table c.args.blocks.now) c.args.index.now c.args.copies.now c.requires.can.ready c.requires.can.stands c.requires.listed.1 in
+    subst (λ (geometry : Geometry). length c.args.copies.now ≤ geometry.pages) (sym (c.in_ok-target.ensures.keeps.geometry ∙ c.requires.can.ready.geometry)) may.few
 
 -- the block of the copies had no kept page
 unlike : (v w : ℕ) (t : Table) → 1 ≤ (t.entry v).kept → (t.entry w).kept ≡ 0 → v ≢ w
@@ -38,301 +38,93 @@ tell_copies-requires-clause-listed g c =
     let listed = c.requires.listed in
     (listed.0, listed.1.lists, unlike listed.0 c.in_ok-target.target.block (table c.args.blocks.now) listed.1.some c.in_ok-target.ensures.ends.0.unkept)
 
-pub returns-in_err-target-clause-moves : goal.returns-in_err-target-clause-moves
-returns-in_err-target-clause-moves g c = λ v listed.
+pub returns-in_err-target-clause-step : goal.returns-in_err-target-clause-step
+returns-in_err-target-clause-step g c =
     let d0 : Device = g.N.Nand.state c.args.device.now in
     let d1 : Device = g.N.Nand.state c.copy_listed.new.device in
     let t0 : Table = table c.args.blocks.now in
     let t1 : Table = table c.copy_listed.new.blocks in
     let x = c.args.index.now in
-    let held = are_held t0 x (c.the_counts_are_of_the_keys.ensures.none x) c.requires.stands.tables.counts in
+    let held = are_held t0 x (c.the_counts_are_of_the_keys.ensures.none x) c.requires.can.stands.tables.counts in
     let copied = c.in_err-target.ensures in
-    moves_kept c.args.spare d0 d1 t0 t1 x held copied.keeps c.requires.stands v copied.data
+    let stand = stands_kept c.args.spare d0 d1 t0 t1 x held copied.keeps c.requires.can.stands copied.ends.0 copied.newest in
+    let free = free_copied c.args.spare d0 d1 t0 t1 x held copied.keeps c.requires.can.stands stand.tables c.requires.listed.0 c.args.copies.now c.requires.listed.1 copied.apart in
+    step_kept c.args.spare d0 d1 t0 t1 x held copied.keeps c.requires.can.stands stand copied.data free
 
-pub returns-in_err-target-clause-stands : goal.returns-in_err-target-clause-stands
-returns-in_err-target-clause-stands g c =
-    let d0 : Device = g.N.Nand.state c.args.device.now in
-    let d1 : Device = g.N.Nand.state c.copy_listed.new.device in
-    let t0 : Table = table c.args.blocks.now in
-    let t1 : Table = table c.copy_listed.new.blocks in
-    let x = c.args.index.now in
-    let held = are_held t0 x (c.the_counts_are_of_the_keys.ensures.none x) c.requires.stands.tables.counts in
+pub returns-in_err-target-clause-out : goal.returns-in_err-target-clause-out
+returns-in_err-target-clause-out g c = λ v listed. moves_out_none v c.args.index.now
+
+pub returns-in_err-target-clause-pays : goal.returns-in_err-target-clause-pays
+returns-in_err-target-clause-pays g c =
+    let p = err_from_is_err_and c.from_residual.result c.from_residual.ensures.1 in
     let copied = c.in_err-target.ensures in
-    stands_kept c.args.spare d0 d1 t0 t1 x held copied.keeps c.requires.stands copied.ends.0 copied.newest
+    rw p.1 (record { costs = copied.costs; marks = copied.marks; answers = tt; reads = copied.reads })
 
 pub returns-in_err-target-clause-ends : goal.returns-in_err-target-clause-ends
 returns-in_err-target-clause-ends g c = λ v listed.
     let p = err_from_is_err_and c.from_residual.result c.from_residual.ensures.1 in
     rw (p.1, p.2) (c.in_err-target.ensures.ends.1)
 
-pub returns-then-suspect-clause-moves : goal.returns-then-suspect-clause-moves
-returns-then-suspect-clause-moves g c = λ v listed.
+pub returns-then-suspect : goal.returns-then-suspect
+returns-then-suspect g c =
     let d0 : Device = g.N.Nand.state c.args.device.now in
     let d1 : Device = g.N.Nand.state c.copy_listed.new.device in
     let t0 : Table = table c.args.blocks.now in
     let t1 : Table = table c.copy_listed.new.blocks in
-    let x = c.args.index.now in
-    let held = are_held t0 x (c.the_counts_are_of_the_keys.ensures.none x) c.requires.stands.tables.counts in
     let t2 : Table = table c.tell_copies.new.blocks in
-    let y = c.tell_copies.new.index in
-    let copied = c.in_ok-target.ensures in
-    let target = c.in_ok-target.target in
-    moves_moved c.args.spare v target d0 d1 t0 t1 t2 x y c.args.copies.now listed held copied.keeps c.requires.stands copied.ends.0
-    (c.tell_copies.ensures.tells v listed.lists (unlike v target.block t0 listed.some copied.ends.0.unkept)) c.tell_copies.ensures.agree copied.newest copied.data
-
-pub returns-then-suspect-clause-stands : goal.returns-then-suspect-clause-stands
-returns-then-suspect-clause-stands g c =
-    let d0 : Device = g.N.Nand.state c.args.device.now in
-    let d1 : Device = g.N.Nand.state c.copy_listed.new.device in
-    let t0 : Table = table c.args.blocks.now in
-    let t1 : Table = table c.copy_listed.new.blocks in
     let x = c.args.index.now in
-    let held = are_held t0 x (c.the_counts_are_of_the_keys.ensures.none x) c.requires.stands.tables.counts in
-    let t2 : Table = table c.tell_copies.new.blocks in
     let y = c.tell_copies.new.index in
+    let held = are_held t0 x (c.the_counts_are_of_the_keys.ensures.none x) c.requires.can.stands.tables.counts in
     let copied = c.in_ok-target.ensures in
     let target = c.in_ok-target.target in
     let v : ℕ = c.requires.listed.0 in
     let listed = c.requires.listed.1 in
-    stands_moved c.args.spare v target d0 d1 t0 t1 t2 x y c.args.copies.now listed held copied.keeps c.requires.stands copied.ends.0
-    (c.tell_copies.ensures.tells v listed.lists (unlike v target.block t0 listed.some copied.ends.0.unkept)) c.tell_copies.ensures.agree copied.newest copied.keeps.ready
+    let told = c.tell_copies.ensures.tells v listed.lists (unlike v target.block t0 listed.some copied.ends.0.unkept) in
+    let agree = c.tell_copies.ensures.agree in
+    record {
+      step = step_moved c.args.spare v target d0 d1 t0 t1 t2 x y c.args.copies.now listed held copied.keeps c.requires.can.stands copied.ends.0 told agree copied.newest (are_held t2 y (c.the_counts_are_of_the_keys.ensures.none y) agree) copied.ends.1 copied.data;
+      out = λ v listed.
+          let told = c.tell_copies.ensures.tells v listed.lists (unlike v target.block t0 listed.some copied.ends.0.unkept) in
+          moves_out c.args.spare v target d0 d1 t0 t1 t2 x y c.args.copies.now listed held copied.keeps c.requires.can.stands copied.ends.0 told agree copied.newest;
+      pays = pays_moved c.args.spare v target d0 d1 t0 t1 t2 x y c.args.copies.now listed held copied.keeps c.requires.can.stands copied.ends.0 told agree copied.newest 1 _ (ap (λ (s : Bool). if s then 1 else 0) c.if-suspect.true) copied.costs copied.marks copied.answers copied.reads;
+      few = let same = same_bads c.args.spare v target d0 d1 t0 t1 t2 x y c.args.copies.now listed held copied.keeps c.requires.can.stands copied.ends.0 told agree copied.newest in omega (arith, same, copied.few);
+      ends = λ v listed.
+          let told = c.tell_copies.ensures.tells v listed.lists (unlike v target.block t0 listed.some copied.ends.0.unkept) in (
+            is_left c.args.spare v target d0 d1 t0 t1 t2 x y c.args.copies.now listed held copied.keeps c.requires.can.stands copied.ends.0 told agree copied.newest,
+            (lies_in c.args.spare v target d0 d1 t0 t1 t2 x y c.args.copies.now listed held copied.keeps c.requires.can.stands copied.ends.0 told agree copied.newest, is_closed c.args.spare v target d0 d1 t0 t1 t2 x y c.args.copies.now listed held copied.keeps c.requires.can.stands copied.ends.0 told agree copied.newest c.if-suspect.true),
+            copied.ends.1,
+            none_noted c.args.spare v target d0 d1 t0 t1 t2 x y c.args.copies.now listed held copied.keeps c.requires.can.stands copied.ends.0 told agree copied.newest,
+          );
+    }
 
-pub returns-then-suspect-clause-ends : goal.returns-then-suspect-clause-ends
-returns-then-suspect-clause-ends g c = λ v listed.
+pub returns : goal.returns
+returns g c =
     let d0 : Device = g.N.Nand.state c.args.device.now in
     let d1 : Device = g.N.Nand.state c.copy_listed.new.device in
     let t0 : Table = table c.args.blocks.now in
     let t1 : Table = table c.copy_listed.new.blocks in
-    let x = c.args.index.now in
-    let held = are_held t0 x (c.the_counts_are_of_the_keys.ensures.none x) c.requires.stands.tables.counts in
     let t2 : Table = table c.tell_copies.new.blocks in
-    let y = c.tell_copies.new.index in
-    let copied = c.in_ok-target.ensures in
-    let target = c.in_ok-target.target in (
-      is_left c.args.spare v target d0 d1 t0 t1 t2 x y c.args.copies.now listed held copied.keeps c.requires.stands copied.ends.0
-          (c.tell_copies.ensures.tells v listed.lists (unlike v target.block t0 listed.some copied.ends.0.unkept)) c.tell_copies.ensures.agree copied.newest,
-      (
-        lies_in c.args.spare v target d0 d1 t0 t1 t2 x y c.args.copies.now listed held copied.keeps c.requires.stands copied.ends.0
-            (c.tell_copies.ensures.tells v listed.lists (unlike v target.block t0 listed.some copied.ends.0.unkept)) c.tell_copies.ensures.agree copied.newest,
-        is_closed c.args.spare v target d0 d1 t0 t1 t2 x y c.args.copies.now listed held copied.keeps c.requires.stands copied.ends.0
-            (c.tell_copies.ensures.tells v listed.lists (unlike v target.block t0 listed.some copied.ends.0.unkept)) c.tell_copies.ensures.agree copied.newest c.if-suspect.true,
-      ),
-      copied.ends.1,
-      none_noted c.args.spare v target d0 d1 t0 t1 t2 x y c.args.copies.now listed held copied.keeps c.requires.stands copied.ends.0
-          (c.tell_copies.ensures.tells v listed.lists (unlike v target.block t0 listed.some copied.ends.0.unkept)) c.tell_copies.ensures.agree copied.newest,
-    )
-
-pub returns-clause-moves : goal.returns-clause-moves
-returns-clause-moves g c = λ v listed.
-    let d0 : Device = g.N.Nand.state c.args.device.now in
-    let d1 : Device = g.N.Nand.state c.copy_listed.new.device in
-    let t0 : Table = table c.args.blocks.now in
-    let t1 : Table = table c.copy_listed.new.blocks in
     let x = c.args.index.now in
-    let held = are_held t0 x (c.the_counts_are_of_the_keys.ensures.none x) c.requires.stands.tables.counts in
-    let t2 : Table = table c.tell_copies.new.blocks in
     let y = c.tell_copies.new.index in
-    let copied = c.in_ok-target.ensures in
-    let target = c.in_ok-target.target in
-    moves_moved c.args.spare v target d0 d1 t0 t1 t2 x y c.args.copies.now listed held copied.keeps c.requires.stands copied.ends.0
-    (c.tell_copies.ensures.tells v listed.lists (unlike v target.block t0 listed.some copied.ends.0.unkept)) c.tell_copies.ensures.agree copied.newest copied.data
-
-pub returns-clause-stands : goal.returns-clause-stands
-returns-clause-stands g c =
-    let d0 : Device = g.N.Nand.state c.args.device.now in
-    let d1 : Device = g.N.Nand.state c.copy_listed.new.device in
-    let t0 : Table = table c.args.blocks.now in
-    let t1 : Table = table c.copy_listed.new.blocks in
-    let x = c.args.index.now in
-    let held = are_held t0 x (c.the_counts_are_of_the_keys.ensures.none x) c.requires.stands.tables.counts in
-    let t2 : Table = table c.tell_copies.new.blocks in
-    let y = c.tell_copies.new.index in
+    let held = are_held t0 x (c.the_counts_are_of_the_keys.ensures.none x) c.requires.can.stands.tables.counts in
     let copied = c.in_ok-target.ensures in
     let target = c.in_ok-target.target in
     let v : ℕ = c.requires.listed.0 in
     let listed = c.requires.listed.1 in
-    stands_moved c.args.spare v target d0 d1 t0 t1 t2 x y c.args.copies.now listed held copied.keeps c.requires.stands copied.ends.0
-    (c.tell_copies.ensures.tells v listed.lists (unlike v target.block t0 listed.some copied.ends.0.unkept)) c.tell_copies.ensures.agree copied.newest copied.keeps.ready
-
-pub returns-clause-ends : goal.returns-clause-ends
-returns-clause-ends g c = λ v listed.
-    let d0 : Device = g.N.Nand.state c.args.device.now in
-    let d1 : Device = g.N.Nand.state c.copy_listed.new.device in
-    let t0 : Table = table c.args.blocks.now in
-    let t1 : Table = table c.copy_listed.new.blocks in
-    let x = c.args.index.now in
-    let held = are_held t0 x (c.the_counts_are_of_the_keys.ensures.none x) c.requires.stands.tables.counts in
-    let t2 : Table = table c.tell_copies.new.blocks in
-    let y = c.tell_copies.new.index in
-    let copied = c.in_ok-target.ensures in
-    let target = c.in_ok-target.target in (
-      is_left c.args.spare v target d0 d1 t0 t1 t2 x y c.args.copies.now listed held copied.keeps c.requires.stands copied.ends.0
-          (c.tell_copies.ensures.tells v listed.lists (unlike v target.block t0 listed.some copied.ends.0.unkept)) c.tell_copies.ensures.agree copied.newest,
-      (
-        target.block,
-        lies_open c.args.spare v target d0 d1 t0 t1 t2 x y c.args.copies.now listed held copied.keeps c.requires.stands copied.ends.0
-            (c.tell_copies.ensures.tells v listed.lists (unlike v target.block t0 listed.some copied.ends.0.unkept)) c.tell_copies.ensures.agree copied.newest c.if-suspect.false,
-      ),
-      copied.ends.1,
-      none_noted c.args.spare v target d0 d1 t0 t1 t2 x y c.args.copies.now listed held copied.keeps c.requires.stands copied.ends.0
-          (c.tell_copies.ensures.tells v listed.lists (unlike v target.block t0 listed.some copied.ends.0.unkept)) c.tell_copies.ensures.agree copied.newest,
-    )
-
-pub returns-clause-marks : goal.returns-clause-marks
-returns-clause-marks g c =
-    let d0 : Device = g.N.Nand.state c.args.device.now in
-    let d1 : Device = g.N.Nand.state c.copy_listed.new.device in
-    let t0 : Table = table c.args.blocks.now in
-    let t1 : Table = table c.copy_listed.new.blocks in
-    let x = c.args.index.now in
-    let held = are_held t0 x (c.the_counts_are_of_the_keys.ensures.none x) c.requires.stands.tables.counts in
-    let t2 : Table = table c.tell_copies.new.blocks in
-    let y = c.tell_copies.new.index in
-    let copied = c.in_ok-target.ensures in
-    let target = c.in_ok-target.target in
-    let v : ℕ = c.requires.listed.0 in
-    let listed = c.requires.listed.1 in
-    let same = same_bads c.args.spare v target d0 d1 t0 t1 t2 x y c.args.copies.now listed held copied.keeps c.requires.stands copied.ends.0
-    (c.tell_copies.ensures.tells v listed.lists (unlike v target.block t0 listed.some copied.ends.0.unkept)) c.tell_copies.ensures.agree copied.newest in
-    omega (arith, same, copied.marks)
-
-pub returns-then-suspect-clause-few : goal.returns-then-suspect-clause-few
-returns-then-suspect-clause-few g c =
-    let d0 : Device = g.N.Nand.state c.args.device.now in
-    let d1 : Device = g.N.Nand.state c.copy_listed.new.device in
-    let t0 : Table = table c.args.blocks.now in
-    let t1 : Table = table c.copy_listed.new.blocks in
-    let x = c.args.index.now in
-    let held = are_held t0 x (c.the_counts_are_of_the_keys.ensures.none x) c.requires.stands.tables.counts in
-    let t2 : Table = table c.tell_copies.new.blocks in
-    let y = c.tell_copies.new.index in
-    let copied = c.in_ok-target.ensures in
-    let target = c.in_ok-target.target in
-    let v : ℕ = c.requires.listed.0 in
-    let listed = c.requires.listed.1 in
-    let same = same_bads c.args.spare v target d0 d1 t0 t1 t2 x y c.args.copies.now listed held copied.keeps c.requires.stands copied.ends.0
-    (c.tell_copies.ensures.tells v listed.lists (unlike v target.block t0 listed.some copied.ends.0.unkept)) c.tell_copies.ensures.agree copied.newest in
-    omega (arith, same, copied.few)
-
-pub returns-clause-few : goal.returns-clause-few
-returns-clause-few g c =
-    let d0 : Device = g.N.Nand.state c.args.device.now in
-    let d1 : Device = g.N.Nand.state c.copy_listed.new.device in
-    let t0 : Table = table c.args.blocks.now in
-    let t1 : Table = table c.copy_listed.new.blocks in
-    let x = c.args.index.now in
-    let held = are_held t0 x (c.the_counts_are_of_the_keys.ensures.none x) c.requires.stands.tables.counts in
-    let t2 : Table = table c.tell_copies.new.blocks in
-    let y = c.tell_copies.new.index in
-    let copied = c.in_ok-target.ensures in
-    let target = c.in_ok-target.target in
-    let v : ℕ = c.requires.listed.0 in
-    let listed = c.requires.listed.1 in
-    let same = same_bads c.args.spare v target d0 d1 t0 t1 t2 x y c.args.copies.now listed held copied.keeps c.requires.stands copied.ends.0
-    (c.tell_copies.ensures.tells v listed.lists (unlike v target.block t0 listed.some copied.ends.0.unkept)) c.tell_copies.ensures.agree copied.newest in
-    omega (arith, same, copied.few)
-
-pub returns-in_err-target-clause-free : goal.returns-in_err-target-clause-free
-returns-in_err-target-clause-free g c =
-    let d0 : Device = g.N.Nand.state c.args.device.now in
-    let d1 : Device = g.N.Nand.state c.copy_listed.new.device in
-    let t0 : Table = table c.args.blocks.now in
-    let t1 : Table = table c.copy_listed.new.blocks in
-    let x = c.args.index.now in
-    let held = are_held t0 x (c.the_counts_are_of_the_keys.ensures.none x) c.requires.stands.tables.counts in
-    let copied = c.in_err-target.ensures in
-    let stands = stands_kept c.args.spare d0 d1 t0 t1 x held copied.keeps c.requires.stands copied.ends.0 copied.newest in
-    free_copied c.args.spare d0 d1 t0 t1 x held copied.keeps c.requires.stands stands.tables c.requires.listed.0 c.args.copies.now c.requires.listed.1 copied.apart
-
-pub returns-then-suspect-clause-free : goal.returns-then-suspect-clause-free
-returns-then-suspect-clause-free g c =
-    let d0 : Device = g.N.Nand.state c.args.device.now in
-    let d1 : Device = g.N.Nand.state c.copy_listed.new.device in
-    let t0 : Table = table c.args.blocks.now in
-    let t1 : Table = table c.copy_listed.new.blocks in
-    let x = c.args.index.now in
-    let held = are_held t0 x (c.the_counts_are_of_the_keys.ensures.none x) c.requires.stands.tables.counts in
-    let t2 : Table = table c.tell_copies.new.blocks in
-    let y = c.tell_copies.new.index in
-    let copied = c.in_ok-target.ensures in
-    let target = c.in_ok-target.target in
-    let v : ℕ = c.requires.listed.0 in
-    let listed = c.requires.listed.1 in
-    free_moved c.args.spare v target d0 d1 t0 t1 t2 x y c.args.copies.now listed held copied.keeps c.requires.stands copied.ends.0
-    (c.tell_copies.ensures.tells v listed.lists (unlike v target.block t0 listed.some copied.ends.0.unkept)) c.tell_copies.ensures.agree copied.newest
-    (are_held t2 y (c.the_counts_are_of_the_keys.ensures.none y) c.tell_copies.ensures.agree) copied.ends.1
-
-pub returns-clause-free : goal.returns-clause-free
-returns-clause-free g c =
-    let d0 : Device = g.N.Nand.state c.args.device.now in
-    let d1 : Device = g.N.Nand.state c.copy_listed.new.device in
-    let t0 : Table = table c.args.blocks.now in
-    let t1 : Table = table c.copy_listed.new.blocks in
-    let x = c.args.index.now in
-    let held = are_held t0 x (c.the_counts_are_of_the_keys.ensures.none x) c.requires.stands.tables.counts in
-    let t2 : Table = table c.tell_copies.new.blocks in
-    let y = c.tell_copies.new.index in
-    let copied = c.in_ok-target.ensures in
-    let target = c.in_ok-target.target in
-    let v : ℕ = c.requires.listed.0 in
-    let listed = c.requires.listed.1 in
-    free_moved c.args.spare v target d0 d1 t0 t1 t2 x y c.args.copies.now listed held copied.keeps c.requires.stands copied.ends.0
-    (c.tell_copies.ensures.tells v listed.lists (unlike v target.block t0 listed.some copied.ends.0.unkept)) c.tell_copies.ensures.agree copied.newest
-    (are_held t2 y (c.the_counts_are_of_the_keys.ensures.none y) c.tell_copies.ensures.agree) copied.ends.1
-
-pub returns-clause-answers : goal.returns-clause-answers
-returns-clause-answers g c =
-    let d0 : Device = g.N.Nand.state c.args.device.now in
-    let d1 : Device = g.N.Nand.state c.copy_listed.new.device in
-    let t0 : Table = table c.args.blocks.now in
-    let t1 : Table = table c.copy_listed.new.blocks in
-    let x = c.args.index.now in
-    let held = are_held t0 x (c.the_counts_are_of_the_keys.ensures.none x) c.requires.stands.tables.counts in
-    let t2 : Table = table c.tell_copies.new.blocks in
-    let y = c.tell_copies.new.index in
-    let copied = c.in_ok-target.ensures in
-    let target = c.in_ok-target.target in
-    let v : ℕ = c.requires.listed.0 in
-    let listed = c.requires.listed.1 in
-    let same = same_bads c.args.spare v target d0 d1 t0 t1 t2 x y c.args.copies.now listed held copied.keeps c.requires.stands copied.ends.0
-    (c.tell_copies.ensures.tells v listed.lists (unlike v target.block t0 listed.some copied.ends.0.unkept)) c.tell_copies.ensures.agree copied.newest in
-    let answered : AnswersFailures 0 0 d0 d1 t0 t1 = subst (λ (s : Bool). AnswersFailures 0 (if s then 1 else 0) d0 d1 t0 t1) c.if-suspect.false copied.answers in
-    omega (arith, same, answered)
-
-pub returns-then-suspect-clause-answers : goal.returns-then-suspect-clause-answers
-returns-then-suspect-clause-answers g c =
-    let d0 : Device = g.N.Nand.state c.args.device.now in
-    let d1 : Device = g.N.Nand.state c.copy_listed.new.device in
-    let t0 : Table = table c.args.blocks.now in
-    let t1 : Table = table c.copy_listed.new.blocks in
-    let x = c.args.index.now in
-    let held = are_held t0 x (c.the_counts_are_of_the_keys.ensures.none x) c.requires.stands.tables.counts in
-    let t2 : Table = table c.tell_copies.new.blocks in
-    let y = c.tell_copies.new.index in
-    let copied = c.in_ok-target.ensures in
-    let target = c.in_ok-target.target in
-    let v : ℕ = c.requires.listed.0 in
-    let listed = c.requires.listed.1 in
-    let same = same_bads c.args.spare v target d0 d1 t0 t1 t2 x y c.args.copies.now listed held copied.keeps c.requires.stands copied.ends.0
-    (c.tell_copies.ensures.tells v listed.lists (unlike v target.block t0 listed.some copied.ends.0.unkept)) c.tell_copies.ensures.agree copied.newest in
-    let answered : AnswersFailures 0 1 d0 d1 t0 t1 = subst (λ (s : Bool). AnswersFailures 0 (if s then 1 else 0) d0 d1 t0 t1) c.if-suspect.true copied.answers in
-    omega (arith, same, answered)
-
-pub returns-then-suspect-clause-marks : goal.returns-then-suspect-clause-marks
-returns-then-suspect-clause-marks g c =
-    let d0 : Device = g.N.Nand.state c.args.device.now in
-    let d1 : Device = g.N.Nand.state c.copy_listed.new.device in
-    let t0 : Table = table c.args.blocks.now in
-    let t1 : Table = table c.copy_listed.new.blocks in
-    let x = c.args.index.now in
-    let held = are_held t0 x (c.the_counts_are_of_the_keys.ensures.none x) c.requires.stands.tables.counts in
-    let t2 : Table = table c.tell_copies.new.blocks in
-    let y = c.tell_copies.new.index in
-    let copied = c.in_ok-target.ensures in
-    let target = c.in_ok-target.target in
-    let v : ℕ = c.requires.listed.0 in
-    let listed = c.requires.listed.1 in
-    let same = same_bads c.args.spare v target d0 d1 t0 t1 t2 x y c.args.copies.now listed held copied.keeps c.requires.stands copied.ends.0
-    (c.tell_copies.ensures.tells v listed.lists (unlike v target.block t0 listed.some copied.ends.0.unkept)) c.tell_copies.ensures.agree copied.newest in
-    let answered : MarksFailures 0 1 d0 d1 t0 t1 = subst (λ (s : Bool). MarksFailures 0 (if s then 1 else 0) d0 d1 t0 t1) c.if-suspect.true copied.marks in
-    omega (arith, same, answered)
+    let told = c.tell_copies.ensures.tells v listed.lists (unlike v target.block t0 listed.some copied.ends.0.unkept) in
+    let agree = c.tell_copies.ensures.agree in
+    record {
+      step = step_moved c.args.spare v target d0 d1 t0 t1 t2 x y c.args.copies.now listed held copied.keeps c.requires.can.stands copied.ends.0 told agree copied.newest (are_held t2 y (c.the_counts_are_of_the_keys.ensures.none y) agree) copied.ends.1 copied.data;
+      out = λ v listed.
+          let told = c.tell_copies.ensures.tells v listed.lists (unlike v target.block t0 listed.some copied.ends.0.unkept) in
+          moves_out c.args.spare v target d0 d1 t0 t1 t2 x y c.args.copies.now listed held copied.keeps c.requires.can.stands copied.ends.0 told agree copied.newest;
+      pays = pays_moved c.args.spare v target d0 d1 t0 t1 t2 x y c.args.copies.now listed held copied.keeps c.requires.can.stands copied.ends.0 told agree copied.newest 0 _ (ap (λ (s : Bool). if s then 1 else 0) c.if-suspect.false) copied.costs copied.marks copied.answers copied.reads;
+      few = let same = same_bads c.args.spare v target d0 d1 t0 t1 t2 x y c.args.copies.now listed held copied.keeps c.requires.can.stands copied.ends.0 told agree copied.newest in omega (arith, same, copied.few);
+      ends = λ v listed.
+          let told = c.tell_copies.ensures.tells v listed.lists (unlike v target.block t0 listed.some copied.ends.0.unkept) in (
+            is_left c.args.spare v target d0 d1 t0 t1 t2 x y c.args.copies.now listed held copied.keeps c.requires.can.stands copied.ends.0 told agree copied.newest,
+            (target.block, lies_open c.args.spare v target d0 d1 t0 t1 t2 x y c.args.copies.now listed held copied.keeps c.requires.can.stands copied.ends.0 told agree copied.newest c.if-suspect.false),
+            copied.ends.1,
+            none_noted c.args.spare v target d0 d1 t0 t1 t2 x y c.args.copies.now listed held copied.keeps c.requires.can.stands copied.ends.0 told agree copied.newest,
+          );
+    }

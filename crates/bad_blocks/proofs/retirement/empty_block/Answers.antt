@@ -2,28 +2,55 @@ use Rattle.std.proofs.lemmas.Result.{err_from_is_err_and}
 use Rattle.nand_model.specs.Calls.{Device}
 use Rattle.block_state.specs.Table.{Table}
 use Rattle.block_state.specs.TableOf.{table}
-use Rattle.bad_blocks.specs.laws.Turns.{moves_none}
+use Rattle.transactions.specs.Checking.{log_of}
+use Rattle.bad_blocks.specs.laws.Bills.{pays_none}
 use Rattle.bad_blocks.specs.laws.Costs.{costs_kept}
+use Rattle.bad_blocks.specs.laws.Moves.{moves_out_none}
+use Rattle.bad_blocks.specs.laws.Steps.{step_none}
 use Rattle.bad_blocks.proofs.retirement.empty_block.Goals as goal
 
-pub returns-then-entry-eq0-clause-moves : goal.returns-then-entry-eq0-clause-moves
-returns-then-entry-eq0-clause-moves g c = moves_none c.args.block _ (table c.args.blocks.now) c.args.index.now c.requires.ready
+pub returns-then-entry-eq0-clause-step : goal.returns-then-entry-eq0-clause-step
+returns-then-entry-eq0-clause-step g c = step_none c.args.spare (g.N.Nand.state c.args.device.now) (table c.args.blocks.now) c.args.index.now c.requires.can.ready c.requires.can.stands
 
-pub returns-in_err-move_kept-clause-costs : goal.returns-in_err-move_kept-clause-costs
-returns-in_err-move_kept-clause-costs g c =
+pub returns-then-entry-eq0-clause-out : goal.returns-then-entry-eq0-clause-out
+returns-then-entry-eq0-clause-out g c = moves_out_none c.args.block c.args.index.now
+
+pub returns-then-entry-eq0-clause-pays : goal.returns-then-entry-eq0-clause-pays
+returns-then-entry-eq0-clause-pays g c = pays_none _ _ (log_of (g.N.Nand.state c.args.device.now) (table c.args.blocks.now)) _
+
+pub returns-in_err-move_kept-clause-pays : goal.returns-in_err-move_kept-clause-pays
+returns-in_err-move_kept-clause-pays g c =
     let d : Device = g.N.Nand.state c.args.device.now in
     let t : Table = table c.args.blocks.now in
+    let pays = c.in_err-move_kept.ensures.pays in
     let p = err_from_is_err_and c.from_residual.result c.from_residual.ensures.1 in
-    rw p.1 (costs_kept c.args.block 0 d (g.N.Nand.state c.move_kept.new.device) t c.requires.ready.geometry (c.requires.stands.tables.fits c.args.block) c.in_err-move_kept.ensures.costs)
+    rw p.1 (record {
+      costs = costs_kept c.args.block 0 d (g.N.Nand.state c.move_kept.new.device) t c.requires.can.ready.geometry (c.requires.can.stands.tables.fits c.args.block) pays.costs;
+      marks = pays.marks;
+      answers = tt;
+      reads = pays.reads;
+    })
 
-pub returns-in-Trusted-clause-costs : goal.returns-in-Trusted-clause-costs
-returns-in-Trusted-clause-costs g c =
+pub returns-in-Trusted-clause-pays : goal.returns-in-Trusted-clause-pays
+returns-in-Trusted-clause-pays g c =
     let d : Device = g.N.Nand.state c.args.device.now in
     let t : Table = table c.args.blocks.now in
-    costs_kept c.args.block 0 d (g.N.Nand.state c.move_kept.new.device) t c.requires.ready.geometry (c.requires.stands.tables.fits c.args.block) (rw c.in-Trusted.is at c.in_ok-move_kept.ensures).costs
+    let pays = (rw c.in-Trusted.is at c.in_ok-move_kept.ensures).pays in
+    record {
+      costs = costs_kept c.args.block 0 d (g.N.Nand.state c.move_kept.new.device) t c.requires.can.ready.geometry (c.requires.can.stands.tables.fits c.args.block) pays.costs;
+      marks = pays.marks;
+      answers = pays.answers;
+      reads = pays.reads;
+    }
 
-pub returns-in-Suspect-clause-costs : goal.returns-in-Suspect-clause-costs
-returns-in-Suspect-clause-costs g c =
+pub returns-in-Suspect-clause-pays : goal.returns-in-Suspect-clause-pays
+returns-in-Suspect-clause-pays g c =
     let d : Device = g.N.Nand.state c.args.device.now in
     let t : Table = table c.args.blocks.now in
-    costs_kept c.args.block 1 d (g.N.Nand.state c.move_kept.new.device) t c.requires.ready.geometry (c.requires.stands.tables.fits c.args.block) (rw c.in-Suspect.is at c.in_ok-move_kept.ensures).costs
+    let pays = (rw c.in-Suspect.is at c.in_ok-move_kept.ensures).pays in
+    record {
+      costs = costs_kept c.args.block 1 d (g.N.Nand.state c.move_kept.new.device) t c.requires.can.ready.geometry (c.requires.can.stands.tables.fits c.args.block) pays.costs;
+      marks = pays.marks;
+      answers = pays.answers;
+      reads = pays.reads;
+    }

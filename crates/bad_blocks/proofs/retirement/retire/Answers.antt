@@ -4,33 +4,25 @@ use Rattle.nand_model.specs.Calls.{Device}
 use Rattle.block_state.specs.Kept.{bad_count}
 use Rattle.block_state.specs.Table.{Table}
 use Rattle.block_state.specs.TableOf.{table}
-use Rattle.bad_blocks.specs.laws.Turns.{moves_closed, moves_join, stands_closed}
+use Rattle.transactions.specs.Checking.{log_of}
+use Rattle.bad_blocks.specs.laws.Steps.{step_closed, step_on}
+use Rattle.bad_blocks.specs.laws.Turns.{stands_closed}
 use Rattle.transactions.specs.Ready.{IsReady}
 use Rattle.transactions.specs.laws.Ready.{ready_closed}
 use Rattle.bad_blocks.proofs.RetireTurns.{ends_closed}
 use Rattle.bad_blocks.specs.Retiring.{RetireEnds}
 use Rattle.bad_blocks.proofs.retirement.retire.Goals as goal
 
-pub retire_all-requires-clause-ready : goal.retire_all-requires-clause-ready
-retire_all-requires-clause-ready g c =
+pub retire_all-requires-clause-can : goal.retire_all-requires-clause-can
+retire_all-requires-clause-can g c =
     let d : Device = g.N.Nand.state c.args.device.now in
     let t : Table = table c.args.blocks.now in
     let u : Table = table c.close.new.self in
-    subst (IsReady d) (sym c.close.ensures) (ready_closed d t c.requires.ready)
-
-pub retire_all-requires-clause-stands : goal.retire_all-requires-clause-stands
-retire_all-requires-clause-stands g c =
-    let d : Device = g.N.Nand.state c.args.device.now in
-    let t : Table = table c.args.blocks.now in
-    let u : Table = table c.close.new.self in
-    stands_closed c.args.spare d t u c.args.index.now c.close.ensures c.requires.stands
-
-pub retire_all-requires-clause-few : goal.retire_all-requires-clause-few
-retire_all-requires-clause-few g c =
-    let d : Device = g.N.Nand.state c.args.device.now in
-    let t : Table = table c.args.blocks.now in
-    let u : Table = table c.close.new.self in
-    subst (λ (s : Table). bad_count s ≤ c.args.spare) (sym c.close.ensures) c.requires.few
+    record {
+      ready = subst (IsReady d) (sym c.close.ensures) (ready_closed d t c.requires.can.ready);
+      stands = stands_closed c.args.spare d t u c.args.index.now c.close.ensures c.requires.can.stands;
+      few = subst (λ (s : Table). bad_count s ≤ c.args.spare) (sym c.close.ensures) c.requires.can.few;
+    }
 
 pub retire_all-requires-clause-good : goal.retire_all-requires-clause-good
 retire_all-requires-clause-good g c =
@@ -39,21 +31,25 @@ retire_all-requires-clause-good g c =
     let u : Table = table c.close.new.self in
     ap (λ (s : Table). (s.entry c.args.block).bad) c.close.ensures ∙ c.requires.good
 
-pub returns-clause-moves : goal.returns-clause-moves
-returns-clause-moves g c =
+pub returns-clause-step : goal.returns-clause-step
+returns-clause-step g c =
     let d : Device = g.N.Nand.state c.args.device.now in
     let t : Table = table c.args.blocks.now in
     let u : Table = table c.close.new.self in
-    let e = c.retire_all.ensures in
-    moves_join c.args.block c.args.block c.args.block d d (g.N.Nand.state c.retire_all.new.device) t u (table c.retire_all.new.blocks) c.args.index.now c.args.index.now c.retire_all.new.index (moves_closed c.args.block d t u c.args.index.now c.close.ensures c.requires.ready) e.moves e.moves.index
+    let x = c.args.index.now in
+    step_on c.args.spare (log_of d t) (log_of d u) (log_of (g.N.Nand.state c.retire_all.new.device) (table c.retire_all.new.blocks)) x x c.retire_all.new.index
+    (step_closed c.args.spare d t u x c.close.ensures c.requires.can.ready c.requires.can.stands) c.retire_all.ensures.step
 
-pub returns-clause-marks : goal.returns-clause-marks
-returns-clause-marks g c =
-    let d : Device = g.N.Nand.state c.args.device.now in
-    let t : Table = table c.args.blocks.now in
-    let u : Table = table c.close.new.self in
-    let same : bad_count u ≡ bad_count t = ap bad_count c.close.ensures in
-    omega (arith, same, c.retire_all.ensures.marks)
+pub returns-clause-pays : goal.returns-clause-pays
+returns-clause-pays g c =
+    let same : bad_count (table c.close.new.self) ≡ bad_count (table c.args.blocks.now) = ap bad_count c.close.ensures in
+    let pays = c.retire_all.ensures.pays in
+    record {
+      costs = pays.costs;
+      marks = let marks = pays.marks in omega (arith, same, marks);
+      answers = on_ok_weaker c.retire_all.result (λ then. omega (arith, same, then)) pays.answers;
+      reads = pays.reads;
+    }
 
 pub returns-clause-ends : goal.returns-clause-ends
 returns-clause-ends g c =
@@ -62,13 +58,6 @@ returns-clause-ends g c =
     let u : Table = table c.close.new.self in
     ends_closed c.args.block c.args.spare (g.N.Nand.state c.retire_all.new.device) t (table c.retire_all.new.blocks) c.retire_all.result
     (subst (λ (s : Table). RetireEnds c.args.block c.args.spare (g.N.Nand.state c.retire_all.new.device) s (table c.retire_all.new.blocks) c.retire_all.result) c.close.ensures c.retire_all.ensures.ends)
-
-pub returns-clause-answers : goal.returns-clause-answers
-returns-clause-answers g c =
-    let t : Table = table c.args.blocks.now in
-    let u : Table = table c.close.new.self in
-    let same : bad_count u ≡ bad_count t = ap bad_count c.close.ensures in
-    on_ok_weaker c.retire_all.result (λ then. omega (arith, same, then)) c.retire_all.ensures.answers
 
 pub returns-clause-empty : goal.returns-clause-empty
 returns-clause-empty g c = λ none. c.retire_all.ensures.empty (ap (λ (s : Table). (s.entry c.args.block).kept) c.close.ensures ∙ none)

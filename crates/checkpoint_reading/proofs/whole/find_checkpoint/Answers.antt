@@ -1,4 +1,4 @@
-use Rattle.checkpoint_reading.proofs.BestCandidate.{none_best, few_read}
+use Rattle.checkpoint_reading.proofs.BestCandidate.{none_best, few_read, lies_first}
 use Rattle.checkpoint_reading.proofs.whole.find_checkpoint.Goals as goal
 
 pub returns-in_err-checkpoint-clause-few : goal.returns-in_err-checkpoint-clause-few
@@ -15,3 +15,7 @@ pub returns-clause-none : goal.returns-clause-none
 returns-clause-none g c =
     none_best (g.N.Nand.state c.args.device.now) (g.N.Nand.state c.read_firsts.new.device) c.in_ok-firsts.firsts.best c.in_ok-checkpoint.checkpoint c.in_ok-firsts.ensures.reads.only (g.met.N.Nand.within c.args.device.now)
     c.in_ok-firsts.ensures.firsts.best c.in_ok-checkpoint.ensures.none
+
+pub returns-clause-first : goal.returns-clause-first
+returns-clause-first g c =
+    lies_first (g.N.Nand.state c.args.device.now) c.in_ok-firsts.firsts.best c.in_ok-checkpoint.checkpoint c.in_ok-firsts.ensures.firsts.best c.in_ok-checkpoint.ensures.of

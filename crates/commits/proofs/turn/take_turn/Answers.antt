@@ -14,10 +14,12 @@ use Rattle.chunk_index.specs.declared.index.Index.{Index}
 use Rattle.page_buffer.specs.declared.buffer.Buffer.{Buffer}
 use Rattle.page_buffer.specs.BufferOf.{buffered}
 use Rattle.bad_blocks.specs.laws.Keeping.{bad_rises}
+use Rattle.bad_blocks.specs.laws.Steps.{step_on}
 use Rattle.bad_blocks.specs.Standing.{HasFreeBlocks}
-use Rattle.commits.specs.Keeping.{Keeps}
+use Rattle.transactions.specs.Checking.{log_of}
+use Rattle.bad_blocks.specs.Steps.{Step}
 use Rattle.commits.proofs.Following.{buffers_moved}
-use Rattle.commits.proofs.Turning.{keeps_moved, keeps_on, leaves_moved, leaves_kept, leaves_committed, leaves_on, commits_then, whole_after, whole_then, waiting_after, waiting_then, attempt_err}
+use Rattle.commits.proofs.Turning.{leaves_moved, leaves_kept, leaves_committed, leaves_on, commits_then, whole_after, whole_then, waiting_after, waiting_then, attempt_err}
 use Rattle.commits.proofs.Staying.{attempt_hindered, failed_hindered, keeps_open_written, keeps_open_failed}
 use Rattle.commits.proofs.turn.take_turn.Goals as goal
 
@@ -31,7 +33,7 @@ returns-in_err-make_room-clause-leaves g c =
     let x1 : Index = c.make_room.new.index in
     let pages : List FreshPage = buffered c.args.buffer.now in
     let room = c.make_room.ensures in
-    let first : Keeps c.args.spare d0 d1 t0 t1 x0 x1 = keeps_moved c.args.spare room.moves.0 d0 d1 t0 t1 x0 x1 room.moves.1 room.stands room.free in
+    let first : Step c.args.spare (log_of d0 t0) (log_of d1 t1) x0 x1 = room.step in
     leaves_moved c.args.spare d0 d1 t0 t1 x0 x1 pages first c.requires.buffers
 
 pub returns-then-next_group-ge-NUMBER_END-clause-leaves : goal.returns-then-next_group-ge-NUMBER_END-clause-leaves
@@ -44,7 +46,7 @@ returns-then-next_group-ge-NUMBER_END-clause-leaves g c =
     let x1 : Index = c.make_room.new.index in
     let pages : List FreshPage = buffered c.args.buffer.now in
     let room = c.make_room.ensures in
-    let first : Keeps c.args.spare d0 d1 t0 t1 x0 x1 = keeps_moved c.args.spare room.moves.0 d0 d1 t0 t1 x0 x1 room.moves.1 room.stands room.free in
+    let first : Step c.args.spare (log_of d0 t0) (log_of d1 t1) x0 x1 = room.step in
     leaves_moved c.args.spare d0 d1 t0 t1 x0 x1 pages first c.requires.buffers
 
 pub write_buffered-requires-clause-buffers : goal.write_buffered-requires-clause-buffers
@@ -57,7 +59,7 @@ write_buffered-requires-clause-buffers g c =
     let x1 : Index = c.make_room.new.index in
     let pages : List FreshPage = buffered c.args.buffer.now in
     let room = c.make_room.ensures in
-    let first : Keeps c.args.spare d0 d1 t0 t1 x0 x1 = keeps_moved c.args.spare room.moves.0 d0 d1 t0 t1 x0 x1 room.moves.1 room.stands room.free in
+    let first : Step c.args.spare (log_of d0 t0) (log_of d1 t1) x0 x1 = room.step in
     buffers_moved x0 x1 first.index pages c.requires.buffers
 
 pub returns-in_err-write_buffered-clause-leaves : goal.returns-in_err-write_buffered-clause-leaves
@@ -70,7 +72,7 @@ returns-in_err-write_buffered-clause-leaves g c =
     let x1 : Index = c.make_room.new.index in
     let pages : List FreshPage = buffered c.args.buffer.now in
     let room = c.make_room.ensures in
-    let first : Keeps c.args.spare d0 d1 t0 t1 x0 x1 = keeps_moved c.args.spare room.moves.0 d0 d1 t0 t1 x0 x1 room.moves.1 room.stands room.free in
+    let first : Step c.args.spare (log_of d0 t0) (log_of d1 t1) x0 x1 = room.step in
     let made = c.in_ok-make_room.ensures.ends in
     let free : HasFreeBlocks t1 c.args.spare = made.free c.requires.free in
     let d2 : Device = g.N.Nand.state c.write_buffered.new.device in
@@ -78,7 +80,7 @@ returns-in_err-write_buffered-clause-leaves g c =
     let x2 : Index = c.write_buffered.new.index in
     let b0 : Buffer = c.args.buffer.now in
     let b2 : Buffer = c.write_buffered.new.buffer in
-    leaves_on c.args.spare d0 d1 d2 t0 t1 t2 x0 x1 x2 pages c.requires.stands first (buffered b2) (c.write_buffered.ensures.leaves c.args.spare room.stands free)
+    leaves_on c.args.spare d0 d1 d2 t0 t1 t2 x0 x1 x2 pages c.requires.can.stands first (buffered b2) (c.write_buffered.ensures.leaves c.args.spare room.step.stands free)
 
 pub returns-in_err-write_buffered-clause-ends : goal.returns-in_err-write_buffered-clause-ends
 returns-in_err-write_buffered-clause-ends g c =
@@ -90,7 +92,7 @@ returns-in_err-write_buffered-clause-ends g c =
     let x1 : Index = c.make_room.new.index in
     let pages : List FreshPage = buffered c.args.buffer.now in
     let room = c.make_room.ensures in
-    let first : Keeps c.args.spare d0 d1 t0 t1 x0 x1 = keeps_moved c.args.spare room.moves.0 d0 d1 t0 t1 x0 x1 room.moves.1 room.stands room.free in
+    let first : Step c.args.spare (log_of d0 t0) (log_of d1 t1) x0 x1 = room.step in
     let made = c.in_ok-make_room.ensures.ends in
     let free : HasFreeBlocks t1 c.args.spare = made.free c.requires.free in
     let d2 : Device = g.N.Nand.state c.write_buffered.new.device in
@@ -99,10 +101,10 @@ returns-in_err-write_buffered-clause-ends g c =
     let b0 : Buffer = c.args.buffer.now in
     let b2 : Buffer = c.write_buffered.new.buffer in
     let p = err_from_is_err_and c.from_residual-in_err-write_buffered.result c.from_residual-in_err-write_buffered.ensures.1 in
-    rw (p.1, p.2) (attempt_err (length pages) c.args.spare d1 d2 t0 t1 t2 x1 x2 b0 b2 c.in_err-write_buffered.field-0.0 (c.in_err-write_buffered.ensures.ends c.args.spare room.stands free))
+    rw (p.1, p.2) (attempt_err (length pages) c.args.spare d1 d2 t0 t1 t2 x1 x2 b0 b2 c.in_err-write_buffered.field-0.0 (c.in_err-write_buffered.ensures.ends c.args.spare room.step.stands free))
 
-pub retire-requires-clause-stands : goal.retire-requires-clause-stands
-retire-requires-clause-stands g c =
+pub retire-requires-clause-can : goal.retire-requires-clause-can
+retire-requires-clause-can g c =
     let d0 : Device = g.N.Nand.state c.args.device.now in
     let d1 : Device = g.N.Nand.state c.make_room.new.device in
     let t0 : Table = table c.args.blocks.now in
@@ -111,7 +113,7 @@ retire-requires-clause-stands g c =
     let x1 : Index = c.make_room.new.index in
     let pages : List FreshPage = buffered c.args.buffer.now in
     let room = c.make_room.ensures in
-    let first : Keeps c.args.spare d0 d1 t0 t1 x0 x1 = keeps_moved c.args.spare room.moves.0 d0 d1 t0 t1 x0 x1 room.moves.1 room.stands room.free in
+    let first : Step c.args.spare (log_of d0 t0) (log_of d1 t1) x0 x1 = room.step in
     let made = c.in_ok-make_room.ensures.ends in
     let free : HasFreeBlocks t1 c.args.spare = made.free c.requires.free in
     let d2 : Device = g.N.Nand.state c.write_buffered.new.device in
@@ -119,30 +121,10 @@ retire-requires-clause-stands g c =
     let x2 : Index = c.write_buffered.new.index in
     let b0 : Buffer = c.args.buffer.now in
     let b2 : Buffer = c.write_buffered.new.buffer in
-    let done = (rw c.in-Suspect.is at c.in_ok-write_buffered.ensures).ends c.args.spare room.stands free in
-    let whole = whole_after c.args.spare d0 d1 d2 t0 t1 t2 x0 x1 x2 b0 b0 b2 c.requires.stands first refl done.0 in
-    done.0.commits.stands
-
-pub retire-requires-clause-few : goal.retire-requires-clause-few
-retire-requires-clause-few g c =
-    let d0 : Device = g.N.Nand.state c.args.device.now in
-    let d1 : Device = g.N.Nand.state c.make_room.new.device in
-    let t0 : Table = table c.args.blocks.now in
-    let t1 : Table = table c.make_room.new.blocks in
-    let x0 : Index = c.args.index.now in
-    let x1 : Index = c.make_room.new.index in
-    let pages : List FreshPage = buffered c.args.buffer.now in
-    let room = c.make_room.ensures in
-    let first : Keeps c.args.spare d0 d1 t0 t1 x0 x1 = keeps_moved c.args.spare room.moves.0 d0 d1 t0 t1 x0 x1 room.moves.1 room.stands room.free in
-    let made = c.in_ok-make_room.ensures.ends in
-    let free : HasFreeBlocks t1 c.args.spare = made.free c.requires.free in
-    let d2 : Device = g.N.Nand.state c.write_buffered.new.device in
-    let t2 : Table = table c.write_buffered.new.blocks in
-    let x2 : Index = c.write_buffered.new.index in
-    let b0 : Buffer = c.args.buffer.now in
-    let b2 : Buffer = c.write_buffered.new.buffer in
+    let done = (rw c.in-Suspect.is at c.in_ok-write_buffered.ensures).ends c.args.spare room.step.stands free in
+    let whole = whole_after c.args.spare d0 d1 d2 t0 t1 t2 x0 x1 x2 b0 b0 b2 c.requires.can.stands first refl done.0 in
     let same = c.write_buffered.ensures.bad in
-    omega (arith, same, made.few)
+    record { ready = c.write_buffered.ensures.ready; stands = done.0.commits.stands; few = omega (arith, same, made.few) }
 
 pub retire-requires-clause-block : goal.retire-requires-clause-block
 retire-requires-clause-block g c =
@@ -154,7 +136,7 @@ retire-requires-clause-block g c =
     let x1 : Index = c.make_room.new.index in
     let pages : List FreshPage = buffered c.args.buffer.now in
     let room = c.make_room.ensures in
-    let first : Keeps c.args.spare d0 d1 t0 t1 x0 x1 = keeps_moved c.args.spare room.moves.0 d0 d1 t0 t1 x0 x1 room.moves.1 room.stands room.free in
+    let first : Step c.args.spare (log_of d0 t0) (log_of d1 t1) x0 x1 = room.step in
     let made = c.in_ok-make_room.ensures.ends in
     let free : HasFreeBlocks t1 c.args.spare = made.free c.requires.free in
     let d2 : Device = g.N.Nand.state c.write_buffered.new.device in
@@ -162,8 +144,8 @@ retire-requires-clause-block g c =
     let x2 : Index = c.write_buffered.new.index in
     let b0 : Buffer = c.args.buffer.now in
     let b2 : Buffer = c.write_buffered.new.buffer in
-    let done = (rw c.in-Suspect.is at c.in_ok-write_buffered.ensures).ends c.args.spare room.stands free in
-    let whole = whole_after c.args.spare d0 d1 d2 t0 t1 t2 x0 x1 x2 b0 b0 b2 c.requires.stands first refl done.0 in
+    let done = (rw c.in-Suspect.is at c.in_ok-write_buffered.ensures).ends c.args.spare room.step.stands free in
+    let whole = whole_after c.args.spare d0 d1 d2 t0 t1 t2 x0 x1 x2 b0 b0 b2 c.requires.can.stands first refl done.0 in
     done.1.within
 
 pub retire-requires-clause-good : goal.retire-requires-clause-good
@@ -176,7 +158,7 @@ retire-requires-clause-good g c =
     let x1 : Index = c.make_room.new.index in
     let pages : List FreshPage = buffered c.args.buffer.now in
     let room = c.make_room.ensures in
-    let first : Keeps c.args.spare d0 d1 t0 t1 x0 x1 = keeps_moved c.args.spare room.moves.0 d0 d1 t0 t1 x0 x1 room.moves.1 room.stands room.free in
+    let first : Step c.args.spare (log_of d0 t0) (log_of d1 t1) x0 x1 = room.step in
     let made = c.in_ok-make_room.ensures.ends in
     let free : HasFreeBlocks t1 c.args.spare = made.free c.requires.free in
     let d2 : Device = g.N.Nand.state c.write_buffered.new.device in
@@ -184,12 +166,12 @@ retire-requires-clause-good g c =
     let x2 : Index = c.write_buffered.new.index in
     let b0 : Buffer = c.args.buffer.now in
     let b2 : Buffer = c.write_buffered.new.buffer in
-    let done = (rw c.in-Suspect.is at c.in_ok-write_buffered.ensures).ends c.args.spare room.stands free in
-    let whole = whole_after c.args.spare d0 d1 d2 t0 t1 t2 x0 x1 x2 b0 b0 b2 c.requires.stands first refl done.0 in
+    let done = (rw c.in-Suspect.is at c.in_ok-write_buffered.ensures).ends c.args.spare room.step.stands free in
+    let whole = whole_after c.args.spare d0 d1 d2 t0 t1 t2 x0 x1 x2 b0 b0 b2 c.requires.can.stands first refl done.0 in
     done.1.good
 
-pub retire-requires-in-Failed-clause-stands : goal.retire-requires-in-Failed-clause-stands
-retire-requires-in-Failed-clause-stands g c =
+pub retire-requires-in-Failed-clause-can : goal.retire-requires-in-Failed-clause-can
+retire-requires-in-Failed-clause-can g c =
     let d0 : Device = g.N.Nand.state c.args.device.now in
     let d1 : Device = g.N.Nand.state c.make_room.new.device in
     let t0 : Table = table c.args.blocks.now in
@@ -198,7 +180,7 @@ retire-requires-in-Failed-clause-stands g c =
     let x1 : Index = c.make_room.new.index in
     let pages : List FreshPage = buffered c.args.buffer.now in
     let room = c.make_room.ensures in
-    let first : Keeps c.args.spare d0 d1 t0 t1 x0 x1 = keeps_moved c.args.spare room.moves.0 d0 d1 t0 t1 x0 x1 room.moves.1 room.stands room.free in
+    let first : Step c.args.spare (log_of d0 t0) (log_of d1 t1) x0 x1 = room.step in
     let made = c.in_ok-make_room.ensures.ends in
     let free : HasFreeBlocks t1 c.args.spare = made.free c.requires.free in
     let d2 : Device = g.N.Nand.state c.write_buffered.new.device in
@@ -206,30 +188,10 @@ retire-requires-in-Failed-clause-stands g c =
     let x2 : Index = c.write_buffered.new.index in
     let b0 : Buffer = c.args.buffer.now in
     let b2 : Buffer = c.write_buffered.new.buffer in
-    let failed = (rw c.in-Failed.is at c.in_ok-write_buffered.ensures).ends c.args.spare room.stands free in
+    let failed = (rw c.in-Failed.is at c.in_ok-write_buffered.ensures).ends c.args.spare room.step.stands free in
     let waits = waiting_after c.args.spare d0 d1 d2 t0 t1 t2 x0 x1 x2 b0 b2 first failed.0 in
-    failed.0.keeps.stands
-
-pub retire-requires-in-Failed-clause-few : goal.retire-requires-in-Failed-clause-few
-retire-requires-in-Failed-clause-few g c =
-    let d0 : Device = g.N.Nand.state c.args.device.now in
-    let d1 : Device = g.N.Nand.state c.make_room.new.device in
-    let t0 : Table = table c.args.blocks.now in
-    let t1 : Table = table c.make_room.new.blocks in
-    let x0 : Index = c.args.index.now in
-    let x1 : Index = c.make_room.new.index in
-    let pages : List FreshPage = buffered c.args.buffer.now in
-    let room = c.make_room.ensures in
-    let first : Keeps c.args.spare d0 d1 t0 t1 x0 x1 = keeps_moved c.args.spare room.moves.0 d0 d1 t0 t1 x0 x1 room.moves.1 room.stands room.free in
-    let made = c.in_ok-make_room.ensures.ends in
-    let free : HasFreeBlocks t1 c.args.spare = made.free c.requires.free in
-    let d2 : Device = g.N.Nand.state c.write_buffered.new.device in
-    let t2 : Table = table c.write_buffered.new.blocks in
-    let x2 : Index = c.write_buffered.new.index in
-    let b0 : Buffer = c.args.buffer.now in
-    let b2 : Buffer = c.write_buffered.new.buffer in
     let same = c.write_buffered.ensures.bad in
-    omega (arith, same, made.few)
+    record { ready = c.write_buffered.ensures.ready; stands = failed.0.keeps.stands; few = omega (arith, same, made.few) }
 
 pub retire-requires-in-Failed-clause-block : goal.retire-requires-in-Failed-clause-block
 retire-requires-in-Failed-clause-block g c =
@@ -241,7 +203,7 @@ retire-requires-in-Failed-clause-block g c =
     let x1 : Index = c.make_room.new.index in
     let pages : List FreshPage = buffered c.args.buffer.now in
     let room = c.make_room.ensures in
-    let first : Keeps c.args.spare d0 d1 t0 t1 x0 x1 = keeps_moved c.args.spare room.moves.0 d0 d1 t0 t1 x0 x1 room.moves.1 room.stands room.free in
+    let first : Step c.args.spare (log_of d0 t0) (log_of d1 t1) x0 x1 = room.step in
     let made = c.in_ok-make_room.ensures.ends in
     let free : HasFreeBlocks t1 c.args.spare = made.free c.requires.free in
     let d2 : Device = g.N.Nand.state c.write_buffered.new.device in
@@ -249,7 +211,7 @@ retire-requires-in-Failed-clause-block g c =
     let x2 : Index = c.write_buffered.new.index in
     let b0 : Buffer = c.args.buffer.now in
     let b2 : Buffer = c.write_buffered.new.buffer in
-    let failed = (rw c.in-Failed.is at c.in_ok-write_buffered.ensures).ends c.args.spare room.stands free in
+    let failed = (rw c.in-Failed.is at c.in_ok-write_buffered.ensures).ends c.args.spare room.step.stands free in
     let waits = waiting_after c.args.spare d0 d1 d2 t0 t1 t2 x0 x1 x2 b0 b2 first failed.0 in
     failed.1.within
 
@@ -263,7 +225,7 @@ retire-requires-in-Failed-clause-good g c =
     let x1 : Index = c.make_room.new.index in
     let pages : List FreshPage = buffered c.args.buffer.now in
     let room = c.make_room.ensures in
-    let first : Keeps c.args.spare d0 d1 t0 t1 x0 x1 = keeps_moved c.args.spare room.moves.0 d0 d1 t0 t1 x0 x1 room.moves.1 room.stands room.free in
+    let first : Step c.args.spare (log_of d0 t0) (log_of d1 t1) x0 x1 = room.step in
     let made = c.in_ok-make_room.ensures.ends in
     let free : HasFreeBlocks t1 c.args.spare = made.free c.requires.free in
     let d2 : Device = g.N.Nand.state c.write_buffered.new.device in
@@ -271,7 +233,7 @@ retire-requires-in-Failed-clause-good g c =
     let x2 : Index = c.write_buffered.new.index in
     let b0 : Buffer = c.args.buffer.now in
     let b2 : Buffer = c.write_buffered.new.buffer in
-    let failed = (rw c.in-Failed.is at c.in_ok-write_buffered.ensures).ends c.args.spare room.stands free in
+    let failed = (rw c.in-Failed.is at c.in_ok-write_buffered.ensures).ends c.args.spare room.step.stands free in
     let waits = waiting_after c.args.spare d0 d1 d2 t0 t1 t2 x0 x1 x2 b0 b2 first failed.0 in
     failed.1.good
 
@@ -285,7 +247,7 @@ returns-in_err-retire-in-Suspect-clause-leaves g c =
     let x1 : Index = c.make_room.new.index in
     let pages : List FreshPage = buffered c.args.buffer.now in
     let room = c.make_room.ensures in
-    let first : Keeps c.args.spare d0 d1 t0 t1 x0 x1 = keeps_moved c.args.spare room.moves.0 d0 d1 t0 t1 x0 x1 room.moves.1 room.stands room.free in
+    let first : Step c.args.spare (log_of d0 t0) (log_of d1 t1) x0 x1 = room.step in
     let made = c.in_ok-make_room.ensures.ends in
     let free : HasFreeBlocks t1 c.args.spare = made.free c.requires.free in
     let d2 : Device = g.N.Nand.state c.write_buffered.new.device in
@@ -293,12 +255,12 @@ returns-in_err-retire-in-Suspect-clause-leaves g c =
     let x2 : Index = c.write_buffered.new.index in
     let b0 : Buffer = c.args.buffer.now in
     let b2 : Buffer = c.write_buffered.new.buffer in
-    let done = (rw c.in-Suspect.is at c.in_ok-write_buffered.ensures).ends c.args.spare room.stands free in
-    let whole = whole_after c.args.spare d0 d1 d2 t0 t1 t2 x0 x1 x2 b0 b0 b2 c.requires.stands first refl done.0 in
+    let done = (rw c.in-Suspect.is at c.in_ok-write_buffered.ensures).ends c.args.spare room.step.stands free in
+    let whole = whole_after c.args.spare d0 d1 d2 t0 t1 t2 x0 x1 x2 b0 b0 b2 c.requires.can.stands first refl done.0 in
     let d3 : Device = g.N.Nand.state c.retire.new.device in
     let t3 : Table = table c.retire.new.blocks in
     let x3 : Index = c.retire.new.index in
-    let then : Keeps c.args.spare d2 d3 t2 t3 x2 x3 = keeps_moved c.args.spare c.in-Suspect.block d2 d3 t2 t3 x2 x3 c.retire.ensures.moves c.retire.ensures.stands c.retire.ensures.free in
+    let then : Step c.args.spare (log_of d2 t2) (log_of d3 t3) x2 x3 = c.retire.ensures.step in
     leaves_committed c.args.spare d0 d3 t0 t3 x0 x3 pages (buffered b2) (commits_then c.args.spare d0 d2 d3 t0 t2 t3 x0 x2 x3 pages whole.commits then) whole.out.empty
 
 pub returns-in_err-retire-in-Failed-clause-leaves : goal.returns-in_err-retire-in-Failed-clause-leaves
@@ -311,7 +273,7 @@ returns-in_err-retire-in-Failed-clause-leaves g c =
     let x1 : Index = c.make_room.new.index in
     let pages : List FreshPage = buffered c.args.buffer.now in
     let room = c.make_room.ensures in
-    let first : Keeps c.args.spare d0 d1 t0 t1 x0 x1 = keeps_moved c.args.spare room.moves.0 d0 d1 t0 t1 x0 x1 room.moves.1 room.stands room.free in
+    let first : Step c.args.spare (log_of d0 t0) (log_of d1 t1) x0 x1 = room.step in
     let made = c.in_ok-make_room.ensures.ends in
     let free : HasFreeBlocks t1 c.args.spare = made.free c.requires.free in
     let d2 : Device = g.N.Nand.state c.write_buffered.new.device in
@@ -319,14 +281,14 @@ returns-in_err-retire-in-Failed-clause-leaves g c =
     let x2 : Index = c.write_buffered.new.index in
     let b0 : Buffer = c.args.buffer.now in
     let b2 : Buffer = c.write_buffered.new.buffer in
-    let failed = (rw c.in-Failed.is at c.in_ok-write_buffered.ensures).ends c.args.spare room.stands free in
+    let failed = (rw c.in-Failed.is at c.in_ok-write_buffered.ensures).ends c.args.spare room.step.stands free in
     let waits = waiting_after c.args.spare d0 d1 d2 t0 t1 t2 x0 x1 x2 b0 b2 first failed.0 in
     let d3 : Device = g.N.Nand.state c.retire-in-Failed.new.device in
     let t3 : Table = table c.retire-in-Failed.new.blocks in
     let x3 : Index = c.retire-in-Failed.new.index in
-    let then : Keeps c.args.spare d2 d3 t2 t3 x2 x3 = keeps_moved c.args.spare c.in-Failed.block d2 d3 t2 t3 x2 x3 c.retire-in-Failed.ensures.moves c.retire-in-Failed.ensures.stands c.retire-in-Failed.ensures.free in
-    let after = (c.write_buffered.ensures.leaves c.args.spare room.stands free).buffers in
-    leaves_kept c.args.spare d0 d3 t0 t3 x0 x3 pages (buffered b2) (keeps_on c.args.spare d0 d2 d3 t0 t2 t3 x0 x2 x3 waits.keeps then) waits.buffered_still (buffers_moved x2 x3 then.index (buffered b2) after)
+    let then : Step c.args.spare (log_of d2 t2) (log_of d3 t3) x2 x3 = c.retire-in-Failed.ensures.step in
+    let after = (c.write_buffered.ensures.leaves c.args.spare room.step.stands free).buffers in
+    leaves_kept c.args.spare d0 d3 t0 t3 x0 x3 pages (buffered b2) (step_on c.args.spare (log_of d0 t0) (log_of d2 t2) (log_of d3 t3) x0 x2 x3 waits.keeps then) waits.buffered_still (buffers_moved x2 x3 then.index (buffered b2) after)
 
 pub returns-in_ok-retire-in-Suspect-clause-leaves : goal.returns-in_ok-retire-in-Suspect-clause-leaves
 returns-in_ok-retire-in-Suspect-clause-leaves g c =
@@ -338,7 +300,7 @@ returns-in_ok-retire-in-Suspect-clause-leaves g c =
     let x1 : Index = c.make_room.new.index in
     let pages : List FreshPage = buffered c.args.buffer.now in
     let room = c.make_room.ensures in
-    let first : Keeps c.args.spare d0 d1 t0 t1 x0 x1 = keeps_moved c.args.spare room.moves.0 d0 d1 t0 t1 x0 x1 room.moves.1 room.stands room.free in
+    let first : Step c.args.spare (log_of d0 t0) (log_of d1 t1) x0 x1 = room.step in
     let made = c.in_ok-make_room.ensures.ends in
     let free : HasFreeBlocks t1 c.args.spare = made.free c.requires.free in
     let d2 : Device = g.N.Nand.state c.write_buffered.new.device in
@@ -346,12 +308,12 @@ returns-in_ok-retire-in-Suspect-clause-leaves g c =
     let x2 : Index = c.write_buffered.new.index in
     let b0 : Buffer = c.args.buffer.now in
     let b2 : Buffer = c.write_buffered.new.buffer in
-    let done = (rw c.in-Suspect.is at c.in_ok-write_buffered.ensures).ends c.args.spare room.stands free in
-    let whole = whole_after c.args.spare d0 d1 d2 t0 t1 t2 x0 x1 x2 b0 b0 b2 c.requires.stands first refl done.0 in
+    let done = (rw c.in-Suspect.is at c.in_ok-write_buffered.ensures).ends c.args.spare room.step.stands free in
+    let whole = whole_after c.args.spare d0 d1 d2 t0 t1 t2 x0 x1 x2 b0 b0 b2 c.requires.can.stands first refl done.0 in
     let d3 : Device = g.N.Nand.state c.retire.new.device in
     let t3 : Table = table c.retire.new.blocks in
     let x3 : Index = c.retire.new.index in
-    let then : Keeps c.args.spare d2 d3 t2 t3 x2 x3 = keeps_moved c.args.spare c.in-Suspect.block d2 d3 t2 t3 x2 x3 c.retire.ensures.moves c.retire.ensures.stands c.retire.ensures.free in
+    let then : Step c.args.spare (log_of d2 t2) (log_of d3 t3) x2 x3 = c.retire.ensures.step in
     leaves_committed c.args.spare d0 d3 t0 t3 x0 x3 pages (buffered b2) (commits_then c.args.spare d0 d2 d3 t0 t2 t3 x0 x2 x3 pages whole.commits then) whole.out.empty
 
 pub returns-in_ok-retire-in-Failed-clause-leaves : goal.returns-in_ok-retire-in-Failed-clause-leaves
@@ -364,7 +326,7 @@ returns-in_ok-retire-in-Failed-clause-leaves g c =
     let x1 : Index = c.make_room.new.index in
     let pages : List FreshPage = buffered c.args.buffer.now in
     let room = c.make_room.ensures in
-    let first : Keeps c.args.spare d0 d1 t0 t1 x0 x1 = keeps_moved c.args.spare room.moves.0 d0 d1 t0 t1 x0 x1 room.moves.1 room.stands room.free in
+    let first : Step c.args.spare (log_of d0 t0) (log_of d1 t1) x0 x1 = room.step in
     let made = c.in_ok-make_room.ensures.ends in
     let free : HasFreeBlocks t1 c.args.spare = made.free c.requires.free in
     let d2 : Device = g.N.Nand.state c.write_buffered.new.device in
@@ -372,14 +334,14 @@ returns-in_ok-retire-in-Failed-clause-leaves g c =
     let x2 : Index = c.write_buffered.new.index in
     let b0 : Buffer = c.args.buffer.now in
     let b2 : Buffer = c.write_buffered.new.buffer in
-    let failed = (rw c.in-Failed.is at c.in_ok-write_buffered.ensures).ends c.args.spare room.stands free in
+    let failed = (rw c.in-Failed.is at c.in_ok-write_buffered.ensures).ends c.args.spare room.step.stands free in
     let waits = waiting_after c.args.spare d0 d1 d2 t0 t1 t2 x0 x1 x2 b0 b2 first failed.0 in
     let d3 : Device = g.N.Nand.state c.retire-in-Failed.new.device in
     let t3 : Table = table c.retire-in-Failed.new.blocks in
     let x3 : Index = c.retire-in-Failed.new.index in
-    let then : Keeps c.args.spare d2 d3 t2 t3 x2 x3 = keeps_moved c.args.spare c.in-Failed.block d2 d3 t2 t3 x2 x3 c.retire-in-Failed.ensures.moves c.retire-in-Failed.ensures.stands c.retire-in-Failed.ensures.free in
-    let after = (c.write_buffered.ensures.leaves c.args.spare room.stands free).buffers in
-    leaves_kept c.args.spare d0 d3 t0 t3 x0 x3 pages (buffered b2) (keeps_on c.args.spare d0 d2 d3 t0 t2 t3 x0 x2 x3 waits.keeps then) waits.buffered_still (buffers_moved x2 x3 then.index (buffered b2) after)
+    let then : Step c.args.spare (log_of d2 t2) (log_of d3 t3) x2 x3 = c.retire-in-Failed.ensures.step in
+    let after = (c.write_buffered.ensures.leaves c.args.spare room.step.stands free).buffers in
+    leaves_kept c.args.spare d0 d3 t0 t3 x0 x3 pages (buffered b2) (step_on c.args.spare (log_of d0 t0) (log_of d2 t2) (log_of d3 t3) x0 x2 x3 waits.keeps then) waits.buffered_still (buffers_moved x2 x3 then.index (buffered b2) after)
 
 pub returns-in-Trusted-clause-leaves : goal.returns-in-Trusted-clause-leaves
 returns-in-Trusted-clause-leaves g c =
@@ -391,7 +353,7 @@ returns-in-Trusted-clause-leaves g c =
     let x1 : Index = c.make_room.new.index in
     let pages : List FreshPage = buffered c.args.buffer.now in
     let room = c.make_room.ensures in
-    let first : Keeps c.args.spare d0 d1 t0 t1 x0 x1 = keeps_moved c.args.spare room.moves.0 d0 d1 t0 t1 x0 x1 room.moves.1 room.stands room.free in
+    let first : Step c.args.spare (log_of d0 t0) (log_of d1 t1) x0 x1 = room.step in
     let made = c.in_ok-make_room.ensures.ends in
     let free : HasFreeBlocks t1 c.args.spare = made.free c.requires.free in
     let d2 : Device = g.N.Nand.state c.write_buffered.new.device in
@@ -399,7 +361,7 @@ returns-in-Trusted-clause-leaves g c =
     let x2 : Index = c.write_buffered.new.index in
     let b0 : Buffer = c.args.buffer.now in
     let b2 : Buffer = c.write_buffered.new.buffer in
-    leaves_on c.args.spare d0 d1 d2 t0 t1 t2 x0 x1 x2 pages c.requires.stands first (buffered b2) (c.write_buffered.ensures.leaves c.args.spare room.stands free)
+    leaves_on c.args.spare d0 d1 d2 t0 t1 t2 x0 x1 x2 pages c.requires.can.stands first (buffered b2) (c.write_buffered.ensures.leaves c.args.spare room.step.stands free)
 
 pub returns-in-Trusted-clause-ends : goal.returns-in-Trusted-clause-ends
 returns-in-Trusted-clause-ends g c =
@@ -411,7 +373,7 @@ returns-in-Trusted-clause-ends g c =
     let x1 : Index = c.make_room.new.index in
     let pages : List FreshPage = buffered c.args.buffer.now in
     let room = c.make_room.ensures in
-    let first : Keeps c.args.spare d0 d1 t0 t1 x0 x1 = keeps_moved c.args.spare room.moves.0 d0 d1 t0 t1 x0 x1 room.moves.1 room.stands room.free in
+    let first : Step c.args.spare (log_of d0 t0) (log_of d1 t1) x0 x1 = room.step in
     let made = c.in_ok-make_room.ensures.ends in
     let free : HasFreeBlocks t1 c.args.spare = made.free c.requires.free in
     let d2 : Device = g.N.Nand.state c.write_buffered.new.device in
@@ -419,9 +381,9 @@ returns-in-Trusted-clause-ends g c =
     let x2 : Index = c.write_buffered.new.index in
     let b0 : Buffer = c.args.buffer.now in
     let b2 : Buffer = c.write_buffered.new.buffer in
-    let done = (rw c.in-Trusted.is at c.in_ok-write_buffered.ensures).ends c.args.spare room.stands free in
+    let done = (rw c.in-Trusted.is at c.in_ok-write_buffered.ensures).ends c.args.spare room.step.stands free in
     let same = c.write_buffered.ensures.bad in
-    (whole_after c.args.spare d0 d1 d2 t0 t1 t2 x0 x1 x2 b0 b0 b2 c.requires.stands first refl done.0, omega (arith, same, made.few), record { device = d1; table = t1; index = x1; before = first; answered = inl done.1 })
+    (whole_after c.args.spare d0 d1 d2 t0 t1 t2 x0 x1 x2 b0 b0 b2 c.requires.can.stands first refl done.0, omega (arith, same, made.few), record { device = d1; table = t1; index = x1; before = first; answered = inl done.1 })
 
 pub returns-in_ok-retire-in-Suspect-clause-ends : goal.returns-in_ok-retire-in-Suspect-clause-ends
 returns-in_ok-retire-in-Suspect-clause-ends g c =
@@ -433,7 +395,7 @@ returns-in_ok-retire-in-Suspect-clause-ends g c =
     let x1 : Index = c.make_room.new.index in
     let pages : List FreshPage = buffered c.args.buffer.now in
     let room = c.make_room.ensures in
-    let first : Keeps c.args.spare d0 d1 t0 t1 x0 x1 = keeps_moved c.args.spare room.moves.0 d0 d1 t0 t1 x0 x1 room.moves.1 room.stands room.free in
+    let first : Step c.args.spare (log_of d0 t0) (log_of d1 t1) x0 x1 = room.step in
     let made = c.in_ok-make_room.ensures.ends in
     let free : HasFreeBlocks t1 c.args.spare = made.free c.requires.free in
     let d2 : Device = g.N.Nand.state c.write_buffered.new.device in
@@ -441,12 +403,12 @@ returns-in_ok-retire-in-Suspect-clause-ends g c =
     let x2 : Index = c.write_buffered.new.index in
     let b0 : Buffer = c.args.buffer.now in
     let b2 : Buffer = c.write_buffered.new.buffer in
-    let done = (rw c.in-Suspect.is at c.in_ok-write_buffered.ensures).ends c.args.spare room.stands free in
-    let whole = whole_after c.args.spare d0 d1 d2 t0 t1 t2 x0 x1 x2 b0 b0 b2 c.requires.stands first refl done.0 in
+    let done = (rw c.in-Suspect.is at c.in_ok-write_buffered.ensures).ends c.args.spare room.step.stands free in
+    let whole = whole_after c.args.spare d0 d1 d2 t0 t1 t2 x0 x1 x2 b0 b0 b2 c.requires.can.stands first refl done.0 in
     let d3 : Device = g.N.Nand.state c.retire.new.device in
     let t3 : Table = table c.retire.new.blocks in
     let x3 : Index = c.retire.new.index in
-    let then : Keeps c.args.spare d2 d3 t2 t3 x2 x3 = keeps_moved c.args.spare c.in-Suspect.block d2 d3 t2 t3 x2 x3 c.retire.ensures.moves c.retire.ensures.stands c.retire.ensures.free in
+    let then : Step c.args.spare (log_of d2 t2) (log_of d3 t3) x2 x3 = c.retire.ensures.step in
     let retired = c.in_ok-retire-in-Suspect.ensures.ends in (
       whole_then c.args.spare d0 d2 d3 t0 t2 t3 x0 x2 x3 b0 b2 whole then retired.0.free retired.1,
       retired.0.few,
@@ -463,7 +425,7 @@ returns-in_ok-retire-in-Failed-clause-ends g c =
     let x1 : Index = c.make_room.new.index in
     let pages : List FreshPage = buffered c.args.buffer.now in
     let room = c.make_room.ensures in
-    let first : Keeps c.args.spare d0 d1 t0 t1 x0 x1 = keeps_moved c.args.spare room.moves.0 d0 d1 t0 t1 x0 x1 room.moves.1 room.stands room.free in
+    let first : Step c.args.spare (log_of d0 t0) (log_of d1 t1) x0 x1 = room.step in
     let made = c.in_ok-make_room.ensures.ends in
     let free : HasFreeBlocks t1 c.args.spare = made.free c.requires.free in
     let d2 : Device = g.N.Nand.state c.write_buffered.new.device in
@@ -471,15 +433,15 @@ returns-in_ok-retire-in-Failed-clause-ends g c =
     let x2 : Index = c.write_buffered.new.index in
     let b0 : Buffer = c.args.buffer.now in
     let b2 : Buffer = c.write_buffered.new.buffer in
-    let failed = (rw c.in-Failed.is at c.in_ok-write_buffered.ensures).ends c.args.spare room.stands free in
+    let failed = (rw c.in-Failed.is at c.in_ok-write_buffered.ensures).ends c.args.spare room.step.stands free in
     let waits = waiting_after c.args.spare d0 d1 d2 t0 t1 t2 x0 x1 x2 b0 b2 first failed.0 in
     let d3 : Device = g.N.Nand.state c.retire-in-Failed.new.device in
     let t3 : Table = table c.retire-in-Failed.new.blocks in
     let x3 : Index = c.retire-in-Failed.new.index in
-    let then : Keeps c.args.spare d2 d3 t2 t3 x2 x3 = keeps_moved c.args.spare c.in-Failed.block d2 d3 t2 t3 x2 x3 c.retire-in-Failed.ensures.moves c.retire-in-Failed.ensures.stands c.retire-in-Failed.ensures.free in
+    let then : Step c.args.spare (log_of d2 t2) (log_of d3 t3) x2 x3 = c.retire-in-Failed.ensures.step in
     let retired = c.in_ok-retire-in-Failed.ensures.ends in
     let same = c.write_buffered.ensures.bad in
-    let rises : bad_count t0 ≤ bad_count t1 = bad_rises t0 t1 room.moves.1.geometry room.moves.1.marks in
+    let rises : bad_count t0 ≤ bad_count t1 = bad_rises t0 t1 room.step.geometry room.step.marks in
     (waiting_then c.args.spare d0 d2 d3 t0 t2 t3 x0 x2 x3 b0 b2 waits then retired.1, retired.0.free, omega (arith, same, rises, retired.0.more), retired.0.few, record { device = d1; table = t1; index = x1; before = first; answered = inr (c.in-Failed.block, failed.2, retired.0.bad) })
 
 pub returns-in_err-make_room-clause-costs : goal.returns-in_err-make_room-clause-costs
@@ -491,7 +453,7 @@ returns-in_err-make_room-clause-costs g c =
     let size : ℕ = d0.geometry.pages in
     let each : ℕ = 3 * size + 3 in
     let room = c.make_room.ensures in
-    let made : Costs (size + 1) each 0 d0 d1 = costs_each (size + 1) (size + 2) each d0 d1 (omega arith) room.moves.1.lasts room.costs in
+    let made : Costs (size + 1) each 0 d0 d1 = costs_each (size + 1) (size + 2) each d0 d1 (omega arith) room.step.lasts room.pays.pays.costs in
     let p = err_from_is_err_and c.from_residual.result c.from_residual.ensures.1 in
     rw p.1 (costs_more (size + 1) (count + size + 1) each d0 d1 (omega arith) made)
 
@@ -504,7 +466,7 @@ returns-then-next_group-ge-NUMBER_END-clause-costs g c =
     let size : ℕ = d0.geometry.pages in
     let each : ℕ = 3 * size + 3 in
     let room = c.make_room.ensures in
-    let made : Costs (size + 1) each 0 d0 d1 = costs_each (size + 1) (size + 2) each d0 d1 (omega arith) room.moves.1.lasts room.costs in
+    let made : Costs (size + 1) each 0 d0 d1 = costs_each (size + 1) (size + 2) each d0 d1 (omega arith) room.step.lasts room.pays.pays.costs in
     costs_more (size + 1) (count + size + 1) each d0 d1 (omega arith) made
 
 pub returns-in_err-write_buffered-clause-costs : goal.returns-in_err-write_buffered-clause-costs
@@ -516,7 +478,7 @@ returns-in_err-write_buffered-clause-costs g c =
     let size : ℕ = d0.geometry.pages in
     let each : ℕ = 3 * size + 3 in
     let room = c.make_room.ensures in
-    let made : Costs (size + 1) each 0 d0 d1 = costs_each (size + 1) (size + 2) each d0 d1 (omega arith) room.moves.1.lasts room.costs in
+    let made : Costs (size + 1) each 0 d0 d1 = costs_each (size + 1) (size + 2) each d0 d1 (omega arith) room.step.lasts room.pays.pays.costs in
     let d2 : Device = g.N.Nand.state c.write_buffered.new.device in
     let wrote : Costs (size + 1 + count) each 0 d0 d2 = costs_on (size + 1) count each d0 d1 d2 made (costs_changes count each d1 d2 c.write_buffered.ensures.lasts c.write_buffered.ensures.costs) in
     let all : Costs (count + size + 1) each 0 d0 d2 = costs_more (size + 1 + count) (count + size + 1) each d0 d2 (omega arith) wrote in
@@ -532,7 +494,7 @@ returns-in-Trusted-clause-costs g c =
     let size : ℕ = d0.geometry.pages in
     let each : ℕ = 3 * size + 3 in
     let room = c.make_room.ensures in
-    let made : Costs (size + 1) each 0 d0 d1 = costs_each (size + 1) (size + 2) each d0 d1 (omega arith) room.moves.1.lasts room.costs in
+    let made : Costs (size + 1) each 0 d0 d1 = costs_each (size + 1) (size + 2) each d0 d1 (omega arith) room.step.lasts room.pays.pays.costs in
     let d2 : Device = g.N.Nand.state c.write_buffered.new.device in
     let wrote : Costs (size + 1 + count) each 0 d0 d2 = costs_on (size + 1) count each d0 d1 d2 made (costs_changes count each d1 d2 c.write_buffered.ensures.lasts c.write_buffered.ensures.costs) in
     let all : Costs (count + size + 1) each 0 d0 d2 = costs_more (size + 1 + count) (count + size + 1) each d0 d2 (omega arith) wrote in
@@ -547,16 +509,16 @@ returns-in_err-retire-in-Suspect-clause-costs g c =
     let size : ℕ = d0.geometry.pages in
     let each : ℕ = 3 * size + 3 in
     let room = c.make_room.ensures in
-    let made : Costs (size + 1) each 0 d0 d1 = costs_each (size + 1) (size + 2) each d0 d1 (omega arith) room.moves.1.lasts room.costs in
+    let made : Costs (size + 1) each 0 d0 d1 = costs_each (size + 1) (size + 2) each d0 d1 (omega arith) room.step.lasts room.pays.pays.costs in
     let t1 : Table = table c.make_room.new.blocks in
     let d2 : Device = g.N.Nand.state c.write_buffered.new.device in
     let d3 : Device = g.N.Nand.state c.retire.new.device in
-    let same : d2.geometry ≡ d0.geometry = c.write_buffered.ensures.lasts.geometry ∙ room.moves.1.lasts.geometry in
-    let retired : Costs (size + 2) (size + 2) 0 d2 d3 = subst (λ (z : Geometry). Costs (z.pages + 2) (z.pages + 2) 0 d2 d3) same c.retire.ensures.costs in
-    let after : Costs (size + 2) each 0 d2 d3 = costs_each (size + 2) (size + 2) each d2 d3 (omega arith) c.retire.ensures.moves.lasts retired in
+    let same : d2.geometry ≡ d0.geometry = c.write_buffered.ensures.lasts.geometry ∙ room.step.lasts.geometry in
+    let retired : Costs (size + 2) (size + 2) 0 d2 d3 = subst (λ (z : Geometry). Costs (z.pages + 2) (z.pages + 2) 0 d2 d3) same c.retire.ensures.pays.costs in
+    let after : Costs (size + 2) each 0 d2 d3 = costs_each (size + 2) (size + 2) each d2 d3 (omega arith) c.retire.ensures.step.lasts retired in
     let bad = c.write_buffered.ensures.bad in
     let failed : d1.failures + 1 ≤ d2.failures = omega (arith, bad, (rw c.in-Suspect.is at c.in_ok-write_buffered.ensures).marks) in
-    let sized : t1.geometry ≡ d0.geometry = room.moves.1.ready.geometry ∙ room.moves.1.lasts.geometry in
+    let sized : t1.geometry ≡ d0.geometry = room.step.ready.geometry ∙ room.step.lasts.geometry in
     let most : t1.geometry.pages ≡ size = ap (λ (z : Geometry). z.pages) sized in
     let held : room_of t1 ≤ t1.geometry.pages = room_most t1 in
     let many = ap length c.pages.ensures in
@@ -574,16 +536,16 @@ returns-in_err-retire-in-Failed-clause-costs g c =
     let size : ℕ = d0.geometry.pages in
     let each : ℕ = 3 * size + 3 in
     let room = c.make_room.ensures in
-    let made : Costs (size + 1) each 0 d0 d1 = costs_each (size + 1) (size + 2) each d0 d1 (omega arith) room.moves.1.lasts room.costs in
+    let made : Costs (size + 1) each 0 d0 d1 = costs_each (size + 1) (size + 2) each d0 d1 (omega arith) room.step.lasts room.pays.pays.costs in
     let t1 : Table = table c.make_room.new.blocks in
     let d2 : Device = g.N.Nand.state c.write_buffered.new.device in
     let d3 : Device = g.N.Nand.state c.retire-in-Failed.new.device in
-    let same : d2.geometry ≡ d0.geometry = c.write_buffered.ensures.lasts.geometry ∙ room.moves.1.lasts.geometry in
-    let retired : Costs (size + 2) (size + 2) 0 d2 d3 = subst (λ (z : Geometry). Costs (z.pages + 2) (z.pages + 2) 0 d2 d3) same c.retire-in-Failed.ensures.costs in
-    let after : Costs (size + 2) each 0 d2 d3 = costs_each (size + 2) (size + 2) each d2 d3 (omega arith) c.retire-in-Failed.ensures.moves.lasts retired in
+    let same : d2.geometry ≡ d0.geometry = c.write_buffered.ensures.lasts.geometry ∙ room.step.lasts.geometry in
+    let retired : Costs (size + 2) (size + 2) 0 d2 d3 = subst (λ (z : Geometry). Costs (z.pages + 2) (z.pages + 2) 0 d2 d3) same c.retire-in-Failed.ensures.pays.costs in
+    let after : Costs (size + 2) each 0 d2 d3 = costs_each (size + 2) (size + 2) each d2 d3 (omega arith) c.retire-in-Failed.ensures.step.lasts retired in
     let bad = c.write_buffered.ensures.bad in
     let failed : d1.failures + 1 ≤ d2.failures = omega (arith, bad, (rw c.in-Failed.is at c.in_ok-write_buffered.ensures).marks) in
-    let sized : t1.geometry ≡ d0.geometry = room.moves.1.ready.geometry ∙ room.moves.1.lasts.geometry in
+    let sized : t1.geometry ≡ d0.geometry = room.step.ready.geometry ∙ room.step.lasts.geometry in
     let most : t1.geometry.pages ≡ size = ap (λ (z : Geometry). z.pages) sized in
     let held : room_of t1 ≤ t1.geometry.pages = room_most t1 in
     let many = ap length c.pages.ensures in
@@ -601,16 +563,16 @@ returns-in_ok-retire-in-Suspect-clause-costs g c =
     let size : ℕ = d0.geometry.pages in
     let each : ℕ = 3 * size + 3 in
     let room = c.make_room.ensures in
-    let made : Costs (size + 1) each 0 d0 d1 = costs_each (size + 1) (size + 2) each d0 d1 (omega arith) room.moves.1.lasts room.costs in
+    let made : Costs (size + 1) each 0 d0 d1 = costs_each (size + 1) (size + 2) each d0 d1 (omega arith) room.step.lasts room.pays.pays.costs in
     let t1 : Table = table c.make_room.new.blocks in
     let d2 : Device = g.N.Nand.state c.write_buffered.new.device in
     let d3 : Device = g.N.Nand.state c.retire.new.device in
-    let same : d2.geometry ≡ d0.geometry = c.write_buffered.ensures.lasts.geometry ∙ room.moves.1.lasts.geometry in
-    let retired : Costs (size + 2) (size + 2) 0 d2 d3 = subst (λ (z : Geometry). Costs (z.pages + 2) (z.pages + 2) 0 d2 d3) same c.retire.ensures.costs in
-    let after : Costs (size + 2) each 0 d2 d3 = costs_each (size + 2) (size + 2) each d2 d3 (omega arith) c.retire.ensures.moves.lasts retired in
+    let same : d2.geometry ≡ d0.geometry = c.write_buffered.ensures.lasts.geometry ∙ room.step.lasts.geometry in
+    let retired : Costs (size + 2) (size + 2) 0 d2 d3 = subst (λ (z : Geometry). Costs (z.pages + 2) (z.pages + 2) 0 d2 d3) same c.retire.ensures.pays.costs in
+    let after : Costs (size + 2) each 0 d2 d3 = costs_each (size + 2) (size + 2) each d2 d3 (omega arith) c.retire.ensures.step.lasts retired in
     let bad = c.write_buffered.ensures.bad in
     let failed : d1.failures + 1 ≤ d2.failures = omega (arith, bad, (rw c.in-Suspect.is at c.in_ok-write_buffered.ensures).marks) in
-    let sized : t1.geometry ≡ d0.geometry = room.moves.1.ready.geometry ∙ room.moves.1.lasts.geometry in
+    let sized : t1.geometry ≡ d0.geometry = room.step.ready.geometry ∙ room.step.lasts.geometry in
     let most : t1.geometry.pages ≡ size = ap (λ (z : Geometry). z.pages) sized in
     let held : room_of t1 ≤ t1.geometry.pages = room_most t1 in
     let many = ap length c.pages.ensures in
@@ -627,16 +589,16 @@ returns-in_ok-retire-in-Failed-clause-costs g c =
     let size : ℕ = d0.geometry.pages in
     let each : ℕ = 3 * size + 3 in
     let room = c.make_room.ensures in
-    let made : Costs (size + 1) each 0 d0 d1 = costs_each (size + 1) (size + 2) each d0 d1 (omega arith) room.moves.1.lasts room.costs in
+    let made : Costs (size + 1) each 0 d0 d1 = costs_each (size + 1) (size + 2) each d0 d1 (omega arith) room.step.lasts room.pays.pays.costs in
     let t1 : Table = table c.make_room.new.blocks in
     let d2 : Device = g.N.Nand.state c.write_buffered.new.device in
     let d3 : Device = g.N.Nand.state c.retire-in-Failed.new.device in
-    let same : d2.geometry ≡ d0.geometry = c.write_buffered.ensures.lasts.geometry ∙ room.moves.1.lasts.geometry in
-    let retired : Costs (size + 2) (size + 2) 0 d2 d3 = subst (λ (z : Geometry). Costs (z.pages + 2) (z.pages + 2) 0 d2 d3) same c.retire-in-Failed.ensures.costs in
-    let after : Costs (size + 2) each 0 d2 d3 = costs_each (size + 2) (size + 2) each d2 d3 (omega arith) c.retire-in-Failed.ensures.moves.lasts retired in
+    let same : d2.geometry ≡ d0.geometry = c.write_buffered.ensures.lasts.geometry ∙ room.step.lasts.geometry in
+    let retired : Costs (size + 2) (size + 2) 0 d2 d3 = subst (λ (z : Geometry). Costs (z.pages + 2) (z.pages + 2) 0 d2 d3) same c.retire-in-Failed.ensures.pays.costs in
+    let after : Costs (size + 2) each 0 d2 d3 = costs_each (size + 2) (size + 2) each d2 d3 (omega arith) c.retire-in-Failed.ensures.step.lasts retired in
     let bad = c.write_buffered.ensures.bad in
     let failed : d1.failures + 1 ≤ d2.failures = omega (arith, bad, (rw c.in-Failed.is at c.in_ok-write_buffered.ensures).marks) in
-    let sized : t1.geometry ≡ d0.geometry = room.moves.1.ready.geometry ∙ room.moves.1.lasts.geometry in
+    let sized : t1.geometry ≡ d0.geometry = room.step.ready.geometry ∙ room.step.lasts.geometry in
     let most : t1.geometry.pages ≡ size = ap (λ (z : Geometry). z.pages) sized in
     let held : room_of t1 ≤ t1.geometry.pages = room_most t1 in
     let many = ap length c.pages.ensures in
@@ -692,7 +654,7 @@ returns-in_err-retire-in-Suspect-clause-takes_none g c =
     let d3 : Device = g.N.Nand.state c.retire.new.device in
     let bad = c.write_buffered.ensures.bad in
     let failed : d1.failures + 1 ≤ d2.failures = omega (arith, bad, (rw c.in-Suspect.is at c.in_ok-write_buffered.ensures).marks) in
-    takes_none_failed (length (buffered c.args.buffer.now)) (table c.args.blocks.now) d0 d1 d2 d3 c.make_room.ensures.moves.1.lasts.failures failed c.retire.ensures.moves.lasts.failures
+    takes_none_failed (length (buffered c.args.buffer.now)) (table c.args.blocks.now) d0 d1 d2 d3 c.make_room.ensures.step.lasts.failures failed c.retire.ensures.step.lasts.failures
 
 pub returns-in_err-retire-in-Failed-clause-takes_none : goal.returns-in_err-retire-in-Failed-clause-takes_none
 returns-in_err-retire-in-Failed-clause-takes_none g c =
@@ -702,7 +664,7 @@ returns-in_err-retire-in-Failed-clause-takes_none g c =
     let d3 : Device = g.N.Nand.state c.retire-in-Failed.new.device in
     let bad = c.write_buffered.ensures.bad in
     let failed : d1.failures + 1 ≤ d2.failures = omega (arith, bad, (rw c.in-Failed.is at c.in_ok-write_buffered.ensures).marks) in
-    takes_none_failed (length (buffered c.args.buffer.now)) (table c.args.blocks.now) d0 d1 d2 d3 c.make_room.ensures.moves.1.lasts.failures failed c.retire-in-Failed.ensures.moves.lasts.failures
+    takes_none_failed (length (buffered c.args.buffer.now)) (table c.args.blocks.now) d0 d1 d2 d3 c.make_room.ensures.step.lasts.failures failed c.retire-in-Failed.ensures.step.lasts.failures
 
 pub returns-in_ok-retire-in-Suspect-clause-takes_none : goal.returns-in_ok-retire-in-Suspect-clause-takes_none
 returns-in_ok-retire-in-Suspect-clause-takes_none g c =
@@ -712,7 +674,7 @@ returns-in_ok-retire-in-Suspect-clause-takes_none g c =
     let d3 : Device = g.N.Nand.state c.retire.new.device in
     let bad = c.write_buffered.ensures.bad in
     let failed : d1.failures + 1 ≤ d2.failures = omega (arith, bad, (rw c.in-Suspect.is at c.in_ok-write_buffered.ensures).marks) in
-    takes_none_failed (length (buffered c.args.buffer.now)) (table c.args.blocks.now) d0 d1 d2 d3 c.make_room.ensures.moves.1.lasts.failures failed c.retire.ensures.moves.lasts.failures
+    takes_none_failed (length (buffered c.args.buffer.now)) (table c.args.blocks.now) d0 d1 d2 d3 c.make_room.ensures.step.lasts.failures failed c.retire.ensures.step.lasts.failures
 
 pub returns-in_ok-retire-in-Failed-clause-takes_none : goal.returns-in_ok-retire-in-Failed-clause-takes_none
 returns-in_ok-retire-in-Failed-clause-takes_none g c =
@@ -722,31 +684,31 @@ returns-in_ok-retire-in-Failed-clause-takes_none g c =
     let d3 : Device = g.N.Nand.state c.retire-in-Failed.new.device in
     let bad = c.write_buffered.ensures.bad in
     let failed : d1.failures + 1 ≤ d2.failures = omega (arith, bad, (rw c.in-Failed.is at c.in_ok-write_buffered.ensures).marks) in
-    takes_none_failed (length (buffered c.args.buffer.now)) (table c.args.blocks.now) d0 d1 d2 d3 c.make_room.ensures.moves.1.lasts.failures failed c.retire-in-Failed.ensures.moves.lasts.failures
+    takes_none_failed (length (buffered c.args.buffer.now)) (table c.args.blocks.now) d0 d1 d2 d3 c.make_room.ensures.step.lasts.failures failed c.retire-in-Failed.ensures.step.lasts.failures
 
 pub returns-in_err-make_room-clause-takes_one : goal.returns-in_err-make_room-clause-takes_one
 returns-in_err-make_room-clause-takes_one g c =
     let d0 : Device = g.N.Nand.state c.args.device.now in
     let d1 : Device = g.N.Nand.state c.make_room.new.device in
-    takes_one_written (length (buffered c.args.buffer.now)) c.args.spare (table c.args.blocks.now) d0 d1 d1 c.make_room.ensures.takes c.make_room.ensures.moves.1.lasts.failures (omega arith) (omega arith)
+    takes_one_written (length (buffered c.args.buffer.now)) c.args.spare (table c.args.blocks.now) d0 d1 d1 c.make_room.ensures.pays.takes c.make_room.ensures.step.lasts.failures (omega arith) (omega arith)
 
 pub returns-then-next_group-ge-NUMBER_END-clause-takes_one : goal.returns-then-next_group-ge-NUMBER_END-clause-takes_one
 returns-then-next_group-ge-NUMBER_END-clause-takes_one g c =
     let d0 : Device = g.N.Nand.state c.args.device.now in
     let d1 : Device = g.N.Nand.state c.make_room.new.device in
-    takes_one_written (length (buffered c.args.buffer.now)) c.args.spare (table c.args.blocks.now) d0 d1 d1 c.make_room.ensures.takes c.make_room.ensures.moves.1.lasts.failures (omega arith) (omega arith)
+    takes_one_written (length (buffered c.args.buffer.now)) c.args.spare (table c.args.blocks.now) d0 d1 d1 c.make_room.ensures.pays.takes c.make_room.ensures.step.lasts.failures (omega arith) (omega arith)
 
 pub returns-in_err-write_buffered-clause-takes_one : goal.returns-in_err-write_buffered-clause-takes_one
 returns-in_err-write_buffered-clause-takes_one g c =
     let d0 : Device = g.N.Nand.state c.args.device.now in
     let d1 : Device = g.N.Nand.state c.make_room.new.device in
-    takes_one_written (length (buffered c.args.buffer.now)) c.args.spare (table c.args.blocks.now) d0 d1 (g.N.Nand.state c.write_buffered.new.device) c.make_room.ensures.takes c.make_room.ensures.moves.1.lasts.failures c.write_buffered.ensures.lasts.failures c.write_buffered.ensures.costs
+    takes_one_written (length (buffered c.args.buffer.now)) c.args.spare (table c.args.blocks.now) d0 d1 (g.N.Nand.state c.write_buffered.new.device) c.make_room.ensures.pays.takes c.make_room.ensures.step.lasts.failures c.write_buffered.ensures.lasts.failures c.write_buffered.ensures.costs
 
 pub returns-in-Trusted-clause-takes_one : goal.returns-in-Trusted-clause-takes_one
 returns-in-Trusted-clause-takes_one g c =
     let d0 : Device = g.N.Nand.state c.args.device.now in
     let d1 : Device = g.N.Nand.state c.make_room.new.device in
-    takes_one_written (length (buffered c.args.buffer.now)) c.args.spare (table c.args.blocks.now) d0 d1 (g.N.Nand.state c.write_buffered.new.device) c.make_room.ensures.takes c.make_room.ensures.moves.1.lasts.failures c.write_buffered.ensures.lasts.failures c.write_buffered.ensures.costs
+    takes_one_written (length (buffered c.args.buffer.now)) c.args.spare (table c.args.blocks.now) d0 d1 (g.N.Nand.state c.write_buffered.new.device) c.make_room.ensures.pays.takes c.make_room.ensures.step.lasts.failures c.write_buffered.ensures.lasts.failures c.write_buffered.ensures.costs
 
 pub returns-in_err-retire-in-Suspect-clause-takes_one : goal.returns-in_err-retire-in-Suspect-clause-takes_one
 returns-in_err-retire-in-Suspect-clause-takes_one g c =
@@ -756,7 +718,7 @@ returns-in_err-retire-in-Suspect-clause-takes_one g c =
     let d3 : Device = g.N.Nand.state c.retire.new.device in
     let bad = c.write_buffered.ensures.bad in
     let failed : d1.failures + 1 ≤ d2.failures = omega (arith, bad, (rw c.in-Suspect.is at c.in_ok-write_buffered.ensures).marks) in
-    takes_one_failed (length (buffered c.args.buffer.now)) c.args.spare (table c.args.blocks.now) d0 d1 d2 d3 c.make_room.ensures.moves.1.lasts.failures failed c.retire.ensures.moves.lasts.failures
+    takes_one_failed (length (buffered c.args.buffer.now)) c.args.spare (table c.args.blocks.now) d0 d1 d2 d3 c.make_room.ensures.step.lasts.failures failed c.retire.ensures.step.lasts.failures
 
 pub returns-in_err-retire-in-Failed-clause-takes_one : goal.returns-in_err-retire-in-Failed-clause-takes_one
 returns-in_err-retire-in-Failed-clause-takes_one g c =
@@ -766,7 +728,7 @@ returns-in_err-retire-in-Failed-clause-takes_one g c =
     let d3 : Device = g.N.Nand.state c.retire-in-Failed.new.device in
     let bad = c.write_buffered.ensures.bad in
     let failed : d1.failures + 1 ≤ d2.failures = omega (arith, bad, (rw c.in-Failed.is at c.in_ok-write_buffered.ensures).marks) in
-    takes_one_failed (length (buffered c.args.buffer.now)) c.args.spare (table c.args.blocks.now) d0 d1 d2 d3 c.make_room.ensures.moves.1.lasts.failures failed c.retire-in-Failed.ensures.moves.lasts.failures
+    takes_one_failed (length (buffered c.args.buffer.now)) c.args.spare (table c.args.blocks.now) d0 d1 d2 d3 c.make_room.ensures.step.lasts.failures failed c.retire-in-Failed.ensures.step.lasts.failures
 
 pub returns-in_ok-retire-in-Suspect-clause-takes_one : goal.returns-in_ok-retire-in-Suspect-clause-takes_one
 returns-in_ok-retire-in-Suspect-clause-takes_one g c =
@@ -776,7 +738,7 @@ returns-in_ok-retire-in-Suspect-clause-takes_one g c =
     let d3 : Device = g.N.Nand.state c.retire.new.device in
     let bad = c.write_buffered.ensures.bad in
     let failed : d1.failures + 1 ≤ d2.failures = omega (arith, bad, (rw c.in-Suspect.is at c.in_ok-write_buffered.ensures).marks) in
-    takes_one_failed (length (buffered c.args.buffer.now)) c.args.spare (table c.args.blocks.now) d0 d1 d2 d3 c.make_room.ensures.moves.1.lasts.failures failed c.retire.ensures.moves.lasts.failures
+    takes_one_failed (length (buffered c.args.buffer.now)) c.args.spare (table c.args.blocks.now) d0 d1 d2 d3 c.make_room.ensures.step.lasts.failures failed c.retire.ensures.step.lasts.failures
 
 pub returns-in_ok-retire-in-Failed-clause-takes_one : goal.returns-in_ok-retire-in-Failed-clause-takes_one
 returns-in_ok-retire-in-Failed-clause-takes_one g c =
@@ -786,16 +748,16 @@ returns-in_ok-retire-in-Failed-clause-takes_one g c =
     let d3 : Device = g.N.Nand.state c.retire-in-Failed.new.device in
     let bad = c.write_buffered.ensures.bad in
     let failed : d1.failures + 1 ≤ d2.failures = omega (arith, bad, (rw c.in-Failed.is at c.in_ok-write_buffered.ensures).marks) in
-    takes_one_failed (length (buffered c.args.buffer.now)) c.args.spare (table c.args.blocks.now) d0 d1 d2 d3 c.make_room.ensures.moves.1.lasts.failures failed c.retire-in-Failed.ensures.moves.lasts.failures
+    takes_one_failed (length (buffered c.args.buffer.now)) c.args.spare (table c.args.blocks.now) d0 d1 d2 d3 c.make_room.ensures.step.lasts.failures failed c.retire-in-Failed.ensures.step.lasts.failures
 
 pub returns-in-Trusted-clause-answers : goal.returns-in-Trusted-clause-answers
-returns-in-Trusted-clause-answers g c = omega (arith, c.in_ok-make_room.ensures.answers, (rw c.in-Trusted.is at c.in_ok-write_buffered.ensures).answers)
+returns-in-Trusted-clause-answers g c = omega (arith, c.in_ok-make_room.ensures.pays.pays.answers, (rw c.in-Trusted.is at c.in_ok-write_buffered.ensures).answers)
 
 pub returns-in_ok-retire-in-Suspect-clause-answers : goal.returns-in_ok-retire-in-Suspect-clause-answers
-returns-in_ok-retire-in-Suspect-clause-answers g c = omega (arith, c.in_ok-make_room.ensures.answers, (rw c.in-Suspect.is at c.in_ok-write_buffered.ensures).answers, c.in_ok-retire-in-Suspect.ensures.answers)
+returns-in_ok-retire-in-Suspect-clause-answers g c = omega (arith, c.in_ok-make_room.ensures.pays.pays.answers, (rw c.in-Suspect.is at c.in_ok-write_buffered.ensures).answers, c.in_ok-retire-in-Suspect.ensures.pays.answers)
 
 pub returns-in_ok-retire-in-Failed-clause-answers : goal.returns-in_ok-retire-in-Failed-clause-answers
-returns-in_ok-retire-in-Failed-clause-answers g c = omega (arith, c.in_ok-make_room.ensures.answers, (rw c.in-Failed.is at c.in_ok-write_buffered.ensures).answers, c.in_ok-retire-in-Failed.ensures.answers)
+returns-in_ok-retire-in-Failed-clause-answers g c = omega (arith, c.in_ok-make_room.ensures.pays.pays.answers, (rw c.in-Failed.is at c.in_ok-write_buffered.ensures).answers, c.in_ok-retire-in-Failed.ensures.pays.answers)
 
 pub returns-in-Trusted-clause-keeps_open : goal.returns-in-Trusted-clause-keeps_open
 returns-in-Trusted-clause-keeps_open g c =
@@ -814,7 +776,7 @@ returns-in_ok-retire-in-Suspect-clause-keeps_open g c =
     let d3 : Device = g.N.Nand.state c.retire.new.device in
     let bad = c.write_buffered.ensures.bad in
     let failed : d1.failures + 1 ≤ d2.failures = omega (arith, bad, (rw c.in-Suspect.is at c.in_ok-write_buffered.ensures).marks) in
-    keeps_open_failed (length (buffered c.args.buffer.now)) (table c.args.blocks.now) (table c.retire.new.blocks) d0 d1 d2 d3 c.make_room.ensures.moves.1.lasts.failures failed c.retire.ensures.moves.lasts.failures
+    keeps_open_failed (length (buffered c.args.buffer.now)) (table c.args.blocks.now) (table c.retire.new.blocks) d0 d1 d2 d3 c.make_room.ensures.step.lasts.failures failed c.retire.ensures.step.lasts.failures
 
 pub returns-in_ok-retire-in-Failed-clause-keeps_open : goal.returns-in_ok-retire-in-Failed-clause-keeps_open
 returns-in_ok-retire-in-Failed-clause-keeps_open g c =
@@ -824,7 +786,7 @@ returns-in_ok-retire-in-Failed-clause-keeps_open g c =
     let d3 : Device = g.N.Nand.state c.retire-in-Failed.new.device in
     let bad = c.write_buffered.ensures.bad in
     let failed : d1.failures + 1 ≤ d2.failures = omega (arith, bad, (rw c.in-Failed.is at c.in_ok-write_buffered.ensures).marks) in
-    keeps_open_failed (length (buffered c.args.buffer.now)) (table c.args.blocks.now) (table c.retire-in-Failed.new.blocks) d0 d1 d2 d3 c.make_room.ensures.moves.1.lasts.failures failed c.retire-in-Failed.ensures.moves.lasts.failures
+    keeps_open_failed (length (buffered c.args.buffer.now)) (table c.args.blocks.now) (table c.retire-in-Failed.new.blocks) d0 d1 d2 d3 c.make_room.ensures.step.lasts.failures failed c.retire-in-Failed.ensures.step.lasts.failures
 
 pub returns-in_err-make_room-clause-unhindered : goal.returns-in_err-make_room-clause-unhindered
 returns-in_err-make_room-clause-unhindered g c = λ h.
@@ -853,7 +815,7 @@ returns-in_err-write_buffered-clause-unhindered g c = λ h.
     let room = c.make_room.ensures in
     let free : HasFreeBlocks t1 c.args.spare = c.in_ok-make_room.ensures.ends.free c.requires.free in
     absurd (attempt_hindered (length (buffered c.args.buffer.now)) c.args.spare d0 d1 d2 t0 t1 t2 x1 x2 c.args.buffer.now c.write_buffered.new.buffer c.in_err-write_buffered.field-0.0
-    (c.in_err-write_buffered.ensures.ends c.args.spare room.stands free) (c.write_buffered.ensures.lasts.honest ∙ room.moves.1.lasts.honest) h)
+    (c.in_err-write_buffered.ensures.ends c.args.spare room.step.stands free) (c.write_buffered.ensures.lasts.honest ∙ room.step.lasts.honest) h)
 
 pub returns-in_err-retire-in-Suspect-clause-unhindered : goal.returns-in_err-retire-in-Suspect-clause-unhindered
 returns-in_err-retire-in-Suspect-clause-unhindered g c = λ h.
@@ -863,7 +825,7 @@ returns-in_err-retire-in-Suspect-clause-unhindered g c = λ h.
     let d3 : Device = g.N.Nand.state c.retire.new.device in
     let bad = c.write_buffered.ensures.bad in
     let failed : d1.failures + 1 ≤ d2.failures = omega (arith, bad, (rw c.in-Suspect.is at c.in_ok-write_buffered.ensures).marks) in
-    absurd (failed_hindered (length (buffered c.args.buffer.now)) (table c.args.blocks.now) d0 d1 d2 d3 c.make_room.ensures.moves.1.lasts.failures failed c.retire.ensures.moves.lasts.failures h)
+    absurd (failed_hindered (length (buffered c.args.buffer.now)) (table c.args.blocks.now) d0 d1 d2 d3 c.make_room.ensures.step.lasts.failures failed c.retire.ensures.step.lasts.failures h)
 
 pub returns-in_err-retire-in-Failed-clause-unhindered : goal.returns-in_err-retire-in-Failed-clause-unhindered
 returns-in_err-retire-in-Failed-clause-unhindered g c = λ h.
@@ -873,7 +835,7 @@ returns-in_err-retire-in-Failed-clause-unhindered g c = λ h.
     let d3 : Device = g.N.Nand.state c.retire-in-Failed.new.device in
     let bad = c.write_buffered.ensures.bad in
     let failed : d1.failures + 1 ≤ d2.failures = omega (arith, bad, (rw c.in-Failed.is at c.in_ok-write_buffered.ensures).marks) in
-    absurd (failed_hindered (length (buffered c.args.buffer.now)) (table c.args.blocks.now) d0 d1 d2 d3 c.make_room.ensures.moves.1.lasts.failures failed c.retire-in-Failed.ensures.moves.lasts.failures h)
+    absurd (failed_hindered (length (buffered c.args.buffer.now)) (table c.args.blocks.now) d0 d1 d2 d3 c.make_room.ensures.step.lasts.failures failed c.retire-in-Failed.ensures.step.lasts.failures h)
 
 pub retire-requires-clause-none : goal.retire-requires-clause-none
 retire-requires-clause-none g c =
@@ -881,8 +843,8 @@ retire-requires-clause-none g c =
     let t1 : Table = table c.make_room.new.blocks in
     let room = c.make_room.ensures in
     let made = c.in_ok-make_room.ensures.ends in
-    let none = none_with_room (length (buffered c.args.buffer.now)) d1 t1 room.moves.1.ready c.requires.some (search rules) in
-    none_after d1 _ t1.checkpoint _ (c.write_buffered.ensures.leaves c.args.spare room.stands (made.free c.requires.free)).numbers.truth none
+    let none = none_with_room (length (buffered c.args.buffer.now)) d1 t1 room.step.ready c.requires.some (search rules) in
+    none_after d1 _ t1.checkpoint _ (c.write_buffered.ensures.leaves c.args.spare room.step.stands (made.free c.requires.free)).numbers.truth none
 
 pub retire-requires-in-Failed-clause-none : goal.retire-requires-in-Failed-clause-none
 retire-requires-in-Failed-clause-none g c =
@@ -890,9 +852,9 @@ retire-requires-in-Failed-clause-none g c =
     let t1 : Table = table c.make_room.new.blocks in
     let room = c.make_room.ensures in
     let made = c.in_ok-make_room.ensures.ends in
-    let none = none_with_room (length (buffered c.args.buffer.now)) d1 t1 room.moves.1.ready c.requires.some (search rules) in
-    none_after d1 _ t1.checkpoint _ (c.write_buffered.ensures.leaves c.args.spare room.stands (made.free c.requires.free)).numbers.truth none
+    let none = none_with_room (length (buffered c.args.buffer.now)) d1 t1 room.step.ready c.requires.some (search rules) in
+    none_after d1 _ t1.checkpoint _ (c.write_buffered.ensures.leaves c.args.spare room.step.stands (made.free c.requires.free)).numbers.truth none
 
 pub write_buffered-requires-clause-pages : goal.write_buffered-requires-clause-pages
 write_buffered-requires-clause-pages g c =
-    writable_on (g.N.Nand.state c.args.device.now) (g.N.Nand.state c.make_room.new.device) (buffered c.args.buffer.now) c.make_room.ensures.moves.1.lasts c.requires.pages
+    writable_on (g.N.Nand.state c.args.device.now) (g.N.Nand.state c.make_room.new.device) (buffered c.args.buffer.now) c.make_room.ensures.step.lasts c.requires.pages

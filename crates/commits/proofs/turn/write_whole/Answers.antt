@@ -12,13 +12,15 @@ use Rattle.chunk_index.specs.declared.index.Index.{Index}
 use Rattle.page_buffer.specs.BufferOf.{buffered}
 use Rattle.collector.specs.Making.{WhyNoRoom}
 use Rattle.commits.specs.Keeping.{Leaves}
-use Rattle.commits.proofs.Turning.{answered_after, keeps_here, keeps_on, leaves_on, whole_after, why_before}
+use Rattle.bad_blocks.specs.laws.Steps.{step_none, step_on}
+use Rattle.transactions.specs.Checking.{log_of}
+use Rattle.commits.proofs.Turning.{answered_after, leaves_on, whole_after, why_before}
 use Rattle.commits.proofs.Staying.{keeps_open_turn, unhindered_turn}
 use Rattle.commits.proofs.turn.write_whole.Goals as goal
 
 pub loop-init : goal.loop-init
 loop-init g c = record {
-  keeps = keeps_here c.args.spare (g.N.Nand.state c.args.device.now) (table c.args.blocks.now) c.args.index.now c.requires.ready c.requires.stands;
+  keeps = step_none c.args.spare (g.N.Nand.state c.args.device.now) (table c.args.blocks.now) c.args.index.now c.requires.can.ready c.requires.can.stands;
   buffers = c.requires.buffers;
   same = refl;
   marks = omega arith;
@@ -26,7 +28,7 @@ loop-init g c = record {
   costs = costs_none (3 * (g.N.Nand.state c.args.device.now).geometry.pages + 3) (g.N.Nand.state c.args.device.now);
   reads = omega arith;
   first = λ _. (refl, refl);
-  few = c.requires.few;
+  few = c.requires.can.few;
   free = c.requires.free;
   room = c.requires.room;
   sizes = record { most = refl; bytes = refl };
@@ -46,7 +48,7 @@ returns-in_err-take_turn-clause-leaves g c =
     let pages : List FreshPage = buffered c.args.buffer.now in
     let rest : List FreshPage = buffered c.take_turn.new.buffer in
     let so_far = c.loop.invariant in
-    leaves_on c.args.spare d0 d e t0 t u x0 x y pages c.requires.stands so_far.keeps rest (subst (λ (ps : List FreshPage). Leaves c.args.spare d e t u x y ps rest) so_far.same c.take_turn.ensures.leaves)
+    leaves_on c.args.spare d0 d e t0 t u x0 x y pages c.requires.can.stands so_far.keeps rest (subst (λ (ps : List FreshPage). Leaves c.args.spare d e t u x y ps rest) so_far.same c.take_turn.ensures.leaves)
 
 pub returns-in-Written-clause-leaves : goal.returns-in-Written-clause-leaves
 returns-in-Written-clause-leaves g c =
@@ -62,7 +64,7 @@ returns-in-Written-clause-leaves g c =
     let pages : List FreshPage = buffered c.args.buffer.now in
     let rest : List FreshPage = buffered c.take_turn.new.buffer in
     let so_far = c.loop.invariant in
-    leaves_on c.args.spare d0 d e t0 t u x0 x y pages c.requires.stands so_far.keeps rest (subst (λ (ps : List FreshPage). Leaves c.args.spare d e t u x y ps rest) so_far.same c.take_turn.ensures.leaves)
+    leaves_on c.args.spare d0 d e t0 t u x0 x y pages c.requires.can.stands so_far.keeps rest (subst (λ (ps : List FreshPage). Leaves c.args.spare d e t u x y ps rest) so_far.same c.take_turn.ensures.leaves)
 
 pub returns-in-Written-clause-ends : goal.returns-in-Written-clause-ends
 returns-in-Written-clause-ends g c =
@@ -79,7 +81,7 @@ returns-in-Written-clause-ends g c =
     let rest : List FreshPage = buffered c.take_turn.new.buffer in
     let so_far = c.loop.invariant in
     let done = rw c.in-Written.is at c.in_ok-take_turn.ensures in
-    (whole_after c.args.spare d0 d e t0 t u x0 x y c.args.buffer.now c.loop.buffer c.take_turn.new.buffer c.requires.stands so_far.keeps so_far.same done.ends.0, done.ends.1, answered_after c.args.spare d0 d e t0 t u x0 x so_far.keeps done.ends.2)
+    (whole_after c.args.spare d0 d e t0 t u x0 x y c.args.buffer.now c.loop.buffer c.take_turn.new.buffer c.requires.can.stands so_far.keeps so_far.same done.ends.0, done.ends.1, answered_after c.args.spare d0 d e t0 t u x0 x so_far.keeps done.ends.2)
 
 pub returns-in_err-take_turn-clause-ends : goal.returns-in_err-take_turn-clause-ends
 returns-in_err-take_turn-clause-ends g c =
@@ -116,7 +118,7 @@ loop-preserved g c =
     let so_far = c.loop.invariant in
     let again = rw c.in-Again.is at c.in_ok-take_turn.ensures in
     record {
-      keeps = keeps_on c.args.spare d0 d e t0 t u x0 x y so_far.keeps again.ends.0.keeps;
+      keeps = step_on c.args.spare (log_of d0 t0) (log_of d t) (log_of e u) x0 x y so_far.keeps again.ends.0.keeps;
       buffers = again.leaves.buffers;
       same = again.ends.0.buffered_still ∙ so_far.same;
       marks = omega (arith, so_far.marks, again.marks);

@@ -7,13 +7,14 @@ use Rattle.nand_model.specs.Counts.{Costs, ReadsFew}
 use Rattle.bad_blocks.specs.Moving.{AnswersFailures, MarksFailures}
 use Rattle.bad_blocks.specs.Room.{IsRoomFor}
 use Rattle.bad_blocks.specs.Standing.{HasFreeBlocks}
-use Rattle.commits.specs.Committing.{SameSizes}
-use Rattle.commits.specs.Keeping.{Keeps}
+use Rattle.commits.specs.Keeping.{SameSizes}
+use Rattle.transactions.specs.Checking.{log_of}
+use Rattle.bad_blocks.specs.Steps.{Step}
 use Rattle.commits.proofs.turn.write_whole.Given as goal
 
 abbrev pub invariant-loop : goal.invariant-loop
 invariant-loop g l = record {
-  keeps : Keeps l.spare (g.N.Nand.state l.fn.device) (g.N.Nand.state l.device) (table l.fn.blocks) (table l.blocks) l.fn.index l.index;
+  keeps : Step l.spare (log_of (g.N.Nand.state l.fn.device) (table l.fn.blocks)) (log_of (g.N.Nand.state l.device) (table l.blocks)) l.fn.index l.index;
   buffers : Buffers l.index (buffered l.buffer);
   same : buffered l.buffer ≡ buffered l.fn.buffer;
   marks : MarksFailures 0 0 (g.N.Nand.state l.fn.device) (g.N.Nand.state l.device) (table l.fn.blocks) (table l.blocks);

@@ -25,25 +25,25 @@ invariant_of-self g c =
     let new = g.N.Nand.state c.commit.new.device in
     let y = c.commit.new.index in
     let empty : buffered c.keep_written.new.buffer ≡ [] = k.pages ∙ done.empty in
-    let bytes = ap (λ (z : Geometry). z.bytes) w.lasts.geometry in
+    let bytes = ap (λ (z : Geometry). z.bytes) w.log.lasts.geometry in
     record {
-      ready = w.ready;
-      stands = w.stands;
+      ready = w.log.ready;
+      stands = w.log.stands;
       room_size = w.room;
-      buffers = subst (Buffers y) (sym k.pages) w.buffers;
+      buffers = subst (Buffers y) (sym k.pages) w.buffer.buffers;
       objects = λ _ i p is. absurd (let two : None ≡ Some p = sym (ap (λ (l : List FreshPage). slice_get l i) empty) ∙ is in cc);
-      most = k.buffer_sizes.0 ∙ w.sizes.most ∙ self.most ∙ ap (λ (z : Geometry). z.pages / 4) (sym w.lasts.geometry);
+      most = k.buffer_sizes.0 ∙ w.buffer.sizes.most ∙ self.most ∙ ap (λ (z : Geometry). z.pages / 4) (sym w.log.lasts.geometry);
       size = self.size ∙ sym bytes;
-      buffer_size = k.buffer_sizes.1 ∙ w.sizes.bytes ∙ self.buffer_size ∙ sym bytes;
+      buffer_size = k.buffer_sizes.1 ∙ w.buffer.sizes.bytes ∙ self.buffer_size ∙ sym bytes;
       cache_size = k.sizes.page_bytes ∙ self.cache_size ∙ sym bytes;
       place = λ i is. absurd (let two : places.Nowhere ≡ places.Buffered i = is in cc);
       few = λ _. done.few;
       free = λ _. done.free;
       newest = λ whole honest.
-          let before = sym w.lasts.honest ∙ honest in
-          newest_committed (buffered self.buffer) old new self.index y w.no_call w.no_move (self.newest whole before) done.power (w.stands.newest honest);
+          let before = sym w.log.lasts.honest ∙ honest in
+          newest_committed (buffered self.buffer) old new self.index y (λ none. (w.nothing none).device) (λ none. (w.nothing none).kept) (self.newest whole before) done.power (w.log.stands.newest honest);
       shown = λ whole honest.
-          let before = sym w.lasts.honest ∙ honest in
+          let before = sym w.log.lasts.honest ∙ honest in
           let m = present_data y (buffered c.commit.new.buffer) new.flash in
           let shows : Shows self.cache m = λ o l xs is. done.present before o l ∙ self.shown whole before o l xs is in
           let are : AreIn (last_written c.commit.new.buffer) m = λ i p is. done.present before p.key.object p.key.chunk
@@ -57,6 +57,9 @@ returns-in-Err-clause-carried g c = λ whole honest.
     let d = g.N.Nand.state self.device in
     let carried = kept_is_carried self.spare d (table self.blocks) self.index c.the_counts_are_of_the_keys.ensures.none self.ready self.stands.tables (self.newest whole honest) in
     either_known d.honest (g.N.Nand.state c.commit.new.device) self.spare (kept_data self.index d.flash) (present_data self.index (buffered self.buffer) d.flash) (c.commit.ensures.newest honest carried)
+
+pub commit-requires-clause-can : goal.commit-requires-clause-can
+commit-requires-clause-can g c = let self = c.args.self.now in record { ready = self.ready; stands = self.stands; few = self.few c.if-self.false }
 
 pub commit-requires-clause-pages : goal.commit-requires-clause-pages
 commit-requires-clause-pages g c = let self = c.args.self.now in writable (g.N.Nand.state self.device) self.buffer (self.objects c.if-self.false) self.buffer_size
@@ -82,11 +85,11 @@ returns-then-self-clause-costs g c = let self = c.args.self.now in costs_still _
 
 pub returns-in-Err-clause-unhindered : goal.returns-in-Err-clause-unhindered
 returns-in-Err-clause-unhindered g c = λ whole why. elim why [
-  | inl none ↦ let two : false ≡ true = c.in-Err.ensures.nothing none in absurd cc
+  | inl none ↦ let two : false ≡ true = (c.in-Err.ensures.nothing none).done in absurd cc
   | inr is ↦ let two : false ≡ true = c.in-Err.ensures.unhindered is in absurd cc
 ]
 
 pub returns-in-Ok-clause-power : goal.returns-in-Ok-clause-power
 returns-in-Ok-clause-power g c =
     let self = c.args.self.now in
-    committed_power (g.N.Nand.state self.device) (g.N.Nand.state c.commit.new.device) (buffered self.buffer) c.commit.ensures.lasts c.commit.ensures.no_call c.in-Ok.ensures.ends.power
+    committed_power (g.N.Nand.state self.device) (g.N.Nand.state c.commit.new.device) (buffered self.buffer) c.commit.ensures.log.lasts (λ none. (c.commit.ensures.nothing none).device) c.in-Ok.ensures.ends.power

@@ -155,12 +155,12 @@ int flash_fs_unmount(struct flash_fs *fs);
 /* Ends the mount and writes nothing, as if power were lost. Nothing is done to a volume that is not mounted. */
 void flash_fs_abandon(struct flash_fs *fs);
 
-/* Whether the volume can only be read: 1, or 0. It is so from the mount on where the device is worn out. Errors: EINVAL not
- * mounted.
+/* Whether the volume can only be read: 1, or 0; FLASH_EINVAL where it is not mounted. It is so from the mount on where the
+ * device is worn out.
  */
 int flash_fs_read_only(struct flash_fs *fs);
 
-/* Whether the volume has stopped, and returns FLASH_EIO to each call: 1, or 0. Errors: EINVAL not mounted. */
+/* Whether the volume has stopped, and returns FLASH_EIO to each call: 1, or 0; FLASH_EINVAL where it is not mounted. */
 int flash_fs_stopped(struct flash_fs *fs);
 
 /* ---- Directories and names ---- */

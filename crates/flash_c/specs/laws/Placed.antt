@@ -1,4 +1,4 @@
--- What a read at an offset leaves: the state that was.
+-- What reads and writes at an offset leave, by the profile's steps.
 use Rattle.std.specs.Prelude.{◌≡◌, ◌≤◌, ℕ, ◌+◌, Bool, true, false, not, nat_lt, List, [], ◌∷◌, length, take, drop, Option, Some, None, if◌then◌else◌, pos, ◌+ℤ◌}
 use Rattle.std.proofs.Common.{refl, sym, ◌∙◌, ap, subst, inl, inr, le-ltb, arith}
 use Rattle.std.proofs.lemmas.Bool.{cases_eq}
@@ -54,6 +54,20 @@ seek_there z read_only s fd n moment h bytes is file few =
     sym (passed_all s (answer (with_offset s fd h n) (replies.At n)) ∙ passed s (nat_lt offset_limit n) errors.EOVERFLOW [] _ (le-ltb offset_limit n few)
     ∙ ap (seek_to s fd h) (sym sum) ∙ this_file s errors.EINVAL there h.object (moment, bytes, file) _ file ∙ this_handle s _ _ h (sym is))
 
+-- a seek by nothing from where the descriptor is
+seek_here : (z : Sizes) (read_only : Bool) (s : State) (fd moment : ℕ) (h : Handle) (bytes : List ℕ) → map.get s.handles fd ≡ Some h
+    → map.get s.objects h.object ≡ Some (File moment bytes) → h.offset ≤ offset_limit
+    → step z read_only s (at 0 (commands.Seek fd (pos 0) origins.Cur)) ≡ answer s (replies.At h.offset)
+unfolding Rattle.posix_profile.specs.Steps.step_at
+seek_here z read_only s fd moment h bytes is file kept =
+    let there : List ℕ → Outcome = λ found. seek_to s fd h (pos h.offset +ℤ pos 0) in
+    let zero : h.offset + 0 ≡ h.offset = omega arith in
+    let sum : pos h.offset +ℤ pos 0 ≡ pos h.offset = ap pos zero in
+    let same : with_offset s fd h h.offset ≡ s = ap (λ (hs : Handles). record s { handles = hs }) (put_same s.handles fd h is) in
+    sym (ap (λ (t : State). answer t (replies.At h.offset)) (sym same) ∙ passed_all s (answer (with_offset s fd h h.offset) (replies.At h.offset))
+    ∙ passed s (nat_lt offset_limit h.offset) errors.EOVERFLOW [] _ (le-ltb offset_limit h.offset kept) ∙ ap (seek_to s fd h) (sym sum)
+    ∙ this_file s errors.EINVAL there h.object (moment, bytes, file) _ file ∙ this_handle s _ _ h (sym is))
+
 -- a read of a file
 read_there : (z : Sizes) (read_only : Bool) (s : State) (fd count moment : ℕ) (h : Handle) (bytes : List ℕ) → map.get s.handles fd ≡ Some h
     → may_read h.flags.access ≡ true → map.get s.objects h.object ≡ Some (File moment bytes)
@@ -74,7 +88,9 @@ ReadsInPlace = (z : Sizes) (read_only : Bool) (s : State) (fd n count moment : �
     → handle.offset ≤ offset_limit → n ≤ offset_limit
     → let there = (step z read_only s (at 0 (commands.Seek fd (pos n) origins.Set))).state in
     let read = step z read_only there (at 0 (commands.Read fd count)) in
-    (read.reply ≡ replies.Data (take count (drop n bytes)))
+    (step z read_only s (at 0 (commands.Read fd 0)) ≡ answer s (replies.Data []))
+    × (step z read_only s (at 0 (commands.Seek fd (pos 0) origins.Cur)) ≡ answer s (replies.At handle.offset))
+    × (read.reply ≡ replies.Data (take count (drop n bytes)))
     × ((step z read_only read.state (at 0 (commands.Seek fd (pos handle.offset) origins.Set))).state ≡ s)
 
 pub read_in_place : ReadsInPlace
@@ -86,7 +102,11 @@ read_in_place z read_only s fd n count moment handle bytes is may file kept few 
     let seek = ap (λ (o : Outcome). o.state) (seek_there z read_only s fd n moment handle bytes is file few) in
     let read = ap (λ (t : State). step z read_only t (at 0 (commands.Read fd count))) seek
     ∙ read_there z read_only there fd count moment (record handle { offset = n }) bytes (here s.handles fd (record handle { offset = n })) may file in
-    let back = seek_there z read_only left fd handle.offset moment (record handle { offset = m }) bytes (here there.handles fd (record handle { offset = m })) file kept in (
+    let back = seek_there z read_only left fd handle.offset moment (record handle { offset = m }) bytes (here there.handles fd (record handle { offset = m })) file kept in
+    let zero : handle.offset + 0 ≡ handle.offset = omega arith in
+    let same : with_offset s fd handle handle.offset ≡ s = ap (λ (hs : Handles). record s { handles = hs }) (put_same s.handles fd handle is) in (
+      read_there z read_only s fd 0 moment handle bytes is may file ∙ ap (λ (t : State). answer t (replies.Data [])) (ap (with_offset s fd handle) zero ∙ same),
+      seek_here z read_only s fd moment handle bytes is file kept,
       ap (λ (o : Outcome). o.reply) read,
       ap (λ (o : Outcome). (step z read_only o.state (at 0 (commands.Seek fd (pos handle.offset) origins.Set))).state) read
           ∙ ap (λ (o : Outcome). o.state) back ∙ moved_back s fd handle n m is,

@@ -150,6 +150,9 @@ static void work(void)
     for (int i = 0; i < 3000; i++) {
         int fd = flash_fs_open(&fs, "/work/new", FLASH_RDWR | FLASH_CREAT | FLASH_TRUNC, 2);
         expect(flash_fs_write(&fs, fd, bytes, 3000, 2) == 3000 && flash_fs_seek(&fs, fd, 1000, FLASH_SEEK_SET) == 1000, "write");
+        expect(flash_fs_pwrite(&fs, fd, bytes, 500, 100, 2) == 500 && flash_fs_pread(&fs, fd, bytes, 500, 100) == 500 &&
+                   flash_fs_fstat(&fs, fd, &info) == 0,
+               "pwrite");
         expect(flash_fs_truncate(&fs, fd, 2000, 2) == 0 && flash_fs_fsync(&fs, fd) == 0 && flash_fs_close(&fs, fd) == 0, "truncate");
         expect(flash_fs_rename(&fs, "/work/new", "/work/old", 2) == 0 && flash_fs_stat(&fs, "/work/old", &info) == 0, "rename");
         expect(flash_fs_list(&fs, "/work", names, sizeof names) == 4, "list");

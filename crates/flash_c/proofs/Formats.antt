@@ -1,5 +1,5 @@
 -- Why a device was not formatted.
-use Rattle.std.proofs.Common.{◌≡◌, ◌⊎◌, ◌<◌, ◌≤◌, ◌+◌, ℕ, true, refl, inl, inr, arith}
+use Rattle.std.proofs.Common.{◌≡◌, ◌⊎◌, ◌<◌, ◌≤◌, ℕ, true, refl, inl, inr, arith}
 use Rattle.std.proofs.lemmas.Bool.{cases_lt}
 use Rattle.flash_tree.specs.Mount.{bad_blocks}
 use Rattle.formatting.specs.declared.fault.FormatFault.{FormatFault}

@@ -9,3 +9,4 @@ pub mod Questions
 pub mod Sessions
 pub mod Slots
 pub mod Volumes
+pub mod laws

@@ -1,5 +1,5 @@
 -- How a volume is mounted, formatted and ended, over any device: of the device before, and the same device after.
-use Rattle.std.specs.Prelude.{◌≡◌, ◌⊎◌, ◌<◌, ◌≤◌, ◌↔◌, ◌<ℤ◌, ℕ, ◌+◌, false, true, Result, Ok, Err, ℤ, pos}
+use Rattle.std.specs.Prelude.{◌≡◌, ◌⊎◌, ◌<◌, ◌≤◌, ◌↔◌, ℕ, ◌+◌, false, true, Result, Ok, Err, ℤ, pos}
 use Rattle.flash_tree.specs.Checkpoints.{IsTrueFlash}
 use Rattle.flash_tree.specs.Mount.{bad_blocks}
 use Rattle.flash_tree.specs.Sound.{IsSoundFlash}

@@ -10,6 +10,7 @@ mod commands;
 mod devices;
 mod filling;
 mod flags;
+mod law;
 mod names;
 mod numbers;
 mod placed;

@@ -6,13 +6,16 @@ use Rattle.flash_c.proofs.devices.format_device.Goals as goal
 pub returns-in-Ok : goal.returns-in-Ok
 returns-in-Ok g c = let ensured = c.in-Ok.ensures in record {
   lasts = ensured.keeps.lasts;
-  ends = inl (refl, record {
-    room = enough _ (c.args.spare + 4) ensured.spare.1;
-    power = ensured.has_power;
-    few_bad = ensured.few_bad;
-    sound = ensured.formatted;
-    true_flash = ensured.true_flash;
-  });
+  ends = inl (
+    refl,
+    record {
+      room = enough _ (c.args.spare + 4) ensured.spare.1;
+      power = ensured.has_power;
+      few_bad = ensured.few_bad;
+      sound = ensured.formatted;
+      true_flash = ensured.true_flash;
+    },
+  );
 }
 
 pub returns-in-Err : goal.returns-in-Err

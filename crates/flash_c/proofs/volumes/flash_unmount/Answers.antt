@@ -14,7 +14,6 @@ ended_as : {P : Type 0} (state : P → PagesState) (v w : PageVolume P) (device 
 ended_as state v w device n m same number is = subst (λ x. IsEnded state x device m) same (subst (IsEnded state v device) number is)
 
 pub returns : goal.returns
-
 returns c =
     let session : c.take.result ≡ c.args.slot.now.session = c.take.ensures.session ∙ ap (λ (s : Slot). s.session) c.is_full.ensures.same in
     let number : to_z w32 (of_z w32 c.end.result.1) ≡ c.end.result.1 = to_z-of_z w32 c.end.result.1 (search rules) in

@@ -1,4 +1,4 @@
-use Rattle.std.proofs.Common.{◌≡◌, ◌∙◌, ◌<ℤ◌, ◌≤ℤ◌, ℤ, pos, true, false, refl, sym, ap, subst, inl, inr, Ok, to_z, of_z, w32, arith}
+use Rattle.std.proofs.Common.{◌≡◌, ◌∙◌, ◌<ℤ◌, ℤ, pos, true, false, refl, sym, ap, subst, inl, inr, Ok, to_z, of_z, w32, arith}
 use Rattle.page_volume.specs.Volumes.{is_stopped}
 use Rattle.posix_calls.specs.Volumes.{over_pages}
 use Rattle.flash_c.specs.Numbers.{mount_number}

@@ -248,10 +248,13 @@ elif [ "${1:-}" != quick ]; then
     else
         skip "valgrind" "it is not here"
     fi
-    # A volume that is mounted on Linux: lines of its own.
-    OUT=$OUT bash linux/test.sh | tee "$log"
-    passed=$((passed + $(grep -c '^ok ' "$log"))) failed=$((failed + $(grep -c '^FAIL ' "$log")))
-    skipped=$((skipped + $(grep -c '^skip ' "$log")))
+    if [ -n "${RUN:-}" ]; then
+        skip "a volume that is mounted on Linux" "the programs are for another processor"
+    else # lines of its own
+        OUT=$OUT bash linux/test.sh | tee "$log"
+        passed=$((passed + $(grep -c '^ok ' "$log"))) failed=$((failed + $(grep -c '^FAIL ' "$log")))
+        skipped=$((skipped + $(grep -c '^skip ' "$log")))
+    fi
 fi
 
 printf '%s passed, %s failed, %s skipped\n' $passed $failed $skipped

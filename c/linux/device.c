@@ -16,7 +16,7 @@ static int failed(int code, const char *why)
 }
 
 /* Takes the lock by which one program at a time uses a device. */
-static bool is_free(int file) { return flock(file, LOCK_EX | LOCK_NB) == 0; }
+static bool take_lock(int file) { return flock(file, LOCK_EX | LOCK_NB) == 0; }
 
 static int open_mtd(struct device *device)
 {
@@ -26,7 +26,7 @@ static int open_mtd(struct device *device)
     if (code < 0)
         return failed(code, code == FLASH_ENOENT ? strerror(errno) : "no NAND flash whose pages have 48 free spare bytes");
     device->driver = &device->mtd.driver;
-    return is_free(device->mtd.device) ? 0 : failed(FLASH_EBUSY, "it is in use");
+    return take_lock(device->mtd.device) ? 0 : failed(FLASH_EBUSY, "it is in use");
 }
 
 static unsigned or_else(unsigned said, unsigned usual) { return said != 0 ? said : usual; }
@@ -39,9 +39,9 @@ static int may_replace(struct device *device, const struct stat *status)
         return failed(code, "it is no image, and stays as it is");
     if (code < 0)
         return 0;
-    bool free = is_free(device->image.file);
+    bool taken = take_lock(device->image.file);
     file_nand_close(&device->image);
-    return free ? 0 : failed(FLASH_EBUSY, "it is in use");
+    return taken ? 0 : failed(FLASH_EBUSY, "it is in use");
 }
 
 static int make_image(struct device *device)
@@ -56,8 +56,6 @@ static int make_image(struct device *device)
 
 static int open_image(struct device *device)
 {
-    if (words.data != 0 || words.pages != 0 || words.blocks != 0)
-        return failed(FLASH_EINVAL, "an image has its sizes; --format makes one with others");
     int code = file_nand_open(&device->image, words.device);
     return code < 0 ? failed(code, code == FLASH_ENOENT ? strerror(errno) : "it is no image") : 0;
 }
@@ -72,7 +70,7 @@ int device_open(struct device *device)
         return code;
     device->image.synchronous = words.synchronous;
     device->driver = &device->image.driver;
-    return is_free(device->image.file) ? 0 : failed(FLASH_EBUSY, "it is in use");
+    return take_lock(device->image.file) ? 0 : failed(FLASH_EBUSY, "it is in use");
 }
 
 void device_close(struct device *device)

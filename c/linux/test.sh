@@ -4,8 +4,9 @@
 #
 #   bash c/linux/test.sh [SEED]
 #
-# What is drawn follows from the seed, which is printed.
+# What is drawn follows from the seed, which is printed. FLASH_C_ARCHIVE names a libflash_c.a that is there, as for c/test.sh.
 set -u
+[ -z "${FLASH_C_ARCHIVE:-}" ] || export FLASH_C_ARCHIVE=$(realpath "$FLASH_C_ARCHIVE")
 cd "$(dirname "$0")/.." || exit 2
 OUT=$(realpath -m "${OUT:-out}")
 CC=${CC:-gcc}

@@ -90,6 +90,8 @@ static void show_help(void)
     fuse_lowlevel_help();
 }
 
+static bool has_sizes(void) { return words.data != 0 || words.pages != 0 || words.blocks != 0 || words.spare != UINT_MAX; }
+
 bool words_read(const struct fuse_args *given, struct fuse_args *left, int *status)
 {
     *status = 1;
@@ -105,8 +107,10 @@ bool words_read(const struct fuse_args *given, struct fuse_args *left, int *stat
             fuse_lowlevel_version();
         return false;
     }
-    if (words.device != NULL && words.fuse.mountpoint != NULL)
-        return true;
-    fprintf(stderr, "flash-fuse [OPTIONS] IMAGE|DEVICE MOUNTPOINT; --help has the options\n");
-    return false;
+    bool has_places = words.device != NULL && words.fuse.mountpoint != NULL;
+    if (!has_places)
+        fprintf(stderr, "flash-fuse [OPTIONS] IMAGE|DEVICE MOUNTPOINT; --help has the options\n");
+    else if (has_sizes() && !words.formats)
+        fprintf(stderr, "flash-fuse: a volume has its sizes; --format makes another with these\n");
+    return has_places && (words.formats || !has_sizes());
 }

@@ -38,9 +38,11 @@ static void write_number(int file, int number, off_t offset)
     check(pwrite(file, &number, sizeof number, offset) == sizeof number, "write", number);
 }
 
+/* The kernel gives up what it keeps of the file, so that the volume is read. */
 static void check_number(int file, int number, off_t offset)
 {
     int found = -1;
+    posix_fadvise(file, 0, 0, POSIX_FADV_DONTNEED);
     check(pread(file, &found, sizeof found, offset) == sizeof found && found == number, "read", number);
 }
 
@@ -91,6 +93,23 @@ static void rename_open(int number)
     check(status.st_ino == other.st_ino && status.st_nlink == 1, "one object", number);
 }
 
+/* A file that had a name before is not found by it again, once another has that name. */
+static void reuse_name(int count)
+{
+    const int flags = O_RDWR | O_CREAT | O_EXCL;
+    int file = open("moving", flags, 0666);
+    check(file >= 0 && rename("moving", "moved") == 0, "moved", 0);
+    write_number(file, 1, 0);
+    int other = open("moving", flags, 0666);
+    check(other >= 0 && unlink("moved") == 0, "moving", 0);
+    write_number(other, 2, 0);
+    for (int i = 0; i < count; i++)
+        check_number(files[i], i, 0);
+    check_number(file, 1, 0);
+    check_number(other, 2, 0);
+    check(close(file) == 0 && close(other) == 0, "close", 0);
+}
+
 static void map(void)
 {
     char bytes[MAPPED];
@@ -124,6 +143,7 @@ int main(int count, char **words)
     check(all <= MOST, "files", all);
     open_all(all);
     rename_open(all - 1);
+    reuse_name(all);
     printf("%d\n", lose_names(atoi(words[3])));
     use_all(all);
     map();

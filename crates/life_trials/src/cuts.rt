@@ -1,4 +1,4 @@
-// Sessions that are cut at each of their calls, and then once more in the next session, which mounts and unmounts.
+// Sessions that are cut at each of their calls, and then once more in the next mount.
 use crate::counting::Count;
 use crate::judging::{Stage, judge};
 use crate::stages::new_stage;
@@ -12,24 +12,13 @@ use std::alloc::Global;
 /// All that a cut may leave of a page.
 pub(crate) const FATES: [Fate; 4] = [Fate::Old, Fate::New, Fate::Erased, Fate::Uncorrectable];
 
-/// Calls of the next session that are cut too.
+/// Calls of the next mount that are cut too.
 const SECOND: [u64; 3] = [1, 100, 256];
 
 /// Pages of a block.
 pub(crate) const PAGES: usize = 32;
 
-/// A session that mounts and unmounts, cut at this call.
-fn second_session(alloc: Global, call: u64, fate: Fate) -> Result<Session> {
-    Ok(Session {
-        commands: Vec::new(alloc),
-        fuse: Some((call, vec![in alloc; fate; PAGES]?)),
-        failures: Vec::new(alloc),
-        unmount: true,
-    })
-}
-
-/// Cuts one call, alone and before a cut of the next session, where that has so many calls. The first fuse that it does not
-/// reach is the last: that session is done to the end of its unmount.
+/// Cuts one call, alone and before a cut of the next mount, which has no commands.
 fn cut_at(
     alloc: Global,
     stage: &Stage,
@@ -41,13 +30,14 @@ fn cut_at(
     session.fuse = Some((call, vec![in alloc; fate; PAGES]?));
     let judged = judge(alloc, stage.copy()?, session)?;
     count.add(&judged);
-    for again in SECOND {
-        let session = second_session(alloc, again, fate)?;
-        let second = judge(alloc, judged.stage.copy()?, &session)?;
-        count.add(&second);
-        if !second.cut {
-            break;
-        }
+    for second in SECOND {
+        let mount = Session {
+            commands: Vec::new(alloc),
+            fuse: Some((second, vec![in alloc; fate; PAGES]?)),
+            failures: Vec::new(alloc),
+            unmount: false,
+        };
+        count.add(&judge(alloc, judged.stage.copy()?, &mount)?);
     }
     Ok(())
 }

@@ -1,11 +1,11 @@
 #!/usr/bin/env bash
 # Makes out/page.html, one file that opens from disk: the page, and in it the proved library with the glue as a WebAssembly
-# module, out/flash.wasm. Asks for the kit, and for a run of `rt ci` in this checkout, or for a module that is there.
+# module, out/flash.wasm. Asks for the kit.
 #
 #   bash web/build.sh
 #
-# FLASH_C_MODULE names the LLVM module of flash_c for 64-bit ARM, where one is there; else c/archive.sh makes one, over the proved
-# libraries in crates/*/out, for which flash_c alone is proved again. OUT: where all is built.
+# FLASH_C_MODULE names the LLVM module of flash_c for 64-bit ARM, where one is there; else c/archive.sh makes one: of the libraries
+# below flash_c it proves what was not proved in this checkout, half an hour the first time, and flash_c. OUT: where all is built.
 set -eu
 [ -z "${FLASH_C_MODULE:-}" ] || FLASH_C_MODULE=$(realpath "$FLASH_C_MODULE")
 OUT=$(realpath -m "${OUT:-$(dirname "$0")/out}")
@@ -91,7 +91,7 @@ is_current() {
 }
 
 module=${FLASH_C_MODULE:-$OUT/flash_c.bc}
-[ -n "${FLASH_C_MODULE:-}" ] || is_current "$module" || KEEP=$module bash ../c/archive.sh aarch64-unknown-linux-gnu
+[ -n "${FLASH_C_MODULE:-}" ] || is_current "$module" || KEEP=$module PROVE=yes bash ../c/archive.sh aarch64-unknown-linux-gnu
 retarget "$module" "$OUT/flash_c_wasm.ll"
 # shellcheck disable=SC2086
 "$clang" $machine -O3 -c -x ir "$OUT/flash_c_wasm.ll" -o "$OUT/flash_c.o"

@@ -251,7 +251,7 @@ elif [ "${1:-}" != quick ]; then
     if [ -n "${RUN:-}" ]; then
         skip "a volume that is mounted on Linux" "the programs are for another processor"
     else # lines of its own
-        OUT=$OUT bash linux/test.sh | tee "$log"
+        OUT=$OUT bash linux/test.sh 7 | tee "$log"
         passed=$((passed + $(grep -c '^ok ' "$log"))) failed=$((failed + $(grep -c '^FAIL ' "$log")))
         skipped=$((skipped + $(grep -c '^skip ' "$log")))
     fi

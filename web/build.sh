@@ -38,7 +38,7 @@ retarget() {
     local layout
     layout=$("$clang" --target=$target -S -emit-llvm -x c /dev/null -o - | sed -n 's/^target datalayout = //p')
     "$clang" --target=aarch64-unknown-linux-gnu -S -emit-llvm -Xclang -disable-llvm-passes -x ir "$1" -o "$OUT/flash_c.ll"
-    sed -e "s/^target datalayout = .*/target datalayout = $layout/" -e "s/^target triple = .*/target triple = \"$target\"/" \
+    sed -e '/^; ModuleID = /d' -e "s/^target datalayout = .*/target datalayout = $layout/" -e "s/^target triple = .*/target triple = \"$target\"/" \
         -e '/^attributes /s/ "\(probe-stack\|stack-probe-size\|target-cpu\|frame-pointer\)"="[^"]*"//g' \
         -e '/^declare .*@llvm\.aarch64\.neon\.addp/d; s/@llvm\.aarch64\.neon\.addp\.v16i8/@add_neighbours/g' "$OUT/flash_c.ll" > "$2"
     add_neighbours >> "$2"

@@ -1,5 +1,6 @@
 // The writing of a checkpoint of a log that is unmounted.
-ghost use Rattle.std.specs.Prelude.{◌≡◌, ◌+◌, length, OnOk};
+ghost use Rattle.std.specs.Prelude.{◌≡◌, ◌≤◌, ◌+◌, length, OnOk};
+ghost use Rattle.block_state.specs.Kept.{bad_count};
 ghost use Rattle.block_state.specs.TableOf.{table};
 ghost use Rattle.transactions.specs.Checking.{log_of};
 ghost use Rattle.transactions.specs.Ready.{IsReady};
@@ -37,6 +38,8 @@ pub fn seal<N: Nand>(
     // Each mark answers a failure, and after Ok each failure has its mark.
     ensures marks { MarksFailures 0 0 (N.state device.old) (N.state device.new) (table blocks.old) (table blocks.new) }
     ensures answers { OnOk result (AnswersFailures 0 0 (N.state device.old) (N.state device.new) (table blocks.old) (table blocks.new)) }
+    // It is done only with no more bad blocks than there are to spare.
+    ensures few { bad_count (table blocks.old) ≤ spare → OnOk result (bad_count (table blocks.new) ≤ spare) }
     // The erase and the pages of the checkpoint, and for each failure an erase or a mark, and what failed.
     ensures costs { Costs (check_pages (table blocks.old) + 1) 2 0 (N.state device.old) (N.state device.new) }
     ensures reads { ReadsSuspects (N.state device.old) (N.state device.new) }

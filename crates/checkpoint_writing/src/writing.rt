@@ -89,6 +89,7 @@ fn mark_failed<N: Nand>(
     ensures leaves { Leaves (Unit {0}) block (log_of (N.state device.old) (table blocks.old)) (log_of (N.state device.new) (table blocks.new)) }
     ensures marks { bad_count (table blocks.new) ≤ bad_count (table blocks.old) + 1 }
     ensures failures { (N.state device.new).failures ≡ (N.state device.old).failures }
+    ensures few { OnOk result (bad_count (table blocks.new) ≤ spare) }
     ensures costs { ChangesAtMost 1 (N.state device.old) (N.state device.new) }
     ensures ends { MarkEnds spare (log_of (N.state device.old) (table blocks.old)) (log_of (N.state device.new) (table blocks.new)) result }
 {
@@ -120,6 +121,7 @@ pub(crate) fn write_into<N: Nand>(
     ensures leaves { Leaves (ListKept checks.now.index.now (N.state device.old)) block (log_of (N.state device.old) (table blocks.old)) (log_of (N.state device.new) (table blocks.new)) }
     ensures marks { MarksFailures 0 0 (N.state device.old) (N.state device.new) (table blocks.old) (table blocks.new) }
     ensures answers { OnOk result (AnswersFailures 0 0 (N.state device.old) (N.state device.new) (table blocks.old) (table blocks.new)) }
+    ensures few { bad_count (table blocks.old) ≤ spare → OnOk result (bad_count (table blocks.new) ≤ spare) }
     ensures costs { Costs checks.now.pages 1 0 (N.state device.old) (N.state device.new) }
     ensures ends { IntoEnds spare checks.now.index.now (log_of (N.state device.old) (table blocks.old)) (log_of (N.state device.new) (table blocks.new)) result }
 {

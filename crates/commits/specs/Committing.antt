@@ -13,6 +13,7 @@ use Rattle.nand_model.specs.Counts.{Costs, ReadsFor}
 use Rattle.transactions.specs.Checking.{LogState}
 use Rattle.chunk_index.specs.declared.form.KeptPage.{KeptPage}
 use Rattle.chunk_index.specs.Maps.{kept_pages}
+use Rattle.bad_blocks.specs.Bills.{Bill, Pays}
 use Rattle.bad_blocks.specs.Moving.{AnswersFailures, MarksFailures}
 use Rattle.bad_blocks.specs.Standing.{HasFreeBlocks}
 use Rattle.collector.specs.Making.{FitsOpen, HasMore, WhyNoRoom}
@@ -69,14 +70,25 @@ pub record IsUnhindered (count : ℕ) (t : Table) (old new : Device) : Type 0 wh
 abbrev pub TakesOneBlock : (count spare : ℕ) → Table → Device → Device → Type 0
 TakesOneBlock count spare t old new = HasMore t spare → new.failures ≡ old.failures → new.changes ≤ old.changes + count + 1
 
+-- what a commit of so many pages may cost: the making of room and their programs, and for each failure a retirement and two of these again
+abbrev pub commit_bill : (count : ℕ) → LogState → Bill
+commit_bill count log = record { changes = count + log.device.geometry.pages + 1; each = 3 * log.device.geometry.pages + 3; marks = 0; unanswered = 0 }
+
 -- What a commit of so many pages costs: their programs and the making of room, and for each failure a retirement and two of these again.
 -- They are written without a read: pages are read to be copied, and after a failure. A block is allocated only where the open one lacks
 -- the pages, or a program failed; and no more than one while blocks are left that can be allocated.
-pub record PaysCommit (count spare : ℕ) (old new : LogState) (result : Result (Unit {0}) RoomFault) : Type 0 where
+pub record PaysCommit {T E : Type 0} (count spare : ℕ) (old new : LogState) (result : Result T E) : Type 0 where
   pub costs : Costs (count + old.device.geometry.pages + 1) (3 * old.device.geometry.pages + 3) 0 old.device new.device
   pub marks : MarksFailures 0 0 old.device new.device old.table new.table
   pub answers : OnOk result (AnswersFailures 0 0 old.device new.device old.table new.table)
   pub reads : ReadsFor count old.device new.device result
+  pub takes_none : TakesNoBlock count old.table old.device new.device
+  pub takes_one : TakesOneBlock count spare old.table old.device new.device
+
+-- What at most one commit of so many pages costs: the bill of that commit. A block is allocated only where the open one lacks the pages, or
+-- a program failed; and no more than one while blocks are left that can be allocated.
+pub record PaysUpTo {T E : Type 0} (count spare : ℕ) (old new : LogState) (result : Result T E) : Type 0 where
+  pub pays : Pays (commit_bill count old) old new result
   pub takes_none : TakesNoBlock count old.table old.device new.device
   pub takes_one : TakesOneBlock count spare old.table old.device new.device
 

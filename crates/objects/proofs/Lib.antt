@@ -3,5 +3,6 @@ pub mod Shown
 pub mod Kept
 pub mod Carried
 pub mod Steps
+pub mod Changed
 pub mod Told
 pub mod Sealed

@@ -1,5 +1,5 @@
 -- What the writing of a store's checkpoint is to those above.
-use Rattle.std.specs.Prelude.{◌≡◌, ◌||◌, ℕ, Bool, true, false, List, Option, Some, None, Ok, Err}
+use Rattle.std.specs.Prelude.{◌≡◌, ◌≤◌, ◌||◌, ℕ, Bool, true, false, List, Option, Some, None, Ok, Err}
 use Rattle.std.specs.Option.{option_and_then}
 use Rattle.std.proofs.Common.{refl, sym, ◌∙◌, ap, subst, inl, inr, arith}
 use Rattle.std.proofs.lemmas.Bool.{or_left}
@@ -7,6 +7,7 @@ use Rattle.nand_model.specs.Flash.{Flash}
 use Rattle.nand_model.specs.Calls.{Device}
 use Rattle.nand_model.specs.laws.Calls.{lasts_here}
 use Rattle.flash_tree.specs.Newest.{HasNewest}
+use Rattle.block_state.specs.Kept.{bad_count}
 use Rattle.block_state.specs.Table.{Table}
 use Rattle.chunk_index.specs.declared.form.KeptPage.{KeptPage}
 use Rattle.chunk_index.specs.declared.index.Index.{Index}
@@ -25,7 +26,7 @@ use Rattle.page_buffer.specs.Shown.{data_of, data_at, kept_data}
 use Rattle.page_buffer.specs.declared.buffer.Buffer.{Buffer}
 use Rattle.page_cache.specs.declared.cache.PageCache.{PageCache}
 use Rattle.pages.specs.State.{PagesState}
-use Rattle.pages.specs.Stores.{Carries, HandsOutNumbers, HasPage, IsCarried, KeptAs, StaysSame}
+use Rattle.pages.specs.Stores.{Carries, HandsOutNumbers, HasPage, IsCarried, KeptAs, StaysSame, bad_on}
 use Rattle.checkpoint_writing.specs.Due.{IsDue}
 use Rattle.checkpoint_writing.specs.Keeping as writing
 use Rattle.checkpoint_writing.specs.Sealing as endings
@@ -35,7 +36,6 @@ use Rattle.volume_terms.specs.declared.fault.StoreFault.{StoreFault}
 use Rattle.volume_terms.specs.declared.fault.StoreFault.TheVariants as faults
 use Rattle.objects.specs.Sealing.{IsExact, IsSealed, KeepsTree, LeavesOne, SealEnds, StaysRight, seal_fault_of, EndsOn}
 use Rattle.objects.specs.StoreOf.{kept_map, next_numbers, store_seen}
-use Rattle.objects.specs.laws.Sound.{sound_whole}
 use Rattle.objects.specs.declared.counts.StoreCounts.{StoreCounts}
 use Rattle.objects.specs.declared.store.Found.{Found}
 use Rattle.objects.proofs.Carried.{carried_known, has_page, kept_of_data, known_there}
@@ -110,6 +110,7 @@ module _ (d : Device) (t : Table) (x : Index) (buffer : Buffer) (cache : PageCac
     };
     checked = λ _ honest was. was;
     kept = λ sound. absurd (let two : false ≡ true = sym (not_sound d.honest broken is) ∙ sound in cc);
+    few = λ _. tt;
     ends = inr (not_sound d.honest broken is);
   }
 
@@ -166,8 +167,16 @@ module _ (d : Device) (t : Table) (x : Index) (buffer : Buffer) (cache : PageCac
     ends_failed causes.Lost (due, why) = inl (inr why)
     ends_failed causes.Gone (due, why) = inl (inl why)
 
-    pub sealed_done : endings.SealEnds spare x (log_of d t) (log_of e u) (Ok tt) → IsSealed (IsDue spare t) seen e (Ok tt)
-    sealed_done ends = record { pages = left_by seen e u; device_is = refl; ends_on = left_on; checked = left_right; kept = left_kept; ends = ends_done ends }
+    -- no more blocks are bad than there are to spare
+    few_sealed : (bad_count t ≤ spare → bad_count u ≤ spare) → bad_on d ≤ spare → bad_on e ≤ spare
+    few_sealed few was =
+        let old = same_bad_blocks d t before in
+        let new = same_bad_blocks e u seals.keeps.ready in
+        let is : bad_count u ≤ spare = few (omega (arith, was, old)) in
+        omega (arith, is, new)
+
+    pub sealed_done : (bad_count t ≤ spare → bad_count u ≤ spare) → endings.SealEnds spare x (log_of d t) (log_of e u) (Ok tt) → IsSealed (IsDue spare t) seen e (Ok tt)
+    sealed_done few ends = record { pages = left_by seen e u; device_is = refl; ends_on = left_on; checked = left_right; kept = left_kept; few = few_sealed few; ends = ends_done ends }
 
     pub sealed_failed : (fault : SealFault) (told : StoreFault) → told ≡ seal_fault_of fault → endings.SealEnds spare x (log_of d t) (log_of e u) (Err fault) → IsSealed (IsDue spare t) seen e (Err told)
     sealed_failed fault told same ends = record {
@@ -176,5 +185,6 @@ module _ (d : Device) (t : Table) (x : Index) (buffer : Buffer) (cache : PageCac
       ends_on = left_on;
       checked = left_right;
       kept = left_kept;
+      few = λ _. tt;
       ends = subst (λ (f : StoreFault). SealEnds (IsDue spare t) seen (left_by seen e u) (Err f)) (sym same) (ends_failed fault ends);
     }

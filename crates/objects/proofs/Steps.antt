@@ -1,14 +1,14 @@
 -- What a change and a commit leave of a store.
-use Rattle.std.specs.Prelude.{◌≡◌, ◌≢◌, ◌⊎◌, ◌<◌, ◌≤◌, ◌+◌, ◌*◌, ℕ, Bool, true, false, List, [], ◌∷◌, length, Option, Some, None, IsSome, IsTrue, Result, Ok, Err, OnOk, slice_get}
+use Rattle.std.specs.Prelude.{◌≡◌, ◌≢◌, ◌<◌, ◌≤◌, ℕ, Bool, true, false, List, [], ◌∷◌, length, Option, Some, None, IsSome, IsTrue, slice_get}
 use Rattle.std.specs.Option.{option_map, option_and_then}
 use Rattle.std.proofs.Common.{refl, sym, ◌∙◌, ap, subst, inl, inr, arith}
-use Rattle.std.proofs.lemmas.Bool.{cases_eq, false≢true}
+use Rattle.std.proofs.lemmas.Bool.{false≢true}
 use Rattle.nand_model.specs.Flash.{Flash}
 use Rattle.nand_model.specs.Calls.{Device, Lasts}
 use Rattle.flash_tree.specs.laws.Place.{had_power}
 use Rattle.flash_tree.specs.declared.place.FreshPage.{FreshPage}
 use Rattle.flash_tree.specs.declared.place.Key.{Key}
-use Rattle.block_state.specs.Table.{Table, room}
+use Rattle.block_state.specs.Table.{Table}
 use Rattle.chunk_index.specs.declared.entry.KeyEntry.{KeyEntry}
 use Rattle.chunk_index.specs.declared.form.Present.{Present}
 use Rattle.chunk_index.specs.declared.form.Present.TheVariants as presents
@@ -32,26 +32,26 @@ use Rattle.page_buffer.specs.declared.buffer.Buffer.{Buffer}
 use Rattle.page_buffer.specs.Shown.{data_at, data_by, kept_data, present_data}
 use Rattle.page_buffer.specs.Buffering.{Buffers, lacks, new_keys, with_new}
 use Rattle.page_cache.specs.declared.cache.PageCache.{PageCache}
-use Rattle.volume_terms.specs.declared.fault.StoreFault.{StoreFault}
 use Rattle.objects.specs.Caching.{Shows, HasNoMore, LacksCuts, LacksPages, AreIn}
 use Rattle.commits.specs.Carrying.{AreNumbered, AreWritable}
-use Rattle.collector.specs.Making.{HasMore}
-use Rattle.nand_model.specs.Counts.{Costs, ReadsFew}
-use Rattle.commits.specs.Committing.{KeepsOpen, TakesNoBlock, TakesOneBlock}
 use Rattle.objects.specs.Changing.{IsCommitFault, fault_of}
 use Rattle.pages.specs.Changes.{AreOfTrees}
 use Rattle.pages.specs.Stores.{SamePages}
-use Rattle.nand_model.specs.declared.geometry.Geometry.{Geometry}
 use Rattle.collector.specs.Making.{WhyNoRoom}
 use Rattle.collector.specs.declared.fault.RoomFault.{RoomFault}
 use Rattle.collector.specs.declared.fault.RoomFault.TheVariants as causes
 use Rattle.objects.specs.StoreOf.{kept_map, present_map}
+use Rattle.objects.specs.StoreState.{StoreState, waiting}
 use Rattle.objects.proofs.ReadOnly.{kept_there}
 
 -- maps that have the same pages, where they are known
 pub known_alike : (h : Bool) (m n : PageMap) → (h ≡ true → SamePages n m) → SamePages (known_pages h n) (known_pages h m)
 known_alike true m n same = same refl
 known_alike false m n same = λ o c. refl
+
+-- on a device that is as honest
+pub known_on : (h k : Bool) (m n : PageMap) → k ≡ h → (h ≡ true → SamePages n m) → SamePages (known_pages k n) (known_pages h m)
+known_on h k m n is same = subst (λ (j : Bool). SamePages (known_pages j n) (known_pages h m)) (sym is) (known_alike h m n same)
 
 pub known_changed : (h : Bool) (change : Change) (m n : PageMap) → h ≡ true → SamePages n (changed change m) → SamePages (known_pages h n) (changed change (known_pages h m))
 known_changed true change m n is same = same
@@ -192,9 +192,8 @@ few_new x (p ∷ ps) = omega (arith, one (present x p.key.object p.key.chunk), f
     one (presents.OnFlash k) = omega arith
     one (presents.InBuffer i) = omega arith
 
-pub room_after : (result : Result (Unit {0}) StoreFault) (x : Index) (buffer pages : List FreshPage) (most : ℕ) → OnOk result (buffer ≡ []) → length pages ≤ most → OnOk result (with_new x buffer pages ≤ most)
-room_after (Err fault) x buffer pages most empty few = tt
-room_after (Ok done) x buffer pages most empty few = let none : length buffer ≡ 0 = ap length empty in omega (arith, none, few_new x pages, few)
+pub room_after : (x : Index) (buffer pages : List FreshPage) (most : ℕ) → buffer ≡ [] → length pages ≤ most → with_new x buffer pages ≤ most
+room_after x buffer pages most empty few = let none : length buffer ≡ 0 = ap length empty in omega (arith, none, few_new x pages, few)
 
 -- a key that is ready is prepared
 pub ready_prepared : (x : Index) (o c : ℕ) → IsReadyKey x o c → IsPrepared x o c
@@ -221,11 +220,11 @@ present_map_same d e x y b b' is same buffers =
     (known_alike d.honest (present_data x (buffered b) d.flash) (present_data y (buffered b) d.flash) (λ _. present_same x y (buffered b) d.flash same)))
 
 -- each fault of a commit has its cause
-pub commit_fails : (spare count : ℕ) (d : Device) (t u : Table) (broken : Bool) (fault : RoomFault) → WhyNoRoom count spare d t u fault → IsCommitFault spare count d t u broken (fault_of fault)
-commit_fails spare count d t u broken causes.Full why = inr why
-commit_fails spare count d t u broken causes.Worn why = inl why
-commit_fails spare count d t u broken causes.Lost why = inr (inl why)
-commit_fails spare count d t u broken causes.Gone why = inl why
+pub commit_fails : (a b : StoreState) (fault : RoomFault) → WhyNoRoom (waiting a) a.spare b.log.device a.log.table b.log.table fault → IsCommitFault a b (fault_of fault)
+commit_fails a b causes.Full why = inr why
+commit_fails a b causes.Worn why = inl why
+commit_fails a b causes.Lost why = inr (inl why)
+commit_fails a b causes.Gone why = inl why
 
 -- the pages of a buffer can be written
 pub writable : (d : Device) (b : Buffer) → AreNumbered d (buffered b) → bytes_of_page b ≡ d.geometry.bytes → AreWritable d (buffered b)
@@ -252,66 +251,10 @@ fits_on x y b b' ps qs same buffers pages fits =
 pub hands_still : (d e : Device) (t u : Table) → e ≡ d → u ≡ t → HandsOut d e t u
 hands_still d e t u still tables = subst (λ (k : Device). HandsOut d k t u) (sym still) (subst (λ (x : Table). HandsOut d d t x) (sym tables) (hands_nothing d t))
 
--- and where they are other between two steps alone
-pub hands_between : (d e f k : Device) (t u v w : Table) → e ≡ d → u ≡ t → HandsOut e f u v → k ≡ f → w ≡ v → HandsOut d k t w
-hands_between d e f k t u v w before tables hands after then =
-    subst (λ (x : Device). HandsOut d x t w) (sym after) (subst (λ (y : Table). HandsOut d f t y) (sym then)
-    (subst (λ (x : Device). HandsOut x f t v) before (subst (λ (y : Table). HandsOut e f y v) tables hands)))
-
--- ---- no block is taken
-
-pub takes_still : (count : ℕ) (t : Table) (d e : Device) → e ≡ d → TakesNoBlock count t d e
-takes_still count t d e still = λ _ _. let same : e.changes ≡ d.changes = ap (λ (k : Device). k.changes) still in omega (arith, same)
-
-pub takes_between : (count now : ℕ) (t u : Table) (d e f k : Device) → e ≡ d → u ≡ t → now ≡ count → k ≡ f → TakesNoBlock now u e f → TakesNoBlock count t d k
-takes_between count now t u d e f k before tables long after takes = λ fits none.
-    let was : e.failures ≡ d.failures = ap (λ (x : Device). x.failures) before in
-    let is : k.failures ≡ f.failures = ap (λ (x : Device). x.failures) after in
-    let old : e.changes ≡ d.changes = ap (λ (x : Device). x.changes) before in
-    let new : k.changes ≡ f.changes = ap (λ (x : Device). x.changes) after in
-    let fit : now ≤ room t = omega (arith, fits, long) in
-    let few : f.changes ≤ e.changes + now = takes (subst (λ (x : Table). now ≤ room x) (sym tables) fit) (omega (arith, none, was, is)) in
-    omega (arith, few, old, new, long)
-
--- ---- at most one block is taken
-
-pub takes_one_still : (count spare : ℕ) (t : Table) (d e : Device) → e ≡ d → TakesOneBlock count spare t d e
-takes_one_still count spare t d e still = λ _ _. let same : e.changes ≡ d.changes = ap (λ (k : Device). k.changes) still in omega (arith, same)
-
-pub takes_one_between : (count now spare s : ℕ) (t u : Table) (d e f k : Device) → e ≡ d → u ≡ t → now ≡ count → s ≡ spare → k ≡ f → TakesOneBlock now s u e f → TakesOneBlock count spare t d k
-takes_one_between count now spare s t u d e f k before tables long spares after takes = λ has none.
-    let was : e.failures ≡ d.failures = ap (λ (x : Device). x.failures) before in
-    let is : k.failures ≡ f.failures = ap (λ (x : Device). x.failures) after in
-    let old : e.changes ≡ d.changes = ap (λ (x : Device). x.changes) before in
-    let new : k.changes ≡ f.changes = ap (λ (x : Device). x.changes) after in
-    let more : HasMore u s = subst (λ (x : Table). HasMore x s) (sym tables) (subst (HasMore t) (sym spares) has) in
-    let few : f.changes ≤ e.changes + now + 1 = takes more (omega (arith, none, was, is)) in
-    omega (arith, few, old, new, long)
-
--- ---- what it costs
-
-pub costs_still : (n k : ℕ) (d e : Device) → e ≡ d → Costs n k 0 d e
-costs_still n k d e still = subst (λ (x : Device). Costs n k 0 d x) (sym still) (let one : k * (d.failures + 0) ≡ k * d.failures = omega arith in omega (arith, one))
-
-pub costs_between : (count now : ℕ) (d e f k : Device) → e ≡ d → now ≡ count → k ≡ f → Costs (now + e.geometry.pages + 1) (3 * e.geometry.pages + 3) 0 e f → Costs (count + d.geometry.pages + 1) (3 * d.geometry.pages + 3) 0 d k
-costs_between count now d e f k before long after costs =
-    subst (λ (x : Device). Costs (count + d.geometry.pages + 1) (3 * d.geometry.pages + 3) 0 d x) (sym after)
-    (subst (λ n. Costs (n + d.geometry.pages + 1) (3 * d.geometry.pages + 3) 0 d f) long
-    (subst (λ (x : Device). Costs (now + x.geometry.pages + 1) (3 * x.geometry.pages + 3) 0 x f) before costs))
-
-pub reads_still : (n : ℕ) (d e : Device) → e ≡ d → ReadsFew n d e
-reads_still n d e still = subst (λ (x : Device). ReadsFew n d x) (sym still) (omega arith)
-
-pub reads_between : (n : ℕ) (d e f k : Device) → e ≡ d → k ≡ f → ReadsFew n e f → ReadsFew n d k
-reads_between n d e f k before after few = subst (λ (x : Device). ReadsFew n d x) (sym after) (subst (λ (x : Device). ReadsFew n x f) before few)
-
--- ---- the open block stays open
-
-pub open_between : (count now : ℕ) (t u v w : Table) (d e f k : Device) → e ≡ d → u ≡ t → now ≡ count → k ≡ f → w ≡ v → (v ≡ u) ⊎ KeepsOpen now u v e f → (w ≡ t) ⊎ KeepsOpen count t w d k
-open_between count now t u v w d e f k before tables long after then (inl same) = inl (then ∙ same ∙ tables)
-open_between count now t u v w d e f k before tables long after then (inr keeps) = inr (
-    subst (λ (x : Device). KeepsOpen count t w d x) (sym after) (subst (λ (y : Table). KeepsOpen count t y d f) (sym then)
-    (subst (λ n. KeepsOpen n t v d f) long (subst (λ (x : Device). KeepsOpen now t v x f) before (subst (λ (y : Table). KeepsOpen now y v e f) tables keeps)))))
+-- a list that is not empty has a page
+pub some_buffered : (pages : List FreshPage) → (pages ≡ [] → ⊥) → 1 ≤ length pages
+some_buffered [] none = absurd (none refl)
+some_buffered (p ∷ ps) none = omega arith
 
 -- a commit that is done has not lost the power
 pub committed_power : (old new : Device) (pages : List FreshPage) → Lasts old new → (pages ≡ [] → new ≡ old) → (1 ≤ length pages → new.gone ≡ false) → new.gone ≡ old.gone

@@ -1,5 +1,5 @@
 -- What the calls of a store are to those above it.
-use Rattle.std.specs.Prelude.{◌≡◌, ◌⊎◌, ◌<◌, ◌≤◌, ◌^◌, ℕ, ◌+◌, ◌-◌, ◌*◌, Bool, true, false, not, ◌&&◌, ◌||◌, List, length, map as list_map, Option, Some, None, [], ◌∷◌, slice_get, Result, Ok, Err, IfErr, OnOk, OnErr, IsErrOf}
+use Rattle.std.specs.Prelude.{◌≡◌, ◌⊎◌, ◌<◌, ◌≤◌, ℕ, ◌+◌, ◌-◌, ◌*◌, Bool, true, false, not, ◌&&◌, ◌||◌, List, length, map as list_map, Option, Some, None, [], ◌∷◌, slice_get, Result, Ok, Err, IfErr, OnOk, OnErr, IsErrOf}
 use Rattle.std.specs.Option.{option_map}
 use Rattle.std.proofs.Common.{refl, sym, ◌∙◌, ap, subst, inl, inr, arith}
 use Rattle.std.proofs.lemmas.Bool.{cases_Bool, cases_lt, cases_order, or_left, or_right}
@@ -26,8 +26,12 @@ use Rattle.pages.specs.Stores as stores
 use Rattle.pages.specs.Stores.{HandsOutNumbers, HasNumbersLeft, HasPage, IsCarried, Begins, IsCrowded, KeptAs, SamePages, ChangeFailsBy, CommitFailsBy, bad_on}
 use Rattle.volume_terms.specs.declared.fault.StoreFault.{StoreFault}
 use Rattle.volume_terms.specs.declared.fault.StoreFault.TheVariants as faults
-use Rattle.objects.specs.Changing.{HasNothingLeft, IsCommitFault, IsChangeFault}
-use Rattle.objects.specs.StoreOf.{next_numbers}
+use Rattle.objects.specs.Changing.{ChangeEnds, HasNothingLeft, IsChanged, IsCommitted, IsUnchanged, StaysWhole, WriteOutEnds}
+use Rattle.objects.specs.StoreState.{StoreState, committed_in, waiting}
+use Rattle.objects.specs.declared.store.Found.{Found}
+use Rattle.page_buffer.specs.BufferOf.{most_pages}
+use Rattle.pages.specs.declared.change.Change.{Change}
+use Rattle.objects.specs.StoreOf.{next_numbers, store_seen}
 use Rattle.objects.proofs.Carried.{carried_same}
 use Rattle.objects.proofs.Steps.{same_back, hands_still}
 
@@ -65,14 +69,6 @@ failed_stays d e a b lasts breaks is = elim (cases_Bool d.gone) [
         | inr lies ↦ or_left (not e.honest) b (ap not (lasts.honest ∙ lies))
         | inl honest ↦ or_right (not e.honest) b (breaks (sym (ap (λ w. not w || a) honest) ∙ rest))
       ])
-]
-
--- a broken store stays so
-pub breaks_on : (result : Result (Unit {0}) StoreFault) (a b : Bool) → OnOk result ((a ≡ false) × (b ≡ false)) → IfErr result (λ fault. (fault ≡ faults.NoMemory) ⊎ (b ≡ true)) → (IsErrOf result faults.NoMemory → b ≡ a) → a ≡ true → b ≡ true
-breaks_on (Ok done) a b whole stops refused is = absurd (let two : true ≡ false = sym is ∙ whole.0 in cc)
-breaks_on (Err fault) a b whole stops refused is = elim stops [
-  | inl none ↦ refused (ap Err none) ∙ is
-  | inr broken ↦ broken
 ]
 
 -- ---- what is sound
@@ -181,67 +177,113 @@ is_crowded p x count (ks, list, long) pages many = record {
   many = subst (λ n. (p.device.geometry.blocks - p.spare - 1) * (p.device.geometry.pages - p.most) < n) (sym (length_keys ks ∙ long)) many;
 }
 
--- Of a sound store with a table and an index, before a call and after it.
-module _ (p q : PagesState) (t u : Table) (x : Index) (count : ℕ) (table_is : t.geometry ≡ p.device.geometry) (sizes : q.device.geometry ≡ p.device.geometry) (spare : q.spare ≡ p.spare) (next : q.next ≡ next_numbers u)
-    (ready : IsReady q.device u) (fits : p.most ≤ p.device.geometry.pages) (few_pages : count ≤ p.most) (few : bad_count t ≤ p.spare) (listed : HasKept (kept_pages x) (kept_count t))
-    (pages : (o c : ℕ) (k : KeptPage) → kept_pages x o c ≡ Some k → HasPage p.kept o c) where
-  worn_told : HasNothingLeft p.spare count q.device t u → stores.HasNothingLeft p q
-  worn_told (inl (inl seq)) = inr (inl (subst (λ n. 2 ^ 62 ≤ n.seq) (sym next) seq))
-  worn_told (inl (inr (inl group))) = inl (subst (λ n. 2 ^ 62 ≤ n.group) (sym next) group)
+-- ---- how calls end
+
+-- a store as its pages, with what is lent of it
+abbrev pub seen_of : StoreState → List ℕ → Found → PagesState
+seen_of a scratch found = store_seen a.log.device a.log.table a.index a.buffer a.cache scratch found a.spare a.broken a.counts
+
+pub both_whole : (a b : StoreState) → StaysWhole a b → (a.broken ≡ false) × (b.broken ≡ false)
+both_whole a b whole = (whole.was, whole.is)
+
+pub when_written : {A : Type 0} (result : Result (Unit {0}) StoreFault) (a b : StoreState) → WriteOutEnds a b result → (IsCommitted a b → A) → OnOk result A
+when_written (Ok done) a b ends then = then ends
+when_written (Err fault) a b ends then = tt
+
+pub when_changed : {A : Type 0} (change : Change) (result : Result (Unit {0}) StoreFault) (a b : StoreState) → ChangeEnds change a b result → (IsChanged change a b → A) → OnOk result A
+when_changed change (Ok done) a b ends then = then ends
+when_changed change (Err fault) a b ends then = tt
+
+-- a commit that failed leaves a broken store
+pub stops_written : (result : Result (Unit {0}) StoreFault) (a b : StoreState) → WriteOutEnds a b result → OnErr result (b.broken ≡ true)
+stops_written (Ok done) a b ends = tt
+stops_written (Err fault) a b ends = ends.is
+
+-- and takes no memory
+pub takes_none : (result : Result (Unit {0}) StoreFault) (a b : StoreState) → WriteOutEnds a b result → IsErrOf result faults.NoMemory → ⊥
+takes_none (Ok done) a b ends is = absurd cc
+takes_none (Err faults.NoMemory) a b ends is = ends.cause
+takes_none (Err faults.Device) a b ends is = absurd cc
+takes_none (Err faults.Worn) a b ends is = absurd cc
+
+-- a broken store stays so
+pub stays_broken : (result : Result (Unit {0}) StoreFault) (a b : StoreState) → WriteOutEnds a b result → a.broken ≡ true → b.broken ≡ true
+stays_broken (Ok done) a b ends is = absurd (let two : true ≡ false = sym is ∙ ends.whole.was in cc)
+stays_broken (Err fault) a b ends is = ends.is
+
+pub stays_broken_changed : (change : Change) (result : Result (Unit {0}) StoreFault) (a b : StoreState) → ChangeEnds change a b result → a.broken ≡ true → b.broken ≡ true
+stays_broken_changed change (Ok done) a b ends is = absurd (let two : true ≡ false = sym is ∙ ends.whole.was in cc)
+stays_broken_changed change (Err faults.NoMemory) a b ends is = ends.broken ∙ is
+stays_broken_changed change (Err faults.Device) a b ends is = ends.is
+stays_broken_changed change (Err faults.Worn) a b ends is = ends.is
+
+-- a change that failed leaves one too, but for want of memory
+pub stops_changed : (change : Change) (result : Result (Unit {0}) StoreFault) (a b : StoreState) → ChangeEnds change a b result → IfErr result (λ fault. (fault ≡ faults.NoMemory) ⊎ (b.broken ≡ true))
+stops_changed change (Ok done) a b ends = tt
+stops_changed change (Err faults.NoMemory) a b ends = inl refl
+stops_changed change (Err faults.Device) a b ends = inr ends.is
+stops_changed change (Err faults.Worn) a b ends = inr ends.is
+
+pub unchanged : (change : Change) (result : Result (Unit {0}) StoreFault) (a b : StoreState) → ChangeEnds change a b result → IsErrOf result faults.NoMemory → IsUnchanged a b
+unchanged change (Ok done) a b ends is = absurd cc
+unchanged change (Err faults.NoMemory) a b ends is = ends
+unchanged change (Err faults.Device) a b ends is = absurd cc
+unchanged change (Err faults.Worn) a b ends is = absurd cc
+
+-- Of a sound store, before a call and after it.
+module _ (a b : StoreState) (s s' : List ℕ) (f f' : Found) (table_is : a.log.table.geometry ≡ a.log.device.geometry) (sizes : b.log.device.geometry ≡ a.log.device.geometry) (spare : b.spare ≡ a.spare)
+    (ready : IsReady b.log.device b.log.table) (fits : most_pages a.buffer ≤ a.log.device.geometry.pages) (few_pages : waiting a ≤ most_pages a.buffer) (few : bad_count a.log.table ≤ a.spare)
+    (listed : HasKept (kept_pages a.index) (kept_count a.log.table)) (pages : (o c : ℕ) (k : KeptPage) → kept_pages a.index o c ≡ Some k → HasPage (committed_in a) o c) where
+  worn_told : HasNothingLeft a.spare (waiting a) b.log.device a.log.table b.log.table → stores.HasNothingLeft (seen_of a s f) (seen_of b s' f')
+  worn_told (inl (inl seq)) = inr (inl seq)
+  worn_told (inl (inr (inl group))) = inl group
   worn_told (inl (inr (inr more))) =
-      let bad = same_bad_blocks q.device u ready in
+      let bad = same_bad_blocks b.log.device b.log.table ready in
       let over = more.0 in
       inr (inr (inl (omega (arith, spare, bad, over))))
-  worn_told (inr full) = elim (cases_lt q.device.geometry.blocks (q.spare + 2)) [
+  worn_told (inr full) = elim (cases_lt b.log.device.geometry.blocks (b.spare + 2)) [
     | inl small ↦ inr (inr (inr (inl small)))
-    | inr large ↦ elim (cases_lt ((p.device.geometry.blocks - p.spare - 1) * (p.device.geometry.pages - p.most)) (kept_count t)) [
-      | inl many ↦ inr (inr (inr (inr (is_crowded p x (kept_count t) listed pages many))))
+    | inr large ↦ elim (cases_lt ((a.log.device.geometry.blocks - a.spare - 1) * (a.log.device.geometry.pages - most_pages a.buffer)) (kept_count a.log.table)) [
+      | inl many ↦ inr (inr (inr (inr (is_crowded (seen_of a s f) a.index (kept_count a.log.table) listed pages many))))
       | inr room ↦
-          let blocks : t.geometry.blocks ≡ p.device.geometry.blocks = ap (λ (g : Geometry). g.blocks) table_is in
-          let later : q.device.geometry.blocks ≡ p.device.geometry.blocks = ap (λ (g : Geometry). g.blocks) sizes in
-          let each : t.geometry.pages ≡ p.device.geometry.pages = ap (λ (g : Geometry). g.pages) table_is in
-          let most : ℕ = p.device.geometry.pages - p.most in
+          let blocks : a.log.table.geometry.blocks ≡ a.log.device.geometry.blocks = ap (λ (g : Geometry). g.blocks) table_is in
+          let later : b.log.device.geometry.blocks ≡ a.log.device.geometry.blocks = ap (λ (g : Geometry). g.blocks) sizes in
+          let each : a.log.table.geometry.pages ≡ a.log.device.geometry.pages = ap (λ (g : Geometry). g.pages) table_is in
+          let most : ℕ = a.log.device.geometry.pages - most_pages a.buffer in
           absurd (full (
             most,
             omega (arith, fits, few_pages, each),
             record {
               blocks = omega (arith, large, spare, blocks, later);
               bad = few;
-              kept = subst (λ n. kept_count t ≤ (n - p.spare - 1) * most) (sym blocks) room;
+              kept = subst (λ n. kept_count a.log.table ≤ (n - a.spare - 1) * most) (sym blocks) room;
             },
           ))
     ]
   ]
 
-  pub change_told : (result : Result (Unit {0}) StoreFault) (broken : Bool) → broken ≡ false → IfErr result (λ fault. (fault ≡ faults.NoMemory) ⊎ Begins p q)
-      → IfErr result (IsChangeFault p.spare count q.device t u broken (p.refused < q.refused)) → IfErr result (ChangeFailsBy p q)
-  change_told (Ok done) broken whole begins why = tt
-  change_told (Err faults.NoMemory) broken whole begins why = why
-  change_told (Err faults.Worn) broken whole (inl none) why = absurd (let two : faults.Worn ≡ faults.NoMemory = none in cc)
-  change_told (Err faults.Worn) broken whole (inr begins) why = (inr begins, worn_told why)
-  change_told (Err faults.Device) broken whole begins (inl is) = inl is
-  change_told (Err faults.Device) broken whole begins (inr (inl is)) = inr is
-  change_told (Err faults.Device) broken whole begins (inr (inr is)) = absurd (let two : true ≡ false = sym is ∙ whole in cc)
+  device_told : a.broken ≡ false → (b.log.device.gone ≡ true) ⊎ (b.log.device.honest ≡ false) ⊎ (a.broken ≡ true) → stores.HasFailed b.log.device
+  device_told whole (inl gone) = inl gone
+  device_told whole (inr (inl lies)) = inr lies
+  device_told whole (inr (inr is)) = absurd (let two : true ≡ false = sym is ∙ whole in cc)
 
-  pub commit_told : (result : Result (Unit {0}) StoreFault) (broken : Bool) → broken ≡ false → OnErr result (Begins p q)
-      → IfErr result (IsCommitFault p.spare count q.device t u broken) → IfErr result (CommitFailsBy p q)
-  commit_told (Ok done) broken whole begins why = tt
-  commit_told (Err faults.NoMemory) broken whole begins why = why
-  commit_told (Err faults.Worn) broken whole begins why = (inr begins, worn_told why)
-  commit_told (Err faults.Device) broken whole begins (inl is) = inl is
-  commit_told (Err faults.Device) broken whole begins (inr (inl is)) = inr is
-  commit_told (Err faults.Device) broken whole begins (inr (inr is)) = absurd (let two : true ≡ false = sym is ∙ whole in cc)
+  pub change_told : (change : Change) (result : Result (Unit {0}) StoreFault) → a.broken ≡ false → ChangeEnds change a b result → IfErr result (ChangeFailsBy (seen_of a s f) (seen_of b s' f'))
+  change_told change (Ok done) whole ends = tt
+  change_told change (Err faults.NoMemory) whole ends = ends.refused
+  change_told change (Err faults.Worn) whole ends = (inr (ends.begins whole), worn_told ends.cause)
+  change_told change (Err faults.Device) whole ends = device_told whole ends.cause
+
+  pub commit_told : (result : Result (Unit {0}) StoreFault) → a.broken ≡ false → WriteOutEnds a b result → IfErr result (CommitFailsBy (seen_of a s f) (seen_of b s' f'))
+  commit_told (Ok done) whole ends = tt
+  commit_told (Err faults.NoMemory) whole ends = ends.cause
+  commit_told (Err faults.Worn) whole ends = (inr (ends.begins whole), worn_told ends.cause)
+  commit_told (Err faults.Device) whole ends = device_told whole ends.cause
 
 -- ---- how a commit and a cut end
 
 pub stops_either : (result : Result (Unit {0}) StoreFault) (b : Bool) → OnErr result (b ≡ true) → IfErr result (λ fault. (fault ≡ faults.NoMemory) ⊎ (b ≡ true))
 stops_either (Ok done) b stops = tt
 stops_either (Err fault) b stops = inr stops
-
--- a commit takes no memory
-pub takes_none : (result : Result (Unit {0}) StoreFault) (spare count : ℕ) (e : Device) (t u : Table) (broken : Bool) → IfErr result (IsCommitFault spare count e t u broken) → IsErrOf result faults.NoMemory → ⊥
-takes_none (Ok done) spare count e t u broken why is = absurd cc
-takes_none (Err fault) spare count e t u broken why is = let same : fault ≡ faults.NoMemory = cc in subst (IsCommitFault spare count e t u broken) same why
 
 pub stopped : (result : Result (Unit {0}) StoreFault) (h b : Bool) → OnErr result (b ≡ true) → IfErr result (λ fault. (h && not b) ≡ false)
 stopped (Ok done) h b stops = tt
@@ -251,10 +293,6 @@ stopped (Err fault) h b stops = not_sound h b stops
 pub committed : (result : Result (Unit {0}) StoreFault) (q : PagesState) (n : PageMap) → OnOk result (q.sound ≡ true) → OnOk result (SamePages q.kept n) → (q.sound ≡ true → IsCarried q.device q.spare q.kept) → OnOk result (KeptAs q n)
 committed (Ok done) q n sound same now = kept_as q n same (now sound)
 committed (Err fault) q n sound same now = tt
-
-pub right_way : (result : Result (Unit {0}) StoreFault) (q : PagesState) (m n : PageMap) → OnOk result (SamePages q.kept n) → OnOk result (SamePages q.kept m ⊎ SamePages q.kept n)
-right_way (Ok done) q m n same = inr same
-right_way (Err fault) q m n same = tt
 
 -- a cut only fails on a store that is broken
 pub cut_told : (result : Result (Unit {0}) StoreFault) (p q : PagesState) (broken : Bool) → broken ≡ false → IfErr result (λ fault. (fault ≡ faults.Device) × (broken ≡ true)) → IfErr result (CommitFailsBy p q)

@@ -1,6 +1,7 @@
 pub mod Found
 pub mod Reading
 pub mod StoreOf
+pub mod StoreState
 pub mod Caching
 pub mod Changing
 pub mod Counts

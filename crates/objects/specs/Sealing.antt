@@ -1,6 +1,6 @@
 -- The writing of the checkpoint of a store that is given up, in the words of its pages.
 -- From: this project.
-use Rattle.std.specs.Prelude.{◌≡◌, ◌⊎◌, ◌<◌, ◌≤◌, ◌+◌, ℕ, true, false, Some, None, Result, Ok, Err}
+use Rattle.std.specs.Prelude.{◌≡◌, ◌⊎◌, ◌<◌, ◌≤◌, ◌+◌, ℕ, true, false, Some, None, Result, Ok, Err, OnOk}
 use Rattle.nand_model.specs.Calls.{Device, Lasts}
 use Rattle.posix_profile.specs.State.{Objects}
 use Rattle.flash_tree.specs.Checkpoints.{Checkpoint, IsChecked, IsWhole}
@@ -63,13 +63,15 @@ SealEnds due old new (Err faults.Device) = HasFailed new.device ⊎ (old.sound �
 SealEnds due old new (Err faults.Worn) = new.spare < bad_on new.device
 
 -- A store gave its device back, and a checkpoint was written where one was due: what became of its pages, of which those that were
--- kept are so still; that checkpoints stay right where it kept the pages of a tree and no others; and how that ended.
+-- kept are so still; that checkpoints stay right where it kept the pages of a tree and no others; that it was done only with no more bad
+-- blocks than there are to spare, where there were no more before; and how that ended.
 pub record IsSealed (due : Type 0) (old : PagesState) (device : Device) (result : Result (Unit {0}) StoreFault) : Type 0 where
   pub pages : PagesState
   pub device_is : pages.device ≡ device
   pub ends_on : EndsOn old pages
   pub checked : IsExact old → StaysRight old pages
   pub kept : old.sound ≡ true → KeptAs pages old.kept
+  pub few : bad_on old.device ≤ old.spare → OnOk result (bad_on pages.device ≤ pages.spare)
   pub ends : SealEnds due old pages result
 
 -- what a fault of the writing is to those above

@@ -1,108 +1,121 @@
-use Rattle.std.specs.Prelude.{◌≡◌, ◌⊎◌, ◌≤◌, ◌+◌, ◌*◌, ◌/◌, length, not, ◌&&◌}
+use Rattle.std.specs.Prelude.{◌≡◌, ◌⊎◌, ◌≤◌, ◌/◌, length, not, ◌&&◌}
 use Rattle.std.proofs.Common.{refl, ◌∙◌, sym, ap, subst, arith}
-use Rattle.std.proofs.lemmas.Result.{on_ok_weaker}
 use Rattle.nand_model.specs.Calls.{Device}
 use Rattle.nand_model.specs.declared.geometry.Geometry.{Geometry}
 use Rattle.block_state.specs.Table.{Table}
-use Rattle.block_state.specs.TableOf.{table}
 use Rattle.page_buffer.specs.BufferOf.{buffered, most_pages}
-use Rattle.pages.specs.Stores.{IsCarried}
-use Rattle.pages.specs.State.{PagesState}
-use Rattle.objects.specs.StoreOf.{kept_map, present_map, next_numbers, store_seen}
+use Rattle.pages.specs.Stores.{AreNear, IsCarried}
+use Rattle.objects.specs.StoreOf.{next_numbers}
+use Rattle.objects.specs.StoreState.{StoreState, committed_in, current_in, state_of}
 use Rattle.objects.proofs.Carried.{has_page, store_carries}
 use Rattle.objects.proofs.Steps.{few_new}
 use Rattle.objects.specs.laws.Sound.{sound_whole}
 use Rattle.objects.proofs.ReadOnly.{near_buffered, sound_honest}
-use Rattle.objects.proofs.Told.{breaks_on, change_told, failed_stays, hands_told, is_sound, keeps_either, limits_told, marks_told, sound_on, sound_stays, stops_told, ways}
+use Rattle.objects.proofs.Told.{both_whole, change_told, failed_stays, hands_told, is_sound, keeps_either, limits_told, marks_told, seen_of, sound_on, sound_stays, stays_broken_changed, stops_changed, stops_told, unchanged, ways, when_changed}
 use Rattle.objects.proofs.page_store.StorePageStore.apply.Goals as goal
 
 pub returns-clause-goes_on : goal.returns-clause-goes_on
 returns-clause-goes_on g c =
-    let self = c.args.self.now in
     let new = c.change.new.self in
+    let a : StoreState = state_of c.args.self.now in
+    let b : StoreState = state_of new in
     let e = c.change.ensures in
-    let old = g.N.Nand.state self.device in
-    let now = g.N.Nand.state new.device in
+    let lasts = e.lasts in
     record {
-      page_bytes = ap (λ (k : Geometry). k.bytes) e.lasts.geometry;
-      most = new.most ∙ ap (λ (k : Geometry). k.pages / 4) e.lasts.geometry ∙ sym self.most;
-      spare = e.same;
+      page_bytes = ap (λ (k : Geometry). k.bytes) lasts.device.geometry;
+      most = new.most ∙ ap (λ (k : Geometry). k.pages / 4) lasts.device.geometry ∙ sym c.args.self.now.most;
+      spare = lasts.spare;
       worn = refl;
-      refused = e.counts.refused;
-      commits = e.counts.commits;
-      failed = failed_stays old now self.broken new.broken e.lasts (breaks_on c.change.result self.broken new.broken e.whole e.stops (λ none. (e.refused none).2));
-      device = e.lasts;
-      numbers = hands_told old now (table self.blocks) (table new.blocks) e.numbers;
-      marks = marks_told old now (table self.blocks) (table new.blocks) self.ready new.ready e.marks;
-      limits = λ honest _. limits_told now (table new.blocks) new.ready new.stands.limits (e.lasts.honest ∙ honest);
-      truth = e.numbers.truth;
+      refused = lasts.counts.refused;
+      commits = lasts.counts.commits;
+      failed = failed_stays a.log.device b.log.device a.broken b.broken lasts.device (stays_broken_changed c.args.change c.change.result a b e.ends);
+      device = lasts.device;
+      numbers = hands_told a.log.device b.log.device a.log.table b.log.table lasts.numbers;
+      marks = marks_told a.log.device b.log.device a.log.table b.log.table c.args.self.now.ready new.ready e.pays.pays.marks;
+      limits = λ honest _. limits_told b.log.device b.log.table new.ready new.stands.limits (lasts.device.honest ∙ honest);
+      truth = lasts.numbers.truth;
     }
 
 pub returns-clause-sound : goal.returns-clause-sound
 returns-clause-sound g c =
-    let self = c.args.self.now in
-    let new = c.change.new.self in
-    sound_stays c.change.result (g.N.Nand.state self.device) (g.N.Nand.state new.device) self.broken new.broken c.change.ensures.lasts c.change.ensures.whole
+    let a : StoreState = state_of c.args.self.now in
+    let b : StoreState = state_of c.change.new.self in
+    let e = c.change.ensures in
+    sound_stays c.change.result a.log.device b.log.device a.broken b.broken e.lasts.device (when_changed c.args.change c.change.result a b e.ends (λ is. both_whole a b is.whole))
 
 pub returns-clause-present : goal.returns-clause-present
-returns-clause-present g c = λ sound. let self = c.args.self.now in c.change.ensures.present (sound_honest (g.N.Nand.state self.device).honest self.broken sound)
+returns-clause-present g c = λ sound.
+    let a : StoreState = state_of c.args.self.now in
+    when_changed c.args.change c.change.result a (state_of c.change.new.self) c.change.ensures.ends (λ is. is.current (sound_honest a.log.device.honest a.broken sound))
+
+pub returns-clause-power : goal.returns-clause-power
+returns-clause-power g c = when_changed c.args.change c.change.result (state_of c.args.self.now) (state_of c.change.new.self) c.change.ensures.ends (λ is. is.whole.power)
 
 pub returns-clause-kept : goal.returns-clause-kept
 returns-clause-kept g c = λ sound.
-    let self = c.args.self.now in
     let new = c.change.new.self in
+    let a : StoreState = state_of c.args.self.now in
+    let b : StoreState = state_of new in
+    let r = c.change.result in
+    let change = c.args.change in
     let e = c.change.ensures in
-    let old = g.N.Nand.state self.device in
-    let now = g.N.Nand.state new.device in
-    let honest = sound_honest old.honest self.broken sound in
-    let whole = sound_whole old.honest self.broken sound in
-    let q : PagesState = store_seen now (table new.blocks) new.index new.buffer new.cache new.scratch.items new.found new.spare new.broken new.counts in
-    let m = kept_map old self.index in
-    let n = present_map old self.index self.buffer in
+    let honest = sound_honest a.log.device.honest a.broken sound in
+    let whole = sound_whole a.log.device.honest a.broken sound in
+    let q = seen_of b new.scratch.items new.found in
+    let m = committed_in a in
+    let n = current_in a in
     keeps_either q m n
-    (ways c.change.result q m n (sound_on c.change.result old now self.broken new.broken e.lasts e.whole honest) e.kept (stops_told c.change.result now.honest new.broken e.stops)
-    (λ none. let is = e.refused none in (is_sound now.honest new.broken (e.lasts.honest ∙ honest) (is.2 ∙ whole), is.3)))
-    (λ is. store_carries new.spare now (table new.blocks) new.index c.the_counts_are_of_the_keys.ensures.none new.ready new.stands.tables (new.newest (sound_whole now.honest new.broken is) (sound_honest now.honest new.broken is)))
-    (subst (λ k. IsCarried now k m ⊎ IsCarried now k n) (sym e.same) (e.carried whole honest))
+    (ways r q m n (sound_on r a.log.device b.log.device a.broken b.broken e.lasts.device (when_changed change r a b e.ends (λ is. both_whole a b is.whole)) honest)
+    (when_changed change r a b e.ends (λ is. is.committed)) (stops_told r b.log.device.honest b.broken (stops_changed change r a b e.ends))
+    (λ none. let is = unchanged change r a b e.ends none in (is_sound b.log.device.honest b.broken (e.lasts.device.honest ∙ honest) (is.broken ∙ whole), is.committed)))
+    (λ is. store_carries b.spare b.log.device b.log.table b.index c.the_counts_are_of_the_keys.ensures.none new.ready new.stands.tables (new.newest (sound_whole b.log.device.honest b.broken is) (sound_honest b.log.device.honest b.broken is)))
+    (subst (λ k. IsCarried b.log.device k m ⊎ IsCarried b.log.device k n) (sym e.lasts.spare) (e.carried whole honest))
 
 pub returns-clause-refused : goal.returns-clause-refused
 returns-clause-refused g c = λ none.
-    let self = c.args.self.now in
-    let new = c.change.new.self in
-    let is = c.change.ensures.refused none in
+    let a : StoreState = state_of c.args.self.now in
+    let b : StoreState = state_of c.change.new.self in
+    let is = unchanged c.args.change c.change.result a b c.change.ensures.ends none in
     record {
-      present = is.4;
-      kept = is.3;
-      sound = ap (λ w. (g.N.Nand.state new.device).honest && not w) is.2 ∙ ap (λ (d : Device). d.honest && not self.broken) is.0;
-      device = is.0;
-      next = ap next_numbers is.1;
-      checkpoint = ap (λ (u : Table). u.checkpoint) is.1;
+      present = is.current;
+      kept = is.committed;
+      sound = ap (λ w. b.log.device.honest && not w) is.broken ∙ ap (λ (d : Device). d.honest && not a.broken) is.device;
+      device = is.device;
+      next = ap next_numbers is.table;
+      checkpoint = ap (λ (u : Table). u.checkpoint) is.table;
     }
 
 pub returns-clause-stops : goal.returns-clause-stops
-returns-clause-stops g c = let new = c.change.new.self in stops_told c.change.result (g.N.Nand.state new.device).honest new.broken c.change.ensures.stops
+returns-clause-stops g c =
+    let b : StoreState = state_of c.change.new.self in
+    stops_told c.change.result b.log.device.honest b.broken (stops_changed c.args.change c.change.result (state_of c.args.self.now) b c.change.ensures.ends)
 
 pub returns-clause-fault : goal.returns-clause-fault
 returns-clause-fault g c = λ sound.
     let self = c.args.self.now in
     let new = c.change.new.self in
+    let a : StoreState = state_of self in
+    let b : StoreState = state_of new in
     let e = c.change.ensures in
-    let old = g.N.Nand.state self.device in
-    let now = g.N.Nand.state new.device in
-    let honest = sound_honest old.honest self.broken sound in
-    let whole = sound_whole old.honest self.broken sound in
-    let p : PagesState = store_seen old (table self.blocks) self.index self.buffer self.cache self.scratch.items self.found self.spare self.broken self.counts in
-    let q : PagesState = store_seen now (table new.blocks) new.index new.buffer new.cache new.scratch.items new.found new.spare new.broken new.counts in
+    let honest = sound_honest a.log.device.honest a.broken sound in
+    let whole = sound_whole a.log.device.honest a.broken sound in
     let few : length (buffered self.buffer) ≤ most_pages self.buffer = self.buffer.few in
-    let most : most_pages self.buffer ≡ old.geometry.pages / 4 = self.most in
-    change_told p q (table self.blocks) (table new.blocks) self.index (length (buffered self.buffer)) self.ready.geometry e.lasts.geometry e.same refl new.ready (omega (arith, most)) few (self.few whole)
-    (c.the_counts_add_up_to_the_kept_keys.ensures.all (table self.blocks) self.index self.stands.tables.counts) (λ o k at is. has_page old self.index o k at honest (self.newest whole honest) is)
-    c.change.result self.broken whole (e.begins whole) e.fault
+    let most : most_pages self.buffer ≡ a.log.device.geometry.pages / 4 = self.most in
+    change_told a b self.scratch.items new.scratch.items self.found new.found self.ready.geometry e.lasts.device.geometry e.lasts.spare new.ready (omega (arith, most)) few (self.few whole)
+    (c.the_counts_add_up_to_the_kept_keys.ensures.all a.log.table a.index self.stands.tables.counts) (λ o k at is. has_page a.log.device a.index o k at honest (self.newest whole honest) is)
+    c.args.change c.change.result whole e.ends
 
 pub returns-clause-room : goal.returns-clause-room
 returns-clause-room g c = λ fits.
-    let r = c.change.ensures.room (omega (arith, fits, few_new c.args.self.now.index c.args.change.pages.items)) in
-    record { device = r.0; commits = r.3 }
+    let none = c.change.ensures.room (omega (arith, fits, few_new c.args.self.now.index c.args.change.pages.items)) in
+    record { device = none.device; commits = none.commits }
+
+pub returns-clause-buffered : goal.returns-clause-buffered
+returns-clause-buffered g c = when_changed c.args.change c.change.result (state_of c.args.self.now) (state_of c.change.new.self) c.change.ensures.ends (λ is. is.few)
 
 pub returns-clause-near : goal.returns-clause-near
-returns-clause-near g c = on_ok_weaker c.change.result (λ there i p is. near_buffered _ _ (there i p is)) c.change.ensures.buffered
+returns-clause-near g c =
+    let new = c.change.new.self in
+    let change = c.args.change in
+    when_changed {A = AreNear change.pages.items (seen_of (state_of new) new.scratch.items new.found)} change c.change.result (state_of c.args.self.now) (state_of new) c.change.ensures.ends
+    (λ is i p there. near_buffered _ _ (is.buffered i p there))

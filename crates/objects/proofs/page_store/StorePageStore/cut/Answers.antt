@@ -6,6 +6,7 @@ use Rattle.nand_model.specs.laws.Calls.{lasts_here}
 use Rattle.block_state.specs.TableOf.{table}
 use Rattle.pages.specs.State.{PagesState}
 use Rattle.pages.specs.Stores.{HasNumbersLeft}
+use Rattle.transactions.specs.Checking.{LogState}
 use Rattle.objects.specs.declared.counts.StoreCounts.{StoreCounts}
 use Rattle.objects.specs.StoreOf.{kept_map, next_numbers, store_seen}
 use Rattle.objects.proofs.Carried.{store_carries}
@@ -22,17 +23,17 @@ returns-clause-goes_on g c =
     let same = c.cut_away.ensures.same in
     let old = g.N.Nand.state self.device in
     let now = g.N.Nand.state new.device in
-    let still : now ≡ old = ap g.N.Nand.state same.0 in
-    let tables : table new.blocks ≡ table self.blocks = ap table same.1 in
+    let still : now ≡ old = ap (λ (l : LogState). l.device) same.log in
+    let tables : table new.blocks ≡ table self.blocks = ap (λ (l : LogState). l.table) same.log in
     let lasts : Lasts old now = subst (λ (k : Device). Lasts old k) (sym still) (lasts_here old) in
     record {
       page_bytes = ap (λ (k : Geometry). k.bytes) lasts.geometry;
       most = new.most ∙ ap (λ (k : Geometry). k.pages / 4) lasts.geometry ∙ sym self.most;
-      spare = same.2;
+      spare = same.spare;
       worn = refl;
-      refused = subst (λ (k : StoreCounts). self.counts.refused.total ≤ k.refused.total) (sym same.4) (omega arith);
-      commits = subst (λ (k : StoreCounts). self.counts.commits.total ≤ k.commits.total) (sym same.4) (omega arith);
-      failed = failed_stays old now self.broken new.broken lasts (λ is. same.3 ∙ is);
+      refused = subst (λ (k : StoreCounts). self.counts.refused.total ≤ k.refused.total) (sym same.counts) (omega arith);
+      commits = subst (λ (k : StoreCounts). self.counts.commits.total ≤ k.commits.total) (sym same.counts) (omega arith);
+      failed = failed_stays old now self.broken new.broken lasts (λ is. same.broken ∙ is);
       device = lasts;
       numbers = hands_none old now (table self.blocks) (table new.blocks) still tables;
       marks = marks_none old now (table self.blocks) (table new.blocks) still tables;
@@ -41,7 +42,7 @@ returns-clause-goes_on g c =
     }
 
 pub returns-clause-present : goal.returns-clause-present
-returns-clause-present g c = λ sound. let self = c.args.self.now in c.cut_away.ensures.present (sound_honest (g.N.Nand.state self.device).honest self.broken sound)
+returns-clause-present g c = λ sound. let self = c.args.self.now in c.cut_away.ensures.current (sound_honest (g.N.Nand.state self.device).honest self.broken sound)
 
 pub returns-clause-kept : goal.returns-clause-kept
 returns-clause-kept g c = λ sound.
@@ -50,16 +51,16 @@ returns-clause-kept g c = λ sound.
     let e = c.cut_away.ensures in
     let old = g.N.Nand.state self.device in
     let now = g.N.Nand.state new.device in
-    let honest : now.honest ≡ true = ap (λ x. (g.N.Nand.state x).honest) e.same.0 ∙ sound_honest old.honest self.broken sound in
-    let whole : new.broken ≡ false = e.same.3 ∙ sound_whole old.honest self.broken sound in
+    let honest : now.honest ≡ true = ap (λ (l : LogState). l.device.honest) e.same.log ∙ sound_honest old.honest self.broken sound in
+    let whole : new.broken ≡ false = e.same.broken ∙ sound_whole old.honest self.broken sound in
     let q : PagesState = store_seen now (table new.blocks) new.index new.buffer new.cache new.scratch.items new.found new.spare new.broken new.counts in
-    kept_as q (kept_map old self.index) e.kept (store_carries new.spare now (table new.blocks) new.index c.the_counts_are_of_the_keys.ensures.none new.ready new.stands.tables (new.newest whole honest))
+    kept_as q (kept_map old self.index) e.committed (store_carries new.spare now (table new.blocks) new.index c.the_counts_are_of_the_keys.ensures.none new.ready new.stands.tables (new.newest whole honest))
 
 pub returns-clause-stops : goal.returns-clause-stops
 returns-clause-stops g c =
     let self = c.args.self.now in
     let new = c.cut_away.new.self in
-    cut_stopped c.cut_away.result (g.N.Nand.state new.device).honest self.broken new.broken c.cut_away.ensures.same.3 c.cut_away.ensures.fault
+    cut_stopped c.cut_away.result (g.N.Nand.state new.device).honest self.broken new.broken c.cut_away.ensures.same.broken c.cut_away.ensures.fault
 
 pub returns-clause-fault : goal.returns-clause-fault
 returns-clause-fault g c = λ sound.
@@ -70,10 +71,10 @@ returns-clause-fault g c = λ sound.
     (sound_whole (g.N.Nand.state self.device).honest self.broken sound) c.cut_away.ensures.fault
 
 pub returns-clause-device : goal.returns-clause-device
-returns-clause-device g c = ap g.N.Nand.state c.cut_away.ensures.same.0
+returns-clause-device g c = ap (λ (l : LogState). l.device) c.cut_away.ensures.same.log
 
 pub returns-clause-next : goal.returns-clause-next
-returns-clause-next g c = ap (λ blocks. next_numbers (table blocks)) c.cut_away.ensures.same.1
+returns-clause-next g c = ap (λ (l : LogState). next_numbers l.table) c.cut_away.ensures.same.log
 
 pub returns-clause-memory : goal.returns-clause-memory
 returns-clause-memory g c = λ none. cut_takes_none c.cut_away.result c.args.self.now.broken c.cut_away.ensures.fault none

@@ -32,8 +32,8 @@ invariant_of-self g c =
       shown = λ whole honest o k xs is. e.cuts flash o k ∙ shown_cut cuts (present_data self.index (buffered self.buffer) flash) self.cache c.drop_cuts.new.cache (self.shown whole honest) c.drop_cuts.ensures.fewer c.drop_cuts.ensures.lacks o k xs is;
     }
 
-pub returns-clause-present : goal.returns-clause-present
-returns-clause-present g c = λ honest.
+pub returns-clause-current : goal.returns-clause-current
+returns-clause-current g c = λ honest.
     let self = c.args.self.now in
     let d = g.N.Nand.state self.device in
     known_cut d.honest (c.args.cut ∷ []) (present_data self.index (buffered self.buffer) d.flash) (present_data c.cut_all.new.index (buffered c.cut_all.new.self) d.flash) honest (c.cut_all.ensures.cuts d.flash)

@@ -1,5 +1,4 @@
-use Rattle.std.proofs.Common.{◌≡◌, ◌∙◌, ◌/◌, sym, ap, subst, arith}
-use Rattle.std.proofs.lemmas.Grind.{common_steps}
+use Rattle.std.proofs.Common.{◌≡◌, ◌∙◌, ◌/◌, sym, ap, subst}
 use Rattle.nand_model.specs.declared.geometry.Geometry.{Geometry}
 use Rattle.transactions.specs.laws.Ready.{ready_read}
 use Rattle.bad_blocks.specs.Room.{IsRoomFor}

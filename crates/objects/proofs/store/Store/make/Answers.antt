@@ -37,8 +37,8 @@ invariant_of-self g c =
           c.drop_cuts.ensures.fewer c.drop_committed.ensures.fewer (subst (λ (l : List Cut). LacksCuts l c.drop_cuts.new.cache) c.deref.ensures.value c.drop_cuts.ensures.lacks) (subst (λ (l : List FreshPage). LacksPages l c.drop_committed.new.cache) c.deref-2.ensures.value c.drop_committed.ensures.lacks) o k xs is;
     }
 
-pub returns-clause-present : goal.returns-clause-present
-returns-clause-present g c = λ honest.
+pub returns-clause-current : goal.returns-clause-current
+returns-clause-current g c = λ honest.
     let self = c.args.self.now in
     let d = g.N.Nand.state self.device in
     known_changed d.honest c.args.change (present_data self.index (buffered self.buffer) d.flash) (present_data c.apply.new.index (buffered c.apply.new.self) d.flash) honest (c.apply.ensures.changes d.flash)

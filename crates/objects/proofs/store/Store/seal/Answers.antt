@@ -13,7 +13,7 @@ returns-in-Ok-clause-seals g c =
     let s = c.args.self in
     let e = c.seal.ensures in
     sealed_done (g.N.Nand.state s.device) (table s.blocks) s.index s.buffer s.cache s.scratch.items s.found s.spare s.broken s.counts
-    (g.N.Nand.state c.seal.new.device) (table c.seal.new.blocks) s.ready s.stands c.if-self.false s.newest c.the_counts_are_of_the_keys.ensures.none e.seals e.marks c.in-Ok.ensures.ends
+    (g.N.Nand.state c.seal.new.device) (table c.seal.new.blocks) s.ready s.stands c.if-self.false s.newest c.the_counts_are_of_the_keys.ensures.none e.seals e.marks c.in-Ok.ensures.few c.in-Ok.ensures.ends
 
 pub returns-clause-seals : goal.returns-clause-seals
 returns-clause-seals g c =

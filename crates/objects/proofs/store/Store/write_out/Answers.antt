@@ -1,18 +1,22 @@
 use Rattle.std.specs.Prelude.{◌≡◌, ◌/◌, true, false, List, [], Some, None, length, slice_get}
-use Rattle.std.proofs.Common.{◌∙◌, refl, sym, ap, subst, inl, inr}
+use Rattle.std.proofs.Common.{◌∙◌, refl, sym, ap, subst, inl, inr, arith}
 use Rattle.nand_model.specs.declared.geometry.Geometry.{Geometry}
 use Rattle.page_buffer.specs.BufferOf.{buffered}
 use Rattle.page_buffer.specs.Shown.{kept_data, present_data}
 use Rattle.flash_tree.specs.declared.place.FreshPage.{FreshPage}
 use Rattle.page_buffer.specs.BufferOf.{last_written}
 use Rattle.page_buffer.specs.Buffering.{Buffers}
-use Rattle.objects.specs.Caching.{Shows, AreIn}
+use Rattle.objects.specs.Caching.{Shows, AreIn, TakesPages}
+use Rattle.pages.specs.Stores.{SamePages}
 use Rattle.block_state.specs.TableOf.{table}
-use Rattle.transactions.specs.laws.Handing.{hands_nothing}
+use Rattle.transactions.specs.Checking.{log_of}
+use Rattle.std.proofs.lemmas.Bool.{true≢false}
+use Rattle.objects.specs.StoreState.{StoreState, state_of}
+use Rattle.objects.proofs.Changed.{lasts_still}
 use Rattle.objects.specs.Changing.{IsCommitFault}
 use Rattle.objects.specs.declared.store.Found.TheVariants as places
 use Rattle.objects.proofs.Carried.{either_known, kept_is_carried, newest_committed}
-use Rattle.objects.proofs.Steps.{buffered_shown, commit_fails, committed_power, costs_still, writable}
+use Rattle.objects.proofs.Steps.{buffered_shown, commit_fails, committed_power, known_on, some_buffered, writable}
 use Rattle.objects.proofs.store.Store.write_out.Goals as goal
 
 pub invariant_of-self : goal.invariant_of-self
@@ -64,11 +68,18 @@ commit-requires-clause-can g c = let self = c.args.self.now in record { ready = 
 pub commit-requires-clause-pages : goal.commit-requires-clause-pages
 commit-requires-clause-pages g c = let self = c.args.self.now in writable (g.N.Nand.state self.device) self.buffer (self.objects c.if-self.false) self.buffer_size
 
-pub returns-in-Err-clause-fault : goal.returns-in-Err-clause-fault
-returns-in-Err-clause-fault g c =
-    let self = c.args.self.now in
-    subst (IsCommitFault self.spare (length (buffered self.buffer)) (g.N.Nand.state c.commit.new.device) (table self.blocks) (table c.commit.new.blocks) self.broken) (sym c.store_fault.ensures)
-    (commit_fails self.spare (length (buffered self.buffer)) (g.N.Nand.state c.commit.new.device) (table self.blocks) (table c.commit.new.blocks) self.broken c.in-Err.fault c.in-Err.ensures.ends)
+pub returns-in-Err-clause-ends : goal.returns-in-Err-clause-ends
+returns-in-Err-clause-ends g c =
+    let old : StoreState = state_of c.args.self.now in
+    let new : StoreState = record old { log = log_of (g.N.Nand.state c.commit.new.device) (table c.commit.new.blocks) } in
+    record {
+      is = refl;
+      begins = λ _.
+          let some = some_buffered (buffered c.args.self.now.buffer) (λ none. let two : false ≡ true = (c.in-Err.ensures.nothing none).done in absurd cc) in
+          let long = ap length c.pages.ensures in
+          c.begin.ensures.some (omega (arith, some, long));
+      cause = subst (IsCommitFault old new) (sym c.store_fault.ensures) (commit_fails old new c.in-Err.fault c.in-Err.ensures.ends);
+    }
 
 pub returns-in-Ok-clause-carried : goal.returns-in-Ok-clause-carried
 returns-in-Ok-clause-carried g c = λ whole honest.
@@ -77,11 +88,11 @@ returns-in-Ok-clause-carried g c = λ whole honest.
     let carried = kept_is_carried self.spare d (table self.blocks) self.index c.the_counts_are_of_the_keys.ensures.none self.ready self.stands.tables (self.newest whole honest) in
     either_known d.honest (g.N.Nand.state c.commit.new.device) self.spare (kept_data self.index d.flash) (present_data self.index (buffered self.buffer) d.flash) (c.commit.ensures.newest honest carried)
 
-pub returns-then-self-clause-numbers : goal.returns-then-self-clause-numbers
-returns-then-self-clause-numbers g c = hands_nothing (g.N.Nand.state c.args.self.now.device) (table c.args.self.now.blocks)
+pub returns-then-self-clause-keeps : goal.returns-then-self-clause-keeps
+returns-then-self-clause-keeps g c = record { lasts = lasts_still (state_of c.args.self.now); counts = record { refused = refl; commits = omega arith; none = λ _. refl }; keys = λ _ _ is. is; cache = λ _ _ is. is }
 
-pub returns-then-self-clause-costs : goal.returns-then-self-clause-costs
-returns-then-self-clause-costs g c = let self = c.args.self.now in costs_still _ _ (g.N.Nand.state self.device) (g.N.Nand.state self.device) refl
+pub returns-then-self-clause-ends : goal.returns-then-self-clause-ends
+returns-then-self-clause-ends g c = record { is = c.if-self.true; begins = λ whole. absurd (true≢false (sym c.if-self.true ∙ whole)); cause = inr (inr c.if-self.true) }
 
 pub returns-in-Err-clause-unhindered : goal.returns-in-Err-clause-unhindered
 returns-in-Err-clause-unhindered g c = λ whole why. elim why [
@@ -89,7 +100,25 @@ returns-in-Err-clause-unhindered g c = λ whole why. elim why [
   | inr is ↦ let two : false ≡ true = c.in-Err.ensures.unhindered is in absurd cc
 ]
 
-pub returns-in-Ok-clause-power : goal.returns-in-Ok-clause-power
-returns-in-Ok-clause-power g c =
+pub returns-in-Ok-clause-ends : goal.returns-in-Ok-clause-ends
+returns-in-Ok-clause-ends g c =
     let self = c.args.self.now in
-    committed_power (g.N.Nand.state self.device) (g.N.Nand.state c.commit.new.device) (buffered self.buffer) c.commit.ensures.log.lasts (λ none. (c.commit.ensures.nothing none).device) c.in-Ok.ensures.ends.power
+    let k = c.keep_written.ensures in
+    let done = c.in-Ok.ensures.ends in
+    let old = g.N.Nand.state self.device in
+    let new = g.N.Nand.state c.commit.new.device in
+    let y = c.commit.new.index in
+    let empty : buffered c.keep_written.new.buffer ≡ [] = k.pages ∙ done.empty in
+    record {
+      whole = record {
+        was = c.if-self.false;
+        is = c.if-self.false;
+        power = committed_power old new (buffered self.buffer) c.commit.ensures.log.lasts (λ none. (c.commit.ensures.nothing none).device) done.power;
+      };
+      committed = known_on old.honest new.honest (present_data self.index (buffered self.buffer) old.flash) (kept_data y new.flash) c.commit.ensures.log.lasts.honest done.kept;
+      current = known_on old.honest new.honest (present_data self.index (buffered self.buffer) old.flash) (present_data y (buffered c.keep_written.new.buffer) new.flash) c.commit.ensures.log.lasts.honest
+          (subst (λ (l : List FreshPage). old.honest ≡ true → SamePages (present_data y l new.flash) (present_data self.index (buffered self.buffer) old.flash)) (sym k.pages) done.present);
+      empty = empty;
+      cached = subst (λ (l : List FreshPage). TakesPages l self.cache c.keep_written.new.cache) done.last k.takes;
+      keeps_open = c.in-Ok.ensures.keeps_open;
+    }

@@ -1,5 +1,5 @@
 -- The kept pages of objects that all have names are those of the tree.
-use Rattle.std.specs.Prelude.{◌≡◌, ◌<◌, ◌+◌, ◌-◌, ◌*◌, ◌/◌, ℕ, zero, suc, true, false, List, [], ◌∷◌, length, Option, Some, None, is_some, slice_get, ◌⊎◌, Result, Ok, Err}
+use Rattle.std.specs.Prelude.{◌≡◌, ◌<◌, ◌≤◌, ◌+◌, ◌-◌, ◌*◌, ◌/◌, ℕ, zero, suc, true, false, List, [], ◌∷◌, length, Option, Some, None, is_some, slice_get, ◌⊎◌, Result, Ok, Err}
 use Rattle.std.specs.Cmp.Lexicographic.{slice_cmp, nat_list_cmp_total}
 use Rattle.std.specs.Ordering.{nat_cmp}
 use Rattle.std.specs.FinMap as map
@@ -19,7 +19,7 @@ use Rattle.flash_tree.specs.Tree.{LooksUp, InFootprint, slot_pairs}
 use Rattle.flash_tree.specs.laws.SlotCounts.{entries_len}
 use Rattle.pages.specs.Maps.{PageMap}
 use Rattle.pages.specs.State.{PagesState}
-use Rattle.pages.specs.Stores.{Carries, HasPage}
+use Rattle.pages.specs.Stores.{Carries, HasPage, bad_on}
 use Rattle.object_pages.specs.Holding.{HoldsFile, HoldsDirectory, HoldsObjects}
 use Rattle.object_pages.specs.laws.Holding.{held}
 use Rattle.paged_objects.specs.Standing.{Shown}
@@ -101,9 +101,10 @@ module _ (z : Sizes) (numbers : IsSizes z) (m : PageMap) where
 
 -- pages of objects that all have names are those of the tree that a mount shows
 pub keeps_only : (z : Sizes) (p : PagesState) (objects : Objects) → IsSizes z → p.sound ≡ true → Shown z p (settled objects) → HoldsObjects z p.kept objects → settled objects ≡ objects
-    → KeepsOnly z p (settled objects)
-keeps_only z p objects numbers sound shown holds same = record {
+    → bad_on p.device ≤ p.spare → KeepsOnly z p (settled objects)
+keeps_only z p objects numbers sound shown holds same few = record {
   sound = sound;
+  few = few;
   all = λ honest o c foot. footprint_pages z p.kept numbers p.device.flash (carries honest) objects holds o c foot;
   only = λ honest o c page. page_looked z numbers p.kept objects holds p.device.flash (carries honest) same o c page;
 } where
@@ -113,12 +114,12 @@ keeps_only z p objects numbers sound shown holds same = record {
 module _ {P : Type 0} (state : P → PagesState) (z : Sizes) where
   -- after a commit that is done
   pub commit_exact : (objects : Objects) (a b : PagedObjects P) → Has (meaning_of state) z objects a → settled objects ≡ objects → (r : Result (Unit {0}) StoreFault) (done : Unit {0}) → r ≡ Ok done
-      → Commits (meaning_of state) objects a b r → KeepsOnly z (state b.pages) (settled objects)
-  commit_exact objects a b has same r done is commits =
+      → Commits (meaning_of state) objects a b r → ((state b.pages).sound ≡ true → bad_on (state b.pages).device ≤ (state b.pages).spare) → KeepsOnly z (state b.pages) (settled objects)
+  commit_exact objects a b has same r done is commits few =
       let ends : Commits (meaning_of state) objects a b (Ok done) = subst (Commits (meaning_of state) objects a b) is commits in
       let sound = ends.0.stands.sound in
       keeps_only z (state b.pages) objects has.numbers sound (commit_done state z objects a b has r done is commits)
-      (subst (λ (y : Sizes). HoldsObjects y (state b.pages).kept objects) has.sizes (ends.1.0.holds sound)) same
+      (subst (λ (y : Sizes). HoldsObjects y (state b.pages).kept objects) has.sizes (ends.1.0.holds sound)) same (few sound)
 
   -- a commit of objects that settle to others leaves the tree or settles these
   pub committed_tree : (first objects : Objects) (a b : PagedObjects P) → Has (meaning_of state) z objects a → (r : Result (Unit {0}) StoreFault) → (r ≡ Err faults.NoMemory → ⊥)

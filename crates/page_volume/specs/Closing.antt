@@ -1,6 +1,6 @@
 -- What the end of a volume leaves.
 -- From: this project.
-use Rattle.std.specs.Prelude.{◌≡◌, ◌⊎◌, ◌<◌, ℕ, true, false, None}
+use Rattle.std.specs.Prelude.{◌≡◌, ◌⊎◌, ◌<◌, ◌≤◌, ℕ, true, false, None}
 use Rattle.std.specs.FinMap as map
 use Rattle.volume_terms.specs.Sizes.{Sizes}
 use Rattle.posix_profile.specs.State.{Objects, State}
@@ -8,7 +8,7 @@ use Rattle.object_store.specs.Stores.{settled}
 use Rattle.flash_tree.specs.Newest.{HasNewest}
 use Rattle.flash_tree.specs.Tree.{InFootprint}
 use Rattle.pages.specs.State.{PagesState}
-use Rattle.pages.specs.Stores.{GoesOn, HasPage}
+use Rattle.pages.specs.Stores.{GoesOn, HasPage, bad_on}
 use Rattle.paged_objects.specs.Ending.{HasEnded}
 use Rattle.paged_objects.specs.Standing.{Shown}
 use Rattle.page_volume.specs.Volumes.{pages_of, is_read_only, is_stopped, IsVolumeOf}
@@ -30,9 +30,11 @@ pub record Closes {P : Type 0} (state : P → PagesState) (n : ℕ) (a b : PageV
       → Shown z (state (pages_of b)) tree ⊎ Shown z (state (pages_of b)) (settled s.objects)
   pub cause : is_stopped b ≡ true → (z : Sizes) (s : State) → IsVolumeOf state z s a → HasEnded (state (pages_of a)) (state (pages_of b))
 
--- The store is sound, and on an honest device a key has a kept page exactly where it is looked up to see the tree.
+-- The store is sound, with no more bad blocks than there are to spare; and on an honest device a key has a kept page exactly where it is
+-- looked up to see the tree.
 pub record KeepsOnly (z : Sizes) (p : PagesState) (tree : Objects) : Type 0 where
   pub sound : p.sound ≡ true
+  pub few : bad_on p.device ≤ p.spare
   pub all : p.device.honest ≡ true → (o c : ℕ) → InFootprint z (HasNewest p.device.flash) tree o c → HasPage p.kept o c
   pub only : p.device.honest ≡ true → (o c : ℕ) → HasPage p.kept o c → InFootprint z (HasNewest p.device.flash) tree o c
 

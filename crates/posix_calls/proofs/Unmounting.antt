@@ -1,5 +1,5 @@
 -- How a volume ends, by how its pages end.
-use Rattle.std.specs.Prelude.{◌≡◌, ◌⊎◌, Bool, true, false, Result, Ok, Err}
+use Rattle.std.specs.Prelude.{◌≡◌, ◌⊎◌, ◌≤◌, Bool, true, false, Result, Ok, Err, OnOk}
 use Rattle.std.proofs.Common.{refl, sym, ◌∙◌, ap, subst, inl, inr}
 use Rattle.std.proofs.lemmas.Bool.{true≢false}
 use Rattle.nand_model.specs.Calls.{Device}
@@ -15,7 +15,7 @@ use Rattle.page_volume.specs.Closing.{KeepsOnly, CanWrite}
 use Rattle.page_volume.specs.Volumes.{pages_of, is_read_only, is_stopped, IsVolumeOf}
 use Rattle.page_volume.specs.declared.volume.PageVolume.{PageVolume}
 use Rattle.pages.specs.State.{PagesState}
-use Rattle.pages.specs.Stores.{GoesOn, KeptAs}
+use Rattle.pages.specs.Stores.{GoesOn, KeptAs, bad_on}
 use Rattle.paged_objects.specs.Ending.{HasEnded}
 use Rattle.paged_objects.specs.Standing.{Shown}
 use Rattle.paged_objects.specs.laws.OnFlash.{shown_there}
@@ -50,6 +50,10 @@ pub record Finished {P : Type 0} (state : P → PagesState) (v : PageVolume P) (
 -- the device keeps its power where the pages say so
 power_there : (p : PagesState) (device : Device) → LiesOn p device → p.device.gone ≡ false → device.gone ≡ false
 power_there p device (told, is) power = sym (ap (λ (d : Device). d.gone) is) ∙ power
+
+-- it has as many bad blocks
+few_there : (p : PagesState) (device : Device) → LiesOn p device → bad_on p.device ≤ p.spare → bad_on device ≤ p.spare
+few_there p device (told, is) few = subst (λ (d : Device). bad_on d ≤ p.spare) is few
 
 -- a tree that was shown is shown by what was kept
 sealed_shown : (z : Sizes) (p q : PagesState) (tree : Objects) → EndsOn p q → p.sound ≡ true → KeptAs q p.kept → Shown z p tree → Shown z q tree
@@ -89,6 +93,7 @@ module _ {P : Type 0} (state : P → PagesState) (v : PageVolume P) (p : PagesSt
     replies_are = finished.replies_are;
     read_only_done = finished.read_only_done;
     power = λ told was. power_there p device lies (finished.power told was);
+    few = λ written z s is done. few_there p device lies (finished.exact z s (written, is) done).few;
     done = finished.done;
     tree = finished.tree;
     cause = finished.cause;
@@ -118,6 +123,10 @@ module _ {P : Type 0} (state : P → PagesState) (v : PageVolume P) (p : PagesSt
     which (Ok done') = inl refl
     which (Err fault) = inr refl
 
+    few_after : (r : Result (Unit {0}) StoreFault) → OnOk r (bad_on sealed.pages.device ≤ sealed.pages.spare) → reply_of r ≡ replies.Done → bad_on sealed.pages.device ≤ sealed.pages.spare
+    few_after (Ok done') few all = few
+    few_after (Err fault) few not = absurd (not_done not)
+
     -- a checkpoint of the pages was written, where one was due
     pub sealed_after : LiesOn sealed.pages device → IsUnmounted state v device told
     sealed_after lies = record {
@@ -129,6 +138,7 @@ module _ {P : Type 0} (state : P → PagesState) (v : PageVolume P) (p : PagesSt
       replies_are = λ runs. subst (λ (r : Reply). (r ≡ replies.Done) ⊎ (r ≡ replies.Error errors.EIO)) (sym is) (which result);
       read_only_done = λ runs read_only. absurd (true≢false (sym read_only ∙ written));
       power = λ all was. power_there sealed.pages device lies (has_power result sealed.ends (sym is ∙ all) (finished.power done was));
+      few = λ _ z s stands all. few_there sealed.pages device lies (few_after result (sealed.few (finished.exact z s (written, stands) done).few) (sym is ∙ all));
       done = λ runs z s stands all. shown_on z s stands (settled s.objects) (finished.done runs z s stands done);
       tree = λ runs z s stands tree shown. inr (shown_on z s stands (settled s.objects) (finished.done runs z s stands done));
       cause = λ runs z s stands stop. ended result sealed.ends (finished.exact z s (written, stands) done).sound (sym is ∙ stop);

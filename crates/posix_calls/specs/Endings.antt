@@ -1,6 +1,6 @@
 -- How a volume ends.
 -- From: this project.
-use Rattle.std.specs.Prelude.{◌≡◌, ◌⊎◌, ◌+◌, Bool, true, false, Result, Ok, Err}
+use Rattle.std.specs.Prelude.{◌≡◌, ◌⊎◌, ◌≤◌, ◌+◌, Bool, true, false, Result, Ok, Err}
 use Rattle.nand_model.specs.Calls.{Device}
 use Rattle.nand_model.specs.Counts.{Costs}
 use Rattle.object_store.specs.Stores.{settled}
@@ -8,7 +8,7 @@ use Rattle.objects.specs.Sealing.{EndsOn, StaysRight, IsSealed, SealEnds}
 use Rattle.page_volume.specs.Volumes.{pages_of, is_read_only, is_stopped, IsVolumeOf}
 use Rattle.page_volume.specs.declared.volume.PageVolume.{PageVolume}
 use Rattle.pages.specs.State.{PagesState}
-use Rattle.pages.specs.Stores.{GoesOn}
+use Rattle.pages.specs.Stores.{GoesOn, bad_on}
 use Rattle.paged_objects.specs.Ending.{HasEnded}
 use Rattle.paged_objects.specs.Standing.{Shown}
 use Rattle.posix_profile.specs.State.{Objects, State}
@@ -25,8 +25,8 @@ LiesOn pages device = (told : Bool) × (pages.device ≡ trusted_as told device)
 
 -- The volume gives its device back. One that is stopped answers EIO, and leaves the device. One that is read-only leaves it too,
 -- and answers Done where it is not stopped. Else the answer is Done, and a mount shows what names keep of the objects; or it is EIO
--- for its reason, and a mount shows that or the tree that it would have shown. After Done the device has not lost its power in it.
--- Checkpoints stay right, also where power is lost.
+-- for its reason, and a mount shows that or the tree that it would have shown. After Done the device has not lost its power in it, and
+-- has no more bad blocks than there are to spare. Checkpoints stay right, also where power is lost.
 pub record IsUnmounted {P : Type 0} (state : P → PagesState) (v : PageVolume P) (device : Device) (reply : Reply) : Type 0 where
   pub pages : PagesState
   pub device_is : LiesOn pages device
@@ -36,6 +36,7 @@ pub record IsUnmounted {P : Type 0} (state : P → PagesState) (v : PageVolume P
   pub replies_are : is_stopped v ≡ false → (reply ≡ replies.Done) ⊎ (reply ≡ replies.Error errors.EIO)
   pub read_only_done : is_stopped v ≡ false → is_read_only v ≡ true → reply ≡ replies.Done
   pub power : reply ≡ replies.Done → (state (pages_of v)).device.gone ≡ false → device.gone ≡ false
+  pub few : is_read_only v ≡ false → (z : Sizes) (s : State) → IsVolumeOf state z s v → reply ≡ replies.Done → bad_on device ≤ pages.spare
   pub done : is_stopped v ≡ false → (z : Sizes) (s : State) → IsVolumeOf state z s v → reply ≡ replies.Done → Shown z pages (settled s.objects)
   pub tree : is_stopped v ≡ false → (z : Sizes) (s : State) → IsVolumeOf state z s v → (tree : Objects) → Shown z (state (pages_of v)) tree
       → Shown z pages tree ⊎ Shown z pages (settled s.objects)

@@ -73,12 +73,15 @@ returns-clause-exact g c z s is told =
     let state = g.P.Pages.state in
     let a = c.into_store-objects.result in
     let b = c.commit.new.self in
+    let v = c.close_all.new.self in
+    let goes : GoesOn (state (pages_of c.args.self)) (state b.pages) = goes_on (state (pages_of c.args.self)) (state (pages_of v)) (state b.pages) c.close_all.ensures.closes.goes_on
+    (subst (λ (p : PagesState). GoesOn p (state b.pages)) (ap (λ o. state o.pages) c.into_store-objects.ensures) c.commit.ensures.lasts.0) in
     let at = c.close_all.ensures.closes.stands (not-true _ (sym c.if-not-close_all.ensures.stops)) z s is.1 in
     let has = has_of state z at.0 c.close_all.new.self a c.into_store-objects.ensures at.1 in
     elim c.match-commit.branch [
       | in-Ok w ↦ subst (λ (q : PagesState). KeepsOnly z q (settled s.objects)) (sym (ap state c.into_pages-2.ensures))
           (subst (λ (objects : Objects). KeepsOnly z (state b.pages) objects) at.2.settles
-          (commit_exact state z at.0.objects a b has (all_named z at.0 at.1.sound.well_formed at.2.closed) c.commit.result _ w.in-Ok.is (c.commit.ensures.commits z at.0.objects has)))
+          (commit_exact state z at.0.objects a b has (all_named z at.0 at.1.sound.well_formed at.2.closed) c.commit.result _ w.in-Ok.is (c.commit.ensures.commits z at.0.objects has) (λ sound. g.met.P.PageStore.few b.pages sound (goes.worn ∙ is.1.worn ∙ is.0))))
       | in-Err w ↦ let two : replies.Error errors.EIO ≡ replies.Done = sym w.reply-is ∙ told in absurd cc
     ]
 

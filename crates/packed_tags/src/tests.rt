@@ -1,0 +1,2 @@
+// Packed tags, in bytes that were worked out by hand.
+mod codec;

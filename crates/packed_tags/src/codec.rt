@@ -88,6 +88,7 @@ fn low_bytes(tag: &[u8; 48]) -> [u8; 24]
 /// The 24 bytes that say the tag, if any do.
 pub fn pack(tag: &[u8; 48]) -> Option<[u8; 24]>
     ensures some { IfSome result (λ packed. unpacked packed ≡ tag.now) }
+    ensures only { IfSome result (λ packed. (other : List ℕ) → AreBytes 24 other → unpacked other ≡ tag.now → other ≡ packed) }
     ensures none { IfNone result ((packed : List ℕ) → AreBytes 24 packed → unpacked packed ≢ tag.now) }
 {
     let packed = low_bytes(tag);

@@ -1,5 +1,5 @@
 // A device with tags of 48 bytes over one with tags of 24.
-ghost use Rattle.std.specs.Prelude.{◌≡◌, false};
+ghost use Rattle.std.specs.Prelude.{◌≡◌, ◌≢◌, ◌<◌, ℕ, List, length, Some, IsErr, false};
 
 use crate::answers::{fill, is_gone_by_erase, is_gone_by_program};
 use crate::codec::pack;
@@ -48,10 +48,13 @@ impl<N: SmallSpareNand> PackedNand<N> {
 }
 
 impl<N: SmallSpareNand> Nand for PackedNand<N> {
-    ghost use Rattle.packed_tags.specs.Adapted.{unpacked_device};
+    ghost use Rattle.nand_model.specs.Calls.{Erases, Programs};
+    ghost use Rattle.nand_model.specs.Flash.{AreBytes};
+    ghost use Rattle.packed_tags.specs.Packed.{unpacked};
+    ghost use Rattle.packed_tags.specs.Parts.{small_state, state_of};
     ghost use Rattle.packed_tags.specs.laws.Adapted.{clean_unpacked, within_unpacked, sized_unpacked};
 
-    ghost state = { λ d. unpacked_device d.refusals (N.state d.inner) };
+    ghost state = { state_of };
 
     ghost clean = { λ d honest. clean_unpacked d.refusals (N.state d.inner).flash (N.clean d.inner honest) };
 
@@ -95,7 +98,18 @@ impl<N: SmallSpareNand> Nand for PackedNand<N> {
         page: u32,
         bytes: &[u8],
         tag: &[u8; 48],
-    ) -> Result<(), ProgramFault> {
+    ) -> Result<(), ProgramFault>
+        requires block { block < (state_of self.old).geometry.blocks }
+        requires page { page < (state_of self.old).geometry.pages }
+        requires good { (state_of self.old).flash.bad block ≡ false }
+        requires next { (state_of self.old).flash.next block ≡ Some page }
+        requires size { length bytes.now ≡ (state_of self.old).geometry.bytes }
+        ensures programs { Programs block page bytes.now tag.now (state_of self.old) (state_of self.new) result }
+        ensures fits { (packed : List ℕ) → AreBytes 24 packed → unpacked packed ≡ tag.now
+            → Programs block page bytes.now packed (small_state self.old) (small_state self.new) result }
+        ensures refused { ((packed : List ℕ) → AreBytes 24 packed → unpacked packed ≢ tag.now)
+            → (small_state self.new ≡ small_state self.old) × IsErr result }
+    {
         match pack(tag) {
             Some(packed) => {
                 let answer = self.inner.program(block, page, bytes, &packed);
@@ -112,7 +126,11 @@ impl<N: SmallSpareNand> Nand for PackedNand<N> {
         }
     }
 
-    fn erase(&mut self, block: u32) -> Result<(), EraseFault> {
+    fn erase(&mut self, block: u32) -> Result<(), EraseFault>
+        requires { block < (state_of self.old).geometry.blocks }
+        ensures erases { Erases block (state_of self.old) (state_of self.new) result }
+        ensures small { Erases block (small_state self.old) (small_state self.new) result }
+    {
         let answer = self.inner.erase(block);
         self.gone = is_gone_by_erase(answer);
         match answer {

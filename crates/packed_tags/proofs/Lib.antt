@@ -1,0 +1,2 @@
+pub mod Erasing
+pub mod Walks

@@ -1,0 +1,10 @@
+use Rattle.std.proofs.Common.{ap, ◌∙◌}
+use Rattle.page_tags.specs.Tags.{tag_bytes}
+use Rattle.packed_tags.specs.Packed.{unpacked}
+use Rattle.packed_tags.specs.laws.Packed.{same_packed}
+use Rattle.packed_tags.proofs.codec.unpack.Goals as goal
+
+pub returns-clause-only : goal.returns-clause-only
+unfolding unpacked
+returns-clause-only c other are is =
+    same_packed other c.args.packed.now are (record { len = c.told-packed; each = c.fits-packed }) (is ∙ c.encode.ensures ∙ ap tag_bytes c.read.ensures)

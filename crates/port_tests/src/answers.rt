@@ -8,22 +8,32 @@ use std::test::Fail;
 /// bytes of a page, 32 pages of a block, and as many blocks as it is made with; all other bytes that it gives are 7.
 #[derive(Drop)]
 struct Script {
+    lines: Lines,
+    calls: Calls,
+}
+
+#[derive(Drop)]
+struct Lines {
     blocks: u8,
     answers: Vec<Answer>,
     asked: Vec<Request>,
-    calls: Calls,
 }
 
 impl Script {
     fn new(alloc: Global, blocks: u8, answers: &[Answer]) -> Result<Script, AllocError> {
-        Ok(Script {
+        let lines = Lines {
             blocks,
             answers: Vec::from_slice(alloc, answers)?,
             asked: Vec::new(alloc),
+        };
+        Ok(Script {
+            lines,
             calls: Calls::new(),
         })
     }
+}
 
+impl Lines {
     fn answer(&mut self, request: Request) -> Answer {
         let place = self.asked.len();
         if self.asked.push(request).is_err() {
@@ -37,17 +47,17 @@ impl Port for Script {
     ghost calls = { λ port. port.calls.list };
 
     fn read(&mut self, request: Request, buffer: &mut [u8]) -> Answer {
-        let answer = self.answer(request);
+        let answer = self.lines.answer(request);
         buffer.fill(7);
         if request == Request::Sizes && buffer.len() == 12 {
-            buffer.copy_from_slice(&[0, 2, 0, 0, 32, 0, 0, 0, self.blocks, 0, 0, 0]);
+            buffer.copy_from_slice(&[0, 2, 0, 0, 32, 0, 0, 0, self.lines.blocks, 0, 0, 0]);
         }
         self.calls = self.calls.with(request, buffer, answer);
         answer
     }
 
     fn write(&mut self, request: Request, bytes: &[u8]) -> Answer {
-        let answer = self.answer(request);
+        let answer = self.lines.answer(request);
         self.calls = self.calls.with(request, bytes, answer);
         answer
     }
@@ -77,13 +87,16 @@ fn the_sizes_and_marks_are_asked_first(rt: HostRuntime) -> Result<(), Fail> {
     assert_eq!(rt; nand.geometry().pages(), 32);
     assert_eq!(rt; nand.geometry().blocks(), 5);
     assert!(rt; !nand.is_bad(0) && nand.is_bad(1) && !nand.is_bad(4));
-    let asked = nand.into_port().asked;
+    let asked = nand.into_port().lines.asked;
     assert_eq!(rt; asked.len(), 6);
     assert_eq!(rt; asked.first().copied(), Some(Request::Sizes));
     assert_eq!(rt; asked.last().copied(), Some(Request::IsMarked { block: 4 }));
     assert_eq!(rt; open_fault(alloc, 5, &[])?, Some(OpenFault::BadGeometry));
     assert_eq!(rt; open_fault(alloc, 5, &OPENED[..5])?, Some(OpenFault::Gone));
-    assert_eq!(rt; open_fault(alloc, 4, &OPENED)?, Some(OpenFault::BadGeometry));
+    assert_eq!(rt;
+        open_fault(alloc, 4, &OPENED)?,
+        Some(OpenFault::BadGeometry)
+    );
     Ok(())
 }
 
@@ -119,8 +132,14 @@ fn each_answer_has_its_meaning(rt: HostRuntime) -> Result<(), Fail> {
     let alloc = rt.alloc();
     let lost = Err(ProgramFault::Gone);
     assert_eq!(rt; read_page(alloc, &[Zero])?, (Ok(PageKind::Erased), false));
-    assert_eq!(rt; read_page(alloc, &[One, Zero])?, (Ok(PageKind::Written), true));
-    assert_eq!(rt; read_page(alloc, &[Two])?, (Ok(PageKind::Uncorrectable), false));
+    assert_eq!(rt;
+        read_page(alloc, &[One, Zero])?,
+        (Ok(PageKind::Written), true)
+    );
+    assert_eq!(rt;
+        read_page(alloc, &[Two])?,
+        (Ok(PageKind::Uncorrectable), false)
+    );
     assert_eq!(rt; read_page(alloc, &[One, One])?, (Err(Gone), false));
     assert_eq!(rt; read_page(alloc, &[Lost])?, (Err(Gone), false));
     assert_eq!(rt; change(alloc, &[Zero, Zero, Zero])?, (Ok(()), Ok(())));

@@ -19,9 +19,14 @@ const ERASED: Page = Page {
 /// Eight blocks of 32 pages of 512 bytes, none marked bad. It answers so many requests; then power is gone.
 #[derive(Drop)]
 pub(crate) struct Chip {
+    pub(crate) memory: Memory,
+    calls: Calls,
+}
+
+#[derive(Drop)]
+pub(crate) struct Memory {
     pages: Vec<Page>,
     tag: [u8; 48],
-    calls: Calls,
     pub(crate) left: u32,
 }
 
@@ -38,14 +43,19 @@ fn fill(buffer: &mut [u8], bytes: &[u8]) {
 
 impl Chip {
     pub(crate) fn new(alloc: Global) -> Result<Chip, AllocError> {
-        Ok(Chip {
+        let memory = Memory {
             pages: Vec::from_elem(alloc, ERASED, 256)?,
             tag: [0; 48],
-            calls: Calls::new(),
             left: u32::MAX,
+        };
+        Ok(Chip {
+            memory,
+            calls: Calls::new(),
         })
     }
+}
 
+impl Memory {
     /// Whether one more request is answered.
     fn has_power(&mut self) -> bool {
         match self.left.checked_sub(1) {
@@ -111,8 +121,8 @@ impl Port for Chip {
 
     fn read(&mut self, request: Request, buffer: &mut [u8]) -> Answer {
         let mut answer = Answer::Lost;
-        if self.has_power() {
-            answer = self.told(request, buffer);
+        if self.memory.has_power() {
+            answer = self.memory.told(request, buffer);
         }
         self.calls = self.calls.with(request, buffer, answer);
         answer
@@ -120,8 +130,8 @@ impl Port for Chip {
 
     fn write(&mut self, request: Request, bytes: &[u8]) -> Answer {
         let mut answer = Answer::Lost;
-        if self.has_power() {
-            self.done(request, bytes);
+        if self.memory.has_power() {
+            self.memory.done(request, bytes);
             answer = Answer::Zero;
         }
         self.calls = self.calls.with(request, bytes, answer);

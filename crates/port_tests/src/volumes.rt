@@ -51,9 +51,9 @@ fn a_volume_is_kept_by_a_driver(rt: HostRuntime) -> Result<(), Fail> {
     )?;
     assert!(rt; text.as_slice() == b"names 1 b\nfd 0\ndata 5 hello\nerror ENOENT\nok\n".as_slice());
     // Power is gone two requests after those of a mount and of the reads of a list.
-    chip.left = u32::MAX;
+    chip.memory.left = u32::MAX;
     let (mut chip, _) = session(alloc, chip, &["list /"])?;
-    chip.left = (u32::MAX - chip.left).saturating_add(2);
+    chip.memory.left = (u32::MAX - chip.memory.left).saturating_add(2);
     let (mut chip, text) = session(
         alloc,
         chip,
@@ -70,7 +70,7 @@ fn a_volume_is_kept_by_a_driver(rt: HostRuntime) -> Result<(), Fail> {
         text.starts_with(b"names 1 a\nok\nerror EIO\nerror EIO\n"),
         "{text:?}"
     );
-    chip.left = u32::MAX;
+    chip.memory.left = u32::MAX;
     let (_, text) = session(alloc, chip, &["list /"])?;
     assert!(rt; text.starts_with(b"names 1 a\n"), "{text:?}");
     Ok(())

@@ -28,6 +28,11 @@ returns-in-Err-mount_device c =
       left = λ no. c.is_full.ensures.same;
       at_most_0 = search (arith, below);
       busy = λ full. (let two : true ≡ false = sym full ∙ sym c.is_full.ensures.full ∙ c.if-is_full.false in absurd cc);
-      opened = λ empty. (Ok (record { driver = c.in-Ok.device.driver; kept = c.in-Ok.device.kept }), (c.in-Ok.ensures.power,
-      inr (record { driver = c.in-Err-mount_device._device.driver; kept = c.in-Err-mount_device._device.kept }, record { fault = told.fault; number_is = same; reads = told.reads; why = told.why })));
+      opened = λ empty. (
+        Ok (record { driver = c.in-Ok.device.driver; kept = c.in-Ok.device.kept }),
+        (
+          c.in-Ok.ensures.power,
+          inr (record { driver = c.in-Err-mount_device._device.driver; kept = c.in-Err-mount_device._device.kept }, record { fault = told.fault; number_is = same; reads = told.reads; why = told.why }),
+        ),
+      );
     }

@@ -82,11 +82,14 @@ enum { FLASH_DONE = 0, FLASH_FAILED = 1 };
  * A function that returns a number other than those it may return, as -1, reports a loss of power: nothing is asked of the
  * driver after that until the next format or mount.
  *
- * The library keeps to this, by proof, whatever the driver returns:
+ * The library keeps to this, whatever the driver returns. It is proved of each request that the library makes, which names the
+ * call and all that is handed over; that a request reaches the driver as it was made, by a read or write of a file and
+ * flash_port.c, is tested:
  *   - a block is below `blocks`, a page below `block_pages`;
  *   - a page is programmed only if its block is not marked bad and was erased since the format or mount began, with
  *     FLASH_DONE, and only the first page after that or the one after the last that was programmed, with FLASH_DONE;
- *   - `data` points to page_bytes bytes, `tag` to FLASH_TAG_BYTES, at any address: of no alignment.
+ *   - `data` points to page_bytes bytes, `tag` to FLASH_TAG_BYTES, at any address: of no alignment;
+ *   - after a loss of power nothing is asked.
  *
  * The driver promises this, and no proof reaches it:
  *   - a page whose program returned FLASH_DONE reads as FLASH_WRITTEN with that data and that tag until its block is erased:

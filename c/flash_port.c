@@ -1,21 +1,25 @@
 /* What lies between flash_fs.h and the proved library, libflash_c.a: its declarations, and the port by which it reaches a
  * driver.
  *
- * The library asks for a device by read, write and close of a stream, and for nothing else of a system. The Makefile renames
- * these three by objcopy to flash_port_read, flash_port_write and flash_port_close, so that they come here: a request is
- * written, and the driver is called; then what it returned is read. A request is a head of 12 bytes: a letter, three zeros,
- * the number of a block and that of a page, each in four bytes, the lowest first. After that of a program come the tag and
- * the data.
+ * The library asks for a device by pread, pwrite and close of a file, and for nothing else of a system. The Makefile renames
+ * these three by objcopy to flash_port_read, flash_port_write and flash_port_close, so that they come here, and the driver is
+ * called. Each is one request: the offset is the operation times 2^56, the block times 2^24 and the page; what is returned is
+ * the answer.
  *
- *   letter  request           what is read after it
- *   G       the sizes         bytes of a page, pages of a block, blocks, each in four bytes
- *   M       is it marked      a byte: 0 or 1
- *   T       the tag           a byte: FLASH_ERASED, FLASH_WRITTEN or FLASH_UNCORRECTABLE; then the tag
- *   R       a page            its data; then as for the tag
- *   P, E    program, erase    a byte: FLASH_DONE or FLASH_FAILED
- *   B       mark              a byte: FLASH_DONE
+ *   operation    bytes                                  what is returned
+ *   SIZES        read: bytes of a page, pages of a      0
+ *                block, blocks, each in four bytes,
+ *                the lowest first
+ *   IS_MARKED    read: one, of no meaning               0 or 1
+ *   READ_TAG     read: the tag                          FLASH_ERASED, FLASH_WRITTEN or FLASH_UNCORRECTABLE
+ *   READ_PAGE    read: the data                         as for the tag
+ *   LAST_TAG     read: the tag of the page read last    0
+ *   NEXT_TAG     written: the tag of the next program   0
+ *   PROGRAM      written: the data                      FLASH_DONE or FLASH_FAILED
+ *   ERASE        written: one, of no meaning            FLASH_DONE or FLASH_FAILED
+ *   MARK_BAD     written: one, of no meaning            FLASH_DONE
  *
- * A stream that fails is a loss of power.
+ * -1 is a loss of power, as is any other number; the library asks nothing after it.
  */
 #include "flash_fs.h"
 
@@ -66,25 +70,21 @@ int flash_space(struct flash_slot *slot, struct flash_space *space);
 
 /* ---- What the library is given by this file. */
 
-int64_t flash_port_write(int stream, const void *bytes, size_t size);
-int64_t flash_port_read(int stream, void *bytes, size_t size);
+int64_t flash_port_write(int stream, const void *bytes, size_t size, int64_t offset);
+int64_t flash_port_read(int stream, void *bytes, size_t size, int64_t offset);
 int flash_port_close(int stream);
 int32_t rattle_errno(void);
 
-enum { HEAD_BYTES = 12, SIZES_BYTES = 12 };
+enum operation { SIZES, IS_MARKED, READ_TAG, READ_PAGE, LAST_TAG, NEXT_TAG, PROGRAM, ERASE, MARK_BAD };
 
-/* What the next write is: the head of a request, or after that of a program its tag, and then its data. */
-enum expected { EXPECTS_HEAD, EXPECTS_TAG, EXPECTS_DATA };
+enum { SIZES_BYTES = 12 };
 
 /* What is inside of a struct flash_fs. */
 struct volume {
     struct flash_slot slot;
     const struct flash_driver *driver;
     int stream;
-    enum expected expected;
-    int returned; /* what the driver returned; negative: power is lost */
-    uint8_t head[HEAD_BYTES];
-    uint8_t tag[FLASH_TAG_BYTES];
+    uint8_t tag[FLASH_TAG_BYTES]; /* that of the page that was read last, or that is programmed next */
     _Alignas(16) uint8_t session[FLASH_FS_BYTES - 128];
 };
 
@@ -142,9 +142,6 @@ static int open_stream(struct volume *volume, const struct flash_driver *driver)
             streams[i] = volume;
             volume->driver = driver;
             volume->stream = FIRST_STREAM + i;
-            volume->expected = EXPECTS_HEAD;
-            volume->returned = -1;
-            memset(volume->head, 0, sizeof volume->head);
             memset(volume->tag, 0, sizeof volume->tag);
             return 0;
         }
@@ -166,9 +163,19 @@ int32_t rattle_errno(void)
 
 /* ---- Requests */
 
-static uint32_t number_at(const uint8_t *bytes)
+static enum operation operation_at(int64_t offset)
 {
-    return (uint32_t)bytes[0] | (uint32_t)bytes[1] << 8 | (uint32_t)bytes[2] << 16 | (uint32_t)bytes[3] << 24;
+    return (enum operation)(offset >> 56);
+}
+
+static uint32_t block_at(int64_t offset)
+{
+    return (uint32_t)(offset >> 24);
+}
+
+static uint32_t page_at(int64_t offset)
+{
+    return (uint32_t)offset & 0xffffff;
 }
 
 static void put_number(uint8_t *bytes, uint32_t number)
@@ -177,92 +184,71 @@ static void put_number(uint8_t *bytes, uint32_t number)
         bytes[i] = (uint8_t)(number >> (8 * i));
 }
 
-/* A number that no call may return is a loss of power, also where a byte of it looks like another one. */
-static int checked(int returned)
+/* A number that no call may return is a loss of power. No read or write returns more than it has bytes. */
+static int64_t checked(int returned, size_t size)
 {
-    return returned >= 0 && returned <= FLASH_UNCORRECTABLE ? returned : -1;
+    return returned >= 0 && returned <= FLASH_UNCORRECTABLE && (size_t)returned <= size ? returned : -1;
 }
 
-static void begin(struct volume *volume)
-{
-    const struct flash_driver *driver = volume->driver;
-    uint32_t block = number_at(volume->head + 4), page = number_at(volume->head + 8);
-    switch (volume->head[0]) {
-    case 'M':
-        volume->returned = checked(driver->is_bad(driver->context, block));
-        break;
-    case 'T':
-        volume->returned = checked(driver->read_tag(driver->context, block, page, volume->tag));
-        break;
-    case 'P':
-        volume->expected = EXPECTS_TAG;
-        break;
-    case 'E':
-        volume->returned = checked(driver->erase(driver->context, block));
-        break;
-    case 'B':
-        volume->returned = checked(driver->mark_bad(driver->context, block));
-        break;
-    default: /* 'G' and 'R' are served when they are read */
-        break;
-    }
-}
-
-int64_t flash_port_write(int stream, const void *bytes, size_t size)
+/* A page and a tag are read by the driver to where the library wants them. */
+int64_t flash_port_read(int stream, void *bytes, size_t size, int64_t offset)
 {
     struct volume *volume = volume_at(stream);
     if (volume == NULL)
         return -1;
     const struct flash_driver *driver = volume->driver;
-    switch (volume->expected) {
-    case EXPECTS_HEAD:
-        if (size != HEAD_BYTES)
-            return -1;
-        volume->returned = -1;
-        memcpy(volume->head, bytes, HEAD_BYTES);
-        begin(volume);
-        return HEAD_BYTES;
-    case EXPECTS_TAG:
-        if (size != FLASH_TAG_BYTES)
-            return -1;
-        memcpy(volume->tag, bytes, FLASH_TAG_BYTES);
-        volume->expected = EXPECTS_DATA;
-        return FLASH_TAG_BYTES;
-    case EXPECTS_DATA:
-        if (size != driver->page_bytes)
-            return -1;
-        volume->expected = EXPECTS_HEAD;
-        volume->returned = checked(driver->program(driver->context, number_at(volume->head + 4),
-                                                   number_at(volume->head + 8), bytes, volume->tag));
-        return (int64_t)size;
-    }
-    return -1;
-}
-
-/* A page is read by the driver to where the library wants it. */
-int64_t flash_port_read(int stream, void *bytes, size_t size)
-{
-    struct volume *volume = volume_at(stream);
-    if (volume == NULL || size == 0)
-        return -1;
-    const struct flash_driver *driver = volume->driver;
     uint8_t *answer = bytes;
-    if (volume->head[0] == 'G' && size == SIZES_BYTES) {
+    switch (operation_at(offset)) {
+    case SIZES:
+        if (size != SIZES_BYTES)
+            return -1;
         put_number(answer, driver->page_bytes);
         put_number(answer + 4, driver->block_pages);
         put_number(answer + 8, driver->blocks);
-        return SIZES_BYTES;
-    }
-    if (volume->head[0] == 'R' && size == driver->page_bytes) {
-        volume->returned = checked(driver->read_page(driver->context, number_at(volume->head + 4),
-                                                     number_at(volume->head + 8), answer, volume->tag));
-        return volume->returned < 0 ? -1 : (int64_t)size;
-    }
-    if (volume->returned < 0 || (size != 1 && size != 1 + FLASH_TAG_BYTES))
+        return 0;
+    case IS_MARKED:
+        return checked(driver->is_bad(driver->context, block_at(offset)), size);
+    case READ_TAG:
+        if (size != FLASH_TAG_BYTES)
+            return -1;
+        return checked(driver->read_tag(driver->context, block_at(offset), page_at(offset), answer), size);
+    case READ_PAGE:
+        if (size != driver->page_bytes)
+            return -1;
+        return checked(driver->read_page(driver->context, block_at(offset), page_at(offset), answer, volume->tag), size);
+    case LAST_TAG:
+        if (size != FLASH_TAG_BYTES)
+            return -1;
+        memcpy(answer, volume->tag, FLASH_TAG_BYTES);
+        return 0;
+    default:
         return -1;
-    answer[0] = (uint8_t)volume->returned;
-    memcpy(answer + 1, volume->tag, size - 1);
-    return (int64_t)size;
+    }
+}
+
+int64_t flash_port_write(int stream, const void *bytes, size_t size, int64_t offset)
+{
+    struct volume *volume = volume_at(stream);
+    if (volume == NULL)
+        return -1;
+    const struct flash_driver *driver = volume->driver;
+    switch (operation_at(offset)) {
+    case NEXT_TAG:
+        if (size != FLASH_TAG_BYTES)
+            return -1;
+        memcpy(volume->tag, bytes, FLASH_TAG_BYTES);
+        return 0;
+    case PROGRAM:
+        if (size != driver->page_bytes)
+            return -1;
+        return checked(driver->program(driver->context, block_at(offset), page_at(offset), bytes, volume->tag), size);
+    case ERASE:
+        return checked(driver->erase(driver->context, block_at(offset)), size);
+    case MARK_BAD:
+        return checked(driver->mark_bad(driver->context, block_at(offset)), size);
+    default:
+        return -1;
+    }
 }
 
 /* ---- Volumes */

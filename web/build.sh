@@ -55,7 +55,7 @@ compile_glue() {
     for source in ../c/flash_port.c ../c/flash_heap.c ../c/drivers/ram_nand.c glue/libc.c glue/glue.c; do
         # shellcheck disable=SC2086
         "$clang" $machine -std=c11 -Wall -Wextra -Wpedantic -Werror -O2 -ffreestanding -nostdinc -Iglue/include -I../c -I../c/drivers \
-            -Dflash_port_read=read -Dflash_port_write=write -Dflash_port_close=close -Dflash_memory_alloc=rattle_alloc \
+            -Dflash_port_read=pread -Dflash_port_write=pwrite -Dflash_port_close=close -Dflash_memory_alloc=rattle_alloc \
             -Dflash_memory_realloc=rattle_realloc -Dflash_memory_dealloc=rattle_dealloc \
             -c "$source" -o "$OUT/$(basename "$source" .c).o"
     done

@@ -1,12 +1,10 @@
 -- What the functions do to a slot.
 use Rattle.std.specs.Prelude.{◌≡◌, ◌≢◌, ◌≤ℤ◌, ℕ, Bool, true, false, Result, ℤ, pos, if◌then◌else◌}
-use Rattle.std.specs.declared.fs.File.{File}
 use Rattle.page_volume.specs.Volumes.{is_stopped}
 use Rattle.page_volume.specs.declared.volume.PageVolume.{PageVolume}
 use Rattle.pages.specs.State.{PagesState}
-use Rattle.port_nand.specs.State.{device}
+use Rattle.port_nand.specs.State.{FileDevice, file_device}
 use Rattle.port_nand.specs.declared.device.OpenFault.{OpenFault}
-use Rattle.port_nand.specs.declared.device.PortNand.{PortNand}
 use Rattle.posix_calls.specs.Volumes.{over_pages}
 use Rattle.posix_profile.specs.Runs.{takes_no_memory}
 use Rattle.posix_profile.specs.declared.command.Stamped.{Stamped}
@@ -55,14 +53,14 @@ pub record MountsIn {P : Type 0} (state : P → PagesState) (inside : Slot → P
   pub left : result ≢ pos 0 → new ≡ old
   pub at_most_0 : result ≤ℤ pos 0
   pub busy : old.full ≡ true → result ≡ error_number errors.EBUSY
-  pub opened : old.full ≡ false → (opened : Result (PortNand File) OpenFault) × MountsOpened device state opened result (inside new)
+  pub opened : old.full ≡ false → (opened : Result FileDevice OpenFault) × MountsOpened file_device state opened result (inside new)
 
 -- A format of some device that a port gives: what it returns, or the number for which the port gives none.
 abbrev pub FormatsAt : ℕ → ℤ → Type 0
-FormatsAt spare result = (opened : Result (PortNand File) OpenFault) × FormatsOpened device spare opened result
+FormatsAt spare result = (opened : Result FileDevice OpenFault) × FormatsOpened file_device spare opened result
 
 -- An unmount of what is in a slot: it empties the slot, and ends the volume of a full one. An empty one returns EINVAL.
 pub record EndsIn {P : Type 0} (state : P → PagesState) (inside : Slot → PageVolume P) (old : Slot) (result : ℤ) (new : Slot) : Type 0 where
   pub empties : new.full ≡ false
-  pub ended : old.full ≡ true → (after : PortNand File) × IsEnded state (inside old) (device after) result
+  pub ended : old.full ≡ true → (after : FileDevice) × IsEnded state (inside old) (file_device after) result
   pub empty : old.full ≡ false → result ≡ error_number errors.EINVAL

@@ -9,20 +9,19 @@ use crate::filling::{FlashInfo, FlashSpace, put_data, put_info, put_space};
 use crate::names::put_names;
 use crate::numbers::{count_number, done_number};
 use crate::serve::Serve;
-use port_nand::PortNand;
+use port_nand::{FilePort, PortNand};
 use posix_calls::{Command, Errno, FilePath, Info, Reply, Stamped, Volume};
-use std::fs::File;
 
-/// A mounted volume, whose device is at the other end of a stream.
+/// A mounted volume, whose device is behind a port.
 #[derive(Drop)]
 pub struct Session {
-    pub(crate) volume: Volume<PortNand<File>>,
+    pub(crate) volume: Volume<PortNand<FilePort>>,
 }
 
 impl Serve for Session {
-    ghost serves = { λ old command reply new. ⟦<Volume<PortNand<File>> as Serve>⟧.serves old.volume command reply new.volume };
+    ghost serves = { λ old command reply new. ⟦<Volume<PortNand<FilePort>> as Serve>⟧.serves old.volume command reply new.volume };
 
-    ghost describes = { λ session. ⟦<Volume<PortNand<File>> as Serve>⟧.describes session.volume };
+    ghost describes = { λ session. ⟦<Volume<PortNand<FilePort>> as Serve>⟧.describes session.volume };
 
     fn serve(&mut self, command: &Stamped) -> Reply {
         self.volume.serve(command)

@@ -13,7 +13,7 @@ use crate::session::Session;
 use crate::slot::Slot;
 use flash_pages::FlashPages;
 use pages::Pages;
-use port_nand::PortNand;
+use port_nand::{FilePort, PortNand};
 use posix_calls::Errno;
 use std::alloc::Global;
 use std::fs::File;
@@ -28,7 +28,7 @@ pub extern "C" fn flash_slot_bytes() -> usize {
     size_of::<Session>()
 }
 
-/// How many bytes the number of a stream takes.
+/// How many bytes the number of a file takes.
 #[unsafe(no_mangle)]
 pub extern "C" fn flash_port_bytes() -> usize {
     size_of::<File>()
@@ -40,7 +40,7 @@ pub extern "C" fn flash_format(alloc: Global, port: Port, spare: u32) -> i32
     ensures formats { FormatsAt spare result }
     ensures at_most_0 { result ≤ℤ pos 0 }
 {
-    match PortNand::open(alloc, port.into_file()) {
+    match PortNand::open(alloc, FilePort::new(port.into_file())) {
         Ok(device) => format_device(alloc, device, spare).1,
         Err(fault) => open_number(fault),
     }
@@ -48,13 +48,13 @@ pub extern "C" fn flash_format(alloc: Global, port: Port, spare: u32) -> i32
 
 /// Opens a device and mounts its volume in an empty slot.
 fn mount_in(alloc: Global, slot: &mut Slot, port: Port, cache_pages: u32) -> i32
-    ensures { MountsIn ⟦<FlashPages<TrustedNand<PortNand<File>>> as Pages>⟧.state (λ s. over_pages s.session.volume) slot.old result slot.new }
+    ensures { MountsIn ⟦<FlashPages<TrustedNand<PortNand<FilePort>>> as Pages>⟧.state (λ s. over_pages s.session.volume) slot.old result slot.new }
 {
     let file = port.into_file();
     if slot.is_full() {
         return error_number(Errno::EBUSY);
     }
-    let device = match PortNand::open(alloc, file) {
+    let device = match PortNand::open(alloc, FilePort::new(file)) {
         Ok(device) => device,
         Err(fault) => return open_number(fault),
     };
@@ -70,7 +70,7 @@ fn mount_in(alloc: Global, slot: &mut Slot, port: Port, cache_pages: u32) -> i32
 /// Mounts the volume of a device in an empty slot, with a cache of 16 pages.
 #[unsafe(no_mangle)]
 pub extern "C" fn flash_mount(alloc: Global, slot: &mut Slot, port: Port) -> i32
-    ensures { MountsIn ⟦<FlashPages<TrustedNand<PortNand<File>>> as Pages>⟧.state (λ s. over_pages s.session.volume) slot.old result slot.new }
+    ensures { MountsIn ⟦<FlashPages<TrustedNand<PortNand<FilePort>>> as Pages>⟧.state (λ s. over_pages s.session.volume) slot.old result slot.new }
 {
     mount_in(alloc, slot, port, CACHE_PAGES)
 }
@@ -83,7 +83,7 @@ pub extern "C" fn flash_mount_with(
     port: Port,
     cache_pages: u32,
 ) -> i32
-    ensures { MountsIn ⟦<FlashPages<TrustedNand<PortNand<File>>> as Pages>⟧.state (λ s. over_pages s.session.volume) slot.old result slot.new }
+    ensures { MountsIn ⟦<FlashPages<TrustedNand<PortNand<FilePort>>> as Pages>⟧.state (λ s. over_pages s.session.volume) slot.old result slot.new }
 {
     mount_in(alloc, slot, port, cache_pages)
 }
@@ -91,7 +91,7 @@ pub extern "C" fn flash_mount_with(
 /// Commits what was accepted, and empties the slot.
 #[unsafe(no_mangle)]
 pub extern "C" fn flash_unmount(slot: &mut Slot) -> i32
-    ensures { EndsIn ⟦<FlashPages<TrustedNand<PortNand<File>>> as Pages>⟧.state (λ s. over_pages s.session.volume) slot.old result slot.new }
+    ensures { EndsIn ⟦<FlashPages<TrustedNand<PortNand<FilePort>>> as Pages>⟧.state (λ s. over_pages s.session.volume) slot.old result slot.new }
 {
     if !slot.is_full() {
         return error_number(Errno::EINVAL);

@@ -1,4 +1,8 @@
 pub mod Blocks
-pub mod Requests
+pub mod Calls
+pub mod Driving
+pub mod Knowing
+pub mod Places
+pub mod Sending
 pub mod State
 pub mod laws

@@ -1,17 +1,17 @@
-// A device whose driver is at the other end of a stream.
-ghost use Rattle.std.specs.Prelude.{◌≡◌, ℕ, false, length, IfOk};
-ghost use Rattle.port_nand.specs.Blocks.{IsWhole, next_at};
+// A device whose driver is behind a port.
+ghost use Rattle.std.specs.Prelude.{◌≡◌, false, IfOk};
+ghost use Rattle.port_nand.specs.Calls.{session};
+ghost use Rattle.port_nand.specs.Driving.{IsKept};
 
-use crate::block::{Block, new_blocks, set_bad, set_next};
-use crate::stream::{ask_byte, ask_geometry, ask_page, receive, request_head, send};
-use nand_model::{Count, EraseFault, Geometry, Gone, Nand, PageKind, ProgramFault};
+use crate::driver::Driver;
+use crate::port::Port;
+use nand_model::{EraseFault, Geometry, Gone, Nand, PageKind, ProgramFault};
 use std::alloc::{AllocError, Global};
-use std::io::{Read, Write};
 
 /// Why a device was not opened.
 #[derive(Clone, Copy, Debug, PartialEq, Eq)]
 pub enum OpenFault {
-    /// The stream failed, or what came back is no answer.
+    /// An answer is none: power is gone.
     Gone,
     NoMemory,
     /// The sizes of the device did not come, or a device has none such.
@@ -24,208 +24,129 @@ impl From<AllocError> for OpenFault {
     }
 }
 
-/// A device whose driver is at the other end of a stream. It keeps the marks, the next page of each block and whether the
-/// power is gone: once it is, the driver is asked nothing.
+/// A device whose driver is behind a port. It keeps the marks, the next page of each block and whether power is gone: once it is,
+/// the driver is asked nothing.
 #[derive(Drop)]
-pub struct PortNand<S> {
-    stream: S,
-    geometry: Geometry,
-    blocks: Vec<Block>,
-    gone: bool,
-    cuts: Count,
-    failures: Count,
-    changes: Count,
-    reads: Count,
-    ghost whole: { IsWhole geometry blocks.items },
+pub struct PortNand<P: Port> {
+    pub(crate) driver: Driver<P>,
+    ghost kept: { IsKept P.calls driver },
 }
 
-/// Asks which blocks are marked.
-fn read_marks<S: Read + Write>(
-    stream: &mut S,
-    count: u32,
-    blocks: &mut Vec<Block>,
-) -> Result<(), OpenFault>
-    requires { length blocks.old.items ≡ count }
-    ensures len { length blocks.new.items ≡ length blocks.old.items }
-    ensures nexts { (k : ℕ) → next_at blocks.new.items k ≡ next_at blocks.old.items k }
-{
-    for b in 0..count {
-        match ask_byte(stream, &request_head(b'M', b, 0)) {
-            0 => {}
-            1 => set_bad(blocks, b as usize),
-            _ => return Err(OpenFault::Gone),
-        }
-    }
-    Ok(())
-}
-
-impl<S: Read + Write + Drop> PortNand<S> {
+impl<P: Port + Drop> PortNand<P> {
+    ghost use Rattle.port_nand.specs.Sending.{AsksAll};
     ghost use Rattle.port_nand.specs.State.{device};
 
-    fn of_sizes(alloc: Global, mut stream: S, geometry: Geometry) -> Result<PortNand<S>, OpenFault>
-        ensures { IfOk result (λ d. (device d).gone ≡ false) }
+    /// The device, powered up: no block has a next page. Its sizes are asked for, and in turn which of its blocks are marked.
+    pub fn open(alloc: Global, port: P) -> Result<PortNand<P>, OpenFault>
+        ensures power { IfOk result (λ d. (device P.calls d.driver).gone ≡ false) }
+        ensures asks { IfOk result (λ d. AsksAll d.driver.geometry (P.calls port) (P.calls d.driver.port)) }
     {
-        let mut blocks = new_blocks(alloc, geometry.blocks())?;
-        read_marks(&mut stream, geometry.blocks(), &mut blocks)?;
-        Ok(PortNand {
-            stream,
-            geometry,
-            blocks,
-            gone: false,
-            cuts: Count::new(),
-            failures: Count::new(),
-            changes: Count::new(),
-            reads: Count::new(),
-        })
-    }
-
-    /// The device, powered up: no block has a next page.
-    pub fn open(alloc: Global, mut stream: S) -> Result<PortNand<S>, OpenFault>
-        ensures { IfOk result (λ d. (device d).gone ≡ false) }
-    {
-        match ask_geometry(&mut stream) {
-            Some(geometry) => PortNand::of_sizes(alloc, stream, geometry),
-            None => Err(OpenFault::BadGeometry),
-        }
+        let driver = Driver::open(alloc, port)?;
+        Ok(PortNand { driver })
     }
 }
 
-impl<S> PortNand<S> {
-    /// Gives the stream back.
-    pub fn into_stream(self) -> S
-        ensures { result ≡ self.stream }
+impl<P: Port> PortNand<P> {
+    /// Gives the port back.
+    pub fn into_port(self) -> P
+        ensures { result ≡ self.driver.port }
     {
-        self.stream
+        self.driver.port
     }
 }
 
-impl<S: Read + Write> Nand for PortNand<S> {
+impl<P: Port> Nand for PortNand<P> {
+    ghost use Rattle.std.specs.Prelude.{◌<◌, length, Some};
+    ghost use Rattle.nand_model.specs.Flash.{Erased};
+    ghost use Rattle.nand_model.specs.Calls.{Reads, ReadTells, Fills, FillsData, Programs, Erases, Marks};
+    ghost use Rattle.port_nand.specs.Calls.{erase_result, mark_result};
+    ghost use Rattle.port_nand.specs.Sending.{Asks, AsksPage, SendsPage, programming, reading, tag_read};
     ghost use Rattle.port_nand.specs.State.{device};
+    ghost use Rattle.port_nand.specs.declared.request.Request.TheVariants as requests;
     ghost use Rattle.port_nand.specs.laws.Within.{within_of, of_dishonest};
 
-    ghost state = { device };
+    ghost state = { λ d. device P.calls d.driver };
 
     ghost clean = { λ d honest. of_dishonest honest };
 
-    ghost within = { λ d. within_of d.geometry d.blocks.items d.whole };
+    ghost within = { λ d. within_of d.driver.geometry d.driver.blocks.items d.driver.gone (session (P.calls d.driver.port)) d.kept };
 
     ghost sized = { λ d honest. of_dishonest honest };
 
     fn geometry(&self) -> Geometry {
-        self.geometry
+        self.driver.geometry
     }
 
     fn is_bad(&self, block: u32) -> bool {
-        self.blocks[block as usize].bad
+        self.driver.blocks[block as usize].bad
     }
 
-    fn read_tag(&mut self, block: u32, page: u32, tag: &mut [u8; 48]) -> Result<PageKind, Gone> {
-        if self.gone {
-            return Err(Gone);
-        }
-        self.reads = self.reads.next();
-        let mut answer = [255u8; 49];
-        if let Some(kind) = ask_page(
-            &mut self.stream,
-            &request_head(b'T', block, page),
-            &mut [],
-            &mut answer,
-        ) {
-            if kind == PageKind::Written {
-                tag.copy_from_slice(&answer[1..]);
-            }
-            return Ok(kind);
-        }
-        self.gone = true;
-        self.cuts = self.cuts.next();
-        Err(Gone)
+    /// One request, for the tag.
+    fn read_tag(&mut self, block: u32, page: u32, tag: &mut [u8; 48]) -> Result<PageKind, Gone>
+        requires block { block < self.old.driver.geometry.blocks }
+        requires page { page < self.old.driver.geometry.pages }
+        ensures reads { Reads (device P.calls self.old.driver) (device P.calls self.new.driver) result }
+        ensures kind { ReadTells false Erased result }
+        ensures tag { Fills false tag.old result tag.old tag.new }
+        ensures asks { Asks (requests.ReadTag block page) (tag_read tag.old) (P.calls self.old.driver.port) (P.calls self.new.driver.port) (result, tag.new) }
+    {
+        self.driver.read_tag(block, page, tag)
     }
 
+    /// One request for the data, and where the page is written one for the tag.
     fn read_page(
         &mut self,
         block: u32,
         page: u32,
         bytes: &mut [u8],
         tag: &mut [u8; 48],
-    ) -> Result<PageKind, Gone> {
-        if self.gone {
-            return Err(Gone);
-        }
-        self.reads = self.reads.next();
-        let mut answer = [255u8; 49];
-        let head = request_head(b'R', block, page);
-        if let Some(kind) = ask_page(&mut self.stream, &head, bytes, &mut answer) {
-            if kind == PageKind::Written {
-                tag.copy_from_slice(&answer[1..]);
-            }
-            return Ok(kind);
-        }
-        self.gone = true;
-        self.cuts = self.cuts.next();
-        Err(Gone)
+    ) -> Result<PageKind, Gone>
+        requires block { block < self.old.driver.geometry.blocks }
+        requires page { page < self.old.driver.geometry.pages }
+        requires size { length bytes.old ≡ self.old.driver.geometry.bytes }
+        ensures reads { Reads (device P.calls self.old.driver) (device P.calls self.new.driver) result }
+        ensures kind { ReadTells false Erased result }
+        ensures bytes { FillsData false bytes.old result bytes.new }
+        ensures tag { Fills false tag.old result tag.old tag.new }
+        ensures asks { AsksPage (reading block page bytes.new tag.new tag.old) (P.calls self.old.driver.port) (P.calls self.new.driver.port) result }
+    {
+        self.driver.read_page(block, page, bytes, tag)
     }
 
+    /// Two requests: with the tag, and where it is taken with the data.
     fn program(
         &mut self,
         block: u32,
         page: u32,
         bytes: &[u8],
         tag: &[u8; 48],
-    ) -> Result<(), ProgramFault> {
-        if self.gone {
-            return Err(ProgramFault::Gone);
-        }
-        self.changes = self.changes.next();
-        let mut answer = [255u8; 1];
-        let answered = send(&mut self.stream, &request_head(b'P', block, page))
-            && send(&mut self.stream, tag)
-            && send(&mut self.stream, bytes)
-            && receive(&mut self.stream, &mut answer);
-        if answered && answer[0] == 0 {
-            set_next(&mut self.blocks, block as usize, Some(page + 1));
-            return Ok(());
-        }
-        set_next(&mut self.blocks, block as usize, None);
-        if answered && answer[0] == 1 {
-            self.failures = self.failures.next();
-            return Err(ProgramFault::Failed);
-        }
-        self.gone = true;
-        self.cuts = self.cuts.next();
-        Err(ProgramFault::Gone)
+    ) -> Result<(), ProgramFault>
+        requires block { block < self.old.driver.geometry.blocks }
+        requires page { page < self.old.driver.geometry.pages }
+        requires good { (device P.calls self.old.driver).flash.bad block ≡ false }
+        requires next { (device P.calls self.old.driver).flash.next block ≡ Some page }
+        requires size { length bytes.now ≡ self.old.driver.geometry.bytes }
+        ensures programs { Programs block page bytes.now tag.now (device P.calls self.old.driver) (device P.calls self.new.driver) result }
+        ensures sends { SendsPage (programming block page bytes.now tag.now) (P.calls self.old.driver.port) (P.calls self.new.driver.port) result }
+    {
+        self.driver.program(block, page, bytes, tag)
     }
 
-    fn erase(&mut self, block: u32) -> Result<(), EraseFault> {
-        if self.gone {
-            return Err(EraseFault::Gone);
-        }
-        self.changes = self.changes.next();
-        let answer = ask_byte(&mut self.stream, &request_head(b'E', block, 0));
-        if answer == 0 {
-            set_next(&mut self.blocks, block as usize, Some(0));
-            return Ok(());
-        }
-        set_next(&mut self.blocks, block as usize, None);
-        if answer == 1 {
-            self.failures = self.failures.next();
-            return Err(EraseFault::Failed);
-        }
-        self.gone = true;
-        self.cuts = self.cuts.next();
-        Err(EraseFault::Gone)
+    /// One request.
+    fn erase(&mut self, block: u32) -> Result<(), EraseFault>
+        requires { block < self.old.driver.geometry.blocks }
+        ensures erases { Erases block (device P.calls self.old.driver) (device P.calls self.new.driver) result }
+        ensures asks { Asks (requests.Erase block) (λ c. erase_result c.answer) (P.calls self.old.driver.port) (P.calls self.new.driver.port) result }
+    {
+        self.driver.erase(block)
     }
 
-    fn mark_bad(&mut self, block: u32) -> Result<(), Gone> {
-        if self.gone {
-            return Err(Gone);
-        }
-        self.changes = self.changes.next();
-        if ask_byte(&mut self.stream, &request_head(b'B', block, 0)) == 0 {
-            set_bad(&mut self.blocks, block as usize);
-            return Ok(());
-        }
-        self.gone = true;
-        self.cuts = self.cuts.next();
-        Err(Gone)
+    /// One request.
+    fn mark_bad(&mut self, block: u32) -> Result<(), Gone>
+        requires { block < self.old.driver.geometry.blocks }
+        ensures marks { Marks block (device P.calls self.old.driver) (device P.calls self.new.driver) result }
+        ensures asks { Asks (requests.MarkBad block) (λ c. mark_result c.answer) (P.calls self.old.driver.port) (P.calls self.new.driver.port) result }
+    {
+        self.driver.mark_bad(block)
     }
 }

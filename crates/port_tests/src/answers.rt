@@ -1,55 +1,82 @@
 // Each form of answer, by a script.
 use nand_model::{EraseFault, Gone, Nand, PageKind, ProgramFault};
-use port_nand::{OpenFault, PortNand};
+use port_nand::{Answer, Calls, OpenFault, Port, PortNand, Request};
 use std::alloc::{AllocError, Global};
-use std::io::{Cursor, Read, Result as IoResult, Write};
 use std::test::Fail;
 
-/// A driver that answers by a script, whatever it is asked, and keeps the requests. Past the script the stream ends.
+/// A driver that answers by a script, whatever it is asked, and keeps the requests. Past the script power is gone. It has 512
+/// bytes of a page, 32 pages of a block, and as many blocks as it is made with; all other bytes that it gives are 7.
 #[derive(Drop)]
 struct Script {
-    answers: Cursor<Vec<u8>>,
-    requests: Vec<u8>,
+    lines: Lines,
+    calls: Calls,
+}
+
+#[derive(Drop)]
+struct Lines {
+    blocks: u8,
+    answers: Vec<Answer>,
+    asked: Vec<Request>,
 }
 
 impl Script {
-    fn new(alloc: Global, answers: &[u8]) -> Result<Script, AllocError> {
+    fn new(alloc: Global, blocks: u8, answers: &[Answer]) -> Result<Script, AllocError> {
+        let lines = Lines {
+            blocks,
+            answers: Vec::from_slice(alloc, answers)?,
+            asked: Vec::new(alloc),
+        };
         Ok(Script {
-            answers: Cursor::new(Vec::from_slice(alloc, answers)?),
-            requests: Vec::new(alloc),
+            lines,
+            calls: Calls::new(),
         })
     }
 }
 
-impl Read for Script {
-    fn read(&mut self, buf: &mut [u8]) -> IoResult<usize> {
-        self.answers.read(buf)
+impl Lines {
+    fn answer(&mut self, request: Request) -> Answer {
+        let place = self.asked.len();
+        if self.asked.push(request).is_err() {
+            return Answer::Lost;
+        }
+        self.answers.get(place).copied().unwrap_or(Answer::Lost)
     }
 }
 
-impl Write for Script {
-    fn write(&mut self, buf: &[u8]) -> IoResult<usize> {
-        self.requests.extend_from_slice(buf)?;
-        Ok(buf.len())
+impl Port for Script {
+    ghost calls = { λ port. port.calls.list };
+
+    fn read(&mut self, request: Request, buffer: &mut [u8]) -> Answer {
+        let answer = self.lines.answer(request);
+        buffer.fill(7);
+        if request == Request::Sizes && buffer.len() == 12 {
+            buffer.copy_from_slice(&[0, 2, 0, 0, 32, 0, 0, 0, self.lines.blocks, 0, 0, 0]);
+        }
+        self.calls = self.calls.with(request, buffer, answer);
+        answer
     }
 
-    fn flush(&mut self) -> IoResult<()> {
-        Ok(())
+    fn write(&mut self, request: Request, bytes: &[u8]) -> Answer {
+        let answer = self.lines.answer(request);
+        self.calls = self.calls.with(request, bytes, answer);
+        answer
     }
 }
 
-/// 512 bytes of a page, 32 pages of a block, five blocks, of which the second is marked.
-const OPENED: [u8; 17] = [0, 2, 0, 0, 32, 0, 0, 0, 5, 0, 0, 0, 0, 1, 0, 0, 0];
+use Answer::{Lost, One, Two, Zero};
+
+/// The sizes, and the marks of five blocks, of which the second is marked.
+const OPENED: [Answer; 6] = [Zero, Zero, One, Zero, Zero, Zero];
 
 /// The device of a script, after the sizes and the marks.
-fn opened(alloc: Global, answers: &[u8]) -> Result<PortNand<Script>, Fail> {
+fn opened(alloc: Global, answers: &[Answer]) -> Result<PortNand<Script>, Fail> {
     let mut script = Vec::from_slice(alloc, &OPENED)?;
     script.extend_from_slice(answers)?;
-    Ok(PortNand::open(alloc, Script::new(alloc, script.as_slice())?)?)
+    Ok(PortNand::open(alloc, Script::new(alloc, 5, script.as_slice())?)?)
 }
 
-fn open_fault(alloc: Global, answers: &[u8]) -> Result<Option<OpenFault>, Fail> {
-    Ok(PortNand::open(alloc, Script::new(alloc, answers)?).err())
+fn open_fault(alloc: Global, blocks: u8, answers: &[Answer]) -> Result<Option<OpenFault>, Fail> {
+    Ok(PortNand::open(alloc, Script::new(alloc, blocks, answers)?).err())
 }
 
 #[test]
@@ -60,26 +87,22 @@ fn the_sizes_and_marks_are_asked_first(rt: HostRuntime) -> Result<(), Fail> {
     assert_eq!(rt; nand.geometry().pages(), 32);
     assert_eq!(rt; nand.geometry().blocks(), 5);
     assert!(rt; !nand.is_bad(0) && nand.is_bad(1) && !nand.is_bad(4));
-    let requests = nand.into_stream().requests;
-    assert_eq!(rt; requests.len(), 72);
-    assert!(rt; requests.starts_with(&[b'G', 0, 0, 0, 0, 0, 0, 0, 0, 0, 0, 0]));
-    assert!(rt; requests.ends_with(&[b'M', 0, 0, 0, 4, 0, 0, 0, 0, 0, 0, 0]));
+    let asked = nand.into_port().lines.asked;
+    assert_eq!(rt; asked.len(), 6);
+    assert_eq!(rt; asked.first().copied(), Some(Request::Sizes));
+    assert_eq!(rt; asked.last().copied(), Some(Request::IsMarked { block: 4 }));
+    assert_eq!(rt; open_fault(alloc, 5, &[])?, Some(OpenFault::BadGeometry));
+    assert_eq!(rt; open_fault(alloc, 5, &OPENED[..5])?, Some(OpenFault::Gone));
     assert_eq!(rt;
-        open_fault(alloc, &OPENED[..11])?,
+        open_fault(alloc, 4, &OPENED)?,
         Some(OpenFault::BadGeometry)
     );
-    assert_eq!(rt; open_fault(alloc, &OPENED[..16])?, Some(OpenFault::Gone));
-    assert_eq!(rt; open_fault(alloc, &[0; 17])?, Some(OpenFault::BadGeometry));
     Ok(())
 }
 
-/// What the reads of a page say that have this answer, and whether they fill its buffers.
-fn read_page(alloc: Global, kind: u8) -> Result<(Result<PageKind, Gone>, bool), Fail> {
-    let mut answers = Vec::from_elem(alloc, 7u8, 561)?;
-    if let Some(answer) = answers.get_mut(512) {
-        *answer = kind;
-    }
-    let mut nand = opened(alloc, answers.as_slice())?;
+/// What the reads of a page say that have these answers, and whether they fill its tag.
+fn read_page(alloc: Global, answers: &[Answer]) -> Result<(Result<PageKind, Gone>, bool), Fail> {
+    let mut nand = opened(alloc, answers)?;
     if nand.geometry().bytes() != 512 {
         return Err("a page of another size".into());
     }
@@ -92,7 +115,7 @@ fn read_page(alloc: Global, kind: u8) -> Result<(Result<PageKind, Gone>, bool), 
 /// What an erase, and a program after it, say that have these answers.
 fn change(
     alloc: Global,
-    answers: &[u8],
+    answers: &[Answer],
 ) -> Result<(Result<(), EraseFault>, Result<(), ProgramFault>), Fail> {
     let mut nand = opened(alloc, answers)?;
     if let Err(fault) = nand.erase(2) {
@@ -107,18 +130,26 @@ fn change(
 #[test]
 fn each_answer_has_its_meaning(rt: HostRuntime) -> Result<(), Fail> {
     let alloc = rt.alloc();
-    assert_eq!(rt; read_page(alloc, 0)?, (Ok(PageKind::Erased), false));
-    assert_eq!(rt; read_page(alloc, 1)?, (Ok(PageKind::Written), true));
-    assert_eq!(rt; read_page(alloc, 2)?, (Ok(PageKind::Uncorrectable), false));
-    assert_eq!(rt; read_page(alloc, 3)?, (Err(Gone), false));
-    assert_eq!(rt; change(alloc, &[0, 0])?, (Ok(()), Ok(())));
+    let lost = Err(ProgramFault::Gone);
+    assert_eq!(rt; read_page(alloc, &[Zero])?, (Ok(PageKind::Erased), false));
     assert_eq!(rt;
-        change(alloc, &[0, 1])?,
+        read_page(alloc, &[One, Zero])?,
+        (Ok(PageKind::Written), true)
+    );
+    assert_eq!(rt;
+        read_page(alloc, &[Two])?,
+        (Ok(PageKind::Uncorrectable), false)
+    );
+    assert_eq!(rt; read_page(alloc, &[One, One])?, (Err(Gone), false));
+    assert_eq!(rt; read_page(alloc, &[Lost])?, (Err(Gone), false));
+    assert_eq!(rt; change(alloc, &[Zero, Zero, Zero])?, (Ok(()), Ok(())));
+    assert_eq!(rt;
+        change(alloc, &[Zero, Zero, One])?,
         (Ok(()), Err(ProgramFault::Failed))
     );
-    assert_eq!(rt; change(alloc, &[0, 2])?, (Ok(()), Err(ProgramFault::Gone)));
-    assert_eq!(rt; change(alloc, &[0])?, (Ok(()), Err(ProgramFault::Gone)));
-    assert_eq!(rt; change(alloc, &[1])?.0, Err(EraseFault::Failed));
+    assert_eq!(rt; change(alloc, &[Zero, Zero, Two])?, (Ok(()), lost));
+    assert_eq!(rt; change(alloc, &[Zero, One, Zero])?, (Ok(()), lost));
+    assert_eq!(rt; change(alloc, &[One])?.0, Err(EraseFault::Failed));
     assert_eq!(rt; change(alloc, &[])?.0, Err(EraseFault::Gone));
     Ok(())
 }

@@ -1,40 +1,70 @@
-// A driver of a chip in memory, at the other end of a stream.
+// A driver of a chip in memory, behind a port.
+use port_nand::{Answer, Calls, Port, Request};
 use std::alloc::{AllocError, Global};
-use std::io::{Cursor, Error, ErrorKind, Read, Result as IoResult, Write};
 
-/// What a page of the chip reads as, its tag and its data, as they are answered.
+/// What a page of the chip reads as, its tag and its data.
 #[derive(Clone, Copy)]
 struct Page {
-    kind: u8,
+    kind: Answer,
     tag: [u8; 48],
     data: [u8; 512],
 }
 
 const ERASED: Page = Page {
-    kind: 0,
+    kind: Answer::Zero,
     tag: [255; 48],
     data: [255; 512],
 };
 
-/// Eight blocks of 32 pages of 512 bytes, none marked bad. It answers so many requests; then the stream ends.
+/// Eight blocks of 32 pages of 512 bytes, none marked bad. It answers so many requests; then power is gone.
 #[derive(Drop)]
 pub(crate) struct Chip {
-    alloc: Global,
+    pub(crate) memory: Memory,
+    calls: Calls,
+}
+
+#[derive(Drop)]
+pub(crate) struct Memory {
     pages: Vec<Page>,
-    request: Vec<u8>,
-    answer: Cursor<Vec<u8>>,
+    tag: [u8; 48],
     pub(crate) left: u32,
+}
+
+fn place(block: u32, page: u32) -> usize {
+    block.saturating_mul(32).saturating_add(page) as usize
+}
+
+/// Fills the buffer, where it has this length.
+fn fill(buffer: &mut [u8], bytes: &[u8]) {
+    if buffer.len() == bytes.len() {
+        buffer.copy_from_slice(bytes);
+    }
 }
 
 impl Chip {
     pub(crate) fn new(alloc: Global) -> Result<Chip, AllocError> {
-        Ok(Chip {
-            alloc,
+        let memory = Memory {
             pages: Vec::from_elem(alloc, ERASED, 256)?,
-            request: Vec::new(alloc),
-            answer: Cursor::new(Vec::new(alloc)),
+            tag: [0; 48],
             left: u32::MAX,
+        };
+        Ok(Chip {
+            memory,
+            calls: Calls::new(),
         })
+    }
+}
+
+impl Memory {
+    /// Whether one more request is answered.
+    fn has_power(&mut self) -> bool {
+        match self.left.checked_sub(1) {
+            Some(left) => {
+                self.left = left;
+                true
+            }
+            None => false,
+        }
     }
 
     /// Erases the pages from a place on, as many as a block has.
@@ -46,77 +76,65 @@ impl Chip {
         }
     }
 
-    /// The answer to the request that came whole.
-    fn respond(&mut self) -> IoResult<Vec<u8>> {
-        let mut request = self.request.as_slice();
-        let mut head = [0u8; 12];
-        request.read_exact(&mut head)?;
-        let [letter, _, _, _, b0, b1, b2, b3, p0, p1, p2, p3] = head;
-        let block = u32::from_le_bytes([b0, b1, b2, b3]);
-        let page = u32::from_le_bytes([p0, p1, p2, p3]);
-        let place = block.saturating_mul(32).saturating_add(page) as usize;
-        let mut answer = Vec::new(self.alloc);
-        match letter {
-            b'G' => {
-                for number in [512u32, 32, 8] {
-                    answer.extend_from_slice(&number.to_le_bytes())?;
-                }
-            }
-            b'P' => {
-                if let Some(page) = self.pages.get_mut(place) {
-                    page.kind = 1;
-                    request.read_exact(&mut page.tag)?;
-                    request.read_exact(&mut page.data)?;
-                }
-                answer.push(0)?;
-            }
-            b'E' => {
-                self.erase(place);
-                answer.push(0)?;
-            }
-            b'R' | b'T' => {
-                if let Some(page) = self.pages.get(place) {
-                    if letter == b'R' {
-                        answer.extend_from_slice(&page.data)?;
-                    }
-                    answer.push(page.kind)?;
-                    answer.extend_from_slice(&page.tag)?;
-                }
-            }
-            _ => answer.push(0)?,
+    fn program(&mut self, place: usize, data: &[u8]) {
+        if let Some(page) = self.pages.get_mut(place) {
+            page.kind = Answer::One;
+            page.tag = self.tag;
+            fill(&mut page.data, data);
         }
-        Ok(answer)
+    }
+
+    fn told(&mut self, request: Request, buffer: &mut [u8]) -> Answer {
+        match request {
+            Request::Sizes => fill(buffer, &[0, 2, 0, 0, 32, 0, 0, 0, 8, 0, 0, 0]),
+            Request::ReadTag { block, page } => {
+                if let Some(page) = self.pages.get(place(block, page)) {
+                    fill(buffer, &page.tag);
+                    return page.kind;
+                }
+            }
+            Request::ReadPage { block, page } => {
+                if let Some(page) = self.pages.get(place(block, page)) {
+                    fill(buffer, &page.data);
+                    self.tag = page.tag;
+                    return page.kind;
+                }
+            }
+            Request::LastTag { .. } => fill(buffer, &self.tag),
+            _ => {}
+        }
+        Answer::Zero
+    }
+
+    fn done(&mut self, request: Request, bytes: &[u8]) {
+        match request {
+            Request::NextTag { .. } => fill(&mut self.tag, bytes),
+            Request::Program { block, page } => self.program(place(block, page), bytes),
+            Request::Erase { block } => self.erase(place(block, 0)),
+            _ => {}
+        }
     }
 }
 
-impl Read for Chip {
-    fn read(&mut self, buf: &mut [u8]) -> IoResult<usize> {
-        self.answer.read(buf)
-    }
-}
+impl Port for Chip {
+    ghost calls = { λ port. port.calls.list };
 
-impl Write for Chip {
-    fn write(&mut self, buf: &[u8]) -> IoResult<usize> {
-        self.request.extend_from_slice(buf)?;
-        let awaited = match self.request.first() {
-            Some(b'P') => 572,
-            _ => 12,
-        };
-        if self.request.len() >= awaited {
-            match self.left.checked_sub(1) {
-                Some(left) => self.left = left,
-                None => {
-                    self.request.clear();
-                    return Err(Error::from(ErrorKind::Other));
-                }
-            }
-            self.answer = Cursor::new(self.respond()?);
-            self.request.clear();
+    fn read(&mut self, request: Request, buffer: &mut [u8]) -> Answer {
+        let mut answer = Answer::Lost;
+        if self.memory.has_power() {
+            answer = self.memory.told(request, buffer);
         }
-        Ok(buf.len())
+        self.calls = self.calls.with(request, buffer, answer);
+        answer
     }
 
-    fn flush(&mut self) -> IoResult<()> {
-        Ok(())
+    fn write(&mut self, request: Request, bytes: &[u8]) -> Answer {
+        let mut answer = Answer::Lost;
+        if self.memory.has_power() {
+            self.memory.done(request, bytes);
+            answer = Answer::Zero;
+        }
+        self.calls = self.calls.with(request, bytes, answer);
+        answer
     }
 }

@@ -1,4 +1,4 @@
-//! Tests of a device whose driver is at the other end of a stream: each form of answer, and a volume over a driver in memory.
+//! Tests of a device whose driver is behind a port: each form of answer, and a volume over a driver in memory.
 #![tactic(auto)]
 
 #[cfg(test)]

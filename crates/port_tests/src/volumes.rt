@@ -9,7 +9,7 @@ use std::test::Fail;
 fn formatted(alloc: Global) -> Result<Chip, Fail> {
     let device = PortNand::open(alloc, Chip::new(alloc)?)?;
     match format(alloc, device, 1) {
-        Ok(device) => Ok(device.into_stream()),
+        Ok(device) => Ok(device.into_port()),
         Err((_, fault)) => Err(fault.into()),
     }
 }
@@ -32,7 +32,7 @@ fn session(alloc: Global, chip: Chip, lines: &[&str]) -> Result<(Chip, Vec<u8>),
     }
     let (device, reply) = volume.unmount();
     write_reply(&mut text, &reply)?;
-    Ok((device.into_stream(), text))
+    Ok((device.into_port(), text))
 }
 
 #[test]
@@ -50,10 +50,10 @@ fn a_volume_is_kept_by_a_driver(rt: HostRuntime) -> Result<(), Fail> {
         &["list /a", "open /a/b r", "read 0 9", "open /c r"],
     )?;
     assert!(rt; text.as_slice() == b"names 1 b\nfd 0\ndata 5 hello\nerror ENOENT\nok\n".as_slice());
-    // The stream ends two requests after those of a mount and of the reads of a list.
-    chip.left = u32::MAX;
+    // Power is gone two requests after those of a mount and of the reads of a list.
+    chip.memory.left = u32::MAX;
     let (mut chip, _) = session(alloc, chip, &["list /"])?;
-    chip.left = (u32::MAX - chip.left).saturating_add(2);
+    chip.memory.left = (u32::MAX - chip.memory.left).saturating_add(2);
     let (mut chip, text) = session(
         alloc,
         chip,
@@ -70,7 +70,7 @@ fn a_volume_is_kept_by_a_driver(rt: HostRuntime) -> Result<(), Fail> {
         text.starts_with(b"names 1 a\nok\nerror EIO\nerror EIO\n"),
         "{text:?}"
     );
-    chip.left = u32::MAX;
+    chip.memory.left = u32::MAX;
     let (_, text) = session(alloc, chip, &["list /"])?;
     assert!(rt; text.starts_with(b"names 1 a\n"), "{text:?}");
     Ok(())

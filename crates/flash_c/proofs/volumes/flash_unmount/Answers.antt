@@ -19,6 +19,6 @@ returns c =
     let number : to_z w32 (of_z w32 c.end.result.1) ≡ c.end.result.1 = to_z-of_z w32 c.end.result.1 (search rules) in
     record {
       empties = c.take.ensures.full;
-      ended = λ full. (c.end.result.0, ended_as _ _ _ _ _ _ (ap (λ (s : Session). over_pages s.volume) session) (sym number) c.end.ensures);
+      ended = λ full. (record { driver = c.end.result.0.driver; kept = c.end.result.0.kept }, ended_as _ _ _ _ _ _ (ap (λ (s : Session). over_pages s.volume) session) (sym number) c.end.ensures);
       empty = λ is. (let two : true ≡ false = sym c.if-not-is_full.false ∙ c.is_full.ensures.full ∙ is in absurd cc);
     }

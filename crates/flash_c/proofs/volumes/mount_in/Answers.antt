@@ -15,7 +15,7 @@ returns-in-Ok-mount_device c =
       left = λ no. absurd (no refl);
       at_most_0 = search arith;
       busy = λ full. (let two : true ≡ false = sym full ∙ sym c.is_full.ensures.full ∙ c.if-is_full.false in absurd cc);
-      opened = λ empty. (Ok c.in-Ok.device, (c.in-Ok.ensures, inl (refl, mounted_as _ _ _ _ (ap (λ (s : Session). over_pages s.volume) (sym session)) mounted)));
+      opened = λ empty. (Ok (record { driver = c.in-Ok.device.driver; kept = c.in-Ok.device.kept }), (c.in-Ok.ensures.power, inl (refl, mounted_as _ _ _ _ (ap (λ (s : Session). over_pages s.volume) (sym session)) mounted)));
     }
 
 pub returns-in-Err-mount_device : goal.returns-in-Err-mount_device
@@ -28,5 +28,11 @@ returns-in-Err-mount_device c =
       left = λ no. c.is_full.ensures.same;
       at_most_0 = search (arith, below);
       busy = λ full. (let two : true ≡ false = sym full ∙ sym c.is_full.ensures.full ∙ c.if-is_full.false in absurd cc);
-      opened = λ empty. (Ok c.in-Ok.device, (c.in-Ok.ensures, inr (c.in-Err-mount_device._device, record { fault = told.fault; number_is = same; reads = told.reads; why = told.why })));
+      opened = λ empty. (
+        Ok (record { driver = c.in-Ok.device.driver; kept = c.in-Ok.device.kept }),
+        (
+          c.in-Ok.ensures.power,
+          inr (record { driver = c.in-Err-mount_device._device.driver; kept = c.in-Err-mount_device._device.kept }, record { fault = told.fault; number_is = same; reads = told.reads; why = told.why }),
+        ),
+      );
     }

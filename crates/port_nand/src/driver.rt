@@ -1,0 +1,234 @@
+// The driver of a device, and what is kept of its answers.
+ghost use Rattle.std.specs.Prelude.{◌≡◌, ◌<◌, ◌∷◌, false, length, IfOk, OnOk};
+ghost use Rattle.nand_model.specs.declared.nand.Gone.{Gone};
+ghost use Rattle.port_nand.specs.Calls.{call, cuts, erase_result, mark_result};
+ghost use Rattle.port_nand.specs.Driving.{IsKept};
+ghost use Rattle.port_nand.specs.Knowing.{IsBelow};
+ghost use Rattle.port_nand.specs.Sending.{AreSizes, Asks, AsksPage, AsksAll, AsksMarks, SendsPage, programming, reading, tag_read, tag_with};
+ghost use Rattle.port_nand.specs.declared.request.Answer.TheVariants as answers;
+ghost use Rattle.port_nand.specs.declared.request.Request.TheVariants as requests;
+
+use crate::block::{Block, new_blocks, note_mark, note_next};
+use crate::device::OpenFault;
+use crate::port::Port;
+use crate::request::{
+    Answer, Request, cuts, erase_result, kind_result, mark_result, program_result,
+};
+use nand_model::{EraseFault, Geometry, Gone, PageKind, ProgramFault};
+use std::alloc::Global;
+
+/// A driver behind a port. The marks, the next page of each block and whether power is gone are kept by its answers; once power
+/// is gone nothing is asked.
+#[derive(Drop)]
+pub(crate) struct Driver<P> {
+    pub port: P,
+    pub geometry: Geometry,
+    pub blocks: Vec<Block>,
+    pub gone: bool,
+}
+
+/// Fills the buffer of a tag where the page is written.
+fn fill_tag(tag: &mut [u8; 48], bytes: &[u8; 48], answer: Answer)
+    ensures { tag.new ≡ tag_with tag.old bytes.now answer }
+{
+    if answer == Answer::One {
+        *tag = *bytes;
+    }
+}
+
+impl<P: Port> Driver<P> {
+    /// Asks for something, which comes into the buffer.
+    fn ask(&mut self, request: Request, buffer: &mut [u8]) -> Answer
+        requires kept { IsKept P.calls self.old }
+        requires below { IsBelow self.old.geometry.blocks self.old.geometry.pages request }
+        requires power { self.old.gone ≡ false }
+        ensures kept { IsKept P.calls self.new }
+        ensures geometry { self.new.geometry ≡ self.old.geometry }
+        ensures power { self.new.gone ≡ cuts request result }
+        ensures asked { P.calls self.new.port ≡ call request buffer.new result ∷ P.calls self.old.port }
+    {
+        let answer = self.port.read(request, buffer);
+        note_next(&mut self.blocks, request, answer);
+        note_mark(&mut self.blocks, request, answer);
+        self.gone = cuts(request, answer);
+        answer
+    }
+
+    /// Asks for something with these bytes.
+    fn send(&mut self, request: Request, bytes: &[u8]) -> Answer
+        requires kept { IsKept P.calls self.old }
+        requires below { IsBelow self.old.geometry.blocks self.old.geometry.pages request }
+        requires power { self.old.gone ≡ false }
+        ensures kept { IsKept P.calls self.new }
+        ensures geometry { self.new.geometry ≡ self.old.geometry }
+        ensures sent { P.calls self.new.port ≡ call request bytes.now result ∷ P.calls self.old.port }
+    {
+        let answer = self.port.write(request, bytes);
+        note_next(&mut self.blocks, request, answer);
+        note_mark(&mut self.blocks, request, answer);
+        self.gone = cuts(request, answer);
+        answer
+    }
+
+    /// Asks for the tag of a page.
+    pub(crate) fn read_tag(
+        &mut self,
+        block: u32,
+        page: u32,
+        tag: &mut [u8; 48],
+    ) -> Result<PageKind, Gone>
+        requires kept { IsKept P.calls self.old }
+        requires block { block < self.old.geometry.blocks }
+        requires page { page < self.old.geometry.pages }
+        ensures kept { IsKept P.calls self.new }
+        ensures geometry { self.new.geometry ≡ self.old.geometry }
+        ensures asks { Asks (requests.ReadTag block page) (tag_read tag.old) (P.calls self.old.port) (P.calls self.new.port) (result, tag.new) }
+    {
+        if self.gone {
+            return Err(Gone);
+        }
+        let mut bytes = [255u8; 48];
+        let answer = self.ask(Request::ReadTag { block, page }, &mut bytes);
+        fill_tag(tag, &bytes, answer);
+        kind_result(answer)
+    }
+
+    /// Asks for a page, and where it is written for its tag.
+    pub(crate) fn read_page(
+        &mut self,
+        block: u32,
+        page: u32,
+        bytes: &mut [u8],
+        tag: &mut [u8; 48],
+    ) -> Result<PageKind, Gone>
+        requires kept { IsKept P.calls self.old }
+        requires block { block < self.old.geometry.blocks }
+        requires page { page < self.old.geometry.pages }
+        ensures kept { IsKept P.calls self.new }
+        ensures geometry { self.new.geometry ≡ self.old.geometry }
+        ensures asks { AsksPage (reading block page bytes.new tag.new tag.old) (P.calls self.old.port) (P.calls self.new.port) result }
+    {
+        if self.gone {
+            return Err(Gone);
+        }
+        let answer = self.ask(Request::ReadPage { block, page }, bytes);
+        if answer != Answer::One {
+            return kind_result(answer);
+        }
+        let mut read = [255u8; 48];
+        if self.ask(Request::LastTag { block, page }, &mut read) != Answer::Zero {
+            return Err(Gone);
+        }
+        *tag = read;
+        Ok(PageKind::Written)
+    }
+
+    /// Sends the tag of a page and then its data.
+    pub(crate) fn program(
+        &mut self,
+        block: u32,
+        page: u32,
+        bytes: &[u8],
+        tag: &[u8; 48],
+    ) -> Result<(), ProgramFault>
+        requires kept { IsKept P.calls self.old }
+        requires block { block < self.old.geometry.blocks }
+        requires page { page < self.old.geometry.pages }
+        ensures kept { IsKept P.calls self.new }
+        ensures geometry { self.new.geometry ≡ self.old.geometry }
+        ensures sends { SendsPage (programming block page bytes.now tag.now) (P.calls self.old.port) (P.calls self.new.port) result }
+    {
+        if self.gone {
+            return Err(ProgramFault::Gone);
+        }
+        if self.send(Request::NextTag { block, page }, tag) != Answer::Zero {
+            return Err(ProgramFault::Gone);
+        }
+        program_result(self.send(Request::Program { block, page }, bytes))
+    }
+
+    /// Asks for an erase.
+    pub(crate) fn erase(&mut self, block: u32) -> Result<(), EraseFault>
+        requires kept { IsKept P.calls self.old }
+        requires block { block < self.old.geometry.blocks }
+        ensures kept { IsKept P.calls self.new }
+        ensures geometry { self.new.geometry ≡ self.old.geometry }
+        ensures asks { Asks (requests.Erase block) (λ c. erase_result c.answer) (P.calls self.old.port) (P.calls self.new.port) result }
+    {
+        if self.gone {
+            return Err(EraseFault::Gone);
+        }
+        erase_result(self.send(Request::Erase { block }, &[0]))
+    }
+
+    /// Asks for a mark.
+    pub(crate) fn mark_bad(&mut self, block: u32) -> Result<(), Gone>
+        requires kept { IsKept P.calls self.old }
+        requires block { block < self.old.geometry.blocks }
+        ensures kept { IsKept P.calls self.new }
+        ensures geometry { self.new.geometry ≡ self.old.geometry }
+        ensures asks { Asks (requests.MarkBad block) (λ c. mark_result c.answer) (P.calls self.old.port) (P.calls self.new.port) result }
+    {
+        if self.gone {
+            return Err(Gone);
+        }
+        mark_result(self.send(Request::MarkBad { block }, &[0]))
+    }
+}
+
+/// The sizes of the device, as they came.
+fn geometry_of(bytes: &[u8; 12], answer: Answer) -> Result<Geometry, OpenFault>
+    ensures answer { OnOk result (answer ≡ answers.Zero) }
+    ensures sizes { IfOk result (λ g. AreSizes g bytes.now) }
+{
+    if answer != Answer::Zero {
+        return Err(OpenFault::BadGeometry);
+    }
+    let [a, b, c, d, e, f, g, h, i, j, k, l] = *bytes;
+    let size = u32::from_le_bytes([a, b, c, d]);
+    let pages = u32::from_le_bytes([e, f, g, h]);
+    let blocks = u32::from_le_bytes([i, j, k, l]);
+    match Geometry::new(size, pages, blocks) {
+        Ok(geometry) => Ok(geometry),
+        Err(_) => Err(OpenFault::BadGeometry),
+    }
+}
+
+impl<P: Port + Drop> Driver<P> {
+    /// Asks of each block whether it is marked.
+    fn read_marks(&mut self) -> Result<(), OpenFault>
+        requires kept { IsKept P.calls self.old }
+        requires power { self.old.gone ≡ false }
+        ensures kept { IsKept P.calls self.new }
+        ensures geometry { self.new.geometry ≡ self.old.geometry }
+        ensures marks { OnOk result (self.new.gone ≡ false) }
+        ensures asks { OnOk result (AsksMarks (P.calls self.old.port) self.old.geometry.blocks (P.calls self.new.port)) }
+    {
+        for block in 0..self.geometry.blocks() {
+            self.ask(Request::IsMarked { block }, &mut [0u8; 1]);
+            if self.gone {
+                return Err(OpenFault::Gone);
+            }
+        }
+        Ok(())
+    }
+
+    /// Opens a device: asks for its sizes, and which blocks are marked.
+    pub(crate) fn open(alloc: Global, mut port: P) -> Result<Driver<P>, OpenFault>
+        ensures kept { IfOk result (λ d. IsKept P.calls d) }
+        ensures power { IfOk result (λ d. d.gone ≡ false) }
+        ensures asks { IfOk result (λ d. AsksAll d.geometry (P.calls port) (P.calls d.port)) }
+    {
+        let mut bytes = [0u8; 12];
+        let answer = port.read(Request::Sizes, &mut bytes);
+        let geometry = geometry_of(&bytes, answer)?;
+        let mut driver = Driver {
+            port,
+            geometry,
+            blocks: new_blocks(alloc, geometry.blocks())?,
+            gone: false,
+        };
+        driver.read_marks()?;
+        Ok(driver)
+    }
+}

@@ -44,6 +44,7 @@ pub(crate) fn done<S: Serve>(session: &mut S, command: &Stamped) -> i32
 }
 
 /// Does a command that counts.
+#[inline]
 pub(crate) fn count<S: Serve>(session: &mut S, command: &Stamped) -> i64
     ensures { (reply : Reply) × S.serves session.old command.now reply session.new × (result ≡ count_number reply) }
 {

@@ -1,11 +1,12 @@
 -- The 24 bytes of a packed tag.
 -- From: the format: packed tags, `FORMATS.md`.
-use Rattle.std.specs.Prelude.{ℕ, ◌+◌, ◌-◌, ◌%◌, ◌^◌, List, [], ◌∷◌, ◌++◌, drop, map, slice_index, nat_le, if◌then◌else◌}
+use Rattle.std.specs.Prelude.{◌≡◌, ℕ, ◌+◌, ◌-◌, ◌%◌, ◌^◌, List, [], ◌∷◌, ◌++◌, drop, map, slice_index, nat_le, if◌then◌else◌}
 use Rattle.byteorder.specs.Endian.{little_number}
+use Rattle.nand_model.specs.Flash.{AreBytes}
 use Rattle.page_tags.specs.declared.tag.Tag.{Tag}
 use Rattle.page_tags.specs.Tags.{tag_bytes}
 
--- The object that a number of four bytes stands for: the greatest two are the objects of checkpoints, the greatest two of eight bytes.
+-- The object that a number of four bytes stands for: the greatest two are the greatest two of eight bytes, kept for checkpoints.
 unfoldable pub object_of : ℕ → ℕ
 object_of n = if nat_le (2 ^ 32 - 2) n then n + (2 ^ 64 - 2 ^ 32) else n
 
@@ -24,6 +25,10 @@ packed_tag_in packed = record {
 -- the 48 bytes of the tag that 24 bytes say
 unfoldable pub unpacked : List ℕ → List ℕ
 unpacked packed = tag_bytes (packed_tag_in packed)
+
+-- these 24 bytes say the tag
+abbrev pub PacksTo : (tag packed : List ℕ) → Type 0
+PacksTo tag packed = AreBytes 24 packed × (unpacked packed ≡ tag)
 
 -- the lowest bytes of the fields of a tag, and one less than the lowest of the count: no other 24 bytes can say the tag
 unfoldable pub low_bytes : List ℕ → List ℕ

@@ -1,9 +1,8 @@
 // The tag of a page in 24 bytes.
 
-ghost use Rattle.std.specs.Prelude.{◌≡◌, ◌≢◌, ◌≤◌, ◌+◌, ℕ, List, length, drop, IfSome, IfNone};
+ghost use Rattle.std.specs.Prelude.{◌≡◌, ◌≤◌, ◌+◌, ℕ, List, length, drop, IfSome, IfNone};
 ghost use Rattle.byteorder.specs.Endian.{little_number};
-ghost use Rattle.nand_model.specs.Flash.{AreBytes};
-ghost use Rattle.packed_tags.specs.Packed.{object_of, packed_tag_in, unpacked, low_bytes as low_bytes_of};
+ghost use Rattle.packed_tags.specs.Packed.{object_of, packed_tag_in, unpacked, PacksTo, low_bytes as low_bytes_of};
 
 use byteorder::{ByteOrder, LittleEndian};
 use page_tags::Tag;
@@ -16,7 +15,7 @@ fn u40_at(bytes: &[u8], place: usize) -> u64
     LittleEndian::read_uint(&bytes[place..], 5)
 }
 
-/// The greatest two numbers of four bytes are the objects of checkpoints, the greatest two of eight.
+/// The greatest two numbers of four bytes are the greatest two objects of eight, kept for checkpoints.
 #[tactic(auto, unfolding(crate::specs::Packed::object_of))]
 fn widen(object: u32) -> u64
     ensures { result ≡ object_of object }
@@ -47,7 +46,7 @@ fn read(packed: &[u8; 24]) -> Tag
 #[tactic(auto, unfolding(crate::specs::Packed::unpacked))]
 pub fn unpack(packed: &[u8; 24]) -> [u8; 48]
     ensures tag { result ≡ unpacked packed.now }
-    ensures only { (other : List ℕ) → AreBytes 24 other → unpacked other ≡ result → other ≡ packed.now }
+    ensures only { (other : List ℕ) → PacksTo result other → other ≡ packed.now }
 {
     read(packed).encode()
 }
@@ -87,9 +86,9 @@ fn low_bytes(tag: &[u8; 48]) -> [u8; 24]
 
 /// The 24 bytes that say the tag, if any do.
 pub fn pack(tag: &[u8; 48]) -> Option<[u8; 24]>
-    ensures some { IfSome result (λ packed. unpacked packed ≡ tag.now) }
-    ensures only { IfSome result (λ packed. (other : List ℕ) → AreBytes 24 other → unpacked other ≡ tag.now → other ≡ packed) }
-    ensures none { IfNone result ((packed : List ℕ) → AreBytes 24 packed → unpacked packed ≢ tag.now) }
+    ensures some { IfSome result (PacksTo tag.now) }
+    ensures only { IfSome result (λ packed. (other : List ℕ) → PacksTo tag.now other → other ≡ packed) }
+    ensures none { IfNone result ((packed : List ℕ) → PacksTo tag.now packed → ⊥) }
 {
     let packed = low_bytes(tag);
     if unpack(&packed) == *tag {

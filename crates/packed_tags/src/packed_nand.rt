@@ -1,5 +1,5 @@
 // A device with tags of 48 bytes over one with tags of 24.
-ghost use Rattle.std.specs.Prelude.{◌≡◌, ◌≢◌, ◌<◌, ℕ, List, length, Some, IsErr, false};
+ghost use Rattle.std.specs.Prelude.{◌≡◌, ◌<◌, ℕ, List, length, Some, IsErr, false};
 
 use crate::answers::{fill, is_gone_by_erase, is_gone_by_program};
 use crate::codec::pack;
@@ -49,8 +49,7 @@ impl<N: SmallSpareNand> PackedNand<N> {
 
 impl<N: SmallSpareNand> Nand for PackedNand<N> {
     ghost use Rattle.nand_model.specs.Calls.{Erases, Programs};
-    ghost use Rattle.nand_model.specs.Flash.{AreBytes};
-    ghost use Rattle.packed_tags.specs.Packed.{unpacked};
+    ghost use Rattle.packed_tags.specs.Packed.{PacksTo};
     ghost use Rattle.packed_tags.specs.Parts.{small_state, state_of};
     ghost use Rattle.packed_tags.specs.laws.Adapted.{clean_unpacked, within_unpacked, sized_unpacked};
 
@@ -105,9 +104,9 @@ impl<N: SmallSpareNand> Nand for PackedNand<N> {
         requires next { (state_of self.old).flash.next block ≡ Some page }
         requires size { length bytes.now ≡ (state_of self.old).geometry.bytes }
         ensures programs { Programs block page bytes.now tag.now (state_of self.old) (state_of self.new) result }
-        ensures fits { (packed : List ℕ) → AreBytes 24 packed → unpacked packed ≡ tag.now
+        ensures fits { (packed : List ℕ) → PacksTo tag.now packed
             → Programs block page bytes.now packed (small_state self.old) (small_state self.new) result }
-        ensures refused { ((packed : List ℕ) → AreBytes 24 packed → unpacked packed ≢ tag.now)
+        ensures refused { ((packed : List ℕ) → PacksTo tag.now packed → ⊥)
             → (small_state self.new ≡ small_state self.old) × IsErr result }
     {
         match pack(tag) {

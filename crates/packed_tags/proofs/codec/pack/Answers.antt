@@ -10,5 +10,5 @@ itself [] = refl
 itself (x ∷ xs) = ap (λ b. b && pointwise nat_eq xs xs) (eq-eqb x x refl) ∙ itself xs
 
 pub returns-else-eq-clause-none : goal.returns-else-eq-clause-none
-returns-else-eq-clause-none c = none_packed c.args.tag.now (λ is.
-    false≢true (sym c.if-eq.false ∙ c.eq.ensures ∙ ap (λ (bytes : List ℕ). pointwise nat_eq bytes c.args.tag.now) (c.unpack.ensures.tag ∙ ap unpacked c.low_bytes-packed.ensures ∙ is) ∙ itself c.args.tag.now))
+returns-else-eq-clause-none c packed says = none_packed c.args.tag.now (λ is.
+    false≢true (sym c.if-eq.false ∙ c.eq.ensures ∙ ap (λ (bytes : List ℕ). pointwise nat_eq bytes c.args.tag.now) (c.unpack.ensures.tag ∙ ap unpacked c.low_bytes-packed.ensures ∙ is) ∙ itself c.args.tag.now)) packed says.0 says.1

@@ -6,5 +6,5 @@ use Rattle.packed_tags.proofs.codec.unpack.Goals as goal
 
 pub returns-clause-only : goal.returns-clause-only
 unfolding unpacked
-returns-clause-only c other are is =
-    same_packed other c.args.packed.now are (record { len = c.told-packed; each = c.fits-packed }) (is ∙ c.encode.ensures ∙ ap tag_bytes c.read.ensures)
+returns-clause-only c other says =
+    same_packed other c.args.packed.now says.0 (record { len = c.told-packed; each = c.fits-packed }) (says.1 ∙ c.encode.ensures ∙ ap tag_bytes c.read.ensures)

@@ -21,7 +21,7 @@ program-requires-2-clause-next g c = ap (λ (next : ℕ → Option ℕ). next 1)
 pub program-requires-3-clause-good : goal.program-requires-3-clause-good
 program-requires-3-clause-good g c =
     ap (λ (bad : ℕ → Bool). bad 1) (
-      c.erase-2.ensures.erases.bad ∙ c.read_tag-2.ensures.reads.bad ∙ c.program-2.ensures.programs.bad ∙ c.read_page.ensures.reads.bad
-      ∙ c.program.ensures.programs.bad ∙ c.read_tag.ensures.reads.bad ∙ c.erase.ensures.erases.bad
+    c.erase-2.ensures.erases.bad ∙ c.read_tag-2.ensures.reads.bad ∙ c.program-2.ensures.programs.bad ∙ c.read_page.ensures.reads.bad
+    ∙ c.program.ensures.programs.bad ∙ c.read_tag.ensures.reads.bad ∙ c.erase.ensures.erases.bad
     )
     ∙ ap (λ (d : Device). d.flash.bad 1) c.new-device.ensures.state ∙ c.in_ok-inner.ensures.blank.good 1

@@ -15,8 +15,9 @@ CXX=${CXX:-g++}
 NM=${NM:-nm}
 RUN=${RUN:-}
 TARGET=${TARGET:-}
-cuts=300
-[ -z "$RUN" ] || cuts=100 # a processor that is made by a program takes eight times as long
+cuts=300 pages=1000000
+[ -z "$RUN" ] || cuts=100 pages=50000 # a processor that is made by a program takes eight times as long
+[ "${1:-}" != quick ] || pages=50000
 FLAGS="-std=c11 -Wall -Wextra -Wpedantic -Werror -O2 -g -I. -Idrivers -Iexamples"
 passed=0 failed=0 skipped=0
 log=$(mktemp)
@@ -153,6 +154,7 @@ $CC $FLAGS -c -o "$OUT/ram_nand.o" drivers/ram_nand.c
 builds() {
     build test_header test/test_header.c "$OUT/flash_port.o" "$OUT/libflash_c.a" "$OUT/flash_malloc.o" &&
         build test_heap test/test_heap.c test/commands.c test/model.c "$OUT/libflashfs_heap.a" "$LIBRARY" &&
+        build test_page_code test/test_page_code.c drivers/page_code.c test/commands.c test/model.c "$LIBRARY" &&
         build test_drivers test/test_drivers.c drivers/driver_check.c drivers/file_nand.c $HARNESS "$LIBRARY" &&
         build test_model test/test_model.c $HARNESS "$LIBRARY" &&
         build test_model_in_region -DREGION test/test_model.c $HARNESS "$OUT/libflashfs_heap.a" "$LIBRARY" &&
@@ -175,6 +177,7 @@ else
     skip "the header's errors and the library's" "crates/flash_c is not here"
 fi
 run "the allocator over a region" "$OUT/test_heap"
+run "the envelope of a page" "$OUT/test_page_code" $pages
 run "the drivers, and drivers that break a promise" "$OUT/test_drivers" "$work"
 if includes mtd/mtd-user.h && echo '#include <sys/ioctl.h>
 #include <mtd/mtd-user.h>
@@ -227,15 +230,17 @@ elif [ "${1:-}" != quick ]; then
     sanitizer="-fsanitize=address,undefined -fno-sanitize-recover=all"
     if compiles $sanitizer; then
         sanitized() {
-            build "$1_sanitized" $sanitizer "test/$1.c" drivers/driver_check.c drivers/file_nand.c $HARNESS flash_port.c "${@:2}" \
+            build "$1_sanitized" $sanitizer "test/$1.c" drivers/driver_check.c drivers/file_nand.c drivers/page_code.c $HARNESS flash_port.c "${@:2}" \
                 "$OUT/libflash_c.a"
         }
         run "compiled with the sanitizer" eval 'sanitized test_model flash_malloc.c && sanitized test_lies flash_malloc.c &&
-            sanitized test_cuts flash_malloc.c && sanitized test_memory && sanitized test_drivers flash_malloc.c'
+            sanitized test_cuts flash_malloc.c && sanitized test_memory && sanitized test_drivers flash_malloc.c &&
+            sanitized test_page_code flash_malloc.c'
         run "sanitizer: drawn calls" "$OUT/test_model_sanitized" 1000 3
         run "sanitizer: drivers that lie" "$OUT/test_lies_sanitized" 100 3
         run "sanitizer: power that goes" "$OUT/test_cuts_sanitized" 50 3
         run "sanitizer: memory that is refused" "$OUT/test_memory_sanitized" 20 3
+        run "sanitizer: the envelope of a page" "$OUT/test_page_code_sanitized" 20000 3
         run "sanitizer: the drivers" "$OUT/test_drivers_sanitized" "$work"
     else
         skip "sanitizer" "the compiler has none"

@@ -149,6 +149,7 @@ run "the library, by make" make -s OUT="$OUT"
 [ $failed -eq 0 ] || exit 1
 
 HARNESS="test/commands.c test/model.c drivers/ram_nand.c"
+MTD="drivers/mtd_nand.c drivers/page_code.c"
 LIBRARY="$OUT/libflashfs.a"
 $CC $FLAGS -c -o "$OUT/ram_nand.o" drivers/ram_nand.c
 builds() {
@@ -182,9 +183,11 @@ run "the drivers, and drivers that break a promise" "$OUT/test_drivers" "$work"
 if includes mtd/mtd-user.h && echo '#include <sys/ioctl.h>
 #include <mtd/mtd-user.h>
 unsigned long command = MEMREAD;' | $CC -fsyntax-only -x c - 2> /dev/null; then
-    run "the driver of Linux's devices compiles" build try_mtd test/try_mtd.c drivers/mtd_nand.c drivers/driver_check.c $HARNESS "$LIBRARY"
+    run "the driver of Linux's devices compiles" eval 'build try_mtd test/try_mtd.c $MTD drivers/driver_check.c $HARNESS "$LIBRARY" &&
+        build test_mtd test/test_mtd.c drivers/page_code.c drivers/driver_check.c test/commands.c test/model.c "$LIBRARY"'
+    run "the driver of Linux's devices, over a kernel that is played" "$OUT/test_mtd"
 else
-    skip "the driver of Linux's devices compiles" "no mtd/mtd-user.h with MEMREAD"
+    skip "the driver of Linux's devices" "no mtd/mtd-user.h with MEMREAD"
 fi
 run "the skeleton of an SPI driver compiles" $CC $FLAGS -c -o "$OUT/spi_nand.o" drivers/spi_nand.c
 run "drawn calls beside the model" "$OUT/test_model" 2500

@@ -33,6 +33,7 @@ struct state {
     const struct flash_driver *driver;
     uint32_t *blocks; /* those that are exercised */
     uint32_t count;
+    uint32_t tag_bytes;
     struct expected *pages; /* of these blocks */
     uint8_t *data, *tag, *wanted, *wanted_tag;
     int lines[PROMISES];
@@ -82,14 +83,14 @@ static void look(struct state *state, uint32_t index, uint32_t page, enum promis
         falls_short(state, CALLS, "read_page of block %u page %u returned %d", block, page, kind);
         return;
     }
-    if (kind_alone != kind || (kind == FLASH_WRITTEN && memcmp(tag_alone, state->tag, FLASH_TAG_BYTES) != 0))
+    if (kind_alone != kind || (kind == FLASH_WRITTEN && memcmp(tag_alone, state->tag, state->tag_bytes) != 0))
         falls_short(state, TAG_READ, "block %u page %u, %d and %d", block, page, kind_alone, kind);
     bool same = kind == FLASH_WRITTEN;
     if (same) {
         fill(state->wanted, driver->page_bytes, expected->seed);
-        fill(state->wanted_tag, FLASH_TAG_BYTES, expected->seed + 1);
+        fill(state->wanted_tag, state->tag_bytes, expected->seed + 1);
         same = memcmp(state->data, state->wanted, driver->page_bytes) == 0 &&
-               memcmp(state->tag, state->wanted_tag, FLASH_TAG_BYTES) == 0;
+               memcmp(state->tag, state->wanted_tag, state->tag_bytes) == 0;
     }
     bool holds = (kind == FLASH_ERASED && expected->erased) || (kind == FLASH_UNCORRECTABLE && expected->lost) ||
                  (same && expected->written);
@@ -114,7 +115,7 @@ static int program(struct state *state, uint32_t index, uint32_t page, unsigned 
 {
     const struct flash_driver *driver = state->driver;
     fill(state->wanted, driver->page_bytes, seed);
-    fill(state->wanted_tag, FLASH_TAG_BYTES, seed + 1);
+    fill(state->wanted_tag, state->tag_bytes, seed + 1);
     return driver->program(driver->context, state->blocks[index], page, state->wanted, state->wanted_tag);
 }
 
@@ -270,6 +271,7 @@ int driver_check(const struct driver_check *check)
     struct state state = {
         .check = check,
         .driver = driver,
+        .tag_bytes = check->tag_bytes != 0 ? check->tag_bytes : FLASH_TAG_BYTES,
         .blocks = calloc(driver->blocks, sizeof *state.blocks),
         .pages = calloc(pages, sizeof *state.pages),
         .data = malloc(driver->page_bytes),

@@ -33,8 +33,7 @@ struct page_code {
     uint32_t page_bytes;  /* of data */
     uint32_t tag_bytes;   /* 48 or 24 */
     uint32_t check_bytes; /* half of them are the bytes that are corrected */
-    uint32_t
-        erased_bits; /* so many bits of an erased page may read as 0; page_code_make makes it check_bytes / 2, at least 1 */
+    uint32_t erased_bits; /* so many bits of an erased page may read as 0; page_code_make makes it check_bytes / 2, at least 1 */
     const struct page_run *runs;
     uint32_t run_count;
     uint8_t generator[PAGE_CODE_MOST_CHECKS];

@@ -40,8 +40,8 @@ static struct draw draw;
 static void use(const struct layout *layout)
 {
     memset(data, 0xff, sizeof data);
-    check(page_code_make(&code, layout->page_bytes, layout->tag_bytes, layout->runs, layout->count, SPARE_BYTES),
-          "%s is refused", layout->name);
+    check(page_code_make(&code, layout->page_bytes, layout->tag_bytes, layout->runs, layout->count, SPARE_BYTES), "%s is refused",
+          layout->name);
     check(code.check_bytes == layout->checks, "%s has %u check bytes", layout->name, code.check_bytes);
 }
 
@@ -85,20 +85,17 @@ static void worked_rows(void)
                                            0xf1, 0xb3, 0x60, 0x4a, 0x06, 0x39, 0xe6, 0x88, 0x14, 0x5e};
     const struct page_run run = {0, 78}, short_run = {0, 34};
     check(page_code_crc(0, (const uint8_t *)"123456789", 9) == 0xcbf43926, "the CRC of 123456789");
-    check(page_code_crc(page_code_crc(0, (const uint8_t *)"1234", 4), (const uint8_t *)"56789", 5) == 0xcbf43926,
-          "in two pieces");
+    check(page_code_crc(page_code_crc(0, (const uint8_t *)"1234", 4), (const uint8_t *)"56789", 5) == 0xcbf43926, "in two pieces");
     for (size_t i = 0; i < 512; i++)
         data[i] = (uint8_t)(i * 7 + i / 256);
     for (size_t i = 0; i < sizeof tag; i++)
         tag[i] = (uint8_t)(i + 1);
     check(page_code_make(&code, 512, 24, &short_run, 1, 64), "34 bytes");
     page_code_write(&code, data, tag, spare);
-    check(memcmp(spare, tag, 24) == 0 && memcmp(spare + 24, checks_of_24, sizeof checks_of_24) == 0,
-          "the envelope of 34 bytes");
+    check(memcmp(spare, tag, 24) == 0 && memcmp(spare + 24, checks_of_24, sizeof checks_of_24) == 0, "the envelope of 34 bytes");
     check(page_code_make(&code, 512, 48, &run, 1, 128), "78 bytes");
     page_code_write(&code, data, tag, spare);
-    check(memcmp(spare, tag, 48) == 0 && memcmp(spare + 48, checks_of_48, sizeof checks_of_48) == 0,
-          "the envelope of 78 bytes");
+    check(memcmp(spare, tag, 48) == 0 && memcmp(spare + 48, checks_of_48, sizeof checks_of_48) == 0, "the envelope of 78 bytes");
 }
 
 /* ---- Layouts. */
@@ -271,8 +268,8 @@ static void erased_pages(void)
     for (uint32_t bit = 0; bit < 8 * (code.page_bytes + page_code_bytes(&code)); bit++) {
         uint8_t *byte = bit / 8 < code.page_bytes ? &data[bit / 8] : place_of(bit / 8 - code.page_bytes);
         *byte ^= (uint8_t)(1u << bit % 8);
-        check(page_code_read(&code, data, spare, there, &zeros) == FLASH_ERASED && zeros == 1,
-              "bit %u of an erased page flipped", bit);
+        check(page_code_read(&code, data, spare, there, &zeros) == FLASH_ERASED && zeros == 1, "bit %u of an erased page flipped",
+              bit);
         *byte = 0xff;
     }
     for (int tries = 0; tries < 200; tries++) {
@@ -282,8 +279,8 @@ static void erased_pages(void)
             uint8_t *byte = bit / 8 < code.page_bytes ? &data[bit / 8] : place_of(bit / 8 - code.page_bytes);
             bits += *byte >> bit % 8 & 1;
             *byte &= (uint8_t) ~(1u << bit % 8);
-            check(kind_of() == (bits <= code.erased_bits ? FLASH_ERASED : FLASH_UNCORRECTABLE),
-                  "an erased page with %u bits of 0", bits);
+            check(kind_of() == (bits <= code.erased_bits ? FLASH_ERASED : FLASH_UNCORRECTABLE), "an erased page with %u bits of 0",
+                  bits);
         }
         memset(data, 0xff, sizeof data);
         memset(spare, 0xff, sizeof spare);

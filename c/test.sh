@@ -149,6 +149,7 @@ run "the library, by make" make -s OUT="$OUT"
 [ $failed -eq 0 ] || exit 1
 
 HARNESS="test/commands.c test/model.c drivers/ram_nand.c"
+CODED="test/coded_nand.c drivers/cut_nand.c drivers/page_code.c"
 MTD="drivers/mtd_nand.c drivers/page_code.c"
 LIBRARY="$OUT/libflashfs.a"
 $CC $FLAGS -c -o "$OUT/ram_nand.o" drivers/ram_nand.c
@@ -156,7 +157,7 @@ builds() {
     build test_header test/test_header.c "$OUT/flash_port.o" "$OUT/libflash_c.a" "$OUT/flash_malloc.o" &&
         build test_heap test/test_heap.c test/commands.c test/model.c "$OUT/libflashfs_heap.a" "$LIBRARY" &&
         build test_page_code test/test_page_code.c drivers/page_code.c test/commands.c test/model.c "$LIBRARY" &&
-        build test_drivers test/test_drivers.c drivers/driver_check.c drivers/file_nand.c $HARNESS "$LIBRARY" &&
+        build test_drivers test/test_drivers.c drivers/driver_check.c drivers/file_nand.c $CODED $HARNESS "$LIBRARY" &&
         build test_model test/test_model.c $HARNESS "$LIBRARY" &&
         build test_model_in_region -DREGION test/test_model.c $HARNESS "$OUT/libflashfs_heap.a" "$LIBRARY" &&
         build test_cuts test/test_cuts.c $HARNESS "$LIBRARY" &&
@@ -233,7 +234,7 @@ elif [ "${1:-}" != quick ]; then
     sanitizer="-fsanitize=address,undefined -fno-sanitize-recover=all"
     if compiles $sanitizer; then
         sanitized() {
-            build "$1_sanitized" $sanitizer "test/$1.c" drivers/driver_check.c drivers/file_nand.c drivers/page_code.c $HARNESS flash_port.c "${@:2}" \
+            build "$1_sanitized" $sanitizer "test/$1.c" drivers/driver_check.c drivers/file_nand.c $CODED $HARNESS flash_port.c "${@:2}" \
                 "$OUT/libflash_c.a"
         }
         run "compiled with the sanitizer" eval 'sanitized test_model flash_malloc.c && sanitized test_lies flash_malloc.c &&

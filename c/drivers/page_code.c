@@ -169,17 +169,20 @@ static bool correct(const struct page_code *code, uint8_t *word)
     return find_sums(code, word, sums);
 }
 
-/* ---- The checksum, four bits at a time. */
+/* ---- The checksum, with a table for each half of a byte. */
 
 uint32_t page_code_crc(uint32_t before, const uint8_t *bytes, size_t size)
 {
-    static const uint32_t table[16] = {0x00000000, 0x1db71064, 0x3b6e20c8, 0x26d930ac, 0x76dc4190, 0x6b6b51f4,
-                                       0x4db26158, 0x5005713c, 0xedb88320, 0xf00f9344, 0xd6d6a3e8, 0xcb61b38c,
-                                       0x9b64c2b0, 0x86d3d2d4, 0xa00ae278, 0xbdbdf21c};
+    static const uint32_t low[16] = {0x00000000, 0x77073096, 0xee0e612c, 0x990951ba, 0x076dc419, 0x706af48f,
+                                     0xe963a535, 0x9e6495a3, 0x0edb8832, 0x79dcb8a4, 0xe0d5e91e, 0x97d2d988,
+                                     0x09b64c2b, 0x7eb17cbd, 0xe7b82d07, 0x90bf1d91};
+    static const uint32_t high[16] = {0x00000000, 0x1db71064, 0x3b6e20c8, 0x26d930ac, 0x76dc4190, 0x6b6b51f4,
+                                      0x4db26158, 0x5005713c, 0xedb88320, 0xf00f9344, 0xd6d6a3e8, 0xcb61b38c,
+                                      0x9b64c2b0, 0x86d3d2d4, 0xa00ae278, 0xbdbdf21c};
     uint32_t crc = ~before;
     for (size_t i = 0; i < size; i++) {
-        crc = table[(crc ^ bytes[i]) & 15] ^ crc >> 4;
-        crc = table[(crc ^ bytes[i] >> 4) & 15] ^ crc >> 4;
+        crc ^= bytes[i];
+        crc = crc >> 8 ^ low[crc & 15] ^ high[crc >> 4 & 15];
     }
     return ~crc;
 }
@@ -248,22 +251,30 @@ static void gather(const struct page_code *code, const uint8_t *spare, uint8_t *
     }
 }
 
+static uint32_t zeros_of(uint64_t bits)
+{
+    uint32_t count = 0;
+    for (bits = ~bits; bits != 0; bits &= bits - 1)
+        count++;
+    return count;
+}
+
 /* Adds the bits that are 0 to a count, until it is above the most. */
 static uint32_t count_zeros(uint32_t count, uint32_t most, const uint8_t *bytes, size_t size)
 {
-    for (size_t i = 0; i < size && count <= most; i++)
-        for (uint8_t zeros = (uint8_t)~bytes[i]; zeros != 0; zeros &= (uint8_t)(zeros - 1))
-            count++;
+    for (size_t i = 0; i < size && count <= most; i += sizeof(uint64_t)) {
+        uint64_t word = UINT64_MAX;
+        memcpy(&word, bytes + i, size - i < sizeof word ? size - i : sizeof word);
+        count += zeros_of(word);
+    }
     return count;
 }
 
 static uint32_t count_changes(const uint8_t *one, const uint8_t *other, size_t size)
 {
     uint32_t count = 0;
-    for (size_t i = 0; i < size; i++) {
-        uint8_t same = (uint8_t) ~(one[i] ^ other[i]);
-        count = count_zeros(count, UINT32_MAX, &same, 1);
-    }
+    for (size_t i = 0; i < size; i++)
+        count += zeros_of(~(uint64_t)(one[i] ^ other[i]));
     return count;
 }
 

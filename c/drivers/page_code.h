@@ -6,7 +6,7 @@
  * has. The data is corrected by the chip, its controller or the system; where that went wrong, or where only a part of the page
  * was programmed, the CRC finds it.
  *
- * For drivers: it takes no memory, and of a C library memcpy and memset. Its tables are constant, 575 bytes.
+ * For drivers: it takes no memory, and of a C library memcpy and memset. Its tables are constant, 639 bytes.
  */
 #ifndef PAGE_CODE_H
 #define PAGE_CODE_H

@@ -2,7 +2,7 @@
  *
  *   test_page_code [DRAWN] [SEED] [all]
  *
- * DRAWN: so many pages with drawn errors, and as many of drawn bytes. all: each error of two bytes in the envelopes of tags of
+ * DRAWN: so many pages with drawn errors, and a quarter as many of drawn bytes. all: each error of two bytes in the envelopes of tags of
  * 24 bytes, some minutes.
  */
 #include "commands.h"
@@ -355,6 +355,6 @@ int main(int count, char **words)
     printf("  %d layouts; %llu errors of one byte and %llu of two are corrected\n", LAYOUTS, (unsigned long long)one,
            (unsigned long long)two);
     drawn_errors(pages);
-    drawn_spare_areas(pages);
+    drawn_spare_areas(pages / 4 + 1);
     return 0;
 }

@@ -3,7 +3,8 @@
 # is skipped, with a line. FLASH_C_ARCHIVE names a libflash_c.a that is there; else `rt lib` makes one. OUT: where all is built.
 # `make test TARGET=..` runs it for another target: RUN is what runs its programs here, and CC, CXX and NM are its tools.
 #
-#   bash c/test.sh [quick]     quick: without the sanitizer, without valgrind, and without a volume that is mounted on Linux
+#   bash c/test.sh [quick]     quick: without the sanitizer, without valgrind, without a volume that is mounted on Linux, and without
+#                              the guest with the simulator of its devices
 #
 # Each test program takes how much it does, and a seed: out/test_cuts 20000 7 does more than is done here.
 set -u
@@ -15,9 +16,9 @@ CXX=${CXX:-g++}
 NM=${NM:-nm}
 RUN=${RUN:-}
 TARGET=${TARGET:-}
-cuts=300 pages=1000000
-[ -z "$RUN" ] || cuts=100 pages=50000 # a processor that is made by a program takes eight times as long
-[ "${1:-}" != quick ] || pages=50000
+cuts=300 pages=1000000 torn=200
+[ -z "$RUN" ] || cuts=100 pages=50000 torn=30 # a processor that is made by a program takes eight times as long
+[ "${1:-}" != quick ] || pages=50000 torn=30
 FLAGS="-std=c11 -Wall -Wextra -Wpedantic -Werror -O2 -g -I. -Idrivers -Iexamples"
 passed=0 failed=0 skipped=0
 log=$(mktemp)
@@ -47,6 +48,13 @@ skip() {
 }
 
 has() { command -v "$1" > /dev/null 2>&1; }
+
+# Runs a script that prints lines of its own.
+others() {
+    OUT=$OUT CC=$CC bash "$@" | tee "$log"
+    passed=$((passed + $(grep -c '^ok ' "$log"))) failed=$((failed + $(grep -c '^FAIL ' "$log")))
+    skipped=$((skipped + $(grep -c '^skip ' "$log")))
+}
 
 # Compiles a program: OUTPUT WORDS..
 build() {
@@ -161,6 +169,7 @@ builds() {
         build test_model test/test_model.c $HARNESS "$LIBRARY" &&
         build test_model_in_region -DREGION test/test_model.c $HARNESS "$OUT/libflashfs_heap.a" "$LIBRARY" &&
         build test_cuts test/test_cuts.c $HARNESS "$LIBRARY" &&
+        build test_torn test/test_torn.c test/sessions.c $CODED test/commands.c test/model.c "$LIBRARY" &&
         build test_lies test/test_lies.c $HARNESS "$LIBRARY" &&
         build test_memory test/test_memory.c $HARNESS "$LIBRARY" &&
         build make_image test/make_image.c test/commands.c test/model.c drivers/file_nand.c "$LIBRARY" &&
@@ -194,6 +203,7 @@ run "the skeleton of an SPI driver compiles" $CC $FLAGS -c -o "$OUT/spi_nand.o" 
 run "drawn calls beside the model" "$OUT/test_model" 2500
 run "drawn calls beside the model, in a region of memory" "$OUT/test_model_in_region" 500 7
 run "power that goes, and calls that fail" "$OUT/test_cuts" $cuts
+run "pages and blocks that cuts leave torn" "$OUT/test_torn" $torn
 run "drivers that lie" "$OUT/test_lies" 500
 run "memory that is refused, many mounts, several volumes" "$OUT/test_memory" 60
 run "the example hello" "$OUT/hello"
@@ -258,11 +268,10 @@ elif [ "${1:-}" != quick ]; then
         skip "valgrind" "it is not here"
     fi
     if [ -n "${RUN:-}" ]; then
-        skip "a volume that is mounted on Linux" "the programs are for another processor"
-    else # lines of its own
-        OUT=$OUT bash linux/test.sh 7 | tee "$log"
-        passed=$((passed + $(grep -c '^ok ' "$log"))) failed=$((failed + $(grep -c '^FAIL ' "$log")))
-        skipped=$((skipped + $(grep -c '^skip ' "$log")))
+        skip "a volume that is mounted on Linux, and the simulator of its devices" "the programs are for another processor"
+    else
+        others linux/test.sh 7
+        others test/mtd/test.sh
     fi
 fi
 

@@ -1,0 +1,16 @@
+# What c/test.sh runs in the guest.
+. /share/parts.sh
+part "try_mtd" $LARGE overridesize=6 -- ./try_mtd /dev/mtd0
+part "try_mtd, three bad blocks" $LARGE overridesize=5 badblocks=0,1,7 -- ./try_mtd /dev/mtd0
+part "a chip with 38 free bytes is refused" $SMALL overridesize=4 -- ./try_driver refused /dev/mtd0 -205
+part "a chip of several bits in a cell is refused" id_bytes=0x20,0xa1,0x04,0x26 -- ./try_driver refused /dev/mtd0 -202
+part "a chip of 4 GiB has too many blocks" id_bytes=0x20,0xd7,0x00,0x26 -- ./try_driver refused /dev/mtd0 -206
+part "the last blocks of 4 GiB" id_bytes=0x20,0xd7,0x00,0x26 -- ./try_driver last /dev/mtd0 16300
+part "a block whose first page fails is marked" $LARGE overridesize=5 weakpages=320:0 -- ./try_driver mark /dev/mtd0 5
+part "driver_check, 4,096 + 128, Hamming" $LARGE_32 overridesize=4 -- ./try_driver check /dev/mtd0 48 3 1
+part "driver_check, 2,048 + 128, BCH-8" $MIDDLE_32 bch=8 parts=16 -- ./try_driver check /dev/mtd0 48 3 8
+part "driver_check, 2,048 + 64, BCH-4, tags of 24 bytes" $SMALL_32 overridesize=4 bch=4 -- ./try_driver check /dev/mtd0 24 3 3
+part "30 sessions, bad and weak blocks" $LARGE overridesize=5 badblocks=0,7 weakblocks=2:1,3:2,5:0 weakpages=579:0 -- \
+    ./try_volume /dev/mtd0 6 30 100 40000 2
+part "20 sessions with cuts, 4,096 + 128" $LARGE overridesize=4 -- ./try_volume /dev/mtd0 4 20 45 30000 11 all
+part "20 sessions with cuts, 2,048 + 128, BCH-8" $MIDDLE bch=8 parts=17 -- ./try_volume /dev/mtd0 4 20 45 30000 12 all

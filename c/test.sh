@@ -128,6 +128,42 @@ image_of_c() {
         [ "$("$OUT/list" "$work/own.img" /logs/old/29 | wc -c)" -eq 87000 ]
 }
 
+# A file in another form, and one byte of it changed: FILE PLACE BYTE (octal).
+poke() { printf "\\$3" | dd of="$1" bs=1 seek="$2" conv=notrunc status=none; }
+
+# An image as raw pages and back, over two layouts: the same image, also where bits of a tag flipped; a page whose data changed is lost; a
+# marked block stays marked; and a volume whose erased blocks are left out, so that its blocks lie elsewhere, shows the same tree.
+raw_pages() {
+    local free raw="$OUT/flash-raw" image="$work/c.img" sizes="--page 2048 --block 64" page=$((2048 + 128)) from
+    "$OUT/make_image" "$image" && "$OUT/list" "$image" > "$work/wanted" || return 1
+    "$OUT/list" "$image" /logs/old/29 >> "$work/wanted"
+    for free in 2+74 4+20,36+20,68+20,100+20; do
+        "$raw" to-pages --spare 128 --free $free "$image" "$work/pages" || return 1
+        [ "$(stat -c %s "$work/pages")" -eq $((64 * 64 * page)) ] || return 1
+        "$raw" to-image --spare 128 --free $free $sizes "$work/pages" "$work/back.img" || return 1
+        shows "$work/back.img" && "$raw" to-pages --spare 128 --free $free "$work/back.img" "$work/again" || return 1
+        cmp "$work/pages" "$work/again" || return 1
+    done
+    from=$(grep -abo -m 1 NLFS "$work/pages" | head -n 1 | cut -d : -f 1) # a page that is written
+    poke "$work/pages" $((from + 2048 + 36)) 125 && poke "$work/pages" $((from + 2048 + 101)) 252 || return 1
+    "$raw" to-image --spare 128 --free $free $sizes "$work/pages" "$work/other.img" && cmp "$work/back.img" "$work/other.img" || return 1
+    poke "$work/pages" $((from + 9)) 125 || return 1
+    "$raw" to-image --spare 128 --free $free $sizes "$work/pages" "$work/other.img" 2> "$work/said" || return 1
+    grep -q ' 1 uncorrectable' "$work/said" || return 1
+    poke "$work/back.img" $((32 + 63)) 001 || return 1
+    "$raw" to-pages --spare 128 --free $free "$work/back.img" "$work/pages" || return 1
+    "$raw" to-image --spare 128 --free $free $sizes "$work/pages" "$work/other.img" 2> "$work/said" || return 1
+    grep -q '64 blocks, 1 of them bad' "$work/said" && shows "$work/other.img" || return 1
+    "$raw" to-pages --skip-erased --spare 128 --free $free "$work/back.img" "$work/pages" || return 1
+    [ "$(stat -c %s "$work/pages")" -lt $((64 * 64 * page)) ] || return 1
+    "$raw" to-image --spare 128 --free $free $sizes --blocks 64 "$work/pages" "$work/other.img" && shows "$work/other.img" || return 1
+    ! "$raw" to-pages --spare 64 --free 2+38 "$image" "$work/pages" && ! "$raw" to-pages --spare 128 --free 2+40,41+20 "$image" "$work/pages" &&
+        ! "$raw" to-pages --spare 128 --free 0+74 "$image" "$work/pages" && ! "$raw" to-image --spare 64 --free 2+54 $sizes "$image" "$work/x"
+}
+shows() {
+    "$OUT/list" "$1" > "$work/there" && "$OUT/list" "$1" /logs/old/29 >> "$work/there" && cmp "$work/wanted" "$work/there"
+}
+
 installed() {
     make -s OUT="$OUT" PREFIX="$work/prefix" install || return 1
     local words="-I$work/prefix/include -L$work/prefix/lib -lflashfs"
@@ -173,6 +209,7 @@ builds() {
         build test_lies test/test_lies.c $HARNESS "$LIBRARY" &&
         build test_memory test/test_memory.c $HARNESS "$LIBRARY" &&
         build make_image test/make_image.c test/commands.c test/model.c drivers/file_nand.c "$LIBRARY" &&
+        rm -f "$OUT/flash-raw" && make -s OUT="$OUT" CC="$CC" CFLAGS="-O2 -g -Werror" flash-raw && wrap "$OUT/flash-raw" &&
         build list examples/list.c drivers/file_nand.c "$LIBRARY" &&
         build hello examples/hello.c drivers/ram_nand.c "$LIBRARY" &&
         build power_loss examples/power_loss.c drivers/ram_nand.c "$LIBRARY"
@@ -210,6 +247,7 @@ run "the example hello" "$OUT/hello"
 run "the example power_loss" "$OUT/power_loss"
 run "an image that C made, shown by C" image_of_c
 run "an image that the program made, shown by C" image_of_program ../crates/program_stories/data/made.img
+run "raw pages of an image, and back" raw_pages
 if [ -x ../crates/flashsh/out/flashsh ]; then
     run "images, with the program of the repository" images ../crates/flashsh/out/flashsh
 else

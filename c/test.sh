@@ -160,6 +160,25 @@ raw_pages() {
     ! "$raw" to-pages --spare 64 --free 2+38 "$image" "$work/pages" && ! "$raw" to-pages --spare 128 --free 2+40,41+20 "$image" "$work/pages" &&
         ! "$raw" to-pages --spare 128 --free 0+74 "$image" "$work/pages" && ! "$raw" to-image --spare 64 --free 2+54 $sizes "$image" "$work/x"
 }
+# An image without its erased blocks, on a chip whose block PLACE is bad, for each place: the files are the same.
+moved() {
+    local raw="$OUT/flash-raw" words="--spare 128 --free 4+90 --page 512 --block 32" block=$((32 * (512 + 128))) place count
+    "$OUT/make_image" "$work/files.img" rewritten && files "$work/files.img" > "$work/wanted" || return 1
+    # shellcheck disable=SC2086 # words
+    "$raw" to-pages --skip-erased $words "$work/files.img" "$work/pages" || return 1
+    count=$(($(stat -c %s "$work/pages") / block))
+    head -c $block /dev/zero | tr '\0' '\377' > "$work/erased"
+    for ((place = 0; place <= count; place++)); do
+        { head -c $((place * block)) "$work/pages"; cat "$work/erased"; tail -c +$((place * block + 1)) "$work/pages"; } > "$work/moved"
+        # shellcheck disable=SC2086
+        "$raw" to-image $words --blocks 32 "$work/moved" "$work/other.img" || return 1
+        files "$work/other.img" > "$work/there" && cmp "$work/wanted" "$work/there" || return 1
+    done
+}
+files() {
+    "$OUT/list" "$1" || return 1
+    for name in 0 1 2 3 4 5; do "$OUT/list" "$1" /f$name | cksum; done
+}
 shows() {
     "$OUT/list" "$1" > "$work/there" && "$OUT/list" "$1" /logs/old/29 >> "$work/there" && cmp "$work/wanted" "$work/there"
 }
@@ -248,6 +267,7 @@ run "the example power_loss" "$OUT/power_loss"
 run "an image that C made, shown by C" image_of_c
 run "an image that the program made, shown by C" image_of_program ../crates/program_stories/data/made.img
 run "raw pages of an image, and back" raw_pages
+run "raw pages on a chip with a bad block" moved
 if [ -x ../crates/flashsh/out/flashsh ]; then
     run "images, with the program of the repository" images ../crates/flashsh/out/flashsh
 else

@@ -65,7 +65,21 @@ static int lay_page(uint32_t block, uint32_t page, uint8_t *to)
     return kind;
 }
 
-/* Lays a block out, and returns whether it is to be written: with --skip-erased only if a page of it is programmed. A block that is
+/* Whether a block holds a checkpoint: the list, by their places, of the pages that are in use, which a mount goes by if it is
+ * there. Its pages are of object 2^64 - 1.
+ */
+static bool has_checkpoint(uint32_t block)
+{
+    uint8_t tag[FLASH_TAG_BYTES], object = 0xff;
+    if (image.driver.read_tag(&image, block, 0, tag) != FLASH_WRITTEN)
+        return false;
+    for (int i = 8; i < 16; i++)
+        object &= tag[i];
+    return object == 0xff;
+}
+
+/* Lays a block out, and whether it is to be written: with --skip-erased only if a page of it is programmed. What follows then lies
+ * in other blocks, so that a checkpoint would name other pages: it is left out too, and a mount looks at all tags. A block that is
  * marked bad is erased but for the mark, the first byte of the spare area.
  */
 static int lay_block(uint32_t block, bool *is_written)
@@ -74,6 +88,8 @@ static int lay_block(uint32_t block, bool *is_written)
     if (bad < 0)
         return -1;
     *is_written = !words.skips_erased;
+    if (words.skips_erased && has_checkpoint(block))
+        return 0;
     for (uint32_t page = 0; page < image.driver.block_pages; page++) {
         int kind = bad == 0 ? lay_page(block, page, raw[page]) : FLASH_ERASED;
         if (kind < 0)

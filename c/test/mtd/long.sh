@@ -1,7 +1,9 @@
 # By hand, half an hour: the chips of docs/FIRMWARE.md, 500 sessions with cuts on each, flipped bits.
 . /share/parts.sh
-layouts() { # PARAMETERS: with Linux's codes
-    for code in "" bch=1 bch=4 bch=8; do part "layout, $* $code" "$@" $code -- ./try_driver layout /dev/mtd0; done
+layouts() { # CODES PARAMETERS
+    codes=$1
+    shift
+    for code in $codes; do part "layout, $* $code" "$@" $code -- ./try_driver layout /dev/mtd0; done
 }
 checked() { # TAG_BYTES CORRECTED PARAMETERS
     tag=$1 corrected=$2
@@ -13,12 +15,14 @@ lived() { # SEED PARAMETERS
     shift
     part "500 sessions with cuts, $*" "$@" -- ./try_volume /dev/mtd0 4 500 45 30000 $seed all
 }
-layouts $SMALL
-layouts $MIDDLE parts=16
-layouts $LARGE
-layouts $WIDE parts=16
+layouts bch=0 id_bytes=0x98,0x76 # 512 + 16; bch=0: Hamming
+layouts "bch=0 bch=1 bch=2 bch=4 bch=8" $SMALL
+layouts "bch=0 bch=1 bch=4 bch=8" $MIDDLE parts=16
+layouts "bch=0 bch=1 bch=4 bch=8" $LARGE
+layouts "bch=1 bch=4 bch=8" $WIDE parts=16 # the kernel has no Hamming layout for it
 checked 48 1 $SMALL_32 overridesize=4 bch=1
 checked 48 1 $MIDDLE parts=16
+checked 48 8 $MIDDLE parts=16 bch=8
 checked 48 4 $LARGE_32 overridesize=4 bch=4
 checked 48 4 $WIDE parts=16 bch=4
 checked 48 8 $WIDE parts=16 bch=8

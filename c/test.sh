@@ -176,8 +176,9 @@ moved() {
     done
 }
 files() {
+    local file
     "$OUT/list" "$1" || return 1
-    for name in 0 1 2 3 4 5; do "$OUT/list" "$1" /f$name | cksum; done
+    for file in 0 1 2 3 4 5; do "$OUT/list" "$1" /f$file | cksum; done
 }
 shows() {
     "$OUT/list" "$1" > "$work/there" && "$OUT/list" "$1" /logs/old/29 >> "$work/there" && cmp "$work/wanted" "$work/there"

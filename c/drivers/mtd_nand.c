@@ -166,19 +166,16 @@ static int look_at_chip(const struct mtd_info_user *info)
     return 0;
 }
 
-/* Lays the envelope out. As Linux does, an erased page may have as many flipped bits as the device's code corrects in a step.
- */
+/* Lays the envelope out. The data of an erased page with flipped bits comes corrected from the kernel, as other data. */
 static int lay_out(struct mtd_nand *nand, uint32_t tag_bytes)
 {
-    uint64_t available, strength;
+    uint64_t available;
     if (!number_of(nand->device, "oobavail", &available))
         return MTD_NAND_NO_SYSFS;
     nand->free_bytes = (struct page_run){0, available < PAGE_CODE_MOST_BYTES ? (uint32_t)available : PAGE_CODE_MOST_BYTES};
     if (!page_code_make(&nand->code, nand->driver.page_bytes, tag_bytes, &nand->free_bytes, 1, PAGE_CODE_MOST_BYTES))
         return MTD_NAND_FEW_SPARE;
     nand->free_bytes.bytes = page_code_bytes(&nand->code);
-    if (number_of(nand->device, "ecc_strength", &strength) && strength > nand->code.erased_bits && strength < 100)
-        nand->code.erased_bits = (uint32_t)strength;
     return 0;
 }
 

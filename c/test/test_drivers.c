@@ -221,10 +221,9 @@ static int check_coded(const struct layout *layout, enum coded_wrong wrong, bool
 static void check_envelopes(void)
 {
     static const struct layout layouts[] = {
-        {{.page_bytes = 2048, .block_pages = 64, .blocks = 6}, 64, 24, 1, {{2, 34}}},
-        {{.page_bytes = 2048, .block_pages = 64, .blocks = 6}, 64, 24, 1, {{2, 38}}},
-        {{.page_bytes = 2048, .block_pages = 64, .blocks = 6}, 64, 48, 1, {{2, 54}}},
-        {{.page_bytes = 2048, .block_pages = 64, .blocks = 6}, 128, 48, 1, {{2, 74}}},
+        {{.page_bytes = 2048, .block_pages = 32, .blocks = 6}, 64, 24, 1, {{2, 34}}},
+        {{.page_bytes = 2048, .block_pages = 32, .blocks = 6}, 64, 48, 1, {{2, 54}}},
+        {{.page_bytes = 2048, .block_pages = 32, .blocks = 6}, 128, 48, 1, {{2, 74}}},
         {{.page_bytes = 4096, .block_pages = 32, .blocks = 5}, 128, 48, 1, {{2, 70}}},
         {{.page_bytes = 512, .block_pages = 32, .blocks = 8}, 64, 24, 4, {{4, 8}, {20, 8}, {36, 8}, {52, 8}}},
     };

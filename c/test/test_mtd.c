@@ -31,7 +31,6 @@ static struct {
     uint32_t flags, page_bytes, block_pages, first;
     uint64_t blocks;
     int oobavail; /* negative: not in /sys */
-    int strength; /* ecc_strength */
     bool no_size; /* `size` is not in /sys */
     bool no_read; /* the kernel has no MEMREAD */
     bool is_open;
@@ -183,8 +182,6 @@ static FILE *played_fopen(const char *path)
         snprintf(text, sizeof text, "%d\n", kernel.oobavail);
     if (strcmp(path, "/sys/dev/char/90:0/size") == 0 && !kernel.no_size)
         snprintf(text, sizeof text, "%" PRIu64 "\n", kernel.blocks * kernel.block_pages * kernel.page_bytes);
-    if (strcmp(path, "/sys/dev/char/90:0/ecc_strength") == 0)
-        snprintf(text, sizeof text, "%d\n", kernel.strength);
     FILE *file = text[0] == 0 ? NULL : tmpfile();
     if (file != NULL) {
         fputs(text, file);
@@ -214,7 +211,6 @@ static void plug_in(uint32_t page_bytes, int oobavail)
     kernel.block_pages = 32;
     kernel.blocks = KEPT_BLOCKS;
     kernel.oobavail = oobavail;
-    kernel.strength = 1;
     size_t bytes = (size_t)KEPT_BLOCKS * kernel.block_pages * kept_bytes();
     kernel.pages = malloc(bytes);
     check(kernel.pages != NULL, "memory");

@@ -2,8 +2,8 @@
  *
  *   test_page_code [DRAWN] [SEED] [all]
  *
- * DRAWN: so many pages with drawn errors, and a quarter as many of drawn bytes. all: each error of two bytes in the envelopes of tags of
- * 24 bytes, some minutes.
+ * DRAWN: so many pages with drawn errors, and a quarter as many of drawn bytes. all: each error of two bytes in the envelopes
+ * of tags of 24 bytes, some minutes.
  */
 #include "commands.h"
 #include "page_code.h"
@@ -259,19 +259,26 @@ static int kind_of(void)
     return page_code_read(&code, data, spare, there, NULL);
 }
 
-static void erased_pages(void)
+static void flip_one(uint8_t *byte, uint32_t bit)
 {
     uint32_t zeros;
+    *byte ^= (uint8_t)(1u << bit % 8);
+    int kind = page_code_read(&code, data, spare, there, &zeros);
+    check(kind == FLASH_ERASED && zeros == 1, "bit %u of an erased page flipped", bit);
+    *byte = 0xff;
+}
+
+/* Each bit of the envelope flips, and of the data each of 512 bytes, and some of more. */
+static void erased_pages(void)
+{
+    uint32_t step = code.page_bytes > 512 ? 7 : 1;
     memset(data, 0xff, sizeof data);
     memset(spare, 0xff, sizeof spare);
     check(kind_of() == FLASH_ERASED, "an erased page");
-    for (uint32_t bit = 0; bit < 8 * (code.page_bytes + page_code_bytes(&code)); bit++) {
-        uint8_t *byte = bit / 8 < code.page_bytes ? &data[bit / 8] : place_of(bit / 8 - code.page_bytes);
-        *byte ^= (uint8_t)(1u << bit % 8);
-        check(page_code_read(&code, data, spare, there, &zeros) == FLASH_ERASED && zeros == 1, "bit %u of an erased page flipped",
-              bit);
-        *byte = 0xff;
-    }
+    for (uint32_t bit = 0; bit < 8 * code.page_bytes; bit += step)
+        flip_one(&data[bit / 8], bit);
+    for (uint32_t bit = 0; bit < 8 * page_code_bytes(&code); bit++)
+        flip_one(place_of(bit / 8), bit);
     for (int tries = 0; tries < 200; tries++) {
         uint32_t bits = 0;
         while (bits <= code.erased_bits) {

@@ -3,7 +3,8 @@
 # is skipped, with a line. FLASH_C_ARCHIVE names a libflash_c.a that is there; else `rt lib` makes one. OUT: where all is built.
 # `make test TARGET=..` runs it for another target: RUN is what runs its programs here, and CC, CXX and NM are its tools.
 #
-#   bash c/test.sh [quick]     quick: without the sanitizer, without valgrind, and without a volume that is mounted on Linux
+#   bash c/test.sh [quick]     quick: without the sanitizer, without valgrind, without a volume that is mounted on Linux, and without
+#                              the guest with the simulator of its devices
 #
 # Each test program takes how much it does, and a seed: out/test_cuts 20000 7 does more than is done here.
 set -u
@@ -15,8 +16,9 @@ CXX=${CXX:-g++}
 NM=${NM:-nm}
 RUN=${RUN:-}
 TARGET=${TARGET:-}
-cuts=300
-[ -z "$RUN" ] || cuts=100 # a processor that is made by a program takes eight times as long
+cuts=300 pages=1000000 torn=200
+[ -z "$RUN" ] || cuts=100 pages=50000 torn=30 # a processor that is made by a program takes eight times as long
+[ "${1:-}" != quick ] || pages=50000 torn=30
 FLAGS="-std=c11 -Wall -Wextra -Wpedantic -Werror -O2 -g -I. -Idrivers -Iexamples"
 passed=0 failed=0 skipped=0
 log=$(mktemp)
@@ -46,6 +48,13 @@ skip() {
 }
 
 has() { command -v "$1" > /dev/null 2>&1; }
+
+# Runs a script that prints lines of its own.
+others() {
+    OUT=$OUT CC=$CC bash "$@" | tee "$log"
+    passed=$((passed + $(grep -c '^ok ' "$log"))) failed=$((failed + $(grep -c '^FAIL ' "$log")))
+    skipped=$((skipped + $(grep -c '^skip ' "$log")))
+}
 
 # Compiles a program: OUTPUT WORDS..
 build() {
@@ -119,6 +128,62 @@ image_of_c() {
         [ "$("$OUT/list" "$work/own.img" /logs/old/29 | wc -c)" -eq 87000 ]
 }
 
+# A file in another form, and one byte of it changed: FILE PLACE BYTE (octal).
+poke() { printf "\\$3" | dd of="$1" bs=1 seek="$2" conv=notrunc status=none; }
+
+# An image as raw pages and back, over two layouts: the same image, also where bits of a tag flipped; a page whose data changed is lost; a
+# marked block stays marked; and a volume whose erased blocks are left out, so that its blocks lie elsewhere, shows the same tree.
+raw_pages() {
+    local free raw="$OUT/flash-raw" image="$work/c.img" sizes="--page 2048 --block 64" page=$((2048 + 128)) from
+    "$OUT/make_image" "$image" && "$OUT/list" "$image" > "$work/wanted" || return 1
+    "$OUT/list" "$image" /logs/old/29 >> "$work/wanted"
+    for free in 2+74 4+20,36+20,68+20,100+20; do
+        "$raw" to-pages --spare 128 --free $free "$image" "$work/pages" || return 1
+        [ "$(stat -c %s "$work/pages")" -eq $((64 * 64 * page)) ] || return 1
+        "$raw" to-image --spare 128 --free $free $sizes "$work/pages" "$work/back.img" || return 1
+        shows "$work/back.img" && "$raw" to-pages --spare 128 --free $free "$work/back.img" "$work/again" || return 1
+        cmp "$work/pages" "$work/again" || return 1
+    done
+    from=$(grep -abo -m 1 NLFS "$work/pages" | head -n 1 | cut -d : -f 1) # a page that is written
+    poke "$work/pages" $((from + 2048 + 36)) 125 && poke "$work/pages" $((from + 2048 + 101)) 252 || return 1
+    "$raw" to-image --spare 128 --free $free $sizes "$work/pages" "$work/other.img" && cmp "$work/back.img" "$work/other.img" || return 1
+    poke "$work/pages" $((from + 9)) 125 || return 1
+    "$raw" to-image --spare 128 --free $free $sizes "$work/pages" "$work/other.img" 2> "$work/said" || return 1
+    grep -q ' 1 uncorrectable' "$work/said" || return 1
+    poke "$work/back.img" $((32 + 63)) 001 || return 1
+    "$raw" to-pages --spare 128 --free $free "$work/back.img" "$work/pages" || return 1
+    "$raw" to-image --spare 128 --free $free $sizes "$work/pages" "$work/other.img" 2> "$work/said" || return 1
+    grep -q '64 blocks, 1 of them bad' "$work/said" && shows "$work/other.img" || return 1
+    "$raw" to-pages --skip-erased --spare 128 --free $free "$work/back.img" "$work/pages" || return 1
+    [ "$(stat -c %s "$work/pages")" -lt $((64 * 64 * page)) ] || return 1
+    "$raw" to-image --spare 128 --free $free $sizes --blocks 64 "$work/pages" "$work/other.img" && shows "$work/other.img" || return 1
+    ! "$raw" to-pages --spare 64 --free 2+38 "$image" "$work/pages" && ! "$raw" to-pages --spare 128 --free 2+40,41+20 "$image" "$work/pages" &&
+        ! "$raw" to-pages --spare 128 --free 0+74 "$image" "$work/pages" && ! "$raw" to-image --spare 64 --free 2+54 $sizes "$image" "$work/x"
+}
+# An image without its erased blocks, on a chip whose block PLACE is bad, for each place: the files are the same.
+moved() {
+    local raw="$OUT/flash-raw" words="--spare 128 --free 4+90 --page 512 --block 32" block=$((32 * (512 + 128))) place count
+    "$OUT/make_image" "$work/files.img" rewritten && files "$work/files.img" > "$work/wanted" || return 1
+    # shellcheck disable=SC2086 # words
+    "$raw" to-pages --skip-erased $words "$work/files.img" "$work/pages" || return 1
+    count=$(($(stat -c %s "$work/pages") / block))
+    head -c $block /dev/zero | tr '\0' '\377' > "$work/erased"
+    for ((place = 0; place <= count; place++)); do
+        { head -c $((place * block)) "$work/pages"; cat "$work/erased"; tail -c +$((place * block + 1)) "$work/pages"; } > "$work/moved"
+        # shellcheck disable=SC2086
+        "$raw" to-image $words --blocks 32 "$work/moved" "$work/other.img" || return 1
+        files "$work/other.img" > "$work/there" && cmp "$work/wanted" "$work/there" || return 1
+    done
+}
+files() {
+    local file
+    "$OUT/list" "$1" || return 1
+    for file in 0 1 2 3 4 5; do "$OUT/list" "$1" /f$file | cksum; done
+}
+shows() {
+    "$OUT/list" "$1" > "$work/there" && "$OUT/list" "$1" /logs/old/29 >> "$work/there" && cmp "$work/wanted" "$work/there"
+}
+
 installed() {
     make -s OUT="$OUT" PREFIX="$work/prefix" install || return 1
     local words="-I$work/prefix/include -L$work/prefix/lib -lflashfs"
@@ -148,18 +213,23 @@ run "the library, by make" make -s OUT="$OUT"
 [ $failed -eq 0 ] || exit 1
 
 HARNESS="test/commands.c test/model.c drivers/ram_nand.c"
+CODED="test/coded_nand.c drivers/cut_nand.c drivers/page_code.c"
+MTD="drivers/mtd_nand.c drivers/page_code.c"
 LIBRARY="$OUT/libflashfs.a"
 $CC $FLAGS -c -o "$OUT/ram_nand.o" drivers/ram_nand.c
 builds() {
     build test_header test/test_header.c "$OUT/flash_port.o" "$OUT/libflash_c.a" "$OUT/flash_malloc.o" &&
         build test_heap test/test_heap.c test/commands.c test/model.c "$OUT/libflashfs_heap.a" "$LIBRARY" &&
-        build test_drivers test/test_drivers.c drivers/driver_check.c drivers/file_nand.c $HARNESS "$LIBRARY" &&
+        build test_page_code test/test_page_code.c drivers/page_code.c test/commands.c test/model.c "$LIBRARY" &&
+        build test_drivers test/test_drivers.c drivers/driver_check.c drivers/file_nand.c $CODED $HARNESS "$LIBRARY" &&
         build test_model test/test_model.c $HARNESS "$LIBRARY" &&
         build test_model_in_region -DREGION test/test_model.c $HARNESS "$OUT/libflashfs_heap.a" "$LIBRARY" &&
         build test_cuts test/test_cuts.c $HARNESS "$LIBRARY" &&
+        build test_torn test/test_torn.c test/sessions.c $CODED test/commands.c test/model.c "$LIBRARY" &&
         build test_lies test/test_lies.c $HARNESS "$LIBRARY" &&
         build test_memory test/test_memory.c $HARNESS "$LIBRARY" &&
         build make_image test/make_image.c test/commands.c test/model.c drivers/file_nand.c "$LIBRARY" &&
+        rm -f "$OUT/flash-raw" && make -s OUT="$OUT" CC="$CC" CFLAGS="-O2 -g -Werror" flash-raw && wrap "$OUT/flash-raw" &&
         build list examples/list.c drivers/file_nand.c "$LIBRARY" &&
         build hello examples/hello.c drivers/ram_nand.c "$LIBRARY" &&
         build power_loss examples/power_loss.c drivers/ram_nand.c "$LIBRARY"
@@ -175,24 +245,30 @@ else
     skip "the header's errors and the library's" "crates/flash_c is not here"
 fi
 run "the allocator over a region" "$OUT/test_heap"
+run "the envelope of a page" "$OUT/test_page_code" $pages
 run "the drivers, and drivers that break a promise" "$OUT/test_drivers" "$work"
 if includes mtd/mtd-user.h && echo '#include <sys/ioctl.h>
 #include <mtd/mtd-user.h>
 unsigned long command = MEMREAD;' | $CC -fsyntax-only -x c - 2> /dev/null; then
-    run "the driver of Linux's devices compiles" build try_mtd test/try_mtd.c drivers/mtd_nand.c drivers/driver_check.c $HARNESS "$LIBRARY"
+    run "the driver of Linux's devices compiles" eval 'build try_mtd test/try_mtd.c $MTD drivers/driver_check.c $HARNESS "$LIBRARY" &&
+        build test_mtd test/test_mtd.c drivers/page_code.c drivers/driver_check.c test/commands.c test/model.c "$LIBRARY"'
+    run "the driver of Linux's devices, over a kernel that is played" "$OUT/test_mtd"
 else
-    skip "the driver of Linux's devices compiles" "no mtd/mtd-user.h with MEMREAD"
+    skip "the driver of Linux's devices" "no mtd/mtd-user.h with MEMREAD"
 fi
 run "the skeleton of an SPI driver compiles" $CC $FLAGS -c -o "$OUT/spi_nand.o" drivers/spi_nand.c
 run "drawn calls beside the model" "$OUT/test_model" 2500
 run "drawn calls beside the model, in a region of memory" "$OUT/test_model_in_region" 500 7
 run "power that goes, and calls that fail" "$OUT/test_cuts" $cuts
+run "pages and blocks that cuts leave torn" "$OUT/test_torn" $torn
 run "drivers that lie" "$OUT/test_lies" 500
 run "memory that is refused, many mounts, several volumes" "$OUT/test_memory" 60
 run "the example hello" "$OUT/hello"
 run "the example power_loss" "$OUT/power_loss"
 run "an image that C made, shown by C" image_of_c
 run "an image that the program made, shown by C" image_of_program ../crates/program_stories/data/made.img
+run "raw pages of an image, and back" raw_pages
+run "raw pages on a chip with a bad block" moved
 if [ -x ../crates/flashsh/out/flashsh ]; then
     run "images, with the program of the repository" images ../crates/flashsh/out/flashsh
 else
@@ -227,15 +303,17 @@ elif [ "${1:-}" != quick ]; then
     sanitizer="-fsanitize=address,undefined -fno-sanitize-recover=all"
     if compiles $sanitizer; then
         sanitized() {
-            build "$1_sanitized" $sanitizer "test/$1.c" drivers/driver_check.c drivers/file_nand.c $HARNESS flash_port.c "${@:2}" \
+            build "$1_sanitized" $sanitizer "test/$1.c" drivers/driver_check.c drivers/file_nand.c $CODED $HARNESS flash_port.c "${@:2}" \
                 "$OUT/libflash_c.a"
         }
         run "compiled with the sanitizer" eval 'sanitized test_model flash_malloc.c && sanitized test_lies flash_malloc.c &&
-            sanitized test_cuts flash_malloc.c && sanitized test_memory && sanitized test_drivers flash_malloc.c'
+            sanitized test_cuts flash_malloc.c && sanitized test_memory && sanitized test_drivers flash_malloc.c &&
+            sanitized test_page_code flash_malloc.c'
         run "sanitizer: drawn calls" "$OUT/test_model_sanitized" 1000 3
         run "sanitizer: drivers that lie" "$OUT/test_lies_sanitized" 100 3
         run "sanitizer: power that goes" "$OUT/test_cuts_sanitized" 50 3
         run "sanitizer: memory that is refused" "$OUT/test_memory_sanitized" 20 3
+        run "sanitizer: the envelope of a page" "$OUT/test_page_code_sanitized" 20000 3
         run "sanitizer: the drivers" "$OUT/test_drivers_sanitized" "$work"
     else
         skip "sanitizer" "the compiler has none"
@@ -249,11 +327,10 @@ elif [ "${1:-}" != quick ]; then
         skip "valgrind" "it is not here"
     fi
     if [ -n "${RUN:-}" ]; then
-        skip "a volume that is mounted on Linux" "the programs are for another processor"
-    else # lines of its own
-        OUT=$OUT bash linux/test.sh 7 | tee "$log"
-        passed=$((passed + $(grep -c '^ok ' "$log"))) failed=$((failed + $(grep -c '^FAIL ' "$log")))
-        skipped=$((skipped + $(grep -c '^skip ' "$log")))
+        skip "a volume that is mounted on Linux, and the simulator of its devices" "the programs are for another processor"
+    else
+        others linux/test.sh 7
+        others test/mtd/test.sh
     fi
 fi
 

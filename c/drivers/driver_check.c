@@ -6,7 +6,7 @@
 #include <string.h>
 
 /* The promises, each with what is said where it falls short. */
-enum promise { ERASES, READS_BACK, OTHERS, TAG_READ, STABLE, CUT_PROGRAM, CUT_ERASE, AFTER_CUT, MARKS, CALLS, PROMISES };
+enum promise { ERASES, READS_BACK, OTHERS, TAG_READ, STABLE, CUT_PROGRAM, CUT_ERASE, AFTER_CUT, FLIPS, MANY_FLIPS, MARKS, CALLS, PROMISES };
 
 static const char *const said[PROMISES] = {
     [ERASES] = "an erased page does not read as erased",
@@ -17,6 +17,8 @@ static const char *const said[PROMISES] = {
     [CUT_PROGRAM] = "after a cut program a page reads as neither erased, nor written, nor uncorrectable",
     [CUT_ERASE] = "after a cut erase a page reads as neither before, nor erased, nor uncorrectable",
     [AFTER_CUT] = "a block whose call was cut cannot be erased and programmed again",
+    [FLIPS] = "a page with so few flipped bits that they are corrected reads otherwise",
+    [MANY_FLIPS] = "a page with many flipped bits reads as neither before nor uncorrectable",
     [MARKS] = "a mark was not kept, or another block has it",
     [CALLS] = "a call returned a number that is not its own",
 };
@@ -33,8 +35,10 @@ struct state {
     const struct flash_driver *driver;
     uint32_t *blocks; /* those that are exercised */
     uint32_t count;
+    uint32_t tag_bytes;
     struct expected *pages; /* of these blocks */
     uint8_t *data, *tag, *wanted, *wanted_tag;
+    int way; /* of the last cut; negative: none */
     int lines[PROMISES];
     int short_of;
 };
@@ -48,8 +52,11 @@ static void falls_short(struct state *state, enum promise promise, const char *f
     int length = snprintf(line, sizeof line, "%s: ", said[promise]);
     va_list list;
     va_start(list, form);
-    vsnprintf(line + length, sizeof line - (size_t)length, form, list);
+    length += vsnprintf(line + length, sizeof line - (size_t)length, form, list);
     va_end(list);
+    if (state->way >= 0 && (promise == CUT_PROGRAM || promise == CUT_ERASE) && length < (int)sizeof line)
+        snprintf(line + length, sizeof line - (size_t)length, " (way %d%s%s)", state->way, state->check->way_name != NULL ? ": " : "",
+                 state->check->way_name != NULL ? state->check->way_name((unsigned)state->way) : "");
     state->check->report(state->check->context, line);
 }
 
@@ -82,14 +89,14 @@ static void look(struct state *state, uint32_t index, uint32_t page, enum promis
         falls_short(state, CALLS, "read_page of block %u page %u returned %d", block, page, kind);
         return;
     }
-    if (kind_alone != kind || (kind == FLASH_WRITTEN && memcmp(tag_alone, state->tag, FLASH_TAG_BYTES) != 0))
+    if (kind_alone != kind || (kind == FLASH_WRITTEN && memcmp(tag_alone, state->tag, state->tag_bytes) != 0))
         falls_short(state, TAG_READ, "block %u page %u, %d and %d", block, page, kind_alone, kind);
     bool same = kind == FLASH_WRITTEN;
     if (same) {
         fill(state->wanted, driver->page_bytes, expected->seed);
-        fill(state->wanted_tag, FLASH_TAG_BYTES, expected->seed + 1);
+        fill(state->wanted_tag, state->tag_bytes, expected->seed + 1);
         same = memcmp(state->data, state->wanted, driver->page_bytes) == 0 &&
-               memcmp(state->tag, state->wanted_tag, FLASH_TAG_BYTES) == 0;
+               memcmp(state->tag, state->wanted_tag, state->tag_bytes) == 0;
     }
     bool holds = (kind == FLASH_ERASED && expected->erased) || (kind == FLASH_UNCORRECTABLE && expected->lost) ||
                  (same && expected->written);
@@ -114,7 +121,7 @@ static int program(struct state *state, uint32_t index, uint32_t page, unsigned 
 {
     const struct flash_driver *driver = state->driver;
     fill(state->wanted, driver->page_bytes, seed);
-    fill(state->wanted_tag, FLASH_TAG_BYTES, seed + 1);
+    fill(state->wanted_tag, state->tag_bytes, seed + 1);
     return driver->program(driver->context, state->blocks[index], page, state->wanted, state->wanted_tag);
 }
 
@@ -180,6 +187,7 @@ static void check_cuts(struct state *state, unsigned way)
         unsigned seed = 100000 + way * 1000 + (unsigned)i * 100;
         erase(state, index);
         fill_block(state, index, i < 3 ? places[i] : driver->block_pages / (i == 3 ? 1 : 2), seed);
+        state->way = (int)way;
         check->cut_next(check->context, way);
         if (i < 3) {
             *page_of(state, index, places[i]) = (struct expected){true, true, true, seed + 777};
@@ -208,6 +216,43 @@ static void check_cuts(struct state *state, unsigned way)
         if (state->short_of != before)
             falls_short(state, AFTER_CUT, "block %u", block);
     }
+}
+
+/* Flips bits of a page that is written and of one that is erased, beside others that must stay. */
+static void check_flips(struct state *state, unsigned bits, unsigned seed)
+{
+    const struct driver_check *check = state->check;
+    bool few = bits <= check->corrected_bits;
+    uint32_t index = seed % state->count, last = state->driver->block_pages - 1;
+    if (!erase(state, index))
+        return;
+    fill_block(state, index, 3, 200000 + seed * 10);
+    for (int i = 0; i < 2; i++) {
+        uint32_t page = i == 0 ? 1 : last;
+        if (!check->flip(check->context, state->blocks[index], page, bits, seed * 2 + (unsigned)i))
+            falls_short(state, CALLS, "bits of block %u page %u could not be flipped", state->blocks[index], page);
+        page_of(state, index, page)->lost = !few;
+    }
+    for (uint32_t page = 0; page <= last; page++)
+        look(state, index, page, page != 1 && page != last ? OTHERS : few ? FLIPS : MANY_FLIPS);
+    for (int again = 0; again < 2; again++) {
+        power_up(state);
+        look(state, index, 1, STABLE);
+        look(state, index, last, STABLE);
+    }
+}
+
+static void check_all_flips(struct state *state)
+{
+    static const unsigned many[] = {2, 3, 4, 5, 6, 8, 12, 20, 40, 100, 500, 3000};
+    unsigned corrected = state->check->corrected_bits, seed = 1;
+    for (unsigned again = 0; again < 5; again++)
+        for (unsigned bits = 1; bits <= corrected; bits++)
+            check_flips(state, bits, seed++);
+    for (unsigned i = 0; i < sizeof many / sizeof *many; i++)
+        for (unsigned again = 0; again < 3; again++)
+            if (many[i] > corrected)
+                check_flips(state, many[i], seed++);
 }
 
 static bool marks_are(struct state *state, uint32_t first, uint32_t second)
@@ -270,6 +315,8 @@ int driver_check(const struct driver_check *check)
     struct state state = {
         .check = check,
         .driver = driver,
+        .way = -1,
+        .tag_bytes = check->tag_bytes != 0 ? check->tag_bytes : FLASH_TAG_BYTES,
         .blocks = calloc(driver->blocks, sizeof *state.blocks),
         .pages = calloc(pages, sizeof *state.pages),
         .data = malloc(driver->page_bytes),
@@ -285,6 +332,8 @@ int driver_check(const struct driver_check *check)
             check_order(&state);
             for (unsigned way = 0; check->cut_next != NULL && way < check->ways; way++)
                 check_cuts(&state, way);
+            if (check->flip != NULL)
+                check_all_flips(&state);
             if (check->may_mark)
                 check_marks(&state);
             result = state.short_of;

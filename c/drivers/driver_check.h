@@ -15,6 +15,9 @@ extern "C" {
 struct driver_check {
     const struct flash_driver *driver;
 
+    /* The bytes of the driver's tags: 48, or 24 of a driver that keeps so many; 0: 48. */
+    uint32_t tag_bytes;
+
     /* At most so many good blocks are exercised, spread over the device; 0: all. */
     uint32_t most_blocks;
 
@@ -22,15 +25,26 @@ struct driver_check {
     bool may_mark;
 
     /* Makes power go in the next program or erase, or marks it to be cut in the way `way`, 0, 1, .. says; then that call is
-     * made. Null: cuts are not tried. On a board: a switch of the supply that fires a random time after the call begins.
+     * made. Null: cuts are not tried. On a board: a switch of the supply that fires a random time after the call begins. Where
+     * the flash can be written raw: cut_nand.h.
      */
     void (*cut_next)(void *context, unsigned way);
     unsigned ways;
 
+    /* What a cut in a way leaves, for the lines; null: they have the way's number alone. */
+    const char *(*way_name)(unsigned way);
+
     /* Brings power back: the driver is as after a start. It may be called without a cut before. Null: never called. */
     void (*power_up)(void *context);
 
-    /* For the two functions above. */
+    /* Flips so many bits of a page as it lies on the flash, which are drawn by the seed, none of them of a bad-block mark. False:
+     * it could not. Null: not tried. A page in which at most `corrected_bits` are flipped must read as before, and one in which
+     * more are as before or as uncorrectable.
+     */
+    bool (*flip)(void *context, uint32_t block, uint32_t page, unsigned bits, unsigned seed);
+    unsigned corrected_bits;
+
+    /* For the functions above but way_name. */
     void *context;
 
     /* Called with a line for each promise that falls short; null: they are counted alone. */

@@ -13,7 +13,7 @@
 #include <sys/stat.h>
 #include <unistd.h>
 
-enum { HEAD_BYTES = 32, KIND_BYTES = 1, ERASED = 0, WRITTEN = 1 };
+enum { HEAD_BYTES = 32, KIND_BYTES = 1, ERASED = 0, WRITTEN = 1, LOST = 2 };
 
 static const char magic[8] = {'N', 'A', 'N', 'D', 'I', 'M', 'G', '1'};
 
@@ -110,6 +110,12 @@ static int mark_bad(void *context, uint32_t block)
     const struct file_nand *nand = context;
     const uint8_t mark = 1;
     return write_at(nand, HEAD_BYTES + (off_t)block, &mark, 1) && is_kept(nand) ? FLASH_DONE : -1;
+}
+
+int file_nand_lose(struct file_nand *nand, uint32_t block, uint32_t page)
+{
+    const uint8_t kind = LOST;
+    return write_at(nand, page_place(&nand->driver, block, page), &kind, KIND_BYTES) && is_kept(nand) ? FLASH_DONE : -1;
 }
 
 static struct flash_driver driver_of(struct file_nand *nand, uint32_t page_bytes, uint32_t block_pages, uint32_t blocks)

@@ -24,6 +24,9 @@ int file_nand_make(struct file_nand *nand, const char *path, uint32_t page_bytes
 /* Opens an image. Returns 0; FLASH_ENOENT if the file cannot be opened; FLASH_EINVAL if it is no image; or FLASH_EIO. */
 int file_nand_open(struct file_nand *nand, const char *path);
 
+/* Makes a page uncorrectable. Returns FLASH_DONE, or -1. */
+int file_nand_lose(struct file_nand *nand, uint32_t block, uint32_t page);
+
 /* Closes the file. */
 void file_nand_close(struct file_nand *nand);
 

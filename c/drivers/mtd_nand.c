@@ -1,7 +1,6 @@
-/* The tag lies in the bytes of the spare area that the kernel's layout leaves free (MTD_OPS_AUTO_OOB), and is read and written
- * together with the data, so that the kernel corrects errors by the code of the device. It needs MEMREAD: Linux 6.1 or later.
- *
- * Whether the code covers the free bytes of the spare area is a matter of the controller; README.md says how to see to it.
+/* The envelope of page_code.h lies in the bytes of the spare area that the kernel's layout leaves free (MTD_OPS_AUTO_OOB), and
+ * is read and written together with the data, so that the kernel corrects errors of the data by the code of the device; none of
+ * its software codes covers the free bytes. It needs MEMREAD: Linux 6.1 or later.
  */
 #define _DEFAULT_SOURCE
 #define _FILE_OFFSET_BITS 64
@@ -10,6 +9,7 @@
 
 #include <errno.h>
 #include <fcntl.h>
+#include <inttypes.h>
 #include <mtd/mtd-user.h>
 #include <stdio.h>
 #include <string.h>
@@ -19,7 +19,7 @@
 #include <sys/types.h>
 #include <unistd.h>
 
-enum { MOST_BLOCKS = 4096 };
+enum { LEAST_BLOCKS = 5, MOST_BLOCKS = 4096 };
 
 static uint64_t block_bytes(const struct mtd_nand *nand)
 {
@@ -51,14 +51,6 @@ static int changed(struct mtd_nand *nand, int result)
     return errno == EIO ? FLASH_FAILED : lost(nand);
 }
 
-static bool is_erased(const uint8_t *bytes, size_t size)
-{
-    for (size_t i = 0; i < size; i++)
-        if (bytes[i] != 0xff)
-            return false;
-    return true;
-}
-
 static int is_bad(void *context, uint32_t block)
 {
     struct mtd_nand *nand = context;
@@ -67,30 +59,29 @@ static int is_bad(void *context, uint32_t block)
     return result < 0 ? lost(nand) : result > 0;
 }
 
-/* A page of 0xff bytes is erased: no tag of a page that is programmed has only these. One whose tag is erased and whose data
- * is not was cut.
- */
 static int read_page(void *context, uint32_t block, uint32_t page, uint8_t *data, uint8_t *tag)
 {
     struct mtd_nand *nand = context;
+    uint8_t spare[PAGE_CODE_MOST_BYTES];
+    uint32_t corrected;
     struct mtd_read_req request = {
         .start = page_place(nand, block, page),
         .len = nand->driver.page_bytes,
-        .ooblen = FLASH_TAG_BYTES,
+        .ooblen = nand->free_bytes.bytes,
         .usr_data = (uintptr_t)data,
-        .usr_oob = (uintptr_t)tag,
+        .usr_oob = (uintptr_t)spare,
         .mode = MTD_OPS_AUTO_OOB,
     };
     int result = ioctl(nand->device, MEMREAD, &request);
     if (result < 0 && errno == EBADMSG)
         return FLASH_UNCORRECTABLE;
-    if (result < 0 && errno != EUCLEAN) /* EUCLEAN: errors were corrected */
+    if (result < 0 && errno != EUCLEAN) /* EUCLEAN: so many errors were corrected that the page is better moved */
         return lost(nand);
     if (request.ecc_stats.uncorrectable_errors > 0)
         return FLASH_UNCORRECTABLE;
-    if (!is_erased(tag, FLASH_TAG_BYTES))
-        return FLASH_WRITTEN;
-    return is_erased(data, nand->driver.page_bytes) ? FLASH_ERASED : FLASH_UNCORRECTABLE;
+    int kind = page_code_read(&nand->code, data, spare, tag, &corrected);
+    nand->corrected_reads += corrected > 0 || request.ecc_stats.corrected_bitflips > 0;
+    return kind;
 }
 
 /* The whole page is read: the kernel corrects no errors where only the spare area is, and a page whose data is not readable
@@ -105,14 +96,16 @@ static int read_tag(void *context, uint32_t block, uint32_t page, uint8_t *tag)
 static int program(void *context, uint32_t block, uint32_t page, const uint8_t *data, const uint8_t *tag)
 {
     struct mtd_nand *nand = context;
+    uint8_t spare[PAGE_CODE_MOST_BYTES];
     struct mtd_write_req request = {
         .start = page_place(nand, block, page),
         .len = nand->driver.page_bytes,
-        .ooblen = FLASH_TAG_BYTES,
+        .ooblen = nand->free_bytes.bytes,
         .usr_data = (uintptr_t)data,
-        .usr_oob = (uintptr_t)tag,
+        .usr_oob = (uintptr_t)spare,
         .mode = MTD_OPS_AUTO_OOB,
     };
+    page_code_write(&nand->code, data, tag, spare);
     return changed(nand, ioctl(nand->device, MEMWRITE, &request));
 }
 
@@ -123,56 +116,132 @@ static int erase(void *context, uint32_t block)
     return changed(nand, ioctl(nand->device, MEMERASE64, &request));
 }
 
+/* The kernel keeps a mark in its table also where the marker in the block's spare area cannot be written, and then reports EIO:
+ * the page that is to hold it may be the one that failed. So the block is asked.
+ */
 static int mark_bad(void *context, uint32_t block)
 {
     struct mtd_nand *nand = context;
     loff_t place = (loff_t)block_place(nand, block);
-    return ioctl(nand->device, MEMSETBADBLOCK, &place) < 0 ? lost(nand) : FLASH_DONE;
+    if (ioctl(nand->device, MEMSETBADBLOCK, &place) >= 0)
+        return FLASH_DONE;
+    if (errno != EIO)
+        return lost(nand);
+    if (is_bad(nand, block) == 1)
+        return FLASH_DONE;
+    nand->error = EIO;
+    return -1;
 }
 
-/* How many bytes of the spare area are free, as the kernel says in sysfs; 0 where it does not. */
-static unsigned free_spare_bytes(int device)
+/* A number that the kernel reports of the device in /sys; false where it does not. */
+static bool number_of(int device, const char *name, uint64_t *number)
 {
     struct stat status;
     char path[64];
-    unsigned bytes = 0;
     if (fstat(device, &status) < 0)
-        return 0;
-    snprintf(path, sizeof path, "/sys/dev/char/%u:%u/oobavail", major(status.st_rdev), minor(status.st_rdev));
+        return false;
+    snprintf(path, sizeof path, "/sys/dev/char/%u:%u/%s", major(status.st_rdev), minor(status.st_rdev), name);
     FILE *file = fopen(path, "r");
     if (file == NULL)
-        return 0;
-    if (fscanf(file, "%u", &bytes) != 1)
-        bytes = 0;
+        return false;
+    bool is_there = fscanf(file, "%" SCNu64, number) == 1;
     fclose(file);
-    return bytes;
+    return is_there;
 }
 
-static bool is_nand(const struct mtd_info_user *info)
+static bool is_size(uint32_t size, uint32_t least, uint32_t greatest)
 {
-    return (info->type == MTD_NANDFLASH || info->type == MTD_MLCNANDFLASH) && info->writesize > 0 &&
-           info->writesize <= MTD_NAND_MOST_PAGE_BYTES && info->erasesize % info->writesize == 0;
+    return size >= least && size <= greatest && (size & (size - 1)) == 0;
+}
+
+static int look_at_chip(const struct mtd_info_user *info)
+{
+    if (info->type != MTD_NANDFLASH && info->type != MTD_MLCNANDFLASH)
+        return MTD_NAND_NO_NAND;
+    if (info->type == MTD_MLCNANDFLASH && (info->flags & MTD_SLC_ON_MLC_EMULATION) == 0)
+        return MTD_NAND_SEVERAL_BITS;
+    if (!is_size(info->writesize, 512, MTD_NAND_MOST_PAGE_BYTES) || info->erasesize % info->writesize != 0 ||
+        !is_size(info->erasesize / info->writesize, 32, 256))
+        return MTD_NAND_SIZES;
+    return 0;
+}
+
+/* Lays the envelope out. The data of an erased page with flipped bits comes corrected from the kernel, as other data. */
+static int lay_out(struct mtd_nand *nand, uint32_t tag_bytes)
+{
+    uint64_t available;
+    if (!number_of(nand->device, "oobavail", &available))
+        return MTD_NAND_NO_SYSFS;
+    nand->free_bytes = (struct page_run){0, available < PAGE_CODE_MOST_BYTES ? (uint32_t)available : PAGE_CODE_MOST_BYTES};
+    if (!page_code_make(&nand->code, nand->driver.page_bytes, tag_bytes, &nand->free_bytes, 1, PAGE_CODE_MOST_BYTES))
+        return MTD_NAND_FEW_SPARE;
+    nand->free_bytes.bytes = page_code_bytes(&nand->code);
+    return 0;
+}
+
+/* Fills the sizes of an open device, and tries a read. The size in mtd_info_user has 32 bits. */
+static int look_at_device(struct mtd_nand *nand, uint32_t first, uint32_t blocks, uint32_t tag_bytes)
+{
+    struct mtd_info_user info;
+    uint64_t size;
+    uint8_t tag[FLASH_TAG_BYTES];
+    if (ioctl(nand->device, MEMGETINFO, &info) < 0)
+        return MTD_NAND_NO_NAND;
+    int code = look_at_chip(&info);
+    if (code < 0)
+        return code;
+    if (!number_of(nand->device, "size", &size))
+        return MTD_NAND_NO_SYSFS;
+    uint64_t all = size / info.erasesize, used = blocks != 0 ? blocks : first < all ? all - first : 0;
+    if (first > all || used > all - first || used < LEAST_BLOCKS || used > MOST_BLOCKS)
+        return MTD_NAND_BLOCKS;
+    nand->first_byte = (uint64_t)first * info.erasesize;
+    nand->driver = (struct flash_driver){
+        nand,  info.writesize, info.erasesize / info.writesize, (uint32_t)used, is_bad, read_tag, read_page, program,
+        erase, mark_bad};
+    code = lay_out(nand, tag_bytes);
+    if (code < 0)
+        return code;
+    return read_page(nand, 0, 0, nand->page, tag) < 0 ? MTD_NAND_NO_READ : 0;
+}
+
+int mtd_nand_open_for(struct mtd_nand *nand, const char *path, uint32_t first, uint32_t blocks, uint32_t tag_bytes)
+{
+    *nand = (struct mtd_nand){.device = open(path, O_RDWR)};
+    if (nand->device < 0)
+        return FLASH_ENOENT;
+    int code = look_at_device(nand, first, blocks, tag_bytes);
+    if (code < 0)
+        mtd_nand_close(nand);
+    return code;
 }
 
 int mtd_nand_open(struct mtd_nand *nand, const char *path, uint32_t first, uint32_t blocks)
 {
-    struct mtd_info_user info;
-    *nand = (struct mtd_nand){.device = open(path, O_RDWR)};
-    if (nand->device < 0)
-        return FLASH_ENOENT;
-    if (ioctl(nand->device, MEMGETINFO, &info) == 0 && is_nand(&info)) {
-        uint32_t all = info.size / info.erasesize;
-        uint32_t used = blocks != 0 ? blocks : first < all ? all - first : 0;
-        if (first <= all && used <= all - first && used <= MOST_BLOCKS &&
-            free_spare_bytes(nand->device) >= FLASH_TAG_BYTES) {
-            nand->first_byte = (uint64_t)first * info.erasesize;
-            nand->driver = (struct flash_driver){nand,      info.writesize, info.erasesize / info.writesize, used, is_bad,
-                                                 read_tag, read_page,      program,   erase, mark_bad};
-            return 0;
-        }
+    return mtd_nand_open_for(nand, path, first, blocks, FLASH_TAG_BYTES);
+}
+
+const char *mtd_nand_reason(int code)
+{
+    switch (code) {
+    case FLASH_ENOENT:
+        return "it cannot be opened";
+    case MTD_NAND_NO_NAND:
+        return "no NAND flash";
+    case MTD_NAND_SEVERAL_BITS:
+        return "its cells hold several bits, and it is not used in SLC mode";
+    case MTD_NAND_SIZES:
+        return "its pages or blocks have sizes that a volume cannot have";
+    case MTD_NAND_NO_SYSFS:
+        return "the kernel does not report its size and its free spare bytes in /sys";
+    case MTD_NAND_FEW_SPARE:
+        return "its pages have too few free spare bytes: 54, or 30 for tags of 24 bytes";
+    case MTD_NAND_BLOCKS:
+        return "these blocks are not all there, or fewer than 5 or more than 4096";
+    case MTD_NAND_NO_READ:
+        return "a page cannot be read with its spare area: Linux 6.1 or later can";
     }
-    mtd_nand_close(nand);
-    return FLASH_EINVAL;
+    return "no error";
 }
 
 void mtd_nand_close(struct mtd_nand *nand)

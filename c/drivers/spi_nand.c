@@ -1,19 +1,15 @@
 /* A skeleton of a driver for an SPI NAND flash with error correction on the die. It compiles, and is of no use before the
  * four functions at its end are written for the board, and the numbers for the chip are taken from its data sheet.
  *
- * What a tag of 48 bytes asks of the spare area:
- *   - 48 bytes of a page's spare area that the chip's error correction covers. The data sheet has a table of the spare area:
- *     count only the bytes that it calls protected. Chips with 64 bytes of spare area that keep their parity in them often
- *     protect 16 bytes or fewer, and cannot be used by this driver; chips that keep parity apart, or have 128 bytes, often
- *     have 48 or 64.
- *   - none of them is a byte of the bad-block mark, which is the first byte or two of the spare area.
- *   - they may lie in pieces, as 12 bytes beside each sector of 512: then put_spare and take_spare gather them.
- *   - they are programmed by the same program as the data: a chip may allow one program of a page between two erases.
- *
- * What is read of an erased page passes the error correction of most chips as 0xff bytes without an error. If that of the chip
- * does not, read_page must count the zero bits of a page that has an error, and return FLASH_ERASED where they are few.
+ * What a tag asks of the spare area: free bytes, which neither the bad-block mark (the first byte or two) nor the parity of the
+ * chip takes. 54 and more hold the envelope of a tag of 48 bytes (page_code.h), 30 and more that of one of 24, which the library
+ * does not take yet. The data sheet has a table of the spare area. Chips that keep their parity in 64 bytes of spare area often
+ * leave 24 to 32 free; chips that keep it apart, or have 128 bytes, 54 and more.
+ *   - The chip need not protect them: the envelope corrects its own bytes, and where the chip corrects them too, all the better.
+ *   - They may lie in pieces, as 12 bytes beside each sector of 512: each is a run.
+ *   - They are programmed by the same program as the data: a chip may allow one program of a page between two erases.
  */
-#include "flash_fs.h"
+#include "page_code.h"
 
 #include <string.h>
 
@@ -23,9 +19,15 @@ enum {
     PAGE_BYTES = 2048,
     BLOCK_PAGES = 64,
     BLOCKS = 1024,
-    TAG_COLUMN = PAGE_BYTES + 16, /* where the protected bytes of the spare area begin */
-    MARK_COLUMN = PAGE_BYTES      /* where the bad-block mark is: other than 0xff in a bad block */
+    SPARE_BYTES = 64,
+    MARK_COLUMN = PAGE_BYTES /* where the bad-block mark is: other than 0xff in a bad block */
 };
+
+/* The free bytes of the spare area; these are those of a chip that keeps its parity apart. */
+static const struct page_run free_bytes[] = {{2, 62}};
+
+static struct page_code code;
+static uint8_t page_data[PAGE_BYTES], spare[SPARE_BYTES];
 
 /* Commands. */
 enum {
@@ -75,6 +77,9 @@ static int wait(unsigned most_milliseconds)
 /* Once at power-up, before a mount: resets the chip, unlocks its blocks, and switches error correction on. */
 bool spi_nand_start(void)
 {
+    const uint32_t runs = sizeof free_bytes / sizeof *free_bytes;
+    if (!page_code_make(&code, PAGE_BYTES, FLASH_TAG_BYTES, free_bytes, runs, SPARE_BYTES))
+        return false;
     return false; /* write this */
 }
 
@@ -103,9 +108,7 @@ static bool put_bytes(uint8_t command, uint32_t column, const uint8_t *bytes, si
     return transfer(sent, sizeof sent, bytes, NULL, size);
 }
 
-/* Loads a page to the chip's buffer. The error correction runs over the whole page, so its status holds for the tag too: a
- * page whose tag alone is wanted is uncorrectable if its data is.
- */
+/* Loads a page to the chip's buffer, whose error correction runs over the whole of it. */
 static int load(uint32_t block, uint32_t page)
 {
     if (!send_row(PAGE_READ, row_of(block, page)))
@@ -114,14 +117,6 @@ static int load(uint32_t block, uint32_t page)
     if (status < 0)
         return -1;
     return (status & ECC_MASK) == ECC_UNCORRECTABLE ? FLASH_UNCORRECTABLE : FLASH_WRITTEN;
-}
-
-static bool is_erased(const uint8_t *bytes, size_t size)
-{
-    for (size_t i = 0; i < size; i++)
-        if (bytes[i] != 0xff)
-            return false;
-    return true;
 }
 
 /* The mark of the first page, read as it is. A block that the maker marked and one that mark_bad marked look alike. */
@@ -134,45 +129,32 @@ static int is_bad(void *context, uint32_t block)
     return mark != 0xff;
 }
 
-/* A tag of 0xff bytes alone is that of an erased page: no page is programmed with it. A page may have been cut after a few
- * bits of its data were programmed, and its tag be erased: it must read the same each time, so it is safer to look at the
- * data too, as read_page does. Some chips say in a feature that a page was read that is erased.
- */
-static int read_tag(void *context, uint32_t block, uint32_t page, uint8_t *tag)
-{
-    (void)context;
-    int kind = load(block, page);
-    if (kind != FLASH_WRITTEN)
-        return kind;
-    if (!take_bytes(TAG_COLUMN, tag, FLASH_TAG_BYTES))
-        return -1;
-    if (!is_erased(tag, FLASH_TAG_BYTES))
-        return FLASH_WRITTEN;
-    for (uint32_t column = 0; column < PAGE_BYTES; column += 64) {
-        uint8_t bytes[64];
-        if (!take_bytes(column, bytes, sizeof bytes))
-            return -1;
-        if (!is_erased(bytes, sizeof bytes))
-            return FLASH_UNCORRECTABLE;
-    }
-    return FLASH_ERASED;
-}
-
+/* What the chip cannot correct may be an erased page with flipped bits, which some chips do not know; else it is uncorrectable. */
 static int read_page(void *context, uint32_t block, uint32_t page, uint8_t *data, uint8_t *tag)
 {
-    int kind = read_tag(context, block, page, tag);
-    if (kind == FLASH_WRITTEN && !take_bytes(0, data, PAGE_BYTES))
+    (void)context;
+    int corrected = load(block, page);
+    if (corrected < 0 || !take_bytes(0, data, PAGE_BYTES) || !take_bytes(PAGE_BYTES, spare, SPARE_BYTES))
         return -1;
-    return kind;
+    int kind = page_code_read(&code, data, spare, tag, NULL);
+    return corrected == FLASH_UNCORRECTABLE && kind == FLASH_WRITTEN ? FLASH_UNCORRECTABLE : kind;
 }
 
-/* Data and tag go to the buffer, and then by one program to the page. */
+/* The whole page is read: a tag alone does not say whether the data is what was programmed with it. */
+static int read_tag(void *context, uint32_t block, uint32_t page, uint8_t *tag)
+{
+    return read_page(context, block, page, page_data, tag);
+}
+
+/* Data and envelope go to the buffer, and then by one program to the page. */
 static int program(void *context, uint32_t block, uint32_t page, const uint8_t *data, const uint8_t *tag)
 {
     (void)context;
     const uint8_t enable = WRITE_ENABLE;
+    memset(spare, 0xff, sizeof spare);
+    page_code_write(&code, data, tag, spare);
     if (!transfer(&enable, 1, NULL, NULL, 0) || !put_bytes(PROGRAM_LOAD, 0, data, PAGE_BYTES) ||
-        !put_bytes(PROGRAM_LOAD_MORE, TAG_COLUMN, tag, FLASH_TAG_BYTES) || !send_row(PROGRAM_EXECUTE, row_of(block, page)))
+        !put_bytes(PROGRAM_LOAD_MORE, PAGE_BYTES, spare, sizeof spare) || !send_row(PROGRAM_EXECUTE, row_of(block, page)))
         return -1;
     int status = wait(5);
     if (status < 0 || !has_power())
@@ -205,5 +187,4 @@ static int mark_bad(void *context, uint32_t block)
     return is_bad(context, block) == 1 ? FLASH_DONE : -1;
 }
 
-const struct flash_driver spi_nand = {NULL,     PAGE_BYTES, BLOCK_PAGES, BLOCKS, is_bad,
-                                      read_tag, read_page,  program,     erase,  mark_bad};
+const struct flash_driver spi_nand = {NULL, PAGE_BYTES, BLOCK_PAGES, BLOCKS, is_bad, read_tag, read_page, program, erase, mark_bad};

@@ -24,7 +24,7 @@ static int open_mtd(struct device *device)
         return failed(FLASH_EINVAL, "a device has its own sizes");
     int code = mtd_nand_open(&device->mtd, words.device, 0, 0);
     if (code < 0)
-        return failed(code, code == FLASH_ENOENT ? strerror(errno) : "no NAND flash whose pages have 48 free spare bytes");
+        return failed(code, code == FLASH_ENOENT ? strerror(errno) : mtd_nand_reason(code));
     device->driver = &device->mtd.driver;
     return take_lock(device->mtd.device) ? 0 : failed(FLASH_EBUSY, "it is in use");
 }

@@ -6,7 +6,7 @@
 PKG_CONFIG ?= pkg-config
 LINUX_FLAGS = -D_GNU_SOURCE -D_FILE_OFFSET_BITS=64 -I. -Idrivers $(shell $(PKG_CONFIG) --cflags fuse3)
 LINUX_LIBRARIES = $(shell $(PKG_CONFIG) --libs fuse3) -lpthread
-LINUX_OBJECTS = $(patsubst linux/%.c,$(OUT)/linux/%.o,$(wildcard linux/*.c)) $(OUT)/drivers/file_nand.o $(OUT)/drivers/mtd_nand.o
+LINUX_OBJECTS = $(patsubst linux/%.c,$(OUT)/linux/%.o,$(wildcard linux/*.c)) $(addprefix $(OUT)/drivers/,file_nand.o mtd_nand.o page_code.o)
 # What the test's program puts itself before.
 TROUBLED = device_open volume_now volume_leave
 

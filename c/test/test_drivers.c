@@ -1,7 +1,9 @@
-/* The drivers in memory and in a file pass driver_check, and each of a row of drivers that break a promise is found.
+/* The drivers in memory and in a file pass driver_check, and so do drivers that keep the envelope of a page, with cuts in twelve ways and
+ * flipped bits; each of a row of drivers that break a promise is found.
  *
  *   test_drivers FOLDER
  */
+#include "coded_nand.h"
 #include "commands.h"
 #include "driver_check.h"
 #include "file_nand.h"
@@ -169,6 +171,77 @@ static int check_broken(enum broken which)
     return found;
 }
 
+/* ---- Drivers that keep the envelope of a page. */
+
+static struct coded_nand coded;
+static struct cut_nand cut;
+
+/* So few bits as the envelope corrects are flipped in it, and more in the whole page: no code corrects the data. */
+static bool flip(void *context, uint32_t block, uint32_t page, unsigned bits, unsigned seed)
+{
+    static uint8_t raw[4096 + 512], before[4096 + 512];
+    struct draw draw = {seed};
+    if (bits > coded.code.check_bytes / 2)
+        return cut_nand_flip(context, block, page, bits, seed);
+    coded.raw.read(&coded, block, page, raw);
+    memcpy(before, raw, sizeof raw);
+    for (unsigned flipped = 0; flipped < bits;) {
+        const struct page_run *run = &coded.raw.runs[drawn(&draw, coded.raw.run_count)];
+        uint32_t at = coded.driver.page_bytes + run->offset + drawn(&draw, run->bytes);
+        uint8_t mask = (uint8_t)(1u << drawn(&draw, 8));
+        flipped += (raw[at] ^ before[at]) == 0;
+        raw[at] = (uint8_t)((raw[at] ^ before[at]) == 0 ? raw[at] ^ mask : raw[at]);
+    }
+    memcpy(coded.pages + ((size_t)block * coded.driver.block_pages + page) * coded.raw_bytes, raw, coded.raw_bytes);
+    return true;
+}
+
+struct layout {
+    struct flash_driver sizes;
+    uint32_t spare_bytes, tag_bytes, run_count;
+    struct page_run runs[4];
+};
+
+static int check_coded(const struct layout *layout, enum coded_wrong wrong, bool says)
+{
+    check(coded_nand_make(&coded, &layout->sizes, layout->spare_bytes, layout->tag_bytes, layout->runs, layout->run_count) == 0, "runs");
+    check(cut_nand_make(&cut, &coded.driver, &coded.raw) == 0, "memory");
+    coded.wrong = wrong;
+    struct driver_check what = {.driver = &cut.driver, .tag_bytes = layout->tag_bytes, .most_blocks = 4, .may_mark = true, .cut_next = cut_nand_next,
+                                .ways = CUT_NAND_WAYS, .way_name = cut_nand_way, .flip = flip,
+                                .corrected_bits = coded.code.check_bytes / 2, .power_up = cut_nand_power_up, .context = &cut,
+                                .report = says ? show : NULL};
+    int found = driver_check(&what);
+    check(cut.trouble == NULL, "%s", cut.trouble);
+    cut_nand_free(&cut);
+    coded_nand_free(&coded);
+    return found;
+}
+
+static void check_envelopes(void)
+{
+    static const struct layout layouts[] = {
+        {{.page_bytes = 2048, .block_pages = 32, .blocks = 6}, 64, 24, 1, {{2, 34}}},
+        {{.page_bytes = 2048, .block_pages = 32, .blocks = 6}, 64, 48, 1, {{2, 54}}},
+        {{.page_bytes = 2048, .block_pages = 32, .blocks = 6}, 128, 48, 1, {{2, 74}}},
+        {{.page_bytes = 4096, .block_pages = 32, .blocks = 5}, 128, 48, 1, {{2, 70}}},
+        {{.page_bytes = 512, .block_pages = 32, .blocks = 8}, 64, 24, 4, {{4, 8}, {20, 8}, {36, 8}, {52, 8}}},
+    };
+    static const char *const wrongs[CODED_WRONGS] = {
+        [CODED_BARE] = "a tag without an envelope",
+        [CODED_NO_CRC] = "a page whose CRC is wrong is reported as written",
+        [CODED_ERASED_AS_WRITTEN] = "an erased page with a flipped bit is reported as written",
+        [CODED_NOT_CORRECTED] = "the envelope is not corrected",
+    };
+    enum { LAYOUTS = sizeof layouts / sizeof *layouts };
+    for (int i = 0; i < LAYOUTS; i++)
+        check(check_coded(&layouts[i], CODED_NOTHING, true) == 0, "a driver with the envelope falls short, %d", i);
+    for (int wrong = CODED_NOTHING + 1; wrong < CODED_WRONGS; wrong++)
+        check(check_coded(&layouts[LAYOUTS - 1], (enum coded_wrong)wrong, false) > 0, "not found: %s", wrongs[wrong]);
+    printf("  drivers with the envelope pass, with tags of 24 and 48 bytes, cuts and flipped bits; %d wrong ones are found\n",
+           CODED_WRONGS - 1);
+}
+
 int main(int count, char **words)
 {
     check(count == 2, "test_drivers FOLDER");
@@ -208,6 +281,7 @@ int main(int count, char **words)
     for (int which = NOTHING + 1; which < BROKEN; which++)
         check(check_broken((enum broken)which) > 0, "not found: %s", names[which]);
     check(lines > 0, "nothing was reported");
+    check_envelopes();
     printf("  %d drivers that break a promise are found\n", BROKEN - 1);
     return 0;
 }

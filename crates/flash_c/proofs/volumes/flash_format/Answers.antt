@@ -1,4 +1,4 @@
-use Rattle.std.proofs.Common.{◌≡◌, sym, subst, Ok, to_z, of_z, w32, rules}
+use Rattle.std.proofs.Common.{◌≡◌, ◌∙◌, sym, subst, Ok, Err, to_z, of_z, w32, rules}
 use Rattle.std.proofs.lemmas.Int.{to_z-of_z}
 use Rattle.flash_c.specs.Volumes.{IsFormatted}
 use Rattle.flash_c.proofs.volumes.flash_format.Goals as goal
@@ -13,3 +13,8 @@ returns-in-Ok-clause-formats c =
         subst (IsFormatted c.args.spare _ _) (sym same) c.format_device.ensures,
       ),
     )
+
+pub returns-in-Err-clause-formats : goal.returns-in-Err-clause-formats
+returns-in-Err-clause-formats c =
+    let same : to_z w32 (of_z w32 c.open_number.result) ≡ c.open_number.result = to_z-of_z w32 c.open_number.result (search rules) in
+    (Err c.in-Err.fault, same ∙ c.open_number.ensures.number)

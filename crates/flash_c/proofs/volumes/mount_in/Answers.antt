@@ -1,4 +1,5 @@
-use Rattle.std.proofs.Common.{◌≡◌, ◌∙◌, ◌<ℤ◌, ℤ, pos, true, false, refl, sym, ap, subst, inl, inr, Ok, to_z, of_z, w32, arith}
+use Rattle.std.proofs.Common.{◌≡◌, ◌∙◌, ◌<ℤ◌, ℤ, pos, true, false, refl, sym, ap, subst, inl, inr, Ok, Err, to_z, of_z, w32, arith, rules}
+use Rattle.std.proofs.lemmas.Int.{to_z-of_z}
 use Rattle.page_volume.specs.Volumes.{is_stopped}
 use Rattle.posix_calls.specs.Volumes.{over_pages}
 use Rattle.flash_c.specs.Numbers.{mount_number}
@@ -35,4 +36,16 @@ returns-in-Err-mount_device c =
           inr (record { driver = c.in-Err-mount_device._device.driver; kept = c.in-Err-mount_device._device.kept }, record { fault = told.fault; number_is = same; reads = told.reads; why = told.why }),
         ),
       );
+    }
+
+pub returns-in-Err : goal.returns-in-Err
+returns-in-Err c =
+    let same : to_z w32 (of_z w32 c.open_number.result) ≡ c.open_number.result = to_z-of_z w32 c.open_number.result (search rules) in
+    let below : to_z w32 (of_z w32 c.open_number.result) <ℤ pos 0 = subst (λ (n : ℤ). n <ℤ pos 0) (sym same) c.open_number.ensures.negative in
+    record {
+      mounted = λ zero. (let no : pos 0 <ℤ pos 0 = subst (λ (n : ℤ). n <ℤ pos 0) zero below in absurd (search (arith, no)));
+      left = λ no. c.is_full.ensures.same;
+      at_most_0 = search (arith, below);
+      busy = λ full. (let two : true ≡ false = sym full ∙ sym c.is_full.ensures.full ∙ c.if-is_full.false in absurd cc);
+      opened = λ empty. (Err c.in-Err.fault, same ∙ c.open_number.ensures.number);
     }

@@ -68,8 +68,11 @@ enum {
 
 /* ---- The driver ---- */
 
-/* The bytes of a page's spare area that the library keeps with the page. */
+/* The bytes of a page's spare area that the library keeps with the page: so many, or FLASH_PACKED_TAG_BYTES where a driver has
+ * room for no more. Everything holds with either; what fits no packed tag is said at `tag_bytes`.
+ */
 #define FLASH_TAG_BYTES 48
+#define FLASH_PACKED_TAG_BYTES 24
 
 /* What a read returns. */
 enum { FLASH_ERASED = 0, FLASH_WRITTEN = 1, FLASH_UNCORRECTABLE = 2 };
@@ -88,7 +91,7 @@ enum { FLASH_DONE = 0, FLASH_FAILED = 1 };
  *   - a block is below `blocks`, a page below `block_pages`;
  *   - a page is programmed only if its block is not marked bad and was erased since the format or mount began, with
  *     FLASH_DONE, and only the first page after that or the one after the last that was programmed, with FLASH_DONE;
- *   - `data` points to page_bytes bytes, `tag` to FLASH_TAG_BYTES, at any address: of no alignment;
+ *   - `data` points to page_bytes bytes, `tag` to tag_bytes, at any address: of no alignment;
  *   - after a loss of power nothing is asked.
  *
  * The driver promises this, and no proof reaches it:
@@ -121,6 +124,12 @@ struct flash_driver {
     int (*erase)(void *context, uint32_t block);
     /* Marks a block bad: FLASH_DONE. */
     int (*mark_bad)(void *context, uint32_t block);
+
+    /* The bytes of a tag: FLASH_TAG_BYTES, also where it is 0, or FLASH_PACKED_TAG_BYTES. A volume is mounted with the number
+     * that it was formatted with. A packed tag has room for 2^32 - 2 objects, pages of a file and erases, and for 2^40 commits:
+     * a program past these is taken as one that failed, and none of a part that wears out comes near.
+     */
+    uint32_t tag_bytes;
 };
 
 /* ---- The volume ---- */

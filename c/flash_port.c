@@ -8,8 +8,8 @@
  *
  *   operation    bytes                                  what is returned
  *   SIZES        read: bytes of a page, pages of a      0
- *                block, blocks, each in four bytes,
- *                the lowest first
+ *                block, blocks, bytes of a tag, each
+ *                in four bytes, the lowest first
  *   IS_MARKED    read: one, of no meaning               0 or 1
  *   READ_TAG     read: the tag                          FLASH_ERASED, FLASH_WRITTEN or FLASH_UNCORRECTABLE
  *   READ_PAGE    read: the data                         as for the tag
@@ -77,7 +77,7 @@ int32_t rattle_errno(void);
 
 enum operation { SIZES, IS_MARKED, READ_TAG, READ_PAGE, LAST_TAG, NEXT_TAG, PROGRAM, ERASE, MARK_BAD };
 
-enum { SIZES_BYTES = 12 };
+enum { SIZES_BYTES = 16 };
 
 /* What is inside of a struct flash_fs. */
 struct volume {
@@ -163,6 +163,11 @@ int32_t rattle_errno(void)
 
 /* ---- Requests */
 
+static uint32_t tag_bytes_of(const struct flash_driver *driver)
+{
+    return driver->tag_bytes == 0 ? FLASH_TAG_BYTES : driver->tag_bytes;
+}
+
 static enum operation operation_at(int64_t offset)
 {
     return (enum operation)(offset >> 56);
@@ -205,11 +210,12 @@ int64_t flash_port_read(int stream, void *bytes, size_t size, int64_t offset)
         put_number(answer, driver->page_bytes);
         put_number(answer + 4, driver->block_pages);
         put_number(answer + 8, driver->blocks);
+        put_number(answer + 12, tag_bytes_of(driver));
         return 0;
     case IS_MARKED:
         return checked(driver->is_bad(driver->context, block_at(offset)), size);
     case READ_TAG:
-        if (size != FLASH_TAG_BYTES)
+        if (size != tag_bytes_of(driver))
             return -1;
         return checked(driver->read_tag(driver->context, block_at(offset), page_at(offset), answer), size);
     case READ_PAGE:
@@ -217,9 +223,9 @@ int64_t flash_port_read(int stream, void *bytes, size_t size, int64_t offset)
             return -1;
         return checked(driver->read_page(driver->context, block_at(offset), page_at(offset), answer, volume->tag), size);
     case LAST_TAG:
-        if (size != FLASH_TAG_BYTES)
+        if (size != tag_bytes_of(driver))
             return -1;
-        memcpy(answer, volume->tag, FLASH_TAG_BYTES);
+        memcpy(answer, volume->tag, size);
         return 0;
     default:
         return -1;
@@ -234,9 +240,9 @@ int64_t flash_port_write(int stream, const void *bytes, size_t size, int64_t off
     const struct flash_driver *driver = volume->driver;
     switch (operation_at(offset)) {
     case NEXT_TAG:
-        if (size != FLASH_TAG_BYTES)
+        if (size != tag_bytes_of(driver))
             return -1;
-        memcpy(volume->tag, bytes, FLASH_TAG_BYTES);
+        memcpy(volume->tag, bytes, size);
         return 0;
     case PROGRAM:
         if (size != driver->page_bytes)

@@ -131,13 +131,13 @@ image_of_c() {
 # A file in another form, and one byte of it changed: FILE PLACE BYTE (octal).
 poke() { printf "\\$3" | dd of="$1" bs=1 seek="$2" conv=notrunc status=none; }
 
-# An image as raw pages and back, over two layouts: the same image, also where bits of a tag flipped; a page whose data changed is lost; a
+# An image as raw pages and back, over three layouts, one with tags of 24 bytes: the same image, also where bits of a tag flipped; a page whose data changed is lost; a
 # marked block stays marked; and a volume whose erased blocks are left out, so that its blocks lie elsewhere, shows the same tree.
 raw_pages() {
     local free raw="$OUT/flash-raw" image="$work/c.img" sizes="--page 2048 --block 64" page=$((2048 + 128)) from
     "$OUT/make_image" "$image" && "$OUT/list" "$image" > "$work/wanted" || return 1
     "$OUT/list" "$image" /logs/old/29 >> "$work/wanted"
-    for free in 2+74 4+20,36+20,68+20,100+20; do
+    for free in "2+38 --tag 24" 2+74 4+20,36+20,68+20,100+20; do
         "$raw" to-pages --spare 128 --free $free "$image" "$work/pages" || return 1
         [ "$(stat -c %s "$work/pages")" -eq $((64 * 64 * page)) ] || return 1
         "$raw" to-image --spare 128 --free $free $sizes "$work/pages" "$work/back.img" || return 1
@@ -222,6 +222,7 @@ builds() {
         build test_heap test/test_heap.c test/commands.c test/model.c "$OUT/libflashfs_heap.a" "$LIBRARY" &&
         build test_page_code test/test_page_code.c drivers/page_code.c test/commands.c test/model.c "$LIBRARY" &&
         build test_drivers test/test_drivers.c drivers/driver_check.c drivers/file_nand.c $CODED $HARNESS "$LIBRARY" &&
+        build test_tags test/test_tags.c drivers/packed_tag.c $HARNESS "$LIBRARY" &&
         build test_model test/test_model.c $HARNESS "$LIBRARY" &&
         build test_model_in_region -DREGION test/test_model.c $HARNESS "$OUT/libflashfs_heap.a" "$LIBRARY" &&
         build test_cuts test/test_cuts.c $HARNESS "$LIBRARY" &&
@@ -246,6 +247,7 @@ else
 fi
 run "the allocator over a region" "$OUT/test_heap"
 run "the envelope of a page" "$OUT/test_page_code" $pages
+run "tags of 24 bytes, and the same calls with either" "$OUT/test_tags" 3000
 run "the drivers, and drivers that break a promise" "$OUT/test_drivers" "$work"
 if includes mtd/mtd-user.h && echo '#include <sys/ioctl.h>
 #include <mtd/mtd-user.h>

@@ -234,7 +234,8 @@ static const struct workload workloads[] = {
 static void run(const struct workload *workload)
 {
     expect(ram_nand_make(&nand, 2048, 64, 64) == 0, "memory");
-    struct flash_driver driver = {&nand, 2048, 64, 64, is_bad, read_tag, read_page, program, erase, mark_bad};
+    struct flash_driver driver = {&nand, 2048, 64, 64, is_bad, read_tag, read_page, program, erase, mark_bad,
+                                  FLASH_TAG_BYTES};
     expect(flash_fs_format(&fs, &nand.driver, 1) == 0 && flash_fs_mount(&fs, &nand.driver) == 0 && flash_fs_unmount(&fs) == 0, "a volume");
     ram_nand_power_up(&nand);
     expect(flash_fs_mount(&fs, &driver) == 0, "a mount");

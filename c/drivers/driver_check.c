@@ -316,7 +316,7 @@ int driver_check(const struct driver_check *check)
         .check = check,
         .driver = driver,
         .way = -1,
-        .tag_bytes = check->tag_bytes != 0 ? check->tag_bytes : FLASH_TAG_BYTES,
+        .tag_bytes = check->driver->tag_bytes != 0 ? check->driver->tag_bytes : FLASH_TAG_BYTES,
         .blocks = calloc(driver->blocks, sizeof *state.blocks),
         .pages = calloc(pages, sizeof *state.pages),
         .data = malloc(driver->page_bytes),

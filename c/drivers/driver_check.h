@@ -15,9 +15,6 @@ extern "C" {
 struct driver_check {
     const struct flash_driver *driver;
 
-    /* The bytes of the driver's tags: 48, or 24 of a driver that keeps so many; 0: 48. */
-    uint32_t tag_bytes;
-
     /* At most so many good blocks are exercised, spread over the device; 0: all. */
     uint32_t most_blocks;
 

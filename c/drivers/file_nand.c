@@ -120,7 +120,8 @@ int file_nand_lose(struct file_nand *nand, uint32_t block, uint32_t page)
 
 static struct flash_driver driver_of(struct file_nand *nand, uint32_t page_bytes, uint32_t block_pages, uint32_t blocks)
 {
-    return (struct flash_driver){nand, page_bytes, block_pages, blocks, is_bad, read_tag, read_page, program, erase, mark_bad};
+    return (struct flash_driver){nand, page_bytes, block_pages, blocks, is_bad, read_tag, read_page, program, erase, mark_bad,
+                                 FLASH_TAG_BYTES};
 }
 
 static bool is_size(uint32_t size, uint32_t least, uint32_t greatest)

@@ -1,13 +1,14 @@
 /* flash-raw: image files to the raw pages of a chip, each with its spare area, and back (README.md in this folder).
  *
- *   flash-raw to-pages --spare BYTES --free OFFSET+BYTES,.. [--skip-erased] IMAGE PAGES
- *   flash-raw to-image --spare BYTES --free OFFSET+BYTES,.. --page BYTES --block PAGES [--blocks COUNT] PAGES IMAGE
+ *   flash-raw to-pages --spare BYTES --free OFFSET+BYTES,.. [--tag 24] [--skip-erased] IMAGE PAGES
+ *   flash-raw to-image --spare BYTES --free OFFSET+BYTES,.. [--tag 24] --page BYTES --block PAGES [--blocks COUNT] PAGES IMAGE
  *   flash-raw layout DEVICE     prints the words for both, but --blocks
  */
 #define _POSIX_C_SOURCE 200809L
 #define _FILE_OFFSET_BITS 64
 
 #include "file_nand.h"
+#include "packed_tag.h"
 #include "page_code.h"
 #ifdef FLASH_RAW_MTD
 #include "mtd_raw.h"
@@ -23,10 +24,10 @@ enum { MOST_PAGE_BYTES = 4096, MOST_SPARE_BYTES = 1024, MOST_RUNS = 16, MOST_BLO
 
 static struct {
     struct page_run runs[MOST_RUNS];
-    uint32_t run_count, spare_bytes, page_bytes, block_pages, blocks;
+    uint32_t run_count, spare_bytes, tag_bytes, page_bytes, block_pages, blocks;
     bool skips_erased;
     const char *from, *to;
-} words;
+} words = {.tag_bytes = FLASH_TAG_BYTES};
 
 static struct file_nand image;
 static struct page_code code;
@@ -34,8 +35,8 @@ static uint8_t raw[MOST_BLOCK_PAGES][MOST_PAGE_BYTES + MOST_SPARE_BYTES];
 
 static int usage(void)
 {
-    fputs("flash-raw to-pages --spare BYTES --free OFFSET+BYTES,.. [--skip-erased] IMAGE PAGES\n"
-          "flash-raw to-image --spare BYTES --free OFFSET+BYTES,.. --page BYTES --block PAGES [--blocks COUNT] PAGES IMAGE\n"
+    fputs("flash-raw to-pages --spare BYTES --free OFFSET+BYTES,.. [--tag 24] [--skip-erased] IMAGE PAGES\n"
+          "flash-raw to-image --spare BYTES --free OFFSET+BYTES,.. [--tag 24] --page BYTES --block PAGES [--blocks COUNT] PAGES IMAGE\n"
           "flash-raw layout DEVICE\n",
           stderr);
     return 2;
@@ -49,14 +50,23 @@ static int failed(const char *name, const char *why)
 
 /* ---- Pages. */
 
-/* A page as it lies on the flash. One that the image holds as lost is of zeros, which no read takes for a page. */
+static bool is_packed(void)
+{
+    return words.tag_bytes == FLASH_PACKED_TAG_BYTES;
+}
+
+/* A page as it lies on the flash. One that the image holds as lost is of zeros, which no read takes for a page; so is one whose tag
+ * cannot be packed.
+ */
 static int lay_page(uint32_t block, uint32_t page, uint8_t *to)
 {
-    uint8_t tag[FLASH_TAG_BYTES], *spare = to + code.page_bytes;
+    uint8_t tag[FLASH_TAG_BYTES], packed[FLASH_PACKED_TAG_BYTES], *spare = to + code.page_bytes;
     memset(to, 0xff, code.page_bytes + words.spare_bytes);
     int kind = image.driver.read_page(&image, block, page, to, tag);
+    if (kind == FLASH_WRITTEN && is_packed() && !packed_tag_pack(tag, packed))
+        kind = FLASH_UNCORRECTABLE;
     if (kind == FLASH_WRITTEN)
-        page_code_write(&code, to, tag, spare);
+        page_code_write(&code, to, is_packed() ? packed : tag, spare);
     else if (kind == FLASH_UNCORRECTABLE)
         for (uint32_t i = 0; i < words.run_count; i++)
             memset(spare + words.runs[i].offset, 0, words.runs[i].bytes);
@@ -122,9 +132,9 @@ static int write_pages(FILE *file)
 
 static int make_code(uint32_t page_bytes)
 {
-    if (page_code_make(&code, page_bytes, FLASH_TAG_BYTES, words.runs, words.run_count, words.spare_bytes))
+    if (page_code_make(&code, page_bytes, words.tag_bytes, words.runs, words.run_count, words.spare_bytes))
         return 0;
-    return failed("--free", "the bytes leave the spare area, are there twice, or are fewer than 54");
+    return failed("--free", "the bytes leave the spare area, are there twice, or are fewer than 54, or than 30 with --tag 24");
 }
 
 static int to_pages(void)
@@ -152,10 +162,12 @@ static int to_pages(void)
 /* What the image is to hold of a page: one that is uncorrectable is lost there too. */
 static bool take_page(uint32_t block, uint32_t page, uint32_t *kinds)
 {
-    uint8_t tag[FLASH_TAG_BYTES];
+    uint8_t tag[FLASH_TAG_BYTES], packed[FLASH_PACKED_TAG_BYTES];
     const uint8_t *data = raw[page];
-    int kind = page_code_read(&code, data, data + code.page_bytes, tag, NULL);
+    int kind = page_code_read(&code, data, data + code.page_bytes, is_packed() ? packed : tag, NULL);
     kinds[kind]++;
+    if (kind == FLASH_WRITTEN && is_packed())
+        packed_tag_unpack(packed, tag);
     if (kind == FLASH_WRITTEN)
         return image.driver.program(&image, block, page, data, tag) == FLASH_DONE;
     return kind == FLASH_ERASED || file_nand_lose(&image, block, page) == FLASH_DONE;
@@ -236,6 +248,8 @@ static int layout(const char *path)
         printf("--spare %u --free ", mtd.flash.spare_bytes);
     for (uint32_t i = 0; is_there && i < mtd.flash.run_count; i++)
         printf("%s%u+%u", i == 0 ? "" : ",", mtd.runs[i].offset, mtd.runs[i].bytes);
+    if (is_there && nand.driver.tag_bytes == FLASH_PACKED_TAG_BYTES)
+        printf(" --tag %u", FLASH_PACKED_TAG_BYTES);
     if (is_there)
         printf(" --page %u --block %u\n", nand.driver.page_bytes, nand.driver.block_pages);
     mtd_nand_close(&nand);
@@ -292,6 +306,7 @@ static bool take_words(char **at)
         if (strcmp(*at, "--skip-erased") == 0)
             words.skips_erased = true;
         else if ((is_option(at, "--spare") && number_of(at[1], &words.spare_bytes)) ||
+                 (is_option(at, "--tag") && number_of(at[1], &words.tag_bytes)) ||
                  (is_option(at, "--page") && number_of(at[1], &words.page_bytes)) ||
                  (is_option(at, "--block") && number_of(at[1], &words.block_pages)) ||
                  (is_option(at, "--blocks") && number_of(at[1], &words.blocks)) || (is_option(at, "--free") && runs_of(at[1])))

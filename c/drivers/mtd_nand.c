@@ -198,7 +198,7 @@ static int look_at_device(struct mtd_nand *nand, uint32_t first, uint32_t blocks
     nand->first_byte = (uint64_t)first * info.erasesize;
     nand->driver = (struct flash_driver){
         nand,  info.writesize, info.erasesize / info.writesize, (uint32_t)used, is_bad, read_tag, read_page, program,
-        erase, mark_bad};
+        erase, mark_bad, tag_bytes};
     code = lay_out(nand, tag_bytes);
     if (code < 0)
         return code;
@@ -218,7 +218,8 @@ int mtd_nand_open_for(struct mtd_nand *nand, const char *path, uint32_t first, u
 
 int mtd_nand_open(struct mtd_nand *nand, const char *path, uint32_t first, uint32_t blocks)
 {
-    return mtd_nand_open_for(nand, path, first, blocks, FLASH_TAG_BYTES);
+    int code = mtd_nand_open_for(nand, path, first, blocks, FLASH_TAG_BYTES);
+    return code == MTD_NAND_FEW_SPARE ? mtd_nand_open_for(nand, path, first, blocks, FLASH_PACKED_TAG_BYTES) : code;
 }
 
 const char *mtd_nand_reason(int code)

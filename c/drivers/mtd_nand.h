@@ -33,12 +33,12 @@ struct mtd_nand {
     uint8_t page[MTD_NAND_MOST_PAGE_BYTES];
 };
 
-/* Opens a device for tags of 48 bytes. Of its blocks those from `first` on are used, so many as `blocks` says, or all that
+/* Opens a device: for tags of 48 bytes where the spare area has room for them, else of 24. Of its blocks those from `first` on are used, so many as `blocks` says, or all that
  * follow where that is 0. Returns 0; FLASH_ENOENT if it cannot be opened; or why it is refused.
  */
 int mtd_nand_open(struct mtd_nand *nand, const char *path, uint32_t first, uint32_t blocks);
 
-/* The same for tags of 48 or of 24 bytes. With 24 the driver's functions take and give tags of so many. */
+/* The same for tags of 48 or of 24 bytes alone. */
 int mtd_nand_open_for(struct mtd_nand *nand, const char *path, uint32_t first, uint32_t blocks, uint32_t tag_bytes);
 
 /* A code of an open in words. */

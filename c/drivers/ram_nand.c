@@ -69,7 +69,7 @@ static int read_kind(struct ram_nand *nand, uint32_t block, uint32_t page, uint8
         return -1;
     size_t place = place_of(nand, block, page);
     if (nand->kinds[place] == FLASH_WRITTEN)
-        memcpy(tag, nand->tags + place * FLASH_TAG_BYTES, FLASH_TAG_BYTES);
+        memcpy(tag, nand->tags + place * FLASH_TAG_BYTES, nand->driver.tag_bytes);
     return nand->kinds[place];
 }
 
@@ -107,7 +107,7 @@ static int program(void *context, uint32_t block, uint32_t page, const uint8_t *
     size_t place = place_of(nand, block, page), bytes = nand->driver.page_bytes;
     if (fate == RAM_NAND_AFTER) {
         memcpy(nand->data + place * bytes, data, bytes);
-        memcpy(nand->tags + place * FLASH_TAG_BYTES, tag, FLASH_TAG_BYTES);
+        memcpy(nand->tags + place * FLASH_TAG_BYTES, tag, nand->driver.tag_bytes);
         nand->kinds[place] = FLASH_WRITTEN;
     } else if (fate == RAM_NAND_LOST) {
         nand->kinds[place] = FLASH_UNCORRECTABLE;
@@ -150,7 +150,7 @@ int ram_nand_make(struct ram_nand *nand, uint32_t page_bytes, uint32_t block_pag
 {
     size_t pages = (size_t)block_pages * blocks;
     *nand = (struct ram_nand){
-        .driver = {nand, page_bytes, block_pages, blocks, is_bad, read_tag, read_page, program, erase, mark_bad},
+        .driver = {nand, page_bytes, block_pages, blocks, is_bad, read_tag, read_page, program, erase, mark_bad, FLASH_TAG_BYTES},
         .kinds = calloc(pages, 1),
         .tags = calloc(pages, FLASH_TAG_BYTES),
         .data = calloc(pages, page_bytes),

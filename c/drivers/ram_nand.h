@@ -46,7 +46,9 @@ struct ram_nand {
     uint32_t *next;
 };
 
-/* Makes a flash whose pages are erased and whose blocks are good. Returns 0, or FLASH_ENOMEM. */
+/* Makes a flash whose pages are erased and whose blocks are good. Returns 0, or FLASH_ENOMEM. It keeps tags of FLASH_TAG_BYTES, or
+ * of another number that its driver's tag_bytes is set to before the first program.
+ */
 int ram_nand_make(struct ram_nand *nand, uint32_t page_bytes, uint32_t block_pages, uint32_t blocks);
 
 /* Gives its memory back. */

@@ -2,8 +2,8 @@
  * four functions at its end are written for the board, and the numbers for the chip are taken from its data sheet.
  *
  * What a tag asks of the spare area: free bytes, which neither the bad-block mark (the first byte or two) nor the parity of the
- * chip takes. 54 and more hold the envelope of a tag of 48 bytes (page_code.h), 30 and more that of one of 24, which the library
- * does not take yet. The data sheet has a table of the spare area. Chips that keep their parity in 64 bytes of spare area often
+ * chip takes. 54 and more hold the envelope of a tag of 48 bytes (page_code.h), 30 and more that of one of 24: TAG_BYTES says which
+ * it is. The data sheet has a table of the spare area. Chips that keep their parity in 64 bytes of spare area often
  * leave 24 to 32 free; chips that keep it apart, or have 128 bytes, 54 and more.
  *   - The chip need not protect them: the envelope corrects its own bytes, and where the chip corrects them too, all the better.
  *   - They may lie in pieces, as 12 bytes beside each sector of 512: each is a run.
@@ -20,6 +20,7 @@ enum {
     BLOCK_PAGES = 64,
     BLOCKS = 1024,
     SPARE_BYTES = 64,
+    TAG_BYTES = FLASH_TAG_BYTES,
     MARK_COLUMN = PAGE_BYTES /* where the bad-block mark is: other than 0xff in a bad block */
 };
 
@@ -187,4 +188,5 @@ static int mark_bad(void *context, uint32_t block)
     return is_bad(context, block) == 1 ? FLASH_DONE : -1;
 }
 
-const struct flash_driver spi_nand = {NULL, PAGE_BYTES, BLOCK_PAGES, BLOCKS, is_bad, read_tag, read_page, program, erase, mark_bad};
+const struct flash_driver spi_nand = {NULL,      PAGE_BYTES, BLOCK_PAGES, BLOCKS,   is_bad,   read_tag,
+                                      read_page, program,    erase,       mark_bad, TAG_BYTES};

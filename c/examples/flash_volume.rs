@@ -32,6 +32,7 @@ struct Driver {
     program: unsafe extern "C" fn(*mut c_void, u32, u32, *const u8, *const u8) -> c_int,
     erase: unsafe extern "C" fn(*mut c_void, u32) -> c_int,
     mark_bad: unsafe extern "C" fn(*mut c_void, u32) -> c_int,
+    tag_bytes: u32,
 }
 
 #[repr(C, align(16))]
@@ -113,6 +114,7 @@ impl<N: Nand> Volume<N> {
             program: program::<N>,
             erase: erase::<N>,
             mark_bad: mark_bad::<N>,
+            tag_bytes: 48,
         };
         let mut volume = Box::pin(Volume { fs: Fs([0; 1024]), driver, nand, _pinned: PhantomPinned });
         let this = unsafe { volume.as_mut().get_unchecked_mut() } as *mut Volume<N>;

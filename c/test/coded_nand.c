@@ -120,7 +120,7 @@ int coded_nand_make(struct coded_nand *nand, const struct flash_driver *sizes, u
     size_t bytes = (size_t)(sizes->page_bytes + spare_bytes) * sizes->block_pages * sizes->blocks;
     *nand = (struct coded_nand){
         .driver = {nand, sizes->page_bytes, sizes->block_pages, sizes->blocks, is_bad, read_tag, read_page, program, erase,
-                   mark_bad},
+                   mark_bad, tag_bytes},
         .raw = {nand, spare_bytes, tag_bytes, runs, run_count, read_raw, write_raw},
         .raw_bytes = sizes->page_bytes + spare_bytes,
         .pages = malloc(bytes),

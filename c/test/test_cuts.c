@@ -105,16 +105,22 @@ static uint32_t find_step(struct ram_nand *nand, int ended, uint32_t cache_pages
 }
 
 struct sizes {
-    uint32_t page_bytes, block_pages, blocks, spare;
+    uint32_t page_bytes, block_pages, blocks, spare, tag_bytes;
     size_t most;      /* about the most bytes of a write */
     int before, then; /* drawn commands before the session, and in it */
 };
+
+static void make_flash(struct ram_nand *nand, const struct sizes *sizes)
+{
+    check(ram_nand_make(nand, sizes->page_bytes, sizes->block_pages, sizes->blocks) == 0, "memory");
+    nand->driver.tag_bytes = sizes->tag_bytes;
+}
 
 /* Makes a volume of drawn commands and a session of others. Returns the model before the session. */
 static struct model *prepare(struct ram_nand *nand, const struct sizes *sizes, struct draw *draw)
 {
     struct model *model = model_make(sizes->page_bytes, sizes->block_pages, sizes->blocks, sizes->spare);
-    check(ram_nand_make(nand, sizes->page_bytes, sizes->block_pages, sizes->blocks) == 0, "memory");
+    make_flash(nand, sizes);
     check(flash_fs_format(&fs, &nand->driver, sizes->spare) == 0 && flash_fs_mount(&fs, &nand->driver) == 0, "a volume");
     for (int i = 0; i < sizes->before; i++) {
         struct command command = draw_command(draw, sizes->most);
@@ -153,7 +159,7 @@ static void cut_each(const struct sizes *sizes, uint64_t seed)
     struct draw draw = {seed};
     uint64_t cuts = 0, failures = 0, whole = 0, calls_of_mount = 0;
     model_free(prepare(&before, sizes, &draw));
-    check(ram_nand_make(&nand, sizes->page_bytes, sizes->block_pages, sizes->blocks) == 0, "memory");
+    make_flash(&nand, sizes);
     bool done = false;
     for (uint64_t at = 1; !done; at++)
         for (int fate = 0; fate < RAM_NAND_FATES && !done; fate++) {
@@ -289,7 +295,7 @@ static void cut_format(const struct sizes *sizes, uint64_t seed)
     int64_t code;
     model_free(prepare(&before, sizes, &draw));
     struct model *empty = model_make(sizes->page_bytes, sizes->block_pages, sizes->blocks, sizes->spare);
-    check(ram_nand_make(&nand, sizes->page_bytes, sizes->block_pages, sizes->blocks) == 0, "memory");
+    make_flash(&nand, sizes);
     bool done = false;
     for (uint64_t at = 1; !done; at++)
         for (int fate = 0; fate < RAM_NAND_FATES && !done; fate++) {
@@ -320,8 +326,9 @@ static void cut_format(const struct sizes *sizes, uint64_t seed)
 int main(int count, char **words)
 {
     static const struct sizes each[] = {
-        {512, 32, 8, 1, 2000, 60, 50}, {512, 32, 8, 2, 5000, 300, 60}, {1024, 32, 6, 1, 5000, 200, 60}, {512, 64, 8, 1, 9000, 400, 60}};
-    static const struct sizes in_a_row[] = {{512, 32, 16, 2, 3000, 50, 0}, {512, 32, 7, 1, 5000, 100, 0}, {2048, 64, 8, 1, 60000, 50, 0}};
+        {512, 32, 8, 1, 48, 2000, 60, 50}, {512, 32, 8, 2, 24, 5000, 300, 60}, {1024, 32, 6, 1, 24, 5000, 200, 60}, {512, 64, 8, 1, 48, 9000, 400, 60}};
+    static const struct sizes in_a_row[] = {
+        {512, 32, 16, 2, 24, 3000, 50, 0}, {512, 32, 7, 1, 48, 5000, 100, 0}, {2048, 64, 8, 1, 48, 60000, 50, 0}};
     uint64_t lives = count > 1 ? strtoull(words[1], NULL, 10) : 1000, seed = count > 2 ? strtoull(words[2], NULL, 10) : 1;
     size_t only = count > 3 ? strtoull(words[3], NULL, 10) : SIZE_MAX, part = 0;
     if (only == SIZE_MAX || only == part++)

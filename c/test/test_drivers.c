@@ -207,7 +207,7 @@ static int check_coded(const struct layout *layout, enum coded_wrong wrong, bool
     check(coded_nand_make(&coded, &layout->sizes, layout->spare_bytes, layout->tag_bytes, layout->runs, layout->run_count) == 0, "runs");
     check(cut_nand_make(&cut, &coded.driver, &coded.raw) == 0, "memory");
     coded.wrong = wrong;
-    struct driver_check what = {.driver = &cut.driver, .tag_bytes = layout->tag_bytes, .most_blocks = 4, .may_mark = true, .cut_next = cut_nand_next,
+    struct driver_check what = {.driver = &cut.driver, .most_blocks = 4, .may_mark = true, .cut_next = cut_nand_next,
                                 .ways = CUT_NAND_WAYS, .way_name = cut_nand_way, .flip = flip,
                                 .corrected_bits = coded.code.check_bytes / 2, .power_up = cut_nand_power_up, .context = &cut,
                                 .report = says ? show : NULL};

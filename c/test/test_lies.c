@@ -14,6 +14,8 @@ enum { PAGE = 512, PAGES = 32, BLOCKS = 8, MOST_CALLS = 200000 };
 
 static struct flash_fs fs;
 
+static struct flash_driver driver;
+
 /* A flash in memory, with how often it lies: one call in `lies` (0: none, 1: each). */
 static struct {
     struct draw draw;
@@ -56,17 +58,18 @@ static int wild(void)
 
 static void spoil(uint8_t *bytes, size_t size)
 {
+    uint32_t words = size < FLASH_TAG_BYTES ? 3 : 6;
     switch (drawn(&nand.draw, 5)) {
     case 0:
         for (size_t i = 0; i < size; i++)
             bytes[i] = (uint8_t)drawn(&nand.draw, 256);
         break;
     case 1: /* a field of a tag or a header: a great number, or another small one */
-        memset(bytes + 8 * drawn(&nand.draw, 6), drawn(&nand.draw, 2) == 0 ? 0xff : 0, 8);
-        bytes[8 * drawn(&nand.draw, 6)] = (uint8_t)drawn(&nand.draw, 5);
+        memset(bytes + 8 * drawn(&nand.draw, words), drawn(&nand.draw, 2) == 0 ? 0xff : 0, 8);
+        bytes[8 * drawn(&nand.draw, words)] = (uint8_t)drawn(&nand.draw, 5);
         break;
     case 2: /* of another page */
-        memcpy(bytes, size == FLASH_TAG_BYTES ? nand.tags[drawn(&nand.draw, BLOCKS)][drawn(&nand.draw, PAGES)]
+        memcpy(bytes, size <= FLASH_TAG_BYTES ? nand.tags[drawn(&nand.draw, BLOCKS)][drawn(&nand.draw, PAGES)]
                                               : nand.data[drawn(&nand.draw, BLOCKS)][drawn(&nand.draw, PAGES)],
                size);
         break;
@@ -90,13 +93,13 @@ static int read_page(void *context, uint32_t block, uint32_t page, uint8_t *data
     (void)context;
     begins(block, page);
     bool lie = is_lie();
-    memcpy(tag, nand.tags[block][page], FLASH_TAG_BYTES);
+    memcpy(tag, nand.tags[block][page], driver.tag_bytes);
     if (data != NULL)
         memcpy(data, nand.data[block][page], PAGE);
     if (!lie || nand.kind_of_lie == 2)
         return nand.kinds[block][page];
     if (nand.kind_of_lie == 0 || drawn(&nand.draw, 2) == 0)
-        spoil(tag, FLASH_TAG_BYTES);
+        spoil(tag, driver.tag_bytes);
     if (data != NULL)
         spoil(data, PAGE);
     return nand.kind_of_lie == 1 ? nand.kinds[block][page] : returns(wild(), FLASH_UNCORRECTABLE);
@@ -113,7 +116,7 @@ static int program(void *context, uint32_t block, uint32_t page, const uint8_t *
     begins(block, page);
     check(!nand.told_bad[block] && nand.next[block] == page, "a program out of order, or in a bad block");
     memcpy(nand.data[block][page], data, PAGE);
-    memcpy(nand.tags[block][page], tag, FLASH_TAG_BYTES);
+    memcpy(nand.tags[block][page], tag, driver.tag_bytes);
     nand.kinds[block][page] = FLASH_WRITTEN;
     int returned = FLASH_DONE;
     if (is_lie()) {
@@ -122,7 +125,7 @@ static int program(void *context, uint32_t block, uint32_t page, const uint8_t *
         if (drawn(&nand.draw, 2) == 0)
             nand.kinds[block][page] = (uint8_t)drawn(&nand.draw, 3);
         else
-            spoil(drawn(&nand.draw, 2) == 0 ? nand.tags[block][page] : nand.data[block][page], FLASH_TAG_BYTES);
+            spoil(drawn(&nand.draw, 2) == 0 ? nand.tags[block][page] : nand.data[block][page], driver.tag_bytes);
     }
     nand.next[block] = returned == FLASH_DONE ? page + 1 : UINT32_MAX;
     return returned;
@@ -152,7 +155,8 @@ static int mark_bad(void *context, uint32_t block)
     return returned;
 }
 
-static const struct flash_driver driver = {NULL, PAGE, PAGES, BLOCKS, is_bad, read_tag, read_page, program, erase, mark_bad};
+static struct flash_driver driver = {NULL,      PAGE,    PAGES, BLOCKS,   is_bad,         read_tag,
+                                     read_page, program, erase, mark_bad, FLASH_TAG_BYTES};
 
 static void power_up(void)
 {
@@ -173,6 +177,7 @@ int main(int count, char **words)
         memset(nand.bad, 0, sizeof nand.bad);
         nand.draw.state = seed * 1000003 + i;
         power_up();
+        driver.tag_bytes = i % 2 == 0 ? FLASH_TAG_BYTES : FLASH_PACKED_TAG_BYTES;
         nand.lies = i % 3 == 0 ? often[i / 3 % 7] : 0;
         (void)flash_fs_format(&fs, &driver, (uint32_t)(i % 4));
         for (int mount = 0; mount < 6; mount++) {

@@ -70,6 +70,7 @@ static struct ram_nand nand, before;
 static void make_volume(struct draw *draw, struct model *model)
 {
     check(ram_nand_make(&nand, PAGE, PAGES, BLOCKS) == 0 && ram_nand_make(&before, PAGE, PAGES, BLOCKS) == 0, "memory");
+    nand.driver.tag_bytes = before.driver.tag_bytes = FLASH_PACKED_TAG_BYTES;
     check(flash_fs_format(&fs, &nand.driver, SPARE) == 0 && flash_fs_mount(&fs, &nand.driver) == 0, "a volume");
     for (int i = 0; i < 150; i++) {
         struct command command = draw_command(draw, 3000);
@@ -246,6 +247,7 @@ static void test_two_volumes(uint64_t seed)
     struct draw draw = {seed};
     for (uint32_t v = 0; v < 2; v++) {
         check(ram_nand_make(&nands[v], 512 << v, 32 << v, 12) == 0, "memory");
+        nands[v].driver.tag_bytes = v == 0 ? FLASH_TAG_BYTES : FLASH_PACKED_TAG_BYTES;
         models[v] = model_make(512 << v, 32 << v, 12, 1 + v);
         check(flash_fs_format(&others[v], &nands[v].driver, 1 + v) == 0 && flash_fs_mount(&others[v], &nands[v].driver) == 0, "a volume");
     }

@@ -18,7 +18,7 @@
 static struct flash_fs fs;
 
 struct sizes {
-    uint32_t page_bytes, block_pages, blocks, spare, cache_pages;
+    uint32_t page_bytes, block_pages, blocks, spare, tag_bytes, cache_pages;
     size_t most;    /* about the most bytes of a write */
     bool failures;  /* whether calls of the device fail */
 };
@@ -41,6 +41,7 @@ static void run(const struct sizes *sizes, uint64_t calls, uint64_t seed)
     struct model *model = model_make(sizes->page_bytes, sizes->block_pages, sizes->blocks, sizes->spare);
     uint64_t counts[WHATS] = {0}, done[WHATS] = {0}, mounts = 1, failures = 0;
     check(ram_nand_make(&nand, sizes->page_bytes, sizes->block_pages, sizes->blocks) == 0, "memory");
+    nand.driver.tag_bytes = sizes->tag_bytes;
     check(flash_fs_format(&fs, &nand.driver, sizes->spare) == 0, "format");
     check(flash_fs_mount_with(&fs, &nand.driver, sizes->cache_pages) == 0, "mount");
     for (uint64_t i = 0; i < calls; i++) {
@@ -81,8 +82,8 @@ static void run(const struct sizes *sizes, uint64_t calls, uint64_t seed)
 int main(int count, char **words)
 {
     static const struct sizes all[] = {
-        {512, 32, 16, 2, 16, 3000, false}, {512, 32, 8, 1, 0, 9000, false}, {512, 64, 24, 4, 2, 5000, true},
-        {2048, 64, 16, 2, 16, 40000, true}, {1024, 32, 12, 3, 1, 3000, true}, {4096, 32, 9, 1, 16, 90000, false},
+        {512, 32, 16, 2, 48, 16, 3000, false}, {512, 32, 8, 1, 24, 0, 9000, false}, {512, 64, 24, 4, 24, 2, 5000, true},
+        {2048, 64, 16, 2, 48, 16, 40000, true}, {1024, 32, 12, 3, 48, 1, 3000, true}, {4096, 32, 9, 1, 24, 16, 90000, false},
     };
     uint64_t calls = count > 1 ? strtoull(words[1], NULL, 10) : 10000, seed = count > 2 ? strtoull(words[2], NULL, 10) : 1;
 #ifdef REGION

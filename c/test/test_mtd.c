@@ -238,7 +238,7 @@ static void passes_the_check(uint32_t page_bytes, int oobavail, uint32_t tag_byt
     plug_in(page_bytes, oobavail);
     kernel.bad[4] = 1;
     check(mtd_nand_open_for(&nand, "/dev/mtd0", 0, 0, tag_bytes) == 0, "%u + %d is refused", page_bytes, oobavail);
-    struct driver_check what = {.driver = &nand.driver, .tag_bytes = tag_bytes, .may_mark = true, .report = show};
+    struct driver_check what = {.driver = &nand.driver, .may_mark = true, .report = show};
     check(driver_check(&what) == 0 && nand.error == 0, "the driver falls short, %u + %d", page_bytes, oobavail);
     mtd_nand_close(&nand);
 }
@@ -253,6 +253,8 @@ static void refusals(void)
     check(opens(0, 17, 48) == MTD_NAND_BLOCKS && opens(17, 0, 48) == MTD_NAND_BLOCKS, "blocks that are not there");
     kernel.oobavail = 53;
     check(opens(0, 0, 48) == MTD_NAND_FEW_SPARE && opens(0, 0, 24) == 0, "53 free bytes");
+    check(mtd_nand_open(&nand, "/dev/mtd0", 0, 0) == 0 && nand.driver.tag_bytes == 24, "53 free bytes, and no number given");
+    mtd_nand_close(&nand);
     kernel.oobavail = 29;
     check(opens(0, 0, 24) == MTD_NAND_FEW_SPARE, "29 free bytes");
     kernel.oobavail = -1;

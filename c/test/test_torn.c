@@ -13,15 +13,17 @@ static struct cut_nand cut;
 static const struct layout {
     const char *name;
     struct flash_driver sizes;
-    uint32_t spare_bytes, run_count;
+    uint32_t spare_bytes, tag_bytes, run_count;
     struct page_run runs[4];
 } layouts[] = {
-    {"2,048 + 64, 54 free", {.page_bytes = 2048, .block_pages = 64, .blocks = 9}, 64, 1, {{2, 54}}},
-    {"2,048 + 128, 74 free", {.page_bytes = 2048, .block_pages = 64, .blocks = 9}, 128, 1, {{2, 74}}},
-    {"4,096 + 128, 70 free", {.page_bytes = 4096, .block_pages = 32, .blocks = 9}, 128, 1, {{2, 70}}},
+    {"2,048 + 64, 54 free", {.page_bytes = 2048, .block_pages = 64, .blocks = 9}, 64, 48, 1, {{2, 54}}},
+    {"2,048 + 64, 34 free, tags of 24 bytes", {.page_bytes = 2048, .block_pages = 64, .blocks = 9}, 64, 24, 1, {{2, 34}}},
+    {"2,048 + 128, 74 free", {.page_bytes = 2048, .block_pages = 64, .blocks = 9}, 128, 48, 1, {{2, 74}}},
+    {"4,096 + 128, 70 free", {.page_bytes = 4096, .block_pages = 32, .blocks = 9}, 128, 48, 1, {{2, 70}}},
     {"512 + 128, four runs of 20",
      {.page_bytes = 512, .block_pages = 32, .blocks = 17},
      128,
+     48,
      4,
      {{4, 20}, {36, 20}, {68, 20}, {100, 20}}},
 };
@@ -29,7 +31,7 @@ static const struct layout {
 static void torn(const struct layout *layout, int count, uint64_t seed)
 {
     static const unsigned ways[CUT_NAND_WAYS] = {0, 1, 2, 3, 4, 5, 6, 7, 8, 9, 10, 11};
-    check(coded_nand_make(&coded, &layout->sizes, layout->spare_bytes, FLASH_TAG_BYTES, layout->runs, layout->run_count) == 0,
+    check(coded_nand_make(&coded, &layout->sizes, layout->spare_bytes, layout->tag_bytes, layout->runs, layout->run_count) == 0,
           "runs");
     check(cut_nand_make(&cut, &coded.driver, &coded.raw) == 0, "memory");
     struct sessions sessions = {&cut, 1, count, 45, layout->sizes.page_bytes * 7, seed, ways, CUT_NAND_WAYS};

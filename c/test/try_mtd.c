@@ -27,9 +27,9 @@ static uint32_t count_bad(void)
     return bad;
 }
 
-static void check_driver(uint32_t bad, uint32_t tag_bytes)
+static void check_driver(uint32_t bad)
 {
-    struct driver_check what = {.driver = &nand.driver, .tag_bytes = tag_bytes, .most_blocks = 8, .report = show};
+    struct driver_check what = {.driver = &nand.driver, .most_blocks = 8, .report = show};
     check(nand.driver.blocks >= bad + 3, "fewer than three good blocks");
     int code = driver_check(&what);
     check(code >= 0, "driver_check: memory is short");
@@ -39,16 +39,14 @@ static void check_driver(uint32_t bad, uint32_t tag_bytes)
 
 int main(int count, char **words)
 {
-    uint32_t tag_bytes = count == 3 && strcmp(words[2], "24") == 0 ? 24 : FLASH_TAG_BYTES;
-    check(count == 2 || tag_bytes == 24, "try_mtd DEVICE [24]");
-    int code = mtd_nand_open_for(&nand, words[1], 0, 0, tag_bytes);
+    check(count == 2, "try_mtd DEVICE");
+    int code = mtd_nand_open(&nand, words[1], 0, 0);
     check(code == 0, "%s: %d, %s (errno %d: %s)", words[1], code, mtd_nand_reason(code), nand.error, strerror(nand.error));
     uint32_t bad = count_bad(), spare = bad + nand.driver.blocks / 50 + 1;
-    printf("%u blocks of %u pages of %u bytes, %u of them bad; %u bytes of envelope correct %u\n", nand.driver.blocks,
-           nand.driver.block_pages, nand.driver.page_bytes, bad, page_code_bytes(&nand.code), nand.code.check_bytes / 2);
-    check_driver(bad, tag_bytes);
-    if (tag_bytes != FLASH_TAG_BYTES)
-        return 0;
+    printf("%u blocks of %u pages of %u bytes, %u of them bad; tags of %u bytes; %u bytes of envelope correct %u\n", nand.driver.blocks,
+           nand.driver.block_pages, nand.driver.page_bytes, bad, nand.driver.tag_bytes, page_code_bytes(&nand.code),
+           nand.code.check_bytes / 2);
+    check_driver(bad);
     for (size_t i = 0; i < sizeof bytes; i++)
         bytes[i] = (uint8_t)(i * 31 + i / 509);
     code = flash_fs_format(&fs, &nand.driver, spare);

@@ -90,8 +90,8 @@ int glue_make(uint32_t page_bytes, uint32_t block_pages, uint32_t blocks)
     for (int i = 0; i < GLUE_FLASHES; i++) {
         struct flash *flash = &flashes[i];
         flash->fails = false;
-        flash->driver = (struct flash_driver){flash,    page_bytes, block_pages, blocks, is_bad,
-                                              read_tag, read_page,  program,     erase,  mark_bad};
+        flash->driver = (struct flash_driver){flash,     page_bytes, block_pages, blocks,   is_bad,         read_tag,
+                                              read_page, program,    erase,       mark_bad, FLASH_TAG_BYTES};
         if (ram_nand_make(&flash->nand, page_bytes, block_pages, blocks) != 0)
             return FLASH_ENOMEM;
     }

@@ -148,5 +148,5 @@ static int mark_bad(void *context, uint32_t block)
     return program_word(flash + block, 0) == FLASH_DONE ? FLASH_DONE : -1;
 }
 
-const struct flash_driver nor_nand = {NULL,     PAGE_BYTES, BLOCK_PAGES, BLOCKS, is_bad,
-                                      read_tag, read_page,  program,     erase,  mark_bad};
+const struct flash_driver nor_nand = {NULL,      PAGE_BYTES, BLOCK_PAGES, BLOCKS,   is_bad,         read_tag,
+                                      read_page, program,    erase,       mark_bad, FLASH_TAG_BYTES};

@@ -35,3 +35,5 @@ lived 3 $MIDDLE parts=17 bch=8
 lived 4 $LARGE overridesize=4
 lived 5 $LARGE overridesize=4 bch=4
 lived 6 $WIDE parts=17 bch=8
+lived 7 $SMALL overridesize=4
+lived 8 $SMALL overridesize=4 bch=4

@@ -63,7 +63,6 @@ static void check_driver(uint32_t tag_bytes, uint32_t blocks, unsigned corrected
     check(mtd_raw_over(&raw, &nand), "no layout");
     check(cut_nand_make(&cut, &nand.driver, &raw.flash) == 0, "memory");
     struct driver_check what = {.driver = &cut.driver,
-                                .tag_bytes = tag_bytes,
                                 .most_blocks = blocks,
                                 .may_mark = true,
                                 .cut_next = cut_nand_next,

@@ -1,7 +1,7 @@
 -- The numbers that the functions return: 0, a count, or below 0 an error, by the numbers that Linux gives them.
 use Rattle.std.specs.Prelude.{ℕ, ◌^◌, nat_lt, if◌then◌else◌, ℤ, pos, neg_ℤ}
-use Rattle.port_nand.specs.declared.device.OpenFault.{OpenFault}
-use Rattle.port_nand.specs.declared.device.OpenFault.TheVariants as opens
+use Rattle.port_nand.specs.declared.sizes.OpenFault.{OpenFault}
+use Rattle.port_nand.specs.declared.sizes.OpenFault.TheVariants as opens
 use Rattle.formatting.specs.declared.fault.FormatFault.{FormatFault}
 use Rattle.formatting.specs.declared.fault.FormatFault.TheVariants as formats
 use Rattle.mounting.specs.declared.fault.MountFault.{MountFault}

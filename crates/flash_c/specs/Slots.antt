@@ -1,10 +1,6 @@
 -- What the functions do to a slot.
-use Rattle.std.specs.Prelude.{◌≡◌, ◌≢◌, ◌≤ℤ◌, ℕ, Bool, true, false, Result, ℤ, pos, if◌then◌else◌}
+use Rattle.std.specs.Prelude.{◌≡◌, ◌≢◌, ◌≤ℤ◌, ℕ, Bool, true, false, ℤ, pos, if◌then◌else◌}
 use Rattle.page_volume.specs.Volumes.{is_stopped}
-use Rattle.page_volume.specs.declared.volume.PageVolume.{PageVolume}
-use Rattle.pages.specs.State.{PagesState}
-use Rattle.port_nand.specs.State.{FileDevice, file_device}
-use Rattle.port_nand.specs.declared.device.OpenFault.{OpenFault}
 use Rattle.posix_calls.specs.Volumes.{over_pages}
 use Rattle.posix_profile.specs.Runs.{takes_no_memory}
 use Rattle.posix_profile.specs.declared.command.Stamped.{Stamped}
@@ -13,7 +9,6 @@ use Rattle.posix_profile.specs.declared.reply.Reply.{Reply}
 use Rattle.posix_profile.specs.declared.reply.Reply.TheVariants as replies
 use Rattle.flash_c.specs.Numbers.{error_number, done_number, count_number}
 use Rattle.flash_c.specs.Sessions.{Writing, IsWritten}
-use Rattle.flash_c.specs.Volumes.{IsEnded, FormatsOpened, MountsOpened}
 use Rattle.flash_c.specs.declared.session.Session.{Session}
 use Rattle.flash_c.specs.declared.slot.Slot.{Slot}
 
@@ -45,22 +40,9 @@ pub record IsAsked (old : Slot) (yes : Bool) (result : ℤ) (new : Slot) : Type 
   pub answer : old.full ≡ true → (result ≡ (if yes then pos 1 else pos 0)) × (new.session ≡ old.session)
   pub empty : old.full ≡ false → (result ≡ error_number errors.EINVAL) × (new ≡ old)
 
--- A mount in a slot. 0 fills it with a session that is not stopped; any other number is below 0, and leaves it. A full slot returns EBUSY.
--- An empty one returns what the mount of some device that a port gives does, or the number for which it gives none; what is mounted is in
--- the slot.
-pub record MountsIn {P : Type 0} (state : P → PagesState) (inside : Slot → PageVolume P) (old : Slot) (result : ℤ) (new : Slot) : Type 0 where
+-- A mount in a slot: 0 fills it with a session that is not stopped; any other number is below 0, and leaves it. A full slot returns EBUSY.
+pub record FillsSlot (old : Slot) (result : ℤ) (new : Slot) : Type 0 where
   pub mounted : result ≡ pos 0 → (new.full ≡ true) × (is_stopped (over_pages new.session.volume) ≡ false)
   pub left : result ≢ pos 0 → new ≡ old
   pub at_most_0 : result ≤ℤ pos 0
   pub busy : old.full ≡ true → result ≡ error_number errors.EBUSY
-  pub opened : old.full ≡ false → (opened : Result FileDevice OpenFault) × MountsOpened file_device state opened result (inside new)
-
--- A format of some device that a port gives: what it returns, or the number for which the port gives none.
-abbrev pub FormatsAt : ℕ → ℤ → Type 0
-FormatsAt spare result = (opened : Result FileDevice OpenFault) × FormatsOpened file_device spare opened result
-
--- An unmount of what is in a slot: it empties the slot, and ends the volume of a full one. An empty one returns EINVAL.
-pub record EndsIn {P : Type 0} (state : P → PagesState) (inside : Slot → PageVolume P) (old : Slot) (result : ℤ) (new : Slot) : Type 0 where
-  pub empties : new.full ≡ false
-  pub ended : old.full ≡ true → (after : FileDevice) × IsEnded state (inside old) (file_device after) result
-  pub empty : old.full ≡ false → result ≡ error_number errors.EINVAL

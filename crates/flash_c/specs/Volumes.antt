@@ -11,7 +11,7 @@ use Rattle.nand_model.specs.Calls.{Device, Lasts}
 use Rattle.nand_model.specs.Changes.{OnlyReads}
 use Rattle.page_volume.specs.declared.volume.PageVolume.{PageVolume}
 use Rattle.pages.specs.State.{PagesState}
-use Rattle.port_nand.specs.declared.device.OpenFault.{OpenFault}
+use Rattle.port_nand.specs.declared.sizes.OpenFault.{OpenFault}
 use Rattle.posix_calls.specs.Endings.{IsUnmounted}
 use Rattle.posix_calls.specs.Mounts.{IsMounted}
 use Rattle.posix_profile.specs.declared.reply.Reply.{Reply}
@@ -73,3 +73,15 @@ abbrev pub MountsOpened : {D P : Type 0} → (D → Device) → (P → PagesStat
 MountsOpened {D} state pages (Ok opened) number v = ((state opened).gone ≡ false)
     × (((number ≡ pos 0) × IsMounted pages (state opened) v) ⊎ ((after : D) × NotMounted (state opened) (state after) number))
 MountsOpened state pages (Err fault) number v = number ≡ open_number fault
+
+-- A mount of some device of this type that a port gives: its number and its volume, or the number for which none is given.
+abbrev pub MountsAt : {D P : Type 0} → (D → Device) → (P → PagesState) → ℤ → PageVolume P → Type 0
+MountsAt {D} state pages number v = (opened : Result D OpenFault) × MountsOpened state pages opened number v
+
+-- A format of some device of this type that a port gives: its number, or that for which none is given.
+abbrev pub FormatsAt : {D : Type 0} → (D → Device) → ℕ → ℤ → Type 0
+FormatsAt {D} state spare number = (opened : Result D OpenFault) × FormatsOpened state spare opened number
+
+-- An unmount of a volume gives some device of this type back, with this number.
+abbrev pub EndsAt : {D P : Type 0} → (D → Device) → (P → PagesState) → PageVolume P → ℤ → Type 0
+EndsAt {D} state pages v number = (after : D) × IsEnded pages v (state after) number

@@ -9,19 +9,22 @@ use crate::filling::{FlashInfo, FlashSpace, put_data, put_info, put_space};
 use crate::names::put_names;
 use crate::numbers::{count_number, done_number};
 use crate::serve::Serve;
-use port_nand::{FilePort, PortNand};
+use port_nand::{FilePort, PortDevice};
 use posix_calls::{Command, Errno, FilePath, Info, Reply, Stamped, Volume};
+
+/// A device behind the port of a file.
+pub(crate) type FileNand = PortDevice<FilePort>;
 
 /// A mounted volume, whose device is behind a port.
 #[derive(Drop)]
 pub struct Session {
-    pub(crate) volume: Volume<PortNand<FilePort>>,
+    pub(crate) volume: Volume<FileNand>,
 }
 
 impl Serve for Session {
-    ghost serves = { λ old command reply new. ⟦<Volume<PortNand<FilePort>> as Serve>⟧.serves old.volume command reply new.volume };
+    ghost serves = { λ old command reply new. ⟦<Volume<FileNand> as Serve>⟧.serves old.volume command reply new.volume };
 
-    ghost describes = { λ session. ⟦<Volume<PortNand<FilePort>> as Serve>⟧.describes session.volume };
+    ghost describes = { λ session. ⟦<Volume<FileNand> as Serve>⟧.describes session.volume };
 
     fn serve(&mut self, command: &Stamped) -> Reply {
         self.volume.serve(command)

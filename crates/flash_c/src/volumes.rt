@@ -4,16 +4,18 @@ ghost use Rattle.page_volume.specs.Volumes.{is_read_only, is_stopped};
 ghost use Rattle.posix_calls.specs.Volumes.{over_pages};
 ghost use Rattle.posix_profile.specs.declared.reply.Errno.TheVariants as errors;
 ghost use Rattle.flash_c.specs.Numbers.{error_number};
-ghost use Rattle.flash_c.specs.Slots.{FormatsAt, MountsIn, EndsIn, IsAsked};
+ghost use Rattle.flash_c.specs.Slots.{FillsSlot, IsAsked};
+ghost use Rattle.flash_c.specs.Volumes.{EndsAt, FormatsAt, MountsAt};
 
 use crate::devices::{abandon, end, format_device, mount_device};
 use crate::numbers::{error_number, open_number};
 use crate::port::Port;
-use crate::session::Session;
+use crate::session::{FileNand, Session};
 use crate::slot::Slot;
 use flash_pages::FlashPages;
+use nand_model::Nand;
 use pages::Pages;
-use port_nand::{FilePort, PortNand};
+use port_nand::{FilePort, open};
 use posix_calls::Errno;
 use std::alloc::Global;
 use std::fs::File;
@@ -37,10 +39,10 @@ pub extern "C" fn flash_port_bytes() -> usize {
 /// Makes a device a volume with so many spare blocks, whose root is empty. All that it held is lost.
 #[unsafe(no_mangle)]
 pub extern "C" fn flash_format(alloc: Global, port: Port, spare: u32) -> i32
-    ensures formats { FormatsAt spare result }
+    ensures formats { FormatsAt ⟦<FileNand as Nand>⟧.state spare result }
     ensures at_most_0 { result ≤ℤ pos 0 }
 {
-    match PortNand::open(alloc, FilePort::new(port.into_file())) {
+    match open(alloc, FilePort::new(port.into_file())) {
         Ok(device) => format_device(alloc, device, spare).1,
         Err(fault) => open_number(fault),
     }
@@ -48,13 +50,14 @@ pub extern "C" fn flash_format(alloc: Global, port: Port, spare: u32) -> i32
 
 /// Opens a device and mounts its volume in an empty slot.
 fn mount_in(alloc: Global, slot: &mut Slot, port: Port, cache_pages: u32) -> i32
-    ensures { MountsIn ⟦<FlashPages<TrustedNand<PortNand<FilePort>>> as Pages>⟧.state (λ s. over_pages s.session.volume) slot.old result slot.new }
+    ensures fills { FillsSlot slot.old result slot.new }
+    ensures mounts { slot.old.full ≡ false → MountsAt ⟦<FileNand as Nand>⟧.state ⟦<FlashPages<TrustedNand<FileNand>> as Pages>⟧.state result (over_pages slot.new.session.volume) }
 {
     let file = port.into_file();
     if slot.is_full() {
         return error_number(Errno::EBUSY);
     }
-    let device = match PortNand::open(alloc, FilePort::new(file)) {
+    let device = match open(alloc, FilePort::new(file)) {
         Ok(device) => device,
         Err(fault) => return open_number(fault),
     };
@@ -70,7 +73,8 @@ fn mount_in(alloc: Global, slot: &mut Slot, port: Port, cache_pages: u32) -> i32
 /// Mounts the volume of a device in an empty slot, with a cache of 16 pages.
 #[unsafe(no_mangle)]
 pub extern "C" fn flash_mount(alloc: Global, slot: &mut Slot, port: Port) -> i32
-    ensures { MountsIn ⟦<FlashPages<TrustedNand<PortNand<FilePort>>> as Pages>⟧.state (λ s. over_pages s.session.volume) slot.old result slot.new }
+    ensures fills { FillsSlot slot.old result slot.new }
+    ensures mounts { slot.old.full ≡ false → MountsAt ⟦<FileNand as Nand>⟧.state ⟦<FlashPages<TrustedNand<FileNand>> as Pages>⟧.state result (over_pages slot.new.session.volume) }
 {
     mount_in(alloc, slot, port, CACHE_PAGES)
 }
@@ -83,7 +87,8 @@ pub extern "C" fn flash_mount_with(
     port: Port,
     cache_pages: u32,
 ) -> i32
-    ensures { MountsIn ⟦<FlashPages<TrustedNand<PortNand<FilePort>>> as Pages>⟧.state (λ s. over_pages s.session.volume) slot.old result slot.new }
+    ensures fills { FillsSlot slot.old result slot.new }
+    ensures mounts { slot.old.full ≡ false → MountsAt ⟦<FileNand as Nand>⟧.state ⟦<FlashPages<TrustedNand<FileNand>> as Pages>⟧.state result (over_pages slot.new.session.volume) }
 {
     mount_in(alloc, slot, port, cache_pages)
 }
@@ -91,7 +96,9 @@ pub extern "C" fn flash_mount_with(
 /// Commits what was accepted, and empties the slot.
 #[unsafe(no_mangle)]
 pub extern "C" fn flash_unmount(slot: &mut Slot) -> i32
-    ensures { EndsIn ⟦<FlashPages<TrustedNand<PortNand<FilePort>>> as Pages>⟧.state (λ s. over_pages s.session.volume) slot.old result slot.new }
+    ensures empties { slot.new.full ≡ false }
+    ensures ended { slot.old.full ≡ true → EndsAt ⟦<FileNand as Nand>⟧.state ⟦<FlashPages<TrustedNand<FileNand>> as Pages>⟧.state (over_pages slot.old.session.volume) result }
+    ensures empty { slot.old.full ≡ false → result ≡ error_number errors.EINVAL }
 {
     if !slot.is_full() {
         return error_number(Errno::EINVAL);

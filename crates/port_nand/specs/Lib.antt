@@ -1,7 +1,10 @@
 pub mod Blocks
 pub mod Calls
 pub mod Driving
+pub mod Either
 pub mod Knowing
+pub mod Opened
+pub mod Opening
 pub mod Places
 pub mod Sending
 pub mod State

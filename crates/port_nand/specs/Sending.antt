@@ -1,10 +1,9 @@
 -- What each call of a device asks of its driver. All words are of the calls before and after it, the newest first.
-use Rattle.std.specs.Prelude.{◌≡◌, ℕ, ◌+◌, ◌*◌, slice_index, false, true, Result, List, [], ◌∷◌}
-use Rattle.nand_model.specs.declared.geometry.Geometry.{Geometry}
+use Rattle.std.specs.Prelude.{◌≡◌, ℕ, false, true, Result, List, [], ◌∷◌}
 use Rattle.nand_model.specs.declared.nand.Gone.{Gone}
 use Rattle.nand_model.specs.declared.nand.PageKind.{PageKind}
 use Rattle.nand_model.specs.declared.nand.ProgramFault.{ProgramFault}
-use Rattle.port_nand.specs.Calls.{Call, call, session, cuts, is_gone, kind_result, program_result}
+use Rattle.port_nand.specs.Calls.{Call, call, session, is_gone, kind_result, program_result}
 use Rattle.port_nand.specs.declared.request.Answer.{Answer}
 use Rattle.port_nand.specs.declared.request.Answer.TheVariants as answers
 use Rattle.port_nand.specs.declared.request.Request.{Request}
@@ -85,23 +84,3 @@ SendsOn p answer old new result = (new ≡ sends_tag p answer ∷ old) × (resul
 pub record SendsPage (p : Programming) (old new : List Call) (result : Result (Unit {0}) ProgramFault) : Type 0 where
   pub gone : is_gone (session old) ≡ true → (new ≡ old) × (result ≡ program_result answers.Lost)
   pub sent : is_gone (session old) ≡ false → (answer : Answer) × SendsOn p answer old new result
-
--- the marks of so many blocks are asked for in turn, each is answered, and nothing else is asked
-pub data AsksMarks (old : List Call) : ℕ → List Call → Type 0 where
-  no_marks : AsksMarks old 0 old
-  mark_asked : {block : ℕ} {calls : List Call} {bytes : List ℕ} {answer : Answer} → AsksMarks old block calls → cuts (requests.IsMarked block) answer ≡ false
-      → AsksMarks old (block + 1) (call (requests.IsMarked block) bytes answer ∷ calls)
-
--- the number in four bytes, the lowest first
-abbrev pub size_at : List ℕ → ℕ → ℕ
-size_at bytes i = slice_index bytes i + 256 * slice_index bytes (i + 1) + 65536 * slice_index bytes (i + 2) + 16777216 * slice_index bytes (i + 3)
-
--- the sizes in twelve bytes: the bytes of a page, the pages of a block, and the blocks
-pub record AreSizes (geometry : Geometry) (bytes : List ℕ) : Type 0 where
-  pub size : geometry.bytes ≡ size_at bytes 0
-  pub pages : geometry.pages ≡ size_at bytes 4
-  pub blocks : geometry.blocks ≡ size_at bytes 8
-
--- the sizes are asked for, and then the marks of as many blocks as came
-abbrev pub AsksAll : Geometry → List Call → List Call → Type 0
-AsksAll geometry old new = (bytes : List ℕ) × AreSizes geometry bytes × AsksMarks (call requests.Sizes bytes answers.Zero ∷ old) geometry.blocks new

@@ -1,58 +1,18 @@
-// A device whose driver is behind a port.
-ghost use Rattle.std.specs.Prelude.{◌≡◌, false, IfOk};
+// A device whose driver is behind a port, with 48 bytes of a tag.
+ghost use Rattle.std.specs.Prelude.{◌≡◌, false};
 ghost use Rattle.port_nand.specs.Calls.{session};
 ghost use Rattle.port_nand.specs.Driving.{IsKept};
 
 use crate::driver::Driver;
 use crate::port::Port;
 use nand_model::{EraseFault, Geometry, Gone, Nand, PageKind, ProgramFault};
-use std::alloc::{AllocError, Global};
 
-/// Why a device was not opened.
-#[derive(Clone, Copy, Debug, PartialEq, Eq)]
-pub enum OpenFault {
-    /// An answer is none: power is gone.
-    Gone,
-    NoMemory,
-    /// The sizes of the device did not come, or a device has none such.
-    BadGeometry,
-}
-
-impl From<AllocError> for OpenFault {
-    fn from(_error: AllocError) -> OpenFault {
-        OpenFault::NoMemory
-    }
-}
-
-/// A device whose driver is behind a port. It keeps the marks, the next page of each block and whether power is gone: once it is,
+/// A device whose driver is behind a port and keeps 48 bytes of a tag with a page. It keeps the marks, the next page of each block and whether power is gone: once it is,
 /// the driver is asked nothing.
 #[derive(Drop)]
 pub struct PortNand<P: Port> {
     pub(crate) driver: Driver<P>,
     ghost kept: { IsKept P.calls driver },
-}
-
-impl<P: Port + Drop> PortNand<P> {
-    ghost use Rattle.port_nand.specs.Sending.{AsksAll};
-    ghost use Rattle.port_nand.specs.State.{device};
-
-    /// The device, powered up: no block has a next page. Its sizes are asked for, and in turn which of its blocks are marked.
-    pub fn open(alloc: Global, port: P) -> Result<PortNand<P>, OpenFault>
-        ensures power { IfOk result (λ d. (device P.calls d.driver).gone ≡ false) }
-        ensures asks { IfOk result (λ d. AsksAll d.driver.geometry (P.calls port) (P.calls d.driver.port)) }
-    {
-        let driver = Driver::open(alloc, port)?;
-        Ok(PortNand { driver })
-    }
-}
-
-impl<P: Port> PortNand<P> {
-    /// Gives the port back.
-    pub fn into_port(self) -> P
-        ensures { result ≡ self.driver.port }
-    {
-        self.driver.port
-    }
 }
 
 impl<P: Port> Nand for PortNand<P> {

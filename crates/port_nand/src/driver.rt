@@ -4,16 +4,16 @@ ghost use Rattle.nand_model.specs.declared.nand.Gone.{Gone};
 ghost use Rattle.port_nand.specs.Calls.{call, cuts, erase_result, mark_result};
 ghost use Rattle.port_nand.specs.Driving.{IsKept};
 ghost use Rattle.port_nand.specs.Knowing.{IsBelow};
-ghost use Rattle.port_nand.specs.Sending.{AreSizes, Asks, AsksPage, AsksAll, AsksMarks, SendsPage, programming, reading, tag_read, tag_with};
-ghost use Rattle.port_nand.specs.declared.request.Answer.TheVariants as answers;
+ghost use Rattle.port_nand.specs.Opening.{AsksAll, AsksMarks};
+ghost use Rattle.port_nand.specs.Sending.{Asks, AsksPage, SendsPage, programming, reading, tag_read, tag_with};
 ghost use Rattle.port_nand.specs.declared.request.Request.TheVariants as requests;
 
 use crate::block::{Block, new_blocks, note_mark, note_next};
-use crate::device::OpenFault;
 use crate::port::Port;
 use crate::request::{
     Answer, Request, cuts, erase_result, kind_result, mark_result, program_result,
 };
+use crate::sizes::{OpenFault, Sizes, TagForm, sizes_of};
 use nand_model::{EraseFault, Geometry, Gone, PageKind, ProgramFault};
 use std::alloc::Global;
 
@@ -28,7 +28,7 @@ pub(crate) struct Driver<P> {
 }
 
 /// Fills the buffer of a tag where the page is written.
-fn fill_tag(tag: &mut [u8; 48], bytes: &[u8; 48], answer: Answer)
+fn fill_tag<const T: usize>(tag: &mut [u8; T], bytes: &[u8; T], answer: Answer)
     ensures { tag.new ≡ tag_with tag.old bytes.now answer }
 {
     if answer == Answer::One {
@@ -71,11 +71,11 @@ impl<P: Port> Driver<P> {
     }
 
     /// Asks for the tag of a page.
-    pub(crate) fn read_tag(
+    pub(crate) fn read_tag<const T: usize>(
         &mut self,
         block: u32,
         page: u32,
-        tag: &mut [u8; 48],
+        tag: &mut [u8; T],
     ) -> Result<PageKind, Gone>
         requires kept { IsKept P.calls self.old }
         requires block { block < self.old.geometry.blocks }
@@ -87,19 +87,19 @@ impl<P: Port> Driver<P> {
         if self.gone {
             return Err(Gone);
         }
-        let mut bytes = [255u8; 48];
+        let mut bytes = [255u8; T];
         let answer = self.ask(Request::ReadTag { block, page }, &mut bytes);
         fill_tag(tag, &bytes, answer);
         kind_result(answer)
     }
 
     /// Asks for a page, and where it is written for its tag.
-    pub(crate) fn read_page(
+    pub(crate) fn read_page<const T: usize>(
         &mut self,
         block: u32,
         page: u32,
         bytes: &mut [u8],
-        tag: &mut [u8; 48],
+        tag: &mut [u8; T],
     ) -> Result<PageKind, Gone>
         requires kept { IsKept P.calls self.old }
         requires block { block < self.old.geometry.blocks }
@@ -115,7 +115,7 @@ impl<P: Port> Driver<P> {
         if answer != Answer::One {
             return kind_result(answer);
         }
-        let mut read = [255u8; 48];
+        let mut read = [255u8; T];
         if self.ask(Request::LastTag { block, page }, &mut read) != Answer::Zero {
             return Err(Gone);
         }
@@ -124,12 +124,12 @@ impl<P: Port> Driver<P> {
     }
 
     /// Sends the tag of a page and then its data.
-    pub(crate) fn program(
+    pub(crate) fn program<const T: usize>(
         &mut self,
         block: u32,
         page: u32,
         bytes: &[u8],
-        tag: &[u8; 48],
+        tag: &[u8; T],
     ) -> Result<(), ProgramFault>
         requires kept { IsKept P.calls self.old }
         requires block { block < self.old.geometry.blocks }
@@ -176,24 +176,6 @@ impl<P: Port> Driver<P> {
     }
 }
 
-/// The sizes of the device, as they came.
-fn geometry_of(bytes: &[u8; 12], answer: Answer) -> Result<Geometry, OpenFault>
-    ensures answer { OnOk result (answer ≡ answers.Zero) }
-    ensures sizes { IfOk result (λ g. AreSizes g bytes.now) }
-{
-    if answer != Answer::Zero {
-        return Err(OpenFault::BadGeometry);
-    }
-    let [a, b, c, d, e, f, g, h, i, j, k, l] = *bytes;
-    let size = u32::from_le_bytes([a, b, c, d]);
-    let pages = u32::from_le_bytes([e, f, g, h]);
-    let blocks = u32::from_le_bytes([i, j, k, l]);
-    match Geometry::new(size, pages, blocks) {
-        Ok(geometry) => Ok(geometry),
-        Err(_) => Err(OpenFault::BadGeometry),
-    }
-}
-
 impl<P: Port + Drop> Driver<P> {
     /// Asks of each block whether it is marked.
     fn read_marks(&mut self) -> Result<(), OpenFault>
@@ -214,14 +196,14 @@ impl<P: Port + Drop> Driver<P> {
     }
 
     /// Opens a device: asks for its sizes, and which blocks are marked.
-    pub(crate) fn open(alloc: Global, mut port: P) -> Result<Driver<P>, OpenFault>
-        ensures kept { IfOk result (λ d. IsKept P.calls d) }
-        ensures power { IfOk result (λ d. d.gone ≡ false) }
-        ensures asks { IfOk result (λ d. AsksAll d.geometry (P.calls port) (P.calls d.port)) }
+    pub(crate) fn open(alloc: Global, mut port: P) -> Result<(Driver<P>, TagForm), OpenFault>
+        ensures kept { IfOk result (λ d. IsKept P.calls d.0) }
+        ensures power { IfOk result (λ d. d.0.gone ≡ false) }
+        ensures asks { IfOk result (λ d. AsksAll (record { geometry = d.0.geometry; tags = d.1 }) (P.calls port) (P.calls d.0.port)) }
     {
-        let mut bytes = [0u8; 12];
+        let mut bytes = [0u8; 16];
         let answer = port.read(Request::Sizes, &mut bytes);
-        let geometry = geometry_of(&bytes, answer)?;
+        let Sizes { geometry, tags } = sizes_of(&bytes, answer)?;
         let mut driver = Driver {
             port,
             geometry,
@@ -229,6 +211,6 @@ impl<P: Port + Drop> Driver<P> {
             gone: false,
         };
         driver.read_marks()?;
-        Ok(driver)
+        Ok((driver, tags))
     }
 }

@@ -1,11 +1,12 @@
 // Each form of answer, by a script.
 use nand_model::{EraseFault, Gone, Nand, PageKind, ProgramFault};
-use port_nand::{Answer, Calls, OpenFault, Port, PortNand, Request};
+use port_nand::{Answer, Calls, OpenFault, Port, PortDevice, Request, into_port, open};
 use std::alloc::{AllocError, Global};
 use std::test::Fail;
 
 /// A driver that answers by a script, whatever it is asked, and keeps the requests. Past the script power is gone. It has 512
-/// bytes of a page, 32 pages of a block, and as many blocks as it is made with; all other bytes that it gives are 7.
+/// bytes of a page, 32 pages of a block, and as many blocks and bytes of a tag as it is made with; all other bytes that it gives
+/// are 7.
 #[derive(Drop)]
 struct Script {
     lines: Lines,
@@ -14,15 +15,15 @@ struct Script {
 
 #[derive(Drop)]
 struct Lines {
-    blocks: u8,
+    sizes: (u8, u8),
     answers: Vec<Answer>,
     asked: Vec<Request>,
 }
 
 impl Script {
-    fn new(alloc: Global, blocks: u8, answers: &[Answer]) -> Result<Script, AllocError> {
+    fn new(alloc: Global, sizes: (u8, u8), answers: &[Answer]) -> Result<Script, AllocError> {
         let lines = Lines {
-            blocks,
+            sizes,
             answers: Vec::from_slice(alloc, answers)?,
             asked: Vec::new(alloc),
         };
@@ -49,8 +50,9 @@ impl Port for Script {
     fn read(&mut self, request: Request, buffer: &mut [u8]) -> Answer {
         let answer = self.lines.answer(request);
         buffer.fill(7);
-        if request == Request::Sizes && buffer.len() == 12 {
-            buffer.copy_from_slice(&[0, 2, 0, 0, 32, 0, 0, 0, self.lines.blocks, 0, 0, 0]);
+        if request == Request::Sizes && buffer.len() == 16 {
+            let (blocks, tag) = self.lines.sizes;
+            buffer.copy_from_slice(&[0, 2, 0, 0, 32, 0, 0, 0, blocks, 0, 0, 0, tag, 0, 0, 0]);
         }
         self.calls = self.calls.with(request, buffer, answer);
         answer
@@ -69,14 +71,18 @@ use Answer::{Lost, One, Two, Zero};
 const OPENED: [Answer; 6] = [Zero, Zero, One, Zero, Zero, Zero];
 
 /// The device of a script, after the sizes and the marks.
-fn opened(alloc: Global, answers: &[Answer]) -> Result<PortNand<Script>, Fail> {
+fn opened(alloc: Global, answers: &[Answer]) -> Result<PortDevice<Script>, Fail> {
     let mut script = Vec::from_slice(alloc, &OPENED)?;
     script.extend_from_slice(answers)?;
-    Ok(PortNand::open(alloc, Script::new(alloc, 5, script.as_slice())?)?)
+    Ok(open(alloc, Script::new(alloc, (5, 48), script.as_slice())?)?)
 }
 
-fn open_fault(alloc: Global, blocks: u8, answers: &[Answer]) -> Result<Option<OpenFault>, Fail> {
-    Ok(PortNand::open(alloc, Script::new(alloc, blocks, answers)?).err())
+fn open_fault(
+    alloc: Global,
+    sizes: (u8, u8),
+    answers: &[Answer],
+) -> Result<Option<OpenFault>, Fail> {
+    Ok(open(alloc, Script::new(alloc, sizes, answers)?).err())
 }
 
 #[test]
@@ -87,16 +93,15 @@ fn the_sizes_and_marks_are_asked_first(rt: HostRuntime) -> Result<(), Fail> {
     assert_eq!(rt; nand.geometry().pages(), 32);
     assert_eq!(rt; nand.geometry().blocks(), 5);
     assert!(rt; !nand.is_bad(0) && nand.is_bad(1) && !nand.is_bad(4));
-    let asked = nand.into_port().lines.asked;
+    let asked = into_port(nand).lines.asked;
     assert_eq!(rt; asked.len(), 6);
     assert_eq!(rt; asked.first().copied(), Some(Request::Sizes));
     assert_eq!(rt; asked.last().copied(), Some(Request::IsMarked { block: 4 }));
-    assert_eq!(rt; open_fault(alloc, 5, &[])?, Some(OpenFault::BadGeometry));
-    assert_eq!(rt; open_fault(alloc, 5, &OPENED[..5])?, Some(OpenFault::Gone));
-    assert_eq!(rt;
-        open_fault(alloc, 4, &OPENED)?,
-        Some(OpenFault::BadGeometry)
-    );
+    assert_eq!(rt; open_fault(alloc, (5, 48), &[])?, Some(OpenFault::BadGeometry));
+    assert_eq!(rt; open_fault(alloc, (5, 48), &OPENED[..5])?, Some(OpenFault::Gone));
+    assert_eq!(rt; open_fault(alloc, (4, 48), &OPENED)?, Some(OpenFault::BadGeometry));
+    assert_eq!(rt; open_fault(alloc, (5, 0), &OPENED)?, Some(OpenFault::BadGeometry));
+    assert_eq!(rt; open_fault(alloc, (5, 24), &OPENED)?, None);
     Ok(())
 }
 

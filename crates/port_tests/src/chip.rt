@@ -16,7 +16,8 @@ const ERASED: Page = Page {
     data: [255; 512],
 };
 
-/// Eight blocks of 32 pages of 512 bytes, none marked bad. It answers so many requests; then power is gone.
+/// Eight blocks of 32 pages of 512 bytes with tags of 48 or fewer, none marked bad. It answers so many requests; then power is
+/// gone.
 #[derive(Drop)]
 pub(crate) struct Chip {
     pub(crate) memory: Memory,
@@ -27,6 +28,7 @@ pub(crate) struct Chip {
 pub(crate) struct Memory {
     pages: Vec<Page>,
     tag: [u8; 48],
+    tag_bytes: u8,
     pub(crate) left: u32,
 }
 
@@ -34,18 +36,18 @@ fn place(block: u32, page: u32) -> usize {
     block.saturating_mul(32).saturating_add(page) as usize
 }
 
-/// Fills the buffer, where it has this length.
+/// Fills the front of the buffer, as far as there are bytes.
 fn fill(buffer: &mut [u8], bytes: &[u8]) {
-    if buffer.len() == bytes.len() {
-        buffer.copy_from_slice(bytes);
-    }
+    let count = buffer.len().min(bytes.len());
+    buffer[..count].copy_from_slice(&bytes[..count]);
 }
 
 impl Chip {
-    pub(crate) fn new(alloc: Global) -> Result<Chip, AllocError> {
+    pub(crate) fn new(alloc: Global, tag_bytes: u8) -> Result<Chip, AllocError> {
         let memory = Memory {
             pages: Vec::from_elem(alloc, ERASED, 256)?,
             tag: [0; 48],
+            tag_bytes,
             left: u32::MAX,
         };
         Ok(Chip {
@@ -86,7 +88,10 @@ impl Memory {
 
     fn told(&mut self, request: Request, buffer: &mut [u8]) -> Answer {
         match request {
-            Request::Sizes => fill(buffer, &[0, 2, 0, 0, 32, 0, 0, 0, 8, 0, 0, 0]),
+            Request::Sizes => {
+                let tag = self.tag_bytes;
+                fill(buffer, &[0, 2, 0, 0, 32, 0, 0, 0, 8, 0, 0, 0, tag, 0, 0, 0]);
+            }
             Request::ReadTag { block, page } => {
                 if let Some(page) = self.pages.get(place(block, page)) {
                     fill(buffer, &page.tag);

@@ -1,21 +1,21 @@
 // A volume over a driver in memory.
 use crate::chip::Chip;
 use line_shell::{Line, parse, write_reply};
-use port_nand::PortNand;
+use port_nand::{PortDevice, into_port, open};
 use posix_calls::{Stamped, Volume, format};
 use std::alloc::Global;
 use std::test::Fail;
 
-fn formatted(alloc: Global) -> Result<Chip, Fail> {
-    let device = PortNand::open(alloc, Chip::new(alloc)?)?;
+fn formatted(alloc: Global, tag_bytes: u8) -> Result<Chip, Fail> {
+    let device = open(alloc, Chip::new(alloc, tag_bytes)?)?;
     match format(alloc, device, 1) {
-        Ok(device) => Ok(device.into_port()),
+        Ok(device) => Ok(into_port(device)),
         Err((_, fault)) => Err(fault.into()),
     }
 }
 
-fn mounted(alloc: Global, chip: Chip) -> Result<Volume<PortNand<Chip>>, Fail> {
-    match Volume::mount(alloc, PortNand::open(alloc, chip)?) {
+fn mounted(alloc: Global, chip: Chip) -> Result<Volume<PortDevice<Chip>>, Fail> {
+    match Volume::mount(alloc, open(alloc, chip)?) {
         Ok(volume) => Ok(volume),
         Err((_, fault)) => Err(fault.into()),
     }
@@ -32,15 +32,24 @@ fn session(alloc: Global, chip: Chip, lines: &[&str]) -> Result<(Chip, Vec<u8>),
     }
     let (device, reply) = volume.unmount();
     write_reply(&mut text, &reply)?;
-    Ok((device.into_port(), text))
+    Ok((into_port(device), text))
 }
 
 #[test]
 fn a_volume_is_kept_by_a_driver(rt: HostRuntime) -> Result<(), Fail> {
+    is_kept(rt, 48)
+}
+
+#[test]
+fn a_volume_is_kept_with_packed_tags(rt: HostRuntime) -> Result<(), Fail> {
+    is_kept(rt, 24)
+}
+
+fn is_kept(rt: HostRuntime, tag_bytes: u8) -> Result<(), Fail> {
     let alloc = rt.alloc();
     let (chip, text) = session(
         alloc,
-        formatted(alloc)?,
+        formatted(alloc, tag_bytes)?,
         &["mkdir /a", "open /a/b rwc", "write 0 hello", "fsync 0"],
     )?;
     assert!(rt; text.as_slice() == b"ok\nfd 0\nwrote 5\nok\nok\n".as_slice());

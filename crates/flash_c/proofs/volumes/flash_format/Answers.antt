@@ -6,10 +6,10 @@ use Rattle.flash_c.proofs.volumes.flash_format.Goals as goal
 pub returns-in-Ok-clause-formats : goal.returns-in-Ok-clause-formats
 returns-in-Ok-clause-formats c =
     let same : to_z w32 (of_z w32 c.format_device.result.1) ≡ c.format_device.result.1 = to_z-of_z w32 c.format_device.result.1 (search rules) in (
-      Ok (record { driver = c.in-Ok.device.driver; kept = c.in-Ok.device.kept }),
+      Ok c.in-Ok.device,
       (
         c.in-Ok.ensures.power,
-        record { driver = c.format_device.result.0.driver; kept = c.format_device.result.0.kept },
+        c.format_device.result.0,
         subst (IsFormatted c.args.spare _ _) (sym same) c.format_device.ensures,
       ),
     )

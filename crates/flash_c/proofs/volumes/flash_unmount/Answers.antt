@@ -13,12 +13,8 @@ use Rattle.flash_c.proofs.volumes.flash_unmount.Goals as goal
 ended_as : {P : Type 0} (state : P → PagesState) (v w : PageVolume P) (device : Device) (n m : ℤ) → v ≡ w → n ≡ m → IsEnded state v device n → IsEnded state w device m
 ended_as state v w device n m same number is = subst (λ x. IsEnded state x device m) same (subst (IsEnded state v device) number is)
 
-pub returns : goal.returns
-returns c =
+pub returns-clause-ended : goal.returns-clause-ended
+returns-clause-ended c full =
     let session : c.take.result ≡ c.args.slot.now.session = c.take.ensures.session ∙ ap (λ (s : Slot). s.session) c.is_full.ensures.same in
     let number : to_z w32 (of_z w32 c.end.result.1) ≡ c.end.result.1 = to_z-of_z w32 c.end.result.1 (search rules) in
-    record {
-      empties = c.take.ensures.full;
-      ended = λ full. (record { driver = c.end.result.0.driver; kept = c.end.result.0.kept }, ended_as _ _ _ _ _ _ (ap (λ (s : Session). over_pages s.volume) session) (sym number) c.end.ensures);
-      empty = λ is. (let two : true ≡ false = sym c.if-not-is_full.false ∙ c.is_full.ensures.full ∙ is in absurd cc);
-    }
+    (c.end.result.0, ended_as _ _ _ _ _ _ (ap (λ (s : Session). over_pages s.volume) session) (sym number) c.end.ensures)

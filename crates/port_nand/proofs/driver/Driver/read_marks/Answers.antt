@@ -1,5 +1,5 @@
 use Rattle.std.proofs.Common.{refl, sym, ◌∙◌, subst, ◌+◌}
-use Rattle.port_nand.specs.Sending.{AsksMarks, no_marks, mark_asked}
+use Rattle.port_nand.specs.Opening.{AsksMarks, no_marks, mark_asked}
 use Rattle.port_nand.proofs.driver.Driver.read_marks.Goals as goal
 
 pub loop-block-init : goal.loop-block-init

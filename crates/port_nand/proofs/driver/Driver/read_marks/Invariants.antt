@@ -1,6 +1,6 @@
 use Rattle.std.proofs.Common.{◌≡◌, false}
 use Rattle.port_nand.specs.Driving.{IsKept}
-use Rattle.port_nand.specs.Sending.{AsksMarks}
+use Rattle.port_nand.specs.Opening.{AsksMarks}
 use Rattle.port_nand.proofs.driver.Driver.read_marks.Given as goal
 
 -- the marks of the blocks before this one are asked for

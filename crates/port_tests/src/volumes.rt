@@ -4,6 +4,7 @@ use line_shell::{Line, parse, write_reply};
 use port_nand::{PortDevice, into_port, open};
 use posix_calls::{Stamped, Volume, format};
 use std::alloc::Global;
+use std::process::Abort;
 use std::test::Fail;
 
 fn formatted(alloc: Global, tag_bytes: u8) -> Result<Chip, Fail> {
@@ -37,16 +38,15 @@ fn session(alloc: Global, chip: Chip, lines: &[&str]) -> Result<(Chip, Vec<u8>),
 
 #[test]
 fn a_volume_is_kept_by_a_driver(rt: HostRuntime) -> Result<(), Fail> {
-    is_kept(rt, 48)
+    is_kept(&rt, rt.alloc(), 48)
 }
 
 #[test]
 fn a_volume_is_kept_with_packed_tags(rt: HostRuntime) -> Result<(), Fail> {
-    is_kept(rt, 24)
+    is_kept(&rt, rt.alloc(), 24)
 }
 
-fn is_kept(rt: HostRuntime, tag_bytes: u8) -> Result<(), Fail> {
-    let alloc = rt.alloc();
+fn is_kept(rt: &impl Abort, alloc: Global, tag_bytes: u8) -> Result<(), Fail> {
     let (chip, text) = session(
         alloc,
         formatted(alloc, tag_bytes)?,

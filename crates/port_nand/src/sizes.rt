@@ -44,7 +44,12 @@ fn number_at(bytes: &[u8; 16], place: usize) -> u32
     requires { place ≤ 12 }
     ensures { result ≡ size_at bytes.now place }
 {
-    u32::from_le_bytes([bytes[place], bytes[place + 1], bytes[place + 2], bytes[place + 3]])
+    u32::from_le_bytes([
+        bytes[place],
+        bytes[place + 1],
+        bytes[place + 2],
+        bytes[place + 3],
+    ])
 }
 
 /// The form of tags of so many bytes.
@@ -66,7 +71,11 @@ pub(crate) fn sizes_of(bytes: &[u8; 16], answer: Answer) -> Result<Sizes, OpenFa
     if answer != Answer::Zero {
         return Err(OpenFault::BadGeometry);
     }
-    let geometry = Geometry::new(number_at(bytes, 0), number_at(bytes, 4), number_at(bytes, 8));
+    let geometry = Geometry::new(
+        number_at(bytes, 0),
+        number_at(bytes, 4),
+        number_at(bytes, 8),
+    );
     match geometry {
         Ok(geometry) => Ok(Sizes {
             geometry,

@@ -97,10 +97,22 @@ fn the_sizes_and_marks_are_asked_first(rt: HostRuntime) -> Result<(), Fail> {
     assert_eq!(rt; asked.len(), 6);
     assert_eq!(rt; asked.first().copied(), Some(Request::Sizes));
     assert_eq!(rt; asked.last().copied(), Some(Request::IsMarked { block: 4 }));
-    assert_eq!(rt; open_fault(alloc, (5, 48), &[])?, Some(OpenFault::BadGeometry));
-    assert_eq!(rt; open_fault(alloc, (5, 48), &OPENED[..5])?, Some(OpenFault::Gone));
-    assert_eq!(rt; open_fault(alloc, (4, 48), &OPENED)?, Some(OpenFault::BadGeometry));
-    assert_eq!(rt; open_fault(alloc, (5, 0), &OPENED)?, Some(OpenFault::BadGeometry));
+    assert_eq!(rt;
+        open_fault(alloc, (5, 48), &[])?,
+        Some(OpenFault::BadGeometry)
+    );
+    assert_eq!(rt;
+        open_fault(alloc, (5, 48), &OPENED[..5])?,
+        Some(OpenFault::Gone)
+    );
+    assert_eq!(rt;
+        open_fault(alloc, (4, 48), &OPENED)?,
+        Some(OpenFault::BadGeometry)
+    );
+    assert_eq!(rt;
+        open_fault(alloc, (5, 0), &OPENED)?,
+        Some(OpenFault::BadGeometry)
+    );
     assert_eq!(rt; open_fault(alloc, (5, 24), &OPENED)?, None);
     Ok(())
 }

@@ -26,11 +26,11 @@ pub mounted_as : {P : Type 0} (state : P → PagesState) (device : Device) (v w 
 mounted_as state device v w same = subst (IsMounted state device) same
 
 -- the number of a fault, returned as a number of 32 bits
-pub mount_same : {number : ℤ} {fault : MountFault} → number ≡ mount_number fault → to_z w32 (of_z w32 number) ≡ mount_number fault
-mount_same {number} {fault} is = ap (λ (n : ℤ). to_z w32 (of_z w32 n)) is ∙ mount_fits fault
+pub mount_same : (number : ℤ) (fault : MountFault) → number ≡ mount_number fault → to_z w32 (of_z w32 number) ≡ mount_number fault
+mount_same number fault is = ap (λ (n : ℤ). to_z w32 (of_z w32 n)) is ∙ mount_fits fault
 
-pub mount_sign : {number : ℤ} {fault : MountFault} → number ≡ mount_number fault → to_z w32 (of_z w32 number) <ℤ pos 0
-mount_sign {number} {fault} is = subst (λ (n : ℤ). n <ℤ pos 0) (sym (mount_same is)) (mount_below fault)
+pub mount_sign : (number : ℤ) (fault : MountFault) → number ≡ mount_number fault → to_z w32 (of_z w32 number) <ℤ pos 0
+mount_sign number fault is = subst (λ (n : ℤ). n <ℤ pos 0) (sym (mount_same number fault is)) (mount_below fault)
 
 pub not_zero : {number : ℤ} → number <ℤ pos 0 → number ≡ pos 0 → ⊥
 not_zero {number} below zero = let no : pos 0 <ℤ pos 0 = subst (λ (n : ℤ). n <ℤ pos 0) zero below in search (arith, no)

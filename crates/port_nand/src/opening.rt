@@ -9,6 +9,7 @@ use crate::either_nand::EitherNand;
 use crate::port::Port;
 use crate::sizes::{OpenFault, TagForm};
 use crate::small_device::SmallPortNand;
+use nand_model::Nand;
 use packed_tags::PackedNand;
 use std::alloc::Global;
 
@@ -17,7 +18,7 @@ pub type PortDevice<P> = EitherNand<PortNand<P>, PackedNand<SmallPortNand<P>>>;
 
 /// The device, powered up: no block has a next page. Its sizes are asked for, and in turn which of its blocks are marked.
 pub fn open<P: Port + Drop>(alloc: Global, port: P) -> Result<PortDevice<P>, OpenFault>
-    ensures power { IfOk result (λ d. (driver_of d).gone ≡ false) }
+    ensures power { IfOk result (λ d. (⟦<PortDevice<P> as Nand>⟧.state d).gone ≡ false) }
     ensures asks { IfOk result (λ d. AsksAll (sizes_of d) (P.calls port) (P.calls (driver_of d).port)) }
 {
     let (driver, tags) = Driver::open(alloc, port)?;

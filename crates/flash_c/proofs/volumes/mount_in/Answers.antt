@@ -22,7 +22,7 @@ returns-in-Ok-mount_device-clause-mounts c empty =
 pub returns-in-Err-mount_device-clause-fills : goal.returns-in-Err-mount_device-clause-fills
 returns-in-Err-mount_device-clause-fills c =
     let told = c.in-Err-mount_device.ensures.fault in
-    let below = mount_sign told.number_is in
+    let below = mount_sign c.in-Err-mount_device.number told.fault told.number_is in
     record {
       mounted = λ zero. absurd (not_zero below zero);
       left = λ no. c.is_full.ensures.same;
@@ -36,7 +36,7 @@ returns-in-Err-mount_device-clause-mounts c empty =
       Ok c.in-Ok.device,
       (
         c.in-Ok.ensures.power,
-        inr (c.in-Err-mount_device._device, record { fault = told.fault; number_is = mount_same told.number_is; reads = told.reads; why = told.why }),
+        inr (c.in-Err-mount_device._device, record { fault = told.fault; number_is = mount_same c.in-Err-mount_device.number told.fault told.number_is; reads = told.reads; why = told.why }),
       ),
     )
 

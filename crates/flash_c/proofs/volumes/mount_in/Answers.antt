@@ -22,7 +22,7 @@ returns-in-Ok-mount_device-clause-mounts c empty =
 pub returns-in-Err-mount_device-clause-fills : goal.returns-in-Err-mount_device-clause-fills
 returns-in-Err-mount_device-clause-fills c =
     let told = c.in-Err-mount_device.ensures.fault in
-    let below = mount_sign c.in-Err-mount_device.number told.fault told.number_is in
+    let below : to_z w32 (of_z w32 c.in-Err-mount_device.number) <ℤ pos 0 = mount_sign c.in-Err-mount_device.number told.fault told.number_is in
     record {
       mounted = λ zero. absurd (not_zero below zero);
       left = λ no. c.is_full.ensures.same;

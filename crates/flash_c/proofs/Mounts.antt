@@ -1,5 +1,5 @@
 -- The numbers of a mount's faults, and the volume that is mounted.
-use Rattle.std.proofs.Common.{◌≡◌, ◌<ℤ◌, ◌∙◌, ℤ, pos, refl, sym, ap, subst, to_z, of_z, w32, arith}
+use Rattle.std.proofs.Common.{◌≡◌, ◌<ℤ◌, ◌≤ℤ◌, ◌∙◌, ℤ, pos, refl, sym, ap, subst, to_z, of_z, w32, arith}
 use Rattle.mounting.specs.declared.fault.MountFault.{MountFault}
 use Rattle.mounting.specs.declared.fault.MountFault.TheVariants as mounts
 use Rattle.nand_model.specs.Calls.{Device}
@@ -34,3 +34,6 @@ mount_sign number fault is = subst (λ (n : ℤ). n <ℤ pos 0) (sym (mount_same
 
 pub not_zero : {number : ℤ} → number <ℤ pos 0 → number ≡ pos 0 → ⊥
 not_zero {number} below zero = let no : pos 0 <ℤ pos 0 = subst (λ (n : ℤ). n <ℤ pos 0) zero below in search (arith, no)
+
+pub not_above : (number : ℤ) → number <ℤ pos 0 → number ≤ℤ pos 0
+not_above number below = search (arith, below)

@@ -3,7 +3,7 @@ use Rattle.std.proofs.lemmas.Int.{to_z-of_z}
 use Rattle.page_volume.specs.Volumes.{is_stopped}
 use Rattle.posix_calls.specs.Volumes.{over_pages}
 use Rattle.flash_c.specs.declared.session.Session.{Session}
-use Rattle.flash_c.proofs.Mounts.{mount_same, mount_sign, not_zero, mounted_as}
+use Rattle.flash_c.proofs.Mounts.{mount_same, mount_sign, not_above, not_zero, mounted_as}
 use Rattle.flash_c.proofs.volumes.mount_in.Goals as goal
 
 pub returns-in-Ok-mount_device-clause-fills : goal.returns-in-Ok-mount_device-clause-fills
@@ -26,7 +26,7 @@ returns-in-Err-mount_device-clause-fills c =
     record {
       mounted = λ zero. absurd (not_zero below zero);
       left = λ no. c.is_full.ensures.same;
-      at_most_0 = search (arith, below);
+      at_most_0 = not_above _ below;
       busy = λ full. (let two : true ≡ false = sym full ∙ sym c.is_full.ensures.full ∙ c.if-is_full.false in absurd cc);
     }
 
@@ -47,7 +47,7 @@ returns-in-Err-clause-fills c =
     record {
       mounted = λ zero. absurd (not_zero below zero);
       left = λ no. c.is_full.ensures.same;
-      at_most_0 = search (arith, below);
+      at_most_0 = not_above _ below;
       busy = λ full. (let two : true ≡ false = sym full ∙ sym c.is_full.ensures.full ∙ c.if-is_full.false in absurd cc);
     }
 

@@ -8,6 +8,11 @@ static size_t place_of(const struct ram_nand *nand, uint32_t block, uint32_t pag
     return (size_t)block * nand->driver.block_pages + page;
 }
 
+static size_t tag_bytes_of(const struct ram_nand *nand)
+{
+    return nand->driver.tag_bytes == 0 ? FLASH_TAG_BYTES : nand->driver.tag_bytes;
+}
+
 static int misused(struct ram_nand *nand, const char *what)
 {
     if (nand->misuse == NULL)
@@ -69,7 +74,7 @@ static int read_kind(struct ram_nand *nand, uint32_t block, uint32_t page, uint8
         return -1;
     size_t place = place_of(nand, block, page);
     if (nand->kinds[place] == FLASH_WRITTEN)
-        memcpy(tag, nand->tags + place * FLASH_TAG_BYTES, nand->driver.tag_bytes);
+        memcpy(tag, nand->tags + place * FLASH_TAG_BYTES, tag_bytes_of(nand));
     return nand->kinds[place];
 }
 
@@ -107,7 +112,7 @@ static int program(void *context, uint32_t block, uint32_t page, const uint8_t *
     size_t place = place_of(nand, block, page), bytes = nand->driver.page_bytes;
     if (fate == RAM_NAND_AFTER) {
         memcpy(nand->data + place * bytes, data, bytes);
-        memcpy(nand->tags + place * FLASH_TAG_BYTES, tag, nand->driver.tag_bytes);
+        memcpy(nand->tags + place * FLASH_TAG_BYTES, tag, tag_bytes_of(nand));
         nand->kinds[place] = FLASH_WRITTEN;
     } else if (fate == RAM_NAND_LOST) {
         nand->kinds[place] = FLASH_UNCORRECTABLE;

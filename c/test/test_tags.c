@@ -99,15 +99,18 @@ static void same_calls(struct draw *draw, int calls)
         check(there[0].code == there[1].code && there[0].filled == there[1].filled, "call %d: %lld, and %lld with packed tags", call,
               (long long)there[0].code, (long long)there[1].code);
         check(nands[0].calls == nands[1].calls, "call %d: another number of calls", call);
-        for (int i = 0; i < 2 && nands[0].gone; i++) {
+        bool gone = nands[0].gone;
+        cuts += gone;
+        for (int i = 0; i < 2 && gone; i++) {
             flash_fs_abandon(&fs[i]);
             ram_nand_power_up(&nands[i]);
             check(flash_fs_mount(&fs[i], &nands[i].driver) == 0, "a mount after a loss of power");
-            cuts += i;
         }
     }
-    for (int i = 0; i < 2; i++)
+    for (int i = 0; i < 2; i++) {
+        nands[i].cut_at = 0;
         check(flash_fs_unmount(&fs[i]) == 0, "unmount");
+    }
     compare(&nands[0], &nands[1]);
     printf("  %d calls and %llu losses of power leave the same pages with tags of 24 and of 48 bytes\n", calls,
            (unsigned long long)cuts);

@@ -23,7 +23,7 @@ build() {
 build_all() {
     build try_driver test/mtd/try_driver.c $DRIVER && build try_volume test/mtd/try_volume.c test/sessions.c drivers/file_nand.c $DRIVER &&
         build make_image test/make_image.c drivers/file_nand.c &&
-        build flash-raw -DFLASH_RAW_MTD drivers/flash_raw.c drivers/file_nand.c drivers/mtd_raw.c drivers/mtd_nand.c drivers/page_code.c &&
+        build flash-raw -DFLASH_RAW_MTD drivers/flash_raw.c drivers/packed_tag.c drivers/file_nand.c drivers/mtd_raw.c drivers/mtd_nand.c drivers/page_code.c &&
         build try_mtd test/try_mtd.c drivers/mtd_nand.c drivers/page_code.c drivers/driver_check.c
 }
 

@@ -1,8 +1,9 @@
 // What the types of a command say of it.
 ghost use Rattle.volume_terms.specs.Names.{AreBytes};
+ghost use Rattle.posix_profile.specs.Requests.{command_of, stamped_of};
 ghost use Rattle.posix_profile.specs.laws.Sound.{HasBytes, IsStamped};
 
-use posix_profile::{Command, Stamped};
+use posix_profile::{Asked, Request};
 
 /// Each element is a byte.
 fn are_bytes(bytes: &[u8])
@@ -10,39 +11,39 @@ fn are_bytes(bytes: &[u8])
 {}
 
 /// The paths and the data of a command are bytes.
-fn has_bytes(command: &Command)
-    ensures { HasBytes command.now }
+fn has_bytes(request: Request<'_>)
+    ensures { HasBytes (command_of request.entry) }
 {
-    match command {
-        Command::Open { path, .. } => are_bytes(path.as_slice()),
-        Command::Close { .. } => {}
-        Command::Read { .. } => {}
-        Command::Write { bytes, .. } => are_bytes(bytes.as_slice()),
-        Command::Seek { .. } => {}
-        Command::Truncate { .. } => {}
-        Command::Fsync { .. } => {}
-        Command::Sync => {}
-        Command::Stat { path } => are_bytes(path.as_slice()),
-        Command::Mkdir { path } => are_bytes(path.as_slice()),
-        Command::Rmdir { path } => are_bytes(path.as_slice()),
-        Command::Link { old, new } => {
-            are_bytes(old.as_slice());
-            are_bytes(new.as_slice());
+    match request {
+        Request::Open { path, .. } => are_bytes(path),
+        Request::Close { .. } => {}
+        Request::Read { .. } => {}
+        Request::Write { bytes, .. } => are_bytes(bytes),
+        Request::Seek { .. } => {}
+        Request::Truncate { .. } => {}
+        Request::Fsync { .. } => {}
+        Request::Sync => {}
+        Request::Stat { path } => are_bytes(path),
+        Request::Mkdir { path } => are_bytes(path),
+        Request::Rmdir { path } => are_bytes(path),
+        Request::Link { old, new } => {
+            are_bytes(old);
+            are_bytes(new);
         }
-        Command::Unlink { path } => are_bytes(path.as_slice()),
-        Command::Rename { old, new } => {
-            are_bytes(old.as_slice());
-            are_bytes(new.as_slice());
+        Request::Unlink { path } => are_bytes(path),
+        Request::Rename { old, new } => {
+            are_bytes(old);
+            are_bytes(new);
         }
-        Command::List { path } => are_bytes(path.as_slice()),
-        Command::Space => {}
+        Request::List { path } => are_bytes(path),
+        Request::Space => {}
     }
 }
 
-/// A stamped command is as its types allow it.
-pub fn is_stamped(stamped: &Stamped)
-    ensures { IsStamped stamped.now }
+/// A command is as its types allow it.
+pub fn is_stamped(asked: &Asked<'_>)
+    ensures { IsStamped (stamped_of asked.now) }
 {
-    let _moment = stamped.moment;
-    has_bytes(&stamped.command);
+    let _moment = asked.moment;
+    has_bytes(asked.request);
 }

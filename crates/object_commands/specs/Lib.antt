@@ -2,6 +2,7 @@ pub mod Names
 pub mod Opens
 pub mod Reads
 pub mod Volumes
+pub mod Serving
 pub mod Endings
 pub mod Running
 pub mod laws

@@ -5,6 +5,7 @@ ghost use Rattle.std.specs.FinMap as map;
 ghost use Rattle.std.specs.List.{list_any};
 ghost use Rattle.posix_profile.specs.Losses.{LossLeaves};
 ghost use Rattle.posix_profile.specs.Outcomes.{Outcome};
+ghost use Rattle.posix_profile.specs.Requests.{command_of, stamped_of};
 ghost use Rattle.posix_profile.specs.Runs.{takes_no_memory, is_stop, after, AllStopped, RunHolds};
 ghost use Rattle.volume_terms.specs.Sizes.{Sizes};
 ghost use Rattle.posix_profile.specs.laws.Sound.{IsSound};
@@ -29,7 +30,7 @@ use command_plans::plan::{HandleChange, Plan, StoreWork, hand_on};
 use command_plans::stamp::is_stamped;
 use command_plans::table::DescriptorTable;
 use object_store::{ObjectStore, Refusal};
-use posix_profile::{Command, Errno, Info, Reply, Stamped};
+use posix_profile::{Asked, Errno, Info, Reply, Request, Stamped};
 use std::alloc::{AllocError, Global};
 use volume_terms::StoreFault;
 
@@ -47,48 +48,41 @@ fn plan<'a, S: ObjectStore>(
     store: &mut S,
     table: &DescriptorTable,
     read_only: bool,
-    stamped: &'a Stamped,
+    asked: &Asked<'a>,
 ) -> Result<Plan<'a>, Refusal>
     ensures reads { S.meaning.reads store.old store.new }
     ensures power { KeepsPower S.meaning store.old store.new result }
     ensures plans { (z : Sizes) (s : State) → Holds S.meaning z s store.old → handles_in table.now ≡ s.handles
-        → Plans S.meaning z (class_of read_only s stamped.now.command) s (step z read_only s stamped.now) store.old store.new result }
-    ensures memory { takes_no_memory stamped.now.command ≡ true → TakesNone result }
-    ensures leaves { makes_no_call stamped.now.command ≡ true → (store.new ≡ store.old) × LeavesDevice result }
+        → Plans S.meaning z (class_of read_only s (command_of asked.now.request)) s (step z read_only s (stamped_of asked.now)) store.old store.new result }
+    ensures memory { takes_no_memory (command_of asked.now.request) ≡ true → TakesNone result }
+    ensures leaves { makes_no_call (command_of asked.now.request) ≡ true → (store.new ≡ store.old) × LeavesDevice result }
 {
-    let moment = stamped.moment;
-    match &stamped.command {
-        Command::Open { path, flags } => {
-            let path = path.as_slice();
-            open(alloc, store, table, read_only, moment, path, *flags)
+    let moment = asked.moment;
+    match &asked.request {
+        Request::Open { path, flags } => {
+            open(alloc, store, table, read_only, moment, *path, *flags)
         }
-        Command::Close { fd } => hand_on(close(store, table, *fd)),
-        Command::Read { fd, count } => read(alloc, store, table, *fd, *count),
-        Command::Write { fd, bytes } => {
-            hand_on(write(store, table, moment, *fd, bytes.as_slice()))
-        }
-        Command::Seek { fd, offset, whence } => {
+        Request::Close { fd } => hand_on(close(store, table, *fd)),
+        Request::Read { fd, count } => read(alloc, store, table, *fd, *count),
+        Request::Write { fd, bytes } => hand_on(write(store, table, moment, *fd, *bytes)),
+        Request::Seek { fd, offset, whence } => {
             hand_on(seek(store, table, *fd, signed(offset), *whence))
         }
-        Command::Truncate { fd, length } => {
+        Request::Truncate { fd, length } => {
             hand_on(truncate(store, table, moment, *fd, signed(length)))
         }
-        Command::Fsync { fd } => hand_on(fsync(table, read_only, *fd)),
-        Command::Sync => Ok(sync(read_only)),
-        Command::Stat { path } => stat(alloc, store, path.as_slice()),
-        Command::Mkdir { path } => mkdir(alloc, store, read_only, moment, path.as_slice()),
-        Command::Rmdir { path } => rmdir(alloc, store, table, read_only, moment, path.as_slice()),
-        Command::Link { old, new } => {
-            let (old, new) = (old.as_slice(), new.as_slice());
-            link(alloc, store, read_only, moment, old, new)
+        Request::Fsync { fd } => hand_on(fsync(table, read_only, *fd)),
+        Request::Sync => Ok(sync(read_only)),
+        Request::Stat { path } => stat(alloc, store, *path),
+        Request::Mkdir { path } => mkdir(alloc, store, read_only, moment, *path),
+        Request::Rmdir { path } => rmdir(alloc, store, table, read_only, moment, *path),
+        Request::Link { old, new } => link(alloc, store, read_only, moment, *old, *new),
+        Request::Unlink { path } => unlink(alloc, store, table, read_only, moment, *path),
+        Request::Rename { old, new } => {
+            rename(alloc, store, table, read_only, moment, *old, *new)
         }
-        Command::Unlink { path } => unlink(alloc, store, table, read_only, moment, path.as_slice()),
-        Command::Rename { old, new } => {
-            let (old, new) = (old.as_slice(), new.as_slice());
-            rename(alloc, store, table, read_only, moment, old, new)
-        }
-        Command::List { path } => list(alloc, store, path.as_slice()),
-        Command::Space => Ok(space(store)),
+        Request::List { path } => list(alloc, store, *path),
+        Request::Space => Ok(space(store)),
     }
 }
 
@@ -141,6 +135,7 @@ pub struct Volume<S> {
 impl<S: ObjectStore> Volume<S> {
     ghost use Rattle.command_plans.specs.Tables.{handles_in};
     ghost use Rattle.object_commands.specs.Volumes.{store_of, handles_of, is_read_only, is_stopped};
+    ghost use Rattle.object_commands.specs.Serving.{IsServed};
     ghost use Rattle.object_commands.specs.Endings.{IsAt, CommandEnds, StaysReading, TellsRefusal};
     ghost use Rattle.object_commands.specs.Running.{Runs};
     ghost use Rattle.object_commands.specs.Describing.{Describes};
@@ -277,28 +272,28 @@ impl<S: ObjectStore> Volume<S> {
     }
 
     /// Does a command and replies to it. Its caller stops the volume by the reply.
-    fn answer(&mut self, stamped: &Stamped) -> Reply
+    fn answer(&mut self, asked: &Asked<'_>) -> Reply
         ensures keeps { is_read_only self.new ≡ is_read_only self.old }
         ensures lasts { S.meaning.lasts (store_of self.old) (store_of self.new) }
         // A reply other than EIO is given by a device that has not lost its power in the command.
         ensures power { is_stop result ≡ false → S.meaning.has_power (store_of self.old) ≡ true → S.meaning.has_power (store_of self.new) ≡ true }
-        ensures leaves { makes_no_call stamped.now.command ≡ true → S.meaning.leaves (store_of self.old) (store_of self.new) }
+        ensures leaves { makes_no_call (command_of asked.now.request) ≡ true → S.meaning.leaves (store_of self.old) (store_of self.new) }
         ensures only { is_read_only self.old ≡ true → (z : Sizes) (s : State) → IsAt S.meaning z s self.old
             → S.meaning.reads (store_of self.old) (store_of self.new) ⊎ S.meaning.leaves (store_of self.old) (store_of self.new) }
         // A read-only volume stops only where a read failed.
         ensures unread { is_read_only self.old ≡ true → (z : Sizes) (s : State) → IsAt S.meaning z s self.old → is_stop result ≡ true
             → S.meaning.unread (store_of self.old) (store_of self.new) }
         ensures ends { (z : Sizes) (s : State) → IsAt S.meaning z s self.old
-            → CommandEnds S.meaning z (class_of (is_read_only self.old) s stamped.now.command) (takes_no_memory stamped.now.command) s (step z (is_read_only self.old) s stamped.now)
+            → CommandEnds S.meaning z (class_of (is_read_only self.old) s (command_of asked.now.request)) (takes_no_memory (command_of asked.now.request)) s (step z (is_read_only self.old) s (stamped_of asked.now))
             self.old (record self.new { stopped = is_stop result }) result }
     {
-        is_stamped(stamped);
+        is_stamped(asked);
         match plan(
             self.alloc,
             &mut self.store,
             &self.table,
             self.read_only,
-            stamped,
+            asked,
         ) {
             Ok(plan) => self.carry_out(plan),
             Err(Refusal::Error(error)) => Reply::Error(error),
@@ -309,28 +304,22 @@ impl<S: ObjectStore> Volume<S> {
     }
 
     /// Does a command and replies to it.
-    pub fn call(&mut self, stamped: &Stamped) -> Reply
-        ensures keeps { is_read_only self.new ≡ is_read_only self.old }
-        ensures lasts { S.meaning.lasts (store_of self.old) (store_of self.new) }
-        // A reply other than EIO is given by a device that has not lost its power in the command.
-        ensures power { is_stop result ≡ false → S.meaning.has_power (store_of self.old) ≡ true → S.meaning.has_power (store_of self.new) ≡ true }
-        ensures leaves { makes_no_call stamped.now.command ≡ true → S.meaning.leaves (store_of self.old) (store_of self.new) }
-        ensures only { is_read_only self.old ≡ true → (z : Sizes) (s : State) → IsAt S.meaning z s self.old
-            → S.meaning.reads (store_of self.old) (store_of self.new) ⊎ S.meaning.leaves (store_of self.old) (store_of self.new) }
-        // A read-only volume stops only where a read failed.
-        ensures unread { is_read_only self.old ≡ true → is_stopped self.old ≡ false → (z : Sizes) (s : State) → IsAt S.meaning z s self.old → is_stop result ≡ true
-            → S.meaning.unread (store_of self.old) (store_of self.new) }
-        ensures stopped { is_stopped self.old ≡ true → (result ≡ replies.Error errors.EIO) × (self.new ≡ self.old) }
-        ensures stops { is_stopped self.old ≡ false → is_stopped self.new ≡ is_stop result }
-        ensures ends { is_stopped self.old ≡ false → (z : Sizes) (s : State) → IsAt S.meaning z s self.old
-            → CommandEnds S.meaning z (class_of (is_read_only self.old) s stamped.now.command) (takes_no_memory stamped.now.command) s (step z (is_read_only self.old) s stamped.now) self.old self.new result }
+    pub fn ask(&mut self, asked: &Asked<'_>) -> Reply
+        ensures { IsServed S.meaning self.old (stamped_of asked.now) result self.new }
     {
         if self.stopped {
             return Reply::Error(Errno::EIO);
         }
-        let reply = self.answer(stamped);
+        let reply = self.answer(asked);
         self.stopped = is_stop(&reply);
         reply
+    }
+
+    /// Does a command that is a value, and replies to it.
+    pub fn call(&mut self, stamped: &Stamped) -> Reply
+        ensures { IsServed S.meaning self.old stamped.now result self.new }
+    {
+        self.ask(&stamped.asked())
     }
 
     /// Does the commands in turn and adds their replies at the end of the vector. Where a reply finds no room its command

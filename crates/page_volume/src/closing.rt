@@ -4,7 +4,7 @@ ghost use Rattle.volume_terms.specs.Sizes.{descriptors};
 
 use crate::volume::PageVolume;
 use pages::PageStore;
-use posix_profile::{Command, Stamped};
+use posix_profile::{Asked, Request};
 use volume_terms::DESCRIPTORS;
 
 impl<P: PageStore> PageVolume<P> {
@@ -15,11 +15,10 @@ impl<P: PageStore> PageVolume<P> {
     fn close(&mut self, fd: u32)
         ensures { (first : PageVolume P) → Closes P.state fd first self.old → Closes P.state (suc fd) first self.new }
     {
-        let stamped = Stamped {
+        let _reply = self.ask(&Asked {
             moment: 0,
-            command: Command::Close { fd },
-        };
-        let _reply = self.call(&stamped);
+            request: Request::Close { fd },
+        });
     }
 
     /// Closes all descriptors, and tells whether the volume goes on. It makes no call of the device.

@@ -4,6 +4,7 @@ ghost use Rattle.std.specs.FinMap as map;
 ghost use Rattle.volume_terms.specs.Sizes.{Sizes, IsSizes, most_written};
 ghost use Rattle.posix_profile.specs.Losses.{is_synced};
 ghost use Rattle.nand_model.specs.Changes.{OnlyReads};
+ghost use Rattle.posix_profile.specs.Requests.{command_of, stamped_of};
 ghost use Rattle.posix_profile.specs.Runs.{Replies, after_one, is_stop};
 ghost use Rattle.posix_profile.specs.State.{Objects, State};
 ghost use Rattle.posix_profile.specs.laws.Sound.{IsSound};
@@ -22,7 +23,7 @@ use object_commands::Volume;
 use object_store::ObjectStore;
 use paged_objects::PagedObjects;
 use pages::PageStore;
-use posix_profile::{Errno, Info, Reply, Stamped};
+use posix_profile::{Asked, Errno, Info, Reply, Stamped};
 use std::alloc::{AllocError, Global};
 
 /// A volume whose objects lie in pages. One that is stopped answers EIO to each command.
@@ -61,21 +62,21 @@ impl<P: PageStore> PageVolume<P> {
     }
 
     /// Does a command and replies to it.
-    pub fn call(&mut self, stamped: &Stamped) -> Reply
+    pub fn ask(&mut self, asked: &Asked<'_>) -> Reply
         ensures goes_on { GoesOn (P.state (pages_of self.old)) (P.state (pages_of self.new)) }
         ensures keeps { (is_read_only self.new ≡ is_read_only self.old) × (table_sizes (table_of self.new) ≡ table_sizes (table_of self.old)) }
-        ensures leaves { makes_no_call stamped.now.command ≡ true → (P.state (pages_of self.new)).device ≡ (P.state (pages_of self.old)).device }
+        ensures leaves { makes_no_call (command_of asked.now.request) ≡ true → (P.state (pages_of self.new)).device ≡ (P.state (pages_of self.old)).device }
         ensures stopped { is_stopped self.old ≡ true → (result ≡ replies.Error errors.EIO) × (self.new ≡ self.old) }
         ensures stops { is_stopped self.old ≡ false → is_stopped self.new ≡ is_stop result }
         // The reply is the step's; or want of memory, of a command that takes some; or the stop.
         ensures replies { is_stopped self.old ≡ false → (z : Sizes) (s : State) → IsVolumeOf P.state z s self.old
-            → Replies z (is_read_only self.old) s stamped.now result }
+            → Replies z (is_read_only self.old) s (stamped_of asked.now) result }
         ensures state { is_stopped self.old ≡ false → (z : Sizes) (s : State) → IsVolumeOf P.state z s self.old → is_stop result ≡ false
-            → IsVolumeOf P.state z (after_one z (is_read_only self.old) s stamped.now result) self.new }
+            → IsVolumeOf P.state z (after_one z (is_read_only self.old) s (stamped_of asked.now) result) self.new }
         // A mount shows the tree that it did, or what names keep of the objects before the command.
         ensures tree { is_stopped self.old ≡ false → (z : Sizes) (s : State) → IsVolumeOf P.state z s self.old → (tree : Objects) → Shown z (P.state (pages_of self.old)) tree
             → Shown z (P.state (pages_of self.new)) tree ⊎ Shown z (P.state (pages_of self.new)) (settled s.objects) }
-        ensures synced { is_stopped self.old ≡ false → (z : Sizes) (s : State) → IsVolumeOf P.state z s self.old → is_synced stamped.now.command result ≡ true
+        ensures synced { is_stopped self.old ≡ false → (z : Sizes) (s : State) → IsVolumeOf P.state z s self.old → is_synced (command_of asked.now.request) result ≡ true
             → Shown z (P.state (pages_of self.new)) (settled s.objects) }
         ensures cause { is_stopped self.old ≡ false → (z : Sizes) (s : State) → IsVolumeOf P.state z s self.old → is_stop result ≡ true
             → HasEnded (P.state (pages_of self.old)) (P.state (pages_of self.new)) }
@@ -85,7 +86,7 @@ impl<P: PageStore> PageVolume<P> {
         // A reply other than EIO is given by a device that has not lost its power in the command.
         ensures keeps_power { is_stop result ≡ false → (P.state (pages_of self.old)).device.gone ≡ false → (P.state (pages_of self.new)).device.gone ≡ false }
         // What only tells, what is meant to be answered by an error, and what was refused memory leave the pages.
-        ensures reads { is_stopped self.old ≡ false → (z : Sizes) (s : State) → IsVolumeOf P.state z s self.old → OnlyTells z (is_read_only self.old) s stamped.now result
+        ensures reads { is_stopped self.old ≡ false → (z : Sizes) (s : State) → IsVolumeOf P.state z s self.old → OnlyTells z (is_read_only self.old) s (stamped_of asked.now) result
             → StaysAs (P.state (pages_of self.old)) (P.state (pages_of self.new)) }
         // The device of a read-only volume is only read.
         ensures only_reads { is_read_only self.old ≡ true → (z : Sizes) (s : State) → IsVolumeOf P.state z s self.old
@@ -94,7 +95,7 @@ impl<P: PageStore> PageVolume<P> {
         ensures only_failed { is_read_only self.old ≡ true → is_stopped self.old ≡ false → (z : Sizes) (s : State) → IsVolumeOf P.state z s self.old → is_stop result ≡ true
             → HasFailed (P.state (pages_of self.new)).device }
     {
-        self.volume.call(stamped)
+        self.volume.ask(asked)
     }
 
     /// Does the commands in turn and adds their replies at the end of the vector. Where a reply finds no room its command

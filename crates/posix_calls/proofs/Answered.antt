@@ -21,3 +21,8 @@ call_answered state old c r new called z read_only s shown =
       reply_is = subst (λ only. Replies z only s c r) shown.1 told.reply_is;
       shown = λ goes. (called.stops shown.0 ∙ goes, called.read_only ∙ shown.1, subst (λ only. IsVolumeOf state z (after_one z only s c r) new) shown.1 (told.state_is goes));
     }
+
+-- of the same command
+pub called_as : {P : Type 0} (state : P → PagesState) (old : PageVolume P) (c k : Stamped) (r : Reply) (new : PageVolume P) → c ≡ k → IsCalled state old c r new
+    → IsCalled state old k r new
+called_as state old c k r new same called = subst (λ x. IsCalled state old x r new) same called

@@ -12,7 +12,7 @@ pub use formatting::{FormatFault, format};
 pub use mounting::MountFault;
 pub use paged_objects::a_shown_tree_is_on_the_flash;
 pub use posix_profile::{
-    Access, Bytes, Command, Errno, FilePath, Info, Kind, NameList, OpenFlags, Reply, SpaceInfo,
-    Stamped, Whence,
+    Access, Asked, Bytes, Command, Errno, FilePath, Info, Kind, NameList, OpenFlags, Reply,
+    Request, SpaceInfo, Stamped, Whence,
 };
 pub use volume::Volume;

@@ -2,6 +2,7 @@
 ghost use Rattle.std.specs.Prelude.{◌≡◌, ◌≤◌, ℕ, false, length, OnOk};
 ghost use Rattle.volume_terms.specs.Sizes.{most_written};
 ghost use Rattle.object_table.specs.Told.{table_sizes};
+ghost use Rattle.posix_profile.specs.Requests.{stamped_of};
 ghost use Rattle.posix_profile.specs.declared.reply.Reply.TheVariants as replies;
 
 use crate::ending::end_with;
@@ -9,7 +10,7 @@ use flash_pages::FlashPages;
 use nand_model::Nand;
 use page_volume::PageVolume;
 use pages::Pages;
-use posix_profile::{Errno, Info, Reply, Stamped};
+use posix_profile::{Asked, Errno, Info, Reply, Stamped};
 use std::alloc::AllocError;
 use trusted_nand::TrustedNand;
 
@@ -35,10 +36,17 @@ impl<N: Nand> Volume<N> {
     ghost use Rattle.posix_calls.specs.Volumes.{over_pages};
 
     /// Does a command and replies to it.
+    pub fn ask(&mut self, asked: &Asked<'_>) -> Reply
+        ensures { IsCalled ⟦<FlashPages<TrustedNand<N>> as Pages>⟧.state (over_pages self.old) (stamped_of asked.now) result (over_pages self.new) }
+    {
+        self.volume.ask(asked)
+    }
+
+    /// Does a command that is a value, and replies to it.
     pub fn call(&mut self, stamped: &Stamped) -> Reply
         ensures { IsCalled ⟦<FlashPages<TrustedNand<N>> as Pages>⟧.state (over_pages self.old) stamped.now result (over_pages self.new) }
     {
-        self.volume.call(stamped)
+        self.ask(&stamped.asked())
     }
 
     /// Does the commands in turn and adds their replies at the end of the vector. Where a reply finds no room its command

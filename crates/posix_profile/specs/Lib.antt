@@ -7,6 +7,7 @@ pub mod Changes
 pub mod HandleSteps
 pub mod NameSteps
 pub mod Steps
+pub mod Requests
 pub mod Runs
 pub mod Losses
 pub mod WellFormed

@@ -5,6 +5,7 @@ mod bytes;
 mod command;
 mod law;
 mod reply;
+mod request;
 
 pub use bytes::{Bytes, FilePath, NameList};
 pub use command::{Access, Command, OpenFlags, Stamped, Whence};
@@ -18,3 +19,4 @@ pub use law::{
     the_links_of_a_file_are_its_names, the_test_says_what_lies_below,
 };
 pub use reply::{Errno, Info, Kind, Reply, SpaceInfo};
+pub use request::{Asked, Request};

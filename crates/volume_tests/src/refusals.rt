@@ -30,7 +30,7 @@ impl Answers for Refusing {
     ghost shows = { λ _ _ _ _. ⊥ };
 
     fn answer(&mut self, stamped: &Stamped) -> Reply {
-        self.volume.call(stamped)
+        self.volume.ask(&stamped.asked())
     }
 
     ghost sound = { λ v z read_only s shown. absurd shown };

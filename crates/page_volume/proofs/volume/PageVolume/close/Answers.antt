@@ -7,9 +7,9 @@ use Rattle.page_volume.proofs.volume.PageVolume.close.Goals as goal
 pub returns : goal.returns
 returns g c first so_far =
     let b = c.args.self.now in
-    let e = c.call-reply.ensures in
+    let e = c.ask-reply.ensures in
     elim (cases_Bool (is_stopped b)) [
-      | inl stop ↦ closes_stopped g.P.Pages.state c.args.fd first b c.call-reply.new.self so_far stop (e.stopped stop).1
-      | inr runs ↦ closes_more g.P.Pages.state c.args.fd first b c.call-reply.new.self so_far 0 c.call-reply.result e.goes_on e.keeps.0 (e.leaves refl) runs (e.stops runs)
+      | inl stop ↦ closes_stopped g.P.Pages.state c.args.fd first b c.ask-reply.new.self so_far stop (e.stopped stop).1
+      | inr runs ↦ closes_more g.P.Pages.state c.args.fd first b c.ask-reply.new.self so_far 0 c.ask-reply.result e.goes_on e.keeps.0 (e.leaves refl) runs (e.stops runs)
           (e.replies runs) (e.state runs) (e.tree runs) (e.cause runs)
     ]

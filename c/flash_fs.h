@@ -12,8 +12,7 @@
  * Functions that change the volume may return FLASH_EROFS, of a volume that can only be read, and FLASH_ENOSPC: never unlink,
  * rmdir, and a truncate that does not lengthen, which are the way out of a full volume, nor close, fsync and sync.
  *
- * Of a volume that is stopped or not mounted, FLASH_EINVAL of flags or a whence that are none comes first, then FLASH_ENOMEM of
- * a path that is copied, then these errors; a stopped volume may return FLASH_ENOMEM to a write too.
+ * Of a volume that is stopped or not mounted, FLASH_EINVAL of flags or a whence that are none comes first, then these errors.
  *
  * A path is bytes up to a zero, as "/logs/today": at most 4,095, in each component at most 255. Every path starts at the root.
  * A moment is any number of 64 bits, as the seconds since 1970: the library has no clock. It is kept with what a call changes,

@@ -2,7 +2,6 @@
 use Rattle.std.specs.Prelude.{◌≡◌, ◌≢◌, ◌≤ℤ◌, ℕ, Bool, true, false, ℤ, pos, if◌then◌else◌}
 use Rattle.page_volume.specs.Volumes.{is_stopped}
 use Rattle.posix_calls.specs.Volumes.{over_pages}
-use Rattle.posix_profile.specs.Runs.{takes_no_memory}
 use Rattle.posix_profile.specs.declared.command.Stamped.{Stamped}
 use Rattle.posix_profile.specs.declared.reply.Errno.TheVariants as errors
 use Rattle.posix_profile.specs.declared.reply.Reply.{Reply}
@@ -13,12 +12,10 @@ use Rattle.flash_c.specs.declared.session.Session.{Session}
 use Rattle.flash_c.specs.declared.slot.Slot.{Slot}
 
 -- What a command in a slot is answered. The session of a full slot serves it, and the slot stays full. An empty slot answers EINVAL.
--- Where memory for the bytes of the command is refused it is not begun, and the slot is as it was.
 pub data Replied (serves : Session → Stamped → Reply → Session → Type 0) (old : Slot) (command : Stamped) : Reply → Slot → Type 0 where
   served : {reply : Reply} {new : Slot} → old.full ≡ true → new.full ≡ true → serves old.session command reply new.session
       → Replied serves old command reply new
   empty : {new : Slot} → old.full ≡ false → new ≡ old → Replied serves old command (replies.Error errors.EINVAL) new
-  refused : {new : Slot} → takes_no_memory command.command ≡ false → new ≡ old → Replied serves old command (replies.Error errors.ENOMEM) new
 
 -- a command that only succeeds or fails, in a slot
 abbrev pub IsDone : (Session → Stamped → Reply → Session → Type 0) → Slot → Stamped → ℤ → Slot → Type 0

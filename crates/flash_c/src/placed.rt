@@ -7,15 +7,14 @@ use crate::serve::Serve;
 use crate::session::{Session, count, read};
 use crate::slot::Slot;
 use crate::writing::write;
-use posix_calls::{Command, Errno, Stamped, Whence};
-use std::alloc::Global;
+use posix_calls::{Asked, Errno, Request, Whence};
 
 /// Moves the offset of a descriptor and returns it.
 fn seek<S: Serve>(session: &mut S, fd: u32, offset: i64, whence: Whence) -> i64
     ensures { Seeks S.serves session.old ((record { fd = fd; offset = offset }), whence) result session.new }
 {
-    let command = Command::Seek { fd, offset, whence };
-    count(session, &Stamped { moment: 0, command })
+    let request = Request::Seek { fd, offset, whence };
+    count(session, &Asked { moment: 0, request })
 }
 
 /// Sets the offset of a descriptor, and returns what it was.
@@ -60,7 +59,6 @@ pub(crate) fn read_at<S: Serve>(session: &mut S, fd: u32, buffer: &mut [u8], off
 
 /// Writes bytes at an offset. A write of no bytes goes before, so that the errors of a write come before those of a seek.
 pub(crate) fn write_at<S: Serve>(
-    alloc: Global,
     session: &mut S,
     moment: u64,
     fd: u32,
@@ -69,13 +67,13 @@ pub(crate) fn write_at<S: Serve>(
 ) -> i64
     ensures { IsWrittenAt S.serves session.old (record { moment = moment; place = record { fd = fd; offset = offset }; bytes = bytes.now }) result session.new }
 {
-    let none = write(alloc, session, moment, fd, &[]);
+    let none = write(session, moment, fd, &[]);
     if none < 0 {
         return none;
     }
     match go_to(session, fd, offset) {
         Ok(was) => {
-            let number = write(alloc, session, moment, fd, bytes);
+            let number = write(session, moment, fd, bytes);
             go_back(session, fd, was, number)
         }
         Err(number) => number,
@@ -97,7 +95,6 @@ pub extern "C" fn flash_pread(slot: &mut Slot, fd: u32, buffer: &mut [u8], offse
 /// Writes bytes at an offset and returns how many, as `flash_write`. The descriptor's offset stays.
 #[unsafe(no_mangle)]
 pub extern "C" fn flash_pwrite(
-    alloc: Global,
     slot: &mut Slot,
     fd: u32,
     bytes: &[u8],
@@ -110,5 +107,5 @@ pub extern "C" fn flash_pwrite(
     if !slot.is_full() {
         return i64::from(error_number(Errno::EINVAL));
     }
-    write_at(alloc, slot.session(), moment, fd, bytes, offset)
+    write_at(slot.session(), moment, fd, bytes, offset)
 }

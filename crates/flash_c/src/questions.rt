@@ -3,14 +3,12 @@ ghost use Rattle.flash_c.specs.Describing.{DescribesIn};
 ghost use Rattle.flash_c.specs.Questions.{IsRead, IsStat, IsListed, IsRoom};
 ghost use Rattle.flash_c.specs.Slots.{Replied};
 
-use crate::commands::path_of;
 use crate::filling::{FlashInfo, FlashSpace};
 use crate::numbers::error_number;
 use crate::serve::Serve;
 use crate::session::{Session, fstat, list, read, space, stat};
 use crate::slot::Slot;
 use posix_calls::Errno;
-use std::alloc::Global;
 
 /// Reads at the descriptor's offset: puts the bytes at the front of the buffer and returns how many.
 #[unsafe(no_mangle)]
@@ -25,17 +23,9 @@ pub extern "C" fn flash_read(slot: &mut Slot, fd: u32, buffer: &mut [u8]) -> i64
 
 /// Reports what a path leads to.
 #[unsafe(no_mangle)]
-pub extern "C" fn flash_stat(
-    alloc: Global,
-    slot: &mut Slot,
-    path: &[u8],
-    info: &mut FlashInfo,
-) -> i32
+pub extern "C" fn flash_stat(slot: &mut Slot, path: &[u8], info: &mut FlashInfo) -> i32
     ensures { IsStat (Replied ⟦<Session as Serve>⟧.serves) slot.old (record { path = path.now; before = info.old; number = result; after = info.new }) slot.new }
 {
-    let Ok(path) = path_of(alloc, path) else {
-        return error_number(Errno::ENOMEM);
-    };
     if !slot.is_full() {
         return error_number(Errno::EINVAL);
     }
@@ -56,12 +46,9 @@ pub extern "C" fn flash_fstat(slot: &mut Slot, fd: u32, info: &mut FlashInfo) ->
 /// Puts the names of a directory in the buffer, each with a zero after it, and returns how many bytes they take. ERANGE: the
 /// buffer has no room for them, and stays.
 #[unsafe(no_mangle)]
-pub extern "C" fn flash_list(alloc: Global, slot: &mut Slot, path: &[u8], buffer: &mut [u8]) -> i64
+pub extern "C" fn flash_list(slot: &mut Slot, path: &[u8], buffer: &mut [u8]) -> i64
     ensures { IsListed (Replied ⟦<Session as Serve>⟧.serves) slot.old (record { path = path.now; before = buffer.old; number = result; after = buffer.new }) slot.new }
 {
-    let Ok(path) = path_of(alloc, path) else {
-        return i64::from(error_number(Errno::ENOMEM));
-    };
     if !slot.is_full() {
         return i64::from(error_number(Errno::EINVAL));
     }

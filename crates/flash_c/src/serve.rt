@@ -1,5 +1,6 @@
 // What serves the commands of a session.
-ghost use Rattle.std.specs.Prelude.{◌≤◌, ℕ, Result};
+ghost use Rattle.std.specs.Prelude.{ℕ, Result};
+ghost use Rattle.posix_profile.specs.Requests.{stamped_of};
 ghost use Rattle.posix_profile.specs.declared.command.Stamped.{Stamped};
 ghost use Rattle.posix_profile.specs.declared.reply.Errno.{Errno};
 ghost use Rattle.posix_profile.specs.declared.reply.Info.{Info};
@@ -11,7 +12,7 @@ ghost use Rattle.posix_calls.specs.Describing.{IsDescribed};
 use flash_pages::FlashPages;
 use nand_model::Nand;
 use pages::Pages;
-use posix_calls::{Errno, Info, Reply, Stamped, Volume};
+use posix_calls::{Asked, Errno, Info, Reply, Volume};
 use trusted_nand::TrustedNand;
 
 /// What serves commands.
@@ -22,12 +23,8 @@ pub(crate) trait Serve {
     /// What is reported of a descriptor.
     ghost describes: { Self → ℕ → Result Info Errno → Type 0 };
 
-    fn serve(&mut self, command: &Stamped) -> Reply
-        ensures { serves self.old command.now result self.new };
-
-    /// How many bytes a command is handed to write at most: some, and no more than one writes, so that none is copied twice.
-    fn most_handed_in(&self) -> usize
-        ensures { 1 ≤ result };
+    fn serve(&mut self, asked: &Asked<'_>) -> Reply
+        ensures { serves self.old (stamped_of asked.now) result self.new };
 
     /// What Stat reports of the object that a descriptor stands for.
     fn describe(&self, fd: u32) -> Result<Info, Errno>
@@ -40,12 +37,8 @@ impl<N: Nand> Serve for Volume<N> {
 
     ghost describes = { λ v. IsDescribed ⟦<FlashPages<TrustedNand<N>> as Pages>⟧.state (over_pages v) };
 
-    fn serve(&mut self, command: &Stamped) -> Reply {
-        self.call(command)
-    }
-
-    fn most_handed_in(&self) -> usize {
-        (self.most_written() as usize).max(1)
+    fn serve(&mut self, asked: &Asked<'_>) -> Reply {
+        self.ask(asked)
     }
 
     fn describe(&self, fd: u32) -> Result<Info, Errno> {

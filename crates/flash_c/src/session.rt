@@ -1,5 +1,6 @@
 // A session of commands, over anything that serves them: what each kind of command returns.
 ghost use Rattle.std.specs.Prelude.{◌≡◌};
+ghost use Rattle.posix_profile.specs.Requests.{stamped_of};
 ghost use Rattle.posix_profile.specs.declared.reply.Reply.{Reply};
 ghost use Rattle.flash_c.specs.Numbers.{done_number, count_number};
 ghost use Rattle.flash_c.specs.Describing.{stat_reply, IsFstat};
@@ -10,7 +11,7 @@ use crate::names::put_names;
 use crate::numbers::{count_number, done_number};
 use crate::serve::Serve;
 use port_nand::{FilePort, PortDevice};
-use posix_calls::{Command, Errno, FilePath, Info, Reply, Stamped, Volume};
+use posix_calls::{Asked, Errno, Info, Reply, Request, Volume};
 
 /// A device behind the port of a file.
 pub(crate) type FileNand = PortDevice<FilePort>;
@@ -26,12 +27,8 @@ impl Serve for Session {
 
     ghost describes = { λ session. ⟦<Volume<FileNand> as Serve>⟧.describes session.volume };
 
-    fn serve(&mut self, command: &Stamped) -> Reply {
-        self.volume.serve(command)
-    }
-
-    fn most_handed_in(&self) -> usize {
-        self.volume.most_handed_in()
+    fn serve(&mut self, asked: &Asked<'_>) -> Reply {
+        self.volume.serve(asked)
     }
 
     fn describe(&self, fd: u32) -> Result<Info, Errno> {
@@ -40,18 +37,17 @@ impl Serve for Session {
 }
 
 /// Does a command that only succeeds or fails.
-pub(crate) fn done<S: Serve>(session: &mut S, command: &Stamped) -> i32
-    ensures { (reply : Reply) × S.serves session.old command.now reply session.new × (result ≡ done_number reply) }
+pub(crate) fn done<S: Serve>(session: &mut S, asked: &Asked<'_>) -> i32
+    ensures { (reply : Reply) × S.serves session.old (stamped_of asked.now) reply session.new × (result ≡ done_number reply) }
 {
-    done_number(&session.serve(command))
+    done_number(&session.serve(asked))
 }
 
 /// Does a command that counts.
-#[inline]
-pub(crate) fn count<S: Serve>(session: &mut S, command: &Stamped) -> i64
-    ensures { (reply : Reply) × S.serves session.old command.now reply session.new × (result ≡ count_number reply) }
+pub(crate) fn count<S: Serve>(session: &mut S, asked: &Asked<'_>) -> i64
+    ensures { (reply : Reply) × S.serves session.old (stamped_of asked.now) reply session.new × (result ≡ count_number reply) }
 {
-    count_number(&session.serve(command))
+    count_number(&session.serve(asked))
 }
 
 /// Reads at a descriptor's offset into the buffer.
@@ -59,16 +55,16 @@ pub(crate) fn read<S: Serve>(session: &mut S, fd: u32, buffer: &mut [u8]) -> i64
     ensures { IsRead S.serves session.old (record { fd = fd; before = buffer.old; number = result; after = buffer.new }) session.new }
 {
     let count = buffer.len().min(u32::MAX as usize) as u32;
-    let command = Command::Read { fd, count };
-    put_data(buffer, &session.serve(&Stamped { moment: 0, command }))
+    let request = Request::Read { fd, count };
+    put_data(buffer, &session.serve(&Asked { moment: 0, request }))
 }
 
 /// Reports what a path leads to in the struct.
-pub(crate) fn stat<S: Serve>(session: &mut S, path: FilePath, info: &mut FlashInfo) -> i32
-    ensures { IsStat S.serves session.old (record { path = path; before = info.old; number = result; after = info.new }) session.new }
+pub(crate) fn stat<S: Serve>(session: &mut S, path: &[u8], info: &mut FlashInfo) -> i32
+    ensures { IsStat S.serves session.old (record { path = path.now; before = info.old; number = result; after = info.new }) session.new }
 {
-    let command = Command::Stat { path };
-    put_info(info, &session.serve(&Stamped { moment: 0, command }))
+    let request = Request::Stat { path };
+    put_info(info, &session.serve(&Asked { moment: 0, request }))
 }
 
 /// The reply of a Stat that reports this.
@@ -89,17 +85,17 @@ pub(crate) fn fstat<S: Serve>(session: &S, fd: u32, info: &mut FlashInfo) -> i32
 }
 
 /// Puts the names of a directory in the buffer.
-pub(crate) fn list<S: Serve>(session: &mut S, path: FilePath, buffer: &mut [u8]) -> i64
-    ensures { IsListed S.serves session.old (record { path = path; before = buffer.old; number = result; after = buffer.new }) session.new }
+pub(crate) fn list<S: Serve>(session: &mut S, path: &[u8], buffer: &mut [u8]) -> i64
+    ensures { IsListed S.serves session.old (record { path = path.now; before = buffer.old; number = result; after = buffer.new }) session.new }
 {
-    let command = Command::List { path };
-    put_names(buffer, &session.serve(&Stamped { moment: 0, command }))
+    let request = Request::List { path };
+    put_names(buffer, &session.serve(&Asked { moment: 0, request }))
 }
 
 /// Reports the room of the volume in the struct.
 pub(crate) fn space<S: Serve>(session: &mut S, space: &mut FlashSpace) -> i32
     ensures { IsRoom S.serves session.old (record { before = space.old; number = result; after = space.new }) session.new }
 {
-    let command = Command::Space;
-    put_space(space, &session.serve(&Stamped { moment: 0, command }))
+    let request = Request::Space;
+    put_space(space, &session.serve(&Asked { moment: 0, request }))
 }

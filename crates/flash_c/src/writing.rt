@@ -1,27 +1,11 @@
 // A write that goes on until all is written.
 ghost use Rattle.std.specs.Prelude.{◌≡◌, ◌≤◌, ◌<◌, ◌⊎◌, ℕ, IfSome, IfNone};
 ghost use Rattle.posix_profile.specs.declared.reply.Reply.TheVariants as replies;
-ghost use Rattle.flash_c.specs.Sessions.{write_number, HandsIn, IsWritten};
+ghost use Rattle.flash_c.specs.Sessions.{write_number, IsWritten};
 
 use crate::numbers::{count_number, signed};
 use crate::serve::Serve;
-use posix_calls::{Bytes, Command, Errno, Reply, Stamped};
-use std::alloc::Global;
-
-/// Writes the first of the bytes by one command: as many as it is handed at most. Where memory for them is refused it is not begun.
-fn write_some<S: Serve>(alloc: Global, session: &mut S, moment: u64, fd: u32, bytes: &[u8]) -> Reply
-    ensures { HandsIn S.serves (record { moment = moment; fd = fd; bytes = bytes.now }) session.old result session.new }
-{
-    let length = bytes.len().min(session.most_handed_in());
-    let Ok(bytes) = Vec::from_slice(alloc, &bytes[..length]) else {
-        return Reply::Error(Errno::ENOMEM);
-    };
-    let bytes = Bytes::new(bytes);
-    session.serve(&Stamped {
-        moment,
-        command: Command::Write { fd, bytes },
-    })
-}
+use posix_calls::{Asked, Reply, Request};
 
 /// How many bytes were written, or the error where none were.
 fn write_number(done: usize, reply: &Reply) -> i64
@@ -46,19 +30,14 @@ fn goes_on(reply: &Reply, left: usize) -> Option<usize>
 }
 
 /// Writes bytes at the offset of a descriptor, by as many commands as it takes.
-pub(crate) fn write<S: Serve>(
-    alloc: Global,
-    session: &mut S,
-    moment: u64,
-    fd: u32,
-    bytes: &[u8],
-) -> i64
+pub(crate) fn write<S: Serve>(session: &mut S, moment: u64, fd: u32, bytes: &[u8]) -> i64
     ensures { IsWritten S.serves (record { moment = moment; fd = fd; bytes = bytes.now }) session.old result session.new }
 {
     let mut done = 0usize;
     'writes: loop {
         let rest = &bytes[done..];
-        let reply = write_some(alloc, session, moment, fd, rest);
+        let request = Request::Write { fd, bytes: rest };
+        let reply = session.serve(&Asked { moment, request });
         match goes_on(&reply, rest.len()) {
             Some(count) => done += count,
             None => return write_number(done, &reply),

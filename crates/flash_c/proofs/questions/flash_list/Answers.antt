@@ -1,25 +1,20 @@
-use Rattle.std.proofs.Common.{◌∙◌, ℕ, ℤ, List, sym, ap, refl, to_z, of_z, w32, w64}
+use Rattle.std.proofs.Common.{◌∙◌, ℤ, sym, ap, refl, to_z, of_z, w32, w64}
 use Rattle.std.proofs.lemmas.Int.{to_z-of_z}
-use Rattle.posix_profile.specs.declared.command.Command.TheVariants as commands
 use Rattle.posix_profile.specs.declared.reply.Errno.TheVariants as errors
 use Rattle.posix_profile.specs.declared.reply.Reply.TheVariants as replies
-use Rattle.flash_c.specs.Sessions.{at}
-use Rattle.flash_c.specs.Slots.{empty, refused}
+use Rattle.flash_c.specs.Slots.{empty}
 use Rattle.flash_c.proofs.Replies.{served_in_place}
 use Rattle.flash_c.proofs.questions.flash_list.Goals as goal
 
-pub returns-in_default : goal.returns-in_default
-returns-in_default c = (replies.Error errors.ENOMEM, refused refl refl, ap (λ (n : ℤ). to_z w64 (of_z w64 n)) (c.from.ensures ∙ ap (λ (n : ℤ). to_z w32 (of_z w32 n)) c.error_number.ensures.number), refl)
-
 pub returns-then-not-is_full : goal.returns-then-not-is_full
-returns-then-not-is_full c = (replies.Error errors.EINVAL, empty (sym c.is_full.ensures.full ∙ c.if-not-is_full.true) c.is_full.ensures.same, ap (λ (n : ℤ). to_z w64 (of_z w64 n)) (c.from-then-not-is_full.ensures ∙ ap (λ (n : ℤ). to_z w32 (of_z w32 n)) c.error_number-then-not-is_full.ensures.number), refl)
+returns-then-not-is_full c = (replies.Error errors.EINVAL, empty (sym c.is_full.ensures.full ∙ c.if-not-is_full.true) c.is_full.ensures.same, ap (λ (n : ℤ). to_z w64 (of_z w64 n)) (c.from.ensures ∙ ap (λ (n : ℤ). to_z w32 (of_z w32 n)) c.error_number.ensures.number), refl)
 
 pub returns : goal.returns
 returns c =
     let m = c.list.ensures in (
       m.0,
       served_in_place _ c.args.slot.now c.is_full.new.self c.session.result.now c.list.new.session _ _ m.0
-          (sym c.is_full.ensures.full ∙ c.if-not-is_full.false) c.is_full.ensures.same c.session.ensures.session (ap (λ (p : List ℕ). at 0 (commands.List p)) c.in-Ok.ensures) m.1,
+          (sym c.is_full.ensures.full ∙ c.if-not-is_full.false) c.is_full.ensures.same c.session.ensures.session refl m.1,
       to_z-of_z w64 c.list.result (search (c.list.type_inv)) ∙ m.2,
       m.3,
     )

@@ -1,13 +1,9 @@
-use Rattle.std.proofs.Common.{List, ℕ, refl, ap, ap₂, subst, w64}
+use Rattle.std.proofs.Common.{refl, ap, w64}
 use Rattle.std.specs.Prelude.{Ok}
 use Rattle.std.proofs.lemmas.Int.{to_z-of_z}
-use Rattle.posix_profile.specs.HandleSteps.{open_step, write_step, seek_step, truncate_step}
-use Rattle.posix_profile.specs.NameSteps.{stat_step, mkdir_step, rmdir_step, link_step, unlink_step, rename_step, list_step}
+use Rattle.posix_profile.specs.HandleSteps.{seek_step, truncate_step}
 use Rattle.posix_profile.specs.Requests.{command_of, stamped_of}
 use Rattle.posix_profile.specs.Steps.{step_at}
-use Rattle.posix_profile.specs.declared.command.Command.TheVariants as commands
-use Rattle.command_plans.specs.Classes.{class_of}
-use Rattle.command_plans.specs.Plans.{Plans, Tries}
 use Rattle.object_commands.proofs.Ending.{plans_step}
 use Rattle.command_plans.specs.laws.Plan.{plans_of, power_of}
 use Rattle.object_commands.proofs.volume.plan.Goals as goal

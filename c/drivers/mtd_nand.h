@@ -33,8 +33,9 @@ struct mtd_nand {
     uint8_t page[MTD_NAND_MOST_PAGE_BYTES];
 };
 
-/* Opens a device: for tags of 48 bytes where the spare area has room for them, else of 24. Of its blocks those from `first` on are used, so many as `blocks` says, or all that
- * follow where that is 0. Returns 0; FLASH_ENOENT if it cannot be opened; or why it is refused.
+/* Opens a device: for tags of 48 bytes where the spare area has room for them, else of 24. Of its blocks those from `first` on
+ * are used, so many as `blocks` says, or all that follow where that is 0. Returns 0; FLASH_ENOENT if it cannot be opened; or why
+ * it is refused.
  */
 int mtd_nand_open(struct mtd_nand *nand, const char *path, uint32_t first, uint32_t blocks);
 

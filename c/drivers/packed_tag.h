@@ -10,7 +10,7 @@
 extern "C" {
 #endif
 
-/* Packs a tag of FLASH_TAG_BYTES to FLASH_PACKED_TAG_BYTES. False where a field has no room, as no field of a volume that a part lives to see. */
+/* Packs a tag of FLASH_TAG_BYTES to FLASH_PACKED_TAG_BYTES. False where a field has no room: no volume comes near (docs/FORMATS.md). */
 bool packed_tag_pack(const uint8_t *tag, uint8_t *packed);
 
 /* Unpacks a tag: any 24 bytes are one. */

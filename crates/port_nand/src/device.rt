@@ -7,8 +7,8 @@ use crate::driver::Driver;
 use crate::port::Port;
 use nand_model::{EraseFault, Geometry, Gone, Nand, PageKind, ProgramFault};
 
-/// A device whose driver is behind a port and keeps 48 bytes of a tag with a page. It keeps the marks, the next page of each block and whether power is gone: once it is,
-/// the driver is asked nothing.
+/// A device whose driver is behind a port and keeps 48 bytes of a tag with a page. The marks, the next page of each block and
+/// whether power is gone are known of it: once power is gone the driver is asked nothing.
 #[derive(Drop)]
 pub struct PortNand<P: Port> {
     pub(crate) driver: Driver<P>,

@@ -2,18 +2,14 @@
 use Rattle.std.proofs.Common.{◌≡◌, ℕ, zero, suc, ◌<◌, ◌^◌, List, [], ◌∷◌, ◌++◌, slice_get, Option, Some, None, refl, sym, ap, subst, ◌∙◌, arith, inl, inr}
 use Rattle.std.specs.Option.{option_map_or}
 use Rattle.std.proofs.lemmas.Bool.{cases_lt}
-use Rattle.flash_tree.specs.Places.{ComesBefore}
 use Rattle.chunk_index.specs.declared.form.KeptPage.{KeptPage}
 use Rattle.chunk_index.specs.declared.form.KeptKey.{KeptKey}
 use Rattle.chunk_index.specs.Kept.{KeyRises, IsListOf}
+use Rattle.chunk_index.specs.laws.Following.{Before}
 use Rattle.chunk_index.specs.Maps.{KeptMap}
 use Rattle.checkpoint_writing.specs.Listing.{key_at, chunk_keys, object_keys, key_end, kept_keys}
 
 -- ---- lists of keys
-
--- the key of one comes before that of another
-abbrev pub Before : KeptKey → KeptKey → Type 0
-Before j k = ComesBefore j.key.object j.key.chunk k.key.object k.key.chunk
 
 -- each key of the list comes after a key
 abbrev After : KeptKey → List KeptKey → Type 0

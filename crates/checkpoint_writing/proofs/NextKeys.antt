@@ -1,94 +1,21 @@
--- The kept keys, one after another.
-use Rattle.std.proofs.Common.{◌≡◌, ℕ, zero, suc, ◌<◌, ◌≤◌, List, slice_get, Option, Some, None, refl, sym, ap, subst, ◌∙◌, arith, inl, inr}
+-- The parts of a checkpoint that are written of the kept keys, one after another.
+use Rattle.std.proofs.Common.{◌≡◌, ℕ, suc, List, Option, Some, None, sym, ap, ◌∙◌}
 use Rattle.std.specs.Prelude.{replicate}
 use Rattle.std.specs.Option.{option_map_or, option_map}
-use Rattle.std.proofs.lemmas.Bool.{cases_eq, cases_lt}
-use Rattle.std.proofs.lemmas.Option.{slice_get_within, slice_get-map}
+use Rattle.std.proofs.lemmas.Option.{slice_get-map}
 use Rattle.flash_tree.specs.declared.place.Key.{Key}
-use Rattle.volume_terms.specs.laws.List.{slice_get_there, mapped_at}
+use Rattle.volume_terms.specs.laws.List.{mapped_at}
 use Rattle.chunk_index.specs.declared.form.KeptKey.{KeptKey}
-use Rattle.chunk_index.specs.Kept.{KeyRises, IsListOf, IsAfterKey, IsNextKept}
+use Rattle.chunk_index.specs.Kept.{IsListOf, IsNextKept, last_key}
+use Rattle.chunk_index.specs.laws.Following.{place_is}
 use Rattle.chunk_index.specs.Maps.{KeptMap}
 use Rattle.page_tags.specs.Checks.{check_entry_bytes, check_slot}
 use Rattle.page_tags.specs.declared.check.CheckEntry.{CheckEntry}
-use Rattle.checkpoint_writing.specs.Listing.{check_entry, check_entries, last_key}
-use Rattle.checkpoint_writing.proofs.KeyLists.{Before}
+use Rattle.checkpoint_writing.specs.Listing.{check_entry, check_entries}
 
-not_both : (j k : KeptKey) → Before j k → Before k j → ⊥
-not_both j k (inl a) (inl b) = omega (arith, a, b)
-not_both j k (inl a) (inr b) = omega (arith, a, b.0)
-not_both j k (inr a) (inl b) = omega (arith, a.0, b)
-not_both j k (inr a) (inr b) = omega (arith, a.1, b.1)
-
--- a key comes after another, if there is one
-abbrev ComesAfter : KeptKey → Option Key → Type 0
-ComesAfter k last = IsAfterKey k.key.object k.key.chunk last
-
-module _ (ks : List KeptKey) (rise : KeyRises ks) where
-  -- from place n on the keys come after the first n
-  later_after : (n i : ℕ) (k : KeptKey) → n ≤ i → slice_get ks i ≡ Some k → ComesAfter k (last_key ks n)
-  later_after zero i k le at = tt
-  later_after (suc n) i k le at = go (later_after n i k (omega (arith, le)) at) (slice_get ks n) refl where
-    go : ComesAfter k (last_key ks n) → (v : Option KeptKey) → slice_get ks n ≡ v → ComesAfter k (option_map_or (λ (l : KeptKey). Some l.key) v (last_key ks n))
-    go before None none = before
-    go before (Some l) some = rise n i l k (omega (arith, le)) some at
-
-  -- and before it none does
-  earlier_not : (n i : ℕ) (k : KeptKey) → i < n → slice_get ks i ≡ Some k → ComesAfter k (last_key ks n) → ⊥
-  earlier_not zero i k lt at after = omega (arith, lt)
-  earlier_not (suc n) i k lt at after = go (λ less. earlier_not n i k less at) (slice_get ks n) refl after where
-    go : (i < n → ComesAfter k (last_key ks n) → ⊥) → (v : Option KeptKey) → slice_get ks n ≡ v → ComesAfter k (option_map_or (λ (l : KeptKey). Some l.key) v (last_key ks n)) → ⊥
-    go before None none is = elim (cases_eq i n) [
-      | inl e ↦ let two : None ≡ Some k = sym none ∙ ap (slice_get ks) (sym e) ∙ at in cc
-      | inr ne ↦ before (omega (arith, lt, ne)) is
-    ]
-    go before (Some l) some is = elim (cases_eq i n) [
-      | inl e ↦
-          let both : Some l ≡ Some k = sym some ∙ ap (slice_get ks) (sym e) ∙ at in
-          let same : l ≡ k = cc in
-          let itself : Before k k = subst (λ x. Before x k) same is in
-          not_both k k itself itself
-      | inr ne ↦ not_both k l (rise i n k l (omega (arith, lt, ne)) at some) is
-    ]
-
--- the next kept key after the first n on the list is the one at place n
-pub next_is : (m : KeptMap) (ks : List KeptKey) → IsListOf m ks → (n : ℕ) (r : Option KeptKey) → IsNextKept m (last_key ks n) r → slice_get ks n ≡ r
-next_is m ks list n None none = go (slice_get ks n) refl where
-  go : (v : Option KeptKey) → slice_get ks n ≡ v → slice_get ks n ≡ None
-  go None is = is
-  go (Some k) is =
-      let two = sym (none k.key.object k.key.chunk (later_after ks list.rise n n k (omega arith) is)) ∙ list.each n k is in
-      absurd cc
-next_is m ks list n (Some r) (kept, after, first) =
-    let there = list.all r.key.object r.key.chunk r.at kept in
-    let at : slice_get ks there.0 ≡ Some r = there.1 in
-    elim (cases_lt there.0 n) [
-      | inl lt ↦ absurd (earlier_not ks list.rise n there.0 r lt at after)
-      | inr ge ↦ elim (cases_eq there.0 n) [
-        | inl e ↦ ap (slice_get ks) (sym e) ∙ at
-        | inr ne ↦
-            let within = slice_get_within ks there.0 r at in
-            let here = slice_get_there ks n (omega (arith, within, ge, ne)) in
-            let k : KeptKey = here.0 in
-            let none = first k.key.object k.key.chunk (later_after ks list.rise n n k (omega arith) here.1) (list.rise n there.0 k r (omega (arith, ge, ne)) here.1 at) in
-            let two = sym none ∙ list.each n k here.1 in
-            absurd cc
-      ]
-    ]
-
--- and it is the last of the first n + 1, or the last of these is that of the first n
 module _ (m : KeptMap) (ks : List KeptKey) (list : IsListOf m ks) (n : ℕ) (last : Option Key) (same : last ≡ last_key ks n) where
-  place_is : (r : Option KeptKey) → IsNextKept m last r → slice_get ks n ≡ r
-  place_is r is = next_is m ks list n r (subst (λ l. IsNextKept m l r) same is)
-
-  pub key_some : (k : KeptKey) → IsNextKept m last (Some k) → Some k.key ≡ last_key ks (suc n)
-  key_some k is = sym (ap (λ (v : Option KeptKey). option_map_or (λ (l : KeptKey). Some l.key) v (last_key ks n)) (place_is (Some k) is))
-
-  pub key_none : IsNextKept m last None → last ≡ last_key ks (suc n)
-  key_none is = same ∙ sym (ap (λ (v : Option KeptKey). option_map_or (λ (l : KeptKey). Some l.key) v (last_key ks n)) (place_is None is))
-
   pub part_some : (k : KeptKey) → IsNextKept m last (Some k) → check_entry_bytes (check_entry k) ≡ check_slot (check_entries ks) (suc n)
-  part_some k is = sym (ap (λ (v : Option CheckEntry). option_map_or check_entry_bytes v (replicate 32 0)) (mapped_at check_entry ks n k (place_is (Some k) is)))
+  part_some k is = sym (ap (λ (v : Option CheckEntry). option_map_or check_entry_bytes v (replicate 32 0)) (mapped_at check_entry ks n k (place_is m ks list n last same (Some k) is)))
 
   pub part_none : IsNextKept m last None → replicate 32 0 ≡ check_slot (check_entries ks) (suc n)
-  part_none is = sym (ap (λ (v : Option CheckEntry). option_map_or check_entry_bytes v (replicate 32 0)) (slice_get-map check_entry ks n ∙ ap (λ (v : Option KeptKey). option_map check_entry v) (place_is None is)))
+  part_none is = sym (ap (λ (v : Option CheckEntry). option_map_or check_entry_bytes v (replicate 32 0)) (slice_get-map check_entry ks n ∙ ap (λ (v : Option KeptKey). option_map check_entry v) (place_is m ks list n last same None is)))

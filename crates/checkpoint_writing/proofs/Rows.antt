@@ -7,9 +7,9 @@ use borrow.Rule.Slice.PartMut.{put_mid}
 use Rattle.flash_tree.specs.declared.place.Key.{Key}
 use Rattle.page_tags.specs.Checks.{check_slot}
 use Rattle.chunk_index.specs.declared.form.KeptKey.{KeptKey}
-use Rattle.chunk_index.specs.Kept.{IsListOf}
+use Rattle.chunk_index.specs.Kept.{IsListOf, last_key}
 use Rattle.chunk_index.specs.Maps.{KeptMap}
-use Rattle.checkpoint_writing.specs.Listing.{check_entries, last_key}
+use Rattle.checkpoint_writing.specs.Listing.{check_entries}
 
 -- a part that is written in place keeps the length
 length-put_mid : (a k : ℕ) (xs ys : List ℕ) → a + k ≤ length xs → length ys ≡ k → length (put_mid a k xs ys) ≡ length xs

@@ -1,9 +1,8 @@
 -- The entries of a checkpoint: a key each with its kept page, in rising order.
-use Rattle.std.specs.Prelude.{ℕ, zero, suc, ◌^◌, List, [], ◌∷◌, ◌++◌, slice_get, map, flat_map, Option, Some, None}
+use Rattle.std.specs.Prelude.{ℕ, zero, suc, ◌^◌, List, [], ◌∷◌, ◌++◌, map, flat_map}
 use Rattle.std.specs.List.{range_with_len}
 use Rattle.std.specs.Option.{option_map_or}
 use Rattle.page_tags.specs.Checks.{check_slot}
-use Rattle.flash_tree.specs.declared.place.Key.{Key}
 use Rattle.page_tags.specs.declared.check.CheckEntry.{CheckEntry}
 use Rattle.chunk_index.specs.declared.form.KeptPage.{KeptPage}
 use Rattle.chunk_index.specs.declared.form.KeptKey.{KeptKey}
@@ -47,8 +46,3 @@ HasKeys x ks = IsListOf (kept_pages x) ks
 -- n parts of 32 bytes of a checkpoint with these entries, from one on
 abbrev pub parts_from : List CheckEntry → (first n : ℕ) → List ℕ
 parts_from entries first n = flat_map (check_slot entries) (range_with_len first n)
-
--- the key of the last of the first n on a list; with none of them there is none
-abbrev pub last_key : List KeptKey → ℕ → Option Key
-last_key ks zero = None
-last_key ks (suc n) = option_map_or (λ (k : KeptKey). Some k.key) (slice_get ks n) (last_key ks n)

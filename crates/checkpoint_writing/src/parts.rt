@@ -2,7 +2,8 @@
 ghost use Rattle.std.specs.Prelude.{◌≡◌, ◌<◌, ◌+◌, ◌-◌, ◌*◌, ◌/◌, ◌^◌, ℕ, suc, List, length};
 ghost use Rattle.page_tags.specs.Checks.{check_slot};
 ghost use Rattle.chunk_index.specs.declared.form.KeptKey.{KeptKey};
-ghost use Rattle.checkpoint_writing.specs.Listing.{HasKeys, check_entry, check_entries, last_key, parts_from};
+ghost use Rattle.chunk_index.specs.Kept.{last_key};
+ghost use Rattle.checkpoint_writing.specs.Listing.{HasKeys, check_entry, check_entries, parts_from};
 
 use chunk_index::{Index, KeptKey};
 use flash_tree::Key;
@@ -19,27 +20,6 @@ fn entry_of(kept: KeptKey) -> CheckEntry
         block: kept.at.block,
         page: kept.at.page,
     }
-}
-
-/// The first kept key after another, or the same where there is none.
-fn key_after(index: &Index, last: Option<Key>) -> Option<Key>
-    ensures { (ks : List KeptKey) (n : ℕ) → HasKeys index.now ks → last ≡ last_key ks n → result ≡ last_key ks (suc n) }
-{
-    match index.next_kept(last) {
-        Some(kept) => Some(kept.key),
-        None => last,
-    }
-}
-
-/// The last of the first `n` kept keys.
-fn last_of(index: &Index, n: u32) -> Option<Key>
-    ensures { (ks : List KeptKey) → HasKeys index.now ks → result ≡ last_key ks n }
-{
-    let mut last = None;
-    for _passed in 0..n {
-        last = key_after(index, last);
-    }
-    last
 }
 
 /// Writes the entry of the first kept key after another, or zeros where there is none.
@@ -81,7 +61,7 @@ pub(crate) fn write_parts(index: &Index, count: u64, first: u32, page: &mut [u8]
     ensures size { length page.new ≡ length page.old }
     ensures parts { (ks : List KeptKey) → HasKeys index.now ks → count ≡ length ks → page.new ≡ parts_from (check_entries ks) first (length page.old / 32) }
 {
-    let mut last = last_of(index, first.saturating_sub(1));
+    let mut last = index.last_kept(first.saturating_sub(1));
     for k in 0..page.len() / 32 {
         let part = &mut page[32 * k..32 * k + 32];
         last = write_part(index, count, first + k as u32, last, part);

@@ -18,6 +18,7 @@ pub mod Staying
 pub mod Totals
 pub mod Rising
 pub mod Following
+pub mod PassedKeys
 pub mod Freeing
 pub mod Once
 pub mod Kept

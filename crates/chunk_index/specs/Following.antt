@@ -1,8 +1,11 @@
 -- The kept key that comes next.
-use Rattle.std.specs.Prelude.{◌≡◌, ◌<◌, ◌≤◌, ℕ, List, length, get_or, Option, Some, None}
+use Rattle.std.specs.Prelude.{◌≡◌, ◌⊎◌, ◌<◌, ◌≤◌, ℕ, zero, suc, ◌+◌, List, [], length, get_or, slice_get, Option, Some, None}
+use Rattle.std.specs.Option.{option_map_or}
 use Rattle.chunk_index.specs.declared.form.KeptPage.{KeptPage}
 use Rattle.chunk_index.specs.declared.form.KeptKey.{KeptKey}
 use Rattle.chunk_index.specs.declared.entry.KeyEntry.{KeyEntry}
+use Rattle.chunk_index.specs.declared.object.ObjectEntries.{ObjectEntries}
+use Rattle.chunk_index.specs.declared.passing.Passed.{Passed}
 use Rattle.chunk_index.specs.Lists.{find_by}
 use Rattle.chunk_index.specs.Entries.{chunk, kept_of}
 use Rattle.chunk_index.specs.Shelves.{IsAfterNumber}
@@ -29,3 +32,26 @@ abbrev pub IsNextBeyond : KeptMap → Option ℕ → Option KeptKey → Type 0
 IsNextBeyond m object None = (o c : ℕ) → IsAfterNumber o object → m o c ≡ None
 IsNextBeyond m object (Some k) = (m k.key.object k.key.chunk ≡ Some k.at) × IsAfterNumber k.key.object object
     × ((o c : ℕ) → IsAfterNumber o object → ComesBefore o c k.key.object k.key.chunk → m o c ≡ None)
+
+-- the entries of an object that is here, or none
+abbrev pub items_in : Option ObjectEntries → List KeyEntry
+items_in None = []
+items_in (Some x) = x.entries.items
+
+-- what is passed once an entry of an object was, if it is there: a key more, where a page of it is kept
+abbrev pub pass_entry : ℕ → Option KeyEntry → Passed → Passed
+pass_entry o None passed = passed
+pass_entry o (Some e) passed = option_map_or (λ (p : KeptPage). record { count = passed.count + 1; last = Some (record { object = o; chunk = chunk e }) }) e.kept passed
+
+-- and once the first n entries were
+abbrev pub pass_first : ℕ → List KeyEntry → ℕ → Passed → Passed
+pass_first o es zero passed = passed
+pass_first o es (suc n) passed = pass_entry o (slice_get es n) (pass_first o es n passed)
+
+-- The first entries of an object are passed over: all of them, or until so many keys are passed.
+pub record PassesEntries (o : ℕ) (es : List KeyEntry) (count : ℕ) (old new : Passed) : Type 0 where
+  pub entries : ℕ
+  pub within : entries ≤ length es
+  pub are : new ≡ pass_first o es entries old
+  pub few : new.count ≤ count
+  pub ends : (new.count ≡ count) ⊎ (entries ≡ length es)

@@ -1,5 +1,6 @@
 -- Which keys are kept, in a block and in all.
-use Rattle.std.specs.Prelude.{◌≡◌, ◌≢◌, ◌<◌, ℕ, List, length, slice_get, Option, Some, None}
+use Rattle.std.specs.Prelude.{◌≡◌, ◌≢◌, ◌<◌, ℕ, zero, suc, List, length, slice_get, Option, Some, None}
+use Rattle.std.specs.Option.{option_map_or}
 use Rattle.chunk_index.specs.declared.form.KeptPage.{KeptPage}
 use Rattle.chunk_index.specs.declared.form.KeptKey.{KeptKey}
 use Rattle.flash_tree.specs.Places.{ComesBefore}
@@ -19,6 +20,11 @@ pub record IsListOf (m : KeptMap) (ks : List KeptKey) : Type 0 where
   pub each : (i : ℕ) (k : KeptKey) → slice_get ks i ≡ Some k → m k.key.object k.key.chunk ≡ Some k.at
   pub all : (o c : ℕ) (p : KeptPage) → m o c ≡ Some p → (i : ℕ) × (slice_get ks i ≡ Some (record { key = record { object = o; chunk = c }; at = p }))
   pub rise : KeyRises ks
+
+-- the key of the last of the first n on a list, or of all where there are fewer
+abbrev pub last_key : List KeptKey → ℕ → Option Key
+last_key ks zero = None
+last_key ks (suc n) = option_map_or (λ (k : KeptKey). Some k.key) (slice_get ks n) (last_key ks n)
 
 -- so many keys are kept: there is a list of them of this length
 abbrev pub HasKept : KeptMap → ℕ → Type 0

@@ -16,6 +16,7 @@ mod newest;
 mod next;
 mod object;
 mod packed;
+mod passing;
 mod placed;
 mod retain;
 mod settle;

@@ -1,5 +1,5 @@
 // An entry as it is held in memory.
-ghost use Rattle.std.specs.Prelude.{◌≡◌, ◌<◌, ◌^◌};
+ghost use Rattle.std.specs.Prelude.{◌≡◌, ◌<◌, ◌^◌, is_some};
 ghost use Rattle.chunk_index.specs.Entries.{IsSmall, IsSmallPage, IsSmallState};
 ghost use Rattle.chunk_index.specs.Packed.{kept_from, state_from};
 
@@ -77,6 +77,13 @@ impl PackedEntry {
         ensures low { result < 2 ^ 32 }
     {
         self.chunk as u64
+    }
+
+    /// Whether a page is kept.
+    pub fn is_kept(&self) -> bool
+        ensures { result ≡ is_some self.now.kept }
+    {
+        self.kept().is_some()
     }
 
     /// Where the page is kept, and its version.

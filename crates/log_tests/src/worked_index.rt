@@ -187,6 +187,14 @@ fn keys_come_in_order_and_some_stay(rt: HostRuntime) -> Result<(), Fail> {
     assert_eq!(&rt; store.index.next_kept(Some(key(3, 7))), second);
     assert_eq!(&rt; store.index.next_kept(Some(key(5, 0))), third);
     assert_eq!(&rt; store.index.next_kept(Some(key(5, 2))), None);
+    for (count, last) in [
+        (0, None),
+        (1, Some(key(1, 9))),
+        (2, Some(key(5, 0))),
+        (9, Some(key(5, 2))),
+    ] {
+        assert_eq!(&rt; store.index.last_kept(count), last);
+    }
     store.retain(&UpTo { object: 5, last: 1 });
     assert_eq!(&rt; store.index.next_kept(None), second);
     assert_eq!(&rt; store.index.next_kept(Some(key(5, 0))), None);

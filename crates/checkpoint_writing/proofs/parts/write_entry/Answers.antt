@@ -1,7 +1,8 @@
 use Rattle.std.proofs.Common.{ap, ◌∙◌}
 use Rattle.page_tags.specs.Checks.{check_entry_bytes}
 use Rattle.chunk_index.specs.Maps.{kept_pages}
-use Rattle.checkpoint_writing.proofs.NextKeys.{key_some, key_none, part_some, part_none}
+use Rattle.chunk_index.specs.laws.Following.{key_some, key_none}
+use Rattle.checkpoint_writing.proofs.NextKeys.{part_some, part_none}
 use Rattle.checkpoint_writing.proofs.parts.write_entry.Goals as goal
 
 pub returns-in-Some-clause-part : goal.returns-in-Some-clause-part

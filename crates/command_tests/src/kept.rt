@@ -1,7 +1,7 @@
 // Maps that keep a copy of what was committed.
 use object_store::{ObjectChange, ObjectStore};
 use plain_objects::PlainObjects;
-use posix_profile::{Bytes, Info, NameList};
+use posix_profile::{Info, NameList};
 use std::alloc::{AllocError, Global};
 use volume_terms::{StoreFault, VolumeSizes};
 
@@ -62,14 +62,13 @@ impl ObjectStore for KeptObjects {
         self.objects.names(alloc, directory)
     }
 
-    fn read(
+    fn read_into(
         &mut self,
-        alloc: Global,
         file: u64,
         offset: u64,
-        count: u32,
-    ) -> Result<Bytes, StoreFault> {
-        self.objects.read(alloc, file, offset, count)
+        buffer: &mut [u8],
+    ) -> Result<usize, StoreFault> {
+        self.objects.read_into(file, offset, buffer)
     }
 
     fn apply(&mut self, change: &ObjectChange<'_>) -> Result<(), StoreFault> {

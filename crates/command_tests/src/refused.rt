@@ -76,6 +76,21 @@ fn expect_same_names(
     Ok(())
 }
 
+/// The bytes of a file of this size.
+fn bytes_of(
+    alloc: Global,
+    objects: &mut PlainObjects,
+    number: u64,
+    size: u64,
+) -> Result<Vec<u8>, StoreFault> {
+    let Ok(mut bytes) = vec![in alloc; 0; size as usize] else {
+        return Err(StoreFault::NoMemory);
+    };
+    let read = objects.read_into(number, 0, &mut bytes)?;
+    bytes.truncate(read);
+    Ok(bytes)
+}
+
 /// Looks whether an object is the same.
 fn expect_same_object(
     rt: &impl Abort,
@@ -89,8 +104,8 @@ fn expect_same_object(
     match info {
         Some(info) => match info.kind {
             Kind::File => {
-                let bytes = left.read(alloc, number, 0, u32::MAX)?;
-                let others = right.read(alloc, number, 0, u32::MAX)?;
+                let bytes = bytes_of(alloc, left, number, info.size)?;
+                let others = bytes_of(alloc, right, number, info.size)?;
                 assert!(rt; bytes.as_slice() == others.as_slice());
                 Ok(())
             }

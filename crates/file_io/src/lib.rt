@@ -5,6 +5,7 @@ mod bits;
 mod chunk;
 mod file_head;
 mod head;
+mod overwriting;
 mod reading;
 mod resizing;
 mod writing;

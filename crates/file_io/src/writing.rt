@@ -9,24 +9,17 @@ ghost use Rattle.pages.specs.Changes.{AreSized, IsChange, IsNothing, IsOnlyOf};
 ghost use Rattle.pages.specs.State.{OnlyFinds, KeepsPower};
 ghost use Rattle.file_io.specs.Files.{Becomes, FileIn, HasFileHeader, HasPages};
 ghost use Rattle.file_io.specs.Heads.{IsHeadOf, bits_in};
-ghost use Rattle.file_io.specs.Chunks.{AreOf, HoldChunks, HoldsChunk, IsAmong, IsPartKept, IsWritten, overwritten};
+ghost use Rattle.file_io.specs.Chunks.{AreOf, HoldChunks, HoldsChunk, IsAmong, IsPartKept, IsWritten};
 ghost use Rattle.pages.specs.Faults.{MayLackMemory, SaysWhyMaking};
 
 use crate::bits::{has_all, mark_in};
 use crate::chunk::{chunk_bytes, tail_pages};
 use crate::file_head::FileHead;
 use crate::head::{head_page, read_head};
+use crate::overwriting::overwrite;
 use flash_tree::{FreshPage, Key};
 use pages::{Change, PageFault, Pages};
 use std::alloc::Global;
-
-/// Writes bytes over a part of a page.
-fn overwrite(page: &mut [u8], at: usize, bytes: &[u8])
-    requires { at + length bytes.now ≤ length page.old }
-    ensures { page.new ≡ overwritten page.old at bytes.now }
-{
-    page[at..at + bytes.len()].copy_from_slice(bytes);
-}
 
 /// The bytes of a chunk when `bytes` were written into the file from `offset` on. A chunk that is written whole is not
 /// asked for.

@@ -1,5 +1,5 @@
 -- What buffers and structs hold after a reply.
-use Rattle.std.specs.Prelude.{ℕ, nat_le, if◌then◌else◌, ℤ, pos, List, [], ◌∷◌, ◌++◌, length, drop, flat_map}
+use Rattle.std.specs.Prelude.{◌≡◌, ◌⊎◌, ℕ, nat_le, if◌then◌else◌, ℤ, pos, List, [], ◌∷◌, ◌++◌, length, drop, flat_map}
 use Rattle.posix_profile.specs.declared.reply.Errno.TheVariants as errors
 use Rattle.posix_profile.specs.declared.reply.Kind.{Kind}
 use Rattle.posix_profile.specs.declared.reply.Kind.TheVariants as kinds
@@ -27,10 +27,12 @@ data_number room (replies.Data bytes) = filled_number room (error_number errors.
 data_number room (replies.Error error) = error_number error
 data_number room reply = error_number errors.EIO
 
--- the buffer after a read: the data, and after it what was there
-abbrev pub data_filled : List ℕ → Reply → List ℕ
-data_filled old (replies.Data bytes) = filled old bytes
-data_filled old reply = old
+-- the buffer after a read: the data at its front, and after it what was there; after an error it is as it was, but where a read failed or was
+-- refused memory, of which it may have some bytes
+abbrev pub HasData : List ℕ → Reply → List ℕ → Type 0
+HasData before (replies.Data bytes) after = after ≡ filled before bytes
+HasData before (replies.Error error) after = (length after ≡ length before) × ((error ≡ errors.EIO) ⊎ ((error ≡ errors.ENOMEM) ⊎ (after ≡ before)))
+HasData before reply after = after ≡ before
 
 -- what a list returns: how many bytes the names take; ERANGE where the buffer has no room for them; or the error
 abbrev pub names_number : ℕ → Reply → ℤ

@@ -3,7 +3,7 @@ use Rattle.std.specs.Prelude.{◌≡◌, ℕ, min, ℤ, List, length}
 use Rattle.posix_profile.specs.declared.command.Command.TheVariants as commands
 use Rattle.posix_profile.specs.declared.command.Stamped.{Stamped}
 use Rattle.posix_profile.specs.declared.reply.Reply.{Reply}
-use Rattle.flash_c.specs.Filling.{data_number, data_filled, names_number, names_filled, info_number, info_filled, space_number, space_filled}
+use Rattle.flash_c.specs.Filling.{HasData, data_number, names_number, names_filled, info_number, info_filled, space_number, space_filled}
 use Rattle.flash_c.specs.Sessions.{at}
 use Rattle.flash_c.specs.declared.filling.FlashInfo.{FlashInfo}
 use Rattle.flash_c.specs.declared.filling.FlashSpace.{FlashSpace}
@@ -35,10 +35,11 @@ pub record Room : Type 0 where
   pub number : ℤ
   pub after : FlashSpace
 
--- A read asks for as many bytes as the buffer has room for, and a command can ask. Its number and its buffer are those of the reply.
+-- A read asks for as many bytes as the buffer has room for, and a command can ask. Its number is that of the reply, whose data it has in the
+-- buffer.
 abbrev pub IsRead : {S : Type 0} → (S → Stamped → Reply → S → Type 0) → S → Reading → S → Type 0
 IsRead serves old r new = (reply : Reply) × serves old (at 0 (commands.Read r.fd (min (length r.before) 4294967295))) reply new
-    × (r.number ≡ data_number (length r.before) reply) × (r.after ≡ data_filled r.before reply)
+    × (r.number ≡ data_number (length r.before) reply) × HasData r.before reply r.after
 
 -- the number and the buffer of a list are those of the reply
 abbrev pub IsListed : {S : Type 0} → (S → Stamped → Reply → S → Type 0) → S → Listing → S → Type 0

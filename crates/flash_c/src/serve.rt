@@ -1,12 +1,13 @@
 // What serves the commands of a session.
-ghost use Rattle.std.specs.Prelude.{ℕ, Result};
+ghost use Rattle.std.specs.Prelude.{◌≡◌, ℕ, Result, length};
+ghost use Rattle.object_commands.specs.Reads.{LeavesRest, asked_of, read_reply, reading};
 ghost use Rattle.posix_profile.specs.Requests.{stamped_of};
 ghost use Rattle.posix_profile.specs.declared.command.Stamped.{Stamped};
 ghost use Rattle.posix_profile.specs.declared.reply.Errno.{Errno};
 ghost use Rattle.posix_profile.specs.declared.reply.Info.{Info};
 ghost use Rattle.posix_profile.specs.declared.reply.Reply.{Reply};
 ghost use Rattle.posix_calls.specs.Volumes.{over_pages};
-ghost use Rattle.posix_calls.specs.Calls.{IsCalled};
+ghost use Rattle.page_volume.specs.Calls.{IsCalled};
 ghost use Rattle.posix_calls.specs.Describing.{IsDescribed};
 
 use flash_pages::FlashPages;
@@ -26,6 +27,12 @@ pub(crate) trait Serve {
     fn serve(&mut self, asked: &Asked<'_>) -> Reply
         ensures { serves self.old (stamped_of asked.now) result self.new };
 
+    /// Reads at a descriptor's offset into a buffer.
+    fn read_into(&mut self, fd: u32, buffer: &mut [u8]) -> Result<usize, Errno>
+        ensures size { length buffer.new ≡ length buffer.old }
+        ensures rest { LeavesRest buffer.old buffer.new result }
+        ensures served { serves self.old (reading fd (asked_of buffer.old)) (read_reply buffer.new result) self.new };
+
     /// What Stat reports of the object that a descriptor stands for.
     fn describe(&self, fd: u32) -> Result<Info, Errno>
         ensures { describes self.now fd result };
@@ -39,6 +46,10 @@ impl<N: Nand> Serve for Volume<N> {
 
     fn serve(&mut self, asked: &Asked<'_>) -> Reply {
         self.ask(asked)
+    }
+
+    fn read_into(&mut self, fd: u32, buffer: &mut [u8]) -> Result<usize, Errno> {
+        Volume::read_into(self, fd, buffer)
     }
 
     fn describe(&self, fd: u32) -> Result<Info, Errno> {

@@ -6,9 +6,9 @@ ghost use Rattle.flash_c.specs.Numbers.{done_number, count_number};
 ghost use Rattle.flash_c.specs.Describing.{stat_reply, IsFstat};
 ghost use Rattle.flash_c.specs.Questions.{IsRead, IsStat, IsListed, IsRoom};
 
-use crate::filling::{FlashInfo, FlashSpace, put_data, put_info, put_space};
+use crate::filling::{FlashInfo, FlashSpace, put_info, put_space};
 use crate::names::put_names;
-use crate::numbers::{count_number, done_number};
+use crate::numbers::{count_number, done_number, error_number, signed};
 use crate::serve::Serve;
 use port_nand::{FilePort, PortDevice};
 use posix_calls::{Asked, Errno, Info, Reply, Request, Volume};
@@ -29,6 +29,10 @@ impl Serve for Session {
 
     fn serve(&mut self, asked: &Asked<'_>) -> Reply {
         self.volume.serve(asked)
+    }
+
+    fn read_into(&mut self, fd: u32, buffer: &mut [u8]) -> Result<usize, Errno> {
+        Serve::read_into(&mut self.volume, fd, buffer)
     }
 
     fn describe(&self, fd: u32) -> Result<Info, Errno> {
@@ -54,9 +58,10 @@ pub(crate) fn count<S: Serve>(session: &mut S, asked: &Asked<'_>) -> i64
 pub(crate) fn read<S: Serve>(session: &mut S, fd: u32, buffer: &mut [u8]) -> i64
     ensures { IsRead S.serves session.old (record { fd = fd; before = buffer.old; number = result; after = buffer.new }) session.new }
 {
-    let count = buffer.len().min(u32::MAX as usize) as u32;
-    let request = Request::Read { fd, count };
-    put_data(buffer, &session.serve(&Asked { moment: 0, request }))
+    match session.read_into(fd, buffer) {
+        Ok(count) => signed(count as u64),
+        Err(error) => i64::from(error_number(error)),
+    }
 }
 
 /// Reports what a path leads to in the struct.

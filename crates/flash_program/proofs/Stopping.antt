@@ -25,7 +25,7 @@ use Rattle.paged_objects.specs.Standing.{volume_of}
 use Rattle.paged_objects.specs.laws.Going.{ended_at, goes_here, goes_on}
 use Rattle.pages.specs.State.{PagesState, NextNumbers}
 use Rattle.pages.specs.Stores.{GoesOn}
-use Rattle.posix_calls.specs.Calls.{IsCalled}
+use Rattle.page_volume.specs.Calls.{IsCalled}
 use Rattle.posix_calls.specs.Endings.{IsUnmounted}
 use Rattle.posix_calls.specs.laws.Ending.{ends_after}
 use Rattle.posix_calls.specs.laws.Trusting.{read_since, left_as_seen}

@@ -4,7 +4,7 @@ use Rattle.flash_pages.specs.declared.mounted.FlashPages.{FlashPages}
 use Rattle.nand_model.specs.declared.nand.Nand.{Ghosts}
 use Rattle.page_volume.specs.declared.volume.PageVolume.{PageVolume}
 use Rattle.pages.specs.State.{PagesState}
-use Rattle.posix_calls.specs.Calls.{IsCalled}
+use Rattle.page_volume.specs.Calls.{IsCalled}
 use Rattle.posix_calls.specs.Volumes.{over_pages}
 use Rattle.posix_profile.specs.declared.command.Stamped.{Stamped}
 use Rattle.posix_profile.specs.declared.reply.Reply.{Reply}

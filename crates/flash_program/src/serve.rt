@@ -1,6 +1,6 @@
 // A volume that serves the commands of a shell.
 ghost use Rattle.posix_calls.specs.Volumes.{over_pages};
-ghost use Rattle.posix_calls.specs.Calls.{IsCalled};
+ghost use Rattle.page_volume.specs.Calls.{IsCalled};
 
 use flash_pages::FlashPages;
 use line_shell::Serve;

@@ -6,7 +6,7 @@ ghost use Rattle.fused_store.specs.declared.fuse.CallEnd.TheVariants as ends;
 ghost use Rattle.fused_store.specs.declared.fuse.LastCall.TheVariants as fates;
 
 use object_store::{ObjectChange, ObjectStore};
-use posix_profile::{Bytes, Info, NameList};
+use posix_profile::{Info, NameList};
 use std::alloc::Global;
 use volume_terms::{StoreFault, VolumeSizes};
 
@@ -99,15 +99,14 @@ impl<S: ObjectStore> ObjectStore for FusedStore<S> {
         }
     }
 
-    fn read(
+    fn read_into(
         &mut self,
-        alloc: Global,
         file: u64,
         offset: u64,
-        count: u32,
-    ) -> Result<Bytes, StoreFault> {
+        buffer: &mut [u8],
+    ) -> Result<usize, StoreFault> {
         match self.next_call() {
-            CallEnd::Goes => self.inner.read(alloc, file, offset, count),
+            CallEnd::Goes => self.inner.read_into(file, offset, buffer),
             CallEnd::DoneAndLost => Err(StoreFault::Device),
             CallEnd::NotDone => Err(StoreFault::Device),
         }

@@ -4,7 +4,7 @@ ghost use Rattle.fused_store.specs.Refusals.{refusing_meaning};
 ghost use Rattle.fused_store.specs.laws.Refusals.{refusing_lawful};
 
 use object_store::{ObjectChange, ObjectStore};
-use posix_profile::{Bytes, Info, NameList};
+use posix_profile::{Info, NameList};
 use std::alloc::Global;
 use volume_terms::{StoreFault, VolumeSizes};
 
@@ -83,17 +83,16 @@ impl<S: ObjectStore> ObjectStore for RefusingStore<S> {
         self.inner.names(alloc, directory)
     }
 
-    fn read(
+    fn read_into(
         &mut self,
-        alloc: Global,
         file: u64,
         offset: u64,
-        count: u32,
-    ) -> Result<Bytes, StoreFault> {
+        buffer: &mut [u8],
+    ) -> Result<usize, StoreFault> {
         if self.refuses() {
             return Err(StoreFault::NoMemory);
         }
-        self.inner.read(alloc, file, offset, count)
+        self.inner.read_into(file, offset, buffer)
     }
 
     fn apply(&mut self, change: &ObjectChange<'_>) -> Result<(), StoreFault> {

@@ -2,6 +2,7 @@ pub mod PruneOne
 pub mod NamesLost
 pub mod Making
 pub mod Ending
+pub mod Reading
 pub mod RunSteps
 pub mod Moves
 pub mod Above

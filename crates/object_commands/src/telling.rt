@@ -1,24 +1,27 @@
 // The commands that only tell: Stat, List, Read, Seek, Space.
-ghost use Rattle.std.specs.Prelude.{◌≡◌, ◌<◌, true, Some, length, pos, ◌+ℤ◌};
+ghost use Rattle.std.specs.Prelude.{◌≡◌, ◌<◌, ◌≤◌, ◌+◌, ◌-◌, ◌^◌, true, IfOk, length, min, pos, ◌+ℤ◌};
 ghost use Rattle.std.specs.FinMap as map;
 ghost use Rattle.volume_terms.specs.Sizes.{Sizes, descriptors};
-ghost use Rattle.posix_profile.specs.State.{IsFile, State};
+ghost use Rattle.posix_profile.specs.State.{Objects, State};
 ghost use Rattle.posix_profile.specs.HandleSteps.{at_file, may_read, read_step, seek_origin, seek_to, seek_step};
 ghost use Rattle.posix_profile.specs.NameSteps.{stat_step, list_step, space_step};
-ghost use Rattle.object_store.specs.Facts.{bytes_of};
-ghost use Rattle.object_store.specs.Stores.{KeepsPower};
+ghost use Rattle.object_store.specs.Facts.{bytes_from};
+ghost use Rattle.object_store.specs.Stores.{Has, KeepsPower};
 ghost use Rattle.command_plans.specs.Classes.{Telling};
 ghost use Rattle.command_plans.specs.Plans.{Holds, Plans, Tries, Frees, LeavesDevice, IsPlan, frees, leaves_device};
-ghost use Rattle.object_commands.specs.Reads.{read_of};
+ghost use Rattle.object_commands.specs.Reads.{FillsOnly, MayRead, asked_of, filled_plan};
 ghost use Rattle.command_plans.specs.Tables.{handle_of, handles_in};
 
-use command_plans::facts::file_length;
+use command_plans::facts::{file_length, length};
 use command_plans::place::find_object;
 use command_plans::plan::{HandleChange, Plan, StoreWork, tell};
 use command_plans::table::{DescriptorTable, OpenDescription};
 use object_store::{ObjectStore, Refusal, is_file};
-use posix_profile::{Access, Errno, Reply, SpaceInfo, Whence};
-use std::alloc::Global;
+use posix_profile::{Access, Bytes, Errno, Reply, SpaceInfo, Whence};
+use std::alloc::{AllocError, Global};
+
+/// The most bytes that a command can ask.
+const MOST_ASKED: usize = 4_294_967_295;
 
 /// The greatest offset.
 const OFFSET_LIMIT: u128 = 9_223_372_036_854_775_807;
@@ -71,53 +74,51 @@ fn may_read(access: Access) -> bool
     }
 }
 
-/// Read of a file.
-fn read_file<'a, S: ObjectStore>(
-    alloc: Global,
-    store: &mut S,
+/// What a descriptor stands for that may read a file.
+fn readable<S: ObjectStore>(
+    store: &S,
+    table: &DescriptorTable,
     fd: u32,
-    description: OpenDescription,
-    count: u32,
-) -> Result<Plan<'a>, Refusal>
-    ensures reads { S.meaning.reads store.old store.new }
-    ensures power { KeepsPower S.meaning store.old store.new result }
-    ensures plans { (z : Sizes) (s : State) → Holds S.meaning z s store.old → IsFile s.objects description.object → map.get s.handles fd ≡ Some (handle_of description)
-        → Plans S.meaning z Telling s (read_of s fd (handle_of description) count (bytes_of (map.get s.objects description.object))) store.old store.new result }
+) -> Result<OpenDescription, Errno>
+    ensures { (z : Sizes) (s : State) → Holds S.meaning z s store.now → handles_in table.now ≡ s.handles → MayRead s fd result }
 {
-    let bytes = store.read(alloc, description.object, description.offset, count)?;
-    let offset = description
-        .offset
-        .saturating_add(bytes.as_slice().len() as u64);
-    Ok(Plan {
-        reply: Reply::Data(bytes),
-        handles: HandleChange::Put(
-            fd,
-            OpenDescription {
-                offset,
-                ..description
-            },
-        ),
-        work: StoreWork::Nothing,
-    })
+    match table.get(fd) {
+        Some(description) => {
+            if !may_read(description.flags.access) {
+                return Err(Errno::EBADF);
+            }
+            if !is_file(store, description.object) {
+                return Err(Errno::EISDIR);
+            }
+            Ok(description)
+        }
+        None => Err(Errno::EBADF),
+    }
 }
 
-/// Read of what the descriptor stands for.
-fn read_open<'a, S: ObjectStore>(
+/// Room for the bytes of a file from the offset of a descriptor on, at most so many.
+fn room_for<S: ObjectStore>(
     alloc: Global,
-    store: &mut S,
-    fd: u32,
+    store: &S,
     description: OpenDescription,
     count: u32,
-) -> Result<Plan<'a>, Refusal>
-    ensures reads { S.meaning.reads store.old store.new }
-    ensures power { KeepsPower S.meaning store.old store.new result }
-    ensures plans { (z : Sizes) (s : State) → Holds S.meaning z s store.old → map.get s.handles fd ≡ Some (handle_of description)
-        → Plans S.meaning z Telling s (at_file s (map.get s.objects description.object) Errno.EISDIR (read_of s fd (handle_of description) count)) store.old store.new result }
+) -> Result<Vec<u8>, AllocError>
+    ensures { (z : Sizes) (objects : Objects) → Has S.meaning z objects store.now
+        → IfOk result (λ room. length room.items ≡ length (bytes_from objects description.object description.offset count)) }
 {
-    if !is_file(store, description.object) {
-        return Err(Refusal::Error(Errno::EISDIR));
+    let rest = length(store, description.object).saturating_sub(description.offset);
+    vec![in alloc; 0; rest.min(u64::from(count)) as usize]
+}
+
+/// What a descriptor stands for once so many bytes were read.
+fn moved(description: OpenDescription, count: usize) -> OpenDescription
+    ensures { result ≡ record description { offset = min (description.offset + count) (2 ^ 64 - 1) } }
+{
+    let offset = description.offset.saturating_add(count as u64);
+    OpenDescription {
+        offset,
+        ..description
     }
-    read_file(alloc, store, fd, description, count)
 }
 
 /// Read.
@@ -133,15 +134,45 @@ pub(crate) fn read<'a, S: ObjectStore>(
     ensures plans { (z : Sizes) (s : State) → Holds S.meaning z s store.old → handles_in table.now ≡ s.handles
         → Plans S.meaning z Telling s (read_step s fd count) store.old store.new result }
 {
-    match table.get(fd) {
-        Some(description) => {
-            if !may_read(description.flags.access) {
-                return Err(Refusal::Error(Errno::EBADF));
-            }
-            read_open(alloc, store, fd, description, count)
-        }
-        None => Err(Refusal::Error(Errno::EBADF)),
-    }
+    let description = readable(store, table, fd)?;
+    let mut bytes = room_for(alloc, store, description, count)?;
+    let read = store.read_into(description.object, description.offset, &mut bytes)?;
+    bytes.truncate(read);
+    Ok(Plan {
+        reply: Reply::Data(Bytes::new(bytes)),
+        handles: HandleChange::Put(fd, moved(description, read)),
+        work: StoreWork::Nothing,
+    })
+}
+
+/// What was read into a buffer: how many bytes, and what the descriptor stands for then.
+#[derive(Clone, Copy)]
+pub(crate) struct Filled {
+    pub count: usize,
+    pub description: OpenDescription,
+}
+
+/// Read into a buffer, of as many bytes as it has room for and a command can ask.
+pub(crate) fn read_into<S: ObjectStore>(
+    store: &mut S,
+    table: &DescriptorTable,
+    fd: u32,
+    buffer: &mut [u8],
+) -> Result<Filled, Refusal>
+    ensures reads { S.meaning.reads store.old store.new }
+    ensures power { KeepsPower S.meaning store.old store.new result }
+    ensures size { length buffer.new ≡ length buffer.old }
+    ensures rest { FillsOnly buffer.old buffer.new result }
+    ensures plans { (z : Sizes) (s : State) → Holds S.meaning z s store.old → handles_in table.now ≡ s.handles
+        → Plans S.meaning z Telling s (read_step s fd (asked_of buffer.old)) store.old store.new (filled_plan fd buffer.new result) }
+{
+    let description = readable(store, table, fd)?;
+    let most = buffer.len().min(MOST_ASKED);
+    let count = store.read_into(description.object, description.offset, &mut buffer[..most])?;
+    Ok(Filled {
+        count,
+        description: moved(description, count),
+    })
 }
 
 /// Where a seek counts from, by the offset and the file's length.

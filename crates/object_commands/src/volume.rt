@@ -16,7 +16,7 @@ ghost use Rattle.posix_profile.specs.declared.reply.Reply.TheVariants as replies
 ghost use Rattle.posix_profile.specs.declared.reply.Reply.{Reply};
 ghost use Rattle.object_store.specs.Stores.{Has, KeepsPower};
 ghost use Rattle.volume_terms.specs.declared.fault.StoreFault.TheVariants as faults;
-ghost use Rattle.command_plans.specs.Classes.{Class, class_of, makes_no_call};
+ghost use Rattle.command_plans.specs.Classes.{Class, Telling, class_of, makes_no_call};
 ghost use Rattle.command_plans.specs.Plans.{Holds, Plans, Works, IsPlan, TakesNone, LeavesDevice, CanDo, InRange, does_nothing, frees, leaves_device, handled};
 ghost use Rattle.command_plans.specs.Tables.{handles_in};
 
@@ -24,7 +24,7 @@ use crate::naming::{link, mkdir, rmdir, unlink};
 use crate::opening::{close, open};
 use crate::rename::rename;
 use crate::syncing::{fsync, sync};
-use crate::telling::{list, read, seek, space, stat};
+use crate::telling::{list, read, read_into, seek, space, stat};
 use crate::writing::{truncate, write};
 use command_plans::plan::{HandleChange, Plan, StoreWork, hand_on};
 use command_plans::stamp::is_stamped;
@@ -137,6 +137,7 @@ impl<S: ObjectStore> Volume<S> {
     ghost use Rattle.object_commands.specs.Volumes.{store_of, handles_of, is_read_only, is_stopped};
     ghost use Rattle.object_commands.specs.Serving.{IsServed};
     ghost use Rattle.object_commands.specs.Endings.{IsAt, CommandEnds, StaysReading, TellsRefusal};
+    ghost use Rattle.object_commands.specs.Reads.{LeavesRest, asked_of, read_reply, reading};
     ghost use Rattle.object_commands.specs.Running.{Runs};
     ghost use Rattle.object_commands.specs.Describing.{Describes};
 
@@ -233,17 +234,17 @@ impl<S: ObjectStore> Volume<S> {
         }
     }
 
-    /// The reply where memory was refused: where the device's power went meanwhile it is the stop. Its caller stops the volume
-    /// by the reply.
-    fn pass_over(&mut self) -> Reply
+    /// The error where memory was refused: where the device's power went meanwhile it is the stop. Its caller stops the volume
+    /// by it.
+    fn pass_over(&mut self) -> Errno
         ensures same { self.new ≡ record self.old { store = store_of self.new } }
         ensures reads { S.meaning.reads (store_of self.old) (store_of self.new) }
-        ensures tells { TellsRefusal S.meaning (store_of self.new) result }
+        ensures tells { TellsRefusal S.meaning (store_of self.new) (replies.Error result) }
     {
         if self.store.has_power() {
-            Reply::Error(Errno::ENOMEM)
+            Errno::ENOMEM
         } else {
-            Reply::Error(Errno::EIO)
+            Errno::EIO
         }
     }
 
@@ -265,7 +266,7 @@ impl<S: ObjectStore> Volume<S> {
                 handle(&mut self.table, plan.handles);
                 plan.reply
             }
-            Err(StoreFault::NoMemory) => self.pass_over(),
+            Err(StoreFault::NoMemory) => Reply::Error(self.pass_over()),
             Err(StoreFault::Device) => Reply::Error(Errno::EIO),
             Err(StoreFault::Worn) => Reply::Error(Errno::EIO),
         }
@@ -297,7 +298,7 @@ impl<S: ObjectStore> Volume<S> {
         ) {
             Ok(plan) => self.carry_out(plan),
             Err(Refusal::Error(error)) => Reply::Error(error),
-            Err(Refusal::Fault(StoreFault::NoMemory)) => self.pass_over(),
+            Err(Refusal::Fault(StoreFault::NoMemory)) => Reply::Error(self.pass_over()),
             Err(Refusal::Fault(StoreFault::Device)) => Reply::Error(Errno::EIO),
             Err(Refusal::Fault(StoreFault::Worn)) => Reply::Error(Errno::EIO),
         }
@@ -320,6 +321,46 @@ impl<S: ObjectStore> Volume<S> {
         ensures { IsServed S.meaning self.old stamped.now result self.new }
     {
         self.ask(&stamped.asked())
+    }
+
+    /// Reads into a buffer. Its caller stops the volume by the answer.
+    fn fill(&mut self, fd: u32, buffer: &mut [u8]) -> Result<usize, Errno>
+        ensures size { length buffer.new ≡ length buffer.old }
+        ensures rest { LeavesRest buffer.old buffer.new result }
+        ensures keeps { is_read_only self.new ≡ is_read_only self.old }
+        ensures reads { S.meaning.reads (store_of self.old) (store_of self.new) }
+        ensures lasts { S.meaning.lasts (store_of self.old) (store_of self.new) }
+        ensures power { is_stop (read_reply buffer.new result) ≡ false → S.meaning.has_power (store_of self.old) ≡ true → S.meaning.has_power (store_of self.new) ≡ true }
+        ensures unread { (z : Sizes) (s : State) → IsAt S.meaning z s self.old → is_stop (read_reply buffer.new result) ≡ true → S.meaning.unread (store_of self.old) (store_of self.new) }
+        ensures ends { (z : Sizes) (s : State) → IsAt S.meaning z s self.old
+            → CommandEnds S.meaning z Telling false s (step z (is_read_only self.old) s (reading fd (asked_of buffer.old)))
+            self.old (record self.new { stopped = is_stop (read_reply buffer.new result) }) (read_reply buffer.new result) }
+    {
+        match read_into(&mut self.store, &self.table, fd, buffer) {
+            Ok(filled) => {
+                handle(&mut self.table, HandleChange::Put(fd, filled.description));
+                Ok(filled.count)
+            }
+            Err(Refusal::Error(error)) => Err(error),
+            Err(Refusal::Fault(StoreFault::NoMemory)) => Err(self.pass_over()),
+            Err(Refusal::Fault(StoreFault::Device)) => Err(Errno::EIO),
+            Err(Refusal::Fault(StoreFault::Worn)) => Err(Errno::EIO),
+        }
+    }
+
+    /// Reads at a descriptor's offset into a buffer, as the command of as many bytes as it has room for, and returns how many were
+    /// read. What lies past them in the buffer stays; after EIO and ENOMEM it may have some of the bytes.
+    pub fn read_into(&mut self, fd: u32, buffer: &mut [u8]) -> Result<usize, Errno>
+        ensures size { length buffer.new ≡ length buffer.old }
+        ensures rest { LeavesRest buffer.old buffer.new result }
+        ensures served { IsServed S.meaning self.old (reading fd (asked_of buffer.old)) (read_reply buffer.new result) self.new }
+    {
+        if self.stopped {
+            return Err(Errno::EIO);
+        }
+        let answer = self.fill(fd, buffer);
+        self.stopped = matches!(answer, Err(Errno::EIO));
+        answer
     }
 
     /// Does the commands in turn and adds their replies at the end of the vector. Where a reply finds no room its command

@@ -20,5 +20,5 @@ pub use law::{
 pub use moving::move_name;
 pub use naming::{create, name};
 pub use planning::plan;
-pub use reading::{find, names, read};
+pub use reading::{find, names, read_into};
 pub use removal::{forget, remove};

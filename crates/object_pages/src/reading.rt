@@ -1,9 +1,9 @@
 // What is read of the objects that the pages hold.
-ghost use Rattle.std.specs.Prelude.{◌≡◌, OnOk, IfOk, IfErr, length, take, drop};
+ghost use Rattle.std.specs.Prelude.{◌≡◌, OnOk, IfOk, IfErr, ◌≤◌, length, take, drop};
 ghost use Rattle.std.specs.FinMap as map;
 ghost use Rattle.volume_terms.specs.Sizes.{Sizes};
 ghost use Rattle.posix_profile.specs.State.{Objects, IsFile, IsDirectory, entries_of};
-ghost use Rattle.object_store.specs.Facts.{bytes_of};
+ghost use Rattle.object_store.specs.Facts.{bytes_from, bytes_of};
 ghost use Rattle.pages.specs.Faults.{MayLack, MayLackMemory, SaysWhy, SaysWhyMaking};
 ghost use Rattle.pages.specs.State.{OnlyFinds, KeepsPower};
 ghost use Rattle.directories.specs.Named.{AsksHeld};
@@ -12,7 +12,7 @@ ghost use Rattle.object_pages.specs.Naming.{HoldsNamed};
 
 use name_index::NameIndex;
 use pages::{PageFault, Pages};
-use posix_profile::{Bytes, NameList};
+use posix_profile::NameList;
 use std::alloc::Global;
 
 /// The object that a name of a directory of so many entries leads to, found through an index of the names.
@@ -48,21 +48,23 @@ pub fn names<P: Pages>(pages: &mut P, alloc: Global, directory: u64) -> Result<N
     directories::names(alloc, pages, directory)
 }
 
-/// The bytes of a file of this length from the offset on, at most so many.
-pub fn read<P: Pages>(
+/// Reads the bytes of a file of this length from the offset on into a buffer, as many as there are and the buffer has room for, and
+/// returns how many. After a fault the buffer may have some of them.
+pub fn read_into<P: Pages>(
     pages: &mut P,
-    alloc: Global,
     file: u64,
     len: u64,
     offset: u64,
-    count: u32,
-) -> Result<Bytes, PageFault>
+    buffer: &mut [u8],
+) -> Result<usize, PageFault>
     ensures finds { OnlyFinds (P.state pages.old) (P.state pages.new) }
     ensures power { OnOk result (KeepsPower (P.state pages.old) (P.state pages.new)) }
+    ensures size { length buffer.new ≡ length buffer.old }
+    ensures count { IfOk result (λ count. count ≤ length buffer.old) }
+    ensures rest { IfOk result (λ count. drop count buffer.new ≡ drop count buffer.old) }
     ensures found { (z : Sizes) (objects : Objects) → HoldsIn (P.state pages.old) z objects → IsFile objects file → len ≡ length (bytes_of (map.get objects file))
-        → IfOk result (λ bytes. bytes ≡ take count (drop offset (bytes_of (map.get objects file)))) }
-    ensures fault { IfErr result (MayLackMemory (P.state pages.new)) }
+        → IfOk result (λ count. take count buffer.new ≡ bytes_from objects file offset (length buffer.old)) }
+    ensures fault { IfErr result (MayLack (P.state pages.old) (P.state pages.new)) }
 {
-    let bytes = file_io::read_at(alloc, pages, file, len, offset, u64::from(count))?;
-    Ok(Bytes::new(bytes))
+    file_io::read_at(pages, file, len, offset, buffer)
 }

@@ -1,5 +1,6 @@
 -- What is asked of an object.
-use Rattle.std.specs.Prelude.{ℕ, List, [], Option, Some, None}
+use Rattle.std.specs.Prelude.{ℕ, List, [], take, drop, Option, Some, None, Result, Ok, Err}
+use Rattle.std.specs.FinMap as map
 use Rattle.posix_profile.specs.State.{Name, Object, File, Dir, Objects}
 use Rattle.posix_profile.specs.Names.{Names}
 use Rattle.posix_profile.specs.NameSteps.{info}
@@ -16,6 +17,15 @@ abbrev pub bytes_of : Option Object → List ℕ
 bytes_of None = []
 bytes_of (Some (File moment bytes)) = bytes
 bytes_of (Some (Dir moment entries)) = []
+
+-- the bytes of a file from an offset on, at most so many
+abbrev pub bytes_from : Objects → (file offset count : ℕ) → List ℕ
+bytes_from objects file offset count = take count (drop offset (bytes_of (map.get objects file)))
+
+-- the bytes at the front of a buffer, of which so many were read, or why none were
+abbrev pub front : {E : Type 0} → Result ℕ E → List ℕ → Result (List ℕ) E
+front (Ok count) buffer = Ok (take count buffer)
+front (Err error) buffer = Err error
 
 -- this directory names the object, or none does
 abbrev pub NamedBy : Objects → ℕ → Option ℕ → Type 0

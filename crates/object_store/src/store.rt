@@ -1,5 +1,5 @@
 // A store of objects.
-ghost use Rattle.std.specs.Prelude.{◌≡◌, true, Err, OnOk, take, drop};
+ghost use Rattle.std.specs.Prelude.{◌≡◌, ◌≤◌, true, Err, IfOk, OnOk, length, drop};
 ghost use Rattle.std.specs.FinMap as map;
 ghost use Rattle.volume_terms.specs.Sizes.{Sizes};
 ghost use Rattle.posix_profile.specs.State.{Objects, IsFile, IsDirectory, entries_of};
@@ -8,11 +8,11 @@ ghost use Rattle.posix_profile.specs.Changes.{new_number};
 ghost use Rattle.volume_terms.specs.VolumeSizes.{sizes_of};
 ghost use Rattle.object_store.specs.Stores.{Meaning, IsLawful, Has, Finds, Applies, Commits};
 ghost use Rattle.object_store.specs.Changes.{made, CanMake, takes_none};
-ghost use Rattle.object_store.specs.Facts.{info_of, bytes_of, NamedBy};
+ghost use Rattle.object_store.specs.Facts.{info_of, bytes_from, front, NamedBy};
 ghost use Rattle.volume_terms.specs.declared.fault.StoreFault.TheVariants as faults;
 
 use crate::change::ObjectChange;
-use posix_profile::{Bytes, Info, NameList};
+use posix_profile::{Info, NameList};
 use std::alloc::Global;
 use volume_terms::{StoreFault, VolumeSizes};
 
@@ -67,18 +67,16 @@ pub trait ObjectStore {
         ensures finds { (z : Sizes) (objects : Objects) → Has meaning z objects self.old → IsDirectory objects directory
             → Finds meaning (map.keys (entries_of (map.get objects directory))) self.old self.new result };
 
-    /// The bytes of a file from the offset, at most so many.
-    fn read(
-        &mut self,
-        alloc: Global,
-        file: u64,
-        offset: u64,
-        count: u32,
-    ) -> Result<Bytes, StoreFault>
+    /// Reads the bytes of a file from the offset into a buffer, as many as there are and the buffer has room for, and returns how
+    /// many. What lies past them in the buffer stays; after a fault it may have some of the bytes.
+    fn read_into(&mut self, file: u64, offset: u64, buffer: &mut [u8]) -> Result<usize, StoreFault>
         ensures reads { meaning.reads self.old self.new }
         ensures power { OnOk result (meaning.has_power self.new ≡ meaning.has_power self.old) }
+        ensures size { length buffer.new ≡ length buffer.old }
+        ensures count { IfOk result (λ count. count ≤ length buffer.old) }
+        ensures rest { IfOk result (λ count. drop count buffer.new ≡ drop count buffer.old) }
         ensures finds { (z : Sizes) (objects : Objects) → Has meaning z objects self.old → IsFile objects file
-            → Finds meaning (take count (drop offset (bytes_of (map.get objects file)))) self.old self.new result };
+            → Finds meaning (bytes_from objects file offset (length buffer.old)) self.old self.new (front result buffer.new) };
 
     /// Makes a change. One that only forgets an object takes no memory and leaves the device as it is.
     fn apply(&mut self, change: &ObjectChange<'_>) -> Result<(), StoreFault>

@@ -11,6 +11,20 @@ use std::test::Fail;
 
 const FILE: u64 = 5;
 
+/// The bytes of the file of this length from a place on, at most so many.
+fn read(
+    alloc: Global,
+    pages: &mut MemPages,
+    len: u64,
+    offset: u64,
+    count: usize,
+) -> Result<Vec<u8>, Fail> {
+    let mut bytes = vec![in alloc; 0; count]?;
+    let read = read_at(pages, FILE, len, offset, &mut bytes)?;
+    bytes.truncate(read);
+    Ok(bytes)
+}
+
 /// A store with a file of no bytes.
 fn empty_file(alloc: Global, page_bytes: u32) -> Result<MemPages, Fail> {
     if !(512..=4096).contains(&page_bytes) {
@@ -69,9 +83,9 @@ fn a_gap_reads_as_zeros(rt: HostRuntime) -> Result<(), Fail> {
             moment: 7
         }
     );
-    let read = read_at(alloc, &mut pages, FILE, 1001, 998, 5)?;
-    assert_eq!(rt; read.as_slice(), b"\0\0x".as_slice());
-    assert_eq!(rt; read_at(alloc, &mut pages, FILE, 1001, 1001, 5)?.len(), 0);
+    let gap = read(alloc, &mut pages, 1001, 998, 5)?;
+    assert_eq!(rt; gap.as_slice(), b"\0\0x".as_slice());
+    assert_eq!(rt; read(alloc, &mut pages, 1001, 1001, 5)?.len(), 0);
     Ok(())
 }
 
@@ -87,10 +101,10 @@ fn what_was_cut_does_not_come_back(rt: HostRuntime) -> Result<(), Fail> {
             moment: 3
         }
     );
-    let read = read_at(alloc, &mut pages, FILE, 600, 99, 501)?;
-    assert_eq!(rt; read.len(), 501);
-    assert_eq!(rt; read[0], b'x');
-    assert!(rt; read[1..].iter().all(|byte| *byte == 0));
+    let bytes = read(alloc, &mut pages, 600, 99, 501)?;
+    assert_eq!(rt; bytes.len(), 501);
+    assert_eq!(rt; bytes[0], b'x');
+    assert!(rt; bytes[1..].iter().all(|byte| *byte == 0));
     Ok(())
 }
 
@@ -99,8 +113,8 @@ fn a_file_has_its_greatest_length(rt: HostRuntime) -> Result<(), Fail> {
     let alloc = rt.alloc();
     let mut pages = written(alloc, empty_file(alloc, 512)?, 1_966_079, b"x", 1)?;
     assert_eq!(rt; read_info(&mut pages, FILE)?.length, 1_966_080);
-    let read = read_at(alloc, &mut pages, FILE, 1_966_080, 1_966_078, 5)?;
-    assert_eq!(rt; read.as_slice(), b"\0x".as_slice());
+    let end = read(alloc, &mut pages, 1_966_080, 1_966_078, 5)?;
+    assert_eq!(rt; end.as_slice(), b"\0x".as_slice());
     let mut pages = resized(alloc, empty_file(alloc, 512)?, 1_966_080, 1)?;
     assert_eq!(rt; read_info(&mut pages, FILE)?.length, 1_966_080);
     Ok(())
@@ -112,7 +126,7 @@ fn bytes_are_appended(rt: HostRuntime) -> Result<(), Fail> {
     let pages = written(alloc, empty_file(alloc, 512)?, 0, b"ab", 1)?;
     let mut pages = written(alloc, pages, 2, b"cd", 1)?;
     assert_eq!(rt;
-        read_at(alloc, &mut pages, FILE, 4, 0, 10)?.as_slice(),
+        read(alloc, &mut pages, 4, 0, 10)?.as_slice(),
         b"abcd".as_slice()
     );
     Ok(())
@@ -209,12 +223,12 @@ fn change_at_random(alloc: Global, random: &mut Pcg32, page_bytes: u32) -> Resul
             }
         }
         let len = plain.len as u64;
-        let read = read_at(alloc, &mut pages, FILE, len, 0, 100_000)?;
+        let whole = read(alloc, &mut pages, len, 0, 100_000)?;
         let from = random.next_word() % 10_000;
-        let part = read_at(alloc, &mut pages, FILE, len, u64::from(from), 3_000)?;
-        let end = (from as usize + 3_000).min(read.len());
-        if !plain.is(&read)
-            || part.as_slice() != read.as_slice().get(from as usize..end).unwrap_or(b"")
+        let part = read(alloc, &mut pages, len, u64::from(from), 3_000)?;
+        let end = (from as usize + 3_000).min(whole.len());
+        if !plain.is(&whole)
+            || part.as_slice() != whole.as_slice().get(from as usize..end).unwrap_or(b"")
         {
             return Ok(false);
         }

@@ -2,7 +2,7 @@
 use crate::store::{ROOT, Store, changed, empty_volume, entry};
 use directories::read_head;
 use flash_tree::Key;
-use object_pages::{find, names, read};
+use object_pages::{find, names, read_into};
 use object_store::ObjectChange;
 use pages::{Pages, Presence};
 use posix_profile::Kind;
@@ -48,8 +48,9 @@ fn a_file_is_found_and_read(rt: HostRuntime) -> Result<(), Fail> {
     assert_eq!(rt; find(&index, &mut pages, ROOT, 1, b"docs")?, Some(DOCS));
     assert_eq!(rt; find(&index, &mut pages, DOCS, 1, b"a")?, Some(FILE));
     assert_eq!(rt; find(&index, &mut pages, DOCS, 1, b"b")?, None);
-    let bytes = read(&mut pages, alloc, FILE, 514, 508, 9)?;
-    assert_eq!(rt; bytes.as_slice(), b"\0\0abcd".as_slice());
+    let mut bytes = [b'x'; 9];
+    assert_eq!(rt; read_into(&mut pages, FILE, 514, 508, &mut bytes)?, 6);
+    assert_eq!(rt; bytes.as_slice(), b"\0\0abcdxxx".as_slice());
     assert_eq!(rt; names(&mut pages, alloc, ROOT)?.as_slice().len(), 1);
     Ok(())
 }

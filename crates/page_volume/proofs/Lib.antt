@@ -1,3 +1,4 @@
 mod Calls
+pub mod Called
 pub mod Closed
 pub mod Exact

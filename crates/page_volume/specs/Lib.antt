@@ -1,3 +1,4 @@
 pub mod Volumes
 pub mod Running
+pub mod Calls
 pub mod Closing

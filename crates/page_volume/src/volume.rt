@@ -37,7 +37,8 @@ impl<P: PageStore> PageVolume<P> {
     ghost use Rattle.command_plans.specs.Tables.{handles_in};
     ghost use Rattle.paged_objects.specs.Parts as parts;
     ghost use Rattle.object_commands.specs.Describing.{Describes};
-    ghost use Rattle.object_commands.specs.Running.{OnlyTells};
+    ghost use Rattle.object_commands.specs.Reads.{LeavesRest, asked_of, read_reply, reading};
+    ghost use Rattle.page_volume.specs.Calls.{IsCalled};
     ghost use Rattle.page_volume.specs.Closing.{CanWrite, KeepsOnly};
     ghost use Rattle.page_volume.specs.Running.{RunsPages};
 
@@ -63,39 +64,19 @@ impl<P: PageStore> PageVolume<P> {
 
     /// Does a command and replies to it.
     pub fn ask(&mut self, asked: &Asked<'_>) -> Reply
-        ensures goes_on { GoesOn (P.state (pages_of self.old)) (P.state (pages_of self.new)) }
-        ensures keeps { (is_read_only self.new ≡ is_read_only self.old) × (table_sizes (table_of self.new) ≡ table_sizes (table_of self.old)) }
-        ensures leaves { makes_no_call (command_of asked.now.request) ≡ true → (P.state (pages_of self.new)).device ≡ (P.state (pages_of self.old)).device }
-        ensures stopped { is_stopped self.old ≡ true → (result ≡ replies.Error errors.EIO) × (self.new ≡ self.old) }
-        ensures stops { is_stopped self.old ≡ false → is_stopped self.new ≡ is_stop result }
-        // The reply is the step's; or want of memory, of a command that takes some; or the stop.
-        ensures replies { is_stopped self.old ≡ false → (z : Sizes) (s : State) → IsVolumeOf P.state z s self.old
-            → Replies z (is_read_only self.old) s (stamped_of asked.now) result }
-        ensures state { is_stopped self.old ≡ false → (z : Sizes) (s : State) → IsVolumeOf P.state z s self.old → is_stop result ≡ false
-            → IsVolumeOf P.state z (after_one z (is_read_only self.old) s (stamped_of asked.now) result) self.new }
-        // A mount shows the tree that it did, or what names keep of the objects before the command.
-        ensures tree { is_stopped self.old ≡ false → (z : Sizes) (s : State) → IsVolumeOf P.state z s self.old → (tree : Objects) → Shown z (P.state (pages_of self.old)) tree
-            → Shown z (P.state (pages_of self.new)) tree ⊎ Shown z (P.state (pages_of self.new)) (settled s.objects) }
-        ensures synced { is_stopped self.old ≡ false → (z : Sizes) (s : State) → IsVolumeOf P.state z s self.old → is_synced (command_of asked.now.request) result ≡ true
-            → Shown z (P.state (pages_of self.new)) (settled s.objects) }
-        ensures cause { is_stopped self.old ≡ false → (z : Sizes) (s : State) → IsVolumeOf P.state z s self.old → is_stop result ≡ true
-            → HasEnded (P.state (pages_of self.old)) (P.state (pages_of self.new)) }
-        // Where memory was refused the device has power.
-        ensures power { is_stopped self.old ≡ false → (z : Sizes) (s : State) → IsVolumeOf P.state z s self.old → result ≡ replies.Error errors.ENOMEM
-            → (P.state (pages_of self.new)).device.gone ≡ false }
-        // A reply other than EIO is given by a device that has not lost its power in the command.
-        ensures keeps_power { is_stop result ≡ false → (P.state (pages_of self.old)).device.gone ≡ false → (P.state (pages_of self.new)).device.gone ≡ false }
-        // What only tells, what is meant to be answered by an error, and what was refused memory leave the pages.
-        ensures reads { is_stopped self.old ≡ false → (z : Sizes) (s : State) → IsVolumeOf P.state z s self.old → OnlyTells z (is_read_only self.old) s (stamped_of asked.now) result
-            → StaysAs (P.state (pages_of self.old)) (P.state (pages_of self.new)) }
-        // The device of a read-only volume is only read.
-        ensures only_reads { is_read_only self.old ≡ true → (z : Sizes) (s : State) → IsVolumeOf P.state z s self.old
-            → OnlyReads (P.state (pages_of self.old)).device (P.state (pages_of self.new)).device }
-        // And nothing stops it but a device that is gone or not honest.
-        ensures only_failed { is_read_only self.old ≡ true → is_stopped self.old ≡ false → (z : Sizes) (s : State) → IsVolumeOf P.state z s self.old → is_stop result ≡ true
-            → HasFailed (P.state (pages_of self.new)).device }
+        ensures { IsCalled P.state self.old (stamped_of asked.now) result self.new }
     {
         self.volume.ask(asked)
+    }
+
+    /// Reads at a descriptor's offset into a buffer, as the command of as many bytes as it has room for, and returns how many were
+    /// read. What lies past them in the buffer stays; after EIO and ENOMEM it may have some of the bytes.
+    pub fn read_into(&mut self, fd: u32, buffer: &mut [u8]) -> Result<usize, Errno>
+        ensures size { length buffer.new ≡ length buffer.old }
+        ensures rest { LeavesRest buffer.old buffer.new result }
+        ensures called { IsCalled P.state self.old (reading fd (asked_of buffer.old)) (read_reply buffer.new result) self.new }
+    {
+        self.volume.read_into(fd, buffer)
     }
 
     /// Does the commands in turn and adds their replies at the end of the vector. Where a reply finds no room its command

@@ -13,7 +13,7 @@ use name_index::NameIndex;
 use object_store::{ObjectChange, ObjectStore};
 use object_table::ObjectTable;
 use pages::PageStore;
-use posix_profile::{Bytes, Info, NameList};
+use posix_profile::{Info, NameList};
 use std::alloc::Global;
 use volume_terms::{StoreFault, VolumeSizes};
 
@@ -118,16 +118,15 @@ impl<P: PageStore> ObjectStore for PagedObjects<P> {
         }
     }
 
-    fn read(
+    fn read_into(
         &mut self,
-        alloc: Global,
         file: u64,
         offset: u64,
-        count: u32,
-    ) -> Result<Bytes, StoreFault> {
+        buffer: &mut [u8],
+    ) -> Result<usize, StoreFault> {
         let len = length_of(&self.table, file);
-        match object_pages::read(&mut self.pages, alloc, file, len, offset, count) {
-            Ok(bytes) => Ok(bytes),
+        match object_pages::read_into(&mut self.pages, file, len, offset, buffer) {
+            Ok(count) => Ok(count),
             Err(fault) => Err(fault_of(fault)),
         }
     }

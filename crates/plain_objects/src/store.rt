@@ -1,15 +1,15 @@
 // Maps as a store.
-ghost use Rattle.std.specs.Prelude.{◌≡◌, ◌<◌, ◌^◌, ◌↔◌, Some, IfOk, IsTrue, true, take, drop};
+ghost use Rattle.std.specs.Prelude.{◌≡◌, ◌<◌, ◌≤◌, ◌^◌, ◌↔◌, Some, IfOk, IsTrue, true, length, take, drop};
 ghost use Rattle.std.specs.FinMap as map;
 ghost use Rattle.volume_terms.specs.Sizes.{IsSizes};
 ghost use Rattle.volume_terms.specs.VolumeSizes.{sizes_of};
 ghost use Rattle.posix_profile.specs.Charge.{charge, fits};
 ghost use Rattle.posix_profile.specs.laws.Fresh.{fresh};
-ghost use Rattle.object_store.specs.Facts.{bytes_of};
+ghost use Rattle.object_store.specs.Facts.{bytes_from, bytes_of};
 ghost use Rattle.object_store.specs.Stores.{settled};
-ghost use Rattle.plain_state.specs.PlainState.{objects_in};
+ghost use Rattle.plain_state.specs.PlainState.{object_of, objects_in};
 
-use crate::changes::{bytes_at, changed, forget};
+use crate::changes::{changed, forget};
 use crate::names::names_at;
 use object_store::{ObjectChange, ObjectStore};
 use plain_state::change::new_number;
@@ -19,7 +19,7 @@ use plain_state::object::{EntryMap, ObjectMap, PlainObject};
 use plain_state::prune::settled;
 use plain_state::same::same_objects;
 use plain_state::table::{copy_objects, object_at, put_object};
-use posix_profile::{Bytes, Info, NameList};
+use posix_profile::{Info, NameList};
 use std::alloc::{AllocError, Global};
 use volume_terms::{ROOT, StoreFault, VolumeSizes};
 
@@ -98,29 +98,52 @@ fn charge_of(sizes: VolumeSizes, objects: &ObjectMap) -> u64
 }
 
 /// The bytes from the offset, at most so many.
-fn window(bytes: &[u8], offset: u64, count: u32) -> &[u8]
+fn window(bytes: &[u8], offset: u64, count: usize) -> &[u8]
     ensures { result.now ≡ take count (drop offset bytes.now) }
 {
     let start = offset.min(bytes.len() as u64) as usize;
     let (_before, rest) = bytes.split_at(start);
-    let end = rest.len().min(count as usize);
+    let end = rest.len().min(count);
     let (there, _after) = rest.split_at(end);
     there
 }
 
-/// A copy of the bytes of a file from the offset, at most so many.
-fn read_at(
-    alloc: Global,
-    objects: &ObjectMap,
-    file: u64,
-    offset: u64,
-    count: u32,
-) -> Result<Bytes, AllocError>
-    ensures { IfOk result (λ bytes. bytes ≡ take count (drop offset (bytes_of (map.get (objects_in objects.now) file)))) }
+/// Puts the bytes from the offset at the front of a buffer, as many as it has room for, and returns how many.
+fn put_window(bytes: &[u8], offset: u64, buffer: &mut [u8]) -> usize
+    ensures size { length buffer.new ≡ length buffer.old }
+    ensures count { result ≤ length buffer.old }
+    ensures rest { drop result buffer.new ≡ drop result buffer.old }
+    ensures bytes { take result buffer.new ≡ take (length buffer.old) (drop offset bytes.now) }
 {
-    let all = bytes_at(alloc, objects, file)?;
-    let there = Vec::from_slice(alloc, window(&all, offset, count))?;
-    Ok(Bytes::new(there))
+    let there = window(bytes, offset, buffer.len());
+    buffer[..there.len()].copy_from_slice(there);
+    there.len()
+}
+
+/// Puts the bytes of an object from the offset at the front of a buffer, as many as it has room for, and returns how many.
+fn put_bytes(object: &PlainObject, offset: u64, buffer: &mut [u8]) -> usize
+    ensures size { length buffer.new ≡ length buffer.old }
+    ensures count { result ≤ length buffer.old }
+    ensures rest { drop result buffer.new ≡ drop result buffer.old }
+    ensures bytes { take result buffer.new ≡ take (length buffer.old) (drop offset (bytes_of (Some (object_of object.now)))) }
+{
+    match object {
+        PlainObject::File { bytes, .. } => put_window(bytes, offset, buffer),
+        PlainObject::Directory { .. } => put_window(&[], offset, buffer),
+    }
+}
+
+/// Puts the bytes of a file from the offset at the front of a buffer, as many as it has room for, and returns how many.
+fn read_into(objects: &ObjectMap, file: u64, offset: u64, buffer: &mut [u8]) -> usize
+    ensures size { length buffer.new ≡ length buffer.old }
+    ensures count { result ≤ length buffer.old }
+    ensures rest { drop result buffer.new ≡ drop result buffer.old }
+    ensures bytes { take result buffer.new ≡ bytes_from (objects_in objects.now) file offset (length buffer.old) }
+{
+    match object_at(objects, file) {
+        Some(object) => put_bytes(object, offset, buffer),
+        None => put_window(&[], offset, buffer),
+    }
 }
 
 impl ObjectStore for PlainObjects {
@@ -175,17 +198,13 @@ impl ObjectStore for PlainObjects {
         }
     }
 
-    fn read(
+    fn read_into(
         &mut self,
-        alloc: Global,
         file: u64,
         offset: u64,
-        count: u32,
-    ) -> Result<Bytes, StoreFault> {
-        match read_at(alloc, &self.objects, file, offset, count) {
-            Ok(bytes) => Ok(bytes),
-            Err(_) => Err(StoreFault::NoMemory),
-        }
+        buffer: &mut [u8],
+    ) -> Result<usize, StoreFault> {
+        Ok(read_into(&self.objects, file, offset, buffer))
     }
 
     fn apply(&mut self, change: &ObjectChange<'_>) -> Result<(), StoreFault> {

@@ -6,7 +6,7 @@ use Rattle.page_volume.specs.Volumes.{IsVolumeOf}
 use Rattle.page_volume.specs.declared.volume.PageVolume.{PageVolume}
 use Rattle.pages.specs.State.{PagesState}
 use Rattle.posix_calls.specs.Answering.{ShowsState}
-use Rattle.posix_calls.specs.Calls.{IsCalled}
+use Rattle.page_volume.specs.Calls.{IsCalled}
 use Rattle.posix_profile.specs.Runs.{Replies, after_one}
 use Rattle.posix_profile.specs.State.{State}
 use Rattle.posix_profile.specs.declared.command.Stamped.{Stamped}

@@ -1,4 +1,3 @@
-pub mod Calls
 pub mod Describing
 pub mod Mounts
 pub mod Volumes

@@ -27,10 +27,11 @@ where
 }
 
 impl<N: Nand> Volume<N> {
+    ghost use Rattle.object_commands.specs.Reads.{LeavesRest, asked_of, read_reply, reading};
     ghost use Rattle.page_volume.specs.Running.{RunsPages};
     ghost use Rattle.page_volume.specs.Volumes.{pages_of, table_of, is_read_only, is_stopped};
     ghost use Rattle.flash_pages.specs.Sealing.{IsDueOf};
-    ghost use Rattle.posix_calls.specs.Calls.{IsCalled, VolumeGoesOn};
+    ghost use Rattle.page_volume.specs.Calls.{IsCalled, VolumeGoesOn};
     ghost use Rattle.posix_calls.specs.Describing.{IsDescribed};
     ghost use Rattle.posix_calls.specs.Endings.{IsUnmounted, LeavesCheckpoint, LiesOn};
     ghost use Rattle.posix_calls.specs.Volumes.{over_pages};
@@ -40,6 +41,16 @@ impl<N: Nand> Volume<N> {
         ensures { IsCalled ⟦<FlashPages<TrustedNand<N>> as Pages>⟧.state (over_pages self.old) (stamped_of asked.now) result (over_pages self.new) }
     {
         self.volume.ask(asked)
+    }
+
+    /// Reads at a descriptor's offset into a buffer, as the command of as many bytes as it has room for, and returns how many were
+    /// read. What lies past them in the buffer stays; after EIO and ENOMEM it may have some of the bytes. It takes no memory for them.
+    pub fn read_into(&mut self, fd: u32, buffer: &mut [u8]) -> Result<usize, Errno>
+        ensures size { length buffer.new ≡ length buffer.old }
+        ensures rest { LeavesRest buffer.old buffer.new result }
+        ensures called { IsCalled ⟦<FlashPages<TrustedNand<N>> as Pages>⟧.state (over_pages self.old) (reading fd (asked_of buffer.old)) (read_reply buffer.new result) (over_pages self.new) }
+    {
+        self.volume.read_into(fd, buffer)
     }
 
     /// Does a command that is a value, and replies to it.

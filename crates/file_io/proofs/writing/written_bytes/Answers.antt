@@ -45,8 +45,8 @@ returns-clause-holds g c = λ z moment all f head.
     let count : c.min-to.result - c.args.offset - (c.max-from.result - c.args.offset) ≡ c.min-to.result - c.max-from.result = omega (arith, from, to) in
     let part : List ℕ = take (c.min-to.result - c.args.offset - (c.max-from.result - c.args.offset)) (drop (c.max-from.result - c.args.offset) c.args.bytes.now) in
     let part_is : part ≡ take (c.min-to.result - c.max-from.result) (drop (c.max-from.result - c.args.offset) c.args.bytes.now) = ap (λ n. take n (drop (c.max-from.result - c.args.offset) c.args.bytes.now)) count in
-    let over : c.overwrite.new.page ≡ overwritten c.in_ok-page.page.items (c.max-from.result - k * d) part = c.overwrite.ensures ∙ ap (λ (xs : List ℕ). overwritten xs (c.max-from.result - k * d) part) c.deref_mut.ensures.value in
-    let items : (with_items c.in_ok-page.page c.overwrite.new.page).items ≡ c.overwrite.new.page = with_items_is c.in_ok-page.page c.overwrite.new.page (search (rules, places)) in
+    let over : c.overwrite.new.buffer ≡ overwritten c.in_ok-page.page.items (c.max-from.result - k * d) part = c.overwrite.ensures.bytes ∙ ap (λ (xs : List ℕ). overwritten xs (c.max-from.result - k * d) part) c.deref_mut.ensures.value in
+    let items : (with_items c.in_ok-page.page c.overwrite.new.buffer).items ≡ c.overwrite.new.buffer = with_items_is c.in_ok-page.page c.overwrite.new.buffer (search (rules, places)) in
     let holds = over_holds d k c.args.offset c.args.bytes.now all c.max-from.result c.min-to.result from to begins ends c.requires.some part part_is c.in_ok-page.page.items was in
-    subst (λ n. HoldsChunk n (written all c.args.offset c.args.bytes.now) k (with_items c.in_ok-page.page c.overwrite.new.page).items) size_old
+    subst (λ n. HoldsChunk n (written all c.args.offset c.args.bytes.now) k (with_items c.in_ok-page.page c.overwrite.new.buffer).items) size_old
     (subst (λ (xs : List ℕ). HoldsChunk d (written all c.args.offset c.args.bytes.now) k xs) (sym (items ∙ over)) holds)

@@ -1,4 +1,4 @@
-use Rattle.std.proofs.Common.{◌∙◌, ℤ, sym, ap, refl, to_z, of_z, w32, w64}
+use Rattle.std.proofs.Common.{◌∙◌, ℤ, sym, ap, refl, inr, to_z, of_z, w32, w64}
 use Rattle.std.proofs.lemmas.Int.{to_z-of_z}
 use Rattle.posix_profile.specs.declared.reply.Errno.TheVariants as errors
 use Rattle.posix_profile.specs.declared.reply.Reply.TheVariants as replies
@@ -7,7 +7,7 @@ use Rattle.flash_c.proofs.Replies.{served_in_place}
 use Rattle.flash_c.proofs.questions.flash_read.Goals as goal
 
 pub returns-then-not-is_full : goal.returns-then-not-is_full
-returns-then-not-is_full c = (replies.Error errors.EINVAL, empty (sym c.is_full.ensures.full ∙ c.if-not-is_full.true) c.is_full.ensures.same, ap (λ (n : ℤ). to_z w64 (of_z w64 n)) (c.from.ensures ∙ ap (λ (n : ℤ). to_z w32 (of_z w32 n)) c.error_number.ensures.number), refl)
+returns-then-not-is_full c = (replies.Error errors.EINVAL, empty (sym c.is_full.ensures.full ∙ c.if-not-is_full.true) c.is_full.ensures.same, ap (λ (n : ℤ). to_z w64 (of_z w64 n)) (c.from.ensures ∙ ap (λ (n : ℤ). to_z w32 (of_z w32 n)) c.error_number.ensures.number), (refl, inr (inr refl)))
 
 pub returns : goal.returns
 returns c =

@@ -3,6 +3,7 @@ use Rattle.std.proofs.lemmas.Bool.{false_from_ne_true, true≢false}
 use Rattle.posix_profile.specs.Outcomes.{Outcome, refuse}
 use Rattle.posix_profile.specs.Requests.{command_of, stamped_of}
 use Rattle.posix_profile.specs.Runs.{is_stop}
+use Rattle.posix_profile.specs.declared.reply.Reply.TheVariants as replies
 use Rattle.posix_profile.specs.laws.Own.{command_own}
 use Rattle.posix_profile.specs.laws.Step.{step_sound}
 use Rattle.posix_profile.specs.Steps.{step}
@@ -46,8 +47,8 @@ returns-in-Err-Fault-NoMemory-clause-ends g c z s at =
     let class = class_of a.read_only s (command_of c.args.asked.now.request) in
     let meant = step z a.read_only s (stamped_of c.args.asked.now) in
     let told = c.pass_over.ensures in
-    let b = record c.pass_over.new.self { stopped = is_stop c.pass_over.result } in
-    refused_ends m law z class _ s meant a b c.pass_over.result at (false_from_ne_true _ (λ yes'. c.in-Err-Fault-NoMemory.ensures.memory yes' (c.in-Err-Fault-NoMemory.field-0-is ∙ ap refusals.Fault c.in-Err-Fault-NoMemory.field-0-0-is)))
+    let b = record c.pass_over.new.self { stopped = is_stop (replies.Error c.pass_over.result) } in
+    refused_ends m law z class _ s meant a b (replies.Error c.pass_over.result) at (false_from_ne_true _ (λ yes'. c.in-Err-Fault-NoMemory.ensures.memory yes' (c.in-Err-Fault-NoMemory.field-0-is ∙ ap refusals.Fault c.in-Err-Fault-NoMemory.field-0-0-is)))
     (law.reads_on a.store c.plan.new.store b.store c.plan.ensures.reads told.reads) (ap (λ v. v.table) told.same) (ap (λ v. v.read_only) told.same) told.tells refl
 
 pub returns-in-Ok-clause-only : goal.returns-in-Ok-clause-only
@@ -97,4 +98,4 @@ pub returns-in-Err-Fault-NoMemory-clause-unread : goal.returns-in-Err-Fault-NoMe
 returns-in-Err-Fault-NoMemory-clause-unread g c only z s at stop =
     let law = g.met.S.ObjectStore.lawful in
     let told = c.pass_over.ensures in
-    refused_unread g.S.ObjectStore.meaning law _ c.pass_over.new.self.store c.pass_over.result (law.reads_on _ c.plan.new.store _ c.plan.ensures.reads told.reads) told.tells stop
+    refused_unread g.S.ObjectStore.meaning law _ c.pass_over.new.self.store (replies.Error c.pass_over.result) (law.reads_on _ c.plan.new.store _ c.plan.ensures.reads told.reads) told.tells stop

@@ -2,6 +2,7 @@ use Rattle.std.proofs.Common.{refl, ◌∙◌, ap, inl}
 use Rattle.std.proofs.lemmas.Bool.{false_from_ne_true}
 use Rattle.posix_profile.specs.Outcomes.{Outcome}
 use Rattle.posix_profile.specs.Runs.{is_stop}
+use Rattle.posix_profile.specs.declared.reply.Reply.TheVariants as replies
 use Rattle.command_plans.specs.Plans.{frees}
 use Rattle.object_commands.proofs.Ending.{is_done, refused_ends}
 use Rattle.object_commands.proofs.volume.Volume.carry_out.Goals as goal
@@ -20,6 +21,6 @@ returns-in-Err-NoMemory-clause-ends g c z s at class meant is sound own stays =
     let none = rw c.in-Err-NoMemory.field-0-is at c.in-Err-NoMemory.ensures.memory in
     let left : m.reads a.store c.work.new.store = rw c.in-Err-NoMemory.field-0-is at (c.in-Err-NoMemory.ensures.works z s.objects at.has is.can) in
     let told = c.pass_over.ensures in
-    let b = record c.pass_over.new.self { stopped = is_stop c.pass_over.result } in
-    refused_ends m law z class (frees c.args.plan.work) s meant a b c.pass_over.result at (false_from_ne_true _ (λ yes'. none yes' refl))
+    let b = record c.pass_over.new.self { stopped = is_stop (replies.Error c.pass_over.result) } in
+    refused_ends m law z class (frees c.args.plan.work) s meant a b (replies.Error c.pass_over.result) at (false_from_ne_true _ (λ yes'. none yes' refl))
     (law.reads_on a.store c.work.new.store b.store left told.reads) (ap (λ v. v.table) told.same) (ap (λ v. v.read_only) told.same) told.tells refl

@@ -1,6 +1,6 @@
 use Rattle.std.proofs.Common.{arith}
 use Rattle.fused_store.proofs.Fuses.{unread_before}
-use Rattle.fused_store.proofs.fuse.FusedStoreObjectStore.read.Goals as goal
+use Rattle.fused_store.proofs.fuse.FusedStoreObjectStore.read_into.Goals as goal
 
 pub returns-in-DoneAndLost-clause-finds : goal.returns-in-DoneAndLost-clause-finds
 returns-in-DoneAndLost-clause-finds g c z objects has there =

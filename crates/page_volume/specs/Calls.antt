@@ -4,7 +4,8 @@ use Rattle.command_plans.specs.Classes.{makes_no_call}
 use Rattle.nand_model.specs.Changes.{OnlyReads}
 use Rattle.object_commands.specs.Running.{OnlyTells}
 use Rattle.object_store.specs.Stores.{settled}
-use Rattle.page_volume.specs.Volumes.{pages_of, is_read_only, is_stopped, IsVolumeOf}
+use Rattle.object_table.specs.Told.{table_sizes}
+use Rattle.page_volume.specs.Volumes.{pages_of, table_of, is_read_only, is_stopped, IsVolumeOf}
 use Rattle.page_volume.specs.declared.volume.PageVolume.{PageVolume}
 use Rattle.paged_objects.specs.Ending.{HasEnded, StaysAs}
 use Rattle.paged_objects.specs.Standing.{Shown}
@@ -44,6 +45,7 @@ pub record VolumeGoesOn {P : Type 0} (state : P → PagesState) (old new : PageV
 pub record IsCalled {P : Type 0} (state : P → PagesState) (old : PageVolume P) (command : Stamped) (reply : Reply) (new : PageVolume P) : Type 0 where
   pub goes_on : GoesOn (state (pages_of old)) (state (pages_of new))
   pub read_only : is_read_only new ≡ is_read_only old
+  pub sizes : table_sizes (table_of new) ≡ table_sizes (table_of old)
   pub leaves : makes_no_call command.command ≡ true → (state (pages_of new)).device ≡ (state (pages_of old)).device
   pub keeps_power : is_stop reply ≡ false → (state (pages_of old)).device.gone ≡ false → (state (pages_of new)).device.gone ≡ false
   pub stopped : is_stopped old ≡ true → (reply ≡ replies.Error errors.EIO) × (new ≡ old)

@@ -1,4 +1,5 @@
 use Rattle.std.proofs.Common.{refl, ◌∙◌}
+use Rattle.pages.specs.laws.Faults.{lacks_memory}
 use Rattle.pages.specs.State.{PagesState}
 use Rattle.paged_objects.specs.Faults.{fault_of}
 use Rattle.paged_objects.specs.Parts.{state_of}
@@ -6,16 +7,16 @@ use Rattle.paged_objects.specs.laws.Showing.{holds_in}
 use Rattle.paged_objects.proofs.Ends.{read_fault}
 use Rattle.paged_objects.proofs.Meant.{has_objects, read_faults}
 use Rattle.paged_objects.specs.declared.store.PagedObjects.{PagedObjects}
-use Rattle.paged_objects.proofs.store.PagedObjectsObjectStore.read.Goals as goal
+use Rattle.paged_objects.proofs.store.PagedObjectsObjectStore.read_into.Goals as goal
 
 pub returns-in-Err-clause-finds : goal.returns-in-Err-clause-finds
 returns-in-Err-clause-finds g c = λ z objects has is.
     let p : PagesState = g.P.Pages.state c.args.self.now.pages in
-    let q : PagesState = g.P.Pages.state c.read.new.pages in
+    let q : PagesState = g.P.Pages.state c.read_into.new.pages in
     let mine = has_objects (state_of g.P.Pages.state) c.args.self.now z objects has in
     rw c.fault_of.ensures (read_faults {S = PagedObjects g.row.P.Denot} (state_of g.P.Pages.state) c.args.self.now
-    (record { alloc = c.args.self.now.alloc; pages = c.read.new.pages; table = c.args.self.now.table; names = c.args.self.now.names }) (fault_of c.in-Err.fault) c.read.ensures.finds refl refl
-    (read_fault q c.in-Err.fault (g.met.P.PageStore.lost c.read.new.pages (c.read.ensures.finds.sound ∙ mine.pages.stands.sound)) c.in-Err.ensures.fault))
+    (record { alloc = c.args.self.now.alloc; pages = c.read_into.new.pages; table = c.args.self.now.table; names = c.args.self.now.names }) (fault_of c.in-Err.fault) c.read_into.ensures.finds refl refl
+    (read_fault q c.in-Err.fault (g.met.P.PageStore.lost c.read_into.new.pages (c.read_into.ensures.finds.sound ∙ mine.pages.stands.sound)) (lacks_memory p q c.in-Err.fault c.in-Err.ensures.fault)))
 
 pub returns-in-Ok-clause-finds : goal.returns-in-Ok-clause-finds
 returns-in-Ok-clause-finds g c = λ z objects has is.

@@ -214,6 +214,22 @@ static void churn(void)
     expect(flash_fs_sync(&fs) == 0, "sync");
 }
 
+static void before_unmount(void)
+{
+    small_files();
+    in_order();
+}
+
+static void unmount(void)
+{
+    expect(flash_fs_unmount(&fs) == 0, "an unmount");
+    TOGGLE();
+    struct ram_nand_counts counts = nand.counts;
+    expect(flash_fs_mount(&fs, &nand.driver) == 0, "a mount after it");
+    nand.counts = counts;
+    TOGGLE();
+}
+
 struct workload {
     const char *name, *text;
     void (*before)(void), (*work)(void);
@@ -229,6 +245,7 @@ static const struct workload workloads[] = {
     {"reads", "4 MiB read in order, by 4 KiB", before_reads, reads},
     {"random_reads", "4,096 reads of 512 bytes in 4 MiB", before_reads, random_reads},
     {"seeks", "1,000 seeks", before_reads, seeks},
+    {"unmount", "the unmount of 200 files and one of 4 MiB, with its checkpoint", before_unmount, unmount},
 };
 
 static void run(const struct workload *workload)

@@ -370,6 +370,29 @@ static void test_placed_errors(void)
     printf("  the errors of these calls, by hand\n");
 }
 
+/* By hand: once the cache has its pages a read takes no memory, however large it is, and it leaves what lies past its bytes. */
+static void test_large_reads(void)
+{
+    static unsigned char wrote[60000], bytes[sizeof wrote + 2];
+    make_empty();
+    for (size_t i = 0; i < sizeof wrote; i++)
+        wrote[i] = (unsigned char)(i * 31 + i / 251);
+    int fd = flash_fs_open(&fs, "/file", FLASH_RDWR | FLASH_CREAT, 1);
+    check(flash_fs_write(&fs, fd, wrote, sizeof wrote, 1) == sizeof wrote && flash_fs_sync(&fs) == 0, "a file");
+    check(flash_fs_pread(&fs, fd, bytes, sizeof wrote, 0) == sizeof wrote, "a read that fills the cache");
+    memset(bytes, 'x', sizeof bytes);
+    refuse(1, true);
+    check(flash_fs_pread(&fs, fd, bytes, sizeof bytes, 0) == sizeof wrote && memory.asked == 0, "a read without memory");
+    refuse(0, false);
+    check(memcmp(bytes, wrote, sizeof wrote) == 0 && bytes[sizeof wrote] == 'x' && bytes[sizeof wrote + 1] == 'x', "its bytes");
+    check(flash_fs_pread(&fs, fd, bytes, 9, sizeof wrote - 5) == 5 && memcmp(bytes, wrote + sizeof wrote - 5, 5) == 0 &&
+              memcmp(bytes + 5, wrote + 5, 4) == 0,
+          "the end of the file");
+    flash_fs_abandon(&fs);
+    check(memory.blocks == 0, "memory is left");
+    printf("  a read of %zu bytes with no memory left, by hand\n", sizeof wrote);
+}
+
 static void test_too_many(void)
 {
     static struct flash_fs many[FLASH_VOLUMES + 1];
@@ -406,6 +429,7 @@ int main(int count, char **words)
     test_addresses();
     test_placed();
     test_placed_errors();
+    test_large_reads();
     ram_nand_free(&nand);
     ram_nand_free(&before);
     return 0;

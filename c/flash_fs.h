@@ -264,7 +264,7 @@ int flash_fs_close(struct flash_fs *fs, int fd);
 
 /* Reads from the offset on, and moves it. Returns how many bytes were read: fewer than `size` only at the end of the file (and
  * at most 2^32 - 1). It takes memory for the cache of pages alone, however large the buffer is. What lies past the bytes in the
- * buffer stays as it was; after EIO and ENOMEM the buffer may have some of the bytes, and the offset stays. Errors: EBADF; EISDIR.
+ * buffer stays as it was; after EIO and ENOMEM the buffer may hold anything, and the offset stays. Errors: EBADF; EISDIR.
  */
 int64_t flash_fs_read(struct flash_fs *fs, int fd, void *buffer, size_t size);
 

@@ -7,7 +7,7 @@ use Rattle.std.proofs.lemmas.List.{ext_get_or, length-drop, length-take, length-
 use Rattle.std.proofs.lemmas.Slice.{drop-put_mid}
 use lib.Seq.{take_at, drop_at}
 use Rattle.file_io.specs.Chunks.{chunks_over, overwritten}
-use Rattle.file_io.specs.Parts.{part_from, part_to, part_of, with_front}
+use Rattle.file_io.specs.Parts.{part_from, part_to, part_of}
 
 -- the chunk of the first byte is not past that of the last
 pub chunks_order : (d off end : ℕ) → off < end → off / d ≤ (end - 1) / d + 1
@@ -33,6 +33,10 @@ take_on off at next all low high =
     let place : off + (at - off) ≡ at = omega (arith, low) in
     ap (λ (xs : List ℕ). take (at - off) (drop off all) ++ take (next - at) xs) (sym (drop-drop (at - off) off all ∙ ap (λ n. drop n all) place))
     ∙ sym (take-add (at - off) (next - at) (drop off all)) ∙ ap (λ n. take n (drop off all)) (sym sum)
+
+-- a buffer with bytes at its front, and past them what it had
+abbrev pub with_front : List ℕ → List ℕ → List ℕ
+with_front buffer bytes = bytes ++ drop (length bytes) buffer
 
 -- a buffer with the bytes before a place at its front, and those up to a next one put behind them
 over_next : (off at next : ℕ) (all buffer now new : List ℕ) → off ≤ at → at ≤ next → next ≤ length all → now ≡ with_front buffer (take (at - off) (drop off all))

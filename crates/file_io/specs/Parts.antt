@@ -1,5 +1,5 @@
 -- The part of a range of a file that lies in one of its chunks.
-use Rattle.std.specs.Prelude.{ℕ, ◌+◌, ◌-◌, ◌*◌, List, ◌++◌, length, take, drop, min, max}
+use Rattle.std.specs.Prelude.{ℕ, ◌+◌, ◌-◌, ◌*◌, List, take, drop, min, max}
 
 -- where the part begins and where it ends
 abbrev pub part_from : ℕ → ℕ → ℕ → ℕ
@@ -11,7 +11,3 @@ part_to d k end = min end (k * d + d)
 -- the bytes of the part of chunk k
 abbrev pub part_of : (d k off end : ℕ) → List ℕ → List ℕ
 part_of d k off end all = take (part_to d k end - part_from d k off) (drop (part_from d k off) all)
-
--- a buffer with bytes at its front, and past them what it had
-abbrev pub with_front : List ℕ → List ℕ → List ℕ
-with_front buffer bytes = bytes ++ drop (length bytes) buffer

@@ -56,8 +56,8 @@ fn read_part<P: Pages>(
 }
 
 /// Reads the bytes of a file of this length from a place on into a buffer, as many as there are and the buffer has room for, and
-/// returns how many. A chunk without a page reads as zeros. What lies past them in the buffer stays; after a fault the buffer may have
-/// some of the bytes.
+/// returns how many. A chunk without a page reads as zeros. What lies past them in the buffer stays; after a fault the buffer may hold
+/// anything.
 ///
 /// Each chunk of the range is looked for, and the header is not. No page is asked for a hole.
 pub fn read_at<P: Pages>(

@@ -27,8 +27,8 @@ data_number room (replies.Data bytes) = filled_number room (error_number errors.
 data_number room (replies.Error error) = error_number error
 data_number room reply = error_number errors.EIO
 
--- the buffer after a read: the data at its front, and after it what was there; after an error it is as it was, but where a read failed or was
--- refused memory, of which it may have some bytes
+-- the buffer after a read: the data at its front, and after it what was there; after an error it is as it was, but EIO and ENOMEM, after which it
+-- may hold anything
 abbrev pub HasData : List ℕ → Reply → List ℕ → Type 0
 HasData before (replies.Data bytes) after = after ≡ filled before bytes
 HasData before (replies.Error error) after = (length after ≡ length before) × ((error ≡ errors.EIO) ⊎ ((error ≡ errors.ENOMEM) ⊎ (after ≡ before)))

@@ -53,8 +53,8 @@ abbrev pub read_reply : List ℕ → Result ℕ Errno → Reply
 read_reply buffer (Ok count) = replies.Data (take count buffer)
 read_reply buffer (Err error) = replies.Error error
 
--- what a read into a buffer leaves of it: what lies past the bytes that were read; after an error all of it, but where a read failed or was
--- refused memory, of which some bytes may be there
+-- what a read into a buffer leaves of it: what lies past the bytes that were read; after an error all of it, but EIO and ENOMEM, after which it
+-- may hold anything
 abbrev pub LeavesRest : List ℕ → List ℕ → Result ℕ Errno → Type 0
 LeavesRest before after (Ok count) = (count ≤ length before) × (drop count after ≡ drop count before)
 LeavesRest before after (Err error) = (error ≡ errors.EIO) ⊎ ((error ≡ errors.ENOMEM) ⊎ (after ≡ before))

@@ -349,7 +349,7 @@ impl<S: ObjectStore> Volume<S> {
     }
 
     /// Reads at a descriptor's offset into a buffer, as the command of as many bytes as it has room for, and returns how many were
-    /// read. What lies past them in the buffer stays; after EIO and ENOMEM it may have some of the bytes.
+    /// read. What lies past them in the buffer stays; after EIO and ENOMEM it may hold anything.
     pub fn read_into(&mut self, fd: u32, buffer: &mut [u8]) -> Result<usize, Errno>
         ensures size { length buffer.new ≡ length buffer.old }
         ensures rest { LeavesRest buffer.old buffer.new result }

@@ -49,7 +49,7 @@ pub fn names<P: Pages>(pages: &mut P, alloc: Global, directory: u64) -> Result<N
 }
 
 /// Reads the bytes of a file of this length from the offset on into a buffer, as many as there are and the buffer has room for, and
-/// returns how many. After a fault the buffer may have some of them.
+/// returns how many. After a fault the buffer may hold anything.
 pub fn read_into<P: Pages>(
     pages: &mut P,
     file: u64,

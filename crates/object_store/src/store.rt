@@ -68,7 +68,7 @@ pub trait ObjectStore {
             → Finds meaning (map.keys (entries_of (map.get objects directory))) self.old self.new result };
 
     /// Reads the bytes of a file from the offset into a buffer, as many as there are and the buffer has room for, and returns how
-    /// many. What lies past them in the buffer stays; after a fault it may have some of the bytes.
+    /// many. What lies past them in the buffer stays; after a fault it may hold anything.
     fn read_into(&mut self, file: u64, offset: u64, buffer: &mut [u8]) -> Result<usize, StoreFault>
         ensures reads { meaning.reads self.old self.new }
         ensures power { OnOk result (meaning.has_power self.new ≡ meaning.has_power self.old) }

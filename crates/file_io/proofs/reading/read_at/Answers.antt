@@ -5,9 +5,9 @@ use lib.Seq.{take_at}
 use Rattle.std.proofs.lemmas.Result.{err_from_is_err_and}
 use Rattle.pages.specs.laws.State.{finds_on}
 use Rattle.file_io.specs.Chunks.{overwritten}
-use Rattle.file_io.specs.Parts.{part_from, part_of, with_front}
+use Rattle.file_io.specs.Parts.{part_from, part_of}
 use Rattle.file_io.proofs.FilePages.{later, only_later}
-use Rattle.file_io.proofs.Ranges.{next_part, begins_before, ends_behind, ends_at, range_end, read_none, read_all, asked_for, chunks_order}
+use Rattle.file_io.proofs.Ranges.{with_front, next_part, begins_before, ends_behind, ends_at, range_end, read_none, read_all, asked_for, chunks_order}
 use Rattle.pages.specs.Maps.{PageMap}
 use Rattle.file_io.specs.Chunks.{one_page}
 use Rattle.pages.specs.laws.Faults.{lacks_on}

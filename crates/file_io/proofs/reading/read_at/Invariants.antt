@@ -3,7 +3,7 @@ use Rattle.volume_terms.specs.Sizes.{Sizes}
 use Rattle.pages.specs.State.{OnlyFinds, KeepsPower}
 use Rattle.file_io.specs.Files.{FileIn, HasOnly}
 use Rattle.file_io.specs.Chunks.{count_pages}
-use Rattle.file_io.specs.Parts.{with_front}
+use Rattle.file_io.proofs.Ranges.{with_front}
 use Rattle.file_io.proofs.reading.read_at.Given as goal
 
 abbrev pub invariant-loop-index : goal.invariant-loop-index

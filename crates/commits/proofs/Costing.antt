@@ -1,20 +1,25 @@
--- What calls in turn cost.
-use Rattle.std.proofs.Common.{◌≡◌, ◌<◌, ◌≤◌, ℕ, ◌+◌, ◌-◌, ◌*◌, List, Option, Some, None, refl, sym, ap, subst, ◌∙◌, arith}
+-- What a commit and its turns cost.
+use Rattle.std.proofs.Common.{◌≡◌, ◌<◌, ◌≤◌, ℕ, ◌+◌, ◌-◌, ◌*◌, List, Option, Some, None, Ok, Err, refl, sym, ap, subst, ◌∙◌, arith}
 use Rattle.std.specs.Option.{option_map_or}
 use Rattle.std.proofs.Math.Nat.{mul-le-mul_right, mul-le-mul_left}
 use Rattle.nand_model.specs.Calls.{Device, Lasts}
+use Rattle.nand_model.specs.Counts.{Costs, ReadsFew}
+use Rattle.nand_model.specs.declared.geometry.Geometry.{Geometry}
+use Rattle.flash_tree.specs.declared.place.FreshPage.{FreshPage}
 use Rattle.block_state.specs.Kept.{bad_count}
 use Rattle.block_state.specs.Table.{Table, room}
+use Rattle.transactions.specs.Checking.{LogState, log_of}
 use Rattle.transactions.specs.Ready.{IsReady}
 use Rattle.transactions.specs.laws.Ready.{none_waits}
 use Rattle.bad_blocks.specs.Moving.{MarksFailures}
-use Rattle.nand_model.specs.Counts.{Costs}
-use Rattle.bad_blocks.specs.Taking.{CostsATake}
-use Rattle.collector.specs.Making.{FitsOpen, HasMore}
+use Rattle.collector.specs.Making.{FitsOpen}
+use Rattle.collector.specs.declared.fault.RoomFault.{RoomFault}
 use Rattle.commits.specs.Carrying.{AreWritable}
 use Rattle.commits.specs.Committing.{TakesNoBlock, TakesOneBlock}
-use Rattle.flash_tree.specs.declared.place.FreshPage.{FreshPage}
-use Rattle.nand_model.specs.declared.geometry.Geometry.{Geometry}
+use Rattle.commits.specs.Writing.{PaysAttempt, QuietAttempt, unanswered}
+use Rattle.commits.specs.declared.writing.Attempt.{Attempt}
+
+-- ---- changes
 
 -- what each failure costs more
 each_more : (k m a b : ℕ) → k ≤ m → a ≤ b → k * b + m * a ≤ m * b + k * a
@@ -46,21 +51,20 @@ costs_on m n k a b c first then =
 pub costs_none : (k : ℕ) (d : Device) → Costs 0 k 0 d d
 costs_none k d = let one : k * (d.failures + 0) ≡ k * d.failures = omega arith in omega (arith, one)
 
--- so many changes
-pub costs_changes : (n k : ℕ) (d e : Device) → Lasts d e → e.changes ≤ d.changes + n → Costs n k 0 d e
-costs_changes n k d e lasts few =
-    let one : k * (d.failures + 0) ≡ k * d.failures = omega arith in
-    let more : k * d.failures ≤ k * e.failures = mul-le-mul_left k lasts.failures in
-    omega (arith, few, one, more)
-
--- a failure in the middle pays for all that is done before and after
-pub costs_failed : (m n r k : ℕ) (a b c d : Device) → Costs m k 0 a b → c.changes ≤ b.changes + n → b.failures + 1 ≤ c.failures → Costs r k 0 c d → m + n + r ≤ k → Costs 0 k 0 a d
-costs_failed m n r k a b c d first few failed then pays =
-    let one : k * (a.failures + 0) ≡ k * a.failures = omega arith in
-    let two : k * (c.failures + 0) ≡ k * c.failures = omega arith in
-    let more : k * (b.failures + 1) ≤ k * c.failures = mul-le-mul_left k failed in
-    let split : k * (b.failures + 1) ≡ k * b.failures + k = omega arith in
-    omega (arith, first, few, then, pays, one, two, more, split)
+-- a failure pays for all that its turn did besides
+pub costs_again : (n k m : ℕ) (d e : Device) → n + k ≤ m → d.failures < e.failures → Costs n k 0 d e → Costs 0 m 0 d e
+costs_again n k m d e few failed costs =
+    let g : ℕ = e.failures - d.failures in
+    let rise : e.failures ≡ d.failures + g = omega (arith, failed) in
+    let some : 1 ≤ g = omega (arith, failed) in
+    let all : (n + k) * g ≤ m * g = mul-le-mul_right g few in
+    let one : n * 1 ≤ n * g = mul-le-mul_left n some in
+    let split : (n + k) * g ≡ n * g + k * g = omega arith in
+    let of_k : k * e.failures ≡ k * d.failures + k * g = ap (λ f. k * f) rise ∙ (omega arith) in
+    let of_m : m * e.failures ≡ m * d.failures + m * g = ap (λ f. m * f) rise ∙ (omega arith) in
+    let k_none : k * (d.failures + 0) ≡ k * d.failures = omega arith in
+    let m_none : m * (d.failures + 0) ≡ m * d.failures = omega arith in
+    omega (arith, costs, all, one, split, of_k, of_m, k_none, m_none)
 
 -- no more pages can be written than a block has
 pub room_most : (t : Table) → room t ≤ t.geometry.pages
@@ -69,54 +73,77 @@ room_most t = go t.open_block where
   go None = omega arith
   go (Some b) = omega arith
 
--- ---- no block is taken
+-- so pages that the open block has room for are no more than a block has
+pub fits_block : (count : ℕ) (a b : LogState) → IsReady a.device a.table → b.device.geometry ≡ a.device.geometry → FitsOpen count a.table → count ≤ b.device.geometry.pages
+fits_block count a b ready same fits =
+    let most = room_most a.table in
+    let size : a.table.geometry.pages ≡ b.device.geometry.pages = ap (λ (g : Geometry). g.pages) (ready.geometry ∙ sym same) in
+    omega (arith, most, size, fits)
 
--- where the open block has the room, the making of it changes nothing; then come the programs of the pages
-pub takes_none_written : (count : ℕ) (t : Table) (a b c : Device) → (FitsOpen count t → b ≡ a) → c.changes ≤ b.changes + count → TakesNoBlock count t a c
-takes_none_written count t a b c same few = λ fits _.
-    let still : b.changes ≡ a.changes = ap (λ (d : Device). d.changes) (same fits) in
-    omega (arith, few, still)
+-- ---- bills
 
--- a failure was counted
-pub takes_none_failed : (count : ℕ) (t : Table) (a b c d : Device) → a.failures ≤ b.failures → b.failures + 1 ≤ c.failures → c.failures ≤ d.failures → TakesNoBlock count t a d
-takes_none_failed count t a b c d first failed then = λ _ none. absurd (omega (arith, first, failed, then, none))
+-- what an attempt costs
+pub attempt_done : (count : ℕ) (a b : LogState) (attempt : Attempt) → bad_count b.table ≡ bad_count a.table → b.device.failures ≡ a.device.failures + unanswered (Ok attempt) → b.device.changes ≤ a.device.changes + count
+    → ReadsFew 0 a.device b.device → QuietAttempt count a.device b.device (Ok attempt) → PaysAttempt count a b (Ok attempt)
+attempt_done count a b attempt bad rise few reads quiet = record {
+  pays = record {
+    costs = let more : (a.device.geometry.pages + 2) * (a.device.failures + unanswered (Ok attempt)) ≡ (a.device.geometry.pages + 2) * b.device.failures = ap (λ n. (a.device.geometry.pages + 2) * n) (sym rise) in omega (arith, few, more);
+    marks = omega (arith, bad, rise);
+    answers = omega (arith, bad, rise);
+    reads = reads;
+  };
+  quiet = quiet;
+}
 
--- a turn after others takes none, where it is the first one, or each before it counted a failure
-pub takes_none_turn : (count now : ℕ) (t u : Table) (a b c : Device) → now ≡ count → Lasts a b → Lasts b c → (b.failures ≡ a.failures → (b ≡ a) × (u ≡ t)) → TakesNoBlock now u b c → TakesNoBlock count t a c
-takes_none_turn count now t u a b c same first then here turn = λ fits none.
-    let rise = first.failures in
-    let rises = then.failures in
-    let at : (b ≡ a) × (u ≡ t) = here (omega (arith, rise, rises, none)) in
-    let still : b.changes ≡ a.changes = ap (λ (d : Device). d.changes) at.0 in
-    let fit : now ≤ room t = omega (arith, same, fits) in
-    let few = turn (subst (λ (s : Table). now ≤ room s) (sym at.1) fit) (omega (arith, rise, rises, none)) in
-    omega (arith, few, still, same)
+pub attempt_short : (count : ℕ) (a b : LogState) (fault : RoomFault) → bad_count b.table ≡ bad_count a.table → a.device.failures ≤ b.device.failures → b.device.changes ≤ a.device.changes + count
+    → ReadsFew 1 a.device b.device → PaysAttempt count a b (Err fault)
+attempt_short count a b fault bad rise few reads = record {
+  pays = record {
+    costs =
+        let more : (a.device.geometry.pages + 2) * a.device.failures ≤ (a.device.geometry.pages + 2) * b.device.failures = mul-le-mul_left (a.device.geometry.pages + 2) rise in
+        let none : (a.device.geometry.pages + 2) * (a.device.failures + 0) ≡ (a.device.geometry.pages + 2) * a.device.failures = omega arith in
+        omega (arith, few, more, none);
+    marks = omega (arith, bad, rise);
+    answers = tt;
+    reads = reads;
+  };
+  quiet = tt;
+}
 
--- ---- at most one block is taken
+-- ---- all turns
 
--- where blocks can be taken, the making of room takes one at most; then come the programs of the pages
-pub takes_one_written : (count spare : ℕ) (t : Table) (a b c : Device) → (HasMore t spare → CostsATake a b) → a.failures ≤ b.failures → b.failures ≤ c.failures → c.changes ≤ b.changes + count → TakesOneBlock count spare t a c
-takes_one_written count spare t a b c takes rise more few = λ has none.
-    let take : CostsATake a b = takes has in
-    omega (arith, take, rise, more, few, none)
+-- The last turn comes after others: it is the first one, or each before it counted a failure.
+module _ (count now spare : ℕ) (a b c : LogState) (same : now ≡ count) (first : Lasts a.device b.device) (then : Lasts b.device c.device) (here : b.device.failures ≡ a.device.failures → b ≡ a)
+    (costs : Costs 0 (3 * a.device.geometry.pages + 3) 0 a.device b.device) where
+  at_first : c.device.failures ≡ a.device.failures → b ≡ a
+  at_first none = let rise = first.failures in let rises = then.failures in here (omega (arith, rise, rises, none))
 
--- a failure was counted
-pub takes_one_failed : (count spare : ℕ) (t : Table) (a b c d : Device) → a.failures ≤ b.failures → b.failures + 1 ≤ c.failures → c.failures ≤ d.failures → TakesOneBlock count spare t a d
-takes_one_failed count spare t a b c d first failed then = λ _ none. absurd (omega (arith, first, failed, then, none))
+  pub costs_last : Costs (b.device.geometry.pages + 1 + now) (b.device.geometry.pages + 2) 0 b.device c.device → Costs (count + a.device.geometry.pages + 1) (3 * a.device.geometry.pages + 3) 0 a.device c.device
+  costs_last turn =
+      let p : ℕ = a.device.geometry.pages in
+      let size : b.device.geometry.pages ≡ p = ap (λ (g : Geometry). g.pages) first.geometry in
+      let one : Costs (p + 1 + now) (p + 2) 0 b.device c.device = subst (λ n. Costs (n + 1 + now) (n + 2) 0 b.device c.device) size turn in
+      let more : Costs (p + 1 + now) (3 * p + 3) 0 b.device c.device = costs_each (p + 1 + now) (p + 2) (3 * p + 3) b.device c.device (omega arith) then one in
+      let both : Costs (0 + (p + 1 + now)) (3 * p + 3) 0 a.device c.device = costs_on 0 (p + 1 + now) (3 * p + 3) a.device b.device c.device costs more in
+      costs_more (0 + (p + 1 + now)) (count + p + 1) (3 * p + 3) a.device c.device (omega (arith, same)) both
 
--- a turn after others takes one at most, where it is the first one, or each before it counted a failure
-pub takes_one_turn : (count now spare : ℕ) (t u : Table) (a b c : Device) → now ≡ count → Lasts a b → Lasts b c → (b.failures ≡ a.failures → (b ≡ a) × (u ≡ t)) → TakesOneBlock now spare u b c → TakesOneBlock count spare t a c
-takes_one_turn count now spare t u a b c same first then here turn = λ has none.
-    let rise = first.failures in
-    let rises = then.failures in
-    let at : (b ≡ a) × (u ≡ t) = here (omega (arith, rise, rises, none)) in
-    let still : b.changes ≡ a.changes = ap (λ (d : Device). d.changes) at.0 in
-    let few = turn (subst (λ (s : Table). HasMore s spare) (sym at.1) has) (omega (arith, rise, rises, none)) in
-    omega (arith, few, still, same)
+  pub none_last : TakesNoBlock now b c → TakesNoBlock count a c
+  none_last turn = subst (λ n. TakesNoBlock n a c) same (λ fits none. subst (λ (s : LogState). TakesNoBlock now s c) (at_first none) turn fits none)
+
+  pub one_last : TakesOneBlock now spare b c → TakesOneBlock count spare a c
+  one_last turn = subst (λ n. TakesOneBlock n spare a c) same (λ has none. subst (λ (s : LogState). TakesOneBlock now spare s c) (at_first none) turn has none)
 
 -- a turn that ends with one more bad block had a failure
-pub never_still : (a d e : Device) (t u : Table) → e.failures ≡ a.failures → a.failures ≤ d.failures → bad_count t < bad_count u → MarksFailures 0 0 d e t u → ⊥
-never_still a d e t u still rise more marks = omega (arith, still, rise, more, marks)
+pub had_failure : (d e : LogState) → bad_count d.table < bad_count e.table → MarksFailures 0 0 d.device e.device d.table e.table → d.device.failures < e.device.failures
+had_failure d e more marks = omega (arith, more, marks)
+
+-- and so it is not as if none had been
+pub had_none : (a d e : Device) → e.failures ≡ a.failures → a.failures ≤ d.failures → d.failures < e.failures → ⊥
+had_none a d e still rise failed = omega (arith, still, rise, failed)
+
+-- a log of the same parts is the same
+pub same_log : (d e : Device) (t u : Table) → e ≡ d → u ≡ t → log_of e u ≡ log_of d t
+same_log d e t u device table = λ i. record { device = device i; table = table i }
 
 -- where the open block has room, no block may have a checkpoint
 pub none_with_room : (n : ℕ) (d : Device) (t : Table) → IsReady d t → 1 ≤ n → n ≤ room t → t.checkpoint ≡ None

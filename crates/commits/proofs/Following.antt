@@ -1,7 +1,6 @@
 -- Kept pages that were moved, and their data.
-use Rattle.std.proofs.Common.{◌≡◌, ℕ, List, Option, Some, None, refl, sym, ap, subst, ◌∙◌, inl, inr}
+use Rattle.std.proofs.Common.{◌≡◌, ℕ, List, Option, Some, None, refl, sym, ap, subst, ◌∙◌}
 use Rattle.std.specs.Option.{option_and_then}
-use Rattle.std.proofs.lemmas.Bool.{cases_eq}
 use Rattle.nand_model.specs.Flash.{Flash}
 use Rattle.flash_tree.specs.Newest.{Spot, HasNewest}
 use Rattle.flash_tree.specs.laws.Newest.{one_spot}

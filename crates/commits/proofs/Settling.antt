@@ -39,6 +39,7 @@ use Rattle.bad_blocks.specs.laws.Moves.{may_lie_later}
 use Rattle.commits.specs.Carrying.{AreWritable, HaveRanges}
 use Rattle.pages.specs.Stores.{HasPage, IsCarried}
 use Rattle.commits.specs.Keeping.{Commits}
+use Rattle.transactions.specs.Checking.{log_of}
 use Rattle.commits.proofs.Counts.{ListsAreWhole, held_lists, settled_most, settled_elsewhere}
 use Rattle.commits.proofs.Following.{on_flash_kept}
 use Rattle.commits.proofs.Freeing.{bad_still, free_is, has_free, has_unkept}
@@ -274,20 +275,23 @@ module _ (spare : ℕ) (lists : ListsAreWhole) (d e : Device) (t u v : Table) (x
   pub free_whole : HasFreeBlocks v spare
   free_whole = free_settled spare lists group t u v x y pages settles buffers agree counts same stands.tables free numbers.numbers.groups_rise lies fills opened not_free shut noted_none
 
-  pub commits_whole : Commits spare d e t v x y pages
-  commits_whole = record {
-    lasts = lasts;
-    ready = ready_counted e u v (kept_in x) (kept_in y) counts then;
-    stands = record {
-      tables = tables_settled spare lists group t u v x y pages settles buffers agree counts same stands.tables free numbers.numbers.groups_rise lies fills opened not_free shut noted_none;
-      newest = λ honest on.
-          let was : d.honest ≡ true = sym lasts.honest ∙ honest in
-          newest_settled group e.flash x y settles (kept_buffered t x pages o buffers d.flash e.flash (shows was)) (kept_on_flash t x pages o buffers d.flash e.flash (shows was) (kept was));
-      ordinary = λ honest. ordinary_settled group x y settles (buffered_ordinary (sym lasts.honest ∙ honest)) (stands.ordinary (sym lasts.honest ∙ honest));
-      limits = limits_counted u v (kept_in x) (kept_in y) counts (limits stands.limits);
+  pub commits_whole : (last rest written : List FreshPage)
+      → Commits spare (record { log = log_of d t; index = x; pages = pages; last = last }) (record { log = log_of e v; index = y; pages = rest; last = written })
+  commits_whole last rest written = record {
+    log = record {
+      lasts = lasts;
+      ready = ready_counted e u v (kept_in x) (kept_in y) counts then;
+      stands = record {
+        tables = tables_settled spare lists group t u v x y pages settles buffers agree counts same stands.tables free numbers.numbers.groups_rise lies fills opened not_free shut noted_none;
+        newest = λ honest on.
+            let was : d.honest ≡ true = sym lasts.honest ∙ honest in
+            newest_settled group e.flash x y settles (kept_buffered t x pages o buffers d.flash e.flash (shows was)) (kept_on_flash t x pages o buffers d.flash e.flash (shows was) (kept was));
+        ordinary = λ honest. ordinary_settled group x y settles (buffered_ordinary (sym lasts.honest ∙ honest)) (stands.ordinary (sym lasts.honest ∙ honest));
+        limits = limits_counted u v (kept_in x) (kept_in y) counts (limits stands.limits);
+      };
+      numbers = hands_counted d e t u v (kept_in x) (kept_in y) counts numbers;
     };
-    numbers = hands_counted d e t u v (kept_in x) (kept_in y) counts numbers;
-    presents = settles.presents;
+    settled = settles.presents;
     keys = settles.ready;
     kept = λ honest on. written_kept group x y pages d.flash e.flash settles buffers (reads_buffered t x pages o buffers d.flash e.flash (shows honest)) (reads_on_flash t x pages o buffers d.flash e.flash (shows honest) (kept honest));
     newest = λ honest. record {

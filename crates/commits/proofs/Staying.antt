@@ -1,20 +1,21 @@
 -- Whether the open block stays open, and what hinders the writing of the buffered pages.
-use Rattle.std.proofs.Common.{◌≡◌, ◌<◌, ◌≤◌, ℕ, ◌+◌, ◌-◌, ◌^◌, true, false, Option, Some, None, Err, refl, sym, ap, subst, ◌∙◌, arith}
+use Rattle.std.proofs.Common.{◌≡◌, ◌<◌, ◌≤◌, ℕ, ◌+◌, ◌-◌, true, false, Option, Some, None, Result, Ok, Err, OnOk, refl, sym, ap, subst, ◌∙◌, arith}
 use Rattle.std.specs.Option.{option_map_or}
+use Rattle.std.proofs.lemmas.Result.{on_ok_weaker}
 use Rattle.nand_model.specs.Calls.{Device, Lasts}
 use Rattle.nand_model.specs.declared.geometry.Geometry.{Geometry}
 use Rattle.block_state.specs.declared.blocks.BlockEntry.{BlockEntry}
 use Rattle.block_state.specs.Table.{Table, room}
 use Rattle.chunk_index.specs.Counts.{Recounts}
-use Rattle.chunk_index.specs.declared.index.Index.{Index}
-use Rattle.page_buffer.specs.declared.buffer.Buffer.{Buffer}
+use Rattle.transactions.specs.Checking.{LogState}
 use Rattle.transactions.specs.Groups.{TakesPages}
 use Rattle.transactions.specs.Ready.{IsReady}
 use Rattle.collector.specs.Making.{FitsOpen}
 use Rattle.collector.specs.declared.fault.RoomFault.{RoomFault}
 use Rattle.collector.specs.declared.fault.RoomFault.TheVariants as faults
+use Rattle.commits.specs.Buffered.{BufferedLog}
 use Rattle.commits.specs.Committing.{IsUnhindered, KeepsOpen, StaysOpen}
-use Rattle.commits.specs.Writing.{AttemptEnds}
+use Rattle.commits.specs.Writing.{AttemptEnds, GoesWell}
 
 -- the pages of the open block that are not written
 room_open : (o : ℕ) (t : Table) → t.open_block ≡ Some o → room t ≡ t.geometry.pages - (t.entry o).next
@@ -53,48 +54,51 @@ stays_open count o t u v before after is fits takes counts =
     let next : (v.entry o).next ≡ (t.entry o).next + count = counts.next o ∙ ap (λ (e : BlockEntry). e.next) (takes.here o is) in
     record { open_block = counts.open_block ∙ takes.open_block; pages = omega (arith, here, there, pages, next, fits) }
 
--- where the making of room changes nothing
-pub keeps_open_written : (count : ℕ) (t u v : Table) (a c : Device) → (FitsOpen count t → u ≡ t) → StaysOpen count u v → KeepsOpen count t v a c
-keeps_open_written count t u v a c same stays = λ fits _. subst (λ (s : Table). StaysOpen count s v) (same fits) stays
+-- ---- a turn
 
--- a failure was counted
-pub keeps_open_failed : (count : ℕ) (t u : Table) (a b c d : Device) → a.failures ≤ b.failures → b.failures + 1 ≤ c.failures → c.failures ≤ d.failures → KeepsOpen count t u a d
-keeps_open_failed count t u a b c d first failed then = λ _ none. absurd (omega (arith, first, failed, then, none))
+-- Before a turn's writing room was made, and where there was room nothing was done for it.
+module _ {T E : Type 0} (count : ℕ) (a b c : LogState) (result : Result T E) (first : Lasts a.device b.device) (then : Lasts b.device c.device) (same : FitsOpen count a.table → b ≡ a) where
+  still : FitsOpen count a.table → c.device.failures ≡ a.device.failures → c.device.failures ≡ b.device.failures
+  still fits none = let rise = first.failures in let rises = then.failures in omega (arith, rise, rises, none)
 
--- a turn after others is the first one, or each before it counted a failure
-pub keeps_open_turn : (count now : ℕ) (t u v : Table) (a b c : Device) → now ≡ count → Lasts a b → Lasts b c → (b.failures ≡ a.failures → (b ≡ a) × (u ≡ t)) → KeepsOpen now u v b c → KeepsOpen count t v a c
-keeps_open_turn count now t u v a b c same first then here turn = λ fits none.
-    let rise = first.failures in
-    let rises = then.failures in
-    let at : (b ≡ a) × (u ≡ t) = here (omega (arith, rise, rises, none)) in
-    let fit : now ≤ room t = omega (arith, same, fits) in
-    let stays : StaysOpen now u v = turn (subst (λ (s : Table). now ≤ room s) (sym at.1) fit) (omega (arith, rise, rises, none)) in
-    subst (λ n. StaysOpen n t v) same (subst (λ (s : Table). StaysOpen now s v) at.1 stays)
+  pub well_after : GoesWell count b c result → GoesWell count a c result
+  well_after well = record {
+    stays_open = on_ok_weaker result (λ keeps fits none. subst (λ (s : LogState). StaysOpen count s.table c.table) (same fits) (keeps (subst (λ (s : LogState). FitsOpen count s.table) (sym (same fits)) fits) (still fits none))) well.stays_open;
+    unhindered = λ h. well.unhindered (subst (λ (s : LogState). IsUnhindered count s c) (sym (same h.fits)) h);
+  }
+
+-- A turn comes after others: it is the first one, or each before it counted a failure.
+module _ (count now : ℕ) (a b c : LogState) (same : now ≡ count) (first : Lasts a.device b.device) (then : Lasts b.device c.device) (here : b.device.failures ≡ a.device.failures → b ≡ a) where
+  at_first : c.device.failures ≡ a.device.failures → b ≡ a
+  at_first none = let rise = first.failures in let rises = then.failures in here (omega (arith, rise, rises, none))
+
+  unhindered_first : IsUnhindered count a c → IsUnhindered now b c
+  unhindered_first h = subst (λ n. IsUnhindered n b c) (sym same) (subst (λ (s : LogState). IsUnhindered count s c) (sym (at_first h.failures)) h)
+
+  pub well_written : {S T E F : Type 0} (turn : S) (done : T) → GoesWell {E = E} now b c (Ok turn) → GoesWell {E = F} count a c (Ok done)
+  well_written turn done well = record {
+    stays_open = subst (λ n. KeepsOpen n a c) same (λ fits none. subst (λ (s : LogState). KeepsOpen now s c) (at_first none) well.stays_open fits none);
+    unhindered = λ _. refl;
+  }
+
+  pub well_short : {S T E F : Type 0} (fault : E) (other : F) → GoesWell {T = S} now b c (Err fault) → GoesWell {T = T} count a c (Err other)
+  well_short fault other well = record { stays_open = tt; unhindered = λ h. well.unhindered (unhindered_first h) }
 
 -- ---- what hinders
 
 -- a group is not written only where the device is gone or is not honest
-pub attempt_hindered : (count spare : ℕ) (a d e : Device) (s t u : Table) (x y : Index) (b b' : Buffer) (fault : RoomFault) → AttemptEnds spare d e t u x y b b' (Err fault) → e.honest ≡ a.honest → IsUnhindered count s a e → ⊥
-attempt_hindered count spare a d e s t u x y b b' faults.Full ends same h = ends
-attempt_hindered count spare a d e s t u x y b b' faults.Worn ends same h = ends
-attempt_hindered count spare a d e s t u x y b b' faults.Lost ends same h = let two : true ≡ false = sym (same ∙ h.honest) ∙ ends in absurd cc
-attempt_hindered count spare a d e s t u x y b b' faults.Gone ends same h = let two : true ≡ false = sym ends ∙ h.power in absurd cc
+pub attempt_hindered : (count spare : ℕ) (a b : BufferedLog) (fault : RoomFault) → AttemptEnds spare a b (Err fault) → b.log.device.honest ≡ a.log.device.honest → IsUnhindered count a.log b.log → ⊥
+attempt_hindered count spare a b faults.Full ends same h = ends
+attempt_hindered count spare a b faults.Worn ends same h = ends
+attempt_hindered count spare a b faults.Lost ends same h = let two : true ≡ false = sym (same ∙ h.honest) ∙ ends in absurd cc
+attempt_hindered count spare a b faults.Gone ends same h = let two : true ≡ false = sym ends ∙ h.power in absurd cc
 
--- a failure was counted
-pub failed_hindered : (count : ℕ) (t : Table) (a b c d : Device) → a.failures ≤ b.failures → b.failures + 1 ≤ c.failures → c.failures ≤ d.failures → IsUnhindered count t a d → ⊥
-failed_hindered count t a b c d first failed then h = absurd (omega (arith, first, failed, then, h.failures))
-
--- a turn after others is the first one, or each before it counted a failure
-pub unhindered_turn : (count now : ℕ) (t u : Table) (a b c : Device) → now ≡ count → Lasts a b → Lasts b c → (b.failures ≡ a.failures → (b ≡ a) × (u ≡ t)) → IsUnhindered count t a c → IsUnhindered now u b c
-unhindered_turn count now t u a b c same first then here h =
-    let rise = first.failures in
-    let rises = then.failures in
-    let at : (b ≡ a) × (u ≡ t) = here (omega (arith, rise, rises, h.failures)) in
-    let fit : now ≤ room t = omega (arith, same, h.fits) in
-    record {
-      fits = subst (λ (s : Table). now ≤ room s) (sym at.1) fit;
-      number = subst (λ (s : Table). s.next_group < 2 ^ 62) (sym at.1) h.number;
-      honest = first.honest ∙ h.honest;
-      failures = omega (arith, rise, rises, h.failures);
-      power = h.power;
-    }
+-- where a failure was counted nothing is known
+pub well_failed : {T E : Type 0} (count : ℕ) (a b : LogState) (result : Result T E) → a.device.failures < b.device.failures → GoesWell count a b result
+well_failed count a b result failed = record {
+  stays_open = go result;
+  unhindered = λ h. let none = h.failures in absurd (omega (arith, failed, none));
+} where
+  go : {S F : Type 0} (r : Result S F) → OnOk r (KeepsOpen count a b)
+  go (Ok done) = λ _ none. absurd (omega (arith, failed, none))
+  go (Err fault) = tt

@@ -1,5 +1,5 @@
 -- What the writing of the buffered pages leaves, however it ends.
-use Rattle.std.proofs.Common.{refl, ◌≡◌, ◌⊎◌, ◌<◌, ◌≤◌, ◌^◌, ℕ, true, false, List, length, Some, Ok, Err, sym, ap, subst, ◌∙◌, inl, inr}
+use Rattle.std.proofs.Common.{refl, ◌≡◌, ◌⊎◌, ◌<◌, ◌≤◌, ◌^◌, ℕ, true, false, List, [], length, Some, Ok, Err, sym, ap, subst, ◌∙◌, inl, inr}
 use Rattle.std.proofs.lemmas.Bool.{cases_Bool}
 use Rattle.nand_model.specs.Calls.{Device, Lasts}
 use Rattle.nand_model.specs.Changes.{Grows}
@@ -29,8 +29,8 @@ use Rattle.bad_blocks.specs.laws.Keeping.{same_ends, same_closed, limits_ends}
 use Rattle.commits.specs.Carrying.{AreWritable, HaveRanges, StaysOrShows}
 use Rattle.transactions.specs.Checking.{log_of}
 use Rattle.bad_blocks.specs.Steps.{Step}
-use Rattle.commits.specs.Keeping.{Commits, Leaves}
-use Rattle.commits.specs.Writing.{IsGoodBlock}
+use Rattle.commits.specs.Keeping.{Leaves}
+use Rattle.commits.specs.Writing.{IsWhole, WasOpen}
 use Rattle.commits.proofs.Counts.{ListsAreWhole, held_lists}
 use Rattle.bad_blocks.specs.laws.Steps.{moves_kept_none}
 use Rattle.commits.proofs.Grouping.{carries_present, free_group, free_present, keeps_group, newest_written, same_kept_pages, tables_closed}
@@ -52,31 +52,35 @@ pub bad_closed : (t u : Table) → u ≡ closed t → bad_count u ≡ bad_count 
 bad_closed t u is = same_bad_count t u (same_closed t u is)
 
 -- the open block is good, and on the device
-pub good_block : (o : ℕ) (d e : Device) (t v : Table) → IsReady d t → t.open_block ≡ Some o → Lasts d e → (v.entry o).bad ≡ (t.entry o).bad → IsGoodBlock o e v
-good_block o d e t v ready is lasts same = record {
+pub was_open : (o : ℕ) (d e : Device) (t v : Table) → IsReady d t → t.open_block ≡ Some o → Lasts d e → (v.entry o).bad ≡ (t.entry o).bad → WasOpen o (log_of d t) (log_of e v)
+was_open o d e t v ready is lasts same = record {
   within = subst (λ (g : Geometry). o < g.blocks) (sym lasts.geometry) (ready.open_block o is).within;
   good = same ∙ ready.marks o ∙ (ready.open_block o is).good;
+  was = is;
 }
 
--- the group does not count
+-- the group is not valid
 pub keeps_written : (spare : ℕ) (d e : Device) (t u : Table) (x : Index) (xs : List FreshPage) (o : ℕ) → ListsAreWhole → Stands spare d t x → t.next_group < 2 ^ 62 → u ≡ closed t → Lasts d e → IsReady e u
     → HandsOut d e t u → (d.honest ≡ true → KeepsNewest d.flash e.flash) → Step spare (log_of d t) (log_of e u) x x
 keeps_written spare d e t u x xs o lists stands less is lasts then numbers newest = keeps_group spare d e t u x stands (held_lists lists t x stands.tables.counts) less is lasts then numbers newest
 
--- the device went, and the group counts or not
+-- the device lost its power, and the group is valid or not
 pub leaves_gone : (spare : ℕ) (d e : Device) (t u : Table) (x : Index) (pages : List FreshPage) (o : ℕ) → ListsAreWhole → Stands spare d t x → HasFreeBlocks t spare → t.next_group < 2 ^ 62 → t.open_block ≡ Some o → Buffers x pages → IsReady d t
     → u ≡ closed t → Lasts d e → IsReady e u → HandsOut d e t u → e.gone ≡ true → (d.honest ≡ true → Grows d.flash e.flash)
-    → (d.honest ≡ true → GroupsAfter (next_group t (length pages) o) (fresh_name pages t.next_group) (fresh_bytes pages) d.flash e.flash (Err group_faults.Gone)) → Leaves spare d e t u x x pages pages
-leaves_gone spare d e t u x pages o lists stands free less opened buffers ready is lasts then numbers gone grows groups = record {
-  lasts = lasts;
-  ready = then;
-  stands = record {
-    tables = subst (λ (s : Table). TablesAgree spare s x) (sym is) (tables_closed spare t x stands.tables);
-    newest = λ honest power. let two : true ≡ false = sym gone ∙ power in absurd cc;
-    ordinary = λ honest. stands.ordinary (sym lasts.honest ∙ honest);
-    limits = limits_ends (length pages) t u (Err group_faults.Gone) is less stands.limits;
+    → (d.honest ≡ true → GroupsAfter (next_group t (length pages) o) (fresh_name pages t.next_group) (fresh_bytes pages) d.flash e.flash (Err group_faults.Gone)) → (last : List FreshPage)
+    → Leaves spare (record { log = log_of d t; index = x; pages = pages; last = last }) (record { log = log_of e u; index = x; pages = pages; last = last })
+leaves_gone spare d e t u x pages o lists stands free less opened buffers ready is lasts then numbers gone grows groups last = record {
+  log = record {
+    lasts = lasts;
+    ready = then;
+    stands = record {
+      tables = subst (λ (s : Table). TablesAgree spare s x) (sym is) (tables_closed spare t x stands.tables);
+      newest = λ honest power. let two : true ≡ false = sym gone ∙ power in absurd cc;
+      ordinary = λ honest. stands.ordinary (sym lasts.honest ∙ honest);
+      limits = limits_ends (length pages) t u (Err group_faults.Gone) is less stands.limits;
+    };
+    numbers = numbers;
   };
-  numbers = numbers;
   buffers = buffers;
   waits = inl (refl, moves_kept_none x);
   keys = λ o k is. is;
@@ -88,21 +92,21 @@ leaves_gone spare d e t u x pages o lists stands free less opened buffers ready 
   same : SameCounts t u
   same = same_closed t u is
 
-  after : (honest : d.honest ≡ true) → d.gone ≡ false → NewestAfter (next_group t (length pages) o) (fresh_name pages t.next_group) (fresh_bytes pages) d.flash e.flash (Err group_faults.Gone) → StaysOrShows spare x pages d e
+  after : (honest : d.honest ≡ true) → d.gone ≡ false → NewestAfter (next_group t (length pages) o) (fresh_name pages t.next_group) (fresh_bytes pages) d.flash e.flash (Err group_faults.Gone) → StaysOrShows spare (record { log = log_of d t; index = x; pages = pages; last = last }) e
   after honest power (inl keeps) = inl (record { same_data = same_kept_pages x d.flash e.flash keeps; free = free_group spare d e t u x stands held is lasts then (λ _. keeps) honest })
   after honest power (inr shows) = inr (record {
     newest = carries_present t x pages o buffers d.flash e.flash shows (stands.newest honest power);
     free = free_present t x pages o buffers d.flash e.flash shows (stands.newest honest power) spare e.geometry (sym then.geometry ∙ same.geometry) (λ b. sym (then.marks b) ∙ same.bad b) opened held free;
   })
 
-  newest : d.honest ≡ true → (d.gone ≡ true) ⊎ (d.gone ≡ false) → StaysOrShows spare x pages d e
+  newest : d.honest ≡ true → (d.gone ≡ true) ⊎ (d.gone ≡ false) → StaysOrShows spare (record { log = log_of d t; index = x; pages = pages; last = last }) e
   newest honest (inl was) = inl (record {
     same_data = λ o c p xs at v. subst (λ (z : Device). HasVersion z.flash o c p.version xs) (sym (lasts.gone was)) v;
     free = λ before. subst (λ (z : Device). LeavesFree z.geometry z.flash spare (IsKept (kept_pages x))) (sym (lasts.gone was)) before;
   })
   newest honest (inr power) = after honest power (newest_written d e t pages o ready honest (grows honest) (Err group_faults.Gone) (groups honest))
 
--- the group counts
+-- the group is valid
 module _ (spare : ℕ) (lists : ListsAreWhole) (d e : Device) (t u v : Table) (x y : Index) (pages : List FreshPage) (o : ℕ) (placed : Placed)
     (buffers : Buffers x pages) (is : t.open_block ≡ Some o) (ready : IsReady d t) (stands : Stands spare d t x) (free : HasFreeBlocks t spare)
     (writable : AreWritable d pages) (ranges : HaveRanges pages) (fit : length pages ≤ room t) (less : t.next_group < 2 ^ 62)
@@ -119,10 +123,14 @@ module _ (spare : ℕ) (lists : ListsAreWhole) (d e : Device) (t u v : Table) (x
   shows : d.honest ≡ true → ShowsGroup (next_group t (length pages) o) (fresh_name pages t.next_group) (fresh_bytes pages) d.flash e.flash
   shows honest = newest_written d e t pages o ready honest (grows honest) (Ok placed) (groups honest)
 
-  pub commits_written : Commits spare d e t v x y pages
-  commits_written = commits_whole spare lists d e t u v x y pages o buffers is ready stands free writable ranges fit lasts then numbers (same_ends (length pages) t u (Ok placed) table)
-      (open_after placed.suspect (length pages) o t u is table) (limits_ends (length pages) t u (Ok placed) table less) power shows settles_there agree counts
-
-  pub free_written : HasFreeBlocks v spare
-  free_written = free_whole spare lists d e t u v x y pages o buffers is ready stands free writable ranges fit lasts then numbers (same_ends (length pages) t u (Ok placed) table)
-      (open_after placed.suspect (length pages) o t u is table) (limits_ends (length pages) t u (Ok placed) table less) power shows settles_there agree counts
+  pub whole_written : (last rest written : List FreshPage) → rest ≡ [] → written ≡ pages
+      → IsWhole spare (record { log = log_of d t; index = x; pages = pages; last = last }) (record { log = log_of e v; index = y; pages = rest; last = written })
+  whole_written last rest written empty same = record {
+    commits = commits_whole spare lists d e t u v x y pages o buffers is ready stands free writable ranges fit lasts then numbers (same_ends (length pages) t u (Ok placed) table)
+        (open_after placed.suspect (length pages) o t u is table) (limits_ends (length pages) t u (Ok placed) table less) power shows settles_there agree counts last rest written;
+    empty = empty;
+    last = same;
+    free = free_whole spare lists d e t u v x y pages o buffers is ready stands free writable ranges fit lasts then numbers (same_ends (length pages) t u (Ok placed) table)
+        (open_after placed.suspect (length pages) o t u is table) (limits_ends (length pages) t u (Ok placed) table less) power shows settles_there agree counts;
+    power = power;
+  }

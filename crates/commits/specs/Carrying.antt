@@ -8,34 +8,32 @@ use Rattle.flash_tree.specs.declared.place.FreshPage.{FreshPage}
 use Rattle.flash_tree.specs.declared.place.Key.{Key}
 use Rattle.pages.specs.Maps.{PageMap}
 use Rattle.pages.specs.Stores.{Carries, HasPage, IsCarried}
-use Rattle.chunk_index.specs.declared.index.Index.{Index}
 use Rattle.chunk_index.specs.Maps.{kept_pages}
-use Rattle.page_buffer.specs.Shown.{kept_data, present_data}
 use Rattle.bad_blocks.specs.Standing.{IsKept, SameData}
+use Rattle.commits.specs.Buffered.{BufferedLog, committed, current}
 
--- A device that carries the kept pages carries them still, or it carries the present ones: all of the one or all of the
+-- A device that carries the committed pages carries them still, or it carries the current ones: all of the one or all of the
 -- other, with blocks enough that hold none of them.
-abbrev pub CarriesEither : (spare : ℕ) → Index → List FreshPage → Device → Device → Type 0
-CarriesEither spare x pages old new = IsCarried old spare (kept_data x old.flash)
-    → IsCarried new spare (kept_data x old.flash) ⊎ IsCarried new spare (present_data x pages old.flash)
+abbrev pub CarriesEither : (spare : ℕ) → BufferedLog → Device → Type 0
+CarriesEither spare old new = IsCarried old.log.device spare (committed old) → IsCarried new spare (committed old) ⊎ IsCarried new spare (current old)
 
--- the newest page of each kept key has its version and its data still, or the present pages are the newest of their keys
-abbrev pub KeepsOrShows : Index → List FreshPage → Flash → Flash → Type 0
-KeepsOrShows x pages old new = SameData (kept_pages x) old new ⊎ Carries new (present_data x pages old)
+-- the newest page of each committed key has its version and its data still, or the current pages are the newest of their keys
+abbrev pub KeepsOrShows : BufferedLog → Flash → Type 0
+KeepsOrShows old new = SameData (kept_pages old.index) old.log.device.flash new ⊎ Carries new (current old)
 
 -- the device has the pages of the map, and blocks enough that hold none of them, whatever numbers are left
 pub record CarriesFree (device : Device) (spare : ℕ) (m : PageMap) : Type 0 where
   pub newest : Carries device.flash m
   pub free : LeavesFree device.geometry device.flash spare (HasPage m)
 
--- the newest page of each kept key has its version and its data still, and blocks enough hold none of these, if they did so
-pub record StaysCarried (spare : ℕ) (x : Index) (old new : Device) : Type 0 where
-  pub same_data : SameData (kept_pages x) old.flash new.flash
-  pub free : LeavesFree old.geometry old.flash spare (IsKept (kept_pages x)) → LeavesFree new.geometry new.flash spare (IsKept (kept_pages x))
+-- the newest page of each committed key has its version and its data still, and blocks enough hold none of these, if they did so
+pub record StaysCarried (spare : ℕ) (old : BufferedLog) (new : Device) : Type 0 where
+  pub same_data : SameData (kept_pages old.index) old.log.device.flash new.flash
+  pub free : LeavesFree old.log.device.geometry old.log.device.flash spare (IsKept (kept_pages old.index)) → LeavesFree new.geometry new.flash spare (IsKept (kept_pages old.index))
 
--- so it is with the kept pages, or the device carries the present ones
-abbrev pub StaysOrShows : (spare : ℕ) → Index → List FreshPage → Device → Device → Type 0
-StaysOrShows spare x pages old new = StaysCarried spare x old new ⊎ CarriesFree new spare (present_data x pages old.flash)
+-- so it is with the committed pages, or the device carries the current ones
+abbrev pub StaysOrShows : (spare : ℕ) → BufferedLog → Device → Type 0
+StaysOrShows spare old new = StaysCarried spare old new ⊎ CarriesFree new spare (current old)
 
 -- each page is of an object from 1 on, and on an honest device not of that of checkpoints
 abbrev pub AreNumbered : Device → List FreshPage → Type 0

@@ -1,4 +1,5 @@
+pub mod Buffered
 pub mod Carrying
 pub mod Keeping
-pub mod Writing
 pub mod Committing
+pub mod Writing

@@ -1,18 +1,18 @@
 // The writing of the buffered pages as one group.
-ghost use Rattle.std.specs.Prelude.{◌≡◌, ◌<◌, ◌≤◌, ◌+◌, ◌^◌, ℕ, length, OnOk};
+ghost use Rattle.std.specs.Prelude.{◌≡◌, ◌<◌, ◌≤◌, ℕ, length};
 ghost use Rattle.volume_terms.specs.Sizes.{number_end};
 ghost use Rattle.nand_model.specs.Calls.{Lasts};
 ghost use Rattle.block_state.specs.Kept.{bad_count};
-ghost use Rattle.block_state.specs.Table.{room};
 ghost use Rattle.block_state.specs.TableOf.{table};
 ghost use Rattle.page_buffer.specs.BufferOf.{buffered};
 ghost use Rattle.page_buffer.specs.Buffering.{Buffers};
 ghost use Rattle.transactions.specs.Ready.{IsReady};
-ghost use Rattle.bad_blocks.specs.Moving.{AnswersFailures, MarksFailures};
-ghost use Rattle.bad_blocks.specs.Standing.{HasFreeBlocks, Stands};
+ghost use Rattle.bad_blocks.specs.Standing.{Stands};
+ghost use Rattle.collector.specs.Making.{FitsOpen};
+ghost use Rattle.commits.specs.Buffered.{held, log_in};
 ghost use Rattle.commits.specs.Carrying.{AreWritable};
-ghost use Rattle.commits.specs.Keeping.{Leaves, SameSizes};
-ghost use Rattle.commits.specs.Writing.{AttemptEnds, AttemptReads, TrustsOpen, unanswered};
+ghost use Rattle.commits.specs.Keeping.{SameSizes};
+ghost use Rattle.commits.specs.Writing.{Attempts, PaysAttempt, TrustsOpen};
 
 use crate::keys::have_ranges;
 use block_state::Blocks;
@@ -25,16 +25,16 @@ use transactions::{Fresh, GroupFault, write_group};
 /// What became of the group of the buffered pages.
 #[derive(Clone, Copy, Debug, PartialEq, Eq)]
 pub(crate) enum Attempt {
-    /// It counts.
+    /// It is valid.
     Trusted,
-    /// It counts, and the device said that its last page, in this block, failed.
+    /// It is valid, and the device said that its last page, in this block, failed.
     Suspect(u32),
-    /// The device reported a failure of this block, and the group does not count.
+    /// The device reported a failure of this block, and the group is not valid.
     Failed(u32),
 }
 
 /// Writes the buffered pages as one group into the open block, which has room for them, and settles the index where the
-/// group counts.
+/// group is valid.
 pub(crate) fn write_buffered<N: Nand>(
     device: &mut N,
     blocks: &mut Blocks,
@@ -48,20 +48,14 @@ pub(crate) fn write_buffered<N: Nand>(
     requires buffers { Buffers index.old (buffered buffer.old) }
     requires some { 1 ≤ length (buffered buffer.old) }
     requires pages { AreWritable (N.state device.old) (buffered buffer.old) }
-    requires open_room { length (buffered buffer.old) ≤ room (table blocks.old) }
+    requires fits { FitsOpen (length (buffered buffer.old)) (table blocks.old) }
     requires size { length scratch.old ≡ (N.state device.old).geometry.bytes }
     ensures lasts { Lasts (N.state device.old) (N.state device.new) }
     ensures ready { IsReady (N.state device.new) (table blocks.new) }
     ensures bad { bad_count (table blocks.new) ≡ bad_count (table blocks.old) }
-    ensures leaves { (spare : ℕ) → Stands spare (N.state device.old) (table blocks.old) index.old → HasFreeBlocks (table blocks.old) spare
-        → Leaves spare (N.state device.old) (N.state device.new) (table blocks.old) (table blocks.new) index.old index.new (buffered buffer.old) (buffered buffer.new) }
-    ensures marks { MarksFailures 0 (unanswered result) (N.state device.old) (N.state device.new) (table blocks.old) (table blocks.new) }
-    ensures answers { OnOk result (AnswersFailures 0 (unanswered result) (N.state device.old) (N.state device.new) (table blocks.old) (table blocks.new)) }
-    ensures keeps_open { TrustsOpen (length (buffered buffer.old)) (table blocks.old) (table blocks.new) result }
-    ensures costs { (N.state device.new).changes ≤ (N.state device.old).changes + length (buffered buffer.old) }
-    ensures reads { AttemptReads (length (buffered buffer.old)) (N.state device.old) (N.state device.new) result }
-    ensures ends { (spare : ℕ) → Stands spare (N.state device.old) (table blocks.old) index.old → HasFreeBlocks (table blocks.old) spare
-        → AttemptEnds spare (N.state device.old) (N.state device.new) (table blocks.old) (table blocks.new) index.old index.new buffer.old buffer.new result }
+    ensures pays { PaysAttempt (length (buffered buffer.old)) (log_in N.state device.old blocks.old) (log_in N.state device.new blocks.new) result }
+    ensures keeps_open { TrustsOpen (length (buffered buffer.old)) (log_in N.state device.old blocks.old) (log_in N.state device.new blocks.new) result }
+    ensures attempts { Attempts (held N.state device.old blocks.old index.old buffer.old) (held N.state device.new blocks.new index.new buffer.new) result }
     ensures sizes { SameSizes buffer.old buffer.new }
 {
     have_ranges(buffer.pages());

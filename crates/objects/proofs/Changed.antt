@@ -56,7 +56,7 @@ pays_failed count spare a b e f is = record {
 
 -- the table stays, or its open block does
 abbrev StaysOrOpen : LogState → LogState → ℕ → Type 0
-StaysOrOpen old new count = (new.table ≡ old.table) ⊎ KeepsOpen count old.table new.table old.device new.device
+StaysOrOpen old new count = (new.table ≡ old.table) ⊎ KeepsOpen count old new
 
 -- what nothing was done to lasts
 pub lasts_still : (a : StoreState) → StoreLasts a a

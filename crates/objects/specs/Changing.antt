@@ -76,7 +76,7 @@ pub record IsCommitted (old new : StoreState) : Type 0 where
   pub current : SamePages (current_in new) (current_in old)
   pub empty : buffered new.buffer ≡ []
   pub cached : TakesPages (buffered old.buffer) old.cache new.cache
-  pub keeps_open : KeepsOpen (waiting old) old.log.table new.log.table old.log.device new.log.device
+  pub keeps_open : KeepsOpen (waiting old) old.log new.log
 
 -- A commit failed, now or before, for its reason: nothing is known of the store's pages any more.
 pub record IsBroken (old new : StoreState) (fault : StoreFault) : Type 0 where
@@ -91,7 +91,7 @@ WriteOutEnds old new (Err fault) = IsBroken old new fault
 
 -- nothing is buffered, or nothing hinders the writing of what is
 abbrev pub HasNoHindrance : StoreState → StoreState → Type 0
-HasNoHindrance old new = (buffered old.buffer ≡ []) ⊎ IsUnhindered (waiting old) old.log.table old.log.device new.log.device
+HasNoHindrance old new = (buffered old.buffer ≡ []) ⊎ IsUnhindered (waiting old) old.log new.log
 
 -- the log, the reserve and whether a commit failed are as they were, and no commit was begun
 pub record SameLog (old new : StoreState) : Type 0 where
@@ -127,7 +127,7 @@ CommitsEither old new = SamePages (committed_in new) (committed_in old) ⊎ Same
 
 -- the table stays, or the open block does where it has as many pages left as were buffered and no program fails
 abbrev pub StaysOrKeepsOpen : StoreState → StoreState → Type 0
-StaysOrKeepsOpen old new = (new.log.table ≡ old.log.table) ⊎ KeepsOpen (waiting old) old.log.table new.log.table old.log.device new.log.device
+StaysOrKeepsOpen old new = (new.log.table ≡ old.log.table) ⊎ KeepsOpen (waiting old) old.log new.log
 
 -- no commit is begun: there is no call of the device, the table stays, and so does what is committed
 pub record CommitsNone (old new : StoreState) : Type 0 where

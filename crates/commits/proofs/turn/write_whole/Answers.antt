@@ -1,205 +1,168 @@
-use Rattle.std.proofs.Common.{◌≡◌, ◌+◌, ◌*◌, true, false, List, length, refl, sym, ap, subst, ◌∙◌, arith}
+use Rattle.std.proofs.Common.{◌≡◌, ◌≤◌, ◌∙◌, ◌+◌, ◌*◌, length, refl, ap, sym, subst, arith}
 use Rattle.std.proofs.lemmas.Result.{err_from_is_err_and}
-use Rattle.nand_model.specs.Calls.{Device}
-use Rattle.flash_tree.specs.declared.place.FreshPage.{FreshPage}
-use Rattle.nand_model.specs.declared.geometry.Geometry.{Geometry}
-use Rattle.block_state.specs.Table.{Table}
 use Rattle.nand_model.specs.Counts.{Costs}
-use Rattle.commits.proofs.Costing.{costs_more, costs_none, costs_on, takes_none_turn, takes_one_turn, never_still, writable_on}
-use Rattle.commits.specs.Carrying.{AreWritable}
+use Rattle.nand_model.specs.declared.geometry.Geometry.{Geometry}
 use Rattle.block_state.specs.TableOf.{table}
-use Rattle.chunk_index.specs.declared.index.Index.{Index}
-use Rattle.page_buffer.specs.BufferOf.{buffered}
-use Rattle.collector.specs.Making.{WhyNoRoom}
-use Rattle.commits.specs.Keeping.{Leaves}
 use Rattle.bad_blocks.specs.laws.Steps.{step_none, step_on}
-use Rattle.transactions.specs.Checking.{log_of}
+use Rattle.collector.specs.Making.{WhyNoRoom}
+use Rattle.commits.specs.Buffered.{BufferedLog, held}
+use Rattle.commits.specs.Carrying.{AreWritable}
+use Rattle.commits.proofs.Costing.{costs_again, costs_last, costs_none, costs_on, had_failure, had_none, none_last, one_last, writable_on}
+use Rattle.commits.proofs.Staying.{well_short, well_written}
 use Rattle.commits.proofs.Turning.{answered_after, leaves_on, whole_after, why_before}
-use Rattle.commits.proofs.Staying.{keeps_open_turn, unhindered_turn}
 use Rattle.commits.proofs.turn.write_whole.Goals as goal
 
 pub loop-init : goal.loop-init
 loop-init g c = record {
-  keeps = step_none c.args.spare (g.N.Nand.state c.args.device.now) (table c.args.blocks.now) c.args.index.now c.requires.can.ready c.requires.can.stands;
+  step = step_none c.args.spare (g.N.Nand.state c.args.device.now) (table c.args.blocks.now) c.args.index.now c.requires.can.ready c.requires.can.stands;
   buffers = c.requires.buffers;
   same = refl;
   marks = omega arith;
   answers = omega arith;
   costs = costs_none (3 * (g.N.Nand.state c.args.device.now).geometry.pages + 3) (g.N.Nand.state c.args.device.now);
   reads = omega arith;
-  first = λ _. (refl, refl);
+  first = λ _. refl;
   few = c.requires.can.few;
   free = c.requires.free;
   room = c.requires.room;
   sizes = record { most = refl; bytes = refl };
 }
 
-pub returns-in_err-take_turn-clause-leaves : goal.returns-in_err-take_turn-clause-leaves
-returns-in_err-take_turn-clause-leaves g c =
-    let d0 : Device = g.N.Nand.state c.args.device.now in
-    let d : Device = g.N.Nand.state c.loop.device in
-    let e : Device = g.N.Nand.state c.take_turn.new.device in
-    let t0 : Table = table c.args.blocks.now in
-    let t : Table = table c.loop.blocks in
-    let u : Table = table c.take_turn.new.blocks in
-    let x0 : Index = c.args.index.now in
-    let x : Index = c.loop.index in
-    let y : Index = c.take_turn.new.index in
-    let pages : List FreshPage = buffered c.args.buffer.now in
-    let rest : List FreshPage = buffered c.take_turn.new.buffer in
+pub take_turn-requires-clause-pages : goal.take_turn-requires-clause-pages
+take_turn-requires-clause-pages g c =
+    let a : BufferedLog = held g.N.Nand.state c.args.device.now c.args.blocks.now c.args.index.now c.args.buffer.now in
+    let b : BufferedLog = held g.N.Nand.state c.loop.device c.loop.blocks c.loop.index c.loop.buffer in
     let so_far = c.loop.invariant in
-    leaves_on c.args.spare d0 d e t0 t u x0 x y pages c.requires.can.stands so_far.keeps rest (subst (λ (ps : List FreshPage). Leaves c.args.spare d e t u x y ps rest) so_far.same c.take_turn.ensures.leaves)
-
-pub returns-in-Written-clause-leaves : goal.returns-in-Written-clause-leaves
-returns-in-Written-clause-leaves g c =
-    let d0 : Device = g.N.Nand.state c.args.device.now in
-    let d : Device = g.N.Nand.state c.loop.device in
-    let e : Device = g.N.Nand.state c.take_turn.new.device in
-    let t0 : Table = table c.args.blocks.now in
-    let t : Table = table c.loop.blocks in
-    let u : Table = table c.take_turn.new.blocks in
-    let x0 : Index = c.args.index.now in
-    let x : Index = c.loop.index in
-    let y : Index = c.take_turn.new.index in
-    let pages : List FreshPage = buffered c.args.buffer.now in
-    let rest : List FreshPage = buffered c.take_turn.new.buffer in
-    let so_far = c.loop.invariant in
-    leaves_on c.args.spare d0 d e t0 t u x0 x y pages c.requires.can.stands so_far.keeps rest (subst (λ (ps : List FreshPage). Leaves c.args.spare d e t u x y ps rest) so_far.same c.take_turn.ensures.leaves)
-
-pub returns-in-Written-clause-ends : goal.returns-in-Written-clause-ends
-returns-in-Written-clause-ends g c =
-    let d0 : Device = g.N.Nand.state c.args.device.now in
-    let d : Device = g.N.Nand.state c.loop.device in
-    let e : Device = g.N.Nand.state c.take_turn.new.device in
-    let t0 : Table = table c.args.blocks.now in
-    let t : Table = table c.loop.blocks in
-    let u : Table = table c.take_turn.new.blocks in
-    let x0 : Index = c.args.index.now in
-    let x : Index = c.loop.index in
-    let y : Index = c.take_turn.new.index in
-    let pages : List FreshPage = buffered c.args.buffer.now in
-    let rest : List FreshPage = buffered c.take_turn.new.buffer in
-    let so_far = c.loop.invariant in
-    let done = rw c.in-Written.is at c.in_ok-take_turn.ensures in
-    (whole_after c.args.spare d0 d e t0 t u x0 x y c.args.buffer.now c.loop.buffer c.take_turn.new.buffer c.requires.can.stands so_far.keeps so_far.same done.ends.0, done.ends.1, answered_after c.args.spare d0 d e t0 t u x0 x so_far.keeps done.ends.2)
-
-pub returns-in_err-take_turn-clause-ends : goal.returns-in_err-take_turn-clause-ends
-returns-in_err-take_turn-clause-ends g c =
-    let d0 : Device = g.N.Nand.state c.args.device.now in
-    let d : Device = g.N.Nand.state c.loop.device in
-    let e : Device = g.N.Nand.state c.take_turn.new.device in
-    let t0 : Table = table c.args.blocks.now in
-    let t : Table = table c.loop.blocks in
-    let u : Table = table c.take_turn.new.blocks in
-    let x0 : Index = c.args.index.now in
-    let x : Index = c.loop.index in
-    let y : Index = c.take_turn.new.index in
-    let pages : List FreshPage = buffered c.args.buffer.now in
-    let rest : List FreshPage = buffered c.take_turn.new.buffer in
-    let so_far = c.loop.invariant in
-    let p = err_from_is_err_and c.from_residual.result c.from_residual.ensures.1 in
-    let fault = c.in_err-take_turn.field-0.0 in
-    rw (p.1, p.2) (why_before (length pages) c.args.spare e t0 t u fault so_far.keeps.geometry so_far.keeps.kept_count so_far.few
-    (subst (λ n. WhyNoRoom n c.args.spare e t u fault) (ap length so_far.same) c.in_err-take_turn.ensures.ends))
+    subst (AreWritable b.log.device) (sym so_far.same) (writable_on a.log.device b.log.device a.pages so_far.step.lasts c.requires.pages)
 
 pub loop-preserved : goal.loop-preserved
 loop-preserved g c =
-    let d0 : Device = g.N.Nand.state c.args.device.now in
-    let d : Device = g.N.Nand.state c.loop.device in
-    let e : Device = g.N.Nand.state c.take_turn.new.device in
-    let t0 : Table = table c.args.blocks.now in
-    let t : Table = table c.loop.blocks in
-    let u : Table = table c.take_turn.new.blocks in
-    let x0 : Index = c.args.index.now in
-    let x : Index = c.loop.index in
-    let y : Index = c.take_turn.new.index in
-    let pages : List FreshPage = buffered c.args.buffer.now in
-    let rest : List FreshPage = buffered c.take_turn.new.buffer in
+    let a : BufferedLog = held g.N.Nand.state c.args.device.now c.args.blocks.now c.args.index.now c.args.buffer.now in
+    let b : BufferedLog = held g.N.Nand.state c.loop.device c.loop.blocks c.loop.index c.loop.buffer in
+    let d : BufferedLog = held g.N.Nand.state c.take_turn.new.device c.take_turn.new.blocks c.take_turn.new.index c.take_turn.new.buffer in
     let so_far = c.loop.invariant in
     let again = rw c.in-Again.is at c.in_ok-take_turn.ensures in
+    let waits = again.ends.0 in
+    let failed = had_failure b.log d.log again.ends.2 again.pays.pays.marks in
+    let size : b.log.device.geometry.pages ≡ a.log.device.geometry.pages = ap (λ (z : Geometry). z.pages) so_far.step.lasts.geometry in
+    let long : length b.pages ≤ a.log.device.geometry.pages = let one : d.log.device.geometry.pages ≡ b.log.device.geometry.pages = ap (λ (z : Geometry). z.pages) waits.step.lasts.geometry in omega (arith, again.ends.4, one, size) in
+    let turn : Costs 0 (3 * a.log.device.geometry.pages + 3) 0 b.log.device d.log.device =
+    costs_again (b.log.device.geometry.pages + 1 + length b.pages) (b.log.device.geometry.pages + 2) (3 * a.log.device.geometry.pages + 3) b.log.device d.log.device (omega (arith, long, size)) failed again.pays.pays.costs in
     record {
-      keeps = step_on c.args.spare (log_of d0 t0) (log_of d t) (log_of e u) x0 x y so_far.keeps again.ends.0.keeps;
+      step = step_on c.args.spare a.log b.log d.log a.index b.index d.index so_far.step waits.step;
       buffers = again.leaves.buffers;
-      same = again.ends.0.buffered_still ∙ so_far.same;
-      marks = omega (arith, so_far.marks, again.marks);
-      answers = omega (arith, so_far.answers, again.answers);
-      costs = costs_on 0 0 (3 * d0.geometry.pages + 3) d0 d e so_far.costs (subst (λ (z : Geometry). Costs 0 (3 * z.pages + 3) 0 d e) so_far.keeps.lasts.geometry again.costs);
-      reads = omega (arith, so_far.reads, again.reads);
-      first = λ still. absurd (never_still d0 d e t u still so_far.keeps.lasts.failures again.ends.2 again.marks);
+      same = waits.pages ∙ so_far.same;
+      marks = let marks = again.pays.pays.marks in omega (arith, so_far.marks, marks);
+      answers = let answers = again.pays.pays.answers in omega (arith, so_far.answers, answers);
+      costs = costs_on 0 0 (3 * a.log.device.geometry.pages + 3) a.log.device b.log.device d.log.device so_far.costs turn;
+      reads = let reads = again.pays.pays.reads in omega (arith, so_far.reads, reads);
+      first = λ still. absurd (had_none a.log.device b.log.device d.log.device still so_far.step.lasts.failures failed);
       few = again.ends.3;
       free = again.ends.1;
       room = again.room;
       sizes = record { most = again.sizes.most ∙ so_far.sizes.most; bytes = again.sizes.bytes ∙ so_far.sizes.bytes };
     }
 
-pub returns-in_err-take_turn-clause-costs : goal.returns-in_err-take_turn-clause-costs
-returns-in_err-take_turn-clause-costs g c =
-    let d0 : Device = g.N.Nand.state c.args.device.now in
-    let d : Device = g.N.Nand.state c.loop.device in
-    let e : Device = g.N.Nand.state c.take_turn.new.device in
-    let pages : List FreshPage = buffered c.args.buffer.now in
+pub returns-in_err-take_turn-clause-leaves : goal.returns-in_err-take_turn-clause-leaves
+returns-in_err-take_turn-clause-leaves g c =
+    let a : BufferedLog = held g.N.Nand.state c.args.device.now c.args.blocks.now c.args.index.now c.args.buffer.now in
+    let b : BufferedLog = held g.N.Nand.state c.loop.device c.loop.blocks c.loop.index c.loop.buffer in
+    let d : BufferedLog = held g.N.Nand.state c.take_turn.new.device c.take_turn.new.blocks c.take_turn.new.index c.take_turn.new.buffer in
     let so_far = c.loop.invariant in
-    let same = so_far.keeps.lasts.geometry in
-    let many : length (buffered c.loop.buffer) ≡ length pages = ap length so_far.same in
-    let turn : Costs (length (buffered c.loop.buffer) + d0.geometry.pages + 1) (3 * d0.geometry.pages + 3) 0 d e = subst (λ (z : Geometry). Costs (length (buffered c.loop.buffer) + z.pages + 1) (3 * z.pages + 3) 0 d e) same (c.in_err-take_turn.ensures.costs) in
-    let both = costs_on 0 (length (buffered c.loop.buffer) + d0.geometry.pages + 1) (3 * d0.geometry.pages + 3) d0 d e so_far.costs turn in
-    costs_more (0 + (length (buffered c.loop.buffer) + d0.geometry.pages + 1)) (length pages + d0.geometry.pages + 1) (3 * d0.geometry.pages + 3) d0 e (omega (arith, many)) both
+    leaves_on c.args.spare a b d c.requires.can.stands so_far.step so_far.same c.take_turn.ensures.leaves
 
-pub returns-in-Written-clause-costs : goal.returns-in-Written-clause-costs
-returns-in-Written-clause-costs g c =
-    let d0 : Device = g.N.Nand.state c.args.device.now in
-    let d : Device = g.N.Nand.state c.loop.device in
-    let e : Device = g.N.Nand.state c.take_turn.new.device in
-    let pages : List FreshPage = buffered c.args.buffer.now in
+pub returns-in-Written-clause-leaves : goal.returns-in-Written-clause-leaves
+returns-in-Written-clause-leaves g c =
+    let a : BufferedLog = held g.N.Nand.state c.args.device.now c.args.blocks.now c.args.index.now c.args.buffer.now in
+    let b : BufferedLog = held g.N.Nand.state c.loop.device c.loop.blocks c.loop.index c.loop.buffer in
+    let d : BufferedLog = held g.N.Nand.state c.take_turn.new.device c.take_turn.new.blocks c.take_turn.new.index c.take_turn.new.buffer in
     let so_far = c.loop.invariant in
-    let same = so_far.keeps.lasts.geometry in
-    let many : length (buffered c.loop.buffer) ≡ length pages = ap length so_far.same in
-    let turn : Costs (length (buffered c.loop.buffer) + d0.geometry.pages + 1) (3 * d0.geometry.pages + 3) 0 d e = subst (λ (z : Geometry). Costs (length (buffered c.loop.buffer) + z.pages + 1) (3 * z.pages + 3) 0 d e) same ((rw c.in-Written.is at c.in_ok-take_turn.ensures).costs) in
-    let both = costs_on 0 (length (buffered c.loop.buffer) + d0.geometry.pages + 1) (3 * d0.geometry.pages + 3) d0 d e so_far.costs turn in
-    costs_more (0 + (length (buffered c.loop.buffer) + d0.geometry.pages + 1)) (length pages + d0.geometry.pages + 1) (3 * d0.geometry.pages + 3) d0 e (omega (arith, many)) both
+    leaves_on c.args.spare a b d c.requires.can.stands so_far.step so_far.same c.take_turn.ensures.leaves
 
-pub returns-in_err-take_turn-clause-takes_none : goal.returns-in_err-take_turn-clause-takes_none
-returns-in_err-take_turn-clause-takes_none g c =
+pub returns-in-Written-clause-pays : goal.returns-in-Written-clause-pays
+returns-in-Written-clause-pays g c =
+    let a : BufferedLog = held g.N.Nand.state c.args.device.now c.args.blocks.now c.args.index.now c.args.buffer.now in
+    let b : BufferedLog = held g.N.Nand.state c.loop.device c.loop.blocks c.loop.index c.loop.buffer in
+    let d : BufferedLog = held g.N.Nand.state c.take_turn.new.device c.take_turn.new.blocks c.take_turn.new.index c.take_turn.new.buffer in
     let so_far = c.loop.invariant in
-    takes_none_turn (length (buffered c.args.buffer.now)) (length (buffered c.loop.buffer)) (table c.args.blocks.now) (table c.loop.blocks) (g.N.Nand.state c.args.device.now) (g.N.Nand.state c.loop.device) (g.N.Nand.state c.take_turn.new.device)
-    (ap length so_far.same) so_far.keeps.lasts c.take_turn.ensures.leaves.lasts so_far.first c.take_turn.ensures.takes_none
+    let turn = (rw c.in-Written.is at c.in_ok-take_turn.ensures).pays in
+    let many = ap length so_far.same in
+    let first = so_far.step.lasts in
+    let then = c.take_turn.ensures.leaves.log.lasts in
+    record {
+      costs = costs_last (length a.pages) (length b.pages) c.args.spare a.log b.log d.log many first then so_far.first so_far.costs turn.pays.costs;
+      marks = let marks = turn.pays.marks in omega (arith, so_far.marks, marks);
+      answers = let answers = turn.pays.answers in omega (arith, so_far.answers, answers);
+      reads = omega (arith, so_far.reads, turn.quiet, many);
+      takes_none = none_last (length a.pages) (length b.pages) c.args.spare a.log b.log d.log many first then so_far.first so_far.costs turn.takes_none;
+      takes_one = one_last (length a.pages) (length b.pages) c.args.spare a.log b.log d.log many first then so_far.first so_far.costs turn.takes_one;
+    }
 
-pub returns-in-Written-clause-takes_none : goal.returns-in-Written-clause-takes_none
-returns-in-Written-clause-takes_none g c =
+pub returns-in_err-take_turn-clause-pays : goal.returns-in_err-take_turn-clause-pays
+returns-in_err-take_turn-clause-pays g c =
+    let a : BufferedLog = held g.N.Nand.state c.args.device.now c.args.blocks.now c.args.index.now c.args.buffer.now in
+    let b : BufferedLog = held g.N.Nand.state c.loop.device c.loop.blocks c.loop.index c.loop.buffer in
+    let d : BufferedLog = held g.N.Nand.state c.take_turn.new.device c.take_turn.new.blocks c.take_turn.new.index c.take_turn.new.buffer in
     let so_far = c.loop.invariant in
-    takes_none_turn (length (buffered c.args.buffer.now)) (length (buffered c.loop.buffer)) (table c.args.blocks.now) (table c.loop.blocks) (g.N.Nand.state c.args.device.now) (g.N.Nand.state c.loop.device) (g.N.Nand.state c.take_turn.new.device)
-    (ap length so_far.same) so_far.keeps.lasts c.take_turn.ensures.leaves.lasts so_far.first c.take_turn.ensures.takes_none
+    let turn = c.in_err-take_turn.ensures.pays in
+    let many = ap length so_far.same in
+    let first = so_far.step.lasts in
+    let then = c.take_turn.ensures.leaves.log.lasts in
+    let p = err_from_is_err_and c.from_residual.result c.from_residual.ensures.1 in
+    rw p.1 (record {
+      costs = costs_last (length a.pages) (length b.pages) c.args.spare a.log b.log d.log many first then so_far.first so_far.costs turn.pays.costs;
+      marks = let marks = turn.pays.marks in omega (arith, so_far.marks, marks);
+      answers = tt;
+      reads = let reads = turn.pays.reads in omega (arith, so_far.reads, reads);
+      takes_none = none_last (length a.pages) (length b.pages) c.args.spare a.log b.log d.log many first then so_far.first so_far.costs turn.takes_none;
+      takes_one = one_last (length a.pages) (length b.pages) c.args.spare a.log b.log d.log many first then so_far.first so_far.costs turn.takes_one;
+    })
 
-pub returns-in_err-take_turn-clause-takes_one : goal.returns-in_err-take_turn-clause-takes_one
-returns-in_err-take_turn-clause-takes_one g c =
+pub returns-in-Written-clause-well : goal.returns-in-Written-clause-well
+returns-in-Written-clause-well g c =
+    let a : BufferedLog = held g.N.Nand.state c.args.device.now c.args.blocks.now c.args.index.now c.args.buffer.now in
+    let b : BufferedLog = held g.N.Nand.state c.loop.device c.loop.blocks c.loop.index c.loop.buffer in
+    let d : BufferedLog = held g.N.Nand.state c.take_turn.new.device c.take_turn.new.blocks c.take_turn.new.index c.take_turn.new.buffer in
     let so_far = c.loop.invariant in
-    takes_one_turn (length (buffered c.args.buffer.now)) (length (buffered c.loop.buffer)) c.args.spare (table c.args.blocks.now) (table c.loop.blocks) (g.N.Nand.state c.args.device.now) (g.N.Nand.state c.loop.device) (g.N.Nand.state c.take_turn.new.device)
-    (ap length so_far.same) so_far.keeps.lasts c.take_turn.ensures.leaves.lasts so_far.first c.take_turn.ensures.takes_one
+    well_written (length a.pages) (length b.pages) a.log b.log d.log (ap length so_far.same) so_far.step.lasts c.take_turn.ensures.leaves.log.lasts so_far.first _ _ (rw c.in-Written.is at c.in_ok-take_turn.ensures).well
 
-pub returns-in-Written-clause-takes_one : goal.returns-in-Written-clause-takes_one
-returns-in-Written-clause-takes_one g c =
+pub returns-in_err-take_turn-clause-well : goal.returns-in_err-take_turn-clause-well
+returns-in_err-take_turn-clause-well g c =
+    let a : BufferedLog = held g.N.Nand.state c.args.device.now c.args.blocks.now c.args.index.now c.args.buffer.now in
+    let b : BufferedLog = held g.N.Nand.state c.loop.device c.loop.blocks c.loop.index c.loop.buffer in
+    let d : BufferedLog = held g.N.Nand.state c.take_turn.new.device c.take_turn.new.blocks c.take_turn.new.index c.take_turn.new.buffer in
     let so_far = c.loop.invariant in
-    takes_one_turn (length (buffered c.args.buffer.now)) (length (buffered c.loop.buffer)) c.args.spare (table c.args.blocks.now) (table c.loop.blocks) (g.N.Nand.state c.args.device.now) (g.N.Nand.state c.loop.device) (g.N.Nand.state c.take_turn.new.device)
-    (ap length so_far.same) so_far.keeps.lasts c.take_turn.ensures.leaves.lasts so_far.first c.take_turn.ensures.takes_one
+    let p = err_from_is_err_and c.from_residual.result c.from_residual.ensures.1 in
+    rw p.1 (well_short (length a.pages) (length b.pages) a.log b.log d.log (ap length so_far.same) so_far.step.lasts c.take_turn.ensures.leaves.log.lasts so_far.first _ _ c.in_err-take_turn.ensures.well)
 
-pub returns-in-Written-clause-answers : goal.returns-in-Written-clause-answers
-returns-in-Written-clause-answers g c = omega (arith, c.loop.invariant.answers, (rw c.in-Written.is at c.in_ok-take_turn.ensures).answers)
-
-pub returns-in-Written-clause-keeps_open : goal.returns-in-Written-clause-keeps_open
-returns-in-Written-clause-keeps_open g c =
+pub returns-in-Written-clause-sizes : goal.returns-in-Written-clause-sizes
+returns-in-Written-clause-sizes g c =
     let so_far = c.loop.invariant in
-    keeps_open_turn (length (buffered c.args.buffer.now)) (length (buffered c.loop.buffer)) (table c.args.blocks.now) (table c.loop.blocks) (table c.take_turn.new.blocks) (g.N.Nand.state c.args.device.now) (g.N.Nand.state c.loop.device) (g.N.Nand.state c.take_turn.new.device)
-    (ap length so_far.same) so_far.keeps.lasts c.take_turn.ensures.leaves.lasts so_far.first (rw c.in-Written.is at c.in_ok-take_turn.ensures).keeps_open
+    let turn = c.take_turn.ensures.sizes in
+    record { most = turn.most ∙ so_far.sizes.most; bytes = turn.bytes ∙ so_far.sizes.bytes }
 
-pub returns-in_err-take_turn-clause-unhindered : goal.returns-in_err-take_turn-clause-unhindered
-returns-in_err-take_turn-clause-unhindered g c = λ h.
+pub returns-in_err-take_turn-clause-sizes : goal.returns-in_err-take_turn-clause-sizes
+returns-in_err-take_turn-clause-sizes g c =
     let so_far = c.loop.invariant in
-    let two : false ≡ true = c.in_err-take_turn.ensures.unhindered (unhindered_turn (length (buffered c.args.buffer.now)) (length (buffered c.loop.buffer)) (table c.args.blocks.now) (table c.loop.blocks) (g.N.Nand.state c.args.device.now) (g.N.Nand.state c.loop.device) (g.N.Nand.state c.take_turn.new.device)
-    (ap length so_far.same) so_far.keeps.lasts c.take_turn.ensures.leaves.lasts so_far.first h) in
-    absurd cc
+    let turn = c.take_turn.ensures.sizes in
+    record { most = turn.most ∙ so_far.sizes.most; bytes = turn.bytes ∙ so_far.sizes.bytes }
 
-pub take_turn-requires-clause-pages : goal.take_turn-requires-clause-pages
-take_turn-requires-clause-pages g c =
+pub returns-in-Written-clause-ends : goal.returns-in-Written-clause-ends
+returns-in-Written-clause-ends g c =
+    let a : BufferedLog = held g.N.Nand.state c.args.device.now c.args.blocks.now c.args.index.now c.args.buffer.now in
+    let b : BufferedLog = held g.N.Nand.state c.loop.device c.loop.blocks c.loop.index c.loop.buffer in
+    let d : BufferedLog = held g.N.Nand.state c.take_turn.new.device c.take_turn.new.blocks c.take_turn.new.index c.take_turn.new.buffer in
     let so_far = c.loop.invariant in
-    subst (AreWritable (g.N.Nand.state c.loop.device)) (sym so_far.same)
-    (writable_on (g.N.Nand.state c.args.device.now) (g.N.Nand.state c.loop.device) (buffered c.args.buffer.now) so_far.keeps.lasts c.requires.pages)
+    let done = (rw c.in-Written.is at c.in_ok-take_turn.ensures).ends in
+    (whole_after c.args.spare a b d c.requires.can.stands so_far.step so_far.same done.0, done.1, answered_after c.args.spare a b d so_far.step done.2)
+
+pub returns-in_err-take_turn-clause-ends : goal.returns-in_err-take_turn-clause-ends
+returns-in_err-take_turn-clause-ends g c =
+    let a : BufferedLog = held g.N.Nand.state c.args.device.now c.args.blocks.now c.args.index.now c.args.buffer.now in
+    let b : BufferedLog = held g.N.Nand.state c.loop.device c.loop.blocks c.loop.index c.loop.buffer in
+    let d : BufferedLog = held g.N.Nand.state c.take_turn.new.device c.take_turn.new.blocks c.take_turn.new.index c.take_turn.new.buffer in
+    let so_far = c.loop.invariant in
+    let p = err_from_is_err_and c.from_residual.result c.from_residual.ensures.1 in
+    let fault = c.in_err-take_turn.field-0.0 in
+    rw (p.1, p.2) (why_before (length a.pages) c.args.spare d.log.device a.log.table b.log.table d.log.table fault so_far.step.geometry so_far.step.kept_count so_far.few
+    (subst (λ n. WhyNoRoom n c.args.spare d.log.device b.log.table d.log.table fault) (ap length so_far.same) c.in_err-take_turn.ensures.ends))

@@ -36,9 +36,9 @@ invariant_of-self g c =
       room_size = w.room;
       buffers = subst (Buffers y) (sym k.pages) w.buffer.buffers;
       objects = λ _ i p is. absurd (let two : None ≡ Some p = sym (ap (λ (l : List FreshPage). slice_get l i) empty) ∙ is in cc);
-      most = k.buffer_sizes.0 ∙ w.buffer.sizes.most ∙ self.most ∙ ap (λ (z : Geometry). z.pages / 4) (sym w.log.lasts.geometry);
+      most = k.buffer_sizes.0 ∙ w.sizes.most ∙ self.most ∙ ap (λ (z : Geometry). z.pages / 4) (sym w.log.lasts.geometry);
       size = self.size ∙ sym bytes;
-      buffer_size = k.buffer_sizes.1 ∙ w.buffer.sizes.bytes ∙ self.buffer_size ∙ sym bytes;
+      buffer_size = k.buffer_sizes.1 ∙ w.sizes.bytes ∙ self.buffer_size ∙ sym bytes;
       cache_size = k.sizes.page_bytes ∙ self.cache_size ∙ sym bytes;
       place = λ i is. absurd (let two : places.Nowhere ≡ places.Buffered i = is in cc);
       few = λ _. done.few;
@@ -97,7 +97,7 @@ returns-then-self-clause-ends g c = record { is = c.if-self.true; begins = λ wh
 pub returns-in-Err-clause-unhindered : goal.returns-in-Err-clause-unhindered
 returns-in-Err-clause-unhindered g c = λ whole why. elim why [
   | inl none ↦ let two : false ≡ true = (c.in-Err.ensures.nothing none).done in absurd cc
-  | inr is ↦ let two : false ≡ true = c.in-Err.ensures.unhindered is in absurd cc
+  | inr is ↦ let two : false ≡ true = c.in-Err.ensures.well.unhindered is in absurd cc
 ]
 
 pub returns-in-Ok-clause-ends : goal.returns-in-Ok-clause-ends
@@ -120,5 +120,5 @@ returns-in-Ok-clause-ends g c =
           (subst (λ (l : List FreshPage). old.honest ≡ true → SamePages (present_data y l new.flash) (present_data self.index (buffered self.buffer) old.flash)) (sym k.pages) done.present);
       empty = empty;
       cached = subst (λ (l : List FreshPage). TakesPages l self.cache c.keep_written.new.cache) done.last k.takes;
-      keeps_open = c.in-Ok.ensures.keeps_open;
+      keeps_open = c.in-Ok.ensures.well.stays_open;
     }

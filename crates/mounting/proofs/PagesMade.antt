@@ -27,7 +27,8 @@ use Rattle.page_cache.specs.declared.cache.PageCache.{PageCache}
 use Rattle.pages.specs.Maps.{PageMap, known_pages}
 use Rattle.pages.specs.State.{PagesState}
 use Rattle.pages.specs.Stores.{bad_on, Carries, HasPage, HasNumbersLeft, IsCarried}
-use Rattle.objects.specs.StoreOf.{kept_map, next_numbers, store_seen}
+use Rattle.objects.specs.StoreOf.{kept_map, next_numbers}
+use Rattle.objects.specs.StoreState.{StoreState, committed_in, seen_of}
 use Rattle.objects.specs.declared.counts.StoreCounts.{StoreCounts}
 use Rattle.objects.specs.declared.store.Found.{Found}
 use Rattle.newest_pages.specs.Newest.{seen}
@@ -99,22 +100,20 @@ module _ (keeps : ℕ → ℕ → Bool) (d : Device) (t : Table) (x : Index) (n 
           ap (λ g. record { group = g; seq = t.next_seq }) (pruned.tables.group can.0) ∙ ap (λ s. record { group = n.group + 1; seq = s }) (pruned.tables.seq can.0)
 
       -- the pages of a new store
-      pub store_pages : (e : Device) (y : Index) (u : Table) (buffer : Buffer) (cache : PageCache) (scratch : List ℕ) (found : Found) (spare' : ℕ) (broken : Bool) (counts : StoreCounts) → e ≡ d
-          → (u ≡ t) × (spare' ≡ spare) → broken ≡ false → most_pages buffer ≡ d.geometry.pages / 4 → ((o c : ℕ) → kept_map e y o c ≡ kept_map d x o c)
-          → ((o c : ℕ) → present_data y (buffered buffer) d.flash o c ≡ present_data x [] d.flash o c)
-          → ArePagesOn d x n spare (store_seen e u y buffer cache scratch found spare' broken counts)
-      store_pages e y u buffer cache scratch found spare' broken counts device same whole most kept pages = record {
+      pub store_pages : (a : StoreState) (lent : List ℕ) → a.log.device ≡ d → (a.log.table ≡ t) × (a.spare ≡ spare) → a.broken ≡ false → most_pages a.buffer ≡ d.geometry.pages / 4
+          → ((o c : ℕ) → committed_in a o c ≡ kept_map d x o c) → ((o c : ℕ) → present_data a.index (buffered a.buffer) d.flash o c ≡ present_data x [] d.flash o c) → ArePagesOn d x n spare (seen_of a lent)
+      store_pages a lent device same whole most kept pages = record {
         device_is = device;
         spare_is = same.1;
         page_bytes = ap (λ (k : Device). k.geometry.bytes) device;
         most = most;
         next = ap next_numbers same.0 ∙ next_is;
-        sound = λ honest. ap (λ (k : Device). k.honest && not broken) device ∙ ap (λ h. h && not broken) honest ∙ ap (λ b. true && not b) whole;
+        sound = λ honest. ap (λ (k : Device). k.honest && not a.broken) device ∙ ap (λ h. h && not a.broken) honest ∙ ap (λ b. true && not b) whole;
         present = λ honest o c.
-            subst (λ (k : Device). known_pages k.honest (present_data y (buffered buffer) k.flash) o c ≡ kept_data x d.flash o c) (sym device)
-            (ap (λ h. known_pages h (present_data y (buffered buffer) d.flash) o c) honest ∙ pages o c ∙ present_kept o c);
+            subst (λ (k : Device). known_pages k.honest (present_data a.index (buffered a.buffer) k.flash) o c ≡ kept_data x d.flash o c) (sym device)
+            (ap (λ h. known_pages h (present_data a.index (buffered a.buffer) d.flash) o c) honest ∙ pages o c ∙ present_kept o c);
         kept = λ honest. record {
-          carried = λ is. carried_as (store_seen e u y buffer cache scratch found spare' broken counts) d spare (kept_data x d.flash) device same.1 (carried honest);
+          carried = λ is. carried_as (seen_of a lent) d spare (kept_data x d.flash) device same.1 (carried honest);
           kept = λ sound o c. kept o c ∙ ap (λ h. known_pages h (kept_data x d.flash) o c) honest;
         };
       }

@@ -5,7 +5,7 @@ use Rattle.std.proofs.lemmas.Bool.{cases_Bool, or_left, or_right}
 use Rattle.page_buffer.specs.Buffering.{lacks}
 use Rattle.chunk_index.specs.declared.form.Present.{Present}
 use Rattle.nand_model.specs.Flash.{Flash}
-use Rattle.nand_model.specs.Calls.{Device}
+use Rattle.nand_model.specs.Calls.{Device, Lasts}
 use Rattle.flash_tree.specs.laws.Place.{same_flash, had_power}
 use Rattle.block_state.specs.Table.{Table}
 use Rattle.block_state.specs.TableOf.{table}
@@ -29,7 +29,7 @@ use Rattle.page_buffer.specs.Shown.{data_of, data_at, data_by, data_in, kept_dat
 use Rattle.page_cache.specs.declared.cache.PageCache.{PageCache}
 use Rattle.pages.specs.Maps.{known_pages}
 use Rattle.pages.specs.laws.Known.{known_same}
-use Rattle.pages.specs.State.{PagesState, OnlyFinds, FindsPage, FailsBy}
+use Rattle.pages.specs.State.{OnlyFinds, FindsPage, FailsBy}
 use Rattle.pages.specs.declared.store.Presence.{Presence}
 use Rattle.pages.specs.declared.store.Presence.TheVariants as presences
 use Rattle.volume_terms.specs.declared.fault.StoreFault.{StoreFault}
@@ -40,9 +40,10 @@ use Rattle.objects.specs.declared.counts.StoreCounts.{StoreCounts}
 use Rattle.objects.specs.declared.store.Found.{Found}
 use Rattle.objects.specs.Found.{bytes_or}
 use Rattle.objects.specs.Caching.{Shows}
-use Rattle.objects.specs.Counts.{NoneFalls}
-use Rattle.objects.specs.Reading.{Caches, IsLoadFault, IsFindFault}
-use Rattle.objects.specs.StoreOf.{store_seen, next_numbers, is_near}
+use Rattle.objects.specs.Counts.{IsRefused}
+use Rattle.objects.specs.Reading.{Caches, IsLoadFault, IsFindFault, Lends, Looks}
+use Rattle.objects.specs.StoreOf.{next_numbers, is_near}
+use Rattle.objects.specs.StoreState.{StoreState, current_in, seen_of}
 use Rattle.objects.specs.laws.Sound.{sound_whole}
 
 -- a page that is present on the flash is the kept one
@@ -111,53 +112,60 @@ kept_written f x o c k kept is none =
     absurd cc
 
 -- each fault of a load has its cause
-pub load_fails : (spare : ℕ) (a b : Device) (t : Table) (x : Index) (o c : ℕ) (at : KeptPage) (broken : Bool) (memory : Type 0) (fault : StoreFault) → OnlyReads a b → Stands spare a t x
-    → present x o c ≡ presents.OnFlash at → IsLoadFault a b at fault → (fault ≡ faults.NoMemory → memory) → IsFindFault b broken memory fault
-load_fails spare a b t x o c at broken memory faults.NoMemory reads stands there why is = is refl
-load_fails spare a b t x o c at broken memory faults.Worn reads stands there why is = why
-load_fails spare a b t x o c at broken memory faults.Device reads stands there why is = elim why [
+pub load_fails : (a b : StoreState) (o c : ℕ) (at : KeptPage) (fault : StoreFault) → OnlyReads a.log.device b.log.device → Stands a.spare a.log.device a.log.table a.index
+    → present a.index o c ≡ presents.OnFlash at → IsLoadFault a.log.device b.log.device at fault → (fault ≡ faults.NoMemory → IsRefused a.counts b.counts) → IsFindFault a b fault
+load_fails a b o c at faults.NoMemory reads stands there why is = is refl
+load_fails a b o c at faults.Worn reads stands there why is = why
+load_fails a b o c at faults.Device reads stands there why is = elim why [
   | inl gone ↦ inl gone
-  | inr none ↦ elim (cases_Bool a.honest) [
+  | inr none ↦ elim (cases_Bool a.log.device.honest) [
     | inr lies' ↦ inr (inl (reads.lasts.honest ∙ lies'))
-    | inl honest ↦ elim (cases_Bool a.gone) [
+    | inl honest ↦ elim (cases_Bool a.log.device.gone) [
       | inl gone ↦ inl (ap (λ (d : Device). d.gone) (reads.lasts.gone gone) ∙ gone)
-      | inr power ↦ absurd (kept_written a.flash x o c at (stands.newest honest power) (kept_there x o c at there) (none honest))
+      | inr power ↦ absurd (kept_written a.log.device.flash a.index o c at (stands.newest honest power) (kept_there a.index o c at there) (none honest))
     ]
   ]
 ]
 
--- a call that only reads the device, and changes no index and no buffer, only finds
-pub finds_seen : (a b : Device) (t u : Blocks) (x y : Index) (buffer buffer' : Buffer) (cache cache' : PageCache) (scratch scratch' : List ℕ) (found found' : Found) (spare spare' : ℕ) (broken broken' : Bool) (counts counts' : StoreCounts)
-    → OnlyReads a b → u ≡ t → y ≡ x → buffer' ≡ buffer → spare' ≡ spare → broken' ≡ broken → NoneFalls counts counts' → counts'.commits.total ≡ counts.commits.total
-    → OnlyFinds (store_seen a (table t) x buffer cache scratch found spare broken counts) (store_seen b (table u) y buffer' cache' scratch' found' spare' broken' counts')
-finds_seen a b t u x y buffer buffer' cache cache' scratch scratch' found found' spare spare' broken broken' counts counts' reads blocks index buffers spares breaks refuses begins = record {
-  page_bytes = ap (λ (g : Geometry). g.bytes) reads.lasts.geometry;
-  most = ap most_pages buffers;
-  present = ap (λ i. known_pages b.honest (present_data i (buffered buffer') b.flash)) index
-      ∙ ap (λ i. known_pages b.honest (present_data x (buffered i) b.flash)) buffers
-      ∙ known_same a b (present_data x (buffered buffer)) reads;
-  kept = ap (λ i. known_pages b.honest (kept_data i b.flash)) index ∙ known_same a b (kept_data x) reads;
-  buffered = ap (λ (i : Buffer). length (buffered i)) buffers;
-  sound = ap (λ h. h && not broken') reads.lasts.honest ∙ ap (λ w. a.honest && not w) breaks;
+-- a look-up only finds
+pub finds_seen : (a b : StoreState) (lent lent' : List ℕ) → Looks a b → OnlyFinds (seen_of a lent) (seen_of b lent')
+finds_seen a b lent lent' looks = record {
+  page_bytes = ap (λ (g : Geometry). g.bytes) lasts.geometry;
+  most = ap most_pages looks.buffer;
+  present = ap (λ i. known_pages e.honest (present_data i (buffered b.buffer) e.flash)) looks.index
+      ∙ ap (λ i. known_pages e.honest (present_data a.index (buffered i) e.flash)) looks.buffer
+      ∙ known_same d e (present_data a.index (buffered a.buffer)) looks.reads;
+  kept = ap (λ i. known_pages e.honest (kept_data i e.flash)) looks.index ∙ known_same d e (kept_data a.index) looks.reads;
+  buffered = ap (λ (i : Buffer). length (buffered i)) looks.buffer;
+  sound = ap (λ h. h && not b.broken) lasts.honest ∙ ap (λ w. d.honest && not w) looks.broken;
   failed = failed;
-  refused = refuses.refused;
-  commits = begins;
-  asked = reads.lasts.reads;
-  device = reads;
-  next = ap (λ (w : Blocks). next_numbers (table w)) blocks;
-  spare = spares;
+  refused = looks.counts.refused;
+  commits = looks.commits;
+  asked = lasts.reads;
+  device = looks.reads;
+  next = ap next_numbers looks.table;
+  spare = looks.spare;
   worn = refl;
-  checkpoint = ap (λ (w : Blocks). (table w).checkpoint) blocks;
+  checkpoint = ap (λ (t : Table). t.checkpoint) looks.table;
 } where
-  failed : (a.gone || (not a.honest || broken)) ≡ true → (b.gone || (not b.honest || broken')) ≡ true
-  failed is = elim (cases_Bool a.gone) [
+  d : Device
+  d = a.log.device
+
+  e : Device
+  e = b.log.device
+
+  lasts : Lasts d e
+  lasts = looks.reads.lasts
+
+  failed : (d.gone || (not d.honest || a.broken)) ≡ true → (e.gone || (not e.honest || b.broken)) ≡ true
+  failed is = elim (cases_Bool d.gone) [
     | inl gone ↦
-        let same : b ≡ a = reads.lasts.gone gone in
-        ap (λ (d : Device). d.gone || (not d.honest || broken')) same ∙ ap (λ w. a.gone || (not a.honest || w)) breaks ∙ is
+        let same : e ≡ d = lasts.gone gone in
+        ap (λ (k : Device). k.gone || (not k.honest || b.broken)) same ∙ ap (λ w. d.gone || (not d.honest || w)) looks.broken ∙ is
     | inr powered ↦
-        let rest : (not a.honest || broken) ≡ true = sym (ap (λ w. w || (not a.honest || broken)) powered) ∙ is in
-        let new : (not b.honest || broken') ≡ true = ap (λ h. not h || broken') reads.lasts.honest ∙ ap (λ w. not a.honest || w) breaks ∙ rest in
-        or_right b.gone (not b.honest || broken') new
+        let rest : (not d.honest || a.broken) ≡ true = sym (ap (λ w. w || (not d.honest || a.broken)) powered) ∙ is in
+        let new : (not e.honest || b.broken) ≡ true = ap (λ h. not h || b.broken) lasts.honest ∙ ap (λ w. not d.honest || w) looks.broken ∙ rest in
+        or_right e.gone (not e.honest || b.broken) new
   ]
 
 -- a store that is sound is on an honest device, and is not broken
@@ -183,14 +191,14 @@ buffered_lent a x pages scratch o c i broken is within sound =
     ∙ ap (data_by a.flash pages) is ∙ some_bytes (data_in pages i) there.0 scratch there.1
 
 -- a key that is present on the flash has the page that is lent
-pub kept_lent : (a : Device) (x : Index) (pages : List FreshPage) (lent : List ℕ) (o c : ℕ) (at : KeptPage) (broken : Bool) (result : Result Presence StoreFault) → present x o c ≡ presents.OnFlash at
-    → (a.honest && not broken) ≡ true → IfOk result (λ presence. presence ≡ presences.Present) → (broken ≡ false → a.honest ≡ true → OnOk result (data_at a.flash at ≡ Some lent))
-    → IfOk result (FindsPage (known_pages a.honest (present_data x pages a.flash)) o c lent)
-kept_lent a x pages lent o c at broken (Err fault) is sound there page = tt
-kept_lent a x pages lent o c at broken (Ok told) is sound there page =
-    let honest = sound_honest a.honest broken sound in
-    subst (FindsPage (known_pages a.honest (present_data x pages a.flash)) o c lent) (sym there)
-    (ap (λ h. known_pages h (present_data x pages a.flash) o c) honest ∙ ap (data_by a.flash pages) is ∙ page (sound_whole a.honest broken sound) honest)
+pub kept_lent : (a : StoreState) (lent : List ℕ) (o c : ℕ) (at : KeptPage) (result : Result Presence StoreFault) → present a.index o c ≡ presents.OnFlash at
+    → (a.log.device.honest && not a.broken) ≡ true → IfOk result (λ presence. presence ≡ presences.Present) → Lends a at lent result → IfOk result (FindsPage (current_in a) o c lent)
+kept_lent a lent o c at (Err fault) is sound there page = tt
+kept_lent a lent o c at (Ok told) is sound there page =
+    let d : Device = a.log.device in
+    let honest = sound_honest d.honest a.broken sound in
+    subst (FindsPage (current_in a) o c lent) (sym there)
+    (ap (λ h. known_pages h (present_data a.index (buffered a.buffer) d.flash) o c) honest ∙ ap (data_by d.flash (buffered a.buffer)) is ∙ page (sound_whole d.honest a.broken sound) honest)
 
 -- and so it has one
 pub not_absent : (a : Device) (x : Index) (pages : List FreshPage) (o c : ℕ) (at : KeptPage) (broken : Bool) → present x o c ≡ presents.OnFlash at
@@ -202,16 +210,15 @@ not_absent a x pages o c at broken is kept sound none =
     kept_written a.flash x o c at (kept (sound_whole a.honest broken sound) honest) (kept_there x o c at is) (sym here ∙ none)
 
 -- each fault has its cause
-pub fault_seen : (b : Device) (t : Table) (x : Index) (buffer : Buffer) (cache : PageCache) (scratch : List ℕ) (found : Found) (spare : ℕ) (broken : Bool) (counts : StoreCounts) (old : PagesState) (result : Result Presence StoreFault)
-    → IfErr result (IsFindFault b broken (old.refused < counts.refused.total)) → IfErr result (FailsBy old (store_seen b t x buffer cache scratch found spare broken counts))
-fault_seen b t x buffer cache scratch found spare broken counts old (Ok told) why = tt
-fault_seen b t x buffer cache scratch found spare broken counts old (Err faults.NoMemory) why = why
-fault_seen b t x buffer cache scratch found spare broken counts old (Err faults.Worn) why = why
-fault_seen b t x buffer cache scratch found spare broken counts old (Err faults.Device) why = elim why [
-  | inl gone ↦ or_left b.gone (not b.honest || broken) gone
-  | inr rest ↦ or_right b.gone (not b.honest || broken) (elim rest [
-    | inl lies ↦ or_left (not b.honest) broken (ap not lies)
-    | inr breaks ↦ or_right (not b.honest) broken breaks
+pub fault_seen : (a b : StoreState) (lent lent' : List ℕ) (result : Result Presence StoreFault) → IfErr result (IsFindFault a b) → IfErr result (FailsBy (seen_of a lent) (seen_of b lent'))
+fault_seen a b lent lent' (Ok told) why = tt
+fault_seen a b lent lent' (Err faults.NoMemory) why = why
+fault_seen a b lent lent' (Err faults.Worn) why = why
+fault_seen a b lent lent' (Err faults.Device) why = elim why [
+  | inl gone ↦ or_left b.log.device.gone (not b.log.device.honest || b.broken) gone
+  | inr rest ↦ or_right b.log.device.gone (not b.log.device.honest || b.broken) (elim rest [
+    | inl lies ↦ or_left (not b.log.device.honest) b.broken (ap not lies)
+    | inr breaks ↦ or_right (not b.log.device.honest) b.broken breaks
   ])
 ]
 

@@ -35,7 +35,8 @@ use Rattle.checkpoint_writing.specs.declared.fault.SealFault.TheVariants as caus
 use Rattle.volume_terms.specs.declared.fault.StoreFault.{StoreFault}
 use Rattle.volume_terms.specs.declared.fault.StoreFault.TheVariants as faults
 use Rattle.objects.specs.Sealing.{IsExact, IsSealed, KeepsTree, LeavesOne, SealEnds, StaysRight, seal_fault_of, EndsOn}
-use Rattle.objects.specs.StoreOf.{kept_map, next_numbers, store_seen}
+use Rattle.objects.specs.StoreOf.{kept_map, next_numbers}
+use Rattle.objects.specs.StoreState.{StoreState, seen_of}
 use Rattle.objects.specs.declared.counts.StoreCounts.{StoreCounts}
 use Rattle.objects.specs.declared.store.Found.{Found}
 use Rattle.objects.proofs.Carried.{carried_known, has_page, kept_of_data, known_there}
@@ -71,9 +72,24 @@ carries_still f g x kept same o c xs is = go (kept_pages x o c) refl
         let now : HasVersion g o c p.version xs = subst (HasVersion g o c p.version) bytes (same o c p has.bytes there was) in
         record { spot = now.spot; newest = now.newest; stored = now.stored }
 
-module _ (d : Device) (t : Table) (x : Index) (buffer : Buffer) (cache : PageCache) (scratch : List ℕ) (found : Found) (spare : ℕ) (broken : Bool) (counts : StoreCounts) where
+module _ (a : StoreState) (lent : List ℕ) where
+  abbrev d : Device
+  d = a.log.device
+
+  abbrev t : Table
+  t = a.log.table
+
+  abbrev x : Index
+  x = a.index
+
+  abbrev spare : ℕ
+  spare = a.spare
+
+  abbrev broken : Bool
+  broken = a.broken
+
   abbrev seen : PagesState
-  seen = store_seen d t x buffer cache scratch found spare broken counts
+  seen = seen_of a lent
 
   -- what is kept is what the log keeps
   pub exact_kept : broken ≡ false → (broken ≡ false → d.honest ≡ true → AreKept d.flash (kept_pages x)) → IsExact seen → writing.IsExact d x

@@ -27,11 +27,11 @@ use Rattle.pages.specs.Stores.{HandsOutNumbers, HasNumbersLeft, HasPage, IsCarri
 use Rattle.volume_terms.specs.declared.fault.StoreFault.{StoreFault}
 use Rattle.volume_terms.specs.declared.fault.StoreFault.TheVariants as faults
 use Rattle.objects.specs.Changing.{ChangeEnds, HasNothingLeft, IsChanged, IsCommitted, IsUnchanged, StaysWhole, WriteOutEnds}
-use Rattle.objects.specs.StoreState.{StoreState, committed_in, waiting}
+use Rattle.objects.specs.StoreState.{committed_in, seen_of, StoreState, waiting}
 use Rattle.objects.specs.declared.store.Found.{Found}
 use Rattle.page_buffer.specs.BufferOf.{most_pages}
 use Rattle.pages.specs.declared.change.Change.{Change}
-use Rattle.objects.specs.StoreOf.{next_numbers, store_seen}
+use Rattle.objects.specs.StoreOf.{next_numbers}
 use Rattle.objects.proofs.Carried.{carried_same}
 use Rattle.objects.proofs.Steps.{same_back, hands_still}
 
@@ -179,10 +179,6 @@ is_crowded p x count (ks, list, long) pages many = record {
 
 -- ---- how calls end
 
--- a store as its pages, with what is lent of it
-abbrev pub seen_of : StoreState → List ℕ → Found → PagesState
-seen_of a scratch found = store_seen a.log.device a.log.table a.index a.buffer a.cache scratch found a.spare a.broken a.counts
-
 pub both_whole : (a b : StoreState) → StaysWhole a b → (a.broken ≡ false) × (b.broken ≡ false)
 both_whole a b whole = (whole.was, whole.is)
 
@@ -231,10 +227,10 @@ unchanged change (Err faults.Device) a b ends is = absurd cc
 unchanged change (Err faults.Worn) a b ends is = absurd cc
 
 -- Of a sound store, before a call and after it.
-module _ (a b : StoreState) (s s' : List ℕ) (f f' : Found) (table_is : a.log.table.geometry ≡ a.log.device.geometry) (sizes : b.log.device.geometry ≡ a.log.device.geometry) (spare : b.spare ≡ a.spare)
+module _ (a b : StoreState) (lent lent' : List ℕ) (table_is : a.log.table.geometry ≡ a.log.device.geometry) (sizes : b.log.device.geometry ≡ a.log.device.geometry) (spare : b.spare ≡ a.spare)
     (ready : IsReady b.log.device b.log.table) (fits : most_pages a.buffer ≤ a.log.device.geometry.pages) (few_pages : waiting a ≤ most_pages a.buffer) (few : bad_count a.log.table ≤ a.spare)
     (listed : HasKept (kept_pages a.index) (kept_count a.log.table)) (pages : (o c : ℕ) (k : KeptPage) → kept_pages a.index o c ≡ Some k → HasPage (committed_in a) o c) where
-  worn_told : HasNothingLeft a.spare (waiting a) b.log.device a.log.table b.log.table → stores.HasNothingLeft (seen_of a s f) (seen_of b s' f')
+  worn_told : HasNothingLeft a.spare (waiting a) b.log.device a.log.table b.log.table → stores.HasNothingLeft (seen_of a lent) (seen_of b lent')
   worn_told (inl (inl seq)) = inr (inl seq)
   worn_told (inl (inr (inl group))) = inl group
   worn_told (inl (inr (inr more))) =
@@ -244,7 +240,7 @@ module _ (a b : StoreState) (s s' : List ℕ) (f f' : Found) (table_is : a.log.t
   worn_told (inr full) = elim (cases_lt b.log.device.geometry.blocks (b.spare + 2)) [
     | inl small ↦ inr (inr (inr (inl small)))
     | inr large ↦ elim (cases_lt ((a.log.device.geometry.blocks - a.spare - 1) * (a.log.device.geometry.pages - most_pages a.buffer)) (kept_count a.log.table)) [
-      | inl many ↦ inr (inr (inr (inr (is_crowded (seen_of a s f) a.index (kept_count a.log.table) listed pages many))))
+      | inl many ↦ inr (inr (inr (inr (is_crowded (seen_of a lent) a.index (kept_count a.log.table) listed pages many))))
       | inr room ↦
           let blocks : a.log.table.geometry.blocks ≡ a.log.device.geometry.blocks = ap (λ (g : Geometry). g.blocks) table_is in
           let later : b.log.device.geometry.blocks ≡ a.log.device.geometry.blocks = ap (λ (g : Geometry). g.blocks) sizes in
@@ -267,13 +263,13 @@ module _ (a b : StoreState) (s s' : List ℕ) (f f' : Found) (table_is : a.log.t
   device_told whole (inr (inl lies)) = inr lies
   device_told whole (inr (inr is)) = absurd (let two : true ≡ false = sym is ∙ whole in cc)
 
-  pub change_told : (change : Change) (result : Result (Unit {0}) StoreFault) → a.broken ≡ false → ChangeEnds change a b result → IfErr result (ChangeFailsBy (seen_of a s f) (seen_of b s' f'))
+  pub change_told : (change : Change) (result : Result (Unit {0}) StoreFault) → a.broken ≡ false → ChangeEnds change a b result → IfErr result (ChangeFailsBy (seen_of a lent) (seen_of b lent'))
   change_told change (Ok done) whole ends = tt
   change_told change (Err faults.NoMemory) whole ends = ends.refused
   change_told change (Err faults.Worn) whole ends = (inr (ends.begins whole), worn_told ends.cause)
   change_told change (Err faults.Device) whole ends = device_told whole ends.cause
 
-  pub commit_told : (result : Result (Unit {0}) StoreFault) → a.broken ≡ false → WriteOutEnds a b result → IfErr result (CommitFailsBy (seen_of a s f) (seen_of b s' f'))
+  pub commit_told : (result : Result (Unit {0}) StoreFault) → a.broken ≡ false → WriteOutEnds a b result → IfErr result (CommitFailsBy (seen_of a lent) (seen_of b lent'))
   commit_told (Ok done) whole ends = tt
   commit_told (Err faults.NoMemory) whole ends = ends.cause
   commit_told (Err faults.Worn) whole ends = (inr (ends.begins whole), worn_told ends.cause)

@@ -129,6 +129,10 @@ CommitsEither old new = SamePages (committed_in new) (committed_in old) ⊎ Same
 abbrev pub StaysOrKeepsOpen : StoreState → StoreState → Type 0
 StaysOrKeepsOpen old new = (new.log.table ≡ old.log.table) ⊎ KeepsOpen (waiting old) old.log new.log
 
+-- the buffer has room for these pages besides its own
+abbrev pub FitsBuffer : List FreshPage → StoreState → Type 0
+FitsBuffer pages s = with_new s.index (buffered s.buffer) pages ≤ most_pages s.buffer
+
 -- no commit is begun: there is no call of the device, the table stays, and so does what is committed
 pub record CommitsNone (old new : StoreState) : Type 0 where
   pub device : new.log.device ≡ old.log.device
@@ -141,7 +145,7 @@ pub record HasRoomFor (pages : List FreshPage) (old new : StoreState) (is_commit
   pub whole : StaysWhole old new
   pub committed : CommitsEither old new
   pub current : SamePages (current_in new) (current_in old)
-  pub room : with_new new.index (buffered new.buffer) pages ≤ most_pages new.buffer
+  pub room : FitsBuffer pages new
   pub fewer : waiting new ≤ waiting old
   pub cache : is_committed ≡ false → new.cache ≡ old.cache
   pub keeps_open : StaysOrKeepsOpen old new

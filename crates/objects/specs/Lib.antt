@@ -2,6 +2,7 @@ pub mod Found
 pub mod Reading
 pub mod StoreOf
 pub mod StoreState
+pub mod StateOf
 pub mod Caching
 pub mod Changing
 pub mod Counts

@@ -2,7 +2,7 @@
 ghost use Rattle.std.specs.Prelude.{◌≡◌, ◌≤◌, ◌+◌, ◌/◌, length, true, false, OnOk, IfErr};
 ghost use Rattle.chunk_index.specs.Maps.{SameKept, SamePresent};
 ghost use Rattle.commits.specs.Committing.{PaysUpTo};
-ghost use Rattle.page_buffer.specs.BufferOf.{buffered, most_pages};
+ghost use Rattle.page_buffer.specs.BufferOf.{buffered};
 ghost use Rattle.page_buffer.specs.Buffering.{ArePrepared, AreReady, AreBuffered, with_new};
 ghost use Rattle.page_cache.specs.Cached.{held_count, capacity_of};
 ghost use Rattle.page_cache.specs.Changes.{KeepsSizes};
@@ -11,9 +11,10 @@ ghost use Rattle.pages.specs.Maps.{changed};
 ghost use Rattle.pages.specs.Stores.{SamePages};
 ghost use Rattle.volume_terms.specs.declared.fault.StoreFault.TheVariants as faults;
 ghost use Rattle.objects.specs.Caching.{HasNoMore, HavePlaces, KeepsUncutKeys, LacksPages};
-ghost use Rattle.objects.specs.Changing.{ChangeEnds, CommitKeeps, CommitsNone, Prepares, RoomEnds, SameBeside, SamePlaces, StaysCarried, StoreLasts};
+ghost use Rattle.objects.specs.Changing.{ChangeEnds, CommitKeeps, CommitsNone, FitsBuffer, Prepares, RoomEnds, SameBeside, SamePlaces, StaysCarried, StoreLasts};
 ghost use Rattle.objects.specs.Counts.{IsRefused};
-ghost use Rattle.objects.specs.StoreState.{committed_in, current_in, state_of, waiting};
+ghost use Rattle.objects.specs.StoreState.{committed_in, current_in, waiting};
+ghost use Rattle.objects.specs.StateOf.{state_of};
 
 use crate::caching::{drop_committed, drop_cuts, make_places};
 use crate::store::{Found, Store};
@@ -42,7 +43,7 @@ impl<N: Nand> Store<N> {
         ensures pays { PaysUpTo (waiting (state_of self.old)) self.old.spare (state_of self.old).log (state_of self.new).log result }
         ensures carried { StaysCarried (state_of self.old) (state_of self.new) }
         // Where the buffer has room nothing is committed.
-        ensures room { with_new self.old.index (buffered self.old.buffer) change.pages.items ≤ most_pages self.old.buffer → CommitsNone (state_of self.old) (state_of self.new) }
+        ensures room { FitsBuffer change.pages.items (state_of self.old) → CommitsNone (state_of self.old) (state_of self.new) }
         ensures ends { ChangeEnds change (state_of self.old) (state_of self.new) result }
     {
         if self.broken {
@@ -80,7 +81,7 @@ impl<N: Nand> Store<N> {
         ensures keeps { CommitKeeps (state_of self.old) (state_of self.new) }
         ensures pays { PaysUpTo (waiting (state_of self.old)) self.old.spare (state_of self.old).log (state_of self.new).log result }
         ensures carried { StaysCarried (state_of self.old) (state_of self.new) }
-        ensures enough { with_new self.old.index (buffered self.old.buffer) pages.now ≤ most_pages self.old.buffer → SamePlaces (state_of self.old) (state_of self.new) }
+        ensures enough { FitsBuffer pages.now (state_of self.old) → SamePlaces (state_of self.old) (state_of self.new) }
         ensures ends { RoomEnds pages.now (state_of self.old) (state_of self.new) result }
     {
         the_counts_are_of_the_keys();
@@ -100,7 +101,7 @@ impl<N: Nand> Store<N> {
         requires size { AreSized change.pages.items (N.state self.old.device).geometry.bytes }
         requires apart { AreApart change.pages.items }
         requires trees { AreOfTrees change.pages.items }
-        requires room { with_new self.old.index (buffered self.old.buffer) change.pages.items ≤ most_pages self.old.buffer }
+        requires room { FitsBuffer change.pages.items (state_of self.old) }
         ensures same { SameBeside (state_of self.old) (state_of self.new) }
         ensures committed { SamePages (committed_in (state_of self.new)) (committed_in (state_of self.old)) }
         ensures current { (N.state self.old.device).honest ≡ true → SamePages (current_in (state_of self.new)) (changed change (current_in (state_of self.old))) }

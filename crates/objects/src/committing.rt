@@ -3,7 +3,8 @@ ghost use Rattle.std.specs.Prelude.{◌≡◌, [], false, IsOk};
 ghost use Rattle.page_buffer.specs.BufferOf.{buffered};
 ghost use Rattle.commits.specs.Committing.{PaysCommit};
 ghost use Rattle.objects.specs.Changing.{CommitKeeps, HasNoHindrance, StaysCarried, WriteOutEnds, fault_of};
-ghost use Rattle.objects.specs.StoreState.{state_of, waiting};
+ghost use Rattle.objects.specs.StoreState.{waiting};
+ghost use Rattle.objects.specs.StateOf.{state_of};
 
 use crate::caching::keep_written;
 use crate::store::{Found, Store};

@@ -4,7 +4,8 @@ ghost use Rattle.pages.specs.Maps.{without_cuts};
 ghost use Rattle.pages.specs.Stores.{SamePages};
 ghost use Rattle.objects.specs.Caching.{KeepsUncut};
 ghost use Rattle.objects.specs.Changing.{SameBeside};
-ghost use Rattle.objects.specs.StoreState.{committed_in, current_in, state_of, waiting};
+ghost use Rattle.objects.specs.StoreState.{committed_in, current_in, waiting};
+ghost use Rattle.objects.specs.StateOf.{state_of};
 ghost use Rattle.volume_terms.specs.declared.fault.StoreFault.TheVariants as faults;
 
 use crate::caching::drop_cuts;

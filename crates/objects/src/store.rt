@@ -1,5 +1,5 @@
 // The store.
-ghost use Rattle.std.specs.Prelude.{◌≡◌, ◌<◌, ◌≤◌, ℕ, List, length, true, false, Some, None, IsSome, IfOk, IfErr, OnOk, ◌+◌, ◌/◌, []};
+ghost use Rattle.std.specs.Prelude.{◌≡◌, ◌<◌, ◌≤◌, ℕ, List, length, true, false, None, IsSome, IfOk, IfErr, OnOk, ◌/◌, []};
 ghost use Rattle.std.specs.NonZero.{non_zero_usize_get};
 ghost use Rattle.block_state.specs.Kept.{bad_count};
 ghost use Rattle.block_state.specs.TableOf.{table};
@@ -10,12 +10,10 @@ ghost use Rattle.chunk_index.specs.Maps.{kept_pages, present};
 ghost use Rattle.chunk_index.specs.declared.form.Present.TheVariants as presents;
 ghost use Rattle.page_buffer.specs.Buffering.{Buffers, IsUnbuffered};
 ghost use Rattle.page_buffer.specs.BufferOf.{buffered, most_pages, bytes_of_page};
-ghost use Rattle.page_buffer.specs.Shown.{data_at, kept_data, present_data};
+ghost use Rattle.page_buffer.specs.Shown.{kept_data, present_data};
 ghost use Rattle.page_cache.specs.Cached.{held, cached, capacity_of, page_bytes_of};
-ghost use Rattle.nand_model.specs.Changes.{OnlyReads};
-ghost use Rattle.objects.specs.Counts.{IsRefused, NoneFalls};
-ghost use Rattle.objects.specs.Found.{IsFound, found_bytes};
-ghost use Rattle.objects.specs.Reading.{IsFindFault};
+ghost use Rattle.objects.specs.Found.{IsFound};
+ghost use Rattle.objects.specs.Reading.{IsFindFault, Lends, Looks};
 ghost use Rattle.objects.specs.Caching.{Shows, KeepsRest};
 ghost use Rattle.commits.specs.Carrying.{AreNumbered};
 ghost use Rattle.objects.specs.laws.OneProof.{stands_prop, newest_kept_prop};
@@ -93,7 +91,8 @@ fn make_rooms(
     geometry: Geometry,
     capacity: NonZeroUsize,
 ) -> Result<Rooms, AllocError>
-    ensures buffer { IfOk result (λ made. (buffered made.buffer ≡ []) × (most_pages made.buffer ≡ geometry.pages / 4) × (bytes_of_page made.buffer ≡ geometry.bytes)) }
+    ensures empty { IfOk result (λ made. buffered made.buffer ≡ []) }
+    ensures buffer { IfOk result (λ made. (most_pages made.buffer ≡ geometry.pages / 4) × (bytes_of_page made.buffer ≡ geometry.bytes)) }
     ensures cache { IfOk result (λ made. (page_bytes_of made.cache ≡ geometry.bytes) × ((o c : ℕ) → held made.cache o c ≡ None)) }
     ensures capacity { IfOk result (λ made. capacity_of made.cache ≡ non_zero_usize_get capacity) }
     ensures room { IfOk result (λ made. IsRoomFor geometry made.room) }
@@ -108,6 +107,7 @@ fn make_rooms(
 }
 
 impl<N: Nand> Store<N> {
+    ghost use Rattle.objects.specs.StateOf.{lent_by, state_of};
     ghost use Rattle.objects.specs.StoreOf.{kept_map, present_map};
 
     /// A store over what is kept on a device, of whose blocks so many are to spare, with a buffer of a quarter of a block
@@ -170,17 +170,13 @@ impl<N: Nand> Store<N> {
     /// Finds the page of a key that is kept there.
     fn find_kept(&mut self, key: Key, at: KeptPage) -> Result<Presence, StoreFault>
         requires { present self.old.index key.object key.chunk ≡ presents.OnFlash at }
-        ensures reads { OnlyReads (N.state self.old.device) (N.state self.new.device) }
-        ensures same { (self.new.index ≡ self.old.index) × (self.new.buffer ≡ self.old.buffer) × (self.new.broken ≡ self.old.broken) × (self.new.blocks ≡ self.old.blocks) × (self.new.spare ≡ self.old.spare) }
-        ensures asked { (N.state self.new.device).reads ≤ (N.state self.old.device).reads + 1 }
+        ensures looks { Looks (state_of self.old) (state_of self.new) }
         ensures power { OnOk result ((N.state self.new.device).gone ≡ (N.state self.old.device).gone) }
         ensures cached { IsSome (cached self.old.cache key.object key.chunk) → N.state self.new.device ≡ N.state self.old.device }
         ensures rest { KeepsRest key.object key.chunk self.old.cache self.new.cache }
-        ensures counts { NoneFalls self.old.counts self.new.counts × (self.new.counts.commits.total ≡ self.old.counts.commits.total) }
         ensures there { IfOk result (λ presence. presence ≡ Presence.Present) }
-        ensures page { self.old.broken ≡ false → (N.state self.old.device).honest ≡ true
-            → OnOk result (data_at (N.state self.old.device).flash at ≡ Some (found_bytes (buffered self.new.buffer) self.new.cache self.new.scratch.items self.new.found)) }
-        ensures fault { IfErr result (IsFindFault (N.state self.new.device) self.new.broken (IsRefused self.old.counts self.new.counts)) }
+        ensures page { Lends (state_of self.old) at (lent_by self.new) result }
+        ensures fault { IfErr result (IsFindFault (state_of self.old) (state_of self.new)) }
     {
         match load_kept(
             &mut self.device,
@@ -202,9 +198,10 @@ impl<N: Nand> Store<N> {
 }
 
 impl<N: Nand> Pages for Store<N> {
-    ghost use Rattle.objects.specs.StoreOf.{store_seen};
+    ghost use Rattle.objects.specs.StateOf.{lent_by, state_of};
+    ghost use Rattle.objects.specs.StoreState.{seen_of};
 
-    ghost state = { λ s. store_seen (N.state s.device) (table s.blocks) s.index s.buffer s.cache s.scratch.items s.found s.spare s.broken s.counts };
+    ghost state = { λ s. seen_of (state_of s) (lent_by s) };
 
     ghost sized = { λ s. ((N.state s.device).geometry.least_bytes, (N.state s.device).geometry.most_bytes) };
 

@@ -6,12 +6,13 @@ use Rattle.block_state.specs.Table.{Table}
 use Rattle.page_buffer.specs.BufferOf.{buffered, most_pages}
 use Rattle.pages.specs.Stores.{AreNear, IsCarried}
 use Rattle.objects.specs.StoreOf.{next_numbers}
-use Rattle.objects.specs.StoreState.{StoreState, committed_in, current_in, state_of}
+use Rattle.objects.specs.StoreState.{committed_in, current_in, seen_of, StoreState}
+use Rattle.objects.specs.StateOf.{lent_by, state_of}
 use Rattle.objects.proofs.Carried.{has_page, store_carries}
 use Rattle.objects.proofs.Steps.{few_new}
 use Rattle.objects.specs.laws.Sound.{sound_whole}
 use Rattle.objects.proofs.ReadOnly.{near_buffered, sound_honest}
-use Rattle.objects.proofs.Told.{both_whole, change_told, failed_stays, hands_told, is_sound, keeps_either, limits_told, marks_told, seen_of, sound_on, sound_stays, stays_broken_changed, stops_changed, stops_told, unchanged, ways, when_changed}
+use Rattle.objects.proofs.Told.{both_whole, change_told, failed_stays, hands_told, is_sound, keeps_either, limits_told, marks_told, sound_on, sound_stays, stays_broken_changed, stops_changed, stops_told, unchanged, ways, when_changed}
 use Rattle.objects.proofs.page_store.StorePageStore.apply.Goals as goal
 
 pub returns-clause-goes_on : goal.returns-clause-goes_on
@@ -61,7 +62,7 @@ returns-clause-kept g c = λ sound.
     let e = c.change.ensures in
     let honest = sound_honest a.log.device.honest a.broken sound in
     let whole = sound_whole a.log.device.honest a.broken sound in
-    let q = seen_of b new.scratch.items new.found in
+    let q = seen_of b (lent_by new) in
     let m = committed_in a in
     let n = current_in a in
     keeps_either q m n
@@ -101,7 +102,7 @@ returns-clause-fault g c = λ sound.
     let whole = sound_whole a.log.device.honest a.broken sound in
     let few : length (buffered self.buffer) ≤ most_pages self.buffer = self.buffer.few in
     let most : most_pages self.buffer ≡ a.log.device.geometry.pages / 4 = self.most in
-    change_told a b self.scratch.items new.scratch.items self.found new.found self.ready.geometry e.lasts.device.geometry e.lasts.spare new.ready (omega (arith, most)) few (self.few whole)
+    change_told a b (lent_by self) (lent_by new) self.ready.geometry e.lasts.device.geometry e.lasts.spare new.ready (omega (arith, most)) few (self.few whole)
     (c.the_counts_add_up_to_the_kept_keys.ensures.all a.log.table a.index self.stands.tables.counts) (λ o k at is. has_page a.log.device a.index o k at honest (self.newest whole honest) is)
     c.args.change c.change.result whole e.ends
 
@@ -117,5 +118,5 @@ pub returns-clause-near : goal.returns-clause-near
 returns-clause-near g c =
     let new = c.change.new.self in
     let change = c.args.change in
-    when_changed {A = AreNear change.pages.items (seen_of (state_of new) new.scratch.items new.found)} change c.change.result (state_of c.args.self.now) (state_of new) c.change.ensures.ends
+    when_changed {A = AreNear change.pages.items (seen_of (state_of new) (lent_by new))} change c.change.result (state_of c.args.self.now) (state_of new) c.change.ensures.ends
     (λ is i p there. near_buffered _ _ (is.buffered i p there))

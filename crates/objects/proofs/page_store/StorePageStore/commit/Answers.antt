@@ -4,11 +4,12 @@ use Rattle.flash_tree.specs.declared.place.FreshPage.{FreshPage}
 use Rattle.nand_model.specs.declared.geometry.Geometry.{Geometry}
 use Rattle.page_buffer.specs.BufferOf.{buffered, most_pages}
 use Rattle.pages.specs.Stores.{IsCarried, SamePages}
-use Rattle.objects.specs.StoreState.{StoreState, committed_in, current_in, state_of}
+use Rattle.objects.specs.StoreState.{committed_in, current_in, seen_of, StoreState}
+use Rattle.objects.specs.StateOf.{lent_by, state_of}
 use Rattle.objects.proofs.Carried.{has_page, store_carries}
 use Rattle.objects.specs.laws.Sound.{sound_whole}
 use Rattle.objects.proofs.ReadOnly.{sound_honest}
-use Rattle.objects.proofs.Told.{both_whole, commit_told, none_buffered, committed, failed_stays, hands_told, keeps_either, limits_told, marks_told, seen_of, sound_on, sound_stays, stays_broken, stopped, stops_either, stops_told, stops_written, takes_none, ways, when_written}
+use Rattle.objects.proofs.Told.{both_whole, commit_told, none_buffered, committed, failed_stays, hands_told, keeps_either, limits_told, marks_told, sound_on, sound_stays, stays_broken, stopped, stops_either, stops_told, stops_written, takes_none, ways, when_written}
 use Rattle.objects.proofs.page_store.StorePageStore.commit.Goals as goal
 
 pub returns-clause-goes_on : goal.returns-clause-goes_on
@@ -55,7 +56,7 @@ returns-clause-kept g c = λ sound.
     let e = c.write_out.ensures in
     let honest = sound_honest a.log.device.honest a.broken sound in
     let whole = sound_whole a.log.device.honest a.broken sound in
-    let q = seen_of b new.scratch.items new.found in
+    let q = seen_of b (lent_by new) in
     let m = committed_in a in
     let n = current_in a in
     keeps_either q m n
@@ -73,7 +74,7 @@ returns-clause-committed g c = λ sound.
     let r = c.write_out.result in
     let e = c.write_out.ensures in
     let honest = sound_honest a.log.device.honest a.broken sound in
-    committed r (seen_of b new.scratch.items new.found) (current_in a)
+    committed r (seen_of b (lent_by new)) (current_in a)
     (sound_on r a.log.device b.log.device a.broken b.broken e.keeps.lasts.device (when_written r a b e.ends (λ is. both_whole a b is.whole)) honest) (when_written r a b e.ends (λ is. is.committed))
     (λ is. store_carries b.spare b.log.device b.log.table b.index c.the_counts_are_of_the_keys.ensures.none new.ready new.stands.tables (new.newest (sound_whole b.log.device.honest b.broken is) (sound_honest b.log.device.honest b.broken is)))
 
@@ -93,7 +94,7 @@ returns-clause-fault g c = λ sound.
     let whole = sound_whole a.log.device.honest a.broken sound in
     let few : length (buffered self.buffer) ≤ most_pages self.buffer = self.buffer.few in
     let most : most_pages self.buffer ≡ a.log.device.geometry.pages / 4 = self.most in
-    commit_told a b self.scratch.items new.scratch.items self.found new.found self.ready.geometry e.keeps.lasts.device.geometry e.keeps.lasts.spare new.ready (omega (arith, most)) few (self.few whole)
+    commit_told a b (lent_by self) (lent_by new) self.ready.geometry e.keeps.lasts.device.geometry e.keeps.lasts.spare new.ready (omega (arith, most)) few (self.few whole)
     (c.the_counts_add_up_to_the_kept_keys.ensures.all a.log.table a.index self.stands.tables.counts) (λ o k at is. has_page a.log.device a.index o k at honest (self.newest whole honest) is)
     c.write_out.result whole e.ends
 

@@ -8,7 +8,9 @@ use Rattle.pages.specs.State.{PagesState}
 use Rattle.pages.specs.Stores.{HasNumbersLeft}
 use Rattle.transactions.specs.Checking.{LogState}
 use Rattle.objects.specs.declared.counts.StoreCounts.{StoreCounts}
-use Rattle.objects.specs.StoreOf.{kept_map, next_numbers, store_seen}
+use Rattle.objects.specs.StoreOf.{kept_map, next_numbers}
+use Rattle.objects.specs.StoreState.{seen_of}
+use Rattle.objects.specs.StateOf.{lent_by, state_of}
 use Rattle.objects.proofs.Carried.{store_carries}
 use Rattle.objects.specs.laws.Sound.{sound_whole}
 use Rattle.objects.proofs.ReadOnly.{sound_honest}
@@ -53,7 +55,7 @@ returns-clause-kept g c = λ sound.
     let now = g.N.Nand.state new.device in
     let honest : now.honest ≡ true = ap (λ (l : LogState). l.device.honest) e.same.log ∙ sound_honest old.honest self.broken sound in
     let whole : new.broken ≡ false = e.same.broken ∙ sound_whole old.honest self.broken sound in
-    let q : PagesState = store_seen now (table new.blocks) new.index new.buffer new.cache new.scratch.items new.found new.spare new.broken new.counts in
+    let q : PagesState = seen_of (state_of new) (lent_by new) in
     kept_as q (kept_map old self.index) e.committed (store_carries new.spare now (table new.blocks) new.index c.the_counts_are_of_the_keys.ensures.none new.ready new.stands.tables (new.newest whole honest))
 
 pub returns-clause-stops : goal.returns-clause-stops
@@ -66,8 +68,8 @@ pub returns-clause-fault : goal.returns-clause-fault
 returns-clause-fault g c = λ sound.
     let self = c.args.self.now in
     let new = c.cut_away.new.self in
-    cut_told c.cut_away.result (store_seen (g.N.Nand.state self.device) (table self.blocks) self.index self.buffer self.cache self.scratch.items self.found self.spare self.broken self.counts)
-    (store_seen (g.N.Nand.state new.device) (table new.blocks) new.index new.buffer new.cache new.scratch.items new.found new.spare new.broken new.counts) self.broken
+    cut_told c.cut_away.result (seen_of (state_of self) (lent_by self))
+    (seen_of (state_of new) (lent_by new)) self.broken
     (sound_whole (g.N.Nand.state self.device).honest self.broken sound) c.cut_away.ensures.fault
 
 pub returns-clause-device : goal.returns-clause-device

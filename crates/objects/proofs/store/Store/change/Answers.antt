@@ -10,7 +10,8 @@ use Rattle.flash_tree.specs.declared.place.FreshPage.{FreshPage}
 use Rattle.page_cache.specs.Cached.{held_count, capacity_of}
 use Rattle.page_cache.specs.declared.cache.PageCache.{PageCache}
 use Rattle.objects.specs.Caching.{LacksPages}
-use Rattle.objects.specs.StoreState.{StoreState, current_in, state_of, waiting}
+use Rattle.objects.specs.StoreState.{StoreState, current_in, waiting}
+use Rattle.objects.specs.StateOf.{state_of}
 use Rattle.page_buffer.specs.Buffering.{AreReady}
 use Rattle.objects.proofs.Carried.{store_carries}
 use Rattle.objects.proofs.Changed.{broken_ends, broken_made, carried_made, commits_none, commits_not, commits_not_after, committed_made, current_before, lasts_made, lasts_prepared, lasts_still, open_made, pays_done, pays_failed, pays_here, pays_made, refused_made, same_here, whole_made}

@@ -1,8 +1,12 @@
 use Rattle.std.proofs.Common.{◌≡◌, ◌∙◌, ◌/◌, sym, ap, subst}
 use Rattle.nand_model.specs.declared.geometry.Geometry.{Geometry}
 use Rattle.transactions.specs.laws.Ready.{ready_read}
+use Rattle.block_state.specs.TableOf.{table}
+use Rattle.transactions.specs.Checking.{log_of}
 use Rattle.bad_blocks.specs.Room.{IsRoomFor}
 use Rattle.page_buffer.specs.BufferOf.{buffered}
+use Rattle.objects.specs.StoreState.{StoreState}
+use Rattle.objects.specs.StateOf.{state_of}
 use Rattle.objects.specs.declared.store.Found.TheVariants as places
 use Rattle.objects.proofs.Steps.{numbered_on}
 use Rattle.objects.proofs.ReadOnly.{lies, stands_read, newest_read, shown_read, load_fails}
@@ -61,4 +65,6 @@ load_kept-requires-clause-page g c = let self = c.args.self.now in (lies _ _ _ s
 pub returns-in-Err-clause-fault : goal.returns-in-Err-clause-fault
 returns-in-Err-clause-fault g c =
     let self = c.args.self.now in
-    load_fails _ _ _ _ self.index c.args.key.object c.args.key.chunk c.args.at self.broken _ c.in-Err.fault c.load_kept.ensures.reads self.stands c.requires c.in-Err.ensures.fault c.note.ensures.refused
+    let a : StoreState = state_of self in
+    let b : StoreState = record a { log = log_of (g.N.Nand.state c.load_kept.new.device) (table self.blocks); counts = c.note.new.self } in
+    load_fails a b c.args.key.object c.args.key.chunk c.args.at c.in-Err.fault c.load_kept.ensures.reads self.stands c.requires c.in-Err.ensures.fault c.note.ensures.refused

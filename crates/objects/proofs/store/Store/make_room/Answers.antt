@@ -3,7 +3,8 @@ use Rattle.std.proofs.Common.{◌∙◌, refl, sym, ap, subst, inl, inr, arith}
 use Rattle.nand_model.specs.declared.geometry.Geometry.{Geometry}
 use Rattle.page_buffer.specs.BufferOf.{buffered}
 use Rattle.block_state.specs.TableOf.{table}
-use Rattle.objects.specs.StoreState.{StoreState, state_of, waiting}
+use Rattle.objects.specs.StoreState.{StoreState, waiting}
+use Rattle.objects.specs.StateOf.{state_of}
 use Rattle.objects.proofs.Carried.{store_carries}
 use Rattle.objects.proofs.Changed.{lasts_still, pays_commit, pays_done, pays_failed, pays_here}
 use Rattle.objects.proofs.Steps.{room_after}

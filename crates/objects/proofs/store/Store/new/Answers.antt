@@ -17,11 +17,11 @@ invariant_of-result g c =
       ready = c.requires.ready;
       stands = c.requires.stands;
       room_size = subst (λ (k : Geometry). IsRoomFor k made.room) sizes e.room;
-      buffers = buffers_empty c.args.index _ c.requires.none e.buffer.0;
-      objects = λ _ i p is. absurd (let two : None ≡ Some p = ap (λ (xs : List FreshPage). slice_get xs i) (sym e.buffer.0) ∙ is in cc);
-      most = e.buffer.1 ∙ ap (λ (k : Geometry). k.pages / 4) sizes;
+      buffers = buffers_empty c.args.index _ c.requires.none e.empty;
+      objects = λ _ i p is. absurd (let two : None ≡ Some p = ap (λ (xs : List FreshPage). slice_get xs i) (sym e.empty) ∙ is in cc);
+      most = e.buffer.0 ∙ ap (λ (k : Geometry). k.pages / 4) sizes;
       size = e.page ∙ ap (λ (k : Geometry). k.bytes) sizes;
-      buffer_size = e.buffer.2 ∙ ap (λ (k : Geometry). k.bytes) sizes;
+      buffer_size = e.buffer.1 ∙ ap (λ (k : Geometry). k.bytes) sizes;
       cache_size = e.cache.0 ∙ ap (λ (k : Geometry). k.bytes) sizes;
       place = λ i is. absurd (let two : places.Nowhere ≡ places.Buffered i = is in cc);
       few = λ _. c.requires.few;

@@ -11,7 +11,8 @@ use Rattle.pages.specs.Stores.{SamePages}
 use Rattle.block_state.specs.TableOf.{table}
 use Rattle.transactions.specs.Checking.{log_of}
 use Rattle.std.proofs.lemmas.Bool.{true≢false}
-use Rattle.objects.specs.StoreState.{StoreState, state_of}
+use Rattle.objects.specs.StoreState.{StoreState}
+use Rattle.objects.specs.StateOf.{state_of}
 use Rattle.objects.proofs.Changed.{lasts_still}
 use Rattle.objects.specs.Changing.{IsCommitFault}
 use Rattle.objects.specs.declared.store.Found.TheVariants as places

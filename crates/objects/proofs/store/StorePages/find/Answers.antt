@@ -3,9 +3,7 @@ use Rattle.chunk_index.specs.declared.form.Present.TheVariants as presents
 use Rattle.chunk_index.specs.Maps.{present}
 use Rattle.page_buffer.specs.laws.Buffering.{place_within}
 use Rattle.page_buffer.specs.BufferOf.{buffered}
-use Rattle.block_state.specs.TableOf.{table}
-use Rattle.objects.specs.Found.{found_bytes}
-use Rattle.objects.specs.StoreOf.{store_seen}
+use Rattle.objects.specs.StateOf.{lent_by, state_of}
 use Rattle.objects.proofs.ReadOnly.{near_cached, finds_seen, buffered_lent, kept_lent, not_absent, fault_seen}
 use Rattle.objects.proofs.store.StorePages.find.Goals as goal
 
@@ -41,19 +39,14 @@ returns-in-InBuffer-clause-page g c = λ sound.
 
 pub returns-in-OnFlash-clause-finds : goal.returns-in-OnFlash-clause-finds
 returns-in-OnFlash-clause-finds g c =
-    let e = c.find_kept.ensures in
     let self = c.args.self.now in
     let new = c.find_kept.new.self in
-    finds_seen (g.N.Nand.state self.device) (g.N.Nand.state new.device) self.blocks new.blocks self.index new.index self.buffer new.buffer self.cache new.cache self.scratch.items new.scratch.items self.found new.found self.spare new.spare self.broken new.broken self.counts new.counts
-    e.reads e.same.3 e.same.0 e.same.1 e.same.4 e.same.2 e.counts.0 e.counts.1
+    finds_seen (state_of self) (state_of new) (lent_by self) (lent_by new) c.find_kept.ensures.looks
 
 pub returns-in-OnFlash-clause-page : goal.returns-in-OnFlash-clause-page
 returns-in-OnFlash-clause-page g c = λ sound.
     let e = c.find_kept.ensures in
-    let self = c.args.self.now in
-    let new = c.find_kept.new.self in
-    kept_lent (g.N.Nand.state self.device) self.index (buffered self.buffer) (found_bytes (buffered new.buffer) new.cache new.scratch.items new.found) c.args.key.object c.args.key.chunk c.in-OnFlash.at self.broken c.find_kept.result
-    (sym c.present.ensures ∙ c.in-OnFlash.is) sound e.there e.page
+    kept_lent (state_of c.args.self.now) (lent_by c.find_kept.new.self) c.args.key.object c.args.key.chunk c.in-OnFlash.at c.find_kept.result (sym c.present.ensures ∙ c.in-OnFlash.is) sound e.there e.page
 
 pub returns-in-OnFlash-clause-absent : goal.returns-in-OnFlash-clause-absent
 returns-in-OnFlash-clause-absent g c = λ sound none.
@@ -64,7 +57,7 @@ pub returns-in-OnFlash-clause-fault : goal.returns-in-OnFlash-clause-fault
 returns-in-OnFlash-clause-fault g c =
     let self = c.args.self.now in
     let new = c.find_kept.new.self in
-    fault_seen (g.N.Nand.state new.device) (table new.blocks) new.index new.buffer new.cache new.scratch.items new.found new.spare new.broken new.counts (store_seen (g.N.Nand.state self.device) (table self.blocks) self.index self.buffer self.cache self.scratch.items self.found self.spare self.broken self.counts) c.find_kept.result c.find_kept.ensures.fault
+    fault_seen (state_of self) (state_of new) (lent_by self) (lent_by new) c.find_kept.result c.find_kept.ensures.fault
 
 pub returns-in-OnFlash-clause-near : goal.returns-in-OnFlash-clause-near
 returns-in-OnFlash-clause-near g c = λ near.

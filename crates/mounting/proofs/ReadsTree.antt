@@ -1,5 +1,5 @@
 -- How many pages were read to see the tree of a device whose flash is sound.
-use Rattle.std.specs.Prelude.{◌≡◌, ℕ, true, Result, Ok, Err, IfOk}
+use Rattle.std.specs.Prelude.{◌≡◌, ◌≤◌, ◌+◌, ℕ, true, Result, Ok, Err, IfOk}
 use Rattle.std.proofs.Common.{sym, ◌∙◌, ap, subst, arith}
 use Rattle.std.proofs.lemmas.Bool.{and_from}
 use Rattle.nand_model.specs.Flash.{Flash}
@@ -12,7 +12,9 @@ use Rattle.flash_tree.specs.Sound.{IsSoundFlash}
 use Rattle.flash_tree.specs.Tree.{Shows}
 use Rattle.flash_tree.specs.laws.Place.{same_flash}
 use Rattle.newest_pages.specs.Checked.{HasTrueFlash}
-use Rattle.checkpoint_reading.specs.Found.{ReadsFew}
+use Rattle.checkpoint_reading.specs.Found.{IsWholeOn, ReadsFew}
+use Rattle.flash_tree.specs.Checkpoints.{Checkpoint}
+use Rattle.mount_scan.specs.Scanned.{good_pages}
 use Rattle.pages.specs.Maps.{PageMap, has}
 use Rattle.tree_table.specs.Looked.{looked_pages}
 use Rattle.tree_walk.specs.Trees.{IsTreeThrough, tree_pages}
@@ -22,7 +24,7 @@ use Rattle.volume_terms.specs.Sizes.{Sizes, IsSizes}
 use Rattle.chunk_index.specs.declared.index.Index.{Index}
 use Rattle.mounting.specs.Mounted.{IsTreeShown}
 use Rattle.mounting.specs.Named.{IsTrustedSince}
-use Rattle.mounting.specs.Reads.{EndsMount, ReadsThrough, ReadsTree, ReadsByCheckpoint}
+use Rattle.mounting.specs.Reads.{EndsMount, ReadsAll, ReadsByCheckpoint, ReadsByScan, ReadsScanned, ReadsThrough, ReadsTree, all_pages}
 use Rattle.mounting.proofs.Noting.{true_after}
 
 -- the laws that are used
@@ -30,6 +32,25 @@ pub record ReadLaws : Type 0 where
   pub sizes : (g : Geometry) (m : PageMap) (spare : ℕ) → IsVolume g (has m) spare → IsSizes (sizes_of g spare)
   pub pages : (z : Sizes) (m : PageMap) (tree : Tree) (objects : Objects) → IsSizes z → IsTreeThrough z (has m) tree → Shows z (has m) objects → tree_pages z tree ≡ looked_pages z objects
   pub one : (g : Geometry) (flash : Flash) (a b : Answer) → Answers g flash a → Answers g flash b → a ≡ b
+
+-- a device with the same flash
+module _ (a seen : Device) (geometry : seen.geometry ≡ a.geometry) (flash : seen.flash ≡ a.flash) where
+  answers_before : (answer : Answer) → Answers seen.geometry seen.flash answer → Answers a.geometry a.flash answer
+  answers_before answer told = subst (λ (g : Geometry). Answers g a.flash answer) geometry (subst (λ (f : Flash). Answers seen.geometry f answer) flash told)
+
+  -- the pages of a tree that was gone through are those that are looked up to see the flash's
+  pub looked_as : ReadLaws → (x : Index) (spare : ℕ) (tree : Tree) (objects : Objects) → Answers seen.geometry seen.flash (IsTreeOf spare objects) → IsTreeShown seen x spare tree objects
+      → (s : ℕ) (other : Objects) → IsSoundFlash a.geometry a.flash s other → tree_pages (sizes_of a.geometry spare) tree ≡ looked_pages (sizes_of a.geometry s) other
+  looked_as laws x spare tree objects answers shown s other sound =
+      let on = shown.on in
+      let z : Sizes = sizes_of seen.geometry spare in
+      let pages : tree_pages z tree ≡ looked_pages z objects = laws.pages z on.pages tree objects (laws.sizes seen.geometry on.pages spare on.through.volume) on.through.tree_is shown.shows in
+      let here : tree_pages (sizes_of a.geometry spare) tree ≡ looked_pages (sizes_of a.geometry spare) objects =
+      subst (λ (g : Geometry). tree_pages (sizes_of g spare) tree ≡ looked_pages (sizes_of g spare) objects) geometry pages in
+      let same : IsTreeOf spare objects ≡ IsTreeOf s other = laws.one a.geometry a.flash _ _ (answers_before (IsTreeOf spare objects) answers) (sound.volume, sound.shows, sound.room) in
+      let spares : spare ≡ s = cc in
+      let trees : objects ≡ other = cc in
+      here ∙ ap (λ n. looked_pages (sizes_of a.geometry n) objects) spares ∙ ap (λ (o : Objects). looked_pages (sizes_of a.geometry s) o) trees
 
 -- a device that was read since, and is trusted as its flash was true
 module _ (a b seen : Device) (since : IsTrustedSince a b seen) (is : HasTrueFlash a) where
@@ -42,30 +63,23 @@ module _ (a b seen : Device) (since : IsTrustedSince a b seen) (is : HasTrueFlas
   pub honest_seen : seen.honest ≡ true
   honest_seen = ap (λ (d : Device). d.honest) since.read.seen_is ∙ and_from _ _ (since.read.reads.lasts.honest ∙ is.0) (since.trusted is)
 
-  answers_before : (answer : Answer) → Answers seen.geometry seen.flash answer → Answers a.geometry a.flash answer
-  answers_before answer told = subst (λ (g : Geometry). Answers g a.flash answer) geometry (subst (λ (f : Flash). Answers seen.geometry f answer) flash told)
-
   -- where its flash is sound it is not damaged
   pub not_damaged : ReadLaws → (spare : ℕ) (objects : Objects) → IsSoundFlash a.geometry a.flash spare objects → Answers seen.geometry seen.flash (IsWrong IsDamaged) → ⊥
   not_damaged laws spare objects sound told =
-      let two : IsTreeOf spare objects ≡ IsWrong IsDamaged = laws.one a.geometry a.flash _ _ (sound.volume, sound.shows, sound.room) (answers_before (IsWrong IsDamaged) told) in
+      let two : IsTreeOf spare objects ≡ IsWrong IsDamaged = laws.one a.geometry a.flash _ _ (sound.volume, sound.shows, sound.room) (answers_before a seen geometry flash (IsWrong IsDamaged) told) in
       cc
 
-  -- and the pages of a tree that was gone through are those that are looked up to see the flash's
+  -- at most the pages that are looked up to see its tree were read
   pub reads_tree : ReadLaws → (x : Index) (spare : ℕ) (tree : Tree) (objects : Objects) → ReadsThrough a b spare tree → Answers seen.geometry seen.flash (IsTreeOf spare objects)
       → IsTreeShown seen x spare tree objects → ReadsTree a b
-  reads_tree laws x spare tree objects few answers shown s other sound =
-      let on = shown.on in
-      let z : Sizes = sizes_of seen.geometry spare in
-      let pages : tree_pages z tree ≡ looked_pages z objects = laws.pages z on.pages tree objects (laws.sizes seen.geometry on.pages spare on.through.volume) on.through.tree_is shown.shows in
-      let here : tree_pages (sizes_of a.geometry spare) tree ≡ looked_pages (sizes_of a.geometry spare) objects =
-      subst (λ (g : Geometry). tree_pages (sizes_of g spare) tree ≡ looked_pages (sizes_of g spare) objects) geometry pages in
-      let same : IsTreeOf spare objects ≡ IsTreeOf s other = laws.one a.geometry a.flash _ _ (answers_before (IsTreeOf spare objects) answers) (sound.volume, sound.shows, sound.room) in
-      let spares : spare ≡ s = cc in
-      let trees : objects ≡ other = cc in
-      let moved : looked_pages (sizes_of a.geometry spare) objects ≡ looked_pages (sizes_of a.geometry s) other =
-      ap (λ n. looked_pages (sizes_of a.geometry n) objects) spares ∙ ap (λ (o : Objects). looked_pages (sizes_of a.geometry s) o) trees in
-      omega (arith, few, here, moved)
+  reads_tree laws x spare tree objects few answers shown s other sound = let looked = looked_as a seen geometry flash laws x spare tree objects answers shown s other sound in omega (arith, few, looked)
+
+-- the same of a device that was scanned
+pub reads_all : (a b : Device) → OnlyReads a b → a.honest ≡ true → ReadLaws → (x : Index) (spare : ℕ) (tree : Tree) (objects : Objects) → ReadsScanned a b spare tree → Answers b.geometry b.flash (IsTreeOf spare objects)
+    → IsTreeShown b x spare tree objects → ReadsAll a b
+reads_all a b reads honest laws x spare tree objects few answers shown s other sound =
+    let looked = looked_as a b reads.lasts.geometry (same_flash a b reads honest) laws x spare tree objects answers shown s other sound in
+    omega (arith, few, looked)
 
 -- a flash that is only read stays sound
 sound_after : (a b : Device) (spare : ℕ) (objects : Objects) → OnlyReads a b → a.honest ≡ true → IsSoundFlash a.geometry a.flash spare objects → IsSoundFlash b.geometry b.flash spare objects
@@ -97,3 +111,45 @@ reads_seen a b seen since few is c whole spare objects sound =
 pub ok_unless : {T E : Type 0} {P : T → Type 0} (r : Result T E) (A : Type 0) → (A → IfOk r (λ x. ⊥)) → ((x : T) → (A → ⊥) → P x) → IfOk r P
 ok_unless (Ok x) A never by = by x never
 ok_unless (Err e) A never by = tt
+
+-- ---- by a scan
+
+-- as many pages are in the good blocks
+same_pages : (a b : Device) → OnlyReads a b → a.honest ≡ true → all_pages b ≡ all_pages a
+same_pages a b reads honest =
+    ap (λ (f : Flash). good_pages f b.geometry.pages b.geometry.blocks) (same_flash a b reads honest) ∙ ap (λ (g : Geometry). good_pages a.flash g.pages g.blocks) reads.lasts.geometry
+
+-- first all pages are read, and then the tree
+pub reads_scanned : (a b c : Device) (spare : ℕ) (tree : Tree) → OnlyReads a b → b.reads ≤ a.reads + all_pages a → ReadsThrough b c spare tree → ReadsScanned a c spare tree
+reads_scanned a b c spare tree reads first then =
+    let same : tree_pages (sizes_of b.geometry spare) tree ≡ tree_pages (sizes_of a.geometry spare) tree = ap (λ (g : Geometry). tree_pages (sizes_of g spare) tree) reads.lasts.geometry in
+    omega (arith, first, then, same)
+
+-- after the search, which found no checkpoint
+pub scans_after : (a b new : Device) → OnlyReads a b → b.reads ≤ a.reads + (a.geometry.blocks + a.geometry.pages) → (HasTrueFlash b → ReadsAll b new) → ReadsByScan a new
+scans_after a b new reads first all is none spare objects sound =
+    let then = all (true_after a b reads is) spare objects (sound_after a b spare objects reads is.0 sound) in
+    let pages = same_pages a b reads is.0 in
+    let looked : looked_pages (sizes_of b.geometry spare) objects ≡ looked_pages (sizes_of a.geometry spare) objects = ap (λ (g : Geometry). looked_pages (sizes_of g spare) objects) reads.lasts.geometry in
+    omega (arith, first, then, pages, looked)
+
+-- where a checkpoint was found there is one
+pub scans_not : (a new : Device) (c : Checkpoint) → IsWholeOn a c → ReadsByScan a new
+scans_not a new c whole is none = absurd (none c (whole is.0))
+
+-- a device that is trusted is read as it is
+pub scans_seen : (a b seen : Device) → IsTrustedSince a b seen → ReadsByScan a b → ReadsByScan a seen
+scans_seen a b seen since few is none spare objects sound =
+    let same : seen.reads ≡ b.reads = ap (λ (d : Device). d.reads) since.read.seen_is in
+    let less = few is none spare objects sound in
+    omega (arith, less, same)
+
+-- what is said of each result
+pub ok_each : {T E : Type 0} {P : T → Type 0} (r : Result T E) → ((x : T) → P x) → IfOk r P
+ok_each (Ok x) by = by x
+ok_each (Err e) by = tt
+
+-- and of each of which more is said
+pub ok_all : {T E : Type 0} {P Q : T → Type 0} (r : Result T E) (A : Type 0) → (A → IfOk r P) → ((x : T) → (A → P x) → Q x) → IfOk r Q
+ok_all (Ok x) A told by = by x told
+ok_all (Err e) A told by = tt

@@ -8,4 +8,5 @@ pub mod Mounted
 pub mod Named
 pub mod Going
 pub mod Made
+pub mod Given
 pub mod laws

@@ -1,4 +1,4 @@
--- How many pages a mount by a checkpoint reads.
+-- How many pages a mount reads.
 -- From: this project.
 use Rattle.std.specs.Prelude.{◌≡◌, ◌⊎◌, ◌≤◌, ℕ, ◌+◌, true}
 use Rattle.nand_model.specs.Calls.{Device}
@@ -7,6 +7,7 @@ use Rattle.flash_tree.specs.Checkpoints.{Checkpoint, IsWhole}
 use Rattle.flash_tree.specs.Mount.{sizes_of}
 use Rattle.flash_tree.specs.Sound.{IsSoundFlash}
 use Rattle.chunk_index.specs.declared.index.Index.{Index}
+use Rattle.mount_scan.specs.Scanned.{good_pages}
 use Rattle.newest_pages.specs.Checked.{HasTrueFlash}
 use Rattle.page_buffer.specs.Shown.{kept_data}
 use Rattle.pages.specs.Maps.{has}
@@ -31,6 +32,34 @@ abbrev pub ReadsByCheckpoint : Device → Device → Type 0
 ReadsByCheckpoint old new =
     HasTrueFlash old → (c : Checkpoint) → IsWhole old.geometry old.flash c → (spare : ℕ) (tree : Objects) → IsSoundFlash old.geometry old.flash spare tree
     → new.reads ≤ old.reads + old.geometry.blocks + c.size + looked_pages (sizes_of old.geometry spare) tree
+
+-- all pages of the good blocks of a device
+abbrev pub all_pages : Device → ℕ
+all_pages device = good_pages device.flash device.geometry.pages device.geometry.blocks
+
+-- at most all pages of the good blocks were read, and those of the tree's headers and slots
+abbrev pub ReadsScanned : Device → Device → (spare : ℕ) → Tree → Type 0
+ReadsScanned old new spare tree = new.reads ≤ old.reads + all_pages old + tree_pages (sizes_of old.geometry spare) tree
+
+-- of a sound flash: at most all pages of the good blocks were read, and those that are looked up to see its tree
+abbrev pub ReadsAll : Device → Device → Type 0
+ReadsAll old new = (spare : ℕ) (tree : Objects) → IsSoundFlash old.geometry old.flash spare tree → new.reads ≤ old.reads + all_pages old + looked_pages (sizes_of old.geometry spare) tree
+
+-- no checkpoint is whole
+abbrev pub LacksCheckpoint : Device → Type 0
+LacksCheckpoint device = (c : Checkpoint) → IsWhole device.geometry device.flash c → ⊥
+
+-- of an honest device with a true and sound flash without a whole checkpoint: at most a page of each block and the pages of one, all
+-- pages of the good blocks, and those that are looked up to see the tree were read
+abbrev pub ReadsByScan : Device → Device → Type 0
+ReadsByScan old new =
+    HasTrueFlash old → LacksCheckpoint old → (spare : ℕ) (tree : Objects) → IsSoundFlash old.geometry old.flash spare tree
+    → new.reads ≤ old.reads + old.geometry.blocks + old.geometry.pages + all_pages old + looked_pages (sizes_of old.geometry spare) tree
+
+-- How many pages a mount reads at most, by a checkpoint or by a scan.
+pub record ReadsAtMost (old new : Device) : Type 0 where
+  pub by_checkpoint : ReadsByCheckpoint old new
+  pub by_scan : ReadsByScan old new
 
 -- why no tree of the pages that an index keeps was gone through: what is told of them, and where the device failed it is gone
 abbrev pub WhyNotThrough : Index → Device → Device → RootFault → Type 0

@@ -11,7 +11,7 @@ ghost use Rattle.trusted_nand.specs.Parts.{inner_of};
 ghost use Rattle.mounting.specs.Faults.{WhyNotMounted};
 ghost use Rattle.mounting.specs.Going.{IsGoing, MayBeNoted, NotesFree};
 ghost use Rattle.mounting.specs.Named.{IsTrustedSince};
-ghost use Rattle.mounting.specs.Reads.{EndsMount, ReadsByCheckpoint, ReadsTree};
+ghost use Rattle.mounting.specs.Reads.{EndsMount, ReadsAll, ReadsByCheckpoint, ReadsByScan, ReadsTree};
 
 use crate::entries::open_entries;
 use crate::fault::MountFault;
@@ -85,9 +85,13 @@ fn by_scan<N: Nand>(
     ensures going { IfOk result (λ going. IsGoing (⟦<TrustedNand<N> as Nand>⟧.state going.named.on.device) going) }
     ensures checked { HasTrueFlash (N.state device)
         → IfOk result (λ going. IsChecked (N.state device).geometry (N.state device).flash (table going.named.on.blocks).checkpoint) }
+    ensures scans { HasTrueFlash (N.state device) → IfOk result (λ going. ReadsAll (N.state device) (N.state (inner_of going.named.on.device))) }
     ensures back { IfErr result (λ failed. OnlyReads (N.state device) (N.state failed.0)) }
     ensures fault { IfErr result (λ failed. WhyNotMounted (N.state failed.0) failed.1) }
 {
+    a_flash_has_one_answer_at_most();
+    a_volume_has_sizes();
+    the_pages_of_a_tree_are_those_of_its_objects();
     the_headers_tell_the_keys();
     the_counts_are_of_the_keys();
     the_tree_looks_up_its_footprint();
@@ -154,6 +158,7 @@ pub(crate) fn open_volume<N: Nand>(
     ensures checked { HasTrueFlash (N.state device)
         → IfOk result (λ going. IsChecked (N.state device).geometry (N.state device).flash (table going.named.on.blocks).checkpoint) }
     ensures few { IfOk result (λ going. ReadsByCheckpoint (N.state device) (N.state (inner_of going.named.on.device))) }
+    ensures scans { IfOk result (λ going. ReadsByScan (N.state device) (N.state (inner_of going.named.on.device))) }
     ensures back { IfErr result (λ failed. OnlyReads (N.state device) (N.state failed.0)) }
     ensures fault { IfErr result (λ failed. WhyNotMounted (N.state failed.0) failed.1) }
 {

@@ -10,6 +10,7 @@ mod making;
 mod marks;
 mod mounted;
 mod naming;
+mod opening;
 mod prune;
 mod reader;
 mod reading;
@@ -20,5 +21,6 @@ mod tree;
 mod tree_on;
 
 pub use fault::MountFault;
-pub use mounted::{Mounted, mount};
+pub use mounted::Mounted;
 pub use naming::unmounted;
+pub use opening::mount;

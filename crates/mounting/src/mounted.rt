@@ -1,22 +1,12 @@
-// The mount.
+// What a mount gives.
 ghost use Rattle.std.specs.Prelude.{◌≡◌, ◌↔◌, true, IfOk, IfErr};
-ghost use Rattle.nand_model.specs.Changes.{OnlyReads};
 ghost use Rattle.posix_profile.specs.State.{Objects};
-ghost use Rattle.flash_tree.specs.Checkpoints.{IsChecked};
 ghost use Rattle.block_state.specs.TableOf.{table};
 ghost use Rattle.flash_pages.specs.Parts.{device_in};
-ghost use Rattle.newest_pages.specs.Checked.{HasTrueFlash};
-ghost use Rattle.trusted_nand.specs.Parts.{inner_of};
-ghost use Rattle.mounting.specs.Faults.{WhyNotMounted};
 ghost use Rattle.mounting.specs.Going.{IsGoing};
 ghost use Rattle.mounting.specs.Made.{CanOnlyBeRead, AreNext, HasSizes, IsMountedWith};
-ghost use Rattle.mounting.specs.Named.{IsTrustedSince};
-ghost use Rattle.mounting.specs.Reads.{ReadsByCheckpoint};
 
-use crate::fault::MountFault;
-use crate::going::open_volume;
 use crate::making::{is_worn, make_pages};
-use crate::naming::unmounted;
 use crate::tree_on::{Going, NamedTree};
 use flash_pages::FlashPages;
 use mount_answers::{a_volume_has_sizes, the_footprint_holds_the_tree};
@@ -27,7 +17,6 @@ use pages::Pages;
 use std::alloc::Global;
 use std::num::NonZeroUsize;
 use tree_table::{table, the_names_of_a_tree_are_those_of_its_objects};
-use trusted_nand::TrustedNand;
 
 /// What a mount gives: the pages of the volume, the table of its objects, the hashes of their names, and whether it can
 /// only be read.
@@ -76,34 +65,5 @@ pub(crate) fn make_mounted<N: Nand>(
             read_only,
         }),
         Err((device, _)) => Err(device),
-    }
-}
-
-/// Mounts a device, which is only read, with a cache of at most so many pages: by its checkpoint, where one is whole and its entries
-/// do, and else by a scan. What is said of an honest device is said where it is trusted: so where its flash was true. The block
-/// that may have a checkpoint is noted. After a fault the device is given back: where that is another than Gone, it has power.
-pub fn mount<N: Nand>(
-    alloc: Global,
-    device: N,
-    capacity: NonZeroUsize,
-) -> Result<Mounted<TrustedNand<N>>, (N, MountFault)>
-    ensures read { IfOk result (λ mounted. IsTrustedSince (N.state device) (N.state (inner_of (device_in mounted.pages))) (⟦<FlashPages<TrustedNand<N>> as Pages>⟧.state mounted.pages).device) }
-    ensures checked { HasTrueFlash (N.state device)
-        → IfOk result (λ mounted. IsChecked (N.state device).geometry (N.state device).flash (⟦<FlashPages<TrustedNand<N>> as Pages>⟧.state mounted.pages).checkpoint) }
-    ensures sizes { IfOk result (λ mounted. HasSizes (⟦<FlashPages<TrustedNand<N>> as Pages>⟧.state mounted.pages) mounted.table) }
-    ensures worn { IfOk result (λ mounted. (⟦<FlashPages<TrustedNand<N>> as Pages>⟧.state mounted.pages).worn ≡ mounted.read_only) }
-    ensures read_only { IfOk result (λ mounted. (mounted.read_only ≡ true) ↔ CanOnlyBeRead (⟦<FlashPages<TrustedNand<N>> as Pages>⟧.state mounted.pages)) }
-    ensures next { IfOk result (λ mounted. (⟦<FlashPages<TrustedNand<N>> as Pages>⟧.state mounted.pages).device.honest ≡ true
-        → AreNext (⟦<FlashPages<TrustedNand<N>> as Pages>⟧.state mounted.pages).device.flash (⟦<FlashPages<TrustedNand<N>> as Pages>⟧.state mounted.pages).next) }
-    ensures tree { IfOk result (λ mounted. (⟦<FlashPages<TrustedNand<N>> as Pages>⟧.state mounted.pages).device.honest ≡ true
-        → (objects : Objects) × IsMountedWith (⟦<FlashPages<TrustedNand<N>> as Pages>⟧.state mounted.pages) mounted.table mounted.names objects) }
-    ensures few { IfOk result (λ mounted. ReadsByCheckpoint (N.state device) (⟦<FlashPages<TrustedNand<N>> as Pages>⟧.state mounted.pages).device) }
-    ensures back { IfErr result (λ failed. OnlyReads (N.state device) (N.state failed.0)) }
-    ensures fault { IfErr result (λ failed. WhyNotMounted (N.state failed.0) failed.1) }
-{
-    let going = open_volume(alloc, device)?;
-    match make_mounted(alloc, going, capacity) {
-        Ok(mounted) => Ok(mounted),
-        Err(device) => Err(unmounted(device.into_inner(), MountFault::NoMemory)),
     }
 }

@@ -69,6 +69,7 @@ pub(crate) fn read_tree<N: Nand>(
 ) -> Result<(N, FoundTree), (N, MountFault)>
     requires { (t : Table) × (n : Numbers) × IsOpened (N.state device) t index.now n }
     ensures reads { IfOk result (λ read. OnlyReads (N.state device) (N.state read.0)) }
+    ensures few { (N.state device).honest ≡ true → IfOk result (λ read. ReadsThrough (N.state device) (N.state read.0) read.1.spare read.1.tree) }
     ensures power { (N.state device).gone ≡ false → IfOk result (λ read. (N.state read.0).gone ≡ false) }
     ensures tree { (N.state device).honest ≡ true
         → IfOk result (λ read. IsGoneThrough (N.state device).geometry (has (kept_data index.now (N.state device).flash)) read.1.spare read.1.tree) }

@@ -6,6 +6,7 @@ ghost use Rattle.block_state.specs.TableOf.{table};
 ghost use Rattle.mounting.specs.Faults.{WhyNotMounted};
 ghost use Rattle.mounting.specs.Going.{IsGoing};
 ghost use Rattle.mounting.specs.Mounted.{IsTreeRead, CoversNewest};
+ghost use Rattle.mounting.specs.Reads.{ReadsScanned};
 
 use crate::fault::MountFault;
 use crate::going_on::go_on;
@@ -21,6 +22,7 @@ use std::alloc::Global;
 /// Scans a device and goes through its tree, whose pages alone are kept then.
 fn open_tree<N: Nand>(alloc: Global, device: N) -> Result<NamedTree<N>, (N, MountFault)>
     ensures reads { IfOk result (λ named. OnlyReads (N.state device) (N.state named.on.device)) }
+    ensures few { (N.state device).honest ≡ true → IfOk result (λ named. ReadsScanned (N.state device) (N.state named.on.device) named.on.spare named.on.tree) }
     ensures power { (N.state device).gone ≡ false → IfOk result (λ named. (N.state named.on.device).gone ≡ false) }
     ensures read { IfOk result (λ named. IsTreeRead (N.state named.on.device) (table named.on.blocks) named.on.index (numbers_of named.on.numbers)
         named.on.spare named.on.tree) }
@@ -56,6 +58,8 @@ fn open_tree<N: Nand>(alloc: Global, device: N) -> Result<NamedTree<N>, (N, Moun
 /// Scans a device for the tree with which a volume goes on.
 pub(crate) fn scan_going<N: Nand>(alloc: Global, device: N) -> Result<Going<N>, (N, MountFault)>
     ensures reads { IfOk result (λ going. OnlyReads (N.state device) (N.state going.named.on.device)) }
+    ensures few { (N.state device).honest ≡ true
+        → IfOk result (λ going. ReadsScanned (N.state device) (N.state going.named.on.device) going.named.on.spare going.named.on.tree) }
     ensures power { (N.state device).gone ≡ false → IfOk result (λ going. (N.state going.named.on.device).gone ≡ false) }
     ensures going { IfOk result (λ going. IsGoing (N.state going.named.on.device) going) }
     ensures back { IfErr result (λ failed. OnlyReads (N.state device) (N.state failed.0)) }

@@ -23,8 +23,6 @@ use Rattle.bad_blocks.specs.Standing.{AreKept, IsKept, IsKeptAt, HasVersion, Sam
 use Rattle.bad_blocks.specs.laws.FreeBlocks.{leaves_fewer, leaves_unkept, same_bad_blocks}
 use Rattle.bad_blocks.specs.laws.Moves.{are_held}
 use Rattle.page_buffer.specs.Shown.{data_of, data_at, kept_data}
-use Rattle.page_buffer.specs.declared.buffer.Buffer.{Buffer}
-use Rattle.page_cache.specs.declared.cache.PageCache.{PageCache}
 use Rattle.pages.specs.State.{PagesState}
 use Rattle.pages.specs.Stores.{Carries, HandsOutNumbers, HasPage, IsCarried, KeptAs, StaysSame, bad_on}
 use Rattle.checkpoint_writing.specs.Due.{IsDue}
@@ -37,8 +35,6 @@ use Rattle.volume_terms.specs.declared.fault.StoreFault.TheVariants as faults
 use Rattle.objects.specs.Sealing.{IsExact, IsSealed, KeepsTree, LeavesOne, SealEnds, StaysRight, seal_fault_of, EndsOn}
 use Rattle.objects.specs.StoreOf.{kept_map, next_numbers}
 use Rattle.objects.specs.StoreState.{StoreState, seen_of}
-use Rattle.objects.specs.declared.counts.StoreCounts.{StoreCounts}
-use Rattle.objects.specs.declared.store.Found.{Found}
 use Rattle.objects.proofs.Carried.{carried_known, has_page, kept_of_data, known_there}
 use Rattle.objects.proofs.ReadOnly.{sound_honest}
 use Rattle.objects.proofs.Told.{hands_told, is_sound, limits_told, marks_told, not_sound}

@@ -28,7 +28,6 @@ use Rattle.volume_terms.specs.declared.fault.StoreFault.{StoreFault}
 use Rattle.volume_terms.specs.declared.fault.StoreFault.TheVariants as faults
 use Rattle.objects.specs.Changing.{ChangeEnds, HasNothingLeft, IsChanged, IsCommitted, IsUnchanged, StaysWhole, WriteOutEnds}
 use Rattle.objects.specs.StoreState.{committed_in, seen_of, StoreState, waiting}
-use Rattle.objects.specs.declared.store.Found.{Found}
 use Rattle.page_buffer.specs.BufferOf.{most_pages}
 use Rattle.pages.specs.declared.change.Change.{Change}
 use Rattle.objects.specs.StoreOf.{next_numbers}

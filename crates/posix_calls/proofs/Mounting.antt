@@ -14,9 +14,13 @@ use Rattle.object_table.specs.declared.table.ObjectTable.{ObjectTable}
 use Rattle.pages.specs.State.{PagesState}
 use Rattle.paged_objects.specs.Standing.{volume_of, Shown}
 use Rattle.nand_model.specs.Calls.{Device}
+use Rattle.nand_model.specs.declared.nand.Nand.{Ghosts}
+use Rattle.flash_pages.specs.declared.mounted.FlashPages.{FlashPages}
+use Rattle.mounting.specs.Given.{IsGiven, IsMade}
 use Rattle.mounting.specs.Made.{CanOnlyBeRead, AreNext, IsMountedWith}
+use Rattle.mounting.specs.declared.mounted.Mounted.{Mounted}
 use Rattle.mounting.specs.Named.{IsTrustedSince}
-use Rattle.mounting.specs.Reads.{ReadsByCheckpoint}
+use Rattle.mounting.specs.Reads.{ReadsAtMost}
 use Rattle.newest_pages.specs.Checked.{HasTrueFlash}
 use Rattle.page_volume.specs.Volumes.{pages_of, is_read_only, is_stopped, IsVolumeOf}
 use Rattle.page_volume.specs.declared.volume.PageVolume.{PageVolume}
@@ -46,7 +50,7 @@ module _ {P : Type 0} (state : P → PagesState) (device now : Device) (p : Page
   since_there = subst (λ (q : PagesState). IsTrustedSince device now q.device) (sym there) since
 
   pub mounted_there : is_stopped v ≡ false → is_read_only v ≡ r → (r ≡ true) ↔ CanOnlyBeRead p → (p.device.honest ≡ true → AreNext p.device.flash p.next)
-      → (HasTrueFlash device → IsChecked device.geometry device.flash p.checkpoint) → ReadsByCheckpoint device p.device → (p.device.honest ≡ true → (objects : Objects) × StandsForTree state v objects) → IsMounted state device v
+      → (HasTrueFlash device → IsChecked device.geometry device.flash p.checkpoint) → ReadsAtMost device p.device → (p.device.honest ≡ true → (objects : Objects) × StandsForTree state v objects) → IsMounted state device v
   mounted_there goes is read_only next checked few tree = record {
     now = now;
     since = since_there;
@@ -55,27 +59,27 @@ module _ {P : Type 0} (state : P → PagesState) (device now : Device) (p : Page
     next = subst (λ (q : PagesState). q.device.honest ≡ true → AreNext q.device.flash q.next) (sym there) next;
     tree = λ honest. tree (sym (ap (λ (q : PagesState). q.device.honest) there) ∙ honest);
     checked = λ truth. subst (λ (q : PagesState). IsChecked device.geometry device.flash q.checkpoint) (sym there) (checked truth);
-    few = subst (λ (q : PagesState). ReadsByCheckpoint device q.device) (sym there) few;
+    few = subst (λ (q : PagesState). ReadsAtMost device q.device) (sym there) few;
   }
 
--- a volume over the objects of pages that were mounted is mounted
-module _ {P : Type 0} (state : P → PagesState) (device now : Device) (pages : P) (table : ObjectTable) (names : NameIndex) (r : Bool) (o : PagedObjects P) (v : PageVolume P)
-    (in_pages : parts.pages_of o ≡ pages) (in_table : parts.table_of o ≡ table) (in_names : parts.names_of o ≡ names) (there : state (pages_of v) ≡ state (parts.pages_of o)) where
-  stored : (tree : Objects) → IsMountedWith (state pages) table names tree → IsMountedWith (state (parts.pages_of o)) (parts.table_of o) (parts.names_of o) tree
-  stored tree m = subst (λ (p : P). IsMountedWith (state p) (parts.table_of o) (parts.names_of o) tree) (sym in_pages)
-      (subst (λ (t : ObjectTable). IsMountedWith (state pages) t (parts.names_of o) tree) (sym in_table) (subst (λ (n : NameIndex). IsMountedWith (state pages) table n tree) (sym in_names) m))
+-- a volume over the objects of what a mount gives is mounted
+module _ {M : Type 0} {nand : Ghosts M} (state : FlashPages M nand → PagesState) (device now : Device) (m : Mounted M nand) (given : IsGiven state device now m)
+    (o : PagedObjects (FlashPages M nand)) (v : PageVolume (FlashPages M nand)) (in_pages : parts.pages_of o ≡ m.pages) (in_table : parts.table_of o ≡ m.table) (in_names : parts.names_of o ≡ m.names)
+    (there : state (pages_of v) ≡ state (parts.pages_of o)) where
+  abbrev made : IsMade state m
+  made = given.made
 
-  pub mounted_over : IsTrustedSince device now (state pages).device → is_stopped v ≡ false → is_read_only v ≡ r → (r ≡ true) ↔ CanOnlyBeRead (state pages)
-      → ((state pages).device.honest ≡ true → AreNext (state pages).device.flash (state pages).next) → (HasTrueFlash device → IsChecked device.geometry device.flash (state pages).checkpoint)
-      → ReadsByCheckpoint device (state pages).device → table_sizes table ≡ volume_of (state pages) → (state pages).worn ≡ r
-      → ((state pages).device.honest ≡ true → (objects : Objects) × IsMountedWith (state pages) table names objects)
-      → ((tree : Objects) → AreMounted state o r tree → StandsForTree state v tree) → IsMounted state device v
-  mounted_over since goes is read_only next checked few sizes worn tree stands = mounted_there state device now (state pages) v r (there ∙ ap state in_pages) since goes is read_only next checked few
+  stored : (tree : Objects) → IsMountedWith (state m.pages) m.table m.names tree → IsMountedWith (state (parts.pages_of o)) (parts.table_of o) (parts.names_of o) tree
+  stored tree is = subst (λ (p : FlashPages M nand). IsMountedWith (state p) (parts.table_of o) (parts.names_of o) tree) (sym in_pages)
+      (subst (λ (t : ObjectTable). IsMountedWith (state m.pages) t (parts.names_of o) tree) (sym in_table) (subst (λ (n : NameIndex). IsMountedWith (state m.pages) m.table n tree) (sym in_names) is))
+
+  pub mounted_over : is_stopped v ≡ false → is_read_only v ≡ m.read_only → ((tree : Objects) → AreMounted state o m.read_only tree → StandsForTree state v tree) → IsMounted state device v
+  mounted_over goes is stands = mounted_there state device now (state m.pages) v m.read_only (there ∙ ap state in_pages) given.since goes is made.read_only made.next given.checked given.few
       (λ honest.
-      let told = tree honest in
-      let are : AreMounted state o r told.0 = record {
-        sizes = ap table_sizes in_table ∙ sizes ∙ sym (ap (λ (p : P). volume_of (state p)) in_pages);
+      let told = made.tree honest in
+      let are : AreMounted state o m.read_only told.0 = record {
+        sizes = ap table_sizes in_table ∙ made.sizes.volume ∙ sym (ap (λ (p : FlashPages M nand). volume_of (state p)) in_pages);
         mounted = stored told.0 told.1;
-        worn = ap (λ (p : P). (state p).worn) in_pages ∙ worn;
+        worn = ap (λ (p : FlashPages M nand). (state p).worn) in_pages ∙ made.worn;
       } in
       (told.0, stands told.0 are))

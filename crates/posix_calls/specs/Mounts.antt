@@ -6,7 +6,7 @@ use Rattle.flash_tree.specs.Mount.{Answers, IsTreeOf}
 use Rattle.lives.specs.Lives.{at_mount}
 use Rattle.mounting.specs.Made.{CanOnlyBeRead, AreNext, IsMountedWith}
 use Rattle.mounting.specs.Named.{IsTrustedSince}
-use Rattle.mounting.specs.Reads.{ReadsByCheckpoint}
+use Rattle.mounting.specs.Reads.{ReadsAtMost}
 use Rattle.nand_model.specs.Calls.{Device}
 use Rattle.newest_pages.specs.Checked.{HasTrueFlash}
 use Rattle.object_table.specs.Told.{table_sizes}
@@ -32,8 +32,9 @@ pub record StandsForTree {P : Type 0} (state : P → PagesState) (v : PageVolume
 
 -- The volume of a device is mounted. The device was only read, keeps its power, and is trusted where its flash was true. Then, if it is
 -- honest, the next numbers are above those on its flash, and the volume stands for the tree that it shows; and the block that is noted
--- is the only one with a whole checkpoint, which is right. Where the flash was true and sound and had a whole checkpoint, at most a page
--- of each block, those of the checkpoint and those that are looked up to see the tree were read.
+-- is the only one with a whole checkpoint, which is right. Where the flash was true and sound, so many pages were read: with a whole
+-- checkpoint at most a page of each block, those of the checkpoint and those that are looked up to see the tree; and without one at most
+-- a page of each block, the pages of one, all pages of the good blocks and those that are looked up.
 pub record IsMounted {P : Type 0} (state : P → PagesState) (device : Device) (v : PageVolume P) : Type 0 where
   pub now : Device
   pub since : IsTrustedSince device now (state (pages_of v)).device
@@ -42,4 +43,4 @@ pub record IsMounted {P : Type 0} (state : P → PagesState) (device : Device) (
   pub next : (state (pages_of v)).device.honest ≡ true → AreNext (state (pages_of v)).device.flash (state (pages_of v)).next
   pub tree : (state (pages_of v)).device.honest ≡ true → (objects : Objects) × StandsForTree state v objects
   pub checked : HasTrueFlash device → IsChecked device.geometry device.flash (state (pages_of v)).checkpoint
-  pub few : ReadsByCheckpoint device (state (pages_of v)).device
+  pub few : ReadsAtMost device (state (pages_of v)).device

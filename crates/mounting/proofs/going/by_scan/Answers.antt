@@ -11,6 +11,8 @@ use Rattle.block_state.specs.TableOf.{table}
 use Rattle.mounting.specs.Mounted.{IsTreeRead, IsTreeShown, HasRoomOn, CoversNewest}
 use Rattle.trusted_nand.specs.Trusting.{trusted_as}
 use Rattle.mounting.specs.Named.{IsTrustedSince}
+use Rattle.mounting.specs.Reads.{ReadsAll}
+use Rattle.mounting.proofs.ReadsTree.{ReadLaws, reads_all}
 use Rattle.mounting.proofs.Noting.{trusted_is, noted_read, fitting_noted, room_noted, may_after, scan_checked, checked_before}
 use Rattle.mounting.proofs.going.by_scan.Goals as goal
 
@@ -70,3 +72,17 @@ returns-clause-checked g c =
     let told = e.going.tree is.0 in
     scan_checked c.the_headers_tell_the_keys.ensures c.the_tree_looks_up_its_footprint.ensures.test b (table on.blocks) u on.index (numbers_of on.numbers) on.spare on.tree told.0 c.args.noted
     (c.the_counts_are_of_the_keys.ensures.zero on.index) is (may_after a b c.args.noted e.reads c.requires) c.note_free.ensures e.going.named.tree told.2)
+
+pub returns-clause-scans : goal.returns-clause-scans
+returns-clause-scans g c = λ is.
+    let e = c.in_ok-going.ensures in
+    let on = c.in_ok-going.going.named.on in
+    let a = g.N.Nand.state c.args.device in
+    let b = g.N.Nand.state on.device in
+    let laws : ReadLaws = record {
+      sizes = c.a_volume_has_sizes.ensures;
+      pages = c.the_pages_of_a_tree_are_those_of_its_objects.ensures;
+      one = c.a_flash_has_one_answer_at_most.ensures;
+    } in
+    let tree = e.going.tree (e.reads.lasts.honest ∙ is.0) in
+    subst (ReadsAll a) (sym (ap g.N.Nand.state c.new.ensures.inner)) (reads_all a b e.reads is.0 laws on.index on.spare on.tree tree.0 (e.few is.0) tree.1 tree.2)

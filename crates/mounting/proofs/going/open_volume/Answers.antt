@@ -5,7 +5,8 @@ use Rattle.checkpoint_reading.specs.Found.{HasForm, IsWholeOn, checkpoint_of}
 use Rattle.mounting.proofs.Noting.{form_after, whole_after, may_after, found_noted, since_before, since_with, checked_before, true_after, ok_map, ok_both}
 use Rattle.trusted_nand.specs.Parts.{inner_of}
 use Rattle.mounting.specs.Reads.{EndsMount}
-use Rattle.mounting.proofs.ReadsTree.{reads_by, reads_none, ok_unless}
+use Rattle.newest_pages.specs.Checked.{HasTrueFlash}
+use Rattle.mounting.proofs.ReadsTree.{ok_all, ok_each, ok_unless, reads_by, reads_none, scans_after, scans_not}
 use Rattle.mounting.proofs.going.open_volume.Goals as goal
 
 pub returns-in-None-clause-read : goal.returns-in-None-clause-read
@@ -51,3 +52,22 @@ returns-clause-few g c =
     let fault = c.in-Err-by_entries.fault in
     ok_unless c.scan_after.result (EndsMount e fault) c.scan_after.ensures.ends
     (λ x not. reads_none (g.N.Nand.state c.args.device) (g.N.Nand.state c.find_checkpoint.new.device) e (g.N.Nand.state (inner_of x.named.on.device)) fault c.in-Ok.ensures.reads.only c.in-Err-by_entries.ensures.fault not)
+
+pub returns-in-None-clause-scans : goal.returns-in-None-clause-scans
+returns-in-None-clause-scans g c =
+    let a = g.N.Nand.state c.args.device in
+    let b = g.N.Nand.state c.find_checkpoint.new.device in
+    let reads = c.in-Ok.ensures.reads in
+    ok_all c.by_scan.result (HasTrueFlash b) c.by_scan.ensures.scans (λ x all. scans_after a b (g.N.Nand.state (inner_of x.named.on.device)) reads.only reads.most all)
+
+pub returns-in-Ok-by_entries-clause-scans : goal.returns-in-Ok-by_entries-clause-scans
+returns-in-Ok-by_entries-clause-scans g c =
+    let a = g.N.Nand.state c.args.device in
+    let whole = subst (λ m. IfSome m (λ f. IsWholeOn a (checkpoint_of f))) c.in-Some.is c.in-Ok.ensures.found in
+    scans_not a (g.N.Nand.state (inner_of c.in-Ok-by_entries.going.named.on.device)) (checkpoint_of c.in-Some.found) whole
+
+pub returns-clause-scans : goal.returns-clause-scans
+returns-clause-scans g c =
+    let a = g.N.Nand.state c.args.device in
+    let whole = subst (λ m. IfSome m (λ f. IsWholeOn a (checkpoint_of f))) c.in-Some.is c.in-Ok.ensures.found in
+    ok_each c.scan_after.result (λ x. scans_not a (g.N.Nand.state (inner_of x.named.on.device)) (checkpoint_of c.in-Some.found) whole)

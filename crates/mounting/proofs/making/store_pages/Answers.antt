@@ -3,6 +3,7 @@ use Rattle.flash_tree.specs.Places.{numbers_of}
 use Rattle.block_state.specs.Kept.{bad_count}
 use Rattle.block_state.specs.TableOf.{table}
 use Rattle.bad_blocks.specs.Standing.{Stands, HasFreeBlocks}
+use Rattle.objects.specs.StateOf.{lent_by, state_of}
 use Rattle.tree_walk.specs.Trees.{keeps_key}
 use Rattle.mounting.proofs.PagesMade.{ready, stands, few, free, store_pages}
 use Rattle.mounting.proofs.making.store_pages.Goals as goal
@@ -42,5 +43,4 @@ returns-in-Ok-clause-made g c =
     let told = c.in-Ok.ensures in
     let same : c.from.result ≡ on.spare = search rules in
     store_pages (keeps_key on.tree) d (table on.blocks) on.index (numbers_of on.numbers) on.spare c.requires.read.tables c.requires.fitting c.requires.room c.requires.can (c.the_counts_are_of_the_keys.ensures.none on.index)
-    (g.N.Nand.state s.device) s.index (table s.blocks) s.buffer s.cache s.scratch.items s.found s.spare s.broken s.counts
-    (ap g.N.Nand.state told.device) (subst (λ k. (table s.blocks ≡ table on.blocks) × (s.spare ≡ k)) same told.blocks) told.whole told.most told.kept told.pages
+    (state_of s) (lent_by s) (ap g.N.Nand.state told.device) (subst (λ k. (table s.blocks ≡ table on.blocks) × (s.spare ≡ k)) same told.blocks) told.whole told.most told.kept told.pages

@@ -5,6 +5,7 @@ use Rattle.mounting.proofs.Answering.{tree_after}
 use Rattle.tree_walk.specs.Trees.{keeps_key}
 use Rattle.mounting.proofs.Covering.{covers_after}
 use Rattle.mounting.proofs.Pruning.{scan_pruned}
+use Rattle.mounting.proofs.ReadsTree.{reads_scanned}
 use Rattle.mounting.proofs.scanned.open_tree.Goals as goal
 
 pub returns-clause-read : goal.returns-clause-read
@@ -36,3 +37,11 @@ returns-clause-names g c = λ honest.
     covers_after a b was.index found.names found.spare found.tree c.in_ok-device-2.ensures.reads
     (c.the_opened_pages_are_the_newest.ensures.pages a (table was.blocks) was.index (numbers_of was.numbers) c.in_ok-device.ensures.opened before) before
     (c.in_ok-device-2.ensures.names before)
+
+pub returns-clause-few : goal.returns-clause-few
+returns-clause-few g c = λ honest.
+    let a = g.N.Nand.state c.args.device in
+    let b = g.N.Nand.state c.in_ok-device.device in
+    let found = c.in_ok-device-2.found in
+    let scanned = c.in_ok-device.ensures in
+    reads_scanned a b (g.N.Nand.state c.in_ok-device-2.device) found.spare found.tree scanned.reads scanned.asked (c.in_ok-device-2.ensures.few (scanned.reads.lasts.honest ∙ honest))

@@ -11,9 +11,9 @@ returns-in-Ok-clause-mounted g c =
     let m = c.in_ok-pages.ensures in
     let o = c.new-objects.ensures in
     let v = c.join-volume.ensures in
-    mounted_over _ _ _ _ _ _ _ c.new-objects.result c.join-volume.result o.pages o.table o.names v.pages m.read v.goes_on v.read_only m.read_only m.next m.checked m.few m.sizes.volume m.worn m.tree v.tree
+    mounted_over _ _ _ _ m.given c.new-objects.result c.join-volume.result o.pages o.table o.names v.pages v.goes_on v.read_only v.tree
 
 pub returns-in-Err-clause-back : goal.returns-in-Err-clause-back
 returns-in-Err-clause-back g c =
     let there = ap g.N.Nand.state (c.into_inner.ensures.inner ∙ ap inner_of c.into_device.ensures.device) in
-    only_reads_on _ _ _ c.in_ok-pages.ensures.read.read.reads (subst (λ (k : Device). OnlyReads k (g.N.Nand.state c.unmounted.result.0)) there c.unmounted.ensures.reads)
+    only_reads_on _ _ _ c.in_ok-pages.ensures.given.since.read.reads (subst (λ (k : Device). OnlyReads k (g.N.Nand.state c.unmounted.result.0)) there c.unmounted.ensures.reads)

@@ -1,0 +1,31 @@
+-- What a mount gives.
+-- From: this project.
+use Rattle.std.specs.Prelude.{◌≡◌, ◌↔◌, true}
+use Rattle.nand_model.specs.Calls.{Device}
+use Rattle.nand_model.specs.declared.nand.Nand.{Ghosts}
+use Rattle.posix_profile.specs.State.{Objects}
+use Rattle.flash_tree.specs.Checkpoints.{IsChecked}
+use Rattle.flash_pages.specs.declared.mounted.FlashPages.{FlashPages}
+use Rattle.newest_pages.specs.Checked.{HasTrueFlash}
+use Rattle.pages.specs.State.{PagesState}
+use Rattle.mounting.specs.Made.{AreNext, CanOnlyBeRead, HasSizes, IsMountedWith}
+use Rattle.mounting.specs.Named.{IsTrustedSince}
+use Rattle.mounting.specs.Reads.{ReadsAtMost}
+use Rattle.mounting.specs.declared.mounted.Mounted.{Mounted}
+
+-- The pages, the table and the names are those of one volume, which can be written but where blocks or numbers are used up; and if their
+-- device is honest, the next numbers are above those on its flash, and they are those of the tree that it shows.
+pub record IsMade {N : Type 0} {nand : Ghosts N} (state : FlashPages N nand → PagesState) (m : Mounted N nand) : Type 0 where
+  pub sizes : HasSizes (state m.pages) m.table
+  pub worn : (state m.pages).worn ≡ m.read_only
+  pub read_only : (m.read_only ≡ true) ↔ CanOnlyBeRead (state m.pages)
+  pub next : (state m.pages).device.honest ≡ true → AreNext (state m.pages).device.flash (state m.pages).next
+  pub tree : (state m.pages).device.honest ≡ true → (objects : Objects) × IsMountedWith (state m.pages) m.table m.names objects
+
+-- What a mount of a device gives is made of it: it was only read, by so many pages, and is trusted where its flash was true; then the
+-- block that is noted is the only one with a whole checkpoint, which is right.
+pub record IsGiven {N : Type 0} {nand : Ghosts N} (state : FlashPages N nand → PagesState) (device now : Device) (m : Mounted N nand) : Type 0 where
+  pub since : IsTrustedSince device now (state m.pages).device
+  pub made : IsMade state m
+  pub checked : HasTrueFlash device → IsChecked device.geometry device.flash (state m.pages).checkpoint
+  pub few : ReadsAtMost device (state m.pages).device

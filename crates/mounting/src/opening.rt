@@ -1,0 +1,37 @@
+// The mount.
+ghost use Rattle.std.specs.Prelude.{IfOk, IfErr};
+ghost use Rattle.nand_model.specs.Changes.{OnlyReads};
+ghost use Rattle.flash_pages.specs.Parts.{device_in};
+ghost use Rattle.trusted_nand.specs.Parts.{inner_of};
+ghost use Rattle.mounting.specs.Faults.{WhyNotMounted};
+ghost use Rattle.mounting.specs.Given.{IsGiven};
+
+use crate::fault::MountFault;
+use crate::going::open_volume;
+use crate::mounted::{Mounted, make_mounted};
+use crate::naming::unmounted;
+use flash_pages::FlashPages;
+use nand_model::Nand;
+use pages::Pages;
+use std::alloc::Global;
+use std::num::NonZeroUsize;
+use trusted_nand::TrustedNand;
+
+/// Mounts a device, which is only read, with a cache of at most so many pages: by its checkpoint, where one is whole and its entries
+/// do, and else by a scan. What is said of an honest device is said where it is trusted: so where its flash was true. The block
+/// that may have a checkpoint is noted. After a fault the device is given back: where that is another than Gone, it has power.
+pub fn mount<N: Nand>(
+    alloc: Global,
+    device: N,
+    capacity: NonZeroUsize,
+) -> Result<Mounted<TrustedNand<N>>, (N, MountFault)>
+    ensures given { IfOk result (λ m. IsGiven ⟦<FlashPages<TrustedNand<N>> as Pages>⟧.state (N.state device) (N.state (inner_of (device_in m.pages))) m) }
+    ensures back { IfErr result (λ failed. OnlyReads (N.state device) (N.state failed.0)) }
+    ensures fault { IfErr result (λ failed. WhyNotMounted (N.state failed.0) failed.1) }
+{
+    let going = open_volume(alloc, device)?;
+    match make_mounted(alloc, going, capacity) {
+        Ok(mounted) => Ok(mounted),
+        Err(device) => Err(unmounted(device.into_inner(), MountFault::NoMemory)),
+    }
+}

@@ -22,15 +22,11 @@ use Rattle.bad_blocks.specs.laws.FreeBlocks.{leaves_fewer, leaves_unkept, same_b
 use Rattle.bad_blocks.specs.laws.Moves.{are_held}
 use Rattle.page_buffer.specs.BufferOf.{buffered, most_pages}
 use Rattle.page_buffer.specs.Shown.{data_at, data_by, kept_data, present_data}
-use Rattle.page_buffer.specs.declared.buffer.Buffer.{Buffer}
-use Rattle.page_cache.specs.declared.cache.PageCache.{PageCache}
 use Rattle.pages.specs.Maps.{PageMap, known_pages}
 use Rattle.pages.specs.State.{PagesState}
 use Rattle.pages.specs.Stores.{bad_on, Carries, HasPage, HasNumbersLeft, IsCarried}
 use Rattle.objects.specs.StoreOf.{kept_map, next_numbers}
 use Rattle.objects.specs.StoreState.{StoreState, committed_in, seen_of}
-use Rattle.objects.specs.declared.counts.StoreCounts.{StoreCounts}
-use Rattle.objects.specs.declared.store.Found.{Found}
 use Rattle.newest_pages.specs.Newest.{seen}
 use Rattle.flash_pages.specs.ReadOnly.{IsWorn, only_read, next_after}
 use Rattle.mounting.specs.Made.{ArePagesOn, CanBeWritten}

@@ -22,8 +22,8 @@ fn no_error(reply: Reply) -> Result<Reply, TreeFault>
     }
 }
 
-/// The reply to a command that is not refused.
-pub(crate) fn ask<V: Answers>(
+/// The reply to a command, where it is not refused.
+pub fn ask<V: Answers>(
     volume: &mut V,
     moment: u64,
     command: Command,

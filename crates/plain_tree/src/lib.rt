@@ -8,7 +8,9 @@ mod list;
 mod reading;
 mod tree;
 
+pub use asking::ask;
 pub use command_answers::Answers;
 pub use fault::TreeFault;
 pub use list::TreeList;
+pub use reading::{Content, TreeEntry, TreeName, bytes_at, info_at, names_at};
 pub use tree::PlainTree;

@@ -11,7 +11,7 @@ use std::alloc::Global;
 /// The names of a tree, each directory before what it names, and of each what it leads to.
 #[derive(Drop)]
 pub struct TreeList {
-    pub(crate) entries: Vec<TreeEntry>,
+    pub entries: Vec<TreeEntry>,
 }
 
 impl TreeList {

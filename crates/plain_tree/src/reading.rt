@@ -14,9 +14,9 @@ use std::collections::VecDeque;
 /// How many bytes are read at once.
 const PART: u32 = 4096;
 
-/// What an object holds.
+/// What an object holds: a file its bytes, a directory its names.
 #[derive(Drop)]
-pub(crate) enum Content {
+pub enum Content {
     File(Vec<u8>),
     Directory(Vec<Bytes>),
 }
@@ -24,18 +24,18 @@ pub(crate) enum Content {
 /// A name that leads to an object: the place of its directory among the names, and its path. The root has the empty name, in
 /// itself.
 #[derive(Drop)]
-pub(crate) struct TreeName {
-    pub(crate) parent: usize,
-    pub(crate) name: Vec<u8>,
-    pub(crate) path: Vec<u8>,
+pub struct TreeName {
+    pub parent: usize,
+    pub name: Vec<u8>,
+    pub path: Vec<u8>,
 }
 
 /// A name, and what is told of its object.
 #[derive(Drop)]
-pub(crate) struct TreeEntry {
-    pub(crate) name: TreeName,
-    pub(crate) info: Info,
-    pub(crate) content: Content,
+pub struct TreeEntry {
+    pub name: TreeName,
+    pub info: Info,
+    pub content: Content,
 }
 
 /// What a reply tells of an object.
@@ -89,7 +89,7 @@ fn done_of(reply: Reply) -> Result<(), TreeFault>
 }
 
 /// What is told of the object at a path.
-fn info_at<V: Answers>(alloc: Global, volume: &mut V, path: &[u8]) -> Result<Info, TreeFault>
+pub fn info_at<V: Answers>(alloc: Global, volume: &mut V, path: &[u8]) -> Result<Info, TreeFault>
     ensures { IfOk result (λ info. Tells V.shows volume.old volume.new (λ objects. IsInfo objects path.now info)) }
 {
     let path = path_of(alloc, path)?;
@@ -98,7 +98,7 @@ fn info_at<V: Answers>(alloc: Global, volume: &mut V, path: &[u8]) -> Result<Inf
 }
 
 /// The names of the directory at a path.
-fn names_at<V: Answers>(alloc: Global, volume: &mut V, path: &[u8]) -> Result<Vec<Bytes>, TreeFault>
+pub fn names_at<V: Answers>(alloc: Global, volume: &mut V, path: &[u8]) -> Result<Vec<Bytes>, TreeFault>
     ensures { IfOk result (λ names. Tells V.shows volume.old volume.new (λ objects. AreNames objects path.now names.items)) }
 {
     let path = path_of(alloc, path)?;
@@ -147,7 +147,7 @@ fn close<V: Answers>(volume: &mut V, fd: u32) -> Result<(), TreeFault>
 }
 
 /// The bytes of the file at a path. Its descriptor is closed again.
-fn bytes_at<V: Answers>(alloc: Global, volume: &mut V, path: &[u8]) -> Result<Vec<u8>, TreeFault>
+pub fn bytes_at<V: Answers>(alloc: Global, volume: &mut V, path: &[u8]) -> Result<Vec<u8>, TreeFault>
     ensures { IfOk result (λ bytes. Tells V.shows volume.old volume.new (λ objects. AreBytesAt objects path.now bytes.items)) }
 {
     let fd = open_to_read(alloc, volume, path)?;

@@ -1,0 +1,5 @@
+pub mod Escapes
+pub mod Going
+pub mod Hosts
+pub mod Lists
+pub mod Reading

@@ -2,26 +2,44 @@
 
 use crate::kept::{assert_stored, marked};
 use crate::moves::{FULL, MOUNT, MOVE, full_flash, room_made};
+use crate::same::assert_same;
+use block_state::Blocks;
 use collector::RoomFault;
-use nand_model::Nand;
+use nand_model::{MemNand, Nand};
+use std::alloc::Global;
+use std::process::Abort;
 use std::test::Fail;
+
+/// How room was made: the result, the calls of the device, and the block that is open then.
+type Made = (Result<(), RoomFault>, u64, Option<u32>);
+
+/// Makes room for so many pages on a copy of the full flash, on which all that was stored stays. How that ends, with the
+/// table afterwards and the blocks that are marked.
+fn made(
+    rt: &impl Abort,
+    alloc: Global,
+    flash: &MemNand,
+    count: u32,
+    spare: u32,
+) -> Result<(Made, Blocks, Vec<u32>), Fail> {
+    let mut nand = flash.copy()?;
+    let (result, blocks) = room_made(alloc, &mut nand, count, spare)?;
+    let made = (result, nand.calls(), blocks.open_block());
+    assert_stored(rt, &mut nand, &FULL, "room was asked for")?;
+    let marked = marked(rt, alloc, &nand, &blocks)?;
+    Ok((made, blocks, marked))
+}
 
 #[test]
 fn the_block_with_the_fewest_kept_pages_is_collected(rt: HostRuntime) -> Result<(), Fail> {
     let alloc = rt.alloc();
     let flash = full_flash(&rt, alloc)?;
     for count in [1, 8, 29u32] {
-        let what = format!(in alloc; "{count} pages")?;
-        let mut nand = flash.copy()?;
-        let (result, blocks) = room_made(alloc, &mut nand, count, 2)?;
-        assert_eq!(rt; result, Ok(()), "{what}");
-        assert_eq!(rt; nand.calls(), MOUNT + MOVE, "{what}");
-        assert_eq!(rt; blocks.open_block(), Some(5), "{what}");
-        assert_eq!(rt; blocks.open_room(), 29, "{what}");
+        let (made, blocks, marked) = made(&rt, alloc, &flash, count, 2)?;
+        assert_same!(rt; made, (Ok(()), MOUNT + MOVE, Some(5)), count);
         // the collected block is free in place of the one that was taken
-        assert_eq!(rt; blocks.free_count(), 3, "{what}");
-        assert!(rt; marked(&rt, alloc, &nand, &blocks)?.is_empty(), "{what}");
-        assert_stored(&rt, &mut nand, &FULL, &what)?;
+        assert_same!(rt; [blocks.open_room(), blocks.free_count()], [29, 3], count);
+        assert!(rt; marked.is_empty(), "{count} pages");
     }
     Ok(())
 }
@@ -29,13 +47,10 @@ fn the_block_with_the_fewest_kept_pages_is_collected(rt: HostRuntime) -> Result<
 #[test]
 fn a_block_is_taken_while_more_are_free(rt: HostRuntime) -> Result<(), Fail> {
     let alloc = rt.alloc();
-    let mut nand = full_flash(&rt, alloc)?;
-    let (result, blocks) = room_made(alloc, &mut nand, 32, 1)?;
-    assert_eq!(rt; result, Ok(()));
-    assert_eq!(rt; nand.calls(), MOUNT + 1);
-    assert_eq!(rt; blocks.open_block(), Some(5));
-    assert_eq!(rt; blocks.open_room(), 32);
-    assert_stored(&rt, &mut nand, &FULL, "a free block")?;
+    let flash = full_flash(&rt, alloc)?;
+    let (made, blocks, _marked) = made(&rt, alloc, &flash, 32, 1)?;
+    assert_same!(rt; made, (Ok(()), MOUNT + 1, Some(5)));
+    assert_same!(rt; blocks.open_room(), 32);
     Ok(())
 }
 
@@ -44,13 +59,8 @@ fn where_too_much_is_kept_nothing_is_written(rt: HostRuntime) -> Result<(), Fail
     let alloc = rt.alloc();
     let flash = full_flash(&rt, alloc)?;
     for count in [30, 32, 33, u32::MAX] {
-        let what = format!(in alloc; "{count} pages")?;
-        let mut nand = flash.copy()?;
-        let (result, blocks) = room_made(alloc, &mut nand, count, 2)?;
-        assert_eq!(rt; result, Err(RoomFault::Full), "{what}");
-        assert_eq!(rt; nand.calls(), MOUNT, "{what}");
-        assert_eq!(rt; blocks.open_block(), None, "{what}");
-        assert_stored(&rt, &mut nand, &FULL, &what)?;
+        let (made, _blocks, _marked) = made(&rt, alloc, &flash, count, 2)?;
+        assert_same!(rt; made, (Err(RoomFault::Full), MOUNT, None), count);
     }
     Ok(())
 }

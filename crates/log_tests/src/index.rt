@@ -1,5 +1,6 @@
 // The index of what a scan finds.
 
+use crate::same::assert_same;
 use crate::scans::pages_of;
 use crate::worked::{flashes, written};
 use block_state::Blocks;
@@ -9,6 +10,7 @@ use found_pages::PageCopy;
 use mount_scan::scan_newest;
 use nand_model::Nand;
 use std::alloc::Global;
+use std::process::Abort;
 use std::test::Fail;
 
 /// The newest pages of any device, which need not be honest, with the index of them and the table of its blocks.
@@ -33,35 +35,41 @@ impl Mounted {
     }
 }
 
+/// How many keys are kept in the five blocks.
+fn kept_in_all(rt: &impl Abort, blocks: &Blocks) -> u64 {
+    let mut kept = 0u64;
+    for block in 0..blocks.geometry().blocks() {
+        assert!(rt; block < 5);
+        kept = kept.saturating_add(blocks.entry(block).kept as u64);
+    }
+    kept
+}
+
+/// Asserts that the index has each of the newest pages.
+fn expect_newest(rt: &impl Abort, mounted: &Mounted, what: &str) {
+    for found in &mounted.newest {
+        let key = Key {
+            object: found.object,
+            chunk: u64::from(found.chunk),
+        };
+        let page = KeptPage {
+            block: u32::from(found.block),
+            page: u32::from(found.page),
+            version: found.version,
+        };
+        assert_same!(rt; mounted.index.kept(key), Some(page), (what, key));
+    }
+    let kept = kept_in_all(rt, &mounted.blocks);
+    assert_same!(rt; kept, mounted.newest.len() as u64, what);
+}
+
 #[test]
 fn the_newest_pages_of_a_scan_are_kept(rt: HostRuntime) -> Result<(), Fail> {
     let alloc = rt.alloc();
     for flash in flashes(alloc)? {
         let mut nand = written(alloc, &flash)?;
         let mounted = Mounted::new(alloc, &mut nand)?;
-        let mut kept = 0u64;
-        for found in &mounted.newest {
-            let key = Key {
-                object: found.object,
-                chunk: u64::from(found.chunk),
-            };
-            let page = KeptPage {
-                block: u32::from(found.block),
-                page: u32::from(found.page),
-                version: found.version,
-            };
-            assert_eq!(rt;
-                mounted.index.kept(key),
-                Some(page),
-                "{}, {key:?}",
-                flash.what
-            );
-        }
-        for block in 0..nand.geometry().blocks() {
-            assert!(rt; block < 5);
-            kept = kept.saturating_add(mounted.blocks.entry(block).kept as u64);
-        }
-        assert_eq!(rt; kept, mounted.newest.len() as u64, "{}", flash.what);
+        expect_newest(&rt, &mounted, flash.what);
     }
     Ok(())
 }

@@ -1,5 +1,6 @@
 // What is kept on a flash, found key by key by a plain search.
 
+use crate::same::assert_same;
 use block_state::Blocks;
 use flash_tree::{Found, Key};
 use nand_model::{MemNand, Nand, PageKind};
@@ -29,9 +30,9 @@ pub(crate) fn stored_at(
     let mut bytes = [0; 512];
     let mut tag = [0; 48];
     let kind = nand.read_page(block, page, &mut bytes, &mut tag)?;
-    assert_eq!(rt; kind, PageKind::Written);
+    assert_same!(rt; kind, PageKind::Written);
     let fill = bytes[0];
-    assert_eq!(rt; bytes, [fill; 512]);
+    assert_same!(rt; bytes, [fill; 512]);
     Ok(Stored { version, fill })
 }
 
@@ -65,7 +66,7 @@ fn assert_run(rt: &impl Abort, nand: &mut MemNand, run: &Run, what: &str) -> Res
     for i in 0..run.count {
         let object = run.first.saturating_add(i);
         let found = newest_stored(rt, nand, object)?;
-        assert_eq!(rt; found, Some(stored), "{what}, object {object}");
+        assert_same!(rt; found, Some(stored), (what, object));
     }
     Ok(())
 }
@@ -93,11 +94,7 @@ pub(crate) fn marked(
     let mut marked = Vec::new(alloc);
     for block in 0..nand.geometry().blocks() {
         assert!(rt; block < blocks.geometry().blocks());
-        assert_eq!(rt;
-            blocks.entry(block).bad,
-            nand.is_bad(block),
-            "block {block}"
-        );
+        assert_same!(rt; blocks.entry(block).bad, nand.is_bad(block), block);
         if nand.is_bad(block) {
             marked.push(block)?;
         }

@@ -13,6 +13,8 @@ mod moves;
 #[cfg(test)]
 mod retirements;
 #[cfg(test)]
+mod same;
+#[cfg(test)]
 mod scans;
 #[cfg(test)]
 mod volumes;

@@ -2,6 +2,7 @@
 
 use crate::kept::{assert_stored, marked};
 use crate::moves::{KEPT, MOUNT, MOVE, flash, moved, retired};
+use crate::same::assert_same;
 use bad_blocks::Moved;
 use std::test::Fail;
 
@@ -10,10 +11,10 @@ fn a_retired_block_is_marked_and_its_pages_are_kept(rt: HostRuntime) -> Result<(
     let alloc = rt.alloc();
     let mut nand = flash(&rt, alloc)?;
     let (result, blocks) = retired(&rt, alloc, &mut nand, 2, 2)?;
-    assert_eq!(rt; result, Ok(()));
-    assert_eq!(rt; nand.calls(), MOUNT + MOVE + 1);
-    assert_eq!(rt; marked(&rt, alloc, &nand, &blocks)?, vec![in alloc; 2]?);
-    assert_eq!(rt; (blocks.open_block(), blocks.open_room()), (Some(0), 29));
+    assert_same!(rt; result, Ok(()));
+    assert_same!(rt; nand.calls(), MOUNT + MOVE + 1);
+    assert_same!(rt; marked(&rt, alloc, &nand, &blocks)?, vec![in alloc; 2]?);
+    assert_same!(rt; (blocks.open_block(), blocks.open_room()), (Some(0), 29));
     assert_stored(&rt, &mut nand, &KEPT, "no failure")?;
     Ok(())
 }
@@ -24,10 +25,10 @@ fn what_a_block_keeps_is_moved(rt: HostRuntime) -> Result<(), Fail> {
     let alloc = rt.alloc();
     let mut nand = flash(&rt, alloc)?;
     let (result, blocks) = moved(&rt, alloc, &mut nand, 2, 2)?;
-    assert_eq!(rt; result, Ok(Moved::Trusted));
-    assert_eq!(rt; nand.calls(), MOUNT + MOVE);
+    assert_same!(rt; result, Ok(Moved::Trusted));
+    assert_same!(rt; nand.calls(), MOUNT + MOVE);
     assert!(rt; marked(&rt, alloc, &nand, &blocks)?.is_empty());
-    assert_eq!(rt; (blocks.open_block(), blocks.open_room()), (Some(0), 29));
+    assert_same!(rt; (blocks.open_block(), blocks.open_room()), (Some(0), 29));
     assert_stored(&rt, &mut nand, &KEPT, "no failure")?;
     Ok(())
 }

@@ -1,6 +1,7 @@
 // Scans of a device in memory, beside a plain search of it.
 
-use crate::worked::{broken_off, flashes, powered_up, small, tag, written};
+use crate::same::assert_same;
+use crate::worked::{WorkedFlash, broken_off, flashes, powered_up, small, tag, written};
 use flash_tree::{Found, Key};
 use found_pages::{BUCKETS, FoundPages, PageCopy};
 use mount_scan::{ScanFault, scan, scan_newest};
@@ -75,53 +76,78 @@ fn finds_as_plainly(
         for chunk in 0..10u64 {
             let key = Key { object, chunk };
             let plain = copy_of(newest(nand, key)?);
-            assert_eq!(rt; entry(&listed, key), plain, "{what}, {key:?}");
+            assert_same!(rt; entry(&listed, key), plain, (what, key));
             keys = keys.saturating_add(plain.is_some() as usize);
         }
     }
-    assert_eq!(rt; listed.len(), keys, "{what}");
-    assert_eq!(rt; found.numbers, greatest(nand)?, "{what}");
+    assert_same!(rt; listed.len(), keys, what);
+    assert_same!(rt; found.numbers, greatest(nand)?, what);
     Ok(listed)
+}
+
+/// Asserts that a scan of a worked flash finds what is to be found, and changes nothing.
+fn finds_as_worked(rt: &impl Abort, alloc: Global, flash: &WorkedFlash) -> Result<(), Fail> {
+    let mut nand = written(alloc, flash)?;
+    let found = scan(alloc, &mut nand)?;
+    let counted = counted_at(alloc, &found.counted)?;
+    assert_same!(rt; counted, flash.counted, flash.what);
+    let newest = places_of(alloc, &found.newest)?;
+    assert_same!(rt; newest, flash.newest, flash.what);
+    assert_same!(rt; found.numbers, flash.numbers, flash.what);
+    finds_newest(rt, alloc, &mut nand, &found.newest, flash.what)?;
+    assert_same!(rt; nand.changes(), 0);
+    Ok(())
+}
+
+/// Asserts that the scan of the newest pages, which finds what the plain search finds, finds these.
+fn finds_newest(
+    rt: &impl Abort,
+    alloc: Global,
+    nand: &mut MemNand,
+    newest: &FoundPages,
+    what: &str,
+) -> Result<(), Fail> {
+    let listed = finds_as_plainly(rt, alloc, nand, what)?;
+    assert_same!(rt; listed, pages_of(alloc, newest)?, what);
+    Ok(())
 }
 
 #[test]
 fn finds_what_counts_and_the_newest_of_each_key(rt: HostRuntime) -> Result<(), Fail> {
     let alloc = rt.alloc();
     for flash in flashes(alloc)? {
-        let mut nand = written(alloc, &flash)?;
-        let found = scan(alloc, &mut nand)?;
-        let what = flash.what;
-        assert_eq!(rt; counted_at(alloc, &found.counted)?, flash.counted, "{what}");
-        assert_eq!(rt; places_of(alloc, &found.newest)?, flash.newest, "{what}");
-        assert_eq!(rt; found.numbers, flash.numbers, "{what}");
-        assert_eq!(rt;
-            finds_as_plainly(&rt, alloc, &mut nand, what)?,
-            pages_of(alloc, &found.newest)?,
-            "{what}"
-        );
-        assert_eq!(rt; nand.changes(), 0);
+        finds_as_worked(&rt, alloc, &flash)?;
     }
     Ok(())
+}
+
+/// How many pages count on a device and how many of them are the newest, of one page and the first ones of a group of four.
+fn counts_of_group(alloc: Global, pages: u32) -> Result<(usize, usize), Fail> {
+    let mut flash = small(alloc)?;
+    flash.write(4, &tag((0, 1), (1, 0), (1, 1, 1)), 7)?;
+    for i in 0..pages {
+        flash.write(4, &tag((i, 4), (1, i as u64), (2, 2, 1)), 7)?;
+    }
+    let found = scan(alloc, &mut powered_up(flash))?;
+    Ok((found.counted.len(), pages_of(alloc, &found.newest)?.len()))
 }
 
 #[test]
 fn a_group_counts_with_its_last_page(rt: HostRuntime) -> Result<(), Fail> {
     for pages in 0..5u32 {
-        let mut flash = small(rt.alloc())?;
-        flash.write(4, &tag((0, 1), (1, 0), (1, 1, 1)), 7)?;
-        for i in 0..pages {
-            flash.write(4, &tag((i, 4), (1, i as u64), (2, 2, 1)), 7)?;
-        }
-        let found = scan(rt.alloc(), &mut powered_up(flash))?;
-        let (counted, newest) = if pages == 4 { (5, 4) } else { (1, 1) };
-        assert_eq!(rt; found.counted.len(), counted, "{pages} pages");
-        assert_eq!(rt;
-            pages_of(rt.alloc(), &found.newest)?.len(),
-            newest,
-            "{pages} pages"
-        );
+        let wanted = if pages == 4 { (5, 4) } else { (1, 1) };
+        assert_same!(rt; counts_of_group(rt.alloc(), pages)?, wanted, pages);
     }
     Ok(())
+}
+
+/// How many pages are the newest, and the greatest version, on a device with a page of this chunk and one of chunk 7.
+fn newest_beside(alloc: Global, chunk: u64) -> Result<(usize, u64), Fail> {
+    let mut flash = small(alloc)?;
+    flash.write(4, &tag((0, 2), (1, 7), (1, 2, 1)), 7)?;
+    flash.write(4, &tag((1, 2), (1, chunk), (2, 2, 1)), 7)?;
+    let found = scan_newest(alloc, &mut powered_up(flash))?;
+    Ok((pages_of(alloc, &found.newest)?.len(), found.numbers.version))
 }
 
 #[test]
@@ -131,17 +157,8 @@ fn a_scan_passes_over_chunks_that_no_tree_looks_up(rt: HostRuntime) -> Result<()
         (4_294_967_296, 1),
         (u64::MAX, 1),
     ] {
-        let mut flash = small(rt.alloc())?;
-        flash.write(4, &tag((0, 2), (1, 7), (1, 2, 1)), 7)?;
-        flash.write(4, &tag((1, 2), (1, chunk), (2, 2, 1)), 7)?;
-        let found = scan_newest(rt.alloc(), &mut powered_up(flash))?;
-        assert_eq!(rt;
-            pages_of(rt.alloc(), &found.newest)?.len(),
-            newest,
-            "{chunk}"
-        );
         // The numbers of each page count.
-        assert_eq!(rt; found.numbers.version, 2, "{chunk}");
+        assert_same!(rt; newest_beside(rt.alloc(), chunk)?, (newest, 2), chunk);
     }
     Ok(())
 }
@@ -153,28 +170,36 @@ fn calls_of_scan(alloc: Global, nand: &MemNand) -> Result<u64, Fail> {
     Ok(copy.calls())
 }
 
+/// Cuts both scans at a call. They say so and change nothing, and after a power-up the newest pages are found.
+fn cut_at(
+    rt: &impl Abort,
+    alloc: Global,
+    nand: &MemNand,
+    call: u64,
+    newest: &Vec<(u32, u32)>,
+) -> Result<(), Fail> {
+    let mut cut = nand
+        .copy()?
+        .with_fuse(call.saturating_add(1), Vec::new(alloc));
+    let gone = Some(ScanFault::Gone);
+    assert_same!(rt; scan(alloc, &mut cut).err(), gone, call);
+    assert_same!(rt; scan_newest(alloc, &mut cut).err(), gone, call);
+    assert_same!(rt; cut.changes(), 0, call);
+    cut.power_up();
+    let found = scan(alloc, &mut cut)?;
+    assert_same!(rt; places_of(alloc, &found.newest)?, *newest, call);
+    Ok(())
+}
+
 #[test]
 fn a_cut_scan_says_gone_and_changes_nothing(rt: HostRuntime) -> Result<(), Fail> {
-    let flash = broken_off(rt.alloc())?;
-    let nand = written(rt.alloc(), &flash)?;
-    let calls = calls_of_scan(rt.alloc(), &nand)?;
-    assert_eq!(rt; calls, 160);
+    let alloc = rt.alloc();
+    let flash = broken_off(alloc)?;
+    let nand = written(alloc, &flash)?;
+    let calls = calls_of_scan(alloc, &nand)?;
+    assert_same!(rt; calls, 160);
     for call in 0..calls {
-        let mut cut = nand.copy()?.with_fuse(call + 1, Vec::new(rt.alloc()));
-        assert_eq!(rt;
-            scan(rt.alloc(), &mut cut).err(),
-            Some(ScanFault::Gone),
-            "at {call}"
-        );
-        assert_eq!(rt;
-            scan_newest(rt.alloc(), &mut cut).err(),
-            Some(ScanFault::Gone),
-            "at {call}"
-        );
-        assert_eq!(rt; cut.changes(), 0);
-        cut.power_up();
-        let found = scan(rt.alloc(), &mut cut)?;
-        assert_eq!(rt; places_of(rt.alloc(), &found.newest)?, flash.newest);
+        cut_at(&rt, alloc, &nand, call, &flash.newest)?;
     }
     Ok(())
 }
@@ -234,21 +259,20 @@ fn drawn(alloc: Global, random: &mut Pcg32) -> Result<MemNand, Fail> {
     Ok(powered_up(flash))
 }
 
+/// How many pages of a drawn flash count. The scans of it find what the plain search finds.
+fn counted_of_drawn(rt: &impl Abort, alloc: Global, random: &mut Pcg32) -> Result<u64, Fail> {
+    let mut nand = drawn(alloc, random)?;
+    let found = scan(alloc, &mut nand)?;
+    finds_newest(rt, alloc, &mut nand, &found.newest, "a drawn flash")?;
+    Ok(found.counted.len() as u64)
+}
+
 #[test]
 fn finds_what_a_plain_search_finds(rt: HostRuntime) -> Result<(), Fail> {
-    let alloc = rt.alloc();
     let mut random = Pcg32::new(42, 54);
     let mut entries = 0u64;
-    for round in 0..100u32 {
-        let mut nand = drawn(alloc, &mut random)?;
-        let found = scan(alloc, &mut nand)?;
-        let what = format!(in alloc; "round {round}")?;
-        assert_eq!(rt;
-            finds_as_plainly(&rt, alloc, &mut nand, &what)?,
-            pages_of(alloc, &found.newest)?,
-            "{what}"
-        );
-        entries = entries.saturating_add(found.counted.len() as u64);
+    for _round in 0..100u32 {
+        entries = entries.saturating_add(counted_of_drawn(&rt, rt.alloc(), &mut random)?);
     }
     assert!(rt; entries > 1000);
     Ok(())

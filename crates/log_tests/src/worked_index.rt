@@ -4,6 +4,7 @@ ghost use Rattle.block_state.specs.TableOf.{table};
 ghost use Rattle.chunk_index.specs.Maps.{present, CountsAgree};
 ghost use Rattle.chunk_index.specs.declared.form.Present.TheVariants as presents;
 
+use crate::same::assert_same;
 use block_state::Blocks;
 use chunk_index::{Form, Index, KeptKey, KeptPage, KeyFilter, PagePlace, Present, WrittenGroup};
 use flash_tree::Key;
@@ -129,6 +130,20 @@ fn at(block: u32, page: u32, version: u64) -> KeptPage {
     }
 }
 
+/// Asserts what is present of some keys.
+fn expect_present(rt: &impl Abort, index: &Index, wanted: &[(Key, Present)]) {
+    for (key, present) in wanted {
+        assert_same!(rt; index.present(*key), *present, *key);
+    }
+}
+
+/// Asserts which page is kept of each of some keys.
+fn expect_kept(rt: &impl Abort, index: &Index, wanted: &[(Key, Option<KeptPage>)]) {
+    for (key, kept) in wanted {
+        assert_same!(rt; index.kept(*key), *kept, *key);
+    }
+}
+
 /// Keys of two objects, from the buffer to the flash and away.
 #[test]
 fn a_group_is_settled_copied_and_forgotten(rt: HostRuntime) -> Result<(), Fail> {
@@ -136,38 +151,56 @@ fn a_group_is_settled_copied_and_forgotten(rt: HostRuntime) -> Result<(), Fail> 
     store.buffer(key(5, 0), 0)?;
     store.buffer(key(5, 2), 1)?;
     store.buffer(key(1, 0), 2)?;
-    assert_eq!(&rt; store.index.present(key(5, 2)), Present::InBuffer(1));
-    assert_eq!(&rt; store.index.kept(key(5, 2)), None);
+    expect_present(&rt, &store.index, &[(key(5, 2), Present::InBuffer(1))]);
+    expect_kept(&rt, &store.index, &[(key(5, 2), None)]);
     store.settle(3, 10, 7);
-    assert_eq!(&rt; store.index.kept(key(5, 0)), Some(at(3, 10, 7)));
-    assert_eq!(&rt;
-        store.index.present(key(1, 0)),
-        Present::OnFlash(at(3, 12, 7))
-    );
-    assert_eq!(&rt; store.index.present(key(5, 1)), Present::Absent);
-    assert_eq!(&rt; store.count(3), 3);
+    expect_kept(&rt, &store.index, &[(key(5, 0), Some(at(3, 10, 7)))]);
+    let settled = [
+        (key(1, 0), Present::OnFlash(at(3, 12, 7))),
+        (key(5, 1), Present::Absent),
+    ];
+    expect_present(&rt, &store.index, &settled);
+    assert_same!(&rt; store.count(3), 3);
     store.copy(key(1, 0), PagePlace { block: 4, page: 1 });
-    assert_eq!(&rt; store.index.kept(key(1, 0)), Some(at(4, 1, 7)));
-    assert_eq!(&rt; (store.count(3), store.count(4)), (2, 1));
+    expect_kept(&rt, &store.index, &[(key(1, 0), Some(at(4, 1, 7)))]);
+    assert_same!(&rt; [store.count(3), store.count(4)], [2, 1]);
     store.buffer(key(5, 1), 0)?;
     store.cut(5, 2);
-    assert_eq!(&rt; store.index.present(key(5, 1)), Present::InBuffer(0));
-    assert_eq!(&rt; store.index.present(key(5, 2)), Present::Absent);
-    assert_eq!(&rt; store.index.kept(key(5, 2)), Some(at(3, 11, 7)));
+    let cut = [
+        (key(5, 1), Present::InBuffer(0)),
+        (key(5, 2), Present::Absent),
+    ];
+    expect_present(&rt, &store.index, &cut);
+    expect_kept(&rt, &store.index, &[(key(5, 2), Some(at(3, 11, 7)))]);
     store.forget(1);
     store.settle(6, 7, 8);
-    assert_eq!(&rt; store.index.kept(key(5, 1)), Some(at(6, 7, 8)));
-    assert_eq!(&rt;
-        (store.index.kept(key(5, 2)), store.index.kept(key(1, 0))),
-        (None, None)
-    );
-    assert_eq!(&rt; (store.count(3), store.count(4), store.count(6)), (1, 0, 1));
+    let left = [
+        (key(5, 1), Some(at(6, 7, 8))),
+        (key(5, 2), None),
+        (key(1, 0), None),
+    ];
+    expect_kept(&rt, &store.index, &left);
+    assert_same!(&rt; [store.count(3), store.count(4), store.count(6)], [1, 0, 1]);
     Ok(())
 }
 
 /// A key with its kept page.
 fn kept(key: Key, at: KeptPage) -> Option<KeptKey> {
     Some(KeptKey { key, at })
+}
+
+/// Asserts which kept key is next after each of some keys.
+fn expect_next(rt: &impl Abort, index: &Index, wanted: &[(Option<Key>, Option<KeptKey>)]) {
+    for (after, next) in wanted {
+        assert_same!(rt; index.next_kept(*after), *next, *after);
+    }
+}
+
+/// Asserts which key is the last of so many kept ones.
+fn expect_last(rt: &impl Abort, index: &Index, wanted: &[(u32, Option<Key>)]) {
+    for (count, last) in wanted {
+        assert_same!(rt; index.last_kept(*count), *last, *count);
+    }
 }
 
 /// The kept keys in their order, before and after all but one object's first chunks go.
@@ -179,30 +212,33 @@ fn keys_come_in_order_and_some_stay(rt: HostRuntime) -> Result<(), Fail> {
     store.buffer(key(5, 0), 2)?;
     store.settle(3, 10, 7);
     store.buffer(key(2, 0), 0)?;
-    let first = kept(key(1, 9), at(3, 11, 7));
     let second = kept(key(5, 0), at(3, 12, 7));
-    let third = kept(key(5, 2), at(3, 10, 7));
-    assert_eq!(&rt; store.index.next_kept(None), first);
-    assert_eq!(&rt; store.index.next_kept(Some(key(1, 9))), second);
-    assert_eq!(&rt; store.index.next_kept(Some(key(3, 7))), second);
-    assert_eq!(&rt; store.index.next_kept(Some(key(5, 0))), third);
-    assert_eq!(&rt; store.index.next_kept(Some(key(5, 2))), None);
-    for (count, last) in [
+    let order = [
+        (None, kept(key(1, 9), at(3, 11, 7))),
+        (Some(key(1, 9)), second),
+        (Some(key(3, 7)), second),
+        (Some(key(5, 0)), kept(key(5, 2), at(3, 10, 7))),
+        (Some(key(5, 2)), None),
+    ];
+    expect_next(&rt, &store.index, &order);
+    let last = [
         (0, None),
         (1, Some(key(1, 9))),
         (2, Some(key(5, 0))),
         (9, Some(key(5, 2))),
-    ] {
-        assert_eq!(&rt; store.index.last_kept(count), last);
-    }
+    ];
+    expect_last(&rt, &store.index, &last);
     store.retain(&UpTo { object: 5, last: 1 });
-    assert_eq!(&rt; store.index.next_kept(None), second);
-    assert_eq!(&rt; store.index.next_kept(Some(key(5, 0))), None);
-    assert_eq!(&rt; store.index.present(key(2, 0)), Present::Absent);
-    assert_eq!(&rt; store.count(3), 1);
+    expect_next(
+        &rt,
+        &store.index,
+        &[(None, second), (Some(key(5, 0)), None)],
+    );
+    expect_present(&rt, &store.index, &[(key(2, 0), Present::Absent)]);
+    assert_same!(&rt; store.count(3), 1);
     store.settle(4, 0, 8);
-    assert_eq!(&rt; store.index.kept(key(5, 0)), Some(at(3, 12, 7)));
-    assert_eq!(&rt; store.index.kept(key(2, 0)), None);
+    let left = [(key(5, 0), Some(at(3, 12, 7))), (key(2, 0), None)];
+    expect_kept(&rt, &store.index, &left);
     Ok(())
 }
 
@@ -213,17 +249,17 @@ fn a_refused_preparation_changes_nothing(rt: HostRuntime) -> Result<(), Fail> {
     store.buffer(key(5, 0), 0)?;
     store.settle(3, 10, 7);
     if store.prepare(key(6, 0)).is_err() {
-        assert_eq!(&rt; store.index.kept(key(5, 0)), Some(at(3, 10, 7)));
-        assert_eq!(&rt; store.index.kept(key(6, 0)), None);
-        assert_eq!(&rt; store.index.present(key(6, 0)), Present::Absent);
+        let left = [(key(5, 0), Some(at(3, 10, 7))), (key(6, 0), None)];
+        expect_kept(&rt, &store.index, &left);
+        expect_present(&rt, &store.index, &[(key(6, 0), Present::Absent)]);
         store.prepare(key(6, 0))?;
     }
-    assert_eq!(&rt; store.index.present(key(6, 0)), Present::Absent);
+    expect_present(&rt, &store.index, &[(key(6, 0), Present::Absent)]);
     store.buffer(key(6, 0), 1)?;
-    assert_eq!(&rt; store.index.present(key(6, 0)), Present::InBuffer(1));
-    assert_eq!(&rt;
-        store.index.present(key(5, 0)),
-        Present::OnFlash(at(3, 10, 7))
-    );
+    let present = [
+        (key(6, 0), Present::InBuffer(1)),
+        (key(5, 0), Present::OnFlash(at(3, 10, 7))),
+    ];
+    expect_present(&rt, &store.index, &present);
     Ok(())
 }

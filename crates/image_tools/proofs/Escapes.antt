@@ -1,4 +1,4 @@
--- Host names stand for their names.
+-- Host names spell their names.
 use Rattle.std.proofs.Common.{◌≡◌, ◌≢◌, ◌<◌, ◌≤◌, ◌+◌, ◌*◌, ◌/◌, ◌%◌, ℕ, zero, suc, Bool, true, false, cond, not, ◌&&◌, ◌||◌, eqb, nat_eq, nat_lt, nat_le, List, [], ◌∷◌, ◌++◌, get_or, length, take, All, refl, sym, ap, ◌∙◌, arith, eqb-true, ne_eqb, leb-true, add-one, append_assoc}
 use Rattle.std.proofs.lemmas.Str.{digit_value-digit_char}
 use Rattle.std.proofs.lemmas.Bool.{eqb-false}
@@ -16,7 +16,7 @@ use Rattle.image_tools.specs.declared.names.Spelling.TheVariants as spellings
 pub none : (P : ℕ → Type 0) → All P []
 none P k d lt = absurd (omega arith)
 
--- a byte that is no backslash stands for itself
+-- a byte that is no backslash spells itself
 reads_plain : (b : ℕ) (rest : List ℕ) → b ≢ backslash → unescaped (b ∷ rest) ≡ b ∷ unescaped rest
 unfolding unescaped
 reads_plain b [] ne = refl

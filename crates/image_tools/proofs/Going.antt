@@ -6,7 +6,7 @@ use Rattle.posix_profile.specs.declared.command.Stamped.{Stamped}
 use Rattle.posix_profile.specs.declared.reply.Reply.{Reply}
 use Rattle.plain_tree.specs.Reading.{IsToldBy, Tells}
 use Rattle.volume_terms.specs.Sizes.{Sizes}
-use Rattle.image_tools.specs.Telling.{GoesOn, Leaves}
+use Rattle.image_tools.specs.Leaving.{GoesOn, Leaves}
 
 module _ {V : Type 0} (shows : V → Sizes → Bool → State → Type 0) where
   -- a reply that is no refusal leaves a state
@@ -23,7 +23,7 @@ module _ {V : Type 0} (shows : V → Sizes → Bool → State → Type 0) where
   goes_ok a b c (Ok x) first second = goes_then a b c first second
   goes_ok a b c (Err e) first second = second
 
-  -- what is told of the state that is left
+  -- what is read of the state that is left
   pub leaves : (a b c : V) (P : Objects → Type 0) → GoesOn shows a b → Tells shows b c P → Leaves shows a c P
   leaves a b c P goes told = λ z read_only s shown. let t = goes.shown z read_only s shown in let u = told z read_only t.0 t.1 in (t.0, u.0, u.1)
 

@@ -38,7 +38,7 @@ entries_of folder = list_map entry_of folder.entries.items
 abbrev pub first_path : List Item → ℕ → Option (List ℕ)
 first_path items number = option_map (λ item. item.path) (find (λ item. nat_eq item.info.object number) items)
 
--- what an object holds of which this is told: a file with an earlier path is a further name of it
+-- what an entry holds, by what its object holds: a file with an earlier path is a further name of it
 abbrev pub held_by : Told → Option (List ℕ) → Held
 held_by (OfFile bytes) None = FileOf bytes
 held_by (OfFile bytes) (Some path) = LinkTo path

@@ -1,5 +1,5 @@
 -- Names of a volume as names of a host.
-use Rattle.std.specs.Prelude.{◌≡◌, ◌≢◌, ◌≤◌, ℕ, ◌+◌, ◌*◌, ◌/◌, ◌%◌, ◌==◌, ◌&&◌, ◌||◌, false, not, nat_le, Bool, List, [], ◌∷◌, ◌++◌, map as list_map, flat_map, All, if◌then◌else◌}
+use Rattle.std.specs.Prelude.{◌≡◌, ◌≢◌, ◌≤◌, ℕ, ◌+◌, ◌*◌, ◌/◌, ◌%◌, ◌==◌, ◌&&◌, ◌||◌, false, not, nat_le, nat_lt, Bool, List, [], ◌∷◌, ◌++◌, length, filter, map as list_map, flat_map, All, if◌then◌else◌}
 use Rattle.std.specs.Char.{digit_value}
 use Rattle.std.specs.Fmt.{digit_glyph}
 use Rattle.image_tools.specs.declared.names.Spelling.{Spelling}
@@ -9,7 +9,7 @@ use Rattle.image_tools.specs.declared.names.Spelling.TheVariants as spellings
 abbrev pub backslash : ℕ
 backslash = 0x5c
 
--- what a host name stands for: `\xhh` is the byte of the two digits, `\e` no byte, and another byte itself
+-- a host name with its escapes undone: `\xhh` is the byte of the two digits, `\e` no byte, and another byte itself
 unfoldable pub unescaped : List ℕ → List ℕ
 unescaped [] = []
 unescaped (a ∷ []) = a ∷ []
@@ -47,6 +47,10 @@ is_plain spellings.Ascii b = is_graphic b
 -- a byte as a host name has it
 abbrev pub spelled_byte : Spelling → ℕ → List ℕ
 spelled_byte spelling b = if is_plain spelling b then b ∷ [] else escape b
+
+-- those that are not empty
+abbrev pub some_of : List (List ℕ) → List (List ℕ)
+some_of pieces = filter (λ piece. nat_lt 0 (length piece)) pieces
 
 -- a host name of each of these parts in turn is added to the text, each after a slash
 pub record AddsHosts (names : List (List ℕ)) (old new : List ℕ) : Type 0 where

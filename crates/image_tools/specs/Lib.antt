@@ -1,6 +1,6 @@
 pub mod FirstNames
 pub mod Folders
 pub mod HostNames
+pub mod Leaving
 pub mod Refusing
-pub mod Telling
 pub mod laws

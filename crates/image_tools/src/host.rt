@@ -1,8 +1,8 @@
 // Paths of a volume as paths of a host.
-ghost use Rattle.std.specs.Prelude.{◌≡◌, ◌++◌, ◌∷◌, IfOk, OnOk, filter, length, nat_lt, map as list_map};
+ghost use Rattle.std.specs.Prelude.{◌≡◌, ◌++◌, ◌∷◌, IfOk, OnOk, map as list_map};
 ghost use Rattle.std.specs.String.{string_bytes};
 ghost use Rattle.posix_profile.specs.Paths.{parts};
-ghost use Rattle.image_tools.specs.HostNames.{AddsHosts, IsHostName, unescaped};
+ghost use Rattle.image_tools.specs.HostNames.{AddsHosts, IsHostName, some_of, unescaped};
 
 use crate::names::host_name;
 use byte_pieces::pieces_of;
@@ -22,7 +22,7 @@ fn push_part(alloc: Global, text: &mut String, part: &[u8]) -> Result<String, Al
 
 /// Adds the host names of the pieces that are not empty, each after a slash.
 fn push_parts(alloc: Global, text: &mut String, pieces: &[&[u8]]) -> Result<(), AllocError>
-    ensures { OnOk result (AddsHosts (filter (λ part. nat_lt 0 (length part)) (list_map (λ piece. piece.now) pieces.now)) (string_bytes text.old) (string_bytes text.new)) }
+    ensures { OnOk result (AddsHosts (some_of (list_map (λ piece. piece.now) pieces.now)) (string_bytes text.old) (string_bytes text.new)) }
 {
     for piece in pieces {
         if 0 < piece.len() {

@@ -2,7 +2,7 @@
 #![tactic(auto, using(crate::proofs::Going::goes_then))]
 
 ghost use Rattle.std.specs.Prelude.{OnOk};
-ghost use Rattle.image_tools.specs.Telling.{GoesOn};
+ghost use Rattle.image_tools.specs.Leaving.{GoesOn};
 
 use crate::folder::{FolderEntry, Node};
 use command_answers::Answers;
@@ -17,7 +17,7 @@ const PART: usize = 2048;
 const PASSING: &[u8] = b"/a";
 
 /// The reply to a command that is not refused.
-fn tell<V: Answers>(volume: &mut V, moment: u64, command: Command) -> Result<Reply, TreeFault>
+fn asked<V: Answers>(volume: &mut V, moment: u64, command: Command) -> Result<Reply, TreeFault>
     ensures { OnOk result (GoesOn V.shows volume.old volume.new) }
 {
     let reply = ask(volume, moment, command)?;
@@ -28,7 +28,7 @@ fn tell<V: Answers>(volume: &mut V, moment: u64, command: Command) -> Result<Rep
 fn change<V: Answers>(volume: &mut V, moment: u64, command: Command) -> Result<(), TreeFault>
     ensures { OnOk result (GoesOn V.shows volume.old volume.new) }
 {
-    let _done = tell(volume, moment, command)?;
+    let _done = asked(volume, moment, command)?;
     Ok(())
 }
 
@@ -75,7 +75,7 @@ fn open_new<V: Answers>(
         trunc: false,
         append: false,
     };
-    let reply = tell(volume, moment, Command::Open { path, flags })?;
+    let reply = asked(volume, moment, Command::Open { path, flags })?;
     let fd = descriptor_of(reply)?;
     Ok(fd)
 }
@@ -91,7 +91,7 @@ fn write_part<V: Answers>(
     ensures { OnOk result (GoesOn V.shows volume.old volume.new) }
 {
     let bytes = Bytes::new(part.to_vec(alloc)?);
-    let reply = tell(volume, moment, Command::Write { fd, bytes })?;
+    let reply = asked(volume, moment, Command::Write { fd, bytes })?;
     wrote_all(reply, part.len())?;
     Ok(())
 }
@@ -116,18 +116,20 @@ fn write_bytes<V: Answers>(
     Ok(())
 }
 
-/// Makes a file: its name at the moment of its directory, its bytes at its own.
-fn make_file<V: Answers>(
+/// Makes a file that is not there: its name at the moment `above`, which its directory gets, its bytes at its own. `Refused` with
+/// ENOSPC where there is no room for all of them. A fault may leave a part of the file, and its descriptor open.
+pub fn make_file<V: Answers>(
     alloc: Global,
     volume: &mut V,
     above: u64,
-    entry: &FolderEntry,
+    path: &[u8],
+    moment: u64,
     bytes: &[u8],
 ) -> Result<(), TreeFault>
     ensures { OnOk result (GoesOn V.shows volume.old volume.new) }
 {
-    let fd = open_new(alloc, volume, above, &entry.path)?;
-    write_bytes(alloc, volume, entry.moment, fd, bytes)?;
+    let fd = open_new(alloc, volume, above, path)?;
+    write_bytes(alloc, volume, moment, fd, bytes)?;
     change(volume, above, Command::Close { fd })?;
     Ok(())
 }
@@ -178,7 +180,7 @@ fn make_entry<V: Answers>(
     ensures { OnOk result (GoesOn V.shows volume.old volume.new) }
 {
     match &entry.node {
-        Node::File(bytes) => make_file(alloc, volume, above, entry, bytes),
+        Node::File(bytes) => make_file(alloc, volume, above, &entry.path, entry.moment, bytes),
         Node::Directory(names) => make_directory(alloc, volume, above, entry, names.is_empty()),
         Node::Link(first) => {
             let old = path_of(alloc, first)?;

@@ -104,7 +104,7 @@ fn spelled_text(alloc: Global, name: &[u8]) -> Result<String, AllocError>
 
 /// The name of a file on a host for a name in a volume, which may be of any bytes. What is not printed, a slash and a backslash
 /// are `\xhh`; letters beyond ASCII stay where the name is text. `.` is `\x2e`, `..` is `\x2e\x2e`, and no bytes are `\e`.
-/// What the escapes of a host name stand for is the name, so two names never have one host name.
+/// With its escapes undone a host name is the name again, so two names never have one host name.
 pub fn host_name(alloc: Global, name: &[u8]) -> Result<String, AllocError>
     ensures host { IfOk result (λ host. IsHostName (string_bytes host)) }
     ensures reads_back { IfOk result (λ host. unescaped (string_bytes host) ≡ name.now) }

@@ -1,7 +1,7 @@
 // A tree, put into a volume.
 ghost use Rattle.std.specs.Prelude.{OnOk};
 ghost use Rattle.image_tools.specs.Folders.{IsFolder, entries_of};
-ghost use Rattle.image_tools.specs.Telling.{Leaves};
+ghost use Rattle.image_tools.specs.Leaving.{Leaves};
 
 use crate::alike::same_entries;
 use crate::folder::Folder;

@@ -1,4 +1,4 @@
-use Rattle.image_tools.specs.Telling.{GoesOn}
+use Rattle.image_tools.specs.Leaving.{GoesOn}
 use Rattle.image_tools.proofs.making.make_entries.Given as goal
 
 abbrev pub invariant-loop-entry : goal.invariant-loop-entry

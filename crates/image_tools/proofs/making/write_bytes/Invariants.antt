@@ -1,4 +1,4 @@
-use Rattle.image_tools.specs.Telling.{GoesOn}
+use Rattle.image_tools.specs.Leaving.{GoesOn}
 use Rattle.image_tools.proofs.making.write_bytes.Given as goal
 
 abbrev pub invariant-loop-part : goal.invariant-loop-part

@@ -3,7 +3,7 @@ use Rattle.image_tools.specs.HostNames.{IsSafe, unescaped}
 use Rattle.image_tools.specs.declared.names.Spelling.TheVariants as spellings
 use Rattle.image_tools.proofs.names.spelled.Given as goal
 
--- the host's bytes stand for the first of the name
+-- the host's bytes spell the first of the name
 abbrev pub invariant-loop-byte : goal.invariant-loop-byte
 invariant-loop-byte l = record {
   safe : All IsSafe l.host.items;

@@ -1,0 +1,134 @@
+// Folders that are packed and unpacked.
+use crate::rows::{Row, Sample, folder_of};
+use image_tools::{Refusal, RefusalCause, TreeFault, pack, refusals, unpack};
+use plain_volume::PlainVolume;
+use posix_profile::Errno;
+use std::alloc::{AllocError, Global};
+use std::test::Fail;
+use volume_terms::VolumeSizes;
+
+/// Files of no byte, of one, of a page less one, of a page and of one more, and of three writes; directories in directories, one
+/// of them without names; and a second and a third name of a file. Each moment differs.
+const WHOLE: &[Row] = &[
+    (
+        "/",
+        90,
+        Sample::Directory(&["a", "b", "empty", "more", "one"]),
+    ),
+    ("/a", 80, Sample::Directory(&["b", "less", "page"])),
+    ("/b", 3, Sample::File(0)),
+    ("/empty", 5, Sample::Directory(&[])),
+    ("/more", 6, Sample::File(513)),
+    ("/one", 7, Sample::File(1)),
+    ("/a/b", 60, Sample::Directory(&["long", "other"])),
+    ("/a/less", 8, Sample::File(511)),
+    ("/a/page", 9, Sample::File(512)),
+    ("/a/b/long", 10, Sample::File(4097)),
+    ("/a/b/other", 6, Sample::Link("/more")),
+];
+
+const NOTHING: &[Row] = &[("/", 7, Sample::Directory(&[]))];
+
+const TOO_MUCH: &[Row] = &[
+    ("/", 1, Sample::Directory(&["a"])),
+    ("/a", 2, Sample::File(80000)),
+];
+
+const ONE: &[Row] = &[
+    ("/", 1, Sample::Directory(&["one"])),
+    ("/one", 2, Sample::File(1)),
+];
+
+const OTHER: &[Row] = &[
+    ("/", 1, Sample::Directory(&["other"])),
+    ("/other", 2, Sample::File(1)),
+];
+
+/// Eight blocks of 32 pages of 512 bytes, one of them spare: room for 144 pages.
+fn new_volume(alloc: Global) -> Result<PlainVolume, AllocError> {
+    PlainVolume::new(alloc, VolumeSizes::new(512, 32, 8, 1), false)
+}
+
+#[test]
+fn a_folder_that_was_packed_is_unpacked(rt: HostRuntime) -> Result<(), Fail> {
+    let alloc = rt.alloc();
+    for rows in [WHOLE, NOTHING] {
+        let folder = folder_of(alloc, rows)?;
+        let mut volume = new_volume(alloc)?;
+        pack(alloc, &folder, &mut volume)?;
+        let found = unpack(alloc, &mut volume)?;
+        let told = format!(in alloc; "{found:?}")?;
+        let wanted = format!(in alloc; "{folder:?}")?;
+        assert_eq!(&rt; told, wanted);
+    }
+    Ok(())
+}
+
+#[test]
+fn a_volume_without_room_or_with_names_refuses(rt: HostRuntime) -> Result<(), Fail> {
+    let alloc = rt.alloc();
+    let much = folder_of(alloc, TOO_MUCH)?;
+    let mut volume = new_volume(alloc)?;
+    assert_eq!(&rt;
+        pack(alloc, &much, &mut volume),
+        Err(TreeFault::Refused(Errno::ENOSPC))
+    );
+    let one = folder_of(alloc, ONE)?;
+    let other = folder_of(alloc, OTHER)?;
+    let mut volume = new_volume(alloc)?;
+    assert_eq!(&rt; pack(alloc, &one, &mut volume), Ok(()));
+    assert_eq!(&rt;
+        pack(alloc, &one, &mut volume),
+        Err(TreeFault::Refused(Errno::EEXIST))
+    );
+    assert_eq!(&rt; pack(alloc, &other, &mut volume), Err(TreeFault::Unlike));
+    Ok(())
+}
+
+/// The cause and the path of each refusal, in lines.
+fn lines_of(alloc: Global, refused: &[Refusal]) -> Result<String, AllocError> {
+    let mut text = String::new(alloc);
+    for refusal in refused {
+        let cause = match refusal.cause {
+            RefusalCause::LongPath => "path ",
+            RefusalCause::BadName => "name ",
+            RefusalCause::LongFile => "file ",
+        };
+        text.push_str(cause)?;
+        let path = String::from_utf8_lossy(alloc, &refusal.path)?;
+        text.push_str(path.as_str())?;
+        text.push('\n')?;
+    }
+    Ok(text)
+}
+
+const REFUSED: &[Row] = &[
+    ("/", 1, Sample::Directory(&["a", "b", "c", "d"])),
+    ("/a", 1, Sample::Directory(&["."])),
+    ("/b", 1, Sample::Directory(&["x", ".."])),
+    ("/c", 1, Sample::Directory(&["a/b"])),
+    ("/d", 1, Sample::Directory(&["a\0"])),
+    ("/e", 1, Sample::Directory(&[""])),
+    ("/f", 1, Sample::File(101)),
+    ("/g", 1, Sample::File(100)),
+];
+
+#[test]
+fn what_no_volume_can_have_is_listed(rt: HostRuntime) -> Result<(), Fail> {
+    let alloc = rt.alloc();
+    let mut folder = folder_of(alloc, REFUSED)?;
+    for entry in folder.entries.iter_mut().skip(7) {
+        entry.path.resize(4096, b'h')?;
+    }
+    let refused = refusals(alloc, &folder, 100)?;
+    assert_eq!(&rt; refused.len(), 7);
+    let told = lines_of(alloc, &refused[..6])?;
+    assert_eq!(&rt;
+        told.as_str(),
+        "name /a\nname /b\nname /c\nname /d\nname /e\nfile /f\n"
+    );
+    assert_eq!(&rt; refused[6].cause, RefusalCause::LongPath);
+    let whole = folder_of(alloc, WHOLE)?;
+    assert!(&rt; refusals(alloc, &whole, 4097)?.is_empty());
+    Ok(())
+}

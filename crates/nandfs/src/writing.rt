@@ -1,0 +1,114 @@
+// The subcommands that make or change an image.
+
+use crate::files::{now, open_new, open_to_change, word};
+use clap::ArgMatches;
+use image_tools::{Folder, pack, refusals};
+use nand_image::ImageNand;
+use nandfs_program::{
+    ImageSizes, Scan, ToolFault, copy_in, end, greatest_file, least_blocks, link, make_directory,
+    move_to, new_volume, read_file, remove, scan_folder, units_of, volume_to_change,
+};
+use posix_calls::Volume;
+use std::fs::{self, File};
+
+/// The sizes that the options say.
+fn sizes_in(matches: &ArgMatches<'_>) -> ImageSizes {
+    ImageSizes {
+        data: matches.get_one("data").unwrap_or(2048),
+        pages: matches.get_one("pages").unwrap_or(64),
+        blocks: matches.get_one("blocks").unwrap_or(64),
+        reserve: matches.get_one("reserve").unwrap_or(2),
+    }
+}
+
+/// Makes an image with an empty volume.
+pub(crate) fn make_image(rt: &HostRuntime, matches: &ArgMatches<'_>) -> Result<(), ToolFault> {
+    let file = open_new(rt, word(matches, "IMAGE"))?;
+    let volume = new_volume(rt.alloc(), file, sizes_in(matches))?;
+    end(volume)
+}
+
+/// Lists what no volume can have, which is a fault unless it is to be left out.
+fn report_others(
+    rt: &HostRuntime,
+    scan: &Scan,
+    greatest: u64,
+    skip: bool,
+) -> Result<(), ToolFault> {
+    for other in &scan.others {
+        let path = other.as_str();
+        eprintln!(rt; "left out: {path}")?;
+    }
+    let refused = refusals(rt.alloc(), &scan.folder, greatest)?;
+    if !refused.is_empty() || (!skip && !scan.others.is_empty()) {
+        return Err(ToolFault::Others);
+    }
+    Ok(())
+}
+
+/// Makes an image of a folder.
+fn fill_image(
+    rt: &HostRuntime,
+    folder: &Folder,
+    image: &str,
+    sizes: ImageSizes,
+) -> Result<(), ToolFault> {
+    let file = open_new(rt, image)?;
+    let mut volume = new_volume(rt.alloc(), file, sizes)?;
+    pack(rt.alloc(), folder, &mut volume)?;
+    end(volume)
+}
+
+/// Makes an image of a folder of the host, or leaves no image.
+pub(crate) fn pack_folder(rt: &HostRuntime, matches: &ArgMatches<'_>) -> Result<(), ToolFault> {
+    let mut sizes = sizes_in(matches);
+    let greatest = greatest_file(sizes)?;
+    let scan = scan_folder(rt, word(matches, "FOLDER"), greatest)?;
+    report_others(rt, &scan, greatest, matches.get_flag("skip-others"))?;
+    if matches.get_flag("size-from-content") {
+        sizes.blocks = least_blocks(units_of(&scan.folder, sizes.data), sizes)?;
+    }
+    let image = word(matches, "IMAGE");
+    let filled = fill_image(rt, &scan.folder, image, sizes);
+    if filled.is_err() {
+        let _ = fs::remove_file(rt, image);
+    }
+    filled
+}
+
+/// Does a change of a volume.
+fn change(
+    rt: &HostRuntime,
+    name: &str,
+    matches: &ArgMatches<'_>,
+    volume: &mut Volume<ImageNand<File>>,
+) -> Result<(), ToolFault> {
+    let alloc = rt.alloc();
+    let moment = now(rt);
+    let path = word(matches, "PATH").as_bytes();
+    let old = word(matches, "OLD").as_bytes();
+    let new = word(matches, "NEW").as_bytes();
+    match name {
+        "put" => {
+            let file = read_file(rt, word(matches, "FILE"))?;
+            copy_in(alloc, volume, moment, path, &file)
+        }
+        "mkdir" => make_directory(alloc, volume, moment, path),
+        "rm" => remove(alloc, volume, moment, path, matches.get_flag("recursive")),
+        "mv" => move_to(alloc, volume, moment, old, new),
+        _ => link(alloc, volume, moment, old, new),
+    }
+}
+
+/// Changes the image that is named.
+pub(crate) fn change_image(
+    rt: &HostRuntime,
+    name: &str,
+    matches: &ArgMatches<'_>,
+) -> Result<(), ToolFault> {
+    let file = open_to_change(rt, word(matches, "IMAGE"))?;
+    let mut volume = volume_to_change(rt.alloc(), file)?;
+    let changed = change(rt, name, matches, &mut volume);
+    end(volume)?;
+    changed
+}

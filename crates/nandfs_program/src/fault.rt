@@ -1,0 +1,104 @@
+// Why a subcommand ended otherwise than well.
+ghost use Rattle.std.specs.Prelude.{◌≡◌};
+ghost use Rattle.nandfs_program.specs.Statuses.{mount_status, status_of};
+ghost use Rattle.nandfs_program.specs.declared.fault.ToolFault.TheVariants as faults;
+
+use nand_image::ImageFault;
+use plain_tree::TreeFault;
+use posix_calls::{Errno, FormatFault, MountFault};
+use std::alloc::{AllocError, AllocFailed};
+use std::io;
+use thiserror::Error;
+
+/// Why a subcommand ended otherwise than well.
+#[derive(Clone, Copy, Debug, PartialEq, Eq, Error)]
+pub enum ToolFault {
+    #[error("memory was refused: free some, then run the program again")]
+    NoMemory,
+    #[error("no device has these sizes: `--help` has the limits of a page, a block and a device")]
+    BadGeometry,
+    /// Not even the greatest number of blocks has the room.
+    #[error("no image is large enough for the folder: take larger blocks or pages")]
+    TooMuch,
+    /// The image could not be opened or made.
+    #[error(transparent)]
+    Image(ImageFault),
+    /// The device of a new volume could not be formatted.
+    #[error(transparent)]
+    Format(FormatFault),
+    /// The volume could not be mounted.
+    #[error(transparent)]
+    Mount(MountFault),
+    #[error("the volume could not be unmounted: what was changed may be missing")]
+    Unmount,
+    /// A command was refused.
+    #[error("the volume refused it: {0:?}")]
+    Refused(Errno),
+    /// The volume does not have what was put into it.
+    #[error("the volume does not have what was put into it")]
+    Unlike,
+    #[error("the folder has what no volume can have: see above; `--skip-others` leaves it out")]
+    Others,
+    #[error("the folder is not empty")]
+    NotEmpty,
+    #[error("a file or a folder of the host could not be read or written")]
+    Host,
+    #[error("standard output could not be written: check where it goes")]
+    Output,
+}
+
+/// The exit status after a mount that failed: 3 where the image has no volume that this program reads.
+fn mount_status(fault: MountFault) -> u8
+    ensures { result ≡ mount_status fault }
+{
+    match fault {
+        MountFault::NotAVolume | MountFault::Newer(_) | MountFault::Damaged => 3,
+        MountFault::Gone | MountFault::NoMemory => 2,
+    }
+}
+
+impl ToolFault {
+    /// The exit status: 3 for an image that has no volume that this program reads, else 2.
+    pub fn status(self) -> u8
+        ensures { result ≡ status_of self }
+    {
+        match self {
+            ToolFault::Mount(fault) => mount_status(fault),
+            _ => 2,
+        }
+    }
+}
+
+impl From<AllocError> for ToolFault {
+    fn from(_error: AllocError) -> ToolFault {
+        ToolFault::NoMemory
+    }
+}
+
+impl<T: Drop> From<AllocFailed<T>> for ToolFault {
+    fn from(_error: AllocFailed<T>) -> ToolFault {
+        ToolFault::NoMemory
+    }
+}
+
+impl From<ImageFault> for ToolFault {
+    fn from(fault: ImageFault) -> ToolFault {
+        ToolFault::Image(fault)
+    }
+}
+
+impl From<TreeFault> for ToolFault {
+    fn from(fault: TreeFault) -> ToolFault {
+        match fault {
+            TreeFault::NoMemory => ToolFault::NoMemory,
+            TreeFault::Refused(error) => ToolFault::Refused(error),
+            TreeFault::Unlike => ToolFault::Unlike,
+        }
+    }
+}
+
+impl From<io::Error> for ToolFault {
+    fn from(_error: io::Error) -> ToolFault {
+        ToolFault::Host
+    }
+}

@@ -23,11 +23,7 @@ fn no_error(reply: Reply) -> Result<Reply, TreeFault>
 }
 
 /// The reply to a command, where it is not refused.
-pub fn ask<V: Answers>(
-    volume: &mut V,
-    moment: u64,
-    command: Command,
-) -> Result<Reply, TreeFault>
+pub fn ask<V: Answers>(volume: &mut V, moment: u64, command: Command) -> Result<Reply, TreeFault>
     ensures { IfOk result (IsToldBy V.shows volume.old (record { moment = moment; command = command }) volume.new) }
 {
     let stamped = Stamped { moment, command };

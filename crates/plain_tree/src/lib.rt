@@ -1,4 +1,4 @@
-//! A tree in memory for tests: a slow reference, read from a volume and compared with one by its commands.
+//! A tree in memory: read from a volume by its commands, compared with one, and a slow reference for tests.
 #![tactic(auto)]
 
 mod asking;

@@ -98,7 +98,11 @@ pub fn info_at<V: Answers>(alloc: Global, volume: &mut V, path: &[u8]) -> Result
 }
 
 /// The names of the directory at a path.
-pub fn names_at<V: Answers>(alloc: Global, volume: &mut V, path: &[u8]) -> Result<Vec<Bytes>, TreeFault>
+pub fn names_at<V: Answers>(
+    alloc: Global,
+    volume: &mut V,
+    path: &[u8],
+) -> Result<Vec<Bytes>, TreeFault>
     ensures { IfOk result (λ names. Tells V.shows volume.old volume.new (λ objects. AreNames objects path.now names.items)) }
 {
     let path = path_of(alloc, path)?;
@@ -147,7 +151,11 @@ fn close<V: Answers>(volume: &mut V, fd: u32) -> Result<(), TreeFault>
 }
 
 /// The bytes of the file at a path. Its descriptor is closed again.
-pub fn bytes_at<V: Answers>(alloc: Global, volume: &mut V, path: &[u8]) -> Result<Vec<u8>, TreeFault>
+pub fn bytes_at<V: Answers>(
+    alloc: Global,
+    volume: &mut V,
+    path: &[u8],
+) -> Result<Vec<u8>, TreeFault>
     ensures { IfOk result (λ bytes. Tells V.shows volume.old volume.new (λ objects. AreBytesAt objects path.now bytes.items)) }
 {
     let fd = open_to_read(alloc, volume, path)?;

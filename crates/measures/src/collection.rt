@@ -1,0 +1,109 @@
+// Collects a block of a flash in memory, of 64 blocks of 64 pages of 2,048 bytes each.
+//
+// Each argument is a number of pages that are kept in the block. Where `time` goes before, the times are printed.
+
+mod full;
+
+use crate::arguments::number;
+use crate::collection::full::{PAGES, SPARE, full_flash};
+use crate::usage::nanoseconds_since;
+use anyhow::{Result, anyhow};
+use collector::make_room;
+use nand_model::MemNand;
+use std::alloc::Global;
+use std::time::CpuClock;
+use test_log::mount_log;
+
+/// The pages for which room is made.
+const COUNT: u32 = 8;
+
+/// How often a collection is made where it is timed.
+const ROUNDS: u32 = 100;
+
+/// What a collection did.
+#[derive(Clone, Copy)]
+struct Report {
+    reads: u64,
+    programs: u64,
+    erases: u64,
+    nanoseconds: u128,
+}
+
+/// Mounts a copy of a flash and collects one of its blocks. No block is marked, so what was changed and not programmed
+/// was erased.
+fn collected<R: CpuClock>(rt: &R, alloc: Global, flash: &MemNand) -> Result<Report> {
+    let mut nand = flash.copy()?;
+    let mut log = match mount_log(alloc, &mut nand, SPARE) {
+        Ok(log) => log,
+        Err(fault) => return Err(anyhow!("no mount: {fault:?}")),
+    };
+    let (calls, changes) = (nand.calls(), nand.changes());
+    let start = rt.thread_cpu_time()?;
+    let made = make_room(
+        &mut nand,
+        &mut log.blocks,
+        &mut log.index,
+        &mut log.room,
+        COUNT,
+        SPARE,
+    );
+    let nanoseconds = nanoseconds_since(rt, start)?;
+    if let Err(fault) = made {
+        return Err(anyhow!("no room: {fault:?}"));
+    }
+    let changed = nand.changes().saturating_sub(changes);
+    let programs = PAGES.saturating_sub(log.blocks.open_room()) as u64;
+    Ok(Report {
+        reads: nand.calls().saturating_sub(calls).saturating_sub(changed),
+        programs,
+        erases: changed.saturating_sub(programs),
+        nanoseconds,
+    })
+}
+
+/// The mean time of many collections on the same flash, in nanoseconds.
+fn mean_time<R: CpuClock>(rt: &R, alloc: Global, flash: &MemNand) -> Result<u128> {
+    let mut sum = 0u128;
+    for _round in 0..ROUNDS {
+        sum = sum.saturating_add(collected(rt, alloc, flash)?.nanoseconds);
+    }
+    Ok(sum / ROUNDS as u128)
+}
+
+/// Measures a collection of a block that keeps so many pages.
+fn measure<R: CpuClock + Print + Eprint>(
+    rt: &R,
+    alloc: Global,
+    kept: u32,
+    timed: bool,
+) -> Result<()> {
+    let flash = full_flash(alloc, kept)?;
+    let report = collected(rt, alloc, &flash)?;
+    println!(rt;
+        "{kept} kept pages: {} reads, {} programs, {} erases",
+        report.reads, report.programs, report.erases
+    )?;
+    if timed {
+        let time = mean_time(rt, alloc, &flash)?;
+        eprintln!(rt; "{kept} kept pages: {time} nanoseconds")?;
+    }
+    Ok(())
+}
+
+/// Measures what the arguments say.
+pub(crate) fn run<R: CpuClock + Print + Eprint>(
+    rt: &R,
+    alloc: Global,
+    words: &[&str],
+) -> Result<()> {
+    let mut timed = false;
+    for place in 0..words.len() {
+        if words[place] == "time" {
+            timed = true;
+        } else {
+            let kept = number(words, place, "the number of kept pages")?;
+            measure(rt, alloc, kept, timed)?;
+        }
+    }
+    Ok(())
+}

@@ -1,0 +1,97 @@
+// A device whose calls are counted by their kind.
+ghost use Rattle.std.specs.Prelude.{◌≡◌, ◌<◌, true, false, length, Some};
+ghost use Rattle.nand_model.specs.Calls.{Device, Reads, ReadTells, Fills, bytes_of, tag_of, Programs, Erases, Marks};
+
+use crate::counted_nand::counts::Counts;
+use nand_model::{EraseFault, Geometry, Gone, Nand, PageKind, ProgramFault};
+
+/// A device, and how many of its calls were made.
+#[derive(Drop)]
+pub struct CountedNand<N: Nand> {
+    inner: N,
+    counts: Counts,
+}
+
+impl<N: Nand> CountedNand<N> {
+    ghost use Rattle.measures.specs.Counted.{counts_of, none};
+
+    /// Nothing is counted yet.
+    pub fn new(inner: N) -> CountedNand<N>
+        ensures state { ⟦<CountedNand<N> as Nand>⟧.state result ≡ N.state inner }
+        ensures counts { counts_of result ≡ none }
+    {
+        CountedNand {
+            inner,
+            counts: Counts {
+                reads: 0,
+                tags: 0,
+                programs: 0,
+                erases: 0,
+                marks: 0,
+            },
+        }
+    }
+
+    /// The calls since it was made.
+    pub fn counts(&self) -> Counts
+        ensures { result ≡ counts_of self.now }
+    {
+        self.counts
+    }
+}
+
+impl<N: Nand> Nand for CountedNand<N> {
+    ghost state = { λ d. N.state d.inner };
+
+    ghost clean = { λ d honest. N.clean d.inner honest };
+
+    ghost within = { λ d. N.within d.inner };
+
+    ghost sized = { λ d honest. N.sized d.inner honest };
+
+    fn geometry(&self) -> Geometry {
+        self.inner.geometry()
+    }
+
+    fn is_bad(&self, block: u32) -> bool {
+        self.inner.is_bad(block)
+    }
+
+    fn read_tag(&mut self, block: u32, page: u32, tag: &mut [u8; 48]) -> Result<PageKind, Gone> {
+        self.counts.reads = self.counts.reads.saturating_add(1);
+        self.counts.tags = self.counts.tags.saturating_add(1);
+        self.inner.read_tag(block, page, tag)
+    }
+
+    fn read_page(
+        &mut self,
+        block: u32,
+        page: u32,
+        bytes: &mut [u8],
+        tag: &mut [u8; 48],
+    ) -> Result<PageKind, Gone> {
+        self.counts.reads = self.counts.reads.saturating_add(1);
+        self.inner.read_page(block, page, bytes, tag)
+    }
+
+    fn program(
+        &mut self,
+        block: u32,
+        page: u32,
+        bytes: &[u8],
+        tag: &[u8; 48],
+    ) -> Result<(), ProgramFault> {
+        self.counts.programs = self.counts.programs.saturating_add(1);
+        self.inner.program(block, page, bytes, tag)
+    }
+
+    fn erase(&mut self, block: u32) -> Result<(), EraseFault> {
+        self.counts.erases = self.counts.erases.saturating_add(1);
+        self.inner.erase(block)
+    }
+
+    fn mark_bad(&mut self, block: u32) -> Result<(), Gone> {
+        self.counts.marks = self.counts.marks.saturating_add(1);
+        self.inner.mark_bad(block)
+    }
+}

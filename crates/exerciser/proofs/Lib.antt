@@ -1,4 +1,5 @@
-pub mod Drawing
+mod Words
+pub mod Seeds
 pub mod Sessions
 pub mod Covering
 pub mod Following

@@ -7,7 +7,7 @@ use Rattle.powercut.specs.Sessions.{IsEnded}
 use Rattle.powercut.specs.declared.session.Session.{Session}
 use Rattle.powercut.specs.declared.session.SessionEnd.{SessionEnd}
 use Rattle.exerciser.specs.Causes.{CountsCalls}
-use Rattle.cut_draws.specs.Draws.{answers, operation_of, fate_of, next_words}
+use Rattle.exerciser.specs.Words.{answers, operation_of, fate_of, next_words}
 use Rattle.rand_core.specs.Pcg32Seed.{pcg32_seed}
 use Rattle.rand_core.specs.Stream.{Stream, next_u64}
 use Rattle.rand_pcg.specs.Pcg.{pcg64_of_seed}

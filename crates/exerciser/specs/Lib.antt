@@ -1,5 +1,6 @@
 pub mod Faults
 pub mod Causes
+pub mod Words
 pub mod Draws
 pub mod Lines
 pub mod Keeping

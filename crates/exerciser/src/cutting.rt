@@ -2,7 +2,7 @@
 ghost use Rattle.std.specs.Prelude.{◌≡◌, ◌≤◌, ℕ, Some, IfOk, IfErr, OnOk};
 ghost use Rattle.rand_core.specs.Stream.{next_u64};
 ghost use Rattle.nand_model.specs.MemoryState.{device};
-ghost use Rattle.cut_draws.specs.Draws.{answers, operation_of};
+ghost use Rattle.exerciser.specs.Words.{answers, operation_of};
 ghost use Rattle.powercut.specs.Living.{IsTrueOn};
 ghost use Rattle.powercut.specs.Sessions.{IsEnded};
 ghost use Rattle.powercut.specs.Starting.{fuse_of};
@@ -13,11 +13,11 @@ ghost use Rattle.exerciser.specs.Seen.{IsSeen, IsTorn};
 ghost use Rattle.exerciser.specs.declared.fault.CutFault.TheVariants as faults;
 ghost use Rattle.exerciser.specs.declared.seen.Seen.TheVariants as seens;
 
+use crate::drawing::draw;
 use crate::fault::CutFault;
 use crate::looking::{Standing, begin, count_calls, live_once, look};
 use crate::seen::Seen;
 use crate::telling::tell;
-use cut_draws::draw;
 use nand_model::{MemNand, Nand};
 use posix_profile::Stamped;
 use powercut::{Session, SessionEnd};

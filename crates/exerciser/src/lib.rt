@@ -2,6 +2,7 @@
 #![tactic(auto)]
 
 mod cutting;
+mod drawing;
 mod fault;
 mod finding;
 mod keeping;
@@ -11,6 +12,7 @@ mod sizes;
 mod telling;
 
 pub use cutting::cut;
+pub use drawing::draw;
 pub use fault::CutFault;
 pub use finding::{Finding, mount_fault_name};
 pub use keeping::kept;

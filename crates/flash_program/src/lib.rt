@@ -20,8 +20,8 @@ mod serve;
 mod space;
 
 pub use acting::act;
-pub use cut_draws::draw;
 pub use ending::report;
+pub use exerciser::draw;
 pub use fault::ProgramFault;
 pub use law::only_a_cut_stops_the_program;
 pub use line_shell::{ShellFault, shell};

@@ -1,5 +1,5 @@
 // Draws beside words that were computed elsewhere.
-use cut_draws::draw;
+use exerciser::draw;
 use nand_model::Fate;
 use rand_core::SeedableRng;
 use rand_pcg::Lcg128Xsl64;

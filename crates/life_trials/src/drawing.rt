@@ -2,7 +2,7 @@
 use crate::commands::{below, draw_command};
 use crate::judging::{Stage, judge};
 use anyhow::Result;
-use cut_draws::draw;
+use exerciser::draw;
 use nand_model::Fate;
 use posix_calls::Stamped;
 use powercut::Session;

@@ -5,7 +5,7 @@ use Rattle.nand_model.specs.Calls.{Device}
 use Rattle.nand_model.specs.MemoryState.{device}
 use Rattle.nand_model.specs.declared.geometry.Geometry.{Geometry}
 use Rattle.nand_model.specs.declared.memory.MemNand.{MemNand}
-use Rattle.cut_draws.specs.Draws.{answers}
+use Rattle.exerciser.specs.Words.{answers}
 use Rattle.posix_profile.specs.declared.command.Stamped.{Stamped}
 use Rattle.powercut.specs.declared.session.Session.{Session}
 use Rattle.exerciser.specs.Causes.{IsTreeOn, MountsAs}
@@ -13,7 +13,7 @@ use Rattle.exerciser.specs.Cutting.{Exercise, IsAsked}
 use Rattle.exerciser.specs.Lines.{IsTold, session_line}
 use Rattle.exerciser.specs.Seen.{finding_of, IsSeen}
 use Rattle.exerciser.specs.declared.seen.Seen.{Seen}
-use Rattle.exerciser.proofs.Drawing.{first_words, more_words, cut_session}
+use Rattle.exerciser.proofs.Seeds.{first_words, more_words, cut_session}
 use Rattle.exerciser.proofs.Causes.{not_done, not_begun, not_written, not_kept}
 use Rattle.exerciser.proofs.Sessions.{SoFar, some_tree, not_done_stops, not_begun_stops, starts, goes_further, stops_telling, stops_torn, stops_silently, told_as, ends}
 use Rattle.exerciser.proofs.cutting.cut.Goals as goal

@@ -1,7 +1,7 @@
 use Rattle.std.proofs.Common.{◌≡◌, []}
 use Rattle.std.specs.Prelude.{true}
 use Rattle.nand_model.specs.MemoryState.{device}
-use Rattle.cut_draws.specs.Draws.{answers}
+use Rattle.exerciser.specs.Words.{answers}
 use Rattle.exerciser.specs.Causes.{IsTreeOn}
 use Rattle.exerciser.specs.Draws.{words_after}
 use Rattle.exerciser.proofs.Sessions.{SoFar}

@@ -1,6 +1,6 @@
 use Rattle.nand_model.specs.MemoryState.{device}
 use Rattle.exerciser.specs.Causes.{uncut}
-use Rattle.exerciser.proofs.Drawing.{drawn_from}
+use Rattle.exerciser.proofs.Seeds.{drawn_from}
 use Rattle.exerciser.proofs.cutting.draw_fuse.Goals as goal
 
 pub returns-clause-drawn : goal.returns-clause-drawn

@@ -5,7 +5,7 @@ use Rattle.nand_model.specs.MemoryState.{device}
 use Rattle.planned_nand.specs.Planning.{calls_since}
 use Rattle.powercut.specs.Sessions.{IsEnded}
 use Rattle.exerciser.proofs.Causes.{uncounted}
-use Rattle.exerciser.proofs.Drawing.{counts}
+use Rattle.exerciser.proofs.Seeds.{counts}
 use Rattle.exerciser.proofs.looking.count_calls.Goals as goal
 
 pub returns-clause-counted : goal.returns-clause-counted

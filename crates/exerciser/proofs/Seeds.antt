@@ -11,7 +11,7 @@ use Rattle.powercut.specs.declared.session.Session.{Session}
 use Rattle.powercut.specs.declared.session.SessionEnd.{SessionEnd}
 use Rattle.exerciser.specs.Causes.{CountsCalls, uncut}
 use Rattle.exerciser.specs.declared.fault.CutFault.{CutFault}
-use Rattle.cut_draws.specs.Draws.{answers, operation_of}
+use Rattle.exerciser.specs.Words.{answers, operation_of}
 use Rattle.rand_core.specs.Pcg32Seed.{pcg32_seed}
 use Rattle.rand_core.specs.Stream.{Stream, next_u64}
 use Rattle.rand_pcg.specs.Lcg.{Lcg}

@@ -1,8 +1,8 @@
 use Rattle.std.proofs.Common.{◌≡◌, ◌≤◌, map}
 use Rattle.std.specs.Prelude.{vec_len, vec_capacity}
 use Rattle.rand_core.specs.Stream.{next_u64}
-use Rattle.cut_draws.specs.Draws.{answers, fate_of, next_words}
-use Rattle.cut_draws.proofs.drawing.draw.Given as goal
+use Rattle.exerciser.specs.Words.{answers, fate_of, next_words}
+use Rattle.exerciser.proofs.drawing.draw.Given as goal
 
 abbrev pub invariant-loop-page : goal.invariant-loop-page
 invariant-loop-page l = record {

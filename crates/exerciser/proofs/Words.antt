@@ -4,7 +4,7 @@ use native.Mathlib.Numerals.{unary_clauses}
 use Rattle.std.proofs.lemmas.List.{map-append}
 use Rattle.nand_model.specs.declared.fate.Fate.{Fate}
 use Rattle.rand_core.specs.Stream.{Stream, next_u64}
-use Rattle.cut_draws.specs.Draws.{fate_of, next_words}
+use Rattle.exerciser.specs.Words.{fate_of, next_words}
 
 pub none_drawn : (s t : Stream) → t ≡ s → ([] ≡ map fate_of (next_words 0 s).0) × (t ≡ (next_words 0 s).1)
 unfolding next_words

@@ -1,7 +1,7 @@
 // The operation that is cut, and what it leaves of each page.
 ghost use Rattle.std.specs.Prelude.{◌≡◌, ◌≤◌, IfOk, OnOk, OnErr, map};
 ghost use Rattle.rand_core.specs.Stream.{next_u64};
-ghost use Rattle.cut_draws.specs.Draws.{answers, operation_of, fate_of, next_words};
+ghost use Rattle.exerciser.specs.Words.{answers, operation_of, fate_of, next_words};
 
 use nand_model::Fate;
 use rand_core::Rng;

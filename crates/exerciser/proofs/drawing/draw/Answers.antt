@@ -1,9 +1,9 @@
 use Rattle.std.proofs.Common.{◌≤◌, ◌+◌, ◌++◌, ◌∷◌, [], ◌∙◌, ap, arith}
 use Rattle.std.specs.Prelude.{vec_capacity}
 use Rattle.rand_core.specs.Stream.{next_u64}
-use Rattle.cut_draws.specs.Draws.{answers}
-use Rattle.cut_draws.proofs.Words.{none_drawn, one_more}
-use Rattle.cut_draws.proofs.drawing.draw.Goals as goal
+use Rattle.exerciser.specs.Words.{answers}
+use Rattle.exerciser.proofs.Words.{none_drawn, one_more}
+use Rattle.exerciser.proofs.drawing.draw.Goals as goal
 
 pub loop-page-init : goal.loop-page-init
 loop-page-init c =

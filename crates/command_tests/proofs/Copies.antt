@@ -3,7 +3,7 @@ use Rattle.std.specs.Prelude.{Result, Ok, Err}
 use Rattle.volume_terms.specs.Sizes.{Sizes}
 use Rattle.posix_profile.specs.State.{Objects}
 use Rattle.object_store.specs.Stores.{Has, Finds}
-use Rattle.plain_objects.specs.PlainMeaning.{plain_meaning}
+use Rattle.plain_volume.specs.PlainMeaning.{plain_meaning}
 use Rattle.volume_terms.specs.declared.fault.StoreFault.{StoreFault}
 use Rattle.volume_terms.specs.declared.fault.StoreFault.TheVariants as faults
 use Rattle.command_tests.specs.declared.kept.KeptObjects.{KeptObjects}

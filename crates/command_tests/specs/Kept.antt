@@ -1,7 +1,7 @@
 -- Maps that keep a copy of what was committed.
 use Rattle.std.specs.Prelude.{◌≡◌, true}
 use Rattle.object_store.specs.Stores.{Meaning}
-use Rattle.plain_objects.specs.PlainMeaning.{objects_of, numbers_of}
+use Rattle.plain_volume.specs.PlainMeaning.{objects_of, numbers_of}
 use Rattle.command_tests.specs.declared.kept.KeptObjects.{KeptObjects}
 
 -- The objects of the maps. A commit may fail. Nothing is said of what a mount would show: the tests look at it.

@@ -3,7 +3,7 @@ use crate::kept::KeptObjects;
 use crate::lines::{commands_of, reply_text};
 use fused_store::{FusedStore, LastCall};
 use object_commands::Volume;
-use plain_objects::PlainObjects;
+use plain_volume::PlainObjects;
 use posix_profile::{Access, Command, Errno, FilePath, OpenFlags, Reply, Stamped};
 use std::alloc::{AllocError, Global};
 use std::process::Abort;

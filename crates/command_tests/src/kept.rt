@@ -1,6 +1,6 @@
 // Maps that keep a copy of what was committed.
 use object_store::{ObjectChange, ObjectStore};
-use plain_objects::PlainObjects;
+use plain_volume::PlainObjects;
 use posix_profile::{Info, NameList};
 use std::alloc::{AllocError, Global};
 use volume_terms::{StoreFault, VolumeSizes};

@@ -4,7 +4,7 @@ use crate::lines::{command_of, reply_text};
 use fused_store::RefusingStore;
 use object_commands::Volume;
 use object_store::ObjectStore;
-use plain_objects::PlainObjects;
+use plain_volume::PlainObjects;
 use posix_profile::{Command, Errno, Kind, Reply, Stamped};
 use std::alloc::{AllocError, Global};
 use std::process::Abort;

@@ -1,8 +1,8 @@
 // Trees that are read, made again and compared.
 use crate::lines::{command_of, commands_of, reply_text};
 use object_commands::Volume;
-use plain_objects::PlainObjects;
 use plain_tree::{PlainTree, TreeFault};
+use plain_volume::PlainObjects;
 use posix_profile::{Errno, Stamped};
 use std::alloc::Global;
 use std::process::Abort;

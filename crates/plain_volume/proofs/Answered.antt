@@ -5,7 +5,7 @@ use Rattle.std.proofs.lemmas.Bool.{cases_Bool, cond-true, cond-false}
 use Rattle.command_answers.specs.Answering.{IsAnswered}
 use Rattle.plain_volume.specs.Answering.{ShowsPlain}
 use Rattle.plain_volume.specs.Views.{PlainView}
-use Rattle.posix_profile.specs.Runs.{is_no_memory, is_stop, takes_no_memory, after_one}
+use Rattle.posix_profile.specs.Runs.{is_no_memory, is_stop, takes_no_memory}
 use Rattle.posix_profile.specs.State.{State}
 use Rattle.posix_profile.specs.Steps.{step}
 use Rattle.posix_profile.specs.declared.command.Stamped.{Stamped}

@@ -18,8 +18,8 @@ use Rattle.object_commands.specs.Running.{Runs}
 use Rattle.object_commands.specs.Volumes.{store_of, is_read_only, is_stopped}
 use Rattle.object_commands.specs.declared.volume.Volume.{Volume}
 use Rattle.object_store.specs.Stores.{settled}
-use Rattle.plain_objects.specs.PlainMeaning.{numbers_of, plain_meaning}
-use Rattle.plain_objects.specs.declared.store.PlainObjects.{PlainObjects}
+use Rattle.plain_volume.specs.PlainMeaning.{numbers_of, plain_meaning}
+use Rattle.plain_volume.specs.declared.objects.store.PlainObjects.{PlainObjects}
 use Rattle.plain_volume.specs.Views.{PlainView}
 use Rattle.plain_volume.specs.Standing.{state_of, view_of, IsPlain}
 use Rattle.plain_volume.specs.Runs.{RunsPlain}

@@ -1,5 +1,8 @@
+pub mod PlainState
+pub mod PlainMeaning
 pub mod Views
 pub mod Codes
 pub mod Standing
 pub mod Runs
 pub mod Answering
+pub mod laws

@@ -7,8 +7,8 @@ use Rattle.object_commands.specs.Endings.{AreReading}
 use Rattle.object_commands.specs.Volumes.{store_of, handles_of, is_read_only, is_stopped}
 use Rattle.object_commands.specs.declared.volume.Volume.{Volume}
 use Rattle.object_store.specs.Stores.{settled}
-use Rattle.plain_objects.specs.PlainMeaning.{objects_of, numbers_of}
-use Rattle.plain_objects.specs.declared.store.PlainObjects.{PlainObjects}
+use Rattle.plain_volume.specs.PlainMeaning.{objects_of, numbers_of}
+use Rattle.plain_volume.specs.declared.objects.store.PlainObjects.{PlainObjects}
 use Rattle.plain_volume.specs.Views.{PlainView}
 
 -- the objects of the maps, and what the descriptors stand for

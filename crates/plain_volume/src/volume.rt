@@ -11,9 +11,9 @@ ghost use Rattle.posix_profile.specs.laws.Sound.{IsSound};
 ghost use Rattle.object_commands.specs.Volumes.{store_of, handles_of, is_read_only, is_stopped};
 ghost use Rattle.plain_volume.specs.Runs.{RunsPlain};
 
+use crate::objects::PlainObjects;
 use object_commands::Volume;
 use object_store::ObjectStore;
-use plain_objects::PlainObjects;
 use posix_profile::{Errno, Reply, Stamped};
 use std::alloc::{AllocError, Global};
 use std::marker::Model;

@@ -3,7 +3,7 @@ use Rattle.volume_terms.specs.VolumeSizes.{sizes_of}
 use Rattle.posix_profile.specs.State.{State}
 use Rattle.posix_profile.specs.laws.Fresh.{fresh, fresh_sound, fresh_well_formed}
 use Rattle.posix_profile.specs.laws.Prune.{prune_same}
-use Rattle.plain_objects.specs.PlainMeaning.{objects_of, numbers_of}
+use Rattle.plain_volume.specs.PlainMeaning.{objects_of, numbers_of}
 use Rattle.plain_volume.proofs.Plain.{none_open, plain_from}
 use Rattle.plain_volume.proofs.volume.PlainVolume.new.Goals as goal
 

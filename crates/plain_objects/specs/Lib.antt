@@ -1,2 +1,0 @@
-pub mod PlainMeaning
-pub mod laws

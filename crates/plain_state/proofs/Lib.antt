@@ -1,4 +1,0 @@
-pub mod Alike
-pub mod Counts
-pub mod Few
-pub mod Kept

@@ -1,9 +1,0 @@
-use Rattle.std.proofs.Common.{◌∙◌, sym, ap, ℕ}
-use Rattle.std.specs.FinMap as map
-use Rattle.std.specs.Ordering.{nat_cmp}
-use Rattle.std.specs.Cmp.Lexicographic.{slice_cmp}
-use Rattle.posix_profile.specs.State.{entries_of}
-use Rattle.plain_state.proofs.links.entry_count_at.Goals as goal
-
-pub returns-in-None : goal.returns-in-None
-returns-in-None c = sym (map.len-empty (slice_cmp nat_cmp) ℕ) ∙ ap (λ x. map.len (entries_of x)) c.in-None.ensures

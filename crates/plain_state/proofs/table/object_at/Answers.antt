@@ -1,7 +1,0 @@
-use Rattle.std.proofs.Common.{sym, ◌∙◌}
-use Rattle.plain_state.specs.laws.Views.{get_object, mapped_copied}
-use Rattle.plain_state.specs.PlainState.{object_of}
-use Rattle.plain_state.proofs.table.object_at.Goals as goal
-
-pub returns : goal.returns
-returns c = mapped_copied object_of c.get.result _ c.get.ensures.value ∙ sym (get_object c.args.objects.now c.args.number)

@@ -1,2 +1,0 @@
-pub mod PlainState
-pub mod laws

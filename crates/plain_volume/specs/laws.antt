@@ -1,0 +1,2 @@
+pub mod PlainState
+pub mod PlainMeaning

@@ -1,0 +1,7 @@
+// Maps in memory as a store of objects.
+
+mod changes;
+mod names;
+mod store;
+
+pub use store::PlainObjects;

@@ -1,3 +1,4 @@
+pub mod Paths
 pub mod Tables
 pub mod Classes
 pub mod Places

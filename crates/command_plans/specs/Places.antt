@@ -9,8 +9,8 @@ use Rattle.posix_profile.specs.laws.Path.{IsPlace}
 use Rattle.posix_profile.specs.declared.reply.Errno.{Errno}
 use Rattle.object_store.specs.Stores.{Meaning, Tells}
 use Rattle.object_store.specs.declared.refusal.Refusal.{Refusal}
-use Rattle.path_walk.specs.Places.{place_of}
-use Rattle.path_walk.specs.declared.parts.PathPlace.{PathPlace}
+use Rattle.command_plans.specs.Paths.{place_of}
+use Rattle.command_plans.specs.declared.path.parts.PathPlace.{PathPlace}
 use Rattle.command_plans.specs.declared.place.FoundObject.{FoundObject}
 
 -- the path leads to this place, and whatever is to be done at the place is to be done at it

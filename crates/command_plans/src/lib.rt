@@ -3,6 +3,7 @@
 #![tactic(auto)]
 
 pub mod facts;
+pub mod path;
 pub mod place;
 pub mod plan;
 pub mod room;

@@ -4,12 +4,12 @@ ghost use Rattle.volume_terms.specs.Sizes.{Sizes};
 ghost use Rattle.posix_profile.specs.State.{State};
 ghost use Rattle.posix_profile.specs.Paths.{last_name, is_dot, is_dot_dot, resolve};
 ghost use Rattle.object_store.specs.Stores.{KeepsPower};
-ghost use Rattle.path_walk.specs.Places.{place_of};
+ghost use Rattle.command_plans.specs.Paths.{place_of};
 ghost use Rattle.command_plans.specs.Places.{FindsPlace, FindsObject};
 ghost use Rattle.command_plans.specs.Plans.{Holds};
 
+use crate::path::{PathPart, PathPlace, resolve};
 use object_store::{DirectoryEntry, ObjectStore, Refusal};
-use path_walk::{PathPart, PathPlace, resolve};
 use posix_profile::Errno;
 use std::alloc::Global;
 

@@ -8,7 +8,7 @@ ghost use Rattle.posix_profile.specs.NameSteps.{mkdir_at, mkdir_step, name_remov
 ghost use Rattle.posix_profile.specs.Outcomes.{answer, unless, at_place};
 ghost use Rattle.posix_profile.specs.laws.Path.{IsPlace};
 ghost use Rattle.posix_profile.specs.Paths.{resolve};
-ghost use Rattle.path_walk.specs.Places.{place_of};
+ghost use Rattle.command_plans.specs.Paths.{place_of};
 ghost use Rattle.object_store.specs.Changes.{without, NamesNothing};
 ghost use Rattle.object_store.specs.Stores.{KeepsPower};
 ghost use Rattle.command_plans.specs.Classes.{Changing};
@@ -17,6 +17,7 @@ ghost use Rattle.command_plans.specs.Plans.{Holds, Plans, Tries, IsPlan};
 ghost use Rattle.command_plans.specs.Tables.{handles_in};
 
 use command_plans::facts::{has_other_name, is_directory};
+use command_plans::path::PathPlace;
 use command_plans::place::{
     ends_in_dot, ends_in_dot_dot, entry_at, find_object, find_place, is_only_slashes,
 };
@@ -24,7 +25,6 @@ use command_plans::plan::{Plan, change, hand_on};
 use command_plans::room::{has_name_room, has_object_room};
 use command_plans::table::DescriptorTable;
 use object_store::{ObjectChange, ObjectStore, Refusal, is_file};
-use path_walk::PathPlace;
 use posix_profile::{Errno, Kind, Reply};
 use std::alloc::Global;
 

@@ -11,7 +11,7 @@ ghost use Rattle.posix_profile.specs.laws.Path.{IsPlace};
 ghost use Rattle.posix_profile.specs.Paths.{first_error, is_dot, is_dot_dot, resolve};
 ghost use Rattle.volume_terms.specs.Sizes.{Sizes};
 ghost use Rattle.posix_profile.specs.State.{Object, Objects, State, IsDirectory, is_directory, entries_of};
-ghost use Rattle.path_walk.specs.Places.{place_of};
+ghost use Rattle.command_plans.specs.Paths.{place_of};
 ghost use Rattle.object_store.specs.Changes.{NamesNothing};
 ghost use Rattle.object_store.specs.Stores.{Has, KeepsPower};
 ghost use Rattle.command_plans.specs.Classes.{Changing, is_one, lead_to_one, tells_if};
@@ -21,12 +21,12 @@ ghost use Rattle.command_plans.specs.Tables.{handles_in};
 
 use crate::naming::unkept;
 use command_plans::facts::is_directory;
+use command_plans::path::PathPlace;
 use command_plans::place::{ends_in_dot, ends_in_dot_dot, entry_at, find_place, is_only_slashes};
 use command_plans::plan::{Plan, change, hand_on, tell};
 use command_plans::room::{free_units, units_past};
 use command_plans::table::DescriptorTable;
 use object_store::{ObjectChange, ObjectStore, Refusal, is_file};
-use path_walk::PathPlace;
 use posix_profile::{Errno, Reply};
 use std::alloc::Global;
 

@@ -24,8 +24,8 @@ use Rattle.object_store.specs.laws.Store.{has_on, tells_on}
 use Rattle.volume_terms.specs.declared.fault.StoreFault.{StoreFault}
 use Rattle.object_store.specs.declared.refusal.Refusal.{Refusal}
 use Rattle.object_store.specs.declared.refusal.Refusal.TheVariants as refusals
-use Rattle.path_walk.specs.Places.{place_of, Leads}
-use Rattle.path_walk.specs.declared.parts.PathPlace.{PathPlace}
+use Rattle.command_plans.specs.Paths.{place_of, Leads}
+use Rattle.command_plans.specs.declared.path.parts.PathPlace.{PathPlace}
 use Rattle.command_plans.specs.Classes.{Class, Changing, tells_if}
 use Rattle.command_plans.specs.Places.{AtPlace, FindsPlace, AtObject, NoObject, FindsObject}
 use Rattle.command_plans.specs.Plans.{Holds, IsPlan, Plans, Tries, handed, Suits}

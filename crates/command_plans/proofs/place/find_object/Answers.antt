@@ -1,4 +1,4 @@
-use Rattle.path_walk.specs.Places.{place_of}
+use Rattle.command_plans.specs.Paths.{place_of}
 use Rattle.command_plans.specs.laws.Plan.{finds_object, finds_none}
 use Rattle.command_plans.proofs.place.find_object.Goals as goal
 

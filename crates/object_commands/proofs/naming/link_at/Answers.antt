@@ -1,6 +1,6 @@
 use Rattle.std.proofs.Common.{sym, ap}
 use Rattle.posix_profile.specs.NameSteps.{link_at}
-use Rattle.path_walk.specs.Places.{place_of}
+use Rattle.command_plans.specs.Paths.{place_of}
 use Rattle.command_plans.specs.Classes.{Changing}
 use Rattle.command_plans.specs.laws.Plan.{tries_same}
 use Rattle.object_commands.proofs.naming.link_at.Goals as goal

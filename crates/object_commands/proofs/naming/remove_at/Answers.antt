@@ -5,7 +5,7 @@ use Rattle.posix_profile.specs.laws.Name.{namer_directory}
 use Rattle.posix_profile.specs.Outcomes.{answer}
 use Rattle.posix_profile.specs.Changes.{without_name}
 use Rattle.posix_profile.specs.declared.reply.Reply.TheVariants as replies
-use Rattle.path_walk.specs.Places.{place_of}
+use Rattle.command_plans.specs.Paths.{place_of}
 use Rattle.object_commands.proofs.Making.{plan_changed, entry_is, leads_at, dropped_empty}
 use Rattle.object_commands.proofs.NamesLost.{removed_unnames}
 use Rattle.command_plans.specs.laws.Room.{removed_fits, without_fits}

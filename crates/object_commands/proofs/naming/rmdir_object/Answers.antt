@@ -5,7 +5,7 @@ use Rattle.std.proofs.lemmas.Bool.{lt-ltb}
 use Rattle.std.proofs.Common.{le-ltb}
 use Rattle.posix_profile.specs.laws.Name.{directory_or}
 use Rattle.posix_profile.specs.laws.Place.{found_there}
-use Rattle.path_walk.specs.Places.{last_of, place_of}
+use Rattle.command_plans.specs.Paths.{last_of, place_of}
 use Rattle.command_plans.specs.Classes.{Changing}
 use Rattle.object_commands.proofs.Making.{name_leads, empty_names_nothing}
 use Rattle.command_plans.specs.laws.Plan.{plan_same, refused, passed, passed_all}

@@ -1,7 +1,7 @@
 use Rattle.std.proofs.Common.{◌∙◌, sym, ap}
 use Rattle.posix_profile.specs.Changes.{free_descriptor}
 use Rattle.posix_profile.specs.laws.Number.{free_descriptor_is}
-use Rattle.path_walk.specs.Places.{place_of}
+use Rattle.command_plans.specs.Paths.{place_of}
 use Rattle.command_plans.specs.Classes.{Changing}
 use Rattle.object_commands.specs.Opens.{open_absent_on}
 use Rattle.command_plans.specs.laws.Plan.{tries_same, refused, passed, passed_all, no_descriptor, this_descriptor}

@@ -9,7 +9,7 @@ use Rattle.posix_profile.specs.Paths.{last_name}
 use Rattle.posix_profile.specs.laws.Place.{absent_name}
 use Rattle.posix_profile.specs.declared.reply.Kind.TheVariants as kinds
 use Rattle.posix_profile.specs.declared.reply.Reply.TheVariants as replies
-use Rattle.path_walk.specs.Places.{last_of, place_of}
+use Rattle.command_plans.specs.Paths.{last_of, place_of}
 use Rattle.command_plans.specs.Classes.{Changing}
 use Rattle.object_commands.proofs.Making.{opened_plan, entry_is, absent_at, none_dropped}
 use Rattle.command_plans.specs.laws.Plan.{change_fits, change_full, refused, passed, passed_all}

@@ -2,7 +2,7 @@ use Rattle.std.proofs.Common.{ap, not, sym}
 use Rattle.std.specs.Prelude.{◌&&◌, Option, is_some, ℕ}
 use Rattle.posix_profile.specs.HandleSteps.{open_at}
 use Rattle.posix_profile.specs.laws.Place.{found_there}
-use Rattle.path_walk.specs.Places.{last_of, place_of}
+use Rattle.command_plans.specs.Paths.{last_of, place_of}
 use Rattle.command_plans.specs.Classes.{Changing, tells_if}
 use Rattle.command_plans.specs.laws.Plan.{tries_kind, tries_same}
 use Rattle.object_commands.proofs.opening.open_at.Goals as goal

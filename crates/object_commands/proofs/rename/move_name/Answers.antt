@@ -3,7 +3,7 @@ use Rattle.std.proofs.lemmas.Bool.{eq-eqb, true≢false}
 use Rattle.posix_profile.specs.NameSteps.{is_object, rename_tests_onto}
 use Rattle.posix_profile.specs.Paths.{first_error}
 use Rattle.posix_profile.specs.laws.Place.{found_there}
-use Rattle.path_walk.specs.Places.{last_of, place_of}
+use Rattle.command_plans.specs.Paths.{last_of, place_of}
 use Rattle.object_commands.proofs.Making.{replaced_names_nothing}
 use Rattle.object_commands.proofs.rename.move_name.Goals as goal
 

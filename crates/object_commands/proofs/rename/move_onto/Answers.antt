@@ -7,7 +7,7 @@ use Rattle.posix_profile.specs.Paths.{last_name}
 use Rattle.posix_profile.specs.State.{Objects}
 use Rattle.posix_profile.specs.declared.reply.Reply.TheVariants as replies
 use Rattle.object_store.specs.Changes.{without}
-use Rattle.path_walk.specs.Places.{place_of, last_of}
+use Rattle.command_plans.specs.Paths.{place_of, last_of}
 use Rattle.object_commands.proofs.Making.{plan_changed, entry_is, leads_at, name_leads, dropped_empty}
 use Rattle.object_commands.proofs.Moves.{onto_fits}
 use Rattle.object_commands.proofs.NamesLost.{moved_unnames}

@@ -7,7 +7,7 @@ use Rattle.posix_profile.specs.Paths.{last_name}
 use Rattle.posix_profile.specs.laws.Place.{absent_name}
 use Rattle.posix_profile.specs.State.{Objects}
 use Rattle.posix_profile.specs.declared.reply.Reply.TheVariants as replies
-use Rattle.path_walk.specs.Places.{place_of, last_of}
+use Rattle.command_plans.specs.Paths.{place_of, last_of}
 use Rattle.object_commands.proofs.Making.{plan_changed, entry_is, leads_at, absent_at, name_leads, none_dropped}
 use Rattle.object_commands.proofs.NamesLost.{moved_keeps}
 use Rattle.command_plans.specs.laws.Plan.{change_fits, change_full}

@@ -4,7 +4,7 @@ use Rattle.std.proofs.lemmas.Result.{err_from_is_err_and}
 use Rattle.posix_profile.specs.Outcomes.{Outcome, at_place}
 use Rattle.posix_profile.specs.Paths.{Place, resolve}
 use Rattle.posix_profile.specs.declared.reply.Errno.{Errno}
-use Rattle.path_walk.specs.Places.{place_of}
+use Rattle.command_plans.specs.Paths.{place_of}
 use Rattle.command_plans.specs.Classes.{Changing, lead_to_one, tells_if}
 use Rattle.object_commands.specs.Names.{rename_places}
 use Rattle.command_plans.specs.laws.Plan.{holds_on, plans_same, plans_of, power_of, plans_nowhere, tries_kind}

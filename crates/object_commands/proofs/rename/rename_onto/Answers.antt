@@ -1,7 +1,7 @@
 use Rattle.std.proofs.Common.{◌∙◌}
 use Rattle.std.proofs.lemmas.Result.{err_from_is_err_and}
 use Rattle.posix_profile.specs.laws.Place.{found_there}
-use Rattle.path_walk.specs.Places.{last_of}
+use Rattle.command_plans.specs.Paths.{last_of}
 use Rattle.command_plans.specs.Classes.{Changing}
 use Rattle.command_plans.specs.laws.Plan.{tries_same, refused, passed, passed_all, first_refused, none_refused}
 use Rattle.object_commands.proofs.rename.rename_onto.Goals as goal

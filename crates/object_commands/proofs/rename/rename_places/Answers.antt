@@ -1,6 +1,6 @@
 use Rattle.std.proofs.Common.{◌∙◌, ap, sym}
 use Rattle.std.specs.Prelude.{Option, ℕ}
-use Rattle.path_walk.specs.Places.{place_of}
+use Rattle.command_plans.specs.Paths.{place_of}
 use Rattle.command_plans.specs.Classes.{Changing, is_one, tells_if}
 use Rattle.object_commands.proofs.Making.{both_end}
 use Rattle.command_plans.specs.laws.Plan.{tries_kind, tries_same, refused, passed, passed_all, no_object, this_object}

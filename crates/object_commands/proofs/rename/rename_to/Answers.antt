@@ -4,7 +4,7 @@ use Rattle.posix_profile.specs.NameSteps.{is_object}
 use Rattle.posix_profile.specs.Outcomes.{answer}
 use Rattle.posix_profile.specs.declared.reply.Errno.TheVariants as errors
 use Rattle.posix_profile.specs.declared.reply.Reply.TheVariants as replies
-use Rattle.path_walk.specs.Places.{place_of}
+use Rattle.command_plans.specs.Paths.{place_of}
 use Rattle.command_plans.specs.Classes.{Changing, tells_if}
 use Rattle.object_commands.specs.Names.{rename_onto}
 use Rattle.command_plans.specs.laws.Plan.{nothing_suits, plan_told, tries_kind, tries_same, refused, passed, passed_all, then_is, else_is}

@@ -6,7 +6,7 @@ use Rattle.posix_profile.specs.Paths.{first_error}
 use Rattle.posix_profile.specs.laws.Place.{found_there}
 use Rattle.posix_profile.specs.State.{is_file}
 use Rattle.posix_profile.specs.declared.reply.Errno.TheVariants as errors
-use Rattle.path_walk.specs.Places.{last_of, place_of}
+use Rattle.command_plans.specs.Paths.{last_of, place_of}
 use Rattle.object_commands.proofs.Moves.{onto_tests}
 use Rattle.object_commands.proofs.rename.test_onto.Goals as goal
 

@@ -1,7 +1,7 @@
 use Rattle.std.proofs.Common.{◌∙◌, refl, ap, map as list_map}
 use Rattle.std.proofs.lemmas.Result.{err_from_is_err_and}
-use Rattle.path_walk.proofs.Walks.{leads_back, leads_same, resolve_is, resolve_stops}
-use Rattle.path_walk.proofs.walk.resolve.Goals as goal
+use Rattle.command_plans.proofs.Walks.{leads_back, leads_same, resolve_is, resolve_stops}
+use Rattle.command_plans.proofs.path.walk.resolve.Goals as goal
 
 pub returns-in_err-test_path-clause-leads : goal.returns-in_err-test_path-clause-leads
 returns-in_err-test_path-clause-leads g c z objects has =

@@ -5,9 +5,9 @@ use Rattle.posix_profile.specs.State.{Objects, IsDirectory}
 use Rattle.posix_profile.specs.declared.reply.Errno.{Errno}
 use Rattle.object_store.specs.Stores.{Meaning, Tells}
 use Rattle.object_store.specs.declared.refusal.Refusal.{Refusal}
-use Rattle.path_walk.specs.declared.parts.PathPart.{PathPart}
-use Rattle.path_walk.specs.declared.parts.PathPart.TheVariants as path_parts
-use Rattle.path_walk.specs.declared.parts.PathPlace.{PathPlace}
+use Rattle.command_plans.specs.declared.path.parts.PathPart.{PathPart}
+use Rattle.command_plans.specs.declared.path.parts.PathPart.TheVariants as path_parts
+use Rattle.command_plans.specs.declared.path.parts.PathPlace.{PathPlace}
 
 -- the component of a part
 abbrev pub component_of : PathPart → Component

@@ -1,5 +1,5 @@
 use Rattle.std.proofs.Common.{◌≡◌, ◌++◌, length, nat_lt, map as list_map, filter, drop}
-use Rattle.path_walk.proofs.parts.some_of.Given as goal
+use Rattle.command_plans.proofs.path.parts.some_of.Given as goal
 
 -- the parts so far and those that are left are all
 abbrev pub invariant-loop-piece : goal.invariant-loop-piece

@@ -3,9 +3,9 @@ use Rattle.posix_profile.specs.Paths.{component, walk_from_root}
 use Rattle.volume_terms.specs.Sizes.{Sizes}
 use Rattle.posix_profile.specs.State.{Objects, IsDirectory}
 use Rattle.object_store.specs.Stores.{Has}
-use Rattle.path_walk.specs.Places.{last_of}
-use Rattle.path_walk.proofs.Walks.{going}
-use Rattle.path_walk.proofs.walk.walk.Given as goal
+use Rattle.command_plans.specs.Paths.{last_of}
+use Rattle.command_plans.proofs.Walks.{going}
+use Rattle.command_plans.proofs.path.walk.walk.Given as goal
 
 -- the walk over what is left leads where that over all does
 abbrev pub invariant-loop-part : goal.invariant-loop-part

@@ -1,7 +1,7 @@
 use Rattle.std.proofs.Common.{◌≡◌, length, nat_lt, map as list_map, drop}
 use Rattle.std.specs.List.{list_any}
 use Rattle.volume_terms.specs.Sizes.{name_limit}
-use Rattle.path_walk.proofs.parts.has_long_part.Given as goal
+use Rattle.command_plans.proofs.path.parts.has_long_part.Given as goal
 
 -- no part so far is too long
 abbrev pub invariant-loop-part : goal.invariant-loop-part

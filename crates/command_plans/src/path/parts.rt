@@ -4,7 +4,7 @@ ghost use Rattle.std.specs.Result.{result_err};
 ghost use Rattle.std.specs.List.{list_any};
 ghost use Rattle.volume_terms.specs.Sizes.{name_limit};
 ghost use Rattle.posix_profile.specs.Paths.{component, parts, path_tests, first_error, ends_in_slash};
-ghost use Rattle.path_walk.specs.Places.{component_of};
+ghost use Rattle.command_plans.specs.Paths.{component_of};
 
 use byte_pieces::pieces_of;
 use posix_profile::Errno;

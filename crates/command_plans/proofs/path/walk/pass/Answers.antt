@@ -1,8 +1,8 @@
 use Rattle.std.proofs.Common.{◌∙◌, sym}
-use Rattle.path_walk.specs.Places.{component_of}
-use Rattle.path_walk.proofs.Walks.{lead_directory, passes_on}
+use Rattle.command_plans.specs.Paths.{component_of}
+use Rattle.command_plans.proofs.Walks.{lead_directory, passes_on}
 use Rattle.object_store.specs.laws.Store.{has_on}
-use Rattle.path_walk.proofs.walk.pass.Goals as goal
+use Rattle.command_plans.proofs.path.walk.pass.Goals as goal
 
 pub returns-else-is_file-clause-passes : goal.returns-else-is_file-clause-passes
 returns-else-is_file-clause-passes g c z objects has dir =

@@ -5,9 +5,9 @@ ghost use Rattle.volume_terms.specs.Sizes.{Sizes};
 ghost use Rattle.posix_profile.specs.State.{Objects, IsDirectory};
 ghost use Rattle.posix_profile.specs.Names.{parent};
 ghost use Rattle.object_store.specs.Stores.{Has, Finds, KeepsPower};
-ghost use Rattle.path_walk.specs.Places.{component_of, last_of, goes_on, Passes, Leads};
+ghost use Rattle.command_plans.specs.Paths.{component_of, last_of, goes_on, Passes, Leads};
 
-use crate::parts::{PathPart, PathPlace, ends_in_slash, part_of, parts_of, test_path};
+use crate::path::parts::{PathPart, PathPlace, ends_in_slash, part_of, parts_of, test_path};
 use object_store::{ObjectStore, Refusal, is_file};
 use posix_profile::Errno;
 use std::alloc::Global;

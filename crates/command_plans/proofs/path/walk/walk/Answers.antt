@@ -3,9 +3,9 @@ use Rattle.std.proofs.lemmas.Result.{err_from_is_err_and}
 use Rattle.std.proofs.lemmas.List.{drop_all}
 use Rattle.posix_profile.specs.Paths.{component}
 use Rattle.object_store.specs.laws.Store.{has_on}
-use Rattle.path_walk.specs.Places.{last_of}
-use Rattle.path_walk.proofs.Walks.{drop_at, some_at, going_start, walk_more, walk_err, walk_done, leads_same}
-use Rattle.path_walk.proofs.walk.walk.Goals as goal
+use Rattle.command_plans.specs.Paths.{last_of}
+use Rattle.command_plans.proofs.Walks.{drop_at, some_at, going_start, walk_more, walk_err, walk_done, leads_same}
+use Rattle.command_plans.proofs.path.walk.walk.Goals as goal
 
 pub loop-part-init : goal.loop-part-init
 loop-part-init g c = record {

@@ -1,5 +1,4 @@
 //! Where a path leads, over any store of objects.
-#![tactic(auto)]
 
 mod parts;
 mod walk;

@@ -16,8 +16,8 @@ use Rattle.object_store.specs.Stores.{Meaning, IsLawful}
 use Rattle.object_store.specs.laws.Store.{unread_after, tells_on}
 use Rattle.object_store.specs.declared.refusal.Refusal.{Refusal}
 use Rattle.object_store.specs.declared.refusal.Refusal.TheVariants as refusals
-use Rattle.path_walk.specs.declared.parts.PathPlace.{PathPlace}
-use Rattle.path_walk.specs.Places.{goes_on, place_of, Passes, Leads}
+use Rattle.command_plans.specs.declared.path.parts.PathPlace.{PathPlace}
+use Rattle.command_plans.specs.Paths.{goes_on, place_of, Passes, Leads}
 
 module _ (z : Sizes) (objects : Objects) (forest : IsForest z objects) (directory : ℕ) (dir : IsDirectory objects directory) where
   -- the directory that names a directory is its parent, and where none does the root is

@@ -1,4 +1,4 @@
-// Sessions that are cut at each of their calls, and then once more in the next mount.
+// Sessions that are cut at each of their calls, and then once more in the next session, which mounts and unmounts.
 use crate::counting::Count;
 use crate::judging::{Stage, judge};
 use crate::stages::new_stage;
@@ -12,13 +12,14 @@ use std::alloc::Global;
 /// All that a cut may leave of a page.
 pub(crate) const FATES: [Fate; 4] = [Fate::Old, Fate::New, Fate::Erased, Fate::Uncorrectable];
 
-/// Calls of the next mount that are cut too.
+/// Calls of the next session that are cut too, where it has so many.
 const SECOND: [u64; 3] = [1, 100, 256];
 
 /// Pages of a block.
 pub(crate) const PAGES: usize = 32;
 
-/// Cuts one call, alone and before a cut of the next mount, which has no commands.
+/// Cuts one call, alone and before each cut of the next session, which has no commands and is unmounted. So each call and fate
+/// counts as four sessions, cut or not.
 fn cut_at(
     alloc: Global,
     stage: &Stage,
@@ -31,13 +32,13 @@ fn cut_at(
     let judged = judge(alloc, stage.copy()?, session)?;
     count.add(&judged);
     for second in SECOND {
-        let mount = Session {
+        let again = Session {
             commands: Vec::new(alloc),
             fuse: Some((second, vec![in alloc; fate; PAGES]?)),
             failures: Vec::new(alloc),
-            unmount: false,
+            unmount: true,
         };
-        count.add(&judge(alloc, judged.stage.copy()?, &mount)?);
+        count.add(&judge(alloc, judged.stage.copy()?, &again)?);
     }
     Ok(())
 }

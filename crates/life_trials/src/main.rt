@@ -5,7 +5,8 @@
 //!
 //! - `drawn LIVES SEED`: lives of three sessions, whose commands, cuts and failing calls are drawn.
 //! - `cuts [CALL FATE]`: a session of the lines of standard input, cut at each of its calls with each fate of the pages, alone
-//!   and with a cut in the next mount. The call may fail besides, and leaves its page so: `old`, `new`, `erased`, `uncorrectable`.
+//!   and with a cut in the next session, which mounts and unmounts. The call may fail besides, and leaves its page so: `old`, `new`,
+//!   `erased`, `uncorrectable`.
 //! - `fails`: a session of the lines of standard input, with each of its calls failing with each fate of the pages.
 //! - `stories`: five sessions whose lines are known here, each as by `cuts` and as by `fails`: a collection beside a file that is
 //!   kept; a file that takes the place of another; a full volume that is written again; directories that are moved; as many names as

@@ -1,11 +1,11 @@
 -- What a read does: into a buffer, and by a plan.
 use Rattle.std.specs.Prelude.{◌≡◌, ◌≤◌, ◌<◌, ◌+◌, ◌-◌, ◌^◌, ℕ, Bool, List, length, take, drop, min}
-use Rattle.std.proofs.Common.{refl, sym, ◌∙◌, ap, arith}
+use Rattle.std.proofs.Common.{refl, ◌∙◌, ap, arith}
 use Rattle.std.proofs.lemmas.List.{length-take, take_min}
 use Rattle.std.specs.FinMap as map
 use Rattle.posix_profile.specs.Changes.{with_offset}
 use Rattle.posix_profile.specs.HandleSteps.{read_step}
-use Rattle.posix_profile.specs.Outcomes.{Outcome, answer}
+use Rattle.posix_profile.specs.Outcomes.{answer}
 use Rattle.posix_profile.specs.State.{Handle, Objects, State}
 use Rattle.posix_profile.specs.Steps.{step, step_at}
 use Rattle.posix_profile.specs.WellFormed.{IsHandle}

@@ -20,7 +20,7 @@ pub enum FlashPages<N: Nand> {
 
 impl<N: Nand> FlashPages<N> {
     ghost use Rattle.flash_pages.specs.Parts.{device_in};
-    ghost use Rattle.flash_pages.specs.Sealing.{IsDueOf};
+    ghost use Rattle.flash_pages.specs.Sealing.{IsDueOf, check_pages_of};
 
     /// The device, as it is.
     pub fn into_device(self) -> N
@@ -38,7 +38,7 @@ impl<N: Nand> FlashPages<N> {
     pub fn seal(self) -> (N, Result<(), StoreFault>)
         ensures seals { IsSealed (IsDueOf self) (⟦<FlashPages<N> as Pages>⟧.state self) (N.state result.0) result.1 }
         // The erase of a block and the pages of the checkpoint, and for each failure an erase or a mark, and what failed.
-        ensures costs { let d = (⟦<FlashPages<N> as Pages>⟧.state self).device in Costs (d.geometry.pages + 1) 2 0 d (N.state result.0) }
+        ensures costs { let d = (⟦<FlashPages<N> as Pages>⟧.state self).device in Costs (check_pages_of self + 1) 2 0 d (N.state result.0) }
         // No page is read but one whose program is said to have failed.
         ensures reads { let d = (⟦<FlashPages<N> as Pages>⟧.state self).device in (N.state result.0).reads + d.failures ≤ d.reads + (N.state result.0).failures }
         ensures worn { (⟦<FlashPages<N> as Pages>⟧.state self).worn ≡ true → (N.state result.0 ≡ (⟦<FlashPages<N> as Pages>⟧.state self).device) × (result.1 ≡ Ok tt) }

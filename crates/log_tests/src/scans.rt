@@ -10,6 +10,7 @@ use plain_search::{greatest, newest};
 use rand_core::utils::NextWord;
 use rand_pcg::Pcg32;
 use std::alloc::Global;
+use std::collections::BTreeMap;
 use std::process::Abort;
 use std::test::Fail;
 use test_flash::TestFlash;
@@ -34,10 +35,10 @@ fn counted_at(alloc: Global, list: &[Found]) -> Result<Vec<(u32, u32)>, Fail> {
     Ok(places)
 }
 
-/// The places of all pages that were found, bucket by bucket.
-fn places_of(alloc: Global, found: &FoundPages) -> Result<Vec<(u32, u32)>, Fail> {
+/// The places of pages that were found.
+fn places_of(alloc: Global, listed: &[PageCopy]) -> Result<Vec<(u32, u32)>, Fail> {
     let mut places = Vec::new(alloc);
-    for page in pages_of(alloc, found)? {
+    for page in listed {
         places.push((u32::from(page.block), u32::from(page.page)))?;
     }
     Ok(places)
@@ -91,25 +92,29 @@ fn finds_as_worked(rt: &impl Abort, alloc: Global, flash: &WorkedFlash) -> Resul
     let found = scan(alloc, &mut nand)?;
     let counted = counted_at(alloc, &found.counted)?;
     assert_same!(rt; counted, flash.counted, flash.what);
-    let newest = places_of(alloc, &found.newest)?;
-    assert_same!(rt; newest, flash.newest, flash.what);
     assert_same!(rt; found.numbers, flash.numbers, flash.what);
-    finds_newest(rt, alloc, &mut nand, &found.newest, flash.what)?;
+    let listed = finds_newest(rt, alloc, &mut nand, &found.newest, flash.what)?;
+    assert_same!(rt; places_of(alloc, &listed)?, flash.newest, flash.what);
     assert_same!(rt; nand.changes(), 0);
     Ok(())
 }
 
-/// Asserts that the scan of the newest pages, which finds what the plain search finds, finds these.
+/// The scan of the newest pages, which finds what the plain search finds, finds these, and no others.
 fn finds_newest(
     rt: &impl Abort,
     alloc: Global,
     nand: &mut MemNand,
-    newest: &FoundPages,
+    newest: &BTreeMap<(u64, u64), Found>,
     what: &str,
-) -> Result<(), Fail> {
+) -> Result<Vec<PageCopy>, Fail> {
     let listed = finds_as_plainly(rt, alloc, nand, what)?;
-    assert_same!(rt; listed, pages_of(alloc, newest)?, what);
-    Ok(())
+    assert_same!(rt; newest.len(), listed.len(), what);
+    for page in &listed {
+        let key = (page.object, u64::from(page.chunk));
+        let here = copy_of(newest.get(&key).copied());
+        assert_same!(rt; here, Some(*page), what);
+    }
+    Ok(listed)
 }
 
 #[test]
@@ -129,7 +134,7 @@ fn counts_of_group(alloc: Global, pages: u32) -> Result<(usize, usize), Fail> {
         flash.write(4, &tag((i, 4), (1, i as u64), (2, 2, 1)), 7)?;
     }
     let found = scan(alloc, &mut powered_up(flash))?;
-    Ok((found.counted.len(), pages_of(alloc, &found.newest)?.len()))
+    Ok((found.counted.len(), found.newest.len()))
 }
 
 #[test]
@@ -141,24 +146,36 @@ fn a_group_counts_with_its_last_page(rt: HostRuntime) -> Result<(), Fail> {
     Ok(())
 }
 
-/// How many pages are the newest, and the greatest version, on a device with a page of this chunk and one of chunk 7.
-fn newest_beside(alloc: Global, chunk: u64) -> Result<(usize, u64), Fail> {
+/// What the scans find on a device with a page of chunk 7, and two of this chunk, of versions 2 and 3: how many pages are the newest of
+/// the keys that a tree may look up, the greatest version, how many are the newest of all keys, and the version of that of this chunk.
+fn newest_beside(alloc: Global, chunk: u64) -> Result<(usize, u64, usize, Option<u64>), Fail> {
     let mut flash = small(alloc)?;
-    flash.write(4, &tag((0, 2), (1, 7), (1, 2, 1)), 7)?;
-    flash.write(4, &tag((1, 2), (1, chunk), (2, 2, 1)), 7)?;
-    let found = scan_newest(alloc, &mut powered_up(flash))?;
-    Ok((pages_of(alloc, &found.newest)?.len(), found.numbers.version))
+    flash.write(4, &tag((0, 2), (1, 7), (1, 3, 1)), 7)?;
+    flash.write(4, &tag((1, 2), (1, chunk), (3, 3, 1)), 7)?;
+    flash.write(4, &tag((0, 1), (1, chunk), (2, 4, 1)), 7)?;
+    let mut nand = powered_up(flash);
+    let looked_up = scan_newest(alloc, &mut nand)?;
+    let pages = pages_of(alloc, &looked_up.newest)?;
+    let all = scan(alloc, &mut nand)?;
+    let here = all.newest.get(&(1, chunk)).map(|found| found.tag.version);
+    Ok((
+        pages.len(),
+        looked_up.numbers.version,
+        all.newest.len(),
+        here,
+    ))
 }
 
 #[test]
-fn a_scan_passes_over_chunks_that_no_tree_looks_up(rt: HostRuntime) -> Result<(), Fail> {
+fn one_scan_passes_over_chunks_that_no_tree_looks_up(rt: HostRuntime) -> Result<(), Fail> {
     for (chunk, newest) in [
         (4_294_967_295u64, 2usize),
         (4_294_967_296, 1),
         (u64::MAX, 1),
     ] {
         // The numbers of each page count.
-        assert_same!(rt; newest_beside(rt.alloc(), chunk)?, (newest, 2), chunk);
+        let wanted = (newest, 3, 2, Some(3));
+        assert_same!(rt; newest_beside(rt.alloc(), chunk)?, wanted, chunk);
     }
     Ok(())
 }
@@ -186,8 +203,9 @@ fn cut_at(
     assert_same!(rt; scan_newest(alloc, &mut cut).err(), gone, call);
     assert_same!(rt; cut.changes(), 0, call);
     cut.power_up();
-    let found = scan(alloc, &mut cut)?;
-    assert_same!(rt; places_of(alloc, &found.newest)?, *newest, call);
+    let found = scan_newest(alloc, &mut cut)?;
+    let places = places_of(alloc, &pages_of(alloc, &found.newest)?)?;
+    assert_same!(rt; places, *newest, call);
     Ok(())
 }
 
@@ -263,7 +281,7 @@ fn drawn(alloc: Global, random: &mut Pcg32) -> Result<MemNand, Fail> {
 fn counted_of_drawn(rt: &impl Abort, alloc: Global, random: &mut Pcg32) -> Result<u64, Fail> {
     let mut nand = drawn(alloc, random)?;
     let found = scan(alloc, &mut nand)?;
-    finds_newest(rt, alloc, &mut nand, &found.newest, "a drawn flash")?;
+    let _listed = finds_newest(rt, alloc, &mut nand, &found.newest, "a drawn flash")?;
     Ok(found.counted.len() as u64)
 }
 

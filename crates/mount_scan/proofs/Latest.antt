@@ -2,7 +2,7 @@
 use Rattle.std.specs.Prelude.{◌≡◌, ◌<◌, ◌^◌, ℕ, ◌+◌, false, true, List, [], Option, length, Contains}
 use Rattle.std.proofs.Common.{refl, sym, ◌∙◌, ap, subst, inl, inr, arith, get_or}
 use Rattle.std.proofs.lemmas.Bool.{cases_eq, false≢true}
-use Rattle.std.proofs.lemmas.List.Elements.{Contains-get_or, All-contains}
+use Rattle.std.proofs.lemmas.List.Elements.{Contains-get_or}
 use Rattle.nand_model.specs.Flash.{Flash, IsWithin}
 use Rattle.nand_model.specs.Calls.{Device}
 use Rattle.nand_model.specs.Changes.{OnlyReads}
@@ -17,8 +17,8 @@ use Rattle.found_pages.specs.Copies.{FitsCopy, copy_at, copy_of, spot_of_copy}
 use Rattle.found_pages.specs.Keys.{HaveOneKey, ThinsFound, AreLatest}
 use Rattle.found_pages.specs.declared.copy.PageCopy.{PageCopy}
 use Rattle.found_pages.specs.laws.Order.{not_after_on}
-use Rattle.mount_scan.specs.Scanned.{IsNewestCopy, AreNewest, TellsCounted, TellsNewest}
-use Rattle.mount_scan.specs.laws.Scan.{found_of, listed_spot}
+use Rattle.mount_scan.specs.Scanned.{IsNewestCopy, AreNewest, TellsNewest}
+use Rattle.mount_scan.specs.laws.Scan.{found_of}
 use Rattle.mount_scan.specs.Runs.{AddsCounted}
 use Rattle.mount_scan.specs.Blocks.{AreTags}
 use Rattle.mount_scan.specs.Latest.{TellsBlock, IsCountedCopy, HasLatestBelow}
@@ -135,33 +135,6 @@ latest_back a b k list reads below = record {
   low = below.low;
   held = λ honest f has. subst (λ fl. IsCountedCopy fl f) (same_flash a b reads honest) (below.held (reads.lasts.honest ∙ honest) f has);
   some = λ honest g lt low holds. below.some (reads.lasts.honest ∙ honest) g lt low (subst (λ fl. Holds fl g.tag.object g.tag.chunk (spot_of g)) (sym (same_flash a b reads honest)) holds);
-}
-
--- what is left of all pages that count
-pub latest_counted : (device : Device) (counted : List Found) (old new : List PageCopy) → TellsCounted device counted → ((f : PageCopy) → Contains old f → ⊥) → ThinsFound counted old new
-    → HasLatestBelow device device.geometry.blocks new
-latest_counted device counted old new tells none thins = record {
-  placed = λ f has. elim (thins.among f has) [
-    | inl was ↦ absurd (none f was)
-    | inr is ↦
-        let (x, there, fits, same) = is in
-        let at = All-contains (λ (y : Found). (y.block < device.geometry.blocks) × (y.page < device.geometry.pages)) counted x tells.placed there in
-        subst (λ (y : PageCopy). (y.block < device.geometry.blocks) × (y.page < device.geometry.pages)) same at
-  ];
-  low = λ f has. elim (thins.among f has) [
-    | inl was ↦ absurd (none f was)
-    | inr is ↦ let (x, there, fits, same) = is in copy_low x f fits same
-  ];
-  held = λ honest f has. elim (thins.among f has) [
-    | inl was ↦ absurd (none f was)
-    | inr is ↦
-        let (x, there, fits, same) = is in
-        counted_copy device.flash x f same (((tells.exact honest).each (spot_of x)).1 ((listed_spot counted (spot_of x)).1 there))
-  ];
-  some = λ honest g lt low holds.
-      let has = (listed_spot counted (spot_of g)).0 (((tells.exact honest).each (spot_of g)).0 holds) in
-      let at = All-contains (λ (y : Found). (y.block < device.geometry.blocks) × (y.page < device.geometry.pages)) counted g tells.placed has in
-      thins.some (copy_of g) (inr (g, has, place_fits device.geometry g low at.0 at.1, refl));
 }
 
 -- ---- all blocks

@@ -3,3 +3,4 @@ pub mod Adding
 pub mod Tagged
 pub mod Raised
 pub mod Latest
+pub mod NewestMap

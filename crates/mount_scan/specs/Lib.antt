@@ -3,3 +3,4 @@ pub mod laws
 pub mod Runs
 pub mod Blocks
 pub mod Latest
+pub mod NewestMap

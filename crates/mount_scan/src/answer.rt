@@ -1,15 +1,16 @@
-// What a scan tells.
+// What a scan returns.
 
 use flash_tree::{Found, TagNumbers};
 use found_pages::FoundPages;
+use std::collections::BTreeMap;
 
-/// What stands on a flash.
+/// What is on a flash.
 #[derive(Drop)]
 pub struct Scan {
     /// The pages that count, in the order of blocks and pages.
     pub counted: Vec<Found>,
-    /// The newest page of each key.
-    pub newest: FoundPages,
+    /// The newest page of each key: of an object and a chunk.
+    pub newest: BTreeMap<(u64, u64), Found>,
     /// The greatest numbers of all valid tags of good blocks, of pages that count and of those that don't.
     pub numbers: TagNumbers,
 }
@@ -17,7 +18,7 @@ pub struct Scan {
 /// What a mount needs of it.
 #[derive(Drop)]
 pub struct NewestScan {
-    /// The newest page of each key.
+    /// The newest page of each key whose chunk a tree may look up.
     pub newest: FoundPages,
     /// The greatest numbers of all valid tags of good blocks, of pages that count and of those that don't.
     pub numbers: TagNumbers,

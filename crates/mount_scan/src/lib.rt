@@ -6,6 +6,7 @@ mod block;
 mod fault;
 mod group;
 mod law;
+mod newest;
 mod raise;
 mod whole;
 

@@ -5,12 +5,14 @@ ghost use Rattle.flash_tree.specs.Places.{numbers_of};
 ghost use Rattle.mount_scan.specs.Scanned.{TellsCounted, TellsNewest, ReadsEach, good_pages};
 ghost use Rattle.mount_scan.specs.Blocks.{TellsBelow, AreGreatestBelow};
 ghost use Rattle.mount_scan.specs.Latest.{TellsBlock, HasLatestBelow};
+ghost use Rattle.mount_scan.specs.NewestMap.{ReportsNewest};
 ghost use Rattle.found_pages.specs.Listed.{listed};
 
 use crate::answer::{NewestScan, Scan};
 use crate::block::read_tags;
 use crate::fault::ScanFault;
 use crate::group::add_counted;
+use crate::newest::newest_of;
 use crate::raise::raised_by;
 use flash_tree::{Found, TagNumbers};
 use found_pages::FoundPages;
@@ -124,13 +126,11 @@ fn find_blocks<N: Nand>(alloc: Global, device: &mut N) -> Result<NewestScan, Sca
 pub fn scan<N: Nand>(alloc: Global, device: &mut N) -> Result<Scan, ScanFault>
     ensures reads { ReadsEach (good_pages (N.state device.old).flash (N.state device.old).geometry.pages (N.state device.old).geometry.blocks) (N.state device.old) (N.state device.new) result }
     ensures counted { IfOk result (λ scan. TellsCounted (N.state device.old) scan.counted.items) }
-    ensures newest { IfOk result (λ scan. TellsNewest (N.state device.old) (listed scan.newest)) }
+    ensures newest { IfOk result (λ scan. ReportsNewest (N.state device.old) scan.newest) }
     ensures numbers { (N.state device.old).honest ≡ true → IfOk result (λ scan. AreGreatest (N.state device.old).flash (numbers_of scan.numbers)) }
 {
     let seen = scan_blocks(alloc, device)?;
-    let mut newest = FoundPages::new(alloc)?;
-    newest.add_all(&seen.counted)?;
-    newest.keep_newest();
+    let newest = newest_of(alloc, &seen.counted)?;
     Ok(Scan {
         counted: seen.counted,
         newest,
@@ -138,8 +138,8 @@ pub fn scan<N: Nand>(alloc: Global, device: &mut N) -> Result<Scan, ScanFault>
     })
 }
 
-/// What `scan` finds, without the list of the pages that count, and in less memory: while it goes on, pages are given up that
-/// are not the newest of their keys. A mount needs no more.
+/// The newest pages of the keys that a tree may look up, those of chunks below 2^32, and the greatest numbers, in less memory than
+/// `scan` takes: while it goes on, pages are given up that are not the newest of their keys. A mount needs no more.
 pub fn scan_newest<N: Nand>(alloc: Global, device: &mut N) -> Result<NewestScan, ScanFault>
     ensures reads { ReadsEach (good_pages (N.state device.old).flash (N.state device.old).geometry.pages (N.state device.old).geometry.blocks) (N.state device.old) (N.state device.new) result }
     ensures newest { IfOk result (λ scan. TellsNewest (N.state device.old) (listed scan.newest)) }

@@ -1,7 +1,7 @@
 // The end of a store with a checkpoint.
 ghost use Rattle.std.specs.Prelude.{◌≡◌, ◌≤◌, ◌+◌};
 ghost use Rattle.block_state.specs.TableOf.{table};
-ghost use Rattle.checkpoint_writing.specs.Due.{IsDue};
+ghost use Rattle.checkpoint_writing.specs.Due.{IsDue, check_pages};
 ghost use Rattle.nand_model.specs.Counts.{Costs};
 ghost use Rattle.objects.specs.Sealing.{IsSealed, seal_fault_of};
 
@@ -29,7 +29,7 @@ impl<N: Nand> Store<N> {
     pub fn seal(self) -> (N, Result<(), StoreFault>)
         ensures seals { IsSealed (IsDue self.spare (table self.blocks)) (⟦<Store<N> as Pages>⟧.state self) (N.state result.0) result.1 }
         // The erase of a block and the pages of the checkpoint, and for each failure an erase or a mark, and what failed.
-        ensures costs { Costs ((N.state self.device).geometry.pages + 1) 2 0 (N.state self.device) (N.state result.0) }
+        ensures costs { Costs (check_pages (table self.blocks) + 1) 2 0 (N.state self.device) (N.state result.0) }
         // No page is read but one whose program is said to have failed.
         ensures reads { (N.state result.0).reads + (N.state self.device).failures ≤ (N.state self.device).reads + (N.state result.0).failures }
     {

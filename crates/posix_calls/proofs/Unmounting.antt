@@ -1,5 +1,5 @@
 -- How a volume ends, by how its pages end.
-use Rattle.std.specs.Prelude.{◌≡◌, ◌⊎◌, ◌≤◌, Bool, true, false, Result, Ok, Err, OnOk}
+use Rattle.std.specs.Prelude.{◌≡◌, ◌⊎◌, ◌≤◌, ℕ, Bool, true, false, Result, Ok, Err, OnOk}
 use Rattle.std.proofs.Common.{refl, sym, ◌∙◌, ap, subst, inl, inr}
 use Rattle.std.proofs.lemmas.Bool.{true≢false}
 use Rattle.nand_model.specs.Calls.{Device}
@@ -148,30 +148,30 @@ module _ {P : Type 0} (state : P → PagesState) (v : PageVolume P) (p : PagesSt
     }
 
 -- What follows the last reply of a volume that can be written, over the device that is given back.
-module _ {P : Type 0} (state : P → PagesState) (due : P → Type 0) (v : PageVolume P) (pages : P) (reply : Reply) (finished : Finished state v (state pages) reply) (written : is_read_only v ≡ false)
-    (raw device : Device) (told : Reply) (ends : EndsWith (due pages) (state pages) reply raw told) (lies : (trusted : Bool) × (raw ≡ trusted_as trusted device)) where
+module _ {P : Type 0} (state : P → PagesState) (due : P → Type 0) (length : P → ℕ) (v : PageVolume P) (pages : P) (reply : Reply) (finished : Finished state v (state pages) reply) (written : is_read_only v ≡ false)
+    (raw device : Device) (told : Reply) (ends : EndsWith (due pages) (state pages) reply raw told) (costs : CostsACheckpoint (length pages) (state pages).device raw) (lies : (trusted : Bool) × (raw ≡ trusted_as trusted device)) where
   on_raw : (q : PagesState) → q.device ≡ raw → LiesOn q device
   on_raw q is = (lies.0, is ∙ lies.1)
 
   pub ends_with : IsUnmounted state v device told
   ends_with = elim ends [
-    | inl (done, sealed, is, costs, same) ↦ sealed_after state v (state pages) reply finished device (due pages) raw done written sealed is told same (on_raw is.pages is.device_is)
+    | inl (done, sealed, is, same) ↦ sealed_after state v (state pages) reply finished device (due pages) raw done written sealed is told same (on_raw is.pages is.device_is)
     | inr (not, is, same) ↦ subst (λ (r : Reply). IsUnmounted state v device r) (sym same) (left_alone state v (state pages) reply finished device (on_raw (state pages) is))
   ]
 
-  left_by : (sealed : Result (Unit {0}) StoreFault) → IsSealed (due pages) (state pages) raw sealed → CostsACheckpoint (state pages) raw → reply_of sealed ≡ replies.Done → LeavesCheckpoint state due v device
-  left_by (Ok done') is costs done = record {
+  left_by : (sealed : Result (Unit {0}) StoreFault) → IsSealed (due pages) (state pages) raw sealed → reply_of sealed ≡ replies.Done → LeavesCheckpoint state due length v device
+  left_by (Ok done') is done = record {
     committed = pages;
     goes_on = finished.goes_on;
     left = is.pages;
     device_is = on_raw is.pages is.device_is;
     ends = is.ends;
-    costs = subst (λ (d : Device). CostsACheckpoint (state pages) d) (sym is.device_is) costs;
+    costs = subst (CostsACheckpoint (length pages) (state pages).device) (sym is.device_is) costs;
   }
-  left_by (Err fault) is costs done = absurd (not_done done)
+  left_by (Err fault) is done = absurd (not_done done)
 
-  pub leaves_one : told ≡ replies.Done → LeavesCheckpoint state due v device
+  pub leaves_one : told ≡ replies.Done → LeavesCheckpoint state due length v device
   leaves_one done = elim ends [
-    | inl (first, sealed, is, costs, same) ↦ left_by sealed is costs (sym same ∙ done)
+    | inl (first, sealed, is, same) ↦ left_by sealed is (sym same ∙ done)
     | inr (not, is, same) ↦ absurd (not (sym same ∙ done))
   ]

@@ -1,6 +1,6 @@
 -- How a volume ends.
 -- From: this project.
-use Rattle.std.specs.Prelude.{◌≡◌, ◌⊎◌, ◌≤◌, ◌+◌, Bool, true, false, Result, Ok, Err}
+use Rattle.std.specs.Prelude.{◌≡◌, ◌⊎◌, ◌≤◌, ◌+◌, ℕ, Bool, true, false, Result, Ok, Err}
 use Rattle.nand_model.specs.Calls.{Device}
 use Rattle.nand_model.specs.Counts.{Costs}
 use Rattle.object_store.specs.Stores.{settled}
@@ -43,19 +43,19 @@ pub record IsUnmounted {P : Type 0} (state : P → PagesState) (v : PageVolume P
   pub cause : is_stopped v ≡ false → (z : Sizes) (s : State) → IsVolumeOf state z s v → reply ≡ replies.Error errors.EIO → HasEnded (state (pages_of v)) pages
   pub checked : is_stopped v ≡ false → (z : Sizes) (s : State) → IsVolumeOf state z s v → StaysRight (state (pages_of v)) pages
 
--- what a checkpoint of these pages costs at most: the erase of a block and its pages, and two changes for each failure
-abbrev pub CostsACheckpoint : PagesState → Device → Type 0
-CostsACheckpoint pages device = Costs (pages.device.geometry.pages + 1) 2 0 pages.device device
+-- What a checkpoint of so many pages costs at most: the erase of a block, its pages, and for each failure an erase or a mark, and what failed.
+abbrev pub CostsACheckpoint : (pages : ℕ) → Device → Device → Type 0
+CostsACheckpoint pages old new = Costs (pages + 1) 2 0 old new
 
 -- The pages were committed, and no checkpoint of them was due; or one is whole on the device now, or it counted a failure. It cost the
--- erase of a block and the pages of the checkpoint at most, and for each failure an erase or a mark, and what failed.
-pub record LeavesCheckpoint {P : Type 0} (state : P → PagesState) (due : P → Type 0) (v : PageVolume P) (device : Device) : Type 0 where
+-- erase of a block and as many pages as the checkpoint has at most, and for each failure an erase or a mark, and what failed.
+pub record LeavesCheckpoint {P : Type 0} (state : P → PagesState) (due : P → Type 0) (length : P → ℕ) (v : PageVolume P) (device : Device) : Type 0 where
   pub committed : P
   pub goes_on : GoesOn (state (pages_of v)) (state committed)
   pub left : PagesState
   pub device_is : LiesOn left device
   pub ends : SealEnds (due committed) (state committed) left (Ok tt)
-  pub costs : CostsACheckpoint (state committed) left.device
+  pub costs : CostsACheckpoint (length committed) (state committed).device left.device
 
 -- the reply to an unmount, by how the writing of its checkpoint ended
 abbrev pub reply_of : Result (Unit {0}) StoreFault → Reply
@@ -65,5 +65,5 @@ reply_of (Err fault) = replies.Error errors.EIO
 -- What follows the last reply of pages that are given up: after Done their checkpoint is written where it is due, and else they are left.
 abbrev pub EndsWith : (due : Type 0) → PagesState → Reply → Device → Reply → Type 0
 EndsWith due pages reply device told =
-    ((reply ≡ replies.Done) × (sealed : Result (Unit {0}) StoreFault) × IsSealed due pages device sealed × CostsACheckpoint pages device × (told ≡ reply_of sealed))
+    ((reply ≡ replies.Done) × (sealed : Result (Unit {0}) StoreFault) × IsSealed due pages device sealed × (told ≡ reply_of sealed))
     ⊎ ((reply ≡ replies.Done → ⊥) × (pages.device ≡ device) × (told ≡ reply))

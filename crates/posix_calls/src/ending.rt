@@ -1,6 +1,6 @@
 // The end of the pages of a volume.
-ghost use Rattle.posix_calls.specs.Endings.{EndsWith};
-ghost use Rattle.flash_pages.specs.Sealing.{IsDueOf};
+ghost use Rattle.posix_calls.specs.Endings.{CostsACheckpoint, EndsWith};
+ghost use Rattle.flash_pages.specs.Sealing.{IsDueOf, check_pages_of};
 
 use flash_pages::FlashPages;
 use nand_model::Nand;
@@ -10,7 +10,8 @@ use posix_profile::{Errno, Reply};
 /// Gives the device of pages back that answered so last: after Done a checkpoint of them is written, where one is due, and the reply
 /// is Error of EIO where that could not be done.
 pub(crate) fn end_with<N: Nand>(pages: FlashPages<N>, reply: Reply) -> (N, Reply)
-    ensures { EndsWith (IsDueOf pages) (⟦<FlashPages<N> as Pages>⟧.state pages) reply (N.state result.0) result.1 }
+    ensures ends { EndsWith (IsDueOf pages) (⟦<FlashPages<N> as Pages>⟧.state pages) reply (N.state result.0) result.1 }
+    ensures costs { CostsACheckpoint (check_pages_of pages) (⟦<FlashPages<N> as Pages>⟧.state pages).device (N.state result.0) }
 {
     match reply {
         Reply::Done => match pages.seal() {

@@ -30,7 +30,7 @@ impl<N: Nand> Volume<N> {
     ghost use Rattle.object_commands.specs.Reads.{LeavesRest, asked_of, read_reply, reading};
     ghost use Rattle.page_volume.specs.Running.{RunsPages};
     ghost use Rattle.page_volume.specs.Volumes.{pages_of, table_of, is_read_only, is_stopped};
-    ghost use Rattle.flash_pages.specs.Sealing.{IsDueOf};
+    ghost use Rattle.flash_pages.specs.Sealing.{IsDueOf, check_pages_of};
     ghost use Rattle.page_volume.specs.Calls.{IsCalled, VolumeGoesOn};
     ghost use Rattle.posix_calls.specs.Describing.{IsDescribed};
     ghost use Rattle.posix_calls.specs.Endings.{IsUnmounted, LeavesCheckpoint, LiesOn};
@@ -75,7 +75,7 @@ impl<N: Nand> Volume<N> {
     pub fn unmount(self) -> (N, Reply)
         ensures ends { IsUnmounted ⟦<FlashPages<TrustedNand<N>> as Pages>⟧.state (over_pages self) (N.state result.0) result.1 }
         ensures leaves { is_read_only (over_pages self) ≡ false → result.1 ≡ replies.Done
-            → LeavesCheckpoint ⟦<FlashPages<TrustedNand<N>> as Pages>⟧.state IsDueOf (over_pages self) (N.state result.0) }
+            → LeavesCheckpoint ⟦<FlashPages<TrustedNand<N>> as Pages>⟧.state IsDueOf check_pages_of (over_pages self) (N.state result.0) }
     {
         let read_only = self.volume.read_only();
         let (pages, reply) = self.volume.finish();

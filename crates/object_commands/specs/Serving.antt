@@ -1,8 +1,8 @@
 -- What one call of a volume does.
-use Rattle.std.specs.Prelude.{◌≡◌, ◌⊎◌, true, false}
-use Rattle.command_plans.specs.Classes.{class_of, makes_no_call}
+use Rattle.std.specs.Prelude.{◌≡◌, ◌⊎◌, ◌&&◌, Bool, true, false, not}
+use Rattle.command_plans.specs.Classes.{class_of, is_error, makes_no_call}
 use Rattle.object_commands.specs.Endings.{IsAt, CommandEnds}
-use Rattle.object_commands.specs.Volumes.{store_of, is_read_only, is_stopped}
+use Rattle.object_commands.specs.Volumes.{store_of, handles_of, is_read_only, is_stopped}
 use Rattle.object_commands.specs.declared.volume.Volume.{Volume}
 use Rattle.object_store.specs.Stores.{Meaning}
 use Rattle.posix_profile.specs.Runs.{takes_no_memory, is_stop}
@@ -14,8 +14,17 @@ use Rattle.posix_profile.specs.declared.reply.Reply.{Reply}
 use Rattle.posix_profile.specs.declared.reply.Reply.TheVariants as replies
 use Rattle.volume_terms.specs.Sizes.{Sizes}
 
+-- whether a reply is an error after which the volume goes on: any but EIO
+abbrev pub is_refusal : Reply → Bool
+is_refusal reply = is_error reply && not (is_stop reply)
+
+-- Nothing is changed: the store was only read, and the descriptors stand for what they did.
+pub record StaysAsItWas {S : Type 0} (m : Meaning S) (old new : Volume S) : Type 0 where
+  pub store : m.reads (store_of old) (store_of new)
+  pub handles : handles_of new ≡ handles_of old
+
 -- A volume that is stopped answers EIO and stays as it is; another one is stopped by EIO alone, and from a state that it stands for it ends as
--- the command does. A reply other than EIO leaves the device its power; what makes no call of the device leaves it. A read-only volume only
+-- the command does. An error other than EIO changes nothing, of any store. A reply other than EIO leaves the device its power; what makes no call of the device leaves it. A read-only volume only
 -- reads, or makes no call, and stops only where a read failed.
 pub record IsServed {S : Type 0} (m : Meaning S) (old : Volume S) (command : Stamped) (reply : Reply) (new : Volume S) : Type 0 where
   pub keeps : is_read_only new ≡ is_read_only old
@@ -26,5 +35,6 @@ pub record IsServed {S : Type 0} (m : Meaning S) (old : Volume S) (command : Sta
   pub unread : is_read_only old ≡ true → is_stopped old ≡ false → (z : Sizes) (s : State) → IsAt m z s old → is_stop reply ≡ true → m.unread (store_of old) (store_of new)
   pub stopped : is_stopped old ≡ true → (reply ≡ replies.Error errors.EIO) × (new ≡ old)
   pub stops : is_stopped old ≡ false → is_stopped new ≡ is_stop reply
+  pub refuses : is_refusal reply ≡ true → StaysAsItWas m old new
   pub ends : is_stopped old ≡ false → (z : Sizes) (s : State) → IsAt m z s old
       → CommandEnds m z (class_of (is_read_only old) s command.command) (takes_no_memory command.command) s (step z (is_read_only old) s command) old new reply

@@ -8,6 +8,7 @@ ghost use Rattle.posix_profile.specs.Outcomes.{Outcome};
 ghost use Rattle.posix_profile.specs.Requests.{command_of, stamped_of};
 ghost use Rattle.posix_profile.specs.Runs.{takes_no_memory, is_stop, after, AllStopped, RunHolds};
 ghost use Rattle.volume_terms.specs.Sizes.{Sizes};
+ghost use Rattle.posix_profile.specs.laws.Error.{KeepsOnError};
 ghost use Rattle.posix_profile.specs.laws.Sound.{IsSound};
 ghost use Rattle.posix_profile.specs.State.{Objects, State};
 ghost use Rattle.posix_profile.specs.Steps.{step};
@@ -95,6 +96,7 @@ fn work<S: ObjectStore>(store: &mut S, asked: &StoreWork<'_>) -> Result<(), Stor
     ensures works { (z : Sizes) (objects : Objects) → Has S.meaning z objects store.old → CanDo z objects asked.now
         → Works S.meaning objects asked.now store.old store.new result }
     ensures fails { IfErr result (λ fault. does_nothing asked.now ≡ false) }
+    ensures refused { result ≡ Err faults.NoMemory → S.meaning.reads store.old store.new }
     ensures memory { frees asked.now ≡ true → result ≡ Err faults.NoMemory → ⊥ }
 {
     match asked {
@@ -135,7 +137,7 @@ pub struct Volume<S> {
 impl<S: ObjectStore> Volume<S> {
     ghost use Rattle.command_plans.specs.Tables.{handles_in};
     ghost use Rattle.object_commands.specs.Volumes.{store_of, handles_of, is_read_only, is_stopped};
-    ghost use Rattle.object_commands.specs.Serving.{IsServed};
+    ghost use Rattle.object_commands.specs.Serving.{IsServed, StaysAsItWas, is_refusal};
     ghost use Rattle.object_commands.specs.Endings.{IsAt, CommandEnds, StaysReading, TellsRefusal};
     ghost use Rattle.object_commands.specs.Reads.{LeavesRest, asked_of, read_reply, reading};
     ghost use Rattle.object_commands.specs.Running.{Runs};
@@ -248,7 +250,7 @@ impl<S: ObjectStore> Volume<S> {
         }
     }
 
-    /// Carries out a plan and replies. Its caller stops the volume by the reply.
+    /// Carries out a plan and replies: an error changes nothing. Its caller stops the volume by the reply.
     fn carry_out(&mut self, plan: Plan<'_>) -> Reply
         ensures keeps { is_read_only self.new ≡ is_read_only self.old }
         ensures lasts { S.meaning.lasts (store_of self.old) (store_of self.new) }
@@ -256,11 +258,15 @@ impl<S: ObjectStore> Volume<S> {
         ensures power { is_stop result ≡ false → S.meaning.has_power (store_of self.old) ≡ true → S.meaning.has_power (store_of self.new) ≡ true }
         ensures reads { does_nothing plan.entry.work ≡ true → S.meaning.reads (store_of self.old) (store_of self.new) }
         ensures leaves { leaves_device plan.entry.work ≡ true → S.meaning.leaves (store_of self.old) (store_of self.new) }
+        ensures refuses { is_refusal result ≡ true → StaysAsItWas S.meaning self.old self.new }
         ensures ends { (z : Sizes) (s : State) → IsAt S.meaning z s self.old
-            → (class : Class) (meant : Outcome) → IsPlan z class s meant plan.entry → IsSound z meant.state → is_stop meant.reply ≡ false
+            → (class : Class) (meant : Outcome) → IsPlan z class s meant plan.entry → IsSound z meant.state → is_stop meant.reply ≡ false → KeepsOnError s meant
             → (is_read_only self.old ≡ true → StaysReading s meant.state)
             → CommandEnds S.meaning z class (frees plan.entry.work) s meant self.old (record self.new { stopped = is_stop result }) result }
     {
+        if let Reply::Error(error) = plan.reply {
+            return Reply::Error(error);
+        }
         match work(&mut self.store, &plan.work) {
             Ok(()) => {
                 handle(&mut self.table, plan.handles);
@@ -279,6 +285,7 @@ impl<S: ObjectStore> Volume<S> {
         // A reply other than EIO is given by a device that has not lost its power in the command.
         ensures power { is_stop result ≡ false → S.meaning.has_power (store_of self.old) ≡ true → S.meaning.has_power (store_of self.new) ≡ true }
         ensures leaves { makes_no_call (command_of asked.now.request) ≡ true → S.meaning.leaves (store_of self.old) (store_of self.new) }
+        ensures refuses { is_refusal result ≡ true → StaysAsItWas S.meaning self.old self.new }
         ensures only { is_read_only self.old ≡ true → (z : Sizes) (s : State) → IsAt S.meaning z s self.old
             → S.meaning.reads (store_of self.old) (store_of self.new) ⊎ S.meaning.leaves (store_of self.old) (store_of self.new) }
         // A read-only volume stops only where a read failed.
@@ -331,6 +338,7 @@ impl<S: ObjectStore> Volume<S> {
         ensures reads { S.meaning.reads (store_of self.old) (store_of self.new) }
         ensures lasts { S.meaning.lasts (store_of self.old) (store_of self.new) }
         ensures power { is_stop (read_reply buffer.new result) ≡ false → S.meaning.has_power (store_of self.old) ≡ true → S.meaning.has_power (store_of self.new) ≡ true }
+        ensures refuses { is_refusal (read_reply buffer.new result) ≡ true → StaysAsItWas S.meaning self.old self.new }
         ensures unread { (z : Sizes) (s : State) → IsAt S.meaning z s self.old → is_stop (read_reply buffer.new result) ≡ true → S.meaning.unread (store_of self.old) (store_of self.new) }
         ensures ends { (z : Sizes) (s : State) → IsAt S.meaning z s self.old
             → CommandEnds S.meaning z Telling false s (step z (is_read_only self.old) s (reading fd (asked_of buffer.old)))

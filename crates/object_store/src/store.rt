@@ -85,6 +85,8 @@ pub trait ObjectStore {
         ensures leaves { takes_none change.now ≡ true → meaning.leaves self.old self.new }
         ensures applies { (z : Sizes) (objects : Objects) → Has meaning z objects self.old → CanMake z objects change.now
             → Applies meaning objects (made objects change.now) self.old self.new result }
+        // A change that is refused memory is none, of any store.
+        ensures refused { result ≡ Err faults.NoMemory → meaning.reads self.old self.new }
         ensures memory { takes_none change.now ≡ true → result ≡ Err faults.NoMemory → ⊥ };
 
     /// Makes the objects, without those that only descriptors keep, the tree that a mount shows.

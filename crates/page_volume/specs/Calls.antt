@@ -3,9 +3,10 @@ use Rattle.std.specs.Prelude.{◌≡◌, ◌⊎◌, true, false}
 use Rattle.command_plans.specs.Classes.{makes_no_call}
 use Rattle.nand_model.specs.Changes.{OnlyReads}
 use Rattle.object_commands.specs.Running.{OnlyTells}
+use Rattle.object_commands.specs.Serving.{is_refusal}
 use Rattle.object_store.specs.Stores.{settled}
-use Rattle.object_table.specs.Told.{table_sizes}
-use Rattle.page_volume.specs.Volumes.{pages_of, table_of, is_read_only, is_stopped, IsVolumeOf}
+use Rattle.object_table.specs.Told.{table_sizes, TellsTheSame}
+use Rattle.page_volume.specs.Volumes.{pages_of, table_of, handles_of, is_read_only, is_stopped, IsVolumeOf}
 use Rattle.page_volume.specs.declared.volume.PageVolume.{PageVolume}
 use Rattle.paged_objects.specs.Ending.{HasEnded, StaysAs}
 use Rattle.paged_objects.specs.Standing.{Shown}
@@ -40,7 +41,15 @@ pub record VolumeGoesOn {P : Type 0} (state : P → PagesState) (old new : PageV
   pub pages : GoesOn (state (pages_of old)) (state (pages_of new))
   pub read_only : is_read_only new ≡ is_read_only old
 
--- What makes no call of the device leaves it, and a reply other than EIO leaves its power. A volume that is stopped answers EIO and stays
+-- Nothing is changed: the pages are the same and the device was only read, the table has the same objects, and the descriptors stand for
+-- what they did.
+pub record VolumeStays {P : Type 0} (state : P → PagesState) (old new : PageVolume P) : Type 0 where
+  pub pages : StaysAs (state (pages_of old)) (state (pages_of new))
+  pub table : TellsTheSame (table_of old) (table_of new)
+  pub handles : handles_of new ≡ handles_of old
+
+-- What makes no call of the device leaves it, an error other than EIO changes nothing, of any device, and a reply other than EIO leaves its
+-- power. A volume that is stopped answers EIO and stays
 -- as it is; another one is stopped by EIO alone, and replies from the state that it stands for.
 pub record IsCalled {P : Type 0} (state : P → PagesState) (old : PageVolume P) (command : Stamped) (reply : Reply) (new : PageVolume P) : Type 0 where
   pub goes_on : GoesOn (state (pages_of old)) (state (pages_of new))
@@ -50,4 +59,5 @@ pub record IsCalled {P : Type 0} (state : P → PagesState) (old : PageVolume P)
   pub keeps_power : is_stop reply ≡ false → (state (pages_of old)).device.gone ≡ false → (state (pages_of new)).device.gone ≡ false
   pub stopped : is_stopped old ≡ true → (reply ≡ replies.Error errors.EIO) × (new ≡ old)
   pub stops : is_stopped old ≡ false → is_stopped new ≡ is_stop reply
+  pub refuses : is_refusal reply ≡ true → VolumeStays state old new
   pub replied : is_stopped old ≡ false → (z : Sizes) (s : State) → IsVolumeOf state z s old → IsReplied state z s old command reply new

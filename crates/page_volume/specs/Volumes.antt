@@ -2,7 +2,7 @@
 use Rattle.std.specs.Prelude.{◌≡◌, ◌≤◌, Bool, true, false}
 use Rattle.std.specs.FinMap as map
 use Rattle.volume_terms.specs.Sizes.{Sizes, IsSizes}
-use Rattle.posix_profile.specs.State.{Objects, State}
+use Rattle.posix_profile.specs.State.{Handles, Objects, State}
 use Rattle.posix_profile.specs.laws.Sound.{IsSound}
 use Rattle.name_index.specs.declared.index.NameIndex.{NameIndex}
 use Rattle.object_commands.specs.Endings.{AreReading}
@@ -29,6 +29,10 @@ table_of v = parts.table_of (volumes.store_of v.volume)
 -- the index of the names of its objects
 abbrev pub names_of : {P : Type 0} → PageVolume P → NameIndex
 names_of v = parts.names_of (volumes.store_of v.volume)
+
+-- what its descriptors stand for
+abbrev pub handles_of : {P : Type 0} → PageVolume P → Handles
+handles_of v = volumes.handles_of v.volume
 
 -- commands that would change it are refused
 abbrev pub is_read_only : {P : Type 0} → PageVolume P → Bool

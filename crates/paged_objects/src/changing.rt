@@ -1,5 +1,5 @@
 // Changes of objects, in their pages, in the table and in the index of names.
-ghost use Rattle.std.specs.Prelude.{◌≡◌, ◌≤◌, true, OnOk, IfOk, IfErr, IfSome, Err, length};
+ghost use Rattle.std.specs.Prelude.{◌≡◌, ◌≤◌, true, OnOk, IfOk, IfErr, IfSome, IsErrOf, Err, length};
 ghost use Rattle.std.specs.FinMap as map;
 ghost use Rattle.volume_terms.specs.Sizes.{Sizes};
 ghost use Rattle.volume_terms.specs.declared.fault.StoreFault.TheVariants as faults;
@@ -16,8 +16,8 @@ ghost use Rattle.directories.specs.Hashing.{HoldsMore};
 ghost use Rattle.object_pages.specs.Holding.{HoldsObjects};
 ghost use Rattle.object_pages.specs.Naming.{HasNames};
 ghost use Rattle.object_pages.specs.Plans.{most_pages};
-ghost use Rattle.paged_objects.specs.Ending.{HasPages, EndsPages};
-ghost use Rattle.paged_objects.specs.Known.{HasNamed, HasObjects, state_with, sizes_in};
+ghost use Rattle.paged_objects.specs.Ending.{HasPages, EndsPages, StaysAs};
+ghost use Rattle.paged_objects.specs.Known.{HasNamed, HasObjects, StaysIn, state_with, sizes_in};
 ghost use Rattle.paged_objects.specs.Changing.{ChangeEnds, LeavesBy, HasLeftBy, outcome_of};
 ghost use Rattle.paged_objects.specs.Faults.{ReadFailsBy};
 
@@ -106,6 +106,7 @@ fn take<P: PageStore>(pages: &mut P, planned: Change) -> Result<(), StoreFault>
     ensures present { (P.state pages.old).sound ≡ true → OnOk result (SamePages (P.state pages.new).present (changed planned (P.state pages.old).present)) }
     ensures makes { (z : Sizes) (old new : Objects) → HasPages z (P.state pages.old) old → length planned.pages.items ≤ (P.state pages.old).most
         → HoldsObjects z (changed planned (P.state pages.old).present) new → EndsPages z (P.state pages.old) (P.state pages.new) old new result }
+    ensures refused { IsErrOf result faults.NoMemory → StaysAs (P.state pages.old) (P.state pages.new) }
 {
     if planned.pages.len() > pages.most_pages() as usize {
         return Err(StoreFault::Device);
@@ -187,6 +188,7 @@ fn change_pages<P: PageStore>(
         → OnOk result (HasNames names.new z (P.state pages.new).present (made objects change.now)) }
     ensures left { (z : Sizes) (objects : Objects) → HasNamed names.old z (P.state pages.old) objects → CanMake z objects change.now → new ≡ new_number objects
         → IfOk result (HasLeftBy z (P.state pages.new).present (made objects change.now) change.now) }
+    ensures refused { IsErrOf result faults.NoMemory → StaysAs (P.state pages.old) (P.state pages.new) }
 {
     let planned = plan_named(names, pages, alloc, change, new)?;
     let left = left_by(names, pages.page_bytes(), &planned, change);
@@ -207,6 +209,7 @@ pub(crate) fn make<P: PageStore>(
     ensures sizes { table_sizes table.new ≡ table_sizes table.old }
     ensures makes { (objects : Objects) → let old = state_with (P.state pages.old) table.old names.old in HasObjects old objects → CanMake (sizes_in old) objects change.now
         → ChangeEnds old (state_with (P.state pages.new) table.new names.new) objects (made objects change.now) result }
+    ensures refused { IsErrOf result faults.NoMemory → StaysIn (state_with (P.state pages.old) table.old names.old) (state_with (P.state pages.new) table.new names.new) }
 {
     prepare(table, change)?;
     let replaced = find_replaced(table, names, pages, change)?;

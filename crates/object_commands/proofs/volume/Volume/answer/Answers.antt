@@ -4,6 +4,7 @@ use Rattle.posix_profile.specs.Outcomes.{Outcome, refuse}
 use Rattle.posix_profile.specs.Requests.{command_of, stamped_of}
 use Rattle.posix_profile.specs.Runs.{is_stop}
 use Rattle.posix_profile.specs.declared.reply.Reply.TheVariants as replies
+use Rattle.posix_profile.specs.laws.Error.{error_keeps}
 use Rattle.posix_profile.specs.laws.Own.{command_own}
 use Rattle.posix_profile.specs.laws.Step.{step_sound}
 use Rattle.posix_profile.specs.Steps.{step}
@@ -26,7 +27,7 @@ returns-in-Ok-clause-ends g c z s at =
     let own = (command_own s z c.args.self.now.read_only c.args.asked.now.moment (command_of c.args.asked.now.request)).goes in
     let mid = at_on m law z s c.args.self.now _ reads refl refl at in
     ends_on m law z class _ _ s meant c.args.self.now _ _ c.carry_out.result reads c.in-Ok.ensures.memory
-    (c.carry_out.ensures.ends z s mid class meant is sound own (λ only. read_only_stays z s (stamped_of c.args.asked.now) c.args.self.now.read_only only (at.only_read only).handles (at.only_read only).named))
+    (c.carry_out.ensures.ends z s mid class meant is sound own (error_keeps z c.args.self.now.read_only c.args.asked.now.moment s (command_of c.args.asked.now.request)) (λ only. read_only_stays z s (stamped_of c.args.asked.now) c.args.self.now.read_only only (at.only_read only).handles (at.only_read only).named))
 
 pub returns-in-Err-Error-clause-ends : goal.returns-in-Err-Error-clause-ends
 returns-in-Err-Error-clause-ends g c z s at =
@@ -85,7 +86,7 @@ returns-in-Ok-clause-unread g c only z s at stop =
     let mid = at_on m law z s a _ c.plan.ensures.reads refl refl at in
     law.unread_on a.store c.plan.new.store c.carry_out.new.self.store c.plan.ensures.reads
     (stop_unread m z _ s meant _ _ c.carry_out.result own stop
-    (c.carry_out.ensures.ends z s mid Telling meant (nothing_tells z class s meant c.in-Ok.plan is none) sound own (λ only. read_only_stays z s (stamped_of c.args.asked.now) a.read_only only was.handles was.named)))
+    (c.carry_out.ensures.ends z s mid Telling meant (nothing_tells z class s meant c.in-Ok.plan is none) sound own (error_keeps z a.read_only c.args.asked.now.moment s (command_of c.args.asked.now.request)) (λ only. read_only_stays z s (stamped_of c.args.asked.now) a.read_only only was.handles was.named)))
 
 pub returns-in-Err-Error-clause-unread : goal.returns-in-Err-Error-clause-unread
 returns-in-Err-Error-clause-unread g c only z s at stop =

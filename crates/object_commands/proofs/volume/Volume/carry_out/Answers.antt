@@ -8,13 +8,13 @@ use Rattle.object_commands.proofs.Ending.{is_done, refused_ends}
 use Rattle.object_commands.proofs.volume.Volume.carry_out.Goals as goal
 
 pub returns-in-Ok-clause-ends : goal.returns-in-Ok-clause-ends
-returns-in-Ok-clause-ends g c z s at class meant is sound own stays =
+returns-in-Ok-clause-ends g c z s at class meant is sound own keeps stays =
     let done = c.in-Ok.ensures.works z s.objects at.has is.can in
     inl (is_done g.S.ObjectStore.meaning g.met.S.ObjectStore.lawful z class s meant c.args.plan c.args.self.now _ at is sound refl stays c.work.ensures.lasts done.0 done.1 (c.handle.ensures is.range)
     (ap (λ (o : Outcome). is_stop o.reply) is.means ∙ own))
 
 pub returns-in-Err-NoMemory-clause-ends : goal.returns-in-Err-NoMemory-clause-ends
-returns-in-Err-NoMemory-clause-ends g c z s at class meant is sound own stays =
+returns-in-Err-NoMemory-clause-ends g c z s at class meant is sound own keeps stays =
     let m = g.S.ObjectStore.meaning in
     let law = g.met.S.ObjectStore.lawful in
     let a = c.args.self.now in

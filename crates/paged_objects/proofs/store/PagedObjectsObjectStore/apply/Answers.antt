@@ -27,5 +27,6 @@ returns-in_default g c = record {
       applied {S = PagedObjects g.row.P.Denot} (state_of g.P.Pages.state) c.args.self.now
       (record { alloc = c.args.self.now.alloc; pages = c.make.new.pages; table = c.make.new.table; names = c.make.new.names }) objects (made objects c.args.change.now) c.make.result c.make.ensures.goes_on c.make.ensures.sizes
       (c.make.ensures.makes objects mine (can_make z (table_sizes c.args.self.now.table) objects c.args.change.now has.sizes make));
+  refused = c.make.ensures.refused;
   memory = λ none is. let it = forgets c.args.change.now none in absurd (c.in_default.not-Forget it.0 it.1);
 }

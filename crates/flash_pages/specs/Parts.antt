@@ -1,6 +1,10 @@
 -- The parts of the pages of a mounted volume.
+use Rattle.std.specs.Prelude.{Option, Some, None}
 use Rattle.nand_model.specs.declared.nand.Nand.{Ghosts}
-use Rattle.newest_pages.specs.Parts.{device_of}
+use Rattle.block_state.specs.Table.{Table}
+use Rattle.block_state.specs.TableOf.{table}
+use Rattle.chunk_index.specs.declared.index.Index.{Index}
+use Rattle.newest_pages.specs.Parts.{device_of, index_of}
 use Rattle.flash_pages.specs.declared.mounted.FlashPages.{FlashPages}
 use Rattle.flash_pages.specs.declared.mounted.FlashPages.TheVariants as kinds
 
@@ -8,3 +12,13 @@ use Rattle.flash_pages.specs.declared.mounted.FlashPages.TheVariants as kinds
 abbrev pub device_in : {N : Type 0} {nand : Ghosts N} → FlashPages N nand → N
 device_in (kinds.Store store) = store.device
 device_in (kinds.ReadOnly pages) = device_of pages.pages
+
+-- the index of the pages that are committed
+abbrev pub index_in : {N : Type 0} {nand : Ghosts N} → FlashPages N nand → Index
+index_in (kinds.Store store) = store.index
+index_in (kinds.ReadOnly pages) = index_of pages.pages
+
+-- the table of blocks; pages that are only read need none
+abbrev pub table_in : {N : Type 0} {nand : Ghosts N} → FlashPages N nand → Option Table
+table_in (kinds.Store store) = Some (table store.blocks)
+table_in (kinds.ReadOnly pages) = None

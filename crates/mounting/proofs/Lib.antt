@@ -11,5 +11,6 @@ pub mod Noting
 pub mod Sure
 pub mod ReadsTree
 pub mod PagesMade
+pub mod Placed
 pub mod Giving
 pub mod Reasons

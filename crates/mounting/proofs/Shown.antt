@@ -7,11 +7,12 @@ use Rattle.nand_model.specs.Flash.{Flash, Written, IsWithin, IsSized}
 use Rattle.nand_model.specs.Calls.{Device}
 use Rattle.nand_model.specs.declared.geometry.Geometry.{Geometry}
 use Rattle.page_tags.specs.Tags.{tag_bytes}
+use Rattle.page_tags.specs.Headers.{header_bytes}
 use Rattle.volume_terms.specs.Sizes.{Sizes, capacity, root_number}
 use Rattle.posix_profile.specs.State.{Objects}
 use Rattle.posix_profile.specs.Charge.{charge}
 use Rattle.flash_tree.specs.Newest.{Spot, IsNewest, HasNewest, Numbers}
-use Rattle.flash_tree.specs.Tree.{Shows}
+use Rattle.flash_tree.specs.Tree.{Shows, InFootprint}
 use Rattle.flash_tree.specs.Mount.{Wholly, GoesThrough, NamesTwice, Answers, IsWrong, IsDamaged, IsTreeOf, sizes_of, IsVolume, bad_blocks}
 use Rattle.block_state.specs.Kept.{bad_count, unkept_count}
 use Rattle.block_state.specs.Table.{Table}
@@ -32,7 +33,7 @@ use Rattle.mount_answers.specs.Footprints.{KeepsFootprint, IsFootprint}
 use Rattle.mount_answers.specs.KeptTrees.{LieNewest, KeepsOnlyTree}
 use Rattle.mount_answers.specs.Newest.{IsNewestMap}
 use Rattle.mounting.specs.Marked.{marked}
-use Rattle.mounting.specs.Mounted.{IsTreeOn, IsTreeShown, HasRoomOn}
+use Rattle.mounting.specs.Mounted.{IsTreeOn, IsTreeShown, HasRoomOn, KeepsPlaces}
 use Rattle.mounting.specs.Tables.{IsPruned}
 
 -- the laws that are used
@@ -173,5 +174,21 @@ module _ (laws : TreeLaws) (d : Device) (t : Table) (x : Index) (n : Numbers) (s
       ]
     ]
 
+    -- what is looked up of the flash is looked up of the map, and the other way round
+    header_map : (o : ℕ) (bytes : List ℕ) → HasNewest d.flash o 0 bytes → m o 0 ≡ Some bytes
+    header_map o bytes newest = (on.newest o 0 bytes).1 (newest, omega arith)
+
+    to_map : (o c : ℕ) → InFootprint z (HasNewest d.flash) objects o c → InFootprint z (has m) objects o c
+    to_map o c foot = record { object = foot.object; there = foot.there; fields = foot.fields; has = (header_map o (header_bytes foot.fields) foot.has.0, foot.has.1); looks = foot.looks }
+
+    from_map : (o c : ℕ) → InFootprint z (has m) objects o c → InFootprint z (HasNewest d.flash) objects o c
+    from_map o c foot = record { object = foot.object; there = foot.there; fields = foot.fields; has = (((on.newest o 0 (header_bytes foot.fields)).0 foot.has.0).0, foot.has.1); looks = foot.looks }
+
+    places : KeepsPlaces d.flash z objects (kept_pages x)
+    places = record {
+      all = λ o c s foot newest. let keeps = (footprint o c).1 (to_map o c foot) in pruned.all honest o c s (low o c keeps) keeps newest;
+      only = λ o c p is. from_map o c (only.only o c p is);
+    }
+
     pub tree_shown : IsTreeShown d x spare tree objects
-    tree_shown = record { on = on; shows = shown; holds = holds }
+    tree_shown = record { on = on; shows = shown; holds = holds; places = places }

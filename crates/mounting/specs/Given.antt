@@ -10,17 +10,19 @@ use Rattle.newest_pages.specs.Checked.{HasTrueFlash}
 use Rattle.pages.specs.State.{PagesState}
 use Rattle.mounting.specs.Made.{AreNext, CanOnlyBeRead, HasSizes, IsMountedWith}
 use Rattle.mounting.specs.Named.{IsTrustedSince}
+use Rattle.mounting.specs.Places.{ArePlaced}
 use Rattle.mounting.specs.Reads.{ReadsAtMost}
 use Rattle.mounting.specs.declared.mounted.Mounted.{Mounted}
 
 -- The pages, the table and the names are those of one volume, which can be written but where blocks or numbers are used up; and if their
--- device is honest, the next numbers are above those on its flash, and they are those of the tree that it shows.
+-- device is honest, the next numbers are above those on its flash, they are those of the tree that it shows, and they lie as a scan finds them.
 pub record IsMade {N : Type 0} {nand : Ghosts N} (state : FlashPages N nand → PagesState) (m : Mounted N nand) : Type 0 where
   pub sizes : HasSizes (state m.pages) m.table
   pub worn : (state m.pages).worn ≡ m.read_only
   pub read_only : (m.read_only ≡ true) ↔ CanOnlyBeRead (state m.pages)
   pub next : (state m.pages).device.honest ≡ true → AreNext (state m.pages).device.flash (state m.pages).next
   pub tree : (state m.pages).device.honest ≡ true → (objects : Objects) × IsMountedWith (state m.pages) m.table m.names objects
+  pub placed : (state m.pages).device.honest ≡ true → ArePlaced (state m.pages).device (state m.pages).spare m.pages
 
 -- What a mount of a device gives is made of it: it was only read, by so many pages, and is trusted where its flash was true; then the
 -- block that is noted is the only one with a whole checkpoint, which is right.

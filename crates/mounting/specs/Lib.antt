@@ -8,5 +8,6 @@ pub mod Mounted
 pub mod Named
 pub mod Going
 pub mod Made
+pub mod Places
 pub mod Given
 pub mod laws

@@ -1,12 +1,17 @@
 -- A device that is mounted.
 -- From: this project.
-use Rattle.std.specs.Prelude.{◌≡◌, ◌≤◌, ℕ, ◌+◌, true}
+use Rattle.std.specs.Prelude.{◌≡◌, ◌≤◌, ℕ, ◌+◌, true, Some}
+use Rattle.volume_terms.specs.Sizes.{Sizes}
+use Rattle.nand_model.specs.Flash.{Flash}
 use Rattle.nand_model.specs.Calls.{Device}
-use Rattle.flash_tree.specs.Newest.{Numbers}
+use Rattle.flash_tree.specs.Newest.{Spot, IsNewest, HasNewest, Numbers}
 use Rattle.flash_tree.specs.Mount.{sizes_of}
 use Rattle.block_state.specs.Kept.{unkept_count}
 use Rattle.block_state.specs.Table.{Table}
+use Rattle.chunk_index.specs.declared.form.KeptPage.{KeptPage}
 use Rattle.chunk_index.specs.declared.index.Index.{Index}
+use Rattle.chunk_index.specs.Maps.{KeptMap, kept_pages}
+use Rattle.newest_pages.specs.Opened.{kept_at}
 use Rattle.object_pages.specs.Holding.{HoldsObjects}
 use Rattle.page_buffer.specs.Shown.{kept_data}
 use Rattle.pages.specs.Maps.{PageMap, has}
@@ -16,7 +21,7 @@ use Rattle.name_index.specs.declared.index.NameIndex.{NameIndex}
 use Rattle.tree_walk.specs.Hashes.{CoversTree}
 use Rattle.tree_walk.specs.Trees.{keeps_key}
 use Rattle.tree_walk.specs.declared.tree.Tree.{Tree}
-use Rattle.flash_tree.specs.Tree.{Shows}
+use Rattle.flash_tree.specs.Tree.{Shows, InFootprint}
 use Rattle.mount_answers.specs.Newest.{IsNewestMap}
 use Rattle.mounting.specs.Marked.{marked}
 use Rattle.mounting.specs.Tables.{IsPruned}
@@ -41,9 +46,15 @@ pub record IsTreeRead (device : Device) (t : Table) (x : Index) (n : Numbers) (s
 abbrev pub HasRoomOn : Device → Table → (spare : ℕ) → Type 0
 HasRoomOn device t spare = bad_on device ≤ spare → 1 + spare ≤ unkept_count (marked device.flash t) + bad_on device
 
--- These objects are the tree that the newest pages show, and the pages that are kept are theirs and no others. What is told of
--- the tree is told of pages that show them.
+-- Exactly the keys that are looked up to see these objects are kept, each at the place and in the version of its newest page.
+pub record KeepsPlaces (flash : Flash) (z : Sizes) (objects : Objects) (kept : KeptMap) : Type 0 where
+  pub all : (o c : ℕ) (s : Spot) → InFootprint z (HasNewest flash) objects o c → IsNewest flash o c s → kept o c ≡ Some (kept_at s)
+  pub only : (o c : ℕ) (p : KeptPage) → kept o c ≡ Some p → InFootprint z (HasNewest flash) objects o c
+
+-- These objects are the tree that the newest pages show, and the pages that are kept are theirs and no others, each at its place. What is
+-- told of the tree is told of pages that show them.
 pub record IsTreeShown (device : Device) (x : Index) (spare : ℕ) (tree : Tree) (objects : Objects) : Type 0 where
   pub on : IsTreeOn device spare tree
   pub shows : Shows (sizes_of device.geometry spare) (has on.pages) objects
   pub holds : HoldsObjects (sizes_of device.geometry spare) (kept_data x device.flash) objects
+  pub places : KeepsPlaces device.flash (sizes_of device.geometry spare) objects (kept_pages x)

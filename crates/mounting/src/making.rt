@@ -4,11 +4,12 @@ ghost use Rattle.flash_tree.specs.Places.{numbers_of};
 ghost use Rattle.block_state.specs.TableOf.{table};
 ghost use Rattle.flash_pages.specs.Parts.{device_in};
 ghost use Rattle.flash_pages.specs.ReadOnly.{IsWorn};
-ghost use Rattle.newest_pages.specs.Parts.{device_of};
+ghost use Rattle.newest_pages.specs.Parts.{device_of, index_of};
 ghost use Rattle.bad_blocks.specs.Standing.{KeepsOrdinary};
 ghost use Rattle.mounting.specs.Made.{ArePagesOn, CanBeWritten};
 ghost use Rattle.mounting.specs.Marked.{AreFitting};
 ghost use Rattle.mounting.specs.Mounted.{IsTreeRead, HasRoomOn};
+ghost use Rattle.mounting.specs.Places.{HasTables};
 
 use crate::tree_on::TreeOn;
 use chunk_index::the_counts_are_of_the_keys;
@@ -47,6 +48,7 @@ fn store_pages<N: Nand>(
     ensures worn { IfOk result (λ store. (⟦<Store<N> as Pages>⟧.state store).worn ≡ false) }
     ensures device { IfOk result (λ store. store.device ≡ on.device) }
     ensures checkpoint { IfOk result (λ store. (⟦<Store<N> as Pages>⟧.state store).checkpoint ≡ (table on.blocks).checkpoint) }
+    ensures tables { IfOk result (λ store. (store.index ≡ on.index) × (table store.blocks ≡ table on.blocks)) }
     ensures given_back { IfErr result (λ back. back.0 ≡ on.device) }
 {
     the_counts_are_of_the_keys();
@@ -71,6 +73,7 @@ fn read_pages<N: Nand>(alloc: Global, on: TreeOn<N>) -> Result<ReadOnlyPages<N>,
     ensures worn { IfOk result (λ pages. (⟦<ReadOnlyPages<N> as Pages>⟧.state pages).worn ≡ true) }
     ensures device { IfOk result (λ pages. device_of pages.pages ≡ on.device) }
     ensures checkpoint { IfOk result (λ pages. (⟦<ReadOnlyPages<N> as Pages>⟧.state pages).checkpoint ≡ (table on.blocks).checkpoint) }
+    ensures index { IfOk result (λ pages. index_of pages.pages ≡ on.index) }
     ensures given_back { IfErr result (λ back. back.0 ≡ on.device) }
 {
     the_opened_pages_are_the_newest();
@@ -105,6 +108,7 @@ pub(crate) fn make_pages<N: Nand>(
     ensures worn { IfOk result (λ pages. (⟦<FlashPages<N> as Pages>⟧.state pages).worn ≡ worn) }
     ensures device { IfOk result (λ pages. device_in pages ≡ on.device) }
     ensures checkpoint { IfOk result (λ pages. (⟦<FlashPages<N> as Pages>⟧.state pages).checkpoint ≡ (table on.blocks).checkpoint) }
+    ensures tables { IfOk result (HasTables (N.state on.device).flash on.index) }
     ensures given_back { IfErr result (λ back. back.0 ≡ on.device) }
 {
     if worn {

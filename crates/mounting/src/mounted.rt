@@ -5,6 +5,7 @@ ghost use Rattle.block_state.specs.TableOf.{table};
 ghost use Rattle.flash_pages.specs.Parts.{device_in};
 ghost use Rattle.mounting.specs.Going.{IsGoing};
 ghost use Rattle.mounting.specs.Made.{CanOnlyBeRead, AreNext, HasSizes, IsMountedWith};
+ghost use Rattle.mounting.specs.Places.{ArePlaced};
 
 use crate::making::{is_worn, make_pages};
 use crate::tree_on::{Going, NamedTree};
@@ -45,6 +46,8 @@ pub(crate) fn make_mounted<N: Nand>(
         → IfOk result (λ mounted. AreNext (⟦<FlashPages<N> as Pages>⟧.state mounted.pages).device.flash (⟦<FlashPages<N> as Pages>⟧.state mounted.pages).next) }
     ensures tree { (N.state going.named.on.device).honest ≡ true
         → IfOk result (λ mounted. (objects : Objects) × IsMountedWith (⟦<FlashPages<N> as Pages>⟧.state mounted.pages) mounted.table mounted.names objects) }
+    ensures placed { (N.state going.named.on.device).honest ≡ true
+        → IfOk result (λ mounted. ArePlaced (⟦<FlashPages<N> as Pages>⟧.state mounted.pages).device (⟦<FlashPages<N> as Pages>⟧.state mounted.pages).spare mounted.pages) }
     ensures back { IfErr result (λ device. device ≡ going.named.on.device) }
 {
     a_volume_has_sizes();

@@ -128,6 +128,7 @@ impl<N: Nand> Store<N> {
         requires none { IsUnbuffered index }
         ensures device { IfOk result (λ store. store.device ≡ device) }
         ensures blocks { IfOk result (λ store. (table store.blocks ≡ table blocks) × (store.spare ≡ spare)) }
+        ensures index { IfOk result (λ store. store.index ≡ index) }
         ensures whole { IfOk result (λ store. store.broken ≡ false) }
         ensures most { IfOk result (λ store. most_pages store.buffer ≡ (N.state device).geometry.pages / 4) }
         ensures capacity { IfOk result (λ store. capacity_of store.cache ≡ non_zero_usize_get capacity) }

@@ -26,7 +26,8 @@ use Rattle.page_volume.specs.Volumes.{pages_of, is_read_only, is_stopped, IsVolu
 use Rattle.page_volume.specs.declared.volume.PageVolume.{PageVolume}
 use Rattle.paged_objects.specs.Parts as parts
 use Rattle.paged_objects.specs.declared.store.PagedObjects.{PagedObjects}
-use Rattle.posix_calls.specs.Mounts.{AreMounted, StandsForTree, IsMounted}
+use Rattle.mounting.specs.Places.{ArePlaced}
+use Rattle.posix_calls.specs.Mounts.{AreMounted, LieAsScanned, StandsForTree, IsMounted}
 
 -- a tree that fits is a state that a volume can have
 pub sound_at : (p : PagesState) (table : ObjectTable) (names : NameIndex) (objects : Objects) → table_sizes table ≡ volume_of p → IsMountedWith p table names objects → IsSound (table_sizes table) (at_mount objects)
@@ -83,3 +84,9 @@ module _ {M : Type 0} {nand : Ghosts M} (state : FlashPages M nand → PagesStat
         worn = ap (λ (p : FlashPages M nand). (state p).worn) in_pages ∙ made.worn;
       } in
       (told.0, stands told.0 are))
+
+-- and its pages lie as those that a mount gives
+pub placed_over : {M : Type 0} {nand : Ghosts M} (state : FlashPages M nand → PagesState) (device now : Device) (m : Mounted M nand) → IsGiven state device now m → (v : PageVolume (FlashPages M nand)) → pages_of v ≡ m.pages
+    → LieAsScanned state v
+placed_over {M} {nand} state device now m given v same =
+    subst (λ (p : FlashPages M nand). (state p).device.honest ≡ true → ArePlaced (state p).device (state p).spare p) (sym same) given.made.placed

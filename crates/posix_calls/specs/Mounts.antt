@@ -2,12 +2,15 @@
 -- From: this project.
 use Rattle.std.specs.Prelude.{◌≡◌, ◌↔◌, Bool, true, false}
 use Rattle.flash_tree.specs.Checkpoints.{IsChecked}
+use Rattle.flash_pages.specs.declared.mounted.FlashPages.{FlashPages}
 use Rattle.flash_tree.specs.Mount.{Answers, IsTreeOf}
 use Rattle.lives.specs.Lives.{at_mount}
 use Rattle.mounting.specs.Made.{CanOnlyBeRead, AreNext, IsMountedWith}
 use Rattle.mounting.specs.Named.{IsTrustedSince}
+use Rattle.mounting.specs.Places.{ArePlaced}
 use Rattle.mounting.specs.Reads.{ReadsAtMost}
 use Rattle.nand_model.specs.Calls.{Device}
+use Rattle.nand_model.specs.declared.nand.Nand.{Ghosts}
 use Rattle.newest_pages.specs.Checked.{HasTrueFlash}
 use Rattle.object_table.specs.Told.{table_sizes}
 use Rattle.page_volume.specs.Volumes.{pages_of, is_read_only, is_stopped, IsVolumeOf}
@@ -29,6 +32,10 @@ pub record StandsForTree {P : Type 0} (state : P → PagesState) (v : PageVolume
   pub answers : Answers (state (pages_of v)).device.geometry (state (pages_of v)).device.flash (IsTreeOf (state (pages_of v)).spare objects)
   pub volume : IsVolumeOf state (volume_of (state (pages_of v))) (at_mount objects) v
   pub shown : Shown (volume_of (state (pages_of v))) (state (pages_of v)) objects
+
+-- The pages of the volume lie as a scan of its device finds them, if that is trusted and honest.
+abbrev pub LieAsScanned : {N : Type 0} {nand : Ghosts N} → (FlashPages N nand → PagesState) → PageVolume (FlashPages N nand) → Type 0
+LieAsScanned state v = (state (pages_of v)).device.honest ≡ true → ArePlaced (state (pages_of v)).device (state (pages_of v)).spare (pages_of v)
 
 -- The volume of a device is mounted. The device was only read, keeps its power, and is trusted where its flash was true. Then, if it is
 -- honest, the next numbers are above those on its flash, and the volume stands for the tree that it shows; and the block that is noted

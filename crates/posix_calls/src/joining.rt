@@ -21,6 +21,7 @@ pub(crate) fn join<P: PageStore>(
     read_only: bool,
 ) -> PageVolume<P>
     requires { handles_in descriptors ≡ map.empty }
+    ensures same { pages_of result ≡ parts.pages_of objects }
     ensures pages { P.state (pages_of result) ≡ P.state (parts.pages_of objects) }
     ensures read_only { is_read_only result ≡ read_only }
     ensures goes_on { is_stopped result ≡ false }

@@ -16,13 +16,14 @@ use std::num::NonZeroUsize;
 use trusted_nand::TrustedNand;
 
 impl<N: Nand> Volume<N> {
-    ghost use Rattle.posix_calls.specs.Mounts.{IsMounted};
+    ghost use Rattle.posix_calls.specs.Mounts.{IsMounted, LieAsScanned};
     ghost use Rattle.posix_calls.specs.Volumes.{over_pages};
 
     /// Mounts the volume on a device, with a cache of 16 pages: by its checkpoint, where one is whole and its entries lead to a tree,
     /// else by a scan of all pages. It only reads; after a fault the device is given back.
     pub fn mount(alloc: Global, device: N) -> Result<Volume<N>, (N, MountFault)>
         ensures mounted { IfOk result (λ v. IsMounted ⟦<FlashPages<TrustedNand<N>> as Pages>⟧.state (N.state device) (over_pages v)) }
+        ensures placed { IfOk result (λ v. LieAsScanned ⟦<FlashPages<TrustedNand<N>> as Pages>⟧.state (over_pages v)) }
         ensures back { IfErr result (λ failed. OnlyReads (N.state device) (N.state failed.0)) }
         ensures fault { IfErr result (λ failed. WhyNotMounted (N.state failed.0) failed.1) }
     {
@@ -36,6 +37,7 @@ impl<N: Nand> Volume<N> {
         capacity: usize,
     ) -> Result<Volume<N>, (N, MountFault)>
         ensures mounted { IfOk result (λ v. IsMounted ⟦<FlashPages<TrustedNand<N>> as Pages>⟧.state (N.state device) (over_pages v)) }
+        ensures placed { IfOk result (λ v. LieAsScanned ⟦<FlashPages<TrustedNand<N>> as Pages>⟧.state (over_pages v)) }
         ensures back { IfErr result (λ failed. OnlyReads (N.state device) (N.state failed.0)) }
         ensures fault { IfErr result (λ failed. WhyNotMounted (N.state failed.0) failed.1) }
     {

@@ -3,6 +3,7 @@ use Rattle.volume_terms.specs.VolumeSizes as volume
 use Rattle.flash_tree.specs.Mount.{sizes_of}
 use Rattle.mounting.proofs.Standing.{ordinary_shown}
 use Rattle.mounting.proofs.Giving.{ShownLaws, only_read_where, are_next, mounted_with}
+use Rattle.mounting.proofs.Placed.{are_placed}
 use Rattle.mounting.proofs.mounted.make_mounted.Goals as goal
 
 pub returns-in-Ok-make_pages-clause-read_only : goal.returns-in-Ok-make_pages-clause-read_only
@@ -39,3 +40,10 @@ make_pages-requires-clause-ordinary g c = λ honest.
     let shown = told.2 in
     ordinary_shown (sizes_of d.geometry on.spare) (sizes_of d.geometry on.spare) d.flash on.index told.0
     (c.the_footprint_holds_the_tree.ensures.forest _ shown.on.pages told.0 shown.shows) shown.holds (c.requires.named.tree.tables.tables.newest honest)
+
+pub returns-in-Ok-make_pages-clause-placed : goal.returns-in-Ok-make_pages-clause-placed
+returns-in-Ok-make_pages-clause-placed g c = λ honest.
+    let on = c.args.going.named.on in
+    let told = c.requires.tree honest in
+    let made = c.in-Ok-make_pages.ensures.made in
+    are_placed (g.N.Nand.state on.device) _ on.index on.spare _ c.in-Ok-make_pages.pages told.0 made.device_is made.spare_is c.in-Ok-make_pages.ensures.tables told.1 told.2.places

@@ -18,7 +18,7 @@ returns-in-Ok-clause-given g c =
     let honest = ap (λ (d : Device). d.honest) same in
     record {
       since = since_same a _ _ _ _ (ap (λ d. g.N.Nand.state (inner_of d)) m.same) same e.read;
-      made = record { sizes = m.sizes; worn = m.worn; read_only = m.read_only; next = λ is. m.next (sym honest ∙ is); tree = λ is. m.tree (sym honest ∙ is) };
+      made = record { sizes = m.sizes; worn = m.worn; read_only = m.read_only; next = λ is. m.next (sym honest ∙ is); tree = λ is. m.tree (sym honest ∙ is); placed = λ is. m.placed (sym honest ∙ is) };
       checked = λ is. subst (IsChecked a.geometry a.flash) (sym m.checkpoint) (e.checked is);
       few = subst (ReadsAtMost a) (sym same) (record { by_checkpoint = reads_seen a _ _ e.read e.few; by_scan = scans_seen a _ _ e.read e.scans });
     }

@@ -3,7 +3,7 @@ use Rattle.nand_model.specs.Calls.{Device}
 use Rattle.nand_model.specs.Changes.{OnlyReads}
 use Rattle.nand_model.specs.laws.Changes.{only_reads_on}
 use Rattle.trusted_nand.specs.Parts.{inner_of}
-use Rattle.posix_calls.proofs.Mounting.{mounted_over}
+use Rattle.posix_calls.proofs.Mounting.{mounted_over, placed_over}
 use Rattle.posix_calls.proofs.volume.Volume.mount_with.Goals as goal
 
 pub returns-in-Ok-clause-mounted : goal.returns-in-Ok-clause-mounted
@@ -17,3 +17,6 @@ pub returns-in-Err-clause-back : goal.returns-in-Err-clause-back
 returns-in-Err-clause-back g c =
     let there = ap g.N.Nand.state (c.into_inner.ensures.inner ∙ ap inner_of c.into_device.ensures.device) in
     only_reads_on _ _ _ c.in_ok-pages.ensures.given.since.read.reads (subst (λ (k : Device). OnlyReads k (g.N.Nand.state c.unmounted.result.0)) there c.unmounted.ensures.reads)
+
+pub returns-in-Ok-clause-placed : goal.returns-in-Ok-clause-placed
+returns-in-Ok-clause-placed g c = placed_over _ _ _ _ c.in_ok-pages.ensures.given c.join-volume.result (c.join-volume.ensures.same ∙ c.new-objects.ensures.pages)

@@ -1,0 +1,3 @@
+pub mod Sorted
+pub mod Noted
+pub mod Adding

@@ -1,0 +1,4 @@
+pub mod States
+pub mod Valid
+pub mod Surveys
+pub mod Counting

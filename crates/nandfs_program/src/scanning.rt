@@ -149,29 +149,46 @@ fn file_node<R: Files + AllocGlobal>(
     Ok(Node::File(bytes))
 }
 
-/// Reads what waits.
-fn read_entry<R: Files + AllocGlobal + Clone + Drop>(
+/// What is at a path of the host, at its moment.
+fn node_at<R: Files + AllocGlobal + Clone + Drop>(
+    rt: &R,
+    found: &mut Found,
+    from: &Waiting,
+) -> Result<(u64, Node), ToolFault> {
+    let metadata = fs::metadata(rt, from.host.as_str())?;
+    let node = if metadata.is_dir() {
+        let names = names_in(rt, found, from)?;
+        Node::Directory(wait_for(rt.alloc(), found, from, &names)?)
+    } else {
+        file_node(rt, found, from, &metadata)?
+    };
+    Ok((moment_of(&metadata), node))
+}
+
+/// Reads what waits. Where that fails, its path is written to standard error.
+fn read_entry<R: Files + AllocGlobal + Eprint + Clone + Drop>(
     rt: &R,
     found: &mut Found,
     from: Waiting,
 ) -> Result<(), ToolFault> {
-    let metadata = fs::metadata(rt, from.host.as_str())?;
-    let node = if metadata.is_dir() {
-        let names = names_in(rt, found, &from)?;
-        Node::Directory(wait_for(rt.alloc(), found, &from, &names)?)
-    } else {
-        file_node(rt, found, &from, &metadata)?
-    };
-    let moment = moment_of(&metadata);
-    let path = from.path;
-    found.entries.push(FolderEntry { path, moment, node })?;
-    Ok(())
+    match node_at(rt, found, &from) {
+        Ok((moment, node)) => {
+            let path = from.path;
+            found.entries.push(FolderEntry { path, moment, node })?;
+            Ok(())
+        }
+        Err(fault) => {
+            let host = from.host.as_str();
+            eprintln!(rt; "not read: {host}")?;
+            Err(fault)
+        }
+    }
 }
 
 /// Reads a folder of the host with all files and directories in it, for a volume with files of at most `greatest` bytes. What no
 /// volume can have, as symbolic links, devices and files that are too long, is left out and listed. Files of one device and number
 /// are names of one file.
-pub fn scan_folder<R: Files + AllocGlobal + Clone + Drop>(
+pub fn scan_folder<R: Files + AllocGlobal + Eprint + Clone + Drop>(
     rt: &R,
     folder: &str,
     greatest: u64,

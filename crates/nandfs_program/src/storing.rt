@@ -60,6 +60,20 @@ fn store_entry<R: Files + AllocGlobal>(
     }
 }
 
+/// Writes an entry. Where that fails, its path is written to standard error.
+fn store_or_report<R: Files + AllocGlobal + Eprint>(
+    rt: &R,
+    folder: &str,
+    entry: &FolderEntry,
+    host: &str,
+) -> Result<(), ToolFault> {
+    let stored = store_entry(rt, folder, entry, host);
+    if stored.is_err() {
+        eprintln!(rt; "not written: {host}")?;
+    }
+    stored
+}
+
 /// Gives the directories their moments, those below first.
 fn set_moments<R: Files>(rt: &R, folder: &Folder, places: &[Stored]) -> Result<(), ToolFault> {
     for number in (0..places.len()).rev() {
@@ -72,8 +86,9 @@ fn set_moments<R: Files>(rt: &R, folder: &Folder, places: &[Stored]) -> Result<(
     Ok(())
 }
 
-/// Writes a folder into one of the host that is new or empty, and returns where its entries are, the root first.
-pub fn store<R: Files + AllocGlobal + Clone + Drop>(
+/// Writes a folder into one of the host that is new or empty, and returns where its entries are, the root first. Where one cannot be
+/// written, as its name is too long there, those before it stay.
+pub fn store<R: Files + AllocGlobal + Eprint + Clone + Drop>(
     rt: &R,
     folder: &Folder,
     host: &str,
@@ -84,7 +99,7 @@ pub fn store<R: Files + AllocGlobal + Clone + Drop>(
     for entry in &folder.entries {
         let place = place_of(alloc, host, entry)?;
         if !places.is_empty() {
-            store_entry(rt, host, entry, place.host.as_str())?;
+            store_or_report(rt, host, entry, place.host.as_str())?;
         }
         places.push(place)?;
     }

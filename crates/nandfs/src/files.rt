@@ -1,7 +1,9 @@
-// The files that words name.
+// The files and images that words name.
 
 use clap::ArgMatches;
-use nandfs_program::ToolFault;
+use nand_model::MemNand;
+use nandfs_program::{ToolFault, device_to_read, volume_to_read};
+use posix_calls::Volume;
 use std::fs::{File, OpenOptions};
 use std::time::{SystemTime, UNIX_EPOCH};
 
@@ -11,7 +13,7 @@ pub(crate) fn word<'a>(matches: &ArgMatches<'a>, name: &str) -> &'a str {
 }
 
 /// An image that is read alone.
-pub(crate) fn open_to_read(rt: &HostRuntime, path: &str) -> Result<File, ToolFault> {
+fn open_to_read(rt: &HostRuntime, path: &str) -> Result<File, ToolFault> {
     Ok(OpenOptions::new().read(true).open(rt, path)?)
 }
 
@@ -20,11 +22,19 @@ pub(crate) fn open_to_change(rt: &HostRuntime, path: &str) -> Result<File, ToolF
     Ok(OpenOptions::new().read(true).write(true).open(rt, path)?)
 }
 
-/// A new image, in a file that is made or emptied.
-pub(crate) fn open_new(rt: &HostRuntime, path: &str) -> Result<File, ToolFault> {
-    let mut options = OpenOptions::new();
-    options.read(true).write(true).create(true).truncate(true);
-    Ok(options.open(rt, path)?)
+/// The device of the image that is named, to be read alone.
+pub(crate) fn device_in(rt: &HostRuntime, matches: &ArgMatches<'_>) -> Result<MemNand, ToolFault> {
+    let file = open_to_read(rt, word(matches, "IMAGE"))?;
+    device_to_read(rt.alloc(), file)
+}
+
+/// The volume of the image that is named, to be read alone.
+pub(crate) fn volume_in(
+    rt: &HostRuntime,
+    matches: &ArgMatches<'_>,
+) -> Result<Volume<MemNand>, ToolFault> {
+    let file = open_to_read(rt, word(matches, "IMAGE"))?;
+    volume_to_read(rt.alloc(), file)
 }
 
 /// The seconds since 1970.

@@ -4,12 +4,15 @@
 //! that this program reads.
 #![tactic(auto)]
 
+mod chip;
 mod files;
 mod reading;
+mod reports;
 mod writing;
 
-use crate::reading::{get, show, unpack_image};
-use crate::writing::{change_image, make_image, pack_folder};
+use crate::reading::{get, unpack_image};
+use crate::reports::show;
+use crate::writing::{change_image, make_empty_image, pack_folder};
 use clap::ArgMatches;
 use nandfs_program::ToolFault;
 use nandfs_words::program;
@@ -25,12 +28,12 @@ fn words_after_name(alloc: Global, arguments: Args) -> Result<Vec<String>, Alloc
 /// Does what a subcommand says.
 fn perform(rt: &HostRuntime, name: &str, matches: &ArgMatches<'_>) -> Result<(), ToolFault> {
     match name {
-        "mkfs" => make_image(rt, matches),
+        "mkfs" => make_empty_image(rt, matches),
         "pack" => pack_folder(rt, matches),
         "unpack" => unpack_image(rt, matches),
         "get" => get(rt, matches),
-        "ls" | "tree" | "cat" | "stat" | "df" => show(rt, name, matches),
-        _ => change_image(rt, name, matches),
+        "put" | "mkdir" | "rm" | "mv" | "ln" => change_image(rt, name, matches),
+        _ => show(rt, name, matches),
     }
 }
 

@@ -1,15 +1,16 @@
 // The subcommands that make or change an image.
 
-use crate::files::{now, open_new, open_to_change, word};
+use crate::files::{now, open_to_change, word};
 use clap::ArgMatches;
-use image_tools::{Folder, pack, refusals};
+use image_tools::refusals;
 use nand_image::ImageNand;
 use nandfs_program::{
-    ImageSizes, Scan, ToolFault, copy_in, end, greatest_file, least_blocks, link, make_directory,
-    move_to, new_volume, read_file, remove, scan_folder, units_of, volume_to_change,
+    ImageSizes, Scan, ToolFault, copy_in, end_image, greatest_file, least_blocks, link,
+    make_directory, make_image, move_to, read_file, remove, scan_folder, units_of,
+    volume_to_change,
 };
 use posix_calls::Volume;
-use std::fs::{self, File};
+use std::fs::File;
 
 /// The sizes that the options say.
 fn sizes_in(matches: &ArgMatches<'_>) -> ImageSizes {
@@ -22,10 +23,11 @@ fn sizes_in(matches: &ArgMatches<'_>) -> ImageSizes {
 }
 
 /// Makes an image with an empty volume.
-pub(crate) fn make_image(rt: &HostRuntime, matches: &ArgMatches<'_>) -> Result<(), ToolFault> {
-    let file = open_new(rt, word(matches, "IMAGE"))?;
-    let volume = new_volume(rt.alloc(), file, sizes_in(matches))?;
-    end(volume)
+pub(crate) fn make_empty_image(
+    rt: &HostRuntime,
+    matches: &ArgMatches<'_>,
+) -> Result<(), ToolFault> {
+    make_image(rt, word(matches, "IMAGE"), sizes_in(matches), None)
 }
 
 /// Lists what no volume can have, which is a fault unless it is to be left out.
@@ -46,20 +48,7 @@ fn report_others(
     Ok(())
 }
 
-/// Makes an image of a folder.
-fn fill_image(
-    rt: &HostRuntime,
-    folder: &Folder,
-    image: &str,
-    sizes: ImageSizes,
-) -> Result<(), ToolFault> {
-    let file = open_new(rt, image)?;
-    let mut volume = new_volume(rt.alloc(), file, sizes)?;
-    pack(rt.alloc(), folder, &mut volume)?;
-    end(volume)
-}
-
-/// Makes an image of a folder of the host, or leaves no image.
+/// Makes an image of a folder of the host.
 pub(crate) fn pack_folder(rt: &HostRuntime, matches: &ArgMatches<'_>) -> Result<(), ToolFault> {
     let mut sizes = sizes_in(matches);
     let greatest = greatest_file(sizes)?;
@@ -68,12 +57,7 @@ pub(crate) fn pack_folder(rt: &HostRuntime, matches: &ArgMatches<'_>) -> Result<
     if matches.get_flag("size-from-content") {
         sizes.blocks = least_blocks(units_of(&scan.folder, sizes.data), sizes)?;
     }
-    let image = word(matches, "IMAGE");
-    let filled = fill_image(rt, &scan.folder, image, sizes);
-    if filled.is_err() {
-        let _ = fs::remove_file(rt, image);
-    }
-    filled
+    make_image(rt, word(matches, "IMAGE"), sizes, Some(&scan.folder))
 }
 
 /// Does a change of a volume.
@@ -109,6 +93,6 @@ pub(crate) fn change_image(
     let file = open_to_change(rt, word(matches, "IMAGE"))?;
     let mut volume = volume_to_change(rt.alloc(), file)?;
     let changed = change(rt, name, matches, &mut volume);
-    end(volume)?;
+    end_image(volume)?;
     changed
 }

@@ -9,7 +9,7 @@ use volume_terms::{SLOT_BYTES, most_file_bytes};
 const MOST_BLOCKS: u32 = 4096;
 
 /// How many units of so many bytes these are.
-fn ceiling(count: u64, unit: u64) -> u64 {
+pub(crate) fn ceiling(count: u64, unit: u64) -> u64 {
     if unit == 0 { 0 } else { count.div_ceil(unit) }
 }
 

@@ -3,6 +3,8 @@ ghost use Rattle.std.specs.Prelude.{◌≡◌};
 ghost use Rattle.nandfs_program.specs.Statuses.{mount_status, status_of};
 ghost use Rattle.nandfs_program.specs.declared.fault.ToolFault.TheVariants as faults;
 
+use chip_map::MapFault;
+use mount_scan::ScanFault;
 use nand_image::ImageFault;
 use plain_tree::TreeFault;
 use posix_calls::{Errno, FormatFault, MountFault};
@@ -41,6 +43,13 @@ pub enum ToolFault {
     Others,
     #[error("the folder is not empty")]
     NotEmpty,
+    /// An image is made in a file beside it, which is there already.
+    #[error("the file of the image's name and `.nandfs-new` is there: remove it, where no other run is at work")]
+    Beside,
+    #[error("the image's path leads to a folder, a link or a device, which no image replaces")]
+    NoFile,
+    #[error("the device has no such block or page")]
+    NoPage,
     #[error("a file or a folder of the host could not be read or written")]
     Host,
     #[error("standard output could not be written: check where it goes")]
@@ -84,6 +93,26 @@ impl<T: Drop> From<AllocFailed<T>> for ToolFault {
 impl From<ImageFault> for ToolFault {
     fn from(fault: ImageFault) -> ToolFault {
         ToolFault::Image(fault)
+    }
+}
+
+impl From<ScanFault> for ToolFault {
+    fn from(fault: ScanFault) -> ToolFault {
+        match fault {
+            ScanFault::NoMemory => ToolFault::NoMemory,
+            ScanFault::Gone => ToolFault::Mount(MountFault::Gone),
+        }
+    }
+}
+
+impl From<MapFault> for ToolFault {
+    fn from(fault: MapFault) -> ToolFault {
+        match fault {
+            MapFault::NoMemory => ToolFault::NoMemory,
+            MapFault::Output => ToolFault::Output,
+            MapFault::NoPage => ToolFault::NoPage,
+            MapFault::Gone => ToolFault::Mount(MountFault::Gone),
+        }
     }
 }
 

@@ -1,12 +1,12 @@
 // Names and what they lead to, in lines.
 
-use crate::asking::below;
 use crate::fault::ToolFault;
+use crate::walking::{Child, Walk, last_name};
 use command_answers::Answers;
 use image_tools::host_name;
-use plain_tree::{info_at, names_at};
+use plain_tree::info_at;
 use posix_calls::{Info, Kind};
-use std::alloc::{AllocError, Global};
+use std::alloc::Global;
 use std::io::Write;
 
 /// How names are listed: with kind, links, bytes and seconds of each, and with all directories below.
@@ -62,73 +62,35 @@ fn write_name<W: Write>(
     write_text(out, "\n")
 }
 
-/// Writes the names of a directory, and returns the paths of the directories among them.
-fn list_names<V: Answers, W: Write>(
+/// Writes the names of a directory.
+fn write_children<W: Write>(
     alloc: Global,
-    volume: &mut V,
     out: &mut W,
-    directory: &[u8],
-    long: bool,
-) -> Result<Vec<Vec<u8>>, ToolFault> {
-    let names = names_at(alloc, volume, directory)?;
-    let mut directories = Vec::new(alloc);
-    for name in &names {
-        let path = below(alloc, directory, name.as_slice())?;
-        let info = info_at(alloc, volume, &path)?;
-        write_name(alloc, out, name.as_slice(), &info, long)?;
-        if info.kind == Kind::Directory {
-            directories.push(path)?;
-        }
-    }
-    Ok(directories)
-}
-
-/// Adds paths so that the first of them is taken next.
-fn wait_for(waiting: &mut Vec<Vec<u8>>, mut paths: Vec<Vec<u8>>) -> Result<(), AllocError> {
-    for _path in 0..paths.len() {
-        if let Some(last) = paths.pop() {
-            waiting.push(last)?;
-        }
-    }
-    Ok(())
-}
-
-/// Writes the names of a directory and of all those below it, each after its path.
-fn list_all<V: Answers, W: Write>(
-    alloc: Global,
-    volume: &mut V,
-    out: &mut W,
-    path: &[u8],
+    children: &[Child],
     long: bool,
 ) -> Result<(), ToolFault> {
-    let mut waiting = Vec::new(alloc);
-    waiting.push(path.to_vec(alloc)?)?;
-    let mut gap = "";
-    for _round in 0..u64::MAX {
-        let Some(directory) = waiting.pop() else {
-            break;
-        };
-        let shown = shown_path(alloc, &directory)?;
-        write_text(out, gap)?;
-        write_text(out, &shown)?;
-        write_text(out, ":\n")?;
-        let below = list_names(alloc, volume, out, &directory, long)?;
-        wait_for(&mut waiting, below)?;
-        gap = "\n";
+    for child in children {
+        write_name(alloc, out, last_name(&child.path), &child.info, long)?;
     }
     Ok(())
 }
 
-/// The last name of a path.
-fn last_name(path: &[u8]) -> &[u8] {
-    match path.iter().rposition(|byte| *byte == b'/') {
-        Some(place) if place < path.len() => &path[place + 1..],
-        _ => path,
-    }
+/// Writes the path of a directory above its names.
+fn write_heading<W: Write>(
+    alloc: Global,
+    out: &mut W,
+    gap: &str,
+    path: &[u8],
+) -> Result<(), ToolFault> {
+    let shown = shown_path(alloc, path)?;
+    write_text(out, gap)?;
+    write_text(out, &shown)?;
+    write_text(out, ":\n")
 }
 
 /// Lists the names of a directory in the order of their bytes, or the one file that the path leads to: the letter `d` of a
-/// directory, the links, the bytes and the seconds of the last change where it is long.
+/// directory, the links, the bytes and the seconds of the last change where it is long. With all directories below, each comes
+/// after its path.
 pub fn list<V: Answers, W: Write>(
     alloc: Global,
     volume: &mut V,
@@ -140,9 +102,17 @@ pub fn list<V: Answers, W: Write>(
     if info.kind == Kind::File {
         return write_name(alloc, out, last_name(path), &info, listing.long);
     }
-    if listing.all_below {
-        return list_all(alloc, volume, out, path, listing.long);
+    let mut walk = Walk::new(alloc, path, listing.all_below)?;
+    let mut gap = "";
+    for _directory in 0..u64::MAX {
+        let Some(directory) = walk.next_directory(alloc, volume)? else {
+            break;
+        };
+        if listing.all_below {
+            write_heading(alloc, out, gap, &directory.path)?;
+        }
+        write_children(alloc, out, &directory.children, listing.long)?;
+        gap = "\n";
     }
-    list_names(alloc, volume, out, path, listing.long)?;
     Ok(())
 }

@@ -5,6 +5,7 @@ use nand_image::{ImageNand, create_image, open_image};
 use nand_model::{Geometry, MemNand, Nand};
 use posix_calls::{Reply, Volume, format};
 use std::alloc::Global;
+use std::fs::OpenFile;
 use std::io::{Read, Seek, Write};
 
 /// The data bytes of a page, the pages of a block, the blocks, and of these the spare ones.
@@ -17,7 +18,7 @@ pub struct ImageSizes {
 }
 
 /// Mounts the volume on a device.
-fn mount<N: Nand + Drop>(alloc: Global, device: N) -> Result<Volume<N>, ToolFault> {
+pub fn mount<N: Nand + Drop>(alloc: Global, device: N) -> Result<Volume<N>, ToolFault> {
     match Volume::mount(alloc, device) {
         Ok(volume) => Ok(volume),
         Err((_device, fault)) => Err(ToolFault::Mount(fault)),
@@ -25,7 +26,7 @@ fn mount<N: Nand + Drop>(alloc: Global, device: N) -> Result<Volume<N>, ToolFaul
 }
 
 /// A new image in a file that is empty, with an empty volume, mounted.
-pub fn new_volume<F: Read + Write + Seek + Drop>(
+pub(crate) fn new_volume<F: Read + Write + Seek + Drop>(
     alloc: Global,
     file: F,
     sizes: ImageSizes,
@@ -40,13 +41,19 @@ pub fn new_volume<F: Read + Write + Seek + Drop>(
     }
 }
 
+/// The device of an image, to be read alone: the file is read and let go.
+pub fn device_to_read<F: Read + Drop>(alloc: Global, file: F) -> Result<MemNand, ToolFault> {
+    let device = open_image(alloc, file)?;
+    Ok(device.into_memory())
+}
+
 /// The volume of an image, to be read alone: the file is read and let go.
 pub fn volume_to_read<F: Read + Drop>(
     alloc: Global,
     file: F,
 ) -> Result<Volume<MemNand>, ToolFault> {
-    let device = open_image(alloc, file)?;
-    mount(alloc, device.into_memory())
+    let device = device_to_read(alloc, file)?;
+    mount(alloc, device)
 }
 
 /// The volume of an image, to be changed: each change is written through to the file.
@@ -58,11 +65,16 @@ pub fn volume_to_change<F: Read + Write + Seek + Drop>(
     mount(alloc, device)
 }
 
-/// Unmounts a volume.
-pub fn end<N: Nand + Drop>(volume: Volume<N>) -> Result<(), ToolFault> {
-    let (_device, reply) = volume.unmount();
+/// Unmounts the volume of an image, and waits until the file is on the disk.
+pub fn end_image<F: Read + Write + Seek + OpenFile + Drop>(
+    volume: Volume<ImageNand<F>>,
+) -> Result<(), ToolFault> {
+    let (device, reply) = volume.unmount();
     match reply {
-        Reply::Done => Ok(()),
+        Reply::Done => {
+            device.into_file().sync_all()?;
+            Ok(())
+        }
         _ => Err(ToolFault::Unmount),
     }
 }

@@ -13,6 +13,14 @@ pub(crate) enum Word {
     Letter(&'static str, char, &'static str),
     /// `--name N`, with the number where it is left out.
     Number(&'static str, &'static str, &'static str),
+    /// `--name N`, which may be left out.
+    Chosen(&'static str, &'static str),
+    /// `--name FILE`, which may be left out.
+    File(&'static str, &'static str),
+    /// A number that has to be there.
+    Place(&'static str, &'static str),
+    /// A number that may be left out.
+    MaybePlace(&'static str, &'static str),
 }
 
 /// A subcommand: its name, what it does, its words, and an example.
@@ -36,6 +44,13 @@ const OLD: Word = Word::Needed("OLD", "The path in the volume");
 
 const NEW: Word = Word::Needed("NEW", "The new path in the volume");
 
+const JSON: Word = Word::Flag(
+    "json",
+    "JSON; a path that is no UTF-8 has escapes, and its field `escaped` is true",
+);
+
+const NUMBERS_JSON: Word = Word::Flag("json", "JSON");
+
 const DATA: Word = Word::Number(
     "data",
     "2048",
@@ -56,13 +71,13 @@ const RESERVE: Word = Word::Number(
 pub(crate) const SUBCOMMANDS: &[Subcommand] = &[
     Subcommand {
         name: "mkfs",
-        about: "Makes a new image with an empty volume. A file that is there is emptied before",
+        about: "Makes a new image with an empty volume. A file that is there is replaced when all is done",
         words: &[IMAGE, DATA, PAGES, BLOCKS, RESERVE],
         example: "Example: nandfs mkfs flash.img --blocks 128 --reserve 4",
     },
     Subcommand {
         name: "pack",
-        about: "Makes a new image of a folder: all files, directories, hard links and times of change",
+        about: "Makes a new image of a folder: all files, directories, hard links and times of change. A file that is there is replaced when all is done",
         words: &[
             FOLDER,
             IMAGE,
@@ -99,6 +114,7 @@ pub(crate) const SUBCOMMANDS: &[Subcommand] = &[
                 "A line for each, with its kind, links, bytes and seconds",
             ),
             Word::Letter("recursive", 'R', "All directories below, too"),
+            JSON,
         ],
         example: "Example: nandfs ls -l -R flash.img /etc",
     },
@@ -117,14 +133,46 @@ pub(crate) const SUBCOMMANDS: &[Subcommand] = &[
     Subcommand {
         name: "stat",
         about: "Reports the kind, number, links, bytes and seconds of the last change",
-        words: &[IMAGE, PATH],
-        example: "Example: nandfs stat flash.img /boots",
+        words: &[IMAGE, PATH, JSON],
+        example: "Example: nandfs stat --json flash.img /boots",
     },
     Subcommand {
         name: "df",
-        about: "Reports the bytes that the volume has room for, in use and free",
-        words: &[IMAGE],
+        about: "Reports the room of the volume, in use and free, and its blocks: erased, bad, reserved",
+        words: &[IMAGE, NUMBERS_JSON],
         example: "Example: nandfs df flash.img",
+    },
+    Subcommand {
+        name: "map",
+        about: "Draws what each page of the device is: a line for each block, or an SVG",
+        words: &[
+            IMAGE,
+            Word::Optional("PATH", "A path in the volume, whose pages are marked"),
+            Word::File("svg", "Draws an SVG in this file"),
+            Word::Chosen("object", "The number of an object, whose pages are marked"),
+            NUMBERS_JSON,
+        ],
+        example: "Example: nandfs map flash.img /boots --svg flash.svg",
+    },
+    Subcommand {
+        name: "dump",
+        about: "Shows the bytes of a page with its tag, or the tags of all pages of a block",
+        words: &[
+            IMAGE,
+            Word::Place("BLOCK", "The number of the block, from 0 on"),
+            Word::MaybePlace("PAGE", "The number of the page in the block, from 0 on"),
+        ],
+        example: "Example: nandfs dump flash.img 3 0",
+    },
+    Subcommand {
+        name: "check",
+        about: "Mounts the volume without a change of the image, and reports its room and what the pages of the device are. Status 3 where there is no volume",
+        words: &[
+            IMAGE,
+            Word::Flag("verbose", "The numbers of the blocks that are bad, too"),
+            NUMBERS_JSON,
+        ],
+        example: "Example: nandfs check flash.img",
     },
     Subcommand {
         name: "get",

@@ -32,6 +32,21 @@ fn number<'a>(alloc: Global, name: &'a str, default: &'a str, help: &'a str) -> 
         .help(help)
 }
 
+/// An option with a value that may be left out.
+fn option<'a>(alloc: Global, name: &'a str, value: &'a str, help: &'a str) -> Arg<'a> {
+    Arg::new(alloc, name)
+        .long(name)
+        .value_name(value)
+        .help(help)
+}
+
+/// A number, not after a name.
+fn place<'a>(alloc: Global, name: &'a str, help: &'a str) -> Arg<'a> {
+    Arg::new(alloc, name)
+        .value_parser(value_parser!(u32))
+        .help(help)
+}
+
 /// A word of the table.
 fn argument<'a>(alloc: Global, word: Word) -> Arg<'a> {
     match word {
@@ -40,6 +55,12 @@ fn argument<'a>(alloc: Global, word: Word) -> Arg<'a> {
         Word::Flag(name, help) => flag(alloc, name, help),
         Word::Letter(name, letter, help) => flag(alloc, name, help).short(letter),
         Word::Number(name, default, help) => number(alloc, name, default, help),
+        Word::Chosen(name, help) => {
+            option(alloc, name, "N", help).value_parser(value_parser!(u64))
+        }
+        Word::File(name, help) => option(alloc, name, "FILE", help),
+        Word::Place(name, help) => place(alloc, name, help).required(true),
+        Word::MaybePlace(name, help) => place(alloc, name, help),
     }
 }
 

@@ -1,0 +1,175 @@
+// Whether there is a volume on a chip.
+
+use crate::chip::{BlockCounts, StateCounts, count_blocks};
+use crate::fault::ToolFault;
+use crate::json::write_json;
+use crate::listing::write_text;
+use crate::session::mount;
+use crate::space::{Room, room_of, write_room};
+use chip_map::{PageState, Survey, count, survey};
+use nand_model::Nand;
+use posix_calls::MountFault;
+use serde::Serialize;
+use std::alloc::{AllocError, Global};
+use std::io::Write;
+
+/// How a check is reported.
+#[derive(Clone, Copy, Debug, PartialEq, Eq)]
+pub enum CheckForm {
+    /// A number a line.
+    Short,
+    /// With a line for each block that is bad.
+    Verbose,
+    Json,
+}
+
+/// The greatest numbers of all valid tags.
+#[derive(Clone, Copy, Debug, PartialEq, Eq, Serialize)]
+struct Greatest {
+    version: u64,
+    group: u64,
+    seq: u64,
+}
+
+/// What a mount answers, the room of the volume where there is one, and what is on the chip.
+#[derive(Drop, Serialize)]
+struct CheckReport {
+    answer: &'static str,
+    room: Option<Room>,
+    #[serde(flatten)]
+    blocks: BlockCounts,
+    bad_block_numbers: Vec<u32>,
+    pages: StateCounts,
+    greatest: Greatest,
+}
+
+/// The word for what a mount answers.
+fn answer_of(fault: MountFault) -> &'static str {
+    match fault {
+        MountFault::NotAVolume => "none",
+        MountFault::Newer(_) => "newer",
+        MountFault::Damaged => "damaged",
+        MountFault::Gone => "gone",
+        MountFault::NoMemory => "no_memory",
+    }
+}
+
+/// The numbers of the blocks that are marked bad.
+fn numbers_of_bad(alloc: Global, survey: &Survey) -> Result<Vec<u32>, AllocError> {
+    let mut bad = Vec::new(alloc);
+    for block in 0..survey.geometry().blocks() {
+        if survey
+            .block(block)
+            .iter()
+            .any(|page| page.state == PageState::Bad)
+        {
+            bad.push(block)?;
+        }
+    }
+    Ok(bad)
+}
+
+/// What is on a chip, where a mount gives this answer.
+fn report_of(
+    alloc: Global,
+    survey: &Survey,
+    answer: &'static str,
+    room: Option<Room>,
+) -> Result<CheckReport, AllocError> {
+    let numbers = survey.numbers();
+    Ok(CheckReport {
+        answer,
+        room,
+        blocks: count_blocks(survey),
+        bad_block_numbers: numbers_of_bad(alloc, survey)?,
+        pages: StateCounts::from(count(survey)),
+        greatest: Greatest {
+            version: numbers.version,
+            group: numbers.group,
+            seq: numbers.seq,
+        },
+    })
+}
+
+/// Writes how many pages are of each state, and the greatest numbers.
+fn write_numbers<W: Write>(
+    alloc: Global,
+    out: &mut W,
+    report: &CheckReport,
+) -> Result<(), ToolFault> {
+    let StateCounts {
+        current,
+        stale,
+        erased,
+        invalid,
+        uncorrectable,
+        bad,
+    } = report.pages;
+    let text = format!(in alloc;
+        "current_pages {current}\nstale_pages {stale}\nerased_pages {erased}\ninvalid_pages {invalid}\nuncorrectable_pages {uncorrectable}\nbad_pages {bad}\n"
+    )?;
+    write_text(out, &text)?;
+    let Greatest {
+        version,
+        group,
+        seq,
+    } = report.greatest;
+    let text = format!(in alloc;
+        "greatest_version {version}\ngreatest_group {group}\ngreatest_seq {seq}\n"
+    )?;
+    write_text(out, &text)
+}
+
+/// Writes the numbers of the blocks that are marked bad.
+fn write_bad<W: Write>(alloc: Global, out: &mut W, bad: &[u32]) -> Result<(), ToolFault> {
+    for block in bad {
+        write_text(out, &format!(in alloc; "bad_block {block}\n")?)?;
+    }
+    Ok(())
+}
+
+/// Writes a report in lines.
+fn write_report<W: Write>(
+    alloc: Global,
+    out: &mut W,
+    report: &CheckReport,
+) -> Result<(), ToolFault> {
+    write_text(out, report.answer)?;
+    write_text(out, "\n")?;
+    if let Some(room) = report.room {
+        write_room(alloc, out, room, report.blocks)?;
+    }
+    write_numbers(alloc, out, report)
+}
+
+/// Mounts the volume of a device, and writes what the mount answers, the room of the volume and what the pages of the device are.
+/// Where there is no volume the fault of the mount comes after that.
+pub fn check<N: Nand + Drop, W: Write>(
+    alloc: Global,
+    device: N,
+    out: &mut W,
+    form: CheckForm,
+) -> Result<(), ToolFault> {
+    let mut device = device;
+    let survey = survey(alloc, &mut device)?;
+    let (report, ended) = match mount(alloc, device) {
+        Ok(mut volume) => {
+            let room = room_of(&mut volume)?;
+            (report_of(alloc, &survey, "sound", Some(room))?, Ok(()))
+        }
+        Err(ToolFault::Mount(fault)) => {
+            let report = report_of(alloc, &survey, answer_of(fault), None)?;
+            (report, Err(ToolFault::Mount(fault)))
+        }
+        Err(fault) => return Err(fault),
+    };
+    match form {
+        CheckForm::Short => write_report(alloc, out, &report)?,
+        CheckForm::Verbose => {
+            write_report(alloc, out, &report)?;
+            write_bad(alloc, out, &report.bad_block_numbers)?;
+        }
+        CheckForm::Json => write_json(alloc, out, &report)?,
+    }
+    ended
+}

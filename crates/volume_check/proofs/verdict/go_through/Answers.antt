@@ -1,0 +1,33 @@
+use Rattle.std.proofs.Common.{ℕ, sym, ◌∙◌, subst, inl}
+use Rattle.flash_tree.specs.Mount.{IsVolume, sizes_of}
+use Rattle.pages.specs.Maps.{PageMap, has}
+use Rattle.tree_walk.specs.declared.fault.RootFault.{RootFault}
+use Rattle.volume_check.specs.Trees.{TellsTree}
+use Rattle.volume_check.proofs.Telling.{walk_tells}
+use Rattle.volume_check.proofs.verdict.go_through.Goals as goal
+
+pub returns-in-Some-clause-whole : goal.returns-in-Some-clause-whole
+returns-in-Some-clause-whole g c = λ sound size.
+    let geometry = c.args.geometry in
+    record {
+      spare = c.in-Some.field-0;
+      volume = c.in-Some.ensures.volume (g.P.Pages.state c.args.pages.now).present (c.in-Ok.ensures.tree (sizes_of geometry 0) (record { sound = sound; size = size }));
+      tree = c.in-Ok.tree;
+      through = c.in-Ok.ensures.tree (sizes_of geometry c.in-Some.field-0) (record { sound = sound; size = size });
+    }
+
+pub returns-in-Ok-clause-fault : goal.returns-in-Ok-clause-fault
+returns-in-Ok-clause-fault g c = λ sound size.
+    inl (c.in-None.ensures.none (g.P.Pages.state c.args.pages.now).present (c.in-Ok.ensures.tree (sizes_of c.args.geometry 0) (record { sound = sound; size = size })))
+
+pub returns-clause-fault : goal.returns-clause-fault
+returns-clause-fault g c = λ sound size.
+    let p = g.P.Pages.state c.args.pages.now in
+    let q = g.P.Pages.state c.walk.new.pages in
+    let geometry = c.args.geometry in
+    let finds = c.walk.ensures.finds in
+    let below = subst (λ (m : PageMap). (spare : ℕ) → IsVolume geometry (has m) spare → TellsTree geometry (has m) c.root_fault.result) (sym finds.present)
+    (λ spare volume. subst (λ (f : RootFault). TellsTree geometry (has p.present) f) (sym c.root_fault.ensures)
+    (walk_tells geometry (has p.present) spare c.in-Err.fault q volume (c.in-Err.ensures.fault (sizes_of geometry spare) (record { sound = sound; size = size })))) in
+    subst (λ (m : PageMap). TellsTree geometry (has m) c.first_fault.result) finds.present
+    (c.first_fault.ensures.told (finds.sound ∙ sound) (size ∙ sym finds.page_bytes) below)

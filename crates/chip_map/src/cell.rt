@@ -12,7 +12,7 @@ pub enum Marked {
 }
 
 /// How a page is drawn.
-#[derive(Clone, Copy, Debug, PartialEq, Eq)]
+#[derive(Clone, Copy, PartialEq, Eq)]
 pub(crate) enum Cell {
     Erased,
     Current,

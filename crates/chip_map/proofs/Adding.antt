@@ -39,7 +39,7 @@ before_end xs x k lt =
     slice_get-get_or (xs ++ x ∷ []) k x (omega (arith, length-append xs (x ∷ []), lt)) ∙ ap (λ y. Some y) (get_or_append_left xs (x ∷ []) x k lt) ∙ sym (slice_get-get_or xs k x lt)
 
 -- one page more
-pub noted_push : (flash : Flash) (pages b p : ℕ) (list : List SurveyedPage) (page : SurveyedPage) → p < pages → length list ≡ b * pages + p → IsNoted flash b p page → AreNoted flash pages list
+noted_push : (flash : Flash) (pages b p : ℕ) (list : List SurveyedPage) (page : SurveyedPage) → p < pages → length list ≡ b * pages + p → IsNoted flash b p page → AreNoted flash pages list
     → AreNoted flash pages (list ++ page ∷ [])
 noted_push flash pages b p list page lt end is each c q other less at = elim (cases_eq (c * pages + q) (b * pages + p)) [
   | inl same ↦
@@ -51,6 +51,10 @@ noted_push flash pages b p list page lt end is each c q other less at = elim (ca
       let within : c * pages + q < length list = omega (arith, slice_get_within (list ++ page ∷ []) (c * pages + q) other at, length-append list (page ∷ []), end, ne) in
       each c q other less (sym (before_end list page (c * pages + q) within) ∙ at)
 ]
+
+pub noted_pushed : (flash : Flash) (pages b p : ℕ) (list new : List SurveyedPage) (page : SurveyedPage) → new ≡ list ++ page ∷ [] → p < pages → length list ≡ b * pages + p → IsNoted flash b p page
+    → AreNoted flash pages list → AreNoted flash pages new
+noted_pushed flash pages b p list new page pushed lt end is each = subst (AreNoted flash pages) (sym pushed) (noted_push flash pages b p list page lt end is each)
 
 -- of no page nothing is to be shown
 pub noted_none : (flash : Flash) (pages : ℕ) → AreNoted flash pages []

@@ -57,7 +57,7 @@ impl Survey {
     /// The pages of a block.
     pub fn block(&self, block: u32) -> &[SurveyedPage]
         requires { block < (geometry_of self.now).blocks }
-        ensures { result.now ≡ slice_range (pages_of self.now) (block * (geometry_of self.now).pages) (block * (geometry_of self.now).pages + (geometry_of self.now).pages) }
+        ensures { let pages = (geometry_of self.now).pages in result.now ≡ slice_range (pages_of self.now) (block * pages) (block * pages + pages) }
     {
         let pages = self.geometry.pages() as usize;
         let first = block as usize * pages;

@@ -22,7 +22,8 @@ pub fn survey<N: Nand>(alloc: Global, device: &mut N) -> Result<Survey, ScanFaul
     ensures geometry { IfOk result (λ survey. geometry_of survey ≡ (N.state device.old).geometry) }
     ensures pages { (N.state device.old).honest ≡ true
         → IfOk result (λ survey. AreSurveyed (N.state device.old).flash (N.state device.old).geometry.pages (pages_of survey)) }
-    ensures numbers { (N.state device.old).honest ≡ true → IfOk result (λ survey. AreGreatest (N.state device.old).flash (numbers_of (greatest_of survey))) }
+    ensures numbers { (N.state device.old).honest ≡ true
+        → IfOk result (λ survey. AreGreatest (N.state device.old).flash (numbers_of (greatest_of survey))) }
 {
     let found = scan(alloc, device)?;
     let numbers = found.numbers;

@@ -1,9 +1,9 @@
-use Rattle.std.proofs.Common.{◌<◌, [], ◌∷◌, length, sym, ap, subst, arith}
+use Rattle.std.proofs.Common.{◌<◌, [], ◌∷◌, length, ap, arith}
 use Rattle.std.proofs.lemmas.List.{length-append}
 use Rattle.nand_model.specs.Calls.{Device}
 use Rattle.nand_model.specs.declared.geometry.Geometry.{Geometry}
-use Rattle.chip_map.specs.Valid.{IsNoted, AreNoted}
-use Rattle.chip_map.proofs.Adding.{power_on, noted_push, page_back}
+use Rattle.chip_map.specs.Valid.{IsNoted}
+use Rattle.chip_map.proofs.Adding.{power_on, noted_pushed, page_back}
 use Rattle.chip_map.proofs.reading.read_block.Goals as goal
 
 pub loop-page-preserved : goal.loop-page-preserved
@@ -17,6 +17,6 @@ loop-page-preserved g c =
       noted = λ honest before.
           let is : IsNoted old.flash c.args.block c.loop-page.page c.in_ok-read.read =
           page_back old (g.N.Nand.state c.loop-page.device) c.args.block c.loop-page.page c.in_ok-read.read only honest c.in_ok-read.ensures.noted in
-          subst (AreNoted old.flash old.geometry.pages) (sym c.in_ok-push.ensures.items)
-          (noted_push old.flash old.geometry.pages c.args.block c.loop-page.page c.loop-page.pages.items c.in_ok-read.read pages c.loop-page.invariant.len is (c.loop-page.invariant.noted honest before));
+          noted_pushed old.flash old.geometry.pages c.args.block c.loop-page.page c.loop-page.pages.items c.push.new.self.items c.in_ok-read.read c.in_ok-push.ensures.items pages c.loop-page.invariant.len is
+          (c.loop-page.invariant.noted honest before);
     }

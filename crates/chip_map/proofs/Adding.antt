@@ -15,7 +15,7 @@ use Rattle.flash_tree.specs.laws.Place.{same_flash}
 use Rattle.flash_tree.specs.declared.place.Found.{Found}
 use Rattle.mount_scan.specs.Scanned.{ArePlaced}
 use Rattle.chip_map.specs.declared.page_state.SurveyedPage.{SurveyedPage}
-use Rattle.chip_map.specs.Valid.{AreSorted, IsNoted, AreNoted, AreWithin}
+use Rattle.chip_map.specs.Valid.{IsNoted, AreNoted, AreWithin}
 use Rattle.chip_map.proofs.Noted.{one_index, in_list}
 
 -- only reads, and the power did not go
@@ -73,7 +73,7 @@ pub page_back : (a b : Device) (k p : ℕ) (page : SurveyedPage) → OnlyReads a
 page_back a b k p page only honest noted = subst (λ (f : Flash). IsNoted f k p page) (same_flash a b only honest) (noted (only.lasts.honest ∙ honest))
 
 -- the places that a scan lists are those of pages that were read
-pub placed_within : (pages blocks : ℕ) (counted sorted : List Found) (list : List SurveyedPage) → ArePlaced blocks pages counted → AreSorted counted sorted → length list ≡ blocks * pages → AreWithin pages sorted list
-placed_within pages blocks counted sorted list placed are len k f at =
-    let is = All-contains (λ (x : Found). (x.block < blocks) × (x.page < pages)) counted f placed ((are.each f).0 (in_list sorted k f at)) in
+pub placed_within : (pages blocks : ℕ) (counted : List Found) (list : List SurveyedPage) → ArePlaced blocks pages counted → length list ≡ blocks * pages → AreWithin pages counted list
+placed_within pages blocks counted list placed len k f at =
+    let is = All-contains (λ (x : Found). (x.block < blocks) × (x.page < pages)) counted f placed (in_list counted k f at) in
     (is.1, omega (arith, mul-add-lt f.block pages f.page blocks is.0 is.1, len))

@@ -1,3 +1,2 @@
-pub mod Sorted
 pub mod Noted
 pub mod Adding

@@ -1,47 +1,21 @@
--- The valid pages of a flash, sorted by key and age, and what is known while they are noted.
-use Rattle.std.specs.Prelude.{◌≡◌, ◌≢◌, ◌⊎◌, ◌↔◌, ◌<◌, ℕ, ◌+◌, ◌*◌, true, false, List, Some, None, length, slice_get, Contains}
-use Rattle.std.specs.List.{AllPairs}
+-- The valid pages of a flash, and what is known while they are noted.
+use Rattle.std.specs.Prelude.{◌≡◌, ◌≢◌, ◌↔◌, ◌<◌, ℕ, ◌+◌, ◌*◌, true, false, List, Option, Some, None, length, slice_get, Contains}
 use Rattle.nand_model.specs.Flash.{Flash}
-use Rattle.flash_tree.specs.Newest.{Holds, IsAfter}
+use Rattle.flash_tree.specs.Newest.{Holds}
 use Rattle.flash_tree.specs.declared.place.Found.{Found}
-use Rattle.flash_tree.specs.Places.{spot_of, IsKeyBefore, TagIs}
-use Rattle.mount_scan.specs.Scanned.{IsPlaceBefore}
+use Rattle.flash_tree.specs.Places.{spot_of, TagIs}
 use Rattle.chip_map.specs.declared.page_state.PageState.{PageState}
 use Rattle.chip_map.specs.declared.page_state.PageState.TheVariants as states
 use Rattle.chip_map.specs.declared.page_state.SurveyedPage.{SurveyedPage}
 use Rattle.chip_map.specs.States.{IsWritten, IsPageState}
 
--- what pages are sorted by: the key, and then what orders the pages of one key
-abbrev pub rank_of : Found → ℕ × ℕ × ℕ × ℕ × ℕ × ℕ
-rank_of f = (f.tag.object, f.tag.chunk, f.tag.version, f.tag.seq, f.page, f.block)
+-- exactly the valid pages of the flash
+abbrev pub AreValid : Flash → List Found → Type 0
+AreValid flash valid = (f : Found) → Contains valid f ↔ Holds flash f.tag.object f.tag.chunk (spot_of f)
 
--- the pages are of one key
-abbrev pub HaveOneKey : Found → Found → Type 0
-HaveOneKey f g = (f.tag.object ≡ g.tag.object) × (f.tag.chunk ≡ g.tag.chunk)
-
--- f is sorted before g: by key, and within one key f does not come after g
-abbrev pub IsSortedBefore : Found → Found → Type 0
-IsSortedBefore f g = IsKeyBefore f g ⊎ (HaveOneKey f g × (IsAfter (spot_of f) (spot_of g) → ⊥))
-
--- the next page of the list, if any, has another key
-abbrev pub IsLastAt : List Found → ℕ → Type 0
-IsLastAt list k = (f g : Found) → slice_get list k ≡ Some f → slice_get list (k + 1) ≡ Some g → HaveOneKey f g → ⊥
-
--- no two pages of the list have one place
-abbrev pub AreApart : List Found → Type 0
-AreApart list = (i j : ℕ) (f g : Found) → i < j → slice_get list i ≡ Some f → slice_get list j ≡ Some g → f.block ≡ g.block → f.page ≡ g.page → ⊥
-
--- the same pages sorted, and apart where they were in the order of places
-pub record AreSorted (list sorted : List Found) : Type 0 where
-  pub each : (f : Found) → Contains sorted f ↔ Contains list f
-  pub order : AllPairs IsSortedBefore sorted
-  pub apart : AllPairs IsPlaceBefore list → AreApart sorted
-
--- exactly the valid pages of the flash, sorted
-pub record AreValid (flash : Flash) (sorted : List Found) : Type 0 where
-  pub each : (f : Found) → Contains sorted f ↔ Holds flash f.tag.object f.tag.chunk (spot_of f)
-  pub order : AllPairs IsSortedBefore sorted
-  pub apart : AreApart sorted
+-- there is a page, and it has the place of another
+abbrev pub LiesAt : Option Found → Found → Type 0
+LiesAt page f = (g : Found) × (page ≡ Some g) × (g.block ≡ f.block) × (g.page ≡ f.page)
 
 -- what a page is, where a written page that was not noted as valid counts as invalid
 abbrev pub IsNotedState : Flash → ℕ → ℕ → PageState → Type 0
@@ -65,10 +39,10 @@ pub record IsNotedAt (pages : ℕ) (list : List SurveyedPage) (f : Found) : Type
   pub valid : page.state ≢ states.Invalid
 
 -- the first n valid pages are noted
-pub record Notes (flash : Flash) (pages : ℕ) (sorted : List Found) (n : ℕ) (list : List SurveyedPage) : Type 0 where
+pub record Notes (flash : Flash) (pages : ℕ) (valid : List Found) (n : ℕ) (list : List SurveyedPage) : Type 0 where
   pub each : AreNoted flash pages list
-  pub noted : (k : ℕ) (f : Found) → k < n → slice_get sorted k ≡ Some f → IsNotedAt pages list f
+  pub noted : (k : ℕ) (f : Found) → k < n → slice_get valid k ≡ Some f → IsNotedAt pages list f
 
 -- each place lies on a device of so many pages a block, of which the list has all
 abbrev pub AreWithin : (pages : ℕ) → List Found → List SurveyedPage → Type 0
-AreWithin pages sorted list = (k : ℕ) (f : Found) → slice_get sorted k ≡ Some f → (f.page < pages) × (f.block * pages + f.page < length list)
+AreWithin pages valid list = (k : ℕ) (f : Found) → slice_get valid k ≡ Some f → (f.page < pages) × (f.block * pages + f.page < length list)

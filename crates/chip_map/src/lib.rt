@@ -8,7 +8,6 @@ mod fault;
 mod hex;
 mod marking;
 mod page_state;
-mod ranks;
 mod reading;
 mod surveyed;
 mod surveying;

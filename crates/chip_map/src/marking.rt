@@ -1,26 +1,47 @@
 // The valid pages, noted in a survey.
-ghost use Rattle.std.specs.Prelude.{◌≡◌, ◌+◌, ◌<◌, ◌≤◌, length};
+ghost use Rattle.std.specs.Prelude.{◌≡◌, ◌+◌, ◌<◌, ◌≤◌, ◌↔◌, IsTrue, Some, length, slice_get};
+ghost use Rattle.flash_tree.specs.declared.place.Found.{Found};
 ghost use Rattle.nand_model.specs.Flash.{Flash};
+ghost use Rattle.mount_scan.specs.NewestMap.{HasEachNewest, page_of};
 ghost use Rattle.chip_map.specs.States.{AreSurveyed};
-ghost use Rattle.chip_map.specs.Valid.{AreNoted, AreValid, AreWithin, Notes};
+ghost use Rattle.chip_map.specs.Valid.{AreNoted, AreValid, AreWithin, LiesAt, Notes};
 
 use crate::page_state::{PageState, SurveyedPage};
-use crate::ranks::is_last_of_key;
 use flash_tree::Found;
+use std::collections::BTreeMap;
+
+/// Whether the newest page of its key lies where this valid page does.
+fn is_newest(valid: &[Found], newest: &BTreeMap<(u64, u64), Found>, i: usize) -> bool
+    requires { i < length valid.now }
+    ensures { (f : Found) → slice_get valid.now i ≡ Some f → IsTrue result ↔ LiesAt (page_of newest.now f.tag.object f.tag.chunk) f }
+{
+    let found = &valid[i];
+    let key = (found.tag.object, found.tag.chunk);
+    match newest.get(&key) {
+        Some(other) => other.block == found.block && other.page == found.page,
+        None => false,
+    }
+}
 
 /// Notes a valid page: the newest of its key as current, any other as stale.
-fn note_at(pages: &mut [SurveyedPage], block_pages: u32, sorted: &[Found], i: usize)
-    requires i { i < length sorted.now }
-    requires within { AreWithin block_pages sorted.now pages.old }
-    ensures { (flash : Flash) → AreValid flash sorted.now → Notes flash block_pages sorted.now i pages.old
-        → Notes flash block_pages sorted.now (i + 1) pages.new }
+fn note_at(
+    pages: &mut [SurveyedPage],
+    block_pages: u32,
+    valid: &[Found],
+    newest: &BTreeMap<(u64, u64), Found>,
+    i: usize,
+)
+    requires i { i < length valid.now }
+    requires within { AreWithin block_pages valid.now pages.old }
+    ensures { (flash : Flash) → AreValid flash valid.now → HasEachNewest flash newest.now → Notes flash block_pages valid.now i pages.old
+        → Notes flash block_pages valid.now (i + 1) pages.new }
 {
-    let state = if is_last_of_key(sorted, i) {
+    let state = if is_newest(valid, newest, i) {
         PageState::Current
     } else {
         PageState::Stale
     };
-    let found = sorted[i];
+    let found = valid[i];
     let place = found.block as usize * block_pages as usize + found.page as usize;
     pages[place] = SurveyedPage {
         state,
@@ -29,13 +50,18 @@ fn note_at(pages: &mut [SurveyedPage], block_pages: u32, sorted: &[Found], i: us
 }
 
 /// Notes the valid pages of a flash in the pages that were read.
-pub(crate) fn note_valid(pages: &mut [SurveyedPage], block_pages: u32, sorted: &[Found])
+pub(crate) fn note_valid(
+    pages: &mut [SurveyedPage],
+    block_pages: u32,
+    valid: &[Found],
+    newest: &BTreeMap<(u64, u64), Found>,
+)
     requires few { block_pages ≤ 256 }
-    requires within { AreWithin block_pages sorted.now pages.old }
-    ensures { (flash : Flash) → AreValid flash sorted.now → AreNoted flash block_pages pages.old
+    requires within { AreWithin block_pages valid.now pages.old }
+    ensures { (flash : Flash) → AreValid flash valid.now → HasEachNewest flash newest.now → AreNoted flash block_pages pages.old
         → AreSurveyed flash block_pages pages.new }
 {
-    for i in 0..sorted.len() {
-        note_at(pages, block_pages, sorted, i);
+    for i in 0..valid.len() {
+        note_at(pages, block_pages, valid, newest, i);
     }
 }

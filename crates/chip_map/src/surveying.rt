@@ -8,7 +8,6 @@ ghost use Rattle.chip_map.specs.States.{AreSurveyed};
 ghost use Rattle.chip_map.specs.Surveys.{pages_of, geometry_of, greatest_of};
 
 use crate::marking::note_valid;
-use crate::ranks::sort_by_key;
 use crate::reading::read_all;
 use crate::surveyed::Survey;
 use mount_scan::{ScanFault, scan};
@@ -26,11 +25,8 @@ pub fn survey<N: Nand>(alloc: Global, device: &mut N) -> Result<Survey, ScanFaul
         → IfOk result (λ survey. AreGreatest (N.state device.old).flash (numbers_of (greatest_of survey))) }
 {
     let found = scan(alloc, device)?;
-    let numbers = found.numbers;
-    let mut valid = found.counted;
-    sort_by_key(&mut valid);
     let mut pages = read_all(alloc, device)?;
     let geometry = device.geometry();
-    note_valid(&mut pages, geometry.pages(), &valid);
-    Ok(Survey::new(geometry, pages, numbers))
+    note_valid(&mut pages, geometry.pages(), &found.counted, &found.newest);
+    Ok(Survey::new(geometry, pages, found.numbers))
 }

@@ -8,7 +8,7 @@ use Rattle.chip_map.specs.States.{AreSurveyed}
 use Rattle.chip_map.specs.Surveys.{pages_of}
 use Rattle.chip_map.specs.Valid.{AreValid, AreNoted, AreWithin}
 use Rattle.chip_map.proofs.Adding.{placed_within, noted_back}
-use Rattle.chip_map.proofs.Noted.{valid_sorted}
+use Rattle.chip_map.proofs.Noted.{valid_listed}
 use Rattle.chip_map.proofs.surveying.survey.Goals as goal
 
 pub note_valid-requires-clause-within : goal.note_valid-requires-clause-within
@@ -23,7 +23,7 @@ note_valid-requires-clause-within g c =
     ap length c.deref_mut.ensures.value ∙ c.in_ok-pages.ensures.len ∙ ap (λ (x : Geometry). x.blocks * x.pages) first.lasts.geometry in
     subst (λ n. AreWithin n c.deref.result.now c.deref_mut.result.now) (sym count)
     (subst (λ (xs : List Found). AreWithin old.geometry.pages xs c.deref_mut.result.now) (sym c.deref.ensures.value)
-    (placed_within old.geometry.pages old.geometry.blocks _ _ c.deref_mut.result.now c.in_ok-found.ensures.counted.placed c.sort_by_key.ensures len))
+    (placed_within old.geometry.pages old.geometry.blocks _ c.deref_mut.result.now c.in_ok-found.ensures.counted.placed len))
 
 pub returns-clause-pages : goal.returns-clause-pages
 returns-clause-pages g c = λ honest.
@@ -33,10 +33,11 @@ returns-clause-pages g c = λ honest.
     let first : OnlyReads old mid = c.in_ok-found.ensures.reads.only in
     let next : OnlyReads mid new = c.in_ok-pages.ensures.reads in
     let count : c.pages.result ≡ old.geometry.pages = c.pages.ensures ∙ ap (λ (x : Geometry). x.pages) (c.geometry-geometry.ensures ∙ next.lasts.geometry ∙ first.lasts.geometry) in
-    let valid : AreValid old.flash c.deref.result.now = subst (AreValid old.flash) (sym c.deref.ensures.value) (valid_sorted old.flash _ _ (c.in_ok-found.ensures.counted.exact honest) c.sort_by_key.ensures) in
+    let valid : AreValid old.flash c.deref.result.now = subst (AreValid old.flash) (sym c.deref.ensures.value) (valid_listed old.flash _ (c.in_ok-found.ensures.counted.exact honest)) in
+    let newest = c.in_ok-found.ensures.newest.exact honest in
     let read : AreNoted old.flash old.geometry.pages c.in_ok-pages.pages.items = noted_back old mid _ first honest (c.in_ok-pages.ensures.noted (first.lasts.honest ∙ honest)) in
     let noted : AreNoted old.flash c.pages.result c.deref_mut.result.now =
     subst (λ n. AreNoted old.flash n c.deref_mut.result.now) (sym count) (subst (AreNoted old.flash old.geometry.pages) (sym c.deref_mut.ensures.value) read) in
-    let all : AreSurveyed old.flash c.pages.result c.note_valid.new.pages = c.note_valid.ensures old.flash valid noted in
+    let all : AreSurveyed old.flash c.pages.result c.note_valid.new.pages = c.note_valid.ensures old.flash valid newest noted in
     let same : pages_of c.new.result ≡ c.note_valid.new.pages = c.new.ensures.pages ∙ take_at c.note_valid.new.pages _ c.in_ok-pages.pages.len (omega (arith, c.note_valid.auto.pages, c.deref_mut.ensures.len)) in
     subst (AreSurveyed old.flash old.geometry.pages) (sym same) (subst (λ n. AreSurveyed old.flash n c.note_valid.new.pages) count all)

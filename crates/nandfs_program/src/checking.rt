@@ -1,14 +1,14 @@
 // Whether there is a volume on a chip.
 
 use crate::chip::{BlockCounts, StateCounts, count_blocks};
+use crate::damage::{Damage, find_damage, write_damage};
 use crate::fault::ToolFault;
 use crate::json::write_json;
 use crate::listing::write_text;
-use crate::session::mount;
 use crate::space::{Room, room_of, write_room};
 use chip_map::{PageState, Survey, count, survey};
 use nand_model::Nand;
-use posix_calls::MountFault;
+use posix_calls::{MountFault, Volume};
 use serde::Serialize;
 use std::alloc::{AllocError, Global};
 use std::io::Write;
@@ -31,16 +31,26 @@ struct Greatest {
     seq: u64,
 }
 
-/// What a mount answers, the room of the volume where there is one, and what is on the chip.
+/// What a mount answers, the room of the volume where there is one, where it is damaged, and what is on the chip.
 #[derive(Drop, Serialize)]
 struct CheckReport {
     answer: &'static str,
     room: Option<Room>,
+    damage: Option<Damage>,
     #[serde(flatten)]
     blocks: BlockCounts,
     bad_block_numbers: Vec<u32>,
     pages: StateCounts,
     greatest: Greatest,
+}
+
+/// What came of a mount.
+#[derive(Drop)]
+struct Mounted {
+    answer: &'static str,
+    room: Option<Room>,
+    damage: Option<Damage>,
+    ended: Result<(), ToolFault>,
 }
 
 /// The word for what a mount answers.
@@ -69,17 +79,13 @@ fn numbers_of_bad(alloc: Global, survey: &Survey) -> Result<Vec<u32>, AllocError
     Ok(bad)
 }
 
-/// What is on a chip, where a mount gives this answer.
-fn report_of(
-    alloc: Global,
-    survey: &Survey,
-    answer: &'static str,
-    room: Option<Room>,
-) -> Result<CheckReport, AllocError> {
+/// What is on a chip, where a mount answers so.
+fn report_of(alloc: Global, survey: &Survey, mounted: Mounted) -> Result<CheckReport, AllocError> {
     let numbers = survey.numbers();
     Ok(CheckReport {
-        answer,
-        room,
+        answer: mounted.answer,
+        room: mounted.room,
+        damage: mounted.damage,
         blocks: count_blocks(survey),
         bad_block_numbers: numbers_of_bad(alloc, survey)?,
         pages: StateCounts::from(count(survey)),
@@ -136,14 +142,41 @@ fn write_report<W: Write>(
 ) -> Result<(), ToolFault> {
     write_text(out, report.answer)?;
     write_text(out, "\n")?;
+    if let Some(damage) = &report.damage {
+        write_damage(alloc, out, damage)?;
+    }
     if let Some(room) = report.room {
         write_room(alloc, out, room, report.blocks)?;
     }
     write_numbers(alloc, out, report)
 }
 
-/// Mounts the volume of a device, and writes what the mount answers, the room of the volume and what the pages of the device are.
-/// Where there is no volume the fault of the mount comes after that.
+/// Mounts the volume of a device, and finds where it is damaged.
+fn mount_or_find<N: Nand + Drop>(alloc: Global, device: N) -> Result<Mounted, ToolFault> {
+    match Volume::mount(alloc, device) {
+        Ok(mut volume) => Ok(Mounted {
+            answer: "sound",
+            room: Some(room_of(&mut volume)?),
+            damage: None,
+            ended: Ok(()),
+        }),
+        Err((device, fault)) => {
+            let damage = match fault {
+                MountFault::Damaged => find_damage(alloc, device)?,
+                _ => None,
+            };
+            Ok(Mounted {
+                answer: answer_of(fault),
+                room: None,
+                damage,
+                ended: Err(ToolFault::Mount(fault)),
+            })
+        }
+    }
+}
+
+/// Mounts the volume of a device, and writes what the mount answers, the room of the volume or where it is damaged, and what the
+/// pages of the device are. Where there is no volume the fault of the mount comes after that.
 pub fn check<N: Nand + Drop, W: Write>(
     alloc: Global,
     device: N,
@@ -152,17 +185,9 @@ pub fn check<N: Nand + Drop, W: Write>(
 ) -> Result<(), ToolFault> {
     let mut device = device;
     let survey = survey(alloc, &mut device)?;
-    let (report, ended) = match mount(alloc, device) {
-        Ok(mut volume) => {
-            let room = room_of(&mut volume)?;
-            (report_of(alloc, &survey, "sound", Some(room))?, Ok(()))
-        }
-        Err(ToolFault::Mount(fault)) => {
-            let report = report_of(alloc, &survey, answer_of(fault), None)?;
-            (report, Err(ToolFault::Mount(fault)))
-        }
-        Err(fault) => return Err(fault),
-    };
+    let mounted = mount_or_find(alloc, device)?;
+    let ended = mounted.ended;
+    let report = report_of(alloc, &survey, mounted)?;
     match form {
         CheckForm::Short => write_report(alloc, out, &report)?,
         CheckForm::Verbose => {

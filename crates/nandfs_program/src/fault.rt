@@ -11,6 +11,7 @@ use posix_calls::{Errno, FormatFault, MountFault};
 use std::alloc::{AllocError, AllocFailed};
 use std::io;
 use thiserror::Error;
+use volume_check::CheckFault;
 
 /// Why a subcommand ended otherwise than well.
 #[derive(Clone, Copy, Debug, PartialEq, Eq, Error)]
@@ -112,6 +113,15 @@ impl From<MapFault> for ToolFault {
             MapFault::Output => ToolFault::Output,
             MapFault::NoPage => ToolFault::NoPage,
             MapFault::Gone => ToolFault::Mount(MountFault::Gone),
+        }
+    }
+}
+
+impl From<CheckFault> for ToolFault {
+    fn from(fault: CheckFault) -> ToolFault {
+        match fault {
+            CheckFault::NoMemory => ToolFault::NoMemory,
+            CheckFault::Gone | CheckFault::Lost => ToolFault::Mount(MountFault::Gone),
         }
     }
 }

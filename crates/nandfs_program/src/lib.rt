@@ -6,6 +6,7 @@ mod blocks;
 mod changing;
 mod checking;
 mod chip;
+mod damage;
 mod fault;
 mod host_files;
 mod json;

@@ -166,7 +166,7 @@ pub(crate) const SUBCOMMANDS: &[Subcommand] = &[
     },
     Subcommand {
         name: "check",
-        about: "Mounts the volume without a change of the image, and reports its room and what the pages of the device are. Status 3 where there is no volume",
+        about: "Mounts the volume without a change of the image, and reports its room, or where it is damaged, and what the pages of the device are. Status 3 where there is no volume",
         words: &[
             IMAGE,
             Word::Flag("verbose", "The numbers of the blocks that are bad, too"),

@@ -1,0 +1,81 @@
+// Where a volume is damaged.
+
+use crate::fault::ToolFault;
+use crate::listing::{shown_path, write_text};
+use nand_model::Nand;
+use serde::Serialize;
+use std::alloc::{AllocError, Global};
+use std::io::Write;
+use volume_check::{Diagnosis, Rule, diagnose};
+
+/// The first rule of a tree that is broken, with the object, the chunk and the path that break it, and the place of the page, where
+/// there is one.
+#[derive(Drop, Serialize)]
+pub(crate) struct Damage {
+    rule: String,
+    object: u64,
+    chunk: u64,
+    path: String,
+    block: Option<u32>,
+    page: Option<u32>,
+}
+
+/// What is said of a rule that is broken.
+fn rule_text(alloc: Global, rule: Rule) -> Result<String, AllocError> {
+    let text = match rule {
+        Rule::HeaderMissing => "the object has no header",
+        Rule::HeaderNewer(_) => "the header is of a newer format",
+        Rule::NoHeader(_) => "the page of chunk 0 is no header",
+        Rule::RootIsFile => "the root is a file",
+        Rule::TooManySpare(_) => "more blocks are spare than the device can have",
+        Rule::ChunkMissing => "the chunk has no page",
+        Rule::Unreadable => "the page does not read as it was written",
+        Rule::NoSlot(place) => return format!(in alloc; "no slot is at byte {place}"),
+        Rule::NameTwice(place) => return format!(in alloc; "a name is there again at byte {place}"),
+        Rule::DirectoryTwice => "the directory is named again",
+        Rule::Unknown => "the object is not as the tree needs it",
+    };
+    String::from_str(alloc, text)
+}
+
+/// The rule that is broken, where it was found.
+fn damage_of(alloc: Global, found: &Diagnosis) -> Result<Option<Damage>, ToolFault> {
+    let Some(finding) = &found.finding else {
+        return Ok(None);
+    };
+    Ok(Some(Damage {
+        rule: rule_text(alloc, finding.rule)?,
+        object: finding.object,
+        chunk: finding.chunk,
+        path: shown_path(alloc, &finding.path)?,
+        block: found.place.map(|place| place.block),
+        page: found.place.map(|place| place.page),
+    }))
+}
+
+/// Finds the first rule of a tree that is broken on a device. None where no rule is, as where a tree needs more room than there is.
+pub(crate) fn find_damage<N: Nand + Drop>(
+    alloc: Global,
+    device: N,
+) -> Result<Option<Damage>, ToolFault> {
+    let (_device, found) = diagnose(alloc, device);
+    damage_of(alloc, &found?)
+}
+
+/// Writes the rule that is broken, and by what, in lines.
+pub(crate) fn write_damage<W: Write>(
+    alloc: Global,
+    out: &mut W,
+    damage: &Damage,
+) -> Result<(), ToolFault> {
+    let rule = damage.rule.as_str();
+    let object = damage.object;
+    let chunk = damage.chunk;
+    let path = damage.path.as_str();
+    let text = format!(in alloc; "rule {rule}\nobject {object}\nchunk {chunk}\npath {path}\n")?;
+    write_text(out, &text)?;
+    if let (Some(block), Some(page)) = (damage.block, damage.page) {
+        write_text(out, &format!(in alloc; "block {block}\npage {page}\n")?)?;
+    }
+    Ok(())
+}

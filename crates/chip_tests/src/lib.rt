@@ -1,6 +1,9 @@
-//! Tests of the picture of a chip: a flash of five blocks put together by hand, with each state of a page.
+//! Tests of the picture of a chip and of the check of a volume: a flash with each state of a page, and a small tree with an
+//! alteration of each rule, both put together by hand.
 #![tactic(auto)]
 
+#[cfg(test)]
+mod damaged;
 #[cfg(test)]
 mod drawn;
 #[cfg(test)]

@@ -36,6 +36,7 @@ reads_trusted told a b reads = record {
   lasts = record {
     geometry = reads.lasts.geometry;
     honest = ap (λ h. h && told) reads.lasts.honest;
+    honest_itself = reads.lasts.honest_itself;
     cuts = reads.lasts.cuts;
     failures = reads.lasts.failures;
     changes = reads.lasts.changes;

@@ -11,12 +11,14 @@ use Rattle.nand_model.specs.declared.nand.EraseFault.{EraseFault}
 use Rattle.nand_model.specs.declared.nand.EraseFault.TheVariants as erase_faults
 
 -- What is known of a device at one moment. It counts since it was made, without end. Where it is steady no call of it is cut
--- until the next power-up.
+-- until the next power-up. Where it is seen as honest only if something of its flash is so, honest is that, and honest_itself what it
+-- is without that; else both are the same.
 pub record Device : Type 0 where
   pub geometry : Geometry
   pub flash : Flash
   pub gone : Bool
   pub honest : Bool
+  pub honest_itself : Bool
   pub steady : Bool
   pub cuts : ℕ
   pub failures : ℕ
@@ -28,6 +30,7 @@ pub record Device : Type 0 where
 pub record Lasts (old new : Device) : Type 0 where
   pub geometry : new.geometry ≡ old.geometry
   pub honest : new.honest ≡ old.honest
+  pub honest_itself : new.honest_itself ≡ old.honest_itself
   pub cuts : old.cuts ≤ new.cuts
   pub failures : old.failures ≤ new.failures
   pub changes : old.changes ≤ new.changes

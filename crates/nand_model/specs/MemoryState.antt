@@ -13,6 +13,7 @@ device d = record {
   flash = flash_of d.blocks.items;
   gone = d.power.gone;
   honest = true;
+  honest_itself = true;
   steady = is_steady (scripts.plan d.power.script);
   cuts = d.power.cuts.total;
   failures = d.power.failures.total;

@@ -36,6 +36,7 @@ module _ (b : ℕ) (refusals : Refusals) (old new : Device) (does : Erases b old
   lasts = record {
     geometry = does.lasts.geometry;
     honest = does.lasts.honest;
+    honest_itself = does.lasts.honest_itself;
     cuts = does.lasts.cuts;
     failures = let more = does.lasts.failures in omega (arith, more);
     changes = let more = does.lasts.changes in omega (arith, more);

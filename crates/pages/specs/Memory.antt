@@ -30,4 +30,4 @@ blank_flash = record { bad = λ b. false; next = λ b. None; page = λ b p. Eras
 
 -- no device: one that promises nothing
 abbrev pub no_device : Device
-no_device = record { geometry = least_geometry; flash = blank_flash; gone = false; honest = false; steady = false; cuts = 0; failures = 0; changes = 0; reads = 0 }
+no_device = record { geometry = least_geometry; flash = blank_flash; gone = false; honest = false; honest_itself = false; steady = false; cuts = 0; failures = 0; changes = 0; reads = 0 }

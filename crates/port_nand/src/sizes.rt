@@ -2,6 +2,7 @@
 ghost use Rattle.std.specs.Prelude.{◌≡◌, ◌≤◌, OnOk, IfOk};
 ghost use Rattle.port_nand.specs.Opening.{AreSizes, size_at, tag_bytes};
 ghost use Rattle.port_nand.specs.declared.request.Answer.TheVariants as answers;
+ghost use Rattle.port_nand.specs.declared.sizes.OpenFault.TheVariants as faults;
 
 use crate::request::Answer;
 use nand_model::Geometry;
@@ -18,6 +19,8 @@ pub enum OpenFault {
 }
 
 impl From<AllocError> for OpenFault {
+    ghost from_gives = { λ _ e. e ≡ faults.NoMemory };
+
     fn from(_error: AllocError) -> OpenFault {
         OpenFault::NoMemory
     }

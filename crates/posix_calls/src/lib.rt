@@ -4,11 +4,13 @@
 mod answering;
 mod ending;
 mod joining;
+mod law;
 mod mount;
 mod volume;
 
 pub use command_answers::Answers;
 pub use formatting::{FormatFault, format};
+pub use law::a_device_given_back_is_as_honest;
 pub use mounting::MountFault;
 pub use paged_objects::a_shown_tree_is_on_the_flash;
 pub use posix_profile::{

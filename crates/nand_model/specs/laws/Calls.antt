@@ -9,6 +9,7 @@ pub lasts_on : (a b c : Device) → Lasts a b → Lasts b c → Lasts a c
 lasts_on a b c first then = record {
   geometry = then.geometry ∙ first.geometry;
   honest = then.honest ∙ first.honest;
+  honest_itself = then.honest_itself ∙ first.honest_itself;
   cuts = omega (arith, first.cuts, then.cuts);
   failures = omega (arith, first.failures, then.failures);
   changes = omega (arith, first.changes, then.changes);
@@ -37,6 +38,7 @@ pub lasts_here : (a : Device) → Lasts a a
 lasts_here a = record {
   geometry = refl;
   honest = refl;
+  honest_itself = refl;
   cuts = omega arith;
   failures = omega arith;
   changes = omega arith;

@@ -35,6 +35,7 @@ pub lasts_seen : (s t : Bool) (a b : Device) → Lasts (trusted_as s a) (trusted
 lasts_seen s t a b lasts honest = record {
   geometry = lasts.geometry;
   honest = honest;
+  honest_itself = lasts.honest_itself;
   cuts = lasts.cuts;
   failures = lasts.failures;
   changes = lasts.changes;
